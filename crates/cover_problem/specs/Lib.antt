@@ -1,0 +1,6 @@
+pub mod Lists
+pub mod Problem
+pub mod Covering
+pub mod Path
+pub mod ExactCover
+pub mod Table

@@ -1,0 +1,71 @@
+-- What an exact cover problem is.
+-- TAOCP volume 4B, section 7.2.2.1: items, the primary ones first, and options.
+--
+-- Example: the small problem has the items a to g, all of them primary, and the options
+-- c e, a d g, b c f, a d f, b g and d e g, numbered from 1.
+use Rattle.std.specs.Prelude.{ℕ, ◌+◌, ◌-◌, ◌≤◌, ◌<◌, ◌≡◌, nat_lt, nat_le, ◌==◌, Bool, true, not, ◌&&◌, ◌||◌, List, [], ◌∷◌, length, sum_by}
+use Rattle.std.specs.List.{list_all, list_any, slice_index_or}
+use Rattle.std.specs.Str.{bytes_eq}
+use Rattle.cover_problem.specs.declared.limits.TheConstants.{MOST_ITEMS, MOST_OPTIONS, MOST_ENTRIES, MOST_NAME_BYTES}
+use Rattle.cover_problem.specs.Lists.{has, are_distinct}
+
+-- items with these names, numbered from 1, of which the first `primary` have to be covered and the others may be;
+-- and options, numbered from 1, each a list of items
+pub record Cover : Type 0 where
+  pub names : List (List ℕ)
+  pub primary : ℕ
+  pub options : List (List ℕ)
+
+-- how many items it has
+abbrev pub item_count : Cover → ℕ
+item_count p = length p.names
+
+-- how many options it has
+abbrev pub option_count : Cover → ℕ
+option_count p = length p.options
+
+-- the items of the option numbered k
+abbrev pub option_at : Cover → ℕ → List ℕ
+option_at p k = slice_index_or p.options (k - 1) []
+
+-- the name of the item numbered i
+abbrev pub name_at : List (List ℕ) → ℕ → List ℕ
+name_at names i = slice_index_or names (i - 1) []
+
+-- a letter, a digit or `_`
+abbrev pub is_name_byte : ℕ → Bool
+is_name_byte b = (nat_le 48 b && nat_le b 57) || (nat_le 65 b && nat_le b 90) || (nat_le 97 b && nat_le b 122) || (b == 95)
+
+-- whether these bytes are a name: one to eight letters, digits and `_`
+abbrev pub is_name : List ℕ → Bool
+is_name name = nat_lt 0 (length name) && nat_le (length name) MOST_NAME_BYTES && list_all is_name_byte name
+
+-- whether no name comes twice
+abbrev pub are_new : List (List ℕ) → Bool
+are_new [] = true
+are_new (name ∷ names) = not (list_any (bytes_eq name) names) && are_new names
+
+-- whether i numbers one of n items
+abbrev pub is_item : ℕ → ℕ → Bool
+is_item n i = nat_lt 0 i && nat_le i n
+
+-- whether it is an option over n items: not empty, each item once
+abbrev pub is_option : ℕ → List ℕ → Bool
+is_option n option = nat_lt 0 (length option) && are_distinct option && list_all (is_item n) option
+
+-- the entries of the problem's table: a header, the items, a node for each item of each option, and a spacer beside each option
+abbrev pub size_of : Cover → ℕ
+size_of p = length p.names + sum_by length p.options + length p.options + 2
+
+-- whether it is within the limits
+abbrev pub is_small : Cover → Bool
+is_small p = nat_le (length p.names) MOST_ITEMS && nat_le (length p.options) MOST_OPTIONS && nat_le (size_of p) MOST_ENTRIES
+
+-- what is a problem
+pub record IsProblem (p : Cover) : Type 0 where
+  pub some : 0 < p.primary
+  pub within : p.primary ≤ length p.names
+  pub named : list_all is_name p.names ≡ true
+  pub new : are_new p.names ≡ true
+  pub options_are : list_all (is_option (length p.names)) p.options ≡ true
+  pub small : is_small p ≡ true

@@ -1,0 +1,13 @@
+//! The greatest problem that is taken. Every contract cites these.
+
+/// The most items of a problem.
+pub const MOST_ITEMS: usize = 65_535;
+
+/// The most options of a problem.
+pub const MOST_OPTIONS: usize = 262_143;
+
+/// The most entries of a problem's table: a header, the items, the nodes and the spacers.
+pub const MOST_ENTRIES: usize = 8_388_608;
+
+/// The most characters of an item's name.
+pub const MOST_NAME_BYTES: usize = 8;

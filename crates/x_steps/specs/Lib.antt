@@ -1,0 +1,7 @@
+pub mod Place
+pub mod Shown
+pub mod Steps
+pub mod Run
+pub mod Order
+pub mod Covers
+pub mod Rank

@@ -1,0 +1,31 @@
+//! Where a search stands.
+
+/// The step about to be done (TAOCP volume 4B, section 7.2.2.1), or `Done` after the last.
+#[derive(Clone, Copy, Debug, PartialEq, Eq)]
+pub enum Label {
+    X1,
+    X2,
+    X3,
+    X4,
+    X5,
+    X6,
+    X7,
+    X8,
+    Done,
+}
+
+/// The option that a step is at: `At` one at X5 and X6, `Past` the last at X5, and `None` at the other steps.
+#[derive(Clone, Copy, Debug, PartialEq, Eq)]
+pub enum Cursor {
+    None,
+    At(u32),
+    Past,
+}
+
+/// The step about to be done, the choices so far in order, and the option that the step is at.
+#[derive(Debug, Drop)]
+pub struct State {
+    pub label: Label,
+    pub path: Vec<u32>,
+    pub cursor: Cursor,
+}

@@ -1,1 +1,3 @@
-mod CoverExamples
+pub mod CoverExamples
+pub mod ListLemmas
+pub mod CoveringLemmas

@@ -5,3 +5,4 @@ pub mod Run
 pub mod Order
 pub mod Covers
 pub mod Rank
+pub mod Machine

@@ -1,8 +1,13 @@
 //! Algorithm X, one step at a time: the state, the step table, the run, and the laws of the run.
 #![tactic(auto)]
 
+mod covering;
 mod event;
+mod fault;
+mod machine;
 mod state;
 
 pub use event::Event;
+pub use fault::StepFault;
+pub use machine::Machine;
 pub use state::{Cursor, Label, State};

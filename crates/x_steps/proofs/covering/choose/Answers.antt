@@ -1,0 +1,40 @@
+use Rattle.std.proofs.Common.{arith, sym, ◌∙◌}
+use Rattle.x_steps.proofs.ChoiceLemmas.{some_active, first_is, begins, next_is, takes, keeps, falls, walks_end}
+use Rattle.x_steps.proofs.covering.choose.Goals as goal
+
+pub unwrap-best-requires : goal.unwrap-best-requires
+unwrap-best-requires g c = rw c.first_item.ensures (some_active _ _ c.requires.open)
+
+pub len-least-requires-clause-some : goal.len-least-requires-clause-some
+len-least-requires-clause-some g c = (first_is _ _ _ _ c.first_item.ensures c.unwrap-best.ensures).1
+
+pub len-least-requires-clause-within : goal.len-least-requires-clause-within
+len-least-requires-clause-within g c =
+    let f = first_is _ _ _ _ c.first_item.ensures c.unwrap-best.ensures in omega (arith, f.2, c.requires.problem.within)
+
+pub loop-next-init : goal.loop-next-init
+loop-next-init g c = begins _ _ _ _ c.first_item.ensures c.unwrap-best.ensures _ c.len-least.ensures
+
+pub len-len-requires-clause-some : goal.len-len-requires-clause-some
+len-len-requires-clause-some g c = (next_is _ _ _ _ _ _ _ c.loop-next.invariant c.next_item.ensures c.in-Some.is).1
+
+pub len-len-requires-clause-within : goal.len-len-requires-clause-within
+len-len-requires-clause-within g c =
+    let n = next_is _ _ _ _ _ _ _ c.loop-next.invariant c.next_item.ensures c.in-Some.is in omega (arith, n.2, c.requires.problem.within)
+
+pub loop-next-smaller-then-len-least : goal.loop-next-smaller-then-len-least
+loop-next-smaller-then-len-least g c = falls _ _ _ _ _ _ _ c.loop-next.invariant c.next_item.ensures c.in-Some.is
+
+pub loop-next-preserved-then-len-least : goal.loop-next-preserved-then-len-least
+loop-next-preserved-then-len-least g c =
+    takes _ _ _ _ _ _ _ c.loop-next.invariant c.next_item.ensures c.in-Some.is _ c.len-len.ensures c.if-len-least.true
+
+pub loop-next-smaller : goal.loop-next-smaller
+loop-next-smaller g c = falls _ _ _ _ _ _ _ c.loop-next.invariant c.next_item.ensures c.in-Some.is
+
+pub loop-next-preserved : goal.loop-next-preserved
+loop-next-preserved g c =
+    keeps _ _ _ _ _ _ _ c.loop-next.invariant c.next_item.ensures c.in-Some.is _ c.len-len.ensures c.if-len-least.false
+
+pub returns : goal.returns
+returns g c = sym (walks_end _ _ _ _ _ c.loop-next.invariant (sym c.next_item.ensures ∙ c.in_default.is))

@@ -1,0 +1,19 @@
+use Rattle.std.proofs.Common.{arith, sym, ap, ◌∙◌, ◌==◌, take, drop, ◌+◌, subst}
+use Rattle.std.specs.List.{before_first, after_first}
+use Rattle.cover_problem.specs.Coverable.{CanCover}
+use Rattle.cover_problem.proofs.CoveringLemmas.{can_parts}
+use Rattle.x_steps.proofs.CoverEach.{place_within}
+use Rattle.x_steps.proofs.covering.cover_others.Goals as goal
+
+pub split_at-requires : goal.split_at-requires
+split_at-requires g c = let within = place_within c.args.item c.args.option.now c.requires.member in rw c.place_of-place.ensures (omega arith)
+
+pub cover_each-requires : goal.cover_each-requires
+cover_each-requires g c =
+    let parts = can_parts _ _ (after_first (λ x. x == c.args.item) c.args.option.now) (before_first (λ x. x == c.args.item) c.args.option.now) c.requires.can in
+    rw (c.split_at.ensures.back, c.place_of-place.ensures) parts.0
+
+pub cover_each-requires-2 : goal.cover_each-requires-2
+cover_each-requires-2 g c =
+    let parts = can_parts _ _ (after_first (λ x. x == c.args.item) c.args.option.now) (before_first (λ x. x == c.args.item) c.args.option.now) c.requires.can in
+    rw (c.split_at-2.ensures.front, c.cover_each.ensures.subject, c.cover_each.ensures.covered, c.split_at.ensures.back, c.place_of-place.ensures) parts.1

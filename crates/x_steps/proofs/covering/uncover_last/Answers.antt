@@ -1,0 +1,9 @@
+use Rattle.std.proofs.Common.{◌∙◌}
+use Rattle.x_steps.proofs.CoverEach.{uncovers_more}
+use Rattle.x_steps.proofs.covering.uncover_last.Goals as goal
+
+pub loop-preserved : goal.loop-preserved
+loop-preserved g c = record {
+  subject = c.uncover.ensures.subject ∙ c.loop.invariant.subject;
+  uncovers = uncovers_more _ _ _ _ _ _ c.loop.invariant.uncovers c.loop-test.true c.uncover.ensures.covered
+}

@@ -1,0 +1,33 @@
+-- What a machine stands for, and what it keeps.
+use Rattle.std.specs.Prelude.{ℕ, ◌≡◌, ◌≤◌, List, length, map}
+use Rattle.cover_problem.specs.Problem.{Cover, IsProblem}
+use Rattle.cover_problem.specs.Covering.{active, remaining}
+use Rattle.x_steps.specs.declared.state.Label.{Label}
+use Rattle.x_steps.specs.Place.{Place}
+use Rattle.x_steps.specs.Steps.{Fits, covered_in, next}
+
+-- a problem, and where its search stands
+pub record Position : Type 0 where
+  pub problem : Cover
+  pub state : Place
+
+-- the state fits the problem, the table stands for what is covered there, and the path has room for a choice of each item
+pub record Keeps (p : Cover) (s : Place) (subject : Cover) (covered : List ℕ) (room : ℕ) : Type 0 where
+  pub sound : IsProblem p
+  pub fit : Fits p s
+  pub same : subject ≡ p
+  pub stands : covered ≡ covered_in p s
+  pub path_fits : length p.names ≤ room
+
+-- the machine is at this step
+abbrev pub IsAt : Position → Label → Type 0
+IsAt m label = m.state.label ≡ label
+
+-- one step of the machine
+pub record Steps (old new : Position) : Type 0 where
+  pub problem : new.problem ≡ old.problem
+  pub state : new.state ≡ next old.problem old.state
+
+-- the active items, each with the options left for it
+abbrev pub remaining_items : Cover → List ℕ → List (ℕ × List ℕ)
+remaining_items p c = map (λ i. (i, remaining p c i)) (active p c)

@@ -1,0 +1,81 @@
+//! Choosing an item, and covering and uncovering the items of an option.
+ghost use Rattle.std.specs.Prelude.{◌≡◌, ◌<◌, ◌≤◌, ◌+◌, ◌++◌, ◌∷◌, [], ◌==◌, ℕ, List, length, true};
+ghost use Rattle.std.specs.List.{position_or_len};
+ghost use Rattle.cover_problem.specs.Lists.{has};
+ghost use Rattle.cover_problem.specs.Problem.{IsProblem};
+ghost use Rattle.cover_problem.specs.Covering.{active, choice};
+ghost use Rattle.cover_problem.specs.Path.{others};
+ghost use Rattle.cover_problem.specs.Coverable.{CanCover};
+
+use cover_problem::Table;
+
+/// The first of the active items with the fewest options left (TAOCP volume 4B, section 7.2.2.1, exercise 9).
+#[inline(always)]
+pub fn choose<T: Table>(table: &T) -> u32
+    requires problem { IsProblem (T.subject table.now) }
+    requires open { 0 < length (active (T.subject table.now) (T.covered_list table.now)) }
+    ensures { result ≡ choice (T.subject table.now) (T.covered_list table.now) }
+{
+    let mut best = table.first_item().unwrap();
+    let mut least = table.len(best);
+    let mut item = best;
+    while let Some(next) = table.next_item(item) {
+        let len = table.len(next);
+        if len < least {
+            best = next;
+            least = len;
+        }
+        item = next;
+    }
+    best
+}
+
+/// Covers the items in order.
+#[inline(always)]
+fn cover_each<T: Table>(table: &mut T, items: &[u32])
+    requires { CanCover (T.subject table.old) (T.covered_list table.old) items.now }
+    ensures subject { T.subject table.new ≡ T.subject table.old }
+    ensures covered { T.covered_list table.new ≡ T.covered_list table.old ++ items.now }
+{
+    for item in items {
+        table.cover(*item);
+    }
+}
+
+/// The place of an item in an option.
+#[inline(always)]
+fn place_of(option: &[u32], item: u32) -> usize
+    requires { has option.now item ≡ true }
+    ensures { result ≡ position_or_len (λ x. x == item) option.now }
+{
+    option.iter().take_while(|x| **x != item).count()
+}
+
+/// Covers the option's other items, from the one after `item` to its end and on from its first.
+#[inline(always)]
+pub fn cover_others<T: Table>(table: &mut T, option: &[u32], item: u32)
+    requires member { has option.now item ≡ true }
+    requires can { CanCover (T.subject table.old) (T.covered_list table.old) (others item option.now) }
+    ensures subject { T.subject table.new ≡ T.subject table.old }
+    ensures covered { T.covered_list table.new ≡ T.covered_list table.old ++ others item option.now }
+{
+    let place = place_of(option, item);
+    let (_, after) = option.split_at(place + 1);
+    cover_each(table, after);
+    let (before, _) = option.split_at(place);
+    cover_each(table, before);
+}
+
+/// Uncovers the items that were covered last, as many as told, in reverse.
+#[inline(always)]
+pub fn uncover_last<T: Table>(table: &mut T, count: usize)
+    requires { (front back : List ℕ) × (T.covered_list table.old ≡ front ++ back) × (length back ≡ count) }
+    ensures subject { T.subject table.new ≡ T.subject table.old }
+    ensures covered { (back : List ℕ) × (T.covered_list table.old ≡ T.covered_list table.new ++ back) × (length back ≡ count) }
+{
+    for _ in 0..count {
+        let covered = table.covered();
+        let item = covered[covered.len() - 1];
+        table.uncover(item);
+    }
+}

@@ -1,2 +1,5 @@
 pub mod ChoiceLemmas
 pub mod CoverEach
+pub mod Neighbours
+pub mod RankLemmas
+pub mod RunLemmas

@@ -31,5 +31,6 @@ number base zero ds = 0
 number base (suc n) [] = 0
 number base (suc n) (d ∷ ds) = d * base ^ n + number base n ds
 
+-- a path has at most one choice for each primary item
 unfoldable pub rank : Cover → Place → ℕ
-rank p s = number (4 * length p.options + 9) (suc (length p.names)) (digits (length p.options) s.label s.path s.cursor)
+rank p s = number (4 * length p.options + 9) (suc p.primary) (digits (length p.options) s.label s.path s.cursor)

@@ -1,0 +1,19 @@
+//! Lines, words and decimal numbers of texts that are given as bytes: what all text readers of the project share.
+//! Each call takes a part off the front of a slice, so it takes no memory, and a loop over it is linear in the text.
+#![tactic(auto)]
+
+mod decimal;
+mod laws;
+mod line;
+mod word;
+
+pub use decimal::{is_decimal, number};
+pub use laws::{
+    each_goes_on, each_stops_at_the_first_fault, number_is_as_printed, plain_lines_say_words,
+    written_text_is_read,
+};
+pub use line::{is_all_plain, outside_comment, split_ended_line, split_line, without_return};
+pub use word::{has_words, is_spaced, split_word};
+
+#[cfg(test)]
+mod tests;

@@ -1,0 +1,95 @@
+//! Each call once, on texts whose lines, words and numbers were written down by hand.
+
+use super::*;
+
+/// The numbers of a line, each at most 100, added up: how a reader goes over words.
+fn total(line: &[u8]) -> Option<u32> {
+    let mut sum: u32 = 0;
+    let mut rest = line;
+    while let Some((word, after)) = split_word(rest) {
+        sum = sum.checked_add(number(word, 100)?)?;
+        rest = after;
+    }
+    Some(sum)
+}
+
+/// The totals of a text's lines, added up: how a reader goes over lines.
+fn total_of_text(text: &[u8]) -> Option<u32> {
+    let mut sum: u32 = 0;
+    let mut rest = text;
+    while !rest.is_empty() {
+        let (line, after) = split_line(rest);
+        sum = sum.checked_add(total(outside_comment(line))?)?;
+        rest = after;
+    }
+    Some(sum)
+}
+
+#[test]
+fn a_text_is_read_to_its_end(rt: HostRuntime) {
+    assert_eq!(rt; total_of_text(b"1 2\r\n\n\t10 # 500\n100"), Some(113));
+    assert_eq!(rt; total_of_text(b"1\n2 x\n"), None);
+}
+
+#[test]
+fn a_line_is_taken_off(rt: HostRuntime) {
+    let (line, rest) = split_line(b"items a b\r\noption a");
+    assert_eq!(rt; line, b"items a b\r".as_slice());
+    assert_eq!(rt; rest, b"option a".as_slice());
+    assert_eq!(rt; without_return(line), b"items a b".as_slice());
+    let (last, none) = split_line(b"option a");
+    assert_eq!(rt; last, b"option a".as_slice());
+    assert_eq!(rt; none.len(), 0);
+}
+
+#[test]
+fn only_one_return_is_dropped(rt: HostRuntime) {
+    assert_eq!(rt; outside_comment(b"a\r\r"), b"a\r".as_slice());
+    assert_eq!(rt;
+        outside_comment(b"piece A 000#x\r"),
+        b"piece A 000".as_slice()
+    );
+    assert!(rt; !is_all_plain(b"a\r"));
+    assert!(rt; is_all_plain(b"a\t~ "));
+    assert!(rt; !is_all_plain(b"\x7f"));
+}
+
+#[test]
+fn an_unended_line_is_told(rt: HostRuntime) {
+    let (line, rest) = split_ended_line(b"from 4\nto end").expect(&rt, "a newline");
+    assert_eq!(rt; line, b"from 4".as_slice());
+    assert_eq!(rt; rest, b"to end".as_slice());
+    assert!(rt; split_ended_line(rest).is_none());
+}
+
+#[test]
+fn words_stand_between_blanks(rt: HostRuntime) {
+    let (word, rest) = split_word(b"\t step  25 ").expect(&rt, "a word");
+    assert_eq!(rt; word, b"step".as_slice());
+    assert_eq!(rt; rest, b"  25 ".as_slice());
+    assert!(rt; has_words(rest));
+    assert!(rt; !has_words(b" \t"));
+}
+
+#[test]
+fn one_space_between_words(rt: HostRuntime) {
+    assert!(rt; is_spaced(b"state X2 - 4 5 1"));
+    assert!(rt; is_spaced(b""));
+    assert!(rt; !is_spaced(b"to  end"));
+    assert!(rt; !is_spaced(b"to\tend"));
+    assert!(rt; !is_spaced(b"to end "));
+    assert!(rt; !is_spaced(b" to end"));
+}
+
+#[test]
+fn numbers_have_one_spelling(rt: HostRuntime) {
+    assert_eq!(rt; number(b"0", 0), Some(0));
+    assert_eq!(rt; number(b"65535", 65535), Some(65535));
+    assert_eq!(rt; number(b"65536", 65535), None);
+    assert_eq!(rt; number(b"4294967295", u32::MAX), Some(u32::MAX));
+    assert_eq!(rt; number(b"4294967296", u32::MAX), None);
+    assert_eq!(rt; number(b"01", 9), None);
+    assert_eq!(rt; number(b"1x", 9), None);
+    assert!(rt; is_decimal(b"99999999999999999999"));
+    assert!(rt; !is_decimal(b""));
+}

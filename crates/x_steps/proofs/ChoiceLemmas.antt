@@ -1,7 +1,7 @@
 -- The walk that chooses an item keeps the first of the shortest so far.
-use Rattle.std.proofs.Common.{◌≡◌, ◌≢◌, ℕ, ◌<◌, ◌≤◌, List, length, true, ◌⊎◌, inl, inr, Option, Some, None, IsSome, arith, refl, sym, ap, ◌∙◌, ◌-◌, subst}
+use Rattle.std.proofs.Common.{◌≡◌, ◌≢◌, ℕ, ◌<◌, ◌≤◌, List, [], ◌∷◌, length, true, suc, is_some, nat_lt, lt-ltb, ◌⊎◌, inl, inr, Option, Some, None, IsSome, arith, refl, sym, ap, ◌∙◌, ◌-◌, subst}
 use Rattle.std.proofs.lemmas.Bool.{cases_lt}
-use Rattle.cover_problem.specs.Lists.{has, above}
+use Rattle.cover_problem.specs.Lists.{has, above, RisesFrom}
 use Rattle.cover_problem.specs.Problem.{Cover}
 use Rattle.cover_problem.specs.Covering.{active, remaining, choice, list_of}
 use Rattle.cover_problem.proofs.ListLemmas.{above_is, above_none}
@@ -121,3 +121,11 @@ module _ (p : Cover) (c : List ℕ) where
 
     pub falls : p.primary - next < p.primary - item
     falls = let n = next_is in omega (arith, n.2, n.3)
+
+some_above : (xs : List ℕ) → RisesFrom 1 xs → is_some (above 0 xs) ≡ nat_lt 0 (length xs)
+some_above [] r = refl
+some_above (x ∷ xs) r = rw (lt-ltb 0 x r.0) (sym (lt-ltb 0 (suc (length xs)) (omega arith)))
+
+-- whether an item is active
+pub active_some : (p : Cover) (c : List ℕ) → is_some (above 0 (active p c)) ≡ nat_lt 0 (length (active p c))
+active_some p c = some_above (active p c) (active_rises p c)

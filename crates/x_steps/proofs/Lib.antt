@@ -3,3 +3,4 @@ pub mod CoverEach
 pub mod Neighbours
 pub mod RankLemmas
 pub mod RunLemmas
+pub mod MachineLemmas

@@ -3,8 +3,9 @@ use Rattle.std.specs.Prelude.{ℕ, ◌≡◌, ◌≤◌, List, length, map}
 use Rattle.cover_problem.specs.Problem.{Cover, IsProblem}
 use Rattle.cover_problem.specs.Covering.{active, remaining}
 use Rattle.x_steps.specs.declared.state.Label.{Label}
+use Rattle.x_steps.specs.declared.event.Event.{Event}
 use Rattle.x_steps.specs.Place.{Place}
-use Rattle.x_steps.specs.Steps.{Fits, covered_in, next}
+use Rattle.x_steps.specs.Steps.{Fits, covered_in, next, event_of}
 
 -- a problem, and where its search stands
 pub record Position : Type 0 where
@@ -23,10 +24,11 @@ pub record Keeps (p : Cover) (s : Place) (subject : Cover) (covered : List ℕ) 
 abbrev pub IsAt : Position → Label → Type 0
 IsAt m label = m.state.label ≡ label
 
--- one step of the machine
-pub record Steps (old new : Position) : Type 0 where
+-- one step of the machine, and what it tells
+pub record Goes (old new : Position) (event : Event) : Type 0 where
   pub problem : new.problem ≡ old.problem
   pub state : new.state ≡ next old.problem old.state
+  pub tells : event ≡ event_of old.problem old.state
 
 -- the active items, each with the options left for it
 abbrev pub remaining_items : Cover → List ℕ → List (ℕ × List ℕ)

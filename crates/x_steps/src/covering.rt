@@ -1,5 +1,5 @@
 //! Choosing an item, and covering and uncovering the items of an option.
-ghost use Rattle.std.specs.Prelude.{◌≡◌, ◌<◌, ◌≤◌, ◌+◌, ◌++◌, ◌∷◌, [], ◌==◌, ℕ, List, length, true};
+ghost use Rattle.std.specs.Prelude.{◌≡◌, ◌<◌, ◌≤◌, ◌+◌, ◌++◌, ◌∷◌, [], ◌==◌, nat_lt, ℕ, List, length, true};
 ghost use Rattle.std.specs.List.{position_or_len};
 ghost use Rattle.cover_problem.specs.Lists.{has};
 ghost use Rattle.cover_problem.specs.Problem.{IsProblem};
@@ -28,6 +28,24 @@ pub fn choose<T: Table>(table: &T) -> u32
         item = next;
     }
     best
+}
+
+/// Whether an item is active.
+#[inline(always)]
+pub fn has_active<T: Table>(table: &T) -> bool
+    ensures { result ≡ nat_lt 0 (length (active (T.subject table.now) (T.covered_list table.now))) }
+{
+    table.first_item().is_some()
+}
+
+/// The item that was covered last.
+#[inline(always)]
+pub fn last_covered<T: Table>(table: &T) -> u32
+    requires { 0 < length (T.covered_list table.now) }
+    ensures { (front : List ℕ) × (T.covered_list table.now ≡ front ++ result ∷ []) }
+{
+    let covered = table.covered();
+    covered[covered.len() - 1]
 }
 
 /// Covers the items in order.
@@ -74,8 +92,7 @@ pub fn uncover_last<T: Table>(table: &mut T, count: usize)
     ensures covered { (back : List ℕ) × (T.covered_list table.old ≡ T.covered_list table.new ++ back) × (length back ≡ count) }
 {
     for _ in 0..count {
-        let covered = table.covered();
-        let item = covered[covered.len() - 1];
+        let item = last_covered(table);
         table.uncover(item);
     }
 }

@@ -1,17 +1,17 @@
 //! The machine: a state, and a table that stands for what is covered there.
-ghost use Rattle.std.specs.Prelude.{◌≡◌, ◌<◌, ◌≤◌, ◌++◌, ◌∷◌, ◌↔◌, [], length, vec_len, vec_capacity, IfOk, IfErr, OnOk, OnErr, IsErrOf, map};
+ghost use Rattle.std.specs.Prelude.{◌≡◌, ◌<◌, ◌≤◌, ◌++◌, ◌∷◌, ◌↔◌, [], length, vec_len, vec_capacity, if◌then◌else◌, ℕ, ◌≢◌, IfOk, IfErr, OnOk, IsErr};
 ghost use Rattle.cover_problem.specs.Problem.{IsProblem};
 ghost use Rattle.x_steps.specs.Place.{start};
 ghost use Rattle.x_steps.specs.Shown.{place};
-ghost use Rattle.x_steps.specs.Steps.{Fits, next, covered_in, event_of, cursor_of};
-ghost use Rattle.x_steps.specs.Machine.{IsAt, Steps, remaining_items};
+ghost use Rattle.x_steps.specs.Steps.{Fits, covered_in, next, event_of, cursor_of};
+ghost use Rattle.x_steps.specs.Machine.{IsAt, Goes};
 
-use crate::covering::{choose, cover_others, uncover_last};
+use crate::covering::{choose, cover_others, has_active, last_covered, uncover_last};
 use crate::event::Event;
 use crate::fault::StepFault;
 use crate::state::{Cursor, Label, State};
 use cover_problem::{Problem, Table};
-use std::alloc::{AllocError, Global};
+use std::alloc::Global;
 use std::marker::Model;
 
 /// Pushes where there is room, so that no memory is taken.
@@ -33,6 +33,22 @@ fn cursor_at(option: Option<u32>) -> Cursor
         Some(option) => Cursor::At(option),
         None => Cursor::Past,
     }
+}
+
+/// The step after X2, by whether an item is active.
+#[inline(always)]
+fn label_entered(entered: bool) -> Label
+    ensures { result ≡ (if entered then Label.X3 else Label.X8) }
+{
+    if entered { Label::X3 } else { Label::X8 }
+}
+
+/// What X2 tells.
+#[inline(always)]
+fn event_entered(entered: bool) -> Event
+    ensures { result ≡ (if entered then Event.Moved else Event.Visited) }
+{
+    if entered { Event::Moved } else { Event::Visited }
 }
 
 /// A search that is taken step by step: a problem, a state of its run, and a table that stands for the items covered there.
@@ -93,5 +109,135 @@ impl<'p, T: Table> Machine<'p, T> {
         ensures covered { T.covered_list result.now ≡ covered_in self.now.problem self.now.state }
     {
         &self.table
+    }
+
+    /// Takes one step of the table X1 to X8, without memory; refused only at Done, which changes nothing.
+    #[inline]
+    pub fn step(&mut self) -> Result<Event, StepFault>
+        ensures problem { self.new.problem ≡ self.old.problem }
+        ensures state { OnOk result (self.new.state ≡ next self.old.problem self.old.state) }
+        ensures event { IfOk result (λ event. event ≡ event_of self.old.problem self.old.state) }
+        ensures over { IsErr result ↔ (self.old.state.label ≡ Label.Done) }
+        ensures refused { IfErr result (λ fault. (fault ≡ StepFault.Done) × (self.new ≡ self.old)) }
+    {
+        let event = match (self.state.label, self.state.cursor) {
+            (Label::X1, _) => self.begin(),
+            (Label::X2, _) => self.enter(),
+            (Label::X3, _) => self.plan(),
+            (Label::X4, _) => self.open(),
+            (Label::X5, Cursor::At(option)) => self.take(option),
+            (Label::X5, _) => self.give_up(),
+            (Label::X6, Cursor::At(option)) => self.retry(option),
+            (Label::X6, _) => unreachable!(),
+            (Label::X7, _) => self.close(),
+            (Label::X8, _) => self.leave(),
+            (Label::Done, _) => return Err(StepFault::Done),
+        };
+        Ok(event)
+    }
+
+    /// X1: the search begins.
+    fn begin(&mut self) -> Event
+        requires { IsAt self.old Label.X1 }
+        ensures { Goes self.old self.new result }
+    {
+        self.state.go(Label::X2, Cursor::None);
+        Event::Moved
+    }
+
+    /// X2: whether an item is active.
+    fn enter(&mut self) -> Event
+        requires { IsAt self.old Label.X2 }
+        ensures { Goes self.old self.new result }
+    {
+        let open = has_active(&self.table);
+        self.state.go(label_entered(open), Cursor::None);
+        event_entered(open)
+    }
+
+    /// X3: the next step covers the item.
+    fn plan(&mut self) -> Event
+        requires { IsAt self.old Label.X3 }
+        ensures { Goes self.old self.new result }
+    {
+        self.state.go(Label::X4, Cursor::None);
+        Event::Moved
+    }
+
+    /// X4: the chosen item is covered, and its first option comes.
+    fn open(&mut self) -> Event
+        requires { IsAt self.old Label.X4 }
+        ensures { Goes self.old self.new result }
+    {
+        let item = choose(&self.table);
+        self.table.cover(item);
+        let cursor = cursor_at(self.table.first_option(item));
+        self.state.go(Label::X5, cursor);
+        Event::Moved
+    }
+
+    /// X5: the option is taken.
+    fn take(&mut self, option: u32) -> Event
+        requires label { IsAt self.old Label.X5 }
+        requires cursor { self.old.state.cursor ≡ Cursor.At option }
+        ensures { Goes self.old self.new result }
+    {
+        let item = last_covered(&self.table);
+        cover_others(&mut self.table, self.problem.option(option), item);
+        push_within(&mut self.state.path, option);
+        self.state.go(Label::X2, Cursor::None);
+        Event::Moved
+    }
+
+    /// X5 past the last option.
+    fn give_up(&mut self) -> Event
+        requires label { IsAt self.old Label.X5 }
+        requires cursor { (o : ℕ) → self.old.state.cursor ≢ Cursor.At o }
+        ensures { Goes self.old self.new result }
+    {
+        self.state.go(Label::X7, Cursor::None);
+        Event::Moved
+    }
+
+    /// X6: the option's other items are uncovered, and the item's next option comes.
+    fn retry(&mut self, option: u32) -> Event
+        requires label { IsAt self.old Label.X6 }
+        requires cursor { self.old.state.cursor ≡ Cursor.At option }
+        ensures { Goes self.old self.new result }
+    {
+        let others = self.problem.option(option).len() - 1;
+        uncover_last(&mut self.table, others);
+        let item = last_covered(&self.table);
+        let cursor = cursor_at(self.table.next_option(item, option));
+        self.state.go(Label::X5, cursor);
+        Event::Moved
+    }
+
+    /// X7: the item is uncovered.
+    fn close(&mut self) -> Event
+        requires { IsAt self.old Label.X7 }
+        ensures { Goes self.old self.new result }
+    {
+        let item = last_covered(&self.table);
+        self.table.uncover(item);
+        self.state.go(Label::X8, Cursor::None);
+        Event::Moved
+    }
+
+    /// X8: the last choice is taken back, or the search ends.
+    fn leave(&mut self) -> Event
+        requires { IsAt self.old Label.X8 }
+        ensures { Goes self.old self.new result }
+    {
+        match self.state.path.pop() {
+            None => {
+                self.state.go(Label::Done, Cursor::None);
+                Event::Finished
+            }
+            Some(option) => {
+                self.state.go(Label::X6, Cursor::At(option));
+                Event::Moved
+            }
+        }
     }
 }

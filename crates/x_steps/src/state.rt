@@ -29,3 +29,16 @@ pub struct State {
     pub path: Vec<u32>,
     pub cursor: Cursor,
 }
+
+impl State {
+    ghost use Rattle.std.specs.Prelude.{◌≡◌};
+
+    /// Goes to this step, with the same path.
+    #[inline(always)]
+    pub(crate) fn go(&mut self, label: Label, cursor: Cursor)
+        ensures { self.new ≡ record self.old { label = label; cursor = cursor } }
+    {
+        self.label = label;
+        self.cursor = cursor;
+    }
+}

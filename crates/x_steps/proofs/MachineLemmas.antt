@@ -1,0 +1,309 @@
+-- What each step keeps: the table stands for the items covered at the state.
+use Rattle.std.proofs.Common.{◌≡◌, ℕ, suc, ◌+◌, ◌-◌, ◌<◌, ◌≤◌, List, [], ◌∷◌, ◌++◌, length, true, false, nat_lt, Bool, Option, Some, arith, refl, sym, ap, ◌∙◌, subst, append_assoc, append-nil, length-append, if◌then◌else◌}
+use Rattle.std.proofs.lemmas.List.{same_from_push}
+use Rattle.cover_problem.specs.Lists.{has, above}
+use Rattle.cover_problem.specs.Problem.{Cover, IsProblem, option_at}
+use Rattle.cover_problem.specs.Covering.{active, remaining, choice, list_of}
+use Rattle.cover_problem.specs.Path.{IsChoice, IsValid, taken, covered_by, others}
+use Rattle.cover_problem.specs.Coverable.{IsUncovered, CanCover}
+use Rattle.cover_problem.proofs.CoveringLemmas.{active_in, active_item, choice_active, choice_has, can_take, taken_is, covered_by_push, covered_by_none, length-others, list_covered, list_uncovered, depth, option_is}
+use Rattle.x_steps.specs.declared.state.Label.{Label}
+use Rattle.x_steps.specs.declared.state.Label.TheVariants.{X1, X2, X3, X4, X5, X6, X7, X8, Done}
+use Rattle.x_steps.specs.declared.state.Cursor.{Cursor}
+use Rattle.x_steps.specs.declared.state.Cursor.TheVariants as cursor
+use Rattle.x_steps.specs.declared.state.Cursor.TheVariants.{At, Past}
+use Rattle.x_steps.specs.declared.event.Event.{Event}
+use Rattle.x_steps.specs.declared.event.Event.TheVariants.{Moved, Visited, Finished}
+use Rattle.x_steps.specs.Place.{Place, at}
+use Rattle.x_steps.specs.Steps.{Fits, FitsAt, IsOpen, is_open, item_after, left, cursor_of, split_last, taken_back, covered_in, next, event_of}
+use Rattle.x_steps.specs.Machine.{Keeps, Position, Goes}
+use Rattle.x_steps.proofs.Neighbours.{fits_next, split_last_push}
+
+-- a step came to t, and the machine keeps what it has to
+pub record Went (p : Cover) (s t : Place) (event : Event) (subject : Cover) (covered : List ℕ) (room : ℕ) : Type 0 where
+  pub keeps : Keeps p t subject covered room
+  pub steps : t ≡ next p s
+  pub tells : event ≡ event_of p s
+
+-- a state with a known label
+pub by_label : (P : Place → Type 0) (s : Place) (l : Label) → s.label ≡ l → P (at l s.path s.cursor) → P s
+by_label P s l e h = subst (λ l. P (at l s.path s.cursor)) (sym e) h
+
+module _ (p : Cover) (s t : Place) (event : Event) (subject : Cover) (covered : List ℕ) (room : ℕ) (new_subject : Cover) (new_covered : List ℕ) (new_room : ℕ) where
+  went : Keeps p s subject covered room → new_subject ≡ subject → room ≤ new_room → t ≡ next p s → event ≡ event_of p s → new_covered ≡ covered_in p t → Went p s t event new_subject new_covered new_room
+  went k e r n v c = record {
+    keeps = record {
+      sound = k.sound;
+      fit = subst (Fits p) (sym n) (fits_next p s k.fit);
+      same = e ∙ k.same;
+      stands = c;
+      path_fits = let f = k.path_fits in omega arith
+    };
+    steps = n;
+    tells = v
+  }
+
+-- ---- what fits at a label, whatever is known of the cursor
+
+open_at_X4 : (p : Cover) (path : List ℕ) (k : Cursor) → FitsAt p X4 path k → IsOpen p path
+open_at_X4 p path cursor.None f = f.1
+open_at_X4 p path (At o) f = absurd f
+open_at_X4 p path Past f = absurd f
+
+past_at_X5 : (p : Cover) (path : List ℕ) (k : Cursor) → ((o : ℕ) → k ≡ At o → ⊥) → FitsAt p X5 path k → k ≡ Past
+past_at_X5 p path cursor.None never f = absurd f
+past_at_X5 p path (At o) never f = absurd (never o refl)
+past_at_X5 p path Past never f = refl
+
+-- X6 is at an option
+pub at_X6 : (p : Cover) (path : List ℕ) (k : Cursor) → ((o : ℕ) → k ≡ At o → ⊥) → FitsAt p X6 path k → ⊥
+at_X6 p path cursor.None never f = f
+at_X6 p path (At o) never f = never o refl
+at_X6 p path Past never f = f
+
+-- a list from which nothing could be taken
+emptied : (path : List ℕ) → length path ≡ 0 → path ≡ []
+emptied [] e = refl
+emptied (x ∷ xs) e = absurd (omega arith)
+
+-- of two equal lists whose ends are as long as each other, the fronts are equal
+same_fronts : (xs ys us vs : List ℕ) → xs ++ us ≡ ys ++ vs → length us ≡ length vs → xs ≡ ys
+same_fronts [] [] us vs e h = refl
+same_fronts [] (y ∷ ys) us vs e h = let n = ap (length {A = ℕ}) e in let m = length-append (y ∷ ys) vs in absurd (omega arith)
+same_fronts (x ∷ xs) [] us vs e h = let n = ap (length {A = ℕ}) e in let m = length-append (x ∷ xs) us in absurd (omega arith)
+same_fronts (x ∷ xs) (y ∷ ys) us vs e h =
+    let head : x ≡ y = cc in
+    let tail : xs ++ us ≡ ys ++ vs = cc in
+    let rest = same_fronts xs ys us vs tail h in cc
+
+-- X8 with a choice moves
+abbrev event_at_X8 : List ℕ → Event
+event_at_X8 [] = Finished
+event_at_X8 (x ∷ xs) = Moved
+
+moved : (path new_path : List ℕ) (o : ℕ) → path ≡ new_path ++ o ∷ [] → Moved ≡ event_at_X8 path
+moved [] [] o e = absurd (cc)
+moved [] (x ∷ xs) o e = absurd (cc)
+moved (y ∷ ys) new_path o e = refl
+
+module _ (p : Cover) (path : List ℕ) (at_cursor : Cursor) (subject : Cover) (covered : List ℕ) (room : ℕ) where
+  -- what the machine keeps at a label, whatever the cursor
+  abbrev Here : Label → Type 0
+  Here l = Keeps p (at l path at_cursor) subject covered room
+
+  abbrev There : Label → Place → Event → Type 0
+  There l t event = Went p (at l path at_cursor) t event subject covered room
+
+  -- the same with another table
+  abbrev Moves : Label → Place → Event → Cover → List ℕ → Type 0
+  Moves l t event new_subject new_covered = Went p (at l path at_cursor) t event new_subject new_covered room
+
+  pub begins : Here X1 → There X1 (at X2 path cursor.None) Moved
+  unfolding next event_of covered_in
+  begins k = went p _ _ _ subject covered room _ _ _ k refl (omega arith) refl refl k.stands
+
+  pub plans : Here X3 → There X3 (at X4 path cursor.None) Moved
+  unfolding next event_of covered_in
+  plans k = went p _ _ _ subject covered room _ _ _ k refl (omega arith) refl refl k.stands
+
+  -- an item is active for the table where one is after the path
+  same_open : Here X2 → nat_lt 0 (length (active subject covered)) ≡ is_open p path
+  unfolding covered_in
+  same_open k = ap (λ q. nat_lt 0 (length (active q covered))) k.same ∙ ap (λ c. nat_lt 0 (length (active p c))) k.stands
+
+  enters_by : (b : Bool) → is_open p path ≡ b → Here X2 → There X2 (at (if b then X3 else X8) path cursor.None) (if b then Moved else Visited)
+  unfolding next event_of covered_in
+  enters_by true e k = went p _ _ _ subject covered room _ _ _ k refl (omega arith) (rw e refl) (rw e refl) k.stands
+  enters_by false e k = went p _ _ _ subject covered room _ _ _ k refl (omega arith) (rw e refl) (rw e refl) k.stands
+
+  pub enters : (b : Bool) → b ≡ nat_lt 0 (length (active subject covered)) → Here X2
+      → There X2 (at (if b then X3 else X8) path cursor.None) (if b then Moved else Visited)
+  enters b e k = enters_by b (sym (e ∙ same_open k)) k
+
+  -- X4
+  chosen_is : Here X4 → choice subject covered ≡ item_after p path
+  unfolding covered_in
+  chosen_is k = ap (λ q. choice q covered) k.same ∙ ap (λ c. choice p c) k.stands
+
+  pub opens_ready : Here X4 → 0 < length (active subject covered)
+  unfolding covered_in
+  opens_ready k = subst (λ q. 0 < length (active q covered)) (sym k.same) (subst (λ c. 0 < length (active p c)) (sym k.stands) (open_at_X4 p path at_cursor k.fit))
+
+  pub opens_covers : (item : ℕ) → item ≡ choice subject covered → Here X4 → IsUncovered subject covered item
+  opens_covers item e k =
+      let sound : IsProblem subject = subst IsProblem (sym k.same) k.sound in
+      subst (IsUncovered subject covered) (sym e) (active_item subject covered (choice subject covered) sound (choice_active subject covered (opens_ready k)))
+
+  pub opens : (item : ℕ) (new_subject : Cover) (new_covered : List ℕ) (first : Option ℕ) (new_cursor : Cursor) → item ≡ choice subject covered → new_subject ≡ subject
+      → new_covered ≡ covered ++ item ∷ [] → first ≡ above 0 (list_of new_subject new_covered item) → new_cursor ≡ cursor_of first → Here X4
+      → Moves X4 (at X5 path new_cursor) Moved new_subject new_covered
+  unfolding next event_of covered_in
+  opens item new_subject new_covered first new_cursor e same list found to k =
+      let now : item ≡ item_after p path = e ∙ chosen_is k in
+      let whole : new_covered ≡ covered_by p path ++ item_after p path ∷ [] = list ∙ ap (λ c. c ++ item ∷ []) k.stands ∙ ap (λ i. covered_by p path ++ i ∷ []) now in
+      let free = (active_in p (covered_by p path) (item_after p path) (choice_active p (covered_by p path) (open_at_X4 p path at_cursor k.fit))).0 in
+      let options : list_of new_subject new_covered item ≡ left p path =
+      ap (λ q. list_of q new_covered item) (same ∙ k.same) ∙ ap (λ c. list_of p c item) whole ∙ ap (λ i. list_of p (covered_by p path ++ item_after p path ∷ []) i) now
+      ∙ list_covered p (covered_by p path) (item_after p path) [] free in
+      let reached : new_cursor ≡ cursor_of (above 0 (left p path)) = to ∙ ap cursor_of (found ∙ ap (above 0) options) in
+      went p _ _ _ subject covered room _ _ _ k same (omega arith) (ap (λ c. at X5 path c) reached) refl whole
+
+  -- X5 at an option
+  module _ (o : ℕ) (is_at : at_cursor ≡ At o) where
+    choice_at : Here X5 → IsValid p path × IsChoice p (covered_by p path) o
+    choice_at k = subst (λ c. FitsAt p X5 path c) is_at k.fit
+
+    last_at : Here X5 → covered ≡ covered_by p path ++ item_after p path ∷ []
+    unfolding covered_in
+    last_at k = k.stands
+
+    pub some_covered : Here X5 → 0 < length covered
+    some_covered k = let e = ap (length {A = ℕ}) (last_at k) in let n = length-append (covered_by p path) (item_after p path ∷ []) in omega arith
+
+    item_is : (item : ℕ) → (front : List ℕ) × (covered ≡ front ++ item ∷ []) → Here X5 → (item ≡ item_after p path)
+    item_is item w k = (same_from_push _ _ _ _ (sym w.1 ∙ last_at k)).1
+
+    pub option_in : Here X5 → (0 < o) × (o ≤ length p.options)
+    option_in k = let t = choice_has p (covered_by p path) o (choice_at k).1 in (t.some, t.within)
+
+    pub has_item : (item : ℕ) → (front : List ℕ) × (covered ≡ front ++ item ∷ []) → Here X5 → has (option_at p o) item ≡ true
+    has_item item w k = let t = choice_has p (covered_by p path) o (choice_at k).1 in subst (λ i. has (option_at p o) i ≡ true) (sym (item_is item w k)) t.item
+
+    pub can_cover : (item : ℕ) → (front : List ℕ) × (covered ≡ front ++ item ∷ []) → Here X5 → CanCover subject covered (others item (option_at p o))
+    can_cover item w k =
+        let t = (can_take p (covered_by p path) o k.sound (choice_at k).1).1 in
+        subst (λ q. CanCover q covered (others item (option_at p o))) (sym k.same) (subst (λ i. CanCover p covered (others i (option_at p o))) (sym (item_is item w k))
+        (subst (λ c. CanCover p c (others (item_after p path) (option_at p o))) (sym (last_at k)) t))
+
+    pub room_left : Here X5 → length path < room
+    room_left k =
+        let f = choice_at k in
+        let d = depth p path f.0 in
+        let a = f.1.active in
+        let r = k.path_fits in
+        let w = k.sound.within in omega arith
+
+    pub takes : (item : ℕ) (new_subject : Cover) (new_covered : List ℕ) (new_room : ℕ) → (front : List ℕ) × (covered ≡ front ++ item ∷ []) → new_subject ≡ subject
+        → new_covered ≡ covered ++ others item (option_at p o) → room ≤ new_room → Here X5
+        → Went p (at X5 path at_cursor) (at X2 (path ++ o ∷ []) cursor.None) Moved new_subject new_covered new_room
+    unfolding next event_of covered_in
+    takes item new_subject new_covered new_room w same list more k =
+        let whole : new_covered ≡ covered_by p (path ++ o ∷ []) =
+        list ∙ ap (λ i. covered ++ others i (option_at p o)) (item_is item w k) ∙ ap (λ c. c ++ others (item_after p path) (option_at p o)) (last_at k)
+        ∙ sym (taken_is p (covered_by p path) o) ∙ sym (covered_by_push p path o) in
+        went p _ _ _ subject covered room _ _ _ k same more (rw is_at refl) refl whole
+
+  -- X5 past the last option
+  pub gives_up : ((o : ℕ) → at_cursor ≡ At o → ⊥) → Here X5 → There X5 (at X7 path cursor.None) Moved
+  unfolding next event_of covered_in
+  gives_up never k = went p _ _ _ subject covered room _ _ _ k refl (omega arith) (rw (past_at_X5 p path at_cursor never k.fit) refl) refl k.stands
+
+  -- X6
+  module _ (o : ℕ) (is_at : at_cursor ≡ At o) where
+    retry_at : Here X6 → IsValid p path × IsChoice p (covered_by p path) o
+    retry_at k = subst (λ c. FitsAt p X6 path c) is_at k.fit
+
+    taken_at : Here X6 → covered ≡ (covered_by p path ++ item_after p path ∷ []) ++ others (item_after p path) (option_at p o)
+    unfolding covered_in
+    taken_at k = k.stands ∙ (rw is_at (taken_is p (covered_by p path) o))
+
+    pub retry_option_in : Here X6 → (0 < o) × (o ≤ length p.options)
+    retry_option_in k = let t = choice_has p (covered_by p path) o (retry_at k).1 in (t.some, t.within)
+
+    pub others_count : Here X6 → suc (length (others (item_after p path) (option_at p o))) ≡ length (option_at p o)
+    others_count k = let t = choice_has p (covered_by p path) o (retry_at k).1 in length-others (item_after p path) (option_at p o) t.item
+
+    pub can_uncover : (count : ℕ) → count ≡ length (option_at p o) - 1 → Here X6 → (front back : List ℕ) × (covered ≡ front ++ back) × (length back ≡ count)
+    can_uncover count e k =
+        let n = others_count k in (covered_by p path ++ item_after p path ∷ [], others (item_after p path) (option_at p o), taken_at k, omega arith)
+
+    -- once the option's other items are uncovered
+    module _ (count : ℕ) (mid : List ℕ) (size : count ≡ length (option_at p o) - 1) (gone : (back : List ℕ) × (covered ≡ mid ++ back) × (length back ≡ count)) where
+      mid_is : Here X6 → mid ≡ covered_by p path ++ item_after p path ∷ []
+      mid_is k =
+          let n = others_count k in
+          let m = gone.2 in
+          same_fronts mid (covered_by p path ++ item_after p path ∷ []) gone.0 (others (item_after p path) (option_at p o)) (sym gone.1 ∙ taken_at k) (omega arith)
+
+      pub mid_some : Here X6 → 0 < length mid
+      mid_some k = let e = ap (length {A = ℕ}) (mid_is k) in let n = length-append (covered_by p path) (item_after p path ∷ []) in omega arith
+
+      mid_item : (item : ℕ) → (front : List ℕ) × (mid ≡ front ++ item ∷ []) → Here X6 → item ≡ item_after p path
+      mid_item item w k = (same_from_push _ _ _ _ (sym w.1 ∙ mid_is k)).1
+
+      mid_list : (item : ℕ) (new_subject : Cover) → (front : List ℕ) × (mid ≡ front ++ item ∷ []) → new_subject ≡ subject → Here X6 → list_of new_subject mid item ≡ left p path
+      mid_list item new_subject w same k =
+          let t = choice_has p (covered_by p path) o (retry_at k).1 in
+          let free = (active_in p (covered_by p path) (item_after p path) t.chosen).0 in
+          ap (λ q. list_of q mid item) (same ∙ k.same) ∙ ap (λ c. list_of p c item) (mid_is k) ∙ ap (λ i. list_of p (covered_by p path ++ item_after p path ∷ []) i) (mid_item item w k)
+          ∙ list_covered p (covered_by p path) (item_after p path) [] free
+
+      pub mid_has : (item : ℕ) (new_subject : Cover) → (front : List ℕ) × (mid ≡ front ++ item ∷ []) → new_subject ≡ subject → Here X6 → has (list_of new_subject mid item) o ≡ true
+      mid_has item new_subject w same k = subst (λ l. has l o ≡ true) (sym (mid_list item new_subject w same k)) (retry_at k).1.left
+
+      pub retries : (item : ℕ) (new_subject : Cover) (found : Option ℕ) (new_cursor : Cursor) → (front : List ℕ) × (mid ≡ front ++ item ∷ []) → new_subject ≡ subject
+          → found ≡ above o (list_of new_subject mid item) → new_cursor ≡ cursor_of found → Here X6 → Moves X6 (at X5 path new_cursor) Moved new_subject mid
+      unfolding next event_of covered_in
+      retries item new_subject found new_cursor w same e to k =
+          let reached : new_cursor ≡ cursor_of (above o (left p path)) = to ∙ ap cursor_of (e ∙ ap (above o) (mid_list item new_subject w same k)) in
+          went p _ _ _ subject covered room _ _ _ k same (omega arith) (rw is_at (ap (λ c. at X5 path c) reached)) refl (mid_is k)
+
+  -- X7
+  last_at_X7 : Here X7 → covered ≡ covered_by p path ++ item_after p path ∷ []
+  unfolding covered_in
+  last_at_X7 k = k.stands
+
+  pub some_at_X7 : Here X7 → 0 < length covered
+  some_at_X7 k = let e = ap (length {A = ℕ}) (last_at_X7 k) in let n = length-append (covered_by p path) (item_after p path ∷ []) in omega arith
+
+  pub closes : (item : ℕ) (new_subject : Cover) (new_covered : List ℕ) → new_subject ≡ subject → covered ≡ new_covered ++ item ∷ [] → Here X7
+      → Moves X7 (at X8 path cursor.None) Moved new_subject new_covered
+  unfolding next event_of covered_in
+  closes item new_subject new_covered same e k =
+      went p _ _ _ subject covered room _ _ _ k same (omega arith) refl refl (same_from_push _ _ _ _ (sym e ∙ last_at_X7 k)).0
+
+  -- X8
+  pub ends : (new_path : List ℕ) (new_room : ℕ) → path ≡ new_path ++ [] → length path ≡ 0 → new_room ≡ room → Here X8
+      → Went p (at X8 path at_cursor) (at Done new_path cursor.None) Finished subject covered new_room
+  unfolding next event_of covered_in
+  ends new_path new_room e zero same k =
+      let none = emptied path zero in
+      let bare : new_path ≡ [] = sym (append-nil new_path) ∙ sym e ∙ none in
+      went p _ _ _ subject covered room _ _ _ k refl (omega arith) (rw (none, bare) refl) (rw none refl) (k.stands ∙ ap (covered_by p) (none ∙ sym bare))
+
+  pub leaves : (new_path : List ℕ) (o : ℕ) (new_room : ℕ) → path ≡ new_path ++ o ∷ [] → new_room ≡ room → Here X8
+      → Went p (at X8 path at_cursor) (at X6 new_path (At o)) Moved subject covered new_room
+  unfolding next event_of covered_in
+  leaves new_path o new_room e same k =
+      let last : split_last path ≡ Some (new_path, o) = ap split_last e ∙ split_last_push new_path o in
+      went p _ _ _ subject covered room _ _ _ k refl (omega arith) (rw last refl) (moved path new_path o e) (k.stands ∙ ap (covered_by p) e ∙ covered_by_push p new_path o)
+
+-- ---- the same at a state whose label is known
+
+module _ (p : Cover) (s : Place) (subject : Cover) (covered : List ℕ) (room : ℕ) (k : Keeps p s subject covered room) where
+  pub from_label : (l : Label) → s.label ≡ l → Keeps p (at l s.path s.cursor) subject covered room
+  from_label l e = subst (λ l. Keeps p (at l s.path s.cursor) subject covered room) e k
+
+  pub to_state : (l : Label) (t : Place) (event : Event) (new_subject : Cover) (new_covered : List ℕ) (new_room : ℕ) → s.label ≡ l → Went p (at l s.path s.cursor) t event new_subject new_covered new_room → Went p s t event new_subject new_covered new_room
+  to_state l t event new_subject new_covered new_room e w = subst (λ l. Went p (at l s.path s.cursor) t event new_subject new_covered new_room) (sym e) w
+
+-- what a machine's step says, from the state inside it
+pub goes : (p : Cover) (s t : Place) (event : Event) (subject : Cover) (covered : List ℕ) (room : ℕ) (old : Position) → record { problem = p; state = s } ≡ old → Went p s t event subject covered room → Goes old (record { problem = p; state = t }) event
+goes p s t event subject covered room old e w = subst (λ v. Goes v (record { problem = p; state = t }) event) e (record { problem = refl; state = w.steps; tells = w.tells })
+
+pub label_of : (p : Cover) (s : Place) (old : Position) (l : Label) → record { problem = p; state = s } ≡ old → old.state.label ≡ l → s.label ≡ l
+label_of p s old l e h = ap (λ v. v.state.label) e ∙ h
+
+pub cursor_in : (p : Cover) (s : Place) (old : Position) (k : Cursor) → record { problem = p; state = s } ≡ old → old.state.cursor ≡ k → s.cursor ≡ k
+cursor_in p s old k e h = ap (λ v. v.state.cursor) e ∙ h
+
+-- a machine that was just made
+pub starts : (p subject : Cover) (covered path : List ℕ) (room : ℕ) → IsProblem p → subject ≡ p → covered ≡ [] → path ≡ [] → length p.names ≤ room → Keeps p (at X1 path cursor.None) subject covered room
+unfolding covered_in
+starts p subject covered path room sound same none empty fits = record {
+  sound = sound;
+  fit = empty;
+  same = same;
+  stands = none ∙ sym (ap (covered_by p) empty ∙ covered_by_none p);
+  path_fits = fits
+}

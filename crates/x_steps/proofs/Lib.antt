@@ -1,3 +1,5 @@
 pub mod Neighbours
 pub mod RankLemmas
 pub mod RunLemmas
+pub mod SpanLemmas
+pub mod MachineLemmas

@@ -3,3 +3,4 @@ pub mod RankLemmas
 pub mod RunLemmas
 pub mod SpanLemmas
 pub mod MachineLemmas
+pub mod Length

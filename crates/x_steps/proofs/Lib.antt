@@ -4,3 +4,5 @@ pub mod RunLemmas
 pub mod SpanLemmas
 pub mod MachineLemmas
 pub mod Length
+pub mod OrderLemmas
+pub mod VisitLemmas

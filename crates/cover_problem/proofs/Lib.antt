@@ -1,3 +1,4 @@
 pub mod CoverExamples
 pub mod ListLemmas
 pub mod CoveringLemmas
+pub mod CoverLemmas

@@ -1,6 +1,7 @@
 //! Exact cover problems, their texts, and the table that a search stands on.
 #![tactic(auto)]
 
+pub mod laws;
 mod limits;
 mod problem;
 mod table;

@@ -3,4 +3,9 @@ pub mod CoverEach
 pub mod Neighbours
 pub mod RankLemmas
 pub mod RunLemmas
+pub mod SpanLemmas
+pub mod StateLemmas
 pub mod MachineLemmas
+pub mod Length
+pub mod OrderLemmas
+pub mod VisitLemmas

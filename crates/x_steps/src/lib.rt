@@ -4,6 +4,7 @@
 mod covering;
 mod event;
 mod fault;
+pub mod laws;
 mod machine;
 mod state;
 

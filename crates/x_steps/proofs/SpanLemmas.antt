@@ -1,0 +1,122 @@
+-- Stretches of the run: their states, visits and levels, and how stretches join.
+use Rattle.std.proofs.Common.{◌≡◌, ℕ, zero, suc, ◌+◌, ◌-◌, ◌<◌, ◌≤◌, ◌⊎◌, nat_lt, ◌==◌, Bool, true, false, not, ◌&&◌, cond, List, [], ◌∷◌, ◌++◌, map, length, filter, count_by, sum_by, get_or, refl, sym, ap, ap₂, ◌∙◌, subst, inl, inr, ⊎_elim, arith, le_refl, le_trans, append_assoc, append-nil, length-append, suc-add, zero-add, add-zero}
+use Rattle.std.proofs.lemmas.Bool.{cases_Bool, cases_lt, cases_order, lt-ltb, le-ltb}
+use Rattle.std.proofs.lemmas.List.{map-append, length-map, get_or-map}
+use Rattle.std.proofs.lemmas.List.Elements.{filter-append}
+use Rattle.std.proofs.lemmas.List.Sums.{sum_by-append}
+use Rattle.cover_problem.specs.Problem.{Cover}
+use Rattle.cover_problem.specs.Lists.{numbers}
+use Rattle.cover_problem.proofs.ListLemmas.{length-numbers}
+use Rattle.x_steps.specs.declared.state.Label.TheVariants.{X1, X2, X3, X4, X5, X6, X7, X8, Done}
+use Rattle.x_steps.specs.Place.{Place, at, start, done}
+use Rattle.x_steps.specs.Steps.{Fits, next, is_open, is_level, is_visit, is_entry}
+use Rattle.x_steps.specs.Run.{after, states, visits, entries, level_count, distance, between, span, seen, levels, Leads}
+use Rattle.x_steps.specs.Rank.{rank}
+use Rattle.x_steps.proofs.Neighbours.{fits_next}
+use Rattle.x_steps.proofs.RankLemmas.{rank_next}
+use Rattle.x_steps.proofs.RunLemmas.{after_add, leads_none, leads_push, leads_join, leads_to, between_is}
+
+-- ---- states
+
+pub length-states : (p : Cover) (n : ℕ) (s : Place) → length (states p n s) ≡ n
+length-states p zero s = refl
+length-states p (suc n) s = let e = length-append (states p n s) (after p n s ∷ []) in let h = length-states p n s in omega arith
+
+-- two stretches that join
+pub states_join : (p : Cover) (m n : ℕ) (s : Place) → states p (n + m) s ≡ states p m s ++ states p n (after p m s)
+states_join p m zero s = rw (zero-add, append-nil) refl
+states_join p m (suc n) s = rw suc-add (ap₂ (λ (xs : List Place) (x : Place). xs ++ x ∷ []) (states_join p m n s) (sym (after_add p n m s)) ∙ append_assoc (states p m s) (states p n (after p m s)) (after p n (after p m s) ∷ []))
+
+pub visits_join : (p : Cover) (ss ts : List Place) → visits p (ss ++ ts) ≡ visits p ss ++ visits p ts
+visits_join p ss ts = ap (map (λ (s : Place). s.path)) (filter-append (is_visit p) ss ts) ∙ map-append (λ (s : Place). s.path) (filter (is_visit p) ss) (filter (is_visit p) ts)
+
+-- the visit of a state
+abbrev pub visit_of : Cover → Place → List (List ℕ)
+visit_of p s = cond (is_visit p s) (s.path ∷ []) []
+
+visit_one : (p : Cover) (s : Place) (b : Bool) → map (λ (s : Place). s.path) (cond b (s ∷ []) []) ≡ cond b (s.path ∷ []) []
+visit_one p s true = refl
+visit_one p s false = refl
+
+pub visits_one : (p : Cover) (s : Place) → visits p (s ∷ []) ≡ visit_of p s
+visits_one p s = visit_one p s (is_visit p s)
+
+pub visits_push : (p : Cover) (ss : List Place) (s : Place) → visits p (ss ++ s ∷ []) ≡ visits p ss ++ visit_of p s
+visits_push p ss s = visits_join p ss (s ∷ []) ∙ ap (λ vs. visits p ss ++ vs) (visits_one p s)
+
+pub entries_join : (p : Cover) (ss ts : List Place) → entries p (ss ++ ts) ≡ entries p ss + entries p ts
+entries_join p ss ts = sum_by-append (λ s. cond (is_entry p s) 1 0) ss ts
+
+pub entries_push : (p : Cover) (ss : List Place) (s : Place) → entries p (ss ++ s ∷ []) ≡ entries p ss + cond (is_entry p s) 1 0
+entries_push p ss s = entries_join p ss (s ∷ []) ∙ ap (λ n. entries p ss + n) (let e : entries p (s ∷ []) ≡ cond (is_entry p s) 1 0 = omega arith in e)
+
+pub level_count_join : (ss ts : List Place) (level : ℕ) → level_count (ss ++ ts) level ≡ level_count ss level + level_count ts level
+level_count_join ss ts level = sum_by-append (λ s. cond (is_level s.label && (length s.path == level)) 1 0) ss ts
+
+pub level_count_push : (ss : List Place) (s : Place) (level : ℕ) → level_count (ss ++ s ∷ []) level ≡ level_count ss level + cond (is_level s.label && (length s.path == level)) 1 0
+level_count_push ss s level = level_count_join ss (s ∷ []) level ∙ ap (λ n. level_count ss level + n) (let e : level_count (s ∷ []) level ≡ cond (is_level s.label && (length s.path == level)) 1 0 = omega arith in e)
+
+-- ---- between fitting states
+
+pub between_self : (p : Cover) (s : Place) → Fits p s → between p s s ≡ 0
+between_self p s f = between_is p s s 0 f (leads_none p s)
+
+-- the end of a stretch goes one step further
+pub between_next : (p : Cover) (s t : Place) → Fits p s → Fits p t → rank p s ≤ rank p t → (t.label ≡ Done → ⊥) → between p s (next p t) ≡ suc (between p s t)
+between_next p s t f g l h = between_is p s (next p t) (suc (between p s t)) f (leads_push p s t (between p s t) (leads_to p s t f g l) h)
+
+pub between_join : (p : Cover) (s t u : Place) → Fits p s → Fits p t → Fits p u → rank p s ≤ rank p t → rank p t ≤ rank p u → between p s u ≡ between p t u + between p s t
+between_join p s t u f g h a b = between_is p s u (between p t u + between p s t) f (leads_join p s t u (between p s t) (between p t u) (leads_to p s t f g a) (leads_to p t u g h b))
+
+-- a later state is at least a step away
+pub between_some : (p : Cover) (s t : Place) → Fits p s → Fits p t → rank p s < rank p t → 0 < between p s t
+between_some p s t f g l = step (cases_order (between p s t) 0)
+  where
+    step : (between p s t ≡ 0) ⊎ ((between p s t < 0) ⊎ (0 < between p s t)) → 0 < between p s t
+    step (inl z) = let e : s ≡ t = ap (λ n. after p n s) (sym z) ∙ (leads_to p s t f g (omega arith)).ends in let h = ap (rank p) e in absurd (omega arith)
+    step (inr (inl z)) = absurd (omega arith)
+    step (inr (inr z)) = z
+
+pub span_self : (p : Cover) (s : Place) → Fits p s → span p s s ≡ []
+span_self p s f = ap (λ n. states p n s) (between_self p s f)
+
+pub span_next : (p : Cover) (s t : Place) → Fits p s → Fits p t → rank p s ≤ rank p t → (t.label ≡ Done → ⊥) → span p s (next p t) ≡ span p s t ++ t ∷ []
+span_next p s t f g l h = ap (λ n. states p n s) (between_next p s t f g l h) ∙ ap (λ u. span p s t ++ u ∷ []) (leads_to p s t f g l).ends
+
+pub span_join : (p : Cover) (s t u : Place) → Fits p s → Fits p t → Fits p u → rank p s ≤ rank p t → rank p t ≤ rank p u → span p s u ≡ span p s t ++ span p t u
+span_join p s t u f g h a b = ap (λ n. states p n s) (between_join p s t u f g h a b) ∙ states_join p (between p s t) (between p t u) s ∙ ap (λ v. span p s t ++ states p (between p t u) v) (leads_to p s t f g a).ends
+
+pub seen_self : (p : Cover) (s : Place) → Fits p s → seen p s s ≡ []
+unfolding seen
+seen_self p s f = ap (visits p) (span_self p s f)
+
+pub seen_next : (p : Cover) (s t : Place) → Fits p s → Fits p t → rank p s ≤ rank p t → (t.label ≡ Done → ⊥) → seen p s (next p t) ≡ seen p s t ++ visit_of p t
+unfolding seen
+seen_next p s t f g l h = ap (visits p) (span_next p s t f g l h) ∙ visits_push p (span p s t) t
+
+pub seen_join : (p : Cover) (s t u : Place) → Fits p s → Fits p t → Fits p u → rank p s ≤ rank p t → rank p t ≤ rank p u → seen p s u ≡ seen p s t ++ seen p t u
+unfolding seen
+seen_join p s t u f g h a b = ap (visits p) (span_join p s t u f g h a b) ∙ visits_join p (span p s t) (span p t u)
+
+pub length-levels : (p : Cover) (s t : Place) → length (levels p s t) ≡ length p.names + 1
+unfolding levels
+length-levels p s t = length-map (numbers (length p.names + 1) 0) (level_count (span p s t)) ∙ length-numbers (length p.names + 1) 0
+
+get_or-numbers : (n k i d : ℕ) → i < n → get_or (numbers n k) i d ≡ k + i
+get_or-numbers zero k i d l = absurd (omega arith)
+get_or-numbers (suc n) k zero d l = omega arith
+get_or-numbers (suc n) k (suc i) d l = let e = get_or-numbers n (suc k) i d (omega arith) in omega arith
+
+-- the count at each level
+pub levels_at : (p : Cover) (s t : Place) (level d : ℕ) → level ≤ length p.names → get_or (levels p s t) level d ≡ level_count (span p s t) level
+unfolding levels
+levels_at p s t level d l =
+    let e = length-numbers (length p.names + 1) 0 in
+    let f = get_or-numbers (length p.names + 1) 0 level 0 (omega arith) in
+    get_or-map (level_count (span p s t)) (numbers (length p.names + 1) 0) level 0 d (omega arith) ∙ ap (level_count (span p s t)) (let g : get_or (numbers (length p.names + 1) 0) level 0 ≡ level = omega arith in g)
+
+pub level_count_next : (p : Cover) (s t : Place) (level : ℕ) → Fits p s → Fits p t → rank p s ≤ rank p t → (t.label ≡ Done → ⊥) → level_count (span p s (next p t)) level ≡ level_count (span p s t) level + cond (is_level t.label && (length t.path == level)) 1 0
+level_count_next p s t level f g l h = ap (λ ss. level_count ss level) (span_next p s t f g l h) ∙ level_count_push (span p s t) t level
+
+pub level_count_span : (p : Cover) (s t u : Place) (level : ℕ) → Fits p s → Fits p t → Fits p u → rank p s ≤ rank p t → rank p t ≤ rank p u → level_count (span p s u) level ≡ level_count (span p s t) level + level_count (span p t u) level
+level_count_span p s t u level f g h a b = ap (λ ss. level_count ss level) (span_join p s t u f g h a b) ∙ level_count_join (span p s t) (span p t u) level

@@ -6,3 +6,4 @@ pub mod MachineLemmas
 pub mod Length
 pub mod OrderLemmas
 pub mod VisitLemmas
+pub mod StepExamples

@@ -268,6 +268,10 @@ start_first p s f = step (stands p s f)
         order (inr (inl z)) = absurd (omega arith)
         order (inr (inr z)) = let r = rises_between p a.0 start (start_fits p) a.1.goes_on 0 a.0 z (le_refl a.0) in let h = ap (rank p) a.1.ends in omega arith
 
+-- nothing comes before X1
+pub none_before : (p : Cover) (u : Place) → IsBefore p u start → ⊥
+none_before p u b = let r = rank_next p u b.fit b.goes_on in let l = start_first p u b.fit in let e = ap (rank p) b.steps in omega arith
+
 -- a state before another isn't Done
 pub not_done : (p : Cover) (s t : Place) → Fits p s → Fits p t → rank p s < rank p t → s.label ≡ Done → ⊥
 not_done p s t f g l e = let d = done_last p t g in let h = ap (rank p) (end_is p s f e) in omega arith

@@ -11,5 +11,4 @@ pub fn choice_is_first_shortest()
         length (remaining p c (choice p c)) ≤ length (remaining p c i) }
     ensures first { (p : Cover) (c : List ℕ) (i : ℕ) → has (active p c) i ≡ true → i < choice p c →
         length (remaining p c (choice p c)) < length (remaining p c i) }
-{
-}
+{}

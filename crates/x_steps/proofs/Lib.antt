@@ -9,3 +9,4 @@ pub mod MachineLemmas
 pub mod Length
 pub mod OrderLemmas
 pub mod VisitLemmas
+pub mod StepExamples

@@ -1,18 +1,18 @@
 -- Path order is the order of the run: of visits, of cuts, and of what lies below an option.
-use Rattle.std.proofs.Common.{◌≡◌, ℕ, zero, suc, ◌+◌, ◌*◌, ◌^◌, ◌<◌, ◌≤◌, ◌⊎◌, Bool, true, false, List, [], ◌∷◌, ◌++◌, map, length, refl, sym, ap, ap₂, ◌∙◌, subst, inl, inr, arith, le_refl, le_trans, append_assoc, length-append}
+use Rattle.std.proofs.Common.{◌≡◌, ℕ, zero, suc, ◌+◌, ◌*◌, ◌<◌, ◌⊎◌, List, [], ◌∷◌, ◌++◌, map, length, refl, sym, ap, ap₂, ◌∙◌, inl, inr, arith, append_assoc, length-append}
 use Rattle.std.proofs.lemmas.Bool.{cases_order}
 use Rattle.std.proofs.lemmas.List.{map-append, length-map}
 use Rattle.cover_problem.specs.Problem.{Cover}
-use Rattle.cover_problem.specs.Path.{IsChoice, taken, covered_from, IsValidFrom, IsValid, covered_by}
-use Rattle.cover_problem.proofs.CoveringLemmas.{choice_has, depth, valid_pop, valid_push}
+use Rattle.cover_problem.specs.Path.{taken, covered_from, IsValidFrom, IsValid, covered_by}
+use Rattle.cover_problem.proofs.CoveringLemmas.{choice_has, depth}
 use Rattle.cover_problem.proofs.CoverLemmas.{valid_split}
 use Rattle.x_steps.specs.declared.state.Label.{Label}
 use Rattle.x_steps.specs.declared.state.Label.TheVariants.{X1, X2, X3, X4, X5, X6, X7, X8, Done}
 use Rattle.x_steps.specs.declared.state.Cursor.{Cursor}
 use Rattle.x_steps.specs.declared.state.Cursor.TheVariants as cursor
 use Rattle.x_steps.specs.declared.state.Cursor.TheVariants.{At, Past}
-use Rattle.x_steps.specs.Place.{Place, at, start, done}
-use Rattle.x_steps.specs.Steps.{FitsAt, Fits}
+use Rattle.x_steps.specs.Place.{at}
+use Rattle.x_steps.specs.Steps.{FitsAt}
 use Rattle.x_steps.specs.Order.{PathLess}
 use Rattle.x_steps.specs.Rank.{digit_at, digits, number, rank}
 use Rattle.x_steps.proofs.RankLemmas.{AllBelow, number_less, short}
@@ -30,6 +30,7 @@ path_cases (x ∷ q) (y ∷ r) = step (path_cases q r) (cases_order x y)
     tails e (inl l) = inl (inr (e, l))
     tails e (inr (inl f)) = inr (inl (ap₂ (λ (z : ℕ) (zs : List ℕ). z ∷ zs) e f))
     tails e (inr (inr l)) = inr (inr (inr (sym e, l)))
+
     step : PathLess q r ⊎ ((q ≡ r) ⊎ PathLess r q) → (x ≡ y) ⊎ ((x < y) ⊎ (y < x)) → PathLess (x ∷ q) (y ∷ r) ⊎ ((x ∷ q ≡ y ∷ r) ⊎ PathLess (y ∷ r) (x ∷ q))
     step ih (inl e) = tails e ih
     step ih (inr (inl l)) = inl (inl l)
@@ -116,6 +117,7 @@ cut_number p c (x ∷ q) [] o t (suc n) l v h = step h
     last : (q : List ℕ) → PathLess (q ++ o ∷ []) [] → ⊥
     last [] k = k
     last (z ∷ q) k = k
+
     step : (x < t) ⊎ ((x ≡ t) × PathLess (q ++ o ∷ []) []) → number (4 * length p.options + 9) (suc n) ((4 * x + 2) ∷ (map (λ o. 4 * o + 2) q ++ (4 * o + 1) ∷ [])) < number (4 * length p.options + 9) (suc n) ((4 * t + 1) ∷ [])
     step (inl k) = number_less (4 * length p.options + 9) (suc n) [] (4 * x + 2) (4 * t + 1) (map (λ o. 4 * o + 2) q ++ (4 * o + 1) ∷ []) [] (omega arith) (omega arith) (omega arith) (inside p (taken p c x) q o v.1)
       where
@@ -202,8 +204,8 @@ inside_below p q rest o e l k f m =
     let v = fits_valid p l (q ++ o ∷ rest) k f in
     let s = valid_split p [] q (o ∷ rest) v in
     rw (inside_digits q rest o (digit_at (length p.options) l k))
-      (number_less (4 * length p.options + 9) (suc p.primary) (map (λ o. 4 * o + 2) q) (4 * o + 2) e (map (λ o. 4 * o + 2) rest ++ digit_at (length p.options) l k ∷ []) [] (front_short p q rest o v) m (omega arith)
-        (below_digits p (taken p (covered_from p [] q) o) rest (digit_at (length p.options) l k) s.1.1 (digit_small p l (q ++ o ∷ rest) k f)))
+    (number_less (4 * length p.options + 9) (suc p.primary) (map (λ o. 4 * o + 2) q) (4 * o + 2) e (map (λ o. 4 * o + 2) rest ++ digit_at (length p.options) l k ∷ []) [] (front_short p q rest o v) m (omega arith)
+    (below_digits p (taken p (covered_from p [] q) o) rest (digit_at (length p.options) l k) s.1.1 (digit_small p l (q ++ o ∷ rest) k f)))
 
 -- before the option is left,
 pub inside_left : (p : Cover) (q rest : List ℕ) (o : ℕ) (l : Label) (k : Cursor) → FitsAt p l (q ++ o ∷ rest) k → rank p (at l (q ++ o ∷ rest) k) < rank p (at X6 q (At o))
@@ -219,3 +221,13 @@ inside_before p q rest o t l k f m = inside_below p q rest o (4 * t + 1) l k f (
 pub left_before : (p : Cover) (q : List ℕ) (o t : ℕ) → IsValid p q → o < t → rank p (at X6 q (At o)) < rank p (at X5 q (At t))
 unfolding rank
 left_before p q o t v m = number_less (4 * length p.options + 9) (suc p.primary) (map (λ o. 4 * o + 2) q) (4 * o + 3) (4 * t + 1) [] [] (short p q v) (omega arith) (omega arith) tt
+
+-- cuts at one level come in the order of their options
+pub level_rank : (p : Cover) (q : List ℕ) (o t : ℕ) → IsValid p q → o < t → rank p (at X5 q (At o)) < rank p (at X5 q (At t))
+unfolding rank
+level_rank p q o t v m = number_less (4 * length p.options + 9) (suc p.primary) (map (λ o. 4 * o + 2) q) (4 * o + 1) (4 * t + 1) [] [] (short p q v) (omega arith) (omega arith) tt
+
+-- and an option is left after its cut
+pub left_after : (p : Cover) (q : List ℕ) (o : ℕ) → IsValid p q → rank p (at X5 q (At o)) < rank p (at X6 q (At o))
+unfolding rank
+left_after p q o v = number_less (4 * length p.options + 9) (suc p.primary) (map (λ o. 4 * o + 2) q) (4 * o + 1) (4 * o + 3) [] [] (short p q v) (omega arith) (omega arith) tt

@@ -1,23 +1,19 @@
 -- The run meets exactly the fitting states, none twice, and ends; and how far one state is from another.
-use Rattle.std.proofs.Common.{◌≡◌, ℕ, zero, suc, ◌+◌, ◌*◌, ◌^◌, ◌-◌, ◌<◌, ◌≤◌, ◌⊎◌, nat_lt, Bool, true, false, not, cond, Option, Some, List, [], ◌∷◌, ◌++◌, map, length, filter, count_by, refl, sym, ap, ◌∙◌, subst, inl, inr, ⊎_elim, arith, le_refl, le_trans, append_assoc, append-nil, length-append, suc-add, zero-add, add-zero, if◌then◌else◌}
+use Rattle.std.proofs.Common.{◌≡◌, ℕ, zero, suc, ◌+◌, ◌-◌, ◌<◌, ◌≤◌, ◌⊎◌, true, false, Option, Some, List, refl, sym, ap, ◌∙◌, subst, inl, inr, arith, le_refl, suc-add, zero-add}
 use Rattle.std.specs.Prelude as prelude
 use Rattle.std.proofs.lemmas.Bool.{cases_Bool, cases_lt, cases_order, lt-ltb, le-ltb}
-use Rattle.std.proofs.lemmas.List.{map-append}
-use Rattle.std.proofs.lemmas.List.Elements.{filter-append}
 use Rattle.cover_problem.specs.Problem.{Cover}
-use Rattle.cover_problem.specs.Path.{IsValid}
-use Rattle.cover_problem.proofs.CoveringLemmas.{valid_start}
 use Rattle.x_steps.specs.declared.state.Label.{Label}
 use Rattle.x_steps.specs.declared.state.Label.TheVariants.{X1, X2, X3, X4, X5, X6, X7, X8, Done}
 use Rattle.x_steps.specs.declared.state.Cursor.{Cursor}
 use Rattle.x_steps.specs.declared.state.Cursor.TheVariants as cursor
 use Rattle.x_steps.specs.declared.state.Cursor.TheVariants.{At, Past}
 use Rattle.x_steps.specs.Place.{Place, at, start, done}
-use Rattle.x_steps.specs.Steps.{is_open, IsOpen, left, split_last, FitsAt, Fits, next_at, next, IsBefore}
-use Rattle.x_steps.specs.Before.{entered_from, came_from, prev_at, prev}
-use Rattle.x_steps.specs.Run.{after, states, distance, between, IsRun, Leads}
+use Rattle.x_steps.specs.Steps.{is_open, split_last, FitsAt, Fits, next, IsBefore}
+use Rattle.x_steps.specs.Before.{entered_from, came_from, prev}
+use Rattle.x_steps.specs.Run.{after, distance, between, IsRun, Leads}
 use Rattle.x_steps.specs.Rank.{rank}
-use Rattle.x_steps.proofs.Neighbours.{fits_next, fits_prev, prev_next, next_prev, open_cases}
+use Rattle.x_steps.proofs.Neighbours.{fits_next, fits_prev, prev_next, next_prev}
 use Rattle.x_steps.proofs.RankLemmas.{rank_next}
 
 -- ---- labels
@@ -143,6 +139,7 @@ rises_between p n s f g i (suc j) l m = step (cases_lt i j) (rises_between p n s
   where
     up : rank p (after p j s) < rank p (next p (after p j s))
     up = rank_next p (after p j s) (after_fits p j s f) (g j (omega arith))
+
     step : (i < j) ⊎ (j ≤ i) → (i < j → j ≤ n → rank p (after p i s) < rank p (after p j s)) → rank p (after p i s) < rank p (after p (suc j) s)
     step (inl a) ih = let b = ih a (omega arith) in let c = up in omega arith
     step (inr a) ih = let e : i ≡ j = omega arith in rw e up
@@ -179,6 +176,7 @@ leads_join p s t u m n a b = record { ends = sym (after_add p n m s) ∙ ap (aft
     past i c l = let d : (i - m) + m ≡ i = omega arith in
         let e : after p (i - m) t ≡ after p i s = ap (after p (i - m)) (sym a.ends) ∙ after_add p (i - m) m s ∙ ap (λ k. after p k s) d in
         rw (← e) (b.goes_on (i - m) (omega arith))
+
     step : (i : ℕ) → (i < m) ⊎ (m ≤ i) → i < n + m → (after p i s).label ≡ Done → ⊥
     step i (inl c) l = a.goes_on i c
     step i (inr c) l = past i c l
@@ -270,6 +268,10 @@ start_first p s f = step (stands p s f)
         order (inr (inl z)) = absurd (omega arith)
         order (inr (inr z)) = let r = rises_between p a.0 start (start_fits p) a.1.goes_on 0 a.0 z (le_refl a.0) in let h = ap (rank p) a.1.ends in omega arith
 
+-- nothing comes before X1
+pub none_before : (p : Cover) (u : Place) → IsBefore p u start → ⊥
+none_before p u b = let r = rank_next p u b.fit b.goes_on in let l = start_first p u b.fit in let e = ap (rank p) b.steps in omega arith
+
 -- a state before another isn't Done
 pub not_done : (p : Cover) (s t : Place) → Fits p s → Fits p t → rank p s < rank p t → s.label ≡ Done → ⊥
 not_done p s t f g l e = let d = done_last p t g in let h = ap (rank p) (end_is p s f e) in omega arith
@@ -284,13 +286,45 @@ run_is_fitting p = record { ends = (run_leads p).ends; once = λ i j a b e. once
   where
     apart : (i j : ℕ) → i < j → j ≤ between p start done → after p i start ≡ after p j start → ⊥
     apart i j l m e = let r = rises_between p (between p start done) start (start_fits p) (run_leads p).goes_on i j l m in let h = ap (rank p) e in omega arith
+
     once : (i j : ℕ) → i ≤ between p start done → j ≤ between p start done → after p i start ≡ after p j start → (i ≡ j) ⊎ ((i < j) ⊎ (j < i)) → i ≡ j
     once i j a b e (inl h) = h
     once i j a b e (inr (inl l)) = absurd (apart i j l b e)
     once i j a b e (inr (inr l)) = absurd (apart j i l a (sym e))
+
     meets : (s : Place) → ((n : ℕ) × Leads p start s n) → Fits p s → (i : ℕ) × (i ≤ between p start done) × (after p i start ≡ s)
     meets s a f = (a.0, within (cases_lt (between p start done) a.0), a.1.ends)
       where
         within : (between p start done < a.0) ⊎ (a.0 ≤ between p start done) → a.0 ≤ between p start done
         within (inr l) = l
         within (inl l) = absurd (a.1.goes_on (between p start done) l (ap (λ (s : Place). s.label) (run_leads p).ends))
+
+-- ---- places on the run
+
+-- a fitting state stands where its distance from the start says
+pub after_place : (p : Cover) (s : Place) → Fits p s → after p (between p start s) start ≡ s
+after_place p s f = (leads_to p start s (start_fits p) f (start_first p s f)).ends
+
+pub place_within : (p : Cover) (s : Place) → Fits p s → between p start s ≤ between p start done
+place_within p s f = step (cases_lt (between p start done) (between p start s))
+  where
+    step : (between p start done < between p start s) ⊎ (between p start s ≤ between p start done) → between p start s ≤ between p start done
+    step (inr l) = l
+    step (inl l) = absurd ((leads_to p start s (start_fits p) f (start_first p s f)).goes_on (between p start done) l (ap (λ (s : Place). s.label) (run_leads p).ends))
+
+-- the order of ranks is that of the places
+pub rank_place : (p : Cover) (s t : Place) → Fits p s → Fits p t → between p start s < between p start t → rank p s < rank p t
+rank_place p s t f g l =
+    let a = leads_to p start t (start_fits p) g (start_first p t g) in
+    let r = rises_between p (between p start t) start (start_fits p) a.goes_on (between p start s) (between p start t) l (le_refl (between p start t)) in
+    let x = ap (rank p) (after_place p s f) in
+    let y = ap (rank p) a.ends in
+    omega arith
+
+pub place_rank : (p : Cover) (s t : Place) → Fits p s → Fits p t → rank p s < rank p t → between p start s < between p start t
+place_rank p s t f g l = step (cases_order (between p start s) (between p start t))
+  where
+    step : (between p start s ≡ between p start t) ⊎ ((between p start s < between p start t) ⊎ (between p start t < between p start s)) → between p start s < between p start t
+    step (inl e) = let h : s ≡ t = sym (after_place p s f) ∙ ap (λ n. after p n start) e ∙ after_place p t g in let x = ap (rank p) h in absurd (omega arith)
+    step (inr (inl k)) = k
+    step (inr (inr k)) = let r = rank_place p t s g f k in absurd (omega arith)

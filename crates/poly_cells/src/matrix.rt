@@ -6,7 +6,7 @@ use std::marker::Model;
 
 /// A signed permutation matrix: row x takes the coordinate at place `from_x`, with a minus sign where `minus_x`, and so on.
 #[derive(Clone, Copy)]
-pub struct SignedPermutation {
+pub(crate) struct SignedPermutation {
     pub from_x: u8,
     pub from_y: u8,
     pub from_z: u8,

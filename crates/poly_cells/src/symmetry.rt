@@ -83,7 +83,7 @@ impl Symmetry {
     }
 
     // The symmetry's matrix.
-    pub fn matrix(self) -> SignedPermutation
+    pub(crate) fn matrix(self) -> SignedPermutation
         ensures value { result ≡ matrix self }
         ensures limit { self < 48 }
     {

@@ -7,12 +7,20 @@ use std::alloc::AllocError;
 
 /// Appends a space and a number.
 #[inline]
-fn push_number<N: Integer + Drop>(text: &mut Vec<u8>, number: N) -> Result<(), AllocError>
+pub fn push_number<N: Integer + Drop>(text: &mut Vec<u8>, number: N) -> Result<(), AllocError>
     ensures { OnOk result (text.new.items ≡ text.old.items ++ 32 ∷ N.text number) }
 {
     let mut buffer = Buffer::new();
     text.push(b' ')?;
     text.extend_from_slice(buffer.format(number).as_bytes())
+}
+
+/// Appends a space and a word.
+pub fn push_word(text: &mut Vec<u8>, word: &str) -> Result<(), AllocError>
+    ensures { OnOk result (text.new.items ≡ text.old.items ++ 32 ∷ word.now) }
+{
+    text.push(b' ')?;
+    text.extend_from_slice(word.as_bytes())
 }
 
 /// Appends a line: a key and a number.

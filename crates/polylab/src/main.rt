@@ -1,7 +1,9 @@
 //! Polylab: every way to pack a region with polycubes, by exact cover.
 #![tactic(auto)]
 
+mod answer;
 mod count;
+mod engine;
 mod input;
 mod job;
 mod lines;
@@ -9,40 +11,71 @@ mod output;
 mod report;
 mod search;
 
+use engine::{DONE, NO_MEMORY, USAGE, run};
 use job::{LineFault, parse_line};
-use std::alloc::Global;
 use std::env;
+use std::io::{self, ErrorKind};
 use std::process::ExitCode;
 
-/// The words of the command line, without the program's name; none where one of them is no text.
-fn words(rt: &HostRuntime) -> Option<Vec<String>> {
+/// The words of the command line, without the program's name.
+fn words(rt: &HostRuntime) -> io::Result<Vec<String>> {
     let mut words = Vec::new(rt.alloc());
-    for word in env::args(rt).ok()?.skip(1) {
-        words.push(word).ok()?;
+    for word in env::args(rt)?.skip(1) {
+        words.push(word)?;
     }
-    Some(words)
+    Ok(words)
 }
 
-fn main(rt: HostRuntime) -> ExitCode {
-    let Some(words) = words(&rt) else {
-        return ExitCode::from(2);
-    };
-    let Ok(texts) = words.iter().map(|word| word.as_str()).collect::<Vec<&str>>(rt.alloc()) else {
-        return ExitCode::from(4);
-    };
-    match parse_line(rt.alloc(), &texts) {
-        Ok(_) => ExitCode::from(0),
+/// The same words, lent.
+fn lent(rt: &HostRuntime, words: &[String]) -> io::Result<Vec<&str>> {
+    Ok(words
+        .iter()
+        .map(|word| word.as_str())
+        .collect(rt.alloc())?)
+}
+
+/// Does what the words ask for, and answers the exit status.
+fn status(rt: &HostRuntime, words: &[&str]) -> u8 {
+    match parse_line(rt.alloc(), words) {
+        Ok(job) => run(
+            rt,
+            rt.alloc(),
+            job,
+            &mut rt.stdin(),
+            &mut rt.stdout(),
+            &mut rt.stderr(),
+        ),
         Err(LineFault::Help(text)) => {
             let _ = rt.print(text.as_str());
-            ExitCode::from(0)
+            DONE
         }
         Err(LineFault::Usage(text)) => {
             let _ = rt.eprint(text.as_str());
-            ExitCode::from(2)
+            USAGE
         }
         Err(LineFault::OutOfMemory) => {
             let _ = rt.eprint("refused memory\n");
-            ExitCode::from(4)
+            NO_MEMORY
         }
     }
+}
+
+/// The status where the words of the command line could not be had.
+fn no_words(error: &io::Error) -> u8 {
+    if error.kind() == ErrorKind::OutOfMemory {
+        NO_MEMORY
+    } else {
+        USAGE
+    }
+}
+
+fn main(rt: HostRuntime) -> ExitCode {
+    let code = match words(&rt) {
+        Ok(words) => match lent(&rt, &words) {
+            Ok(words) => status(&rt, &words),
+            Err(error) => no_words(&error),
+        },
+        Err(error) => no_words(&error),
+    };
+    ExitCode::from(code)
 }

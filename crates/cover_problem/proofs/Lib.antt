@@ -2,3 +2,4 @@ pub mod CoverExamples
 pub mod ListLemmas
 pub mod CoveringLemmas
 pub mod CoverLemmas
+pub mod ProblemLemmas

@@ -5,3 +5,6 @@ pub mod Path
 pub mod Coverable
 pub mod ExactCover
 pub mod Table
+pub mod Faults
+pub mod Each
+pub mod Making

@@ -13,25 +13,11 @@ use Rattle.cover_problem.specs.declared.fault.Fault.{Fault}
 use Rattle.cover_problem.specs.declared.fault.Fault.TheVariants.{BadName, RepeatedItem, UnknownItem, ItemTwiceInOption, TooLarge, NoItemLine, BadLine}
 use Rattle.cover_problem.specs.Lists.{has, are_distinct}
 use Rattle.cover_problem.specs.Problem.{Cover, IsProblem, is_name, is_name_byte, is_item, is_option, is_small, are_new, is_same}
-use Rattle.cover_problem.specs.Each.{each, ◌>>=◌}
+use Rattle.text_lines.specs.Each.{each, ◌>>=◌}
+use Rattle.text_lines.proofs.EachLemmas.{each_goes, each_stops, each_ends}
 use Rattle.cover_problem.specs.declared.fault.ProblemFault.{ProblemFault}
 use Rattle.cover_problem.specs.declared.fault.ProblemFault.TheVariants as faults
 use Rattle.cover_problem.specs.Making.{IsFaultOf, add_name, add_number, with_item, option_from, add_option, made, within}
-
--- one step after the other
-
-module _ {S X F : Type 0} (step : S → X → Result S F) (s : S) (xs : List X) (all : Result S F) (so_far : each step s xs ≡ all) where
-  pub each_goes : (x : X) (more : List X) (t : S) → xs ≡ x ∷ more → step s x ≡ Ok t → each step t more ≡ all
-  unfolding each
-  each_goes x more t e h = rw h at (rw e at so_far)
-
-  pub each_stops : (x : X) (more : List X) (f : F) → xs ≡ x ∷ more → step s x ≡ Err f → all ≡ Err f
-  unfolding each
-  each_stops x more f e h = sym (rw h at (rw e at so_far))
-
-  pub each_ends : xs ≡ [] → all ≡ Ok s
-  unfolding each
-  each_ends e = sym (rw e at so_far)
 
 map_push : {X Y : Type 0} (f : X → Y) (xs : List X) (x : X) → map f (xs ++ x ∷ []) ≡ map f xs ++ f x ∷ []
 map_push f [] x = refl

@@ -6,5 +6,4 @@ pub mod Coverable
 pub mod ExactCover
 pub mod Table
 pub mod Faults
-pub mod Each
 pub mod Making

@@ -11,7 +11,7 @@ use Rattle.cover_problem.specs.declared.fault.ProblemFault.{ProblemFault}
 use Rattle.cover_problem.specs.declared.fault.ProblemFault.TheVariants as faults
 use Rattle.cover_problem.specs.Lists.{has}
 use Rattle.cover_problem.specs.Problem.{Cover, is_name, is_item, is_small}
-use Rattle.cover_problem.specs.Each.{each, ◌>>=◌}
+use Rattle.text_lines.specs.Each.{each, ◌>>=◌}
 
 -- the names with one more, which is a name and new
 unfoldable pub add_name : List (List ℕ) → List ℕ → Result (List (List ℕ)) Fault

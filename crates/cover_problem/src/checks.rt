@@ -2,7 +2,7 @@
 ghost use Rattle.std.specs.Prelude.{◌≡◌, ◌<◌, ◌≤◌, [], ℕ, List, nat_le, sum_by, length, map, OnOk, IsTrue};
 ghost use Rattle.std.specs.List.{All};
 ghost use Rattle.std.specs.String.{string_bytes};
-ghost use Rattle.cover_problem.specs.Each.{each};
+ghost use Rattle.text_lines.specs.Each.{each};
 ghost use Rattle.cover_problem.specs.Problem as problem;
 ghost use Rattle.cover_problem.specs.Making as making;
 ghost use Rattle.cover_problem.specs.Making.{Gives, add_name, add_option, option_from};

@@ -1,6 +1,6 @@
 use Rattle.std.proofs.Common.{◌≡◌, List, [], ℕ, map, ◌∙◌, ap, sym, subst, length, take}
 use Rattle.std.proofs.lemmas.Result.{err_from_is_err_and}
-use Rattle.cover_problem.specs.Each.{each}
+use Rattle.text_lines.specs.Each.{each}
 use Rattle.cover_problem.specs.Making.{add_option, option_from}
 use Rattle.cover_problem.proofs.ProblemLemmas.{options_go, options_stop, options_end, passes_on}
 use Rattle.cover_problem.proofs.checks.check_each.Goals as goal

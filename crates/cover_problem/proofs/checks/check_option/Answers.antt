@@ -1,5 +1,5 @@
 use Rattle.std.proofs.Common.{◌≡◌, ◌∙◌, sym, ap, length, take, drop, ◌≤◌, ◌<◌, ◌+◌, get_or, set, All, arith, inl, inr}
-use Rattle.cover_problem.specs.Each.{each}
+use Rattle.text_lines.specs.Each.{each}
 use Rattle.cover_problem.specs.Making.{option_from, add_number}
 use Rattle.cover_problem.proofs.ProblemLemmas.{stops_unknown, stops_twice, takes_once, stamped, numbers_end, unmarked, some_option}
 use Rattle.cover_problem.proofs.checks.check_option.Goals as goal

@@ -1,6 +1,6 @@
 use Rattle.std.proofs.Common.{◌≡◌, ◌<◌, ◌≤◌, ℕ, suc, ◌==◌, get_or, length, drop, take}
 use Rattle.cover_problem.specs.Lists.{has}
-use Rattle.cover_problem.specs.Each.{each}
+use Rattle.text_lines.specs.Each.{each}
 use Rattle.cover_problem.specs.Making.{add_number, option_from}
 use Rattle.cover_problem.proofs.ProblemLemmas.{AreMarks}
 use Rattle.cover_problem.proofs.checks.check_option.Given as goal

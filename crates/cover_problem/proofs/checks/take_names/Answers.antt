@@ -1,6 +1,6 @@
 use Rattle.std.proofs.Common.{◌≡◌, List, [], ℕ, map, ◌∙◌, ap, sym, length, string_bytes}
 use Rattle.std.proofs.lemmas.Result.{err_from_is_err_and}
-use Rattle.cover_problem.specs.Each.{each}
+use Rattle.text_lines.specs.Each.{each}
 use Rattle.cover_problem.specs.Making.{add_name}
 use Rattle.cover_problem.proofs.ProblemLemmas.{mapped_goes, mapped_stops, mapped_ends, passes_on}
 use Rattle.cover_problem.proofs.checks.take_names.Goals as goal

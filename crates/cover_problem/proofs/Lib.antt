@@ -3,3 +3,5 @@ pub mod ListLemmas
 pub mod CoveringLemmas
 pub mod CoverLemmas
 pub mod ProblemLemmas
+pub mod ReadingLemmas
+pub mod BegunLemmas

@@ -12,6 +12,7 @@ use Rattle.std.proofs.lemmas.Str.{IsUtf8-from_ascii}
 use Rattle.cover_problem.specs.declared.fault.Fault.{Fault}
 use Rattle.cover_problem.specs.declared.fault.Fault.TheVariants.{BadName, RepeatedItem, UnknownItem, ItemTwiceInOption, TooLarge, NoItemLine, BadLine}
 use Rattle.cover_problem.specs.Lists.{has, are_distinct}
+use Rattle.cover_problem.specs.Marks.{AreMarks}
 use Rattle.cover_problem.specs.Problem.{Cover, IsProblem, is_name, is_name_byte, is_item, is_option, is_small, are_new, is_same}
 use Rattle.text_lines.specs.Each.{each, ◌>>=◌}
 use Rattle.text_lines.proofs.EachLemmas.{each_goes, each_stops, each_ends}
@@ -19,7 +20,7 @@ use Rattle.cover_problem.specs.declared.fault.ProblemFault.{ProblemFault}
 use Rattle.cover_problem.specs.declared.fault.ProblemFault.TheVariants as faults
 use Rattle.cover_problem.specs.Making.{IsFaultOf, add_name, add_number, with_item, option_from, add_option, made, within}
 
-map_push : {X Y : Type 0} (f : X → Y) (xs : List X) (x : X) → map f (xs ++ x ∷ []) ≡ map f xs ++ f x ∷ []
+pub map_push : {X Y : Type 0} (f : X → Y) (xs : List X) (x : X) → map f (xs ++ x ∷ []) ≡ map f xs ++ f x ∷ []
 map_push f [] x = refl
 map_push f (y ∷ ys) x = ap (λ zs. f y ∷ zs) (map_push f ys x)
 
@@ -43,16 +44,16 @@ pub passes_on : {A B : Type 0} (e : ProblemFault) (at : Result A Fault) (all : R
 passes_on (faults.Fault f) at all stops h = stops f h
 passes_on faults.OutOfMemory at all stops h = tt
 
-map_take : {X Y : Type 0} (f : X → Y) (xs : List X) (n : ℕ) → map f (take n xs) ≡ take n (map f xs)
+pub map_take : {X Y : Type 0} (f : X → Y) (xs : List X) (n : ℕ) → map f (take n xs) ≡ take n (map f xs)
 map_take f [] zero = refl
 map_take f [] (suc n) = refl
 map_take f (x ∷ xs) zero = refl
 map_take f (x ∷ xs) (suc n) = ap (λ ys. f x ∷ ys) (map_take f xs n)
 
-map_more : {X Y : Type 0} (f : X → Y) (xs : List X) (i : ℕ) (x : X) → i < length xs → x ≡ get_or xs i x → map f (take (i + 1) xs) ≡ map f (take i xs) ++ f x ∷ []
+pub map_more : {X Y : Type 0} (f : X → Y) (xs : List X) (i : ℕ) (x : X) → i < length xs → x ≡ get_or xs i x → map f (take (i + 1) xs) ≡ map f (take i xs) ++ f x ∷ []
 map_more f xs i x more at = rw (add-one i) (ap (map f) (take-suc xs i x more) ∙ map_push f (take i xs) (get_or xs i x) ∙ ap (λ y. map f (take i xs) ++ f y ∷ []) (sym at))
 
-bind_ok : {A B F : Type 0} (r : Result A F) (f : A → Result B F) (y : B) → (r >>= f) ≡ Ok y → (x : A) × (r ≡ Ok x) × (f x ≡ Ok y)
+pub bind_ok : {A B F : Type 0} (r : Result A F) (f : A → Result B F) (y : B) → (r >>= f) ≡ Ok y → (x : A) × (r ≡ Ok x) × (f x ≡ Ok y)
 bind_ok (Ok x) f y h = (x, refl, h)
 bind_ok (Err e) f y h = absurd (cc)
 
@@ -92,10 +93,10 @@ not_a_name names word n = rw n refl
 
 -- options
 
-bytes_eq_sym : (a b : List ℕ) → bytes_eq a b ≡ bytes_eq b a
+pub bytes_eq_sym : (a b : List ℕ) → bytes_eq a b ≡ bytes_eq b a
 bytes_eq_sym a b = nat_list_eq_equiv.symm a b
 
-nat_eq_sym : (a b : ℕ) → (a == b) ≡ (b == a)
+pub nat_eq_sym : (a b : ℕ) → (a == b) ≡ (b == a)
 nat_eq_sym a b = grind (arith, nat_tests)
 
 pub unknown : (n : ℕ) (taken : List ℕ) (i : ℕ) → is_item n i ≡ false → add_number n taken i ≡ Err UnknownItem
@@ -113,7 +114,7 @@ some_option n (i ∷ is) h = refl
 
 -- what is made is a problem
 
-are_new_push : (names : List (List ℕ)) (name : List ℕ) → are_new names ≡ true → list_any (bytes_eq name) names ≡ false → are_new (names ++ name ∷ []) ≡ true
+pub are_new_push : (names : List (List ℕ)) (name : List ℕ) → are_new names ≡ true → list_any (bytes_eq name) names ≡ false → are_new (names ++ name ∷ []) ≡ true
 are_new_push [] name n h = refl
 are_new_push (x ∷ xs) name n h =
     let p = and_parts (not (list_any (bytes_eq x) xs)) (are_new xs) n in
@@ -122,7 +123,7 @@ are_new_push (x ∷ xs) name n h =
       list_any-append (bytes_eq x) xs (name ∷ []) ∙ or_from _ _ (not-true _ p.0) (or_from _ _ (bytes_eq_sym x name ∙ q.0) refl) in
     and_from _ _ (not_from_false _ r) (are_new_push xs name p.1 q.1)
 
-are_distinct_push : (xs : List ℕ) (x : ℕ) → are_distinct xs ≡ true → has xs x ≡ false → are_distinct (xs ++ x ∷ []) ≡ true
+pub are_distinct_push : (xs : List ℕ) (x : ℕ) → are_distinct xs ≡ true → has xs x ≡ false → are_distinct (xs ++ x ∷ []) ≡ true
 are_distinct_push [] x n h = refl
 are_distinct_push (y ∷ ys) x n h =
     let p = and_parts (not (has ys y)) (are_distinct ys) n in
@@ -131,17 +132,12 @@ are_distinct_push (y ∷ ys) x n h =
       list_any-append (λ z. z == y) ys (x ∷ []) ∙ or_from _ _ (not-true _ p.0) (or_from _ _ (nat_eq_sym x y ∙ q.0) refl) in
     and_from _ _ (not_from_false _ r) (are_distinct_push ys x p.1 q.1)
 
-all_push : {X : Type 0} (test : X → Bool) (xs : List X) (x : X) → list_all test xs ≡ true → test x ≡ true → list_all test (xs ++ x ∷ []) ≡ true
+pub all_push : {X : Type 0} (test : X → Bool) (xs : List X) (x : X) → list_all test xs ≡ true → test x ≡ true → list_all test (xs ++ x ∷ []) ≡ true
 all_push test xs x h t = list_all-append test xs (x ∷ []) ∙ and_from _ _ h (and_from _ _ t refl)
 
-chosen : {A : Type 0} (b : Bool) (x y z : A) → cond b x y ≡ z → ((b ≡ true) × (x ≡ z)) ⊎ ((b ≡ false) × (y ≡ z))
+pub chosen : {A : Type 0} (b : Bool) (x y z : A) → cond b x y ≡ z → ((b ≡ true) × (x ≡ z)) ⊎ ((b ≡ false) × (y ≡ z))
 chosen true x y z h = inl (refl, h)
 chosen false x y z h = inr (refl, h)
-
--- the marks of the items that were taken are the stamp, and the others are lower
-pub record AreMarks (stamp : ℕ) (items marks : List ℕ) : Type 0 where
-  pub low : (i : ℕ) → i < length marks → get_or marks i 0 ≤ stamp
-  pub taken : (i : ℕ) → i < length marks → (get_or marks i 0 == stamp) ≡ has items (suc i)
 
 pub unmarked : (stamp : ℕ) (marks : List ℕ) → All (λ mark. mark < stamp) marks → AreMarks stamp [] marks
 unmarked stamp marks h = record {
@@ -271,18 +267,18 @@ module _ (names : List (List ℕ)) (primary : ℕ) (options : List (List ℕ)) w
         unfolding made
         all_made h = rw (some, named, listed, h) refl
 
-ok_is : {S F : Type 0} (x y : S) → ◌≡◌ {A = Result S F} (Ok x) (Ok y) → x ≡ y
+pub ok_is : {S F : Type 0} (x y : S) → ◌≡◌ {A = Result S F} (Ok x) (Ok y) → x ≡ y
 ok_is x y h = cc
 
-each_parts : {S X F : Type 0} (step : S → X → Result S F) (s : S) (x : X) (xs : List X) (y : S) → each step s (x ∷ xs) ≡ Ok y → (t : S) × (step s x ≡ Ok t) × (each step t xs ≡ Ok y)
+pub each_parts : {S X F : Type 0} (step : S → X → Result S F) (s : S) (x : X) (xs : List X) (y : S) → each step s (x ∷ xs) ≡ Ok y → (t : S) × (step s x ≡ Ok t) × (each step t xs ≡ Ok y)
 unfolding each
 each_parts step s x xs y h = bind_ok (step s x) (λ t. each step t xs) y h
 
-each_none : {S X F : Type 0} (step : S → X → Result S F) (s y : S) → each step s [] ≡ Ok y → s ≡ y
+pub each_none : {S X F : Type 0} (step : S → X → Result S F) (s y : S) → each step s [] ≡ Ok y → s ≡ y
 unfolding each
 each_none step s y h = ok_is s y h
 
-added_is : (names : List (List ℕ)) (name : List ℕ) (t : List (List ℕ)) → add_name names name ≡ Ok t → (is_name name ≡ true) × (list_any (bytes_eq name) names ≡ false) × (t ≡ names ++ name ∷ [])
+pub added_is : (names : List (List ℕ)) (name : List ℕ) (t : List (List ℕ)) → add_name names name ≡ Ok t → (is_name name ≡ true) × (list_any (bytes_eq name) names ≡ false) × (t ≡ names ++ name ∷ [])
 unfolding add_name
 added_is names name t h = by_name (chosen (not (is_name name)) (Err BadName) (if_new names name) (Ok t) h)
   where
@@ -375,10 +371,10 @@ options_are n acc (numbers ∷ options) those h a = step (λ t. options_are n t 
         let r = ih (acc ++ u.0 ∷ []) (rw (sym e) at q) (all_push (is_option n) acc u.0 a o.1) in
         (r.0 ∙ append_assoc acc (u.0 ∷ []) options ∙ ap (λ x. acc ++ x ∷ options) o.0, r.1)
 
-no_fault : {S : Type 0} (f : Fault) (x : S) → ◌≡◌ {A = Result S Fault} (Err f) (Ok x) → ⊥
+pub no_fault : {S : Type 0} (f : Fault) (x : S) → ◌≡◌ {A = Result S Fault} (Err f) (Ok x) → ⊥
 no_fault f x e = cc
 
-within_parts : (p q : Cover) → within p ≡ Ok q → (is_small p ≡ true) × (p ≡ q)
+pub within_parts : (p q : Cover) → within p ≡ Ok q → (is_small p ≡ true) × (p ≡ q)
 within_parts p q h = by_size (chosen (is_small p) (Ok p) (Err TooLarge) (Ok q) h)
   where
     by_size : ((is_small p ≡ true) × (◌≡◌ {A = Result Cover Fault} (Ok p) (Ok q))) ⊎ ((is_small p ≡ false) × (◌≡◌ {A = Result Cover Fault} (Err TooLarge) (Ok q))) → (is_small p ≡ true) × (p ≡ q)

@@ -7,3 +7,6 @@ pub mod ExactCover
 pub mod Table
 pub mod Faults
 pub mod Making
+pub mod Marks
+pub mod Reading
+pub mod Grammar

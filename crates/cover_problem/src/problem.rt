@@ -142,6 +142,13 @@ impl Problem {
         &self.options[(k - 1) as usize]
     }
 
+    /// The names of the items.
+    pub(crate) fn name_list(&self) -> &[Name]
+        ensures { map (λ n. n.bytes) result.now ≡ self.now.names }
+    {
+        self.names.as_slice()
+    }
+
     /// The items of each option.
     pub(crate) fn option_lists(&self) -> &[Vec<u32>]
         ensures { map (λ o. o.items) result.now ≡ self.now.options }

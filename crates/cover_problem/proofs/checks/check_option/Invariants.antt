@@ -2,7 +2,7 @@ use Rattle.std.proofs.Common.{◌≡◌, ◌<◌, ◌≤◌, ℕ, suc, ◌==◌,
 use Rattle.cover_problem.specs.Lists.{has}
 use Rattle.text_lines.specs.Each.{each}
 use Rattle.cover_problem.specs.Making.{add_number, option_from}
-use Rattle.cover_problem.proofs.ProblemLemmas.{AreMarks}
+use Rattle.cover_problem.specs.Marks.{AreMarks}
 use Rattle.cover_problem.proofs.checks.check_option.Given as goal
 
 abbrev pub invariant-loop-number : goal.invariant-loop-number

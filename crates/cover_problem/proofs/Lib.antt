@@ -5,3 +5,4 @@ pub mod CoverLemmas
 pub mod ProblemLemmas
 pub mod ReadingLemmas
 pub mod BegunLemmas
+pub mod GrammarLemmas

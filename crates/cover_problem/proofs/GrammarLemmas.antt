@@ -66,7 +66,7 @@ none_at t [] i h l = absurd (omega arith)
 none_at t (x ∷ xs) zero h l = (or_parts (t x) (list_any t xs) h).0
 none_at t (x ∷ xs) (suc i) h l = none_at t xs i (or_parts (t x) (list_any t xs) h).1 (omega arith)
 
-all_at : (t : List ℕ → Bool) (xs : List (List ℕ)) (i : ℕ) → list_all t xs ≡ true → i < length xs → t (get_or xs i []) ≡ true
+pub all_at : (t : List ℕ → Bool) (xs : List (List ℕ)) (i : ℕ) → list_all t xs ≡ true → i < length xs → t (get_or xs i []) ≡ true
 all_at t [] i h l = absurd (omega arith)
 all_at t (x ∷ xs) zero h l = (and_parts (t x) (list_all t xs) h).0
 all_at t (x ∷ xs) (suc i) h l = all_at t xs i (and_parts (t x) (list_all t xs) h).1 (omega arith)

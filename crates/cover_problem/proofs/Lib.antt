@@ -6,3 +6,4 @@ pub mod ProblemLemmas
 pub mod ReadingLemmas
 pub mod BegunLemmas
 pub mod GrammarLemmas
+pub mod WrittenLemmas

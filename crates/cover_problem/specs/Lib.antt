@@ -5,3 +5,8 @@ pub mod Path
 pub mod Coverable
 pub mod ExactCover
 pub mod Table
+pub mod Faults
+pub mod Making
+pub mod Marks
+pub mod Reading
+pub mod Grammar

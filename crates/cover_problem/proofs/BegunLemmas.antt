@@ -293,7 +293,7 @@ at_line_ok n (Err f) t h = absurd (err_ok (f, n) t h)
     err_ok : (f : Fault × ℕ) (t : Cover × ℕ) → ◌≡◌ {A = Result (Cover × ℕ) (Fault × ℕ)} (Err f) (Ok t) → ⊥
     err_ok f t h = cc
 
-line_done : (p : Cover) (n : ℕ) (bytes : List ℕ) (t : Cover × ℕ) → numbered_line (p, n) bytes ≡ Ok t → (q : Cover) × (line p bytes ≡ Ok q) × (t ≡ (q, n + 1))
+pub line_done : (p : Cover) (n : ℕ) (bytes : List ℕ) (t : Cover × ℕ) → numbered_line (p, n) bytes ≡ Ok t → (q : Cover) × (line p bytes ≡ Ok q) × (t ≡ (q, n + 1))
 unfolding numbered_line
 line_done p n bytes t h = at_line_ok n (line p bytes) t h
 

@@ -7,3 +7,5 @@ pub mod ReadingLemmas
 pub mod BegunLemmas
 pub mod GrammarLemmas
 pub mod WrittenLemmas
+pub mod WriterLemmas
+pub mod FirstFaultLemmas

@@ -9,4 +9,5 @@ pub mod Faults
 pub mod Making
 pub mod Marks
 pub mod Reading
+pub mod FirstFault
 pub mod Grammar

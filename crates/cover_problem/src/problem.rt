@@ -144,7 +144,8 @@ impl Problem {
 
     /// The names of the items.
     pub(crate) fn name_list(&self) -> &[Name]
-        ensures { map (λ n. n.bytes) result.now ≡ self.now.names }
+        ensures names { map (λ n. n.bytes) result.now ≡ self.now.names }
+        ensures problem { IsProblem self.now }
     {
         self.names.as_slice()
     }

@@ -1,1 +1,2 @@
 mod CoverExamples
+pub mod ProblemLemmas

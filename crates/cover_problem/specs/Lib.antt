@@ -4,3 +4,7 @@ pub mod Covering
 pub mod Path
 pub mod ExactCover
 pub mod Table
+pub mod Faults
+pub mod Each
+pub mod Making
+pub mod Plain

@@ -1,2 +1,3 @@
 mod CoverExamples
 pub mod ProblemLemmas
+pub mod TableLemmas

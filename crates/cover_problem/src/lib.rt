@@ -11,5 +11,9 @@ mod table;
 
 pub use fault::{CoverFault, Fault, ProblemFault, Refused};
 pub use limits::{MOST_ENTRIES, MOST_ITEMS, MOST_NAME_BYTES, MOST_OPTIONS};
+pub use plain::PlainTable;
 pub use problem::Problem;
 pub use table::Table;
+
+#[cfg(test)]
+mod tests;

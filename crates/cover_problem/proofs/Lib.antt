@@ -3,6 +3,7 @@ pub mod ListLemmas
 pub mod CoveringLemmas
 pub mod CoverLemmas
 pub mod ProblemLemmas
+pub mod TableLemmas
 pub mod ReadingLemmas
 pub mod BegunLemmas
 pub mod GrammarLemmas

@@ -5,6 +5,7 @@ pub mod Path
 pub mod Coverable
 pub mod ExactCover
 pub mod Table
+pub mod Plain
 pub mod Faults
 pub mod Making
 pub mod Marks

@@ -2,7 +2,7 @@
 --
 -- Example: the names a and b with the options 1 2 and 2 2 have the fault ItemTwiceInOption; with the options 1 2 and 3 2,
 -- UnknownItem; with a and a b as names, BadName, whatever the options.
-use Rattle.std.specs.Prelude.{ℕ, Bool, true, false, not, List, [], ◌∷◌, ◌++◌, length, Result, Ok, Err, ◌≡◌, if◌then◌else◌}
+use Rattle.std.specs.Prelude.{ℕ, not, List, [], ◌∷◌, ◌++◌, length, Result, Ok, Err, ◌≡◌, if◌then◌else◌}
 use Rattle.std.specs.List.{list_any}
 use Rattle.std.specs.Str.{bytes_eq}
 use Rattle.cover_problem.specs.declared.fault.Fault.{Fault}
@@ -45,7 +45,7 @@ unfoldable pub made : List (List ℕ) → ℕ → List (List ℕ) → Result Cov
 made names primary options =
     if not (is_item (length names) primary) then Err NoItemLine else
     (each add_name [] names >>= λ these. each (add_option (length names)) [] options >>= λ those.
-      within (record { names = these; primary = primary; options = those }))
+    within (record { names = these; primary = primary; options = those }))
 
 -- a fault is the one that was found, unless memory ran out
 abbrev pub IsFaultOf : {S : Type 0} → ProblemFault → Result S Fault → Type 0

@@ -1,6 +1,7 @@
 -- What was read or written so far.
-use Rattle.std.proofs.Common.{◌≡◌, ℕ, ◌≤◌, List, [], ◌++◌, length, take, drop, refl, sym, ap, ◌∙◌, append_assoc, append-nil, take-append-drop, subst}
-use Rattle.std.specs.Prelude.{Option}
+use Rattle.std.proofs.Common.{◌≡◌, ℕ, ◌≤◌, List, [], ◌++◌, length, take, drop, refl, sym, ap, ◌∙◌, append_assoc, append-nil, take-append-drop, subst, arith}
+use Rattle.std.specs.Prelude.{Option, Result, Ok, Err, OnOk, OnErr}
+use Rattle.std.proofs.lemmas.List.{take_all}
 use Rattle.std.specs.Io.KnownBytes.{Appends, Keeps}
 use Rattle.std.proofs.KnownBytes.{Appends-trans, Appends-kept, Appends-nil}
 use lib.Seq.{take-append_seam}
@@ -26,3 +27,9 @@ written_beginning old mid new text rest w h =
 -- where the writer failed or took nothing, nothing was appended
 pub nothing_kept : (old new : Option (List ℕ)) → Keeps old new → Appends old new []
 nothing_kept old new h = Appends-kept old old new [] (Appends-nil old) h
+
+-- a line that was written is a beginning of itself, so what was written is one either way
+pub told_line : {E : Type 0} (r : Result (Unit {0}) E) (old new : Option (List ℕ)) (line : List ℕ) → OnOk r (Appends old new line) → OnErr r ((n : ℕ) × Appends old new (take n line))
+    → (n : ℕ) × Appends old new (take n line)
+told_line (Ok u) old new line all part = (length line, subst (Appends old new) (sym (take_all (length line) line (omega arith))) all)
+told_line (Err e) old new line all part = part

@@ -42,7 +42,8 @@ fn covers<T: Table>(alloc: Global, text: &[u8]) -> Result<Answer, AllocError>
 }
 
 /// What the job writes for an input.
-pub fn answer<T: Table>(alloc: Global, job: Job, input: &[u8]) -> Result<Answer, AllocError>
+#[tactic(auto, unfolding(crate::specs::Outcome::outcome))]
+pub fn answer_to<T: Table>(alloc: Global, job: Job, input: &[u8]) -> Result<Answer, AllocError>
     ensures { IfOk result (λ answer. shown answer ≡ outcome job input.now) }
 {
     match job {

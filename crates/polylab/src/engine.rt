@@ -3,7 +3,7 @@ ghost use Rattle.std.specs.Prelude.{◌≡◌, ℕ, List, [], ◌∷◌, Ok, Err
 ghost use Rattle.std.specs.Io.KnownBytes.{Appends, Keeps};
 ghost use Rattle.polylab.specs.Outcome.{outcome};
 
-use crate::answer::{Answer, answer};
+use crate::answer::{Answer, answer_to};
 use crate::input::{InputFault, read_whole};
 use crate::job::Job;
 use crate::output::write_whole;
@@ -60,7 +60,7 @@ pub fn run<R, I: Read, O: Write, F: Write>(
         Err(InputFault::Reader) => return stop(faults, b"refused input\n", FAILED),
         Err(InputFault::OutOfMemory) => return stop(faults, b"refused memory\n", NO_MEMORY),
     };
-    match answer::<PlainTable>(alloc, job, &bytes) {
+    match answer_to::<PlainTable>(alloc, job, &bytes) {
         Ok(Answer::Text(text)) => match write_whole(writer, &text) {
             Ok(()) => DONE,
             Err(_) => stop(faults, b"refused output\n", FAILED),

@@ -27,7 +27,7 @@ fn words(rt: &HostRuntime) -> io::Result<Vec<String>> {
 }
 
 /// The same words, lent.
-fn lent(rt: &HostRuntime, words: &[String]) -> io::Result<Vec<&str>> {
+fn lent<'a>(rt: &HostRuntime, words: &'a [String]) -> io::Result<Vec<&'a str>> {
     Ok(words
         .iter()
         .map(|word| word.as_str())

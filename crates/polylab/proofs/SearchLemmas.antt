@@ -30,7 +30,7 @@ searches_begin p m a sound e n =
       sound = sound;
       same = ap (λ v. v.problem) e;
       fits = subst (Fits p) (sym here) (start_fits p);
-      told = n ∙ sym (nothing_is p) ∙ sym (ap (account_of p) (span_self p start (start_fits p))) ∙ sym (ap (λ s. account_of p (span p start s)) here)
+      told = n ∙ sym (nothing_is p) ∙ sym (ap (account_of p) (span_self p start (start_fits p))) ∙ sym (ap (λ s. account_of p (span p start s)) here);
     }
 
 module _ (p : Cover) (m new : Position) (a : Account) (s : Searches p m a) where
@@ -45,14 +45,14 @@ module _ (p : Cover) (m new : Position) (a : Account) (s : Searches p m a) where
       same = same ∙ s.same;
       fits = subst (Fits p) (sym stepped) (fits_next p m.state s.fits);
       told =
-        let span_more = span_next p start m.state (start_fits p) s.fits (start_first p m.state s.fits) goes_on in
-        let event_is : event ≡ event_of p m.state = e ∙ ap (λ r. event_of r m.state) s.same in
-        let path_is : path ≡ (next p m.state).path = q ∙ ap (λ t. t.path) stepped in
-        let pushed = account_push p (span p start m.state) m.state s.sound s.fits in
-        let here : more ≡ noted (account_of p (span p start m.state)) m.state.label (event_of p m.state) (next p m.state).path =
-        n ∙ ap (λ b. noted b m.state.label event path) s.told ∙ ap (λ v. noted (account_of p (span p start m.state)) m.state.label v path) event_is
-        ∙ ap (noted (account_of p (span p start m.state)) m.state.label (event_of p m.state)) path_is in
-        here ∙ sym pushed ∙ sym (ap (account_of p) span_more) ∙ sym (ap (λ t. account_of p (span p start t)) stepped)
+          let span_more = span_next p start m.state (start_fits p) s.fits (start_first p m.state s.fits) goes_on in
+          let event_is : event ≡ event_of p m.state = e ∙ ap (λ r. event_of r m.state) s.same in
+          let path_is : path ≡ (next p m.state).path = q ∙ ap (λ t. t.path) stepped in
+          let pushed = account_push p (span p start m.state) m.state s.sound s.fits in
+          let here : more ≡ noted (account_of p (span p start m.state)) m.state.label (event_of p m.state) (next p m.state).path =
+          n ∙ ap (λ b. noted b m.state.label event path) s.told ∙ ap (λ v. noted (account_of p (span p start m.state)) m.state.label v path) event_is
+          ∙ ap (noted (account_of p (span p start m.state)) m.state.label (event_of p m.state)) path_is in
+          here ∙ sym pushed ∙ sym (ap (account_of p) span_more) ∙ sym (ap (λ t. account_of p (span p start t)) stepped);
     }
 
     pub searches_nearer : rank p done - rank p new.state < rank p done - rank p m.state

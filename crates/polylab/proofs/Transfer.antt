@@ -16,7 +16,7 @@ pub written_more : (old mid new : Option (List ℕ)) (text rest : List ℕ) (n :
 written_more old mid new text rest n w h = record {
   front = w.front ++ take n rest;
   whole = w.whole ∙ ap (λ l. w.front ++ l) (sym (take-append-drop n rest)) ∙ sym (append_assoc w.front (take n rest) (drop n rest));
-  appended = Appends-trans old mid new w.front (take n rest) w.appended h
+  appended = Appends-trans old mid new w.front (take n rest) w.appended h;
 }
 
 -- where a write fails, what was written is a beginning

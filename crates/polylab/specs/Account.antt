@@ -27,7 +27,7 @@ account_of p ss = record {
   text = text_of (map visit_words (visits p ss));
   visited = length (visits p ss);
   steps = length ss;
-  entered = map (level_count ss) (numbers (suc (length p.names)) 0)
+  entered = map (level_count ss) (numbers (suc (length p.names)) 0);
 }
 
 -- the account of no state, for n items
@@ -49,5 +49,5 @@ noted a label event path = record {
   text = if is_visited event then a.text ++ line_text (visit_words path) else a.text;
   visited = if is_visited event then a.visited + 1 else a.visited;
   steps = a.steps + 1;
-  entered = if is_level label then one_more a.entered (length path) else a.entered
+  entered = if is_level label then one_more a.entered (length path) else a.entered;
 }

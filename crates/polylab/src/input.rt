@@ -28,7 +28,11 @@ fn zeros(alloc: Global, count: usize) -> Result<Vec<u8>, AllocError>
 }
 
 /// Reads once and appends what came; answers how many bytes came.
-fn read_some<R: Read>(reader: &mut R, chunk: &mut [u8], text: &mut Vec<u8>) -> Result<usize, InputFault>
+fn read_some<R: Read>(
+    reader: &mut R,
+    chunk: &mut [u8],
+    text: &mut Vec<u8>,
+) -> Result<usize, InputFault>
     requires { 0 < length chunk.old }
     ensures grown { IfOk result (λ count. vec_len text.new ≡ vec_len text.old + count) }
     ensures read { OnOk result ((came : List ℕ) × (text.new.items ≡ text.old.items ++ came)

@@ -110,10 +110,20 @@ mod tests {
         let alloc = rt.alloc();
         assert!(rt; matches!(parse_line(alloc, &["cover"]), Ok(Job::Cover)));
         assert!(rt; matches!(parse_line(alloc, &["--help"]), Err(LineFault::Help(_))));
-        assert!(rt; matches!(parse_line(alloc, &["cover", "--help"]), Err(LineFault::Help(_))));
+        assert!(rt;
+            matches!(
+                parse_line(alloc, &["cover", "--help"]),
+                Err(LineFault::Help(_))
+            )
+        );
         assert!(rt; matches!(parse_line(alloc, &["--version"]), Err(LineFault::Help(_))));
         assert!(rt; matches!(parse_line(alloc, &[]), Err(LineFault::Usage(_))));
         assert!(rt; matches!(parse_line(alloc, &["covers"]), Err(LineFault::Usage(_))));
-        assert!(rt; matches!(parse_line(alloc, &["cover", "--workers", "2"]), Err(LineFault::Usage(_))));
+        assert!(rt;
+            matches!(
+                parse_line(alloc, &["cover", "--workers", "2"]),
+                Err(LineFault::Usage(_))
+            )
+        );
     }
 }

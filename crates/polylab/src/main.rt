@@ -28,10 +28,7 @@ fn words(rt: &HostRuntime) -> io::Result<Vec<String>> {
 
 /// The same words, lent.
 fn lent<'a>(rt: &HostRuntime, words: &'a [String]) -> io::Result<Vec<&'a str>> {
-    Ok(words
-        .iter()
-        .map(|word| word.as_str())
-        .collect(rt.alloc())?)
+    Ok(words.iter().map(|word| word.as_str()).collect(rt.alloc())?)
 }
 
 /// Does what the words ask for, and answers the exit status.
@@ -79,3 +76,6 @@ fn main(rt: HostRuntime) -> ExitCode {
     };
     ExitCode::from(code)
 }
+
+#[cfg(test)]
+mod tests;

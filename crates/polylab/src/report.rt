@@ -127,7 +127,12 @@ fn note_level(entered: &mut Vec<Count>, label: Label, level: usize) -> Result<()
 }
 
 /// Notes a visit, if the step told one.
-fn note_visit(text: &mut Vec<u8>, visited: &mut Count, event: Event, path: &[u32]) -> Result<(), AllocError>
+fn note_visit(
+    text: &mut Vec<u8>,
+    visited: &mut Count,
+    event: Event,
+    path: &[u32],
+) -> Result<(), AllocError>
     ensures text { OnOk result (text.new.items ≡ (if is_visited event then text.old.items ++ line_text (visit_words path.now) else text.old.items)) }
     ensures visited { OnOk result (visited.new ≡ (if is_visited event then visited.old + 1 else visited.old)) }
 {
@@ -141,7 +146,12 @@ fn note_visit(text: &mut Vec<u8>, visited: &mut Count, event: Event, path: &[u32
 }
 
 /// The text with its last lines.
-fn with_totals(text: Vec<u8>, visited: u128, steps: u128, entered: &[u128]) -> Result<Vec<u8>, AllocError>
+fn with_totals(
+    text: Vec<u8>,
+    visited: u128,
+    steps: u128,
+    entered: &[u128],
+) -> Result<Vec<u8>, AllocError>
     ensures { IfOk result (λ whole. whole.items ≡ text.items ++ text_of ((codes "visits" ∷ decimal visited ∷ []) ∷ (codes "steps" ∷ decimal steps ∷ []) ∷ (codes "levels" ∷ map decimal entered.now) ∷ [])) }
 {
     let mut whole = text;

@@ -120,7 +120,7 @@ are_new_push (x ∷ xs) name n h =
     let p = and_parts (not (list_any (bytes_eq x) xs)) (are_new xs) n in
     let q = or_parts (bytes_eq name x) (list_any (bytes_eq name) xs) h in
     let r : list_any (bytes_eq x) (xs ++ name ∷ []) ≡ false =
-      list_any-append (bytes_eq x) xs (name ∷ []) ∙ or_from _ _ (not-true _ p.0) (or_from _ _ (bytes_eq_sym x name ∙ q.0) refl) in
+    list_any-append (bytes_eq x) xs (name ∷ []) ∙ or_from _ _ (not-true _ p.0) (or_from _ _ (bytes_eq_sym x name ∙ q.0) refl) in
     and_from _ _ (not_from_false _ r) (are_new_push xs name p.1 q.1)
 
 pub are_distinct_push : (xs : List ℕ) (x : ℕ) → are_distinct xs ≡ true → has xs x ≡ false → are_distinct (xs ++ x ∷ []) ≡ true
@@ -129,7 +129,7 @@ are_distinct_push (y ∷ ys) x n h =
     let p = and_parts (not (has ys y)) (are_distinct ys) n in
     let q = or_parts (y == x) (has ys x) h in
     let r : has (ys ++ x ∷ []) y ≡ false =
-      list_any-append (λ z. z == y) ys (x ∷ []) ∙ or_from _ _ (not-true _ p.0) (or_from _ _ (nat_eq_sym x y ∙ q.0) refl) in
+    list_any-append (λ z. z == y) ys (x ∷ []) ∙ or_from _ _ (not-true _ p.0) (or_from _ _ (nat_eq_sym x y ∙ q.0) refl) in
     and_from _ _ (not_from_false _ r) (are_distinct_push ys x p.1 q.1)
 
 pub all_push : {X : Type 0} (test : X → Bool) (xs : List X) (x : X) → list_all test xs ≡ true → test x ≡ true → list_all test (xs ++ x ∷ []) ≡ true
@@ -284,12 +284,14 @@ added_is names name t h = by_name (chosen (not (is_name name)) (Err BadName) (if
   where
     if_new : List (List ℕ) → List ℕ → Result (List (List ℕ)) Fault
     if_new names name = cond (list_any (bytes_eq name) names) (Err RepeatedItem) (Ok (names ++ name ∷ []))
+
     by_new : (is_name name ≡ true) → ((list_any (bytes_eq name) names ≡ true) × (◌≡◌ {A = Result (List (List ℕ)) Fault} (Err RepeatedItem) (Ok t))) ⊎ ((list_any (bytes_eq name) names ≡ false) × (◌≡◌ {A = Result (List (List ℕ)) Fault} (Ok (names ++ name ∷ [])) (Ok t))) → (is_name name ≡ true) × (list_any (bytes_eq name) names ≡ false) × (t ≡ names ++ name ∷ [])
     by_new n (inl p) = absurd (refused p.1)
       where
         refused : ◌≡◌ {A = Result (List (List ℕ)) Fault} (Err RepeatedItem) (Ok t) → ⊥
         refused e = cc
     by_new n (inr p) = (n, p.0, sym (ok_is _ _ p.1))
+
     by_name : ((not (is_name name) ≡ true) × (◌≡◌ {A = Result (List (List ℕ)) Fault} (Err BadName) (Ok t))) ⊎ ((not (is_name name) ≡ false) × (if_new names name ≡ Ok t)) → (is_name name ≡ true) × (list_any (bytes_eq name) names ≡ false) × (t ≡ names ++ name ∷ [])
     by_name (inl p) = absurd (refused p.1)
       where
@@ -305,7 +307,7 @@ names_are acc [] these h n a =
 names_are acc (name ∷ names) these h n a = step (names_are (acc ++ name ∷ []) names these) (each_parts add_name acc name names these h)
   where
     step : (each add_name (acc ++ name ∷ []) names ≡ Ok these → are_new (acc ++ name ∷ []) ≡ true → list_all is_name (acc ++ name ∷ []) ≡ true → (these ≡ (acc ++ name ∷ []) ++ names) × (are_new these ≡ true) × (list_all is_name these ≡ true)) →
-      (t : List (List ℕ)) × (add_name acc name ≡ Ok t) × (each add_name t names ≡ Ok these) → (these ≡ acc ++ name ∷ names) × (are_new these ≡ true) × (list_all is_name these ≡ true)
+        (t : List (List ℕ)) × (add_name acc name ≡ Ok t) × (each add_name t names ≡ Ok these) → (these ≡ acc ++ name ∷ names) × (are_new these ≡ true) × (list_all is_name these ≡ true)
     step ih (t, p, q) =
         let m = added_is acc name t p in
         let r = ih (rw m.2 at q) (are_new_push acc name n m.1) (all_push is_name acc name a m.0) in
@@ -320,6 +322,7 @@ number_is n taken i t h = by_item (chosen (is_item n i) (with_item taken i) (Err
         refused : ◌≡◌ {A = Result (List ℕ) Fault} (Err ItemTwiceInOption) (Ok t) → ⊥
         refused e = cc
     by_new m (inr p) = (m, p.0, sym (ok_is _ _ p.1))
+
     by_item : ((is_item n i ≡ true) × (with_item taken i ≡ Ok t)) ⊎ ((is_item n i ≡ false) × (◌≡◌ {A = Result (List ℕ) Fault} (Err UnknownItem) (Ok t))) → (is_item n i ≡ true) × (has taken i ≡ false) × (t ≡ taken ++ i ∷ [])
     by_item (inl p) = by_new p.0 (chosen (has taken i) (Err ItemTwiceInOption) (Ok (taken ++ i ∷ [])) (Ok t) p.1)
     by_item (inr p) = absurd (refused p.1)
@@ -335,7 +338,7 @@ numbers_are n acc [] option h d a =
 numbers_are n acc (i ∷ numbers) option h d a = step (numbers_are n (acc ++ i ∷ []) numbers option) (each_parts (add_number n) acc i numbers option h)
   where
     step : (each (add_number n) (acc ++ i ∷ []) numbers ≡ Ok option → are_distinct (acc ++ i ∷ []) ≡ true → list_all (is_item n) (acc ++ i ∷ []) ≡ true → (option ≡ (acc ++ i ∷ []) ++ numbers) × (are_distinct option ≡ true) × (list_all (is_item n) option ≡ true)) →
-      (t : List ℕ) × (add_number n acc i ≡ Ok t) × (each (add_number n) t numbers ≡ Ok option) → (option ≡ acc ++ i ∷ numbers) × (are_distinct option ≡ true) × (list_all (is_item n) option ≡ true)
+        (t : List ℕ) × (add_number n acc i ≡ Ok t) × (each (add_number n) t numbers ≡ Ok option) → (option ≡ acc ++ i ∷ numbers) × (are_distinct option ≡ true) × (list_all (is_item n) option ≡ true)
     step ih (t, p, q) =
         let m = number_is n acc i t p in
         let r = ih (rw m.2 at q) (are_distinct_push acc i d m.1) (all_push (is_item n) acc i a m.0) in
@@ -363,7 +366,7 @@ options_are n acc [] those h a =
 options_are n acc (numbers ∷ options) those h a = step (λ t. options_are n t options those) (each_parts (add_option n) acc numbers options those h)
   where
     step : ((t : List (List ℕ)) → each (add_option n) t options ≡ Ok those → list_all (is_option n) t ≡ true → (those ≡ t ++ options) × (list_all (is_option n) those ≡ true)) →
-      (t : List (List ℕ)) × (add_option n acc numbers ≡ Ok t) × (each (add_option n) t options ≡ Ok those) → (those ≡ acc ++ numbers ∷ options) × (list_all (is_option n) those ≡ true)
+        (t : List (List ℕ)) × (add_option n acc numbers ≡ Ok t) × (each (add_option n) t options ≡ Ok those) → (those ≡ acc ++ numbers ∷ options) × (list_all (is_option n) those ≡ true)
     step ih (t, p, q) =
         let u = option_parts n acc numbers t p in
         let o = option_is n numbers u.0 u.1 in
@@ -385,16 +388,18 @@ after_names : ℕ → ℕ → List (List ℕ) → List (List ℕ) → Result Cov
 after_names n primary options these = each (add_option n) [] options >>= λ those. within (record { names = these; primary = primary; options = those })
 
 made_parts : (names : List (List ℕ)) (primary : ℕ) (options : List (List ℕ)) (p : Cover) → made names primary options ≡ Ok p →
-  (is_item (length names) primary ≡ true) × ((these : List (List ℕ)) × (each add_name [] names ≡ Ok these) × ((those : List (List ℕ)) × (each (add_option (length names)) [] options ≡ Ok those) × (within (record { names = these; primary = primary; options = those }) ≡ Ok p)))
+    (is_item (length names) primary ≡ true) × ((these : List (List ℕ)) × (each add_name [] names ≡ Ok these) × ((those : List (List ℕ)) × (each (add_option (length names)) [] options ≡ Ok those) × (within (record { names = these; primary = primary; options = those }) ≡ Ok p)))
 unfolding made
 made_parts names primary options p h = by_items (chosen (not (is_item (length names) primary)) (Err NoItemLine) (each add_name [] names >>= λ these. each (add_option (length names)) [] options >>= λ those. within (record { names = these; primary = primary; options = those })) (Ok p) h)
   where
     by_options : (these : List (List ℕ)) → (each (add_option (length names)) [] options >>= λ those. within (record { names = these; primary = primary; options = those })) ≡ Ok p → (those : List (List ℕ)) × (each (add_option (length names)) [] options ≡ Ok those) × (within (record { names = these; primary = primary; options = those }) ≡ Ok p)
     by_options these h = bind_ok (each (add_option (length names)) [] options) (λ those. within (record { names = these; primary = primary; options = those })) p h
+
     by_names : (these : List (List ℕ)) × (each add_name [] names ≡ Ok these) × ((each (add_option (length names)) [] options >>= λ those. within (record { names = these; primary = primary; options = those })) ≡ Ok p) → (these : List (List ℕ)) × (each add_name [] names ≡ Ok these) × ((those : List (List ℕ)) × (each (add_option (length names)) [] options ≡ Ok those) × (within (record { names = these; primary = primary; options = those }) ≡ Ok p))
     by_names (these, a, b) = (these, a, by_options these b)
+
     by_items : ((not (is_item (length names) primary) ≡ true) × (◌≡◌ {A = Result Cover Fault} (Err NoItemLine) (Ok p))) ⊎ ((not (is_item (length names) primary) ≡ false) × ((each add_name [] names >>= λ these. each (add_option (length names)) [] options >>= λ those. within (record { names = these; primary = primary; options = those })) ≡ Ok p)) →
-      (is_item (length names) primary ≡ true) × ((these : List (List ℕ)) × (each add_name [] names ≡ Ok these) × ((those : List (List ℕ)) × (each (add_option (length names)) [] options ≡ Ok those) × (within (record { names = these; primary = primary; options = those }) ≡ Ok p)))
+        (is_item (length names) primary ≡ true) × ((these : List (List ℕ)) × (each add_name [] names ≡ Ok these) × ((those : List (List ℕ)) × (each (add_option (length names)) [] options ≡ Ok those) × (within (record { names = these; primary = primary; options = those }) ≡ Ok p)))
     by_items (inl q) = absurd (no_fault NoItemLine p q.1)
     by_items (inr q) = (not-false _ q.0, by_names (bind_ok (each add_name [] names) (λ these. each (add_option (length names)) [] options >>= λ those. within (record { names = these; primary = primary; options = those })) p q.1))
 
@@ -410,15 +415,17 @@ made_is names primary options p h = step (made_parts names primary options p h)
         let n : these ≡ names = m.0 in
         let q : those ≡ options = o.0 in
         let r = and_parts (nat_lt 0 primary) (nat_le primary (length names)) some in
-        let parts : p ≡ record { names = names; primary = primary; options = options } = sym v.1 ∙ rw (n, q) refl in
-        (parts, subst IsProblem v.1 (record {
-          some = ltb-true 0 primary r.0;
-          within = rw n (leb-true primary (length names) r.1);
-          named = m.2;
-          new = m.1;
-          options_are = rw n o.1;
-          small = v.0;
-        }))
+        let parts : p ≡ record { names = names; primary = primary; options = options } = sym v.1 ∙ rw (n, q) refl in (
+          parts,
+          subst IsProblem v.1 (record {
+            some = ltb-true 0 primary r.0;
+            within = rw n (leb-true primary (length names) r.1);
+            named = m.2;
+            new = m.1;
+            options_are = rw n o.1;
+            small = v.0;
+          }),
+        )
 
 -- copies and comparisons
 
@@ -442,11 +449,13 @@ is_same_decides p q = (equal, test)
   where
     lists : (xs ys : List (List ℕ)) → Decides (pointwise bytes_eq xs ys) (xs ≡ ys)
     lists xs ys = pointwise_decides bytes_decides xs ys
+
     equal : is_same p q ≡ true → p ≡ q
     equal h =
         let a = and_parts ((p.primary == q.primary) && pointwise bytes_eq p.names q.names) (pointwise bytes_eq p.options q.options) h in
         let b = and_parts (p.primary == q.primary) (pointwise bytes_eq p.names q.names) a.0 in
         same_parts p q ((lists p.names q.names).0 b.1) (eqb-true p.primary q.primary b.0) ((lists p.options q.options).0 a.1)
+
     test : p ≡ q → is_same p q ≡ true
     test e = and_from _ _ (and_from _ _ (eq-eqb p.primary q.primary (ap (λ r. r.primary) e)) ((lists p.names q.names).1 (ap (λ r. r.names) e))) ((lists p.options q.options).1 (ap (λ r. r.options) e))
 

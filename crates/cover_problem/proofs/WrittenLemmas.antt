@@ -12,7 +12,8 @@ use Rattle.cover_problem.specs.Lists.{are_distinct}
 use Rattle.cover_problem.specs.Problem.{Cover, IsProblem, is_name, is_name_byte, is_item, is_option, name_at}
 use Rattle.cover_problem.specs.Reading.{problem_of}
 use Rattle.cover_problem.specs.Grammar.{maybe_words, option_words, word_lines, IsCoverText, written}
-use Rattle.cover_problem.proofs.GrammarLemmas.{all_at, text_again}
+use Rattle.cover_problem.proofs.AgainLemmas.{all_at}
+use Rattle.cover_problem.proofs.GrammarLemmas.{text_again}
 
 -- *names are words*
 

@@ -45,7 +45,7 @@ unfoldable pub made : List (List ℕ) → ℕ → List (List ℕ) → Result Cov
 made names primary options =
     if not (is_item (length names) primary) then Err NoItemLine else
     (each add_name [] names >>= λ these. each (add_option (length names)) [] options >>= λ those.
-      within (record { names = these; primary = primary; options = those }))
+    within (record { names = these; primary = primary; options = those }))
 
 -- a fault is the one that was found, unless memory ran out
 abbrev pub IsFaultOf : {S : Type 0} → ProblemFault → Result S Fault → Type 0

@@ -11,10 +11,10 @@ returns-in_err-check_option c =
     let n = length c.args.marks.now in
     let all = each (add_option n) [] (map (λ o. o.items) c.args.options.now) in
     rw (p.1, p.2)
-      (passes_on c.in_err-check_option.field-0.0 (option_from (length c.loop-place.marks) c.deref.result.now) all
-        (λ f h. options_stop (λ o. o.items) n c.args.options.now c.loop-place.place all c.loop-place.invariant.so_far c.index-options-place.result c.loop-place-test.true c.index-options-place.is f
-          (rw (c.loop-place.auto.marks, c.deref.ensures.value) at h))
-        c.in_err-check_option.ensures.option)
+    (passes_on c.in_err-check_option.field-0.0 (option_from (length c.loop-place.marks) c.deref.result.now) all
+    (λ f h. options_stop (λ o. o.items) n c.args.options.now c.loop-place.place all c.loop-place.invariant.so_far c.index-options-place.result c.loop-place-test.true c.index-options-place.is f
+    (rw (c.loop-place.auto.marks, c.deref.ensures.value) at h))
+    c.in_err-check_option.ensures.option)
 
 pub loop-place-preserved : goal.loop-place-preserved
 loop-place-preserved c =
@@ -22,7 +22,7 @@ loop-place-preserved c =
     let all = each (add_option n) [] (map (λ o. o.items) c.args.options.now) in
     record {
       so_far = options_go (λ o. o.items) n c.args.options.now c.loop-place.place all c.loop-place.invariant.so_far c.index-options-place.result c.loop-place-test.true c.index-options-place.is
-        (rw (c.loop-place.auto.marks, c.deref.ensures.value) at c.in_ok-check_option.ensures.option);
+          (rw (c.loop-place.auto.marks, c.deref.ensures.value) at c.in_ok-check_option.ensures.option);
       old = c.in_ok-check_option.ensures.marks;
     }
 

@@ -8,7 +8,7 @@ use Rattle.cover_problem.proofs.checks.check_option.Goals.{then-number-eq0-via-t
 pub returns-then-number-eq0-clause-option : goal.returns-then-number-eq0-clause-option
 returns-then-number-eq0-clause-option c =
     stops_unknown (length c.args.marks.now) c.args.stamp c.loop-number.number-index c.loop-number.marks c.args.numbers.now (option_from (length c.args.marks.now) c.args.numbers.now) c.loop-number.auto.marks c.loop-number.invariant.so_far c.loop-number.invariant.marked c.loop-number-test.true
-      (elim c.then-number-eq0.branch [ then-number-eq0-via-then-number-eq0 w ↦ inl w.if-number-eq0.true | then-number-eq0-via-else-number-eq0+then-number-marks w ↦ inr (omega arith) ])
+    (elim c.then-number-eq0.branch [ then-number-eq0-via-then-number-eq0 w ↦ inl w.if-number-eq0.true | then-number-eq0-via-else-number-eq0+then-number-marks w ↦ inr (omega arith) ])
 
 pub returns-then-marks-number-clause-option : goal.returns-then-marks-number-clause-option
 returns-then-marks-number-clause-option c =

@@ -12,8 +12,8 @@ use Rattle.cover_problem.proofs.checks.checked_names.Goals.{then-primary-eq0-via
 pub returns-then-primary-eq0 : goal.returns-then-primary-eq0
 returns-then-primary-eq0 c =
     no_items (map string_bytes c.args.names.now) c.args.primary (map (λ o. o.items) c.args.options.now)
-      (is_item_no (length (map string_bytes c.args.names.now)) c.args.primary
-        (elim c.then-primary-eq0.branch [ then-primary-eq0-via-then-primary-eq0 w ↦ inl w.if-primary-eq0.true | then-primary-eq0-via-else-primary-eq0+then-primary-names w ↦ inr (rw length-map w.if-primary-names.true) ]))
+    (is_item_no (length (map string_bytes c.args.names.now)) c.args.primary
+    (elim c.then-primary-eq0.branch [ then-primary-eq0-via-then-primary-eq0 w ↦ inl w.if-primary-eq0.true | then-primary-eq0-via-else-primary-eq0+then-primary-names w ↦ inr (rw length-map w.if-primary-names.true) ]))
 
 pub returns-in_err-these : goal.returns-in_err-these
 returns-in_err-these c =
@@ -23,7 +23,7 @@ returns-in_err-these c =
     let l : c.args.primary ≤ length names = rw length-map c.if-primary-names.false in
     let some = is_item_yes (length names) c.args.primary c.if-primary-eq0.false l in
     rw (p.1, p.2)
-      (passes_on c.in_err-these.field-0.0 (each add_name [] names) (made names c.args.primary options) (names_stop names c.args.primary options some) c.in_err-these.ensures)
+    (passes_on c.in_err-these.field-0.0 (each add_name [] names) (made names c.args.primary options) (names_stop names c.args.primary options some) c.in_err-these.ensures)
 
 pub returns-in_err-check_options : goal.returns-in_err-check_options
 returns-in_err-check_options c =
@@ -34,7 +34,7 @@ returns-in_err-check_options c =
     let l : c.args.primary ≤ length names = rw length-map c.if-primary-names.false in
     let some = is_item_yes (length names) c.args.primary c.if-primary-eq0.false l in
     rw (p.1, p.2)
-      (passes_on c.in_err-check_options.field-0.0 (each (add_option (length names)) [] options) (made names c.args.primary options) (options_refused names c.args.primary options some these c.in_ok-these.ensures) (rw length-map c.in_err-check_options.ensures))
+    (passes_on c.in_err-check_options.field-0.0 (each (add_option (length names)) [] options) (made names c.args.primary options) (options_refused names c.args.primary options some these c.in_ok-these.ensures) (rw length-map c.in_err-check_options.ensures))
 
 pub returns-then-not-is_within : goal.returns-then-not-is_within
 returns-then-not-is_within c =

@@ -1,11 +1,11 @@
 -- The valid paths that leave no item active are the exact covers, each once.
-use Rattle.std.proofs.Common.{◌≡◌, ℕ, zero, suc, ◌+◌, ◌-◌, ◌<◌, ◌≤◌, ◌⊎◌, ◌==◌, Bool, true, false, not, ◌&&◌, ◌||◌, List, [], ◌∷◌, ◌++◌, length, refl, sym, ap, ◌∙◌, subst, inl, inr, ⊎_elim, arith, le_refl, le_trans}
+use Rattle.std.proofs.Common.{◌≡◌, ℕ, zero, suc, ◌<◌, ◌≤◌, ◌⊎◌, Bool, true, false, not, List, [], ◌∷◌, ◌++◌, length, refl, sym, ap, ◌∙◌, inl, inr, arith, le_refl}
 use Rattle.std.specs.List.{list_any}
-use Rattle.std.proofs.lemmas.Bool.{false≢true, or_left, or_right, or_parts, and_from, cases_Bool, cases_eq, cases_order, eqb-true, eq-eqb, ne_eqb, not-true, not_from_false, both_ways, false_from_ne_true, true_from_ne_false}
+use Rattle.std.proofs.lemmas.Bool.{false≢true, and_from, cases_Bool, cases_eq, cases_order, ne_eqb, not_from_false, both_ways, false_from_ne_true, true_from_ne_false}
 use Rattle.cover_problem.specs.Lists.{has, are_distinct}
 use Rattle.cover_problem.specs.Problem.{Cover, option_at}
-use Rattle.cover_problem.specs.Covering.{active, is_left, remaining, choice}
-use Rattle.cover_problem.specs.Path.{others, taken, IsChoice, covered_from, IsValidFrom, covered_by, IsValid}
+use Rattle.cover_problem.specs.Covering.{active, choice}
+use Rattle.cover_problem.specs.Path.{others, taken, IsChoice, covered_from, IsValidFrom}
 use Rattle.cover_problem.specs.ExactCover.{IsExactCover}
 use Rattle.cover_problem.proofs.ListLemmas.{has_cases, has_here, has_later, has_append_cases, has_append_left, has_append_right, none_member, none_from, has_some}
 use Rattle.cover_problem.proofs.CoveringLemmas.{IsTaken, active_in, active_from, remaining_from, choice_active, choice_has, choice_falls, others_in, others_has, covered_from_push, valid_from_push}

@@ -1,5 +1,5 @@
 -- The fault that is found is the one of the first line with a fault.
-use Rattle.std.proofs.Common.{◌≡◌, ◌<◌, ◌≤◌, ◌⊎◌, inl, inr, ℕ, zero, suc, ◌+◌, ◌==◌, List, [], ◌∷◌, ◌++◌, length, Bool, true, false, cond, nat_lt, Result, Ok, Err, refl, sym, ap, ◌∙◌, subst, arith, lt-ltb, le-ltb, ltb-true, ltb-false}
+use Rattle.std.proofs.Common.{◌≡◌, ◌<◌, ◌⊎◌, inl, inr, ℕ, ◌+◌, List, [], ◌∷◌, length, true, false, nat_lt, Result, Ok, Err, refl, sym, ap, ◌∙◌, subst, arith, le-ltb, ltb-false}
 use Rattle.text_lines.specs.Lines.{lines_of}
 use Rattle.text_lines.specs.Each.{each, ◌>>=◌, Fails}
 use Rattle.text_lines.proofs.EachLemmas.{fails, from_fails}
@@ -7,7 +7,7 @@ use Rattle.cover_problem.specs.declared.fault.Fault.{Fault}
 use Rattle.cover_problem.specs.declared.fault.Fault.TheVariants.{NoItemLine}
 use Rattle.cover_problem.specs.Problem.{Cover}
 use Rattle.cover_problem.specs.Reading.{nothing, line, at_line, numbered_line, lines_read, problem_of, with_items}
-use Rattle.cover_problem.specs.FirstFault.{IsFirst, IsFirstFault, LacksItems}
+use Rattle.cover_problem.specs.FirstFault.{IsFirstFault, LacksItems}
 use Rattle.cover_problem.proofs.ProblemLemmas.{chosen, each_none, each_parts}
 use Rattle.cover_problem.proofs.SaidLemmas.{line_done}
 

@@ -1,5 +1,5 @@
 -- The example of specs/Grammar.antt, computed.
-use Rattle.std.proofs.Common.{◌≡◌, List, [], ◌∷◌, ◌++◌, Ok, codes, refl}
+use Rattle.std.proofs.Common.{◌≡◌, [], ◌∷◌, ◌++◌, Ok, codes, refl}
 use Rattle.text_lines.specs.Lines.{lines_of}
 use Rattle.text_lines.specs.Each.{each}
 use Rattle.cover_problem.specs.Problem.{Cover}

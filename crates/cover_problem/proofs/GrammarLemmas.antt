@@ -1,24 +1,21 @@
 -- A text of a problem is read as that problem.
-use Rattle.std.proofs.Common.{◌≡◌, ◌<◌, ◌≤◌, ◌⊎◌, inl, inr, ℕ, zero, suc, ◌+◌, ◌-◌, ◌==◌, List, [], ◌∷◌, ◌++◌, map, filter, length, take, drop, get_or, Bool, true, false, not, cond, ◌&&◌, ◌||◌, nat_lt, nat_le, Option, Some, None, option_map, Result, Ok, Err, position, sum_by, refl, sym, ap, ◌∙◌, subst, bytes_eq, codes, arith, append_assoc, append-nil, length-append, le_refl, le_trans, one-add, lt-ltb, le-ltb, ltb-true, le-leb, leb-true, eq-eqb, ne_eqb}
-use Rattle.std.specs.List.{list_all, list_any, position_or_len}
-use Rattle.std.specs.Cmp.Lexicographic.{bytes_decides}
-use Rattle.std.proofs.lemmas.Bool.{and_parts, and_from, or_parts, or_from, not-true, not_from_false}
-use Rattle.std.proofs.lemmas.Bool.Decides.{nat_tests}
+use Rattle.std.proofs.Common.{◌≡◌, ◌<◌, ◌≤◌, ℕ, ◌+◌, ◌==◌, List, [], ◌∷◌, ◌++◌, map, length, take, drop, true, false, ◌&&◌, nat_lt, Result, Ok, sum_by, refl, sym, ap, ◌∙◌, subst, codes, arith, append_assoc, append-nil, length-append, le_refl, lt-ltb, le-ltb, ltb-true, ne_eqb}
+use Rattle.std.specs.List.{list_all}
+use Rattle.std.proofs.lemmas.Bool.{and_parts}
 use Rattle.std.proofs.lemmas.List.{length-map, length-take, take-append-drop}
 use Rattle.std.proofs.lemmas.List.Sums.{sum_by-append}
-use Rattle.std.proofs.lemmas.List.Folds.{list_all-append, list_any-append}
-use Rattle.text_lines.specs.Lines.{is_empty, is_plain, has_bytes, outside_comment, lines_of}
-use Rattle.text_lines.specs.Writing.{said, are_plain, is_word, is_word_byte, are_words, text_of}
-use Rattle.text_lines.specs.Each.{each, ◌>>=◌}
+use Rattle.std.proofs.lemmas.List.Folds.{list_all-append}
+use Rattle.text_lines.specs.Lines.{is_empty, is_plain, outside_comment, lines_of}
+use Rattle.text_lines.specs.Writing.{said, are_plain}
+use Rattle.text_lines.specs.Each.{each}
 use Rattle.text_lines.proofs.EachLemmas.{each-append}
-use Rattle.text_lines.proofs.WritingLemmas.{written_said, written_plain}
 use Rattle.cover_problem.specs.declared.fault.Fault.{Fault}
-use Rattle.cover_problem.specs.Lists.{has, are_distinct}
-use Rattle.cover_problem.specs.Problem.{Cover, IsProblem, is_name, is_name_byte, is_item, is_option, is_small, are_new, name_at, item_named}
-use Rattle.cover_problem.specs.Making.{add_name, with_item, within}
-use Rattle.cover_problem.specs.Reading.{item_of, add_item, known, nothing, items_line, maybe_line, option_line, words_line, line, at_line, numbered_line, lines_read, problem_of, with_items}
-use Rattle.cover_problem.specs.Grammar.{maybe_words, option_words, word_lines, said_by, IsCoverText, written}
-use Rattle.cover_problem.proofs.ProblemLemmas.{bytes_eq_sym, nat_eq_sym, each_parts}
+use Rattle.cover_problem.specs.Lists.{are_distinct}
+use Rattle.cover_problem.specs.Problem.{Cover, IsProblem, is_name, is_item, is_option, are_new, name_at}
+use Rattle.cover_problem.specs.Making.{add_name, within}
+use Rattle.cover_problem.specs.Reading.{add_item, nothing, items_line, maybe_line, option_line, words_line, line, numbered_line, lines_read, problem_of}
+use Rattle.cover_problem.specs.Grammar.{maybe_words, option_words, word_lines, said_by, IsCoverText}
+use Rattle.cover_problem.proofs.ProblemLemmas.{each_parts}
 use Rattle.cover_problem.proofs.AgainLemmas.{names_again, items_again, new_front, fits}
 
 -- *a problem's lines are read again*

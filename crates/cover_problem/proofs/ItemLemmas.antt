@@ -1,24 +1,17 @@
 -- What a step did that gave something: which items an option has.
-use Rattle.std.proofs.Common.{◌≡◌, ◌<◌, ◌≤◌, ◌⊎◌, inl, inr, ℕ, suc, ◌+◌, ◌-◌, ◌==◌, List, [], ◌∷◌, ◌++◌, map, filter, length, take, drop, get_or, Bool, true, false, not, cond, ◌&&◌, ◌||◌, nat_lt, nat_le, Option, Some, None, option_map, Result, Ok, Err, position, refl, sym, ap, ◌∙◌, subst, bytes_eq, codes, arith, append_assoc, append-nil, length-append, le_refl, lt-ltb, le-ltb, ltb-true, ltb-false, eqb-true, eq-eqb, le-leb, leb-true}
-use Rattle.std.proofs.Math.Seq.{take-append_seam, drop-append_seam, take-length, drop-length}
+use Rattle.std.proofs.Common.{◌≡◌, ◌<◌, ◌≤◌, ℕ, ◌+◌, ◌-◌, List, [], ◌∷◌, ◌++◌, map, length, get_or, Bool, true, false, cond, Option, Some, None, option_map, Result, Ok, Err, position, refl, sym, ap, ◌∙◌, subst, bytes_eq, arith, append_assoc, append-nil, lt-ltb, le-leb}
 use Rattle.std.specs.List.{list_all}
 use Rattle.std.specs.Cmp.Lexicographic.{bytes_decides}
-use Rattle.std.proofs.lemmas.Bool.{and_parts, and_from, or_parts, not-true, eqb-false}
-use Rattle.std.proofs.lemmas.List.{length-map, map-append}
+use Rattle.std.proofs.lemmas.Bool.{and_from}
 use Rattle.std.proofs.lemmas.List.Quantifiers.{position-Some}
-use Rattle.text_lines.specs.Lines.{is_empty, is_plain, outside_comment, words_of, lines_of}
-use Rattle.text_lines.specs.Writing.{said, are_plain}
-use Rattle.text_lines.specs.Each.{each, ◌>>=◌}
+use Rattle.text_lines.specs.Each.{each}
 use Rattle.cover_problem.specs.declared.fault.Fault.{Fault}
-use Rattle.cover_problem.specs.declared.fault.Fault.TheVariants.{BadName, UnknownItem, ItemTwiceInOption, NoItemLine, BadLine}
-use Rattle.cover_problem.specs.declared.key.Key.{Key}
-use Rattle.cover_problem.specs.declared.key.Key.TheVariants as keys
+use Rattle.cover_problem.specs.declared.fault.Fault.TheVariants.{BadName, UnknownItem, ItemTwiceInOption}
 use Rattle.cover_problem.specs.Lists.{has, are_distinct}
-use Rattle.cover_problem.specs.Problem.{Cover, IsProblem, is_name, is_item, is_option, is_small, are_new, name_at, item_named}
-use Rattle.cover_problem.specs.Making.{add_name, with_item, within}
-use Rattle.cover_problem.specs.Reading.{item_of, add_item, known, nothing, items_line, maybe_line, option_line, key_from, keyed_line, words_line, line, at_line, numbered_line, lines_read, problem_of, with_items}
-use Rattle.cover_problem.specs.Grammar.{maybe_words, option_words, word_lines, said_by, IsCoverText}
-use Rattle.cover_problem.proofs.ProblemLemmas.{chosen, ok_is, no_fault, bind_ok, each_none, each_parts, within_parts, names_are, are_distinct_push, all_push, map_push}
+use Rattle.cover_problem.specs.Problem.{is_name, is_item, name_at, item_named}
+use Rattle.cover_problem.specs.Making.{with_item}
+use Rattle.cover_problem.specs.Reading.{item_of, add_item, known}
+use Rattle.cover_problem.proofs.ProblemLemmas.{ok_is, no_fault, bind_ok, each_none, each_parts, are_distinct_push, all_push, map_push}
 
 -- *what a step that gave something did*
 

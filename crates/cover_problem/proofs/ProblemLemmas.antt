@@ -1,9 +1,9 @@
 -- What the checks of names and options find, and what is made of them.
-use Rattle.std.proofs.Common.{◌≡◌, ◌≢◌, refl, sym, ap, ◌∙◌, subst, ℕ, suc, zero, ◌+◌, ◌-◌, ◌<◌, ◌≤◌, Bool, true, false, not, ◌&&◌, ◌||◌, cond, List, [], ◌∷◌, ◌++◌, map, length, get_or, take, drop, set, All, Option, Some, None, option_map, Result, Ok, Err, position, sum_by, nat_eq, nat_lt, nat_le, ◌==◌, bytes_eq, arith, inl, inr, ◌⊎◌, IsUtf8, append_assoc, append-nil, add-one, ltb-true, ltb-false, lt-ltb, le-ltb, leb-true, le-leb, leb-false, eq-eqb, eqb-true, ne_eqb, one-add, length-append, IsAscii, Decides, le_refl, IfOk, lit<, drop-cons, take-suc, length-set, get_or-set_other, get_or-set_same, drop_of_length-le, take_all}
-use Rattle.std.specs.List.{list_any, list_all, position_or_len, prefix_len, AllZip}
+use Rattle.std.proofs.Common.{◌≡◌, refl, sym, ap, ◌∙◌, subst, ℕ, suc, zero, ◌+◌, ◌-◌, ◌<◌, ◌≤◌, Bool, true, false, not, ◌&&◌, ◌||◌, cond, List, [], ◌∷◌, ◌++◌, map, length, get_or, take, drop, set, All, Option, Some, None, Result, Ok, Err, position, sum_by, nat_lt, nat_le, ◌==◌, bytes_eq, arith, inl, inr, ◌⊎◌, IsUtf8, append_assoc, append-nil, add-one, ltb-true, lt-ltb, le-ltb, leb-true, le-leb, eq-eqb, eqb-true, ne_eqb, one-add, IsAscii, Decides, le_refl, IfOk, lit<, drop-cons, take-suc, length-set, get_or-set_other, get_or-set_same, drop_of_length-le, take_all}
+use Rattle.std.specs.List.{list_any, list_all, position_or_len, AllZip}
 use Rattle.std.specs.Result.{result_ok}
 use Rattle.std.specs.Cmp.Lexicographic.{pointwise, pointwise_decides, bytes_decides, nat_list_eq_equiv}
-use Rattle.std.proofs.lemmas.Bool.{and_parts, and_from, or_parts, or_from, and_left, and_right, or_left, or_right, lt-leb, cases_eq, cases_Bool, not-true, not-false, not_from_true, not_from_false, false_from_ne_true, true≢false, false≢true, cond-true, cond-false}
+use Rattle.std.proofs.lemmas.Bool.{and_parts, and_from, or_parts, or_from, and_left, and_right, or_left, or_right, lt-leb, cases_eq, not-true, not-false, not_from_false, false_from_ne_true}
 use Rattle.std.proofs.lemmas.Bool.Decides.{nat_tests}
 use Rattle.std.proofs.lemmas.List.Sums.{sum_by_push, sum_by-take-le}
 use Rattle.std.proofs.lemmas.List.Folds.{list_all-append, list_any-append}

@@ -1,5 +1,5 @@
 -- The examples of specs/Reading.antt and specs/FirstFault.antt, computed.
-use Rattle.std.proofs.Common.{◌≡◌, List, [], ◌∷◌, ◌++◌, Ok, Err, codes, refl}
+use Rattle.std.proofs.Common.{◌≡◌, [], ◌∷◌, ◌++◌, Ok, Err, codes, refl}
 use Rattle.text_lines.specs.Each.{each}
 use Rattle.cover_problem.specs.declared.fault.Fault.TheVariants.{BadName, RepeatedItem, UnknownItem, ItemTwiceInOption, NoItemLine, BadLine}
 use Rattle.cover_problem.specs.Making.{add_name}

@@ -2,7 +2,7 @@
 --
 -- Example: the names a and b with the options 1 2 and 2 2 have the fault ItemTwiceInOption; with the options 1 2 and 3 2,
 -- UnknownItem; with a and a b as names, BadName, whatever the options.
-use Rattle.std.specs.Prelude.{ℕ, Bool, true, false, not, List, [], ◌∷◌, ◌++◌, length, Result, Ok, Err, ◌≡◌, if◌then◌else◌}
+use Rattle.std.specs.Prelude.{ℕ, not, List, [], ◌∷◌, ◌++◌, length, Result, Ok, Err, ◌≡◌, if◌then◌else◌}
 use Rattle.std.specs.List.{list_any}
 use Rattle.std.specs.Str.{bytes_eq}
 use Rattle.cover_problem.specs.declared.fault.Fault.{Fault}

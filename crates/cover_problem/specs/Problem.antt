@@ -8,7 +8,7 @@ use Rattle.std.specs.List.{list_all, list_any, slice_index_or}
 use Rattle.std.specs.Str.{bytes_eq}
 use Rattle.std.specs.Cmp.Lexicographic.{pointwise}
 use Rattle.cover_problem.specs.declared.limits.TheConstants.{MOST_ITEMS, MOST_OPTIONS, MOST_ENTRIES, MOST_NAME_BYTES}
-use Rattle.cover_problem.specs.Lists.{has, are_distinct}
+use Rattle.cover_problem.specs.Lists.{are_distinct}
 
 -- items with these names, numbered from 1, of which the first `primary` have to be covered and the others may be;
 -- and options, numbered from 1, each a list of items

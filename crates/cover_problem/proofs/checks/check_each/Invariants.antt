@@ -1,4 +1,4 @@
-use Rattle.std.proofs.Common.{◌≡◌, ◌≤◌, List, [], ℕ, map, drop, take, length, All}
+use Rattle.std.proofs.Common.{◌≡◌, ◌≤◌, [], map, drop, take, length, All}
 use Rattle.text_lines.specs.Each.{each}
 use Rattle.cover_problem.specs.Making.{add_option}
 use Rattle.cover_problem.proofs.checks.check_each.Given as goal

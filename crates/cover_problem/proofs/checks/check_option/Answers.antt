@@ -1,7 +1,6 @@
-use Rattle.std.proofs.Common.{◌≡◌, ◌∙◌, sym, ap, length, take, drop, ◌≤◌, ◌<◌, ◌+◌, get_or, set, All, arith, inl, inr}
-use Rattle.text_lines.specs.Each.{each}
-use Rattle.cover_problem.specs.Making.{option_from, add_number}
-use Rattle.cover_problem.proofs.ProblemLemmas.{stops_unknown, stops_twice, takes_once, stamped, numbers_end, unmarked, some_option}
+use Rattle.std.proofs.Common.{length, arith, inl, inr}
+use Rattle.cover_problem.specs.Making.{option_from}
+use Rattle.cover_problem.proofs.ProblemLemmas.{stops_unknown, stops_twice, takes_once, stamped, numbers_end}
 use Rattle.cover_problem.proofs.checks.check_option.Goals as goal
 use Rattle.cover_problem.proofs.checks.check_option.Goals.{then-number-eq0-via-then-number-eq0, then-number-eq0-via-else-number-eq0+then-number-marks}
 

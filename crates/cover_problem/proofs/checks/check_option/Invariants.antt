@@ -1,5 +1,4 @@
-use Rattle.std.proofs.Common.{◌≡◌, ◌<◌, ◌≤◌, ℕ, suc, ◌==◌, get_or, length, drop, take}
-use Rattle.cover_problem.specs.Lists.{has}
+use Rattle.std.proofs.Common.{◌≡◌, length, drop, take}
 use Rattle.text_lines.specs.Each.{each}
 use Rattle.cover_problem.specs.Making.{add_number, option_from}
 use Rattle.cover_problem.specs.Marks.{AreMarks}

@@ -1,10 +1,8 @@
-use Rattle.std.proofs.Common.{◌≡◌, ◌≤◌, List, [], ℕ, map, ◌∙◌, ap, sym, refl, inl, inr, length, string_bytes, Bool, true, false, not, arith}
-use Rattle.std.proofs.lemmas.Bool.{not-true}
+use Rattle.std.proofs.Common.{◌≡◌, ◌≤◌, [], map, ◌∙◌, ap, sym, refl, inl, inr, length, string_bytes}
 use Rattle.std.proofs.lemmas.List.{length-map}
 use Rattle.std.proofs.lemmas.Result.{err_from_is_err_and}
 use Rattle.text_lines.specs.Each.{each}
 use Rattle.cover_problem.specs.Making.{add_name, add_option, made}
-use Rattle.cover_problem.specs.Problem.{is_item}
 use Rattle.cover_problem.proofs.ProblemLemmas.{no_items, names_stop, options_refused, too_large, all_made, passes_on, names_are, is_item_yes, is_item_no}
 use Rattle.cover_problem.proofs.checks.checked_names.Goals as goal
 use Rattle.cover_problem.proofs.checks.checked_names.Goals.{then-primary-eq0-via-then-primary-eq0, then-primary-eq0-via-else-primary-eq0+then-primary-names}

@@ -1,5 +1,5 @@
-use Rattle.std.proofs.Common.{sym, ◌∙◌, ap, not}
-use Rattle.std.proofs.lemmas.Bool.{not-false, not-true, cond-false}
+use Rattle.std.proofs.Common.{sym, ◌∙◌}
+use Rattle.std.proofs.lemmas.Bool.{not-false, not-true}
 use Rattle.cover_problem.proofs.ProblemLemmas.{not_a_name, name_repeated, name_added}
 use Rattle.cover_problem.proofs.checks.take_name.Goals as goal
 

@@ -1,4 +1,4 @@
-use Rattle.std.proofs.Common.{◌≡◌, List, [], ℕ, map, ◌∙◌, ap, sym, length, string_bytes}
+use Rattle.std.proofs.Common.{[], map, ◌∙◌, ap, sym, string_bytes}
 use Rattle.std.proofs.lemmas.Result.{err_from_is_err_and}
 use Rattle.text_lines.specs.Each.{each}
 use Rattle.cover_problem.specs.Making.{add_name}

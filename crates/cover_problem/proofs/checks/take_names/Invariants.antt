@@ -1,4 +1,4 @@
-use Rattle.std.proofs.Common.{◌≡◌, List, [], ℕ, map, drop, string_bytes}
+use Rattle.std.proofs.Common.{◌≡◌, [], map, drop, string_bytes}
 use Rattle.text_lines.specs.Each.{each}
 use Rattle.cover_problem.specs.Making.{add_name}
 use Rattle.cover_problem.proofs.checks.take_names.Given as goal

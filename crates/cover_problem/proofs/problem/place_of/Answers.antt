@@ -1,4 +1,4 @@
-use Rattle.std.proofs.Common.{◌≡◌, ◌≤◌, ◌<◌, ◌∙◌, sym, ap, map, length, true≢false, arith}
+use Rattle.std.proofs.Common.{◌≡◌, ◌≤◌, ◌<◌, ◌∙◌, sym, map, length, true≢false, arith}
 use Rattle.cover_problem.proofs.ProblemLemmas.{too_long, place_is, held}
 use Rattle.cover_problem.proofs.problem.place_of.Goals as goal
 

@@ -1,5 +1,4 @@
-use Rattle.std.proofs.Common.{◌≡◌, ◌∙◌, sym, ℕ, List, Result, Ok, Err, IfOk, subst}
-use Rattle.cover_problem.specs.declared.fault.Fault.{Fault}
+use Rattle.std.proofs.Common.{ℕ, List, Result, Ok, Err, IfOk, subst}
 use Rattle.cover_problem.specs.declared.fault.CoverFault.{CoverFault}
 use Rattle.cover_problem.specs.Problem.{Cover}
 use Rattle.cover_problem.specs.Reading.{GivesAt, problem_of}

@@ -1,4 +1,4 @@
-use Rattle.std.proofs.Common.{◌≡◌, ◌∙◌, sym, nat_lt, ap, Ok, true, false}
+use Rattle.std.proofs.Common.{◌≡◌, ◌∙◌, sym, nat_lt, true, false}
 use Rattle.std.proofs.lemmas.Result.{err_from_is_err_and}
 use Rattle.cover_problem.proofs.ReadingLemmas.{text_refused, text_read, text_without_items}
 use Rattle.cover_problem.proofs.SaidLemmas.{lines_are}

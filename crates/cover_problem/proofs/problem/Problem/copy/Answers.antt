@@ -1,6 +1,5 @@
-use Rattle.std.proofs.Common.{◌≡◌, List, map, refl, sym, ap, ◌∙◌}
+use Rattle.std.proofs.Common.{ap}
 use Rattle.std.proofs.lemmas.List.Elements.{same_from_all_zip}
-use Rattle.cover_problem.specs.Problem.{IsProblem}
 use Rattle.cover_problem.proofs.ProblemLemmas.{zip_map}
 use Rattle.cover_problem.proofs.problem.Problem.copy.Goals as goal
 

@@ -1,6 +1,4 @@
-use Rattle.std.proofs.Common.{◌≡◌, ◌∙◌, sym, Bool, true, rules, arith}
-use Rattle.std.proofs.lemmas.Grind.{common_steps}
-use Rattle.cover_problem.specs.Problem.{is_same}
+use Rattle.std.proofs.Common.{rules}
 use Rattle.cover_problem.proofs.ProblemLemmas.{when_test}
 use Rattle.cover_problem.proofs.problem.Problem.same.Goals as goal
 

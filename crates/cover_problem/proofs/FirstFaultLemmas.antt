@@ -1,5 +1,5 @@
 -- The fault that is found is the one of the first line with a fault.
-use Rattle.std.proofs.Common.{◌≡◌, ◌<◌, ◌≤◌, ◌⊎◌, inl, inr, ℕ, zero, suc, ◌+◌, ◌==◌, List, [], ◌∷◌, ◌++◌, length, Bool, true, false, cond, nat_lt, Result, Ok, Err, refl, sym, ap, ◌∙◌, subst, arith, lt-ltb, le-ltb, ltb-true, ltb-false}
+use Rattle.std.proofs.Common.{◌≡◌, ◌<◌, ◌⊎◌, inl, inr, ℕ, ◌+◌, List, [], ◌∷◌, length, true, false, nat_lt, Result, Ok, Err, refl, sym, ap, ◌∙◌, subst, arith, le-ltb, ltb-false}
 use Rattle.text_lines.specs.Lines.{lines_of}
 use Rattle.text_lines.specs.Each.{each, ◌>>=◌, Fails}
 use Rattle.text_lines.proofs.EachLemmas.{fails, from_fails}
@@ -7,9 +7,9 @@ use Rattle.cover_problem.specs.declared.fault.Fault.{Fault}
 use Rattle.cover_problem.specs.declared.fault.Fault.TheVariants.{NoItemLine}
 use Rattle.cover_problem.specs.Problem.{Cover}
 use Rattle.cover_problem.specs.Reading.{nothing, line, at_line, numbered_line, lines_read, problem_of, with_items}
-use Rattle.cover_problem.specs.FirstFault.{IsFirst, IsFirstFault, LacksItems}
+use Rattle.cover_problem.specs.FirstFault.{IsFirstFault, LacksItems}
 use Rattle.cover_problem.proofs.ProblemLemmas.{chosen, each_none, each_parts}
-use Rattle.cover_problem.proofs.BegunLemmas.{line_done}
+use Rattle.cover_problem.proofs.SaidLemmas.{line_done}
 
 -- *numbers of lines*
 
@@ -67,8 +67,10 @@ by_end text (Ok (p, m)) f n h g = at_end (chosen (nat_lt 0 p.primary) (Ok p) (Er
   where
     no_err : ◌≡◌ {A = Result Cover (Fault × ℕ)} (Ok p) (Err (f, n)) → ⊥
     no_err e = cc
+
     same : ◌≡◌ {A = Result Cover (Fault × ℕ)} (Err (NoItemLine, 0)) (Err (f, n)) → ◌≡◌ {A = Fault × ℕ} (NoItemLine, 0) (f, n)
     same e = cc
+
     at_end : ((nat_lt 0 p.primary ≡ true) × (◌≡◌ {A = Result Cover (Fault × ℕ)} (Ok p) (Err (f, n)))) ⊎ ((nat_lt 0 p.primary ≡ false) × (◌≡◌ {A = Result Cover (Fault × ℕ)} (Err (NoItemLine, 0)) (Err (f, n)))) → IsFirstFault text f n ⊎ ((n ≡ 0) × (f ≡ NoItemLine) × LacksItems text)
     at_end (inl e) = absurd (no_err e.1)
     at_end (inr e) =

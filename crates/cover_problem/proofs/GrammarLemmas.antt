@@ -1,124 +1,22 @@
--- A text of a problem is read as that problem, and what is written is a text of it.
-use Rattle.std.proofs.Common.{◌≡◌, ◌<◌, ◌≤◌, ◌⊎◌, inl, inr, ℕ, zero, suc, ◌+◌, ◌-◌, ◌==◌, List, [], ◌∷◌, ◌++◌, map, filter, length, take, drop, get_or, Bool, true, false, not, cond, ◌&&◌, ◌||◌, nat_lt, nat_le, Option, Some, None, option_map, Result, Ok, Err, position, sum_by, refl, sym, ap, ◌∙◌, subst, bytes_eq, codes, arith, append_assoc, append-nil, length-append, le_refl, le_trans, one-add, lt-ltb, le-ltb, ltb-true, le-leb, leb-true, eq-eqb, ne_eqb}
-use Rattle.std.specs.List.{list_all, list_any, position_or_len}
-use Rattle.std.specs.Cmp.Lexicographic.{bytes_decides}
-use Rattle.std.proofs.lemmas.Bool.{and_parts, and_from, or_parts, or_from, not-true, not_from_false}
-use Rattle.std.proofs.lemmas.Bool.Decides.{nat_tests}
+-- A text of a problem is read as that problem.
+use Rattle.std.proofs.Common.{◌≡◌, ◌<◌, ◌≤◌, ℕ, ◌+◌, ◌==◌, List, [], ◌∷◌, ◌++◌, map, length, take, drop, true, false, ◌&&◌, nat_lt, Result, Ok, sum_by, refl, sym, ap, ◌∙◌, subst, codes, arith, append_assoc, append-nil, length-append, le_refl, lt-ltb, le-ltb, ltb-true, ne_eqb}
+use Rattle.std.specs.List.{list_all}
+use Rattle.std.proofs.lemmas.Bool.{and_parts}
 use Rattle.std.proofs.lemmas.List.{length-map, length-take, take-append-drop}
 use Rattle.std.proofs.lemmas.List.Sums.{sum_by-append}
-use Rattle.std.proofs.lemmas.List.Folds.{list_all-append, list_any-append}
-use Rattle.text_lines.specs.Lines.{is_empty, is_plain, has_bytes, outside_comment, lines_of}
-use Rattle.text_lines.specs.Writing.{said, are_plain, is_word, is_word_byte, are_words, text_of}
-use Rattle.text_lines.specs.Each.{each, ◌>>=◌}
+use Rattle.std.proofs.lemmas.List.Folds.{list_all-append}
+use Rattle.text_lines.specs.Lines.{is_empty, is_plain, outside_comment, lines_of}
+use Rattle.text_lines.specs.Writing.{said, are_plain}
+use Rattle.text_lines.specs.Each.{each}
 use Rattle.text_lines.proofs.EachLemmas.{each-append}
-use Rattle.text_lines.proofs.WritingLemmas.{written_said, written_plain}
 use Rattle.cover_problem.specs.declared.fault.Fault.{Fault}
-use Rattle.cover_problem.specs.Lists.{has, are_distinct}
-use Rattle.cover_problem.specs.Problem.{Cover, IsProblem, is_name, is_name_byte, is_item, is_option, is_small, are_new, name_at, item_named}
-use Rattle.cover_problem.specs.Making.{add_name, with_item, within}
-use Rattle.cover_problem.specs.Reading.{item_of, add_item, known, nothing, items_line, maybe_line, option_line, words_line, line, at_line, numbered_line, lines_read, problem_of, with_items}
-use Rattle.cover_problem.specs.Grammar.{maybe_words, option_words, word_lines, said_by, IsCoverText, written}
-use Rattle.cover_problem.proofs.ProblemLemmas.{bytes_eq_sym, nat_eq_sym, each_parts}
-
--- *names are read again*
-
--- a name among names of which no two are the same isn't among those before it
-new_there : (acc : List (List ℕ)) (w : List ℕ) (words : List (List ℕ)) → are_new (acc ++ w ∷ words) ≡ true → list_any (bytes_eq w) acc ≡ false
-new_there [] w words h = refl
-new_there (x ∷ xs) w words h =
-    let p = and_parts (not (list_any (bytes_eq x) (xs ++ w ∷ words))) (are_new (xs ++ w ∷ words)) h in
-    let q = or_parts (list_any (bytes_eq x) xs) (list_any (bytes_eq x) (w ∷ words)) (sym (list_any-append (bytes_eq x) xs (w ∷ words)) ∙ not-true _ p.0) in
-    let r = or_parts (bytes_eq x w) (list_any (bytes_eq x) words) q.1 in
-    or_from _ _ (bytes_eq_sym w x ∙ r.0) (new_there xs w words p.1)
-
-new_front : (xs ys : List (List ℕ)) → are_new (xs ++ ys) ≡ true → are_new xs ≡ true
-new_front [] ys h = refl
-new_front (x ∷ xs) ys h =
-    let p = and_parts (not (list_any (bytes_eq x) (xs ++ ys))) (are_new (xs ++ ys)) h in
-    let q = or_parts (list_any (bytes_eq x) xs) (list_any (bytes_eq x) ys) (sym (list_any-append (bytes_eq x) xs ys) ∙ not-true _ p.0) in
-    and_from _ _ (not_from_false _ q.0) (new_front xs ys p.1)
-
-name_taken : (acc : List (List ℕ)) (w : List ℕ) → is_name w ≡ true → list_any (bytes_eq w) acc ≡ false → add_name acc w ≡ Ok (acc ++ w ∷ [])
-unfolding add_name
-name_taken acc w n h = rw (n, h) refl
-
-names_again : (acc words : List (List ℕ)) → list_all is_name words ≡ true → are_new (acc ++ words) ≡ true → each add_name acc words ≡ Ok (acc ++ words)
-unfolding each
-names_again acc [] n h = ap (λ ns. Ok ns) (sym (append-nil acc))
-names_again acc (w ∷ words) n h =
-    let p = and_parts (is_name w) (list_all is_name words) n in
-    let e : (acc ++ w ∷ []) ++ words ≡ acc ++ w ∷ words = append_assoc acc (w ∷ []) words in
-    rw (name_taken acc w p.0 (new_there acc w words h))
-      (names_again (acc ++ w ∷ []) words p.1 (rw e h) ∙ ap (λ ns. Ok ns) e)
-
--- *items are read again*
-
-distinct_there : (acc : List ℕ) (i : ℕ) (items : List ℕ) → are_distinct (acc ++ i ∷ items) ≡ true → has acc i ≡ false
-distinct_there [] i items h = refl
-distinct_there (x ∷ xs) i items h =
-    let p = and_parts (not (has (xs ++ i ∷ items) x)) (are_distinct (xs ++ i ∷ items)) h in
-    let q = or_parts (has xs x) (has (i ∷ items) x) (sym (list_any-append (λ y. y == x) xs (i ∷ items)) ∙ not-true _ p.0) in
-    let r = or_parts (i == x) (has items x) q.1 in
-    or_from _ _ (nat_eq_sym x i ∙ r.0) (distinct_there xs i items p.1)
-
-none_at : (t : List ℕ → Bool) (xs : List (List ℕ)) (i : ℕ) → list_any t xs ≡ false → i < length xs → t (get_or xs i []) ≡ false
-none_at t [] i h l = absurd (omega arith)
-none_at t (x ∷ xs) zero h l = (or_parts (t x) (list_any t xs) h).0
-none_at t (x ∷ xs) (suc i) h l = none_at t xs i (or_parts (t x) (list_any t xs) h).1 (omega arith)
-
-pub all_at : (t : List ℕ → Bool) (xs : List (List ℕ)) (i : ℕ) → list_all t xs ≡ true → i < length xs → t (get_or xs i []) ≡ true
-all_at t [] i h l = absurd (omega arith)
-all_at t (x ∷ xs) zero h l = (and_parts (t x) (list_all t xs) h).0
-all_at t (x ∷ xs) (suc i) h l = all_at t xs i (and_parts (t x) (list_all t xs) h).1 (omega arith)
-
-own_place : (names : List (List ℕ)) (i : ℕ) → are_new names ≡ true → i < length names → position_or_len (bytes_eq (get_or names i [])) names ≡ i
-own_place [] i h l = absurd (omega arith)
-own_place (x ∷ xs) zero h l = rw ((bytes_decides x x).1 refl) refl
-own_place (x ∷ xs) (suc i) h l =
-    let p = and_parts (not (list_any (bytes_eq x) xs)) (are_new xs) h in
-    let m : i < length xs = omega arith in
-    let e : bytes_eq (get_or xs i []) x ≡ false = bytes_eq_sym (get_or xs i []) x ∙ none_at (bytes_eq x) xs i (not-true _ p.0) m in
-    rw (e, own_place xs i p.1 m) (one-add i)
-
-item_again : (names : List (List ℕ)) (i : ℕ) → list_all is_name names ≡ true → are_new names ≡ true → is_item (length names) i ≡ true → item_of names (name_at names i) ≡ Ok i
-unfolding item_of
-item_again names i named new is =
-    let p = and_parts (nat_lt 0 i) (nat_le i (length names)) is in
-    let some : 0 < i = ltb-true 0 i p.0 in
-    let within : i ≤ length names = leb-true i (length names) p.1 in
-    let l : i - 1 < length names = omega arith in
-    let e : i - 1 + 1 ≡ i = omega arith in
-    rw (all_at is_name names (i - 1) named l, own_place names (i - 1) new l, lt-ltb (i - 1) (length names) l) (ap (λ k. Ok k) e)
-
-item_taken_again : (names : List (List ℕ)) (acc : List ℕ) (i : ℕ) → item_of names (name_at names i) ≡ Ok i → has acc i ≡ false → add_item names acc (name_at names i) ≡ Ok (acc ++ i ∷ [])
-unfolding add_item
-item_taken_again names acc i e h = rw (e, h) refl
-
-items_again : (names : List (List ℕ)) (acc items : List ℕ) → list_all is_name names ≡ true → are_new names ≡ true → list_all (is_item (length names)) items ≡ true → are_distinct (acc ++ items) ≡ true → each (add_item names) acc (map (name_at names) items) ≡ Ok (acc ++ items)
-unfolding each
-items_again names acc [] named new is d = ap (λ os. Ok os) (sym (append-nil acc))
-items_again names acc (i ∷ items) named new is d =
-    let p = and_parts (is_item (length names) i) (list_all (is_item (length names)) items) is in
-    let e : (acc ++ i ∷ []) ++ items ≡ acc ++ i ∷ items = append_assoc acc (i ∷ []) items in
-    rw (item_taken_again names acc i (item_again names i named new p.0) (distinct_there acc i items d))
-      (items_again names (acc ++ i ∷ []) items named new p.1 (rw e d) ∙ ap (λ os. Ok os) e)
-
--- *a part of a problem within the limits is within them*
-
-small_parts : (p : Cover) → is_small p ≡ true → (nat_le (length p.names) 65535 ≡ true) × (nat_le (length p.options) 262143 ≡ true) × (nat_le (length p.names + sum_by length p.options + length p.options + 2) 8388608 ≡ true)
-small_parts p h =
-    let a = and_parts (nat_le (length p.names) 65535 && nat_le (length p.options) 262143) (nat_le (length p.names + sum_by length p.options + length p.options + 2) 8388608) h in
-    let b = and_parts (nat_le (length p.names) 65535) (nat_le (length p.options) 262143) a.0 in
-    (b.0, b.1, a.1)
-
-fits : (p q : Cover) → is_small q ≡ true → length p.names ≤ length q.names → length p.options ≤ length q.options → sum_by length p.options ≤ sum_by length q.options → within p ≡ Ok p
-fits p q h a b c =
-    let s = small_parts q h in
-    let e : nat_le (length p.names) 65535 ≡ true = le-leb _ _ (le_trans a (leb-true _ _ s.0)) in
-    let f : nat_le (length p.options) 262143 ≡ true = le-leb _ _ (le_trans b (leb-true _ _ s.1)) in
-    let l : length p.names + sum_by length p.options + length p.options + 2 ≤ length q.names + sum_by length q.options + length q.options + 2 = omega arith in
-    let g : nat_le (length p.names + sum_by length p.options + length p.options + 2) 8388608 ≡ true = le-leb _ _ (le_trans l (leb-true _ _ s.2)) in
-    rw (e, f, g) refl
+use Rattle.cover_problem.specs.Lists.{are_distinct}
+use Rattle.cover_problem.specs.Problem.{Cover, IsProblem, is_name, is_item, is_option, are_new, name_at}
+use Rattle.cover_problem.specs.Making.{add_name, within}
+use Rattle.cover_problem.specs.Reading.{add_item, nothing, items_line, maybe_line, option_line, words_line, line, numbered_line, lines_read, problem_of}
+use Rattle.cover_problem.specs.Grammar.{maybe_words, option_words, word_lines, said_by, IsCoverText}
+use Rattle.cover_problem.proofs.ProblemLemmas.{each_parts}
+use Rattle.cover_problem.proofs.AgainLemmas.{names_again, items_again, new_front, fits}
 
 -- *a problem's lines are read again*
 
@@ -206,8 +104,8 @@ module _ (p : Cover) (g : IsProblem p) where
       let few : length (front ++ option ∷ []) ≤ length p.options = omega (arith, ap length all, length-append (front ++ option ∷ []) rest) in
       let light : sum_by length (front ++ option ∷ []) ≤ sum_by length p.options = omega (arith, ap (sum_by length) all, sum_by-append length (front ++ option ∷ []) rest) in
       option_line_again p.names (map (name_at p.names) option) front option p.primary (listed (front ++ option ∷ [])) (no_words (map (name_at p.names) option) some) some_primary
-        (items_again p.names [] option g.named g.new a.1 b.1)
-        (fits (listed (front ++ option ∷ [])) p g.small (le_refl (length p.names)) few light)
+      (items_again p.names [] option g.named g.new a.1 b.1)
+      (fits (listed (front ++ option ∷ [])) p g.small (le_refl (length p.names)) few light)
 
   options_again : (front rest : List (List ℕ)) → front ++ rest ≡ p.options → list_all (is_option (length p.names)) rest ≡ true → each words_line (listed front) (map (option_words p.names) rest) ≡ Ok (listed p.options)
   unfolding each
@@ -243,11 +141,13 @@ each_said (bytes ∷ lines) p q n plain h = by_words (λ r. each_said lines r q 
   where
     parts : (list_all is_plain (outside_comment bytes) ≡ true) × (are_plain lines ≡ true)
     parts = and_parts (list_all is_plain (outside_comment bytes)) (are_plain lines) plain
+
     go_on : ((r : Cover) → are_plain lines ≡ true → each words_line r (said_by lines) ≡ Ok q → (m : ℕ) × (each numbered_line (r, n + 1) lines ≡ Ok (q, m))) →
-      (r : Cover) → words_line p (said bytes) ≡ Ok r → each words_line r (said_by lines) ≡ Ok q → (m : ℕ) × (each numbered_line (p, n) (bytes ∷ lines) ≡ Ok (q, m))
+        (r : Cover) → words_line p (said bytes) ≡ Ok r → each words_line r (said_by lines) ≡ Ok q → (m : ℕ) × (each numbered_line (p, n) (bytes ∷ lines) ≡ Ok (q, m))
     go_on later r a b = let l = later r parts.1 b in (l.0, rw (numbered_again p r n bytes parts.0 a) l.1)
+
     by_words : ((r : Cover) → are_plain lines ≡ true → each words_line r (said_by lines) ≡ Ok q → (m : ℕ) × (each numbered_line (r, n + 1) lines ≡ Ok (q, m))) →
-      (words : List (List ℕ)) → said bytes ≡ words → (m : ℕ) × (each numbered_line (p, n) (bytes ∷ lines) ≡ Ok (q, m))
+        (words : List (List ℕ)) → said bytes ≡ words → (m : ℕ) × (each numbered_line (p, n) (bytes ∷ lines) ≡ Ok (q, m))
     by_words later [] e = go_on later p (blank_again p (said bytes) e) (rw e at h)
     by_words later (w ∷ ws) e =
         let t = each_parts words_line p (w ∷ ws) (said_by lines) q (rw e at h) in

@@ -1,7 +1,7 @@
 -- How the reader's steps give what a text says.
-use Rattle.std.proofs.Common.{◌≡◌, ◌<◌, ◌≤◌, ℕ, ◌+◌, List, [], ◌∷◌, ◌++◌, map, length, Bool, true, false, nat_lt, Some, None, Result, Ok, Err, position, refl, sym, ap, bytes_eq, arith, length-append}
+use Rattle.std.proofs.Common.{◌≡◌, ◌≤◌, ℕ, ◌+◌, List, [], ◌∷◌, ◌++◌, map, length, true, false, nat_lt, Some, None, Result, Ok, Err, position, refl, ap, bytes_eq, arith, length-append}
 use Rattle.text_lines.specs.Lines.{lines_of}
-use Rattle.text_lines.specs.Each.{each, ◌>>=◌}
+use Rattle.text_lines.specs.Each.{each}
 use Rattle.text_lines.proofs.EachLemmas.{each_goes, each_stops, each_ends}
 use Rattle.cover_problem.specs.declared.fault.Fault.{Fault}
 use Rattle.cover_problem.specs.declared.fault.Fault.TheVariants.{UnknownItem, TooLarge, NoItemLine}

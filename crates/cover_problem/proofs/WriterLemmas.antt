@@ -1,12 +1,12 @@
 -- How the writer's steps make the text of a problem.
-use Rattle.std.proofs.Common.{◌≡◌, ◌<◌, ◌≤◌, ℕ, zero, suc, List, [], ◌∷◌, ◌++◌, map, length, take, drop, get_or, flat_map, true, ◌&&◌, nat_lt, refl, sym, ap, ◌∙◌, codes, append_assoc, append-nil, take_all, arith}
+use Rattle.std.proofs.Common.{◌≡◌, ◌<◌, ℕ, zero, suc, List, [], ◌∷◌, ◌++◌, map, length, take, drop, get_or, flat_map, true, ◌&&◌, nat_lt, refl, sym, ap, ◌∙◌, codes, append_assoc, append-nil, arith}
 use Rattle.std.specs.List.{list_all}
 use Rattle.std.proofs.lemmas.Bool.{and_parts}
 use Rattle.std.proofs.lemmas.Grind.{flat_map-append}
 use Rattle.text_lines.specs.Writing.{spaced, line_text, text_of}
 use Rattle.cover_problem.specs.Lists.{are_distinct}
-use Rattle.cover_problem.specs.Problem.{Cover, is_item, is_option, name_at}
-use Rattle.cover_problem.specs.Grammar.{maybe_words, option_words, word_lines, written}
+use Rattle.cover_problem.specs.Problem.{Cover, is_item, is_option}
+use Rattle.cover_problem.specs.Grammar.{maybe_words, option_words, written}
 
 -- each word after a space
 abbrev pub words_after : List (List ℕ) → List ℕ

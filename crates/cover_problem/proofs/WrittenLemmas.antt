@@ -1,18 +1,19 @@
 -- What is written is a text of its problem.
-use Rattle.std.proofs.Common.{◌≡◌, ◌<◌, ◌≤◌, ℕ, zero, suc, ◌-◌, ◌==◌, List, [], ◌∷◌, ◌++◌, map, filter, length, take, drop, get_or, Bool, true, false, not, ◌&&◌, ◌||◌, nat_lt, nat_le, Ok, refl, sym, ap, ◌∙◌, codes, arith, ltb-true, leb-true}
+use Rattle.std.proofs.Common.{◌≡◌, ◌<◌, ◌≤◌, ℕ, ◌-◌, List, [], ◌∷◌, map, filter, length, take, drop, true, not, ◌&&◌, nat_lt, nat_le, Ok, refl, sym, ap, ◌∙◌, codes, arith, ltb-true, leb-true}
 use Rattle.std.specs.List.{list_all}
 use Rattle.std.proofs.lemmas.Bool.{and_parts, and_from}
 use Rattle.std.proofs.lemmas.Bool.Decides.{nat_tests}
 use Rattle.std.proofs.lemmas.List.{take-append-drop}
 use Rattle.std.proofs.lemmas.List.Folds.{list_all-append}
-use Rattle.text_lines.specs.Lines.{is_empty, has_bytes, lines_of}
-use Rattle.text_lines.specs.Writing.{is_word, is_word_byte, text_of}
+use Rattle.text_lines.specs.Lines.{is_empty, has_bytes}
+use Rattle.text_lines.specs.Writing.{is_word, is_word_byte}
 use Rattle.text_lines.proofs.WritingLemmas.{written_said, written_plain}
 use Rattle.cover_problem.specs.Lists.{are_distinct}
 use Rattle.cover_problem.specs.Problem.{Cover, IsProblem, is_name, is_name_byte, is_item, is_option, name_at}
 use Rattle.cover_problem.specs.Reading.{problem_of}
 use Rattle.cover_problem.specs.Grammar.{maybe_words, option_words, word_lines, IsCoverText, written}
-use Rattle.cover_problem.proofs.GrammarLemmas.{all_at, text_again}
+use Rattle.cover_problem.proofs.AgainLemmas.{all_at}
+use Rattle.cover_problem.proofs.GrammarLemmas.{text_again}
 
 -- *names are words*
 

@@ -3,7 +3,7 @@
 -- Example: the problem with the items a and b, of which a has to be covered, and the option a b is written as the lines
 -- `items a`, `maybe b` and `option a b`; with a comment, blanks or empty lines added it is a text of the same problem.
 -- proofs/GrammarExamples.antt computes it.
-use Rattle.std.specs.Prelude.{ℕ, Bool, true, ◌≡◌, List, [], ◌∷◌, ◌++◌, take, drop, map, filter, not, codes}
+use Rattle.std.specs.Prelude.{ℕ, true, ◌≡◌, List, [], ◌∷◌, ◌++◌, take, drop, map, filter, not, codes}
 use Rattle.text_lines.specs.Lines.{lines_of, is_empty}
 use Rattle.text_lines.specs.Writing.{text_of, said, are_plain}
 use Rattle.cover_problem.specs.Problem.{Cover, IsProblem, name_at}

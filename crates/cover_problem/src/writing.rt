@@ -54,11 +54,7 @@ fn write_option(text: &mut Vec<u8>, names: &[Name], option: &[u32]) -> Result<()
 }
 
 /// Writes the lines of options over items with these names.
-fn write_options(
-    text: &mut Vec<u8>,
-    names: &[Name],
-    options: &[Vec<u32>],
-) -> Result<(), AllocError>
+fn write_options(text: &mut Vec<u8>, names: &[Name], options: &[Vec<u32>]) -> Result<(), AllocError>
     requires { list_all (is_option (length names.now)) (map (λ o. o.items) options.now) ≡ true }
     ensures { OnOk result (text.new.items ≡ text.old.items ++ text_of (map (option_words (map (λ n. n.bytes) names.now)) (map (λ o. o.items) options.now))) }
 {

@@ -1,7 +1,6 @@
-use Rattle.std.proofs.Common.{◌≡◌, ◌∙◌, sym, map, length, arith}
-use Rattle.std.proofs.lemmas.Bool.{not-true, not-false}
+use Rattle.std.proofs.Common.{◌∙◌, sym, map, arith}
 use Rattle.std.proofs.lemmas.List.{length-map}
-use Rattle.cover_problem.specs.Problem.{Cover, is_small}
+use Rattle.cover_problem.specs.Problem.{Cover}
 use Rattle.cover_problem.proofs.ReadingLemmas.{within_limits, over_limits}
 use Rattle.cover_problem.proofs.draft.within.Goals as goal
 

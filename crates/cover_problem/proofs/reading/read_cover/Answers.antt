@@ -1,10 +1,9 @@
-use Rattle.std.proofs.Common.{◌≡◌, ◌∙◌, sym, ℕ, List, Result, Ok, Err, IfOk, subst}
-use Rattle.cover_problem.specs.declared.fault.Fault.{Fault}
+use Rattle.std.proofs.Common.{ℕ, List, Result, Ok, Err, IfOk, subst}
 use Rattle.cover_problem.specs.declared.fault.CoverFault.{CoverFault}
 use Rattle.cover_problem.specs.Problem.{Cover}
 use Rattle.cover_problem.specs.Reading.{GivesAt, problem_of}
 use Rattle.cover_problem.specs.Grammar.{IsCoverText}
-use Rattle.cover_problem.proofs.BegunLemmas.{read_is_text}
+use Rattle.cover_problem.proofs.SaidLemmas.{read_is_text}
 use Rattle.cover_problem.proofs.GrammarLemmas.{text_again}
 use Rattle.cover_problem.proofs.reading.read_cover.Goals as goal
 

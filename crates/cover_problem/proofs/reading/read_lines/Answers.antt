@@ -1,4 +1,4 @@
-use Rattle.std.proofs.Common.{◌≡◌, ◌∙◌, sym, arith}
+use Rattle.std.proofs.Common.{arith}
 use Rattle.std.proofs.lemmas.Bool.Decides.{nat_tests}
 use Rattle.text_lines.specs.Lines.{lines_of}
 use Rattle.cover_problem.specs.Reading.{lines_read}
@@ -8,14 +8,14 @@ use Rattle.cover_problem.proofs.reading.read_lines.Goals as goal
 pub returns-in-Err-clause-refused : goal.returns-in-Err-clause-refused
 returns-in-Err-clause-refused c =
     rw c.fault_at.ensures
-      (line_stops c.loop-rest.draft c.loop-rest.number (lines_of c.loop-rest.rest.now) (lines_read (lines_of c.args.bytes.now)) c.loop-rest.invariant.so_far
-        c.split_line.result.0.now (lines_of c.split_line.result.1.now) c.split_line.ensures.lines c.in-Err.fault c.in-Err.ensures)
+    (line_stops c.loop-rest.draft c.loop-rest.number (lines_of c.loop-rest.rest.now) (lines_read (lines_of c.args.bytes.now)) c.loop-rest.invariant.so_far
+    c.split_line.result.0.now (lines_of c.split_line.result.1.now) c.split_line.ensures.lines c.in-Err.fault c.in-Err.ensures)
 
 pub loop-rest-preserved : goal.loop-rest-preserved
 loop-rest-preserved c = record {
   so_far =
       line_goes c.loop-rest.draft c.loop-rest.number (lines_of c.loop-rest.rest.now) (lines_read (lines_of c.args.bytes.now)) c.loop-rest.invariant.so_far
-        c.split_line.result.0.now (lines_of c.split_line.result.1.now) c.split_line.ensures.lines c.in-Ok.next c.in-Ok.ensures;
+      c.split_line.result.0.now (lines_of c.split_line.result.1.now) c.split_line.ensures.lines c.in-Ok.next c.in-Ok.ensures;
   numbered = omega (arith, c.split_line.ensures.shorter);
 }
 

@@ -1,7 +1,7 @@
-use Rattle.std.proofs.Common.{◌≡◌, ◌∙◌, sym, nat_lt, ap, Ok, true, false}
+use Rattle.std.proofs.Common.{◌≡◌, ◌∙◌, sym, nat_lt, true, false}
 use Rattle.std.proofs.lemmas.Result.{err_from_is_err_and}
 use Rattle.cover_problem.proofs.ReadingLemmas.{text_refused, text_read, text_without_items}
-use Rattle.cover_problem.proofs.BegunLemmas.{lines_are}
+use Rattle.cover_problem.proofs.SaidLemmas.{lines_are}
 use Rattle.cover_problem.proofs.reading.read_problem.Goals as goal
 
 pub returns-in_err-draft : goal.returns-in_err-draft

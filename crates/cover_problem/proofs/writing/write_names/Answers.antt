@@ -7,4 +7,4 @@ returns c =
     let names = map (λ n. n.bytes) c.args.names.now in
     let all : map (λ n. n.bytes) (take c.loop-name.name-index c.args.names.now) ≡ names = ap (map (λ n. n.bytes)) (take_all c.loop-name.name-index c.args.names.now c.loop-name-test.false) in
     c.in_ok-push.ensures.items ∙ line_ends c.loop-name.text.items c.args.text.now.items c.args.key.now names
-      (c.loop-name.invariant ∙ ap (λ ws. (c.args.text.now.items ++ c.args.key.now) ++ words_after ws) all)
+    (c.loop-name.invariant ∙ ap (λ ws. (c.args.text.now.items ++ c.args.key.now) ++ words_after ws) all)

@@ -1,4 +1,4 @@
-use Rattle.std.proofs.Common.{◌≡◌, length}
+use Rattle.std.proofs.Common.{length}
 use Rattle.cover_problem.proofs.WriterLemmas.{option_items}
 use Rattle.cover_problem.proofs.writing.write_options.Goals as goal
 

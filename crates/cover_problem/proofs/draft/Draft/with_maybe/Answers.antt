@@ -1,4 +1,4 @@
-use Rattle.std.proofs.Common.{◌≡◌, map, length, arith}
+use Rattle.std.proofs.Common.{map, arith}
 use Rattle.std.proofs.lemmas.List.{length-map}
 use Rattle.text_lines.specs.Lines.{words_of}
 use Rattle.cover_problem.proofs.ReadingLemmas.{names_grow}

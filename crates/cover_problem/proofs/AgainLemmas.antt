@@ -1,0 +1,112 @@
+-- The names and the items of a problem are read again, and its parts are within the limits.
+use Rattle.std.proofs.Common.{◌≡◌, ◌<◌, ◌≤◌, ℕ, zero, suc, ◌+◌, ◌-◌, ◌==◌, List, [], ◌∷◌, ◌++◌, map, length, get_or, Bool, true, false, not, ◌&&◌, nat_lt, nat_le, Ok, sum_by, refl, sym, ap, ◌∙◌, bytes_eq, arith, append_assoc, append-nil, le_trans, one-add, lt-ltb, ltb-true, le-leb, leb-true}
+use Rattle.std.specs.List.{list_all, list_any, position_or_len}
+use Rattle.std.specs.Cmp.Lexicographic.{bytes_decides}
+use Rattle.std.proofs.lemmas.Bool.{and_parts, and_from, or_parts, or_from, not-true, not_from_false}
+use Rattle.std.proofs.lemmas.List.Folds.{list_any-append}
+use Rattle.text_lines.specs.Each.{each}
+use Rattle.cover_problem.specs.Lists.{has, are_distinct}
+use Rattle.cover_problem.specs.Problem.{Cover, is_name, is_item, is_small, are_new, name_at}
+use Rattle.cover_problem.specs.Making.{add_name, within}
+use Rattle.cover_problem.specs.Reading.{item_of, add_item}
+use Rattle.cover_problem.proofs.ProblemLemmas.{bytes_eq_sym, nat_eq_sym}
+
+-- *names are read again*
+
+-- a name among names of which no two are the same isn't among those before it
+new_there : (acc : List (List ℕ)) (w : List ℕ) (words : List (List ℕ)) → are_new (acc ++ w ∷ words) ≡ true → list_any (bytes_eq w) acc ≡ false
+new_there [] w words h = refl
+new_there (x ∷ xs) w words h =
+    let p = and_parts (not (list_any (bytes_eq x) (xs ++ w ∷ words))) (are_new (xs ++ w ∷ words)) h in
+    let q = or_parts (list_any (bytes_eq x) xs) (list_any (bytes_eq x) (w ∷ words)) (sym (list_any-append (bytes_eq x) xs (w ∷ words)) ∙ not-true _ p.0) in
+    let r = or_parts (bytes_eq x w) (list_any (bytes_eq x) words) q.1 in
+    or_from _ _ (bytes_eq_sym w x ∙ r.0) (new_there xs w words p.1)
+
+pub new_front : (xs ys : List (List ℕ)) → are_new (xs ++ ys) ≡ true → are_new xs ≡ true
+new_front [] ys h = refl
+new_front (x ∷ xs) ys h =
+    let p = and_parts (not (list_any (bytes_eq x) (xs ++ ys))) (are_new (xs ++ ys)) h in
+    let q = or_parts (list_any (bytes_eq x) xs) (list_any (bytes_eq x) ys) (sym (list_any-append (bytes_eq x) xs ys) ∙ not-true _ p.0) in
+    and_from _ _ (not_from_false _ q.0) (new_front xs ys p.1)
+
+name_taken : (acc : List (List ℕ)) (w : List ℕ) → is_name w ≡ true → list_any (bytes_eq w) acc ≡ false → add_name acc w ≡ Ok (acc ++ w ∷ [])
+unfolding add_name
+name_taken acc w n h = rw (n, h) refl
+
+pub names_again : (acc words : List (List ℕ)) → list_all is_name words ≡ true → are_new (acc ++ words) ≡ true → each add_name acc words ≡ Ok (acc ++ words)
+unfolding each
+names_again acc [] n h = ap (λ ns. Ok ns) (sym (append-nil acc))
+names_again acc (w ∷ words) n h =
+    let p = and_parts (is_name w) (list_all is_name words) n in
+    let e : (acc ++ w ∷ []) ++ words ≡ acc ++ w ∷ words = append_assoc acc (w ∷ []) words in
+    rw (name_taken acc w p.0 (new_there acc w words h))
+    (names_again (acc ++ w ∷ []) words p.1 (rw e h) ∙ ap (λ ns. Ok ns) e)
+
+-- *items are read again*
+
+distinct_there : (acc : List ℕ) (i : ℕ) (items : List ℕ) → are_distinct (acc ++ i ∷ items) ≡ true → has acc i ≡ false
+distinct_there [] i items h = refl
+distinct_there (x ∷ xs) i items h =
+    let p = and_parts (not (has (xs ++ i ∷ items) x)) (are_distinct (xs ++ i ∷ items)) h in
+    let q = or_parts (has xs x) (has (i ∷ items) x) (sym (list_any-append (λ y. y == x) xs (i ∷ items)) ∙ not-true _ p.0) in
+    let r = or_parts (i == x) (has items x) q.1 in
+    or_from _ _ (nat_eq_sym x i ∙ r.0) (distinct_there xs i items p.1)
+
+none_at : (t : List ℕ → Bool) (xs : List (List ℕ)) (i : ℕ) → list_any t xs ≡ false → i < length xs → t (get_or xs i []) ≡ false
+none_at t [] i h l = absurd (omega arith)
+none_at t (x ∷ xs) zero h l = (or_parts (t x) (list_any t xs) h).0
+none_at t (x ∷ xs) (suc i) h l = none_at t xs i (or_parts (t x) (list_any t xs) h).1 (omega arith)
+
+pub all_at : (t : List ℕ → Bool) (xs : List (List ℕ)) (i : ℕ) → list_all t xs ≡ true → i < length xs → t (get_or xs i []) ≡ true
+all_at t [] i h l = absurd (omega arith)
+all_at t (x ∷ xs) zero h l = (and_parts (t x) (list_all t xs) h).0
+all_at t (x ∷ xs) (suc i) h l = all_at t xs i (and_parts (t x) (list_all t xs) h).1 (omega arith)
+
+own_place : (names : List (List ℕ)) (i : ℕ) → are_new names ≡ true → i < length names → position_or_len (bytes_eq (get_or names i [])) names ≡ i
+own_place [] i h l = absurd (omega arith)
+own_place (x ∷ xs) zero h l = rw ((bytes_decides x x).1 refl) refl
+own_place (x ∷ xs) (suc i) h l =
+    let p = and_parts (not (list_any (bytes_eq x) xs)) (are_new xs) h in
+    let m : i < length xs = omega arith in
+    let e : bytes_eq (get_or xs i []) x ≡ false = bytes_eq_sym (get_or xs i []) x ∙ none_at (bytes_eq x) xs i (not-true _ p.0) m in
+    rw (e, own_place xs i p.1 m) (one-add i)
+
+item_again : (names : List (List ℕ)) (i : ℕ) → list_all is_name names ≡ true → are_new names ≡ true → is_item (length names) i ≡ true → item_of names (name_at names i) ≡ Ok i
+unfolding item_of
+item_again names i named new is =
+    let p = and_parts (nat_lt 0 i) (nat_le i (length names)) is in
+    let some : 0 < i = ltb-true 0 i p.0 in
+    let within : i ≤ length names = leb-true i (length names) p.1 in
+    let l : i - 1 < length names = omega arith in
+    let e : i - 1 + 1 ≡ i = omega arith in
+    rw (all_at is_name names (i - 1) named l, own_place names (i - 1) new l, lt-ltb (i - 1) (length names) l) (ap (λ k. Ok k) e)
+
+item_taken_again : (names : List (List ℕ)) (acc : List ℕ) (i : ℕ) → item_of names (name_at names i) ≡ Ok i → has acc i ≡ false → add_item names acc (name_at names i) ≡ Ok (acc ++ i ∷ [])
+unfolding add_item
+item_taken_again names acc i e h = rw (e, h) refl
+
+pub items_again : (names : List (List ℕ)) (acc items : List ℕ) → list_all is_name names ≡ true → are_new names ≡ true → list_all (is_item (length names)) items ≡ true → are_distinct (acc ++ items) ≡ true → each (add_item names) acc (map (name_at names) items) ≡ Ok (acc ++ items)
+unfolding each
+items_again names acc [] named new is d = ap (λ os. Ok os) (sym (append-nil acc))
+items_again names acc (i ∷ items) named new is d =
+    let p = and_parts (is_item (length names) i) (list_all (is_item (length names)) items) is in
+    let e : (acc ++ i ∷ []) ++ items ≡ acc ++ i ∷ items = append_assoc acc (i ∷ []) items in
+    rw (item_taken_again names acc i (item_again names i named new p.0) (distinct_there acc i items d))
+    (items_again names (acc ++ i ∷ []) items named new p.1 (rw e d) ∙ ap (λ os. Ok os) e)
+
+-- *a part of a problem within the limits is within them*
+
+small_parts : (p : Cover) → is_small p ≡ true → (nat_le (length p.names) 65535 ≡ true) × (nat_le (length p.options) 262143 ≡ true) × (nat_le (length p.names + sum_by length p.options + length p.options + 2) 8388608 ≡ true)
+small_parts p h =
+    let a = and_parts (nat_le (length p.names) 65535 && nat_le (length p.options) 262143) (nat_le (length p.names + sum_by length p.options + length p.options + 2) 8388608) h in
+    let b = and_parts (nat_le (length p.names) 65535) (nat_le (length p.options) 262143) a.0 in
+    (b.0, b.1, a.1)
+
+pub fits : (p q : Cover) → is_small q ≡ true → length p.names ≤ length q.names → length p.options ≤ length q.options → sum_by length p.options ≤ sum_by length q.options → within p ≡ Ok p
+fits p q h a b c =
+    let s = small_parts q h in
+    let e : nat_le (length p.names) 65535 ≡ true = le-leb _ _ (le_trans a (leb-true _ _ s.0)) in
+    let f : nat_le (length p.options) 262143 ≡ true = le-leb _ _ (le_trans b (leb-true _ _ s.1)) in
+    let l : length p.names + sum_by length p.options + length p.options + 2 ≤ length q.names + sum_by length q.options + length q.options + 2 = omega arith in
+    let g : nat_le (length p.names + sum_by length p.options + length p.options + 2) 8388608 ≡ true = le-leb _ _ (le_trans l (leb-true _ _ s.2)) in
+    rw (e, f, g) refl

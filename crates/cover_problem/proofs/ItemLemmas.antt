@@ -1,0 +1,80 @@
+-- What a step did that gave something: which items an option has.
+use Rattle.std.proofs.Common.{◌≡◌, ◌<◌, ◌≤◌, ℕ, ◌+◌, ◌-◌, List, [], ◌∷◌, ◌++◌, map, length, get_or, Bool, true, false, cond, Option, Some, None, option_map, Result, Ok, Err, position, refl, sym, ap, ◌∙◌, subst, bytes_eq, arith, append_assoc, append-nil, lt-ltb, le-leb}
+use Rattle.std.specs.List.{list_all}
+use Rattle.std.specs.Cmp.Lexicographic.{bytes_decides}
+use Rattle.std.proofs.lemmas.Bool.{and_from}
+use Rattle.std.proofs.lemmas.List.Quantifiers.{position-Some}
+use Rattle.text_lines.specs.Each.{each}
+use Rattle.cover_problem.specs.declared.fault.Fault.{Fault}
+use Rattle.cover_problem.specs.declared.fault.Fault.TheVariants.{BadName, UnknownItem, ItemTwiceInOption}
+use Rattle.cover_problem.specs.Lists.{has, are_distinct}
+use Rattle.cover_problem.specs.Problem.{is_name, is_item, name_at, item_named}
+use Rattle.cover_problem.specs.Making.{with_item}
+use Rattle.cover_problem.specs.Reading.{item_of, add_item, known}
+use Rattle.cover_problem.proofs.ProblemLemmas.{ok_is, no_fault, bind_ok, each_none, each_parts, are_distinct_push, all_push, map_push}
+
+-- *what a step that gave something did*
+
+-- a test that would refuse didn't pass
+pub unrefused : {S : Type 0} (b : Bool) (f : Fault) (r : Result S Fault) (x : S) → cond b (Err f) r ≡ Ok x → (b ≡ false) × (r ≡ Ok x)
+unrefused true f r x h = absurd (no_fault f x h)
+unrefused false f r x h = (refl, h)
+
+pub granted : {S : Type 0} (b : Bool) (f : Fault) (r : Result S Fault) (x : S) → cond b r (Err f) ≡ Ok x → (b ≡ true) × (r ≡ Ok x)
+granted true f r x h = (refl, h)
+granted false f r x h = absurd (no_fault f x h)
+
+known_is : (o : Option ℕ) (i : ℕ) → known o ≡ Ok i → o ≡ Some i
+known_is None i h = absurd (no_fault UnknownItem i h)
+known_is (Some j) i h = ap (λ k. Some k) (ok_is j i h)
+
+some_is : (a b : ℕ) → ◌≡◌ {A = Option ℕ} (Some a) (Some b) → a ≡ b
+some_is a b h = cc
+
+none_some : (b : ℕ) → ◌≡◌ {A = Option ℕ} None (Some b) → ⊥
+none_some b h = cc
+
+one_more : (o : Option ℕ) (i : ℕ) → option_map (λ k. k + 1) o ≡ Some i → (j : ℕ) × (o ≡ Some j) × (i ≡ j + 1)
+one_more None i h = absurd (none_some i h)
+one_more (Some j) i h = (j, refl, sym (some_is (j + 1) i h))
+
+-- *the items of an option*
+
+-- the item of a name has that name
+item_is : (names : List (List ℕ)) (word : List ℕ) (i : ℕ) → item_of names word ≡ Ok i → (is_item (length names) i ≡ true) × (name_at names i ≡ word)
+unfolding item_of
+item_is names word i h = step (one_more (position (bytes_eq word) names) i (known_is (item_named names word) i (granted (is_name word) BadName (known (item_named names word)) i h).1))
+  where
+    step : (j : ℕ) × (position (bytes_eq word) names ≡ Some j) × (i ≡ j + 1) → (is_item (length names) i ≡ true) × (name_at names i ≡ word)
+    step (j, e, more) =
+        let p : (j < length names) × (bytes_eq word (get_or names j []) ≡ true) × ((k : ℕ) → k < j → bytes_eq word (get_or names k []) ≡ false) = position-Some (bytes_eq word) names j [] e in
+        let a : i - 1 ≡ j = omega arith in
+        let some : 0 < i = omega arith in
+        let l : i ≤ length names = omega (arith, p.0) in
+        (and_from _ _ (lt-ltb 0 i some) (le-leb i (length names) l), rw a (sym ((bytes_decides word (get_or names j [])).0 p.1)))
+
+item_taken : (names : List (List ℕ)) (taken : List ℕ) (word : List ℕ) (t : List ℕ) → add_item names taken word ≡ Ok t → (i : ℕ) × (is_item (length names) i ≡ true) × (name_at names i ≡ word) × (has taken i ≡ false) × (t ≡ taken ++ i ∷ [])
+unfolding add_item
+item_taken names taken word t h = step (bind_ok (item_of names word) (with_item taken) t h)
+  where
+    step : (i : ℕ) × (item_of names word ≡ Ok i) × (with_item taken i ≡ Ok t) → (i : ℕ) × (is_item (length names) i ≡ true) × (name_at names i ≡ word) × (has taken i ≡ false) × (t ≡ taken ++ i ∷ [])
+    step (i, a, b) =
+        let m = item_is names word i a in
+        let u = unrefused (has taken i) ItemTwiceInOption (Ok (taken ++ i ∷ [])) t b in
+        (i, m.0, m.1, u.0, sym (ok_is _ _ u.1))
+
+-- the items of words have these words as names, and are items, each once
+pub items_are : (names : List (List ℕ)) (acc : List ℕ) (words : List (List ℕ)) (option : List ℕ) → each (add_item names) acc words ≡ Ok option → are_distinct acc ≡ true → list_all (is_item (length names)) acc ≡ true →
+    (are_distinct option ≡ true) × (list_all (is_item (length names)) option ≡ true) × (map (name_at names) option ≡ map (name_at names) acc ++ words)
+items_are names acc [] option h d a =
+    let e = each_none (add_item names) acc option h in
+    (subst (λ xs. are_distinct xs ≡ true) e d, subst (λ xs. list_all (is_item (length names)) xs ≡ true) e a, ap (map (name_at names)) (sym e) ∙ sym (append-nil (map (name_at names) acc)))
+items_are names acc (w ∷ words) option h d a = step (λ t. items_are names t words option) (each_parts (add_item names) acc w words option h)
+  where
+    step : ((t : List ℕ) → each (add_item names) t words ≡ Ok option → are_distinct t ≡ true → list_all (is_item (length names)) t ≡ true → (are_distinct option ≡ true) × (list_all (is_item (length names)) option ≡ true) × (map (name_at names) option ≡ map (name_at names) t ++ words)) →
+        (t : List ℕ) × (add_item names acc w ≡ Ok t) × (each (add_item names) t words ≡ Ok option) →
+        (are_distinct option ≡ true) × (list_all (is_item (length names)) option ≡ true) × (map (name_at names) option ≡ map (name_at names) acc ++ w ∷ words)
+    step later (t, p, q) =
+        let m = item_taken names acc w t p in
+        let r = later (acc ++ m.0 ∷ []) (rw m.4 at q) (are_distinct_push acc m.0 d m.3) (all_push (is_item (length names)) acc m.0 a m.1) in
+        (r.0, r.1, r.2 ∙ ap (λ xs. xs ++ words) (map_push (name_at names) acc m.0) ∙ append_assoc (map (name_at names) acc) (name_at names m.0 ∷ []) words ∙ ap (λ x. map (name_at names) acc ++ x ∷ words) m.2)

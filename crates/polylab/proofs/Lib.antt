@@ -3,3 +3,4 @@ mod LineLemmas
 mod ZeroLemmas
 mod AccountLemmas
 mod SearchLemmas
+mod ListingLemmas

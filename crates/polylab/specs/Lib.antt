@@ -1,3 +1,4 @@
 pub mod Account
 pub mod Output
 pub mod Outcome
+pub mod Listing

@@ -2,6 +2,7 @@
 ghost use Rattle.std.specs.Prelude.{◌≡◌, ℕ, List, [], ◌∷◌, Ok, Err, take, IfSome, Contains};
 ghost use Rattle.std.specs.Io.KnownBytes.{Appends, Keeps};
 ghost use Rattle.polylab.specs.Outcome.{outcome};
+ghost use Rattle.polylab.specs.Listing.{IsListed};
 
 use crate::answer::{Answer, answer_to};
 use crate::input::{InputFault, read_whole};
@@ -38,7 +39,8 @@ fn stop<F: Write>(faults: &mut F, line: &[u8], status: u8) -> u8
 /// Reads the whole input, does the job, writes the whole output, and answers the exit status. One line goes to `faults`
 /// where the status isn't 0.
 ///
-/// What is written at status 0 is a function of the job and of the bytes read: `outcome`. At 3 nothing is written.
+/// What is written at status 0 is a function of the job and of the bytes read (`outcome`), and it lists exactly the exact
+/// covers of the input's problem, each once, in path order. At 3 nothing is written.
 pub fn run<R, I: Read, O: Write, F: Write>(
     _rt: &R,
     alloc: Global,
@@ -49,6 +51,8 @@ pub fn run<R, I: Read, O: Write, F: Write>(
 ) -> u8
     ensures done { result ≡ DONE → IfSome (I.remaining reader.old) (λ bytes. (text : List ℕ)
         × (outcome job bytes ≡ Ok text) × Appends (O.contents writer.old) (O.contents writer.new) text) }
+    ensures covers { result ≡ DONE → IfSome (I.remaining reader.old) (λ bytes. (text : List ℕ)
+        × IsListed job bytes text × Appends (O.contents writer.old) (O.contents writer.new) text) }
     ensures quiet { result ≡ DONE → Keeps (F.contents faults.old) (F.contents faults.new) }
     ensures refused { result ≡ REFUSED → IfSome (I.remaining reader.old) (λ bytes. (line : List ℕ)
         × (outcome job bytes ≡ Err line) × (n : ℕ) × Appends (F.contents faults.old) (F.contents faults.new) (take n line)) }

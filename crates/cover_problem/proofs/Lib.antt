@@ -15,3 +15,4 @@ pub mod GrammarLemmas
 pub mod WrittenLemmas
 pub mod WriterLemmas
 pub mod FirstFaultLemmas
+pub mod FairLemmas

@@ -4,6 +4,7 @@ pub mod Covering
 pub mod Path
 pub mod Coverable
 pub mod ExactCover
+pub mod Fair
 pub mod Table
 pub mod Plain
 pub mod Faults

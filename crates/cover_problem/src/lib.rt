@@ -3,6 +3,7 @@
 
 mod checks;
 mod draft;
+mod exact_cover;
 mod fault;
 mod key;
 pub mod laws;

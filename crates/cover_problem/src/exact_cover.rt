@@ -1,0 +1,128 @@
+//! Whether options are an exact cover.
+ghost use Rattle.std.specs.Prelude.{◌≡◌, ◌<◌, ◌≤◌, ◌↔◌, ◌∷◌, IsTrue, true, length, count_by, nat_le};
+ghost use Rattle.std.specs.List.{list_all, list_any};
+ghost use Rattle.cover_problem.specs.Lists.{are_distinct, has, numbers};
+ghost use Rattle.cover_problem.specs.Problem.{IsProblem, is_item, option_at};
+ghost use Rattle.cover_problem.specs.ExactCover.{IsExactCover};
+ghost use Rattle.cover_problem.specs.Fair as fair;
+
+use crate::problem::Problem;
+
+/// Whether each number is an option's.
+fn are_options(problem: &Problem, chosen: &[u32]) -> bool
+    ensures { result ≡ list_all (is_item (length problem.now.options)) chosen.now }
+{
+    let most = problem.options();
+    chosen.iter().all(|k| 0 < *k && *k <= most)
+}
+
+/// How many of the options have the item.
+fn occurrences(problem: &Problem, chosen: &[u32], item: u32) -> usize
+    requires { list_all (is_item (length problem.now.options)) chosen.now ≡ true }
+    ensures { result ≡ fair.occurrences problem.now chosen.now item }
+{
+    let mut count = 0;
+    for k in chosen {
+        count += usize::from(problem.option(*k).contains(&item));
+    }
+    count
+}
+
+/// Whether an item is in as many of the options as it may be: a primary item in one, another in at most one.
+fn is_fair(problem: &Problem, chosen: &[u32], item: u32) -> bool
+    requires { list_all (is_item (length problem.now.options)) chosen.now ≡ true }
+    ensures { result ≡ fair.is_fair problem.now chosen.now item }
+{
+    let count = occurrences(problem, chosen, item);
+    if item <= problem.primary() {
+        count == 1
+    } else {
+        count <= 1
+    }
+}
+
+/// Whether each item is in as many of the options as it may be.
+fn are_fair(problem: &Problem, chosen: &[u32]) -> bool
+    requires { list_all (is_item (length problem.now.options)) chosen.now ≡ true }
+    ensures { result ≡ list_all (fair.is_fair problem.now chosen.now) (numbers (length problem.now.names) 1) }
+{
+    for item in 1..problem.items() + 1 {
+        if !is_fair(problem, chosen, item) {
+            return false;
+        }
+    }
+    true
+}
+
+/// Whether an option has a primary item.
+fn is_useful(problem: &Problem, k: u32) -> bool
+    requires some { 0 < k }
+    requires within { k ≤ length problem.now.options }
+    ensures { result ≡ fair.is_useful problem.now k }
+{
+    let primary = problem.primary();
+    problem.option(k).iter().any(|item| *item <= primary)
+}
+
+/// Whether each option has a primary item.
+fn are_useful(problem: &Problem, chosen: &[u32]) -> bool
+    requires { list_all (is_item (length problem.now.options)) chosen.now ≡ true }
+    ensures { result ≡ list_all (fair.is_useful problem.now) chosen.now }
+{
+    for k in chosen {
+        if !is_useful(problem, *k) {
+            return false;
+        }
+    }
+    true
+}
+
+/// Whether these are options that pass each test of an exact cover.
+fn passes(problem: &Problem, chosen: &[u32]) -> bool
+    ensures { result ≡ fair.is_cover problem.now chosen.now }
+{
+    if !are_options(problem, chosen) {
+        return false;
+    }
+    are_fair(problem, chosen) && are_useful(problem, chosen)
+}
+
+impl Problem {
+    /// Whether these are the options of an exact cover, each once. Any numbers may come; it takes no memory.
+    pub fn is_exact_cover(&self, chosen: &[u32]) -> bool
+        ensures { IsTrue result ↔ ((are_distinct chosen.now ≡ true) × IsExactCover self.now (has chosen.now)) }
+    {
+        let _ = self.items();
+        passes(self, chosen)
+    }
+}
+
+#[cfg(test)]
+mod tests {
+    use crate::read_cover;
+    use std::test::Fail;
+
+    #[test]
+    fn exact_covers_are_told_from_others(rt: HostRuntime) -> Result<(), Fail> {
+        let small = read_cover(
+            rt.alloc(),
+            b"items a b c d e f g\noption c e\noption a d g\noption b c f\noption a d f\noption b g\noption d e g\n",
+        )?;
+        assert!(rt; small.is_exact_cover(&[1, 4, 5]));
+        assert!(rt; small.is_exact_cover(&[4, 5, 1]));
+        assert!(rt; !small.is_exact_cover(&[1, 1, 4, 5]));
+        assert!(rt; !small.is_exact_cover(&[1, 4]));
+        assert!(rt; !small.is_exact_cover(&[1, 4, 7]));
+        assert!(rt; !small.is_exact_cover(&[0, 1, 4, 5]));
+        assert!(rt; !small.is_exact_cover(&[]));
+        let secondary = read_cover(
+            rt.alloc(),
+            b"items a b\nmaybe c\noption a c\noption b c\noption a\noption b\noption c\n",
+        )?;
+        assert!(rt; !secondary.is_exact_cover(&[1, 2]));
+        assert!(rt; secondary.is_exact_cover(&[1, 4]));
+        assert!(rt; secondary.is_exact_cover(&[3, 4]));
+        assert!(rt; !secondary.is_exact_cover(&[3, 4, 5]));
+        Ok(())
+    }
+}

@@ -1,5 +1,5 @@
 -- The walk that chooses an item keeps the first of the shortest so far.
-use Rattle.std.proofs.Common.{◌≡◌, ◌≢◌, ℕ, ◌<◌, ◌≤◌, List, [], ◌∷◌, length, true, suc, is_some, nat_lt, lt-ltb, ◌⊎◌, inl, inr, Option, Some, None, IsSome, arith, refl, sym, ap, ◌∙◌, ◌-◌, subst}
+use Rattle.std.proofs.Common.{◌≡◌, ℕ, ◌<◌, ◌≤◌, List, [], ◌∷◌, length, true, suc, is_some, nat_lt, lt-ltb, ◌⊎◌, inl, inr, Option, Some, None, IsSome, arith, refl, sym, ap, ◌∙◌, ◌-◌, subst}
 use Rattle.std.proofs.lemmas.Bool.{cases_lt}
 use Rattle.cover_problem.specs.Lists.{has, above, RisesFrom}
 use Rattle.cover_problem.specs.Problem.{Cover}

@@ -1,13 +1,9 @@
 -- The place of an item in an option, and the items covered and uncovered one after the other.
-use Rattle.std.proofs.Common.{◌≡◌, ℕ, ◌+◌, ◌-◌, ◌<◌, ◌≤◌, ◌==◌, List, [], ◌∷◌, ◌++◌, length, true, arith, sym, ap, ◌∙◌, subst, append_assoc, append-nil, length-append, take, drop, min, refl}
+use Rattle.std.proofs.Common.{◌≡◌, ℕ, ◌+◌, ◌<◌, ◌≤◌, ◌==◌, List, [], ◌∷◌, ◌++◌, length, true, arith, sym, ap, ◌∙◌, append_assoc, append-nil, length-append, min, refl}
 use Rattle.std.proofs.lemmas.List.{length-take, same_from_push}
 use Rattle.std.specs.List.{position_or_len, before_first, after_first}
 use Rattle.cover_problem.specs.Lists.{has}
-use Rattle.cover_problem.specs.Problem.{Cover}
-use Rattle.cover_problem.specs.Path.{others}
-use Rattle.cover_problem.specs.Coverable.{CanCover}
 use Rattle.cover_problem.proofs.ListLemmas.{parts_are}
-use Rattle.cover_problem.proofs.CoveringLemmas.{can_parts}
 
 pub place_within : (i : ℕ) (option : List ℕ) → has option i ≡ true → position_or_len (λ x. x == i) option < length option
 place_within i option h =

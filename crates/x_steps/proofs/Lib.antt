@@ -6,6 +6,7 @@ pub mod RunLemmas
 pub mod SpanLemmas
 pub mod StateLemmas
 pub mod MachineLemmas
+pub mod BackLemmas
 pub mod Length
 pub mod OrderLemmas
 pub mod VisitLemmas

@@ -1,20 +1,20 @@
 -- A step forwards and a step backwards undo each other, and keep a state fitting.
-use Rattle.std.proofs.Common.{◌≡◌, ℕ, zero, suc, ◌+◌, ◌<◌, ◌≤◌, ◌⊎◌, nat_lt, Bool, true, false, not, cond, Option, Some, List, [], ◌∷◌, ◌++◌, length, refl, sym, ap, ◌∙◌, subst, inl, inr, ⊎_elim, arith, le_refl, le_trans, if◌then◌else◌}
+use Rattle.std.proofs.Common.{◌≡◌, ℕ, ◌⊎◌, true, false, Option, Some, List, [], ◌∷◌, ◌++◌, length, refl, ap, inl, inr, arith}
 use Rattle.std.specs.Prelude as prelude
-use Rattle.std.proofs.lemmas.Bool.{cases_Bool, ltb-true, ltb-false, lt-ltb, le-ltb}
-use Rattle.cover_problem.specs.Lists.{has, RisesFrom, above, below, last_of}
+use Rattle.std.proofs.lemmas.Bool.{cases_Bool, ltb-true, ltb-false, lt-ltb}
+use Rattle.cover_problem.specs.Lists.{RisesFrom, above, below, last_of}
 use Rattle.cover_problem.specs.Problem.{Cover}
-use Rattle.cover_problem.specs.Covering.{active, remaining, choice}
-use Rattle.cover_problem.specs.Path.{IsChoice, IsValid, covered_by}
-use Rattle.cover_problem.proofs.ListLemmas.{rises_member, above_is, above_none, above_from, above_none_from, below_is, below_none, below_from, below_none_from, below_above, above_below, last_is, last_none, above_last, last_above, last_first}
+use Rattle.cover_problem.specs.Covering.{active}
+use Rattle.cover_problem.specs.Path.{covered_by}
+use Rattle.cover_problem.proofs.ListLemmas.{rises_member, above_is, above_from, below_is, below_none, below_none_from, below_above, above_below, last_is, last_none, above_last, last_above, last_first}
 use Rattle.cover_problem.proofs.CoveringLemmas.{remaining_rises, valid_start, valid_push, valid_pop}
 use Rattle.x_steps.specs.declared.state.Label.{Label}
 use Rattle.x_steps.specs.declared.state.Label.TheVariants.{X1, X2, X3, X4, X5, X6, X7, X8, Done}
 use Rattle.x_steps.specs.declared.state.Cursor.{Cursor}
 use Rattle.x_steps.specs.declared.state.Cursor.TheVariants as cursor
 use Rattle.x_steps.specs.declared.state.Cursor.TheVariants.{At, Past}
-use Rattle.x_steps.specs.Place.{Place, at, start, done}
-use Rattle.x_steps.specs.Steps.{is_open, IsOpen, item_after, left, grown, split_last, cursor_of, FitsAt, Fits, taken_back, next_at, next, IsBefore}
+use Rattle.x_steps.specs.Place.{Place, at}
+use Rattle.x_steps.specs.Steps.{is_open, IsOpen, item_after, left, grown, split_last, cursor_of, FitsAt, Fits, taken_back, next_at, next}
 use Rattle.x_steps.specs.Before.{entered_from, came_from, prev_at, prev}
 
 pub split_last_push : (path : List ℕ) (o : ℕ) → split_last (path ++ o ∷ []) ≡ Some (path, o)

@@ -1,18 +1,18 @@
 -- Path order is the order of the run: of visits, of cuts, and of what lies below an option.
-use Rattle.std.proofs.Common.{◌≡◌, ℕ, zero, suc, ◌+◌, ◌*◌, ◌^◌, ◌<◌, ◌≤◌, ◌⊎◌, Bool, true, false, List, [], ◌∷◌, ◌++◌, map, length, refl, sym, ap, ap₂, ◌∙◌, subst, inl, inr, arith, le_refl, le_trans, append_assoc, length-append}
+use Rattle.std.proofs.Common.{◌≡◌, ℕ, zero, suc, ◌+◌, ◌*◌, ◌<◌, ◌⊎◌, List, [], ◌∷◌, ◌++◌, map, length, refl, sym, ap, ap₂, ◌∙◌, inl, inr, arith, append_assoc, length-append}
 use Rattle.std.proofs.lemmas.Bool.{cases_order}
 use Rattle.std.proofs.lemmas.List.{map-append, length-map}
 use Rattle.cover_problem.specs.Problem.{Cover}
-use Rattle.cover_problem.specs.Path.{IsChoice, taken, covered_from, IsValidFrom, IsValid, covered_by}
-use Rattle.cover_problem.proofs.CoveringLemmas.{choice_has, depth, valid_pop, valid_push}
+use Rattle.cover_problem.specs.Path.{taken, covered_from, IsValidFrom, IsValid, covered_by}
+use Rattle.cover_problem.proofs.CoveringLemmas.{choice_has, depth}
 use Rattle.cover_problem.proofs.CoverLemmas.{valid_split}
 use Rattle.x_steps.specs.declared.state.Label.{Label}
 use Rattle.x_steps.specs.declared.state.Label.TheVariants.{X1, X2, X3, X4, X5, X6, X7, X8, Done}
 use Rattle.x_steps.specs.declared.state.Cursor.{Cursor}
 use Rattle.x_steps.specs.declared.state.Cursor.TheVariants as cursor
 use Rattle.x_steps.specs.declared.state.Cursor.TheVariants.{At, Past}
-use Rattle.x_steps.specs.Place.{Place, at, start, done}
-use Rattle.x_steps.specs.Steps.{FitsAt, Fits}
+use Rattle.x_steps.specs.Place.{at}
+use Rattle.x_steps.specs.Steps.{FitsAt}
 use Rattle.x_steps.specs.Order.{PathLess}
 use Rattle.x_steps.specs.Rank.{digit_at, digits, number, rank}
 use Rattle.x_steps.proofs.RankLemmas.{AllBelow, number_less, short}

@@ -1,23 +1,22 @@
 -- Each step raises the rank of a fitting state.
-use Rattle.std.proofs.Common.{◌≡◌, ℕ, zero, suc, ◌+◌, ◌*◌, ◌^◌, ◌<◌, ◌≤◌, ◌⊎◌, nat_lt, Bool, true, false, not, cond, Option, Some, List, [], ◌∷◌, ◌++◌, map, length, refl, sym, ap, ◌∙◌, subst, inl, inr, ⊎_elim, arith, le_refl, le_trans, append_assoc, length-append, if◌then◌else◌}
+use Rattle.std.proofs.Common.{◌≡◌, ℕ, zero, suc, ◌+◌, ◌*◌, ◌^◌, ◌<◌, ◌⊎◌, true, false, Option, Some, List, [], ◌∷◌, ◌++◌, map, length, refl, ap, ◌∙◌, inl, inr, arith, append_assoc}
 use Rattle.std.proofs.Math.Nat.{pow-suc, pow-zero, mul-le-mul_right, suc-mul, mul_comm}
 use Rattle.std.proofs.lemmas.List.{map-append, length-map}
 use Rattle.std.specs.Prelude as prelude
-use Rattle.std.proofs.lemmas.Bool.{cases_Bool}
-use Rattle.cover_problem.specs.Lists.{has, RisesFrom, above, below, last_of}
+use Rattle.cover_problem.specs.Lists.{above}
 use Rattle.cover_problem.specs.Problem.{Cover}
-use Rattle.cover_problem.specs.Covering.{active, remaining, choice}
-use Rattle.cover_problem.specs.Path.{IsChoice, taken, covered_from, IsValidFrom, IsValid, covered_by}
-use Rattle.cover_problem.proofs.ListLemmas.{above_is, has_cases}
+use Rattle.cover_problem.specs.Covering.{active}
+use Rattle.cover_problem.specs.Path.{IsValid, covered_by}
+use Rattle.cover_problem.proofs.ListLemmas.{above_is}
 use Rattle.cover_problem.proofs.CoveringLemmas.{choice_has, depth, valid_pop}
 use Rattle.x_steps.specs.declared.state.Label.{Label}
 use Rattle.x_steps.specs.declared.state.Label.TheVariants.{X1, X2, X3, X4, X5, X6, X7, X8, Done}
 use Rattle.x_steps.specs.declared.state.Cursor.{Cursor}
 use Rattle.x_steps.specs.declared.state.Cursor.TheVariants as cursor
 use Rattle.x_steps.specs.declared.state.Cursor.TheVariants.{At, Past}
-use Rattle.x_steps.specs.Place.{Place, at, start, done}
+use Rattle.x_steps.specs.Place.{Place, at}
 use Rattle.x_steps.specs.Steps.{is_open, IsOpen, left, split_last, cursor_of, FitsAt, Fits, taken_back, next_at, next}
-use Rattle.x_steps.specs.Rank.{digit_at, digits, number, rank}
+use Rattle.x_steps.specs.Rank.{number, rank}
 use Rattle.x_steps.proofs.Neighbours.{split_last_push, split_last_cases, open_cases, left_rises}
 
 -- ---- numbers by digits

@@ -1,23 +1,19 @@
 -- The run meets exactly the fitting states, none twice, and ends; and how far one state is from another.
-use Rattle.std.proofs.Common.{◌≡◌, ℕ, zero, suc, ◌+◌, ◌*◌, ◌^◌, ◌-◌, ◌<◌, ◌≤◌, ◌⊎◌, nat_lt, Bool, true, false, not, cond, Option, Some, List, [], ◌∷◌, ◌++◌, map, length, filter, count_by, refl, sym, ap, ◌∙◌, subst, inl, inr, ⊎_elim, arith, le_refl, le_trans, append_assoc, append-nil, length-append, suc-add, zero-add, add-zero, if◌then◌else◌}
+use Rattle.std.proofs.Common.{◌≡◌, ℕ, zero, suc, ◌+◌, ◌-◌, ◌<◌, ◌≤◌, ◌⊎◌, true, false, Option, Some, List, refl, sym, ap, ◌∙◌, subst, inl, inr, arith, le_refl, suc-add, zero-add}
 use Rattle.std.specs.Prelude as prelude
 use Rattle.std.proofs.lemmas.Bool.{cases_Bool, cases_lt, cases_order, lt-ltb, le-ltb}
-use Rattle.std.proofs.lemmas.List.{map-append}
-use Rattle.std.proofs.lemmas.List.Elements.{filter-append}
 use Rattle.cover_problem.specs.Problem.{Cover}
-use Rattle.cover_problem.specs.Path.{IsValid}
-use Rattle.cover_problem.proofs.CoveringLemmas.{valid_start}
 use Rattle.x_steps.specs.declared.state.Label.{Label}
 use Rattle.x_steps.specs.declared.state.Label.TheVariants.{X1, X2, X3, X4, X5, X6, X7, X8, Done}
 use Rattle.x_steps.specs.declared.state.Cursor.{Cursor}
 use Rattle.x_steps.specs.declared.state.Cursor.TheVariants as cursor
 use Rattle.x_steps.specs.declared.state.Cursor.TheVariants.{At, Past}
 use Rattle.x_steps.specs.Place.{Place, at, start, done}
-use Rattle.x_steps.specs.Steps.{is_open, IsOpen, left, split_last, FitsAt, Fits, next_at, next, IsBefore}
-use Rattle.x_steps.specs.Before.{entered_from, came_from, prev_at, prev}
-use Rattle.x_steps.specs.Run.{after, states, distance, between, IsRun, Leads}
+use Rattle.x_steps.specs.Steps.{is_open, split_last, FitsAt, Fits, next, IsBefore}
+use Rattle.x_steps.specs.Before.{entered_from, came_from, prev}
+use Rattle.x_steps.specs.Run.{after, distance, between, IsRun, Leads}
 use Rattle.x_steps.specs.Rank.{rank}
-use Rattle.x_steps.proofs.Neighbours.{fits_next, fits_prev, prev_next, next_prev, open_cases}
+use Rattle.x_steps.proofs.Neighbours.{fits_next, fits_prev, prev_next, next_prev}
 use Rattle.x_steps.proofs.RankLemmas.{rank_next}
 
 -- ---- labels

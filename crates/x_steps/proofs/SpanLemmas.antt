@@ -1,19 +1,17 @@
 -- Stretches of the run: their states, visits and levels, and how stretches join.
-use Rattle.std.proofs.Common.{◌≡◌, ℕ, zero, suc, ◌+◌, ◌-◌, ◌<◌, ◌≤◌, ◌⊎◌, nat_lt, ◌==◌, Bool, true, false, not, ◌&&◌, cond, List, [], ◌∷◌, ◌++◌, map, length, filter, count_by, sum_by, get_or, refl, sym, ap, ap₂, ◌∙◌, subst, inl, inr, ⊎_elim, arith, le_refl, le_trans, append_assoc, append-nil, length-append, suc-add, zero-add, add-zero}
-use Rattle.std.proofs.lemmas.Bool.{cases_Bool, cases_lt, cases_order, lt-ltb, le-ltb}
+use Rattle.std.proofs.Common.{◌≡◌, ℕ, zero, suc, ◌+◌, ◌<◌, ◌≤◌, ◌⊎◌, ◌==◌, Bool, true, false, ◌&&◌, cond, List, [], ◌∷◌, ◌++◌, map, length, filter, get_or, refl, sym, ap, ap₂, ◌∙◌, inl, inr, arith, append_assoc, append-nil, length-append, suc-add, zero-add}
+use Rattle.std.proofs.lemmas.Bool.{cases_order}
 use Rattle.std.proofs.lemmas.List.{map-append, length-map, get_or-map}
 use Rattle.std.proofs.lemmas.List.Elements.{filter-append}
 use Rattle.std.proofs.lemmas.List.Sums.{sum_by-append}
 use Rattle.cover_problem.specs.Problem.{Cover}
 use Rattle.cover_problem.specs.Lists.{numbers}
 use Rattle.cover_problem.proofs.ListLemmas.{length-numbers}
-use Rattle.x_steps.specs.declared.state.Label.TheVariants.{X1, X2, X3, X4, X5, X6, X7, X8, Done}
-use Rattle.x_steps.specs.Place.{Place, at, start, done}
-use Rattle.x_steps.specs.Steps.{Fits, next, is_open, is_level, is_visit, is_entry}
-use Rattle.x_steps.specs.Run.{after, states, visits, entries, level_count, distance, between, span, seen, levels, Leads}
+use Rattle.x_steps.specs.declared.state.Label.TheVariants.{Done}
+use Rattle.x_steps.specs.Place.{Place}
+use Rattle.x_steps.specs.Steps.{Fits, next, is_level, is_visit, is_entry}
+use Rattle.x_steps.specs.Run.{after, states, visits, entries, level_count, between, span, seen, levels}
 use Rattle.x_steps.specs.Rank.{rank}
-use Rattle.x_steps.proofs.Neighbours.{fits_next}
-use Rattle.x_steps.proofs.RankLemmas.{rank_next}
 use Rattle.x_steps.proofs.RunLemmas.{after_add, leads_none, leads_push, leads_join, leads_to, between_is}
 
 -- ---- states

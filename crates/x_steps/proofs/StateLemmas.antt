@@ -1,21 +1,21 @@
 -- What a step covers and uncovers, and what a machine finds on the covered list.
-use Rattle.std.proofs.Common.{◌≡◌, ℕ, zero, suc, ◌+◌, ◌-◌, ◌<◌, ◌≤◌, ◌⊎◌, Bool, true, false, List, [], ◌∷◌, ◌++◌, length, get_or, refl, sym, ap, ◌∙◌, subst, inl, inr, arith, le_refl, le_trans, append_assoc, length-append}
+use Rattle.std.proofs.Common.{◌≡◌, ℕ, ◌+◌, ◌-◌, ◌<◌, ◌≤◌, ◌⊎◌, true, false, List, [], ◌∷◌, ◌++◌, length, get_or, refl, sym, ◌∙◌, inl, inr, arith}
 use Rattle.std.proofs.lemmas.List.{get_or_at}
 use Rattle.std.proofs.lemmas.Bool.{cases_Bool}
-use Rattle.cover_problem.specs.Lists.{has, above, below, last_of}
+use Rattle.cover_problem.specs.Lists.{has}
 use Rattle.cover_problem.specs.Problem.{Cover, IsProblem, option_at}
-use Rattle.cover_problem.specs.Covering.{active, remaining, list_of, choice}
+use Rattle.cover_problem.specs.Covering.{list_of}
 use Rattle.cover_problem.specs.Path.{others, taken, IsChoice, IsValid, covered_by}
 use Rattle.cover_problem.specs.Coverable.{IsUncovered, CanCover}
 use Rattle.cover_problem.specs.Table.{AreCovered}
-use Rattle.cover_problem.proofs.CoveringLemmas.{active_item, active_in, list_covered, list_uncovered, choice_active, choice_has, can_take, taken_is, length-taken, length-others, covered_by_push, covered_by_none, covered_path, covered_taken, covered_push, depth, valid_start}
+use Rattle.cover_problem.proofs.CoveringLemmas.{active_item, list_covered, list_uncovered, choice_active, choice_has, can_take, taken_is, length-taken, covered_by_push, covered_path, covered_taken, covered_push, depth, valid_start}
 use Rattle.x_steps.specs.declared.state.Label.{Label}
 use Rattle.x_steps.specs.declared.state.Label.TheVariants.{X1, X2, X3, X4, X5, X6, X7, X8, Done}
 use Rattle.x_steps.specs.declared.state.Cursor.{Cursor}
 use Rattle.x_steps.specs.declared.state.Cursor.TheVariants as cursor
 use Rattle.x_steps.specs.declared.state.Cursor.TheVariants.{At, Past}
-use Rattle.x_steps.specs.Place.{Place, at, start, done}
-use Rattle.x_steps.specs.Steps.{is_open, IsOpen, item_after, left, split_last, FitsAt, Fits, covered_at, covered_in, next_at, next}
+use Rattle.x_steps.specs.Place.{Place, at}
+use Rattle.x_steps.specs.Steps.{is_open, IsOpen, item_after, left, FitsAt, Fits, covered_at, covered_in, next_at, next}
 use Rattle.x_steps.specs.Before.{prev_at, prev}
 use Rattle.x_steps.proofs.Neighbours.{split_last_push, split_last_cases}
 

@@ -1,11 +1,9 @@
 -- The visits of the run rise in path order and are the exact covers, each once.
-use Rattle.std.proofs.Common.{◌≡◌, ℕ, zero, suc, ◌+◌, ◌<◌, ◌≤◌, ◌⊎◌, Bool, true, false, not, ◌&&◌, cond, List, [], ◌∷◌, ◌++◌, length, refl, sym, ap, ◌∙◌, subst, inl, inr, arith, le_refl, le_trans, append_assoc, append-nil}
-use Rattle.std.proofs.lemmas.Bool.{cases_Bool, cases_lt, cases_order, and_parts, not-true, ltb-false, le-ltb}
-use Rattle.cover_problem.specs.Lists.{has}
+use Rattle.std.proofs.Common.{◌≡◌, ℕ, zero, suc, ◌<◌, ◌≤◌, ◌⊎◌, Bool, true, false, not, cond, List, [], ◌∷◌, ◌++◌, length, refl, sym, ap, ◌∙◌, inl, inr, arith, le_refl, append-nil}
+use Rattle.std.proofs.lemmas.Bool.{cases_lt, not-true, ltb-false, le-ltb}
 use Rattle.cover_problem.specs.Problem.{Cover, IsProblem}
 use Rattle.cover_problem.specs.Covering.{active}
-use Rattle.cover_problem.specs.Path.{covered_from, IsValidFrom, IsValid, covered_by}
-use Rattle.cover_problem.specs.ExactCover.{IsExactCover}
+use Rattle.cover_problem.specs.Path.{IsValid, covered_by}
 use Rattle.cover_problem.proofs.CoverLemmas.{path_is_cover, cover_is_path, path_of_cover}
 use Rattle.x_steps.specs.declared.state.Label.{Label}
 use Rattle.x_steps.specs.declared.state.Label.TheVariants.{X1, X2, X3, X4, X5, X6, X7, X8, Done}
@@ -13,12 +11,12 @@ use Rattle.x_steps.specs.declared.state.Cursor.{Cursor}
 use Rattle.x_steps.specs.declared.state.Cursor.TheVariants as cursor
 use Rattle.x_steps.specs.declared.state.Cursor.TheVariants.{At, Past}
 use Rattle.x_steps.specs.Place.{Place, at, start, done}
-use Rattle.x_steps.specs.Steps.{is_open, FitsAt, Fits, is_level, is_visit, next}
+use Rattle.x_steps.specs.Steps.{is_open, FitsAt, Fits, is_visit}
 use Rattle.x_steps.specs.Order.{IsIn, PathLess, AllAfter, PathsRise}
 use Rattle.x_steps.specs.Covers.{AreCovers}
-use Rattle.x_steps.specs.Run.{after, states, visits, between, span, seen, Leads, IsRun}
+use Rattle.x_steps.specs.Run.{after, states, visits, between, seen}
 use Rattle.x_steps.specs.Rank.{rank}
-use Rattle.x_steps.proofs.RunLemmas.{start_fits, done_fits, after_fits, rises_between, run_leads, run_is_fitting, leads_to}
+use Rattle.x_steps.proofs.RunLemmas.{start_fits, after_fits, rises_between, run_leads, run_is_fitting, leads_to}
 use Rattle.x_steps.proofs.SpanLemmas.{visit_of, visits_push}
 use Rattle.x_steps.proofs.OrderLemmas.{rank_path}
 

@@ -5,7 +5,8 @@ use Rattle.cover_problem.specs.Covering.{active, remaining}
 use Rattle.x_steps.specs.declared.state.Label.{Label}
 use Rattle.x_steps.specs.declared.event.Event.{Event}
 use Rattle.x_steps.specs.Place.{Place}
-use Rattle.x_steps.specs.Steps.{Fits, covered_in, next, event_of}
+use Rattle.x_steps.specs.Steps.{Fits, covered_in, next, event_of, IsBefore}
+use Rattle.x_steps.specs.Before.{prev}
 
 -- a problem, and where its search stands
 pub record Position : Type 0 where
@@ -29,6 +30,12 @@ pub record Goes (old new : Position) (event : Event) : Type 0 where
   pub problem : new.problem ≡ old.problem
   pub state : new.state ≡ next old.problem old.state
   pub tells : event ≡ event_of old.problem old.state
+
+-- one step back, to the one state before
+pub record GoesBack (old new : Position) : Type 0 where
+  pub problem : new.problem ≡ old.problem
+  pub state : new.state ≡ prev old.problem old.state
+  pub before : IsBefore old.problem new.state old.state
 
 -- the active items, each with the options left for it
 abbrev pub remaining_items : Cover → List ℕ → List (ℕ × List ℕ)

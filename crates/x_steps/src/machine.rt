@@ -6,6 +6,8 @@ ghost use Rattle.x_steps.specs.Shown.{place};
 ghost use Rattle.x_steps.specs.Steps.{Fits, covered_in, next, event_of, cursor_of};
 ghost use Rattle.x_steps.specs.Machine.{IsAt, Goes};
 
+mod back;
+
 use crate::covering::{choose, cover_others, has_active, last_covered, uncover_last};
 use crate::event::Event;
 use crate::fault::StepFault;

@@ -36,10 +36,10 @@ module _ (p : Cover) (s t : Place) (subject : Cover) (covered : List ℕ) (room 
       fit = subst (Fits p) (sym n) (fits_prev p s k.fit);
       same = e ∙ k.same;
       stands = c;
-      path_fits = let f = k.path_fits in omega arith
+      path_fits = let f = k.path_fits in omega arith;
     };
     steps = n;
-    fit = k.fit
+    fit = k.fit;
   }
 
 -- ---- what fits at a label, whatever is known of the cursor
@@ -49,7 +49,7 @@ valid_at_X2 p path cursor.None f = f
 valid_at_X2 p path (At o) f = absurd f
 valid_at_X2 p path Past f = absurd f
 
-open_at_X5 : (p : Cover) (path : List ℕ) (k : Cursor) → FitsAt p X5 path k → IsOpen p path
+pub open_at_X5 : (p : Cover) (path : List ℕ) (k : Cursor) → FitsAt p X5 path k → IsOpen p path
 open_at_X5 p path cursor.None f = absurd f
 open_at_X5 p path (At o) f = f.1.active
 open_at_X5 p path Past f = f.1
@@ -88,7 +88,7 @@ module _ (p : Cover) (path : List ℕ) (at_cursor : Cursor) (subject : Cover) (c
     fit = valid_pop p new_path o (rw e at (valid_at_X2 p path at_cursor k.fit));
     same = k.same;
     stands = k.stands ∙ ap (covered_by p) e ∙ covered_by_push p new_path o;
-    path_fits = k.path_fits
+    path_fits = k.path_fits;
   }
 
   pub to_option : (new_path : List ℕ) (o : ℕ) (new_room count : ℕ) (new_subject : Cover) (mid : List ℕ) → path ≡ new_path ++ o ∷ [] → new_room ≡ room → new_subject ≡ subject
@@ -117,23 +117,23 @@ module _ (p : Cover) (path : List ℕ) (at_cursor : Cursor) (subject : Cover) (c
   pub some_chosen : Here X5 → 0 < length covered
   some_chosen k = let e = ap (length {A = ℕ}) (chosen_last k) in let n = length-append (covered_by p path) (item_after p path ∷ []) in omega arith
 
-  chosen_item : Here X5 → IsUncovered p (covered_by p path) (item_after p path)
-  chosen_item k = active_item p (covered_by p path) (item_after p path) k.sound (choice_active p (covered_by p path) (open_at_X5 p path at_cursor k.fit))
+  pub uncovered_item : Here X5 → IsUncovered p (covered_by p path) (item_after p path)
+  uncovered_item k = active_item p (covered_by p path) (item_after p path) k.sound (choice_active p (covered_by p path) (open_at_X5 p path at_cursor k.fit))
 
   module _ (item : ℕ) (last : (front : List ℕ) × (covered ≡ front ++ item ∷ [])) where
-    item_is : Here X5 → item ≡ item_after p path
+    pub item_is : Here X5 → item ≡ item_after p path
     item_is k = (same_from_push _ _ _ _ (sym last.1 ∙ chosen_last k)).1
 
     pub item_within : Here X5 → (0 < item) × (item ≤ length subject.names)
     item_within k =
-        let u = chosen_item k in
+        let u = uncovered_item k in
         rw (item_is k, k.same) (u.some, u.within)
 
     -- its list has the options left after the path
     pub list_is : Here X5 → list_of subject covered item ≡ left p path
     list_is k =
         ap (λ q. list_of q covered item) k.same ∙ ap (λ c. list_of p c item) (chosen_last k) ∙ ap (λ i. list_of p (covered_by p path ++ item_after p path ∷ []) i) (item_is k)
-        ∙ list_covered p (covered_by p path) (item_after p path) [] (chosen_item k).uncovered
+        ∙ list_covered p (covered_by p path) (item_after p path) [] (uncovered_item k).uncovered
 
     pub below_is : (o : ℕ) (found : Option ℕ) → found ≡ below o (list_of subject covered item) → Here X5 → found ≡ below o (left p path)
     below_is o found e k = e ∙ ap (below o) (list_is k)

@@ -48,7 +48,7 @@ uncovers_more all now new count done x u more e =
       standing = less.2;
       whole = u.whole ∙ ap (λ l. (u.front ++ l) ++ u.gone) less.1 ∙ ap (λ l. l ++ u.gone) (sym (append_assoc u.front less.0 (x ∷ []))) ∙ append_assoc (u.front ++ less.0) (x ∷ []) u.gone;
       left = let l = u.left in omega arith;
-      uncovered = let l = u.uncovered in omega arith
+      uncovered = let l = u.uncovered in omega arith;
     }
 
 pub uncovers_none : (all front back : List ℕ) (count : ℕ) → all ≡ front ++ back → length back ≡ count → Uncovers all all count 0
@@ -59,7 +59,7 @@ uncovers_none all front back count e h = record {
   standing = e;
   whole = e ∙ sym (append-nil (front ++ back));
   left = omega arith;
-  uncovered = refl
+  uncovered = refl;
 }
 
 -- all of them are uncovered

@@ -7,6 +7,8 @@ pub mod SpanLemmas
 pub mod StateLemmas
 pub mod MachineLemmas
 pub mod BackLemmas
+pub mod ListingLemmas
+pub mod ReadLemmas
 pub mod Length
 pub mod OrderLemmas
 pub mod VisitLemmas

@@ -37,10 +37,10 @@ module _ (p : Cover) (s t : Place) (event : Event) (subject : Cover) (covered : 
       fit = subst (Fits p) (sym n) (fits_next p s k.fit);
       same = e ∙ k.same;
       stands = c;
-      path_fits = let f = k.path_fits in omega arith
+      path_fits = let f = k.path_fits in omega arith;
     };
     steps = n;
-    tells = v
+    tells = v;
   }
 
 -- ---- what fits at a label, whatever is known of the cursor
@@ -121,7 +121,7 @@ module _ (p : Cover) (path : List ℕ) (at_cursor : Cursor) (subject : Cover) (c
   enters b e k = enters_by b (sym (e ∙ same_open k)) k
 
   -- X4
-  chosen_is : Here X4 → choice subject covered ≡ item_after p path
+  pub chosen_is : Here X4 → choice subject covered ≡ item_after p path
   unfolding covered_in
   chosen_is k = ap (λ q. choice q covered) k.same ∙ ap (λ c. choice p c) k.stands
 
@@ -200,10 +200,10 @@ module _ (p : Cover) (path : List ℕ) (at_cursor : Cursor) (subject : Cover) (c
 
   -- X6
   module _ (o : ℕ) (is_at : at_cursor ≡ At o) where
-    retry_at : Here X6 → IsValid p path × IsChoice p (covered_by p path) o
+    pub retry_at : Here X6 → IsValid p path × IsChoice p (covered_by p path) o
     retry_at k = subst (λ c. FitsAt p X6 path c) is_at k.fit
 
-    taken_at : Here X6 → covered ≡ (covered_by p path ++ item_after p path ∷ []) ++ others (item_after p path) (option_at p o)
+    pub taken_at : Here X6 → covered ≡ (covered_by p path ++ item_after p path ∷ []) ++ others (item_after p path) (option_at p o)
     unfolding covered_in
     taken_at k = k.stands ∙ (rw is_at (taken_is p (covered_by p path) o))
 
@@ -249,7 +249,7 @@ module _ (p : Cover) (path : List ℕ) (at_cursor : Cursor) (subject : Cover) (c
           went p _ _ _ subject covered room _ _ _ k same (omega arith) (rw is_at (ap (λ c. at X5 path c) reached)) refl (mid_is k)
 
   -- X7
-  last_at_X7 : Here X7 → covered ≡ covered_by p path ++ item_after p path ∷ []
+  pub last_at_X7 : Here X7 → covered ≡ covered_by p path ++ item_after p path ∷ []
   unfolding covered_in
   last_at_X7 k = k.stands
 
@@ -305,5 +305,5 @@ starts p subject covered path room sound same none empty fits = record {
   fit = empty;
   same = same;
   stands = none ∙ sym (ap (covered_by p) empty ∙ covered_by_none p);
-  path_fits = fits
+  path_fits = fits;
 }

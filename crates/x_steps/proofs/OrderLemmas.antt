@@ -30,6 +30,7 @@ path_cases (x ∷ q) (y ∷ r) = step (path_cases q r) (cases_order x y)
     tails e (inl l) = inl (inr (e, l))
     tails e (inr (inl f)) = inr (inl (ap₂ (λ (z : ℕ) (zs : List ℕ). z ∷ zs) e f))
     tails e (inr (inr l)) = inr (inr (inr (sym e, l)))
+
     step : PathLess q r ⊎ ((q ≡ r) ⊎ PathLess r q) → (x ≡ y) ⊎ ((x < y) ⊎ (y < x)) → PathLess (x ∷ q) (y ∷ r) ⊎ ((x ∷ q ≡ y ∷ r) ⊎ PathLess (y ∷ r) (x ∷ q))
     step ih (inl e) = tails e ih
     step ih (inr (inl l)) = inl (inl l)
@@ -116,6 +117,7 @@ cut_number p c (x ∷ q) [] o t (suc n) l v h = step h
     last : (q : List ℕ) → PathLess (q ++ o ∷ []) [] → ⊥
     last [] k = k
     last (z ∷ q) k = k
+
     step : (x < t) ⊎ ((x ≡ t) × PathLess (q ++ o ∷ []) []) → number (4 * length p.options + 9) (suc n) ((4 * x + 2) ∷ (map (λ o. 4 * o + 2) q ++ (4 * o + 1) ∷ [])) < number (4 * length p.options + 9) (suc n) ((4 * t + 1) ∷ [])
     step (inl k) = number_less (4 * length p.options + 9) (suc n) [] (4 * x + 2) (4 * t + 1) (map (λ o. 4 * o + 2) q ++ (4 * o + 1) ∷ []) [] (omega arith) (omega arith) (omega arith) (inside p (taken p c x) q o v.1)
       where
@@ -202,8 +204,8 @@ inside_below p q rest o e l k f m =
     let v = fits_valid p l (q ++ o ∷ rest) k f in
     let s = valid_split p [] q (o ∷ rest) v in
     rw (inside_digits q rest o (digit_at (length p.options) l k))
-      (number_less (4 * length p.options + 9) (suc p.primary) (map (λ o. 4 * o + 2) q) (4 * o + 2) e (map (λ o. 4 * o + 2) rest ++ digit_at (length p.options) l k ∷ []) [] (front_short p q rest o v) m (omega arith)
-        (below_digits p (taken p (covered_from p [] q) o) rest (digit_at (length p.options) l k) s.1.1 (digit_small p l (q ++ o ∷ rest) k f)))
+    (number_less (4 * length p.options + 9) (suc p.primary) (map (λ o. 4 * o + 2) q) (4 * o + 2) e (map (λ o. 4 * o + 2) rest ++ digit_at (length p.options) l k ∷ []) [] (front_short p q rest o v) m (omega arith)
+    (below_digits p (taken p (covered_from p [] q) o) rest (digit_at (length p.options) l k) s.1.1 (digit_small p l (q ++ o ∷ rest) k f)))
 
 -- before the option is left,
 pub inside_left : (p : Cover) (q rest : List ℕ) (o : ℕ) (l : Label) (k : Cursor) → FitsAt p l (q ++ o ∷ rest) k → rank p (at l (q ++ o ∷ rest) k) < rank p (at X6 q (At o))

@@ -139,6 +139,7 @@ rises_between p n s f g i (suc j) l m = step (cases_lt i j) (rises_between p n s
   where
     up : rank p (after p j s) < rank p (next p (after p j s))
     up = rank_next p (after p j s) (after_fits p j s f) (g j (omega arith))
+
     step : (i < j) ⊎ (j ≤ i) → (i < j → j ≤ n → rank p (after p i s) < rank p (after p j s)) → rank p (after p i s) < rank p (after p (suc j) s)
     step (inl a) ih = let b = ih a (omega arith) in let c = up in omega arith
     step (inr a) ih = let e : i ≡ j = omega arith in rw e up
@@ -175,6 +176,7 @@ leads_join p s t u m n a b = record { ends = sym (after_add p n m s) ∙ ap (aft
     past i c l = let d : (i - m) + m ≡ i = omega arith in
         let e : after p (i - m) t ≡ after p i s = ap (after p (i - m)) (sym a.ends) ∙ after_add p (i - m) m s ∙ ap (λ k. after p k s) d in
         rw (← e) (b.goes_on (i - m) (omega arith))
+
     step : (i : ℕ) → (i < m) ⊎ (m ≤ i) → i < n + m → (after p i s).label ≡ Done → ⊥
     step i (inl c) l = a.goes_on i c
     step i (inr c) l = past i c l
@@ -280,10 +282,12 @@ run_is_fitting p = record { ends = (run_leads p).ends; once = λ i j a b e. once
   where
     apart : (i j : ℕ) → i < j → j ≤ between p start done → after p i start ≡ after p j start → ⊥
     apart i j l m e = let r = rises_between p (between p start done) start (start_fits p) (run_leads p).goes_on i j l m in let h = ap (rank p) e in omega arith
+
     once : (i j : ℕ) → i ≤ between p start done → j ≤ between p start done → after p i start ≡ after p j start → (i ≡ j) ⊎ ((i < j) ⊎ (j < i)) → i ≡ j
     once i j a b e (inl h) = h
     once i j a b e (inr (inl l)) = absurd (apart i j l b e)
     once i j a b e (inr (inr l)) = absurd (apart j i l a (sym e))
+
     meets : (s : Place) → ((n : ℕ) × Leads p start s n) → Fits p s → (i : ℕ) × (i ≤ between p start done) × (after p i start ≡ s)
     meets s a f = (a.0, within (cases_lt (between p start done) a.0), a.1.ends)
       where

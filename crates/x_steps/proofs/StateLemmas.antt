@@ -56,7 +56,7 @@ level_is p path s v h =
       list = list_uncovered p (covered_by p path) (item_after p path) u.uncovered;
       list_covered = λ more. list_covered p (covered_by p path) (item_after p path) more u.uncovered;
       place = λ more d. get_or_at (covered_by p path) (item_after p path) more d (length (covered_by p path)) refl;
-      room = omega (arith, s.within)
+      room = omega (arith, s.within);
     }
 
 -- ---- where an option is at hand
@@ -85,12 +85,15 @@ option_is_at p path o s v h =
     let t = choice_has p (covered_by p path) o h in
     let l = level_is p path s v h.active in
     record {
-      some = t.some; within = t.within; member = h.left; item = t.item;
+      some = t.some;
+      within = t.within;
+      member = h.left;
+      item = t.item;
       can = (can_take p (covered_by p path) o s h).1;
       taken_is = taken_is p (covered_by p path) o;
       length_is = length-taken p (covered_by p path) o h;
       place = λ d. taken_place (covered_by p path) (item_after p path) (others (item_after p path) (option_at p o)) (length (taken p (covered_by p path) o)) (length (option_at p o)) d (length-taken p (covered_by p path) o h);
-      list = l.list_covered (others (item_after p path) (option_at p o))
+      list = l.list_covered (others (item_after p path) (option_at p o));
     }
 
 -- ---- what is covered are distinct items

@@ -92,6 +92,7 @@ in_visits p (suc n) s q f h = step (in_visits p n s q f) (in_append q (visits p 
     here true e (inl g) = (n, le_refl (suc n), rw (sym g) at (visit_is p (after p n s) (after_fits p n s f) e))
     here true e (inr g) = absurd g
     here false e g = absurd g
+
     step : (IsIn q (visits p (states p n s)) → (i : ℕ) × (i < n) × IsVisitOf p (after p i s) q) → IsIn q (visits p (states p n s)) ⊎ IsIn q (visit_of p (after p n s)) → (i : ℕ) × (i < suc n) × IsVisitOf p (after p i s) q
     step ih (inl a) = let r = ih a in (r.0, omega (arith, r.1), r.2)
     step ih (inr b) = here (is_visit p (after p n s)) refl b
@@ -106,6 +107,7 @@ visit_in p (suc n) s q i l v = rw (visits_push p (states p n s) (after p n s)) (
         let e = visit_from p (after p n s) q w in
         let g : visit_of p (after p n s) ≡ q ∷ [] = rw e (ap (λ (t : Place). t.path ∷ []) w.place) in
         rw g (in_last q (visits p (states p n s)))
+
     step : (i < n → IsIn q (visits p (states p n s))) → (i < n) ⊎ (n ≤ i) → IsIn q (visits p (states p n s) ++ visit_of p (after p n s))
     step ih (inl m) = in_left q (visits p (states p n s)) (visit_of p (after p n s)) (ih m)
     step ih (inr m) = let e : i ≡ n = omega arith in last (rw e at v)
@@ -122,6 +124,7 @@ visits_rise_from p (suc n) s f g = rw (visits_push p (states p n s) (after p n s
         let x = ap (rank p) (a.2).place in
         let y = ap (rank p) v.place in
         rank_path p r (after p n s).path (a.2).valid v.valid (omega arith)
+
     step : (b : Bool) → is_visit p (after p n s) ≡ b → PathsRise (visits p (states p n s)) → PathsRise (visits p (states p n s) ++ cond b ((after p n s).path ∷ []) [])
     step true e ih = rise_push (after p n s).path (visits p (states p n s)) ih (λ r i. less e r (in_visits p n s r f i))
     step false e ih = rw append-nil ih
@@ -158,7 +161,7 @@ seen_in p q v e = found ((run_is_fitting p).meets (at X2 q cursor.None) v)
 pub visits_are_covers : (p : Cover) → IsProblem p → AreCovers p (seen p start done)
 unfolding IsValid covered_by
 visits_are_covers p s = record {
-    sound = λ q i. let r = in_seen p q i in path_is_cover p q r.0 r.1;
-    complete = λ set e. let r = cover_is_path p set e in (r.0, seen_in p r.0 r.1 r.2, r.3);
-    once = λ q r i j e. let a = in_seen p q i in let b = in_seen p r j in path_of_cover p [] q r a.0 b.0 a.1 b.1 e
-  }
+  sound = λ q i. let r = in_seen p q i in path_is_cover p q r.0 r.1;
+  complete = λ set e. let r = cover_is_path p set e in (r.0, seen_in p r.0 r.1 r.2, r.3);
+  once = λ q r i j e. let a = in_seen p q i in let b = in_seen p r j in path_of_cover p [] q r a.0 b.0 a.1 b.1 e;
+}

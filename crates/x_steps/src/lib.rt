@@ -5,6 +5,7 @@ mod covering;
 mod event;
 mod fault;
 pub mod laws;
+mod listing;
 mod machine;
 mod state;
 

@@ -9,6 +9,7 @@ pub mod MachineLemmas
 pub mod BackLemmas
 pub mod ListingLemmas
 pub mod ReadLemmas
+pub mod MarkLemmas
 pub mod Length
 pub mod OrderLemmas
 pub mod VisitLemmas

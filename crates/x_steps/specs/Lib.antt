@@ -7,3 +7,5 @@ pub mod Order
 pub mod Covers
 pub mod Rank
 pub mod Machine
+pub mod Marks
+pub mod Faults

@@ -44,7 +44,7 @@ module _ (p : Cover) (s t : Place) (subject : Cover) (covered : List ℕ) (room 
 
 -- ---- what fits at a label, whatever is known of the cursor
 
-valid_at_X2 : (p : Cover) (path : List ℕ) (k : Cursor) → FitsAt p X2 path k → IsValid p path
+pub valid_at_X2 : (p : Cover) (path : List ℕ) (k : Cursor) → FitsAt p X2 path k → IsValid p path
 valid_at_X2 p path cursor.None f = f
 valid_at_X2 p path (At o) f = absurd f
 valid_at_X2 p path Past f = absurd f

@@ -10,6 +10,7 @@ pub mod BackLemmas
 pub mod ListingLemmas
 pub mod ReadLemmas
 pub mod MarkLemmas
+pub mod ResumeLemmas
 pub mod Length
 pub mod OrderLemmas
 pub mod VisitLemmas

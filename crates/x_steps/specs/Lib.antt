@@ -9,3 +9,4 @@ pub mod Rank
 pub mod Machine
 pub mod Marks
 pub mod Faults
+pub mod Resume

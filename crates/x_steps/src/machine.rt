@@ -6,6 +6,7 @@ ghost use Rattle.x_steps.specs.Shown.{place};
 ghost use Rattle.x_steps.specs.Steps.{Fits, covered_in, next, event_of, cursor_of};
 ghost use Rattle.x_steps.specs.Machine.{IsAt, Goes};
 
+mod at;
 mod back;
 mod read;
 

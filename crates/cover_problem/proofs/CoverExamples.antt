@@ -1,7 +1,6 @@
 -- The examples of the definitions, computed on the small problem.
-use Rattle.std.proofs.Common.{◌≡◌, ℕ, Bool, true, List, [], ◌∷◌, refl, codes}
-use Rattle.cover_problem.specs.Lists.{above, below}
-use Rattle.cover_problem.specs.Problem.{Cover, is_small, is_name, are_new, size_of}
+use Rattle.std.proofs.Common.{◌≡◌, true, [], ◌∷◌, refl, codes}
+use Rattle.cover_problem.specs.Problem.{Cover, is_small, size_of}
 use Rattle.cover_problem.specs.Covering.{active, remaining, list_of, choice}
 use Rattle.cover_problem.specs.Path.{covered_by, taken, others}
 

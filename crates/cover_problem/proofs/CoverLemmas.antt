@@ -1,11 +1,11 @@
 -- The valid paths that leave no item active are the exact covers, each once.
-use Rattle.std.proofs.Common.{◌≡◌, ℕ, zero, suc, ◌+◌, ◌-◌, ◌<◌, ◌≤◌, ◌⊎◌, ◌==◌, Bool, true, false, not, ◌&&◌, ◌||◌, List, [], ◌∷◌, ◌++◌, length, refl, sym, ap, ◌∙◌, subst, inl, inr, ⊎_elim, arith, le_refl, le_trans}
+use Rattle.std.proofs.Common.{◌≡◌, ℕ, zero, suc, ◌<◌, ◌≤◌, ◌⊎◌, Bool, true, false, not, List, [], ◌∷◌, ◌++◌, length, refl, sym, ap, ◌∙◌, inl, inr, arith, le_refl}
 use Rattle.std.specs.List.{list_any}
-use Rattle.std.proofs.lemmas.Bool.{false≢true, or_left, or_right, or_parts, and_from, cases_Bool, cases_eq, cases_order, eqb-true, eq-eqb, ne_eqb, not-true, not_from_false, both_ways, false_from_ne_true, true_from_ne_false}
+use Rattle.std.proofs.lemmas.Bool.{false≢true, and_from, cases_Bool, cases_eq, cases_order, ne_eqb, not_from_false, both_ways, false_from_ne_true, true_from_ne_false}
 use Rattle.cover_problem.specs.Lists.{has, are_distinct}
 use Rattle.cover_problem.specs.Problem.{Cover, option_at}
-use Rattle.cover_problem.specs.Covering.{active, is_left, remaining, choice}
-use Rattle.cover_problem.specs.Path.{others, taken, IsChoice, covered_from, IsValidFrom, covered_by, IsValid}
+use Rattle.cover_problem.specs.Covering.{active, choice}
+use Rattle.cover_problem.specs.Path.{others, taken, IsChoice, covered_from, IsValidFrom}
 use Rattle.cover_problem.specs.ExactCover.{IsExactCover}
 use Rattle.cover_problem.proofs.ListLemmas.{has_cases, has_here, has_later, has_append_cases, has_append_left, has_append_right, none_member, none_from, has_some}
 use Rattle.cover_problem.proofs.CoveringLemmas.{IsTaken, active_in, active_from, remaining_from, choice_active, choice_has, choice_falls, others_in, others_has, covered_from_push, valid_from_push}
@@ -27,6 +27,7 @@ taken_cases p c o i h m = step (has_append_cases c (choice p c ∷ others (choic
     within : (choice p c ≡ i) ⊎ (has (others (choice p c) (option_at p o)) i ≡ true) → has (option_at p o) i ≡ true
     within (inl e) = rw e at ((choice_has p c o h).item)
     within (inr n) = others_in (choice p c) (option_at p o) i (choice_has p c o h).item n
+
     step : (has c i ≡ true) ⊎ (has (choice p c ∷ others (choice p c) (option_at p o)) i ≡ true) → (has c i ≡ true) ⊎ (has (option_at p o) i ≡ true)
     step (inl a) = inl a
     step (inr b) = inr (within (has_cases (choice p c) (others (choice p c) (option_at p o)) i b))
@@ -64,6 +65,7 @@ path_apart p c (x ∷ path) b i v h m = step (λ n. path_apart p (taken p c x) p
   where
     here : has (option_at p x) i ≡ false
     here = false_from_ne_true (has (option_at p x) i) (λ n. both_ways (has c i) (none_member (has c) (option_at p x) i (choice_has p c x v.0).free n) m)
+
     step : (has path b ≡ true → has (option_at p b) i ≡ false) → (x ≡ b) ⊎ (has path b ≡ true) → has (option_at p b) i ≡ false
     step ih (inl e) = rw e at here
     step ih (inr n) = ih n
@@ -76,6 +78,7 @@ path_covers p c (x ∷ path) i v h = step (path_covers p (taken p c x) path i v.
     found : (has c i ≡ true) ⊎ (has (option_at p x) i ≡ true) → (has c i ≡ true) ⊎ ((o : ℕ) × (has (x ∷ path) o ≡ true) × (has (option_at p o) i ≡ true))
     found (inl a) = inl a
     found (inr b) = inr (x, has_here x path, b)
+
     step : (has (taken p c x) i ≡ true) ⊎ ((o : ℕ) × (has path o ≡ true) × (has (option_at p o) i ≡ true)) → (has c i ≡ true) ⊎ ((o : ℕ) × (has (x ∷ path) o ≡ true) × (has (option_at p o) i ≡ true))
     step (inl a) = found (taken_cases p c x i v.0 a)
     step (inr b) = inr (b.0, has_later x path b.0 b.1, b.2)
@@ -95,6 +98,7 @@ path_once p c (x ∷ path) i a b v h k m n = step (λ s t. path_once p (taken p 
   where
     apart : (y : ℕ) → has path y ≡ true → has (option_at p x) i ≡ true → has (option_at p y) i ≡ true → ⊥
     apart y s t u = both_ways (has (option_at p y) i) (path_apart p (taken p c x) path y i v.1 s (taken_covers p c x i v.0 t)) u
+
     step : (has path a ≡ true → has path b ≡ true → a ≡ b) → (x ≡ a) ⊎ (has path a ≡ true) → (x ≡ b) ⊎ (has path b ≡ true) → a ≡ b
     step ih (inl e) (inl f) = sym e ∙ f
     step ih (inl e) (inr t) = absurd (apart b t (rw e m) n)
@@ -116,6 +120,7 @@ path_useful p c (x ∷ path) o v h = step (path_useful p (taken p c x) path o v.
   where
     here : IsTaken p c x → (i : ℕ) × (0 < i) × (i ≤ p.primary) × (has (option_at p x) i ≡ true)
     here t = let r = active_in p c (choice p c) t.chosen in (choice p c, r.1, r.2, t.item)
+
     step : (has path o ≡ true → (i : ℕ) × (0 < i) × (i ≤ p.primary) × (has (option_at p o) i ≡ true)) → (x ≡ o) ⊎ (has path o ≡ true) → (i : ℕ) × (0 < i) × (i ≤ p.primary) × (has (option_at p o) i ≡ true)
     step ih (inl e) = rw e at (here (choice_has p c x v.0))
     step ih (inr n) = ih n
@@ -128,11 +133,11 @@ none_active p c i e a b = true_from_ne_false (has c i) (λ n. let l = has_some (
 
 pub path_is_cover : (p : Cover) (path : List ℕ) → IsValidFrom p [] path → length (active p (covered_from p [] path)) ≡ 0 → IsExactCover p (has path)
 path_is_cover p path v e = record {
-    options = λ o h. path_range p [] path o v h;
-    covers = λ i a b. found i (path_covers p [] path i v (none_active p (covered_from p [] path) i e a b));
-    once = λ i a b h k m n. path_once p [] path i a b v h k m n;
-    useful = λ o h. path_useful p [] path o v h
-  }
+  options = λ o h. path_range p [] path o v h;
+  covers = λ i a b. found i (path_covers p [] path i v (none_active p (covered_from p [] path) i e a b));
+  once = λ i a b h k m n. path_once p [] path i a b v h k m n;
+  useful = λ o h. path_useful p [] path o v h;
+}
   where
     found : (i : ℕ) → (has [] i ≡ true) ⊎ ((o : ℕ) × (has path o ≡ true) × (has (option_at p o) i ≡ true)) → (o : ℕ) × (has path o ≡ true) × (has (option_at p o) i ≡ true)
     found i (inl a) = absurd (false≢true a)
@@ -149,11 +154,13 @@ next_option p set s path is l = found (s.covers (choice p (covered_from p [] pat
   where
     chosen : has (active p (covered_from p [] path)) (choice p (covered_from p [] path)) ≡ true
     chosen = choice_active p (covered_from p [] path) l
+
     clash : (o x : ℕ) → set o ≡ true → has (option_at p o) (choice p (covered_from p [] path)) ≡ true → has (option_at p o) x ≡ true → (has [] x ≡ true) ⊎ ((b : ℕ) × (has path b ≡ true) × (has (option_at p b) x ≡ true)) → ⊥
     clash o x t m n (inl a) = false≢true a
     clash o x t m n (inr b) =
         let e : o ≡ b.0 = s.once x o b.0 t (is.within b.0 b.1) n b.2 in
         both_ways (has (covered_from p [] path) (choice p (covered_from p [] path))) (active_in p (covered_from p [] path) (choice p (covered_from p [] path)) chosen).0 (path_item p [] path b.0 (choice p (covered_from p [] path)) is.valid b.1 (rw e at m))
+
     found : ((o : ℕ) × (set o ≡ true) × (has (option_at p o) (choice p (covered_from p [] path)) ≡ true)) → (o : ℕ) × IsChoice p (covered_from p [] path) o × (set o ≡ true)
     found r =
         let free = none_from (has (covered_from p [] path)) (option_at p r.0) (λ x n. false_from_ne_true (has (covered_from p [] path) x) (λ k. clash r.0 x r.1 r.2 n (path_covers p [] path x is.valid k))) in
@@ -171,11 +178,13 @@ grow p set s (suc fuel) path is l = step (λ o. grow p set s fuel (path ++ o ∷
         last : (o ≡ x) ⊎ (has [] x ≡ true) → set x ≡ true
         last (inl e) = rw e at t
         last (inr n) = absurd (false≢true n)
+
     longer : ((o : ℕ) → IsPathOf p set (path ++ o ∷ []) → length (active p (covered_from p [] (path ++ o ∷ []))) ≤ fuel → (r : List ℕ) × IsPathOf p set r × (length (active p (covered_from p [] r)) ≡ 0)) → ((o : ℕ) × IsChoice p (covered_from p [] path) o × (set o ≡ true)) → (r : List ℕ) × IsPathOf p set r × (length (active p (covered_from p [] r)) ≡ 0)
     longer ih r =
         let falls = choice_falls p (covered_from p [] path) r.0 r.1 in
         let e = ap (λ c. length (active p c)) (covered_from_push p [] path r.0) in
         ih r.0 (record { valid = valid_from_push p [] path r.0 is.valid r.1; within = λ x h. member r.0 r.2 x (has_append_cases path (r.0 ∷ []) x h) }) (omega arith)
+
     step : ((o : ℕ) → IsPathOf p set (path ++ o ∷ []) → length (active p (covered_from p [] (path ++ o ∷ []))) ≤ fuel → (r : List ℕ) × IsPathOf p set r × (length (active p (covered_from p [] r)) ≡ 0)) → (length (active p (covered_from p [] path)) ≡ 0) ⊎ ((length (active p (covered_from p [] path)) < 0) ⊎ (0 < length (active p (covered_from p [] path)))) → (r : List ℕ) × IsPathOf p set r × (length (active p (covered_from p [] r)) ≡ 0)
     step ih (inl e) = (path, is, e)
     step ih (inr (inl k)) = absurd (omega arith)
@@ -193,6 +202,7 @@ cover_is_path p set s = finish (grow p set s (length (active p [])) [] (record {
             found : (has [] u.0 ≡ true) ⊎ ((b : ℕ) × (has r.0 b ≡ true) × (has (option_at p b) u.0 ≡ true)) → has r.0 o ≡ true
             found (inl a) = absurd (false≢true a)
             found (inr b) = let e : o ≡ b.0 = s.once u.0 o b.0 t (r.1.within b.0 b.1) u.3 b.2 in rw e b.1
+
         same : (o : ℕ) → (has r.0 o ≡ true) ⊎ (has r.0 o ≡ false) → (set o ≡ true) ⊎ (set o ≡ false) → has r.0 o ≡ set o
         same o (inl a) (inl b) = a ∙ sym b
         same o (inl a) (inr b) = absurd (both_ways (set o) b (r.1.within o a))
@@ -208,9 +218,11 @@ path_of_cover p c (x ∷ q) (y ∷ r) v w a b e = step (path_of_cover p (taken p
   where
     same : x ≡ y
     same = path_once p c (x ∷ q) (choice p c) x y v (has_here x q) (e y ∙ has_here y r) (choice_has p c x v.0).item (choice_has p c y w.0).item
+
     tails : has q x ≡ false → has r x ≡ false → (o : ℕ) → (x ≡ o) ⊎ (x ≡ o → ⊥) → has (x ∷ q) o ≡ has (x ∷ r) o → has q o ≡ has r o
     tails m n o (inl f) g = rw f at (m ∙ sym n)
     tails m n o (inr f) g = let h = ne_eqb x o f in rw h at g
+
     step : (IsValidFrom p (taken p c x) r → length (active p (covered_from p (taken p c x) q)) ≡ 0 → length (active p (covered_from p (taken p c x) r)) ≡ 0 → ((o : ℕ) → has q o ≡ has r o) → q ≡ r) → x ≡ y → x ∷ q ≡ y ∷ r
     step ih f =
         let w' : IsValidFrom p c (x ∷ r) = rw f w in

@@ -2,3 +2,11 @@ pub mod CoverExamples
 pub mod ListLemmas
 pub mod CoveringLemmas
 pub mod CoverLemmas
+pub mod ProblemLemmas
+pub mod TableLemmas
+pub mod ReadingLemmas
+pub mod BegunLemmas
+pub mod GrammarLemmas
+pub mod WrittenLemmas
+pub mod WriterLemmas
+pub mod FirstFaultLemmas

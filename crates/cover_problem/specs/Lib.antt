@@ -5,3 +5,10 @@ pub mod Path
 pub mod Coverable
 pub mod ExactCover
 pub mod Table
+pub mod Plain
+pub mod Faults
+pub mod Making
+pub mod Marks
+pub mod Reading
+pub mod FirstFault
+pub mod Grammar

@@ -3,11 +3,12 @@
 --
 -- Example: the small problem has the items a to g, all of them primary, and the options
 -- c e, a d g, b c f, a d f, b g and d e g, numbered from 1.
-use Rattle.std.specs.Prelude.{ℕ, ◌+◌, ◌-◌, ◌≤◌, ◌<◌, ◌≡◌, nat_lt, nat_le, ◌==◌, Bool, true, not, ◌&&◌, ◌||◌, List, [], ◌∷◌, length, sum_by}
+use Rattle.std.specs.Prelude.{ℕ, ◌+◌, ◌-◌, ◌≤◌, ◌<◌, ◌≡◌, nat_lt, nat_le, ◌==◌, Bool, true, not, ◌&&◌, ◌||◌, List, [], ◌∷◌, length, sum_by, Option, option_map, position}
 use Rattle.std.specs.List.{list_all, list_any, slice_index_or}
 use Rattle.std.specs.Str.{bytes_eq}
+use Rattle.std.specs.Cmp.Lexicographic.{pointwise}
 use Rattle.cover_problem.specs.declared.limits.TheConstants.{MOST_ITEMS, MOST_OPTIONS, MOST_ENTRIES, MOST_NAME_BYTES}
-use Rattle.cover_problem.specs.Lists.{has, are_distinct}
+use Rattle.cover_problem.specs.Lists.{are_distinct}
 
 -- items with these names, numbered from 1, of which the first `primary` have to be covered and the others may be;
 -- and options, numbered from 1, each a list of items
@@ -31,6 +32,10 @@ option_at p k = slice_index_or p.options (k - 1) []
 -- the name of the item numbered i
 abbrev pub name_at : List (List ℕ) → ℕ → List ℕ
 name_at names i = slice_index_or names (i - 1) []
+
+-- the number of the item with a name
+abbrev pub item_named : List (List ℕ) → List ℕ → Option ℕ
+item_named names name = option_map (λ i. i + 1) (position (bytes_eq name) names)
 
 -- a letter, a digit or `_`
 abbrev pub is_name_byte : ℕ → Bool
@@ -60,6 +65,10 @@ size_of p = length p.names + sum_by length p.options + length p.options + 2
 -- whether it is within the limits
 abbrev pub is_small : Cover → Bool
 is_small p = nat_le (length p.names) MOST_ITEMS && nat_le (length p.options) MOST_OPTIONS && nat_le (size_of p) MOST_ENTRIES
+
+-- whether two problems are equal
+abbrev pub is_same : Cover → Cover → Bool
+is_same p q = (p.primary == q.primary) && pointwise bytes_eq p.names q.names && pointwise bytes_eq p.options q.options
 
 -- what is a problem
 pub record IsProblem (p : Cover) : Type 0 where

@@ -1,8 +1,13 @@
 //! Laws of the definitions: each is a function that does nothing, whose contract is the law.
-ghost use Rattle.std.specs.Prelude.{ℕ, ◌≡◌, ◌<◌, ◌≤◌, List, length, true};
+ghost use Rattle.std.specs.Prelude.{ℕ, ◌≡◌, ◌<◌, ◌≤◌, ◌↔◌, List, length, true, Ok, Err};
 ghost use Rattle.cover_problem.specs.Lists.{has};
-ghost use Rattle.cover_problem.specs.Problem.{Cover};
+ghost use Rattle.cover_problem.specs.declared.fault.Fault.{Fault};
+ghost use Rattle.cover_problem.specs.declared.fault.Fault.TheVariants.{NoItemLine};
+ghost use Rattle.cover_problem.specs.Problem.{Cover, IsProblem};
 ghost use Rattle.cover_problem.specs.Covering.{active, remaining, choice};
+ghost use Rattle.cover_problem.specs.Reading.{problem_of};
+ghost use Rattle.cover_problem.specs.FirstFault.{IsFirstFault, LacksItems};
+ghost use Rattle.cover_problem.specs.Grammar.{IsCoverText, written};
 
 /// The choice is the first of the active items with the fewest options left.
 pub fn choice_is_first_shortest()
@@ -11,5 +16,31 @@ pub fn choice_is_first_shortest()
         length (remaining p c (choice p c)) ≤ length (remaining p c i) }
     ensures first { (p : Cover) (c : List ℕ) (i : ℕ) → has (active p c) i ≡ true → i < choice p c →
         length (remaining p c (choice p c)) < length (remaining p c i) }
+{
+}
+
+/// What is written is read as the same problem.
+pub fn written_is_read()
+    ensures { (p : Cover) → IsProblem p → problem_of (written p) ≡ Ok p }
+{
+}
+
+/// What is written is a text of its problem.
+pub fn written_is_text()
+    ensures { (p : Cover) → IsProblem p → IsCoverText (written p) p }
+{
+}
+
+/// The texts that are read are those of the grammar, and each is read as its problem.
+pub fn texts_are_read()
+    ensures { (text : List ℕ) (p : Cover) → ((problem_of text ≡ Ok p) ↔ IsCoverText text p) }
+{
+}
+
+/// A fault of a line is the first: the lines before it are read, and this line is judged to have it. The fault of the
+/// whole text is that all lines are read and none of them is an `items` line.
+pub fn fault_is_first()
+    ensures line { (text : List ℕ) (f : Fault) (n : ℕ) → 0 < n → ((problem_of text ≡ Err (f, n)) ↔ IsFirstFault text f n) }
+    ensures whole { (text : List ℕ) (f : Fault) → ((problem_of text ≡ Err (f, 0)) ↔ ((f ≡ NoItemLine) × LacksItems text)) }
 {
 }

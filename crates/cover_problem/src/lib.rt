@@ -1,11 +1,28 @@
 //! Exact cover problems, their texts, and the table that a search stands on.
 #![tactic(auto)]
 
+mod checks;
+mod draft;
+mod fault;
+mod key;
 pub mod laws;
 mod limits;
+mod name;
+mod plain;
 mod problem;
+mod reading;
 mod table;
+mod writing;
 
+pub use fault::{CoverFault, Fault, ProblemFault, Refused};
 pub use limits::{MOST_ENTRIES, MOST_ITEMS, MOST_NAME_BYTES, MOST_OPTIONS};
+pub use plain::PlainTable;
 pub use problem::Problem;
+pub use reading::read_cover;
 pub use table::Table;
+pub use writing::write_cover;
+
+#[cfg(test)]
+mod table_tests;
+#[cfg(test)]
+mod text_tests;

@@ -1,16 +1,22 @@
 //! An exact cover problem.
-ghost use Rattle.std.specs.Prelude.{◌≡◌, ◌<◌, ◌≤◌, length};
-ghost use Rattle.cover_problem.specs.Problem.{IsProblem, option_at};
+ghost use Rattle.std.specs.Prelude.{◌≡◌, ◌<◌, ◌≤◌, Ok, length, map, IfOk, IfErr, true, IsTrue, ◌↔◌, bytes_eq, position};
+ghost use Rattle.std.specs.Cmp.Lexicographic.{pointwise};
+ghost use Rattle.std.specs.List.{list_all};
+ghost use Rattle.std.specs.String.{string_bytes};
+ghost use Rattle.cover_problem.specs.Problem.{IsProblem, is_name, option_at, name_at, item_named, is_same};
+ghost use Rattle.cover_problem.specs.Making.{made, IsFaultOf};
 
-use crate::limits::MOST_NAME_BYTES;
-use arrayvec::ArrayString;
+use crate::checks::checked_names;
+use crate::fault::{ProblemFault, Refused};
+use crate::name::Name;
 use indexmap::IndexSet;
+use std::alloc::{AllocError, Global};
 use std::marker::Model;
 
 /// Items with names, of which the first have to be covered, and options.
 #[derive(Drop)]
 pub struct Problem {
-    names: IndexSet<ArrayString<MOST_NAME_BYTES>>,
+    names: IndexSet<Name>,
     primary: u32,
     options: Vec<Vec<u32>>,
 }
@@ -26,13 +32,98 @@ impl Model for Problem {
     ghost invariant = { λ a. IsProblem (record { names = map (λ n. n.bytes) a.names.keys; primary = a.primary; options = map (λ o. o.items) a.options.items }) };
 }
 
+/// Whether the names are the same, in the same order.
+fn are_same_names(names: &[Name], others: &[Name]) -> bool
+    ensures { result ≡ pointwise bytes_eq (map (λ n. n.bytes) names.now) (map (λ n. n.bytes) others.now) }
+{
+    names == others
+}
+
+/// Whether the options are the same.
+fn are_same_options(options: &[Vec<u32>], others: &[Vec<u32>]) -> bool
+    ensures { result ≡ pointwise bytes_eq (map (λ o. o.items) options.now) (map (λ o. o.items) others.now) }
+{
+    options == others
+}
+
+/// Where a name stands.
+fn place_of(names: &IndexSet<Name>, name: &str) -> Option<usize>
+    requires { list_all is_name (map (λ n. n.bytes) names.now.keys) ≡ true }
+    ensures { result ≡ position (bytes_eq name.now) (map (λ n. n.bytes) names.now.keys) }
+{
+    let key = Name::from(name).ok()?;
+    names.get_index_of(&key)
+}
+
 impl Problem {
+    /// The problem of items with these names, of which the first `primary` have to be covered, and these options, each a list
+    /// of item numbers from 1. A refusal is the first fault, and hands back both lists.
+    pub fn new(
+        alloc: Global,
+        names: Vec<String>,
+        primary: u32,
+        options: Vec<Vec<u32>>,
+    ) -> Result<Problem, Refused<ProblemFault, (Vec<String>, Vec<Vec<u32>>)>>
+        ensures made { IfOk result (λ p. made (map string_bytes names.items) primary (map (λ o. o.items) options.items) ≡ Ok p) }
+        ensures parts { IfOk result (λ p. p ≡ record { names = map string_bytes names.items; primary = primary; options = map (λ o. o.items) options.items }) }
+        ensures refused { IfErr result (λ r. IsFaultOf r.fault (made (map string_bytes names.items) primary (map (λ o. o.items) options.items))) }
+        ensures given { IfErr result (λ r. r.given ≡ (names, options)) }
+    {
+        match checked_names(alloc, &names, primary, &options) {
+            Ok(names) => Ok(Problem {
+                names,
+                primary,
+                options,
+            }),
+            Err(fault) => Err(Refused {
+                fault,
+                given: (names, options),
+            }),
+        }
+    }
+
+    /// The problem of parts that are known to make one.
+    pub(crate) fn from_parts(names: IndexSet<Name>, primary: u32, options: Vec<Vec<u32>>) -> Problem
+        requires { IsProblem (record { names = map (λ n. n.bytes) names.keys; primary = primary; options = map (λ o. o.items) options.items }) }
+        ensures { result ≡ record { names = map (λ n. n.bytes) names.keys; primary = primary; options = map (λ o. o.items) options.items } }
+    {
+        Problem {
+            names,
+            primary,
+            options,
+        }
+    }
+
     /// How many items it has.
     pub fn items(&self) -> u32
         ensures count { result ≡ length self.now.names }
         ensures problem { IsProblem self.now }
     {
         self.names.len() as u32
+    }
+
+    /// How many of the items have to be covered: the first ones.
+    pub fn primary(&self) -> u32
+        ensures { result ≡ self.now.primary }
+    {
+        self.primary
+    }
+
+    /// The name of the item numbered i.
+    pub fn name(&self, i: u32) -> &str
+        requires some { 0 < i }
+        requires within { i ≤ length self.now.names }
+        ensures { result.now ≡ name_at self.now.names i }
+    {
+        self.names.as_slice()[(i - 1) as usize].as_str()
+    }
+
+    /// The number of the item with a name.
+    pub fn item(&self, name: &str) -> Option<u32>
+        ensures { result ≡ item_named self.now.names name.now }
+    {
+        let place = place_of(&self.names, name)?;
+        Some(place as u32 + 1)
     }
 
     /// How many options it has.
@@ -49,5 +140,43 @@ impl Problem {
         ensures { result.now ≡ option_at self.now k }
     {
         &self.options[(k - 1) as usize]
+    }
+
+    /// The names of the items.
+    pub(crate) fn name_list(&self) -> &[Name]
+        ensures names { map (λ n. n.bytes) result.now ≡ self.now.names }
+        ensures problem { IsProblem self.now }
+    {
+        self.names.as_slice()
+    }
+
+    /// The items of each option.
+    pub(crate) fn option_lists(&self) -> &[Vec<u32>]
+        ensures { map (λ o. o.items) result.now ≡ self.now.options }
+    {
+        &self.options
+    }
+
+    /// A copy.
+    pub fn copy(&self) -> Result<Problem, AllocError>
+        ensures { IfOk result (λ p. p ≡ self.now) }
+    {
+        let names = self.names.clone()?;
+        let options = self.options.clone()?;
+        Ok(Problem {
+            names,
+            primary: self.primary,
+            options,
+        })
+    }
+
+    /// Whether it is the same problem: the same names, as many primary items and the same options.
+    pub fn same(&self, other: &Problem) -> bool
+        ensures test { result ≡ is_same self.now other.now }
+        ensures equal { IsTrue result ↔ (self.now ≡ other.now) }
+    {
+        self.primary == other.primary
+            && are_same_names(self.names.as_slice(), other.names.as_slice())
+            && are_same_options(&self.options, &other.options)
     }
 }

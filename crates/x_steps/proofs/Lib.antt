@@ -14,3 +14,4 @@ pub mod ResumeLemmas
 pub mod Length
 pub mod OrderLemmas
 pub mod VisitLemmas
+pub mod StepExamples

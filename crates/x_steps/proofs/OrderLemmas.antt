@@ -221,3 +221,13 @@ inside_before p q rest o t l k f m = inside_below p q rest o (4 * t + 1) l k f (
 pub left_before : (p : Cover) (q : List ℕ) (o t : ℕ) → IsValid p q → o < t → rank p (at X6 q (At o)) < rank p (at X5 q (At t))
 unfolding rank
 left_before p q o t v m = number_less (4 * length p.options + 9) (suc p.primary) (map (λ o. 4 * o + 2) q) (4 * o + 3) (4 * t + 1) [] [] (short p q v) (omega arith) (omega arith) tt
+
+-- cuts at one level come in the order of their options
+pub level_rank : (p : Cover) (q : List ℕ) (o t : ℕ) → IsValid p q → o < t → rank p (at X5 q (At o)) < rank p (at X5 q (At t))
+unfolding rank
+level_rank p q o t v m = number_less (4 * length p.options + 9) (suc p.primary) (map (λ o. 4 * o + 2) q) (4 * o + 1) (4 * t + 1) [] [] (short p q v) (omega arith) (omega arith) tt
+
+-- and an option is left after its cut
+pub left_after : (p : Cover) (q : List ℕ) (o : ℕ) → IsValid p q → rank p (at X5 q (At o)) < rank p (at X6 q (At o))
+unfolding rank
+left_after p q o v = number_less (4 * length p.options + 9) (suc p.primary) (map (λ o. 4 * o + 2) q) (4 * o + 1) (4 * o + 3) [] [] (short p q v) (omega arith) (omega arith) tt

@@ -268,6 +268,10 @@ start_first p s f = step (stands p s f)
         order (inr (inl z)) = absurd (omega arith)
         order (inr (inr z)) = let r = rises_between p a.0 start (start_fits p) a.1.goes_on 0 a.0 z (le_refl a.0) in let h = ap (rank p) a.1.ends in omega arith
 
+-- nothing comes before X1
+pub none_before : (p : Cover) (u : Place) → IsBefore p u start → ⊥
+none_before p u b = let r = rank_next p u b.fit b.goes_on in let l = start_first p u b.fit in let e = ap (rank p) b.steps in omega arith
+
 -- a state before another isn't Done
 pub not_done : (p : Cover) (s t : Place) → Fits p s → Fits p t → rank p s < rank p t → s.label ≡ Done → ⊥
 not_done p s t f g l e = let d = done_last p t g in let h = ap (rank p) (end_is p s f e) in omega arith
@@ -294,3 +298,33 @@ run_is_fitting p = record { ends = (run_leads p).ends; once = λ i j a b e. once
         within : (between p start done < a.0) ⊎ (a.0 ≤ between p start done) → a.0 ≤ between p start done
         within (inr l) = l
         within (inl l) = absurd (a.1.goes_on (between p start done) l (ap (λ (s : Place). s.label) (run_leads p).ends))
+
+-- ---- places on the run
+
+-- a fitting state stands where its distance from the start says
+pub after_place : (p : Cover) (s : Place) → Fits p s → after p (between p start s) start ≡ s
+after_place p s f = (leads_to p start s (start_fits p) f (start_first p s f)).ends
+
+pub place_within : (p : Cover) (s : Place) → Fits p s → between p start s ≤ between p start done
+place_within p s f = step (cases_lt (between p start done) (between p start s))
+  where
+    step : (between p start done < between p start s) ⊎ (between p start s ≤ between p start done) → between p start s ≤ between p start done
+    step (inr l) = l
+    step (inl l) = absurd ((leads_to p start s (start_fits p) f (start_first p s f)).goes_on (between p start done) l (ap (λ (s : Place). s.label) (run_leads p).ends))
+
+-- the order of ranks is that of the places
+pub rank_place : (p : Cover) (s t : Place) → Fits p s → Fits p t → between p start s < between p start t → rank p s < rank p t
+rank_place p s t f g l =
+    let a = leads_to p start t (start_fits p) g (start_first p t g) in
+    let r = rises_between p (between p start t) start (start_fits p) a.goes_on (between p start s) (between p start t) l (le_refl (between p start t)) in
+    let x = ap (rank p) (after_place p s f) in
+    let y = ap (rank p) a.ends in
+    omega arith
+
+pub place_rank : (p : Cover) (s t : Place) → Fits p s → Fits p t → rank p s < rank p t → between p start s < between p start t
+place_rank p s t f g l = step (cases_order (between p start s) (between p start t))
+  where
+    step : (between p start s ≡ between p start t) ⊎ ((between p start s < between p start t) ⊎ (between p start t < between p start s)) → between p start s < between p start t
+    step (inl e) = let h : s ≡ t = sym (after_place p s f) ∙ ap (λ n. after p n start) e ∙ after_place p t g in let x = ap (rank p) h in absurd (omega arith)
+    step (inr (inl k)) = k
+    step (inr (inr k)) = let r = rank_place p t s g f k in absurd (omega arith)

@@ -1,8 +1,8 @@
 -- Which states fit a problem, what is covered there, and the step table.
 -- TAOCP volume 4B, section 7.2.2.1, Algorithm X, as steps X1 to X8 that can be taken one by one.
 --
--- Example: in the small problem the state X5 past 2 3 comes after X5 at 1 with the path 2 3 was refused by no option:
--- the first choices are options 2 and 3, and item e has no option left.
+-- Example: in the small problem X4 with the path 2 3 is followed by X5 past 2 3: after the options 2 and 3 the item chosen
+-- is e, and it has no option left; covered are then a d g b c f e.
 use Rattle.std.specs.Prelude.{ℕ, ◌<◌, ◌≡◌, nat_lt, Bool, not, ◌&&◌, true, false, Option, Some, List, [], ◌∷◌, ◌++◌, length, if◌then◌else◌}
 use Rattle.cover_problem.specs.Lists.{above}
 use Rattle.cover_problem.specs.Problem.{Cover}

@@ -7,9 +7,10 @@ ghost use Rattle.x_steps.specs.Run.{IsRun, states, visits, entries, between, see
 ghost use Rattle.x_steps.specs.Order.{PathsRise};
 ghost use Rattle.x_steps.specs.Covers.{AreCovers};
 
-/// Each state on the run but X1 has exactly one predecessor.
+/// Each state on the run but X1 has exactly one predecessor, and X1 has none.
 pub fn one_predecessor()
-    ensures { (p : Cover) (s : Place) → Fits p s → (s ≡ start → ⊥) →
+    ensures none { (p : Cover) (u : Place) → IsBefore p u start → ⊥ }
+    ensures one { (p : Cover) (s : Place) → Fits p s → (s ≡ start → ⊥) →
         (t : Place) × IsBefore p t s × ((u : Place) → IsBefore p u s → u ≡ t) }
 {}
 

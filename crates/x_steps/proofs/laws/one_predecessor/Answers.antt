@@ -1,5 +1,5 @@
 use Rattle.x_steps.proofs.laws.one_predecessor.Goals as goal
-use Rattle.x_steps.proofs.RunLemmas.{one_predecessor}
+use Rattle.x_steps.proofs.RunLemmas.{none_before, one_predecessor}
 
 pub returns : goal.returns
-returns c = one_predecessor
+returns c = record { none = none_before; one = one_predecessor }

@@ -1,0 +1,133 @@
+-- What a cover text says, line by line, or its first fault.
+--
+--     items a b c     the items that have to be covered: one such line
+--     maybe d         the items that may be covered: at most one such line, after `items` and before any option
+--     option a d      an option: its items
+--
+-- A name is one to eight letters, digits and `_`. The first fault is the one of the first line that has one; in a line a fault
+-- of its form comes first, then the want of an `items` line, then the words from the left, then the size of the problem so far.
+--
+-- Example: `items a`, `option a a` has the fault ItemTwiceInOption in line 2; `items a`, `option z` has UnknownItem there;
+-- a text of no lines has NoItemLine in line 0. proofs/ReadingExamples.antt computes them.
+use Rattle.std.specs.Prelude.{ℕ, ◌+◌, ◌==◌, nat_lt, Bool, ◌||◌, List, [], ◌∷◌, ◌++◌, length, Option, Some, None, Result, Ok, Err, ◌≡◌, codes, if◌then◌else◌}
+use Rattle.std.specs.List.{list_all}
+use Rattle.std.specs.Str.{bytes_eq}
+use Rattle.text_lines.specs.Lines.{lines_of, words_of, outside_comment, is_plain, is_empty}
+use Rattle.text_lines.specs.Each.{each, ◌>>=◌}
+use Rattle.cover_problem.specs.declared.fault.Fault.{Fault}
+use Rattle.cover_problem.specs.declared.fault.Fault.TheVariants.{BadName, UnknownItem, NoItemLine, BadLine}
+use Rattle.cover_problem.specs.declared.fault.CoverFault.{CoverFault}
+use Rattle.cover_problem.specs.declared.fault.CoverFault.TheVariants as faults
+use Rattle.cover_problem.specs.declared.fault.ProblemFault.{ProblemFault}
+use Rattle.cover_problem.specs.declared.fault.ProblemFault.TheVariants as problem_faults
+use Rattle.cover_problem.specs.declared.key.Key.{Key}
+use Rattle.cover_problem.specs.declared.key.Key.TheVariants as keys
+use Rattle.cover_problem.specs.Problem.{Cover, is_name, item_named}
+use Rattle.cover_problem.specs.Making.{add_name, with_item, within}
+
+-- *the words of a line*
+
+-- an item that was looked for
+abbrev pub known : Option ℕ → Result ℕ Fault
+known None = Err UnknownItem
+known (Some i) = Ok i
+
+-- the item of a name
+unfoldable pub item_of : List (List ℕ) → List ℕ → Result ℕ Fault
+item_of names word = if is_name word then known (item_named names word) else Err BadName
+
+-- the items of an option with one more, given by its name, which is new there
+unfoldable pub add_item : List (List ℕ) → List ℕ → List ℕ → Result (List ℕ) Fault
+add_item names taken word = item_of names word >>= with_item taken
+
+-- *the lines: what is read so far has no names before the `items` line, and more than `primary` after the `maybe` line*
+
+-- nothing is read
+abbrev pub nothing : Cover
+nothing = record { names = []; primary = 0; options = [] }
+
+-- the `items` line: the first, with a name
+unfoldable pub items_line : Cover → List (List ℕ) → Result Cover Fault
+items_line p words =
+    if is_empty words || nat_lt 0 p.primary then Err BadLine else (do
+      names ← each add_name [] words
+      within (record { names = names; primary = length names; options = [] }))
+
+-- the `maybe` line: the first, with a name, before any option
+unfoldable pub maybe_line : Cover → List (List ℕ) → Result Cover Fault
+maybe_line p words =
+    if is_empty words || nat_lt p.primary (length p.names) || nat_lt 0 (length p.options) then Err BadLine else
+    (if p.primary == 0 then Err NoItemLine else (do
+      names ← each add_name p.names words
+      within (record { names = names; primary = p.primary; options = [] })))
+
+-- an `option` line, with an item
+unfoldable pub option_line : Cover → List (List ℕ) → Result Cover Fault
+option_line p words =
+    if is_empty words then Err BadLine else
+    (if p.primary == 0 then Err NoItemLine else (do
+      option ← each (add_item p.names) [] words
+      within (record { names = p.names; primary = p.primary; options = p.options ++ option ∷ [] })))
+
+-- what the first word of a line says that the line is
+abbrev pub key_from : List ℕ → Option Key
+key_from word =
+    if bytes_eq word (codes "items") then Some keys.Items else
+    (if bytes_eq word (codes "maybe") then Some keys.Maybe else
+    (if bytes_eq word (codes "option") then Some keys.Option else None))
+
+-- a line of a key and the words after it
+abbrev pub keyed_line : Option Key → Cover → List (List ℕ) → Result Cover Fault
+keyed_line None p words = Err BadLine
+keyed_line (Some keys.Items) p words = items_line p words
+keyed_line (Some keys.Maybe) p words = maybe_line p words
+keyed_line (Some keys.Option) p words = option_line p words
+
+-- a line of these words; one without words says nothing
+unfoldable pub words_line : Cover → List (List ℕ) → Result Cover Fault
+words_line p [] = Ok p
+words_line p (key ∷ words) = keyed_line (key_from key) p words
+
+-- a line, with its comment: a byte that isn't plain may stand in the comment alone
+unfoldable pub line : Cover → List ℕ → Result Cover Fault
+line p bytes = if list_all is_plain (outside_comment bytes) then words_line p (words_of (outside_comment bytes)) else Err BadLine
+
+-- *the whole text*
+
+-- what was read, with the number of the next line; or a fault, with the number of its line
+abbrev pub at_line : ℕ → Result Cover Fault → Result (Cover × ℕ) (Fault × ℕ)
+at_line n (Ok p) = Ok (p, n + 1)
+at_line n (Err f) = Err (f, n)
+
+-- a line, where what is read comes with the line's number
+unfoldable pub numbered_line : Cover × ℕ → List ℕ → Result (Cover × ℕ) (Fault × ℕ)
+numbered_line s bytes = at_line s.1 (line s.0 bytes)
+
+-- the whole text has an `items` line
+abbrev pub with_items : Cover → Result Cover (Fault × ℕ)
+with_items p = if nat_lt 0 p.primary then Ok p else Err (NoItemLine, 0)
+
+-- the lines of a text, from line 1 on
+abbrev pub lines_read : List (List ℕ) → Result (Cover × ℕ) (Fault × ℕ)
+lines_read lines = each numbered_line (nothing, 1) lines
+
+-- the problem of a text; or its first fault, and the number of its line, which is 0 for a fault of the whole text
+unfoldable pub problem_of : List ℕ → Result Cover (Fault × ℕ)
+problem_of text = lines_read (lines_of text) >>= λ read. with_items read.0
+
+-- *what a reader answers*
+
+-- a fault of the line numbered n
+abbrev pub fault_at : ℕ → ProblemFault → CoverFault
+fault_at n (problem_faults.Fault f) = faults.Fault f n
+fault_at n problem_faults.OutOfMemory = faults.OutOfMemory
+
+-- a fault and its line are those that were found, unless memory ran out
+abbrev pub IsFaultAt : {S : Type 0} → CoverFault → Result S (Fault × ℕ) → Type 0
+IsFaultAt (faults.Fault f n) found = found ≡ Err (f, n)
+IsFaultAt faults.OutOfMemory found = Unit {0}
+
+-- what a call returned, as view shows it, is what was found, unless memory ran out
+abbrev pub GivesAt : {X S : Type 0} → (X → S) → Result X CoverFault → Result S (Fault × ℕ) → Type 0
+GivesAt view (Ok x) found = found ≡ Ok (view x)
+GivesAt view (Err f) found = IsFaultAt f found

@@ -1,0 +1,299 @@
+//! What has been read of a cover text.
+ghost use Rattle.std.specs.Prelude.{◌≡◌, ◌<◌, ◌≤◌, true, [], ◌∷◌, ◌++◌, length, map, sum_by, nat_lt, OnOk, IfOk};
+ghost use Rattle.std.specs.List.{All};
+ghost use Rattle.text_lines.specs.Lines.{words_of};
+ghost use Rattle.text_lines.specs.Each.{each};
+ghost use Rattle.cover_problem.specs.Problem.{Cover, IsProblem, is_small};
+ghost use Rattle.cover_problem.specs.Making as making;
+ghost use Rattle.cover_problem.specs.Making.{Gives, add_name, with_item};
+ghost use Rattle.cover_problem.specs.Marks.{AreMarks};
+ghost use Rattle.cover_problem.specs.Reading as reading;
+ghost use Rattle.cover_problem.specs.Reading.{item_of, add_item, nothing};
+
+use crate::checks::take_name;
+use crate::fault::{Fault, ProblemFault};
+use crate::key::{Key, key_of};
+use crate::limits::{MOST_ENTRIES, MOST_ITEMS, MOST_OPTIONS};
+use crate::name::{Name, name_of};
+use crate::problem::Problem;
+use indexmap::IndexSet;
+use std::alloc::Global;
+use std::marker::Model;
+use text_lines::{has_words, is_all_plain, outside_comment, split_word};
+
+/// A problem as far as its text has been read.
+#[derive(Drop)]
+pub struct Draft {
+    names: IndexSet<Name>,
+    /// 0 until the `items` line.
+    primary: usize,
+    options: Vec<Vec<u32>>,
+    /// The items of all options together.
+    entries: usize,
+    /// For each item the number of the last option that took it, or 0.
+    marks: Vec<u32>,
+}
+
+impl Model for Draft {
+    ghost use Rattle.std.specs.Prelude.{map};
+    ghost use Rattle.cover_problem.specs.Problem.{Cover};
+    ghost use Rattle.cover_problem.specs.Marks.{IsDraft};
+
+    ghost Value = { Cover };
+
+    ghost view = { λ a. record { names = map (λ n. n.bytes) a.names.keys; primary = a.primary; options = map (λ o. o.items) a.options.items } };
+
+    ghost invariant = { λ a. IsDraft (record { names = map (λ n. n.bytes) a.names.keys; primary = a.primary; options = map (λ o. o.items) a.options.items }) a.entries a.marks.items };
+}
+
+/// The item of a name.
+#[tactic(auto, unfolding(crate::specs::Reading::item_of))]
+fn item_named(names: &IndexSet<Name>, word: &[u8]) -> Result<u32, ProblemFault>
+    requires { length names.now.keys ≤ MOST_ITEMS }
+    ensures item { Gives (λ i. i) result (item_of (map (λ n. n.bytes) names.now.keys) word.now) }
+    ensures some { IfOk result (λ i. 0 < i) }
+    ensures within { IfOk result (λ i. i ≤ length names.now.keys) }
+{
+    let Some(name) = name_of(word) else {
+        return Err(ProblemFault::Fault(Fault::BadName));
+    };
+    match names.get_index_of(&name) {
+        Some(place) => Ok(place as u32 + 1),
+        None => Err(ProblemFault::Fault(Fault::UnknownItem)),
+    }
+}
+
+/// Takes an item into an option that doesn't have it yet. An item that was taken has the stamp as its mark.
+fn take_once(
+    marks: &mut [u32],
+    stamp: u32,
+    option: &mut Vec<u32>,
+    item: u32,
+) -> Result<(), ProblemFault>
+    requires some { 0 < item }
+    requires within { item ≤ length marks.old }
+    requires marked { AreMarks stamp option.old.items marks.old }
+    ensures item { Gives (λ _. option.new.items) result (with_item option.old.items item) }
+    ensures marked { OnOk result (AreMarks stamp option.new.items marks.new) }
+{
+    let place = item as usize - 1;
+    if marks[place] == stamp {
+        return Err(ProblemFault::Fault(Fault::ItemTwiceInOption));
+    }
+    option.push(item)?;
+    marks[place] = stamp;
+    Ok(())
+}
+
+/// Takes the item of a name into an option that doesn't have it yet.
+#[tactic(auto, unfolding(crate::specs::Reading::add_item))]
+fn take_item(
+    names: &IndexSet<Name>,
+    marks: &mut [u32],
+    stamp: u32,
+    option: &mut Vec<u32>,
+    word: &[u8],
+) -> Result<(), ProblemFault>
+    requires few { length names.now.keys ≤ MOST_ITEMS }
+    requires each_item { length marks.old ≡ length names.now.keys }
+    requires marked { AreMarks stamp option.old.items marks.old }
+    ensures item { Gives (λ _. option.new.items) result (add_item (map (λ n. n.bytes) names.now.keys) option.old.items word.now) }
+    ensures marked { OnOk result (AreMarks stamp option.new.items marks.new) }
+{
+    let item = item_named(names, word)?;
+    take_once(marks, stamp, option, item)
+}
+
+/// The option of these words. All marks are below the stamp.
+fn option_of(
+    alloc: Global,
+    names: &IndexSet<Name>,
+    marks: &mut [u32],
+    stamp: u32,
+    words: &[u8],
+) -> Result<Vec<u32>, ProblemFault>
+    requires few { length names.now.keys ≤ MOST_ITEMS }
+    requires each_item { length marks.old ≡ length names.now.keys }
+    requires old { All (λ mark. mark < stamp) marks.old }
+    ensures option { Gives (λ o. o.items) result (each (add_item (map (λ n. n.bytes) names.now.keys)) [] (words_of words.now)) }
+    ensures marks { OnOk result (All (λ mark. mark ≤ stamp) marks.new) }
+{
+    let mut option = Vec::new(alloc);
+    let mut rest = words;
+    while let Some((word, after)) = split_word(rest) {
+        take_item(names, marks, stamp, &mut option, word)?;
+        rest = after;
+    }
+    Ok(option)
+}
+
+/// The names with those of these words.
+fn with_names(mut names: IndexSet<Name>, words: &[u8]) -> Result<IndexSet<Name>, ProblemFault>
+    ensures { Gives (λ these. map (λ n. n.bytes) these.keys) result (each add_name (map (λ n. n.bytes) names.keys) (words_of words.now)) }
+{
+    let mut rest = words;
+    while let Some((word, after)) = split_word(rest) {
+        take_name(&mut names, word)?;
+        rest = after;
+    }
+    Ok(names)
+}
+
+/// Whether so many items, and so many options with so many items together, are within the limits.
+fn is_within(items: usize, options: usize, entries: usize) -> bool
+    ensures { (p : Cover) → length p.names ≡ items → length p.options ≡ options → sum_by length p.options ≡ entries → result ≡ is_small p }
+{
+    items <= MOST_ITEMS && options <= MOST_OPTIONS && entries <= MOST_ENTRIES - 2 - items - options
+}
+
+/// A draft within the limits.
+fn within(
+    names: IndexSet<Name>,
+    primary: usize,
+    options: Vec<Vec<u32>>,
+    entries: usize,
+    marks: Vec<u32>,
+) -> Result<Draft, ProblemFault>
+    requires primary { primary ≤ length names.keys }
+    requires counted { entries ≡ sum_by length (map (λ o. o.items) options.items) }
+    requires marked { length marks.items ≡ length names.keys }
+    requires old { All (λ mark. mark ≤ length options.items) marks.items }
+    ensures { Gives (λ d. d) result (making.within (record { names = map (λ n. n.bytes) names.keys; primary = primary; options = map (λ o. o.items) options.items })) }
+{
+    if !is_within(names.len(), options.len(), entries) {
+        return Err(ProblemFault::Fault(Fault::TooLarge));
+    }
+    Ok(Draft {
+        names,
+        primary,
+        options,
+        entries,
+        marks,
+    })
+}
+
+/// A draft without options.
+fn of_names(alloc: Global, names: IndexSet<Name>, primary: usize) -> Result<Draft, ProblemFault>
+    requires { primary ≤ length names.keys }
+    ensures { Gives (λ d. d) result (making.within (record { names = map (λ n. n.bytes) names.keys; primary = primary; options = [] })) }
+{
+    let marks = vec![in alloc; 0u32; names.len()]?;
+    within(names, primary, Vec::new(alloc), 0, marks)
+}
+
+impl Draft {
+    /// The draft of no lines.
+    pub fn new(alloc: Global) -> Draft
+        ensures { result ≡ nothing }
+    {
+        Draft {
+            names: IndexSet::new(alloc),
+            primary: 0,
+            options: Vec::new(alloc),
+            entries: 0,
+            marks: Vec::new(alloc),
+        }
+    }
+
+    /// The draft with the items of an `items` line.
+    #[tactic(auto, unfolding(crate::specs::Reading::items_line))]
+    fn with_items(self, alloc: Global, words: &[u8]) -> Result<Draft, ProblemFault>
+        ensures { Gives (λ d. d) result (reading.items_line self (words_of words.now)) }
+    {
+        if !has_words(words) || self.primary > 0 {
+            return Err(ProblemFault::Fault(Fault::BadLine));
+        }
+        let names = with_names(IndexSet::new(alloc), words)?;
+        let primary = names.len();
+        of_names(alloc, names, primary)
+    }
+
+    /// The draft with the items of a `maybe` line.
+    #[tactic(auto, unfolding(crate::specs::Reading::maybe_line))]
+    fn with_maybe(self, alloc: Global, words: &[u8]) -> Result<Draft, ProblemFault>
+        ensures { Gives (λ d. d) result (reading.maybe_line self (words_of words.now)) }
+    {
+        if !has_words(words) || self.primary < self.names.len() || !self.options.is_empty() {
+            return Err(ProblemFault::Fault(Fault::BadLine));
+        }
+        if self.primary == 0 {
+            return Err(ProblemFault::Fault(Fault::NoItemLine));
+        }
+        let Draft { names, primary, .. } = self;
+        of_names(alloc, with_names(names, words)?, primary)
+    }
+
+    /// The draft with the option of an `option` line.
+    #[tactic(auto, unfolding(crate::specs::Reading::option_line))]
+    fn with_option(self, alloc: Global, words: &[u8]) -> Result<Draft, ProblemFault>
+        ensures { Gives (λ d. d) result (reading.option_line self (words_of words.now)) }
+    {
+        if !has_words(words) {
+            return Err(ProblemFault::Fault(Fault::BadLine));
+        }
+        if self.primary == 0 {
+            return Err(ProblemFault::Fault(Fault::NoItemLine));
+        }
+        let Draft {
+            names,
+            primary,
+            mut options,
+            entries,
+            mut marks,
+        } = self;
+        let stamp = options.len() as u32 + 1;
+        let option = option_of(alloc, &names, &mut marks, stamp, words)?;
+        let entries = entries + option.len();
+        options.push(option)?;
+        within(names, primary, options, entries, marks)
+    }
+
+    /// The draft with a line of these words.
+    #[tactic(auto, unfolding(crate::specs::Reading::words_line))]
+    fn with_words(self, alloc: Global, words: &[u8]) -> Result<Draft, ProblemFault>
+        ensures { Gives (λ d. d) result (reading.words_line self (words_of words.now)) }
+    {
+        let Some((key, words)) = split_word(words) else {
+            return Ok(self);
+        };
+        match key_of(key) {
+            Some(Key::Items) => self.with_items(alloc, words),
+            Some(Key::Maybe) => self.with_maybe(alloc, words),
+            Some(Key::Option) => self.with_option(alloc, words),
+            None => Err(ProblemFault::Fault(Fault::BadLine)),
+        }
+    }
+
+    /// The draft with a line.
+    #[tactic(auto, unfolding(crate::specs::Reading::line))]
+    pub fn with_line(self, alloc: Global, line: &[u8]) -> Result<Draft, ProblemFault>
+        ensures { Gives (λ d. d) result (reading.line self line.now) }
+    {
+        let said = outside_comment(line);
+        if !is_all_plain(said) {
+            return Err(ProblemFault::Fault(Fault::BadLine));
+        }
+        self.with_words(alloc, said)
+    }
+
+    /// Whether there was an `items` line.
+    pub fn has_items(&self) -> bool
+        ensures { result ≡ nat_lt 0 self.now.primary }
+    {
+        self.primary > 0
+    }
+
+    /// The problem of a whole text.
+    pub fn into_problem(self) -> Problem
+        requires { IsProblem self }
+        ensures { result ≡ self }
+    {
+        let Draft {
+            names,
+            primary,
+            options,
+            ..
+        } = self;
+        Problem::from_parts(names, primary as u32, options)
+    }
+}

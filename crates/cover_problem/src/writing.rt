@@ -1,0 +1,83 @@
+//! The writer of cover texts.
+ghost use Rattle.std.specs.Prelude.{◌≡◌, true, ◌++◌, ◌∷◌, map, length, codes, OnOk, IfOk};
+ghost use Rattle.std.specs.List.{list_all};
+ghost use Rattle.text_lines.specs.Writing.{line_text, text_of};
+ghost use Rattle.cover_problem.specs.Problem.{is_item, is_option};
+ghost use Rattle.cover_problem.specs.Grammar.{maybe_words, option_words, written};
+
+use crate::name::Name;
+use crate::problem::Problem;
+use std::alloc::{AllocError, Global};
+
+/// Writes a word after another.
+fn write_word(text: &mut Vec<u8>, word: &[u8]) -> Result<(), AllocError>
+    ensures { OnOk result (text.new.items ≡ text.old.items ++ 32 ∷ word.now) }
+{
+    text.push(b' ')?;
+    text.extend_from_slice(word)?;
+    Ok(())
+}
+
+/// Writes a line of names.
+fn write_names(text: &mut Vec<u8>, key: &[u8], names: &[Name]) -> Result<(), AllocError>
+    ensures { OnOk result (text.new.items ≡ text.old.items ++ line_text (key.now ∷ map (λ n. n.bytes) names.now)) }
+{
+    text.extend_from_slice(key)?;
+    for name in names {
+        write_word(text, name.as_bytes())?;
+    }
+    text.push(b'\n')?;
+    Ok(())
+}
+
+/// Writes the `maybe` line, where there are names for it.
+fn write_maybe(text: &mut Vec<u8>, names: &[Name]) -> Result<(), AllocError>
+    ensures { OnOk result (text.new.items ≡ text.old.items ++ text_of (maybe_words (map (λ n. n.bytes) names.now))) }
+{
+    if names.is_empty() {
+        return Ok(());
+    }
+    write_names(text, b"maybe", names)
+}
+
+/// Writes the line of an option over items with these names.
+fn write_option(text: &mut Vec<u8>, names: &[Name], option: &[u32]) -> Result<(), AllocError>
+    requires { list_all (is_item (length names.now)) option.now ≡ true }
+    ensures { OnOk result (text.new.items ≡ text.old.items ++ line_text (option_words (map (λ n. n.bytes) names.now) option.now)) }
+{
+    text.extend_from_slice(b"option")?;
+    for item in option {
+        write_word(text, names[(*item - 1) as usize].as_bytes())?;
+    }
+    text.push(b'\n')?;
+    Ok(())
+}
+
+/// Writes the lines of options over items with these names.
+fn write_options(
+    text: &mut Vec<u8>,
+    names: &[Name],
+    options: &[Vec<u32>],
+) -> Result<(), AllocError>
+    requires { list_all (is_option (length names.now)) (map (λ o. o.items) options.now) ≡ true }
+    ensures { OnOk result (text.new.items ≡ text.old.items ++ text_of (map (option_words (map (λ n. n.bytes) names.now)) (map (λ o. o.items) options.now))) }
+{
+    for option in options {
+        write_option(text, names, option)?;
+    }
+    Ok(())
+}
+
+/// Writes a problem as a cover text: the `items` line, the `maybe` line where there are items that may be covered, and a
+/// line for each option, with one space between two words and a newline at each end.
+pub fn write_cover(alloc: Global, problem: &Problem) -> Result<Vec<u8>, AllocError>
+    ensures { IfOk result (λ text. text.items ≡ written problem.now) }
+{
+    let names = problem.name_list();
+    let (items, others) = names.split_at(problem.primary() as usize);
+    let mut text = Vec::new(alloc);
+    write_names(&mut text, b"items", items)?;
+    write_maybe(&mut text, others)?;
+    write_options(&mut text, names, problem.option_lists())?;
+    Ok(text)
+}

@@ -1,0 +1,9 @@
+pub mod Places
+pub mod Points
+pub mod Symmetries
+pub mod Turns
+pub mod Products
+pub mod Sets
+pub mod Shapes
+pub mod Images
+pub mod Laws

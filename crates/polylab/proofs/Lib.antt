@@ -1,0 +1,5 @@
+mod Transfer
+mod LineLemmas
+mod ZeroLemmas
+mod AccountLemmas
+mod SearchLemmas

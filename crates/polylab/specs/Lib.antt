@@ -1,0 +1,3 @@
+pub mod Account
+pub mod Output
+pub mod Outcome

@@ -11,6 +11,7 @@ pub mod ListingLemmas
 pub mod ReadLemmas
 pub mod MarkLemmas
 pub mod ResumeLemmas
+pub mod SecondLemmas
 pub mod Length
 pub mod OrderLemmas
 pub mod VisitLemmas

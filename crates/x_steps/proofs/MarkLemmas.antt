@@ -3,7 +3,7 @@ use Rattle.std.proofs.Common.{◌≡◌, ℕ, ◌+◌, ◌<◌, ◌≤◌, ◌�
 use Rattle.std.proofs.Math.ListN.{set}
 use Rattle.std.proofs.Math.Seq.{take-suc}
 use Rattle.std.specs.List.{list_any}
-use Rattle.std.proofs.lemmas.List.{length-set}
+use Rattle.std.proofs.lemmas.List.{length-set, take_all, take-append-le}
 use Rattle.std.proofs.lemmas.Bool.{cases_eq, cases_Bool, ne_eqb, both_ways, false_from_ne_true}
 use Rattle.cover_problem.specs.Lists.{has}
 use Rattle.cover_problem.specs.Problem.{Cover, IsProblem, option_at}
@@ -88,3 +88,10 @@ module _ (p : Cover) (sound : IsProblem p) (o : ℕ) (some : 0 < o) (within : o 
 -- an option that the problem doesn't have is left for none
 pub none_left : (p : Cover) (c : List ℕ) (item o : ℕ) → ((0 < o) × (o ≤ length p.options) → ⊥) → has (remaining p c item) o ≡ false
 none_left p c item o out = false_from_ne_true (has (remaining p c item) o) (λ h. let r = remaining_in p c item o h in out (r.1, r.2))
+
+-- what a vector holds after its marks were changed as a slice
+pub marks_written : (marks old : List Bool) (size n : ℕ) (c : List ℕ) → length marks ≡ size → AreMarked marks n c → AreMarked (take size (marks ++ old)) n c
+marks_written marks old size n c e a =
+    let all : size ≤ length marks = omega arith in
+    let same : take size (marks ++ old) ≡ marks = take-append-le size marks old all ∙ take_all size marks (omega arith) in
+    subst (λ l. AreMarked l n c) (sym same) a

@@ -1,5 +1,6 @@
 -- What a machine stands for, and what it keeps.
-use Rattle.std.specs.Prelude.{ℕ, ◌≡◌, ◌≤◌, Bool, true, false, Option, Some, None, option_map, List, length, map, if◌then◌else◌}
+use Rattle.std.specs.Prelude.{ℕ, ◌+◌, ◌-◌, ◌≡◌, ◌≤◌, Bool, true, false, not, Option, Some, None, option_map, List, length, map, filter, if◌then◌else◌}
+use Rattle.cover_problem.specs.Lists.{has, numbers}
 use Rattle.cover_problem.specs.Problem.{Cover, IsProblem}
 use Rattle.cover_problem.specs.Covering.{active, remaining, list_of}
 use Rattle.x_steps.specs.declared.state.Label.{Label}
@@ -41,6 +42,14 @@ pub record GoesBack (old new : Position) : Type 0 where
 -- the active items, each with the options left for it
 abbrev pub remaining_items : Cover → List ℕ → List (ℕ × List ℕ)
 remaining_items p c = map (λ i. (i, remaining p c i)) (active p c)
+
+-- the secondary items, above the primary ones, that are not covered
+unfoldable pub secondary : Cover → List ℕ → List ℕ
+secondary p c = filter (λ i. not (has c i)) (numbers (length p.names - p.primary) (p.primary + 1))
+
+-- each with the options left for it
+abbrev pub second_items : Cover → List ℕ → List (ℕ × List ℕ)
+second_items p c = map (λ i. (i, remaining p c i)) (secondary p c)
 
 -- whether an item is chosen at the step
 abbrev pub is_chosen : Label → Bool

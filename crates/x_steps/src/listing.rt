@@ -2,9 +2,10 @@
 ghost use Rattle.std.specs.Prelude.{◌≡◌, ◌<◌, ◌≤◌, length, map, IfOk};
 ghost use Rattle.cover_problem.specs.Problem.{IsProblem};
 ghost use Rattle.cover_problem.specs.Covering.{list_of};
-ghost use Rattle.x_steps.specs.Machine.{remaining_items};
+ghost use Rattle.x_steps.specs.Machine.{remaining_items, second_items};
 
-use cover_problem::Table;
+use crate::marks::{is_marked, marks_of};
+use cover_problem::{Problem, Table};
 use std::alloc::{AllocError, Global};
 
 /// The options of an item's list.
@@ -32,6 +33,27 @@ pub fn active_items<T: Table>(alloc: Global, table: &T) -> Result<Vec<(u32, Vec<
     while let Some(item) = next {
         rows.push((item, options_of(alloc, table, item)?))?;
         next = table.next_item(item);
+    }
+    Ok(rows)
+}
+
+/// The secondary items that are not covered, each with the options left for it.
+pub fn secondary_items<T: Table>(
+    alloc: Global,
+    problem: &Problem,
+    table: &T,
+) -> Result<Vec<(u32, Vec<u32>)>, AllocError>
+    requires { T.subject table.now ≡ problem.now }
+    ensures { IfOk result (λ rows. map (λ row. (row.0, row.1.items)) rows.items ≡ second_items problem.now (T.covered_list table.now)) }
+{
+    let marks = marks_of(alloc, problem.items(), table.covered())?;
+    let mut rows = Vec::new(alloc);
+    for before in problem.primary()..problem.items() {
+        let item = before + 1;
+        if is_marked(&marks, item) {
+            continue;
+        }
+        rows.push((item, options_of(alloc, table, item)?))?;
     }
     Ok(rows)
 }

@@ -1,5 +1,5 @@
 -- The walk that chooses an item keeps the first of the shortest so far.
-use Rattle.std.proofs.Common.{◌≡◌, ◌≢◌, ℕ, ◌<◌, ◌≤◌, List, [], ◌∷◌, length, true, suc, is_some, nat_lt, lt-ltb, ◌⊎◌, inl, inr, Option, Some, None, IsSome, arith, refl, sym, ap, ◌∙◌, ◌-◌, subst}
+use Rattle.std.proofs.Common.{◌≡◌, ℕ, ◌<◌, ◌≤◌, List, [], ◌∷◌, length, true, suc, is_some, nat_lt, lt-ltb, ◌⊎◌, inl, inr, Option, Some, None, IsSome, arith, refl, sym, ap, ◌∙◌, ◌-◌, subst}
 use Rattle.std.proofs.lemmas.Bool.{cases_lt}
 use Rattle.cover_problem.specs.Lists.{has, above, RisesFrom}
 use Rattle.cover_problem.specs.Problem.{Cover}
@@ -30,7 +30,7 @@ module _ (p : Cover) (c : List ℕ) where
         within = omega arith;
         len = refl;
         shortest = λ i h k. let m : first ≤ i = a.least i h (rises_above i h) in let same : i ≡ first = omega arith in subst (λ j. length (remaining p c first) ≤ length (remaining p c j)) (sym same) (omega arith);
-        first = λ i h k. let m : first ≤ i = a.least i h (rises_above i h) in absurd (omega arith)
+        first = λ i h k. let m : first ≤ i = a.least i h (rises_above i h) in absurd (omega arith);
       } where
         rises_above : (i : ℕ) → has (active p c) i ≡ true → 0 < i
         rises_above i h = (active_in p c i h).1
@@ -58,7 +58,7 @@ module _ (p : Cover) (c : List ℕ) where
           first = λ i h k. elim (past i h (omega arith)) [
             | inl old ↦ let m = w.shortest i h old in omega arith
             | inr same ↦ absurd (omega arith)
-          ]
+          ];
         }
 
     -- it has not
@@ -74,7 +74,7 @@ module _ (p : Cover) (c : List ℕ) where
             | inl old ↦ w.shortest i h old
             | inr same ↦ subst (λ j. least ≤ length (remaining p c j)) (sym same) more
           ];
-          first = w.first
+          first = w.first;
         }
 
   -- after the last active item the best is the choice

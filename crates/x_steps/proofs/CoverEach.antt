@@ -1,13 +1,9 @@
 -- The place of an item in an option, and the items covered and uncovered one after the other.
-use Rattle.std.proofs.Common.{◌≡◌, ℕ, ◌+◌, ◌-◌, ◌<◌, ◌≤◌, ◌==◌, List, [], ◌∷◌, ◌++◌, length, true, arith, sym, ap, ◌∙◌, subst, append_assoc, append-nil, length-append, take, drop, min, refl}
+use Rattle.std.proofs.Common.{◌≡◌, ℕ, ◌+◌, ◌<◌, ◌≤◌, ◌==◌, List, [], ◌∷◌, ◌++◌, length, true, arith, sym, ap, ◌∙◌, append_assoc, append-nil, length-append, min, refl}
 use Rattle.std.proofs.lemmas.List.{length-take, same_from_push}
 use Rattle.std.specs.List.{position_or_len, before_first, after_first}
 use Rattle.cover_problem.specs.Lists.{has}
-use Rattle.cover_problem.specs.Problem.{Cover}
-use Rattle.cover_problem.specs.Path.{others}
-use Rattle.cover_problem.specs.Coverable.{CanCover}
 use Rattle.cover_problem.proofs.ListLemmas.{parts_are}
-use Rattle.cover_problem.proofs.CoveringLemmas.{can_parts}
 
 pub place_within : (i : ℕ) (option : List ℕ) → has option i ≡ true → position_or_len (λ x. x == i) option < length option
 place_within i option h =
@@ -52,7 +48,7 @@ uncovers_more all now new count done x u more e =
       standing = less.2;
       whole = u.whole ∙ ap (λ l. (u.front ++ l) ++ u.gone) less.1 ∙ ap (λ l. l ++ u.gone) (sym (append_assoc u.front less.0 (x ∷ []))) ∙ append_assoc (u.front ++ less.0) (x ∷ []) u.gone;
       left = let l = u.left in omega arith;
-      uncovered = let l = u.uncovered in omega arith
+      uncovered = let l = u.uncovered in omega arith;
     }
 
 pub uncovers_none : (all front back : List ℕ) (count : ℕ) → all ≡ front ++ back → length back ≡ count → Uncovers all all count 0
@@ -63,7 +59,7 @@ uncovers_none all front back count e h = record {
   standing = e;
   whole = e ∙ sym (append-nil (front ++ back));
   left = omega arith;
-  uncovered = refl
+  uncovered = refl;
 }
 
 -- all of them are uncovered

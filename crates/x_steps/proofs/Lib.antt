@@ -6,6 +6,12 @@ pub mod RunLemmas
 pub mod SpanLemmas
 pub mod StateLemmas
 pub mod MachineLemmas
+pub mod BackLemmas
+pub mod ListingLemmas
+pub mod ReadLemmas
+pub mod MarkLemmas
+pub mod ResumeLemmas
+pub mod SecondLemmas
 pub mod Length
 pub mod OrderLemmas
 pub mod VisitLemmas

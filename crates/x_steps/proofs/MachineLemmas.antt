@@ -1,12 +1,12 @@
 -- What each step keeps: the table stands for the items covered at the state.
-use Rattle.std.proofs.Common.{◌≡◌, ℕ, suc, ◌+◌, ◌-◌, ◌<◌, ◌≤◌, List, [], ◌∷◌, ◌++◌, length, true, false, nat_lt, Bool, Option, Some, arith, refl, sym, ap, ◌∙◌, subst, append_assoc, append-nil, length-append, if◌then◌else◌}
+use Rattle.std.proofs.Common.{◌≡◌, ℕ, suc, ◌-◌, ◌<◌, ◌≤◌, List, [], ◌∷◌, ◌++◌, length, true, false, nat_lt, Bool, Option, Some, arith, refl, sym, ap, ◌∙◌, subst, append-nil, length-append, if◌then◌else◌}
 use Rattle.std.proofs.lemmas.List.{same_from_push}
 use Rattle.cover_problem.specs.Lists.{has, above}
 use Rattle.cover_problem.specs.Problem.{Cover, IsProblem, option_at}
-use Rattle.cover_problem.specs.Covering.{active, remaining, choice, list_of}
-use Rattle.cover_problem.specs.Path.{IsChoice, IsValid, taken, covered_by, others}
+use Rattle.cover_problem.specs.Covering.{active, choice, list_of}
+use Rattle.cover_problem.specs.Path.{IsChoice, IsValid, covered_by, others}
 use Rattle.cover_problem.specs.Coverable.{IsUncovered, CanCover}
-use Rattle.cover_problem.proofs.CoveringLemmas.{active_in, active_item, choice_active, choice_has, can_take, taken_is, covered_by_push, covered_by_none, length-others, list_covered, list_uncovered, depth, option_is}
+use Rattle.cover_problem.proofs.CoveringLemmas.{active_in, active_item, choice_active, choice_has, can_take, taken_is, covered_by_push, covered_by_none, length-others, list_covered, depth}
 use Rattle.x_steps.specs.declared.state.Label.{Label}
 use Rattle.x_steps.specs.declared.state.Label.TheVariants.{X1, X2, X3, X4, X5, X6, X7, X8, Done}
 use Rattle.x_steps.specs.declared.state.Cursor.{Cursor}
@@ -15,7 +15,7 @@ use Rattle.x_steps.specs.declared.state.Cursor.TheVariants.{At, Past}
 use Rattle.x_steps.specs.declared.event.Event.{Event}
 use Rattle.x_steps.specs.declared.event.Event.TheVariants.{Moved, Visited, Finished}
 use Rattle.x_steps.specs.Place.{Place, at}
-use Rattle.x_steps.specs.Steps.{Fits, FitsAt, IsOpen, is_open, item_after, left, cursor_of, split_last, taken_back, covered_in, next, event_of}
+use Rattle.x_steps.specs.Steps.{Fits, FitsAt, IsOpen, is_open, item_after, left, cursor_of, split_last, covered_in, next, event_of}
 use Rattle.x_steps.specs.Machine.{Keeps, Position, Goes}
 use Rattle.x_steps.proofs.Neighbours.{fits_next, split_last_push}
 
@@ -37,20 +37,20 @@ module _ (p : Cover) (s t : Place) (event : Event) (subject : Cover) (covered : 
       fit = subst (Fits p) (sym n) (fits_next p s k.fit);
       same = e ∙ k.same;
       stands = c;
-      path_fits = let f = k.path_fits in omega arith
+      path_fits = let f = k.path_fits in omega arith;
     };
     steps = n;
-    tells = v
+    tells = v;
   }
 
 -- ---- what fits at a label, whatever is known of the cursor
 
-open_at_X4 : (p : Cover) (path : List ℕ) (k : Cursor) → FitsAt p X4 path k → IsOpen p path
+pub open_at_X4 : (p : Cover) (path : List ℕ) (k : Cursor) → FitsAt p X4 path k → IsOpen p path
 open_at_X4 p path cursor.None f = f.1
 open_at_X4 p path (At o) f = absurd f
 open_at_X4 p path Past f = absurd f
 
-past_at_X5 : (p : Cover) (path : List ℕ) (k : Cursor) → ((o : ℕ) → k ≡ At o → ⊥) → FitsAt p X5 path k → k ≡ Past
+pub past_at_X5 : (p : Cover) (path : List ℕ) (k : Cursor) → ((o : ℕ) → k ≡ At o → ⊥) → FitsAt p X5 path k → k ≡ Past
 past_at_X5 p path cursor.None never f = absurd f
 past_at_X5 p path (At o) never f = absurd (never o refl)
 past_at_X5 p path Past never f = refl
@@ -62,12 +62,12 @@ at_X6 p path (At o) never f = never o refl
 at_X6 p path Past never f = f
 
 -- a list from which nothing could be taken
-emptied : (path : List ℕ) → length path ≡ 0 → path ≡ []
+pub emptied : (path : List ℕ) → length path ≡ 0 → path ≡ []
 emptied [] e = refl
 emptied (x ∷ xs) e = absurd (omega arith)
 
 -- of two equal lists whose ends are as long as each other, the fronts are equal
-same_fronts : (xs ys us vs : List ℕ) → xs ++ us ≡ ys ++ vs → length us ≡ length vs → xs ≡ ys
+pub same_fronts : (xs ys us vs : List ℕ) → xs ++ us ≡ ys ++ vs → length us ≡ length vs → xs ≡ ys
 same_fronts [] [] us vs e h = refl
 same_fronts [] (y ∷ ys) us vs e h = let n = ap (length {A = ℕ}) e in let m = length-append (y ∷ ys) vs in absurd (omega arith)
 same_fronts (x ∷ xs) [] us vs e h = let n = ap (length {A = ℕ}) e in let m = length-append (x ∷ xs) us in absurd (omega arith)
@@ -121,7 +121,7 @@ module _ (p : Cover) (path : List ℕ) (at_cursor : Cursor) (subject : Cover) (c
   enters b e k = enters_by b (sym (e ∙ same_open k)) k
 
   -- X4
-  chosen_is : Here X4 → choice subject covered ≡ item_after p path
+  pub chosen_is : Here X4 → choice subject covered ≡ item_after p path
   unfolding covered_in
   chosen_is k = ap (λ q. choice q covered) k.same ∙ ap (λ c. choice p c) k.stands
 
@@ -200,10 +200,10 @@ module _ (p : Cover) (path : List ℕ) (at_cursor : Cursor) (subject : Cover) (c
 
   -- X6
   module _ (o : ℕ) (is_at : at_cursor ≡ At o) where
-    retry_at : Here X6 → IsValid p path × IsChoice p (covered_by p path) o
+    pub retry_at : Here X6 → IsValid p path × IsChoice p (covered_by p path) o
     retry_at k = subst (λ c. FitsAt p X6 path c) is_at k.fit
 
-    taken_at : Here X6 → covered ≡ (covered_by p path ++ item_after p path ∷ []) ++ others (item_after p path) (option_at p o)
+    pub taken_at : Here X6 → covered ≡ (covered_by p path ++ item_after p path ∷ []) ++ others (item_after p path) (option_at p o)
     unfolding covered_in
     taken_at k = k.stands ∙ (rw is_at (taken_is p (covered_by p path) o))
 
@@ -219,7 +219,7 @@ module _ (p : Cover) (path : List ℕ) (at_cursor : Cursor) (subject : Cover) (c
 
     -- once the option's other items are uncovered
     module _ (count : ℕ) (mid : List ℕ) (size : count ≡ length (option_at p o) - 1) (gone : (back : List ℕ) × (covered ≡ mid ++ back) × (length back ≡ count)) where
-      mid_is : Here X6 → mid ≡ covered_by p path ++ item_after p path ∷ []
+      pub mid_is : Here X6 → mid ≡ covered_by p path ++ item_after p path ∷ []
       mid_is k =
           let n = others_count k in
           let m = gone.2 in
@@ -249,7 +249,7 @@ module _ (p : Cover) (path : List ℕ) (at_cursor : Cursor) (subject : Cover) (c
           went p _ _ _ subject covered room _ _ _ k same (omega arith) (rw is_at (ap (λ c. at X5 path c) reached)) refl (mid_is k)
 
   -- X7
-  last_at_X7 : Here X7 → covered ≡ covered_by p path ++ item_after p path ∷ []
+  pub last_at_X7 : Here X7 → covered ≡ covered_by p path ++ item_after p path ∷ []
   unfolding covered_in
   last_at_X7 k = k.stands
 
@@ -305,5 +305,5 @@ starts p subject covered path room sound same none empty fits = record {
   fit = empty;
   same = same;
   stands = none ∙ sym (ap (covered_by p) empty ∙ covered_by_none p);
-  path_fits = fits
+  path_fits = fits;
 }

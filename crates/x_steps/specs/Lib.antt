@@ -7,3 +7,6 @@ pub mod Order
 pub mod Covers
 pub mod Rank
 pub mod Machine
+pub mod Marks
+pub mod Faults
+pub mod Resume

@@ -1,11 +1,14 @@
 -- What a machine stands for, and what it keeps.
-use Rattle.std.specs.Prelude.{ℕ, ◌≡◌, ◌≤◌, List, length, map}
+use Rattle.std.specs.Prelude.{ℕ, ◌+◌, ◌-◌, ◌≡◌, ◌≤◌, Bool, true, false, not, Option, Some, None, option_map, List, length, map, filter, if◌then◌else◌}
+use Rattle.cover_problem.specs.Lists.{has, numbers}
 use Rattle.cover_problem.specs.Problem.{Cover, IsProblem}
-use Rattle.cover_problem.specs.Covering.{active, remaining}
+use Rattle.cover_problem.specs.Covering.{active, remaining, list_of}
 use Rattle.x_steps.specs.declared.state.Label.{Label}
+use Rattle.x_steps.specs.declared.state.Label.TheVariants.{X4, X5, X6, X7}
 use Rattle.x_steps.specs.declared.event.Event.{Event}
 use Rattle.x_steps.specs.Place.{Place}
-use Rattle.x_steps.specs.Steps.{Fits, covered_in, next, event_of}
+use Rattle.x_steps.specs.Steps.{Fits, item_after, covered_in, next, event_of, IsBefore}
+use Rattle.x_steps.specs.Before.{prev}
 
 -- a problem, and where its search stands
 pub record Position : Type 0 where
@@ -30,6 +33,36 @@ pub record Goes (old new : Position) (event : Event) : Type 0 where
   pub state : new.state ≡ next old.problem old.state
   pub tells : event ≡ event_of old.problem old.state
 
+-- one step back, to the one state before
+pub record GoesBack (old new : Position) : Type 0 where
+  pub problem : new.problem ≡ old.problem
+  pub state : new.state ≡ prev old.problem old.state
+  pub before : IsBefore old.problem new.state old.state
+
 -- the active items, each with the options left for it
 abbrev pub remaining_items : Cover → List ℕ → List (ℕ × List ℕ)
 remaining_items p c = map (λ i. (i, remaining p c i)) (active p c)
+
+-- the secondary items, above the primary ones, that are not covered
+unfoldable pub secondary : Cover → List ℕ → List ℕ
+secondary p c = filter (λ i. not (has c i)) (numbers (length p.names - p.primary) (p.primary + 1))
+
+-- each with the options left for it
+abbrev pub second_items : Cover → List ℕ → List (ℕ × List ℕ)
+second_items p c = map (λ i. (i, remaining p c i)) (secondary p c)
+
+-- whether an item is chosen at the step
+abbrev pub is_chosen : Label → Bool
+is_chosen X4 = true
+is_chosen X5 = true
+is_chosen X6 = true
+is_chosen X7 = true
+is_chosen _ = false
+
+-- the item that is chosen at X4 to X7
+unfoldable pub chosen_item : Cover → Place → Option ℕ
+chosen_item p s = if is_chosen s.label then Some (item_after p s.path) else None
+
+-- that item, with the options of its list
+unfoldable pub chosen_in : Cover → Place → Option (ℕ × List ℕ)
+chosen_in p s = option_map (λ i. (i, list_of p (covered_in p s) i)) (chosen_item p s)

@@ -5,10 +5,12 @@ mod covering;
 mod event;
 mod fault;
 pub mod laws;
+mod listing;
 mod machine;
+mod marks;
 mod state;
 
 pub use event::Event;
-pub use fault::StepFault;
+pub use fault::{AtFault, Refused, StepFault};
 pub use machine::Machine;
 pub use state::{Cursor, Label, State};

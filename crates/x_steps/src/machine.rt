@@ -6,6 +6,10 @@ ghost use Rattle.x_steps.specs.Shown.{place};
 ghost use Rattle.x_steps.specs.Steps.{Fits, covered_in, next, event_of, cursor_of};
 ghost use Rattle.x_steps.specs.Machine.{IsAt, Goes};
 
+mod at;
+mod back;
+mod read;
+
 use crate::covering::{choose, cover_others, has_active, last_covered, uncover_last};
 use crate::event::Event;
 use crate::fault::StepFault;
@@ -48,7 +52,11 @@ fn label_entered(entered: bool) -> Label
 fn event_entered(entered: bool) -> Event
     ensures { result ≡ (if entered then Event.Moved else Event.Visited) }
 {
-    if entered { Event::Moved } else { Event::Visited }
+    if entered {
+        Event::Moved
+    } else {
+        Event::Visited
+    }
 }
 
 /// A search that is taken step by step: a problem, a state of its run, and a table that stands for the items covered there.

@@ -1,5 +1,7 @@
 //! Where a search stands.
 
+use std::alloc::AllocError;
+
 /// The step about to be done (TAOCP volume 4B, section 7.2.2.1), or `Done` after the last.
 #[derive(Clone, Copy, Debug, PartialEq, Eq)]
 pub enum Label {
@@ -31,7 +33,19 @@ pub struct State {
 }
 
 impl State {
-    ghost use Rattle.std.specs.Prelude.{◌≡◌};
+    ghost use Rattle.std.specs.Prelude.{◌≡◌, IfOk};
+    ghost use Rattle.x_steps.specs.Shown.{place};
+
+    /// The same state, with a path of its own.
+    pub fn copy(&self) -> Result<State, AllocError>
+        ensures { IfOk result (λ state. place state ≡ place self.now) }
+    {
+        Ok(State {
+            label: self.label,
+            path: self.path.clone()?,
+            cursor: self.cursor,
+        })
+    }
 
     /// Goes to this step, with the same path.
     #[inline(always)]

@@ -6,5 +6,5 @@ abbrev pub invariant-loop-item : goal.invariant-loop-item
 invariant-loop-item g l = record {
   subject : g.T.Table.subject l.table ≡ g.T.Table.subject l.fn.table;
   covered : g.T.Table.covered_list l.table ≡ g.T.Table.covered_list l.fn.table ++ take l.item-index l.items;
-  rest : CanCover (g.T.Table.subject l.table) (g.T.Table.covered_list l.table) (drop l.item-index l.items)
+  rest : CanCover (g.T.Table.subject l.table) (g.T.Table.covered_list l.table) (drop l.item-index l.items);
 }

@@ -1,5 +1,4 @@
-use Rattle.std.proofs.Common.{arith, refl, sym, ap, ◌∙◌}
-use Rattle.x_steps.proofs.MachineLemmas.{closes, some_at_X7, from_label, to_state, label_of, cursor_in, goes}
+use Rattle.x_steps.proofs.MachineLemmas.{closes, some_at_X7, from_label, to_state, label_of, goes}
 use Rattle.x_steps.proofs.machine.Machine.close.Goals as goal
 
 pub last_covered-item-requires : goal.last_covered-item-requires

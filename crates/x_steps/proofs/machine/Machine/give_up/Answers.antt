@@ -1,5 +1,5 @@
-use Rattle.std.proofs.Common.{arith, refl, sym, ap, ◌∙◌}
-use Rattle.x_steps.proofs.MachineLemmas.{gives_up, from_label, to_state, label_of, cursor_in, goes}
+use Rattle.std.proofs.Common.{sym, ap, ◌∙◌}
+use Rattle.x_steps.proofs.MachineLemmas.{gives_up, from_label, to_state, label_of, goes}
 use Rattle.x_steps.proofs.machine.Machine.give_up.Goals as goal
 
 pub invariant_of-self : goal.invariant_of-self

@@ -1,5 +1,4 @@
-use Rattle.std.proofs.Common.{arith, refl, sym, ap, ◌∙◌}
-use Rattle.x_steps.proofs.MachineLemmas.{opens, opens_ready, opens_covers, from_label, to_state, label_of, cursor_in, goes}
+use Rattle.x_steps.proofs.MachineLemmas.{opens, opens_ready, opens_covers, from_label, to_state, label_of, goes}
 use Rattle.x_steps.proofs.machine.Machine.open.Goals as goal
 
 pub choose-item-requires-clause-open : goal.choose-item-requires-clause-open

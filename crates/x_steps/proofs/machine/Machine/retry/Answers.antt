@@ -1,4 +1,4 @@
-use Rattle.std.proofs.Common.{arith, ap, ◌∙◌, ◌-◌, length, ℕ}
+use Rattle.std.proofs.Common.{arith, ap, ◌-◌, length, ℕ}
 use Rattle.x_steps.proofs.MachineLemmas.{retries, retry_option_in, others_count, can_uncover, mid_some, mid_has, from_label, to_state, label_of, cursor_in, goes}
 use Rattle.x_steps.proofs.machine.Machine.retry.Goals as goal
 

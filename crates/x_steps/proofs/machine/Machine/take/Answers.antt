@@ -1,4 +1,4 @@
-use Rattle.std.proofs.Common.{arith, ap, ◌∙◌}
+use Rattle.std.proofs.Common.{arith}
 use Rattle.x_steps.proofs.MachineLemmas.{takes, some_covered, option_in, has_item, can_cover, room_left, from_label, to_state, label_of, cursor_in, goes}
 use Rattle.x_steps.proofs.machine.Machine.take.Goals as goal
 

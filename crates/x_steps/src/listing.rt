@@ -1,0 +1,59 @@
+//! Which items are left, each with its options, as a table tells them.
+ghost use Rattle.std.specs.Prelude.{◌≡◌, ◌<◌, ◌≤◌, length, map, IfOk};
+ghost use Rattle.cover_problem.specs.Problem.{IsProblem};
+ghost use Rattle.cover_problem.specs.Covering.{list_of};
+ghost use Rattle.x_steps.specs.Machine.{remaining_items, second_items};
+
+use crate::marks::{is_marked, marks_of};
+use cover_problem::{Problem, Table};
+use std::alloc::{AllocError, Global};
+
+/// The options of an item's list.
+pub fn options_of<T: Table>(alloc: Global, table: &T, item: u32) -> Result<Vec<u32>, AllocError>
+    requires some { 0 < item }
+    requires within { item ≤ length (T.subject table.now).names }
+    ensures { IfOk result (λ options. options.items ≡ list_of (T.subject table.now) (T.covered_list table.now) item) }
+{
+    let mut options = Vec::with_capacity(alloc, table.len(item) as usize)?;
+    let mut next = table.first_option(item);
+    while let Some(option) = next {
+        options.push(option)?;
+        next = table.next_option(item, option);
+    }
+    Ok(options)
+}
+
+/// The active items, each with the options left for it.
+pub fn active_items<T: Table>(alloc: Global, table: &T) -> Result<Vec<(u32, Vec<u32>)>, AllocError>
+    requires { IsProblem (T.subject table.now) }
+    ensures { IfOk result (λ rows. map (λ row. (row.0, row.1.items)) rows.items ≡ remaining_items (T.subject table.now) (T.covered_list table.now)) }
+{
+    let mut rows = Vec::new(alloc);
+    let mut next = table.first_item();
+    while let Some(item) = next {
+        rows.push((item, options_of(alloc, table, item)?))?;
+        next = table.next_item(item);
+    }
+    Ok(rows)
+}
+
+/// The secondary items that are not covered, each with the options left for it.
+pub fn secondary_items<T: Table>(
+    alloc: Global,
+    problem: &Problem,
+    table: &T,
+) -> Result<Vec<(u32, Vec<u32>)>, AllocError>
+    requires { T.subject table.now ≡ problem.now }
+    ensures { IfOk result (λ rows. map (λ row. (row.0, row.1.items)) rows.items ≡ second_items problem.now (T.covered_list table.now)) }
+{
+    let marks = marks_of(alloc, problem.items(), table.covered())?;
+    let mut rows = Vec::new(alloc);
+    for before in problem.primary()..problem.items() {
+        let item = before + 1;
+        if is_marked(&marks, item) {
+            continue;
+        }
+        rows.push((item, options_of(alloc, table, item)?))?;
+    }
+    Ok(rows)
+}

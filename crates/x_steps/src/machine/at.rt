@@ -1,0 +1,276 @@
+//! A machine at a given state: its path is walked down, choice by choice, each tested before it is taken.
+ghost use Rattle.std.specs.Prelude.{◌≡◌, ◌<◌, ◌≤◌, ◌++◌, ◌∷◌, ◌&&◌, ◌↔◌, [], ℕ, All, not, true, false, length, slice_index_or, IsTrue, IfOk, IfErr, OnOk};
+ghost use Rattle.std.specs.List.{list_any};
+ghost use Rattle.cover_problem.specs.Lists.{has, above};
+ghost use Rattle.cover_problem.specs.Path.{IsChoice, IsValid, covered_by};
+ghost use Rattle.x_steps.specs.Place.{at};
+ghost use Rattle.x_steps.specs.Shown.{place};
+ghost use Rattle.x_steps.specs.Steps.{Fits, IsOpen, left, cursor_of, covered_in};
+ghost use Rattle.x_steps.specs.Machine.{IsAt};
+ghost use Rattle.x_steps.specs.Marks.{AreMarked};
+ghost use Rattle.x_steps.specs.Resume.{position, IsDown};
+
+use crate::covering::{choose, has_active, uncover_last};
+use crate::fault::{AtFault, Refused};
+use crate::machine::Machine;
+use crate::marks::{any_marked, mark_all, no_marks};
+use crate::state::{Cursor, Label, State};
+use cover_problem::{Problem, Table};
+use std::alloc::Global;
+
+/// Whether the problem has an option of this number.
+fn has_option(problem: &Problem, option: u32) -> bool
+    ensures { IsTrue result ↔ ((0 < option) × (option ≤ length problem.now.options)) }
+{
+    0 < option && option <= problem.options()
+}
+
+/// Whether the option has the item, and none that is marked.
+fn is_free(option: &[u32], item: u32, marks: &[bool]) -> bool
+    requires { All (λ i. i < length marks.now) option.now }
+    ensures { result ≡ (has option.now item && not (list_any (λ i. slice_index_or marks.now i false) option.now)) }
+{
+    option.contains(&item) && !any_marked(marks, option)
+}
+
+impl<'p, T: Table> Machine<'p, T> {
+    /// The machine at a state of the search. Refused where the search has no such state, and for want of memory; the table
+    /// then comes back with nothing covered.
+    pub fn at(
+        alloc: Global,
+        problem: &'p Problem,
+        table: T,
+        state: &State,
+    ) -> Result<Machine<'p, T>, Refused<AtFault, T>>
+        requires subject { T.subject table ≡ problem.now }
+        requires covered { T.covered_list table ≡ [] }
+        ensures at { IfOk result (λ m. m ≡ record { problem = problem.now; state = place state.now }) }
+        ensures fits { OnOk result (Fits problem.now (place state.now)) }
+        ensures unfit { IfErr result (λ r. r.fault ≡ AtFault.NotAState → Fits problem.now (place state.now) → ⊥) }
+        ensures subject_back { IfErr result (λ r. T.subject r.given ≡ problem.now) }
+        ensures covered_back { IfErr result (λ r. T.covered_list r.given ≡ []) }
+    {
+        let mut marks = match no_marks(alloc, problem.items()) {
+            Ok(marks) => marks,
+            Err(_) => {
+                return Err(Refused {
+                    fault: AtFault::OutOfMemory,
+                    given: table,
+                });
+            }
+        };
+        let mut machine = match Machine::new(alloc, problem, table) {
+            Ok(machine) => machine,
+            Err(given) => {
+                return Err(Refused {
+                    fault: AtFault::OutOfMemory,
+                    given,
+                });
+            }
+        };
+        machine.begin();
+        if machine.reach(state, &mut marks) {
+            Ok(machine)
+        } else {
+            Err(Refused {
+                fault: AtFault::NotAState,
+                given: machine.into_table(),
+            })
+        }
+    }
+
+    /// The table, with nothing covered.
+    fn into_table(self) -> T
+        ensures subject { T.subject result ≡ self.entry.problem }
+        ensures covered { T.covered_list result ≡ [] }
+    {
+        let Machine {
+            problem: _,
+            mut table,
+            state: _,
+        } = self;
+        let count = table.covered().len();
+        uncover_last(&mut table, count);
+        table
+    }
+
+    /// Goes to the state, if the search has it.
+    fn reach(&mut self, state: &State, marks: &mut [bool]) -> bool
+        requires { IsDown self.old.problem [] self.old marks.old }
+        ensures there { IsTrue result → self.new ≡ position self.old.problem (place state.now) }
+        ensures fits { IsTrue result → Fits self.old.problem (place state.now) }
+        ensures unfit { result ≡ false → Fits self.old.problem (place state.now) → ⊥ }
+        ensures problem { self.new.problem ≡ self.old.problem }
+    {
+        if !self.follow(&state.path, marks) {
+            return false;
+        }
+        self.settle(state.label, state.cursor, marks)
+    }
+
+    /// Takes the choices of the path one by one; false where one of them is none.
+    fn follow(&mut self, path: &[u32], marks: &mut [bool]) -> bool
+        requires { IsDown self.old.problem [] self.old marks.old }
+        ensures down { IsTrue result → IsDown self.old.problem path.now self.new marks.new }
+        ensures unfit { result ≡ false → IsValid self.old.problem path.now → ⊥ }
+        ensures problem { self.new.problem ≡ self.old.problem }
+    {
+        for option in path {
+            if !self.descend(*option, marks) {
+                return false;
+            }
+        }
+        true
+    }
+
+    /// Takes the option, if it is left for the item that is chosen.
+    fn descend(&mut self, option: u32, marks: &mut [bool]) -> bool
+        requires { IsDown self.old.problem self.old.state.path self.old marks.old }
+        ensures down { IsTrue result → IsDown self.old.problem (self.old.state.path ++ option ∷ []) self.new marks.new }
+        ensures unfit { result ≡ false → Fits self.old.problem (at Label.X5 self.old.state.path (Cursor.At option)) → ⊥ }
+        ensures problem { self.new.problem ≡ self.old.problem }
+    {
+        if !self.is_choice(option, marks) {
+            return false;
+        }
+        self.open_at(option);
+        self.take(option);
+        mark_all(marks, self.problem.option(option));
+        true
+    }
+
+    /// Whether the path can go on with the option: it is left for the item that is chosen.
+    fn is_choice(&self, option: u32, marks: &[bool]) -> bool
+        requires { IsDown self.now.problem self.now.state.path self.now marks.now }
+        ensures { IsTrue result ↔ Fits self.now.problem (at Label.X5 self.now.state.path (Cursor.At option)) }
+    {
+        if !has_option(self.problem, option) {
+            return false;
+        }
+        if !has_active(&self.table) {
+            return false;
+        }
+        is_free(self.problem.option(option), choose(&self.table), marks)
+    }
+
+    /// Whether an item is active.
+    fn is_open(&self) -> bool
+        requires { IsAt self.now Label.X2 }
+        ensures { IsTrue result ↔ IsOpen self.now.problem self.now.state.path }
+    {
+        has_active(&self.table)
+    }
+
+    /// Goes from X2 to the step, if the search stands there with this path.
+    fn settle(&mut self, label: Label, cursor: Cursor, marks: &[bool]) -> bool
+        requires { IsDown self.old.problem self.old.state.path self.old marks.now }
+        ensures there { IsTrue result → self.new ≡ position self.old.problem (at label self.old.state.path cursor) }
+        ensures fits { IsTrue result → Fits self.old.problem (at label self.old.state.path cursor) }
+        ensures unfit { result ≡ false → Fits self.old.problem (at label self.old.state.path cursor) → ⊥ }
+        ensures problem { self.new.problem ≡ self.old.problem }
+    {
+        if !self.would_fit(label, cursor, marks) {
+            return false;
+        }
+        self.go_to(label, cursor);
+        true
+    }
+
+    /// Whether the search stands at the step with this path.
+    fn would_fit(&self, label: Label, cursor: Cursor, marks: &[bool]) -> bool
+        requires { IsDown self.now.problem self.now.state.path self.now marks.now }
+        ensures { IsTrue result ↔ Fits self.now.problem (at label self.now.state.path cursor) }
+    {
+        match (label, cursor) {
+            (Label::X1, Cursor::None) => self.state.path.is_empty(),
+            (Label::X2, Cursor::None) => true,
+            (Label::X3, Cursor::None) => self.is_open(),
+            (Label::X4, Cursor::None) => self.is_open(),
+            (Label::X5, Cursor::At(option)) => self.is_choice(option, marks),
+            (Label::X5, Cursor::Past) => self.is_open(),
+            (Label::X6, Cursor::At(option)) => self.is_choice(option, marks),
+            (Label::X7, Cursor::None) => self.is_open(),
+            (Label::X8, Cursor::None) => true,
+            (Label::Done, Cursor::None) => self.state.path.is_empty(),
+            _ => false,
+        }
+    }
+
+    /// Goes from X2 to a step where the search stands with this path.
+    fn go_to(&mut self, label: Label, cursor: Cursor)
+        requires label { IsAt self.old Label.X2 }
+        requires fits { Fits self.old.problem (at label self.old.state.path cursor) }
+        ensures { self.new ≡ position self.old.problem (at label self.old.state.path cursor) }
+    {
+        match (label, cursor) {
+            (Label::X5, Cursor::At(option)) => self.open_at(option),
+            (Label::X6, Cursor::At(option)) => self.take_at(option),
+            (Label::X6, _) => unreachable!(),
+            (Label::X5, _) => self.open_past(),
+            (Label::X7, _) => self.pass_all(),
+            _ => self.turn(label, cursor),
+        }
+    }
+
+    /// From X2 to X5 at an option that the path can go on with.
+    fn open_at(&mut self, option: u32)
+        requires label { IsAt self.old Label.X2 }
+        requires fits { Fits self.old.problem (at Label.X5 self.old.state.path (Cursor.At option)) }
+        ensures { self.new ≡ position self.old.problem (at Label.X5 self.old.state.path (Cursor.At option)) }
+    {
+        self.open_level();
+        self.turn(Label::X5, Cursor::At(option));
+    }
+
+    /// From X2 to X6 at an option that the path can go on with.
+    fn take_at(&mut self, option: u32)
+        requires label { IsAt self.old Label.X2 }
+        requires fits { Fits self.old.problem (at Label.X6 self.old.state.path (Cursor.At option)) }
+        ensures { self.new ≡ position self.old.problem (at Label.X6 self.old.state.path (Cursor.At option)) }
+    {
+        self.open_at(option);
+        self.take(option);
+        self.turn(Label::X8, Cursor::None);
+        self.leave();
+    }
+
+    /// From X2 to X5 past the last option.
+    fn open_past(&mut self)
+        requires label { IsAt self.old Label.X2 }
+        requires fits { Fits self.old.problem (at Label.X5 self.old.state.path Cursor.Past) }
+        ensures { self.new ≡ position self.old.problem (at Label.X5 self.old.state.path Cursor.Past) }
+    {
+        self.open_level();
+        self.turn(Label::X5, Cursor::Past);
+    }
+
+    /// From X2 to X7.
+    fn pass_all(&mut self)
+        requires label { IsAt self.old Label.X2 }
+        requires fits { Fits self.old.problem (at Label.X7 self.old.state.path Cursor.None) }
+        ensures { self.new ≡ position self.old.problem (at Label.X7 self.old.state.path Cursor.None) }
+    {
+        self.open_past();
+        self.give_up();
+    }
+
+    /// From X2 to X5 with the chosen item covered.
+    fn open_level(&mut self)
+        requires label { IsAt self.old Label.X2 }
+        requires open { IsOpen self.old.problem self.old.state.path }
+        ensures { self.new ≡ position self.old.problem (at Label.X5 self.old.state.path (cursor_of (above 0 (left self.old.problem self.old.state.path)))) }
+    {
+        self.enter();
+        self.plan();
+        self.open();
+    }
+
+    /// Stands at another step, where the same items are covered.
+    fn turn(&mut self, label: Label, cursor: Cursor)
+        requires fits { Fits self.old.problem (at label self.old.state.path cursor) }
+        requires same { covered_in self.old.problem (at label self.old.state.path cursor) ≡ covered_in self.old.problem self.old.state }
+        ensures { self.new ≡ position self.old.problem (at label self.old.state.path cursor) }
+    {
+        self.state.go(label, cursor);
+    }
+}

@@ -1,0 +1,62 @@
+//! What a machine tells of the search: the covered items, the item that is chosen, and which items are left.
+ghost use Rattle.std.specs.Prelude.{◌≡◌, map, option_map, IfOk};
+ghost use Rattle.x_steps.specs.Steps.{covered_in};
+ghost use Rattle.x_steps.specs.Machine.{remaining_items, second_items, chosen_item, chosen_in};
+
+use crate::covering::{choose, last_covered};
+use crate::listing::{active_items, options_of, secondary_items};
+use crate::machine::Machine;
+use crate::state::{Cursor, Label};
+use cover_problem::Table;
+use std::alloc::AllocError;
+
+impl<'p, T: Table> Machine<'p, T> {
+    /// The covered items, in the order of covering.
+    pub fn covered(&self) -> &[u32]
+        ensures { result.now ≡ covered_in self.now.problem self.now.state }
+    {
+        self.table.covered()
+    }
+
+    /// The active items in order, each with the options left for it.
+    pub fn remaining(&self) -> Result<Vec<(u32, Vec<u32>)>, AllocError>
+        ensures { IfOk result (λ rows. map (λ row. (row.0, row.1.items)) rows.items ≡ remaining_items self.now.problem (covered_in self.now.problem self.now.state)) }
+    {
+        active_items(*self.state.path.allocator(), &self.table)
+    }
+
+    /// The secondary items that are not covered, in order, each with the options left for it.
+    pub fn second(&self) -> Result<Vec<(u32, Vec<u32>)>, AllocError>
+        ensures { IfOk result (λ rows. map (λ row. (row.0, row.1.items)) rows.items ≡ second_items self.now.problem (covered_in self.now.problem self.now.state)) }
+    {
+        secondary_items(*self.state.path.allocator(), self.problem, &self.table)
+    }
+
+    /// At X4 to X7 the chosen item, with the options of its list.
+    pub fn chosen(&self) -> Result<Option<(u32, Vec<u32>)>, AllocError>
+        ensures { IfOk result (λ row. option_map (λ row. (row.0, row.1.items)) row ≡ chosen_in self.now.problem self.now.state) }
+    {
+        let Some(item) = self.chosen_item() else {
+            return Ok(None);
+        };
+        let options = options_of(*self.state.path.allocator(), &self.table, item)?;
+        Ok(Some((item, options)))
+    }
+
+    /// The item that is chosen at X4 to X7. From X5 on it is covered: last at X5 and X7, and before the option's others at X6.
+    fn chosen_item(&self) -> Option<u32>
+        ensures { result ≡ chosen_item self.now.problem self.now.state }
+    {
+        match (self.state.label, self.state.cursor) {
+            (Label::X4, _) => Some(choose(&self.table)),
+            (Label::X5, _) => Some(last_covered(&self.table)),
+            (Label::X7, _) => Some(last_covered(&self.table)),
+            (Label::X6, Cursor::At(option)) => {
+                let covered = self.table.covered();
+                Some(covered[covered.len() - self.problem.option(option).len()])
+            }
+            (Label::X6, _) => unreachable!(),
+            _ => None,
+        }
+    }
+}

@@ -1,16 +1,16 @@
 -- The tests of an exact cover are passed by the exact covers, each option once, and by no other numbers.
-use Rattle.std.proofs.Common.{◌≡◌, ℕ, zero, suc, ◌+◌, ◌-◌, ◌<◌, ◌≤◌, ◌==◌, nat_le, Bool, true, false, not, ◌&&◌, cond, if◌then◌else◌, ◌⊎◌, inl, inr, List, [], ◌∷◌, ◌++◌, length, take, get_or, count_by, refl, sym, ap, ◌∙◌, subst, arith, one-add, add-one}
+use Rattle.std.proofs.Common.{◌≡◌, ℕ, suc, ◌+◌, ◌-◌, ◌<◌, ◌≤◌, nat_le, Bool, true, false, not, ◌&&◌, cond, ◌⊎◌, inl, inr, List, [], ◌∷◌, length, take, get_or, count_by, refl, sym, ap, ◌∙◌, arith, one-add, add-one}
 use Rattle.std.proofs.lemmas.Bool.{cases_lt, and_parts, and_from, false≢true, leb-true, le-leb}
-use Rattle.std.proofs.lemmas.Bool.Decides.{eqb_tells, leb_tells, nat_tests}
+use Rattle.std.proofs.lemmas.Bool.Decides.{eqb_tells, nat_tests}
 use Rattle.std.proofs.lemmas.List.Sums.{sum_by-append}
 use Rattle.std.proofs.lemmas.List.{take_more}
-use Rattle.std.specs.List.{list_any, list_all}
+use Rattle.std.specs.List.{list_all}
 use Rattle.cover_problem.specs.Lists.{has, are_distinct, numbers}
 use Rattle.cover_problem.specs.Problem.{Cover, IsProblem, is_item, option_at}
 use Rattle.cover_problem.specs.ExactCover.{IsExactCover}
 use Rattle.cover_problem.specs.Fair.{occurrences, is_fair, is_useful, is_cover}
 use Rattle.cover_problem.proofs.ListLemmas.{has_here, has_later, has_cases, has_numbers, has_numbers_in, all_member, all_from, some_member, some_from}
-use Rattle.cover_problem.proofs.CoveringLemmas.{IsOptionOf, option_is}
+use Rattle.cover_problem.proofs.CoveringLemmas.{option_is}
 
 -- *the loops*
 

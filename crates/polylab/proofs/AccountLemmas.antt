@@ -1,29 +1,22 @@
 -- An account with one state more.
-use Rattle.std.proofs.Common.{◌≡◌, ℕ, zero, suc, ◌+◌, ◌-◌, ◌<◌, ◌≤◌, ◌==◌, Bool, true, false, not, cond, ◌&&◌, if◌then◌else◌, ◌⊎◌, inl, inr, List, [], ◌∷◌, ◌++◌, length, map, decimal, codes, refl, sym, ap, ◌∙◌, arith, append_assoc, append-nil, subst, slice_index, slice_set, replicate, flat_map, length-append, zero-add, add-one}
+use Rattle.std.proofs.Common.{◌≡◌, ℕ, zero, suc, ◌+◌, ◌<◌, ◌==◌, Bool, true, false, not, cond, ◌&&◌, if◌then◌else◌, inl, inr, List, [], ◌∷◌, ◌++◌, length, map, refl, sym, ap, ◌∙◌, arith, append-nil, subst, slice_index, slice_set, replicate, length-append, zero-add, add-one}
 use Rattle.std.proofs.lemmas.Bool.Decides.{eqb_tells}
 use Rattle.std.proofs.lemmas.Grind.{flat_map-append}
 use Rattle.std.proofs.lemmas.List.{map-append, length-map}
 use Rattle.text_lines.specs.Writing.{line_text, text_of}
 use Rattle.cover_problem.specs.Lists.{numbers}
 use Rattle.cover_problem.specs.Problem.{Cover, IsProblem}
-use Rattle.cover_problem.specs.Covering.{active}
-use Rattle.cover_problem.specs.Path.{covered_by, IsValid}
 use Rattle.cover_problem.proofs.ListLemmas.{length-numbers}
 use Rattle.cover_problem.proofs.CoveringLemmas.{depth}
 use Rattle.x_steps.specs.declared.state.Label.{Label}
 use Rattle.x_steps.specs.declared.state.Label.TheVariants.{X1, X2, X3, X4, X5, X6, X7, X8, Done}
 use Rattle.x_steps.specs.declared.state.Cursor.{Cursor}
 use Rattle.x_steps.specs.declared.state.Cursor.TheVariants.{None, At, Past}
-use Rattle.x_steps.specs.declared.event.Event.{Event}
-use Rattle.x_steps.specs.declared.event.Event.TheVariants.{Moved, Visited, Finished}
-use Rattle.x_steps.specs.Place.{Place, at, start, done}
+use Rattle.x_steps.specs.declared.event.Event.TheVariants.{Moved, Visited}
+use Rattle.x_steps.specs.Place.{Place, at}
 use Rattle.x_steps.specs.Steps.{Fits, is_level, is_open, is_visit, next, event_of}
-use Rattle.x_steps.specs.Run.{visits, level_count, span}
-use Rattle.x_steps.specs.Rank.{rank}
-use Rattle.x_steps.proofs.SpanLemmas.{visits_push, visit_of, level_count_push, span_next, span_self}
-use Rattle.x_steps.proofs.RunLemmas.{start_fits, start_first, end_is, done_last}
-use Rattle.x_steps.proofs.RankLemmas.{rank_next}
-use Rattle.x_steps.proofs.Neighbours.{fits_next}
+use Rattle.x_steps.specs.Run.{visits, level_count}
+use Rattle.x_steps.proofs.SpanLemmas.{visits_push, level_count_push}
 use Rattle.polylab.specs.Account.{Account, account_of, noted, one_more, nothing_told, is_visited, visit_words}
 
 differs : (a b : ℕ) → (a ≡ b → ⊥) → (a == b) ≡ false

@@ -12,7 +12,7 @@ use Rattle.x_steps.proofs.VisitLemmas.{visits_rise, visits_are_covers}
 use Rattle.polylab.specs.declared.job.Job.{Job}
 use Rattle.polylab.specs.declared.job.Job.TheVariants as jobs
 use Rattle.polylab.specs.Account.{account_of}
-use Rattle.polylab.specs.Output.{cover_output, told, without_last_zeros}
+use Rattle.polylab.specs.Output.{cover_output, without_last_zeros}
 use Rattle.polylab.specs.Outcome.{outcome, covers_of}
 use Rattle.polylab.specs.Listing.{ListsCovers, IsListed}
 
@@ -25,7 +25,7 @@ lists p sound = record {
   levels = without_last_zeros (account_of p (span p start done)).entered;
   lines = refl;
   rise = visits_rise p;
-  covers = visits_are_covers p sound
+  covers = visits_are_covers p sound;
 }
 
 -- what is written of what was read

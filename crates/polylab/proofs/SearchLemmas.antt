@@ -1,9 +1,9 @@
 -- The loop of a search: the account so far is that of the states from X1 up to where the machine stands.
-use Rattle.std.proofs.Common.{◌≡◌, ℕ, suc, ◌+◌, ◌-◌, ◌<◌, ◌≤◌, true, List, [], length, refl, sym, ap, ◌∙◌, arith, subst}
+use Rattle.std.proofs.Common.{◌≡◌, ℕ, suc, ◌-◌, ◌<◌, true, List, length, sym, ap, ◌∙◌, arith, subst}
 use Rattle.cover_problem.specs.Problem.{Cover, IsProblem}
 use Rattle.x_steps.specs.declared.state.Label.TheVariants.{Done}
 use Rattle.x_steps.specs.declared.event.Event.{Event}
-use Rattle.x_steps.specs.Place.{Place, start, done}
+use Rattle.x_steps.specs.Place.{start, done}
 use Rattle.x_steps.specs.Steps.{Fits, is_level, next, event_of}
 use Rattle.x_steps.specs.Run.{span}
 use Rattle.x_steps.specs.Rank.{rank}

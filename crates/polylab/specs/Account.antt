@@ -1,11 +1,11 @@
 -- What a search tells: the lines of its visits, and how many visits, steps and X2 states at each level it had.
-use Rattle.std.specs.Prelude.{ℕ, suc, ◌+◌, ◌==◌, Bool, true, false, List, [], ◌∷◌, ◌++◌, length, map, decimal, codes, slice_index, slice_set, replicate, if◌then◌else◌}
+use Rattle.std.specs.Prelude.{ℕ, suc, ◌+◌, Bool, true, false, List, [], ◌∷◌, ◌++◌, length, map, decimal, codes, slice_index, slice_set, replicate, if◌then◌else◌}
 use Rattle.text_lines.specs.Writing.{line_text, text_of}
 use Rattle.cover_problem.specs.Lists.{numbers}
 use Rattle.cover_problem.specs.Problem.{Cover}
 use Rattle.x_steps.specs.declared.state.Label.{Label}
 use Rattle.x_steps.specs.declared.event.Event.{Event}
-use Rattle.x_steps.specs.declared.event.Event.TheVariants.{Moved, Visited, Finished}
+use Rattle.x_steps.specs.declared.event.Event.TheVariants.{Visited}
 use Rattle.x_steps.specs.Place.{Place}
 use Rattle.x_steps.specs.Steps.{is_level}
 use Rattle.x_steps.specs.Run.{visits, level_count}

@@ -1,8 +1,8 @@
 -- What `cover` writes: a line for each visit in path order, then how many visits and steps, and the levels.
 --
 -- Example: for the small problem `visit 4 5 1`, `visits 1`, `steps 43`, `levels 1 2 2 1`.
-use Rattle.std.specs.Prelude.{ℕ, ◌==◌, List, [], ◌∷◌, ◌++◌, map, length, decimal, codes, if◌then◌else◌}
-use Rattle.text_lines.specs.Writing.{text_of, line_text}
+use Rattle.std.specs.Prelude.{ℕ, ◌==◌, List, [], ◌∷◌, ◌++◌, map, decimal, codes, if◌then◌else◌}
+use Rattle.text_lines.specs.Writing.{text_of}
 use Rattle.cover_problem.specs.Problem.{Cover}
 use Rattle.x_steps.specs.Place.{start, done}
 use Rattle.x_steps.specs.Run.{span}

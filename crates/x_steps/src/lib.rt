@@ -14,3 +14,8 @@ pub use event::Event;
 pub use fault::{AtFault, Refused, StepFault};
 pub use machine::Machine;
 pub use state::{Cursor, Label, State};
+
+#[cfg(test)]
+mod drawn_tests;
+#[cfg(test)]
+mod tests;

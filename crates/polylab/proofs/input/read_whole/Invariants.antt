@@ -1,4 +1,4 @@
-use Rattle.std.proofs.Common.{◌≡◌, ◌+◌, ◌-◌, ◌<◌, vec_len}
+use Rattle.std.proofs.Common.{◌+◌, ◌-◌, ◌<◌, vec_len}
 use Rattle.std.specs.Io.KnownBytes.{Consumes}
 use Rattle.polylab.specs.declared.input.TheConstants.{MOST_INPUT}
 use Rattle.polylab.proofs.input.read_whole.Given as goal

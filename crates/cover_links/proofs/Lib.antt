@@ -1,0 +1,4 @@
+pub mod Lent
+pub mod Made
+pub mod Places
+pub mod PlaceLemmas

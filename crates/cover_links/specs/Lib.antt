@@ -1,3 +1,5 @@
 pub mod Ownership
 pub mod Places
 pub mod Entries
+pub mod Hiding
+pub mod Safety

@@ -4,3 +4,4 @@
 mod block;
 mod cells;
 mod entry;
+mod hiding;

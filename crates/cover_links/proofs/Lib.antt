@@ -3,4 +3,7 @@ pub mod Lent
 pub mod Made
 pub mod Places
 pub mod SafetyLemmas
+pub mod RingLemmas
+pub mod RestoreLemmas
+pub mod LayoutLemmas
 pub mod PlaceLemmas

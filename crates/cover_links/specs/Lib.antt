@@ -3,3 +3,5 @@ pub mod Places
 pub mod Entries
 pub mod Hiding
 pub mod Safety
+pub mod Ring
+pub mod Layout

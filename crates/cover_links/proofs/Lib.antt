@@ -5,5 +5,7 @@ pub mod Places
 pub mod SafetyLemmas
 pub mod RingLemmas
 pub mod RestoreLemmas
+pub mod Standing
+pub mod Walking
 pub mod LayoutLemmas
 pub mod PlaceLemmas

@@ -7,11 +7,18 @@ use Rattle.cover_links.specs.Ring.{IsNext, Follows, IsRing, without}
 
 -- ---- a member leaves
 
-without_ne : (t : ℕ → Bool) (q k : ℕ) → without t q k ≡ true → (t k ≡ true) × (k ≡ q → ⊥)
+pub without_ne : (t : ℕ → Bool) (q k : ℕ) → without t q k ≡ true → (t k ≡ true) × (k ≡ q → ⊥)
 without_ne t q k h = let a = and_parts (t k) (not (k == q)) h in (a.0, λ e. both_ways (k == q) (not-true (k == q) a.1) (eq-eqb k q e))
 
-without_from : (t : ℕ → Bool) (q k : ℕ) → t k ≡ true → (k ≡ q → ⊥) → without t q k ≡ true
+pub without_from : (t : ℕ → Bool) (q k : ℕ) → t k ≡ true → (k ≡ q → ⊥) → without t q k ≡ true
 without_from t q k h ne = and_from (t k) (not (k == q)) h (not_from_false (k == q) (ne_eqb k q ne))
+
+pub without_stays : (t : ℕ → Bool) (q k : ℕ) → (k ≡ q → ⊥) → without t q k ≡ t k
+without_stays t q k ne = let f : k == q ≡ false = ne_eqb k q ne in rw f (pick (t k))
+  where
+    pick : (b : Bool) → (b && true) ≡ b
+    pick true = refl
+    pick false = refl
 
 -- either q stood between x and y, or x and y stood side by side before
 abbrev pub StoodBy : (ℕ → Bool) → ℕ → ℕ → ℕ → Type 0

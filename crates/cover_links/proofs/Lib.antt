@@ -7,5 +7,7 @@ pub mod RingLemmas
 pub mod RestoreLemmas
 pub mod Standing
 pub mod Walking
+pub mod ListWalk
+pub mod Covered
 pub mod LayoutLemmas
 pub mod PlaceLemmas

@@ -5,7 +5,7 @@ use Rattle.std.specs.List.{before_first, after_first}
 use Rattle.std.proofs.lemmas.Bool.{and_parts, cases_eq, cases_Bool, cases_lt, not-true, both_ways, false≢true}
 use Rattle.cover_problem.specs.Lists.{has, are_distinct, numbers}
 use Rattle.cover_problem.specs.Problem.{Cover, IsProblem, option_at}
-use Rattle.cover_problem.proofs.ListLemmas.{has_cases, has_here, has_later, has_not_from, has_append_left, has_append_right, parts_are, distinct_parts}
+use Rattle.cover_problem.proofs.ListLemmas.{has_cases, has_here, has_later, has_not_from, has_append_left, has_append_right, has_append_cases, parts_are, distinct_parts}
 use Rattle.cover_problem.proofs.CoveringLemmas.{option_is, IsOptionOf}
 use Rattle.cover_links.specs.declared.entry.Entry.{Entry}
 use Rattle.cover_links.specs.Entries.{entry_at}
@@ -105,6 +105,28 @@ run_done p active k problem (j ∷ js) shown es A s r d all =
 -- shown, but for the option k's other items than i
 abbrev pub option_gone : Cover → ℕ → (ℕ → ℕ → Bool) → ℕ → ℕ → ℕ → Bool
 option_gone p i shown k = run_gone (run_gone shown k (after_first (λ x. x == i) (option_at p k))) k (before_first (λ x. x == i) (option_at p k))
+
+pub option_stays : (p : Cover) (i : ℕ) (shown : ℕ → ℕ → Bool) (k j m : ℕ) → (m ≡ k → ⊥) → option_gone p i shown k j m ≡ shown j m
+option_stays p i shown k j m ne =
+    run_stays (run_gone shown k (after_first (λ x. x == i) (option_at p k))) k (before_first (λ x. x == i) (option_at p k)) j m ne
+    ∙ run_stays shown k (after_first (λ x. x == i) (option_at p k)) j m ne
+
+-- what is left was shown, and is no other node of the option
+pub option_was : (p : Cover) (i : ℕ) (shown : ℕ → ℕ → Bool) (k j m : ℕ) → has (option_at p k) i ≡ true → has (option_at p m) j ≡ true → option_gone p i shown k j m ≡ true → (shown j m ≡ true) × ((j ≡ i → ⊥) → m ≡ k → ⊥)
+option_was p i shown k j m hi hj h =
+    let one = run_was (run_gone shown k (after_first (λ x. x == i) (option_at p k))) k (before_first (λ x. x == i) (option_at p k)) j m h in
+    let two = run_was shown k (after_first (λ x. x == i) (option_at p k)) j m one.0 in
+    (two.0, λ ne e. pick one.1 two.1 ne e (has_append_cases (before_first (λ x. x == i) (option_at p k)) (i ∷ after_first (λ x. x == i) (option_at p k)) j
+    (subst (λ l. has l j ≡ true) (parts_are i (option_at p k) hi) (subst (λ n. has (option_at p n) j ≡ true) e hj))))
+  where
+    pick : (has (before_first (λ x. x == i) (option_at p k)) j ≡ true → m ≡ k → ⊥) → (has (after_first (λ x. x == i) (option_at p k)) j ≡ true → m ≡ k → ⊥) → (j ≡ i → ⊥) → m ≡ k
+        → (has (before_first (λ x. x == i) (option_at p k)) j ≡ true) ⊎ (has (i ∷ after_first (λ x. x == i) (option_at p k)) j ≡ true) → ⊥
+    pick a b ne e (inl g) = a g e
+    pick a b ne e (inr g) = rest (has_cases i (after_first (λ x. x == i) (option_at p k)) j g)
+      where
+        rest : (i ≡ j) ⊎ (has (after_first (λ x. x == i) (option_at p k)) j ≡ true) → ⊥
+        rest (inl d) = ne (sym d)
+        rest (inr d) = b d e
 
 pub record HideDone (p : Cover) (shown : ℕ → ℕ → Bool) (active : ℕ → Bool) (es : List Entry) (x : ℕ) : Type 0 where
   pub stands : Stands p shown active (hidden es x)

@@ -9,5 +9,6 @@ pub mod Standing
 pub mod Walking
 pub mod ListWalk
 pub mod Covered
+pub mod CoverStep
 pub mod LayoutLemmas
 pub mod PlaceLemmas

@@ -10,5 +10,6 @@ pub mod Walking
 pub mod ListWalk
 pub mod Covered
 pub mod CoverStep
+pub mod Building
 pub mod LayoutLemmas
 pub mod PlaceLemmas

@@ -1,7 +1,8 @@
 -- Where each step of hiding and of covering stays in the block, and no length falls below 0 or grows too large.
-use Rattle.std.specs.Prelude.{ℕ, zero, suc, ◌+◌, ◌-◌, ◌<◌, ◌≤◌, ◌^◌, List, length}
+use Rattle.std.specs.Prelude.{ℕ, zero, suc, ◌+◌, ◌-◌, ◌<◌, ◌≤◌, ◌^◌, List, [], ◌∷◌, length}
 use Rattle.cover_links.specs.declared.entry.Entry.{Entry}
 use Rattle.cover_links.specs.Entries.{entry_at, changed, one_more, unlinked, item_relinked}
+use Rattle.cover_links.specs.Fresh.{node_written, node_appended}
 use Rattle.cover_links.specs.Hiding.{node_hidden, run_hidden, run_unhidden, after_hidden, hidden, before_unhidden, unhidden, options_hidden}
 
 -- x and its neighbours in its vertical list lie in the block
@@ -73,3 +74,21 @@ pub record CanCoverItem (es : List Entry) (i : ℕ) : Type 0 where
 pub record CanUncoverItem (es : List Entry) (i : ℕ) : Type 0 where
   pub row : IsItemInside es i
   pub options : CanUnhideList (item_relinked es i) (entry_at (item_relinked es i) i).up (entry_at (item_relinked es i) i).top
+
+-- a node can be appended
+pub record CanAppendNode (es : List Entry) (x i left right : ℕ) : Type 0 where
+  pub here : x < length es
+  pub item : i < length es
+  pub into : CanUnhideNode (node_written es x i left right) x
+
+-- nodes of these items can be appended, from x on
+abbrev pub CanAppendNodes : List Entry → ℕ → ℕ → ℕ → List ℕ → Type 0
+CanAppendNodes es x left right [] = Unit {0}
+CanAppendNodes es x left right (i ∷ items) = CanAppendNode es x i left right × CanAppendNodes (node_appended es x i left right) (suc x) left right items
+
+-- an option can be appended
+pub record CanAppendOption (es : List Entry) (start : ℕ) (option : List ℕ) : Type 0 where
+  pub some : 0 < start
+  pub end : start + length option < length es
+  pub word : start + length option < 2 ^ 32
+  pub nodes : CanAppendNodes es start start (start + length option) option

@@ -33,7 +33,7 @@ shown_is p c j k h =
       free = λ y g o. both_ways (has (before_first (λ x. x == j) c) y) (none_member (has (before_first (λ x. x == j) c)) (option_at p k) y (not-true _ d.1) o) g;
     }
 
-false_from : (b : Bool) → (b ≡ true → ⊥) → b ≡ false
+pub false_from : (b : Bool) → (b ≡ true → ⊥) → b ≡ false
 false_from true h = absurd (h refl)
 false_from false h = refl
 

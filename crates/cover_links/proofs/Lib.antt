@@ -11,5 +11,6 @@ pub mod ListWalk
 pub mod Covered
 pub mod CoverStep
 pub mod Building
+pub mod BuiltLemmas
 pub mod LayoutLemmas
 pub mod PlaceLemmas

@@ -12,5 +12,8 @@ pub mod Covered
 pub mod CoverStep
 pub mod Building
 pub mod BuiltLemmas
+pub mod BuildLemmas
+pub mod BlockLemmas
+pub mod TableLemmas
 pub mod LayoutLemmas
 pub mod PlaceLemmas

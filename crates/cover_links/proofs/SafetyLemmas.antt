@@ -1,5 +1,7 @@
 -- Lemmas on the steps that stay in the block.
-use Rattle.std.proofs.Common.{◌≡◌, ℕ, zero, suc, ◌+◌, ◌-◌, ◌<◌, ◌≤◌, List, length, subst, sym, ap, arith}
+use Rattle.std.proofs.Common.{◌≡◌, ℕ, zero, suc, ◌+◌, ◌-◌, ◌<◌, ◌≤◌, List, length, length-set, subst, sym, ap, ◌∙◌, arith}
+use Rattle.cover_links.specs.Fresh.{node_written, node_appended}
+use Rattle.cover_links.proofs.EntryLemmas.{length-node_unhidden}
 use Rattle.cover_links.specs.declared.entry.Entry.{Entry}
 use Rattle.cover_links.specs.Hiding.{node_hidden, run_hidden, run_unhidden, hidden, list_hidden, unhidden, list_unhidden}
 use Rattle.cover_links.specs.Entries.{entry_at}
@@ -18,3 +20,7 @@ hide_list_step es p n m e can = subst (λ k. CanHideList es p k) e can
 
 pub unhide_list_step : (es : List Entry) (p n m : ℕ) → n ≡ suc m → CanUnhideList es p n → CanUnhide es p × CanUnhideList (unhidden es p) (entry_at (unhidden es p) p).up m
 unhide_list_step es p n m e can = subst (λ k. CanUnhideList es p k) e can
+
+pub length-node_appended : (es : List Entry) (x i left right : ℕ) → length (node_appended es x i left right) ≡ length es
+unfolding node_appended
+length-node_appended es x i left right = length-node_unhidden (node_written es x i left right) x ∙ length-set es x (record { top = i; up = (entry_at es i).up; down = i; left = left; right = right })

@@ -6,3 +6,5 @@ pub mod Layout
 pub mod Fresh
 pub mod Safety
 pub mod Ring
+pub mod StandsFor
+pub mod Table

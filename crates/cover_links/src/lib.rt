@@ -2,6 +2,12 @@
 #![tactic(auto)]
 
 mod block;
+mod build;
 mod cells;
 mod entry;
 mod hiding;
+pub mod laws;
+mod table;
+
+pub use entry::Node;
+pub use table::LinkTable;

@@ -1,5 +1,5 @@
 -- What is read off the links of a table.
-use Rattle.std.proofs.Common.{◌≡◌, ℕ, zero, suc, ◌+◌, ◌-◌, ◌<◌, ◌≤◌, ◌⊎◌, inl, inr, ◌==◌, Bool, true, false, cond, Option, Some, None, unwrap_or, List, [], ◌∷◌, ◌++◌, length, filter, get_or, refl, sym, ap, ◌∙◌, subst, arith}
+use Rattle.std.proofs.Common.{◌≡◌, ℕ, zero, suc, ◌+◌, ◌-◌, ◌<◌, ◌≤◌, ◌⊎◌, inl, inr, ◌==◌, Bool, true, false, cond, Option, Some, None, unwrap_or, List, [], ◌∷◌, ◌++◌, length, filter, get_or, take, refl, sym, ap, ◌∙◌, subst, arith}
 use Rattle.std.proofs.lemmas.Bool.{eq-eqb, ne_eqb, cases_lt}
 use Rattle.cover_problem.specs.Lists.{has, numbers, RisesFrom, above, below, last_of}
 use Rattle.cover_problem.specs.Problem.{Cover, IsProblem, option_at, size_of}
@@ -9,11 +9,12 @@ use Rattle.cover_problem.proofs.ListLemmas.{has_filter_in, above_is, below_is, l
 use Rattle.cover_problem.proofs.CoveringLemmas.{active_rises, active_in, list_rises}
 use Rattle.cover_links.specs.declared.entry.Entry.{Entry}
 use Rattle.cover_links.specs.Entries.{entry_at}
-use Rattle.cover_links.specs.Layout.{place, spacer_of, start_of}
+use Rattle.cover_links.specs.Layout.{place, spacer_of, start_of, index_of}
 use Rattle.cover_links.specs.Ring.{Follows, IsNext}
 use Rattle.cover_links.specs.StandsFor.{block_of}
 use Rattle.cover_links.specs.Table.{IsTable, linked, IsNodeOf, IsSpot}
-use Rattle.cover_links.proofs.LayoutLemmas.{IsNode, IsRun, option_run, place_high, place_low, spacer_low}
+use Rattle.cover_links.proofs.LayoutLemmas.{IsNode, IsRun, option_run, place_high, place_low, spacer_low, start_step, start_below, index_below}
+use Rattle.cover_links.proofs.BuildLemmas.{start_most}
 use Rattle.cover_links.proofs.RingLemmas.{next_is, prev_is, last_to_head}
 use Rattle.cover_links.proofs.Standing.{Stands, down_at, up_at, left_at, right_at, top_at}
 use Rattle.cover_links.proofs.Covered.{shown_of, active_of, active_is, active_when}
@@ -118,3 +119,63 @@ module _ (p : Cover) (c : List ℕ) (items : ℕ) (block : List Entry) (starts :
       let node : IsNode p (get_or o n 0) (suc k) = record { some = omega arith; within = omega arith; has_item = has_at o n 0 b } in
       let top = (stands).tops (get_or o n 0) (suc k) node in
       ap (λ i. place p i (suc k)) (ap (top_at block) (sym r) ∙ top) ∙ r
+
+  -- where the nodes of an option lie, between the numbers read for it
+  module _ (j o b e : ℕ) (some : 0 < o) (le : o ≤ length p.options) (h : has (option_at p o) j ≡ true) (first : b ≡ get_or starts (o - 1) b) (past : e ≡ get_or starts o e) where
+    any_default : (xs : List ℕ) (i d f : ℕ) → i < length xs → get_or xs i d ≡ get_or xs i f
+    any_default [] i d f lt = absurd (omega arith)
+    any_default (x ∷ xs) zero d f lt = refl
+    any_default (x ∷ xs) (suc i) d f lt = any_default xs i d f (omega arith)
+
+    back : suc (o - 1) ≡ o
+    back = omega arith
+
+    lt : o - 1 < length p.options
+    lt = omega arith
+
+    begin : b ≡ start_of p (o - 1)
+    begin = first ∙ any_default starts (o - 1) b 0 (let n = t.count in omega arith) ∙ t.each (o - 1) (omega arith)
+
+    finish : e ≡ suc (start_of p (o - 1) + length (option_at p o))
+    finish = past ∙ any_default starts o e 0 (let n = t.count in omega arith) ∙ t.each o le ∙ ap (start_of p) (sym back) ∙ start_step p (o - 1) lt ∙ ap (λ k. suc (start_of p (o - 1) + length (option_at p k))) back
+
+    node : IsNode p j o
+    node = record { some = some; within = le; has_item = h }
+
+    place_is : place p j o ≡ start_of p (o - 1) + index_of j (option_at p o)
+    place_is = ap (place p j) (sym back) ∙ ap (λ k. start_of p (o - 1) + index_of j (option_at p k)) back
+
+    pub end_some : 1 ≤ e
+    end_some = let f = finish in omega arith
+
+    pub place_from : b ≤ place p j o
+    place_from = let a = begin in let q = place_is in omega arith
+
+    pub place_before : place p j o < e - 1
+    place_before = let f = finish in let q = place_is in let i = index_below (option_at p o) j h in omega arith
+
+    pub top_here : top_at block (place p j o) ≡ j
+    top_here = (stands).tops j o node
+
+    pub in_block : (x : ℕ) → b ≤ x → x < e - 1 → x < length block
+    in_block x low high =
+        let f = finish in let s = (stands).size in let c = start_below p (o - 1) o (omega arith) le in
+        pick (cases_lt o (length p.options)) (start_most p o le) c f s
+      where
+        pick : (o < length p.options) ⊎ (length p.options ≤ o) → start_of p o ≤ size_of p → start_of p (o - 1) + length (option_at p (suc (o - 1))) < start_of p o → e ≡ suc (start_of p (o - 1) + length (option_at p o)) → length block ≡ size_of p → x < length block
+        pick d most c f s = let q = ap (λ k. length (option_at p k)) back in omega arith
+
+    pub item_here : (x : ℕ) → b ≤ x → x < e - 1 → place p (top_at block x) o ≡ x
+    item_here x low high =
+        let a = begin in let f = finish in
+        let n : start_of p (o - 1) + (x - start_of p (o - 1)) ≡ x = omega arith in
+        let q = ap (λ k. length (option_at p k)) back in
+        let r = item_at (o - 1) (x - start_of p (o - 1)) lt (omega arith) in
+        (λ i. place p (top_at block (sym n i)) (sym back i)) ∙ r ∙ n
+
+-- the list without its last member
+pub take_front : (xs : List ℕ) (y n : ℕ) → n ≡ length xs → take n (xs ++ y ∷ []) ≡ xs
+take_front [] y zero e = refl
+take_front [] y (suc n) e = absurd (omega arith)
+take_front (x ∷ xs) y zero e = absurd (omega arith)
+take_front (x ∷ xs) y (suc n) e = ap (λ l. x ∷ l) (take_front xs y n (omega arith))

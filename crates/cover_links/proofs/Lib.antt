@@ -1,5 +1,6 @@
 pub mod EntryLemmas
 pub mod Lent
+pub mod Crossing
 pub mod Made
 pub mod Places
 pub mod SafetyLemmas

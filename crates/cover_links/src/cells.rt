@@ -28,6 +28,10 @@ impl Clone for Base {
 
 impl Copy for Base {}
 
+unsafe impl Send for Base {}
+
+unsafe impl Sync for Base {}
+
 /// The owner of the places. It takes no space.
 pub struct Cells {
     mark: PhantomData<*const Entry>,
@@ -40,6 +44,10 @@ impl Model for Cells {
 
     ghost also_shares = { λ c _ κ. cells_lent c.at c.slots κ };
 }
+
+unsafe impl Send for Cells {}
+
+unsafe impl Sync for Cells {}
 
 /// The right to give the row back to its allocator. It takes no space.
 pub struct Deed<A: Allocator> {
@@ -54,6 +62,11 @@ impl<A: Allocator> Model for Deed<A> {
 
     ghost also_shares = { λ _ _ _. ftrue };
 }
+
+unsafe impl<A: Allocator + Send> Send for Deed<A> {}
+
+// A `&` to it holds nothing.
+unsafe impl<A: Allocator> Sync for Deed<A> {}
 
 /// A row of so many empty places.
 pub(crate) fn allocate<A: Allocator>(

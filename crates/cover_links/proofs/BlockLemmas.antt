@@ -99,9 +99,9 @@ pub block_stands : BlockStands
 block_stands p c problem a =
     let s = links_stand p c problem a in
     let row : IsChain (active_of p c) 0 (active p c) = subst (λ l. IsChain (active_of p c) 0 l) (active_list p c)
-        (chain_from (active_of p c) p.primary (λ z h. let q = active_is p c z h in (q.0, q.1)) p.primary 1 0 (omega arith) (inl refl) (omega arith) (λ z h l. l)) in
+    (chain_from (active_of p c) p.primary (λ z h. let q = active_is p c z h in (q.0, q.1)) p.primary 1 0 (omega arith) (inl refl) (omega arith) (λ z h l. l)) in
     let column : (j : ℕ) → IsChain (shown_of p c j) 0 (list_of p c j) = λ j. subst (λ l. IsChain (shown_of p c j) 0 l) (shown_list p c j)
-        (chain_from (shown_of p c j) (length p.options) (λ z h. let q = s.shown_are j z h in (q.some, q.within)) (length p.options) 1 0 (omega arith) (inl refl) (omega arith) (λ z h l. l)) in
+    (chain_from (shown_of p c j) (length p.options) (λ z h. let q = s.shown_are j z h in (q.some, q.within)) (length p.options) 1 0 (omega arith) (inl refl) (omega arith) (λ z h l. l)) in
     record {
       items = subst (λ l. IsWalk (right_at (block_of p c)) 0 l 0) (same_map (active p c)) (walk_forth (active_of p c) (λ i. i) (right_at (block_of p c)) (left_at (block_of p c)) s.row (active p c) 0 row);
       items_back = subst (λ l. IsWalk (left_at (block_of p c)) 0 (reverse l) 0) (same_map (active p c)) (walk_back (active_of p c) (λ i. i) (right_at (block_of p c)) (left_at (block_of p c)) s.row (active p c) 0 row);

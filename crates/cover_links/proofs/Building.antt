@@ -239,16 +239,18 @@ module _ (p : Cover) (active : ℕ → Bool) (problem : IsProblem p) (t t' : ℕ
 
       -- after the new node the ring closes
       at_end : m ≡ k → (y ≡ 0) → (down_at ks (place p j m) ≡ place p j y) × (up_at ks (place p j y) ≡ place p j m)
-      at_end e e' =
-          ((λ v. down_at ks (place p j (e v))) ∙ ks_down x (λ h. u_apart (sym h)) ∙ ap (λ (w : Entry). w.down) fs_here ∙ (λ v. place p j (sym e' v)),
-          (λ v. up_at ks (place p j (e' v))) ∙ ks_up_j ∙ (λ v. place p j (sym e v)))
+      at_end e e' = (
+        (λ v. down_at ks (place p j (e v))) ∙ ks_down x (λ h. u_apart (sym h)) ∙ ap (λ (w : Entry). w.down) fs_here ∙ (λ v. place p j (sym e' v)),
+        (λ v. up_at ks (place p j (e' v))) ∙ ks_up_j ∙ (λ v. place p j (sym e v)),
+      )
 
       -- the new node comes after the one that was last
       at_new : (m ≡ 0) ⊎ (t j m ≡ true) → ((n : ℕ) → t j n ≡ true → n ≤ m) → y ≡ k → (down_at ks (place p j m) ≡ place p j y) × (up_at ks (place p j y) ≡ place p j m)
       at_new fr most e =
-          let q = g.rings j pos le m 0 (record { from = fr; to = inr (refl, most) }) in
-          (ap (down_at ks) (sym q.1) ∙ ks_down_u ∙ (λ v. place p j (sym e v)),
-          (λ v. up_at ks (place p j (e v))) ∙ ks_up x (λ h. j_apart (sym h)) ∙ ap (λ (w : Entry). w.up) fs_here ∙ q.1)
+          let q = g.rings j pos le m 0 (record { from = fr; to = inr (refl, most) }) in (
+            ap (down_at ks) (sym q.1) ∙ ks_down_u ∙ (λ v. place p j (sym e v)),
+            (λ v. up_at ks (place p j (e v))) ∙ ks_up x (λ h. j_apart (sym h)) ∙ ap (λ (w : Entry). w.up) fs_here ∙ q.1,
+          )
 
       inner : (m ≡ 0) ⊎ (t j m ≡ true) → t j y ≡ true → m < y → ((n : ℕ) → t j n ≡ true → m < n → y ≤ n) → (down_at ks (place p j m) ≡ place p j y) × (up_at ks (place p j y) ≡ place p j m)
       inner fr ty lt least =
@@ -361,7 +363,8 @@ module _ (p : Cover) (active : ℕ → Bool) (problem : IsProblem p) (t t' : ℕ
       let here : x < length fs = subst (λ n. x < n) (sym fs_length) x_low in
       let head : j < length fs = subst (λ n. j < n) (sym fs_length) j_low in
       record {
-        here = x_low; item = j_low;
+        here = x_low;
+        item = j_low;
         into = record {
           here = here;
           item = subst (λ n. n < length fs) (sym top) head;

@@ -337,9 +337,10 @@ module _ (p : Cover) (problem : IsProblem p) where
       step : (x ≡ 0) ⊎ (upto p 0 [] j x ≡ true) → IsNext (upto p 0 [] j) x y → (down_at heads (place p j x) ≡ place p j y) × (up_at heads (place p j y) ≡ place p j x)
       step (inr h) n = absurd (none j x h)
       step (inl e) (inl n) = absurd (none j y n.0)
-      step (inl e) (inr n) =
-          ((λ v. down_at heads (place p j (e v))) ∙ ap (λ (w : Entry). w.down) (head j a b) ∙ (λ v. place p j (sym n.0 v)),
-          (λ v. up_at heads (place p j (n.0 v))) ∙ ap (λ (w : Entry). w.up) (head j a b) ∙ (λ v. place p j (sym e v)))
+      step (inl e) (inr n) = (
+        (λ v. down_at heads (place p j (e v))) ∙ ap (λ (w : Entry). w.down) (head j a b) ∙ (λ v. place p j (sym n.0 v)),
+        (λ v. up_at heads (place p j (n.0 v))) ∙ ap (λ (w : Entry). w.up) (head j a b) ∙ (λ v. place p j (sym e v)),
+      )
 
   primary_right : (i : ℕ) → 0 < i → i < p.primary → right_at heads i ≡ i + 1
   primary_right i a b =
@@ -426,9 +427,15 @@ module _ (p : Cover) (problem : IsProblem p) where
   fresh_stands =
       let d = built_done (length p.options) (omega arith) in let g = d.grows in
       subst (λ f. Stands p f (active_of p []) (built p (length p.options))) all_shown (record {
-        size = g.size; shown_are = g.shown_are; rings = g.rings; counts = g.counts;
+        size = g.size;
+        shown_are = g.shown_are;
+        rings = g.rings;
+        counts = g.counts;
         tops = λ j k n. g.tops j k (every_node j k n);
         lefts = λ j k n. g.lefts j k (every_node j k n);
         rights = λ j k n. g.rights j k (every_node j k n);
-        spacers = d.spacers; row = g.row; aside = g.aside; actives = g.actives;
+        spacers = d.spacers;
+        row = g.row;
+        aside = g.aside;
+        actives = g.actives;
       })

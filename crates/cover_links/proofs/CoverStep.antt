@@ -50,9 +50,12 @@ module _ (p : Cover) (c : List ℕ) (i : ℕ) (shown : ℕ → ℕ → Bool) (fs
       let right_low : right_at fs i < length fs = subst (λ n. n < length fs) (sym rights) high.1 in
       let linked : IsItemLinked fs i = record { before = left_low; after = right_low; from_before = ap (right_at fs) lefts ∙ a.0; from_after = ap (left_at fs) rights ∙ b.1 } in
       let leaves : Leaves (right_at fs) (left_at fs) (right_at (item_unlinked fs i)) (left_at (item_unlinked fs i)) i = record {
-        to_next = linked.from_before; to_prev = linked.from_after;
-        past = item_unlinked_right fs i left_low; back = item_unlinked_left fs i right_low;
-        next_kept = item_unlinked_right_other fs i; prev_kept = item_unlinked_left_other fs i;
+        to_next = linked.from_before;
+        to_prev = linked.from_after;
+        past = item_unlinked_right fs i left_low;
+        back = item_unlinked_left fs i right_low;
+        next_kept = item_unlinked_right_other fs i;
+        prev_kept = item_unlinked_left_other fs i;
       } in
       let pos = u.some in
       record {

@@ -108,8 +108,10 @@ module _ (p : Cover) (c : List ℕ) (i : ℕ) (fresh : has c i ≡ false) where
           pick (has_append_cases c (i ∷ []) y (subst (λ l. has l y ≡ true) whole g))
         where
           last : (i ≡ y) ⊎ (has [] y ≡ true) → ⊥
-          last (inl e) = out (shown_from p c i k (record { node = record { some = (s.node).some; within = (s.node).within; has_item = subst (λ n. has (option_at p k) n ≡ true) (sym e) o };
-            free = λ z f q. s.free z (subst (λ l. has l z ≡ true) (before_none i c fresh ∙ sym (before_none j c m)) f) q }))
+          last (inl e) = out (shown_from p c i k (record {
+            node = record { some = (s.node).some; within = (s.node).within; has_item = subst (λ n. has (option_at p k) n ≡ true) (sym e) o };
+            free = λ z f q. s.free z (subst (λ l. has l z ≡ true) (before_none i c fresh ∙ sym (before_none j c m)) f) q;
+          }))
           last (inr e) = false≢true e
 
           pick : (has c y ≡ true) ⊎ (has (i ∷ []) y ≡ true) → ⊥
@@ -123,9 +125,10 @@ module _ (p : Cover) (c : List ℕ) (i : ℕ) (fresh : has c i ≡ false) where
       step s (inl m) =
           (shown_from p c j k (record { node = s.node; free = λ y g o. s.free y (subst (λ l. has l y ≡ true) (sym (before_more j c (i ∷ []) m)) g) o }), λ g. shown_free k j g m (s.node).has_item)
       step s (inr m) =
-          let whole : before_first (λ x. x == j) (c ++ i ∷ []) ≡ c ++ i ∷ [] = before_none j (c ++ i ∷ []) (has_append_not_from c (i ∷ []) j m (has_not_from i [] j (λ e. ne (sym e)) refl)) in
-          (shown_from p c j k (record { node = s.node; free = λ y g o. s.free y (subst (λ l. has l y ≡ true) (sym whole) (has_append_left c (i ∷ []) y (subst (λ l. has l y ≡ true) (before_none j c m) g))) o }),
-          λ g. s.free i (subst (λ l. has l i ≡ true) (sym whole) (has_append_right c (i ∷ []) i (has_here i []))) ((shown_is p c i k g).node).has_item)
+          let whole : before_first (λ x. x == j) (c ++ i ∷ []) ≡ c ++ i ∷ [] = before_none j (c ++ i ∷ []) (has_append_not_from c (i ∷ []) j m (has_not_from i [] j (λ e. ne (sym e)) refl)) in (
+            shown_from p c j k (record { node = s.node; free = λ y g o. s.free y (subst (λ l. has l y ≡ true) (sym whole) (has_append_left c (i ∷ []) y (subst (λ l. has l y ≡ true) (before_none j c m) g))) o }),
+            λ g. s.free i (subst (λ l. has l i ≡ true) (sym whole) (has_append_right c (i ∷ []) i (has_here i []))) ((shown_is p c i k g).node).has_item,
+          )
 
   -- an item that is no primary one isn't in the row, and so is not missed there
   pub active_aside : p.primary < i → active_of p (c ++ i ∷ []) ≡ active_of p c

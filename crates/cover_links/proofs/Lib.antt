@@ -16,5 +16,6 @@ pub mod BuiltLemmas
 pub mod BuildLemmas
 pub mod BlockLemmas
 pub mod TableLemmas
+pub mod LinkExamples
 pub mod LayoutLemmas
 pub mod PlaceLemmas

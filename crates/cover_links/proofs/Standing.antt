@@ -115,7 +115,8 @@ module _ (p : Cover) (shown : ℕ → ℕ → Bool) (active : ℕ → Bool) (es 
 
     pub node_linked : IsLinked es q
     node_linked = record {
-      above = up_low; below = down_low;
+      above = up_low;
+      below = down_low;
       from_above = ap (down_at es) up_is ∙ (s.rings j pos le k0 k before).0;
       from_below = ap (up_at es) down_is ∙ (s.rings j pos le k k1 after).1;
     }

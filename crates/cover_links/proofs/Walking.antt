@@ -115,9 +115,11 @@ option_stays p i shown k j m ne =
 pub option_was : (p : Cover) (i : ℕ) (shown : ℕ → ℕ → Bool) (k j m : ℕ) → has (option_at p k) i ≡ true → has (option_at p m) j ≡ true → option_gone p i shown k j m ≡ true → (shown j m ≡ true) × ((j ≡ i → ⊥) → m ≡ k → ⊥)
 option_was p i shown k j m hi hj h =
     let one = run_was (run_gone shown k (after_first (λ x. x == i) (option_at p k))) k (before_first (λ x. x == i) (option_at p k)) j m h in
-    let two = run_was shown k (after_first (λ x. x == i) (option_at p k)) j m one.0 in
-    (two.0, λ ne e. pick one.1 two.1 ne e (has_append_cases (before_first (λ x. x == i) (option_at p k)) (i ∷ after_first (λ x. x == i) (option_at p k)) j
-    (subst (λ l. has l j ≡ true) (parts_are i (option_at p k) hi) (subst (λ n. has (option_at p n) j ≡ true) e hj))))
+    let two = run_was shown k (after_first (λ x. x == i) (option_at p k)) j m one.0 in (
+      two.0,
+      λ ne e. pick one.1 two.1 ne e (has_append_cases (before_first (λ x. x == i) (option_at p k)) (i ∷ after_first (λ x. x == i) (option_at p k)) j
+          (subst (λ l. has l j ≡ true) (parts_are i (option_at p k) hi) (subst (λ n. has (option_at p n) j ≡ true) e hj))),
+    )
   where
     pick : (has (before_first (λ x. x == i) (option_at p k)) j ≡ true → m ≡ k → ⊥) → (has (after_first (λ x. x == i) (option_at p k)) j ≡ true → m ≡ k → ⊥) → (j ≡ i → ⊥) → m ≡ k
         → (has (before_first (λ x. x == i) (option_at p k)) j ≡ true) ⊎ (has (i ∷ after_first (λ x. x == i) (option_at p k)) j ≡ true) → ⊥

@@ -11,7 +11,9 @@ use Rattle.cover_links.specs.Layout.{start_of}
 -- the head of an item whose list is empty: a primary one has its neighbours in the row, another only itself
 abbrev pub empty_head : ℕ → ℕ → Entry
 empty_head primary i = record {
-  top = 0; up = i; down = i;
+  top = 0;
+  up = i;
+  down = i;
   left = cond (nat_lt primary i) i (i - 1);
   right = cond (nat_lt primary i) i (cond (i == primary) 0 (i + 1));
 }

@@ -121,11 +121,7 @@ fn append_option(block: &mut Block, start: u32, option: &[u32], number: u32)
 }
 
 /// The block of a problem with nothing covered, whose options start there.
-pub(crate) fn fresh(
-    alloc: Global,
-    problem: &Problem,
-    starts: &[u32],
-) -> Result<Block, AllocError>
+pub(crate) fn fresh(alloc: Global, problem: &Problem, starts: &[u32]) -> Result<Block, AllocError>
     requires count { length starts.now ≡ suc (length problem.now.options) }
     requires each { (k : ℕ) → k ≤ length problem.now.options → slice_index starts.now k ≡ start_of problem.now k }
     ensures { IfOk result (λ b. b ≡ list.fresh problem.now) }
@@ -135,12 +131,7 @@ pub(crate) fn fresh(
     let mut block = Block::make(alloc, starts[options as usize] as usize, BLANK)?;
     write_heads(&mut block, items, problem.primary());
     for k in 0..options {
-        append_option(
-            &mut block,
-            starts[k as usize],
-            problem.option(k + 1),
-            k + 1,
-        );
+        append_option(&mut block, starts[k as usize], problem.option(k + 1), k + 1);
     }
     Ok(block)
 }

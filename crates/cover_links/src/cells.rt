@@ -104,7 +104,11 @@ pub(crate) fn deallocate<A: Allocator>(
     let Cells { mark: _ } = cells;
     let Deed { mark: _ } = deed;
     unsafe {
-        alloc.deallocate(base.ptr as *mut u8, len * size_of::<Entry>(), align_of::<Entry>());
+        alloc.deallocate(
+            base.ptr as *mut u8,
+            len * size_of::<Entry>(),
+            align_of::<Entry>(),
+        );
     }
 }
 

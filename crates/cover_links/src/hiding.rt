@@ -154,9 +154,13 @@ fn unhide(block: &mut Block, index: u32)
     requires { CanUnhide block.old index }
     ensures { block.new ≡ unhidden block.old index }
 {
-    let Entry { left, right, .. } = block.read(index);
-    unhide_run(block, left, index);
-    unhide_run(block, index + 1, right);
+    let Entry {
+        left: start,
+        right: end,
+        ..
+    } = block.read(index);
+    unhide_run(block, start, index);
+    unhide_run(block, index + 1, end);
 }
 
 /// Covers an item: hides the options of its list, and takes it out of the row of active items.

@@ -11,3 +11,6 @@ mod table;
 
 pub use entry::Node;
 pub use table::LinkTable;
+
+#[cfg(test)]
+mod tests;

@@ -8,5 +8,5 @@ invariant-loop-item l = record {
   rest : nodes_appended l.block l.index l.start l.end (drop l.item-index l.option) ≡ nodes_appended l.initial.block l.start l.start l.end l.option;
   can : CanAppendNodes l.block l.index l.start l.end (drop l.item-index l.option);
   place : l.index ≡ l.start + l.item-index;
-  size : length l.block ≡ length l.initial.block
+  size : length l.block ≡ length l.initial.block;
 }

@@ -7,5 +7,5 @@ invariant-loop-k l = record {
   count : length l.starts.items ≡ suc l.k;
   each : (i : ℕ) → i ≤ l.k → get_or l.starts.items i 0 ≡ start_of l.problem i;
   next : l.next ≡ start_of l.problem l.k;
-  room : vec_capacity l.starts ≡ vec_capacity l.initial.starts
+  room : vec_capacity l.starts ≡ vec_capacity l.initial.starts;
 }

@@ -66,12 +66,27 @@ pub deallocate_spec : {M : Type 1} → statement M
 deallocate_spec 𝓤 𝓛 𝓜 𝓡 wired X LX g d dd met md =
     let Z : Al = record { row = X; laws = LX; g = g; d = d; drops = dd } in
     let c = f.clauses X g d dd 𝓛 𝓜.mem 𝓡.returns in let W = walk_of 𝓛 (ended Z) (stayed Z) c in let 𝓣 = tables 𝓤 𝓛.H 𝓜 𝓡 𝓡.env in
-    proved 𝓛 (ended Z) (stayed Z) c 𝓜 𝓡
-    (Goes-dropped 𝓛 2 (RefOf (0 ∷ []) tt (plain (λ _. param 0 X)) (λ _. tt)) yes (λ κs x w. refl), (Goes-dropped 𝓛 2 (plain (λ _. Start)) yes (λ κs x w. refl), (Goes-dropped 𝓛 2 (plain (λ _. usize)) yes (λ κs x w. refl),
-    (Goes-blank 𝓛 2 (plain (λ _. Row)) yes (λ κs x w. tt), (Goes-blank 𝓛 2 (plain (λ _. deed.the_row (param 0 X) g)) no (λ κs x w. tt), tt)))))
+    proved 𝓛 (ended Z) (stayed Z) c 𝓜 𝓡 (
+      Goes-dropped 𝓛 2 (RefOf (0 ∷ []) tt (plain (λ _. param 0 X)) (λ _. tt)) yes (λ κs x w. refl),
+      (
+        Goes-dropped 𝓛 2 (plain (λ _. Start)) yes (λ κs x w. refl),
+        (
+          Goes-dropped 𝓛 2 (plain (λ _. usize)) yes (λ κs x w. refl),
+          (Goes-blank 𝓛 2 (plain (λ _. Row)) yes (λ κs x w. tt), (Goes-blank 𝓛 2 (plain (λ _. deed.the_row (param 0 X) g)) no (λ κs x w. tt), tt)),
+        ),
+      ),
+    )
     (f.Key.name (args Z)) (inst_fn (args Z) code.function) (code.unfolded 𝓤 𝓛.H 𝓜 𝓡 wired (X, tt) d dd)
-    (λ κs. (shr_vals, ((λ s. start.lowered s ∷ []), (uint_vals w64, ((λ _. mark ∷ []), ((λ _. mark ∷ []), tt)))))) (λ κs. (shr_Tells (named 0) κs.0 (param 0 X), ((start.lowers).val_is, (uint_Tells w64,
-    ((λ x vs h. h.0.1.0 ∙ ap (λ (ws : List Val). vstruct (of_list (ws ++ [])) ∷ []) h.0.1.1.0.1.0), ((λ x vs h. h.0.1.0 ∙ ap (λ (ws : List Val). vstruct (of_list (ws ++ [])) ∷ []) h.0.1.1.0.1.0), tt)))))) (λ κs qs bounds a _ are.
+    (λ κs. (shr_vals, ((λ s. start.lowered s ∷ []), (uint_vals w64, ((λ _. mark ∷ []), ((λ _. mark ∷ []), tt)))))) (λ κs. (
+      shr_Tells (named 0) κs.0 (param 0 X),
+      (
+        (start.lowers).val_is,
+        (
+          uint_Tells w64,
+          ((λ x vs h. h.0.1.0 ∙ ap (λ (ws : List Val). vstruct (of_list (ws ++ [])) ∷ []) h.0.1.1.0.1.0), ((λ x vs h. h.0.1.0 ∙ ap (λ (ws : List Val). vstruct (of_list (ws ++ [])) ∷ []) h.0.1.1.0.1.0), tt)),
+        ),
+      ),
+    )) (λ κs qs bounds a _ are.
     let κ = κs.0 in let q = qs.0 in let base = a.1.0 in let n = a.1.1.0 in let cells = a.1.1.1.0 in let own = a.1.1.1.1.0 in let function : Fn = inst_fn (args Z) code.function in
     let vss : List Val × (List Val × (List Val × (List Val × (List Val × Unit {0})))) = (shr_vals a.0, (start.lowered base ∷ [], (uint_vals w64 n, (mark ∷ [], (mark ∷ [], tt))))) in
     let y : W.Ghost = ((κs, qs, bounds, a, vss), tt) in

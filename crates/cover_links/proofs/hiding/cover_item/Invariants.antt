@@ -7,5 +7,5 @@ abbrev pub invariant-loop-turn : goal.invariant-loop-turn
 invariant-loop-turn l = record {
   rest : list_hidden l.block l.node (l._turn-end - l._turn) ≡ list_hidden l.initial.block l.initial.node l._turn-end;
   can : CanHideList l.block l.node (l._turn-end - l._turn);
-  size : length l.block ≡ length l.initial.block
+  size : length l.block ≡ length l.initial.block;
 }

@@ -13,6 +13,6 @@ use Rattle.cover_links.proofs.table.LinkTable.node.Goals as goal
 
 pub read-entry-requires : goal.read-entry-requires
 read-entry-requires c =
-    let p = c.self.inside.subject.value in let cs = c.self.inside.covered.items in let es = c.self.inside.block in let t = c.self.invariant in let ts = c.self.inside.items in let st = c.self.inside.starts.items in 
+    let p = c.self.inside.subject.value in let cs = c.self.inside.covered.items in let es = c.self.inside.block in let t = c.self.invariant in let ts = c.self.inside.items in let st = c.self.inside.starts.items in
     let size = (stands p cs ts es st _ t).size in
     let lt : c.args.x < size_of p = subst (λ (v : Standing). c.args.x < size_of v.subject) (sym c.self.view_is) c.requires.within in omega arith

@@ -39,6 +39,7 @@ invariant_of-self c =
       covered = subst (AreCovered p) (sym push.items) (covered_push p cs j t.covered u);
       items_are = t.items_are;
       block_is = c.cover_item.ensures ∙ ap (λ b. item_covered b j) t.block_is ∙ sym (block_push p cs j) ∙ ap (block_of p) (sym push.items);
-      count = t.count; each = t.each;
+      count = t.count;
+      each = t.each;
       capacity = subst (λ n. length p.names ≤ n) (sym push.capacity) t.capacity;
     }

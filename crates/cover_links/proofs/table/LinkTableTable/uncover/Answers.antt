@@ -42,6 +42,7 @@ invariant_of-self c =
       covered = subst (AreCovered p) (sym rest) (covered_pop p front.0 j a);
       items_are = t.items_are;
       block_is = c.uncover_item.ensures ∙ ap (λ b. item_uncovered b j) block ∙ d.back ∙ ap (block_of p) (sym rest);
-      count = t.count; each = t.each;
+      count = t.count;
+      each = t.each;
       capacity = subst (λ n. length p.names ≤ n) (sym pop.capacity) t.capacity;
     }

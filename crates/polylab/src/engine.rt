@@ -8,7 +8,7 @@ use crate::answer::{Answer, answer_to};
 use crate::input::{InputFault, read_whole};
 use crate::job::Job;
 use crate::output::write_whole;
-use cover_problem::PlainTable;
+use cover_links::LinkTable;
 use std::alloc::Global;
 use std::io::{Read, Write};
 
@@ -64,7 +64,7 @@ pub fn run<R, I: Read, O: Write, F: Write>(
         Err(InputFault::Reader) => return stop(faults, b"refused input\n", FAILED),
         Err(InputFault::OutOfMemory) => return stop(faults, b"refused memory\n", NO_MEMORY),
     };
-    match answer_to::<PlainTable>(alloc, job, &bytes) {
+    match answer_to::<LinkTable>(alloc, job, &bytes) {
         Ok(Answer::Text(text)) => match write_whole(writer, &text) {
             Ok(()) => DONE,
             Err(_) => stop(faults, b"refused output\n", FAILED),

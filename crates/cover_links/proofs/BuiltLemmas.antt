@@ -1,0 +1,441 @@
+-- The block that is built, option by option, stands for the problem with nothing covered.
+use Rattle.std.proofs.Common.{◌≡◌, ℕ, zero, suc, ◌+◌, ◌-◌, ◌<◌, ◌≤◌, ◌^◌, ◌⊎◌, inl, inr, ◌==◌, nat_lt, nat_le, Bool, true, false, not, cond, ◌&&◌, ◌||◌, List, [], ◌∷◌, ◌++◌, length, length-set, filter, set, replicate, refl, sym, ap, ◌∙◌, subst, arith, append_assoc, append-nil, length-append}
+use Rattle.std.specs.List.{list_any, before_first}
+use Rattle.std.proofs.lemmas.Bool.{and_parts, and_from, or_cases, or_left, or_right, cases_eq, cases_Bool, cases_lt, both_ways, false≢true, not-true, eqb-true, eq-eqb, ltb-true, leb-true, lt-ltb, le-leb, le-ltb, ne_eqb}
+use Rattle.cover_problem.specs.Lists.{has, are_distinct, numbers}
+use Rattle.cover_problem.specs.Problem.{Cover, IsProblem, option_at, size_of}
+use Rattle.cover_problem.proofs.ListLemmas.{has_here, has_append_cases, has_append_left, has_append_right, has_cases, distinct_parts}
+use Rattle.cover_problem.proofs.CoveringLemmas.{option_is, IsOptionOf}
+use Rattle.cover_links.specs.declared.entry.Entry.{Entry}
+use Rattle.cover_links.specs.Entries.{blank, entry_at, changed, to_down}
+use Rattle.cover_links.specs.Fresh.{empty_head, heads_written, node_appended, nodes_appended, option_appended, built, fresh}
+use Rattle.cover_links.specs.Safety.{CanAppendNode, CanAppendNodes, CanAppendOption}
+use Rattle.cover_links.specs.Ring.{Follows, IsNext, IsRing}
+use Rattle.cover_links.specs.Layout.{place, spacer_of, start_of, index_of}
+use Rattle.cover_links.proofs.EntryLemmas.{length-changed, kept, at_changed, at_other}
+use Rattle.cover_links.proofs.LayoutLemmas.{IsNode, IsRun, option_run, place_high, place_low, spacer_low, start_step, start_zero, start_low, start_below, start_last, index_below}
+use Rattle.cover_links.proofs.Standing.{Stands, down_at, up_at, left_at, right_at, top_at}
+use Rattle.cover_links.proofs.Covered.{shown_of, active_of, IsShown, shown_is, shown_from, active_is, active_when, same_test, false_from}
+use Rattle.cover_links.proofs.Building.{Grows, Adds, at_set, set_other, append_grows, append_keeps, append_can}
+
+-- the nodes of the first n options, and of the items xs in the one after them
+unfoldable pub upto : Cover → ℕ → List ℕ → ℕ → ℕ → Bool
+upto p n xs j k = ((nat_lt 0 k && nat_le k n) && has (option_at p k) j) || ((k == suc n) && has xs j)
+
+upto_is : (p : Cover) (n : ℕ) (xs : List ℕ) (j k : ℕ) → upto p n xs j k ≡ true → ((0 < k) × (k ≤ n) × (has (option_at p k) j ≡ true)) ⊎ ((k ≡ suc n) × (has xs j ≡ true))
+unfolding upto
+upto_is p n xs j k h = pick (or_cases ((nat_lt 0 k && nat_le k n) && has (option_at p k) j) ((k == suc n) && has xs j) h)
+  where
+    pick : (((nat_lt 0 k && nat_le k n) && has (option_at p k) j) ≡ true) ⊎ (((k == suc n) && has xs j) ≡ true) → ((0 < k) × (k ≤ n) × (has (option_at p k) j ≡ true)) ⊎ ((k ≡ suc n) × (has xs j ≡ true))
+    pick (inl g) = let a = and_parts (nat_lt 0 k && nat_le k n) (has (option_at p k) j) g in let b = and_parts (nat_lt 0 k) (nat_le k n) a.0 in inl (ltb-true 0 k b.0, leb-true k n b.1, a.1)
+    pick (inr g) = let a = and_parts (k == suc n) (has xs j) g in inr (eqb-true k (suc n) a.0, a.1)
+
+upto_old : (p : Cover) (n : ℕ) (xs : List ℕ) (j k : ℕ) → 0 < k → k ≤ n → has (option_at p k) j ≡ true → upto p n xs j k ≡ true
+unfolding upto
+upto_old p n xs j k a b h =
+    or_left ((nat_lt 0 k && nat_le k n) && has (option_at p k) j) ((k == suc n) && has xs j)
+    (and_from (nat_lt 0 k && nat_le k n) (has (option_at p k) j) (and_from (nat_lt 0 k) (nat_le k n) (lt-ltb 0 k a) (le-leb k n b)) h)
+
+upto_new : (p : Cover) (n : ℕ) (xs : List ℕ) (j : ℕ) → has xs j ≡ true → upto p n xs j (suc n) ≡ true
+unfolding upto
+upto_new p n xs j h =
+    or_right ((nat_lt 0 (suc n) && nat_le (suc n) n) && has (option_at p (suc n)) j) ((suc n == suc n) && has xs j) (and_from (suc n == suc n) (has xs j) (eq-eqb (suc n) (suc n) refl) h)
+
+adds : (p : Cover) (n : ℕ) (xs : List ℕ) (j : ℕ) → has xs j ≡ false → Adds (upto p n xs) (upto p n (xs ++ j ∷ [])) j (suc n)
+adds p n xs j fresh = record {
+  is_new = λ h. new (upto_is p n xs j (suc n) h);
+  comes = upto_new p n (xs ++ j ∷ []) j (has_append_right xs (j ∷ []) j (has_here j []));
+  stays = λ i m h. stay i m (upto_is p n xs i m h);
+  only = λ i m h. one i m (upto_is p n (xs ++ j ∷ []) i m h);
+  last = λ m h. below m (upto_is p n xs j m h);
+}
+  where
+    new : ((0 < suc n) × (suc n ≤ n) × (has (option_at p (suc n)) j ≡ true)) ⊎ ((suc n ≡ suc n) × (has xs j ≡ true)) → ⊥
+    new (inl a) = let b = a.1 in absurd (omega arith)
+    new (inr a) = both_ways (has xs j) fresh a.1
+
+    stay : (i m : ℕ) → ((0 < m) × (m ≤ n) × (has (option_at p m) i ≡ true)) ⊎ ((m ≡ suc n) × (has xs i ≡ true)) → upto p n (xs ++ j ∷ []) i m ≡ true
+    stay i m (inl a) = upto_old p n (xs ++ j ∷ []) i m a.0 a.1 a.2
+    stay i m (inr a) = subst (λ z. upto p n (xs ++ j ∷ []) i z ≡ true) (sym a.0) (upto_new p n (xs ++ j ∷ []) i (has_append_left xs (j ∷ []) i a.1))
+
+    one : (i m : ℕ) → ((0 < m) × (m ≤ n) × (has (option_at p m) i ≡ true)) ⊎ ((m ≡ suc n) × (has (xs ++ j ∷ []) i ≡ true)) → ((i ≡ j) × (m ≡ suc n)) ⊎ (upto p n xs i m ≡ true)
+    one i m (inl a) = inr (upto_old p n xs i m a.0 a.1 a.2)
+    one i m (inr a) = pick (has_append_cases xs (j ∷ []) i a.1)
+      where
+        last : (j ≡ i) ⊎ (has [] i ≡ true) → ((i ≡ j) × (m ≡ suc n)) ⊎ (upto p n xs i m ≡ true)
+        last (inl e) = inl (sym e, a.0)
+        last (inr e) = absurd (false≢true e)
+
+        pick : (has xs i ≡ true) ⊎ (has (j ∷ []) i ≡ true) → ((i ≡ j) × (m ≡ suc n)) ⊎ (upto p n xs i m ≡ true)
+        pick (inl h) = inr (subst (λ z. upto p n xs i z ≡ true) (sym a.0) (upto_new p n xs i h))
+        pick (inr h) = last (has_cases j [] i h)
+
+    below : (m : ℕ) → ((0 < m) × (m ≤ n) × (has (option_at p m) j ≡ true)) ⊎ ((m ≡ suc n) × (has xs j ≡ true)) → m < suc n
+    below m (inl a) = let b = a.1 in omega arith
+    below m (inr a) = absurd (both_ways (has xs j) fresh a.1)
+
+-- ---- the nodes of an option
+
+pub record NodesDone (p : Cover) (shown : ℕ → ℕ → Bool) (active : ℕ → Bool) (es fs : List Entry) (x left right : ℕ) (js : List ℕ) : Type 0 where
+  pub grows : Grows p shown active fs
+  pub can : CanAppendNodes es x left right js
+  pub keeps : (y : ℕ) → length p.names < y → (y < x) ⊎ (x + length js ≤ y) → top_at fs y ≡ top_at es y
+
+nodes_done : (p : Cover) (active : ℕ → Bool) (n : ℕ) → IsProblem p → n < length p.options → (js xs : List ℕ) (es : List Entry) (x : ℕ) → option_at p (suc n) ≡ xs ++ js → Grows p (upto p n xs) active es → IsRun p (suc n) x js
+    → NodesDone p (upto p n (xs ++ js)) active es (nodes_appended es x (start_of p n) (spacer_of p (suc n)) js) x (start_of p n) (spacer_of p (suc n)) js
+nodes_done p active n problem lt [] xs es x e g r = record { grows = subst (λ l. Grows p (upto p n l) active es) (sym (append-nil xs)) g; can = tt; keeps = λ y a b. refl }
+nodes_done p active n problem lt (j ∷ js) xs es x e g r =
+    step (nodes_done p active n problem lt js (xs ++ j ∷ []) (node_appended es x j (start_of p n) (spacer_of p (suc n))) (suc x))
+  where
+    option : IsOptionOf p (option_at p (suc n))
+    option = option_is p (suc n) problem (omega arith) (omega arith)
+
+    member : has (option_at p (suc n)) j ≡ true
+    member = subst (λ l. has l j ≡ true) (sym e) (has_append_right xs (j ∷ js) j (has_here j js))
+
+    fresh : has xs j ≡ false
+    fresh = pick (has xs j) refl
+      where
+        pick : (b : Bool) → has xs j ≡ b → has xs j ≡ false
+        pick true h = absurd (both_ways (has (j ∷ js) j) ((distinct_parts xs (j ∷ js) (subst (λ l. are_distinct l ≡ true) e option.distinct)).2 j h) (has_here j js))
+        pick false h = h
+
+    node : IsNode p j (suc n)
+    node = record { some = omega arith; within = omega arith; has_item = member }
+
+    a : Adds (upto p n xs) (upto p n (xs ++ j ∷ [])) j (suc n)
+    a = adds p n xs j fresh
+
+    item : (0 < j) × (j ≤ length p.names)
+    item = option.items j member
+
+    left_same : start_of p (suc n - 1) ≡ start_of p n
+    left_same = let z : suc n - 1 ≡ n = omega arith in ap (start_of p) z
+
+    moved : (P : ℕ → ℕ → Type 0) → P (place p j (suc n)) (start_of p (suc n - 1)) → P x (start_of p n)
+    moved P h = subst (λ (w : ℕ × ℕ). P w.0 w.1) (λ v. (r.0 v, left_same v)) h
+
+    grown : Grows p (upto p n (xs ++ j ∷ [])) active (node_appended es x j (start_of p n) (spacer_of p (suc n)))
+    grown = moved (λ y l. Grows p (upto p n (xs ++ j ∷ [])) active (node_appended es y j l (spacer_of p (suc n)))) (append_grows p active problem (upto p n xs) (upto p n (xs ++ j ∷ [])) es g j (suc n) item.0 item.1 node a)
+
+    can : CanAppendNode es x j (start_of p n) (spacer_of p (suc n))
+    can = moved (λ y l. CanAppendNode es y j l (spacer_of p (suc n))) (append_can p active problem (upto p n xs) (upto p n (xs ++ j ∷ [])) es g j (suc n) item.0 item.1 node a)
+
+    keeps : (y : ℕ) → length p.names < y → (y ≡ x → ⊥) → top_at (node_appended es x j (start_of p n) (spacer_of p (suc n))) y ≡ top_at es y
+    keeps y h ne = moved (λ z l. (y ≡ z → ⊥) → top_at (node_appended es z j l (spacer_of p (suc n))) y ≡ top_at es y) (append_keeps p active problem (upto p n xs) (upto p n (xs ++ j ∷ [])) es g j (suc n) item.0 item.1 node a y h) ne
+
+    step : (option_at p (suc n) ≡ (xs ++ j ∷ []) ++ js → Grows p (upto p n (xs ++ j ∷ [])) active (node_appended es x j (start_of p n) (spacer_of p (suc n))) → IsRun p (suc n) (suc x) js
+        → NodesDone p (upto p n ((xs ++ j ∷ []) ++ js)) active (node_appended es x j (start_of p n) (spacer_of p (suc n))) (nodes_appended (node_appended es x j (start_of p n) (spacer_of p (suc n))) (suc x) (start_of p n) (spacer_of p (suc n)) js) (suc x) (start_of p n) (spacer_of p (suc n)) js)
+        → NodesDone p (upto p n (xs ++ j ∷ js)) active es (nodes_appended es x (start_of p n) (spacer_of p (suc n)) (j ∷ js)) x (start_of p n) (spacer_of p (suc n)) (j ∷ js)
+    step ih =
+        let rest = ih (e ∙ sym (append_assoc xs (j ∷ []) js)) grown r.1 in
+        record {
+          grows = subst (λ l. Grows p (upto p n l) active (nodes_appended es x (start_of p n) (spacer_of p (suc n)) (j ∷ js))) (append_assoc xs (j ∷ []) js) rest.grows;
+          can = (can, rest.can);
+          keeps = λ y h b. rest.keeps y h (later y b) ∙ keeps y h (apart y b);
+        }
+      where
+        later : (y : ℕ) → (y < x) ⊎ (x + length (j ∷ js) ≤ y) → (y < suc x) ⊎ (suc x + length js ≤ y)
+        later y (inl l) = inl (omega arith)
+        later y (inr l) = inr (omega arith)
+
+        apart : (y : ℕ) → (y < x) ⊎ (x + length (j ∷ js) ≤ y) → y ≡ x → ⊥
+        apart y (inl l) e = absurd (omega arith)
+        apart y (inr l) e = absurd (omega arith)
+
+-- ---- the spacers
+
+spacer_apart : (p : Cover) (n i m : ℕ) → n ≤ length p.options → IsNode p i m → place p i m ≡ spacer_of p n → ⊥
+spacer_apart p n i zero le node e = absurd (omega (arith, node.some))
+spacer_apart p zero i (suc m) le node e = let h = place_high p i (suc m) node in absurd (omega arith)
+spacer_apart p (suc n) i (suc m) le node e = pick (index_below (option_at p (suc m)) i node.has_item) (cases_lt n m) (cases_lt m n)
+  where
+    pick : index_of i (option_at p (suc m)) < length (option_at p (suc m)) → (n < m) ⊎ (m ≤ n) → (m < n) ⊎ (n ≤ m) → ⊥
+    pick b (inl l) d = let r = start_below p n m l (omega (arith, node.within)) in absurd (omega arith)
+    pick b (inr l) (inl d) = let r = start_below p m n d (omega arith) in absurd (omega arith)
+    pick b (inr l) (inr d) = let s : n ≡ m = omega arith in let f = ap (λ z. start_of p z + length (option_at p (suc z))) s in absurd (omega arith)
+
+spacer_before : (p : Cover) (n : ℕ) → n < length p.options → start_of p n - 1 ≡ spacer_of p n
+spacer_before p zero lt = let s = start_zero p in omega arith
+spacer_before p (suc n) lt = let s = start_step p n (omega arith) in omega arith
+
+spacer_rises : (p : Cover) (k n : ℕ) → k ≤ n → n < length p.options → spacer_of p k < spacer_of p (suc n)
+spacer_rises p zero n le lt = let s = start_low p n in omega arith
+spacer_rises p (suc k) n le lt = let s = start_below p k n (omega arith) (omega arith) in omega arith
+
+-- a change of an entry that is no head and no node
+grows_aside : (p : Cover) (shown : ℕ → ℕ → Bool) (active : ℕ → Bool) (es fs : List Entry) (z : ℕ) → IsProblem p → Grows p shown active es → length fs ≡ length es → length p.names < z → ((j k : ℕ) → shown j k ≡ true → place p j k ≡ z → ⊥)
+    → ((y : ℕ) → (y ≡ z → ⊥) → entry_at fs y ≡ entry_at es y) → Grows p shown active fs
+grows_aside p shown active es fs z problem g long high apart same =
+    let head : (j : ℕ) → j ≤ length p.names → entry_at fs j ≡ entry_at es j = λ j le. same j (λ e. absurd (omega arith)) in
+    let node : (j k : ℕ) → shown j k ≡ true → entry_at fs (place p j k) ≡ entry_at es (place p j k) = λ j k h. same (place p j k) (apart j k h) in
+    record {
+      size = long ∙ g.size;
+      shown_are = g.shown_are;
+      rings = λ j a b x y f. let q = g.rings j a b x y f in (ap (λ (e : Entry). e.down) (member j b x f.from) ∙ q.0, ap (λ (e : Entry). e.up) (member j b y (target (shown j) x y f.to)) ∙ q.1);
+      counts = λ j a b. ap (λ (e : Entry). e.top) (head j b) ∙ g.counts j a b;
+      tops = λ j k h. ap (λ (e : Entry). e.top) (node j k h) ∙ g.tops j k h;
+      lefts = λ j k h. ap (λ (e : Entry). e.left) (node j k h) ∙ g.lefts j k h;
+      rights = λ j k h. ap (λ (e : Entry). e.right) (node j k h) ∙ g.rights j k h;
+      row = λ x y f. let q = g.row x y f in (ap (λ (e : Entry). e.right) (head x (low x f.from)) ∙ q.0, ap (λ (e : Entry). e.left) (head y (low y (target active x y f.to))) ∙ q.1);
+      aside = λ i a b. let q = g.aside i a b in (ap (λ (e : Entry). e.right) (head i b) ∙ q.0, ap (λ (e : Entry). e.left) (head i b) ∙ q.1);
+      actives = g.actives;
+    }
+  where
+    target : (t : ℕ → Bool) (x y : ℕ) → IsNext t x y → (y ≡ 0) ⊎ (t y ≡ true)
+    target t x y (inl n) = inr n.0
+    target t x y (inr n) = inl n.0
+
+    low : (i : ℕ) → (i ≡ 0) ⊎ (active i ≡ true) → i ≤ length p.names
+    low i (inl e) = omega arith
+    low i (inr h) = let q = g.actives i h in let w = problem.within in omega arith
+
+    member : (j : ℕ) → j ≤ length p.names → (x : ℕ) → (x ≡ 0) ⊎ (shown j x ≡ true) → entry_at fs (place p j x) ≡ entry_at es (place p j x)
+    member j le x (inl e) = subst (λ n. entry_at fs (place p j n) ≡ entry_at es (place p j n)) (sym e) (same j (λ f. absurd (omega arith)))
+    member j le x (inr h) = same (place p j x) (apart j x h)
+
+-- ---- the options
+
+pub record BuiltDone (p : Cover) (active : ℕ → Bool) (n : ℕ) (es : List Entry) : Type 0 where
+  pub grows : Grows p (upto p n []) active es
+  pub spacers : (k : ℕ) → 0 < k → k ≤ n → top_at es (spacer_of p k) ≡ k
+
+module _ (p : Cover) (active : ℕ → Bool) (n : ℕ) (problem : IsProblem p) (lt : n < length p.options) (es : List Entry) (d : BuiltDone p active n es) where
+  abbrev o : List ℕ
+  o = option_at p (suc n)
+
+  abbrev start : ℕ
+  start = start_of p n
+
+  abbrev end : ℕ
+  end = start_of p n + length o
+
+  abbrev fs : List Entry
+  fs = nodes_appended es start start end o
+
+  nodes : NodesDone p (upto p n o) active es fs start start end o
+  nodes = nodes_done p active n problem lt o [] es start refl d.grows (option_run p n problem lt)
+
+  abbrev gs : List Entry
+  gs = changed (to_down (end - 1)) fs (start - 1)
+
+  abbrev hs : List Entry
+  hs = set gs end (record { top = suc n; up = start; down = 0; left = 0; right = 0 })
+
+  appended_is : option_appended es start o (suc n) ≡ hs
+  unfolding option_appended
+  appended_is = refl
+
+  shown_node : (j k : ℕ) → upto p n o j k ≡ true → IsNode p j k
+  shown_node = (nodes.grows).shown_are
+
+  gs_grows : Grows p (upto p n o) active gs
+  gs_grows =
+      let z = start_low p n in
+      grows_aside p (upto p n o) active fs gs (start - 1) problem nodes.grows (length-changed (to_down (end - 1)) fs (start - 1)) (omega arith)
+      (λ j k h e. spacer_apart p n j k (omega arith) (shown_node j k h) (e ∙ spacer_before p n lt)) (λ y ne. at_other (to_down (end - 1)) fs (start - 1) y ne)
+
+  end_low : end < length gs
+  end_low = let a = (gs_grows).size in let b = spacer_low p (suc n) (omega arith) (omega arith) in let c = b.1 in omega arith
+
+  hs_grows : Grows p (upto p n o) active hs
+  hs_grows =
+      let z = start_low p n in
+      grows_aside p (upto p n o) active gs hs end problem gs_grows (length-set gs end (record { top = suc n; up = start; down = 0; left = 0; right = 0 })) (omega arith)
+      (λ j k h e. spacer_apart p (suc n) j k (omega arith) (shown_node j k h) e) (λ y ne. set_other gs end y (record { top = suc n; up = start; down = 0; left = 0; right = 0 }) ne)
+
+  whole : upto p n o ≡ upto p (suc n) []
+  whole = λ v j k. (same_test (upto p n o j k) (upto p (suc n) [] j k) (λ h. to j k (upto_is p n o j k h)) (λ h. from j k (upto_is p (suc n) [] j k h))) v
+    where
+      to : (j k : ℕ) → ((0 < k) × (k ≤ n) × (has (option_at p k) j ≡ true)) ⊎ ((k ≡ suc n) × (has o j ≡ true)) → upto p (suc n) [] j k ≡ true
+      to j k (inl a) = upto_old p (suc n) [] j k a.0 (let b = a.1 in omega arith) a.2
+      to j k (inr a) = upto_old p (suc n) [] j k (let b = a.0 in omega arith) (let b = a.0 in omega arith) (subst (λ z. has (option_at p z) j ≡ true) (sym a.0) a.1)
+
+      from : (j k : ℕ) → ((0 < k) × (k ≤ suc n) × (has (option_at p k) j ≡ true)) ⊎ ((k ≡ suc (suc n)) × (has [] j ≡ true)) → upto p n o j k ≡ true
+      from j k (inr a) = absurd (false≢true a.1)
+      from j k (inl a) = pick (cases_eq k (suc n))
+        where
+          pick : (k ≡ suc n) ⊎ (k ≡ suc n → ⊥) → upto p n o j k ≡ true
+          pick (inl e) = subst (λ z. upto p n o j z ≡ true) (sym e) (upto_new p n o j (subst (λ z. has (option_at p z) j ≡ true) e a.2))
+          pick (inr ne) = upto_old p n o j k a.0 (let b = a.1 in omega (arith, ne)) a.2
+
+  spacer_is : (k : ℕ) → 0 < k → k ≤ suc n → (k ≡ suc n) ⊎ (k ≡ suc n → ⊥) → top_at hs (spacer_of p k) ≡ k
+  spacer_is k a b (inl e) = (λ v. top_at hs (spacer_of p (e v))) ∙ ap (λ (w : Entry). w.top) (at_set gs end (record { top = suc n; up = start; down = 0; left = 0; right = 0 }) end_low) ∙ sym e
+  spacer_is k a b (inr ne) =
+      let le : k ≤ n = omega (arith, ne) in
+      let up = spacer_rises p k n le lt in let low = spacer_low p k a (omega arith) in let l = low.0 in
+      ap (λ (w : Entry). w.top) (set_other gs end (spacer_of p k) (record { top = suc n; up = start; down = 0; left = 0; right = 0 }) (λ e. absurd (omega arith)))
+      ∙ kept (λ w. w.top) (to_down (end - 1)) (λ w. refl) fs (start - 1) (spacer_of p k)
+      ∙ nodes.keeps (spacer_of p k) (omega arith) (inl (sooner k a le)) ∙ d.spacers k a le
+    where
+      sooner : (k : ℕ) → 0 < k → k ≤ n → spacer_of p k < start
+      sooner zero a le = absurd (omega arith)
+      sooner (suc k) a le = start_below p k n (omega arith) (omega arith)
+
+  option_done : BuiltDone p active (suc n) (option_appended es start o (suc n))
+  option_done = subst (λ ks. BuiltDone p active (suc n) ks) (sym appended_is) (record {
+    grows = subst (λ f. Grows p f active hs) whole hs_grows;
+    spacers = λ k a b. spacer_is k a b (cases_eq k (suc n));
+  })
+
+  option_can : CanAppendOption es start o
+  option_can =
+      let z = start_low p n in let s = (d.grows).size in let b = (spacer_low p (suc n) (omega arith) (omega arith)).1 in
+      let small = and_parts (nat_le (length p.names) 65535 && nat_le (length p.options) 262143) (nat_le (size_of p) 8388608) problem.small in
+      let m = leb-true (size_of p) 8388608 small.1 in
+      record { some = omega arith; end = omega arith; word = omega arith; nodes = nodes.can }
+
+-- ---- the heads
+
+heads_length : (es : List Entry) (primary n : ℕ) → length (heads_written es primary n) ≡ length es
+heads_length es primary zero = length-set es 0 (record { top = 0; up = 0; down = 0; left = primary; right = 1 })
+heads_length es primary (suc n) = length-set (heads_written es primary n) (suc n) (empty_head primary (suc n)) ∙ heads_length es primary n
+
+header_is : (es : List Entry) (primary n : ℕ) → 0 < length es → entry_at (heads_written es primary n) 0 ≡ record { top = 0; up = 0; down = 0; left = primary; right = 1 }
+header_is es primary zero lt = at_set es 0 (record { top = 0; up = 0; down = 0; left = primary; right = 1 }) lt
+header_is es primary (suc n) lt = set_other (heads_written es primary n) (suc n) 0 (empty_head primary (suc n)) (λ e. absurd (omega arith)) ∙ header_is es primary n lt
+
+head_is : (es : List Entry) (primary n i : ℕ) → 0 < i → i ≤ n → n < length es → entry_at (heads_written es primary n) i ≡ empty_head primary i
+head_is es primary zero i a b lt = absurd (omega arith)
+head_is es primary (suc n) i a b lt = step (head_is es primary n i a) (cases_eq i (suc n))
+  where
+    step : (i ≤ n → n < length es → entry_at (heads_written es primary n) i ≡ empty_head primary i) → (i ≡ suc n) ⊎ (i ≡ suc n → ⊥) → entry_at (heads_written es primary (suc n)) i ≡ empty_head primary i
+    step ih (inl e) = (λ v. entry_at (heads_written es primary (suc n)) (e v)) ∙ at_set (heads_written es primary n) (suc n) (empty_head primary (suc n)) (subst (λ z. suc n < z) (sym (heads_length es primary n)) lt) ∙ ap (empty_head primary) (sym e)
+    step ih (inr ne) = set_other (heads_written es primary n) (suc n) i (empty_head primary (suc n)) ne ∙ ih (omega (arith, ne)) (omega arith)
+
+module _ (p : Cover) (problem : IsProblem p) where
+  abbrev heads : List Entry
+  heads = heads_written (replicate (size_of p) blank) p.primary (length p.names)
+
+  room : length (replicate (size_of p) blank) ≡ size_of p
+  room = go (size_of p)
+    where
+      go : (n : ℕ) → length (replicate n blank) ≡ n
+      go zero = refl
+      go (suc n) = ap suc (go n)
+
+  head : (i : ℕ) → 0 < i → i ≤ length p.names → entry_at heads i ≡ empty_head p.primary i
+  head i a b = head_is (replicate (size_of p) blank) p.primary (length p.names) i a b (let r = room in omega arith)
+
+  header : entry_at heads 0 ≡ record { top = 0; up = 0; down = 0; left = p.primary; right = 1 }
+  header = header_is (replicate (size_of p) blank) p.primary (length p.names) (let r = room in omega arith)
+
+  none : (j k : ℕ) → upto p 0 [] j k ≡ true → ⊥
+  none j k h = pick (upto_is p 0 [] j k h)
+    where
+      pick : ((0 < k) × (k ≤ 0) × (has (option_at p k) j ≡ true)) ⊎ ((k ≡ 1) × (has [] j ≡ true)) → ⊥
+      pick (inl a) = let b = a.0 in let c = a.1 in absurd (omega arith)
+      pick (inr a) = false≢true a.1
+
+  no_members : (j n k : ℕ) → filter (upto p 0 [] j) (numbers n k) ≡ []
+  no_members j zero k = refl
+  no_members j (suc n) k = let f : upto p 0 [] j k ≡ false = false_from (upto p 0 [] j k) (none j k) in rw f (no_members j n (suc k))
+
+  empty_ring : (j : ℕ) → 0 < j → j ≤ length p.names → IsRing (upto p 0 [] j) (place p j) (down_at heads) (up_at heads)
+  empty_ring j a b x y f = step f.from f.to
+    where
+      step : (x ≡ 0) ⊎ (upto p 0 [] j x ≡ true) → IsNext (upto p 0 [] j) x y → (down_at heads (place p j x) ≡ place p j y) × (up_at heads (place p j y) ≡ place p j x)
+      step (inr h) n = absurd (none j x h)
+      step (inl e) (inl n) = absurd (none j y n.0)
+      step (inl e) (inr n) = (
+        (λ v. down_at heads (place p j (e v))) ∙ ap (λ (w : Entry). w.down) (head j a b) ∙ (λ v. place p j (sym n.0 v)),
+        (λ v. up_at heads (place p j (n.0 v))) ∙ ap (λ (w : Entry). w.up) (head j a b) ∙ (λ v. place p j (sym e v)),
+      )
+
+  primary_right : (i : ℕ) → 0 < i → i < p.primary → right_at heads i ≡ i + 1
+  primary_right i a b =
+      let w = problem.within in let f : nat_lt p.primary i ≡ false = le-ltb p.primary i (omega arith) in let g : i == p.primary ≡ false = ne_eqb i p.primary (λ e. absurd (omega arith)) in
+      ap (λ (e : Entry). e.right) (head i a (omega arith)) ∙ rw (f, g) refl
+
+  last_right : right_at heads p.primary ≡ 0
+  last_right =
+      let w = problem.within in let f : nat_lt p.primary p.primary ≡ false = le-ltb p.primary p.primary (omega arith) in let g : p.primary == p.primary ≡ true = eq-eqb p.primary p.primary refl in
+      ap (λ (e : Entry). e.right) (head p.primary problem.some w) ∙ rw (f, g) refl
+
+  primary_left : (i : ℕ) → 0 < i → i ≤ p.primary → left_at heads i ≡ i - 1
+  primary_left i a b =
+      let w = problem.within in let f : nat_lt p.primary i ≡ false = le-ltb p.primary i b in
+      ap (λ (e : Entry). e.left) (head i a (omega arith)) ∙ rw f refl
+
+  full_row : IsRing (active_of p []) (λ i. i) (right_at heads) (left_at heads)
+  full_row x y f = step f.to
+    where
+      at_most : (x ≡ 0) ⊎ (active_of p [] x ≡ true) → x ≤ p.primary
+      at_most (inl e) = omega arith
+      at_most (inr h) = (active_is p [] x h).1
+
+      go_right : (x ≡ 0) ⊎ (active_of p [] x ≡ true) → x < p.primary → right_at heads x ≡ x + 1
+      go_right (inl e) lt = (λ v. right_at heads (e v)) ∙ ap (λ (w : Entry). w.right) header ∙ (let z : 1 ≡ x + 1 = omega arith in z)
+      go_right (inr h) lt = let q = active_is p [] x h in primary_right x q.0 lt
+
+      close_right : x ≡ p.primary → right_at heads x ≡ 0
+      close_right e = (λ v. right_at heads (e v)) ∙ last_right
+
+      step : IsNext (active_of p []) x y → (right_at heads x ≡ y) × (left_at heads y ≡ x)
+      step (inl n) =
+          let q = active_is p [] y n.0 in let lt = n.1 in let q0 = q.0 in let q1 = q.1 in
+          let next = n.2 (x + 1) (active_when p [] (x + 1) (omega arith) (omega arith) refl) (omega arith) in
+          let e : x + 1 ≡ y = omega arith in
+          (go_right f.from (omega arith) ∙ e, primary_left y q0 q1 ∙ (let z : y - 1 ≡ x = omega arith in z))
+      step (inr n) =
+          let most = n.1 p.primary (active_when p [] p.primary problem.some (omega arith) refl) in
+          let a = at_most f.from in
+          let e : x ≡ p.primary = omega arith in
+          (close_right e ∙ sym n.0, (λ v. left_at heads (n.0 v)) ∙ ap (λ (w : Entry). w.left) header ∙ sym e)
+
+  heads_done : BuiltDone p (active_of p []) 0 heads
+  heads_done = record {
+    grows = record {
+      size = heads_length (replicate (size_of p) blank) p.primary (length p.names) ∙ room;
+      shown_are = λ j k h. absurd (none j k h);
+      rings = empty_ring;
+      counts = λ j a b. ap (λ (w : Entry). w.top) (head j a b) ∙ sym (ap length (no_members j (length p.options) 1));
+      tops = λ j k h. absurd (none j k h);
+      lefts = λ j k h. absurd (none j k h);
+      rights = λ j k h. absurd (none j k h);
+      row = full_row;
+      aside = λ i a b.
+          let f : nat_lt p.primary i ≡ true = lt-ltb p.primary i a in
+          (ap (λ (w : Entry). w.right) (head i (omega arith) b) ∙ rw f refl, ap (λ (w : Entry). w.left) (head i (omega arith) b) ∙ rw f refl);
+      actives = λ i h. let q = active_is p [] i h in (q.0, q.1);
+    };
+    spacers = λ k a b. absurd (omega arith);
+  }
+
+  pub built_done : (n : ℕ) → n ≤ length p.options → BuiltDone p (active_of p []) n (built p n)
+  built_done zero le = heads_done
+  built_done (suc n) le = option_done p (active_of p []) n problem (omega arith) (built p n) (built_done n (omega arith))
+
+  pub built_can : (n : ℕ) → n < length p.options → CanAppendOption (built p n) (start_of p n) (option_at p (suc n))
+  built_can n lt = option_can p (active_of p []) n problem lt (built p n) (built_done n (omega arith))
+
+  all_shown : upto p (length p.options) [] ≡ shown_of p []
+  all_shown = λ v j k. (same_test (upto p (length p.options) [] j k) (shown_of p [] j k) (λ h. to j k (upto_is p (length p.options) [] j k h)) (λ h. from j k (shown_is p [] j k h))) v
+    where
+      to : (j k : ℕ) → ((0 < k) × (k ≤ length p.options) × (has (option_at p k) j ≡ true)) ⊎ ((k ≡ suc (length p.options)) × (has [] j ≡ true)) → shown_of p [] j k ≡ true
+      to j k (inl a) = shown_from p [] j k (record { node = record { some = a.0; within = a.1; has_item = a.2 }; free = λ y g o. false≢true g })
+      to j k (inr a) = absurd (false≢true a.1)
+
+      from : (j k : ℕ) → IsShown p [] j k → upto p (length p.options) [] j k ≡ true
+      from j k s = upto_old p (length p.options) [] j k (s.node).some (s.node).within (s.node).has_item
+
+  every_node : (j k : ℕ) → IsNode p j k → upto p (length p.options) [] j k ≡ true
+  every_node j k n = upto_old p (length p.options) [] j k n.some n.within n.has_item
+
+  pub fresh_stands : Stands p (shown_of p []) (active_of p []) (fresh p)
+  unfolding fresh
+  fresh_stands =
+      let d = built_done (length p.options) (omega arith) in let g = d.grows in
+      subst (λ f. Stands p f (active_of p []) (built p (length p.options))) all_shown (record {
+        size = g.size;
+        shown_are = g.shown_are;
+        rings = g.rings;
+        counts = g.counts;
+        tops = λ j k n. g.tops j k (every_node j k n);
+        lefts = λ j k n. g.lefts j k (every_node j k n);
+        rights = λ j k n. g.rights j k (every_node j k n);
+        spacers = d.spacers;
+        row = g.row;
+        aside = g.aside;
+        actives = g.actives;
+      })

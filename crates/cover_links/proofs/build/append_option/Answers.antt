@@ -1,0 +1,32 @@
+use Rattle.std.proofs.Common.{◌≡◌, ℕ, suc, ◌+◌, ◌-◌, ◌<◌, ◌≤◌, [], ◌∷◌, length, get_or, set, drop, refl, sym, ap, ◌∙◌, subst, arith, List}
+use Rattle.cover_links.specs.declared.entry.Entry.{Entry}
+use Rattle.cover_links.specs.Entries.{entry_at, changed, to_down}
+use Rattle.cover_links.specs.Fresh.{node_appended, nodes_appended, option_appended}
+use Rattle.cover_links.specs.Safety.{CanAppendNode, CanAppendNodes}
+use Rattle.cover_links.proofs.EntryLemmas.{written, length-node_unhidden}
+use Rattle.cover_links.proofs.BuildLemmas.{drop_all, drop_next}
+use Rattle.cover_links.proofs.SafetyLemmas.{length-node_appended}
+use Rattle.cover_links.proofs.build.append_option.Goals as goal
+
+pub loop-item-preserved : goal.loop-item-preserved
+loop-item-preserved c =
+    let es = c.loop-item.block in let x = c.loop-item.index in let i = c.loop-item.item-index in let o = c.args.option.now in let s = c.loop-item.invariant in
+    let l = c.args.start in let r = c.args.start + length o in
+    let cut = drop_next o i c.loop-item-test.true in
+    let next : suc x ≡ x + 1 = omega arith in
+    let can : CanAppendNodes es x l r (get_or o i 0 ∷ drop (i + 1) o) = subst (λ js. CanAppendNodes es x l r js) cut s.can in
+    record {
+      rest = (λ j. nodes_appended (c.append_node.ensures j) (sym next j) l r (drop (i + 1) o)) ∙ sym (ap (λ js. nodes_appended es x l r js) cut) ∙ s.rest;
+      can = subst (λ (w : List Entry × ℕ). CanAppendNodes w.0 w.1 l r (drop (i + 1) o)) (λ j. (sym c.append_node.ensures j, next j)) can.1;
+      place = (let p = s.place in omega arith);
+      size = ap length c.append_node.ensures ∙ length-node_appended es x (get_or o i 0) l r ∙ s.size;
+    }
+
+pub returns : goal.returns
+unfolding option_appended
+returns c =
+    let es = c.args.block.now in let o = c.args.option.now in let s = c.loop-item.invariant in let l = c.args.start in let r = c.args.start + length o in
+    let none : drop c.loop-item.item-index o ≡ [] = drop_all o c.loop-item.item-index c.loop-item-test.false in
+    let all : c.loop-item.block ≡ nodes_appended es l l r o = sym (ap (λ js. nodes_appended c.loop-item.block c.loop-item.index l r js) none) ∙ s.rest in
+    let down = written (to_down (r - 1)) c.loop-item.block c.write.new.self (l - 1) c.read-before.result c.write.ensures c.read-before.ensures in
+    c.write-2.ensures ∙ ap (λ fs. set fs r (record { top = c.args.number; up = l; down = 0; left = 0; right = 0 })) (down ∙ ap (λ fs. changed (to_down (r - 1)) fs (l - 1)) all)

@@ -1,0 +1,13 @@
+use Rattle.std.proofs.Common.{◌≡◌, ap, ◌∙◌}
+use Rattle.cover_links.specs.declared.entry.Entry.{Entry}
+use Rattle.cover_links.specs.Entries.{entry_at, changed, one_less, unlinked}
+use Rattle.cover_links.specs.Hiding.{node_hidden}
+use Rattle.cover_links.proofs.EntryLemmas.{written}
+use Rattle.cover_links.proofs.hiding.hide_node.Goals as goal
+
+pub returns : goal.returns
+unfolding node_hidden
+returns c =
+    let es = c.args.block.now in let q = c.args.index in let node : Entry = c.read-item.result in
+    written one_less c.unlink.new.block c.write.new.self node.top c.read-head.result c.write.ensures c.read-head.ensures
+    ∙ ap (λ fs. changed one_less fs node.top) c.unlink.ensures ∙ ap (λ (k : Entry). changed one_less (unlinked es q) k.top) c.read-item.ensures

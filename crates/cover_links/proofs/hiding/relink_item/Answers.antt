@@ -1,0 +1,14 @@
+use Rattle.std.proofs.Common.{◌≡◌, ap, ◌∙◌}
+use Rattle.cover_links.specs.declared.entry.Entry.{Entry}
+use Rattle.cover_links.specs.Entries.{entry_at, changed, to_right, to_left, item_relinked}
+use Rattle.cover_links.proofs.EntryLemmas.{written}
+use Rattle.cover_links.proofs.hiding.relink_item.Goals as goal
+
+pub returns : goal.returns
+unfolding item_relinked
+returns c =
+    let es = c.args.block.now in let node : Entry = c.read-left.result in
+    let one = written (to_right c.args.item) es c.write.new.self node.left c.read-before.result c.write.ensures c.read-before.ensures in
+    let two = written (to_left c.args.item) c.write.new.self c.write-2.new.self node.right c.read-after.result c.write-2.ensures c.read-after.ensures in
+    two ∙ ap (λ fs. changed (to_left c.args.item) fs node.right) one
+    ∙ ap (λ (k : Entry). changed (to_left c.args.item) (changed (to_right c.args.item) es k.left) k.right) c.read-left.ensures

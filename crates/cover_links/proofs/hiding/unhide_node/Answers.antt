@@ -1,0 +1,20 @@
+use Rattle.std.proofs.Common.{◌≡◌, ap, ◌∙◌, subst, sym}
+use Rattle.cover_links.specs.declared.entry.Entry.{Entry}
+use Rattle.cover_links.specs.Entries.{entry_at, changed, one_more, relinked}
+use Rattle.cover_links.specs.Hiding.{node_unhidden}
+use Rattle.cover_links.specs.Safety.{IsInside}
+use Rattle.cover_links.proofs.EntryLemmas.{written}
+use Rattle.cover_links.proofs.hiding.unhide_node.Goals as goal
+
+pub relink-requires : goal.relink-requires
+relink-requires c =
+    let es = c.args.block.now in let node : Entry = c.read-item.result in
+    let w = written one_more es c.write.new.self node.top c.read-head.result c.write.ensures c.read-head.ensures ∙ ap (λ (k : Entry). changed one_more es k.top) c.read-item.ensures in
+    subst (λ fs. IsInside fs c.args.index) (sym w) c.requires.inside
+
+pub returns : goal.returns
+unfolding node_unhidden
+returns c =
+    let es = c.args.block.now in let node : Entry = c.read-item.result in
+    let w = written one_more es c.write.new.self node.top c.read-head.result c.write.ensures c.read-head.ensures ∙ ap (λ (k : Entry). changed one_more es k.top) c.read-item.ensures in
+    c.relink.ensures ∙ ap (λ fs. relinked fs c.args.index) w

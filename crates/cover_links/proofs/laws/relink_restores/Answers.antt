@@ -1,0 +1,5 @@
+use Rattle.cover_links.proofs.RestoreLemmas as lemmas
+use Rattle.cover_links.proofs.laws.relink_restores.Goals as goal
+
+pub returns : goal.returns
+returns c = lemmas.relink_restores

@@ -1,0 +1,18 @@
+use Rattle.std.proofs.Common.{◌≡◌, ℕ, suc, ◌+◌, ◌-◌, ◌<◌, ◌≤◌, ◌⊎◌, inl, inr, true, false, unwrap_or, List, [], ◌∷◌, ◌++◌, length, refl, sym, ap, ◌∙◌, subst, arith}
+use Rattle.cover_problem.specs.Lists.{has, above, below, last_of}
+use Rattle.cover_problem.specs.Problem.{Cover, IsProblem, option_at, size_of}
+use Rattle.cover_problem.specs.Covering.{active, list_of}
+use Rattle.cover_problem.specs.Table.{Standing, AreCovered}
+use Rattle.cover_links.specs.declared.entry.Entry.{Entry}
+use Rattle.cover_links.specs.Layout.{place}
+use Rattle.cover_links.specs.Table.{IsTable, linked, IsSpot}
+use Rattle.cover_links.proofs.TableLemmas.{item_low, row_next, is_active, length_is, is_shown, next_spot, prev_spot, last_spot, linked_above, linked_below, linked_last}
+use Rattle.cover_links.proofs.Standing.{down_at, up_at, right_at, top_at}
+use Rattle.cover_links.proofs.TableLemmas.{stands}
+use Rattle.cover_links.proofs.table.LinkTable.node.Goals as goal
+
+pub read-entry-requires : goal.read-entry-requires
+read-entry-requires c =
+    let p = c.self.inside.subject.value in let cs = c.self.inside.covered.items in let es = c.self.inside.block in let t = c.self.invariant in let ts = c.self.inside.items in let st = c.self.inside.starts.items in
+    let size = (stands p cs ts es st _ t).size in
+    let lt : c.args.x < size_of p = subst (λ (v : Standing). c.args.x < size_of v.subject) (sym c.self.view_is) c.requires.within in omega arith

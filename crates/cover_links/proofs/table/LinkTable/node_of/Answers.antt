@@ -1,0 +1,69 @@
+use Rattle.std.proofs.Common.{◌≡◌, ℕ, suc, ◌+◌, ◌-◌, ◌<◌, ◌≤◌, ◌⊎◌, inl, inr, true, false, unwrap_or, List, [], ◌∷◌, ◌++◌, length, refl, sym, ap, ◌∙◌, subst, arith}
+use Rattle.cover_problem.specs.Lists.{has, above, below, last_of}
+use Rattle.cover_problem.specs.Problem.{Cover, IsProblem, option_at, size_of}
+use Rattle.cover_problem.specs.Covering.{active, list_of}
+use Rattle.cover_problem.specs.Table.{Standing, AreCovered}
+use Rattle.cover_links.specs.declared.entry.Entry.{Entry}
+use Rattle.cover_links.specs.Layout.{place}
+use Rattle.cover_links.specs.Table.{IsTable, linked, IsSpot}
+use Rattle.cover_links.proofs.TableLemmas.{item_low, row_next, is_active, length_is, is_shown, next_spot, prev_spot, last_spot, linked_above, linked_below, linked_last}
+use Rattle.cover_links.proofs.Standing.{down_at, up_at, right_at, top_at}
+use Rattle.std.proofs.lemmas.Bool.{cases_eq}
+use Rattle.cover_links.proofs.TableLemmas.{end_some, place_from, place_before, top_here, in_block, item_here}
+use Rattle.cover_links.proofs.table.LinkTable.node_of.Goals as goal
+
+pub overflow_sub-end : goal.overflow_sub-end
+overflow_sub-end c =
+    let p = c.self.inside.subject.value in let cs = c.self.inside.covered.items in let es = c.self.inside.block in let t = c.self.invariant in let ts = c.self.inside.items in let st = c.self.inside.starts.items in let j = c.args.item in let o = c.args.option in
+    let le : o ≤ length p.options = subst (λ (v : Standing). o ≤ length v.subject.options) (sym c.self.view_is) c.requires.within in
+    let h : has (option_at p o) j ≡ true = subst (λ (v : Standing). has (option_at v.subject o) j ≡ true) (sym c.self.view_is) c.requires.has_item in
+    let b = c.index-start.result.now in let e = c.index.result.now in
+    end_some p cs ts es st _ t j o b e c.requires.some le h c.index-start.ensures c.index.ensures
+
+pub loop-index-init : goal.loop-index-init
+loop-index-init c =
+    let p = c.self.inside.subject.value in let cs = c.self.inside.covered.items in let es = c.self.inside.block in let t = c.self.invariant in let ts = c.self.inside.items in let st = c.self.inside.starts.items in let j = c.args.item in let o = c.args.option in
+    let le : o ≤ length p.options = subst (λ (v : Standing). o ≤ length v.subject.options) (sym c.self.view_is) c.requires.within in
+    let h : has (option_at p o) j ≡ true = subst (λ (v : Standing). has (option_at v.subject o) j ≡ true) (sym c.self.view_is) c.requires.has_item in
+    let b = c.index-start.result.now in let e = c.index.result.now in
+    place_from p cs ts es st _ t j o b e c.requires.some le h c.index-start.ensures c.index.ensures
+
+pub read-requires : goal.read-requires
+read-requires c =
+    let p = c.self.inside.subject.value in let cs = c.self.inside.covered.items in let es = c.self.inside.block in let t = c.self.invariant in let ts = c.self.inside.items in let st = c.self.inside.starts.items in let j = c.args.item in let o = c.args.option in
+    let le : o ≤ length p.options = subst (λ (v : Standing). o ≤ length v.subject.options) (sym c.self.view_is) c.requires.within in
+    let h : has (option_at p o) j ≡ true = subst (λ (v : Standing). has (option_at v.subject o) j ≡ true) (sym c.self.view_is) c.requires.has_item in
+    let b = c.index-start.result.now in let e = c.index.result.now in
+    in_block p cs ts es st _ t j o b e c.requires.some le h c.index-start.ensures c.index.ensures c.loop-index.index c.loop-index.auto.index c.loop-index-test.true
+
+pub loop-index-preserved : goal.loop-index-preserved
+loop-index-preserved c =
+    let p = c.self.inside.subject.value in let cs = c.self.inside.covered.items in let es = c.self.inside.block in let t = c.self.invariant in let ts = c.self.inside.items in let st = c.self.inside.starts.items in let j = c.args.item in let o = c.args.option in
+    let le : o ≤ length p.options = subst (λ (v : Standing). o ≤ length v.subject.options) (sym c.self.view_is) c.requires.within in
+    let h : has (option_at p o) j ≡ true = subst (λ (v : Standing). has (option_at v.subject o) j ≡ true) (sym c.self.view_is) c.requires.has_item in
+    let b = c.index-start.result.now in let e = c.index.result.now in
+    let i = c.loop-index.index in let inv = c.loop-index.invariant in
+    pick (place p j o) i inv (λ q. c.if-read-item.false (ap (λ (w : Entry). w.top) c.read.ensures ∙ ap (top_at es) q ∙ top_here p cs ts es st _ t j o b e c.requires.some le h c.index-start.ensures c.index.ensures)) (cases_eq i (place p j o))
+  where
+    pick : (n i : ℕ) → i ≤ n → (i ≡ n → ⊥) → (i ≡ n) ⊎ (i ≡ n → ⊥) → i + 1 ≤ n
+    pick n i a ne (inl q) = absurd (ne q)
+    pick n i a ne (inr q) = omega (arith, q)
+
+pub returns-then-read-item : goal.returns-then-read-item
+returns-then-read-item c =
+    let p = c.self.inside.subject.value in let cs = c.self.inside.covered.items in let es = c.self.inside.block in let t = c.self.invariant in let ts = c.self.inside.items in let st = c.self.inside.starts.items in let j = c.args.item in let o = c.args.option in
+    let le : o ≤ length p.options = subst (λ (v : Standing). o ≤ length v.subject.options) (sym c.self.view_is) c.requires.within in
+    let h : has (option_at p o) j ≡ true = subst (λ (v : Standing). has (option_at v.subject o) j ≡ true) (sym c.self.view_is) c.requires.has_item in
+    let b = c.index-start.result.now in let e = c.index.result.now in
+    let i = c.loop-index.index in
+    let top : top_at es i ≡ j = sym (ap (λ (w : Entry). w.top) c.read.ensures) ∙ c.if-read-item.true in
+    subst (λ (v : Standing). i ≡ place v.subject j o) c.self.view_is (sym (item_here p cs ts es st _ t j o b e c.requires.some le h c.index-start.ensures c.index.ensures i c.loop-index.auto.index c.loop-index-test.true) ∙ ap (λ n. place p n o) top)
+
+pub returns : goal.returns
+returns c =
+    let p = c.self.inside.subject.value in let cs = c.self.inside.covered.items in let es = c.self.inside.block in let t = c.self.invariant in let ts = c.self.inside.items in let st = c.self.inside.starts.items in let j = c.args.item in let o = c.args.option in
+    let le : o ≤ length p.options = subst (λ (v : Standing). o ≤ length v.subject.options) (sym c.self.view_is) c.requires.within in
+    let h : has (option_at p o) j ≡ true = subst (λ (v : Standing). has (option_at v.subject o) j ≡ true) (sym c.self.view_is) c.requires.has_item in
+    let b = c.index-start.result.now in let e = c.index.result.now in
+    let inv = c.loop-index.invariant in let f = place_before p cs ts es st _ t j o b e c.requires.some le h c.index-start.ensures c.index.ensures in
+    absurd (omega (arith, c.loop-index-test.false))

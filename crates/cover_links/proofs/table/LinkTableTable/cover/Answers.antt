@@ -1,0 +1,45 @@
+use Rattle.std.proofs.Common.{◌≡◌, ℕ, suc, ◌+◌, ◌-◌, ◌<◌, ◌≤◌, ◌⊎◌, inl, inr, true, false, unwrap_or, List, [], ◌∷◌, ◌++◌, length, refl, sym, ap, ◌∙◌, subst, arith}
+use Rattle.cover_problem.specs.Lists.{has, above, below, last_of}
+use Rattle.cover_problem.specs.Problem.{Cover, IsProblem, option_at, size_of}
+use Rattle.cover_problem.specs.Covering.{active, list_of}
+use Rattle.cover_problem.specs.Table.{Standing, AreCovered}
+use Rattle.cover_links.specs.declared.entry.Entry.{Entry}
+use Rattle.cover_links.specs.Layout.{place}
+use Rattle.cover_links.specs.Table.{IsTable, linked, IsSpot}
+use Rattle.cover_links.proofs.TableLemmas.{item_low, row_next, is_active, length_is, is_shown, next_spot, prev_spot, last_spot, linked_above, linked_below, linked_last}
+use Rattle.cover_links.proofs.Standing.{down_at, up_at, right_at, top_at}
+use Rattle.std.proofs.Common.{rules}
+use Rattle.cover_problem.specs.Coverable.{IsUncovered}
+use Rattle.cover_problem.proofs.CoveringLemmas.{covered_room, covered_push}
+use Rattle.cover_links.specs.Hiding.{item_covered}
+use Rattle.cover_links.specs.Safety.{CanCoverItem}
+use Rattle.cover_links.specs.StandsFor.{block_of}
+use Rattle.cover_links.proofs.BlockLemmas.{step_done, block_push}
+use Rattle.cover_links.proofs.table.LinkTableTable.cover.Goals as goal
+
+pub cover_item-requires : goal.cover_item-requires
+cover_item-requires c =
+    let p = c.self.inside.subject.value in let cs = c.self.inside.covered.items in let es = c.self.inside.block in let t = c.self.invariant in let ts = c.self.inside.items in let st = c.self.inside.starts.items in let j = c.args.item in
+    let u : IsUncovered p cs j = record { some = c.requires.some; within = subst (λ (v : Standing). j ≤ length v.subject.names) (sym c.self.view_is) c.requires.within; uncovered = subst (λ (v : Standing). has v.covered j ≡ false) (sym c.self.view_is) c.requires.uncovered } in
+    subst (λ b. CanCoverItem b j) (sym t.block_is) (step_done p cs j t.problem t.covered u).can
+
+pub push_reserved-requires : goal.push_reserved-requires
+push_reserved-requires c =
+    let p = c.self.inside.subject.value in let cs = c.self.inside.covered.items in let es = c.self.inside.block in let t = c.self.invariant in let ts = c.self.inside.items in let st = c.self.inside.starts.items in let j = c.args.item in
+    let u : IsUncovered p cs j = record { some = c.requires.some; within = subst (λ (v : Standing). j ≤ length v.subject.names) (sym c.self.view_is) c.requires.within; uncovered = subst (λ (v : Standing). has v.covered j ≡ false) (sym c.self.view_is) c.requires.uncovered } in
+    let r = covered_room p cs j t.covered u in let cap = t.capacity in search (rules, arith, r, cap)
+
+pub invariant_of-self : goal.invariant_of-self
+invariant_of-self c =
+    let p = c.self.inside.subject.value in let cs = c.self.inside.covered.items in let es = c.self.inside.block in let t = c.self.invariant in let ts = c.self.inside.items in let st = c.self.inside.starts.items in let j = c.args.item in
+    let u : IsUncovered p cs j = record { some = c.requires.some; within = subst (λ (v : Standing). j ≤ length v.subject.names) (sym c.self.view_is) c.requires.within; uncovered = subst (λ (v : Standing). has v.covered j ≡ false) (sym c.self.view_is) c.requires.uncovered } in
+    let push = c.push_reserved.ensures in
+    record {
+      problem = t.problem;
+      covered = subst (AreCovered p) (sym push.items) (covered_push p cs j t.covered u);
+      items_are = t.items_are;
+      block_is = c.cover_item.ensures ∙ ap (λ b. item_covered b j) t.block_is ∙ sym (block_push p cs j) ∙ ap (block_of p) (sym push.items);
+      count = t.count;
+      each = t.each;
+      capacity = subst (λ n. length p.names ≤ n) (sym push.capacity) t.capacity;
+    }

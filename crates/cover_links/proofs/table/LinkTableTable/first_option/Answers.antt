@@ -1,0 +1,29 @@
+use Rattle.std.proofs.Common.{◌≡◌, ℕ, suc, ◌+◌, ◌-◌, ◌<◌, ◌≤◌, ◌⊎◌, inl, inr, true, false, unwrap_or, List, [], ◌∷◌, ◌++◌, length, refl, sym, ap, ◌∙◌, subst, arith}
+use Rattle.cover_problem.specs.Lists.{has, above, below, last_of}
+use Rattle.cover_problem.specs.Problem.{Cover, IsProblem, option_at, size_of}
+use Rattle.cover_problem.specs.Covering.{active, list_of}
+use Rattle.cover_problem.specs.Table.{Standing, AreCovered}
+use Rattle.cover_links.specs.declared.entry.Entry.{Entry}
+use Rattle.cover_links.specs.Layout.{place}
+use Rattle.cover_links.specs.Table.{IsTable, linked, IsSpot}
+use Rattle.cover_links.proofs.TableLemmas.{item_low, row_next, is_active, length_is, is_shown, next_spot, prev_spot, last_spot, linked_above, linked_below, linked_last}
+use Rattle.cover_links.proofs.Standing.{down_at, up_at, right_at, top_at}
+use Rattle.cover_links.proofs.table.LinkTableTable.first_option.Goals as goal
+
+pub read-node-requires : goal.read-node-requires
+read-node-requires c =
+    let p = c.self.inside.subject.value in let cs = c.self.inside.covered.items in let es = c.self.inside.block in let t = c.self.invariant in let ts = c.self.inside.items in let st = c.self.inside.starts.items in let j = c.args.item in
+    let le : j ≤ length p.names = subst (λ (v : Standing). j ≤ length v.subject.names) (sym c.self.view_is) c.requires.within in item_low p cs ts es st _ t j le
+
+pub option_at-requires : goal.option_at-requires
+option_at-requires c =
+    let p = c.self.inside.subject.value in let cs = c.self.inside.covered.items in let es = c.self.inside.block in let t = c.self.invariant in let ts = c.self.inside.items in let st = c.self.inside.starts.items in let j = c.args.item in
+    let le : j ≤ length p.names = subst (λ (v : Standing). j ≤ length v.subject.names) (sym c.self.view_is) c.requires.within in
+    (unwrap_or (above 0 (list_of p cs j)) 0, subst (λ (e : Entry). IsSpot es j e.down (unwrap_or (above 0 (list_of p cs j)) 0)) (sym c.read-node.ensures) (next_spot p cs ts es st _ t j c.requires.some le 0 (inl refl)))
+
+pub returns : goal.returns
+returns c =
+    let p = c.self.inside.subject.value in let cs = c.self.inside.covered.items in let es = c.self.inside.block in let t = c.self.invariant in let ts = c.self.inside.items in let st = c.self.inside.starts.items in let j = c.args.item in
+    let le : j ≤ length p.names = subst (λ (v : Standing). j ≤ length v.subject.names) (sym c.self.view_is) c.requires.within in
+    subst (λ (v : Standing). c.option_at.result ≡ above 0 (list_of v.subject v.covered j)) c.self.view_is
+    (c.option_at.ensures (unwrap_or (above 0 (list_of p cs j)) 0) (subst (λ (e : Entry). IsSpot es j e.down (unwrap_or (above 0 (list_of p cs j)) 0)) (sym c.read-node.ensures) (next_spot p cs ts es st _ t j c.requires.some le 0 (inl refl))) ∙ linked_above p cs ts es st _ t j c.requires.some le 0)

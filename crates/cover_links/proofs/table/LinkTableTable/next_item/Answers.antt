@@ -1,0 +1,25 @@
+use Rattle.std.proofs.Common.{◌≡◌, ℕ, suc, ◌+◌, ◌-◌, ◌<◌, ◌≤◌, ◌⊎◌, inl, inr, true, false, unwrap_or, List, [], ◌∷◌, ◌++◌, length, refl, sym, ap, ◌∙◌, subst, arith}
+use Rattle.cover_problem.specs.Lists.{has, above, below, last_of}
+use Rattle.cover_problem.specs.Problem.{Cover, IsProblem, option_at, size_of}
+use Rattle.cover_problem.specs.Covering.{active, list_of}
+use Rattle.cover_problem.specs.Table.{Standing, AreCovered}
+use Rattle.cover_links.specs.declared.entry.Entry.{Entry}
+use Rattle.cover_links.specs.Layout.{place}
+use Rattle.cover_links.specs.Table.{IsTable, linked, IsSpot}
+use Rattle.cover_links.proofs.TableLemmas.{item_low, row_next, is_active, length_is, is_shown, next_spot, prev_spot, last_spot, linked_above, linked_below, linked_last}
+use Rattle.cover_links.proofs.Standing.{down_at, up_at, right_at, top_at}
+use Rattle.cover_problem.proofs.CoveringLemmas.{active_in}
+use Rattle.cover_links.proofs.table.LinkTableTable.next_item.Goals as goal
+
+pub read-requires : goal.read-requires
+read-requires c =
+    let p = c.self.inside.subject.value in let cs = c.self.inside.covered.items in let es = c.self.inside.block in let t = c.self.invariant in let ts = c.self.inside.items in let st = c.self.inside.starts.items in let j = c.args.item in
+    let m : has (active p cs) j ≡ true = subst (λ (v : Standing). has (active v.subject v.covered) j ≡ true) (sym c.self.view_is) c.requires in
+    let q = active_in p cs j m in item_low p cs ts es st _ t j (omega (arith, (t.problem).within, q.2))
+
+pub returns : goal.returns
+returns c =
+    let p = c.self.inside.subject.value in let cs = c.self.inside.covered.items in let es = c.self.inside.block in let t = c.self.invariant in let ts = c.self.inside.items in let st = c.self.inside.starts.items in let j = c.args.item in
+    let m : has (active p cs) j ≡ true = subst (λ (v : Standing). has (active v.subject v.covered) j ≡ true) (sym c.self.view_is) c.requires in
+    subst (λ (v : Standing). c.linked.result ≡ above j (active v.subject v.covered)) c.self.view_is
+    (c.linked.ensures ∙ ap (λ (e : Entry). linked e.right) c.read.ensures ∙ row_next p cs ts es st _ t j (inr (is_active p cs ts es st _ t j m)))

@@ -1,0 +1,63 @@
+-- What the row of places owns: for each place an entry, or room for one.
+use Rattle.std.specs.Prelude.{ℕ, ◌+◌, ◌*◌, ◌<◌, ◌^◌, List, [], ◌∷◌, length, Option, Some, None}
+use Rattle.std.specs.Mem.{type_size}
+use base.Fraction.{full_share}
+use base.Fml.{Lft, Fml, ftrue, ffalse, fsep, flt, froom}
+use mir.Syntax.{Ty, ty_array}
+use mir.Raw.{raw}
+use denote.RattleType.{RattleType}
+use denote.Memory.{lone, part_at, shared_of}
+use denote.Sharing.{nothing, said, beside}
+use denote.RawPtr.{Ptr, block_ptr, null_ptr}
+use Rattle.cover_links.specs.declared.entry.Entry.{Entry}
+use Rattle.cover_links.specs.contracts.entry.Entry.{the_row}
+
+-- an entry's machine type
+abbrev pub entry_type : Ty
+entry_type = lone the_row.mir
+
+-- the bytes of an entry
+abbrev pub entry_size : ℕ
+entry_size = type_size the_row
+
+-- so many entries take fewer than 2 ^ 63 bytes
+abbrev pub FitsInBlock : ℕ → Type 0
+FitsInBlock n = n * entry_size < 2 ^ 63
+
+-- the place o bytes into the block b
+abbrev pub place_own : ℕ → ℕ → Option Entry → Fml
+place_own b o (Some e) = part_at the_row full_share e b o
+place_own b o None = froom (raw entry_type) b o
+
+-- places side by side, the first of them o bytes into the block b
+abbrev pub places_own : ℕ → ℕ → List (Option Entry) → Fml
+places_own b o [] = ftrue
+places_own b o (c ∷ cs) = fsep (place_own b o c) (places_own b (o + entry_size) cs)
+
+-- what a `&` to a place sees
+abbrev pub place_lent : ℕ → ℕ → Option Entry → Lft → Fml
+place_lent b o (Some e) = shared_of the_row e b o
+place_lent b o None = nothing
+
+-- what a `&` to places side by side sees
+abbrev pub places_lent : ℕ → ℕ → List (Option Entry) → Lft → Fml
+places_lent b o [] = nothing
+places_lent b o (c ∷ cs) = beside (place_lent b o c) (places_lent b (o + entry_size) cs)
+
+-- the places fit in a block
+abbrev pub fit : List (Option Entry) → Fml
+fit cs = flt (length cs * entry_size) (2 ^ 63)
+
+-- the row that begins at a pointer
+abbrev pub cells_own : Ptr → List (Option Entry) → Fml
+cells_own (block_ptr b o) cs = fsep (fit cs) (places_own b o cs)
+cells_own null_ptr cs = ffalse
+
+-- what a `&` to that row sees
+abbrev pub cells_lent : Ptr → List (Option Entry) → Lft → Fml
+cells_lent (block_ptr b o) cs = beside (said (fit cs)) (places_lent b o cs)
+cells_lent null_ptr cs = said ffalse
+
+-- the allocator's token for a block of so many entries
+abbrev pub deed_owns : (Ty → Ptr → Fml) → Ptr → ℕ → Fml
+deed_owns token p n = token (raw (ty_array entry_type n)) p

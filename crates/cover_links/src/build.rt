@@ -1,0 +1,137 @@
+//! The block of a problem with nothing covered.
+ghost use Rattle.std.specs.Prelude.{◌≡◌, ℕ, ◌<◌, ◌≤◌, ◌+◌, ◌-◌, ◌^◌, suc, length, slice_index, IfOk};
+ghost use Rattle.cover_links.specs.Fresh as list;
+ghost use Rattle.cover_links.specs.Fresh.{node_appended, option_appended, heads_written};
+ghost use Rattle.cover_links.specs.Layout.{start_of};
+ghost use Rattle.cover_links.specs.Safety.{CanAppendNode, CanAppendOption};
+
+use crate::block::Block;
+use crate::entry::Entry;
+use crate::hiding::unhide_node;
+use cover_problem::Problem;
+use std::alloc::{AllocError, Global};
+
+/// An entry that names nothing.
+pub(crate) const BLANK: Entry = Entry {
+    top: 0,
+    up: 0,
+    down: 0,
+    left: 0,
+    right: 0,
+};
+
+/// For each option where its first node stands, and at the end where the block ends.
+pub(crate) fn starts(alloc: Global, problem: &Problem) -> Result<Vec<u32>, AllocError>
+    ensures count { IfOk result (λ s. length s.items ≡ suc (length problem.now.options)) }
+    ensures each { IfOk result (λ s. (k : ℕ) → k ≤ length problem.now.options → slice_index s.items k ≡ start_of problem.now k) }
+{
+    let options = problem.options();
+    let mut starts = Vec::with_capacity(alloc, options as usize + 1)?;
+    let mut next = problem.items() + 2;
+    starts.push_reserved(next);
+    for k in 0..options {
+        next += problem.option(k + 1).len() as u32 + 1;
+        starts.push_reserved(next);
+    }
+    Ok(starts)
+}
+
+/// The head of an item whose list is empty.
+fn empty_head(item: u32, primary: u32) -> Entry
+    requires some { 0 < item }
+    requires small { item < 2 ^ 32 - 1 }
+    ensures { result ≡ list.empty_head primary item }
+{
+    let is_primary = item <= primary;
+    let after = if item == primary { 0 } else { item + 1 };
+    Entry {
+        top: 0,
+        up: item,
+        down: item,
+        left: if is_primary { item - 1 } else { item },
+        right: if is_primary { after } else { item },
+    }
+}
+
+/// Writes the header, and the heads with empty lists.
+fn write_heads(block: &mut Block, items: u32, primary: u32)
+    requires within { items < length block.old }
+    requires small { items < 2 ^ 32 - 1 }
+    ensures { block.new ≡ heads_written block.old primary items }
+{
+    block.write(
+        0,
+        Entry {
+            left: primary,
+            right: 1,
+            ..BLANK
+        },
+    );
+    for item in 1..items + 1 {
+        block.write(item, empty_head(item, primary));
+    }
+}
+
+/// Appends a node to the list of its item.
+fn append_node(block: &mut Block, index: u32, item: u32, left: u32, right: u32)
+    requires { CanAppendNode block.old index item left right }
+    ensures { block.new ≡ node_appended block.old index item left right }
+{
+    let up = block.read(item).up;
+    block.write(
+        index,
+        Entry {
+            top: item,
+            up,
+            down: item,
+            left,
+            right,
+        },
+    );
+    unhide_node(block, index);
+}
+
+/// Appends the nodes of an option and the spacer past them, to which the spacer before them leads.
+fn append_option(block: &mut Block, start: u32, option: &[u32], number: u32)
+    requires { CanAppendOption block.old start option.now }
+    ensures { block.new ≡ option_appended block.old start option.now number }
+{
+    let end = start + option.len() as u32;
+    let mut index = start;
+    for item in option {
+        append_node(block, index, *item, start, end);
+        index += 1;
+    }
+    let before = block.read(start - 1);
+    block.write(
+        start - 1,
+        Entry {
+            down: end - 1,
+            ..before
+        },
+    );
+    block.write(
+        end,
+        Entry {
+            top: number,
+            up: start,
+            ..BLANK
+        },
+    );
+}
+
+/// The block of a problem with nothing covered, whose options start there.
+pub(crate) fn fresh(alloc: Global, problem: &Problem, starts: &[u32]) -> Result<Block, AllocError>
+    requires count { length starts.now ≡ suc (length problem.now.options) }
+    requires each { (k : ℕ) → k ≤ length problem.now.options → slice_index starts.now k ≡ start_of problem.now k }
+    ensures { IfOk result (λ b. b ≡ list.fresh problem.now) }
+{
+    let items = problem.items();
+    let options = problem.options();
+    let mut block = Block::make(alloc, starts[options as usize] as usize, BLANK)?;
+    write_heads(&mut block, items, problem.primary());
+    for k in 0..options {
+        append_option(&mut block, starts[k as usize], problem.option(k + 1), k + 1);
+    }
+    Ok(block)
+}

@@ -1,0 +1,16 @@
+//! Dancing links: a table of an exact cover problem whose lists are linked nodes in one raw block.
+#![tactic(auto)]
+
+mod block;
+mod build;
+mod cells;
+mod entry;
+mod hiding;
+pub mod laws;
+mod table;
+
+pub use entry::Node;
+pub use table::LinkTable;
+
+#[cfg(test)]
+mod tests;

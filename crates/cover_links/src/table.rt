@@ -1,0 +1,169 @@
+//! The table whose lists are linked nodes.
+ghost use Rattle.std.specs.Prelude.{◌≡◌, ◌<◌, ◌≤◌, ◌+◌, ◌⊎◌, ◌==◌, nat_lt, ◌&&◌, cond, List, true, ℕ, [], ◌∷◌, length, IfOk, OnOk};
+ghost use Rattle.cover_problem.specs.Lists.{has};
+ghost use Rattle.cover_problem.specs.Problem as problem;
+ghost use Rattle.cover_problem.specs.Problem.{IsProblem, size_of};
+ghost use Rattle.cover_problem.specs.Table.{AreCovered};
+ghost use Rattle.cover_links.specs.Entries.{entry_at};
+ghost use Rattle.cover_links.specs.Layout.{place};
+ghost use Rattle.cover_links.specs.StandsFor.{block_of};
+ghost use Rattle.cover_links.specs.Table as table;
+
+use crate::block::Block;
+use crate::build::{fresh, starts};
+use crate::entry::Node;
+use crate::hiding::{cover_item, uncover_item};
+use cover_problem::{Problem, Table};
+use std::alloc::{AllocError, Global};
+use std::marker::Model;
+use std::snapshot::Snapshot;
+
+/// A table of linked nodes in one raw block: covering an item costs the nodes of the options that it hides, and uncovering it
+/// undoes that link by link. (TAOCP volume 4B, section 7.2.2.1.)
+#[derive(Drop)]
+pub struct LinkTable {
+    /// The problem, which contracts alone see.
+    subject: Snapshot<Problem>,
+    items: u32,
+    block: Block,
+    /// For each option where its first node stands, and at the end where the block ends.
+    starts: Vec<u32>,
+    /// The covered items, with room for all.
+    covered: Vec<u32>,
+}
+
+impl Model for LinkTable {
+    ghost use Rattle.std.specs.Prelude.{vec_capacity};
+    ghost use Rattle.cover_problem.specs.Table.{Standing};
+    ghost use Rattle.cover_links.specs.Table.{IsTable};
+
+    ghost Value = { Standing };
+
+    ghost view = { λ a. record { subject = a.subject.value; covered = a.covered.items } };
+
+    ghost invariant = { λ a. IsTable a.subject.value a.covered.items a.items a.block a.starts.items (vec_capacity a.covered) };
+}
+
+/// What a link of the row of active items leads to: nothing where it leads back to the header.
+#[inline(always)]
+fn linked(item: u32) -> Option<u32>
+    ensures { result ≡ table.linked item }
+{
+    if item == 0 { None } else { Some(item) }
+}
+
+/// The number of the option of an item's node, or none at the item's head.
+#[inline(always)]
+fn option_at(block: &Block, item: u32, node: u32) -> Option<u32>
+    requires { (k : ℕ) × table.IsSpot block.now item node k }
+    ensures { (k : ℕ) → table.IsSpot block.now item node k → result ≡ table.linked k }
+{
+    if node == item {
+        return None;
+    }
+    let spacer = block.read(node).right;
+    Some(block.read(spacer).top)
+}
+
+impl LinkTable {
+    /// The entry of the block numbered x.
+    pub fn node(&self, x: u32) -> Node
+        requires some { 0 < x }
+        requires within { x < size_of self.now.subject }
+        ensures { result ≡ table.node_seen (length self.now.subject.names) x (entry_at (block_of self.now.subject self.now.covered) x) }
+    {
+        let entry = self.block.read(x);
+        let is_spacer = x > self.items && entry.right == 0;
+        let top = entry.top as i64;
+        Node {
+            top_or_len: if is_spacer { 0 - top } else { top },
+            up: entry.up,
+            down: entry.down,
+        }
+    }
+
+    /// An item's node in an option that has it.
+    fn node_of(&self, item: u32, option: u32) -> u32
+        requires some { 0 < option }
+        requires within { option ≤ length self.now.subject.options }
+        requires has_item { has (problem.option_at self.now.subject option) item ≡ true }
+        ensures { result ≡ place self.now.subject item option }
+    {
+        let start = self.starts[(option - 1) as usize];
+        let end = self.starts[option as usize] - 1;
+        for index in start..end {
+            if self.block.read(index).top == item {
+                return index;
+            }
+        }
+        start
+    }
+}
+
+impl Table for LinkTable {
+    ghost subject = { λ t. t.subject };
+
+    ghost covered_list = { λ t. t.covered };
+
+    fn new(alloc: Global, problem: &Problem) -> Result<Self, AllocError> {
+        let items = problem.items();
+        let starts = starts(alloc, problem)?;
+        let block = fresh(alloc, problem, &starts)?;
+        let covered = Vec::with_capacity(alloc, items as usize)?;
+        Ok(LinkTable {
+            subject: Snapshot::of(problem),
+            items,
+            block,
+            starts,
+            covered,
+        })
+    }
+
+    fn covered(&self) -> &[u32] {
+        &self.covered
+    }
+
+    fn first_item(&self) -> Option<u32> {
+        linked(self.block.read(0).right)
+    }
+
+    fn next_item(&self, item: u32) -> Option<u32> {
+        linked(self.block.read(item).right)
+    }
+
+    fn len(&self, item: u32) -> u32 {
+        self.block.read(item).top
+    }
+
+    fn first_option(&self, item: u32) -> Option<u32> {
+        let node = self.block.read(item).down;
+        option_at(&self.block, item, node)
+    }
+
+    fn last_option(&self, item: u32) -> Option<u32> {
+        let node = self.block.read(item).up;
+        option_at(&self.block, item, node)
+    }
+
+    fn next_option(&self, item: u32, option: u32) -> Option<u32> {
+        let here = self.node_of(item, option);
+        let node = self.block.read(here).down;
+        option_at(&self.block, item, node)
+    }
+
+    fn prev_option(&self, item: u32, option: u32) -> Option<u32> {
+        let here = self.node_of(item, option);
+        let node = self.block.read(here).up;
+        option_at(&self.block, item, node)
+    }
+
+    fn cover(&mut self, item: u32) {
+        cover_item(&mut self.block, item);
+        self.covered.push_reserved(item);
+    }
+
+    fn uncover(&mut self, item: u32) {
+        uncover_item(&mut self.block, item);
+        self.covered.pop();
+    }
+}

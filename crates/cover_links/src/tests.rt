@@ -1,0 +1,179 @@
+//! The table of nodes of the small problem, and its lists while items are covered.
+ghost use Rattle.std.specs.Prelude.{◌≡◌, ◌<◌, ◌≤◌, length, IfOk, [], ◌∷◌, ◌++◌, false};
+ghost use Rattle.cover_problem.specs.Lists.{has};
+ghost use Rattle.cover_problem.specs.Problem.{size_of};
+
+use crate::build::starts;
+use crate::table::LinkTable;
+use cover_problem::{Problem, Table};
+use std::alloc::{AllocError, Global};
+use std::test::Fail;
+
+/// The small problem: a b c d e f g, and the options c e, a d g, b c f, a d f, b g and d e g.
+fn small(alloc: Global) -> Result<Problem, Fail> {
+    let mut names = Vec::new(alloc);
+    for name in ["a", "b", "c", "d", "e", "f", "g"] {
+        names.push(name.to_string(alloc)?)?;
+    }
+    let options = vec![in alloc;
+        vec![in alloc; 3, 5]?,
+        vec![in alloc; 1, 4, 7]?,
+        vec![in alloc; 2, 3, 6]?,
+        vec![in alloc; 1, 4, 6]?,
+        vec![in alloc; 2, 7]?,
+        vec![in alloc; 4, 5, 7]?,
+    ]?;
+    Ok(
+        Problem::new(alloc, names, 7, options)
+            .ok()
+            .ok_or("the small problem is a problem")?,
+    )
+}
+
+/// The entries 1 to 30: an item's length, a node's item, or a spacer's option negated, and the links up and down.
+/// (TAOCP volume 4B, section 7.2.2.1, table 1, with the spacers' links.)
+const NODES: [(i64, u32, u32); 30] = [
+    (2, 20, 12),
+    (2, 24, 16),
+    (2, 17, 9),
+    (3, 27, 13),
+    (2, 28, 10),
+    (2, 22, 18),
+    (3, 29, 14),
+    (0, 0, 10),
+    (3, 3, 17),
+    (5, 5, 28),
+    (-1, 9, 14),
+    (1, 1, 20),
+    (4, 4, 21),
+    (7, 7, 25),
+    (-2, 12, 18),
+    (2, 2, 24),
+    (3, 9, 3),
+    (6, 6, 22),
+    (-3, 16, 22),
+    (1, 12, 1),
+    (4, 13, 27),
+    (6, 18, 6),
+    (-4, 20, 25),
+    (2, 16, 2),
+    (7, 14, 29),
+    (-5, 24, 29),
+    (4, 21, 4),
+    (5, 10, 5),
+    (7, 25, 7),
+    (-6, 27, 0),
+];
+
+/// How many entries a problem's block has.
+fn entries(alloc: Global, problem: &Problem) -> Result<u32, AllocError>
+    ensures { IfOk result (λ n. n ≡ size_of problem.now) }
+{
+    let starts = starts(alloc, problem)?;
+    Ok(starts[problem.options() as usize])
+}
+
+/// Whether the entries 1 to 30 are those of the small problem.
+fn is_small_block(table: &LinkTable) -> bool
+    requires { size_of table.now.subject ≡ 31 }
+{
+    for (place, entry) in NODES.iter().enumerate() {
+        let node = table.node(place as u32 + 1);
+        if node.top_or_len != entry.0 || node.up != entry.1 || node.down != entry.2 {
+            return false;
+        }
+    }
+    true
+}
+
+/// Covers three items.
+fn cover_three(table: &mut LinkTable, a: u32, b: u32, c: u32)
+    requires none { table.old.covered ≡ [] }
+    requires first { (0 < a) }
+    requires rising { a < b }
+    requires more { b < c }
+    requires within { c ≤ length table.old.subject.names }
+    ensures subject { table.new.subject ≡ table.old.subject }
+    ensures covered { table.new.covered ≡ a ∷ b ∷ c ∷ [] }
+{
+    table.cover(a);
+    table.cover(b);
+    table.cover(c);
+}
+
+/// Uncovers them again.
+fn uncover_three(table: &mut LinkTable, a: u32, b: u32, c: u32)
+    requires { table.old.covered ≡ a ∷ b ∷ c ∷ [] }
+    ensures subject { table.new.subject ≡ table.old.subject }
+    ensures covered { table.new.covered ≡ [] }
+{
+    table.uncover(c);
+    table.uncover(b);
+    table.uncover(a);
+}
+
+/// The second active item.
+fn second_item(table: &LinkTable) -> Option<u32> {
+    table.next_item(table.first_item()?)
+}
+
+/// The second option of an item's list.
+fn second_option(table: &LinkTable, item: u32) -> Option<u32>
+    requires some { 0 < item }
+    requires within { item ≤ length table.now.subject.names }
+{
+    table.next_option(item, table.first_option(item)?)
+}
+
+/// The last but one option of an item's list.
+fn last_but_one(table: &LinkTable, item: u32) -> Option<u32>
+    requires some { 0 < item }
+    requires within { item ≤ length table.now.subject.names }
+{
+    table.prev_option(item, table.last_option(item)?)
+}
+
+#[test]
+fn the_small_problem_has_its_table_of_nodes(rt: HostRuntime) -> Result<(), Fail> {
+    let problem = small(rt.alloc())?;
+    assert_eq!(rt; entries(rt.alloc(), &problem)?, 31);
+    let table = LinkTable::new(rt.alloc(), &problem)?;
+    assert!(rt; is_small_block(&table));
+    Ok(())
+}
+
+#[test]
+fn uncovering_gives_the_table_of_nodes_back(rt: HostRuntime) -> Result<(), Fail> {
+    let problem = small(rt.alloc())?;
+    assert_eq!(rt; problem.items(), 7);
+    assert_eq!(rt; entries(rt.alloc(), &problem)?, 31);
+    let mut table = LinkTable::new(rt.alloc(), &problem)?;
+    cover_three(&mut table, 1, 4, 7);
+    assert!(rt; !is_small_block(&table));
+    uncover_three(&mut table, 1, 4, 7);
+    assert!(rt; is_small_block(&table));
+    Ok(())
+}
+
+#[test]
+fn what_is_left_once_a_d_and_g_are_covered(rt: HostRuntime) -> Result<(), Fail> {
+    let problem = small(rt.alloc())?;
+    assert_eq!(rt; problem.items(), 7);
+    let mut table = LinkTable::new(rt.alloc(), &problem)?;
+    cover_three(&mut table, 1, 4, 7);
+    assert_eq!(rt; table.covered(), [1, 4, 7].as_slice());
+    assert_eq!(rt; table.first_item(), Some(2));
+    assert_eq!(rt; second_item(&table), Some(3));
+    assert_eq!(rt; table.len(2), 1);
+    assert_eq!(rt; table.first_option(3), Some(1));
+    assert_eq!(rt; second_option(&table, 3), Some(3));
+    assert_eq!(rt; second_option(&table, 2), None);
+    assert_eq!(rt; table.last_option(3), Some(3));
+    assert_eq!(rt; last_but_one(&table, 3), Some(1));
+    assert_eq!(rt; last_but_one(&table, 2), None);
+    // The lists of covered items stay as they were.
+    assert_eq!(rt; table.len(1), 2);
+    assert_eq!(rt; table.first_option(4), Some(6));
+    assert_eq!(rt; table.len(4), 1);
+    Ok(())
+}

@@ -6,6 +6,7 @@ pub mod CoveringLemmas
 pub mod CoverLemmas
 pub mod ProblemLemmas
 pub mod TableLemmas
+pub mod WalkLemmas
 pub mod ReadingLemmas
 pub mod ItemLemmas
 pub mod BegunLemmas

@@ -1,5 +1,5 @@
 -- What a table that scans keeps is what the definitions ask: lists of numbers, times of covering, and the lists of items.
-use Rattle.std.proofs.Common.{◌≡◌, refl, sym, ap, ◌∙◌, ap₂, subst, ℕ, suc, zero, ◌+◌, ◌-◌, ◌<◌, ◌≤◌, Bool, true, false, not, ◌&&◌, ◌||◌, cond, List, [], ◌∷◌, ◌++◌, map, filter, find, replicate, length, get_or, take, drop, set, All, Option, Some, None, IfSome, unwrap_or, nat_lt, nat_le, ◌==◌, arith, inl, inr, ◌⊎◌, append-nil, add-one, one-add, add-zero, ltb-true, ltb-false, lt-ltb, le-ltb, leb-true, eq-eqb, eqb-true, ne_eqb, le_refl, length-append, length-drop, length-set, take_all, take-suc, ext_get_or, get_or-set_same, get_or-set_other}
+use Rattle.std.proofs.Common.{◌≡◌, refl, sym, ap, ◌∙◌, ap₂, subst, ℕ, suc, zero, ◌+◌, ◌-◌, ◌<◌, ◌≤◌, Bool, true, false, not, ◌&&◌, ◌||◌, cond, List, [], ◌∷◌, ◌++◌, map, filter, find, replicate, length, get_or, take, drop, set, All, Some, None, nat_lt, nat_le, ◌==◌, arith, inl, inr, ◌⊎◌, append-nil, add-one, one-add, add-zero, ltb-true, ltb-false, lt-ltb, le-ltb, leb-true, eq-eqb, eqb-true, ne_eqb, le_refl, length-append, length-drop, length-set, take_all, take-suc, ext_get_or, get_or-set_same, get_or-set_other}
 use Rattle.std.specs.List.Sorted.{IsNonDecreasingBy, IsPartitionPoint}
 use Rattle.std.specs.List.{list_any, list_all, position_or_len, prefix_len, before_first}
 use Rattle.std.proofs.lemmas.Bool.{and_parts, or_from, or_cases, or_left, or_right, cases_eq, cases_lt, cases_Bool, not-true, true≢false, false≢true}
@@ -781,40 +781,3 @@ plain_new p value pr n never room os hs c ts sound v q e o h z t f = subst (λ x
   times_are = t ∙ times_none never n ∙ ap₂ (λ m xs. times_of never m xs) e (sym z);
   fits = rw (sym e) f;
 })
-
--- what a walk finds is a member
-
-pub above_in : (n : ℕ) (xs : List ℕ) (found : Option ℕ) → found ≡ above n xs → IfSome found (λ k. has xs k ≡ true)
-above_in n xs found e = subst (λ o. IfSome o (λ k. has xs k ≡ true)) (sym e) (from xs)
-  where
-    from : (ys : List ℕ) → IfSome (above n ys) (λ k. has ys k ≡ true)
-    from [] = tt
-    from (y ∷ ys) = by (nat_lt n y) (above n ys) (from ys)
-      where
-        by : (b : Bool) (o : Option ℕ) → IfSome o (λ k. has ys k ≡ true) → IfSome (cond b (Some y) o) (λ k. has (y ∷ ys) k ≡ true)
-        by true o h = or_left (y == y) (has ys y) (eq-eqb y y refl)
-        by false None h = tt
-        by false (Some k) h = or_right (y == k) (has ys k) h
-
-pub below_in : (n : ℕ) (xs : List ℕ) (found : Option ℕ) → found ≡ below n xs → IfSome found (λ k. has xs k ≡ true)
-below_in n xs found e = subst (λ o. IfSome o (λ k. has xs k ≡ true)) (sym e) (from xs)
-  where
-    from : (ys : List ℕ) → IfSome (below n ys) (λ k. has ys k ≡ true)
-    from [] = tt
-    from (y ∷ ys) = by (nat_lt y n) (below n ys) (from ys)
-      where
-        by : (b : Bool) (o : Option ℕ) → IfSome o (λ k. has ys k ≡ true) → IfSome (cond b (Some (unwrap_or o y)) None) (λ k. has (y ∷ ys) k ≡ true)
-        by true None h = or_left (y == y) (has ys y) (eq-eqb y y refl)
-        by true (Some k) h = or_right (y == k) (has ys k) h
-        by false o h = tt
-
-pub last_in : (xs : List ℕ) (found : Option ℕ) → found ≡ last_of xs → IfSome found (λ k. has xs k ≡ true)
-last_in xs found e = subst (λ o. IfSome o (λ k. has xs k ≡ true)) (sym e) (from xs)
-  where
-    from : (ys : List ℕ) → IfSome (last_of ys) (λ k. has ys k ≡ true)
-    from [] = tt
-    from (y ∷ ys) = by (last_of ys) (from ys)
-      where
-        by : (o : Option ℕ) → IfSome o (λ k. has ys k ≡ true) → has (y ∷ ys) (unwrap_or o y) ≡ true
-        by None h = or_left (y == y) (has ys y) (eq-eqb y y refl)
-        by (Some k) h = or_right (y == k) (has ys k) h

@@ -1,5 +1,5 @@
 use Rattle.cover_problem.specs.Covering.{active}
-use Rattle.cover_problem.proofs.TableLemmas.{above_in}
+use Rattle.cover_problem.proofs.WalkLemmas.{above_in}
 use Rattle.cover_problem.proofs.table_tests.active.Goals as goal
 
 pub loop-init : goal.loop-init

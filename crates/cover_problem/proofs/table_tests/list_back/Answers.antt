@@ -1,5 +1,5 @@
 use Rattle.cover_problem.specs.Covering.{list_of}
-use Rattle.cover_problem.proofs.TableLemmas.{below_in, last_in}
+use Rattle.cover_problem.proofs.WalkLemmas.{below_in, last_in}
 use Rattle.cover_problem.proofs.table_tests.list_back.Goals as goal
 
 pub loop-init : goal.loop-init

@@ -6,24 +6,33 @@ use denote.RattleType.{RattleType}
 use denote.RawPtr.{Ptr, block_ptr, null_ptr}
 use denote.Struct.Struct.{exits_of}
 use denote.Struct.Owning.{shape, fields, to}
-use denote.Param.Send.{IsSend, IsSync, Common, AllSend, part_keyless, owning_send, struct_send, struct_sync, sendable}
+use denote.Param.Send.{IsSend, IsSync, Common, AllSend, part_keyless, owning_send, struct_send, struct_sync, sendable, plain_send, plain_sync, recorded_send, recorded_sync}
 use Rattle.core.specs.declared.alloc.Allocator.{Ghosts}
 use Rattle.std_alloc.proofs.SendSync.{FreesAnywhere, quiet}
 use Rattle.cover_links.specs.declared.entry.Entry.{Entry}
+use denote.Struct.Declared as Declared
+use Rattle.cover_links.specs.contracts.entry.Entry as entry
 use Rattle.cover_links.specs.contracts.entry.Entry.{the_row}
-use Rattle.cover_links.proofs.entry.Entry.TheSendSync.{the_send, the_sync}
 use Rattle.cover_links.specs.Ownership.{entry_size, places_own, places_lent, cells_own, cells_lent}
 use Rattle.cover_links.specs.contracts.cells.Cells as cells
 use Rattle.cover_links.specs.contracts.cells.Deed as deed
 
+entry_send : IsSend the_row
+entry_send =
+    recorded_send (entry.the_field).row _ _ (entry.the_type).to_one (struct_send (Declared.shape entry.the_type) (plain_send _ _ _ _ _, (plain_send _ _ _ _ _, (plain_send _ _ _ _ _, (plain_send _ _ _ _ _, (plain_send _ _ _ _ _, tt))))))
+
+entry_sync : IsSync the_row
+entry_sync =
+    recorded_sync (entry.the_field).row _ _ (entry.the_type).to_one (struct_sync (Declared.shape entry.the_type) (plain_sync _ _ _ _ _, (plain_sync _ _ _ _ _, (plain_sync _ _ _ _ _, (plain_sync _ _ _ _ _, (plain_sync _ _ _ _ _, tt))))))
+
 places_cross : (b o : ℕ) (cs : List (Option Entry)) → Keyless (places_own b o cs)
 places_cross b o [] = tt
-places_cross b o (Some e ∷ cs) = (part_keyless the_row the_send full_share e b o, places_cross b (o + entry_size) cs)
+places_cross b o (Some e ∷ cs) = (part_keyless the_row entry_send full_share e b o, places_cross b (o + entry_size) cs)
 places_cross b o (None ∷ cs) = (tt, places_cross b (o + entry_size) cs)
 
 places_seen : (b o : ℕ) (cs : List (Option Entry)) → Common (places_lent b o cs)
 places_seen b o [] κ = tt
-places_seen b o (Some e ∷ cs) κ = ((the_sync).shared e b o κ, places_seen b (o + entry_size) cs κ)
+places_seen b o (Some e ∷ cs) κ = ((entry_sync).shared e b o κ, places_seen b (o + entry_size) cs κ)
 places_seen b o (None ∷ cs) κ = (tt, places_seen b (o + entry_size) cs κ)
 
 row_crosses : (p : Ptr) (cs : List (Option Entry)) → Keyless (cells_own p cs)

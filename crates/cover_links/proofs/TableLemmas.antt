@@ -179,3 +179,15 @@ take_front [] y zero e = refl
 take_front [] y (suc n) e = absurd (omega arith)
 take_front (x ∷ xs) y zero e = absurd (omega arith)
 take_front (x ∷ xs) y (suc n) e = ap (λ l. x ∷ l) (take_front xs y n (omega arith))
+
+-- two lists that end in one more number each
+pub same_front : (xs ys : List ℕ) (x y : ℕ) → xs ++ x ∷ [] ≡ ys ++ y ∷ [] → xs ≡ ys
+same_front [] [] x y e = refl
+same_front [] (b ∷ []) x y e = cc
+same_front [] (b ∷ d ∷ ys) x y e = cc
+same_front (a ∷ []) [] x y e = cc
+same_front (a ∷ d ∷ xs) [] x y e = cc
+same_front (a ∷ xs) (b ∷ ys) x y e =
+    let first : a ≡ b = cc in
+    let rest : xs ++ x ∷ [] ≡ ys ++ y ∷ [] = cc in
+    (λ i. first i ∷ same_front xs ys x y rest i)

@@ -1,0 +1,10 @@
+use Rattle.std.proofs.Common.{◌≡◌, sym, ◌∙◌}
+use Rattle.cover_problem.specs.Covering.{active}
+use Rattle.cover_problem.proofs.ListLemmas.{above_is}
+use Rattle.cover_problem.proofs.CoveringLemmas.{active_rises}
+use Rattle.cover_links.proofs.tests.second_item.Goals as goal
+
+pub next_item-requires : goal.next_item-requires
+next_item-requires c =
+    let t = c.args.table.now in
+    (above_is 0 1 (active t.subject t.covered) c.in_ok-first_item.field-0 (active_rises t.subject t.covered) (sym c.in_ok-first_item.ensures)).member

@@ -1,10 +1,10 @@
-pub mod Ownership
-pub mod Places
 pub mod Entries
 pub mod Hiding
 pub mod Layout
 pub mod Fresh
-pub mod Safety
-pub mod Ring
 pub mod StandsFor
 pub mod Table
+pub mod Safety
+pub mod Ring
+pub mod Places
+pub mod Ownership

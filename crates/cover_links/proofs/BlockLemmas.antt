@@ -1,24 +1,23 @@
 -- The block of the covered items stands for them, and uncovering the last one gives the block before.
-use Rattle.std.proofs.Common.{◌≡◌, ℕ, zero, suc, ◌+◌, ◌-◌, ◌<◌, ◌≤◌, ◌⊎◌, inl, inr, ◌==◌, nat_lt, nat_le, Bool, true, false, not, ◌&&◌, List, [], ◌∷◌, ◌++◌, length, filter, map, reverse, refl, sym, ap, ◌∙◌, subst, arith, append_assoc, append-nil}
+use Rattle.std.proofs.Common.{◌≡◌, ℕ, inl, ◌==◌, nat_lt, nat_le, Bool, true, not, ◌&&◌, List, [], ◌∷◌, ◌++◌, length, filter, map, reverse, refl, sym, ap, ◌∙◌, subst, arith, append_assoc, append-nil}
 use mathlib.Core.List.{reverse-cons}
-use Rattle.std.specs.List.{before_first, slice_index_or}
+use Rattle.std.specs.List.{before_first}
 use Rattle.std.proofs.lemmas.Bool.{and_from, lt-ltb, le-leb}
 use Rattle.cover_problem.specs.Lists.{has, numbers}
 use Rattle.cover_problem.specs.Problem.{Cover, IsProblem, option_at}
-use Rattle.cover_problem.specs.Covering.{active, uncovered, remaining, left_of, is_left, list_of}
+use Rattle.cover_problem.specs.Covering.{active, remaining, is_left, list_of}
 use Rattle.cover_problem.specs.Coverable.{IsUncovered}
 use Rattle.cover_problem.specs.Table.{AreCovered}
 use Rattle.cover_problem.proofs.ListLemmas.{filter_agree_on, has_numbers_in}
-use Rattle.cover_problem.proofs.CoveringLemmas.{covered_middle, covered_front, covered_last}
+use Rattle.cover_problem.proofs.CoveringLemmas.{covered_middle}
 use Rattle.cover_links.specs.declared.entry.Entry.{Entry}
-use Rattle.cover_links.specs.Entries.{entry_at}
 use Rattle.cover_links.specs.Hiding.{item_covered, item_uncovered, all_covered}
 use Rattle.cover_links.specs.Fresh.{fresh}
 use Rattle.cover_links.specs.Layout.{place}
-use Rattle.cover_links.specs.Ring.{Follows, IsRing}
-use Rattle.cover_links.specs.StandsFor.{IsWalk, nodes_of, StandsFor, block_of, BlockStands, UncoverRestores}
+use Rattle.cover_links.specs.Ring.{IsRing}
+use Rattle.cover_links.specs.StandsFor.{IsWalk, block_of, BlockStands, UncoverRestores}
 use Rattle.cover_links.proofs.Standing.{Stands, down_at, up_at, left_at, right_at}
-use Rattle.cover_links.proofs.ListWalk.{IsChain, chain_from, chain_next}
+use Rattle.cover_links.proofs.ListWalk.{IsChain, chain_from}
 use Rattle.cover_links.proofs.Covered.{shown_of, active_of, active_is}
 use Rattle.cover_links.proofs.CoverStep.{CoverDone, cover_done}
 use Rattle.cover_links.proofs.BuiltLemmas.{fresh_stands}

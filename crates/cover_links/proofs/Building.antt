@@ -1,19 +1,19 @@
 -- A node that is appended to its list: the block stands for one node more.
-use Rattle.std.proofs.Common.{◌≡◌, ℕ, zero, suc, ◌+◌, ◌-◌, ◌<◌, ◌≤◌, ◌^◌, ◌⊎◌, inl, inr, ◌==◌, nat_le, Bool, true, false, not, ◌&&◌, unwrap_or, List, [], ◌∷◌, ◌++◌, length, length-set, filter, set, get_or, refl, sym, ap, ◌∙◌, subst, arith}
-use Rattle.std.proofs.lemmas.Bool.{and_parts, and_from, cases_eq, cases_Bool, cases_lt, both_ways, false≢true, not_from_false, ne_eqb, leb-true}
-use Rattle.cover_problem.specs.Lists.{has, numbers, last_of}
-use Rattle.cover_problem.specs.Problem.{Cover, IsProblem, option_at, size_of}
+use Rattle.std.proofs.Common.{◌≡◌, ℕ, zero, suc, ◌+◌, ◌-◌, ◌<◌, ◌≤◌, ◌^◌, ◌⊎◌, inl, inr, nat_le, Bool, true, ◌&&◌, unwrap_or, List, [], ◌∷◌, length, length-set, filter, set, refl, sym, ap, ◌∙◌, subst, arith}
+use Rattle.std.proofs.lemmas.Bool.{and_parts, cases_eq, cases_lt, leb-true}
+use Rattle.cover_problem.specs.Lists.{numbers, last_of}
+use Rattle.cover_problem.specs.Problem.{Cover, IsProblem, size_of}
 use Rattle.cover_problem.proofs.ListLemmas.{filter_at_most, length-numbers}
 use Rattle.cover_links.specs.declared.entry.Entry.{Entry}
-use Rattle.cover_links.specs.Entries.{blank, entry_at, changed, one_more, to_up, to_down, relinked}
+use Rattle.cover_links.specs.Entries.{entry_at, changed, one_more, to_up, to_down, relinked}
 use Rattle.cover_links.specs.Hiding.{node_unhidden}
 use Rattle.cover_links.specs.Fresh.{node_written, node_appended}
-use Rattle.cover_links.specs.Safety.{CanUnhideNode, CanAppendNode, IsInside}
+use Rattle.cover_links.specs.Safety.{CanAppendNode, IsInside}
 use Rattle.cover_links.specs.Ring.{Follows, IsNext, IsRing, without}
 use Rattle.cover_links.specs.Layout.{place, spacer_of, start_of}
-use Rattle.cover_links.proofs.EntryLemmas.{length-changed, kept, at_changed, at_other, length-node_unhidden}
+use Rattle.cover_links.proofs.EntryLemmas.{length-changed, kept, at_changed, at_other}
 use Rattle.cover_links.proofs.RingLemmas.{without_ne, without_from, last_to_head, count_without}
-use Rattle.cover_links.proofs.LayoutLemmas.{IsNode, place_high, place_low, place_apart, spacer_low}
+use Rattle.cover_links.proofs.LayoutLemmas.{IsNode, place_high, place_low, place_apart}
 use Rattle.cover_links.proofs.Standing.{down_at, up_at, left_at, right_at, top_at}
 use Rattle.cover_links.proofs.Covered.{same_test}
 

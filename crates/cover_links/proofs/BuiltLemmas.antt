@@ -1,7 +1,6 @@
 -- The block that is built, option by option, stands for the problem with nothing covered.
-use Rattle.std.proofs.Common.{◌≡◌, ℕ, zero, suc, ◌+◌, ◌-◌, ◌<◌, ◌≤◌, ◌^◌, ◌⊎◌, inl, inr, ◌==◌, nat_lt, nat_le, Bool, true, false, not, cond, ◌&&◌, ◌||◌, List, [], ◌∷◌, ◌++◌, length, length-set, filter, set, replicate, refl, sym, ap, ◌∙◌, subst, arith, append_assoc, append-nil, length-append}
-use Rattle.std.specs.List.{list_any, before_first}
-use Rattle.std.proofs.lemmas.Bool.{and_parts, and_from, or_cases, or_left, or_right, cases_eq, cases_Bool, cases_lt, both_ways, false≢true, not-true, eqb-true, eq-eqb, ltb-true, leb-true, lt-ltb, le-leb, le-ltb, ne_eqb}
+use Rattle.std.proofs.Common.{◌≡◌, ℕ, zero, suc, ◌+◌, ◌-◌, ◌<◌, ◌≤◌, ◌⊎◌, inl, inr, ◌==◌, nat_lt, nat_le, Bool, true, false, ◌&&◌, ◌||◌, List, [], ◌∷◌, ◌++◌, length, length-set, filter, set, replicate, refl, sym, ap, ◌∙◌, subst, arith, append_assoc, append-nil}
+use Rattle.std.proofs.lemmas.Bool.{and_parts, and_from, or_cases, or_left, or_right, cases_eq, cases_lt, both_ways, false≢true, eqb-true, eq-eqb, ltb-true, leb-true, lt-ltb, le-leb, le-ltb, ne_eqb}
 use Rattle.cover_problem.specs.Lists.{has, are_distinct, numbers}
 use Rattle.cover_problem.specs.Problem.{Cover, IsProblem, option_at, size_of}
 use Rattle.cover_problem.proofs.ListLemmas.{has_here, has_append_cases, has_append_left, has_append_right, has_cases, distinct_parts}
@@ -10,10 +9,10 @@ use Rattle.cover_links.specs.declared.entry.Entry.{Entry}
 use Rattle.cover_links.specs.Entries.{blank, entry_at, changed, to_down}
 use Rattle.cover_links.specs.Fresh.{empty_head, heads_written, node_appended, nodes_appended, option_appended, built, fresh}
 use Rattle.cover_links.specs.Safety.{CanAppendNode, CanAppendNodes, CanAppendOption}
-use Rattle.cover_links.specs.Ring.{Follows, IsNext, IsRing}
+use Rattle.cover_links.specs.Ring.{IsNext, IsRing}
 use Rattle.cover_links.specs.Layout.{place, spacer_of, start_of, index_of}
-use Rattle.cover_links.proofs.EntryLemmas.{length-changed, kept, at_changed, at_other}
-use Rattle.cover_links.proofs.LayoutLemmas.{IsNode, IsRun, option_run, place_high, place_low, spacer_low, start_step, start_zero, start_low, start_below, start_last, index_below}
+use Rattle.cover_links.proofs.EntryLemmas.{length-changed, kept, at_other}
+use Rattle.cover_links.proofs.LayoutLemmas.{IsNode, IsRun, option_run, place_high, spacer_low, start_step, start_zero, start_low, start_below, index_below}
 use Rattle.cover_links.proofs.Standing.{Stands, down_at, up_at, left_at, right_at, top_at}
 use Rattle.cover_links.proofs.Covered.{shown_of, active_of, IsShown, shown_is, shown_from, active_is, active_when, same_test, false_from}
 use Rattle.cover_links.proofs.Building.{Grows, Adds, at_set, set_other, append_grows, append_keeps, append_can}

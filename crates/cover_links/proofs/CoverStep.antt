@@ -1,23 +1,23 @@
 -- Covering an item: it stays in the block, gives a block that stands for one item more, and is undone by uncovering the item.
-use Rattle.std.proofs.Common.{◌≡◌, ℕ, zero, suc, ◌+◌, ◌-◌, ◌<◌, ◌≤◌, ◌⊎◌, inl, inr, ◌==◌, Bool, true, false, not, unwrap_or, List, [], ◌∷◌, ◌++◌, length, filter, refl, sym, ap, ◌∙◌, subst, arith}
-use Rattle.std.proofs.lemmas.Bool.{cases_eq, cases_Bool, cases_lt, both_ways, false≢true}
-use Rattle.cover_problem.specs.Lists.{has, are_distinct, numbers, RisesFrom, above, below}
-use Rattle.cover_problem.specs.Problem.{Cover, IsProblem, option_at, size_of}
+use Rattle.std.proofs.Common.{◌≡◌, ℕ, ◌+◌, ◌<◌, ◌≤◌, ◌⊎◌, inl, inr, Bool, true, false, unwrap_or, List, [], ◌∷◌, ◌++◌, length, filter, refl, sym, ap, ◌∙◌, subst, arith}
+use Rattle.std.proofs.lemmas.Bool.{cases_eq, cases_lt}
+use Rattle.cover_problem.specs.Lists.{has, numbers, above, below}
+use Rattle.cover_problem.specs.Problem.{Cover, IsProblem}
 use Rattle.cover_problem.specs.Coverable.{IsUncovered}
 use Rattle.cover_problem.proofs.ListLemmas.{has_filter, has_filter_in, has_numbers, rises_filter}
 use Rattle.cover_links.specs.declared.entry.Entry.{Entry}
-use Rattle.cover_links.specs.Entries.{entry_at, item_unlinked, item_relinked, IsItemLinked}
+use Rattle.cover_links.specs.Entries.{item_unlinked, item_relinked, IsItemLinked}
 use Rattle.cover_links.specs.Hiding.{list_hidden, list_unhidden, options_hidden, item_covered, item_uncovered}
 use Rattle.cover_links.specs.Safety.{CanHideList, CanUnhideList, IsItemInside, CanCoverItem, CanUncoverItem}
-use Rattle.cover_links.specs.Ring.{Follows, IsNext, IsRing, without}
+use Rattle.cover_links.specs.Ring.{Follows, IsNext, IsRing}
 use Rattle.cover_links.specs.Layout.{place, spacer_of}
 use Rattle.cover_links.proofs.EntryLemmas.{length-item_unlinked}
 use Rattle.cover_links.proofs.RestoreLemmas.{item_unlinked_right, item_unlinked_right_other, item_unlinked_left, item_unlinked_left_other, item_unlinked_kept, item_unlinked_left_same, item_unlinked_right_same, row_back}
 use Rattle.cover_links.proofs.RingLemmas.{Leaves, ring_without, next_is, prev_is}
-use Rattle.cover_links.proofs.LayoutLemmas.{IsNode, place_high, place_low}
+use Rattle.cover_links.proofs.LayoutLemmas.{IsNode, place_high}
 use Rattle.cover_links.proofs.Standing.{Stands, down_at, up_at, left_at, right_at, top_at}
 use Rattle.cover_links.proofs.ListWalk.{first_of, last_from, IsChain, chain_from, chain_next, chain_last, list_gone, ListDone, list_done, list_column, list_stays, list_was}
-use Rattle.cover_links.proofs.Covered.{shown_of, active_of, IsShown, shown_is, active_is, active_when, same_test, rises_distinct, same_column, all_shown, still_shown, was_shown, active_aside, active_without}
+use Rattle.cover_links.proofs.Covered.{shown_of, active_of, active_is, active_when, same_test, rises_distinct, same_column, all_shown, still_shown, was_shown, active_aside, active_without}
 
 -- ---- an item leaves the row
 

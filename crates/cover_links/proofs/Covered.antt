@@ -1,11 +1,11 @@
 -- Which nodes are shown, and which items are in the row, once the items of a list are covered.
-use Rattle.std.proofs.Common.{◌≡◌, ℕ, zero, suc, ◌+◌, ◌-◌, ◌<◌, ◌≤◌, ◌⊎◌, inl, inr, ◌==◌, nat_lt, nat_le, Bool, true, false, not, ◌&&◌, List, [], ◌∷◌, ◌++◌, length, filter, refl, sym, ap, ◌∙◌, subst, arith}
+use Rattle.std.proofs.Common.{◌≡◌, ℕ, suc, ◌<◌, ◌≤◌, ◌⊎◌, inl, inr, ◌==◌, nat_lt, nat_le, Bool, true, false, not, ◌&&◌, List, [], ◌∷◌, ◌++◌, length, refl, sym, ap, ◌∙◌, subst, arith}
 use Rattle.std.specs.List.{list_any, before_first}
-use Rattle.std.proofs.lemmas.Bool.{and_parts, and_from, cases_eq, cases_Bool, cases_lt, not-true, not_from_false, both_ways, false≢true, eq-eqb, ltb-true, leb-true, lt-ltb, le-leb, ne_eqb}
-use Rattle.cover_problem.specs.Lists.{has, are_distinct, numbers, RisesFrom}
-use Rattle.cover_problem.specs.Problem.{Cover, IsProblem, option_at}
+use Rattle.std.proofs.lemmas.Bool.{and_parts, and_from, cases_eq, cases_Bool, not-true, not_from_false, both_ways, false≢true, eq-eqb, ltb-true, leb-true, lt-ltb, le-leb, ne_eqb}
+use Rattle.cover_problem.specs.Lists.{has, are_distinct, RisesFrom}
+use Rattle.cover_problem.specs.Problem.{Cover, option_at}
 use Rattle.cover_problem.specs.Covering.{is_left}
-use Rattle.cover_problem.proofs.ListLemmas.{has_cases, has_here, has_later, has_append_cases, has_append_left, has_append_right, has_append_not, has_append_not_from, has_not_from, none_member, none_from, before_at, before_past, before_none, before_here, rises_member}
+use Rattle.cover_problem.proofs.ListLemmas.{has_cases, has_here, has_append_cases, has_append_left, has_append_right, has_append_not, has_append_not_from, has_not_from, none_member, none_from, before_at, before_past, before_none, before_here, rises_member}
 use Rattle.cover_links.specs.Ring.{without}
 use Rattle.cover_links.proofs.LayoutLemmas.{IsNode}
 

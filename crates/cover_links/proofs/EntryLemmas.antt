@@ -1,8 +1,8 @@
 -- Lemmas on a change of one entry: what is at that entry, at the others, and in a field that it keeps.
-use Rattle.std.proofs.Common.{◌≡◌, ℕ, zero, suc, ◌+◌, ◌-◌, ◌<◌, ◌≤◌, ◌⊎◌, inl, inr, List, [], ◌∷◌, length, get_or, set, refl, sym, ap, ◌∙◌, arith, length-set}
+use Rattle.std.proofs.Common.{◌≡◌, ℕ, zero, suc, ◌+◌, ◌-◌, ◌<◌, List, [], ◌∷◌, length, set, refl, ap, ◌∙◌, arith, length-set}
 use Rattle.cover_links.specs.declared.entry.Entry.{Entry}
-use Rattle.cover_links.specs.Entries.{blank, entry_at, changed, unlinked, relinked, item_unlinked, item_relinked}
-use Rattle.cover_links.specs.Hiding.{node_hidden, node_unhidden, run_hidden, run_unhidden, after_hidden, hidden, before_unhidden, unhidden, list_hidden, list_unhidden, options_hidden, item_covered, item_uncovered}
+use Rattle.cover_links.specs.Entries.{entry_at, changed, unlinked, relinked, item_unlinked, item_relinked}
+use Rattle.cover_links.specs.Hiding.{node_hidden, node_unhidden, run_hidden, run_unhidden, after_hidden, hidden, before_unhidden, unhidden}
 
 pub length-changed : (f : Entry → Entry) (es : List Entry) (z : ℕ) → length (changed f es z) ≡ length es
 unfolding changed

@@ -1,12 +1,12 @@
 -- Lemmas on where the entries stand: no two stand at one place.
-use Rattle.std.proofs.Common.{◌≡◌, ℕ, zero, suc, ◌+◌, ◌-◌, ◌<◌, ◌≤◌, ◌⊎◌, inl, inr, ◌==◌, Bool, true, false, List, [], ◌∷◌, ◌++◌, length, refl, sym, ap, ◌∙◌, subst, arith, length-append, append_assoc, append-nil, sum_by}
+use Rattle.std.proofs.Common.{◌≡◌, ℕ, zero, suc, ◌+◌, ◌-◌, ◌<◌, ◌≤◌, ◌⊎◌, inl, inr, ◌==◌, Bool, true, false, List, [], ◌∷◌, ◌++◌, length, refl, sym, ap, ◌∙◌, subst, arith, length-append, append_assoc, sum_by}
 use Rattle.std.specs.List.{before_first, after_first, slice_index_or}
 use Rattle.std.proofs.lemmas.List.Sums.{sum_by-cons}
-use Rattle.std.proofs.lemmas.Bool.{cases_lt, cases_eq, not-true, and_parts, both_ways}
+use Rattle.std.proofs.lemmas.Bool.{cases_lt, both_ways}
 use Rattle.cover_problem.specs.Lists.{has, are_distinct}
 use Rattle.cover_problem.specs.Problem.{Cover, IsProblem, option_at, size_of}
-use Rattle.cover_problem.proofs.ListLemmas.{has_here, before_here, parts_are, distinct_parts, has_append_right}
-use Rattle.cover_problem.proofs.CoveringLemmas.{option_is, IsOptionOf}
+use Rattle.cover_problem.proofs.ListLemmas.{has_here, before_here, parts_are, distinct_parts}
+use Rattle.cover_problem.proofs.CoveringLemmas.{option_is}
 use Rattle.cover_links.specs.Layout.{start_from, start_of, index_of, place, spacer_of}
 
 -- the options after the first k and one more

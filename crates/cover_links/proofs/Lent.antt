@@ -4,7 +4,6 @@ use Rattle.std.specs.Prelude.{List, [], ◌∷◌, Option, Some, None}
 use seplogic.Ra.Ura.{Ura}
 use base.Fml.{Lft, Incl, ftrue, ffalse}
 use types.Logic.{Logic}
-use denote.Param.Laws.{Laws}
 use denote.RawPtr.{Ptr, block_ptr, null_ptr}
 use denote.Sharing.{ShrLaws, said}
 use denote.SharingLaws.{beside_shr_laws, nothing_shr_laws, said_shr_laws}

@@ -1,10 +1,10 @@
 -- The examples of the definitions, computed on the small problem: c e, a d g, b c f, a d f, b g and d e g.
-use Rattle.std.proofs.Common.{◌≡◌, ℕ, Bool, true, List, [], ◌∷◌, length, map, refl}
+use Rattle.std.proofs.Common.{◌≡◌, [], ◌∷◌, refl}
 use Rattle.cover_problem.specs.Covering.{list_of, remaining}
 use Rattle.cover_problem.proofs.CoverExamples.{small}
-use Rattle.cover_links.specs.Entries.{entry_at, changed, unlinked, relinked, item_unlinked, item_relinked}
-use Rattle.cover_links.specs.Hiding.{node_hidden, node_unhidden, after_hidden, hidden, options_hidden, item_covered, all_covered}
-use Rattle.cover_links.specs.Layout.{start_of, place, spacer_of, index_of}
+use Rattle.cover_links.specs.Entries.{entry_at, changed, unlinked, relinked, item_unlinked}
+use Rattle.cover_links.specs.Hiding.{node_hidden, node_unhidden, after_hidden, hidden, options_hidden, item_covered}
+use Rattle.cover_links.specs.Layout.{start_of, place, spacer_of}
 use Rattle.cover_links.specs.Fresh.{node_appended, option_appended, fresh}
 use Rattle.cover_links.specs.StandsFor.{nodes_of, block_of}
 

@@ -1,14 +1,13 @@
 -- Hiding the options of an item's list, from the first one down, and the way back from the last one up.
-use Rattle.std.proofs.Common.{◌≡◌, ℕ, zero, suc, ◌+◌, ◌-◌, ◌<◌, ◌≤◌, ◌⊎◌, inl, inr, ◌==◌, Bool, true, false, not, List, [], ◌∷◌, ◌++◌, length, filter, refl, sym, ap, ◌∙◌, subst, arith}
+use Rattle.std.proofs.Common.{◌≡◌, ℕ, zero, suc, ◌+◌, ◌<◌, ◌≤◌, ◌⊎◌, inl, inr, Bool, true, false, List, [], ◌∷◌, length, filter, refl, sym, ap, ◌∙◌, subst, arith}
 use Rattle.std.proofs.lemmas.Bool.{cases_eq, cases_Bool, cases_lt, both_ways, false≢true}
-use Rattle.cover_problem.specs.Lists.{has, are_distinct, numbers, RisesFrom}
+use Rattle.cover_problem.specs.Lists.{has, are_distinct, numbers}
 use Rattle.cover_problem.specs.Problem.{Cover, IsProblem, option_at}
-use Rattle.cover_problem.proofs.ListLemmas.{has_cases, has_here, has_later, rises_member}
+use Rattle.cover_problem.proofs.ListLemmas.{has_cases, has_here, has_later}
 use Rattle.cover_links.specs.declared.entry.Entry.{Entry}
-use Rattle.cover_links.specs.Entries.{entry_at}
-use Rattle.cover_links.specs.Hiding.{hidden, unhidden, list_hidden, list_unhidden}
-use Rattle.cover_links.specs.Safety.{CanHide, CanUnhide, CanHideList, CanUnhideList}
-use Rattle.cover_links.specs.Ring.{Follows, IsNext}
+use Rattle.cover_links.specs.Hiding.{hidden, list_hidden, list_unhidden}
+use Rattle.cover_links.specs.Safety.{CanHideList, CanUnhideList}
+use Rattle.cover_links.specs.Ring.{Follows}
 use Rattle.cover_links.specs.Layout.{place}
 use Rattle.cover_links.proofs.LayoutLemmas.{IsNode}
 use Rattle.cover_links.proofs.Standing.{Stands, down_at, up_at}

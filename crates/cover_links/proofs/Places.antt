@@ -1,6 +1,6 @@
 -- One place is taken out of the row and put back. A row of room for entries is room for an array of them.
-use mathlib.Core.Path.{◌≡◌, refl, sym, ap, subst}
-use Prim.Native.Nat.{ℕ, zero, suc, ◌+◌, ◌*◌, ◌<◌, ◌^◌}
+use mathlib.Core.Path.{◌≡◌, refl, sym}
+use Prim.Native.Nat.{ℕ, zero, suc, ◌+◌, ◌*◌, ◌<◌}
 use native.Mathlib.Omega.{arith}
 use native.Mathlib.Nat.{zero-mul, suc-mul}
 use mathlib.Core.List.{List, [], ◌∷◌}
@@ -9,13 +9,13 @@ use seplogic.Ra.Ura.{Ura}
 use mir.Syntax.{ty_array}
 use base.Fraction.{full_share}
 use base.Fml.{Fml, Lft, ftrue, fsep, fat, froom}
-use base.Logic.{ent, sep, ex}
+use base.Logic.{ent, sep}
 use mir.Val.{Val}
 use types.Logic.{Logic, sem}
 use types.Kit.{‵, ◌⊛◌, some, ◌$◌, ◌∵◌, !, qed, by, move, keep, drop, use1, use2, pick, split, frame, fsplit, fjoin, rewrite, done}
-use borrow.Table.OneValue.{part_out, part_in}
+use borrow.Table.OneValue.{part_out}
 use Rattle.std.specs.Prelude.{Option, Some, None}
-use Rattle.std_alloc.proofs.RawLayout.{as_raw, as_written}
+use Rattle.std_alloc.proofs.RawLayout.{as_raw}
 use Rattle.cover_links.specs.declared.entry.Entry.{Entry}
 use Rattle.cover_links.specs.contracts.entry.Entry.{the_row}
 use Rattle.cover_links.specs.Ownership.{entry_type, entry_size, place_own, places_own, place_lent, places_lent}

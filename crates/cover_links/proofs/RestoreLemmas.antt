@@ -1,9 +1,9 @@
 -- An entry that left its list and comes back at once finds the block as it was.
-use Rattle.std.proofs.Common.{◌≡◌, ℕ, zero, suc, ◌+◌, ◌-◌, ◌<◌, ◌≤◌, ◌⊎◌, inl, inr, List, [], ◌∷◌, length, refl, sym, ap, ◌∙◌, subst, arith}
+use Rattle.std.proofs.Common.{◌≡◌, ℕ, zero, suc, ◌<◌, ◌⊎◌, inl, inr, List, [], ◌∷◌, length, refl, sym, ap, ◌∙◌, subst, arith}
 use Rattle.std.proofs.lemmas.Bool.{cases_eq}
 use Rattle.cover_links.specs.declared.entry.Entry.{Entry}
-use Rattle.cover_links.specs.Entries.{blank, entry_at, changed, to_up, to_down, to_left, to_right, unlinked, relinked, item_unlinked, item_relinked, IsLinked, IsItemLinked, RelinkRestores}
-use Rattle.cover_links.proofs.EntryLemmas.{length-changed, kept, at_changed, at_other, length-unlinked, length-relinked, length-item_unlinked, length-item_relinked}
+use Rattle.cover_links.specs.Entries.{entry_at, changed, to_up, to_down, to_left, to_right, unlinked, relinked, item_unlinked, item_relinked, IsLinked, IsItemLinked, RelinkRestores}
+use Rattle.cover_links.proofs.EntryLemmas.{length-changed, kept, at_changed, at_other, length-unlinked, length-item_unlinked}
 
 entry_is : (a b : Entry) → a.top ≡ b.top → a.up ≡ b.up → a.down ≡ b.down → a.left ≡ b.left → a.right ≡ b.right → a ≡ b
 entry_is a b t u d l r = λ i. record { top = t i; up = u i; down = d i; left = l i; right = r i }

@@ -1,11 +1,11 @@
 -- Lemmas on the steps that stay in the block.
-use Rattle.std.proofs.Common.{◌≡◌, ℕ, zero, suc, ◌+◌, ◌-◌, ◌<◌, ◌≤◌, List, length, length-set, subst, sym, ap, ◌∙◌, arith}
+use Rattle.std.proofs.Common.{◌≡◌, ℕ, suc, ◌+◌, ◌-◌, ◌<◌, List, length, length-set, subst, ◌∙◌, arith}
 use Rattle.cover_links.specs.Fresh.{node_written, node_appended}
 use Rattle.cover_links.proofs.EntryLemmas.{length-node_unhidden}
 use Rattle.cover_links.specs.declared.entry.Entry.{Entry}
-use Rattle.cover_links.specs.Hiding.{node_hidden, run_hidden, run_unhidden, hidden, list_hidden, unhidden, list_unhidden}
+use Rattle.cover_links.specs.Hiding.{node_hidden, hidden, unhidden}
 use Rattle.cover_links.specs.Entries.{entry_at}
-use Rattle.cover_links.specs.Safety.{CanHideNode, CanUnhideNode, CanHideRun, CanUnhideRun, CanHide, CanUnhide, CanHideList, CanUnhideList}
+use Rattle.cover_links.specs.Safety.{CanHideNode, CanHideRun, CanHide, CanUnhide, CanHideList, CanUnhideList}
 
 -- the first node of a run, and the rest
 pub hide_run_step : (es : List Entry) (a b : ℕ) → a < b → CanHideRun es a (b - a) → CanHideNode es a × CanHideRun (node_hidden es a) (a + 1) (b - (a + 1))

@@ -1,17 +1,17 @@
 -- What a block stands for: which nodes are in their lists, and which items are in the row of active items. A node that is in its
 -- list can be hidden, and hiding it is undone by unhiding it.
-use Rattle.std.proofs.Common.{◌≡◌, ℕ, zero, suc, ◌+◌, ◌-◌, ◌<◌, ◌≤◌, ◌^◌, ◌⊎◌, inl, inr, ◌==◌, Bool, true, false, not, ◌&&◌, cond, unwrap_or, List, [], ◌∷◌, length, filter, refl, sym, ap, ◌∙◌, subst, arith, nat_le, lit≤}
-use Rattle.std.proofs.lemmas.Bool.{and_parts, cases_eq, cases_Bool, eq-eqb, ne_eqb, leb-true, true≢false, both_ways, false≢true}
-use Rattle.cover_problem.specs.Lists.{has, numbers, above, below, last_of}
-use Rattle.cover_problem.specs.Problem.{Cover, IsProblem, size_of, option_at}
+use Rattle.std.proofs.Common.{◌≡◌, ℕ, suc, ◌+◌, ◌-◌, ◌<◌, ◌≤◌, ◌^◌, ◌⊎◌, inl, inr, ◌==◌, Bool, true, false, ◌&&◌, cond, unwrap_or, List, [], ◌∷◌, length, filter, refl, sym, ap, ◌∙◌, subst, arith, nat_le}
+use Rattle.std.proofs.lemmas.Bool.{and_parts, cases_eq, eq-eqb, ne_eqb, leb-true}
+use Rattle.cover_problem.specs.Lists.{numbers, above, below}
+use Rattle.cover_problem.specs.Problem.{Cover, IsProblem, size_of}
 use Rattle.cover_problem.proofs.ListLemmas.{filter_at_most, length-numbers}
 use Rattle.cover_links.specs.declared.entry.Entry.{Entry}
-use Rattle.cover_links.specs.Entries.{entry_at, changed, one_less, one_more, to_up, to_down, unlinked, relinked, IsLinked}
+use Rattle.cover_links.specs.Entries.{entry_at, changed, one_less, one_more, unlinked, relinked, IsLinked}
 use Rattle.cover_links.specs.Hiding.{node_hidden, node_unhidden}
 use Rattle.cover_links.specs.Safety.{IsInside, CanHideNode, CanUnhideNode}
 use Rattle.cover_links.specs.Ring.{Follows, IsRing, IsNext, without}
 use Rattle.cover_links.specs.Layout.{place, spacer_of, start_of}
-use Rattle.cover_links.proofs.EntryLemmas.{length-changed, kept, at_changed, at_other, length-unlinked, length-node_hidden}
+use Rattle.cover_links.proofs.EntryLemmas.{length-changed, kept, at_changed, at_other, length-unlinked}
 use Rattle.cover_links.proofs.RestoreLemmas.{cancel, relink_restores, unlinked_down, unlinked_down_other, unlinked_up, unlinked_up_other, unlinked_kept}
 use Rattle.cover_links.proofs.RingLemmas.{Leaves, ring_kept, ring_without, next_is, prev_is, count_without, without_ne}
 use Rattle.cover_links.proofs.LayoutLemmas.{IsNode, place_high, place_low, place_apart, spacer_low}

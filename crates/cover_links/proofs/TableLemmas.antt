@@ -1,22 +1,19 @@
 -- What is read off the links of a table.
-use Rattle.std.proofs.Common.{◌≡◌, ℕ, zero, suc, ◌+◌, ◌-◌, ◌<◌, ◌≤◌, ◌⊎◌, inl, inr, ◌==◌, Bool, true, false, cond, Option, Some, None, unwrap_or, List, [], ◌∷◌, ◌++◌, length, filter, get_or, take, refl, sym, ap, ◌∙◌, subst, arith}
-use Rattle.std.proofs.lemmas.Bool.{eq-eqb, ne_eqb, cases_lt}
-use Rattle.cover_problem.specs.Lists.{has, numbers, RisesFrom, above, below, last_of}
-use Rattle.cover_problem.specs.Problem.{Cover, IsProblem, option_at, size_of}
+use Rattle.std.proofs.Common.{◌≡◌, ℕ, zero, suc, ◌+◌, ◌-◌, ◌<◌, ◌≤◌, ◌⊎◌, inl, inr, ◌==◌, true, false, Option, Some, None, unwrap_or, List, [], ◌∷◌, ◌++◌, length, filter, get_or, take, refl, sym, ap, ◌∙◌, subst, arith}
+use Rattle.std.proofs.lemmas.Bool.{ne_eqb, cases_lt}
+use Rattle.cover_problem.specs.Lists.{has, numbers, above, below, last_of}
+use Rattle.cover_problem.specs.Problem.{Cover, option_at, size_of}
 use Rattle.cover_problem.specs.Covering.{active, list_of}
-use Rattle.cover_problem.specs.Table.{AreCovered}
 use Rattle.cover_problem.proofs.ListLemmas.{has_filter_in, above_is, below_is, last_is, rises_member, has_at}
 use Rattle.cover_problem.proofs.CoveringLemmas.{active_rises, active_in, list_rises}
 use Rattle.cover_links.specs.declared.entry.Entry.{Entry}
-use Rattle.cover_links.specs.Entries.{entry_at}
-use Rattle.cover_links.specs.Layout.{place, spacer_of, start_of, index_of}
+use Rattle.cover_links.specs.Layout.{place, start_of, index_of}
 use Rattle.cover_links.specs.Ring.{Follows, IsNext}
-use Rattle.cover_links.specs.StandsFor.{block_of}
-use Rattle.cover_links.specs.Table.{IsTable, linked, IsNodeOf, IsSpot}
+use Rattle.cover_links.specs.Table.{IsTable, linked, IsSpot}
 use Rattle.cover_links.proofs.LayoutLemmas.{IsNode, IsRun, option_run, place_high, place_low, spacer_low, start_step, start_below, index_below}
 use Rattle.cover_links.proofs.BuildLemmas.{start_most}
 use Rattle.cover_links.proofs.RingLemmas.{next_is, prev_is, last_to_head}
-use Rattle.cover_links.proofs.Standing.{Stands, down_at, up_at, left_at, right_at, top_at}
+use Rattle.cover_links.proofs.Standing.{Stands, down_at, up_at, right_at, top_at}
 use Rattle.cover_links.proofs.Covered.{shown_of, active_of, active_is, active_when}
 use Rattle.cover_links.proofs.BlockLemmas.{links_stand, shown_list, active_list}
 

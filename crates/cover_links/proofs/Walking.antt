@@ -1,21 +1,19 @@
 -- Hiding the nodes of a run, the others of an option, and the options of a list: each stays in the block, gives a block that stands
 -- for what is left, and is undone by the way back.
-use Rattle.std.proofs.Common.{◌≡◌, ℕ, zero, suc, ◌+◌, ◌-◌, ◌<◌, ◌≤◌, ◌⊎◌, inl, inr, ◌==◌, Bool, true, false, not, List, [], ◌∷◌, ◌++◌, length, filter, refl, sym, ap, ◌∙◌, subst, arith, length-append}
+use Rattle.std.proofs.Common.{◌≡◌, ℕ, suc, ◌+◌, ◌-◌, ◌<◌, ◌≤◌, ◌⊎◌, inl, inr, ◌==◌, Bool, true, false, not, List, [], ◌∷◌, ◌++◌, length, refl, sym, ap, ◌∙◌, subst, arith, length-append}
 use Rattle.std.specs.List.{before_first, after_first}
-use Rattle.std.proofs.lemmas.Bool.{and_parts, cases_eq, cases_Bool, cases_lt, not-true, both_ways, false≢true}
-use Rattle.cover_problem.specs.Lists.{has, are_distinct, numbers}
+use Rattle.std.proofs.lemmas.Bool.{and_parts, cases_eq, cases_lt, not-true, both_ways, false≢true}
+use Rattle.cover_problem.specs.Lists.{has, are_distinct}
 use Rattle.cover_problem.specs.Problem.{Cover, IsProblem, option_at}
-use Rattle.cover_problem.proofs.ListLemmas.{has_cases, has_here, has_later, has_not_from, has_append_left, has_append_right, has_append_cases, parts_are, distinct_parts}
+use Rattle.cover_problem.proofs.ListLemmas.{has_cases, has_here, has_later, has_append_left, has_append_right, has_append_cases, parts_are, distinct_parts}
 use Rattle.cover_problem.proofs.CoveringLemmas.{option_is, IsOptionOf}
 use Rattle.cover_links.specs.declared.entry.Entry.{Entry}
-use Rattle.cover_links.specs.Entries.{entry_at}
-use Rattle.cover_links.specs.Hiding.{node_hidden, node_unhidden, run_hidden, run_unhidden, after_hidden, hidden, before_unhidden, unhidden, list_hidden, list_unhidden}
-use Rattle.cover_links.specs.Safety.{CanHideNode, CanUnhideNode, CanHideRun, CanUnhideRun, CanHide, CanUnhide, CanHideList, CanUnhideList}
-use Rattle.cover_links.specs.Ring.{Follows}
-use Rattle.cover_links.specs.Layout.{place, spacer_of, start_of, index_of}
+use Rattle.cover_links.specs.Hiding.{node_hidden, node_unhidden, run_hidden, run_unhidden, after_hidden, hidden, before_unhidden, unhidden}
+use Rattle.cover_links.specs.Safety.{CanHideNode, CanUnhideNode, CanHideRun, CanUnhideRun, CanHide, CanUnhide}
+use Rattle.cover_links.specs.Layout.{place, start_of}
 use Rattle.cover_links.proofs.RingLemmas.{without_stays}
 use Rattle.cover_links.proofs.LayoutLemmas.{IsNode, IsRun, option_run, run_parts, place_low}
-use Rattle.cover_links.proofs.Standing.{Stands, minus, minus_here, minus_other, minus_was, down_at, up_at, left_at, right_at, node_stands, node_can, node_back, back_can}
+use Rattle.cover_links.proofs.Standing.{Stands, minus, minus_here, minus_other, minus_was, left_at, right_at, node_stands, node_can, node_back, back_can}
 
 -- ---- a run of nodes
 

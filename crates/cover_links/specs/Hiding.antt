@@ -1,6 +1,6 @@
 -- Hiding the other nodes of a node's option, covering an item, and the way back, as functions on the list of entries.
 -- TAOCP volume 4B, section 7.2.2.1, (12) to (15).
-use Rattle.std.specs.Prelude.{ℕ, zero, suc, ◌+◌, ◌-◌, List, [], ◌∷◌}
+use Rattle.std.specs.Prelude.{ℕ, zero, suc, ◌-◌, List, [], ◌∷◌}
 use Rattle.cover_links.specs.declared.entry.Entry.{Entry}
 use Rattle.cover_links.specs.Entries.{entry_at, changed, one_less, one_more, unlinked, relinked, item_unlinked, item_relinked}
 

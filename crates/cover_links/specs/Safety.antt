@@ -3,7 +3,7 @@ use Rattle.std.specs.Prelude.{ℕ, zero, suc, ◌+◌, ◌-◌, ◌<◌, ◌≤�
 use Rattle.cover_links.specs.declared.entry.Entry.{Entry}
 use Rattle.cover_links.specs.Entries.{entry_at, changed, one_more, unlinked, item_relinked}
 use Rattle.cover_links.specs.Fresh.{node_written, node_appended}
-use Rattle.cover_links.specs.Hiding.{node_hidden, run_hidden, run_unhidden, after_hidden, hidden, before_unhidden, unhidden, options_hidden}
+use Rattle.cover_links.specs.Hiding.{node_hidden, run_unhidden, after_hidden, hidden, before_unhidden, unhidden, options_hidden}
 
 -- x and its neighbours in its vertical list lie in the block
 pub record IsInside (es : List Entry) (x : ℕ) : Type 0 where

@@ -1,5 +1,5 @@
 -- What the parts of a table of links are: the block of a problem and the covered items, and where each option begins.
-use Rattle.std.specs.Prelude.{◌≡◌, ℕ, suc, ◌+◌, ◌<◌, ◌≤◌, ◌⊎◌, ◌==◌, nat_lt, ◌&&◌, cond, pos, ◌-ℤ◌, Option, Some, None, List, length, get_or}
+use Rattle.std.specs.Prelude.{◌≡◌, ℕ, suc, ◌<◌, ◌≤◌, ◌⊎◌, ◌==◌, nat_lt, ◌&&◌, cond, pos, ◌-ℤ◌, Option, Some, None, List, length, get_or}
 use Rattle.cover_problem.specs.Problem.{Cover, IsProblem}
 use Rattle.cover_problem.specs.Table.{AreCovered}
 use Rattle.cover_links.specs.declared.entry.Entry.{Entry}

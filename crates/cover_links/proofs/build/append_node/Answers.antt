@@ -1,7 +1,7 @@
-use Rattle.std.proofs.Common.{◌≡◌, ℕ, set, ap, subst, sym, ◌∙◌}
+use Rattle.std.proofs.Common.{set, ap, subst, sym, ◌∙◌}
 use Rattle.cover_links.specs.declared.entry.Entry.{Entry}
 use Rattle.cover_links.specs.Hiding.{node_unhidden}
-use Rattle.cover_links.specs.Fresh.{node_written, node_appended}
+use Rattle.cover_links.specs.Fresh.{node_appended}
 use Rattle.cover_links.specs.Safety.{CanUnhideNode}
 use Rattle.cover_links.proofs.build.append_node.Goals as goal
 

@@ -1,9 +1,9 @@
-use Rattle.std.proofs.Common.{◌≡◌, ℕ, suc, ◌+◌, ◌-◌, ◌<◌, ◌≤◌, [], ◌∷◌, length, get_or, set, drop, refl, sym, ap, ◌∙◌, subst, arith, List}
+use Rattle.std.proofs.Common.{◌≡◌, ℕ, suc, ◌+◌, ◌-◌, [], ◌∷◌, length, get_or, set, drop, sym, ap, ◌∙◌, subst, arith, List}
 use Rattle.cover_links.specs.declared.entry.Entry.{Entry}
-use Rattle.cover_links.specs.Entries.{entry_at, changed, to_down}
-use Rattle.cover_links.specs.Fresh.{node_appended, nodes_appended, option_appended}
-use Rattle.cover_links.specs.Safety.{CanAppendNode, CanAppendNodes}
-use Rattle.cover_links.proofs.EntryLemmas.{written, length-node_unhidden}
+use Rattle.cover_links.specs.Entries.{changed, to_down}
+use Rattle.cover_links.specs.Fresh.{nodes_appended, option_appended}
+use Rattle.cover_links.specs.Safety.{CanAppendNodes}
+use Rattle.cover_links.proofs.EntryLemmas.{written}
 use Rattle.cover_links.proofs.BuildLemmas.{drop_all, drop_next}
 use Rattle.cover_links.proofs.SafetyLemmas.{length-node_appended}
 use Rattle.cover_links.proofs.build.append_option.Goals as goal

@@ -1,9 +1,8 @@
-use Rattle.std.proofs.Common.{◌≡◌, ℕ, zero, suc, ◌+◌, ◌-◌, ◌<◌, ◌≤◌, length, get_or, replicate, refl, sym, ap, ◌∙◌, subst, arith, List}
+use Rattle.std.proofs.Common.{◌≡◌, ℕ, zero, suc, ◌+◌, ◌<◌, length, get_or, replicate, refl, sym, ap, ◌∙◌, subst, arith, List}
 use Rattle.cover_problem.specs.Problem.{option_at, size_of}
 use Rattle.cover_links.specs.declared.entry.Entry.{Entry}
 use Rattle.cover_links.specs.Entries.{blank}
 use Rattle.cover_links.specs.Fresh.{heads_written, option_appended, built, fresh}
-use Rattle.cover_links.specs.Layout.{start_of}
 use Rattle.cover_links.specs.Safety.{CanAppendOption}
 use Rattle.cover_links.proofs.LayoutLemmas.{start_last, start_low}
 use Rattle.cover_links.proofs.BuiltLemmas.{built_can}

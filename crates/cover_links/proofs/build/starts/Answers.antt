@@ -1,4 +1,4 @@
-use Rattle.std.proofs.Common.{◌≡◌, ℕ, suc, ◌+◌, ◌<◌, ◌≤◌, ◌++◌, ◌∷◌, [], length, length-append, get_or, refl, sym, ap, ◌∙◌, subst, arith, List}
+use Rattle.std.proofs.Common.{◌≡◌, ℕ, suc, ◌+◌, ◌<◌, ◌++◌, ◌∷◌, [], length, length-append, get_or, refl, sym, ap, ◌∙◌, arith, List}
 use Rattle.cover_problem.specs.Problem.{option_at}
 use Rattle.cover_links.specs.Layout.{start_of}
 use Rattle.cover_links.proofs.LayoutLemmas.{start_zero, start_step}

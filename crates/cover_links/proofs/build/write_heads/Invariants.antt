@@ -1,4 +1,4 @@
-use Rattle.std.proofs.Common.{◌≡◌, ◌-◌, ◌≤◌, length}
+use Rattle.std.proofs.Common.{◌≡◌, ◌-◌, length}
 use Rattle.cover_links.specs.Fresh.{heads_written}
 use Rattle.cover_links.proofs.build.write_heads.Given as goal
 

@@ -1,23 +1,21 @@
 -- `allocate`: a walk that cuts the new block into empty places, and keeps the right to free it.
-use Rattle.std.proofs.Common.{◌≡◌, ℕ, ◌*◌, ◌^◌, ◌<◌, List, [], ◌∷◌, length, replicate, refl, sym, ap, subst, ◌∙◌, w64, arith, lit<, true, false}
-use Rattle.std.specs.Prelude.{Option, Some, None, IfOk, Ok, Err}
+use Rattle.std.proofs.Common.{◌≡◌, ◌*◌, ◌^◌, ◌<◌, List, [], ◌∷◌, length, replicate, refl, sym, ap, subst, ◌∙◌, w64, arith, lit<, true, false}
+use Rattle.std.specs.Prelude.{None, Ok, Err}
 use Rattle.std.proofs.raw_atomic.Walks.{proved}
 use lib.ListN.{length-replicate}
-use base.Fml.{Lft, ftrue, froom, flft, Incl-trans}
-use base.Logic.{SProp, ent}
+use base.Fml.{ftrue, flft, Incl-trans}
 use contract.BorrowLft.{◌⊑◌}
 use contract.Monad.{fact}
 use contract.Running.{tables}
 use mir.MapTy.{inst_fn}
 use mir.Syntax.{Args, Body, Ty, Fn, named, a_type, ty_array, dcons, dnil}
-use mir.Val.{Val, vptr, vint, vstruct, vcons, vnil}
+use mir.Val.{Val, vstruct, vcons, vnil}
 use mir.Raw.{raw as bare}
 use prog.Memory.{size, align, capped}
-use prog.Capped.{capped_is, capped_fits}
+use prog.Capped.{capped_is}
 use prog.RawLaws.{size-raw, align-raw}
 use prog.Wp.{Env, Wp, after_seq, at_return}
-use sound.WpLaws.{fm_of}
-use types.Kit.{Post as After, any_q, ⋆, ‵, raw, ◌⊛◌, later, await, at_ret, ◌$◌, ◌∵◌, !, qed, by, move, keep, use0, use1, use2, use3, split, join, frame, fsplit, fsplit3, fjoin, feq_i, feq_l, flt_l, flt_i, suffices, done}
+use types.Kit.{Post as After, any_q, ‵, raw, ◌⊛◌, later, await, at_ret, ◌$◌, ◌∵◌, !, qed, move, keep, use0, use1, use2, use3, split, join, frame, fsplit, fjoin, feq_l, flt_i, suffices, done}
 use types.Part.{whole, agg}
 use types.Run.{stop, fld, lit, of_opd, bin, and_then, no_more, first, exec, returns, enter, switches_on}
 use types.Match.{live, vrt, in_variant}

@@ -1,22 +1,21 @@
 -- `deallocate`: a walk that makes the block of its places, whatever they hold, and hands it back.
 use Rattle.std.proofs.Common.{◌≡◌, ℕ, ◌*◌, ◌^◌, ◌<◌, List, [], ◌∷◌, ◌++◌, length, refl, sym, ap, subst, ◌∙◌, w64, arith, lit<}
-use Rattle.std.specs.Prelude.{Option, Some, None}
 use Rattle.std.proofs.raw_atomic.Walks.{proved}
 use lib.Dec.{T}
-use base.Fml.{Lft, ftrue, froom, flft, Incl-trans}
-use base.Logic.{SProp, ent, never, id⊢}
+use base.Fml.{ftrue, froom, flft, Incl-trans}
+use base.Logic.{never, id⊢}
 use contract.BorrowLft.{◌⊑◌}
 use contract.Monad.{fact}
 use contract.Running.{tables}
 use mir.MapTy.{inst_fn}
 use mir.Syntax.{Args, Fn, Ty, named, a_type, ty_array, ty_unit, dcons, dnil}
-use mir.Val.{Val, vptr, vint, vunit, vstruct, of_list, has_ty, WT}
+use mir.Val.{Val, vunit, vstruct, of_list, has_ty, WT}
 use mir.Raw.{raw as bare}
 use prog.Memory.{size, align, capped}
 use prog.Capped.{capped_is}
 use prog.RawLaws.{size-raw, align-raw}
 use prog.Wp.{Env}
-use types.Kit.{‵, raw, ◌⊛◌, given, later, await, learn, at_ret, ◌$◌, ◌∵◌, !, qed, by, move, keep, drop, use0, use1, use2, split, join, frame, group, rewrite, fsplit, fsplit3, fjoin, feq_i, feq_l, flt_l, suffices, done}
+use types.Kit.{‵, raw, ◌⊛◌, given, later, await, learn, at_ret, ◌$◌, ◌∵◌, !, qed, move, keep, drop, use1, split, join, group, rewrite, fsplit, fjoin, feq_i, feq_l, flt_l, suffices, done}
 use types.Part.{whole, sub}
 use types.Run.{stop, fld, lit, unit_lit, of_opd, bin, and_then, no_more, first, blocks, exec, returns, enter}
 use types.ByLocal.{alloc_all, pass_all, free_all, look_at, get, get_in, sets, is, lands_last, env}
@@ -37,13 +36,10 @@ use Rattle.core.proofs.alloc.Calls.{Al, token, Gives, at_gives, Gives-goes, Give
 use Rattle.std_alloc.proofs.RawLayout.{as_raw}
 use Rattle.std_alloc.proofs.RcSteps.{word-Good}
 use Rattle.std_alloc.proofs.VecSteps.Shapes.{after}
-use Rattle.cover_links.specs.declared.entry.Entry.{Entry}
 use Rattle.cover_links.specs.contracts.cells.Base.{the_row as Start}
 use Rattle.cover_links.specs.contracts.cells.Cells.{the_row as Row}
 use Rattle.cover_links.specs.contracts.cells.Deed as deed
 use Rattle.cover_links.proofs.cells.Base.TheLaws as start
-use Rattle.cover_links.proofs.cells.Cells.TheLaws as row
-use Rattle.cover_links.proofs.cells.Deed.TheLaws as right
 use Rattle.cover_links.specs.Ownership.{entry_type, entry_size, cells_own, deed_owns}
 use Rattle.cover_links.proofs.Made.{mark}
 use Rattle.cover_links.proofs.Places.{room_of_rows}

@@ -2,7 +2,7 @@ use Rattle.std.proofs.Common.{List, ◌≡◌, ℕ, suc, ◌+◌, ◌-◌, ◌<�
 use Rattle.cover_links.specs.declared.entry.Entry.{Entry}
 use Rattle.cover_links.specs.Entries.{entry_at, item_unlinked}
 use Rattle.cover_links.specs.Hiding.{hidden, list_hidden, options_hidden, item_covered}
-use Rattle.cover_links.specs.Safety.{CanHide, CanHideList, IsItemInside}
+use Rattle.cover_links.specs.Safety.{CanHideList, IsItemInside}
 use Rattle.cover_links.proofs.EntryLemmas.{length-hidden}
 use Rattle.cover_links.proofs.SafetyLemmas.{hide_list_step}
 use Rattle.cover_links.proofs.hiding.cover_item.Goals as goal

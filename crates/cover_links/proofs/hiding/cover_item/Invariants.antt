@@ -1,4 +1,4 @@
-use Rattle.std.proofs.Common.{◌≡◌, ◌-◌, ◌<◌, length}
+use Rattle.std.proofs.Common.{◌≡◌, ◌-◌, length}
 use Rattle.cover_links.specs.Hiding.{list_hidden}
 use Rattle.cover_links.specs.Safety.{CanHideList}
 use Rattle.cover_links.proofs.hiding.cover_item.Given as goal

@@ -1,6 +1,5 @@
-use Rattle.std.proofs.Common.{List, ◌≡◌, ℕ, suc, ◌+◌, ◌-◌, ap, subst, sym, ◌∙◌, arith}
+use Rattle.std.proofs.Common.{List, ◌≡◌, ℕ, suc, ◌+◌, ◌-◌, subst, sym, ◌∙◌, arith}
 use Rattle.cover_links.specs.declared.entry.Entry.{Entry}
-use Rattle.cover_links.specs.Entries.{entry_at}
 use Rattle.cover_links.specs.Hiding.{run_hidden, after_hidden, hidden}
 use Rattle.cover_links.specs.Safety.{CanHideRun}
 use Rattle.cover_links.proofs.hiding.hide.Goals as goal

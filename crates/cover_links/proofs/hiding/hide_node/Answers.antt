@@ -1,6 +1,6 @@
-use Rattle.std.proofs.Common.{◌≡◌, ap, ◌∙◌}
+use Rattle.std.proofs.Common.{ap, ◌∙◌}
 use Rattle.cover_links.specs.declared.entry.Entry.{Entry}
-use Rattle.cover_links.specs.Entries.{entry_at, changed, one_less, unlinked}
+use Rattle.cover_links.specs.Entries.{changed, one_less, unlinked}
 use Rattle.cover_links.specs.Hiding.{node_hidden}
 use Rattle.cover_links.proofs.EntryLemmas.{written}
 use Rattle.cover_links.proofs.hiding.hide_node.Goals as goal

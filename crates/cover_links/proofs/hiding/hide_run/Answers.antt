@@ -1,6 +1,6 @@
-use Rattle.std.proofs.Common.{◌≡◌, ℕ, suc, ◌+◌, ◌<◌, ◌-◌, ap, subst, sym, ◌∙◌, arith}
-use Rattle.cover_links.specs.Hiding.{node_hidden, run_hidden}
-use Rattle.cover_links.specs.Safety.{CanHideNode, CanHideRun}
+use Rattle.std.proofs.Common.{◌+◌, ◌-◌, ap, subst, sym, ◌∙◌}
+use Rattle.cover_links.specs.Hiding.{run_hidden}
+use Rattle.cover_links.specs.Safety.{CanHideRun}
 use Rattle.cover_links.proofs.EntryLemmas.{run_hidden_step}
 use Rattle.cover_links.proofs.SafetyLemmas.{hide_run_step}
 use Rattle.cover_links.proofs.hiding.hide_run.Goals as goal

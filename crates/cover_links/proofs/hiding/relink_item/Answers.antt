@@ -1,6 +1,6 @@
-use Rattle.std.proofs.Common.{◌≡◌, ap, ◌∙◌}
+use Rattle.std.proofs.Common.{ap, ◌∙◌}
 use Rattle.cover_links.specs.declared.entry.Entry.{Entry}
-use Rattle.cover_links.specs.Entries.{entry_at, changed, to_right, to_left, item_relinked}
+use Rattle.cover_links.specs.Entries.{changed, to_right, to_left, item_relinked}
 use Rattle.cover_links.proofs.EntryLemmas.{written}
 use Rattle.cover_links.proofs.hiding.relink_item.Goals as goal
 

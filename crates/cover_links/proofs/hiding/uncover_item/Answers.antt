@@ -1,8 +1,8 @@
-use Rattle.std.proofs.Common.{List, ◌≡◌, ℕ, suc, ◌+◌, ◌-◌, ◌<◌, ◌≤◌, length, ap, subst, sym, ◌∙◌, arith}
+use Rattle.std.proofs.Common.{List, ◌≡◌, ℕ, suc, ◌+◌, ◌-◌, ◌<◌, length, ap, subst, sym, ◌∙◌, arith}
 use Rattle.cover_links.specs.declared.entry.Entry.{Entry}
 use Rattle.cover_links.specs.Entries.{entry_at, item_relinked}
 use Rattle.cover_links.specs.Hiding.{unhidden, list_unhidden, item_uncovered}
-use Rattle.cover_links.specs.Safety.{CanUnhide, CanUnhideList}
+use Rattle.cover_links.specs.Safety.{CanUnhideList}
 use Rattle.cover_links.proofs.EntryLemmas.{length-unhidden, length-item_relinked}
 use Rattle.cover_links.proofs.SafetyLemmas.{unhide_list_step}
 use Rattle.cover_links.proofs.hiding.uncover_item.Goals as goal

@@ -1,4 +1,4 @@
-use Rattle.std.proofs.Common.{◌≡◌, ◌-◌, ◌<◌, length}
+use Rattle.std.proofs.Common.{◌≡◌, ◌-◌, length}
 use Rattle.cover_links.specs.Hiding.{list_unhidden}
 use Rattle.cover_links.specs.Safety.{CanUnhideList}
 use Rattle.cover_links.proofs.hiding.uncover_item.Given as goal

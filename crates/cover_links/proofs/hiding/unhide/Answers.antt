@@ -1,6 +1,5 @@
-use Rattle.std.proofs.Common.{List, ◌≡◌, ℕ, suc, ◌+◌, ◌-◌, ◌≤◌, ap, subst, sym, ◌∙◌, arith}
+use Rattle.std.proofs.Common.{List, ◌≡◌, ℕ, suc, ◌+◌, ◌-◌, ◌≤◌, subst, sym, ◌∙◌, arith}
 use Rattle.cover_links.specs.declared.entry.Entry.{Entry}
-use Rattle.cover_links.specs.Entries.{entry_at}
 use Rattle.cover_links.specs.Hiding.{run_unhidden, before_unhidden, unhidden}
 use Rattle.cover_links.specs.Safety.{CanUnhideRun}
 use Rattle.cover_links.proofs.hiding.unhide.Goals as goal

@@ -1,6 +1,6 @@
-use Rattle.std.proofs.Common.{◌≡◌, ap, ◌∙◌, subst, sym}
+use Rattle.std.proofs.Common.{ap, ◌∙◌, subst, sym}
 use Rattle.cover_links.specs.declared.entry.Entry.{Entry}
-use Rattle.cover_links.specs.Entries.{entry_at, changed, one_more, relinked}
+use Rattle.cover_links.specs.Entries.{changed, one_more, relinked}
 use Rattle.cover_links.specs.Hiding.{node_unhidden}
 use Rattle.cover_links.specs.Safety.{IsInside}
 use Rattle.cover_links.proofs.EntryLemmas.{written}

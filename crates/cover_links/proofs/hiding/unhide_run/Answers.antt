@@ -1,5 +1,4 @@
-use Rattle.std.proofs.Common.{List, ℕ, ◌≡◌, ◌<◌, ◌≤◌, ◌+◌, ◌-◌, suc, ap, subst, sym, ◌∙◌, arith}
-use Rattle.cover_links.specs.declared.entry.Entry.{Entry}
+use Rattle.std.proofs.Common.{◌≡◌, ◌-◌, suc, ap, subst, sym, ◌∙◌, arith}
 use Rattle.cover_links.specs.Hiding.{run_unhidden, node_unhidden}
 use Rattle.cover_links.specs.Safety.{CanUnhideNode}
 use Rattle.cover_links.proofs.hiding.unhide_run.Goals as goal

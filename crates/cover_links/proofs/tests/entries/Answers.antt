@@ -1,4 +1,4 @@
-use Rattle.std.proofs.Common.{◌≡◌, ℕ, zero, suc, ◌<◌, ◌≤◌, List, [], ◌∷◌, length, get_or, refl, sym, ap, ◌∙◌, arith}
+use Rattle.std.proofs.Common.{◌≡◌, ℕ, zero, suc, ◌<◌, List, [], ◌∷◌, length, get_or, refl, ◌∙◌, arith}
 use Rattle.cover_links.specs.Layout.{start_of}
 use Rattle.cover_links.proofs.LayoutLemmas.{start_last}
 use Rattle.cover_links.proofs.tests.entries.Goals as goal

@@ -1,4 +1,4 @@
-use Rattle.std.proofs.Common.{◌≡◌, sym, ◌∙◌}
+use Rattle.std.proofs.Common.{sym}
 use Rattle.cover_problem.specs.Covering.{list_of}
 use Rattle.cover_problem.proofs.ListLemmas.{last_is}
 use Rattle.cover_problem.proofs.CoveringLemmas.{list_rises}

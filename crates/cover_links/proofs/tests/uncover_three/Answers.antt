@@ -1,4 +1,4 @@
-use Rattle.std.proofs.Common.{◌≡◌, ℕ, List, [], ◌∷◌, ◌++◌, sym, ◌∙◌}
+use Rattle.std.proofs.Common.{[], ◌∷◌, sym, ◌∙◌}
 use Rattle.cover_links.proofs.TableLemmas.{same_front}
 use Rattle.cover_links.proofs.tests.uncover_three.Goals as goal
 

@@ -1,4 +1,4 @@
-use Rattle.std.proofs.Common.{◌≡◌, ℕ, suc, ◌+◌, ◌-◌, ◌<◌, length, set, refl, sym, ap, subst, ◌∙◌, arith, Some, replicate, List, Option}
+use Rattle.std.proofs.Common.{◌≡◌, ℕ, suc, ◌+◌, ◌-◌, length, set, sym, ap, subst, ◌∙◌, arith, Some, List, Option}
 use Rattle.cover_links.specs.declared.entry.Entry.{Entry}
 use Rattle.cover_links.specs.Places.{values, IsFull}
 use Rattle.cover_links.proofs.PlaceLemmas.{filled, filled_none, filled_one, filled_values, filled_full, filled_length}

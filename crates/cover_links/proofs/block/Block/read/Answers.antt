@@ -1,5 +1,4 @@
-use Rattle.std.proofs.Common.{◌≡◌, ◌<◌, length, ap, subst, sym, ◌∙◌, Some, get_or, None}
-use Rattle.cover_links.specs.declared.entry.Entry.{Entry}
+use Rattle.std.proofs.Common.{◌≡◌, ◌<◌, length, ap, subst, sym, ◌∙◌, Some}
 use Rattle.cover_links.specs.Places.{values}
 use Rattle.cover_links.specs.Entries.{entry_at}
 use Rattle.cover_links.proofs.PlaceLemmas.{full_get}

@@ -1,4 +1,4 @@
-use Rattle.std.proofs.Common.{◌≡◌, ◌<◌, length, length-set, set, ap, subst, sym, ◌∙◌, Some}
+use Rattle.std.proofs.Common.{◌<◌, length, length-set, set, ap, subst, sym, ◌∙◌, Some}
 use Rattle.cover_links.specs.Places.{values, IsFull}
 use Rattle.cover_links.proofs.PlaceLemmas.{full_length, full_set, set_full}
 use Rattle.cover_links.proofs.block.Block.write.Goals as goal

@@ -1,5 +1,5 @@
 -- `get`: a walk that shows one of the entries that the row lends.
-use Rattle.std.proofs.Common.{◌≡◌, ℕ, ◌+◌, ◌*◌, ◌^◌, ◌<◌, List, [], ◌∷◌, length, get_or, refl, sym, ◌∙◌, w64, arith}
+use Rattle.std.proofs.Common.{◌≡◌, ◌+◌, ◌*◌, ◌^◌, ◌<◌, List, [], ◌∷◌, length, get_or, refl, ◌∙◌, w64, arith}
 use Rattle.std.specs.Prelude.{Option, Some, None}
 use Rattle.std.proofs.raw_atomic.Walks.{proved}
 use base.Fml.{ftrue, fat, flft}
@@ -8,14 +8,13 @@ use base.Fraction.{full_share}
 use contract.Monad.{fact}
 use contract.Running.{tables}
 use mir.Syntax.{named}
-use mir.Val.{Val, vptr, vint}
+use mir.Val.{Val, vptr}
 use types.Kit.{‵, raw, ◌⊛◌, at_ret, ◌$◌, ◌∵◌, !, qed, move, keep, drop, use1, split, join, frame, rewrite, fsplit, fjoin, feq_i, feq_l, flt_l, suffices, done}
 use types.Part.{whole, sub}
-use types.Run.{stop, lit, fld, of_opd, addr, bin, size_lit, first, blocks, exec, returns, enter}
+use types.Run.{stop, lit, fld, of_opd, addr, bin, first, blocks, exec, returns, enter}
 use types.ByLocal.{alloc_all, pass_all, free_all, look_at, get, get_in, through, sets, sets_last, take_at, give_at, env}
 use denote.Builtin.{RefOf, usize}
 use denote.Exit.{yes}
-use denote.Memory.{hidden_shr}
 use denote.Opens.{hide, unhide}
 use denote.Plain.{uint_vals, uint_Tells}
 use denote.RawPtr.{Ptr, in_a_block}
@@ -28,7 +27,6 @@ use Rattle.core.proofs.ptr.Rows.{times_below}
 use Rattle.std.proofs.VecSteps.Shapes.{after}
 use Rattle.std_alloc.proofs.RcSteps.{word-Good}
 use Rattle.cover_links.specs.declared.entry.Entry.{Entry}
-use Rattle.cover_links.specs.contracts.entry.Entry.{the_row as E}
 use Rattle.cover_links.specs.contracts.cells.Cells.{the_row as Row}
 use Rattle.cover_links.specs.contracts.cells.Base.{the_row as Start}
 use Rattle.cover_links.proofs.cells.Base.TheLaws as start

@@ -1,6 +1,6 @@
 -- `put`: a walk that takes one place out of the row, writes the entry into it and puts it back.
-use Rattle.std.proofs.Common.{◌≡◌, ℕ, ◌+◌, ◌*◌, ◌^◌, ◌<◌, List, [], ◌∷◌, length, length-set, set, get_or, refl, sym, subst, ◌∙◌, w64, arith}
-use Rattle.std.specs.Prelude.{Option, Some, None}
+use Rattle.std.proofs.Common.{◌≡◌, ◌+◌, ◌*◌, ◌^◌, ◌<◌, List, [], ◌∷◌, length, length-set, set, get_or, refl, sym, subst, ◌∙◌, w64, arith}
+use Rattle.std.specs.Prelude.{Some, None}
 use Rattle.std.proofs.raw_atomic.Walks.{proved}
 use base.Fml.{ftrue, fat, froom, flft}
 use base.Logic.{never, id⊢}
@@ -8,12 +8,12 @@ use base.Fraction.{full_share}
 use contract.Monad.{fact}
 use contract.Running.{tables}
 use mir.Syntax.{named}
-use mir.Val.{Val, vptr, vint, vunit}
+use mir.Val.{Val, vunit}
 use types.Kit.{‵, raw, ◌⊛◌, at_ret, ◌$◌, ◌∵◌, !, qed, move, keep, use1, use2, split, join, frame, rewrite, fsplit, fsplit3, fjoin, fjoin3, feq_i, feq_l, flt_l, flt_i, suffices, done}
 use types.Part.{whole, sub}
 use types.Run.{init, stop, lit, fld, unit_lit, of_opd, bin, assigns_last, first, blocks, exec, returns, enter}
 use types.ByLocal.{alloc_all, pass_all, free_all, look_at, get, get_in, through, sets, take_at, give_at, env}
-use denote.Builtin.{RefMutOf, usize}
+use denote.Builtin.{usize}
 use denote.Exit.{yes}
 use denote.Plain.{uint_vals, uint_Tells}
 use denote.RawPtr.{Ptr, in_a_block}
@@ -28,7 +28,6 @@ use Rattle.core.proofs.ptr.Rows.{times_below}
 use Rattle.std.proofs.VecSteps.Shapes.{after}
 use Rattle.std_alloc.proofs.RcSteps.{word-Good}
 use Rattle.cover_links.specs.declared.cells.Cells.{Cells}
-use Rattle.cover_links.specs.declared.entry.Entry.{Entry}
 use Rattle.cover_links.specs.contracts.entry.Entry as row
 use Rattle.cover_links.proofs.entry.Entry.TheLaws as entry
 use Rattle.cover_links.specs.contracts.cells.Cells.{the_row as Row}

@@ -1,13 +1,10 @@
-use Rattle.std.proofs.Common.{◌≡◌, ℕ, suc, ◌+◌, ◌-◌, ◌<◌, ◌≤◌, ◌⊎◌, inl, inr, true, false, unwrap_or, List, [], ◌∷◌, ◌++◌, length, refl, sym, ap, ◌∙◌, subst, arith}
-use Rattle.cover_problem.specs.Lists.{has, above, below, last_of}
-use Rattle.cover_problem.specs.Problem.{Cover, IsProblem, option_at, size_of}
-use Rattle.cover_problem.specs.Covering.{active, list_of}
-use Rattle.cover_problem.specs.Table.{Standing, AreCovered}
+use Rattle.std.proofs.Common.{◌≡◌, ℕ, ◌+◌, ◌≤◌, ◌⊎◌, inl, inr, true, length, sym, ap, ◌∙◌, subst, arith}
+use Rattle.cover_problem.specs.Lists.{has}
+use Rattle.cover_problem.specs.Problem.{option_at}
+use Rattle.cover_problem.specs.Table.{Standing}
 use Rattle.cover_links.specs.declared.entry.Entry.{Entry}
 use Rattle.cover_links.specs.Layout.{place}
-use Rattle.cover_links.specs.Table.{IsTable, linked, IsSpot}
-use Rattle.cover_links.proofs.TableLemmas.{item_low, row_next, is_active, length_is, is_shown, next_spot, prev_spot, last_spot, linked_above, linked_below, linked_last}
-use Rattle.cover_links.proofs.Standing.{down_at, up_at, right_at, top_at}
+use Rattle.cover_links.proofs.Standing.{top_at}
 use Rattle.std.proofs.lemmas.Bool.{cases_eq}
 use Rattle.cover_links.proofs.TableLemmas.{end_some, place_from, place_before, top_here, in_block, item_here}
 use Rattle.cover_links.proofs.table.LinkTable.node_of.Goals as goal

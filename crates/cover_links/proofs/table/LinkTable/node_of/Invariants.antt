@@ -1,4 +1,4 @@
-use Rattle.std.proofs.Common.{◌≡◌, ◌≤◌}
+use Rattle.std.proofs.Common.{◌≤◌}
 use Rattle.cover_links.specs.Layout.{place}
 use Rattle.cover_links.proofs.table.LinkTable.node_of.Given as goal
 

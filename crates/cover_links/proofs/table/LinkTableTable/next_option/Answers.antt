@@ -1,15 +1,14 @@
-use Rattle.std.proofs.Common.{◌≡◌, ℕ, suc, ◌+◌, ◌-◌, ◌<◌, ◌≤◌, ◌⊎◌, inl, inr, true, false, unwrap_or, List, [], ◌∷◌, ◌++◌, length, refl, sym, ap, ◌∙◌, subst, arith}
-use Rattle.cover_problem.specs.Lists.{has, above, below, last_of}
-use Rattle.cover_problem.specs.Problem.{Cover, IsProblem, option_at, size_of}
-use Rattle.cover_problem.specs.Covering.{active, list_of}
-use Rattle.cover_problem.specs.Table.{Standing, AreCovered}
+use Rattle.std.proofs.Common.{◌≡◌, ◌<◌, inr, true, unwrap_or, length, sym, ap, ◌∙◌, subst, arith}
+use Rattle.cover_problem.specs.Lists.{has, above}
+use Rattle.cover_problem.specs.Covering.{list_of}
+use Rattle.cover_problem.specs.Table.{Standing}
 use Rattle.cover_links.specs.declared.entry.Entry.{Entry}
 use Rattle.cover_links.specs.Layout.{place}
-use Rattle.cover_links.specs.Table.{IsTable, linked, IsSpot}
-use Rattle.cover_links.proofs.TableLemmas.{item_low, row_next, is_active, length_is, is_shown, next_spot, prev_spot, last_spot, linked_above, linked_below, linked_last}
-use Rattle.cover_links.proofs.Standing.{down_at, up_at, right_at, top_at}
+use Rattle.cover_links.specs.Table.{IsSpot}
+use Rattle.cover_links.proofs.TableLemmas.{is_shown, next_spot, linked_above}
+use Rattle.cover_links.proofs.Standing.{down_at}
 use Rattle.cover_problem.proofs.CoveringLemmas.{list_in, option_is}
-use Rattle.cover_links.proofs.LayoutLemmas.{IsNode, place_low}
+use Rattle.cover_links.proofs.LayoutLemmas.{place_low}
 use Rattle.cover_links.proofs.TableLemmas.{stands}
 use Rattle.cover_links.proofs.table.LinkTableTable.next_option.Goals as goal
 

@@ -1,4 +1,5 @@
 pub mod CoverExamples
+mod MakingExamples
 mod ReadingExamples
 mod GrammarExamples
 pub mod ListLemmas

@@ -497,3 +497,86 @@ none_is_not x e = cc
 pub held : {X E : Type 0} (P : X → Type 0) (r : Result X E) (x : X) → Some x ≡ result_ok r → IfOk r P → P x
 held P (Ok y) x e h = subst P (some_is x y e) h
 held P (Err d) x e h = absurd (none_is_not x e)
+
+-- each problem is made of its parts
+
+new_before : (acc names : List (List ℕ)) (name : List ℕ) → are_new (acc ++ name ∷ names) ≡ true → list_any (bytes_eq name) acc ≡ false
+new_before [] names name h = refl
+new_before (x ∷ xs) names name h =
+    let p = and_parts (not (list_any (bytes_eq x) (xs ++ name ∷ names))) (are_new (xs ++ name ∷ names)) h in
+    let a : (list_any (bytes_eq x) xs || list_any (bytes_eq x) (name ∷ names)) ≡ false = sym (list_any-append (bytes_eq x) xs (name ∷ names)) ∙ not-true _ p.0 in
+    let b = or_parts (list_any (bytes_eq x) xs) (list_any (bytes_eq x) (name ∷ names)) a in
+    let e = or_parts (bytes_eq x name) (list_any (bytes_eq x) names) b.1 in
+    or_from (bytes_eq name x) (list_any (bytes_eq name) xs) (bytes_eq_sym name x ∙ e.0) (new_before xs names name p.1)
+
+distinct_before : (acc xs : List ℕ) (x : ℕ) → are_distinct (acc ++ x ∷ xs) ≡ true → has acc x ≡ false
+distinct_before [] xs x h = refl
+distinct_before (y ∷ ys) xs x h =
+    let p = and_parts (not (has (ys ++ x ∷ xs) y)) (are_distinct (ys ++ x ∷ xs)) h in
+    let a : (has ys y || has (x ∷ xs) y) ≡ false = sym (list_any-append (λ z. z == y) ys (x ∷ xs)) ∙ not-true _ p.0 in
+    let b = or_parts (has ys y) (has (x ∷ xs) y) a in
+    let e = or_parts (x == y) (has xs y) b.1 in
+    or_from (y == x) (has ys x) (nat_eq_sym y x ∙ e.0) (distinct_before ys xs x p.1)
+
+each_step : {S X F : Type 0} (step : S → X → Result S F) (s t : S) (x : X) (xs : List X) → step s x ≡ Ok t → each step s (x ∷ xs) ≡ each step t xs
+unfolding each
+each_step step s t x xs h = rw h refl
+
+each_nothing : {S X F : Type 0} (step : S → X → Result S F) (s : S) → each step s [] ≡ Ok s
+unfolding each
+each_nothing step s = refl
+
+name_taken : (names : List (List ℕ)) (name : List ℕ) → is_name name ≡ true → list_any (bytes_eq name) names ≡ false → add_name names name ≡ Ok (names ++ name ∷ [])
+unfolding add_name
+name_taken names name n h = rw (n, h) refl
+
+names_again : (acc names : List (List ℕ)) → list_all is_name names ≡ true → are_new (acc ++ names) ≡ true → each add_name acc names ≡ Ok (acc ++ names)
+names_again acc [] a n = each_nothing add_name acc ∙ ap (λ xs. done xs) (sym (append-nil acc))
+  where
+    done : List (List ℕ) → Result (List (List ℕ)) Fault
+    done xs = Ok xs
+names_again acc (name ∷ names) a n =
+    let p = and_parts (is_name name) (list_all is_name names) a in
+    let e = append_assoc acc (name ∷ []) names in
+    each_step add_name acc (acc ++ name ∷ []) name names (name_taken acc name p.0 (new_before acc names name n))
+    ∙ rw e at (names_again (acc ++ name ∷ []) names p.1 (rw e n))
+
+numbers_again : (n : ℕ) (acc numbers : List ℕ) → list_all (is_item n) numbers ≡ true → are_distinct (acc ++ numbers) ≡ true → each (add_number n) acc numbers ≡ Ok (acc ++ numbers)
+numbers_again n acc [] a d = each_nothing (add_number n) acc ∙ ap (λ xs. done xs) (sym (append-nil acc))
+  where
+    done : List ℕ → Result (List ℕ) Fault
+    done xs = Ok xs
+numbers_again n acc (i ∷ is) a d =
+    let p = and_parts (is_item n i) (list_all (is_item n) is) a in
+    let e = append_assoc acc (i ∷ []) is in
+    each_step (add_number n) acc (acc ++ i ∷ []) i is (taken_once n acc i p.0 (distinct_before acc is i d))
+    ∙ rw e at (numbers_again n (acc ++ i ∷ []) is p.1 (rw e d))
+
+option_again : (n : ℕ) (option : List ℕ) → is_option n option ≡ true → option_from n option ≡ Ok option
+option_again n option h =
+    let p = and_parts (nat_lt 0 (length option) && are_distinct option) (list_all (is_item n) option) h in
+    let q = and_parts (nat_lt 0 (length option)) (are_distinct option) p.0 in
+    some_option n option (ltb-true 0 (length option) q.0) ∙ numbers_again n [] option p.1 q.1
+
+options_again : (n : ℕ) (acc options : List (List ℕ)) → list_all (is_option n) options ≡ true → each (add_option n) acc options ≡ Ok (acc ++ options)
+options_again n acc [] a = each_nothing (add_option n) acc ∙ ap (λ xs. done xs) (sym (append-nil acc))
+  where
+    done : List (List ℕ) → Result (List (List ℕ)) Fault
+    done xs = Ok xs
+options_again n acc (option ∷ options) a =
+    let p = and_parts (is_option n option) (list_all (is_option n) options) a in
+    let e = append_assoc acc (option ∷ []) options in
+    each_step (add_option n) acc (acc ++ option ∷ []) option options (option_added n acc option (option_again n option p.0))
+    ∙ rw e at (options_again n (acc ++ option ∷ []) options p.1)
+
+pub made_again : (p : Cover) → IsProblem p → made p.names p.primary p.options ≡ Ok p
+made_again p sound =
+    all_made p.names p.primary p.options (and_from (nat_lt 0 p.primary) (nat_le p.primary (length p.names)) (lt-ltb 0 p.primary sound.some) (le-leb p.primary (length p.names) sound.within))
+    p.names (names_again [] p.names sound.named sound.new) p.options (options_again (length p.names) [] p.options sound.options_are) sound.small
+
+made_given : (names : List (List ℕ)) (primary : ℕ) (options : List (List ℕ)) (p : Cover) → (p ≡ record { names = names; primary = primary; options = options }) × IsProblem p → made names primary options ≡ Ok p
+made_given names primary options p h =
+    sym (ap (λ (q : Cover). made q.names q.primary q.options) h.0) ∙ made_again p h.1
+
+pub made_exactly : (names : List (List ℕ)) (primary : ℕ) (options : List (List ℕ)) (p : Cover) → (made names primary options ≡ Ok p → (p ≡ record { names = names; primary = primary; options = options }) × IsProblem p) × ((p ≡ record { names = names; primary = primary; options = options }) × IsProblem p → made names primary options ≡ Ok p)
+made_exactly names primary options p = (made_is names primary options p, made_given names primary options p)

@@ -5,6 +5,7 @@ ghost use Rattle.cover_problem.specs.declared.fault.Fault.{Fault};
 ghost use Rattle.cover_problem.specs.declared.fault.Fault.TheVariants.{NoItemLine};
 ghost use Rattle.cover_problem.specs.Problem.{Cover, IsProblem};
 ghost use Rattle.cover_problem.specs.Covering.{active, remaining, choice};
+ghost use Rattle.cover_problem.specs.Making.{made};
 ghost use Rattle.cover_problem.specs.Reading.{problem_of};
 ghost use Rattle.cover_problem.specs.FirstFault.{IsFirstFault, LacksItems};
 ghost use Rattle.cover_problem.specs.Grammar.{IsCoverText, written};
@@ -16,6 +17,11 @@ pub fn choice_is_first_shortest()
         length (remaining p c (choice p c)) ≤ length (remaining p c i) }
     ensures first { (p : Cover) (c : List ℕ) (i : ℕ) → has (active p c) i ≡ true → i < choice p c →
         length (remaining p c (choice p c)) < length (remaining p c i) }
+{}
+
+/// Names, a number of primary items and options make a problem exactly where they are one, and it is what was given.
+pub fn problems_are_made()
+    ensures { (names : List (List ℕ)) (primary : ℕ) (options : List (List ℕ)) (p : Cover) → (made names primary options ≡ Ok p) ↔ ((p ≡ record { names = names; primary = primary; options = options }) × IsProblem p) }
 {}
 
 /// What is written is read as the same problem.

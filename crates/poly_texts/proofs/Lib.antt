@@ -1,0 +1,3 @@
+pub mod CellLemmas
+pub mod ReadingLemmas
+pub mod StepLemmas

@@ -1,0 +1,5 @@
+pub mod Faults
+pub mod Cells
+pub mod Words
+pub mod Puzzle
+pub mod Reading

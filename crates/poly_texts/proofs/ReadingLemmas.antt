@@ -8,13 +8,15 @@ use Rattle.text_lines.specs.Each.{each, ◌>>=◌}
 use Rattle.text_lines.proofs.EachLemmas.{each_goes, each_stops, each_ends}
 use Rattle.poly_cells.specs.Places.{Place, place_cmp}
 use Rattle.poly_texts.specs.declared.fault.Fault.{Fault}
+use Rattle.poly_texts.specs.declared.fault.Fault.TheVariants.{RepeatedPiece}
 use Rattle.poly_texts.specs.declared.fault.LineFault.{LineFault}
 use Rattle.poly_texts.specs.declared.fault.LineFault.TheVariants as line_faults
 use Rattle.poly_texts.specs.declared.fault.PuzzleFault.{PuzzleFault}
 use Rattle.poly_texts.specs.declared.fault.PuzzleFault.TheVariants as puzzle_faults
 use Rattle.poly_texts.specs.Faults.{IsFaultOf, IsFaultAt, fault_at}
+use Rattle.poly_texts.specs.Words.{piece_name}
 use Rattle.poly_texts.specs.Puzzle.{PuzzleValue}
-use Rattle.poly_texts.specs.Reading.{Said, three, has_piece, line, at_line, numbered_line, lines_read, whole, at_end, puzzle_of}
+use Rattle.poly_texts.specs.Reading.{Said, three, has_piece, new_name, shape_of, with_piece, piece_line, line, at_line, numbered_line, lines_read, whole, at_end, puzzle_of}
 
 -- *words*
 
@@ -56,6 +58,20 @@ entered (p ∷ ps) name shape h = by_test (name == p.0) h (entered ps name shape
     by_test : (b : Bool) → (b || has_piece ps name) ≡ false → (has_piece ps name ≡ false → insert_entry (λ m n. m == n) ps name shape ≡ ps ++ (name, shape) ∷ []) → cond b ((p.0, shape) ∷ ps) (p ∷ insert_entry (λ m n. m == n) ps name shape) ≡ p ∷ ps ++ (name, shape) ∷ []
     by_test true h later = absurd (cc)
     by_test false h later = ap (λ qs. p ∷ qs) (later h)
+
+module _ (pieces : List (ℕ × List Place)) (word : List ℕ) (name : ℕ) (named : Some name ≡ piece_name word) where
+  pub name_repeated : has_piece pieces name ≡ true → new_name pieces word ≡ Err RepeatedPiece
+  unfolding new_name
+  name_repeated h = rw (← named, h) refl
+
+  pub name_found : has_piece pieces name ≡ false → new_name pieces word ≡ Ok name
+  unfolding new_name
+  name_found h = rw (← named, h) refl
+
+-- a `piece` line whose words gave these
+pub piece_read : (s : Said) (optional : Bool) (all : List (List ℕ)) (word : List ℕ) (words : List (List ℕ)) (name : ℕ) (shape : List Place) → all ≡ word ∷ words → is_empty words ≡ false → new_name s.pieces word ≡ Ok name → shape_of words ≡ Ok shape → piece_line s optional all ≡ Ok (with_piece s optional name shape)
+unfolding piece_line
+piece_read s optional all word words name shape e some a b = rw (e, some, a, b) refl
 
 -- *a line of a text, and its end*
 

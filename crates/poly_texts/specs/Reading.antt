@@ -79,20 +79,31 @@ within s = if nat_le (length s.named) MOST_REGION_CELLS then Ok s else Err TooLa
 abbrev pub has_piece : List (ℕ × List Place) → ℕ → Bool
 has_piece pieces name = list_any (λ p. name == p.0) pieces
 
+-- these names with one more, if it is to be there
+abbrev pub with_name : Bool → List ℕ → ℕ → List ℕ
+with_name there names name = if there then names ++ name ∷ [] else names
+
 -- with one more piece
 abbrev pub with_piece : Said → Bool → ℕ → List Place → Said
-with_piece s optional name shape = record s { pieces = s.pieces ++ (name, shape) ∷ []; maybe_pieces = if optional then s.maybe_pieces ++ name ∷ [] else s.maybe_pieces }
+with_piece s optional name shape = record s { pieces = s.pieces ++ (name, shape) ∷ []; maybe_pieces = with_name optional s.maybe_pieces name }
 
--- a piece of this name: a new one
-abbrev pub named_piece : Said → Bool → Option ℕ → List (List ℕ) → Result Said Fault
-named_piece s optional None words = Err BadLine
-named_piece s optional (Some name) words =
-    if has_piece s.pieces name then Err RepeatedPiece else (shape_of words >>= λ shape. Ok (with_piece s optional name shape))
+-- the name of a new piece
+abbrev pub is_new : List (ℕ × List Place) → Option ℕ → Result ℕ Fault
+is_new pieces None = Err BadLine
+is_new pieces (Some name) = if has_piece pieces name then Err RepeatedPiece else Ok name
+
+-- the same, where the name is given by a word
+unfoldable pub new_name : List (ℕ × List Place) → List ℕ → Result ℕ Fault
+new_name pieces word = is_new pieces (piece_name word)
 
 -- a `piece` line: a name, and a cell
 unfoldable pub piece_line : Said → Bool → List (List ℕ) → Result Said Fault
 piece_line s optional [] = Err BadLine
-piece_line s optional (name ∷ words) = if is_empty words then Err BadLine else named_piece s optional (piece_name name) words
+piece_line s optional (word ∷ words) =
+    if is_empty words then Err BadLine else (do
+      name ← new_name s.pieces word
+      shape ← shape_of words
+      Ok (with_piece s optional name shape))
 
 -- three words, and no others
 abbrev pub three : List (List ℕ) → Option (List ℕ × List ℕ × List ℕ)
@@ -193,13 +204,16 @@ lines_read lines = each numbered_line (nothing, 1) lines
 abbrev pub region_of : Said → List Place
 region_of s = in_order place_cmp (without s.cut s.named)
 
--- whether each piece may be left out
-abbrev pub needs_no_piece : Said → Bool
-needs_no_piece s = list_all (has_name s.maybe_pieces) (names_of s.pieces)
+-- whether each of the pieces may be left out, and each of the cells may stay empty
+abbrev pub needs_nothing : List (ℕ × List Place) → List ℕ → List Place → List Place → Bool
+needs_nothing pieces maybe_pieces region maybe_cells = list_all (has_name maybe_pieces) (names_of pieces) && list_all (has_place maybe_cells) region
 
--- whether each cell of the region may stay empty
-abbrev pub needs_no_cell : Said → Bool
-needs_no_cell s = list_all (has_place s.maybe_cells) (region_of s)
+-- the fault of a whole text: no cell, no piece, or none of these required
+abbrev pub whole_fault : List (ℕ × List Place) → List ℕ → List Place → List Place → Option Fault
+whole_fault pieces maybe_pieces region maybe_cells =
+    if length region == 0 then Some EmptyRegion else
+    (if length pieces == 0 then Some NoPiece else
+    (if needs_nothing pieces maybe_pieces region maybe_cells then Some NothingRequired else None))
 
 -- the puzzle that is said
 abbrev pub puzzle_said : Said → PuzzleValue
@@ -210,12 +224,14 @@ puzzle_said s = record {
   maybe_cells = in_order place_cmp (without s.cut s.maybe_cells);
 }
 
--- the puzzle of all lines: with a cell, with a piece, and with one of these required
+-- a puzzle, unless there is a fault
+abbrev pub unless : Option Fault → PuzzleValue → Result PuzzleValue Fault
+unless None p = Ok p
+unless (Some f) p = Err f
+
+-- the puzzle of all lines
 unfoldable pub whole : Said → Result PuzzleValue Fault
-whole s =
-    if length (region_of s) == 0 then Err EmptyRegion else
-    (if length s.pieces == 0 then Err NoPiece else
-    (if needs_no_piece s && needs_no_cell s then Err NothingRequired else Ok (puzzle_said s)))
+whole s = unless (whole_fault s.pieces s.maybe_pieces (region_of s) s.maybe_cells) (puzzle_said s)
 
 -- a fault of the whole text has the line number 0
 abbrev pub at_end : Result PuzzleValue Fault → Result PuzzleValue (Fault × ℕ)

@@ -1,11 +1,11 @@
 //! What has been read of a puzzle text.
-ghost use Rattle.std.specs.Prelude.{◌≡◌};
+ghost use Rattle.std.specs.Prelude.{◌≡◌, ◌++◌, ◌∷◌, [], false, ◌<◌, length, IfOk, OnOk, IfNone};
 ghost use Rattle.std.specs.List.{list_all};
 ghost use Rattle.text_lines.specs.Lines.{words_of};
 ghost use Rattle.poly_texts.specs.Faults.{Gives};
 ghost use Rattle.poly_texts.specs.Puzzle.{has_name, names_of};
 ghost use Rattle.poly_texts.specs.Reading as reading;
-ghost use Rattle.poly_texts.specs.Reading.{nothing};
+ghost use Rattle.poly_texts.specs.Reading.{has_piece, nothing, with_name};
 
 use crate::cells::{add_box, add_cells, are_all_in, uncut};
 use crate::fault::{Fault, LineFault};
@@ -17,7 +17,7 @@ use crate::puzzle::Puzzle;
 use crate::word::{are_sizes, sizes_of, three_words};
 use indexmap::{IndexMap, IndexSet};
 use poly_cells::{Cell, Shape};
-use std::alloc::Global;
+use std::alloc::{AllocFailed, Global};
 use std::marker::Model;
 use text_lines::{has_words, is_all_plain, outside_comment, split_word};
 
@@ -39,6 +39,48 @@ impl Model for Draft {
     ghost Value = { Said };
 
     ghost view = { λ a. record { pieces = a.pieces.entries; maybe_pieces = a.maybe_pieces.items; boxed = a.is_boxed; named = a.named.keys; maybe_cells = a.maybe_cells.keys; cut = a.cut.keys } };
+}
+
+/// The name of a new piece.
+#[tactic(auto, unfolding(crate::specs::Reading::new_name))]
+fn new_name(pieces: &IndexMap<PieceName, Shape>, word: &[u8]) -> Result<PieceName, LineFault>
+    ensures name { Gives (λ name. name) result (reading.new_name pieces.now.entries word.now) }
+    ensures new { IfOk result (λ name. has_piece pieces.now.entries name ≡ false) }
+{
+    let Some(name) = PieceName::of(word) else {
+        return Err(LineFault::Fault(Fault::BadLine));
+    };
+    if pieces.contains_key(&name) {
+        return Err(LineFault::Fault(Fault::RepeatedPiece));
+    }
+    Ok(name)
+}
+
+/// Adds a new piece.
+fn add_piece(
+    pieces: &mut IndexMap<PieceName, Shape>,
+    name: PieceName,
+    shape: Shape,
+) -> Result<(), AllocFailed<(PieceName, Shape)>>
+    requires { has_piece pieces.old.entries name ≡ false }
+    ensures { OnOk result (pieces.new.entries ≡ pieces.old.entries ++ (name, shape) ∷ []) }
+{
+    pieces.insert(name, shape)?;
+    Ok(())
+}
+
+/// Adds a name, if it is to be there.
+fn add_name(
+    names: &mut Vec<PieceName>,
+    there: bool,
+    name: PieceName,
+) -> Result<(), AllocFailed<PieceName>>
+    ensures { OnOk result (names.new.items ≡ with_name there names.old.items name) }
+{
+    if there {
+        names.push(name)?;
+    }
+    Ok(())
 }
 
 impl Draft {
@@ -82,17 +124,10 @@ impl Draft {
         if !has_words(cells) {
             return Err(LineFault::Fault(Fault::BadLine));
         }
-        let Some(name) = PieceName::of(word) else {
-            return Err(LineFault::Fault(Fault::BadLine));
-        };
-        if self.pieces.contains_key(&name) {
-            return Err(LineFault::Fault(Fault::RepeatedPiece));
-        }
+        let name = new_name(&self.pieces, word)?;
         let shape = shape_of(alloc, cells)?;
-        self.pieces.insert(name, shape)?;
-        if is_optional {
-            self.maybe_pieces.push(name)?;
-        }
+        add_piece(&mut self.pieces, name, shape)?;
+        add_name(&mut self.maybe_pieces, is_optional, name)?;
         Ok(self)
     }
 
@@ -208,18 +243,15 @@ impl Draft {
         ensures { Gives (λ p. p) result (reading.whole self) }
     {
         let region = uncut(alloc, &self.named, &self.cut)?;
-        if region.is_empty() {
-            return Err(LineFault::Fault(Fault::EmptyRegion));
-        }
-        if self.pieces.is_empty() {
-            return Err(LineFault::Fault(Fault::NoPiece));
-        }
-        if are_all_named(&self.pieces, &self.maybe_pieces)
-            && are_all_in(&region, &self.maybe_cells)
-        {
-            return Err(LineFault::Fault(Fault::NothingRequired));
-        }
         let maybe_cells = uncut(alloc, &self.maybe_cells, &self.cut)?;
+        if let Some(fault) = whole_fault(
+            &self.pieces,
+            self.maybe_pieces.as_slice(),
+            region.as_slice(),
+            &self.maybe_cells,
+        ) {
+            return Err(LineFault::Fault(fault));
+        }
         let Draft {
             pieces,
             maybe_pieces,
@@ -239,4 +271,26 @@ fn are_all_named(pieces: &IndexMap<PieceName, Shape>, names: &[PieceName]) -> bo
     ensures { result ≡ list_all (has_name names.now) (names_of pieces.now.entries) }
 {
     pieces.keys().all(|name| names.contains(name))
+}
+
+/// The fault of a whole text, if it has one.
+fn whole_fault(
+    pieces: &IndexMap<PieceName, Shape>,
+    maybe_pieces: &[PieceName],
+    region: &[Cell],
+    maybe_cells: &IndexSet<Cell>,
+) -> Option<Fault>
+    ensures fault { result ≡ reading.whole_fault pieces.now.entries maybe_pieces.now region.now maybe_cells.now.keys }
+    ensures some { IfNone result (0 < length region.now) }
+{
+    if region.is_empty() {
+        return Some(Fault::EmptyRegion);
+    }
+    if pieces.is_empty() {
+        return Some(Fault::NoPiece);
+    }
+    if are_all_named(pieces, maybe_pieces) && are_all_in(region, maybe_cells) {
+        return Some(Fault::NothingRequired);
+    }
+    None
 }

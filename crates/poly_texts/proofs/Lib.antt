@@ -1,3 +1,7 @@
 pub mod CellLemmas
 pub mod ReadingLemmas
 pub mod StepLemmas
+pub mod SpellingLemmas
+pub mod LineLemmas
+pub mod TogetherLemmas
+pub mod MemberLemmas

@@ -3,3 +3,4 @@ pub mod Cells
 pub mod Words
 pub mod Puzzle
 pub mod Reading
+pub mod Grammar

@@ -8,6 +8,7 @@ mod key;
 mod limits;
 mod name;
 mod piece;
+pub mod probe;
 mod puzzle;
 mod reading;
 mod word;

@@ -5,3 +5,4 @@ pub mod SpellingLemmas
 pub mod LineLemmas
 pub mod TogetherLemmas
 pub mod MemberLemmas
+pub mod TextLemmas

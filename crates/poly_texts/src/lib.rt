@@ -8,7 +8,6 @@ mod key;
 mod limits;
 mod name;
 mod piece;
-pub mod probe;
 mod puzzle;
 mod reading;
 mod word;

@@ -3,7 +3,9 @@ ghost use Rattle.std.specs.Prelude.{◌≡◌, ℕ, Ok, IfOk, IfErr};
 ghost use Rattle.text_lines.specs.Lines.{lines_of};
 ghost use Rattle.poly_texts.specs.Faults as faults;
 ghost use Rattle.poly_texts.specs.Faults.{GivesAt, IsFaultAt};
+ghost use Rattle.poly_texts.specs.Puzzle.{PuzzleValue};
 ghost use Rattle.poly_texts.specs.Reading.{lines_read, puzzle_of};
+ghost use Rattle.poly_texts.specs.Grammar.{IsPuzzleText};
 
 use crate::draft::Draft;
 use crate::fault::{LineFault, PuzzleFault};
@@ -41,16 +43,25 @@ fn read_lines(alloc: Global, bytes: &[u8]) -> Result<Draft, PuzzleFault>
     Ok(draft)
 }
 
-/// Reads a puzzle text. A refusal is the first fault.
-///
-/// The fault of a line comes with its number, from 1, and one of the whole text with 0.
-pub fn read_puzzle(alloc: Global, bytes: &[u8]) -> Result<Puzzle, PuzzleFault>
-    ensures read { IfOk result (λ p. puzzle_of bytes.now ≡ Ok p) }
-    ensures refused { IfErr result (λ f. IsFaultAt f (puzzle_of bytes.now)) }
+/// The puzzle of a text.
+fn read_text(alloc: Global, bytes: &[u8]) -> Result<Puzzle, PuzzleFault>
+    ensures { GivesAt (λ p. p) result (puzzle_of bytes.now) }
 {
     let draft = read_lines(alloc, bytes)?;
     match draft.into_puzzle(alloc) {
         Ok(puzzle) => Ok(puzzle),
         Err(fault) => Err(fault_at(fault, 0)),
     }
+}
+
+/// Reads a puzzle text. A refusal is the first fault.
+///
+/// The fault of a line comes with its number, from 1, and one of the whole text with 0.
+pub fn read_puzzle(alloc: Global, bytes: &[u8]) -> Result<Puzzle, PuzzleFault>
+    ensures read { IfOk result (λ p. puzzle_of bytes.now ≡ Ok p) }
+    ensures refused { IfErr result (λ f. IsFaultAt f (puzzle_of bytes.now)) }
+    ensures text { IfOk result (λ p. IsPuzzleText bytes.now p) }
+    ensures every { (p : PuzzleValue) → IsPuzzleText bytes.now p → GivesAt (λ q. q) result (Ok p) }
+{
+    read_text(alloc, bytes)
 }

@@ -1,16 +1,18 @@
-use Rattle.std.proofs.lemmas.Result.{err_from_is_err_and}
-use Rattle.poly_texts.proofs.ReadingLemmas.{text_refused, text_read, end_refused}
+use Rattle.std.proofs.Common.{ℕ, List, Result, Ok, Err, IfOk, subst}
+use Rattle.poly_texts.specs.declared.fault.PuzzleFault.{PuzzleFault}
+use Rattle.poly_texts.specs.Faults.{GivesAt}
+use Rattle.poly_texts.specs.Puzzle.{PuzzleValue}
+use Rattle.poly_texts.specs.Reading.{puzzle_of}
+use Rattle.poly_texts.specs.Grammar.{IsPuzzleText}
+use Rattle.poly_texts.proofs.TextLemmas.{read_is_text, text_again}
 use Rattle.poly_texts.proofs.reading.read_puzzle.Goals as goal
 
-pub returns-in_err-draft-clause-refused : goal.returns-in_err-draft-clause-refused
-returns-in_err-draft-clause-refused c =
-    let p = err_from_is_err_and c.from_residual.result c.from_residual.ensures.1 in
-    rw (p.1, p.2) (text_refused c.args.bytes.now c.in_err-draft.field-0.0 c.in_err-draft.ensures.refused)
+is_text : (text : List ℕ) (r : Result PuzzleValue PuzzleFault) → GivesAt (λ p. p) r (puzzle_of text) → IfOk r (λ p. IsPuzzleText text p)
+is_text text (Ok p) h = read_is_text text p h
+is_text text (Err f) h = tt
 
-pub returns-in-Ok-clause-read : goal.returns-in-Ok-clause-read
-returns-in-Ok-clause-read c =
-    text_read c.args.bytes.now c.in_ok-draft.draft c.in_ok-draft.ensures.read.0 c.in_ok-draft.ensures.read.1 c.in-Ok.puzzle c.in-Ok.ensures
+pub returns-clause-text : goal.returns-clause-text
+returns-clause-text c = is_text c.args.bytes.now c.read_text.result c.read_text.ensures
 
-pub returns-in-Err-clause-refused : goal.returns-in-Err-clause-refused
-returns-in-Err-clause-refused c =
-    rw c.fault_at.ensures (end_refused c.args.bytes.now c.in_ok-draft.draft c.in_ok-draft.ensures.read.0 c.in_ok-draft.ensures.read.1 c.in-Err.fault c.in-Err.ensures)
+pub returns-clause-every : goal.returns-clause-every
+returns-clause-every c = λ p t. subst (λ found. GivesAt {X = PuzzleValue} {S = PuzzleValue} (λ q. q) c.read_text.result found) (text_again c.args.bytes.now p t) c.read_text.ensures

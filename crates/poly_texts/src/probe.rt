@@ -1,7 +1,0 @@
-//! x
-ghost use Rattle.std.specs.Prelude.{◌≡◌, ℕ};
-
-/// x
-pub fn probe()
-    ensures { (n : ℕ) → n ≡ n }
-{}

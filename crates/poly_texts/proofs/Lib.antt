@@ -6,3 +6,4 @@ pub mod LineLemmas
 pub mod TogetherLemmas
 pub mod MemberLemmas
 pub mod TextLemmas
+pub mod PuzzleLemmas

@@ -88,7 +88,7 @@ pub left_once : (cut cells : List Place) → in_order place_cmp (without (with_c
 left_once cut cells = same_in_order (without (with_cells [] cut) (with_cells [] cells)) (without cut cells)
     (λ c. has_left (with_cells [] cut) (with_cells [] cells) c ∙ rw (has_once [] cut c, has_once [] cells c) (sym (has_left cut cells c)))
 
-has_ordered : (cells : List Place) (c : Place) → has_place (in_order place_cmp cells) c ≡ has_place cells c
+pub has_ordered : (cells : List Place) (c : Place) → has_place (in_order place_cmp cells) c ≡ has_place cells c
 has_ordered cells c = same_test (has_place (in_order place_cmp cells) c) (has_place cells c)
     (λ h. has_from_in cells c (in_from_order place_cmp c cells (in_from_has (in_order place_cmp cells) c h)))
     (λ h. has_from_in (in_order place_cmp cells) c (in_to_order place_exact c cells (in_from_has cells c h)))

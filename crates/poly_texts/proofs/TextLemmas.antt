@@ -11,8 +11,8 @@ use Rattle.poly_cells.specs.Sets.{in_order}
 use Rattle.poly_texts.specs.declared.fault.Fault.{Fault}
 use Rattle.poly_texts.specs.declared.fault.Fault.TheVariants.{BadLine, EmptyRegion, NoPiece, NothingRequired}
 use Rattle.poly_texts.specs.Cells.{has_place, with_cells, without}
-use Rattle.poly_texts.specs.Puzzle.{PuzzleValue, names_of, has_name}
-use Rattle.poly_texts.specs.Reading.{Said, nothing, words_line, line, at_line, numbered_line, lines_read, region_of, needs_nothing, whole_fault, puzzle_said, unless, whole, at_end, puzzle_of}
+use Rattle.poly_texts.specs.Puzzle.{PuzzleValue, names_of, has_name, needs_nothing}
+use Rattle.poly_texts.specs.Reading.{Said, nothing, words_line, line, at_line, numbered_line, lines_read, region_of, whole_fault, puzzle_said, unless, whole, at_end, puzzle_of}
 use Rattle.poly_texts.specs.Grammar.{Line, line_words, is_line, piece_of, maybe_name_of, named_by, maybe_by, cut_by, puzzle_by, IsPuzzleText}
 use Rattle.poly_texts.proofs.StepLemmas.{ok_is, no_fault, bind_ok, each_parts, each_none, granted}
 use Rattle.poly_texts.proofs.SpellingLemmas.{chosen}

@@ -7,9 +7,9 @@ use Rattle.std.proofs.lemmas.List.{map-append}
 use Rattle.std.proofs.lemmas.List.Folds.{list_any-append}
 use Rattle.poly_cells.specs.Places.{Place}
 use Rattle.poly_texts.specs.Cells.{has_place, with_cell, with_cells}
-use Rattle.poly_texts.specs.Puzzle.{names_of, has_name}
+use Rattle.poly_texts.specs.Puzzle.{names_of, has_name, are_new}
 use Rattle.poly_texts.specs.Reading.{Said, nothing, has_piece, kept_shape}
-use Rattle.poly_texts.specs.Grammar.{Line, piece, box, cells, cut, is_line, piece_of, maybe_name_of, is_box, named_by, maybe_by, cut_by, are_new, AreLines}
+use Rattle.poly_texts.specs.Grammar.{Line, piece, box, cells, cut, is_line, piece_of, maybe_name_of, is_box, named_by, maybe_by, cut_by, AreLines}
 use Rattle.poly_texts.proofs.CellLemmas.{with_cells-append, with_none}
 use Rattle.poly_texts.proofs.LineLemmas.{plus, is_small, is_fit}
 

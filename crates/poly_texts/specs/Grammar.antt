@@ -14,8 +14,8 @@ use Rattle.poly_cells.specs.Sets.{in_order}
 use Rattle.poly_texts.specs.declared.limits.TheConstants.{MOST_SIZE, MOST_REGION_CELLS, MOST_PIECE_CELLS}
 use Rattle.poly_texts.specs.Cells.{has_place, with_cells, without, box_cells}
 use Rattle.poly_texts.specs.Words.{is_name}
-use Rattle.poly_texts.specs.Puzzle.{PuzzleValue, names_of, has_name}
-use Rattle.poly_texts.specs.Reading.{kept_shape, needs_nothing}
+use Rattle.poly_texts.specs.Puzzle.{PuzzleValue, names_of, are_new, needs_nothing}
+use Rattle.poly_texts.specs.Reading.{kept_shape}
 
 -- what a line says: a piece, whether it may be left out, with its name and its cells; a box of these sizes; cells, and
 -- whether they may stay empty; or cells to be cut
@@ -115,11 +115,6 @@ cut_by (piece optional name cs) = []
 cut_by (box a b c) = []
 cut_by (cells optional cs) = []
 cut_by (cut cs) = cs
-
--- no name comes twice
-abbrev pub are_new : List ℕ → Bool
-are_new [] = true
-are_new (n ∷ ns) = not (has_name ns n) && are_new ns
 
 -- what lines say that are within the limits, alone and together
 pub record AreLines (lines : List Line) : Type 0 where

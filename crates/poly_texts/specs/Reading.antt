@@ -26,7 +26,7 @@ use Rattle.poly_texts.specs.declared.key.Key.{Key}
 use Rattle.poly_texts.specs.declared.key.Key.TheVariants as keys
 use Rattle.poly_texts.specs.Cells.{has_place, with_cell, with_cells, without, box_cells}
 use Rattle.poly_texts.specs.Words.{cell_of, piece_name, are_sizes, are_small, size_of}
-use Rattle.poly_texts.specs.Puzzle.{PuzzleValue, names_of, has_name}
+use Rattle.poly_texts.specs.Puzzle.{PuzzleValue, needs_nothing}
 
 -- what the lines so far say: the pieces, the names of those that may be left out, whether there was a box, and the cells that
 -- lines name, that `maybe cells` lines name and that `cut` lines name, each cell once
@@ -203,10 +203,6 @@ lines_read lines = each numbered_line (nothing, 1) lines
 -- the region that is said, in order
 abbrev pub region_of : Said → List Place
 region_of s = in_order place_cmp (without s.cut s.named)
-
--- whether each of the pieces may be left out, and each of the cells may stay empty
-abbrev pub needs_nothing : List (ℕ × List Place) → List ℕ → List Place → List Place → Bool
-needs_nothing pieces maybe_pieces region maybe_cells = list_all (has_name maybe_pieces) (names_of pieces) && list_all (has_place maybe_cells) region
 
 -- the fault of a whole text: no cell, no piece, or none of these required
 abbrev pub whole_fault : List (ℕ × List Place) → List ℕ → List Place → List Place → Option Fault

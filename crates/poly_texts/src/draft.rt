@@ -1,9 +1,9 @@
 //! What has been read of a puzzle text.
-ghost use Rattle.std.specs.Prelude.{◌≡◌, ◌++◌, ◌∷◌, [], false, ◌<◌, length, IfOk, OnOk, IfNone};
+ghost use Rattle.std.specs.Prelude.{◌≡◌, ◌++◌, ◌∷◌, [], false, Ok, ◌<◌, length, IfOk, OnOk, IfNone};
 ghost use Rattle.std.specs.List.{list_all};
 ghost use Rattle.text_lines.specs.Lines.{words_of};
 ghost use Rattle.poly_texts.specs.Faults.{Gives};
-ghost use Rattle.poly_texts.specs.Puzzle.{has_name, names_of};
+ghost use Rattle.poly_texts.specs.Puzzle.{PuzzleValue, IsPuzzle, has_name, names_of};
 ghost use Rattle.poly_texts.specs.Reading as reading;
 ghost use Rattle.poly_texts.specs.Reading.{has_piece, nothing, with_name};
 
@@ -240,6 +240,7 @@ impl Draft {
     /// The puzzle of a whole text.
     #[tactic(auto, unfolding(crate::specs::Reading::whole))]
     pub fn into_puzzle(self, alloc: Global) -> Result<Puzzle, LineFault>
+        requires { (p : PuzzleValue) → reading.whole self ≡ Ok p → IsPuzzle p }
         ensures { Gives (λ p. p) result (reading.whole self) }
     {
         let region = uncut(alloc, &self.named, &self.cut)?;

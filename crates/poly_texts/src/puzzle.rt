@@ -1,6 +1,6 @@
 //! A puzzle.
 ghost use Rattle.std.specs.Prelude.{◌≡◌};
-ghost use Rattle.poly_texts.specs.Puzzle.{PuzzleValue};
+ghost use Rattle.poly_texts.specs.Puzzle.{IsPuzzle};
 
 use crate::name::PieceName;
 use indexmap::IndexMap;
@@ -17,11 +17,13 @@ pub struct Puzzle {
 }
 
 impl Model for Puzzle {
-    ghost use Rattle.poly_texts.specs.Puzzle.{PuzzleValue};
+    ghost use Rattle.poly_texts.specs.Puzzle.{PuzzleValue, IsPuzzle};
 
     ghost Value = { PuzzleValue };
 
     ghost view = { λ a. record { pieces = a.pieces.entries; maybe_pieces = a.maybe_pieces.items; region = a.region; maybe_cells = a.maybe_cells.items } };
+
+    ghost invariant = { λ a. IsPuzzle (record { pieces = a.pieces.entries; maybe_pieces = a.maybe_pieces.items; region = a.region; maybe_cells = a.maybe_cells.items }) };
 }
 
 impl Puzzle {
@@ -32,6 +34,7 @@ impl Puzzle {
         region: Shape,
         maybe_cells: Vec<Cell>,
     ) -> Puzzle
+        requires { IsPuzzle (record { pieces = pieces.entries; maybe_pieces = maybe_pieces.items; region = region; maybe_cells = maybe_cells.items }) }
         ensures { result ≡ record { pieces = pieces.entries; maybe_pieces = maybe_pieces.items; region = region; maybe_cells = maybe_cells.items } }
     {
         Puzzle {
@@ -44,7 +47,8 @@ impl Puzzle {
 
     /// The pieces by name, in the order of the text. Each has its least corner at 0 0 0.
     pub fn pieces(&self) -> &IndexMap<PieceName, Shape>
-        ensures { result.now.entries ≡ self.now.pieces }
+        ensures value { result.now.entries ≡ self.now.pieces }
+        ensures puzzle { IsPuzzle self.now }
     {
         &self.pieces
     }
@@ -58,7 +62,8 @@ impl Puzzle {
 
     /// The region.
     pub fn region(&self) -> &Shape
-        ensures { result.now ≡ self.now.region }
+        ensures value { result.now ≡ self.now.region }
+        ensures puzzle { IsPuzzle self.now }
     {
         &self.region
     }

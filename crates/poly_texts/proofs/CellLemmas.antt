@@ -1,9 +1,9 @@
 -- How sets of cells are gathered one by one.
-use Rattle.std.proofs.Common.{◌≡◌, ◌<◌, ◌≤◌, ℕ, zero, suc, ◌+◌, List, [], ◌∷◌, ◌++◌, map, filter, flat_map, length, take, get_or, Bool, true, false, not, cond, refl, sym, ap, ◌∙◌, arith, append_assoc, append-nil, add-one}
-use Rattle.std.specs.List.{list_any, range_with_len}
+use Rattle.std.proofs.Common.{◌≡◌, ◌<◌, ℕ, zero, suc, ◌+◌, List, [], ◌∷◌, ◌++◌, map, filter, flat_map, length, take, get_or, Bool, true, false, not, cond, refl, sym, ap, ◌∙◌, arith, append_assoc, append-nil, add-one}
+use Rattle.std.specs.List.{range_with_len}
 use Rattle.std.proofs.Math.Seq.{take-suc}
-use Rattle.poly_cells.specs.Places.{Place, place}
-use Rattle.poly_texts.specs.Cells.{has_place, with_cell, with_cells, without, row}
+use Rattle.poly_cells.specs.Places.{Place}
+use Rattle.poly_texts.specs.Cells.{has_place, with_cell, with_cells, without}
 
 pub with_cells-append : (s xs ys : List Place) → with_cells s (xs ++ ys) ≡ with_cells (with_cells s xs) ys
 unfolding with_cells

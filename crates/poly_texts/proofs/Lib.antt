@@ -7,3 +7,7 @@ pub mod TogetherLemmas
 pub mod MemberLemmas
 pub mod TextLemmas
 pub mod PuzzleLemmas
+pub mod CellExamples
+pub mod WordExamples
+pub mod ReadingExamples
+pub mod GrammarExamples

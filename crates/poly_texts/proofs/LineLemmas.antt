@@ -1,23 +1,21 @@
 -- A line that is taken is a line within the limits, and what it adds to what is said.
-use Rattle.std.proofs.Common.{◌≡◌, ◌<◌, ◌≤◌, ◌⊎◌, inl, inr, ℕ, ◌+◌, List, [], ◌∷◌, ◌++◌, map, length, Bool, true, false, cond, not, ◌&&◌, nat_lt, nat_le, Option, Some, None, Result, Ok, Err, refl, sym, ap, ◌∙◌, subst, arith, codes, decimal, bytes_eq, lt-ltb, le-leb, ltb-true, leb-true}
+use Rattle.std.proofs.Common.{◌≡◌, ◌<◌, ◌≤◌, ◌⊎◌, inl, inr, ℕ, List, [], ◌∷◌, map, length, Bool, true, false, cond, not, ◌&&◌, nat_lt, nat_le, Option, Some, None, Ok, Err, refl, sym, ap, ◌∙◌, subst, arith, codes, decimal, bytes_eq, lt-ltb, le-leb, ltb-true, leb-true}
 use Rattle.std.specs.List.{list_all}
 use Rattle.std.specs.Cmp.Lexicographic.{bytes_decides}
 use Rattle.std.proofs.lemmas.Bool.{and_parts, and_from, not-true, not-false, not_from_false}
-use Rattle.std.proofs.lemmas.List.{length-map}
 use Rattle.text_lines.specs.Lines.{is_empty}
 use Rattle.text_lines.specs.Each.{each, ◌>>=◌}
 use Rattle.poly_cells.specs.Places.{Place}
-use Rattle.poly_texts.specs.declared.fault.Fault.{Fault}
 use Rattle.poly_texts.specs.declared.fault.Fault.TheVariants.{BadLine, RepeatedPiece, SecondBox, TooLarge}
 use Rattle.poly_texts.specs.declared.key.Key.{Key}
 use Rattle.poly_texts.specs.declared.key.Key.TheVariants as keys
-use Rattle.poly_texts.specs.Cells.{has_place, with_cells}
+use Rattle.poly_texts.specs.Cells.{with_cells}
 use Rattle.poly_texts.specs.Words.{piece_name, is_name, are_sizes, are_small, is_size, size_of}
 use Rattle.poly_texts.specs.Reading.{Said, kept_shape, shape_of, within, has_piece, with_piece, is_new, new_name, add_cell, add_piece_cell, three, with_box, sized_box, piece_line, box_line, cells_line, maybe_cells_line, cut_line, key_from, maybe_keyed, maybe_line, keyed_line, words_line}
 use Rattle.poly_texts.specs.Grammar.{Line, piece, box, cells, cut, cell_word, maybe_words, line_words, is_place, are_places, are_apart, is_side, is_line}
 use Rattle.poly_texts.proofs.StepLemmas.{ok_is, no_fault, bind_ok, unrefused, granted}
 use Rattle.poly_texts.proofs.ReadingLemmas.{piece_read, name_found}
-use Rattle.poly_texts.proofs.SpellingLemmas.{chosen, words_same, cells_again, cells_are, AreCells, piece_again, piece_cells_are, AreTaken, name_again, name_is, side_again, side_is}
+use Rattle.poly_texts.proofs.SpellingLemmas.{chosen, words_same, cells_again, cells_are, piece_again, piece_cells_are, name_again, name_is, side_again, side_is}
 
 -- what is said with one more line
 abbrev pub plus : Said → Line → Said
@@ -60,7 +58,7 @@ piece_again_line s optional name cs is fit =
     let r = and_parts (are_apart cs) (nat_le (length cs) 64) q.1 in
     let u = and_parts (nat_lt 0 (length cs)) (list_all is_place cs) q.0 in
     piece_read s optional ((name ∷ []) ∷ map cell_word cs) (name ∷ []) (map cell_word cs) name (kept_shape cs) refl (some_words cs (ltb-true 0 (length cs) u.0))
-      (name_found s.pieces (name ∷ []) name (sym (name_again name p.0)) (not-true _ fit)) (shape_again cs u.1 r.0 (leb-true (length cs) 64 r.1))
+    (name_found s.pieces (name ∷ []) name (sym (name_again name p.0)) (not-true _ fit)) (shape_again cs u.1 r.0 (leb-true (length cs) 64 r.1))
 
 box_again_line : (s : Said) (a b c : ℕ) → is_line (box a b c) ≡ true → is_fit s (box a b c) ≡ true → box_line s (decimal a ∷ decimal b ∷ decimal c ∷ []) ≡ Ok (with_box s a b c)
 unfolding box_line
@@ -143,7 +141,7 @@ shape_parts words shape h =
     (b.0, b.1, ok_is (kept_shape b.0) shape b.2)
 
 piece_parts : (s : Said) (optional : Bool) (word : List ℕ) (words : List (List ℕ)) (t : Said) → piece_line s optional (word ∷ words) ≡ Ok t →
-  (is_empty words ≡ false) × ((name : ℕ) × (new_name s.pieces word ≡ Ok name) × ((shape : List Place) × (shape_of words ≡ Ok shape) × (with_piece s optional name shape ≡ t)))
+    (is_empty words ≡ false) × ((name : ℕ) × (new_name s.pieces word ≡ Ok name) × ((shape : List Place) × (shape_of words ≡ Ok shape) × (with_piece s optional name shape ≡ t)))
 unfolding piece_line
 piece_parts s optional word words t h =
     let u = unrefused (is_empty words) BadLine (new_name s.pieces word >>= λ name. shape_of words >>= λ shape. Ok (with_piece s optional name shape)) t h in
@@ -284,24 +282,32 @@ key_is word k h = piece_key (chosen (bytes_eq word (codes "piece")) (Some keys.P
   where
     after_cut : Option Key
     after_cut = cond (bytes_eq word (codes "maybe")) (Some keys.Maybe) None
+
     after_cells : Option Key
     after_cells = cond (bytes_eq word (codes "cut")) (Some keys.Cut) after_cut
+
     after_box : Option Key
     after_box = cond (bytes_eq word (codes "cells")) (Some keys.Cells) after_cells
+
     after_piece : Option Key
     after_piece = cond (bytes_eq word (codes "box")) (Some keys.Box) after_box
+
     maybe_key : ((bytes_eq word (codes "maybe") ≡ true) × (◌≡◌ {A = Option Key} (Some keys.Maybe) (Some k))) ⊎ ((bytes_eq word (codes "maybe") ≡ false) × (◌≡◌ {A = Option Key} None (Some k))) → word ≡ key_word k
     maybe_key (inl e) = (bytes_decides word (codes "maybe")).0 e.0 ∙ ap key_word (some_key keys.Maybe k e.1)
     maybe_key (inr e) = absurd (no_key k e.1)
+
     cut_key : ((bytes_eq word (codes "cut") ≡ true) × (◌≡◌ {A = Option Key} (Some keys.Cut) (Some k))) ⊎ ((bytes_eq word (codes "cut") ≡ false) × (after_cut ≡ Some k)) → word ≡ key_word k
     cut_key (inl e) = (bytes_decides word (codes "cut")).0 e.0 ∙ ap key_word (some_key keys.Cut k e.1)
     cut_key (inr e) = maybe_key (chosen (bytes_eq word (codes "maybe")) (Some keys.Maybe) None (Some k) e.1)
+
     cells_key : ((bytes_eq word (codes "cells") ≡ true) × (◌≡◌ {A = Option Key} (Some keys.Cells) (Some k))) ⊎ ((bytes_eq word (codes "cells") ≡ false) × (after_cells ≡ Some k)) → word ≡ key_word k
     cells_key (inl e) = (bytes_decides word (codes "cells")).0 e.0 ∙ ap key_word (some_key keys.Cells k e.1)
     cells_key (inr e) = cut_key (chosen (bytes_eq word (codes "cut")) (Some keys.Cut) after_cut (Some k) e.1)
+
     box_key : ((bytes_eq word (codes "box") ≡ true) × (◌≡◌ {A = Option Key} (Some keys.Box) (Some k))) ⊎ ((bytes_eq word (codes "box") ≡ false) × (after_box ≡ Some k)) → word ≡ key_word k
     box_key (inl e) = (bytes_decides word (codes "box")).0 e.0 ∙ ap key_word (some_key keys.Box k e.1)
     box_key (inr e) = cells_key (chosen (bytes_eq word (codes "cells")) (Some keys.Cells) after_cells (Some k) e.1)
+
     piece_key : ((bytes_eq word (codes "piece") ≡ true) × (◌≡◌ {A = Option Key} (Some keys.Piece) (Some k))) ⊎ ((bytes_eq word (codes "piece") ≡ false) × (after_piece ≡ Some k)) → word ≡ key_word k
     piece_key (inl e) = (bytes_decides word (codes "piece")).0 e.0 ∙ ap key_word (some_key keys.Piece k e.1)
     piece_key (inr e) = box_key (chosen (bytes_eq word (codes "box")) (Some keys.Box) after_box (Some k) e.1)

@@ -1,7 +1,7 @@
 -- The region has the cells that are named and not cut, however often they are.
-use Rattle.std.proofs.Common.{◌≡◌, ◌⊎◌, inl, inr, ℕ, ◌==◌, List, [], ◌∷◌, ◌++◌, filter, flat_map, length, Bool, true, false, cond, not, ◌&&◌, ◌||◌, refl, sym, ap, ◌∙◌, subst}
-use Rattle.std.specs.List.{list_all, list_any}
-use Rattle.std.proofs.lemmas.Bool.{and_parts, and_from, or_parts, or_from}
+use Rattle.std.proofs.Common.{◌≡◌, ◌⊎◌, inl, inr, List, [], ◌∷◌, ◌++◌, Bool, true, false, cond, not, ◌&&◌, ◌||◌, refl, sym, ap, ◌∙◌}
+use Rattle.std.specs.List.{list_all}
+use Rattle.std.proofs.lemmas.Bool.{and_parts}
 use Rattle.std.proofs.lemmas.List.Folds.{list_any-append}
 use Rattle.poly_cells.specs.Places.{Place, place_cmp}
 use Rattle.poly_cells.specs.Sets.{IsIn, in_order}
@@ -60,7 +60,7 @@ has_left cut [] c = refl
 has_left cut (d ∷ cells) c = by_test (has_place cut d) refl (is_same c d) refl (has_left cut cells c)
   where
     by_test : (b : Bool) → has_place cut d ≡ b → (e : Bool) → is_same c d ≡ e → has_place (without cut cells) c ≡ (has_place cells c && not (has_place cut c)) →
-      has_place (cond (not b) (d ∷ without cut cells) (without cut cells)) c ≡ ((e || has_place cells c) && not (has_place cut c))
+        has_place (cond (not b) (d ∷ without cut cells) (without cut cells)) c ≡ ((e || has_place cells c) && not (has_place cut c))
     by_test true h true e l =
         let m : c ≡ d = (same_place_Decides c d).0 e in
         let k : has_place cut c ≡ true = rw m h in
@@ -80,8 +80,8 @@ has_left cut (d ∷ cells) c = by_test (has_place cut d) refl (is_same c d) refl
 pub same_in_order : (xs ys : List Place) → ((c : Place) → has_place xs c ≡ has_place ys c) → in_order place_cmp xs ≡ in_order place_cmp ys
 same_in_order xs ys h =
     same_members place_total (in_order place_cmp xs) (in_order place_cmp ys) (in_order_rises place_total xs) (in_order_rises place_total ys)
-      (λ c i. in_to_order place_exact c ys (in_from_has ys c (sym (h c) ∙ has_from_in xs c (in_from_order place_cmp c xs i))))
-      (λ c i. in_to_order place_exact c xs (in_from_has xs c (h c ∙ has_from_in ys c (in_from_order place_cmp c ys i))))
+    (λ c i. in_to_order place_exact c ys (in_from_has ys c (sym (h c) ∙ has_from_in xs c (in_from_order place_cmp c xs i))))
+    (λ c i. in_to_order place_exact c xs (in_from_has xs c (h c ∙ has_from_in ys c (in_from_order place_cmp c ys i))))
 
 -- cutting and taking once don't depend on repeats
 pub left_once : (cut cells : List Place) → in_order place_cmp (without (with_cells [] cut) (with_cells [] cells)) ≡ in_order place_cmp (without cut cells)
@@ -110,5 +110,6 @@ needs_same cut named maybe = all_same (has_place (with_cells [] maybe)) (has_pla
     and_true : (a : Bool) → (a && true) ≡ a
     and_true true = refl
     and_true false = refl
+
     kept : (c : Place) → IsIn c (in_order place_cmp (without cut named)) → not (has_place cut c) ≡ true
     kept c i = (and_parts (has_place named c) (not (has_place cut c)) (sym (has_left cut named c) ∙ has_from_in (without cut named) c (in_from_order place_cmp c (without cut named) i))).1

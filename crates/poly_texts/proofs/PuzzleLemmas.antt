@@ -1,6 +1,6 @@
 -- What a text says is a puzzle.
-use Rattle.std.proofs.Common.{◌≡◌, ◌<◌, ◌≤◌, inl, inr, ℕ, ◌+◌, ◌==◌, List, [], ◌∷◌, ◌++◌, map, filter, flat_map, length, Bool, true, false, cond, not, ◌&&◌, ◌||◌, nat_le, Ok, refl, sym, ap, ◌∙◌, subst, arith, le_refl, le_trans, eq-eqb}
-use Rattle.std.specs.List.{list_all, list_any}
+use Rattle.std.proofs.Common.{◌≡◌, ◌<◌, ◌≤◌, inl, inr, ℕ, ◌+◌, ◌==◌, List, [], ◌∷◌, filter, flat_map, length, Bool, true, false, cond, not, ◌&&◌, ◌||◌, nat_le, Ok, refl, sym, ◌∙◌, subst, arith, le_trans, eq-eqb}
+use Rattle.std.specs.List.{list_all}
 use Rattle.std.specs.declared.cmp.Ordering.{Ordering}
 use Rattle.std.specs.declared.cmp.Ordering.TheVariants.{Less, Equal, Greater}
 use Rattle.std.proofs.lemmas.Bool.{and_parts, and_from}
@@ -11,9 +11,9 @@ use Rattle.poly_cells.proofs.SetLemmas.{in_order_rises}
 use Rattle.poly_cells.proofs.PlaceLemmas.{place_total}
 use Rattle.poly_texts.specs.Cells.{is_same, has_place, with_cells, without}
 use Rattle.poly_texts.specs.Words.{is_name}
-use Rattle.poly_texts.specs.Puzzle.{PuzzleValue, IsPuzzle, names_of, has_name, are_new, needs_nothing}
-use Rattle.poly_texts.specs.Reading.{Said, lines_read, whole, puzzle_of}
-use Rattle.poly_texts.specs.Grammar.{Line, piece, box, cells, cut, is_line, are_places, are_apart, piece_of, maybe_name_of, named_by, maybe_by, cut_by, puzzle_by, IsPuzzleText}
+use Rattle.poly_texts.specs.Puzzle.{PuzzleValue, IsPuzzle, names_of, has_name, needs_nothing}
+use Rattle.poly_texts.specs.Reading.{Said, lines_read, whole}
+use Rattle.poly_texts.specs.Grammar.{Line, piece, box, cells, cut, is_line, are_places, are_apart, piece_of, maybe_name_of, named_by, maybe_by, cut_by, IsPuzzleText}
 use Rattle.text_lines.specs.Lines.{lines_of}
 use Rattle.poly_texts.proofs.MemberLemmas.{has_left, has_ordered, has_from_in, left_once}
 use Rattle.poly_texts.proofs.ReadingLemmas.{text_read}
@@ -99,13 +99,13 @@ left_few t (x ∷ xs) = by_test (t x) (left_few t xs)
 region_few : (gone named : List Place) → length (with_cells [] named) ≤ 4096 → length (in_order place_cmp (without gone named)) ≤ 4096
 region_few gone named h =
     subst (λ r. length r ≤ 4096) (left_once gone named)
-      (le_trans (ordered_few (without (with_cells [] gone) (with_cells [] named))) (le_trans (left_few (λ c. not (has_place (with_cells [] gone) c)) (with_cells [] named)) h))
+    (le_trans (ordered_few (without (with_cells [] gone) (with_cells [] named))) (le_trans (left_few (λ c. not (has_place (with_cells [] gone) c)) (with_cells [] named)) h))
 
 maybe_left : (gone named maybe : List Place) → ((c : Place) → has_place maybe c ≡ true → has_place named c ≡ true) → list_all (has_place (in_order place_cmp (without gone named))) (in_order place_cmp (without gone maybe)) ≡ true
 maybe_left gone named maybe f = all_in (has_place (in_order place_cmp (without gone named))) (in_order place_cmp (without gone maybe))
     (λ c i.
-      let p = and_parts (has_place maybe c) (not (has_place gone c)) (sym (has_ordered (without gone maybe) c ∙ has_left gone maybe c) ∙ has_from_in (in_order place_cmp (without gone maybe)) c i) in
-      has_ordered (without gone named) c ∙ has_left gone named c ∙ and_from _ _ (f c p.0) p.1)
+    let p = and_parts (has_place maybe c) (not (has_place gone c)) (sym (has_ordered (without gone maybe) c ∙ has_left gone maybe c) ∙ has_from_in (in_order place_cmp (without gone maybe)) c i) in
+    has_ordered (without gone named) c ∙ has_left gone named c ∙ and_from _ _ (f c p.0) p.1)
 
 -- *the puzzle*
 

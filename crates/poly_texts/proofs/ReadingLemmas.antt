@@ -1,10 +1,9 @@
 -- How the reader's steps give what a text says.
-use Rattle.std.proofs.Common.{◌≡◌, ◌<◌, ◌≤◌, ℕ, ◌+◌, ◌==◌, List, [], ◌∷◌, ◌++◌, map, length, Bool, true, false, cond, ◌||◌, Option, Some, None, is_some, Result, Ok, Err, refl, sym, ap, ◌∙◌, arith}
-use Rattle.std.specs.List.{list_any}
+use Rattle.std.proofs.Common.{◌≡◌, ℕ, ◌+◌, ◌==◌, List, [], ◌∷◌, ◌++◌, length, Bool, true, false, cond, ◌||◌, Some, None, is_some, Result, Ok, Err, refl, sym, ap, ◌∙◌, arith}
 use Rattle.std.specs.Map.{lookup}
 use Rattle.indexmap.specs.IndexMap.{insert_entry}
 use Rattle.text_lines.specs.Lines.{lines_of, is_empty}
-use Rattle.text_lines.specs.Each.{each, ◌>>=◌}
+use Rattle.text_lines.specs.Each.{each}
 use Rattle.text_lines.proofs.EachLemmas.{each_goes, each_stops, each_ends}
 use Rattle.poly_cells.specs.Places.{Place, place_cmp}
 use Rattle.poly_texts.specs.declared.fault.Fault.{Fault}
@@ -18,7 +17,7 @@ use Rattle.poly_cells.specs.Sets.{in_order}
 use Rattle.poly_texts.specs.Cells.{without}
 use Rattle.poly_texts.specs.Words.{piece_name}
 use Rattle.poly_texts.specs.Puzzle.{PuzzleValue}
-use Rattle.poly_texts.specs.Reading.{Said, three, has_piece, new_name, shape_of, with_piece, piece_line, line, at_line, numbered_line, lines_read, region_of, whole_fault, whole, at_end, puzzle_of}
+use Rattle.poly_texts.specs.Reading.{Said, three, has_piece, new_name, shape_of, with_piece, piece_line, line, at_line, numbered_line, lines_read, region_of, whole_fault, whole, puzzle_of}
 
 -- *words*
 
@@ -101,7 +100,7 @@ text_ends s n rest all so_far none = each_ends numbered_line (s, n) (lines_of re
 
 -- where nothing is missing, the puzzle has these parts
 pub whole_read : (s : Said) (region maybe : List Place) → region ≡ region_of s → maybe ≡ in_order place_cmp (without s.cut s.maybe_cells) → None ≡ whole_fault s.pieces s.maybe_pieces region s.maybe_cells →
-  whole s ≡ Ok (record { pieces = s.pieces; maybe_pieces = s.maybe_pieces; region = region; maybe_cells = maybe })
+    whole s ≡ Ok (record { pieces = s.pieces; maybe_pieces = s.maybe_pieces; region = region; maybe_cells = maybe })
 unfolding whole
 whole_read s region maybe e f none =
     let h : whole_fault s.pieces s.maybe_pieces (region_of s) s.maybe_cells ≡ None = sym (none ∙ ap (λ r. whole_fault s.pieces s.maybe_pieces r s.maybe_cells) e) in

@@ -1,20 +1,19 @@
 -- Words have one spelling.
-use Rattle.std.proofs.Common.{◌≡◌, ◌<◌, ◌≤◌, ◌⊎◌, inl, inr, ℕ, zero, suc, ◌+◌, ◌-◌, ◌^◌, ◌==◌, List, [], ◌∷◌, ◌++◌, map, length, Bool, true, false, cond, not, ◌&&◌, ◌||◌, nat_lt, nat_le, Option, Some, None, Result, Ok, Err, refl, sym, ap, ◌∙◌, arith, codes, decimal, bytes_eq, append_assoc, append-nil, length-append, lt-ltb, le-leb, ltb-true, leb-true, ltb-false, true≢false, subst, lit<}
-use Rattle.std.specs.List.{list_all, list_any}
+use Rattle.std.proofs.Common.{◌≡◌, ◌<◌, ◌≤◌, ◌⊎◌, inl, inr, ℕ, zero, suc, ◌+◌, ◌-◌, List, [], ◌∷◌, ◌++◌, map, length, Bool, true, false, cond, not, ◌&&◌, nat_lt, nat_le, Option, Some, None, Ok, refl, sym, ap, ◌∙◌, arith, codes, decimal, bytes_eq, append_assoc, append-nil, length-append, lt-ltb, le-leb, ltb-true, leb-true, ltb-false, true≢false, subst, lit<}
+use Rattle.std.specs.List.{list_all}
 use Rattle.std.specs.Cmp.Lexicographic.{bytes_decides}
 use Rattle.std.proofs.lemmas.Bool.{and_parts, and_from, or_parts, or_from, not-true, not_from_false}
 use Rattle.std.proofs.lemmas.Bool.Decides.{nat_tests}
 use Rattle.std.proofs.lemmas.List.Folds.{list_any-append}
 use Rattle.text_lines.specs.Numbers.{is_decimal, value_after, number_of}
-use Rattle.text_lines.specs.Each.{each, ◌>>=◌}
+use Rattle.text_lines.specs.Each.{each}
 use Rattle.text_lines.proofs.NumberLemmas.{reads_printed, printed_again}
 use Rattle.poly_cells.specs.Places.{Place, place}
-use Rattle.poly_texts.specs.declared.fault.Fault.{Fault}
 use Rattle.poly_texts.specs.Cells.{is_same, has_place, with_cell, with_cells}
 use Rattle.poly_texts.specs.Words.{coordinate, cell_at, cell_of, is_name, piece_name, is_size, size_of}
-use Rattle.poly_texts.specs.Reading.{known, new_cell, add_cell, add_piece_cell}
+use Rattle.poly_texts.specs.Reading.{known, add_cell, add_piece_cell}
 use Rattle.poly_texts.specs.Grammar.{symbol, cell_word, is_place, are_apart, is_side}
-use Rattle.poly_texts.proofs.StepLemmas.{ok_is, no_fault, bind_ok, each_parts, each_none, known_is, cell_taken, IsTaken}
+use Rattle.poly_texts.proofs.StepLemmas.{ok_is, bind_ok, each_parts, each_none, known_is, cell_taken}
 
 pub chosen : {A : Type 0} (b : Bool) (x y z : A) → cond b x y ≡ z → ((b ≡ true) × (x ≡ z)) ⊎ ((b ≡ false) × (y ≡ z))
 chosen true x y z h = inl (refl, h)
@@ -62,6 +61,7 @@ symbol_is b n h = digit (chosen (nat_le 48 b && nat_le b 57) (Some (b - 48)) (co
         let f : nat_lt n 10 ≡ false = grind (arith, nat_tests) in
         (omega arith, rw f (omega arith))
     letter (inr e) = absurd (none_some n e.1)
+
     digit : ((nat_le 48 b && nat_le b 57) ≡ true) × (◌≡◌ {A = Option ℕ} (Some (b - 48)) (Some n)) ⊎ ((nat_le 48 b && nat_le b 57) ≡ false) × (cond (nat_le 97 b && nat_le b 118) (Some (b - 87)) None ≡ Some n) → (n ≤ 31) × (b ≡ symbol n)
     digit (inl e) =
         let p = and_parts (nat_le 48 b) (nat_le b 57) e.0 in

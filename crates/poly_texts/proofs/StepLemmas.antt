@@ -1,12 +1,11 @@
 -- What a step that gave something did.
-use Rattle.std.proofs.Common.{◌≡◌, ◌<◌, ◌≤◌, ◌⊎◌, inl, inr, ℕ, ◌+◌, List, [], ◌∷◌, ◌++◌, length, Bool, true, false, cond, nat_lt, Option, Some, None, Result, Ok, Err, refl, sym, ap, ◌∙◌, arith, length-append}
+use Rattle.std.proofs.Common.{◌≡◌, ◌<◌, ℕ, ◌+◌, List, [], ◌∷◌, ◌++◌, length, Bool, true, false, cond, nat_lt, Option, Some, None, Result, Ok, Err, refl, sym, ap, arith, length-append}
 use Rattle.std.specs.declared.cmp.Ordering.{Ordering}
 use Rattle.std.specs.declared.cmp.Ordering.TheVariants.{Less, Equal, Greater}
 use Rattle.text_lines.specs.Lines.{is_empty}
 use Rattle.text_lines.specs.Each.{each, ◌>>=◌}
 use Rattle.poly_cells.specs.Places.{Place, place_cmp}
 use Rattle.poly_cells.specs.Sets.{in_order, insert_in, by_order}
-use Rattle.poly_texts.specs.declared.fault.Fault.{Fault}
 use Rattle.poly_texts.specs.declared.fault.Fault.TheVariants.{BadCell, RepeatedCell, TooLarge}
 use Rattle.poly_texts.specs.Cells.{has_place}
 use Rattle.poly_texts.specs.Words.{cell_of}

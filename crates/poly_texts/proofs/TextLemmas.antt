@@ -1,23 +1,22 @@
 -- What is read is a puzzle's text, and a puzzle's text is read as that puzzle.
-use Rattle.std.proofs.Common.{◌≡◌, ◌<◌, ◌≤◌, ◌⊎◌, inl, inr, ℕ, ◌+◌, ◌==◌, List, [], ◌∷◌, ◌++◌, map, filter, flat_map, length, Bool, true, false, cond, not, ◌&&◌, Option, Some, None, Result, Ok, Err, refl, sym, ap, ◌∙◌, subst, arith}
+use Rattle.std.proofs.Common.{◌≡◌, ◌<◌, ℕ, ◌+◌, ◌==◌, List, [], ◌∷◌, map, filter, flat_map, length, Bool, true, false, cond, not, ◌&&◌, Option, Some, None, Result, Ok, Err, refl, sym, ap, ◌∙◌, subst, arith}
 use Rattle.std.specs.List.{list_all}
 use Rattle.std.proofs.lemmas.Bool.{and_parts, and_from}
 use Rattle.std.proofs.lemmas.Bool.Decides.{nat_tests}
-use Rattle.text_lines.specs.Lines.{lines_of, words_of, outside_comment, is_plain, is_empty}
+use Rattle.text_lines.specs.Lines.{lines_of, outside_comment, is_plain, is_empty}
 use Rattle.text_lines.specs.Writing.{said, are_plain}
-use Rattle.text_lines.specs.Each.{each, ◌>>=◌}
+use Rattle.text_lines.specs.Each.{each}
 use Rattle.poly_cells.specs.Places.{Place, place_cmp}
 use Rattle.poly_cells.specs.Sets.{in_order}
 use Rattle.poly_texts.specs.declared.fault.Fault.{Fault}
 use Rattle.poly_texts.specs.declared.fault.Fault.TheVariants.{BadLine, EmptyRegion, NoPiece, NothingRequired}
-use Rattle.poly_texts.specs.Cells.{has_place, with_cells, without}
+use Rattle.poly_texts.specs.Cells.{with_cells, without}
 use Rattle.poly_texts.specs.Puzzle.{PuzzleValue, names_of, has_name, needs_nothing}
 use Rattle.poly_texts.specs.Reading.{Said, nothing, words_line, line, at_line, numbered_line, lines_read, region_of, whole_fault, puzzle_said, unless, whole, at_end, puzzle_of}
-use Rattle.poly_texts.specs.Grammar.{Line, line_words, is_line, piece_of, maybe_name_of, named_by, maybe_by, cut_by, puzzle_by, IsPuzzleText}
+use Rattle.poly_texts.specs.Grammar.{Line, line_words, is_line, named_by, maybe_by, cut_by, puzzle_by, IsPuzzleText}
 use Rattle.poly_texts.proofs.StepLemmas.{ok_is, no_fault, bind_ok, each_parts, each_none, granted}
-use Rattle.poly_texts.proofs.SpellingLemmas.{chosen}
 use Rattle.poly_texts.proofs.ReadingLemmas.{text_read}
-use Rattle.poly_texts.proofs.LineLemmas.{plus, is_fit, line_again, line_is, IsTakenLine}
+use Rattle.poly_texts.proofs.LineLemmas.{plus, is_fit, line_again, line_is}
 use Rattle.poly_texts.proofs.TogetherLemmas.{all_fit, plus_all, all_pieces, all_names, all_named, all_maybe, all_cut, lines_together, together_lines}
 use Rattle.poly_texts.proofs.MemberLemmas.{left_once, needs_same}
 
@@ -86,6 +85,7 @@ lines_say (bytes ∷ texts) s t n m h = step (lines_say texts) (each_parts numbe
           fit = and_from _ _ k.good (and_from _ _ k.fits (subst (λ u. all_fit u later.lines ≡ true) k.more later.fit));
           more = later.more ∙ ap (λ u. plus_all u later.lines) k.more;
         }
+
     step : ((s t : Said) (n m : ℕ) → each numbered_line (s, n) texts ≡ Ok (t, m) → SaysAll s texts t) → (u : Said × ℕ) × (numbered_line (s, n) bytes ≡ Ok u) × (each numbered_line u texts ≡ Ok (t, m)) → SaysAll s (bytes ∷ texts) t
     step later (u, a, b) =
         let d = line_done s n bytes u a in
@@ -110,29 +110,34 @@ each_said (bytes ∷ texts) lines s n plain says fit = by_words (λ ls u. each_s
   where
     parts : (list_all is_plain (outside_comment bytes) ≡ true) × (are_plain texts ≡ true)
     parts = and_parts (list_all is_plain (outside_comment bytes)) (are_plain texts) plain
+
     go_on : (u : Said) → words_line s (said bytes) ≡ Ok u → (t : Said) → (m : ℕ) × (each numbered_line (u, n + 1) texts ≡ Ok (t, m)) → (m : ℕ) × (each numbered_line (s, n) (bytes ∷ texts) ≡ Ok (t, m))
     go_on u a t (m, b) = (m, rw (numbered_again s u n bytes parts.0 a) b)
+
     first : {w v : List (List ℕ)} {ws vs : List (List (List ℕ))} → w ∷ ws ≡ v ∷ vs → w ≡ v
     first e = cc
+
     others : {w v : List (List ℕ)} {ws vs : List (List (List ℕ))} → w ∷ ws ≡ v ∷ vs → ws ≡ vs
     others e = cc
+
     by_line : ((ls : List Line) (u : Said) → are_plain texts ≡ true → kept (map said texts) ≡ map line_words ls → all_fit u ls ≡ true → (m : ℕ) × (each numbered_line (u, n + 1) texts ≡ Ok (plus_all u ls, m))) →
-      (key : List ℕ) (words : List (List ℕ)) → said bytes ≡ key ∷ words → (ls : List Line) → (key ∷ words) ∷ kept (map said texts) ≡ map line_words ls → all_fit s ls ≡ true → (m : ℕ) × (each numbered_line (s, n) (bytes ∷ texts) ≡ Ok (plus_all s ls, m))
+        (key : List ℕ) (words : List (List ℕ)) → said bytes ≡ key ∷ words → (ls : List Line) → (key ∷ words) ∷ kept (map said texts) ≡ map line_words ls → all_fit s ls ≡ true → (m : ℕ) × (each numbered_line (s, n) (bytes ∷ texts) ≡ Ok (plus_all s ls, m))
     by_line later key words e [] h f = absurd (cc)
     by_line later key words e (l ∷ ls) h f =
         let p = and_parts (is_line l) (is_fit s l && all_fit (plus s l) ls) f in
         let q = and_parts (is_fit s l) (all_fit (plus s l) ls) p.1 in
         let w : words_line s (said bytes) ≡ Ok (plus s l) = ap (words_line s) (e ∙ first h) ∙ line_again s l p.0 q.0 in
         go_on (plus s l) w (plus_all (plus s l) ls) (later ls (plus s l) parts.1 (others h) q.1)
+
     by_words : ((ls : List Line) (u : Said) → are_plain texts ≡ true → kept (map said texts) ≡ map line_words ls → all_fit u ls ≡ true → (m : ℕ) × (each numbered_line (u, n + 1) texts ≡ Ok (plus_all u ls, m))) →
-      (words : List (List ℕ)) → said bytes ≡ words → (m : ℕ) × (each numbered_line (s, n) (bytes ∷ texts) ≡ Ok (plus_all s lines, m))
+        (words : List (List ℕ)) → said bytes ≡ words → (m : ℕ) × (each numbered_line (s, n) (bytes ∷ texts) ≡ Ok (plus_all s lines, m))
     by_words later [] e = go_on s (blank_again s (said bytes) e) (plus_all s lines) (later lines s parts.1 (sym (kept_none (said bytes) (map said texts) e) ∙ says) fit)
     by_words later (key ∷ words) e = by_line later key words e lines (sym (kept_some (said bytes) (map said texts) key words e) ∙ says) fit
 
 -- *the whole text*
 
 parts_same : {ps qs : List (ℕ × List Place)} {ns ms : List ℕ} {rs ss cs ds : List Place} → ps ≡ qs → ns ≡ ms → rs ≡ ss → cs ≡ ds →
-  ◌≡◌ {A = PuzzleValue} (record { pieces = ps; maybe_pieces = ns; region = rs; maybe_cells = cs }) (record { pieces = qs; maybe_pieces = ms; region = ss; maybe_cells = ds })
+    ◌≡◌ {A = PuzzleValue} (record { pieces = ps; maybe_pieces = ns; region = rs; maybe_cells = cs }) (record { pieces = qs; maybe_pieces = ms; region = ss; maybe_cells = ds })
 parts_same a b c d = cc
 
 module _ (ls : List Line) where
@@ -162,7 +167,7 @@ module _ (ls : List Line) where
       ∙ ap (λ cs. whole_fault (puzzle_by ls).pieces (puzzle_by ls).maybe_pieces cs (plus_all nothing ls).maybe_cells) region_same
       ∙ ap (λ cs. whole_fault (puzzle_by ls).pieces (puzzle_by ls).maybe_pieces (puzzle_by ls).region cs) (all_maybe nothing ls)
       ∙ ap (λ b. cond (length (puzzle_by ls).region == 0) (Some EmptyRegion) (cond (length (puzzle_by ls).pieces == 0) (Some NoPiece) (cond (list_all (has_name (puzzle_by ls).maybe_pieces) (names_of (puzzle_by ls).pieces) && b) (Some NothingRequired) None)))
-          (needs_same (flat_map cut_by ls) (flat_map named_by ls) (flat_map maybe_by ls))
+      (needs_same (flat_map cut_by ls) (flat_map named_by ls) (flat_map maybe_by ls))
 
   whole_again : fault_at_end ≡ None → whole (plus_all nothing ls) ≡ Ok (puzzle_by ls)
   unfolding whole
@@ -199,9 +204,11 @@ faultless p h = by_region (length p.region == 0) refl h
     by_needs : (b : Bool) → cond b (Some NothingRequired) None ≡ None → b ≡ false
     by_needs true h = some_is_not_none NothingRequired h
     by_needs false h = refl
+
     by_pieces : (b : Bool) → (length p.pieces == 0) ≡ b → cond b (Some NoPiece) (cond (needs_nothing p.pieces p.maybe_pieces p.region p.maybe_cells) (Some NothingRequired) None) ≡ None → (0 < length p.pieces) × (needs_nothing p.pieces p.maybe_pieces p.region p.maybe_cells ≡ false)
     by_pieces true e h = some_is_not_none NoPiece h
     by_pieces false e h = (not_none (length p.pieces) e, by_needs (needs_nothing p.pieces p.maybe_pieces p.region p.maybe_cells) h)
+
     by_region : (b : Bool) → (length p.region == 0) ≡ b → cond b (Some EmptyRegion) (cond (length p.pieces == 0) (Some NoPiece) (cond (needs_nothing p.pieces p.maybe_pieces p.region p.maybe_cells) (Some NothingRequired) None)) ≡ None → (0 < length p.region) × (0 < length p.pieces) × (needs_nothing p.pieces p.maybe_pieces p.region p.maybe_cells ≡ false)
     by_region true e h = some_is_not_none EmptyRegion h
     by_region false e h = let q = by_pieces (length p.pieces == 0) refl h in (not_none (length p.region) e, q.0, q.1)
@@ -219,8 +226,10 @@ read_is_text text p h = step (read_parts text p h)
   where
     same_fault : (lines : List Line) → whole_fault (plus_all nothing lines).pieces (plus_all nothing lines).maybe_pieces (region_of (plus_all nothing lines)) (plus_all nothing lines).maybe_cells ≡ None → fault_at_end lines ≡ None
     same_fault lines e = sym (fault_same lines) ∙ e
+
     open_fault : (lines : List Line) → fault_at_end lines ≡ None → whole_fault (puzzle_by lines).pieces (puzzle_by lines).maybe_pieces (puzzle_by lines).region (puzzle_by lines).maybe_cells ≡ None
     open_fault lines e = e
+
     step : (u : Said × ℕ) × (lines_read (lines_of text) ≡ Ok u) × (whole u.0 ≡ Ok p) → IsPuzzleText text p
     step ((t, m), a, b) =
         let s = lines_say (lines_of text) nothing t 1 m a in

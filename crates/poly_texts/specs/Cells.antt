@@ -4,8 +4,7 @@
 -- proofs/CellExamples.antt computes it.
 use Rattle.std.specs.Prelude.{ℕ, ◌==◌, Bool, not, ◌&&◌, List, [], ◌∷◌, ◌++◌, map, filter, flat_map, if◌then◌else◌}
 use Rattle.std.specs.List.{list_any, range_with_len}
-use Rattle.poly_cells.specs.Places.{Place, place, place_cmp}
-use Rattle.poly_cells.specs.Sets.{in_order}
+use Rattle.poly_cells.specs.Places.{Place, place}
 
 -- whether two cells have the same coordinates
 abbrev pub is_same : Place → Place → Bool

@@ -11,12 +11,12 @@
 --
 -- Example: `piece A 000 000` has the fault RepeatedCell in line 1; a text of no lines has EmptyRegion in line 0, and
 -- `box 1 1 1` alone NoPiece. proofs/ReadingExamples.antt computes them.
-use Rattle.std.specs.Prelude.{ℕ, ◌+◌, ◌==◌, nat_lt, nat_le, Bool, true, false, ◌&&◌, not, List, [], ◌∷◌, ◌++◌, length, Option, Some, None, Result, Ok, Err, codes, if◌then◌else◌}
+use Rattle.std.specs.Prelude.{ℕ, ◌+◌, ◌==◌, nat_lt, nat_le, Bool, true, false, not, List, [], ◌∷◌, ◌++◌, length, Option, Some, None, Result, Ok, Err, codes, if◌then◌else◌}
 use Rattle.std.specs.List.{list_all, list_any}
 use Rattle.std.specs.Str.{bytes_eq}
 use Rattle.text_lines.specs.Lines.{lines_of, words_of, outside_comment, is_plain, is_empty}
 use Rattle.text_lines.specs.Each.{each, ◌>>=◌}
-use Rattle.poly_cells.specs.Places.{Place, place, place_cmp}
+use Rattle.poly_cells.specs.Places.{Place, place_cmp}
 use Rattle.poly_cells.specs.Sets.{in_order}
 use Rattle.poly_cells.specs.Shapes.{normal}
 use Rattle.poly_texts.specs.declared.limits.TheConstants.{MOST_REGION_CELLS, MOST_PIECE_CELLS}

@@ -2,9 +2,9 @@
 --
 -- Example: `0av` is the cell 0 10 31; `0a`, `0aw` and `0A0` are no cells. `A` is a name and `AB` isn't. `0` and `07` are no
 -- sizes. proofs/WordExamples.antt computes it.
-use Rattle.std.specs.Prelude.{ℕ, ◌-◌, nat_le, Bool, true, false, not, ◌&&◌, ◌||◌, List, [], ◌∷◌, Option, Some, None, codes, if◌then◌else◌}
+use Rattle.std.specs.Prelude.{ℕ, ◌-◌, nat_le, Bool, not, ◌&&◌, ◌||◌, List, [], ◌∷◌, Option, Some, None, codes, if◌then◌else◌}
 use Rattle.std.specs.Str.{bytes_eq}
-use Rattle.text_lines.specs.Numbers.{is_digit, is_decimal, value_after}
+use Rattle.text_lines.specs.Numbers.{is_decimal, value_after}
 use Rattle.poly_cells.specs.Places.{Place, place}
 use Rattle.poly_texts.specs.declared.limits.TheConstants.{MOST_SIZE}
 

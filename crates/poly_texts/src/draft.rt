@@ -258,12 +258,7 @@ impl Draft {
             maybe_pieces,
             ..
         } = self;
-        Ok(Puzzle::from_parts(
-            pieces,
-            maybe_pieces,
-            Shape::new(region),
-            maybe_cells,
-        ))
+        Ok(Puzzle::from_parts(pieces, maybe_pieces, Shape::new(region), maybe_cells))
     }
 }
 

@@ -24,7 +24,8 @@ fn are_cells(cells: &[Cell], coordinates: &[(u8, u8, u8)]) -> bool {
 
 #[test]
 fn a_puzzle_is_read(rt: HostRuntime) -> Result<(), Fail> {
-    let text = b"# two pieces\n\npiece A 100 200 # moved\r\n\tmaybe  piece b 00v#\xff\nbox 2 2 1\ncut 000 310\nmaybe cells 0a0 110";
+    let text =
+        b"# two pieces\n\npiece A 100 200 # moved\r\n\tmaybe  piece b 00v#\xff\nbox 2 2 1\ncut 000 310\nmaybe cells 0a0 110";
     let puzzle = read_puzzle(rt.alloc(), text)?;
     assert_eq!(rt; puzzle.pieces().len(), 2);
     let mut pieces = puzzle.pieces().iter();
@@ -48,12 +49,26 @@ fn a_text_has_one_of_nine_faults(rt: HostRuntime) {
     assert!(rt; is_refused(&rt, b"bin 1 1 1", Fault::BadLine, 1));
     assert!(rt; is_refused(&rt, b"cells 000\ncells 00w", Fault::BadCell, 2));
     assert!(rt; is_refused(&rt, b"piece V 000 100 100", Fault::RepeatedCell, 1));
-    assert!(rt; is_refused(&rt, b"piece V 000\n\nmaybe piece V 000", Fault::RepeatedPiece, 3));
+    assert!(rt;
+        is_refused(
+            &rt,
+            b"piece V 000\n\nmaybe piece V 000",
+            Fault::RepeatedPiece,
+            3
+        )
+    );
     assert!(rt; is_refused(&rt, b"box 1 1 1\nbox 2 1 1", Fault::SecondBox, 2));
     assert!(rt; is_refused(&rt, b"", Fault::EmptyRegion, 0));
     assert!(rt; is_refused(&rt, b"box 1 1 1", Fault::NoPiece, 0));
     assert!(rt; is_refused(&rt, b"box 33 1 1", Fault::TooLarge, 1));
-    assert!(rt; is_refused(&rt, b"maybe cells 000\nmaybe piece A 000", Fault::NothingRequired, 0));
+    assert!(rt;
+        is_refused(
+            &rt,
+            b"maybe cells 000\nmaybe piece A 000",
+            Fault::NothingRequired,
+            0
+        )
+    );
     assert_eq!(rt; Fault::NothingRequired.number(), 9);
     assert!(rt; Fault::TooLarge.name().as_bytes() == b"TooLarge".as_slice());
 }
@@ -66,7 +81,14 @@ fn the_first_fault_of_a_line_is_named(rt: HostRuntime) {
     assert!(rt; is_refused(&rt, b"piece V 000 00 000", Fault::BadCell, 1));
     assert!(rt; is_refused(&rt, b"piece V 000 000 00", Fault::RepeatedCell, 1));
     assert!(rt; is_refused(&rt, b"box 1 1 1\nbox 0 1 1", Fault::BadLine, 2));
-    assert!(rt; is_refused(&rt, b"box 1 1 1\nbox 99999999999999999999 1 1", Fault::SecondBox, 2));
+    assert!(rt;
+        is_refused(
+            &rt,
+            b"box 1 1 1\nbox 99999999999999999999 1 1",
+            Fault::SecondBox,
+            2
+        )
+    );
     assert!(rt; is_refused(&rt, b"box 99999999999999999999 1 01", Fault::BadLine, 1));
     assert!(rt; is_refused(&rt, b"box 1 1 1 1", Fault::BadLine, 1));
     assert!(rt; is_refused(&rt, b"cells\ncells 0", Fault::BadLine, 1));
@@ -74,16 +96,31 @@ fn the_first_fault_of_a_line_is_named(rt: HostRuntime) {
     assert!(rt; is_refused(&rt, b"maybe box 1 1 1", Fault::BadLine, 1));
     assert!(rt; is_refused(&rt, b"maybe piece A", Fault::BadLine, 1));
     assert!(rt; is_refused(&rt, b"maybe cells 000 v\npiece", Fault::BadCell, 1));
-    assert!(rt; is_refused(&rt, b"cut 000\ncells 000\npiece A 000", Fault::EmptyRegion, 0));
+    assert!(rt;
+        is_refused(
+            &rt,
+            b"cut 000\ncells 000\npiece A 000",
+            Fault::EmptyRegion,
+            0
+        )
+    );
 }
 
 #[test]
 fn limits_are_kept(rt: HostRuntime) {
     assert!(rt; is_refused(&rt, b"box 32 32 4", Fault::NoPiece, 0));
     assert!(rt; is_refused(&rt, b"box 32 32 5", Fault::TooLarge, 1));
-    assert!(rt; is_refused(&rt, b"cut 000\nbox 32 4 32\n\nmaybe cells 0v0", Fault::TooLarge, 4));
+    assert!(rt;
+        is_refused(
+            &rt,
+            b"cut 000\nbox 32 4 32\n\nmaybe cells 0v0",
+            Fault::TooLarge,
+            4
+        )
+    );
     assert!(rt; is_refused(&rt, b"box 32 4 32\ncells 000 vvv", Fault::TooLarge, 2));
-    let full = b"piece A 000 001 002 003 004 005 006 007 008 009 00a 00b 00c 00d 00e 00f 010 011 012 013 014 015 016 017 018 019 01a 01b 01c 01d 01e 01f 020 021 022 023 024 025 026 027 028 029 02a 02b 02c 02d 02e 02f 030 031 032 033 034 035 036 037 038 039 03a 03b 03c 03d 03e 03f x";
+    let full =
+        b"piece A 000 001 002 003 004 005 006 007 008 009 00a 00b 00c 00d 00e 00f 010 011 012 013 014 015 016 017 018 019 01a 01b 01c 01d 01e 01f 020 021 022 023 024 025 026 027 028 029 02a 02b 02c 02d 02e 02f 030 031 032 033 034 035 036 037 038 039 03a 03b 03c 03d 03e 03f x";
     let (most, _) = full.split_at(full.len() - 2);
     assert!(rt; is_refused(&rt, most, Fault::EmptyRegion, 0));
     assert!(rt; is_refused(&rt, full, Fault::TooLarge, 1));

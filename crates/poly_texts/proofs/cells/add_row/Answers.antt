@@ -1,5 +1,4 @@
-use Rattle.std.proofs.Common.{◌≡◌, ◌≤◌, sym, ap, ◌∙◌, arith, map}
-use Rattle.std.specs.List.{range_with_len}
+use Rattle.std.proofs.Common.{◌≡◌, sym, ap, ◌∙◌, arith}
 use Rattle.poly_cells.specs.Places.{place}
 use Rattle.poly_texts.specs.Cells.{with_cell, with_cells, row}
 use Rattle.poly_texts.proofs.CellLemmas.{with_none, cell_more}

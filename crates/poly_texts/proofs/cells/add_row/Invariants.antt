@@ -1,7 +1,7 @@
-use Rattle.std.proofs.Common.{◌≡◌, map, flat_map}
+use Rattle.std.proofs.Common.{◌≡◌, map}
 use Rattle.std.specs.List.{range_with_len}
 use Rattle.poly_cells.specs.Places.{place}
-use Rattle.poly_texts.specs.Cells.{with_cells, row, layer}
+use Rattle.poly_texts.specs.Cells.{with_cells}
 use Rattle.poly_texts.proofs.cells.add_row.Given as goal
 
 -- the cells so far

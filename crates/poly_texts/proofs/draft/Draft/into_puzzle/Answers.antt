@@ -1,4 +1,4 @@
-use Rattle.std.proofs.Common.{◌≡◌, ◌∙◌, sym, refl, None, Ok, subst}
+use Rattle.std.proofs.Common.{◌≡◌, None, Ok, subst}
 use Rattle.poly_texts.specs.Puzzle.{PuzzleValue}
 use Rattle.poly_texts.specs.Reading.{Said, whole, whole_fault}
 use Rattle.poly_texts.proofs.ReadingLemmas.{whole_read}

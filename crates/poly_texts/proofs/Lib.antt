@@ -1,0 +1,13 @@
+pub mod CellLemmas
+pub mod ReadingLemmas
+pub mod StepLemmas
+pub mod SpellingLemmas
+pub mod LineLemmas
+pub mod TogetherLemmas
+pub mod MemberLemmas
+pub mod TextLemmas
+pub mod PuzzleLemmas
+pub mod CellExamples
+pub mod WordExamples
+pub mod ReadingExamples
+pub mod GrammarExamples

@@ -1,0 +1,220 @@
+-- Lines that are taken one after the other are lines that go together, and the other way round.
+use Rattle.std.proofs.Common.{◌≡◌, ◌≤◌, ℕ, ◌+◌, ◌==◌, List, [], ◌∷◌, ◌++◌, filter, flat_map, length, Bool, true, false, cond, not, ◌&&◌, nat_le, refl, sym, ap, ◌∙◌, subst, arith, append_assoc, append-nil, length-append, le_refl, le_trans, le-leb, leb-true}
+use Rattle.std.specs.List.{list_all}
+use Rattle.std.proofs.lemmas.Bool.{and_parts, and_from, or_parts, or_from, not-true, not_from_false}
+use Rattle.std.proofs.lemmas.Bool.Decides.{nat_tests}
+use Rattle.std.proofs.lemmas.List.{map-append}
+use Rattle.std.proofs.lemmas.List.Folds.{list_any-append}
+use Rattle.poly_cells.specs.Places.{Place}
+use Rattle.poly_texts.specs.Cells.{has_place, with_cell, with_cells}
+use Rattle.poly_texts.specs.Puzzle.{names_of, has_name, are_new}
+use Rattle.poly_texts.specs.Reading.{Said, nothing, has_piece, kept_shape}
+use Rattle.poly_texts.specs.Grammar.{Line, piece, box, cells, cut, is_line, piece_of, maybe_name_of, is_box, named_by, maybe_by, cut_by, AreLines}
+use Rattle.poly_texts.proofs.CellLemmas.{with_cells-append, with_none}
+use Rattle.poly_texts.proofs.LineLemmas.{plus, is_small, is_fit}
+
+-- each line fits after the ones before it
+abbrev pub all_fit : Said → List Line → Bool
+all_fit s [] = true
+all_fit s (l ∷ ls) = is_line l && (is_fit s l && all_fit (plus s l) ls)
+
+-- what is said with more lines
+abbrev pub plus_all : Said → List Line → Said
+plus_all s [] = s
+plus_all s (l ∷ ls) = plus_all (plus s l) ls
+
+-- *what one line adds*
+
+plus_pieces : (s : Said) (l : Line) → (plus s l).pieces ≡ s.pieces ++ piece_of l
+plus_pieces s (piece optional name cs) = refl
+plus_pieces s (box a b c) = sym (append-nil s.pieces)
+plus_pieces s (cells optional cs) = sym (append-nil s.pieces)
+plus_pieces s (cut cs) = sym (append-nil s.pieces)
+
+plus_names : (s : Said) (l : Line) → (plus s l).maybe_pieces ≡ s.maybe_pieces ++ maybe_name_of l
+plus_names s (piece true name cs) = refl
+plus_names s (piece false name cs) = sym (append-nil s.maybe_pieces)
+plus_names s (box a b c) = sym (append-nil s.maybe_pieces)
+plus_names s (cells optional cs) = sym (append-nil s.maybe_pieces)
+plus_names s (cut cs) = sym (append-nil s.maybe_pieces)
+
+plus_named : (s : Said) (l : Line) → (plus s l).named ≡ with_cells s.named (named_by l)
+plus_named s (piece optional name cs) = sym (with_none s.named)
+plus_named s (box a b c) = refl
+plus_named s (cells optional cs) = refl
+plus_named s (cut cs) = sym (with_none s.named)
+
+plus_maybe : (s : Said) (l : Line) → (plus s l).maybe_cells ≡ with_cells s.maybe_cells (maybe_by l)
+plus_maybe s (piece optional name cs) = sym (with_none s.maybe_cells)
+plus_maybe s (box a b c) = sym (with_none s.maybe_cells)
+plus_maybe s (cells true cs) = refl
+plus_maybe s (cells false cs) = sym (with_none s.maybe_cells)
+plus_maybe s (cut cs) = sym (with_none s.maybe_cells)
+
+plus_cut : (s : Said) (l : Line) → (plus s l).cut ≡ with_cells s.cut (cut_by l)
+plus_cut s (piece optional name cs) = sym (with_none s.cut)
+plus_cut s (box a b c) = sym (with_none s.cut)
+plus_cut s (cells optional cs) = sym (with_none s.cut)
+plus_cut s (cut cs) = refl
+
+-- *what lines add*
+
+more_pieces : (s : Said) (l : Line) (rest : List (ℕ × List Place)) → (plus s l).pieces ++ rest ≡ s.pieces ++ (piece_of l ++ rest)
+more_pieces s l rest = ap (λ ps. ps ++ rest) (plus_pieces s l) ∙ append_assoc s.pieces (piece_of l) rest
+
+more_named : (s : Said) (l : Line) (rest : List Place) → with_cells (plus s l).named rest ≡ with_cells s.named (named_by l ++ rest)
+more_named s l rest = ap (λ cs. with_cells cs rest) (plus_named s l) ∙ sym (with_cells-append s.named (named_by l) rest)
+
+pub all_pieces : (s : Said) (ls : List Line) → (plus_all s ls).pieces ≡ s.pieces ++ flat_map piece_of ls
+all_pieces s [] = sym (append-nil s.pieces)
+all_pieces s (l ∷ ls) = all_pieces (plus s l) ls ∙ more_pieces s l (flat_map piece_of ls)
+
+pub all_names : (s : Said) (ls : List Line) → (plus_all s ls).maybe_pieces ≡ s.maybe_pieces ++ flat_map maybe_name_of ls
+all_names s [] = sym (append-nil s.maybe_pieces)
+all_names s (l ∷ ls) = all_names (plus s l) ls ∙ ap (λ ns. ns ++ flat_map maybe_name_of ls) (plus_names s l) ∙ append_assoc s.maybe_pieces (maybe_name_of l) (flat_map maybe_name_of ls)
+
+pub all_named : (s : Said) (ls : List Line) → (plus_all s ls).named ≡ with_cells s.named (flat_map named_by ls)
+all_named s [] = sym (with_none s.named)
+all_named s (l ∷ ls) = all_named (plus s l) ls ∙ more_named s l (flat_map named_by ls)
+
+pub all_maybe : (s : Said) (ls : List Line) → (plus_all s ls).maybe_cells ≡ with_cells s.maybe_cells (flat_map maybe_by ls)
+all_maybe s [] = sym (with_none s.maybe_cells)
+all_maybe s (l ∷ ls) = all_maybe (plus s l) ls ∙ ap (λ cs. with_cells cs (flat_map maybe_by ls)) (plus_maybe s l) ∙ sym (with_cells-append s.maybe_cells (maybe_by l) (flat_map maybe_by ls))
+
+pub all_cut : (s : Said) (ls : List Line) → (plus_all s ls).cut ≡ with_cells s.cut (flat_map cut_by ls)
+all_cut s [] = sym (with_none s.cut)
+all_cut s (l ∷ ls) = all_cut (plus s l) ls ∙ ap (λ cs. with_cells cs (flat_map cut_by ls)) (plus_cut s l) ∙ sym (with_cells-append s.cut (cut_by l) (flat_map cut_by ls))
+
+-- *cells only come to others*
+
+one_grows : (s : List Place) (c : Place) → length s ≤ length (with_cell s c)
+one_grows s c = by_test (has_place s c)
+  where
+    by_test : (b : Bool) → length s ≤ length (cond b s (s ++ c ∷ []))
+    by_test true = le_refl (length s)
+    by_test false = omega (arith, length-append s (c ∷ []))
+
+grows : (s cs : List Place) → length s ≤ length (with_cells s cs)
+unfolding with_cells
+grows s [] = le_refl (length s)
+grows s (c ∷ cs) = le_trans (one_grows s c) (grows (with_cell s c) cs)
+
+-- *names*
+
+same_sym : (a b : ℕ) → (a == b) ≡ (b == a)
+same_sym a b = grind (arith, nat_tests)
+
+named_in : (pieces : List (ℕ × List Place)) (n : ℕ) → has_piece pieces n ≡ has_name (names_of pieces) n
+named_in [] n = refl
+named_in (p ∷ ps) n = rw (same_sym n p.0, named_in ps n) refl
+
+new_push : (ns : List ℕ) (n : ℕ) → are_new ns ≡ true → has_name ns n ≡ false → are_new (ns ++ n ∷ []) ≡ true
+new_push [] n a h = refl
+new_push (m ∷ ns) n a h =
+    let p = and_parts (not (has_name ns m)) (are_new ns) a in
+    let q = or_parts (m == n) (has_name ns n) h in
+    let r : has_name (ns ++ n ∷ []) m ≡ false = list_any-append (λ k. k == m) ns (n ∷ []) ∙ or_from _ _ (not-true _ p.0) (or_from _ _ (same_sym n m ∙ q.0) refl) in
+    and_from _ _ (not_from_false _ r) (new_push ns n p.1 q.1)
+
+new_before : (ns : List ℕ) (n : ℕ) (more : List ℕ) → are_new (ns ++ n ∷ more) ≡ true → has_name ns n ≡ false
+new_before [] n more h = refl
+new_before (m ∷ ns) n more h =
+    let p = and_parts (not (has_name (ns ++ n ∷ more) m)) (are_new (ns ++ n ∷ more)) h in
+    let q = or_parts (has_name ns m) (has_name (n ∷ more) m) (sym (list_any-append (λ k. k == m) ns (n ∷ more)) ∙ not-true _ p.0) in
+    let r = or_parts (n == m) (has_name more m) q.1 in
+    or_from _ _ (same_sym m n ∙ r.0) (new_before ns n more p.1)
+
+-- *lines together*
+
+abbrev pub bit : Bool → ℕ
+bit b = cond b 1 0
+
+-- the lines go together, after what is said
+pub record GoTogether (s : Said) (ls : List Line) : Type 0 where
+  pub good : list_all is_line ls ≡ true
+  pub new : are_new (names_of (s.pieces ++ flat_map piece_of ls)) ≡ true
+  pub one_box : bit s.boxed + length (filter is_box ls) ≤ 1
+  pub few : length (with_cells s.named (flat_map named_by ls)) ≤ 4096
+
+at_most_one : (b : Bool) → bit b + 0 ≤ 1
+at_most_one true = omega arith
+at_most_one false = omega arith
+
+boxes_more : (s : Said) (l : Line) (ls : List Line) → is_fit s l ≡ true → bit (plus s l).boxed + length (filter is_box ls) ≡ bit s.boxed + length (filter is_box (l ∷ ls))
+boxes_more s (piece optional name cs) ls fit = refl
+boxes_more s (box a b c) ls fit =
+    let f = and_parts (not s.boxed) (is_small (plus s (box a b c))) fit in
+    let first : s.boxed ≡ false = not-true _ f.0 in
+    rw first (omega arith)
+boxes_more s (cells optional cs) ls fit = refl
+boxes_more s (cut cs) ls fit = refl
+
+plus_new : (s : Said) (l : Line) → are_new (names_of s.pieces) ≡ true → is_fit s l ≡ true → are_new (names_of (plus s l).pieces) ≡ true
+plus_new s (piece optional name cs) new fit =
+    let h : has_name (names_of s.pieces) name ≡ false = sym (named_in s.pieces name) ∙ not-true _ fit in
+    rw map-append (new_push (names_of s.pieces) name new h)
+plus_new s (box a b c) new fit = new
+plus_new s (cells optional cs) new fit = new
+plus_new s (cut cs) new fit = new
+
+plus_few : (s : Said) (l : Line) → length s.named ≤ 4096 → is_fit s l ≡ true → length (plus s l).named ≤ 4096
+plus_few s (piece optional name cs) few fit = few
+plus_few s (box a b c) few fit = leb-true _ 4096 (and_parts (not s.boxed) (is_small (plus s (box a b c))) fit).1
+plus_few s (cells optional cs) few fit = leb-true _ 4096 fit
+plus_few s (cut cs) few fit = few
+
+pub together : (s : Said) (ls : List Line) → are_new (names_of s.pieces) ≡ true → length s.named ≤ 4096 → all_fit s ls ≡ true → GoTogether s ls
+together s [] new few fit = record {
+  good = refl;
+  new = rw append-nil new;
+  one_box = at_most_one s.boxed;
+  few = rw with_none few;
+}
+together s (l ∷ ls) new few fit =
+    let p = and_parts (is_line l) (is_fit s l && all_fit (plus s l) ls) fit in
+    let q = and_parts (is_fit s l) (all_fit (plus s l) ls) p.1 in
+    let t = together (plus s l) ls (plus_new s l new q.0) (plus_few s l few q.0) q.1 in
+    record {
+      good = and_from _ _ p.0 t.good;
+      new = subst (λ ps. are_new (names_of ps) ≡ true) (more_pieces s l (flat_map piece_of ls)) t.new;
+      one_box = subst (λ n. n ≤ 1) (boxes_more s l ls q.0) t.one_box;
+      few = subst (λ cs. length cs ≤ 4096) (more_named s l (flat_map named_by ls)) t.few;
+    }
+
+small_before : (s : Said) (l : Line) (rest : List Place) → length (with_cells s.named (named_by l ++ rest)) ≤ 4096 → nat_le (length (with_cells s.named (named_by l))) 4096 ≡ true
+small_before s l rest h =
+    let e : length (with_cells (with_cells s.named (named_by l)) rest) ≤ 4096 = subst (λ cs. length cs ≤ 4096) (with_cells-append s.named (named_by l) rest) h in
+    le-leb _ 4096 (le_trans (grows (with_cells s.named (named_by l)) rest) e)
+
+unboxed : (b : Bool) (n : ℕ) → bit b + (1 + n) ≤ 1 → not b ≡ true
+unboxed true n h = absurd (omega arith)
+unboxed false n h = refl
+
+fits_first : (s : Said) (l : Line) (ls : List Line) → GoTogether s (l ∷ ls) → is_fit s l ≡ true
+fits_first s (piece optional name cs) ls t =
+    let e : names_of (s.pieces ++ (name, kept_shape cs) ∷ flat_map piece_of ls) ≡ names_of s.pieces ++ name ∷ names_of (flat_map piece_of ls) = map-append (λ p. p.0) s.pieces ((name, kept_shape cs) ∷ flat_map piece_of ls) in
+    let h : has_name (names_of s.pieces) name ≡ false = new_before (names_of s.pieces) name (names_of (flat_map piece_of ls)) (subst (λ ns. are_new ns ≡ true) e t.new) in
+    not_from_false _ (named_in s.pieces name ∙ h)
+fits_first s (box a b c) ls t = and_from _ _ (unboxed s.boxed (length (filter is_box ls)) (omega (arith, t.one_box))) (small_before s (box a b c) (flat_map named_by ls) t.few)
+fits_first s (cells optional cs) ls t = small_before s (cells optional cs) (flat_map named_by ls) t.few
+fits_first s (cut cs) ls t = refl
+
+pub fit_together : (s : Said) (ls : List Line) → GoTogether s ls → all_fit s ls ≡ true
+fit_together s [] t = refl
+fit_together s (l ∷ ls) t =
+    let p = and_parts (is_line l) (list_all is_line ls) t.good in
+    let fit = fits_first s l ls t in
+    and_from _ _ p.0 (and_from _ _ fit (fit_together (plus s l) ls (record {
+      good = p.1;
+      new = subst (λ ps. are_new (names_of ps) ≡ true) (sym (more_pieces s l (flat_map piece_of ls))) t.new;
+      one_box = subst (λ n. n ≤ 1) (sym (boxes_more s l ls fit)) t.one_box;
+      few = subst (λ cs. length cs ≤ 4096) (sym (more_named s l (flat_map named_by ls))) t.few;
+    })))
+
+pub lines_together : (ls : List Line) → all_fit nothing ls ≡ true → AreLines ls
+lines_together ls fit =
+    let t = together nothing ls refl (omega arith) fit in
+    record { good = t.good; new = t.new; one_box = let h : 0 + length (filter is_box ls) ≤ 1 = t.one_box in omega arith; few = t.few }
+
+pub together_lines : (ls : List Line) → AreLines ls → all_fit nothing ls ≡ true
+together_lines ls t = fit_together nothing ls (record { good = t.good; new = t.new; one_box = let h : length (filter is_box ls) ≤ 1 = t.one_box in let e : 0 + length (filter is_box ls) ≤ 1 = omega arith in e; few = t.few })

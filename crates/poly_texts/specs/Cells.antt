@@ -1,0 +1,40 @@
+-- Sets of cells, as a reader gathers them: each cell once, where it came first.
+--
+-- Example: a box of 1 by 2 by 1 has the cells 0 0 0 and 0 1 0; with 0 1 0 and 3 0 0 they are 0 0 0, 0 1 0 and 3 0 0.
+-- proofs/CellExamples.antt computes it.
+use Rattle.std.specs.Prelude.{ℕ, ◌==◌, Bool, not, ◌&&◌, List, [], ◌∷◌, ◌++◌, map, filter, flat_map, if◌then◌else◌}
+use Rattle.std.specs.List.{list_any, range_with_len}
+use Rattle.poly_cells.specs.Places.{Place, place}
+
+-- whether two cells have the same coordinates
+abbrev pub is_same : Place → Place → Bool
+is_same v w = (v.x == w.x) && ((v.y == w.y) && (v.z == w.z))
+
+-- whether a cell is one of these
+abbrev pub has_place : List Place → Place → Bool
+has_place cells c = list_any (is_same c) cells
+
+-- these cells with one more, unless it is there
+abbrev pub with_cell : List Place → Place → List Place
+with_cell cells c = if has_place cells c then cells else cells ++ c ∷ []
+
+-- these cells with more, each once
+unfoldable pub with_cells : List Place → List Place → List Place
+with_cells cells [] = cells
+with_cells cells (c ∷ cs) = with_cells (with_cell cells c) cs
+
+-- these cells without those that are cut
+abbrev pub without : List Place → List Place → List Place
+without cut cells = filter (λ c. not (has_place cut c)) cells
+
+-- the cells with these x and y, and z below the size
+abbrev pub row : ℕ → ℕ → ℕ → List Place
+row c x y = map (place x y) (range_with_len 0 c)
+
+-- the cells with this x, and y and z below the sizes
+abbrev pub layer : ℕ → ℕ → ℕ → List Place
+layer b c x = flat_map (row c x) (range_with_len 0 b)
+
+-- the cells whose coordinates are below the sizes
+abbrev pub box_cells : ℕ → ℕ → ℕ → List Place
+box_cells a b c = flat_map (layer b c) (range_with_len 0 a)

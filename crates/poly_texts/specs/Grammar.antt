@@ -1,0 +1,149 @@
+-- Which texts are texts of a puzzle.
+--
+-- A line has one spelling but for comments and blanks. The pieces are those of the `piece` lines in their order, the region
+-- has the cells of all `box` and `cells` lines, with `maybe` or without, that no `cut` line names.
+--
+-- Example: the lines `piece A 100 200`, `box 2 2 1` and `cut 000 110` say the piece A with the cells 0 0 0 and 1 0 0, and the
+-- region 0 1 0 and 1 0 0. proofs/GrammarExamples.antt computes it.
+use Rattle.std.specs.Prelude.{ℕ, ◌+◌, ◌≤◌, ◌<◌, ◌≡◌, nat_lt, nat_le, Bool, true, false, not, ◌&&◌, List, [], ◌∷◌, length, map, filter, flat_map, codes, decimal, if◌then◌else◌}
+use Rattle.std.specs.List.{list_all}
+use Rattle.text_lines.specs.Lines.{lines_of, is_empty}
+use Rattle.text_lines.specs.Writing.{said, are_plain}
+use Rattle.poly_cells.specs.Places.{Place, place_cmp}
+use Rattle.poly_cells.specs.Sets.{in_order}
+use Rattle.poly_texts.specs.declared.limits.TheConstants.{MOST_SIZE, MOST_REGION_CELLS, MOST_PIECE_CELLS}
+use Rattle.poly_texts.specs.Cells.{has_place, with_cells, without, box_cells}
+use Rattle.poly_texts.specs.Words.{is_name}
+use Rattle.poly_texts.specs.Puzzle.{PuzzleValue, names_of, are_new, needs_nothing}
+use Rattle.poly_texts.specs.Reading.{kept_shape}
+
+-- what a line says: a piece, whether it may be left out, with its name and its cells; a box of these sizes; cells, and
+-- whether they may stay empty; or cells to be cut
+pub data Line : Type 0 where
+  piece : Bool → ℕ → List Place → Line
+  box : ℕ → ℕ → ℕ → Line
+  cells : Bool → List Place → Line
+  cut : List Place → Line
+
+-- *spelling*
+
+-- one of `0-9a-v`, for 0 to 31
+abbrev pub symbol : ℕ → ℕ
+symbol n = if nat_lt n 10 then 48 + n else 87 + n
+
+-- the word of a cell
+abbrev pub cell_word : Place → List ℕ
+cell_word c = symbol c.x ∷ symbol c.y ∷ symbol c.z ∷ []
+
+-- the words, after `maybe` if it is so
+abbrev pub maybe_words : Bool → List (List ℕ) → List (List ℕ)
+maybe_words optional words = if optional then codes "maybe" ∷ words else words
+
+-- the words of a line
+abbrev pub line_words : Line → List (List ℕ)
+line_words (piece optional name cs) = maybe_words optional (codes "piece" ∷ (name ∷ []) ∷ map cell_word cs)
+line_words (box a b c) = codes "box" ∷ decimal a ∷ decimal b ∷ decimal c ∷ []
+line_words (cells optional cs) = maybe_words optional (codes "cells" ∷ map cell_word cs)
+line_words (cut cs) = codes "cut" ∷ map cell_word cs
+
+-- *the limits of a line*
+
+-- a cell within the limits
+abbrev pub is_place : Place → Bool
+is_place c = nat_le c.x 31 && (nat_le c.y 31 && nat_le c.z 31)
+
+-- at least one cell, each within the limits
+abbrev pub are_places : List Place → Bool
+are_places cs = nat_lt 0 (length cs) && list_all is_place cs
+
+-- no cell comes twice
+abbrev pub are_apart : List Place → Bool
+are_apart [] = true
+are_apart (c ∷ cs) = not (has_place cs c) && are_apart cs
+
+-- a size of a box
+abbrev pub is_side : ℕ → Bool
+is_side n = nat_lt 0 n && nat_le n MOST_SIZE
+
+-- a line within the limits
+abbrev pub is_line : Line → Bool
+is_line (piece optional name cs) = is_name name && (are_places cs && (are_apart cs && nat_le (length cs) MOST_PIECE_CELLS))
+is_line (box a b c) = is_side a && (is_side b && is_side c)
+is_line (cells optional cs) = are_places cs
+is_line (cut cs) = are_places cs
+
+-- *what lines say together*
+
+-- the piece of a `piece` line, as it is kept
+abbrev pub piece_of : Line → List (ℕ × List Place)
+piece_of (piece optional name cs) = (name, kept_shape cs) ∷ []
+piece_of (box a b c) = []
+piece_of (cells optional cs) = []
+piece_of (cut cs) = []
+
+-- the name of a piece that may be left out
+abbrev pub maybe_name_of : Line → List ℕ
+maybe_name_of (piece optional name cs) = if optional then name ∷ [] else []
+maybe_name_of (box a b c) = []
+maybe_name_of (cells optional cs) = []
+maybe_name_of (cut cs) = []
+
+-- whether it is a `box` line
+abbrev pub is_box : Line → Bool
+is_box (piece optional name cs) = false
+is_box (box a b c) = true
+is_box (cells optional cs) = false
+is_box (cut cs) = false
+
+-- the cells of a `box` or `cells` line
+abbrev pub named_by : Line → List Place
+named_by (piece optional name cs) = []
+named_by (box a b c) = box_cells a b c
+named_by (cells optional cs) = cs
+named_by (cut cs) = []
+
+-- the cells of a `maybe cells` line
+abbrev pub maybe_by : Line → List Place
+maybe_by (piece optional name cs) = []
+maybe_by (box a b c) = []
+maybe_by (cells optional cs) = if optional then cs else []
+maybe_by (cut cs) = []
+
+-- the cells of a `cut` line
+abbrev pub cut_by : Line → List Place
+cut_by (piece optional name cs) = []
+cut_by (box a b c) = []
+cut_by (cells optional cs) = []
+cut_by (cut cs) = cs
+
+-- what lines say that are within the limits, alone and together
+pub record AreLines (lines : List Line) : Type 0 where
+  pub good : list_all is_line lines ≡ true
+  pub new : are_new (names_of (flat_map piece_of lines)) ≡ true
+  pub one_box : length (filter is_box lines) ≤ 1
+  pub few : length (with_cells [] (flat_map named_by lines)) ≤ MOST_REGION_CELLS
+
+-- the cells of these that no line cuts, in order, each once
+abbrev pub uncut : List Line → List Place → List Place
+uncut lines cs = in_order place_cmp (without (flat_map cut_by lines) cs)
+
+-- the puzzle of these lines
+abbrev pub puzzle_by : List Line → PuzzleValue
+puzzle_by lines = record {
+  pieces = flat_map piece_of lines;
+  maybe_pieces = flat_map maybe_name_of lines;
+  region = uncut lines (flat_map named_by lines);
+  maybe_cells = uncut lines (flat_map maybe_by lines);
+}
+
+-- comments, blanks, empty lines and line ends aside, the text is lines that say the puzzle: with a cell, with a piece, and
+-- with one of these required
+pub record IsPuzzleText (text : List ℕ) (p : PuzzleValue) : Type 0 where
+  pub lines : List Line
+  pub plain : are_plain (lines_of text) ≡ true
+  pub says : filter (λ words. not (is_empty words)) (map said (lines_of text)) ≡ map line_words lines
+  pub within : AreLines lines
+  pub puzzle : p ≡ puzzle_by lines
+  pub some_cell : 0 < length p.region
+  pub some_piece : 0 < length p.pieces
+  pub required : needs_nothing p.pieces p.maybe_pieces p.region p.maybe_cells ≡ false

@@ -1,0 +1,6 @@
+pub mod Faults
+pub mod Cells
+pub mod Words
+pub mod Puzzle
+pub mod Reading
+pub mod Grammar

@@ -1,0 +1,49 @@
+-- What a puzzle is.
+--
+-- Example: the puzzle with the piece A of two cells, which has to be used, and the region 0 0 0, 1 0 0, 2 0 0, whose last
+-- cell may stay empty.
+use Rattle.std.specs.Prelude.{ℕ, ◌==◌, ◌≡◌, ◌<◌, ◌≤◌, Bool, true, false, not, ◌&&◌, List, [], ◌∷◌, map, length}
+use Rattle.std.specs.List.{list_all, list_any}
+use Rattle.std.specs.List.Sorted.{IsStrictlySortedBy}
+use Rattle.poly_cells.specs.Places.{Place, place_cmp}
+use Rattle.poly_texts.specs.declared.limits.TheConstants.{MOST_REGION_CELLS}
+use Rattle.poly_texts.specs.Cells.{has_place}
+use Rattle.poly_texts.specs.Words.{is_name}
+
+-- pieces, each with a name and the rising list of its cells; the names of those that may be left out; the rising list of the
+-- region's cells; and the rising list of those that may stay empty
+pub record PuzzleValue : Type 0 where
+  pub pieces : List (ℕ × List Place)
+  pub maybe_pieces : List ℕ
+  pub region : List Place
+  pub maybe_cells : List Place
+
+-- the names of pieces
+abbrev pub names_of : List (ℕ × List Place) → List ℕ
+names_of pieces = map (λ p. p.0) pieces
+
+-- whether a name is one of these
+abbrev pub has_name : List ℕ → ℕ → Bool
+has_name names name = list_any (λ n. n == name) names
+
+-- no name comes twice
+abbrev pub are_new : List ℕ → Bool
+are_new [] = true
+are_new (n ∷ ns) = not (has_name ns n) && are_new ns
+
+-- whether each of the pieces may be left out, and each of the cells may stay empty
+abbrev pub needs_nothing : List (ℕ × List Place) → List ℕ → List Place → List Place → Bool
+needs_nothing pieces maybe_pieces region maybe_cells = list_all (has_name maybe_pieces) (names_of pieces) && list_all (has_place maybe_cells) region
+
+-- what every puzzle is: pieces of different names, a region within the limits, and something that is required
+pub record IsPuzzle (p : PuzzleValue) : Type 0 where
+  pub named : list_all is_name (names_of p.pieces) ≡ true
+  pub new : are_new (names_of p.pieces) ≡ true
+  pub some_piece : 0 < length p.pieces
+  pub some_cell : 0 < length p.region
+  pub few : length p.region ≤ MOST_REGION_CELLS
+  pub rises : IsStrictlySortedBy place_cmp p.region
+  pub maybe_named : list_all (has_name (names_of p.pieces)) p.maybe_pieces ≡ true
+  pub maybe_rises : IsStrictlySortedBy place_cmp p.maybe_cells
+  pub maybe_within : list_all (has_place p.region) p.maybe_cells ≡ true
+  pub required : needs_nothing p.pieces p.maybe_pieces p.region p.maybe_cells ≡ false

@@ -1,0 +1,239 @@
+-- What a puzzle text says, line by line, or its first fault.
+--
+--     piece N c ..         a piece named N with these cells; a piece that may be left out, after `maybe`
+--     box a b c            all cells with x below a, y below b and z below c: at most one such line
+--     cells c ..           these cells; cells that may stay empty, after `maybe`
+--     cut c ..             none of these cells
+--
+-- The region has all cells of `box` and `cells` lines, with `maybe` or without, that no `cut` line names. The first fault is
+-- the one of the first line that has one; in a line a fault of its form comes first, then a second piece of a name or a second
+-- box, then the words from the left, then the size of the region so far, with nothing cut.
+--
+-- Example: `piece A 000 000` has the fault RepeatedCell in line 1; a text of no lines has EmptyRegion in line 0, and
+-- `box 1 1 1` alone NoPiece. proofs/ReadingExamples.antt computes them.
+use Rattle.std.specs.Prelude.{ℕ, ◌+◌, ◌==◌, nat_lt, nat_le, Bool, true, false, not, List, [], ◌∷◌, ◌++◌, length, Option, Some, None, Result, Ok, Err, codes, if◌then◌else◌}
+use Rattle.std.specs.List.{list_all, list_any}
+use Rattle.std.specs.Str.{bytes_eq}
+use Rattle.text_lines.specs.Lines.{lines_of, words_of, outside_comment, is_plain, is_empty}
+use Rattle.text_lines.specs.Each.{each, ◌>>=◌}
+use Rattle.poly_cells.specs.Places.{Place, place_cmp}
+use Rattle.poly_cells.specs.Sets.{in_order}
+use Rattle.poly_cells.specs.Shapes.{normal}
+use Rattle.poly_texts.specs.declared.limits.TheConstants.{MOST_REGION_CELLS, MOST_PIECE_CELLS}
+use Rattle.poly_texts.specs.declared.fault.Fault.{Fault}
+use Rattle.poly_texts.specs.declared.fault.Fault.TheVariants.{BadLine, BadCell, RepeatedCell, RepeatedPiece, SecondBox, EmptyRegion, NoPiece, TooLarge, NothingRequired}
+use Rattle.poly_texts.specs.declared.key.Key.{Key}
+use Rattle.poly_texts.specs.declared.key.Key.TheVariants as keys
+use Rattle.poly_texts.specs.Cells.{has_place, with_cell, with_cells, without, box_cells}
+use Rattle.poly_texts.specs.Words.{cell_of, piece_name, are_sizes, are_small, size_of}
+use Rattle.poly_texts.specs.Puzzle.{PuzzleValue, needs_nothing}
+
+-- what the lines so far say: the pieces, the names of those that may be left out, whether there was a box, and the cells that
+-- lines name, that `maybe cells` lines name and that `cut` lines name, each cell once
+pub record Said : Type 0 where
+  pub pieces : List (ℕ × List Place)
+  pub maybe_pieces : List ℕ
+  pub boxed : Bool
+  pub named : List Place
+  pub maybe_cells : List Place
+  pub cut : List Place
+
+-- no lines say this
+abbrev pub nothing : Said
+nothing = record { pieces = []; maybe_pieces = []; boxed = false; named = []; maybe_cells = []; cut = [] }
+
+-- *the words of a line*
+
+-- a cell that was looked for
+abbrev pub known : Option Place → Result Place Fault
+known None = Err BadCell
+known (Some c) = Ok c
+
+-- these cells with that of a word, each once
+unfoldable pub add_cell : List Place → List ℕ → Result (List Place) Fault
+add_cell cells word = known (cell_of word) >>= λ c. Ok (with_cell cells c)
+
+-- the cells of a piece with one more, which is new there
+abbrev pub new_cell : List Place → Place → Result (List Place) Fault
+new_cell cells c = if has_place cells c then Err RepeatedCell else Ok (cells ++ c ∷ [])
+
+-- the same, where the cell is given by its word
+unfoldable pub add_piece_cell : List Place → List ℕ → Result (List Place) Fault
+add_piece_cell cells word = if nat_lt (length cells) MOST_PIECE_CELLS then known (cell_of word) >>= new_cell cells else Err TooLarge
+
+-- the cells of a piece as they are kept: in order, with the least corner at 0 0 0
+abbrev pub kept_shape : List Place → List Place
+kept_shape cells = normal (in_order place_cmp cells)
+
+-- the piece of these words
+unfoldable pub shape_of : List (List ℕ) → Result (List Place) Fault
+shape_of words = each add_piece_cell [] words >>= λ cells. Ok (kept_shape cells)
+
+-- *the lines*
+
+-- what is said, where it is within the limits
+abbrev pub within : Said → Result Said Fault
+within s = if nat_le (length s.named) MOST_REGION_CELLS then Ok s else Err TooLarge
+
+-- whether one of the pieces has this name
+abbrev pub has_piece : List (ℕ × List Place) → ℕ → Bool
+has_piece pieces name = list_any (λ p. name == p.0) pieces
+
+-- these names with one more, if it is to be there
+abbrev pub with_name : Bool → List ℕ → ℕ → List ℕ
+with_name there names name = if there then names ++ name ∷ [] else names
+
+-- with one more piece
+abbrev pub with_piece : Said → Bool → ℕ → List Place → Said
+with_piece s optional name shape = record s { pieces = s.pieces ++ (name, shape) ∷ []; maybe_pieces = with_name optional s.maybe_pieces name }
+
+-- the name of a new piece
+abbrev pub is_new : List (ℕ × List Place) → Option ℕ → Result ℕ Fault
+is_new pieces None = Err BadLine
+is_new pieces (Some name) = if has_piece pieces name then Err RepeatedPiece else Ok name
+
+-- the same, where the name is given by a word
+unfoldable pub new_name : List (ℕ × List Place) → List ℕ → Result ℕ Fault
+new_name pieces word = is_new pieces (piece_name word)
+
+-- a `piece` line: a name, and a cell
+unfoldable pub piece_line : Said → Bool → List (List ℕ) → Result Said Fault
+piece_line s optional [] = Err BadLine
+piece_line s optional (word ∷ words) =
+    if is_empty words then Err BadLine else (do
+      name ← new_name s.pieces word
+      shape ← shape_of words
+      Ok (with_piece s optional name shape))
+
+-- three words, and no others
+abbrev pub three : List (List ℕ) → Option (List ℕ × List ℕ × List ℕ)
+three (a ∷ b ∷ c ∷ []) = Some (a, b, c)
+three words = None
+
+-- with a box of these sizes
+abbrev pub with_box : Said → ℕ → ℕ → ℕ → Said
+with_box s a b c = record s { boxed = true; named = with_cells s.named (box_cells a b c) }
+
+-- a box of these sizes: the first, and not too large
+abbrev pub sized_box : Said → Option (List ℕ × List ℕ × List ℕ) → Result Said Fault
+sized_box s None = Err BadLine
+sized_box s (Some (a, b, c)) =
+    if not (are_sizes a b c) then Err BadLine else
+    (if s.boxed then Err SecondBox else
+    (if are_small a b c then within (with_box s (size_of a) (size_of b) (size_of c)) else Err TooLarge))
+
+-- a `box` line: three sizes
+unfoldable pub box_line : Said → List (List ℕ) → Result Said Fault
+box_line s words = sized_box s (three words)
+
+-- a `cells` line, with a cell
+unfoldable pub cells_line : Said → List (List ℕ) → Result Said Fault
+cells_line s words =
+    if is_empty words then Err BadLine else (each add_cell s.named words >>= λ named. within (record s { named = named }))
+
+-- a `maybe cells` line, with a cell
+unfoldable pub maybe_cells_line : Said → List (List ℕ) → Result Said Fault
+maybe_cells_line s words =
+    if is_empty words then Err BadLine else (do
+      named ← each add_cell s.named words
+      maybe ← each add_cell s.maybe_cells words
+      within (record s { named = named; maybe_cells = maybe }))
+
+-- a `cut` line, with a cell
+unfoldable pub cut_line : Said → List (List ℕ) → Result Said Fault
+cut_line s words =
+    if is_empty words then Err BadLine else (each add_cell s.cut words >>= λ cut. Ok (record s { cut = cut }))
+
+-- what a word at the front of a line says
+abbrev pub key_from : List ℕ → Option Key
+key_from word =
+    if bytes_eq word (codes "piece") then Some keys.Piece else
+    (if bytes_eq word (codes "box") then Some keys.Box else
+    (if bytes_eq word (codes "cells") then Some keys.Cells else
+    (if bytes_eq word (codes "cut") then Some keys.Cut else
+    (if bytes_eq word (codes "maybe") then Some keys.Maybe else None))))
+
+-- a line of a second key, after `maybe`, and the words after it
+abbrev pub maybe_keyed : Option Key → Said → List (List ℕ) → Result Said Fault
+maybe_keyed (Some keys.Piece) s words = piece_line s true words
+maybe_keyed (Some keys.Cells) s words = maybe_cells_line s words
+maybe_keyed (Some keys.Box) s words = Err BadLine
+maybe_keyed (Some keys.Cut) s words = Err BadLine
+maybe_keyed (Some keys.Maybe) s words = Err BadLine
+maybe_keyed None s words = Err BadLine
+
+-- a `maybe` line: the words after `maybe`
+unfoldable pub maybe_line : Said → List (List ℕ) → Result Said Fault
+maybe_line s [] = Err BadLine
+maybe_line s (key ∷ words) = maybe_keyed (key_from key) s words
+
+-- a line of a key and the words after it
+abbrev pub keyed_line : Option Key → Said → List (List ℕ) → Result Said Fault
+keyed_line (Some keys.Piece) s words = piece_line s false words
+keyed_line (Some keys.Box) s words = box_line s words
+keyed_line (Some keys.Cells) s words = cells_line s words
+keyed_line (Some keys.Cut) s words = cut_line s words
+keyed_line (Some keys.Maybe) s words = maybe_line s words
+keyed_line None s words = Err BadLine
+
+-- a line of these words; one without words says nothing
+unfoldable pub words_line : Said → List (List ℕ) → Result Said Fault
+words_line s [] = Ok s
+words_line s (key ∷ words) = keyed_line (key_from key) s words
+
+-- a line, with its comment: a byte that isn't plain may stand in the comment alone
+unfoldable pub line : Said → List ℕ → Result Said Fault
+line s bytes = if list_all is_plain (outside_comment bytes) then words_line s (words_of (outside_comment bytes)) else Err BadLine
+
+-- *the whole text*
+
+-- what was read, with the number of the next line; or a fault, with the number of its line
+abbrev pub at_line : ℕ → Result Said Fault → Result (Said × ℕ) (Fault × ℕ)
+at_line n (Ok s) = Ok (s, n + 1)
+at_line n (Err f) = Err (f, n)
+
+-- a line, where what is said comes with the line's number
+unfoldable pub numbered_line : Said × ℕ → List ℕ → Result (Said × ℕ) (Fault × ℕ)
+numbered_line s bytes = at_line s.1 (line s.0 bytes)
+
+-- the lines of a text, from line 1 on
+abbrev pub lines_read : List (List ℕ) → Result (Said × ℕ) (Fault × ℕ)
+lines_read lines = each numbered_line (nothing, 1) lines
+
+-- the region that is said, in order
+abbrev pub region_of : Said → List Place
+region_of s = in_order place_cmp (without s.cut s.named)
+
+-- the fault of a whole text: no cell, no piece, or none of these required
+abbrev pub whole_fault : List (ℕ × List Place) → List ℕ → List Place → List Place → Option Fault
+whole_fault pieces maybe_pieces region maybe_cells =
+    if length region == 0 then Some EmptyRegion else
+    (if length pieces == 0 then Some NoPiece else
+    (if needs_nothing pieces maybe_pieces region maybe_cells then Some NothingRequired else None))
+
+-- the puzzle that is said
+abbrev pub puzzle_said : Said → PuzzleValue
+puzzle_said s = record {
+  pieces = s.pieces;
+  maybe_pieces = s.maybe_pieces;
+  region = region_of s;
+  maybe_cells = in_order place_cmp (without s.cut s.maybe_cells);
+}
+
+-- a puzzle, unless there is a fault
+abbrev pub unless : Option Fault → PuzzleValue → Result PuzzleValue Fault
+unless None p = Ok p
+unless (Some f) p = Err f
+
+-- the puzzle of all lines
+unfoldable pub whole : Said → Result PuzzleValue Fault
+whole s = unless (whole_fault s.pieces s.maybe_pieces (region_of s) s.maybe_cells) (puzzle_said s)
+
+-- a fault of the whole text has the line number 0
+abbrev pub at_end : Result PuzzleValue Fault → Result PuzzleValue (Fault × ℕ)
+at_end (Ok p) = Ok p
+at_end (Err f) = Err (f, 0)
+
+-- the puzzle of a text; or its first fault, and the number of its line, which is 0 for a fault of the whole text
+unfoldable pub puzzle_of : List ℕ → Result PuzzleValue (Fault × ℕ)
+puzzle_of text = lines_read (lines_of text) >>= λ read. at_end (whole read.0)

@@ -1,0 +1,292 @@
+//! What has been read of a puzzle text.
+ghost use Rattle.std.specs.Prelude.{◌≡◌, ◌++◌, ◌∷◌, [], false, Ok, ◌<◌, length, IfOk, OnOk, IfNone};
+ghost use Rattle.std.specs.List.{list_all};
+ghost use Rattle.text_lines.specs.Lines.{words_of};
+ghost use Rattle.poly_texts.specs.Faults.{Gives};
+ghost use Rattle.poly_texts.specs.Puzzle.{PuzzleValue, IsPuzzle, has_name, names_of};
+ghost use Rattle.poly_texts.specs.Reading as reading;
+ghost use Rattle.poly_texts.specs.Reading.{has_piece, nothing, with_name};
+
+use crate::cells::{add_box, add_cells, are_all_in, uncut};
+use crate::fault::{Fault, LineFault};
+use crate::key::{Key, key_of};
+use crate::limits::MOST_REGION_CELLS;
+use crate::name::PieceName;
+use crate::piece::shape_of;
+use crate::puzzle::Puzzle;
+use crate::word::{are_sizes, sizes_of, three_words};
+use indexmap::{IndexMap, IndexSet};
+use poly_cells::{Cell, Shape};
+use std::alloc::{AllocFailed, Global};
+use std::marker::Model;
+use text_lines::{has_words, is_all_plain, outside_comment, split_word};
+
+/// A puzzle as far as its text has been read.
+#[derive(Drop)]
+pub struct Draft {
+    pieces: IndexMap<PieceName, Shape>,
+    maybe_pieces: Vec<PieceName>,
+    is_boxed: bool,
+    /// The cells of `box`, `cells` and `maybe cells` lines.
+    named: IndexSet<Cell>,
+    maybe_cells: IndexSet<Cell>,
+    cut: IndexSet<Cell>,
+}
+
+impl Model for Draft {
+    ghost use Rattle.poly_texts.specs.Reading.{Said};
+
+    ghost Value = { Said };
+
+    ghost view = { λ a. record { pieces = a.pieces.entries; maybe_pieces = a.maybe_pieces.items; boxed = a.is_boxed; named = a.named.keys; maybe_cells = a.maybe_cells.keys; cut = a.cut.keys } };
+}
+
+/// The name of a new piece.
+#[tactic(auto, unfolding(crate::specs::Reading::new_name))]
+fn new_name(pieces: &IndexMap<PieceName, Shape>, word: &[u8]) -> Result<PieceName, LineFault>
+    ensures name { Gives (λ name. name) result (reading.new_name pieces.now.entries word.now) }
+    ensures new { IfOk result (λ name. has_piece pieces.now.entries name ≡ false) }
+{
+    let Some(name) = PieceName::of(word) else {
+        return Err(LineFault::Fault(Fault::BadLine));
+    };
+    if pieces.contains_key(&name) {
+        return Err(LineFault::Fault(Fault::RepeatedPiece));
+    }
+    Ok(name)
+}
+
+/// Adds a new piece.
+fn add_piece(
+    pieces: &mut IndexMap<PieceName, Shape>,
+    name: PieceName,
+    shape: Shape,
+) -> Result<(), AllocFailed<(PieceName, Shape)>>
+    requires { has_piece pieces.old.entries name ≡ false }
+    ensures { OnOk result (pieces.new.entries ≡ pieces.old.entries ++ (name, shape) ∷ []) }
+{
+    pieces.insert(name, shape)?;
+    Ok(())
+}
+
+/// Adds a name, if it is to be there.
+fn add_name(
+    names: &mut Vec<PieceName>,
+    there: bool,
+    name: PieceName,
+) -> Result<(), AllocFailed<PieceName>>
+    ensures { OnOk result (names.new.items ≡ with_name there names.old.items name) }
+{
+    if there {
+        names.push(name)?;
+    }
+    Ok(())
+}
+
+impl Draft {
+    /// The draft of no lines.
+    pub fn new(alloc: Global) -> Draft
+        ensures { result ≡ nothing }
+    {
+        Draft {
+            pieces: IndexMap::new(alloc),
+            maybe_pieces: Vec::new(alloc),
+            is_boxed: false,
+            named: IndexSet::new(alloc),
+            maybe_cells: IndexSet::new(alloc),
+            cut: IndexSet::new(alloc),
+        }
+    }
+
+    /// The draft, if it is within the limits.
+    fn within(self) -> Result<Draft, LineFault>
+        ensures { Gives (λ d. d) result (reading.within self) }
+    {
+        if self.named.len() > MOST_REGION_CELLS {
+            return Err(LineFault::Fault(Fault::TooLarge));
+        }
+        Ok(self)
+    }
+
+    /// The draft with the piece of a `piece` line.
+    #[tactic(auto, unfolding(crate::specs::Reading::piece_line))]
+    fn with_piece(
+        mut self,
+        alloc: Global,
+        is_optional: bool,
+        words: &[u8],
+    ) -> Result<Draft, LineFault>
+        ensures { Gives (λ d. d) result (reading.piece_line self is_optional (words_of words.now)) }
+    {
+        let Some((word, cells)) = split_word(words) else {
+            return Err(LineFault::Fault(Fault::BadLine));
+        };
+        if !has_words(cells) {
+            return Err(LineFault::Fault(Fault::BadLine));
+        }
+        let name = new_name(&self.pieces, word)?;
+        let shape = shape_of(alloc, cells)?;
+        add_piece(&mut self.pieces, name, shape)?;
+        add_name(&mut self.maybe_pieces, is_optional, name)?;
+        Ok(self)
+    }
+
+    /// The draft with the cells of a `box` line.
+    #[tactic(auto, unfolding(crate::specs::Reading::box_line))]
+    fn with_box(mut self, words: &[u8]) -> Result<Draft, LineFault>
+        ensures { Gives (λ d. d) result (reading.box_line self (words_of words.now)) }
+    {
+        let Some((a, b, c)) = three_words(words) else {
+            return Err(LineFault::Fault(Fault::BadLine));
+        };
+        if !are_sizes(a, b, c) {
+            return Err(LineFault::Fault(Fault::BadLine));
+        }
+        if self.is_boxed {
+            return Err(LineFault::Fault(Fault::SecondBox));
+        }
+        let Some((a, b, c)) = sizes_of(a, b, c) else {
+            return Err(LineFault::Fault(Fault::TooLarge));
+        };
+        add_box(&mut self.named, a, b, c)?;
+        self.is_boxed = true;
+        self.within()
+    }
+
+    /// The draft with the cells of a `cells` line.
+    #[tactic(auto, unfolding(crate::specs::Reading::cells_line))]
+    fn with_cells(mut self, words: &[u8]) -> Result<Draft, LineFault>
+        ensures { Gives (λ d. d) result (reading.cells_line self (words_of words.now)) }
+    {
+        if !has_words(words) {
+            return Err(LineFault::Fault(Fault::BadLine));
+        }
+        add_cells(&mut self.named, words)?;
+        self.within()
+    }
+
+    /// The draft with the cells of a `maybe cells` line.
+    #[tactic(auto, unfolding(crate::specs::Reading::maybe_cells_line))]
+    fn with_maybe_cells(mut self, words: &[u8]) -> Result<Draft, LineFault>
+        ensures { Gives (λ d. d) result (reading.maybe_cells_line self (words_of words.now)) }
+    {
+        if !has_words(words) {
+            return Err(LineFault::Fault(Fault::BadLine));
+        }
+        add_cells(&mut self.named, words)?;
+        add_cells(&mut self.maybe_cells, words)?;
+        self.within()
+    }
+
+    /// The draft without the cells of a `cut` line.
+    #[tactic(auto, unfolding(crate::specs::Reading::cut_line))]
+    fn with_cut(mut self, words: &[u8]) -> Result<Draft, LineFault>
+        ensures { Gives (λ d. d) result (reading.cut_line self (words_of words.now)) }
+    {
+        if !has_words(words) {
+            return Err(LineFault::Fault(Fault::BadLine));
+        }
+        add_cells(&mut self.cut, words)?;
+        Ok(self)
+    }
+
+    /// The draft with what a `maybe` line says after that word.
+    #[tactic(auto, unfolding(crate::specs::Reading::maybe_line))]
+    fn with_maybe(self, alloc: Global, words: &[u8]) -> Result<Draft, LineFault>
+        ensures { Gives (λ d. d) result (reading.maybe_line self (words_of words.now)) }
+    {
+        let Some((key, words)) = split_word(words) else {
+            return Err(LineFault::Fault(Fault::BadLine));
+        };
+        match key_of(key) {
+            Some(Key::Piece) => self.with_piece(alloc, true, words),
+            Some(Key::Cells) => self.with_maybe_cells(words),
+            Some(Key::Box) | Some(Key::Cut) | Some(Key::Maybe) | None => {
+                Err(LineFault::Fault(Fault::BadLine))
+            }
+        }
+    }
+
+    /// The draft with a line of these words.
+    #[tactic(auto, unfolding(crate::specs::Reading::words_line))]
+    fn with_words(self, alloc: Global, words: &[u8]) -> Result<Draft, LineFault>
+        ensures { Gives (λ d. d) result (reading.words_line self (words_of words.now)) }
+    {
+        let Some((key, words)) = split_word(words) else {
+            return Ok(self);
+        };
+        match key_of(key) {
+            Some(Key::Piece) => self.with_piece(alloc, false, words),
+            Some(Key::Box) => self.with_box(words),
+            Some(Key::Cells) => self.with_cells(words),
+            Some(Key::Cut) => self.with_cut(words),
+            Some(Key::Maybe) => self.with_maybe(alloc, words),
+            None => Err(LineFault::Fault(Fault::BadLine)),
+        }
+    }
+
+    /// The draft with a line.
+    #[tactic(auto, unfolding(crate::specs::Reading::line))]
+    pub fn with_line(self, alloc: Global, line: &[u8]) -> Result<Draft, LineFault>
+        ensures { Gives (λ d. d) result (reading.line self line.now) }
+    {
+        let said = outside_comment(line);
+        if !is_all_plain(said) {
+            return Err(LineFault::Fault(Fault::BadLine));
+        }
+        self.with_words(alloc, said)
+    }
+
+    /// The puzzle of a whole text.
+    #[tactic(auto, unfolding(crate::specs::Reading::whole))]
+    pub fn into_puzzle(self, alloc: Global) -> Result<Puzzle, LineFault>
+        requires { (p : PuzzleValue) → reading.whole self ≡ Ok p → IsPuzzle p }
+        ensures { Gives (λ p. p) result (reading.whole self) }
+    {
+        let region = uncut(alloc, &self.named, &self.cut)?;
+        let maybe_cells = uncut(alloc, &self.maybe_cells, &self.cut)?;
+        if let Some(fault) = whole_fault(
+            &self.pieces,
+            self.maybe_pieces.as_slice(),
+            region.as_slice(),
+            &self.maybe_cells,
+        ) {
+            return Err(LineFault::Fault(fault));
+        }
+        let Draft {
+            pieces,
+            maybe_pieces,
+            ..
+        } = self;
+        Ok(Puzzle::from_parts(pieces, maybe_pieces, Shape::new(region), maybe_cells))
+    }
+}
+
+/// Whether each piece is one of these names.
+fn are_all_named(pieces: &IndexMap<PieceName, Shape>, names: &[PieceName]) -> bool
+    ensures { result ≡ list_all (has_name names.now) (names_of pieces.now.entries) }
+{
+    pieces.keys().all(|name| names.contains(name))
+}
+
+/// The fault of a whole text, if it has one.
+fn whole_fault(
+    pieces: &IndexMap<PieceName, Shape>,
+    maybe_pieces: &[PieceName],
+    region: &[Cell],
+    maybe_cells: &IndexSet<Cell>,
+) -> Option<Fault>
+    ensures fault { result ≡ reading.whole_fault pieces.now.entries maybe_pieces.now region.now maybe_cells.now.keys }
+    ensures some { IfNone result (0 < length region.now) }
+{
+    if region.is_empty() {
+        return Some(Fault::EmptyRegion);
+    }
+    if pieces.is_empty() {
+        return Some(Fault::NoPiece);
+    }
+    if are_all_named(pieces, maybe_pieces) && are_all_in(region, maybe_cells) {
+        return Some(Fault::NothingRequired);
+    }
+    None
+}

@@ -1,0 +1,22 @@
+//! Puzzle texts: pieces, and the region that they are to fill.
+#![tactic(auto)]
+
+mod cells;
+mod draft;
+mod fault;
+mod key;
+mod limits;
+mod name;
+mod piece;
+mod puzzle;
+mod reading;
+mod word;
+
+pub use fault::{Fault, PuzzleFault};
+pub use limits::{MOST_PIECE_CELLS, MOST_REGION_CELLS, MOST_SIZE};
+pub use name::PieceName;
+pub use puzzle::Puzzle;
+pub use reading::read_puzzle;
+
+#[cfg(test)]
+mod tests;

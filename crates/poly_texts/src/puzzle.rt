@@ -1,0 +1,77 @@
+//! A puzzle.
+ghost use Rattle.std.specs.Prelude.{◌≡◌};
+ghost use Rattle.poly_texts.specs.Puzzle.{IsPuzzle};
+
+use crate::name::PieceName;
+use indexmap::IndexMap;
+use poly_cells::{Cell, Shape};
+use std::marker::Model;
+
+/// Pieces, and the region that they are to fill.
+#[derive(Drop)]
+pub struct Puzzle {
+    pieces: IndexMap<PieceName, Shape>,
+    maybe_pieces: Vec<PieceName>,
+    region: Shape,
+    maybe_cells: Vec<Cell>,
+}
+
+impl Model for Puzzle {
+    ghost use Rattle.poly_texts.specs.Puzzle.{PuzzleValue, IsPuzzle};
+
+    ghost Value = { PuzzleValue };
+
+    ghost view = { λ a. record { pieces = a.pieces.entries; maybe_pieces = a.maybe_pieces.items; region = a.region; maybe_cells = a.maybe_cells.items } };
+
+    ghost invariant = { λ a. IsPuzzle (record { pieces = a.pieces.entries; maybe_pieces = a.maybe_pieces.items; region = a.region; maybe_cells = a.maybe_cells.items }) };
+}
+
+impl Puzzle {
+    /// The puzzle of these parts.
+    pub(crate) fn from_parts(
+        pieces: IndexMap<PieceName, Shape>,
+        maybe_pieces: Vec<PieceName>,
+        region: Shape,
+        maybe_cells: Vec<Cell>,
+    ) -> Puzzle
+        requires { IsPuzzle (record { pieces = pieces.entries; maybe_pieces = maybe_pieces.items; region = region; maybe_cells = maybe_cells.items }) }
+        ensures { result ≡ record { pieces = pieces.entries; maybe_pieces = maybe_pieces.items; region = region; maybe_cells = maybe_cells.items } }
+    {
+        Puzzle {
+            pieces,
+            maybe_pieces,
+            region,
+            maybe_cells,
+        }
+    }
+
+    /// The pieces by name, in the order of the text. Each has its least corner at 0 0 0.
+    pub fn pieces(&self) -> &IndexMap<PieceName, Shape>
+        ensures value { result.now.entries ≡ self.now.pieces }
+        ensures puzzle { IsPuzzle self.now }
+    {
+        &self.pieces
+    }
+
+    /// The names of the pieces that may be left out, in the order of the text.
+    pub fn maybe_pieces(&self) -> &[PieceName]
+        ensures { result.now ≡ self.now.maybe_pieces }
+    {
+        self.maybe_pieces.as_slice()
+    }
+
+    /// The region.
+    pub fn region(&self) -> &Shape
+        ensures value { result.now ≡ self.now.region }
+        ensures puzzle { IsPuzzle self.now }
+    {
+        &self.region
+    }
+
+    /// The cells of the region that may stay empty, in order.
+    pub fn maybe_cells(&self) -> &[Cell]
+        ensures { result.now ≡ self.now.maybe_cells }
+    {
+        self.maybe_cells.as_slice()
+    }
+}

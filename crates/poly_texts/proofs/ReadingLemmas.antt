@@ -5,7 +5,7 @@ use Rattle.indexmap.specs.IndexMap.{insert_entry}
 use Rattle.text_lines.specs.Lines.{lines_of, is_empty}
 use Rattle.text_lines.specs.Each.{each}
 use Rattle.text_lines.proofs.EachLemmas.{each_goes, each_stops, each_ends}
-use Rattle.poly_cells.specs.Places.{Place, place_cmp}
+use Rattle.poly_cells.specs.Places.{Place}
 use Rattle.poly_texts.specs.declared.fault.Fault.{Fault}
 use Rattle.poly_texts.specs.declared.fault.Fault.TheVariants.{RepeatedPiece}
 use Rattle.poly_texts.specs.declared.fault.LineFault.{LineFault}
@@ -13,11 +13,9 @@ use Rattle.poly_texts.specs.declared.fault.LineFault.TheVariants as line_faults
 use Rattle.poly_texts.specs.declared.fault.PuzzleFault.{PuzzleFault}
 use Rattle.poly_texts.specs.declared.fault.PuzzleFault.TheVariants as puzzle_faults
 use Rattle.poly_texts.specs.Faults.{IsFaultOf, IsFaultAt, fault_at}
-use Rattle.poly_cells.specs.Sets.{in_order}
-use Rattle.poly_texts.specs.Cells.{without}
 use Rattle.poly_texts.specs.Words.{piece_name}
 use Rattle.poly_texts.specs.Puzzle.{PuzzleValue}
-use Rattle.poly_texts.specs.Reading.{Said, three, has_piece, new_name, shape_of, with_piece, piece_line, line, at_line, numbered_line, lines_read, region_of, whole_fault, whole, puzzle_of}
+use Rattle.poly_texts.specs.Reading.{Said, three, has_piece, new_name, shape_of, with_piece, piece_line, line, at_line, numbered_line, lines_read, region_of, maybe_region_of, whole_fault, whole, puzzle_of}
 
 -- *words*
 
@@ -99,12 +97,12 @@ text_ends s n rest all so_far none = each_ends numbered_line (s, n) (lines_of re
 -- *the whole text*
 
 -- where nothing is missing, the puzzle has these parts
-pub whole_read : (s : Said) (region maybe : List Place) → region ≡ region_of s → maybe ≡ in_order place_cmp (without s.cut s.maybe_cells) → None ≡ whole_fault s.pieces s.maybe_pieces region s.maybe_cells →
+pub whole_read : (s : Said) (region maybe : List Place) → region ≡ region_of s → maybe ≡ maybe_region_of s → None ≡ whole_fault s.pieces s.maybe_pieces region s.maybe_cells →
     whole s ≡ Ok (record { pieces = s.pieces; maybe_pieces = s.maybe_pieces; region = region; maybe_cells = maybe })
 unfolding whole
 whole_read s region maybe e f none =
     let h : whole_fault s.pieces s.maybe_pieces (region_of s) s.maybe_cells ≡ None = sym (none ∙ ap (λ r. whole_fault s.pieces s.maybe_pieces r s.maybe_cells) e) in
-    rw h (ap (λ r. Ok (record { pieces = s.pieces; maybe_pieces = s.maybe_pieces; region = r; maybe_cells = in_order place_cmp (without s.cut s.maybe_cells) })) (sym e) ∙ ap (λ m. Ok (record { pieces = s.pieces; maybe_pieces = s.maybe_pieces; region = region; maybe_cells = m })) (sym f))
+    rw h (ap (λ r. Ok (record { pieces = s.pieces; maybe_pieces = s.maybe_pieces; region = r; maybe_cells = maybe_region_of s })) (sym e) ∙ ap (λ m. Ok (record { pieces = s.pieces; maybe_pieces = s.maybe_pieces; region = region; maybe_cells = m })) (sym f))
 
 module _ (text : List ℕ) where
   pub text_refused : (f : PuzzleFault) → IsFaultAt f (lines_read (lines_of text)) → IsFaultAt f (puzzle_of text)

@@ -1,12 +1,15 @@
 -- What a puzzle is.
 --
 -- Example: the puzzle with the piece A of two cells, which has to be used, and the region 0 0 0, 1 0 0, 2 0 0, whose last
--- cell may stay empty.
-use Rattle.std.specs.Prelude.{ℕ, ◌==◌, ◌≡◌, ◌<◌, ◌≤◌, Bool, true, false, not, ◌&&◌, List, [], ◌∷◌, map, length}
+-- cell may stay empty. proofs/PuzzleExamples.antt shows that it is one.
+use Rattle.std.specs.Prelude.{ℕ, ◌==◌, ◌≡◌, ◌<◌, ◌≤◌, Bool, true, false, not, ◌&&◌, List, [], ◌∷◌, map, filter, length}
 use Rattle.std.specs.List.{list_all, list_any}
 use Rattle.std.specs.List.Sorted.{IsStrictlySortedBy}
 use Rattle.poly_cells.specs.Places.{Place, place_cmp}
-use Rattle.poly_texts.specs.declared.limits.TheConstants.{MOST_REGION_CELLS}
+use Rattle.poly_cells.specs.Sets.{IsIn}
+use Rattle.poly_cells.specs.Shapes.{AllPlaces, IsShape}
+use Rattle.poly_cells.specs.Images.{IsAtOrigin}
+use Rattle.poly_texts.specs.declared.limits.TheConstants.{MOST_PIECES, MOST_PIECE_CELLS, MOST_REGION_CELLS}
 use Rattle.poly_texts.specs.Cells.{has_place}
 use Rattle.poly_texts.specs.Words.{is_name}
 
@@ -35,15 +38,30 @@ are_new (n ∷ ns) = not (has_name ns n) && are_new ns
 abbrev pub needs_nothing : List (ℕ × List Place) → List ℕ → List Place → List Place → Bool
 needs_nothing pieces maybe_pieces region maybe_cells = list_all (has_name maybe_pieces) (names_of pieces) && list_all (has_place maybe_cells) region
 
--- what every puzzle is: pieces of different names, a region within the limits, and something that is required
+-- the cells of a piece: from 1 to 64 of them, rising, each within the limits; the least x, the least y and the least z are 0
+pub record IsPiece (cells : List Place) : Type 0 where
+  pub shape : IsShape cells
+  pub few : length cells ≤ MOST_PIECE_CELLS
+  pub origin : IsAtOrigin cells
+
+-- each of the pieces is one
+abbrev pub ArePieces : List (ℕ × List Place) → Type 0
+ArePieces pieces = (p : ℕ × List Place) → IsIn p pieces → IsPiece p.1
+
+-- what every puzzle is: from 1 to 62 pieces of different names; a region of 1 to 4,096 cells within the limits, rising; names
+-- of pieces in the order of the pieces; cells of the region, rising; and a piece or a cell that is required
 pub record IsPuzzle (p : PuzzleValue) : Type 0 where
   pub named : list_all is_name (names_of p.pieces) ≡ true
   pub new : are_new (names_of p.pieces) ≡ true
   pub some_piece : 0 < length p.pieces
+  pub few_pieces : length p.pieces ≤ MOST_PIECES
+  pub shaped : ArePieces p.pieces
   pub some_cell : 0 < length p.region
   pub few : length p.region ≤ MOST_REGION_CELLS
   pub rises : IsStrictlySortedBy place_cmp p.region
+  pub limits : AllPlaces p.region
   pub maybe_named : list_all (has_name (names_of p.pieces)) p.maybe_pieces ≡ true
+  pub maybe_in_order : p.maybe_pieces ≡ filter (has_name p.maybe_pieces) (names_of p.pieces)
   pub maybe_rises : IsStrictlySortedBy place_cmp p.maybe_cells
   pub maybe_within : list_all (has_place p.region) p.maybe_cells ≡ true
   pub required : needs_nothing p.pieces p.maybe_pieces p.region p.maybe_cells ≡ false

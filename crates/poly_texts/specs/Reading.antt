@@ -204,6 +204,10 @@ lines_read lines = each numbered_line (nothing, 1) lines
 abbrev pub region_of : Said → List Place
 region_of s = in_order place_cmp (without s.cut s.named)
 
+-- the cells of the region that may stay empty, in order
+abbrev pub maybe_region_of : Said → List Place
+maybe_region_of s = in_order place_cmp (without s.cut s.maybe_cells)
+
 -- the fault of a whole text: no cell, no piece, or none of these required
 abbrev pub whole_fault : List (ℕ × List Place) → List ℕ → List Place → List Place → Option Fault
 whole_fault pieces maybe_pieces region maybe_cells =
@@ -217,7 +221,7 @@ puzzle_said s = record {
   pieces = s.pieces;
   maybe_pieces = s.maybe_pieces;
   region = region_of s;
-  maybe_cells = in_order place_cmp (without s.cut s.maybe_cells);
+  maybe_cells = maybe_region_of s;
 }
 
 -- a puzzle, unless there is a fault

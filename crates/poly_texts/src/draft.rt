@@ -1,7 +1,9 @@
 //! What has been read of a puzzle text.
 ghost use Rattle.std.specs.Prelude.{◌≡◌, ◌++◌, ◌∷◌, [], false, Ok, ◌<◌, length, IfOk, OnOk, IfNone};
 ghost use Rattle.std.specs.List.{list_all};
+ghost use Rattle.std.specs.List.Sorted.{IsStrictlySortedBy};
 ghost use Rattle.text_lines.specs.Lines.{words_of};
+ghost use Rattle.poly_cells.specs.Places.{place_cmp};
 ghost use Rattle.poly_texts.specs.Faults.{Gives};
 ghost use Rattle.poly_texts.specs.Puzzle.{PuzzleValue, IsPuzzle, has_name, names_of};
 ghost use Rattle.poly_texts.specs.Reading as reading;
@@ -17,7 +19,7 @@ use crate::puzzle::Puzzle;
 use crate::word::{are_sizes, sizes_of, three_words};
 use indexmap::{IndexMap, IndexSet};
 use poly_cells::{Cell, Shape};
-use std::alloc::{AllocFailed, Global};
+use std::alloc::{AllocError, AllocFailed, Global};
 use std::marker::Model;
 use text_lines::{has_words, is_all_plain, outside_comment, split_word};
 
@@ -237,20 +239,49 @@ impl Draft {
         self.with_words(alloc, said)
     }
 
+    /// The cells of the region, in order.
+    fn region(&self, alloc: Global) -> Result<Vec<Cell>, AllocError>
+        ensures value { IfOk result (λ cells. cells.items ≡ reading.region_of self.now) }
+        ensures rises { IfOk result (λ cells. IsStrictlySortedBy place_cmp cells.items) }
+    {
+        uncut(alloc, &self.named, &self.cut)
+    }
+
+    /// The cells of the region that may stay empty, in order.
+    fn optional_cells(&self, alloc: Global) -> Result<Vec<Cell>, AllocError>
+        ensures { IfOk result (λ cells. cells.items ≡ reading.maybe_region_of self.now) }
+    {
+        uncut(alloc, &self.maybe_cells, &self.cut)
+    }
+
+    /// The fault of a whole text with this region, if it has one.
+    fn whole_fault(&self, region: &[Cell]) -> Option<Fault>
+        ensures fault { result ≡ reading.whole_fault self.now.pieces self.now.maybe_pieces region.now self.now.maybe_cells }
+        ensures some { IfNone result (0 < length region.now) }
+    {
+        if region.is_empty() {
+            return Some(Fault::EmptyRegion);
+        }
+        if self.pieces.is_empty() {
+            return Some(Fault::NoPiece);
+        }
+        if are_all_named(&self.pieces, self.maybe_pieces.as_slice())
+            && are_all_in(region, &self.maybe_cells)
+        {
+            return Some(Fault::NothingRequired);
+        }
+        None
+    }
+
     /// The puzzle of a whole text.
     #[tactic(auto, unfolding(crate::specs::Reading::whole))]
     pub fn into_puzzle(self, alloc: Global) -> Result<Puzzle, LineFault>
         requires { (p : PuzzleValue) → reading.whole self ≡ Ok p → IsPuzzle p }
         ensures { Gives (λ p. p) result (reading.whole self) }
     {
-        let region = uncut(alloc, &self.named, &self.cut)?;
-        let maybe_cells = uncut(alloc, &self.maybe_cells, &self.cut)?;
-        if let Some(fault) = whole_fault(
-            &self.pieces,
-            self.maybe_pieces.as_slice(),
-            region.as_slice(),
-            &self.maybe_cells,
-        ) {
+        let region = self.region(alloc)?;
+        let maybe_cells = self.optional_cells(alloc)?;
+        if let Some(fault) = self.whole_fault(region.as_slice()) {
             return Err(LineFault::Fault(fault));
         }
         let Draft {
@@ -267,26 +298,4 @@ fn are_all_named(pieces: &IndexMap<PieceName, Shape>, names: &[PieceName]) -> bo
     ensures { result ≡ list_all (has_name names.now) (names_of pieces.now.entries) }
 {
     pieces.keys().all(|name| names.contains(name))
-}
-
-/// The fault of a whole text, if it has one.
-fn whole_fault(
-    pieces: &IndexMap<PieceName, Shape>,
-    maybe_pieces: &[PieceName],
-    region: &[Cell],
-    maybe_cells: &IndexSet<Cell>,
-) -> Option<Fault>
-    ensures fault { result ≡ reading.whole_fault pieces.now.entries maybe_pieces.now region.now maybe_cells.now.keys }
-    ensures some { IfNone result (0 < length region.now) }
-{
-    if region.is_empty() {
-        return Some(Fault::EmptyRegion);
-    }
-    if pieces.is_empty() {
-        return Some(Fault::NoPiece);
-    }
-    if are_all_named(pieces, maybe_pieces) && are_all_in(region, maybe_cells) {
-        return Some(Fault::NothingRequired);
-    }
-    None
 }

@@ -13,7 +13,7 @@ mod reading;
 mod word;
 
 pub use fault::{Fault, PuzzleFault};
-pub use limits::{MOST_PIECE_CELLS, MOST_REGION_CELLS, MOST_SIZE};
+pub use limits::{MOST_PIECE_CELLS, MOST_PIECES, MOST_REGION_CELLS, MOST_SIZE};
 pub use name::PieceName;
 pub use puzzle::Puzzle;
 pub use reading::read_puzzle;

@@ -8,3 +8,6 @@ pub const MOST_REGION_CELLS: usize = 4_096;
 
 /// The most cells of a piece.
 pub const MOST_PIECE_CELLS: usize = 64;
+
+/// The most pieces: one for each name, which is one of `0-9A-Za-z`.
+pub const MOST_PIECES: usize = 62;

@@ -1,4 +1,5 @@
 //! Each call once, with answers that were written down by hand.
+ghost use Rattle.std.specs.Prelude.{◌<◌};
 
 use super::*;
 use poly_cells::Cell;
@@ -140,5 +141,124 @@ fn a_cell_of_maybe_is_optional_wherever_it_is_named(rt: HostRuntime) -> Result<(
     let puzzle = read_puzzle(rt.alloc(), text)?;
     assert!(rt; are_cells(puzzle.region().cells(), &[(0, 0, 0), (1, 0, 0)]));
     assert!(rt; are_cells(puzzle.maybe_cells(), &[(0, 0, 0)]));
+    Ok(())
+}
+
+/// The symbols of coordinates, and of names of pieces.
+const SYMBOLS: &[u8; 62] = b"0123456789abcdefghijklmnopqrstuvwxyzABCDEFGHIJKLMNOPQRSTUVWXYZ";
+
+/// Writes a space and the word of a cell, which its place in the order numbers from 0 to 32,767.
+fn write_cell(text: &mut Vec<u8>, n: usize) -> Result<(), Fail> {
+    text.push(b' ')?;
+    text.push(SYMBOLS[n / 1024 % 32])?;
+    text.push(SYMBOLS[n / 32 % 32])?;
+    text.push(SYMBOLS[n % 32])?;
+    Ok(())
+}
+
+/// Writes lines of the cells from one number up to another. A line with these words at its front begins at each number that
+/// `each` divides.
+fn write_cells(
+    text: &mut Vec<u8>,
+    front: &[u8],
+    from: usize,
+    to: usize,
+    each: usize,
+) -> Result<(), Fail>
+    requires { 0 < each }
+{
+    for n in from..to {
+        if n % each == 0 {
+            text.push(b'\n')?;
+            text.extend_from_slice(front)?;
+        }
+        write_cell(text, n)?;
+    }
+    Ok(())
+}
+
+/// Whether a region of 4,096 cells is read that are named twice, in lines of so many cells; then the same with all but the last
+/// of them cut; and then one cell more is refused, in the line with this number.
+fn is_full_region_read(rt: &HostRuntime, each: usize, last: u64) -> Result<bool, Fail>
+    requires { 0 < each }
+{
+    let mut text = Vec::from_slice(rt.alloc(), b"piece A 000")?;
+    write_cells(&mut text, b"cells", 28_672, 32_768, each)?;
+    write_cells(&mut text, b"maybe cells", 28_672, 32_768, each)?;
+    let full = read_puzzle(rt.alloc(), text.as_slice())?;
+    write_cells(&mut text, b"cut", 28_672, 32_767, each)?;
+    let cut = read_puzzle(rt.alloc(), text.as_slice())?;
+    text.extend_from_slice(b"\ncells 000")?;
+    Ok(
+        full.region().cells().len() == 4096
+            && full.maybe_cells().len() == 4096
+            && are_cells(cut.region().cells(), &[(31, 31, 31)])
+            && are_cells(cut.maybe_cells(), &[(31, 31, 31)])
+            && is_refused(rt, text.as_slice(), Fault::TooLarge, last),
+    )
+}
+
+#[test]
+fn a_full_region_is_read_in_one_line_or_many(rt: HostRuntime) -> Result<(), Fail> {
+    assert!(rt; is_full_region_read(&rt, 4096, 5)?);
+    assert!(rt; is_full_region_read(&rt, 64, 194)?);
+    assert!(rt; is_full_region_read(&rt, 1, 12_289)?);
+    Ok(())
+}
+
+#[test]
+fn repeated_cells_are_read(rt: HostRuntime) -> Result<(), Fail> {
+    let mut text = Vec::from_slice(rt.alloc(), b"piece A 000\nbox 4 32 32")?;
+    for _ in 0..32 {
+        write_cells(&mut text, b"cells", 0, 4096, 4096)?;
+    }
+    text.extend_from_slice(b"\ncells")?;
+    for n in 0..131_072usize {
+        write_cell(&mut text, n % 4096)?;
+    }
+    let puzzle = read_puzzle(rt.alloc(), text.as_slice())?;
+    assert_eq!(rt; puzzle.region().cells().len(), 4096);
+    assert!(rt; puzzle.maybe_cells().is_empty());
+    write_cells(&mut text, b"cells", 0, 32_768, 32_768)?;
+    assert!(rt; is_refused(&rt, text.as_slice(), Fault::TooLarge, 36));
+    Ok(())
+}
+
+#[test]
+fn as_many_pieces_as_names_are_read(rt: HostRuntime) -> Result<(), Fail> {
+    let mut text = Vec::from_slice(rt.alloc(), b"box 1 1 1")?;
+    for (k, name) in SYMBOLS.iter().enumerate() {
+        text.extend_from_slice(b"\npiece ")?;
+        text.push(*name)?;
+        for n in 0..64usize {
+            write_cell(&mut text, 64 * k + n)?;
+        }
+    }
+    let puzzle = read_puzzle(rt.alloc(), text.as_slice())?;
+    assert_eq!(rt; puzzle.pieces().len(), MOST_PIECES);
+    for (name, (found, shape)) in SYMBOLS.iter().zip(puzzle.pieces().iter()) {
+        assert_eq!(rt; found.symbol(), *name);
+        assert_eq!(rt; shape.cells().len(), 64);
+        let last = shape.cells()[shape.cells().len() - 1];
+        assert!(rt; (last.x(), last.y(), last.z()) == (0, 1, 31));
+    }
+    text.extend_from_slice(b"\npiece 0 000")?;
+    assert!(rt; is_refused(&rt, text.as_slice(), Fault::RepeatedPiece, 64));
+    Ok(())
+}
+
+#[test]
+fn blank_lines_and_comments_say_nothing(rt: HostRuntime) -> Result<(), Fail> {
+    let mut text = Vec::from_slice(rt.alloc(), b"piece A 000 #")?;
+    text.resize(1 << 20, b'\xff')?;
+    for _ in 0..262_144u32 {
+        text.extend_from_slice(b"\n \t\r")?;
+    }
+    text.extend_from_slice(b"\nbox 1 1 1")?;
+    text.resize(3 << 20, b' ')?;
+    let puzzle = read_puzzle(rt.alloc(), text.as_slice())?;
+    assert!(rt; are_cells(puzzle.region().cells(), &[(0, 0, 0)]));
+    text.extend_from_slice(b"\r\r")?;
+    assert!(rt; is_refused(&rt, text.as_slice(), Fault::BadLine, 262_146));
     Ok(())
 }

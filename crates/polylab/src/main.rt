@@ -78,4 +78,8 @@ fn main(rt: HostRuntime) -> ExitCode {
 }
 
 #[cfg(test)]
+mod box_tests;
+#[cfg(test)]
+mod lockstep_tests;
+#[cfg(test)]
 mod tests;

@@ -13,13 +13,13 @@ const SMALL_OUTPUT: &str = "visit 4 5 1\nvisits 1\nsteps 43\nlevels 1 2 2 1\n";
 
 /// What `cover` does with a text: its status, its output, and the line of its refusal.
 #[derive(Drop)]
-struct Done {
-    status: u8,
-    output: Vec<u8>,
-    faults: Vec<u8>,
+pub struct Done {
+    pub status: u8,
+    pub output: Vec<u8>,
+    pub faults: Vec<u8>,
 }
 
-fn cover(rt: &HostRuntime, text: &[u8]) -> Done {
+pub fn cover(rt: &HostRuntime, text: &[u8]) -> Done {
     let mut reader = text;
     let mut output = Vec::new(rt.alloc());
     let mut faults = Vec::new(rt.alloc());
@@ -101,7 +101,7 @@ fn equal_options(alloc: Global, count: usize) -> Result<Vec<u8>, AllocError> {
 }
 
 /// How many lines a text has, and whether it ends with these.
-fn ends_with(text: &[u8], lines: usize, end: &[u8]) -> bool {
+pub fn ends_with(text: &[u8], lines: usize, end: &[u8]) -> bool {
     text.iter().filter(|byte| **byte == b'\n').count() == lines && text.ends_with(end)
 }
 

@@ -26,6 +26,21 @@ covers_of (Err f) = Err (line_text (refusal_words f.0 f.1))
 unfoldable pub outcome : Job → List ℕ → Result (List ℕ) (List ℕ)
 outcome jobs.Cover text = covers_of (problem_of text)
 
+-- what is to be written: the text, or nothing where the input is refused
+abbrev pub to_write : Result (List ℕ) (List ℕ) → List ℕ
+to_write (Ok text) = text
+to_write (Err line) = []
+
+-- the lines of what is no fault of the input's text
+abbrev pub no_memory : List ℕ
+no_memory = line_text (codes "refused" ∷ codes "memory" ∷ [])
+
+abbrev pub bad_reader : List ℕ
+bad_reader = line_text (codes "refused" ∷ codes "input" ∷ [])
+
+abbrev pub bad_writer : List ℕ
+bad_writer = line_text (codes "refused" ∷ codes "output" ∷ [])
+
 -- an answer's bytes
 abbrev pub shown : Answer → Result (List ℕ) (List ℕ)
 shown (Text text) = Ok text.items

@@ -142,6 +142,7 @@ fn text_of(alloc: Global, size: Cell, pieces: &[Piece]) -> Result<Vec<u8>, Alloc
             push_cells(&mut text, &grid, *bits)?;
         }
     }
+    text.push(b'\n')?;
     Ok(text)
 }
 

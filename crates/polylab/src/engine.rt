@@ -1,7 +1,7 @@
 //! From the input's bytes to the output's.
 ghost use Rattle.std.specs.Prelude.{◌≡◌, ℕ, List, [], ◌∷◌, Ok, Err, take, IfSome, Contains};
 ghost use Rattle.std.specs.Io.KnownBytes.{Appends, Keeps};
-ghost use Rattle.polylab.specs.Outcome.{outcome};
+ghost use Rattle.polylab.specs.Outcome.{outcome, to_write, no_memory, bad_reader, bad_writer};
 ghost use Rattle.polylab.specs.Listing.{IsListed};
 
 use crate::answer::{Answer, answer_to};
@@ -57,6 +57,12 @@ pub fn run<R, I: Read, O: Write, F: Write>(
     ensures refused { result ≡ REFUSED → IfSome (I.remaining reader.old) (λ bytes. (line : List ℕ)
         × (outcome job bytes ≡ Err line) × (n : ℕ) × Appends (F.contents faults.old) (F.contents faults.new) (take n line)) }
     ensures unwritten { result ≡ REFUSED → Keeps (O.contents writer.old) (O.contents writer.new) }
+    ensures memory { result ≡ NO_MEMORY → Keeps (O.contents writer.old) (O.contents writer.new)
+        × ((n : ℕ) × Appends (F.contents faults.old) (F.contents faults.new) (take n no_memory)) }
+    ensures failed { result ≡ FAILED → (line : List ℕ) × Contains (bad_reader ∷ bad_writer ∷ []) line
+        × ((n : ℕ) × Appends (F.contents faults.old) (F.contents faults.new) (take n line)) }
+    ensures beginning { IfSome (I.remaining reader.old) (λ bytes. (n : ℕ)
+        × Appends (O.contents writer.old) (O.contents writer.new) (take n (to_write (outcome job bytes)))) }
     ensures statuses { Contains (DONE ∷ REFUSED ∷ NO_MEMORY ∷ FAILED ∷ []) result }
 {
     let bytes = match read_whole(alloc, reader) {

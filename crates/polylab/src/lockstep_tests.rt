@@ -37,11 +37,6 @@ fn push_line(text: &mut Vec<u8>, key: &[u8], items: u32) -> Result<(), AllocErro
     Ok(())
 }
 
-/// A number below 12, and below the count where that is not 0.
-fn below(seed: &mut u64, count: u32) -> u32 {
-    draw(seed).checked_rem(count).unwrap_or(0) % 12
-}
-
 /// The text of so many items, of which the first are primary, and so many options of one to five items.
 fn drawn(
     alloc: Global,
@@ -59,7 +54,7 @@ fn drawn(
     for _ in 0..options {
         let mut option = 0;
         for _ in 0..draw(seed) % 5 + 1 {
-            option |= bit(below(seed, items));
+            option |= bit(draw(seed).checked_rem(items).unwrap_or(0));
         }
         push_line(&mut text, b"option", option)?;
     }
@@ -129,31 +124,33 @@ fn step_both(rt: &impl Abort, alloc: Global, problem: &Problem) -> Result<usize,
     Ok(states.len())
 }
 
+// The steps were counted by another program, from the numbers of states and of visits.
 #[test]
 fn both_tables_make_the_same_steps(rt: HostRuntime) -> Result<(), Fail> {
     let alloc = rt.alloc();
     let mut seed = 1;
+    let mut steps = 0usize;
     for round in 0..60u32 {
         let items = round % 4 + 5;
         let options = draw(&mut seed) % 13;
         let text = drawn(alloc, &mut seed, items, items - round % 3, options)?;
         let problem = read_cover(alloc, &text)?;
-        let steps = step_both(&rt, alloc, &problem)?;
-        assert!(rt; steps >= 7);
+        steps = steps.saturating_add(step_both(&rt, alloc, &problem)?);
     }
+    assert_eq!(rt; steps, 1_628);
     Ok(())
 }
 
 #[test]
 fn both_tables_make_the_same_steps_of_larger_problems(rt: HostRuntime) -> Result<(), Fail> {
     let alloc = rt.alloc();
-    let mut seed = 2;
-    let mut total = 0usize;
+    let mut seed = 4;
+    let mut steps = 0usize;
     for primary in 9..13 {
         let text = drawn(alloc, &mut seed, 12, primary, 30)?;
         let problem = read_cover(alloc, &text)?;
-        total = total.saturating_add(step_both(&rt, alloc, &problem)?);
+        steps = steps.saturating_add(step_both(&rt, alloc, &problem)?);
     }
-    assert!(rt; total > 1_000);
+    assert_eq!(rt; steps, 2_240);
     Ok(())
 }

@@ -1,6 +1,8 @@
 //! Polylab: every way to pack a region with polycubes, by exact cover.
 #![tactic(auto)]
 
+ghost use Rattle.std.specs.Prelude.{[], ◌∷◌, Contains};
+
 mod answer;
 mod count;
 mod engine;
@@ -11,7 +13,7 @@ mod output;
 mod report;
 mod search;
 
-use engine::{DONE, NO_MEMORY, USAGE, run};
+use engine::{DONE, FAILED, NO_MEMORY, REFUSED, USAGE, run};
 use job::{LineFault, parse_line};
 use std::env;
 use std::io::{self, ErrorKind};
@@ -32,7 +34,9 @@ fn lent<'a>(rt: &HostRuntime, words: &'a [String]) -> io::Result<Vec<&'a str>> {
 }
 
 /// Does what the words ask for, and answers the exit status.
-fn status(rt: &HostRuntime, words: &[&str]) -> u8 {
+fn status(rt: &HostRuntime, words: &[&str]) -> u8
+    ensures { Contains (DONE ∷ USAGE ∷ REFUSED ∷ NO_MEMORY ∷ FAILED ∷ []) result }
+{
     match parse_line(rt.alloc(), words) {
         Ok(job) => run(
             rt,
@@ -58,7 +62,9 @@ fn status(rt: &HostRuntime, words: &[&str]) -> u8 {
 }
 
 /// The status where the words of the command line could not be had.
-fn no_words(error: &io::Error) -> u8 {
+fn no_words(error: &io::Error) -> u8
+    ensures { Contains (USAGE ∷ NO_MEMORY ∷ []) result }
+{
     if error.kind() == ErrorKind::OutOfMemory {
         NO_MEMORY
     } else {

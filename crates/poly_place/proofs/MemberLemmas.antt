@@ -1,0 +1,63 @@
+-- Members of joined lists, and tests that say whether a list has a cell or has only such cells.
+use Rattle.std.proofs.Common.{◌≡◌, List, [], ◌∷◌, Bool, true, false, cond, inl, inr, refl, sym, subst}
+use Rattle.std.specs.List.{list_all, flat_map}
+use Rattle.std.proofs.lemmas.Bool.{and_parts, and_from, or_left, or_right, or_cases}
+use Rattle.poly_cells.specs.Places.{Place}
+use Rattle.poly_cells.specs.Sets.{IsIn}
+use Rattle.poly_cells.proofs.PlaceLemmas.{same_place_Decides}
+use Rattle.poly_cells.proofs.SetLemmas.{in_append_left, in_append_right, in_append_cases}
+use Rattle.poly_place.specs.Placements.{is_cell, has_cell}
+
+-- ---- joined lists
+
+pub in_flat_map : {X A : Type 0} (f : X → List A) (a : A) (x : X) (xs : List X) → IsIn x xs → IsIn a (f x) → IsIn a (flat_map f xs)
+in_flat_map f a x [] i j = absurd i
+in_flat_map f a x (y ∷ ys) i j =
+    elim i [
+      | inl e ↦ in_append_left a (f y) (flat_map f ys) (subst (λ z. IsIn a (f z)) e j)
+      | inr r ↦ in_append_right a (f y) (flat_map f ys) (in_flat_map f a x ys r j)
+    ]
+
+pub in_from_flat_map : {X A : Type 0} (f : X → List A) (a : A) (xs : List X) → IsIn a (flat_map f xs) → (x : X) × IsIn x xs × IsIn a (f x)
+in_from_flat_map f a [] i = absurd i
+in_from_flat_map f a (y ∷ ys) i =
+    elim (in_append_cases a (f y) (flat_map f ys) i) [
+      | inl l ↦ (y, inl refl, l)
+      | inr r ↦ let rest = in_from_flat_map f a ys r in (rest.0, inr rest.1, rest.2)
+    ]
+
+pub in_cond : {X : Type 0} (b : Bool) (x : X) (xs : List X) → b ≡ true → IsIn x xs → IsIn x (cond b xs [])
+in_cond true x xs h i = i
+in_cond false x xs h i = cc
+
+pub in_from_cond : {X : Type 0} (b : Bool) (x : X) (xs : List X) → IsIn x (cond b xs []) → (b ≡ true) × IsIn x xs
+in_from_cond true x xs i = (refl, i)
+in_from_cond false x xs i = absurd i
+
+-- ---- tests
+
+pub found : (region : List Place) (c : Place) → IsIn c region → has_cell region c ≡ true
+found [] c i = absurd i
+found (v ∷ vs) c i =
+    elim i [
+      | inl e ↦ or_left (is_cell c v) (has_cell vs c) ((same_place_Decides c v).1 e)
+      | inr r ↦ or_right (is_cell c v) (has_cell vs c) (found vs c r)
+    ]
+
+pub in_found : (region : List Place) (c : Place) → has_cell region c ≡ true → IsIn c region
+in_found [] c h = cc
+in_found (v ∷ vs) c h =
+    elim (or_cases (is_cell c v) (has_cell vs c) h) [
+      | inl e ↦ inl ((same_place_Decides c v).0 e)
+      | inr r ↦ inr (in_found vs c r)
+    ]
+
+pub all_pass : {X : Type 0} (test : X → Bool) (xs : List X) → ((x : X) → IsIn x xs → test x ≡ true) → list_all test xs ≡ true
+all_pass test [] h = refl
+all_pass test (x ∷ xs) h = and_from (test x) (list_all test xs) (h x (inl refl)) (all_pass test xs (λ y i. h y (inr i)))
+
+pub passes : {X : Type 0} (test : X → Bool) (xs : List X) → list_all test xs ≡ true → (x : X) → IsIn x xs → test x ≡ true
+passes test [] h x i = absurd i
+passes test (y ∷ ys) h x i =
+    let parts = and_parts (test y) (list_all test ys) h in
+    elim i [ inl e ↦ subst (λ z. test z ≡ true) (sym e) parts.0 | inr r ↦ passes test ys parts.1 x r ]

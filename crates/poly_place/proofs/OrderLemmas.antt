@@ -1,0 +1,30 @@
+-- The order of sets of cells is a total order, and where it says Equal the sets are the same.
+use Rattle.std.proofs.Common.{◌≡◌, List, [], ◌∷◌, refl, ap₂, Ordering, Less, Equal, Greater}
+use Rattle.std.specs.Cmp.{IsTotalOrder}
+use Rattle.std.specs.Cmp.Lexicographic.{pointwise, lists_ties}
+use Rattle.std.specs.Ordering.{ordering_then, eq_by_cmp}
+use Rattle.std.proofs.lemmas.Cmp.{lists_total}
+use Rattle.poly_cells.specs.Places.{Place, place_cmp}
+use Rattle.poly_cells.specs.Sets.{IsExact}
+use Rattle.poly_cells.proofs.PlaceLemmas.{place_total, place_exact, place_ties}
+use Rattle.poly_place.specs.Placements.{cells_cmp, is_cell}
+
+pub cells_total : IsTotalOrder cells_cmp
+cells_total = lists_total place_total
+
+then_equal : (a b : Ordering) → ordering_then a b ≡ Equal → (a ≡ Equal) × (b ≡ Equal)
+then_equal Less b h = cc
+then_equal Equal b h = (refl, h)
+then_equal Greater b h = cc
+
+pub cells_exact : IsExact cells_cmp
+cells_exact [] [] h = refl
+cells_exact [] (y ∷ ys) h = cc
+cells_exact (x ∷ xs) [] h = cc
+cells_exact (x ∷ xs) (y ∷ ys) h =
+    let parts = then_equal (place_cmp x y) (cells_cmp xs ys) h in
+    ap₂ (λ (v : Place) (vs : List Place). v ∷ vs) (place_exact x y parts.0) (cells_exact xs ys parts.1)
+
+-- `==` of two sets agrees with the order
+pub cells_ties : (xs ys : List Place) → pointwise is_cell xs ys ≡ eq_by_cmp cells_cmp xs ys
+cells_ties = lists_ties place_cmp place_ties

@@ -1,0 +1,72 @@
+-- Placements of a piece in a region: the sets of region cells that are the piece turned by a rotation and then translated.
+--
+-- Example: in the box 2 2 1 the piece 0 0 0, 1 0 0 has four placements: 0 0 0 with 0 1 0, 0 0 0 with 1 0 0, 0 1 0 with
+-- 1 1 0, and 1 0 0 with 1 1 0, in this order (proofs/PlacementExamples.antt).
+use Rattle.std.specs.Prelude.{ℕ, ◌<◌, Bool, cond, ◌&&◌, ◌==◌, nat_le, List, [], ◌∷◌, map, length}
+use Rattle.std.specs.List.{list_any, list_all, flat_map}
+use Rattle.std.specs.List.Sorted.{IsStrictlySortedBy}
+use Rattle.std.specs.Cmp.Lexicographic.{slice_cmp}
+use Rattle.std.specs.declared.cmp.Ordering.{Ordering}
+use Rattle.poly_cells.specs.Places.{Place, place_cmp}
+use Rattle.poly_cells.specs.Points.{Point}
+use Rattle.poly_cells.specs.Symmetries.{rotations}
+use Rattle.poly_cells.specs.Sets.{IsIn, in_order}
+use Rattle.poly_cells.specs.Shapes.{IsShape, moved, moved_back, turned}
+use Rattle.poly_cells.specs.Images.{IsImage}
+
+-- sets of cells are ordered as lists of cells
+abbrev pub cells_cmp : List Place → List Place → Ordering
+cells_cmp = slice_cmp place_cmp
+
+-- a set of region cells to which a rotation and then a translation bring the piece
+pub record IsPlacement (piece region set : List Place) : Type 0 where
+  pub rotation : ℕ
+  pub by : Point
+  pub turns : IsIn rotation rotations
+  pub image : IsImage rotation by piece set
+  pub inside : (c : Place) → IsIn c set → IsIn c region
+
+-- exactly the placements, each once, in order
+pub record ArePlacements (piece region : List Place) (sets : List (List Place)) : Type 0 where
+  pub rises : IsStrictlySortedBy cells_cmp sets
+  pub sound : (set : List Place) → IsIn set sets → IsStrictlySortedBy place_cmp set × IsPlacement piece region set
+  pub complete : (set : List Place) → IsStrictlySortedBy place_cmp set → 0 < length set → IsPlacement piece region set → IsIn set sets
+
+-- ---- the list of the placements
+
+-- the two are the same cell
+abbrev pub is_cell : Place → Place → Bool
+is_cell v w = (v.x == w.x) && ((v.y == w.y) && (v.z == w.z))
+
+-- the region has the cell
+abbrev pub has_cell : List Place → Place → Bool
+has_cell region c = list_any (is_cell c) region
+
+-- no coordinate of v is above that of w
+abbrev pub is_below : Place → Place → Bool
+is_below v w = nat_le v.x w.x && (nat_le v.y w.y && nat_le v.z w.z)
+
+-- the set, where each of its cells is inside
+abbrev pub if_inside : (Place → Bool) → List Place → List (List Place)
+if_inside inside set = cond (list_all inside set) (set ∷ []) []
+
+-- the piece moved up so that its first cell comes to c, where that is possible and each cell is then inside
+abbrev pub at_cell : (Place → Bool) → List Place → Place → List (List Place)
+at_cell inside [] c = []
+at_cell inside (f ∷ fs) c = cond (is_below f c) (if_inside inside (map (moved (moved_back f c)) (f ∷ fs))) []
+
+-- the piece with its first cell at each of the cells in turn
+abbrev pub at_cells : (Place → Bool) → List Place → List Place → List (List Place)
+at_cells inside cells piece = flat_map (at_cell inside piece) cells
+
+-- the turned forms of the piece, in order, each once
+unfoldable pub orientations : List Place → List (List Place)
+orientations piece = in_order cells_cmp (map (λ n. turned n piece) rotations)
+
+-- the placements, in order, each once
+unfoldable pub placements : List Place → List Place → List (List Place)
+placements piece region = in_order cells_cmp (flat_map (at_cells (has_cell region) region) (orientations piece))
+
+-- the list of any shape in any other has exactly the placements
+abbrev pub ListsPlacements : Type 0
+ListsPlacements = (piece region : List Place) → IsShape piece → IsShape region → ArePlacements piece region (placements piece region)

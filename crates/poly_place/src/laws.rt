@@ -1,0 +1,7 @@
+//! Laws over the definitions alone. Each is a function without a body whose contract states the law.
+ghost use Rattle.poly_place.specs.Placements.{ListsPlacements};
+
+/// The list of placements of a shape in another has exactly its placements, each once, in order.
+pub fn placements_are_listed()
+    ensures { ListsPlacements }
+{}

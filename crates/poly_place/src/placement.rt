@@ -1,0 +1,120 @@
+//! The placements of a piece in a region.
+ghost use Rattle.std.specs.Prelude.{◌≡◌, ◌<◌, ◌++◌, IfOk, OnOk, length, map, slice_index, vec_items};
+ghost use Rattle.std.specs.List.{flat_map};
+ghost use Rattle.poly_place.specs.Placements.{ArePlacements, at_cell, at_cells, if_inside, orientations, placements};
+ghost use Rattle.poly_cells.specs.Symmetries.{rotations};
+ghost use Rattle.poly_cells.specs.Shapes.{moved};
+ghost use Rattle.poly_place.specs.Tables.{has_bit};
+
+use crate::set::{all_inside, all_moved, is_below, moved_back, put_sets_in_order, shapes_of};
+use crate::table::table_of;
+use poly_cells::{Cell, Rotation, Shape, Symmetry};
+use std::alloc::{AllocError, Global};
+
+/// The placements of the piece in the region: all sets of region cells that are the piece turned by a rotation and
+/// translated, each once, in the order of their lists of cells.
+pub fn placements(alloc: Global, piece: &Shape, region: &Shape) -> Result<Vec<Shape>, AllocError>
+    ensures value { IfOk result (λ sets. sets.items ≡ placements piece.now region.now) }
+    ensures exactly { IfOk result (λ sets. ArePlacements piece.now region.now sets.items) }
+{
+    // Reading the piece's cells tells that they are a shape, as those of the region.
+    let _piece_cells = piece.cells();
+    let cells = region.cells();
+    let turns = orientations(alloc, piece)?;
+    let bits = table_of(alloc, cells)?;
+    let mut sets = all_sets(alloc, bits.as_slice(), cells, turns.as_slice())?;
+    put_sets_in_order(&mut sets);
+    shapes_of(alloc, sets)
+}
+
+// The turned forms of the piece, in order, each once.
+fn orientations(alloc: Global, piece: &Shape) -> Result<Vec<Vec<Cell>>, AllocError>
+    ensures { IfOk result (λ turns. map vec_items turns.items ≡ orientations piece.now) }
+{
+    let mut turns = Vec::new(alloc);
+    for r in 0..24u8 {
+        let turned = piece.turned(turn(r))?;
+        turns.push(Vec::from_slice(alloc, turned.cells())?)?;
+    }
+    put_sets_in_order(&mut turns);
+    Ok(turns)
+}
+
+// The rotation numbered `r`, among the symmetries.
+fn turn(r: u8) -> Symmetry
+    requires { r < 24 }
+    ensures { result ≡ slice_index rotations r }
+{
+    Rotation::new(r).symmetry()
+}
+
+// Each of the turned forms with its first cell at each of the cells, where it is then inside.
+fn all_sets(
+    alloc: Global,
+    bits: &[bool],
+    cells: &[Cell],
+    turns: &[Vec<Cell>],
+) -> Result<Vec<Vec<Cell>>, AllocError>
+    requires { length bits.now ≡ 32768 }
+    ensures { IfOk result (λ sets. map vec_items sets.items ≡ flat_map (at_cells (has_bit bits.now) cells.now) (map vec_items turns.now)) }
+{
+    let mut sets = Vec::new(alloc);
+    for turned in turns {
+        add_at_cells(alloc, &mut sets, bits, cells, turned.as_slice())?;
+    }
+    Ok(sets)
+}
+
+// Adds the piece with its first cell at each of the cells, where it is then inside.
+fn add_at_cells(
+    alloc: Global,
+    sets: &mut Vec<Vec<Cell>>,
+    bits: &[bool],
+    cells: &[Cell],
+    piece: &[Cell],
+) -> Result<(), AllocError>
+    requires { length bits.now ≡ 32768 }
+    ensures { OnOk result (map vec_items sets.new.items ≡ map vec_items sets.old.items ++ at_cells (has_bit bits.now) cells.now piece.now) }
+{
+    for cell in cells {
+        add_at_cell(alloc, sets, bits, piece, *cell)?;
+    }
+    Ok(())
+}
+
+// Adds the piece with its first cell at this cell, where it is then inside.
+fn add_at_cell(
+    alloc: Global,
+    sets: &mut Vec<Vec<Cell>>,
+    bits: &[bool],
+    piece: &[Cell],
+    cell: Cell,
+) -> Result<(), AllocError>
+    requires { length bits.now ≡ 32768 }
+    ensures { OnOk result (map vec_items sets.new.items ≡ map vec_items sets.old.items ++ at_cell (has_bit bits.now) piece.now cell) }
+{
+    let Some(first) = piece.first() else {
+        return Ok(());
+    };
+    if is_below(*first, cell) {
+        add_if_inside(alloc, sets, bits, piece, moved_back(*first, cell))?;
+    }
+    Ok(())
+}
+
+// Adds the cells moved by the coordinates of `by`, where each is then inside.
+fn add_if_inside(
+    alloc: Global,
+    sets: &mut Vec<Vec<Cell>>,
+    bits: &[bool],
+    cells: &[Cell],
+    by: Cell,
+) -> Result<(), AllocError>
+    requires { length bits.now ≡ 32768 }
+    ensures { OnOk result (map vec_items sets.new.items ≡ map vec_items sets.old.items ++ if_inside (has_bit bits.now) (map (moved by) cells.now)) }
+{
+    if all_inside(bits, cells, by) {
+        sets.push(all_moved(alloc, cells, by)?)?;
+    }
+    Ok(())
+}

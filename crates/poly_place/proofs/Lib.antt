@@ -5,3 +5,7 @@ pub mod PlacementLemmas
 pub mod TableLemmas
 pub mod WalkLemmas
 pub mod PlacementExamples
+pub mod DistinctLemmas
+pub mod ThingLemmas
+pub mod PackingLemmas
+pub mod PackingExamples

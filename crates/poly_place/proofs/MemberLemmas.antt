@@ -1,12 +1,9 @@
--- Members of joined lists, and tests that say whether a list has a cell or has only such cells.
+-- Members of joined lists, and a test that all members of a list pass.
 use Rattle.std.proofs.Common.{◌≡◌, List, [], ◌∷◌, Bool, true, false, cond, inl, inr, refl, sym, subst}
 use Rattle.std.specs.List.{list_all, flat_map}
-use Rattle.std.proofs.lemmas.Bool.{and_parts, and_from, or_left, or_right, or_cases}
-use Rattle.poly_cells.specs.Places.{Place}
+use Rattle.std.proofs.lemmas.Bool.{and_parts, and_from}
 use Rattle.poly_cells.specs.Sets.{IsIn}
-use Rattle.poly_cells.proofs.PlaceLemmas.{same_place_Decides}
 use Rattle.poly_cells.proofs.SetLemmas.{in_append_left, in_append_right, in_append_cases}
-use Rattle.poly_place.specs.Placements.{is_cell, has_cell}
 
 -- ---- joined lists
 
@@ -34,23 +31,7 @@ pub in_from_cond : {X : Type 0} (b : Bool) (x : X) (xs : List X) → IsIn x (con
 in_from_cond true x xs i = (refl, i)
 in_from_cond false x xs i = absurd i
 
--- ---- tests
-
-pub found : (region : List Place) (c : Place) → IsIn c region → has_cell region c ≡ true
-found [] c i = absurd i
-found (v ∷ vs) c i =
-    elim i [
-      | inl e ↦ or_left (is_cell c v) (has_cell vs c) ((same_place_Decides c v).1 e)
-      | inr r ↦ or_right (is_cell c v) (has_cell vs c) (found vs c r)
-    ]
-
-pub in_found : (region : List Place) (c : Place) → has_cell region c ≡ true → IsIn c region
-in_found [] c h = cc
-in_found (v ∷ vs) c h =
-    elim (or_cases (is_cell c v) (has_cell vs c) h) [
-      | inl e ↦ inl ((same_place_Decides c v).0 e)
-      | inr r ↦ inr (in_found vs c r)
-    ]
+-- ---- a test of all
 
 pub all_pass : {X : Type 0} (test : X → Bool) (xs : List X) → ((x : X) → IsIn x xs → test x ≡ true) → list_all test xs ≡ true
 all_pass test [] h = refl

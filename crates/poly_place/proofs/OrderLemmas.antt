@@ -7,7 +7,8 @@ use Rattle.std.proofs.lemmas.Cmp.{lists_total}
 use Rattle.poly_cells.specs.Places.{Place, place_cmp}
 use Rattle.poly_cells.specs.Sets.{IsExact}
 use Rattle.poly_cells.proofs.PlaceLemmas.{place_total, place_exact, place_ties}
-use Rattle.poly_place.specs.Placements.{cells_cmp, is_cell}
+use Rattle.poly_texts.specs.Cells.{is_same}
+use Rattle.poly_place.specs.Placements.{cells_cmp}
 
 pub cells_total : IsTotalOrder cells_cmp
 cells_total = lists_total place_total
@@ -26,5 +27,5 @@ cells_exact (x ∷ xs) (y ∷ ys) h =
     ap₂ (λ (v : Place) (vs : List Place). v ∷ vs) (place_exact x y parts.0) (cells_exact xs ys parts.1)
 
 -- `==` of two sets agrees with the order
-pub cells_ties : (xs ys : List Place) → pointwise is_cell xs ys ≡ eq_by_cmp cells_cmp xs ys
+pub cells_ties : (xs ys : List Place) → pointwise is_same xs ys ≡ eq_by_cmp cells_cmp xs ys
 cells_ties = lists_ties place_cmp place_ties

@@ -4,7 +4,8 @@ use Rattle.poly_cells.specs.Places.{Place, place}
 use Rattle.poly_cells.specs.Symmetries.{matrix, is_rotation, rotations}
 use Rattle.poly_cells.specs.Sets.{in_order}
 use Rattle.poly_cells.specs.Shapes.{normal, turned}
-use Rattle.poly_place.specs.Placements.{cells_cmp, has_cell, at_cell, orientations, placements}
+use Rattle.poly_texts.specs.Cells.{has_place}
+use Rattle.poly_place.specs.Placements.{cells_cmp, at_cell, orientations, placements}
 use Rattle.poly_place.specs.Tables.{has_bit}
 
 abbrev row : List Place
@@ -17,10 +18,10 @@ square = place 0 0 0 ∷ place 0 1 0 ∷ place 1 0 0 ∷ place 1 1 0 ∷ []
 sets_in_order : cells_cmp (place 0 0 0 ∷ place 0 1 0 ∷ []) (place 0 0 0 ∷ place 1 0 0 ∷ []) ≡ Less
 sets_in_order = refl
 
-moved_to_its_place : at_cell (has_cell square) row (place 0 1 0) ≡ (place 0 1 0 ∷ place 1 1 0 ∷ []) ∷ []
+moved_to_its_place : at_cell (has_place square) row (place 0 1 0) ≡ (place 0 1 0 ∷ place 1 1 0 ∷ []) ∷ []
 moved_to_its_place = refl
 
-does_not_fit : at_cell (has_cell square) row (place 1 0 0) ≡ []
+does_not_fit : at_cell (has_place square) row (place 1 0 0) ≡ []
 does_not_fit = refl
 
 lies_three_ways : orientations row ≡ (place 0 0 0 ∷ place 0 0 1 ∷ []) ∷ (place 0 0 0 ∷ place 0 1 0 ∷ []) ∷ (place 0 0 0 ∷ place 1 0 0 ∷ []) ∷ []

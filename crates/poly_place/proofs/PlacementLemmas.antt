@@ -13,10 +13,12 @@ use Rattle.poly_cells.specs.Images.{IsImage}
 use Rattle.poly_cells.proofs.SetLemmas.{in_map, in_from_map, in_order_rises, in_from_order, in_to_order}
 use Rattle.poly_cells.proofs.ImageLemmas.{turned_is, some_from_in, in_from_some}
 use Rattle.poly_cells.proofs.ShapeLemmas.{turned_is_shape}
-use Rattle.poly_place.specs.Placements.{cells_cmp, IsPlacement, ArePlacements, has_cell, is_below, if_inside, at_cell, at_cells, orientations, placements}
+use Rattle.poly_texts.specs.Cells.{has_place}
+use Rattle.poly_place.specs.Placements.{cells_cmp, IsPlacement, ArePlacements, is_below, if_inside, at_cell, at_cells, orientations, placements}
 use Rattle.poly_place.specs.Tables.{has_bit, IsTable}
 use Rattle.poly_place.proofs.OrderLemmas.{cells_total, cells_exact}
-use Rattle.poly_place.proofs.MemberLemmas.{in_flat_map, in_from_flat_map, in_cond, in_from_cond, found, in_found, all_pass, passes}
+use Rattle.poly_texts.proofs.MemberLemmas.{in_from_has, has_from_in}
+use Rattle.poly_place.proofs.MemberLemmas.{in_flat_map, in_from_flat_map, in_cond, in_from_cond, all_pass, passes}
 use Rattle.poly_place.proofs.WalkLemmas.{at_cells_same}
 use Rattle.poly_place.proofs.MoveLemmas.{moved_rises, moved_image, moved_by, is_moved}
 
@@ -52,9 +54,9 @@ in_orientations piece n i =
 
 -- the sets of the list, before they are put in order
 abbrev all_sets : List Place → List Place → List (List Place)
-all_sets piece region = flat_map (at_cells (has_cell region) region) (orientations piece)
+all_sets piece region = flat_map (at_cells (has_place region) region) (orientations piece)
 
-placement_from_up : (piece region set : List Place) (n : ℕ) → IsShape piece → IsIn n rotations → IsUp (has_cell region) (turned n piece) set
+placement_from_up : (piece region set : List Place) (n : ℕ) → IsShape piece → IsIn n rotations → IsUp (has_place region) (turned n piece) set
     → IsStrictlySortedBy place_cmp set × IsPlacement piece region set
 placement_from_up piece region set n s i u =
     let t = turned_is n piece s.some s.limits in (
@@ -64,17 +66,17 @@ placement_from_up piece region set n s i u =
         by = translated (point u.by) t.by;
         turns = i;
         image = subst (IsImage n (translated (point u.by) t.by) piece) (sym u.same) (moved_image n u.by t.by piece (turned n piece) t.image);
-        inside = λ c j. in_found region c (passes (has_cell region) set u.all c j);
+        inside = λ c j. in_from_has region c (passes (has_place region) set u.all c j);
       },
     )
 
 pub sound : (piece region set : List Place) → IsShape piece → IsIn set (placements piece region) → IsStrictlySortedBy place_cmp set × IsPlacement piece region set
 unfolding placements
 sound piece region set s i =
-    let o = in_from_flat_map (at_cells (has_cell region) region) set (orientations piece) (in_from_order cells_cmp set (all_sets piece region) i) in
-    let c = in_from_flat_map (at_cell (has_cell region) o.0) set region o.2 in
+    let o = in_from_flat_map (at_cells (has_place region) region) set (orientations piece) (in_from_order cells_cmp set (all_sets piece region) i) in
+    let c = in_from_flat_map (at_cell (has_place region) o.0) set region o.2 in
     let n = in_from_orientations piece o.0 o.1 in
-    placement_from_up piece region set n.0 s n.1 (subst (λ (w : List Place). IsUp (has_cell region) w set) n.2 (up_from_cell (has_cell region) o.0 set c.0 c.2))
+    placement_from_up piece region set n.0 s n.1 (subst (λ (w : List Place). IsUp (has_place region) w set) n.2 (up_from_cell (has_place region) o.0 set c.0 c.2))
 
 -- ---- and each such set is on the list
 
@@ -94,17 +96,17 @@ below_moved d f =
     (and_from (nat_le f.y (f.y + d.y)) (nat_le f.z (f.z + d.z)) (le_sum f.y d.y) (le_sum f.z d.z))
 
 reached : (region piece : List Place) (d : Place) → 0 < length piece → ((c : Place) → IsIn c (map (moved d) piece) → IsIn c region)
-    → IsIn (map (moved d) piece) (at_cells (has_cell region) region piece)
+    → IsIn (map (moved d) piece) (at_cells (has_place region) region piece)
 reached region [] d some inside = absurd (omega arith)
 reached region (f ∷ fs) d some inside =
-    in_flat_map (at_cell (has_cell region) (f ∷ fs)) (map (moved d) (f ∷ fs)) (moved d f) region (inside (moved d f) (inl refl))
-    (at_its_cell (has_cell region) f (moved d f) d fs (below_moved d f) (moved_by d f)
-    (all_pass (has_cell region) (map (moved d) (f ∷ fs)) (λ c i. found region c (inside c i))))
+    in_flat_map (at_cell (has_place region) (f ∷ fs)) (map (moved d) (f ∷ fs)) (moved d f) region (inside (moved d f) (inl refl))
+    (at_its_cell (has_place region) f (moved d f) d fs (below_moved d f) (moved_by d f)
+    (all_pass (has_place region) (map (moved d) (f ∷ fs)) (λ c i. has_from_in region c (inside c i))))
 
 in_all_sets : (piece region : List Place) (n : ℕ) (d : Place) → IsShape piece → IsIn n rotations → ((c : Place) → IsIn c (map (moved d) (turned n piece)) → IsIn c region)
     → IsIn (map (moved d) (turned n piece)) (all_sets piece region)
 in_all_sets piece region n d s i inside =
-    in_flat_map (at_cells (has_cell region) region) (map (moved d) (turned n piece)) (turned n piece) (orientations piece) (in_orientations piece n i)
+    in_flat_map (at_cells (has_place region) region) (map (moved d) (turned n piece)) (turned n piece) (orientations piece) (in_orientations piece n i)
     (reached region (turned n piece) d (turned_is_shape n piece s.some s.limits).some inside)
 
 pub complete : (piece region set : List Place) → IsShape piece → IsStrictlySortedBy place_cmp set → IsPlacement piece region set → IsIn set (placements piece region)
@@ -116,10 +118,14 @@ complete piece region set s rises p =
     (subst (λ (w : List Place). IsIn w (all_sets piece region)) (sym there.same)
     (in_all_sets piece region n there.by s p.turns (λ c i. p.inside c (subst (λ (w : List Place). IsIn c w) (sym there.same) i))))
 
+pub placements_rise : (piece region : List Place) → IsStrictlySortedBy cells_cmp (placements piece region)
+unfolding placements
+placements_rise piece region = in_order_rises cells_total (all_sets piece region)
+
 pub are_placements : (piece region : List Place) → IsShape piece → IsShape region → ArePlacements piece region (placements piece region)
 unfolding placements
 are_placements piece region s r = record {
-  rises = in_order_rises cells_total (all_sets piece region);
+  rises = placements_rise piece region;
   sound = λ set i. sound piece region set s i;
   complete = λ set rises some p. complete piece region set s rises p;
 }
@@ -146,6 +152,6 @@ unfolding placements
 found_placements piece region cells bits read turns walked sets found same table reads are walks all sorted =
     sorted ∙ ap (in_order cells_cmp) (all
     ∙ ap (λ b. flat_map (at_cells (has_bit b) cells) walked) reads
-    ∙ at_cells_same (has_bit bits) (has_cell cells) table.same cells walked
-    ∙ ap (λ vs. flat_map (at_cells (has_cell vs) vs) walked) same
-    ∙ ap (flat_map (at_cells (has_cell region) region)) (walks ∙ are))
+    ∙ at_cells_same (has_bit bits) (has_place cells) table.same cells walked
+    ∙ ap (λ vs. flat_map (at_cells (has_place vs) vs) walked) same
+    ∙ ap (flat_map (at_cells (has_place region) region)) (walks ∙ are))

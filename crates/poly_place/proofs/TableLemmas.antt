@@ -7,7 +7,7 @@ use Rattle.std.proofs.lemmas.List.{take_more, take_all, take-append-le, get_or-s
 use Rattle.std.proofs.lemmas.List.Folds.{list_any-append}
 use Rattle.poly_cells.specs.Places.{Place, IsPlace}
 use Rattle.poly_cells.proofs.PlaceLemmas.{same_place, same_place_Decides}
-use Rattle.poly_place.specs.Placements.{is_cell, has_cell}
+use Rattle.poly_texts.specs.Cells.{is_same, has_place}
 use Rattle.poly_place.specs.Tables.{bit_place, has_bit, IsTable}
 
 -- ---- the place of a bit tells the cell
@@ -77,24 +77,24 @@ or_false false b h = sym h
 
 -- ---- one bit more
 
-bit_more : (bits : List Bool) (v c : Place) → IsPlace v → length bits ≡ 32768 → has_bit (slice_set bits (bit_place v) true) c ≡ has_bit bits c || is_cell c v
+bit_more : (bits : List Bool) (v c : Place) → IsPlace v → length bits ≡ 32768 → has_bit (slice_set bits (bit_place v) true) c ≡ has_bit bits c || is_same c v
 bit_more bits v c h long =
     let new = slice_set bits (bit_place v) true in
-    elim (bool_cases (is_cell c v)) [
+    elim (bool_cases (is_same c v)) [
       | inl t ↦
           let e : c ≡ v = (same_place_Decides c v).0 t in
           let lt : bit_place v < length bits = let b = low v h in omega arith in
           let at : slice_index_or new (bit_place c) false ≡ true =
           ap (λ (w : Place). slice_index_or new (bit_place w) false) e ∙ get_or-set_same bits (bit_place v) true false lt in
-          true_bit new c (subst IsPlace (sym e) h) at ∙ or_true (has_bit bits c) (is_cell c v) t
+          true_bit new c (subst IsPlace (sym e) h) at ∙ or_true (has_bit bits c) (is_same c v) t
       | inr f ↦
           alike bits new c (λ g. get_or-set_other bits (bit_place v) (bit_place c) true false
           (λ e. let t = (same_place_Decides c v).1 (bit_place_same c v g h e) in cc))
-          ∙ or_false (has_bit bits c) (is_cell c v) f
+          ∙ or_false (has_bit bits c) (is_same c v) f
     ]
 
-cell_more : (region : List Place) (v c : Place) → has_cell (region ++ v ∷ []) c ≡ has_cell region c || is_cell c v
-cell_more region v c = list_any-append (is_cell c) region (v ∷ []) ∙ ap (λ b. has_cell region c || b) (single (is_cell c v)) where
+cell_more : (region : List Place) (v c : Place) → has_place (region ++ v ∷ []) c ≡ has_place region c || is_same c v
+cell_more region v c = list_any-append (is_same c) region (v ∷ []) ∙ ap (λ b. has_place region c || b) (single (is_same c v)) where
   single : (b : Bool) → b || false ≡ b
   single true = refl
   single false = refl
@@ -110,8 +110,8 @@ table_more region vs i v bits new k lt is h at set t =
     let one : new ≡ slice_set bits (bit_place v) true = set ∙ ap (λ j. slice_set bits j true) at in
     record {
       long = ap length one ∙ length-set bits (bit_place v) true ∙ t.long;
-      same = λ c. ap (λ b. has_bit b c) one ∙ bit_more bits v c h t.long ∙ ap (λ b. b || is_cell c v) (t.same c) ∙ sym (cell_more (region ++ take i vs) v c)
-          ∙ ap (λ r. has_cell r c) (grown region vs i v lt is);
+      same = λ c. ap (λ b. has_bit b c) one ∙ bit_more bits v c h t.long ∙ ap (λ b. b || is_same c v) (t.same c) ∙ sym (cell_more (region ++ take i vs) v c)
+          ∙ ap (λ r. has_place r c) (grown region vs i v lt is);
     }
 
 -- ---- no bit

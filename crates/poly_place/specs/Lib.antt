@@ -1,2 +1,3 @@
 pub mod Placements
 pub mod Tables
+pub mod Packings

@@ -2,12 +2,13 @@
 --
 -- Example: in the box 2 2 1 the piece 0 0 0, 1 0 0 has four placements: 0 0 0 with 0 1 0, 0 0 0 with 1 0 0, 0 1 0 with
 -- 1 1 0, and 1 0 0 with 1 1 0, in this order (proofs/PlacementExamples.antt).
-use Rattle.std.specs.Prelude.{ℕ, ◌<◌, Bool, cond, ◌&&◌, ◌==◌, nat_le, List, [], ◌∷◌, map, length}
-use Rattle.std.specs.List.{list_any, list_all, flat_map}
+use Rattle.std.specs.Prelude.{ℕ, ◌<◌, Bool, cond, ◌&&◌, nat_le, List, [], ◌∷◌, map, length}
+use Rattle.std.specs.List.{list_all, flat_map}
 use Rattle.std.specs.List.Sorted.{IsStrictlySortedBy}
 use Rattle.std.specs.Cmp.Lexicographic.{slice_cmp}
 use Rattle.std.specs.declared.cmp.Ordering.{Ordering}
 use Rattle.poly_cells.specs.Places.{Place, place_cmp}
+use Rattle.poly_texts.specs.Cells.{has_place}
 use Rattle.poly_cells.specs.Points.{Point}
 use Rattle.poly_cells.specs.Symmetries.{rotations}
 use Rattle.poly_cells.specs.Sets.{IsIn, in_order}
@@ -34,14 +35,6 @@ pub record ArePlacements (piece region : List Place) (sets : List (List Place)) 
 
 -- ---- the list of the placements
 
--- the two are the same cell
-abbrev pub is_cell : Place → Place → Bool
-is_cell v w = (v.x == w.x) && ((v.y == w.y) && (v.z == w.z))
-
--- the region has the cell
-abbrev pub has_cell : List Place → Place → Bool
-has_cell region c = list_any (is_cell c) region
-
 -- no coordinate of v is above that of w
 abbrev pub is_below : Place → Place → Bool
 is_below v w = nat_le v.x w.x && (nat_le v.y w.y && nat_le v.z w.z)
@@ -65,7 +58,7 @@ orientations piece = in_order cells_cmp (map (λ n. turned n piece) rotations)
 
 -- the placements, in order, each once
 unfoldable pub placements : List Place → List Place → List (List Place)
-placements piece region = in_order cells_cmp (flat_map (at_cells (has_cell region) region) (orientations piece))
+placements piece region = in_order cells_cmp (flat_map (at_cells (has_place region) region) (orientations piece))
 
 -- the list of any shape in any other has exactly the placements
 abbrev pub ListsPlacements : Type 0

@@ -1,7 +1,7 @@
 -- A region as a table: for each cell within the limits a bit that tells whether the region has it.
 use Rattle.std.specs.Prelude.{◌≡◌, ℕ, ◌+◌, ◌*◌, Bool, false, ◌&&◌, nat_le, List, length, slice_index_or}
 use Rattle.poly_cells.specs.Places.{Place}
-use Rattle.poly_place.specs.Placements.{has_cell}
+use Rattle.poly_texts.specs.Cells.{has_place}
 
 -- the place of a cell's bit
 abbrev pub bit_place : Place → ℕ
@@ -14,4 +14,4 @@ has_bit bits c = nat_le c.x 31 && (nat_le c.y 31 && (nat_le c.z 31 && slice_inde
 -- the table has exactly the cells of the region
 pub record IsTable (region : List Place) (bits : List Bool) : Type 0 where
   pub long : length bits ≡ 32768
-  pub same : (c : Place) → has_bit bits c ≡ has_cell region c
+  pub same : (c : Place) → has_bit bits c ≡ has_place region c

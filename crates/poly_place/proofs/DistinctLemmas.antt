@@ -1,0 +1,108 @@
+-- Lists in which nothing comes twice, and places in them.
+use Rattle.std.proofs.Common.{◌≡◌, ℕ, zero, suc, ◌<◌, List, [], ◌∷◌, ◌++◌, map, filter, length, get_or, Bool, true, false, cond, not, ◌==◌, inl, inr, refl, sym, ap, subst, Ordering, arith, eqb-true, eq-eqb}
+use Rattle.std.specs.Cmp.{IsTotalOrder}
+use Rattle.std.specs.List.{list_any}
+use Rattle.std.specs.List.Sorted.{IsStrictlySortedBy}
+use Rattle.std.proofs.lemmas.Bool.{and_parts, or_left, or_right, or_cases}
+use Rattle.poly_cells.specs.Sets.{IsIn}
+use Rattle.poly_cells.proofs.SetLemmas.{in_append_cases, in_from_map, rising_head, rising_tail, not_itself, in_at}
+use Rattle.poly_texts.specs.Puzzle.{has_name, are_new}
+
+-- ---- members of a filtered list, and tests on numbers
+
+pub in_from_filter : {X : Type 0} (test : X → Bool) (x : X) (xs : List X) → IsIn x (filter test xs) → IsIn x xs × (test x ≡ true)
+in_from_filter test x [] i = absurd i
+in_from_filter {X} test x (y ∷ ys) i = by_test (test y) refl (in_from_filter test x ys) i
+  where
+    by_test : (b : Bool) → test y ≡ b → (IsIn x (filter test ys) → IsIn x ys × (test x ≡ true)) → IsIn x (cond b (y ∷ filter test ys) (filter test ys)) → IsIn x (y ∷ ys) × (test x ≡ true)
+    by_test true h rest j = elim j [ inl e ↦ (inl e, subst (λ (z : X). test z ≡ true) (sym e) h) | inr r ↦ let more = rest r in (inr more.0, more.1) ]
+    by_test false h rest j = let more = rest j in (inr more.0, more.1)
+
+pub in_filter : {X : Type 0} (test : X → Bool) (x : X) (xs : List X) → IsIn x xs → test x ≡ true → IsIn x (filter test xs)
+in_filter test x [] i h = absurd i
+in_filter {X} test x (y ∷ ys) i h = by_test (test y) refl (λ r. in_filter test x ys r h)
+  where
+    by_test : (b : Bool) → test y ≡ b → (IsIn x ys → IsIn x (filter test ys)) → IsIn x (cond b (y ∷ filter test ys) (filter test ys))
+    by_test true t rest = elim i [ inl e ↦ inl e | inr r ↦ inr (rest r) ]
+    by_test false f rest = elim i [ inl e ↦ let t = subst (λ (z : X). test z ≡ true) e h in cc | inr r ↦ rest r ]
+
+pub some_passes : {X : Type 0} (test : X → Bool) (xs : List X) → list_any test xs ≡ true → (x : X) × IsIn x xs × (test x ≡ true)
+some_passes test [] h = cc
+some_passes test (y ∷ ys) h =
+    elim (or_cases (test y) (list_any test ys) h) [
+      | inl t ↦ (y, inl refl, t)
+      | inr r ↦ let rest = some_passes test ys r in (rest.0, inr rest.1, rest.2)
+    ]
+
+pub passes_some : {X : Type 0} (test : X → Bool) (x : X) (xs : List X) → IsIn x xs → test x ≡ true → list_any test xs ≡ true
+passes_some test x [] i h = absurd i
+passes_some {X} test x (y ∷ ys) i h =
+    elim i [
+      | inl e ↦ or_left (test y) (list_any test ys) (subst (λ (z : X). test z ≡ true) e h)
+      | inr r ↦ or_right (test y) (list_any test ys) (passes_some test x ys r h)
+    ]
+
+pub in_from_name : (names : List ℕ) (n : ℕ) → has_name names n ≡ true → IsIn n names
+in_from_name names n h = let one = some_passes (λ m. m == n) names h in subst (λ (m : ℕ). IsIn m names) (eqb-true one.0 n one.2) one.1
+
+pub name_from_in : (names : List ℕ) (n : ℕ) → IsIn n names → has_name names n ≡ true
+name_from_in names n i = passes_some (λ m. m == n) n names i (eq-eqb n n refl)
+
+-- ---- nothing comes twice
+
+abbrev pub IsDistinct : {X : Type 0} → List X → Type 0
+IsDistinct [] = Unit {0}
+IsDistinct (x ∷ xs) = (IsIn x xs → ⊥) × IsDistinct xs
+
+pub distinct_append : {X : Type 0} (xs ys : List X) → IsDistinct xs → IsDistinct ys → ((x : X) → IsIn x xs → IsIn x ys → ⊥) → IsDistinct (xs ++ ys)
+distinct_append [] ys d e h = e
+distinct_append (x ∷ xs) ys d e h = (
+  (λ i. elim (in_append_cases x xs ys i) [ inl l ↦ d.0 l | inr r ↦ h x (inl refl) r ]),
+  distinct_append xs ys d.1 e (λ z i j. h z (inr i) j),
+)
+
+pub distinct_filter : {X : Type 0} (test : X → Bool) (xs : List X) → IsDistinct xs → IsDistinct (filter test xs)
+distinct_filter test [] d = tt
+distinct_filter {X} test (x ∷ xs) d = by_test (test x) (distinct_filter test xs d.1)
+  where
+    by_test : (b : Bool) → IsDistinct (filter test xs) → IsDistinct (cond b (x ∷ filter test xs) (filter test xs))
+    by_test true rest = ((λ i. d.0 (in_from_filter test x xs i).0), rest)
+    by_test false rest = rest
+
+pub distinct_map : {X Y : Type 0} (f : X → Y) (xs : List X) → ((a b : X) → f a ≡ f b → a ≡ b) → IsDistinct xs → IsDistinct (map f xs)
+distinct_map f [] same d = tt
+distinct_map {X} {Y} f (x ∷ xs) same d = (
+  (λ i. let from = in_from_map f (f x) xs i in d.0 (subst (λ (z : X). IsIn z xs) (sym (same x from.0 from.2)) from.1)),
+  distinct_map f xs same d.1,
+)
+
+pub distinct_rising : {X : Type 0} {R : X → X → Ordering} → IsTotalOrder R → (xs : List X) → IsStrictlySortedBy R xs → IsDistinct xs
+distinct_rising o [] h = tt
+distinct_rising {X} {R} o (x ∷ xs) h = ((λ i. not_itself o x (rising_head R x xs h x i)), distinct_rising o xs (rising_tail R x xs h))
+
+pub distinct_names : (names : List ℕ) → are_new names ≡ true → IsDistinct names
+distinct_names [] h = tt
+distinct_names (n ∷ ns) h =
+    let parts = and_parts (not (has_name ns n)) (are_new ns) h in
+    ((λ i. let t = name_from_in ns n i in let f = parts.0 in not_both (has_name ns n) t f), distinct_names ns parts.1)
+  where
+    not_both : (b : Bool) → b ≡ true → not b ≡ true → ⊥
+    not_both true t f = cc
+    not_both false t f = cc
+
+-- ---- places
+
+pub at_of_in : {X : Type 0} (d x : X) (xs : List X) → IsIn x xs → (k : ℕ) × (k < length xs) × (get_or xs k d ≡ x)
+at_of_in d x [] i = absurd i
+at_of_in d x (y ∷ ys) i =
+    elim i [
+      | inl e ↦ (0, omega arith, sym e)
+      | inr r ↦ let rest = at_of_in d x ys r in (suc rest.0, omega arith, rest.2)
+    ]
+
+pub distinct_at : {X : Type 0} (d : X) (xs : List X) (i j : ℕ) → IsDistinct xs → i < length xs → j < length xs → get_or xs i d ≡ get_or xs j d → i ≡ j
+distinct_at d [] i j a p q e = absurd (omega arith)
+distinct_at d (x ∷ xs) zero zero a p q e = refl
+distinct_at {X} d (x ∷ xs) zero (suc j) a p q e = absurd (a.0 (subst (λ (z : X). IsIn z xs) (sym e) (in_at xs j d (omega arith))))
+distinct_at {X} d (x ∷ xs) (suc i) zero a p q e = absurd (a.0 (subst (λ (z : X). IsIn z xs) e (in_at xs i d (omega arith))))
+distinct_at d (x ∷ xs) (suc i) (suc j) a p q e = ap suc (distinct_at d xs i j a.1 (omega arith) (omega arith) e)

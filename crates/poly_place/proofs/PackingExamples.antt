@@ -1,0 +1,35 @@
+-- The example of specs/Packings.antt, computed.
+use Rattle.std.proofs.Common.{◌≡◌, [], ◌∷◌, refl}
+use Rattle.poly_cells.specs.Places.{place}
+use Rattle.poly_cells.specs.Symmetries.{matrix, is_rotation, rotations}
+use Rattle.poly_cells.specs.Sets.{in_order}
+use Rattle.poly_cells.specs.Shapes.{normal, turned}
+use Rattle.poly_texts.specs.Puzzle.{PuzzleValue}
+use Rattle.poly_place.specs.Placements.{orientations, placements}
+use Rattle.poly_place.specs.Packings.{choice, choices, item_of, a_piece, a_cell, compiled}
+
+-- the pieces A and B of one cell each, for the region 0 0 0, 1 0 0: B may be left out, and 1 0 0 may stay empty
+abbrev pair : PuzzleValue
+pair = record {
+  pieces = (65, place 0 0 0 ∷ []) ∷ (66, place 0 0 0 ∷ []) ∷ [];
+  maybe_pieces = 66 ∷ [];
+  region = place 0 0 0 ∷ place 1 0 0 ∷ [];
+  maybe_cells = place 1 0 0 ∷ [];
+}
+
+three_choices : choices pair ≡ choice 65 (place 0 0 0 ∷ []) ∷ choice 65 (place 1 0 0 ∷ []) ∷ choice 66 (place 0 0 0 ∷ []) ∷ []
+unfolding choices placements orientations in_order turned normal rotations is_rotation matrix
+three_choices = refl
+
+third_item : item_of pair (a_piece 66) ≡ 3
+unfolding item_of
+third_item = refl
+
+last_item : item_of pair (a_cell (place 1 0 0)) ≡ 4
+unfolding item_of
+last_item = refl
+
+-- the items A, 000, B and 100, of which A and 000 are primary, and the options A 000, A 100 and B 000
+its_problem : compiled pair ≡ record { names = (65 ∷ []) ∷ (48 ∷ 48 ∷ 48 ∷ []) ∷ (66 ∷ []) ∷ (49 ∷ 48 ∷ 48 ∷ []) ∷ []; primary = 2; options = (1 ∷ 2 ∷ []) ∷ (1 ∷ 4 ∷ []) ∷ (3 ∷ 2 ∷ []) ∷ [] }
+unfolding compiled choices item_of placements orientations in_order turned normal rotations is_rotation matrix
+its_problem = refl

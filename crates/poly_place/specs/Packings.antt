@@ -1,0 +1,141 @@
+-- Packings of a puzzle, and the exact cover problem that stands for them.
+-- Its items are pieces and cells: first those that are required, then those that may be left out. Its options are placements.
+--
+-- Example: the puzzle of two pieces A and B of one cell each and the region 0 0 0, 1 0 0, in which B may be left out and
+-- 1 0 0 may stay empty, has the items A, 000, B and 100. A has the options A 000 and A 100, and B has B 000 alone
+-- (proofs/PackingExamples.antt).
+use Rattle.std.specs.Prelude.{◌≡◌, ℕ, ◌+◌, ◌-◌, ◌<◌, ◌≤◌, ◌==◌, Bool, true, false, not, ◌&&◌, ◌||◌, cond, List, [], ◌∷◌, ◌++◌, ◌⊎◌, map, filter, flat_map, length, slice_index_or}
+use Rattle.std.specs.List.{list_any}
+use Rattle.std.specs.List.Sorted.{IsStrictlySortedBy}
+use Rattle.poly_cells.specs.Places.{Place, place_cmp}
+use Rattle.poly_cells.specs.Sets.{IsIn}
+use Rattle.poly_cells.specs.Shapes.{IsShape}
+use Rattle.poly_texts.specs.Cells.{is_same, has_place}
+use Rattle.poly_texts.specs.Puzzle.{PuzzleValue, IsPuzzle, names_of, has_name}
+use Rattle.poly_texts.specs.Grammar.{cell_word}
+use Rattle.cover_problem.specs.Problem.{Cover}
+use Rattle.cover_problem.specs.ExactCover.{IsExactCover}
+use Rattle.poly_place.specs.Placements.{IsPlacement, placements}
+
+-- a piece's name, and a set of cells for it
+pub record Choice : Type 0 where
+  pub name : ℕ
+  pub cells : List Place
+
+-- the choice of these cells for the piece with this name
+abbrev pub choice : ℕ → List Place → Choice
+choice name cells = record { name = name; cells = cells }
+
+-- each of the pieces and the region are shapes
+pub record HasShapes (p : PuzzleValue) : Type 0 where
+  pub pieces : (named : ℕ × List Place) → IsIn named p.pieces → IsShape (named.1)
+  pub region : IsShape p.region
+
+-- the piece may not be left out
+abbrev pub is_needed : PuzzleValue → ℕ → Bool
+is_needed p name = not (has_name p.maybe_pieces name)
+
+-- the region has the cell, which may not stay empty
+abbrev pub must_fill : PuzzleValue → Place → Bool
+must_fill p v = has_place p.region v && not (has_place p.maybe_cells v)
+
+-- the cells are a placement of the piece, which is required or fills one of the cells that have to be filled
+pub record IsPlaced (p : PuzzleValue) (c : Choice) : Type 0 where
+  pub piece : List Place
+  pub named : IsIn (c.name, piece) p.pieces
+  pub rises : IsStrictlySortedBy place_cmp c.cells
+  pub placed : IsPlacement piece p.region c.cells
+  pub useful : (is_needed p c.name ≡ true) ⊎ ((v : Place) × IsIn v c.cells × (must_fill p v ≡ true))
+
+-- some pieces, the required ones among them, each in one placement, which fill each required cell and meet nowhere;
+-- given as a test on choices
+pub record IsPacking (p : PuzzleValue) (chosen : Choice → Bool) : Type 0 where
+  pub placed : (c : Choice) → chosen c ≡ true → IsPlaced p c
+  pub once : (c d : Choice) → chosen c ≡ true → chosen d ≡ true → c.name ≡ d.name → c ≡ d
+  pub used : (name : ℕ) → IsIn name (names_of p.pieces) → is_needed p name ≡ true → (c : Choice) × (chosen c ≡ true) × (c.name ≡ name)
+  pub filled : (v : Place) → must_fill p v ≡ true → (c : Choice) × (chosen c ≡ true) × IsIn v c.cells
+  pub apart : (v : Place) (c d : Choice) → chosen c ≡ true → chosen d ≡ true → IsIn v c.cells → IsIn v d.cells → c ≡ d
+
+-- ---- the problem
+
+-- the piece is required, or a cell that has to be filled is one of these
+abbrev pub is_useful : PuzzleValue → Choice → Bool
+is_useful p c = is_needed p c.name || list_any (must_fill p) c.cells
+
+-- what may be chosen for a piece, in the order of its placements
+abbrev pub choices_of : PuzzleValue → ℕ × List Place → List Choice
+choices_of p named = filter (is_useful p) (map (choice (named.0)) (placements (named.1) p.region))
+
+-- what may be chosen, piece by piece
+unfoldable pub choices : PuzzleValue → List Choice
+choices p = flat_map (choices_of p) p.pieces
+
+-- what an item stands for: a piece, by its name, or a cell
+pub data Thing : Type 0 where
+  a_piece : ℕ → Thing
+  a_cell : Place → Thing
+
+-- the two are the same
+abbrev pub same_thing : Thing → Thing → Bool
+same_thing (a_piece m) (a_piece n) = m == n
+same_thing (a_cell v) (a_cell w) = is_same v w
+same_thing (a_piece m) (a_cell w) = false
+same_thing (a_cell v) (a_piece n) = false
+
+-- the required pieces, and then the cells that have to be filled
+abbrev pub needed_things : PuzzleValue → List Thing
+needed_things p = map a_piece (filter (is_needed p) (names_of p.pieces)) ++ map a_cell (filter (must_fill p) p.region)
+
+-- and then the pieces that may be left out, and the cells that may stay empty
+abbrev pub things : PuzzleValue → List Thing
+things p = needed_things p ++ (map a_piece p.maybe_pieces ++ map a_cell p.maybe_cells)
+
+-- how many come before the thing
+abbrev pub place_among : Thing → List Thing → ℕ
+place_among t [] = 0
+place_among t (s ∷ ss) = cond (same_thing t s) 0 (place_among t ss + 1)
+
+-- the number of the item that stands for the thing
+unfoldable pub item_of : PuzzleValue → Thing → ℕ
+item_of p t = place_among t (things p) + 1
+
+-- the piece, and then its cells in order
+abbrev pub things_of : Choice → List Thing
+things_of c = a_piece c.name ∷ map a_cell c.cells
+
+-- the option that stands for the choice
+abbrev pub option_of : PuzzleValue → Choice → List ℕ
+option_of p c = map (item_of p) (things_of c)
+
+-- the name of an item: the piece's, or the symbols of the cell's three coordinates
+abbrev pub thing_name : Thing → List ℕ
+thing_name (a_piece name) = name ∷ []
+thing_name (a_cell v) = cell_word v
+
+-- the problem that stands for the puzzle
+unfoldable pub compiled : PuzzleValue → Cover
+compiled p = record { names = map thing_name (things p); primary = length (needed_things p); options = map (option_of p) (choices p) }
+
+-- ---- packings and exact covers
+
+-- the choice for which the option numbered o stands
+abbrev pub choice_at : PuzzleValue → ℕ → Choice
+choice_at p o = slice_index_or (choices p) (o - 1) (choice 0 [])
+
+-- a set of options and a test on choices stand for each other
+pub record StandsFor (p : PuzzleValue) (set : ℕ → Bool) (chosen : Choice → Bool) : Type 0 where
+  pub forth : (o : ℕ) → set o ≡ true → (0 < o) × (o ≤ length (choices p)) × (chosen (choice_at p o) ≡ true)
+  pub back : (c : Choice) → chosen c ≡ true → (o : ℕ) × (set o ≡ true) × (choice_at p o ≡ c)
+
+-- packings and exact covers are the same, one for one
+pub record ArePackings (p : PuzzleValue) : Type 0 where
+  pub packs : (set : ℕ → Bool) (chosen : Choice → Bool) → StandsFor p set chosen → IsExactCover (compiled p) set → IsPacking p chosen
+  pub covers : (set : ℕ → Bool) (chosen : Choice → Bool) → StandsFor p set chosen → IsPacking p chosen → IsExactCover (compiled p) set
+  pub some_packing : (set : ℕ → Bool) → IsExactCover (compiled p) set → (chosen : Choice → Bool) × StandsFor p set chosen
+  pub some_cover : (chosen : Choice → Bool) → IsPacking p chosen → (set : ℕ → Bool) × StandsFor p set chosen
+  pub one_packing : (set : ℕ → Bool) (chosen other : Choice → Bool) → StandsFor p set chosen → StandsFor p set other → (c : Choice) → chosen c ≡ other c
+  pub one_cover : (set other : ℕ → Bool) (chosen : Choice → Bool) → StandsFor p set chosen → StandsFor p other chosen → (o : ℕ) → set o ≡ other o
+
+-- so it is for each puzzle
+abbrev pub CoversArePackings : Type 0
+CoversArePackings = (p : PuzzleValue) → IsPuzzle p → HasShapes p → ArePackings p

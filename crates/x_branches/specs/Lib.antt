@@ -1,0 +1,6 @@
+pub mod Cut
+pub mod RunOrder
+pub mod Stage
+pub mod Branch
+pub mod Untried
+pub mod Faults

@@ -1,0 +1,26 @@
+-- Where states stand at one level of the search, with room for any option number: a device of the comparison, whose contract
+-- speaks of the run alone.
+use Rattle.std.specs.Prelude.{ℕ, ◌<◌, ◌≤◌, ◌≡◌, ◌≢◌, ◌+◌, ◌*◌, ◌⊎◌, List, length, take, slice_index_or}
+use Rattle.x_steps.specs.declared.state.Cursor.{Cursor}
+use Rattle.x_steps.specs.declared.state.Cursor.TheVariants.{At}
+
+-- more options than a number of 32 bits can name
+abbrev pub MANY : ℕ
+MANY = 4294967296
+
+-- the cursor's option is below that
+abbrev pub IsWithin : Cursor → Type 0
+IsWithin (At o) = o < 4294967296
+IsWithin k = Unit {0}
+
+-- the first n choices are the same, and then one path ends or the next choices differ
+pub record IsShared (q r : List ℕ) (n : ℕ) : Type 0 where
+  pub within : n ≤ length q
+  pub within_other : n ≤ length r
+  pub same : take n q ≡ take n r
+  pub differs : n < length q → n < length r → slice_index_or q n 0 ≢ slice_index_or r n 0
+
+-- a digit with room for all numbers, and the one with room for m options: the same up to the last option, and from there on
+-- as far from the end
+abbrev pub Shifts : ℕ → ℕ → ℕ → Type 0
+Shifts m d e = ((d ≡ e) × (d < 4 * 4294967296 + 5) × (e < 4 * m + 5)) ⊎ ((d + 4 * m ≡ e + 4 * 4294967296) × (4 * m + 5 ≤ e))

@@ -1,0 +1,77 @@
+//! Which of two states of one search comes first.
+ghost use Rattle.std.specs.Prelude.{◌≡◌, ◌<◌, ◌≤◌, ◌↔◌, ◌+◌, ◌*◌, ◌^◌, length, vec_len, slice_index_or};
+ghost use Rattle.cover_problem.specs.Problem.{Cover};
+ghost use Rattle.x_steps.specs.Shown.{place};
+ghost use Rattle.x_steps.specs.Steps.{Fits};
+ghost use Rattle.x_steps.specs.Rank.{digits, digit_at};
+ghost use Rattle.x_branches.specs.RunOrder.{ComesBefore};
+ghost use Rattle.x_branches.specs.Stage.{MANY, IsShared, IsWithin, Shifts};
+
+use std::cmp::Ordering;
+use x_steps::{Cursor, Label, State};
+
+/// How many choices two paths share, up to their first difference.
+fn shared(one: &[u32], other: &[u32]) -> usize
+    ensures { IsShared one.now other.now result }
+{
+    let mut level = 0;
+    while level < one.len() && level < other.len() && one[level] == other[level] {
+        level += 1;
+    }
+    level
+}
+
+/// Where what lies below an option stands, among all that is done at its level.
+fn stage_below(option: u32) -> u64
+    ensures stage { result ≡ 4 * option + 2 }
+    ensures within { option < 2 ^ 32 }
+{
+    4 * option as u64 + 2
+}
+
+/// Where a step stands, among all that is done at its level: before the first option, at an option before and after what lies
+/// below it, and past all options.
+fn stage_of(label: Label, cursor: Cursor) -> u64
+    ensures stage { result ≡ digit_at MANY label cursor }
+    ensures within { IsWithin cursor }
+{
+    match (label, cursor) {
+        (Label::X1, _) => 0,
+        (Label::X2, _) => 1,
+        (Label::X3, _) => 2,
+        (Label::X4, _) => 3,
+        (Label::X5, Cursor::At(option)) => 4 * option as u64 + 1,
+        (Label::X5, _) => 17_179_869_189,
+        (Label::X6, Cursor::At(option)) => 4 * option as u64 + 3,
+        (Label::X6, _) => 0,
+        (Label::X7, _) => 17_179_869_190,
+        (Label::X8, _) => 17_179_869_191,
+        (Label::Done, _) => 17_179_869_192,
+    }
+}
+
+/// Where a state stands among those with the same first choices.
+fn stage(state: &State, level: usize) -> u64
+    requires { level ≤ length (place state.now).path }
+    ensures { (p : Cover) → Fits p (place state.now) → Shifts (length p.options) result (slice_index_or (digits (length p.options) state.now.label (place state.now).path state.now.cursor) level 0) }
+{
+    if level < state.path.len() {
+        stage_below(state.path[level])
+    } else {
+        stage_of(state.label, state.cursor)
+    }
+}
+
+/// Which of two states of one search comes first on its run: by the first choice that differs, and by the step where they
+/// share their choices.
+pub fn run_order(one: &State, other: &State) -> Ordering
+    ensures less { (p : Cover) → Fits p (place one.now) → Fits p (place other.now) →
+        ((result ≡ Ordering.Less) ↔ ComesBefore p (place one.now) (place other.now)) }
+    ensures equal { (p : Cover) → Fits p (place one.now) → Fits p (place other.now) →
+        ((result ≡ Ordering.Equal) ↔ (place one.now ≡ place other.now)) }
+    ensures greater { (p : Cover) → Fits p (place one.now) → Fits p (place other.now) →
+        ((result ≡ Ordering.Greater) ↔ ComesBefore p (place other.now) (place one.now)) }
+{
+    let level = shared(&one.path, &other.path);
+    stage(one, level).cmp(&stage(other, level))
+}

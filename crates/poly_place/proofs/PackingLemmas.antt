@@ -6,19 +6,33 @@ use Rattle.std.proofs.lemmas.Bool.Decides.{nat_tests}
 use Rattle.std.proofs.lemmas.List.{get_or-map, length-map}
 use Rattle.poly_cells.specs.Places.{Place}
 use Rattle.poly_cells.specs.Sets.{IsIn}
+use Rattle.poly_cells.specs.Shapes.{IsShape}
 use Rattle.poly_cells.proofs.SetLemmas.{in_map, in_from_map, in_at}
 use Rattle.poly_texts.specs.Puzzle.{PuzzleValue, IsPuzzle, names_of}
 use Rattle.cover_problem.specs.Lists.{has}
 use Rattle.cover_problem.specs.Problem.{option_at}
 use Rattle.cover_problem.specs.ExactCover.{IsExactCover}
 use Rattle.poly_place.specs.Placements.{cells_cmp, placements}
-use Rattle.poly_place.specs.Packings.{Choice, choice, HasShapes, is_needed, must_fill, IsPlaced, IsPacking, is_useful, choices_of, choices, Thing, a_piece, a_cell, needed_things, item_of, things_of, option_of, compiled, choice_at, StandsFor, ArePackings}
+use Rattle.poly_place.specs.Packings.{Choice, choice, is_needed, must_fill, IsPlaced, IsPacking, is_useful, choices_of, choices, Thing, a_piece, a_cell, needed_things, item_of, things_of, option_of, compiled, choice_at, StandsFor, ArePackings}
 use Rattle.std.proofs.lemmas.Cmp.{tied_itself}
 use Rattle.poly_place.proofs.OrderLemmas.{cells_total, cells_exact}
 use Rattle.poly_place.proofs.MemberLemmas.{in_flat_map, in_from_flat_map}
 use Rattle.poly_place.proofs.PlacementLemmas.{sound, complete, placements_rise}
 use Rattle.poly_place.proofs.DistinctLemmas.{in_from_filter, in_filter, some_passes, passes_some, IsDistinct, distinct_append, distinct_filter, distinct_map, distinct_rising, distinct_names, at_of_in, distinct_at}
 use Rattle.poly_place.proofs.ThingLemmas.{item_same, item_positive, item_needed, needed_in, needed_piece, needed_cell, needed_cases, needed_at, parts_in, has_item, thing_of_item}
+
+-- ---- the pieces and the region are shapes
+
+-- each of the pieces and the region are shapes
+pub record HasShapes (p : PuzzleValue) : Type 0 where
+  pub pieces : (named : ℕ × List Place) → IsIn named p.pieces → IsShape (named.1)
+  pub region : IsShape p.region
+
+pub has_shapes : (p : PuzzleValue) → IsPuzzle p → HasShapes p
+has_shapes p z = record {
+  pieces = λ named i. (z.shaped named i).shape;
+  region = record { some = z.some_cell; rises = z.rises; limits = z.limits };
+}
 
 -- ---- what may be chosen is what is placed
 
@@ -369,8 +383,8 @@ some_cover p h chosen k = (
   },
 )
 
-pub are_packings : (p : PuzzleValue) → IsPuzzle p → HasShapes p → ArePackings p
-are_packings p z h = record {
+pub are_packings : (p : PuzzleValue) → IsPuzzle p → ArePackings p
+are_packings p z = let h = has_shapes p z in record {
   packs = λ set chosen s e. cover_packs p z h set chosen s e;
   covers = λ set chosen s k. packing_covers p z h set chosen s k;
   some_packing = some_packing p;

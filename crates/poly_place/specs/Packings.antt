@@ -9,7 +9,6 @@ use Rattle.std.specs.List.{list_any}
 use Rattle.std.specs.List.Sorted.{IsStrictlySortedBy}
 use Rattle.poly_cells.specs.Places.{Place, place_cmp}
 use Rattle.poly_cells.specs.Sets.{IsIn}
-use Rattle.poly_cells.specs.Shapes.{IsShape}
 use Rattle.poly_texts.specs.Cells.{is_same, has_place}
 use Rattle.poly_texts.specs.Puzzle.{PuzzleValue, IsPuzzle, names_of, has_name}
 use Rattle.poly_texts.specs.Grammar.{cell_word}
@@ -25,11 +24,6 @@ pub record Choice : Type 0 where
 -- the choice of these cells for the piece with this name
 abbrev pub choice : ℕ → List Place → Choice
 choice name cells = record { name = name; cells = cells }
-
--- each of the pieces and the region are shapes
-pub record HasShapes (p : PuzzleValue) : Type 0 where
-  pub pieces : (named : ℕ × List Place) → IsIn named p.pieces → IsShape (named.1)
-  pub region : IsShape p.region
 
 -- the piece may not be left out
 abbrev pub is_needed : PuzzleValue → ℕ → Bool
@@ -138,4 +132,4 @@ pub record ArePackings (p : PuzzleValue) : Type 0 where
 
 -- so it is for each puzzle
 abbrev pub CoversArePackings : Type 0
-CoversArePackings = (p : PuzzleValue) → IsPuzzle p → HasShapes p → ArePackings p
+CoversArePackings = (p : PuzzleValue) → IsPuzzle p → ArePackings p

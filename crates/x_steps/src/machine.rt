@@ -25,7 +25,7 @@ fn push_within(items: &mut Vec<u32>, item: u32)
     ensures items { items.new.items ≡ items.old.items ++ item ∷ [] }
     ensures room { vec_capacity items.old ≤ vec_capacity items.new }
 {
-    let _ = items.push(item);
+    items.push_reserved(item);
 }
 
 /// At the option, or past the last.

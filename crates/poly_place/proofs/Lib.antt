@@ -9,3 +9,7 @@ pub mod DistinctLemmas
 pub mod ThingLemmas
 pub mod PackingLemmas
 pub mod PackingExamples
+pub mod CountLemmas
+pub mod NumberLemmas
+pub mod OptionLemmas
+pub mod CompiledLemmas

@@ -12,7 +12,7 @@ use Rattle.poly_place.specs.Tables.{bit_place, has_bit, IsTable}
 
 -- ---- the place of a bit tells the cell
 
-low : (v : Place) → IsPlace v → bit_place v < 32768
+pub low : (v : Place) → IsPlace v → bit_place v < 32768
 low v h = let x = h.x_in in let y = h.y_in in let z = h.z_in in omega arith
 
 same_x : (a b c d e f : ℕ) → b ≤ 31 → c ≤ 31 → e ≤ 31 → f ≤ 31 → 1024 * a + 32 * b + c ≡ 1024 * d + 32 * e + f → a ≡ d
@@ -21,7 +21,7 @@ same_x a b c d e f p q r s h = omega arith
 same_y : (b c e f : ℕ) → c ≤ 31 → f ≤ 31 → 32 * b + c ≡ 32 * e + f → b ≡ e
 same_y b c e f q s h = omega arith
 
-bit_place_same : (v w : Place) → IsPlace v → IsPlace w → bit_place v ≡ bit_place w → v ≡ w
+pub bit_place_same : (v w : Place) → IsPlace v → IsPlace w → bit_place v ≡ bit_place w → v ≡ w
 bit_place_same v w h g e =
     let x = same_x v.x v.y v.z w.x w.y w.z h.y_in h.z_in g.y_in g.z_in e in
     let low_parts : 32 * v.y + v.z ≡ 32 * w.y + w.z = omega (arith, x, e) in

@@ -14,25 +14,25 @@ use Rattle.poly_place.proofs.DistinctLemmas.{in_from_filter, in_filter, some_pas
 
 -- ---- the test
 
-same_is : (a b : Thing) → same_thing a b ≡ true → a ≡ b
+pub same_is : (a b : Thing) → same_thing a b ≡ true → a ≡ b
 same_is (a_piece m) (a_piece n) h = ap a_piece (eqb-true m n h)
 same_is (a_cell v) (a_cell w) h = ap a_cell ((same_place_Decides v w).0 h)
 same_is (a_piece m) (a_cell w) h = cc
 same_is (a_cell v) (a_piece n) h = cc
 
-same_itself : (a : Thing) → same_thing a a ≡ true
+pub same_itself : (a : Thing) → same_thing a a ≡ true
 same_itself (a_piece m) = eq-eqb m m refl
 same_itself (a_cell v) = (same_place_Decides v v).1 refl
 
 -- ---- places
 
-place_here : (t s : Thing) (ss : List Thing) → same_thing t s ≡ true → place_among t (s ∷ ss) ≡ 0
+pub place_here : (t s : Thing) (ss : List Thing) → same_thing t s ≡ true → place_among t (s ∷ ss) ≡ 0
 place_here t s ss h = ap (λ b. cond b 0 (place_among t ss + 1)) h
 
-place_later : (t s : Thing) (ss : List Thing) → same_thing t s ≡ false → place_among t (s ∷ ss) ≡ place_among t ss + 1
+pub place_later : (t s : Thing) (ss : List Thing) → same_thing t s ≡ false → place_among t (s ∷ ss) ≡ place_among t ss + 1
 place_later t s ss h = ap (λ b. cond b 0 (place_among t ss + 1)) h
 
-bool_cases : (b : Bool) → (b ≡ true) ⊎ (b ≡ false)
+pub bool_cases : (b : Bool) → (b ≡ true) ⊎ (b ≡ false)
 bool_cases true = inl refl
 bool_cases false = inr refl
 
@@ -56,7 +56,7 @@ place_in d t (s ∷ ss) i =
           (omega (arith, z, rest.0), at_later d s ss (place_among t (s ∷ ss)) (place_among t ss) z ∙ rest.1)
     ]
 
-place_append : (t : Thing) (xs ys : List Thing) → IsIn t xs → place_among t (xs ++ ys) ≡ place_among t xs
+pub place_append : (t : Thing) (xs ys : List Thing) → IsIn t xs → place_among t (xs ++ ys) ≡ place_among t xs
 place_append t [] ys i = absurd i
 place_append t (x ∷ xs) ys i =
     elim (bool_cases (same_thing t x)) [
@@ -68,7 +68,7 @@ place_append t (x ∷ xs) ys i =
 
 -- ---- items
 
-nothing : Thing
+pub nothing : Thing
 nothing = a_piece 0
 
 pub item_same : (p : PuzzleValue) (a b : Thing) → IsIn a (things p) → IsIn b (things p) → item_of p a ≡ item_of p b → a ≡ b
@@ -126,7 +126,7 @@ needed_cases p t i =
           inr (v.0, v.2, there.1)
     ]
 
-needed_distinct : (p : PuzzleValue) → IsPuzzle p → IsDistinct (needed_things p)
+pub needed_distinct : (p : PuzzleValue) → IsPuzzle p → IsDistinct (needed_things p)
 needed_distinct p z =
     distinct_append (map a_piece (filter (is_needed p) (names_of p.pieces))) (map a_cell (filter (must_fill p) p.region))
     (distinct_map a_piece (filter (is_needed p) (names_of p.pieces)) (λ a b e. cc) (distinct_filter (is_needed p) (names_of p.pieces) (distinct_names (names_of p.pieces) z.new)))
@@ -153,11 +153,11 @@ needed_at p z i some within =
 
 -- ---- the parts of a choice are things of the puzzle
 
-not_false : (b : Bool) → b ≡ false → not b ≡ true
+pub not_false : (b : Bool) → b ≡ false → not b ≡ true
 not_false true h = cc
 not_false false h = refl
 
-piece_in : (p : PuzzleValue) (name : ℕ) → IsIn name (names_of p.pieces) → IsIn (a_piece name) (things p)
+pub piece_in : (p : PuzzleValue) (name : ℕ) → IsIn name (names_of p.pieces) → IsIn (a_piece name) (things p)
 piece_in p name i =
     elim (bool_cases (has_name p.maybe_pieces name)) [
       | inl h ↦
@@ -166,7 +166,7 @@ piece_in p name i =
       | inr h ↦ needed_in p (a_piece name) (needed_piece p name i (not_false (has_name p.maybe_pieces name) h))
     ]
 
-cell_in : (p : PuzzleValue) (v : Place) → IsIn v p.region → IsIn (a_cell v) (things p)
+pub cell_in : (p : PuzzleValue) (v : Place) → IsIn v p.region → IsIn (a_cell v) (things p)
 cell_in p v i =
     elim (bool_cases (has_place p.maybe_cells v)) [
       | inl h ↦

@@ -1,3 +1,4 @@
 pub mod Placements
 pub mod Tables
 pub mod Packings
+pub mod Compiled

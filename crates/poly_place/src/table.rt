@@ -31,8 +31,8 @@ pub fn has_bit(bits: &[bool], x: u8, y: u8, z: u8) -> bool
     x <= LAST && y <= LAST && z <= LAST && bits[bit_place(x, y, z)]
 }
 
-// The place of a cell's bit.
-fn bit_place(x: u8, y: u8, z: u8) -> usize
+/// The place of a cell's bit.
+pub fn bit_place(x: u8, y: u8, z: u8) -> usize
     ensures { result ≡ bit_place (place x y z) }
 {
     1024 * x as usize + 32 * y as usize + z as usize

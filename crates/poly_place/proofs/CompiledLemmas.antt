@@ -1,0 +1,382 @@
+-- Where it is within the limits, the problem that stands for a puzzle is one.
+use Rattle.std.proofs.Common.{◌≡◌, ℕ, ◌+◌, ◌<◌, ◌≤◌, List, [], ◌∷◌, ◌++◌, map, length, Bool, true, false, cond, not, ◌&&◌, ◌||◌, nat_lt, nat_le, ◌==◌, inl, inr, refl, sym, ap, ap₂, subst, ◌∙◌, arith, bytes_eq, sum_by, Ok}
+use Rattle.std.specs.List.{list_any, list_all}
+use Rattle.std.specs.Cmp.Lexicographic.{bytes_decides}
+use Rattle.std.proofs.lemmas.Bool.{and_parts, and_from, or_left, or_right}
+use Rattle.std.proofs.lemmas.Bool.Decides.{nat_tests}
+use Rattle.std.proofs.lemmas.List.{map-append}
+use Rattle.poly_cells.specs.Places.{Place, IsPlace}
+use Rattle.poly_cells.specs.Sets.{IsIn}
+use Rattle.poly_cells.proofs.PlaceLemmas.{place_total, same_place}
+use Rattle.poly_cells.proofs.SetLemmas.{in_append_cases, in_from_map}
+use Rattle.poly_texts.specs.Cells.{has_place}
+use Rattle.poly_texts.specs.Grammar.{symbol, cell_word}
+use Rattle.poly_texts.specs.Words as words
+use Rattle.poly_texts.specs.Puzzle.{PuzzleValue, IsPuzzle, names_of, has_name}
+use Rattle.poly_texts.proofs.MemberLemmas.{in_from_has, has_from_in}
+use Rattle.cover_problem.specs.declared.limits.TheConstants.{MOST_ITEMS, MOST_OPTIONS, MOST_ENTRIES}
+use Rattle.cover_problem.specs.Making.{made}
+use Rattle.cover_problem.proofs.ProblemLemmas.{made_again, made_is}
+use Rattle.cover_problem.specs.Lists.{has, are_distinct}
+use Rattle.cover_problem.specs.Problem.{Cover, IsProblem, is_name, is_name_byte, is_item, is_option, is_small, are_new}
+use Rattle.poly_place.specs.Packings.{Choice, is_needed, must_fill, IsPlaced, choices, Thing, a_piece, a_cell, needed_things, things, place_among, item_of, things_of, option_of, thing_name, compiled}
+use Rattle.poly_place.specs.Compiled.{CompiledValue, compiled_value, needed_names, filled_cells, entries_of, is_within}
+use Rattle.poly_place.proofs.MemberLemmas.{all_pass, passes}
+use Rattle.poly_place.proofs.DistinctLemmas.{in_from_name, name_from_in, some_passes, IsDistinct, distinct_append, distinct_filter, distinct_map, distinct_rising, distinct_names}
+use Rattle.poly_place.proofs.CountLemmas.{long_map, long_append}
+use Rattle.poly_place.proofs.PackingLemmas.{has_shapes, placed_in}
+use Rattle.poly_place.proofs.ThingLemmas.{bool_cases, place_in, nothing, item_same, needed_piece, needed_cell, needed_cases, needed_distinct, not_false, parts_in, thing_of_item}
+
+-- ---- tests
+
+lt_true : (m n : ℕ) → m < n → nat_lt m n ≡ true
+lt_true m n h = grind (arith, nat_tests)
+
+true_le : (m n : ℕ) → m ≤ n → nat_le m n ≡ true
+true_le m n h = grind (arith, nat_tests)
+
+not_both : (b : Bool) → b ≡ true → not b ≡ true → ⊥
+not_both true t f = cc
+not_both false t f = cc
+
+none_from : {X : Type 0} (test : X → Bool) (xs : List X) → ((x : X) → IsIn x xs → test x ≡ true → ⊥) → not (list_any test xs) ≡ true
+none_from test xs h =
+    elim (bool_cases (list_any test xs)) [
+      | inl t ↦ let x = some_passes test xs t in absurd (h x.0 x.1 x.2)
+      | inr f ↦ not_false (list_any test xs) f
+    ]
+
+-- ---- names
+
+low_symbol : (n : ℕ) → n ≤ 31 → is_name_byte (symbol n) ≡ true
+low_symbol n h = elim (bool_cases (nat_lt n 10)) [
+  | inl t ↦ digit n (ap (λ b. cond b (48 + n) (87 + n)) t) t
+  | inr f ↦ letter n (ap (λ b. cond b (48 + n) (87 + n)) f) f h
+]
+  where
+    digit : (k : ℕ) → symbol k ≡ 48 + k → nat_lt k 10 ≡ true → is_name_byte (symbol k) ≡ true
+    digit k e t = subst (λ (b : ℕ). is_name_byte b ≡ true) (sym e) (first (48 + k) (true_le 48 (48 + k) (omega arith)) (at_most k t))
+      where
+        at_most : (m : ℕ) → nat_lt m 10 ≡ true → nat_le (48 + m) 57 ≡ true
+        at_most m u = grind (arith, nat_tests)
+
+        first : (b : ℕ) → nat_le 48 b ≡ true → nat_le b 57 ≡ true → is_name_byte b ≡ true
+        first b l r =
+            or_left (nat_le 48 b && nat_le b 57 || nat_le 65 b && nat_le b 90 || nat_le 97 b && nat_le b 122) (b == 95)
+            (or_left (nat_le 48 b && nat_le b 57 || nat_le 65 b && nat_le b 90) (nat_le 97 b && nat_le b 122)
+            (or_left (nat_le 48 b && nat_le b 57) (nat_le 65 b && nat_le b 90) (and_from (nat_le 48 b) (nat_le b 57) l r)))
+
+    letter : (k : ℕ) → symbol k ≡ 87 + k → nat_lt k 10 ≡ false → k ≤ 31 → is_name_byte (symbol k) ≡ true
+    letter k e f m = subst (λ (b : ℕ). is_name_byte b ≡ true) (sym e) (third (87 + k) (at_least k f) (true_le (87 + k) 122 (omega (arith, m))))
+      where
+        at_least : (j : ℕ) → nat_lt j 10 ≡ false → nat_le 97 (87 + j) ≡ true
+        at_least j u = grind (arith, nat_tests)
+
+        third : (b : ℕ) → nat_le 97 b ≡ true → nat_le b 122 ≡ true → is_name_byte b ≡ true
+        third b l r =
+            or_left (nat_le 48 b && nat_le b 57 || nat_le 65 b && nat_le b 90 || nat_le 97 b && nat_le b 122) (b == 95)
+            (or_right (nat_le 48 b && nat_le b 57 || nat_le 65 b && nat_le b 90) (nat_le 97 b && nat_le b 122) (and_from (nat_le 97 b) (nat_le b 122) l r))
+
+piece_named : (n : ℕ) → words.is_name n ≡ true → is_name (n ∷ []) ≡ true
+piece_named n h =
+    let byte : is_name_byte n ≡ true = or_left (words.is_name n) (n == 95) h in
+    and_from (is_name_byte n) true byte refl
+
+cell_named : (v : Place) → IsPlace v → is_name (cell_word v) ≡ true
+cell_named v h =
+    let x = low_symbol v.x h.x_in in
+    let y = low_symbol v.y h.y_in in
+    let w = low_symbol v.z h.z_in in
+    and_from (is_name_byte (symbol v.x)) _ x (and_from (is_name_byte (symbol v.y)) _ y (and_from (is_name_byte (symbol v.z)) true w refl))
+
+symbol_same : (m n : ℕ) → symbol m ≡ symbol n → m ≡ n
+symbol_same m n e = elim (bool_cases (nat_lt m 10)) [
+  | inl s ↦ elim (bool_cases (nat_lt n 10)) [ inl t ↦ let a = one m s in let b = one n t in omega (arith, a, b, e) | inr t ↦ let a = one m s in let b = two n t in let c = low m s in let d = high n t in absurd (omega (arith, a, b, c, d, e)) ]
+  | inr s ↦ elim (bool_cases (nat_lt n 10)) [ inl t ↦ let a = two m s in let b = one n t in let c = high m s in let d = low n t in absurd (omega (arith, a, b, c, d, e)) | inr t ↦ let a = two m s in let b = two n t in omega (arith, a, b, e) ]
+]
+  where
+    one : (k : ℕ) → nat_lt k 10 ≡ true → symbol k ≡ 48 + k
+    one k t = ap (λ b. cond b (48 + k) (87 + k)) t
+
+    two : (k : ℕ) → nat_lt k 10 ≡ false → symbol k ≡ 87 + k
+    two k f = ap (λ b. cond b (48 + k) (87 + k)) f
+
+    low : (k : ℕ) → nat_lt k 10 ≡ true → k < 10
+    low k t = grind (arith, nat_tests)
+
+    high : (k : ℕ) → nat_lt k 10 ≡ false → 10 ≤ k
+    high k f = grind (arith, nat_tests)
+
+name_same : (a b : Thing) → thing_name a ≡ thing_name b → a ≡ b
+name_same (a_piece m) (a_piece n) e = let s : m ≡ n = cc in ap a_piece s
+name_same (a_cell v) (a_cell w) e =
+    let x : symbol v.x ≡ symbol w.x = cc in
+    let y : symbol v.y ≡ symbol w.y = cc in
+    let u : symbol v.z ≡ symbol w.z = cc in
+    ap a_cell (same_place v.x v.y v.z w.x w.y w.z (symbol_same v.x w.x x) (symbol_same v.y w.y y) (symbol_same v.z w.z u))
+name_same (a_piece m) (a_cell w) e = cc
+name_same (a_cell v) (a_piece n) e = cc
+
+new_from : (names : List (List ℕ)) → IsDistinct names → are_new names ≡ true
+new_from [] d = refl
+new_from (name ∷ names) d =
+    and_from (not (list_any (bytes_eq name) names)) (are_new names)
+    (none_from (bytes_eq name) names (λ x i h. d.0 (subst (λ (y : List ℕ). IsIn y names) (sym ((bytes_decides name x).0 h)) i))) (new_from names d.1)
+
+-- ---- the things of a puzzle
+
+module _ (p : PuzzleValue) (z : IsPuzzle p) where
+  maybe_is_name : (n : ℕ) → IsIn n p.maybe_pieces → IsIn n (names_of p.pieces)
+  maybe_is_name n i = in_from_name (names_of p.pieces) n (passes (has_name (names_of p.pieces)) p.maybe_pieces z.maybe_named n i)
+
+  maybe_is_cell : (v : Place) → IsIn v p.maybe_cells → IsIn v p.region
+  maybe_is_cell v i = in_from_has p.region v (passes (has_place p.region) p.maybe_cells z.maybe_within v i)
+
+  piece_good : (n : ℕ) → IsIn n (names_of p.pieces) → is_name (thing_name (a_piece n)) ≡ true
+  piece_good n i = piece_named n (passes words.is_name (names_of p.pieces) z.named n i)
+
+  cell_good : (v : Place) → IsIn v p.region → is_name (thing_name (a_cell v)) ≡ true
+  cell_good v i = cell_named v (z.limits v i)
+
+  good : (t : Thing) → IsIn t (things p) → is_name (thing_name t) ≡ true
+  good t i =
+      elim (in_append_cases t (needed_things p) (map a_piece p.maybe_pieces ++ map a_cell p.maybe_cells) i) [
+        | inl a ↦
+            elim (needed_cases p t a) [
+              | inl n ↦ subst (λ (s : Thing). is_name (thing_name s) ≡ true) (sym n.1) (piece_good n.0 n.2)
+              | inr v ↦
+                  let c = and_parts (has_place p.region v.0) (not (has_place p.maybe_cells v.0)) v.2 in
+                  subst (λ (s : Thing). is_name (thing_name s) ≡ true) (sym v.1) (cell_good v.0 (in_from_has p.region v.0 c.0))
+            ]
+        | inr b ↦
+            elim (in_append_cases t (map a_piece p.maybe_pieces) (map a_cell p.maybe_cells) b) [
+              | inl c ↦
+                  let n = in_from_map a_piece t p.maybe_pieces c in
+                  subst (λ (s : Thing). is_name (thing_name s) ≡ true) (sym n.2) (piece_good n.0 (maybe_is_name n.0 n.1))
+              | inr d ↦
+                  let v = in_from_map a_cell t p.maybe_cells d in
+                  subst (λ (s : Thing). is_name (thing_name s) ≡ true) (sym v.2) (cell_good v.0 (maybe_is_cell v.0 v.1))
+            ]
+      ]
+
+  all_named : list_all is_name (map thing_name (things p)) ≡ true
+  all_named = all_pass is_name (map thing_name (things p)) (λ name i.
+      let t = in_from_map thing_name name (things p) i in
+      subst (λ (n : List ℕ). is_name n ≡ true) (sym t.2) (good t.0 t.1))
+
+  maybe_names_distinct : IsDistinct p.maybe_pieces
+  maybe_names_distinct =
+      subst (λ (ns : List ℕ). IsDistinct ns) (sym z.maybe_in_order) (distinct_filter (has_name p.maybe_pieces) (names_of p.pieces) (distinct_names (names_of p.pieces) z.new))
+
+  maybe_distinct : IsDistinct (map a_piece p.maybe_pieces ++ map a_cell p.maybe_cells)
+  maybe_distinct =
+      distinct_append (map a_piece p.maybe_pieces) (map a_cell p.maybe_cells) (distinct_map a_piece p.maybe_pieces (λ a b e. cc) maybe_names_distinct)
+      (distinct_map a_cell p.maybe_cells (λ a b e. cc) (distinct_rising place_total p.maybe_cells z.maybe_rises))
+      (λ t i j.
+      let name = in_from_map a_piece t p.maybe_pieces i in
+      let v = in_from_map a_cell t p.maybe_cells j in
+      let m = name.2 in
+      let n = v.2 in
+      cc)
+
+  apart : (t : Thing) → IsIn t (needed_things p) → IsIn t (map a_piece p.maybe_pieces ++ map a_cell p.maybe_cells) → ⊥
+  apart t i j =
+      elim (in_append_cases t (map a_piece p.maybe_pieces) (map a_cell p.maybe_cells) j) [
+        | inl a ↦
+            let n = in_from_map a_piece t p.maybe_pieces a in
+            elim (needed_cases p t i) [
+              | inl m ↦
+                  let same : n.0 ≡ m.0 = let e = n.2 in let f = m.1 in cc in
+                  not_both (has_name p.maybe_pieces n.0) (name_from_in p.maybe_pieces n.0 n.1) (subst (λ (k : ℕ). is_needed p k ≡ true) (sym same) m.3)
+              | inr v ↦ let e = n.2 in let f = v.1 in cc
+            ]
+        | inr b ↦
+            let w = in_from_map a_cell t p.maybe_cells b in
+            elim (needed_cases p t i) [
+              | inl m ↦ let e = w.2 in let f = m.1 in cc
+              | inr v ↦
+                  let same : w.0 ≡ v.0 = let e = w.2 in let f = v.1 in cc in
+                  not_both (has_place p.maybe_cells w.0) (has_from_in p.maybe_cells w.0 w.1)
+                  (and_parts (has_place p.region w.0) (not (has_place p.maybe_cells w.0)) (subst (λ (u : Place). must_fill p u ≡ true) (sym same) v.2)).1
+            ]
+      ]
+
+  things_distinct : IsDistinct (things p)
+  things_distinct = distinct_append (needed_things p) (map a_piece p.maybe_pieces ++ map a_cell p.maybe_cells) (needed_distinct p z) maybe_distinct apart
+
+  all_new : are_new (map thing_name (things p)) ≡ true
+  all_new = new_from (map thing_name (things p)) (distinct_map thing_name (things p) name_same things_distinct)
+
+  -- ---- something is required
+
+  no_needed : length (needed_things p) ≡ 0 → (t : Thing) → IsIn t (needed_things p) → ⊥
+  no_needed e t i = let at = (place_in nothing t (needed_things p) i).0 in omega (arith, e, at)
+
+  some_needed : 0 < length (needed_things p)
+  some_needed =
+      elim (bool_cases (nat_lt 0 (length (needed_things p)))) [
+        | inl t ↦ is_lt (length (needed_things p)) t
+        | inr f ↦
+            let e = is_none (length (needed_things p)) f in
+            let names : list_all (has_name p.maybe_pieces) (names_of p.pieces) ≡ true =
+            all_pass (has_name p.maybe_pieces) (names_of p.pieces) (λ n i.
+            elim (bool_cases (has_name p.maybe_pieces n)) [ inl t ↦ t | inr g ↦ absurd (no_needed e (a_piece n) (needed_piece p n i (not_false (has_name p.maybe_pieces n) g))) ]) in
+            let cells : list_all (has_place p.maybe_cells) p.region ≡ true =
+            all_pass (has_place p.maybe_cells) p.region (λ v i.
+            elim (bool_cases (has_place p.maybe_cells v)) [
+              | inl t ↦ t
+              | inr g ↦
+                  absurd (no_needed e (a_cell v)
+                  (needed_cell p v (and_from (has_place p.region v) (not (has_place p.maybe_cells v)) (has_from_in p.region v i) (not_false (has_place p.maybe_cells v) g))))
+            ]) in
+            let all = and_from (list_all (has_name p.maybe_pieces) (names_of p.pieces)) (list_all (has_place p.maybe_cells) p.region) names cells in
+            let required = z.required in
+            cc
+      ]
+    where
+      is_lt : (n : ℕ) → nat_lt 0 n ≡ true → 0 < n
+      is_lt n h = grind (arith, nat_tests)
+
+      is_none : (n : ℕ) → nat_lt 0 n ≡ false → n ≡ 0
+      is_none n h = grind (arith, nat_tests)
+
+  -- ---- options
+
+  parts_distinct : (c : Choice) → IsPlaced p c → IsDistinct (things_of c)
+  parts_distinct c h = (
+    (λ i. let v = in_from_map a_cell (a_piece c.name) c.cells i in let m = v.2 in cc),
+    distinct_map a_cell c.cells (λ a b e. cc) (distinct_rising place_total c.cells h.rises),
+  )
+
+  distinct_items : (ts : List Thing) → ((t : Thing) → IsIn t ts → IsIn t (things p)) → IsDistinct ts → are_distinct (map (item_of p) ts) ≡ true
+  distinct_items [] inside d = refl
+  distinct_items (t ∷ ts) inside d =
+      and_from (not (has (map (item_of p) ts) (item_of p t))) (are_distinct (map (item_of p) ts)) alone (distinct_items ts (λ s i. inside s (inr i)) d.1)
+    where
+      alone : not (has (map (item_of p) ts) (item_of p t)) ≡ true
+      alone = elim (bool_cases (has (map (item_of p) ts) (item_of p t))) [
+        | inl h ↦
+            let s = thing_of_item (item_of p) (item_of p t) ts h in
+            absurd (d.0 (subst (λ (u : Thing). IsIn u ts) (item_same p s.0 t (inside s.0 (inr s.1)) (inside t (inl refl)) s.2) s.1))
+        | inr f ↦ not_false (has (map (item_of p) ts) (item_of p t)) f
+      ]
+
+  item_within : (t : Thing) → IsIn t (things p) → is_item (length (map thing_name (things p))) (item_of p t) ≡ true
+  unfolding item_of
+  item_within t i =
+      let at = (place_in nothing t (things p) i).0 in
+      let long = long_map thing_name (things p) in
+      and_from (nat_lt 0 (place_among t (things p) + 1)) (nat_le (place_among t (things p) + 1) (length (map thing_name (things p))))
+      (lt_true 0 (place_among t (things p) + 1) (omega arith)) (true_le (place_among t (things p) + 1) (length (map thing_name (things p))) (omega (arith, at, long)))
+
+  option_good : (c : Choice) → IsPlaced p c → is_option (length (map thing_name (things p))) (option_of p c) ≡ true
+  option_good c h =
+      and_from (nat_lt 0 (length (option_of p c)) && are_distinct (option_of p c)) (list_all (is_item (length (map thing_name (things p)))) (option_of p c))
+      (and_from (nat_lt 0 (length (option_of p c))) (are_distinct (option_of p c)) (lt_true 0 (length (option_of p c)) (omega arith))
+      (distinct_items (things_of c) (parts_in p c h) (parts_distinct c h)))
+      (all_pass (is_item (length (map thing_name (things p)))) (option_of p c) (λ n i.
+      let t = in_from_map (item_of p) n (things_of c) i in
+      subst (λ (k : ℕ). is_item (length (map thing_name (things p))) k ≡ true) (sym t.2) (item_within t.0 (parts_in p c h t.0 t.1))))
+
+  all_options : list_all (is_option (length (map thing_name (things p)))) (map (option_of p) (choices p)) ≡ true
+  all_options = all_pass (is_option (length (map thing_name (things p)))) (map (option_of p) (choices p)) (λ o i.
+      let c = in_from_map (option_of p) o (choices p) i in
+      subst (λ (q : List ℕ). is_option (length (map thing_name (things p))) q ≡ true) (sym c.2) (option_good c.0 (placed_in p (has_shapes p z) c.0 c.1)))
+
+  pub is_problem : is_small (compiled p) ≡ true → IsProblem (compiled p)
+  unfolding compiled
+  is_problem small = record {
+    some = some_needed;
+    within =
+        let long = long_map thing_name (things p) in
+        let all = long_append (needed_things p) (map a_piece p.maybe_pieces ++ map a_cell p.maybe_cells) in
+        omega (arith, long, all);
+    named = all_named;
+    new = all_new;
+    options_are = all_options;
+    small = small;
+  }
+
+-- ---- the names of the items
+
+pub names_are : (p : PuzzleValue) → ((map (λ (n : ℕ). n ∷ []) (needed_names p) ++ map cell_word (filled_cells p)) ++ map (λ (n : ℕ). n ∷ []) p.maybe_pieces) ++ map cell_word p.maybe_cells ≡ map thing_name (things p)
+names_are p =
+    joined (map (λ (n : ℕ). n ∷ []) (needed_names p) ++ map cell_word (filled_cells p)) (map (λ (n : ℕ). n ∷ []) p.maybe_pieces) (map cell_word p.maybe_cells)
+    ∙ ap₂ (λ (xs ys : List (List ℕ)). xs ++ ys) (two (needed_names p) (filled_cells p)) (two p.maybe_pieces p.maybe_cells)
+    ∙ sym (map-append thing_name (needed_things p) (map a_piece p.maybe_pieces ++ map a_cell p.maybe_cells))
+  where
+    joined : {X : Type 0} (xs ys zs : List X) → (xs ++ ys) ++ zs ≡ xs ++ (ys ++ zs)
+    joined [] ys zs = refl
+    joined {X} (x ∷ xs) ys zs = ap (λ (ws : List X). x ∷ ws) (joined xs ys zs)
+
+    pieces : (ns : List ℕ) → map (λ (n : ℕ). n ∷ []) ns ≡ map thing_name (map a_piece ns)
+    pieces [] = refl
+    pieces (n ∷ ns) = ap (λ (ws : List (List ℕ)). (n ∷ []) ∷ ws) (pieces ns)
+
+    cells : (vs : List Place) → map cell_word vs ≡ map thing_name (map a_cell vs)
+    cells [] = refl
+    cells (v ∷ vs) = ap (λ (ws : List (List ℕ)). cell_word v ∷ ws) (cells vs)
+
+    two : (ns : List ℕ) (vs : List Place) → map (λ (n : ℕ). n ∷ []) ns ++ map cell_word vs ≡ map thing_name (map a_piece ns ++ map a_cell vs)
+    two ns vs = ap₂ (λ (xs ys : List (List ℕ)). xs ++ ys) (pieces ns) (cells vs) ∙ sym (map-append thing_name (map a_piece ns) (map a_cell vs))
+
+-- ---- what is made
+
+le_true : (m n : ℕ) → nat_le m n ≡ true → m ≤ n
+le_true m n h = grind (arith, nat_tests)
+
+-- where there is no room for the options, the problem is too large
+pub not_small : (p : PuzzleValue) → is_within (length (things p)) (map (option_of p) (choices p)) ≡ false → is_small (compiled p) ≡ false
+unfolding compiled
+not_small p f =
+    elim (bool_cases (is_small (compiled p))) [
+      | inl t ↦
+          let names = map thing_name (things p) in
+          let options = map (option_of p) (choices p) in
+          let parts = and_parts (nat_le (length names) MOST_ITEMS && nat_le (length options) MOST_OPTIONS) (nat_le (length names + sum_by length options + length options + 2) MOST_ENTRIES) t in
+          let first = and_parts (nat_le (length names) MOST_ITEMS) (nat_le (length options) MOST_OPTIONS) parts.0 in
+          let size = le_true (length names + sum_by length options + length options + 2) MOST_ENTRIES parts.1 in
+          let long = long_map thing_name (things p) in
+          let all = and_from (nat_le (length options) MOST_OPTIONS) (nat_le (length (things p) + entries_of options + 2) MOST_ENTRIES) first.1
+          (true_le (length (things p) + entries_of options + 2) MOST_ENTRIES (omega (arith, size, long))) in
+          cc
+      | inr g ↦ g
+    ]
+
+-- the parts are those of the problem
+pub record AreParts (p : PuzzleValue) (names : List (List ℕ)) (primary : ℕ) (options : List (List ℕ)) : Type 0 where
+  pub names_are : names ≡ map thing_name (things p)
+  pub primary_is : primary ≡ length (needed_things p)
+  pub options_are : options ≡ map (option_of p) (choices p)
+
+same_made : (p : PuzzleValue) (names : List (List ℕ)) (primary : ℕ) (options : List (List ℕ)) → AreParts p names primary options
+    → made names primary options ≡ made (map thing_name (things p)) (length (needed_things p)) (map (option_of p) (choices p))
+same_made p names primary options a =
+    ap (λ (ns : List (List ℕ)). made ns primary options) a.names_are ∙ ap (λ (k : ℕ). made (map thing_name (things p)) k options) a.primary_is
+    ∙ ap (made (map thing_name (things p)) (length (needed_things p))) a.options_are
+
+pub not_made : (p : PuzzleValue) → IsPuzzle p → (names : List (List ℕ)) (primary : ℕ) (options : List (List ℕ)) → AreParts p names primary options
+    → ((q : Cover) → made names primary options ≡ Ok q → ⊥) → is_small (compiled p) ≡ false
+unfolding compiled
+not_made p z names primary options a never =
+    elim (bool_cases (is_small (compiled p))) [
+      | inl t ↦ absurd (never (compiled p) (same_made p names primary options a ∙ made_again (compiled p) (is_problem p z t)))
+      | inr f ↦ f
+    ]
+
+pub made_of : (p : PuzzleValue) (names : List (List ℕ)) (primary : ℕ) (options : List (List ℕ)) (q : Cover) → AreParts p names primary options
+    → made names primary options ≡ Ok q → (q ≡ compiled p) × (is_small (compiled p) ≡ true)
+unfolding compiled
+made_of p names primary options q a h =
+    let m = made_is (map thing_name (things p)) (length (needed_things p)) (map (option_of p) (choices p)) q (sym (same_made p names primary options a) ∙ h) in
+    (m.0, subst (λ (c : Cover). is_small c ≡ true) m.0 m.1.small)
+
+-- what is kept
+abbrev pub value_of : Cover → List Place → List ℕ → List Place → CompiledValue
+value_of problem region pieces cells = record { problem = problem; region = region; maybe_pieces = pieces; maybe_cells = cells }
+
+pub same_value : (p : PuzzleValue) (q : Cover) (region : List Place) (pieces : List ℕ) (cells : List Place) → q ≡ compiled p → region ≡ p.region → pieces ≡ p.maybe_pieces → cells ≡ p.maybe_cells
+    → value_of q region pieces cells ≡ compiled_value p
+same_value p q region pieces cells e f g h =
+    ap (λ (x : Cover). value_of x region pieces cells) e ∙ ap (λ (x : List Place). value_of (compiled p) x pieces cells) f
+    ∙ ap (λ (x : List ℕ). value_of (compiled p) p.region x cells) g ∙ ap (value_of (compiled p) p.region p.maybe_pieces) h

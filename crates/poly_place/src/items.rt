@@ -1,0 +1,166 @@
+//! The items of a puzzle's problem: the required pieces and cells, and then those that may be left out.
+ghost use Rattle.std.specs.Prelude.{◌≡◌, ◌≤◌, ◌+◌, ◌++◌, ◌∷◌, [], IfOk, OnOk, length, map};
+ghost use Rattle.std.specs.String.{string_bytes};
+ghost use Rattle.poly_texts.specs.Grammar.{cell_word};
+ghost use Rattle.poly_texts.specs.Grammar as grammar;
+ghost use Rattle.poly_cells.specs.Sets.{IsIn};
+ghost use Rattle.poly_texts.specs.Puzzle.{IsPuzzle, names_of};
+ghost use Rattle.poly_place.specs.Packings.{a_piece, item_of, needed_things, place_among};
+ghost use Rattle.poly_place.specs.Compiled.{AreNumbers, filled_cells, needed_names, numbered};
+
+use crate::table::{bit_place, has_bit, table_of};
+use poly_cells::Cell;
+use poly_texts::{PieceName, Puzzle};
+use std::alloc::{AllocError, Global};
+
+// How many cells there are within the limits.
+const CELLS: usize = 32_768;
+
+/// The pieces that may not be left out, in the order of the puzzle.
+pub fn needed_pieces(alloc: Global, puzzle: &Puzzle) -> Result<Vec<PieceName>, AllocError>
+    ensures { IfOk result (λ needed. needed.items ≡ needed_names puzzle.now) }
+{
+    let mut needed = Vec::new(alloc);
+    let optional = puzzle.maybe_pieces();
+    let pieces = puzzle.pieces();
+    for k in 0..pieces.len() {
+        let (name, _shape) = pieces.get_index(k).unwrap();
+        if !optional.contains(name) {
+            needed.push(*name)?;
+        }
+    }
+    Ok(needed)
+}
+
+/// The cells of the region that may not stay empty, in order.
+pub fn needed_cells(alloc: Global, puzzle: &Puzzle) -> Result<Vec<Cell>, AllocError>
+    ensures { IfOk result (λ needed. needed.items ≡ filled_cells puzzle.now) }
+{
+    let cells = puzzle.region().cells();
+    let optional = table_of(alloc, puzzle.maybe_cells())?;
+    let bits = optional.as_slice();
+    let mut needed = Vec::new(alloc);
+    for cell in cells {
+        if !has_bit(bits, cell.x(), cell.y(), cell.z()) {
+            needed.push(*cell)?;
+        }
+    }
+    Ok(needed)
+}
+
+/// The number of each region cell's item, at the place of the cell's bit.
+pub fn cell_numbers(
+    alloc: Global,
+    puzzle: &Puzzle,
+    pieces: &[PieceName],
+    cells: &[Cell],
+) -> Result<Vec<u32>, AllocError>
+    requires puzzle { IsPuzzle puzzle.now }
+    requires pieces { pieces.now ≡ needed_names puzzle.now }
+    requires cells { cells.now ≡ filled_cells puzzle.now }
+    ensures { IfOk result (λ numbers. AreNumbers puzzle.now numbers.items) }
+{
+    let first = pieces.len();
+    let second = first + cells.len() + puzzle.maybe_pieces().len();
+    let mut numbers = no_numbers(alloc, CELLS)?;
+    number_cells(&mut numbers, cells, first as u32);
+    number_cells(&mut numbers, puzzle.maybe_cells(), second as u32);
+    Ok(numbers)
+}
+
+// A table without numbers.
+fn no_numbers(alloc: Global, count: usize) -> Result<Vec<u32>, AllocError>
+    ensures { IfOk result (λ numbers. length numbers.items ≡ count) }
+{
+    vec![in alloc; 0u32; count]
+}
+
+// Numbers these cells from the number after `last` on.
+fn number_cells(numbers: &mut [u32], cells: &[Cell], last: u32)
+    requires long { length numbers.old ≡ 32768 }
+    requires room { last + length cells.now ≤ 65535 }
+    ensures { numbers.new ≡ numbered numbers.old (last + 1) cells.now }
+{
+    let mut number = last;
+    for cell in cells {
+        number += 1;
+        numbers[bit_place(cell.x(), cell.y(), cell.z())] = number;
+    }
+}
+
+/// The number of the item of a piece of the puzzle.
+pub fn piece_number(puzzle: &Puzzle, needed: &[PieceName], primary: u32, name: PieceName) -> u32
+    requires puzzle { IsPuzzle puzzle.now }
+    requires needed { needed.now ≡ needed_names puzzle.now }
+    requires primary { primary ≡ length (needed_things puzzle.now) }
+    requires member { IsIn name (names_of puzzle.now.pieces) }
+    ensures { result ≡ item_of puzzle.now (a_piece name) }
+{
+    let place = place_among(needed, name);
+    if place < needed.len() {
+        place as u32 + 1
+    } else {
+        primary + place_among(puzzle.maybe_pieces(), name) as u32 + 1
+    }
+}
+
+// How many come before the name.
+fn place_among(names: &[PieceName], name: PieceName) -> usize
+    ensures value { result ≡ place_among (a_piece name) (map a_piece names.now) }
+    ensures limit { result ≤ length names.now }
+{
+    let mut place = 0;
+    for other in names {
+        if name == *other {
+            return place;
+        }
+        place += 1;
+    }
+    place
+}
+
+/// Adds the names of these pieces.
+pub fn add_piece_names(
+    alloc: Global,
+    names: &mut Vec<String>,
+    pieces: &[PieceName],
+) -> Result<(), AllocError>
+    ensures { OnOk result (map string_bytes names.new.items ≡ map string_bytes names.old.items ++ map (λ n. n ∷ []) pieces.now) }
+{
+    for name in pieces {
+        let mut text = String::new(alloc);
+        text.push(name.symbol() as char)?;
+        names.push(text)?;
+    }
+    Ok(())
+}
+
+/// Adds the names of these cells: the symbols of their coordinates.
+pub fn add_cell_names(
+    alloc: Global,
+    names: &mut Vec<String>,
+    cells: &[Cell],
+) -> Result<(), AllocError>
+    ensures { OnOk result (map string_bytes names.new.items ≡ map string_bytes names.old.items ++ map cell_word cells.now) }
+{
+    for cell in cells {
+        let mut text = String::new(alloc);
+        text.push(symbol(cell.x()))?;
+        text.push(symbol(cell.y()))?;
+        text.push(symbol(cell.z()))?;
+        names.push(text)?;
+    }
+    Ok(())
+}
+
+// One of `0-9a-v`, for 0 to 31.
+fn symbol(coordinate: u8) -> char
+    requires { coordinate ≤ 31 }
+    ensures { result ≡ grammar.symbol coordinate }
+{
+    if coordinate < 10 {
+        (b'0' + coordinate) as char
+    } else {
+        (b'a' + (coordinate - 10)) as char
+    }
+}

@@ -4,16 +4,16 @@ use mathlib.Core.List.{reverse-cons}
 use Rattle.std.specs.List.{before_first}
 use Rattle.std.proofs.lemmas.Bool.{and_from, lt-ltb, le-leb}
 use Rattle.cover_problem.specs.Lists.{has, numbers}
-use Rattle.cover_problem.specs.Problem.{Cover, IsProblem, option_at}
-use Rattle.cover_problem.specs.Covering.{active, remaining, is_left, list_of}
+use Rattle.cover_problem.specs.Problem.{ProblemValue, IsProblem, option_at}
+use Rattle.cover_problem.specs.Covering.{active, remaining, is_remaining, list_of}
 use Rattle.cover_problem.specs.Coverable.{IsUncovered}
-use Rattle.cover_problem.specs.Table.{AreCovered}
+use Rattle.cover_problem.specs.Table.{IsCoveredList}
 use Rattle.cover_problem.proofs.ListLemmas.{filter_agree_on, has_numbers_in}
 use Rattle.cover_problem.proofs.CoveringLemmas.{covered_middle}
 use Rattle.cover_links.specs.declared.entry.Entry.{Entry}
 use Rattle.cover_links.specs.Hiding.{item_covered, item_uncovered, all_covered}
 use Rattle.cover_links.specs.Fresh.{fresh}
-use Rattle.cover_links.specs.Layout.{place}
+use Rattle.cover_links.specs.Layout.{node_index}
 use Rattle.cover_links.specs.Ring.{IsRing}
 use Rattle.cover_links.specs.StandsFor.{IsWalk, block_of, BlockStands, UncoverRestores}
 use Rattle.cover_links.proofs.Standing.{Stands, down_at, up_at, left_at, right_at}
@@ -24,15 +24,15 @@ use Rattle.cover_links.proofs.BuiltLemmas.{fresh_stands}
 
 -- ---- the block of the covered items
 
-covered_stands : (p : Cover) → IsProblem p → (c more : List ℕ) (es : List Entry) → AreCovered p (c ++ more) → Stands p (shown_of p c) (active_of p c) es
+covered_stands : (p : ProblemValue) → IsProblem p → (c more : List ℕ) (es : List Entry) → IsCoveredList p (c ++ more) → Stands p (shown_of p c) (active_of p c) es
     → Stands p (shown_of p (c ++ more)) (active_of p (c ++ more)) (all_covered es more)
 covered_stands p problem c [] es a s = subst (λ d. Stands p (shown_of p d) (active_of p d) es) (sym (append-nil c)) s
 covered_stands p problem c (i ∷ more) es a s =
     let d = cover_done p c i es problem (covered_middle p c i more a) s in
     let same = append_assoc c (i ∷ []) more in
-    subst (λ d. Stands p (shown_of p d) (active_of p d) (all_covered (item_covered es i) more)) same (covered_stands p problem (c ++ i ∷ []) more (item_covered es i) (subst (AreCovered p) (sym same) a) d.stands)
+    subst (λ d. Stands p (shown_of p d) (active_of p d) (all_covered (item_covered es i) more)) same (covered_stands p problem (c ++ i ∷ []) more (item_covered es i) (subst (IsCoveredList p) (sym same) a) d.stands)
 
-pub links_stand : (p : Cover) (c : List ℕ) → IsProblem p → AreCovered p c → Stands p (shown_of p c) (active_of p c) (block_of p c)
+pub links_stand : (p : ProblemValue) (c : List ℕ) → IsProblem p → IsCoveredList p c → Stands p (shown_of p c) (active_of p c) (block_of p c)
 unfolding block_of
 links_stand p c problem a = covered_stands p problem [] c (fresh p) a (fresh_stands p problem)
 
@@ -40,15 +40,15 @@ covered_push : (es : List Entry) (c : List ℕ) (i : ℕ) → all_covered es (c 
 covered_push es [] i = refl
 covered_push es (j ∷ c) i = covered_push (item_covered es j) c i
 
-pub block_push : (p : Cover) (c : List ℕ) (i : ℕ) → block_of p (c ++ i ∷ []) ≡ item_covered (block_of p c) i
+pub block_push : (p : ProblemValue) (c : List ℕ) (i : ℕ) → block_of p (c ++ i ∷ []) ≡ item_covered (block_of p c) i
 unfolding block_of
 block_push p c i = covered_push (fresh p) c i
 
-pub block_none : (p : Cover) → block_of p [] ≡ fresh p
+pub block_none : (p : ProblemValue) → block_of p [] ≡ fresh p
 unfolding block_of
 block_none p = refl
 
-pub step_done : (p : Cover) (c : List ℕ) (i : ℕ) → IsProblem p → AreCovered p c → IsUncovered p c i → CoverDone p c i (block_of p c)
+pub step_done : (p : ProblemValue) (c : List ℕ) (i : ℕ) → IsProblem p → IsCoveredList p c → IsUncovered p c i → CoverDone p c i (block_of p c)
 step_done p c i problem a u = cover_done p c i (block_of p c) problem u (links_stand p c problem a)
 
 pub uncover_restores : UncoverRestores
@@ -56,15 +56,15 @@ uncover_restores p c i problem a u = ap (λ es. item_uncovered es i) (block_push
 
 -- ---- the lists of the definitions
 
-pub shown_list : (p : Cover) (c : List ℕ) (j : ℕ) → filter (shown_of p c j) (numbers (length p.options) 1) ≡ list_of p c j
+pub shown_list : (p : ProblemValue) (c : List ℕ) (j : ℕ) → filter (shown_of p c j) (numbers (length p.options) 1) ≡ list_of p c j
 unfolding shown_of list_of remaining
 shown_list p c j =
-    filter_agree_on (λ k. (nat_lt 0 k && nat_le k (length p.options)) && is_left (before_first (λ x. x == j) c) j (option_at p k)) (λ k. is_left (before_first (λ x. x == j) c) j (option_at p k)) (numbers (length p.options) 1)
+    filter_agree_on (λ k. (nat_lt 0 k && nat_le k (length p.options)) && is_remaining (before_first (λ x. x == j) c) j (option_at p k)) (λ k. is_remaining (before_first (λ x. x == j) c) j (option_at p k)) (numbers (length p.options) 1)
     (λ k h. let r = has_numbers_in (length p.options) 1 k h in
     let f : (nat_lt 0 k && nat_le k (length p.options)) ≡ true = and_from (nat_lt 0 k) (nat_le k (length p.options)) (lt-ltb 0 k (omega arith)) (le-leb k (length p.options) (omega arith)) in
-    ap (λ b. b && is_left (before_first (λ x. x == j) c) j (option_at p k)) f)
+    ap (λ b. b && is_remaining (before_first (λ x. x == j) c) j (option_at p k)) f)
 
-pub active_list : (p : Cover) (c : List ℕ) → filter (active_of p c) (numbers p.primary 1) ≡ active p c
+pub active_list : (p : ProblemValue) (c : List ℕ) → filter (active_of p c) (numbers p.primary 1) ≡ active p c
 unfolding active_of active
 active_list p c =
     filter_agree_on (λ i. (nat_lt 0 i && nat_le i p.primary) && not (has c i)) (λ i. not (has c i)) (numbers p.primary 1)
@@ -104,7 +104,7 @@ block_stands p c problem a =
     record {
       items = subst (λ l. IsWalk (right_at (block_of p c)) 0 l 0) (same_map (active p c)) (walk_forth (active_of p c) (λ i. i) (right_at (block_of p c)) (left_at (block_of p c)) s.row (active p c) 0 row);
       items_back = subst (λ l. IsWalk (left_at (block_of p c)) 0 (reverse l) 0) (same_map (active p c)) (walk_back (active_of p c) (λ i. i) (right_at (block_of p c)) (left_at (block_of p c)) s.row (active p c) 0 row);
-      nodes = λ j pos le. walk_forth (shown_of p c j) (place p j) (down_at (block_of p c)) (up_at (block_of p c)) (s.rings j pos le) (list_of p c j) 0 (column j);
-      nodes_back = λ j pos le. walk_back (shown_of p c j) (place p j) (down_at (block_of p c)) (up_at (block_of p c)) (s.rings j pos le) (list_of p c j) 0 (column j);
+      nodes = λ j pos le. walk_forth (shown_of p c j) (node_index p j) (down_at (block_of p c)) (up_at (block_of p c)) (s.rings j pos le) (list_of p c j) 0 (column j);
+      nodes_back = λ j pos le. walk_back (shown_of p c j) (node_index p j) (down_at (block_of p c)) (up_at (block_of p c)) (s.rings j pos le) (list_of p c j) 0 (column j);
       lengths = λ j pos le. s.counts j pos le ∙ ap length (shown_list p c j);
     }

@@ -1,14 +1,14 @@
 -- Lemmas on the places of the options, and on a list that grows.
 use Rattle.std.proofs.Common.{◌≡◌, ℕ, zero, suc, ◌+◌, ◌<◌, ◌≤◌, ◌⊎◌, inl, inr, nat_le, ◌&&◌, List, [], ◌∷◌, ◌++◌, length, get_or, drop, refl, sym, ap, ◌∙◌, arith}
 use Rattle.std.proofs.lemmas.Bool.{and_parts, cases_lt, leb-true}
-use Rattle.cover_problem.specs.Problem.{Cover, IsProblem, size_of}
+use Rattle.cover_problem.specs.Problem.{ProblemValue, IsProblem, size_of}
 use Rattle.cover_links.specs.Layout.{start_of}
 use Rattle.cover_links.proofs.LayoutLemmas.{start_last, start_below}
 
-pub size_small : (p : Cover) → IsProblem p → size_of p ≤ 8388608
+pub size_small : (p : ProblemValue) → IsProblem p → size_of p ≤ 8388608
 size_small p s = leb-true (size_of p) 8388608 (and_parts (nat_le (length p.names) 65535 && nat_le (length p.options) 262143) (nat_le (size_of p) 8388608) s.small).1
 
-pub start_most : (p : Cover) (k : ℕ) → k ≤ length p.options → start_of p k ≤ size_of p
+pub start_most : (p : ProblemValue) (k : ℕ) → k ≤ length p.options → start_of p k ≤ size_of p
 start_most p k le = pick (cases_lt k (length p.options))
   where
     pick : (k < length p.options) ⊎ (length p.options ≤ k) → start_of p k ≤ size_of p

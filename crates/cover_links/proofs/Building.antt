@@ -2,7 +2,7 @@
 use Rattle.std.proofs.Common.{◌≡◌, ℕ, zero, suc, ◌+◌, ◌-◌, ◌<◌, ◌≤◌, ◌^◌, ◌⊎◌, inl, inr, nat_le, Bool, true, ◌&&◌, unwrap_or, List, [], ◌∷◌, length, length-set, filter, set, refl, sym, ap, ◌∙◌, subst, arith}
 use Rattle.std.proofs.lemmas.Bool.{and_parts, cases_eq, cases_lt, leb-true}
 use Rattle.cover_problem.specs.Lists.{numbers, last_of}
-use Rattle.cover_problem.specs.Problem.{Cover, IsProblem, size_of}
+use Rattle.cover_problem.specs.Problem.{ProblemValue, IsProblem, size_of}
 use Rattle.cover_problem.proofs.ListLemmas.{filter_at_most, length-numbers}
 use Rattle.cover_links.specs.declared.entry.Entry.{Entry}
 use Rattle.cover_links.specs.Entries.{entry_at, changed, one_more, to_up, to_down, relinked}
@@ -10,7 +10,7 @@ use Rattle.cover_links.specs.Hiding.{node_unhidden}
 use Rattle.cover_links.specs.Fresh.{node_written, node_appended}
 use Rattle.cover_links.specs.Safety.{CanAppendNode, IsInside}
 use Rattle.cover_links.specs.Ring.{Follows, IsNext, IsRing, without}
-use Rattle.cover_links.specs.Layout.{place, spacer_of, start_of}
+use Rattle.cover_links.specs.Layout.{node_index, spacer_of, start_of}
 use Rattle.cover_links.proofs.EntryLemmas.{length-changed, kept, at_changed, at_other}
 use Rattle.cover_links.proofs.RingLemmas.{without_ne, without_from, last_to_head, count_without}
 use Rattle.cover_links.proofs.LayoutLemmas.{IsNode, place_high, place_low, place_apart}
@@ -18,14 +18,14 @@ use Rattle.cover_links.proofs.Standing.{down_at, up_at, left_at, right_at, top_a
 use Rattle.cover_links.proofs.Covered.{same_test}
 
 -- a block with the nodes that are shown, while it is built
-pub record Grows (p : Cover) (shown : ℕ → ℕ → Bool) (active : ℕ → Bool) (es : List Entry) : Type 0 where
+pub record Grows (p : ProblemValue) (shown : ℕ → ℕ → Bool) (active : ℕ → Bool) (es : List Entry) : Type 0 where
   pub size : length es ≡ size_of p
   pub shown_are : (j k : ℕ) → shown j k ≡ true → IsNode p j k
-  pub rings : (j : ℕ) → 0 < j → j ≤ length p.names → IsRing (shown j) (place p j) (down_at es) (up_at es)
+  pub rings : (j : ℕ) → 0 < j → j ≤ length p.names → IsRing (shown j) (node_index p j) (down_at es) (up_at es)
   pub counts : (j : ℕ) → 0 < j → j ≤ length p.names → top_at es j ≡ length (filter (shown j) (numbers (length p.options) 1))
-  pub tops : (j k : ℕ) → shown j k ≡ true → top_at es (place p j k) ≡ j
-  pub lefts : (j k : ℕ) → shown j k ≡ true → left_at es (place p j k) ≡ start_of p (k - 1)
-  pub rights : (j k : ℕ) → shown j k ≡ true → right_at es (place p j k) ≡ spacer_of p k
+  pub tops : (j k : ℕ) → shown j k ≡ true → top_at es (node_index p j k) ≡ j
+  pub lefts : (j k : ℕ) → shown j k ≡ true → left_at es (node_index p j k) ≡ start_of p (k - 1)
+  pub rights : (j k : ℕ) → shown j k ≡ true → right_at es (node_index p j k) ≡ spacer_of p k
   pub row : IsRing active (λ i. i) (right_at es) (left_at es)
   pub aside : (i : ℕ) → p.primary < i → i ≤ length p.names → (right_at es i ≡ i) × (left_at es i ≡ i)
   pub actives : (i : ℕ) → active i ≡ true → (0 < i) × (i ≤ p.primary)
@@ -66,9 +66,9 @@ set_other (z ∷ es) zero (suc y) e ne = refl
 set_other (z ∷ es) (suc x) zero e ne = refl
 set_other (z ∷ es) (suc x) (suc y) e ne = set_other es x y e (λ h. ne (ap suc h))
 
-module _ (p : Cover) (active : ℕ → Bool) (problem : IsProblem p) (t t' : ℕ → ℕ → Bool) (es : List Entry) (g : Grows p t active es) (j k : ℕ) (pos : 0 < j) (le : j ≤ length p.names) (node : IsNode p j k) (a : Adds t t' j k) where
+module _ (p : ProblemValue) (active : ℕ → Bool) (problem : IsProblem p) (t t' : ℕ → ℕ → Bool) (es : List Entry) (g : Grows p t active es) (j k : ℕ) (pos : 0 < j) (le : j ≤ length p.names) (node : IsNode p j k) (a : Adds t t' j k) where
   abbrev x : ℕ
-  x = place p j k
+  x = node_index p j k
 
   abbrev l : ℕ
   l = start_of p (k - 1)
@@ -89,10 +89,10 @@ module _ (p : Cover) (active : ℕ → Bool) (problem : IsProblem p) (t t' : ℕ
   u : ℕ
   u = up_at es j
 
-  u_is : up_at es j ≡ place p j z
+  u_is : up_at es j ≡ node_index p j z
   u_is = (g.rings j pos le z 0 last_one).1
 
-  u_down : down_at es (place p j z) ≡ j
+  u_down : down_at es (node_index p j z) ≡ j
   u_down = (g.rings j pos le z 0 last_one).0
 
   x_low : x < length es
@@ -105,15 +105,15 @@ module _ (p : Cover) (active : ℕ → Bool) (problem : IsProblem p) (t t' : ℕ
   x_high = place_high p j k node
 
   -- no entry that is in a ring is x
-  ring_apart : (i : ℕ) → i ≤ length p.names → (m : ℕ) → (m ≡ 0) ⊎ (t i m ≡ true) → place p i m ≡ x → ⊥
-  ring_apart i b m (inl e) h = let f : i ≡ x = (λ q. place p i (sym e q)) ∙ h in let w = x_high in absurd (omega arith)
+  ring_apart : (i : ℕ) → i ≤ length p.names → (m : ℕ) → (m ≡ 0) ⊎ (t i m ≡ true) → node_index p i m ≡ x → ⊥
+  ring_apart i b m (inl e) h = let f : i ≡ x = (λ q. node_index p i (sym e q)) ∙ h in let w = x_high in absurd (omega arith)
   ring_apart i b m (inr s) h = let q = place_apart p i m j k (g.shown_are i m s) node h in a.is_new (subst (λ (w : ℕ × ℕ). t w.0 w.1 ≡ true) (λ v. (q.0 v, q.1 v)) s)
 
   u_inside : up_at es j < length es
   u_inside = subst (λ n. n < length es) (sym u_is) (pick z last_one.from)
     where
-      pick : (m : ℕ) → (m ≡ 0) ⊎ (t j m ≡ true) → place p j m < length es
-      pick m (inl e) = subst (λ n. place p j n < length es) (sym e) j_low
+      pick : (m : ℕ) → (m ≡ 0) ⊎ (t j m ≡ true) → node_index p j m < length es
+      pick m (inl e) = subst (λ n. node_index p j n < length es) (sym e) j_low
       pick m (inr h) = let s = g.size in let w = place_low p j m (g.shown_are j m h) in omega arith
 
   u_apart : up_at es j ≡ x → ⊥
@@ -196,22 +196,22 @@ module _ (p : Cover) (active : ℕ → Bool) (problem : IsProblem p) (t t' : ℕ
   target i m y (inl n) = inr n.0
   target i m y (inr n) = inl n.0
 
-  other_ring : (i : ℕ) → 0 < i → i ≤ length p.names → (i ≡ j → ⊥) → IsRing (t i) (place p i) (down_at ks) (up_at ks)
+  other_ring : (i : ℕ) → 0 < i → i ≤ length p.names → (i ≡ j → ⊥) → IsRing (t i) (node_index p i) (down_at ks) (up_at ks)
   other_ring i b d ne m y f =
       let q = g.rings i b d m y f in
-      side (place p i m) (place p i y) (ring_apart i d m f.from) (ring_apart i d y (target i m y f.to)) (λ h. not_u f.from last_one.from (h ∙ u_is)) (λ h. not_j (target i m y f.to) h) q.0 q.1
+      side (node_index p i m) (node_index p i y) (ring_apart i d m f.from) (ring_apart i d y (target i m y f.to)) (λ h. not_u f.from last_one.from (h ∙ u_is)) (λ h. not_j (target i m y f.to) h) q.0 q.1
     where
-      not_u : (m ≡ 0) ⊎ (t i m ≡ true) → (z ≡ 0) ⊎ (t j z ≡ true) → place p i m ≡ place p j z → ⊥
-      not_u (inl e) (inl e') h = ne ((λ v. place p i (sym e v)) ∙ h ∙ (λ v. place p j (e' v)))
-      not_u (inl e) (inr s) h = let w = place_high p j z (g.shown_are j z s) in let f : i ≡ place p j z = (λ v. place p i (sym e v)) ∙ h in absurd (omega arith)
-      not_u (inr s) (inl e') h = let w = place_high p i m (g.shown_are i m s) in let f : place p i m ≡ j = h ∙ (λ v. place p j (e' v)) in absurd (omega arith)
+      not_u : (m ≡ 0) ⊎ (t i m ≡ true) → (z ≡ 0) ⊎ (t j z ≡ true) → node_index p i m ≡ node_index p j z → ⊥
+      not_u (inl e) (inl e') h = ne ((λ v. node_index p i (sym e v)) ∙ h ∙ (λ v. node_index p j (e' v)))
+      not_u (inl e) (inr s) h = let w = place_high p j z (g.shown_are j z s) in let f : i ≡ node_index p j z = (λ v. node_index p i (sym e v)) ∙ h in absurd (omega arith)
+      not_u (inr s) (inl e') h = let w = place_high p i m (g.shown_are i m s) in let f : node_index p i m ≡ j = h ∙ (λ v. node_index p j (e' v)) in absurd (omega arith)
       not_u (inr s) (inr s') h = ne (place_apart p i m j z (g.shown_are i m s) (g.shown_are j z s') h).0
 
-      not_j : (y ≡ 0) ⊎ (t i y ≡ true) → place p i y ≡ j → ⊥
-      not_j (inl e) h = ne ((λ v. place p i (sym e v)) ∙ h)
+      not_j : (y ≡ 0) ⊎ (t i y ≡ true) → node_index p i y ≡ j → ⊥
+      not_j (inl e) h = ne ((λ v. node_index p i (sym e v)) ∙ h)
       not_j (inr s) h = let w = place_high p i y (g.shown_are i y s) in absurd (omega arith)
 
-  own_ring : IsRing (t' j) (place p j) (down_at ks) (up_at ks)
+  own_ring : IsRing (t' j) (node_index p j) (down_at ks) (up_at ks)
   own_ring m y f = step f.to (cases_eq m k)
     where
       was : (n : ℕ) → t' j n ≡ true → (n ≡ k) ⊎ (t j n ≡ true)
@@ -238,28 +238,28 @@ module _ (p : Cover) (active : ℕ → Bool) (problem : IsProblem p) (t t' : ℕ
       m_below (inr h) = a.last m h
 
       -- after the new node the ring closes
-      at_end : m ≡ k → (y ≡ 0) → (down_at ks (place p j m) ≡ place p j y) × (up_at ks (place p j y) ≡ place p j m)
+      at_end : m ≡ k → (y ≡ 0) → (down_at ks (node_index p j m) ≡ node_index p j y) × (up_at ks (node_index p j y) ≡ node_index p j m)
       at_end e e' = (
-        (λ v. down_at ks (place p j (e v))) ∙ ks_down x (λ h. u_apart (sym h)) ∙ ap (λ (w : Entry). w.down) fs_here ∙ (λ v. place p j (sym e' v)),
-        (λ v. up_at ks (place p j (e' v))) ∙ ks_up_j ∙ (λ v. place p j (sym e v)),
+        (λ v. down_at ks (node_index p j (e v))) ∙ ks_down x (λ h. u_apart (sym h)) ∙ ap (λ (w : Entry). w.down) fs_here ∙ (λ v. node_index p j (sym e' v)),
+        (λ v. up_at ks (node_index p j (e' v))) ∙ ks_up_j ∙ (λ v. node_index p j (sym e v)),
       )
 
       -- the new node comes after the one that was last
-      at_new : (m ≡ 0) ⊎ (t j m ≡ true) → ((n : ℕ) → t j n ≡ true → n ≤ m) → y ≡ k → (down_at ks (place p j m) ≡ place p j y) × (up_at ks (place p j y) ≡ place p j m)
+      at_new : (m ≡ 0) ⊎ (t j m ≡ true) → ((n : ℕ) → t j n ≡ true → n ≤ m) → y ≡ k → (down_at ks (node_index p j m) ≡ node_index p j y) × (up_at ks (node_index p j y) ≡ node_index p j m)
       at_new fr most e =
           let q = g.rings j pos le m 0 (record { from = fr; to = inr (refl, most) }) in (
-            ap (down_at ks) (sym q.1) ∙ ks_down_u ∙ (λ v. place p j (sym e v)),
-            (λ v. up_at ks (place p j (e v))) ∙ ks_up x (λ h. j_apart (sym h)) ∙ ap (λ (w : Entry). w.up) fs_here ∙ q.1,
+            ap (down_at ks) (sym q.1) ∙ ks_down_u ∙ (λ v. node_index p j (sym e v)),
+            (λ v. up_at ks (node_index p j (e v))) ∙ ks_up x (λ h. j_apart (sym h)) ∙ ap (λ (w : Entry). w.up) fs_here ∙ q.1,
           )
 
-      inner : (m ≡ 0) ⊎ (t j m ≡ true) → t j y ≡ true → m < y → ((n : ℕ) → t j n ≡ true → m < n → y ≤ n) → (down_at ks (place p j m) ≡ place p j y) × (up_at ks (place p j y) ≡ place p j m)
+      inner : (m ≡ 0) ⊎ (t j m ≡ true) → t j y ≡ true → m < y → ((n : ℕ) → t j n ≡ true → m < n → y ≤ n) → (down_at ks (node_index p j m) ≡ node_index p j y) × (up_at ks (node_index p j y) ≡ node_index p j m)
       inner fr ty lt least =
           let q = g.rings j pos le m y (record { from = fr; to = inl (ty, lt, least) }) in
           let high = place_high p j y (g.shown_are j y ty) in
-          side (place p j m) (place p j y) (ring_apart j le m fr) (ring_apart j le y (inr ty))
-          (λ h. let e : place p j y ≡ j = sym q.0 ∙ ap (down_at es) (h ∙ u_is) ∙ u_down in absurd (omega arith)) (λ h. absurd (omega arith)) q.0 q.1
+          side (node_index p j m) (node_index p j y) (ring_apart j le m fr) (ring_apart j le y (inr ty))
+          (λ h. let e : node_index p j y ≡ j = sym q.0 ∙ ap (down_at es) (h ∙ u_is) ∙ u_down in absurd (omega arith)) (λ h. absurd (omega arith)) q.0 q.1
 
-      step : IsNext (t' j) m y → (m ≡ k) ⊎ (m ≡ k → ⊥) → (down_at ks (place p j m) ≡ place p j y) × (up_at ks (place p j y) ≡ place p j m)
+      step : IsNext (t' j) m y → (m ≡ k) ⊎ (m ≡ k → ⊥) → (down_at ks (node_index p j m) ≡ node_index p j y) × (up_at ks (node_index p j y) ≡ node_index p j m)
       step (inl n) (inl e) = absurd (beyond (was y n.0))
         where
           beyond : (y ≡ k) ⊎ (t j y ≡ true) → ⊥
@@ -269,7 +269,7 @@ module _ (p : Cover) (active : ℕ → Bool) (problem : IsProblem p) (t t' : ℕ
       step (inr n) (inr ne) = let b = n.1 k a.comes in let c = m_below (from ne f.from) in absurd (omega arith)
       step (inl n) (inr ne) = pick (was y n.0)
         where
-          pick : (y ≡ k) ⊎ (t j y ≡ true) → (down_at ks (place p j m) ≡ place p j y) × (up_at ks (place p j y) ≡ place p j m)
+          pick : (y ≡ k) ⊎ (t j y ≡ true) → (down_at ks (node_index p j m) ≡ node_index p j y) × (up_at ks (node_index p j y) ≡ node_index p j m)
           pick (inl e) = at_new (from ne f.from) (λ w h. most w h (cases_lt m w)) e
             where
               most : (w : ℕ) → t j w ≡ true → (m < w) ⊎ (w ≤ m) → w ≤ m
@@ -282,12 +282,12 @@ module _ (p : Cover) (active : ℕ → Bool) (problem : IsProblem p) (t t' : ℕ
       sym (count_without (t' j) k (length p.options) 1 a.comes node.some (let w = node.within in omega arith))
       ∙ ap (λ (f : ℕ → Bool). suc (length (filter f (numbers (length p.options) 1)))) (added_without t t' j k a)
 
-  old_plain : (π : Entry → ℕ) → ((y : ℕ) → (y ≡ j → ⊥) → π (entry_at ks y) ≡ π (entry_at fs y)) → (i m : ℕ) → t i m ≡ true → π (entry_at ks (place p i m)) ≡ π (entry_at es (place p i m))
+  old_plain : (π : Entry → ℕ) → ((y : ℕ) → (y ≡ j → ⊥) → π (entry_at ks y) ≡ π (entry_at fs y)) → (i m : ℕ) → t i m ≡ true → π (entry_at ks (node_index p i m)) ≡ π (entry_at es (node_index p i m))
   old_plain π h i m s =
       let w = place_high p i m (g.shown_are i m s) in
-      h (place p i m) (λ e. absurd (omega arith)) ∙ ap π (fs_other (place p i m) (λ e. new_one e))
+      h (node_index p i m) (λ e. absurd (omega arith)) ∙ ap π (fs_other (node_index p i m) (λ e. new_one e))
     where
-      new_one : place p i m ≡ x → ⊥
+      new_one : node_index p i m ≡ x → ⊥
       new_one e = let q = place_apart p i m j k (g.shown_are i m s) node e in a.is_new (subst (λ (w : ℕ × ℕ). t w.0 w.1 ≡ true) (λ v. (q.0 v, q.1 v)) s)
 
   each : (P : ℕ → ℕ → Type 0) → P j k → ((i m : ℕ) → t i m ≡ true → P i m) → (i m : ℕ) → t' i m ≡ true → P i m
@@ -303,17 +303,17 @@ module _ (p : Cover) (active : ℕ → Bool) (problem : IsProblem p) (t t' : ℕ
     shown_are = each (λ i m. IsNode p i m) node g.shown_are;
     rings = λ i b d. ring_of i b d (cases_eq i j);
     counts = λ i b d. count_of i b d (cases_eq i j);
-    tops = each (λ i m. top_at ks (place p i m) ≡ i) (ks_top x (λ e. j_apart (sym e)) ∙ ap (λ (e : Entry). e.top) fs_here) (λ i m s. old_plain (λ e. e.top) ks_top i m s ∙ g.tops i m s);
-    lefts = each (λ i m. left_at ks (place p i m) ≡ start_of p (m - 1)) (ks_left x ∙ ap (λ (e : Entry). e.left) fs_here) (λ i m s. old_plain (λ e. e.left) (λ y ne. ks_left y) i m s ∙ g.lefts i m s);
-    rights = each (λ i m. right_at ks (place p i m) ≡ spacer_of p m) (ks_right x ∙ ap (λ (e : Entry). e.right) fs_here) (λ i m s. old_plain (λ e. e.right) (λ y ne. ks_right y) i m s ∙ g.rights i m s);
+    tops = each (λ i m. top_at ks (node_index p i m) ≡ i) (ks_top x (λ e. j_apart (sym e)) ∙ ap (λ (e : Entry). e.top) fs_here) (λ i m s. old_plain (λ e. e.top) ks_top i m s ∙ g.tops i m s);
+    lefts = each (λ i m. left_at ks (node_index p i m) ≡ start_of p (m - 1)) (ks_left x ∙ ap (λ (e : Entry). e.left) fs_here) (λ i m s. old_plain (λ e. e.left) (λ y ne. ks_left y) i m s ∙ g.lefts i m s);
+    rights = each (λ i m. right_at ks (node_index p i m) ≡ spacer_of p m) (ks_right x ∙ ap (λ (e : Entry). e.right) fs_here) (λ i m s. old_plain (λ e. e.right) (λ y ne. ks_right y) i m s ∙ g.rights i m s);
     row = λ m y f. let q = g.row m y f in (row_right m (row_low f.from) ∙ q.0, row_left y (row_low (row_target m y f.to)) ∙ q.1);
     aside = λ i b d. let q = g.aside i b d in (row_right i d ∙ q.0, row_left i d ∙ q.1);
     actives = g.actives;
   }
     where
-      ring_of : (i : ℕ) → 0 < i → i ≤ length p.names → (i ≡ j) ⊎ (i ≡ j → ⊥) → IsRing (t' i) (place p i) (down_at ks) (up_at ks)
-      ring_of i b d (inl e) = subst (λ n. IsRing (t' n) (place p n) (down_at ks) (up_at ks)) (sym e) own_ring
-      ring_of i b d (inr ne) = subst (λ f. IsRing f (place p i) (down_at ks) (up_at ks)) (sym (added_other t t' j k a i ne)) (other_ring i b d ne)
+      ring_of : (i : ℕ) → 0 < i → i ≤ length p.names → (i ≡ j) ⊎ (i ≡ j → ⊥) → IsRing (t' i) (node_index p i) (down_at ks) (up_at ks)
+      ring_of i b d (inl e) = subst (λ n. IsRing (t' n) (node_index p n) (down_at ks) (up_at ks)) (sym e) own_ring
+      ring_of i b d (inr ne) = subst (λ f. IsRing f (node_index p i) (down_at ks) (up_at ks)) (sym (added_other t t' j k a i ne)) (other_ring i b d ne)
 
       count_of : (i : ℕ) → 0 < i → i ≤ length p.names → (i ≡ j) ⊎ (i ≡ j → ⊥) → top_at ks i ≡ length (filter (t' i) (numbers (length p.options) 1))
       count_of i b d (inl e) =

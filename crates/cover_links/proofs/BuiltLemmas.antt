@@ -2,7 +2,7 @@
 use Rattle.std.proofs.Common.{◌≡◌, ℕ, zero, suc, ◌+◌, ◌-◌, ◌<◌, ◌≤◌, ◌⊎◌, inl, inr, ◌==◌, nat_lt, nat_le, Bool, true, false, ◌&&◌, ◌||◌, List, [], ◌∷◌, ◌++◌, length, length-set, filter, set, replicate, refl, sym, ap, ◌∙◌, subst, arith, append_assoc, append-nil}
 use Rattle.std.proofs.lemmas.Bool.{and_parts, and_from, or_cases, or_left, or_right, cases_eq, cases_lt, both_ways, false≢true, eqb-true, eq-eqb, ltb-true, leb-true, lt-ltb, le-leb, le-ltb, ne_eqb}
 use Rattle.cover_problem.specs.Lists.{has, are_distinct, numbers}
-use Rattle.cover_problem.specs.Problem.{Cover, IsProblem, option_at, size_of}
+use Rattle.cover_problem.specs.Problem.{ProblemValue, IsProblem, option_at, size_of}
 use Rattle.cover_problem.proofs.ListLemmas.{has_here, has_append_cases, has_append_left, has_append_right, has_cases, distinct_parts}
 use Rattle.cover_problem.proofs.CoveringLemmas.{option_is, IsOptionOf}
 use Rattle.cover_links.specs.declared.entry.Entry.{Entry}
@@ -10,7 +10,7 @@ use Rattle.cover_links.specs.Entries.{blank, entry_at, changed, to_down}
 use Rattle.cover_links.specs.Fresh.{empty_head, heads_written, node_appended, nodes_appended, option_appended, built, fresh}
 use Rattle.cover_links.specs.Safety.{CanAppendNode, CanAppendNodes, CanAppendOption}
 use Rattle.cover_links.specs.Ring.{IsNext, IsRing}
-use Rattle.cover_links.specs.Layout.{place, spacer_of, start_of, index_of}
+use Rattle.cover_links.specs.Layout.{node_index, spacer_of, start_of, index_of}
 use Rattle.cover_links.proofs.EntryLemmas.{length-changed, kept, at_other}
 use Rattle.cover_links.proofs.LayoutLemmas.{IsNode, IsRun, option_run, place_high, spacer_low, start_step, start_zero, start_low, start_below, index_below}
 use Rattle.cover_links.proofs.Standing.{Stands, down_at, up_at, left_at, right_at, top_at}
@@ -18,10 +18,10 @@ use Rattle.cover_links.proofs.Covered.{shown_of, active_of, IsShown, shown_is, s
 use Rattle.cover_links.proofs.Building.{Grows, Adds, at_set, set_other, append_grows, append_keeps, append_can}
 
 -- the nodes of the first n options, and of the items xs in the one after them
-unfoldable pub upto : Cover → ℕ → List ℕ → ℕ → ℕ → Bool
+unfoldable pub upto : ProblemValue → ℕ → List ℕ → ℕ → ℕ → Bool
 upto p n xs j k = ((nat_lt 0 k && nat_le k n) && has (option_at p k) j) || ((k == suc n) && has xs j)
 
-upto_is : (p : Cover) (n : ℕ) (xs : List ℕ) (j k : ℕ) → upto p n xs j k ≡ true → ((0 < k) × (k ≤ n) × (has (option_at p k) j ≡ true)) ⊎ ((k ≡ suc n) × (has xs j ≡ true))
+upto_is : (p : ProblemValue) (n : ℕ) (xs : List ℕ) (j k : ℕ) → upto p n xs j k ≡ true → ((0 < k) × (k ≤ n) × (has (option_at p k) j ≡ true)) ⊎ ((k ≡ suc n) × (has xs j ≡ true))
 unfolding upto
 upto_is p n xs j k h = pick (or_cases ((nat_lt 0 k && nat_le k n) && has (option_at p k) j) ((k == suc n) && has xs j) h)
   where
@@ -29,18 +29,18 @@ upto_is p n xs j k h = pick (or_cases ((nat_lt 0 k && nat_le k n) && has (option
     pick (inl g) = let a = and_parts (nat_lt 0 k && nat_le k n) (has (option_at p k) j) g in let b = and_parts (nat_lt 0 k) (nat_le k n) a.0 in inl (ltb-true 0 k b.0, leb-true k n b.1, a.1)
     pick (inr g) = let a = and_parts (k == suc n) (has xs j) g in inr (eqb-true k (suc n) a.0, a.1)
 
-upto_old : (p : Cover) (n : ℕ) (xs : List ℕ) (j k : ℕ) → 0 < k → k ≤ n → has (option_at p k) j ≡ true → upto p n xs j k ≡ true
+upto_old : (p : ProblemValue) (n : ℕ) (xs : List ℕ) (j k : ℕ) → 0 < k → k ≤ n → has (option_at p k) j ≡ true → upto p n xs j k ≡ true
 unfolding upto
 upto_old p n xs j k a b h =
     or_left ((nat_lt 0 k && nat_le k n) && has (option_at p k) j) ((k == suc n) && has xs j)
     (and_from (nat_lt 0 k && nat_le k n) (has (option_at p k) j) (and_from (nat_lt 0 k) (nat_le k n) (lt-ltb 0 k a) (le-leb k n b)) h)
 
-upto_new : (p : Cover) (n : ℕ) (xs : List ℕ) (j : ℕ) → has xs j ≡ true → upto p n xs j (suc n) ≡ true
+upto_new : (p : ProblemValue) (n : ℕ) (xs : List ℕ) (j : ℕ) → has xs j ≡ true → upto p n xs j (suc n) ≡ true
 unfolding upto
 upto_new p n xs j h =
     or_right ((nat_lt 0 (suc n) && nat_le (suc n) n) && has (option_at p (suc n)) j) ((suc n == suc n) && has xs j) (and_from (suc n == suc n) (has xs j) (eq-eqb (suc n) (suc n) refl) h)
 
-adds : (p : Cover) (n : ℕ) (xs : List ℕ) (j : ℕ) → has xs j ≡ false → Adds (upto p n xs) (upto p n (xs ++ j ∷ [])) j (suc n)
+adds : (p : ProblemValue) (n : ℕ) (xs : List ℕ) (j : ℕ) → has xs j ≡ false → Adds (upto p n xs) (upto p n (xs ++ j ∷ [])) j (suc n)
 adds p n xs j fresh = record {
   is_new = λ h. new (upto_is p n xs j (suc n) h);
   comes = upto_new p n (xs ++ j ∷ []) j (has_append_right xs (j ∷ []) j (has_here j []));
@@ -75,12 +75,12 @@ adds p n xs j fresh = record {
 
 -- ---- the nodes of an option
 
-pub record NodesDone (p : Cover) (shown : ℕ → ℕ → Bool) (active : ℕ → Bool) (es fs : List Entry) (x left right : ℕ) (js : List ℕ) : Type 0 where
+pub record NodesDone (p : ProblemValue) (shown : ℕ → ℕ → Bool) (active : ℕ → Bool) (es fs : List Entry) (x left right : ℕ) (js : List ℕ) : Type 0 where
   pub grows : Grows p shown active fs
   pub can : CanAppendNodes es x left right js
   pub keeps : (y : ℕ) → length p.names < y → (y < x) ⊎ (x + length js ≤ y) → top_at fs y ≡ top_at es y
 
-nodes_done : (p : Cover) (active : ℕ → Bool) (n : ℕ) → IsProblem p → n < length p.options → (js xs : List ℕ) (es : List Entry) (x : ℕ) → option_at p (suc n) ≡ xs ++ js → Grows p (upto p n xs) active es → IsRun p (suc n) x js
+nodes_done : (p : ProblemValue) (active : ℕ → Bool) (n : ℕ) → IsProblem p → n < length p.options → (js xs : List ℕ) (es : List Entry) (x : ℕ) → option_at p (suc n) ≡ xs ++ js → Grows p (upto p n xs) active es → IsRun p (suc n) x js
     → NodesDone p (upto p n (xs ++ js)) active es (nodes_appended es x (start_of p n) (spacer_of p (suc n)) js) x (start_of p n) (spacer_of p (suc n)) js
 nodes_done p active n problem lt [] xs es x e g r = record { grows = subst (λ l. Grows p (upto p n l) active es) (sym (append-nil xs)) g; can = tt; keeps = λ y a b. refl }
 nodes_done p active n problem lt (j ∷ js) xs es x e g r =
@@ -111,7 +111,7 @@ nodes_done p active n problem lt (j ∷ js) xs es x e g r =
     left_same : start_of p (suc n - 1) ≡ start_of p n
     left_same = let z : suc n - 1 ≡ n = omega arith in ap (start_of p) z
 
-    moved : (P : ℕ → ℕ → Type 0) → P (place p j (suc n)) (start_of p (suc n - 1)) → P x (start_of p n)
+    moved : (P : ℕ → ℕ → Type 0) → P (node_index p j (suc n)) (start_of p (suc n - 1)) → P x (start_of p n)
     moved P h = subst (λ (w : ℕ × ℕ). P w.0 w.1) (λ v. (r.0 v, left_same v)) h
 
     grown : Grows p (upto p n (xs ++ j ∷ [])) active (node_appended es x j (start_of p n) (spacer_of p (suc n)))
@@ -144,7 +144,7 @@ nodes_done p active n problem lt (j ∷ js) xs es x e g r =
 
 -- ---- the spacers
 
-spacer_apart : (p : Cover) (n i m : ℕ) → n ≤ length p.options → IsNode p i m → place p i m ≡ spacer_of p n → ⊥
+spacer_apart : (p : ProblemValue) (n i m : ℕ) → n ≤ length p.options → IsNode p i m → node_index p i m ≡ spacer_of p n → ⊥
 spacer_apart p n i zero le node e = absurd (omega (arith, node.some))
 spacer_apart p zero i (suc m) le node e = let h = place_high p i (suc m) node in absurd (omega arith)
 spacer_apart p (suc n) i (suc m) le node e = pick (index_below (option_at p (suc m)) i node.has_item) (cases_lt n m) (cases_lt m n)
@@ -154,20 +154,20 @@ spacer_apart p (suc n) i (suc m) le node e = pick (index_below (option_at p (suc
     pick b (inr l) (inl d) = let r = start_below p m n d (omega arith) in absurd (omega arith)
     pick b (inr l) (inr d) = let s : n ≡ m = omega arith in let f = ap (λ z. start_of p z + length (option_at p (suc z))) s in absurd (omega arith)
 
-spacer_before : (p : Cover) (n : ℕ) → n < length p.options → start_of p n - 1 ≡ spacer_of p n
+spacer_before : (p : ProblemValue) (n : ℕ) → n < length p.options → start_of p n - 1 ≡ spacer_of p n
 spacer_before p zero lt = let s = start_zero p in omega arith
 spacer_before p (suc n) lt = let s = start_step p n (omega arith) in omega arith
 
-spacer_rises : (p : Cover) (k n : ℕ) → k ≤ n → n < length p.options → spacer_of p k < spacer_of p (suc n)
+spacer_rises : (p : ProblemValue) (k n : ℕ) → k ≤ n → n < length p.options → spacer_of p k < spacer_of p (suc n)
 spacer_rises p zero n le lt = let s = start_low p n in omega arith
 spacer_rises p (suc k) n le lt = let s = start_below p k n (omega arith) (omega arith) in omega arith
 
 -- a change of an entry that is no head and no node
-grows_aside : (p : Cover) (shown : ℕ → ℕ → Bool) (active : ℕ → Bool) (es fs : List Entry) (z : ℕ) → IsProblem p → Grows p shown active es → length fs ≡ length es → length p.names < z → ((j k : ℕ) → shown j k ≡ true → place p j k ≡ z → ⊥)
+grows_aside : (p : ProblemValue) (shown : ℕ → ℕ → Bool) (active : ℕ → Bool) (es fs : List Entry) (z : ℕ) → IsProblem p → Grows p shown active es → length fs ≡ length es → length p.names < z → ((j k : ℕ) → shown j k ≡ true → node_index p j k ≡ z → ⊥)
     → ((y : ℕ) → (y ≡ z → ⊥) → entry_at fs y ≡ entry_at es y) → Grows p shown active fs
 grows_aside p shown active es fs z problem g long high apart same =
     let head : (j : ℕ) → j ≤ length p.names → entry_at fs j ≡ entry_at es j = λ j le. same j (λ e. absurd (omega arith)) in
-    let node : (j k : ℕ) → shown j k ≡ true → entry_at fs (place p j k) ≡ entry_at es (place p j k) = λ j k h. same (place p j k) (apart j k h) in
+    let node : (j k : ℕ) → shown j k ≡ true → entry_at fs (node_index p j k) ≡ entry_at es (node_index p j k) = λ j k h. same (node_index p j k) (apart j k h) in
     record {
       size = long ∙ g.size;
       shown_are = g.shown_are;
@@ -189,17 +189,17 @@ grows_aside p shown active es fs z problem g long high apart same =
     low i (inl e) = omega arith
     low i (inr h) = let q = g.actives i h in let w = problem.within in omega arith
 
-    member : (j : ℕ) → j ≤ length p.names → (x : ℕ) → (x ≡ 0) ⊎ (shown j x ≡ true) → entry_at fs (place p j x) ≡ entry_at es (place p j x)
-    member j le x (inl e) = subst (λ n. entry_at fs (place p j n) ≡ entry_at es (place p j n)) (sym e) (same j (λ f. absurd (omega arith)))
-    member j le x (inr h) = same (place p j x) (apart j x h)
+    member : (j : ℕ) → j ≤ length p.names → (x : ℕ) → (x ≡ 0) ⊎ (shown j x ≡ true) → entry_at fs (node_index p j x) ≡ entry_at es (node_index p j x)
+    member j le x (inl e) = subst (λ n. entry_at fs (node_index p j n) ≡ entry_at es (node_index p j n)) (sym e) (same j (λ f. absurd (omega arith)))
+    member j le x (inr h) = same (node_index p j x) (apart j x h)
 
 -- ---- the options
 
-pub record BuiltDone (p : Cover) (active : ℕ → Bool) (n : ℕ) (es : List Entry) : Type 0 where
+pub record BuiltDone (p : ProblemValue) (active : ℕ → Bool) (n : ℕ) (es : List Entry) : Type 0 where
   pub grows : Grows p (upto p n []) active es
   pub spacers : (k : ℕ) → 0 < k → k ≤ n → top_at es (spacer_of p k) ≡ k
 
-module _ (p : Cover) (active : ℕ → Bool) (n : ℕ) (problem : IsProblem p) (lt : n < length p.options) (es : List Entry) (d : BuiltDone p active n es) where
+module _ (p : ProblemValue) (active : ℕ → Bool) (n : ℕ) (problem : IsProblem p) (lt : n < length p.options) (es : List Entry) (d : BuiltDone p active n es) where
   abbrev o : List ℕ
   o = option_at p (suc n)
 
@@ -302,7 +302,7 @@ head_is es primary (suc n) i a b lt = step (head_is es primary n i a) (cases_eq 
     step ih (inl e) = (λ v. entry_at (heads_written es primary (suc n)) (e v)) ∙ at_set (heads_written es primary n) (suc n) (empty_head primary (suc n)) (subst (λ z. suc n < z) (sym (heads_length es primary n)) lt) ∙ ap (empty_head primary) (sym e)
     step ih (inr ne) = set_other (heads_written es primary n) (suc n) i (empty_head primary (suc n)) ne ∙ ih (omega (arith, ne)) (omega arith)
 
-module _ (p : Cover) (problem : IsProblem p) where
+module _ (p : ProblemValue) (problem : IsProblem p) where
   abbrev heads : List Entry
   heads = heads_written (replicate (size_of p) blank) p.primary (length p.names)
 
@@ -330,15 +330,15 @@ module _ (p : Cover) (problem : IsProblem p) where
   no_members j zero k = refl
   no_members j (suc n) k = let f : upto p 0 [] j k ≡ false = false_from (upto p 0 [] j k) (none j k) in rw f (no_members j n (suc k))
 
-  empty_ring : (j : ℕ) → 0 < j → j ≤ length p.names → IsRing (upto p 0 [] j) (place p j) (down_at heads) (up_at heads)
+  empty_ring : (j : ℕ) → 0 < j → j ≤ length p.names → IsRing (upto p 0 [] j) (node_index p j) (down_at heads) (up_at heads)
   empty_ring j a b x y f = step f.from f.to
     where
-      step : (x ≡ 0) ⊎ (upto p 0 [] j x ≡ true) → IsNext (upto p 0 [] j) x y → (down_at heads (place p j x) ≡ place p j y) × (up_at heads (place p j y) ≡ place p j x)
+      step : (x ≡ 0) ⊎ (upto p 0 [] j x ≡ true) → IsNext (upto p 0 [] j) x y → (down_at heads (node_index p j x) ≡ node_index p j y) × (up_at heads (node_index p j y) ≡ node_index p j x)
       step (inr h) n = absurd (none j x h)
       step (inl e) (inl n) = absurd (none j y n.0)
       step (inl e) (inr n) = (
-        (λ v. down_at heads (place p j (e v))) ∙ ap (λ (w : Entry). w.down) (head j a b) ∙ (λ v. place p j (sym n.0 v)),
-        (λ v. up_at heads (place p j (n.0 v))) ∙ ap (λ (w : Entry). w.up) (head j a b) ∙ (λ v. place p j (sym e v)),
+        (λ v. down_at heads (node_index p j (e v))) ∙ ap (λ (w : Entry). w.down) (head j a b) ∙ (λ v. node_index p j (sym n.0 v)),
+        (λ v. up_at heads (node_index p j (n.0 v))) ∙ ap (λ (w : Entry). w.up) (head j a b) ∙ (λ v. node_index p j (sym e v)),
       )
 
   primary_right : (i : ℕ) → 0 < i → i < p.primary → right_at heads i ≡ i + 1

@@ -2,7 +2,7 @@
 use Rattle.std.proofs.Common.{◌≡◌, ℕ, ◌+◌, ◌<◌, ◌≤◌, ◌⊎◌, inl, inr, Bool, true, false, unwrap_or, List, [], ◌∷◌, ◌++◌, length, filter, refl, sym, ap, ◌∙◌, subst, arith}
 use Rattle.std.proofs.lemmas.Bool.{cases_eq, cases_lt}
 use Rattle.cover_problem.specs.Lists.{has, numbers, above, below}
-use Rattle.cover_problem.specs.Problem.{Cover, IsProblem}
+use Rattle.cover_problem.specs.Problem.{ProblemValue, IsProblem}
 use Rattle.cover_problem.specs.Coverable.{IsUncovered}
 use Rattle.cover_problem.proofs.ListLemmas.{has_filter, has_filter_in, has_numbers, rises_filter}
 use Rattle.cover_links.specs.declared.entry.Entry.{Entry}
@@ -10,7 +10,7 @@ use Rattle.cover_links.specs.Entries.{item_unlinked, item_relinked, IsItemLinked
 use Rattle.cover_links.specs.Hiding.{list_hidden, list_unhidden, options_hidden, item_covered, item_uncovered}
 use Rattle.cover_links.specs.Safety.{CanHideList, CanUnhideList, IsItemInside, CanCoverItem, CanUncoverItem}
 use Rattle.cover_links.specs.Ring.{Follows, IsNext, IsRing}
-use Rattle.cover_links.specs.Layout.{place, spacer_of}
+use Rattle.cover_links.specs.Layout.{node_index, spacer_of}
 use Rattle.cover_links.proofs.EntryLemmas.{length-item_unlinked}
 use Rattle.cover_links.proofs.RestoreLemmas.{item_unlinked_right, item_unlinked_right_other, item_unlinked_left, item_unlinked_left_other, item_unlinked_kept, item_unlinked_left_same, item_unlinked_right_same, row_back}
 use Rattle.cover_links.proofs.RingLemmas.{Leaves, ring_without, next_is, prev_is}
@@ -22,12 +22,12 @@ use Rattle.cover_links.proofs.Covered.{shown_of, active_of, active_is, active_wh
 -- ---- an item leaves the row
 
 -- the row without the item, and the links of all that is no primary item as they were
-pub record RowDone (p : Cover) (active : ℕ → Bool) (fs : List Entry) (i : ℕ) : Type 0 where
+pub record RowDone (p : ProblemValue) (active : ℕ → Bool) (fs : List Entry) (i : ℕ) : Type 0 where
   pub linked : IsItemLinked fs i
   pub ring : IsRing active (λ x. x) (right_at (item_unlinked fs i)) (left_at (item_unlinked fs i))
   pub far : (y : ℕ) → p.primary < y → (right_at (item_unlinked fs i) y ≡ right_at fs y) × (left_at (item_unlinked fs i) y ≡ left_at fs y)
 
-module _ (p : Cover) (c : List ℕ) (i : ℕ) (shown : ℕ → ℕ → Bool) (fs : List Entry) (problem : IsProblem p) (u : IsUncovered p c i) (s : Stands p shown (active_of p c) fs) where
+module _ (p : ProblemValue) (c : List ℕ) (i : ℕ) (shown : ℕ → ℕ → Bool) (fs : List Entry) (problem : IsProblem p) (u : IsUncovered p c i) (s : Stands p shown (active_of p c) fs) where
   small : (y : ℕ) → (y ≡ 0) ⊎ (active_of p c y ≡ true) → (y ≤ p.primary) × (y < length fs)
   small y (inl e) = let z = s.size in let w = problem.within in (omega arith, omega (arith, u.some, u.within))
   small y (inr h) = let a = active_is p c y h in let z = s.size in let w = problem.within in (a.1, omega arith)
@@ -112,11 +112,11 @@ module _ (p : Cover) (c : List ℕ) (i : ℕ) (shown : ℕ → ℕ → Bool) (fs
       record {
         size = length-item_unlinked fs i ∙ s.size;
         shown_are = s.shown_are;
-        rings = λ j a b x y f. let q = s.rings j a b x y f in (downs (place p j x) ∙ q.0, ups (place p j y) ∙ q.1);
+        rings = λ j a b x y f. let q = s.rings j a b x y f in (downs (node_index p j x) ∙ q.0, ups (node_index p j y) ∙ q.1);
         counts = λ j a b. tops j ∙ s.counts j a b;
-        tops = λ j k n. tops (place p j k) ∙ s.tops j k n;
-        lefts = λ j k n. (r.far (place p j k) (let h = place_high p j k n in omega arith)).1 ∙ s.lefts j k n;
-        rights = λ j k n. (r.far (place p j k) (let h = place_high p j k n in omega arith)).0 ∙ s.rights j k n;
+        tops = λ j k n. tops (node_index p j k) ∙ s.tops j k n;
+        lefts = λ j k n. (r.far (node_index p j k) (let h = place_high p j k n in omega arith)).1 ∙ s.lefts j k n;
+        rights = λ j k n. (r.far (node_index p j k) (let h = place_high p j k n in omega arith)).0 ∙ s.rights j k n;
         spacers = λ k a b. tops (spacer_of p k) ∙ s.spacers k a b;
         row = r.ring;
         aside = λ x a b. (let f = r.far x a in let q = s.aside x a b in (f.0 ∙ q.0, f.1 ∙ q.1));
@@ -125,13 +125,13 @@ module _ (p : Cover) (c : List ℕ) (i : ℕ) (shown : ℕ → ℕ → Bool) (fs
 
 -- ---- the whole step
 
-pub record CoverDone (p : Cover) (c : List ℕ) (i : ℕ) (es : List Entry) : Type 0 where
+pub record CoverDone (p : ProblemValue) (c : List ℕ) (i : ℕ) (es : List Entry) : Type 0 where
   pub stands : Stands p (shown_of p (c ++ i ∷ [])) (active_of p (c ++ i ∷ [])) (item_covered es i)
   pub can : CanCoverItem es i
   pub back : item_uncovered (item_covered es i) i ≡ es
   pub back_can : CanUncoverItem (item_covered es i) i
 
-module _ (p : Cover) (c : List ℕ) (i : ℕ) (es : List Entry) (problem : IsProblem p) (u : IsUncovered p c i) (s : Stands p (shown_of p c) (active_of p c) es) where
+module _ (p : ProblemValue) (c : List ℕ) (i : ℕ) (es : List Entry) (problem : IsProblem p) (u : IsUncovered p c i) (s : Stands p (shown_of p c) (active_of p c) es) where
   abbrev column : ℕ → Bool
   column = shown_of p c i
 
@@ -186,12 +186,12 @@ module _ (p : Cover) (c : List ℕ) (i : ℕ) (es : List Entry) (problem : IsPro
               pick false e out = e
 
   abbrev fs : List Entry
-  fs = list_hidden es (place p i (first_of rs)) (length rs)
+  fs = list_hidden es (node_index p i (first_of rs)) (length rs)
 
   fs_stands : Stands p (shown_of p (c ++ i ∷ [])) (active_of p c) fs
   fs_stands = subst (λ f. Stands p f (active_of p c) fs) final_is walk.stands
 
-  down_is : down_at es i ≡ place p i (first_of rs)
+  down_is : down_at es i ≡ node_index p i (first_of rs)
   down_is = (s.rings i u.some u.within 0 (first_of rs) (chain_next column 0 rs chain)).0
 
   top_is : top_at es i ≡ length rs
@@ -226,7 +226,7 @@ module _ (p : Cover) (c : List ℕ) (i : ℕ) (es : List Entry) (problem : IsPro
   column_again : shown_of p (c ++ i ∷ []) i ≡ column
   column_again = same_column p c i u.uncovered
 
-  up_is : up_at fs i ≡ place p i (last_from 0 rs)
+  up_is : up_at fs i ≡ node_index p i (last_from 0 rs)
   up_is = (fs_stands.rings i u.some u.within (last_from 0 rs) 0 (subst (λ f. Follows f (last_from 0 rs) 0) (sym column_again) (chain_last column 0 rs chain))).1
 
   top_again : top_at fs i ≡ length rs + 0

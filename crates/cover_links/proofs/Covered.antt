@@ -3,29 +3,29 @@ use Rattle.std.proofs.Common.{◌≡◌, ℕ, suc, ◌<◌, ◌≤◌, ◌⊎◌
 use Rattle.std.specs.List.{list_any, before_first}
 use Rattle.std.proofs.lemmas.Bool.{and_parts, and_from, cases_eq, cases_Bool, not-true, not_from_false, both_ways, false≢true, eq-eqb, ltb-true, leb-true, lt-ltb, le-leb, ne_eqb}
 use Rattle.cover_problem.specs.Lists.{has, are_distinct, RisesFrom}
-use Rattle.cover_problem.specs.Problem.{Cover, option_at}
-use Rattle.cover_problem.specs.Covering.{is_left}
+use Rattle.cover_problem.specs.Problem.{ProblemValue, option_at}
+use Rattle.cover_problem.specs.Covering.{is_remaining}
 use Rattle.cover_problem.proofs.ListLemmas.{has_cases, has_here, has_append_cases, has_append_left, has_append_right, has_append_not, has_append_not_from, has_not_from, none_member, none_from, before_at, before_past, before_none, before_here, rises_member}
 use Rattle.cover_links.specs.Ring.{without}
 use Rattle.cover_links.proofs.LayoutLemmas.{IsNode}
 
 -- the node of the item j in the option k is in its list, once the items of c are covered
-unfoldable pub shown_of : Cover → List ℕ → ℕ → ℕ → Bool
-shown_of p c j k = (nat_lt 0 k && nat_le k (length p.options)) && is_left (before_first (λ x. x == j) c) j (option_at p k)
+unfoldable pub shown_of : ProblemValue → List ℕ → ℕ → ℕ → Bool
+shown_of p c j k = (nat_lt 0 k && nat_le k (length p.options)) && is_remaining (before_first (λ x. x == j) c) j (option_at p k)
 
 -- the item i is in the row, once the items of c are covered
-unfoldable pub active_of : Cover → List ℕ → ℕ → Bool
+unfoldable pub active_of : ProblemValue → List ℕ → ℕ → Bool
 active_of p c i = (nat_lt 0 i && nat_le i p.primary) && not (has c i)
 
 -- the same in words
-pub record IsShown (p : Cover) (c : List ℕ) (j k : ℕ) : Type 0 where
+pub record IsShown (p : ProblemValue) (c : List ℕ) (j k : ℕ) : Type 0 where
   pub node : IsNode p j k
   pub free : (y : ℕ) → has (before_first (λ x. x == j) c) y ≡ true → has (option_at p k) y ≡ true → ⊥
 
-pub shown_is : (p : Cover) (c : List ℕ) (j k : ℕ) → shown_of p c j k ≡ true → IsShown p c j k
+pub shown_is : (p : ProblemValue) (c : List ℕ) (j k : ℕ) → shown_of p c j k ≡ true → IsShown p c j k
 unfolding shown_of
 shown_is p c j k h =
-    let a = and_parts (nat_lt 0 k && nat_le k (length p.options)) (is_left (before_first (λ x. x == j) c) j (option_at p k)) h in
+    let a = and_parts (nat_lt 0 k && nat_le k (length p.options)) (is_remaining (before_first (λ x. x == j) c) j (option_at p k)) h in
     let b = and_parts (nat_lt 0 k) (nat_le k (length p.options)) a.0 in
     let d = and_parts (has (option_at p k) j) (not (list_any (has (before_first (λ x. x == j) c)) (option_at p k))) a.1 in
     record {
@@ -37,21 +37,21 @@ pub false_from : (b : Bool) → (b ≡ true → ⊥) → b ≡ false
 false_from true h = absurd (h refl)
 false_from false h = refl
 
-pub shown_from : (p : Cover) (c : List ℕ) (j k : ℕ) → IsShown p c j k → shown_of p c j k ≡ true
+pub shown_from : (p : ProblemValue) (c : List ℕ) (j k : ℕ) → IsShown p c j k → shown_of p c j k ≡ true
 unfolding shown_of
 shown_from p c j k s =
-    and_from (nat_lt 0 k && nat_le k (length p.options)) (is_left (before_first (λ x. x == j) c) j (option_at p k))
+    and_from (nat_lt 0 k && nat_le k (length p.options)) (is_remaining (before_first (λ x. x == j) c) j (option_at p k))
     (and_from (nat_lt 0 k) (nat_le k (length p.options)) (lt-ltb 0 k (s.node).some) (le-leb k (length p.options) (s.node).within))
     (and_from (has (option_at p k) j) (not (list_any (has (before_first (λ x. x == j) c)) (option_at p k))) (s.node).has_item
     (not_from_false (list_any (has (before_first (λ x. x == j) c)) (option_at p k)) (none_from (has (before_first (λ x. x == j) c)) (option_at p k) (λ y o. false_from (has (before_first (λ x. x == j) c) y) (λ g. s.free y g o)))))
 
-pub active_is : (p : Cover) (c : List ℕ) (i : ℕ) → active_of p c i ≡ true → (0 < i) × (i ≤ p.primary) × (has c i ≡ false)
+pub active_is : (p : ProblemValue) (c : List ℕ) (i : ℕ) → active_of p c i ≡ true → (0 < i) × (i ≤ p.primary) × (has c i ≡ false)
 unfolding active_of
 active_is p c i h =
     let a = and_parts (nat_lt 0 i && nat_le i p.primary) (not (has c i)) h in let b = and_parts (nat_lt 0 i) (nat_le i p.primary) a.0 in
     (ltb-true 0 i b.0, leb-true i p.primary b.1, not-true (has c i) a.1)
 
-pub active_when : (p : Cover) (c : List ℕ) (i : ℕ) → 0 < i → i ≤ p.primary → has c i ≡ false → active_of p c i ≡ true
+pub active_when : (p : ProblemValue) (c : List ℕ) (i : ℕ) → 0 < i → i ≤ p.primary → has c i ≡ false → active_of p c i ≡ true
 unfolding active_of
 active_when p c i a b h = and_from (nat_lt 0 i && nat_le i p.primary) (not (has c i)) (and_from (nat_lt 0 i) (nat_le i p.primary) (lt-ltb 0 i a) (le-leb i p.primary b)) (not_from_false (has c i) h)
 
@@ -78,11 +78,11 @@ before_more j (x ∷ xs) ys h = step (before_more j xs ys) (cases_eq x j) (has_c
     step ih (inr ne) (inl e) = absurd (ne e)
     step ih (inr ne) (inr g) = before_past j x (xs ++ ys) ne ∙ ap (λ l. x ∷ l) (ih g) ∙ sym (before_past j x xs ne)
 
-module _ (p : Cover) (c : List ℕ) (i : ℕ) (fresh : has c i ≡ false) where
+module _ (p : ProblemValue) (c : List ℕ) (i : ℕ) (fresh : has c i ≡ false) where
   -- the list of the item that is covered stays
   pub same_column : shown_of p (c ++ i ∷ []) i ≡ shown_of p c i
   unfolding shown_of
-  same_column = λ z k. (nat_lt 0 k && nat_le k (length p.options)) && is_left ((before_here c i [] fresh ∙ sym (before_none i c fresh)) z) i (option_at p k)
+  same_column = λ z k. (nat_lt 0 k && nat_le k (length p.options)) && is_remaining ((before_here c i [] fresh ∙ sym (before_none i c fresh)) z) i (option_at p k)
 
   -- an option that is left for i has no item of c
   pub shown_free : (k y : ℕ) → shown_of p c i k ≡ true → has c y ≡ true → has (option_at p k) y ≡ true → ⊥

@@ -13,9 +13,9 @@ use Rattle.cover_links.specs.declared.entry.Entry.{Entry}
 use denote.Struct.Declared as Declared
 use Rattle.cover_links.specs.contracts.entry.Entry as entry
 use Rattle.cover_links.specs.contracts.entry.Entry.{the_row}
-use Rattle.cover_links.specs.Ownership.{entry_size, places_own, places_lent, cells_own, cells_lent}
-use Rattle.cover_links.specs.contracts.cells.Cells as cells
-use Rattle.cover_links.specs.contracts.cells.Deed as deed
+use Rattle.cover_links.specs.Ownership.{entry_size, slots_own, slots_lent, row_own, row_lent}
+use Rattle.cover_links.specs.contracts.raw.Slots as slots
+use Rattle.cover_links.specs.contracts.raw.Allocation as deed
 
 entry_send : IsSend the_row
 entry_send =
@@ -25,31 +25,31 @@ entry_sync : IsSync the_row
 entry_sync =
     recorded_sync (entry.the_field).row _ _ (entry.the_type).to_one (struct_sync (Declared.shape entry.the_type) (plain_sync _ _ _ _ _, (plain_sync _ _ _ _ _, (plain_sync _ _ _ _ _, (plain_sync _ _ _ _ _, (plain_sync _ _ _ _ _, tt))))))
 
-places_cross : (b o : ℕ) (cs : List (Option Entry)) → Keyless (places_own b o cs)
+places_cross : (b o : ℕ) (cs : List (Option Entry)) → Keyless (slots_own b o cs)
 places_cross b o [] = tt
 places_cross b o (Some e ∷ cs) = (part_keyless the_row entry_send full_share e b o, places_cross b (o + entry_size) cs)
 places_cross b o (None ∷ cs) = (tt, places_cross b (o + entry_size) cs)
 
-places_seen : (b o : ℕ) (cs : List (Option Entry)) → Common (places_lent b o cs)
+places_seen : (b o : ℕ) (cs : List (Option Entry)) → Common (slots_lent b o cs)
 places_seen b o [] κ = tt
 places_seen b o (Some e ∷ cs) κ = ((entry_sync).shared e b o κ, places_seen b (o + entry_size) cs κ)
 places_seen b o (None ∷ cs) κ = (tt, places_seen b (o + entry_size) cs κ)
 
-row_crosses : (p : Ptr) (cs : List (Option Entry)) → Keyless (cells_own p cs)
+row_crosses : (p : Ptr) (cs : List (Option Entry)) → Keyless (row_own p cs)
 row_crosses (block_ptr b o) cs = (tt, places_cross b o cs)
 row_crosses null_ptr cs = tt
 
-row_seen : (p : Ptr) (cs : List (Option Entry)) → Common (cells_lent p cs)
+row_seen : (p : Ptr) (cs : List (Option Entry)) → Common (row_lent p cs)
 row_seen (block_ptr b o) cs κ = (tt, places_seen b o cs κ)
 row_seen null_ptr cs κ = tt
 
-pub cells_send : IsSend cells.the_row
+pub cells_send : IsSend slots.the_row
 cells_send =
-    let all : AllSend (fields cells.the_type) = (search sendable, tt) in
-    owning_send cells.the_type all (λ d. row_crosses d.at d.slots) (λ k. quiet (to cells.the_type) (exits_of k (fields cells.the_type)) ((struct_send (shape cells.the_type) all).leaving k))
+    let all : AllSend (fields slots.the_type) = (search sendable, tt) in
+    owning_send slots.the_type all (λ d. row_crosses d.at d.slots) (λ k. quiet (to slots.the_type) (exits_of k (fields slots.the_type)) ((struct_send (shape slots.the_type) all).leaving k))
 
-pub cells_sync : IsSync cells.the_row
-cells_sync = record { shared = λ d b o κ. ((struct_sync (shape cells.the_type) (search sendable, tt)).shared (to cells.the_type d) b o κ, row_seen d.at d.slots κ) }
+pub cells_sync : IsSync slots.the_row
+cells_sync = record { shared = λ d b o κ. ((struct_sync (shape slots.the_type) (search sendable, tt)).shared (to slots.the_type d) b o κ, row_seen d.at d.slots κ) }
 
 module _ (A : RattleType) (g : Ghosts A.Denot) where
   pub deed_send : FreesAnywhere A.Denot g → IsSend (deed.the_row A g)

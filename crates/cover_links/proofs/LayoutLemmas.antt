@@ -4,10 +4,10 @@ use Rattle.std.specs.List.{before_first, after_first, slice_index_or}
 use Rattle.std.proofs.lemmas.List.Sums.{sum_by-cons}
 use Rattle.std.proofs.lemmas.Bool.{cases_lt, both_ways}
 use Rattle.cover_problem.specs.Lists.{has, are_distinct}
-use Rattle.cover_problem.specs.Problem.{Cover, IsProblem, option_at, size_of}
+use Rattle.cover_problem.specs.Problem.{ProblemValue, IsProblem, option_at, size_of}
 use Rattle.cover_problem.proofs.ListLemmas.{has_here, before_here, parts_are, distinct_parts}
 use Rattle.cover_problem.proofs.CoveringLemmas.{option_is}
-use Rattle.cover_links.specs.Layout.{start_from, start_of, index_of, place, spacer_of}
+use Rattle.cover_links.specs.Layout.{start_from, start_of, index_of, node_index, spacer_of}
 
 -- the options after the first k and one more
 start_next : (a : ℕ) (options : List (List ℕ)) (k : ℕ) → k < length options → start_from a options (suc k) ≡ suc (start_from a options k + length (slice_index_or options k []))
@@ -32,28 +32,28 @@ start_all a (o ∷ options) =
     let r = start_all (suc (a + length o)) options in let s = sum_by-cons (length {A = ℕ}) o options in
     let e : start_from a (o ∷ options) (length (o ∷ options)) ≡ start_from (suc (a + length o)) options (length options) = refl in omega arith
 
-option_same : (p : Cover) (k : ℕ) → option_at p (suc k) ≡ slice_index_or p.options k []
+option_same : (p : ProblemValue) (k : ℕ) → option_at p (suc k) ≡ slice_index_or p.options k []
 option_same p k = let e : suc k - 1 ≡ k = omega arith in ap (λ i. slice_index_or p.options i []) e
 
-pub start_step : (p : Cover) (k : ℕ) → k < length p.options → start_of p (suc k) ≡ suc (start_of p k + length (option_at p (suc k)))
+pub start_step : (p : ProblemValue) (k : ℕ) → k < length p.options → start_of p (suc k) ≡ suc (start_of p k + length (option_at p (suc k)))
 unfolding start_of
 start_step p k lt = start_next (suc (suc (length p.names))) p.options k lt ∙ ap (λ (o : List ℕ). suc (start_from (suc (suc (length p.names))) p.options k + length o)) (sym (option_same p k))
 
-pub start_zero : (p : Cover) → start_of p 0 ≡ suc (suc (length p.names))
+pub start_zero : (p : ProblemValue) → start_of p 0 ≡ suc (suc (length p.names))
 unfolding start_of
 start_zero p = refl
 
-pub start_low : (p : Cover) (k : ℕ) → suc (suc (length p.names)) ≤ start_of p k
+pub start_low : (p : ProblemValue) (k : ℕ) → suc (suc (length p.names)) ≤ start_of p k
 unfolding start_of
 start_low p k = start_least (suc (suc (length p.names))) p.options k
 
-pub start_below : (p : Cover) (k m : ℕ) → k < m → m ≤ length p.options → start_of p k + length (option_at p (suc k)) < start_of p m
+pub start_below : (p : ProblemValue) (k m : ℕ) → k < m → m ≤ length p.options → start_of p k + length (option_at p (suc k)) < start_of p m
 unfolding start_of
 start_below p k m lt le =
     let r = start_rises (suc (suc (length p.names))) p.options k m lt le in
     subst (λ (o : List ℕ). start_from (suc (suc (length p.names))) p.options k + length o < start_from (suc (suc (length p.names))) p.options m) (sym (option_same p k)) r
 
-pub start_last : (p : Cover) → start_of p (length p.options) ≡ size_of p
+pub start_last : (p : ProblemValue) → start_of p (length p.options) ≡ size_of p
 unfolding start_of
 start_last p = let r = start_all (suc (suc (length p.names))) p.options in omega arith
 
@@ -75,11 +75,11 @@ index_below o j h =
     omega arith
 
 -- the items of a list stand side by side, from the entry A on
-abbrev pub IsRun : Cover → ℕ → ℕ → List ℕ → Type 0
+abbrev pub IsRun : ProblemValue → ℕ → ℕ → List ℕ → Type 0
 IsRun p k A [] = Unit {0}
-IsRun p k A (j ∷ js) = (place p j k ≡ A) × IsRun p k (suc A) js
+IsRun p k A (j ∷ js) = (node_index p j k ≡ A) × IsRun p k (suc A) js
 
-run_from : (p : Cover) (k : ℕ) (xs js : List ℕ) → option_at p (suc k) ≡ xs ++ js → are_distinct (option_at p (suc k)) ≡ true → IsRun p (suc k) (start_of p k + length xs) js
+run_from : (p : ProblemValue) (k : ℕ) (xs js : List ℕ) → option_at p (suc k) ≡ xs ++ js → are_distinct (option_at p (suc k)) ≡ true → IsRun p (suc k) (start_of p k + length xs) js
 run_from p k xs [] e d = tt
 run_from p k xs (j ∷ js) e d =
     let here : index_of j (option_at p (suc k)) ≡ length xs = ap (λ o. index_of j o) e ∙ index_at xs j js (subst (λ o. are_distinct o ≡ true) e d) in
@@ -88,12 +88,12 @@ run_from p k xs (j ∷ js) e d =
     (ap (λ n. start_of p k + n) here, subst (λ A. IsRun p (suc k) A js) long (run_from p k (xs ++ j ∷ []) js more d))
 
 -- the nodes of an option
-pub option_run : (p : Cover) (k : ℕ) → IsProblem p → k < length p.options → IsRun p (suc k) (start_of p k) (option_at p (suc k))
+pub option_run : (p : ProblemValue) (k : ℕ) → IsProblem p → k < length p.options → IsRun p (suc k) (start_of p k) (option_at p (suc k))
 option_run p k s lt =
     let o = option_is p (suc k) s (omega arith) (omega arith) in let none : start_of p k + 0 ≡ start_of p k = omega arith in
     subst (λ A. IsRun p (suc k) A (option_at p (suc k))) none (run_from p k [] (option_at p (suc k)) refl o.distinct)
 
-pub run_parts : (p : Cover) (k A : ℕ) (xs ys : List ℕ) → IsRun p k A (xs ++ ys) → IsRun p k A xs × IsRun p k (A + length xs) ys
+pub run_parts : (p : ProblemValue) (k A : ℕ) (xs ys : List ℕ) → IsRun p k A (xs ++ ys) → IsRun p k A xs × IsRun p k (A + length xs) ys
 run_parts p k A [] ys r = let none : A ≡ A + 0 = omega arith in (tt, subst (λ B. IsRun p k B ys) none r)
 run_parts p k A (x ∷ xs) ys r =
     let s = run_parts p k (suc A) xs ys r.1 in let next : suc A + length xs ≡ A + suc (length xs) = omega arith in
@@ -102,23 +102,23 @@ run_parts p k A (x ∷ xs) ys r =
 -- ---- no two at one place
 
 -- k numbers an option that has the item j
-pub record IsNode (p : Cover) (j k : ℕ) : Type 0 where
+pub record IsNode (p : ProblemValue) (j k : ℕ) : Type 0 where
   pub some : 0 < k
   pub within : k ≤ length p.options
   pub has_item : has (option_at p k) j ≡ true
 
-pub place_high : (p : Cover) (j k : ℕ) → IsNode p j k → suc (length p.names) < place p j k
+pub place_high : (p : ProblemValue) (j k : ℕ) → IsNode p j k → suc (length p.names) < node_index p j k
 place_high p j zero n = absurd (omega (arith, n.some))
 place_high p j (suc k) n = let r = start_low p k in omega arith
 
-pub place_low : (p : Cover) (j k : ℕ) → IsNode p j k → place p j k < size_of p
+pub place_low : (p : ProblemValue) (j k : ℕ) → IsNode p j k → node_index p j k < size_of p
 place_low p j zero n = absurd (omega (arith, n.some))
 place_low p j (suc k) n =
     let a = start_below p k (suc k) (omega arith) n.within in let b = index_below (option_at p (suc k)) j n.has_item in let c = start_last p in
     pick a b c (cases_lt (suc k) (length p.options))
   where
     pick : start_of p k + length (option_at p (suc k)) < start_of p (suc k) → index_of j (option_at p (suc k)) < length (option_at p (suc k)) → start_of p (length p.options) ≡ size_of p
-        → (suc k < length p.options) ⊎ (length p.options ≤ suc k) → place p j (suc k) < size_of p
+        → (suc k < length p.options) ⊎ (length p.options ≤ suc k) → node_index p j (suc k) < size_of p
     pick a b c (inl l) = let r = start_below p (suc k) (length p.options) l (omega arith) in omega arith
     pick a b c (inr l) = let e : suc k ≡ length p.options = omega (arith, n.within) in let f = ap (start_of p) e in omega arith
 
@@ -133,7 +133,7 @@ same_item o i j hi hj e =
     heads (x ∷ xs) [] i j us vs l h = absurd (omega arith)
     heads (x ∷ xs) (y ∷ ys) i j us vs l h = let t : xs ++ i ∷ us ≡ ys ++ j ∷ vs = cc in heads xs ys i j us vs (omega arith) t
 
-pub place_apart : (p : Cover) (i k j m : ℕ) → IsNode p i k → IsNode p j m → place p i k ≡ place p j m → (i ≡ j) × (k ≡ m)
+pub place_apart : (p : ProblemValue) (i k j m : ℕ) → IsNode p i k → IsNode p j m → node_index p i k ≡ node_index p j m → (i ≡ j) × (k ≡ m)
 place_apart p i zero j m a b e = absurd (omega (arith, a.some))
 place_apart p i (suc k) j zero a b e = absurd (omega (arith, b.some))
 place_apart p i (suc k) j (suc m) a b e = step (cases_lt k m) (cases_lt m k)
@@ -150,7 +150,7 @@ place_apart p i (suc k) j (suc m) a b e = step (cases_lt k m) (cases_lt m k)
         let q : index_of i (option_at p (suc k)) ≡ index_of j (option_at p (suc k)) = omega arith in
         (same_item (option_at p (suc k)) i j a.has_item (subst (λ x. has (option_at p (suc x)) j ≡ true) (sym same) b.has_item) q, ap suc same)
 
-pub spacer_low : (p : Cover) (k : ℕ) → 0 < k → k ≤ length p.options → (suc (length p.names) < spacer_of p k) × (spacer_of p k < size_of p)
+pub spacer_low : (p : ProblemValue) (k : ℕ) → 0 < k → k ≤ length p.options → (suc (length p.names) < spacer_of p k) × (spacer_of p k < size_of p)
 spacer_low p zero a b = absurd (omega arith)
 spacer_low p (suc k) a b =
     let l = start_low p k in let r = start_below p k (suc k) (omega arith) b in let c = start_last p in

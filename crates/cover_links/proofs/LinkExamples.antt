@@ -4,7 +4,7 @@ use Rattle.cover_problem.specs.Covering.{list_of, remaining}
 use Rattle.cover_problem.proofs.CoverExamples.{small}
 use Rattle.cover_links.specs.Entries.{entry_at, changed, unlinked, relinked, item_unlinked}
 use Rattle.cover_links.specs.Hiding.{node_hidden, node_unhidden, after_hidden, hidden, options_hidden, item_covered}
-use Rattle.cover_links.specs.Layout.{start_of, place, spacer_of}
+use Rattle.cover_links.specs.Layout.{start_of, node_index, spacer_of}
 use Rattle.cover_links.specs.Fresh.{node_appended, option_appended, fresh}
 use Rattle.cover_links.specs.StandsFor.{nodes_of, block_of}
 
@@ -18,7 +18,7 @@ unfolding start_of
 second_spacer = refl
 
 -- the node of g in the option 2
-node_of_g : place small 7 2 ≡ 14
+node_of_g : node_index small 7 2 ≡ 14
 unfolding start_of
 node_of_g = refl
 

@@ -14,9 +14,9 @@ use denote.Struct.Declared as Declared
 use denote.Struct.Owning.{shape}
 use denote.Struct.Struct.{Struct, within}
 use denote.Struct.Tuple.{Tuple, tuple_type}
-use Rattle.cover_links.specs.contracts.cells.Base as beginning
-use Rattle.cover_links.specs.contracts.cells.Cells as cells
-use Rattle.cover_links.proofs.cells.Base.TheLaws as start
+use Rattle.cover_links.specs.contracts.raw.Base as beginning
+use Rattle.cover_links.specs.contracts.raw.Slots as slots
+use Rattle.cover_links.proofs.raw.Base.TheLaws as start
 
 -- a mark's machine value
 abbrev pub mark : Val
@@ -24,7 +24,7 @@ mark = vstruct (vcons (vstruct vnil) vnil)
 
 -- the one field of the row's owner
 abbrev pub Mark : RattleType
-Mark = Struct (shape cells.the_type)
+Mark = Struct (shape slots.the_type)
 
 abbrev pub three_val : Val → Val → Val → Val
 three_val u v w = vstruct (vcons u (vcons v (vcons w vnil)))

@@ -1,7 +1,7 @@
 -- Lemmas on rows of places that all hold an entry.
 use Rattle.std.proofs.Common.{◌≡◌, ℕ, zero, suc, ◌+◌, ◌<◌, List, [], ◌∷◌, length, get_or, set, map, replicate, refl, sym, ap, ◌∙◌, arith, Option, Some, None}
 use Rattle.cover_links.specs.declared.entry.Entry.{Entry}
-use Rattle.cover_links.specs.Places.{values, IsFull}
+use Rattle.cover_links.specs.Slots.{values, IsFull}
 use Rattle.cover_links.specs.Entries.{blank, entry_at}
 
 values_some : (es : List Entry) → values (map Some es) ≡ es

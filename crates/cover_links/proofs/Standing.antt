@@ -3,14 +3,14 @@
 use Rattle.std.proofs.Common.{◌≡◌, ℕ, suc, ◌+◌, ◌-◌, ◌<◌, ◌≤◌, ◌^◌, ◌⊎◌, inl, inr, ◌==◌, Bool, true, false, ◌&&◌, cond, unwrap_or, List, [], ◌∷◌, length, filter, refl, sym, ap, ◌∙◌, subst, arith, nat_le}
 use Rattle.std.proofs.lemmas.Bool.{and_parts, cases_eq, eq-eqb, ne_eqb, leb-true}
 use Rattle.cover_problem.specs.Lists.{numbers, above, below}
-use Rattle.cover_problem.specs.Problem.{Cover, IsProblem, size_of}
+use Rattle.cover_problem.specs.Problem.{ProblemValue, IsProblem, size_of}
 use Rattle.cover_problem.proofs.ListLemmas.{filter_at_most, length-numbers}
 use Rattle.cover_links.specs.declared.entry.Entry.{Entry}
 use Rattle.cover_links.specs.Entries.{entry_at, changed, one_less, one_more, unlinked, relinked, IsLinked}
 use Rattle.cover_links.specs.Hiding.{node_hidden, node_unhidden}
 use Rattle.cover_links.specs.Safety.{IsInside, CanHideNode, CanUnhideNode}
 use Rattle.cover_links.specs.Ring.{Follows, IsRing, IsNext, without}
-use Rattle.cover_links.specs.Layout.{place, spacer_of, start_of}
+use Rattle.cover_links.specs.Layout.{node_index, spacer_of, start_of}
 use Rattle.cover_links.proofs.EntryLemmas.{length-changed, kept, at_changed, at_other, length-unlinked}
 use Rattle.cover_links.proofs.RestoreLemmas.{cancel, relink_restores, unlinked_down, unlinked_down_other, unlinked_up, unlinked_up_other, unlinked_kept}
 use Rattle.cover_links.proofs.RingLemmas.{Leaves, ring_kept, ring_without, next_is, prev_is, count_without, without_ne}
@@ -34,14 +34,14 @@ top_at es x = (entry_at es x).top
 
 -- the entries of a problem: `shown j k` says that the node of the item j in the option k is in its list, and `active` which
 -- items are in the row
-pub record Stands (p : Cover) (shown : ℕ → ℕ → Bool) (active : ℕ → Bool) (es : List Entry) : Type 0 where
+pub record Stands (p : ProblemValue) (shown : ℕ → ℕ → Bool) (active : ℕ → Bool) (es : List Entry) : Type 0 where
   pub size : length es ≡ size_of p
   pub shown_are : (j k : ℕ) → shown j k ≡ true → IsNode p j k
-  pub rings : (j : ℕ) → 0 < j → j ≤ length p.names → IsRing (shown j) (place p j) (down_at es) (up_at es)
+  pub rings : (j : ℕ) → 0 < j → j ≤ length p.names → IsRing (shown j) (node_index p j) (down_at es) (up_at es)
   pub counts : (j : ℕ) → 0 < j → j ≤ length p.names → top_at es j ≡ length (filter (shown j) (numbers (length p.options) 1))
-  pub tops : (j k : ℕ) → IsNode p j k → top_at es (place p j k) ≡ j
-  pub lefts : (j k : ℕ) → IsNode p j k → left_at es (place p j k) ≡ start_of p (k - 1)
-  pub rights : (j k : ℕ) → IsNode p j k → right_at es (place p j k) ≡ spacer_of p k
+  pub tops : (j k : ℕ) → IsNode p j k → top_at es (node_index p j k) ≡ j
+  pub lefts : (j k : ℕ) → IsNode p j k → left_at es (node_index p j k) ≡ start_of p (k - 1)
+  pub rights : (j k : ℕ) → IsNode p j k → right_at es (node_index p j k) ≡ spacer_of p k
   pub spacers : (k : ℕ) → 0 < k → k ≤ length p.options → top_at es (spacer_of p k) ≡ k
   pub row : IsRing active (λ i. i) (right_at es) (left_at es)
   pub aside : (i : ℕ) → p.primary < i → i ≤ length p.names → (right_at es i ≡ i) × (left_at es i ≡ i)
@@ -67,14 +67,14 @@ minus_was shown j k i m h = step (cases_eq i j)
     step (inl e) = let w = without_ne (shown i) k m (subst (λ (f : ℕ → Bool). f m ≡ true) (minus_here shown j k i e) h) in (w.0, λ d. w.1)
     step (inr ne) = (subst (λ (f : ℕ → Bool). f m ≡ true) (minus_other shown j k i ne) h, λ d. absurd (ne d))
 
-module _ (p : Cover) (shown : ℕ → ℕ → Bool) (active : ℕ → Bool) (es : List Entry) (problem : IsProblem p) (s : Stands p shown active es) where
+module _ (p : ProblemValue) (shown : ℕ → ℕ → Bool) (active : ℕ → Bool) (es : List Entry) (problem : IsProblem p) (s : Stands p shown active es) where
   -- the numbers that a column may have
   pub column_within : (j k : ℕ) → shown j k ≡ true → (0 < k) × (k ≤ length p.options)
   column_within j k h = let n = s.shown_are j k h in (n.some, n.within)
 
   -- a member of a ring, or its head, lies in the block
-  ring_inside : (j : ℕ) → j ≤ length p.names → (k : ℕ) → (k ≡ 0) ⊎ (shown j k ≡ true) → place p j k < length es
-  ring_inside j le k (inl e) = subst (λ n. place p j n < length es) (sym e) (let z = s.size in omega arith)
+  ring_inside : (j : ℕ) → j ≤ length p.names → (k : ℕ) → (k ≡ 0) ⊎ (shown j k ≡ true) → node_index p j k < length es
+  ring_inside j le k (inl e) = subst (λ n. node_index p j n < length es) (sym e) (let z = s.size in omega arith)
   ring_inside j le k (inr h) = let z = s.size in let l = place_low p j k (s.shown_are j k h) in omega arith
 
   next_member : (t : ℕ → Bool) (x y : ℕ) → IsNext t x y → (y ≡ 0) ⊎ (t y ≡ true)
@@ -84,7 +84,7 @@ module _ (p : Cover) (shown : ℕ → ℕ → Bool) (active : ℕ → Bool) (es 
   -- a node that is shown
   module _ (j k : ℕ) (pos : 0 < j) (le : j ≤ length p.names) (h : shown j k ≡ true) where
     abbrev q : ℕ
-    q = place p j k
+    q = node_index p j k
 
     abbrev k0 : ℕ
     k0 = unwrap_or (below k (filter (shown j) (numbers (length p.options) 1))) 0
@@ -101,10 +101,10 @@ module _ (p : Cover) (shown : ℕ → ℕ → Bool) (active : ℕ → Bool) (es 
     node : IsNode p j k
     node = s.shown_are j k h
 
-    up_is : up_at es q ≡ place p j k0
+    up_is : up_at es q ≡ node_index p j k0
     up_is = (s.rings j pos le k0 k before).1
 
-    down_is : down_at es q ≡ place p j k1
+    down_is : down_at es q ≡ node_index p j k1
     down_is = (s.rings j pos le k k1 after).0
 
     up_low : up_at es q < length es
@@ -178,16 +178,16 @@ module _ (p : Cover) (shown : ℕ → ℕ → Bool) (active : ℕ → Bool) (es 
     some : suc (length (filter (without (shown j) k) (numbers (length p.options) 1))) ≡ length (filter (shown j) (numbers (length p.options) 1))
     some = count_without (shown j) k (length p.options) 1 h node.some (let w = node.within in omega arith)
 
-    other_ring : (i : ℕ) → 0 < i → i ≤ length p.names → (i ≡ j) ⊎ (i ≡ j → ⊥) → IsRing (minus shown j k i) (place p i) (down_at gone) (up_at gone)
+    other_ring : (i : ℕ) → 0 < i → i ≤ length p.names → (i ≡ j) ⊎ (i ≡ j → ⊥) → IsRing (minus shown j k i) (node_index p i) (down_at gone) (up_at gone)
     other_ring i a b (inl e) =
-        subst (λ f. IsRing f (place p i) (down_at gone) (up_at gone)) (sym (minus_here shown j k i e))
-        (ring_without (shown i) (place p i) (down_at es) (up_at es) (down_at gone) (up_at gone) k (s.rings i a b)
-        (subst (λ n. Leaves (down_at es) (up_at es) (down_at gone) (up_at gone) n) (ap (λ n. place p n k) (sym e)) leaves)
+        subst (λ f. IsRing f (node_index p i) (down_at gone) (up_at gone)) (sym (minus_here shown j k i e))
+        (ring_without (shown i) (node_index p i) (down_at es) (up_at es) (down_at gone) (up_at gone) k (s.rings i a b)
+        (subst (λ n. Leaves (down_at es) (up_at es) (down_at gone) (up_at gone) n) (ap (λ n. node_index p n k) (sym e)) leaves)
         (subst (λ n. shown n k ≡ true) (sym e) h) node.some
-        (λ g. head_apart (ap (λ n. place p n k) (sym e) ∙ sym g ∙ e)) (λ x hx g. (place_apart p i x i k (s.shown_are i x hx) (subst (λ n. IsNode p n k) (sym e) node) g).1))
+        (λ g. head_apart (ap (λ n. node_index p n k) (sym e) ∙ sym g ∙ e)) (λ x hx g. (place_apart p i x i k (s.shown_are i x hx) (subst (λ n. IsNode p n k) (sym e) node) g).1))
     other_ring i a b (inr ne) =
-        subst (λ f. IsRing f (place p i) (down_at gone) (up_at gone)) (sym (minus_other shown j k i ne))
-        (ring_kept (shown i) (place p i) (down_at es) (up_at es) (down_at gone) (up_at gone) q (s.rings i a b) leaves
+        subst (λ f. IsRing f (node_index p i) (down_at gone) (up_at gone)) (sym (minus_other shown j k i ne))
+        (ring_kept (shown i) (node_index p i) (down_at es) (up_at es) (down_at gone) (up_at gone) q (s.rings i a b) leaves
         (λ g. let z = place_high p j k node in absurd (omega arith)) (λ x hx g. ne (place_apart p i x j k (s.shown_are i x hx) node g).0))
 
     other_count : (i : ℕ) → 0 < i → i ≤ length p.names → (i ≡ j) ⊎ (i ≡ j → ⊥) → top_at gone i ≡ length (filter (minus shown j k i) (numbers (length p.options) 1))
@@ -204,9 +204,9 @@ module _ (p : Cover) (shown : ℕ → ℕ → Bool) (active : ℕ → Bool) (es 
       shown_are = λ i m g. s.shown_are i m (minus_was shown j k i m g).0;
       rings = λ i a b. other_ring i a b (cases_eq i j);
       counts = λ i a b. other_count i a b (cases_eq i j);
-      tops = λ i m n. gone_top (place p i m) (λ g. let z = place_high p i m n in absurd (omega arith)) ∙ s.tops i m n;
-      lefts = λ i m n. gone_left (place p i m) ∙ s.lefts i m n;
-      rights = λ i m n. gone_right (place p i m) ∙ s.rights i m n;
+      tops = λ i m n. gone_top (node_index p i m) (λ g. let z = place_high p i m n in absurd (omega arith)) ∙ s.tops i m n;
+      lefts = λ i m n. gone_left (node_index p i m) ∙ s.lefts i m n;
+      rights = λ i m n. gone_right (node_index p i m) ∙ s.rights i m n;
       spacers = λ m a b. gone_top (spacer_of p m) (λ g. let z = spacer_low p m a b in absurd (omega arith)) ∙ s.spacers m a b;
       row = λ x y f. let r = s.row x y f in (gone_right x ∙ r.0, gone_left y ∙ r.1);
       aside = λ i a b. let r = s.aside i a b in (gone_right i ∙ r.0, gone_left i ∙ r.1);

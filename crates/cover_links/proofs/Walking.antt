@@ -4,13 +4,13 @@ use Rattle.std.proofs.Common.{◌≡◌, ℕ, suc, ◌+◌, ◌-◌, ◌<◌, �
 use Rattle.std.specs.List.{before_first, after_first}
 use Rattle.std.proofs.lemmas.Bool.{and_parts, cases_eq, cases_lt, not-true, both_ways, false≢true}
 use Rattle.cover_problem.specs.Lists.{has, are_distinct}
-use Rattle.cover_problem.specs.Problem.{Cover, IsProblem, option_at}
+use Rattle.cover_problem.specs.Problem.{ProblemValue, IsProblem, option_at}
 use Rattle.cover_problem.proofs.ListLemmas.{has_cases, has_here, has_later, has_append_left, has_append_right, has_append_cases, parts_are, distinct_parts}
 use Rattle.cover_problem.proofs.CoveringLemmas.{option_is, IsOptionOf}
 use Rattle.cover_links.specs.declared.entry.Entry.{Entry}
 use Rattle.cover_links.specs.Hiding.{node_hidden, node_unhidden, run_hidden, run_unhidden, after_hidden, hidden, before_unhidden, unhidden}
 use Rattle.cover_links.specs.Safety.{CanHideNode, CanUnhideNode, CanHideRun, CanUnhideRun, CanHide, CanUnhide}
-use Rattle.cover_links.specs.Layout.{place, start_of}
+use Rattle.cover_links.specs.Layout.{node_index, start_of}
 use Rattle.cover_links.proofs.RingLemmas.{without_stays}
 use Rattle.cover_links.proofs.LayoutLemmas.{IsNode, IsRun, option_run, run_parts, place_low}
 use Rattle.cover_links.proofs.Standing.{Stands, minus, minus_here, minus_other, minus_was, left_at, right_at, node_stands, node_can, node_back, back_can}
@@ -57,13 +57,13 @@ pub run_stays : (shown : ℕ → ℕ → Bool) (k : ℕ) (js : List ℕ) (i m : 
 run_stays shown k [] i m ne = refl
 run_stays shown k (j ∷ js) i m ne = run_stays (minus shown j k) k js i m ne ∙ minus_stays shown j k i m ne
 
-pub record RunDone (p : Cover) (shown : ℕ → ℕ → Bool) (active : ℕ → Bool) (es : List Entry) (A n : ℕ) : Type 0 where
+pub record RunDone (p : ProblemValue) (shown : ℕ → ℕ → Bool) (active : ℕ → Bool) (es : List Entry) (A n : ℕ) : Type 0 where
   pub stands : Stands p shown active (run_hidden es A n)
   pub can : CanHideRun es A n
   pub back : run_unhidden (run_hidden es A n) A n ≡ es
   pub back_can : CanUnhideRun (run_hidden es A n) A (A + n)
 
-pub run_done : (p : Cover) (active : ℕ → Bool) (k : ℕ) → IsProblem p → (js : List ℕ) (shown : ℕ → ℕ → Bool) (es : List Entry) (A : ℕ) → Stands p shown active es → IsRun p k A js → are_distinct js ≡ true
+pub run_done : (p : ProblemValue) (active : ℕ → Bool) (k : ℕ) → IsProblem p → (js : List ℕ) (shown : ℕ → ℕ → Bool) (es : List Entry) (A : ℕ) → Stands p shown active es → IsRun p k A js → are_distinct js ≡ true
     → ((j : ℕ) → has js j ≡ true → (shown j k ≡ true) × (0 < j) × (j ≤ length p.names)) → RunDone p (run_gone shown k js) active es A (length js)
 run_done p active k problem [] shown es A s r d all = record { stands = s; can = tt; back = refl; back_can = λ q a b. absurd (omega arith) }
 run_done p active k problem (j ∷ js) shown es A s r d all =
@@ -101,16 +101,16 @@ run_done p active k problem (j ∷ js) shown es A s r d all =
 -- ---- the others of an option
 
 -- shown, but for the option k's other items than i
-abbrev pub option_gone : Cover → ℕ → (ℕ → ℕ → Bool) → ℕ → ℕ → ℕ → Bool
+abbrev pub option_gone : ProblemValue → ℕ → (ℕ → ℕ → Bool) → ℕ → ℕ → ℕ → Bool
 option_gone p i shown k = run_gone (run_gone shown k (after_first (λ x. x == i) (option_at p k))) k (before_first (λ x. x == i) (option_at p k))
 
-pub option_stays : (p : Cover) (i : ℕ) (shown : ℕ → ℕ → Bool) (k j m : ℕ) → (m ≡ k → ⊥) → option_gone p i shown k j m ≡ shown j m
+pub option_stays : (p : ProblemValue) (i : ℕ) (shown : ℕ → ℕ → Bool) (k j m : ℕ) → (m ≡ k → ⊥) → option_gone p i shown k j m ≡ shown j m
 option_stays p i shown k j m ne =
     run_stays (run_gone shown k (after_first (λ x. x == i) (option_at p k))) k (before_first (λ x. x == i) (option_at p k)) j m ne
     ∙ run_stays shown k (after_first (λ x. x == i) (option_at p k)) j m ne
 
 -- what is left was shown, and is no other node of the option
-pub option_was : (p : Cover) (i : ℕ) (shown : ℕ → ℕ → Bool) (k j m : ℕ) → has (option_at p k) i ≡ true → has (option_at p m) j ≡ true → option_gone p i shown k j m ≡ true → (shown j m ≡ true) × ((j ≡ i → ⊥) → m ≡ k → ⊥)
+pub option_was : (p : ProblemValue) (i : ℕ) (shown : ℕ → ℕ → Bool) (k j m : ℕ) → has (option_at p k) i ≡ true → has (option_at p m) j ≡ true → option_gone p i shown k j m ≡ true → (shown j m ≡ true) × ((j ≡ i → ⊥) → m ≡ k → ⊥)
 option_was p i shown k j m hi hj h =
     let one = run_was (run_gone shown k (after_first (λ x. x == i) (option_at p k))) k (before_first (λ x. x == i) (option_at p k)) j m h in
     let two = run_was shown k (after_first (λ x. x == i) (option_at p k)) j m one.0 in (
@@ -128,13 +128,13 @@ option_was p i shown k j m hi hj h =
         rest (inl d) = ne (sym d)
         rest (inr d) = b d e
 
-pub record HideDone (p : Cover) (shown : ℕ → ℕ → Bool) (active : ℕ → Bool) (es : List Entry) (x : ℕ) : Type 0 where
+pub record HideDone (p : ProblemValue) (shown : ℕ → ℕ → Bool) (active : ℕ → Bool) (es : List Entry) (x : ℕ) : Type 0 where
   pub stands : Stands p shown active (hidden es x)
   pub can : CanHide es x
   pub back : unhidden (hidden es x) x ≡ es
   pub back_can : CanUnhide (hidden es x) x
 
-module _ (p : Cover) (active : ℕ → Bool) (problem : IsProblem p) (i k : ℕ) (within : k < length p.options) (h : has (option_at p (suc k)) i ≡ true) where
+module _ (p : ProblemValue) (active : ℕ → Bool) (problem : IsProblem p) (i k : ℕ) (within : k < length p.options) (h : has (option_at p (suc k)) i ≡ true) where
   abbrev o : List ℕ
   o = option_at p (suc k)
 
@@ -178,7 +178,7 @@ module _ (p : Cover) (active : ℕ → Bool) (problem : IsProblem p) (i k : ℕ)
 
   module _ (shown : ℕ → ℕ → Bool) (es : List Entry) (s : Stands p shown active es) (all : (j : ℕ) → has o j ≡ true → shown j (suc k) ≡ true) where
     abbrev q : ℕ
-    q = place p i (suc k)
+    q = node_index p i (suc k)
 
     later_all : (j : ℕ) → has ys j ≡ true → (shown j (suc k) ≡ true) × (0 < j) × (j ≤ length p.names)
     later_all j m =

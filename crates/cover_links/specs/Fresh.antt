@@ -2,7 +2,7 @@
 -- its item. That it stands for the problem is a law.
 -- TAOCP volume 4B, section 7.2.2.1, table 1, and exercise 8.
 use Rattle.std.specs.Prelude.{ℕ, zero, suc, ◌+◌, ◌-◌, ◌==◌, nat_lt, cond, List, [], ◌∷◌, length, set, replicate}
-use Rattle.cover_problem.specs.Problem.{Cover, option_at, size_of}
+use Rattle.cover_problem.specs.Problem.{ProblemValue, option_at, size_of}
 use Rattle.cover_links.specs.declared.entry.Entry.{Entry}
 use Rattle.cover_links.specs.Entries.{blank, entry_at, changed, to_down}
 use Rattle.cover_links.specs.Hiding.{node_unhidden}
@@ -43,10 +43,10 @@ option_appended es start option number =
     (record { top = number; up = start; down = 0; left = 0; right = 0 })
 
 -- the block with the first k options
-abbrev pub built : Cover → ℕ → List Entry
+abbrev pub built : ProblemValue → ℕ → List Entry
 built p zero = heads_written (replicate (size_of p) blank) p.primary (length p.names)
 built p (suc k) = option_appended (built p k) (start_of p k) (option_at p (suc k)) (suc k)
 
 -- the block with nothing covered
-unfoldable pub fresh : Cover → List Entry
+unfoldable pub fresh : ProblemValue → List Entry
 fresh p = built p (length p.options)

@@ -5,7 +5,7 @@
 -- Example: in the small problem the nodes of the option 2, a d g, stand at 12 13 14, and the spacer after them at 15.
 use Rattle.std.specs.Prelude.{ℕ, zero, suc, ◌+◌, ◌==◌, List, [], ◌∷◌, length}
 use Rattle.std.specs.List.{before_first}
-use Rattle.cover_problem.specs.Problem.{Cover, option_at}
+use Rattle.cover_problem.specs.Problem.{ProblemValue, option_at}
 
 -- where the options after the first k of them begin, if the first begins at a
 abbrev pub start_from : ℕ → List (List ℕ) → ℕ → ℕ
@@ -14,7 +14,7 @@ start_from a [] (suc k) = a
 start_from a (o ∷ options) (suc k) = start_from (suc (a + length o)) options k
 
 -- where the options after the first k of them begin; after the last one, the number of entries
-unfoldable pub start_of : Cover → ℕ → ℕ
+unfoldable pub start_of : ProblemValue → ℕ → ℕ
 start_of p k = start_from (suc (suc (length p.names))) p.options k
 
 -- where an item stands in a list
@@ -22,11 +22,11 @@ abbrev pub index_of : ℕ → List ℕ → ℕ
 index_of j option = length (before_first (λ x. x == j) option)
 
 -- the entry of the item j in the option k; for 0 in place of an option, its head
-abbrev pub place : Cover → ℕ → ℕ → ℕ
-place p j zero = j
-place p j (suc k) = start_of p k + index_of j (option_at p (suc k))
+abbrev pub node_index : ProblemValue → ℕ → ℕ → ℕ
+node_index p j zero = j
+node_index p j (suc k) = start_of p k + index_of j (option_at p (suc k))
 
 -- the spacer after the option numbered k
-abbrev pub spacer_of : Cover → ℕ → ℕ
+abbrev pub spacer_of : ProblemValue → ℕ → ℕ
 spacer_of p zero = suc (length p.names)
 spacer_of p (suc k) = start_of p k + length (option_at p (suc k))

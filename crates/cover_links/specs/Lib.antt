@@ -6,5 +6,5 @@ pub mod StandsFor
 pub mod Table
 pub mod Safety
 pub mod Ring
-pub mod Places
+pub mod Slots
 pub mod Ownership

@@ -24,39 +24,39 @@ abbrev pub FitsInBlock : ℕ → Type 0
 FitsInBlock n = n * entry_size < 2 ^ 63
 
 -- the place o bytes into the block b
-abbrev pub place_own : ℕ → ℕ → Option Entry → Fml
-place_own b o (Some e) = part_at the_row full_share e b o
-place_own b o None = froom (raw entry_type) b o
+abbrev pub slot_own : ℕ → ℕ → Option Entry → Fml
+slot_own b o (Some e) = part_at the_row full_share e b o
+slot_own b o None = froom (raw entry_type) b o
 
 -- places side by side, the first of them o bytes into the block b
-abbrev pub places_own : ℕ → ℕ → List (Option Entry) → Fml
-places_own b o [] = ftrue
-places_own b o (c ∷ cs) = fsep (place_own b o c) (places_own b (o + entry_size) cs)
+abbrev pub slots_own : ℕ → ℕ → List (Option Entry) → Fml
+slots_own b o [] = ftrue
+slots_own b o (c ∷ cs) = fsep (slot_own b o c) (slots_own b (o + entry_size) cs)
 
 -- what a `&` to a place sees
-abbrev pub place_lent : ℕ → ℕ → Option Entry → Lft → Fml
-place_lent b o (Some e) = shared_of the_row e b o
-place_lent b o None = nothing
+abbrev pub slot_lent : ℕ → ℕ → Option Entry → Lft → Fml
+slot_lent b o (Some e) = shared_of the_row e b o
+slot_lent b o None = nothing
 
 -- what a `&` to places side by side sees
-abbrev pub places_lent : ℕ → ℕ → List (Option Entry) → Lft → Fml
-places_lent b o [] = nothing
-places_lent b o (c ∷ cs) = beside (place_lent b o c) (places_lent b (o + entry_size) cs)
+abbrev pub slots_lent : ℕ → ℕ → List (Option Entry) → Lft → Fml
+slots_lent b o [] = nothing
+slots_lent b o (c ∷ cs) = beside (slot_lent b o c) (slots_lent b (o + entry_size) cs)
 
 -- the places fit in a block
 abbrev pub fit : List (Option Entry) → Fml
 fit cs = flt (length cs * entry_size) (2 ^ 63)
 
 -- the row that begins at a pointer
-abbrev pub cells_own : Ptr → List (Option Entry) → Fml
-cells_own (block_ptr b o) cs = fsep (fit cs) (places_own b o cs)
-cells_own null_ptr cs = ffalse
+abbrev pub row_own : Ptr → List (Option Entry) → Fml
+row_own (block_ptr b o) cs = fsep (fit cs) (slots_own b o cs)
+row_own null_ptr cs = ffalse
 
 -- what a `&` to that row sees
-abbrev pub cells_lent : Ptr → List (Option Entry) → Lft → Fml
-cells_lent (block_ptr b o) cs = beside (said (fit cs)) (places_lent b o cs)
-cells_lent null_ptr cs = said ffalse
+abbrev pub row_lent : Ptr → List (Option Entry) → Lft → Fml
+row_lent (block_ptr b o) cs = beside (said (fit cs)) (slots_lent b o cs)
+row_lent null_ptr cs = said ffalse
 
 -- the allocator's token for a block of so many entries
-abbrev pub deed_owns : (Ty → Ptr → Fml) → Ptr → ℕ → Fml
-deed_owns token p n = token (raw (ty_array entry_type n)) p
+abbrev pub allocation_owns : (Ty → Ptr → Fml) → Ptr → ℕ → Fml
+allocation_owns token p n = token (raw (ty_array entry_type n)) p

@@ -4,15 +4,15 @@
 -- Example: in the block of the small problem with nothing covered the list of the item a leads down from its head, 1, to the nodes
 -- 12 and 20, of the options 2 and 4, and back to 1.
 use Rattle.std.specs.Prelude.{◌≡◌, ℕ, ◌<◌, ◌≤◌, List, [], ◌∷◌, ◌++◌, length, map, reverse}
-use Rattle.cover_problem.specs.Problem.{Cover, IsProblem}
+use Rattle.cover_problem.specs.Problem.{ProblemValue, IsProblem}
 use Rattle.cover_problem.specs.Covering.{active, list_of}
 use Rattle.cover_problem.specs.Coverable.{IsUncovered}
-use Rattle.cover_problem.specs.Table.{AreCovered}
+use Rattle.cover_problem.specs.Table.{IsCoveredList}
 use Rattle.cover_links.specs.declared.entry.Entry.{Entry}
 use Rattle.cover_links.specs.Entries.{entry_at}
 use Rattle.cover_links.specs.Hiding.{all_covered, item_uncovered}
 use Rattle.cover_links.specs.Fresh.{fresh}
-use Rattle.cover_links.specs.Layout.{place}
+use Rattle.cover_links.specs.Layout.{node_index}
 
 -- the links lead from a to each of these in turn, and from the last one to b
 abbrev pub IsWalk : (ℕ → ℕ) → ℕ → List ℕ → ℕ → Type 0
@@ -20,12 +20,12 @@ IsWalk link a [] b = link a ≡ b
 IsWalk link a (x ∷ xs) b = (link a ≡ x) × IsWalk link x xs b
 
 -- the nodes of an item's list, from the first option's to the last one's
-abbrev pub nodes_of : Cover → List ℕ → ℕ → List ℕ
-nodes_of p c j = map (place p j) (list_of p c j)
+abbrev pub nodes_of : ProblemValue → List ℕ → ℕ → List ℕ
+nodes_of p c j = map (node_index p j) (list_of p c j)
 
 -- The links of the header walk the active items and come back, both ways. Those of each head, also of a covered item, walk the
 -- nodes of its list and come back, both ways, and the head tells how many they are.
-pub record StandsFor (p : Cover) (c : List ℕ) (es : List Entry) : Type 0 where
+pub record StandsFor (p : ProblemValue) (c : List ℕ) (es : List Entry) : Type 0 where
   pub items : IsWalk (λ x. (entry_at es x).right) 0 (active p c) 0
   pub items_back : IsWalk (λ x. (entry_at es x).left) 0 (reverse (active p c)) 0
   pub nodes : (j : ℕ) → 0 < j → j ≤ length p.names → IsWalk (λ x. (entry_at es x).down) j (nodes_of p c j) j
@@ -33,13 +33,13 @@ pub record StandsFor (p : Cover) (c : List ℕ) (es : List Entry) : Type 0 where
   pub lengths : (j : ℕ) → 0 < j → j ≤ length p.names → (entry_at es j).top ≡ length (list_of p c j)
 
 -- the block once the items of c were covered, one after the other
-unfoldable pub block_of : Cover → List ℕ → List Entry
+unfoldable pub block_of : ProblemValue → List ℕ → List Entry
 block_of p c = all_covered (fresh p) c
 
 -- the block of c stands for c
 abbrev pub BlockStands : Type 0
-BlockStands = (p : Cover) (c : List ℕ) → IsProblem p → AreCovered p c → StandsFor p c (block_of p c)
+BlockStands = (p : ProblemValue) (c : List ℕ) → IsProblem p → IsCoveredList p c → StandsFor p c (block_of p c)
 
 -- uncovering the item that was covered last gives the block back that stood before
 abbrev pub UncoverRestores : Type 0
-UncoverRestores = (p : Cover) (c : List ℕ) (i : ℕ) → IsProblem p → AreCovered p c → IsUncovered p c i → item_uncovered (block_of p (c ++ i ∷ [])) i ≡ block_of p c
+UncoverRestores = (p : ProblemValue) (c : List ℕ) (i : ℕ) → IsProblem p → IsCoveredList p c → IsUncovered p c i → item_uncovered (block_of p (c ++ i ∷ [])) i ≡ block_of p c

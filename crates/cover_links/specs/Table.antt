@@ -1,7 +1,7 @@
 -- What the parts of a table of links are: the block of a problem and the covered items, and where each option begins.
 use Rattle.std.specs.Prelude.{◌≡◌, ℕ, suc, ◌<◌, ◌≤◌, ◌⊎◌, ◌==◌, nat_lt, ◌&&◌, cond, pos, ◌-ℤ◌, Option, Some, None, List, length, get_or}
-use Rattle.cover_problem.specs.Problem.{Cover, IsProblem}
-use Rattle.cover_problem.specs.Table.{AreCovered}
+use Rattle.cover_problem.specs.Problem.{ProblemValue, IsProblem}
+use Rattle.cover_problem.specs.Table.{IsCoveredList}
 use Rattle.cover_links.specs.declared.entry.Entry.{Entry}
 use Rattle.cover_links.specs.declared.entry.Node.{Node}
 use Rattle.cover_links.specs.Entries.{entry_at}
@@ -9,9 +9,9 @@ use Rattle.cover_links.specs.Layout.{start_of}
 use Rattle.cover_links.specs.StandsFor.{block_of}
 
 -- the parts of a table
-pub record IsTable (p : Cover) (c : List ℕ) (items : ℕ) (block : List Entry) (starts : List ℕ) (room : ℕ) : Type 0 where
+pub record IsTable (p : ProblemValue) (c : List ℕ) (items : ℕ) (block : List Entry) (starts : List ℕ) (room : ℕ) : Type 0 where
   pub problem : IsProblem p
-  pub covered : AreCovered p c
+  pub covered : IsCoveredList p c
   pub items_are : items ≡ length p.names
   pub block_is : block ≡ block_of p c
   pub count : length starts ≡ suc (length p.options)
@@ -19,12 +19,12 @@ pub record IsTable (p : Cover) (c : List ℕ) (items : ℕ) (block : List Entry)
   pub capacity : length p.names ≤ room
 
 -- what a link leads to: nothing where it leads to 0
-abbrev pub linked : ℕ → Option ℕ
-linked n = cond (n == 0) None (Some n)
+abbrev pub nonzero : ℕ → Option ℕ
+nonzero n = cond (n == 0) None (Some n)
 
 -- an entry as the literature prints it: past the heads an entry with no end of an option is a spacer
-abbrev pub node_seen : ℕ → ℕ → Entry → Node
-node_seen items x e = record { top_or_len = cond (nat_lt items x && (e.right == 0)) (pos 0 -ℤ pos e.top) (pos e.top); up = e.up; down = e.down }
+abbrev pub printed_node : ℕ → ℕ → Entry → Node
+printed_node items x e = record { top_or_len = cond (nat_lt items x && (e.right == 0)) (pos 0 -ℤ pos e.top) (pos e.top); up = e.up; down = e.down }
 
 -- a node of an option's, with that option's number at the spacer past it
 pub record IsNodeOf (es : List Entry) (item node k : ℕ) : Type 0 where
@@ -35,5 +35,5 @@ pub record IsNodeOf (es : List Entry) (item node k : ℕ) : Type 0 where
   pub some : 0 < k
 
 -- the item's head, where k is 0, or a node of the option numbered k
-abbrev pub IsSpot : List Entry → ℕ → ℕ → ℕ → Type 0
-IsSpot es item node k = ((node ≡ item) × (k ≡ 0)) ⊎ IsNodeOf es item node k
+abbrev pub IsHeadOrNode : List Entry → ℕ → ℕ → ℕ → Type 0
+IsHeadOrNode es item node k = ((node ≡ item) × (k ≡ 0)) ⊎ IsNodeOf es item node k

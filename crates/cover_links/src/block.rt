@@ -3,7 +3,7 @@ ghost use Rattle.std.specs.Prelude.{◌≡◌, ◌<◌, length, replicate, slice
 ghost use Rattle.cover_links.specs.Ownership.{FitsInBlock};
 ghost use Rattle.cover_links.specs.Entries.{entry_at};
 
-use crate::cells::{Base, Cells, Deed, allocate, deallocate};
+use crate::raw::{Base, Slots, Allocation, allocate, deallocate};
 use crate::entry::Entry;
 use std::alloc::{AllocError, Global};
 use std::marker::Model;
@@ -12,21 +12,21 @@ use std::marker::Model;
 pub struct Block {
     base: Base,
     len: usize,
-    cells: Cells,
-    deed: Deed<Global>,
+    slots: Slots,
+    deed: Allocation<Global>,
     alloc: Global,
 }
 
 impl Model for Block {
     ghost use Rattle.std.specs.Prelude.{◌≡◌, List, length};
     ghost use Rattle.cover_links.specs.declared.entry.Entry.{Entry};
-    ghost use Rattle.cover_links.specs.Places.{values, IsFull};
+    ghost use Rattle.cover_links.specs.Slots.{values, IsFull};
 
     ghost Value = { List Entry };
 
-    ghost view = { λ a. values a.cells.slots };
+    ghost view = { λ a. values a.slots.slots };
 
-    ghost invariant = { λ a. (a.cells.at ≡ a.base.ptr) × (length a.cells.slots ≡ a.len) × (a.deed.at ≡ a.base.ptr) × (a.deed.len ≡ a.len) × (a.deed.alloc ≡ a.alloc) × IsFull a.cells.slots };
+    ghost invariant = { λ a. (a.slots.at ≡ a.base.ptr) × (length a.slots.slots ≡ a.len) × (a.deed.at ≡ a.base.ptr) × (a.deed.len ≡ a.len) × (a.deed.alloc ≡ a.alloc) × IsFull a.slots.slots };
 }
 
 impl Block {
@@ -35,14 +35,14 @@ impl Block {
         requires { FitsInBlock len }
         ensures { IfOk result (λ b. b ≡ replicate len blank) }
     {
-        let (base, mut cells, deed) = allocate(&alloc, len)?;
+        let (base, mut slots, deed) = allocate(&alloc, len)?;
         for index in 0..len {
-            cells.put(base, index, blank);
+            slots.put(base, index, blank);
         }
         Ok(Block {
             base,
             len,
-            cells,
+            slots,
             deed,
             alloc,
         })
@@ -54,7 +54,7 @@ impl Block {
         requires { index < length self.now }
         ensures { result ≡ entry_at self.now index }
     {
-        *self.cells.get(self.base, index as usize)
+        *self.slots.get(self.base, index as usize)
     }
 
     /// Puts an entry at an index.
@@ -63,7 +63,7 @@ impl Block {
         requires { index < length self.old }
         ensures { self.new ≡ slice_set self.old index entry }
     {
-        self.cells.put(self.base, index as usize, entry)
+        self.slots.put(self.base, index as usize, entry)
     }
 }
 
@@ -72,10 +72,10 @@ impl Drop for Block {
         let Block {
             base,
             len,
-            cells,
+            slots,
             deed,
             alloc,
         } = self;
-        deallocate(&alloc, base, len, cells, deed);
+        deallocate(&alloc, base, len, slots, deed);
     }
 }

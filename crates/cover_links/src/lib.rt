@@ -3,7 +3,7 @@
 
 mod block;
 mod build;
-mod cells;
+mod raw;
 mod entry;
 mod hiding;
 pub mod laws;

@@ -3,9 +3,9 @@ ghost use Rattle.std.specs.Prelude.{◌≡◌, ◌<◌, ◌≤◌, ◌+◌, ◌�
 ghost use Rattle.cover_problem.specs.Lists.{has};
 ghost use Rattle.cover_problem.specs.Problem as problem;
 ghost use Rattle.cover_problem.specs.Problem.{IsProblem, size_of};
-ghost use Rattle.cover_problem.specs.Table.{AreCovered};
+ghost use Rattle.cover_problem.specs.Table.{IsCoveredList};
 ghost use Rattle.cover_links.specs.Entries.{entry_at};
-ghost use Rattle.cover_links.specs.Layout.{place};
+ghost use Rattle.cover_links.specs.Layout.{node_index};
 ghost use Rattle.cover_links.specs.StandsFor.{block_of};
 ghost use Rattle.cover_links.specs.Table as table;
 
@@ -23,7 +23,7 @@ use std::snapshot::Snapshot;
 #[derive(Drop)]
 pub struct LinkTable {
     /// The problem, which contracts alone see.
-    subject: Snapshot<Problem>,
+    problem: Snapshot<Problem>,
     items: u32,
     block: Block,
     /// For each option where its first node stands, and at the end where the block ends.
@@ -34,20 +34,20 @@ pub struct LinkTable {
 
 impl Model for LinkTable {
     ghost use Rattle.std.specs.Prelude.{vec_capacity};
-    ghost use Rattle.cover_problem.specs.Table.{Standing};
+    ghost use Rattle.cover_problem.specs.Table.{TableValue};
     ghost use Rattle.cover_links.specs.Table.{IsTable};
 
-    ghost Value = { Standing };
+    ghost Value = { TableValue };
 
-    ghost view = { λ a. record { subject = a.subject.value; covered = a.covered.items } };
+    ghost view = { λ a. record { problem = a.problem.value; covered = a.covered.items } };
 
-    ghost invariant = { λ a. IsTable a.subject.value a.covered.items a.items a.block a.starts.items (vec_capacity a.covered) };
+    ghost invariant = { λ a. IsTable a.problem.value a.covered.items a.items a.block a.starts.items (vec_capacity a.covered) };
 }
 
 /// What a link of the row of active items leads to: nothing where it leads back to the header.
 #[inline(always)]
-fn linked(item: u32) -> Option<u32>
-    ensures { result ≡ table.linked item }
+fn nonzero(item: u32) -> Option<u32>
+    ensures { result ≡ table.nonzero item }
 {
     if item == 0 { None } else { Some(item) }
 }
@@ -55,8 +55,8 @@ fn linked(item: u32) -> Option<u32>
 /// The number of the option of an item's node, or none at the item's head.
 #[inline(always)]
 fn option_at(block: &Block, item: u32, node: u32) -> Option<u32>
-    requires { (k : ℕ) × table.IsSpot block.now item node k }
-    ensures { (k : ℕ) → table.IsSpot block.now item node k → result ≡ table.linked k }
+    requires { (k : ℕ) × table.IsHeadOrNode block.now item node k }
+    ensures { (k : ℕ) → table.IsHeadOrNode block.now item node k → result ≡ table.nonzero k }
 {
     if node == item {
         return None;
@@ -69,8 +69,8 @@ impl LinkTable {
     /// The entry of the block numbered x.
     pub fn node(&self, x: u32) -> Node
         requires some { 0 < x }
-        requires within { x < size_of self.now.subject }
-        ensures { result ≡ table.node_seen (length self.now.subject.names) x (entry_at (block_of self.now.subject self.now.covered) x) }
+        requires within { x < size_of self.now.problem }
+        ensures { result ≡ table.printed_node (length self.now.problem.names) x (entry_at (block_of self.now.problem self.now.covered) x) }
     {
         let entry = self.block.read(x);
         let is_spacer = x > self.items && entry.right == 0;
@@ -85,9 +85,9 @@ impl LinkTable {
     /// An item's node in an option that has it.
     fn node_of(&self, item: u32, option: u32) -> u32
         requires some { 0 < option }
-        requires within { option ≤ length self.now.subject.options }
-        requires has_item { has (problem.option_at self.now.subject option) item ≡ true }
-        ensures { result ≡ place self.now.subject item option }
+        requires within { option ≤ length self.now.problem.options }
+        requires has_item { has (problem.option_at self.now.problem option) item ≡ true }
+        ensures { result ≡ node_index self.now.problem item option }
     {
         let start = self.starts[(option - 1) as usize];
         let end = self.starts[option as usize] - 1;
@@ -101,7 +101,7 @@ impl LinkTable {
 }
 
 impl Table for LinkTable {
-    ghost subject = { λ t. t.subject };
+    ghost problem_value = { λ t. t.problem };
 
     ghost covered_list = { λ t. t.covered };
 
@@ -111,7 +111,7 @@ impl Table for LinkTable {
         let block = fresh(alloc, problem, &starts)?;
         let covered = Vec::with_capacity(alloc, items as usize)?;
         Ok(LinkTable {
-            subject: Snapshot::of(problem),
+            problem: Snapshot::of(problem),
             items,
             block,
             starts,
@@ -124,11 +124,11 @@ impl Table for LinkTable {
     }
 
     fn first_item(&self) -> Option<u32> {
-        linked(self.block.read(0).right)
+        nonzero(self.block.read(0).right)
     }
 
     fn next_item(&self, item: u32) -> Option<u32> {
-        linked(self.block.read(item).right)
+        nonzero(self.block.read(item).right)
     }
 
     fn len(&self, item: u32) -> u32 {

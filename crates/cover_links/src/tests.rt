@@ -75,7 +75,7 @@ fn entries(alloc: Global, problem: &Problem) -> Result<u32, AllocError>
 
 /// Whether the entries 1 to 30 are those of the small problem.
 fn is_small_block(table: &LinkTable) -> bool
-    requires { size_of table.now.subject ≡ 31 }
+    requires { size_of table.now.problem ≡ 31 }
 {
     for (place, entry) in NODES.iter().enumerate() {
         let node = table.node(place as u32 + 1);
@@ -92,8 +92,8 @@ fn cover_three(table: &mut LinkTable, a: u32, b: u32, c: u32)
     requires first { (0 < a) }
     requires rising { a < b }
     requires more { b < c }
-    requires within { c ≤ length table.old.subject.names }
-    ensures subject { table.new.subject ≡ table.old.subject }
+    requires within { c ≤ length table.old.problem.names }
+    ensures same_problem { table.new.problem ≡ table.old.problem }
     ensures covered { table.new.covered ≡ a ∷ b ∷ c ∷ [] }
 {
     table.cover(a);
@@ -104,7 +104,7 @@ fn cover_three(table: &mut LinkTable, a: u32, b: u32, c: u32)
 /// Uncovers them again.
 fn uncover_three(table: &mut LinkTable, a: u32, b: u32, c: u32)
     requires { table.old.covered ≡ a ∷ b ∷ c ∷ [] }
-    ensures subject { table.new.subject ≡ table.old.subject }
+    ensures same_problem { table.new.problem ≡ table.old.problem }
     ensures covered { table.new.covered ≡ [] }
 {
     table.uncover(c);
@@ -120,7 +120,7 @@ fn second_item(table: &LinkTable) -> Option<u32> {
 /// The second option of an item's list.
 fn second_option(table: &LinkTable, item: u32) -> Option<u32>
     requires some { 0 < item }
-    requires within { item ≤ length table.now.subject.names }
+    requires within { item ≤ length table.now.problem.names }
 {
     table.next_option(item, table.first_option(item)?)
 }
@@ -128,7 +128,7 @@ fn second_option(table: &LinkTable, item: u32) -> Option<u32>
 /// The last but one option of an item's list.
 fn last_but_one(table: &LinkTable, item: u32) -> Option<u32>
     requires some { 0 < item }
-    requires within { item ≤ length table.now.subject.names }
+    requires within { item ≤ length table.now.problem.names }
 {
     table.prev_option(item, table.last_option(item)?)
 }

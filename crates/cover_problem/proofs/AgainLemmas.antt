@@ -6,8 +6,8 @@ use Rattle.std.proofs.lemmas.Bool.{and_parts, and_from, or_parts, or_from, not-t
 use Rattle.std.proofs.lemmas.List.Folds.{list_any-append}
 use Rattle.text_lines.specs.Each.{each}
 use Rattle.cover_problem.specs.Lists.{has, are_distinct}
-use Rattle.cover_problem.specs.Problem.{Cover, is_name, is_item, is_small, are_new, name_at}
-use Rattle.cover_problem.specs.Making.{add_name, within}
+use Rattle.cover_problem.specs.Problem.{ProblemValue, is_name, is_item, is_small, are_new, name_at}
+use Rattle.cover_problem.specs.Validation.{add_name, within}
 use Rattle.cover_problem.specs.Reading.{item_of, add_item}
 use Rattle.cover_problem.proofs.ProblemLemmas.{bytes_eq_sym, nat_eq_sym}
 
@@ -96,13 +96,13 @@ items_again names acc (i ∷ items) named new is d =
 
 -- *a part of a problem within the limits is within them*
 
-small_parts : (p : Cover) → is_small p ≡ true → (nat_le (length p.names) 65535 ≡ true) × (nat_le (length p.options) 262143 ≡ true) × (nat_le (length p.names + sum_by length p.options + length p.options + 2) 8388608 ≡ true)
+small_parts : (p : ProblemValue) → is_small p ≡ true → (nat_le (length p.names) 65535 ≡ true) × (nat_le (length p.options) 262143 ≡ true) × (nat_le (length p.names + sum_by length p.options + length p.options + 2) 8388608 ≡ true)
 small_parts p h =
     let a = and_parts (nat_le (length p.names) 65535 && nat_le (length p.options) 262143) (nat_le (length p.names + sum_by length p.options + length p.options + 2) 8388608) h in
     let b = and_parts (nat_le (length p.names) 65535) (nat_le (length p.options) 262143) a.0 in
     (b.0, b.1, a.1)
 
-pub fits : (p q : Cover) → is_small q ≡ true → length p.names ≤ length q.names → length p.options ≤ length q.options → sum_by length p.options ≤ sum_by length q.options → within p ≡ Ok p
+pub fits : (p q : ProblemValue) → is_small q ≡ true → length p.names ≤ length q.names → length p.options ≤ length q.options → sum_by length p.options ≤ sum_by length q.options → within p ≡ Ok p
 fits p q h a b c =
     let s = small_parts q h in
     let e : nat_le (length p.names) 65535 ≡ true = le-leb _ _ (le_trans a (leb-true _ _ s.0)) in

@@ -6,8 +6,8 @@ use Rattle.std.proofs.lemmas.List.{length-map}
 use Rattle.text_lines.specs.Lines.{is_empty}
 use Rattle.text_lines.specs.Each.{each, ◌>>=◌}
 use Rattle.cover_problem.specs.declared.fault.Fault.TheVariants.{NoItemLine, BadLine}
-use Rattle.cover_problem.specs.Problem.{Cover, IsProblem, is_option, name_at}
-use Rattle.cover_problem.specs.Making.{add_name, within}
+use Rattle.cover_problem.specs.Problem.{ProblemValue, IsProblem, is_option, name_at}
+use Rattle.cover_problem.specs.Validation.{add_name, within}
 use Rattle.cover_problem.specs.Reading.{add_item, nothing, items_line, maybe_line, option_line}
 use Rattle.cover_problem.specs.Grammar.{maybe_words, option_words, word_lines}
 use Rattle.cover_problem.proofs.ProblemLemmas.{bind_ok, within_parts, names_are, all_push, map_push}
@@ -16,25 +16,25 @@ use Rattle.cover_problem.proofs.ItemLemmas.{unrefused, items_are}
 -- *what is read so far*
 
 -- nothing, or a problem
-abbrev pub IsBegun : Cover → Type 0
+abbrev pub IsBegun : ProblemValue → Type 0
 IsBegun p = (p ≡ nothing) ⊎ IsProblem p
 
 -- the lines that say it
-abbrev pub begun_lines : Cover → List (List (List ℕ))
+abbrev pub begun_lines : ProblemValue → List (List (List ℕ))
 begun_lines p = cond (nat_lt 0 p.primary) (word_lines p) []
 
 -- q is read where p was read before, and a line of these words
-pub record Says (p q : Cover) (words : List (List ℕ)) : Type 0 where
+pub record Says (p q : ProblemValue) (words : List (List ℕ)) : Type 0 where
   pub begun : IsBegun q
   pub lines : begun_lines q ≡ begun_lines p ++ words ∷ []
 
-begun_none : (p : Cover) → nat_lt 0 p.primary ≡ false → begun_lines p ≡ []
+begun_none : (p : ProblemValue) → nat_lt 0 p.primary ≡ false → begun_lines p ≡ []
 begun_none p h = rw h refl
 
-pub begun_some : (p : Cover) → 0 < p.primary → begun_lines p ≡ word_lines p
+pub begun_some : (p : ProblemValue) → 0 < p.primary → begun_lines p ≡ word_lines p
 begun_some p h = rw (lt-ltb 0 p.primary h) refl
 
-problem_begun : (p : Cover) → IsBegun p → ((p.primary == 0) ≡ false) → IsProblem p
+problem_begun : (p : ProblemValue) → IsBegun p → ((p.primary == 0) ≡ false) → IsProblem p
 problem_begun p (inl e) h = absurd (eqb-false p.primary 0 h (ap (λ q. q.primary) e))
 problem_begun p (inr g) h = g
 
@@ -54,19 +54,19 @@ drop_front xs ys n e = rw (← e) (drop-append_seam xs ys)
 
 -- *the lines*
 
-items_parts : (p q : Cover) (words : List (List ℕ)) → items_line p words ≡ Ok q →
+items_parts : (p q : ProblemValue) (words : List (List ℕ)) → items_line p words ≡ Ok q →
     ((is_empty words || nat_lt 0 p.primary) ≡ false) × ((names : List (List ℕ)) × (each add_name [] words ≡ Ok names) × (within (record { names = names; primary = length names; options = [] }) ≡ Ok q))
 unfolding items_line
 items_parts p q words h =
     let u = unrefused (is_empty words || nat_lt 0 p.primary) BadLine (each add_name [] words >>= λ names. within (record { names = names; primary = length names; options = [] })) q h in
     (u.0, bind_ok (each add_name [] words) (λ names. within (record { names = names; primary = length names; options = [] })) q u.1)
 
-pub items_say : (p q : Cover) (words : List (List ℕ)) → items_line p words ≡ Ok q → Says p q (codes "items" ∷ words)
+pub items_say : (p q : ProblemValue) (words : List (List ℕ)) → items_line p words ≡ Ok q → Says p q (codes "items" ∷ words)
 items_say p q words h = step (items_parts p q words h)
   where
     step : ((is_empty words || nat_lt 0 p.primary) ≡ false) × ((names : List (List ℕ)) × (each add_name [] words ≡ Ok names) × (within (record { names = names; primary = length names; options = [] }) ≡ Ok q)) → Says p q (codes "items" ∷ words)
     step (first, (names, e, w)) =
-        let r : Cover = record { names = names; primary = length names; options = [] } in
+        let r : ProblemValue = record { names = names; primary = length names; options = [] } in
         let m = names_are [] words names e refl refl in
         let v = within_parts r q w in
         let o = or_parts (is_empty words) (nat_lt 0 p.primary) first in
@@ -79,7 +79,7 @@ items_say p q words h = step (items_parts p q words h)
           lines = begun_some r some ∙ lines ∙ ap (λ ls. ls ++ (codes "items" ∷ words) ∷ []) (sym (begun_none p o.1));
         })
 
-maybe_parts : (p q : Cover) (words : List (List ℕ)) → maybe_line p words ≡ Ok q →
+maybe_parts : (p q : ProblemValue) (words : List (List ℕ)) → maybe_line p words ≡ Ok q →
     ((is_empty words || nat_lt p.primary (length p.names) || nat_lt 0 (length p.options)) ≡ false) × ((p.primary == 0) ≡ false) × ((names : List (List ℕ)) × (each add_name p.names words ≡ Ok names) × (within (record { names = names; primary = p.primary; options = [] }) ≡ Ok q))
 unfolding maybe_line
 maybe_parts p q words h =
@@ -92,12 +92,12 @@ no_options : (options : List (List ℕ)) → nat_lt 0 (length options) ≡ false
 no_options [] h = refl
 no_options (o ∷ os) h = let l = ltb-false 0 (length (o ∷ os)) h in absurd (omega arith)
 
-pub maybe_say : (p q : Cover) (words : List (List ℕ)) → IsBegun p → maybe_line p words ≡ Ok q → Says p q (codes "maybe" ∷ words)
+pub maybe_say : (p q : ProblemValue) (words : List (List ℕ)) → IsBegun p → maybe_line p words ≡ Ok q → Says p q (codes "maybe" ∷ words)
 maybe_say p q words begun h = step (maybe_parts p q words h)
   where
     step : ((is_empty words || nat_lt p.primary (length p.names) || nat_lt 0 (length p.options)) ≡ false) × ((p.primary == 0) ≡ false) × ((names : List (List ℕ)) × (each add_name p.names words ≡ Ok names) × (within (record { names = names; primary = p.primary; options = [] }) ≡ Ok q)) → Says p q (codes "maybe" ∷ words)
     step (first, some, (names, e, w)) =
-        let r : Cover = record { names = names; primary = p.primary; options = [] } in
+        let r : ProblemValue = record { names = names; primary = p.primary; options = [] } in
         let g = problem_begun p begun some in
         let m = names_are p.names words names e g.new g.named in
         let v = within_parts r q w in
@@ -115,7 +115,7 @@ maybe_say p q words begun h = step (maybe_parts p q words h)
           lines = begun_some r g.some ∙ after ∙ ap (λ ls. ls ++ (codes "maybe" ∷ words) ∷ []) (sym (begun_some p g.some ∙ before));
         })
 
-option_parts : (p q : Cover) (words : List (List ℕ)) → option_line p words ≡ Ok q →
+option_parts : (p q : ProblemValue) (words : List (List ℕ)) → option_line p words ≡ Ok q →
     (is_empty words ≡ false) × ((p.primary == 0) ≡ false) × ((option : List ℕ) × (each (add_item p.names) [] words ≡ Ok option) × (within (record { names = p.names; primary = p.primary; options = p.options ++ option ∷ [] }) ≡ Ok q))
 unfolding option_line
 option_parts p q words h =
@@ -124,12 +124,12 @@ option_parts p q words h =
     let v = unrefused (p.primary == 0) NoItemLine taken q u.1 in
     (u.0, v.0, bind_ok (each (add_item p.names) [] words) (λ option. within (record { names = p.names; primary = p.primary; options = p.options ++ option ∷ [] })) q v.1)
 
-pub option_says : (p q : Cover) (words : List (List ℕ)) → IsBegun p → option_line p words ≡ Ok q → Says p q (codes "option" ∷ words)
+pub option_says : (p q : ProblemValue) (words : List (List ℕ)) → IsBegun p → option_line p words ≡ Ok q → Says p q (codes "option" ∷ words)
 option_says p q words begun h = step (option_parts p q words h)
   where
     step : (is_empty words ≡ false) × ((p.primary == 0) ≡ false) × ((option : List ℕ) × (each (add_item p.names) [] words ≡ Ok option) × (within (record { names = p.names; primary = p.primary; options = p.options ++ option ∷ [] }) ≡ Ok q)) → Says p q (codes "option" ∷ words)
     step (full, some, (option, e, w)) =
-        let r : Cover = record { names = p.names; primary = p.primary; options = p.options ++ option ∷ [] } in
+        let r : ProblemValue = record { names = p.names; primary = p.primary; options = p.options ++ option ∷ [] } in
         let g = problem_begun p begun some in
         let m = items_are p.names [] words option e refl refl in
         let v = within_parts r q w in

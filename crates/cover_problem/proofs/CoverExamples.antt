@@ -1,11 +1,11 @@
 -- The examples of the definitions, computed on the small problem.
 use Rattle.std.proofs.Common.{◌≡◌, true, [], ◌∷◌, refl, codes}
-use Rattle.cover_problem.specs.Problem.{Cover, is_small, size_of}
+use Rattle.cover_problem.specs.Problem.{ProblemValue, is_small, size_of}
 use Rattle.cover_problem.specs.Covering.{active, remaining, list_of, choice}
 use Rattle.cover_problem.specs.Path.{covered_by, taken, others}
 
 -- c e, a d g, b c f, a d f, b g, d e g
-abbrev pub small : Cover
+abbrev pub small : ProblemValue
 small = record {
   names = codes "a" ∷ codes "b" ∷ codes "c" ∷ codes "d" ∷ codes "e" ∷ codes "f" ∷ codes "g" ∷ [];
   primary = 7;

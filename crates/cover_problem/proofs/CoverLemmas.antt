@@ -3,7 +3,7 @@ use Rattle.std.proofs.Common.{◌≡◌, ℕ, zero, suc, ◌<◌, ◌≤◌, ◌
 use Rattle.std.specs.List.{list_any}
 use Rattle.std.proofs.lemmas.Bool.{false≢true, and_from, cases_Bool, cases_eq, cases_order, ne_eqb, not_from_false, both_ways, false_from_ne_true, true_from_ne_false}
 use Rattle.cover_problem.specs.Lists.{has, are_distinct}
-use Rattle.cover_problem.specs.Problem.{Cover, option_at}
+use Rattle.cover_problem.specs.Problem.{ProblemValue, option_at}
 use Rattle.cover_problem.specs.Covering.{active, choice}
 use Rattle.cover_problem.specs.Path.{others, taken, IsChoice, covered_from, IsValidFrom}
 use Rattle.cover_problem.specs.ExactCover.{IsExactCover}
@@ -12,15 +12,15 @@ use Rattle.cover_problem.proofs.CoveringLemmas.{IsTaken, active_in, active_from,
 
 -- ---- one choice
 
-pub taken_keeps : (p : Cover) (c : List ℕ) (o i : ℕ) → has c i ≡ true → has (taken p c o) i ≡ true
+pub taken_keeps : (p : ProblemValue) (c : List ℕ) (o i : ℕ) → has c i ≡ true → has (taken p c o) i ≡ true
 unfolding taken
 taken_keeps p c o i h = has_append_left c (choice p c ∷ others (choice p c) (option_at p o)) i h
 
-pub taken_covers : (p : Cover) (c : List ℕ) (o i : ℕ) → IsChoice p c o → has (option_at p o) i ≡ true → has (taken p c o) i ≡ true
+pub taken_covers : (p : ProblemValue) (c : List ℕ) (o i : ℕ) → IsChoice p c o → has (option_at p o) i ≡ true → has (taken p c o) i ≡ true
 unfolding taken
 taken_covers p c o i h m = has_append_right c (choice p c ∷ others (choice p c) (option_at p o)) i (others_has (choice p c) (option_at p o) i m (choice_has p c o h).item)
 
-pub taken_cases : (p : Cover) (c : List ℕ) (o i : ℕ) → IsChoice p c o → has (taken p c o) i ≡ true → (has c i ≡ true) ⊎ (has (option_at p o) i ≡ true)
+pub taken_cases : (p : ProblemValue) (c : List ℕ) (o i : ℕ) → IsChoice p c o → has (taken p c o) i ≡ true → (has c i ≡ true) ⊎ (has (option_at p o) i ≡ true)
 unfolding taken
 taken_cases p c o i h m = step (has_append_cases c (choice p c ∷ others (choice p c) (option_at p o)) i m)
   where
@@ -34,19 +34,19 @@ taken_cases p c o i h m = step (has_append_cases c (choice p c ∷ others (choic
 
 -- ---- a path
 
-pub valid_split : (p : Cover) (c path more : List ℕ) → IsValidFrom p c (path ++ more) → IsValidFrom p c path × IsValidFrom p (covered_from p c path) more
+pub valid_split : (p : ProblemValue) (c path more : List ℕ) → IsValidFrom p c (path ++ more) → IsValidFrom p c path × IsValidFrom p (covered_from p c path) more
 valid_split p c [] more v = (tt, v)
 valid_split p c (o ∷ path) more v = let r = valid_split p (taken p c o) path more v.1 in ((v.0, r.0), r.1)
 
-pub valid_join : (p : Cover) (c path more : List ℕ) → IsValidFrom p c path → IsValidFrom p (covered_from p c path) more → IsValidFrom p c (path ++ more)
+pub valid_join : (p : ProblemValue) (c path more : List ℕ) → IsValidFrom p c path → IsValidFrom p (covered_from p c path) more → IsValidFrom p c (path ++ more)
 valid_join p c [] more v w = w
 valid_join p c (o ∷ path) more v w = (v.0, valid_join p (taken p c o) path more v.1 w)
 
-pub covered_join : (p : Cover) (c path more : List ℕ) → covered_from p c (path ++ more) ≡ covered_from p (covered_from p c path) more
+pub covered_join : (p : ProblemValue) (c path more : List ℕ) → covered_from p c (path ++ more) ≡ covered_from p (covered_from p c path) more
 covered_join p c [] more = refl
 covered_join p c (o ∷ path) more = covered_join p (taken p c o) path more
 
-pub path_range : (p : Cover) (c path : List ℕ) (o : ℕ) → IsValidFrom p c path → has path o ≡ true → (0 < o) × (o ≤ length p.options)
+pub path_range : (p : ProblemValue) (c path : List ℕ) (o : ℕ) → IsValidFrom p c path → has path o ≡ true → (0 < o) × (o ≤ length p.options)
 path_range p c [] o v h = absurd (false≢true h)
 path_range p c (x ∷ path) o v h = step (path_range p (taken p c x) path o v.1) (has_cases x path o h)
   where
@@ -54,12 +54,12 @@ path_range p c (x ∷ path) o v h = step (path_range p (taken p c x) path o v.1)
     step ih (inl e) = let t = choice_has p c x v.0 in rw e at (let r : (0 < x) × (x ≤ length p.options) = (t.some, t.within) in r)
     step ih (inr i) = ih i
 
-pub covered_keeps : (p : Cover) (c path : List ℕ) (i : ℕ) → has c i ≡ true → has (covered_from p c path) i ≡ true
+pub covered_keeps : (p : ProblemValue) (c path : List ℕ) (i : ℕ) → has c i ≡ true → has (covered_from p c path) i ≡ true
 covered_keeps p c [] i h = h
 covered_keeps p c (o ∷ path) i h = covered_keeps p (taken p c o) path i (taken_keeps p c o i h)
 
 -- no option of the path has an item that was covered before it
-pub path_apart : (p : Cover) (c path : List ℕ) (b i : ℕ) → IsValidFrom p c path → has path b ≡ true → has c i ≡ true → has (option_at p b) i ≡ false
+pub path_apart : (p : ProblemValue) (c path : List ℕ) (b i : ℕ) → IsValidFrom p c path → has path b ≡ true → has c i ≡ true → has (option_at p b) i ≡ false
 path_apart p c [] b i v h m = absurd (false≢true h)
 path_apart p c (x ∷ path) b i v h m = step (λ n. path_apart p (taken p c x) path b i v.1 n (taken_keeps p c x i m)) (has_cases x path b h)
   where
@@ -71,7 +71,7 @@ path_apart p c (x ∷ path) b i v h m = step (λ n. path_apart p (taken p c x) p
     step ih (inr n) = ih n
 
 -- what a path covers is what was covered before, and its options' items
-pub path_covers : (p : Cover) (c path : List ℕ) (i : ℕ) → IsValidFrom p c path → has (covered_from p c path) i ≡ true → (has c i ≡ true) ⊎ ((o : ℕ) × (has path o ≡ true) × (has (option_at p o) i ≡ true))
+pub path_covers : (p : ProblemValue) (c path : List ℕ) (i : ℕ) → IsValidFrom p c path → has (covered_from p c path) i ≡ true → (has c i ≡ true) ⊎ ((o : ℕ) × (has path o ≡ true) × (has (option_at p o) i ≡ true))
 path_covers p c [] i v h = inl h
 path_covers p c (x ∷ path) i v h = step (path_covers p (taken p c x) path i v.1 h)
   where
@@ -83,7 +83,7 @@ path_covers p c (x ∷ path) i v h = step (path_covers p (taken p c x) path i v.
     step (inl a) = found (taken_cases p c x i v.0 a)
     step (inr b) = inr (b.0, has_later x path b.0 b.1, b.2)
 
-pub path_item : (p : Cover) (c path : List ℕ) (o i : ℕ) → IsValidFrom p c path → has path o ≡ true → has (option_at p o) i ≡ true → has (covered_from p c path) i ≡ true
+pub path_item : (p : ProblemValue) (c path : List ℕ) (o i : ℕ) → IsValidFrom p c path → has path o ≡ true → has (option_at p o) i ≡ true → has (covered_from p c path) i ≡ true
 path_item p c [] o i v h m = absurd (false≢true h)
 path_item p c (x ∷ path) o i v h m = step (λ n. path_item p (taken p c x) path o i v.1 n m) (has_cases x path o h)
   where
@@ -92,7 +92,7 @@ path_item p c (x ∷ path) o i v h m = step (λ n. path_item p (taken p c x) pat
     step ih (inr n) = ih n
 
 -- no two options of a path share an item
-pub path_once : (p : Cover) (c path : List ℕ) (i a b : ℕ) → IsValidFrom p c path → has path a ≡ true → has path b ≡ true → has (option_at p a) i ≡ true → has (option_at p b) i ≡ true → a ≡ b
+pub path_once : (p : ProblemValue) (c path : List ℕ) (i a b : ℕ) → IsValidFrom p c path → has path a ≡ true → has path b ≡ true → has (option_at p a) i ≡ true → has (option_at p b) i ≡ true → a ≡ b
 path_once p c [] i a b v h k m n = absurd (false≢true h)
 path_once p c (x ∷ path) i a b v h k m n = step (λ s t. path_once p (taken p c x) path i a b v.1 s t m n) (has_cases x path a h) (has_cases x path b k)
   where
@@ -106,15 +106,15 @@ path_once p c (x ∷ path) i a b v h k m n = step (λ s t. path_once p (taken p 
     step ih (inr s) (inr t) = ih s t
 
 -- an option is chosen once on a path
-pub path_new : (p : Cover) (c path : List ℕ) (o : ℕ) → IsChoice p c o → IsValidFrom p (taken p c o) path → has path o ≡ false
+pub path_new : (p : ProblemValue) (c path : List ℕ) (o : ℕ) → IsChoice p c o → IsValidFrom p (taken p c o) path → has path o ≡ false
 path_new p c path o h v = false_from_ne_true (has path o) (λ m. both_ways (has (option_at p o) (choice p c)) (path_apart p (taken p c o) path o (choice p c) v m (taken_covers p c o (choice p c) h (choice_has p c o h).item)) (choice_has p c o h).item)
 
-pub path_distinct : (p : Cover) (c path : List ℕ) → IsValidFrom p c path → are_distinct path ≡ true
+pub path_distinct : (p : ProblemValue) (c path : List ℕ) → IsValidFrom p c path → are_distinct path ≡ true
 path_distinct p c [] v = refl
 path_distinct p c (o ∷ path) v = and_from (not (has path o)) (are_distinct path) (not_from_false (has path o) (path_new p c path o v.0 v.1)) (path_distinct p (taken p c o) path v.1)
 
 -- each option of a path has an item that was active
-pub path_useful : (p : Cover) (c path : List ℕ) (o : ℕ) → IsValidFrom p c path → has path o ≡ true → (i : ℕ) × (0 < i) × (i ≤ p.primary) × (has (option_at p o) i ≡ true)
+pub path_useful : (p : ProblemValue) (c path : List ℕ) (o : ℕ) → IsValidFrom p c path → has path o ≡ true → (i : ℕ) × (0 < i) × (i ≤ p.primary) × (has (option_at p o) i ≡ true)
 path_useful p c [] o v h = absurd (false≢true h)
 path_useful p c (x ∷ path) o v h = step (path_useful p (taken p c x) path o v.1) (has_cases x path o h)
   where
@@ -126,12 +126,12 @@ path_useful p c (x ∷ path) o v h = step (path_useful p (taken p c x) path o v.
     step ih (inr n) = ih n
 
 -- where no item is active, each primary item is covered
-pub none_active : (p : Cover) (c : List ℕ) (i : ℕ) → length (active p c) ≡ 0 → 0 < i → i ≤ p.primary → has c i ≡ true
+pub none_active : (p : ProblemValue) (c : List ℕ) (i : ℕ) → length (active p c) ≡ 0 → 0 < i → i ≤ p.primary → has c i ≡ true
 none_active p c i e a b = true_from_ne_false (has c i) (λ n. let l = has_some (active p c) i (active_from p c i n a b) in omega arith)
 
 -- ---- paths and covers
 
-pub path_is_cover : (p : Cover) (path : List ℕ) → IsValidFrom p [] path → length (active p (covered_from p [] path)) ≡ 0 → IsExactCover p (has path)
+pub path_is_cover : (p : ProblemValue) (path : List ℕ) → IsValidFrom p [] path → length (active p (covered_from p [] path)) ≡ 0 → IsExactCover p (has path)
 path_is_cover p path v e = record {
   options = λ o h. path_range p [] path o v h;
   covers = λ i a b. found i (path_covers p [] path i v (none_active p (covered_from p [] path) i e a b));
@@ -144,12 +144,12 @@ path_is_cover p path v e = record {
     found i (inr b) = b
 
 -- a valid path of options of the set, with no item active after it
-pub record IsPathOf (p : Cover) (set : ℕ → Bool) (path : List ℕ) : Type 0 where
+pub record IsPathOf (p : ProblemValue) (set : ℕ → Bool) (path : List ℕ) : Type 0 where
   pub valid : IsValidFrom p [] path
   pub within : (o : ℕ) → has path o ≡ true → set o ≡ true
 
 -- the option of the set that has the chosen item is left for it
-next_option : (p : Cover) (set : ℕ → Bool) → IsExactCover p set → (path : List ℕ) → IsPathOf p set path → 0 < length (active p (covered_from p [] path)) → (o : ℕ) × IsChoice p (covered_from p [] path) o × (set o ≡ true)
+next_option : (p : ProblemValue) (set : ℕ → Bool) → IsExactCover p set → (path : List ℕ) → IsPathOf p set path → 0 < length (active p (covered_from p [] path)) → (o : ℕ) × IsChoice p (covered_from p [] path) o × (set o ≡ true)
 next_option p set s path is l = found (s.covers (choice p (covered_from p [] path)) (active_in p (covered_from p [] path) (choice p (covered_from p [] path)) chosen).1 (active_in p (covered_from p [] path) (choice p (covered_from p [] path)) chosen).2)
   where
     chosen : has (active p (covered_from p [] path)) (choice p (covered_from p [] path)) ≡ true
@@ -167,7 +167,7 @@ next_option p set s path is l = found (s.covers (choice p (covered_from p [] pat
         let range = s.options r.0 r.1 in
         (r.0, record { active = l; left = remaining_from p (covered_from p [] path) (choice p (covered_from p [] path)) r.0 (and_from (has (option_at p r.0) (choice p (covered_from p [] path))) (not (list_any (has (covered_from p [] path)) (option_at p r.0))) r.2 (not_from_false (list_any (has (covered_from p [] path)) (option_at p r.0)) free)) range.0 range.1 }, r.1)
 
-grow : (p : Cover) (set : ℕ → Bool) → IsExactCover p set → (fuel : ℕ) (path : List ℕ) → IsPathOf p set path → length (active p (covered_from p [] path)) ≤ fuel → (r : List ℕ) × IsPathOf p set r × (length (active p (covered_from p [] r)) ≡ 0)
+grow : (p : ProblemValue) (set : ℕ → Bool) → IsExactCover p set → (fuel : ℕ) (path : List ℕ) → IsPathOf p set path → length (active p (covered_from p [] path)) ≤ fuel → (r : List ℕ) × IsPathOf p set r × (length (active p (covered_from p [] r)) ≡ 0)
 grow p set s zero path is l = (path, is, omega arith)
 grow p set s (suc fuel) path is l = step (λ o. grow p set s fuel (path ++ o ∷ [])) (cases_order (length (active p (covered_from p [] path))) 0)
   where
@@ -190,7 +190,7 @@ grow p set s (suc fuel) path is l = step (λ o. grow p set s fuel (path ++ o ∷
     step ih (inr (inl k)) = absurd (omega arith)
     step ih (inr (inr k)) = longer ih (next_option p set s path is k)
 
-pub cover_is_path : (p : Cover) (set : ℕ → Bool) → IsExactCover p set → (path : List ℕ) × IsValidFrom p [] path × (length (active p (covered_from p [] path)) ≡ 0) × ((o : ℕ) → has path o ≡ set o)
+pub cover_is_path : (p : ProblemValue) (set : ℕ → Bool) → IsExactCover p set → (path : List ℕ) × IsValidFrom p [] path × (length (active p (covered_from p [] path)) ≡ 0) × ((o : ℕ) → has path o ≡ set o)
 cover_is_path p set s = finish (grow p set s (length (active p [])) [] (record { valid = tt; within = λ o h. absurd (false≢true h) }) (le_refl (length (active p []))))
   where
     finish : ((r : List ℕ) × IsPathOf p set r × (length (active p (covered_from p [] r)) ≡ 0)) → (path : List ℕ) × IsValidFrom p [] path × (length (active p (covered_from p [] path)) ≡ 0) × ((o : ℕ) → has path o ≡ set o)
@@ -210,7 +210,7 @@ cover_is_path p set s = finish (grow p set s (length (active p [])) [] (record {
         same o (inr a) (inr b) = a ∙ sym b
 
 -- two paths of one set, with no item active after them, are one
-pub path_of_cover : (p : Cover) (c q r : List ℕ) → IsValidFrom p c q → IsValidFrom p c r → length (active p (covered_from p c q)) ≡ 0 → length (active p (covered_from p c r)) ≡ 0 → ((o : ℕ) → has q o ≡ has r o) → q ≡ r
+pub path_of_cover : (p : ProblemValue) (c q r : List ℕ) → IsValidFrom p c q → IsValidFrom p c r → length (active p (covered_from p c q)) ≡ 0 → length (active p (covered_from p c r)) ≡ 0 → ((o : ℕ) → has q o ≡ has r o) → q ≡ r
 path_of_cover p c [] [] v w a b e = refl
 path_of_cover p c [] (y ∷ r) v w a b e = let k = w.0.active in absurd (omega arith)
 path_of_cover p c (x ∷ q) [] v w a b e = let k = v.0.active in absurd (omega arith)

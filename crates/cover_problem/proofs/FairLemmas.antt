@@ -6,17 +6,17 @@ use Rattle.std.proofs.lemmas.List.Sums.{sum_by-append}
 use Rattle.std.proofs.lemmas.List.{take_more}
 use Rattle.std.specs.List.{list_all}
 use Rattle.cover_problem.specs.Lists.{has, are_distinct, numbers}
-use Rattle.cover_problem.specs.Problem.{Cover, IsProblem, is_item, option_at}
+use Rattle.cover_problem.specs.Problem.{ProblemValue, IsProblem, is_item, option_at}
 use Rattle.cover_problem.specs.ExactCover.{IsExactCover}
-use Rattle.cover_problem.specs.Fair.{occurrences, is_fair, is_useful, is_cover}
+use Rattle.cover_problem.specs.CoverTest.{occurrences, has_right_count, is_useful, is_cover}
 use Rattle.cover_problem.proofs.ListLemmas.{has_here, has_later, has_cases, has_numbers, has_numbers_in, all_member, all_from, some_member, some_from}
 use Rattle.cover_problem.proofs.CoveringLemmas.{option_is}
 
 -- *the loops*
 
 -- the numbers from i on, once i has passed
-pub fair_more : (t : ℕ → Bool) (n i : ℕ) (whole : Bool) → i ≤ n → t i ≡ true → list_all t (numbers (n + 1 - i) i) ≡ whole → list_all t (numbers (n + 1 - (i + 1)) (i + 1)) ≡ whole
-fair_more t n i whole h passed e =
+pub right_count_more : (t : ℕ → Bool) (n i : ℕ) (whole : Bool) → i ≤ n → t i ≡ true → list_all t (numbers (n + 1 - i) i) ≡ whole → list_all t (numbers (n + 1 - (i + 1)) (i + 1)) ≡ whole
+right_count_more t n i whole h passed e =
     let m : n + 1 - i ≡ suc (n + 1 - (i + 1)) = omega arith in
     let first : list_all t (numbers (n + 1 - i) i) ≡ (t i && list_all t (numbers (n + 1 - (i + 1)) (suc i))) = ap (λ k. list_all t (numbers k i)) m in
     let rest : (t i && list_all t (numbers (n + 1 - (i + 1)) (suc i))) ≡ list_all t (numbers (n + 1 - (i + 1)) (suc i)) = ap (λ b. b && list_all t (numbers (n + 1 - (i + 1)) (suc i))) passed in
@@ -115,21 +115,21 @@ first_of : (xs : List ℕ) → 0 < length xs → (i : ℕ) × (has xs i ≡ true
 first_of [] h = absurd (omega arith)
 first_of (x ∷ xs) h = (x, has_here x xs)
 
-module _ (p : Cover) (sound : IsProblem p) (chosen : List ℕ) where
+module _ (p : ProblemValue) (sound : IsProblem p) (chosen : List ℕ) where
   in_range : (k : ℕ) → is_item (length p.options) k ≡ true → (0 < k) × (k ≤ length p.options)
   in_range k h = grind (arith, nat_tests)
 
-  fair_primary : (i : ℕ) → i ≤ p.primary → is_fair p chosen i ≡ true → occurrences p chosen i ≡ 1
-  fair_primary i h e = grind (arith, nat_tests)
+  right_count_primary : (i : ℕ) → i ≤ p.primary → has_right_count p chosen i ≡ true → occurrences p chosen i ≡ 1
+  right_count_primary i h e = grind (arith, nat_tests)
 
-  fair_most : (i : ℕ) → is_fair p chosen i ≡ true → occurrences p chosen i ≤ 1
-  fair_most i e = grind (arith, nat_tests)
+  right_count_most : (i : ℕ) → has_right_count p chosen i ≡ true → occurrences p chosen i ≤ 1
+  right_count_most i e = grind (arith, nat_tests)
 
   is_item_from : (k : ℕ) → 0 < k → k ≤ length p.options → is_item (length p.options) k ≡ true
   is_item_from k a b = grind (arith, nat_tests)
 
-  fair_from : (i : ℕ) → occurrences p chosen i ≤ 1 → (i ≤ p.primary → 0 < occurrences p chosen i) → is_fair p chosen i ≡ true
-  fair_from i few some = grind (arith, nat_tests)
+  right_count_from : (i : ℕ) → occurrences p chosen i ≤ 1 → (i ≤ p.primary → 0 < occurrences p chosen i) → has_right_count p chosen i ≡ true
+  right_count_from i few some = grind (arith, nat_tests)
 
   first_item : (k : ℕ) → (0 < k) × (k ≤ length p.options) → (i : ℕ) × (has (option_at p k) i ≡ true)
   first_item k r = first_of (option_at p k) (option_is p k sound r.0 r.1).some
@@ -140,16 +140,16 @@ module _ (p : Cover) (sound : IsProblem p) (chosen : List ℕ) where
 
   pub passes_is : is_cover p chosen ≡ true → (are_distinct chosen ≡ true) × IsExactCover p (has chosen)
   passes_is h =
-      let tests = and_parts (list_all (is_item (length p.options)) chosen && list_all (is_fair p chosen) (numbers (length p.names) 1)) (list_all (is_useful p) chosen) h in
-      let front = and_parts (list_all (is_item (length p.options)) chosen) (list_all (is_fair p chosen) (numbers (length p.names) 1)) tests.0 in
+      let tests = and_parts (list_all (is_item (length p.options)) chosen && list_all (has_right_count p chosen) (numbers (length p.names) 1)) (list_all (is_useful p) chosen) h in
+      let front = and_parts (list_all (is_item (length p.options)) chosen) (list_all (has_right_count p chosen) (numbers (length p.names) 1)) tests.0 in
       let options : (o : ℕ) → has chosen o ≡ true → (0 < o) × (o ≤ length p.options) = λ o m. in_range o (all_member _ chosen o front.0 m) in
-      let fair : (i : ℕ) → 0 < i → i ≤ length p.names → is_fair p chosen i ≡ true = λ i a b. all_member _ (numbers (length p.names) 1) i front.1 (has_numbers (length p.names) 1 i a (omega arith)) in
+      let fair : (i : ℕ) → 0 < i → i ≤ length p.names → has_right_count p chosen i ≡ true = λ i a b. all_member _ (numbers (length p.names) 1) i front.1 (has_numbers (length p.names) 1 i a (omega arith)) in
       let items : (o i : ℕ) → has chosen o ≡ true → has (option_at p o) i ≡ true → (0 < i) × (i ≤ length p.names) = λ o i m e. let r = options o m in (option_is p o sound r.0 r.1).items i e in
-      let few : (o i : ℕ) → has chosen o ≡ true → has (option_at p o) i ≡ true → occurrences p chosen i ≤ 1 = λ o i m e. let r = items o i m e in fair_most i (fair i r.0 r.1) in (
+      let few : (o i : ℕ) → has chosen o ≡ true → has (option_at p o) i ≡ true → occurrences p chosen i ≤ 1 = λ o i m e. let r = items o i m e in right_count_most i (fair i r.0 r.1) in (
         distinct_counts chosen (λ k m. let r = options k m in let w = first_item k r in (λ o. has (option_at p o) w.0, w.1, few k w.0 m w.1)),
         record {
           options = options;
-          covers = λ i a b. let one = fair_primary i b (fair i a (let w = sound.within in omega arith)) in let some = some_count (λ k. has (option_at p k) i) chosen (omega arith) in (some.0, some.1, some.2);
+          covers = λ i a b. let one = right_count_primary i b (fair i a (let w = sound.within in omega arith)) in let some = some_count (λ k. has (option_at p k) i) chosen (omega arith) in (some.0, some.1, some.2);
           once = λ i a b m n e f. same_option i a b m n e f (few a i m e);
           useful = λ o m. let w = some_member (λ i. nat_le i p.primary) (option_at p o) (all_member _ chosen o tests.1 m) in (w.0, (items o w.0 m w.1).0, leb-true w.0 p.primary w.2, w.1);
         },
@@ -158,8 +158,8 @@ module _ (p : Cover) (sound : IsProblem p) (chosen : List ℕ) where
   pub passes_from : are_distinct chosen ≡ true → IsExactCover p (has chosen) → is_cover p chosen ≡ true
   passes_from d c =
       let options : list_all (is_item (length p.options)) chosen ≡ true = all_from _ chosen (λ o m. let r = c.options o m in is_item_from o r.0 r.1) in
-      let fair : list_all (is_fair p chosen) (numbers (length p.names) 1) ≡ true = all_from _ (numbers (length p.names) 1) (λ i m. let r = has_numbers_in (length p.names) 1 i m in
-      fair_from i (count_one (λ k. has (option_at p k) i) chosen d (λ a b h k e f. c.once i a b h k e f))
+      let fair : list_all (has_right_count p chosen) (numbers (length p.names) 1) ≡ true = all_from _ (numbers (length p.names) 1) (λ i m. let r = has_numbers_in (length p.names) 1 i m in
+      right_count_from i (count_one (λ k. has (option_at p k) i) chosen d (λ a b h k e f. c.once i a b h k e f))
       (λ b. let w = c.covers i (omega arith) b in count_some (λ k. has (option_at p k) i) chosen w.0 w.1 w.2)) in
       let useful : list_all (is_useful p) chosen ≡ true = all_from _ chosen (λ o m. let w = c.useful o m in some_from (λ i. nat_le i p.primary) (option_at p o) w.0 w.3 (le-leb w.0 p.primary w.2)) in
       and_from _ _ (and_from _ _ options fair) useful

@@ -5,7 +5,7 @@ use Rattle.text_lines.specs.Each.{each, ◌>>=◌, Fails}
 use Rattle.text_lines.proofs.EachLemmas.{fails, from_fails}
 use Rattle.cover_problem.specs.declared.fault.Fault.{Fault}
 use Rattle.cover_problem.specs.declared.fault.Fault.TheVariants.{NoItemLine}
-use Rattle.cover_problem.specs.Problem.{Cover}
+use Rattle.cover_problem.specs.Problem.{ProblemValue}
 use Rattle.cover_problem.specs.Reading.{nothing, line, at_line, numbered_line, lines_read, problem_of, with_items}
 use Rattle.cover_problem.specs.FirstFault.{IsFirstFault, LacksItems}
 use Rattle.cover_problem.proofs.ProblemLemmas.{chosen, each_none, each_parts}
@@ -13,31 +13,31 @@ use Rattle.cover_problem.proofs.SaidLemmas.{line_done}
 
 -- *numbers of lines*
 
-later_number : (lines : List (List ℕ)) (p q : Cover) (k n : ℕ) → each numbered_line (p, k) lines ≡ Ok (q, n) → n ≡ k + length lines
+later_number : (lines : List (List ℕ)) (p q : ProblemValue) (k n : ℕ) → each numbered_line (p, k) lines ≡ Ok (q, n) → n ≡ k + length lines
 later_number [] p q k n h = let e : k ≡ n = ap (λ s. s.1) (each_none numbered_line (p, k) (q, n) h) in omega arith
 later_number (bytes ∷ lines) p q k n h = step (λ r. later_number lines r q (k + 1) n) (each_parts numbered_line (p, k) bytes lines (q, n) h)
   where
-    step : ((r : Cover) → each numbered_line (r, k + 1) lines ≡ Ok (q, n) → n ≡ k + 1 + length lines) → (t : Cover × ℕ) × (numbered_line (p, k) bytes ≡ Ok t) × (each numbered_line t lines ≡ Ok (q, n)) → n ≡ k + length (bytes ∷ lines)
+    step : ((r : ProblemValue) → each numbered_line (r, k + 1) lines ≡ Ok (q, n) → n ≡ k + 1 + length lines) → (t : ProblemValue × ℕ) × (numbered_line (p, k) bytes ≡ Ok t) × (each numbered_line t lines ≡ Ok (q, n)) → n ≡ k + length (bytes ∷ lines)
     step later (t, a, b) =
         let d = line_done p k bytes t a in
         let e = later d.0 (subst (λ s. each numbered_line s lines ≡ Ok (q, n)) d.2 b) in
         omega arith
 
-at_line_err : (k : ℕ) (r : Result Cover Fault) (f : Fault) (n : ℕ) → at_line k r ≡ Err (f, n) → (r ≡ Err f) × (k ≡ n)
+at_line_err : (k : ℕ) (r : Result ProblemValue Fault) (f : Fault) (n : ℕ) → at_line k r ≡ Err (f, n) → (r ≡ Err f) × (k ≡ n)
 at_line_err k (Ok q) f n h = absurd (no_err (q, k + 1) (f, n) h)
   where
-    no_err : (s : Cover × ℕ) (e : Fault × ℕ) → ◌≡◌ {A = Result (Cover × ℕ) (Fault × ℕ)} (Ok s) (Err e) → ⊥
+    no_err : (s : ProblemValue × ℕ) (e : Fault × ℕ) → ◌≡◌ {A = Result (ProblemValue × ℕ) (Fault × ℕ)} (Ok s) (Err e) → ⊥
     no_err s e h = cc
 at_line_err k (Err g) f n h = (ap (λ e. Err e.0) (same (g, k) (f, n) h), ap (λ e. e.1) (same (g, k) (f, n) h))
   where
-    same : (d e : Fault × ℕ) → ◌≡◌ {A = Result (Cover × ℕ) (Fault × ℕ)} (Err d) (Err e) → d ≡ e
+    same : (d e : Fault × ℕ) → ◌≡◌ {A = Result (ProblemValue × ℕ) (Fault × ℕ)} (Err d) (Err e) → d ≡ e
     same d e h = cc
 
-line_fault : (p : Cover) (k : ℕ) (bytes : List ℕ) (f : Fault) (n : ℕ) → numbered_line (p, k) bytes ≡ Err (f, n) → (line p bytes ≡ Err f) × (k ≡ n)
+line_fault : (p : ProblemValue) (k : ℕ) (bytes : List ℕ) (f : Fault) (n : ℕ) → numbered_line (p, k) bytes ≡ Err (f, n) → (line p bytes ≡ Err f) × (k ≡ n)
 unfolding numbered_line
 line_fault p k bytes f n h = at_line_err k (line p bytes) f n h
 
-fault_line : (p : Cover) (n : ℕ) (bytes : List ℕ) (f : Fault) → line p bytes ≡ Err f → numbered_line (p, n) bytes ≡ Err (f, n)
+fault_line : (p : ProblemValue) (n : ℕ) (bytes : List ℕ) (f : Fault) → line p bytes ≡ Err f → numbered_line (p, n) bytes ≡ Err (f, n)
 unfolding numbered_line
 fault_line p n bytes f h = rw h refl
 
@@ -58,20 +58,20 @@ first_lines text f n (front, bytes, rest, p, parts, first) =
 
 -- *the whole text*
 
-by_end : (text : List ℕ) (found : Result (Cover × ℕ) (Fault × ℕ)) (f : Fault) (n : ℕ) → lines_read (lines_of text) ≡ found → (found >>= λ s. with_items s.0) ≡ Err (f, n) → IsFirstFault text f n ⊎ ((n ≡ 0) × (f ≡ NoItemLine) × LacksItems text)
+by_end : (text : List ℕ) (found : Result (ProblemValue × ℕ) (Fault × ℕ)) (f : Fault) (n : ℕ) → lines_read (lines_of text) ≡ found → (found >>= λ s. with_items s.0) ≡ Err (f, n) → IsFirstFault text f n ⊎ ((n ≡ 0) × (f ≡ NoItemLine) × LacksItems text)
 by_end text (Err e) f n h g = inl (lines_first text f n (h ∙ same e (f, n) g))
   where
-    same : (d e : Fault × ℕ) → ◌≡◌ {A = Result Cover (Fault × ℕ)} (Err d) (Err e) → ◌≡◌ {A = Result (Cover × ℕ) (Fault × ℕ)} (Err d) (Err e)
+    same : (d e : Fault × ℕ) → ◌≡◌ {A = Result ProblemValue (Fault × ℕ)} (Err d) (Err e) → ◌≡◌ {A = Result (ProblemValue × ℕ) (Fault × ℕ)} (Err d) (Err e)
     same d e h = cc
 by_end text (Ok (p, m)) f n h g = at_end (chosen (nat_lt 0 p.primary) (Ok p) (Err (NoItemLine, 0)) (Err (f, n)) g)
   where
-    no_err : ◌≡◌ {A = Result Cover (Fault × ℕ)} (Ok p) (Err (f, n)) → ⊥
+    no_err : ◌≡◌ {A = Result ProblemValue (Fault × ℕ)} (Ok p) (Err (f, n)) → ⊥
     no_err e = cc
 
-    same : ◌≡◌ {A = Result Cover (Fault × ℕ)} (Err (NoItemLine, 0)) (Err (f, n)) → ◌≡◌ {A = Fault × ℕ} (NoItemLine, 0) (f, n)
+    same : ◌≡◌ {A = Result ProblemValue (Fault × ℕ)} (Err (NoItemLine, 0)) (Err (f, n)) → ◌≡◌ {A = Fault × ℕ} (NoItemLine, 0) (f, n)
     same e = cc
 
-    at_end : ((nat_lt 0 p.primary ≡ true) × (◌≡◌ {A = Result Cover (Fault × ℕ)} (Ok p) (Err (f, n)))) ⊎ ((nat_lt 0 p.primary ≡ false) × (◌≡◌ {A = Result Cover (Fault × ℕ)} (Err (NoItemLine, 0)) (Err (f, n)))) → IsFirstFault text f n ⊎ ((n ≡ 0) × (f ≡ NoItemLine) × LacksItems text)
+    at_end : ((nat_lt 0 p.primary ≡ true) × (◌≡◌ {A = Result ProblemValue (Fault × ℕ)} (Ok p) (Err (f, n)))) ⊎ ((nat_lt 0 p.primary ≡ false) × (◌≡◌ {A = Result ProblemValue (Fault × ℕ)} (Err (NoItemLine, 0)) (Err (f, n)))) → IsFirstFault text f n ⊎ ((n ≡ 0) × (f ≡ NoItemLine) × LacksItems text)
     at_end (inl e) = absurd (no_err e.1)
     at_end (inr e) =
         let l = ltb-false 0 p.primary e.0 in

@@ -6,15 +6,15 @@ use Rattle.std.proofs.lemmas.List.{length-map, length-take, take-append-drop}
 use Rattle.std.proofs.lemmas.List.Sums.{sum_by-append}
 use Rattle.std.proofs.lemmas.List.Folds.{list_all-append}
 use Rattle.text_lines.specs.Lines.{is_empty, is_plain, outside_comment, lines_of}
-use Rattle.text_lines.specs.Writing.{said, are_plain}
+use Rattle.text_lines.specs.Writing.{words_of_line, are_plain}
 use Rattle.text_lines.specs.Each.{each}
 use Rattle.text_lines.proofs.EachLemmas.{each-append}
 use Rattle.cover_problem.specs.declared.fault.Fault.{Fault}
 use Rattle.cover_problem.specs.Lists.{are_distinct}
-use Rattle.cover_problem.specs.Problem.{Cover, IsProblem, is_name, is_item, is_option, are_new, name_at}
-use Rattle.cover_problem.specs.Making.{add_name, within}
+use Rattle.cover_problem.specs.Problem.{ProblemValue, IsProblem, is_name, is_item, is_option, are_new, name_at}
+use Rattle.cover_problem.specs.Validation.{add_name, within}
 use Rattle.cover_problem.specs.Reading.{add_item, nothing, items_line, maybe_line, option_line, words_line, line, numbered_line, lines_read, problem_of}
-use Rattle.cover_problem.specs.Grammar.{maybe_words, option_words, word_lines, said_by, IsCoverText}
+use Rattle.cover_problem.specs.Grammar.{maybe_words, option_words, word_lines, words_by_line, IsCoverText}
 use Rattle.cover_problem.proofs.ProblemLemmas.{each_parts}
 use Rattle.cover_problem.proofs.AgainLemmas.{names_again, items_again, new_front, fits}
 
@@ -24,21 +24,21 @@ no_words : (words : List (List ℕ)) → 0 < length words → is_empty words ≡
 no_words [] h = absurd (omega arith)
 no_words (w ∷ ws) h = refl
 
-items_line_again : (words : List (List ℕ)) (n : ℕ) (p : Cover) → length words ≡ n → is_empty words ≡ false → each add_name [] words ≡ Ok words → within (record { names = words; primary = n; options = [] }) ≡ Ok p → items_line nothing words ≡ Ok p
+items_line_again : (words : List (List ℕ)) (n : ℕ) (p : ProblemValue) → length words ≡ n → is_empty words ≡ false → each add_name [] words ≡ Ok words → within (record { names = words; primary = n; options = [] }) ≡ Ok p → items_line nothing words ≡ Ok p
 unfolding items_line
 items_line_again words n p long full e w =
     let v = subst (λ k. within (record { names = words; primary = k; options = [] }) ≡ Ok p) (sym long) w in
     rw (full, e, v) refl
 
-maybe_line_again : (names words these : List (List ℕ)) (primary : ℕ) (p : Cover) → is_empty words ≡ false → nat_lt primary (length names) ≡ false → (primary == 0) ≡ false → each add_name names words ≡ Ok these → within (record { names = these; primary = primary; options = [] }) ≡ Ok p → maybe_line (record { names = names; primary = primary; options = [] }) words ≡ Ok p
+maybe_line_again : (names words these : List (List ℕ)) (primary : ℕ) (p : ProblemValue) → is_empty words ≡ false → nat_lt primary (length names) ≡ false → (primary == 0) ≡ false → each add_name names words ≡ Ok these → within (record { names = these; primary = primary; options = [] }) ≡ Ok p → maybe_line (record { names = names; primary = primary; options = [] }) words ≡ Ok p
 unfolding maybe_line
 maybe_line_again names words these primary p full all some e w = rw (full, all, some, e, w) refl
 
-option_line_again : (names words options : List (List ℕ)) (option : List ℕ) (primary : ℕ) (p : Cover) → is_empty words ≡ false → (primary == 0) ≡ false → each (add_item names) [] words ≡ Ok option → within (record { names = names; primary = primary; options = options ++ option ∷ [] }) ≡ Ok p → option_line (record { names = names; primary = primary; options = options }) words ≡ Ok p
+option_line_again : (names words options : List (List ℕ)) (option : List ℕ) (primary : ℕ) (p : ProblemValue) → is_empty words ≡ false → (primary == 0) ≡ false → each (add_item names) [] words ≡ Ok option → within (record { names = names; primary = primary; options = options ++ option ∷ [] }) ≡ Ok p → option_line (record { names = names; primary = primary; options = options }) words ≡ Ok p
 unfolding option_line
 option_line_again names words options option primary p full some e w = rw (full, some, e, w) refl
 
-module _ (p : Cover) (g : IsProblem p) where
+module _ (p : ProblemValue) (g : IsProblem p) where
   items : List (List ℕ)
   items = take p.primary p.names
 
@@ -60,7 +60,7 @@ module _ (p : Cover) (g : IsProblem p) where
   new_items = new_front items others (rw all_names g.new)
 
   -- what is read once the names are
-  named : List (List ℕ) → Cover
+  named : List (List ℕ) → ProblemValue
   named names = record { names = names; primary = p.primary; options = [] }
 
   named_small : (names : List (List ℕ)) → length names ≤ length p.names → within (named names) ≡ Ok (named names)
@@ -90,7 +90,7 @@ module _ (p : Cover) (g : IsProblem p) where
   start_again = rw items_again_line (maybe_again_line others refl)
 
   -- what is read once some options are
-  listed : List (List ℕ) → Cover
+  listed : List (List ℕ) → ProblemValue
   listed options = record { names = p.names; primary = p.primary; options = options }
 
   option_again_line : (front : List (List ℕ)) (option : List ℕ) (rest : List (List ℕ)) → front ++ option ∷ rest ≡ p.options → is_option (length p.names) option ≡ true → words_line (listed front) (option_words p.names option) ≡ Ok (listed (front ++ option ∷ []))
@@ -122,44 +122,44 @@ module _ (p : Cover) (g : IsProblem p) where
 
 -- *the lines of a text*
 
-numbered_again : (p q : Cover) (n : ℕ) (bytes : List ℕ) → list_all is_plain (outside_comment bytes) ≡ true → words_line p (said bytes) ≡ Ok q → numbered_line (p, n) bytes ≡ Ok (q, n + 1)
+numbered_again : (p q : ProblemValue) (n : ℕ) (bytes : List ℕ) → list_all is_plain (outside_comment bytes) ≡ true → words_line p (words_of_line bytes) ≡ Ok q → numbered_line (p, n) bytes ≡ Ok (q, n + 1)
 unfolding numbered_line line
 numbered_again p q n bytes plain h = rw (plain, h) refl
 
-blank_again : (p : Cover) (words : List (List ℕ)) → words ≡ [] → words_line p words ≡ Ok p
+blank_again : (p : ProblemValue) (words : List (List ℕ)) → words ≡ [] → words_line p words ≡ Ok p
 unfolding words_line
 blank_again p words e = rw e refl
 
 -- lines that are plain and say what is read are read, whatever number the first has
-each_said : (lines : List (List ℕ)) (p q : Cover) (n : ℕ) → are_plain lines ≡ true → each words_line p (said_by lines) ≡ Ok q → (m : ℕ) × (each numbered_line (p, n) lines ≡ Ok (q, m))
+each_said : (lines : List (List ℕ)) (p q : ProblemValue) (n : ℕ) → are_plain lines ≡ true → each words_line p (words_by_line lines) ≡ Ok q → (m : ℕ) × (each numbered_line (p, n) lines ≡ Ok (q, m))
 unfolding each
 each_said [] p q n plain h = (n, ap (λ s. Ok (s, n)) (same p q h))
   where
-    same : (p q : Cover) → ◌≡◌ {A = Result Cover Fault} (Ok p) (Ok q) → p ≡ q
+    same : (p q : ProblemValue) → ◌≡◌ {A = Result ProblemValue Fault} (Ok p) (Ok q) → p ≡ q
     same p q h = cc
-each_said (bytes ∷ lines) p q n plain h = by_words (λ r. each_said lines r q (n + 1)) (said bytes) refl
+each_said (bytes ∷ lines) p q n plain h = by_words (λ r. each_said lines r q (n + 1)) (words_of_line bytes) refl
   where
     parts : (list_all is_plain (outside_comment bytes) ≡ true) × (are_plain lines ≡ true)
     parts = and_parts (list_all is_plain (outside_comment bytes)) (are_plain lines) plain
 
-    go_on : ((r : Cover) → are_plain lines ≡ true → each words_line r (said_by lines) ≡ Ok q → (m : ℕ) × (each numbered_line (r, n + 1) lines ≡ Ok (q, m))) →
-        (r : Cover) → words_line p (said bytes) ≡ Ok r → each words_line r (said_by lines) ≡ Ok q → (m : ℕ) × (each numbered_line (p, n) (bytes ∷ lines) ≡ Ok (q, m))
+    go_on : ((r : ProblemValue) → are_plain lines ≡ true → each words_line r (words_by_line lines) ≡ Ok q → (m : ℕ) × (each numbered_line (r, n + 1) lines ≡ Ok (q, m))) →
+        (r : ProblemValue) → words_line p (words_of_line bytes) ≡ Ok r → each words_line r (words_by_line lines) ≡ Ok q → (m : ℕ) × (each numbered_line (p, n) (bytes ∷ lines) ≡ Ok (q, m))
     go_on later r a b = let l = later r parts.1 b in (l.0, rw (numbered_again p r n bytes parts.0 a) l.1)
 
-    by_words : ((r : Cover) → are_plain lines ≡ true → each words_line r (said_by lines) ≡ Ok q → (m : ℕ) × (each numbered_line (r, n + 1) lines ≡ Ok (q, m))) →
-        (words : List (List ℕ)) → said bytes ≡ words → (m : ℕ) × (each numbered_line (p, n) (bytes ∷ lines) ≡ Ok (q, m))
-    by_words later [] e = go_on later p (blank_again p (said bytes) e) (rw e at h)
+    by_words : ((r : ProblemValue) → are_plain lines ≡ true → each words_line r (words_by_line lines) ≡ Ok q → (m : ℕ) × (each numbered_line (r, n + 1) lines ≡ Ok (q, m))) →
+        (words : List (List ℕ)) → words_of_line bytes ≡ words → (m : ℕ) × (each numbered_line (p, n) (bytes ∷ lines) ≡ Ok (q, m))
+    by_words later [] e = go_on later p (blank_again p (words_of_line bytes) e) (rw e at h)
     by_words later (w ∷ ws) e =
-        let t = each_parts words_line p (w ∷ ws) (said_by lines) q (rw e at h) in
+        let t = each_parts words_line p (w ∷ ws) (words_by_line lines) q (rw e at h) in
         go_on later t.0 (rw e t.1) t.2
 
-text_end : (text : List ℕ) (p : Cover) (n : ℕ) → lines_read (lines_of text) ≡ Ok (p, n) → 0 < p.primary → problem_of text ≡ Ok p
+text_end : (text : List ℕ) (p : ProblemValue) (n : ℕ) → lines_read (lines_of text) ≡ Ok (p, n) → 0 < p.primary → problem_of text ≡ Ok p
 unfolding problem_of
 text_end text p n h some = rw (h, lt-ltb 0 p.primary some) refl
 
 -- a text of a problem is read as that problem
-pub text_again : (text : List ℕ) (p : Cover) → IsCoverText text p → problem_of text ≡ Ok p
+pub text_again : (text : List ℕ) (p : ProblemValue) → IsCoverText text p → problem_of text ≡ Ok p
 text_again text p t =
-    let e : each words_line nothing (said_by (lines_of text)) ≡ Ok p = rw t.says (lines_again p t.problem) in
+    let e : each words_line nothing (words_by_line (lines_of text)) ≡ Ok p = rw t.says (lines_again p t.problem) in
     let r = each_said (lines_of text) nothing p 1 t.plain e in
     text_end text p r.0 r.1 t.problem.some

@@ -9,8 +9,8 @@ use Rattle.cover_problem.specs.declared.fault.Fault.{Fault}
 use Rattle.cover_problem.specs.declared.fault.Fault.TheVariants.{BadName, UnknownItem, ItemTwiceInOption}
 use Rattle.cover_problem.specs.Lists.{has, are_distinct}
 use Rattle.cover_problem.specs.Problem.{is_name, is_item, name_at, item_named}
-use Rattle.cover_problem.specs.Making.{with_item}
-use Rattle.cover_problem.specs.Reading.{item_of, add_item, known}
+use Rattle.cover_problem.specs.Validation.{with_item}
+use Rattle.cover_problem.specs.Reading.{item_of, add_item, found_or}
 use Rattle.cover_problem.proofs.ProblemLemmas.{ok_is, no_fault, bind_ok, each_none, each_parts, are_distinct_push, all_push, map_push}
 
 -- *what a step that gave something did*
@@ -24,9 +24,9 @@ pub granted : {S : Type 0} (b : Bool) (f : Fault) (r : Result S Fault) (x : S) �
 granted true f r x h = (refl, h)
 granted false f r x h = absurd (no_fault f x h)
 
-known_is : (o : Option ℕ) (i : ℕ) → known o ≡ Ok i → o ≡ Some i
-known_is None i h = absurd (no_fault UnknownItem i h)
-known_is (Some j) i h = ap (λ k. Some k) (ok_is j i h)
+found_or_is : (o : Option ℕ) (i : ℕ) → found_or o ≡ Ok i → o ≡ Some i
+found_or_is None i h = absurd (no_fault UnknownItem i h)
+found_or_is (Some j) i h = ap (λ k. Some k) (ok_is j i h)
 
 some_is : (a b : ℕ) → ◌≡◌ {A = Option ℕ} (Some a) (Some b) → a ≡ b
 some_is a b h = cc
@@ -43,7 +43,7 @@ one_more (Some j) i h = (j, refl, sym (some_is (j + 1) i h))
 -- the item of a name has that name
 item_is : (names : List (List ℕ)) (word : List ℕ) (i : ℕ) → item_of names word ≡ Ok i → (is_item (length names) i ≡ true) × (name_at names i ≡ word)
 unfolding item_of
-item_is names word i h = step (one_more (position (bytes_eq word) names) i (known_is (item_named names word) i (granted (is_name word) BadName (known (item_named names word)) i h).1))
+item_is names word i h = step (one_more (position (bytes_eq word) names) i (found_or_is (item_named names word) i (granted (is_name word) BadName (found_or (item_named names word)) i h).1))
   where
     step : (j : ℕ) × (position (bytes_eq word) names ≡ Some j) × (i ≡ j + 1) → (is_item (length names) i ≡ true) × (name_at names i ≡ word)
     step (j, e, more) =

@@ -12,13 +12,13 @@ use Rattle.std.proofs.lemmas.Str.{IsUtf8-from_ascii}
 use Rattle.cover_problem.specs.declared.fault.Fault.{Fault}
 use Rattle.cover_problem.specs.declared.fault.Fault.TheVariants.{BadName, RepeatedItem, UnknownItem, ItemTwiceInOption, TooLarge, NoItemLine, BadLine}
 use Rattle.cover_problem.specs.Lists.{has, are_distinct}
-use Rattle.cover_problem.specs.Marks.{AreMarks}
-use Rattle.cover_problem.specs.Problem.{Cover, IsProblem, is_name, is_name_byte, is_item, is_option, is_small, are_new, is_same}
+use Rattle.cover_problem.specs.Stamps.{AreStamps}
+use Rattle.cover_problem.specs.Problem.{ProblemValue, IsProblem, is_name, is_name_byte, is_item, is_option, is_small, are_new, is_same}
 use Rattle.text_lines.specs.Each.{each, ◌>>=◌}
 use Rattle.text_lines.proofs.EachLemmas.{each_goes, each_stops, each_ends}
 use Rattle.cover_problem.specs.declared.fault.ProblemFault.{ProblemFault}
 use Rattle.cover_problem.specs.declared.fault.ProblemFault.TheVariants as faults
-use Rattle.cover_problem.specs.Making.{IsFaultOf, add_name, add_number, with_item, option_from, add_option, made, within}
+use Rattle.cover_problem.specs.Validation.{IsFaultOf, add_name, add_number, with_item, option_from, add_option, problem_from, within}
 
 pub map_push : {X Y : Type 0} (f : X → Y) (xs : List X) (x : X) → map f (xs ++ x ∷ []) ≡ map f xs ++ f x ∷ []
 map_push f [] x = refl
@@ -139,7 +139,7 @@ pub chosen : {A : Type 0} (b : Bool) (x y z : A) → cond b x y ≡ z → ((b �
 chosen true x y z h = inl (refl, h)
 chosen false x y z h = inr (refl, h)
 
-pub unmarked : (stamp : ℕ) (marks : List ℕ) → All (λ mark. mark < stamp) marks → AreMarks stamp [] marks
+pub unmarked : (stamp : ℕ) (marks : List ℕ) → All (λ mark. mark < stamp) marks → AreStamps stamp [] marks
 unmarked stamp marks h = record {
   low = λ i l. let e = h i 0 l in omega arith;
   taken = λ i l. let e = h i 0 l in ne_eqb _ _ (λ f. omega arith);
@@ -165,7 +165,7 @@ has_push_other xs x y n = list_any-append (λ z. z == y) xs (x ∷ []) ∙ ap (�
 pub drop_end : (xs : List ℕ) (n : ℕ) → length xs ≤ n → drop n xs ≡ []
 drop_end xs n h = drop_of_length-le xs h
 
-module _ (n stamp place : ℕ) (marks numbers : List ℕ) (all : Result (List ℕ) Fault) (long : length marks ≡ n) (so_far : each (add_number n) (take place numbers) (drop place numbers) ≡ all) (marked : AreMarks stamp (take place numbers) marks) (more : place < length numbers) where
+module _ (n stamp place : ℕ) (marks numbers : List ℕ) (all : Result (List ℕ) Fault) (long : length marks ≡ n) (so_far : each (add_number n) (take place numbers) (drop place numbers) ≡ all) (marked : AreStamps stamp (take place numbers) marks) (more : place < length numbers) where
   pub stops_unknown : (get_or numbers place 0 ≡ 0) ⊎ (n < get_or numbers place 0) → all ≡ Err UnknownItem
   stops_unknown h = each_stops (add_number n) (take place numbers) (drop place numbers) all so_far (get_or numbers place 0) (drop (suc place) numbers) UnknownItem (drop-cons numbers place 0 more) (unknown n (take place numbers) (get_or numbers place 0) (is_item_no n (get_or numbers place 0) h))
 
@@ -194,7 +194,7 @@ module _ (n stamp place : ℕ) (marks numbers : List ℕ) (all : Result (List �
         let low = marked.low i l in
         (omega arith, ap (λ m. m == stamp) f ∙ marked.taken i l ∙ sym (has_push_other (take place numbers) (get_or numbers place 0) (suc i) g))
 
-    pub stamped : AreMarks stamp (take (place + 1) numbers) (set marks (get_or numbers place 0 - 1) stamp)
+    pub stamped : AreStamps stamp (take (place + 1) numbers) (set marks (get_or numbers place 0 - 1) stamp)
     stamped = rw (add-one place, take-suc numbers place 0 more) (record {
       low = λ i l. (taken_at i (simp length-set at l) (cases_eq i (get_or numbers place 0 - 1))).0;
       taken = λ i l. (taken_at i (simp length-set at l) (cases_eq i (get_or numbers place 0 - 1))).1;
@@ -244,27 +244,27 @@ module _ {X : Type 0} (items : X → List ℕ) (xs : List X) (i left most : ℕ)
 -- the problem, or the first fault
 
 module _ (names : List (List ℕ)) (primary : ℕ) (options : List (List ℕ)) where
-  pub no_items : is_item (length names) primary ≡ false → made names primary options ≡ Err NoItemLine
-  unfolding made
+  pub no_items : is_item (length names) primary ≡ false → problem_from names primary options ≡ Err NoItemLine
+  unfolding problem_from
   no_items h = rw h refl
 
   module _ (some : is_item (length names) primary ≡ true) where
-    pub names_stop : (f : Fault) → each add_name [] names ≡ Err f → made names primary options ≡ Err f
-    unfolding made
+    pub names_stop : (f : Fault) → each add_name [] names ≡ Err f → problem_from names primary options ≡ Err f
+    unfolding problem_from
     names_stop f h = rw (some, h) refl
 
     module _ (these : List (List ℕ)) (named : each add_name [] names ≡ Ok these) where
-      pub options_refused : (f : Fault) → each (add_option (length names)) [] options ≡ Err f → made names primary options ≡ Err f
-      unfolding made
+      pub options_refused : (f : Fault) → each (add_option (length names)) [] options ≡ Err f → problem_from names primary options ≡ Err f
+      unfolding problem_from
       options_refused f h = rw (some, named, h) refl
 
       module _ (those : List (List ℕ)) (listed : each (add_option (length names)) [] options ≡ Ok those) where
-        pub too_large : is_small (record { names = these; primary = primary; options = those }) ≡ false → made names primary options ≡ Err TooLarge
-        unfolding made
+        pub too_large : is_small (record { names = these; primary = primary; options = those }) ≡ false → problem_from names primary options ≡ Err TooLarge
+        unfolding problem_from
         too_large h = rw (some, named, listed, h) refl
 
-        pub all_made : is_small (record { names = these; primary = primary; options = those }) ≡ true → made names primary options ≡ Ok (record { names = these; primary = primary; options = those })
-        unfolding made
+        pub all_made : is_small (record { names = these; primary = primary; options = those }) ≡ true → problem_from names primary options ≡ Ok (record { names = these; primary = primary; options = those })
+        unfolding problem_from
         all_made h = rw (some, named, listed, h) refl
 
 pub ok_is : {S F : Type 0} (x y : S) → ◌≡◌ {A = Result S F} (Ok x) (Ok y) → x ≡ y
@@ -377,19 +377,19 @@ options_are n acc (numbers ∷ options) those h a = step (λ t. options_are n t 
 pub no_fault : {S : Type 0} (f : Fault) (x : S) → ◌≡◌ {A = Result S Fault} (Err f) (Ok x) → ⊥
 no_fault f x e = cc
 
-pub within_parts : (p q : Cover) → within p ≡ Ok q → (is_small p ≡ true) × (p ≡ q)
+pub within_parts : (p q : ProblemValue) → within p ≡ Ok q → (is_small p ≡ true) × (p ≡ q)
 within_parts p q h = by_size (chosen (is_small p) (Ok p) (Err TooLarge) (Ok q) h)
   where
-    by_size : ((is_small p ≡ true) × (◌≡◌ {A = Result Cover Fault} (Ok p) (Ok q))) ⊎ ((is_small p ≡ false) × (◌≡◌ {A = Result Cover Fault} (Err TooLarge) (Ok q))) → (is_small p ≡ true) × (p ≡ q)
+    by_size : ((is_small p ≡ true) × (◌≡◌ {A = Result ProblemValue Fault} (Ok p) (Ok q))) ⊎ ((is_small p ≡ false) × (◌≡◌ {A = Result ProblemValue Fault} (Err TooLarge) (Ok q))) → (is_small p ≡ true) × (p ≡ q)
     by_size (inl h) = (h.0, ok_is p q h.1)
     by_size (inr h) = absurd (no_fault TooLarge q h.1)
 
-after_names : ℕ → ℕ → List (List ℕ) → List (List ℕ) → Result Cover Fault
+after_names : ℕ → ℕ → List (List ℕ) → List (List ℕ) → Result ProblemValue Fault
 after_names n primary options these = each (add_option n) [] options >>= λ those. within (record { names = these; primary = primary; options = those })
 
-made_parts : (names : List (List ℕ)) (primary : ℕ) (options : List (List ℕ)) (p : Cover) → made names primary options ≡ Ok p →
+made_parts : (names : List (List ℕ)) (primary : ℕ) (options : List (List ℕ)) (p : ProblemValue) → problem_from names primary options ≡ Ok p →
     (is_item (length names) primary ≡ true) × ((these : List (List ℕ)) × (each add_name [] names ≡ Ok these) × ((those : List (List ℕ)) × (each (add_option (length names)) [] options ≡ Ok those) × (within (record { names = these; primary = primary; options = those }) ≡ Ok p)))
-unfolding made
+unfolding problem_from
 made_parts names primary options p h = by_items (chosen (not (is_item (length names) primary)) (Err NoItemLine) (each add_name [] names >>= λ these. each (add_option (length names)) [] options >>= λ those. within (record { names = these; primary = primary; options = those })) (Ok p) h)
   where
     by_options : (these : List (List ℕ)) → (each (add_option (length names)) [] options >>= λ those. within (record { names = these; primary = primary; options = those })) ≡ Ok p → (those : List (List ℕ)) × (each (add_option (length names)) [] options ≡ Ok those) × (within (record { names = these; primary = primary; options = those }) ≡ Ok p)
@@ -398,13 +398,13 @@ made_parts names primary options p h = by_items (chosen (not (is_item (length na
     by_names : (these : List (List ℕ)) × (each add_name [] names ≡ Ok these) × ((each (add_option (length names)) [] options >>= λ those. within (record { names = these; primary = primary; options = those })) ≡ Ok p) → (these : List (List ℕ)) × (each add_name [] names ≡ Ok these) × ((those : List (List ℕ)) × (each (add_option (length names)) [] options ≡ Ok those) × (within (record { names = these; primary = primary; options = those }) ≡ Ok p))
     by_names (these, a, b) = (these, a, by_options these b)
 
-    by_items : ((not (is_item (length names) primary) ≡ true) × (◌≡◌ {A = Result Cover Fault} (Err NoItemLine) (Ok p))) ⊎ ((not (is_item (length names) primary) ≡ false) × ((each add_name [] names >>= λ these. each (add_option (length names)) [] options >>= λ those. within (record { names = these; primary = primary; options = those })) ≡ Ok p)) →
+    by_items : ((not (is_item (length names) primary) ≡ true) × (◌≡◌ {A = Result ProblemValue Fault} (Err NoItemLine) (Ok p))) ⊎ ((not (is_item (length names) primary) ≡ false) × ((each add_name [] names >>= λ these. each (add_option (length names)) [] options >>= λ those. within (record { names = these; primary = primary; options = those })) ≡ Ok p)) →
         (is_item (length names) primary ≡ true) × ((these : List (List ℕ)) × (each add_name [] names ≡ Ok these) × ((those : List (List ℕ)) × (each (add_option (length names)) [] options ≡ Ok those) × (within (record { names = these; primary = primary; options = those }) ≡ Ok p)))
     by_items (inl q) = absurd (no_fault NoItemLine p q.1)
     by_items (inr q) = (not-false _ q.0, by_names (bind_ok (each add_name [] names) (λ these. each (add_option (length names)) [] options >>= λ those. within (record { names = these; primary = primary; options = those })) p q.1))
 
 -- what is made is what was given, and a problem
-pub made_is : (names : List (List ℕ)) (primary : ℕ) (options : List (List ℕ)) (p : Cover) → made names primary options ≡ Ok p → (p ≡ record { names = names; primary = primary; options = options }) × IsProblem p
+pub made_is : (names : List (List ℕ)) (primary : ℕ) (options : List (List ℕ)) (p : ProblemValue) → problem_from names primary options ≡ Ok p → (p ≡ record { names = names; primary = primary; options = options }) × IsProblem p
 made_is names primary options p h = step (made_parts names primary options p h)
   where
     step : (is_item (length names) primary ≡ true) × ((these : List (List ℕ)) × (each add_name [] names ≡ Ok these) × ((those : List (List ℕ)) × (each (add_option (length names)) [] options ≡ Ok those) × (within (record { names = these; primary = primary; options = those }) ≡ Ok p))) → (p ≡ record { names = names; primary = primary; options = options }) × IsProblem p
@@ -441,10 +441,10 @@ pointwise_map f [] (y ∷ ys) = refl
 pointwise_map f (x ∷ xs) [] = refl
 pointwise_map f (x ∷ xs) (y ∷ ys) = ap (λ b. bytes_eq (f x) (f y) && b) (pointwise_map f xs ys)
 
-same_parts : (p q : Cover) → p.names ≡ q.names → p.primary ≡ q.primary → p.options ≡ q.options → p ≡ q
+same_parts : (p q : ProblemValue) → p.names ≡ q.names → p.primary ≡ q.primary → p.options ≡ q.options → p ≡ q
 same_parts p q a b c = λ i. record { names = a i; primary = b i; options = c i }
 
-pub is_same_decides : (p q : Cover) → (is_same p q ≡ true → p ≡ q) × (p ≡ q → is_same p q ≡ true)
+pub is_same_decides : (p q : ProblemValue) → (is_same p q ≡ true → p ≡ q) × (p ≡ q → is_same p q ≡ true)
 is_same_decides p q = (equal, test)
   where
     lists : (xs ys : List (List ℕ)) → Decides (pointwise bytes_eq xs ys) (xs ≡ ys)
@@ -485,7 +485,7 @@ none_so_long text (name ∷ names) l h =
 pub too_long : (text : List ℕ) (names : List (List ℕ)) → 8 < length text → list_all is_name names ≡ true → position (bytes_eq text) names ≡ None
 too_long text names l h = rw (passes_nowhere (bytes_eq text) names (none_so_long text names l h), le-ltb (length names) (length names) (le_refl (length names))) refl
 
-pub when_test : (p q : Cover) (b : Bool) → b ≡ is_same p q → (b ≡ true → p ≡ q) × (p ≡ q → b ≡ true)
+pub when_test : (p q : ProblemValue) (b : Bool) → b ≡ is_same p q → (b ≡ true → p ≡ q) × (p ≡ q → b ≡ true)
 when_test p q b e = let d = is_same_decides p q in (λ h. d.0 (sym e ∙ h), λ h. e ∙ d.1 h)
 
 some_is : {X : Type 0} (x y : X) → ◌≡◌ {A = Option X} (Some x) (Some y) → y ≡ x
@@ -569,14 +569,14 @@ options_again n acc (option ∷ options) a =
     each_step (add_option n) acc (acc ++ option ∷ []) option options (option_added n acc option (option_again n option p.0))
     ∙ rw e at (options_again n (acc ++ option ∷ []) options p.1)
 
-pub made_again : (p : Cover) → IsProblem p → made p.names p.primary p.options ≡ Ok p
+pub made_again : (p : ProblemValue) → IsProblem p → problem_from p.names p.primary p.options ≡ Ok p
 made_again p sound =
     all_made p.names p.primary p.options (and_from (nat_lt 0 p.primary) (nat_le p.primary (length p.names)) (lt-ltb 0 p.primary sound.some) (le-leb p.primary (length p.names) sound.within))
     p.names (names_again [] p.names sound.named sound.new) p.options (options_again (length p.names) [] p.options sound.options_are) sound.small
 
-made_given : (names : List (List ℕ)) (primary : ℕ) (options : List (List ℕ)) (p : Cover) → (p ≡ record { names = names; primary = primary; options = options }) × IsProblem p → made names primary options ≡ Ok p
+made_given : (names : List (List ℕ)) (primary : ℕ) (options : List (List ℕ)) (p : ProblemValue) → (p ≡ record { names = names; primary = primary; options = options }) × IsProblem p → problem_from names primary options ≡ Ok p
 made_given names primary options p h =
-    sym (ap (λ (q : Cover). made q.names q.primary q.options) h.0) ∙ made_again p h.1
+    sym (ap (λ (q : ProblemValue). problem_from q.names q.primary q.options) h.0) ∙ made_again p h.1
 
-pub made_exactly : (names : List (List ℕ)) (primary : ℕ) (options : List (List ℕ)) (p : Cover) → (made names primary options ≡ Ok p → (p ≡ record { names = names; primary = primary; options = options }) × IsProblem p) × ((p ≡ record { names = names; primary = primary; options = options }) × IsProblem p → made names primary options ≡ Ok p)
+pub made_exactly : (names : List (List ℕ)) (primary : ℕ) (options : List (List ℕ)) (p : ProblemValue) → (problem_from names primary options ≡ Ok p → (p ≡ record { names = names; primary = primary; options = options }) × IsProblem p) × ((p ≡ record { names = names; primary = primary; options = options }) × IsProblem p → problem_from names primary options ≡ Ok p)
 made_exactly names primary options p = (made_is names primary options p, made_given names primary options p)

@@ -2,7 +2,7 @@
 use Rattle.std.proofs.Common.{◌≡◌, [], ◌∷◌, ◌++◌, Ok, Err, codes, refl}
 use Rattle.text_lines.specs.Each.{each}
 use Rattle.cover_problem.specs.declared.fault.Fault.TheVariants.{BadName, RepeatedItem, UnknownItem, ItemTwiceInOption, NoItemLine, BadLine}
-use Rattle.cover_problem.specs.Making.{add_name}
+use Rattle.cover_problem.specs.Validation.{add_name}
 use Rattle.cover_problem.specs.Reading.{problem_of, numbered_line, line, words_line, items_line, maybe_line, option_line, add_item, item_of}
 
 twice : problem_of (codes "items a" ++ 10 ∷ codes "option a a") ≡ Err (ItemTwiceInOption, 2)

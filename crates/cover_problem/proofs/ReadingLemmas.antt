@@ -9,8 +9,8 @@ use Rattle.cover_problem.specs.declared.fault.ProblemFault.{ProblemFault}
 use Rattle.cover_problem.specs.declared.fault.ProblemFault.TheVariants as problem_faults
 use Rattle.cover_problem.specs.declared.fault.CoverFault.{CoverFault}
 use Rattle.cover_problem.specs.declared.fault.CoverFault.TheVariants as cover_faults
-use Rattle.cover_problem.specs.Problem.{Cover, is_name, is_small}
-use Rattle.cover_problem.specs.Making.{add_name, within, IsFaultOf}
+use Rattle.cover_problem.specs.Problem.{ProblemValue, is_name, is_small}
+use Rattle.cover_problem.specs.Validation.{add_name, within, IsFaultOf}
 use Rattle.cover_problem.specs.Reading.{item_of, line, at_line, numbered_line, lines_read, problem_of, fault_at, IsFaultAt}
 use Rattle.cover_problem.proofs.ProblemLemmas.{place_is, each_none, each_parts, added_is}
 
@@ -27,10 +27,10 @@ module _ {X : Type 0} (text : X → List ℕ) (keys : List X) (key : X) (word : 
 
 -- *the limits*
 
-pub within_limits : (p : Cover) → is_small p ≡ true → within p ≡ Ok p
+pub within_limits : (p : ProblemValue) → is_small p ≡ true → within p ≡ Ok p
 within_limits p h = rw h refl
 
-pub over_limits : (p : Cover) → is_small p ≡ false → within p ≡ Err TooLarge
+pub over_limits : (p : ProblemValue) → is_small p ≡ false → within p ≡ Err TooLarge
 over_limits p h = rw h refl
 
 -- *names*
@@ -49,27 +49,27 @@ names_grow acc (w ∷ words) these h = step (names_grow (acc ++ w ∷ []) words 
 
 -- *a line of a text, and its end*
 
-line_found : (p : Cover) (n : ℕ) (bytes : List ℕ) (found : Result Cover Fault) → line p bytes ≡ found → numbered_line (p, n) bytes ≡ at_line n found
+line_found : (p : ProblemValue) (n : ℕ) (bytes : List ℕ) (found : Result ProblemValue Fault) → line p bytes ≡ found → numbered_line (p, n) bytes ≡ at_line n found
 unfolding numbered_line
 line_found p n bytes found e = ap (at_line n) e
 
 -- a loop over the lines that has come to the line numbered n
-module _ (p : Cover) (n : ℕ) (lines : List (List ℕ)) (all : Result (Cover × ℕ) (Fault × ℕ)) (so_far : each numbered_line (p, n) lines ≡ all) (bytes : List ℕ) (more : List (List ℕ)) (first : lines ≡ bytes ∷ more) where
-  pub line_goes : (q : Cover) → line p bytes ≡ Ok q → each numbered_line (q, n + 1) more ≡ all
+module _ (p : ProblemValue) (n : ℕ) (lines : List (List ℕ)) (all : Result (ProblemValue × ℕ) (Fault × ℕ)) (so_far : each numbered_line (p, n) lines ≡ all) (bytes : List ℕ) (more : List (List ℕ)) (first : lines ≡ bytes ∷ more) where
+  pub line_goes : (q : ProblemValue) → line p bytes ≡ Ok q → each numbered_line (q, n + 1) more ≡ all
   line_goes q h = each_goes numbered_line (p, n) lines all so_far bytes more (q, n + 1) first (line_found p n bytes (Ok q) h)
 
   pub line_stops : (f : ProblemFault) → IsFaultOf f (line p bytes) → IsFaultAt (fault_at n f) all
   line_stops (problem_faults.Fault f) h = each_stops numbered_line (p, n) lines all so_far bytes more (f, n) first (line_found p n bytes (Err f) h)
   line_stops problem_faults.OutOfMemory h = tt
 
-pub lines_end : (p : Cover) (n : ℕ) (lines : List (List ℕ)) (all : Result (Cover × ℕ) (Fault × ℕ)) → each numbered_line (p, n) lines ≡ all → lines ≡ [] → all ≡ Ok (p, n)
+pub lines_end : (p : ProblemValue) (n : ℕ) (lines : List (List ℕ)) (all : Result (ProblemValue × ℕ) (Fault × ℕ)) → each numbered_line (p, n) lines ≡ all → lines ≡ [] → all ≡ Ok (p, n)
 lines_end p n lines all so_far e = each_ends numbered_line (p, n) lines all so_far e
 
 no_lines : (rest : List ℕ) → length rest ≡ 0 → lines_of rest ≡ []
 no_lines [] h = refl
 no_lines (b ∷ bs) h = absurd (omega arith)
 
-pub text_ends : (p : Cover) (n : ℕ) (rest : List ℕ) (all : Result (Cover × ℕ) (Fault × ℕ)) → each numbered_line (p, n) (lines_of rest) ≡ all → length rest ≡ 0 → all ≡ Ok (p, n)
+pub text_ends : (p : ProblemValue) (n : ℕ) (rest : List ℕ) (all : Result (ProblemValue × ℕ) (Fault × ℕ)) → each numbered_line (p, n) (lines_of rest) ≡ all → length rest ≡ 0 → all ≡ Ok (p, n)
 text_ends p n rest all so_far none = lines_end p n (lines_of rest) all so_far (no_lines rest none)
 
 -- *the whole text*
@@ -80,7 +80,7 @@ module _ (text : List ℕ) where
   text_refused (cover_faults.Fault f n) h = rw h refl
   text_refused cover_faults.OutOfMemory h = tt
 
-  module _ (p : Cover) (n : ℕ) (read : lines_read (lines_of text) ≡ Ok (p, n)) where
+  module _ (p : ProblemValue) (n : ℕ) (read : lines_read (lines_of text) ≡ Ok (p, n)) where
     pub text_read : nat_lt 0 p.primary ≡ true → problem_of text ≡ Ok p
     unfolding problem_of
     text_read some = rw (read, some) refl

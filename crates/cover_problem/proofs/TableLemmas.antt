@@ -8,9 +8,9 @@ use Rattle.std.proofs.lemmas.List.Sums.{AllPass-from_list_all, prefix_len-le-len
 use Rattle.std.proofs.lemmas.List.Elements.{All-filter}
 use Rattle.std.proofs.lemmas.List.Folds.{position_or_len_push}
 use Rattle.cover_problem.specs.Lists.{has, are_distinct, numbers, RisesFrom, above, below, last_of}
-use Rattle.cover_problem.specs.Problem.{Cover, IsProblem, is_item, is_option, size_of}
-use Rattle.cover_problem.specs.Covering.{active, uncovered, is_left, remaining, list_of}
-use Rattle.cover_problem.specs.Table.{AreCovered, Standing}
+use Rattle.cover_problem.specs.Problem.{ProblemValue, IsProblem, is_item, is_option, size_of}
+use Rattle.cover_problem.specs.Covering.{active, uncovered, is_remaining, remaining, list_of}
+use Rattle.cover_problem.specs.Table.{IsCoveredList, TableValue}
 use Rattle.cover_problem.specs.Plain.{holding, holders_of, time_of, times_of, is_in, was_in, IsPlain, IsNoted}
 use Rattle.std.proofs.Math.Seq.{get_or-append_seam}
 use Rattle.std.proofs.Math.ListN.{get_or-append}
@@ -372,17 +372,17 @@ filter_and a b (x ∷ xs) = by (a x) (filter_and a b xs)
     by true ih = ap (λ ys. cond (b x) (x ∷ ys) ys) ih
     by false ih = ih
 
-option_here : (p : Cover) → IsProblem p → (k : ℕ) → 1 ≤ k → k < 1 + length p.options → is_option (length p.names) (get_or p.options (k - 1) []) ≡ true
+option_here : (p : ProblemValue) → IsProblem p → (k : ℕ) → 1 ≤ k → k < 1 + length p.options → is_option (length p.names) (get_or p.options (k - 1) []) ≡ true
 option_here p sound k a b = AllPass-from_list_all (is_option (length p.names)) p.options sound.options_are (k - 1) [] (omega arith)
 
-pub covered_short : (p : Cover) (c : List ℕ) → IsProblem p → AreCovered p c → (length c ≤ length p.names) × (length p.names ≤ 65535) × (length p.options ≤ 262143)
+pub covered_short : (p : ProblemValue) (c : List ℕ) → IsProblem p → IsCoveredList p c → (length c ≤ length p.names) × (length p.names ≤ 65535) × (length p.options ≤ 262143)
 covered_short p c sound cov =
     let a = and_parts (nat_le (length p.names) 65535 && nat_le (length p.options) 262143) (nat_le (size_of p) 8388608) sound.small in
     let b = and_parts (nat_le (length p.names) 65535) (nat_le (length p.options) 262143) a.0 in
     let w = cov.whole in
     (omega arith, leb-true (length p.names) 65535 b.0, leb-true (length p.options) 262143 b.1)
 
-module _ (never : ℕ) (p : Cover) (c : List ℕ) (sound : IsProblem p) (short : length c < never) where
+module _ (never : ℕ) (p : ProblemValue) (c : List ℕ) (sound : IsProblem p) (short : length c < never) where
   pub list_is : (j : ℕ) → list_of p c j ≡ filter (is_in p.options (times_of never (length p.names) c) (time_of never c j)) (holding p.options j)
   unfolding list_of remaining
   list_is j =
@@ -399,10 +399,10 @@ module _ (never : ℕ) (p : Cover) (c : List ℕ) (sound : IsProblem p) (short :
 
 -- the fields of a table
 
-pub plain_at : {pr : ℕ} {os hs : List (List ℕ)} {ts : List ℕ} {never room : ℕ} {s t : Standing} → s ≡ t → IsPlain s.subject pr os hs s.covered ts never room → IsPlain t.subject pr os hs t.covered ts never room
-plain_at {pr} {os} {hs} {ts} {never} {room} e h = subst (λ u. IsPlain u.subject pr os hs u.covered ts never room) e h
+pub plain_at : {pr : ℕ} {os hs : List (List ℕ)} {ts : List ℕ} {never room : ℕ} {s t : TableValue} → s ≡ t → IsPlain s.problem pr os hs s.covered ts never room → IsPlain t.problem pr os hs t.covered ts never room
+plain_at {pr} {os} {hs} {ts} {never} {room} e h = subst (λ u. IsPlain u.problem pr os hs u.covered ts never room) e h
 
-module _ {p : Cover} {pr : ℕ} {os hs : List (List ℕ)} {c ts : List ℕ} {never room : ℕ} (h : IsPlain p pr os hs c ts never room) where
+module _ {p : ProblemValue} {pr : ℕ} {os hs : List (List ℕ)} {c ts : List ℕ} {never room : ℕ} (h : IsPlain p pr os hs c ts never room) where
   pub holders_long : length hs ≡ length p.names
   holders_long = ap length h.holders_are ∙ length-map (numbers (length p.names) 1) (holding p.options) ∙ length_numbers (length p.names) 1
 
@@ -415,15 +415,15 @@ module _ {p : Cover} {pr : ℕ} {os hs : List (List ℕ)} {c ts : List ℕ} {nev
   pub time_is : (i e : ℕ) → 0 < i → i ≤ length p.names → get_or ts (i - 1) e ≡ time_of never c i
   time_is i e a b = ap (λ xs. get_or xs (i - 1) e) h.times_are ∙ item_at (time_of never c) (length p.names) i e a b
 
-same_test : (never : ℕ) (t : Standing) (os : List (List ℕ)) (ts : List ℕ) (time : ℕ) → os ≡ t.subject.options → ts ≡ times_of never (length t.subject.names) t.covered → is_in os ts time ≡ was_in never t time
+same_test : (never : ℕ) (t : TableValue) (os : List (List ℕ)) (ts : List ℕ) (time : ℕ) → os ≡ t.problem.options → ts ≡ times_of never (length t.problem.names) t.covered → is_in os ts time ≡ was_in never t time
 unfolding was_in
 same_test never t os ts time a b = ap₂ (λ (o : List (List ℕ)) (x : List ℕ). is_in o x time) a b
 
 -- the test of a table, by its fields
-pub was_is : {pr : ℕ} {os hs : List (List ℕ)} {ts : List ℕ} {never room : ℕ} {s t : Standing} → s ≡ t → IsPlain s.subject pr os hs s.covered ts never room → (time : ℕ) → is_in os ts time ≡ was_in never t time
+pub was_is : {pr : ℕ} {os hs : List (List ℕ)} {ts : List ℕ} {never room : ℕ} {s t : TableValue} → s ≡ t → IsPlain s.problem pr os hs s.covered ts never room → (time : ℕ) → is_in os ts time ≡ was_in never t time
 was_is {pr} {os} {hs} {ts} {never} {room} {s} {t} e h time = let i = plain_at e h in same_test never t os ts time i.options_are i.times_are
 
-pub items_fit : {X : Type 0} (items : X → List ℕ) (xs : List X) {p : Cover} {pr : ℕ} {hs : List (List ℕ)} {c ts : List ℕ} {never room : ℕ} → IsPlain p pr (map items xs) hs c ts never room → All (λ o. All (λ i. (0 < i) × (i ≤ length ts)) (items o)) xs
+pub items_fit : {X : Type 0} (items : X → List ℕ) (xs : List X) {p : ProblemValue} {pr : ℕ} {hs : List (List ℕ)} {c ts : List ℕ} {never room : ℕ} → IsPlain p pr (map items xs) hs c ts never room → All (λ o. All (λ i. (0 < i) × (i ≤ length ts)) (items o)) xs
 items_fit items xs {p} {pr} {hs} {c} {ts} h k d l m e n =
     let long : length ts ≡ length p.names = times_long h in
     let all : list_all (is_option (length p.names)) (map items xs) ≡ true = rw h.options_are h.sound.options_are in
@@ -439,36 +439,36 @@ numbers_all P (suc n) k h zero d l = h k (le_refl k) (omega arith)
 numbers_all P (suc n) k h (suc m) d l = numbers_all P n (suc k) (λ x a b. h x (omega arith) (omega arith)) m d (omega arith)
 
 -- the options that have an item, and those of them that are left
-module _ (t : Standing) (j : ℕ) (holders : List ℕ) (are : holders ≡ holding t.subject.options j) where
-  pub holders_within : All (λ k. (0 < k) × (k ≤ length t.subject.options)) holders
-  holders_within = subst (λ xs. All (λ k. (0 < k) × (k ≤ length t.subject.options)) xs) (sym are)
-      (All-filter (λ k. has (get_or t.subject.options (k - 1) []) j) (λ k. (0 < k) × (k ≤ length t.subject.options)) (numbers (length t.subject.options) 1)
-      (numbers_all (λ k. (0 < k) × (k ≤ length t.subject.options)) (length t.subject.options) 1 (λ x a b. (omega arith, omega arith))))
+module _ (t : TableValue) (j : ℕ) (holders : List ℕ) (are : holders ≡ holding t.problem.options j) where
+  pub holders_within : All (λ k. (0 < k) × (k ≤ length t.problem.options)) holders
+  holders_within = subst (λ xs. All (λ k. (0 < k) × (k ≤ length t.problem.options)) xs) (sym are)
+      (All-filter (λ k. has (get_or t.problem.options (k - 1) []) j) (λ k. (0 < k) × (k ≤ length t.problem.options)) (numbers (length t.problem.options) 1)
+      (numbers_all (λ k. (0 < k) × (k ≤ length t.problem.options)) (length t.problem.options) 1 (λ x a b. (omega arith, omega arith))))
 
   pub holders_rise : RisesFrom 1 holders
-  holders_rise = subst (λ xs. RisesFrom 1 xs) (sym are) (rises_filter (λ k. has (get_or t.subject.options (k - 1) []) j) (length t.subject.options) 1)
+  holders_rise = subst (λ xs. RisesFrom 1 xs) (sym are) (rises_filter (λ k. has (get_or t.problem.options (k - 1) []) j) (length t.problem.options) 1)
 
-  module _ (never time : ℕ) (sound : IsProblem t.subject) (cov : AreCovered t.subject t.covered) (late : 65535 < never) (at : time ≡ time_of never t.covered j) where
-    pub list_from : filter (was_in never t time) holders ≡ list_of t.subject t.covered j
+  module _ (never time : ℕ) (sound : IsProblem t.problem) (cov : IsCoveredList t.problem t.covered) (late : 65535 < never) (at : time ≡ time_of never t.covered j) where
+    pub list_from : filter (was_in never t time) holders ≡ list_of t.problem t.covered j
     unfolding was_in
     list_from =
-        let s = covered_short t.subject t.covered sound cov in
+        let s = covered_short t.problem t.covered sound cov in
         let short : length t.covered < never = let a = s.0 in let b = s.1 in omega arith in
-        rw (are, at) (sym (list_is never t.subject t.covered sound short j))
+        rw (are, at) (sym (list_is never t.problem t.covered sound short j))
 
-    pub count_from : length (filter (was_in never t time) holders) ≡ length (list_of t.subject t.covered j)
+    pub count_from : length (filter (was_in never t time) holders) ≡ length (list_of t.problem t.covered j)
     count_from = ap (λ xs. length xs) list_from
 
-    pub first_from : find (was_in never t time) holders ≡ above 0 (list_of t.subject t.covered j)
+    pub first_from : find (was_in never t time) holders ≡ above 0 (list_of t.problem t.covered j)
     first_from = first_above (was_in never t time) 0 1 holders holders_rise (omega arith) ∙ ap (λ xs. above 0 xs) list_from
 
-    pub last_from : last_of (filter (was_in never t time) holders) ≡ last_of (list_of t.subject t.covered j)
+    pub last_from : last_of (filter (was_in never t time) holders) ≡ last_of (list_of t.problem t.covered j)
     last_from = ap (λ xs. last_of xs) list_from
 
-    pub next_from : (o : ℕ) → find (was_in never t time) (drop (prefix_len (λ k. nat_lt k (o + 1)) holders) holders) ≡ above o (list_of t.subject t.covered j)
+    pub next_from : (o : ℕ) → find (was_in never t time) (drop (prefix_len (λ k. nat_lt k (o + 1)) holders) holders) ≡ above o (list_of t.problem t.covered j)
     next_from o = next_in (was_in never t time) o 1 holders holders_rise ∙ ap (λ xs. above o xs) list_from
 
-    pub prev_from : (o : ℕ) → last_of (filter (was_in never t time) (take (prefix_len (λ k. nat_lt k o) holders) holders)) ≡ below o (list_of t.subject t.covered j)
+    pub prev_from : (o : ℕ) → last_of (filter (was_in never t time) (take (prefix_len (λ k. nat_lt k o) holders) holders)) ≡ below o (list_of t.problem t.covered j)
     prev_from o = prev_in (was_in never t time) o 1 holders holders_rise ∙ ap (λ xs. below o xs) list_from
 
 has_all : (test : ℕ → Bool) (xs : List ℕ) (j : ℕ) → list_all test xs ≡ true → has xs j ≡ true → test j ≡ true
@@ -486,11 +486,11 @@ has_in option n j o h =
     (ltb-true 0 j q.0, leb-true j n q.1)
 
 -- an option in an item's list has the item
-pub in_list : (p : Cover) (c : List ℕ) (j o : ℕ) → IsProblem p → has (list_of p c j) o ≡ true → (0 < j) × (j ≤ length p.names) × (0 < o) × (o ≤ length p.options)
+pub in_list : (p : ProblemValue) (c : List ℕ) (j o : ℕ) → IsProblem p → has (list_of p c j) o ≡ true → (0 < j) × (j ≤ length p.names) × (0 < o) × (o ≤ length p.options)
 unfolding list_of remaining
 in_list p c j o sound h =
     let d = before_first (λ x. x == j) c in
-    let r = has_filter_in (λ k. is_left d j (get_or p.options (k - 1) [])) (numbers (length p.options) 1) o h in
+    let r = has_filter_in (λ k. is_remaining d j (get_or p.options (k - 1) [])) (numbers (length p.options) 1) o h in
     let n = has_numbers_in (length p.options) 1 o r.1 in
     let a = n.0 in let b = n.1 in
     let l = and_parts (has (get_or p.options (o - 1) []) j) (not (list_any (has d) (get_or p.options (o - 1) []))) r.0 in
@@ -518,18 +518,18 @@ prefix_from_point test xs n l point = prefix_len_is test xs n 0 l (λ k m. point
 filter_short : (test : ℕ → Bool) (xs : List ℕ) → length (filter test xs) ≤ length xs
 filter_short test xs = let a = length-filter test xs in let b = count_by-le-length test xs in omega arith
 
-pub few_options : (p : Cover) → IsProblem p → length p.options ≤ 262143
+pub few_options : (p : ProblemValue) → IsProblem p → length p.options ≤ 262143
 few_options p sound =
     let a = and_parts (nat_le (length p.names) 65535 && nat_le (length p.options) 262143) (nat_le (size_of p) 8388608) sound.small in
     leb-true (length p.options) 262143 (and_parts (nat_le (length p.names) 65535) (nat_le (length p.options) 262143) a.0).1
 
-pub count_small : (t : Standing) (j : ℕ) (holders : List ℕ) (test : ℕ → Bool) → IsProblem t.subject → holders ≡ holding t.subject.options j → length (filter test holders) ≤ 262143
+pub count_small : (t : TableValue) (j : ℕ) (holders : List ℕ) (test : ℕ → Bool) → IsProblem t.problem → holders ≡ holding t.problem.options j → length (filter test holders) ≤ 262143
 count_small t j holders test sound are =
     let a = filter_short test holders in
-    let b = filter_short (λ k. has (get_or t.subject.options (k - 1) []) j) (numbers (length t.subject.options) 1) in
+    let b = filter_short (λ k. has (get_or t.problem.options (k - 1) []) j) (numbers (length t.problem.options) 1) in
     let e = ap (λ xs. length xs) are in
-    let n = length_numbers (length t.subject.options) 1 in
-    let m = few_options t.subject sound in
+    let n = length_numbers (length t.problem.options) 1 in
+    let m = few_options t.problem sound in
     omega arith
 
 -- walks over the items
@@ -562,7 +562,7 @@ walk test a (suc d) (suc n) k e l =
     skip true = rw low refl
     skip false = refl
 
-module _ {p : Cover} {pr : ℕ} {os hs : List (List ℕ)} {c ts : List ℕ} {never room : ℕ} (h : IsPlain p pr os hs c ts never room) (late : 65535 < never) where
+module _ {p : ProblemValue} {pr : ℕ} {os hs : List (List ℕ)} {c ts : List ℕ} {never room : ℕ} (h : IsPlain p pr os hs c ts never room) (late : 65535 < never) where
   short_of : length c < never
   short_of = let s = covered_short p c h.sound h.distinct in let a = s.0 in let b = s.1 in omega arith
 
@@ -579,7 +579,7 @@ module _ {p : Cover} {pr : ℕ} {os hs : List (List ℕ)} {c ts : List ℕ} {nev
       ∙ ap (λ k. find (λ i. not (has c i)) (numbers (pr - a) k)) e
       ∙ walk (λ i. not (has c i)) a a pr 1 e l ∙ ap (λ n. above a (filter (λ i. not (has c i)) (numbers n 1))) h.primary_is
 
-pub active_in : (p : Cover) (c : List ℕ) (i : ℕ) → has (active p c) i ≡ true → (0 < i) × (i ≤ p.primary)
+pub active_in : (p : ProblemValue) (c : List ℕ) (i : ℕ) → has (active p c) i ≡ true → (0 < i) × (i ≤ p.primary)
 unfolding active
 active_in p c i h =
     let r = has_numbers_in p.primary 1 i (has_filter_in (λ i. not (has c i)) (numbers p.primary 1) i h).1 in
@@ -652,7 +652,7 @@ covered_least n c =
     let e = ap (λ xs. length xs) (all_pass (numbers n 1)) in
     let l = length_numbers n 1 in omega arith
 
-pub covered_none : (p : Cover) → AreCovered p []
+pub covered_none : (p : ProblemValue) → IsCoveredList p []
 covered_none p = record { whole = let e = ap (λ xs. length xs) (all_pass (numbers (length p.names) 1)) in let l = length_numbers (length p.names) 1 in omega arith }
 
 fewer : (n i : ℕ) (c : List ℕ) → 0 < i → i ≤ n → has c i ≡ false → length (uncovered n (c ++ i ∷ [])) + 1 ≡ length (uncovered n c)
@@ -660,14 +660,14 @@ fewer n i c a b h =
     one_less (λ j. not (has (c ++ i ∷ []) j)) (λ j. not (has c j)) i n 1 (omega arith) (omega arith) (ap not h) (ap not (has_push_same c i i refl))
     (λ j d. ap not (has_push_other c i j (λ q. d (sym q))))
 
-pub covered_push : (p : Cover) (c : List ℕ) (i : ℕ) → AreCovered p c → 0 < i → i ≤ length p.names → has c i ≡ false → AreCovered p (c ++ i ∷ [])
+pub covered_push : (p : ProblemValue) (c : List ℕ) (i : ℕ) → IsCoveredList p c → 0 < i → i ≤ length p.names → has c i ≡ false → IsCoveredList p (c ++ i ∷ [])
 covered_push p c i cov a b h = record { whole = let f = fewer (length p.names) i c a b h in let w = cov.whole in let l = length-append c (i ∷ []) in omega arith }
 
-pub covered_room : (p : Cover) (c : List ℕ) (i : ℕ) → AreCovered p c → 0 < i → i ≤ length p.names → has c i ≡ false → length c < length p.names
+pub covered_room : (p : ProblemValue) (c : List ℕ) (i : ℕ) → IsCoveredList p c → 0 < i → i ≤ length p.names → has c i ≡ false → length c < length p.names
 covered_room p c i cov a b h = let f = fewer (length p.names) i c a b h in let w = cov.whole in omega arith
 
 -- the item covered last is one of the problem and isn't covered before, and those before it are as covered items are
-pub covered_pop : (p : Cover) (c : List ℕ) (i : ℕ) → AreCovered p (c ++ i ∷ []) → (0 < i) × (i ≤ length p.names) × (has c i ≡ false) × AreCovered p c
+pub covered_pop : (p : ProblemValue) (c : List ℕ) (i : ℕ) → IsCoveredList p (c ++ i ∷ []) → (0 < i) × (i ≤ length p.names) × (has c i ≡ false) × IsCoveredList p c
 covered_pop p c i cov = by (cases_lt 0 i) (cases_lt (length p.names) i) (cases_Bool (has c i))
   where
     least : length p.names ≤ length c + length (uncovered (length p.names) c)
@@ -687,7 +687,7 @@ covered_pop p c i cov = by (cases_lt 0 i) (cases_lt (length p.names) i) (cases_B
         same j g (inl e) = has_push_same c i j e ∙ sym (ap (has c) (sym e) ∙ g (sym e))
         same j g (inr d) = has_push_other c i j d
 
-    by : (0 < i) ⊎ (i ≤ 0) → (length p.names < i) ⊎ (i ≤ length p.names) → (has c i ≡ true) ⊎ (has c i ≡ false) → (0 < i) × (i ≤ length p.names) × (has c i ≡ false) × AreCovered p c
+    by : (0 < i) ⊎ (i ≤ 0) → (length p.names < i) ⊎ (i ≤ length p.names) → (has c i ≡ true) ⊎ (has c i ≡ false) → (0 < i) × (i ≤ length p.names) × (has c i ≡ false) × IsCoveredList p c
     by (inr z) r u = absurd (stays (λ j a b q. absurd (omega arith)))
     by (inl l) (inl g) u = absurd (stays (λ j a b q. absurd (omega arith)))
     by (inl l) (inr g) (inl u) = absurd (stays (λ j a b q. u))
@@ -721,7 +721,7 @@ old_time never c i x d = by (has c x) refl
     by true h = ap (λ b. cond b (place c x) never) h ∙ sym (ap (λ b. cond b (place (c ++ i ∷ []) x) never) (other ∙ h) ∙ old_place c i x h)
     by false h = ap (λ b. cond b (place c x) never) h ∙ sym (ap (λ b. cond b (place (c ++ i ∷ []) x) never) (other ∙ h))
 
-pub plain_covered : {p : Cover} {pr : ℕ} {os hs : List (List ℕ)} {c ts : List ℕ} {never room : ℕ} → IsPlain p pr os hs c ts never room → (i time more : ℕ) (now : List ℕ) → 0 < i → i ≤ length p.names → has c i ≡ false → time ≡ length c → now ≡ c ++ i ∷ [] → room ≤ more → IsPlain p pr os hs now (set ts (i - 1) time) never more
+pub plain_covered : {p : ProblemValue} {pr : ℕ} {os hs : List (List ℕ)} {c ts : List ℕ} {never room : ℕ} → IsPlain p pr os hs c ts never room → (i time more : ℕ) (now : List ℕ) → 0 < i → i ≤ length p.names → has c i ≡ false → time ≡ length c → now ≡ c ++ i ∷ [] → room ≤ more → IsPlain p pr os hs now (set ts (i - 1) time) never more
 plain_covered {p} {pr} {os} {hs} {c} {ts} {never} {room} h i time more now a b u e n m = record {
   sound = h.sound;
   primary_is = h.primary_is;
@@ -732,7 +732,7 @@ plain_covered {p} {pr} {os} {hs} {c} {ts} {never} {room} h i time more now a b u
   fits = let f = h.fits in omega arith;
 }
 
-pub plain_uncovered : {p : Cover} {pr : ℕ} {os hs : List (List ℕ)} {c ts : List ℕ} {never room : ℕ} → IsPlain p pr os hs c ts never room → (i more : ℕ) (now : List ℕ) → c ≡ now ++ i ∷ [] → room ≤ more → IsPlain p pr os hs now (set ts (i - 1) never) never more
+pub plain_uncovered : {p : ProblemValue} {pr : ℕ} {os hs : List (List ℕ)} {c ts : List ℕ} {never room : ℕ} → IsPlain p pr os hs c ts never room → (i more : ℕ) (now : List ℕ) → c ≡ now ++ i ∷ [] → room ≤ more → IsPlain p pr os hs now (set ts (i - 1) never) never more
 plain_uncovered {p} {pr} {os} {hs} {c} {ts} {never} {room} h i more now n m =
     let q = covered_pop p now i (rw n at h.distinct) in
     let free : never ≡ time_of never now i = sym (ap (λ b. cond b (place now i) never) q.2) in
@@ -771,7 +771,7 @@ popped c f now i len e l n =
     e ∙ ap (λ xs. xs ++ i ∷ []) (sym same)
 
 -- a table with nothing covered
-pub plain_new : (p value : Cover) (pr n never room : ℕ) (os hs : List (List ℕ)) (c ts : List ℕ) → IsProblem p → value ≡ p → pr ≡ p.primary → n ≡ length p.names → os ≡ p.options → hs ≡ holders_of n os → c ≡ [] → ts ≡ replicate n never → n ≤ room → IsPlain value pr os hs c ts never room
+pub plain_new : (p value : ProblemValue) (pr n never room : ℕ) (os hs : List (List ℕ)) (c ts : List ℕ) → IsProblem p → value ≡ p → pr ≡ p.primary → n ≡ length p.names → os ≡ p.options → hs ≡ holders_of n os → c ≡ [] → ts ≡ replicate n never → n ≤ room → IsPlain value pr os hs c ts never room
 plain_new p value pr n never room os hs c ts sound v q e o h z t f = subst (λ x. IsPlain x pr os hs c ts never room) (sym v) (record {
   sound = sound;
   primary_is = q;

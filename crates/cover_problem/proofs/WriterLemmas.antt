@@ -5,7 +5,7 @@ use Rattle.std.proofs.lemmas.Bool.{and_parts}
 use Rattle.std.proofs.lemmas.Grind.{flat_map-append}
 use Rattle.text_lines.specs.Writing.{spaced, line_text, text_of}
 use Rattle.cover_problem.specs.Lists.{are_distinct}
-use Rattle.cover_problem.specs.Problem.{Cover, is_item, is_option}
+use Rattle.cover_problem.specs.Problem.{ProblemValue, is_item, is_option}
 use Rattle.cover_problem.specs.Grammar.{maybe_words, option_words, written}
 
 -- each word after a space
@@ -34,7 +34,7 @@ option_items items n (y ∷ ys) (suc i) x h l e =
     option_items items n ys i x p.1 (omega arith) e
 
 -- the lines of a problem, one after the other
-module _ (p : Cover) (front back names options : List (List ℕ)) (at_front : front ≡ take p.primary p.names) (at_back : back ≡ drop p.primary p.names) (same_names : names ≡ p.names) (same_options : options ≡ p.options) where
+module _ (p : ProblemValue) (front back names options : List (List ℕ)) (at_front : front ≡ take p.primary p.names) (at_back : back ≡ drop p.primary p.names) (same_names : names ≡ p.names) (same_options : options ≡ p.options) where
   pub all_written : (first second text : List ℕ) → first ≡ [] ++ line_text (codes "items" ∷ front) → second ≡ first ++ text_of (maybe_words back) → text ≡ second ++ text_of (map (option_words names) options) → text ≡ written p
   unfolding written
   all_written first second text e f g =

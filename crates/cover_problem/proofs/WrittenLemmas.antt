@@ -9,7 +9,7 @@ use Rattle.text_lines.specs.Lines.{is_empty, has_bytes}
 use Rattle.text_lines.specs.Writing.{is_word, is_word_byte}
 use Rattle.text_lines.proofs.WritingLemmas.{written_said, written_plain}
 use Rattle.cover_problem.specs.Lists.{are_distinct}
-use Rattle.cover_problem.specs.Problem.{Cover, IsProblem, is_name, is_name_byte, is_item, is_option, name_at}
+use Rattle.cover_problem.specs.Problem.{ProblemValue, IsProblem, is_name, is_name_byte, is_item, is_option, name_at}
 use Rattle.cover_problem.specs.Reading.{problem_of}
 use Rattle.cover_problem.specs.Grammar.{maybe_words, option_words, word_lines, IsCoverText, written}
 use Rattle.cover_problem.proofs.AgainLemmas.{all_at}
@@ -68,7 +68,7 @@ options_are_words names (option ∷ options) named is =
     let q = and_parts (nat_lt 0 (length option) && are_distinct option) (list_all (is_item (length names)) option) p.0 in
     and_from _ _ (items_are_words names option named q.1) (options_are_words names options named p.1)
 
-lines_are_words : (p : Cover) → IsProblem p → list_all (list_all is_word) (word_lines p) ≡ true
+lines_are_words : (p : ProblemValue) → IsProblem p → list_all (list_all is_word) (word_lines p) ≡ true
 lines_are_words p g =
     let all = names_are_words p.names g.named in
     let parts = and_parts (list_all is_word (take p.primary p.names)) (list_all is_word (drop p.primary p.names)) (sym (list_all-append is_word (take p.primary p.names) (drop p.primary p.names)) ∙ rw take-append-drop all) in
@@ -91,14 +91,14 @@ options_are_full : (names : List (List ℕ)) (options : List (List ℕ)) → lis
 options_are_full names [] = refl
 options_are_full names (option ∷ options) = options_are_full names options
 
-lines_are_full : (p : Cover) → list_all (λ words. not (is_empty words)) (word_lines p) ≡ true
+lines_are_full : (p : ProblemValue) → list_all (λ words. not (is_empty words)) (word_lines p) ≡ true
 lines_are_full p =
     list_all-append (λ words. not (is_empty words)) ((codes "items" ∷ take p.primary p.names) ∷ maybe_words (drop p.primary p.names)) (map (option_words p.names) p.options)
     ∙ and_from _ _ (maybe_is_full (drop p.primary p.names)) (options_are_full p.names p.options)
 
 -- *the main proofs*
 
-pub written_is_text : (p : Cover) → IsProblem p → IsCoverText (written p) p
+pub written_is_text : (p : ProblemValue) → IsProblem p → IsCoverText (written p) p
 unfolding written
 written_is_text p g =
     let words = lines_are_words p g in
@@ -108,5 +108,5 @@ written_is_text p g =
       problem = g;
     }
 
-pub written_again : (p : Cover) → IsProblem p → problem_of (written p) ≡ Ok p
+pub written_again : (p : ProblemValue) → IsProblem p → problem_of (written p) ≡ Ok p
 written_again p g = text_again (written p) p (written_is_text p g)

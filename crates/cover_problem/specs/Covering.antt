@@ -6,36 +6,36 @@
 use Rattle.std.specs.Prelude.{ℕ, ◌-◌, ◌==◌, nat_le, Bool, not, ◌&&◌, List, length, filter, find, unwrap_or, []}
 use Rattle.std.specs.List.{list_any, list_all, slice_index_or, before_first}
 use Rattle.cover_problem.specs.Lists.{has, numbers}
-use Rattle.cover_problem.specs.Problem.{Cover}
+use Rattle.cover_problem.specs.Problem.{ProblemValue}
 
 -- of the items 1 to n those that are not in c
 abbrev pub uncovered : ℕ → List ℕ → List ℕ
 uncovered n c = filter (λ i. not (has c i)) (numbers n 1)
 
 -- the active items: the primary ones that are not covered
-unfoldable pub active : Cover → List ℕ → List ℕ
+unfoldable pub active : ProblemValue → List ℕ → List ℕ
 active p c = uncovered p.primary c
 
 -- whether the option has the item j and no item of c
-abbrev pub is_left : List ℕ → ℕ → List ℕ → Bool
-is_left c j option = has option j && not (list_any (has c) option)
+abbrev pub is_remaining : List ℕ → ℕ → List ℕ → Bool
+is_remaining c j option = has option j && not (list_any (has c) option)
 
 -- of these options, numbered from 1, those left for an item
-abbrev pub left_of : List (List ℕ) → List ℕ → ℕ → List ℕ
-left_of options c j = filter (λ k. is_left c j (slice_index_or options (k - 1) [])) (numbers (length options) 1)
+abbrev pub remaining_among : List (List ℕ) → List ℕ → ℕ → List ℕ
+remaining_among options c j = filter (λ k. is_remaining c j (slice_index_or options (k - 1) [])) (numbers (length options) 1)
 
 -- the options left for an item, rising
-unfoldable pub remaining : Cover → List ℕ → ℕ → List ℕ
-remaining p c j = left_of p.options c j
+unfoldable pub remaining : ProblemValue → List ℕ → ℕ → List ℕ
+remaining p c j = remaining_among p.options c j
 
 -- the options in an item's list: the list of a covered item stays as it was when the item was covered
-unfoldable pub list_of : Cover → List ℕ → ℕ → List ℕ
+unfoldable pub list_of : ProblemValue → List ℕ → ℕ → List ℕ
 list_of p c j = remaining p (before_first (λ x. x == j) c) j
 
 -- whether no active item has fewer options left
-abbrev pub is_shortest : Cover → List ℕ → ℕ → Bool
+abbrev pub is_shortest : ProblemValue → List ℕ → ℕ → Bool
 is_shortest p c j = list_all (λ i. nat_le (length (remaining p c j)) (length (remaining p c i))) (active p c)
 
 -- the item chosen: the first of the active items with the fewest options left
-unfoldable pub choice : Cover → List ℕ → ℕ
+unfoldable pub choice : ProblemValue → List ℕ → ℕ
 choice p c = unwrap_or (find (is_shortest p c) (active p c)) 0

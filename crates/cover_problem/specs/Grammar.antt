@@ -5,8 +5,8 @@
 -- proofs/GrammarExamples.antt computes it.
 use Rattle.std.specs.Prelude.{ℕ, true, ◌≡◌, List, [], ◌∷◌, ◌++◌, take, drop, map, filter, not, codes}
 use Rattle.text_lines.specs.Lines.{lines_of, is_empty}
-use Rattle.text_lines.specs.Writing.{text_of, said, are_plain}
-use Rattle.cover_problem.specs.Problem.{Cover, IsProblem, name_at}
+use Rattle.text_lines.specs.Writing.{text_of, words_of_line, are_plain}
+use Rattle.cover_problem.specs.Problem.{ProblemValue, IsProblem, name_at}
 
 -- the `maybe` line, where there are items that may be covered
 abbrev pub maybe_words : List (List ℕ) → List (List (List ℕ))
@@ -18,19 +18,19 @@ abbrev pub option_words : List (List ℕ) → List ℕ → List (List ℕ)
 option_words names option = codes "option" ∷ map (name_at names) option
 
 -- a problem's lines, each as its words
-abbrev pub word_lines : Cover → List (List (List ℕ))
+abbrev pub word_lines : ProblemValue → List (List (List ℕ))
 word_lines p = (codes "items" ∷ take p.primary p.names) ∷ maybe_words (drop p.primary p.names) ++ map (option_words p.names) p.options
 
 -- the words of the lines that have words
-abbrev pub said_by : List (List ℕ) → List (List (List ℕ))
-said_by lines = filter (λ words. not (is_empty words)) (map said lines)
+abbrev pub words_by_line : List (List ℕ) → List (List (List ℕ))
+words_by_line lines = filter (λ words. not (is_empty words)) (map words_of_line lines)
 
 -- comments, blanks, empty lines and line ends aside, the text is the lines of a problem
-pub record IsCoverText (text : List ℕ) (p : Cover) : Type 0 where
+pub record IsCoverText (text : List ℕ) (p : ProblemValue) : Type 0 where
   pub plain : are_plain (lines_of text) ≡ true
-  pub says : said_by (lines_of text) ≡ word_lines p
+  pub says : words_by_line (lines_of text) ≡ word_lines p
   pub problem : IsProblem p
 
 -- the text that is written
-unfoldable pub written : Cover → List ℕ
+unfoldable pub written : ProblemValue → List ℕ
 written p = text_of (word_lines p)

@@ -4,12 +4,12 @@ pub mod Covering
 pub mod Path
 pub mod Coverable
 pub mod ExactCover
-pub mod Fair
+pub mod CoverTest
 pub mod Table
 pub mod Plain
 pub mod Faults
-pub mod Making
-pub mod Marks
+pub mod Validation
+pub mod Stamps
 pub mod Reading
 pub mod FirstFault
 pub mod Grammar

@@ -4,8 +4,8 @@
 use Rattle.std.specs.Prelude.{ℕ, ◌<◌, ◌+◌, ◌++◌, ◌∷◌, ◌≤◌, ◌≡◌, Bool, not, List, length, filter, map, if◌then◌else◌, ◌==◌, ◌-◌, [], nat_lt}
 use Rattle.std.specs.List.{position_or_len, slice_index_or, list_any}
 use Rattle.cover_problem.specs.Lists.{has, numbers}
-use Rattle.cover_problem.specs.Problem.{Cover, IsProblem}
-use Rattle.cover_problem.specs.Table.{AreCovered, Standing}
+use Rattle.cover_problem.specs.Problem.{ProblemValue, IsProblem}
+use Rattle.cover_problem.specs.Table.{IsCoveredList, TableValue}
 
 -- of these options, numbered from 1, those with the item, rising
 abbrev pub holding : List (List ℕ) → ℕ → List ℕ
@@ -28,16 +28,16 @@ abbrev pub is_in : List (List ℕ) → List ℕ → ℕ → ℕ → Bool
 is_in options times limit k = not (list_any (λ i. nat_lt (slice_index_or times (i - 1) 0) limit) (slice_index_or options (k - 1) []))
 
 -- the same of a table
-unfoldable pub was_in : ℕ → Standing → ℕ → ℕ → Bool
-was_in never t limit k = is_in t.subject.options (times_of never (length t.subject.names) t.covered) limit k
+unfoldable pub was_in : ℕ → TableValue → ℕ → ℕ → Bool
+was_in never t limit k = is_in t.problem.options (times_of never (length t.problem.names) t.covered) limit k
 
 -- the fields are those of the problem, with these items covered and room for all
-pub record IsPlain (p : Cover) (primary : ℕ) (options holders : List (List ℕ)) (covered : List ℕ) (times : List ℕ) (never room : ℕ) : Type 0 where
+pub record IsPlain (p : ProblemValue) (primary : ℕ) (options holders : List (List ℕ)) (covered : List ℕ) (times : List ℕ) (never room : ℕ) : Type 0 where
   pub sound : IsProblem p
   pub primary_is : primary ≡ p.primary
   pub options_are : options ≡ p.options
   pub holders_are : holders ≡ holders_of (length p.names) p.options
-  pub distinct : AreCovered p covered
+  pub distinct : IsCoveredList p covered
   pub times_are : times ≡ times_of never (length p.names) covered
   pub fits : length p.names ≤ room
 

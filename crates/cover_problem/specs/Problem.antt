@@ -12,21 +12,21 @@ use Rattle.cover_problem.specs.Lists.{are_distinct}
 
 -- items with these names, numbered from 1, of which the first `primary` have to be covered and the others may be;
 -- and options, numbered from 1, each a list of items
-pub record Cover : Type 0 where
+pub record ProblemValue : Type 0 where
   pub names : List (List ℕ)
   pub primary : ℕ
   pub options : List (List ℕ)
 
 -- how many items it has
-abbrev pub item_count : Cover → ℕ
+abbrev pub item_count : ProblemValue → ℕ
 item_count p = length p.names
 
 -- how many options it has
-abbrev pub option_count : Cover → ℕ
+abbrev pub option_count : ProblemValue → ℕ
 option_count p = length p.options
 
 -- the items of the option numbered k
-abbrev pub option_at : Cover → ℕ → List ℕ
+abbrev pub option_at : ProblemValue → ℕ → List ℕ
 option_at p k = slice_index_or p.options (k - 1) []
 
 -- the name of the item numbered i
@@ -59,19 +59,19 @@ abbrev pub is_option : ℕ → List ℕ → Bool
 is_option n option = nat_lt 0 (length option) && are_distinct option && list_all (is_item n) option
 
 -- the entries of the problem's table: a header, the items, a node for each item of each option, and a spacer beside each option
-abbrev pub size_of : Cover → ℕ
+abbrev pub size_of : ProblemValue → ℕ
 size_of p = length p.names + sum_by length p.options + length p.options + 2
 
 -- whether it is within the limits
-abbrev pub is_small : Cover → Bool
+abbrev pub is_small : ProblemValue → Bool
 is_small p = nat_le (length p.names) MOST_ITEMS && nat_le (length p.options) MOST_OPTIONS && nat_le (size_of p) MOST_ENTRIES
 
 -- whether two problems are equal
-abbrev pub is_same : Cover → Cover → Bool
+abbrev pub is_same : ProblemValue → ProblemValue → Bool
 is_same p q = (p.primary == q.primary) && pointwise bytes_eq p.names q.names && pointwise bytes_eq p.options q.options
 
 -- what is a problem
-pub record IsProblem (p : Cover) : Type 0 where
+pub record IsProblem (p : ProblemValue) : Type 0 where
   pub some : 0 < p.primary
   pub within : p.primary ≤ length p.names
   pub named : list_all is_name p.names ≡ true

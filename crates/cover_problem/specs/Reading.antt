@@ -22,19 +22,19 @@ use Rattle.cover_problem.specs.declared.fault.ProblemFault.{ProblemFault}
 use Rattle.cover_problem.specs.declared.fault.ProblemFault.TheVariants as problem_faults
 use Rattle.cover_problem.specs.declared.key.Key.{Key}
 use Rattle.cover_problem.specs.declared.key.Key.TheVariants as keys
-use Rattle.cover_problem.specs.Problem.{Cover, is_name, item_named}
-use Rattle.cover_problem.specs.Making.{add_name, with_item, within}
+use Rattle.cover_problem.specs.Problem.{ProblemValue, is_name, item_named}
+use Rattle.cover_problem.specs.Validation.{add_name, with_item, within}
 
 -- *the words of a line*
 
 -- an item that was looked for
-abbrev pub known : Option ℕ → Result ℕ Fault
-known None = Err UnknownItem
-known (Some i) = Ok i
+abbrev pub found_or : Option ℕ → Result ℕ Fault
+found_or None = Err UnknownItem
+found_or (Some i) = Ok i
 
 -- the item of a name
 unfoldable pub item_of : List (List ℕ) → List ℕ → Result ℕ Fault
-item_of names word = if is_name word then known (item_named names word) else Err BadName
+item_of names word = if is_name word then found_or (item_named names word) else Err BadName
 
 -- the items of an option with one more, given by its name, which is new there
 unfoldable pub add_item : List (List ℕ) → List ℕ → List ℕ → Result (List ℕ) Fault
@@ -43,18 +43,18 @@ add_item names taken word = item_of names word >>= with_item taken
 -- *the lines: what is read so far has no names before the `items` line, and more than `primary` after the `maybe` line*
 
 -- nothing is read
-abbrev pub nothing : Cover
+abbrev pub nothing : ProblemValue
 nothing = record { names = []; primary = 0; options = [] }
 
 -- the `items` line: the first, with a name
-unfoldable pub items_line : Cover → List (List ℕ) → Result Cover Fault
+unfoldable pub items_line : ProblemValue → List (List ℕ) → Result ProblemValue Fault
 items_line p words =
     if is_empty words || nat_lt 0 p.primary then Err BadLine else (do
       names ← each add_name [] words
       within (record { names = names; primary = length names; options = [] }))
 
 -- the `maybe` line: the first, with a name, before any option
-unfoldable pub maybe_line : Cover → List (List ℕ) → Result Cover Fault
+unfoldable pub maybe_line : ProblemValue → List (List ℕ) → Result ProblemValue Fault
 maybe_line p words =
     if is_empty words || nat_lt p.primary (length p.names) || nat_lt 0 (length p.options) then Err BadLine else
     (if p.primary == 0 then Err NoItemLine else (do
@@ -62,7 +62,7 @@ maybe_line p words =
       within (record { names = names; primary = p.primary; options = [] })))
 
 -- an `option` line, with an item
-unfoldable pub option_line : Cover → List (List ℕ) → Result Cover Fault
+unfoldable pub option_line : ProblemValue → List (List ℕ) → Result ProblemValue Fault
 option_line p words =
     if is_empty words then Err BadLine else
     (if p.primary == 0 then Err NoItemLine else (do
@@ -77,42 +77,42 @@ key_from word =
     (if bytes_eq word (codes "option") then Some keys.Option else None))
 
 -- a line of a key and the words after it
-abbrev pub keyed_line : Option Key → Cover → List (List ℕ) → Result Cover Fault
+abbrev pub keyed_line : Option Key → ProblemValue → List (List ℕ) → Result ProblemValue Fault
 keyed_line None p words = Err BadLine
 keyed_line (Some keys.Items) p words = items_line p words
 keyed_line (Some keys.Maybe) p words = maybe_line p words
 keyed_line (Some keys.Option) p words = option_line p words
 
 -- a line of these words; one without words says nothing
-unfoldable pub words_line : Cover → List (List ℕ) → Result Cover Fault
+unfoldable pub words_line : ProblemValue → List (List ℕ) → Result ProblemValue Fault
 words_line p [] = Ok p
 words_line p (key ∷ words) = keyed_line (key_from key) p words
 
 -- a line, with its comment: a byte that isn't plain may stand in the comment alone
-unfoldable pub line : Cover → List ℕ → Result Cover Fault
+unfoldable pub line : ProblemValue → List ℕ → Result ProblemValue Fault
 line p bytes = if list_all is_plain (outside_comment bytes) then words_line p (words_of (outside_comment bytes)) else Err BadLine
 
 -- *the whole text*
 
 -- what was read, with the number of the next line; or a fault, with the number of its line
-abbrev pub at_line : ℕ → Result Cover Fault → Result (Cover × ℕ) (Fault × ℕ)
+abbrev pub at_line : ℕ → Result ProblemValue Fault → Result (ProblemValue × ℕ) (Fault × ℕ)
 at_line n (Ok p) = Ok (p, n + 1)
 at_line n (Err f) = Err (f, n)
 
 -- a line, where what is read comes with the line's number
-unfoldable pub numbered_line : Cover × ℕ → List ℕ → Result (Cover × ℕ) (Fault × ℕ)
+unfoldable pub numbered_line : ProblemValue × ℕ → List ℕ → Result (ProblemValue × ℕ) (Fault × ℕ)
 numbered_line s bytes = at_line s.1 (line s.0 bytes)
 
 -- the whole text has an `items` line
-abbrev pub with_items : Cover → Result Cover (Fault × ℕ)
+abbrev pub with_items : ProblemValue → Result ProblemValue (Fault × ℕ)
 with_items p = if nat_lt 0 p.primary then Ok p else Err (NoItemLine, 0)
 
 -- the lines of a text, from line 1 on
-abbrev pub lines_read : List (List ℕ) → Result (Cover × ℕ) (Fault × ℕ)
+abbrev pub lines_read : List (List ℕ) → Result (ProblemValue × ℕ) (Fault × ℕ)
 lines_read lines = each numbered_line (nothing, 1) lines
 
 -- the problem of a text; or its first fault, and the number of its line, which is 0 for a fault of the whole text
-unfoldable pub problem_of : List ℕ → Result Cover (Fault × ℕ)
+unfoldable pub problem_of : List ℕ → Result ProblemValue (Fault × ℕ)
 problem_of text = lines_read (lines_of text) >>= λ read. with_items read.0
 
 -- *what a reader answers*

@@ -3,14 +3,14 @@ ghost use Rattle.std.specs.Prelude.{◌≡◌, ◌<◌, ◌≤◌, true, [], ◌
 ghost use Rattle.std.specs.List.{All};
 ghost use Rattle.text_lines.specs.Lines.{words_of};
 ghost use Rattle.text_lines.specs.Each.{each};
-ghost use Rattle.cover_problem.specs.Problem.{Cover, IsProblem, is_small};
-ghost use Rattle.cover_problem.specs.Making as making;
-ghost use Rattle.cover_problem.specs.Making.{Gives, add_name, with_item};
-ghost use Rattle.cover_problem.specs.Marks.{AreMarks};
+ghost use Rattle.cover_problem.specs.Problem.{ProblemValue, IsProblem, is_small};
+ghost use Rattle.cover_problem.specs.Validation as making;
+ghost use Rattle.cover_problem.specs.Validation.{Gives, add_name, with_item};
+ghost use Rattle.cover_problem.specs.Stamps.{AreStamps};
 ghost use Rattle.cover_problem.specs.Reading as reading;
 ghost use Rattle.cover_problem.specs.Reading.{item_of, add_item, nothing};
 
-use crate::checks::take_name;
+use crate::validation::take_name;
 use crate::fault::{Fault, ProblemFault};
 use crate::key::{Key, key_of};
 use crate::limits::{MOST_ENTRIES, MOST_ITEMS, MOST_OPTIONS};
@@ -36,10 +36,10 @@ pub struct Draft {
 
 impl Model for Draft {
     ghost use Rattle.std.specs.Prelude.{map};
-    ghost use Rattle.cover_problem.specs.Problem.{Cover};
-    ghost use Rattle.cover_problem.specs.Marks.{IsDraft};
+    ghost use Rattle.cover_problem.specs.Problem.{ProblemValue};
+    ghost use Rattle.cover_problem.specs.Stamps.{IsDraft};
 
-    ghost Value = { Cover };
+    ghost Value = { ProblemValue };
 
     ghost view = { λ a. record { names = map (λ n. n.bytes) a.names.keys; primary = a.primary; options = map (λ o. o.items) a.options.items } };
 
@@ -72,9 +72,9 @@ fn take_once(
 ) -> Result<(), ProblemFault>
     requires some { 0 < item }
     requires within { item ≤ length marks.old }
-    requires marked { AreMarks stamp option.old.items marks.old }
+    requires marked { AreStamps stamp option.old.items marks.old }
     ensures item { Gives (λ _. option.new.items) result (with_item option.old.items item) }
-    ensures marked { OnOk result (AreMarks stamp option.new.items marks.new) }
+    ensures marked { OnOk result (AreStamps stamp option.new.items marks.new) }
 {
     let place = item as usize - 1;
     if marks[place] == stamp {
@@ -96,9 +96,9 @@ fn take_item(
 ) -> Result<(), ProblemFault>
     requires few { length names.now.keys ≤ MOST_ITEMS }
     requires each_item { length marks.old ≡ length names.now.keys }
-    requires marked { AreMarks stamp option.old.items marks.old }
+    requires marked { AreStamps stamp option.old.items marks.old }
     ensures item { Gives (λ _. option.new.items) result (add_item (map (λ n. n.bytes) names.now.keys) option.old.items word.now) }
-    ensures marked { OnOk result (AreMarks stamp option.new.items marks.new) }
+    ensures marked { OnOk result (AreStamps stamp option.new.items marks.new) }
 {
     let item = item_named(names, word)?;
     take_once(marks, stamp, option, item)
@@ -141,7 +141,7 @@ fn with_names(mut names: IndexSet<Name>, words: &[u8]) -> Result<IndexSet<Name>,
 
 /// Whether so many items, and so many options with so many items together, are within the limits.
 fn is_within(items: usize, options: usize, entries: usize) -> bool
-    ensures { (p : Cover) → length p.names ≡ items → length p.options ≡ options → sum_by length p.options ≡ entries → result ≡ is_small p }
+    ensures { (p : ProblemValue) → length p.names ≡ items → length p.options ≡ options → sum_by length p.options ≡ entries → result ≡ is_small p }
 {
     items <= MOST_ITEMS && options <= MOST_OPTIONS && entries <= MOST_ENTRIES - 2 - items - options
 }

@@ -4,7 +4,7 @@ ghost use Rattle.std.specs.List.{list_all, list_any};
 ghost use Rattle.cover_problem.specs.Lists.{are_distinct, has, numbers};
 ghost use Rattle.cover_problem.specs.Problem.{IsProblem, is_item, option_at};
 ghost use Rattle.cover_problem.specs.ExactCover.{IsExactCover};
-ghost use Rattle.cover_problem.specs.Fair as fair;
+ghost use Rattle.cover_problem.specs.CoverTest as cover_test;
 
 use crate::problem::Problem;
 
@@ -19,7 +19,7 @@ fn are_options(problem: &Problem, chosen: &[u32]) -> bool
 /// How many of the options have the item.
 fn occurrences(problem: &Problem, chosen: &[u32], item: u32) -> usize
     requires { list_all (is_item (length problem.now.options)) chosen.now ≡ true }
-    ensures { result ≡ fair.occurrences problem.now chosen.now item }
+    ensures { result ≡ cover_test.occurrences problem.now chosen.now item }
 {
     let mut count = 0;
     for k in chosen {
@@ -29,9 +29,9 @@ fn occurrences(problem: &Problem, chosen: &[u32], item: u32) -> usize
 }
 
 /// Whether an item is in as many of the options as it may be: a primary item in one, another in at most one.
-fn is_fair(problem: &Problem, chosen: &[u32], item: u32) -> bool
+fn has_right_count(problem: &Problem, chosen: &[u32], item: u32) -> bool
     requires { list_all (is_item (length problem.now.options)) chosen.now ≡ true }
-    ensures { result ≡ fair.is_fair problem.now chosen.now item }
+    ensures { result ≡ cover_test.has_right_count problem.now chosen.now item }
 {
     let count = occurrences(problem, chosen, item);
     if item <= problem.primary() {
@@ -42,12 +42,12 @@ fn is_fair(problem: &Problem, chosen: &[u32], item: u32) -> bool
 }
 
 /// Whether each item is in as many of the options as it may be.
-fn are_fair(problem: &Problem, chosen: &[u32]) -> bool
+fn have_right_counts(problem: &Problem, chosen: &[u32]) -> bool
     requires { list_all (is_item (length problem.now.options)) chosen.now ≡ true }
-    ensures { result ≡ list_all (fair.is_fair problem.now chosen.now) (numbers (length problem.now.names) 1) }
+    ensures { result ≡ list_all (cover_test.has_right_count problem.now chosen.now) (numbers (length problem.now.names) 1) }
 {
     for item in 1..problem.items() + 1 {
-        if !is_fair(problem, chosen, item) {
+        if !has_right_count(problem, chosen, item) {
             return false;
         }
     }
@@ -58,7 +58,7 @@ fn are_fair(problem: &Problem, chosen: &[u32]) -> bool
 fn is_useful(problem: &Problem, k: u32) -> bool
     requires some { 0 < k }
     requires within { k ≤ length problem.now.options }
-    ensures { result ≡ fair.is_useful problem.now k }
+    ensures { result ≡ cover_test.is_useful problem.now k }
 {
     let primary = problem.primary();
     problem.option(k).iter().any(|item| *item <= primary)
@@ -67,7 +67,7 @@ fn is_useful(problem: &Problem, k: u32) -> bool
 /// Whether each option has a primary item.
 fn are_useful(problem: &Problem, chosen: &[u32]) -> bool
     requires { list_all (is_item (length problem.now.options)) chosen.now ≡ true }
-    ensures { result ≡ list_all (fair.is_useful problem.now) chosen.now }
+    ensures { result ≡ list_all (cover_test.is_useful problem.now) chosen.now }
 {
     for k in chosen {
         if !is_useful(problem, *k) {
@@ -79,12 +79,12 @@ fn are_useful(problem: &Problem, chosen: &[u32]) -> bool
 
 /// Whether these are options that pass each test of an exact cover.
 fn passes(problem: &Problem, chosen: &[u32]) -> bool
-    ensures { result ≡ fair.is_cover problem.now chosen.now }
+    ensures { result ≡ cover_test.is_cover problem.now chosen.now }
 {
     if !are_options(problem, chosen) {
         return false;
     }
-    are_fair(problem, chosen) && are_useful(problem, chosen)
+    have_right_counts(problem, chosen) && are_useful(problem, chosen)
 }
 
 impl Problem {

@@ -3,40 +3,40 @@ ghost use Rattle.std.specs.Prelude.{ℕ, ◌≡◌, ◌<◌, ◌≤◌, ◌↔�
 ghost use Rattle.cover_problem.specs.Lists.{has};
 ghost use Rattle.cover_problem.specs.declared.fault.Fault.{Fault};
 ghost use Rattle.cover_problem.specs.declared.fault.Fault.TheVariants.{NoItemLine};
-ghost use Rattle.cover_problem.specs.Problem.{Cover, IsProblem};
+ghost use Rattle.cover_problem.specs.Problem.{ProblemValue, IsProblem};
 ghost use Rattle.cover_problem.specs.Covering.{active, remaining, choice};
-ghost use Rattle.cover_problem.specs.Making.{made};
+ghost use Rattle.cover_problem.specs.Validation.{problem_from};
 ghost use Rattle.cover_problem.specs.Reading.{problem_of};
 ghost use Rattle.cover_problem.specs.FirstFault.{IsFirstFault, LacksItems};
 ghost use Rattle.cover_problem.specs.Grammar.{IsCoverText, written};
 
 /// The choice is the first of the active items with the fewest options left.
 pub fn choice_is_first_shortest()
-    ensures active { (p : Cover) (c : List ℕ) → 0 < length (active p c) → has (active p c) (choice p c) ≡ true }
-    ensures least { (p : Cover) (c : List ℕ) (i : ℕ) → has (active p c) i ≡ true →
+    ensures active { (p : ProblemValue) (c : List ℕ) → 0 < length (active p c) → has (active p c) (choice p c) ≡ true }
+    ensures least { (p : ProblemValue) (c : List ℕ) (i : ℕ) → has (active p c) i ≡ true →
         length (remaining p c (choice p c)) ≤ length (remaining p c i) }
-    ensures first { (p : Cover) (c : List ℕ) (i : ℕ) → has (active p c) i ≡ true → i < choice p c →
+    ensures first { (p : ProblemValue) (c : List ℕ) (i : ℕ) → has (active p c) i ≡ true → i < choice p c →
         length (remaining p c (choice p c)) < length (remaining p c i) }
 {}
 
 /// Names, a number of primary items and options make a problem exactly where they are one, and it is what was given.
 pub fn problems_are_made()
-    ensures { (names : List (List ℕ)) (primary : ℕ) (options : List (List ℕ)) (p : Cover) → (made names primary options ≡ Ok p) ↔ ((p ≡ record { names = names; primary = primary; options = options }) × IsProblem p) }
+    ensures { (names : List (List ℕ)) (primary : ℕ) (options : List (List ℕ)) (p : ProblemValue) → (problem_from names primary options ≡ Ok p) ↔ ((p ≡ record { names = names; primary = primary; options = options }) × IsProblem p) }
 {}
 
 /// What is written is read as the same problem.
 pub fn written_is_read()
-    ensures { (p : Cover) → IsProblem p → problem_of (written p) ≡ Ok p }
+    ensures { (p : ProblemValue) → IsProblem p → problem_of (written p) ≡ Ok p }
 {}
 
 /// What is written is a text of its problem.
 pub fn written_is_text()
-    ensures { (p : Cover) → IsProblem p → IsCoverText (written p) p }
+    ensures { (p : ProblemValue) → IsProblem p → IsCoverText (written p) p }
 {}
 
 /// The texts that are read are those of the grammar, and each is read as its problem.
 pub fn texts_are_read()
-    ensures { (text : List ℕ) (p : Cover) → ((problem_of text ≡ Ok p) ↔ IsCoverText text p) }
+    ensures { (text : List ℕ) (p : ProblemValue) → ((problem_of text ≡ Ok p) ↔ IsCoverText text p) }
 {}
 
 /// A fault of a line is the first: the lines before it are read, and this line is judged to have it. The fault of the

@@ -1,7 +1,7 @@
 //! Exact cover problems, their texts, and the table that a search stands on.
 #![tactic(auto)]
 
-mod checks;
+mod validation;
 mod draft;
 mod exact_cover;
 mod fault;

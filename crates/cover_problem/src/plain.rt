@@ -5,7 +5,7 @@ ghost use Rattle.cover_problem.specs.Lists.{last_of, numbers, RisesFrom};
 ghost use Rattle.cover_problem.specs.Plain as plain;
 ghost use Rattle.cover_problem.specs.Problem as problem;
 ghost use Rattle.cover_problem.specs.Problem.{IsProblem};
-ghost use Rattle.cover_problem.specs.Table.{AreCovered};
+ghost use Rattle.cover_problem.specs.Table.{IsCoveredList};
 
 use crate::problem::Problem;
 use crate::table::Table;
@@ -23,7 +23,7 @@ const NEVER: u32 = u32::MAX;
 #[derive(Drop)]
 pub struct PlainTable {
     /// The problem, which contracts alone see.
-    subject: Snapshot<Problem>,
+    problem: Snapshot<Problem>,
     primary: u32,
     options: Vec<Vec<u32>>,
     /// For each item the options that have it, rising.
@@ -36,15 +36,15 @@ pub struct PlainTable {
 
 impl Model for PlainTable {
     ghost use Rattle.std.specs.Prelude.{map, vec_capacity};
-    ghost use Rattle.cover_problem.specs.Table.{Standing};
+    ghost use Rattle.cover_problem.specs.Table.{TableValue};
     ghost use Rattle.cover_problem.specs.Plain.{IsPlain};
     ghost use Rattle.cover_problem.specs.declared.plain.TheConstants.{NEVER};
 
-    ghost Value = { Standing };
+    ghost Value = { TableValue };
 
-    ghost view = { λ a. record { subject = a.subject.value; covered = a.covered.items } };
+    ghost view = { λ a. record { problem = a.problem.value; covered = a.covered.items } };
 
-    ghost invariant = { λ a. IsPlain a.subject.value a.primary (map (λ o. o.items) a.options.items) (map (λ o. o.items) a.holders.items) a.covered.items a.times.items NEVER (vec_capacity a.covered) };
+    ghost invariant = { λ a. IsPlain a.problem.value a.primary (map (λ o. o.items) a.options.items) (map (λ o. o.items) a.holders.items) a.covered.items a.times.items NEVER (vec_capacity a.covered) };
 }
 
 /// Whether one of an option's items was covered before this time.
@@ -190,11 +190,11 @@ impl PlainTable {
     /// The options that have an item, and when it was covered.
     fn row(&self, item: u32) -> (&[u32], u32)
         requires some { 0 < item }
-        requires within { item ≤ length self.now.subject.names }
-        ensures options { result.0.now ≡ plain.holding self.now.subject.options item }
+        requires within { item ≤ length self.now.problem.names }
+        ensures options { result.0.now ≡ plain.holding self.now.problem.options item }
         ensures time { result.1 ≡ plain.time_of NEVER self.now.covered item }
-        ensures problem { IsProblem self.now.subject }
-        ensures distinct { AreCovered self.now.subject self.now.covered }
+        ensures problem { IsProblem self.now.problem }
+        ensures distinct { IsCoveredList self.now.problem self.now.covered }
     {
         (
             &self.holders[(item - 1) as usize],
@@ -204,7 +204,7 @@ impl PlainTable {
 
     /// The first of these options that is left at a time.
     fn first_in(&self, holders: &[u32], time: u32) -> Option<u32>
-        requires { All (λ k. (0 < k) × (k ≤ length self.now.subject.options)) holders.now }
+        requires { All (λ k. (0 < k) × (k ≤ length self.now.problem.options)) holders.now }
         ensures { result ≡ find (plain.was_in NEVER self.now time) holders.now }
     {
         first_left(&self.options, &self.times, time, holders)
@@ -212,7 +212,7 @@ impl PlainTable {
 
     /// The last of these options that is left at a time.
     fn last_in(&self, holders: &[u32], time: u32) -> Option<u32>
-        requires { All (λ k. (0 < k) × (k ≤ length self.now.subject.options)) holders.now }
+        requires { All (λ k. (0 < k) × (k ≤ length self.now.problem.options)) holders.now }
         ensures { result ≡ last_of (filter (plain.was_in NEVER self.now time) holders.now) }
     {
         last_left(&self.options, &self.times, time, holders)
@@ -220,7 +220,7 @@ impl PlainTable {
 
     /// How many of these options are left at a time.
     fn count_in(&self, holders: &[u32], time: u32) -> usize
-        requires { All (λ k. (0 < k) × (k ≤ length self.now.subject.options)) holders.now }
+        requires { All (λ k. (0 < k) × (k ≤ length self.now.problem.options)) holders.now }
         ensures { result ≡ length (filter (plain.was_in NEVER self.now time) holders.now) }
     {
         count_left(&self.options, &self.times, time, holders)
@@ -228,7 +228,7 @@ impl PlainTable {
 }
 
 impl Table for PlainTable {
-    ghost subject = { λ t. t.subject };
+    ghost problem_value = { λ t. t.problem };
 
     ghost covered_list = { λ t. t.covered };
 
@@ -239,7 +239,7 @@ impl Table for PlainTable {
         let covered = Vec::with_capacity(alloc, items as usize)?;
         let times = vec![in alloc; NEVER; items as usize]?;
         Ok(PlainTable {
-            subject: Snapshot::of(problem),
+            problem: Snapshot::of(problem),
             primary: problem.primary(),
             options,
             holders,

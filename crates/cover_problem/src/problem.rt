@@ -4,9 +4,9 @@ ghost use Rattle.std.specs.Cmp.Lexicographic.{pointwise};
 ghost use Rattle.std.specs.List.{list_all};
 ghost use Rattle.std.specs.String.{string_bytes};
 ghost use Rattle.cover_problem.specs.Problem.{IsProblem, is_name, option_at, name_at, item_named, is_same};
-ghost use Rattle.cover_problem.specs.Making.{made, IsFaultOf};
+ghost use Rattle.cover_problem.specs.Validation.{problem_from, IsFaultOf};
 
-use crate::checks::checked_names;
+use crate::validation::checked_names;
 use crate::fault::{ProblemFault, Refused};
 use crate::name::Name;
 use indexmap::IndexSet;
@@ -23,9 +23,9 @@ pub struct Problem {
 
 impl Model for Problem {
     ghost use Rattle.std.specs.Prelude.{map};
-    ghost use Rattle.cover_problem.specs.Problem.{Cover, IsProblem};
+    ghost use Rattle.cover_problem.specs.Problem.{ProblemValue, IsProblem};
 
-    ghost Value = { Cover };
+    ghost Value = { ProblemValue };
 
     ghost view = { λ a. record { names = map (λ n. n.bytes) a.names.keys; primary = a.primary; options = map (λ o. o.items) a.options.items } };
 
@@ -64,9 +64,9 @@ impl Problem {
         primary: u32,
         options: Vec<Vec<u32>>,
     ) -> Result<Problem, Refused<ProblemFault, (Vec<String>, Vec<Vec<u32>>)>>
-        ensures made { IfOk result (λ p. made (map string_bytes names.items) primary (map (λ o. o.items) options.items) ≡ Ok p) }
+        ensures made { IfOk result (λ p. problem_from (map string_bytes names.items) primary (map (λ o. o.items) options.items) ≡ Ok p) }
         ensures parts { IfOk result (λ p. p ≡ record { names = map string_bytes names.items; primary = primary; options = map (λ o. o.items) options.items }) }
-        ensures refused { IfErr result (λ r. IsFaultOf r.fault (made (map string_bytes names.items) primary (map (λ o. o.items) options.items))) }
+        ensures refused { IfErr result (λ r. IsFaultOf r.fault (problem_from (map string_bytes names.items) primary (map (λ o. o.items) options.items))) }
         ensures given { IfErr result (λ r. r.given ≡ (names, options)) }
     {
         match checked_names(alloc, &names, primary, &options) {

@@ -1,7 +1,7 @@
 //! The reader of cover texts.
 ghost use Rattle.std.specs.Prelude.{◌≡◌, ℕ, Ok, IfOk, IfErr};
 ghost use Rattle.text_lines.specs.Lines.{lines_of};
-ghost use Rattle.cover_problem.specs.Problem.{Cover};
+ghost use Rattle.cover_problem.specs.Problem.{ProblemValue};
 ghost use Rattle.cover_problem.specs.Reading as spec;
 ghost use Rattle.cover_problem.specs.Reading.{GivesAt, IsFaultAt, lines_read, problem_of};
 ghost use Rattle.cover_problem.specs.Grammar.{IsCoverText};
@@ -63,7 +63,7 @@ pub fn read_cover(alloc: Global, bytes: &[u8]) -> Result<Problem, CoverFault>
     ensures read { IfOk result (λ p. problem_of bytes.now ≡ Ok p) }
     ensures refused { IfErr result (λ f. IsFaultAt f (problem_of bytes.now)) }
     ensures text { IfOk result (λ p. IsCoverText bytes.now p) }
-    ensures every { (p : Cover) → IsCoverText bytes.now p → GivesAt (λ q. q) result (Ok p) }
+    ensures every { (p : ProblemValue) → IsCoverText bytes.now p → GivesAt (λ q. q) result (Ok p) }
 {
     read_problem(alloc, bytes)
 }

@@ -1,9 +1,9 @@
 //! What a search asks of a table.
 ghost use Rattle.std.specs.Prelude.{◌≡◌, ◌<◌, ◌≤◌, List, ◌∷◌, ◌++◌, [], ℕ, length, true, false, OnOk, IfOk};
 ghost use Rattle.cover_problem.specs.Lists.{has, above, below, last_of};
-ghost use Rattle.cover_problem.specs.Problem.{Cover, IsProblem};
+ghost use Rattle.cover_problem.specs.Problem.{ProblemValue, IsProblem};
 ghost use Rattle.cover_problem.specs.Covering.{active, list_of};
-ghost use Rattle.cover_problem.specs.Table.{AreCovered};
+ghost use Rattle.cover_problem.specs.Table.{IsCoveredList};
 
 use crate::problem::Problem;
 use std::alloc::{AllocError, Global};
@@ -14,70 +14,70 @@ use std::alloc::{AllocError, Global};
 /// was covered, and the option calls serve it too. (TAOCP volume 4B, section 7.2.2.1.)
 pub trait Table: Drop {
     /// The problem.
-    ghost subject: { Self → Cover };
+    ghost problem_value: { Self → ProblemValue };
 
     /// The covered items, in the order in which they were covered.
     ghost covered_list: { Self → List ℕ };
 
     /// A table with nothing covered. It has room for all items, so that covering takes no memory.
     fn new(alloc: Global, problem: &Problem) -> Result<Self, AllocError>
-        ensures subject { IfOk result (λ t. subject t ≡ problem.now) }
+        ensures same_problem { IfOk result (λ t. problem_value t ≡ problem.now) }
         ensures covered { IfOk result (λ t. covered_list t ≡ []) };
 
     /// The covered items, in the order in which they were covered.
     fn covered(&self) -> &[u32]
         ensures list { result.now ≡ covered_list self.now }
-        ensures problem { IsProblem (subject self.now) }
-        ensures distinct { AreCovered (subject self.now) (covered_list self.now) };
+        ensures problem { IsProblem (problem_value self.now) }
+        ensures distinct { IsCoveredList (problem_value self.now) (covered_list self.now) };
 
     /// The first active item.
     fn first_item(&self) -> Option<u32>
-        ensures { result ≡ above 0 (active (subject self.now) (covered_list self.now)) };
+        ensures { result ≡ above 0 (active (problem_value self.now) (covered_list self.now)) };
 
     /// The active item after an active one.
     fn next_item(&self, item: u32) -> Option<u32>
-        requires { has (active (subject self.now) (covered_list self.now)) item ≡ true }
-        ensures { result ≡ above item (active (subject self.now) (covered_list self.now)) };
+        requires { has (active (problem_value self.now) (covered_list self.now)) item ≡ true }
+        ensures { result ≡ above item (active (problem_value self.now) (covered_list self.now)) };
 
     /// How many options an item's list has.
     fn len(&self, item: u32) -> u32
         requires some { 0 < item }
-        requires within { item ≤ length (subject self.now).names }
-        ensures { result ≡ length (list_of (subject self.now) (covered_list self.now) item) };
+        requires within { item ≤ length (problem_value self.now).names }
+        ensures { result ≡ length (list_of (problem_value self.now) (covered_list self.now) item) };
 
     /// The first option of an item's list.
     fn first_option(&self, item: u32) -> Option<u32>
         requires some { 0 < item }
-        requires within { item ≤ length (subject self.now).names }
-        ensures { result ≡ above 0 (list_of (subject self.now) (covered_list self.now) item) };
+        requires within { item ≤ length (problem_value self.now).names }
+        ensures { result ≡ above 0 (list_of (problem_value self.now) (covered_list self.now) item) };
 
     /// The last option of an item's list.
     fn last_option(&self, item: u32) -> Option<u32>
         requires some { 0 < item }
-        requires within { item ≤ length (subject self.now).names }
-        ensures { result ≡ last_of (list_of (subject self.now) (covered_list self.now) item) };
+        requires within { item ≤ length (problem_value self.now).names }
+        ensures { result ≡ last_of (list_of (problem_value self.now) (covered_list self.now) item) };
 
     /// The option after one of an item's list.
     fn next_option(&self, item: u32, option: u32) -> Option<u32>
-        requires { has (list_of (subject self.now) (covered_list self.now) item) option ≡ true }
-        ensures { result ≡ above option (list_of (subject self.now) (covered_list self.now) item) };
+        requires { has (list_of (problem_value self.now) (covered_list self.now) item) option ≡ true }
+        ensures { result ≡ above option (list_of (problem_value self.now) (covered_list self.now) item) };
 
     /// The option before one of an item's list.
     fn prev_option(&self, item: u32, option: u32) -> Option<u32>
-        requires { has (list_of (subject self.now) (covered_list self.now) item) option ≡ true }
-        ensures { result ≡ below option (list_of (subject self.now) (covered_list self.now) item) };
+        requires { has (list_of (problem_value self.now) (covered_list self.now) item) option ≡ true }
+        ensures { result ≡ below option (list_of (problem_value self.now) (covered_list self.now) item) };
 
     /// Covers an item that isn't covered.
     fn cover(&mut self, item: u32)
         requires some { 0 < item }
-        requires within { item ≤ length (subject self.old).names }
+        requires within { item ≤ length (problem_value self.old).names }
         requires uncovered { has (covered_list self.old) item ≡ false }
-        ensures subject { subject self.new ≡ subject self.old }
+        ensures same_problem { problem_value self.new ≡ problem_value self.old }
         ensures covered { covered_list self.new ≡ covered_list self.old ++ item ∷ [] };
 
     /// Uncovers the item that was covered last.
     fn uncover(&mut self, item: u32)
         requires { (front : List ℕ) × (covered_list self.old ≡ front ++ item ∷ []) }
-        ensures subject { subject self.new ≡ subject self.old }
+        ensures same_problem { problem_value self.new ≡ problem_value self.old }
         ensures covered { covered_list self.old ≡ covered_list self.new ++ item ∷ [] };
 }

@@ -65,7 +65,7 @@ fn active<T: Table>(alloc: Global, table: &T) -> Result<Vec<u32>, AllocError> {
 /// An item's list, from its first.
 fn list<T: Table>(alloc: Global, table: &T, item: u32) -> Result<Vec<u32>, AllocError>
     requires some { 0 < item }
-    requires within { item ≤ length (T.subject table.now).names }
+    requires within { item ≤ length (T.problem_value table.now).names }
 {
     let mut options = Vec::new(alloc);
     let mut next = table.first_option(item);
@@ -82,7 +82,7 @@ fn list<T: Table>(alloc: Global, table: &T, item: u32) -> Result<Vec<u32>, Alloc
 /// An item's list, from its last.
 fn list_back<T: Table>(alloc: Global, table: &T, item: u32) -> Result<Vec<u32>, AllocError>
     requires some { 0 < item }
-    requires within { item ≤ length (T.subject table.now).names }
+    requires within { item ≤ length (T.problem_value table.now).names }
 {
     let mut options = Vec::new(alloc);
     let mut next = table.last_option(item);
@@ -201,7 +201,7 @@ fn each_fault_is_the_first_one(rt: HostRuntime) -> Result<(), Fail> {
 /// A table with a, d and g covered.
 fn after_a_d_g(alloc: Global, problem: &Problem) -> Result<PlainTable, AllocError>
     requires { length problem.now.names ≡ 7 }
-    ensures subject { IfOk result (λ t. t.subject ≡ problem.now) }
+    ensures same_problem { IfOk result (λ t. t.problem ≡ problem.now) }
     ensures covered { IfOk result (λ t. t.covered ≡ 1 ∷ 4 ∷ 7 ∷ []) }
 {
     let mut table = PlainTable::new(alloc, problem)?;
@@ -218,7 +218,7 @@ fn all_lists<T: Table>(
     table: &T,
     items: u32,
 ) -> Result<Vec<Vec<u32>>, AllocError>
-    requires { items ≤ length (T.subject table.now).names }
+    requires { items ≤ length (T.problem_value table.now).names }
 {
     let mut all = Vec::new(alloc);
     for item in 1..=items {
@@ -266,7 +266,7 @@ fn a_plain_table_filters(rt: HostRuntime) -> Result<(), Fail> {
 /// Uncovers g and d.
 fn back_to_a(table: &mut PlainTable)
     requires { table.old.covered ≡ 1 ∷ 4 ∷ 7 ∷ [] }
-    ensures subject { table.new.subject ≡ table.old.subject }
+    ensures same_problem { table.new.problem ≡ table.old.problem }
     ensures covered { table.new.covered ≡ 1 ∷ [] }
 {
     table.uncover(7);

@@ -1,12 +1,12 @@
 -- Turned and normal forms are images of sets of cells over the integers, with their least corner at 0 0 0.
 use Rattle.std.proofs.Common.{◌≡◌, ℕ, ◌-◌, ◌<◌, ◌≤◌, Bool, true, false, cond, ◌==◌, List, [], ◌∷◌, map, length, ℤ, pos, neg_ℤ, ◌+ℤ◌, inl, refl, sym, ap, subst, ◌∙◌, arith}
 use Rattle.std.proofs.lemmas.Int.{ints}
-use Rattle.poly_cells.specs.Places.{Place, IsPlace, place_cmp}
+use Rattle.poly_cells.specs.Coordinates.{Coordinates, IsInGrid, coordinates_cmp}
 use Rattle.poly_cells.specs.Points.{Point, point_at, point, translated}
 use Rattle.poly_cells.specs.Symmetries.{pick, Matrix, matrix, signed, sent, sent_by}
 use Rattle.poly_cells.specs.Turns.{mirrored, turned_by, turn}
 use Rattle.poly_cells.specs.Sets.{IsIn, in_order}
-use Rattle.poly_cells.specs.Shapes.{AllPlaces, corner, moved_back, normal, turned}
+use Rattle.poly_cells.specs.Shapes.{AllInGrid, corner, moved_back, normal, turned}
 use Rattle.poly_cells.specs.Images.{IsTurned, IsNormal}
 use Rattle.poly_cells.proofs.MatrixLemmas.{same_point}
 use Rattle.poly_cells.proofs.PlaceLemmas.{same_place, place_exact}
@@ -27,40 +27,40 @@ unfolding lift_one
 lifted false c h = omega (arith, ints)
 lifted true c h = omega (arith, ints)
 
-picked : (first second minus : Bool) (v : Place) → IsPlace v
+picked : (first second minus : Bool) (v : Coordinates) → IsInGrid v
     → pos (mirrored minus (cond first v.x (cond second v.y v.z))) ≡ signed minus (cond first (pos v.x) (cond second (pos v.y) (pos v.z))) +ℤ lift_one minus
 picked true second minus v h = lifted minus v.x h.x_in
 picked false true minus v h = lifted minus v.y h.y_in
 picked false false minus v h = lifted minus v.z h.z_in
 
-row : (f : ℕ) (minus : Bool) (v : Place) → IsPlace v → pos (mirrored minus (pick f v.x v.y v.z)) ≡ signed minus (pick f (pos v.x) (pos v.y) (pos v.z)) +ℤ lift_one minus
+row : (f : ℕ) (minus : Bool) (v : Coordinates) → IsInGrid v → pos (mirrored minus (pick f v.x v.y v.z)) ≡ signed minus (pick f (pos v.x) (pos v.y) (pos v.z)) +ℤ lift_one minus
 row f minus v h = picked (f == 0) (f == 1) minus v h
 
-turned_is_lifted : (m : Matrix) (v : Place) → IsPlace v → point (turned_by m v) ≡ translated (lift m) (sent m (point v))
+turned_is_lifted : (m : Matrix) (v : Coordinates) → IsInGrid v → point (turned_by m v) ≡ translated (lift m) (sent m (point v))
 unfolding lift
 turned_is_lifted m v h =
     same_point _ _ _ _ _ _ (row m.from_x m.minus_x v h) (row m.from_y m.minus_y v h) (row m.from_z m.minus_z v h)
 
-pub turn_is_lifted : (n : ℕ) (v : Place) → IsPlace v → point (turn n v) ≡ translated (lift (matrix n)) (sent_by n (point v))
+pub turn_is_lifted : (n : ℕ) (v : Coordinates) → IsInGrid v → point (turn n v) ≡ translated (lift (matrix n)) (sent_by n (point v))
 turn_is_lifted n v h = turned_is_lifted (matrix n) v h
 
 mirrored_in : (minus : Bool) (c : ℕ) → c ≤ 31 → mirrored minus c ≤ 31
 mirrored_in false c h = h
 mirrored_in true c h = omega arith
 
-pick_in : (first second : Bool) (v : Place) → IsPlace v → cond first v.x (cond second v.y v.z) ≤ 31
+pick_in : (first second : Bool) (v : Coordinates) → IsInGrid v → cond first v.x (cond second v.y v.z) ≤ 31
 pick_in true second v h = h.x_in
 pick_in false true v h = h.y_in
 pick_in false false v h = h.z_in
 
-turned_by_in : (m : Matrix) (v : Place) → IsPlace v → IsPlace (turned_by m v)
+turned_by_in : (m : Matrix) (v : Coordinates) → IsInGrid v → IsInGrid (turned_by m v)
 turned_by_in m v h = record {
   x_in = mirrored_in m.minus_x (pick m.from_x v.x v.y v.z) (pick_in (m.from_x == 0) (m.from_x == 1) v h);
   y_in = mirrored_in m.minus_y (pick m.from_y v.x v.y v.z) (pick_in (m.from_y == 0) (m.from_y == 1) v h);
   z_in = mirrored_in m.minus_z (pick m.from_z v.x v.y v.z) (pick_in (m.from_z == 0) (m.from_z == 1) v h);
 }
 
-pub turn_in : (n : ℕ) (v : Place) → IsPlace v → IsPlace (turn n v)
+pub turn_in : (n : ℕ) (v : Coordinates) → IsInGrid v → IsInGrid (turn n v)
 turn_in n v h = turned_by_in (matrix n) v h
 
 -- ---- points and translations
@@ -68,18 +68,18 @@ turn_in n v h = turned_by_in (matrix n) v h
 pos_same : (m n : ℕ) → pos m ≡ pos n → m ≡ n
 pos_same m n h = cc
 
-pub point_same : (v w : Place) → point v ≡ point w → v ≡ w
+pub point_same : (v w : Coordinates) → point v ≡ point w → v ≡ w
 point_same v w h =
     same_place v.x v.y v.z w.x w.y w.z (pos_same v.x w.x (ap (λ (p : Point). p.x) h)) (pos_same v.y w.y (ap (λ (p : Point). p.y) h)) (pos_same v.z w.z (ap (λ (p : Point). p.z) h))
 
 -- minus the cell's coordinates
-pub negated : Place → Point
+pub negated : Coordinates → Point
 negated k = point_at (neg_ℤ (pos k.x)) (neg_ℤ (pos k.y)) (neg_ℤ (pos k.z))
 
 back_one : (k c : ℕ) → k ≤ c → pos (c - k) ≡ pos c +ℤ neg_ℤ (pos k)
 back_one k c h = omega (arith, ints)
 
-pub moved_back_point : (k v : Place) → k.x ≤ v.x → k.y ≤ v.y → k.z ≤ v.z → point (moved_back k v) ≡ translated (negated k) (point v)
+pub moved_back_point : (k v : Coordinates) → k.x ≤ v.x → k.y ≤ v.y → k.z ≤ v.z → point (moved_back k v) ≡ translated (negated k) (point v)
 unfolding negated
 moved_back_point k v x y z = same_point _ _ _ _ _ _ (back_one k.x v.x x) (back_one k.y v.y y) (back_one k.z v.z z)
 
@@ -91,13 +91,13 @@ translated_twice d e v = same_point _ _ _ _ _ _ (sum_assoc v.x e.x d.x) (sum_ass
 
 -- ---- the normal form
 
-below_corner : (vs : List Place) (v : Place) → IsIn v vs → point (moved_back (corner vs) v) ≡ translated (negated (corner vs)) (point v)
+below_corner : (vs : List Coordinates) (v : Coordinates) → IsIn v vs → point (moved_back (corner vs) v) ≡ translated (negated (corner vs)) (point v)
 below_corner vs v i = moved_back_point (corner vs) v (least_below (λ w. w.x) vs v i) (least_below (λ w. w.y) vs v i) (least_below (λ w. w.z) vs v i)
 
 none_left : (a b : ℕ) → a ≡ b → a - b ≡ 0
 none_left a b h = omega arith
 
-pub normal_is : (vs : List Place) → 0 < length vs → AllPlaces vs → IsNormal vs (normal vs)
+pub normal_is : (vs : List Coordinates) → 0 < length vs → AllInGrid vs → IsNormal vs (normal vs)
 unfolding normal
 normal_is vs some limits = record {
   by = negated (corner vs);
@@ -123,23 +123,23 @@ in_from_some [] h = absurd (omega arith)
 in_from_some (x ∷ xs) h = (x, inl refl)
 
 -- the images of the cells, in order
-abbrev pub turned_set : ℕ → List Place → List Place
-turned_set n vs = in_order place_cmp (map (turn n) vs)
+abbrev pub turned_set : ℕ → List Coordinates → List Coordinates
+turned_set n vs = in_order coordinates_cmp (map (turn n) vs)
 
-pub turned_set_into : (n : ℕ) (vs : List Place) (v : Place) → IsIn v vs → IsIn (turn n v) (turned_set n vs)
+pub turned_set_into : (n : ℕ) (vs : List Coordinates) (v : Coordinates) → IsIn v vs → IsIn (turn n v) (turned_set n vs)
 turned_set_into n vs v i = in_to_order place_exact (turn n v) (map (turn n) vs) (in_map (turn n) v vs i)
 
-pub turned_set_onto : (n : ℕ) (vs : List Place) (w : Place) → IsIn w (turned_set n vs) → (v : Place) × IsIn v vs × (w ≡ turn n v)
-turned_set_onto n vs w i = in_from_map (turn n) w vs (in_from_order place_cmp w (map (turn n) vs) i)
+pub turned_set_onto : (n : ℕ) (vs : List Coordinates) (w : Coordinates) → IsIn w (turned_set n vs) → (v : Coordinates) × IsIn v vs × (w ≡ turn n v)
+turned_set_onto n vs w i = in_from_map (turn n) w vs (in_from_order coordinates_cmp w (map (turn n) vs) i)
 
-pub turned_set_some : (n : ℕ) (vs : List Place) → 0 < length vs → 0 < length (turned_set n vs)
+pub turned_set_some : (n : ℕ) (vs : List Coordinates) → 0 < length vs → 0 < length (turned_set n vs)
 turned_set_some n vs some = let one = in_from_some vs some in some_from_in (turn n one.0) (turned_set n vs) (turned_set_into n vs one.0 one.1)
 
-pub turned_set_limits : (n : ℕ) (vs : List Place) → AllPlaces vs → AllPlaces (turned_set n vs)
+pub turned_set_limits : (n : ℕ) (vs : List Coordinates) → AllInGrid vs → AllInGrid (turned_set n vs)
 turned_set_limits n vs limits w i =
-    let from = turned_set_onto n vs w i in subst IsPlace (sym from.2) (turn_in n from.0 (limits from.0 from.1))
+    let from = turned_set_onto n vs w i in subst IsInGrid (sym from.2) (turn_in n from.0 (limits from.0 from.1))
 
-pub turned_is : (n : ℕ) (vs : List Place) → 0 < length vs → AllPlaces vs → IsTurned n vs (turned n vs)
+pub turned_is : (n : ℕ) (vs : List Coordinates) → 0 < length vs → AllInGrid vs → IsTurned n vs (turned n vs)
 unfolding turned
 turned_is n vs some limits =
     let settled = normal_is (turned_set n vs) (turned_set_some n vs some) (turned_set_limits n vs limits) in

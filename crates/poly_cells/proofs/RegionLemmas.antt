@@ -1,7 +1,7 @@
 -- A symmetry and some translation bring a region onto itself exactly where its turned form is its normal form.
 use Rattle.std.proofs.Common.{◌≡◌, ℕ, List, ℤ, pos, ◌+ℤ◌, ◌-ℤ◌, sym, ap, subst, ◌∙◌, arith}
 use Rattle.std.proofs.lemmas.Int.{ints}
-use Rattle.poly_cells.specs.Places.{Place}
+use Rattle.poly_cells.specs.Coordinates.{Coordinates}
 use Rattle.poly_cells.specs.Points.{Point, point_at, point, translated}
 use Rattle.poly_cells.specs.Symmetries.{sent_by}
 use Rattle.poly_cells.specs.Sets.{IsIn}
@@ -29,7 +29,7 @@ led_back p m q d e a b =
     (back_one p.y m.y q.y d.y e.y (ap (λ (u : Point). u.y) a) (ap (λ (u : Point). u.y) b))
     (back_one p.z m.z q.z d.z e.z (ap (λ (u : Point). u.z) a) (ap (λ (u : Point). u.z) b))
 
-pub symmetry_from_forms : (n : ℕ) (vs : List Place) → IsShape vs → turned n vs ≡ normal vs → HasSymmetry n vs
+pub symmetry_from_forms : (n : ℕ) (vs : List Coordinates) → IsShape vs → turned n vs ≡ normal vs → HasSymmetry n vs
 symmetry_from_forms n vs s same =
     let t = turned_is n vs s.some s.limits in
     let m = normal_is vs s.some s.limits in (
@@ -68,7 +68,7 @@ no_shift a a' b b' e p q r s = omega (arith, ints)
 stays : (v : Point) (e : Point) → e.x ≡ pos 0 → e.y ≡ pos 0 → e.z ≡ pos 0 → translated e v ≡ v
 stays v e x y z = same_point _ _ _ _ _ _ (omega (arith, ints)) (omega (arith, ints)) (omega (arith, ints))
 
-at_rest : (vs ws : List Place) (e : Point) → IsAtOrigin vs → IsAtOrigin ws → IsTranslate e vs ws → (v : Point) → translated e v ≡ v
+at_rest : (vs ws : List Coordinates) (e : Point) → IsAtOrigin vs → IsAtOrigin ws → IsTranslate e vs ws → (v : Point) → translated e v ≡ v
 at_rest vs ws e o p t =
     let ax = t.into o.x.0 o.x.1 in
     let bx = t.onto p.x.0 p.x.1 in
@@ -81,14 +81,14 @@ at_rest vs ws e o p t =
     (no_shift o.y.0.y ay.0.y p.y.0.y by.0.y e.y (ap (λ (u : Point). u.y) ay.2) o.y.2 (ap (λ (u : Point). u.y) by.2) p.y.2)
     (no_shift o.z.0.z az.0.z p.z.0.z bz.0.z e.z (ap (λ (u : Point). u.z) az.2) o.z.2 (ap (λ (u : Point). u.z) bz.2) p.z.2)
 
-pub same_at_origin : (vs ws : List Place) (e : Point) → IsShape vs → IsShape ws → IsAtOrigin vs → IsAtOrigin ws → IsTranslate e vs ws → vs ≡ ws
+pub same_at_origin : (vs ws : List Coordinates) (e : Point) → IsShape vs → IsShape ws → IsAtOrigin vs → IsAtOrigin ws → IsTranslate e vs ws → vs ≡ ws
 same_at_origin vs ws e s r o p t =
     let rest = at_rest vs ws e o p t in
     same_members place_total vs ws s.rises r.rises
     (λ v i. let w = t.into v i in subst (λ u. IsIn u ws) (point_same w.0 v (w.2 ∙ rest (point v))) w.1)
     (λ w i. let v = t.onto w i in subst (λ u. IsIn u vs) (sym (point_same w v.0 (v.2 ∙ rest (point v.0)))) v.1)
 
-pub forms_from_symmetry : (n : ℕ) (vs : List Place) → IsShape vs → HasSymmetry n vs → turned n vs ≡ normal vs
+pub forms_from_symmetry : (n : ℕ) (vs : List Coordinates) → IsShape vs → HasSymmetry n vs → turned n vs ≡ normal vs
 forms_from_symmetry n vs s h =
     let t = turned_is n vs s.some s.limits in
     let m = normal_is vs s.some s.limits in

@@ -1,6 +1,6 @@
 -- The examples of specs/Symmetries.antt and specs/Turns.antt, computed.
 use Rattle.std.proofs.Common.{◌≡◌, [], ◌∷◌, refl, pos, negsuc, take, slice_index}
-use Rattle.poly_cells.specs.Places.{place}
+use Rattle.poly_cells.specs.Coordinates.{coordinates}
 use Rattle.poly_cells.specs.Points.{point_at}
 use Rattle.poly_cells.specs.Symmetries.{matrix, sent_by, determinant, is_rotation, rotations}
 use Rattle.poly_cells.specs.Turns.{turn}
@@ -15,7 +15,7 @@ turns_about_x : sent_by 9 (point_at (pos 1) (pos 2) (pos 3)) ≡ point_at (pos 1
 unfolding matrix
 turns_about_x = refl
 
-turns_a_cell : turn 9 (place 1 2 3) ≡ place 1 3 29
+turns_a_cell : turn 9 (coordinates 1 2 3) ≡ coordinates 1 3 29
 unfolding matrix
 turns_a_cell = refl
 

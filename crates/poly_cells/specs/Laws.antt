@@ -1,12 +1,12 @@
 -- What the laws say: the symmetries are a group, the rotations a part of it, and turned shapes are images of sets.
 use Rattle.std.specs.Prelude.{◌≡◌, ℕ, ◌<◌, ◌↔◌, pos, List, length}
 use Rattle.std.specs.List.Sorted.{IsStrictlyIncreasing}
-use Rattle.poly_cells.specs.Places.{Place, IsPlace}
+use Rattle.poly_cells.specs.Coordinates.{Coordinates, IsInGrid}
 use Rattle.poly_cells.specs.Points.{Point, point_at, point, translated}
 use Rattle.poly_cells.specs.Symmetries.{Matrix, IsSignedPermutation, matrix, sent, sent_by, IsComposed, row_times, determinant, rotations}
 use Rattle.poly_cells.specs.Turns.{turn}
 use Rattle.poly_cells.specs.Sets.{IsIn}
-use Rattle.poly_cells.specs.Shapes.{AllPlaces, normal, turned}
+use Rattle.poly_cells.specs.Shapes.{AllInGrid, normal, turned}
 use Rattle.poly_cells.specs.Images.{IsTurned, IsNormal}
 
 -- the 48 numbers stand for exactly the signed permutation matrices, which act on points as matrices do
@@ -34,9 +34,9 @@ pub record AreRotations : Type 0 where
 
 -- turning by 31 - c is the matrix and then a translation, which depends on the symmetry alone
 abbrev pub AgreesWithMatrix : Type 0
-AgreesWithMatrix = (n : ℕ) → (d : Point) × ((v : Place) → IsPlace v → point (turn n v) ≡ translated d (sent_by n (point v)))
+AgreesWithMatrix = (n : ℕ) → (d : Point) × ((v : Coordinates) → IsInGrid v → point (turn n v) ≡ translated d (sent_by n (point v)))
 
 -- a set of cells has one turned form and one normal form, which are its image and itself, with the least corner at 0 0 0
 pub record AreImages : Type 0 where
-  pub turns : (n : ℕ) (vs : List Place) → 0 < length vs → AllPlaces vs → IsTurned n vs (turned n vs)
-  pub settles : (vs : List Place) → 0 < length vs → AllPlaces vs → IsNormal vs (normal vs)
+  pub turns : (n : ℕ) (vs : List Coordinates) → 0 < length vs → AllInGrid vs → IsTurned n vs (turned n vs)
+  pub settles : (vs : List Coordinates) → 0 < length vs → AllInGrid vs → IsNormal vs (normal vs)

@@ -1,4 +1,4 @@
-pub mod Places
+pub mod Coordinates
 pub mod Points
 pub mod Symmetries
 pub mod Turns

@@ -1,6 +1,6 @@
 -- Points with integer coordinates: where matrices act, and where a translation may lead anywhere.
 use Rattle.std.specs.Prelude.{ℤ, pos, ◌+ℤ◌}
-use Rattle.poly_cells.specs.Places.{Place}
+use Rattle.poly_cells.specs.Coordinates.{Coordinates}
 
 -- a triple of integers
 pub record Point : Type 0 where
@@ -13,7 +13,7 @@ abbrev pub point_at : ℤ → ℤ → ℤ → Point
 point_at x y z = record { x = x; y = y; z = z }
 
 -- a cell's triple as a point
-abbrev pub point : Place → Point
+abbrev pub point : Coordinates → Point
 point v = point_at (pos v.x) (pos v.y) (pos v.z)
 
 -- the point v, translated by d

@@ -3,7 +3,7 @@
 --
 -- Example: symmetry 9 sends the cell 1 2 3 to 1 3 29 (proofs/SymmetryExamples.antt).
 use Rattle.std.specs.Prelude.{ℕ, ◌-◌, Bool, cond}
-use Rattle.poly_cells.specs.Places.{Place, place}
+use Rattle.poly_cells.specs.Coordinates.{Coordinates, coordinates}
 use Rattle.poly_cells.specs.Symmetries.{pick, Matrix, matrix}
 
 -- c, or c counted from the other end
@@ -11,10 +11,10 @@ abbrev pub mirrored : Bool → ℕ → ℕ
 mirrored minus c = cond minus (31 - c) c
 
 -- the cell to which the matrix turns v
-abbrev pub turned_by : Matrix → Place → Place
+abbrev pub turned_by : Matrix → Coordinates → Coordinates
 turned_by m v =
-    place (mirrored m.minus_x (pick m.from_x v.x v.y v.z)) (mirrored m.minus_y (pick m.from_y v.x v.y v.z)) (mirrored m.minus_z (pick m.from_z v.x v.y v.z))
+    coordinates (mirrored m.minus_x (pick m.from_x v.x v.y v.z)) (mirrored m.minus_y (pick m.from_y v.x v.y v.z)) (mirrored m.minus_z (pick m.from_z v.x v.y v.z))
 
 -- the cell to which symmetry n turns v
-abbrev pub turn : ℕ → Place → Place
+abbrev pub turn : ℕ → Coordinates → Coordinates
 turn n v = turned_by (matrix n) v

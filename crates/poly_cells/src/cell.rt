@@ -1,6 +1,6 @@
 //! One cell of the grid.
 ghost use Rattle.std.specs.Prelude.{◌≡◌, ◌≢◌, ◌≤◌, ◌↔◌, ℕ, pos, ◌+ℤ◌, IfOk, IsOk, IfSome, IfNone};
-ghost use Rattle.poly_cells.specs.Places.{Place, place, IsPlace};
+ghost use Rattle.poly_cells.specs.Coordinates.{Coordinates, coordinates, IsInGrid};
 ghost use Rattle.poly_cells.specs.Points.{point, point_at, translated};
 ghost use Rattle.poly_cells.specs.Symmetries.{pick};
 ghost use Rattle.poly_cells.specs.Turns.{mirrored, turned_by};
@@ -24,13 +24,13 @@ pub struct Cell {
 
 impl Model for Cell {
     ghost use Rattle.std.specs.Prelude.{ℕ, ◌≤◌};
-    ghost use Rattle.poly_cells.specs.Places.{Place, place, IsPlace};
+    ghost use Rattle.poly_cells.specs.Coordinates.{Coordinates, coordinates, IsInGrid};
 
-    ghost Value = { Place };
+    ghost Value = { Coordinates };
 
-    ghost view = { λ c. place c.x c.y c.z };
+    ghost view = { λ c. coordinates c.x c.y c.z };
 
-    ghost invariant = { λ c. IsPlace (place c.x c.y c.z) };
+    ghost invariant = { λ c. IsInGrid (coordinates c.x c.y c.z) };
 
     ghost inverse = { λ v. record { x = v.x; y = v.y; z = v.z } };
 }
@@ -38,8 +38,8 @@ impl Model for Cell {
 impl Cell {
     /// The cell with these coordinates, or a refusal where one of them is above 31.
     pub fn new(x: u8, y: u8, z: u8) -> Result<Self, CellFault>
-        ensures value { IfOk result (λ cell. cell ≡ place x y z) }
-        ensures accepted { IsOk result ↔ IsPlace (place x y z) }
+        ensures value { IfOk result (λ cell. cell ≡ coordinates x y z) }
+        ensures accepted { IsOk result ↔ IsInGrid (coordinates x y z) }
     {
         if x > LAST || y > LAST || z > LAST {
             return Err(CellFault::OutOfRange);
@@ -73,18 +73,18 @@ impl Cell {
 
     // The cell with these coordinates.
     pub(crate) fn at(x: u8, y: u8, z: u8) -> Cell
-        requires { IsPlace (place x y z) }
-        ensures { result ≡ place x y z }
+        requires { IsInGrid (coordinates x y z) }
+        ensures { result ≡ coordinates x y z }
     {
         Cell { x, y, z }
     }
 
     // The coordinate at place 0, 1 or 2.
-    fn coordinate(self, place: u8) -> u8
-        ensures value { result ≡ pick place self.x self.y self.z }
+    fn coordinate(self, coordinates: u8) -> u8
+        ensures value { result ≡ pick coordinates self.x self.y self.z }
         ensures limit { result ≤ 31 }
     {
-        match place {
+        match coordinates {
             0 => self.x,
             1 => self.y,
             _ => self.z,
@@ -115,8 +115,8 @@ impl Cell {
 
     // This cell translated, where a cell is there.
     pub(crate) fn translated(self, dx: i32, dy: i32, dz: i32) -> Option<Cell>
-        ensures inside { IfSome result (λ cell. IsPlace cell × (point cell ≡ translated (point_at dx dy dz) (point self))) }
-        ensures outside { IfNone result ((p : Place) → IsPlace p → point p ≢ translated (point_at dx dy dz) (point self)) }
+        ensures inside { IfSome result (λ cell. IsInGrid cell × (point cell ≡ translated (point_at dx dy dz) (point self))) }
+        ensures outside { IfNone result ((p : Coordinates) → IsInGrid p → point p ≢ translated (point_at dx dy dz) (point self)) }
     {
         let x = shifted(self.x, dx)?;
         let y = shifted(self.y, dy)?;

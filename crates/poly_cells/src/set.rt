@@ -2,11 +2,11 @@
 ghost use Rattle.std.specs.Prelude.{◌≡◌, ◌↔◌, IfOk, IsTrue, map};
 ghost use Rattle.poly_cells.specs.Points.{point, point_at};
 ghost use Rattle.poly_cells.specs.Images.{StaysInside, translates};
-ghost use Rattle.poly_cells.specs.Places.{Place, place_cmp};
+ghost use Rattle.poly_cells.specs.Coordinates.{Coordinates, coordinates_cmp};
 ghost use Rattle.poly_cells.specs.Turns.{turned_by};
 ghost use Rattle.poly_cells.specs.Sets.{IsIn, in_order};
 ghost use Rattle.std.specs.List.Sorted.{IsStrictlySortedBy};
-ghost use Rattle.poly_cells.specs.Shapes.{AllPlaces, corner, moved_back};
+ghost use Rattle.poly_cells.specs.Shapes.{AllInGrid, corner, moved_back};
 
 use crate::cell::{Cell, LAST};
 use crate::matrix::SignedPermutation;
@@ -14,9 +14,9 @@ use std::alloc::{AllocError, Global};
 
 /// Puts cells in order, each once.
 pub fn put_in_order(cells: &mut Vec<Cell>)
-    ensures value { cells.new.items ≡ in_order place_cmp cells.old.items }
-    ensures rises { IsStrictlySortedBy place_cmp cells.new.items }
-    ensures members { (v : Place) → IsIn v cells.new.items ↔ IsIn v cells.old.items }
+    ensures value { cells.new.items ≡ in_order coordinates_cmp cells.old.items }
+    ensures rises { IsStrictlySortedBy coordinates_cmp cells.new.items }
+    ensures members { (v : Coordinates) → IsIn v cells.new.items ↔ IsIn v cells.old.items }
 {
     cells.sort_unstable();
     cells.dedup();
@@ -25,7 +25,7 @@ pub fn put_in_order(cells: &mut Vec<Cell>)
 // The least x, the least y and the least z; 31 31 31 where there is no cell.
 pub fn corner_of(cells: &[Cell]) -> Cell
     ensures value { result ≡ corner cells.now }
-    ensures limits { AllPlaces cells.now }
+    ensures limits { AllInGrid cells.now }
 {
     let mut x: u8 = LAST;
     let mut y: u8 = LAST;

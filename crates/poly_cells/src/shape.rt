@@ -1,7 +1,7 @@
 //! Shapes: sets of cells that can be turned and moved.
 ghost use Rattle.std.specs.Prelude.{◌≡◌, ◌<◌, ◌↔◌, IfOk, IsErrOf, length, map};
 ghost use Rattle.std.specs.List.Sorted.{IsStrictlySortedBy};
-ghost use Rattle.poly_cells.specs.Places.{place_cmp};
+ghost use Rattle.poly_cells.specs.Coordinates.{coordinates_cmp};
 ghost use Rattle.poly_cells.specs.Points.{point, point_at};
 ghost use Rattle.poly_cells.specs.Shapes.{IsShape, corner, normal, turned};
 ghost use Rattle.poly_cells.specs.Images.{IsNormal, IsTranslate, IsTurned, StaysInside, translates};
@@ -23,10 +23,10 @@ pub struct Shape {
 
 impl Model for Shape {
     ghost use Rattle.std.specs.Prelude.{◌≡◌, List};
-    ghost use Rattle.poly_cells.specs.Places.{Place};
+    ghost use Rattle.poly_cells.specs.Coordinates.{Coordinates};
     ghost use Rattle.poly_cells.specs.Shapes.{IsShape, corner};
 
-    ghost Value = { List Place };
+    ghost Value = { List Coordinates };
 
     ghost view = { λ a. a.cells.items };
 
@@ -37,7 +37,7 @@ impl Shape {
     /// The shape of these cells.
     pub fn new(cells: Vec<Cell>) -> Self
         requires some { 0 < length cells.items }
-        requires rises { IsStrictlySortedBy place_cmp cells.items }
+        requires rises { IsStrictlySortedBy coordinates_cmp cells.items }
         ensures { result ≡ cells.items }
     {
         let lowest = corner_of(cells.as_slice());
@@ -106,7 +106,7 @@ impl Shape {
 // The shape of these cells with their least corner moved to 0 0 0.
 fn at_origin(alloc: Global, cells: &[Cell], least: Cell) -> Result<Shape, AllocError>
     requires some { 0 < length cells.now }
-    requires rises { IsStrictlySortedBy place_cmp cells.now }
+    requires rises { IsStrictlySortedBy coordinates_cmp cells.now }
     requires least { least ≡ corner cells.now }
     ensures { IfOk result (λ shape. shape ≡ normal cells.now) }
 {

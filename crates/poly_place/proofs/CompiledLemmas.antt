@@ -5,21 +5,21 @@ use Rattle.std.specs.Cmp.Lexicographic.{bytes_decides}
 use Rattle.std.proofs.lemmas.Bool.{and_parts, and_from, or_left, or_right}
 use Rattle.std.proofs.lemmas.Bool.Decides.{nat_tests}
 use Rattle.std.proofs.lemmas.List.{map-append}
-use Rattle.poly_cells.specs.Places.{Place, IsPlace}
+use Rattle.poly_cells.specs.Coordinates.{Coordinates, IsInGrid}
 use Rattle.poly_cells.specs.Sets.{IsIn}
 use Rattle.poly_cells.proofs.PlaceLemmas.{place_total, same_place}
 use Rattle.poly_cells.proofs.SetLemmas.{in_append_cases, in_from_map}
-use Rattle.poly_texts.specs.Cells.{has_place}
+use Rattle.poly_texts.specs.Cells.{has_cell}
 use Rattle.poly_texts.specs.Grammar.{symbol, cell_word}
 use Rattle.poly_texts.specs.Words as words
 use Rattle.poly_texts.specs.Puzzle.{PuzzleValue, IsPuzzle, names_of, has_name}
 use Rattle.poly_texts.proofs.MemberLemmas.{in_from_has, has_from_in}
 use Rattle.cover_problem.specs.declared.limits.TheConstants.{MOST_ITEMS, MOST_OPTIONS, MOST_ENTRIES}
-use Rattle.cover_problem.specs.Making.{made}
+use Rattle.cover_problem.specs.Validation.{problem_from}
 use Rattle.cover_problem.proofs.ProblemLemmas.{made_again, made_is}
 use Rattle.cover_problem.specs.Lists.{has, are_distinct}
-use Rattle.cover_problem.specs.Problem.{Cover, IsProblem, is_name, is_name_byte, is_item, is_option, is_small, are_new}
-use Rattle.poly_place.specs.Packings.{Choice, is_needed, must_fill, IsPlaced, choices, Thing, a_piece, a_cell, needed_things, things, place_among, item_of, things_of, option_of, thing_name, compiled}
+use Rattle.cover_problem.specs.Problem.{ProblemValue, IsProblem, is_name, is_name_byte, is_item, is_option, is_small, are_new}
+use Rattle.poly_place.specs.Packings.{Choice, is_needed, must_fill, IsPlaced, choices, Thing, a_piece, a_cell, needed_things, things, index_among, item_of, things_of, option_of, thing_name, compiled}
 use Rattle.poly_place.specs.Compiled.{CompiledValue, compiled_value, needed_names, filled_cells, entries_of, is_within}
 use Rattle.poly_place.proofs.MemberLemmas.{all_pass, passes}
 use Rattle.poly_place.proofs.DistinctLemmas.{in_from_name, name_from_in, some_passes, IsDistinct, distinct_append, distinct_filter, distinct_map, distinct_rising, distinct_names}
@@ -82,7 +82,7 @@ piece_named n h =
     let byte : is_name_byte n ≡ true = or_left (words.is_name n) (n == 95) h in
     and_from (is_name_byte n) true byte refl
 
-cell_named : (v : Place) → IsPlace v → is_name (cell_word v) ≡ true
+cell_named : (v : Coordinates) → IsInGrid v → is_name (cell_word v) ≡ true
 cell_named v h =
     let x = low_symbol v.x h.x_in in
     let y = low_symbol v.y h.y_in in
@@ -129,13 +129,13 @@ module _ (p : PuzzleValue) (z : IsPuzzle p) where
   maybe_is_name : (n : ℕ) → IsIn n p.maybe_pieces → IsIn n (names_of p.pieces)
   maybe_is_name n i = in_from_name (names_of p.pieces) n (passes (has_name (names_of p.pieces)) p.maybe_pieces z.maybe_named n i)
 
-  maybe_is_cell : (v : Place) → IsIn v p.maybe_cells → IsIn v p.region
-  maybe_is_cell v i = in_from_has p.region v (passes (has_place p.region) p.maybe_cells z.maybe_within v i)
+  maybe_is_cell : (v : Coordinates) → IsIn v p.maybe_cells → IsIn v p.region
+  maybe_is_cell v i = in_from_has p.region v (passes (has_cell p.region) p.maybe_cells z.maybe_within v i)
 
   piece_good : (n : ℕ) → IsIn n (names_of p.pieces) → is_name (thing_name (a_piece n)) ≡ true
   piece_good n i = piece_named n (passes words.is_name (names_of p.pieces) z.named n i)
 
-  cell_good : (v : Place) → IsIn v p.region → is_name (thing_name (a_cell v)) ≡ true
+  cell_good : (v : Coordinates) → IsIn v p.region → is_name (thing_name (a_cell v)) ≡ true
   cell_good v i = cell_named v (z.limits v i)
 
   good : (t : Thing) → IsIn t (things p) → is_name (thing_name t) ≡ true
@@ -145,7 +145,7 @@ module _ (p : PuzzleValue) (z : IsPuzzle p) where
             elim (needed_cases p t a) [
               | inl n ↦ subst (λ (s : Thing). is_name (thing_name s) ≡ true) (sym n.1) (piece_good n.0 n.2)
               | inr v ↦
-                  let c = and_parts (has_place p.region v.0) (not (has_place p.maybe_cells v.0)) v.2 in
+                  let c = and_parts (has_cell p.region v.0) (not (has_cell p.maybe_cells v.0)) v.2 in
                   subst (λ (s : Thing). is_name (thing_name s) ≡ true) (sym v.1) (cell_good v.0 (in_from_has p.region v.0 c.0))
             ]
         | inr b ↦
@@ -196,8 +196,8 @@ module _ (p : PuzzleValue) (z : IsPuzzle p) where
               | inl m ↦ let e = w.2 in let f = m.1 in cc
               | inr v ↦
                   let same : w.0 ≡ v.0 = let e = w.2 in let f = v.1 in cc in
-                  not_both (has_place p.maybe_cells w.0) (has_from_in p.maybe_cells w.0 w.1)
-                  (and_parts (has_place p.region w.0) (not (has_place p.maybe_cells w.0)) (subst (λ (u : Place). must_fill p u ≡ true) (sym same) v.2)).1
+                  not_both (has_cell p.maybe_cells w.0) (has_from_in p.maybe_cells w.0 w.1)
+                  (and_parts (has_cell p.region w.0) (not (has_cell p.maybe_cells w.0)) (subst (λ (u : Coordinates). must_fill p u ≡ true) (sym same) v.2)).1
             ]
       ]
 
@@ -221,15 +221,15 @@ module _ (p : PuzzleValue) (z : IsPuzzle p) where
             let names : list_all (has_name p.maybe_pieces) (names_of p.pieces) ≡ true =
             all_pass (has_name p.maybe_pieces) (names_of p.pieces) (λ n i.
             elim (bool_cases (has_name p.maybe_pieces n)) [ inl t ↦ t | inr g ↦ absurd (no_needed e (a_piece n) (needed_piece p n i (not_false (has_name p.maybe_pieces n) g))) ]) in
-            let cells : list_all (has_place p.maybe_cells) p.region ≡ true =
-            all_pass (has_place p.maybe_cells) p.region (λ v i.
-            elim (bool_cases (has_place p.maybe_cells v)) [
+            let cells : list_all (has_cell p.maybe_cells) p.region ≡ true =
+            all_pass (has_cell p.maybe_cells) p.region (λ v i.
+            elim (bool_cases (has_cell p.maybe_cells v)) [
               | inl t ↦ t
               | inr g ↦
                   absurd (no_needed e (a_cell v)
-                  (needed_cell p v (and_from (has_place p.region v) (not (has_place p.maybe_cells v)) (has_from_in p.region v i) (not_false (has_place p.maybe_cells v) g))))
+                  (needed_cell p v (and_from (has_cell p.region v) (not (has_cell p.maybe_cells v)) (has_from_in p.region v i) (not_false (has_cell p.maybe_cells v) g))))
             ]) in
-            let all = and_from (list_all (has_name p.maybe_pieces) (names_of p.pieces)) (list_all (has_place p.maybe_cells) p.region) names cells in
+            let all = and_from (list_all (has_name p.maybe_pieces) (names_of p.pieces)) (list_all (has_cell p.maybe_cells) p.region) names cells in
             let required = z.required in
             cc
       ]
@@ -266,8 +266,8 @@ module _ (p : PuzzleValue) (z : IsPuzzle p) where
   item_within t i =
       let at = (place_in nothing t (things p) i).0 in
       let long = long_map thing_name (things p) in
-      and_from (nat_lt 0 (place_among t (things p) + 1)) (nat_le (place_among t (things p) + 1) (length (map thing_name (things p))))
-      (lt_true 0 (place_among t (things p) + 1) (omega arith)) (true_le (place_among t (things p) + 1) (length (map thing_name (things p))) (omega (arith, at, long)))
+      and_from (nat_lt 0 (index_among t (things p) + 1)) (nat_le (index_among t (things p) + 1) (length (map thing_name (things p))))
+      (lt_true 0 (index_among t (things p) + 1) (omega arith)) (true_le (index_among t (things p) + 1) (length (map thing_name (things p))) (omega (arith, at, long)))
 
   option_good : (c : Choice) → IsPlaced p c → is_option (length (map thing_name (things p))) (option_of p c) ≡ true
   option_good c h =
@@ -313,11 +313,11 @@ names_are p =
     pieces [] = refl
     pieces (n ∷ ns) = ap (λ (ws : List (List ℕ)). (n ∷ []) ∷ ws) (pieces ns)
 
-    cells : (vs : List Place) → map cell_word vs ≡ map thing_name (map a_cell vs)
+    cells : (vs : List Coordinates) → map cell_word vs ≡ map thing_name (map a_cell vs)
     cells [] = refl
     cells (v ∷ vs) = ap (λ (ws : List (List ℕ)). cell_word v ∷ ws) (cells vs)
 
-    two : (ns : List ℕ) (vs : List Place) → map (λ (n : ℕ). n ∷ []) ns ++ map cell_word vs ≡ map thing_name (map a_piece ns ++ map a_cell vs)
+    two : (ns : List ℕ) (vs : List Coordinates) → map (λ (n : ℕ). n ∷ []) ns ++ map cell_word vs ≡ map thing_name (map a_piece ns ++ map a_cell vs)
     two ns vs = ap₂ (λ (xs ys : List (List ℕ)). xs ++ ys) (pieces ns) (cells vs) ∙ sym (map-append thing_name (map a_piece ns) (map a_cell vs))
 
 -- ---- what is made
@@ -350,13 +350,13 @@ pub record AreParts (p : PuzzleValue) (names : List (List ℕ)) (primary : ℕ) 
   pub options_are : options ≡ map (option_of p) (choices p)
 
 same_made : (p : PuzzleValue) (names : List (List ℕ)) (primary : ℕ) (options : List (List ℕ)) → AreParts p names primary options
-    → made names primary options ≡ made (map thing_name (things p)) (length (needed_things p)) (map (option_of p) (choices p))
+    → problem_from names primary options ≡ problem_from (map thing_name (things p)) (length (needed_things p)) (map (option_of p) (choices p))
 same_made p names primary options a =
-    ap (λ (ns : List (List ℕ)). made ns primary options) a.names_are ∙ ap (λ (k : ℕ). made (map thing_name (things p)) k options) a.primary_is
-    ∙ ap (made (map thing_name (things p)) (length (needed_things p))) a.options_are
+    ap (λ (ns : List (List ℕ)). problem_from ns primary options) a.names_are ∙ ap (λ (k : ℕ). problem_from (map thing_name (things p)) k options) a.primary_is
+    ∙ ap (problem_from (map thing_name (things p)) (length (needed_things p))) a.options_are
 
 pub not_made : (p : PuzzleValue) → IsPuzzle p → (names : List (List ℕ)) (primary : ℕ) (options : List (List ℕ)) → AreParts p names primary options
-    → ((q : Cover) → made names primary options ≡ Ok q → ⊥) → is_small (compiled p) ≡ false
+    → ((q : ProblemValue) → problem_from names primary options ≡ Ok q → ⊥) → is_small (compiled p) ≡ false
 unfolding compiled
 not_made p z names primary options a never =
     elim (bool_cases (is_small (compiled p))) [
@@ -364,19 +364,19 @@ not_made p z names primary options a never =
       | inr f ↦ f
     ]
 
-pub made_of : (p : PuzzleValue) (names : List (List ℕ)) (primary : ℕ) (options : List (List ℕ)) (q : Cover) → AreParts p names primary options
-    → made names primary options ≡ Ok q → (q ≡ compiled p) × (is_small (compiled p) ≡ true)
+pub made_of : (p : PuzzleValue) (names : List (List ℕ)) (primary : ℕ) (options : List (List ℕ)) (q : ProblemValue) → AreParts p names primary options
+    → problem_from names primary options ≡ Ok q → (q ≡ compiled p) × (is_small (compiled p) ≡ true)
 unfolding compiled
 made_of p names primary options q a h =
     let m = made_is (map thing_name (things p)) (length (needed_things p)) (map (option_of p) (choices p)) q (sym (same_made p names primary options a) ∙ h) in
-    (m.0, subst (λ (c : Cover). is_small c ≡ true) m.0 m.1.small)
+    (m.0, subst (λ (c : ProblemValue). is_small c ≡ true) m.0 m.1.small)
 
 -- what is kept
-abbrev pub value_of : Cover → List Place → List ℕ → List Place → CompiledValue
+abbrev pub value_of : ProblemValue → List Coordinates → List ℕ → List Coordinates → CompiledValue
 value_of problem region pieces cells = record { problem = problem; region = region; maybe_pieces = pieces; maybe_cells = cells }
 
-pub same_value : (p : PuzzleValue) (q : Cover) (region : List Place) (pieces : List ℕ) (cells : List Place) → q ≡ compiled p → region ≡ p.region → pieces ≡ p.maybe_pieces → cells ≡ p.maybe_cells
+pub same_value : (p : PuzzleValue) (q : ProblemValue) (region : List Coordinates) (pieces : List ℕ) (cells : List Coordinates) → q ≡ compiled p → region ≡ p.region → pieces ≡ p.maybe_pieces → cells ≡ p.maybe_cells
     → value_of q region pieces cells ≡ compiled_value p
 same_value p q region pieces cells e f g h =
-    ap (λ (x : Cover). value_of x region pieces cells) e ∙ ap (λ (x : List Place). value_of (compiled p) x pieces cells) f
+    ap (λ (x : ProblemValue). value_of x region pieces cells) e ∙ ap (λ (x : List Coordinates). value_of (compiled p) x pieces cells) f
     ∙ ap (λ (x : List ℕ). value_of (compiled p) p.region x cells) g ∙ ap (value_of (compiled p) p.region p.maybe_pieces) h

@@ -4,11 +4,11 @@ use Rattle.std.specs.List.Sorted.{IsStrictlySortedBy}
 use Rattle.std.proofs.lemmas.List.Elements.{filter_more}
 use Rattle.std.proofs.lemmas.Option.{slice_get_within, get_or_from_slice_get}
 use Rattle.std.proofs.lemmas.List.{get_or-map}
-use Rattle.poly_cells.specs.Places.{Place, place_cmp}
+use Rattle.poly_cells.specs.Coordinates.{Coordinates, coordinates_cmp}
 use Rattle.poly_cells.specs.Sets.{IsIn}
 use Rattle.poly_cells.proofs.PlaceLemmas.{place_total}
 use Rattle.poly_cells.proofs.SetLemmas.{in_at, rising_head, rising_tail, rising_cons, rising_none, same_members}
-use Rattle.poly_texts.specs.Cells.{has_place}
+use Rattle.poly_texts.specs.Cells.{has_cell}
 use Rattle.poly_texts.specs.Puzzle.{PuzzleValue, IsPuzzle, names_of, has_name}
 use Rattle.poly_texts.proofs.MemberLemmas.{in_from_has, has_from_in}
 use Rattle.poly_place.specs.Packings.{is_needed, must_fill, needed_things, things, a_piece, a_cell}
@@ -43,23 +43,23 @@ one_left {X} test xs i x before lt is f so =
 
 -- ---- an entry of the pieces
 
-pub record IsEntry (pieces : List (ℕ × List Place)) (k name : ℕ) (piece : List Place) : Type 0 where
+pub record IsEntry (pieces : List (ℕ × List Coordinates)) (k name : ℕ) (piece : List Coordinates) : Type 0 where
   pub lt : k < length (names_of pieces)
   pub is : name ≡ get_or (names_of pieces) k name
   pub low : k < length pieces
   pub at : (name, piece) ≡ get_or pieces k (name, piece)
   pub member : IsIn (name, piece) pieces
 
-pub entry_is : (pieces : List (ℕ × List Place)) (k name : ℕ) (piece : List Place) → slice_get pieces k ≡ Some (name, piece) → IsEntry pieces k name piece
+pub entry_is : (pieces : List (ℕ × List Coordinates)) (k name : ℕ) (piece : List Coordinates) → slice_get pieces k ≡ Some (name, piece) → IsEntry pieces k name piece
 entry_is pieces k name piece h =
     let lt = slice_get_within pieces k (name, piece) h in
     let at = get_or_from_slice_get pieces k (name, piece) (name, piece) h in
     record {
-      lt = subst (λ (n : ℕ). k < n) (sym (long_map (λ (p : ℕ × List Place). p.0) pieces)) lt;
-      is = sym (get_or-map (λ (p : ℕ × List Place). p.0) pieces k (name, piece) name lt ∙ ap (λ (p : ℕ × List Place). p.0) at);
+      lt = subst (λ (n : ℕ). k < n) (sym (long_map (λ (p : ℕ × List Coordinates). p.0) pieces)) lt;
+      is = sym (get_or-map (λ (p : ℕ × List Coordinates). p.0) pieces k (name, piece) name lt ∙ ap (λ (p : ℕ × List Coordinates). p.0) at);
       low = lt;
       at = sym at;
-      member = subst (λ (p : ℕ × List Place). IsIn p pieces) at (in_at pieces k (name, piece) lt);
+      member = subst (λ (p : ℕ × List Coordinates). IsIn p pieces) at (in_at pieces k (name, piece) lt);
     }
 
 -- ---- how many
@@ -87,13 +87,13 @@ pub record AreFew (p : PuzzleValue) : Type 0 where
   pub maybe_cells : length p.maybe_cells ≤ 4096
 
 names_few : (p : PuzzleValue) → IsPuzzle p → length (names_of p.pieces) ≤ 62
-names_few p z = let few = z.few_pieces in subst (λ (n : ℕ). n ≤ 62) (sym (long_map (λ (q : ℕ × List Place). q.0) p.pieces)) few
+names_few p z = let few = z.few_pieces in subst (λ (n : ℕ). n ≤ 62) (sym (long_map (λ (q : ℕ × List Coordinates). q.0) p.pieces)) few
 
-maybe_is : (p : PuzzleValue) → IsPuzzle p → p.maybe_cells ≡ filter (has_place p.maybe_cells) p.region
+maybe_is : (p : PuzzleValue) → IsPuzzle p → p.maybe_cells ≡ filter (has_cell p.maybe_cells) p.region
 maybe_is p z =
-    same_members place_total p.maybe_cells (filter (has_place p.maybe_cells) p.region) z.maybe_rises (filter_rises place_cmp (has_place p.maybe_cells) p.region z.rises)
-    (λ v i. in_filter (has_place p.maybe_cells) v p.region (in_from_has p.region v (passes (has_place p.region) p.maybe_cells z.maybe_within v i)) (has_from_in p.maybe_cells v i))
-    (λ v i. in_from_has p.maybe_cells v (in_from_filter (has_place p.maybe_cells) v p.region i).1)
+    same_members place_total p.maybe_cells (filter (has_cell p.maybe_cells) p.region) z.maybe_rises (filter_rises coordinates_cmp (has_cell p.maybe_cells) p.region z.rises)
+    (λ v i. in_filter (has_cell p.maybe_cells) v p.region (in_from_has p.region v (passes (has_cell p.region) p.maybe_cells z.maybe_within v i)) (has_from_in p.maybe_cells v i))
+    (λ v i. in_from_has p.maybe_cells v (in_from_filter (has_cell p.maybe_cells) v p.region i).1)
 
 pub are_few : (p : PuzzleValue) → IsPuzzle p → AreFew p
 are_few p z =
@@ -102,9 +102,9 @@ are_few p z =
     let a = filter_short (is_needed p) (names_of p.pieces) in
     let b = filter_short (must_fill p) p.region in
     let c = filter_short (has_name p.maybe_pieces) (names_of p.pieces) in
-    let d = filter_short (has_place p.maybe_cells) p.region in
+    let d = filter_short (has_cell p.maybe_cells) p.region in
     let e : length p.maybe_pieces ≡ length (filter (has_name p.maybe_pieces) (names_of p.pieces)) = ap length z.maybe_in_order in
-    let f : length p.maybe_cells ≡ length (filter (has_place p.maybe_cells) p.region) = ap length (maybe_is p z) in
+    let f : length p.maybe_cells ≡ length (filter (has_cell p.maybe_cells) p.region) = ap length (maybe_is p z) in
     record { pieces = omega (arith, a, names); cells = omega (arith, b, region); maybe_pieces = omega (arith, c, e, names); maybe_cells = omega (arith, d, f, region) }
 
 pub needed_count : (p : PuzzleValue) → length (needed_things p) ≡ length (needed_names p) + length (filled_cells p)

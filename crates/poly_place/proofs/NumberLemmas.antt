@@ -3,26 +3,26 @@ use Rattle.std.proofs.Common.{◌≡◌, ℕ, ◌+◌, ◌<◌, ◌≤◌, List,
 use Rattle.std.proofs.Math.ListN.{length-set}
 use Rattle.std.proofs.lemmas.Bool.{and_parts, and_from}
 use Rattle.std.proofs.lemmas.List.{get_or-set_same, get_or-set_other, drop_more, take-append-le, take_all}
-use Rattle.poly_cells.specs.Places.{Place, IsPlace}
+use Rattle.poly_cells.specs.Coordinates.{Coordinates, IsInGrid}
 use Rattle.poly_cells.specs.Sets.{IsIn}
-use Rattle.poly_cells.specs.Shapes.{AllPlaces}
+use Rattle.poly_cells.specs.Shapes.{AllInGrid}
 use Rattle.poly_cells.proofs.PlaceLemmas.{place_total, same_place_Decides}
 use Rattle.poly_cells.proofs.SetLemmas.{in_append_left, in_append_cases, in_map, in_from_map}
-use Rattle.poly_texts.specs.Cells.{is_same, has_place}
+use Rattle.poly_texts.specs.Cells.{is_same, has_cell}
 use Rattle.poly_texts.specs.Puzzle.{PuzzleValue, IsPuzzle, names_of, has_name}
 use Rattle.poly_texts.proofs.MemberLemmas.{in_from_has, has_from_in}
-use Rattle.poly_place.specs.Packings.{must_fill, Thing, a_piece, a_cell, same_thing, needed_things, place_among, item_of}
-use Rattle.poly_place.specs.Tables.{bit_place}
+use Rattle.poly_place.specs.Packings.{must_fill, Thing, a_piece, a_cell, same_thing, needed_things, index_among, item_of}
+use Rattle.poly_place.specs.Tables.{bit_index}
 use Rattle.poly_place.specs.Compiled.{needed_names, filled_cells, number_at, numbered, AreNumbers}
 use Rattle.poly_place.proofs.MemberLemmas.{passes}
 use Rattle.poly_place.proofs.CountLemmas.{long_map}
 use Rattle.poly_place.proofs.DistinctLemmas.{in_from_filter, in_filter, in_from_name, IsDistinct, distinct_filter, distinct_rising}
-use Rattle.poly_place.proofs.TableLemmas.{low, bit_place_same}
+use Rattle.poly_place.proofs.TableLemmas.{low, bit_index_same}
 use Rattle.poly_place.proofs.ThingLemmas.{same_is, place_here, place_later, bool_cases, place_in, place_append, nothing, needed_piece, needed_cell, needed_cases, not_false}
 
 -- ---- places in joined lists
 
-pub place_past : (t : Thing) (xs ys : List Thing) → (IsIn t xs → ⊥) → place_among t (xs ++ ys) ≡ length xs + place_among t ys
+pub place_past : (t : Thing) (xs ys : List Thing) → (IsIn t xs → ⊥) → index_among t (xs ++ ys) ≡ length xs + index_among t ys
 place_past t [] ys no_one = omega arith
 place_past t (x ∷ xs) ys no_one =
     elim (bool_cases (same_thing t x)) [
@@ -34,7 +34,7 @@ place_past t (x ∷ xs) ys no_one =
     ]
 
 -- what stands before the end is a member
-place_found : (t : Thing) (xs : List Thing) → place_among t xs < length xs → IsIn t xs
+place_found : (t : Thing) (xs : List Thing) → index_among t xs < length xs → IsIn t xs
 place_found t [] h = absurd (omega arith)
 place_found t (x ∷ xs) h =
     elim (bool_cases (same_thing t x)) [
@@ -42,7 +42,7 @@ place_found t (x ∷ xs) h =
       | inr e ↦ let z = place_later t x xs e in inr (place_found t xs (omega (arith, z, h)))
     ]
 
-pub place_limit : (t : Thing) (xs : List Thing) → place_among t xs ≤ length xs
+pub place_limit : (t : Thing) (xs : List Thing) → index_among t xs ≤ length xs
 place_limit t [] = omega arith
 place_limit t (x ∷ xs) =
     elim (bool_cases (same_thing t x)) [
@@ -52,13 +52,13 @@ place_limit t (x ∷ xs) =
 
 -- ---- a piece's item
 
-no_cell : (name : ℕ) (vs : List Place) → IsIn (a_piece name) (map a_cell vs) → ⊥
+no_cell : (name : ℕ) (vs : List Coordinates) → IsIn (a_piece name) (map a_cell vs) → ⊥
 no_cell name vs i = let v = in_from_map a_cell (a_piece name) vs i in let m = v.2 in cc
 
-no_piece : (v : Place) (names : List ℕ) → IsIn (a_cell v) (map a_piece names) → ⊥
+no_piece : (v : Coordinates) (names : List ℕ) → IsIn (a_cell v) (map a_piece names) → ⊥
 no_piece v names i = let n = in_from_map a_piece (a_cell v) names i in let m = n.2 in cc
 
-pub needed_item : (p : PuzzleValue) (name place : ℕ) → place ≡ place_among (a_piece name) (map a_piece (needed_names p)) → place < length (needed_names p) → item_of p (a_piece name) ≡ place + 1
+pub needed_item : (p : PuzzleValue) (name place : ℕ) → place ≡ index_among (a_piece name) (map a_piece (needed_names p)) → place < length (needed_names p) → item_of p (a_piece name) ≡ place + 1
 unfolding item_of
 needed_item p name place e h =
     let long : length (map a_piece (needed_names p)) ≡ length (needed_names p) = long_map a_piece (needed_names p) in
@@ -67,8 +67,8 @@ needed_item p name place e h =
     let outer = place_append (a_piece name) (needed_things p) (map a_piece p.maybe_pieces ++ map a_cell p.maybe_cells) (in_append_left (a_piece name) (map a_piece (needed_names p)) (map a_cell (filled_cells p)) here) in
     omega (arith, e, inner, outer)
 
-pub maybe_item : (p : PuzzleValue) (name place later : ℕ) → IsIn name (names_of p.pieces) → place ≡ place_among (a_piece name) (map a_piece (needed_names p))
-    → length (needed_names p) ≤ place → later ≡ place_among (a_piece name) (map a_piece p.maybe_pieces) → item_of p (a_piece name) ≡ length (needed_things p) + later + 1
+pub maybe_item : (p : PuzzleValue) (name place later : ℕ) → IsIn name (names_of p.pieces) → place ≡ index_among (a_piece name) (map a_piece (needed_names p))
+    → length (needed_names p) ≤ place → later ≡ index_among (a_piece name) (map a_piece p.maybe_pieces) → item_of p (a_piece name) ≡ length (needed_things p) + later + 1
 unfolding item_of
 maybe_item p name place later member e h l =
     let long : length (map a_piece (needed_names p)) ≡ length (needed_names p) = long_map a_piece (needed_names p) in
@@ -83,33 +83,33 @@ maybe_item p name place later member e h l =
 
 -- ---- cells, by a table
 
-pub numbered_long : (numbers : List ℕ) (k : ℕ) (vs : List Place) → length (numbered numbers k vs) ≡ length numbers
+pub numbered_long : (numbers : List ℕ) (k : ℕ) (vs : List Coordinates) → length (numbered numbers k vs) ≡ length numbers
 numbered_long numbers k [] = refl
-numbered_long numbers k (v ∷ vs) = numbered_long (slice_set numbers (bit_place v) k) (k + 1) vs ∙ length-set numbers (bit_place v) k
+numbered_long numbers k (v ∷ vs) = numbered_long (slice_set numbers (bit_index v) k) (k + 1) vs ∙ length-set numbers (bit_index v) k
 
-numbered_other : (w : Place) (numbers : List ℕ) (k : ℕ) (vs : List Place) → IsPlace w → AllPlaces vs → (IsIn w vs → ⊥) → number_at (numbered numbers k vs) w ≡ number_at numbers w
+numbered_other : (w : Coordinates) (numbers : List ℕ) (k : ℕ) (vs : List Coordinates) → IsInGrid w → AllInGrid vs → (IsIn w vs → ⊥) → number_at (numbered numbers k vs) w ≡ number_at numbers w
 numbered_other w numbers k [] g all no_one = refl
 numbered_other w numbers k (v ∷ vs) g all no_one =
-    numbered_other w (slice_set numbers (bit_place v) k) (k + 1) vs g (λ u i. all u (inr i)) (λ i. no_one (inr i))
-    ∙ get_or-set_other numbers (bit_place v) (bit_place w) k 0 (λ e. no_one (inl (bit_place_same w v g (all v (inl refl)) e)))
+    numbered_other w (slice_set numbers (bit_index v) k) (k + 1) vs g (λ u i. all u (inr i)) (λ i. no_one (inr i))
+    ∙ get_or-set_other numbers (bit_index v) (bit_index w) k 0 (λ e. no_one (inl (bit_index_same w v g (all v (inl refl)) e)))
 
-numbered_in : (w : Place) (numbers : List ℕ) (k : ℕ) (vs : List Place) → length numbers ≡ 32768 → AllPlaces vs → IsDistinct vs → IsIn w vs
-    → number_at (numbered numbers k vs) w ≡ k + place_among (a_cell w) (map a_cell vs)
+numbered_in : (w : Coordinates) (numbers : List ℕ) (k : ℕ) (vs : List Coordinates) → length numbers ≡ 32768 → AllInGrid vs → IsDistinct vs → IsIn w vs
+    → number_at (numbered numbers k vs) w ≡ k + index_among (a_cell w) (map a_cell vs)
 numbered_in w numbers k [] long all d i = absurd i
 numbered_in w numbers k (v ∷ vs) long all d i =
     elim (bool_cases (is_same w v)) [
       | inl t ↦
           let e : w ≡ v = (same_place_Decides w v).0 t in
           let g = all v (inl refl) in
-          let lt : bit_place v < length numbers = let b = low v g in omega (arith, b, long) in
-          let other = numbered_other v (slice_set numbers (bit_place v) k) (k + 1) vs g (λ u j. all u (inr j)) d.0 in
-          let here = get_or-set_same numbers (bit_place v) k 0 lt in
+          let lt : bit_index v < length numbers = let b = low v g in omega (arith, b, long) in
+          let other = numbered_other v (slice_set numbers (bit_index v) k) (k + 1) vs g (λ u j. all u (inr j)) d.0 in
+          let here = get_or-set_same numbers (bit_index v) k 0 lt in
           let z = place_here (a_cell w) (a_cell v) (map a_cell vs) t in
-          ap (number_at (numbered (slice_set numbers (bit_place v) k) (k + 1) vs)) e ∙ other ∙ here ∙ plus_none k (place_among (a_cell w) (map a_cell (v ∷ vs))) z
+          ap (number_at (numbered (slice_set numbers (bit_index v) k) (k + 1) vs)) e ∙ other ∙ here ∙ plus_none k (index_among (a_cell w) (map a_cell (v ∷ vs))) z
       | inr f ↦
           let later : IsIn w vs = elim i [ inl e ↦ let y = (same_place_Decides w v).1 e in cc | inr r ↦ r ] in
           let rest =
-          numbered_in w (slice_set numbers (bit_place v) k) (k + 1) vs (length-set numbers (bit_place v) k ∙ long) (λ u j. all u (inr j)) d.1 later in
+          numbered_in w (slice_set numbers (bit_index v) k) (k + 1) vs (length-set numbers (bit_index v) k ∙ long) (λ u j. all u (inr j)) d.1 later in
           let z = place_later (a_cell w) (a_cell v) (map a_cell vs) f in
           omega (arith, rest, z)
     ]
@@ -118,11 +118,11 @@ numbered_in w numbers k (v ∷ vs) long all d i =
     plus_none a b h = omega (arith, h)
 
 module _ (p : PuzzleValue) (z : IsPuzzle p) where
-  pub filled_places : AllPlaces (filled_cells p)
+  pub filled_places : AllInGrid (filled_cells p)
   filled_places v i = z.limits v (in_from_filter (must_fill p) v p.region i).0
 
-  pub maybe_places : AllPlaces p.maybe_cells
-  maybe_places v i = z.limits v (in_from_has p.region v (passes (has_place p.region) p.maybe_cells z.maybe_within v i))
+  pub maybe_places : AllInGrid p.maybe_cells
+  maybe_places v i = z.limits v (in_from_has p.region v (passes (has_cell p.region) p.maybe_cells z.maybe_within v i))
 
   filled_distinct : IsDistinct (filled_cells p)
   filled_distinct = distinct_filter (must_fill p) p.region (distinct_rising place_total p.region z.rises)
@@ -130,7 +130,7 @@ module _ (p : PuzzleValue) (z : IsPuzzle p) where
   maybe_distinct : IsDistinct p.maybe_cells
   maybe_distinct = distinct_rising place_total p.maybe_cells z.maybe_rises
 
-  filled_item : (v : Place) → IsIn v (filled_cells p) → item_of p (a_cell v) ≡ length (needed_names p) + place_among (a_cell v) (map a_cell (filled_cells p)) + 1
+  filled_item : (v : Coordinates) → IsIn v (filled_cells p) → item_of p (a_cell v) ≡ length (needed_names p) + index_among (a_cell v) (map a_cell (filled_cells p)) + 1
   unfolding item_of
   filled_item v i =
       let must = (in_from_filter (must_fill p) v p.region i).1 in
@@ -139,7 +139,7 @@ module _ (p : PuzzleValue) (z : IsPuzzle p) where
       let long : length (map a_piece (needed_names p)) ≡ length (needed_names p) = long_map a_piece (needed_names p) in
       omega (arith, outer, inner, long)
 
-  empty_item : (v : Place) → IsIn v p.maybe_cells → item_of p (a_cell v) ≡ length (needed_things p) + length p.maybe_pieces + place_among (a_cell v) (map a_cell p.maybe_cells) + 1
+  empty_item : (v : Coordinates) → IsIn v p.maybe_cells → item_of p (a_cell v) ≡ length (needed_things p) + length p.maybe_pieces + index_among (a_cell v) (map a_cell p.maybe_cells) + 1
   unfolding item_of
   empty_item v i =
       let outside : IsIn (a_cell v) (needed_things p) → ⊥ = λ j.
@@ -147,8 +147,8 @@ module _ (p : PuzzleValue) (z : IsPuzzle p) where
         | inl n ↦ let m = n.1 in cc
         | inr w ↦
             let same : v ≡ w.0 = let m = w.1 in cc in
-            both (has_place p.maybe_cells v) (has_from_in p.maybe_cells v i)
-            (and_parts (has_place p.region v) (not (has_place p.maybe_cells v)) (subst (λ (u : Place). must_fill p u ≡ true) (sym same) w.2)).1
+            both (has_cell p.maybe_cells v) (has_from_in p.maybe_cells v i)
+            (and_parts (has_cell p.region v) (not (has_cell p.maybe_cells v)) (subst (λ (u : Coordinates). must_fill p u ≡ true) (sym same) w.2)).1
       ] in
       let outer = place_past (a_cell v) (needed_things p) (map a_piece p.maybe_pieces ++ map a_cell p.maybe_cells) outside in
       let inner = place_past (a_cell v) (map a_piece p.maybe_pieces) (map a_cell p.maybe_cells) (no_piece v p.maybe_pieces) in
@@ -167,14 +167,14 @@ module _ (p : PuzzleValue) (z : IsPuzzle p) where
       record {
         long = numbered_long one (second + 1) p.maybe_cells ∙ one_long;
         same = λ v i.
-            elim (bool_cases (has_place p.maybe_cells v)) [
+            elim (bool_cases (has_cell p.maybe_cells v)) [
               | inl t ↦
                   let here = in_from_has p.maybe_cells v t in
                   let at = numbered_in v one (second + 1) p.maybe_cells one_long maybe_places maybe_distinct here in
                   let item = empty_item v here in
                   omega (arith, at, item, s)
               | inr n ↦
-                  let here = in_filter (must_fill p) v p.region i (and_from (has_place p.region v) (not (has_place p.maybe_cells v)) (has_from_in p.region v i) (not_false (has_place p.maybe_cells v) n)) in
+                  let here = in_filter (must_fill p) v p.region i (and_from (has_cell p.region v) (not (has_cell p.maybe_cells v)) (has_from_in p.region v i) (not_false (has_cell p.maybe_cells v) n)) in
                   let other = numbered_other v one (second + 1) p.maybe_cells (z.limits v i) maybe_places (λ j. let t = has_from_in p.maybe_cells v j in cc) in
                   let at = numbered_in v base (first + 1) (filled_cells p) long filled_places filled_distinct here in
                   let item = filled_item v here in
@@ -185,11 +185,11 @@ module _ (p : PuzzleValue) (z : IsPuzzle p) where
 -- ---- the loops
 
 -- one cell more is numbered
-pub one_numbered : (numbers new : List ℕ) (k : ℕ) (vs : List Place) (i : ℕ) (v : Place) (place : ℕ) (all : List ℕ) → i < length vs → v ≡ get_or vs i v → place ≡ bit_place v → new ≡ slice_set numbers place k
+pub one_numbered : (numbers new : List ℕ) (k : ℕ) (vs : List Coordinates) (i : ℕ) (v : Coordinates) (place : ℕ) (all : List ℕ) → i < length vs → v ≡ get_or vs i v → place ≡ bit_index v → new ≡ slice_set numbers place k
     → numbered numbers k (drop i vs) ≡ all → numbered new (k + 1) (drop (i + 1) vs) ≡ all
 one_numbered numbers new k vs i v place all lt is at set so =
     ap (λ (ns : List ℕ). numbered ns (k + 1) (drop (i + 1) vs)) (set ∙ ap (λ (j : ℕ). slice_set numbers j k) at)
-    ∙ sym (ap (numbered numbers k) (drop_more vs i v lt) ∙ ap (λ (u : Place). numbered numbers k (u ∷ drop (i + 1) vs)) (sym is)) ∙ so
+    ∙ sym (ap (numbered numbers k) (drop_more vs i v lt) ∙ ap (λ (u : Coordinates). numbered numbers k (u ∷ drop (i + 1) vs)) (sym is)) ∙ so
 
 -- what the vector holds once both lists are numbered as a slice
 pub written : (numbers old : List ℕ) (size : ℕ) → length numbers ≡ size → take size (numbers ++ old) ≡ numbers
@@ -197,7 +197,7 @@ written numbers old size e =
     let all : size ≤ length numbers = omega (arith, e) in
     take-append-le size numbers old all ∙ take_all size numbers (omega (arith, e))
 
-pub written_numbers : (p : PuzzleValue) → IsPuzzle p → (base one old new all left later : List ℕ) (cells empty : List Place) (first second size : ℕ) → length base ≡ 32768 → length base ≡ size
+pub written_numbers : (p : PuzzleValue) → IsPuzzle p → (base one old new all left later : List ℕ) (cells empty : List Coordinates) (first second size : ℕ) → length base ≡ 32768 → length base ≡ size
     → cells ≡ filled_cells p → empty ≡ p.maybe_cells → first ≡ length (needed_names p) → second ≡ length (needed_things p) + length p.maybe_pieces
     → one ≡ numbered base (first + 1) cells → old ≡ take size (one ++ left) → new ≡ numbered old (second + 1) empty
     → all ≡ take size (new ++ later) → AreNumbers p all

@@ -6,12 +6,12 @@ use Rattle.std.proofs.lemmas.Bool.Decides.{nat_tests}
 use Rattle.std.proofs.lemmas.Grind.{flat_map-append}
 use Rattle.std.proofs.lemmas.List.Sums.{sum_by-append}
 use Rattle.std.proofs.lemmas.List.{flat_map_more, take_more, map-append}
-use Rattle.poly_cells.specs.Places.{Place}
+use Rattle.poly_cells.specs.Coordinates.{Coordinates}
 use Rattle.poly_cells.specs.Sets.{IsIn}
 use Rattle.poly_texts.specs.Puzzle.{PuzzleValue, IsPuzzle, names_of}
 use Rattle.cover_problem.specs.declared.limits.TheConstants.{MOST_OPTIONS, MOST_ENTRIES}
 use Rattle.poly_place.specs.Placements.{placements}
-use Rattle.poly_place.specs.Packings.{Choice, choice, is_needed, must_fill, is_useful, choices_of, choices, Thing, a_piece, a_cell, same_thing, needed_things, place_among, item_of, option_of}
+use Rattle.poly_place.specs.Packings.{Choice, choice, is_needed, must_fill, is_useful, choices_of, choices, Thing, a_piece, a_cell, same_thing, needed_things, index_among, item_of, option_of}
 use Rattle.poly_place.specs.Compiled.{number_at, AreNumbers, option_by, has_primary, options_by, entries_of, is_within}
 use Rattle.poly_place.proofs.CountLemmas.{long_append}
 use Rattle.poly_cells.proofs.SetLemmas.{in_map}
@@ -21,7 +21,7 @@ use Rattle.poly_place.proofs.ThingLemmas.{same_is, place_later, bool_cases, item
 
 -- ---- the first items
 
-place_before : (t : Thing) (xs ys : List Thing) → place_among t (xs ++ ys) < length xs → IsIn t xs
+place_before : (t : Thing) (xs ys : List Thing) → index_among t (xs ++ ys) < length xs → IsIn t xs
 place_before t [] ys h = absurd (omega (arith, h))
 place_before t (x ∷ xs) ys h =
     elim (bool_cases (same_thing t x)) [
@@ -53,28 +53,28 @@ piece_first p name i =
     ])
     (λ h. true_le (item_of p (a_piece name)) (length (needed_things p)) (item_needed p (a_piece name) (needed_piece p name i h)))
 
-cell_first : (p : PuzzleValue) (v : Place) → nat_le (item_of p (a_cell v)) (length (needed_things p)) ≡ must_fill p v
+cell_first : (p : PuzzleValue) (v : Coordinates) → nat_le (item_of p (a_cell v)) (length (needed_things p)) ≡ must_fill p v
 cell_first p v =
     both_true (nat_le (item_of p (a_cell v)) (length (needed_things p))) (must_fill p v)
     (λ h. elim (needed_cases p (a_cell v) (first_item p (a_cell v) (le_true (item_of p (a_cell v)) (length (needed_things p)) h))) [
       | inl n ↦ let m = n.1 in cc
-      | inr w ↦ let same : v ≡ w.0 = let m = w.1 in cc in subst (λ (u : Place). must_fill p u ≡ true) (sym same) w.2
+      | inr w ↦ let same : v ≡ w.0 = let m = w.1 in cc in subst (λ (u : Coordinates). must_fill p u ≡ true) (sym same) w.2
     ])
     (λ h. true_le (item_of p (a_cell v)) (length (needed_things p)) (item_needed p (a_cell v) (needed_cell p v h)))
 
 -- ---- the options of a piece
 
 module _ (p : PuzzleValue) (z : IsPuzzle p) (numbers : List ℕ) (n : AreNumbers p numbers) where
-  cells_same : (vs : List Place) → ((v : Place) → IsIn v vs → IsIn v p.region) → map (number_at numbers) vs ≡ map (item_of p) (map a_cell vs)
+  cells_same : (vs : List Coordinates) → ((v : Coordinates) → IsIn v vs → IsIn v p.region) → map (number_at numbers) vs ≡ map (item_of p) (map a_cell vs)
   cells_same [] inside = refl
   cells_same (v ∷ vs) inside = ap₂ (λ (i : ℕ) (is : List ℕ). i ∷ is) (n.same v (inside v (inl refl))) (cells_same vs (λ u i. inside u (inr i)))
 
-  cells_first : (vs : List Place) → list_any (λ i. nat_le i (length (needed_things p))) (map (item_of p) (map a_cell vs)) ≡ list_any (must_fill p) vs
+  cells_first : (vs : List Coordinates) → list_any (λ i. nat_le i (length (needed_things p))) (map (item_of p) (map a_cell vs)) ≡ list_any (must_fill p) vs
   cells_first [] = refl
   cells_first (v ∷ vs) = ap₂ (λ a b. a || b) (cell_first p v) (cells_first vs)
 
-  kept : (name item : ℕ) (sets : List (List Place)) → item ≡ item_of p (a_piece name) → IsIn name (names_of p.pieces)
-      → ((set : List Place) → IsIn set sets → (v : Place) → IsIn v set → IsIn v p.region)
+  kept : (name item : ℕ) (sets : List (List Coordinates)) → item ≡ item_of p (a_piece name) → IsIn name (names_of p.pieces)
+      → ((set : List Coordinates) → IsIn set sets → (v : Coordinates) → IsIn v set → IsIn v p.region)
       → options_by (length (needed_things p)) numbers item sets ≡ map (option_of p) (filter (is_useful p) (map (choice name) sets))
   kept name item [] e i inside = refl
   kept name item (set ∷ sets) e i inside =
@@ -95,16 +95,16 @@ module _ (p : PuzzleValue) (z : IsPuzzle p) (numbers : List ℕ) (n : AreNumbers
       by_test true false o os c cs t f g = cc
       by_test false true o os c cs t f g = cc
 
-  pub piece_options : (name item : ℕ) (piece : List Place) (sets : List (List Place)) → IsIn (name, piece) p.pieces → item ≡ item_of p (a_piece name) → sets ≡ placements piece p.region
+  pub piece_options : (name item : ℕ) (piece : List Coordinates) (sets : List (List Coordinates)) → IsIn (name, piece) p.pieces → item ≡ item_of p (a_piece name) → sets ≡ placements piece p.region
       → options_by (length (needed_things p)) numbers item sets ≡ map (option_of p) (choices_of p (name, piece))
   piece_options name item piece sets i e s =
       ap (options_by (length (needed_things p)) numbers item) s
-      ∙ kept name item (placements piece p.region) e (in_map (λ (q : ℕ × List Place). q.0) (name, piece) p.pieces i)
+      ∙ kept name item (placements piece p.region) e (in_map (λ (q : ℕ × List Coordinates). q.0) (name, piece) p.pieces i)
       (λ set j. (sound piece p.region set ((has_shapes p z).pieces (name, piece) i) j).1.inside)
 
 -- ---- the pieces, one by one
 
-pub one_piece : (p : PuzzleValue) (pieces : List (ℕ × List Place)) (k : ℕ) (q : ℕ × List Place) (before after added : List (List ℕ)) → k < length pieces → q ≡ get_or pieces k q
+pub one_piece : (p : PuzzleValue) (pieces : List (ℕ × List Coordinates)) (k : ℕ) (q : ℕ × List Coordinates) (before after added : List (List ℕ)) → k < length pieces → q ≡ get_or pieces k q
     → added ≡ map (option_of p) (choices_of p q) → after ≡ before ++ added → before ≡ map (option_of p) (flat_map (choices_of p) (take k pieces))
     → after ≡ map (option_of p) (flat_map (choices_of p) (take (k + 1) pieces))
 one_piece p pieces k q before after added lt is new push so =
@@ -112,7 +112,7 @@ one_piece p pieces k q before after added lt is new push so =
     ∙ sym (map-append (option_of p) (flat_map (choices_of p) (take k pieces)) (choices_of p q))
     ∙ ap (map (option_of p))
     (flat_map_more (choices_of p) [] (take k pieces) q
-    ∙ ap (flat_map (choices_of p)) (sym (take_more pieces k q lt ∙ ap (λ (r : ℕ × List Place). take k pieces ++ r ∷ []) (sym is))))
+    ∙ ap (flat_map (choices_of p)) (sym (take_more pieces k q lt ∙ ap (λ (r : ℕ × List Coordinates). take k pieces ++ r ∷ []) (sym is))))
 
 pub all_pieces : (p : PuzzleValue) → map (option_of p) (flat_map (choices_of p) p.pieces) ≡ map (option_of p) (choices p)
 unfolding choices
@@ -143,13 +143,13 @@ take_drop (suc i) [] = refl
 take_drop {X} (suc i) (x ∷ xs) = ap (λ (ys : List X). x ∷ ys) (take_drop i xs)
 
 -- a loop over the sets has no room for one option more
-pub no_room_in : (n primary item : ℕ) (numbers : List ℕ) (sets : List (List Place)) (i : ℕ) (set : List Place) (start before : List (List ℕ)) (option : List ℕ) → i < length sets → set ≡ get_or sets i set
+pub no_room_in : (n primary item : ℕ) (numbers : List ℕ) (sets : List (List Coordinates)) (i : ℕ) (set : List Coordinates) (start before : List (List ℕ)) (option : List ℕ) → i < length sets → set ≡ get_or sets i set
     → option ≡ option_by numbers item set → has_primary primary option ≡ true → before ≡ start ++ options_by primary numbers item (take i sets)
     → is_within n (before ++ option ∷ []) ≡ false → is_within n (start ++ options_by primary numbers item sets) ≡ false
 no_room_in n primary item numbers sets i set start before option lt is made t so f =
     let all = options_by primary numbers item in
     let one : all (take (i + 1) sets) ≡ all (take i sets) ++ option ∷ [] =
-    ap all (take_more sets i set lt ∙ ap (λ (s : List Place). take i sets ++ s ∷ []) (sym is))
+    ap all (take_more sets i set lt ∙ ap (λ (s : List Coordinates). take i sets ++ s ∷ []) (sym is))
     ∙ all_append (take i sets) (set ∷ [])
     ∙ ap (λ (os : List (List ℕ)). all (take i sets) ++ os) (ap (λ (o : List ℕ). cond (has_primary primary o) (o ∷ []) []) (sym made) ∙ ap (λ b. cond b (option ∷ []) []) t) in
     let whole : all sets ≡ all (take (i + 1) sets) ++ all (drop (i + 1) sets) = ap all (sym (take_drop (i + 1) sets)) ∙ all_append (take (i + 1) sets) (drop (i + 1) sets) in
@@ -168,20 +168,20 @@ no_room_in n primary item numbers sets i set start before option lt is made t so
         by_test true both e = ap (λ (zs : List X). x ∷ zs) e
         by_test false both e = e
 
-    all_append : (xs ys : List (List Place)) → options_by primary numbers item (xs ++ ys) ≡ options_by primary numbers item xs ++ options_by primary numbers item ys
+    all_append : (xs ys : List (List Coordinates)) → options_by primary numbers item (xs ++ ys) ≡ options_by primary numbers item xs ++ options_by primary numbers item ys
     all_append xs ys =
         ap (filter (has_primary primary)) (map-append (option_by numbers item) xs ys) ∙ filter_append (has_primary primary) (map (option_by numbers item) xs) (map (option_by numbers item) ys)
 
 -- a loop over the pieces has no room for the options of one more
-pub no_room_at : (p : PuzzleValue) (n : ℕ) (pieces : List (ℕ × List Place)) (k : ℕ) (q : ℕ × List Place) (before added : List (List ℕ)) → k < length pieces → q ≡ get_or pieces k q → pieces ≡ p.pieces
+pub no_room_at : (p : PuzzleValue) (n : ℕ) (pieces : List (ℕ × List Coordinates)) (k : ℕ) (q : ℕ × List Coordinates) (before added : List (List ℕ)) → k < length pieces → q ≡ get_or pieces k q → pieces ≡ p.pieces
     → added ≡ map (option_of p) (choices_of p q) → before ≡ map (option_of p) (flat_map (choices_of p) (take k pieces))
     → is_within n (before ++ added) ≡ false → is_within n (map (option_of p) (choices p)) ≡ false
 no_room_at p n pieces k q before added lt is same new so f =
-    let all = λ (qs : List (ℕ × List Place)). map (option_of p) (flat_map (choices_of p) qs) in
+    let all = λ (qs : List (ℕ × List Coordinates)). map (option_of p) (flat_map (choices_of p) qs) in
     let here = one_piece p pieces k q before (before ++ added) added lt is new refl so in
     let whole : all pieces ≡ (before ++ added) ++ all (drop (k + 1) pieces) =
     ap all (sym (take_drop (k + 1) pieces)) ∙ all_append (take (k + 1) pieces) (drop (k + 1) pieces) ∙ ap (λ (os : List (List ℕ)). os ++ all (drop (k + 1) pieces)) (sym here) in
     ap (is_within n) (sym (all_pieces p) ∙ ap all (sym same) ∙ whole) ∙ no_room n (before ++ added) (all (drop (k + 1) pieces)) f
   where
-    all_append : (xs ys : List (ℕ × List Place)) → map (option_of p) (flat_map (choices_of p) (xs ++ ys)) ≡ map (option_of p) (flat_map (choices_of p) xs) ++ map (option_of p) (flat_map (choices_of p) ys)
+    all_append : (xs ys : List (ℕ × List Coordinates)) → map (option_of p) (flat_map (choices_of p) (xs ++ ys)) ≡ map (option_of p) (flat_map (choices_of p) xs) ++ map (option_of p) (flat_map (choices_of p) ys)
     all_append xs ys = ap (map (option_of p)) (flat_map-append (choices_of p) xs ys) ∙ map-append (option_of p) (flat_map (choices_of p) xs) (flat_map (choices_of p) ys)

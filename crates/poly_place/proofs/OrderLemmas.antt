@@ -4,7 +4,7 @@ use Rattle.std.specs.Cmp.{IsTotalOrder}
 use Rattle.std.specs.Cmp.Lexicographic.{pointwise, lists_ties}
 use Rattle.std.specs.Ordering.{ordering_then, eq_by_cmp}
 use Rattle.std.proofs.lemmas.Cmp.{lists_total}
-use Rattle.poly_cells.specs.Places.{Place, place_cmp}
+use Rattle.poly_cells.specs.Coordinates.{Coordinates, coordinates_cmp}
 use Rattle.poly_cells.specs.Sets.{IsExact}
 use Rattle.poly_cells.proofs.PlaceLemmas.{place_total, place_exact, place_ties}
 use Rattle.poly_texts.specs.Cells.{is_same}
@@ -23,9 +23,9 @@ cells_exact [] [] h = refl
 cells_exact [] (y ∷ ys) h = cc
 cells_exact (x ∷ xs) [] h = cc
 cells_exact (x ∷ xs) (y ∷ ys) h =
-    let parts = then_equal (place_cmp x y) (cells_cmp xs ys) h in
-    ap₂ (λ (v : Place) (vs : List Place). v ∷ vs) (place_exact x y parts.0) (cells_exact xs ys parts.1)
+    let parts = then_equal (coordinates_cmp x y) (cells_cmp xs ys) h in
+    ap₂ (λ (v : Coordinates) (vs : List Coordinates). v ∷ vs) (place_exact x y parts.0) (cells_exact xs ys parts.1)
 
 -- `==` of two sets agrees with the order
-pub cells_ties : (xs ys : List Place) → pointwise is_same xs ys ≡ eq_by_cmp cells_cmp xs ys
-cells_ties = lists_ties place_cmp place_ties
+pub cells_ties : (xs ys : List Coordinates) → pointwise is_same xs ys ≡ eq_by_cmp cells_cmp xs ys
+cells_ties = lists_ties coordinates_cmp place_ties

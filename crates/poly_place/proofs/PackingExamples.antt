@@ -1,6 +1,6 @@
 -- The example of specs/Packings.antt, computed.
 use Rattle.std.proofs.Common.{◌≡◌, [], ◌∷◌, refl}
-use Rattle.poly_cells.specs.Places.{place}
+use Rattle.poly_cells.specs.Coordinates.{coordinates}
 use Rattle.poly_cells.specs.Symmetries.{matrix, is_rotation, rotations}
 use Rattle.poly_cells.specs.Sets.{in_order}
 use Rattle.poly_cells.specs.Shapes.{normal, turned}
@@ -11,13 +11,13 @@ use Rattle.poly_place.specs.Packings.{choice, choices, item_of, a_piece, a_cell,
 -- the pieces A and B of one cell each, for the region 0 0 0, 1 0 0: B may be left out, and 1 0 0 may stay empty
 abbrev pair : PuzzleValue
 pair = record {
-  pieces = (65, place 0 0 0 ∷ []) ∷ (66, place 0 0 0 ∷ []) ∷ [];
+  pieces = (65, coordinates 0 0 0 ∷ []) ∷ (66, coordinates 0 0 0 ∷ []) ∷ [];
   maybe_pieces = 66 ∷ [];
-  region = place 0 0 0 ∷ place 1 0 0 ∷ [];
-  maybe_cells = place 1 0 0 ∷ [];
+  region = coordinates 0 0 0 ∷ coordinates 1 0 0 ∷ [];
+  maybe_cells = coordinates 1 0 0 ∷ [];
 }
 
-three_choices : choices pair ≡ choice 65 (place 0 0 0 ∷ []) ∷ choice 65 (place 1 0 0 ∷ []) ∷ choice 66 (place 0 0 0 ∷ []) ∷ []
+three_choices : choices pair ≡ choice 65 (coordinates 0 0 0 ∷ []) ∷ choice 65 (coordinates 1 0 0 ∷ []) ∷ choice 66 (coordinates 0 0 0 ∷ []) ∷ []
 unfolding choices placements orientations in_order turned normal rotations is_rotation matrix
 three_choices = refl
 
@@ -25,7 +25,7 @@ third_item : item_of pair (a_piece 66) ≡ 3
 unfolding item_of
 third_item = refl
 
-last_item : item_of pair (a_cell (place 1 0 0)) ≡ 4
+last_item : item_of pair (a_cell (coordinates 1 0 0)) ≡ 4
 unfolding item_of
 last_item = refl
 

@@ -4,7 +4,7 @@ use Rattle.std.specs.List.{list_any, flat_map}
 use Rattle.std.proofs.lemmas.Bool.{and_parts, and_from, or_left, or_right, or_cases}
 use Rattle.std.proofs.lemmas.Bool.Decides.{nat_tests}
 use Rattle.std.proofs.lemmas.List.{get_or-map, length-map}
-use Rattle.poly_cells.specs.Places.{Place}
+use Rattle.poly_cells.specs.Coordinates.{Coordinates}
 use Rattle.poly_cells.specs.Sets.{IsIn}
 use Rattle.poly_cells.specs.Shapes.{IsShape}
 use Rattle.poly_cells.proofs.SetLemmas.{in_map, in_from_map, in_at}
@@ -25,7 +25,7 @@ use Rattle.poly_place.proofs.ThingLemmas.{item_same, item_positive, item_needed,
 
 -- each of the pieces and the region are shapes
 pub record HasShapes (p : PuzzleValue) : Type 0 where
-  pub pieces : (named : ℕ × List Place) → IsIn named p.pieces → IsShape (named.1)
+  pub pieces : (named : ℕ × List Coordinates) → IsIn named p.pieces → IsShape (named.1)
   pub region : IsShape p.region
 
 pub has_shapes : (p : PuzzleValue) → IsPuzzle p → HasShapes p
@@ -36,18 +36,18 @@ has_shapes p z = record {
 
 -- ---- what may be chosen is what is placed
 
-useful_from : (p : PuzzleValue) (c : Choice) → is_useful p c ≡ true → (is_needed p c.name ≡ true) ⊎ ((v : Place) × IsIn v c.cells × (must_fill p v ≡ true))
+useful_from : (p : PuzzleValue) (c : Choice) → is_useful p c ≡ true → (is_needed p c.name ≡ true) ⊎ ((v : Coordinates) × IsIn v c.cells × (must_fill p v ≡ true))
 useful_from p c h =
     elim (or_cases (is_needed p c.name) (list_any (must_fill p) c.cells) h) [ inl l ↦ inl l | inr r ↦ inr (some_passes (must_fill p) c.cells r) ]
 
-from_useful : (p : PuzzleValue) (c : Choice) → (is_needed p c.name ≡ true) ⊎ ((v : Place) × IsIn v c.cells × (must_fill p v ≡ true)) → is_useful p c ≡ true
+from_useful : (p : PuzzleValue) (c : Choice) → (is_needed p c.name ≡ true) ⊎ ((v : Coordinates) × IsIn v c.cells × (must_fill p v ≡ true)) → is_useful p c ≡ true
 from_useful p c h =
     elim h [
       | inl l ↦ or_left (is_needed p c.name) (list_any (must_fill p) c.cells) l
       | inr r ↦ or_right (is_needed p c.name) (list_any (must_fill p) c.cells) (passes_some (must_fill p) r.0 c.cells r.1 r.2)
     ]
 
-placed_from : (p : PuzzleValue) → HasShapes p → (name : ℕ) (piece set : List Place) → IsIn (name, piece) p.pieces → IsIn set (placements piece p.region) → is_useful p (choice name set) ≡ true
+placed_from : (p : PuzzleValue) → HasShapes p → (name : ℕ) (piece set : List Coordinates) → IsIn (name, piece) p.pieces → IsIn set (placements piece p.region) → is_useful p (choice name set) ≡ true
     → IsPlaced p (choice name set)
 placed_from p s name piece set named i h =
     let found = sound piece p.region set (s.pieces (name, piece) named) i in
@@ -72,21 +72,21 @@ in_placed p s c h =
 
 -- ---- no choice comes twice
 
-named_by : (p : PuzzleValue) (n : ℕ × List Place) (c : Choice) → IsIn c (choices_of p n) → c.name ≡ n.0
+named_by : (p : PuzzleValue) (n : ℕ × List Coordinates) (c : Choice) → IsIn c (choices_of p n) → c.name ≡ n.0
 named_by p n c i =
     let kept = in_from_filter (is_useful p) c (map (choice (n.0)) (placements (n.1) p.region)) i in
     let set = in_from_map (choice (n.0)) c (placements (n.1) p.region) kept.0 in
     ap (λ (d : Choice). d.name) set.2
 
-named_among : (p : PuzzleValue) (ns : List (ℕ × List Place)) (c : Choice) → IsIn c (flat_map (choices_of p) ns) → IsIn c.name (names_of ns)
+named_among : (p : PuzzleValue) (ns : List (ℕ × List Coordinates)) (c : Choice) → IsIn c (flat_map (choices_of p) ns) → IsIn c.name (names_of ns)
 named_among p ns c i =
     let n = in_from_flat_map (choices_of p) c ns i in
-    subst (λ (m : ℕ). IsIn m (names_of ns)) (sym (named_by p n.0 c n.2)) (in_map (λ (m : ℕ × List Place). m.0) n.0 ns n.1)
+    subst (λ (m : ℕ). IsIn m (names_of ns)) (sym (named_by p n.0 c n.2)) (in_map (λ (m : ℕ × List Coordinates). m.0) n.0 ns n.1)
 
-cells_same : (name : ℕ) (a b : List Place) → choice name a ≡ choice name b → a ≡ b
+cells_same : (name : ℕ) (a b : List Coordinates) → choice name a ≡ choice name b → a ≡ b
 cells_same name a b e = ap (λ (c : Choice). c.cells) e
 
-distinct_of : (p : PuzzleValue) (ns : List (ℕ × List Place)) → IsDistinct (names_of ns) → IsDistinct (flat_map (choices_of p) ns)
+distinct_of : (p : PuzzleValue) (ns : List (ℕ × List Coordinates)) → IsDistinct (names_of ns) → IsDistinct (flat_map (choices_of p) ns)
 distinct_of p [] d = tt
 distinct_of p (n ∷ ns) d =
     distinct_append (choices_of p n) (flat_map (choices_of p) ns)
@@ -146,14 +146,14 @@ in_piece c name i =
       | inr r ↦ let v = in_from_map a_cell (a_piece name) c.cells r in let m = v.2 in cc
     ]
 
-in_cell : (c : Choice) (v : Place) → IsIn (a_cell v) (things_of c) → IsIn v c.cells
+in_cell : (c : Choice) (v : Coordinates) → IsIn (a_cell v) (things_of c) → IsIn v c.cells
 in_cell c v i =
     elim i [
       | inl e ↦ cc
       | inr r ↦
           let w = in_from_map a_cell (a_cell v) c.cells r in
           let same : v ≡ w.0 = let m = w.2 in cc in
-          subst (λ (u : Place). IsIn u c.cells) (sym same) w.1
+          subst (λ (u : Coordinates). IsIn u c.cells) (sym same) w.1
     ]
 
 -- what is chosen, and the number of its option
@@ -242,7 +242,7 @@ module _ (p : PuzzleValue) (z : IsPuzzle p) (h : HasShapes p) (set : ℕ → Boo
   needed_part : (c : Choice) → IsPlaced p c → (t : Thing) × IsIn t (needed_things p) × IsIn t (things_of c)
   needed_part c q =
       elim q.useful [
-        | inl n ↦ (a_piece c.name, needed_piece p c.name (in_map (λ (m : ℕ × List Place). m.0) (c.name, q.piece) p.pieces q.named) n, inl refl)
+        | inl n ↦ (a_piece c.name, needed_piece p c.name (in_map (λ (m : ℕ × List Coordinates). m.0) (c.name, q.piece) p.pieces q.named) n, inl refl)
         | inr v ↦ (a_cell v.0, needed_cell p v.0 v.2, inr (in_map a_cell v.0 c.cells v.1))
       ]
 

@@ -5,14 +5,14 @@ use Rattle.std.proofs.lemmas.Bool.{and_from}
 use Rattle.std.proofs.lemmas.Bool.Decides.{nat_tests}
 use Rattle.std.proofs.lemmas.List.{take_more, take_all, take-append-le, get_or-set_same, get_or-set_other}
 use Rattle.std.proofs.lemmas.List.Folds.{list_any-append}
-use Rattle.poly_cells.specs.Places.{Place, IsPlace}
+use Rattle.poly_cells.specs.Coordinates.{Coordinates, IsInGrid}
 use Rattle.poly_cells.proofs.PlaceLemmas.{same_place, same_place_Decides}
-use Rattle.poly_texts.specs.Cells.{is_same, has_place}
-use Rattle.poly_place.specs.Tables.{bit_place, has_bit, IsTable}
+use Rattle.poly_texts.specs.Cells.{is_same, has_cell}
+use Rattle.poly_place.specs.Tables.{bit_index, has_bit, IsTable}
 
 -- ---- the place of a bit tells the cell
 
-pub low : (v : Place) → IsPlace v → bit_place v < 32768
+pub low : (v : Coordinates) → IsInGrid v → bit_index v < 32768
 low v h = let x = h.x_in in let y = h.y_in in let z = h.z_in in omega arith
 
 same_x : (a b c d e f : ℕ) → b ≤ 31 → c ≤ 31 → e ≤ 31 → f ≤ 31 → 1024 * a + 32 * b + c ≡ 1024 * d + 32 * e + f → a ≡ d
@@ -21,8 +21,8 @@ same_x a b c d e f p q r s h = omega arith
 same_y : (b c e f : ℕ) → c ≤ 31 → f ≤ 31 → 32 * b + c ≡ 32 * e + f → b ≡ e
 same_y b c e f q s h = omega arith
 
-pub bit_place_same : (v w : Place) → IsPlace v → IsPlace w → bit_place v ≡ bit_place w → v ≡ w
-bit_place_same v w h g e =
+pub bit_index_same : (v w : Coordinates) → IsInGrid v → IsInGrid w → bit_index v ≡ bit_index w → v ≡ w
+bit_index_same v w h g e =
     let x = same_x v.x v.y v.z w.x w.y w.z h.y_in h.z_in g.y_in g.z_in e in
     let low_parts : 32 * v.y + v.z ≡ 32 * w.y + w.z = omega (arith, x, e) in
     let y = same_y v.y v.z w.y w.z h.z_in g.z_in low_parts in
@@ -41,26 +41,26 @@ and_under true x y h = h refl
 and_under false x y h = refl
 
 -- within the limits, two tables answer alike where their bits are alike
-alike : (bits new : List Bool) (c : Place) → (IsPlace c → slice_index_or new (bit_place c) false ≡ slice_index_or bits (bit_place c) false) → has_bit new c ≡ has_bit bits c
+alike : (bits new : List Bool) (c : Coordinates) → (IsInGrid c → slice_index_or new (bit_index c) false ≡ slice_index_or bits (bit_index c) false) → has_bit new c ≡ has_bit bits c
 alike bits new c h =
     and_under (nat_le c.x 31) _ _ (λ x. and_under (nat_le c.y 31) _ _ (λ y. and_under (nat_le c.z 31) _ _ (λ z.
     h (record { x_in = le_true c.x 31 x; y_in = le_true c.y 31 y; z_in = le_true c.z 31 z }))))
 
-true_bit : (bits : List Bool) (c : Place) → IsPlace c → slice_index_or bits (bit_place c) false ≡ true → has_bit bits c ≡ true
+true_bit : (bits : List Bool) (c : Coordinates) → IsInGrid c → slice_index_or bits (bit_index c) false ≡ true → has_bit bits c ≡ true
 true_bit bits c h b =
-    and_from (nat_le c.x 31) (nat_le c.y 31 && (nat_le c.z 31 && slice_index_or bits (bit_place c) false)) (true_le c.x 31 h.x_in)
-    (and_from (nat_le c.y 31) (nat_le c.z 31 && slice_index_or bits (bit_place c) false) (true_le c.y 31 h.y_in)
-    (and_from (nat_le c.z 31) (slice_index_or bits (bit_place c) false) (true_le c.z 31 h.z_in) b))
+    and_from (nat_le c.x 31) (nat_le c.y 31 && (nat_le c.z 31 && slice_index_or bits (bit_index c) false)) (true_le c.x 31 h.x_in)
+    (and_from (nat_le c.y 31) (nat_le c.z 31 && slice_index_or bits (bit_index c) false) (true_le c.y 31 h.y_in)
+    (and_from (nat_le c.z 31) (slice_index_or bits (bit_index c) false) (true_le c.z 31 h.z_in) b))
 
 and_parts_of : (b x : Bool) → b && x ≡ true → (b ≡ true) × (x ≡ true)
 and_parts_of true x h = (refl, h)
 and_parts_of false x h = cc
 
-pub bit_in : (bits : List Bool) (c : Place) → has_bit bits c ≡ true → IsPlace c
+pub bit_in : (bits : List Bool) (c : Coordinates) → has_bit bits c ≡ true → IsInGrid c
 bit_in bits c h =
-    let p = and_parts_of (nat_le c.x 31) (nat_le c.y 31 && (nat_le c.z 31 && slice_index_or bits (bit_place c) false)) h in
-    let q = and_parts_of (nat_le c.y 31) (nat_le c.z 31 && slice_index_or bits (bit_place c) false) p.1 in
-    let r = and_parts_of (nat_le c.z 31) (slice_index_or bits (bit_place c) false) q.1 in
+    let p = and_parts_of (nat_le c.x 31) (nat_le c.y 31 && (nat_le c.z 31 && slice_index_or bits (bit_index c) false)) h in
+    let q = and_parts_of (nat_le c.y 31) (nat_le c.z 31 && slice_index_or bits (bit_index c) false) p.1 in
+    let r = and_parts_of (nat_le c.z 31) (slice_index_or bits (bit_index c) false) q.1 in
     record { x_in = le_true c.x 31 p.0; y_in = le_true c.y 31 q.0; z_in = le_true c.z 31 r.0 }
 
 bool_cases : (b : Bool) → (b ≡ true) ⊎ (b ≡ false)
@@ -77,41 +77,41 @@ or_false false b h = sym h
 
 -- ---- one bit more
 
-bit_more : (bits : List Bool) (v c : Place) → IsPlace v → length bits ≡ 32768 → has_bit (slice_set bits (bit_place v) true) c ≡ has_bit bits c || is_same c v
+bit_more : (bits : List Bool) (v c : Coordinates) → IsInGrid v → length bits ≡ 32768 → has_bit (slice_set bits (bit_index v) true) c ≡ has_bit bits c || is_same c v
 bit_more bits v c h long =
-    let new = slice_set bits (bit_place v) true in
+    let new = slice_set bits (bit_index v) true in
     elim (bool_cases (is_same c v)) [
       | inl t ↦
           let e : c ≡ v = (same_place_Decides c v).0 t in
-          let lt : bit_place v < length bits = let b = low v h in omega arith in
-          let at : slice_index_or new (bit_place c) false ≡ true =
-          ap (λ (w : Place). slice_index_or new (bit_place w) false) e ∙ get_or-set_same bits (bit_place v) true false lt in
-          true_bit new c (subst IsPlace (sym e) h) at ∙ or_true (has_bit bits c) (is_same c v) t
+          let lt : bit_index v < length bits = let b = low v h in omega arith in
+          let at : slice_index_or new (bit_index c) false ≡ true =
+          ap (λ (w : Coordinates). slice_index_or new (bit_index w) false) e ∙ get_or-set_same bits (bit_index v) true false lt in
+          true_bit new c (subst IsInGrid (sym e) h) at ∙ or_true (has_bit bits c) (is_same c v) t
       | inr f ↦
-          alike bits new c (λ g. get_or-set_other bits (bit_place v) (bit_place c) true false
-          (λ e. let t = (same_place_Decides c v).1 (bit_place_same c v g h e) in cc))
+          alike bits new c (λ g. get_or-set_other bits (bit_index v) (bit_index c) true false
+          (λ e. let t = (same_place_Decides c v).1 (bit_index_same c v g h e) in cc))
           ∙ or_false (has_bit bits c) (is_same c v) f
     ]
 
-cell_more : (region : List Place) (v c : Place) → has_place (region ++ v ∷ []) c ≡ has_place region c || is_same c v
-cell_more region v c = list_any-append (is_same c) region (v ∷ []) ∙ ap (λ b. has_place region c || b) (single (is_same c v)) where
+cell_more : (region : List Coordinates) (v c : Coordinates) → has_cell (region ++ v ∷ []) c ≡ has_cell region c || is_same c v
+cell_more region v c = list_any-append (is_same c) region (v ∷ []) ∙ ap (λ b. has_cell region c || b) (single (is_same c v)) where
   single : (b : Bool) → b || false ≡ b
   single true = refl
   single false = refl
 
-grown : (region vs : List Place) (i : ℕ) (v : Place) → i < length vs → v ≡ get_or vs i v → (region ++ take i vs) ++ v ∷ [] ≡ region ++ take (i + 1) vs
+grown : (region vs : List Coordinates) (i : ℕ) (v : Coordinates) → i < length vs → v ≡ get_or vs i v → (region ++ take i vs) ++ v ∷ [] ≡ region ++ take (i + 1) vs
 grown region vs i v lt is =
-    append_assoc region (take i vs) (v ∷ []) ∙ ap (λ ws. region ++ ws) (sym (take_more vs i v lt ∙ ap (λ (w : Place). take i vs ++ w ∷ []) (sym is)))
+    append_assoc region (take i vs) (v ∷ []) ∙ ap (λ ws. region ++ ws) (sym (take_more vs i v lt ∙ ap (λ (w : Coordinates). take i vs ++ w ∷ []) (sym is)))
 
 -- a loop that sets the bits of vs has set that of one more
-pub table_more : (region vs : List Place) (i : ℕ) (v : Place) (bits new : List Bool) (k : ℕ) → i < length vs → v ≡ get_or vs i v → IsPlace v → k ≡ bit_place v → new ≡ slice_set bits k true
+pub table_more : (region vs : List Coordinates) (i : ℕ) (v : Coordinates) (bits new : List Bool) (k : ℕ) → i < length vs → v ≡ get_or vs i v → IsInGrid v → k ≡ bit_index v → new ≡ slice_set bits k true
     → IsTable (region ++ take i vs) bits → IsTable (region ++ take (i + 1) vs) new
 table_more region vs i v bits new k lt is h at set t =
-    let one : new ≡ slice_set bits (bit_place v) true = set ∙ ap (λ j. slice_set bits j true) at in
+    let one : new ≡ slice_set bits (bit_index v) true = set ∙ ap (λ j. slice_set bits j true) at in
     record {
-      long = ap length one ∙ length-set bits (bit_place v) true ∙ t.long;
+      long = ap length one ∙ length-set bits (bit_index v) true ∙ t.long;
       same = λ c. ap (λ b. has_bit b c) one ∙ bit_more bits v c h t.long ∙ ap (λ b. b || is_same c v) (t.same c) ∙ sym (cell_more (region ++ take i vs) v c)
-          ∙ ap (λ r. has_place r c) (grown region vs i v lt is);
+          ∙ ap (λ r. has_cell r c) (grown region vs i v lt is);
     }
 
 -- ---- no bit
@@ -128,11 +128,11 @@ and_false false x h = refl
 pub empty_table : (bits : List Bool) (n : ℕ) → bits ≡ replicate n false → n ≡ 32768 → IsTable [] bits
 empty_table bits n e m = record {
   long = ap length e ∙ length-replicate n false ∙ m;
-  same = λ c. and_false (nat_le c.x 31) _ (and_false (nat_le c.y 31) _ (and_false (nat_le c.z 31) _ (ap (λ (b : List Bool). slice_index_or b (bit_place c) false) e ∙ no_bit n (bit_place c))));
+  same = λ c. and_false (nat_le c.x 31) _ (and_false (nat_le c.y 31) _ (and_false (nat_le c.z 31) _ (ap (λ (b : List Bool). slice_index_or b (bit_index c) false) e ∙ no_bit n (bit_index c))));
 }
 
 -- what a vector holds after its bits were changed as a slice
-pub table_written : (region : List Place) (bits old : List Bool) (size : ℕ) → length bits ≡ size → IsTable region bits → IsTable region (take size (bits ++ old))
+pub table_written : (region : List Coordinates) (bits old : List Bool) (size : ℕ) → length bits ≡ size → IsTable region bits → IsTable region (take size (bits ++ old))
 table_written region bits old size e t =
     let all : size ≤ length bits = omega arith in
     let same : take size (bits ++ old) ≡ bits = take-append-le size bits old all ∙ take_all size bits (omega arith) in

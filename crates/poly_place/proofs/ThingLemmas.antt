@@ -1,15 +1,15 @@
 -- The items of a puzzle's problem: each thing has one number, and the required ones have the first.
 use Rattle.std.proofs.Common.{◌≡◌, ℕ, suc, ◌+◌, ◌-◌, ◌<◌, ◌≤◌, List, [], ◌∷◌, ◌++◌, map, filter, length, get_or, Bool, true, false, cond, not, ◌&&◌, ◌==◌, ◌⊎◌, inl, inr, refl, sym, ap, subst, ◌∙◌, arith, eqb-true, eq-eqb}
 use Rattle.std.proofs.lemmas.Bool.{and_from}
-use Rattle.poly_cells.specs.Places.{Place}
+use Rattle.poly_cells.specs.Coordinates.{Coordinates}
 use Rattle.poly_cells.specs.Sets.{IsIn}
 use Rattle.poly_cells.proofs.PlaceLemmas.{same_place_Decides, place_total}
 use Rattle.poly_cells.proofs.SetLemmas.{in_append_left, in_append_right, in_append_cases, in_map, in_from_map, in_at}
-use Rattle.poly_texts.specs.Cells.{has_place}
+use Rattle.poly_texts.specs.Cells.{has_cell}
 use Rattle.poly_texts.specs.Puzzle.{PuzzleValue, IsPuzzle, names_of, has_name}
 use Rattle.poly_texts.proofs.MemberLemmas.{in_from_has, has_from_in}
 use Rattle.cover_problem.specs.Lists.{has}
-use Rattle.poly_place.specs.Packings.{Choice, is_needed, must_fill, IsPlaced, Thing, a_piece, a_cell, same_thing, needed_things, things, place_among, item_of, things_of}
+use Rattle.poly_place.specs.Packings.{Choice, is_needed, must_fill, IsPlaced, Thing, a_piece, a_cell, same_thing, needed_things, things, index_among, item_of, things_of}
 use Rattle.poly_place.proofs.DistinctLemmas.{in_from_filter, in_filter, some_passes, passes_some, in_from_name, IsDistinct, distinct_append, distinct_filter, distinct_map, distinct_rising, distinct_names, distinct_at}
 
 -- ---- the test
@@ -26,11 +26,11 @@ same_itself (a_cell v) = (same_place_Decides v v).1 refl
 
 -- ---- places
 
-pub place_here : (t s : Thing) (ss : List Thing) → same_thing t s ≡ true → place_among t (s ∷ ss) ≡ 0
-place_here t s ss h = ap (λ b. cond b 0 (place_among t ss + 1)) h
+pub place_here : (t s : Thing) (ss : List Thing) → same_thing t s ≡ true → index_among t (s ∷ ss) ≡ 0
+place_here t s ss h = ap (λ b. cond b 0 (index_among t ss + 1)) h
 
-pub place_later : (t s : Thing) (ss : List Thing) → same_thing t s ≡ false → place_among t (s ∷ ss) ≡ place_among t ss + 1
-place_later t s ss h = ap (λ b. cond b 0 (place_among t ss + 1)) h
+pub place_later : (t s : Thing) (ss : List Thing) → same_thing t s ≡ false → index_among t (s ∷ ss) ≡ index_among t ss + 1
+place_later t s ss h = ap (λ b. cond b 0 (index_among t ss + 1)) h
 
 pub bool_cases : (b : Bool) → (b ≡ true) ⊎ (b ≡ false)
 bool_cases true = inl refl
@@ -43,7 +43,7 @@ at_later d s ss k j h = subst (λ (i : ℕ). get_or (s ∷ ss) i d ≡ get_or ss
     one_more = omega arith
 
 -- the place of a member, which stands there
-pub place_in : (d t : Thing) (ss : List Thing) → IsIn t ss → (place_among t ss < length ss) × (get_or ss (place_among t ss) d ≡ t)
+pub place_in : (d t : Thing) (ss : List Thing) → IsIn t ss → (index_among t ss < length ss) × (get_or ss (index_among t ss) d ≡ t)
 place_in d t [] i = absurd i
 place_in d t (s ∷ ss) i =
     elim (bool_cases (same_thing t s)) [
@@ -53,10 +53,10 @@ place_in d t (s ∷ ss) i =
       | inr h ↦
           let z = place_later t s ss h in
           let rest = place_in d t ss (elim i [ inl e ↦ let y = subst (λ (u : Thing). same_thing t u ≡ true) e (same_itself t) in cc | inr r ↦ r ]) in
-          (omega (arith, z, rest.0), at_later d s ss (place_among t (s ∷ ss)) (place_among t ss) z ∙ rest.1)
+          (omega (arith, z, rest.0), at_later d s ss (index_among t (s ∷ ss)) (index_among t ss) z ∙ rest.1)
     ]
 
-pub place_append : (t : Thing) (xs ys : List Thing) → IsIn t xs → place_among t (xs ++ ys) ≡ place_among t xs
+pub place_append : (t : Thing) (xs ys : List Thing) → IsIn t xs → index_among t (xs ++ ys) ≡ index_among t xs
 place_append t [] ys i = absurd i
 place_append t (x ∷ xs) ys i =
     elim (bool_cases (same_thing t x)) [
@@ -74,7 +74,7 @@ nothing = a_piece 0
 pub item_same : (p : PuzzleValue) (a b : Thing) → IsIn a (things p) → IsIn b (things p) → item_of p a ≡ item_of p b → a ≡ b
 unfolding item_of
 item_same p a b i j e =
-    let same : place_among a (things p) ≡ place_among b (things p) = omega (arith, e) in
+    let same : index_among a (things p) ≡ index_among b (things p) = omega (arith, e) in
     sym (place_in nothing a (things p) i).1 ∙ ap (λ (k : ℕ). get_or (things p) k nothing) same ∙ (place_in nothing b (things p) j).1
 
 pub item_positive : (p : PuzzleValue) (t : Thing) → 0 < item_of p t
@@ -102,16 +102,16 @@ and_first : (a b : Bool) → a && b ≡ true → a ≡ true
 and_first true b h = refl
 and_first false b h = cc
 
-pub needed_cell : (p : PuzzleValue) (v : Place) → must_fill p v ≡ true → IsIn (a_cell v) (needed_things p)
+pub needed_cell : (p : PuzzleValue) (v : Coordinates) → must_fill p v ≡ true → IsIn (a_cell v) (needed_things p)
 needed_cell p v h =
     in_append_right (a_cell v) (map a_piece (filter (is_needed p) (names_of p.pieces))) (map a_cell (filter (must_fill p) p.region))
     (in_map a_cell v (filter (must_fill p) p.region)
-    (in_filter (must_fill p) v p.region (in_from_has p.region v (and_first (has_place p.region v) (not (has_place p.maybe_cells v)) h)) h))
+    (in_filter (must_fill p) v p.region (in_from_has p.region v (and_first (has_cell p.region v) (not (has_cell p.maybe_cells v)) h)) h))
 
 -- a required thing is a required piece, or a cell that has to be filled
 abbrev pub IsNeeded : PuzzleValue → Thing → Type 0
 IsNeeded p t =
-    ((name : ℕ) × (t ≡ a_piece name) × IsIn name (names_of p.pieces) × (is_needed p name ≡ true)) ⊎ ((v : Place) × (t ≡ a_cell v) × (must_fill p v ≡ true))
+    ((name : ℕ) × (t ≡ a_piece name) × IsIn name (names_of p.pieces) × (is_needed p name ≡ true)) ⊎ ((v : Coordinates) × (t ≡ a_cell v) × (must_fill p v ≡ true))
 
 pub needed_cases : (p : PuzzleValue) (t : Thing) → IsIn t (needed_things p) → IsNeeded p t
 needed_cases p t i =
@@ -147,7 +147,7 @@ needed_at p z i some within =
     let t = get_or ts (i - 1) nothing in
     let here : IsIn t ts = in_at ts (i - 1) nothing k in
     let found = place_in nothing t ts here in
-    let same : place_among t ts ≡ i - 1 = distinct_at nothing ts (place_among t ts) (i - 1) (needed_distinct p z) found.0 k found.1 in
+    let same : index_among t ts ≡ i - 1 = distinct_at nothing ts (index_among t ts) (i - 1) (needed_distinct p z) found.0 k found.1 in
     let at = place_append t ts (map a_piece p.maybe_pieces ++ map a_cell p.maybe_cells) here in
     (t, here, omega (arith, at, same))
 
@@ -166,21 +166,21 @@ piece_in p name i =
       | inr h ↦ needed_in p (a_piece name) (needed_piece p name i (not_false (has_name p.maybe_pieces name) h))
     ]
 
-pub cell_in : (p : PuzzleValue) (v : Place) → IsIn v p.region → IsIn (a_cell v) (things p)
+pub cell_in : (p : PuzzleValue) (v : Coordinates) → IsIn v p.region → IsIn (a_cell v) (things p)
 cell_in p v i =
-    elim (bool_cases (has_place p.maybe_cells v)) [
+    elim (bool_cases (has_cell p.maybe_cells v)) [
       | inl h ↦
           in_append_right (a_cell v) (needed_things p) (map a_piece p.maybe_pieces ++ map a_cell p.maybe_cells)
           (in_append_right (a_cell v) (map a_piece p.maybe_pieces) (map a_cell p.maybe_cells) (in_map a_cell v p.maybe_cells (in_from_has p.maybe_cells v h)))
       | inr h ↦
           needed_in p (a_cell v)
-          (needed_cell p v (and_from (has_place p.region v) (not (has_place p.maybe_cells v)) (has_from_in p.region v i) (not_false (has_place p.maybe_cells v) h)))
+          (needed_cell p v (and_from (has_cell p.region v) (not (has_cell p.maybe_cells v)) (has_from_in p.region v i) (not_false (has_cell p.maybe_cells v) h)))
     ]
 
 pub parts_in : (p : PuzzleValue) (c : Choice) → IsPlaced p c → (t : Thing) → IsIn t (things_of c) → IsIn t (things p)
 parts_in p c h t i =
     elim i [
-      | inl e ↦ subst (λ (u : Thing). IsIn u (things p)) (sym e) (piece_in p c.name (in_map (λ (n : ℕ × List Place). n.0) (c.name, h.piece) p.pieces h.named))
+      | inl e ↦ subst (λ (u : Thing). IsIn u (things p)) (sym e) (piece_in p c.name (in_map (λ (n : ℕ × List Coordinates). n.0) (c.name, h.piece) p.pieces h.named))
       | inr r ↦
           let v = in_from_map a_cell t c.cells r in
           subst (λ (u : Thing). IsIn u (things p)) (sym v.2) (cell_in p v.0 (h.placed.inside v.0 v.1))

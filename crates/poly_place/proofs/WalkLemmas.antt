@@ -4,7 +4,7 @@ use Rattle.std.specs.List.{list_all, flat_map}
 use Rattle.std.proofs.lemmas.Bool.{and_from}
 use Rattle.std.proofs.lemmas.List.{take_more, take_all, map_more, flat_map_more, map-append}
 use Rattle.std.proofs.lemmas.List.Folds.{list_all-map, list_all_at, list_all_more}
-use Rattle.poly_cells.specs.Places.{Place, place, IsPlace}
+use Rattle.poly_cells.specs.Coordinates.{Coordinates, coordinates, IsInGrid}
 use Rattle.poly_cells.specs.Symmetries.{rotations}
 use Rattle.poly_cells.specs.Sets.{IsIn, in_order}
 use Rattle.poly_cells.specs.Shapes.{moved, moved_back, turned}
@@ -22,28 +22,28 @@ use Rattle.poly_place.proofs.TableLemmas.{bit_in}
 pub item_in : {X : Type 0} (xs : List X) (i : ℕ) (x : X) → i < length xs → x ≡ get_or xs i x → IsIn x xs
 item_in {X} xs i x lt is = subst (λ (y : X). IsIn y xs) (sym is) (in_at xs i x lt)
 
-pub sum_cell : (v d : Place) (x y z a b c : ℕ) → x ≡ v.x → y ≡ v.y → z ≡ v.z → a ≡ d.x → b ≡ d.y → c ≡ d.z → place (x + a) (y + b) (z + c) ≡ moved d v
+pub sum_cell : (v d : Coordinates) (x y z a b c : ℕ) → x ≡ v.x → y ≡ v.y → z ≡ v.z → a ≡ d.x → b ≡ d.y → c ≡ d.z → coordinates (x + a) (y + b) (z + c) ≡ moved d v
 sum_cell v d x y z a b c p q r s t u = same_place _ _ _ _ _ _ (ap₂ (λ m n. m + n) p s) (ap₂ (λ m n. m + n) q t) (ap₂ (λ m n. m + n) r u)
 
-pub one_outside : (test : Place → Bool) (d : Place) (vs : List Place) (i : ℕ) (v : Place) → i < length vs → v ≡ get_or vs i v → test (moved d v) ≡ false → false ≡ list_all test (map (moved d) vs)
+pub one_outside : (test : Coordinates → Bool) (d : Coordinates) (vs : List Coordinates) (i : ℕ) (v : Coordinates) → i < length vs → v ≡ get_or vs i v → test (moved d v) ≡ false → false ≡ list_all test (map (moved d) vs)
 one_outside test d vs i v lt is h =
-    sym (list_all-map test (moved d) vs ∙ list_all_at (λ w. test (moved d w)) vs i v lt (ap (λ (w : Place). test (moved d w)) (sym is) ∙ h))
+    sym (list_all-map test (moved d) vs ∙ list_all_at (λ w. test (moved d w)) vs i v lt (ap (λ (w : Coordinates). test (moved d w)) (sym is) ∙ h))
 
-pub one_inside : (test : Place → Bool) (d : Place) (vs : List Place) (i : ℕ) (v : Place) → i < length vs → v ≡ get_or vs i v → test (moved d v) ≡ true
+pub one_inside : (test : Coordinates → Bool) (d : Coordinates) (vs : List Coordinates) (i : ℕ) (v : Coordinates) → i < length vs → v ≡ get_or vs i v → test (moved d v) ≡ true
     → list_all test (map (moved d) (take i vs)) ≡ true → list_all test (map (moved d) (take (i + 1) vs)) ≡ true
 one_inside test d vs i v lt is h so =
     list_all-map test (moved d) (take (i + 1) vs)
     ∙ list_all_more (λ w. test (moved d w)) vs i v lt
     ∙ and_from (list_all (λ w. test (moved d w)) (take i vs)) (test (moved d (get_or vs i v)))
-    (sym (list_all-map test (moved d) (take i vs)) ∙ so) (ap (λ (w : Place). test (moved d w)) (sym is) ∙ h)
+    (sym (list_all-map test (moved d) (take i vs)) ∙ so) (ap (λ (w : Coordinates). test (moved d w)) (sym is) ∙ h)
 
-pub one_moved : (d : Place) (vs : List Place) (i : ℕ) (v w : Place) (before after : List Place) → i < length vs → v ≡ get_or vs i v → w ≡ moved d v → after ≡ before ++ w ∷ []
+pub one_moved : (d : Coordinates) (vs : List Coordinates) (i : ℕ) (v w : Coordinates) (before after : List Coordinates) → i < length vs → v ≡ get_or vs i v → w ≡ moved d v → after ≡ before ++ w ∷ []
     → before ≡ map (moved d) (take i vs) → after ≡ map (moved d) (take (i + 1) vs)
 one_moved d vs i v w before after lt is at push so =
     push ∙ ap₂ (λ ws u. ws ++ u ∷ []) so (at ∙ ap (moved d) is) ∙ sym (map_more (moved d) vs i v lt)
 
 -- where the table has each cell after the move, each is within the limits
-pub all_within : (bits : List Bool) (d : Place) (vs : List Place) → list_all (has_bit bits) (map (moved d) vs) ≡ true → (v : Place) → IsIn v vs → IsPlace (moved d v)
+pub all_within : (bits : List Bool) (d : Coordinates) (vs : List Coordinates) → list_all (has_bit bits) (map (moved d) vs) ≡ true → (v : Coordinates) → IsIn v vs → IsInGrid (moved d v)
 all_within bits d vs h v i = bit_in bits (moved d v) (passes (has_bit bits) (map (moved d) vs) h (moved d v) (in_map (moved d) v vs i))
 
 -- ---- lists joined, one by one
@@ -56,11 +56,11 @@ one_joined {X} {A} f xs i x start before after lt is add so =
 
 -- ---- two tests that agree
 
-all_same : (p q : Place → Bool) → ((c : Place) → p c ≡ q c) → (vs : List Place) → list_all p vs ≡ list_all q vs
+all_same : (p q : Coordinates → Bool) → ((c : Coordinates) → p c ≡ q c) → (vs : List Coordinates) → list_all p vs ≡ list_all q vs
 all_same p q h [] = refl
 all_same p q h (v ∷ vs) = ap₂ (λ a b. a && b) (h v) (all_same p q h vs)
 
-at_cell_same : (p q : Place → Bool) → ((c : Place) → p c ≡ q c) → (piece : List Place) (c : Place) → at_cell p piece c ≡ at_cell q piece c
+at_cell_same : (p q : Coordinates → Bool) → ((c : Coordinates) → p c ≡ q c) → (piece : List Coordinates) (c : Coordinates) → at_cell p piece c ≡ at_cell q piece c
 at_cell_same p q h [] c = refl
 at_cell_same p q h (f ∷ fs) c =
     let there = map (moved (moved_back f c)) (f ∷ fs) in
@@ -70,7 +70,7 @@ flat_map_same : {X A : Type 0} (f g : X → List A) → ((x : X) → f x ≡ g x
 flat_map_same f g h [] = refl
 flat_map_same f g h (x ∷ xs) = ap₂ (λ a b. a ++ b) (h x) (flat_map_same f g h xs)
 
-pub at_cells_same : (p q : Place → Bool) → ((c : Place) → p c ≡ q c) → (cells : List Place) (pieces : List (List Place)) → flat_map (at_cells p cells) pieces ≡ flat_map (at_cells q cells) pieces
+pub at_cells_same : (p q : Coordinates → Bool) → ((c : Coordinates) → p c ≡ q c) → (cells : List Coordinates) (pieces : List (List Coordinates)) → flat_map (at_cells p cells) pieces ≡ flat_map (at_cells q cells) pieces
 at_cells_same p q h cells pieces =
     flat_map_same (at_cells p cells) (at_cells q cells) (λ piece. flat_map_same (at_cell p piece) (at_cell q piece) (at_cell_same p q h piece) cells) pieces
 
@@ -79,13 +79,13 @@ at_cells_same p q h cells pieces =
 pub mapped_push : {X Y : Type 0} (f : X → Y) (xs ys : List X) (x : X) (y : Y) → ys ≡ xs ++ x ∷ [] → f x ≡ y → map f ys ≡ map f xs ++ y ∷ []
 mapped_push {X} {Y} f xs ys x y push is = ap (map f) push ∙ map-append f xs (x ∷ []) ∙ ap (λ (z : Y). map f xs ++ z ∷ []) is
 
-pub one_turned : (piece : List Place) (r n : ℕ) (before after : List (List Place)) → r < 24 → n ≡ slice_index rotations r → after ≡ before ++ turned n piece ∷ []
+pub one_turned : (piece : List Coordinates) (r n : ℕ) (before after : List (List Coordinates)) → r < 24 → n ≡ slice_index rotations r → after ≡ before ++ turned n piece ∷ []
     → before ≡ map (λ k. turned k piece) (take r rotations) → after ≡ map (λ k. turned k piece) (take (r + 1) rotations)
 one_turned piece r n before after lt is push so =
     let within : r < length rotations = let count = are_rotations.count in omega arith in
     push ∙ ap₂ (λ ws (k : ℕ). ws ++ turned k piece ∷ []) so is ∙ sym (map_more (λ k. turned k piece) rotations r 0 within)
 
-pub all_turned : (piece : List Place) (r : ℕ) (turns : List (List Place)) → 24 ≤ r → turns ≡ map (λ k. turned k piece) (take r rotations) → in_order cells_cmp turns ≡ orientations piece
+pub all_turned : (piece : List Coordinates) (r : ℕ) (turns : List (List Coordinates)) → 24 ≤ r → turns ≡ map (λ k. turned k piece) (take r rotations) → in_order cells_cmp turns ≡ orientations piece
 unfolding orientations
 all_turned piece r turns le so =
     ap (in_order cells_cmp) (so ∙ ap (map (λ k. turned k piece)) (take_all r rotations (let count = are_rotations.count in omega arith)))

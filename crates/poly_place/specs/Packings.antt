@@ -7,22 +7,22 @@
 use Rattle.std.specs.Prelude.{◌≡◌, ℕ, ◌+◌, ◌-◌, ◌<◌, ◌≤◌, ◌==◌, Bool, true, false, not, ◌&&◌, ◌||◌, cond, List, [], ◌∷◌, ◌++◌, ◌⊎◌, map, filter, flat_map, length, slice_index_or}
 use Rattle.std.specs.List.{list_any}
 use Rattle.std.specs.List.Sorted.{IsStrictlySortedBy}
-use Rattle.poly_cells.specs.Places.{Place, place_cmp}
+use Rattle.poly_cells.specs.Coordinates.{Coordinates, coordinates_cmp}
 use Rattle.poly_cells.specs.Sets.{IsIn}
-use Rattle.poly_texts.specs.Cells.{is_same, has_place}
+use Rattle.poly_texts.specs.Cells.{is_same, has_cell}
 use Rattle.poly_texts.specs.Puzzle.{PuzzleValue, IsPuzzle, names_of, has_name}
 use Rattle.poly_texts.specs.Grammar.{cell_word}
-use Rattle.cover_problem.specs.Problem.{Cover}
+use Rattle.cover_problem.specs.Problem.{ProblemValue}
 use Rattle.cover_problem.specs.ExactCover.{IsExactCover}
 use Rattle.poly_place.specs.Placements.{IsPlacement, placements}
 
 -- a piece's name, and a set of cells for it
 pub record Choice : Type 0 where
   pub name : ℕ
-  pub cells : List Place
+  pub cells : List Coordinates
 
 -- the choice of these cells for the piece with this name
-abbrev pub choice : ℕ → List Place → Choice
+abbrev pub choice : ℕ → List Coordinates → Choice
 choice name cells = record { name = name; cells = cells }
 
 -- the piece may not be left out
@@ -30,16 +30,16 @@ abbrev pub is_needed : PuzzleValue → ℕ → Bool
 is_needed p name = not (has_name p.maybe_pieces name)
 
 -- the region has the cell, which may not stay empty
-abbrev pub must_fill : PuzzleValue → Place → Bool
-must_fill p v = has_place p.region v && not (has_place p.maybe_cells v)
+abbrev pub must_fill : PuzzleValue → Coordinates → Bool
+must_fill p v = has_cell p.region v && not (has_cell p.maybe_cells v)
 
 -- the cells are a placement of the piece, which is required or fills one of the cells that have to be filled
 pub record IsPlaced (p : PuzzleValue) (c : Choice) : Type 0 where
-  pub piece : List Place
+  pub piece : List Coordinates
   pub named : IsIn (c.name, piece) p.pieces
-  pub rises : IsStrictlySortedBy place_cmp c.cells
+  pub rises : IsStrictlySortedBy coordinates_cmp c.cells
   pub placed : IsPlacement piece p.region c.cells
-  pub useful : (is_needed p c.name ≡ true) ⊎ ((v : Place) × IsIn v c.cells × (must_fill p v ≡ true))
+  pub useful : (is_needed p c.name ≡ true) ⊎ ((v : Coordinates) × IsIn v c.cells × (must_fill p v ≡ true))
 
 -- some pieces, the required ones among them, each in one placement, which fill each required cell and meet nowhere;
 -- given as a test on choices
@@ -47,8 +47,8 @@ pub record IsPacking (p : PuzzleValue) (chosen : Choice → Bool) : Type 0 where
   pub placed : (c : Choice) → chosen c ≡ true → IsPlaced p c
   pub once : (c d : Choice) → chosen c ≡ true → chosen d ≡ true → c.name ≡ d.name → c ≡ d
   pub used : (name : ℕ) → IsIn name (names_of p.pieces) → is_needed p name ≡ true → (c : Choice) × (chosen c ≡ true) × (c.name ≡ name)
-  pub filled : (v : Place) → must_fill p v ≡ true → (c : Choice) × (chosen c ≡ true) × IsIn v c.cells
-  pub apart : (v : Place) (c d : Choice) → chosen c ≡ true → chosen d ≡ true → IsIn v c.cells → IsIn v d.cells → c ≡ d
+  pub filled : (v : Coordinates) → must_fill p v ≡ true → (c : Choice) × (chosen c ≡ true) × IsIn v c.cells
+  pub apart : (v : Coordinates) (c d : Choice) → chosen c ≡ true → chosen d ≡ true → IsIn v c.cells → IsIn v d.cells → c ≡ d
 
 -- ---- the problem
 
@@ -57,7 +57,7 @@ abbrev pub is_useful : PuzzleValue → Choice → Bool
 is_useful p c = is_needed p c.name || list_any (must_fill p) c.cells
 
 -- what may be chosen for a piece, in the order of its placements
-abbrev pub choices_of : PuzzleValue → ℕ × List Place → List Choice
+abbrev pub choices_of : PuzzleValue → ℕ × List Coordinates → List Choice
 choices_of p named = filter (is_useful p) (map (choice (named.0)) (placements (named.1) p.region))
 
 -- what may be chosen, piece by piece
@@ -67,7 +67,7 @@ choices p = flat_map (choices_of p) p.pieces
 -- what an item stands for: a piece, by its name, or a cell
 pub data Thing : Type 0 where
   a_piece : ℕ → Thing
-  a_cell : Place → Thing
+  a_cell : Coordinates → Thing
 
 -- the two are the same
 abbrev pub same_thing : Thing → Thing → Bool
@@ -85,13 +85,13 @@ abbrev pub things : PuzzleValue → List Thing
 things p = needed_things p ++ (map a_piece p.maybe_pieces ++ map a_cell p.maybe_cells)
 
 -- how many come before the thing
-abbrev pub place_among : Thing → List Thing → ℕ
-place_among t [] = 0
-place_among t (s ∷ ss) = cond (same_thing t s) 0 (place_among t ss + 1)
+abbrev pub index_among : Thing → List Thing → ℕ
+index_among t [] = 0
+index_among t (s ∷ ss) = cond (same_thing t s) 0 (index_among t ss + 1)
 
 -- the number of the item that stands for the thing
 unfoldable pub item_of : PuzzleValue → Thing → ℕ
-item_of p t = place_among t (things p) + 1
+item_of p t = index_among t (things p) + 1
 
 -- the piece, and then its cells in order
 abbrev pub things_of : Choice → List Thing
@@ -107,7 +107,7 @@ thing_name (a_piece name) = name ∷ []
 thing_name (a_cell v) = cell_word v
 
 -- the problem that stands for the puzzle
-unfoldable pub compiled : PuzzleValue → Cover
+unfoldable pub compiled : PuzzleValue → ProblemValue
 compiled p = record { names = map thing_name (things p); primary = length (needed_things p); options = map (option_of p) (choices p) }
 
 -- ---- packings and exact covers

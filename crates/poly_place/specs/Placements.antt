@@ -7,8 +7,8 @@ use Rattle.std.specs.List.{list_all, flat_map}
 use Rattle.std.specs.List.Sorted.{IsStrictlySortedBy}
 use Rattle.std.specs.Cmp.Lexicographic.{slice_cmp}
 use Rattle.std.specs.declared.cmp.Ordering.{Ordering}
-use Rattle.poly_cells.specs.Places.{Place, place_cmp}
-use Rattle.poly_texts.specs.Cells.{has_place}
+use Rattle.poly_cells.specs.Coordinates.{Coordinates, coordinates_cmp}
+use Rattle.poly_texts.specs.Cells.{has_cell}
 use Rattle.poly_cells.specs.Points.{Point}
 use Rattle.poly_cells.specs.Symmetries.{rotations}
 use Rattle.poly_cells.specs.Sets.{IsIn, in_order}
@@ -16,50 +16,50 @@ use Rattle.poly_cells.specs.Shapes.{IsShape, moved, moved_back, turned}
 use Rattle.poly_cells.specs.Images.{IsImage}
 
 -- sets of cells are ordered as lists of cells
-abbrev pub cells_cmp : List Place → List Place → Ordering
-cells_cmp = slice_cmp place_cmp
+abbrev pub cells_cmp : List Coordinates → List Coordinates → Ordering
+cells_cmp = slice_cmp coordinates_cmp
 
 -- a set of region cells to which a rotation and then a translation bring the piece
-pub record IsPlacement (piece region set : List Place) : Type 0 where
+pub record IsPlacement (piece region set : List Coordinates) : Type 0 where
   pub rotation : ℕ
   pub by : Point
   pub turns : IsIn rotation rotations
   pub image : IsImage rotation by piece set
-  pub inside : (c : Place) → IsIn c set → IsIn c region
+  pub inside : (c : Coordinates) → IsIn c set → IsIn c region
 
 -- exactly the placements, each once, in order
-pub record ArePlacements (piece region : List Place) (sets : List (List Place)) : Type 0 where
+pub record ArePlacements (piece region : List Coordinates) (sets : List (List Coordinates)) : Type 0 where
   pub rises : IsStrictlySortedBy cells_cmp sets
-  pub sound : (set : List Place) → IsIn set sets → IsStrictlySortedBy place_cmp set × IsPlacement piece region set
-  pub complete : (set : List Place) → IsStrictlySortedBy place_cmp set → 0 < length set → IsPlacement piece region set → IsIn set sets
+  pub sound : (set : List Coordinates) → IsIn set sets → IsStrictlySortedBy coordinates_cmp set × IsPlacement piece region set
+  pub complete : (set : List Coordinates) → IsStrictlySortedBy coordinates_cmp set → 0 < length set → IsPlacement piece region set → IsIn set sets
 
 -- ---- the list of the placements
 
 -- no coordinate of v is above that of w
-abbrev pub is_below : Place → Place → Bool
+abbrev pub is_below : Coordinates → Coordinates → Bool
 is_below v w = nat_le v.x w.x && (nat_le v.y w.y && nat_le v.z w.z)
 
 -- the set, where each of its cells is inside
-abbrev pub if_inside : (Place → Bool) → List Place → List (List Place)
+abbrev pub if_inside : (Coordinates → Bool) → List Coordinates → List (List Coordinates)
 if_inside inside set = cond (list_all inside set) (set ∷ []) []
 
 -- the piece moved up so that its first cell comes to c, where that is possible and each cell is then inside
-abbrev pub at_cell : (Place → Bool) → List Place → Place → List (List Place)
+abbrev pub at_cell : (Coordinates → Bool) → List Coordinates → Coordinates → List (List Coordinates)
 at_cell inside [] c = []
 at_cell inside (f ∷ fs) c = cond (is_below f c) (if_inside inside (map (moved (moved_back f c)) (f ∷ fs))) []
 
 -- the piece with its first cell at each of the cells in turn
-abbrev pub at_cells : (Place → Bool) → List Place → List Place → List (List Place)
+abbrev pub at_cells : (Coordinates → Bool) → List Coordinates → List Coordinates → List (List Coordinates)
 at_cells inside cells piece = flat_map (at_cell inside piece) cells
 
 -- the turned forms of the piece, in order, each once
-unfoldable pub orientations : List Place → List (List Place)
+unfoldable pub orientations : List Coordinates → List (List Coordinates)
 orientations piece = in_order cells_cmp (map (λ n. turned n piece) rotations)
 
 -- the placements, in order, each once
-unfoldable pub placements : List Place → List Place → List (List Place)
-placements piece region = in_order cells_cmp (flat_map (at_cells (has_place region) region) (orientations piece))
+unfoldable pub placements : List Coordinates → List Coordinates → List (List Coordinates)
+placements piece region = in_order cells_cmp (flat_map (at_cells (has_cell region) region) (orientations piece))
 
 -- the list of any shape in any other has exactly the placements
 abbrev pub ListsPlacements : Type 0
-ListsPlacements = (piece region : List Place) → IsShape piece → IsShape region → ArePlacements piece region (placements piece region)
+ListsPlacements = (piece region : List Coordinates) → IsShape piece → IsShape region → ArePlacements piece region (placements piece region)

@@ -1,17 +1,17 @@
 -- A region as a table: for each cell within the limits a bit that tells whether the region has it.
 use Rattle.std.specs.Prelude.{◌≡◌, ℕ, ◌+◌, ◌*◌, Bool, false, ◌&&◌, nat_le, List, length, slice_index_or}
-use Rattle.poly_cells.specs.Places.{Place}
-use Rattle.poly_texts.specs.Cells.{has_place}
+use Rattle.poly_cells.specs.Coordinates.{Coordinates}
+use Rattle.poly_texts.specs.Cells.{has_cell}
 
 -- the place of a cell's bit
-abbrev pub bit_place : Place → ℕ
-bit_place c = 1024 * c.x + 32 * c.y + c.z
+abbrev pub bit_index : Coordinates → ℕ
+bit_index c = 1024 * c.x + 32 * c.y + c.z
 
 -- the cell is within the limits, and its bit is set
-abbrev pub has_bit : List Bool → Place → Bool
-has_bit bits c = nat_le c.x 31 && (nat_le c.y 31 && (nat_le c.z 31 && slice_index_or bits (bit_place c) false))
+abbrev pub has_bit : List Bool → Coordinates → Bool
+has_bit bits c = nat_le c.x 31 && (nat_le c.y 31 && (nat_le c.z 31 && slice_index_or bits (bit_index c) false))
 
 -- the table has exactly the cells of the region
-pub record IsTable (region : List Place) (bits : List Bool) : Type 0 where
+pub record IsTable (region : List Coordinates) (bits : List Bool) : Type 0 where
   pub long : length bits ≡ 32768
-  pub same : (c : Place) → has_bit bits c ≡ has_place region c
+  pub same : (c : Coordinates) → has_bit bits c ≡ has_cell region c

@@ -2,8 +2,8 @@
 ghost use Rattle.std.specs.Prelude.{◌≡◌, ◌≢◌, ◌≤◌, ◌++◌, Ok, true, false, map, length, IfOk, IsOk, OnOk, IsErrOf};
 ghost use Rattle.std.specs.String.{string_bytes};
 ghost use Rattle.poly_texts.specs.Puzzle.{IsPuzzle};
-ghost use Rattle.cover_problem.specs.Problem.{Cover, is_small};
-ghost use Rattle.cover_problem.specs.Making.{made};
+ghost use Rattle.cover_problem.specs.Problem.{ProblemValue, is_small};
+ghost use Rattle.cover_problem.specs.Validation.{problem_from};
 ghost use Rattle.poly_place.specs.Packings.{choices, compiled, needed_things, option_of, thing_name, things};
 ghost use Rattle.poly_place.specs.Compiled.{AreNumbers, compiled_value, filled_cells, has_primary, is_within, needed_names, option_by, options_by};
 
@@ -13,7 +13,7 @@ use crate::items::{
 };
 use crate::options::Options;
 use crate::placement::placements;
-use crate::table::bit_place;
+use crate::table::bit_index;
 use cover_problem::{Problem, ProblemFault};
 use poly_cells::{Cell, Shape};
 use poly_texts::{PieceName, Puzzle};
@@ -86,7 +86,7 @@ pub fn compile(alloc: Global, puzzle: &Puzzle) -> Result<Compiled, PlaceFault>
         primary,
         numbers.as_slice(),
     )?;
-    let problem = made(alloc, names, primary, options.into_list())?;
+    let problem = problem_from(alloc, names, primary, options.into_list())?;
     Ok(Compiled {
         problem,
         region: region.copy()?,
@@ -193,20 +193,20 @@ fn option_of(
     let mut option = Vec::with_capacity(alloc, cells.len() + 1)?;
     option.push(item)?;
     for cell in cells {
-        option.push(numbers[bit_place(cell.x(), cell.y(), cell.z())])?;
+        option.push(numbers[bit_index(cell.x(), cell.y(), cell.z())])?;
     }
     Ok(option)
 }
 
 // The problem of these parts, which have no fault but that they are too many.
-fn made(
+fn problem_from(
     alloc: Global,
     names: Vec<String>,
     primary: u32,
     options: Vec<Vec<u32>>,
 ) -> Result<Problem, PlaceFault>
-    ensures made { IfOk result (λ p. made (map string_bytes names.items) primary (map (λ o. o.items) options.items) ≡ Ok p) }
-    ensures refused { IsErrOf result PlaceFault.TooManyOptions → (p : Cover) → made (map string_bytes names.items) primary (map (λ o. o.items) options.items) ≢ Ok p }
+    ensures made { IfOk result (λ p. problem_from (map string_bytes names.items) primary (map (λ o. o.items) options.items) ≡ Ok p) }
+    ensures refused { IsErrOf result PlaceFault.TooManyOptions → (p : ProblemValue) → problem_from (map string_bytes names.items) primary (map (λ o. o.items) options.items) ≢ Ok p }
 {
     match Problem::new(alloc, names, primary, options) {
         Ok(problem) => Ok(problem),

@@ -5,10 +5,10 @@ ghost use Rattle.poly_texts.specs.Grammar.{cell_word};
 ghost use Rattle.poly_texts.specs.Grammar as grammar;
 ghost use Rattle.poly_cells.specs.Sets.{IsIn};
 ghost use Rattle.poly_texts.specs.Puzzle.{IsPuzzle, names_of};
-ghost use Rattle.poly_place.specs.Packings.{a_piece, item_of, needed_things, place_among};
+ghost use Rattle.poly_place.specs.Packings.{a_piece, item_of, needed_things, index_among};
 ghost use Rattle.poly_place.specs.Compiled.{AreNumbers, filled_cells, needed_names, numbered};
 
-use crate::table::{bit_place, has_bit, table_of};
+use crate::table::{bit_index, has_bit, table_of};
 use poly_cells::Cell;
 use poly_texts::{PieceName, Puzzle};
 use std::alloc::{AllocError, Global};
@@ -84,7 +84,7 @@ fn number_cells(numbers: &mut [u32], cells: &[Cell], last: u32)
     let mut number = last;
     for cell in cells {
         number += 1;
-        numbers[bit_place(cell.x(), cell.y(), cell.z())] = number;
+        numbers[bit_index(cell.x(), cell.y(), cell.z())] = number;
     }
 }
 
@@ -96,17 +96,17 @@ pub fn piece_number(puzzle: &Puzzle, needed: &[PieceName], primary: u32, name: P
     requires member { IsIn name (names_of puzzle.now.pieces) }
     ensures { result ≡ item_of puzzle.now (a_piece name) }
 {
-    let place = place_among(needed, name);
+    let place = index_among(needed, name);
     if place < needed.len() {
         place as u32 + 1
     } else {
-        primary + place_among(puzzle.maybe_pieces(), name) as u32 + 1
+        primary + index_among(puzzle.maybe_pieces(), name) as u32 + 1
     }
 }
 
 // How many come before the name.
-fn place_among(names: &[PieceName], name: PieceName) -> usize
-    ensures value { result ≡ place_among (a_piece name) (map a_piece names.now) }
+fn index_among(names: &[PieceName], name: PieceName) -> usize
+    ensures value { result ≡ index_among (a_piece name) (map a_piece names.now) }
     ensures limit { result ≤ length names.now }
 {
     let mut place = 0;

@@ -1,7 +1,7 @@
 //! Sets of cells as rising lists: putting several in order, and moving one.
 ghost use Rattle.std.specs.Prelude.{◌≡◌, IfOk, List, length, map, vec_items};
 ghost use Rattle.std.specs.List.{list_all};
-ghost use Rattle.poly_cells.specs.Places.{Place, IsPlace, place_cmp};
+ghost use Rattle.poly_cells.specs.Coordinates.{Coordinates, IsInGrid, coordinates_cmp};
 ghost use Rattle.poly_cells.specs.Sets.{IsIn, in_order};
 ghost use Rattle.poly_cells.specs.Shapes.{IsShape, moved, moved_back};
 ghost use Rattle.poly_place.specs.Placements.{cells_cmp, is_below};
@@ -21,7 +21,7 @@ pub fn put_sets_in_order(sets: &mut Vec<Vec<Cell>>)
 
 /// The shapes of these sets, in the same order.
 pub fn shapes_of(alloc: Global, sets: Vec<Vec<Cell>>) -> Result<Vec<Shape>, AllocError>
-    requires { (set : List Place) → IsIn set (map vec_items sets.items) → IsShape set }
+    requires { (set : List Coordinates) → IsIn set (map vec_items sets.items) → IsShape set }
     ensures { IfOk result (λ shapes. shapes.items ≡ map vec_items sets.items) }
 {
     let mut shapes = Vec::with_capacity(alloc, sets.len())?;
@@ -70,7 +70,7 @@ pub fn all_inside(bits: &[bool], cells: &[Cell], by: Cell) -> bool
 
 /// These cells, each moved by the coordinates of `by`.
 pub fn all_moved(alloc: Global, cells: &[Cell], by: Cell) -> Result<Vec<Cell>, AllocError>
-    requires { (v : Place) → IsIn v cells.now → IsPlace (moved by v) }
+    requires { (v : Coordinates) → IsIn v cells.now → IsInGrid (moved by v) }
     ensures { IfOk result (λ there. there.items ≡ map (moved by) cells.now) }
 {
     let mut there = Vec::with_capacity(alloc, cells.len())?;

@@ -1,8 +1,8 @@
 //! A region as a table of bits, one for each cell within the limits.
 ghost use Rattle.std.specs.Prelude.{◌≡◌, ◌++◌, List, false, length, replicate, IfOk};
-ghost use Rattle.poly_cells.specs.Places.{Place, place};
-ghost use Rattle.poly_cells.specs.Shapes.{AllPlaces};
-ghost use Rattle.poly_place.specs.Tables.{IsTable, bit_place, has_bit};
+ghost use Rattle.poly_cells.specs.Coordinates.{Coordinates, coordinates};
+ghost use Rattle.poly_cells.specs.Shapes.{AllInGrid};
+ghost use Rattle.poly_place.specs.Tables.{IsTable, bit_index, has_bit};
 
 use poly_cells::Cell;
 use std::alloc::{AllocError, Global};
@@ -15,7 +15,7 @@ const CELLS: usize = 32_768;
 
 /// The table of a region.
 pub fn table_of(alloc: Global, region: &[Cell]) -> Result<Vec<bool>, AllocError>
-    requires { AllPlaces region.now }
+    requires { AllInGrid region.now }
     ensures { IfOk result (λ bits. IsTable region.now bits.items) }
 {
     let mut bits = no_bits(alloc, CELLS)?;
@@ -26,14 +26,14 @@ pub fn table_of(alloc: Global, region: &[Cell]) -> Result<Vec<bool>, AllocError>
 /// Whether the region has the cell with these coordinates, which may be above the limits.
 pub fn has_bit(bits: &[bool], x: u8, y: u8, z: u8) -> bool
     requires { length bits.now ≡ 32768 }
-    ensures { result ≡ has_bit bits.now (place x y z) }
+    ensures { result ≡ has_bit bits.now (coordinates x y z) }
 {
-    x <= LAST && y <= LAST && z <= LAST && bits[bit_place(x, y, z)]
+    x <= LAST && y <= LAST && z <= LAST && bits[bit_index(x, y, z)]
 }
 
 /// The place of a cell's bit.
-pub fn bit_place(x: u8, y: u8, z: u8) -> usize
-    ensures { result ≡ bit_place (place x y z) }
+pub fn bit_index(x: u8, y: u8, z: u8) -> usize
+    ensures { result ≡ bit_index (coordinates x y z) }
 {
     1024 * x as usize + 32 * y as usize + z as usize
 }
@@ -47,11 +47,11 @@ fn no_bits(alloc: Global, count: usize) -> Result<Vec<bool>, AllocError>
 
 // Sets the bits of these cells too.
 fn set_bits(bits: &mut [bool], cells: &[Cell])
-    requires limits { AllPlaces cells.now }
+    requires limits { AllInGrid cells.now }
     requires long { length bits.old ≡ 32768 }
-    ensures { (region : List Place) → IsTable region bits.old → IsTable (region ++ cells.now) bits.new }
+    ensures { (region : List Coordinates) → IsTable region bits.old → IsTable (region ++ cells.now) bits.new }
 {
     for cell in cells {
-        bits[bit_place(cell.x(), cell.y(), cell.z())] = true;
+        bits[bit_index(cell.x(), cell.y(), cell.z())] = true;
     }
 }

@@ -1,18 +1,18 @@
 -- The example of lines and the puzzle that they say, computed.
 use Rattle.std.proofs.Common.{◌≡◌, [], ◌∷◌, false, codes, refl}
-use Rattle.poly_cells.specs.Places.{place}
+use Rattle.poly_cells.specs.Coordinates.{coordinates}
 use Rattle.poly_cells.specs.Sets.{in_order}
 use Rattle.poly_cells.specs.Shapes.{normal}
 use Rattle.poly_texts.specs.Grammar.{piece, box, cut, line_words, puzzle_by}
 
-words_of_a_piece : line_words (piece false 65 (place 1 0 0 ∷ place 2 10 31 ∷ [])) ≡ codes "piece" ∷ codes "A" ∷ codes "100" ∷ codes "2av" ∷ []
+words_of_a_piece : line_words (piece false 65 (coordinates 1 0 0 ∷ coordinates 2 10 31 ∷ [])) ≡ codes "piece" ∷ codes "A" ∷ codes "100" ∷ codes "2av" ∷ []
 words_of_a_piece = refl
 
-said_together : puzzle_by (piece false 65 (place 1 0 0 ∷ place 2 0 0 ∷ []) ∷ box 2 2 1 ∷ cut (place 0 0 0 ∷ place 1 1 0 ∷ []) ∷ []) ≡
+said_together : puzzle_by (piece false 65 (coordinates 1 0 0 ∷ coordinates 2 0 0 ∷ []) ∷ box 2 2 1 ∷ cut (coordinates 0 0 0 ∷ coordinates 1 1 0 ∷ []) ∷ []) ≡
     record {
-      pieces = (65, place 0 0 0 ∷ place 1 0 0 ∷ []) ∷ [];
+      pieces = (65, coordinates 0 0 0 ∷ coordinates 1 0 0 ∷ []) ∷ [];
       maybe_pieces = [];
-      region = place 0 1 0 ∷ place 1 0 0 ∷ [];
+      region = coordinates 0 1 0 ∷ coordinates 1 0 0 ∷ [];
       maybe_cells = [];
     }
 unfolding in_order normal

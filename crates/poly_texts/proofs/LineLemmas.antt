@@ -5,62 +5,62 @@ use Rattle.std.specs.Cmp.Lexicographic.{bytes_decides}
 use Rattle.std.proofs.lemmas.Bool.{and_parts, and_from, not-true, not-false, not_from_false}
 use Rattle.text_lines.specs.Lines.{is_empty}
 use Rattle.text_lines.specs.Each.{each, ◌>>=◌}
-use Rattle.poly_cells.specs.Places.{Place}
+use Rattle.poly_cells.specs.Coordinates.{Coordinates}
 use Rattle.poly_texts.specs.declared.fault.Fault.TheVariants.{BadLine, RepeatedPiece, SecondBox, TooLarge}
 use Rattle.poly_texts.specs.declared.key.Key.{Key}
 use Rattle.poly_texts.specs.declared.key.Key.TheVariants as keys
 use Rattle.poly_texts.specs.Cells.{with_cells}
 use Rattle.poly_texts.specs.Words.{piece_name, is_name, are_sizes, are_small, is_size, size_of}
-use Rattle.poly_texts.specs.Reading.{Said, kept_shape, shape_of, within, has_piece, with_piece, is_new, new_name, add_cell, add_piece_cell, three, with_box, sized_box, piece_line, box_line, cells_line, maybe_cells_line, cut_line, key_from, maybe_keyed, maybe_line, keyed_line, words_line}
-use Rattle.poly_texts.specs.Grammar.{Line, piece, box, cells, cut, cell_word, maybe_words, line_words, is_place, are_places, are_apart, is_side, is_line}
+use Rattle.poly_texts.specs.Reading.{DraftValue, kept_shape, shape_of, within, has_piece, with_piece, is_new, new_name, add_cell, add_piece_cell, three_words, with_box, sized_box, piece_line, box_line, cells_line, maybe_cells_line, cut_line, key_from, maybe_keyed, maybe_line, keyed_line, words_line}
+use Rattle.poly_texts.specs.Grammar.{Line, piece, box, cells, cut, cell_word, maybe_words, line_words, is_in_grid, are_in_grid, are_apart, is_side, is_line}
 use Rattle.poly_texts.proofs.StepLemmas.{ok_is, no_fault, bind_ok, unrefused, granted}
 use Rattle.poly_texts.proofs.ReadingLemmas.{piece_read, name_found}
 use Rattle.poly_texts.proofs.SpellingLemmas.{chosen, words_same, cells_again, cells_are, piece_again, piece_cells_are, name_again, name_is, side_again, side_is}
 
 -- what is said with one more line
-abbrev pub plus : Said → Line → Said
+abbrev pub plus : DraftValue → Line → DraftValue
 plus s (piece optional name cs) = with_piece s optional name (kept_shape cs)
 plus s (box a b c) = with_box s a b c
 plus s (cells optional cs) = record s { named = with_cells s.named cs; maybe_cells = cond optional (with_cells s.maybe_cells cs) s.maybe_cells }
 plus s (cut cs) = record s { cut = with_cells s.cut cs }
 
-abbrev pub is_small : Said → Bool
+abbrev pub is_small : DraftValue → Bool
 is_small s = nat_le (length s.named) 4096
 
 -- whether a line may come after what is said
-abbrev pub is_fit : Said → Line → Bool
+abbrev pub is_fit : DraftValue → Line → Bool
 is_fit s (piece optional name cs) = not (has_piece s.pieces name)
 is_fit s (box a b c) = not s.boxed && is_small (with_box s a b c)
 is_fit s (cells optional cs) = is_small (plus s (cells optional cs))
 is_fit s (cut cs) = true
 
-some_words : (cs : List Place) → 0 < length cs → is_empty (map cell_word cs) ≡ false
+some_words : (cs : List Coordinates) → 0 < length cs → is_empty (map cell_word cs) ≡ false
 some_words [] h = absurd (omega arith)
 some_words (c ∷ cs) h = refl
 
-some_cells : (cs : List Place) → is_empty (map cell_word cs) ≡ false → nat_lt 0 (length cs) ≡ true
+some_cells : (cs : List Coordinates) → is_empty (map cell_word cs) ≡ false → nat_lt 0 (length cs) ≡ true
 some_cells [] h = absurd (cc)
 some_cells (c ∷ cs) h = lt-ltb 0 (length (c ∷ cs)) (omega arith)
 
-within_is : (s : Said) (t : Said) → within s ≡ Ok t → (is_small s ≡ true) × (s ≡ t)
+within_is : (s : DraftValue) (t : DraftValue) → within s ≡ Ok t → (is_small s ≡ true) × (s ≡ t)
 within_is s t h = let p = granted (is_small s) TooLarge (Ok s) t h in (p.0, ok_is s t p.1)
 
 -- *a line that fits is taken*
 
-shape_again : (cs : List Place) → list_all is_place cs ≡ true → are_apart cs ≡ true → length cs ≤ 64 → shape_of (map cell_word cs) ≡ Ok (kept_shape cs)
+shape_again : (cs : List Coordinates) → list_all is_in_grid cs ≡ true → are_apart cs ≡ true → length cs ≤ 64 → shape_of (map cell_word cs) ≡ Ok (kept_shape cs)
 unfolding shape_of
 shape_again cs p a l = rw (piece_again [] cs p a (omega arith)) refl
 
-piece_again_line : (s : Said) (optional : Bool) (name : ℕ) (cs : List Place) → is_line (piece optional name cs) ≡ true → not (has_piece s.pieces name) ≡ true → piece_line s optional ((name ∷ []) ∷ map cell_word cs) ≡ Ok (with_piece s optional name (kept_shape cs))
+piece_again_line : (s : DraftValue) (optional : Bool) (name : ℕ) (cs : List Coordinates) → is_line (piece optional name cs) ≡ true → not (has_piece s.pieces name) ≡ true → piece_line s optional ((name ∷ []) ∷ map cell_word cs) ≡ Ok (with_piece s optional name (kept_shape cs))
 piece_again_line s optional name cs is fit =
-    let p = and_parts (is_name name) (are_places cs && (are_apart cs && nat_le (length cs) 64)) is in
-    let q = and_parts (are_places cs) (are_apart cs && nat_le (length cs) 64) p.1 in
+    let p = and_parts (is_name name) (are_in_grid cs && (are_apart cs && nat_le (length cs) 64)) is in
+    let q = and_parts (are_in_grid cs) (are_apart cs && nat_le (length cs) 64) p.1 in
     let r = and_parts (are_apart cs) (nat_le (length cs) 64) q.1 in
-    let u = and_parts (nat_lt 0 (length cs)) (list_all is_place cs) q.0 in
+    let u = and_parts (nat_lt 0 (length cs)) (list_all is_in_grid cs) q.0 in
     piece_read s optional ((name ∷ []) ∷ map cell_word cs) (name ∷ []) (map cell_word cs) name (kept_shape cs) refl (some_words cs (ltb-true 0 (length cs) u.0))
     (name_found s.pieces (name ∷ []) name (sym (name_again name p.0)) (not-true _ fit)) (shape_again cs u.1 r.0 (leb-true (length cs) 64 r.1))
 
-box_again_line : (s : Said) (a b c : ℕ) → is_line (box a b c) ≡ true → is_fit s (box a b c) ≡ true → box_line s (decimal a ∷ decimal b ∷ decimal c ∷ []) ≡ Ok (with_box s a b c)
+box_again_line : (s : DraftValue) (a b c : ℕ) → is_line (box a b c) ≡ true → is_fit s (box a b c) ≡ true → box_line s (decimal a ∷ decimal b ∷ decimal c ∷ []) ≡ Ok (with_box s a b c)
 unfolding box_line
 box_again_line s a b c is fit =
     let p = and_parts (is_side a) (is_side b && is_side c) is in
@@ -77,25 +77,25 @@ box_again_line s a b c is fit =
     sized : (u v w : List ℕ) → are_sizes u v w ≡ true → size_of u ≡ a → size_of v ≡ b → size_of w ≡ c → (nat_le a 32 && (nat_le b 32 && nat_le c 32)) ≡ true → s.boxed ≡ false → is_small (with_box s a b c) ≡ true → sized_box s (Some (u, v, w)) ≡ Ok (with_box s a b c)
     sized u v w sizes x y z few first small = rw (sizes, first, x, y, z, few, small) refl
 
-cells_again_line : (s : Said) (cs : List Place) → are_places cs ≡ true → is_fit s (cells false cs) ≡ true → cells_line s (map cell_word cs) ≡ Ok (plus s (cells false cs))
+cells_again_line : (s : DraftValue) (cs : List Coordinates) → are_in_grid cs ≡ true → is_fit s (cells false cs) ≡ true → cells_line s (map cell_word cs) ≡ Ok (plus s (cells false cs))
 unfolding cells_line
 cells_again_line s cs is fit =
-    let u = and_parts (nat_lt 0 (length cs)) (list_all is_place cs) is in
+    let u = and_parts (nat_lt 0 (length cs)) (list_all is_in_grid cs) is in
     rw (some_words cs (ltb-true 0 (length cs) u.0), cells_again s.named cs u.1, fit) refl
 
-maybe_again_line : (s : Said) (cs : List Place) → are_places cs ≡ true → is_fit s (cells true cs) ≡ true → maybe_cells_line s (map cell_word cs) ≡ Ok (plus s (cells true cs))
+maybe_again_line : (s : DraftValue) (cs : List Coordinates) → are_in_grid cs ≡ true → is_fit s (cells true cs) ≡ true → maybe_cells_line s (map cell_word cs) ≡ Ok (plus s (cells true cs))
 unfolding maybe_cells_line
 maybe_again_line s cs is fit =
-    let u = and_parts (nat_lt 0 (length cs)) (list_all is_place cs) is in
+    let u = and_parts (nat_lt 0 (length cs)) (list_all is_in_grid cs) is in
     rw (some_words cs (ltb-true 0 (length cs) u.0), cells_again s.named cs u.1, cells_again s.maybe_cells cs u.1, fit) refl
 
-cut_again_line : (s : Said) (cs : List Place) → are_places cs ≡ true → cut_line s (map cell_word cs) ≡ Ok (plus s (cut cs))
+cut_again_line : (s : DraftValue) (cs : List Coordinates) → are_in_grid cs ≡ true → cut_line s (map cell_word cs) ≡ Ok (plus s (cut cs))
 unfolding cut_line
 cut_again_line s cs is =
-    let u = and_parts (nat_lt 0 (length cs)) (list_all is_place cs) is in
+    let u = and_parts (nat_lt 0 (length cs)) (list_all is_in_grid cs) is in
     rw (some_words cs (ltb-true 0 (length cs) u.0), cells_again s.cut cs u.1) refl
 
-pub line_again : (s : Said) (l : Line) → is_line l ≡ true → is_fit s l ≡ true → words_line s (line_words l) ≡ Ok (plus s l)
+pub line_again : (s : DraftValue) (l : Line) → is_line l ≡ true → is_fit s l ≡ true → words_line s (line_words l) ≡ Ok (plus s l)
 unfolding words_line maybe_line
 line_again s (piece true name cs) is fit = piece_again_line s true name cs is fit
 line_again s (piece false name cs) is fit = piece_again_line s false name cs is fit
@@ -107,7 +107,7 @@ line_again s (cut cs) is fit = cut_again_line s cs is
 -- *a line that is taken fits*
 
 -- the words are a line's, which fits and adds what came
-pub record IsTakenLine (s : Said) (words : List (List ℕ)) (t : Said) : Type 0 where
+pub record IsTakenLine (s : DraftValue) (words : List (List ℕ)) (t : DraftValue) : Type 0 where
   pub line : Line
   pub words_are : words ≡ line_words line
   pub good : is_line line ≡ true
@@ -115,33 +115,33 @@ pub record IsTakenLine (s : Said) (words : List (List ℕ)) (t : Said) : Type 0 
   pub more : t ≡ plus s line
 
 -- the words after `piece` are a piece's
-record IsTakenPiece (s : Said) (optional : Bool) (words : List (List ℕ)) (t : Said) : Type 0 where
+record IsTakenPiece (s : DraftValue) (optional : Bool) (words : List (List ℕ)) (t : DraftValue) : Type 0 where
   pub name : ℕ
-  pub cs : List Place
+  pub cs : List Coordinates
   pub words_are : words ≡ (name ∷ []) ∷ map cell_word cs
   pub good : is_line (piece optional name cs) ≡ true
   pub new : not (has_piece s.pieces name) ≡ true
   pub more : t ≡ with_piece s optional name (kept_shape cs)
 
-new_is : (pieces : List (ℕ × List Place)) (found : Option ℕ) (name : ℕ) → is_new pieces found ≡ Ok name → (found ≡ Some name) × (has_piece pieces name ≡ false)
+new_is : (pieces : List (ℕ × List Coordinates)) (found : Option ℕ) (name : ℕ) → is_new pieces found ≡ Ok name → (found ≡ Some name) × (has_piece pieces name ≡ false)
 new_is pieces None name h = absurd (no_fault BadLine name h)
 new_is pieces (Some n) name h =
     let p = unrefused (has_piece pieces n) RepeatedPiece (Ok n) name h in
     let e = ok_is n name p.1 in
     (ap (λ m. Some m) e, subst (λ m. has_piece pieces m ≡ false) e p.0)
 
-name_parts : (pieces : List (ℕ × List Place)) (word : List ℕ) (name : ℕ) → new_name pieces word ≡ Ok name → (piece_name word ≡ Some name) × (has_piece pieces name ≡ false)
+name_parts : (pieces : List (ℕ × List Coordinates)) (word : List ℕ) (name : ℕ) → new_name pieces word ≡ Ok name → (piece_name word ≡ Some name) × (has_piece pieces name ≡ false)
 unfolding new_name
 name_parts pieces word name h = new_is pieces (piece_name word) name h
 
-shape_parts : (words : List (List ℕ)) (shape : List Place) → shape_of words ≡ Ok shape → (cs : List Place) × (each add_piece_cell [] words ≡ Ok cs) × (kept_shape cs ≡ shape)
+shape_parts : (words : List (List ℕ)) (shape : List Coordinates) → shape_of words ≡ Ok shape → (cs : List Coordinates) × (each add_piece_cell [] words ≡ Ok cs) × (kept_shape cs ≡ shape)
 unfolding shape_of
 shape_parts words shape h =
     let b = bind_ok (each add_piece_cell [] words) (λ cs. Ok (kept_shape cs)) shape h in
     (b.0, b.1, ok_is (kept_shape b.0) shape b.2)
 
-piece_parts : (s : Said) (optional : Bool) (word : List ℕ) (words : List (List ℕ)) (t : Said) → piece_line s optional (word ∷ words) ≡ Ok t →
-    (is_empty words ≡ false) × ((name : ℕ) × (new_name s.pieces word ≡ Ok name) × ((shape : List Place) × (shape_of words ≡ Ok shape) × (with_piece s optional name shape ≡ t)))
+piece_parts : (s : DraftValue) (optional : Bool) (word : List ℕ) (words : List (List ℕ)) (t : DraftValue) → piece_line s optional (word ∷ words) ≡ Ok t →
+    (is_empty words ≡ false) × ((name : ℕ) × (new_name s.pieces word ≡ Ok name) × ((shape : List Coordinates) × (shape_of words ≡ Ok shape) × (with_piece s optional name shape ≡ t)))
 unfolding piece_line
 piece_parts s optional word words t h =
     let u = unrefused (is_empty words) BadLine (new_name s.pieces word >>= λ name. shape_of words >>= λ shape. Ok (with_piece s optional name shape)) t h in
@@ -149,11 +149,11 @@ piece_parts s optional word words t h =
     let d = bind_ok (shape_of words) (λ shape. Ok (with_piece s optional b.0 shape)) t b.2 in
     (u.0, (b.0, b.1, (d.0, d.1, ok_is (with_piece s optional b.0 d.0) t d.2)))
 
-no_piece : (s : Said) (optional : Bool) (t : Said) → piece_line s optional [] ≡ Ok t → ⊥
+no_piece : (s : DraftValue) (optional : Bool) (t : DraftValue) → piece_line s optional [] ≡ Ok t → ⊥
 unfolding piece_line
 no_piece s optional t h = no_fault BadLine t h
 
-piece_taken : (s : Said) (optional : Bool) (words : List (List ℕ)) (t : Said) → piece_line s optional words ≡ Ok t → IsTakenPiece s optional words t
+piece_taken : (s : DraftValue) (optional : Bool) (words : List (List ℕ)) (t : DraftValue) → piece_line s optional words ≡ Ok t → IsTakenPiece s optional words t
 piece_taken s optional [] t h = absurd (no_piece s optional t h)
 piece_taken s optional (word ∷ words) t h =
     let p = piece_parts s optional word words t h in
@@ -172,7 +172,7 @@ piece_taken s optional (word ∷ words) t h =
       more = sym p.1.2.2 ∙ ap (with_piece s optional p.1.0) (sym k.2 ∙ ap kept_shape all);
     }
 
-three_is : (words : List (List ℕ)) (a b c : List ℕ) → three words ≡ Some (a, b, c) → words ≡ a ∷ b ∷ c ∷ []
+three_is : (words : List (List ℕ)) (a b c : List ℕ) → three_words words ≡ Some (a, b, c) → words ≡ a ∷ b ∷ c ∷ []
 three_is [] a b c h = absurd (cc)
 three_is (x ∷ []) a b c h = absurd (cc)
 three_is (x ∷ y ∷ []) a b c h = absurd (cc)
@@ -182,7 +182,7 @@ three_is (x ∷ y ∷ z ∷ []) a b c h = let e = some_is (x, y, z) (a, b, c) h 
     some_is v w h = cc
 three_is (x ∷ y ∷ z ∷ w ∷ ws) a b c h = absurd (cc)
 
-box_taken : (s : Said) (words : List (List ℕ)) (found : Option (List ℕ × List ℕ × List ℕ)) (t : Said) → three words ≡ found → sized_box s found ≡ Ok t → IsTakenLine s (codes "box" ∷ words) t
+box_taken : (s : DraftValue) (words : List (List ℕ)) (found : Option (List ℕ × List ℕ × List ℕ)) (t : DraftValue) → three_words words ≡ found → sized_box s found ≡ Ok t → IsTakenLine s (codes "box" ∷ words) t
 box_taken s words None t e h = absurd (no_fault BadLine t h)
 box_taken s words (Some (a, b, c)) t e h =
     let u = unrefused (not (are_sizes a b c)) BadLine (cond s.boxed (Err SecondBox) (cond (are_small a b c) (within (with_box s (size_of a) (size_of b) (size_of c))) (Err TooLarge))) t h in
@@ -207,14 +207,14 @@ box_taken s words (Some (a, b, c)) t e h =
     three_same : {a b c d e f : List ℕ} → a ≡ d → b ≡ e → c ≡ f → a ∷ b ∷ c ∷ [] ≡ d ∷ e ∷ f ∷ []
     three_same g h i = cc
 
-box_parts : (s : Said) (words : List (List ℕ)) (t : Said) → box_line s words ≡ Ok t → IsTakenLine s (codes "box" ∷ words) t
+box_parts : (s : DraftValue) (words : List (List ℕ)) (t : DraftValue) → box_line s words ≡ Ok t → IsTakenLine s (codes "box" ∷ words) t
 unfolding box_line
-box_parts s words t h = box_taken s words (three words) t refl h
+box_parts s words t h = box_taken s words (three_words words) t refl h
 
-places_from : (cs : List Place) (words : List (List ℕ)) → words ≡ map cell_word cs → is_empty words ≡ false → list_all is_place cs ≡ true → are_places cs ≡ true
+places_from : (cs : List Coordinates) (words : List (List ℕ)) → words ≡ map cell_word cs → is_empty words ≡ false → list_all is_in_grid cs ≡ true → are_in_grid cs ≡ true
 places_from cs words e some p = and_from _ _ (some_cells cs (rw (← e) some)) p
 
-cells_taken : (s : Said) (words : List (List ℕ)) (t : Said) → cells_line s words ≡ Ok t → IsTakenLine s (codes "cells" ∷ words) t
+cells_taken : (s : DraftValue) (words : List (List ℕ)) (t : DraftValue) → cells_line s words ≡ Ok t → IsTakenLine s (codes "cells" ∷ words) t
 unfolding cells_line
 cells_taken s words t h =
     let u = unrefused (is_empty words) BadLine (each add_cell s.named words >>= λ named. within (record s { named = named })) t h in
@@ -229,7 +229,7 @@ cells_taken s words t h =
       more = sym x.1 ∙ ap (λ named. record s { named = named }) m.all_are;
     }
 
-maybe_taken : (s : Said) (words : List (List ℕ)) (t : Said) → maybe_cells_line s words ≡ Ok t → IsTakenLine s (codes "maybe" ∷ codes "cells" ∷ words) t
+maybe_taken : (s : DraftValue) (words : List (List ℕ)) (t : DraftValue) → maybe_cells_line s words ≡ Ok t → IsTakenLine s (codes "maybe" ∷ codes "cells" ∷ words) t
 unfolding maybe_cells_line
 maybe_taken s words t h =
     let u = unrefused (is_empty words) BadLine (each add_cell s.named words >>= λ named. each add_cell s.maybe_cells words >>= λ maybe. within (record s { named = named; maybe_cells = maybe })) t h in
@@ -247,7 +247,7 @@ maybe_taken s words t h =
       more = sym x.1 ∙ ap (λ named. record s { named = named; maybe_cells = d.0 }) m.all_are ∙ ap (λ maybe. record s { named = with_cells s.named m.cs; maybe_cells = maybe }) same;
     }
 
-cut_taken : (s : Said) (words : List (List ℕ)) (t : Said) → cut_line s words ≡ Ok t → IsTakenLine s (codes "cut" ∷ words) t
+cut_taken : (s : DraftValue) (words : List (List ℕ)) (t : DraftValue) → cut_line s words ≡ Ok t → IsTakenLine s (codes "cut" ∷ words) t
 unfolding cut_line
 cut_taken s words t h =
     let u = unrefused (is_empty words) BadLine (each add_cell s.cut words >>= λ cut. Ok (record s { cut = cut })) t h in
@@ -312,10 +312,10 @@ key_is word k h = piece_key (chosen (bytes_eq word (codes "piece")) (Some keys.P
     piece_key (inl e) = (bytes_decides word (codes "piece")).0 e.0 ∙ ap key_word (some_key keys.Piece k e.1)
     piece_key (inr e) = box_key (chosen (bytes_eq word (codes "box")) (Some keys.Box) after_box (Some k) e.1)
 
-piece_line_is : (s : Said) (optional : Bool) (words : List (List ℕ)) (t : Said) → IsTakenPiece s optional words t → IsTakenLine s (maybe_words optional (codes "piece" ∷ words)) t
+piece_line_is : (s : DraftValue) (optional : Bool) (words : List (List ℕ)) (t : DraftValue) → IsTakenPiece s optional words t → IsTakenLine s (maybe_words optional (codes "piece" ∷ words)) t
 piece_line_is s optional words t p = record { line = piece optional p.name p.cs; words_are = ap (λ ws. maybe_words optional (codes "piece" ∷ ws)) p.words_are; good = p.good; fits = p.new; more = p.more }
 
-maybe_keyed_is : (s : Said) (key : List ℕ) (words : List (List ℕ)) (t : Said) (k : Option Key) → key_from key ≡ k → maybe_keyed k s words ≡ Ok t → IsTakenLine s (codes "maybe" ∷ key ∷ words) t
+maybe_keyed_is : (s : DraftValue) (key : List ℕ) (words : List (List ℕ)) (t : DraftValue) (k : Option Key) → key_from key ≡ k → maybe_keyed k s words ≡ Ok t → IsTakenLine s (codes "maybe" ∷ key ∷ words) t
 unfolding key_word
 maybe_keyed_is s key words t None e h = absurd (no_fault BadLine t h)
 maybe_keyed_is s key words t (Some keys.Piece) e h = rw (key_is key keys.Piece e) (piece_line_is s true words t (piece_taken s true words t h))
@@ -324,12 +324,12 @@ maybe_keyed_is s key words t (Some keys.Box) e h = absurd (no_fault BadLine t h)
 maybe_keyed_is s key words t (Some keys.Cut) e h = absurd (no_fault BadLine t h)
 maybe_keyed_is s key words t (Some keys.Maybe) e h = absurd (no_fault BadLine t h)
 
-maybe_is : (s : Said) (words : List (List ℕ)) (t : Said) → maybe_line s words ≡ Ok t → IsTakenLine s (codes "maybe" ∷ words) t
+maybe_is : (s : DraftValue) (words : List (List ℕ)) (t : DraftValue) → maybe_line s words ≡ Ok t → IsTakenLine s (codes "maybe" ∷ words) t
 unfolding maybe_line
 maybe_is s [] t h = absurd (no_fault BadLine t h)
 maybe_is s (key ∷ words) t h = maybe_keyed_is s key words t (key_from key) refl h
 
-keyed_is : (s : Said) (key : List ℕ) (words : List (List ℕ)) (t : Said) (k : Option Key) → key_from key ≡ k → keyed_line k s words ≡ Ok t → IsTakenLine s (key ∷ words) t
+keyed_is : (s : DraftValue) (key : List ℕ) (words : List (List ℕ)) (t : DraftValue) (k : Option Key) → key_from key ≡ k → keyed_line k s words ≡ Ok t → IsTakenLine s (key ∷ words) t
 unfolding key_word
 keyed_is s key words t None e h = absurd (no_fault BadLine t h)
 keyed_is s key words t (Some keys.Piece) e h = rw (key_is key keys.Piece e) (piece_line_is s false words t (piece_taken s false words t h))
@@ -339,6 +339,6 @@ keyed_is s key words t (Some keys.Cut) e h = rw (key_is key keys.Cut e) (cut_tak
 keyed_is s key words t (Some keys.Maybe) e h = rw (key_is key keys.Maybe e) (maybe_is s words t h)
 
 -- a line with words that is taken is a line that fits
-pub line_is : (s : Said) (key : List ℕ) (words : List (List ℕ)) (t : Said) → words_line s (key ∷ words) ≡ Ok t → IsTakenLine s (key ∷ words) t
+pub line_is : (s : DraftValue) (key : List ℕ) (words : List (List ℕ)) (t : DraftValue) → words_line s (key ∷ words) ≡ Ok t → IsTakenLine s (key ∷ words) t
 unfolding words_line
 line_is s key words t h = keyed_is s key words t (key_from key) refl h

@@ -7,10 +7,10 @@ use Rattle.std.proofs.lemmas.Bool.Decides.{nat_tests}
 use Rattle.std.proofs.lemmas.List.Folds.{list_any-append}
 use Rattle.std.proofs.lemmas.List.{length-map}
 use Rattle.std.proofs.lemmas.Map.Made.{length-le_from_is_member}
-use Rattle.poly_cells.specs.Places.{Place}
+use Rattle.poly_cells.specs.Coordinates.{Coordinates}
 use Rattle.poly_texts.specs.Words.{is_name}
 use Rattle.poly_texts.specs.Puzzle.{names_of, has_name, are_new}
-use Rattle.poly_texts.specs.Grammar.{Line, piece, box, cells, cut, is_line, are_places, are_apart, piece_of, maybe_name_of}
+use Rattle.poly_texts.specs.Grammar.{Line, piece, box, cells, cut, is_line, are_in_grid, are_apart, piece_of, maybe_name_of}
 
 -- *names of lines*
 
@@ -18,7 +18,7 @@ pub names_are : (ls : List Line) → list_all is_line ls ≡ true → list_all i
 names_are [] h = refl
 names_are (piece optional name cs ∷ ls) h =
     let p = and_parts (is_line (piece optional name cs)) (list_all is_line ls) h in
-    let q = and_parts (is_name name) (are_places cs && (are_apart cs && nat_le (length cs) 64)) p.0 in
+    let q = and_parts (is_name name) (are_in_grid cs && (are_apart cs && nat_le (length cs) 64)) p.0 in
     and_from _ _ q.0 (names_are ls p.1)
 names_are (box a b c ∷ ls) h = names_are ls (and_parts (is_line (box a b c)) (list_all is_line ls) h).1
 names_are (cells optional cs ∷ ls) h = names_are ls (and_parts (is_line (cells optional cs)) (list_all is_line ls) h).1
@@ -99,7 +99,7 @@ are_distinct [] h = tt
 are_distinct (n ∷ ns) h = let p = and_parts (not (has_name ns n)) (are_new ns) h in (apart_from n ns p.0, are_distinct ns p.1)
 
 -- different names are at most as many as there are names
-pub pieces_few : (pieces : List (ℕ × List Place)) → list_all is_name (names_of pieces) ≡ true → are_new (names_of pieces) ≡ true → length pieces ≤ 62
+pub pieces_few : (pieces : List (ℕ × List Coordinates)) → list_all is_name (names_of pieces) ≡ true → are_new (names_of pieces) ≡ true → length pieces ≤ 62
 pieces_few pieces named new =
     let few = length-le_from_is_member nat_eq_equiv (names_of pieces) all_names (are_distinct (names_of pieces) new) (λ q h. name_listed q (member_is_name q (names_of pieces) named h)) in
     rw length-map at few

@@ -6,18 +6,18 @@ use Rattle.std.proofs.lemmas.Bool.Decides.{nat_tests}
 use Rattle.std.proofs.lemmas.List.{length-map}
 use Rattle.std.specs.declared.cmp.Ordering.{Ordering}
 use Rattle.std.specs.declared.cmp.Ordering.TheVariants.{Less, Equal, Greater}
-use Rattle.poly_cells.specs.Places.{Place, IsPlace, place, place_cmp}
+use Rattle.poly_cells.specs.Coordinates.{Coordinates, IsInGrid, coordinates, coordinates_cmp}
 use Rattle.poly_cells.specs.Sets.{IsIn, in_order, insert_in, by_order}
-use Rattle.poly_cells.specs.Shapes.{AllPlaces, corner, moved_back, normal}
+use Rattle.poly_cells.specs.Shapes.{AllInGrid, corner, moved_back, normal}
 use Rattle.poly_cells.proofs.SetLemmas.{in_append_cases, in_from_map, in_from_order, in_order_rises}
 use Rattle.poly_cells.proofs.PlaceLemmas.{place_total}
 use Rattle.poly_cells.proofs.ShapeLemmas.{normal_is_shape}
 use Rattle.poly_cells.proofs.ImageLemmas.{normal_is}
-use Rattle.poly_texts.specs.Cells.{has_place, without, row, layer, box_cells}
+use Rattle.poly_texts.specs.Cells.{has_cell, without, row, layer, box_cells}
 use Rattle.poly_texts.specs.Words.{is_name}
 use Rattle.poly_texts.specs.Puzzle.{IsPiece, ArePieces}
 use Rattle.poly_texts.specs.Reading.{kept_shape}
-use Rattle.poly_texts.specs.Grammar.{Line, piece, box, cells, cut, is_place, are_places, are_apart, is_side, is_line, piece_of, named_by}
+use Rattle.poly_texts.specs.Grammar.{Line, piece, box, cells, cut, is_in_grid, are_in_grid, are_apart, is_side, is_line, piece_of, named_by}
 use Rattle.poly_texts.proofs.StepLemmas.{some_in_order}
 
 -- *members of lists*
@@ -30,7 +30,7 @@ in_from_flat_map f x (y ∷ ys) i =
       | inr r ↦ let from = in_from_flat_map f x ys r in (from.0, inr from.1, from.2)
     ]
 
-in_from_filter : (t : Place → Bool) (x : Place) (xs : List Place) → IsIn x (filter t xs) → IsIn x xs
+in_from_filter : (t : Coordinates → Bool) (x : Coordinates) (xs : List Coordinates) → IsIn x (filter t xs) → IsIn x xs
 in_from_filter t x [] i = i
 in_from_filter t x (y ∷ ys) i = by_test (t y) i (in_from_filter t x ys)
   where
@@ -44,85 +44,85 @@ in_range_below zero a x i = absurd i
 in_range_below (suc n) a x (inl e) = omega arith
 in_range_below (suc n) a x (inr r) = let h = in_range_below n (a + 1) x r in omega arith
 
-inserted : (x : Place) (ys : List Place) → length (insert_in place_cmp x ys) ≤ 1 + length ys
+inserted : (x : Coordinates) (ys : List Coordinates) → length (insert_in coordinates_cmp x ys) ≤ 1 + length ys
 inserted x [] = omega arith
-inserted x (y ∷ ys) = by_cmp (place_cmp x y) (inserted x ys)
+inserted x (y ∷ ys) = by_cmp (coordinates_cmp x y) (inserted x ys)
   where
-    by_cmp : (o : Ordering) → length (insert_in place_cmp x ys) ≤ 1 + length ys → length (by_order o (x ∷ y ∷ ys) (y ∷ ys) (y ∷ insert_in place_cmp x ys)) ≤ 1 + length (y ∷ ys)
+    by_cmp : (o : Ordering) → length (insert_in coordinates_cmp x ys) ≤ 1 + length ys → length (by_order o (x ∷ y ∷ ys) (y ∷ ys) (y ∷ insert_in coordinates_cmp x ys)) ≤ 1 + length (y ∷ ys)
     by_cmp Less h = omega arith
     by_cmp Equal h = omega arith
     by_cmp Greater h = omega arith
 
-pub ordered_few : (xs : List Place) → length (in_order place_cmp xs) ≤ length xs
+pub ordered_few : (xs : List Coordinates) → length (in_order coordinates_cmp xs) ≤ length xs
 unfolding in_order
 ordered_few [] = omega arith
-ordered_few (x ∷ xs) = let h = ordered_few xs in let i = inserted x (in_order place_cmp xs) in omega arith
+ordered_few (x ∷ xs) = let h = ordered_few xs in let i = inserted x (in_order coordinates_cmp xs) in omega arith
 
 -- *within the limits*
 
-place_is : (c : Place) → is_place c ≡ true → IsPlace c
+place_is : (c : Coordinates) → is_in_grid c ≡ true → IsInGrid c
 place_is c h =
     let p = and_parts (nat_le c.x 31) (nat_le c.y 31 && nat_le c.z 31) h in
     let q = and_parts (nat_le c.y 31) (nat_le c.z 31) p.1 in
     record { x_in = grind (arith, nat_tests); y_in = grind (arith, nat_tests); z_in = grind (arith, nat_tests) }
 
-places_are : (cs : List Place) → list_all is_place cs ≡ true → AllPlaces cs
+places_are : (cs : List Coordinates) → list_all is_in_grid cs ≡ true → AllInGrid cs
 places_are [] h c i = absurd i
 places_are (d ∷ cs) h c i =
-    let p = and_parts (is_place d) (list_all is_place cs) h in
-    elim i [ inl e ↦ subst IsPlace (sym e) (place_is d p.0) | inr r ↦ places_are cs p.1 c r ]
+    let p = and_parts (is_in_grid d) (list_all is_in_grid cs) h in
+    elim i [ inl e ↦ subst IsInGrid (sym e) (place_is d p.0) | inr r ↦ places_are cs p.1 c r ]
 
-box_limits : (a b c : ℕ) → a ≤ 32 → b ≤ 32 → c ≤ 32 → AllPlaces (box_cells a b c)
+box_limits : (a b c : ℕ) → a ≤ 32 → b ≤ 32 → c ≤ 32 → AllInGrid (box_cells a b c)
 box_limits a b c la lb lc v i =
     let x = in_from_flat_map (layer b c) v (range_with_len 0 a) i in
     let y = in_from_flat_map (row c x.0) v (range_with_len 0 b) x.2 in
-    let z = in_from_map (place x.0 y.0) v (range_with_len 0 c) y.2 in
+    let z = in_from_map (coordinates x.0 y.0) v (range_with_len 0 c) y.2 in
     let hx = in_range_below a 0 x.0 x.1 in
     let hy = in_range_below b 0 y.0 y.1 in
     let hz = in_range_below c 0 z.0 z.1 in
-    subst IsPlace (sym z.2) (record { x_in = omega arith; y_in = omega arith; z_in = omega arith })
+    subst IsInGrid (sym z.2) (record { x_in = omega arith; y_in = omega arith; z_in = omega arith })
 
 side_most : (n : ℕ) → is_side n ≡ true → n ≤ 32
 side_most n h = let p = and_parts (nat_lt 0 n) (nat_le n 32) h in grind (arith, nat_tests)
 
-line_limits : (l : Line) → is_line l ≡ true → AllPlaces (named_by l)
+line_limits : (l : Line) → is_line l ≡ true → AllInGrid (named_by l)
 line_limits (piece optional name cs) h = λ c i. absurd i
 line_limits (box a b c) h =
     let p = and_parts (is_side a) (is_side b && is_side c) h in
     let q = and_parts (is_side b) (is_side c) p.1 in
     box_limits a b c (side_most a p.0) (side_most b q.0) (side_most c q.1)
-line_limits (cells optional cs) h = places_are cs (and_parts (nat_lt 0 (length cs)) (list_all is_place cs) h).1
+line_limits (cells optional cs) h = places_are cs (and_parts (nat_lt 0 (length cs)) (list_all is_in_grid cs) h).1
 line_limits (cut cs) h = λ c i. absurd i
 
 -- the cells that lines name are within the limits
-pub named_limits : (ls : List Line) → list_all is_line ls ≡ true → AllPlaces (flat_map named_by ls)
+pub named_limits : (ls : List Line) → list_all is_line ls ≡ true → AllInGrid (flat_map named_by ls)
 named_limits [] h c i = absurd i
 named_limits (l ∷ ls) h c i =
     let p = and_parts (is_line l) (list_all is_line ls) h in
     elim (in_append_cases c (named_by l) (flat_map named_by ls) i) [ inl e ↦ line_limits l p.0 c e | inr r ↦ named_limits ls p.1 c r ]
 
-pub uncut_limits : (gone named : List Place) → AllPlaces named → AllPlaces (in_order place_cmp (without gone named))
+pub uncut_limits : (gone named : List Coordinates) → AllInGrid named → AllInGrid (in_order coordinates_cmp (without gone named))
 uncut_limits gone named limits c i =
-    limits c (in_from_filter (λ d. not (has_place gone d)) c named (in_from_order place_cmp c (without gone named) i))
+    limits c (in_from_filter (λ d. not (has_cell gone d)) c named (in_from_order coordinates_cmp c (without gone named) i))
 
 -- *pieces*
 
-normal_len : (cs : List Place) → length (normal cs) ≡ length cs
+normal_len : (cs : List Coordinates) → length (normal cs) ≡ length cs
 unfolding normal
 normal_len cs = length-map cs (moved_back (corner cs))
 
-piece_is : (cs : List Place) → are_places cs ≡ true → nat_le (length cs) 64 ≡ true → IsPiece (kept_shape cs)
+piece_is : (cs : List Coordinates) → are_in_grid cs ≡ true → nat_le (length cs) 64 ≡ true → IsPiece (kept_shape cs)
 piece_is cs good short =
-    let p = and_parts (nat_lt 0 (length cs)) (list_all is_place cs) good in
-    let limits : AllPlaces (in_order place_cmp cs) = λ c i. places_are cs p.1 c (in_from_order place_cmp c cs i) in
-    let some : 0 < length (in_order place_cmp cs) = some_in_order cs (grind (arith, nat_tests)) in
+    let p = and_parts (nat_lt 0 (length cs)) (list_all is_in_grid cs) good in
+    let limits : AllInGrid (in_order coordinates_cmp cs) = λ c i. places_are cs p.1 c (in_from_order coordinates_cmp c cs i) in
+    let some : 0 < length (in_order coordinates_cmp cs) = some_in_order cs (grind (arith, nat_tests)) in
     let most : length cs ≤ 64 = grind (arith, nat_tests) in
-    let same = normal_len (in_order place_cmp cs) in
+    let same = normal_len (in_order coordinates_cmp cs) in
     let few = ordered_few cs in
     record {
-      shape = normal_is_shape (in_order place_cmp cs) (record { some = some; rises = in_order_rises place_total cs; limits = limits });
+      shape = normal_is_shape (in_order coordinates_cmp cs) (record { some = some; rises = in_order_rises place_total cs; limits = limits });
       few = omega arith;
-      origin = (normal_is (in_order place_cmp cs) some limits).origin;
+      origin = (normal_is (in_order coordinates_cmp cs) some limits).origin;
     }
 
 -- the pieces that lines say are pieces
@@ -130,10 +130,10 @@ pub pieces_are : (ls : List Line) → list_all is_line ls ≡ true → ArePieces
 pieces_are [] h = λ p i. absurd i
 pieces_are (piece optional name cs ∷ ls) h =
     let a = and_parts (is_line (piece optional name cs)) (list_all is_line ls) h in
-    let b = and_parts (is_name name) (are_places cs && (are_apart cs && nat_le (length cs) 64)) a.0 in
-    let c = and_parts (are_places cs) (are_apart cs && nat_le (length cs) 64) b.1 in
+    let b = and_parts (is_name name) (are_in_grid cs && (are_apart cs && nat_le (length cs) 64)) a.0 in
+    let c = and_parts (are_in_grid cs) (are_apart cs && nat_le (length cs) 64) b.1 in
     let d = and_parts (are_apart cs) (nat_le (length cs) 64) c.1 in
-    λ p i. elim i [ inl e ↦ subst (λ (q : ℕ × List Place). IsPiece q.1) (sym e) (piece_is cs c.0 d.1) | inr r ↦ pieces_are ls a.1 p r ]
+    λ p i. elim i [ inl e ↦ subst (λ (q : ℕ × List Coordinates). IsPiece q.1) (sym e) (piece_is cs c.0 d.1) | inr r ↦ pieces_are ls a.1 p r ]
 pieces_are (box a b c ∷ ls) h = pieces_are ls (and_parts (is_line (box a b c)) (list_all is_line ls) h).1
 pieces_are (cells optional cs ∷ ls) h = pieces_are ls (and_parts (is_line (cells optional cs)) (list_all is_line ls) h).1
 pieces_are (cut cs ∷ ls) h = pieces_are ls (and_parts (is_line (cut cs)) (list_all is_line ls) h).1

@@ -3,13 +3,13 @@ use Rattle.std.proofs.Common.{◌≡◌, ◌<◌, ◌≤◌, inl, inr, ℕ, List
 use Rattle.std.specs.List.{list_all}
 use Rattle.std.proofs.lemmas.Bool.{and_parts, and_from}
 use Rattle.std.proofs.lemmas.List.Folds.{list_any-append}
-use Rattle.poly_cells.specs.Places.{Place, place_cmp}
+use Rattle.poly_cells.specs.Coordinates.{Coordinates, coordinates_cmp}
 use Rattle.poly_cells.specs.Sets.{IsIn, in_order}
 use Rattle.poly_cells.proofs.SetLemmas.{in_order_rises}
 use Rattle.poly_cells.proofs.PlaceLemmas.{place_total}
-use Rattle.poly_texts.specs.Cells.{is_same, has_place, with_cells, without}
+use Rattle.poly_texts.specs.Cells.{is_same, has_cell, with_cells, without}
 use Rattle.poly_texts.specs.Puzzle.{PuzzleValue, IsPuzzle, needs_nothing}
-use Rattle.poly_texts.specs.Reading.{Said, lines_read, whole}
+use Rattle.poly_texts.specs.Reading.{DraftValue, lines_read, whole}
 use Rattle.poly_texts.specs.Grammar.{Line, piece, box, cells, cut, piece_of, named_by, maybe_by, cut_by, IsPuzzleText}
 use Rattle.text_lines.specs.Lines.{lines_of}
 use Rattle.poly_texts.proofs.MemberLemmas.{has_left, has_ordered, has_from_in, left_once}
@@ -20,7 +20,7 @@ use Rattle.poly_texts.proofs.TextLemmas.{read_is_text}
 
 -- *cells*
 
-all_are : (p : Place → Bool) (xs : List Place) → ((c : Place) → IsIn c xs → p c ≡ true) → list_all p xs ≡ true
+all_are : (p : Coordinates → Bool) (xs : List Coordinates) → ((c : Coordinates) → IsIn c xs → p c ≡ true) → list_all p xs ≡ true
 all_are p [] h = refl
 all_are p (x ∷ xs) h = and_from _ _ (h x (inl refl)) (all_are p xs (λ c i. h c (inr i)))
 
@@ -29,20 +29,20 @@ or_mono true b c d f g h = rw (f refl) refl
 or_mono false true c d f g h = refl
 or_mono false false c d f g h = g h
 
-line_named : (l : Line) (c : Place) → has_place (maybe_by l) c ≡ true → has_place (named_by l) c ≡ true
+line_named : (l : Line) (c : Coordinates) → has_cell (maybe_by l) c ≡ true → has_cell (named_by l) c ≡ true
 line_named (piece optional name cs) c h = h
 line_named (box a b d) c h = absurd (cc)
 line_named (cells true cs) c h = h
 line_named (cells false cs) c h = absurd (cc)
 line_named (cut cs) c h = h
 
-maybe_are_named : (ls : List Line) (c : Place) → has_place (flat_map maybe_by ls) c ≡ true → has_place (flat_map named_by ls) c ≡ true
+maybe_are_named : (ls : List Line) (c : Coordinates) → has_cell (flat_map maybe_by ls) c ≡ true → has_cell (flat_map named_by ls) c ≡ true
 maybe_are_named [] c h = h
 maybe_are_named (l ∷ ls) c h =
     list_any-append (is_same c) (named_by l) (flat_map named_by ls)
-    ∙ or_mono (has_place (maybe_by l) c) (has_place (named_by l) c) (has_place (flat_map maybe_by ls) c) (has_place (flat_map named_by ls) c) (line_named l c) (maybe_are_named ls c) (sym (list_any-append (is_same c) (maybe_by l) (flat_map maybe_by ls)) ∙ h)
+    ∙ or_mono (has_cell (maybe_by l) c) (has_cell (named_by l) c) (has_cell (flat_map maybe_by ls) c) (has_cell (flat_map named_by ls) c) (line_named l c) (maybe_are_named ls c) (sym (list_any-append (is_same c) (maybe_by l) (flat_map maybe_by ls)) ∙ h)
 
-left_few : (t : Place → Bool) (xs : List Place) → length (filter t xs) ≤ length xs
+left_few : (t : Coordinates → Bool) (xs : List Coordinates) → length (filter t xs) ≤ length xs
 left_few t [] = omega arith
 left_few t (x ∷ xs) = by_test (t x) (left_few t xs)
   where
@@ -50,15 +50,15 @@ left_few t (x ∷ xs) = by_test (t x) (left_few t xs)
     by_test true h = omega arith
     by_test false h = omega arith
 
-region_few : (gone named : List Place) → length (with_cells [] named) ≤ 4096 → length (in_order place_cmp (without gone named)) ≤ 4096
+region_few : (gone named : List Coordinates) → length (with_cells [] named) ≤ 4096 → length (in_order coordinates_cmp (without gone named)) ≤ 4096
 region_few gone named h =
     subst (λ r. length r ≤ 4096) (left_once gone named)
-    (le_trans (ordered_few (without (with_cells [] gone) (with_cells [] named))) (le_trans (left_few (λ c. not (has_place (with_cells [] gone) c)) (with_cells [] named)) h))
+    (le_trans (ordered_few (without (with_cells [] gone) (with_cells [] named))) (le_trans (left_few (λ c. not (has_cell (with_cells [] gone) c)) (with_cells [] named)) h))
 
-maybe_left : (gone named maybe : List Place) → ((c : Place) → has_place maybe c ≡ true → has_place named c ≡ true) → list_all (has_place (in_order place_cmp (without gone named))) (in_order place_cmp (without gone maybe)) ≡ true
-maybe_left gone named maybe f = all_are (has_place (in_order place_cmp (without gone named))) (in_order place_cmp (without gone maybe))
+maybe_left : (gone named maybe : List Coordinates) → ((c : Coordinates) → has_cell maybe c ≡ true → has_cell named c ≡ true) → list_all (has_cell (in_order coordinates_cmp (without gone named))) (in_order coordinates_cmp (without gone maybe)) ≡ true
+maybe_left gone named maybe f = all_are (has_cell (in_order coordinates_cmp (without gone named))) (in_order coordinates_cmp (without gone maybe))
     (λ c i.
-    let p = and_parts (has_place maybe c) (not (has_place gone c)) (sym (has_ordered (without gone maybe) c ∙ has_left gone maybe c) ∙ has_from_in (in_order place_cmp (without gone maybe)) c i) in
+    let p = and_parts (has_cell maybe c) (not (has_cell gone c)) (sym (has_ordered (without gone maybe) c ∙ has_left gone maybe c) ∙ has_from_in (in_order coordinates_cmp (without gone maybe)) c i) in
     has_ordered (without gone named) c ∙ has_left gone named c ∙ and_from _ _ (f c p.0) p.1)
 
 -- *the puzzle*
@@ -84,5 +84,5 @@ puzzle_is text p t =
     })
 
 -- what the lines of a text say is a puzzle, where they say one
-pub said_is_puzzle : (text : List ℕ) (s : Said) (n : ℕ) → lines_read (lines_of text) ≡ Ok (s, n) → (p : PuzzleValue) → whole s ≡ Ok p → IsPuzzle p
+pub said_is_puzzle : (text : List ℕ) (s : DraftValue) (n : ℕ) → lines_read (lines_of text) ≡ Ok (s, n) → (p : PuzzleValue) → whole s ≡ Ok p → IsPuzzle p
 said_is_puzzle text s n read p h = puzzle_is text p (read_is_text text p (text_read text s n read p h))

@@ -1,7 +1,7 @@
 -- The examples of texts and their first faults, computed.
 use Rattle.std.proofs.Common.{◌≡◌, [], ◌∷◌, ◌++◌, Ok, Err, codes, refl}
 use Rattle.text_lines.specs.Each.{each}
-use Rattle.poly_cells.specs.Places.{place}
+use Rattle.poly_cells.specs.Coordinates.{coordinates}
 use Rattle.poly_cells.specs.Sets.{in_order}
 use Rattle.poly_cells.specs.Shapes.{normal}
 use Rattle.poly_texts.specs.declared.fault.Fault.TheVariants.{RepeatedCell, EmptyRegion, NoPiece, TooLarge, NothingRequired}
@@ -30,9 +30,9 @@ all_optional = refl
 
 moved_and_cut : puzzle_of (codes "piece A 100 200" ++ 10 ∷ codes "box 2 2 1" ++ 10 ∷ codes "cut 000 110") ≡
     Ok (record {
-      pieces = (65, place 0 0 0 ∷ place 1 0 0 ∷ []) ∷ [];
+      pieces = (65, coordinates 0 0 0 ∷ coordinates 1 0 0 ∷ []) ∷ [];
       maybe_pieces = [];
-      region = place 0 1 0 ∷ place 1 0 0 ∷ [];
+      region = coordinates 0 1 0 ∷ coordinates 1 0 0 ∷ [];
       maybe_cells = [];
     })
 unfolding puzzle_of each numbered_line line words_line piece_line new_name shape_of add_piece_cell box_line with_cells cut_line add_cell whole in_order normal

@@ -5,7 +5,7 @@ use Rattle.indexmap.specs.IndexMap.{insert_entry}
 use Rattle.text_lines.specs.Lines.{lines_of, is_empty}
 use Rattle.text_lines.specs.Each.{each}
 use Rattle.text_lines.proofs.EachLemmas.{each_goes, each_stops, each_ends}
-use Rattle.poly_cells.specs.Places.{Place}
+use Rattle.poly_cells.specs.Coordinates.{Coordinates}
 use Rattle.poly_texts.specs.declared.fault.Fault.{Fault}
 use Rattle.poly_texts.specs.declared.fault.Fault.TheVariants.{RepeatedPiece}
 use Rattle.poly_texts.specs.declared.fault.LineFault.{LineFault}
@@ -15,23 +15,23 @@ use Rattle.poly_texts.specs.declared.fault.PuzzleFault.TheVariants as puzzle_fau
 use Rattle.poly_texts.specs.Faults.{IsFaultOf, IsFaultAt, fault_at}
 use Rattle.poly_texts.specs.Words.{piece_name}
 use Rattle.poly_texts.specs.Puzzle.{PuzzleValue}
-use Rattle.poly_texts.specs.Reading.{Said, three, has_piece, new_name, shape_of, with_piece, piece_line, line, at_line, numbered_line, lines_read, region_of, maybe_region_of, whole_fault, whole, puzzle_of}
+use Rattle.poly_texts.specs.Reading.{DraftValue, three_words, has_piece, new_name, shape_of, with_piece, piece_line, line, at_line, numbered_line, lines_read, region_of, maybe_region_of, whole_fault, whole, puzzle_of}
 
 -- *words*
 
-after_third : (a b c : List ℕ) (more : List (List ℕ)) → is_empty more ≡ true → Some (a, b, c) ≡ three (a ∷ b ∷ c ∷ more)
+after_third : (a b c : List ℕ) (more : List (List ℕ)) → is_empty more ≡ true → Some (a, b, c) ≡ three_words (a ∷ b ∷ c ∷ more)
 after_third a b c [] h = refl
 after_third a b c (w ∷ ws) h = absurd (cc)
 
-after_fourth : (a b c : List ℕ) (more : List (List ℕ)) → is_empty more ≡ false → None ≡ three (a ∷ b ∷ c ∷ more)
+after_fourth : (a b c : List ℕ) (more : List (List ℕ)) → is_empty more ≡ false → None ≡ three_words (a ∷ b ∷ c ∷ more)
 after_fourth a b c [] h = absurd (cc)
 after_fourth a b c (w ∷ ws) h = refl
 
 module _ (all after_a after_b after_c : List (List ℕ)) (a b c : List ℕ) (first : all ≡ a ∷ after_a) (second : after_a ≡ b ∷ after_b) (third : after_b ≡ c ∷ after_c) where
-  pub three_found : is_empty after_c ≡ true → Some (a, b, c) ≡ three all
+  pub three_found : is_empty after_c ≡ true → Some (a, b, c) ≡ three_words all
   three_found h = rw (first, second, third) (after_third a b c after_c h)
 
-  pub more_found : is_empty after_c ≡ false → None ≡ three all
+  pub more_found : is_empty after_c ≡ false → None ≡ three_words all
   more_found h = rw (first, second, third) (after_fourth a b c after_c h)
 
 -- *faults are passed on*
@@ -42,7 +42,7 @@ passes_on line_faults.OutOfMemory at all stops h = tt
 
 -- *pieces by name*
 
-pub looked_up : (pieces : List (ℕ × List Place)) (name : ℕ) → is_some (lookup (λ n. name == n) pieces) ≡ has_piece pieces name
+pub looked_up : (pieces : List (ℕ × List Coordinates)) (name : ℕ) → is_some (lookup (λ n. name == n) pieces) ≡ has_piece pieces name
 looked_up [] name = refl
 looked_up (p ∷ ps) name = by_test (name == p.0) (looked_up ps name)
   where
@@ -50,7 +50,7 @@ looked_up (p ∷ ps) name = by_test (name == p.0) (looked_up ps name)
     by_test true h = refl
     by_test false h = h
 
-pub entered : (pieces : List (ℕ × List Place)) (name : ℕ) (shape : List Place) → has_piece pieces name ≡ false → insert_entry (λ m n. m == n) pieces name shape ≡ pieces ++ (name, shape) ∷ []
+pub entered : (pieces : List (ℕ × List Coordinates)) (name : ℕ) (shape : List Coordinates) → has_piece pieces name ≡ false → insert_entry (λ m n. m == n) pieces name shape ≡ pieces ++ (name, shape) ∷ []
 entered [] name shape h = refl
 entered (p ∷ ps) name shape h = by_test (name == p.0) h (entered ps name shape)
   where
@@ -58,7 +58,7 @@ entered (p ∷ ps) name shape h = by_test (name == p.0) h (entered ps name shape
     by_test true h later = absurd (cc)
     by_test false h later = ap (λ qs. p ∷ qs) (later h)
 
-module _ (pieces : List (ℕ × List Place)) (word : List ℕ) (name : ℕ) (named : Some name ≡ piece_name word) where
+module _ (pieces : List (ℕ × List Coordinates)) (word : List ℕ) (name : ℕ) (named : Some name ≡ piece_name word) where
   pub name_repeated : has_piece pieces name ≡ true → new_name pieces word ≡ Err RepeatedPiece
   unfolding new_name
   name_repeated h = rw (← named, h) refl
@@ -68,19 +68,19 @@ module _ (pieces : List (ℕ × List Place)) (word : List ℕ) (name : ℕ) (nam
   name_found h = rw (← named, h) refl
 
 -- a `piece` line whose words gave these
-pub piece_read : (s : Said) (optional : Bool) (all : List (List ℕ)) (word : List ℕ) (words : List (List ℕ)) (name : ℕ) (shape : List Place) → all ≡ word ∷ words → is_empty words ≡ false → new_name s.pieces word ≡ Ok name → shape_of words ≡ Ok shape → piece_line s optional all ≡ Ok (with_piece s optional name shape)
+pub piece_read : (s : DraftValue) (optional : Bool) (all : List (List ℕ)) (word : List ℕ) (words : List (List ℕ)) (name : ℕ) (shape : List Coordinates) → all ≡ word ∷ words → is_empty words ≡ false → new_name s.pieces word ≡ Ok name → shape_of words ≡ Ok shape → piece_line s optional all ≡ Ok (with_piece s optional name shape)
 unfolding piece_line
 piece_read s optional all word words name shape e some a b = rw (e, some, a, b) refl
 
 -- *a line of a text, and its end*
 
-line_found : (s : Said) (n : ℕ) (bytes : List ℕ) (found : Result Said Fault) → line s bytes ≡ found → numbered_line (s, n) bytes ≡ at_line n found
+line_found : (s : DraftValue) (n : ℕ) (bytes : List ℕ) (found : Result DraftValue Fault) → line s bytes ≡ found → numbered_line (s, n) bytes ≡ at_line n found
 unfolding numbered_line
 line_found s n bytes found e = ap (at_line n) e
 
 -- a loop over the lines that has come to the line numbered n
-module _ (s : Said) (n : ℕ) (lines : List (List ℕ)) (all : Result (Said × ℕ) (Fault × ℕ)) (so_far : each numbered_line (s, n) lines ≡ all) (bytes : List ℕ) (more : List (List ℕ)) (first : lines ≡ bytes ∷ more) where
-  pub line_goes : (t : Said) → line s bytes ≡ Ok t → each numbered_line (t, n + 1) more ≡ all
+module _ (s : DraftValue) (n : ℕ) (lines : List (List ℕ)) (all : Result (DraftValue × ℕ) (Fault × ℕ)) (so_far : each numbered_line (s, n) lines ≡ all) (bytes : List ℕ) (more : List (List ℕ)) (first : lines ≡ bytes ∷ more) where
+  pub line_goes : (t : DraftValue) → line s bytes ≡ Ok t → each numbered_line (t, n + 1) more ≡ all
   line_goes t h = each_goes numbered_line (s, n) lines all so_far bytes more (t, n + 1) first (line_found s n bytes (Ok t) h)
 
   pub line_stops : (f : LineFault) → IsFaultOf f (line s bytes) → IsFaultAt (fault_at n f) all
@@ -91,13 +91,13 @@ no_lines : (rest : List ℕ) → length rest ≡ 0 → lines_of rest ≡ []
 no_lines [] h = refl
 no_lines (b ∷ bs) h = absurd (omega arith)
 
-pub text_ends : (s : Said) (n : ℕ) (rest : List ℕ) (all : Result (Said × ℕ) (Fault × ℕ)) → each numbered_line (s, n) (lines_of rest) ≡ all → length rest ≡ 0 → all ≡ Ok (s, n)
+pub text_ends : (s : DraftValue) (n : ℕ) (rest : List ℕ) (all : Result (DraftValue × ℕ) (Fault × ℕ)) → each numbered_line (s, n) (lines_of rest) ≡ all → length rest ≡ 0 → all ≡ Ok (s, n)
 text_ends s n rest all so_far none = each_ends numbered_line (s, n) (lines_of rest) all so_far (no_lines rest none)
 
 -- *the whole text*
 
 -- where nothing is missing, the puzzle has these parts
-pub whole_read : (s : Said) (region maybe : List Place) → region ≡ region_of s → maybe ≡ maybe_region_of s → None ≡ whole_fault s.pieces s.maybe_pieces region s.maybe_cells →
+pub whole_read : (s : DraftValue) (region maybe : List Coordinates) → region ≡ region_of s → maybe ≡ maybe_region_of s → None ≡ whole_fault s.pieces s.maybe_pieces region s.maybe_cells →
     whole s ≡ Ok (record { pieces = s.pieces; maybe_pieces = s.maybe_pieces; region = region; maybe_cells = maybe })
 unfolding whole
 whole_read s region maybe e f none =
@@ -110,7 +110,7 @@ module _ (text : List ℕ) where
   text_refused (puzzle_faults.Fault f n) h = rw h refl
   text_refused puzzle_faults.OutOfMemory h = tt
 
-  module _ (s : Said) (n : ℕ) (read : lines_read (lines_of text) ≡ Ok (s, n)) where
+  module _ (s : DraftValue) (n : ℕ) (read : lines_read (lines_of text) ≡ Ok (s, n)) where
     pub text_read : (p : PuzzleValue) → whole s ≡ Ok p → puzzle_of text ≡ Ok p
     unfolding puzzle_of
     text_read p h = rw (read, h) refl

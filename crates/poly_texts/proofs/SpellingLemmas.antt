@@ -8,12 +8,12 @@ use Rattle.std.proofs.lemmas.List.Folds.{list_any-append}
 use Rattle.text_lines.specs.Numbers.{is_decimal, value_after, number_of}
 use Rattle.text_lines.specs.Each.{each}
 use Rattle.text_lines.proofs.NumberLemmas.{reads_printed, printed_again}
-use Rattle.poly_cells.specs.Places.{Place, place}
-use Rattle.poly_texts.specs.Cells.{is_same, has_place, with_cell, with_cells}
+use Rattle.poly_cells.specs.Coordinates.{Coordinates, coordinates}
+use Rattle.poly_texts.specs.Cells.{is_same, has_cell, with_cell, with_cells}
 use Rattle.poly_texts.specs.Words.{coordinate, cell_at, cell_of, is_name, piece_name, is_size, size_of}
-use Rattle.poly_texts.specs.Reading.{known, add_cell, add_piece_cell}
-use Rattle.poly_texts.specs.Grammar.{symbol, cell_word, is_place, are_apart, is_side}
-use Rattle.poly_texts.proofs.StepLemmas.{ok_is, bind_ok, each_parts, each_none, known_is, cell_taken}
+use Rattle.poly_texts.specs.Reading.{found_or, add_cell, add_piece_cell}
+use Rattle.poly_texts.specs.Grammar.{symbol, cell_word, is_in_grid, are_apart, is_side}
+use Rattle.poly_texts.proofs.StepLemmas.{ok_is, bind_ok, each_parts, each_none, found_or_is, cell_taken}
 
 pub chosen : {A : Type 0} (b : Bool) (x y z : A) → cond b x y ≡ z → ((b ≡ true) × (x ≡ z)) ⊎ ((b ≡ false) × (y ≡ z))
 chosen true x y z h = inl (refl, h)
@@ -72,13 +72,13 @@ symbol_is b n h = digit (chosen (nat_le 48 b && nat_le b 57) (Some (b - 48)) (co
         (omega arith, rw f (omega arith))
     digit (inr e) = letter (chosen (nat_le 97 b && nat_le b 118) (Some (b - 87)) None (Some n) e.1)
 
-pub cell_again : (c : Place) → is_place c ≡ true → cell_of (cell_word c) ≡ Some c
+pub cell_again : (c : Coordinates) → is_in_grid c ≡ true → cell_of (cell_word c) ≡ Some c
 cell_again c h =
     let p = and_parts (nat_le c.x 31) (nat_le c.y 31 && nat_le c.z 31) h in
     let q = and_parts (nat_le c.y 31) (nat_le c.z 31) p.1 in
     rw (symbol_again c.x (leb-true c.x 31 p.0), symbol_again c.y (leb-true c.y 31 q.0), symbol_again c.z (leb-true c.z 31 q.1)) refl
 
-three_symbols : (x y z : ℕ) (c : Place) (a b d : Option ℕ) → coordinate x ≡ a → coordinate y ≡ b → coordinate z ≡ d → cell_at a b d ≡ Some c → (is_place c ≡ true) × (x ∷ y ∷ z ∷ [] ≡ cell_word c)
+three_symbols : (x y z : ℕ) (c : Coordinates) (a b d : Option ℕ) → coordinate x ≡ a → coordinate y ≡ b → coordinate z ≡ d → cell_at a b d ≡ Some c → (is_in_grid c ≡ true) × (x ∷ y ∷ z ∷ [] ≡ cell_word c)
 three_symbols x y z c None b d e f g h = absurd (none_some c h)
 three_symbols x y z c (Some i) None d e f g h = absurd (none_some c h)
 three_symbols x y z c (Some i) (Some j) None e f g h = absurd (none_some c h)
@@ -86,12 +86,12 @@ three_symbols x y z c (Some i) (Some j) (Some k) e f g h =
     let p = symbol_is x i e in
     let q = symbol_is y j f in
     let r = symbol_is z k g in
-    let m : place i j k ≡ c = some_is (place i j k) c h in
-    let is : is_place (place i j k) ≡ true = and_from _ _ (le-leb i 31 p.0) (and_from _ _ (le-leb j 31 q.0) (le-leb k 31 r.0)) in
-    let w : x ∷ y ∷ z ∷ [] ≡ cell_word (place i j k) = rw (p.1, q.1, r.1) refl in
-    (subst (λ v. is_place v ≡ true) m is, w ∙ ap cell_word m)
+    let m : coordinates i j k ≡ c = some_is (coordinates i j k) c h in
+    let is : is_in_grid (coordinates i j k) ≡ true = and_from _ _ (le-leb i 31 p.0) (and_from _ _ (le-leb j 31 q.0) (le-leb k 31 r.0)) in
+    let w : x ∷ y ∷ z ∷ [] ≡ cell_word (coordinates i j k) = rw (p.1, q.1, r.1) refl in
+    (subst (λ v. is_in_grid v ≡ true) m is, w ∙ ap cell_word m)
 
-pub cell_is : (word : List ℕ) (c : Place) → cell_of word ≡ Some c → (is_place c ≡ true) × (word ≡ cell_word c)
+pub cell_is : (word : List ℕ) (c : Coordinates) → cell_of word ≡ Some c → (is_in_grid c ≡ true) × (word ≡ cell_word c)
 cell_is [] c h = absurd (none_some c h)
 cell_is (x ∷ []) c h = absurd (none_some c h)
 cell_is (x ∷ y ∷ []) c h = absurd (none_some c h)
@@ -100,36 +100,36 @@ cell_is (x ∷ y ∷ z ∷ w ∷ ws) c h = absurd (none_some c h)
 
 -- *cells of a line*
 
-add_again : (cells : List Place) (c : Place) → is_place c ≡ true → add_cell cells (cell_word c) ≡ Ok (with_cell cells c)
+add_again : (cells : List Coordinates) (c : Coordinates) → is_in_grid c ≡ true → add_cell cells (cell_word c) ≡ Ok (with_cell cells c)
 unfolding add_cell
 add_again cells c h = rw (cell_again c h) refl
 
-pub cells_again : (acc cs : List Place) → list_all is_place cs ≡ true → each add_cell acc (map cell_word cs) ≡ Ok (with_cells acc cs)
+pub cells_again : (acc cs : List Coordinates) → list_all is_in_grid cs ≡ true → each add_cell acc (map cell_word cs) ≡ Ok (with_cells acc cs)
 unfolding each with_cells
 cells_again acc [] h = refl
 cells_again acc (c ∷ cs) h =
-    let p = and_parts (is_place c) (list_all is_place cs) h in
+    let p = and_parts (is_in_grid c) (list_all is_in_grid cs) h in
     rw (add_again acc c p.0) (cells_again (with_cell acc c) cs p.1)
 
 -- words named these cells, which came to the ones before
-pub record AreCells (acc : List Place) (words : List (List ℕ)) (all : List Place) : Type 0 where
-  pub cs : List Place
+pub record AreCells (acc : List Coordinates) (words : List (List ℕ)) (all : List Coordinates) : Type 0 where
+  pub cs : List Coordinates
   pub words_are : words ≡ map cell_word cs
-  pub places : list_all is_place cs ≡ true
+  pub places : list_all is_in_grid cs ≡ true
   pub all_are : all ≡ with_cells acc cs
 
-added : (cells : List Place) (word : List ℕ) (more : List Place) → add_cell cells word ≡ Ok more → (c : Place) × (cell_of word ≡ Some c) × (with_cell cells c ≡ more)
+added : (cells : List Coordinates) (word : List ℕ) (more : List Coordinates) → add_cell cells word ≡ Ok more → (c : Coordinates) × (cell_of word ≡ Some c) × (with_cell cells c ≡ more)
 unfolding add_cell
 added cells word more h =
-    let b = bind_ok (known (cell_of word)) (λ c. Ok (with_cell cells c)) more h in
-    (b.0, known_is (cell_of word) b.0 b.1, ok_is (with_cell cells b.0) more b.2)
+    let b = bind_ok (found_or (cell_of word)) (λ c. Ok (with_cell cells c)) more h in
+    (b.0, found_or_is (cell_of word) b.0 b.1, ok_is (with_cell cells b.0) more b.2)
 
-pub cells_are : (acc : List Place) (words : List (List ℕ)) (all : List Place) → each add_cell acc words ≡ Ok all → AreCells acc words all
+pub cells_are : (acc : List Coordinates) (words : List (List ℕ)) (all : List Coordinates) → each add_cell acc words ≡ Ok all → AreCells acc words all
 unfolding with_cells
 cells_are acc [] all h = record { cs = []; words_are = refl; places = refl; all_are = sym (each_none add_cell acc all h) }
 cells_are acc (w ∷ words) all h = step (λ t. cells_are t words all) (each_parts add_cell acc w words all h)
   where
-    step : ((t : List Place) → each add_cell t words ≡ Ok all → AreCells t words all) → (t : List Place) × (add_cell acc w ≡ Ok t) × (each add_cell t words ≡ Ok all) → AreCells acc (w ∷ words) all
+    step : ((t : List Coordinates) → each add_cell t words ≡ Ok all → AreCells t words all) → (t : List Coordinates) × (add_cell acc w ≡ Ok t) × (each add_cell t words ≡ Ok all) → AreCells acc (w ∷ words) all
     step later (t, a, b) =
         let d = added acc w t a in
         let k = cell_is w d.0 d.1 in
@@ -143,55 +143,55 @@ cells_are acc (w ∷ words) all h = step (λ t. cells_are t words all) (each_par
 
 -- *cells of a piece*
 
-same_sym : (v w : Place) → is_same v w ≡ is_same w v
+same_sym : (v w : Coordinates) → is_same v w ≡ is_same w v
 same_sym v w = grind (arith, nat_tests)
 
-apart_push : (cs : List Place) (c : Place) → are_apart cs ≡ true → has_place cs c ≡ false → are_apart (cs ++ c ∷ []) ≡ true
+apart_push : (cs : List Coordinates) (c : Coordinates) → are_apart cs ≡ true → has_cell cs c ≡ false → are_apart (cs ++ c ∷ []) ≡ true
 apart_push [] c a h = refl
 apart_push (d ∷ cs) c a h =
-    let p = and_parts (not (has_place cs d)) (are_apart cs) a in
-    let q = or_parts (is_same c d) (has_place cs c) h in
-    let r : has_place (cs ++ c ∷ []) d ≡ false = list_any-append (is_same d) cs (c ∷ []) ∙ or_from _ _ (not-true _ p.0) (or_from _ _ (same_sym d c ∙ q.0) refl) in
+    let p = and_parts (not (has_cell cs d)) (are_apart cs) a in
+    let q = or_parts (is_same c d) (has_cell cs c) h in
+    let r : has_cell (cs ++ c ∷ []) d ≡ false = list_any-append (is_same d) cs (c ∷ []) ∙ or_from _ _ (not-true _ p.0) (or_from _ _ (same_sym d c ∙ q.0) refl) in
     and_from _ _ (not_from_false _ r) (apart_push cs c p.1 q.1)
 
-new_before : (acc : List Place) (c : Place) (cs : List Place) → are_apart (acc ++ c ∷ cs) ≡ true → has_place acc c ≡ false
+new_before : (acc : List Coordinates) (c : Coordinates) (cs : List Coordinates) → are_apart (acc ++ c ∷ cs) ≡ true → has_cell acc c ≡ false
 new_before [] c cs h = refl
 new_before (d ∷ acc) c cs h =
-    let p = and_parts (not (has_place (acc ++ c ∷ cs) d)) (are_apart (acc ++ c ∷ cs)) h in
-    let q = or_parts (has_place acc d) (has_place (c ∷ cs) d) (sym (list_any-append (is_same d) acc (c ∷ cs)) ∙ not-true _ p.0) in
-    let r = or_parts (is_same d c) (has_place cs d) q.1 in
+    let p = and_parts (not (has_cell (acc ++ c ∷ cs) d)) (are_apart (acc ++ c ∷ cs)) h in
+    let q = or_parts (has_cell acc d) (has_cell (c ∷ cs) d) (sym (list_any-append (is_same d) acc (c ∷ cs)) ∙ not-true _ p.0) in
+    let r = or_parts (is_same d c) (has_cell cs d) q.1 in
     or_from _ _ (same_sym c d ∙ r.0) (new_before acc c cs p.1)
 
-taken_again : (acc : List Place) (c : Place) → is_place c ≡ true → nat_lt (length acc) 64 ≡ true → has_place acc c ≡ false → add_piece_cell acc (cell_word c) ≡ Ok (acc ++ c ∷ [])
+taken_again : (acc : List Coordinates) (c : Coordinates) → is_in_grid c ≡ true → nat_lt (length acc) 64 ≡ true → has_cell acc c ≡ false → add_piece_cell acc (cell_word c) ≡ Ok (acc ++ c ∷ [])
 unfolding add_piece_cell
 taken_again acc c p few new = rw (few, cell_again c p, new) refl
 
-pub piece_again : (acc cs : List Place) → list_all is_place cs ≡ true → are_apart (acc ++ cs) ≡ true → length acc + length cs ≤ 64 → each add_piece_cell acc (map cell_word cs) ≡ Ok (acc ++ cs)
+pub piece_again : (acc cs : List Coordinates) → list_all is_in_grid cs ≡ true → are_apart (acc ++ cs) ≡ true → length acc + length cs ≤ 64 → each add_piece_cell acc (map cell_word cs) ≡ Ok (acc ++ cs)
 unfolding each
 piece_again acc [] p a l = ap (λ s. Ok s) (sym (append-nil acc))
 piece_again acc (c ∷ cs) p a l =
-    let q = and_parts (is_place c) (list_all is_place cs) p in
+    let q = and_parts (is_in_grid c) (list_all is_in_grid cs) p in
     let e : (acc ++ c ∷ []) ++ cs ≡ acc ++ c ∷ cs = append_assoc acc (c ∷ []) cs in
     let few : nat_lt (length acc) 64 ≡ true = lt-ltb (length acc) 64 (omega arith) in
     let long : length (acc ++ c ∷ []) + length cs ≤ 64 = omega (arith, length-append acc (c ∷ [])) in
     rw (taken_again acc c q.0 few (new_before acc c cs a)) (piece_again (acc ++ c ∷ []) cs q.1 (rw e a) long ∙ ap (λ s. Ok s) e)
 
 -- words named these cells, which came to those of a piece
-pub record AreTaken (acc : List Place) (words : List (List ℕ)) (all : List Place) : Type 0 where
-  pub cs : List Place
+pub record AreTaken (acc : List Coordinates) (words : List (List ℕ)) (all : List Coordinates) : Type 0 where
+  pub cs : List Coordinates
   pub words_are : words ≡ map cell_word cs
-  pub places : list_all is_place cs ≡ true
+  pub places : list_all is_in_grid cs ≡ true
   pub all_are : all ≡ acc ++ cs
   pub apart : are_apart all ≡ true
   pub few : length all ≤ 64
 
-pub piece_cells_are : (acc : List Place) (words : List (List ℕ)) (all : List Place) → are_apart acc ≡ true → length acc ≤ 64 → each add_piece_cell acc words ≡ Ok all → AreTaken acc words all
+pub piece_cells_are : (acc : List Coordinates) (words : List (List ℕ)) (all : List Coordinates) → are_apart acc ≡ true → length acc ≤ 64 → each add_piece_cell acc words ≡ Ok all → AreTaken acc words all
 piece_cells_are acc [] all a l h =
     let e = each_none add_piece_cell acc all h in
     record { cs = []; words_are = refl; places = refl; all_are = sym e ∙ sym (append-nil acc); apart = subst (λ s. are_apart s ≡ true) e a; few = subst (λ s. length s ≤ 64) e l }
 piece_cells_are acc (w ∷ words) all a l h = step (λ t. piece_cells_are t words all) (each_parts add_piece_cell acc w words all h)
   where
-    step : ((t : List Place) → are_apart t ≡ true → length t ≤ 64 → each add_piece_cell t words ≡ Ok all → AreTaken t words all) → (t : List Place) × (add_piece_cell acc w ≡ Ok t) × (each add_piece_cell t words ≡ Ok all) → AreTaken acc (w ∷ words) all
+    step : ((t : List Coordinates) → are_apart t ≡ true → length t ≤ 64 → each add_piece_cell t words ≡ Ok all → AreTaken t words all) → (t : List Coordinates) × (add_piece_cell acc w ≡ Ok t) × (each add_piece_cell t words ≡ Ok all) → AreTaken acc (w ∷ words) all
     step later (t, p, q) =
         let k = cell_taken acc w t p in
         let is = cell_is w k.cell k.named in

@@ -4,15 +4,15 @@ use Rattle.std.specs.List.{list_all}
 use Rattle.std.proofs.lemmas.Bool.{and_parts, and_from}
 use Rattle.std.proofs.lemmas.Bool.Decides.{nat_tests}
 use Rattle.text_lines.specs.Lines.{lines_of, outside_comment, is_plain, is_empty}
-use Rattle.text_lines.specs.Writing.{said, are_plain}
+use Rattle.text_lines.specs.Writing.{words_of_line, are_plain}
 use Rattle.text_lines.specs.Each.{each}
-use Rattle.poly_cells.specs.Places.{Place, place_cmp}
+use Rattle.poly_cells.specs.Coordinates.{Coordinates, coordinates_cmp}
 use Rattle.poly_cells.specs.Sets.{in_order}
 use Rattle.poly_texts.specs.declared.fault.Fault.{Fault}
 use Rattle.poly_texts.specs.declared.fault.Fault.TheVariants.{BadLine, EmptyRegion, NoPiece, NothingRequired}
 use Rattle.poly_texts.specs.Cells.{with_cells, without}
 use Rattle.poly_texts.specs.Puzzle.{PuzzleValue, names_of, has_name, needs_nothing}
-use Rattle.poly_texts.specs.Reading.{Said, nothing, words_line, line, at_line, numbered_line, lines_read, region_of, whole_fault, puzzle_said, unless, whole, at_end, puzzle_of}
+use Rattle.poly_texts.specs.Reading.{DraftValue, nothing, words_line, line, at_line, numbered_line, lines_read, region_of, whole_fault, puzzle_said, unless, whole, at_end, puzzle_of}
 use Rattle.poly_texts.specs.Grammar.{Line, line_words, is_line, named_by, maybe_by, cut_by, puzzle_by, IsPuzzleText}
 use Rattle.poly_texts.proofs.StepLemmas.{ok_is, no_fault, bind_ok, each_parts, each_none, granted}
 use Rattle.poly_texts.proofs.ReadingLemmas.{text_read}
@@ -34,45 +34,45 @@ kept_some words rest key more e = rw e refl
 
 -- *what is read*
 
-line_parts : (s t : Said) (bytes : List ℕ) → line s bytes ≡ Ok t → (list_all is_plain (outside_comment bytes) ≡ true) × (words_line s (said bytes) ≡ Ok t)
+line_parts : (s t : DraftValue) (bytes : List ℕ) → line s bytes ≡ Ok t → (list_all is_plain (outside_comment bytes) ≡ true) × (words_line s (words_of_line bytes) ≡ Ok t)
 unfolding line
-line_parts s t bytes h = granted (list_all is_plain (outside_comment bytes)) BadLine (words_line s (said bytes)) t h
+line_parts s t bytes h = granted (list_all is_plain (outside_comment bytes)) BadLine (words_line s (words_of_line bytes)) t h
 
-at_line_ok : (n : ℕ) (r : Result Said Fault) (u : Said × ℕ) → at_line n r ≡ Ok u → (t : Said) × (r ≡ Ok t) × (u ≡ (t, n + 1))
+at_line_ok : (n : ℕ) (r : Result DraftValue Fault) (u : DraftValue × ℕ) → at_line n r ≡ Ok u → (t : DraftValue) × (r ≡ Ok t) × (u ≡ (t, n + 1))
 at_line_ok n (Ok t) u h = (t, refl, sym (ok_is (t, n + 1) u h))
 at_line_ok n (Err f) u h = absurd (no_fault (f, n) u h)
 
-line_done : (s : Said) (n : ℕ) (bytes : List ℕ) (u : Said × ℕ) → numbered_line (s, n) bytes ≡ Ok u → (t : Said) × (line s bytes ≡ Ok t) × (u ≡ (t, n + 1))
+line_done : (s : DraftValue) (n : ℕ) (bytes : List ℕ) (u : DraftValue × ℕ) → numbered_line (s, n) bytes ≡ Ok u → (t : DraftValue) × (line s bytes ≡ Ok t) × (u ≡ (t, n + 1))
 unfolding numbered_line
 line_done s n bytes u h = at_line_ok n (line s bytes) u h
 
-blank_is : (s t : Said) (words : List (List ℕ)) → words ≡ [] → words_line s words ≡ Ok t → s ≡ t
+blank_is : (s t : DraftValue) (words : List (List ℕ)) → words ≡ [] → words_line s words ≡ Ok t → s ≡ t
 unfolding words_line
 blank_is s t words e h = ok_is s t (rw e at h)
 
 -- the texts say lines, which lead from what was said before
-record SaysAll (s : Said) (texts : List (List ℕ)) (t : Said) : Type 0 where
+record SaysAll (s : DraftValue) (texts : List (List ℕ)) (t : DraftValue) : Type 0 where
   pub lines : List Line
   pub plain : are_plain texts ≡ true
-  pub says : kept (map said texts) ≡ map line_words lines
+  pub says : kept (map words_of_line texts) ≡ map line_words lines
   pub fit : all_fit s lines ≡ true
   pub more : t ≡ plus_all s lines
 
 lines_same : {w v : List (List ℕ)} {ws vs : List (List (List ℕ))} → w ≡ v → ws ≡ vs → w ∷ ws ≡ v ∷ vs
 lines_same e f = cc
 
-lines_say : (texts : List (List ℕ)) (s t : Said) (n m : ℕ) → each numbered_line (s, n) texts ≡ Ok (t, m) → SaysAll s texts t
+lines_say : (texts : List (List ℕ)) (s t : DraftValue) (n m : ℕ) → each numbered_line (s, n) texts ≡ Ok (t, m) → SaysAll s texts t
 unfolding kept
 lines_say [] s t n m h = record { lines = []; plain = refl; says = refl; fit = refl; more = sym (ap (λ u. u.0) (each_none numbered_line (s, n) (t, m) h)) }
 lines_say (bytes ∷ texts) s t n m h = step (lines_say texts) (each_parts numbered_line (s, n) bytes texts (t, m) h)
   where
-    by_words : (q : Said) → list_all is_plain (outside_comment bytes) ≡ true → (words : List (List ℕ)) → said bytes ≡ words → words_line s (said bytes) ≡ Ok q → SaysAll q texts t → SaysAll s (bytes ∷ texts) t
+    by_words : (q : DraftValue) → list_all is_plain (outside_comment bytes) ≡ true → (words : List (List ℕ)) → words_of_line bytes ≡ words → words_line s (words_of_line bytes) ≡ Ok q → SaysAll q texts t → SaysAll s (bytes ∷ texts) t
     by_words q plain [] e h later =
-        let same = blank_is s q (said bytes) e h in
+        let same = blank_is s q (words_of_line bytes) e h in
         record {
           lines = later.lines;
           plain = and_from _ _ plain later.plain;
-          says = kept_none (said bytes) (map said texts) e ∙ later.says;
+          says = kept_none (words_of_line bytes) (map words_of_line texts) e ∙ later.says;
           fit = subst (λ u. all_fit u later.lines ≡ true) (sym same) later.fit;
           more = later.more ∙ ap (λ u. plus_all u later.lines) (sym same);
         }
@@ -81,37 +81,37 @@ lines_say (bytes ∷ texts) s t n m h = step (lines_say texts) (each_parts numbe
         record {
           lines = k.line ∷ later.lines;
           plain = and_from _ _ plain later.plain;
-          says = kept_some (said bytes) (map said texts) key words e ∙ lines_same k.words_are later.says;
+          says = kept_some (words_of_line bytes) (map words_of_line texts) key words e ∙ lines_same k.words_are later.says;
           fit = and_from _ _ k.good (and_from _ _ k.fits (subst (λ u. all_fit u later.lines ≡ true) k.more later.fit));
           more = later.more ∙ ap (λ u. plus_all u later.lines) k.more;
         }
 
-    step : ((s t : Said) (n m : ℕ) → each numbered_line (s, n) texts ≡ Ok (t, m) → SaysAll s texts t) → (u : Said × ℕ) × (numbered_line (s, n) bytes ≡ Ok u) × (each numbered_line u texts ≡ Ok (t, m)) → SaysAll s (bytes ∷ texts) t
+    step : ((s t : DraftValue) (n m : ℕ) → each numbered_line (s, n) texts ≡ Ok (t, m) → SaysAll s texts t) → (u : DraftValue × ℕ) × (numbered_line (s, n) bytes ≡ Ok u) × (each numbered_line u texts ≡ Ok (t, m)) → SaysAll s (bytes ∷ texts) t
     step later (u, a, b) =
         let d = line_done s n bytes u a in
         let p = line_parts s d.0 bytes d.1 in
-        by_words d.0 p.0 (said bytes) refl p.1 (later d.0 t (n + 1) m (subst (λ v. each numbered_line v texts ≡ Ok (t, m)) d.2 b))
+        by_words d.0 p.0 (words_of_line bytes) refl p.1 (later d.0 t (n + 1) m (subst (λ v. each numbered_line v texts ≡ Ok (t, m)) d.2 b))
 
 -- *what is said is read*
 
-numbered_again : (s t : Said) (n : ℕ) (bytes : List ℕ) → list_all is_plain (outside_comment bytes) ≡ true → words_line s (said bytes) ≡ Ok t → numbered_line (s, n) bytes ≡ Ok (t, n + 1)
+numbered_again : (s t : DraftValue) (n : ℕ) (bytes : List ℕ) → list_all is_plain (outside_comment bytes) ≡ true → words_line s (words_of_line bytes) ≡ Ok t → numbered_line (s, n) bytes ≡ Ok (t, n + 1)
 unfolding numbered_line line
 numbered_again s t n bytes plain h = rw (plain, h) refl
 
-blank_again : (s : Said) (words : List (List ℕ)) → words ≡ [] → words_line s words ≡ Ok s
+blank_again : (s : DraftValue) (words : List (List ℕ)) → words ≡ [] → words_line s words ≡ Ok s
 unfolding words_line
 blank_again s words e = rw e refl
 
-each_said : (texts : List (List ℕ)) (lines : List Line) (s : Said) (n : ℕ) → are_plain texts ≡ true → kept (map said texts) ≡ map line_words lines → all_fit s lines ≡ true → (m : ℕ) × (each numbered_line (s, n) texts ≡ Ok (plus_all s lines, m))
+each_said : (texts : List (List ℕ)) (lines : List Line) (s : DraftValue) (n : ℕ) → are_plain texts ≡ true → kept (map words_of_line texts) ≡ map line_words lines → all_fit s lines ≡ true → (m : ℕ) × (each numbered_line (s, n) texts ≡ Ok (plus_all s lines, m))
 unfolding each kept
 each_said [] [] s n plain says fit = (n, refl)
 each_said [] (l ∷ ls) s n plain says fit = absurd (cc)
-each_said (bytes ∷ texts) lines s n plain says fit = by_words (λ ls u. each_said texts ls u (n + 1)) (said bytes) refl
+each_said (bytes ∷ texts) lines s n plain says fit = by_words (λ ls u. each_said texts ls u (n + 1)) (words_of_line bytes) refl
   where
     parts : (list_all is_plain (outside_comment bytes) ≡ true) × (are_plain texts ≡ true)
     parts = and_parts (list_all is_plain (outside_comment bytes)) (are_plain texts) plain
 
-    go_on : (u : Said) → words_line s (said bytes) ≡ Ok u → (t : Said) → (m : ℕ) × (each numbered_line (u, n + 1) texts ≡ Ok (t, m)) → (m : ℕ) × (each numbered_line (s, n) (bytes ∷ texts) ≡ Ok (t, m))
+    go_on : (u : DraftValue) → words_line s (words_of_line bytes) ≡ Ok u → (t : DraftValue) → (m : ℕ) × (each numbered_line (u, n + 1) texts ≡ Ok (t, m)) → (m : ℕ) × (each numbered_line (s, n) (bytes ∷ texts) ≡ Ok (t, m))
     go_on u a t (m, b) = (m, rw (numbered_again s u n bytes parts.0 a) b)
 
     first : {w v : List (List ℕ)} {ws vs : List (List (List ℕ))} → w ∷ ws ≡ v ∷ vs → w ≡ v
@@ -120,37 +120,37 @@ each_said (bytes ∷ texts) lines s n plain says fit = by_words (λ ls u. each_s
     others : {w v : List (List ℕ)} {ws vs : List (List (List ℕ))} → w ∷ ws ≡ v ∷ vs → ws ≡ vs
     others e = cc
 
-    by_line : ((ls : List Line) (u : Said) → are_plain texts ≡ true → kept (map said texts) ≡ map line_words ls → all_fit u ls ≡ true → (m : ℕ) × (each numbered_line (u, n + 1) texts ≡ Ok (plus_all u ls, m))) →
-        (key : List ℕ) (words : List (List ℕ)) → said bytes ≡ key ∷ words → (ls : List Line) → (key ∷ words) ∷ kept (map said texts) ≡ map line_words ls → all_fit s ls ≡ true → (m : ℕ) × (each numbered_line (s, n) (bytes ∷ texts) ≡ Ok (plus_all s ls, m))
+    by_line : ((ls : List Line) (u : DraftValue) → are_plain texts ≡ true → kept (map words_of_line texts) ≡ map line_words ls → all_fit u ls ≡ true → (m : ℕ) × (each numbered_line (u, n + 1) texts ≡ Ok (plus_all u ls, m))) →
+        (key : List ℕ) (words : List (List ℕ)) → words_of_line bytes ≡ key ∷ words → (ls : List Line) → (key ∷ words) ∷ kept (map words_of_line texts) ≡ map line_words ls → all_fit s ls ≡ true → (m : ℕ) × (each numbered_line (s, n) (bytes ∷ texts) ≡ Ok (plus_all s ls, m))
     by_line later key words e [] h f = absurd (cc)
     by_line later key words e (l ∷ ls) h f =
         let p = and_parts (is_line l) (is_fit s l && all_fit (plus s l) ls) f in
         let q = and_parts (is_fit s l) (all_fit (plus s l) ls) p.1 in
-        let w : words_line s (said bytes) ≡ Ok (plus s l) = ap (words_line s) (e ∙ first h) ∙ line_again s l p.0 q.0 in
+        let w : words_line s (words_of_line bytes) ≡ Ok (plus s l) = ap (words_line s) (e ∙ first h) ∙ line_again s l p.0 q.0 in
         go_on (plus s l) w (plus_all (plus s l) ls) (later ls (plus s l) parts.1 (others h) q.1)
 
-    by_words : ((ls : List Line) (u : Said) → are_plain texts ≡ true → kept (map said texts) ≡ map line_words ls → all_fit u ls ≡ true → (m : ℕ) × (each numbered_line (u, n + 1) texts ≡ Ok (plus_all u ls, m))) →
-        (words : List (List ℕ)) → said bytes ≡ words → (m : ℕ) × (each numbered_line (s, n) (bytes ∷ texts) ≡ Ok (plus_all s lines, m))
-    by_words later [] e = go_on s (blank_again s (said bytes) e) (plus_all s lines) (later lines s parts.1 (sym (kept_none (said bytes) (map said texts) e) ∙ says) fit)
-    by_words later (key ∷ words) e = by_line later key words e lines (sym (kept_some (said bytes) (map said texts) key words e) ∙ says) fit
+    by_words : ((ls : List Line) (u : DraftValue) → are_plain texts ≡ true → kept (map words_of_line texts) ≡ map line_words ls → all_fit u ls ≡ true → (m : ℕ) × (each numbered_line (u, n + 1) texts ≡ Ok (plus_all u ls, m))) →
+        (words : List (List ℕ)) → words_of_line bytes ≡ words → (m : ℕ) × (each numbered_line (s, n) (bytes ∷ texts) ≡ Ok (plus_all s lines, m))
+    by_words later [] e = go_on s (blank_again s (words_of_line bytes) e) (plus_all s lines) (later lines s parts.1 (sym (kept_none (words_of_line bytes) (map words_of_line texts) e) ∙ says) fit)
+    by_words later (key ∷ words) e = by_line later key words e lines (sym (kept_some (words_of_line bytes) (map words_of_line texts) key words e) ∙ says) fit
 
 -- *the whole text*
 
-parts_same : {ps qs : List (ℕ × List Place)} {ns ms : List ℕ} {rs ss cs ds : List Place} → ps ≡ qs → ns ≡ ms → rs ≡ ss → cs ≡ ds →
+parts_same : {ps qs : List (ℕ × List Coordinates)} {ns ms : List ℕ} {rs ss cs ds : List Coordinates} → ps ≡ qs → ns ≡ ms → rs ≡ ss → cs ≡ ds →
     ◌≡◌ {A = PuzzleValue} (record { pieces = ps; maybe_pieces = ns; region = rs; maybe_cells = cs }) (record { pieces = qs; maybe_pieces = ms; region = ss; maybe_cells = ds })
 parts_same a b c d = cc
 
 module _ (ls : List Line) where
   region_same : region_of (plus_all nothing ls) ≡ (puzzle_by ls).region
   region_same =
-      ap (λ c. in_order place_cmp (without c (plus_all nothing ls).named)) (all_cut nothing ls)
-      ∙ ap (λ c. in_order place_cmp (without (with_cells [] (flat_map cut_by ls)) c)) (all_named nothing ls)
+      ap (λ c. in_order coordinates_cmp (without c (plus_all nothing ls).named)) (all_cut nothing ls)
+      ∙ ap (λ c. in_order coordinates_cmp (without (with_cells [] (flat_map cut_by ls)) c)) (all_named nothing ls)
       ∙ left_once (flat_map cut_by ls) (flat_map named_by ls)
 
-  maybe_same : in_order place_cmp (without (plus_all nothing ls).cut (plus_all nothing ls).maybe_cells) ≡ (puzzle_by ls).maybe_cells
+  maybe_same : in_order coordinates_cmp (without (plus_all nothing ls).cut (plus_all nothing ls).maybe_cells) ≡ (puzzle_by ls).maybe_cells
   maybe_same =
-      ap (λ c. in_order place_cmp (without c (plus_all nothing ls).maybe_cells)) (all_cut nothing ls)
-      ∙ ap (λ c. in_order place_cmp (without (with_cells [] (flat_map cut_by ls)) c)) (all_maybe nothing ls)
+      ap (λ c. in_order coordinates_cmp (without c (plus_all nothing ls).maybe_cells)) (all_cut nothing ls)
+      ∙ ap (λ c. in_order coordinates_cmp (without (with_cells [] (flat_map cut_by ls)) c)) (all_maybe nothing ls)
       ∙ left_once (flat_map cut_by ls) (flat_map maybe_by ls)
 
   puzzle_same : puzzle_said (plus_all nothing ls) ≡ puzzle_by ls
@@ -177,7 +177,7 @@ unless_is : (f : Option Fault) (q p : PuzzleValue) → unless f q ≡ Ok p → (
 unless_is None q p h = (refl, ok_is q p h)
 unless_is (Some f) q p h = absurd (no_fault f p h)
 
-whole_is : (s : Said) (p : PuzzleValue) → whole s ≡ Ok p → (whole_fault s.pieces s.maybe_pieces (region_of s) s.maybe_cells ≡ None) × (puzzle_said s ≡ p)
+whole_is : (s : DraftValue) (p : PuzzleValue) → whole s ≡ Ok p → (whole_fault s.pieces s.maybe_pieces (region_of s) s.maybe_cells ≡ None) × (puzzle_said s ≡ p)
 unfolding whole
 whole_is s p h = unless_is (whole_fault s.pieces s.maybe_pieces (region_of s) s.maybe_cells) (puzzle_said s) p h
 
@@ -185,7 +185,7 @@ at_end_is : (r : Result PuzzleValue Fault) (p : PuzzleValue) → at_end r ≡ Ok
 at_end_is (Ok q) p h = ap (λ x. Ok x) (ok_is q p h)
 at_end_is (Err f) p h = absurd (no_fault (f, 0) p h)
 
-read_parts : (text : List ℕ) (p : PuzzleValue) → puzzle_of text ≡ Ok p → (u : Said × ℕ) × (lines_read (lines_of text) ≡ Ok u) × (whole u.0 ≡ Ok p)
+read_parts : (text : List ℕ) (p : PuzzleValue) → puzzle_of text ≡ Ok p → (u : DraftValue × ℕ) × (lines_read (lines_of text) ≡ Ok u) × (whole u.0 ≡ Ok p)
 unfolding puzzle_of
 read_parts text p h =
     let b = bind_ok (lines_read (lines_of text)) (λ u. at_end (whole u.0)) p h in
@@ -230,7 +230,7 @@ read_is_text text p h = step (read_parts text p h)
     open_fault : (lines : List Line) → fault_at_end lines ≡ None → whole_fault (puzzle_by lines).pieces (puzzle_by lines).maybe_pieces (puzzle_by lines).region (puzzle_by lines).maybe_cells ≡ None
     open_fault lines e = e
 
-    step : (u : Said × ℕ) × (lines_read (lines_of text) ≡ Ok u) × (whole u.0 ≡ Ok p) → IsPuzzleText text p
+    step : (u : DraftValue × ℕ) × (lines_read (lines_of text) ≡ Ok u) × (whole u.0 ≡ Ok p) → IsPuzzleText text p
     step ((t, m), a, b) =
         let s = lines_say (lines_of text) nothing t 1 m a in
         let w = whole_is t p b in

@@ -5,53 +5,53 @@ use Rattle.std.proofs.lemmas.Bool.{and_parts, and_from, or_parts, or_from, not-t
 use Rattle.std.proofs.lemmas.Bool.Decides.{nat_tests}
 use Rattle.std.proofs.lemmas.List.{map-append}
 use Rattle.std.proofs.lemmas.List.Folds.{list_any-append}
-use Rattle.poly_cells.specs.Places.{Place}
-use Rattle.poly_texts.specs.Cells.{has_place, with_cell, with_cells}
+use Rattle.poly_cells.specs.Coordinates.{Coordinates}
+use Rattle.poly_texts.specs.Cells.{has_cell, with_cell, with_cells}
 use Rattle.poly_texts.specs.Puzzle.{names_of, has_name, are_new}
-use Rattle.poly_texts.specs.Reading.{Said, nothing, has_piece, kept_shape}
+use Rattle.poly_texts.specs.Reading.{DraftValue, nothing, has_piece, kept_shape}
 use Rattle.poly_texts.specs.Grammar.{Line, piece, box, cells, cut, is_line, piece_of, maybe_name_of, is_box, named_by, maybe_by, cut_by, AreLines}
 use Rattle.poly_texts.proofs.CellLemmas.{with_cells-append, with_none}
 use Rattle.poly_texts.proofs.LineLemmas.{plus, is_small, is_fit}
 
 -- each line fits after the ones before it
-abbrev pub all_fit : Said → List Line → Bool
+abbrev pub all_fit : DraftValue → List Line → Bool
 all_fit s [] = true
 all_fit s (l ∷ ls) = is_line l && (is_fit s l && all_fit (plus s l) ls)
 
 -- what is said with more lines
-abbrev pub plus_all : Said → List Line → Said
+abbrev pub plus_all : DraftValue → List Line → DraftValue
 plus_all s [] = s
 plus_all s (l ∷ ls) = plus_all (plus s l) ls
 
 -- *what one line adds*
 
-plus_pieces : (s : Said) (l : Line) → (plus s l).pieces ≡ s.pieces ++ piece_of l
+plus_pieces : (s : DraftValue) (l : Line) → (plus s l).pieces ≡ s.pieces ++ piece_of l
 plus_pieces s (piece optional name cs) = refl
 plus_pieces s (box a b c) = sym (append-nil s.pieces)
 plus_pieces s (cells optional cs) = sym (append-nil s.pieces)
 plus_pieces s (cut cs) = sym (append-nil s.pieces)
 
-plus_names : (s : Said) (l : Line) → (plus s l).maybe_pieces ≡ s.maybe_pieces ++ maybe_name_of l
+plus_names : (s : DraftValue) (l : Line) → (plus s l).maybe_pieces ≡ s.maybe_pieces ++ maybe_name_of l
 plus_names s (piece true name cs) = refl
 plus_names s (piece false name cs) = sym (append-nil s.maybe_pieces)
 plus_names s (box a b c) = sym (append-nil s.maybe_pieces)
 plus_names s (cells optional cs) = sym (append-nil s.maybe_pieces)
 plus_names s (cut cs) = sym (append-nil s.maybe_pieces)
 
-plus_named : (s : Said) (l : Line) → (plus s l).named ≡ with_cells s.named (named_by l)
+plus_named : (s : DraftValue) (l : Line) → (plus s l).named ≡ with_cells s.named (named_by l)
 plus_named s (piece optional name cs) = sym (with_none s.named)
 plus_named s (box a b c) = refl
 plus_named s (cells optional cs) = refl
 plus_named s (cut cs) = sym (with_none s.named)
 
-plus_maybe : (s : Said) (l : Line) → (plus s l).maybe_cells ≡ with_cells s.maybe_cells (maybe_by l)
+plus_maybe : (s : DraftValue) (l : Line) → (plus s l).maybe_cells ≡ with_cells s.maybe_cells (maybe_by l)
 plus_maybe s (piece optional name cs) = sym (with_none s.maybe_cells)
 plus_maybe s (box a b c) = sym (with_none s.maybe_cells)
 plus_maybe s (cells true cs) = refl
 plus_maybe s (cells false cs) = sym (with_none s.maybe_cells)
 plus_maybe s (cut cs) = sym (with_none s.maybe_cells)
 
-plus_cut : (s : Said) (l : Line) → (plus s l).cut ≡ with_cells s.cut (cut_by l)
+plus_cut : (s : DraftValue) (l : Line) → (plus s l).cut ≡ with_cells s.cut (cut_by l)
 plus_cut s (piece optional name cs) = sym (with_none s.cut)
 plus_cut s (box a b c) = sym (with_none s.cut)
 plus_cut s (cells optional cs) = sym (with_none s.cut)
@@ -59,42 +59,42 @@ plus_cut s (cut cs) = refl
 
 -- *what lines add*
 
-more_pieces : (s : Said) (l : Line) (rest : List (ℕ × List Place)) → (plus s l).pieces ++ rest ≡ s.pieces ++ (piece_of l ++ rest)
+more_pieces : (s : DraftValue) (l : Line) (rest : List (ℕ × List Coordinates)) → (plus s l).pieces ++ rest ≡ s.pieces ++ (piece_of l ++ rest)
 more_pieces s l rest = ap (λ ps. ps ++ rest) (plus_pieces s l) ∙ append_assoc s.pieces (piece_of l) rest
 
-more_named : (s : Said) (l : Line) (rest : List Place) → with_cells (plus s l).named rest ≡ with_cells s.named (named_by l ++ rest)
+more_named : (s : DraftValue) (l : Line) (rest : List Coordinates) → with_cells (plus s l).named rest ≡ with_cells s.named (named_by l ++ rest)
 more_named s l rest = ap (λ cs. with_cells cs rest) (plus_named s l) ∙ sym (with_cells-append s.named (named_by l) rest)
 
-pub all_pieces : (s : Said) (ls : List Line) → (plus_all s ls).pieces ≡ s.pieces ++ flat_map piece_of ls
+pub all_pieces : (s : DraftValue) (ls : List Line) → (plus_all s ls).pieces ≡ s.pieces ++ flat_map piece_of ls
 all_pieces s [] = sym (append-nil s.pieces)
 all_pieces s (l ∷ ls) = all_pieces (plus s l) ls ∙ more_pieces s l (flat_map piece_of ls)
 
-pub all_names : (s : Said) (ls : List Line) → (plus_all s ls).maybe_pieces ≡ s.maybe_pieces ++ flat_map maybe_name_of ls
+pub all_names : (s : DraftValue) (ls : List Line) → (plus_all s ls).maybe_pieces ≡ s.maybe_pieces ++ flat_map maybe_name_of ls
 all_names s [] = sym (append-nil s.maybe_pieces)
 all_names s (l ∷ ls) = all_names (plus s l) ls ∙ ap (λ ns. ns ++ flat_map maybe_name_of ls) (plus_names s l) ∙ append_assoc s.maybe_pieces (maybe_name_of l) (flat_map maybe_name_of ls)
 
-pub all_named : (s : Said) (ls : List Line) → (plus_all s ls).named ≡ with_cells s.named (flat_map named_by ls)
+pub all_named : (s : DraftValue) (ls : List Line) → (plus_all s ls).named ≡ with_cells s.named (flat_map named_by ls)
 all_named s [] = sym (with_none s.named)
 all_named s (l ∷ ls) = all_named (plus s l) ls ∙ more_named s l (flat_map named_by ls)
 
-pub all_maybe : (s : Said) (ls : List Line) → (plus_all s ls).maybe_cells ≡ with_cells s.maybe_cells (flat_map maybe_by ls)
+pub all_maybe : (s : DraftValue) (ls : List Line) → (plus_all s ls).maybe_cells ≡ with_cells s.maybe_cells (flat_map maybe_by ls)
 all_maybe s [] = sym (with_none s.maybe_cells)
 all_maybe s (l ∷ ls) = all_maybe (plus s l) ls ∙ ap (λ cs. with_cells cs (flat_map maybe_by ls)) (plus_maybe s l) ∙ sym (with_cells-append s.maybe_cells (maybe_by l) (flat_map maybe_by ls))
 
-pub all_cut : (s : Said) (ls : List Line) → (plus_all s ls).cut ≡ with_cells s.cut (flat_map cut_by ls)
+pub all_cut : (s : DraftValue) (ls : List Line) → (plus_all s ls).cut ≡ with_cells s.cut (flat_map cut_by ls)
 all_cut s [] = sym (with_none s.cut)
 all_cut s (l ∷ ls) = all_cut (plus s l) ls ∙ ap (λ cs. with_cells cs (flat_map cut_by ls)) (plus_cut s l) ∙ sym (with_cells-append s.cut (cut_by l) (flat_map cut_by ls))
 
 -- *cells only come to others*
 
-one_grows : (s : List Place) (c : Place) → length s ≤ length (with_cell s c)
-one_grows s c = by_test (has_place s c)
+one_grows : (s : List Coordinates) (c : Coordinates) → length s ≤ length (with_cell s c)
+one_grows s c = by_test (has_cell s c)
   where
     by_test : (b : Bool) → length s ≤ length (cond b s (s ++ c ∷ []))
     by_test true = le_refl (length s)
     by_test false = omega (arith, length-append s (c ∷ []))
 
-grows : (s cs : List Place) → length s ≤ length (with_cells s cs)
+grows : (s cs : List Coordinates) → length s ≤ length (with_cells s cs)
 unfolding with_cells
 grows s [] = le_refl (length s)
 grows s (c ∷ cs) = le_trans (one_grows s c) (grows (with_cell s c) cs)
@@ -104,7 +104,7 @@ grows s (c ∷ cs) = le_trans (one_grows s c) (grows (with_cell s c) cs)
 same_sym : (a b : ℕ) → (a == b) ≡ (b == a)
 same_sym a b = grind (arith, nat_tests)
 
-named_in : (pieces : List (ℕ × List Place)) (n : ℕ) → has_piece pieces n ≡ has_name (names_of pieces) n
+named_in : (pieces : List (ℕ × List Coordinates)) (n : ℕ) → has_piece pieces n ≡ has_name (names_of pieces) n
 named_in [] n = refl
 named_in (p ∷ ps) n = rw (same_sym n p.0, named_in ps n) refl
 
@@ -130,7 +130,7 @@ abbrev pub bit : Bool → ℕ
 bit b = cond b 1 0
 
 -- the lines go together, after what is said
-pub record GoTogether (s : Said) (ls : List Line) : Type 0 where
+pub record GoTogether (s : DraftValue) (ls : List Line) : Type 0 where
   pub good : list_all is_line ls ≡ true
   pub new : are_new (names_of (s.pieces ++ flat_map piece_of ls)) ≡ true
   pub one_box : bit s.boxed + length (filter is_box ls) ≤ 1
@@ -140,7 +140,7 @@ at_most_one : (b : Bool) → bit b + 0 ≤ 1
 at_most_one true = omega arith
 at_most_one false = omega arith
 
-boxes_more : (s : Said) (l : Line) (ls : List Line) → is_fit s l ≡ true → bit (plus s l).boxed + length (filter is_box ls) ≡ bit s.boxed + length (filter is_box (l ∷ ls))
+boxes_more : (s : DraftValue) (l : Line) (ls : List Line) → is_fit s l ≡ true → bit (plus s l).boxed + length (filter is_box ls) ≡ bit s.boxed + length (filter is_box (l ∷ ls))
 boxes_more s (piece optional name cs) ls fit = refl
 boxes_more s (box a b c) ls fit =
     let f = and_parts (not s.boxed) (is_small (plus s (box a b c))) fit in
@@ -149,7 +149,7 @@ boxes_more s (box a b c) ls fit =
 boxes_more s (cells optional cs) ls fit = refl
 boxes_more s (cut cs) ls fit = refl
 
-plus_new : (s : Said) (l : Line) → are_new (names_of s.pieces) ≡ true → is_fit s l ≡ true → are_new (names_of (plus s l).pieces) ≡ true
+plus_new : (s : DraftValue) (l : Line) → are_new (names_of s.pieces) ≡ true → is_fit s l ≡ true → are_new (names_of (plus s l).pieces) ≡ true
 plus_new s (piece optional name cs) new fit =
     let h : has_name (names_of s.pieces) name ≡ false = sym (named_in s.pieces name) ∙ not-true _ fit in
     rw map-append (new_push (names_of s.pieces) name new h)
@@ -157,13 +157,13 @@ plus_new s (box a b c) new fit = new
 plus_new s (cells optional cs) new fit = new
 plus_new s (cut cs) new fit = new
 
-plus_few : (s : Said) (l : Line) → length s.named ≤ 4096 → is_fit s l ≡ true → length (plus s l).named ≤ 4096
+plus_few : (s : DraftValue) (l : Line) → length s.named ≤ 4096 → is_fit s l ≡ true → length (plus s l).named ≤ 4096
 plus_few s (piece optional name cs) few fit = few
 plus_few s (box a b c) few fit = leb-true _ 4096 (and_parts (not s.boxed) (is_small (plus s (box a b c))) fit).1
 plus_few s (cells optional cs) few fit = leb-true _ 4096 fit
 plus_few s (cut cs) few fit = few
 
-pub together : (s : Said) (ls : List Line) → are_new (names_of s.pieces) ≡ true → length s.named ≤ 4096 → all_fit s ls ≡ true → GoTogether s ls
+pub together : (s : DraftValue) (ls : List Line) → are_new (names_of s.pieces) ≡ true → length s.named ≤ 4096 → all_fit s ls ≡ true → GoTogether s ls
 together s [] new few fit = record {
   good = refl;
   new = rw append-nil new;
@@ -181,7 +181,7 @@ together s (l ∷ ls) new few fit =
       few = subst (λ cs. length cs ≤ 4096) (more_named s l (flat_map named_by ls)) t.few;
     }
 
-small_before : (s : Said) (l : Line) (rest : List Place) → length (with_cells s.named (named_by l ++ rest)) ≤ 4096 → nat_le (length (with_cells s.named (named_by l))) 4096 ≡ true
+small_before : (s : DraftValue) (l : Line) (rest : List Coordinates) → length (with_cells s.named (named_by l ++ rest)) ≤ 4096 → nat_le (length (with_cells s.named (named_by l))) 4096 ≡ true
 small_before s l rest h =
     let e : length (with_cells (with_cells s.named (named_by l)) rest) ≤ 4096 = subst (λ cs. length cs ≤ 4096) (with_cells-append s.named (named_by l) rest) h in
     le-leb _ 4096 (le_trans (grows (with_cells s.named (named_by l)) rest) e)
@@ -190,7 +190,7 @@ unboxed : (b : Bool) (n : ℕ) → bit b + (1 + n) ≤ 1 → not b ≡ true
 unboxed true n h = absurd (omega arith)
 unboxed false n h = refl
 
-fits_first : (s : Said) (l : Line) (ls : List Line) → GoTogether s (l ∷ ls) → is_fit s l ≡ true
+fits_first : (s : DraftValue) (l : Line) (ls : List Line) → GoTogether s (l ∷ ls) → is_fit s l ≡ true
 fits_first s (piece optional name cs) ls t =
     let e : names_of (s.pieces ++ (name, kept_shape cs) ∷ flat_map piece_of ls) ≡ names_of s.pieces ++ name ∷ names_of (flat_map piece_of ls) = map-append (λ p. p.0) s.pieces ((name, kept_shape cs) ∷ flat_map piece_of ls) in
     let h : has_name (names_of s.pieces) name ≡ false = new_before (names_of s.pieces) name (names_of (flat_map piece_of ls)) (subst (λ ns. are_new ns ≡ true) e t.new) in
@@ -199,7 +199,7 @@ fits_first s (box a b c) ls t = and_from _ _ (unboxed s.boxed (length (filter is
 fits_first s (cells optional cs) ls t = small_before s (cells optional cs) (flat_map named_by ls) t.few
 fits_first s (cut cs) ls t = refl
 
-pub fit_together : (s : Said) (ls : List Line) → GoTogether s ls → all_fit s ls ≡ true
+pub fit_together : (s : DraftValue) (ls : List Line) → GoTogether s ls → all_fit s ls ≡ true
 fit_together s [] t = refl
 fit_together s (l ∷ ls) t =
     let p = and_parts (is_line l) (list_all is_line ls) t.good in

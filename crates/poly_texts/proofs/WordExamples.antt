@@ -1,9 +1,9 @@
 -- The examples of words, computed.
 use Rattle.std.proofs.Common.{◌≡◌, Some, None, false, codes, refl}
-use Rattle.poly_cells.specs.Places.{place}
+use Rattle.poly_cells.specs.Coordinates.{coordinates}
 use Rattle.poly_texts.specs.Words.{cell_of, piece_name, is_size, size_of}
 
-a_cell : cell_of (codes "0av") ≡ Some (place 0 10 31)
+a_cell : cell_of (codes "0av") ≡ Some (coordinates 0 10 31)
 a_cell = refl
 
 two_symbols : cell_of (codes "0a") ≡ None

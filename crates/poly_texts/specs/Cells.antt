@@ -4,37 +4,37 @@
 -- proofs/CellExamples.antt computes it.
 use Rattle.std.specs.Prelude.{ℕ, ◌==◌, Bool, not, ◌&&◌, List, [], ◌∷◌, ◌++◌, map, filter, flat_map, if◌then◌else◌}
 use Rattle.std.specs.List.{list_any, range_with_len}
-use Rattle.poly_cells.specs.Places.{Place, place}
+use Rattle.poly_cells.specs.Coordinates.{Coordinates, coordinates}
 
 -- whether two cells have the same coordinates
-abbrev pub is_same : Place → Place → Bool
+abbrev pub is_same : Coordinates → Coordinates → Bool
 is_same v w = (v.x == w.x) && ((v.y == w.y) && (v.z == w.z))
 
 -- whether a cell is one of these
-abbrev pub has_place : List Place → Place → Bool
-has_place cells c = list_any (is_same c) cells
+abbrev pub has_cell : List Coordinates → Coordinates → Bool
+has_cell cells c = list_any (is_same c) cells
 
 -- these cells with one more, unless it is there
-abbrev pub with_cell : List Place → Place → List Place
-with_cell cells c = if has_place cells c then cells else cells ++ c ∷ []
+abbrev pub with_cell : List Coordinates → Coordinates → List Coordinates
+with_cell cells c = if has_cell cells c then cells else cells ++ c ∷ []
 
 -- these cells with more, each once
-unfoldable pub with_cells : List Place → List Place → List Place
+unfoldable pub with_cells : List Coordinates → List Coordinates → List Coordinates
 with_cells cells [] = cells
 with_cells cells (c ∷ cs) = with_cells (with_cell cells c) cs
 
 -- these cells without those that are cut
-abbrev pub without : List Place → List Place → List Place
-without cut cells = filter (λ c. not (has_place cut c)) cells
+abbrev pub without : List Coordinates → List Coordinates → List Coordinates
+without cut cells = filter (λ c. not (has_cell cut c)) cells
 
 -- the cells with these x and y, and z below the size
-abbrev pub row : ℕ → ℕ → ℕ → List Place
-row c x y = map (place x y) (range_with_len 0 c)
+abbrev pub row : ℕ → ℕ → ℕ → List Coordinates
+row c x y = map (coordinates x y) (range_with_len 0 c)
 
 -- the cells with this x, and y and z below the sizes
-abbrev pub layer : ℕ → ℕ → ℕ → List Place
+abbrev pub layer : ℕ → ℕ → ℕ → List Coordinates
 layer b c x = flat_map (row c x) (range_with_len 0 b)
 
 -- the cells whose coordinates are below the sizes
-abbrev pub box_cells : ℕ → ℕ → ℕ → List Place
+abbrev pub box_cells : ℕ → ℕ → ℕ → List Coordinates
 box_cells a b c = flat_map (layer b c) (range_with_len 0 a)

@@ -8,11 +8,11 @@
 use Rattle.std.specs.Prelude.{ℕ, ◌+◌, ◌≤◌, ◌<◌, ◌≡◌, nat_lt, nat_le, Bool, true, false, not, ◌&&◌, List, [], ◌∷◌, length, map, filter, flat_map, codes, decimal, if◌then◌else◌}
 use Rattle.std.specs.List.{list_all}
 use Rattle.text_lines.specs.Lines.{lines_of, is_empty}
-use Rattle.text_lines.specs.Writing.{said, are_plain}
-use Rattle.poly_cells.specs.Places.{Place, place_cmp}
+use Rattle.text_lines.specs.Writing.{words_of_line, are_plain}
+use Rattle.poly_cells.specs.Coordinates.{Coordinates, coordinates_cmp}
 use Rattle.poly_cells.specs.Sets.{in_order}
 use Rattle.poly_texts.specs.declared.limits.TheConstants.{MOST_SIZE, MOST_REGION_CELLS, MOST_PIECE_CELLS}
-use Rattle.poly_texts.specs.Cells.{has_place, with_cells, without, box_cells}
+use Rattle.poly_texts.specs.Cells.{has_cell, with_cells, without, box_cells}
 use Rattle.poly_texts.specs.Words.{is_name}
 use Rattle.poly_texts.specs.Puzzle.{PuzzleValue, names_of, are_new, needs_nothing}
 use Rattle.poly_texts.specs.Reading.{kept_shape}
@@ -20,10 +20,10 @@ use Rattle.poly_texts.specs.Reading.{kept_shape}
 -- what a line says: a piece, whether it may be left out, with its name and its cells; a box of these sizes; cells, and
 -- whether they may stay empty; or cells to be cut
 pub data Line : Type 0 where
-  piece : Bool → ℕ → List Place → Line
+  piece : Bool → ℕ → List Coordinates → Line
   box : ℕ → ℕ → ℕ → Line
-  cells : Bool → List Place → Line
-  cut : List Place → Line
+  cells : Bool → List Coordinates → Line
+  cut : List Coordinates → Line
 
 -- *spelling*
 
@@ -32,7 +32,7 @@ abbrev pub symbol : ℕ → ℕ
 symbol n = if nat_lt n 10 then 48 + n else 87 + n
 
 -- the word of a cell
-abbrev pub cell_word : Place → List ℕ
+abbrev pub cell_word : Coordinates → List ℕ
 cell_word c = symbol c.x ∷ symbol c.y ∷ symbol c.z ∷ []
 
 -- the words, after `maybe` if it is so
@@ -49,17 +49,17 @@ line_words (cut cs) = codes "cut" ∷ map cell_word cs
 -- *the limits of a line*
 
 -- a cell within the limits
-abbrev pub is_place : Place → Bool
-is_place c = nat_le c.x 31 && (nat_le c.y 31 && nat_le c.z 31)
+abbrev pub is_in_grid : Coordinates → Bool
+is_in_grid c = nat_le c.x 31 && (nat_le c.y 31 && nat_le c.z 31)
 
 -- at least one cell, each within the limits
-abbrev pub are_places : List Place → Bool
-are_places cs = nat_lt 0 (length cs) && list_all is_place cs
+abbrev pub are_in_grid : List Coordinates → Bool
+are_in_grid cs = nat_lt 0 (length cs) && list_all is_in_grid cs
 
 -- no cell comes twice
-abbrev pub are_apart : List Place → Bool
+abbrev pub are_apart : List Coordinates → Bool
 are_apart [] = true
-are_apart (c ∷ cs) = not (has_place cs c) && are_apart cs
+are_apart (c ∷ cs) = not (has_cell cs c) && are_apart cs
 
 -- a size of a box
 abbrev pub is_side : ℕ → Bool
@@ -67,15 +67,15 @@ is_side n = nat_lt 0 n && nat_le n MOST_SIZE
 
 -- a line within the limits
 abbrev pub is_line : Line → Bool
-is_line (piece optional name cs) = is_name name && (are_places cs && (are_apart cs && nat_le (length cs) MOST_PIECE_CELLS))
+is_line (piece optional name cs) = is_name name && (are_in_grid cs && (are_apart cs && nat_le (length cs) MOST_PIECE_CELLS))
 is_line (box a b c) = is_side a && (is_side b && is_side c)
-is_line (cells optional cs) = are_places cs
-is_line (cut cs) = are_places cs
+is_line (cells optional cs) = are_in_grid cs
+is_line (cut cs) = are_in_grid cs
 
 -- *what lines say together*
 
 -- the piece of a `piece` line, as it is kept
-abbrev pub piece_of : Line → List (ℕ × List Place)
+abbrev pub piece_of : Line → List (ℕ × List Coordinates)
 piece_of (piece optional name cs) = (name, kept_shape cs) ∷ []
 piece_of (box a b c) = []
 piece_of (cells optional cs) = []
@@ -96,21 +96,21 @@ is_box (cells optional cs) = false
 is_box (cut cs) = false
 
 -- the cells of a `box` or `cells` line
-abbrev pub named_by : Line → List Place
+abbrev pub named_by : Line → List Coordinates
 named_by (piece optional name cs) = []
 named_by (box a b c) = box_cells a b c
 named_by (cells optional cs) = cs
 named_by (cut cs) = []
 
 -- the cells of a `maybe cells` line
-abbrev pub maybe_by : Line → List Place
+abbrev pub maybe_by : Line → List Coordinates
 maybe_by (piece optional name cs) = []
 maybe_by (box a b c) = []
 maybe_by (cells optional cs) = if optional then cs else []
 maybe_by (cut cs) = []
 
 -- the cells of a `cut` line
-abbrev pub cut_by : Line → List Place
+abbrev pub cut_by : Line → List Coordinates
 cut_by (piece optional name cs) = []
 cut_by (box a b c) = []
 cut_by (cells optional cs) = []
@@ -124,8 +124,8 @@ pub record AreLines (lines : List Line) : Type 0 where
   pub few : length (with_cells [] (flat_map named_by lines)) ≤ MOST_REGION_CELLS
 
 -- the cells of these that no line cuts, in order, each once
-abbrev pub uncut : List Line → List Place → List Place
-uncut lines cs = in_order place_cmp (without (flat_map cut_by lines) cs)
+abbrev pub uncut : List Line → List Coordinates → List Coordinates
+uncut lines cs = in_order coordinates_cmp (without (flat_map cut_by lines) cs)
 
 -- the puzzle of these lines
 abbrev pub puzzle_by : List Line → PuzzleValue
@@ -141,7 +141,7 @@ puzzle_by lines = record {
 pub record IsPuzzleText (text : List ℕ) (p : PuzzleValue) : Type 0 where
   pub lines : List Line
   pub plain : are_plain (lines_of text) ≡ true
-  pub says : filter (λ words. not (is_empty words)) (map said (lines_of text)) ≡ map line_words lines
+  pub says : filter (λ words. not (is_empty words)) (map words_of_line (lines_of text)) ≡ map line_words lines
   pub within : AreLines lines
   pub puzzle : p ≡ puzzle_by lines
   pub some_cell : 0 < length p.region

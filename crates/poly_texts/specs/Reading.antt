@@ -16,7 +16,7 @@ use Rattle.std.specs.List.{list_all, list_any}
 use Rattle.std.specs.Str.{bytes_eq}
 use Rattle.text_lines.specs.Lines.{lines_of, words_of, outside_comment, is_plain, is_empty}
 use Rattle.text_lines.specs.Each.{each, ◌>>=◌}
-use Rattle.poly_cells.specs.Places.{Place, place_cmp}
+use Rattle.poly_cells.specs.Coordinates.{Coordinates, coordinates_cmp}
 use Rattle.poly_cells.specs.Sets.{in_order}
 use Rattle.poly_cells.specs.Shapes.{normal}
 use Rattle.poly_texts.specs.declared.limits.TheConstants.{MOST_REGION_CELLS, MOST_PIECE_CELLS}
@@ -24,59 +24,59 @@ use Rattle.poly_texts.specs.declared.fault.Fault.{Fault}
 use Rattle.poly_texts.specs.declared.fault.Fault.TheVariants.{BadLine, BadCell, RepeatedCell, RepeatedPiece, SecondBox, EmptyRegion, NoPiece, TooLarge, NothingRequired}
 use Rattle.poly_texts.specs.declared.key.Key.{Key}
 use Rattle.poly_texts.specs.declared.key.Key.TheVariants as keys
-use Rattle.poly_texts.specs.Cells.{has_place, with_cell, with_cells, without, box_cells}
+use Rattle.poly_texts.specs.Cells.{has_cell, with_cell, with_cells, without, box_cells}
 use Rattle.poly_texts.specs.Words.{cell_of, piece_name, are_sizes, are_small, size_of}
 use Rattle.poly_texts.specs.Puzzle.{PuzzleValue, needs_nothing}
 
 -- what the lines so far say: the pieces, the names of those that may be left out, whether there was a box, and the cells that
 -- lines name, that `maybe cells` lines name and that `cut` lines name, each cell once
-pub record Said : Type 0 where
-  pub pieces : List (ℕ × List Place)
+pub record DraftValue : Type 0 where
+  pub pieces : List (ℕ × List Coordinates)
   pub maybe_pieces : List ℕ
   pub boxed : Bool
-  pub named : List Place
-  pub maybe_cells : List Place
-  pub cut : List Place
+  pub named : List Coordinates
+  pub maybe_cells : List Coordinates
+  pub cut : List Coordinates
 
 -- no lines say this
-abbrev pub nothing : Said
+abbrev pub nothing : DraftValue
 nothing = record { pieces = []; maybe_pieces = []; boxed = false; named = []; maybe_cells = []; cut = [] }
 
 -- *the words of a line*
 
 -- a cell that was looked for
-abbrev pub known : Option Place → Result Place Fault
-known None = Err BadCell
-known (Some c) = Ok c
+abbrev pub found_or : Option Coordinates → Result Coordinates Fault
+found_or None = Err BadCell
+found_or (Some c) = Ok c
 
 -- these cells with that of a word, each once
-unfoldable pub add_cell : List Place → List ℕ → Result (List Place) Fault
-add_cell cells word = known (cell_of word) >>= λ c. Ok (with_cell cells c)
+unfoldable pub add_cell : List Coordinates → List ℕ → Result (List Coordinates) Fault
+add_cell cells word = found_or (cell_of word) >>= λ c. Ok (with_cell cells c)
 
 -- the cells of a piece with one more, which is new there
-abbrev pub new_cell : List Place → Place → Result (List Place) Fault
-new_cell cells c = if has_place cells c then Err RepeatedCell else Ok (cells ++ c ∷ [])
+abbrev pub new_cell : List Coordinates → Coordinates → Result (List Coordinates) Fault
+new_cell cells c = if has_cell cells c then Err RepeatedCell else Ok (cells ++ c ∷ [])
 
 -- the same, where the cell is given by its word
-unfoldable pub add_piece_cell : List Place → List ℕ → Result (List Place) Fault
-add_piece_cell cells word = if nat_lt (length cells) MOST_PIECE_CELLS then known (cell_of word) >>= new_cell cells else Err TooLarge
+unfoldable pub add_piece_cell : List Coordinates → List ℕ → Result (List Coordinates) Fault
+add_piece_cell cells word = if nat_lt (length cells) MOST_PIECE_CELLS then found_or (cell_of word) >>= new_cell cells else Err TooLarge
 
 -- the cells of a piece as they are kept: in order, with the least corner at 0 0 0
-abbrev pub kept_shape : List Place → List Place
-kept_shape cells = normal (in_order place_cmp cells)
+abbrev pub kept_shape : List Coordinates → List Coordinates
+kept_shape cells = normal (in_order coordinates_cmp cells)
 
 -- the piece of these words
-unfoldable pub shape_of : List (List ℕ) → Result (List Place) Fault
+unfoldable pub shape_of : List (List ℕ) → Result (List Coordinates) Fault
 shape_of words = each add_piece_cell [] words >>= λ cells. Ok (kept_shape cells)
 
 -- *the lines*
 
 -- what is said, where it is within the limits
-abbrev pub within : Said → Result Said Fault
+abbrev pub within : DraftValue → Result DraftValue Fault
 within s = if nat_le (length s.named) MOST_REGION_CELLS then Ok s else Err TooLarge
 
 -- whether one of the pieces has this name
-abbrev pub has_piece : List (ℕ × List Place) → ℕ → Bool
+abbrev pub has_piece : List (ℕ × List Coordinates) → ℕ → Bool
 has_piece pieces name = list_any (λ p. name == p.0) pieces
 
 -- these names with one more, if it is to be there
@@ -84,20 +84,20 @@ abbrev pub with_name : Bool → List ℕ → ℕ → List ℕ
 with_name there names name = if there then names ++ name ∷ [] else names
 
 -- with one more piece
-abbrev pub with_piece : Said → Bool → ℕ → List Place → Said
+abbrev pub with_piece : DraftValue → Bool → ℕ → List Coordinates → DraftValue
 with_piece s optional name shape = record s { pieces = s.pieces ++ (name, shape) ∷ []; maybe_pieces = with_name optional s.maybe_pieces name }
 
 -- the name of a new piece
-abbrev pub is_new : List (ℕ × List Place) → Option ℕ → Result ℕ Fault
+abbrev pub is_new : List (ℕ × List Coordinates) → Option ℕ → Result ℕ Fault
 is_new pieces None = Err BadLine
 is_new pieces (Some name) = if has_piece pieces name then Err RepeatedPiece else Ok name
 
 -- the same, where the name is given by a word
-unfoldable pub new_name : List (ℕ × List Place) → List ℕ → Result ℕ Fault
+unfoldable pub new_name : List (ℕ × List Coordinates) → List ℕ → Result ℕ Fault
 new_name pieces word = is_new pieces (piece_name word)
 
 -- a `piece` line: a name, and a cell
-unfoldable pub piece_line : Said → Bool → List (List ℕ) → Result Said Fault
+unfoldable pub piece_line : DraftValue → Bool → List (List ℕ) → Result DraftValue Fault
 piece_line s optional [] = Err BadLine
 piece_line s optional (word ∷ words) =
     if is_empty words then Err BadLine else (do
@@ -106,16 +106,16 @@ piece_line s optional (word ∷ words) =
       Ok (with_piece s optional name shape))
 
 -- three words, and no others
-abbrev pub three : List (List ℕ) → Option (List ℕ × List ℕ × List ℕ)
-three (a ∷ b ∷ c ∷ []) = Some (a, b, c)
-three words = None
+abbrev pub three_words : List (List ℕ) → Option (List ℕ × List ℕ × List ℕ)
+three_words (a ∷ b ∷ c ∷ []) = Some (a, b, c)
+three_words words = None
 
 -- with a box of these sizes
-abbrev pub with_box : Said → ℕ → ℕ → ℕ → Said
+abbrev pub with_box : DraftValue → ℕ → ℕ → ℕ → DraftValue
 with_box s a b c = record s { boxed = true; named = with_cells s.named (box_cells a b c) }
 
 -- a box of these sizes: the first, and not too large
-abbrev pub sized_box : Said → Option (List ℕ × List ℕ × List ℕ) → Result Said Fault
+abbrev pub sized_box : DraftValue → Option (List ℕ × List ℕ × List ℕ) → Result DraftValue Fault
 sized_box s None = Err BadLine
 sized_box s (Some (a, b, c)) =
     if not (are_sizes a b c) then Err BadLine else
@@ -123,16 +123,16 @@ sized_box s (Some (a, b, c)) =
     (if are_small a b c then within (with_box s (size_of a) (size_of b) (size_of c)) else Err TooLarge))
 
 -- a `box` line: three sizes
-unfoldable pub box_line : Said → List (List ℕ) → Result Said Fault
-box_line s words = sized_box s (three words)
+unfoldable pub box_line : DraftValue → List (List ℕ) → Result DraftValue Fault
+box_line s words = sized_box s (three_words words)
 
 -- a `cells` line, with a cell
-unfoldable pub cells_line : Said → List (List ℕ) → Result Said Fault
+unfoldable pub cells_line : DraftValue → List (List ℕ) → Result DraftValue Fault
 cells_line s words =
     if is_empty words then Err BadLine else (each add_cell s.named words >>= λ named. within (record s { named = named }))
 
 -- a `maybe cells` line, with a cell
-unfoldable pub maybe_cells_line : Said → List (List ℕ) → Result Said Fault
+unfoldable pub maybe_cells_line : DraftValue → List (List ℕ) → Result DraftValue Fault
 maybe_cells_line s words =
     if is_empty words then Err BadLine else (do
       named ← each add_cell s.named words
@@ -140,7 +140,7 @@ maybe_cells_line s words =
       within (record s { named = named; maybe_cells = maybe }))
 
 -- a `cut` line, with a cell
-unfoldable pub cut_line : Said → List (List ℕ) → Result Said Fault
+unfoldable pub cut_line : DraftValue → List (List ℕ) → Result DraftValue Fault
 cut_line s words =
     if is_empty words then Err BadLine else (each add_cell s.cut words >>= λ cut. Ok (record s { cut = cut }))
 
@@ -154,7 +154,7 @@ key_from word =
     (if bytes_eq word (codes "maybe") then Some keys.Maybe else None))))
 
 -- a line of a second key, after `maybe`, and the words after it
-abbrev pub maybe_keyed : Option Key → Said → List (List ℕ) → Result Said Fault
+abbrev pub maybe_keyed : Option Key → DraftValue → List (List ℕ) → Result DraftValue Fault
 maybe_keyed (Some keys.Piece) s words = piece_line s true words
 maybe_keyed (Some keys.Cells) s words = maybe_cells_line s words
 maybe_keyed (Some keys.Box) s words = Err BadLine
@@ -163,12 +163,12 @@ maybe_keyed (Some keys.Maybe) s words = Err BadLine
 maybe_keyed None s words = Err BadLine
 
 -- a `maybe` line: the words after `maybe`
-unfoldable pub maybe_line : Said → List (List ℕ) → Result Said Fault
+unfoldable pub maybe_line : DraftValue → List (List ℕ) → Result DraftValue Fault
 maybe_line s [] = Err BadLine
 maybe_line s (key ∷ words) = maybe_keyed (key_from key) s words
 
 -- a line of a key and the words after it
-abbrev pub keyed_line : Option Key → Said → List (List ℕ) → Result Said Fault
+abbrev pub keyed_line : Option Key → DraftValue → List (List ℕ) → Result DraftValue Fault
 keyed_line (Some keys.Piece) s words = piece_line s false words
 keyed_line (Some keys.Box) s words = box_line s words
 keyed_line (Some keys.Cells) s words = cells_line s words
@@ -177,46 +177,46 @@ keyed_line (Some keys.Maybe) s words = maybe_line s words
 keyed_line None s words = Err BadLine
 
 -- a line of these words; one without words says nothing
-unfoldable pub words_line : Said → List (List ℕ) → Result Said Fault
+unfoldable pub words_line : DraftValue → List (List ℕ) → Result DraftValue Fault
 words_line s [] = Ok s
 words_line s (key ∷ words) = keyed_line (key_from key) s words
 
 -- a line, with its comment: a byte that isn't plain may stand in the comment alone
-unfoldable pub line : Said → List ℕ → Result Said Fault
+unfoldable pub line : DraftValue → List ℕ → Result DraftValue Fault
 line s bytes = if list_all is_plain (outside_comment bytes) then words_line s (words_of (outside_comment bytes)) else Err BadLine
 
 -- *the whole text*
 
 -- what was read, with the number of the next line; or a fault, with the number of its line
-abbrev pub at_line : ℕ → Result Said Fault → Result (Said × ℕ) (Fault × ℕ)
+abbrev pub at_line : ℕ → Result DraftValue Fault → Result (DraftValue × ℕ) (Fault × ℕ)
 at_line n (Ok s) = Ok (s, n + 1)
 at_line n (Err f) = Err (f, n)
 
 -- a line, where what is said comes with the line's number
-unfoldable pub numbered_line : Said × ℕ → List ℕ → Result (Said × ℕ) (Fault × ℕ)
+unfoldable pub numbered_line : DraftValue × ℕ → List ℕ → Result (DraftValue × ℕ) (Fault × ℕ)
 numbered_line s bytes = at_line s.1 (line s.0 bytes)
 
 -- the lines of a text, from line 1 on
-abbrev pub lines_read : List (List ℕ) → Result (Said × ℕ) (Fault × ℕ)
+abbrev pub lines_read : List (List ℕ) → Result (DraftValue × ℕ) (Fault × ℕ)
 lines_read lines = each numbered_line (nothing, 1) lines
 
 -- the region that is said, in order
-abbrev pub region_of : Said → List Place
-region_of s = in_order place_cmp (without s.cut s.named)
+abbrev pub region_of : DraftValue → List Coordinates
+region_of s = in_order coordinates_cmp (without s.cut s.named)
 
 -- the cells of the region that may stay empty, in order
-abbrev pub maybe_region_of : Said → List Place
-maybe_region_of s = in_order place_cmp (without s.cut s.maybe_cells)
+abbrev pub maybe_region_of : DraftValue → List Coordinates
+maybe_region_of s = in_order coordinates_cmp (without s.cut s.maybe_cells)
 
 -- the fault of a whole text: no cell, no piece, or none of these required
-abbrev pub whole_fault : List (ℕ × List Place) → List ℕ → List Place → List Place → Option Fault
+abbrev pub whole_fault : List (ℕ × List Coordinates) → List ℕ → List Coordinates → List Coordinates → Option Fault
 whole_fault pieces maybe_pieces region maybe_cells =
     if length region == 0 then Some EmptyRegion else
     (if length pieces == 0 then Some NoPiece else
     (if needs_nothing pieces maybe_pieces region maybe_cells then Some NothingRequired else None))
 
 -- the puzzle that is said
-abbrev pub puzzle_said : Said → PuzzleValue
+abbrev pub puzzle_said : DraftValue → PuzzleValue
 puzzle_said s = record {
   pieces = s.pieces;
   maybe_pieces = s.maybe_pieces;
@@ -230,7 +230,7 @@ unless None p = Ok p
 unless (Some f) p = Err f
 
 -- the puzzle of all lines
-unfoldable pub whole : Said → Result PuzzleValue Fault
+unfoldable pub whole : DraftValue → Result PuzzleValue Fault
 whole s = unless (whole_fault s.pieces s.maybe_pieces (region_of s) s.maybe_cells) (puzzle_said s)
 
 -- a fault of the whole text has the line number 0

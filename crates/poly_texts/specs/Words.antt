@@ -5,7 +5,7 @@
 use Rattle.std.specs.Prelude.{ℕ, ◌-◌, nat_le, Bool, not, ◌&&◌, ◌||◌, List, [], ◌∷◌, Option, Some, None, codes, if◌then◌else◌}
 use Rattle.std.specs.Str.{bytes_eq}
 use Rattle.text_lines.specs.Numbers.{is_decimal, value_after}
-use Rattle.poly_cells.specs.Places.{Place, place}
+use Rattle.poly_cells.specs.Coordinates.{Coordinates, coordinates}
 use Rattle.poly_texts.specs.declared.limits.TheConstants.{MOST_SIZE}
 
 -- what a symbol of `0-9a-v` stands for
@@ -13,12 +13,12 @@ abbrev pub coordinate : ℕ → Option ℕ
 coordinate b = if nat_le 48 b && nat_le b 57 then Some (b - 48) else (if nat_le 97 b && nat_le b 118 then Some (b - 87) else None)
 
 -- the cell with these coordinates, where there are all three
-abbrev pub cell_at : Option ℕ → Option ℕ → Option ℕ → Option Place
-cell_at (Some x) (Some y) (Some z) = Some (place x y z)
+abbrev pub cell_at : Option ℕ → Option ℕ → Option ℕ → Option Coordinates
+cell_at (Some x) (Some y) (Some z) = Some (coordinates x y z)
 cell_at x y z = None
 
 -- the cell that a word names: three symbols, for x, y and z
-abbrev pub cell_of : List ℕ → Option Place
+abbrev pub cell_of : List ℕ → Option Coordinates
 cell_of (x ∷ y ∷ z ∷ []) = cell_at (coordinate x) (coordinate y) (coordinate z)
 cell_of word = None
 

@@ -3,10 +3,10 @@ ghost use Rattle.std.specs.Prelude.{◌≡◌, ◌<◌, ◌≤◌, IfOk, OnOk};
 ghost use Rattle.std.specs.List.{list_all};
 ghost use Rattle.text_lines.specs.Lines.{words_of};
 ghost use Rattle.text_lines.specs.Each.{each};
-ghost use Rattle.poly_cells.specs.Places.{place, place_cmp};
+ghost use Rattle.poly_cells.specs.Coordinates.{coordinates, coordinates_cmp};
 ghost use Rattle.poly_cells.specs.Sets.{in_order};
 ghost use Rattle.std.specs.List.Sorted.{IsStrictlySortedBy};
-ghost use Rattle.poly_texts.specs.Cells.{has_place, with_cells, without, row, layer, box_cells};
+ghost use Rattle.poly_texts.specs.Cells.{has_cell, with_cells, without, row, layer, box_cells};
 ghost use Rattle.poly_texts.specs.Faults.{Gives};
 ghost use Rattle.poly_texts.specs.Reading as reading;
 
@@ -46,7 +46,7 @@ fn cell_at(x: u8, y: u8, z: u8) -> Cell
     requires x { x < 32 }
     requires y { y < 32 }
     requires z { z < 32 }
-    ensures { result ≡ place x y z }
+    ensures { result ≡ coordinates x y z }
 {
     Cell::new(x, y, z).unwrap()
 }
@@ -96,8 +96,8 @@ pub fn uncut(
     cells: &IndexSet<Cell>,
     cut: &IndexSet<Cell>,
 ) -> Result<Vec<Cell>, AllocError>
-    ensures value { IfOk result (λ left. left.items ≡ in_order place_cmp (without cut.now.keys cells.now.keys)) }
-    ensures rises { IfOk result (λ left. IsStrictlySortedBy place_cmp left.items) }
+    ensures value { IfOk result (λ left. left.items ≡ in_order coordinates_cmp (without cut.now.keys cells.now.keys)) }
+    ensures rises { IfOk result (λ left. IsStrictlySortedBy coordinates_cmp left.items) }
 {
     let mut left = Vec::new(alloc);
     for cell in cells.as_slice() {
@@ -111,7 +111,7 @@ pub fn uncut(
 
 /// Whether each cell is in the set.
 pub fn are_all_in(cells: &[Cell], set: &IndexSet<Cell>) -> bool
-    ensures { result ≡ list_all (has_place set.now.keys) cells.now }
+    ensures { result ≡ list_all (has_cell set.now.keys) cells.now }
 {
     cells.iter().all(|cell| set.contains(cell))
 }

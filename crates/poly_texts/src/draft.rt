@@ -3,7 +3,7 @@ ghost use Rattle.std.specs.Prelude.{◌≡◌, ◌++◌, ◌∷◌, [], false, O
 ghost use Rattle.std.specs.List.{list_all};
 ghost use Rattle.std.specs.List.Sorted.{IsStrictlySortedBy};
 ghost use Rattle.text_lines.specs.Lines.{words_of};
-ghost use Rattle.poly_cells.specs.Places.{place_cmp};
+ghost use Rattle.poly_cells.specs.Coordinates.{coordinates_cmp};
 ghost use Rattle.poly_texts.specs.Faults.{Gives};
 ghost use Rattle.poly_texts.specs.Puzzle.{PuzzleValue, IsPuzzle, has_name, names_of};
 ghost use Rattle.poly_texts.specs.Reading as reading;
@@ -36,9 +36,9 @@ pub struct Draft {
 }
 
 impl Model for Draft {
-    ghost use Rattle.poly_texts.specs.Reading.{Said};
+    ghost use Rattle.poly_texts.specs.Reading.{DraftValue};
 
-    ghost Value = { Said };
+    ghost Value = { DraftValue };
 
     ghost view = { λ a. record { pieces = a.pieces.entries; maybe_pieces = a.maybe_pieces.items; boxed = a.is_boxed; named = a.named.keys; maybe_cells = a.maybe_cells.keys; cut = a.cut.keys } };
 }
@@ -242,7 +242,7 @@ impl Draft {
     /// The cells of the region, in order.
     fn region(&self, alloc: Global) -> Result<Vec<Cell>, AllocError>
         ensures value { IfOk result (λ cells. cells.items ≡ reading.region_of self.now) }
-        ensures rises { IfOk result (λ cells. IsStrictlySortedBy place_cmp cells.items) }
+        ensures rises { IfOk result (λ cells. IsStrictlySortedBy coordinates_cmp cells.items) }
     {
         uncut(alloc, &self.named, &self.cut)
     }

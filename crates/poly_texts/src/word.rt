@@ -3,7 +3,7 @@ ghost use Rattle.std.specs.Prelude.{◌≡◌, ◌<◌, ◌≤◌, true, false, 
 ghost use Rattle.text_lines.specs.Lines.{words_of};
 ghost use Rattle.poly_texts.specs.declared.limits.TheConstants.{MOST_SIZE};
 ghost use Rattle.poly_texts.specs.Words as spec;
-ghost use Rattle.poly_texts.specs.Reading.{three};
+ghost use Rattle.poly_texts.specs.Reading.{three_words};
 
 use crate::limits::MOST_SIZE;
 use poly_cells::Cell;
@@ -47,7 +47,7 @@ pub fn are_sizes(a: &[u8], b: &[u8], c: &[u8]) -> bool
 
 /// Three words, where there are no others.
 pub fn three_words(words: &[u8]) -> Option<(&[u8], &[u8], &[u8])>
-    ensures { option_map (λ r. (r.0.now, r.1.now, r.2.now)) result ≡ three (words_of words.now) }
+    ensures { option_map (λ r. (r.0.now, r.1.now, r.2.now)) result ≡ three_words (words_of words.now) }
 {
     let (first, rest) = split_word(words)?;
     let (second, rest) = split_word(rest)?;

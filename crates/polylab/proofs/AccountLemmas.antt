@@ -5,7 +5,7 @@ use Rattle.std.proofs.lemmas.Grind.{flat_map-append}
 use Rattle.std.proofs.lemmas.List.{map-append, length-map}
 use Rattle.text_lines.specs.Writing.{line_text, text_of}
 use Rattle.cover_problem.specs.Lists.{numbers}
-use Rattle.cover_problem.specs.Problem.{Cover, IsProblem}
+use Rattle.cover_problem.specs.Problem.{ProblemValue, IsProblem}
 use Rattle.cover_problem.proofs.ListLemmas.{length-numbers}
 use Rattle.cover_problem.proofs.CoveringLemmas.{depth}
 use Rattle.x_steps.specs.declared.state.Label.{Label}
@@ -13,11 +13,11 @@ use Rattle.x_steps.specs.declared.state.Label.TheVariants.{X1, X2, X3, X4, X5, X
 use Rattle.x_steps.specs.declared.state.Cursor.{Cursor}
 use Rattle.x_steps.specs.declared.state.Cursor.TheVariants.{None, At, Past}
 use Rattle.x_steps.specs.declared.event.Event.TheVariants.{Moved, Visited}
-use Rattle.x_steps.specs.Place.{Place, at}
+use Rattle.x_steps.specs.StateValue.{StateValue, at}
 use Rattle.x_steps.specs.Steps.{Fits, is_level, is_open, is_visit, next, event_of}
 use Rattle.x_steps.specs.Run.{visits, level_count}
-use Rattle.x_steps.proofs.SpanLemmas.{visits_push, level_count_push}
-use Rattle.polylab.specs.Account.{Account, account_of, noted, one_more, nothing_told, is_visited, visit_words}
+use Rattle.x_steps.proofs.BetweenLemmas.{visits_push, level_count_push}
+use Rattle.polylab.specs.Account.{Account, account_of, with_step, one_more, empty_account, is_visited, visit_words}
 
 differs : (a b : ℕ) → (a ≡ b → ⊥) → (a == b) ≡ false
 differs a b h = elim (eqb_tells a b) [ inl e ↦ absurd (h e.1) | inr e ↦ e.0 ]
@@ -55,7 +55,7 @@ none_counted : (n i : ℕ) → map (level_count []) (numbers n i) ≡ replicate 
 none_counted zero i = refl
 none_counted (suc n) i = ap (λ l. 0 ∷ l) (none_counted n (suc i))
 
-pub nothing_is : (p : Cover) → account_of p [] ≡ nothing_told (length p.names)
+pub nothing_is : (p : ProblemValue) → account_of p [] ≡ empty_account (length p.names)
 unfolding account_of
 nothing_is p =
     ap (λ l. record { text = []; visited = 0; steps = 0; entered = l }) (none_counted (suc (length p.names)) 0 ∙ ap (λ n. replicate n 0) (sym (add-one (length p.names))))
@@ -72,7 +72,7 @@ same_map f g h [] = refl
 same_map f g h (x ∷ xs) = let e = h x in let r = same_map f g h xs in cc
 
 -- the counts of levels with one state more
-entered_is : (ss : List Place) (s : Place) (n : ℕ) → (is_level s.label ≡ true → length s.path < n)
+entered_is : (ss : List StateValue) (s : StateValue) (n : ℕ) → (is_level s.label ≡ true → length s.path < n)
     → map (level_count (ss ++ s ∷ [])) (numbers n 0) ≡ (if is_level s.label then one_more (map (level_count ss) (numbers n 0)) (length s.path) else map (level_count ss) (numbers n 0))
 entered_is ss s n h = same_map _ _ (level_count_push ss s) (numbers n 0) ∙ by_level (is_level s.label) refl where
   by_level : (b : Bool) → is_level s.label ≡ b → map (λ l. level_count ss l + cond (b && (length s.path == l)) 1 0) (numbers n 0) ≡ (if b then one_more (map (level_count ss) (numbers n 0)) (length s.path) else map (level_count ss) (numbers n 0))
@@ -90,11 +90,11 @@ visited_is true vs path = length-append vs (path ∷ [])
 visited_is false vs path = ap length (append-nil vs)
 
 -- X2 tells a visit where no item is active, and no other step does
-tells_by : (p : Cover) (path : List ℕ) (b : Bool) → is_visited (if b then Moved else Visited) ≡ not b
+tells_by : (p : ProblemValue) (path : List ℕ) (b : Bool) → is_visited (if b then Moved else Visited) ≡ not b
 tells_by p path true = refl
 tells_by p path false = refl
 
-tells : (p : Cover) (l : Label) (path : List ℕ) (k : Cursor) → is_visited (event_of p (at l path k)) ≡ is_visit p (at l path k)
+tells : (p : ProblemValue) (l : Label) (path : List ℕ) (k : Cursor) → is_visited (event_of p (at l path k)) ≡ is_visit p (at l path k)
 unfolding event_of
 tells p X1 path k = refl
 tells p X2 path k = tells_by p path (is_open p path)
@@ -108,11 +108,11 @@ tells p X8 (x ∷ xs) k = refl
 tells p Done path k = refl
 
 -- X2 leaves the path
-leaves_by : (path : List ℕ) (b : Bool) (s t : Place) → s.path ≡ path → t.path ≡ path → (if b then s else t).path ≡ path
+leaves_by : (path : List ℕ) (b : Bool) (s t : StateValue) → s.path ≡ path → t.path ≡ path → (if b then s else t).path ≡ path
 leaves_by path true s t e f = e
 leaves_by path false s t e f = f
 
-pub leaves : (p : Cover) (l : Label) (path : List ℕ) (k : Cursor) → is_level l ≡ true → (next p (at l path k)).path ≡ path
+pub leaves : (p : ProblemValue) (l : Label) (path : List ℕ) (k : Cursor) → is_level l ≡ true → (next p (at l path k)).path ≡ path
 unfolding next
 leaves p X2 path k e = leaves_by path (is_open p path) _ _ refl refl
 leaves p X1 path k e = absurd (cc)
@@ -125,7 +125,7 @@ leaves p X8 path k e = absurd (cc)
 leaves p Done path k e = absurd (cc)
 
 -- the path that X2 shows: a valid one, so it is no longer than there are items
-pub level_within : (p : Cover) (l : Label) (path : List ℕ) (k : Cursor) → IsProblem p → Fits p (at l path k) → is_level l ≡ true → length path < suc (length p.names)
+pub level_within : (p : ProblemValue) (l : Label) (path : List ℕ) (k : Cursor) → IsProblem p → Fits p (at l path k) → is_level l ≡ true → length path < suc (length p.names)
 level_within p X2 path None sound f e = let d = depth p path f in let w = sound.within in omega arith
 level_within p X2 path (At o) sound f e = absurd f
 level_within p X2 path Past sound f e = absurd f
@@ -157,7 +157,7 @@ fields : (t : List ℕ) (v n : ℕ) (e : List ℕ) (t' : List ℕ) (v' n' : ℕ)
 fields t v n e t' v' n' e' p q r s = cc
 
 -- the account with one state more is the account so far with that step noted
-pub account_push : (p : Cover) (ss : List Place) (s : Place) → IsProblem p → Fits p s → account_of p (ss ++ s ∷ []) ≡ noted (account_of p ss) s.label (event_of p s) (next p s).path
+pub account_push : (p : ProblemValue) (ss : List StateValue) (s : StateValue) → IsProblem p → Fits p s → account_of p (ss ++ s ∷ []) ≡ with_step (account_of p ss) s.label (event_of p s) (next p s).path
 unfolding account_of
 account_push p ss s sound f =
     let seen = visits_push p ss s in
@@ -170,6 +170,6 @@ account_push p ss s sound f =
     let steps = length-append ss (s ∷ []) in
     rw told (fields _ _ _ _ _ _ _ _ text visited steps entered)
 
-pub entered_length : (p : Cover) (ss : List Place) → length (account_of p ss).entered ≡ suc (length p.names)
+pub entered_length : (p : ProblemValue) (ss : List StateValue) → length (account_of p ss).entered ≡ suc (length p.names)
 unfolding account_of
 entered_length p ss = length-map (numbers (suc (length p.names)) 0) (level_count ss) ∙ length-numbers (suc (length p.names)) 0

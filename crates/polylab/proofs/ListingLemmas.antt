@@ -2,12 +2,12 @@
 use Rattle.std.proofs.Common.{◌≡◌, ℕ, List, Result, Ok, Err, None, Some, IfSome, refl, sym, ap, ◌∙◌, subst}
 use Rattle.std.specs.Prelude.{Option}
 use Rattle.std.specs.Io.KnownBytes.{Appends}
-use Rattle.cover_problem.specs.Problem.{Cover, IsProblem}
+use Rattle.cover_problem.specs.Problem.{ProblemValue, IsProblem}
 use Rattle.cover_problem.specs.declared.fault.Fault.{Fault}
 use Rattle.cover_problem.specs.Reading.{problem_of}
 use Rattle.cover_problem.proofs.SaidLemmas.{read_is_text}
-use Rattle.x_steps.specs.Place.{start, done}
-use Rattle.x_steps.specs.Run.{span, seen}
+use Rattle.x_steps.specs.StateValue.{start, done}
+use Rattle.x_steps.specs.Run.{states_between, visits_between}
 use Rattle.x_steps.proofs.VisitLemmas.{visits_rise, visits_are_covers}
 use Rattle.polylab.specs.declared.job.Job.{Job}
 use Rattle.polylab.specs.declared.job.Job.TheVariants as jobs
@@ -17,19 +17,19 @@ use Rattle.polylab.specs.Outcome.{outcome, covers_of}
 use Rattle.polylab.specs.Listing.{ListsCovers, IsListed}
 
 -- a problem's output lists its exact covers
-lists : (p : Cover) → IsProblem p → ListsCovers p (cover_output p)
-unfolding cover_output account_of seen
+lists : (p : ProblemValue) → IsProblem p → ListsCovers p (cover_output p)
+unfolding cover_output account_of visits_between
 lists p sound = record {
-  paths = seen p start done;
-  steps = (account_of p (span p start done)).steps;
-  levels = without_last_zeros (account_of p (span p start done)).entered;
+  paths = visits_between p start done;
+  steps = (account_of p (states_between p start done)).steps;
+  levels = without_last_zeros (account_of p (states_between p start done)).entered;
   lines = refl;
   rise = visits_rise p;
   covers = visits_are_covers p sound;
 }
 
 -- what is written of what was read
-listed : (read : Result Cover (Fault × ℕ)) (text : List ℕ) → ((p : Cover) → read ≡ Ok p → IsProblem p) → covers_of read ≡ Ok text → (p : Cover) × (read ≡ Ok p) × ListsCovers p text
+listed : (read : Result ProblemValue (Fault × ℕ)) (text : List ℕ) → ((p : ProblemValue) → read ≡ Ok p → IsProblem p) → covers_of read ≡ Ok text → (p : ProblemValue) × (read ≡ Ok p) × ListsCovers p text
 listed (Ok p) text sound e = let same : cover_output p ≡ text = cc in (p, refl, subst (ListsCovers p) same (lists p (sound p refl)))
 listed (Err f) text sound e = absurd (cc)
 

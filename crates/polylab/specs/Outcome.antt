@@ -5,7 +5,7 @@ use Rattle.std.specs.Prelude.{ℕ, List, [], ◌∷◌, Result, Ok, Err, decimal
 use Rattle.text_lines.specs.Writing.{line_text}
 use Rattle.cover_problem.specs.declared.fault.Fault.{Fault}
 use Rattle.cover_problem.specs.Faults.{number_of, name_of}
-use Rattle.cover_problem.specs.Problem.{Cover}
+use Rattle.cover_problem.specs.Problem.{ProblemValue}
 use Rattle.cover_problem.specs.Reading.{problem_of}
 use Rattle.polylab.specs.declared.job.Job.{Job}
 use Rattle.polylab.specs.declared.job.Job.TheVariants as jobs
@@ -18,7 +18,7 @@ abbrev pub refusal_words : Fault → ℕ → List (List ℕ)
 refusal_words fault line = codes "refused" ∷ codes "cover" ∷ decimal (number_of fault) ∷ name_of fault ∷ codes "line" ∷ decimal line ∷ []
 
 -- a problem's output, or the refusal of a text
-abbrev pub covers_of : Result Cover (Fault × ℕ) → Result (List ℕ) (List ℕ)
+abbrev pub covers_of : Result ProblemValue (Fault × ℕ) → Result (List ℕ) (List ℕ)
 covers_of (Ok p) = Ok (cover_output p)
 covers_of (Err f) = Err (line_text (refusal_words f.0 f.1))
 
@@ -42,6 +42,6 @@ abbrev pub bad_writer : List ℕ
 bad_writer = line_text (codes "refused" ∷ codes "output" ∷ [])
 
 -- an answer's bytes
-abbrev pub shown : Answer → Result (List ℕ) (List ℕ)
-shown (Text text) = Ok text.items
-shown (Refused line) = Err line.items
+abbrev pub outcome_of : Answer → Result (List ℕ) (List ℕ)
+outcome_of (Text text) = Ok text.items
+outcome_of (Refused line) = Err line.items

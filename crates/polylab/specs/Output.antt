@@ -3,9 +3,9 @@
 -- Example: for the small problem `visit 4 5 1`, `visits 1`, `steps 43`, `levels 1 2 2 1`.
 use Rattle.std.specs.Prelude.{ℕ, ◌==◌, List, [], ◌∷◌, ◌++◌, map, decimal, codes, if◌then◌else◌}
 use Rattle.text_lines.specs.Writing.{text_of}
-use Rattle.cover_problem.specs.Problem.{Cover}
-use Rattle.x_steps.specs.Place.{start, done}
-use Rattle.x_steps.specs.Run.{span}
+use Rattle.cover_problem.specs.Problem.{ProblemValue}
+use Rattle.x_steps.specs.StateValue.{start, done}
+use Rattle.x_steps.specs.Run.{states_between}
 use Rattle.polylab.specs.Account.{Account, account_of}
 
 -- x before a list that has no zero at its end, unless that makes one
@@ -24,9 +24,9 @@ total_lines a =
     (codes "visits" ∷ decimal a.visited ∷ []) ∷ (codes "steps" ∷ decimal a.steps ∷ []) ∷ (codes "levels" ∷ map decimal (without_last_zeros a.entered)) ∷ []
 
 -- what is written of an account
-abbrev pub told : Account → List ℕ
-told a = a.text ++ text_of (total_lines a)
+abbrev pub report_text : Account → List ℕ
+report_text a = a.text ++ text_of (total_lines a)
 
 -- what `cover` writes of a problem: the account of its whole run, from X1 to Done
-unfoldable pub cover_output : Cover → List ℕ
-cover_output p = told (account_of p (span p start done))
+unfoldable pub cover_output : ProblemValue → List ℕ
+cover_output p = report_text (account_of p (states_between p start done))

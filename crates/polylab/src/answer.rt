@@ -2,7 +2,7 @@
 ghost use Rattle.std.specs.Prelude.{◌≡◌, IfOk};
 ghost use Rattle.text_lines.specs.Writing.{line_text};
 ghost use Rattle.cover_problem.specs.Reading.{problem_of};
-ghost use Rattle.polylab.specs.Outcome.{refusal_words, covers_of, outcome, shown};
+ghost use Rattle.polylab.specs.Outcome.{refusal_words, covers_of, outcome, outcome_of};
 
 use crate::job::Job;
 use crate::lines::{push_number, push_word};
@@ -32,7 +32,7 @@ fn refusal(alloc: Global, fault: Fault, line: u64) -> Result<Vec<u8>, AllocError
 
 /// The exact covers of a cover text, or its refusal.
 fn covers<T: Table>(alloc: Global, text: &[u8]) -> Result<Answer, AllocError>
-    ensures { IfOk result (λ answer. shown answer ≡ covers_of (problem_of text.now)) }
+    ensures { IfOk result (λ answer. outcome_of answer ≡ covers_of (problem_of text.now)) }
 {
     match read_cover(alloc, text) {
         Ok(problem) => Ok(Answer::Text(search::<T>(alloc, &problem)?)),
@@ -44,7 +44,7 @@ fn covers<T: Table>(alloc: Global, text: &[u8]) -> Result<Answer, AllocError>
 /// What the job writes for an input.
 #[tactic(auto, unfolding(crate::specs::Outcome::outcome))]
 pub fn answer_to<T: Table>(alloc: Global, job: Job, input: &[u8]) -> Result<Answer, AllocError>
-    ensures { IfOk result (λ answer. shown answer ≡ outcome job input.now) }
+    ensures { IfOk result (λ answer. outcome_of answer ≡ outcome job input.now) }
 {
     match job {
         Job::Cover => covers::<T>(alloc, input),

@@ -2,8 +2,8 @@
 ghost use Rattle.std.specs.Prelude.{◌≡◌, ◌<◌, ◌+◌, ◌++◌, [], ◌∷◌, if◌then◌else◌, true, map, codes, decimal, length, replicate, IfOk, OnOk, IsTrue, ◌↔◌, ◌-◌, Some, slice_get};
 ghost use Rattle.text_lines.specs.Writing.{line_text, text_of};
 ghost use Rattle.x_steps.specs.Steps.{is_level};
-ghost use Rattle.polylab.specs.Account.{noted, one_more, nothing_told, is_visited, visit_words};
-ghost use Rattle.polylab.specs.Output.{told, without_last_zeros};
+ghost use Rattle.polylab.specs.Account.{with_step, one_more, empty_account, is_visited, visit_words};
+ghost use Rattle.polylab.specs.Output.{report_text, without_last_zeros};
 
 use crate::count::Count;
 use crate::lines::{push_number_line, push_numbers_line, push_path_line};
@@ -78,7 +78,7 @@ fn totals_of(alloc: Global, counts: &[Count]) -> Result<Vec<u128>, AllocError>
 impl Report {
     /// Nothing told, for a problem of so many items.
     pub fn new(alloc: Global, items: u32) -> Result<Report, AllocError>
-        ensures { IfOk result (λ report. report ≡ nothing_told items) }
+        ensures { IfOk result (λ report. report ≡ empty_account items) }
     {
         let entered = no_counts(alloc, items as usize + 1)?;
         Ok(Report {
@@ -92,7 +92,7 @@ impl Report {
     /// Notes a step: its label, what it told, and the path there.
     pub fn note(&mut self, label: Label, event: Event, path: &[u32]) -> Result<(), AllocError>
         requires { is_level label ≡ true → length path.now < length self.old.entered }
-        ensures { OnOk result (self.new ≡ noted self.old label event path.now) }
+        ensures { OnOk result (self.new ≡ with_step self.old label event path.now) }
     {
         self.steps.add_one()?;
         note_level(&mut self.entered, label, path.len())?;
@@ -101,7 +101,7 @@ impl Report {
 
     /// The text: the lines of the visits, and then the totals.
     pub fn finish(self, alloc: Global) -> Result<Vec<u8>, AllocError>
-        ensures { IfOk result (λ text. text.items ≡ told self) }
+        ensures { IfOk result (λ text. text.items ≡ report_text self) }
     {
         let Report {
             text,

@@ -1,6 +1,6 @@
 -- What a loop over a list needs of `each`, and the laws of it.
 use Rattle.std.proofs.Common.{◌≡◌, List, [], ◌∷◌, ◌++◌, refl, sym, ◌∙◌, ap, Result, Ok, Err}
-use Rattle.text_lines.specs.Each.{each, ◌>>=◌, Leads, Fails}
+use Rattle.text_lines.specs.Each.{each, ◌>>=◌, GoesThrough, Fails}
 
 -- a loop that has come to the state s with xs to go, where the whole gives `all`
 module _ {S X F : Type 0} (step : S → X → Result S F) (s : S) (xs : List X) (all : Result S F) (so_far : each step s xs ≡ all) where
@@ -32,16 +32,16 @@ module _ {S X F : Type 0} (step : S → X → Result S F) where
       append_step xs ys (Ok u) h = h u
       append_step xs ys (Err f) h = refl
 
-  leads_step : (x : X) (xs : List X) (s t : S) (r : Result S F) → step s x ≡ r → ((u : S) → each step u xs ≡ Ok t → Leads step u xs t) → (r >>= λ u. each step u xs) ≡ Ok t → Leads step s (x ∷ xs) t
+  leads_step : (x : X) (xs : List X) (s t : S) (r : Result S F) → step s x ≡ r → ((u : S) → each step u xs ≡ Ok t → GoesThrough step u xs t) → (r >>= λ u. each step u xs) ≡ Ok t → GoesThrough step s (x ∷ xs) t
   leads_step x xs s t (Ok u) e later h = (u, e, later u h)
   leads_step x xs s t (Err f) e later h = cc
 
-  pub leads : (xs : List X) (s t : S) → each step s xs ≡ Ok t → Leads step s xs t
+  pub leads : (xs : List X) (s t : S) → each step s xs ≡ Ok t → GoesThrough step s xs t
   unfolding each
   leads [] s t h = cc
   leads (x ∷ xs) s t h = leads_step x xs s t (step s x) refl (λ u. leads xs u t) h
 
-  pub from_leads : (xs : List X) (s t : S) → Leads step s xs t → each step s xs ≡ Ok t
+  pub from_leads : (xs : List X) (s t : S) → GoesThrough step s xs t → each step s xs ≡ Ok t
   unfolding each
   from_leads [] s t h = ap (λ u. Ok u) h
   from_leads (x ∷ xs) s t (u, e, later) = rw e (from_leads xs u t later)

@@ -5,7 +5,7 @@ use Rattle.std.proofs.lemmas.Bool.{and_parts, and_from}
 use Rattle.std.proofs.lemmas.Bool.Decides.{nat_tests}
 use Rattle.std.specs.List.{onto_first, slice_split, position_or_len, list_all, before_first}
 use Rattle.text_lines.specs.Lines.{words_of, is_blank, has_bytes, is_plain, begins_comment, outside_comment, without_return}
-use Rattle.text_lines.specs.Writing.{is_word_byte, is_word, said, are_plain}
+use Rattle.text_lines.specs.Writing.{is_word_byte, is_word, words_of_line, are_plain}
 
 -- *the words of a line*
 
@@ -83,13 +83,13 @@ said_words (w ∷ words) h =
     and_from (is_word w) (list_all is_word words) (and_from (has_bytes w) (list_all is_word_byte w) f.0 (said_word w f.1)) (said_words words e.1)
 
 -- a plain line says words
-pub plain_line_says_words : (line : List ℕ) → list_all is_plain (outside_comment line) ≡ true → list_all is_word (said line) ≡ true
+pub plain_line_says_words : (line : List ℕ) → list_all is_plain (outside_comment line) ≡ true → list_all is_word (words_of_line line) ≡ true
 plain_line_says_words line h =
-    said_words (said line) (words_have is_said (outside_comment line)
+    said_words (words_of_line line) (words_have is_said (outside_comment line)
     (both_all is_plain (λ b. not (begins_comment b)) (outside_comment line) h (before_comment (without_return line))))
 
-pub plain_lines_say_words : (lines : List (List ℕ)) → are_plain lines ≡ true → list_all (list_all is_word) (map said lines) ≡ true
+pub plain_lines_say_words : (lines : List (List ℕ)) → are_plain lines ≡ true → list_all (list_all is_word) (map words_of_line lines) ≡ true
 plain_lines_say_words [] h = refl
 plain_lines_say_words (line ∷ lines) h =
     let e : (list_all is_plain (outside_comment line) ≡ true) × (are_plain lines ≡ true) = and_parts _ _ h in
-    and_from (list_all is_word (said line)) (list_all (list_all is_word) (map said lines)) (plain_line_says_words line e.0) (plain_lines_say_words lines e.1)
+    and_from (list_all is_word (words_of_line line)) (list_all (list_all is_word) (map words_of_line lines)) (plain_line_says_words line e.0) (plain_lines_say_words lines e.1)

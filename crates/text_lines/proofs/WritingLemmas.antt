@@ -5,7 +5,7 @@ use Rattle.std.proofs.lemmas.Bool.{and_parts, and_from, not-true}
 use Rattle.std.proofs.lemmas.Bool.Decides.{nat_tests}
 use Rattle.std.specs.List.{onto_first, slice_split, list_all, before_first}
 use Rattle.text_lines.specs.Lines.{lines_of, words_of, is_blank, has_bytes, is_newline, is_plain, begins_comment, outside_comment, without_return}
-use Rattle.text_lines.specs.Writing.{is_word_byte, is_word, spaced, line_text, text_of, said, are_plain}
+use Rattle.text_lines.specs.Writing.{is_word_byte, is_word, spaced, line_text, text_of, words_of_line, are_plain}
 use Rattle.text_lines.specs.Numbers.{is_digit, begins_well}
 use Rattle.text_lines.proofs.LineLemmas.{ended_line}
 use Rattle.text_lines.proofs.NumberLemmas.{printed_is_decimal}
@@ -122,7 +122,7 @@ line_before words rest h =
     (ended_line (spaced words) rest (weaker is_written (λ b. not (is_newline b)) written_no_newline (spaced words) (line_is_written words h)))
 
 -- and says its words
-pub line_said : (words : List (List ℕ)) → list_all is_word words ≡ true → said (spaced words) ≡ words
+pub line_said : (words : List (List ℕ)) → list_all is_word words ≡ true → words_of_line (spaced words) ≡ words
 line_said words h = rw (all_outside (spaced words) (line_is_written words h)) (spaced_words words h)
 
 pub written_lines : (lines : List (List (List ℕ))) → list_all (list_all is_word) lines ≡ true → lines_of (text_of lines) ≡ map spaced lines
@@ -131,11 +131,11 @@ written_lines (words ∷ lines) h =
     let e : (list_all is_word words ≡ true) × (list_all (list_all is_word) lines ≡ true) = and_parts _ _ h in
     line_before words (text_of lines) e.0 ∙ ap (λ rest. spaced words ∷ rest) (written_lines lines e.1)
 
-spaced_said : (lines : List (List (List ℕ))) → list_all (list_all is_word) lines ≡ true → map said (map spaced lines) ≡ lines
+spaced_said : (lines : List (List (List ℕ))) → list_all (list_all is_word) lines ≡ true → map words_of_line (map spaced lines) ≡ lines
 spaced_said [] h = refl
 spaced_said (words ∷ lines) h =
     let e : (list_all is_word words ≡ true) × (list_all (list_all is_word) lines ≡ true) = and_parts _ _ h in
-    ap (λ l. l ∷ map said (map spaced lines)) (line_said words e.0) ∙ ap (λ rest. words ∷ rest) (spaced_said lines e.1)
+    ap (λ l. l ∷ map words_of_line (map spaced lines)) (line_said words e.0) ∙ ap (λ rest. words ∷ rest) (spaced_said lines e.1)
 
 line_is_plain : (words : List (List ℕ)) → list_all is_word words ≡ true → list_all is_plain (outside_comment (spaced words)) ≡ true
 line_is_plain words h = rw (all_outside (spaced words) (line_is_written words h)) (weaker is_written is_plain written_is_plain (spaced words) (line_is_written words h))
@@ -147,7 +147,7 @@ spaced_are_plain (words ∷ lines) h =
     and_from (list_all is_plain (outside_comment (spaced words))) (are_plain (map spaced lines)) (line_is_plain words e.0) (spaced_are_plain lines e.1)
 
 -- lines of words that are written are read as the same lines of words
-pub written_said : (lines : List (List (List ℕ))) → list_all (list_all is_word) lines ≡ true → map said (lines_of (text_of lines)) ≡ lines
+pub written_said : (lines : List (List (List ℕ))) → list_all (list_all is_word) lines ≡ true → map words_of_line (lines_of (text_of lines)) ≡ lines
 written_said lines h = rw (written_lines lines h) (spaced_said lines h)
 
 pub written_plain : (lines : List (List (List ℕ))) → list_all (list_all is_word) lines ≡ true → are_plain (lines_of (text_of lines)) ≡ true

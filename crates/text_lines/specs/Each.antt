@@ -16,9 +16,9 @@ each step s [] = Ok s
 each step s (x ∷ xs) = step s x >>= λ t. each step t xs
 
 -- each element is taken without a fault, and t is left
-abbrev pub Leads : {S X F : Type 0} → (S → X → Result S F) → S → List X → S → Type 0
-Leads step s [] t = s ≡ t
-Leads {S} step s (x ∷ xs) t = (u : S) × (step s x ≡ Ok u) × Leads step u xs t
+abbrev pub GoesThrough : {S X F : Type 0} → (S → X → Result S F) → S → List X → S → Type 0
+GoesThrough step s [] t = s ≡ t
+GoesThrough {S} step s (x ∷ xs) t = (u : S) × (step s x ≡ Ok u) × GoesThrough step u xs t
 
 -- some front of the list is taken without a fault, and the element after it has the fault f
 abbrev pub Fails : {S X F : Type 0} → (S → X → Result S F) → S → List X → F → Type 0

@@ -30,8 +30,8 @@ abbrev pub text_of : List (List (List ℕ)) → List ℕ
 text_of lines = flat_map line_text lines
 
 -- the words that a line says
-abbrev pub said : List ℕ → List (List ℕ)
-said line = words_of (outside_comment line)
+abbrev pub words_of_line : List ℕ → List (List ℕ)
+words_of_line line = words_of (outside_comment line)
 
 -- each line has plain bytes alone outside its comment
 abbrev pub are_plain : List (List ℕ) → Bool

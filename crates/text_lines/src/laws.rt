@@ -2,19 +2,19 @@
 
 ghost use Rattle.std.specs.Prelude.{◌≡◌, true, ◌↔◌, ◌≤◌, ◌<◌, ◌^◌, ℕ, List, map, Result, Ok, Err, Some, decimal};
 ghost use Rattle.text_lines.specs.Lines.{lines_of};
-ghost use Rattle.text_lines.specs.Writing.{are_words, text_of, said, are_plain};
+ghost use Rattle.text_lines.specs.Writing.{are_words, text_of, words_of_line, are_plain};
 ghost use Rattle.text_lines.specs.Numbers.{number_of};
-ghost use Rattle.text_lines.specs.Each.{each, Leads, Fails};
+ghost use Rattle.text_lines.specs.Each.{each, GoesThrough, Fails};
 
 /// Lines of words that are written are read as the same lines of words.
 pub fn written_text_is_read()
-    ensures said { (lines : List (List (List ℕ))) → are_words lines ≡ true → map said (lines_of (text_of lines)) ≡ lines }
+    ensures words { (lines : List (List (List ℕ))) → are_words lines ≡ true → map words_of_line (lines_of (text_of lines)) ≡ lines }
     ensures plain { (lines : List (List (List ℕ))) → are_words lines ≡ true → are_plain (lines_of (text_of lines)) ≡ true }
 {}
 
 /// Lines that are plain outside their comments say words alone, so what is read from them can be written.
 pub fn plain_lines_say_words()
-    ensures { (lines : List (List ℕ)) → are_plain lines ≡ true → are_words (map said lines) ≡ true }
+    ensures { (lines : List (List ℕ)) → are_plain lines ≡ true → are_words (map words_of_line lines) ≡ true }
 {}
 
 /// The word of a number is the text that printing it gives, and no other.
@@ -24,7 +24,7 @@ pub fn number_is_as_printed()
 
 /// Steps give a state where each of them goes on from what the one before left.
 pub fn each_goes_on<S, X, F>()
-    ensures { (step : S → X → Result S F) (s t : S) (xs : List X) → ((each step s xs ≡ Ok t) ↔ Leads step s xs t) }
+    ensures { (step : S → X → Result S F) (s t : S) (xs : List X) → ((each step s xs ≡ Ok t) ↔ GoesThrough step s xs t) }
 {}
 
 /// Steps give a fault where the first step that doesn't go on gives it.

@@ -2,7 +2,7 @@
 use Rattle.std.proofs.Common.{◌≡◌, ℕ, zero, suc, ◌<◌, ◌≤◌, ◌⊎◌, Bool, true, false, ◌&&◌, List, [], ◌∷◌, ◌++◌, length, take, drop, filter, refl, sym, ap, ◌∙◌, subst, inl, inr, arith, append-nil, length-append}
 use Rattle.std.specs.Prelude.{◌↔◌, nat_lt}
 use Rattle.std.proofs.lemmas.Bool.{cases_lt, lt-ltb, le-ltb, ltb-true, false≢true}
-use Rattle.cover_problem.specs.Problem.{Cover}
+use Rattle.cover_problem.specs.Problem.{ProblemValue}
 use Rattle.cover_problem.specs.Lists.{has}
 use Rattle.cover_problem.specs.Path.{IsChoice, IsValid, covered_by}
 use Rattle.cover_problem.proofs.ListLemmas.{has_filter_in}
@@ -13,74 +13,74 @@ use Rattle.x_steps.specs.declared.state.Label.TheVariants.{X1, X2, X3, X4, X5, X
 use Rattle.x_steps.specs.declared.state.Cursor.{Cursor}
 use Rattle.x_steps.specs.declared.state.Cursor.TheVariants as cursor
 use Rattle.x_steps.specs.declared.state.Cursor.TheVariants.{At, Past}
-use Rattle.x_steps.specs.Place.{Place, at}
-use Rattle.x_steps.specs.Steps.{FitsAt, Fits, left}
+use Rattle.x_steps.specs.StateValue.{StateValue, at}
+use Rattle.x_steps.specs.Steps.{FitsAt, Fits, remaining_after}
 use Rattle.x_steps.specs.Order.{PathLess}
-use Rattle.x_steps.specs.Run.{distance, between}
+use Rattle.x_steps.specs.Run.{distance, steps_between}
 use Rattle.x_steps.specs.Rank.{rank}
 use Rattle.x_steps.proofs.Neighbours.{split_last_push, split_last_cases}
 use Rattle.x_steps.proofs.OrderLemmas.{cut_rank, rank_cut, fits_valid, inside_before, level_rank, left_before}
-use Rattle.x_steps.proofs.SpanLemmas.{between_some}
-use Rattle.x_branches.specs.Cut.{option_of, choices, parted, cut_state, IsCut}
+use Rattle.x_steps.proofs.BetweenLemmas.{steps_between_some}
+use Rattle.x_branches.specs.Cut.{option_of, choices, state_after_choices, cut_state, IsCut}
 use Rattle.x_branches.specs.RunOrder.{ComesBefore, comes_before}
 use Rattle.x_branches.specs.Untried.{untried_after, untried}
 use Rattle.x_branches.proofs.StageLemmas.{comes_rank, rank_comes}
 
 -- ---- the test of the order
 
-between_none : (p : Cover) (s t : Place) → rank p t ≤ rank p s → between p s t ≡ 0
-unfolding between
-between_none p s t l = step (rank p t)
+steps_between_none : (p : ProblemValue) (s t : StateValue) → rank p t ≤ rank p s → steps_between p s t ≡ 0
+unfolding steps_between
+steps_between_none p s t l = step (rank p t)
   where
     step : (most : ℕ) → distance p most s t ≡ 0
     step zero = refl
     step (suc most) = let e = le-ltb (rank p s) (rank p t) l in rw e refl
 
-pub test_rank : (p : Cover) (s t : Place) → comes_before p s t ≡ true → rank p s < rank p t
+pub test_rank : (p : ProblemValue) (s t : StateValue) → comes_before p s t ≡ true → rank p s < rank p t
 unfolding comes_before
 test_rank p s t h = step (cases_lt (rank p s) (rank p t))
   where
     step : (rank p s < rank p t) ⊎ (rank p t ≤ rank p s) → rank p s < rank p t
     step (inl l) = l
-    step (inr l) = let e = between_none p s t l in let f : false ≡ true = subst (λ n. nat_lt 0 n ≡ true) e h in absurd (false≢true f)
+    step (inr l) = let e = steps_between_none p s t l in let f : false ≡ true = subst (λ n. nat_lt 0 n ≡ true) e h in absurd (false≢true f)
 
-pub rank_test : (p : Cover) (s t : Place) → Fits p s → Fits p t → rank p s < rank p t → comes_before p s t ≡ true
+pub rank_test : (p : ProblemValue) (s t : StateValue) → Fits p s → Fits p t → rank p s < rank p t → comes_before p s t ≡ true
 unfolding comes_before
-rank_test p s t f g l = lt-ltb 0 (between p s t) (between_some p s t f g l)
+rank_test p s t f g l = lt-ltb 0 (steps_between p s t) (steps_between_some p s t f g l)
 
-pub test_is_order : (p : Cover) (s t : Place) → Fits p s → Fits p t → (comes_before p s t ≡ true) ↔ ComesBefore p s t
+pub test_is_order : (p : ProblemValue) (s t : StateValue) → Fits p s → Fits p t → (comes_before p s t ≡ true) ↔ ComesBefore p s t
 test_is_order p s t f g = (λ h. rank_comes p s t f g (test_rank p s t h), λ b. rank_test p s t f g (comes_rank p s t f b))
 
 -- ---- cuts
 
 pub cut_is : (q : List ℕ) (o : ℕ) → cut_state (q ++ o ∷ []) ≡ at X5 q (At o)
 unfolding cut_state
-cut_is q o = ap parted (split_last_push q o)
+cut_is q o = ap state_after_choices (split_last_push q o)
 
 -- a cut's last choice, and those before it
-pub cut_parts : (p : Cover) (path : List ℕ) → IsCut p path → (q : List ℕ) × (o : ℕ) × (path ≡ q ++ o ∷ [])
+pub cut_parts : (p : ProblemValue) (path : List ℕ) → IsCut p path → (q : List ℕ) × (o : ℕ) × (path ≡ q ++ o ∷ [])
 cut_parts p path c = step (split_last_cases path)
   where
     step : (path ≡ []) ⊎ ((q : List ℕ) × (o : ℕ) × (path ≡ q ++ o ∷ [])) → (q : List ℕ) × (o : ℕ) × (path ≡ q ++ o ∷ [])
     step (inl e) = let n = ap (λ (q : List ℕ). length q) e in let h = c.some in absurd (omega arith)
     step (inr r) = r
 
-pub cut_fits : (p : Cover) (path : List ℕ) → IsCut p path → Fits p (cut_state path)
+pub cut_fits : (p : ProblemValue) (path : List ℕ) → IsCut p path → Fits p (cut_state path)
 cut_fits p path c =
     let s = cut_parts p path c in
     let v = valid_pop p s.0 s.1 (subst (λ q. IsValid p q) s.2 c.valid) in
     rw (s.2, cut_is s.0 s.1) v
 
-pub cuts_in_order : (p : Cover) (q r : List ℕ) → IsCut p q → IsCut p r → ComesBefore p (cut_state q) (cut_state r) ↔ PathLess q r
+pub cuts_in_order : (p : ProblemValue) (q r : List ℕ) → IsCut p q → IsCut p r → ComesBefore p (cut_state q) (cut_state r) ↔ PathLess q r
 cuts_in_order p q r c d =
     let s = cut_parts p q c in
     let t = cut_parts p r d in
     let v = subst (λ q. IsValid p q) s.2 c.valid in
     let w = subst (λ q. IsValid p q) t.2 d.valid in
-    rw (s.2, t.2, cut_is s.0 s.1, cut_is t.0 t.1) (parted_order p s.0 t.0 s.1 t.1 v w)
+    rw (s.2, t.2, cut_is s.0 s.1, cut_is t.0 t.1) (cut_state_order p s.0 t.0 s.1 t.1 v w)
   where
-    parted_order : (p : Cover) (q r : List ℕ) (o t : ℕ) → IsValid p (q ++ o ∷ []) → IsValid p (r ++ t ∷ []) → ComesBefore p (at X5 q (At o)) (at X5 r (At t)) ↔ PathLess (q ++ o ∷ []) (r ++ t ∷ [])
-    parted_order p q r o t v w = (
+    cut_state_order : (p : ProblemValue) (q r : List ℕ) (o t : ℕ) → IsValid p (q ++ o ∷ []) → IsValid p (r ++ t ∷ []) → ComesBefore p (at X5 q (At o)) (at X5 r (At t)) ↔ PathLess (q ++ o ∷ []) (r ++ t ∷ [])
+    cut_state_order p q r o t v w = (
       λ b. rank_cut p q r o t v w (comes_rank p (at X5 q (At o)) (at X5 r (At t)) (valid_pop p q o v) b),
       λ l. rank_comes p (at X5 q (At o)) (at X5 r (At t)) (valid_pop p q o v) (valid_pop p r t w) (cut_rank p q r o t v l),
     )
@@ -99,16 +99,16 @@ level_in (x ∷ path) more (suc n) o rest e = step (level_in path more n o rest 
 
 -- a state's choice at a level, with the choices before it: it is an option there, and the state comes before the cut at each
 -- later option
-pub record IsChosen (p : Cover) (s : Place) (q : List ℕ) (o : ℕ) : Type 0 where
+pub record IsChosen (p : ProblemValue) (s : StateValue) (q : List ℕ) (o : ℕ) : Type 0 where
   pub valid : IsValid p q
   pub choice : IsChoice p (covered_by p q) o
   pub later : (k : ℕ) → o < k → rank p s < rank p (at X5 q (At k))
 
-front : (p : Cover) (q after : List ℕ) (o : ℕ) → IsValid p (q ++ o ∷ after) → IsValid p q × IsChoice p (covered_by p q) o
+front : (p : ProblemValue) (q after : List ℕ) (o : ℕ) → IsValid p (q ++ o ∷ after) → IsValid p q × IsChoice p (covered_by p q) o
 unfolding IsValid covered_by
 front p q after o v = let t = valid_split p [] q (o ∷ after) v in (t.0, t.1.0)
 
-chosen_path : (p : Cover) (s : Place) (q after : List ℕ) (o : ℕ) → Fits p s → s.path ≡ q ++ o ∷ after → IsChosen p s q o
+chosen_path : (p : ProblemValue) (s : StateValue) (q after : List ℕ) (o : ℕ) → Fits p s → s.path ≡ q ++ o ∷ after → IsChosen p s q o
 chosen_path p s q after o f e =
     let v = subst (λ r. IsValid p r) e (fits_valid p s.label s.path s.cursor f) in
     let t = front p q after o v in
@@ -120,7 +120,7 @@ chosen_path p s q after o f e =
           let b = ap (λ r. rank p (at s.label r s.cursor)) e in omega arith;
     }
 
-chosen_cursor : (p : Cover) (l : Label) (path : List ℕ) (o : ℕ) → FitsAt p l path (At o) → IsChosen p (at l path (At o)) path o
+chosen_cursor : (p : ProblemValue) (l : Label) (path : List ℕ) (o : ℕ) → FitsAt p l path (At o) → IsChosen p (at l path (At o)) path o
 chosen_cursor p X5 path o f = record { valid = f.0; choice = f.1; later = λ k l. level_rank p path o k f.0 l }
 chosen_cursor p X6 path o f = record { valid = f.0; choice = f.1; later = λ k l. left_before p path o k f.0 l }
 chosen_cursor p X1 path o f = absurd f
@@ -131,7 +131,7 @@ chosen_cursor p X7 path o f = absurd f
 chosen_cursor p X8 path o f = absurd f
 chosen_cursor p Done path o f = absurd f
 
-chosen_past : (p : Cover) (l : Label) (path : List ℕ) (k : Cursor) (n o : ℕ) (rest q : List ℕ) → FitsAt p l path k → q ≡ path ++ take n (option_of k) → drop n (option_of k) ≡ o ∷ rest → IsChosen p (at l path k) q o
+chosen_past : (p : ProblemValue) (l : Label) (path : List ℕ) (k : Cursor) (n o : ℕ) (rest q : List ℕ) → FitsAt p l path k → q ≡ path ++ take n (option_of k) → drop n (option_of k) ≡ o ∷ rest → IsChosen p (at l path k) q o
 chosen_past p l path cursor.None zero o rest q f e g = absurd (cc)
 chosen_past p l path cursor.None (suc n) o rest q f e g = absurd (cc)
 chosen_past p l path Past zero o rest q f e g = absurd (cc)
@@ -146,7 +146,7 @@ chosen_past p l path (At t) (suc n) o rest q f e g = nothing n g
     nothing zero g = absurd (cc)
     nothing (suc n) g = absurd (cc)
 
-pub chosen_is : (p : Cover) (s : Place) (level o : ℕ) (rest : List ℕ) → Fits p s → drop level (choices s) ≡ o ∷ rest → IsChosen p s (take level (choices s)) o
+pub chosen_is : (p : ProblemValue) (s : StateValue) (level o : ℕ) (rest : List ℕ) → Fits p s → drop level (choices s) ≡ o ∷ rest → IsChosen p s (take level (choices s)) o
 chosen_is p s level o rest f e = step (level_in s.path (option_of s.cursor) level o rest e)
   where
     step : ((after : List ℕ) × (s.path ≡ take level (choices s) ++ o ∷ after)) ⊎ ((n : ℕ) × (take level (choices s) ≡ s.path ++ take n (option_of s.cursor)) × (drop n (option_of s.cursor) ≡ o ∷ rest)) → IsChosen p s (take level (choices s)) o
@@ -154,7 +154,7 @@ chosen_is p s level o rest f e = step (level_in s.path (option_of s.cursor) leve
     step (inr a) = chosen_past p s.label s.path s.cursor a.0 o rest (take level (choices s)) f a.1 a.2
 
 -- what is said of an option that is untried
-pub record IsUntried (p : Cover) (s end : Place) (path : List ℕ) : Type 0 where
+pub record IsUntried (p : ProblemValue) (s end : StateValue) (path : List ℕ) : Type 0 where
   pub cut : IsCut p path
   pub later : ComesBefore p s (cut_state path)
   pub before_end : ComesBefore p (cut_state path) end
@@ -163,9 +163,9 @@ and_parts : (a b : Bool) → (a && b) ≡ true → (a ≡ true) × (b ≡ true)
 and_parts true b h = (refl, h)
 and_parts false b h = absurd (cc)
 
-untried_one : (p : Cover) (s end : Place) (q : List ℕ) (o k : ℕ) → Fits p s → Fits p end → IsChosen p s q o → has (filter (λ k. nat_lt o k && comes_before p (cut_state (q ++ k ∷ [])) end) (left p q)) k ≡ true → IsUntried p s end (q ++ k ∷ [])
+untried_one : (p : ProblemValue) (s end : StateValue) (q : List ℕ) (o k : ℕ) → Fits p s → Fits p end → IsChosen p s q o → has (filter (λ k. nat_lt o k && comes_before p (cut_state (q ++ k ∷ [])) end) (remaining_after p q)) k ≡ true → IsUntried p s end (q ++ k ∷ [])
 untried_one p s end q o k f g c h =
-    let a = has_filter_in (λ k. nat_lt o k && comes_before p (cut_state (q ++ k ∷ [])) end) (left p q) k h in
+    let a = has_filter_in (λ k. nat_lt o k && comes_before p (cut_state (q ++ k ∷ [])) end) (remaining_after p q) k h in
     let b = and_parts (nat_lt o k) (comes_before p (cut_state (q ++ k ∷ [])) end) a.0 in
     let l : o < k = ltb-true o k b.0 in
     let choice : IsChoice p (covered_by p q) k = record { active = c.choice.active; left = a.1 } in
@@ -178,7 +178,7 @@ untried_one p s end q o k f g c h =
       before_end = rank_comes p (cut_state (q ++ k ∷ [])) end (cut_fits p (q ++ k ∷ []) cut) g (test_rank p (cut_state (q ++ k ∷ [])) end b.1);
     }
 
-pub untried_is : (p : Cover) (s end : Place) → Fits p s → Fits p end → (level k : ℕ) → has (untried p end level s) k ≡ true → IsUntried p s end (take level (choices s) ++ k ∷ [])
+pub untried_is : (p : ProblemValue) (s end : StateValue) → Fits p s → Fits p end → (level k : ℕ) → has (untried p end level s) k ≡ true → IsUntried p s end (take level (choices s) ++ k ∷ [])
 untried_is p s end f g level k h = look (drop level (choices s)) refl h
   where
     look : (rest : List ℕ) → drop level (choices s) ≡ rest → has (untried_after p end (take level (choices s)) rest) k ≡ true → IsUntried p s end (take level (choices s) ++ k ∷ [])

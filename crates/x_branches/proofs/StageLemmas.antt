@@ -6,7 +6,7 @@ use Rattle.std.proofs.Common.{Ordering, Less, Equal, Greater}
 use Rattle.std.proofs.lemmas.Cmp.{ranked}
 use Rattle.std.proofs.lemmas.Bool.{cases_lt}
 use Rattle.std.proofs.lemmas.List.{length-map, get_or_append_left, get_or-map, get_or_at, take-append-le, take-map, length-take-le, take_all}
-use Rattle.cover_problem.specs.Problem.{Cover}
+use Rattle.cover_problem.specs.Problem.{ProblemValue}
 use Rattle.cover_problem.specs.Path.{IsValid, covered_by, covered_from}
 use Rattle.cover_problem.proofs.CoveringLemmas.{choice_has}
 use Rattle.cover_problem.proofs.CoverLemmas.{valid_split}
@@ -15,50 +15,50 @@ use Rattle.x_steps.specs.declared.state.Label.TheVariants.{X1, X2, X3, X4, X5, X
 use Rattle.x_steps.specs.declared.state.Cursor.{Cursor}
 use Rattle.x_steps.specs.declared.state.Cursor.TheVariants as cursor
 use Rattle.x_steps.specs.declared.state.Cursor.TheVariants.{At, Past}
-use Rattle.x_steps.specs.Place.{Place, at}
+use Rattle.x_steps.specs.StateValue.{StateValue, at}
 use Rattle.x_steps.specs.Steps.{FitsAt, Fits}
-use Rattle.x_steps.specs.Run.{between}
+use Rattle.x_steps.specs.Run.{steps_between}
 use Rattle.x_steps.specs.Rank.{digit_at, digits, number, rank}
 use Rattle.x_steps.proofs.RankLemmas.{AllBelow, number_less, short}
 use Rattle.x_steps.proofs.OrderLemmas.{below_digits, fits_valid}
 use Rattle.x_steps.proofs.RunLemmas.{rises_between, leads_to, rank_once}
-use Rattle.x_steps.proofs.SpanLemmas.{between_some}
+use Rattle.x_steps.proofs.BetweenLemmas.{steps_between_some}
 use Rattle.x_branches.specs.RunOrder.{ComesBefore}
 use Rattle.x_branches.specs.Stage.{IsShared, IsWithin, Shifts}
 
 -- ---- the run's order is that of the ranks
 
-pub comes_rank : (p : Cover) (s t : Place) → Fits p s → ComesBefore p s t → rank p s < rank p t
+pub comes_rank : (p : ProblemValue) (s t : StateValue) → Fits p s → ComesBefore p s t → rank p s < rank p t
 comes_rank p s t f b =
     let r = rises_between p b.0 s f b.2.goes_on 0 b.0 b.1 (omega arith) in
     let h = ap (rank p) b.2.ends in omega arith
 
-pub rank_comes : (p : Cover) (s t : Place) → Fits p s → Fits p t → rank p s < rank p t → ComesBefore p s t
-rank_comes p s t f g l = (between p s t, between_some p s t f g l, leads_to p s t f g (omega arith))
+pub rank_comes : (p : ProblemValue) (s t : StateValue) → Fits p s → Fits p t → rank p s < rank p t → ComesBefore p s t
+rank_comes p s t f g l = (steps_between p s t, steps_between_some p s t f g l, leads_to p s t f g (omega arith))
 
 -- ---- the answers of a comparison
 
-ranks_of : Cover → Place → Place → Ordering → Type 0
+ranks_of : ProblemValue → StateValue → StateValue → Ordering → Type 0
 ranks_of p s t r = MatchOrdering r (rank p s < rank p t) (s ≡ t) (rank p t < rank p s)
 
-pub order_less : (p : Cover) (s t : Place) → Fits p s → Fits p t → (r : Ordering) → MatchOrdering r (rank p s < rank p t) (s ≡ t) (rank p t < rank p s) → (r ≡ Less) ↔ ComesBefore p s t
+pub order_less : (p : ProblemValue) (s t : StateValue) → Fits p s → Fits p t → (r : Ordering) → MatchOrdering r (rank p s < rank p t) (s ≡ t) (rank p t < rank p s) → (r ≡ Less) ↔ ComesBefore p s t
 order_less p s t f g Less m = (λ e. rank_comes p s t f g m, λ b. refl)
 order_less p s t f g Equal m = (λ e. absurd (cc), λ b. let l = comes_rank p s t f b in let h = ap (rank p) m in absurd (omega arith))
 order_less p s t f g Greater m = (λ e. absurd (cc), λ b. let l = comes_rank p s t f b in absurd (omega arith))
 
-pub order_equal : (p : Cover) (s t : Place) → Fits p s → Fits p t → (r : Ordering) → MatchOrdering r (rank p s < rank p t) (s ≡ t) (rank p t < rank p s) → (r ≡ Equal) ↔ (s ≡ t)
+pub order_equal : (p : ProblemValue) (s t : StateValue) → Fits p s → Fits p t → (r : Ordering) → MatchOrdering r (rank p s < rank p t) (s ≡ t) (rank p t < rank p s) → (r ≡ Equal) ↔ (s ≡ t)
 order_equal p s t f g Less m = (λ e. absurd (cc), λ b. let h = ap (rank p) b in absurd (omega arith))
 order_equal p s t f g Equal m = (λ e. m, λ b. refl)
 order_equal p s t f g Greater m = (λ e. absurd (cc), λ b. let h = ap (rank p) b in absurd (omega arith))
 
-pub order_greater : (p : Cover) (s t : Place) → Fits p s → Fits p t → (r : Ordering) → MatchOrdering r (rank p s < rank p t) (s ≡ t) (rank p t < rank p s) → (r ≡ Greater) ↔ ComesBefore p t s
+pub order_greater : (p : ProblemValue) (s t : StateValue) → Fits p s → Fits p t → (r : Ordering) → MatchOrdering r (rank p s < rank p t) (s ≡ t) (rank p t < rank p s) → (r ≡ Greater) ↔ ComesBefore p t s
 order_greater p s t f g Less m = (λ e. absurd (cc), λ b. let l = comes_rank p t s g b in absurd (omega arith))
 order_greater p s t f g Equal m = (λ e. absurd (cc), λ b. let l = comes_rank p t s g b in let h = ap (rank p) m in absurd (omega arith))
 order_greater p s t f g Greater m = (λ e. rank_comes p t s g f m, λ b. refl)
 
 -- ---- digits
 
-digit_small : (p : Cover) (l : Label) (path : List ℕ) (k : Cursor) → FitsAt p l path k → digit_at (length p.options) l k < 4 * length p.options + 9
+digit_small : (p : ProblemValue) (l : Label) (path : List ℕ) (k : Cursor) → FitsAt p l path k → digit_at (length p.options) l k < 4 * length p.options + 9
 digit_small p X1 path cursor.None f = omega arith
 digit_small p X2 path cursor.None f = omega arith
 digit_small p X3 path cursor.None f = omega arith
@@ -71,7 +71,7 @@ digit_small p X8 path cursor.None f = omega arith
 digit_small p Done path cursor.None f = omega arith
 digit_small p _ path _ f = absurd f
 
-below_all : (p : Cover) (l : Label) (path : List ℕ) (k : Cursor) → FitsAt p l path k → AllBelow (4 * length p.options + 9) (digits (length p.options) l path k)
+below_all : (p : ProblemValue) (l : Label) (path : List ℕ) (k : Cursor) → FitsAt p l path k → AllBelow (4 * length p.options + 9) (digits (length p.options) l path k)
 unfolding IsValid
 below_all p l path k f = below_digits p [] path (digit_at (length p.options) l k) (fits_valid p l path k f) (digit_small p l path k f)
 
@@ -94,7 +94,7 @@ digits_parts m l path k n h =
     parts (digits m l path k) n (omega arith) ∙ ap (λ ds. ds ++ get_or (digits m l path k) n 0 ∷ drop (suc n) (digits m l path k)) a
 
 -- the first digit that differs decides
-digit_decides : (p : Cover) (l j : Label) (path other : List ℕ) (k i : Cursor) (n : ℕ) → FitsAt p l path k → n ≤ length path → n ≤ length other → take n path ≡ take n other → get_or (digits (length p.options) l path k) n 0 < get_or (digits (length p.options) j other i) n 0 → rank p (at l path k) < rank p (at j other i)
+digit_decides : (p : ProblemValue) (l j : Label) (path other : List ℕ) (k i : Cursor) (n : ℕ) → FitsAt p l path k → n ≤ length path → n ≤ length other → take n path ≡ take n other → get_or (digits (length p.options) l path k) n 0 < get_or (digits (length p.options) j other i) n 0 → rank p (at l path k) < rank p (at j other i)
 unfolding rank
 digit_decides p l j path other k i n f a b e h =
     let m = length p.options in
@@ -123,7 +123,7 @@ record IsNumber (m o : ℕ) : Type 0 where
   some : 0 < o
   within : o ≤ m
 
-choice_in : (p : Cover) (path : List ℕ) (n : ℕ) → IsValid p path → n < length path → IsNumber (length p.options) (get_or path n 0)
+choice_in : (p : ProblemValue) (path : List ℕ) (n : ℕ) → IsValid p path → n < length path → IsNumber (length p.options) (get_or path n 0)
 unfolding IsValid
 choice_in p path n v h =
     let w = subst (λ q. IsValid p q) (parts path n h) v in
@@ -133,13 +133,13 @@ choice_in p path n v h =
 
 -- ---- room for all numbers
 
-pub choice_shifts : (p : Cover) (s : Place) (n o d : ℕ) → Fits p s → n < length s.path → get_or s.path n 0 ≡ o → d ≡ 4 * o + 2 → o < 4294967296 → Shifts (length p.options) d (get_or (digits (length p.options) s.label s.path s.cursor) n 0)
+pub choice_shifts : (p : ProblemValue) (s : StateValue) (n o d : ℕ) → Fits p s → n < length s.path → get_or s.path n 0 ≡ o → d ≡ 4 * o + 2 → o < 4294967296 → Shifts (length p.options) d (get_or (digits (length p.options) s.label s.path s.cursor) n 0)
 choice_shifts p s n o d f h e g l =
     let x = digit_in (length p.options) s.label s.path s.cursor n h in
     let t = choice_in p s.path n (fits_valid p s.label s.path s.cursor f) h in
     inl (omega arith, omega arith, omega (arith, t.within))
 
-own_shifts : (p : Cover) (l : Label) (path : List ℕ) (k : Cursor) → FitsAt p l path k → IsWithin k → Shifts (length p.options) (digit_at 4294967296 l k) (digit_at (length p.options) l k)
+own_shifts : (p : ProblemValue) (l : Label) (path : List ℕ) (k : Cursor) → FitsAt p l path k → IsWithin k → Shifts (length p.options) (digit_at 4294967296 l k) (digit_at (length p.options) l k)
 own_shifts p X1 path cursor.None f w = inl (refl, omega arith, omega arith)
 own_shifts p X2 path cursor.None f w = inl (refl, omega arith, omega arith)
 own_shifts p X3 path cursor.None f w = inl (refl, omega arith, omega arith)
@@ -152,7 +152,7 @@ own_shifts p X8 path cursor.None f w = inr (omega arith, omega arith)
 own_shifts p Done path cursor.None f w = inr (omega arith, omega arith)
 own_shifts p _ path _ f w = absurd f
 
-pub end_shifts : (p : Cover) (s : Place) (n d : ℕ) → Fits p s → n ≤ length s.path → length s.path ≤ n → d ≡ digit_at 4294967296 s.label s.cursor → IsWithin s.cursor → Shifts (length p.options) d (get_or (digits (length p.options) s.label s.path s.cursor) n 0)
+pub end_shifts : (p : ProblemValue) (s : StateValue) (n d : ℕ) → Fits p s → n ≤ length s.path → length s.path ≤ n → d ≡ digit_at 4294967296 s.label s.cursor → IsWithin s.cursor → Shifts (length p.options) d (get_or (digits (length p.options) s.label s.path s.cursor) n 0)
 end_shifts p s n d f a b e w =
     let x = digit_last (length p.options) s.label s.path s.cursor n (omega arith) in
     rw (e, x) (own_shifts p s.label s.path s.cursor f w)
@@ -170,7 +170,7 @@ shifted_same m c d x y (inr a) (inl b) l = let e = a.0 in let g = a.1 in let f =
 shifted_same m c d x y (inr a) (inr b) l = let e = a.0 in let f = b.0 in omega arith
 
 -- no step of its own stands where what lies below an option does
-own_not_below : (p : Cover) (l : Label) (path : List ℕ) (k : Cursor) (o : ℕ) → FitsAt p l path k → 0 < o → o ≤ length p.options → digit_at (length p.options) l k ≡ 4 * o + 2 → ⊥
+own_not_below : (p : ProblemValue) (l : Label) (path : List ℕ) (k : Cursor) (o : ℕ) → FitsAt p l path k → 0 < o → o ≤ length p.options → digit_at (length p.options) l k ≡ 4 * o + 2 → ⊥
 own_not_below p X1 path cursor.None o f a b e = omega arith
 own_not_below p X2 path cursor.None o f a b e = omega arith
 own_not_below p X3 path cursor.None o f a b e = omega arith
@@ -183,7 +183,7 @@ own_not_below p X8 path cursor.None o f a b e = omega arith
 own_not_below p Done path cursor.None o f a b e = omega arith
 own_not_below p _ path _ o f a b e = f
 
-same_rank : (p : Cover) (s t : Place) (n : ℕ) → IsShared s.path t.path n → n ≡ length s.path → n ≡ length t.path → get_or (digits (length p.options) s.label s.path s.cursor) n 0 ≡ get_or (digits (length p.options) t.label t.path t.cursor) n 0 → rank p s ≡ rank p t
+same_rank : (p : ProblemValue) (s t : StateValue) (n : ℕ) → IsShared s.path t.path n → n ≡ length s.path → n ≡ length t.path → get_or (digits (length p.options) s.label s.path s.cursor) n 0 ≡ get_or (digits (length p.options) t.label t.path t.cursor) n 0 → rank p s ≡ rank p t
 unfolding rank
 same_rank p s t n h a b e =
     let q : s.path ≡ t.path = sym (take_all n s.path (omega arith)) ∙ h.same ∙ take_all n t.path (omega arith) in
@@ -191,7 +191,7 @@ same_rank p s t n h a b e =
     ap₂ (λ (q : List ℕ) (d : ℕ). number (4 * length p.options + 9) (suc p.primary) (map (λ o. 4 * o + 2) q ++ d ∷ [])) q d
 
 -- the same digit where they part: they are one state
-digit_same : (p : Cover) (s t : Place) (n : ℕ) → Fits p s → Fits p t → IsShared s.path t.path n → get_or (digits (length p.options) s.label s.path s.cursor) n 0 ≡ get_or (digits (length p.options) t.label t.path t.cursor) n 0 → s ≡ t
+digit_same : (p : ProblemValue) (s t : StateValue) (n : ℕ) → Fits p s → Fits p t → IsShared s.path t.path n → get_or (digits (length p.options) s.label s.path s.cursor) n 0 ≡ get_or (digits (length p.options) t.label t.path t.cursor) n 0 → s ≡ t
 digit_same p s t n f g h e = step (cases_lt n (length s.path)) (cases_lt n (length t.path))
   where
     step : (n < length s.path) ⊎ (length s.path ≤ n) → (n < length t.path) ⊎ (length t.path ≤ n) → s ≡ t
@@ -213,7 +213,7 @@ digit_same p s t n f g h e = step (cases_lt n (length s.path)) (cases_lt n (leng
 
 -- ---- the comparison
 
-pub stages_order : (p : Cover) (s t : Place) (n c d : ℕ) (r : Ordering) → Fits p s → Fits p t → IsShared s.path t.path n → Shifts (length p.options) c (get_or (digits (length p.options) s.label s.path s.cursor) n 0) → Shifts (length p.options) d (get_or (digits (length p.options) t.label t.path t.cursor) n 0) → r ≡ nat_cmp c d → MatchOrdering r (rank p s < rank p t) (s ≡ t) (rank p t < rank p s)
+pub stages_order : (p : ProblemValue) (s t : StateValue) (n c d : ℕ) (r : Ordering) → Fits p s → Fits p t → IsShared s.path t.path n → Shifts (length p.options) c (get_or (digits (length p.options) s.label s.path s.cursor) n 0) → Shifts (length p.options) d (get_or (digits (length p.options) t.label t.path t.cursor) n 0) → r ≡ nat_cmp c d → MatchOrdering r (rank p s < rank p t) (s ≡ t) (rank p t < rank p s)
 stages_order p s t n c d r f g h a b e = step r (ranked c d r e)
   where
     step : (r : Ordering) → MatchOrdering r (c < d) (c ≡ d) (d < c) → MatchOrdering r (rank p s < rank p t) (s ≡ t) (rank p t < rank p s)
@@ -222,12 +222,12 @@ stages_order p s t n c d r f g h a b e = step r (ranked c d r e)
     step Greater m = digit_decides p t.label s.label t.path s.path t.cursor s.cursor n g h.within_other h.within (sym h.same) (shifted_less (length p.options) d c _ _ b a m)
 
 -- the comparison of two states, as its three answers
-pub record Orders (p : Cover) (s t : Place) (r : Ordering) : Type 0 where
+pub record Orders (p : ProblemValue) (s t : StateValue) (r : Ordering) : Type 0 where
   pub less : (r ≡ Less) ↔ ComesBefore p s t
   pub equal : (r ≡ Equal) ↔ (s ≡ t)
   pub greater : (r ≡ Greater) ↔ ComesBefore p t s
 
-pub orders : (p : Cover) (s t : Place) (n c d : ℕ) (r : Ordering) → Fits p s → Fits p t → IsShared s.path t.path n → Shifts (length p.options) c (get_or (digits (length p.options) s.label s.path s.cursor) n 0) → Shifts (length p.options) d (get_or (digits (length p.options) t.label t.path t.cursor) n 0) → r ≡ nat_cmp c d → Orders p s t r
+pub orders : (p : ProblemValue) (s t : StateValue) (n c d : ℕ) (r : Ordering) → Fits p s → Fits p t → IsShared s.path t.path n → Shifts (length p.options) c (get_or (digits (length p.options) s.label s.path s.cursor) n 0) → Shifts (length p.options) d (get_or (digits (length p.options) t.label t.path t.cursor) n 0) → r ≡ nat_cmp c d → Orders p s t r
 orders p s t n c d r f g h a b e =
     let m = stages_order p s t n c d r f g h a b e in
     record { less = order_less p s t f g r m; equal = order_equal p s t f g r m; greater = order_greater p s t f g r m }

@@ -1,15 +1,15 @@
 -- A branch: the part of a run from one cut up to another.
 use Rattle.std.specs.Prelude.{ℕ, Option, Some, List}
 use Rattle.std.specs.Prelude as prelude
-use Rattle.x_steps.specs.Place.{Place, start, done}
+use Rattle.x_steps.specs.StateValue.{StateValue, start, done}
 use Rattle.x_branches.specs.Cut.{cut_state, CutPath}
 
 -- the first state of a branch: its low cut's, or X1
-abbrev pub first_of : Option CutPath → Place
+abbrev pub first_of : Option CutPath → StateValue
 first_of prelude.None = start
 first_of (Some cut) = cut_state cut.path
 
 -- the state that ends a branch and isn't in it: its high cut's, or Done
-abbrev pub end_of : Option CutPath → Place
+abbrev pub end_of : Option CutPath → StateValue
 end_of prelude.None = done
 end_of (Some cut) = cut_state cut.path

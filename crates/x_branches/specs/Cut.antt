@@ -3,12 +3,12 @@
 -- Example: in the small problem the cut 4 5 has the state X5 at option 5 with the path 4.
 use Rattle.std.specs.Prelude.{ℕ, ◌<◌, Option, Some, List, [], ◌∷◌, ◌++◌, length}
 use Rattle.std.specs.Prelude as prelude
-use Rattle.cover_problem.specs.Problem.{Cover}
+use Rattle.cover_problem.specs.Problem.{ProblemValue}
 use Rattle.cover_problem.specs.Path.{IsValid}
 use Rattle.x_steps.specs.declared.state.Label.TheVariants.{X5}
 use Rattle.x_steps.specs.declared.state.Cursor.{Cursor}
 use Rattle.x_steps.specs.declared.state.Cursor.TheVariants.{At}
-use Rattle.x_steps.specs.Place.{Place, at, start}
+use Rattle.x_steps.specs.StateValue.{StateValue, at, start}
 use Rattle.x_steps.specs.Steps.{split_last}
 
 -- the option of a cursor, if it is at one
@@ -17,24 +17,24 @@ option_of (At o) = o ∷ []
 option_of k = []
 
 -- the choices of a state: its path, and then the cursor's option if there is one
-abbrev pub choices : Place → List ℕ
+abbrev pub choices : StateValue → List ℕ
 choices s = s.path ++ option_of s.cursor
 
 -- X5 at the last choice, after the others; X1 where there are no choices
-abbrev pub parted : Option (List ℕ × ℕ) → Place
-parted prelude.None = start
-parted (Some s) = at X5 s.0 (At s.1)
+abbrev pub state_after_choices : Option (List ℕ × ℕ) → StateValue
+state_after_choices prelude.None = start
+state_after_choices (Some s) = at X5 s.0 (At s.1)
 
 -- the state of a cut: all but the last choice are its path, and the last its cursor
-unfoldable pub cut_state : List ℕ → Place
-cut_state path = parted (split_last path)
+unfoldable pub cut_state : List ℕ → StateValue
+cut_state path = state_after_choices (split_last path)
 
 -- a cut: a path that isn't empty, and that the search can take
-pub record IsCut (p : Cover) (path : List ℕ) : Type 0 where
+pub record IsCut (p : ProblemValue) (path : List ℕ) : Type 0 where
   pub some : 0 < length path
   pub valid : IsValid p path
 
 -- a problem with a path of its search
 pub record CutPath : Type 0 where
-  pub problem : Cover
+  pub problem : ProblemValue
   pub path : List ℕ

@@ -1,7 +1,7 @@
 //! Which of two states of one search comes first.
 ghost use Rattle.std.specs.Prelude.{◌≡◌, ◌<◌, ◌≤◌, ◌↔◌, ◌+◌, ◌*◌, ◌^◌, length, vec_len, slice_index_or};
-ghost use Rattle.cover_problem.specs.Problem.{Cover};
-ghost use Rattle.x_steps.specs.Shown.{place};
+ghost use Rattle.cover_problem.specs.Problem.{ProblemValue};
+ghost use Rattle.x_steps.specs.StateView.{state_value};
 ghost use Rattle.x_steps.specs.Steps.{Fits};
 ghost use Rattle.x_steps.specs.Rank.{digits, digit_at};
 ghost use Rattle.x_branches.specs.RunOrder.{ComesBefore};
@@ -52,8 +52,8 @@ fn stage_of(label: Label, cursor: Cursor) -> u64
 
 /// Where a state stands among those with the same first choices.
 fn stage(state: &State, level: usize) -> u64
-    requires { level ≤ length (place state.now).path }
-    ensures { (p : Cover) → Fits p (place state.now) → Shifts (length p.options) result (slice_index_or (digits (length p.options) state.now.label (place state.now).path state.now.cursor) level 0) }
+    requires { level ≤ length (state_value state.now).path }
+    ensures { (p : ProblemValue) → Fits p (state_value state.now) → Shifts (length p.options) result (slice_index_or (digits (length p.options) state.now.label (state_value state.now).path state.now.cursor) level 0) }
 {
     if level < state.path.len() {
         stage_below(state.path[level])
@@ -65,12 +65,12 @@ fn stage(state: &State, level: usize) -> u64
 /// Which of two states of one search comes first on its run: by the first choice that differs, and by the step where they
 /// share their choices.
 pub fn run_order(one: &State, other: &State) -> Ordering
-    ensures less { (p : Cover) → Fits p (place one.now) → Fits p (place other.now) →
-        ((result ≡ Ordering.Less) ↔ ComesBefore p (place one.now) (place other.now)) }
-    ensures equal { (p : Cover) → Fits p (place one.now) → Fits p (place other.now) →
-        ((result ≡ Ordering.Equal) ↔ (place one.now ≡ place other.now)) }
-    ensures greater { (p : Cover) → Fits p (place one.now) → Fits p (place other.now) →
-        ((result ≡ Ordering.Greater) ↔ ComesBefore p (place other.now) (place one.now)) }
+    ensures less { (p : ProblemValue) → Fits p (state_value one.now) → Fits p (state_value other.now) →
+        ((result ≡ Ordering.Less) ↔ ComesBefore p (state_value one.now) (state_value other.now)) }
+    ensures equal { (p : ProblemValue) → Fits p (state_value one.now) → Fits p (state_value other.now) →
+        ((result ≡ Ordering.Equal) ↔ (state_value one.now ≡ state_value other.now)) }
+    ensures greater { (p : ProblemValue) → Fits p (state_value one.now) → Fits p (state_value other.now) →
+        ((result ≡ Ordering.Greater) ↔ ComesBefore p (state_value other.now) (state_value one.now)) }
 {
     let level = shared(&one.path, &other.path);
     stage(one, level).cmp(&stage(other, level))

@@ -4,7 +4,7 @@ use Rattle.std.specs.Prelude as prelude
 use Rattle.std.proofs.lemmas.List.{same_from_push}
 use Rattle.std.proofs.lemmas.Bool.{ltb-true}
 use Rattle.cover_problem.specs.Lists.{has, below, last_of}
-use Rattle.cover_problem.specs.Problem.{Cover, IsProblem, option_at}
+use Rattle.cover_problem.specs.Problem.{ProblemValue, IsProblem, option_at}
 use Rattle.cover_problem.specs.Covering.{active, choice, list_of}
 use Rattle.cover_problem.specs.Path.{IsChoice, IsValid, taken, covered_by, others}
 use Rattle.cover_problem.specs.Coverable.{IsUncovered, CanCover}
@@ -14,8 +14,8 @@ use Rattle.x_steps.specs.declared.state.Label.TheVariants.{X1, X2, X3, X4, X5, X
 use Rattle.x_steps.specs.declared.state.Cursor.{Cursor}
 use Rattle.x_steps.specs.declared.state.Cursor.TheVariants as cursor
 use Rattle.x_steps.specs.declared.state.Cursor.TheVariants.{At, Past}
-use Rattle.x_steps.specs.Place.{Place, at, start}
-use Rattle.x_steps.specs.Steps.{Fits, FitsAt, IsOpen, is_open, item_after, left, split_last, covered_in, IsBefore}
+use Rattle.x_steps.specs.StateValue.{StateValue, at, start}
+use Rattle.x_steps.specs.Steps.{Fits, FitsAt, IsOpen, is_open, item_after, remaining_after, split_last, covered_in, IsBefore}
 use Rattle.x_steps.specs.Before.{prev, prev_at, came_from}
 use Rattle.x_steps.specs.Machine.{Keeps, Position, GoesBack}
 use Rattle.x_steps.proofs.Neighbours.{fits_prev, split_last_push}
@@ -23,12 +23,12 @@ use Rattle.x_steps.proofs.RunLemmas.{prev_before}
 use Rattle.x_steps.proofs.MachineLemmas.{emptied, mid_is}
 
 -- a step back came to t, and the machine keeps what it has to
-pub record WentBack (p : Cover) (s t : Place) (subject : Cover) (covered : List ℕ) (room : ℕ) : Type 0 where
+pub record WentBack (p : ProblemValue) (s t : StateValue) (subject : ProblemValue) (covered : List ℕ) (room : ℕ) : Type 0 where
   pub keeps : Keeps p t subject covered room
   pub steps : t ≡ prev p s
   pub fit : Fits p s
 
-module _ (p : Cover) (s t : Place) (subject : Cover) (covered : List ℕ) (room : ℕ) (new_subject : Cover) (new_covered : List ℕ) (new_room : ℕ) where
+module _ (p : ProblemValue) (s t : StateValue) (subject : ProblemValue) (covered : List ℕ) (room : ℕ) (new_subject : ProblemValue) (new_covered : List ℕ) (new_room : ℕ) where
   went_back : Keeps p s subject covered room → new_subject ≡ subject → room ≤ new_room → t ≡ prev p s → new_covered ≡ covered_in p t → WentBack p s t new_subject new_covered new_room
   went_back k e r n c = record {
     keeps = record {
@@ -44,31 +44,31 @@ module _ (p : Cover) (s t : Place) (subject : Cover) (covered : List ℕ) (room 
 
 -- ---- what fits at a label, whatever is known of the cursor
 
-pub valid_at_X2 : (p : Cover) (path : List ℕ) (k : Cursor) → FitsAt p X2 path k → IsValid p path
+pub valid_at_X2 : (p : ProblemValue) (path : List ℕ) (k : Cursor) → FitsAt p X2 path k → IsValid p path
 valid_at_X2 p path cursor.None f = f
 valid_at_X2 p path (At o) f = absurd f
 valid_at_X2 p path Past f = absurd f
 
-pub open_at_X5 : (p : Cover) (path : List ℕ) (k : Cursor) → FitsAt p X5 path k → IsOpen p path
+pub open_at_X5 : (p : ProblemValue) (path : List ℕ) (k : Cursor) → FitsAt p X5 path k → IsOpen p path
 open_at_X5 p path cursor.None f = absurd f
 open_at_X5 p path (At o) f = f.1.active
 open_at_X5 p path Past f = f.1
 
-none_at_Done : (p : Cover) (path : List ℕ) (k : Cursor) → FitsAt p Done path k → path ≡ []
+none_at_Done : (p : ProblemValue) (path : List ℕ) (k : Cursor) → FitsAt p Done path k → path ≡ []
 none_at_Done p path cursor.None f = f
 none_at_Done p path (At o) f = absurd f
 none_at_Done p path Past f = absurd f
 
-module _ (p : Cover) (path : List ℕ) (at_cursor : Cursor) (subject : Cover) (covered : List ℕ) (room : ℕ) where
+module _ (p : ProblemValue) (path : List ℕ) (at_cursor : Cursor) (subject : ProblemValue) (covered : List ℕ) (room : ℕ) where
   -- what the machine keeps at a label, whatever the cursor
   abbrev Here : Label → Type 0
   Here l = Keeps p (at l path at_cursor) subject covered room
 
-  abbrev Back : Label → Place → Type 0
+  abbrev Back : Label → StateValue → Type 0
   Back l t = WentBack p (at l path at_cursor) t subject covered room
 
   -- the same with another table
-  abbrev BackWith : Label → Place → Cover → List ℕ → Type 0
+  abbrev BackWith : Label → StateValue → ProblemValue → List ℕ → Type 0
   BackWith l t new_subject new_covered = WentBack p (at l path at_cursor) t new_subject new_covered room
 
   -- X2 with no choice
@@ -91,7 +91,7 @@ module _ (p : Cover) (path : List ℕ) (at_cursor : Cursor) (subject : Cover) (c
     path_fits = k.path_fits;
   }
 
-  pub to_option : (new_path : List ℕ) (o : ℕ) (new_room count : ℕ) (new_subject : Cover) (mid : List ℕ) → path ≡ new_path ++ o ∷ [] → new_room ≡ room → new_subject ≡ subject
+  pub to_option : (new_path : List ℕ) (o : ℕ) (new_room count : ℕ) (new_subject : ProblemValue) (mid : List ℕ) → path ≡ new_path ++ o ∷ [] → new_room ≡ room → new_subject ≡ subject
       → count ≡ length (option_at p o) - 1 → (back : List ℕ) × (covered ≡ mid ++ back) × (length back ≡ count) → Here X2
       → WentBack p (at X2 path at_cursor) (at X5 new_path (At o)) new_subject mid new_room
   unfolding prev covered_in
@@ -130,15 +130,15 @@ module _ (p : Cover) (path : List ℕ) (at_cursor : Cursor) (subject : Cover) (c
         rw (item_is k, k.same) (u.some, u.within)
 
     -- its list has the options left after the path
-    pub list_is : Here X5 → list_of subject covered item ≡ left p path
+    pub list_is : Here X5 → list_of subject covered item ≡ remaining_after p path
     list_is k =
         ap (λ q. list_of q covered item) k.same ∙ ap (λ c. list_of p c item) (chosen_last k) ∙ ap (λ i. list_of p (covered_by p path ++ item_after p path ∷ []) i) (item_is k)
         ∙ list_covered p (covered_by p path) (item_after p path) [] (uncovered_item k).uncovered
 
-    pub below_is : (o : ℕ) (found : Option ℕ) → found ≡ below o (list_of subject covered item) → Here X5 → found ≡ below o (left p path)
+    pub below_is : (o : ℕ) (found : Option ℕ) → found ≡ below o (list_of subject covered item) → Here X5 → found ≡ below o (remaining_after p path)
     below_is o found e k = e ∙ ap (below o) (list_is k)
 
-    pub last_is : (found : Option ℕ) → found ≡ last_of (list_of subject covered item) → Here X5 → found ≡ last_of (left p path)
+    pub last_is : (found : Option ℕ) → found ≡ last_of (list_of subject covered item) → Here X5 → found ≡ last_of (remaining_after p path)
     last_is found e k = e ∙ ap last_of (list_is k)
 
     pub list_has : (o : ℕ) → at_cursor ≡ At o → Here X5 → has (list_of subject covered item) o ≡ true
@@ -147,7 +147,7 @@ module _ (p : Cover) (path : List ℕ) (at_cursor : Cursor) (subject : Cover) (c
         subst (λ l. has l o ≡ true) (sym (list_is k)) f.1.left
 
     -- before X5 nothing was left: X4
-    pub to_open : (new_subject : Cover) (new_covered : List ℕ) → prev p (at X5 path at_cursor) ≡ came_from path prelude.None → new_subject ≡ subject → covered ≡ new_covered ++ item ∷ []
+    pub to_open : (new_subject : ProblemValue) (new_covered : List ℕ) → prev p (at X5 path at_cursor) ≡ came_from path prelude.None → new_subject ≡ subject → covered ≡ new_covered ++ item ∷ []
         → Here X5 → BackWith X5 (at X4 path cursor.None) new_subject new_covered
     unfolding covered_in
     to_open new_subject new_covered came same e k =
@@ -170,7 +170,7 @@ module _ (p : Cover) (path : List ℕ) (at_cursor : Cursor) (subject : Cover) (c
           subst (λ q. CanCover q covered (others item (option_at p o))) (sym k.same) (subst (λ i. CanCover p covered (others i (option_at p o))) (sym (item_is k))
           (subst (λ c. CanCover p c (others (item_after p path) (option_at p o))) (sym (chosen_last k)) t))
 
-      pub to_retry : (new_subject : Cover) (new_covered : List ℕ) → new_subject ≡ subject → new_covered ≡ covered ++ others item (option_at p o)
+      pub to_retry : (new_subject : ProblemValue) (new_covered : List ℕ) → new_subject ≡ subject → new_covered ≡ covered ++ others item (option_at p o)
           → Here X5 → BackWith X5 (at X6 path (At o)) new_subject new_covered
       unfolding covered_in
       to_retry new_subject new_covered same list k =
@@ -225,7 +225,7 @@ module _ (p : Cover) (path : List ℕ) (at_cursor : Cursor) (subject : Cover) (c
         let sound : IsProblem subject = subst IsProblem (sym k.same) k.sound in
         subst (IsUncovered subject covered) (sym e) (active_item subject covered (choice subject covered) sound (choice_active subject covered ready))
 
-    pub to_close : (item : ℕ) (new_subject : Cover) (new_covered : List ℕ) → item ≡ choice subject covered → new_subject ≡ subject → new_covered ≡ covered ++ item ∷ [] → Here X8
+    pub to_close : (item : ℕ) (new_subject : ProblemValue) (new_covered : List ℕ) → item ≡ choice subject covered → new_subject ≡ subject → new_covered ≡ covered ++ item ∷ [] → Here X8
         → BackWith X8 (at X7 path cursor.None) new_subject new_covered
     unfolding prev covered_in
     to_close item new_subject new_covered e same list k =
@@ -247,33 +247,33 @@ IsLater X1 = ⊥
 IsLater _ = Unit {0}
 
 -- what a step back says, from the state inside the machine
-pub goes_back : (p : Cover) (s t : Place) (subject : Cover) (covered : List ℕ) (room : ℕ) (l : Label) (old : Position) → record { problem = p; state = s } ≡ old → s.label ≡ l → IsLater l
+pub goes_back : (p : ProblemValue) (s t : StateValue) (subject : ProblemValue) (covered : List ℕ) (room : ℕ) (l : Label) (old : Position) → record { problem = p; state = s } ≡ old → s.label ≡ l → IsLater l
     → WentBack p (at l s.path s.cursor) t subject covered room → GoesBack old (record { problem = p; state = t })
 goes_back p s t subject covered room l old e m later w =
     let v : WentBack p s t subject covered room = subst (λ l. WentBack p (at l s.path s.cursor) t subject covered room) (sym m) w in
-    let apart : s ≡ start → ⊥ = λ f. subst IsLater (sym m ∙ ap (λ (s : Place). s.label) f) later in
+    let apart : s ≡ start → ⊥ = λ f. subst IsLater (sym m ∙ ap (λ (s : StateValue). s.label) f) later in
     subst (λ v. GoesBack v (record { problem = p; state = t })) e
     (record { problem = refl; state = v.steps; before = subst (λ t. IsBefore p t s) (sym v.steps) (prev_before p s v.fit apart) })
 
 -- ---- which state came before X5
 
-pub came_before : (m : Position) (o : ℕ) (found : Option ℕ) → m.state.label ≡ X5 → m.state.cursor ≡ At o → found ≡ below o (left m.problem m.state.path)
+pub came_before : (m : Position) (o : ℕ) (found : Option ℕ) → m.state.label ≡ X5 → m.state.cursor ≡ At o → found ≡ below o (remaining_after m.problem m.state.path)
     → prev m.problem m.state ≡ came_from m.state.path found
 unfolding prev
 came_before m o found at_label at_cursor e = rw (at_label, at_cursor, e) refl
 
-past_before : (p : Cover) (path : List ℕ) (k : Cursor) → ((o : ℕ) → k ≡ At o → ⊥) → prev_at p X5 path k ≡ came_from path (last_of (left p path))
+past_before : (p : ProblemValue) (path : List ℕ) (k : Cursor) → ((o : ℕ) → k ≡ At o → ⊥) → prev_at p X5 path k ≡ came_from path (last_of (remaining_after p path))
 past_before p path cursor.None never = refl
 past_before p path (At o) never = absurd (never o refl)
 past_before p path Past never = refl
 
-pub came_last : (m : Position) (found : Option ℕ) → m.state.label ≡ X5 → ((o : ℕ) → m.state.cursor ≡ At o → ⊥) → found ≡ last_of (left m.problem m.state.path)
+pub came_last : (m : Position) (found : Option ℕ) → m.state.label ≡ X5 → ((o : ℕ) → m.state.cursor ≡ At o → ⊥) → found ≡ last_of (remaining_after m.problem m.state.path)
     → prev m.problem m.state ≡ came_from m.state.path found
 unfolding prev
 came_last m found at_label never e = rw (at_label, e) (past_before m.problem m.state.path m.state.cursor never)
 
 -- the same, of the state inside the machine
-pub came_in : (p : Cover) (s : Place) (old : Position) (before found : Option ℕ) → record { problem = p; state = s } ≡ old → s.label ≡ X5 → prev old.problem old.state ≡ came_from old.state.path before
+pub came_in : (p : ProblemValue) (s : StateValue) (old : Position) (before found : Option ℕ) → record { problem = p; state = s } ≡ old → s.label ≡ X5 → prev old.problem old.state ≡ came_from old.state.path before
     → before ≡ found → prev p (at X5 s.path s.cursor) ≡ came_from s.path found
 came_in p s old before found e at_label came same =
     let inner : prev p s ≡ came_from s.path before = subst (λ v. prev v.problem v.state ≡ came_from v.state.path before) (sym e) came in

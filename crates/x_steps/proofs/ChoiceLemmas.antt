@@ -2,7 +2,7 @@
 use Rattle.std.proofs.Common.{◌≡◌, ℕ, ◌<◌, ◌≤◌, List, [], ◌∷◌, length, true, suc, is_some, nat_lt, lt-ltb, ◌⊎◌, inl, inr, Option, Some, None, IsSome, arith, refl, sym, ap, ◌∙◌, ◌-◌, subst}
 use Rattle.std.proofs.lemmas.Bool.{cases_lt}
 use Rattle.cover_problem.specs.Lists.{has, above, RisesFrom}
-use Rattle.cover_problem.specs.Problem.{Cover}
+use Rattle.cover_problem.specs.Problem.{ProblemValue}
 use Rattle.cover_problem.specs.Covering.{active, remaining, choice, list_of}
 use Rattle.cover_problem.proofs.ListLemmas.{above_is, above_none}
 use Rattle.cover_problem.proofs.CoveringLemmas.{active_rises, active_in, choice_unique, choice_active, list_uncovered}
@@ -12,7 +12,7 @@ some_of None h = absurd (h refl)
 some_of (Some x) h = refl
 
 -- of the active items up to `item` the first shortest is `best`, and it has `least` options left
-pub record Walks (p : Cover) (c : List ℕ) (item best least : ℕ) : Type 0 where
+pub record Walks (p : ProblemValue) (c : List ℕ) (item best least : ℕ) : Type 0 where
   pub here : has (active p c) item ≡ true
   pub among : has (active p c) best ≡ true
   pub within : best ≤ item
@@ -20,7 +20,7 @@ pub record Walks (p : Cover) (c : List ℕ) (item best least : ℕ) : Type 0 whe
   pub shortest : (i : ℕ) → has (active p c) i ≡ true → i ≤ item → least ≤ length (remaining p c i)
   pub first : (i : ℕ) → has (active p c) i ≡ true → i < best → least < length (remaining p c i)
 
-module _ (p : Cover) (c : List ℕ) where
+module _ (p : ProblemValue) (c : List ℕ) where
   pub walks_begin : (first : ℕ) → above 0 (active p c) ≡ Some first → Walks p c first first (length (remaining p c first))
   walks_begin first e =
       let a = above_is 0 1 (active p c) first (active_rises p c) e in
@@ -127,5 +127,5 @@ some_above [] r = refl
 some_above (x ∷ xs) r = rw (lt-ltb 0 x r.0) (sym (lt-ltb 0 (suc (length xs)) (omega arith)))
 
 -- whether an item is active
-pub active_some : (p : Cover) (c : List ℕ) → is_some (above 0 (active p c)) ≡ nat_lt 0 (length (active p c))
+pub active_some : (p : ProblemValue) (c : List ℕ) → is_some (above 0 (active p c)) ≡ nat_lt 0 (length (active p c))
 active_some p c = some_above (active p c) (active_rises p c)

@@ -3,13 +3,13 @@ pub mod CoverEach
 pub mod Neighbours
 pub mod RankLemmas
 pub mod RunLemmas
-pub mod SpanLemmas
+pub mod BetweenLemmas
 pub mod StateLemmas
 pub mod MachineLemmas
 pub mod BackLemmas
 pub mod ListingLemmas
 pub mod ReadLemmas
-pub mod MarkLemmas
+pub mod MarkedLemmas
 pub mod ResumeLemmas
 pub mod SecondLemmas
 pub mod Length

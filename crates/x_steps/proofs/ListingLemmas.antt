@@ -3,7 +3,7 @@ use Rattle.std.proofs.Common.{◌≡◌, ℕ, suc, ◌<◌, ◌≤◌, true, Opt
 use Rattle.std.proofs.lemmas.Bool.{le-ltb, lt-ltb}
 use Rattle.std.proofs.lemmas.List.{map-append, length-map}
 use Rattle.cover_problem.specs.Lists.{has, above, RisesFrom}
-use Rattle.cover_problem.specs.Problem.{Cover}
+use Rattle.cover_problem.specs.Problem.{ProblemValue}
 use Rattle.cover_problem.specs.Covering.{active, remaining, list_of}
 use Rattle.cover_problem.proofs.CoveringLemmas.{active_rises, active_in, list_uncovered}
 use Rattle.cover_problem.proofs.ListLemmas.{has_here, has_append_right, rises_weaker, rises_member}
@@ -109,7 +109,7 @@ module _ (all : List ℕ) (options : ℕ → List ℕ) (rises : RisesFrom 1 all)
     rows_all e = l.rows_are ∙ ap (map (λ i. (i, options i))) (lists_all all rises l.done next l.lists e)
 
 -- an active item, with the options of its list
-pub active_more : (p : Cover) (c : List ℕ) (rows : List (ℕ × List ℕ)) (next : Option ℕ) → ListsRows (active p c) (remaining p c) rows next
+pub active_more : (p : ProblemValue) (c : List ℕ) (rows : List (ℕ × List ℕ)) (next : Option ℕ) → ListsRows (active p c) (remaining p c) rows next
     → (item : ℕ) (after : Option ℕ) (found : List ℕ) → next ≡ Some item → after ≡ above item (active p c) → found ≡ list_of p c item
     → ListsRows (active p c) (remaining p c) (rows ++ (item, found) ∷ []) after
 active_more p c rows next l item after found e a f =

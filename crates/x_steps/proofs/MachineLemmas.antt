@@ -2,7 +2,7 @@
 use Rattle.std.proofs.Common.{◌≡◌, ℕ, suc, ◌-◌, ◌<◌, ◌≤◌, List, [], ◌∷◌, ◌++◌, length, true, false, nat_lt, Bool, Option, Some, arith, refl, sym, ap, ◌∙◌, subst, append-nil, length-append, if◌then◌else◌}
 use Rattle.std.proofs.lemmas.List.{same_from_push}
 use Rattle.cover_problem.specs.Lists.{has, above}
-use Rattle.cover_problem.specs.Problem.{Cover, IsProblem, option_at}
+use Rattle.cover_problem.specs.Problem.{ProblemValue, IsProblem, option_at}
 use Rattle.cover_problem.specs.Covering.{active, choice, list_of}
 use Rattle.cover_problem.specs.Path.{IsChoice, IsValid, covered_by, others}
 use Rattle.cover_problem.specs.Coverable.{IsUncovered, CanCover}
@@ -14,22 +14,22 @@ use Rattle.x_steps.specs.declared.state.Cursor.TheVariants as cursor
 use Rattle.x_steps.specs.declared.state.Cursor.TheVariants.{At, Past}
 use Rattle.x_steps.specs.declared.event.Event.{Event}
 use Rattle.x_steps.specs.declared.event.Event.TheVariants.{Moved, Visited, Finished}
-use Rattle.x_steps.specs.Place.{Place, at}
-use Rattle.x_steps.specs.Steps.{Fits, FitsAt, IsOpen, is_open, item_after, left, cursor_of, split_last, covered_in, next, event_of}
+use Rattle.x_steps.specs.StateValue.{StateValue, at}
+use Rattle.x_steps.specs.Steps.{Fits, FitsAt, IsOpen, is_open, item_after, remaining_after, cursor_of, split_last, covered_in, next, event_of}
 use Rattle.x_steps.specs.Machine.{Keeps, Position, Goes}
 use Rattle.x_steps.proofs.Neighbours.{fits_next, split_last_push}
 
 -- a step came to t, and the machine keeps what it has to
-pub record Went (p : Cover) (s t : Place) (event : Event) (subject : Cover) (covered : List ℕ) (room : ℕ) : Type 0 where
+pub record Went (p : ProblemValue) (s t : StateValue) (event : Event) (subject : ProblemValue) (covered : List ℕ) (room : ℕ) : Type 0 where
   pub keeps : Keeps p t subject covered room
   pub steps : t ≡ next p s
   pub tells : event ≡ event_of p s
 
 -- a state with a known label
-pub by_label : (P : Place → Type 0) (s : Place) (l : Label) → s.label ≡ l → P (at l s.path s.cursor) → P s
+pub by_label : (P : StateValue → Type 0) (s : StateValue) (l : Label) → s.label ≡ l → P (at l s.path s.cursor) → P s
 by_label P s l e h = subst (λ l. P (at l s.path s.cursor)) (sym e) h
 
-module _ (p : Cover) (s t : Place) (event : Event) (subject : Cover) (covered : List ℕ) (room : ℕ) (new_subject : Cover) (new_covered : List ℕ) (new_room : ℕ) where
+module _ (p : ProblemValue) (s t : StateValue) (event : Event) (subject : ProblemValue) (covered : List ℕ) (room : ℕ) (new_subject : ProblemValue) (new_covered : List ℕ) (new_room : ℕ) where
   went : Keeps p s subject covered room → new_subject ≡ subject → room ≤ new_room → t ≡ next p s → event ≡ event_of p s → new_covered ≡ covered_in p t → Went p s t event new_subject new_covered new_room
   went k e r n v c = record {
     keeps = record {
@@ -45,18 +45,18 @@ module _ (p : Cover) (s t : Place) (event : Event) (subject : Cover) (covered : 
 
 -- ---- what fits at a label, whatever is known of the cursor
 
-pub open_at_X4 : (p : Cover) (path : List ℕ) (k : Cursor) → FitsAt p X4 path k → IsOpen p path
+pub open_at_X4 : (p : ProblemValue) (path : List ℕ) (k : Cursor) → FitsAt p X4 path k → IsOpen p path
 open_at_X4 p path cursor.None f = f.1
 open_at_X4 p path (At o) f = absurd f
 open_at_X4 p path Past f = absurd f
 
-pub past_at_X5 : (p : Cover) (path : List ℕ) (k : Cursor) → ((o : ℕ) → k ≡ At o → ⊥) → FitsAt p X5 path k → k ≡ Past
+pub past_at_X5 : (p : ProblemValue) (path : List ℕ) (k : Cursor) → ((o : ℕ) → k ≡ At o → ⊥) → FitsAt p X5 path k → k ≡ Past
 past_at_X5 p path cursor.None never f = absurd f
 past_at_X5 p path (At o) never f = absurd (never o refl)
 past_at_X5 p path Past never f = refl
 
 -- X6 is at an option
-pub at_X6 : (p : Cover) (path : List ℕ) (k : Cursor) → ((o : ℕ) → k ≡ At o → ⊥) → FitsAt p X6 path k → ⊥
+pub at_X6 : (p : ProblemValue) (path : List ℕ) (k : Cursor) → ((o : ℕ) → k ≡ At o → ⊥) → FitsAt p X6 path k → ⊥
 at_X6 p path cursor.None never f = f
 at_X6 p path (At o) never f = never o refl
 at_X6 p path Past never f = f
@@ -86,16 +86,16 @@ moved [] [] o e = absurd (cc)
 moved [] (x ∷ xs) o e = absurd (cc)
 moved (y ∷ ys) new_path o e = refl
 
-module _ (p : Cover) (path : List ℕ) (at_cursor : Cursor) (subject : Cover) (covered : List ℕ) (room : ℕ) where
+module _ (p : ProblemValue) (path : List ℕ) (at_cursor : Cursor) (subject : ProblemValue) (covered : List ℕ) (room : ℕ) where
   -- what the machine keeps at a label, whatever the cursor
   abbrev Here : Label → Type 0
   Here l = Keeps p (at l path at_cursor) subject covered room
 
-  abbrev There : Label → Place → Event → Type 0
+  abbrev There : Label → StateValue → Event → Type 0
   There l t event = Went p (at l path at_cursor) t event subject covered room
 
   -- the same with another table
-  abbrev Moves : Label → Place → Event → Cover → List ℕ → Type 0
+  abbrev Moves : Label → StateValue → Event → ProblemValue → List ℕ → Type 0
   Moves l t event new_subject new_covered = Went p (at l path at_cursor) t event new_subject new_covered room
 
   pub begins : Here X1 → There X1 (at X2 path cursor.None) Moved
@@ -134,7 +134,7 @@ module _ (p : Cover) (path : List ℕ) (at_cursor : Cursor) (subject : Cover) (c
       let sound : IsProblem subject = subst IsProblem (sym k.same) k.sound in
       subst (IsUncovered subject covered) (sym e) (active_item subject covered (choice subject covered) sound (choice_active subject covered (opens_ready k)))
 
-  pub opens : (item : ℕ) (new_subject : Cover) (new_covered : List ℕ) (first : Option ℕ) (new_cursor : Cursor) → item ≡ choice subject covered → new_subject ≡ subject
+  pub opens : (item : ℕ) (new_subject : ProblemValue) (new_covered : List ℕ) (first : Option ℕ) (new_cursor : Cursor) → item ≡ choice subject covered → new_subject ≡ subject
       → new_covered ≡ covered ++ item ∷ [] → first ≡ above 0 (list_of new_subject new_covered item) → new_cursor ≡ cursor_of first → Here X4
       → Moves X4 (at X5 path new_cursor) Moved new_subject new_covered
   unfolding next event_of covered_in
@@ -142,10 +142,10 @@ module _ (p : Cover) (path : List ℕ) (at_cursor : Cursor) (subject : Cover) (c
       let now : item ≡ item_after p path = e ∙ chosen_is k in
       let whole : new_covered ≡ covered_by p path ++ item_after p path ∷ [] = list ∙ ap (λ c. c ++ item ∷ []) k.stands ∙ ap (λ i. covered_by p path ++ i ∷ []) now in
       let free = (active_in p (covered_by p path) (item_after p path) (choice_active p (covered_by p path) (open_at_X4 p path at_cursor k.fit))).0 in
-      let options : list_of new_subject new_covered item ≡ left p path =
+      let options : list_of new_subject new_covered item ≡ remaining_after p path =
       ap (λ q. list_of q new_covered item) (same ∙ k.same) ∙ ap (λ c. list_of p c item) whole ∙ ap (λ i. list_of p (covered_by p path ++ item_after p path ∷ []) i) now
       ∙ list_covered p (covered_by p path) (item_after p path) [] free in
-      let reached : new_cursor ≡ cursor_of (above 0 (left p path)) = to ∙ ap cursor_of (found ∙ ap (above 0) options) in
+      let reached : new_cursor ≡ cursor_of (above 0 (remaining_after p path)) = to ∙ ap cursor_of (found ∙ ap (above 0) options) in
       went p _ _ _ subject covered room _ _ _ k same (omega arith) (ap (λ c. at X5 path c) reached) refl whole
 
   -- X5 at an option
@@ -183,7 +183,7 @@ module _ (p : Cover) (path : List ℕ) (at_cursor : Cursor) (subject : Cover) (c
         let r = k.path_fits in
         let w = k.sound.within in omega arith
 
-    pub takes : (item : ℕ) (new_subject : Cover) (new_covered : List ℕ) (new_room : ℕ) → (front : List ℕ) × (covered ≡ front ++ item ∷ []) → new_subject ≡ subject
+    pub takes : (item : ℕ) (new_subject : ProblemValue) (new_covered : List ℕ) (new_room : ℕ) → (front : List ℕ) × (covered ≡ front ++ item ∷ []) → new_subject ≡ subject
         → new_covered ≡ covered ++ others item (option_at p o) → room ≤ new_room → Here X5
         → Went p (at X5 path at_cursor) (at X2 (path ++ o ∷ []) cursor.None) Moved new_subject new_covered new_room
     unfolding next event_of covered_in
@@ -231,21 +231,21 @@ module _ (p : Cover) (path : List ℕ) (at_cursor : Cursor) (subject : Cover) (c
       mid_item : (item : ℕ) → (front : List ℕ) × (mid ≡ front ++ item ∷ []) → Here X6 → item ≡ item_after p path
       mid_item item w k = (same_from_push _ _ _ _ (sym w.1 ∙ mid_is k)).1
 
-      mid_list : (item : ℕ) (new_subject : Cover) → (front : List ℕ) × (mid ≡ front ++ item ∷ []) → new_subject ≡ subject → Here X6 → list_of new_subject mid item ≡ left p path
+      mid_list : (item : ℕ) (new_subject : ProblemValue) → (front : List ℕ) × (mid ≡ front ++ item ∷ []) → new_subject ≡ subject → Here X6 → list_of new_subject mid item ≡ remaining_after p path
       mid_list item new_subject w same k =
           let t = choice_has p (covered_by p path) o (retry_at k).1 in
           let free = (active_in p (covered_by p path) (item_after p path) t.chosen).0 in
           ap (λ q. list_of q mid item) (same ∙ k.same) ∙ ap (λ c. list_of p c item) (mid_is k) ∙ ap (λ i. list_of p (covered_by p path ++ item_after p path ∷ []) i) (mid_item item w k)
           ∙ list_covered p (covered_by p path) (item_after p path) [] free
 
-      pub mid_has : (item : ℕ) (new_subject : Cover) → (front : List ℕ) × (mid ≡ front ++ item ∷ []) → new_subject ≡ subject → Here X6 → has (list_of new_subject mid item) o ≡ true
+      pub mid_has : (item : ℕ) (new_subject : ProblemValue) → (front : List ℕ) × (mid ≡ front ++ item ∷ []) → new_subject ≡ subject → Here X6 → has (list_of new_subject mid item) o ≡ true
       mid_has item new_subject w same k = subst (λ l. has l o ≡ true) (sym (mid_list item new_subject w same k)) (retry_at k).1.left
 
-      pub retries : (item : ℕ) (new_subject : Cover) (found : Option ℕ) (new_cursor : Cursor) → (front : List ℕ) × (mid ≡ front ++ item ∷ []) → new_subject ≡ subject
+      pub retries : (item : ℕ) (new_subject : ProblemValue) (found : Option ℕ) (new_cursor : Cursor) → (front : List ℕ) × (mid ≡ front ++ item ∷ []) → new_subject ≡ subject
           → found ≡ above o (list_of new_subject mid item) → new_cursor ≡ cursor_of found → Here X6 → Moves X6 (at X5 path new_cursor) Moved new_subject mid
       unfolding next event_of covered_in
       retries item new_subject found new_cursor w same e to k =
-          let reached : new_cursor ≡ cursor_of (above o (left p path)) = to ∙ ap cursor_of (e ∙ ap (above o) (mid_list item new_subject w same k)) in
+          let reached : new_cursor ≡ cursor_of (above o (remaining_after p path)) = to ∙ ap cursor_of (e ∙ ap (above o) (mid_list item new_subject w same k)) in
           went p _ _ _ subject covered room _ _ _ k same (omega arith) (rw is_at (ap (λ c. at X5 path c) reached)) refl (mid_is k)
 
   -- X7
@@ -256,7 +256,7 @@ module _ (p : Cover) (path : List ℕ) (at_cursor : Cursor) (subject : Cover) (c
   pub some_at_X7 : Here X7 → 0 < length covered
   some_at_X7 k = let e = ap (length {A = ℕ}) (last_at_X7 k) in let n = length-append (covered_by p path) (item_after p path ∷ []) in omega arith
 
-  pub closes : (item : ℕ) (new_subject : Cover) (new_covered : List ℕ) → new_subject ≡ subject → covered ≡ new_covered ++ item ∷ [] → Here X7
+  pub closes : (item : ℕ) (new_subject : ProblemValue) (new_covered : List ℕ) → new_subject ≡ subject → covered ≡ new_covered ++ item ∷ [] → Here X7
       → Moves X7 (at X8 path cursor.None) Moved new_subject new_covered
   unfolding next event_of covered_in
   closes item new_subject new_covered same e k =
@@ -280,25 +280,25 @@ module _ (p : Cover) (path : List ℕ) (at_cursor : Cursor) (subject : Cover) (c
 
 -- ---- the same at a state whose label is known
 
-module _ (p : Cover) (s : Place) (subject : Cover) (covered : List ℕ) (room : ℕ) (k : Keeps p s subject covered room) where
+module _ (p : ProblemValue) (s : StateValue) (subject : ProblemValue) (covered : List ℕ) (room : ℕ) (k : Keeps p s subject covered room) where
   pub from_label : (l : Label) → s.label ≡ l → Keeps p (at l s.path s.cursor) subject covered room
   from_label l e = subst (λ l. Keeps p (at l s.path s.cursor) subject covered room) e k
 
-  pub to_state : (l : Label) (t : Place) (event : Event) (new_subject : Cover) (new_covered : List ℕ) (new_room : ℕ) → s.label ≡ l → Went p (at l s.path s.cursor) t event new_subject new_covered new_room → Went p s t event new_subject new_covered new_room
+  pub to_state : (l : Label) (t : StateValue) (event : Event) (new_subject : ProblemValue) (new_covered : List ℕ) (new_room : ℕ) → s.label ≡ l → Went p (at l s.path s.cursor) t event new_subject new_covered new_room → Went p s t event new_subject new_covered new_room
   to_state l t event new_subject new_covered new_room e w = subst (λ l. Went p (at l s.path s.cursor) t event new_subject new_covered new_room) (sym e) w
 
 -- what a machine's step says, from the state inside it
-pub goes : (p : Cover) (s t : Place) (event : Event) (subject : Cover) (covered : List ℕ) (room : ℕ) (old : Position) → record { problem = p; state = s } ≡ old → Went p s t event subject covered room → Goes old (record { problem = p; state = t }) event
+pub goes : (p : ProblemValue) (s t : StateValue) (event : Event) (subject : ProblemValue) (covered : List ℕ) (room : ℕ) (old : Position) → record { problem = p; state = s } ≡ old → Went p s t event subject covered room → Goes old (record { problem = p; state = t }) event
 goes p s t event subject covered room old e w = subst (λ v. Goes v (record { problem = p; state = t }) event) e (record { problem = refl; state = w.steps; tells = w.tells })
 
-pub label_of : (p : Cover) (s : Place) (old : Position) (l : Label) → record { problem = p; state = s } ≡ old → old.state.label ≡ l → s.label ≡ l
+pub label_of : (p : ProblemValue) (s : StateValue) (old : Position) (l : Label) → record { problem = p; state = s } ≡ old → old.state.label ≡ l → s.label ≡ l
 label_of p s old l e h = ap (λ v. v.state.label) e ∙ h
 
-pub cursor_in : (p : Cover) (s : Place) (old : Position) (k : Cursor) → record { problem = p; state = s } ≡ old → old.state.cursor ≡ k → s.cursor ≡ k
+pub cursor_in : (p : ProblemValue) (s : StateValue) (old : Position) (k : Cursor) → record { problem = p; state = s } ≡ old → old.state.cursor ≡ k → s.cursor ≡ k
 cursor_in p s old k e h = ap (λ v. v.state.cursor) e ∙ h
 
 -- a machine that was just made
-pub starts : (p subject : Cover) (covered path : List ℕ) (room : ℕ) → IsProblem p → subject ≡ p → covered ≡ [] → path ≡ [] → length p.names ≤ room → Keeps p (at X1 path cursor.None) subject covered room
+pub starts : (p subject : ProblemValue) (covered path : List ℕ) (room : ℕ) → IsProblem p → subject ≡ p → covered ≡ [] → path ≡ [] → length p.names ≤ room → Keeps p (at X1 path cursor.None) subject covered room
 unfolding covered_in
 starts p subject covered path room sound same none empty fits = record {
   sound = sound;

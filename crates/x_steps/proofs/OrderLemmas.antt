@@ -2,7 +2,7 @@
 use Rattle.std.proofs.Common.{◌≡◌, ℕ, zero, suc, ◌+◌, ◌*◌, ◌<◌, ◌⊎◌, List, [], ◌∷◌, ◌++◌, map, length, refl, sym, ap, ap₂, ◌∙◌, inl, inr, arith, append_assoc, length-append}
 use Rattle.std.proofs.lemmas.Bool.{cases_order}
 use Rattle.std.proofs.lemmas.List.{map-append, length-map}
-use Rattle.cover_problem.specs.Problem.{Cover}
+use Rattle.cover_problem.specs.Problem.{ProblemValue}
 use Rattle.cover_problem.specs.Path.{taken, covered_from, IsValidFrom, IsValid, covered_by}
 use Rattle.cover_problem.proofs.CoveringLemmas.{choice_has, depth}
 use Rattle.cover_problem.proofs.CoverLemmas.{valid_split}
@@ -11,7 +11,7 @@ use Rattle.x_steps.specs.declared.state.Label.TheVariants.{X1, X2, X3, X4, X5, X
 use Rattle.x_steps.specs.declared.state.Cursor.{Cursor}
 use Rattle.x_steps.specs.declared.state.Cursor.TheVariants as cursor
 use Rattle.x_steps.specs.declared.state.Cursor.TheVariants.{At, Past}
-use Rattle.x_steps.specs.Place.{at}
+use Rattle.x_steps.specs.StateValue.{at}
 use Rattle.x_steps.specs.Steps.{FitsAt}
 use Rattle.x_steps.specs.Order.{PathLess}
 use Rattle.x_steps.specs.Rank.{digit_at, digits, number, rank}
@@ -65,12 +65,12 @@ path_not_both q r a b = path_not_self q (path_trans q r q a b)
 
 -- ---- digits
 
-pub below_digits : (p : Cover) (c path : List ℕ) (d : ℕ) → IsValidFrom p c path → d < 4 * length p.options + 9 → AllBelow (4 * length p.options + 9) (map (λ o. 4 * o + 2) path ++ d ∷ [])
+pub below_digits : (p : ProblemValue) (c path : List ℕ) (d : ℕ) → IsValidFrom p c path → d < 4 * length p.options + 9 → AllBelow (4 * length p.options + 9) (map (λ o. 4 * o + 2) path ++ d ∷ [])
 below_digits p c [] d v l = (l, tt)
 below_digits p c (o ∷ path) d v l = let t = choice_has p c o v.0 in let b : 4 * o + 2 < 4 * length p.options + 9 = omega (arith, t.within) in (b, below_digits p (taken p c o) path d v.1 l)
 
 -- the numbers of two paths that end in digits below those of any option
-path_number : (p : Cover) (c q r : List ℕ) (n d e : ℕ) → length q < n → IsValidFrom p c q → d < 2 → e < 4 * length p.options + 9 → PathLess q r → number (4 * length p.options + 9) n (map (λ o. 4 * o + 2) q ++ d ∷ []) < number (4 * length p.options + 9) n (map (λ o. 4 * o + 2) r ++ e ∷ [])
+path_number : (p : ProblemValue) (c q r : List ℕ) (n d e : ℕ) → length q < n → IsValidFrom p c q → d < 2 → e < 4 * length p.options + 9 → PathLess q r → number (4 * length p.options + 9) n (map (λ o. 4 * o + 2) q ++ d ∷ []) < number (4 * length p.options + 9) n (map (λ o. 4 * o + 2) r ++ e ∷ [])
 path_number p c [] [] n d e l v a b h = absurd h
 path_number p c (x ∷ q) [] n d e l v a b h = absurd h
 path_number p c [] (y ∷ r) n d e l v a b h = number_less (4 * length p.options + 9) n [] d (4 * y + 2) [] (map (λ o. 4 * o + 2) r ++ e ∷ []) l (omega arith) (omega arith) tt
@@ -83,14 +83,14 @@ path_number p c (x ∷ q) (y ∷ r) (suc n) d e l v a b h = step (path_number p 
 
 -- ---- the visits' order
 
-pub path_rank : (p : Cover) (q r : List ℕ) → IsValid p q → PathLess q r → rank p (at X2 q cursor.None) < rank p (at X2 r cursor.None)
+pub path_rank : (p : ProblemValue) (q r : List ℕ) → IsValid p q → PathLess q r → rank p (at X2 q cursor.None) < rank p (at X2 r cursor.None)
 unfolding rank IsValid
 path_rank p q r v h = path_number p [] q r (suc p.primary) 1 1 (room (short p q v)) v (omega arith) (omega arith) h
   where
     room : length (map (λ o. 4 * o + 2) q) < suc p.primary → length q < suc p.primary
     room s = let e = length-map q (λ o. 4 * o + 2) in omega arith
 
-pub rank_path : (p : Cover) (q r : List ℕ) → IsValid p q → IsValid p r → rank p (at X2 q cursor.None) < rank p (at X2 r cursor.None) → PathLess q r
+pub rank_path : (p : ProblemValue) (q r : List ℕ) → IsValid p q → IsValid p r → rank p (at X2 q cursor.None) < rank p (at X2 r cursor.None) → PathLess q r
 rank_path p q r v w l = step (path_cases q r)
   where
     step : PathLess q r ⊎ ((q ≡ r) ⊎ PathLess r q) → PathLess q r
@@ -100,7 +100,7 @@ rank_path p q r v w l = step (path_cases q r)
 
 -- ---- the cuts' order
 
-cut_number : (p : Cover) (c q r : List ℕ) (o t n : ℕ) → length q < n → IsValidFrom p c (q ++ o ∷ []) → PathLess (q ++ o ∷ []) (r ++ t ∷ []) → number (4 * length p.options + 9) n (map (λ o. 4 * o + 2) q ++ (4 * o + 1) ∷ []) < number (4 * length p.options + 9) n (map (λ o. 4 * o + 2) r ++ (4 * t + 1) ∷ [])
+cut_number : (p : ProblemValue) (c q r : List ℕ) (o t n : ℕ) → length q < n → IsValidFrom p c (q ++ o ∷ []) → PathLess (q ++ o ∷ []) (r ++ t ∷ []) → number (4 * length p.options + 9) n (map (λ o. 4 * o + 2) q ++ (4 * o + 1) ∷ []) < number (4 * length p.options + 9) n (map (λ o. 4 * o + 2) r ++ (4 * t + 1) ∷ [])
 cut_number p c [] [] o t n l v h = step h
   where
     step : (o < t) ⊎ ((o ≡ t) × PathLess [] []) → number (4 * length p.options + 9) n ((4 * o + 1) ∷ []) < number (4 * length p.options + 9) n ((4 * t + 1) ∷ [])
@@ -121,7 +121,7 @@ cut_number p c (x ∷ q) [] o t (suc n) l v h = step h
     step : (x < t) ⊎ ((x ≡ t) × PathLess (q ++ o ∷ []) []) → number (4 * length p.options + 9) (suc n) ((4 * x + 2) ∷ (map (λ o. 4 * o + 2) q ++ (4 * o + 1) ∷ [])) < number (4 * length p.options + 9) (suc n) ((4 * t + 1) ∷ [])
     step (inl k) = number_less (4 * length p.options + 9) (suc n) [] (4 * x + 2) (4 * t + 1) (map (λ o. 4 * o + 2) q ++ (4 * o + 1) ∷ []) [] (omega arith) (omega arith) (omega arith) (inside p (taken p c x) q o v.1)
       where
-        inside : (p : Cover) (c q : List ℕ) (o : ℕ) → IsValidFrom p c (q ++ o ∷ []) → AllBelow (4 * length p.options + 9) (map (λ o. 4 * o + 2) q ++ (4 * o + 1) ∷ [])
+        inside : (p : ProblemValue) (c q : List ℕ) (o : ℕ) → IsValidFrom p c (q ++ o ∷ []) → AllBelow (4 * length p.options + 9) (map (λ o. 4 * o + 2) q ++ (4 * o + 1) ∷ [])
         inside p c q o v = let s = valid_split p c q (o ∷ []) v in let t = choice_has p (covered_from p c q) o s.1.0 in below_digits p c q (4 * o + 1) s.0 (omega (arith, t.within))
     step (inr k) = absurd (last q k.1)
 cut_number p c (x ∷ q) (y ∷ r) o t (suc n) l v h = step (cut_number p (taken p c x) q r o t n (omega arith) v.1) h
@@ -129,12 +129,12 @@ cut_number p c (x ∷ q) (y ∷ r) o t (suc n) l v h = step (cut_number p (taken
     step : (PathLess (q ++ o ∷ []) (r ++ t ∷ []) → number (4 * length p.options + 9) n (map (λ o. 4 * o + 2) q ++ (4 * o + 1) ∷ []) < number (4 * length p.options + 9) n (map (λ o. 4 * o + 2) r ++ (4 * t + 1) ∷ [])) → (x < y) ⊎ ((x ≡ y) × PathLess (q ++ o ∷ []) (r ++ t ∷ [])) → number (4 * length p.options + 9) (suc n) ((4 * x + 2) ∷ (map (λ o. 4 * o + 2) q ++ (4 * o + 1) ∷ [])) < number (4 * length p.options + 9) (suc n) ((4 * y + 2) ∷ (map (λ o. 4 * o + 2) r ++ (4 * t + 1) ∷ []))
     step ih (inl k) = number_less (4 * length p.options + 9) (suc n) [] (4 * x + 2) (4 * y + 2) (map (λ o. 4 * o + 2) q ++ (4 * o + 1) ∷ []) (map (λ o. 4 * o + 2) r ++ (4 * t + 1) ∷ []) (omega arith) (omega arith) (omega arith) (inside p (taken p c x) q o v.1)
       where
-        inside : (p : Cover) (c q : List ℕ) (o : ℕ) → IsValidFrom p c (q ++ o ∷ []) → AllBelow (4 * length p.options + 9) (map (λ o. 4 * o + 2) q ++ (4 * o + 1) ∷ [])
+        inside : (p : ProblemValue) (c q : List ℕ) (o : ℕ) → IsValidFrom p c (q ++ o ∷ []) → AllBelow (4 * length p.options + 9) (map (λ o. 4 * o + 2) q ++ (4 * o + 1) ∷ [])
         inside p c q o v = let s = valid_split p c q (o ∷ []) v in let t = choice_has p (covered_from p c q) o s.1.0 in below_digits p c q (4 * o + 1) s.0 (omega (arith, t.within))
     step ih (inr k) = let i = ih k.1 in rw k.0 (omega arith)
 
 -- cuts come on the run in the order of their paths
-pub cut_rank : (p : Cover) (q r : List ℕ) (o t : ℕ) → IsValid p (q ++ o ∷ []) → PathLess (q ++ o ∷ []) (r ++ t ∷ []) → rank p (at X5 q (At o)) < rank p (at X5 r (At t))
+pub cut_rank : (p : ProblemValue) (q r : List ℕ) (o t : ℕ) → IsValid p (q ++ o ∷ []) → PathLess (q ++ o ∷ []) (r ++ t ∷ []) → rank p (at X5 q (At o)) < rank p (at X5 r (At t))
 unfolding rank IsValid
 cut_rank p q r o t v h = cut_number p [] q r o t (suc p.primary) (room (short p (q ++ o ∷ []) v)) v h
   where
@@ -149,7 +149,7 @@ push_same (x ∷ q) (y ∷ r) o t e =
     let f : x ≡ y = cc in let g : q ++ o ∷ [] ≡ r ++ t ∷ [] = cc in
     let s = push_same q r o t g in (ap₂ (λ (z : ℕ) (zs : List ℕ). z ∷ zs) f s.0, s.1)
 
-pub rank_cut : (p : Cover) (q r : List ℕ) (o t : ℕ) → IsValid p (q ++ o ∷ []) → IsValid p (r ++ t ∷ []) → rank p (at X5 q (At o)) < rank p (at X5 r (At t)) → PathLess (q ++ o ∷ []) (r ++ t ∷ [])
+pub rank_cut : (p : ProblemValue) (q r : List ℕ) (o t : ℕ) → IsValid p (q ++ o ∷ []) → IsValid p (r ++ t ∷ []) → rank p (at X5 q (At o)) < rank p (at X5 r (At t)) → PathLess (q ++ o ∷ []) (r ++ t ∷ [])
 rank_cut p q r o t v w l = step (path_cases (q ++ o ∷ []) (r ++ t ∷ []))
   where
     step : PathLess (q ++ o ∷ []) (r ++ t ∷ []) ⊎ ((q ++ o ∷ [] ≡ r ++ t ∷ []) ⊎ PathLess (r ++ t ∷ []) (q ++ o ∷ [])) → PathLess (q ++ o ∷ []) (r ++ t ∷ [])
@@ -159,7 +159,7 @@ rank_cut p q r o t v w l = step (path_cases (q ++ o ∷ []) (r ++ t ∷ []))
 
 -- ---- below an option
 
-digit_small : (p : Cover) (l : Label) (path : List ℕ) (k : Cursor) → FitsAt p l path k → digit_at (length p.options) l k < 4 * length p.options + 9
+digit_small : (p : ProblemValue) (l : Label) (path : List ℕ) (k : Cursor) → FitsAt p l path k → digit_at (length p.options) l k < 4 * length p.options + 9
 digit_small p X1 path cursor.None f = omega arith
 digit_small p X2 path cursor.None f = omega arith
 digit_small p X3 path cursor.None f = omega arith
@@ -172,7 +172,7 @@ digit_small p X8 path cursor.None f = omega arith
 digit_small p Done path cursor.None f = omega arith
 digit_small p _ path _ f = absurd f
 
-pub fits_valid : (p : Cover) (l : Label) (path : List ℕ) (k : Cursor) → FitsAt p l path k → IsValid p path
+pub fits_valid : (p : ProblemValue) (l : Label) (path : List ℕ) (k : Cursor) → FitsAt p l path k → IsValid p path
 unfolding IsValid
 fits_valid p X1 path cursor.None f = rw f tt
 fits_valid p X2 path cursor.None f = f
@@ -189,16 +189,16 @@ fits_valid p _ path _ f = absurd f
 inside_digits : (q rest : List ℕ) (o d : ℕ) → map (λ o. 4 * o + 2) (q ++ o ∷ rest) ++ d ∷ [] ≡ map (λ o. 4 * o + 2) q ++ (4 * o + 2) ∷ (map (λ o. 4 * o + 2) rest ++ d ∷ [])
 inside_digits q rest o d = ap (λ ds. ds ++ d ∷ []) (map-append (λ o. 4 * o + 2) q (o ∷ rest)) ∙ append_assoc (map (λ o. 4 * o + 2) q) ((4 * o + 2) ∷ map (λ o. 4 * o + 2) rest) (d ∷ [])
 
-front_short : (p : Cover) (q rest : List ℕ) (o : ℕ) → IsValid p (q ++ o ∷ rest) → length (map (λ o. 4 * o + 2) q) < suc p.primary
+front_short : (p : ProblemValue) (q rest : List ℕ) (o : ℕ) → IsValid p (q ++ o ∷ rest) → length (map (λ o. 4 * o + 2) q) < suc p.primary
 front_short p q rest o v = let d = depth p (q ++ o ∷ rest) v in let e = length-append q (o ∷ rest) in let f = length-map q (λ o. 4 * o + 2) in omega arith
 
 -- what lies below an option comes after the option's cut,
-pub cut_before : (p : Cover) (q rest : List ℕ) (o : ℕ) (l : Label) (k : Cursor) → FitsAt p l (q ++ o ∷ rest) k → rank p (at X5 q (At o)) < rank p (at l (q ++ o ∷ rest) k)
+pub cut_before : (p : ProblemValue) (q rest : List ℕ) (o : ℕ) (l : Label) (k : Cursor) → FitsAt p l (q ++ o ∷ rest) k → rank p (at X5 q (At o)) < rank p (at l (q ++ o ∷ rest) k)
 unfolding rank
 cut_before p q rest o l k f = rw (inside_digits q rest o (digit_at (length p.options) l k))
     (number_less (4 * length p.options + 9) (suc p.primary) (map (λ o. 4 * o + 2) q) (4 * o + 1) (4 * o + 2) [] (map (λ o. 4 * o + 2) rest ++ digit_at (length p.options) l k ∷ []) (front_short p q rest o (fits_valid p l (q ++ o ∷ rest) k f)) (omega arith) (omega arith) tt)
 
-inside_below : (p : Cover) (q rest : List ℕ) (o e : ℕ) (l : Label) (k : Cursor) → FitsAt p l (q ++ o ∷ rest) k → 4 * o + 2 < e → number (4 * length p.options + 9) (suc p.primary) (digits (length p.options) l (q ++ o ∷ rest) k) < number (4 * length p.options + 9) (suc p.primary) (map (λ o. 4 * o + 2) q ++ e ∷ [])
+inside_below : (p : ProblemValue) (q rest : List ℕ) (o e : ℕ) (l : Label) (k : Cursor) → FitsAt p l (q ++ o ∷ rest) k → 4 * o + 2 < e → number (4 * length p.options + 9) (suc p.primary) (digits (length p.options) l (q ++ o ∷ rest) k) < number (4 * length p.options + 9) (suc p.primary) (map (λ o. 4 * o + 2) q ++ e ∷ [])
 unfolding IsValid
 inside_below p q rest o e l k f m =
     let v = fits_valid p l (q ++ o ∷ rest) k f in
@@ -208,26 +208,26 @@ inside_below p q rest o e l k f m =
     (below_digits p (taken p (covered_from p [] q) o) rest (digit_at (length p.options) l k) s.1.1 (digit_small p l (q ++ o ∷ rest) k f)))
 
 -- before the option is left,
-pub inside_left : (p : Cover) (q rest : List ℕ) (o : ℕ) (l : Label) (k : Cursor) → FitsAt p l (q ++ o ∷ rest) k → rank p (at l (q ++ o ∷ rest) k) < rank p (at X6 q (At o))
+pub inside_left : (p : ProblemValue) (q rest : List ℕ) (o : ℕ) (l : Label) (k : Cursor) → FitsAt p l (q ++ o ∷ rest) k → rank p (at l (q ++ o ∷ rest) k) < rank p (at X6 q (At o))
 unfolding rank
 inside_left p q rest o l k f = inside_below p q rest o (4 * o + 3) l k f (omega arith)
 
 -- and before the cut at any later option of that level
-pub inside_before : (p : Cover) (q rest : List ℕ) (o t : ℕ) (l : Label) (k : Cursor) → FitsAt p l (q ++ o ∷ rest) k → o < t → rank p (at l (q ++ o ∷ rest) k) < rank p (at X5 q (At t))
+pub inside_before : (p : ProblemValue) (q rest : List ℕ) (o t : ℕ) (l : Label) (k : Cursor) → FitsAt p l (q ++ o ∷ rest) k → o < t → rank p (at l (q ++ o ∷ rest) k) < rank p (at X5 q (At t))
 unfolding rank
 inside_before p q rest o t l k f m = inside_below p q rest o (4 * t + 1) l k f (omega arith)
 
 -- an option is left before the cut at a later one
-pub left_before : (p : Cover) (q : List ℕ) (o t : ℕ) → IsValid p q → o < t → rank p (at X6 q (At o)) < rank p (at X5 q (At t))
+pub left_before : (p : ProblemValue) (q : List ℕ) (o t : ℕ) → IsValid p q → o < t → rank p (at X6 q (At o)) < rank p (at X5 q (At t))
 unfolding rank
 left_before p q o t v m = number_less (4 * length p.options + 9) (suc p.primary) (map (λ o. 4 * o + 2) q) (4 * o + 3) (4 * t + 1) [] [] (short p q v) (omega arith) (omega arith) tt
 
 -- cuts at one level come in the order of their options
-pub level_rank : (p : Cover) (q : List ℕ) (o t : ℕ) → IsValid p q → o < t → rank p (at X5 q (At o)) < rank p (at X5 q (At t))
+pub level_rank : (p : ProblemValue) (q : List ℕ) (o t : ℕ) → IsValid p q → o < t → rank p (at X5 q (At o)) < rank p (at X5 q (At t))
 unfolding rank
 level_rank p q o t v m = number_less (4 * length p.options + 9) (suc p.primary) (map (λ o. 4 * o + 2) q) (4 * o + 1) (4 * t + 1) [] [] (short p q v) (omega arith) (omega arith) tt
 
 -- and an option is left after its cut
-pub left_after : (p : Cover) (q : List ℕ) (o : ℕ) → IsValid p q → rank p (at X5 q (At o)) < rank p (at X6 q (At o))
+pub left_after : (p : ProblemValue) (q : List ℕ) (o : ℕ) → IsValid p q → rank p (at X5 q (At o)) < rank p (at X6 q (At o))
 unfolding rank
 left_after p q o v = number_less (4 * length p.options + 9) (suc p.primary) (map (λ o. 4 * o + 2) q) (4 * o + 1) (4 * o + 3) [] [] (short p q v) (omega arith) (omega arith) tt

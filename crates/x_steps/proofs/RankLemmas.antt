@@ -4,7 +4,7 @@ use Rattle.std.proofs.Math.Nat.{pow-suc, pow-zero, mul-le-mul_right, suc-mul, mu
 use Rattle.std.proofs.lemmas.List.{map-append, length-map}
 use Rattle.std.specs.Prelude as prelude
 use Rattle.cover_problem.specs.Lists.{above}
-use Rattle.cover_problem.specs.Problem.{Cover}
+use Rattle.cover_problem.specs.Problem.{ProblemValue}
 use Rattle.cover_problem.specs.Covering.{active}
 use Rattle.cover_problem.specs.Path.{IsValid, covered_by}
 use Rattle.cover_problem.proofs.ListLemmas.{above_is}
@@ -14,8 +14,8 @@ use Rattle.x_steps.specs.declared.state.Label.TheVariants.{X1, X2, X3, X4, X5, X
 use Rattle.x_steps.specs.declared.state.Cursor.{Cursor}
 use Rattle.x_steps.specs.declared.state.Cursor.TheVariants as cursor
 use Rattle.x_steps.specs.declared.state.Cursor.TheVariants.{At, Past}
-use Rattle.x_steps.specs.Place.{Place, at}
-use Rattle.x_steps.specs.Steps.{is_open, IsOpen, left, split_last, cursor_of, FitsAt, Fits, taken_back, next_at, next}
+use Rattle.x_steps.specs.StateValue.{StateValue, at}
+use Rattle.x_steps.specs.Steps.{is_open, IsOpen, remaining_after, split_last, cursor_of, FitsAt, Fits, taken_back, next_at, next}
 use Rattle.x_steps.specs.Rank.{number, rank}
 use Rattle.x_steps.proofs.Neighbours.{split_last_push, split_last_cases, open_cases, left_rises}
 
@@ -54,17 +54,17 @@ pub choice_digits : List ℕ → List ℕ
 choice_digits path = map (λ o. 4 * o + 2) path
 
 -- a valid path leaves room for one more digit
-pub short : (p : Cover) (path : List ℕ) → IsValid p path → length (map (λ o. 4 * o + 2) path) < suc p.primary
+pub short : (p : ProblemValue) (path : List ℕ) → IsValid p path → length (map (λ o. 4 * o + 2) path) < suc p.primary
 short p path v = let d = depth p path v in let e = length-map path (λ o. 4 * o + 2) in omega arith
 
 -- two states with one path, and the choice's digit where one goes on
-same_path : (p : Cover) (path : List ℕ) (a b : ℕ) → IsValid p path → a < b → number (4 * length p.options + 9) (suc p.primary) (map (λ o. 4 * o + 2) path ++ a ∷ []) < number (4 * length p.options + 9) (suc p.primary) (map (λ o. 4 * o + 2) path ++ b ∷ [])
+same_path : (p : ProblemValue) (path : List ℕ) (a b : ℕ) → IsValid p path → a < b → number (4 * length p.options + 9) (suc p.primary) (map (λ o. 4 * o + 2) path ++ a ∷ []) < number (4 * length p.options + 9) (suc p.primary) (map (λ o. 4 * o + 2) path ++ b ∷ [])
 same_path p path a b v l = number_less (4 * length p.options + 9) (suc p.primary) (map (λ o. 4 * o + 2) path) a b [] [] (short p path v) l (omega arith) tt
 
 deeper : (path : List ℕ) (o d : ℕ) → map (λ o. 4 * o + 2) (path ++ o ∷ []) ++ d ∷ [] ≡ map (λ o. 4 * o + 2) path ++ (4 * o + 2) ∷ d ∷ []
 deeper path o d = ap (λ ds. ds ++ d ∷ []) (map-append (λ o. 4 * o + 2) path (o ∷ [])) ∙ append_assoc (map (λ o. 4 * o + 2) path) ((4 * o + 2) ∷ []) (d ∷ [])
 
-pub rank_next_at : (p : Cover) (l : Label) (path : List ℕ) (k : Cursor) → FitsAt p l path k → (l ≡ Done → ⊥) → rank p (at l path k) < rank p (next_at p l path k)
+pub rank_next_at : (p : ProblemValue) (l : Label) (path : List ℕ) (k : Cursor) → FitsAt p l path k → (l ≡ Done → ⊥) → rank p (at l path k) < rank p (next_at p l path k)
 unfolding rank
 rank_next_at p X1 path cursor.None f g = rw f (number_less (4 * length p.options + 9) (suc p.primary) [] 0 1 [] [] (omega arith) (omega arith) (omega arith) tt)
 rank_next_at p X2 path cursor.None f g = step (open_cases p path)
@@ -73,18 +73,18 @@ rank_next_at p X2 path cursor.None f g = step (open_cases p path)
     step (inl e) = rw e.0 (same_path p path 1 2 f (omega arith))
     step (inr e) = rw e.0 (same_path p path 1 (4 * length p.options + 7) f (omega arith))
 rank_next_at p X3 path cursor.None f g = same_path p path 2 3 f.0 (omega arith)
-rank_next_at p X4 path cursor.None f g = look (above 0 (left p path)) refl
+rank_next_at p X4 path cursor.None f g = look (above 0 (remaining_after p path)) refl
   where
-    look : (a : Option ℕ) → above 0 (left p path) ≡ a → rank p (at X4 path cursor.None) < rank p (at X5 path (cursor_of a))
+    look : (a : Option ℕ) → above 0 (remaining_after p path) ≡ a → rank p (at X4 path cursor.None) < rank p (at X5 path (cursor_of a))
     look prelude.None e = same_path p path 3 (4 * length p.options + 5) f.0 (omega arith)
-    look (Some k) e = let a = above_is 0 1 (left p path) k (left_rises p path) e in same_path p path 3 (4 * k + 1) f.0 (omega (arith, a.more))
+    look (Some k) e = let a = above_is 0 1 (remaining_after p path) k (left_rises p path) e in same_path p path 3 (4 * k + 1) f.0 (omega (arith, a.more))
 rank_next_at p X5 path (At o) f g = rw (deeper path o 1) (number_less (4 * length p.options + 9) (suc p.primary) (map (λ o. 4 * o + 2) path) (4 * o + 1) (4 * o + 2) [] (1 ∷ []) (short p path f.0) (omega arith) (omega arith) tt)
 rank_next_at p X5 path Past f g = same_path p path (4 * length p.options + 5) (4 * length p.options + 6) f.0 (omega arith)
-rank_next_at p X6 path (At o) f g = look (above o (left p path)) refl
+rank_next_at p X6 path (At o) f g = look (above o (remaining_after p path)) refl
   where
-    look : (a : Option ℕ) → above o (left p path) ≡ a → rank p (at X6 path (At o)) < rank p (at X5 path (cursor_of a))
+    look : (a : Option ℕ) → above o (remaining_after p path) ≡ a → rank p (at X6 path (At o)) < rank p (at X5 path (cursor_of a))
     look prelude.None e = let t = choice_has p (covered_by p path) o f.1 in same_path p path (4 * o + 3) (4 * length p.options + 5) f.0 (omega (arith, t.within))
-    look (Some k) e = let a = above_is o 1 (left p path) k (left_rises p path) e in same_path p path (4 * o + 3) (4 * k + 1) f.0 (omega (arith, a.more))
+    look (Some k) e = let a = above_is o 1 (remaining_after p path) k (left_rises p path) e in same_path p path (4 * o + 3) (4 * k + 1) f.0 (omega (arith, a.more))
 rank_next_at p X7 path cursor.None f g = same_path p path (4 * length p.options + 6) (4 * length p.options + 7) f.0 (omega arith)
 rank_next_at p X8 path cursor.None f g = step (split_last_cases path)
   where
@@ -95,6 +95,6 @@ rank_next_at p X8 path cursor.None f g = step (split_last_cases path)
 rank_next_at p Done path cursor.None f g = absurd (g refl)
 rank_next_at p _ path _ f g = absurd f
 
-pub rank_next : (p : Cover) (s : Place) → Fits p s → (s.label ≡ Done → ⊥) → rank p s < rank p (next p s)
+pub rank_next : (p : ProblemValue) (s : StateValue) → Fits p s → (s.label ≡ Done → ⊥) → rank p s < rank p (next p s)
 unfolding next
 rank_next p s f g = rank_next_at p s.label s.path s.cursor f g

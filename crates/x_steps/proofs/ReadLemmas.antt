@@ -1,7 +1,7 @@
 -- What a machine tells of its state.
 use Rattle.std.proofs.Common.{◌≡◌, ℕ, suc, ◌+◌, ◌-◌, ◌<◌, ◌≤◌, List, [], ◌∷◌, ◌++◌, length, get_or, true, false, Bool, Option, Some, None, arith, refl, sym, ap, ◌∙◌, append_assoc, length-append}
 use Rattle.std.proofs.lemmas.List.{same_from_push, get_or_at}
-use Rattle.cover_problem.specs.Problem.{Cover, option_at}
+use Rattle.cover_problem.specs.Problem.{ProblemValue, option_at}
 use Rattle.cover_problem.specs.Covering.{active, choice, list_of}
 use Rattle.cover_problem.specs.Path.{covered_by, others}
 use Rattle.cover_problem.proofs.CoveringLemmas.{active_item, choice_active}
@@ -10,13 +10,13 @@ use Rattle.x_steps.specs.declared.state.Label.TheVariants.{X1, X2, X3, X4, X5, X
 use Rattle.x_steps.specs.declared.state.Cursor.{Cursor}
 use Rattle.x_steps.specs.declared.state.Cursor.TheVariants as cursor
 use Rattle.x_steps.specs.declared.state.Cursor.TheVariants.{At, Past}
-use Rattle.x_steps.specs.Place.{Place}
+use Rattle.x_steps.specs.StateValue.{StateValue}
 use Rattle.x_steps.specs.Steps.{FitsAt, IsOpen, item_after, covered_in}
 use Rattle.x_steps.specs.Machine.{Keeps, Position, is_chosen, chosen_item, chosen_in}
 use Rattle.x_steps.proofs.MachineLemmas.{from_label, chosen_is, last_at_X7, taken_at, others_count, retry_option_in, opens_ready, some_at_X7, open_at_X4}
 use Rattle.x_steps.proofs.BackLemmas.{some_chosen, item_is, open_at_X5}
 
-chosen_some : (p : Cover) (s : Place) (l : Label) → s.label ≡ l → is_chosen l ≡ true → chosen_item p s ≡ Some (item_after p s.path)
+chosen_some : (p : ProblemValue) (s : StateValue) (l : Label) → s.label ≡ l → is_chosen l ≡ true → chosen_item p s ≡ Some (item_after p s.path)
 unfolding chosen_item
 chosen_some p s l e h = let f : is_chosen s.label ≡ true = ap is_chosen e ∙ h in rw f refl
 
@@ -32,7 +32,7 @@ not_chosen X8 a b c d = refl
 not_chosen Done a b c d = refl
 
 -- where an item is chosen, an item is active after the path
-open_chosen : (p : Cover) (l : Label) (path : List ℕ) (k : Cursor) → FitsAt p l path k → is_chosen l ≡ true → IsOpen p path
+open_chosen : (p : ProblemValue) (l : Label) (path : List ℕ) (k : Cursor) → FitsAt p l path k → is_chosen l ≡ true → IsOpen p path
 open_chosen p X4 path k f e = open_at_X4 p path k f
 open_chosen p X5 path k f e = open_at_X5 p path k f
 open_chosen p X6 path (At o) f e = f.1.active
@@ -44,7 +44,7 @@ open_chosen p X8 path k f e = absurd (cc)
 open_chosen p Done path k f e = absurd (cc)
 open_chosen p _ path _ f e = absurd f
 
-is_chosen_some : (p : Cover) (s : Place) (item : ℕ) → Some item ≡ chosen_item p s → (is_chosen s.label ≡ true) × (item ≡ item_after p s.path)
+is_chosen_some : (p : ProblemValue) (s : StateValue) (item : ℕ) → Some item ≡ chosen_item p s → (is_chosen s.label ≡ true) × (item ≡ item_after p s.path)
 unfolding chosen_item
 is_chosen_some p s item e = step (is_chosen s.label) refl
   where
@@ -52,11 +52,11 @@ is_chosen_some p s item e = step (is_chosen s.label) refl
     step true h = let f : Some item ≡ Some (item_after p s.path) = rw h at e in (h, cc)
     step false h = let f : Some item ≡ None = rw h at e in absurd (cc)
 
-pub row_chosen : (p : Cover) (s : Place) (item : ℕ) (options : List ℕ) → Some item ≡ chosen_item p s → options ≡ list_of p (covered_in p s) item → Some (item, options) ≡ chosen_in p s
+pub row_chosen : (p : ProblemValue) (s : StateValue) (item : ℕ) (options : List ℕ) → Some item ≡ chosen_item p s → options ≡ list_of p (covered_in p s) item → Some (item, options) ≡ chosen_in p s
 unfolding chosen_in
 row_chosen p s item options e f = rw (← e, f) refl
 
-module _ (p : Cover) (s : Place) (subject : Cover) (covered : List ℕ) (room : ℕ) (k : Keeps p s subject covered room) where
+module _ (p : ProblemValue) (s : StateValue) (subject : ProblemValue) (covered : List ℕ) (room : ℕ) (k : Keeps p s subject covered room) where
   pub none_chosen : (s.label ≡ X4 → ⊥) → (s.label ≡ X5 → ⊥) → (s.label ≡ X6 → ⊥) → (s.label ≡ X7 → ⊥) → None ≡ chosen_item p s
   unfolding chosen_item
   none_chosen a b c d = let f = not_chosen s.label a b c d in rw f refl
@@ -121,10 +121,10 @@ module _ (p : Cover) (s : Place) (subject : Cover) (covered : List ℕ) (room : 
   pub chosen_options : (item : ℕ) (options : List ℕ) → Some item ≡ chosen_item p s → options ≡ list_of subject covered item → Some (item, options) ≡ chosen_in p s
   chosen_options item options e f = row_chosen p s item options e (f ∙ ap (λ q. list_of q covered item) k.same ∙ ap (λ c. list_of p c item) k.stands)
 
-pub row_none : (p : Cover) (s : Place) → None ≡ chosen_item p s → None ≡ chosen_in p s
+pub row_none : (p : ProblemValue) (s : StateValue) → None ≡ chosen_item p s → None ≡ chosen_in p s
 unfolding chosen_in
 row_none p s e = rw (← e) refl
 
 -- the chosen item of the state inside the machine
-pub chosen_inside : (p : Cover) (s : Place) (now : Position) (found : Option ℕ) → record { problem = p; state = s } ≡ now → found ≡ chosen_item now.problem now.state → found ≡ chosen_item p s
+pub chosen_inside : (p : ProblemValue) (s : StateValue) (now : Position) (found : Option ℕ) → record { problem = p; state = s } ≡ now → found ≡ chosen_item now.problem now.state → found ≡ chosen_item p s
 chosen_inside p s now found e f = f ∙ ap (λ v. chosen_item v.problem v.state) (sym e)

@@ -5,7 +5,7 @@ use Rattle.std.proofs.lemmas.List.{take_all, take-append-drop}
 use Rattle.std.specs.List.{list_any}
 use Rattle.std.proofs.lemmas.Bool.{ltb-true, lt-ltb, false≢true}
 use Rattle.cover_problem.specs.Lists.{has, above}
-use Rattle.cover_problem.specs.Problem.{Cover, option_at}
+use Rattle.cover_problem.specs.Problem.{ProblemValue, option_at}
 use Rattle.cover_problem.specs.Covering.{active, remaining, choice}
 use Rattle.cover_problem.specs.Path.{IsChoice, IsValid, covered_by}
 use Rattle.cover_problem.proofs.CoveringLemmas.{covered_by_push, covered_by_none, valid_push, valid_start, choice_has}
@@ -16,25 +16,25 @@ use Rattle.x_steps.specs.declared.state.Cursor.{Cursor}
 use Rattle.x_steps.specs.declared.state.Cursor.TheVariants as cursor
 use Rattle.x_steps.specs.declared.state.Cursor.TheVariants.{At, Past}
 use Rattle.x_steps.specs.declared.event.Event.{Event}
-use Rattle.x_steps.specs.Place.{Place, at, start}
-use Rattle.x_steps.specs.Steps.{Fits, FitsAt, IsOpen, item_after, left, cursor_of, covered_in, covered_at, next}
+use Rattle.x_steps.specs.StateValue.{StateValue, at, start}
+use Rattle.x_steps.specs.Steps.{Fits, FitsAt, IsOpen, item_after, remaining_after, cursor_of, covered_in, covered_at, next}
 use Rattle.x_steps.specs.Machine.{Keeps, Position, Goes}
-use Rattle.x_steps.specs.Marks.{AreMarked}
+use Rattle.x_steps.specs.Marked.{AreMarked}
 use Rattle.x_steps.specs.Resume.{position, IsDown}
 use Rattle.x_steps.proofs.Neighbours.{open_is, split_last_push}
-use Rattle.x_steps.proofs.MarkLemmas.{left_by_marks, option_within, marks_taken}
+use Rattle.x_steps.proofs.MarkedLemmas.{left_by_marks, option_within, marks_taken}
 use Rattle.x_steps.proofs.MachineLemmas.{from_label}
 use Rattle.x_steps.proofs.BackLemmas.{valid_at_X2}
 
 -- ---- steps of machines whose position is known
 
-whole : (m : Position) (p : Cover) (s : Place) → m.problem ≡ p → m.state ≡ s → m ≡ position p s
+whole : (m : Position) (p : ProblemValue) (s : StateValue) → m.problem ≡ p → m.state ≡ s → m ≡ position p s
 whole m p s a b = rw (← a, ← b) refl
 
-pub goes_on : (p : Cover) (s t : Place) (old new : Position) (event : Event) → next p s ≡ t → old ≡ position p s → Goes old new event → new ≡ position p t
+pub goes_on : (p : ProblemValue) (s t : StateValue) (old new : Position) (event : Event) → next p s ≡ t → old ≡ position p s → Goes old new event → new ≡ position p t
 goes_on p s t old new event n e g = whole new p t (g.problem ∙ ap (λ m. m.problem) e) (g.state ∙ ap (λ m. next m.problem m.state) e ∙ n)
 
-pub label_at : (m : Position) (p : Cover) (s : Place) → m ≡ position p s → m.state.label ≡ s.label
+pub label_at : (m : Position) (p : ProblemValue) (s : StateValue) → m ≡ position p s → m.state.label ≡ s.label
 label_at m p s e = ap (λ m. m.state.label) e
 
 -- X2 where an item is active
@@ -45,42 +45,42 @@ entered old new event l h g =
     let n : next old.problem old.state ≡ at X3 old.state.path cursor.None = rw (l, o) refl in
     whole new old.problem (at X3 old.state.path cursor.None) g.problem (g.state ∙ n)
 
-pub planned : (p : Cover) (path : List ℕ) (old new : Position) (event : Event) → old ≡ position p (at X3 path cursor.None) → Goes old new event → new ≡ position p (at X4 path cursor.None)
+pub planned : (p : ProblemValue) (path : List ℕ) (old new : Position) (event : Event) → old ≡ position p (at X3 path cursor.None) → Goes old new event → new ≡ position p (at X4 path cursor.None)
 unfolding next
 planned p path old new event e g = goes_on p (at X3 path cursor.None) (at X4 path cursor.None) old new event refl e g
 
-pub opened : (p : Cover) (path : List ℕ) (old new : Position) (event : Event) → old ≡ position p (at X4 path cursor.None) → Goes old new event → new ≡ position p (at X5 path (cursor_of (above 0 (left p path))))
+pub opened : (p : ProblemValue) (path : List ℕ) (old new : Position) (event : Event) → old ≡ position p (at X4 path cursor.None) → Goes old new event → new ≡ position p (at X5 path (cursor_of (above 0 (remaining_after p path))))
 unfolding next
-opened p path old new event e g = goes_on p (at X4 path cursor.None) (at X5 path (cursor_of (above 0 (left p path)))) old new event refl e g
+opened p path old new event e g = goes_on p (at X4 path cursor.None) (at X5 path (cursor_of (above 0 (remaining_after p path)))) old new event refl e g
 
-pub took : (p : Cover) (path : List ℕ) (o : ℕ) (old new : Position) (event : Event) → old ≡ position p (at X5 path (At o)) → Goes old new event → new ≡ position p (at X2 (path ++ o ∷ []) cursor.None)
+pub took : (p : ProblemValue) (path : List ℕ) (o : ℕ) (old new : Position) (event : Event) → old ≡ position p (at X5 path (At o)) → Goes old new event → new ≡ position p (at X2 (path ++ o ∷ []) cursor.None)
 unfolding next
 took p path o old new event e g = goes_on p (at X5 path (At o)) (at X2 (path ++ o ∷ []) cursor.None) old new event refl e g
 
-pub passed : (p : Cover) (path : List ℕ) (old new : Position) (event : Event) → old ≡ position p (at X5 path Past) → Goes old new event → new ≡ position p (at X7 path cursor.None)
+pub passed : (p : ProblemValue) (path : List ℕ) (old new : Position) (event : Event) → old ≡ position p (at X5 path Past) → Goes old new event → new ≡ position p (at X7 path cursor.None)
 unfolding next
 passed p path old new event e g = goes_on p (at X5 path Past) (at X7 path cursor.None) old new event refl e g
 
-pub left_from : (p : Cover) (path : List ℕ) (o : ℕ) (old new : Position) (event : Event) → old ≡ position p (at X8 (path ++ o ∷ []) cursor.None) → Goes old new event → new ≡ position p (at X6 path (At o))
+pub left_from : (p : ProblemValue) (path : List ℕ) (o : ℕ) (old new : Position) (event : Event) → old ≡ position p (at X8 (path ++ o ∷ []) cursor.None) → Goes old new event → new ≡ position p (at X6 path (At o))
 unfolding next
 left_from p path o old new event e g = goes_on p (at X8 (path ++ o ∷ []) cursor.None) (at X6 path (At o)) old new event (rw (split_last_push path o) refl) e g
 
-pub began : (p : Cover) (old new : Position) (event : Event) → old ≡ position p (at X1 [] cursor.None) → Goes old new event → new ≡ position p (at X2 [] cursor.None)
+pub began : (p : ProblemValue) (old new : Position) (event : Event) → old ≡ position p (at X1 [] cursor.None) → Goes old new event → new ≡ position p (at X2 [] cursor.None)
 unfolding next
 began p old new event e g = goes_on p (at X1 [] cursor.None) (at X2 [] cursor.None) old new event refl e g
 
 -- ---- where the same items are covered
 
 -- at another cursor of X5
-pub same_at_X5 : (m : Position) (p : Cover) (path : List ℕ) (k j : Cursor) → m ≡ position p (at X5 path k) → covered_in m.problem (at X5 m.state.path j) ≡ covered_in m.problem m.state
+pub same_at_X5 : (m : Position) (p : ProblemValue) (path : List ℕ) (k j : Cursor) → m ≡ position p (at X5 path k) → covered_in m.problem (at X5 m.state.path j) ≡ covered_in m.problem m.state
 unfolding covered_in
 same_at_X5 m p path k j e = rw e refl
 
-pub same_at_X8 : (m : Position) (p : Cover) (path : List ℕ) (k j : Cursor) → m ≡ position p (at X2 path k) → covered_in m.problem (at X8 m.state.path j) ≡ covered_in m.problem m.state
+pub same_at_X8 : (m : Position) (p : ProblemValue) (path : List ℕ) (k j : Cursor) → m ≡ position p (at X2 path k) → covered_in m.problem (at X8 m.state.path j) ≡ covered_in m.problem m.state
 unfolding covered_in
 same_at_X8 m p path k j e = rw e refl
 
-plain : (p : Cover) (l : Label) (path : List ℕ) (k : Cursor) → (l ≡ X5 → ⊥) → (l ≡ X6 → ⊥) → (l ≡ X7 → ⊥) → covered_at p l path k ≡ covered_by p path
+plain : (p : ProblemValue) (l : Label) (path : List ℕ) (k : Cursor) → (l ≡ X5 → ⊥) → (l ≡ X6 → ⊥) → (l ≡ X7 → ⊥) → covered_at p l path k ≡ covered_by p path
 plain p X1 path k a b c = refl
 plain p X2 path k a b c = refl
 plain p X3 path k a b c = refl
@@ -96,33 +96,33 @@ unfolding covered_in
 same_at m l k e a b c = rw e (plain m.problem l m.state.path k a b c)
 
 -- an option that was taken can be left from X8
-pub fits_taken : (m : Position) (p : Cover) (path : List ℕ) (o : ℕ) → m ≡ position p (at X2 (path ++ o ∷ []) cursor.None) → Fits p (at X6 path (At o)) → Fits m.problem (at X8 m.state.path cursor.None)
+pub fits_taken : (m : Position) (p : ProblemValue) (path : List ℕ) (o : ℕ) → m ≡ position p (at X2 (path ++ o ∷ []) cursor.None) → Fits p (at X6 path (At o)) → Fits m.problem (at X8 m.state.path cursor.None)
 fits_taken m p path o e f = rw e (valid_push p path o f.0 f.1)
 
-pub turned : (p : Cover) (s : Place) (l : Label) (k : Cursor) (old new : Position) → old ≡ position p s → new ≡ position old.problem (at l old.state.path k) → new ≡ position p (at l s.path k)
+pub turned : (p : ProblemValue) (s : StateValue) (l : Label) (k : Cursor) (old new : Position) → old ≡ position p s → new ≡ position old.problem (at l old.state.path k) → new ≡ position p (at l s.path k)
 turned p s l k old new e f = rw e at f
 
 -- ---- down the path
 
-pub down_here : (p : Cover) (path : List ℕ) (m : Position) (marks : List Bool) → IsDown p path m marks → IsDown m.problem m.state.path m marks
+pub down_here : (p : ProblemValue) (path : List ℕ) (m : Position) (marks : List Bool) → IsDown p path m marks → IsDown m.problem m.state.path m marks
 down_here p path m marks d =
     let e = d.here in
     subst (λ v. IsDown v.problem v.state.path m marks) (sym e) d
 
 -- the search has begun
-pub down_first : (p : Cover) (old m : Position) (event : Event) (marks list : List Bool) (n : ℕ) → old ≡ position p start → Goes old m event → AreMarked marks n [] → n ≡ length p.names → list ≡ marks → IsDown m.problem [] m list
+pub down_first : (p : ProblemValue) (old m : Position) (event : Event) (marks list : List Bool) (n : ℕ) → old ≡ position p start → Goes old m event → AreMarked marks n [] → n ≡ length p.names → list ≡ marks → IsDown m.problem [] m list
 down_first p old m event marks list n e g a size same =
     let here : m ≡ position p (at X2 [] cursor.None) = began p old m event e g in
     let first : IsDown p [] m list = record { here = here; marked = rw (covered_by_none p, same, ← size) a } in
     subst (λ q. IsDown q [] m list) (sym (ap (λ m. m.problem) here)) first
 
-pub down_more : (p : Cover) (path : List ℕ) (o : ℕ) (m : Position) (marks : List Bool) → IsChoice p (covered_by p path) o → m ≡ position p (at X2 (path ++ o ∷ []) cursor.None)
+pub down_more : (p : ProblemValue) (path : List ℕ) (o : ℕ) (m : Position) (marks : List Bool) → IsChoice p (covered_by p path) o → m ≡ position p (at X2 (path ++ o ∷ []) cursor.None)
     → AreMarked marks (length p.names) (covered_by p path ++ option_at p o) → IsDown p (path ++ o ∷ []) m marks
 down_more p path o m marks h e a = record { here = e; marked = rw (covered_by_push p path o) (marks_taken p (covered_by p path) o marks (length p.names) h a) }
 
 -- ---- whether the path can go on
 
-module _ (p : Cover) (s : Place) (subject : Cover) (covered : List ℕ) (room : ℕ) (k : Keeps p s subject covered room) (at_label : s.label ≡ X2) where
+module _ (p : ProblemValue) (s : StateValue) (subject : ProblemValue) (covered : List ℕ) (room : ℕ) (k : Keeps p s subject covered room) (at_label : s.label ≡ X2) where
   stands_X2 : covered ≡ covered_by p s.path
   unfolding covered_in
   stands_X2 = let h = from_label _ _ _ _ _ k _ at_label in h.stands
@@ -159,23 +159,23 @@ module _ (p : Cover) (s : Place) (subject : Cover) (covered : List ℕ) (room : 
 
 -- ---- the same, of the state inside the machine
 
-pub marked_in : (p : Cover) (s : Place) (now : Position) (marks : List Bool) → position p s ≡ now → IsDown now.problem now.state.path now marks → AreMarked marks (length p.names) (covered_by p s.path)
+pub marked_in : (p : ProblemValue) (s : StateValue) (now : Position) (marks : List Bool) → position p s ≡ now → IsDown now.problem now.state.path now marks → AreMarked marks (length p.names) (covered_by p s.path)
 marked_in p s now marks e d = subst (λ v. AreMarked marks (length v.problem.names) (covered_by v.problem v.state.path)) (sym e) d.marked
 
-pub down_label : (p : Cover) (s : Place) (q : Cover) (path : List ℕ) (now : Position) (marks : List Bool) → position p s ≡ now → IsDown q path now marks → s.label ≡ X2
+pub down_label : (p : ProblemValue) (s : StateValue) (q : ProblemValue) (path : List ℕ) (now : Position) (marks : List Bool) → position p s ≡ now → IsDown q path now marks → s.label ≡ X2
 down_label p s q path now marks e d = ap (λ m. m.state.label) (e ∙ d.here)
 
-pub active_open : (p : Cover) (s : Place) (subject : Cover) (covered : List ℕ) (room : ℕ) → Keeps p s subject covered room → (b : Bool) → b ≡ true → b ≡ nat_lt 0 (length (active subject covered))
+pub active_open : (p : ProblemValue) (s : StateValue) (subject : ProblemValue) (covered : List ℕ) (room : ℕ) → Keeps p s subject covered room → (b : Bool) → b ≡ true → b ≡ nat_lt 0 (length (active subject covered))
     → 0 < length (active subject covered)
 active_open p s subject covered room k b e f = ltb-true 0 (length (active subject covered)) (sym f ∙ e)
 
 -- a chosen option is one of the problem's
-pub option_in : (p q : Cover) (s t : Place) (now : Position) (path : List ℕ) (o : ℕ) → position p s ≡ now → now ≡ position q t → Fits q (at X5 path (At o)) → (0 < o) × (o ≤ length p.options)
+pub option_in : (p q : ProblemValue) (s t : StateValue) (now : Position) (path : List ℕ) (o : ℕ) → position p s ≡ now → now ≡ position q t → Fits q (at X5 path (At o)) → (0 < o) × (o ≤ length p.options)
 option_in p q s t now path o e f h =
     let same : p ≡ q = ap (λ m. m.problem) (e ∙ f) in
     let c = choice_has q (covered_by q path) o h.1 in rw same (c.some, c.within)
 
-pub marks_now : (p q : Cover) (s t : Place) (marks : List Bool) (n : ℕ) (now : Position) (c option : List ℕ) (o : ℕ) → position p s ≡ now → now ≡ position q t → option ≡ option_at p o → AreMarked marks n (c ++ option)
+pub marks_now : (p q : ProblemValue) (s t : StateValue) (marks : List Bool) (n : ℕ) (now : Position) (c option : List ℕ) (o : ℕ) → position p s ≡ now → now ≡ position q t → option ≡ option_at p o → AreMarked marks n (c ++ option)
     → AreMarked marks n (c ++ option_at q o)
 marks_now p q s t marks n now c option o e f is a =
     let same : p ≡ q = ap (λ m. m.problem) (e ∙ f) in
@@ -186,7 +186,7 @@ marks_now p q s t marks n now c option o e f is a =
 split_at : (path : List ℕ) (k : ℕ) → k < length path → path ≡ take k path ++ get_or path k 0 ∷ drop (suc k) path
 split_at path k l = sym (take-append-drop k path) ∙ ap (λ r. take k path ++ r) (drop-cons path k 0 l)
 
-pub not_down : (p : Cover) (path : List ℕ) (k : ℕ) (m : Position) (marks : List Bool) → IsDown p (take k path) m marks → k < length path → (Fits m.problem (at X5 m.state.path (At (get_or path k 0))) → ⊥)
+pub not_down : (p : ProblemValue) (path : List ℕ) (k : ℕ) (m : Position) (marks : List Bool) → IsDown p (take k path) m marks → k < length path → (Fits m.problem (at X5 m.state.path (At (get_or path k 0))) → ⊥)
     → IsValid p path → ⊥
 unfolding IsValid covered_by
 not_down p path k m marks d l never v =
@@ -194,19 +194,19 @@ not_down p path k m marks d l never v =
     let e = d.here in
     never (subst (λ v. Fits v.problem (at X5 v.state.path (At (get_or path k 0)))) (sym e) (parts.0, parts.1.0))
 
-pub down_next : (p : Cover) (path : List ℕ) (k : ℕ) (old new : Position) (marks new_marks : List Bool) → IsDown p (take k path) old marks → k < length path
+pub down_next : (p : ProblemValue) (path : List ℕ) (k : ℕ) (old new : Position) (marks new_marks : List Bool) → IsDown p (take k path) old marks → k < length path
     → IsDown old.problem (old.state.path ++ get_or path k 0 ∷ []) new new_marks → IsDown p (take (k + 1) path) new new_marks
 down_next p path k old new marks new_marks d l n =
     let e = d.here in
     let f : IsDown p (take k path ++ get_or path k 0 ∷ []) new new_marks = subst (λ v. IsDown v.problem (v.state.path ++ get_or path k 0 ∷ []) new new_marks) e n in
     rw (add-one, take-suc path k 0 l) f
 
-pub down_all : (p : Cover) (path : List ℕ) (k : ℕ) (m : Position) (marks : List Bool) → IsDown p (take k path) m marks → length path ≤ k → IsDown p path m marks
+pub down_all : (p : ProblemValue) (path : List ℕ) (k : ℕ) (m : Position) (marks : List Bool) → IsDown p (take k path) m marks → length path ≤ k → IsDown p path m marks
 down_all p path k m marks d l = subst (λ q. IsDown p q m marks) (take_all k path l) d
 
 -- ---- a state that fits has a path that can be walked down
 
-pub path_valid : (p : Cover) (l : Label) (path : List ℕ) (k : Cursor) → FitsAt p l path k → IsValid p path
+pub path_valid : (p : ProblemValue) (l : Label) (path : List ℕ) (k : Cursor) → FitsAt p l path k → IsValid p path
 path_valid p X1 path cursor.None f = rw f (valid_start p)
 path_valid p X2 path cursor.None f = f
 path_valid p X3 path cursor.None f = f.0

@@ -3,16 +3,16 @@ use Rattle.std.proofs.Common.{◌≡◌, ℕ, zero, suc, ◌+◌, ◌-◌, ◌�
 use Rattle.std.proofs.lemmas.List.{map-append}
 use Rattle.std.proofs.lemmas.Bool.{cases_Bool, not_from_true, not_from_false}
 use Rattle.cover_problem.specs.Lists.{has, numbers}
-use Rattle.cover_problem.specs.Problem.{Cover}
+use Rattle.cover_problem.specs.Problem.{ProblemValue}
 use Rattle.cover_problem.specs.Covering.{remaining, list_of}
-use Rattle.cover_problem.specs.Table.{AreCovered}
+use Rattle.cover_problem.specs.Table.{IsCoveredList}
 use Rattle.cover_problem.proofs.ListLemmas.{has_at}
 use Rattle.cover_problem.proofs.CoveringLemmas.{covered_item, list_uncovered}
 use Rattle.x_steps.specs.Machine.{secondary}
-use Rattle.x_steps.specs.Marks.{AreMarked}
+use Rattle.x_steps.specs.Marked.{AreMarked}
 
 -- of the items up to `before` those that are secondary and not covered have a row each
-pub record ListsSecond (p : Cover) (c : List ℕ) (before : ℕ) (rows : List (ℕ × List ℕ)) : Type 0 where
+pub record ListsSecond (p : ProblemValue) (c : List ℕ) (before : ℕ) (rows : List (ℕ × List ℕ)) : Type 0 where
   pub passed : ℕ
   pub reached : p.primary + passed ≡ before
   pub rows_are : rows ≡ map (λ i. (i, remaining p c i)) (filter (λ i. not (has c i)) (numbers passed (p.primary + 1)))
@@ -33,7 +33,7 @@ filter_last test (y ∷ ys) x b e = step (cases_Bool (test y)) (filter_last test
     step (inl t) ih = rw (t, ih) refl
     step (inr t) ih = rw (t, ih) refl
 
-module _ (p : Cover) (c : List ℕ) where
+module _ (p : ProblemValue) (c : List ℕ) where
   pub second_none : ListsSecond p c p.primary []
   second_none = record { passed = 0; reached = omega arith; rows_are = refl }
 
@@ -67,7 +67,7 @@ module _ (p : Cover) (c : List ℕ) where
       pub second_marked : b ≡ true → ListsSecond p c (before + 1) rows
       second_marked e = second_covered (sym mark ∙ e)
 
-      pub second_unmarked : b ≡ false → (subject : Cover) → subject ≡ p → (found : List ℕ) → found ≡ list_of subject c (before + 1) → ListsSecond p c (before + 1) (rows ++ (before + 1, found) ∷ [])
+      pub second_unmarked : b ≡ false → (subject : ProblemValue) → subject ≡ p → (found : List ℕ) → found ≡ list_of subject c (before + 1) → ListsSecond p c (before + 1) (rows ++ (before + 1, found) ∷ [])
       second_unmarked e subject same found f = second_more (sym mark ∙ e) found (f ∙ ap (λ q. list_of q c (before + 1)) same)
 
   pub second_all : (before : ℕ) (rows : List (ℕ × List ℕ)) → ListsSecond p c before rows → before ≡ length p.names → rows ≡ map (λ i. (i, remaining p c i)) (secondary p c)
@@ -78,10 +78,10 @@ module _ (p : Cover) (c : List ℕ) where
       l.rows_are ∙ ap (λ n. map (λ i. (i, remaining p c i)) (filter (λ i. not (has c i)) (numbers n (p.primary + 1)))) n
 
 -- the covered items are items of the problem
-pub covered_within : (subject p : Cover) (c list : List ℕ) (n : ℕ) → subject ≡ p → n ≡ length p.names → AreCovered subject c → list ≡ c → All (λ i. i ≤ n) list
+pub covered_within : (subject p : ProblemValue) (c list : List ℕ) (n : ℕ) → subject ≡ p → n ≡ length p.names → IsCoveredList subject c → list ≡ c → All (λ i. i ≤ n) list
 covered_within subject p c list n same size a e k d l =
     let within = (covered_item subject c (get_or c k d) a (has_at c k d (rw e at l))).1 in
-    let names : length subject.names ≡ n = ap (λ (q : Cover). length q.names) same ∙ sym size in
+    let names : length subject.names ≡ n = ap (λ (q : ProblemValue). length q.names) same ∙ sym size in
     rw (e, ← names) within
 
 -- what a mark says

@@ -3,51 +3,51 @@ use Rattle.std.proofs.Common.{◌≡◌, ℕ, ◌+◌, ◌-◌, ◌<◌, ◌≤�
 use Rattle.std.proofs.lemmas.List.{get_or_at}
 use Rattle.std.proofs.lemmas.Bool.{cases_Bool}
 use Rattle.cover_problem.specs.Lists.{has}
-use Rattle.cover_problem.specs.Problem.{Cover, IsProblem, option_at}
+use Rattle.cover_problem.specs.Problem.{ProblemValue, IsProblem, option_at}
 use Rattle.cover_problem.specs.Covering.{list_of}
 use Rattle.cover_problem.specs.Path.{others, taken, IsChoice, IsValid, covered_by}
 use Rattle.cover_problem.specs.Coverable.{IsUncovered, CanCover}
-use Rattle.cover_problem.specs.Table.{AreCovered}
+use Rattle.cover_problem.specs.Table.{IsCoveredList}
 use Rattle.cover_problem.proofs.CoveringLemmas.{active_item, list_covered, list_uncovered, choice_active, choice_has, can_take, taken_is, length-taken, covered_by_push, covered_path, covered_taken, covered_push, depth, valid_start}
 use Rattle.x_steps.specs.declared.state.Label.{Label}
 use Rattle.x_steps.specs.declared.state.Label.TheVariants.{X1, X2, X3, X4, X5, X6, X7, X8, Done}
 use Rattle.x_steps.specs.declared.state.Cursor.{Cursor}
 use Rattle.x_steps.specs.declared.state.Cursor.TheVariants as cursor
 use Rattle.x_steps.specs.declared.state.Cursor.TheVariants.{At, Past}
-use Rattle.x_steps.specs.Place.{Place, at}
-use Rattle.x_steps.specs.Steps.{is_open, IsOpen, item_after, left, FitsAt, Fits, covered_at, covered_in, next_at, next}
+use Rattle.x_steps.specs.StateValue.{StateValue, at}
+use Rattle.x_steps.specs.Steps.{is_open, IsOpen, item_after, remaining_after, FitsAt, Fits, covered_at, covered_in, next_at, next}
 use Rattle.x_steps.specs.Before.{prev_at, prev}
 use Rattle.x_steps.proofs.Neighbours.{split_last_push, split_last_cases}
 
 -- ---- the words by cases on label and cursor
 
-pub next_is : (p : Cover) (l : Label) (path : List ℕ) (k : Cursor) → next p (at l path k) ≡ next_at p l path k
+pub next_is : (p : ProblemValue) (l : Label) (path : List ℕ) (k : Cursor) → next p (at l path k) ≡ next_at p l path k
 unfolding next
 next_is p l path k = refl
 
-pub prev_is : (p : Cover) (l : Label) (path : List ℕ) (k : Cursor) → prev p (at l path k) ≡ prev_at p l path k
+pub prev_is : (p : ProblemValue) (l : Label) (path : List ℕ) (k : Cursor) → prev p (at l path k) ≡ prev_at p l path k
 unfolding prev
 prev_is p l path k = refl
 
-pub covered_is : (p : Cover) (l : Label) (path : List ℕ) (k : Cursor) → covered_in p (at l path k) ≡ covered_at p l path k
+pub covered_is : (p : ProblemValue) (l : Label) (path : List ℕ) (k : Cursor) → covered_in p (at l path k) ≡ covered_at p l path k
 unfolding covered_in
 covered_is p l path k = refl
 
 -- ---- where an item is active
 
 -- what is known at a level that is open
-pub record IsLevel (p : Cover) (path : List ℕ) : Type 0 where
+pub record IsLevel (p : ProblemValue) (path : List ℕ) : Type 0 where
   -- the chosen item can be covered
   pub item : IsUncovered p (covered_by p path) (item_after p path)
   -- its list is what is left, before it is covered and from then on
-  pub list : list_of p (covered_by p path) (item_after p path) ≡ left p path
-  pub list_covered : (more : List ℕ) → list_of p (covered_by p path ++ item_after p path ∷ more) (item_after p path) ≡ left p path
+  pub list : list_of p (covered_by p path) (item_after p path) ≡ remaining_after p path
+  pub list_covered : (more : List ℕ) → list_of p (covered_by p path ++ item_after p path ∷ more) (item_after p path) ≡ remaining_after p path
   -- it stands on the covered list behind what the path covers
   pub place : (more : List ℕ) (d : ℕ) → get_or (covered_by p path ++ item_after p path ∷ more) (length (covered_by p path)) d ≡ item_after p path
   -- the path has room for one more choice
   pub room : length path < length p.names
 
-pub level_is : (p : Cover) (path : List ℕ) → IsProblem p → IsValid p path → IsOpen p path → IsLevel p path
+pub level_is : (p : ProblemValue) (path : List ℕ) → IsProblem p → IsValid p path → IsOpen p path → IsLevel p path
 level_is p path s v h =
     let u = active_item p (covered_by p path) (item_after p path) s (choice_active p (covered_by p path) h) in
     let d = depth p path v in
@@ -62,10 +62,10 @@ level_is p path s v h =
 -- ---- where an option is at hand
 
 -- what is known where an option makes the path longer
-pub record IsAtOption (p : Cover) (path : List ℕ) (o : ℕ) : Type 0 where
+pub record IsAtOption (p : ProblemValue) (path : List ℕ) (o : ℕ) : Type 0 where
   pub some : 0 < o
   pub within : o ≤ length p.options
-  pub member : has (left p path) o ≡ true
+  pub member : has (remaining_after p path) o ≡ true
   pub item : has (option_at p o) (item_after p path) ≡ true
   -- the option's other items can be covered one after another
   pub can : CanCover p (covered_by p path ++ item_after p path ∷ []) (others (item_after p path) (option_at p o))
@@ -74,12 +74,12 @@ pub record IsAtOption (p : Cover) (path : List ℕ) (o : ℕ) : Type 0 where
   pub length_is : length (taken p (covered_by p path) o) ≡ length (covered_by p path) + length (option_at p o)
   -- the chosen item stands so far from the end as the option is long
   pub place : (d : ℕ) → get_or (taken p (covered_by p path) o) (length (taken p (covered_by p path) o) - length (option_at p o)) d ≡ item_after p path
-  pub list : list_of p (taken p (covered_by p path) o) (item_after p path) ≡ left p path
+  pub list : list_of p (taken p (covered_by p path) o) (item_after p path) ≡ remaining_after p path
 
 taken_place : (c : List ℕ) (i : ℕ) (more : List ℕ) (m n d : ℕ) → m ≡ length c + n → get_or (c ++ i ∷ more) (m - n) d ≡ i
 taken_place c i more m n d e = get_or_at c i more d (m - n) (omega arith)
 
-pub option_is_at : (p : Cover) (path : List ℕ) (o : ℕ) → IsProblem p → IsValid p path → IsChoice p (covered_by p path) o → IsAtOption p path o
+pub option_is_at : (p : ProblemValue) (path : List ℕ) (o : ℕ) → IsProblem p → IsValid p path → IsChoice p (covered_by p path) o → IsAtOption p path o
 unfolding taken
 option_is_at p path o s v h =
     let t = choice_has p (covered_by p path) o h in
@@ -98,7 +98,7 @@ option_is_at p path o s v h =
 
 -- ---- what is covered are distinct items
 
-pub covered_in_at : (p : Cover) (l : Label) (path : List ℕ) (k : Cursor) → IsProblem p → FitsAt p l path k → AreCovered p (covered_at p l path k)
+pub covered_in_at : (p : ProblemValue) (l : Label) (path : List ℕ) (k : Cursor) → IsProblem p → FitsAt p l path k → IsCoveredList p (covered_at p l path k)
 covered_in_at p X1 path cursor.None s f = rw f (covered_path p [] s (valid_start p))
 covered_in_at p X2 path cursor.None s f = covered_path p path s f
 covered_in_at p X3 path cursor.None s f = covered_path p path s f.0
@@ -111,61 +111,61 @@ covered_in_at p X8 path cursor.None s f = covered_path p path s f
 covered_in_at p Done path cursor.None s f = rw f (covered_path p [] s (valid_start p))
 covered_in_at p _ path _ s f = absurd f
 
-pub covered_distinct : (p : Cover) (s : Place) → IsProblem p → Fits p s → AreCovered p (covered_in p s)
+pub covered_distinct : (p : ProblemValue) (s : StateValue) → IsProblem p → Fits p s → IsCoveredList p (covered_in p s)
 unfolding covered_in
 covered_distinct p s problem f = covered_in_at p s.label s.path s.cursor problem f
 
 -- ---- what differs on the covered list from label to label
 
 -- X5 and X7 have the chosen item behind what the path covers
-pub covered_x5 : (p : Cover) (path : List ℕ) (k : Cursor) → covered_in p (at X5 path k) ≡ covered_by p path ++ item_after p path ∷ []
+pub covered_x5 : (p : ProblemValue) (path : List ℕ) (k : Cursor) → covered_in p (at X5 path k) ≡ covered_by p path ++ item_after p path ∷ []
 unfolding covered_in
 covered_x5 p path k = refl
 
-pub covered_x7 : (p : Cover) (path : List ℕ) (k : Cursor) → covered_in p (at X7 path k) ≡ covered_by p path ++ item_after p path ∷ []
+pub covered_x7 : (p : ProblemValue) (path : List ℕ) (k : Cursor) → covered_in p (at X7 path k) ≡ covered_by p path ++ item_after p path ∷ []
 unfolding covered_in
 covered_x7 p path k = refl
 
 -- X6 at an option has its other items behind what X5 has
-pub covered_x6 : (p : Cover) (path : List ℕ) (o : ℕ) (k : Cursor) → covered_in p (at X6 path (At o)) ≡ covered_in p (at X5 path k) ++ others (item_after p path) (option_at p o)
+pub covered_x6 : (p : ProblemValue) (path : List ℕ) (o : ℕ) (k : Cursor) → covered_in p (at X6 path (At o)) ≡ covered_in p (at X5 path k) ++ others (item_after p path) (option_at p o)
 unfolding covered_in
 covered_x6 p path o k = taken_is p (covered_by p path) o
 
 -- X2 and X8 with one more choice have what X6 has
-pub covered_x2 : (p : Cover) (path : List ℕ) (o : ℕ) (k : Cursor) → covered_in p (at X2 (path ++ o ∷ []) k) ≡ covered_in p (at X6 path (At o))
+pub covered_x2 : (p : ProblemValue) (path : List ℕ) (o : ℕ) (k : Cursor) → covered_in p (at X2 (path ++ o ∷ []) k) ≡ covered_in p (at X6 path (At o))
 unfolding covered_in
 covered_x2 p path o k = covered_by_push p path o
 
-pub covered_x8 : (p : Cover) (path : List ℕ) (o : ℕ) (k : Cursor) → covered_in p (at X8 (path ++ o ∷ []) k) ≡ covered_in p (at X6 path (At o))
+pub covered_x8 : (p : ProblemValue) (path : List ℕ) (o : ℕ) (k : Cursor) → covered_in p (at X8 (path ++ o ∷ []) k) ≡ covered_in p (at X6 path (At o))
 unfolding covered_in
 covered_x8 p path o k = covered_by_push p path o
 
 -- ---- what a step changes there: X4 covers the chosen item
-pub covered_next_x4 : (p : Cover) (path : List ℕ) (k : Cursor) → covered_in p (next p (at X4 path k)) ≡ covered_in p (at X4 path k) ++ item_after p path ∷ []
+pub covered_next_x4 : (p : ProblemValue) (path : List ℕ) (k : Cursor) → covered_in p (next p (at X4 path k)) ≡ covered_in p (at X4 path k) ++ item_after p path ∷ []
 unfolding next covered_in
 covered_next_x4 p path k = refl
 
 -- X5 at an option covers its other items
-pub covered_next_x5 : (p : Cover) (path : List ℕ) (o : ℕ) → covered_in p (next p (at X5 path (At o))) ≡ covered_in p (at X5 path (At o)) ++ others (item_after p path) (option_at p o)
+pub covered_next_x5 : (p : ProblemValue) (path : List ℕ) (o : ℕ) → covered_in p (next p (at X5 path (At o))) ≡ covered_in p (at X5 path (At o)) ++ others (item_after p path) (option_at p o)
 unfolding next covered_in
 covered_next_x5 p path o = covered_by_push p path o ∙ taken_is p (covered_by p path) o
 
 -- X6 uncovers them
-pub covered_next_x6 : (p : Cover) (path : List ℕ) (o : ℕ) → covered_in p (at X6 path (At o)) ≡ covered_in p (next p (at X6 path (At o))) ++ others (item_after p path) (option_at p o)
+pub covered_next_x6 : (p : ProblemValue) (path : List ℕ) (o : ℕ) → covered_in p (at X6 path (At o)) ≡ covered_in p (next p (at X6 path (At o))) ++ others (item_after p path) (option_at p o)
 unfolding next covered_in
 covered_next_x6 p path o = taken_is p (covered_by p path) o
 
 -- X7 uncovers the chosen item
-pub covered_next_x7 : (p : Cover) (path : List ℕ) (k : Cursor) → covered_in p (at X7 path k) ≡ covered_in p (next p (at X7 path k)) ++ item_after p path ∷ []
+pub covered_next_x7 : (p : ProblemValue) (path : List ℕ) (k : Cursor) → covered_in p (at X7 path k) ≡ covered_in p (next p (at X7 path k)) ++ item_after p path ∷ []
 unfolding next covered_in
 covered_next_x7 p path k = refl
 
 -- all other steps change nothing
-pub covered_next_x1 : (p : Cover) (path : List ℕ) (k : Cursor) → covered_in p (next p (at X1 path k)) ≡ covered_in p (at X1 path k)
+pub covered_next_x1 : (p : ProblemValue) (path : List ℕ) (k : Cursor) → covered_in p (next p (at X1 path k)) ≡ covered_in p (at X1 path k)
 unfolding next covered_in
 covered_next_x1 p path k = refl
 
-pub covered_next_x2 : (p : Cover) (path : List ℕ) (k : Cursor) → covered_in p (next p (at X2 path k)) ≡ covered_in p (at X2 path k)
+pub covered_next_x2 : (p : ProblemValue) (path : List ℕ) (k : Cursor) → covered_in p (next p (at X2 path k)) ≡ covered_in p (at X2 path k)
 unfolding next covered_in
 covered_next_x2 p path k = step (cases_Bool (is_open p path))
   where
@@ -173,15 +173,15 @@ covered_next_x2 p path k = step (cases_Bool (is_open p path))
     step (inl e) = rw e refl
     step (inr e) = rw e refl
 
-pub covered_next_x3 : (p : Cover) (path : List ℕ) (k : Cursor) → covered_in p (next p (at X3 path k)) ≡ covered_in p (at X3 path k)
+pub covered_next_x3 : (p : ProblemValue) (path : List ℕ) (k : Cursor) → covered_in p (next p (at X3 path k)) ≡ covered_in p (at X3 path k)
 unfolding next covered_in
 covered_next_x3 p path k = refl
 
-pub covered_next_past : (p : Cover) (path : List ℕ) → covered_in p (next p (at X5 path Past)) ≡ covered_in p (at X5 path Past)
+pub covered_next_past : (p : ProblemValue) (path : List ℕ) → covered_in p (next p (at X5 path Past)) ≡ covered_in p (at X5 path Past)
 unfolding next covered_in
 covered_next_past p path = refl
 
-pub covered_next_x8 : (p : Cover) (path : List ℕ) (k : Cursor) → covered_in p (next p (at X8 path k)) ≡ covered_in p (at X8 path k)
+pub covered_next_x8 : (p : ProblemValue) (path : List ℕ) (k : Cursor) → covered_in p (next p (at X8 path k)) ≡ covered_in p (at X8 path k)
 unfolding next covered_in
 covered_next_x8 p path k = step (split_last_cases path)
   where

@@ -7,7 +7,7 @@ use Rattle.x_steps.specs.declared.state.Label.TheVariants.{X2, X3, X4, X5, X6, X
 use Rattle.x_steps.specs.declared.state.Cursor.TheVariants as cursor
 use Rattle.x_steps.specs.declared.state.Cursor.TheVariants.{At, Past}
 use Rattle.x_steps.specs.declared.event.Event.TheVariants.{Visited, Finished}
-use Rattle.x_steps.specs.Place.{at, start, done}
+use Rattle.x_steps.specs.StateValue.{at, start, done}
 use Rattle.x_steps.specs.Steps.{next, covered_in, event_of}
 use Rattle.x_steps.specs.Before.{prev}
 use Rattle.x_steps.specs.Run.{after}

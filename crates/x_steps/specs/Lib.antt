@@ -1,5 +1,5 @@
-pub mod Place
-pub mod Shown
+pub mod StateValue
+pub mod StateView
 pub mod Steps
 pub mod Before
 pub mod Run
@@ -7,6 +7,6 @@ pub mod Order
 pub mod Covers
 pub mod Rank
 pub mod Machine
-pub mod Marks
+pub mod Marked
 pub mod Faults
 pub mod Resume

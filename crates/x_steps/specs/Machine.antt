@@ -1,22 +1,22 @@
 -- What a machine stands for, and what it keeps.
 use Rattle.std.specs.Prelude.{ℕ, ◌+◌, ◌-◌, ◌≡◌, ◌≤◌, Bool, true, false, not, Option, Some, None, option_map, List, length, map, filter, if◌then◌else◌}
 use Rattle.cover_problem.specs.Lists.{has, numbers}
-use Rattle.cover_problem.specs.Problem.{Cover, IsProblem}
+use Rattle.cover_problem.specs.Problem.{ProblemValue, IsProblem}
 use Rattle.cover_problem.specs.Covering.{active, remaining, list_of}
 use Rattle.x_steps.specs.declared.state.Label.{Label}
 use Rattle.x_steps.specs.declared.state.Label.TheVariants.{X4, X5, X6, X7}
 use Rattle.x_steps.specs.declared.event.Event.{Event}
-use Rattle.x_steps.specs.Place.{Place}
+use Rattle.x_steps.specs.StateValue.{StateValue}
 use Rattle.x_steps.specs.Steps.{Fits, item_after, covered_in, next, event_of, IsBefore}
 use Rattle.x_steps.specs.Before.{prev}
 
 -- a problem, and where its search stands
 pub record Position : Type 0 where
-  pub problem : Cover
-  pub state : Place
+  pub problem : ProblemValue
+  pub state : StateValue
 
 -- the state fits the problem, the table stands for what is covered there, and the path has room for a choice of each item
-pub record Keeps (p : Cover) (s : Place) (subject : Cover) (covered : List ℕ) (room : ℕ) : Type 0 where
+pub record Keeps (p : ProblemValue) (s : StateValue) (subject : ProblemValue) (covered : List ℕ) (room : ℕ) : Type 0 where
   pub sound : IsProblem p
   pub fit : Fits p s
   pub same : subject ≡ p
@@ -40,15 +40,15 @@ pub record GoesBack (old new : Position) : Type 0 where
   pub before : IsBefore old.problem new.state old.state
 
 -- the active items, each with the options left for it
-abbrev pub remaining_items : Cover → List ℕ → List (ℕ × List ℕ)
+abbrev pub remaining_items : ProblemValue → List ℕ → List (ℕ × List ℕ)
 remaining_items p c = map (λ i. (i, remaining p c i)) (active p c)
 
 -- the secondary items, above the primary ones, that are not covered
-unfoldable pub secondary : Cover → List ℕ → List ℕ
+unfoldable pub secondary : ProblemValue → List ℕ → List ℕ
 secondary p c = filter (λ i. not (has c i)) (numbers (length p.names - p.primary) (p.primary + 1))
 
 -- each with the options left for it
-abbrev pub second_items : Cover → List ℕ → List (ℕ × List ℕ)
+abbrev pub second_items : ProblemValue → List ℕ → List (ℕ × List ℕ)
 second_items p c = map (λ i. (i, remaining p c i)) (secondary p c)
 
 -- whether an item is chosen at the step
@@ -60,9 +60,9 @@ is_chosen X7 = true
 is_chosen _ = false
 
 -- the item that is chosen at X4 to X7
-unfoldable pub chosen_item : Cover → Place → Option ℕ
+unfoldable pub chosen_item : ProblemValue → StateValue → Option ℕ
 chosen_item p s = if is_chosen s.label then Some (item_after p s.path) else None
 
 -- that item, with the options of its list
-unfoldable pub chosen_in : Cover → Place → Option (ℕ × List ℕ)
+unfoldable pub chosen_in : ProblemValue → StateValue → Option (ℕ × List ℕ)
 chosen_in p s = option_map (λ i. (i, list_of p (covered_in p s) i)) (chosen_item p s)

@@ -1,12 +1,12 @@
 -- Where a state stands on the run, as a number that each step raises: a device of the proofs, by which every search ends.
 -- The digits are those of the path, and one for the label and the cursor.
 use Rattle.std.specs.Prelude.{ℕ, zero, suc, ◌+◌, ◌*◌, ◌^◌, List, [], ◌∷◌, ◌++◌, length, map}
-use Rattle.cover_problem.specs.Problem.{Cover}
+use Rattle.cover_problem.specs.Problem.{ProblemValue}
 use Rattle.x_steps.specs.declared.state.Label.{Label}
 use Rattle.x_steps.specs.declared.state.Label.TheVariants.{X1, X2, X3, X4, X5, X6, X7, X8, Done}
 use Rattle.x_steps.specs.declared.state.Cursor.{Cursor}
 use Rattle.x_steps.specs.declared.state.Cursor.TheVariants.{At}
-use Rattle.x_steps.specs.Place.{Place}
+use Rattle.x_steps.specs.StateValue.{StateValue}
 
 -- of m options: what is done before all deeper choices, at them, and after them
 abbrev pub digit_at : ℕ → Label → Cursor → ℕ
@@ -32,5 +32,5 @@ number base (suc n) [] = 0
 number base (suc n) (d ∷ ds) = d * base ^ n + number base n ds
 
 -- a path has at most one choice for each primary item
-unfoldable pub rank : Cover → Place → ℕ
+unfoldable pub rank : ProblemValue → StateValue → ℕ
 rank p s = number (4 * length p.options + 9) (suc p.primary) (digits (length p.options) s.label s.path s.cursor)

@@ -1,18 +1,18 @@
 -- A machine on its way down a path.
 use Rattle.std.specs.Prelude.{◌≡◌, Bool, List, length, ℕ}
-use Rattle.cover_problem.specs.Problem.{Cover}
+use Rattle.cover_problem.specs.Problem.{ProblemValue}
 use Rattle.cover_problem.specs.Path.{covered_by}
 use Rattle.x_steps.specs.declared.state.Label.TheVariants.{X2}
 use Rattle.x_steps.specs.declared.state.Cursor.TheVariants.{None}
-use Rattle.x_steps.specs.Place.{Place, at}
+use Rattle.x_steps.specs.StateValue.{StateValue, at}
 use Rattle.x_steps.specs.Machine.{Position}
-use Rattle.x_steps.specs.Marks.{AreMarked}
+use Rattle.x_steps.specs.Marked.{AreMarked}
 
 -- a problem with a state
-abbrev pub position : Cover → Place → Position
+abbrev pub position : ProblemValue → StateValue → Position
 position p s = record { problem = p; state = s }
 
 -- the machine is at X2 with this path, and what the path covers is marked
-pub record IsDown (p : Cover) (path : List ℕ) (m : Position) (marks : List Bool) : Type 0 where
+pub record IsDown (p : ProblemValue) (path : List ℕ) (m : Position) (marks : List Bool) : Type 0 where
   pub here : m ≡ position p (at X2 path None)
   pub marked : AreMarked marks (length p.names) (covered_by p path)

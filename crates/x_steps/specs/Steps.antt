@@ -5,7 +5,7 @@
 -- is e, and it has no option left; covered are then a d g b c f e.
 use Rattle.std.specs.Prelude.{ℕ, ◌<◌, ◌≡◌, nat_lt, Bool, not, ◌&&◌, true, false, Option, Some, List, [], ◌∷◌, ◌++◌, length, if◌then◌else◌}
 use Rattle.cover_problem.specs.Lists.{above}
-use Rattle.cover_problem.specs.Problem.{Cover}
+use Rattle.cover_problem.specs.Problem.{ProblemValue}
 use Rattle.cover_problem.specs.Covering.{active, remaining, choice}
 use Rattle.cover_problem.specs.Path.{IsChoice, IsValid, taken, covered_by}
 use Rattle.x_steps.specs.declared.state.Label.{Label}
@@ -16,32 +16,32 @@ use Rattle.x_steps.specs.declared.state.Cursor.TheVariants.{At, Past}
 use Rattle.x_steps.specs.declared.event.Event.{Event}
 use Rattle.x_steps.specs.declared.event.Event.TheVariants.{Moved, Visited, Finished}
 use Rattle.std.specs.Prelude as prelude
-use Rattle.x_steps.specs.Place.{Place, at}
+use Rattle.x_steps.specs.StateValue.{StateValue, at}
 
 -- whether an item is active after a path
-abbrev pub is_open : Cover → List ℕ → Bool
+abbrev pub is_open : ProblemValue → List ℕ → Bool
 is_open p path = nat_lt 0 (length (active p (covered_by p path)))
 
 -- an item is active after a path
-abbrev pub IsOpen : Cover → List ℕ → Type 0
+abbrev pub IsOpen : ProblemValue → List ℕ → Type 0
 IsOpen p path = 0 < length (active p (covered_by p path))
 
 -- the item chosen after a path
-abbrev pub item_after : Cover → List ℕ → ℕ
+abbrev pub item_after : ProblemValue → List ℕ → ℕ
 item_after p path = choice p (covered_by p path)
 
 -- the options left for the item that is chosen after a path
-abbrev pub left : Cover → List ℕ → List ℕ
-left p path = remaining p (covered_by p path) (item_after p path)
+abbrev pub remaining_after : ProblemValue → List ℕ → List ℕ
+remaining_after p path = remaining p (covered_by p path) (item_after p path)
 
 -- a path without its last choice, and that choice
-abbrev pub grown : ℕ → Option (List ℕ × ℕ) → List ℕ × ℕ
-grown x prelude.None = ([], x)
-grown x (Some s) = (x ∷ s.0, s.1)
+abbrev pub with_first : ℕ → Option (List ℕ × ℕ) → List ℕ × ℕ
+with_first x prelude.None = ([], x)
+with_first x (Some s) = (x ∷ s.0, s.1)
 
 abbrev pub split_last : List ℕ → Option (List ℕ × ℕ)
 split_last [] = prelude.None
-split_last (x ∷ xs) = Some (grown x (split_last xs))
+split_last (x ∷ xs) = Some (with_first x (split_last xs))
 
 -- the option that a step comes to, or past the last
 abbrev pub cursor_of : Option ℕ → Cursor
@@ -50,7 +50,7 @@ cursor_of (Some o) = At o
 
 -- the states that fit: the path is valid, X1 and Done have the empty one, an item is active where one was chosen, and the
 -- option that the step is at makes the path longer by a valid choice
-abbrev pub FitsAt : Cover → Label → List ℕ → Cursor → Type 0
+abbrev pub FitsAt : ProblemValue → Label → List ℕ → Cursor → Type 0
 FitsAt p X1 path cursor.None = path ≡ []
 FitsAt p X2 path cursor.None = IsValid p path
 FitsAt p X3 path cursor.None = IsValid p path × IsOpen p path
@@ -63,40 +63,40 @@ FitsAt p X8 path cursor.None = IsValid p path
 FitsAt p Done path cursor.None = path ≡ []
 FitsAt p _ path _ = ⊥
 
-abbrev pub Fits : Cover → Place → Type 0
+abbrev pub Fits : ProblemValue → StateValue → Type 0
 Fits p s = FitsAt p s.label s.path s.cursor
 
 -- what is covered at a state, in the order of covering
-abbrev pub covered_at : Cover → Label → List ℕ → Cursor → List ℕ
+abbrev pub covered_at : ProblemValue → Label → List ℕ → Cursor → List ℕ
 covered_at p X5 path k = covered_by p path ++ item_after p path ∷ []
 covered_at p X7 path k = covered_by p path ++ item_after p path ∷ []
 covered_at p X6 path (At o) = taken p (covered_by p path) o
 covered_at p label path k = covered_by p path
 
-unfoldable pub covered_in : Cover → Place → List ℕ
+unfoldable pub covered_in : ProblemValue → StateValue → List ℕ
 covered_in p s = covered_at p s.label s.path s.cursor
 
 -- after X8: the last choice is taken back, or there is none and the run ends
-abbrev pub taken_back : Option (List ℕ × ℕ) → Place
+abbrev pub taken_back : Option (List ℕ × ℕ) → StateValue
 taken_back prelude.None = at Done [] cursor.None
 taken_back (Some s) = at X6 s.0 (At s.1)
 
 -- the step table
-abbrev pub next_at : Cover → Label → List ℕ → Cursor → Place
+abbrev pub next_at : ProblemValue → Label → List ℕ → Cursor → StateValue
 next_at p X1 path k = at X2 path cursor.None
 next_at p X2 path k = if is_open p path then at X3 path cursor.None else at X8 path cursor.None
 next_at p X3 path k = at X4 path cursor.None
-next_at p X4 path k = at X5 path (cursor_of (above 0 (left p path)))
+next_at p X4 path k = at X5 path (cursor_of (above 0 (remaining_after p path)))
 next_at p X5 path (At o) = at X2 (path ++ o ∷ []) cursor.None
 next_at p X5 path k = at X7 path cursor.None
-next_at p X6 path (At o) = at X5 path (cursor_of (above o (left p path)))
+next_at p X6 path (At o) = at X5 path (cursor_of (above o (remaining_after p path)))
 next_at p X6 path k = at X6 path k
 next_at p X7 path k = at X8 path cursor.None
 next_at p X8 path k = taken_back (split_last path)
 next_at p Done path k = at Done path k
 
 -- the state after one step
-unfoldable pub next : Cover → Place → Place
+unfoldable pub next : ProblemValue → StateValue → StateValue
 next p s = next_at p s.label s.path s.cursor
 
 -- whether the step is X2, which begins a level
@@ -105,24 +105,24 @@ is_level X2 = true
 is_level _ = false
 
 -- an entry of X2 that finds an active item
-abbrev pub is_entry : Cover → Place → Bool
+abbrev pub is_entry : ProblemValue → StateValue → Bool
 is_entry p s = is_level s.label && is_open p s.path
 
 -- an X2 with no active item: its path is a visit
-abbrev pub is_visit : Cover → Place → Bool
+abbrev pub is_visit : ProblemValue → StateValue → Bool
 is_visit p s = is_level s.label && not (is_open p s.path)
 
 -- what a step tells
-abbrev pub event_at : Cover → Label → List ℕ → Event
+abbrev pub event_at : ProblemValue → Label → List ℕ → Event
 event_at p X2 path = if is_open p path then Moved else Visited
 event_at p X8 [] = Finished
 event_at p _ _ = Moved
 
-unfoldable pub event_of : Cover → Place → Event
+unfoldable pub event_of : ProblemValue → StateValue → Event
 event_of p s = event_at p s.label s.path
 
 -- t comes before s: it fits, it isn't the end, and s is next
-pub record IsBefore (p : Cover) (t s : Place) : Type 0 where
+pub record IsBefore (p : ProblemValue) (t s : StateValue) : Type 0 where
   pub fit : Fits p t
   pub goes_on : t.label ≡ Done → ⊥
   pub steps : next p t ≡ s

@@ -12,9 +12,9 @@ use cover_problem::Table;
 /// The first of the active items with the fewest options left (TAOCP volume 4B, section 7.2.2.1, exercise 9).
 #[inline(always)]
 pub fn choose<T: Table>(table: &T) -> u32
-    requires problem { IsProblem (T.subject table.now) }
-    requires open { 0 < length (active (T.subject table.now) (T.covered_list table.now)) }
-    ensures { result ≡ choice (T.subject table.now) (T.covered_list table.now) }
+    requires problem { IsProblem (T.problem_value table.now) }
+    requires open { 0 < length (active (T.problem_value table.now) (T.covered_list table.now)) }
+    ensures { result ≡ choice (T.problem_value table.now) (T.covered_list table.now) }
 {
     let mut best = table.first_item().unwrap();
     let mut least = table.len(best);
@@ -33,7 +33,7 @@ pub fn choose<T: Table>(table: &T) -> u32
 /// Whether an item is active.
 #[inline(always)]
 pub fn has_active<T: Table>(table: &T) -> bool
-    ensures { result ≡ nat_lt 0 (length (active (T.subject table.now) (T.covered_list table.now))) }
+    ensures { result ≡ nat_lt 0 (length (active (T.problem_value table.now) (T.covered_list table.now))) }
 {
     table.first_item().is_some()
 }
@@ -51,8 +51,8 @@ pub fn last_covered<T: Table>(table: &T) -> u32
 /// Covers the items in order.
 #[inline(always)]
 fn cover_each<T: Table>(table: &mut T, items: &[u32])
-    requires { CanCover (T.subject table.old) (T.covered_list table.old) items.now }
-    ensures subject { T.subject table.new ≡ T.subject table.old }
+    requires { CanCover (T.problem_value table.old) (T.covered_list table.old) items.now }
+    ensures same_problem { T.problem_value table.new ≡ T.problem_value table.old }
     ensures covered { T.covered_list table.new ≡ T.covered_list table.old ++ items.now }
 {
     for item in items {
@@ -73,8 +73,8 @@ fn place_of(option: &[u32], item: u32) -> usize
 #[inline(always)]
 pub fn cover_others<T: Table>(table: &mut T, option: &[u32], item: u32)
     requires member { has option.now item ≡ true }
-    requires can { CanCover (T.subject table.old) (T.covered_list table.old) (others item option.now) }
-    ensures subject { T.subject table.new ≡ T.subject table.old }
+    requires can { CanCover (T.problem_value table.old) (T.covered_list table.old) (others item option.now) }
+    ensures same_problem { T.problem_value table.new ≡ T.problem_value table.old }
     ensures covered { T.covered_list table.new ≡ T.covered_list table.old ++ others item option.now }
 {
     let place = place_of(option, item);
@@ -88,7 +88,7 @@ pub fn cover_others<T: Table>(table: &mut T, option: &[u32], item: u32)
 #[inline(always)]
 pub fn uncover_last<T: Table>(table: &mut T, count: usize)
     requires { (front back : List ℕ) × (T.covered_list table.old ≡ front ++ back) × (length back ≡ count) }
-    ensures subject { T.subject table.new ≡ T.subject table.old }
+    ensures same_problem { T.problem_value table.new ≡ T.problem_value table.old }
     ensures covered { (back : List ℕ) × (T.covered_list table.old ≡ T.covered_list table.new ++ back) × (length back ≡ count) }
 {
     for _ in 0..count {

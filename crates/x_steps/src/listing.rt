@@ -11,8 +11,8 @@ use std::alloc::{AllocError, Global};
 /// The options of an item's list.
 pub fn options_of<T: Table>(alloc: Global, table: &T, item: u32) -> Result<Vec<u32>, AllocError>
     requires some { 0 < item }
-    requires within { item ≤ length (T.subject table.now).names }
-    ensures { IfOk result (λ options. options.items ≡ list_of (T.subject table.now) (T.covered_list table.now) item) }
+    requires within { item ≤ length (T.problem_value table.now).names }
+    ensures { IfOk result (λ options. options.items ≡ list_of (T.problem_value table.now) (T.covered_list table.now) item) }
 {
     let mut options = Vec::with_capacity(alloc, table.len(item) as usize)?;
     let mut next = table.first_option(item);
@@ -25,8 +25,8 @@ pub fn options_of<T: Table>(alloc: Global, table: &T, item: u32) -> Result<Vec<u
 
 /// The active items, each with the options left for it.
 pub fn active_items<T: Table>(alloc: Global, table: &T) -> Result<Vec<(u32, Vec<u32>)>, AllocError>
-    requires { IsProblem (T.subject table.now) }
-    ensures { IfOk result (λ rows. map (λ row. (row.0, row.1.items)) rows.items ≡ remaining_items (T.subject table.now) (T.covered_list table.now)) }
+    requires { IsProblem (T.problem_value table.now) }
+    ensures { IfOk result (λ rows. map (λ row. (row.0, row.1.items)) rows.items ≡ remaining_items (T.problem_value table.now) (T.covered_list table.now)) }
 {
     let mut rows = Vec::new(alloc);
     let mut next = table.first_item();
@@ -43,7 +43,7 @@ pub fn secondary_items<T: Table>(
     problem: &Problem,
     table: &T,
 ) -> Result<Vec<(u32, Vec<u32>)>, AllocError>
-    requires { T.subject table.now ≡ problem.now }
+    requires { T.problem_value table.now ≡ problem.now }
     ensures { IfOk result (λ rows. map (λ row. (row.0, row.1.items)) rows.items ≡ second_items problem.now (T.covered_list table.now)) }
 {
     let marks = marks_of(alloc, problem.items(), table.covered())?;

@@ -1,8 +1,8 @@
 //! The machine: a state, and a table that stands for what is covered there.
 ghost use Rattle.std.specs.Prelude.{◌≡◌, ◌<◌, ◌≤◌, ◌++◌, ◌∷◌, ◌↔◌, [], length, vec_len, vec_capacity, if◌then◌else◌, ℕ, ◌≢◌, IfOk, IfErr, OnOk, IsErr};
 ghost use Rattle.cover_problem.specs.Problem.{IsProblem};
-ghost use Rattle.x_steps.specs.Place.{start};
-ghost use Rattle.x_steps.specs.Shown.{place};
+ghost use Rattle.x_steps.specs.StateValue.{start};
+ghost use Rattle.x_steps.specs.StateView.{state_value};
 ghost use Rattle.x_steps.specs.Steps.{Fits, covered_in, next, event_of, cursor_of};
 ghost use Rattle.x_steps.specs.Machine.{IsAt, Goes};
 
@@ -73,17 +73,17 @@ impl<'p, T: Table> Model for Machine<'p, T> {
 
     ghost Value = { Position };
 
-    ghost use Rattle.x_steps.specs.Shown.{place};
+    ghost use Rattle.x_steps.specs.StateView.{state_value};
 
-    ghost view = { λ m. record { problem = m.problem.now; state = place m.state } };
+    ghost view = { λ m. record { problem = m.problem.now; state = state_value m.state } };
 
-    ghost invariant = { λ m. Keeps m.problem.now (place m.state) (T.subject m.table) (T.covered_list m.table) (vec_capacity m.state.path) };
+    ghost invariant = { λ m. Keeps m.problem.now (state_value m.state) (T.problem_value m.table) (T.covered_list m.table) (vec_capacity m.state.path) };
 }
 
 impl<'p, T: Table> Machine<'p, T> {
     /// The machine at X1. Refused only for want of memory, and then the table comes back.
     pub fn new(alloc: Global, problem: &'p Problem, table: T) -> Result<Machine<'p, T>, T>
-        requires subject { T.subject table ≡ problem.now }
+        requires same_problem { T.problem_value table ≡ problem.now }
         requires covered { T.covered_list table ≡ [] }
         ensures at_first { IfOk result (λ m. m ≡ record { problem = problem.now; state = start }) }
         ensures given_back { IfErr result (λ t. t ≡ table) }
@@ -104,7 +104,7 @@ impl<'p, T: Table> Machine<'p, T> {
 
     /// Where the search stands.
     pub fn state(&self) -> &State
-        ensures state { place result.now ≡ self.now.state }
+        ensures state { state_value result.now ≡ self.now.state }
         ensures fits { Fits self.now.problem self.now.state }
         ensures problem { IsProblem self.now.problem }
     {
@@ -113,7 +113,7 @@ impl<'p, T: Table> Machine<'p, T> {
 
     /// The table, which stands for the items covered at the state.
     pub fn table(&self) -> &T
-        ensures subject { T.subject result.now ≡ self.now.problem }
+        ensures same_problem { T.problem_value result.now ≡ self.now.problem }
         ensures covered { T.covered_list result.now ≡ covered_in self.now.problem self.now.state }
     {
         &self.table

@@ -2,7 +2,7 @@
 ghost use Rattle.std.specs.Prelude.{◌≡◌, ◌<◌, ◌≤◌, ◌++◌, [], ℕ, All, List, length, true, false, not, ◌&&◌, slice_index_or, IfOk};
 ghost use Rattle.std.specs.List.{list_any};
 ghost use Rattle.cover_problem.specs.Lists.{has};
-ghost use Rattle.x_steps.specs.Marks.{AreMarked};
+ghost use Rattle.x_steps.specs.Marked.{AreMarked};
 
 use std::alloc::{AllocError, Global};
 

@@ -34,11 +34,11 @@ pub struct State {
 
 impl State {
     ghost use Rattle.std.specs.Prelude.{◌≡◌, IfOk};
-    ghost use Rattle.x_steps.specs.Shown.{place};
+    ghost use Rattle.x_steps.specs.StateView.{state_value};
 
     /// The same state, with a path of its own.
     pub fn copy(&self) -> Result<State, AllocError>
-        ensures { IfOk result (λ state. place state ≡ place self.now) }
+        ensures { IfOk result (λ state. state_value state ≡ state_value self.now) }
     {
         Ok(State {
             label: self.label,

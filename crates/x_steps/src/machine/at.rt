@@ -3,11 +3,11 @@ ghost use Rattle.std.specs.Prelude.{◌≡◌, ◌<◌, ◌≤◌, ◌++◌, ◌
 ghost use Rattle.std.specs.List.{list_any};
 ghost use Rattle.cover_problem.specs.Lists.{has, above};
 ghost use Rattle.cover_problem.specs.Path.{IsChoice, IsValid, covered_by};
-ghost use Rattle.x_steps.specs.Place.{at};
-ghost use Rattle.x_steps.specs.Shown.{place};
-ghost use Rattle.x_steps.specs.Steps.{Fits, IsOpen, left, cursor_of, covered_in};
+ghost use Rattle.x_steps.specs.StateValue.{at};
+ghost use Rattle.x_steps.specs.StateView.{state_value};
+ghost use Rattle.x_steps.specs.Steps.{Fits, IsOpen, remaining_after, cursor_of, covered_in};
 ghost use Rattle.x_steps.specs.Machine.{IsAt};
-ghost use Rattle.x_steps.specs.Marks.{AreMarked};
+ghost use Rattle.x_steps.specs.Marked.{AreMarked};
 ghost use Rattle.x_steps.specs.Resume.{position, IsDown};
 
 use crate::covering::{choose, has_active, uncover_last};
@@ -42,12 +42,12 @@ impl<'p, T: Table> Machine<'p, T> {
         table: T,
         state: &State,
     ) -> Result<Machine<'p, T>, Refused<AtFault, T>>
-        requires subject { T.subject table ≡ problem.now }
+        requires same_problem { T.problem_value table ≡ problem.now }
         requires covered { T.covered_list table ≡ [] }
-        ensures at { IfOk result (λ m. m ≡ record { problem = problem.now; state = place state.now }) }
-        ensures fits { OnOk result (Fits problem.now (place state.now)) }
-        ensures unfit { IfErr result (λ r. r.fault ≡ AtFault.NotAState → Fits problem.now (place state.now) → ⊥) }
-        ensures subject_back { IfErr result (λ r. T.subject r.given ≡ problem.now) }
+        ensures at { IfOk result (λ m. m ≡ record { problem = problem.now; state = state_value state.now }) }
+        ensures fits { OnOk result (Fits problem.now (state_value state.now)) }
+        ensures unfit { IfErr result (λ r. r.fault ≡ AtFault.NotAState → Fits problem.now (state_value state.now) → ⊥) }
+        ensures subject_back { IfErr result (λ r. T.problem_value r.given ≡ problem.now) }
         ensures covered_back { IfErr result (λ r. T.covered_list r.given ≡ []) }
     {
         let mut marks = match no_marks(alloc, problem.items()) {
@@ -81,7 +81,7 @@ impl<'p, T: Table> Machine<'p, T> {
 
     /// The table, with nothing covered.
     fn into_table(self) -> T
-        ensures subject { T.subject result ≡ self.entry.problem }
+        ensures same_problem { T.problem_value result ≡ self.entry.problem }
         ensures covered { T.covered_list result ≡ [] }
     {
         let Machine {
@@ -97,9 +97,9 @@ impl<'p, T: Table> Machine<'p, T> {
     /// Goes to the state, if the search has it.
     fn reach(&mut self, state: &State, marks: &mut [bool]) -> bool
         requires { IsDown self.old.problem [] self.old marks.old }
-        ensures there { IsTrue result → self.new ≡ position self.old.problem (place state.now) }
-        ensures fits { IsTrue result → Fits self.old.problem (place state.now) }
-        ensures unfit { result ≡ false → Fits self.old.problem (place state.now) → ⊥ }
+        ensures there { IsTrue result → self.new ≡ position self.old.problem (state_value state.now) }
+        ensures fits { IsTrue result → Fits self.old.problem (state_value state.now) }
+        ensures unfit { result ≡ false → Fits self.old.problem (state_value state.now) → ⊥ }
         ensures problem { self.new.problem ≡ self.old.problem }
     {
         if !self.follow(&state.path, marks) {
@@ -258,7 +258,7 @@ impl<'p, T: Table> Machine<'p, T> {
     fn open_level(&mut self)
         requires label { IsAt self.old Label.X2 }
         requires open { IsOpen self.old.problem self.old.state.path }
-        ensures { self.new ≡ position self.old.problem (at Label.X5 self.old.state.path (cursor_of (above 0 (left self.old.problem self.old.state.path)))) }
+        ensures { self.new ≡ position self.old.problem (at Label.X5 self.old.state.path (cursor_of (above 0 (remaining_after self.old.problem self.old.state.path)))) }
     {
         self.enter();
         self.plan();

@@ -1,7 +1,7 @@
 //! The machine, backwards: each method goes from one step of the table to the step before it.
 ghost use Rattle.std.specs.Prelude.{◌≡◌, ◌≢◌, ◌↔◌, ℕ, OnOk, IfErr, IsErr};
 ghost use Rattle.cover_problem.specs.Lists.{below, last_of};
-ghost use Rattle.x_steps.specs.Steps.{left};
+ghost use Rattle.x_steps.specs.Steps.{remaining_after};
 ghost use Rattle.x_steps.specs.Before.{prev, came_from};
 ghost use Rattle.x_steps.specs.Steps.{IsBefore};
 ghost use Rattle.x_steps.specs.Machine.{IsAt, GoesBack};
@@ -93,7 +93,7 @@ impl<'p, T: Table> Machine<'p, T> {
     fn option_before(&self, option: u32) -> Option<u32>
         requires label { IsAt self.now Label.X5 }
         requires cursor { self.now.state.cursor ≡ Cursor.At option }
-        ensures { result ≡ below option (left self.now.problem self.now.state.path) }
+        ensures { result ≡ below option (remaining_after self.now.problem self.now.state.path) }
     {
         let item = last_covered(&self.table);
         self.table.prev_option(item, option)
@@ -102,7 +102,7 @@ impl<'p, T: Table> Machine<'p, T> {
     /// The last of the options left for the chosen item.
     fn last_left(&self) -> Option<u32>
         requires { IsAt self.now Label.X5 }
-        ensures { result ≡ last_of (left self.now.problem self.now.state.path) }
+        ensures { result ≡ last_of (remaining_after self.now.problem self.now.state.path) }
     {
         let item = last_covered(&self.table);
         self.table.last_option(item)

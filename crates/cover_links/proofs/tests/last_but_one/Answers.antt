@@ -7,4 +7,4 @@ use Rattle.cover_links.proofs.tests.last_but_one.Goals as goal
 pub prev_option-requires : goal.prev_option-requires
 prev_option-requires c =
     let t = c.args.table.now in
-    (last_is 1 (list_of t.subject t.covered c.args.item) c.in_ok-last_option.field-0 (list_rises t.subject t.covered c.args.item) (sym c.in_ok-last_option.ensures)).0
+    (last_is 1 (list_of t.problem t.covered c.args.item) c.in_ok-last_option.field-0 (list_rises t.problem t.covered c.args.item) (sym c.in_ok-last_option.ensures)).0

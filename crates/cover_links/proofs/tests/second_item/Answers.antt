@@ -7,4 +7,4 @@ use Rattle.cover_links.proofs.tests.second_item.Goals as goal
 pub next_item-requires : goal.next_item-requires
 next_item-requires c =
     let t = c.args.table.now in
-    (above_is 0 1 (active t.subject t.covered) c.in_ok-first_item.field-0 (active_rises t.subject t.covered) (sym c.in_ok-first_item.ensures)).member
+    (above_is 0 1 (active t.problem t.covered) c.in_ok-first_item.field-0 (active_rises t.problem t.covered) (sym c.in_ok-first_item.ensures)).member

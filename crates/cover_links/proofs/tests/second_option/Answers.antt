@@ -7,4 +7,4 @@ use Rattle.cover_links.proofs.tests.second_option.Goals as goal
 pub next_option-requires : goal.next_option-requires
 next_option-requires c =
     let t = c.args.table.now in
-    (above_is 0 1 (list_of t.subject t.covered c.args.item) c.in_ok-first_option.field-0 (list_rises t.subject t.covered c.args.item) (sym c.in_ok-first_option.ensures)).member
+    (above_is 0 1 (list_of t.problem t.covered c.args.item) c.in_ok-first_option.field-0 (list_rises t.problem t.covered c.args.item) (sym c.in_ok-first_option.ensures)).member

@@ -1,7 +1,7 @@
 use Rattle.std.proofs.Common.{◌≡◌, map, length}
 use Rattle.text_lines.specs.Lines.{words_of}
 use Rattle.text_lines.specs.Each.{each}
-use Rattle.cover_problem.specs.Making.{add_name}
+use Rattle.cover_problem.specs.Validation.{add_name}
 use Rattle.cover_problem.proofs.draft.with_names.Given as goal
 
 -- what the words left add to the names so far is what all words add

@@ -1,6 +1,6 @@
 use Rattle.std.proofs.Common.{◌≡◌, drop}
 use Rattle.std.specs.List.{list_all}
-use Rattle.cover_problem.specs.Fair.{is_useful}
+use Rattle.cover_problem.specs.CoverTest.{is_useful}
 use Rattle.cover_problem.proofs.exact_cover.are_useful.Given as goal
 
 abbrev pub invariant-loop-k : goal.invariant-loop-k

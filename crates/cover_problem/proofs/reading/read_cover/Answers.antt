@@ -1,13 +1,13 @@
 use Rattle.std.proofs.Common.{ℕ, List, Result, Ok, Err, IfOk, subst}
 use Rattle.cover_problem.specs.declared.fault.CoverFault.{CoverFault}
-use Rattle.cover_problem.specs.Problem.{Cover}
+use Rattle.cover_problem.specs.Problem.{ProblemValue}
 use Rattle.cover_problem.specs.Reading.{GivesAt, problem_of}
 use Rattle.cover_problem.specs.Grammar.{IsCoverText}
 use Rattle.cover_problem.proofs.SaidLemmas.{read_is_text}
 use Rattle.cover_problem.proofs.GrammarLemmas.{text_again}
 use Rattle.cover_problem.proofs.reading.read_cover.Goals as goal
 
-is_text : (text : List ℕ) (r : Result Cover CoverFault) → GivesAt (λ p. p) r (problem_of text) → IfOk r (λ p. IsCoverText text p)
+is_text : (text : List ℕ) (r : Result ProblemValue CoverFault) → GivesAt (λ p. p) r (problem_of text) → IfOk r (λ p. IsCoverText text p)
 is_text text (Ok p) h = read_is_text text p h
 is_text text (Err f) h = tt
 
@@ -15,4 +15,4 @@ pub returns-clause-text : goal.returns-clause-text
 returns-clause-text c = is_text c.args.bytes.now c.read_problem.result c.read_problem.ensures
 
 pub returns-clause-every : goal.returns-clause-every
-returns-clause-every c = λ p t. subst (λ found. GivesAt {X = Cover} {S = Cover} (λ q. q) c.read_problem.result found) (text_again c.args.bytes.now p t) c.read_problem.ensures
+returns-clause-every c = λ p t. subst (λ found. GivesAt {X = ProblemValue} {S = ProblemValue} (λ q. q) c.read_problem.result found) (text_again c.args.bytes.now p t) c.read_problem.ensures

@@ -4,4 +4,4 @@ use Rattle.cover_problem.specs.Covering.{active}
 use Rattle.cover_problem.proofs.table_tests.active.Given as goal
 
 abbrev pub invariant-loop : goal.invariant-loop
-invariant-loop g l = IfSome l.next (λ k. has (active (g.T.Table.subject l.table) (g.T.Table.covered_list l.table)) k ≡ true)
+invariant-loop g l = IfSome l.next (λ k. has (active (g.T.Table.problem_value l.table) (g.T.Table.covered_list l.table)) k ≡ true)

@@ -2,7 +2,7 @@ use Rattle.std.proofs.Common.{◌≡◌, ℕ, ◌+◌, List, map, length, sym, a
 use Rattle.std.specs.List.{flat_map}
 use Rattle.std.specs.Map.Iter.{deref_pair}
 use Rattle.std.proofs.lemmas.Result.{err_from_is_err_and}
-use Rattle.poly_cells.specs.Places.{Place}
+use Rattle.poly_cells.specs.Coordinates.{Coordinates}
 use Rattle.poly_cells.specs.Sets.{IsIn}
 use Rattle.poly_cells.proofs.SetLemmas.{in_map}
 use Rattle.poly_place.specs.Packings.{choices_of, option_of, things, choices}
@@ -24,14 +24,14 @@ added c =
     let e = entry_is c.pieces-pieces.result.now.entries c.loop-k.k c.unwrap.result.0.now c.unwrap.result.1.now (sym c.get_index.ensures.entry ∙ ap (option_map deref_pair) c.unwrap.ensures) in
     ap (λ (n : ℕ). options_by n c.args.numbers.now c.piece_number-item.result c.as_slice.result.now) c.requires.primary
     ∙ piece_options c.args.puzzle.now c.requires.puzzle c.args.numbers.now c.requires.numbers c.unwrap.result.0.now c.piece_number-item.result c.unwrap.result.1.now c.as_slice.result.now
-    (subst (λ (qs : List (ℕ × List Place)). IsIn (c.unwrap.result.0.now, c.unwrap.result.1.now) qs) c.pieces-pieces.ensures.value e.member) c.piece_number-item.ensures
+    (subst (λ (qs : List (ℕ × List Coordinates)). IsIn (c.unwrap.result.0.now, c.unwrap.result.1.now) qs) c.pieces-pieces.ensures.value e.member) c.piece_number-item.ensures
     (c.as_slice.ensures.value ∙ c.in_ok-sets.ensures.value ∙ ap (placements c.unwrap.result.1.now) c.region.ensures.value)
 
 pub piece_number-item-requires-clause-member : goal.piece_number-item-requires-clause-member
 piece_number-item-requires-clause-member c =
     let e = entry (goal.at.piece_number-item-requires-clause-member c).After-unwrap in
-    in_map (λ (q : ℕ × List Place). q.0) (c.unwrap.result.0.now, c.unwrap.result.1.now) c.args.puzzle.now.pieces
-    (subst (λ (qs : List (ℕ × List Place)). IsIn (c.unwrap.result.0.now, c.unwrap.result.1.now) qs) c.pieces-pieces.ensures.value e.member)
+    in_map (λ (q : ℕ × List Coordinates). q.0) (c.unwrap.result.0.now, c.unwrap.result.1.now) c.args.puzzle.now.pieces
+    (subst (λ (qs : List (ℕ × List Coordinates)). IsIn (c.unwrap.result.0.now, c.unwrap.result.1.now) qs) c.pieces-pieces.ensures.value e.member)
 
 pub add_options-requires-clause-items : goal.add_options-requires-clause-items
 add_options-requires-clause-items c =
@@ -73,6 +73,6 @@ loop-k-preserved c =
 pub returns-clause-value : goal.returns-clause-value
 returns-clause-value c =
     c.loop-k.invariant
-    ∙ ap (λ (qs : List (ℕ × List Place)). map (option_of c.args.puzzle.now) (flat_map (choices_of c.args.puzzle.now) qs))
+    ∙ ap (λ (qs : List (ℕ × List Coordinates)). map (option_of c.args.puzzle.now) (flat_map (choices_of c.args.puzzle.now) qs))
     (take_all c.loop-k.k c.pieces-pieces.result.now.entries (omega (arith, c.loop-k-test.false, c.len-k-end.ensures.len)) ∙ c.pieces-pieces.ensures.value)
     ∙ all_pieces c.args.puzzle.now

@@ -45,7 +45,7 @@ returns-in_err-problem-clause-refused c = λ e.
     let is = p.1 in
     let gives = p.2 in
     let was = c.in_err-problem.was in
-    not_made c.args.puzzle.now c.region-region.ensures.puzzle _ _ _ (parts (goal.at.returns-in_err-problem-clause-refused c).After-into_list) (c.made.ensures.refused cc)
+    not_made c.args.puzzle.now c.region-region.ensures.puzzle _ _ _ (parts (goal.at.returns-in_err-problem-clause-refused c).After-into_list) (c.problem_from.ensures.refused cc)
 
 pub returns-clause-value : goal.returns-clause-value
 returns-clause-value c =

@@ -1,6 +1,6 @@
 use Rattle.std.proofs.Common.{◌≡◌, sym, ap, subst, ◌∙◌, vec_items, map}
 use Rattle.std.proofs.lemmas.Result.{IfOk-weaker}
-use Rattle.poly_cells.specs.Shapes.{AllPlaces}
+use Rattle.poly_cells.specs.Shapes.{AllInGrid}
 use Rattle.poly_place.specs.Placements.{placements, ArePlacements}
 use Rattle.poly_place.proofs.PlacementLemmas.{are_shapes, found_placements, are_placements}
 use Rattle.poly_place.proofs.placement.placements.Goals as goal
@@ -13,7 +13,7 @@ found c =
     c.in_ok-sets.ensures c.put_sets_in_order.ensures
 
 pub table_of-requires : goal.table_of-requires
-table_of-requires c = subst AllPlaces (sym c.cells-cells.ensures.value) c.cells-cells.ensures.shape.limits
+table_of-requires c = subst AllInGrid (sym c.cells-cells.ensures.value) c.cells-cells.ensures.shape.limits
 
 pub shapes_of-requires : goal.shapes_of-requires
 shapes_of-requires c = are_shapes _ _ _ c.cells-piece_cells.ensures.shape c.cells-cells.ensures.shape (found c)

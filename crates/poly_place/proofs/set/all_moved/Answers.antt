@@ -1,11 +1,11 @@
 use Rattle.std.proofs.Common.{sym, subst}
-use Rattle.poly_cells.specs.Places.{IsPlace}
+use Rattle.poly_cells.specs.Coordinates.{IsInGrid}
 use Rattle.poly_place.proofs.WalkLemmas.{item_in, sum_cell}
 use Rattle.poly_place.proofs.set.all_moved.Goals as goal
 
 pub unwrap-requires : goal.unwrap-requires
 unwrap-requires c =
     c.new.ensures.accepted.1
-    (subst IsPlace
+    (subst IsInGrid
     (sym (sum_cell c.cell-item.result c.args.by _ _ _ _ _ _ c.x.ensures.value c.y.ensures.value c.z.ensures.value c.x-in-loop-cell.ensures.value c.y-in-loop-cell.ensures.value c.z-in-loop-cell.ensures.value))
     (c.requires c.cell-item.result (item_in c.args.cells.now _ _ c.loop-cell-test.true c.cell-item.is)))

@@ -1,5 +1,5 @@
 use Rattle.std.proofs.Common.{◌-◌}
-use Rattle.x_steps.specs.Place.{done}
+use Rattle.x_steps.specs.StateValue.{done}
 use Rattle.x_steps.specs.Rank.{rank}
 use Rattle.polylab.proofs.SearchLemmas.{Searches}
 use Rattle.polylab.proofs.search.search.Given as goal

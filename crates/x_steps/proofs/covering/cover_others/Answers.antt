@@ -15,4 +15,4 @@ cover_each-requires g c =
 pub cover_each-requires-2 : goal.cover_each-requires-2
 cover_each-requires-2 g c =
     let parts = can_parts _ _ (after_first (λ x. x == c.args.item) c.args.option.now) (before_first (λ x. x == c.args.item) c.args.option.now) c.requires.can in
-    rw (c.split_at-2.ensures.front, c.cover_each.ensures.subject, c.cover_each.ensures.covered, c.split_at.ensures.back, c.place_of-place.ensures) parts.1
+    rw (c.split_at-2.ensures.front, c.cover_each.ensures.same_problem, c.cover_each.ensures.covered, c.split_at.ensures.back, c.place_of-place.ensures) parts.1

@@ -4,6 +4,6 @@ use Rattle.x_steps.proofs.covering.uncover_last.Goals as goal
 
 pub loop-preserved : goal.loop-preserved
 loop-preserved g c = record {
-  subject = c.uncover.ensures.subject ∙ c.loop.invariant.subject;
+  same_problem = c.uncover.ensures.same_problem ∙ c.loop.invariant.same_problem;
   uncovers = uncovers_more _ _ _ _ _ _ c.loop.invariant.uncovers c.loop-test.true c.uncover.ensures.covered;
 }

@@ -4,7 +4,7 @@ use Rattle.x_steps.proofs.ListingLemmas.{Lists}
 use Rattle.x_steps.proofs.listing.options_of.Given as goal
 
 abbrev pub invariant-loop-next : goal.invariant-loop-next
-invariant-loop-next g l = Lists (list_of (g.T.Table.subject l.table) (g.T.Table.covered_list l.table) l.item) l.options.items l.next
+invariant-loop-next g l = Lists (list_of (g.T.Table.problem_value l.table) (g.T.Table.covered_list l.table) l.item) l.options.items l.next
 
 abbrev pub decreases-loop-next : goal.decreases-loop-next
-decreases-loop-next g l = length (list_of (g.T.Table.subject l.table) (g.T.Table.covered_list l.table) l.item) - length l.options.items
+decreases-loop-next g l = length (list_of (g.T.Table.problem_value l.table) (g.T.Table.covered_list l.table) l.item) - length l.options.items

@@ -1,7 +1,7 @@
 use Rattle.std.proofs.Common.{arith, ◌++◌, subst}
 use Rattle.std.proofs.lemmas.List.{take_all}
-use Rattle.x_steps.specs.Marks.{AreMarked}
-use Rattle.x_steps.proofs.MarkLemmas.{marks_more}
+use Rattle.x_steps.specs.Marked.{AreMarked}
+use Rattle.x_steps.proofs.MarkedLemmas.{marks_more}
 use Rattle.x_steps.proofs.marks.mark_all.Goals as goal
 
 pub loop-item-preserved : goal.loop-item-preserved

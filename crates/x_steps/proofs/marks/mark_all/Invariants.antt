@@ -1,5 +1,5 @@
 use Rattle.std.proofs.Common.{ℕ, List, ◌++◌, take}
-use Rattle.x_steps.specs.Marks.{AreMarked}
+use Rattle.x_steps.specs.Marked.{AreMarked}
 use Rattle.x_steps.proofs.marks.mark_all.Given as goal
 
 abbrev pub invariant-loop-item : goal.invariant-loop-item

@@ -1,5 +1,5 @@
 use Rattle.std.proofs.Common.{arith, []}
-use Rattle.x_steps.proofs.MarkLemmas.{marks_written}
+use Rattle.x_steps.proofs.MarkedLemmas.{marks_written}
 use Rattle.x_steps.proofs.marks.marks_of.Goals as goal
 
 pub returns : goal.returns

@@ -1,6 +1,6 @@
 use Rattle.std.proofs.Common.{◌≡◌, ℕ, suc, ◌+◌, ◌-◌, length, set, sym, ap, subst, ◌∙◌, arith, Some, List, Option}
 use Rattle.cover_links.specs.declared.entry.Entry.{Entry}
-use Rattle.cover_links.specs.Places.{values, IsFull}
+use Rattle.cover_links.specs.Slots.{values, IsFull}
 use Rattle.cover_links.proofs.PlaceLemmas.{filled, filled_none, filled_one, filled_values, filled_full, filled_length}
 use Rattle.cover_links.proofs.block.Block.make.Goals as goal
 
@@ -32,7 +32,7 @@ pub invariant_of-result : goal.invariant_of-result
 invariant_of-result c =
     let i = c.loop-index.index in let s = c.loop-index.invariant in let n = c.args.len in let e = c.args.blank in let r = c.in_ok-base.ensures in
     let same : i ≡ n = omega (arith, c.loop-index-test.false, c.loop-index.auto.index-end) in
-    let all = all_filled i n e c.loop-index.cells.slots s.places same in
+    let all = all_filled i n e c.loop-index.slots.slots s.places same in
     let none : n + 0 ≡ n = omega arith in
     (s.begin, ap length all ∙ filled_length n 0 e ∙ none, r.2, r.3, r.4, subst IsFull (sym all) (filled_full n e))
 
@@ -40,4 +40,4 @@ pub returns : goal.returns
 returns c =
     let i = c.loop-index.index in let s = c.loop-index.invariant in let n = c.args.len in let e = c.args.blank in
     let same : i ≡ n = omega (arith, c.loop-index-test.false, c.loop-index.auto.index-end) in
-    ap values (all_filled i n e c.loop-index.cells.slots s.places same) ∙ filled_values n e
+    ap values (all_filled i n e c.loop-index.slots.slots s.places same) ∙ filled_values n e

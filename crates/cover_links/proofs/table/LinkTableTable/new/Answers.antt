@@ -1,5 +1,5 @@
 use Rattle.std.proofs.Common.{◌≡◌, ℕ, List, [], sym, ◌∙◌, subst, arith}
-use Rattle.cover_problem.specs.Problem.{Cover}
+use Rattle.cover_problem.specs.Problem.{ProblemValue}
 use Rattle.cover_links.specs.Table.{IsTable}
 use Rattle.std.proofs.Common.{vec_capacity}
 use Rattle.cover_problem.proofs.CoveringLemmas.{covered_none}
@@ -19,4 +19,4 @@ invariant_of-result c =
       each = c.in_ok-starts.ensures.each;
       capacity = (let e = c.in_ok-covered.ensures.capacity in let n = c.items-items.ensures.count in omega arith);
     } in
-    subst (λ (w : Cover × List ℕ). IsTable w.0 w.1 c.items-items.result c.in_ok-block.block c.in_ok-starts.starts.items (vec_capacity c.in_ok-covered.covered)) (λ i. (same i, sym none i)) t
+    subst (λ (w : ProblemValue × List ℕ). IsTable w.0 w.1 c.items-items.result c.in_ok-block.block c.in_ok-starts.starts.items (vec_capacity c.in_ok-covered.covered)) (λ i. (same i, sym none i)) t

@@ -13,7 +13,7 @@ index_mut-requires c =
 pub push_within-requires : goal.push_within-requires
 push_within-requires c =
     let h = plain_at c.self.view_is c.self.invariant in
-    let r = covered_room c.args.self.now.subject c.args.self.now.covered c.args.item h.distinct c.requires.some c.requires.within c.requires.uncovered in
+    let r = covered_room c.args.self.now.problem c.args.self.now.covered c.args.item h.distinct c.requires.some c.requires.within c.requires.uncovered in
     let f = h.fits in
     let same = ap (λ s. length s.covered) c.self.view_is in
     let o = c.self.inside.covered.ok.0 in
@@ -21,7 +21,7 @@ push_within-requires c =
 
 pub invariant_of-self : goal.invariant_of-self
 invariant_of-self c =
-    let names = ap (λ s. length s.subject.names) c.self.view_is in
+    let names = ap (λ s. length s.problem.names) c.self.view_is in
     let covered = ap (λ s. has s.covered c.args.item) c.self.view_is in
     let w = c.requires.within in
     plain_covered c.self.invariant c.args.item c.len-time.result (vec_capacity c.push_within.new.items) c.push_within.new.items.items

@@ -4,7 +4,7 @@ use Rattle.cover_problem.proofs.plain.PlainTableTable.next_item.Goals as goal
 
 pub first_uncovered-requires-clause-after : goal.first_uncovered-requires-clause-after
 first_uncovered-requires-clause-after c =
-    let i = active_in c.args.self.now.subject c.args.self.now.covered c.args.item c.requires in
+    let i = active_in c.args.self.now.problem c.args.self.now.covered c.args.item c.requires in
     let e = (plain_at c.self.view_is c.self.invariant).primary_is in
     let a = i.1 in
     omega arith
@@ -17,7 +17,7 @@ first_uncovered-requires-clause-within c =
 
 pub returns : goal.returns
 returns c =
-    let i = active_in c.args.self.now.subject c.args.self.now.covered c.args.item c.requires in
+    let i = active_in c.args.self.now.problem c.args.self.now.covered c.args.item c.requires in
     let e = (plain_at c.self.view_is c.self.invariant).primary_is in
     let a = i.1 in
     rw c.deref.ensures.value at c.first_uncovered.ensures ∙ walks (plain_at c.self.view_is c.self.invariant) (lit< tt) c.args.item (omega arith)

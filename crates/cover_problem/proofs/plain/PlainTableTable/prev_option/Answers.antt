@@ -5,16 +5,16 @@ use Rattle.cover_problem.proofs.TableLemmas.{in_list, plain_at, holders_rise, ho
 use Rattle.cover_problem.proofs.plain.PlainTableTable.prev_option.Goals as goal
 
 pub row-time-requires-clause-some : goal.row-time-requires-clause-some
-row-time-requires-clause-some c = (in_list c.args.self.now.subject c.args.self.now.covered c.args.item c.args.option (plain_at c.self.view_is c.self.invariant).sound c.requires).0
+row-time-requires-clause-some c = (in_list c.args.self.now.problem c.args.self.now.covered c.args.item c.args.option (plain_at c.self.view_is c.self.invariant).sound c.requires).0
 
 pub row-time-requires-clause-within : goal.row-time-requires-clause-within
-row-time-requires-clause-within c = (in_list c.args.self.now.subject c.args.self.now.covered c.args.item c.args.option (plain_at c.self.view_is c.self.invariant).sound c.requires).1
+row-time-requires-clause-within c = (in_list c.args.self.now.problem c.args.self.now.covered c.args.item c.args.option (plain_at c.self.view_is c.self.invariant).sound c.requires).1
 
 pub place_below-place-requires : goal.place_below-place-requires
 place_below-place-requires c = holders_rise c.args.self.now c.args.item c.row-time.result.0.now c.row-time.ensures.options
 
 pub last_in-requires : goal.last_in-requires
-last_in-requires c = All-take (λ k. (0 < k) × (k ≤ length c.args.self.now.subject.options)) c.place_below-place.result c.row-time.result.0.now (holders_within c.args.self.now c.args.item c.row-time.result.0.now c.row-time.ensures.options)
+last_in-requires c = All-take (λ k. (0 < k) × (k ≤ length c.args.self.now.problem.options)) c.place_below-place.result c.row-time.result.0.now (holders_within c.args.self.now c.args.item c.row-time.result.0.now c.row-time.ensures.options)
 
 pub returns : goal.returns
 returns c =

@@ -2,7 +2,7 @@ use Rattle.std.proofs.Common.{◌≡◌, List, sym, ap, subst, ◌∙◌, refl, 
 use Rattle.poly_cells.specs.declared.fault.TranslateFault.{TranslateFault}
 use Rattle.poly_cells.specs.declared.fault.TranslateFault.TheVariants.{OutOfRange, OutOfMemory}
 use Rattle.std.specs.Result.{IsErrAnd}
-use Rattle.poly_cells.specs.Places.{Place}
+use Rattle.poly_cells.specs.Coordinates.{Coordinates}
 use Rattle.poly_cells.specs.Points.{Point, point_at}
 use Rattle.poly_cells.specs.Shapes.{IsShape}
 use Rattle.poly_cells.specs.Images.{IsTranslate}
@@ -41,7 +41,7 @@ pub returns-clause-image : goal.returns-clause-image
 returns-clause-image c =
     let same : c.as_slice-cells.result.now ≡ c.args.self.now = c.as_slice-cells.ensures.value ∙ c.self.view_is in
     let d : point_at (to_z w32 (of_z w32 c.args.dx)) (to_z w32 (of_z w32 c.args.dy)) (to_z w32 (of_z w32 c.args.dz)) ≡ point_at c.args.dx c.args.dy c.args.dz = same_translation _ _ _ c.ranges.dx c.ranges.dy c.ranges.dz in
-    subst (λ (s : List Place). IsTranslate (point_at c.args.dx c.args.dy c.args.dz) c.args.self.now s) (sym c.new.ensures)
+    subst (λ (s : List Coordinates). IsTranslate (point_at c.args.dx c.args.dy c.args.dz) c.args.self.now s) (sym c.new.ensures)
     (is_translate _ _ _ (c.in_ok-moved.ensures ∙ ap (λ (e : Point). translates e c.as_slice-cells.result.now) d ∙ ap (translates _) same))
 
 pub returns-clause-refused : goal.returns-clause-refused

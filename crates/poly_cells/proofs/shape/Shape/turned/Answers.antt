@@ -1,7 +1,7 @@
 use Rattle.std.proofs.Common.{◌≡◌, List, length, ◌<◌, map, sym, ap, ap₂, subst, ◌∙◌}
 use Rattle.std.specs.List.Sorted.{IsStrictlySortedBy}
 use Rattle.std.proofs.lemmas.Result.{IfOk-weaker}
-use Rattle.poly_cells.specs.Places.{Place, place_cmp}
+use Rattle.poly_cells.specs.Coordinates.{Coordinates, coordinates_cmp}
 use Rattle.poly_cells.specs.Symmetries.{Matrix}
 use Rattle.poly_cells.specs.Turns.{turned_by}
 use Rattle.poly_cells.specs.Sets.{in_order}
@@ -16,30 +16,30 @@ at_origin-requires-clause-some c =
     let shape : IsShape c.args.self.now = subst IsShape c.self.view_is c.self.invariant.0 in
     let same : c.as_slice-ordered.result.now ≡ turned_set c.args.symmetry c.args.self.now =
     c.as_slice-ordered.ensures.value ∙ c.put_in_order.ensures.value
-    ∙ ap (in_order place_cmp) (c.in_ok-cells.ensures ∙ ap₂ (λ (m : Matrix) (vs : List Place). map (turned_by m) vs) c.matrix.ensures.value (c.as_slice.ensures.value ∙ c.self.view_is)) in
-    subst (λ (vs : List Place). 0 < length vs) (sym same) (turned_set_is_shape c.args.symmetry _ shape.some shape.limits).some
+    ∙ ap (in_order coordinates_cmp) (c.in_ok-cells.ensures ∙ ap₂ (λ (m : Matrix) (vs : List Coordinates). map (turned_by m) vs) c.matrix.ensures.value (c.as_slice.ensures.value ∙ c.self.view_is)) in
+    subst (λ (vs : List Coordinates). 0 < length vs) (sym same) (turned_set_is_shape c.args.symmetry _ shape.some shape.limits).some
 
 pub at_origin-requires-clause-rises : goal.at_origin-requires-clause-rises
 at_origin-requires-clause-rises c =
     let shape : IsShape c.args.self.now = subst IsShape c.self.view_is c.self.invariant.0 in
     let same : c.as_slice-ordered.result.now ≡ turned_set c.args.symmetry c.args.self.now =
     c.as_slice-ordered.ensures.value ∙ c.put_in_order.ensures.value
-    ∙ ap (in_order place_cmp) (c.in_ok-cells.ensures ∙ ap₂ (λ (m : Matrix) (vs : List Place). map (turned_by m) vs) c.matrix.ensures.value (c.as_slice.ensures.value ∙ c.self.view_is)) in
-    subst (IsStrictlySortedBy place_cmp) (sym same) (turned_set_is_shape c.args.symmetry _ shape.some shape.limits).rises
+    ∙ ap (in_order coordinates_cmp) (c.in_ok-cells.ensures ∙ ap₂ (λ (m : Matrix) (vs : List Coordinates). map (turned_by m) vs) c.matrix.ensures.value (c.as_slice.ensures.value ∙ c.self.view_is)) in
+    subst (IsStrictlySortedBy coordinates_cmp) (sym same) (turned_set_is_shape c.args.symmetry _ shape.some shape.limits).rises
 
 pub returns-clause-value : goal.returns-clause-value
 returns-clause-value c =
     let same : c.as_slice-ordered.result.now ≡ turned_set c.args.symmetry c.args.self.now =
     c.as_slice-ordered.ensures.value ∙ c.put_in_order.ensures.value
-    ∙ ap (in_order place_cmp) (c.in_ok-cells.ensures ∙ ap₂ (λ (m : Matrix) (vs : List Place). map (turned_by m) vs) c.matrix.ensures.value (c.as_slice.ensures.value ∙ c.self.view_is)) in
-    IfOk-weaker c.at_origin.result (λ (s : List Place). s ≡ normal c.as_slice-ordered.result.now) (λ (s : List Place). s ≡ turned c.args.symmetry c.args.self.now) (λ s h. h ∙ ap normal same ∙ turned_from_set _ _) c.at_origin.ensures
+    ∙ ap (in_order coordinates_cmp) (c.in_ok-cells.ensures ∙ ap₂ (λ (m : Matrix) (vs : List Coordinates). map (turned_by m) vs) c.matrix.ensures.value (c.as_slice.ensures.value ∙ c.self.view_is)) in
+    IfOk-weaker c.at_origin.result (λ (s : List Coordinates). s ≡ normal c.as_slice-ordered.result.now) (λ (s : List Coordinates). s ≡ turned c.args.symmetry c.args.self.now) (λ s h. h ∙ ap normal same ∙ turned_from_set _ _) c.at_origin.ensures
 
 pub returns-clause-image : goal.returns-clause-image
 returns-clause-image c =
     let shape : IsShape c.args.self.now = subst IsShape c.self.view_is c.self.invariant.0 in
     let same : c.as_slice-ordered.result.now ≡ turned_set c.args.symmetry c.args.self.now =
     c.as_slice-ordered.ensures.value ∙ c.put_in_order.ensures.value
-    ∙ ap (in_order place_cmp) (c.in_ok-cells.ensures ∙ ap₂ (λ (m : Matrix) (vs : List Place). map (turned_by m) vs) c.matrix.ensures.value (c.as_slice.ensures.value ∙ c.self.view_is)) in
-    IfOk-weaker c.at_origin.result (λ (s : List Place). s ≡ normal c.as_slice-ordered.result.now) (λ (s : List Place). IsTurned c.args.symmetry c.args.self.now s)
+    ∙ ap (in_order coordinates_cmp) (c.in_ok-cells.ensures ∙ ap₂ (λ (m : Matrix) (vs : List Coordinates). map (turned_by m) vs) c.matrix.ensures.value (c.as_slice.ensures.value ∙ c.self.view_is)) in
+    IfOk-weaker c.at_origin.result (λ (s : List Coordinates). s ≡ normal c.as_slice-ordered.result.now) (λ (s : List Coordinates). IsTurned c.args.symmetry c.args.self.now s)
     (λ s h. subst (IsTurned c.args.symmetry c.args.self.now) (sym (h ∙ ap normal same ∙ turned_from_set _ _)) (turned_is c.args.symmetry _ shape.some shape.limits))
     c.at_origin.ensures

@@ -7,9 +7,9 @@ last_covered-item-requires g c = some_at_X7 _ _ _ _ _ _ (from_label _ _ _ _ _ c.
 pub invariant_of-self : goal.invariant_of-self
 invariant_of-self g c =
     let at_label = label_of _ _ _ _ c.self.view_is c.requires in
-    rw c.go.ensures (closes _ _ _ _ _ _ _ _ _ c.uncover.ensures.subject c.uncover.ensures.covered (from_label _ _ _ _ _ c.self.invariant _ at_label)).keeps
+    rw c.go.ensures (closes _ _ _ _ _ _ _ _ _ c.uncover.ensures.same_problem c.uncover.ensures.covered (from_label _ _ _ _ _ c.self.invariant _ at_label)).keeps
 
 pub returns : goal.returns
 returns g c =
     let at_label = label_of _ _ _ _ c.self.view_is c.requires in
-    rw c.go.ensures (goes _ _ _ _ _ _ _ _ c.self.view_is (to_state _ _ _ _ _ c.self.invariant _ _ _ _ _ _ at_label (closes _ _ _ _ _ _ _ _ _ c.uncover.ensures.subject c.uncover.ensures.covered (from_label _ _ _ _ _ c.self.invariant _ at_label))))
+    rw c.go.ensures (goes _ _ _ _ _ _ _ _ c.self.view_is (to_state _ _ _ _ _ c.self.invariant _ _ _ _ _ _ at_label (closes _ _ _ _ _ _ _ _ _ c.uncover.ensures.same_problem c.uncover.ensures.covered (from_label _ _ _ _ _ c.self.invariant _ at_label))))

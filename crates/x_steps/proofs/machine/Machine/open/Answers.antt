@@ -17,14 +17,14 @@ pub first_option-requires-clause-some : goal.first_option-requires-clause-some
 first_option-requires-clause-some g c = (opens_covers _ _ _ _ _ _ _ c.choose-item.ensures (from_label _ _ _ _ _ c.self.invariant _ (label_of _ _ _ _ c.self.view_is c.requires))).some
 
 pub first_option-requires-clause-within : goal.first_option-requires-clause-within
-first_option-requires-clause-within g c = rw c.cover.ensures.subject (opens_covers _ _ _ _ _ _ _ c.choose-item.ensures (from_label _ _ _ _ _ c.self.invariant _ (label_of _ _ _ _ c.self.view_is c.requires))).within
+first_option-requires-clause-within g c = rw c.cover.ensures.same_problem (opens_covers _ _ _ _ _ _ _ c.choose-item.ensures (from_label _ _ _ _ _ c.self.invariant _ (label_of _ _ _ _ c.self.view_is c.requires))).within
 
 pub invariant_of-self : goal.invariant_of-self
 invariant_of-self g c =
     let at_label = label_of _ _ _ _ c.self.view_is c.requires in
-    rw c.go.ensures (opens _ _ _ _ _ _ _ _ _ _ _ c.choose-item.ensures c.cover.ensures.subject c.cover.ensures.covered c.first_option.ensures c.cursor_at-cursor.ensures (from_label _ _ _ _ _ c.self.invariant _ at_label)).keeps
+    rw c.go.ensures (opens _ _ _ _ _ _ _ _ _ _ _ c.choose-item.ensures c.cover.ensures.same_problem c.cover.ensures.covered c.first_option.ensures c.cursor_at-cursor.ensures (from_label _ _ _ _ _ c.self.invariant _ at_label)).keeps
 
 pub returns : goal.returns
 returns g c =
     let at_label = label_of _ _ _ _ c.self.view_is c.requires in
-    rw c.go.ensures (goes _ _ _ _ _ _ _ _ c.self.view_is (to_state _ _ _ _ _ c.self.invariant _ _ _ _ _ _ at_label (opens _ _ _ _ _ _ _ _ _ _ _ c.choose-item.ensures c.cover.ensures.subject c.cover.ensures.covered c.first_option.ensures c.cursor_at-cursor.ensures (from_label _ _ _ _ _ c.self.invariant _ at_label))))
+    rw c.go.ensures (goes _ _ _ _ _ _ _ _ c.self.view_is (to_state _ _ _ _ _ c.self.invariant _ _ _ _ _ _ at_label (opens _ _ _ _ _ _ _ _ _ _ _ c.choose-item.ensures c.cover.ensures.same_problem c.cover.ensures.covered c.first_option.ensures c.cursor_at-cursor.ensures (from_label _ _ _ _ _ c.self.invariant _ at_label))))

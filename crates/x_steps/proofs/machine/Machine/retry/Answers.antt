@@ -45,7 +45,7 @@ next_option-requires g c =
     let at_cursor = cursor_in _ _ _ _ c.self.view_is c.requires.cursor in
     let here = from_label _ _ _ _ _ c.self.invariant _ at_label in
     let count = ap (λ l. length {A = ℕ} l - 1) c.option.ensures in
-    mid_has _ _ _ _ _ _ _ at_cursor _ _ count c.uncover_last.ensures.covered _ _ c.last_covered-item.ensures c.uncover_last.ensures.subject here
+    mid_has _ _ _ _ _ _ _ at_cursor _ _ count c.uncover_last.ensures.covered _ _ c.last_covered-item.ensures c.uncover_last.ensures.same_problem here
 
 pub invariant_of-self : goal.invariant_of-self
 invariant_of-self g c =
@@ -53,7 +53,7 @@ invariant_of-self g c =
     let at_cursor = cursor_in _ _ _ _ c.self.view_is c.requires.cursor in
     let here = from_label _ _ _ _ _ c.self.invariant _ at_label in
     let count = ap (λ l. length {A = ℕ} l - 1) c.option.ensures in
-    rw c.go.ensures (retries _ _ _ _ _ _ _ at_cursor _ _ count c.uncover_last.ensures.covered _ _ _ _ c.last_covered-item.ensures c.uncover_last.ensures.subject c.next_option.ensures c.cursor_at-cursor.ensures here).keeps
+    rw c.go.ensures (retries _ _ _ _ _ _ _ at_cursor _ _ count c.uncover_last.ensures.covered _ _ _ _ c.last_covered-item.ensures c.uncover_last.ensures.same_problem c.next_option.ensures c.cursor_at-cursor.ensures here).keeps
 
 pub returns : goal.returns
 returns g c =
@@ -61,4 +61,4 @@ returns g c =
     let at_cursor = cursor_in _ _ _ _ c.self.view_is c.requires.cursor in
     let here = from_label _ _ _ _ _ c.self.invariant _ at_label in
     let count = ap (λ l. length {A = ℕ} l - 1) c.option.ensures in
-    rw c.go.ensures (goes _ _ _ _ _ _ _ _ c.self.view_is (to_state _ _ _ _ _ c.self.invariant _ _ _ _ _ _ at_label (retries _ _ _ _ _ _ _ at_cursor _ _ count c.uncover_last.ensures.covered _ _ _ _ c.last_covered-item.ensures c.uncover_last.ensures.subject c.next_option.ensures c.cursor_at-cursor.ensures here)))
+    rw c.go.ensures (goes _ _ _ _ _ _ _ _ c.self.view_is (to_state _ _ _ _ _ c.self.invariant _ _ _ _ _ _ at_label (retries _ _ _ _ _ _ _ at_cursor _ _ count c.uncover_last.ensures.covered _ _ _ _ c.last_covered-item.ensures c.uncover_last.ensures.same_problem c.next_option.ensures c.cursor_at-cursor.ensures here)))

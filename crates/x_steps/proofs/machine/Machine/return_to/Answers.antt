@@ -13,7 +13,7 @@ invariant_of-self g c =
     let at_label = label_of _ _ _ _ c.self.view_is c.requires.label in
     let here = from_label _ _ _ _ _ c.self.invariant _ at_label in
     let came = came_in _ _ _ _ _ c.self.view_is at_label c.requires.came c.in-None.is in
-    rw c.go.ensures (to_open _ _ _ _ _ _ _ c.last_covered-item.ensures _ _ came c.uncover.ensures.subject c.uncover.ensures.covered here).keeps
+    rw c.go.ensures (to_open _ _ _ _ _ _ _ c.last_covered-item.ensures _ _ came c.uncover.ensures.same_problem c.uncover.ensures.covered here).keeps
 
 pub option-requires-clause-some : goal.option-requires-clause-some
 option-requires-clause-some g c =
@@ -48,18 +48,18 @@ invariant_of-self-in-Some g c =
     let at_label = label_of _ _ _ _ c.self.view_is c.requires.label in
     let here = from_label _ _ _ _ _ c.self.invariant _ at_label in
     let came = came_in _ _ _ _ _ c.self.view_is at_label c.requires.came c.in-Some.is in
-    rw c.go-in-Some.ensures (to_retry _ _ _ _ _ _ _ c.last_covered-item.ensures _ came _ _ c.cover_others.ensures.subject (rw c.option.ensures at c.cover_others.ensures.covered) here).keeps
+    rw c.go-in-Some.ensures (to_retry _ _ _ _ _ _ _ c.last_covered-item.ensures _ came _ _ c.cover_others.ensures.same_problem (rw c.option.ensures at c.cover_others.ensures.covered) here).keeps
 
 pub returns-in-None : goal.returns-in-None
 returns-in-None g c =
     let at_label = label_of _ _ _ _ c.self.view_is c.requires.label in
     let here = from_label _ _ _ _ _ c.self.invariant _ at_label in
     let came = came_in _ _ _ _ _ c.self.view_is at_label c.requires.came c.in-None.is in
-    rw c.go.ensures (goes_back _ _ _ _ _ _ _ _ c.self.view_is at_label tt (to_open _ _ _ _ _ _ _ c.last_covered-item.ensures _ _ came c.uncover.ensures.subject c.uncover.ensures.covered here))
+    rw c.go.ensures (goes_back _ _ _ _ _ _ _ _ c.self.view_is at_label tt (to_open _ _ _ _ _ _ _ c.last_covered-item.ensures _ _ came c.uncover.ensures.same_problem c.uncover.ensures.covered here))
 
 pub returns-in-Some : goal.returns-in-Some
 returns-in-Some g c =
     let at_label = label_of _ _ _ _ c.self.view_is c.requires.label in
     let here = from_label _ _ _ _ _ c.self.invariant _ at_label in
     let came = came_in _ _ _ _ _ c.self.view_is at_label c.requires.came c.in-Some.is in
-    rw c.go-in-Some.ensures (goes_back _ _ _ _ _ _ _ _ c.self.view_is at_label tt (to_retry _ _ _ _ _ _ _ c.last_covered-item.ensures _ came _ _ c.cover_others.ensures.subject (rw c.option.ensures at c.cover_others.ensures.covered) here))
+    rw c.go-in-Some.ensures (goes_back _ _ _ _ _ _ _ _ c.self.view_is at_label tt (to_retry _ _ _ _ _ _ _ c.last_covered-item.ensures _ came _ _ c.cover_others.ensures.same_problem (rw c.option.ensures at c.cover_others.ensures.covered) here))

@@ -49,11 +49,11 @@ invariant_of-self g c =
     let at_label = label_of _ _ _ _ c.self.view_is c.requires.label in
     let at_cursor = cursor_in _ _ _ _ c.self.view_is c.requires.cursor in
     let here = from_label _ _ _ _ _ c.self.invariant _ at_label in
-    rw (c.go.ensures, c.push_within.ensures.items) (takes _ _ _ _ _ _ _ at_cursor _ _ _ _ c.last_covered-item.ensures c.cover_others.ensures.subject (rw c.option.ensures at c.cover_others.ensures.covered) c.push_within.ensures.room here).keeps
+    rw (c.go.ensures, c.push_within.ensures.items) (takes _ _ _ _ _ _ _ at_cursor _ _ _ _ c.last_covered-item.ensures c.cover_others.ensures.same_problem (rw c.option.ensures at c.cover_others.ensures.covered) c.push_within.ensures.room here).keeps
 
 pub returns : goal.returns
 returns g c =
     let at_label = label_of _ _ _ _ c.self.view_is c.requires.label in
     let at_cursor = cursor_in _ _ _ _ c.self.view_is c.requires.cursor in
     let here = from_label _ _ _ _ _ c.self.invariant _ at_label in
-    rw (c.go.ensures, c.push_within.ensures.items) (goes _ _ _ _ _ _ _ _ c.self.view_is (to_state _ _ _ _ _ c.self.invariant _ _ _ _ _ _ at_label (takes _ _ _ _ _ _ _ at_cursor _ _ _ _ c.last_covered-item.ensures c.cover_others.ensures.subject (rw c.option.ensures at c.cover_others.ensures.covered) c.push_within.ensures.room here)))
+    rw (c.go.ensures, c.push_within.ensures.items) (goes _ _ _ _ _ _ _ _ c.self.view_is (to_state _ _ _ _ _ c.self.invariant _ _ _ _ _ _ at_label (takes _ _ _ _ _ _ _ at_cursor _ _ _ _ c.last_covered-item.ensures c.cover_others.ensures.same_problem (rw c.option.ensures at c.cover_others.ensures.covered) c.push_within.ensures.room here)))

@@ -52,7 +52,7 @@ invariant_of-self-in-Some g c =
     let parts = rw c.in-Some.is at c.pop.ensures.items in
     let taken = as_taken _ _ _ _ _ _ _ _ parts here in
     let count = ap (λ l. length {A = ℕ} l - 1) c.option.ensures in
-    rw c.go-in-Some.ensures (to_option _ _ _ _ _ _ _ _ _ _ _ _ parts c.pop.ensures.capacity c.uncover_last.ensures.subject count c.uncover_last.ensures.covered here).keeps
+    rw c.go-in-Some.ensures (to_option _ _ _ _ _ _ _ _ _ _ _ _ parts c.pop.ensures.capacity c.uncover_last.ensures.same_problem count c.uncover_last.ensures.covered here).keeps
 
 pub returns-in-None : goal.returns-in-None
 returns-in-None g c =
@@ -70,4 +70,4 @@ returns-in-Some g c =
     let parts = rw c.in-Some.is at c.pop.ensures.items in
     let taken = as_taken _ _ _ _ _ _ _ _ parts here in
     let count = ap (λ l. length {A = ℕ} l - 1) c.option.ensures in
-    rw c.go-in-Some.ensures (goes_back _ _ _ _ _ _ _ _ c.self.view_is at_label tt (to_option _ _ _ _ _ _ _ _ _ _ _ _ parts c.pop.ensures.capacity c.uncover_last.ensures.subject count c.uncover_last.ensures.covered here))
+    rw c.go-in-Some.ensures (goes_back _ _ _ _ _ _ _ _ c.self.view_is at_label tt (to_option _ _ _ _ _ _ _ _ _ _ _ _ parts c.pop.ensures.capacity c.uncover_last.ensures.same_problem count c.uncover_last.ensures.covered here))

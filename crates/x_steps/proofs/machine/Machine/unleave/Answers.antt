@@ -24,7 +24,7 @@ pub invariant_of-self : goal.invariant_of-self
 invariant_of-self g c =
     let at_label = label_of _ _ _ _ c.self.view_is c.requires in
     let here = from_label _ _ _ _ _ c.self.invariant _ at_label in
-    rw c.go.ensures (to_close _ _ _ _ _ _ _ c.has_active.ensures c.if-has_active.true _ _ _ c.choose-item.ensures c.cover.ensures.subject c.cover.ensures.covered here).keeps
+    rw c.go.ensures (to_close _ _ _ _ _ _ _ c.has_active.ensures c.if-has_active.true _ _ _ c.choose-item.ensures c.cover.ensures.same_problem c.cover.ensures.covered here).keeps
 
 pub invariant_of-self-else-has_active : goal.invariant_of-self-else-has_active
 invariant_of-self-else-has_active g c =
@@ -36,7 +36,7 @@ pub returns-then-has_active : goal.returns-then-has_active
 returns-then-has_active g c =
     let at_label = label_of _ _ _ _ c.self.view_is c.requires in
     let here = from_label _ _ _ _ _ c.self.invariant _ at_label in
-    rw c.go.ensures (goes_back _ _ _ _ _ _ _ _ c.self.view_is at_label tt (to_close _ _ _ _ _ _ _ c.has_active.ensures c.if-has_active.true _ _ _ c.choose-item.ensures c.cover.ensures.subject c.cover.ensures.covered here))
+    rw c.go.ensures (goes_back _ _ _ _ _ _ _ _ c.self.view_is at_label tt (to_close _ _ _ _ _ _ _ c.has_active.ensures c.if-has_active.true _ _ _ c.choose-item.ensures c.cover.ensures.same_problem c.cover.ensures.covered here))
 
 pub returns-else-has_active : goal.returns-else-has_active
 returns-else-has_active g c =

@@ -1,6 +1,0 @@
-use denote.Param.Send.{IsSend}
-use Rattle.cover_links.proofs.Crossing.{cells_send}
-use Rattle.cover_links.specs.contracts.cells.Cells.{the_row}
-
-pub send : IsSend the_row
-send = cells_send

@@ -1,8 +1,0 @@
-use denote.RattleType.{RattleType}
-use denote.Param.Send.{IsSend, Frees}
-use Rattle.core.specs.declared.alloc.Allocator.{Ghosts}
-use Rattle.cover_links.proofs.Crossing.{deed_send}
-use Rattle.cover_links.specs.contracts.cells.Deed.{the_row}
-
-pub send : (A : RattleType) (g : Ghosts A.Denot) → IsSend A → Frees g g.dealloc_token → IsSend (the_row A g)
-send A g s = deed_send A g

@@ -1,8 +1,0 @@
-use denote.RattleType.{RattleType}
-use denote.Param.Send.{IsSync}
-use Rattle.core.specs.declared.alloc.Allocator.{Ghosts}
-use Rattle.cover_links.proofs.Crossing.{deed_sync}
-use Rattle.cover_links.specs.contracts.cells.Deed.{the_row}
-
-pub sync : (A : RattleType) (g : Ghosts A.Denot) → IsSync (the_row A g)
-sync = deed_sync

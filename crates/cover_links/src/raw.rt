@@ -1,0 +1,133 @@
+//! The only file with `unsafe`: a row of places in one raw block, each empty or holding an entry. Its callers rest on four facts: an
+//! allocated row is empty; an entry that was put is what is got; putting changes no other place; and a row that is given up is freed.
+ghost use Rattle.std.specs.Prelude.{◌≡◌, ℕ, ◌<◌, ◌≤◌, List, Option, Some, None, length, replicate, get_or, slice_set, IfOk, ⊤};
+ghost use base.Fml.{ftrue};
+ghost use denote.RawPtr.{Ptr};
+ghost use Rattle.cover_links.specs.Ownership.{row_own, row_lent, allocation_owns, FitsInBlock};
+ghost use Rattle.cover_links.specs.declared.entry.Entry.{Entry};
+
+use crate::entry::Entry;
+use std::alloc::{AllocError, Allocator};
+use std::marker::{Model, PhantomData, Send, Sync};
+use std::mem::{align_of, size_of};
+
+/// Where the row begins. It owns nothing.
+pub struct Base {
+    pub ptr: *mut Entry,
+}
+
+impl Clone for Base {
+    ghost is_clone = { λ x y. y ≡ x };
+
+    ghost is_infallible = { λ _. ⊤ };
+
+    fn clone(&self) -> Result<Base, AllocError> {
+        Ok(*self)
+    }
+}
+
+impl Copy for Base {}
+
+unsafe impl Send for Base {}
+
+unsafe impl Sync for Base {}
+
+/// The owner of the places. It takes no space.
+pub struct Slots {
+    mark: PhantomData<*const Entry>,
+    ghost at: { Ptr },
+    ghost slots: { List (Option Entry) },
+}
+
+impl Model for Slots {
+    ghost also_owns = { λ c. row_own c.at c.slots };
+
+    ghost also_shares = { λ c _ κ. row_lent c.at c.slots κ };
+}
+
+unsafe impl Send for Slots {}
+
+unsafe impl Sync for Slots {}
+
+/// The right to give the row back to its allocator. It takes no space.
+pub struct Allocation<A: Allocator> {
+    mark: PhantomData<*const A>,
+    ghost at: { Ptr },
+    ghost len: { ℕ },
+    ghost alloc: { A },
+}
+
+impl<A: Allocator> Model for Allocation<A> {
+    ghost also_owns = { λ d. allocation_owns (A.dealloc_token d.alloc) d.at d.len };
+
+    ghost also_shares = { λ _ _ _. ftrue };
+}
+
+unsafe impl<A: Allocator + Send> Send for Allocation<A> {}
+
+// A `&` to it holds nothing.
+unsafe impl<A: Allocator> Sync for Allocation<A> {}
+
+/// A row of so many empty places.
+pub(crate) fn allocate<A: Allocator>(
+    alloc: &A,
+    len: usize,
+) -> Result<(Base, Slots, Allocation<A>), AllocError>
+    requires { FitsInBlock len }
+    ensures { IfOk result (λ r. (r.1.at ≡ r.0.ptr) × (r.1.slots ≡ replicate len None) × (r.2.at ≡ r.0.ptr) × (r.2.len ≡ len) × (r.2.alloc ≡ alloc.now)) }
+{
+    match alloc.allocate(len * size_of::<Entry>(), align_of::<Entry>()) {
+        Ok(block) => {
+            let base = Base {
+                ptr: block as *mut Entry,
+            };
+            Ok((
+                base,
+                Slots { mark: PhantomData },
+                Allocation { mark: PhantomData },
+            ))
+        }
+        Err(error) => Err(error),
+    }
+}
+
+/// Gives a row back.
+pub(crate) fn deallocate<A: Allocator>(
+    alloc: &A,
+    base: Base,
+    len: usize,
+    slots: Slots,
+    deed: Allocation<A>,
+)
+    requires { (slots.at ≡ base.ptr) × (length slots.slots ≡ len) × (deed.at ≡ base.ptr) × (deed.len ≡ len) × (deed.alloc ≡ alloc.now) }
+{
+    let Slots { mark: _ } = slots;
+    let Allocation { mark: _ } = deed;
+    unsafe {
+        alloc.deallocate(
+            base.ptr as *mut u8,
+            len * size_of::<Entry>(),
+            align_of::<Entry>(),
+        );
+    }
+}
+
+impl Slots {
+    /// The entry at a place.
+    #[inline(always)]
+    pub(crate) fn get(&self, base: Base, index: usize) -> &Entry
+        requires { (base.ptr ≡ self.now.at) × ((x : Entry) × (get_or self.now.slots index None ≡ Some x)) }
+        ensures { get_or self.now.slots index None ≡ Some result.now }
+    {
+        unsafe { &*base.ptr.add(index) }
+    }
+
+    /// Puts an entry into a place, over what stood there.
+    #[inline(always)]
+    pub(crate) fn put(&mut self, base: Base, index: usize, entry: Entry)
+        requires { (base.ptr ≡ self.old.at) × (index < length self.old.slots) }
+        ensures { (self.new.at ≡ self.old.at) × (self.new.slots ≡ slice_set self.old.slots index (Some entry)) }
+    {
+        unsafe { base.ptr.add(index).write(entry) }
+    }
+}

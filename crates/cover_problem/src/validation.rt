@@ -1,0 +1,122 @@
+//! Whether names and options make a problem, and which fault is the first where they don't.
+ghost use Rattle.std.specs.Prelude.{◌≡◌, ◌<◌, ◌≤◌, [], ℕ, List, nat_le, sum_by, length, map, OnOk, IsTrue};
+ghost use Rattle.std.specs.List.{All};
+ghost use Rattle.std.specs.String.{string_bytes};
+ghost use Rattle.text_lines.specs.Each.{each};
+ghost use Rattle.cover_problem.specs.Problem as problem;
+ghost use Rattle.cover_problem.specs.Validation as making;
+ghost use Rattle.cover_problem.specs.Validation.{Gives, add_name, add_option, option_from};
+
+use crate::fault::{Fault, ProblemFault};
+use crate::limits::{MOST_ENTRIES, MOST_ITEMS, MOST_OPTIONS};
+use crate::name::{Name, name_of};
+use indexmap::IndexSet;
+use std::alloc::Global;
+
+/// Takes a name, once.
+pub fn take_name(names: &mut IndexSet<Name>, word: &[u8]) -> Result<(), ProblemFault>
+    ensures { Gives (λ _. map (λ n. n.bytes) names.new.keys) result (add_name (map (λ n. n.bytes) names.old.keys) word.now) }
+{
+    let Some(name) = name_of(word) else {
+        return Err(ProblemFault::Fault(Fault::BadName));
+    };
+    if !names.insert(name)? {
+        return Err(ProblemFault::Fault(Fault::RepeatedItem));
+    }
+    Ok(())
+}
+
+/// The names, each once.
+fn take_names(alloc: Global, given: &[String]) -> Result<IndexSet<Name>, ProblemFault>
+    ensures { Gives (λ names. map (λ n. n.bytes) names.keys) result (each add_name [] (map string_bytes given.now)) }
+{
+    let mut names = IndexSet::new(alloc);
+    for name in given {
+        take_name(&mut names, name.as_bytes())?;
+    }
+    Ok(names)
+}
+
+/// Whether the numbers are an option over as many items as there are marks. An item that was taken has the stamp as its mark.
+fn check_option(marks: &mut [usize], stamp: usize, numbers: &[u32]) -> Result<(), ProblemFault>
+    requires { All (λ mark. mark < stamp) marks.old }
+    ensures option { Gives (λ _. numbers.now) result (option_from (length marks.old) numbers.now) }
+    ensures marks { OnOk result (All (λ mark. mark ≤ stamp) marks.new) }
+{
+    if numbers.is_empty() {
+        return Err(ProblemFault::Fault(Fault::BadLine));
+    }
+    for number in numbers {
+        let number = *number as usize;
+        if number == 0 || number > marks.len() {
+            return Err(ProblemFault::Fault(Fault::UnknownItem));
+        }
+        if marks[number - 1] == stamp {
+            return Err(ProblemFault::Fault(Fault::ItemTwiceInOption));
+        }
+        marks[number - 1] = stamp;
+    }
+    Ok(())
+}
+
+/// Whether these are options over as many items as there are marks, which are all 0.
+fn check_each(marks: &mut [usize], options: &[Vec<u32>]) -> Result<(), ProblemFault>
+    requires { All (λ mark. mark ≤ 0) marks.old }
+    ensures { Gives (λ _. map (λ o. o.items) options.now) result (each (add_option (length marks.old)) [] (map (λ o. o.items) options.now)) }
+{
+    for (place, option) in options.iter().enumerate() {
+        check_option(marks, place + 1, option)?;
+    }
+    Ok(())
+}
+
+/// Whether these are options over so many items.
+fn check_options(alloc: Global, count: usize, options: &[Vec<u32>]) -> Result<(), ProblemFault>
+    ensures { Gives (λ _. map (λ o. o.items) options.now) result (each (add_option count) [] (map (λ o. o.items) options.now)) }
+{
+    let mut marks = vec![in alloc; 0usize; count]?;
+    check_each(&mut marks, options)
+}
+
+/// Whether the options have at most so many items together.
+fn are_few(options: &[Vec<u32>], most: usize) -> bool
+    ensures { result ≡ nat_le (sum_by length (map (λ o. o.items) options.now)) most }
+{
+    let mut left = most;
+    for option in options {
+        if option.len() > left {
+            return false;
+        }
+        left -= option.len();
+    }
+    true
+}
+
+/// Whether so many items and these options are within the limits.
+fn is_within(count: usize, options: &[Vec<u32>]) -> bool
+    ensures { (names : List (List ℕ)) (primary : ℕ) → length names ≡ count → result ≡ problem.is_small (record { names = names; primary = primary; options = map (λ o. o.items) options.now }) }
+{
+    count <= MOST_ITEMS
+        && options.len() <= MOST_OPTIONS
+        && are_few(options, MOST_ENTRIES - 2 - count - options.len())
+}
+
+/// The names of a problem, once all is checked.
+pub fn checked_names(
+    alloc: Global,
+    names: &[String],
+    primary: u32,
+    options: &[Vec<u32>],
+) -> Result<IndexSet<Name>, ProblemFault>
+    ensures { Gives (λ these. record { names = map (λ n. n.bytes) these.keys; primary = primary; options = map (λ o. o.items) options.now }) result (making.problem_from (map string_bytes names.now) primary (map (λ o. o.items) options.now)) }
+{
+    if primary == 0 || primary as usize > names.len() {
+        return Err(ProblemFault::Fault(Fault::NoItemLine));
+    }
+    let these = take_names(alloc, names)?;
+    check_options(alloc, names.len(), options)?;
+    if !is_within(names.len(), options) {
+        return Err(ProblemFault::Fault(Fault::TooLarge));
+    }
+    Ok(these)
+}

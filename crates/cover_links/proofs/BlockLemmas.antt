@@ -8,15 +8,16 @@ use Rattle.cover_problem.specs.Problem.{ProblemValue, IsProblem, option_at}
 use Rattle.cover_problem.specs.Covering.{active, remaining, is_remaining, list_of}
 use Rattle.cover_problem.specs.Coverable.{IsUncovered}
 use Rattle.cover_problem.specs.Table.{IsCoveredList}
-use Rattle.cover_problem.proofs.ListLemmas.{filter_agree_on, has_numbers_in}
-use Rattle.cover_problem.proofs.CoveringLemmas.{covered_middle}
+use Rattle.cover_problem.proofs.MemberLemmas.{filter_agree_on}
+use Rattle.cover_problem.proofs.NumberLemmas.{has_numbers_in}
+use Rattle.cover_problem.proofs.CoveredLemmas.{covered_middle}
 use Rattle.cover_links.specs.declared.entry.Entry.{Entry}
 use Rattle.cover_links.specs.Hiding.{item_covered, item_uncovered, all_covered}
 use Rattle.cover_links.specs.Fresh.{fresh}
 use Rattle.cover_links.specs.Layout.{node_index}
 use Rattle.cover_links.specs.Ring.{IsRing}
 use Rattle.cover_links.specs.StandsFor.{IsWalk, block_of, BlockStands, UncoverRestores}
-use Rattle.cover_links.proofs.Standing.{Stands, down_at, up_at, left_at, right_at}
+use Rattle.cover_links.proofs.HidingLemmas.{Stands, down_at, up_at, left_at, right_at}
 use Rattle.cover_links.proofs.ListWalk.{IsChain, chain_from}
 use Rattle.cover_links.proofs.Covered.{shown_of, active_of, active_is}
 use Rattle.cover_links.proofs.CoverStep.{CoverDone, cover_done}

@@ -1,5 +1,5 @@
 -- Lemmas on the places of the options, and on a list that grows.
-use Rattle.std.proofs.Common.{◌≡◌, ℕ, zero, suc, ◌+◌, ◌<◌, ◌≤◌, ◌⊎◌, inl, inr, nat_le, ◌&&◌, List, [], ◌∷◌, ◌++◌, length, get_or, drop, refl, sym, ap, ◌∙◌, arith}
+use Rattle.std.proofs.Common.{◌≡◌, ℕ, zero, suc, ◌<◌, ◌≤◌, ◌⊎◌, inl, inr, nat_le, ◌&&◌, List, [], ◌∷◌, ◌++◌, length, get_or, sym, ap, ◌∙◌, arith}
 use Rattle.std.proofs.lemmas.Bool.{and_parts, cases_lt, leb-true}
 use Rattle.cover_problem.specs.Problem.{ProblemValue, IsProblem, size_of}
 use Rattle.cover_links.specs.Layout.{start_of}
@@ -25,17 +25,3 @@ pushed_each f xs n x l each e i le = at f xs n x l each e i le
     at f (y ∷ ys) zero x l each e i le = absurd (omega arith)
     at f (y ∷ ys) (suc n) x l each e zero le = each 0 (omega arith)
     at f (y ∷ ys) (suc n) x l each e (suc i) le = at (λ k. f (suc k)) ys n x (omega arith) (λ k h. each (suc k) (omega arith)) e i (omega arith)
-
-pub drop_all : (xs : List ℕ) (n : ℕ) → length xs ≤ n → drop n xs ≡ []
-drop_all [] zero le = refl
-drop_all [] (suc n) le = refl
-drop_all (x ∷ xs) zero le = absurd (omega arith)
-drop_all (x ∷ xs) (suc n) le = drop_all xs n (omega arith)
-
-pub drop_next : (xs : List ℕ) (n : ℕ) → n < length xs → drop n xs ≡ get_or xs n 0 ∷ drop (n + 1) xs
-drop_next xs n lt = at xs n lt ∙ ap (λ k. get_or xs n 0 ∷ drop k xs) (let e : suc n ≡ n + 1 = omega arith in e)
-  where
-    at : (xs : List ℕ) (n : ℕ) → n < length xs → drop n xs ≡ get_or xs n 0 ∷ drop (suc n) xs
-    at [] n lt = absurd (omega arith)
-    at (x ∷ xs) zero lt = refl
-    at (x ∷ xs) (suc n) lt = at xs n (omega arith)

@@ -4,18 +4,19 @@ use Rattle.std.proofs.lemmas.Bool.{cases_eq, cases_lt}
 use Rattle.cover_problem.specs.Lists.{has, numbers, above, below}
 use Rattle.cover_problem.specs.Problem.{ProblemValue, IsProblem}
 use Rattle.cover_problem.specs.Coverable.{IsUncovered}
-use Rattle.cover_problem.proofs.ListLemmas.{has_filter, has_filter_in, has_numbers, rises_filter}
+use Rattle.cover_problem.proofs.MemberLemmas.{has_filter, has_filter_in}
+use Rattle.cover_problem.proofs.NumberLemmas.{has_numbers, rises_filter}
 use Rattle.cover_links.specs.declared.entry.Entry.{Entry}
 use Rattle.cover_links.specs.Entries.{item_unlinked, item_relinked, IsItemLinked}
 use Rattle.cover_links.specs.Hiding.{list_hidden, list_unhidden, options_hidden, item_covered, item_uncovered}
 use Rattle.cover_links.specs.Safety.{CanHideList, CanUnhideList, IsItemInside, CanCoverItem, CanUncoverItem}
-use Rattle.cover_links.specs.Ring.{Follows, IsNext, IsRing}
+use Rattle.cover_links.specs.Ring.{Follows, IsRing}
 use Rattle.cover_links.specs.Layout.{node_index, spacer_of}
 use Rattle.cover_links.proofs.EntryLemmas.{length-item_unlinked}
 use Rattle.cover_links.proofs.RestoreLemmas.{item_unlinked_right, item_unlinked_right_other, item_unlinked_left, item_unlinked_left_other, item_unlinked_kept, item_unlinked_left_same, item_unlinked_right_same, row_back}
-use Rattle.cover_links.proofs.RingLemmas.{Leaves, ring_without, next_is, prev_is}
+use Rattle.cover_links.proofs.RingLemmas.{Leaves, ring_without, next_is, prev_is, next_member}
 use Rattle.cover_links.proofs.LayoutLemmas.{IsNode, place_high}
-use Rattle.cover_links.proofs.Standing.{Stands, down_at, up_at, left_at, right_at, top_at}
+use Rattle.cover_links.proofs.HidingLemmas.{Stands, down_at, up_at, left_at, right_at, top_at}
 use Rattle.cover_links.proofs.ListWalk.{first_of, last_from, IsChain, chain_from, chain_next, chain_last, list_gone, ListDone, list_done, list_column, list_stays, list_was}
 use Rattle.cover_links.proofs.Covered.{shown_of, active_of, active_is, active_when, same_test, rises_distinct, same_column, all_shown, still_shown, was_shown, active_aside, active_without}
 
@@ -32,10 +33,6 @@ module _ (p : ProblemValue) (c : List ℕ) (i : ℕ) (shown : ℕ → ℕ → Bo
   small y (inl e) = let z = s.size in let w = problem.within in (omega arith, omega (arith, u.some, u.within))
   small y (inr h) = let a = active_is p c y h in let z = s.size in let w = problem.within in (a.1, omega arith)
 
-  next_member : (x y : ℕ) → IsNext (active_of p c) x y → (y ≡ 0) ⊎ (active_of p c y ≡ true)
-  next_member x y (inl n) = inr n.0
-  next_member x y (inr n) = inl n.0
-
   near : i ≤ p.primary → RowDone p (active_of p (c ++ i ∷ [])) fs i
   near le =
       let t = active_of p c in
@@ -45,7 +42,7 @@ module _ (p : ProblemValue) (c : List ℕ) (i : ℕ) (shown : ℕ → ℕ → Bo
       let before : Follows t x i = prev_is t p.primary within i h in let after : Follows t i y = next_is t p.primary within i (inr h) in
       let a = s.row x i before in let b = s.row i y after in
       let lefts : left_at fs i ≡ x = a.1 in let rights : right_at fs i ≡ y = b.0 in
-      let low = small x before.from in let high = small y (next_member i y after.to) in
+      let low = small x before.from in let high = small y (next_member (active_of p c) i y after.to) in
       let left_low : left_at fs i < length fs = subst (λ n. n < length fs) (sym lefts) low.1 in
       let right_low : right_at fs i < length fs = subst (λ n. n < length fs) (sym rights) high.1 in
       let linked : IsItemLinked fs i = record { before = left_low; after = right_low; from_before = ap (right_at fs) lefts ∙ a.0; from_after = ap (left_at fs) rights ∙ b.1 } in

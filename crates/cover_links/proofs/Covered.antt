@@ -5,7 +5,9 @@ use Rattle.std.proofs.lemmas.Bool.{and_parts, and_from, cases_eq, cases_Bool, no
 use Rattle.cover_problem.specs.Lists.{has, are_distinct, RisesFrom}
 use Rattle.cover_problem.specs.Problem.{ProblemValue, option_at}
 use Rattle.cover_problem.specs.Covering.{is_remaining}
-use Rattle.cover_problem.proofs.ListLemmas.{has_cases, has_here, has_append_cases, has_append_left, has_append_right, has_append_not, has_append_not_from, has_not_from, none_member, none_from, before_at, before_past, before_none, before_here, rises_member}
+use Rattle.cover_problem.proofs.MemberLemmas.{has_cases, has_here, has_append_cases, has_append_left, has_append_right, has_append_not, has_append_not_from, has_not_from, none_member, none_from}
+use Rattle.cover_problem.proofs.PartLemmas.{before_at, before_past, before_none, before_here}
+use Rattle.cover_problem.proofs.NumberLemmas.{rises_member}
 use Rattle.cover_links.specs.Ring.{without}
 use Rattle.cover_links.proofs.LayoutLemmas.{IsNode}
 

@@ -5,8 +5,9 @@ use Rattle.std.proofs.lemmas.List.Sums.{sum_by-cons}
 use Rattle.std.proofs.lemmas.Bool.{cases_lt, both_ways}
 use Rattle.cover_problem.specs.Lists.{has, are_distinct}
 use Rattle.cover_problem.specs.Problem.{ProblemValue, IsProblem, option_at, size_of}
-use Rattle.cover_problem.proofs.ListLemmas.{has_here, before_here, parts_are, distinct_parts}
-use Rattle.cover_problem.proofs.CoveringLemmas.{option_is}
+use Rattle.cover_problem.proofs.MemberLemmas.{has_here}
+use Rattle.cover_problem.proofs.PartLemmas.{before_here, parts_are, distinct_parts}
+use Rattle.cover_problem.proofs.ActiveLemmas.{option_is}
 use Rattle.cover_links.specs.Layout.{start_from, start_of, index_of, node_index, spacer_of}
 
 -- the options after the first k and one more

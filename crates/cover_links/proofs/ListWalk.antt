@@ -3,15 +3,15 @@ use Rattle.std.proofs.Common.{◌≡◌, ℕ, zero, suc, ◌+◌, ◌<◌, ◌�
 use Rattle.std.proofs.lemmas.Bool.{cases_eq, cases_Bool, cases_lt, both_ways, false≢true}
 use Rattle.cover_problem.specs.Lists.{has, are_distinct, numbers}
 use Rattle.cover_problem.specs.Problem.{ProblemValue, IsProblem, option_at}
-use Rattle.cover_problem.proofs.ListLemmas.{has_cases, has_here, has_later}
+use Rattle.cover_problem.proofs.MemberLemmas.{has_cases, has_here, has_later}
 use Rattle.cover_links.specs.declared.entry.Entry.{Entry}
 use Rattle.cover_links.specs.Hiding.{hidden, list_hidden, list_unhidden}
 use Rattle.cover_links.specs.Safety.{CanHideList, CanUnhideList}
 use Rattle.cover_links.specs.Ring.{Follows}
 use Rattle.cover_links.specs.Layout.{node_index}
 use Rattle.cover_links.proofs.LayoutLemmas.{IsNode}
-use Rattle.cover_links.proofs.Standing.{Stands, down_at, up_at}
-use Rattle.cover_links.proofs.Walking.{option_gone, HideDone, hide_done, column_kept, option_stays, option_was}
+use Rattle.cover_links.proofs.HidingLemmas.{Stands, down_at, up_at}
+use Rattle.cover_links.proofs.RunLemmas.{option_gone, HideDone, hide_done, column_kept, option_stays, option_was}
 
 -- the first of a list, or 0
 abbrev pub first_of : List ℕ → ℕ

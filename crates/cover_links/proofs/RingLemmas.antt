@@ -2,8 +2,15 @@
 use Rattle.std.proofs.Common.{◌≡◌, ℕ, zero, suc, ◌+◌, ◌<◌, ◌≤◌, ◌⊎◌, inl, inr, ◌==◌, Bool, true, false, not, ◌&&◌, Option, Some, None, unwrap_or, List, length, filter, refl, sym, ap, ◌∙◌, subst, arith}
 use Rattle.std.proofs.lemmas.Bool.{false≢true, and_parts, and_from, cases_Bool, cases_eq, cases_lt, eq-eqb, ne_eqb, not-true, not_from_false, both_ways}
 use Rattle.cover_problem.specs.Lists.{has, numbers, RisesFrom, above, below, last_of}
-use Rattle.cover_problem.proofs.ListLemmas.{has_filter, has_filter_in, has_numbers, has_numbers_in, rises_filter, above_is, above_none, below_is, below_none, last_is, last_none, filter_agree_on}
+use Rattle.cover_problem.proofs.MemberLemmas.{has_filter, has_filter_in, filter_agree_on}
+use Rattle.cover_problem.proofs.NumberLemmas.{has_numbers, has_numbers_in, rises_filter}
+use Rattle.cover_problem.proofs.RisingLemmas.{above_is, above_none, below_is, below_none, last_is, last_none}
 use Rattle.cover_links.specs.Ring.{IsNext, Follows, IsRing, without}
+
+-- what comes next is a member, or the head
+pub next_member : (t : ℕ → Bool) (x y : ℕ) → IsNext t x y → (y ≡ 0) ⊎ (t y ≡ true)
+next_member t x y (inl n) = inr n.0
+next_member t x y (inr n) = inl n.0
 
 -- ---- a member leaves
 

@@ -4,16 +4,19 @@ use Rattle.std.proofs.lemmas.Bool.{ne_eqb, cases_lt}
 use Rattle.cover_problem.specs.Lists.{has, numbers, above, below, last_of}
 use Rattle.cover_problem.specs.Problem.{ProblemValue, option_at, size_of}
 use Rattle.cover_problem.specs.Covering.{active, list_of}
-use Rattle.cover_problem.proofs.ListLemmas.{has_filter_in, above_is, below_is, last_is, rises_member, has_at}
-use Rattle.cover_problem.proofs.CoveringLemmas.{active_rises, active_in, list_rises}
+use Rattle.cover_problem.proofs.MemberLemmas.{has_filter_in, has_at}
+use Rattle.cover_problem.proofs.RisingLemmas.{above_is, below_is, last_is}
+use Rattle.cover_problem.proofs.NumberLemmas.{rises_member}
+use Rattle.cover_problem.proofs.ActiveLemmas.{active_rises, active_in}
+use Rattle.cover_problem.proofs.RemainingLemmas.{list_rises}
 use Rattle.cover_links.specs.declared.entry.Entry.{Entry}
 use Rattle.cover_links.specs.Layout.{node_index, start_of, index_of}
-use Rattle.cover_links.specs.Ring.{Follows, IsNext}
+use Rattle.cover_links.specs.Ring.{Follows}
 use Rattle.cover_links.specs.Table.{IsTable, nonzero, IsHeadOrNode}
 use Rattle.cover_links.proofs.LayoutLemmas.{IsNode, IsRun, option_run, place_high, place_low, spacer_low, start_step, start_below, index_below}
 use Rattle.cover_links.proofs.BuildLemmas.{start_most}
-use Rattle.cover_links.proofs.RingLemmas.{next_is, prev_is, last_to_head}
-use Rattle.cover_links.proofs.Standing.{Stands, down_at, up_at, right_at, top_at}
+use Rattle.cover_links.proofs.RingLemmas.{next_is, prev_is, last_to_head, next_member}
+use Rattle.cover_links.proofs.HidingLemmas.{Stands, down_at, up_at, right_at, top_at}
 use Rattle.cover_links.proofs.Covered.{shown_of, active_of, active_is, active_when}
 use Rattle.cover_links.proofs.BlockLemmas.{links_stand, shown_list, active_list}
 
@@ -70,15 +73,11 @@ module _ (p : ProblemValue) (c : List ℕ) (items : ℕ) (block : List Entry) (s
           some = n.some;
         })
 
-    next_member : (x y : ℕ) → IsNext (shown_of p c j) x y → (y ≡ 0) ⊎ (shown_of p c j y ≡ true)
-    next_member x y (inl n) = inr n.0
-    next_member x y (inr n) = inl n.0
-
     pub next_spot : (x : ℕ) → (x ≡ 0) ⊎ (shown_of p c j x ≡ true) → IsHeadOrNode block j (down_at block (node_index p j x)) (unwrap_or (above x L) 0)
     next_spot x from =
         let f = next_is (shown_of p c j) (length p.options) within x from in
         let g : Follows (shown_of p c j) x (unwrap_or (above x L) 0) = subst (λ l. Follows (shown_of p c j) x (unwrap_or (above x l) 0)) (shown_list p c j) f in
-        subst (λ n. IsHeadOrNode block j n (unwrap_or (above x L) 0)) (sym ((stands).rings j pos le x (unwrap_or (above x L) 0) g).0) (spot (unwrap_or (above x L) 0) (next_member x (unwrap_or (above x L) 0) g.to))
+        subst (λ n. IsHeadOrNode block j n (unwrap_or (above x L) 0)) (sym ((stands).rings j pos le x (unwrap_or (above x L) 0) g).0) (spot (unwrap_or (above x L) 0) (next_member (shown_of p c j) x (unwrap_or (above x L) 0) g.to))
 
     pub prev_spot : (y : ℕ) → shown_of p c j y ≡ true → IsHeadOrNode block j (up_at block (node_index p j y)) (unwrap_or (below y L) 0)
     prev_spot y h =

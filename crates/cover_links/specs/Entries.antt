@@ -72,3 +72,7 @@ pub record IsItemLinked (es : List Entry) (x : ℕ) : Type 0 where
 -- an entry that left its list and comes back at once finds the block as it was
 abbrev pub RelinkRestores : Type 0
 RelinkRestores = (es : List Entry) (x : ℕ) → IsLinked es x → relinked (unlinked es x) x ≡ es
+
+-- and so does an item that left the row of active items
+abbrev pub ItemRelinkRestores : Type 0
+ItemRelinkRestores = (es : List Entry) (x : ℕ) → IsItemLinked es x → item_relinked (item_unlinked es x) x ≡ es

@@ -2,7 +2,8 @@
 -- option's nodes, in the order of its items, with a spacer after them.
 -- TAOCP volume 4B, section 7.2.2.1, table 1.
 --
--- Example: in the small problem the nodes of the option 2, a d g, stand at 12 13 14, and the spacer after them at 15.
+-- Example: in the small problem the nodes of the option 2, a d g, stand at 12 13 14, and the spacer after them at 15
+-- (computed in proofs/LinkExamples.antt).
 use Rattle.std.specs.Prelude.{ℕ, zero, suc, ◌+◌, ◌==◌, List, [], ◌∷◌, length}
 use Rattle.std.specs.List.{before_first}
 use Rattle.cover_problem.specs.Problem.{ProblemValue, option_at}

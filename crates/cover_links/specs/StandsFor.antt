@@ -2,7 +2,7 @@
 -- TAOCP volume 4B, section 7.2.2.1.
 --
 -- Example: in the block of the small problem with nothing covered the list of the item a leads down from its head, 1, to the nodes
--- 12 and 20, of the options 2 and 4, and back to 1.
+-- 12 and 20, of the options 2 and 4, and back to 1 (computed in proofs/LinkExamples.antt).
 use Rattle.std.specs.Prelude.{◌≡◌, ℕ, ◌<◌, ◌≤◌, List, [], ◌∷◌, ◌++◌, length, map, reverse}
 use Rattle.cover_problem.specs.Problem.{ProblemValue, IsProblem}
 use Rattle.cover_problem.specs.Covering.{active, list_of}

@@ -3,21 +3,22 @@ ghost use Rattle.std.specs.Prelude.{◌≡◌, ◌<◌, length, replicate, slice
 ghost use Rattle.cover_links.specs.Ownership.{FitsInBlock};
 ghost use Rattle.cover_links.specs.Entries.{entry_at};
 
-use crate::raw::{Base, Slots, Allocation, allocate, deallocate};
 use crate::entry::Entry;
-use std::alloc::{AllocError, Global};
+use crate::raw::{Allocation, Base, Slots, allocate, deallocate};
+use std::alloc::{AllocError, Allocator, Global};
 use std::marker::Model;
 
-/// A block of entries, each read and written by its index.
-pub struct Block {
+/// A block of entries, each read and written by its index. Its parts are not `Drop`, so that none of them can be let go: a block
+/// that is dropped goes back to its allocator.
+pub struct Block<A: Allocator = Global> {
     base: Base,
     len: usize,
     slots: Slots,
-    deed: Allocation<Global>,
-    alloc: Global,
+    allocation: Allocation<A>,
+    alloc: A,
 }
 
-impl Model for Block {
+impl<A: Allocator> Model for Block<A> {
     ghost use Rattle.std.specs.Prelude.{◌≡◌, List, length};
     ghost use Rattle.cover_links.specs.declared.entry.Entry.{Entry};
     ghost use Rattle.cover_links.specs.Slots.{values, IsFull};
@@ -26,16 +27,16 @@ impl Model for Block {
 
     ghost view = { λ a. values a.slots.slots };
 
-    ghost invariant = { λ a. (a.slots.at ≡ a.base.ptr) × (length a.slots.slots ≡ a.len) × (a.deed.at ≡ a.base.ptr) × (a.deed.len ≡ a.len) × (a.deed.alloc ≡ a.alloc) × IsFull a.slots.slots };
+    ghost invariant = { λ a. (a.slots.at ≡ a.base.ptr) × (length a.slots.slots ≡ a.len) × (a.allocation.at ≡ a.base.ptr) × (a.allocation.len ≡ a.len) × (a.allocation.alloc ≡ a.alloc) × IsFull a.slots.slots };
 }
 
-impl Block {
+impl<A: Allocator> Block<A> {
     /// A block of so many entries, each the one given.
-    pub(crate) fn make(alloc: Global, len: usize, blank: Entry) -> Result<Block, AllocError>
+    pub(crate) fn make(alloc: A, len: usize, blank: Entry) -> Result<Block<A>, AllocError>
         requires { FitsInBlock len }
         ensures { IfOk result (λ b. b ≡ replicate len blank) }
     {
-        let (base, mut slots, deed) = allocate(&alloc, len)?;
+        let (base, mut slots, allocation) = allocate(&alloc, len)?;
         for index in 0..len {
             slots.put(base, index, blank);
         }
@@ -43,7 +44,7 @@ impl Block {
             base,
             len,
             slots,
-            deed,
+            allocation,
             alloc,
         })
     }
@@ -67,15 +68,15 @@ impl Block {
     }
 }
 
-impl Drop for Block {
+impl<A: Allocator> Drop for Block<A> {
     fn drop(self) {
         let Block {
             base,
             len,
             slots,
-            deed,
+            allocation,
             alloc,
         } = self;
-        deallocate(&alloc, base, len, slots, deed);
+        deallocate(&alloc, base, len, slots, allocation);
     }
 }

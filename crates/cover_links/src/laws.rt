@@ -1,10 +1,12 @@
 //! Laws of the links: each is a function that does nothing, whose contract is the law.
-ghost use Rattle.cover_links.specs.Entries.{RelinkRestores};
+ghost use Rattle.cover_links.specs.Entries.{RelinkRestores, ItemRelinkRestores};
 ghost use Rattle.cover_links.specs.StandsFor.{BlockStands, UncoverRestores};
 
-/// Where an entry's two neighbours name it, relinking it right after unlinking it gives the block back.
+/// Where an entry's two neighbours name it, relinking it right after unlinking it gives the block back: in its vertical list,
+/// and in the row of active items.
 pub fn relink_restores()
-    ensures { RelinkRestores }
+    ensures in_list { RelinkRestores }
+    ensures in_row { ItemRelinkRestores }
 {}
 
 /// Uncovering the item that was covered last gives the block back that stood before.

@@ -3,10 +3,10 @@
 
 mod block;
 mod build;
-mod raw;
 mod entry;
 mod hiding;
 pub mod laws;
+mod raw;
 mod table;
 
 pub use entry::Node;

@@ -97,12 +97,12 @@ pub(crate) fn deallocate<A: Allocator>(
     base: Base,
     len: usize,
     slots: Slots,
-    deed: Allocation<A>,
+    allocation: Allocation<A>,
 )
-    requires { (slots.at ≡ base.ptr) × (length slots.slots ≡ len) × (deed.at ≡ base.ptr) × (deed.len ≡ len) × (deed.alloc ≡ alloc.now) }
+    requires { (slots.at ≡ base.ptr) × (length slots.slots ≡ len) × (allocation.at ≡ base.ptr) × (allocation.len ≡ len) × (allocation.alloc ≡ alloc.now) }
 {
     let Slots { mark: _ } = slots;
-    let Allocation { mark: _ } = deed;
+    let Allocation { mark: _ } = allocation;
     unsafe {
         alloc.deallocate(
             base.ptr as *mut u8,

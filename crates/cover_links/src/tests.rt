@@ -2,10 +2,13 @@
 ghost use Rattle.std.specs.Prelude.{◌≡◌, ◌<◌, ◌≤◌, length, IfOk, [], ◌∷◌, ◌++◌, false};
 ghost use Rattle.cover_problem.specs.Lists.{has};
 ghost use Rattle.cover_problem.specs.Problem.{size_of};
+ghost use Rattle.cover_links.specs.Ownership.{FitsInBlock};
 
-use crate::build::starts;
+use crate::block::Block;
+use crate::build::{BLANK, starts};
 use crate::table::LinkTable;
 use cover_problem::{Problem, Table};
+use linked_list_allocator::LocalHeap;
 use std::alloc::{AllocError, Global};
 use std::test::Fail;
 
@@ -136,7 +139,7 @@ fn last_but_one(table: &LinkTable, item: u32) -> Option<u32>
 #[test]
 fn the_small_problem_has_its_table_of_nodes(rt: HostRuntime) -> Result<(), Fail> {
     let problem = small(rt.alloc())?;
-    assert_eq!(rt; entries(rt.alloc(), &problem)?, 31);
+    assert!(rt; entries(rt.alloc(), &problem)? == 31);
     let table = LinkTable::new(rt.alloc(), &problem)?;
     assert!(rt; is_small_block(&table));
     Ok(())
@@ -145,8 +148,8 @@ fn the_small_problem_has_its_table_of_nodes(rt: HostRuntime) -> Result<(), Fail>
 #[test]
 fn uncovering_gives_the_table_of_nodes_back(rt: HostRuntime) -> Result<(), Fail> {
     let problem = small(rt.alloc())?;
-    assert_eq!(rt; problem.items(), 7);
-    assert_eq!(rt; entries(rt.alloc(), &problem)?, 31);
+    assert!(rt; problem.items() == 7);
+    assert!(rt; entries(rt.alloc(), &problem)? == 31);
     let mut table = LinkTable::new(rt.alloc(), &problem)?;
     cover_three(&mut table, 1, 4, 7);
     assert!(rt; !is_small_block(&table));
@@ -158,22 +161,41 @@ fn uncovering_gives_the_table_of_nodes_back(rt: HostRuntime) -> Result<(), Fail>
 #[test]
 fn what_is_left_once_a_d_and_g_are_covered(rt: HostRuntime) -> Result<(), Fail> {
     let problem = small(rt.alloc())?;
-    assert_eq!(rt; problem.items(), 7);
+    assert!(rt; problem.items() == 7);
     let mut table = LinkTable::new(rt.alloc(), &problem)?;
     cover_three(&mut table, 1, 4, 7);
-    assert_eq!(rt; table.covered(), [1, 4, 7].as_slice());
-    assert_eq!(rt; table.first_item(), Some(2));
-    assert_eq!(rt; second_item(&table), Some(3));
-    assert_eq!(rt; table.len(2), 1);
-    assert_eq!(rt; table.first_option(3), Some(1));
-    assert_eq!(rt; second_option(&table, 3), Some(3));
-    assert_eq!(rt; second_option(&table, 2), None);
-    assert_eq!(rt; table.last_option(3), Some(3));
-    assert_eq!(rt; last_but_one(&table, 3), Some(1));
-    assert_eq!(rt; last_but_one(&table, 2), None);
+    assert!(rt; table.covered() == [1, 4, 7].as_slice());
+    assert!(rt; table.first_item() == Some(2));
+    assert!(rt; second_item(&table) == Some(3));
+    assert!(rt; table.len(2) == 1);
+    assert!(rt; table.first_option(3) == Some(1));
+    assert!(rt; second_option(&table, 3) == Some(3));
+    assert!(rt; second_option(&table, 2) == None);
+    assert!(rt; table.last_option(3) == Some(3));
+    assert!(rt; last_but_one(&table, 3) == Some(1));
+    assert!(rt; last_but_one(&table, 2) == None);
     // The lists of covered items stay as they were.
-    assert_eq!(rt; table.len(1), 2);
-    assert_eq!(rt; table.first_option(4), Some(6));
-    assert_eq!(rt; table.len(4), 1);
+    assert!(rt; table.len(1) == 2);
+    assert!(rt; table.first_option(4) == Some(6));
+    assert!(rt; table.len(4) == 1);
+    Ok(())
+}
+
+/// Whether a block takes memory of the heap, and gives it back when it is dropped.
+fn is_given_back(heap: &LocalHeap, len: usize) -> Result<bool, AllocError>
+    requires { len < 65536 }
+{
+    let block = Block::make(heap, len, BLANK)?;
+    let taken = heap.used();
+    drop(block);
+    Ok(taken > 0 && heap.used() == 0)
+}
+
+#[test]
+fn a_block_goes_back_to_its_heap(rt: HostRuntime) -> Result<(), Fail> {
+    let heap = LocalHeap::new(rt.alloc(), 2_000_000)?;
+    assert!(rt; is_given_back(&heap, 1)?);
+    assert!(rt; is_given_back(&heap, 31)?);
+    assert!(rt; is_given_back(&heap, 60_000)?);
     Ok(())
 }

@@ -1,26 +1,17 @@
--- The names and the items of a problem are read again, and its parts are within the limits.
-use Rattle.std.proofs.Common.{◌≡◌, ◌<◌, ◌≤◌, ℕ, zero, suc, ◌+◌, ◌-◌, ◌==◌, List, [], ◌∷◌, ◌++◌, map, length, get_or, Bool, true, false, not, ◌&&◌, nat_lt, nat_le, Ok, sum_by, refl, sym, ap, ◌∙◌, bytes_eq, arith, append_assoc, append-nil, le_trans, one-add, lt-ltb, ltb-true, le-leb, leb-true}
+-- The items of a problem are read again, and its parts are within the limits.
+use Rattle.std.proofs.Common.{◌≡◌, ◌<◌, ◌≤◌, ℕ, zero, suc, ◌+◌, ◌-◌, List, [], ◌∷◌, ◌++◌, map, length, get_or, Bool, true, false, not, ◌&&◌, nat_lt, nat_le, Ok, sum_by, refl, sym, ap, ◌∙◌, bytes_eq, arith, append_assoc, append-nil, le_trans, one-add, lt-ltb, ltb-true, le-leb, leb-true}
 use Rattle.std.specs.List.{list_all, list_any, position_or_len}
 use Rattle.std.specs.Cmp.Lexicographic.{bytes_decides}
-use Rattle.std.proofs.lemmas.Bool.{and_parts, and_from, or_parts, or_from, not-true, not_from_false}
+use Rattle.std.proofs.lemmas.Bool.{and_parts, and_from, or_parts, not-true, not_from_false}
 use Rattle.std.proofs.lemmas.List.Folds.{list_any-append}
+use Rattle.std.proofs.lemmas.List.Sums.{AllPass-from_list_all}
+use Rattle.cover_problem.proofs.PartLemmas.{distinct_before}
 use Rattle.text_lines.specs.Each.{each}
 use Rattle.cover_problem.specs.Lists.{has, are_distinct}
 use Rattle.cover_problem.specs.Problem.{ProblemValue, is_name, is_item, is_small, are_new, name_at}
-use Rattle.cover_problem.specs.Validation.{add_name, within}
+use Rattle.cover_problem.specs.Validation.{within}
 use Rattle.cover_problem.specs.Reading.{item_of, add_item}
-use Rattle.cover_problem.proofs.ProblemLemmas.{bytes_eq_sym, nat_eq_sym}
-
--- *names are read again*
-
--- a name among names of which no two are the same isn't among those before it
-new_there : (acc : List (List ℕ)) (w : List ℕ) (words : List (List ℕ)) → are_new (acc ++ w ∷ words) ≡ true → list_any (bytes_eq w) acc ≡ false
-new_there [] w words h = refl
-new_there (x ∷ xs) w words h =
-    let p = and_parts (not (list_any (bytes_eq x) (xs ++ w ∷ words))) (are_new (xs ++ w ∷ words)) h in
-    let q = or_parts (list_any (bytes_eq x) xs) (list_any (bytes_eq x) (w ∷ words)) (sym (list_any-append (bytes_eq x) xs (w ∷ words)) ∙ not-true _ p.0) in
-    let r = or_parts (bytes_eq x w) (list_any (bytes_eq x) words) q.1 in
-    or_from _ _ (bytes_eq_sym w x ∙ r.0) (new_there xs w words p.1)
+use Rattle.cover_problem.proofs.NameLemmas.{bytes_eq_sym}
 
 pub new_front : (xs ys : List (List ℕ)) → are_new (xs ++ ys) ≡ true → are_new xs ≡ true
 new_front [] ys h = refl
@@ -29,38 +20,10 @@ new_front (x ∷ xs) ys h =
     let q = or_parts (list_any (bytes_eq x) xs) (list_any (bytes_eq x) ys) (sym (list_any-append (bytes_eq x) xs ys) ∙ not-true _ p.0) in
     and_from _ _ (not_from_false _ q.0) (new_front xs ys p.1)
 
-name_taken : (acc : List (List ℕ)) (w : List ℕ) → is_name w ≡ true → list_any (bytes_eq w) acc ≡ false → add_name acc w ≡ Ok (acc ++ w ∷ [])
-unfolding add_name
-name_taken acc w n h = rw (n, h) refl
-
-pub names_again : (acc words : List (List ℕ)) → list_all is_name words ≡ true → are_new (acc ++ words) ≡ true → each add_name acc words ≡ Ok (acc ++ words)
-unfolding each
-names_again acc [] n h = ap (λ ns. Ok ns) (sym (append-nil acc))
-names_again acc (w ∷ words) n h =
-    let p = and_parts (is_name w) (list_all is_name words) n in
-    let e : (acc ++ w ∷ []) ++ words ≡ acc ++ w ∷ words = append_assoc acc (w ∷ []) words in
-    rw (name_taken acc w p.0 (new_there acc w words h))
-    (names_again (acc ++ w ∷ []) words p.1 (rw e h) ∙ ap (λ ns. Ok ns) e)
-
--- *items are read again*
-
-distinct_there : (acc : List ℕ) (i : ℕ) (items : List ℕ) → are_distinct (acc ++ i ∷ items) ≡ true → has acc i ≡ false
-distinct_there [] i items h = refl
-distinct_there (x ∷ xs) i items h =
-    let p = and_parts (not (has (xs ++ i ∷ items) x)) (are_distinct (xs ++ i ∷ items)) h in
-    let q = or_parts (has xs x) (has (i ∷ items) x) (sym (list_any-append (λ y. y == x) xs (i ∷ items)) ∙ not-true _ p.0) in
-    let r = or_parts (i == x) (has items x) q.1 in
-    or_from _ _ (nat_eq_sym x i ∙ r.0) (distinct_there xs i items p.1)
-
 none_at : (t : List ℕ → Bool) (xs : List (List ℕ)) (i : ℕ) → list_any t xs ≡ false → i < length xs → t (get_or xs i []) ≡ false
 none_at t [] i h l = absurd (omega arith)
 none_at t (x ∷ xs) zero h l = (or_parts (t x) (list_any t xs) h).0
 none_at t (x ∷ xs) (suc i) h l = none_at t xs i (or_parts (t x) (list_any t xs) h).1 (omega arith)
-
-pub all_at : (t : List ℕ → Bool) (xs : List (List ℕ)) (i : ℕ) → list_all t xs ≡ true → i < length xs → t (get_or xs i []) ≡ true
-all_at t [] i h l = absurd (omega arith)
-all_at t (x ∷ xs) zero h l = (and_parts (t x) (list_all t xs) h).0
-all_at t (x ∷ xs) (suc i) h l = all_at t xs i (and_parts (t x) (list_all t xs) h).1 (omega arith)
 
 own_place : (names : List (List ℕ)) (i : ℕ) → are_new names ≡ true → i < length names → position_or_len (bytes_eq (get_or names i [])) names ≡ i
 own_place [] i h l = absurd (omega arith)
@@ -79,7 +42,7 @@ item_again names i named new is =
     let within : i ≤ length names = leb-true i (length names) p.1 in
     let l : i - 1 < length names = omega arith in
     let e : i - 1 + 1 ≡ i = omega arith in
-    rw (all_at is_name names (i - 1) named l, own_place names (i - 1) new l, lt-ltb (i - 1) (length names) l) (ap (λ k. Ok k) e)
+    rw (AllPass-from_list_all is_name names named (i - 1) [] l, own_place names (i - 1) new l, lt-ltb (i - 1) (length names) l) (ap (λ k. Ok k) e)
 
 item_taken_again : (names : List (List ℕ)) (acc : List ℕ) (i : ℕ) → item_of names (name_at names i) ≡ Ok i → has acc i ≡ false → add_item names acc (name_at names i) ≡ Ok (acc ++ i ∷ [])
 unfolding add_item
@@ -91,7 +54,7 @@ items_again names acc [] named new is d = ap (λ os. Ok os) (sym (append-nil acc
 items_again names acc (i ∷ items) named new is d =
     let p = and_parts (is_item (length names) i) (list_all (is_item (length names)) items) is in
     let e : (acc ++ i ∷ []) ++ items ≡ acc ++ i ∷ items = append_assoc acc (i ∷ []) items in
-    rw (item_taken_again names acc i (item_again names i named new p.0) (distinct_there acc i items d))
+    rw (item_taken_again names acc i (item_again names i named new p.0) (distinct_before acc items i d))
     (items_again names (acc ++ i ∷ []) items named new p.1 (rw e d) ∙ ap (λ os. Ok os) e)
 
 -- *a part of a problem within the limits is within them*

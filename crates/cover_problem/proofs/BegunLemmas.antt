@@ -2,7 +2,7 @@
 use Rattle.std.proofs.Common.{◌≡◌, ◌<◌, ◌≤◌, ◌⊎◌, inl, inr, ℕ, ◌==◌, List, [], ◌∷◌, ◌++◌, map, length, take, drop, true, false, cond, ◌||◌, nat_lt, Ok, Err, refl, sym, ap, ◌∙◌, subst, codes, arith, append_assoc, length-append, le_refl, lt-ltb, ltb-false}
 use Rattle.std.proofs.Math.Seq.{take-append_seam, drop-append_seam, take-length, drop-length}
 use Rattle.std.proofs.lemmas.Bool.{and_from, or_parts, eqb-false}
-use Rattle.std.proofs.lemmas.List.{length-map}
+use Rattle.std.proofs.lemmas.List.{length-map, map-append}
 use Rattle.text_lines.specs.Lines.{is_empty}
 use Rattle.text_lines.specs.Each.{each, ◌>>=◌}
 use Rattle.cover_problem.specs.declared.fault.Fault.TheVariants.{NoItemLine, BadLine}
@@ -10,8 +10,11 @@ use Rattle.cover_problem.specs.Problem.{ProblemValue, IsProblem, is_option, name
 use Rattle.cover_problem.specs.Validation.{add_name, within}
 use Rattle.cover_problem.specs.Reading.{add_item, nothing, items_line, maybe_line, option_line}
 use Rattle.cover_problem.specs.Grammar.{maybe_words, option_words, word_lines}
-use Rattle.cover_problem.proofs.ProblemLemmas.{bind_ok, within_parts, names_are, all_push, map_push}
-use Rattle.cover_problem.proofs.ItemLemmas.{unrefused, items_are}
+use Rattle.text_lines.proofs.ResultLemmas.{bind_ok, unrefused}
+use Rattle.cover_problem.proofs.ProblemLemmas.{within_parts}
+use Rattle.cover_problem.proofs.NameLemmas.{names_are}
+use Rattle.cover_problem.proofs.MemberLemmas.{all_push}
+use Rattle.cover_problem.proofs.ItemLemmas.{items_are}
 
 -- *what is read so far*
 
@@ -138,7 +141,7 @@ option_says p q words begun h = step (option_parts p q words h)
         let is : is_option (length p.names) option ≡ true = and_from _ _ (and_from _ _ (lt-ltb 0 (length option) long) m.0) m.1 in
         let start : List (List (List ℕ)) = (codes "items" ∷ take p.primary p.names) ∷ maybe_words (drop p.primary p.names) in
         let after : word_lines r ≡ word_lines p ++ (codes "option" ∷ words) ∷ [] =
-        ap (λ ls. start ++ ls) (map_push (option_words p.names) p.options option ∙ ap (λ ws. map (option_words p.names) p.options ++ (codes "option" ∷ ws) ∷ []) names)
+        ap (λ ls. start ++ ls) (map-append (option_words p.names) p.options (option ∷ []) ∙ ap (λ ws. map (option_words p.names) p.options ++ (codes "option" ∷ ws) ∷ []) names)
         ∙ sym (append_assoc start (map (option_words p.names) p.options) ((codes "option" ∷ words) ∷ [])) in
         subst (λ s. Says p s (codes "option" ∷ words)) v.1 (record {
           begun = inr (record { some = g.some; within = g.within; named = g.named; new = g.new; options_are = all_push (is_option (length p.names)) p.options option g.options_are is; small = v.0 });

@@ -1,6 +1,11 @@
 -- The examples of the definitions, computed on the small problem.
-use Rattle.std.proofs.Common.{◌≡◌, true, [], ◌∷◌, refl, codes}
-use Rattle.cover_problem.specs.Problem.{ProblemValue, is_small, size_of}
+use Rattle.std.proofs.Common.{◌≡◌, true, false, [], ◌∷◌, refl, codes, lit<, lit≤}
+use Rattle.cover_problem.specs.Lists.{has}
+use Rattle.cover_problem.specs.Table.{IsCoveredList}
+use Rattle.cover_problem.specs.ExactCover.{IsExactCover}
+use Rattle.cover_problem.specs.CoverTest.{occurrences, is_cover}
+use Rattle.cover_problem.proofs.CoverTestLemmas.{passes_is}
+use Rattle.cover_problem.specs.Problem.{ProblemValue, IsProblem, is_small, size_of}
 use Rattle.cover_problem.specs.Covering.{active, remaining, list_of, choice}
 use Rattle.cover_problem.specs.Path.{covered_by, taken, others}
 
@@ -46,3 +51,25 @@ others_of_d = refl
 covered_after_2_3 : covered_by small (2 ∷ 3 ∷ []) ≡ 1 ∷ 4 ∷ 7 ∷ 2 ∷ 3 ∷ 6 ∷ []
 unfolding covered_by taken choice active remaining
 covered_after_2_3 = refl
+
+a_d_g_covered : IsCoveredList small (1 ∷ 4 ∷ 7 ∷ [])
+a_d_g_covered = record { distinct = refl; items = refl }
+
+-- *the exact cover c e, a d f, b g*
+
+small_is_problem : IsProblem small
+small_is_problem = record { some = lit< tt; within = lit≤ tt; named = refl; new = refl; options_are = refl; small = refl }
+
+-- one of them has the item a
+once : occurrences small (1 ∷ 4 ∷ 5 ∷ []) 1 ≡ 1
+once = refl
+
+passes : is_cover small (1 ∷ 4 ∷ 5 ∷ []) ≡ true
+passes = refl
+
+is_exact_cover : IsExactCover small (has (1 ∷ 4 ∷ 5 ∷ []))
+is_exact_cover = (passes_is small small_is_problem (1 ∷ 4 ∷ 5 ∷ []) refl).1
+
+-- without the option b g the item b is in none
+fails : is_cover small (1 ∷ 4 ∷ []) ≡ false
+fails = refl

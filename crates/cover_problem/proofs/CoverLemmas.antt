@@ -7,8 +7,10 @@ use Rattle.cover_problem.specs.Problem.{ProblemValue, option_at}
 use Rattle.cover_problem.specs.Covering.{active, choice}
 use Rattle.cover_problem.specs.Path.{others, taken, IsChoice, covered_from, IsValidFrom}
 use Rattle.cover_problem.specs.ExactCover.{IsExactCover}
-use Rattle.cover_problem.proofs.ListLemmas.{has_cases, has_here, has_later, has_append_cases, has_append_left, has_append_right, none_member, none_from, has_some}
-use Rattle.cover_problem.proofs.CoveringLemmas.{IsTaken, active_in, active_from, remaining_from, choice_active, choice_has, choice_falls, others_in, others_has, covered_from_push, valid_from_push}
+use Rattle.cover_problem.proofs.MemberLemmas.{has_cases, has_here, has_later, has_append_cases, has_append_left, has_append_right, none_member, none_from, has_some}
+use Rattle.cover_problem.proofs.PathLemmas.{IsTaken, choice_has, choice_falls, others_in, others_has, covered_from_push, valid_from_push}
+use Rattle.cover_problem.proofs.ActiveLemmas.{active_in, active_from}
+use Rattle.cover_problem.proofs.RemainingLemmas.{remaining_from, choice_active}
 
 -- ---- one choice
 

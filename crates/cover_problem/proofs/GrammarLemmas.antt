@@ -1,22 +1,24 @@
 -- A text of a problem is read as that problem.
-use Rattle.std.proofs.Common.{◌≡◌, ◌<◌, ◌≤◌, ℕ, ◌+◌, ◌==◌, List, [], ◌∷◌, ◌++◌, map, length, take, drop, true, false, ◌&&◌, nat_lt, Result, Ok, sum_by, refl, sym, ap, ◌∙◌, subst, codes, arith, append_assoc, append-nil, length-append, le_refl, lt-ltb, le-ltb, ltb-true, ne_eqb}
+use Rattle.std.proofs.Common.{◌≡◌, ◌<◌, ◌≤◌, ℕ, ◌==◌, List, [], ◌∷◌, ◌++◌, map, length, take, drop, true, false, ◌&&◌, nat_lt, Ok, sum_by, refl, sym, ap, ◌∙◌, subst, codes, arith, append_assoc, append-nil, length-append, le_refl, lt-ltb, le-ltb, ltb-true, ne_eqb}
 use Rattle.std.specs.List.{list_all}
 use Rattle.std.proofs.lemmas.Bool.{and_parts}
 use Rattle.std.proofs.lemmas.List.{length-map, length-take, take-append-drop}
 use Rattle.std.proofs.lemmas.List.Sums.{sum_by-append}
 use Rattle.std.proofs.lemmas.List.Folds.{list_all-append}
-use Rattle.text_lines.specs.Lines.{is_empty, is_plain, outside_comment, lines_of}
-use Rattle.text_lines.specs.Writing.{words_of_line, are_plain}
+use Rattle.text_lines.specs.Lines.{is_empty, lines_of}
+use Rattle.text_lines.specs.Reading.{words_by_line}
+use Rattle.text_lines.proofs.TextWordLemmas.{read_words}
 use Rattle.text_lines.specs.Each.{each}
 use Rattle.text_lines.proofs.EachLemmas.{each-append}
-use Rattle.cover_problem.specs.declared.fault.Fault.{Fault}
+use Rattle.cover_problem.specs.declared.fault.Fault.TheVariants.{BadLine}
+use Rattle.cover_problem.proofs.TextLemmas.{blank, text_with_items}
 use Rattle.cover_problem.specs.Lists.{are_distinct}
 use Rattle.cover_problem.specs.Problem.{ProblemValue, IsProblem, is_name, is_item, is_option, are_new, name_at}
 use Rattle.cover_problem.specs.Validation.{add_name, within}
-use Rattle.cover_problem.specs.Reading.{add_item, nothing, items_line, maybe_line, option_line, words_line, line, numbered_line, lines_read, problem_of}
-use Rattle.cover_problem.specs.Grammar.{maybe_words, option_words, word_lines, words_by_line, IsCoverText}
-use Rattle.cover_problem.proofs.ProblemLemmas.{each_parts}
-use Rattle.cover_problem.proofs.AgainLemmas.{names_again, items_again, new_front, fits}
+use Rattle.cover_problem.specs.Reading.{add_item, nothing, items_line, maybe_line, option_line, words_line, line, problem_of}
+use Rattle.cover_problem.specs.Grammar.{maybe_words, option_words, word_lines, IsCoverText}
+use Rattle.cover_problem.proofs.AgainLemmas.{items_again, new_front, fits}
+use Rattle.cover_problem.proofs.NameLemmas.{names_again}
 
 -- *a problem's lines are read again*
 
@@ -122,44 +124,10 @@ module _ (p : ProblemValue) (g : IsProblem p) where
 
 -- *the lines of a text*
 
-numbered_again : (p q : ProblemValue) (n : ℕ) (bytes : List ℕ) → list_all is_plain (outside_comment bytes) ≡ true → words_line p (words_of_line bytes) ≡ Ok q → numbered_line (p, n) bytes ≡ Ok (q, n + 1)
-unfolding numbered_line line
-numbered_again p q n bytes plain h = rw (plain, h) refl
-
-blank_again : (p : ProblemValue) (words : List (List ℕ)) → words ≡ [] → words_line p words ≡ Ok p
-unfolding words_line
-blank_again p words e = rw e refl
-
--- lines that are plain and say what is read are read, whatever number the first has
-each_said : (lines : List (List ℕ)) (p q : ProblemValue) (n : ℕ) → are_plain lines ≡ true → each words_line p (words_by_line lines) ≡ Ok q → (m : ℕ) × (each numbered_line (p, n) lines ≡ Ok (q, m))
-unfolding each
-each_said [] p q n plain h = (n, ap (λ s. Ok (s, n)) (same p q h))
-  where
-    same : (p q : ProblemValue) → ◌≡◌ {A = Result ProblemValue Fault} (Ok p) (Ok q) → p ≡ q
-    same p q h = cc
-each_said (bytes ∷ lines) p q n plain h = by_words (λ r. each_said lines r q (n + 1)) (words_of_line bytes) refl
-  where
-    parts : (list_all is_plain (outside_comment bytes) ≡ true) × (are_plain lines ≡ true)
-    parts = and_parts (list_all is_plain (outside_comment bytes)) (are_plain lines) plain
-
-    go_on : ((r : ProblemValue) → are_plain lines ≡ true → each words_line r (words_by_line lines) ≡ Ok q → (m : ℕ) × (each numbered_line (r, n + 1) lines ≡ Ok (q, m))) →
-        (r : ProblemValue) → words_line p (words_of_line bytes) ≡ Ok r → each words_line r (words_by_line lines) ≡ Ok q → (m : ℕ) × (each numbered_line (p, n) (bytes ∷ lines) ≡ Ok (q, m))
-    go_on later r a b = let l = later r parts.1 b in (l.0, rw (numbered_again p r n bytes parts.0 a) l.1)
-
-    by_words : ((r : ProblemValue) → are_plain lines ≡ true → each words_line r (words_by_line lines) ≡ Ok q → (m : ℕ) × (each numbered_line (r, n + 1) lines ≡ Ok (q, m))) →
-        (words : List (List ℕ)) → words_of_line bytes ≡ words → (m : ℕ) × (each numbered_line (p, n) (bytes ∷ lines) ≡ Ok (q, m))
-    by_words later [] e = go_on later p (blank_again p (words_of_line bytes) e) (rw e at h)
-    by_words later (w ∷ ws) e =
-        let t = each_parts words_line p (w ∷ ws) (words_by_line lines) q (rw e at h) in
-        go_on later t.0 (rw e t.1) t.2
-
-text_end : (text : List ℕ) (p : ProblemValue) (n : ℕ) → lines_read (lines_of text) ≡ Ok (p, n) → 0 < p.primary → problem_of text ≡ Ok p
-unfolding problem_of
-text_end text p n h some = rw (h, lt-ltb 0 p.primary some) refl
-
 -- a text of a problem is read as that problem
 pub text_again : (text : List ℕ) (p : ProblemValue) → IsCoverText text p → problem_of text ≡ Ok p
+unfolding line
 text_again text p t =
     let e : each words_line nothing (words_by_line (lines_of text)) ≡ Ok p = rw t.says (lines_again p t.problem) in
-    let r = each_said (lines_of text) nothing p 1 t.plain e in
-    text_end text p r.0 r.1 t.problem.some
+    let r = read_words BadLine words_line blank (lines_of text) nothing p 1 t.plain e in
+    text_with_items text p r.0 r.1 (lt-ltb 0 p.primary t.problem.some)

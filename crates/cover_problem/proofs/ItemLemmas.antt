@@ -1,28 +1,22 @@
 -- What a step did that gave something: which items an option has.
-use Rattle.std.proofs.Common.{◌≡◌, ◌<◌, ◌≤◌, ℕ, ◌+◌, ◌-◌, List, [], ◌∷◌, ◌++◌, map, length, get_or, Bool, true, false, cond, Option, Some, None, option_map, Result, Ok, Err, position, refl, sym, ap, ◌∙◌, subst, bytes_eq, arith, append_assoc, append-nil, lt-ltb, le-leb}
+use Rattle.std.proofs.Common.{◌≡◌, ◌<◌, ◌≤◌, ℕ, ◌+◌, ◌-◌, List, [], ◌∷◌, ◌++◌, map, length, get_or, true, false, Option, Some, None, option_map, Ok, position, refl, sym, ap, ◌∙◌, subst, bytes_eq, arith, append_assoc, append-nil, lt-ltb, le-leb}
 use Rattle.std.specs.List.{list_all}
 use Rattle.std.specs.Cmp.Lexicographic.{bytes_decides}
 use Rattle.std.proofs.lemmas.Bool.{and_from}
 use Rattle.std.proofs.lemmas.List.Quantifiers.{position-Some}
+use Rattle.std.proofs.lemmas.List.{map-append}
 use Rattle.text_lines.specs.Each.{each}
-use Rattle.cover_problem.specs.declared.fault.Fault.{Fault}
 use Rattle.cover_problem.specs.declared.fault.Fault.TheVariants.{BadName, UnknownItem, ItemTwiceInOption}
 use Rattle.cover_problem.specs.Lists.{has, are_distinct}
 use Rattle.cover_problem.specs.Problem.{is_name, is_item, name_at, item_named}
 use Rattle.cover_problem.specs.Validation.{with_item}
 use Rattle.cover_problem.specs.Reading.{item_of, add_item, found_or}
-use Rattle.cover_problem.proofs.ProblemLemmas.{ok_is, no_fault, bind_ok, each_none, each_parts, are_distinct_push, all_push, map_push}
+use Rattle.text_lines.proofs.EachLemmas.{each_none, each_parts}
+use Rattle.text_lines.proofs.ResultLemmas.{ok_is, no_fault, bind_ok, unrefused, granted}
+use Rattle.cover_problem.proofs.PartLemmas.{are_distinct_push}
+use Rattle.cover_problem.proofs.MemberLemmas.{all_push}
 
 -- *what a step that gave something did*
-
--- a test that would refuse didn't pass
-pub unrefused : {S : Type 0} (b : Bool) (f : Fault) (r : Result S Fault) (x : S) → cond b (Err f) r ≡ Ok x → (b ≡ false) × (r ≡ Ok x)
-unrefused true f r x h = absurd (no_fault f x h)
-unrefused false f r x h = (refl, h)
-
-pub granted : {S : Type 0} (b : Bool) (f : Fault) (r : Result S Fault) (x : S) → cond b r (Err f) ≡ Ok x → (b ≡ true) × (r ≡ Ok x)
-granted true f r x h = (refl, h)
-granted false f r x h = absurd (no_fault f x h)
 
 found_or_is : (o : Option ℕ) (i : ℕ) → found_or o ≡ Ok i → o ≡ Some i
 found_or_is None i h = absurd (no_fault UnknownItem i h)
@@ -77,4 +71,4 @@ items_are names acc (w ∷ words) option h d a = step (λ t. items_are names t w
     step later (t, p, q) =
         let m = item_taken names acc w t p in
         let r = later (acc ++ m.0 ∷ []) (rw m.4 at q) (are_distinct_push acc m.0 d m.3) (all_push (is_item (length names)) acc m.0 a m.1) in
-        (r.0, r.1, r.2 ∙ ap (λ xs. xs ++ words) (map_push (name_at names) acc m.0) ∙ append_assoc (map (name_at names) acc) (name_at names m.0 ∷ []) words ∙ ap (λ x. map (name_at names) acc ++ x ∷ words) m.2)
+        (r.0, r.1, r.2 ∙ ap (λ xs. xs ++ words) (map-append (name_at names) acc (m.0 ∷ [])) ∙ append_assoc (map (name_at names) acc) (name_at names m.0 ∷ []) words ∙ ap (λ x. map (name_at names) acc ++ x ∷ words) m.2)

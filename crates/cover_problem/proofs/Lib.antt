@@ -1,9 +1,20 @@
 pub mod CoverExamples
-mod MakingExamples
+mod ValidationExamples
 mod ReadingExamples
 mod GrammarExamples
-pub mod ListLemmas
-pub mod CoveringLemmas
+pub mod MemberLemmas
+pub mod NumberLemmas
+pub mod RisingLemmas
+pub mod PartLemmas
+pub mod MapLemmas
+pub mod NameLemmas
+pub mod OptionLemmas
+pub mod HolderLemmas
+pub mod TimeLemmas
+pub mod ActiveLemmas
+pub mod CoveredLemmas
+pub mod RemainingLemmas
+pub mod PathLemmas
 pub mod CoverLemmas
 pub mod ProblemLemmas
 pub mod TableLemmas
@@ -11,10 +22,11 @@ pub mod WalkLemmas
 pub mod ReadingLemmas
 pub mod ItemLemmas
 pub mod BegunLemmas
-pub mod SaidLemmas
+pub mod TextLemmas
 pub mod AgainLemmas
 pub mod GrammarLemmas
 pub mod WrittenLemmas
 pub mod WriterLemmas
 pub mod FirstFaultLemmas
-pub mod FairLemmas
+pub mod NoItemLemmas
+pub mod CoverTestLemmas

@@ -1,9 +1,10 @@
 -- How the writer's steps make the text of a problem.
-use Rattle.std.proofs.Common.{◌≡◌, ◌<◌, ℕ, zero, suc, List, [], ◌∷◌, ◌++◌, map, length, take, drop, get_or, flat_map, true, ◌&&◌, nat_lt, refl, sym, ap, ◌∙◌, codes, append_assoc, append-nil, arith}
+use Rattle.std.proofs.Common.{◌≡◌, ◌<◌, ℕ, List, [], ◌∷◌, ◌++◌, map, length, take, drop, get_or, flat_map, true, ◌&&◌, nat_lt, sym, ap, ◌∙◌, codes, append_assoc, append-nil}
 use Rattle.std.specs.List.{list_all}
 use Rattle.std.proofs.lemmas.Bool.{and_parts}
 use Rattle.std.proofs.lemmas.Grind.{flat_map-append}
 use Rattle.text_lines.specs.Writing.{spaced, line_text, text_of}
+use Rattle.cover_problem.proofs.HolderLemmas.{option_of_all}
 use Rattle.cover_problem.specs.Lists.{are_distinct}
 use Rattle.cover_problem.specs.Problem.{ProblemValue, is_item, is_option}
 use Rattle.cover_problem.specs.Grammar.{maybe_words, option_words, written}
@@ -24,14 +25,7 @@ line_ends text old key words e =
 
 -- the items of an option among options
 pub option_items : {X : Type 0} (items : X → List ℕ) (n : ℕ) (xs : List X) (i : ℕ) (x : X) → list_all (is_option n) (map items xs) ≡ true → i < length xs → x ≡ get_or xs i x → list_all (is_item n) (items x) ≡ true
-option_items items n [] i x h l e = absurd (omega arith)
-option_items items n (y ∷ ys) zero x h l e =
-    let p = and_parts (is_option n (items y)) (list_all (is_option n) (map items ys)) h in
-    let q = and_parts (nat_lt 0 (length (items y)) && are_distinct (items y)) (list_all (is_item n) (items y)) p.0 in
-    rw e q.1
-option_items items n (y ∷ ys) (suc i) x h l e =
-    let p = and_parts (is_option n (items y)) (list_all (is_option n) (map items ys)) h in
-    option_items items n ys i x p.1 (omega arith) e
+option_items items n xs i x h l e = (and_parts (nat_lt 0 (length (items x)) && are_distinct (items x)) (list_all (is_item n) (items x)) (option_of_all items n xs i x h l e)).1
 
 -- the lines of a problem, one after the other
 module _ (p : ProblemValue) (front back names options : List (List ℕ)) (at_front : front ≡ take p.primary p.names) (at_back : back ≡ drop p.primary p.names) (same_names : names ≡ p.names) (same_options : options ≡ p.options) where
@@ -40,9 +34,3 @@ module _ (p : ProblemValue) (front back names options : List (List ℕ)) (at_fro
   all_written first second text e f g =
       let start : List (List (List ℕ)) = (codes "items" ∷ take p.primary p.names) ∷ maybe_words (drop p.primary p.names) in
       rw (g, f, e, at_front, at_back, same_names, same_options) (sym (flat_map-append line_text start (map (option_words p.names) p.options)))
-
-pub map_drop : {X Y : Type 0} (f : X → Y) (xs : List X) (n : ℕ) → map f (drop n xs) ≡ drop n (map f xs)
-map_drop f [] zero = refl
-map_drop f [] (suc n) = refl
-map_drop f (x ∷ xs) zero = refl
-map_drop f (x ∷ xs) (suc n) = map_drop f xs n

@@ -12,7 +12,7 @@ use Rattle.cover_problem.specs.Lists.{are_distinct}
 use Rattle.cover_problem.specs.Problem.{ProblemValue, IsProblem, is_name, is_name_byte, is_item, is_option, name_at}
 use Rattle.cover_problem.specs.Reading.{problem_of}
 use Rattle.cover_problem.specs.Grammar.{maybe_words, option_words, word_lines, IsCoverText, written}
-use Rattle.cover_problem.proofs.AgainLemmas.{all_at}
+use Rattle.std.proofs.lemmas.List.Sums.{AllPass-from_list_all}
 use Rattle.cover_problem.proofs.GrammarLemmas.{text_again}
 
 -- *names are words*
@@ -53,7 +53,7 @@ item_is_word names i named is =
     let p = and_parts (nat_lt 0 i) (nat_le i (length names)) is in
     let some : 0 < i = ltb-true 0 i p.0 in
     let within : i ≤ length names = leb-true i (length names) p.1 in
-    name_is_word (name_at names i) (all_at is_name names (i - 1) named (omega arith))
+    name_is_word (name_at names i) (AllPass-from_list_all is_name names named (i - 1) [] (omega arith))
 
 items_are_words : (names : List (List ℕ)) (option : List ℕ) → list_all is_name names ≡ true → list_all (is_item (length names)) option ≡ true → list_all is_word (map (name_at names) option) ≡ true
 items_are_words names [] named is = refl

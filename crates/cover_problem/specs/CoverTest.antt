@@ -1,6 +1,7 @@
 -- How often options have an item: the words by which an exact cover is tested.
 --
 -- Example: of the options 1, 4 and 5 of the small problem (c e, a d f, b g) one has the item a.
+-- proofs/CoverExamples.antt computes it.
 use Rattle.std.specs.Prelude.{ℕ, ◌==◌, nat_le, Bool, ◌&&◌, List, length, count_by, if◌then◌else◌}
 use Rattle.std.specs.List.{list_any, list_all}
 use Rattle.cover_problem.specs.Lists.{has, numbers}

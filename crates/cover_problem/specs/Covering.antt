@@ -3,6 +3,7 @@
 --
 -- Example: in the small problem with a, d and g covered (1 4 7), the items b c e f (2 3 5 6) are active; of c the options
 -- 1 and 3 are left, of b the option 3, of e the option 1, of f the option 3; the item chosen is b.
+-- proofs/CoverExamples.antt computes it.
 use Rattle.std.specs.Prelude.{ℕ, ◌-◌, ◌==◌, nat_le, Bool, not, ◌&&◌, List, length, filter, find, unwrap_or, []}
 use Rattle.std.specs.List.{list_any, list_all, slice_index_or, before_first}
 use Rattle.cover_problem.specs.Lists.{has, numbers}

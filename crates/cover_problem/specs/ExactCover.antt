@@ -2,6 +2,7 @@
 -- TAOCP volume 4B, section 7.2.2.1.
 --
 -- Example: the options 1, 4 and 5 of the small problem (c e, a d f, b g) are its exact cover.
+-- proofs/CoverExamples.antt computes it.
 use Rattle.std.specs.Prelude.{ℕ, ◌<◌, ◌≤◌, ◌≡◌, Bool, true, length}
 use Rattle.cover_problem.specs.Lists.{has}
 use Rattle.cover_problem.specs.Problem.{ProblemValue, option_at}

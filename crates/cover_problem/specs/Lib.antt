@@ -1,3 +1,4 @@
+pub mod Limits
 pub mod Lists
 pub mod Problem
 pub mod Covering
@@ -11,5 +12,4 @@ pub mod Faults
 pub mod Validation
 pub mod Stamps
 pub mod Reading
-pub mod FirstFault
 pub mod Grammar

@@ -3,6 +3,7 @@
 -- from the one after the chosen item to the option's end, and on from the option's first.
 --
 -- Example: in the small problem the path 2 covers a d g; the path 2 3 covers a d g b c f.
+-- proofs/CoverExamples.antt computes it.
 use Rattle.std.specs.Prelude.{ℕ, ◌<◌, ◌≡◌, ◌==◌, true, List, [], ◌∷◌, ◌++◌, length}
 use Rattle.std.specs.List.{before_first, after_first}
 use Rattle.cover_problem.specs.Lists.{has}

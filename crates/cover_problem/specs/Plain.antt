@@ -1,6 +1,7 @@
 -- What a table that scans keeps, beside the problem and the list of the covered items.
 --
 -- Example: in the small problem the item d is in the options 2, 4 and 6; once a, d and g are covered, d's time is 1.
+-- proofs/ValidationExamples.antt computes it.
 use Rattle.std.specs.Prelude.{ℕ, ◌<◌, ◌+◌, ◌++◌, ◌∷◌, ◌≤◌, ◌≡◌, Bool, not, List, length, filter, map, if◌then◌else◌, ◌==◌, ◌-◌, [], nat_lt}
 use Rattle.std.specs.List.{position_or_len, slice_index_or, list_any}
 use Rattle.cover_problem.specs.Lists.{has, numbers}

@@ -3,11 +3,12 @@
 --
 -- Example: the small problem has the items a to g, all of them primary, and the options
 -- c e, a d g, b c f, a d f, b g and d e g, numbered from 1.
+-- Its table has 31 entries. proofs/CoverExamples.antt computes it.
 use Rattle.std.specs.Prelude.{ℕ, ◌+◌, ◌-◌, ◌≤◌, ◌<◌, ◌≡◌, nat_lt, nat_le, ◌==◌, Bool, true, not, ◌&&◌, ◌||◌, List, [], ◌∷◌, length, sum_by, Option, option_map, position}
 use Rattle.std.specs.List.{list_all, list_any, slice_index_or}
 use Rattle.std.specs.Str.{bytes_eq}
 use Rattle.std.specs.Cmp.Lexicographic.{pointwise}
-use Rattle.cover_problem.specs.declared.limits.TheConstants.{MOST_ITEMS, MOST_OPTIONS, MOST_ENTRIES, MOST_NAME_BYTES}
+use Rattle.cover_problem.specs.Limits.{most_items, most_options, most_entries, most_name_bytes}
 use Rattle.cover_problem.specs.Lists.{are_distinct}
 
 -- items with these names, numbered from 1, of which the first `primary` have to be covered and the others may be;
@@ -16,14 +17,6 @@ pub record ProblemValue : Type 0 where
   pub names : List (List ℕ)
   pub primary : ℕ
   pub options : List (List ℕ)
-
--- how many items it has
-abbrev pub item_count : ProblemValue → ℕ
-item_count p = length p.names
-
--- how many options it has
-abbrev pub option_count : ProblemValue → ℕ
-option_count p = length p.options
 
 -- the items of the option numbered k
 abbrev pub option_at : ProblemValue → ℕ → List ℕ
@@ -43,7 +36,7 @@ is_name_byte b = (nat_le 48 b && nat_le b 57) || (nat_le 65 b && nat_le b 90) ||
 
 -- whether these bytes are a name: one to eight letters, digits and `_`
 abbrev pub is_name : List ℕ → Bool
-is_name name = nat_lt 0 (length name) && nat_le (length name) MOST_NAME_BYTES && list_all is_name_byte name
+is_name name = nat_lt 0 (length name) && nat_le (length name) most_name_bytes && list_all is_name_byte name
 
 -- whether no name comes twice
 abbrev pub are_new : List (List ℕ) → Bool
@@ -64,7 +57,7 @@ size_of p = length p.names + sum_by length p.options + length p.options + 2
 
 -- whether it is within the limits
 abbrev pub is_small : ProblemValue → Bool
-is_small p = nat_le (length p.names) MOST_ITEMS && nat_le (length p.options) MOST_OPTIONS && nat_le (size_of p) MOST_ENTRIES
+is_small p = nat_le (length p.names) most_items && nat_le (length p.options) most_options && nat_le (size_of p) most_entries
 
 -- whether two problems are equal
 abbrev pub is_same : ProblemValue → ProblemValue → Bool

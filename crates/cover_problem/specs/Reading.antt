@@ -9,17 +9,13 @@
 --
 -- Example: `items a`, `option a a` has the fault ItemTwiceInOption in line 2; `items a`, `option z` has UnknownItem there;
 -- a text of no lines has NoItemLine in line 0. proofs/ReadingExamples.antt computes them.
-use Rattle.std.specs.Prelude.{ℕ, ◌+◌, ◌==◌, nat_lt, ◌||◌, List, [], ◌∷◌, ◌++◌, length, Option, Some, None, Result, Ok, Err, ◌≡◌, codes, if◌then◌else◌}
-use Rattle.std.specs.List.{list_all}
+use Rattle.std.specs.Prelude.{ℕ, ◌==◌, nat_lt, ◌||◌, List, [], ◌∷◌, ◌++◌, length, Option, Some, None, Result, Ok, Err, ◌≡◌, codes, if◌then◌else◌}
 use Rattle.std.specs.Str.{bytes_eq}
-use Rattle.text_lines.specs.Lines.{lines_of, words_of, outside_comment, is_plain, is_empty}
+use Rattle.text_lines.specs.Lines.{lines_of, is_empty}
 use Rattle.text_lines.specs.Each.{each, ◌>>=◌}
+use Rattle.text_lines.specs.Reading.{plain_line, lines_read, text_read}
 use Rattle.cover_problem.specs.declared.fault.Fault.{Fault}
 use Rattle.cover_problem.specs.declared.fault.Fault.TheVariants.{BadName, UnknownItem, NoItemLine, BadLine}
-use Rattle.cover_problem.specs.declared.fault.CoverFault.{CoverFault}
-use Rattle.cover_problem.specs.declared.fault.CoverFault.TheVariants as faults
-use Rattle.cover_problem.specs.declared.fault.ProblemFault.{ProblemFault}
-use Rattle.cover_problem.specs.declared.fault.ProblemFault.TheVariants as problem_faults
 use Rattle.cover_problem.specs.declared.key.Key.{Key}
 use Rattle.cover_problem.specs.declared.key.Key.TheVariants as keys
 use Rattle.cover_problem.specs.Problem.{ProblemValue, is_name, item_named}
@@ -90,44 +86,18 @@ words_line p (key ∷ words) = keyed_line (key_from key) p words
 
 -- a line, with its comment: a byte that isn't plain may stand in the comment alone
 unfoldable pub line : ProblemValue → List ℕ → Result ProblemValue Fault
-line p bytes = if list_all is_plain (outside_comment bytes) then words_line p (words_of (outside_comment bytes)) else Err BadLine
+line p bytes = plain_line BadLine words_line p bytes
 
 -- *the whole text*
 
--- what was read, with the number of the next line; or a fault, with the number of its line
-abbrev pub at_line : ℕ → Result ProblemValue Fault → Result (ProblemValue × ℕ) (Fault × ℕ)
-at_line n (Ok p) = Ok (p, n + 1)
-at_line n (Err f) = Err (f, n)
-
--- a line, where what is read comes with the line's number
-unfoldable pub numbered_line : ProblemValue × ℕ → List ℕ → Result (ProblemValue × ℕ) (Fault × ℕ)
-numbered_line s bytes = at_line s.1 (line s.0 bytes)
-
 -- the whole text has an `items` line
-abbrev pub with_items : ProblemValue → Result ProblemValue (Fault × ℕ)
-with_items p = if nat_lt 0 p.primary then Ok p else Err (NoItemLine, 0)
-
--- the lines of a text, from line 1 on
-abbrev pub lines_read : List (List ℕ) → Result (ProblemValue × ℕ) (Fault × ℕ)
-lines_read lines = each numbered_line (nothing, 1) lines
+abbrev pub with_items : ProblemValue → Result ProblemValue Fault
+with_items p = if nat_lt 0 p.primary then Ok p else Err NoItemLine
 
 -- the problem of a text; or its first fault, and the number of its line, which is 0 for a fault of the whole text
 unfoldable pub problem_of : List ℕ → Result ProblemValue (Fault × ℕ)
-problem_of text = lines_read (lines_of text) >>= λ read. with_items read.0
+problem_of text = text_read line nothing with_items (lines_of text)
 
--- *what a reader answers*
-
--- a fault of the line numbered n
-abbrev pub fault_at : ℕ → ProblemFault → CoverFault
-fault_at n (problem_faults.Fault f) = faults.Fault f n
-fault_at n problem_faults.OutOfMemory = faults.OutOfMemory
-
--- a fault and its line are those that were found, unless memory ran out
-abbrev pub IsFaultAt : {S : Type 0} → CoverFault → Result S (Fault × ℕ) → Type 0
-IsFaultAt (faults.Fault f n) found = found ≡ Err (f, n)
-IsFaultAt faults.OutOfMemory found = Unit {0}
-
--- what a call returned, as view shows it, is what was found, unless memory ran out
-abbrev pub GivesAt : {X S : Type 0} → (X → S) → Result X CoverFault → Result S (Fault × ℕ) → Type 0
-GivesAt view (Ok x) found = found ≡ Ok (view x)
-GivesAt view (Err f) found = IsFaultAt f found
+-- no line has a fault, and none says which items have to be covered
+abbrev pub LacksItems : List ℕ → Type 0
+LacksItems text = (p : ProblemValue) × (n : ℕ) × (lines_read line nothing (lines_of text) ≡ Ok (p, n)) × (p.primary ≡ 0)

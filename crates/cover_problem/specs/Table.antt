@@ -1,13 +1,17 @@
 -- What a table stands for: a problem, and the list of the items that are covered.
-use Rattle.std.specs.Prelude.{ℕ, ◌+◌, ◌≡◌, List, length}
-use Rattle.cover_problem.specs.Problem.{ProblemValue}
-use Rattle.cover_problem.specs.Covering.{uncovered}
+--
+-- Example: in the small problem a, d and g (1 4 7) may be the covered items. proofs/CoverExamples.antt computes it.
+use Rattle.std.specs.Prelude.{ℕ, ◌≡◌, true, List, length}
+use Rattle.std.specs.List.{list_all}
+use Rattle.cover_problem.specs.Lists.{are_distinct}
+use Rattle.cover_problem.specs.Problem.{ProblemValue, is_item}
 
 -- a problem, and the items covered, in the order in which they were covered
 pub record TableValue : Type 0 where
   pub problem : ProblemValue
   pub covered : List ℕ
 
--- the covered items are distinct items of the problem: together with the others they are all of them
+-- the covered items are distinct items of the problem
 pub record IsCoveredList (p : ProblemValue) (c : List ℕ) : Type 0 where
-  pub whole : length c + length (uncovered (length p.names) c) ≡ length p.names
+  pub distinct : are_distinct c ≡ true
+  pub items : list_all (is_item (length p.names)) c ≡ true

@@ -1,14 +1,12 @@
 -- Which names and options make a problem, and which fault is the first where they don't.
 --
 -- Example: the names a and b with the options 1 2 and 2 2 have the fault ItemTwiceInOption; with the options 1 2 and 3 2,
--- UnknownItem; with a and a b as names, BadName, whatever the options.
-use Rattle.std.specs.Prelude.{ℕ, not, List, [], ◌∷◌, ◌++◌, length, Result, Ok, Err, ◌≡◌, if◌then◌else◌}
+-- UnknownItem; with a and a b as names, BadName, whatever the options. proofs/ValidationExamples.antt computes them.
+use Rattle.std.specs.Prelude.{ℕ, not, List, [], ◌∷◌, ◌++◌, length, Result, Ok, Err, if◌then◌else◌}
 use Rattle.std.specs.List.{list_any}
 use Rattle.std.specs.Str.{bytes_eq}
 use Rattle.cover_problem.specs.declared.fault.Fault.{Fault}
 use Rattle.cover_problem.specs.declared.fault.Fault.TheVariants.{BadName, RepeatedItem, UnknownItem, ItemTwiceInOption, TooLarge, NoItemLine, BadLine}
-use Rattle.cover_problem.specs.declared.fault.ProblemFault.{ProblemFault}
-use Rattle.cover_problem.specs.declared.fault.ProblemFault.TheVariants as faults
 use Rattle.cover_problem.specs.Lists.{has}
 use Rattle.cover_problem.specs.Problem.{ProblemValue, is_name, is_item, is_small}
 use Rattle.text_lines.specs.Each.{each, ◌>>=◌}
@@ -46,13 +44,3 @@ problem_from names primary options =
     if not (is_item (length names) primary) then Err NoItemLine else
     (each add_name [] names >>= λ these. each (add_option (length names)) [] options >>= λ those.
     within (record { names = these; primary = primary; options = those }))
-
--- a fault is the one that was found, unless memory ran out
-abbrev pub IsFaultOf : {S : Type 0} → ProblemFault → Result S Fault → Type 0
-IsFaultOf (faults.Fault f) found = found ≡ Err f
-IsFaultOf faults.OutOfMemory found = Unit {0}
-
--- what a call returned, as view shows it, is what was found, unless memory ran out
-abbrev pub Gives : {X S : Type 0} → (X → S) → Result X ProblemFault → Result S Fault → Type 0
-Gives view (Ok x) found = found ≡ Ok (view x)
-Gives view (Err f) found = IsFaultOf f found

@@ -3,23 +3,25 @@ ghost use Rattle.std.specs.Prelude.{◌≡◌, ◌<◌, ◌≤◌, true, [], ◌
 ghost use Rattle.std.specs.List.{All};
 ghost use Rattle.text_lines.specs.Lines.{words_of};
 ghost use Rattle.text_lines.specs.Each.{each};
+ghost use Rattle.text_lines.specs.Answers.{Gives};
 ghost use Rattle.cover_problem.specs.Problem.{ProblemValue, IsProblem, is_small};
 ghost use Rattle.cover_problem.specs.Validation as making;
-ghost use Rattle.cover_problem.specs.Validation.{Gives, add_name, with_item};
+ghost use Rattle.cover_problem.specs.Validation.{add_name, with_item};
 ghost use Rattle.cover_problem.specs.Stamps.{AreStamps};
 ghost use Rattle.cover_problem.specs.Reading as reading;
 ghost use Rattle.cover_problem.specs.Reading.{item_of, add_item, nothing};
 
-use crate::validation::take_name;
 use crate::fault::{Fault, ProblemFault};
 use crate::key::{Key, key_of};
 use crate::limits::{MOST_ENTRIES, MOST_ITEMS, MOST_OPTIONS};
 use crate::name::{Name, name_of};
 use crate::problem::Problem;
+use crate::validation::take_name;
 use indexmap::IndexSet;
 use std::alloc::Global;
 use std::marker::Model;
-use text_lines::{has_words, is_all_plain, outside_comment, split_word};
+use std::mem;
+use text_lines::{ByLine, has_words, is_all_plain, outside_comment, split_word};
 
 /// A problem as far as its text has been read.
 #[derive(Drop)]
@@ -265,8 +267,8 @@ impl Draft {
     }
 
     /// The draft with a line.
-    #[tactic(auto, unfolding(crate::specs::Reading::line))]
-    pub fn with_line(self, alloc: Global, line: &[u8]) -> Result<Draft, ProblemFault>
+    #[tactic(auto, unfolding(crate::specs::Reading::line, text_lines::specs::Reading::plain_line))]
+    fn with_line(self, alloc: Global, line: &[u8]) -> Result<Draft, ProblemFault>
         ensures { Gives (λ d. d) result (reading.line self line.now) }
     {
         let said = outside_comment(line);
@@ -295,5 +297,17 @@ impl Draft {
             ..
         } = self;
         Problem::from_parts(names, primary as u32, options)
+    }
+}
+
+impl ByLine for Draft {
+    type Fault = Fault;
+
+    ghost line = { reading.line };
+
+    fn add_line(&mut self, alloc: Global, bytes: &[u8]) -> Result<(), ProblemFault> {
+        let draft = mem::replace(self, Draft::new(alloc));
+        *self = draft.with_line(alloc, bytes)?;
+        Ok(())
     }
 }

@@ -1,10 +1,8 @@
 //! What can be wrong with a problem.
 ghost use Rattle.std.specs.Prelude.{◌≡◌};
 ghost use Rattle.cover_problem.specs.Faults.{number_of, name_of};
-ghost use Rattle.cover_problem.specs.declared.fault.ProblemFault.TheVariants as problem_faults;
-ghost use Rattle.cover_problem.specs.declared.fault.CoverFault.TheVariants as cover_faults;
 
-use std::alloc::{AllocError, AllocFailed};
+use text_lines::{Refusal, TextRefusal};
 use thiserror::Error;
 
 /// A fault of a problem or of its text.
@@ -58,55 +56,11 @@ impl Fault {
     }
 }
 
-/// Why no problem could be made.
-#[derive(Clone, Copy, Debug, PartialEq, Eq, Error)]
-pub enum ProblemFault {
-    #[error("{0}")]
-    Fault(Fault),
-    #[error("out of memory")]
-    OutOfMemory,
-}
+/// Why no problem could be made: a fault, or no memory.
+pub type ProblemFault = Refusal<Fault>;
 
-impl From<AllocError> for ProblemFault {
-    ghost from_gives = { λ _ e. e ≡ problem_faults.OutOfMemory };
-
-    fn from(_e: AllocError) -> ProblemFault {
-        ProblemFault::OutOfMemory
-    }
-}
-
-impl<T: Drop> From<AllocFailed<T>> for ProblemFault {
-    ghost from_gives = { λ _ e. e ≡ problem_faults.OutOfMemory };
-
-    fn from(_e: AllocFailed<T>) -> ProblemFault {
-        ProblemFault::OutOfMemory
-    }
-}
-
-/// Why a text could not be read. The line's number is 0 for a fault of the whole text.
-#[derive(Clone, Copy, Debug, PartialEq, Eq, Error)]
-pub enum CoverFault {
-    #[error("line {line}: {fault}")]
-    Fault { fault: Fault, line: u64 },
-    #[error("out of memory")]
-    OutOfMemory,
-}
-
-impl From<AllocError> for CoverFault {
-    ghost from_gives = { λ _ e. e ≡ cover_faults.OutOfMemory };
-
-    fn from(_e: AllocError) -> CoverFault {
-        CoverFault::OutOfMemory
-    }
-}
-
-impl<T: Drop> From<AllocFailed<T>> for CoverFault {
-    ghost from_gives = { λ _ e. e ≡ cover_faults.OutOfMemory };
-
-    fn from(_e: AllocFailed<T>) -> CoverFault {
-        CoverFault::OutOfMemory
-    }
-}
+/// Why a text could not be read: a fault with the number of its line, which is 0 for a fault of the whole text, or no memory.
+pub type CoverFault = TextRefusal<Fault>;
 
 /// What a refused call hands back beside its fault.
 #[derive(Debug, Drop)]

@@ -6,8 +6,9 @@ ghost use Rattle.cover_problem.specs.declared.fault.Fault.TheVariants.{NoItemLin
 ghost use Rattle.cover_problem.specs.Problem.{ProblemValue, IsProblem};
 ghost use Rattle.cover_problem.specs.Covering.{active, remaining, choice};
 ghost use Rattle.cover_problem.specs.Validation.{problem_from};
-ghost use Rattle.cover_problem.specs.Reading.{problem_of};
-ghost use Rattle.cover_problem.specs.FirstFault.{IsFirstFault, LacksItems};
+ghost use Rattle.text_lines.specs.Lines.{lines_of};
+ghost use Rattle.text_lines.specs.Reading.{IsFirstFault};
+ghost use Rattle.cover_problem.specs.Reading.{line, nothing, problem_of, LacksItems};
 ghost use Rattle.cover_problem.specs.Grammar.{IsCoverText, written};
 
 /// The choice is the first of the active items with the fewest options left.
@@ -42,6 +43,7 @@ pub fn texts_are_read()
 /// A fault of a line is the first: the lines before it are read, and this line is judged to have it. The fault of the
 /// whole text is that all lines are read and none of them is an `items` line.
 pub fn fault_is_first()
-    ensures line { (text : List ℕ) (f : Fault) (n : ℕ) → 0 < n → ((problem_of text ≡ Err (f, n)) ↔ IsFirstFault text f n) }
+    ensures line { (text : List ℕ) (f : Fault) (n : ℕ) → 0 < n →
+        ((problem_of text ≡ Err (f, n)) ↔ IsFirstFault line nothing (lines_of text) f n) }
     ensures whole { (text : List ℕ) (f : Fault) → ((problem_of text ≡ Err (f, 0)) ↔ ((f ≡ NoItemLine) × LacksItems text)) }
 {}

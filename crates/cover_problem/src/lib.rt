@@ -1,7 +1,6 @@
 //! Exact cover problems, their texts, and the table that a search stands on.
 #![tactic(auto)]
 
-mod validation;
 mod draft;
 mod exact_cover;
 mod fault;
@@ -13,6 +12,7 @@ mod plain;
 mod problem;
 mod reading;
 mod table;
+mod validation;
 mod writing;
 
 pub use fault::{CoverFault, Fault, ProblemFault, Refused};
@@ -23,6 +23,8 @@ pub use reading::read_cover;
 pub use table::Table;
 pub use writing::write_cover;
 
+#[cfg(test)]
+mod problem_tests;
 #[cfg(test)]
 mod table_tests;
 #[cfg(test)]

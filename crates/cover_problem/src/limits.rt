@@ -1,4 +1,4 @@
-//! The greatest problem that is taken. Every contract cites these.
+//! The greatest problem that is taken. specs/Limits.antt has the same numbers, and the contracts cite those.
 
 /// The most items of a problem.
 pub const MOST_ITEMS: usize = 65_535;

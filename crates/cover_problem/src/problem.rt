@@ -1,14 +1,17 @@
 //! An exact cover problem.
-ghost use Rattle.std.specs.Prelude.{◌≡◌, ◌<◌, ◌≤◌, Ok, length, map, IfOk, IfErr, true, IsTrue, ◌↔◌, bytes_eq, position};
+ghost use Rattle.std.specs.Prelude.{◌≡◌, ◌<◌, ◌≤◌, Ok, length, map, IfOk, IfErr, true, false, IsTrue, IsErrAnd, ◌↔◌, bytes_eq, position};
 ghost use Rattle.std.specs.Cmp.Lexicographic.{pointwise};
 ghost use Rattle.std.specs.List.{list_all};
 ghost use Rattle.std.specs.String.{string_bytes};
-ghost use Rattle.cover_problem.specs.Problem.{IsProblem, is_name, option_at, name_at, item_named, is_same};
-ghost use Rattle.cover_problem.specs.Validation.{problem_from, IsFaultOf};
+ghost use Rattle.cover_problem.specs.Problem.{IsProblem, is_item, is_name, option_at, name_at, item_named, is_same};
+ghost use Rattle.text_lines.specs.Answers.{IsFaultOf};
+ghost use Rattle.text_lines.specs.declared.refusal.Refusal.TheVariants as refusals;
+ghost use Rattle.cover_problem.specs.declared.fault.Fault.TheVariants.{NoItemLine};
+ghost use Rattle.cover_problem.specs.Validation.{problem_from};
 
-use crate::validation::checked_names;
 use crate::fault::{ProblemFault, Refused};
 use crate::name::Name;
+use crate::validation::checked_names;
 use indexmap::IndexSet;
 use std::alloc::{AllocError, Global};
 use std::marker::Model;
@@ -57,7 +60,8 @@ fn place_of(names: &IndexSet<Name>, name: &str) -> Option<usize>
 
 impl Problem {
     /// The problem of items with these names, of which the first `primary` have to be covered, and these options, each a list
-    /// of item numbers from 1. A refusal is the first fault, and hands back both lists.
+    /// of item numbers from 1. A refusal is the first fault, and hands back both lists; whether there are items to cover is
+    /// told before any memory is taken.
     pub fn new(
         alloc: Global,
         names: Vec<String>,
@@ -67,6 +71,7 @@ impl Problem {
         ensures made { IfOk result (λ p. problem_from (map string_bytes names.items) primary (map (λ o. o.items) options.items) ≡ Ok p) }
         ensures parts { IfOk result (λ p. p ≡ record { names = map string_bytes names.items; primary = primary; options = map (λ o. o.items) options.items }) }
         ensures refused { IfErr result (λ r. IsFaultOf r.fault (problem_from (map string_bytes names.items) primary (map (λ o. o.items) options.items))) }
+        ensures primary { IsErrAnd result (λ r. r.fault ≡ refusals.Fault NoItemLine) ↔ (is_item (length names.items) primary ≡ false) }
         ensures given { IfErr result (λ r. r.given ≡ (names, options)) }
     {
         match checked_names(alloc, &names, primary, &options) {

@@ -1,201 +1,136 @@
-//! The small problem: the items a to g and the options c e, a d g, b c f, a d f, b g and d e g.
+//! Plain tables of the small problem, and of one with an item that may be covered.
 ghost use Rattle.std.specs.Prelude.{◌≡◌, ◌<◌, ◌≤◌, [], ◌∷◌, length, IfOk};
 
-use crate::{Fault, PlainTable, Problem, ProblemFault, Refused, Table};
+use crate::{PlainTable, Problem, Table, read_cover};
 use std::alloc::{AllocError, Global};
-use std::process::Abort;
 use std::test::Fail;
 
-type Made = Result<Problem, Refused<ProblemFault, (Vec<String>, Vec<Vec<u32>>)>>;
+const SMALL: &[u8] =
+    b"items a b c d e f g\noption c e\noption a d g\noption b c f\noption a d f\noption b g\noption d e g\n";
 
-fn words(alloc: Global, names: &[&str]) -> Result<Vec<String>, AllocError> {
-    let mut words = Vec::new(alloc);
-    for name in names {
-        words.push(String::from_str(alloc, name)?)?;
-    }
-    Ok(words)
-}
+const SECONDARY: &[u8] = b"items a b\nmaybe c\noption a c\noption b c\noption a\noption b\n";
 
-fn lists(alloc: Global, options: &[&[u32]]) -> Result<Vec<Vec<u32>>, AllocError> {
-    let mut lists = Vec::new(alloc);
-    for option in options {
-        lists.push(Vec::from_slice(alloc, option)?)?;
-    }
-    Ok(lists)
-}
+/// The active items and each item's list, a 0 after each of these.
+const BEGUN: &[u32] = &[
+    1, 2, 3, 4, 5, 6, 7, 0, 2, 4, 0, 3, 5, 0, 1, 3, 0, 2, 4, 6, 0, 1, 6, 0, 3, 4, 0, 2, 5, 6, 0,
+];
 
-fn made(
-    alloc: Global,
-    names: &[&str],
-    primary: u32,
-    options: &[&[u32]],
-) -> Result<Made, AllocError> {
-    let names = words(alloc, names)?;
-    let options = lists(alloc, options)?;
-    Ok(Problem::new(alloc, names, primary, options))
-}
+/// The same with a, d and g covered.
+const AFTER_A_D_G: &[u32] = &[
+    2, 3, 5, 6, 0, 2, 4, 0, 3, 0, 1, 3, 0, 6, 0, 1, 0, 3, 0, 5, 0,
+];
 
-fn small(alloc: Global) -> Result<Problem, Fail> {
-    let names = ["a", "b", "c", "d", "e", "f", "g"];
-    let options: [&[u32]; 6] = [
-        &[3, 5],
-        &[1, 4, 7],
-        &[2, 3, 6],
-        &[1, 4, 6],
-        &[2, 7],
-        &[4, 5, 7],
-    ];
-    Ok(made(alloc, &names, 7, &options)??)
-}
+/// The same with a covered.
+const AFTER_A: &[u32] = &[
+    2, 3, 4, 5, 6, 7, 0, 2, 4, 0, 3, 5, 0, 1, 3, 0, 6, 0, 1, 6, 0, 3, 0, 5, 6, 0,
+];
 
-/// The active items, by the walk.
-fn active<T: Table>(alloc: Global, table: &T) -> Result<Vec<u32>, AllocError> {
-    let mut items = Vec::new(alloc);
+/// The same of the problem with a secondary item, with nothing covered and with that item covered.
+const SECONDARY_BEGUN: &[u32] = &[1, 2, 0, 1, 3, 0, 2, 4, 0, 1, 2, 0];
+
+const SECONDARY_AFTER_C: &[u32] = &[1, 2, 0, 3, 0, 4, 0, 1, 2, 0];
+
+/// Adds the active items, by the walk.
+fn add_active<T: Table>(told: &mut Vec<u32>, table: &T) -> Result<(), AllocError> {
     let mut next = table.first_item();
     for _ in 0..100_000 {
         let Some(item) = next else {
             break;
         };
-        items.push(item)?;
+        told.push(item)?;
         next = table.next_item(item);
     }
-    Ok(items)
+    Ok(())
 }
 
-/// An item's list, from its first.
-fn list<T: Table>(alloc: Global, table: &T, item: u32) -> Result<Vec<u32>, AllocError>
+/// Adds an item's list, from its first.
+fn add_list<T: Table>(told: &mut Vec<u32>, table: &T, item: u32) -> Result<(), AllocError>
     requires some { 0 < item }
     requires within { item ≤ length (T.problem_value table.now).names }
 {
-    let mut options = Vec::new(alloc);
     let mut next = table.first_option(item);
     for _ in 0..100_000 {
         let Some(option) = next else {
             break;
         };
-        options.push(option)?;
+        told.push(option)?;
         next = table.next_option(item, option);
     }
-    Ok(options)
+    Ok(())
 }
 
-/// An item's list, from its last.
-fn list_back<T: Table>(alloc: Global, table: &T, item: u32) -> Result<Vec<u32>, AllocError>
+/// Adds an item's list, from its last.
+fn add_list_back<T: Table>(told: &mut Vec<u32>, table: &T, item: u32) -> Result<(), AllocError>
     requires some { 0 < item }
     requires within { item ≤ length (T.problem_value table.now).names }
 {
-    let mut options = Vec::new(alloc);
     let mut next = table.last_option(item);
     for _ in 0..100_000 {
         let Some(option) = next else {
             break;
         };
-        options.push(option)?;
+        told.push(option)?;
         next = table.prev_option(item, option);
     }
-    Ok(options)
-}
-
-#[test]
-fn the_small_problem_is_read(rt: HostRuntime) -> Result<(), Fail> {
-    let problem = small(rt.alloc())?;
-    assert_eq!(rt; problem.items(), 7);
-    assert_eq!(rt; problem.primary(), 7);
-    assert_eq!(rt; problem.options(), 6);
-    assert_eq!(rt; problem.name(1), "a");
-    assert_eq!(rt; problem.name(7), "g");
-    assert_eq!(rt; problem.option(2), [1, 4, 7].as_slice());
     Ok(())
 }
 
-#[test]
-fn items_are_found_by_name(rt: HostRuntime) -> Result<(), Fail> {
-    let problem = small(rt.alloc())?;
-    assert_eq!(rt; problem.item("d"), Some(4));
-    assert_eq!(rt; problem.item("h"), None);
-    assert_eq!(rt; problem.item("a_long_name"), None);
-    Ok(())
+/// The active items and the lists of so many items, a 0 after each of these.
+fn told<T: Table>(alloc: Global, table: &T, items: u32) -> Result<Vec<u32>, AllocError>
+    requires { items ≤ length (T.problem_value table.now).names }
+{
+    let mut told = Vec::new(alloc);
+    add_active(&mut told, table)?;
+    told.push(0)?;
+    for item in 1..=items {
+        add_list(&mut told, table, item)?;
+        told.push(0)?;
+    }
+    Ok(told)
 }
 
-#[test]
-fn a_copy_is_the_same(rt: HostRuntime) -> Result<(), Fail> {
-    let problem = small(rt.alloc())?;
-    let other = problem.copy()?;
-    assert!(rt; problem.same(&other));
-    Ok(())
+/// Whether an item's list is the same from its last, and as long as is counted.
+fn is_same_back<T: Table>(alloc: Global, table: &T, item: u32) -> Result<bool, AllocError>
+    requires some { 0 < item }
+    requires within { item ≤ length (T.problem_value table.now).names }
+{
+    let mut there = Vec::new(alloc);
+    add_list(&mut there, table, item)?;
+    let mut back = Vec::new(alloc);
+    add_list_back(&mut back, table, item)?;
+    back.reverse();
+    Ok(back == there && table.len(item) as usize == there.len())
 }
 
-/// Whether this is the problem of a and b, both primary, with the option a b.
-fn is_a_b(alloc: Global, names: &[&str], primary: u32, options: &[&[u32]]) -> Result<bool, Fail> {
-    let problem = made(alloc, &["a", "b"], 2, &[&[1, 2]])??;
-    let other = made(alloc, names, primary, options)??;
-    Ok(problem.same(&other))
-}
-
-#[test]
-fn problems_differ_in_each_part(rt: HostRuntime) -> Result<(), Fail> {
-    let alloc = rt.alloc();
-    assert!(rt; is_a_b(alloc, &["a", "b"], 2, &[&[1, 2]])?);
-    assert!(rt; !is_a_b(alloc, &["a", "b"], 1, &[&[1, 2]])?);
-    assert!(rt; !is_a_b(alloc, &["a", "c"], 2, &[&[1, 2]])?);
-    assert!(rt; !is_a_b(alloc, &["a", "b"], 2, &[&[2, 1]])?);
-    Ok(())
-}
-
-/// Refused with this fault, and both lists come back.
-fn refuses(
-    rt: &impl Abort,
-    alloc: Global,
-    names: &[&str],
-    primary: u32,
-    options: &[&[u32]],
-    fault: Fault,
-) -> Result<(), Fail> {
-    match made(alloc, names, primary, options)? {
-        Ok(_) => panic!(rt; "no refusal"),
-        Err(refused) => {
-            assert_eq!(rt; refused.fault, ProblemFault::Fault(fault));
-            assert!(rt; refused.given == (words(alloc, names)?, lists(alloc, options)?));
+/// Whether the lists of so many items are the same from their last.
+fn are_same_back<T: Table>(alloc: Global, table: &T, items: u32) -> Result<bool, AllocError>
+    requires { items ≤ length (T.problem_value table.now).names }
+{
+    for item in 1..=items {
+        if !is_same_back(alloc, table, item)? {
+            return Ok(false);
         }
     }
-    Ok(())
+    Ok(true)
 }
 
-#[test]
-fn each_fault_is_the_first_one(rt: HostRuntime) -> Result<(), Fail> {
-    let alloc = rt.alloc();
-    refuses(&rt, alloc, &[], 0, &[], Fault::NoItemLine)?;
-    refuses(&rt, alloc, &["a", "a"], 0, &[&[]], Fault::NoItemLine)?;
-    refuses(&rt, alloc, &["a", "b"], 3, &[], Fault::NoItemLine)?;
-    refuses(&rt, alloc, &["a", "a b", "a"], 2, &[&[]], Fault::BadName)?;
-    refuses(&rt, alloc, &["123456789"], 1, &[], Fault::BadName)?;
-    refuses(&rt, alloc, &["a", "b", "a"], 2, &[&[]], Fault::RepeatedItem)?;
-    refuses(
-        &rt,
-        alloc,
-        &["a", "b"],
-        2,
-        &[&[1], &[], &[3]],
-        Fault::BadLine,
-    )?;
-    refuses(
-        &rt,
-        alloc,
-        &["a", "b"],
-        2,
-        &[&[1, 3, 1], &[]],
-        Fault::UnknownItem,
-    )?;
-    refuses(&rt, alloc, &["a", "b"], 2, &[&[0]], Fault::UnknownItem)?;
-    refuses(
-        &rt,
-        alloc,
-        &["a", "b"],
-        2,
-        &[&[1], &[1, 2, 1, 3]],
-        Fault::ItemTwiceInOption,
-    )?;
-    Ok(())
+/// Whether a table tells this, from the first and from the last.
+fn tells<T: Table>(
+    alloc: Global,
+    table: &T,
+    items: u32,
+    expected: &[u32],
+) -> Result<bool, AllocError>
+    requires { items ≤ length (T.problem_value table.now).names }
+{
+    let told = told(alloc, table, items)?;
+    Ok(told.as_slice() == expected && are_same_back(alloc, table, items)?)
+}
+
+/// A table of the small problem with nothing covered.
+fn is_begun(alloc: Global, problem: &Problem, expected: &[u32]) -> Result<bool, AllocError> {
+    let table = PlainTable::new(alloc, problem)?;
+    tells(alloc, &table, problem.items(), expected)
 }
 
 /// A table with a, d and g covered.
@@ -211,58 +146,6 @@ fn after_a_d_g(alloc: Global, problem: &Problem) -> Result<PlainTable, AllocErro
     Ok(table)
 }
 
-/// The lists of these items, each walked from both ends and counted.
-fn all_lists<T: Table>(
-    rt: &impl Abort,
-    alloc: Global,
-    table: &T,
-    items: u32,
-) -> Result<Vec<Vec<u32>>, AllocError>
-    requires { items ≤ length (T.problem_value table.now).names }
-{
-    let mut all = Vec::new(alloc);
-    for item in 1..=items {
-        let options = list(alloc, table, item)?;
-        let mut back = list_back(alloc, table, item)?;
-        back.reverse();
-        assert!(rt; back == options);
-        assert_eq!(rt; table.len(item) as usize, options.len());
-        all.push(options)?;
-    }
-    Ok(all)
-}
-
-/// A table of the small problem, before and after a, d and g are covered.
-fn check_small(rt: &impl Abort, alloc: Global, problem: &Problem) -> Result<(), Fail>
-    requires { length problem.now.names ≡ 7 }
-{
-    let table = PlainTable::new(alloc, problem)?;
-    assert_eq!(rt; table.first_item(), Some(1));
-    let begun: [&[u32]; 7] = [
-        &[2, 4],
-        &[3, 5],
-        &[1, 3],
-        &[2, 4, 6],
-        &[1, 6],
-        &[3, 4],
-        &[2, 5, 6],
-    ];
-    assert!(rt; all_lists(rt, alloc, &table, 7)? == lists(alloc, &begun)?);
-    let table = after_a_d_g(alloc, problem)?;
-    assert_eq!(rt; table.covered(), [1, 4, 7].as_slice());
-    assert_eq!(rt; active(alloc, &table)?.as_slice(), [2, 3, 5, 6].as_slice());
-    let left: [&[u32]; 7] = [&[2, 4], &[3], &[1, 3], &[6], &[1], &[3], &[5]];
-    assert!(rt; all_lists(rt, alloc, &table, 7)? == lists(alloc, &left)?);
-    Ok(())
-}
-
-#[test]
-fn a_plain_table_filters(rt: HostRuntime) -> Result<(), Fail> {
-    let problem = small(rt.alloc())?;
-    assert_eq!(rt; problem.items(), 7);
-    check_small(&rt, rt.alloc(), &problem)
-}
-
 /// Uncovers g and d.
 fn back_to_a(table: &mut PlainTable)
     requires { table.old.covered ≡ 1 ∷ 4 ∷ 7 ∷ [] }
@@ -273,108 +156,80 @@ fn back_to_a(table: &mut PlainTable)
     table.uncover(4);
 }
 
-/// The items a, d and g are uncovered again.
-fn check_back(rt: &impl Abort, alloc: Global, problem: &Problem) -> Result<(), Fail>
+/// Whether a, d and g are the covered items, and the others are told as they should be.
+fn is_filtered(alloc: Global, problem: &Problem) -> Result<bool, AllocError>
+    requires { length problem.now.names ≡ 7 }
+{
+    let table = after_a_d_g(alloc, problem)?;
+    let are_covered = table.covered() == [1, 4, 7].as_slice();
+    Ok(are_covered && tells(alloc, &table, 7, AFTER_A_D_G)?)
+}
+
+/// Whether uncovering g and d goes back to where a alone was covered, and uncovering a to the beginning.
+fn goes_back(alloc: Global, problem: &Problem) -> Result<bool, AllocError>
     requires { length problem.now.names ≡ 7 }
 {
     let mut table = after_a_d_g(alloc, problem)?;
     back_to_a(&mut table);
-    assert_eq!(rt;
-        active(alloc, &table)?.as_slice(),
-        [2, 3, 4, 5, 6, 7].as_slice()
-    );
-    let left: [&[u32]; 7] = [&[2, 4], &[3, 5], &[1, 3], &[6], &[1, 6], &[3], &[5, 6]];
-    assert!(rt; all_lists(rt, alloc, &table, 7)? == lists(alloc, &left)?);
+    if !tells(alloc, &table, 7, AFTER_A)? {
+        return Ok(false);
+    }
     table.uncover(1);
-    assert_eq!(rt; list(alloc, &table, 4)?.as_slice(), [2, 4, 6].as_slice());
+    tells(alloc, &table, 7, BEGUN)
+}
+
+#[test]
+fn a_plain_table_filters(rt: HostRuntime) -> Result<(), Fail> {
+    let problem = read_cover(rt.alloc(), SMALL)?;
+    assert!(rt; problem.items() == 7);
+    assert!(rt; is_begun(rt.alloc(), &problem, BEGUN)?);
+    assert!(rt; is_filtered(rt.alloc(), &problem)?);
     Ok(())
 }
 
 #[test]
 fn uncovering_goes_back(rt: HostRuntime) -> Result<(), Fail> {
-    let problem = small(rt.alloc())?;
-    assert_eq!(rt; problem.items(), 7);
-    check_back(&rt, rt.alloc(), &problem)
+    let problem = read_cover(rt.alloc(), SMALL)?;
+    assert!(rt; problem.items() == 7);
+    assert!(rt; goes_back(rt.alloc(), &problem)?);
+    Ok(())
 }
 
-/// The items a and b are primary, and c isn't.
-fn check_secondary(rt: &impl Abort, alloc: Global, problem: &Problem) -> Result<(), Fail>
+/// Whether the item c is told as it should be once it is covered.
+fn is_secondary(alloc: Global, problem: &Problem) -> Result<bool, AllocError>
     requires { length problem.now.names ≡ 3 }
 {
     let mut table = PlainTable::new(alloc, problem)?;
-    assert_eq!(rt; active(alloc, &table)?.as_slice(), [1, 2].as_slice());
     table.cover(3);
-    assert_eq!(rt; active(alloc, &table)?.as_slice(), [1, 2].as_slice());
-    let left: [&[u32]; 3] = [&[3], &[4], &[1, 2]];
-    assert!(rt; all_lists(rt, alloc, &table, 3)? == lists(alloc, &left)?);
-    Ok(())
+    tells(alloc, &table, 3, SECONDARY_AFTER_C)
 }
 
 #[test]
 fn a_secondary_item_is_never_active(rt: HostRuntime) -> Result<(), Fail> {
-    let problem = made(
-        rt.alloc(),
-        &["a", "b", "c"],
-        2,
-        &[&[1, 3], &[2, 3], &[1], &[2]],
-    )??;
-    assert_eq!(rt; problem.items(), 3);
-    check_secondary(&rt, rt.alloc(), &problem)
+    let problem = read_cover(rt.alloc(), SECONDARY)?;
+    assert!(rt; problem.items() == 3);
+    assert!(rt; is_begun(rt.alloc(), &problem, SECONDARY_BEGUN)?);
+    assert!(rt; is_secondary(rt.alloc(), &problem)?);
+    Ok(())
+}
+
+/// How many options the list of the first item has, from its first and from its last.
+fn lengths(alloc: Global, problem: &Problem) -> Result<(usize, usize), AllocError>
+    requires { 1 ≤ length problem.now.names }
+{
+    let table = PlainTable::new(alloc, problem)?;
+    let mut there = Vec::new(alloc);
+    add_list(&mut there, &table, 1)?;
+    let mut back = Vec::new(alloc);
+    add_list_back(&mut back, &table, 1)?;
+    Ok((there.len(), back.len()))
 }
 
 #[test]
 fn a_long_list_is_walked_in_linear_time(rt: HostRuntime) -> Result<(), Fail> {
-    let alloc = rt.alloc();
-    let names = words(alloc, &["a"])?;
-    let mut options = Vec::new(alloc);
-    for _ in 0..70_000 {
-        options.push(Vec::from_slice(alloc, &[1])?)?;
-    }
-    let problem = Problem::new(alloc, names, 1, options)?;
-    assert_eq!(rt; problem.items(), 1);
-    let table = PlainTable::new(alloc, &problem)?;
-    assert_eq!(rt; list(alloc, &table, 1)?.len(), 70_000);
-    assert_eq!(rt; list_back(alloc, &table, 1)?.len(), 70_000);
+    let text = crate::text_tests::many_options(rt.alloc(), 70_000)?;
+    let problem = read_cover(rt.alloc(), &text)?;
+    assert!(rt; problem.items() == 1);
+    assert!(rt; lengths(rt.alloc(), &problem)? == (70_000, 70_000));
     Ok(())
-}
-
-#[test]
-fn the_limit_on_options_is_exact(rt: HostRuntime) -> Result<(), Fail> {
-    let alloc = rt.alloc();
-    for (count, fits) in [(262_143, true), (262_144, false)] {
-        let names = words(alloc, &["a"])?;
-        let mut options = Vec::new(alloc);
-        for _ in 0..count {
-            options.push(Vec::from_slice(alloc, &[1])?)?;
-        }
-        match Problem::new(alloc, names, 1, options) {
-            Ok(problem) => {
-                assert!(rt; fits);
-                assert_eq!(rt; problem.options(), 262_143);
-            }
-            Err(refused) => {
-                assert!(rt; !fits);
-                assert_eq!(rt; refused.fault, ProblemFault::Fault(Fault::TooLarge));
-                assert_eq!(rt; refused.given.1.len(), 262_144);
-            }
-        }
-    }
-    Ok(())
-}
-
-#[test]
-fn faults_have_numbers_and_names(rt: HostRuntime) {
-    let faults = [
-        (Fault::BadName, 1, "BadName"),
-        (Fault::RepeatedItem, 2, "RepeatedItem"),
-        (Fault::UnknownItem, 3, "UnknownItem"),
-        (Fault::ItemTwiceInOption, 4, "ItemTwiceInOption"),
-        (Fault::TooLarge, 5, "TooLarge"),
-        (Fault::NoItemLine, 6, "NoItemLine"),
-        (Fault::BadLine, 7, "BadLine"),
-    ];
-    for (fault, number, name) in faults {
-        assert_eq!(rt; fault.number(), number);
-        assert_eq!(rt; fault.name(), name);
-    }
 }

@@ -1,11 +1,14 @@
 //! Whether names and options make a problem, and which fault is the first where they don't.
-ghost use Rattle.std.specs.Prelude.{◌≡◌, ◌<◌, ◌≤◌, [], ℕ, List, nat_le, sum_by, length, map, OnOk, IsTrue};
+ghost use Rattle.text_lines.specs.declared.refusal.Refusal.TheVariants as refusals;
+ghost use Rattle.cover_problem.specs.declared.fault.Fault.TheVariants.{NoItemLine};
+ghost use Rattle.std.specs.Prelude.{◌≡◌, ◌↔◌, true, false, IsErrOf, ◌<◌, ◌≤◌, [], ℕ, List, nat_le, sum_by, length, map, OnOk, IsTrue};
 ghost use Rattle.std.specs.List.{All};
 ghost use Rattle.std.specs.String.{string_bytes};
 ghost use Rattle.text_lines.specs.Each.{each};
+ghost use Rattle.text_lines.specs.Answers.{Gives};
 ghost use Rattle.cover_problem.specs.Problem as problem;
 ghost use Rattle.cover_problem.specs.Validation as making;
-ghost use Rattle.cover_problem.specs.Validation.{Gives, add_name, add_option, option_from};
+ghost use Rattle.cover_problem.specs.Validation.{add_name, add_option, option_from};
 
 use crate::fault::{Fault, ProblemFault};
 use crate::limits::{MOST_ENTRIES, MOST_ITEMS, MOST_OPTIONS};
@@ -101,6 +104,24 @@ fn is_within(count: usize, options: &[Vec<u32>]) -> bool
         && are_few(options, MOST_ENTRIES - 2 - count - options.len())
 }
 
+/// The names of a problem, once its names, options and sizes are checked.
+fn checked_parts(
+    alloc: Global,
+    names: &[String],
+    primary: u32,
+    options: &[Vec<u32>],
+) -> Result<IndexSet<Name>, ProblemFault>
+    requires { problem.is_item (length names.now) primary ≡ true }
+    ensures { Gives (λ these. record { names = map (λ n. n.bytes) these.keys; primary = primary; options = map (λ o. o.items) options.now }) result (making.problem_from (map string_bytes names.now) primary (map (λ o. o.items) options.now)) }
+{
+    let these = take_names(alloc, names)?;
+    check_options(alloc, names.len(), options)?;
+    if !is_within(names.len(), options) {
+        return Err(ProblemFault::Fault(Fault::TooLarge));
+    }
+    Ok(these)
+}
+
 /// The names of a problem, once all is checked.
 pub fn checked_names(
     alloc: Global,
@@ -108,15 +129,11 @@ pub fn checked_names(
     primary: u32,
     options: &[Vec<u32>],
 ) -> Result<IndexSet<Name>, ProblemFault>
-    ensures { Gives (λ these. record { names = map (λ n. n.bytes) these.keys; primary = primary; options = map (λ o. o.items) options.now }) result (making.problem_from (map string_bytes names.now) primary (map (λ o. o.items) options.now)) }
+    ensures names { Gives (λ these. record { names = map (λ n. n.bytes) these.keys; primary = primary; options = map (λ o. o.items) options.now }) result (making.problem_from (map string_bytes names.now) primary (map (λ o. o.items) options.now)) }
+    ensures primary { IsErrOf result (refusals.Fault NoItemLine) ↔ (problem.is_item (length names.now) primary ≡ false) }
 {
     if primary == 0 || primary as usize > names.len() {
         return Err(ProblemFault::Fault(Fault::NoItemLine));
     }
-    let these = take_names(alloc, names)?;
-    check_options(alloc, names.len(), options)?;
-    if !is_within(names.len(), options) {
-        return Err(ProblemFault::Fault(Fault::TooLarge));
-    }
-    Ok(these)
+    checked_parts(alloc, names, primary, options)
 }

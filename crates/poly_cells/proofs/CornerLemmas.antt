@@ -4,7 +4,7 @@ use Rattle.std.proofs.lemmas.List.{take_more}
 use Rattle.poly_cells.specs.Coordinates.{Coordinates, coordinates, IsInGrid}
 use Rattle.poly_cells.specs.Sets.{IsIn}
 use Rattle.poly_cells.specs.Shapes.{AllInGrid, least, corner}
-use Rattle.poly_cells.proofs.PlaceLemmas.{same_place}
+use Rattle.poly_cells.proofs.CoordinateLemmas.{same_coordinates}
 use Rattle.poly_cells.proofs.SetLemmas.{in_append_cases}
 
 -- ---- a loop's step
@@ -15,7 +15,7 @@ least-push part (w ∷ ws) v = omega (arith, least-push part ws v)
 
 corner-push : (vs : List Coordinates) (v : Coordinates) (x y z : ℕ) → coordinates x y z ≡ corner vs → corner (vs ++ v ∷ []) ≡ coordinates (min x v.x) (min y v.y) (min z v.z)
 corner-push vs v x y z h =
-    same_place _ _ _ _ _ _
+    same_coordinates _ _ _ _ _ _
     (least-push (λ w. w.x) vs v ∙ ap (λ (w : Coordinates). min w.x v.x) (sym h))
     (least-push (λ w. w.y) vs v ∙ ap (λ (w : Coordinates). min w.y v.y) (sym h))
     (least-push (λ w. w.z) vs v ∙ ap (λ (w : Coordinates). min w.z v.z) (sym h))
@@ -29,8 +29,8 @@ AllInGrid-push : (vs : List Coordinates) (v : Coordinates) → AllInGrid vs → 
 AllInGrid-push vs v all here w i =
     elim (in_append_cases w vs (v ∷ []) i) [ inl l ↦ all w l | inr r ↦ elim r [ inl e ↦ subst IsInGrid (sym e) here | inr f ↦ absurd f ] ]
 
-pub places_more : (vs : List Coordinates) (i : ℕ) (v : Coordinates) → i < length vs → v ≡ get_or vs i v → AllInGrid (take i vs) → IsInGrid v → AllInGrid (take (i + 1) vs)
-places_more vs i v lt is all here =
+pub limits_more : (vs : List Coordinates) (i : ℕ) (v : Coordinates) → i < length vs → v ≡ get_or vs i v → AllInGrid (take i vs) → IsInGrid v → AllInGrid (take (i + 1) vs)
+limits_more vs i v lt is all here =
     subst AllInGrid (sym (take_more vs i v lt ∙ ap (λ (w : Coordinates). take i vs ++ w ∷ []) (sym is))) (AllInGrid-push (take i vs) v all here)
 
 -- ---- the corner is below each cell, and each of its coordinates is reached

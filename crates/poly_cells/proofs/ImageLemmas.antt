@@ -9,7 +9,7 @@ use Rattle.poly_cells.specs.Sets.{IsIn, in_order}
 use Rattle.poly_cells.specs.Shapes.{AllInGrid, corner, moved_back, normal, turned}
 use Rattle.poly_cells.specs.Images.{IsTurned, IsNormal}
 use Rattle.poly_cells.proofs.MatrixLemmas.{same_point}
-use Rattle.poly_cells.proofs.PlaceLemmas.{same_place, place_exact}
+use Rattle.poly_cells.proofs.CoordinateLemmas.{same_coordinates, coordinates_exact}
 use Rattle.poly_cells.proofs.SetLemmas.{in_map, in_from_map, in_from_order, in_to_order}
 use Rattle.poly_cells.proofs.CornerLemmas.{least_below, least_reached}
 
@@ -48,7 +48,7 @@ mirrored_in : (minus : Bool) (c : ℕ) → c ≤ 31 → mirrored minus c ≤ 31
 mirrored_in false c h = h
 mirrored_in true c h = omega arith
 
-pick_in : (first second : Bool) (v : Coordinates) → IsInGrid v → cond first v.x (cond second v.y v.z) ≤ 31
+pub pick_in : (first second : Bool) (v : Coordinates) → IsInGrid v → cond first v.x (cond second v.y v.z) ≤ 31
 pick_in true second v h = h.x_in
 pick_in false true v h = h.y_in
 pick_in false false v h = h.z_in
@@ -70,7 +70,7 @@ pos_same m n h = cc
 
 pub point_same : (v w : Coordinates) → point v ≡ point w → v ≡ w
 point_same v w h =
-    same_place v.x v.y v.z w.x w.y w.z (pos_same v.x w.x (ap (λ (p : Point). p.x) h)) (pos_same v.y w.y (ap (λ (p : Point). p.y) h)) (pos_same v.z w.z (ap (λ (p : Point). p.z) h))
+    same_coordinates v.x v.y v.z w.x w.y w.z (pos_same v.x w.x (ap (λ (p : Point). p.x) h)) (pos_same v.y w.y (ap (λ (p : Point). p.y) h)) (pos_same v.z w.z (ap (λ (p : Point). p.z) h))
 
 -- minus the cell's coordinates
 pub negated : Coordinates → Point
@@ -127,7 +127,7 @@ abbrev pub turned_set : ℕ → List Coordinates → List Coordinates
 turned_set n vs = in_order coordinates_cmp (map (turn n) vs)
 
 pub turned_set_into : (n : ℕ) (vs : List Coordinates) (v : Coordinates) → IsIn v vs → IsIn (turn n v) (turned_set n vs)
-turned_set_into n vs v i = in_to_order place_exact (turn n v) (map (turn n) vs) (in_map (turn n) v vs i)
+turned_set_into n vs v i = in_to_order coordinates_exact (turn n v) (map (turn n) vs) (in_map (turn n) v vs i)
 
 pub turned_set_onto : (n : ℕ) (vs : List Coordinates) (w : Coordinates) → IsIn w (turned_set n vs) → (v : Coordinates) × IsIn v vs × (w ≡ turn n v)
 turned_set_onto n vs w i = in_from_map (turn n) w vs (in_from_order coordinates_cmp w (map (turn n) vs) i)

@@ -2,8 +2,11 @@ pub mod Tables
 pub mod MatrixLemmas
 pub mod SymmetryTables
 pub mod SetLemmas
+pub mod MemberLemmas
 pub mod SortLemmas
-pub mod PlaceLemmas
+pub mod CoordinateLemmas
+pub mod CellTestLemmas
+pub mod CellWordLemmas
 pub mod CornerLemmas
 pub mod ImageLemmas
 pub mod ShapeLemmas
@@ -13,7 +16,9 @@ pub mod TranslateLemmas
 pub mod KeptLemmas
 pub mod NumberLemmas
 pub mod TurnLemmas
-pub mod PlaceExamples
+pub mod CoordinateExamples
+pub mod CellTestExamples
+pub mod CellWordExamples
 pub mod SymmetryExamples
 pub mod SetExamples
 pub mod ShapeExamples

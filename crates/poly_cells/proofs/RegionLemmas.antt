@@ -8,7 +8,7 @@ use Rattle.poly_cells.specs.Sets.{IsIn}
 use Rattle.poly_cells.specs.Shapes.{IsShape, normal, turned}
 use Rattle.poly_cells.specs.Images.{IsTranslate, IsAtOrigin, HasSymmetry}
 use Rattle.poly_cells.proofs.MatrixLemmas.{same_point}
-use Rattle.poly_cells.proofs.PlaceLemmas.{place_total}
+use Rattle.poly_cells.proofs.CoordinateLemmas.{coordinates_total}
 use Rattle.poly_cells.proofs.SetLemmas.{same_members}
 use Rattle.poly_cells.proofs.ImageLemmas.{point_same, normal_is, turned_is}
 use Rattle.poly_cells.proofs.ShapeLemmas.{normal_is_shape, turned_is_shape}
@@ -84,7 +84,7 @@ at_rest vs ws e o p t =
 pub same_at_origin : (vs ws : List Coordinates) (e : Point) → IsShape vs → IsShape ws → IsAtOrigin vs → IsAtOrigin ws → IsTranslate e vs ws → vs ≡ ws
 same_at_origin vs ws e s r o p t =
     let rest = at_rest vs ws e o p t in
-    same_members place_total vs ws s.rises r.rises
+    same_members coordinates_total vs ws s.rises r.rises
     (λ v i. let w = t.into v i in subst (λ u. IsIn u ws) (point_same w.0 v (w.2 ∙ rest (point v))) w.1)
     (λ w i. let v = t.onto w i in subst (λ u. IsIn u vs) (sym (point_same w v.0 (v.2 ∙ rest (point v.0)))) v.1)
 

@@ -6,7 +6,7 @@ use Rattle.std.specs.List.Sorted.{IsStrictlySortedBy}
 use Rattle.poly_cells.specs.Coordinates.{Coordinates, IsInGrid, coordinates_cmp}
 use Rattle.poly_cells.specs.Turns.{turn}
 use Rattle.poly_cells.specs.Shapes.{AllInGrid, IsShape, corner, moved_back, normal, turned}
-use Rattle.poly_cells.proofs.PlaceLemmas.{place_total}
+use Rattle.poly_cells.proofs.CoordinateLemmas.{coordinates_total}
 use Rattle.poly_cells.proofs.SetLemmas.{in_map, in_from_map, in_order_rises, rising_map}
 use Rattle.poly_cells.proofs.CornerLemmas.{least_below}
 use Rattle.poly_cells.proofs.ImageLemmas.{some_from_in, in_from_some, turned_set, turned_set_some, turned_set_limits}
@@ -45,7 +45,7 @@ normal_is_shape vs s = record { some = normal_some vs s.some; rises = normal_ris
 pub turned_set_is_shape : (n : ℕ) (vs : List Coordinates) → 0 < length vs → AllInGrid vs → IsShape (turned_set n vs)
 turned_set_is_shape n vs some limits = record {
   some = turned_set_some n vs some;
-  rises = in_order_rises place_total (map (turn n) vs);
+  rises = in_order_rises coordinates_total (map (turn n) vs);
   limits = turned_set_limits n vs limits;
 }
 

@@ -1,7 +1,7 @@
 -- Sorting a list and dropping repeats gives its members in order, each once.
-use Rattle.std.proofs.Common.{◌≡◌, List, map, refl, sym, ap, subst, ◌∙◌, Bool, true, Ordering, Less, Equal, Greater, IsPermutation, IsSorted}
-use Rattle.std.specs.Cmp.{IsTotalOrder, IsEquivalence}
-use Rattle.std.specs.Ordering.{eq_by_cmp, on, is_eq}
+use Rattle.std.proofs.Common.{◌≡◌, List, map, sym, ap, subst, ◌∙◌, Bool, true, Ordering, IsPermutation, IsSorted}
+use Rattle.std.specs.Cmp.{IsTotalOrder, IsEquivalence, Equal-is}
+use Rattle.std.specs.Ordering.{eq_by_cmp, on}
 use Rattle.std.specs.List.{dedup}
 use Rattle.std.proofs.lemmas.Cmp.{on_total, eq_by_cmp_equiv}
 use Rattle.std.proofs.lemmas.List.Sorted.{Contains-permutation, IsPermutation-sym}
@@ -9,17 +9,12 @@ use Rattle.std.proofs.lemmas.List.Kept.{Any-dedup, Contains-from_dedup, IsStrict
 use Rattle.poly_cells.specs.Sets.{IsIn, in_order, IsExact}
 use Rattle.poly_cells.proofs.SetLemmas.{in_map, in_from_map, in_from_contains, contains_from_in, rising_map, same_members, in_order_rises, in_from_order, in_to_order}
 
-is_equal : (o : Ordering) → is_eq o ≡ true → o ≡ Equal
-is_equal Less h = cc
-is_equal Equal h = refl
-is_equal Greater h = cc
-
 -- the test says whether the values are the same in the order
 abbrev pub IsTie : {K J : Type 0} (f : K → J) (R : J → J → Ordering) (E : K → K → Bool) → Type 0
 IsTie {K} f R E = (a b : K) → E a b ≡ eq_by_cmp (on f R) a b
 
 tied_values : {K J : Type 0} (f : K → J) {R : J → J → Ordering} → IsExact R → (E : K → K → Bool) → IsTie f R E → (a b : K) → E a b ≡ true → f a ≡ f b
-tied_values f {R} exact E ties a b h = exact (f a) (f b) (is_equal (R (f a) (f b)) (sym (ties a b) ∙ h))
+tied_values f {R} exact E ties a b h = exact (f a) (f b) ((Equal-is (R (f a) (f b))).0 (sym (ties a b) ∙ h))
 
 in_from_sort : {K J : Type 0} (f : K → J) (E : K → K → Bool) (xs ys : List K) → IsPermutation xs ys → (x : J) → IsIn x (map f (dedup E ys)) → IsIn x (map f xs)
 in_from_sort {K} {J} f E xs ys p x h =

@@ -1,15 +1,11 @@
 -- A test that holds at each number below a bound, computed, and what it says of one number.
-use Rattle.std.proofs.Common.{◌≡◌, ℕ, zero, suc, ◌<◌, Bool, true, false, ◌&&◌, ◌⊎◌, inl, inr, refl, sym, subst, arith}
+use Rattle.std.proofs.lemmas.Bool.{and_parts}
+use Rattle.std.proofs.Common.{◌≡◌, ℕ, zero, suc, ◌<◌, Bool, true, ◌&&◌, ◌⊎◌, inl, inr, sym, subst, arith}
 
 -- the test holds at each number below the bound
 abbrev pub all_below : ℕ → (ℕ → Bool) → Bool
 all_below zero test = true
 all_below (suc n) test = test n && all_below n test
-
--- both sides of an `&&` hold
-pub both_true : (a b : Bool) → a && b ≡ true → (a ≡ true) × (b ≡ true)
-both_true true b h = (refl, h)
-both_true false b h = cc
 
 at_or_below : (n k : ℕ) → k < suc n → (k ≡ n) ⊎ (k < n)
 at_or_below n k h = grind arith
@@ -17,7 +13,7 @@ at_or_below n k h = grind arith
 pub all_at : (n : ℕ) (test : ℕ → Bool) → all_below n test ≡ true → (k : ℕ) → k < n → test k ≡ true
 all_at zero test h k lt = absurd (omega arith)
 all_at (suc n) test h k lt =
-    let parts = both_true (test n) (all_below n test) h in
+    let parts = and_parts (test n) (all_below n test) h in
     elim (at_or_below n k lt) [
       | inl e ↦ subst (λ i. test i ≡ true) (sym e) parts.0
       | inr less ↦ all_at n test parts.1 k less

@@ -74,8 +74,8 @@ cmp_from a b c d p q r =
 cmp_along : (a b c d : ℕ) (e : ℤ) → pos a ≡ pos c +ℤ e → pos b ≡ pos d +ℤ e → nat_cmp c d ≡ nat_cmp a b
 cmp_along a b c d e p q = cmp_from c d a b (λ h. omega (arith, ints)) (λ h. omega (arith, ints)) (λ h. omega (arith, ints))
 
-place_cmp_along : (d : Point) (v w a b : Coordinates) → point a ≡ translated d (point v) → point b ≡ translated d (point w) → coordinates_cmp v w ≡ coordinates_cmp a b
-place_cmp_along d v w a b p q =
+coordinates_cmp_along : (d : Point) (v w a b : Coordinates) → point a ≡ translated d (point v) → point b ≡ translated d (point w) → coordinates_cmp v w ≡ coordinates_cmp a b
+coordinates_cmp_along d v w a b p q =
     ap₂ ordering_then (cmp_along a.x b.x v.x w.x d.x (ap (λ (u : Point). u.x) p) (ap (λ (u : Point). u.x) q))
     (ap₂ ordering_then (cmp_along a.y b.y v.y w.y d.y (ap (λ (u : Point). u.y) p) (ap (λ (u : Point). u.y) q))
     (cmp_along a.z b.z v.z w.z d.z (ap (λ (u : Point). u.z) p) (ap (λ (u : Point). u.z) q)))
@@ -101,5 +101,5 @@ translates_rise d (v ∷ vs) (w ∷ ws) h up =
     let both = heads (point w) (translated d (point v)) (map point ws) (translates d vs) h in
     rising_cons coordinates_cmp w ws
     (λ u i. let from = onto_translates d vs ws both.1 u i in
-    sym (place_cmp_along d v from.0 w u both.0 from.2) ∙ rising_head coordinates_cmp v vs up from.0 from.1)
+    sym (coordinates_cmp_along d v from.0 w u both.0 from.2) ∙ rising_head coordinates_cmp v vs up from.0 from.1)
     (translates_rise d vs ws both.1 (rising_tail coordinates_cmp v vs up))

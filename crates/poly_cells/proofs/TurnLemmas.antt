@@ -4,7 +4,8 @@ use Rattle.poly_cells.specs.Coordinates.{Coordinates, IsInGrid}
 use Rattle.poly_cells.specs.Symmetries.{pick, Matrix, matrix, IsComposed}
 use Rattle.poly_cells.specs.Products.{differ, from_at, minus_at, product, composed}
 use Rattle.poly_cells.specs.Turns.{mirrored, turned_by, turn}
-use Rattle.poly_cells.proofs.PlaceLemmas.{same_place}
+use Rattle.poly_cells.proofs.CoordinateLemmas.{same_coordinates}
+use Rattle.poly_cells.proofs.ImageLemmas.{pick_in}
 use Rattle.poly_cells.proofs.SymmetryTables.{composed_in, composed_matrix, is_composed}
 use Rattle.poly_cells.proofs.GroupLemmas.{once}
 
@@ -13,13 +14,8 @@ mirrors false t c h = refl
 mirrors true false c h = refl
 mirrors true true c h = omega arith
 
-in_range : (first second : Bool) (v : Coordinates) → IsInGrid v → cond first v.x (cond second v.y v.z) ≤ 31
-in_range true second v h = h.x_in
-in_range false true v h = h.y_in
-in_range false false v h = h.z_in
-
 picked : (f : ℕ) (v : Coordinates) → IsInGrid v → pick f v.x v.y v.z ≤ 31
-picked f v h = in_range (f == 0) (f == 1) v h
+picked f v h = pick_in (f == 0) (f == 1) v h
 
 row_by_tests : (first second s : Bool) (n : Matrix) (v : Coordinates) → IsInGrid v
     → mirrored (differ s (cond first n.minus_x (cond second n.minus_y n.minus_z))) (pick (cond first n.from_x (cond second n.from_y n.from_z)) v.x v.y v.z)
@@ -34,7 +30,7 @@ row f s n v h = row_by_tests (f == 0) (f == 1) s n v h
 
 turned_product : (m n : Matrix) (v : Coordinates) → IsInGrid v → turned_by (product m n) v ≡ turned_by m (turned_by n v)
 turned_product m n v h =
-    same_place _ _ _ _ _ _ (row m.from_x m.minus_x n v h) (row m.from_y m.minus_y n v h) (row m.from_z m.minus_z n v h)
+    same_coordinates _ _ _ _ _ _ (row m.from_x m.minus_x n v h) (row m.from_y m.minus_y n v h) (row m.from_z m.minus_z n v h)
 
 -- turning by b and then by a is turning by what they compose to
 pub turn_composed : (a b c : ℕ) → a < 48 → b < 48 → c < 48 → IsComposed a b c → (v : Coordinates) → IsInGrid v → turn c v ≡ turn a (turn b v)

@@ -1,6 +1,6 @@
 -- Cells as triples of coordinates, and their order.
 --
--- Example: 0 2 1 comes before 1 0 0, and 1 0 0 before 1 0 3 (proofs/PlaceExamples.antt).
+-- Example: 0 2 1 comes before 1 0 0, and 1 0 0 before 1 0 3 (proofs/CoordinateExamples.antt).
 use Rattle.std.specs.Prelude.{ℕ, ◌≤◌}
 use Rattle.std.specs.Ordering.{nat_cmp, ordering_then}
 use Rattle.std.specs.declared.cmp.Ordering.{Ordering}

@@ -1,4 +1,6 @@
 pub mod Coordinates
+pub mod CellTests
+pub mod CellWords
 pub mod Points
 pub mod Symmetries
 pub mod Turns

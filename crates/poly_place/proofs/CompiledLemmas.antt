@@ -1,26 +1,33 @@
 -- Where it is within the limits, the problem that stands for a puzzle is one.
-use Rattle.std.proofs.Common.{◌≡◌, ℕ, ◌+◌, ◌<◌, ◌≤◌, List, [], ◌∷◌, ◌++◌, map, length, Bool, true, false, cond, not, ◌&&◌, ◌||◌, nat_lt, nat_le, ◌==◌, inl, inr, refl, sym, ap, ap₂, subst, ◌∙◌, arith, bytes_eq, sum_by, Ok}
+use Rattle.std.proofs.Common.{◌≡◌, ℕ, ◌+◌, ◌<◌, ◌≤◌, List, [], ◌∷◌, ◌++◌, map, length, Bool, true, false, cond, not, ◌&&◌, ◌||◌, nat_lt, nat_le, ◌==◌, inl, inr, refl, sym, ap, ap₂, subst, ◌∙◌, arith, bytes_eq, sum_by, Result, Ok, Err}
 use Rattle.std.specs.List.{list_any, list_all}
 use Rattle.std.specs.Cmp.Lexicographic.{bytes_decides}
 use Rattle.std.proofs.lemmas.Bool.{and_parts, and_from, or_left, or_right}
 use Rattle.std.proofs.lemmas.Bool.Decides.{nat_tests}
 use Rattle.std.proofs.lemmas.List.{map-append}
+use Rattle.std.proofs.lemmas.List.Sums.{sum_by-cons}
 use Rattle.poly_cells.specs.Coordinates.{Coordinates, IsInGrid}
 use Rattle.poly_cells.specs.Sets.{IsIn}
-use Rattle.poly_cells.proofs.PlaceLemmas.{place_total, same_place}
+use Rattle.poly_cells.proofs.CoordinateLemmas.{coordinates_total, same_coordinates}
 use Rattle.poly_cells.proofs.SetLemmas.{in_append_cases, in_from_map}
-use Rattle.poly_texts.specs.Cells.{has_cell}
-use Rattle.poly_texts.specs.Grammar.{symbol, cell_word}
+use Rattle.poly_cells.proofs.CellTestLemmas.{in_from_has, has_from_in}
+use Rattle.poly_cells.specs.CellTests.{has_cell}
+use Rattle.poly_cells.specs.CellWords.{symbol, cell_word}
 use Rattle.poly_texts.specs.Words as words
 use Rattle.poly_texts.specs.Puzzle.{PuzzleValue, IsPuzzle, names_of, has_name}
-use Rattle.poly_texts.proofs.MemberLemmas.{in_from_has, has_from_in}
 use Rattle.cover_problem.specs.declared.limits.TheConstants.{MOST_ITEMS, MOST_OPTIONS, MOST_ENTRIES}
+use Rattle.text_lines.specs.declared.refusal.Refusal.{Refusal}
+use Rattle.text_lines.specs.declared.refusal.Refusal.TheVariants as refusals
+use Rattle.text_lines.specs.Answers.{IsFaultOf}
+use Rattle.text_lines.proofs.ResultLemmas.{no_fault}
 use Rattle.cover_problem.specs.Validation.{problem_from}
-use Rattle.cover_problem.proofs.ProblemLemmas.{made_again, made_is}
+use Rattle.cover_problem.specs.declared.fault.Fault.{Fault}
+use Rattle.cover_problem.proofs.ProblemLemmas.{made_again}
 use Rattle.cover_problem.specs.Lists.{has, are_distinct}
 use Rattle.cover_problem.specs.Problem.{ProblemValue, IsProblem, is_name, is_name_byte, is_item, is_option, is_small, are_new}
-use Rattle.poly_place.specs.Packings.{Choice, is_needed, must_fill, IsPlaced, choices, Thing, a_piece, a_cell, needed_things, things, index_among, item_of, things_of, option_of, thing_name, compiled}
-use Rattle.poly_place.specs.Compiled.{CompiledValue, compiled_value, needed_names, filled_cells, entries_of, is_within}
+use Rattle.poly_place.specs.Packings.{ChoiceValue, is_needed, must_fill, IsPlaced, choices, Thing, a_piece, a_cell, needed_things, things, index_among, item_of, things_of, option_of, thing_name, packing_problem}
+use Rattle.poly_place.specs.Compiled.{needed_names, filled_cells, entries_of, is_within}
+use Rattle.poly_place.proofs.TestLemmas.{le_true, true_le, true_lt, both_true}
 use Rattle.poly_place.proofs.MemberLemmas.{all_pass, passes}
 use Rattle.poly_place.proofs.DistinctLemmas.{in_from_name, name_from_in, some_passes, IsDistinct, distinct_append, distinct_filter, distinct_map, distinct_rising, distinct_names}
 use Rattle.poly_place.proofs.CountLemmas.{long_map, long_append}
@@ -28,12 +35,6 @@ use Rattle.poly_place.proofs.PackingLemmas.{has_shapes, placed_in}
 use Rattle.poly_place.proofs.ThingLemmas.{bool_cases, place_in, nothing, item_same, needed_piece, needed_cell, needed_cases, needed_distinct, not_false, parts_in, thing_of_item}
 
 -- ---- tests
-
-lt_true : (m n : ℕ) → m < n → nat_lt m n ≡ true
-lt_true m n h = grind (arith, nat_tests)
-
-true_le : (m n : ℕ) → m ≤ n → nat_le m n ≡ true
-true_le m n h = grind (arith, nat_tests)
 
 not_both : (b : Bool) → b ≡ true → not b ≡ true → ⊥
 not_both true t f = cc
@@ -113,7 +114,7 @@ name_same (a_cell v) (a_cell w) e =
     let x : symbol v.x ≡ symbol w.x = cc in
     let y : symbol v.y ≡ symbol w.y = cc in
     let u : symbol v.z ≡ symbol w.z = cc in
-    ap a_cell (same_place v.x v.y v.z w.x w.y w.z (symbol_same v.x w.x x) (symbol_same v.y w.y y) (symbol_same v.z w.z u))
+    ap a_cell (same_coordinates v.x v.y v.z w.x w.y w.z (symbol_same v.x w.x x) (symbol_same v.y w.y y) (symbol_same v.z w.z u))
 name_same (a_piece m) (a_cell w) e = cc
 name_same (a_cell v) (a_piece n) e = cc
 
@@ -171,7 +172,7 @@ module _ (p : PuzzleValue) (z : IsPuzzle p) where
   maybe_distinct : IsDistinct (map a_piece p.maybe_pieces ++ map a_cell p.maybe_cells)
   maybe_distinct =
       distinct_append (map a_piece p.maybe_pieces) (map a_cell p.maybe_cells) (distinct_map a_piece p.maybe_pieces (λ a b e. cc) maybe_names_distinct)
-      (distinct_map a_cell p.maybe_cells (λ a b e. cc) (distinct_rising place_total p.maybe_cells z.maybe_rises))
+      (distinct_map a_cell p.maybe_cells (λ a b e. cc) (distinct_rising coordinates_total p.maybe_cells z.maybe_rises))
       (λ t i j.
       let name = in_from_map a_piece t p.maybe_pieces i in
       let v = in_from_map a_cell t p.maybe_cells j in
@@ -242,10 +243,10 @@ module _ (p : PuzzleValue) (z : IsPuzzle p) where
 
   -- ---- options
 
-  parts_distinct : (c : Choice) → IsPlaced p c → IsDistinct (things_of c)
+  parts_distinct : (c : ChoiceValue) → IsPlaced p c → IsDistinct (things_of c)
   parts_distinct c h = (
     (λ i. let v = in_from_map a_cell (a_piece c.name) c.cells i in let m = v.2 in cc),
-    distinct_map a_cell c.cells (λ a b e. cc) (distinct_rising place_total c.cells h.rises),
+    distinct_map a_cell c.cells (λ a b e. cc) (distinct_rising coordinates_total c.cells h.rises),
   )
 
   distinct_items : (ts : List Thing) → ((t : Thing) → IsIn t ts → IsIn t (things p)) → IsDistinct ts → are_distinct (map (item_of p) ts) ≡ true
@@ -267,12 +268,12 @@ module _ (p : PuzzleValue) (z : IsPuzzle p) where
       let at = (place_in nothing t (things p) i).0 in
       let long = long_map thing_name (things p) in
       and_from (nat_lt 0 (index_among t (things p) + 1)) (nat_le (index_among t (things p) + 1) (length (map thing_name (things p))))
-      (lt_true 0 (index_among t (things p) + 1) (omega arith)) (true_le (index_among t (things p) + 1) (length (map thing_name (things p))) (omega (arith, at, long)))
+      (true_lt 0 (index_among t (things p) + 1) (omega arith)) (true_le (index_among t (things p) + 1) (length (map thing_name (things p))) (omega (arith, at, long)))
 
-  option_good : (c : Choice) → IsPlaced p c → is_option (length (map thing_name (things p))) (option_of p c) ≡ true
+  option_good : (c : ChoiceValue) → IsPlaced p c → is_option (length (map thing_name (things p))) (option_of p c) ≡ true
   option_good c h =
       and_from (nat_lt 0 (length (option_of p c)) && are_distinct (option_of p c)) (list_all (is_item (length (map thing_name (things p)))) (option_of p c))
-      (and_from (nat_lt 0 (length (option_of p c))) (are_distinct (option_of p c)) (lt_true 0 (length (option_of p c)) (omega arith))
+      (and_from (nat_lt 0 (length (option_of p c))) (are_distinct (option_of p c)) (true_lt 0 (length (option_of p c)) (omega arith))
       (distinct_items (things_of c) (parts_in p c h) (parts_distinct c h)))
       (all_pass (is_item (length (map thing_name (things p)))) (option_of p c) (λ n i.
       let t = in_from_map (item_of p) n (things_of c) i in
@@ -283,8 +284,8 @@ module _ (p : PuzzleValue) (z : IsPuzzle p) where
       let c = in_from_map (option_of p) o (choices p) i in
       subst (λ (q : List ℕ). is_option (length (map thing_name (things p))) q ≡ true) (sym c.2) (option_good c.0 (placed_in p (has_shapes p z) c.0 c.1)))
 
-  pub is_problem : is_small (compiled p) ≡ true → IsProblem (compiled p)
-  unfolding compiled
+  pub is_problem : is_small (packing_problem p) ≡ true → IsProblem (packing_problem p)
+  unfolding packing_problem
   is_problem small = record {
     some = some_needed;
     within =
@@ -322,26 +323,50 @@ names_are p =
 
 -- ---- what is made
 
-le_true : (m n : ℕ) → nat_le m n ≡ true → m ≤ n
-le_true m n h = grind (arith, nat_tests)
+entries_same : (p : PuzzleValue) (cs : List ChoiceValue) → sum_by length (map (option_of p) cs) + length (map (option_of p) cs) ≡ entries_of cs
+entries_same p [] = refl
+entries_same p (c ∷ cs) =
+    let rest = entries_same p cs in
+    let cells = long_map (item_of p) (map a_cell c.cells) in
+    let same = long_map a_cell c.cells in
+    let sum = sum_by-cons length (option_of p c) (map (option_of p) cs) in
+    let all = sum_by-cons (λ (d : ChoiceValue). length d.cells + 2) c cs in
+    omega (arith, rest, cells, same, sum, all)
 
--- where there is no room for the options, the problem is too large
-pub not_small : (p : PuzzleValue) → is_within (length (things p)) (map (option_of p) (choices p)) ≡ false → is_small (compiled p) ≡ false
-unfolding compiled
-not_small p f =
-    elim (bool_cases (is_small (compiled p))) [
-      | inl t ↦
-          let names = map thing_name (things p) in
-          let options = map (option_of p) (choices p) in
-          let parts = and_parts (nat_le (length names) MOST_ITEMS && nat_le (length options) MOST_OPTIONS) (nat_le (length names + sum_by length options + length options + 2) MOST_ENTRIES) t in
-          let first = and_parts (nat_le (length names) MOST_ITEMS) (nat_le (length options) MOST_OPTIONS) parts.0 in
-          let size = le_true (length names + sum_by length options + length options + 2) MOST_ENTRIES parts.1 in
-          let long = long_map thing_name (things p) in
-          let all = and_from (nat_le (length options) MOST_OPTIONS) (nat_le (length (things p) + entries_of options + 2) MOST_ENTRIES) first.1
-          (true_le (length (things p) + entries_of options + 2) MOST_ENTRIES (omega (arith, size, long))) in
-          cc
-      | inr g ↦ g
-    ]
+-- the problem is small exactly where there is room for the choices
+pub small_is : (p : PuzzleValue) → length (things p) ≤ MOST_ITEMS → is_small (packing_problem p) ≡ is_within (length (things p)) (choices p)
+unfolding packing_problem
+small_is p few =
+    both_true (is_small (packing_problem p)) (is_within (length (things p)) (choices p))
+    (λ t.
+    let parts = and_parts (nat_le (length names) MOST_ITEMS && nat_le (length options) MOST_OPTIONS) (nat_le (length names + sum_by length options + length options + 2) MOST_ENTRIES) t in
+    let first = and_parts (nat_le (length names) MOST_ITEMS) (nat_le (length options) MOST_OPTIONS) parts.0 in
+    let count = le_true (length options) MOST_OPTIONS first.1 in
+    let size = le_true (length names + sum_by length options + length options + 2) MOST_ENTRIES parts.1 in
+    and_from (nat_le (length (choices p)) MOST_OPTIONS) (nat_le (length (things p) + entries_of (choices p) + 2) MOST_ENTRIES) (true_le (length (choices p)) MOST_OPTIONS (omega (arith, count, many)))
+    (true_le (length (things p) + entries_of (choices p) + 2) MOST_ENTRIES (omega (arith, size, long, entries))))
+    (λ t.
+    let parts = and_parts (nat_le (length (choices p)) MOST_OPTIONS) (nat_le (length (things p) + entries_of (choices p) + 2) MOST_ENTRIES) t in
+    let count = le_true (length (choices p)) MOST_OPTIONS parts.0 in
+    let size = le_true (length (things p) + entries_of (choices p) + 2) MOST_ENTRIES parts.1 in
+    and_from (nat_le (length names) MOST_ITEMS && nat_le (length options) MOST_OPTIONS) (nat_le (length names + sum_by length options + length options + 2) MOST_ENTRIES)
+    (and_from (nat_le (length names) MOST_ITEMS) (nat_le (length options) MOST_OPTIONS) (true_le (length names) MOST_ITEMS (omega (arith, few, long))) (true_le (length options) MOST_OPTIONS (omega (arith, count, many))))
+    (true_le (length names + sum_by length options + length options + 2) MOST_ENTRIES (omega (arith, size, long, entries))))
+  where
+    names : List (List ℕ)
+    names = map thing_name (things p)
+
+    options : List (List ℕ)
+    options = map (option_of p) (choices p)
+
+    long : length (map thing_name (things p)) ≡ length (things p)
+    long = long_map thing_name (things p)
+
+    many : length (map (option_of p) (choices p)) ≡ length (choices p)
+    many = long_map (option_of p) (choices p)
+
+    entries : sum_by length (map (option_of p) (choices p)) + length (map (option_of p) (choices p)) ≡ entries_of (choices p)
+    entries = entries_same p (choices p)
 
 -- the parts are those of the problem
 pub record AreParts (p : PuzzleValue) (names : List (List ℕ)) (primary : ℕ) (options : List (List ℕ)) : Type 0 where
@@ -355,28 +380,12 @@ same_made p names primary options a =
     ap (λ (ns : List (List ℕ)). problem_from ns primary options) a.names_are ∙ ap (λ (k : ℕ). problem_from (map thing_name (things p)) k options) a.primary_is
     ∙ ap (problem_from (map thing_name (things p)) (length (needed_things p))) a.options_are
 
-pub not_made : (p : PuzzleValue) → IsPuzzle p → (names : List (List ℕ)) (primary : ℕ) (options : List (List ℕ)) → AreParts p names primary options
-    → ((q : ProblemValue) → problem_from names primary options ≡ Ok q → ⊥) → is_small (compiled p) ≡ false
-unfolding compiled
-not_made p z names primary options a never =
-    elim (bool_cases (is_small (compiled p))) [
-      | inl t ↦ absurd (never (compiled p) (same_made p names primary options a ∙ made_again (compiled p) (is_problem p z t)))
-      | inr f ↦ f
-    ]
+-- these parts make the problem of the puzzle
+pub parts_make : (p : PuzzleValue) → IsPuzzle p → (names : List (List ℕ)) (primary : ℕ) (options : List (List ℕ)) → AreParts p names primary options → is_small (packing_problem p) ≡ true
+    → problem_from names primary options ≡ Ok (packing_problem p)
+unfolding packing_problem
+parts_make p z names primary options a small = same_made p names primary options a ∙ made_again (packing_problem p) (is_problem p z small)
 
-pub made_of : (p : PuzzleValue) (names : List (List ℕ)) (primary : ℕ) (options : List (List ℕ)) (q : ProblemValue) → AreParts p names primary options
-    → problem_from names primary options ≡ Ok q → (q ≡ compiled p) × (is_small (compiled p) ≡ true)
-unfolding compiled
-made_of p names primary options q a h =
-    let m = made_is (map thing_name (things p)) (length (needed_things p)) (map (option_of p) (choices p)) q (sym (same_made p names primary options a) ∙ h) in
-    (m.0, subst (λ (c : ProblemValue). is_small c ≡ true) m.0 m.1.small)
-
--- what is kept
-abbrev pub value_of : ProblemValue → List Coordinates → List ℕ → List Coordinates → CompiledValue
-value_of problem region pieces cells = record { problem = problem; region = region; maybe_pieces = pieces; maybe_cells = cells }
-
-pub same_value : (p : PuzzleValue) (q : ProblemValue) (region : List Coordinates) (pieces : List ℕ) (cells : List Coordinates) → q ≡ compiled p → region ≡ p.region → pieces ≡ p.maybe_pieces → cells ≡ p.maybe_cells
-    → value_of q region pieces cells ≡ compiled_value p
-same_value p q region pieces cells e f g h =
-    ap (λ (x : ProblemValue). value_of x region pieces cells) e ∙ ap (λ (x : List Coordinates). value_of (compiled p) x pieces cells) f
-    ∙ ap (λ (x : List ℕ). value_of (compiled p) p.region x cells) g ∙ ap (value_of (compiled p) p.region p.maybe_pieces) h
+-- what is made has no fault
+pub not_faulty : (f : Refusal Fault) (g : Fault) (found : Result ProblemValue Fault) (q : ProblemValue) → found ≡ Ok q → f ≡ refusals.Fault g → IsFaultOf f found → ⊥
+not_faulty f g found q made is fault = no_fault g q (sym (subst (λ (h : Refusal Fault). IsFaultOf h found) is fault) ∙ made)

@@ -6,11 +6,11 @@ use Rattle.std.proofs.lemmas.Option.{slice_get_within, get_or_from_slice_get}
 use Rattle.std.proofs.lemmas.List.{get_or-map}
 use Rattle.poly_cells.specs.Coordinates.{Coordinates, coordinates_cmp}
 use Rattle.poly_cells.specs.Sets.{IsIn}
-use Rattle.poly_cells.proofs.PlaceLemmas.{place_total}
+use Rattle.poly_cells.proofs.CoordinateLemmas.{coordinates_total}
 use Rattle.poly_cells.proofs.SetLemmas.{in_at, rising_head, rising_tail, rising_cons, rising_none, same_members}
-use Rattle.poly_texts.specs.Cells.{has_cell}
+use Rattle.poly_cells.proofs.CellTestLemmas.{in_from_has, has_from_in}
+use Rattle.poly_cells.specs.CellTests.{has_cell}
 use Rattle.poly_texts.specs.Puzzle.{PuzzleValue, IsPuzzle, names_of, has_name}
-use Rattle.poly_texts.proofs.MemberLemmas.{in_from_has, has_from_in}
 use Rattle.poly_place.specs.Packings.{is_needed, must_fill, needed_things, things, a_piece, a_cell}
 use Rattle.poly_place.specs.Compiled.{needed_names, filled_cells}
 use Rattle.poly_place.proofs.MemberLemmas.{passes}
@@ -91,7 +91,7 @@ names_few p z = let few = z.few_pieces in subst (λ (n : ℕ). n ≤ 62) (sym (l
 
 maybe_is : (p : PuzzleValue) → IsPuzzle p → p.maybe_cells ≡ filter (has_cell p.maybe_cells) p.region
 maybe_is p z =
-    same_members place_total p.maybe_cells (filter (has_cell p.maybe_cells) p.region) z.maybe_rises (filter_rises coordinates_cmp (has_cell p.maybe_cells) p.region z.rises)
+    same_members coordinates_total p.maybe_cells (filter (has_cell p.maybe_cells) p.region) z.maybe_rises (filter_rises coordinates_cmp (has_cell p.maybe_cells) p.region z.rises)
     (λ v i. in_filter (has_cell p.maybe_cells) v p.region (in_from_has p.region v (passes (has_cell p.region) p.maybe_cells z.maybe_within v i)) (has_from_in p.maybe_cells v i))
     (λ v i. in_from_has p.maybe_cells v (in_from_filter (has_cell p.maybe_cells) v p.region i).1)
 

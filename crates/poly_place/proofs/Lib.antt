@@ -1,3 +1,4 @@
+pub mod TestLemmas
 pub mod OrderLemmas
 pub mod MemberLemmas
 pub mod MoveLemmas
@@ -8,8 +9,13 @@ pub mod PlacementExamples
 pub mod DistinctLemmas
 pub mod ThingLemmas
 pub mod PackingLemmas
+pub mod ChosenLemmas
 pub mod PackingExamples
 pub mod CountLemmas
 pub mod NumberLemmas
+pub mod ChoiceLemmas
 pub mod OptionLemmas
+pub mod LayerLemmas
 pub mod CompiledLemmas
+pub mod RoomLemmas
+pub mod LayerExamples

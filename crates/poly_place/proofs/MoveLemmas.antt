@@ -11,7 +11,7 @@ use Rattle.poly_cells.specs.Sets.{IsIn}
 use Rattle.poly_cells.specs.Shapes.{moved, moved_back}
 use Rattle.poly_cells.specs.Images.{IsImage, IsTurned}
 use Rattle.poly_cells.proofs.MatrixLemmas.{same_point}
-use Rattle.poly_cells.proofs.PlaceLemmas.{place_total, same_place}
+use Rattle.poly_cells.proofs.CoordinateLemmas.{coordinates_total, same_coordinates}
 use Rattle.poly_cells.proofs.SetLemmas.{in_map, in_from_map, rising_map, same_members}
 use Rattle.poly_cells.proofs.ImageLemmas.{point_same, translated_twice}
 
@@ -49,7 +49,7 @@ back_one : (m k : ℕ) → m + k - m ≡ k
 back_one m k = omega arith
 
 pub moved_by : (d f : Coordinates) → moved_back f (moved d f) ≡ d
-moved_by d f = same_place _ _ _ _ _ _ (back_one f.x d.x) (back_one f.y d.y) (back_one f.z d.z)
+moved_by d f = same_coordinates _ _ _ _ _ _ (back_one f.x d.x) (back_one f.y d.y) (back_one f.z d.z)
 
 -- ---- two images of one set, of which one is at the origin
 
@@ -111,7 +111,7 @@ module _ (n : ℕ) (vs ws set : List Coordinates) (by : Point) (t : IsTurned n v
   is_moved a b = record {
     by = step;
     same =
-        same_members place_total set (map (moved step) ws) b (moved_rises step ws a)
+        same_members coordinates_total set (map (moved step) ws) b (moved_rises step ws a)
         (λ s i. let u = down s i in subst (λ (w : Coordinates). IsIn w (map (moved step) ws)) (sym (stepped s u.0 u.2)) (in_map (moved step) u.0 ws u.1))
         (λ w i.
         let u = in_from_map (moved step) w ws i in

@@ -6,11 +6,11 @@ use Rattle.std.proofs.lemmas.List.{get_or-set_same, get_or-set_other, drop_more,
 use Rattle.poly_cells.specs.Coordinates.{Coordinates, IsInGrid}
 use Rattle.poly_cells.specs.Sets.{IsIn}
 use Rattle.poly_cells.specs.Shapes.{AllInGrid}
-use Rattle.poly_cells.proofs.PlaceLemmas.{place_total, same_place_Decides}
+use Rattle.poly_cells.proofs.CoordinateLemmas.{coordinates_total, is_same_Decides}
 use Rattle.poly_cells.proofs.SetLemmas.{in_append_left, in_append_cases, in_map, in_from_map}
-use Rattle.poly_texts.specs.Cells.{is_same, has_cell}
+use Rattle.poly_cells.proofs.CellTestLemmas.{in_from_has, has_from_in}
+use Rattle.poly_cells.specs.CellTests.{is_same, has_cell}
 use Rattle.poly_texts.specs.Puzzle.{PuzzleValue, IsPuzzle, names_of, has_name}
-use Rattle.poly_texts.proofs.MemberLemmas.{in_from_has, has_from_in}
 use Rattle.poly_place.specs.Packings.{must_fill, Thing, a_piece, a_cell, same_thing, needed_things, index_among, item_of}
 use Rattle.poly_place.specs.Tables.{bit_index}
 use Rattle.poly_place.specs.Compiled.{needed_names, filled_cells, number_at, numbered, AreNumbers}
@@ -99,7 +99,7 @@ numbered_in w numbers k [] long all d i = absurd i
 numbered_in w numbers k (v ∷ vs) long all d i =
     elim (bool_cases (is_same w v)) [
       | inl t ↦
-          let e : w ≡ v = (same_place_Decides w v).0 t in
+          let e : w ≡ v = (is_same_Decides w v).0 t in
           let g = all v (inl refl) in
           let lt : bit_index v < length numbers = let b = low v g in omega (arith, b, long) in
           let other = numbered_other v (slice_set numbers (bit_index v) k) (k + 1) vs g (λ u j. all u (inr j)) d.0 in
@@ -107,7 +107,7 @@ numbered_in w numbers k (v ∷ vs) long all d i =
           let z = place_here (a_cell w) (a_cell v) (map a_cell vs) t in
           ap (number_at (numbered (slice_set numbers (bit_index v) k) (k + 1) vs)) e ∙ other ∙ here ∙ plus_none k (index_among (a_cell w) (map a_cell (v ∷ vs))) z
       | inr f ↦
-          let later : IsIn w vs = elim i [ inl e ↦ let y = (same_place_Decides w v).1 e in cc | inr r ↦ r ] in
+          let later : IsIn w vs = elim i [ inl e ↦ let y = (is_same_Decides w v).1 e in cc | inr r ↦ r ] in
           let rest =
           numbered_in w (slice_set numbers (bit_index v) k) (k + 1) vs (length-set numbers (bit_index v) k ∙ long) (λ u j. all u (inr j)) d.1 later in
           let z = place_later (a_cell w) (a_cell v) (map a_cell vs) f in
@@ -125,10 +125,10 @@ module _ (p : PuzzleValue) (z : IsPuzzle p) where
   maybe_places v i = z.limits v (in_from_has p.region v (passes (has_cell p.region) p.maybe_cells z.maybe_within v i))
 
   filled_distinct : IsDistinct (filled_cells p)
-  filled_distinct = distinct_filter (must_fill p) p.region (distinct_rising place_total p.region z.rises)
+  filled_distinct = distinct_filter (must_fill p) p.region (distinct_rising coordinates_total p.region z.rises)
 
   maybe_distinct : IsDistinct p.maybe_cells
-  maybe_distinct = distinct_rising place_total p.maybe_cells z.maybe_rises
+  maybe_distinct = distinct_rising coordinates_total p.maybe_cells z.maybe_rises
 
   filled_item : (v : Coordinates) → IsIn v (filled_cells p) → item_of p (a_cell v) ≡ length (needed_names p) + index_among (a_cell v) (map a_cell (filled_cells p)) + 1
   unfolding item_of

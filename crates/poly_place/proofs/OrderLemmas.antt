@@ -6,12 +6,12 @@ use Rattle.std.specs.Ordering.{ordering_then, eq_by_cmp}
 use Rattle.std.proofs.lemmas.Cmp.{lists_total}
 use Rattle.poly_cells.specs.Coordinates.{Coordinates, coordinates_cmp}
 use Rattle.poly_cells.specs.Sets.{IsExact}
-use Rattle.poly_cells.proofs.PlaceLemmas.{place_total, place_exact, place_ties}
-use Rattle.poly_texts.specs.Cells.{is_same}
+use Rattle.poly_cells.proofs.CoordinateLemmas.{coordinates_total, coordinates_exact, coordinates_ties}
+use Rattle.poly_cells.specs.CellTests.{is_same}
 use Rattle.poly_place.specs.Placements.{cells_cmp}
 
 pub cells_total : IsTotalOrder cells_cmp
-cells_total = lists_total place_total
+cells_total = lists_total coordinates_total
 
 then_equal : (a b : Ordering) → ordering_then a b ≡ Equal → (a ≡ Equal) × (b ≡ Equal)
 then_equal Less b h = cc
@@ -24,8 +24,8 @@ cells_exact [] (y ∷ ys) h = cc
 cells_exact (x ∷ xs) [] h = cc
 cells_exact (x ∷ xs) (y ∷ ys) h =
     let parts = then_equal (coordinates_cmp x y) (cells_cmp xs ys) h in
-    ap₂ (λ (v : Coordinates) (vs : List Coordinates). v ∷ vs) (place_exact x y parts.0) (cells_exact xs ys parts.1)
+    ap₂ (λ (v : Coordinates) (vs : List Coordinates). v ∷ vs) (coordinates_exact x y parts.0) (cells_exact xs ys parts.1)
 
 -- `==` of two sets agrees with the order
 pub cells_ties : (xs ys : List Coordinates) → pointwise is_same xs ys ≡ eq_by_cmp cells_cmp xs ys
-cells_ties = lists_ties coordinates_cmp place_ties
+cells_ties = lists_ties coordinates_cmp coordinates_ties

@@ -13,9 +13,11 @@ use Rattle.cover_problem.specs.Lists.{has}
 use Rattle.cover_problem.specs.Problem.{option_at}
 use Rattle.cover_problem.specs.ExactCover.{IsExactCover}
 use Rattle.poly_place.specs.Placements.{cells_cmp, placements}
-use Rattle.poly_place.specs.Packings.{Choice, choice, is_needed, must_fill, IsPlaced, IsPacking, is_useful, choices_of, choices, Thing, a_piece, a_cell, needed_things, item_of, things_of, option_of, compiled, choice_at, StandsFor, ArePackings}
+use Rattle.poly_place.specs.Packings.{ChoiceValue, choice, is_needed, must_fill, IsPlaced, IsPacking, is_useful, choices_of, choices, Thing, a_piece, a_cell, needed_things, item_of, things_of, option_of, packing_problem, choice_at, StandsFor, ArePackings}
 use Rattle.std.proofs.lemmas.Cmp.{tied_itself}
 use Rattle.poly_place.proofs.OrderLemmas.{cells_total, cells_exact}
+use Rattle.poly_place.specs.Chosen.{same_choice}
+use Rattle.poly_place.proofs.TestLemmas.{both_true, le_true, lt_true, true_le, true_lt}
 use Rattle.poly_place.proofs.MemberLemmas.{in_flat_map, in_from_flat_map}
 use Rattle.poly_place.proofs.PlacementLemmas.{sound, complete, placements_rise}
 use Rattle.poly_place.proofs.DistinctLemmas.{in_from_filter, in_filter, some_passes, passes_some, IsDistinct, distinct_append, distinct_filter, distinct_map, distinct_rising, distinct_names, at_of_in, distinct_at}
@@ -36,11 +38,11 @@ has_shapes p z = record {
 
 -- ---- what may be chosen is what is placed
 
-useful_from : (p : PuzzleValue) (c : Choice) → is_useful p c ≡ true → (is_needed p c.name ≡ true) ⊎ ((v : Coordinates) × IsIn v c.cells × (must_fill p v ≡ true))
+useful_from : (p : PuzzleValue) (c : ChoiceValue) → is_useful p c ≡ true → (is_needed p c.name ≡ true) ⊎ ((v : Coordinates) × IsIn v c.cells × (must_fill p v ≡ true))
 useful_from p c h =
     elim (or_cases (is_needed p c.name) (list_any (must_fill p) c.cells) h) [ inl l ↦ inl l | inr r ↦ inr (some_passes (must_fill p) c.cells r) ]
 
-from_useful : (p : PuzzleValue) (c : Choice) → (is_needed p c.name ≡ true) ⊎ ((v : Coordinates) × IsIn v c.cells × (must_fill p v ≡ true)) → is_useful p c ≡ true
+from_useful : (p : PuzzleValue) (c : ChoiceValue) → (is_needed p c.name ≡ true) ⊎ ((v : Coordinates) × IsIn v c.cells × (must_fill p v ≡ true)) → is_useful p c ≡ true
 from_useful p c h =
     elim h [
       | inl l ↦ or_left (is_needed p c.name) (list_any (must_fill p) c.cells) l
@@ -53,16 +55,16 @@ placed_from p s name piece set named i h =
     let found = sound piece p.region set (s.pieces (name, piece) named) i in
     record { piece = piece; named = named; rises = found.0; placed = found.1; useful = useful_from p (choice name set) h }
 
-pub placed_in : (p : PuzzleValue) → HasShapes p → (c : Choice) → IsIn c (choices p) → IsPlaced p c
+pub placed_in : (p : PuzzleValue) → HasShapes p → (c : ChoiceValue) → IsIn c (choices p) → IsPlaced p c
 unfolding choices
 placed_in p s c i =
     let n = in_from_flat_map (choices_of p) c p.pieces i in
     let kept = in_from_filter (is_useful p) c (map (choice (n.0.0)) (placements (n.0.1) p.region)) n.2 in
     let set = in_from_map (choice (n.0.0)) c (placements (n.0.1) p.region) kept.0 in
     subst (IsPlaced p) (sym set.2)
-    (placed_from p s n.0.0 n.0.1 set.0 n.1 set.1 (subst (λ (d : Choice). is_useful p d ≡ true) set.2 kept.1))
+    (placed_from p s n.0.0 n.0.1 set.0 n.1 set.1 (subst (λ (d : ChoiceValue). is_useful p d ≡ true) set.2 kept.1))
 
-pub in_placed : (p : PuzzleValue) → HasShapes p → (c : Choice) → IsPlaced p c → IsIn c (choices p)
+pub in_placed : (p : PuzzleValue) → HasShapes p → (c : ChoiceValue) → IsPlaced p c → IsIn c (choices p)
 unfolding choices
 in_placed p s c h =
     in_flat_map (choices_of p) c (c.name, h.piece) p.pieces h.named
@@ -72,19 +74,19 @@ in_placed p s c h =
 
 -- ---- no choice comes twice
 
-named_by : (p : PuzzleValue) (n : ℕ × List Coordinates) (c : Choice) → IsIn c (choices_of p n) → c.name ≡ n.0
+named_by : (p : PuzzleValue) (n : ℕ × List Coordinates) (c : ChoiceValue) → IsIn c (choices_of p n) → c.name ≡ n.0
 named_by p n c i =
     let kept = in_from_filter (is_useful p) c (map (choice (n.0)) (placements (n.1) p.region)) i in
     let set = in_from_map (choice (n.0)) c (placements (n.1) p.region) kept.0 in
-    ap (λ (d : Choice). d.name) set.2
+    ap (λ (d : ChoiceValue). d.name) set.2
 
-named_among : (p : PuzzleValue) (ns : List (ℕ × List Coordinates)) (c : Choice) → IsIn c (flat_map (choices_of p) ns) → IsIn c.name (names_of ns)
+named_among : (p : PuzzleValue) (ns : List (ℕ × List Coordinates)) (c : ChoiceValue) → IsIn c (flat_map (choices_of p) ns) → IsIn c.name (names_of ns)
 named_among p ns c i =
     let n = in_from_flat_map (choices_of p) c ns i in
     subst (λ (m : ℕ). IsIn m (names_of ns)) (sym (named_by p n.0 c n.2)) (in_map (λ (m : ℕ × List Coordinates). m.0) n.0 ns n.1)
 
 cells_same : (name : ℕ) (a b : List Coordinates) → choice name a ≡ choice name b → a ≡ b
-cells_same name a b e = ap (λ (c : Choice). c.cells) e
+cells_same name a b e = ap (λ (c : ChoiceValue). c.cells) e
 
 distinct_of : (p : PuzzleValue) (ns : List (ℕ × List Coordinates)) → IsDistinct (names_of ns) → IsDistinct (flat_map (choices_of p) ns)
 distinct_of p [] d = tt
@@ -101,8 +103,8 @@ choices_distinct p z = distinct_of p p.pieces (distinct_names (names_of p.pieces
 
 -- ---- options stand for choices
 
-option_is : (p : PuzzleValue) (o : ℕ) → 0 < o → o ≤ length (choices p) → option_at (compiled p) o ≡ option_of p (choice_at p o)
-unfolding compiled
+option_is : (p : PuzzleValue) (o : ℕ) → 0 < o → o ≤ length (choices p) → option_at (packing_problem p) o ≡ option_of p (choice_at p o)
+unfolding packing_problem
 option_is p o some within = get_or-map (option_of p) (choices p) (o - 1) (choice 0 []) [] (omega arith)
 
 pub chosen_in : (p : PuzzleValue) (o : ℕ) → 0 < o → o ≤ length (choices p) → IsIn (choice_at p o) (choices p)
@@ -111,7 +113,7 @@ chosen_in p o some within = in_at (choices p) (o - 1) (choice 0 []) (omega arith
 one_after : (k : ℕ) → k + 1 - 1 ≡ k
 one_after k = omega arith
 
-pub number_of_choice : (p : PuzzleValue) (c : Choice) → IsIn c (choices p) → (o : ℕ) × (0 < o) × (o ≤ length (choices p)) × (choice_at p o ≡ c)
+pub number_of_choice : (p : PuzzleValue) (c : ChoiceValue) → IsIn c (choices p) → (o : ℕ) × (0 < o) × (o ≤ length (choices p)) × (choice_at p o ≡ c)
 number_of_choice p c i =
     let at = at_of_in (choice 0 []) c (choices p) i in
     (at.0 + 1, omega arith, let w = at.1 in omega arith, ap (λ (k : ℕ). get_or (choices p) k (choice 0 [])) (one_after at.0) ∙ at.2)
@@ -121,32 +123,32 @@ same_number p z a b sa wa sb wb e =
     let same = distinct_at (choice 0 []) (choices p) (a - 1) (b - 1) (choices_distinct p z) (omega arith) (omega arith) e in
     omega (arith, same)
 
-holds : (p : PuzzleValue) (o : ℕ) (t : Thing) → 0 < o → o ≤ length (choices p) → IsIn t (things_of (choice_at p o)) → has (option_at (compiled p) o) (item_of p t) ≡ true
+holds : (p : PuzzleValue) (o : ℕ) (t : Thing) → 0 < o → o ≤ length (choices p) → IsIn t (things_of (choice_at p o)) → has (option_at (packing_problem p) o) (item_of p t) ≡ true
 holds p o t some within i =
     ap (λ (items : List ℕ). has items (item_of p t)) (option_is p o some within) ∙ has_item (item_of p) t (things_of (choice_at p o)) i
 
-held : (p : PuzzleValue) (o i : ℕ) → 0 < o → o ≤ length (choices p) → has (option_at (compiled p) o) i ≡ true → (t : Thing) × IsIn t (things_of (choice_at p o)) × (item_of p t ≡ i)
+held : (p : PuzzleValue) (o i : ℕ) → 0 < o → o ≤ length (choices p) → has (option_at (packing_problem p) o) i ≡ true → (t : Thing) × IsIn t (things_of (choice_at p o)) × (item_of p t ≡ i)
 held p o i some within h =
     thing_of_item (item_of p) i (things_of (choice_at p o)) (ap (λ (items : List ℕ). has items i) (sym (option_is p o some within)) ∙ h)
 
-primary_is : (p : PuzzleValue) → (compiled p).primary ≡ length (needed_things p)
-unfolding compiled
+primary_is : (p : PuzzleValue) → (packing_problem p).primary ≡ length (needed_things p)
+unfolding packing_problem
 primary_is p = refl
 
-count_is : (p : PuzzleValue) (o : ℕ) → o ≤ length (choices p) → o ≤ length ((compiled p).options)
-unfolding compiled
+count_is : (p : PuzzleValue) (o : ℕ) → o ≤ length (choices p) → o ≤ length ((packing_problem p).options)
+unfolding packing_problem
 count_is p o h = subst (λ (n : ℕ). o ≤ n) (sym (simp length-map)) h
 
 -- ---- the parts of a choice
 
-in_piece : (c : Choice) (name : ℕ) → IsIn (a_piece name) (things_of c) → c.name ≡ name
+in_piece : (c : ChoiceValue) (name : ℕ) → IsIn (a_piece name) (things_of c) → c.name ≡ name
 in_piece c name i =
     elim i [
       | inl e ↦ cc
       | inr r ↦ let v = in_from_map a_cell (a_piece name) c.cells r in let m = v.2 in cc
     ]
 
-in_cell : (c : Choice) (v : Coordinates) → IsIn (a_cell v) (things_of c) → IsIn v c.cells
+in_cell : (c : ChoiceValue) (v : Coordinates) → IsIn (a_cell v) (things_of c) → IsIn v c.cells
 in_cell c v i =
     elim i [
       | inl e ↦ cc
@@ -157,38 +159,38 @@ in_cell c v i =
     ]
 
 -- what is chosen, and the number of its option
-record IsNumbered (p : PuzzleValue) (set : ℕ → Bool) (c : Choice) : Type 0 where
+record IsNumbered (p : PuzzleValue) (set : ℕ → Bool) (c : ChoiceValue) : Type 0 where
   number : ℕ
   some : 0 < number
   within : number ≤ length (choices p)
   taken : set number ≡ true
   is : choice_at p number ≡ c
 
-module _ (p : PuzzleValue) (z : IsPuzzle p) (h : HasShapes p) (set : ℕ → Bool) (chosen : Choice → Bool) (s : StandsFor p set chosen) where
-  numbered : (c : Choice) → chosen c ≡ true → IsNumbered p set c
+module _ (p : PuzzleValue) (z : IsPuzzle p) (h : HasShapes p) (set : ℕ → Bool) (chosen : ChoiceValue → Bool) (s : StandsFor p set chosen) where
+  numbered : (c : ChoiceValue) → chosen c ≡ true → IsNumbered p set c
   numbered c k =
       let b = s.back c k in
       let f = s.forth b.0 b.1 in
       record { number = b.0; some = f.0; within = f.1; taken = b.1; is = b.2 }
 
-  placed_by : (c : Choice) → chosen c ≡ true → IsPlaced p c
+  placed_by : (c : ChoiceValue) → chosen c ≡ true → IsPlaced p c
   placed_by c k =
       let n = numbered c k in
-      placed_in p h c (subst (λ (d : Choice). IsIn d (choices p)) n.is (chosen_in p n.number n.some n.within))
+      placed_in p h c (subst (λ (d : ChoiceValue). IsIn d (choices p)) n.is (chosen_in p n.number n.some n.within))
 
-  part_of : (c : Choice) → chosen c ≡ true → (t : Thing) → IsIn t (things_of c) → (n : IsNumbered p set c) → has (option_at (compiled p) n.number) (item_of p t) ≡ true
-  part_of c k t i n = holds p n.number t n.some n.within (subst (λ (d : Choice). IsIn t (things_of d)) (sym n.is) i)
+  part_of : (c : ChoiceValue) → chosen c ≡ true → (t : Thing) → IsIn t (things_of c) → (n : IsNumbered p set c) → has (option_at (packing_problem p) n.number) (item_of p t) ≡ true
+  part_of c k t i n = holds p n.number t n.some n.within (subst (λ (d : ChoiceValue). IsIn t (things_of d)) (sym n.is) i)
 
   -- ---- an exact cover is a packing
 
-  shared : IsExactCover (compiled p) set → (t : Thing) (c d : Choice) → chosen c ≡ true → chosen d ≡ true → IsIn t (things_of c) → IsIn t (things_of d) → c ≡ d
+  shared : IsExactCover (packing_problem p) set → (t : Thing) (c d : ChoiceValue) → chosen c ≡ true → chosen d ≡ true → IsIn t (things_of c) → IsIn t (things_of d) → c ≡ d
   shared e t c d k l i j =
       let m = numbered c k in
       let n = numbered d l in
       let same = e.once (item_of p t) m.number n.number m.taken n.taken (part_of c k t i m) (part_of d l t j n) in
       sym m.is ∙ ap (choice_at p) same ∙ n.is
 
-  met : IsExactCover (compiled p) set → (t : Thing) → IsIn t (needed_things p) → (c : Choice) × (chosen c ≡ true) × IsIn t (things_of c)
+  met : IsExactCover (packing_problem p) set → (t : Thing) → IsIn t (needed_things p) → (c : ChoiceValue) × (chosen c ≡ true) × IsIn t (things_of c)
   met e t i =
       let o = e.covers (item_of p t) (item_positive p t) (subst (λ (n : ℕ). item_of p t ≤ n) (sym (primary_is p)) (item_needed p t i)) in
       let f = s.forth o.0 o.1 in
@@ -196,7 +198,7 @@ module _ (p : PuzzleValue) (z : IsPuzzle p) (h : HasShapes p) (set : ℕ → Boo
       let same = item_same p u.0 t (parts_in p (choice_at p o.0) (placed_by (choice_at p o.0) f.2) u.0 u.1) (needed_in p t i) u.2 in
       (choice_at p o.0, f.2, subst (λ (w : Thing). IsIn w (things_of (choice_at p o.0))) same u.1)
 
-  pub cover_packs : IsExactCover (compiled p) set → IsPacking p chosen
+  pub cover_packs : IsExactCover (packing_problem p) set → IsPacking p chosen
   cover_packs e = record {
     placed = placed_by;
     once = λ c d k l same. shared e (a_piece c.name) c d k l (inl refl) (inl (ap a_piece same));
@@ -207,11 +209,11 @@ module _ (p : PuzzleValue) (z : IsPuzzle p) (h : HasShapes p) (set : ℕ → Boo
 
   -- ---- a packing is an exact cover
 
-  alone : IsPacking p chosen → (t : Thing) (c d : Choice) → chosen c ≡ true → chosen d ≡ true → IsIn t (things_of c) → IsIn t (things_of d) → c ≡ d
+  alone : IsPacking p chosen → (t : Thing) (c d : ChoiceValue) → chosen c ≡ true → chosen d ≡ true → IsIn t (things_of c) → IsIn t (things_of d) → c ≡ d
   alone k (a_piece name) c d q r i j = k.once c d q r (in_piece c name i ∙ sym (in_piece d name j))
   alone k (a_cell v) c d q r i j = k.apart v c d q r (in_cell c v i) (in_cell d v j)
 
-  reaches : IsPacking p chosen → (t : Thing) → IsIn t (needed_things p) → (c : Choice) × (chosen c ≡ true) × IsIn t (things_of c)
+  reaches : IsPacking p chosen → (t : Thing) → IsIn t (needed_things p) → (c : ChoiceValue) × (chosen c ≡ true) × IsIn t (things_of c)
   reaches k t i =
       elim (needed_cases p t i) [
         | inl n ↦
@@ -222,14 +224,14 @@ module _ (p : PuzzleValue) (z : IsPuzzle p) (h : HasShapes p) (set : ℕ → Boo
             (c.0, c.1, inr (subst (λ (w : Thing). IsIn w (map a_cell c.0.cells)) (sym m.1) (in_map a_cell m.0 c.0.cells c.2)))
       ]
 
-  covered : IsPacking p chosen → (i : ℕ) → 0 < i → i ≤ length (needed_things p) → (o : ℕ) × (set o ≡ true) × (has (option_at (compiled p) o) i ≡ true)
+  covered : IsPacking p chosen → (i : ℕ) → 0 < i → i ≤ length (needed_things p) → (o : ℕ) × (set o ≡ true) × (has (option_at (packing_problem p) o) i ≡ true)
   covered k i some within =
       let t = needed_at p z i some within in
       let c = reaches k t.0 t.1 in
       let n = numbered c.0 c.1 in
-      (n.number, n.taken, subst (λ (j : ℕ). has (option_at (compiled p) n.number) j ≡ true) t.2 (part_of c.0 c.1 t.0 c.2 n))
+      (n.number, n.taken, subst (λ (j : ℕ). has (option_at (packing_problem p) n.number) j ≡ true) t.2 (part_of c.0 c.1 t.0 c.2 n))
 
-  once_only : IsPacking p chosen → (i a b : ℕ) → set a ≡ true → set b ≡ true → has (option_at (compiled p) a) i ≡ true → has (option_at (compiled p) b) i ≡ true → a ≡ b
+  once_only : IsPacking p chosen → (i a b : ℕ) → set a ≡ true → set b ≡ true → has (option_at (packing_problem p) a) i ≡ true → has (option_at (packing_problem p) b) i ≡ true → a ≡ b
   once_only k i a b q r ha hb =
       let fa = s.forth a q in
       let fb = s.forth b r in
@@ -239,14 +241,14 @@ module _ (p : PuzzleValue) (z : IsPuzzle p) (h : HasShapes p) (set : ℕ → Boo
       same_number p z a b fa.0 fa.1 fb.0 fb.1
       (alone k tb.0 (choice_at p a) (choice_at p b) fa.2 fb.2 (subst (λ (w : Thing). IsIn w (things_of (choice_at p a))) same ta.1) tb.1)
 
-  needed_part : (c : Choice) → IsPlaced p c → (t : Thing) × IsIn t (needed_things p) × IsIn t (things_of c)
+  needed_part : (c : ChoiceValue) → IsPlaced p c → (t : Thing) × IsIn t (needed_things p) × IsIn t (things_of c)
   needed_part c q =
       elim q.useful [
         | inl n ↦ (a_piece c.name, needed_piece p c.name (in_map (λ (m : ℕ × List Coordinates). m.0) (c.name, q.piece) p.pieces q.named) n, inl refl)
         | inr v ↦ (a_cell v.0, needed_cell p v.0 v.2, inr (in_map a_cell v.0 c.cells v.1))
       ]
 
-  pub packing_covers : IsPacking p chosen → IsExactCover (compiled p) set
+  pub packing_covers : IsPacking p chosen → IsExactCover (packing_problem p) set
   packing_covers k = record {
     options = λ o q. let f = s.forth o q in (f.0, count_is p o f.1);
     covers = λ i some within. covered k i some (subst (λ (n : ℕ). i ≤ n) (primary_is p) within);
@@ -259,18 +261,13 @@ module _ (p : PuzzleValue) (z : IsPuzzle p) (h : HasShapes p) (set : ℕ → Boo
 
 -- ---- one for one
 
-both_true : (a b : Bool) → (a ≡ true → b ≡ true) → (b ≡ true → a ≡ true) → a ≡ b
-both_true true b f g = sym (f refl)
-both_true false true f g = g refl
-both_true false false f g = refl
-
-pub one_packing : (p : PuzzleValue) (set : ℕ → Bool) (chosen other : Choice → Bool) → StandsFor p set chosen → StandsFor p set other → (c : Choice) → chosen c ≡ other c
+pub one_packing : (p : PuzzleValue) (set : ℕ → Bool) (chosen other : ChoiceValue → Bool) → StandsFor p set chosen → StandsFor p set other → (c : ChoiceValue) → chosen c ≡ other c
 one_packing p set chosen other s t c = both_true (chosen c) (other c) (to chosen other s t) (to other chosen t s)
   where
-    to : (f g : Choice → Bool) → StandsFor p set f → StandsFor p set g → f c ≡ true → g c ≡ true
-    to f g q r k = let b = q.back c k in subst (λ (d : Choice). g d ≡ true) b.2 (r.forth b.0 b.1).2
+    to : (f g : ChoiceValue → Bool) → StandsFor p set f → StandsFor p set g → f c ≡ true → g c ≡ true
+    to f g q r k = let b = q.back c k in subst (λ (d : ChoiceValue). g d ≡ true) b.2 (r.forth b.0 b.1).2
 
-pub one_cover : (p : PuzzleValue) → IsPuzzle p → (set other : ℕ → Bool) (chosen : Choice → Bool) → StandsFor p set chosen → StandsFor p other chosen → (o : ℕ) → set o ≡ other o
+pub one_cover : (p : PuzzleValue) → IsPuzzle p → (set other : ℕ → Bool) (chosen : ChoiceValue → Bool) → StandsFor p set chosen → StandsFor p other chosen → (o : ℕ) → set o ≡ other o
 one_cover p z set other chosen s t o = both_true (set o) (other o) (to set other s t) (to other set t s)
   where
     to : (f g : ℕ → Bool) → StandsFor p f chosen → StandsFor p g chosen → f o ≡ true → g o ≡ true
@@ -282,22 +279,17 @@ one_cover p z set other chosen s t o = both_true (set o) (other o) (to set other
 
 -- ---- a packing for each exact cover
 
-same_choice : Choice → Choice → Bool
-same_choice c d = (c.name == d.name) && is_eq (cells_cmp c.cells d.cells)
-
 is_equal : (o : Ordering) → is_eq o ≡ true → o ≡ Equal
 is_equal Less h = cc
 is_equal Equal h = refl
 is_equal Greater h = cc
 
-same_choice_is : (c d : Choice) → same_choice c d ≡ true → c ≡ d
-unfolding same_choice
+pub same_choice_is : (c d : ChoiceValue) → same_choice c d ≡ true → c ≡ d
 same_choice_is c d h =
     let parts = and_parts (c.name == d.name) (is_eq (cells_cmp c.cells d.cells)) h in
     ap₂ choice (eqb-true c.name d.name parts.0) (cells_exact c.cells d.cells (is_equal (cells_cmp c.cells d.cells) parts.1))
 
-same_choice_itself : (c : Choice) → same_choice c c ≡ true
-unfolding same_choice
+pub same_choice_itself : (c : ChoiceValue) → same_choice c c ≡ true
 same_choice_itself c = and_from (c.name == c.name) (is_eq (cells_cmp c.cells c.cells)) (eq-eqb c.name c.name refl) (ap is_eq (tied_itself cells_total c.cells))
 
 -- the numbers from n down to 1
@@ -314,22 +306,22 @@ in_up_to zero o some within = absurd (omega arith)
 in_up_to (suc n) o some within = elim (last_or_before o n within) [ inl e ↦ inl e | inr r ↦ inr (in_up_to n o some r) ]
 
 -- the option is taken and stands for the choice
-takes : PuzzleValue → (ℕ → Bool) → Choice → ℕ → Bool
+takes : PuzzleValue → (ℕ → Bool) → ChoiceValue → ℕ → Bool
 takes p set c o = set o && same_choice (choice_at p o) c
 
-chosen_by : PuzzleValue → (ℕ → Bool) → Choice → Bool
-chosen_by p set c = list_any (takes p set c) (up_to (length (choices p)))
+is_chosen_by : PuzzleValue → (ℕ → Bool) → ChoiceValue → Bool
+is_chosen_by p set c = list_any (takes p set c) (up_to (length (choices p)))
 
-count_back : (p : PuzzleValue) (o : ℕ) → o ≤ length ((compiled p).options) → o ≤ length (choices p)
-unfolding compiled
+pub count_back : (p : PuzzleValue) (o : ℕ) → o ≤ length ((packing_problem p).options) → o ≤ length (choices p)
+unfolding packing_problem
 count_back p o h =
     let same : length (map (option_of p) (choices p)) ≡ length (choices p) = simp length-map in
     subst (λ (n : ℕ). o ≤ n) same h
 
-pub some_packing : (p : PuzzleValue) (set : ℕ → Bool) → IsExactCover (compiled p) set → (chosen : Choice → Bool) × StandsFor p set chosen
-unfolding takes chosen_by
+pub some_packing : (p : PuzzleValue) (set : ℕ → Bool) → IsExactCover (packing_problem p) set → (chosen : ChoiceValue → Bool) × StandsFor p set chosen
+unfolding takes is_chosen_by
 some_packing p set e = (
-  chosen_by p set,
+  is_chosen_by p set,
   record {
     forth = λ o k.
         let at = e.options o k in
@@ -348,22 +340,10 @@ some_packing p set e = (
 
 -- ---- an exact cover for each packing
 
-taken_by : PuzzleValue → (Choice → Bool) → ℕ → Bool
+taken_by : PuzzleValue → (ChoiceValue → Bool) → ℕ → Bool
 taken_by p chosen o = nat_lt 0 o && (nat_le o (length (choices p)) && chosen (choice_at p o))
 
-lt_true : (m n : ℕ) → nat_lt m n ≡ true → m < n
-lt_true m n h = grind (arith, nat_tests)
-
-true_lt : (m n : ℕ) → m < n → nat_lt m n ≡ true
-true_lt m n h = grind (arith, nat_tests)
-
-le_true : (m n : ℕ) → nat_le m n ≡ true → m ≤ n
-le_true m n h = grind (arith, nat_tests)
-
-true_le : (m n : ℕ) → m ≤ n → nat_le m n ≡ true
-true_le m n h = grind (arith, nat_tests)
-
-pub some_cover : (p : PuzzleValue) → HasShapes p → (chosen : Choice → Bool) → IsPacking p chosen → (set : ℕ → Bool) × StandsFor p set chosen
+pub some_cover : (p : PuzzleValue) → HasShapes p → (chosen : ChoiceValue → Bool) → IsPacking p chosen → (set : ℕ → Bool) × StandsFor p set chosen
 unfolding taken_by
 some_cover p h chosen k = (
   taken_by p chosen,
@@ -377,7 +357,7 @@ some_cover p h chosen k = (
           o.0,
           and_from (nat_lt 0 o.0) (nat_le o.0 (length (choices p)) && chosen (choice_at p o.0)) (true_lt 0 o.0 o.1)
               (and_from (nat_le o.0 (length (choices p))) (chosen (choice_at p o.0)) (true_le o.0 (length (choices p)) o.2)
-              (subst (λ (d : Choice). chosen d ≡ true) (sym o.3) t)),
+              (subst (λ (d : ChoiceValue). chosen d ≡ true) (sym o.3) t)),
           o.3,
         );
   },

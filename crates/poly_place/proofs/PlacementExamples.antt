@@ -4,7 +4,7 @@ use Rattle.poly_cells.specs.Coordinates.{Coordinates, coordinates}
 use Rattle.poly_cells.specs.Symmetries.{matrix, is_rotation, rotations}
 use Rattle.poly_cells.specs.Sets.{in_order}
 use Rattle.poly_cells.specs.Shapes.{normal, turned}
-use Rattle.poly_texts.specs.Cells.{has_cell}
+use Rattle.poly_cells.specs.CellTests.{has_cell}
 use Rattle.poly_place.specs.Placements.{cells_cmp, at_cell, orientations, placements}
 use Rattle.poly_place.specs.Tables.{has_bit}
 

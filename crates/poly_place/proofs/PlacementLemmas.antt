@@ -13,11 +13,11 @@ use Rattle.poly_cells.specs.Images.{IsImage}
 use Rattle.poly_cells.proofs.SetLemmas.{in_map, in_from_map, in_order_rises, in_from_order, in_to_order}
 use Rattle.poly_cells.proofs.ImageLemmas.{turned_is, some_from_in, in_from_some}
 use Rattle.poly_cells.proofs.ShapeLemmas.{turned_is_shape}
-use Rattle.poly_texts.specs.Cells.{has_cell}
+use Rattle.poly_cells.proofs.CellTestLemmas.{in_from_has, has_from_in}
+use Rattle.poly_cells.specs.CellTests.{has_cell}
 use Rattle.poly_place.specs.Placements.{cells_cmp, IsPlacement, ArePlacements, is_below, if_inside, at_cell, at_cells, orientations, placements}
 use Rattle.poly_place.specs.Tables.{has_bit, IsTable}
 use Rattle.poly_place.proofs.OrderLemmas.{cells_total, cells_exact}
-use Rattle.poly_texts.proofs.MemberLemmas.{in_from_has, has_from_in}
 use Rattle.poly_place.proofs.MemberLemmas.{in_flat_map, in_from_flat_map, in_cond, in_from_cond, all_pass, passes}
 use Rattle.poly_place.proofs.WalkLemmas.{at_cells_same}
 use Rattle.poly_place.proofs.MoveLemmas.{moved_rises, moved_image, moved_by, is_moved}

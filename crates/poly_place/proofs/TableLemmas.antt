@@ -6,8 +6,9 @@ use Rattle.std.proofs.lemmas.Bool.Decides.{nat_tests}
 use Rattle.std.proofs.lemmas.List.{take_more, take_all, take-append-le, get_or-set_same, get_or-set_other}
 use Rattle.std.proofs.lemmas.List.Folds.{list_any-append}
 use Rattle.poly_cells.specs.Coordinates.{Coordinates, IsInGrid}
-use Rattle.poly_cells.proofs.PlaceLemmas.{same_place, same_place_Decides}
-use Rattle.poly_texts.specs.Cells.{is_same, has_cell}
+use Rattle.poly_cells.proofs.CoordinateLemmas.{same_coordinates, is_same_Decides}
+use Rattle.poly_cells.specs.CellTests.{is_same, has_cell}
+use Rattle.poly_place.proofs.TestLemmas.{le_true, true_le}
 use Rattle.poly_place.specs.Tables.{bit_index, has_bit, IsTable}
 
 -- ---- the place of a bit tells the cell
@@ -26,15 +27,9 @@ bit_index_same v w h g e =
     let x = same_x v.x v.y v.z w.x w.y w.z h.y_in h.z_in g.y_in g.z_in e in
     let low_parts : 32 * v.y + v.z ≡ 32 * w.y + w.z = omega (arith, x, e) in
     let y = same_y v.y v.z w.y w.z h.z_in g.z_in low_parts in
-    same_place v.x v.y v.z w.x w.y w.z x y (omega (arith, y, low_parts))
+    same_coordinates v.x v.y v.z w.x w.y w.z x y (omega (arith, y, low_parts))
 
 -- ---- tests
-
-le_true : (m n : ℕ) → nat_le m n ≡ true → m ≤ n
-le_true m n h = grind (arith, nat_tests)
-
-true_le : (m n : ℕ) → m ≤ n → nat_le m n ≡ true
-true_le m n h = grind (arith, nat_tests)
 
 and_under : (b x y : Bool) → (b ≡ true → x ≡ y) → b && x ≡ b && y
 and_under true x y h = h refl
@@ -82,18 +77,18 @@ bit_more bits v c h long =
     let new = slice_set bits (bit_index v) true in
     elim (bool_cases (is_same c v)) [
       | inl t ↦
-          let e : c ≡ v = (same_place_Decides c v).0 t in
+          let e : c ≡ v = (is_same_Decides c v).0 t in
           let lt : bit_index v < length bits = let b = low v h in omega arith in
           let at : slice_index_or new (bit_index c) false ≡ true =
           ap (λ (w : Coordinates). slice_index_or new (bit_index w) false) e ∙ get_or-set_same bits (bit_index v) true false lt in
           true_bit new c (subst IsInGrid (sym e) h) at ∙ or_true (has_bit bits c) (is_same c v) t
       | inr f ↦
           alike bits new c (λ g. get_or-set_other bits (bit_index v) (bit_index c) true false
-          (λ e. let t = (same_place_Decides c v).1 (bit_index_same c v g h e) in cc))
+          (λ e. let t = (is_same_Decides c v).1 (bit_index_same c v g h e) in cc))
           ∙ or_false (has_bit bits c) (is_same c v) f
     ]
 
-cell_more : (region : List Coordinates) (v c : Coordinates) → has_cell (region ++ v ∷ []) c ≡ has_cell region c || is_same c v
+pub cell_more : (region : List Coordinates) (v c : Coordinates) → has_cell (region ++ v ∷ []) c ≡ has_cell region c || is_same c v
 cell_more region v c = list_any-append (is_same c) region (v ∷ []) ∙ ap (λ b. has_cell region c || b) (single (is_same c v)) where
   single : (b : Bool) → b || false ≡ b
   single true = refl

@@ -3,26 +3,26 @@ use Rattle.std.proofs.Common.{◌≡◌, ℕ, suc, ◌+◌, ◌-◌, ◌<◌, �
 use Rattle.std.proofs.lemmas.Bool.{and_from}
 use Rattle.poly_cells.specs.Coordinates.{Coordinates}
 use Rattle.poly_cells.specs.Sets.{IsIn}
-use Rattle.poly_cells.proofs.PlaceLemmas.{same_place_Decides, place_total}
+use Rattle.poly_cells.proofs.CoordinateLemmas.{is_same_Decides, coordinates_total}
 use Rattle.poly_cells.proofs.SetLemmas.{in_append_left, in_append_right, in_append_cases, in_map, in_from_map, in_at}
-use Rattle.poly_texts.specs.Cells.{has_cell}
+use Rattle.poly_cells.proofs.CellTestLemmas.{in_from_has, has_from_in}
+use Rattle.poly_cells.specs.CellTests.{has_cell}
 use Rattle.poly_texts.specs.Puzzle.{PuzzleValue, IsPuzzle, names_of, has_name}
-use Rattle.poly_texts.proofs.MemberLemmas.{in_from_has, has_from_in}
 use Rattle.cover_problem.specs.Lists.{has}
-use Rattle.poly_place.specs.Packings.{Choice, is_needed, must_fill, IsPlaced, Thing, a_piece, a_cell, same_thing, needed_things, things, index_among, item_of, things_of}
+use Rattle.poly_place.specs.Packings.{ChoiceValue, is_needed, must_fill, IsPlaced, Thing, a_piece, a_cell, same_thing, needed_things, things, index_among, item_of, things_of}
 use Rattle.poly_place.proofs.DistinctLemmas.{in_from_filter, in_filter, some_passes, passes_some, in_from_name, IsDistinct, distinct_append, distinct_filter, distinct_map, distinct_rising, distinct_names, distinct_at}
 
 -- ---- the test
 
 pub same_is : (a b : Thing) → same_thing a b ≡ true → a ≡ b
 same_is (a_piece m) (a_piece n) h = ap a_piece (eqb-true m n h)
-same_is (a_cell v) (a_cell w) h = ap a_cell ((same_place_Decides v w).0 h)
+same_is (a_cell v) (a_cell w) h = ap a_cell ((is_same_Decides v w).0 h)
 same_is (a_piece m) (a_cell w) h = cc
 same_is (a_cell v) (a_piece n) h = cc
 
 pub same_itself : (a : Thing) → same_thing a a ≡ true
 same_itself (a_piece m) = eq-eqb m m refl
-same_itself (a_cell v) = (same_place_Decides v v).1 refl
+same_itself (a_cell v) = (is_same_Decides v v).1 refl
 
 -- ---- places
 
@@ -130,7 +130,7 @@ pub needed_distinct : (p : PuzzleValue) → IsPuzzle p → IsDistinct (needed_th
 needed_distinct p z =
     distinct_append (map a_piece (filter (is_needed p) (names_of p.pieces))) (map a_cell (filter (must_fill p) p.region))
     (distinct_map a_piece (filter (is_needed p) (names_of p.pieces)) (λ a b e. cc) (distinct_filter (is_needed p) (names_of p.pieces) (distinct_names (names_of p.pieces) z.new)))
-    (distinct_map a_cell (filter (must_fill p) p.region) (λ a b e. cc) (distinct_filter (must_fill p) p.region (distinct_rising place_total p.region z.rises)))
+    (distinct_map a_cell (filter (must_fill p) p.region) (λ a b e. cc) (distinct_filter (must_fill p) p.region (distinct_rising coordinates_total p.region z.rises)))
     (λ t i j.
     let name = in_from_map a_piece t (filter (is_needed p) (names_of p.pieces)) i in
     let v = in_from_map a_cell t (filter (must_fill p) p.region) j in
@@ -177,7 +177,7 @@ cell_in p v i =
           (needed_cell p v (and_from (has_cell p.region v) (not (has_cell p.maybe_cells v)) (has_from_in p.region v i) (not_false (has_cell p.maybe_cells v) h)))
     ]
 
-pub parts_in : (p : PuzzleValue) (c : Choice) → IsPlaced p c → (t : Thing) → IsIn t (things_of c) → IsIn t (things p)
+pub parts_in : (p : PuzzleValue) (c : ChoiceValue) → IsPlaced p c → (t : Thing) → IsIn t (things_of c) → IsIn t (things p)
 parts_in p c h t i =
     elim i [
       | inl e ↦ subst (λ (u : Thing). IsIn u (things p)) (sym e) (piece_in p c.name (in_map (λ (n : ℕ × List Coordinates). n.0) (c.name, h.piece) p.pieces h.named))

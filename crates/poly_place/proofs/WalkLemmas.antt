@@ -8,7 +8,7 @@ use Rattle.poly_cells.specs.Coordinates.{Coordinates, coordinates, IsInGrid}
 use Rattle.poly_cells.specs.Symmetries.{rotations}
 use Rattle.poly_cells.specs.Sets.{IsIn, in_order}
 use Rattle.poly_cells.specs.Shapes.{moved, moved_back, turned}
-use Rattle.poly_cells.proofs.PlaceLemmas.{same_place}
+use Rattle.poly_cells.proofs.CoordinateLemmas.{same_coordinates}
 use Rattle.poly_cells.proofs.SetLemmas.{in_map, in_at}
 use Rattle.poly_cells.proofs.GroupLemmas.{are_rotations}
 use Rattle.poly_place.specs.Placements.{cells_cmp, at_cell, at_cells, is_below, orientations}
@@ -23,7 +23,7 @@ pub item_in : {X : Type 0} (xs : List X) (i : ℕ) (x : X) → i < length xs →
 item_in {X} xs i x lt is = subst (λ (y : X). IsIn y xs) (sym is) (in_at xs i x lt)
 
 pub sum_cell : (v d : Coordinates) (x y z a b c : ℕ) → x ≡ v.x → y ≡ v.y → z ≡ v.z → a ≡ d.x → b ≡ d.y → c ≡ d.z → coordinates (x + a) (y + b) (z + c) ≡ moved d v
-sum_cell v d x y z a b c p q r s t u = same_place _ _ _ _ _ _ (ap₂ (λ m n. m + n) p s) (ap₂ (λ m n. m + n) q t) (ap₂ (λ m n. m + n) r u)
+sum_cell v d x y z a b c p q r s t u = same_coordinates _ _ _ _ _ _ (ap₂ (λ m n. m + n) p s) (ap₂ (λ m n. m + n) q t) (ap₂ (λ m n. m + n) r u)
 
 pub one_outside : (test : Coordinates → Bool) (d : Coordinates) (vs : List Coordinates) (i : ℕ) (v : Coordinates) → i < length vs → v ≡ get_or vs i v → test (moved d v) ≡ false → false ≡ list_all test (map (moved d) vs)
 one_outside test d vs i v lt is h =

@@ -1,24 +1,11 @@
--- What is kept of a puzzle beside its problem, how its items are numbered, and when there is room for its options.
+-- How the items of a puzzle's problem are numbered, and when there is room for its options.
 use Rattle.std.specs.Prelude.{◌≡◌, ℕ, ◌+◌, nat_le, Bool, ◌&&◌, List, [], ◌∷◌, map, filter, length, sum_by, slice_index_or, slice_set}
-use Rattle.std.specs.List.{list_any}
 use Rattle.poly_cells.specs.Coordinates.{Coordinates}
 use Rattle.poly_cells.specs.Sets.{IsIn}
 use Rattle.poly_texts.specs.Puzzle.{PuzzleValue, names_of}
 use Rattle.cover_problem.specs.declared.limits.TheConstants.{MOST_OPTIONS, MOST_ENTRIES}
-use Rattle.cover_problem.specs.Problem.{ProblemValue}
-use Rattle.poly_place.specs.Packings.{compiled, is_needed, must_fill, a_cell, item_of}
+use Rattle.poly_place.specs.Packings.{ChoiceValue, is_needed, must_fill, a_cell, item_of}
 use Rattle.poly_place.specs.Tables.{bit_index}
-
--- the problem, the region, the names of the pieces that may be left out, and the cells that may stay empty
-pub record CompiledValue : Type 0 where
-  pub problem : ProblemValue
-  pub region : List Coordinates
-  pub maybe_pieces : List ℕ
-  pub maybe_cells : List Coordinates
-
--- what is made of a puzzle
-abbrev pub compiled_value : PuzzleValue → CompiledValue
-compiled_value p = record { problem = compiled p; region = p.region; maybe_pieces = p.maybe_pieces; maybe_cells = p.maybe_cells }
 
 -- ---- items
 
@@ -50,18 +37,12 @@ pub record AreNumbers (p : PuzzleValue) (numbers : List ℕ) : Type 0 where
 abbrev pub option_by : List ℕ → ℕ → List Coordinates → List ℕ
 option_by numbers item cells = item ∷ map (number_at numbers) cells
 
--- one of the first items is in the option
-abbrev pub has_primary : ℕ → List ℕ → Bool
-has_primary primary option = list_any (λ n. nat_le n primary) option
+-- ---- room
 
--- the options of a piece by the table: those with one of the first items
-abbrev pub options_by : ℕ → List ℕ → ℕ → List (List Coordinates) → List (List ℕ)
-options_by primary numbers item sets = filter (has_primary primary) (map (option_by numbers item) sets)
+-- the entries that the options of these choices take: a node for the piece, one for each cell, and a spacer
+abbrev pub entries_of : List ChoiceValue → ℕ
+entries_of cs = sum_by (λ c. length c.cells + 2) cs
 
--- the nodes of the options, and a spacer for each
-abbrev pub entries_of : List (List ℕ) → ℕ
-entries_of options = sum_by length options + length options
-
--- there is room for this many items and these options
-abbrev pub is_within : ℕ → List (List ℕ) → Bool
-is_within items options = nat_le (length options) MOST_OPTIONS && nat_le (items + entries_of options + 2) MOST_ENTRIES
+-- there is room for this many items and the options of these choices
+abbrev pub is_within : ℕ → List ChoiceValue → Bool
+is_within items cs = nat_le (length cs) MOST_OPTIONS && nat_le (items + entries_of cs + 2) MOST_ENTRIES

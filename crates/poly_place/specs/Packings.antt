@@ -9,20 +9,20 @@ use Rattle.std.specs.List.{list_any}
 use Rattle.std.specs.List.Sorted.{IsStrictlySortedBy}
 use Rattle.poly_cells.specs.Coordinates.{Coordinates, coordinates_cmp}
 use Rattle.poly_cells.specs.Sets.{IsIn}
-use Rattle.poly_texts.specs.Cells.{is_same, has_cell}
+use Rattle.poly_cells.specs.CellTests.{is_same, has_cell}
+use Rattle.poly_cells.specs.CellWords.{cell_word}
 use Rattle.poly_texts.specs.Puzzle.{PuzzleValue, IsPuzzle, names_of, has_name}
-use Rattle.poly_texts.specs.Grammar.{cell_word}
 use Rattle.cover_problem.specs.Problem.{ProblemValue}
 use Rattle.cover_problem.specs.ExactCover.{IsExactCover}
 use Rattle.poly_place.specs.Placements.{IsPlacement, placements}
 
 -- a piece's name, and a set of cells for it
-pub record Choice : Type 0 where
+pub record ChoiceValue : Type 0 where
   pub name : ℕ
   pub cells : List Coordinates
 
 -- the choice of these cells for the piece with this name
-abbrev pub choice : ℕ → List Coordinates → Choice
+abbrev pub choice : ℕ → List Coordinates → ChoiceValue
 choice name cells = record { name = name; cells = cells }
 
 -- the piece may not be left out
@@ -34,7 +34,7 @@ abbrev pub must_fill : PuzzleValue → Coordinates → Bool
 must_fill p v = has_cell p.region v && not (has_cell p.maybe_cells v)
 
 -- the cells are a placement of the piece, which is required or fills one of the cells that have to be filled
-pub record IsPlaced (p : PuzzleValue) (c : Choice) : Type 0 where
+pub record IsPlaced (p : PuzzleValue) (c : ChoiceValue) : Type 0 where
   pub piece : List Coordinates
   pub named : IsIn (c.name, piece) p.pieces
   pub rises : IsStrictlySortedBy coordinates_cmp c.cells
@@ -43,25 +43,25 @@ pub record IsPlaced (p : PuzzleValue) (c : Choice) : Type 0 where
 
 -- some pieces, the required ones among them, each in one placement, which fill each required cell and meet nowhere;
 -- given as a test on choices
-pub record IsPacking (p : PuzzleValue) (chosen : Choice → Bool) : Type 0 where
-  pub placed : (c : Choice) → chosen c ≡ true → IsPlaced p c
-  pub once : (c d : Choice) → chosen c ≡ true → chosen d ≡ true → c.name ≡ d.name → c ≡ d
-  pub used : (name : ℕ) → IsIn name (names_of p.pieces) → is_needed p name ≡ true → (c : Choice) × (chosen c ≡ true) × (c.name ≡ name)
-  pub filled : (v : Coordinates) → must_fill p v ≡ true → (c : Choice) × (chosen c ≡ true) × IsIn v c.cells
-  pub apart : (v : Coordinates) (c d : Choice) → chosen c ≡ true → chosen d ≡ true → IsIn v c.cells → IsIn v d.cells → c ≡ d
+pub record IsPacking (p : PuzzleValue) (chosen : ChoiceValue → Bool) : Type 0 where
+  pub placed : (c : ChoiceValue) → chosen c ≡ true → IsPlaced p c
+  pub once : (c d : ChoiceValue) → chosen c ≡ true → chosen d ≡ true → c.name ≡ d.name → c ≡ d
+  pub used : (name : ℕ) → IsIn name (names_of p.pieces) → is_needed p name ≡ true → (c : ChoiceValue) × (chosen c ≡ true) × (c.name ≡ name)
+  pub filled : (v : Coordinates) → must_fill p v ≡ true → (c : ChoiceValue) × (chosen c ≡ true) × IsIn v c.cells
+  pub apart : (v : Coordinates) (c d : ChoiceValue) → chosen c ≡ true → chosen d ≡ true → IsIn v c.cells → IsIn v d.cells → c ≡ d
 
 -- ---- the problem
 
 -- the piece is required, or a cell that has to be filled is one of these
-abbrev pub is_useful : PuzzleValue → Choice → Bool
+abbrev pub is_useful : PuzzleValue → ChoiceValue → Bool
 is_useful p c = is_needed p c.name || list_any (must_fill p) c.cells
 
 -- what may be chosen for a piece, in the order of its placements
-abbrev pub choices_of : PuzzleValue → ℕ × List Coordinates → List Choice
+abbrev pub choices_of : PuzzleValue → ℕ × List Coordinates → List ChoiceValue
 choices_of p named = filter (is_useful p) (map (choice (named.0)) (placements (named.1) p.region))
 
 -- what may be chosen, piece by piece
-unfoldable pub choices : PuzzleValue → List Choice
+unfoldable pub choices : PuzzleValue → List ChoiceValue
 choices p = flat_map (choices_of p) p.pieces
 
 -- what an item stands for: a piece, by its name, or a cell
@@ -94,11 +94,11 @@ unfoldable pub item_of : PuzzleValue → Thing → ℕ
 item_of p t = index_among t (things p) + 1
 
 -- the piece, and then its cells in order
-abbrev pub things_of : Choice → List Thing
+abbrev pub things_of : ChoiceValue → List Thing
 things_of c = a_piece c.name ∷ map a_cell c.cells
 
 -- the option that stands for the choice
-abbrev pub option_of : PuzzleValue → Choice → List ℕ
+abbrev pub option_of : PuzzleValue → ChoiceValue → List ℕ
 option_of p c = map (item_of p) (things_of c)
 
 -- the name of an item: the piece's, or the symbols of the cell's three coordinates
@@ -107,28 +107,28 @@ thing_name (a_piece name) = name ∷ []
 thing_name (a_cell v) = cell_word v
 
 -- the problem that stands for the puzzle
-unfoldable pub compiled : PuzzleValue → ProblemValue
-compiled p = record { names = map thing_name (things p); primary = length (needed_things p); options = map (option_of p) (choices p) }
+unfoldable pub packing_problem : PuzzleValue → ProblemValue
+packing_problem p = record { names = map thing_name (things p); primary = length (needed_things p); options = map (option_of p) (choices p) }
 
 -- ---- packings and exact covers
 
 -- the choice for which the option numbered o stands
-abbrev pub choice_at : PuzzleValue → ℕ → Choice
+abbrev pub choice_at : PuzzleValue → ℕ → ChoiceValue
 choice_at p o = slice_index_or (choices p) (o - 1) (choice 0 [])
 
 -- a set of options and a test on choices stand for each other
-pub record StandsFor (p : PuzzleValue) (set : ℕ → Bool) (chosen : Choice → Bool) : Type 0 where
+pub record StandsFor (p : PuzzleValue) (set : ℕ → Bool) (chosen : ChoiceValue → Bool) : Type 0 where
   pub forth : (o : ℕ) → set o ≡ true → (0 < o) × (o ≤ length (choices p)) × (chosen (choice_at p o) ≡ true)
-  pub back : (c : Choice) → chosen c ≡ true → (o : ℕ) × (set o ≡ true) × (choice_at p o ≡ c)
+  pub back : (c : ChoiceValue) → chosen c ≡ true → (o : ℕ) × (set o ≡ true) × (choice_at p o ≡ c)
 
 -- packings and exact covers are the same, one for one
 pub record ArePackings (p : PuzzleValue) : Type 0 where
-  pub packs : (set : ℕ → Bool) (chosen : Choice → Bool) → StandsFor p set chosen → IsExactCover (compiled p) set → IsPacking p chosen
-  pub covers : (set : ℕ → Bool) (chosen : Choice → Bool) → StandsFor p set chosen → IsPacking p chosen → IsExactCover (compiled p) set
-  pub some_packing : (set : ℕ → Bool) → IsExactCover (compiled p) set → (chosen : Choice → Bool) × StandsFor p set chosen
-  pub some_cover : (chosen : Choice → Bool) → IsPacking p chosen → (set : ℕ → Bool) × StandsFor p set chosen
-  pub one_packing : (set : ℕ → Bool) (chosen other : Choice → Bool) → StandsFor p set chosen → StandsFor p set other → (c : Choice) → chosen c ≡ other c
-  pub one_cover : (set other : ℕ → Bool) (chosen : Choice → Bool) → StandsFor p set chosen → StandsFor p other chosen → (o : ℕ) → set o ≡ other o
+  pub packs : (set : ℕ → Bool) (chosen : ChoiceValue → Bool) → StandsFor p set chosen → IsExactCover (packing_problem p) set → IsPacking p chosen
+  pub covers : (set : ℕ → Bool) (chosen : ChoiceValue → Bool) → StandsFor p set chosen → IsPacking p chosen → IsExactCover (packing_problem p) set
+  pub some_packing : (set : ℕ → Bool) → IsExactCover (packing_problem p) set → (chosen : ChoiceValue → Bool) × StandsFor p set chosen
+  pub some_cover : (chosen : ChoiceValue → Bool) → IsPacking p chosen → (set : ℕ → Bool) × StandsFor p set chosen
+  pub one_packing : (set : ℕ → Bool) (chosen other : ChoiceValue → Bool) → StandsFor p set chosen → StandsFor p set other → (c : ChoiceValue) → chosen c ≡ other c
+  pub one_cover : (set other : ℕ → Bool) (chosen : ChoiceValue → Bool) → StandsFor p set chosen → StandsFor p other chosen → (o : ℕ) → set o ≡ other o
 
 -- so it is for each puzzle
 abbrev pub CoversArePackings : Type 0

@@ -8,7 +8,7 @@ use Rattle.std.specs.List.Sorted.{IsStrictlySortedBy}
 use Rattle.std.specs.Cmp.Lexicographic.{slice_cmp}
 use Rattle.std.specs.declared.cmp.Ordering.{Ordering}
 use Rattle.poly_cells.specs.Coordinates.{Coordinates, coordinates_cmp}
-use Rattle.poly_texts.specs.Cells.{has_cell}
+use Rattle.poly_cells.specs.CellTests.{has_cell}
 use Rattle.poly_cells.specs.Points.{Point}
 use Rattle.poly_cells.specs.Symmetries.{rotations}
 use Rattle.poly_cells.specs.Sets.{IsIn, in_order}

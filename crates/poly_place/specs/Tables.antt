@@ -1,7 +1,7 @@
 -- A region as a table: for each cell within the limits a bit that tells whether the region has it.
 use Rattle.std.specs.Prelude.{◌≡◌, ℕ, ◌+◌, ◌*◌, Bool, false, ◌&&◌, nat_le, List, length, slice_index_or}
 use Rattle.poly_cells.specs.Coordinates.{Coordinates}
-use Rattle.poly_texts.specs.Cells.{has_cell}
+use Rattle.poly_cells.specs.CellTests.{has_cell}
 
 -- the place of a cell's bit
 abbrev pub bit_index : Coordinates → ℕ

@@ -1,46 +1,48 @@
 //! The exact cover problem that stands for a puzzle.
-ghost use Rattle.std.specs.Prelude.{◌≡◌, ◌≢◌, ◌≤◌, ◌++◌, Ok, true, false, map, length, IfOk, IsOk, OnOk, IsErrOf};
+ghost use Rattle.std.specs.Prelude.{◌≡◌, ◌++◌, Ok, true, false, map, length, vec_items, IfOk, IsOk, IsErrOf};
 ghost use Rattle.std.specs.String.{string_bytes};
 ghost use Rattle.poly_texts.specs.Puzzle.{IsPuzzle};
-ghost use Rattle.cover_problem.specs.Problem.{ProblemValue, is_small};
-ghost use Rattle.cover_problem.specs.Validation.{problem_from};
-ghost use Rattle.poly_place.specs.Packings.{choices, compiled, needed_things, option_of, thing_name, things};
-ghost use Rattle.poly_place.specs.Compiled.{AreNumbers, compiled_value, filled_cells, has_primary, is_within, needed_names, option_by, options_by};
+ghost use Rattle.cover_problem.specs.Problem.{is_small};
+ghost use Rattle.poly_place.specs.Packings.{choices, packing_problem, needed_things, option_of, thing_name, things};
+ghost use Rattle.poly_place.specs.Compiled.{AreNumbers, filled_cells, needed_names, option_by};
 
+use crate::choice::{Choice, all_choices};
 use crate::fault::PlaceFault;
 use crate::items::{
     add_cell_names, add_piece_names, cell_numbers, needed_cells, needed_pieces, piece_number,
 };
-use crate::options::Options;
-use crate::placement::placements;
-use crate::table::bit_index;
+use crate::room::has_room;
+use crate::table::{bit_index, table_of};
 use cover_problem::{Problem, ProblemFault};
 use poly_cells::{Cell, Shape};
 use poly_texts::{PieceName, Puzzle};
 use std::alloc::{AllocError, Global};
 use std::marker::Model;
 
-/// A problem whose exact covers are the packings of a puzzle, with the parts of the puzzle that tell what its items are.
+/// A puzzle with the problem that stands for it: the exact covers of the problem are the packings of the puzzle.
 #[derive(Drop)]
-pub struct Compiled {
+pub struct Compiled<'p> {
+    puzzle: &'p Puzzle,
+    choices: Vec<Choice>,
     problem: Problem,
-    region: Shape,
-    maybe_pieces: Vec<PieceName>,
-    maybe_cells: Vec<Cell>,
 }
 
-impl Model for Compiled {
-    ghost use Rattle.poly_place.specs.Compiled.{CompiledValue};
+impl<'p> Model for Compiled<'p> {
+    ghost use Rattle.std.specs.Prelude.{◌≡◌};
+    ghost use Rattle.poly_texts.specs.Puzzle.{PuzzleValue};
+    ghost use Rattle.poly_place.specs.Packings.{choices as every_choice, packing_problem};
 
-    ghost Value = { CompiledValue };
+    ghost Value = { PuzzleValue };
 
-    ghost view = { λ a. record { problem = a.problem; region = a.region; maybe_pieces = a.maybe_pieces.items; maybe_cells = a.maybe_cells.items } };
+    ghost view = { λ a. a.puzzle.now };
+
+    ghost invariant = { λ a. (a.choices.items ≡ every_choice a.puzzle.now) × (a.problem ≡ packing_problem a.puzzle.now) };
 }
 
-impl Compiled {
+impl<'p> Compiled<'p> {
     /// The problem: required pieces, required cells, optional pieces and optional cells as items, placements as options.
     pub fn problem(&self) -> &Problem
-        ensures { result.now ≡ self.now.problem }
+        ensures { result.now ≡ packing_problem self.now }
     {
         &self.problem
     }
@@ -49,50 +51,98 @@ impl Compiled {
     pub fn region(&self) -> &Shape
         ensures { result.now ≡ self.now.region }
     {
-        &self.region
+        self.puzzle.region()
     }
 
     /// The pieces that may be left out.
     pub fn maybe_pieces(&self) -> &[PieceName]
         ensures { result.now ≡ self.now.maybe_pieces }
     {
-        self.maybe_pieces.as_slice()
+        self.puzzle.maybe_pieces()
     }
 
     /// The cells that may stay empty.
     pub fn maybe_cells(&self) -> &[Cell]
         ensures { result.now ≡ self.now.maybe_cells }
     {
-        self.maybe_cells.as_slice()
+        self.puzzle.maybe_cells()
+    }
+
+    /// The puzzle.
+    pub(crate) fn puzzle(&self) -> &'p Puzzle
+        ensures { result.now ≡ self.now }
+    {
+        self.puzzle
+    }
+
+    /// What each option stands for.
+    pub(crate) fn choices(&self) -> &[Choice]
+        ensures value { result.now ≡ choices self.now }
+        ensures puzzle { IsPuzzle self.now }
+    {
+        // Reading the region tells what holds of every puzzle.
+        let _region = self.puzzle.region();
+        self.choices.as_slice()
     }
 }
 
-/// The problem that stands for the puzzle; refused where it would have too many options.
-pub fn compile(alloc: Global, puzzle: &Puzzle) -> Result<Compiled, PlaceFault>
-    ensures value { IfOk result (λ made. made ≡ compiled_value puzzle.now) }
-    ensures accepted { IsOk result → is_small (compiled puzzle.now) ≡ true }
-    ensures refused { IsErrOf result PlaceFault.TooManyOptions → is_small (compiled puzzle.now) ≡ false }
+/// The problem that stands for the puzzle; refused exactly where it would be past the limits of a problem.
+pub fn compile<'p>(alloc: Global, puzzle: &'p Puzzle) -> Result<Compiled<'p>, PlaceFault>
+    ensures value { IfOk result (λ c. c ≡ puzzle.now) }
+    ensures accepted { IsOk result → is_small (packing_problem puzzle.now) ≡ true }
+    ensures refused { IsErrOf result PlaceFault.TooManyOptions → is_small (packing_problem puzzle.now) ≡ false }
 {
-    let region = puzzle.region();
+    // Reading the region tells what holds of every puzzle.
+    let _region = puzzle.region();
     let pieces = needed_pieces(alloc, puzzle)?;
     let cells = needed_cells(alloc, puzzle)?;
-    let primary = (pieces.len() + cells.len()) as u32;
-    let names = item_names(alloc, puzzle, pieces.as_slice(), cells.as_slice())?;
-    let numbers = cell_numbers(alloc, puzzle, pieces.as_slice(), cells.as_slice())?;
-    let options = all_options(
+    let filled = table_of(alloc, cells.as_slice())?;
+    let primary = pieces.len() + cells.len();
+    let items = primary + puzzle.maybe_pieces().len() + puzzle.maybe_cells().len();
+    if !has_room(alloc, puzzle, pieces.as_slice(), filled.as_slice(), items)? {
+        return Err(PlaceFault::TooManyOptions);
+    }
+    let choices = all_choices(alloc, puzzle, pieces.as_slice(), filled.as_slice())?;
+    let problem = problem_of(
         alloc,
         puzzle,
         pieces.as_slice(),
-        primary,
-        numbers.as_slice(),
+        cells.as_slice(),
+        choices.as_slice(),
     )?;
-    let problem = problem_from(alloc, names, primary, options.into_list())?;
     Ok(Compiled {
+        puzzle,
+        choices,
         problem,
-        region: region.copy()?,
-        maybe_pieces: Vec::from_slice(alloc, puzzle.maybe_pieces())?,
-        maybe_cells: Vec::from_slice(alloc, puzzle.maybe_cells())?,
     })
+}
+
+// The problem of a puzzle with these required pieces and cells, and these choices.
+fn problem_of(
+    alloc: Global,
+    puzzle: &Puzzle,
+    pieces: &[PieceName],
+    cells: &[Cell],
+    list: &[Choice],
+) -> Result<Problem, AllocError>
+    requires puzzle { IsPuzzle puzzle.now }
+    requires pieces { pieces.now ≡ needed_names puzzle.now }
+    requires cells { cells.now ≡ filled_cells puzzle.now }
+    requires list { list.now ≡ choices puzzle.now }
+    requires small { is_small (packing_problem puzzle.now) ≡ true }
+    ensures { IfOk result (λ p. p ≡ packing_problem puzzle.now) }
+{
+    let primary = (pieces.len() + cells.len()) as u32;
+    let names = item_names(alloc, puzzle, pieces, cells)?;
+    let numbers = cell_numbers(alloc, puzzle, pieces, cells)?;
+    let options = all_options(alloc, puzzle, pieces, primary, numbers.as_slice(), list)?;
+    match Problem::new(alloc, names, primary, options) {
+        Ok(problem) => Ok(problem),
+        Err(refused) => match refused.fault {
+            ProblemFault::Fault(_) => unreachable!(),
+            ProblemFault::OutOfMemory => Err(AllocError),
+        },
+    }
 }
 
 // The names of the items, in order.
@@ -114,70 +164,28 @@ fn item_names(
     Ok(names)
 }
 
-// The options of all pieces.
+// The options of these choices.
 fn all_options(
     alloc: Global,
     puzzle: &Puzzle,
     needed: &[PieceName],
     primary: u32,
     numbers: &[u32],
-) -> Result<Options, PlaceFault>
+    list: &[Choice],
+) -> Result<Vec<Vec<u32>>, AllocError>
     requires puzzle { IsPuzzle puzzle.now }
     requires needed { needed.now ≡ needed_names puzzle.now }
     requires primary { primary ≡ length (needed_things puzzle.now) }
     requires numbers { AreNumbers puzzle.now numbers.now }
-    ensures value { IfOk result (λ options. options ≡ map (option_of puzzle.now) (choices puzzle.now)) }
-    ensures refused { IsErrOf result PlaceFault.TooManyOptions → is_within (length (things puzzle.now)) (map (option_of puzzle.now) (choices puzzle.now)) ≡ false }
+    requires list { list.now ≡ choices puzzle.now }
+    ensures { IfOk result (λ options. map vec_items options.items ≡ map (option_of puzzle.now) (choices puzzle.now)) }
 {
-    let pieces = puzzle.pieces();
-    let items = primary as usize + puzzle.maybe_pieces().len() + puzzle.maybe_cells().len();
-    let mut options = Options::none(alloc);
-    for k in 0..pieces.len() {
-        let (name, shape) = pieces.get_index(k).unwrap();
-        let item = piece_number(puzzle, needed, primary, *name);
-        let sets = placements(alloc, shape, puzzle.region())?;
-        add_options(
-            alloc,
-            &mut options,
-            items,
-            primary,
-            numbers,
-            item,
-            sets.as_slice(),
-        )?;
+    let mut options = Vec::with_capacity(alloc, list.len())?;
+    for choice in list {
+        let item = piece_number(puzzle, needed, primary, choice.name());
+        options.push(option_of(alloc, item, numbers, choice.cells())?)?;
     }
     Ok(options)
-}
-
-// Adds the options of a piece: those of its placements that have a primary item.
-fn add_options(
-    alloc: Global,
-    options: &mut Options,
-    items: usize,
-    primary: u32,
-    numbers: &[u32],
-    item: u32,
-    sets: &[Shape],
-) -> Result<(), PlaceFault>
-    requires items { items ≤ 65535 }
-    requires numbers { length numbers.now ≡ 32768 }
-    ensures added { OnOk result (options.new ≡ options.old ++ options_by primary numbers.now item sets.now) }
-    ensures refused { IsErrOf result PlaceFault.TooManyOptions → is_within items (options.old ++ options_by primary numbers.now item sets.now) ≡ false }
-{
-    for set in sets {
-        let option = option_of(alloc, item, numbers, set.cells())?;
-        if has_primary(primary, option.as_slice()) {
-            options.add(items, option)?;
-        }
-    }
-    Ok(())
-}
-
-// Whether one of the first items is in the option.
-fn has_primary(primary: u32, option: &[u32]) -> bool
-    ensures { result ≡ has_primary primary option.now }
-{
-    option.iter().any(|number| *number <= primary)
 }
 
 // The piece's item, and then the items of its cells.
@@ -196,23 +204,4 @@ fn option_of(
         option.push(numbers[bit_index(cell.x(), cell.y(), cell.z())])?;
     }
     Ok(option)
-}
-
-// The problem of these parts, which have no fault but that they are too many.
-fn problem_from(
-    alloc: Global,
-    names: Vec<String>,
-    primary: u32,
-    options: Vec<Vec<u32>>,
-) -> Result<Problem, PlaceFault>
-    ensures made { IfOk result (λ p. problem_from (map string_bytes names.items) primary (map (λ o. o.items) options.items) ≡ Ok p) }
-    ensures refused { IsErrOf result PlaceFault.TooManyOptions → (p : ProblemValue) → problem_from (map string_bytes names.items) primary (map (λ o. o.items) options.items) ≢ Ok p }
-{
-    match Problem::new(alloc, names, primary, options) {
-        Ok(problem) => Ok(problem),
-        Err(refused) => match refused.fault {
-            ProblemFault::Fault(_) => Err(PlaceFault::TooManyOptions),
-            ProblemFault::OutOfMemory => Err(PlaceFault::OutOfMemory),
-        },
-    }
 }

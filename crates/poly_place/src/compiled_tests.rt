@@ -6,7 +6,8 @@ use std::test::Fail;
 
 // The text of the problem that stands for the puzzle of a text.
 fn is_compiled_to(rt: &HostRuntime, text: &[u8], wanted: &[u8]) -> Result<bool, Fail> {
-    let compiled = compile(rt.alloc(), &read_puzzle(rt.alloc(), text)?)?;
+    let puzzle = read_puzzle(rt.alloc(), text)?;
+    let compiled = compile(rt.alloc(), &puzzle)?;
     let written = write_cover(rt.alloc(), compiled.problem())?;
     Ok(written.as_slice() == wanted)
 }
@@ -27,7 +28,8 @@ fn optional_pieces_and_cells_come_last(rt: HostRuntime) -> Result<(), Fail> {
 fn soma_has_its_options(rt: HostRuntime) -> Result<(), Fail> {
     let text =
         b"piece V 000 100 010\npiece L 000 100 200 010\npiece T 000 100 200 110\npiece Z 000 100 110 210\npiece A 000 100 010 011\npiece B 000 100 010 101\npiece P 000 100 010 001\nbox 3 3 3\n";
-    let compiled = compile(rt.alloc(), &read_puzzle(rt.alloc(), text)?)?;
+    let puzzle = read_puzzle(rt.alloc(), text)?;
+    let compiled = compile(rt.alloc(), &puzzle)?;
     assert_eq!(rt; compiled.problem().items(), 34);
     assert_eq!(rt; compiled.problem().primary(), 34);
     assert_eq!(rt; compiled.problem().options(), 688);

@@ -1,5 +1,6 @@
 //! Why no problem is made of a puzzle.
-ghost use Rattle.std.specs.Prelude.{◌≡◌, Some, None};
+ghost use Rattle.std.specs.Prelude.{◌≡◌};
+ghost use Rattle.poly_place.specs.Faults.{number_of, name_of};
 
 use std::alloc::{AllocError, AllocFailed};
 use thiserror::Error;
@@ -14,14 +15,23 @@ pub enum PlaceFault {
 }
 
 impl PlaceFault {
-    /// The fault's number; want of memory has none.
+    /// Its number; want of memory has none.
     pub fn number(self) -> Option<u8>
-        ensures too_many { self ≡ PlaceFault.TooManyOptions → result ≡ Some 1 }
-        ensures out_of_memory { self ≡ PlaceFault.OutOfMemory → result ≡ None }
+        ensures { result ≡ number_of self }
     {
         match self {
             PlaceFault::TooManyOptions => Some(1),
             PlaceFault::OutOfMemory => None,
+        }
+    }
+
+    /// Its name, in one word.
+    pub fn name(self) -> &'static str
+        ensures { result.now ≡ name_of self }
+    {
+        match self {
+            PlaceFault::TooManyOptions => "TooManyOptions",
+            PlaceFault::OutOfMemory => "OutOfMemory",
         }
     }
 }

@@ -1,8 +1,8 @@
 //! The items of a puzzle's problem: the required pieces and cells, and then those that may be left out.
 ghost use Rattle.std.specs.Prelude.{◌≡◌, ◌≤◌, ◌+◌, ◌++◌, ◌∷◌, [], IfOk, OnOk, length, map};
 ghost use Rattle.std.specs.String.{string_bytes};
-ghost use Rattle.poly_texts.specs.Grammar.{cell_word};
-ghost use Rattle.poly_texts.specs.Grammar as grammar;
+ghost use Rattle.poly_cells.specs.CellWords.{cell_word};
+ghost use Rattle.poly_cells.specs.CellWords as grammar;
 ghost use Rattle.poly_cells.specs.Sets.{IsIn};
 ghost use Rattle.poly_texts.specs.Puzzle.{IsPuzzle, names_of};
 ghost use Rattle.poly_place.specs.Packings.{a_piece, item_of, needed_things, index_among};

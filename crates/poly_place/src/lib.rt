@@ -1,19 +1,27 @@
 //! Placements of a piece in a region, and the exact cover problem whose exact covers are the packings of a puzzle.
 #![tactic(auto)]
 
+mod choice;
 mod compiled;
 #[cfg(test)]
 mod compiled_tests;
 mod fault;
 mod items;
 pub mod laws;
-mod options;
+mod layer;
+mod packing;
+#[cfg(test)]
+mod packing_tests;
 mod placement;
+mod room;
 mod set;
 mod table;
 #[cfg(test)]
 mod tests;
 
+pub use choice::Choice;
 pub use compiled::{Compiled, compile};
 pub use fault::PlaceFault;
+pub use layer::layers;
+pub use packing::{Packing, packing_of};
 pub use placement::placements;

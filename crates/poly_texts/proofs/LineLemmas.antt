@@ -5,17 +5,21 @@ use Rattle.std.specs.Cmp.Lexicographic.{bytes_decides}
 use Rattle.std.proofs.lemmas.Bool.{and_parts, and_from, not-true, not-false, not_from_false}
 use Rattle.text_lines.specs.Lines.{is_empty}
 use Rattle.text_lines.specs.Each.{each, ◌>>=◌}
+use Rattle.std.proofs.lemmas.Option.{same_Some, none-some}
 use Rattle.poly_cells.specs.Coordinates.{Coordinates}
+use Rattle.poly_texts.specs.Limits.{most_piece_cells, most_region_cells, most_size}
 use Rattle.poly_texts.specs.declared.fault.Fault.TheVariants.{BadLine, RepeatedPiece, SecondBox, TooLarge}
 use Rattle.poly_texts.specs.declared.key.Key.{Key}
 use Rattle.poly_texts.specs.declared.key.Key.TheVariants as keys
 use Rattle.poly_texts.specs.Cells.{with_cells}
 use Rattle.poly_texts.specs.Words.{piece_name, is_name, are_sizes, are_small, is_size, size_of}
 use Rattle.poly_texts.specs.Reading.{DraftValue, kept_shape, shape_of, within, has_piece, with_piece, is_new, new_name, add_cell, add_piece_cell, three_words, with_box, sized_box, piece_line, box_line, cells_line, maybe_cells_line, cut_line, key_from, maybe_keyed, maybe_line, keyed_line, words_line}
-use Rattle.poly_texts.specs.Grammar.{Line, piece, box, cells, cut, cell_word, maybe_words, line_words, is_in_grid, are_in_grid, are_apart, is_side, is_line}
-use Rattle.poly_texts.proofs.StepLemmas.{ok_is, no_fault, bind_ok, unrefused, granted}
+use Rattle.poly_cells.specs.CellTests.{is_in_grid}
+use Rattle.poly_cells.specs.CellWords.{cell_word}
+use Rattle.poly_texts.specs.Grammar.{Line, piece, box, cells, cut, maybe_words, line_words, are_in_grid, are_apart, is_side, is_line}
+use Rattle.text_lines.proofs.ResultLemmas.{ok_is, no_fault, bind_ok, unrefused, granted, chosen}
 use Rattle.poly_texts.proofs.ReadingLemmas.{piece_read, name_found}
-use Rattle.poly_texts.proofs.SpellingLemmas.{chosen, words_same, cells_again, cells_are, piece_again, piece_cells_are, name_again, name_is, side_again, side_is}
+use Rattle.poly_texts.proofs.SpellingLemmas.{words_same, cells_again, cells_are, piece_again, piece_cells_are, name_again, name_is, side_again, side_is}
 
 -- what is said with one more line
 abbrev pub plus : DraftValue → Line → DraftValue
@@ -25,7 +29,7 @@ plus s (cells optional cs) = record s { named = with_cells s.named cs; maybe_cel
 plus s (cut cs) = record s { cut = with_cells s.cut cs }
 
 abbrev pub is_small : DraftValue → Bool
-is_small s = nat_le (length s.named) 4096
+is_small s = nat_le (length s.named) most_region_cells
 
 -- whether a line may come after what is said
 abbrev pub is_fit : DraftValue → Line → Bool
@@ -47,18 +51,18 @@ within_is s t h = let p = granted (is_small s) TooLarge (Ok s) t h in (p.0, ok_i
 
 -- *a line that fits is taken*
 
-shape_again : (cs : List Coordinates) → list_all is_in_grid cs ≡ true → are_apart cs ≡ true → length cs ≤ 64 → shape_of (map cell_word cs) ≡ Ok (kept_shape cs)
+shape_again : (cs : List Coordinates) → list_all is_in_grid cs ≡ true → are_apart cs ≡ true → length cs ≤ most_piece_cells → shape_of (map cell_word cs) ≡ Ok (kept_shape cs)
 unfolding shape_of
 shape_again cs p a l = rw (piece_again [] cs p a (omega arith)) refl
 
 piece_again_line : (s : DraftValue) (optional : Bool) (name : ℕ) (cs : List Coordinates) → is_line (piece optional name cs) ≡ true → not (has_piece s.pieces name) ≡ true → piece_line s optional ((name ∷ []) ∷ map cell_word cs) ≡ Ok (with_piece s optional name (kept_shape cs))
 piece_again_line s optional name cs is fit =
-    let p = and_parts (is_name name) (are_in_grid cs && (are_apart cs && nat_le (length cs) 64)) is in
-    let q = and_parts (are_in_grid cs) (are_apart cs && nat_le (length cs) 64) p.1 in
-    let r = and_parts (are_apart cs) (nat_le (length cs) 64) q.1 in
+    let p = and_parts (is_name name) (are_in_grid cs && (are_apart cs && nat_le (length cs) most_piece_cells)) is in
+    let q = and_parts (are_in_grid cs) (are_apart cs && nat_le (length cs) most_piece_cells) p.1 in
+    let r = and_parts (are_apart cs) (nat_le (length cs) most_piece_cells) q.1 in
     let u = and_parts (nat_lt 0 (length cs)) (list_all is_in_grid cs) q.0 in
     piece_read s optional ((name ∷ []) ∷ map cell_word cs) (name ∷ []) (map cell_word cs) name (kept_shape cs) refl (some_words cs (ltb-true 0 (length cs) u.0))
-    (name_found s.pieces (name ∷ []) name (sym (name_again name p.0)) (not-true _ fit)) (shape_again cs u.1 r.0 (leb-true (length cs) 64 r.1))
+    (name_found s.pieces (name ∷ []) name (sym (name_again name p.0)) (not-true _ fit)) (shape_again cs u.1 r.0 (leb-true (length cs) most_piece_cells r.1))
 
 box_again_line : (s : DraftValue) (a b c : ℕ) → is_line (box a b c) ≡ true → is_fit s (box a b c) ≡ true → box_line s (decimal a ∷ decimal b ∷ decimal c ∷ []) ≡ Ok (with_box s a b c)
 unfolding box_line
@@ -69,12 +73,12 @@ box_again_line s a b c is fit =
     let x = side_again a p.0 in
     let y = side_again b q.0 in
     let z = side_again c q.1 in
-    let i = (and_parts (nat_lt 0 a) (nat_le a 32) p.0).1 in
-    let j = (and_parts (nat_lt 0 b) (nat_le b 32) q.0).1 in
-    let k = (and_parts (nat_lt 0 c) (nat_le c 32) q.1).1 in
+    let i = (and_parts (nat_lt 0 a) (nat_le a most_size) p.0).1 in
+    let j = (and_parts (nat_lt 0 b) (nat_le b most_size) q.0).1 in
+    let k = (and_parts (nat_lt 0 c) (nat_le c most_size) q.1).1 in
     sized (decimal a) (decimal b) (decimal c) (and_from _ _ x.0 (and_from _ _ y.0 z.0)) x.1 y.1 z.1 (and_from _ _ i (and_from _ _ j k)) (not-true _ f.0) f.1
   where
-    sized : (u v w : List ℕ) → are_sizes u v w ≡ true → size_of u ≡ a → size_of v ≡ b → size_of w ≡ c → (nat_le a 32 && (nat_le b 32 && nat_le c 32)) ≡ true → s.boxed ≡ false → is_small (with_box s a b c) ≡ true → sized_box s (Some (u, v, w)) ≡ Ok (with_box s a b c)
+    sized : (u v w : List ℕ) → are_sizes u v w ≡ true → size_of u ≡ a → size_of v ≡ b → size_of w ≡ c → (nat_le a most_size && (nat_le b most_size && nat_le c most_size)) ≡ true → s.boxed ≡ false → is_small (with_box s a b c) ≡ true → sized_box s (Some (u, v, w)) ≡ Ok (with_box s a b c)
     sized u v w sizes x y z few first small = rw (sizes, first, x, y, z, few, small) refl
 
 cells_again_line : (s : DraftValue) (cs : List Coordinates) → are_in_grid cs ≡ true → is_fit s (cells false cs) ≡ true → cells_line s (map cell_word cs) ≡ Ok (plus s (cells false cs))
@@ -167,7 +171,7 @@ piece_taken s optional (word ∷ words) t h =
       name = p.1.0;
       cs = m.cs;
       words_are = words_same w.1 m.words_are;
-      good = and_from _ _ w.0 (and_from _ _ (and_from _ _ (some_cells m.cs some) m.places) (and_from _ _ (subst (λ cs. are_apart cs ≡ true) all m.apart) (le-leb (length m.cs) 64 (subst (λ cs. length cs ≤ 64) all m.few))));
+      good = and_from _ _ w.0 (and_from _ _ (and_from _ _ (some_cells m.cs some) m.places) (and_from _ _ (subst (λ cs. are_apart cs ≡ true) all m.apart) (le-leb (length m.cs) most_piece_cells (subst (λ cs. length cs ≤ most_piece_cells) all m.few))));
       new = not_from_false _ n.1;
       more = sym p.1.2.2 ∙ ap (with_piece s optional p.1.0) (sym k.2 ∙ ap kept_shape all);
     }
@@ -176,10 +180,7 @@ three_is : (words : List (List ℕ)) (a b c : List ℕ) → three_words words �
 three_is [] a b c h = absurd (cc)
 three_is (x ∷ []) a b c h = absurd (cc)
 three_is (x ∷ y ∷ []) a b c h = absurd (cc)
-three_is (x ∷ y ∷ z ∷ []) a b c h = let e = some_is (x, y, z) (a, b, c) h in rw (ap (λ t. t.0) e, ap (λ t. t.1) e, ap (λ t. t.2) e) refl
-  where
-    some_is : (v w : List ℕ × List ℕ × List ℕ) → ◌≡◌ {A = Option (List ℕ × List ℕ × List ℕ)} (Some v) (Some w) → v ≡ w
-    some_is v w h = cc
+three_is (x ∷ y ∷ z ∷ []) a b c h = let e = same_Some (x, y, z) (a, b, c) h in rw (ap (λ t. t.0) e, ap (λ t. t.1) e, ap (λ t. t.2) e) refl
 three_is (x ∷ y ∷ z ∷ w ∷ ws) a b c h = absurd (cc)
 
 box_taken : (s : DraftValue) (words : List (List ℕ)) (found : Option (List ℕ × List ℕ × List ℕ)) (t : DraftValue) → three_words words ≡ found → sized_box s found ≡ Ok t → IsTakenLine s (codes "box" ∷ words) t
@@ -191,8 +192,8 @@ box_taken s words (Some (a, b, c)) t e h =
     let x = within_is (with_box s (size_of a) (size_of b) (size_of c)) t w.1 in
     let i = and_parts (is_size a) (is_size b && is_size c) (not-false _ u.0) in
     let j = and_parts (is_size b) (is_size c) i.1 in
-    let k = and_parts (nat_le (size_of a) 32) (nat_le (size_of b) 32 && nat_le (size_of c) 32) w.0 in
-    let l = and_parts (nat_le (size_of b) 32) (nat_le (size_of c) 32) k.1 in
+    let k = and_parts (nat_le (size_of a) most_size) (nat_le (size_of b) most_size && nat_le (size_of c) most_size) w.0 in
+    let l = and_parts (nat_le (size_of b) most_size) (nat_le (size_of c) most_size) k.1 in
     let p = side_is a i.0 k.0 in
     let q = side_is b j.0 l.0 in
     let r = side_is c j.1 l.1 in
@@ -225,7 +226,7 @@ cells_taken s words t h =
       line = cells false m.cs;
       words_are = ap (λ ws. codes "cells" ∷ ws) m.words_are;
       good = places_from m.cs words m.words_are u.0 m.places;
-      fits = subst (λ named. nat_le (length named) 4096 ≡ true) m.all_are x.0;
+      fits = subst (λ named. nat_le (length named) most_region_cells ≡ true) m.all_are x.0;
       more = sym x.1 ∙ ap (λ named. record s { named = named }) m.all_are;
     }
 
@@ -243,7 +244,7 @@ maybe_taken s words t h =
       line = cells true m.cs;
       words_are = ap (λ ws. codes "maybe" ∷ codes "cells" ∷ ws) m.words_are;
       good = places_from m.cs words m.words_are u.0 m.places;
-      fits = subst (λ named. nat_le (length named) 4096 ≡ true) m.all_are x.0;
+      fits = subst (λ named. nat_le (length named) most_region_cells ≡ true) m.all_are x.0;
       more = sym x.1 ∙ ap (λ named. record s { named = named; maybe_cells = d.0 }) m.all_are ∙ ap (λ maybe. record s { named = with_cells s.named m.cs; maybe_cells = maybe }) same;
     }
 
@@ -270,12 +271,6 @@ key_word keys.Cells = codes "cells"
 key_word keys.Cut = codes "cut"
 key_word keys.Maybe = codes "maybe"
 
-some_key : (k l : Key) → ◌≡◌ {A = Option Key} (Some k) (Some l) → k ≡ l
-some_key k l h = cc
-
-no_key : (l : Key) → ◌≡◌ {A = Option Key} None (Some l) → ⊥
-no_key l h = cc
-
 key_is : (word : List ℕ) (k : Key) → key_from word ≡ Some k → word ≡ key_word k
 unfolding key_word
 key_is word k h = piece_key (chosen (bytes_eq word (codes "piece")) (Some keys.Piece) after_piece (Some k) h)
@@ -293,23 +288,23 @@ key_is word k h = piece_key (chosen (bytes_eq word (codes "piece")) (Some keys.P
     after_piece = cond (bytes_eq word (codes "box")) (Some keys.Box) after_box
 
     maybe_key : ((bytes_eq word (codes "maybe") ≡ true) × (◌≡◌ {A = Option Key} (Some keys.Maybe) (Some k))) ⊎ ((bytes_eq word (codes "maybe") ≡ false) × (◌≡◌ {A = Option Key} None (Some k))) → word ≡ key_word k
-    maybe_key (inl e) = (bytes_decides word (codes "maybe")).0 e.0 ∙ ap key_word (some_key keys.Maybe k e.1)
-    maybe_key (inr e) = absurd (no_key k e.1)
+    maybe_key (inl e) = (bytes_decides word (codes "maybe")).0 e.0 ∙ ap key_word (same_Some keys.Maybe k e.1)
+    maybe_key (inr e) = absurd (none-some k e.1)
 
     cut_key : ((bytes_eq word (codes "cut") ≡ true) × (◌≡◌ {A = Option Key} (Some keys.Cut) (Some k))) ⊎ ((bytes_eq word (codes "cut") ≡ false) × (after_cut ≡ Some k)) → word ≡ key_word k
-    cut_key (inl e) = (bytes_decides word (codes "cut")).0 e.0 ∙ ap key_word (some_key keys.Cut k e.1)
+    cut_key (inl e) = (bytes_decides word (codes "cut")).0 e.0 ∙ ap key_word (same_Some keys.Cut k e.1)
     cut_key (inr e) = maybe_key (chosen (bytes_eq word (codes "maybe")) (Some keys.Maybe) None (Some k) e.1)
 
     cells_key : ((bytes_eq word (codes "cells") ≡ true) × (◌≡◌ {A = Option Key} (Some keys.Cells) (Some k))) ⊎ ((bytes_eq word (codes "cells") ≡ false) × (after_cells ≡ Some k)) → word ≡ key_word k
-    cells_key (inl e) = (bytes_decides word (codes "cells")).0 e.0 ∙ ap key_word (some_key keys.Cells k e.1)
+    cells_key (inl e) = (bytes_decides word (codes "cells")).0 e.0 ∙ ap key_word (same_Some keys.Cells k e.1)
     cells_key (inr e) = cut_key (chosen (bytes_eq word (codes "cut")) (Some keys.Cut) after_cut (Some k) e.1)
 
     box_key : ((bytes_eq word (codes "box") ≡ true) × (◌≡◌ {A = Option Key} (Some keys.Box) (Some k))) ⊎ ((bytes_eq word (codes "box") ≡ false) × (after_box ≡ Some k)) → word ≡ key_word k
-    box_key (inl e) = (bytes_decides word (codes "box")).0 e.0 ∙ ap key_word (some_key keys.Box k e.1)
+    box_key (inl e) = (bytes_decides word (codes "box")).0 e.0 ∙ ap key_word (same_Some keys.Box k e.1)
     box_key (inr e) = cells_key (chosen (bytes_eq word (codes "cells")) (Some keys.Cells) after_cells (Some k) e.1)
 
     piece_key : ((bytes_eq word (codes "piece") ≡ true) × (◌≡◌ {A = Option Key} (Some keys.Piece) (Some k))) ⊎ ((bytes_eq word (codes "piece") ≡ false) × (after_piece ≡ Some k)) → word ≡ key_word k
-    piece_key (inl e) = (bytes_decides word (codes "piece")).0 e.0 ∙ ap key_word (some_key keys.Piece k e.1)
+    piece_key (inl e) = (bytes_decides word (codes "piece")).0 e.0 ∙ ap key_word (same_Some keys.Piece k e.1)
     piece_key (inr e) = box_key (chosen (bytes_eq word (codes "box")) (Some keys.Box) after_box (Some k) e.1)
 
 piece_line_is : (s : DraftValue) (optional : Bool) (words : List (List ℕ)) (t : DraftValue) → IsTakenPiece s optional words t → IsTakenLine s (maybe_words optional (codes "piece" ∷ words)) t

@@ -2,12 +2,13 @@
 use Rattle.std.proofs.Common.{◌≡◌, ◌<◌, ◌≤◌, ℕ, zero, suc, ◌+◌, ◌==◌, List, [], ◌∷◌, ◌++◌, filter, flat_map, length, Bool, true, false, not, ◌&&◌, ◌||◌, nat_eq, nat_le, refl, sym, ap, ◌∙◌, arith, eq-eqb, eqb-true}
 use Rattle.std.specs.List.{list_all, list_any, range_with_len, IsDistinct, AllByRecursion}
 use Rattle.std.specs.Cmp.{nat_eq_equiv}
-use Rattle.std.proofs.lemmas.Bool.{and_parts, and_from}
+use Rattle.std.proofs.lemmas.Bool.{and_parts, and_from, or_right, not-true}
 use Rattle.std.proofs.lemmas.Bool.Decides.{nat_tests}
 use Rattle.std.proofs.lemmas.List.Folds.{list_any-append}
 use Rattle.std.proofs.lemmas.List.{length-map}
 use Rattle.std.proofs.lemmas.Map.Made.{length-le_from_is_member}
 use Rattle.poly_cells.specs.Coordinates.{Coordinates}
+use Rattle.poly_texts.specs.Limits.{most_piece_cells, most_pieces}
 use Rattle.poly_texts.specs.Words.{is_name}
 use Rattle.poly_texts.specs.Puzzle.{names_of, has_name, are_new}
 use Rattle.poly_texts.specs.Grammar.{Line, piece, box, cells, cut, is_line, are_in_grid, are_apart, piece_of, maybe_name_of}
@@ -18,21 +19,17 @@ pub names_are : (ls : List Line) → list_all is_line ls ≡ true → list_all i
 names_are [] h = refl
 names_are (piece optional name cs ∷ ls) h =
     let p = and_parts (is_line (piece optional name cs)) (list_all is_line ls) h in
-    let q = and_parts (is_name name) (are_in_grid cs && (are_apart cs && nat_le (length cs) 64)) p.0 in
+    let q = and_parts (is_name name) (are_in_grid cs && (are_apart cs && nat_le (length cs) most_piece_cells)) p.0 in
     and_from _ _ q.0 (names_are ls p.1)
 names_are (box a b c ∷ ls) h = names_are ls (and_parts (is_line (box a b c)) (list_all is_line ls) h).1
 names_are (cells optional cs ∷ ls) h = names_are ls (and_parts (is_line (cells optional cs)) (list_all is_line ls) h).1
 names_are (cut cs ∷ ls) h = names_are ls (and_parts (is_line (cut cs)) (list_all is_line ls) h).1
 
-or_true : (a b : Bool) → b ≡ true → (a || b) ≡ true
-or_true true b h = refl
-or_true false b h = h
-
 one_more : (n : ℕ) (ns ms : List ℕ) → list_all (has_name ns) ms ≡ true → list_all (has_name (n ∷ ns)) ms ≡ true
 one_more n ns [] h = refl
 one_more n ns (m ∷ ms) h =
     let p = and_parts (has_name ns m) (list_all (has_name ns) ms) h in
-    and_from _ _ (or_true (n == m) (has_name ns m) p.0) (one_more n ns ms p.1)
+    and_from _ _ (or_right (n == m) (has_name ns m) p.0) (one_more n ns ms p.1)
 
 pub maybe_are : (ls : List Line) → list_all (has_name (names_of (flat_map piece_of ls))) (flat_map maybe_name_of ls) ≡ true
 maybe_are [] = refl
@@ -43,7 +40,7 @@ maybe_are (box a b c ∷ ls) = maybe_are ls
 maybe_are (cells optional cs ∷ ls) = maybe_are ls
 maybe_are (cut cs ∷ ls) = maybe_are ls
 
--- *at most 62*
+-- *how many there can be*
 
 -- all names
 abbrev all_names : List ℕ
@@ -70,8 +67,8 @@ name_listed q h =
     by_tests : (d : Bool) → (nat_le 48 q && nat_le q 57) ≡ d → (c : Bool) → (nat_le 65 q && nat_le q 90) ≡ c → (l : Bool) → (nat_le 97 q && nat_le q 122) ≡ l → (d || c || l) ≡ true →
         (list_any (nat_eq q) (range_with_len 48 10) || list_any (nat_eq q) (range_with_len 65 26 ++ range_with_len 97 26)) ≡ true
     by_tests true d c e l f h = rw (within 48 57 10 d refl) refl
-    by_tests false d true e l f h = or_true (list_any (nat_eq q) (range_with_len 48 10)) _ (list_any-append (nat_eq q) (range_with_len 65 26) (range_with_len 97 26) ∙ rw (within 65 90 26 e refl) refl)
-    by_tests false d false e true f h = or_true (list_any (nat_eq q) (range_with_len 48 10)) _ (list_any-append (nat_eq q) (range_with_len 65 26) (range_with_len 97 26) ∙ or_true (list_any (nat_eq q) (range_with_len 65 26)) _ (within 97 122 26 f refl))
+    by_tests false d true e l f h = or_right (list_any (nat_eq q) (range_with_len 48 10)) _ (list_any-append (nat_eq q) (range_with_len 65 26) (range_with_len 97 26) ∙ rw (within 65 90 26 e refl) refl)
+    by_tests false d false e true f h = or_right (list_any (nat_eq q) (range_with_len 48 10)) _ (list_any-append (nat_eq q) (range_with_len 65 26) (range_with_len 97 26) ∙ or_right (list_any (nat_eq q) (range_with_len 65 26)) _ (within 97 122 26 f refl))
     by_tests false d false e false f h = absurd (cc)
 
 member_is_name : (q : ℕ) (ns : List ℕ) → list_all is_name ns ≡ true → list_any (nat_eq q) ns ≡ true → is_name q ≡ true
@@ -99,7 +96,7 @@ are_distinct [] h = tt
 are_distinct (n ∷ ns) h = let p = and_parts (not (has_name ns n)) (are_new ns) h in (apart_from n ns p.0, are_distinct ns p.1)
 
 -- different names are at most as many as there are names
-pub pieces_few : (pieces : List (ℕ × List Coordinates)) → list_all is_name (names_of pieces) ≡ true → are_new (names_of pieces) ≡ true → length pieces ≤ 62
+pub pieces_few : (pieces : List (ℕ × List Coordinates)) → list_all is_name (names_of pieces) ≡ true → are_new (names_of pieces) ≡ true → length pieces ≤ most_pieces
 pieces_few pieces named new =
     let few = length-le_from_is_member nat_eq_equiv (names_of pieces) all_names (are_distinct (names_of pieces) new) (λ q h. name_listed q (member_is_name q (names_of pieces) named h)) in
     rw length-map at few
@@ -128,21 +125,17 @@ kept_same n ms (m ∷ ns) h = by_test (m == n) refl h (kept_same n ms ns)
         let f : (n == m) ≡ false = nat_eq_equiv.symm n m ∙ e in
         rw (f, later h) refl
 
-not_false : (b : Bool) → not b ≡ true → b ≡ false
-not_false true h = sym h
-not_false false h = refl
-
 -- the names that may be left out are in the order of the pieces
 pub maybe_in_order : (ls : List Line) → are_new (names_of (flat_map piece_of ls)) ≡ true → flat_map maybe_name_of ls ≡ filter (has_name (flat_map maybe_name_of ls)) (names_of (flat_map piece_of ls))
 maybe_in_order [] h = refl
 maybe_in_order (piece true name cs ∷ ls) h =
     let p = and_parts (not (has_name (names_of (flat_map piece_of ls)) name)) (are_new (names_of (flat_map piece_of ls))) h in
-    let kept = kept_same name (flat_map maybe_name_of ls) (names_of (flat_map piece_of ls)) (not_false _ p.0) in
+    let kept = kept_same name (flat_map maybe_name_of ls) (names_of (flat_map piece_of ls)) (not-true _ p.0) in
     let later = maybe_in_order ls p.1 in
     rw (eq-eqb name name refl) (ap (λ ns. name ∷ ns) (later ∙ sym kept))
 maybe_in_order (piece false name cs ∷ ls) h =
     let p = and_parts (not (has_name (names_of (flat_map piece_of ls)) name)) (are_new (names_of (flat_map piece_of ls))) h in
-    let out = not_among name (names_of (flat_map piece_of ls)) (flat_map maybe_name_of ls) (not_false _ p.0) (maybe_are ls) in
+    let out = not_among name (names_of (flat_map piece_of ls)) (flat_map maybe_name_of ls) (not-true _ p.0) (maybe_are ls) in
     rw out (maybe_in_order ls p.1)
 maybe_in_order (box a b c ∷ ls) h = maybe_in_order ls h
 maybe_in_order (cells optional cs ∷ ls) h = maybe_in_order ls h

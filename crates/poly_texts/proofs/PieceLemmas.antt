@@ -1,43 +1,30 @@
 -- The cells of pieces and of the region are within the limits, and pieces lie at the origin.
-use Rattle.std.proofs.Common.{◌≡◌, ◌<◌, ◌≤◌, ◌⊎◌, inl, inr, ℕ, zero, suc, ◌+◌, List, [], ◌∷◌, filter, flat_map, length, Bool, true, false, cond, not, ◌&&◌, nat_lt, nat_le, refl, sym, subst, arith}
+use Rattle.std.proofs.Common.{◌≡◌, ◌<◌, ◌≤◌, inl, inr, ℕ, zero, suc, ◌+◌, List, [], ◌∷◌, flat_map, length, true, not, ◌&&◌, nat_lt, nat_le, sym, subst, arith}
 use Rattle.std.specs.List.{list_all, range_with_len}
 use Rattle.std.proofs.lemmas.Bool.{and_parts}
 use Rattle.std.proofs.lemmas.Bool.Decides.{nat_tests}
 use Rattle.std.proofs.lemmas.List.{length-map}
 use Rattle.std.specs.declared.cmp.Ordering.{Ordering}
 use Rattle.std.specs.declared.cmp.Ordering.TheVariants.{Less, Equal, Greater}
+use Rattle.poly_cells.proofs.MemberLemmas.{in_from_flat_map, in_from_filter}
 use Rattle.poly_cells.specs.Coordinates.{Coordinates, IsInGrid, coordinates, coordinates_cmp}
 use Rattle.poly_cells.specs.Sets.{IsIn, in_order, insert_in, by_order}
 use Rattle.poly_cells.specs.Shapes.{AllInGrid, corner, moved_back, normal}
 use Rattle.poly_cells.proofs.SetLemmas.{in_append_cases, in_from_map, in_from_order, in_order_rises}
-use Rattle.poly_cells.proofs.PlaceLemmas.{place_total}
+use Rattle.poly_cells.proofs.CoordinateLemmas.{coordinates_total}
 use Rattle.poly_cells.proofs.ShapeLemmas.{normal_is_shape}
 use Rattle.poly_cells.proofs.ImageLemmas.{normal_is}
-use Rattle.poly_texts.specs.Cells.{has_cell, without, row, layer, box_cells}
+use Rattle.poly_cells.specs.CellTests.{has_cell, is_in_grid}
+use Rattle.poly_cells.proofs.CellTestLemmas.{all_in_grid_from}
+use Rattle.poly_texts.specs.Limits.{most_piece_cells, most_size}
+use Rattle.poly_texts.specs.Cells.{without, row, layer, box_cells}
 use Rattle.poly_texts.specs.Words.{is_name}
 use Rattle.poly_texts.specs.Puzzle.{IsPiece, ArePieces}
 use Rattle.poly_texts.specs.Reading.{kept_shape}
-use Rattle.poly_texts.specs.Grammar.{Line, piece, box, cells, cut, is_in_grid, are_in_grid, are_apart, is_side, is_line, piece_of, named_by}
+use Rattle.poly_texts.specs.Grammar.{Line, piece, box, cells, cut, are_in_grid, are_apart, is_side, is_line, piece_of, named_by}
 use Rattle.poly_texts.proofs.StepLemmas.{some_in_order}
 
 -- *members of lists*
-
-in_from_flat_map : {K J : Type 0} (f : K → List J) (x : J) (xs : List K) → IsIn x (flat_map f xs) → (a : K) × IsIn a xs × IsIn x (f a)
-in_from_flat_map f x [] i = absurd i
-in_from_flat_map f x (y ∷ ys) i =
-    elim (in_append_cases x (f y) (flat_map f ys) i) [
-      | inl l ↦ (y, inl refl, l)
-      | inr r ↦ let from = in_from_flat_map f x ys r in (from.0, inr from.1, from.2)
-    ]
-
-in_from_filter : (t : Coordinates → Bool) (x : Coordinates) (xs : List Coordinates) → IsIn x (filter t xs) → IsIn x xs
-in_from_filter t x [] i = i
-in_from_filter t x (y ∷ ys) i = by_test (t y) i (in_from_filter t x ys)
-  where
-    by_test : (b : Bool) → IsIn x (cond b (y ∷ filter t ys) (filter t ys)) → (IsIn x (filter t ys) → IsIn x ys) → (x ≡ y) ⊎ IsIn x ys
-    by_test true (inl e) later = inl e
-    by_test true (inr r) later = inr (later r)
-    by_test false r later = inr (later r)
 
 in_range_below : (n a x : ℕ) → IsIn x (range_with_len a n) → x < a + n
 in_range_below zero a x i = absurd i
@@ -60,19 +47,7 @@ ordered_few (x ∷ xs) = let h = ordered_few xs in let i = inserted x (in_order 
 
 -- *within the limits*
 
-place_is : (c : Coordinates) → is_in_grid c ≡ true → IsInGrid c
-place_is c h =
-    let p = and_parts (nat_le c.x 31) (nat_le c.y 31 && nat_le c.z 31) h in
-    let q = and_parts (nat_le c.y 31) (nat_le c.z 31) p.1 in
-    record { x_in = grind (arith, nat_tests); y_in = grind (arith, nat_tests); z_in = grind (arith, nat_tests) }
-
-places_are : (cs : List Coordinates) → list_all is_in_grid cs ≡ true → AllInGrid cs
-places_are [] h c i = absurd i
-places_are (d ∷ cs) h c i =
-    let p = and_parts (is_in_grid d) (list_all is_in_grid cs) h in
-    elim i [ inl e ↦ subst IsInGrid (sym e) (place_is d p.0) | inr r ↦ places_are cs p.1 c r ]
-
-box_limits : (a b c : ℕ) → a ≤ 32 → b ≤ 32 → c ≤ 32 → AllInGrid (box_cells a b c)
+box_limits : (a b c : ℕ) → a ≤ most_size → b ≤ most_size → c ≤ most_size → AllInGrid (box_cells a b c)
 box_limits a b c la lb lc v i =
     let x = in_from_flat_map (layer b c) v (range_with_len 0 a) i in
     let y = in_from_flat_map (row c x.0) v (range_with_len 0 b) x.2 in
@@ -82,8 +57,8 @@ box_limits a b c la lb lc v i =
     let hz = in_range_below c 0 z.0 z.1 in
     subst IsInGrid (sym z.2) (record { x_in = omega arith; y_in = omega arith; z_in = omega arith })
 
-side_most : (n : ℕ) → is_side n ≡ true → n ≤ 32
-side_most n h = let p = and_parts (nat_lt 0 n) (nat_le n 32) h in grind (arith, nat_tests)
+side_most : (n : ℕ) → is_side n ≡ true → n ≤ most_size
+side_most n h = let p = and_parts (nat_lt 0 n) (nat_le n most_size) h in grind (arith, nat_tests)
 
 line_limits : (l : Line) → is_line l ≡ true → AllInGrid (named_by l)
 line_limits (piece optional name cs) h = λ c i. absurd i
@@ -91,7 +66,7 @@ line_limits (box a b c) h =
     let p = and_parts (is_side a) (is_side b && is_side c) h in
     let q = and_parts (is_side b) (is_side c) p.1 in
     box_limits a b c (side_most a p.0) (side_most b q.0) (side_most c q.1)
-line_limits (cells optional cs) h = places_are cs (and_parts (nat_lt 0 (length cs)) (list_all is_in_grid cs) h).1
+line_limits (cells optional cs) h = all_in_grid_from cs (and_parts (nat_lt 0 (length cs)) (list_all is_in_grid cs) h).1
 line_limits (cut cs) h = λ c i. absurd i
 
 -- the cells that lines name are within the limits
@@ -103,7 +78,7 @@ named_limits (l ∷ ls) h c i =
 
 pub uncut_limits : (gone named : List Coordinates) → AllInGrid named → AllInGrid (in_order coordinates_cmp (without gone named))
 uncut_limits gone named limits c i =
-    limits c (in_from_filter (λ d. not (has_cell gone d)) c named (in_from_order coordinates_cmp c (without gone named) i))
+    limits c (in_from_filter (λ d. not (has_cell gone d)) c named (in_from_order coordinates_cmp c (without gone named) i)).0
 
 -- *pieces*
 
@@ -111,16 +86,16 @@ normal_len : (cs : List Coordinates) → length (normal cs) ≡ length cs
 unfolding normal
 normal_len cs = length-map cs (moved_back (corner cs))
 
-piece_is : (cs : List Coordinates) → are_in_grid cs ≡ true → nat_le (length cs) 64 ≡ true → IsPiece (kept_shape cs)
+piece_is : (cs : List Coordinates) → are_in_grid cs ≡ true → nat_le (length cs) most_piece_cells ≡ true → IsPiece (kept_shape cs)
 piece_is cs good short =
     let p = and_parts (nat_lt 0 (length cs)) (list_all is_in_grid cs) good in
-    let limits : AllInGrid (in_order coordinates_cmp cs) = λ c i. places_are cs p.1 c (in_from_order coordinates_cmp c cs i) in
+    let limits : AllInGrid (in_order coordinates_cmp cs) = λ c i. all_in_grid_from cs p.1 c (in_from_order coordinates_cmp c cs i) in
     let some : 0 < length (in_order coordinates_cmp cs) = some_in_order cs (grind (arith, nat_tests)) in
-    let most : length cs ≤ 64 = grind (arith, nat_tests) in
+    let most : length cs ≤ most_piece_cells = grind (arith, nat_tests) in
     let same = normal_len (in_order coordinates_cmp cs) in
     let few = ordered_few cs in
     record {
-      shape = normal_is_shape (in_order coordinates_cmp cs) (record { some = some; rises = in_order_rises place_total cs; limits = limits });
+      shape = normal_is_shape (in_order coordinates_cmp cs) (record { some = some; rises = in_order_rises coordinates_total cs; limits = limits });
       few = omega arith;
       origin = (normal_is (in_order coordinates_cmp cs) some limits).origin;
     }
@@ -130,9 +105,9 @@ pub pieces_are : (ls : List Line) → list_all is_line ls ≡ true → ArePieces
 pieces_are [] h = λ p i. absurd i
 pieces_are (piece optional name cs ∷ ls) h =
     let a = and_parts (is_line (piece optional name cs)) (list_all is_line ls) h in
-    let b = and_parts (is_name name) (are_in_grid cs && (are_apart cs && nat_le (length cs) 64)) a.0 in
-    let c = and_parts (are_in_grid cs) (are_apart cs && nat_le (length cs) 64) b.1 in
-    let d = and_parts (are_apart cs) (nat_le (length cs) 64) c.1 in
+    let b = and_parts (is_name name) (are_in_grid cs && (are_apart cs && nat_le (length cs) most_piece_cells)) a.0 in
+    let c = and_parts (are_in_grid cs) (are_apart cs && nat_le (length cs) most_piece_cells) b.1 in
+    let d = and_parts (are_apart cs) (nat_le (length cs) most_piece_cells) c.1 in
     λ p i. elim i [ inl e ↦ subst (λ (q : ℕ × List Coordinates). IsPiece q.1) (sym e) (piece_is cs c.0 d.1) | inr r ↦ pieces_are ls a.1 p r ]
 pieces_are (box a b c ∷ ls) h = pieces_are ls (and_parts (is_line (box a b c)) (list_all is_line ls) h).1
 pieces_are (cells optional cs ∷ ls) h = pieces_are ls (and_parts (is_line (cells optional cs)) (list_all is_line ls) h).1

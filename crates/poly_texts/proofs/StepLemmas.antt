@@ -1,42 +1,18 @@
 -- What a step that gave something did.
-use Rattle.std.proofs.Common.{◌≡◌, ◌<◌, ℕ, ◌+◌, List, [], ◌∷◌, ◌++◌, length, Bool, true, false, cond, nat_lt, Option, Some, None, Result, Ok, Err, refl, sym, ap, arith, length-append}
+use Rattle.std.proofs.Common.{◌≡◌, ◌<◌, ℕ, ◌+◌, List, [], ◌∷◌, ◌++◌, length, true, false, nat_lt, Option, Some, None, Ok, sym, ap, arith, length-append}
 use Rattle.std.specs.declared.cmp.Ordering.{Ordering}
 use Rattle.std.specs.declared.cmp.Ordering.TheVariants.{Less, Equal, Greater}
 use Rattle.text_lines.specs.Lines.{is_empty}
 use Rattle.text_lines.specs.Each.{each, ◌>>=◌}
+use Rattle.text_lines.proofs.ResultLemmas.{ok_is, no_fault, bind_ok, unrefused, granted}
+use Rattle.text_lines.proofs.EachLemmas.{each_parts, each_none}
 use Rattle.poly_cells.specs.Coordinates.{Coordinates, coordinates_cmp}
 use Rattle.poly_cells.specs.Sets.{in_order, insert_in, by_order}
+use Rattle.poly_texts.specs.Limits.{most_piece_cells}
 use Rattle.poly_texts.specs.declared.fault.Fault.TheVariants.{BadCell, RepeatedCell, TooLarge}
-use Rattle.poly_texts.specs.Cells.{has_cell}
-use Rattle.poly_texts.specs.Words.{cell_of}
+use Rattle.poly_cells.specs.CellTests.{has_cell}
+use Rattle.poly_cells.specs.CellWords.{cell_of}
 use Rattle.poly_texts.specs.Reading.{found_or, new_cell, add_piece_cell}
-
-pub ok_is : {S F : Type 0} (x y : S) → ◌≡◌ {A = Result S F} (Ok x) (Ok y) → x ≡ y
-ok_is x y h = cc
-
-pub no_fault : {S F : Type 0} (f : F) (x : S) → ◌≡◌ {A = Result S F} (Err f) (Ok x) → ⊥
-no_fault f x e = cc
-
-pub bind_ok : {A B F : Type 0} (r : Result A F) (f : A → Result B F) (y : B) → (r >>= f) ≡ Ok y → (x : A) × (r ≡ Ok x) × (f x ≡ Ok y)
-bind_ok (Ok x) f y h = (x, refl, h)
-bind_ok (Err e) f y h = absurd (cc)
-
-pub each_parts : {S X F : Type 0} (step : S → X → Result S F) (s : S) (x : X) (xs : List X) (y : S) → each step s (x ∷ xs) ≡ Ok y → (t : S) × (step s x ≡ Ok t) × (each step t xs ≡ Ok y)
-unfolding each
-each_parts step s x xs y h = bind_ok (step s x) (λ t. each step t xs) y h
-
-pub each_none : {S X F : Type 0} (step : S → X → Result S F) (s y : S) → each step s [] ≡ Ok y → s ≡ y
-unfolding each
-each_none step s y h = ok_is s y h
-
--- a test that would refuse didn't pass
-pub unrefused : {S F : Type 0} (b : Bool) (f : F) (r : Result S F) (x : S) → cond b (Err f) r ≡ Ok x → (b ≡ false) × (r ≡ Ok x)
-unrefused true f r x h = absurd (no_fault f x h)
-unrefused false f r x h = (refl, h)
-
-pub granted : {S F : Type 0} (b : Bool) (f : F) (r : Result S F) (x : S) → cond b r (Err f) ≡ Ok x → (b ≡ true) × (r ≡ Ok x)
-granted true f r x h = (refl, h)
-granted false f r x h = absurd (no_fault f x h)
 
 pub found_or_is : (o : Option Coordinates) (c : Coordinates) → found_or o ≡ Ok c → o ≡ Some c
 found_or_is None c h = absurd (no_fault BadCell c h)
@@ -45,7 +21,7 @@ found_or_is (Some d) c h = ap (λ v. Some v) (ok_is d c h)
 -- a cell was taken into a piece
 pub record IsTaken (cells : List Coordinates) (word : List ℕ) (more : List Coordinates) : Type 0 where
   pub cell : Coordinates
-  pub room : nat_lt (length cells) 64 ≡ true
+  pub room : nat_lt (length cells) most_piece_cells ≡ true
   pub named : cell_of word ≡ Some cell
   pub new : has_cell cells cell ≡ false
   pub more_is : more ≡ cells ++ cell ∷ []
@@ -53,7 +29,7 @@ pub record IsTaken (cells : List Coordinates) (word : List ℕ) (more : List Coo
 pub cell_taken : (cells : List Coordinates) (word : List ℕ) (more : List Coordinates) → add_piece_cell cells word ≡ Ok more → IsTaken cells word more
 unfolding add_piece_cell
 cell_taken cells word more h =
-    let a = granted (nat_lt (length cells) 64) TooLarge (found_or (cell_of word) >>= new_cell cells) more h in
+    let a = granted (nat_lt (length cells) most_piece_cells) TooLarge (found_or (cell_of word) >>= new_cell cells) more h in
     let b = bind_ok (found_or (cell_of word)) (new_cell cells) more a.1 in
     let d = unrefused (has_cell cells b.0) RepeatedCell (Ok (cells ++ b.0 ∷ [])) more b.2 in
     record { cell = b.0; room = a.0; named = found_or_is (cell_of word) b.0 b.1; new = d.0; more_is = sym (ok_is (cells ++ b.0 ∷ []) more d.1) }

@@ -2,11 +2,13 @@
 use Rattle.std.proofs.Common.{◌≡◌, ◌≤◌, ℕ, ◌+◌, ◌==◌, List, [], ◌∷◌, ◌++◌, filter, flat_map, length, Bool, true, false, cond, not, ◌&&◌, nat_le, refl, sym, ap, ◌∙◌, subst, arith, append_assoc, append-nil, length-append, le_refl, le_trans, le-leb, leb-true}
 use Rattle.std.specs.List.{list_all}
 use Rattle.std.proofs.lemmas.Bool.{and_parts, and_from, or_parts, or_from, not-true, not_from_false}
-use Rattle.std.proofs.lemmas.Bool.Decides.{nat_tests}
 use Rattle.std.proofs.lemmas.List.{map-append}
 use Rattle.std.proofs.lemmas.List.Folds.{list_any-append}
+use Rattle.std.specs.Cmp.{nat_eq_equiv}
 use Rattle.poly_cells.specs.Coordinates.{Coordinates}
-use Rattle.poly_texts.specs.Cells.{has_cell, with_cell, with_cells}
+use Rattle.poly_cells.specs.CellTests.{has_cell}
+use Rattle.poly_texts.specs.Limits.{most_region_cells}
+use Rattle.poly_texts.specs.Cells.{with_cell, with_cells}
 use Rattle.poly_texts.specs.Puzzle.{names_of, has_name, are_new}
 use Rattle.poly_texts.specs.Reading.{DraftValue, nothing, has_piece, kept_shape}
 use Rattle.poly_texts.specs.Grammar.{Line, piece, box, cells, cut, is_line, piece_of, maybe_name_of, is_box, named_by, maybe_by, cut_by, AreLines}
@@ -101,19 +103,16 @@ grows s (c ∷ cs) = le_trans (one_grows s c) (grows (with_cell s c) cs)
 
 -- *names*
 
-same_sym : (a b : ℕ) → (a == b) ≡ (b == a)
-same_sym a b = grind (arith, nat_tests)
-
 named_in : (pieces : List (ℕ × List Coordinates)) (n : ℕ) → has_piece pieces n ≡ has_name (names_of pieces) n
 named_in [] n = refl
-named_in (p ∷ ps) n = rw (same_sym n p.0, named_in ps n) refl
+named_in (p ∷ ps) n = rw (nat_eq_equiv.symm n p.0, named_in ps n) refl
 
 new_push : (ns : List ℕ) (n : ℕ) → are_new ns ≡ true → has_name ns n ≡ false → are_new (ns ++ n ∷ []) ≡ true
 new_push [] n a h = refl
 new_push (m ∷ ns) n a h =
     let p = and_parts (not (has_name ns m)) (are_new ns) a in
     let q = or_parts (m == n) (has_name ns n) h in
-    let r : has_name (ns ++ n ∷ []) m ≡ false = list_any-append (λ k. k == m) ns (n ∷ []) ∙ or_from _ _ (not-true _ p.0) (or_from _ _ (same_sym n m ∙ q.0) refl) in
+    let r : has_name (ns ++ n ∷ []) m ≡ false = list_any-append (λ k. k == m) ns (n ∷ []) ∙ or_from _ _ (not-true _ p.0) (or_from _ _ (nat_eq_equiv.symm n m ∙ q.0) refl) in
     and_from _ _ (not_from_false _ r) (new_push ns n p.1 q.1)
 
 new_before : (ns : List ℕ) (n : ℕ) (more : List ℕ) → are_new (ns ++ n ∷ more) ≡ true → has_name ns n ≡ false
@@ -122,7 +121,7 @@ new_before (m ∷ ns) n more h =
     let p = and_parts (not (has_name (ns ++ n ∷ more) m)) (are_new (ns ++ n ∷ more)) h in
     let q = or_parts (has_name ns m) (has_name (n ∷ more) m) (sym (list_any-append (λ k. k == m) ns (n ∷ more)) ∙ not-true _ p.0) in
     let r = or_parts (n == m) (has_name more m) q.1 in
-    or_from _ _ (same_sym m n ∙ r.0) (new_before ns n more p.1)
+    or_from _ _ (nat_eq_equiv.symm m n ∙ r.0) (new_before ns n more p.1)
 
 -- *lines together*
 
@@ -134,7 +133,7 @@ pub record GoTogether (s : DraftValue) (ls : List Line) : Type 0 where
   pub good : list_all is_line ls ≡ true
   pub new : are_new (names_of (s.pieces ++ flat_map piece_of ls)) ≡ true
   pub one_box : bit s.boxed + length (filter is_box ls) ≤ 1
-  pub few : length (with_cells s.named (flat_map named_by ls)) ≤ 4096
+  pub few : length (with_cells s.named (flat_map named_by ls)) ≤ most_region_cells
 
 at_most_one : (b : Bool) → bit b + 0 ≤ 1
 at_most_one true = omega arith
@@ -157,13 +156,13 @@ plus_new s (box a b c) new fit = new
 plus_new s (cells optional cs) new fit = new
 plus_new s (cut cs) new fit = new
 
-plus_few : (s : DraftValue) (l : Line) → length s.named ≤ 4096 → is_fit s l ≡ true → length (plus s l).named ≤ 4096
+plus_few : (s : DraftValue) (l : Line) → length s.named ≤ most_region_cells → is_fit s l ≡ true → length (plus s l).named ≤ most_region_cells
 plus_few s (piece optional name cs) few fit = few
-plus_few s (box a b c) few fit = leb-true _ 4096 (and_parts (not s.boxed) (is_small (plus s (box a b c))) fit).1
-plus_few s (cells optional cs) few fit = leb-true _ 4096 fit
+plus_few s (box a b c) few fit = leb-true _ most_region_cells (and_parts (not s.boxed) (is_small (plus s (box a b c))) fit).1
+plus_few s (cells optional cs) few fit = leb-true _ most_region_cells fit
 plus_few s (cut cs) few fit = few
 
-pub together : (s : DraftValue) (ls : List Line) → are_new (names_of s.pieces) ≡ true → length s.named ≤ 4096 → all_fit s ls ≡ true → GoTogether s ls
+pub together : (s : DraftValue) (ls : List Line) → are_new (names_of s.pieces) ≡ true → length s.named ≤ most_region_cells → all_fit s ls ≡ true → GoTogether s ls
 together s [] new few fit = record {
   good = refl;
   new = rw append-nil new;
@@ -178,13 +177,13 @@ together s (l ∷ ls) new few fit =
       good = and_from _ _ p.0 t.good;
       new = subst (λ ps. are_new (names_of ps) ≡ true) (more_pieces s l (flat_map piece_of ls)) t.new;
       one_box = subst (λ n. n ≤ 1) (boxes_more s l ls q.0) t.one_box;
-      few = subst (λ cs. length cs ≤ 4096) (more_named s l (flat_map named_by ls)) t.few;
+      few = subst (λ cs. length cs ≤ most_region_cells) (more_named s l (flat_map named_by ls)) t.few;
     }
 
-small_before : (s : DraftValue) (l : Line) (rest : List Coordinates) → length (with_cells s.named (named_by l ++ rest)) ≤ 4096 → nat_le (length (with_cells s.named (named_by l))) 4096 ≡ true
+small_before : (s : DraftValue) (l : Line) (rest : List Coordinates) → length (with_cells s.named (named_by l ++ rest)) ≤ most_region_cells → nat_le (length (with_cells s.named (named_by l))) most_region_cells ≡ true
 small_before s l rest h =
-    let e : length (with_cells (with_cells s.named (named_by l)) rest) ≤ 4096 = subst (λ cs. length cs ≤ 4096) (with_cells-append s.named (named_by l) rest) h in
-    le-leb _ 4096 (le_trans (grows (with_cells s.named (named_by l)) rest) e)
+    let e : length (with_cells (with_cells s.named (named_by l)) rest) ≤ most_region_cells = subst (λ cs. length cs ≤ most_region_cells) (with_cells-append s.named (named_by l) rest) h in
+    le-leb _ most_region_cells (le_trans (grows (with_cells s.named (named_by l)) rest) e)
 
 unboxed : (b : Bool) (n : ℕ) → bit b + (1 + n) ≤ 1 → not b ≡ true
 unboxed true n h = absurd (omega arith)
@@ -208,7 +207,7 @@ fit_together s (l ∷ ls) t =
       good = p.1;
       new = subst (λ ps. are_new (names_of ps) ≡ true) (sym (more_pieces s l (flat_map piece_of ls))) t.new;
       one_box = subst (λ n. n ≤ 1) (sym (boxes_more s l ls fit)) t.one_box;
-      few = subst (λ cs. length cs ≤ 4096) (sym (more_named s l (flat_map named_by ls))) t.few;
+      few = subst (λ cs. length cs ≤ most_region_cells) (sym (more_named s l (flat_map named_by ls))) t.few;
     })))
 
 pub lines_together : (ls : List Line) → all_fit nothing ls ≡ true → AreLines ls

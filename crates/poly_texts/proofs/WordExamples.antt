@@ -1,19 +1,6 @@
 -- The examples of words, computed.
 use Rattle.std.proofs.Common.{◌≡◌, Some, None, false, codes, refl}
-use Rattle.poly_cells.specs.Coordinates.{coordinates}
-use Rattle.poly_texts.specs.Words.{cell_of, piece_name, is_size, size_of}
-
-a_cell : cell_of (codes "0av") ≡ Some (coordinates 0 10 31)
-a_cell = refl
-
-two_symbols : cell_of (codes "0a") ≡ None
-two_symbols = refl
-
-above_31 : cell_of (codes "0aw") ≡ None
-above_31 = refl
-
-a_capital : cell_of (codes "0A0") ≡ None
-a_capital = refl
+use Rattle.poly_texts.specs.Words.{piece_name, is_size, size_of}
 
 a_name : piece_name (codes "A") ≡ Some 65
 a_name = refl

@@ -2,17 +2,10 @@
 --
 -- Example: a box of 1 by 2 by 1 has the cells 0 0 0 and 0 1 0; with 0 1 0 and 3 0 0 they are 0 0 0, 0 1 0 and 3 0 0.
 -- proofs/CellExamples.antt computes it.
-use Rattle.std.specs.Prelude.{ℕ, ◌==◌, Bool, not, ◌&&◌, List, [], ◌∷◌, ◌++◌, map, filter, flat_map, if◌then◌else◌}
-use Rattle.std.specs.List.{list_any, range_with_len}
+use Rattle.std.specs.Prelude.{ℕ, not, List, [], ◌∷◌, ◌++◌, map, filter, flat_map, if◌then◌else◌}
+use Rattle.std.specs.List.{range_with_len}
 use Rattle.poly_cells.specs.Coordinates.{Coordinates, coordinates}
-
--- whether two cells have the same coordinates
-abbrev pub is_same : Coordinates → Coordinates → Bool
-is_same v w = (v.x == w.x) && ((v.y == w.y) && (v.z == w.z))
-
--- whether a cell is one of these
-abbrev pub has_cell : List Coordinates → Coordinates → Bool
-has_cell cells c = list_any (is_same c) cells
+use Rattle.poly_cells.specs.CellTests.{has_cell}
 
 -- these cells with one more, unless it is there
 abbrev pub with_cell : List Coordinates → Coordinates → List Coordinates

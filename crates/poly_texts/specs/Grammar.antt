@@ -5,14 +5,17 @@
 --
 -- Example: the lines `piece A 100 200`, `box 2 2 1` and `cut 000 110` say the piece A with the cells 0 0 0 and 1 0 0, and the
 -- region 0 1 0 and 1 0 0. proofs/GrammarExamples.antt computes it.
-use Rattle.std.specs.Prelude.{ℕ, ◌+◌, ◌≤◌, ◌<◌, ◌≡◌, nat_lt, nat_le, Bool, true, false, not, ◌&&◌, List, [], ◌∷◌, length, map, filter, flat_map, codes, decimal, if◌then◌else◌}
+use Rattle.std.specs.Prelude.{ℕ, ◌≤◌, ◌<◌, ◌≡◌, nat_lt, nat_le, Bool, true, false, not, ◌&&◌, List, [], ◌∷◌, length, map, filter, flat_map, codes, decimal, if◌then◌else◌}
 use Rattle.std.specs.List.{list_all}
-use Rattle.text_lines.specs.Lines.{lines_of, is_empty}
-use Rattle.text_lines.specs.Writing.{words_of_line, are_plain}
+use Rattle.text_lines.specs.Lines.{lines_of}
+use Rattle.text_lines.specs.Writing.{are_plain}
+use Rattle.text_lines.specs.Reading.{words_by_line}
 use Rattle.poly_cells.specs.Coordinates.{Coordinates, coordinates_cmp}
+use Rattle.poly_cells.specs.CellTests.{has_cell, is_in_grid}
+use Rattle.poly_cells.specs.CellWords.{cell_word}
 use Rattle.poly_cells.specs.Sets.{in_order}
-use Rattle.poly_texts.specs.declared.limits.TheConstants.{MOST_SIZE, MOST_REGION_CELLS, MOST_PIECE_CELLS}
-use Rattle.poly_texts.specs.Cells.{has_cell, with_cells, without, box_cells}
+use Rattle.poly_texts.specs.Limits.{most_size, most_region_cells, most_piece_cells}
+use Rattle.poly_texts.specs.Cells.{with_cells, without, box_cells}
 use Rattle.poly_texts.specs.Words.{is_name}
 use Rattle.poly_texts.specs.Puzzle.{PuzzleValue, names_of, are_new, needs_nothing}
 use Rattle.poly_texts.specs.Reading.{kept_shape}
@@ -27,14 +30,6 @@ pub data Line : Type 0 where
 
 -- *spelling*
 
--- one of `0-9a-v`, for 0 to 31
-abbrev pub symbol : ℕ → ℕ
-symbol n = if nat_lt n 10 then 48 + n else 87 + n
-
--- the word of a cell
-abbrev pub cell_word : Coordinates → List ℕ
-cell_word c = symbol c.x ∷ symbol c.y ∷ symbol c.z ∷ []
-
 -- the words, after `maybe` if it is so
 abbrev pub maybe_words : Bool → List (List ℕ) → List (List ℕ)
 maybe_words optional words = if optional then codes "maybe" ∷ words else words
@@ -48,10 +43,6 @@ line_words (cut cs) = codes "cut" ∷ map cell_word cs
 
 -- *the limits of a line*
 
--- a cell within the limits
-abbrev pub is_in_grid : Coordinates → Bool
-is_in_grid c = nat_le c.x 31 && (nat_le c.y 31 && nat_le c.z 31)
-
 -- at least one cell, each within the limits
 abbrev pub are_in_grid : List Coordinates → Bool
 are_in_grid cs = nat_lt 0 (length cs) && list_all is_in_grid cs
@@ -63,11 +54,11 @@ are_apart (c ∷ cs) = not (has_cell cs c) && are_apart cs
 
 -- a size of a box
 abbrev pub is_side : ℕ → Bool
-is_side n = nat_lt 0 n && nat_le n MOST_SIZE
+is_side n = nat_lt 0 n && nat_le n most_size
 
 -- a line within the limits
 abbrev pub is_line : Line → Bool
-is_line (piece optional name cs) = is_name name && (are_in_grid cs && (are_apart cs && nat_le (length cs) MOST_PIECE_CELLS))
+is_line (piece optional name cs) = is_name name && (are_in_grid cs && (are_apart cs && nat_le (length cs) most_piece_cells))
 is_line (box a b c) = is_side a && (is_side b && is_side c)
 is_line (cells optional cs) = are_in_grid cs
 is_line (cut cs) = are_in_grid cs
@@ -121,7 +112,7 @@ pub record AreLines (lines : List Line) : Type 0 where
   pub good : list_all is_line lines ≡ true
   pub new : are_new (names_of (flat_map piece_of lines)) ≡ true
   pub one_box : length (filter is_box lines) ≤ 1
-  pub few : length (with_cells [] (flat_map named_by lines)) ≤ MOST_REGION_CELLS
+  pub few : length (with_cells [] (flat_map named_by lines)) ≤ most_region_cells
 
 -- the cells of these that no line cuts, in order, each once
 abbrev pub uncut : List Line → List Coordinates → List Coordinates
@@ -141,7 +132,7 @@ puzzle_by lines = record {
 pub record IsPuzzleText (text : List ℕ) (p : PuzzleValue) : Type 0 where
   pub lines : List Line
   pub plain : are_plain (lines_of text) ≡ true
-  pub says : filter (λ words. not (is_empty words)) (map words_of_line (lines_of text)) ≡ map line_words lines
+  pub says : words_by_line (lines_of text) ≡ map line_words lines
   pub within : AreLines lines
   pub puzzle : p ≡ puzzle_by lines
   pub some_cell : 0 < length p.region

@@ -1,4 +1,5 @@
 pub mod Faults
+pub mod Limits
 pub mod Cells
 pub mod Words
 pub mod Puzzle

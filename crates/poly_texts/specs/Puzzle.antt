@@ -9,8 +9,8 @@ use Rattle.poly_cells.specs.Coordinates.{Coordinates, coordinates_cmp}
 use Rattle.poly_cells.specs.Sets.{IsIn}
 use Rattle.poly_cells.specs.Shapes.{AllInGrid, IsShape}
 use Rattle.poly_cells.specs.Images.{IsAtOrigin}
-use Rattle.poly_texts.specs.declared.limits.TheConstants.{MOST_PIECES, MOST_PIECE_CELLS, MOST_REGION_CELLS}
-use Rattle.poly_texts.specs.Cells.{has_cell}
+use Rattle.poly_texts.specs.Limits.{most_pieces, most_piece_cells, most_region_cells}
+use Rattle.poly_cells.specs.CellTests.{has_cell}
 use Rattle.poly_texts.specs.Words.{is_name}
 
 -- pieces, each with a name and the rising list of its cells; the names of those that may be left out; the rising list of the
@@ -20,6 +20,10 @@ pub record PuzzleValue : Type 0 where
   pub maybe_pieces : List ℕ
   pub region : List Coordinates
   pub maybe_cells : List Coordinates
+
+-- the puzzle of these parts
+abbrev pub puzzle_from : List (ℕ × List Coordinates) → List ℕ → List Coordinates → List Coordinates → PuzzleValue
+puzzle_from pieces maybe_pieces region maybe_cells = record { pieces = pieces; maybe_pieces = maybe_pieces; region = region; maybe_cells = maybe_cells }
 
 -- the names of pieces
 abbrev pub names_of : List (ℕ × List Coordinates) → List ℕ
@@ -41,7 +45,7 @@ needs_nothing pieces maybe_pieces region maybe_cells = list_all (has_name maybe_
 -- the cells of a piece: from 1 to 64 of them, rising, each within the limits; the least x, the least y and the least z are 0
 pub record IsPiece (cells : List Coordinates) : Type 0 where
   pub shape : IsShape cells
-  pub few : length cells ≤ MOST_PIECE_CELLS
+  pub few : length cells ≤ most_piece_cells
   pub origin : IsAtOrigin cells
 
 -- each of the pieces is one
@@ -54,10 +58,10 @@ pub record IsPuzzle (p : PuzzleValue) : Type 0 where
   pub named : list_all is_name (names_of p.pieces) ≡ true
   pub new : are_new (names_of p.pieces) ≡ true
   pub some_piece : 0 < length p.pieces
-  pub few_pieces : length p.pieces ≤ MOST_PIECES
+  pub few_pieces : length p.pieces ≤ most_pieces
   pub shaped : ArePieces p.pieces
   pub some_cell : 0 < length p.region
-  pub few : length p.region ≤ MOST_REGION_CELLS
+  pub few : length p.region ≤ most_region_cells
   pub rises : IsStrictlySortedBy coordinates_cmp p.region
   pub limits : AllInGrid p.region
   pub maybe_named : list_all (has_name (names_of p.pieces)) p.maybe_pieces ≡ true

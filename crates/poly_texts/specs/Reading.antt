@@ -11,22 +11,25 @@
 --
 -- Example: `piece A 000 000` has the fault RepeatedCell in line 1; a text of no lines has EmptyRegion in line 0, and
 -- `box 1 1 1` alone NoPiece. proofs/ReadingExamples.antt computes them.
-use Rattle.std.specs.Prelude.{ℕ, ◌+◌, ◌==◌, nat_lt, nat_le, Bool, true, false, not, List, [], ◌∷◌, ◌++◌, length, Option, Some, None, Result, Ok, Err, codes, if◌then◌else◌}
-use Rattle.std.specs.List.{list_all, list_any}
+use Rattle.std.specs.Prelude.{ℕ, ◌==◌, nat_lt, nat_le, Bool, true, false, not, List, [], ◌∷◌, ◌++◌, length, Option, Some, None, Result, Ok, Err, codes, if◌then◌else◌}
+use Rattle.std.specs.List.{list_any}
 use Rattle.std.specs.Str.{bytes_eq}
-use Rattle.text_lines.specs.Lines.{lines_of, words_of, outside_comment, is_plain, is_empty}
+use Rattle.text_lines.specs.Lines.{lines_of, is_empty}
 use Rattle.text_lines.specs.Each.{each, ◌>>=◌}
+use Rattle.text_lines.specs.Reading.{plain_line, text_read}
 use Rattle.poly_cells.specs.Coordinates.{Coordinates, coordinates_cmp}
 use Rattle.poly_cells.specs.Sets.{in_order}
 use Rattle.poly_cells.specs.Shapes.{normal}
-use Rattle.poly_texts.specs.declared.limits.TheConstants.{MOST_REGION_CELLS, MOST_PIECE_CELLS}
+use Rattle.poly_texts.specs.Limits.{most_region_cells, most_piece_cells}
 use Rattle.poly_texts.specs.declared.fault.Fault.{Fault}
 use Rattle.poly_texts.specs.declared.fault.Fault.TheVariants.{BadLine, BadCell, RepeatedCell, RepeatedPiece, SecondBox, EmptyRegion, NoPiece, TooLarge, NothingRequired}
 use Rattle.poly_texts.specs.declared.key.Key.{Key}
 use Rattle.poly_texts.specs.declared.key.Key.TheVariants as keys
-use Rattle.poly_texts.specs.Cells.{has_cell, with_cell, with_cells, without, box_cells}
-use Rattle.poly_texts.specs.Words.{cell_of, piece_name, are_sizes, are_small, size_of}
-use Rattle.poly_texts.specs.Puzzle.{PuzzleValue, needs_nothing}
+use Rattle.poly_cells.specs.CellTests.{has_cell}
+use Rattle.poly_cells.specs.CellWords.{cell_of}
+use Rattle.poly_texts.specs.Cells.{with_cell, with_cells, without, box_cells}
+use Rattle.poly_texts.specs.Words.{piece_name, are_sizes, are_small, size_of}
+use Rattle.poly_texts.specs.Puzzle.{PuzzleValue, puzzle_from, needs_nothing}
 
 -- what the lines so far say: the pieces, the names of those that may be left out, whether there was a box, and the cells that
 -- lines name, that `maybe cells` lines name and that `cut` lines name, each cell once
@@ -38,9 +41,13 @@ pub record DraftValue : Type 0 where
   pub maybe_cells : List Coordinates
   pub cut : List Coordinates
 
+-- these parts together
+abbrev pub draft_from : List (ℕ × List Coordinates) → List ℕ → Bool → List Coordinates → List Coordinates → List Coordinates → DraftValue
+draft_from pieces maybe_pieces boxed named maybe_cells cut = record { pieces = pieces; maybe_pieces = maybe_pieces; boxed = boxed; named = named; maybe_cells = maybe_cells; cut = cut }
+
 -- no lines say this
 abbrev pub nothing : DraftValue
-nothing = record { pieces = []; maybe_pieces = []; boxed = false; named = []; maybe_cells = []; cut = [] }
+nothing = draft_from [] [] false [] [] []
 
 -- *the words of a line*
 
@@ -59,7 +66,7 @@ new_cell cells c = if has_cell cells c then Err RepeatedCell else Ok (cells ++ c
 
 -- the same, where the cell is given by its word
 unfoldable pub add_piece_cell : List Coordinates → List ℕ → Result (List Coordinates) Fault
-add_piece_cell cells word = if nat_lt (length cells) MOST_PIECE_CELLS then found_or (cell_of word) >>= new_cell cells else Err TooLarge
+add_piece_cell cells word = if nat_lt (length cells) most_piece_cells then found_or (cell_of word) >>= new_cell cells else Err TooLarge
 
 -- the cells of a piece as they are kept: in order, with the least corner at 0 0 0
 abbrev pub kept_shape : List Coordinates → List Coordinates
@@ -73,7 +80,7 @@ shape_of words = each add_piece_cell [] words >>= λ cells. Ok (kept_shape cells
 
 -- what is said, where it is within the limits
 abbrev pub within : DraftValue → Result DraftValue Fault
-within s = if nat_le (length s.named) MOST_REGION_CELLS then Ok s else Err TooLarge
+within s = if nat_le (length s.named) most_region_cells then Ok s else Err TooLarge
 
 -- whether one of the pieces has this name
 abbrev pub has_piece : List (ℕ × List Coordinates) → ℕ → Bool
@@ -183,22 +190,9 @@ words_line s (key ∷ words) = keyed_line (key_from key) s words
 
 -- a line, with its comment: a byte that isn't plain may stand in the comment alone
 unfoldable pub line : DraftValue → List ℕ → Result DraftValue Fault
-line s bytes = if list_all is_plain (outside_comment bytes) then words_line s (words_of (outside_comment bytes)) else Err BadLine
+line s bytes = plain_line BadLine words_line s bytes
 
 -- *the whole text*
-
--- what was read, with the number of the next line; or a fault, with the number of its line
-abbrev pub at_line : ℕ → Result DraftValue Fault → Result (DraftValue × ℕ) (Fault × ℕ)
-at_line n (Ok s) = Ok (s, n + 1)
-at_line n (Err f) = Err (f, n)
-
--- a line, where what is said comes with the line's number
-unfoldable pub numbered_line : DraftValue × ℕ → List ℕ → Result (DraftValue × ℕ) (Fault × ℕ)
-numbered_line s bytes = at_line s.1 (line s.0 bytes)
-
--- the lines of a text, from line 1 on
-abbrev pub lines_read : List (List ℕ) → Result (DraftValue × ℕ) (Fault × ℕ)
-lines_read lines = each numbered_line (nothing, 1) lines
 
 -- the region that is said, in order
 abbrev pub region_of : DraftValue → List Coordinates
@@ -215,14 +209,13 @@ whole_fault pieces maybe_pieces region maybe_cells =
     (if length pieces == 0 then Some NoPiece else
     (if needs_nothing pieces maybe_pieces region maybe_cells then Some NothingRequired else None))
 
+-- the pieces that are said, with this region and these cells of it that may stay empty
+abbrev pub with_region : DraftValue → List Coordinates → List Coordinates → PuzzleValue
+with_region s region maybe = puzzle_from s.pieces s.maybe_pieces region maybe
+
 -- the puzzle that is said
 abbrev pub puzzle_said : DraftValue → PuzzleValue
-puzzle_said s = record {
-  pieces = s.pieces;
-  maybe_pieces = s.maybe_pieces;
-  region = region_of s;
-  maybe_cells = maybe_region_of s;
-}
+puzzle_said s = with_region s (region_of s) (maybe_region_of s)
 
 -- a puzzle, unless there is a fault
 abbrev pub unless : Option Fault → PuzzleValue → Result PuzzleValue Fault
@@ -233,11 +226,6 @@ unless (Some f) p = Err f
 unfoldable pub whole : DraftValue → Result PuzzleValue Fault
 whole s = unless (whole_fault s.pieces s.maybe_pieces (region_of s) s.maybe_cells) (puzzle_said s)
 
--- a fault of the whole text has the line number 0
-abbrev pub at_end : Result PuzzleValue Fault → Result PuzzleValue (Fault × ℕ)
-at_end (Ok p) = Ok p
-at_end (Err f) = Err (f, 0)
-
 -- the puzzle of a text; or its first fault, and the number of its line, which is 0 for a fault of the whole text
 unfoldable pub puzzle_of : List ℕ → Result PuzzleValue (Fault × ℕ)
-puzzle_of text = lines_read (lines_of text) >>= λ read. at_end (whole read.0)
+puzzle_of text = text_read line nothing whole (lines_of text)

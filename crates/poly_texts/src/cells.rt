@@ -6,8 +6,9 @@ ghost use Rattle.text_lines.specs.Each.{each};
 ghost use Rattle.poly_cells.specs.Coordinates.{coordinates, coordinates_cmp};
 ghost use Rattle.poly_cells.specs.Sets.{in_order};
 ghost use Rattle.std.specs.List.Sorted.{IsStrictlySortedBy};
-ghost use Rattle.poly_texts.specs.Cells.{has_cell, with_cells, without, row, layer, box_cells};
-ghost use Rattle.poly_texts.specs.Faults.{Gives};
+ghost use Rattle.poly_cells.specs.CellTests.{has_cell};
+ghost use Rattle.poly_texts.specs.Cells.{with_cells, without, row, layer, box_cells};
+ghost use Rattle.text_lines.specs.Answers.{Gives};
 ghost use Rattle.poly_texts.specs.Reading as reading;
 
 use crate::fault::{Fault, LineFault};

@@ -4,10 +4,10 @@ ghost use Rattle.std.specs.List.{list_all};
 ghost use Rattle.std.specs.List.Sorted.{IsStrictlySortedBy};
 ghost use Rattle.text_lines.specs.Lines.{words_of};
 ghost use Rattle.poly_cells.specs.Coordinates.{coordinates_cmp};
-ghost use Rattle.poly_texts.specs.Faults.{Gives};
+ghost use Rattle.text_lines.specs.Answers.{Gives};
 ghost use Rattle.poly_texts.specs.Puzzle.{PuzzleValue, IsPuzzle, has_name, names_of};
 ghost use Rattle.poly_texts.specs.Reading as reading;
-ghost use Rattle.poly_texts.specs.Reading.{has_piece, nothing, with_name};
+ghost use Rattle.poly_texts.specs.Reading.{has_piece, nothing, with_name, with_region};
 
 use crate::cells::{add_box, add_cells, are_all_in, uncut};
 use crate::fault::{Fault, LineFault};
@@ -21,7 +21,7 @@ use indexmap::{IndexMap, IndexSet};
 use poly_cells::{Cell, Shape};
 use std::alloc::{AllocError, AllocFailed, Global};
 use std::marker::Model;
-use text_lines::{has_words, is_all_plain, outside_comment, split_word};
+use text_lines::{ByLine, has_words, is_all_plain, outside_comment, split_word};
 
 /// A puzzle as far as its text has been read.
 #[derive(Drop)]
@@ -36,11 +36,11 @@ pub struct Draft {
 }
 
 impl Model for Draft {
-    ghost use Rattle.poly_texts.specs.Reading.{DraftValue};
+    ghost use Rattle.poly_texts.specs.Reading.{DraftValue, draft_from};
 
     ghost Value = { DraftValue };
 
-    ghost view = { λ a. record { pieces = a.pieces.entries; maybe_pieces = a.maybe_pieces.items; boxed = a.is_boxed; named = a.named.keys; maybe_cells = a.maybe_cells.keys; cut = a.cut.keys } };
+    ghost view = { λ a. draft_from a.pieces.entries a.maybe_pieces.items a.is_boxed a.named.keys a.maybe_cells.keys a.cut.keys };
 }
 
 /// The name of a new piece.
@@ -100,25 +100,25 @@ impl Draft {
         }
     }
 
-    /// The draft, if it is within the limits.
-    fn within(self) -> Result<Draft, LineFault>
-        ensures { Gives (λ d. d) result (reading.within self) }
+    /// Whether the draft is within the limits.
+    fn within(&self) -> Result<(), LineFault>
+        ensures { Gives (λ _. self.now) result (reading.within self.now) }
     {
         if self.named.len() > MOST_REGION_CELLS {
             return Err(LineFault::Fault(Fault::TooLarge));
         }
-        Ok(self)
+        Ok(())
     }
 
-    /// The draft with the piece of a `piece` line.
+    /// Takes the piece of a `piece` line.
     #[tactic(auto, unfolding(crate::specs::Reading::piece_line))]
-    fn with_piece(
-        mut self,
+    fn take_piece(
+        &mut self,
         alloc: Global,
         is_optional: bool,
         words: &[u8],
-    ) -> Result<Draft, LineFault>
-        ensures { Gives (λ d. d) result (reading.piece_line self is_optional (words_of words.now)) }
+    ) -> Result<(), LineFault>
+        ensures { Gives (λ _. self.new) result (reading.piece_line self.old is_optional (words_of words.now)) }
     {
         let Some((word, cells)) = split_word(words) else {
             return Err(LineFault::Fault(Fault::BadLine));
@@ -130,13 +130,13 @@ impl Draft {
         let shape = shape_of(alloc, cells)?;
         add_piece(&mut self.pieces, name, shape)?;
         add_name(&mut self.maybe_pieces, is_optional, name)?;
-        Ok(self)
+        Ok(())
     }
 
-    /// The draft with the cells of a `box` line.
+    /// Takes the cells of a `box` line.
     #[tactic(auto, unfolding(crate::specs::Reading::box_line))]
-    fn with_box(mut self, words: &[u8]) -> Result<Draft, LineFault>
-        ensures { Gives (λ d. d) result (reading.box_line self (words_of words.now)) }
+    fn take_box(&mut self, words: &[u8]) -> Result<(), LineFault>
+        ensures { Gives (λ _. self.new) result (reading.box_line self.old (words_of words.now)) }
     {
         let Some((a, b, c)) = three_words(words) else {
             return Err(LineFault::Fault(Fault::BadLine));
@@ -155,10 +155,10 @@ impl Draft {
         self.within()
     }
 
-    /// The draft with the cells of a `cells` line.
+    /// Takes the cells of a `cells` line.
     #[tactic(auto, unfolding(crate::specs::Reading::cells_line))]
-    fn with_cells(mut self, words: &[u8]) -> Result<Draft, LineFault>
-        ensures { Gives (λ d. d) result (reading.cells_line self (words_of words.now)) }
+    fn take_cells(&mut self, words: &[u8]) -> Result<(), LineFault>
+        ensures { Gives (λ _. self.new) result (reading.cells_line self.old (words_of words.now)) }
     {
         if !has_words(words) {
             return Err(LineFault::Fault(Fault::BadLine));
@@ -167,10 +167,10 @@ impl Draft {
         self.within()
     }
 
-    /// The draft with the cells of a `maybe cells` line.
+    /// Takes the cells of a `maybe cells` line.
     #[tactic(auto, unfolding(crate::specs::Reading::maybe_cells_line))]
-    fn with_maybe_cells(mut self, words: &[u8]) -> Result<Draft, LineFault>
-        ensures { Gives (λ d. d) result (reading.maybe_cells_line self (words_of words.now)) }
+    fn take_maybe_cells(&mut self, words: &[u8]) -> Result<(), LineFault>
+        ensures { Gives (λ _. self.new) result (reading.maybe_cells_line self.old (words_of words.now)) }
     {
         if !has_words(words) {
             return Err(LineFault::Fault(Fault::BadLine));
@@ -180,63 +180,50 @@ impl Draft {
         self.within()
     }
 
-    /// The draft without the cells of a `cut` line.
+    /// Takes the cells of a `cut` line.
     #[tactic(auto, unfolding(crate::specs::Reading::cut_line))]
-    fn with_cut(mut self, words: &[u8]) -> Result<Draft, LineFault>
-        ensures { Gives (λ d. d) result (reading.cut_line self (words_of words.now)) }
+    fn take_cut(&mut self, words: &[u8]) -> Result<(), LineFault>
+        ensures { Gives (λ _. self.new) result (reading.cut_line self.old (words_of words.now)) }
     {
         if !has_words(words) {
             return Err(LineFault::Fault(Fault::BadLine));
         }
-        add_cells(&mut self.cut, words)?;
-        Ok(self)
+        add_cells(&mut self.cut, words)
     }
 
-    /// The draft with what a `maybe` line says after that word.
+    /// Takes what a `maybe` line says after that word.
     #[tactic(auto, unfolding(crate::specs::Reading::maybe_line))]
-    fn with_maybe(self, alloc: Global, words: &[u8]) -> Result<Draft, LineFault>
-        ensures { Gives (λ d. d) result (reading.maybe_line self (words_of words.now)) }
+    fn take_maybe(&mut self, alloc: Global, words: &[u8]) -> Result<(), LineFault>
+        ensures { Gives (λ _. self.new) result (reading.maybe_line self.old (words_of words.now)) }
     {
         let Some((key, words)) = split_word(words) else {
             return Err(LineFault::Fault(Fault::BadLine));
         };
         match key_of(key) {
-            Some(Key::Piece) => self.with_piece(alloc, true, words),
-            Some(Key::Cells) => self.with_maybe_cells(words),
+            Some(Key::Piece) => self.take_piece(alloc, true, words),
+            Some(Key::Cells) => self.take_maybe_cells(words),
             Some(Key::Box) | Some(Key::Cut) | Some(Key::Maybe) | None => {
                 Err(LineFault::Fault(Fault::BadLine))
             }
         }
     }
 
-    /// The draft with a line of these words.
+    /// Takes a line of these words.
     #[tactic(auto, unfolding(crate::specs::Reading::words_line))]
-    fn with_words(self, alloc: Global, words: &[u8]) -> Result<Draft, LineFault>
-        ensures { Gives (λ d. d) result (reading.words_line self (words_of words.now)) }
+    fn take_words(&mut self, alloc: Global, words: &[u8]) -> Result<(), LineFault>
+        ensures { Gives (λ _. self.new) result (reading.words_line self.old (words_of words.now)) }
     {
         let Some((key, words)) = split_word(words) else {
-            return Ok(self);
+            return Ok(());
         };
         match key_of(key) {
-            Some(Key::Piece) => self.with_piece(alloc, false, words),
-            Some(Key::Box) => self.with_box(words),
-            Some(Key::Cells) => self.with_cells(words),
-            Some(Key::Cut) => self.with_cut(words),
-            Some(Key::Maybe) => self.with_maybe(alloc, words),
+            Some(Key::Piece) => self.take_piece(alloc, false, words),
+            Some(Key::Box) => self.take_box(words),
+            Some(Key::Cells) => self.take_cells(words),
+            Some(Key::Cut) => self.take_cut(words),
+            Some(Key::Maybe) => self.take_maybe(alloc, words),
             None => Err(LineFault::Fault(Fault::BadLine)),
         }
-    }
-
-    /// The draft with a line.
-    #[tactic(auto, unfolding(crate::specs::Reading::line))]
-    pub fn with_line(self, alloc: Global, line: &[u8]) -> Result<Draft, LineFault>
-        ensures { Gives (λ d. d) result (reading.line self line.now) }
-    {
-        let said = outside_comment(line);
-        if !is_all_plain(said) {
-            return Err(LineFault::Fault(Fault::BadLine));
-        }
-        self.with_words(alloc, said)
     }
 
     /// The cells of the region, in order.
@@ -273,23 +260,46 @@ impl Draft {
         None
     }
 
-    /// The puzzle of a whole text.
+    /// The region of a whole text, and its cells that may stay empty.
     #[tactic(auto, unfolding(crate::specs::Reading::whole))]
-    pub fn into_puzzle(self, alloc: Global) -> Result<Puzzle, LineFault>
-        requires { (p : PuzzleValue) → reading.whole self ≡ Ok p → IsPuzzle p }
-        ensures { Gives (λ p. p) result (reading.whole self) }
+    fn whole_region(&self, alloc: Global) -> Result<(Shape, Vec<Cell>), LineFault>
+        ensures { Gives (λ r. with_region self.now r.0 r.1.items) result (reading.whole self.now) }
     {
         let region = self.region(alloc)?;
         let maybe_cells = self.optional_cells(alloc)?;
         if let Some(fault) = self.whole_fault(region.as_slice()) {
             return Err(LineFault::Fault(fault));
         }
+        Ok((Shape::new(region), maybe_cells))
+    }
+
+    /// The puzzle of a whole text.
+    pub fn into_puzzle(self, alloc: Global) -> Result<Puzzle, LineFault>
+        requires { (p : PuzzleValue) → reading.whole self ≡ Ok p → IsPuzzle p }
+        ensures { Gives (λ p. p) result (reading.whole self) }
+    {
+        let (region, maybe_cells) = self.whole_region(alloc)?;
         let Draft {
             pieces,
             maybe_pieces,
             ..
         } = self;
-        Ok(Puzzle::from_parts(pieces, maybe_pieces, Shape::new(region), maybe_cells))
+        Ok(Puzzle::from_parts(pieces, maybe_pieces, region, maybe_cells))
+    }
+}
+
+impl ByLine for Draft {
+    type Fault = Fault;
+
+    ghost line = { reading.line };
+
+    #[tactic(auto, unfolding(crate::specs::Reading::line, text_lines::specs::Reading::plain_line))]
+    fn add_line(&mut self, alloc: Global, bytes: &[u8]) -> Result<(), LineFault> {
+        let said = outside_comment(bytes);
+        if !is_all_plain(said) {
+            return Err(LineFault::Fault(Fault::BadLine));
+        }
+        self.take_words(alloc, said)
     }
 }
 

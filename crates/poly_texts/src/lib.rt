@@ -5,6 +5,7 @@ mod cells;
 mod draft;
 mod fault;
 mod key;
+pub mod laws;
 mod limits;
 mod name;
 mod piece;

@@ -1,6 +1,6 @@
 //! A puzzle.
 ghost use Rattle.std.specs.Prelude.{◌≡◌};
-ghost use Rattle.poly_texts.specs.Puzzle.{IsPuzzle};
+ghost use Rattle.poly_texts.specs.Puzzle.{puzzle_from, IsPuzzle};
 
 use crate::name::PieceName;
 use indexmap::IndexMap;
@@ -17,13 +17,13 @@ pub struct Puzzle {
 }
 
 impl Model for Puzzle {
-    ghost use Rattle.poly_texts.specs.Puzzle.{PuzzleValue, IsPuzzle};
+    ghost use Rattle.poly_texts.specs.Puzzle.{PuzzleValue, puzzle_from, IsPuzzle};
 
     ghost Value = { PuzzleValue };
 
-    ghost view = { λ a. record { pieces = a.pieces.entries; maybe_pieces = a.maybe_pieces.items; region = a.region; maybe_cells = a.maybe_cells.items } };
+    ghost view = { λ a. puzzle_from a.pieces.entries a.maybe_pieces.items a.region a.maybe_cells.items };
 
-    ghost invariant = { λ a. IsPuzzle (record { pieces = a.pieces.entries; maybe_pieces = a.maybe_pieces.items; region = a.region; maybe_cells = a.maybe_cells.items }) };
+    ghost invariant = { λ a. IsPuzzle (puzzle_from a.pieces.entries a.maybe_pieces.items a.region a.maybe_cells.items) };
 }
 
 impl Puzzle {
@@ -34,8 +34,8 @@ impl Puzzle {
         region: Shape,
         maybe_cells: Vec<Cell>,
     ) -> Puzzle
-        requires { IsPuzzle (record { pieces = pieces.entries; maybe_pieces = maybe_pieces.items; region = region; maybe_cells = maybe_cells.items }) }
-        ensures { result ≡ record { pieces = pieces.entries; maybe_pieces = maybe_pieces.items; region = region; maybe_cells = maybe_cells.items } }
+        requires { IsPuzzle (puzzle_from pieces.entries maybe_pieces.items region maybe_cells.items) }
+        ensures { result ≡ puzzle_from pieces.entries maybe_pieces.items region maybe_cells.items }
     {
         Puzzle {
             pieces,

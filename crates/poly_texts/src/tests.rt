@@ -1,153 +1,201 @@
-//! Each call once, with answers that were written down by hand.
+//! Each call once, with answers that were written down by hand. Texts and their answers are rows of tables; a long text is
+//! written by functions that change it in place.
 ghost use Rattle.std.specs.Prelude.{◌<◌};
 
 use super::*;
 use poly_cells::Cell;
+use std::alloc::Global;
 use std::process::Abort;
 use std::test::Fail;
 
+/// A text, and the fault and the line with which it is refused.
+type Refusal = (&'static [u8], Fault, u64);
+
 /// Whether a text is refused with this fault in this line.
-fn is_refused(rt: &HostRuntime, text: &[u8], fault: Fault, line: u64) -> bool {
-    match read_puzzle(rt.alloc(), text) {
+fn is_refused(alloc: Global, text: &[u8], fault: Fault, line: u64) -> bool {
+    match read_puzzle(alloc, text) {
         Err(found) => found == PuzzleFault::Fault { fault, line },
         Ok(_) => false,
     }
 }
 
+/// Tells the first row whose text isn't refused so.
+fn assert_refused(rt: &impl Abort, alloc: Global, rows: &[Refusal]) {
+    let wrong = rows.iter().position(|(text, fault, line)| !is_refused(alloc, text, *fault, *line));
+    assert_eq!(rt; wrong, None);
+}
+
+const NINE_FAULTS: [Refusal; 9] = [
+    (b"bin 1 1 1", Fault::BadLine, 1),
+    (b"cells 000\ncells 00w", Fault::BadCell, 2),
+    (b"piece V 000 100 100", Fault::RepeatedCell, 1),
+    (b"piece V 000\n\nmaybe piece V 000", Fault::RepeatedPiece, 3),
+    (b"box 1 1 1\nbox 2 1 1", Fault::SecondBox, 2),
+    (b"", Fault::EmptyRegion, 0),
+    (b"box 1 1 1", Fault::NoPiece, 0),
+    (b"box 33 1 1", Fault::TooLarge, 1),
+    (
+        b"maybe cells 000\nmaybe piece A 000",
+        Fault::NothingRequired,
+        0,
+    ),
+];
+
+#[test]
+fn a_text_has_one_of_nine_faults(rt: HostRuntime) {
+    assert_refused(&rt, rt.alloc(), &NINE_FAULTS);
+}
+
+#[test]
+fn a_fault_has_a_number_and_a_name(rt: HostRuntime) {
+    assert!(rt; Fault::NothingRequired.number() == 9);
+    assert!(rt; Fault::TooLarge.name().as_bytes() == b"TooLarge".as_slice());
+}
+
+const FIRST_FAULTS: [Refusal; 15] = [
+    (b"piece V 000\rx", Fault::BadLine, 1),
+    (b"piece VV 00", Fault::BadLine, 1),
+    (b"piece V 000\npiece V 00", Fault::RepeatedPiece, 2),
+    (b"piece V 000 00 000", Fault::BadCell, 1),
+    (b"piece V 000 000 00", Fault::RepeatedCell, 1),
+    (b"box 1 1 1\nbox 0 1 1", Fault::BadLine, 2),
+    (
+        b"box 1 1 1\nbox 99999999999999999999 1 1",
+        Fault::SecondBox,
+        2,
+    ),
+    (b"box 99999999999999999999 1 01", Fault::BadLine, 1),
+    (b"box 1 1 1 1", Fault::BadLine, 1),
+    (b"cells\ncells 0", Fault::BadLine, 1),
+    (b"maybe", Fault::BadLine, 1),
+    (b"maybe box 1 1 1", Fault::BadLine, 1),
+    (b"maybe piece A", Fault::BadLine, 1),
+    (b"maybe cells 000 v\npiece", Fault::BadCell, 1),
+    (b"cut 000\ncells 000\npiece A 000", Fault::EmptyRegion, 0),
+];
+
+#[test]
+fn the_first_fault_of_a_line_is_named(rt: HostRuntime) {
+    assert_refused(&rt, rt.alloc(), &FIRST_FAULTS);
+}
+
+/// A piece of 64 cells and a word more.
+const FULL_PIECE: &[u8] =
+    b"piece A 000 001 002 003 004 005 006 007 008 009 00a 00b 00c 00d 00e 00f 010 011 012 013 014 015 016 017 018 019 01a 01b 01c 01d 01e 01f 020 021 022 023 024 025 026 027 028 029 02a 02b 02c 02d 02e 02f 030 031 032 033 034 035 036 037 038 039 03a 03b 03c 03d 03e 03f x";
+
+const LIMITS: [Refusal; 5] = [
+    (b"box 32 32 4", Fault::NoPiece, 0),
+    (b"box 32 32 5", Fault::TooLarge, 1),
+    (
+        b"cut 000\nbox 32 4 32\n\nmaybe cells 0v0",
+        Fault::TooLarge,
+        4,
+    ),
+    (b"box 32 4 32\ncells 000 vvv", Fault::TooLarge, 2),
+    (FULL_PIECE, Fault::TooLarge, 1),
+];
+
+#[test]
+fn limits_are_kept(rt: HostRuntime) {
+    assert_refused(&rt, rt.alloc(), &LIMITS);
+    let (most, _) = FULL_PIECE.split_at(FULL_PIECE.len() - 2);
+    assert!(rt; is_refused(rt.alloc(), most, Fault::EmptyRegion, 0));
+}
+
+const LAST_LINES: [Refusal; 4] = [
+    (b"box 1 1 1\r", Fault::NoPiece, 0),
+    (b"box 1 1 1\r\r", Fault::BadLine, 1),
+    (b"box 1 1 1 \x0b", Fault::BadLine, 1),
+    (b"\r\n#\x00\xff\nbox\t1 1\t1#\r", Fault::NoPiece, 0),
+];
+
+#[test]
+fn the_last_line_may_lack_its_end(rt: HostRuntime) {
+    assert_refused(&rt, rt.alloc(), &LAST_LINES);
+}
+
+/// Coordinates of cells.
+type Cells = &'static [(u8, u8, u8)];
+
+/// What a puzzle has: its pieces, the names of those that may be left out, its region, and the cells that may stay empty.
+struct Parts {
+    pieces: &'static [(u8, Cells)],
+    maybe_pieces: &'static [u8],
+    region: Cells,
+    maybe_cells: Cells,
+}
+
 /// Whether the cells have these coordinates.
-fn are_cells(cells: &[Cell], coordinates: &[(u8, u8, u8)]) -> bool {
+fn are_cells(cells: &[Cell], coordinates: Cells) -> bool {
     cells.len() == coordinates.len()
         && cells
             .iter()
             .zip(coordinates.iter())
-            .all(|(cell, place)| (cell.x(), cell.y(), cell.z()) == *place)
+            .all(|(cell, at)| (cell.x(), cell.y(), cell.z()) == *at)
 }
 
+/// Whether the pieces have these names and cells.
+fn are_pieces(puzzle: &Puzzle, pieces: &[(u8, Cells)]) -> bool {
+    puzzle.pieces().len() == pieces.len()
+        && puzzle.pieces().iter().zip(pieces.iter()).all(|(
+            (name, shape),
+            (symbol, cells),
+        )| name.symbol() == *symbol && are_cells(shape.cells(), cells))
+}
+
+/// Whether the names have these symbols.
+fn are_names(names: &[PieceName], symbols: &[u8]) -> bool {
+    names.len() == symbols.len()
+        && names
+            .iter()
+            .zip(symbols.iter())
+            .all(|(name, symbol)| name.symbol() == *symbol)
+}
+
+/// Whether a text is read as the puzzle with these parts.
+fn is_read(alloc: Global, text: &[u8], parts: &Parts) -> bool {
+    match read_puzzle(alloc, text) {
+        Ok(puzzle) => {
+            are_pieces(&puzzle, parts.pieces)
+                && are_names(puzzle.maybe_pieces(), parts.maybe_pieces)
+                && are_cells(puzzle.region().cells(), parts.region)
+                && are_cells(puzzle.maybe_cells(), parts.maybe_cells)
+        }
+        Err(_) => false,
+    }
+}
+
+const TWO_PIECES: Parts = Parts {
+    pieces: &[(b'A', &[(0, 0, 0), (1, 0, 0)]), (b'b', &[(0, 0, 0)])],
+    maybe_pieces: b"b",
+    region: &[(0, 1, 0), (0, 10, 0), (1, 0, 0), (1, 1, 0)],
+    maybe_cells: &[(0, 10, 0), (1, 1, 0)],
+};
+
 #[test]
-fn a_puzzle_is_read(rt: HostRuntime) -> Result<(), Fail> {
+fn a_puzzle_is_read(rt: HostRuntime) {
     let text =
         b"# two pieces\n\npiece A 100 200 # moved\r\n\tmaybe  piece b 00v#\xff\nbox 2 2 1\ncut 000 310\nmaybe cells 0a0 110";
-    let puzzle = read_puzzle(rt.alloc(), text)?;
-    assert_eq!(rt; puzzle.pieces().len(), 2);
-    let mut pieces = puzzle.pieces().iter();
-    let (name, shape) = pieces.next().expect(&rt, "a piece");
-    assert_eq!(rt; name.symbol(), b'A');
-    assert!(rt; are_cells(shape.cells(), &[(0, 0, 0), (1, 0, 0)]));
-    let (name, shape) = pieces.next().expect(&rt, "a second piece");
-    assert_eq!(rt; name.symbol(), b'b');
-    assert!(rt; are_cells(shape.cells(), &[(0, 0, 0)]));
-    let names = puzzle.maybe_pieces();
-    assert_eq!(rt; names.len(), 1);
-    assert_eq!(rt; names[0].symbol(), b'b');
-    let region = [(0, 1, 0), (0, 10, 0), (1, 0, 0), (1, 1, 0)];
-    assert!(rt; are_cells(puzzle.region().cells(), &region));
-    assert!(rt; are_cells(puzzle.maybe_cells(), &[(0, 10, 0), (1, 1, 0)]));
-    Ok(())
+    assert!(rt; is_read(rt.alloc(), text, &TWO_PIECES));
 }
 
-#[test]
-fn a_text_has_one_of_nine_faults(rt: HostRuntime) {
-    assert!(rt; is_refused(&rt, b"bin 1 1 1", Fault::BadLine, 1));
-    assert!(rt; is_refused(&rt, b"cells 000\ncells 00w", Fault::BadCell, 2));
-    assert!(rt; is_refused(&rt, b"piece V 000 100 100", Fault::RepeatedCell, 1));
-    assert!(rt;
-        is_refused(
-            &rt,
-            b"piece V 000\n\nmaybe piece V 000",
-            Fault::RepeatedPiece,
-            3
-        )
-    );
-    assert!(rt; is_refused(&rt, b"box 1 1 1\nbox 2 1 1", Fault::SecondBox, 2));
-    assert!(rt; is_refused(&rt, b"", Fault::EmptyRegion, 0));
-    assert!(rt; is_refused(&rt, b"box 1 1 1", Fault::NoPiece, 0));
-    assert!(rt; is_refused(&rt, b"box 33 1 1", Fault::TooLarge, 1));
-    assert!(rt;
-        is_refused(
-            &rt,
-            b"maybe cells 000\nmaybe piece A 000",
-            Fault::NothingRequired,
-            0
-        )
-    );
-    assert_eq!(rt; Fault::NothingRequired.number(), 9);
-    assert!(rt; Fault::TooLarge.name().as_bytes() == b"TooLarge".as_slice());
-}
+const OPTIONAL_CELL: Parts = Parts {
+    pieces: &[(b'A', &[(0, 0, 0)])],
+    maybe_pieces: b"",
+    region: &[(0, 0, 0), (1, 0, 0)],
+    maybe_cells: &[(0, 0, 0)],
+};
 
 #[test]
-fn the_first_fault_of_a_line_is_named(rt: HostRuntime) {
-    assert!(rt; is_refused(&rt, b"piece V 000\rx", Fault::BadLine, 1));
-    assert!(rt; is_refused(&rt, b"piece VV 00", Fault::BadLine, 1));
-    assert!(rt; is_refused(&rt, b"piece V 000\npiece V 00", Fault::RepeatedPiece, 2));
-    assert!(rt; is_refused(&rt, b"piece V 000 00 000", Fault::BadCell, 1));
-    assert!(rt; is_refused(&rt, b"piece V 000 000 00", Fault::RepeatedCell, 1));
-    assert!(rt; is_refused(&rt, b"box 1 1 1\nbox 0 1 1", Fault::BadLine, 2));
-    assert!(rt;
-        is_refused(
-            &rt,
-            b"box 1 1 1\nbox 99999999999999999999 1 1",
-            Fault::SecondBox,
-            2
-        )
-    );
-    assert!(rt; is_refused(&rt, b"box 99999999999999999999 1 01", Fault::BadLine, 1));
-    assert!(rt; is_refused(&rt, b"box 1 1 1 1", Fault::BadLine, 1));
-    assert!(rt; is_refused(&rt, b"cells\ncells 0", Fault::BadLine, 1));
-    assert!(rt; is_refused(&rt, b"maybe", Fault::BadLine, 1));
-    assert!(rt; is_refused(&rt, b"maybe box 1 1 1", Fault::BadLine, 1));
-    assert!(rt; is_refused(&rt, b"maybe piece A", Fault::BadLine, 1));
-    assert!(rt; is_refused(&rt, b"maybe cells 000 v\npiece", Fault::BadCell, 1));
-    assert!(rt;
-        is_refused(
-            &rt,
-            b"cut 000\ncells 000\npiece A 000",
-            Fault::EmptyRegion,
-            0
-        )
-    );
-}
-
-#[test]
-fn limits_are_kept(rt: HostRuntime) {
-    assert!(rt; is_refused(&rt, b"box 32 32 4", Fault::NoPiece, 0));
-    assert!(rt; is_refused(&rt, b"box 32 32 5", Fault::TooLarge, 1));
-    assert!(rt;
-        is_refused(
-            &rt,
-            b"cut 000\nbox 32 4 32\n\nmaybe cells 0v0",
-            Fault::TooLarge,
-            4
-        )
-    );
-    assert!(rt; is_refused(&rt, b"box 32 4 32\ncells 000 vvv", Fault::TooLarge, 2));
-    let full =
-        b"piece A 000 001 002 003 004 005 006 007 008 009 00a 00b 00c 00d 00e 00f 010 011 012 013 014 015 016 017 018 019 01a 01b 01c 01d 01e 01f 020 021 022 023 024 025 026 027 028 029 02a 02b 02c 02d 02e 02f 030 031 032 033 034 035 036 037 038 039 03a 03b 03c 03d 03e 03f x";
-    let (most, _) = full.split_at(full.len() - 2);
-    assert!(rt; is_refused(&rt, most, Fault::EmptyRegion, 0));
-    assert!(rt; is_refused(&rt, full, Fault::TooLarge, 1));
-}
-
-#[test]
-fn the_last_line_may_lack_its_end(rt: HostRuntime) {
-    assert!(rt; is_refused(&rt, b"box 1 1 1\r", Fault::NoPiece, 0));
-    assert!(rt; is_refused(&rt, b"box 1 1 1\r\r", Fault::BadLine, 1));
-    assert!(rt; is_refused(&rt, b"box 1 1 1 \x0b", Fault::BadLine, 1));
-    assert!(rt; is_refused(&rt, b"\r\n#\x00\xff\nbox\t1 1\t1#\r", Fault::NoPiece, 0));
-}
-
-#[test]
-fn a_cell_of_maybe_is_optional_wherever_it_is_named(rt: HostRuntime) -> Result<(), Fail> {
+fn a_cell_of_maybe_is_optional_wherever_it_is_named(rt: HostRuntime) {
     let text = b"cut 200\nmaybe cells 000 200\nbox 3 1 1\ncells 000 000\npiece A 000";
-    let puzzle = read_puzzle(rt.alloc(), text)?;
-    assert!(rt; are_cells(puzzle.region().cells(), &[(0, 0, 0), (1, 0, 0)]));
-    assert!(rt; are_cells(puzzle.maybe_cells(), &[(0, 0, 0)]));
-    Ok(())
+    assert!(rt; is_read(rt.alloc(), text, &OPTIONAL_CELL));
 }
 
 /// The symbols of coordinates, and of names of pieces.
 const SYMBOLS: &[u8; 62] = b"0123456789abcdefghijklmnopqrstuvwxyzABCDEFGHIJKLMNOPQRSTUVWXYZ";
 
-/// Writes a space and the word of a cell, which its place in the order numbers from 0 to 32,767.
+/// Writes a space and the word of a cell, which its index in the order numbers from 0 to 32,767.
 fn write_cell(text: &mut Vec<u8>, n: usize) -> Result<(), Fail> {
     text.push(b' ')?;
     text.push(SYMBOLS[n / 1024 % 32])?;
@@ -177,88 +225,150 @@ fn write_cells(
     Ok(())
 }
 
+/// How many cells the region of a text has, and how many of them may stay empty.
+fn sizes_of(alloc: Global, text: &[u8]) -> Option<(usize, usize)> {
+    match read_puzzle(alloc, text) {
+        Ok(puzzle) => Some((puzzle.region().cells().len(), puzzle.maybe_cells().len())),
+        Err(_) => None,
+    }
+}
+
+const LAST_CELL: Parts = Parts {
+    pieces: &[(b'A', &[(0, 0, 0)])],
+    maybe_pieces: b"",
+    region: &[(31, 31, 31)],
+    maybe_cells: &[(31, 31, 31)],
+};
+
 /// Whether a region of 4,096 cells is read that are named twice, in lines of so many cells; then the same with all but the last
 /// of them cut; and then one cell more is refused, in the line with this number.
-fn is_full_region_read(rt: &HostRuntime, each: usize, last: u64) -> Result<bool, Fail>
+fn is_full_region_read(
+    alloc: Global,
+    text: &mut Vec<u8>,
+    each: usize,
+    last: u64,
+) -> Result<bool, Fail>
     requires { 0 < each }
 {
-    let mut text = Vec::from_slice(rt.alloc(), b"piece A 000")?;
-    write_cells(&mut text, b"cells", 28_672, 32_768, each)?;
-    write_cells(&mut text, b"maybe cells", 28_672, 32_768, each)?;
-    let full = read_puzzle(rt.alloc(), text.as_slice())?;
-    write_cells(&mut text, b"cut", 28_672, 32_767, each)?;
-    let cut = read_puzzle(rt.alloc(), text.as_slice())?;
+    text.extend_from_slice(b"piece A 000")?;
+    write_cells(text, b"cells", 28_672, 32_768, each)?;
+    write_cells(text, b"maybe cells", 28_672, 32_768, each)?;
+    let sizes = sizes_of(alloc, text.as_slice());
+    write_cells(text, b"cut", 28_672, 32_767, each)?;
+    let is_cut = is_read(alloc, text.as_slice(), &LAST_CELL);
     text.extend_from_slice(b"\ncells 000")?;
-    Ok(
-        full.region().cells().len() == 4096
-            && full.maybe_cells().len() == 4096
-            && are_cells(cut.region().cells(), &[(31, 31, 31)])
-            && are_cells(cut.maybe_cells(), &[(31, 31, 31)])
-            && is_refused(rt, text.as_slice(), Fault::TooLarge, last),
-    )
+    let is_refused = is_refused(alloc, text.as_slice(), Fault::TooLarge, last);
+    Ok(sizes == Some((4096, 4096)) && is_cut && is_refused)
+}
+
+/// The same, of a text that begins empty.
+fn is_full_region(alloc: Global, each: usize, last: u64) -> Result<bool, Fail>
+    requires { 0 < each }
+{
+    is_full_region_read(alloc, &mut Vec::new(alloc), each, last)
 }
 
 #[test]
 fn a_full_region_is_read_in_one_line_or_many(rt: HostRuntime) -> Result<(), Fail> {
-    assert!(rt; is_full_region_read(&rt, 4096, 5)?);
-    assert!(rt; is_full_region_read(&rt, 64, 194)?);
-    assert!(rt; is_full_region_read(&rt, 1, 12_289)?);
+    assert!(rt; is_full_region(rt.alloc(), 4096, 5)?);
+    assert!(rt; is_full_region(rt.alloc(), 64, 194)?);
+    assert!(rt; is_full_region(rt.alloc(), 1, 12_289)?);
+    Ok(())
+}
+
+/// Writes a box, and its cells 64 times more: each 32 times in lines of their own, and 32 times in one line.
+fn write_repeated_cells(text: &mut Vec<u8>) -> Result<(), Fail> {
+    text.extend_from_slice(b"piece A 000\nbox 4 32 32")?;
+    for _ in 0..32 {
+        write_cells(text, b"cells", 0, 4096, 4096)?;
+    }
+    text.extend_from_slice(b"\ncells")?;
+    for n in 0..131_072usize {
+        write_cell(text, n % 4096)?;
+    }
     Ok(())
 }
 
 #[test]
 fn repeated_cells_are_read(rt: HostRuntime) -> Result<(), Fail> {
-    let mut text = Vec::from_slice(rt.alloc(), b"piece A 000\nbox 4 32 32")?;
-    for _ in 0..32 {
-        write_cells(&mut text, b"cells", 0, 4096, 4096)?;
-    }
-    text.extend_from_slice(b"\ncells")?;
-    for n in 0..131_072usize {
-        write_cell(&mut text, n % 4096)?;
-    }
-    let puzzle = read_puzzle(rt.alloc(), text.as_slice())?;
-    assert_eq!(rt; puzzle.region().cells().len(), 4096);
-    assert!(rt; puzzle.maybe_cells().is_empty());
+    let mut text = Vec::new(rt.alloc());
+    write_repeated_cells(&mut text)?;
+    assert!(rt; sizes_of(rt.alloc(), text.as_slice()) == Some((4096, 0)));
     write_cells(&mut text, b"cells", 0, 32_768, 32_768)?;
-    assert!(rt; is_refused(&rt, text.as_slice(), Fault::TooLarge, 36));
+    assert!(rt; is_refused(rt.alloc(), text.as_slice(), Fault::TooLarge, 36));
     Ok(())
 }
 
-#[test]
-fn as_many_pieces_as_names_are_read(rt: HostRuntime) -> Result<(), Fail> {
-    let mut text = Vec::from_slice(rt.alloc(), b"box 1 1 1")?;
+/// Writes a piece of each name, of 64 cells in two rows.
+fn write_all_pieces(text: &mut Vec<u8>) -> Result<(), Fail> {
+    text.extend_from_slice(b"box 1 1 1")?;
     for (k, name) in SYMBOLS.iter().enumerate() {
         text.extend_from_slice(b"\npiece ")?;
         text.push(*name)?;
         for n in 0..64usize {
-            write_cell(&mut text, 64 * k + n)?;
+            write_cell(text, 64 * k + n)?;
         }
     }
-    let puzzle = read_puzzle(rt.alloc(), text.as_slice())?;
-    assert_eq!(rt; puzzle.pieces().len(), MOST_PIECES);
-    for (name, (found, shape)) in SYMBOLS.iter().zip(puzzle.pieces().iter()) {
-        assert_eq!(rt; found.symbol(), *name);
-        assert_eq!(rt; shape.cells().len(), 64);
-        let last = shape.cells()[shape.cells().len() - 1];
-        assert!(rt; (last.x(), last.y(), last.z()) == (0, 1, 31));
-    }
-    text.extend_from_slice(b"\npiece 0 000")?;
-    assert!(rt; is_refused(&rt, text.as_slice(), Fault::RepeatedPiece, 64));
     Ok(())
 }
 
+/// Whether the cells are 64, of which the last is 0 1 31.
+fn are_two_rows(cells: &[Cell]) -> bool {
+    cells.len() == 64
+        && cells
+            .last()
+            .is_some_and(|cell| (cell.x(), cell.y(), cell.z()) == (0, 1, 31))
+}
+
+/// Whether a text is read as those pieces.
+fn are_all_pieces(alloc: Global, text: &[u8]) -> bool {
+    match read_puzzle(alloc, text) {
+        Ok(puzzle) => {
+            puzzle.pieces().len() == MOST_PIECES
+                && SYMBOLS.iter().zip(puzzle.pieces().iter()).all(|(
+                    symbol,
+                    (name, shape),
+                )| name.symbol() == *symbol && are_two_rows(shape.cells()))
+        }
+        Err(_) => false,
+    }
+}
+
 #[test]
-fn blank_lines_and_comments_say_nothing(rt: HostRuntime) -> Result<(), Fail> {
-    let mut text = Vec::from_slice(rt.alloc(), b"piece A 000 #")?;
+fn as_many_pieces_as_names_are_read(rt: HostRuntime) -> Result<(), Fail> {
+    let mut text = Vec::new(rt.alloc());
+    write_all_pieces(&mut text)?;
+    assert!(rt; are_all_pieces(rt.alloc(), text.as_slice()));
+    text.extend_from_slice(b"\npiece 0 000")?;
+    assert!(rt; is_refused(rt.alloc(), text.as_slice(), Fault::RepeatedPiece, 64));
+    Ok(())
+}
+
+/// Writes a puzzle of one cell with a long comment, many blank lines and a long end.
+fn write_blanks(text: &mut Vec<u8>) -> Result<(), Fail> {
+    text.extend_from_slice(b"piece A 000 #")?;
     text.resize(1 << 20, b'\xff')?;
     for _ in 0..262_144u32 {
         text.extend_from_slice(b"\n \t\r")?;
     }
     text.extend_from_slice(b"\nbox 1 1 1")?;
     text.resize(3 << 20, b' ')?;
-    let puzzle = read_puzzle(rt.alloc(), text.as_slice())?;
-    assert!(rt; are_cells(puzzle.region().cells(), &[(0, 0, 0)]));
+    Ok(())
+}
+
+const ONE_CELL: Parts = Parts {
+    pieces: &[(b'A', &[(0, 0, 0)])],
+    maybe_pieces: b"",
+    region: &[(0, 0, 0)],
+    maybe_cells: &[],
+};
+
+#[test]
+fn blank_lines_and_comments_say_nothing(rt: HostRuntime) -> Result<(), Fail> {
+    let mut text = Vec::new(rt.alloc());
+    write_blanks(&mut text)?;
+    assert!(rt; is_read(rt.alloc(), text.as_slice(), &ONE_CELL));
     text.extend_from_slice(b"\r\r")?;
-    assert!(rt; is_refused(&rt, text.as_slice(), Fault::BadLine, 262_146));
+    assert!(rt; is_refused(rt.alloc(), text.as_slice(), Fault::BadLine, 262_146));
     Ok(())
 }

@@ -1,7 +1,8 @@
 //! The words of a puzzle text that are cells or sizes.
 ghost use Rattle.std.specs.Prelude.{◌≡◌, ◌<◌, ◌≤◌, true, false, option_map, IfSome, IfNone};
 ghost use Rattle.text_lines.specs.Lines.{words_of};
-ghost use Rattle.poly_texts.specs.declared.limits.TheConstants.{MOST_SIZE};
+ghost use Rattle.poly_texts.specs.Limits.{most_size};
+ghost use Rattle.poly_cells.specs.CellWords as cells;
 ghost use Rattle.poly_texts.specs.Words as spec;
 ghost use Rattle.poly_texts.specs.Reading.{three_words};
 
@@ -11,7 +12,7 @@ use text_lines::{has_words, is_decimal, number, split_word};
 
 /// What a symbol of `0-9a-v` stands for.
 fn coordinate(symbol: u8) -> Option<u8>
-    ensures value { result ≡ spec.coordinate symbol }
+    ensures value { result ≡ cells.coordinate symbol }
     ensures limit { IfSome result (λ c. c ≤ 31) }
 {
     match symbol {
@@ -23,7 +24,7 @@ fn coordinate(symbol: u8) -> Option<u8>
 
 /// The cell that a word names.
 pub fn cell_of(word: &[u8]) -> Option<Cell>
-    ensures { result ≡ spec.cell_of word.now }
+    ensures { result ≡ cells.cell_of word.now }
 {
     let [x, y, z] = word else {
         return None;
@@ -61,9 +62,9 @@ pub fn three_words(words: &[u8]) -> Option<(&[u8], &[u8], &[u8])>
 /// The size that a word is, if it isn't too large.
 fn size_of(word: &[u8]) -> Option<u8>
     requires { spec.is_size word.now ≡ true }
-    ensures none { IfNone result (MOST_SIZE < spec.size_of word.now) }
+    ensures none { IfNone result (most_size < spec.size_of word.now) }
     ensures value { IfSome result (λ size. size ≡ spec.size_of word.now) }
-    ensures limit { IfSome result (λ size. size ≤ MOST_SIZE) }
+    ensures limit { IfSome result (λ size. size ≤ most_size) }
 {
     match number(word, MOST_SIZE) {
         Some(size) => Some(size as u8),

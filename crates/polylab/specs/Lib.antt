@@ -1,4 +1,1 @@
-pub mod Account
-pub mod Output
-pub mod Outcome
-pub mod Listing
+pub mod Line

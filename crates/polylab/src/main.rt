@@ -1,20 +1,15 @@
 //! Polylab: every way to pack a region with polycubes, by exact cover.
 #![tactic(auto)]
 
-ghost use Rattle.std.specs.Prelude.{[], ◌∷◌, Contains};
+ghost use Rattle.std.specs.Prelude.{◌≡◌, [], ◌∷◌, Contains, IfErr};
+ghost use Rattle.polylab.specs.Line.{status_of};
 
-mod answer;
-mod count;
-mod engine;
-mod input;
-mod job;
-mod lines;
-mod output;
-mod report;
-mod search;
+mod line;
 
-use engine::{DONE, FAILED, NO_MEMORY, REFUSED, USAGE, run};
-use job::{LineFault, parse_line};
+use byte_streams::Watched;
+use lab_engine::{Job, run};
+use line::{LineFault, parse_line};
+use std::alloc::Global;
 use std::env;
 use std::io::{self, ErrorKind};
 use std::process::ExitCode;
@@ -28,64 +23,70 @@ fn words(rt: &HostRuntime) -> io::Result<Vec<String>> {
     Ok(words)
 }
 
-/// The same words, lent.
-fn lent<'a>(rt: &HostRuntime, words: &'a [String]) -> io::Result<Vec<&'a str>> {
-    Ok(words.iter().map(|word| word.as_str()).collect(rt.alloc())?)
+/// Why the words of the command line could not be had: there is no memory for them, or they are no text.
+fn no_words(alloc: Global, error: &io::Error) -> LineFault {
+    if error.kind() == ErrorKind::OutOfMemory {
+        return LineFault::OutOfMemory;
+    }
+    match String::from_str(alloc, "error: the words of the command line are not text\n") {
+        Ok(text) => LineFault::Usage(text),
+        Err(_) => LineFault::OutOfMemory,
+    }
 }
 
-/// Does what the words ask for, and answers the exit status.
-fn status(rt: &HostRuntime, words: &[&str]) -> u8
-    ensures { Contains (DONE ∷ USAGE ∷ REFUSED ∷ NO_MEMORY ∷ FAILED ∷ []) result }
+/// The job that these words ask for.
+fn job_of(alloc: Global, words: &[String]) -> Result<Job, LineFault> {
+    let words = words
+        .iter()
+        .map(|word| word.as_str())
+        .collect::<Vec<&str>>(alloc);
+    match words {
+        Ok(words) => parse_line(alloc, &words),
+        Err(_) => Err(LineFault::OutOfMemory),
+    }
+}
+
+/// The job that the command line asks for.
+fn asked(rt: &HostRuntime) -> Result<Job, LineFault> {
+    match words(rt) {
+        Ok(words) => job_of(rt.alloc(), &words),
+        Err(error) => Err(no_words(rt.alloc(), &error)),
+    }
+}
+
+/// Tells why there is no job. That telling fails changes nothing.
+fn tell(rt: &HostRuntime, fault: &LineFault) {
+    let _ = match fault {
+        LineFault::Help(text) => rt.print(text.as_str()),
+        LineFault::Usage(text) => rt.eprint(text.as_str()),
+        LineFault::OutOfMemory => rt.eprint("refused memory\n"),
+    };
+}
+
+/// Does the job, or tells why there is none, and answers the exit status.
+fn status(rt: &HostRuntime, asked: Result<Job, LineFault>) -> u8
+    ensures known { Contains (0 ∷ 2 ∷ 3 ∷ 4 ∷ 5 ∷ []) result }
+    ensures refused { IfErr asked (λ fault. result ≡ status_of fault) }
 {
-    match parse_line(rt.alloc(), words) {
+    match asked {
         Ok(job) => run(
             rt,
             rt.alloc(),
             job,
-            &mut rt.stdin(),
-            &mut rt.stdout(),
-            &mut rt.stderr(),
+            &mut Watched::reader(rt.stdin()),
+            &mut Watched::writer(rt.stdout()),
+            &mut Watched::writer(rt.stderr()),
         ),
-        Err(LineFault::Help(text)) => {
-            let _ = rt.print(text.as_str());
-            DONE
+        Err(fault) => {
+            tell(rt, &fault);
+            fault.status()
         }
-        Err(LineFault::Usage(text)) => {
-            let _ = rt.eprint(text.as_str());
-            USAGE
-        }
-        Err(LineFault::OutOfMemory) => {
-            let _ = rt.eprint("refused memory\n");
-            NO_MEMORY
-        }
-    }
-}
-
-/// The status where the words of the command line could not be had.
-fn no_words(error: &io::Error) -> u8
-    ensures { Contains (USAGE ∷ NO_MEMORY ∷ []) result }
-{
-    if error.kind() == ErrorKind::OutOfMemory {
-        NO_MEMORY
-    } else {
-        USAGE
     }
 }
 
 fn main(rt: HostRuntime) -> ExitCode {
-    let code = match words(&rt) {
-        Ok(words) => match lent(&rt, &words) {
-            Ok(words) => status(&rt, &words),
-            Err(error) => no_words(&error),
-        },
-        Err(error) => no_words(&error),
-    };
-    ExitCode::from(code)
+    ExitCode::from(status(&rt, asked(&rt)))
 }
 
-#[cfg(test)]
-mod box_tests;
-#[cfg(test)]
-mod lockstep_tests;
 #[cfg(test)]
 mod tests;

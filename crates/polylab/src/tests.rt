@@ -1,201 +1,39 @@
-//! Whole inputs through `run`, with outputs that were worked out by hand or printed by other programs.
+//! Words of the command line, and the exit statuses of those that name no job.
 
-use crate::engine::run;
-use crate::job::Job;
-use std::alloc::{AllocError, Global};
-use std::io::{self, ErrorKind, Read, Write};
-use std::test::Fail;
+use crate::line::{LineFault, parse_line};
+use crate::status;
+use lab_engine::Job;
 
-const SMALL: &str =
-    "items a b c d e f g\noption c e\noption a d g\noption b c f\noption a d f\noption b g\noption d e g\n";
-
-const SMALL_OUTPUT: &str = "visit 4 5 1\nvisits 1\nsteps 43\nlevels 1 2 2 1\n";
-
-/// What `cover` does with a text: its status, its output, and the line of its refusal.
-#[derive(Drop)]
-pub struct Done {
-    pub status: u8,
-    pub output: Vec<u8>,
-    pub faults: Vec<u8>,
-}
-
-pub fn cover(rt: &HostRuntime, text: &[u8]) -> Done {
-    let mut reader = text;
-    let mut output = Vec::new(rt.alloc());
-    let mut faults = Vec::new(rt.alloc());
-    let status = run(
-        rt,
-        rt.alloc(),
-        Job::Cover,
-        &mut reader,
-        &mut output,
-        &mut faults,
-    );
-    Done {
-        status,
-        output,
-        faults,
+/// What the words ask for, where they are refused: the exit status.
+fn refused(rt: &HostRuntime, words: &[&str]) -> u8 {
+    match parse_line(rt.alloc(), words) {
+        Ok(_) => u8::MAX,
+        Err(fault) => status(rt, Err(fault)),
     }
 }
 
 #[test]
-fn covers_are_listed(rt: HostRuntime) {
-    let rows = [
-        (SMALL, SMALL_OUTPUT),
-        ("items a", "visits 0\nsteps 7\nlevels 1\n"),
-        (
-            "items a\noption a\noption a\n",
-            "visit 1\nvisit 2\nvisits 2\nsteps 15\nlevels 1 2\n",
-        ),
-        (
-            "items a b\nmaybe c\noption a c\noption b c\noption a\noption b\n",
-            "visit 1 4\nvisit 3 2\nvisit 3 4\nvisits 3\nsteps 35\nlevels 1 2 3\n",
-        ),
-    ];
-    for (text, output) in rows {
-        let Done {
-            status,
-            output: written,
-            faults,
-        } = cover(&rt, text.as_bytes());
-        assert_eq!(rt; written.as_slice(), output.as_bytes(), "for {text}");
-        assert_eq!(rt; status, 0, "for {text}");
-        assert!(rt; faults.is_empty(), "for {text}");
+fn the_job_is_read(rt: HostRuntime) {
+    assert!(rt; matches!(parse_line(rt.alloc(), &["cover"]), Ok(Job::Cover)));
+}
+
+#[test]
+fn help_is_given(rt: HostRuntime) {
+    let rows: [&[&str]; 3] = [&["--help"], &["cover", "--help"], &["--version"]];
+    for words in rows {
+        assert!(rt; refused(&rt, words) == 0);
     }
 }
 
 #[test]
-fn texts_are_refused(rt: HostRuntime) {
-    let rows = [
-        (
-            "items a\noption a a",
-            "refused cover 4 ItemTwiceInOption line 2\n",
-        ),
-        ("items a\noption z", "refused cover 3 UnknownItem line 2\n"),
-        ("", "refused cover 6 NoItemLine line 0\n"),
-        ("items a-", "refused cover 1 BadName line 1\n"),
-        ("items a b a", "refused cover 2 RepeatedItem line 1\n"),
-        ("items a\nitem b", "refused cover 7 BadLine line 2\n"),
-        ("option -", "refused cover 6 NoItemLine line 1\n"),
-        ("option", "refused cover 7 BadLine line 1\n"),
-    ];
-    for (text, line) in rows {
-        let Done {
-            status,
-            output,
-            faults,
-        } = cover(&rt, text.as_bytes());
-        assert_eq!(rt; faults.as_slice(), line.as_bytes(), "for {text}");
-        assert_eq!(rt; status, 3, "for {text}");
-        assert!(rt; output.is_empty(), "for {text}");
-    }
-}
-
-/// `items a` and so many lines `option a`.
-fn equal_options(alloc: Global, count: usize) -> Result<Vec<u8>, AllocError> {
-    let mut text = Vec::from_slice(alloc, b"items a\n")?;
-    for _ in 0..count {
-        text.extend_from_slice(b"option a\n")?;
-    }
-    Ok(text)
-}
-
-/// How many lines a text has, and whether it ends with these.
-pub fn ends_with(text: &[u8], lines: usize, end: &[u8]) -> bool {
-    text.iter().filter(|byte| **byte == b'\n').count() == lines && text.ends_with(end)
-}
-
-#[test]
-fn equal_options_take_linear_time(rt: HostRuntime) -> Result<(), Fail> {
-    let text = equal_options(rt.alloc(), 70_000)?;
-    let found = cover(&rt, &text);
-    assert!(rt; found.status == 0);
-    assert!(rt;
-        ends_with(
-            &found.output,
-            70_003,
-            b"visit 70000\nvisits 70000\nsteps 280007\nlevels 1 70000\n"
-        )
-    );
-    let text = equal_options(rt.alloc(), 262_144)?;
-    let refused = cover(&rt, &text);
-    assert!(rt; refused.status == 3);
-    assert!(rt; refused.faults.as_slice() == b"refused cover 5 TooLarge line 262145\n".as_slice());
-    Ok(())
-}
-
-/// A reader that fails after its bytes.
-#[derive(Drop)]
-struct Breaks<'a>(&'a [u8]);
-
-impl Read for Breaks<'_> {
-    fn read(&mut self, buf: &mut [u8]) -> io::Result<usize> {
-        if self.0.is_empty() {
-            return Err(io::Error::from(ErrorKind::Other));
-        }
-        self.0.read(buf)
-    }
-}
-
-/// A writer that takes a byte a call, so many times.
-#[derive(Drop)]
-struct Takes {
-    left: usize,
-    taken: Vec<u8>,
-}
-
-impl Write for Takes {
-    fn write(&mut self, buf: &[u8]) -> io::Result<usize> {
-        if self.left == 0 || buf.is_empty() {
-            return Err(io::Error::from(ErrorKind::Other));
-        }
-        self.left -= 1;
-        self.taken.extend_from_slice(&buf[..1])?;
-        Ok(1)
-    }
-
-    fn flush(&mut self) -> io::Result<()> {
-        Ok(())
+fn other_words_are_refused(rt: HostRuntime) {
+    let rows: [&[&str]; 3] = [&[], &["covers"], &["cover", "--workers", "2"]];
+    for words in rows {
+        assert!(rt; refused(&rt, words) == 2);
     }
 }
 
 #[test]
-fn a_broken_reader_or_writer_is_told(rt: HostRuntime) {
-    let mut output: Vec<u8> = Vec::new(rt.alloc());
-    let mut faults: Vec<u8> = Vec::new(rt.alloc());
-    let mut reader = Breaks(SMALL.as_bytes());
-    assert_eq!(rt;
-        run(
-            &rt,
-            rt.alloc(),
-            Job::Cover,
-            &mut reader,
-            &mut output,
-            &mut faults
-        ),
-        5
-    );
-    assert_eq!(rt; faults.as_slice(), b"refused input\n".as_slice());
-    assert!(rt; output.is_empty());
-
-    for left in 0..SMALL_OUTPUT.len() + 1 {
-        let mut reader = SMALL.as_bytes();
-        let mut faults: Vec<u8> = Vec::new(rt.alloc());
-        let mut writer = Takes {
-            left,
-            taken: Vec::new(rt.alloc()),
-        };
-        let status = run(
-            &rt,
-            rt.alloc(),
-            Job::Cover,
-            &mut reader,
-            &mut writer,
-            &mut faults,
-        );
-        let whole = left == SMALL_OUTPUT.len();
-        assert_eq!(rt; status, if whole { 0 } else { 5 });
-        assert_eq!(rt; writer.taken.as_slice(), &SMALL_OUTPUT.as_bytes()[..left]);
-        assert_eq!(rt; faults.is_empty(), whole);
-    }
+fn want_of_memory_has_its_status(rt: HostRuntime) {
+    assert!(rt; status(&rt, Err(LineFault::OutOfMemory)) == 4);
 }

@@ -1,6 +1,7 @@
 -- What a loop over a list needs of `each`, and the laws of it.
 use Rattle.std.proofs.Common.{◌≡◌, List, [], ◌∷◌, ◌++◌, refl, sym, ◌∙◌, ap, Result, Ok, Err}
 use Rattle.text_lines.specs.Each.{each, ◌>>=◌, GoesThrough, Fails}
+use Rattle.text_lines.proofs.ResultLemmas.{ok_is, bind_ok}
 
 -- a loop that has come to the state s with xs to go, where the whole gives `all`
 module _ {S X F : Type 0} (step : S → X → Result S F) (s : S) (xs : List X) (all : Result S F) (so_far : each step s xs ≡ all) where
@@ -18,6 +19,17 @@ module _ {S X F : Type 0} (step : S → X → Result S F) (s : S) (xs : List X) 
   pub each_ends : xs ≡ [] → all ≡ Ok s
   unfolding each
   each_ends e = sym so_far ∙ rw e refl
+
+-- *steps that gave something*
+
+-- the first step did, and the others from what it left
+pub each_parts : {S X F : Type 0} (step : S → X → Result S F) (s : S) (x : X) (xs : List X) (y : S) → each step s (x ∷ xs) ≡ Ok y → (t : S) × (step s x ≡ Ok t) × (each step t xs ≡ Ok y)
+unfolding each
+each_parts step s x xs y h = bind_ok (step s x) (λ t. each step t xs) y h
+
+pub each_none : {S X F : Type 0} (step : S → X → Result S F) (s y : S) → each step s [] ≡ Ok y → s ≡ y
+unfolding each
+each_none step s y h = ok_is s y h
 
 -- *the laws*
 
@@ -63,3 +75,19 @@ module _ {S X F : Type 0} (step : S → X → Result S F) where
   pub from_fails : (xs : List X) (s : S) (f : F) → Fails step s xs f → each step s xs ≡ Err f
   unfolding each
   from_fails xs s f (front, x, rest, t, parts, goes, stops) = rw parts (each-append front (x ∷ rest) s ∙ rw goes (rw stops refl))
+
+  -- what holds of each step's fault holds of the fault that is found
+  pub each_fault : (Q : F → Type 0) → ((s : S) (x : X) (f : F) → step s x ≡ Err f → Q f) → (xs : List X) (s : S) (f : F) → each step s xs ≡ Err f → Q f
+  each_fault Q each_has xs s f h = found (fails xs s f h)
+    where
+      found : Fails step s xs f → Q f
+      found (front, x, rest, t, parts, goes, stops) = each_has t x f stops
+
+  -- one step, and none
+  pub each_step : (s t : S) (x : X) (xs : List X) → step s x ≡ Ok t → each step s (x ∷ xs) ≡ each step t xs
+  unfolding each
+  each_step s t x xs h = rw h refl
+
+  pub each_nothing : (s : S) → each step s [] ≡ Ok s
+  unfolding each
+  each_nothing s = refl

@@ -2,10 +2,15 @@ pub mod LineLemmas
 pub mod WordLemmas
 pub mod NumberLemmas
 pub mod WritingLemmas
-pub mod SaidLemmas
+pub mod PlainLemmas
 pub mod SpacedLemmas
+pub mod ResultLemmas
 pub mod EachLemmas
+pub mod ReadingLemmas
+pub mod FirstFaultLemmas
+pub mod TextWordLemmas
 mod LineExamples
 mod NumberExamples
 mod WritingExamples
 mod EachExamples
+mod ReadingExamples

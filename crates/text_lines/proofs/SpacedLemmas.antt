@@ -6,7 +6,7 @@ use Rattle.std.proofs.lemmas.List.{drop_all}
 use Rattle.std.specs.List.{onto_first, slice_split, list_all}
 use Rattle.text_lines.specs.Lines.{words_of, is_blank, has_bytes}
 use Rattle.text_lines.specs.Writing.{spaced}
-use Rattle.text_lines.proofs.SaidLemmas.{words_have, is_of, is_inside}
+use Rattle.text_lines.proofs.PlainLemmas.{words_have, is_of, is_inside}
 
 -- *one space between two words*
 

@@ -5,14 +5,18 @@
 mod decimal;
 mod laws;
 mod line;
+mod reading;
+mod refusal;
 mod word;
 
 pub use decimal::{is_decimal, number};
 pub use laws::{
-    each_goes_on, each_stops_at_the_first_fault, number_is_as_printed, plain_lines_say_words,
-    written_text_is_read,
+    each_goes_on, each_stops_at_the_first_fault, fault_is_first, number_is_as_printed,
+    plain_lines_say_words, text_says_its_words, written_text_is_read,
 };
 pub use line::{is_all_plain, outside_comment, split_ended_line, split_line, without_return};
+pub use reading::{ByLine, read_lines};
+pub use refusal::{Refusal, TextRefusal};
 pub use word::{has_words, is_spaced, split_word};
 
 #[cfg(test)]

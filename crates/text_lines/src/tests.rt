@@ -1,6 +1,7 @@
 //! Each call once, on texts whose lines, words and numbers were written down by hand.
 
 use super::*;
+use std::alloc::Global;
 
 /// The numbers of a line, each at most 100, added up: how a reader goes over words.
 fn total(line: &[u8]) -> Option<u32> {
@@ -92,4 +93,52 @@ fn numbers_have_one_spelling(rt: HostRuntime) {
     assert_eq!(rt; number(b"1x", 9), None);
     assert!(rt; is_decimal(b"99999999999999999999"));
     assert!(rt; !is_decimal(b""));
+}
+
+/// The length of the longest line, where no line has an odd byte: how a text is read line by line.
+#[derive(Drop)]
+struct Longest {
+    length: usize,
+}
+
+/// A byte that isn't plain.
+#[derive(Clone, Copy, Debug, PartialEq, Eq)]
+enum Odd {
+    Byte,
+}
+
+type OddText = TextRefusal<Odd>;
+
+impl ByLine for Longest {
+    ghost use Rattle.std.specs.Prelude.{nat_le, length, Result, Ok, Err, if◌then◌else◌};
+    ghost use Rattle.std.specs.List.{list_all};
+    ghost use Rattle.text_lines.specs.Lines.{is_plain};
+    ghost use Rattle.text_lines.specs.declared.tests.Odd.TheVariants as odd;
+
+    type Fault = Odd;
+
+    ghost line = { λ s bytes. if list_all is_plain bytes then (if nat_le (length bytes) s.length then Ok s else Ok (record { length = length bytes })) else Err odd.Byte };
+
+    fn add_line(&mut self, alloc: Global, bytes: &[u8]) -> Result<(), Refusal<Odd>> {
+        let _ = alloc;
+        if !is_all_plain(bytes) {
+            return Err(Refusal::Fault(Odd::Byte));
+        }
+        if bytes.len() > self.length {
+            self.length = bytes.len();
+        }
+        Ok(())
+    }
+}
+
+#[test]
+fn lines_are_read_up_to_the_first_fault(rt: HostRuntime) {
+    let longest = read_lines(rt.alloc(), Longest { length: 0 }, b"a\nbcd\n\nef");
+    assert!(rt; longest.is_ok_and(|longest| longest.length == 3));
+    let refused = read_lines(rt.alloc(), Longest { length: 0 }, b"a\n\x01\n\x01");
+    let fault = OddText::Fault {
+        fault: Odd::Byte,
+        line: 2,
+    };
+    assert!(rt; refused.is_err_and(|refusal| refusal == fault));
 }

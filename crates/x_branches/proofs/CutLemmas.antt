@@ -1,12 +1,12 @@
 -- Cuts on the run, and what is untried.
-use Rattle.std.proofs.Common.{◌≡◌, ℕ, zero, suc, ◌<◌, ◌≤◌, ◌⊎◌, Bool, true, false, ◌&&◌, List, [], ◌∷◌, ◌++◌, length, take, drop, filter, refl, sym, ap, ◌∙◌, subst, inl, inr, arith, append-nil, length-append}
+use Rattle.std.proofs.Common.{◌≡◌, ℕ, zero, suc, ◌<◌, ◌≤◌, ◌⊎◌, Bool, true, false, List, [], ◌∷◌, ◌++◌, length, take, drop, filter, refl, sym, ap, ◌∙◌, subst, inl, inr, arith, append-nil, length-append, length-drop}
 use Rattle.std.specs.Prelude.{◌↔◌, nat_lt}
-use Rattle.std.proofs.lemmas.Bool.{cases_lt, lt-ltb, le-ltb, ltb-true, false≢true}
+use Rattle.std.proofs.lemmas.Bool.{cases_lt, cases_order, lt-ltb, ltb-true, false≢true}
 use Rattle.cover_problem.specs.Problem.{ProblemValue}
 use Rattle.cover_problem.specs.Lists.{has}
 use Rattle.cover_problem.specs.Path.{IsChoice, IsValid, covered_by}
-use Rattle.cover_problem.proofs.ListLemmas.{has_filter_in}
-use Rattle.cover_problem.proofs.CoveringLemmas.{valid_push, valid_pop}
+use Rattle.cover_problem.proofs.MemberLemmas.{has_filter_in, has_filter}
+use Rattle.cover_problem.proofs.PathLemmas.{valid_push, valid_pop}
 use Rattle.cover_problem.proofs.CoverLemmas.{valid_split}
 use Rattle.x_steps.specs.declared.state.Label.{Label}
 use Rattle.x_steps.specs.declared.state.Label.TheVariants.{X1, X2, X3, X4, X5, X6, X7, X8, Done}
@@ -16,25 +16,18 @@ use Rattle.x_steps.specs.declared.state.Cursor.TheVariants.{At, Past}
 use Rattle.x_steps.specs.StateValue.{StateValue, at}
 use Rattle.x_steps.specs.Steps.{FitsAt, Fits, remaining_after}
 use Rattle.x_steps.specs.Order.{PathLess}
-use Rattle.x_steps.specs.Run.{distance, steps_between}
+use Rattle.x_steps.specs.Run.{steps_between}
 use Rattle.x_steps.specs.Rank.{rank}
 use Rattle.x_steps.proofs.Neighbours.{split_last_push, split_last_cases}
-use Rattle.x_steps.proofs.OrderLemmas.{cut_rank, rank_cut, fits_valid, inside_before, level_rank, left_before}
+use Rattle.x_steps.proofs.OrderLemmas.{cut_rank, rank_cut, fits_valid, cut_before, inside_before, level_rank, left_before, left_after}
 use Rattle.x_steps.proofs.BetweenLemmas.{steps_between_some}
+use Rattle.x_steps.proofs.StretchLemmas.{steps_between_none}
 use Rattle.x_branches.specs.Cut.{option_of, choices, state_after_choices, cut_state, IsCut}
 use Rattle.x_branches.specs.RunOrder.{ComesBefore, comes_before}
-use Rattle.x_branches.specs.Untried.{untried_after, untried}
+use Rattle.x_branches.specs.Untried.{remaining_above, is_before_end, untried_after, untried, with_choice, IsUntried}
 use Rattle.x_branches.proofs.StageLemmas.{comes_rank, rank_comes}
 
 -- ---- the test of the order
-
-steps_between_none : (p : ProblemValue) (s t : StateValue) → rank p t ≤ rank p s → steps_between p s t ≡ 0
-unfolding steps_between
-steps_between_none p s t l = step (rank p t)
-  where
-    step : (most : ℕ) → distance p most s t ≡ 0
-    step zero = refl
-    step (suc most) = let e = le-ltb (rank p s) (rank p t) l in rw e refl
 
 pub test_rank : (p : ProblemValue) (s t : StateValue) → comes_before p s t ≡ true → rank p s < rank p t
 unfolding comes_before
@@ -97,11 +90,12 @@ level_in (x ∷ path) more (suc n) o rest e = step (level_in path more n o rest 
     step (inl a) = inl (a.0, ap (λ ys. x ∷ ys) a.1)
     step (inr a) = inr (a.0, ap (λ ys. x ∷ ys) a.1, a.2)
 
--- a state's choice at a level, with the choices before it: it is an option there, and the state comes before the cut at each
--- later option
+-- a state's choice at a level, with the choices before it: it is an option there, its cut doesn't come after the state, and the
+-- state comes before the cut at each later option
 pub record IsChosen (p : ProblemValue) (s : StateValue) (q : List ℕ) (o : ℕ) : Type 0 where
   pub valid : IsValid p q
   pub choice : IsChoice p (covered_by p q) o
+  pub own : rank p (at X5 q (At o)) ≤ rank p s
   pub later : (k : ℕ) → o < k → rank p s < rank p (at X5 q (At k))
 
 front : (p : ProblemValue) (q after : List ℕ) (o : ℕ) → IsValid p (q ++ o ∷ after) → IsValid p q × IsChoice p (covered_by p q) o
@@ -115,14 +109,17 @@ chosen_path p s q after o f e =
     record {
       valid = t.0;
       choice = t.1;
+      own = let g = subst (λ r. FitsAt p s.label r s.cursor) e f in
+          let a = cut_before p q after o s.label s.cursor g in
+          let b = ap (λ r. rank p (at s.label r s.cursor)) e in omega arith;
       later = λ k l. let g = subst (λ r. FitsAt p s.label r s.cursor) e f in
           let a = inside_before p q after o k s.label s.cursor g l in
           let b = ap (λ r. rank p (at s.label r s.cursor)) e in omega arith;
     }
 
 chosen_cursor : (p : ProblemValue) (l : Label) (path : List ℕ) (o : ℕ) → FitsAt p l path (At o) → IsChosen p (at l path (At o)) path o
-chosen_cursor p X5 path o f = record { valid = f.0; choice = f.1; later = λ k l. level_rank p path o k f.0 l }
-chosen_cursor p X6 path o f = record { valid = f.0; choice = f.1; later = λ k l. left_before p path o k f.0 l }
+chosen_cursor p X5 path o f = record { valid = f.0; choice = f.1; own = omega arith; later = λ k l. level_rank p path o k f.0 l }
+chosen_cursor p X6 path o f = record { valid = f.0; choice = f.1; own = (let a = left_after p path o f.0 in omega arith); later = λ k l. left_before p path o k f.0 l }
 chosen_cursor p X1 path o f = absurd f
 chosen_cursor p X2 path o f = absurd f
 chosen_cursor p X3 path o f = absurd f
@@ -153,34 +150,70 @@ chosen_is p s level o rest f e = step (level_in s.path (option_of s.cursor) leve
     step (inl a) = chosen_path p s (take level (choices s)) a.0 o f a.1
     step (inr a) = chosen_past p s.label s.path s.cursor a.0 o rest (take level (choices s)) f a.1 a.2
 
--- what is said of an option that is untried
-pub record IsUntried (p : ProblemValue) (s end : StateValue) (path : List ℕ) : Type 0 where
+-- each option above a state's choice makes a cut, and the state comes before it
+pub record IsLater (p : ProblemValue) (s : StateValue) (path : List ℕ) : Type 0 where
   pub cut : IsCut p path
-  pub later : ComesBefore p s (cut_state path)
-  pub before_end : ComesBefore p (cut_state path) end
+  pub rises : rank p s < rank p (cut_state path)
 
-and_parts : (a b : Bool) → (a && b) ≡ true → (a ≡ true) × (b ≡ true)
-and_parts true b h = (refl, h)
-and_parts false b h = absurd (cc)
-
-untried_one : (p : ProblemValue) (s end : StateValue) (q : List ℕ) (o k : ℕ) → Fits p s → Fits p end → IsChosen p s q o → has (filter (λ k. nat_lt o k && comes_before p (cut_state (q ++ k ∷ [])) end) (remaining_after p q)) k ≡ true → IsUntried p s end (q ++ k ∷ [])
-untried_one p s end q o k f g c h =
-    let a = has_filter_in (λ k. nat_lt o k && comes_before p (cut_state (q ++ k ∷ [])) end) (remaining_after p q) k h in
-    let b = and_parts (nat_lt o k) (comes_before p (cut_state (q ++ k ∷ [])) end) a.0 in
-    let l : o < k = ltb-true o k b.0 in
+later_one : (p : ProblemValue) (s : StateValue) (q : List ℕ) (o k : ℕ) → IsChosen p s q o → has (remaining_above p q o) k ≡ true → IsLater p s (q ++ k ∷ [])
+later_one p s q o k c h =
+    let a = has_filter_in (λ k. nat_lt o k) (remaining_after p q) k h in
     let choice : IsChoice p (covered_by p q) k = record { active = c.choice.active; left = a.1 } in
-    let cut : IsCut p (q ++ k ∷ []) = record { some = (let n = length-append q (k ∷ []) in omega arith); valid = valid_push p q k c.valid choice } in
     let e = ap (rank p) (cut_is q k) in
-    let r = c.later k l in
+    let r = c.later k (ltb-true o k a.0) in
     record {
-      cut = cut;
-      later = rank_comes p s (cut_state (q ++ k ∷ [])) f (cut_fits p (q ++ k ∷ []) cut) (omega arith);
-      before_end = rank_comes p (cut_state (q ++ k ∷ [])) end (cut_fits p (q ++ k ∷ []) cut) g (test_rank p (cut_state (q ++ k ∷ [])) end b.1);
+      cut = record { some = (let n = length-append q (k ∷ []) in omega arith); valid = valid_push p q k c.valid choice };
+      rises = omega arith;
     }
 
-pub untried_is : (p : ProblemValue) (s end : StateValue) → Fits p s → Fits p end → (level k : ℕ) → has (untried p end level s) k ≡ true → IsUntried p s end (take level (choices s) ++ k ∷ [])
+untried_one : (p : ProblemValue) (s end : StateValue) (q : List ℕ) (o k : ℕ) → Fits p s → Fits p end → IsChosen p s q o → has (filter (is_before_end p end q) (remaining_above p q o)) k ≡ true → IsUntried p s end (q ++ k ∷ [])
+untried_one p s end q o k f g c h =
+    let a = has_filter_in (is_before_end p end q) (remaining_above p q o) k h in
+    let b = later_one p s q o k c a.1 in
+    record {
+      cut = b.cut;
+      later = rank_comes p s (cut_state (q ++ k ∷ [])) f (cut_fits p (q ++ k ∷ []) b.cut) b.rises;
+      before_end = rank_comes p (cut_state (q ++ k ∷ [])) end (cut_fits p (q ++ k ∷ []) b.cut) g (test_rank p (cut_state (q ++ k ∷ [])) end a.0);
+    }
+
+pub untried_is : (p : ProblemValue) (s end : StateValue) → Fits p s → Fits p end → (level k : ℕ) → has (untried p end level s) k ≡ true → IsUntried p s end (with_choice s level k)
 untried_is p s end f g level k h = look (drop level (choices s)) refl h
   where
     look : (rest : List ℕ) → drop level (choices s) ≡ rest → has (untried_after p end (take level (choices s)) rest) k ≡ true → IsUntried p s end (take level (choices s) ++ k ∷ [])
     look [] e h = absurd (cc)
     look (o ∷ rest) e h = untried_one p s end (take level (choices s)) o k f g (chosen_is p s level o rest f e) h
+
+-- a cut that comes later at a level with a choice is at an option above that choice
+above_one : (p : ProblemValue) (s : StateValue) (q : List ℕ) (o k : ℕ) → Fits p s → IsChosen p s q o → IsCut p (q ++ k ∷ []) → ComesBefore p s (cut_state (q ++ k ∷ [])) → has (remaining_above p q o) k ≡ true
+above_one p s q o k f c cut b =
+    let v = valid_pop p q k cut.valid in
+    let r = comes_rank p s (cut_state (q ++ k ∷ [])) f b in
+    let e = ap (rank p) (cut_is q k) in
+    let own = c.own in
+    let above : o < k = step (cases_order o k) (omega arith) in
+    has_filter (λ k. nat_lt o k) (remaining_after p q) k (lt-ltb o k above) v.1.left
+  where
+    step : (o ≡ k) ⊎ ((o < k) ⊎ (k < o)) → rank p (at X5 q (At o)) < rank p (at X5 q (At k)) → o < k
+    step (inl e) r = let f = ap (λ k. rank p (at X5 q (At k))) e in absurd (omega arith)
+    step (inr (inl l)) r = l
+    step (inr (inr l)) r = let t = level_rank p q k o c.valid l in absurd (omega arith)
+
+all_one : (p : ProblemValue) (s end : StateValue) (q : List ℕ) (o k : ℕ) → Fits p s → Fits p end → IsChosen p s q o → IsUntried p s end (q ++ k ∷ []) → has (filter (is_before_end p end q) (remaining_above p q o)) k ≡ true
+all_one p s end q o k f g c u =
+    let fit = cut_fits p (q ++ k ∷ []) u.cut in
+    has_filter (is_before_end p end q) (remaining_above p q o) k
+    (rank_test p (cut_state (q ++ k ∷ [])) end fit g (comes_rank p (cut_state (q ++ k ∷ [])) end fit u.before_end))
+    (above_one p s q o k f c u.cut u.later)
+
+pub untried_all : (p : ProblemValue) (s end : StateValue) → Fits p s → Fits p end → (level k : ℕ) → level < length (choices s) → IsUntried p s end (with_choice s level k) → has (untried p end level s) k ≡ true
+untried_all p s end f g level k l u = look (drop level (choices s)) refl
+  where
+    look : (rest : List ℕ) → drop level (choices s) ≡ rest → has (untried_after p end (take level (choices s)) rest) k ≡ true
+    look [] e = let n = length-drop level (choices s) in let m = ap (length {A = ℕ}) e in absurd (omega arith)
+    look (o ∷ rest) e = all_one p s end (take level (choices s)) o k f g (chosen_is p s level o rest f e) u
+
+-- and the state reaches the cut of each option above its choice
+pub above_reached : (p : ProblemValue) (s : StateValue) → Fits p s → (level o k : ℕ) (more : List ℕ) → drop level (choices s) ≡ o ∷ more → has (remaining_above p (take level (choices s)) o) k ≡ true → ComesBefore p s (cut_state (with_choice s level k))
+above_reached p s f level o k more e h =
+    let b = later_one p s (take level (choices s)) o k (chosen_is p s level o more f e) h in
+    rank_comes p s (cut_state (with_choice s level k)) f (cut_fits p (with_choice s level k) b.cut) b.rises

@@ -1,2 +1,3 @@
 pub mod StageLemmas
 pub mod CutLemmas
+pub mod CutExamples

@@ -1,14 +1,13 @@
 -- Which of two states comes first is told by their digits where they part.
-use Rattle.std.proofs.Common.{◌≡◌, ℕ, zero, suc, ◌+◌, ◌*◌, ◌<◌, ◌≤◌, ◌⊎◌, List, [], ◌∷◌, ◌++◌, map, length, take, drop, get_or, refl, sym, ap, ap₂, ◌∙◌, subst, inl, inr, arith, length-append}
+use Rattle.std.proofs.Common.{◌≡◌, ℕ, zero, suc, ◌+◌, ◌*◌, ◌<◌, ◌≤◌, ◌⊎◌, List, [], ◌∷◌, ◌++◌, map, length, take, drop, get_or, refl, sym, ap, ap₂, ◌∙◌, subst, inl, inr, arith, length-append, Ordering, Less, Equal, Greater}
 use Rattle.std.specs.Prelude.{◌↔◌}
 use Rattle.std.specs.Ordering.{MatchOrdering, nat_cmp}
-use Rattle.std.proofs.Common.{Ordering, Less, Equal, Greater}
 use Rattle.std.proofs.lemmas.Cmp.{ranked}
 use Rattle.std.proofs.lemmas.Bool.{cases_lt}
 use Rattle.std.proofs.lemmas.List.{length-map, get_or_append_left, get_or-map, get_or_at, take-append-le, take-map, length-take-le, take_all}
 use Rattle.cover_problem.specs.Problem.{ProblemValue}
 use Rattle.cover_problem.specs.Path.{IsValid, covered_by, covered_from}
-use Rattle.cover_problem.proofs.CoveringLemmas.{choice_has}
+use Rattle.cover_problem.proofs.PathLemmas.{choice_has}
 use Rattle.cover_problem.proofs.CoverLemmas.{valid_split}
 use Rattle.x_steps.specs.declared.state.Label.{Label}
 use Rattle.x_steps.specs.declared.state.Label.TheVariants.{X1, X2, X3, X4, X5, X6, X7, X8, Done}
@@ -20,11 +19,11 @@ use Rattle.x_steps.specs.Steps.{FitsAt, Fits}
 use Rattle.x_steps.specs.Run.{steps_between}
 use Rattle.x_steps.specs.Rank.{digit_at, digits, number, rank}
 use Rattle.x_steps.proofs.RankLemmas.{AllBelow, number_less, short}
-use Rattle.x_steps.proofs.OrderLemmas.{below_digits, fits_valid}
+use Rattle.x_steps.proofs.OrderLemmas.{below_digits, fits_valid, digit_small}
 use Rattle.x_steps.proofs.RunLemmas.{rises_between, leads_to, rank_once}
 use Rattle.x_steps.proofs.BetweenLemmas.{steps_between_some}
 use Rattle.x_branches.specs.RunOrder.{ComesBefore}
-use Rattle.x_branches.specs.Stage.{IsShared, IsWithin, Shifts}
+use Rattle.x_branches.specs.Stage.{MANY, IsShared, IsWithin, Shifts}
 
 -- ---- the run's order is that of the ranks
 
@@ -57,19 +56,6 @@ order_greater p s t f g Equal m = (λ e. absurd (cc), λ b. let l = comes_rank p
 order_greater p s t f g Greater m = (λ e. rank_comes p t s g f m, λ b. refl)
 
 -- ---- digits
-
-digit_small : (p : ProblemValue) (l : Label) (path : List ℕ) (k : Cursor) → FitsAt p l path k → digit_at (length p.options) l k < 4 * length p.options + 9
-digit_small p X1 path cursor.None f = omega arith
-digit_small p X2 path cursor.None f = omega arith
-digit_small p X3 path cursor.None f = omega arith
-digit_small p X4 path cursor.None f = omega arith
-digit_small p X5 path (At o) f = let t = choice_has p (covered_by p path) o f.1 in omega (arith, t.within)
-digit_small p X5 path Past f = omega arith
-digit_small p X6 path (At o) f = let t = choice_has p (covered_by p path) o f.1 in omega (arith, t.within)
-digit_small p X7 path cursor.None f = omega arith
-digit_small p X8 path cursor.None f = omega arith
-digit_small p Done path cursor.None f = omega arith
-digit_small p _ path _ f = absurd f
 
 below_all : (p : ProblemValue) (l : Label) (path : List ℕ) (k : Cursor) → FitsAt p l path k → AllBelow (4 * length p.options + 9) (digits (length p.options) l path k)
 unfolding IsValid
@@ -133,13 +119,13 @@ choice_in p path n v h =
 
 -- ---- room for all numbers
 
-pub choice_shifts : (p : ProblemValue) (s : StateValue) (n o d : ℕ) → Fits p s → n < length s.path → get_or s.path n 0 ≡ o → d ≡ 4 * o + 2 → o < 4294967296 → Shifts (length p.options) d (get_or (digits (length p.options) s.label s.path s.cursor) n 0)
+pub choice_shifts : (p : ProblemValue) (s : StateValue) (n o d : ℕ) → Fits p s → n < length s.path → get_or s.path n 0 ≡ o → d ≡ 4 * o + 2 → o < MANY → Shifts (length p.options) d (get_or (digits (length p.options) s.label s.path s.cursor) n 0)
 choice_shifts p s n o d f h e g l =
     let x = digit_in (length p.options) s.label s.path s.cursor n h in
     let t = choice_in p s.path n (fits_valid p s.label s.path s.cursor f) h in
     inl (omega arith, omega arith, omega (arith, t.within))
 
-own_shifts : (p : ProblemValue) (l : Label) (path : List ℕ) (k : Cursor) → FitsAt p l path k → IsWithin k → Shifts (length p.options) (digit_at 4294967296 l k) (digit_at (length p.options) l k)
+own_shifts : (p : ProblemValue) (l : Label) (path : List ℕ) (k : Cursor) → FitsAt p l path k → IsWithin k → Shifts (length p.options) (digit_at MANY l k) (digit_at (length p.options) l k)
 own_shifts p X1 path cursor.None f w = inl (refl, omega arith, omega arith)
 own_shifts p X2 path cursor.None f w = inl (refl, omega arith, omega arith)
 own_shifts p X3 path cursor.None f w = inl (refl, omega arith, omega arith)
@@ -152,7 +138,7 @@ own_shifts p X8 path cursor.None f w = inr (omega arith, omega arith)
 own_shifts p Done path cursor.None f w = inr (omega arith, omega arith)
 own_shifts p _ path _ f w = absurd f
 
-pub end_shifts : (p : ProblemValue) (s : StateValue) (n d : ℕ) → Fits p s → n ≤ length s.path → length s.path ≤ n → d ≡ digit_at 4294967296 s.label s.cursor → IsWithin s.cursor → Shifts (length p.options) d (get_or (digits (length p.options) s.label s.path s.cursor) n 0)
+pub end_shifts : (p : ProblemValue) (s : StateValue) (n d : ℕ) → Fits p s → n ≤ length s.path → length s.path ≤ n → d ≡ digit_at MANY s.label s.cursor → IsWithin s.cursor → Shifts (length p.options) d (get_or (digits (length p.options) s.label s.path s.cursor) n 0)
 end_shifts p s n d f a b e w =
     let x = digit_last (length p.options) s.label s.path s.cursor n (omega arith) in
     rw (e, x) (own_shifts p s.label s.path s.cursor f w)

@@ -1,6 +1,7 @@
 -- Where a run is parted: the choices of a state, and cuts.
 --
--- Example: in the small problem the cut 4 5 has the state X5 at option 5 with the path 4.
+-- Example: in the small problem the cut 4 5 has the state X5 at option 5 with the path 4 (computed in
+-- proofs/CutExamples.antt).
 use Rattle.std.specs.Prelude.{ℕ, ◌<◌, Option, Some, List, [], ◌∷◌, ◌++◌, length}
 use Rattle.std.specs.Prelude as prelude
 use Rattle.cover_problem.specs.Problem.{ProblemValue}

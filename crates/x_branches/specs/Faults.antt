@@ -5,7 +5,7 @@ use Rattle.x_branches.specs.declared.fault.RunnerFault.TheVariants.{AtBranchEnd,
 use Rattle.x_branches.specs.declared.fault.CutFault.{CutFault}
 use Rattle.x_branches.specs.declared.fault.CutFault.TheVariants as cuts
 
--- the number of a refusal; want of memory has none
+-- the number of a refusal; out of memory has none
 abbrev pub number_of : RunnerFault → Option ℕ
 number_of AtBranchEnd = Some 1
 number_of AtMark = Some 2

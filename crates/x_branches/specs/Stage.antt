@@ -1,8 +1,11 @@
 -- Where states stand at one level of the search, with room for any option number: a device of the comparison, whose contract
 -- speaks of the run alone.
 use Rattle.std.specs.Prelude.{ℕ, ◌<◌, ◌≤◌, ◌≡◌, ◌≢◌, ◌+◌, ◌*◌, ◌⊎◌, List, length, take, slice_index_or}
+use Rattle.cover_problem.specs.Problem.{ProblemValue}
 use Rattle.x_steps.specs.declared.state.Cursor.{Cursor}
 use Rattle.x_steps.specs.declared.state.Cursor.TheVariants.{At}
+use Rattle.x_steps.specs.StateValue.{StateValue}
+use Rattle.x_steps.specs.Rank.{digits}
 
 -- more options than a number of 32 bits can name
 abbrev pub MANY : ℕ
@@ -10,7 +13,7 @@ MANY = 4294967296
 
 -- the cursor's option is below that
 abbrev pub IsWithin : Cursor → Type 0
-IsWithin (At o) = o < 4294967296
+IsWithin (At o) = o < MANY
 IsWithin k = Unit {0}
 
 -- the first n choices are the same, and then one path ends or the next choices differ
@@ -20,7 +23,11 @@ pub record IsShared (q r : List ℕ) (n : ℕ) : Type 0 where
   pub same : take n q ≡ take n r
   pub differs : n < length q → n < length r → slice_index_or q n 0 ≢ slice_index_or r n 0
 
+-- a state's digit at a level
+abbrev pub digit_of : ProblemValue → StateValue → ℕ → ℕ
+digit_of p s level = slice_index_or (digits (length p.options) s.label s.path s.cursor) level 0
+
 -- a digit with room for all numbers, and the one with room for m options: the same up to the last option, and from there on
 -- as far from the end
 abbrev pub Shifts : ℕ → ℕ → ℕ → Type 0
-Shifts m d e = ((d ≡ e) × (d < 4 * 4294967296 + 5) × (e < 4 * m + 5)) ⊎ ((d + 4 * m ≡ e + 4 * 4294967296) × (4 * m + 5 ≤ e))
+Shifts m d e = ((d ≡ e) × (d < 4 * MANY + 5) × (e < 4 * m + 5)) ⊎ ((d + 4 * m ≡ e + 4 * MANY) × (4 * m + 5 ≤ e))

@@ -27,7 +27,7 @@ impl<'p> Model for Cut<'p> {
 }
 
 impl<'p> Cut<'p> {
-    /// The cut of a path. Refused exactly where the path is empty or none that the search can take, want of memory aside; the
+    /// The cut of a path. Refused exactly where the path is empty or none that the search can take, out of memory aside; the
     /// path comes back.
     pub fn new(
         alloc: Global,

@@ -1,7 +1,5 @@
 //! Problems drawn by a seed: the states of each run come in the order of their positions.
-use crate::run_order;
-use crate::tests::states_of;
-use cover_problem::read_cover;
+use crate::tests::{are_in_order, states_of};
 use std::alloc::{AllocError, Global};
 use std::test::Fail;
 
@@ -37,21 +35,11 @@ fn drawn_text(alloc: Global, primary: usize, seed: &mut u64) -> Result<String, A
 
 #[test]
 fn states_of_drawn_problems_come_in_order(rt: HostRuntime) -> Result<(), Fail> {
-    let alloc = rt.alloc();
     let mut seed = 7;
     for round in 0..30 {
-        let text = drawn_text(alloc, round % 5 + 1, &mut seed)?;
-        let problem = read_cover(alloc, text.as_bytes())?;
-        let states = states_of(alloc, &problem)?;
-        for (place, one) in states.iter().enumerate() {
-            for (other_place, other) in states.iter().enumerate() {
-                assert_eq!(rt;
-                    run_order(one, other),
-                    place.cmp(&other_place),
-                    "for {text}"
-                );
-            }
-        }
+        let text = drawn_text(rt.alloc(), round % 5 + 1, &mut seed)?;
+        let states = states_of(rt.alloc(), &text)?;
+        assert!(rt; are_in_order(&states), "for {text}");
     }
     Ok(())
 }

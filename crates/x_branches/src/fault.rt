@@ -26,7 +26,7 @@ pub enum RunnerFault {
 }
 
 impl RunnerFault {
-    /// Its number, from 1; want of memory has none.
+    /// Its number, from 1; out of memory has none.
     pub fn number(self) -> Option<u8>
         ensures { result ≡ number_of self }
     {
@@ -70,7 +70,7 @@ pub enum CutFault {
 }
 
 impl CutFault {
-    /// Its number among those of a runner; want of memory has none.
+    /// Its number among those of a runner; out of memory has none.
     pub fn number(self) -> Option<u8>
         ensures { result ≡ number_of_cut self }
     {

@@ -3,12 +3,18 @@ ghost use Rattle.std.specs.Prelude.{◌≡◌, ◌<◌, ◌≤◌, ◌↔◌, �
 ghost use Rattle.cover_problem.specs.Problem.{ProblemValue};
 ghost use Rattle.x_steps.specs.StateView.{state_value};
 ghost use Rattle.x_steps.specs.Steps.{Fits};
-ghost use Rattle.x_steps.specs.Rank.{digits, digit_at};
+ghost use Rattle.x_steps.specs.Rank.{digit_at};
 ghost use Rattle.x_branches.specs.RunOrder.{ComesBefore};
-ghost use Rattle.x_branches.specs.Stage.{MANY, IsShared, IsWithin, Shifts};
+ghost use Rattle.x_branches.specs.Stage.{MANY, IsShared, IsWithin, Shifts, digit_of};
 
 use std::cmp::Ordering;
 use x_steps::{Cursor, Label, State};
+
+/// More options than a number of 32 bits can name.
+const ROOM: u64 = 4_294_967_296;
+
+/// Where X5 stands past all options of its level.
+const PAST_ALL: u64 = 4 * ROOM + 5;
 
 /// How many choices two paths share, up to their first difference.
 fn shared(one: &[u32], other: &[u32]) -> usize
@@ -41,19 +47,20 @@ fn stage_of(label: Label, cursor: Cursor) -> u64
         (Label::X3, _) => 2,
         (Label::X4, _) => 3,
         (Label::X5, Cursor::At(option)) => 4 * option as u64 + 1,
-        (Label::X5, _) => 17_179_869_189,
+        (Label::X5, _) => PAST_ALL,
         (Label::X6, Cursor::At(option)) => 4 * option as u64 + 3,
         (Label::X6, _) => 0,
-        (Label::X7, _) => 17_179_869_190,
-        (Label::X8, _) => 17_179_869_191,
-        (Label::Done, _) => 17_179_869_192,
+        (Label::X7, _) => PAST_ALL + 1,
+        (Label::X8, _) => PAST_ALL + 2,
+        (Label::Done, _) => PAST_ALL + 3,
     }
 }
 
 /// Where a state stands among those with the same first choices.
 fn stage(state: &State, level: usize) -> u64
     requires { level ≤ length (state_value state.now).path }
-    ensures { (p : ProblemValue) → Fits p (state_value state.now) → Shifts (length p.options) result (slice_index_or (digits (length p.options) state.now.label (state_value state.now).path state.now.cursor) level 0) }
+    ensures { (p : ProblemValue) → Fits p (state_value state.now) →
+        Shifts (length p.options) result (digit_of p (state_value state.now) level) }
 {
     if level < state.path.len() {
         stage_below(state.path[level])

@@ -8,7 +8,9 @@ use Rattle.cover_problem.specs.Problem.{ProblemValue, IsProblem, option_at}
 use Rattle.cover_problem.specs.Covering.{active, choice, list_of}
 use Rattle.cover_problem.specs.Path.{IsChoice, IsValid, taken, covered_by, others}
 use Rattle.cover_problem.specs.Coverable.{IsUncovered, CanCover}
-use Rattle.cover_problem.proofs.CoveringLemmas.{active_item, choice_active, choice_has, can_take, taken_is, covered_by_push, list_covered, depth, valid_pop}
+use Rattle.cover_problem.proofs.ActiveLemmas.{active_item}
+use Rattle.cover_problem.proofs.RemainingLemmas.{choice_active, list_covered}
+use Rattle.cover_problem.proofs.PathLemmas.{choice_has, can_take, taken_is, covered_by_push, depth, valid_pop}
 use Rattle.x_steps.specs.declared.state.Label.{Label}
 use Rattle.x_steps.specs.declared.state.Label.TheVariants.{X1, X2, X3, X4, X5, X6, X7, X8, Done}
 use Rattle.x_steps.specs.declared.state.Cursor.{Cursor}
@@ -20,16 +22,16 @@ use Rattle.x_steps.specs.Before.{prev, prev_at, came_from}
 use Rattle.x_steps.specs.Machine.{Keeps, Position, GoesBack}
 use Rattle.x_steps.proofs.Neighbours.{fits_prev, split_last_push}
 use Rattle.x_steps.proofs.RunLemmas.{prev_before}
-use Rattle.x_steps.proofs.MachineLemmas.{emptied, mid_is}
+use Rattle.x_steps.proofs.MachineLemmas.{emptied, mid_is, chosen_last, item_is, retry_at}
 
 -- a step back came to t, and the machine keeps what it has to
-pub record WentBack (p : ProblemValue) (s t : StateValue) (subject : ProblemValue) (covered : List ℕ) (room : ℕ) : Type 0 where
-  pub keeps : Keeps p t subject covered room
+pub record WentBack (p : ProblemValue) (s t : StateValue) (table_problem : ProblemValue) (covered : List ℕ) (room : ℕ) : Type 0 where
+  pub keeps : Keeps p t table_problem covered room
   pub steps : t ≡ prev p s
   pub fit : Fits p s
 
-module _ (p : ProblemValue) (s t : StateValue) (subject : ProblemValue) (covered : List ℕ) (room : ℕ) (new_subject : ProblemValue) (new_covered : List ℕ) (new_room : ℕ) where
-  went_back : Keeps p s subject covered room → new_subject ≡ subject → room ≤ new_room → t ≡ prev p s → new_covered ≡ covered_in p t → WentBack p s t new_subject new_covered new_room
+module _ (p : ProblemValue) (s t : StateValue) (table_problem : ProblemValue) (covered : List ℕ) (room : ℕ) (new_problem : ProblemValue) (new_covered : List ℕ) (new_room : ℕ) where
+  went_back : Keeps p s table_problem covered room → new_problem ≡ table_problem → room ≤ new_room → t ≡ prev p s → new_covered ≡ covered_in p t → WentBack p s t new_problem new_covered new_room
   went_back k e r n c = record {
     keeps = record {
       sound = k.sound;
@@ -59,29 +61,29 @@ none_at_Done p path cursor.None f = f
 none_at_Done p path (At o) f = absurd f
 none_at_Done p path Past f = absurd f
 
-module _ (p : ProblemValue) (path : List ℕ) (at_cursor : Cursor) (subject : ProblemValue) (covered : List ℕ) (room : ℕ) where
+module _ (p : ProblemValue) (path : List ℕ) (at_cursor : Cursor) (table_problem : ProblemValue) (covered : List ℕ) (room : ℕ) where
   -- what the machine keeps at a label, whatever the cursor
   abbrev Here : Label → Type 0
-  Here l = Keeps p (at l path at_cursor) subject covered room
+  Here l = Keeps p (at l path at_cursor) table_problem covered room
 
   abbrev Back : Label → StateValue → Type 0
-  Back l t = WentBack p (at l path at_cursor) t subject covered room
+  Back l t = WentBack p (at l path at_cursor) t table_problem covered room
 
   -- the same with another table
   abbrev BackWith : Label → StateValue → ProblemValue → List ℕ → Type 0
-  BackWith l t new_subject new_covered = WentBack p (at l path at_cursor) t new_subject new_covered room
+  BackWith l t new_problem new_covered = WentBack p (at l path at_cursor) t new_problem new_covered room
 
   -- X2 with no choice
   pub to_start : (new_path : List ℕ) (new_room : ℕ) → path ≡ new_path ++ [] → length path ≡ 0 → new_room ≡ room → Here X2
-      → WentBack p (at X2 path at_cursor) (at X1 new_path cursor.None) subject covered new_room
+      → WentBack p (at X2 path at_cursor) (at X1 new_path cursor.None) table_problem covered new_room
   unfolding prev covered_in
   to_start new_path new_room e zero same k =
       let none = emptied path zero in
       let bare : new_path ≡ [] = sym (append-nil new_path) ∙ sym e ∙ none in
-      went_back p _ _ subject covered room _ _ _ k refl (omega arith) (rw (none, bare) refl) (k.stands ∙ ap (covered_by p) (none ∙ sym bare))
+      went_back p _ _ table_problem covered room _ _ _ k refl (omega arith) (rw (none, bare) refl) (k.stands ∙ ap (covered_by p) (none ∙ sym bare))
 
   -- X2 with a last choice has covered what X6 has at it
-  pub as_taken : (new_path : List ℕ) (o : ℕ) → path ≡ new_path ++ o ∷ [] → Here X2 → Keeps p (at X6 new_path (At o)) subject covered room
+  pub as_taken : (new_path : List ℕ) (o : ℕ) → path ≡ new_path ++ o ∷ [] → Here X2 → Keeps p (at X6 new_path (At o)) table_problem covered room
   unfolding covered_in
   as_taken new_path o e k = record {
     sound = k.sound;
@@ -91,67 +93,57 @@ module _ (p : ProblemValue) (path : List ℕ) (at_cursor : Cursor) (subject : Pr
     path_fits = k.path_fits;
   }
 
-  pub to_option : (new_path : List ℕ) (o : ℕ) (new_room count : ℕ) (new_subject : ProblemValue) (mid : List ℕ) → path ≡ new_path ++ o ∷ [] → new_room ≡ room → new_subject ≡ subject
+  pub to_option : (new_path : List ℕ) (o : ℕ) (new_room count : ℕ) (new_problem : ProblemValue) (mid : List ℕ) → path ≡ new_path ++ o ∷ [] → new_room ≡ room → new_problem ≡ table_problem
       → count ≡ length (option_at p o) - 1 → (back : List ℕ) × (covered ≡ mid ++ back) × (length back ≡ count) → Here X2
-      → WentBack p (at X2 path at_cursor) (at X5 new_path (At o)) new_subject mid new_room
+      → WentBack p (at X2 path at_cursor) (at X5 new_path (At o)) new_problem mid new_room
   unfolding prev covered_in
-  to_option new_path o new_room count new_subject mid e wide same size gone k =
+  to_option new_path o new_room count new_problem mid e wide same size gone k =
       let last : split_last path ≡ Some (new_path, o) = ap split_last e ∙ split_last_push new_path o in
-      let list = mid_is p new_path (At o) subject covered room o refl count mid size gone (as_taken new_path o e k) in
-      went_back p _ _ subject covered room _ _ _ k same (omega arith) (rw last refl) list
+      let list = mid_is p new_path (At o) table_problem covered room o refl count mid size gone (as_taken new_path o e k) in
+      went_back p _ _ table_problem covered room _ _ _ k same (omega arith) (rw last refl) list
 
   -- X3 and X4
   pub to_enter : Here X3 → Back X3 (at X2 path cursor.None)
   unfolding prev covered_in
-  to_enter k = went_back p _ _ subject covered room _ _ _ k refl (omega arith) refl k.stands
+  to_enter k = went_back p _ _ table_problem covered room _ _ _ k refl (omega arith) refl k.stands
 
   pub to_plan : Here X4 → Back X4 (at X3 path cursor.None)
   unfolding prev covered_in
-  to_plan k = went_back p _ _ subject covered room _ _ _ k refl (omega arith) refl k.stands
+  to_plan k = went_back p _ _ table_problem covered room _ _ _ k refl (omega arith) refl k.stands
 
-  -- X5: the chosen item is covered last
-  chosen_last : Here X5 → covered ≡ covered_by p path ++ item_after p path ∷ []
-  unfolding covered_in
-  chosen_last k = k.stands
-
-  pub some_chosen : Here X5 → 0 < length covered
-  some_chosen k = let e = ap (length {A = ℕ}) (chosen_last k) in let n = length-append (covered_by p path) (item_after p path ∷ []) in omega arith
-
+  -- X5
   pub uncovered_item : Here X5 → IsUncovered p (covered_by p path) (item_after p path)
   uncovered_item k = active_item p (covered_by p path) (item_after p path) k.sound (choice_active p (covered_by p path) (open_at_X5 p path at_cursor k.fit))
 
   module _ (item : ℕ) (last : (front : List ℕ) × (covered ≡ front ++ item ∷ [])) where
-    pub item_is : Here X5 → item ≡ item_after p path
-    item_is k = (same_from_push _ _ _ _ (sym last.1 ∙ chosen_last k)).1
-
-    pub item_within : Here X5 → (0 < item) × (item ≤ length subject.names)
+    pub item_within : Here X5 → (0 < item) × (item ≤ length table_problem.names)
     item_within k =
         let u = uncovered_item k in
-        rw (item_is k, k.same) (u.some, u.within)
+        rw (item_is p path at_cursor table_problem covered room item last k, k.same) (u.some, u.within)
 
     -- its list has the options left after the path
-    pub list_is : Here X5 → list_of subject covered item ≡ remaining_after p path
+    pub list_is : Here X5 → list_of table_problem covered item ≡ remaining_after p path
     list_is k =
-        ap (λ q. list_of q covered item) k.same ∙ ap (λ c. list_of p c item) (chosen_last k) ∙ ap (λ i. list_of p (covered_by p path ++ item_after p path ∷ []) i) (item_is k)
+        ap (λ q. list_of q covered item) k.same ∙ ap (λ c. list_of p c item) (chosen_last p path at_cursor table_problem covered room k) ∙ ap (λ i. list_of p (covered_by p path ++ item_after p path ∷ []) i) (item_is p path at_cursor table_problem covered room item last k)
         ∙ list_covered p (covered_by p path) (item_after p path) [] (uncovered_item k).uncovered
 
-    pub below_is : (o : ℕ) (found : Option ℕ) → found ≡ below o (list_of subject covered item) → Here X5 → found ≡ below o (remaining_after p path)
+    pub below_is : (o : ℕ) (found : Option ℕ) → found ≡ below o (list_of table_problem covered item) → Here X5 → found ≡ below o (remaining_after p path)
     below_is o found e k = e ∙ ap (below o) (list_is k)
 
-    pub last_is : (found : Option ℕ) → found ≡ last_of (list_of subject covered item) → Here X5 → found ≡ last_of (remaining_after p path)
+    pub last_is : (found : Option ℕ) → found ≡ last_of (list_of table_problem covered item) → Here X5 → found ≡ last_of (remaining_after p path)
     last_is found e k = e ∙ ap last_of (list_is k)
 
-    pub list_has : (o : ℕ) → at_cursor ≡ At o → Here X5 → has (list_of subject covered item) o ≡ true
+    pub list_has : (o : ℕ) → at_cursor ≡ At o → Here X5 → has (list_of table_problem covered item) o ≡ true
     list_has o e k =
         let f = subst (λ c. FitsAt p X5 path c) e k.fit in
         subst (λ l. has l o ≡ true) (sym (list_is k)) f.1.left
 
     -- before X5 nothing was left: X4
-    pub to_open : (new_subject : ProblemValue) (new_covered : List ℕ) → prev p (at X5 path at_cursor) ≡ came_from path prelude.None → new_subject ≡ subject → covered ≡ new_covered ++ item ∷ []
-        → Here X5 → BackWith X5 (at X4 path cursor.None) new_subject new_covered
+    pub to_open : (new_problem : ProblemValue) (new_covered : List ℕ) → prev p (at X5 path at_cursor) ≡ came_from path prelude.None → new_problem ≡ table_problem → covered ≡ new_covered ++ item ∷ []
+        → Here X5 → BackWith X5 (at X4 path cursor.None) new_problem new_covered
     unfolding covered_in
-    to_open new_subject new_covered came same e k =
-        went_back p _ _ subject covered room _ _ _ k same (omega arith) (sym came) (same_from_push _ _ _ _ (sym e ∙ chosen_last k)).0
+    to_open new_problem new_covered came same e k =
+        went_back p _ _ table_problem covered room _ _ _ k same (omega arith) (sym came) (same_from_push _ _ _ _ (sym e ∙ chosen_last p path at_cursor table_problem covered room k)).0
 
     -- before X5 an option was left: X6
     module _ (o : ℕ) (came : prev p (at X5 path at_cursor) ≡ came_from path (Some o)) where
@@ -162,82 +154,79 @@ module _ (p : ProblemValue) (path : List ℕ) (at_cursor : Cursor) (subject : Pr
       option_within k = let t = choice_has p (covered_by p path) o (choice_before k).1 in (t.some, t.within)
 
       pub option_has : Here X5 → has (option_at p o) item ≡ true
-      option_has k = let t = choice_has p (covered_by p path) o (choice_before k).1 in subst (λ i. has (option_at p o) i ≡ true) (sym (item_is k)) t.item
+      option_has k = let t = choice_has p (covered_by p path) o (choice_before k).1 in subst (λ i. has (option_at p o) i ≡ true) (sym (item_is p path at_cursor table_problem covered room item last k)) t.item
 
-      pub can_retake : Here X5 → CanCover subject covered (others item (option_at p o))
+      pub can_retake : Here X5 → CanCover table_problem covered (others item (option_at p o))
       can_retake k =
           let t = (can_take p (covered_by p path) o k.sound (choice_before k).1).1 in
-          subst (λ q. CanCover q covered (others item (option_at p o))) (sym k.same) (subst (λ i. CanCover p covered (others i (option_at p o))) (sym (item_is k))
-          (subst (λ c. CanCover p c (others (item_after p path) (option_at p o))) (sym (chosen_last k)) t))
+          subst (λ q. CanCover q covered (others item (option_at p o))) (sym k.same) (subst (λ i. CanCover p covered (others i (option_at p o))) (sym (item_is p path at_cursor table_problem covered room item last k))
+          (subst (λ c. CanCover p c (others (item_after p path) (option_at p o))) (sym (chosen_last p path at_cursor table_problem covered room k)) t))
 
-      pub to_retry : (new_subject : ProblemValue) (new_covered : List ℕ) → new_subject ≡ subject → new_covered ≡ covered ++ others item (option_at p o)
-          → Here X5 → BackWith X5 (at X6 path (At o)) new_subject new_covered
+      pub to_retry : (new_problem : ProblemValue) (new_covered : List ℕ) → new_problem ≡ table_problem → new_covered ≡ covered ++ others item (option_at p o)
+          → Here X5 → BackWith X5 (at X6 path (At o)) new_problem new_covered
       unfolding covered_in
-      to_retry new_subject new_covered same list k =
+      to_retry new_problem new_covered same list k =
           let whole : new_covered ≡ taken p (covered_by p path) o =
-          list ∙ ap (λ i. covered ++ others i (option_at p o)) (item_is k) ∙ ap (λ c. c ++ others (item_after p path) (option_at p o)) (chosen_last k)
+          list ∙ ap (λ i. covered ++ others i (option_at p o)) (item_is p path at_cursor table_problem covered room item last k) ∙ ap (λ c. c ++ others (item_after p path) (option_at p o)) (chosen_last p path at_cursor table_problem covered room k)
           ∙ sym (taken_is p (covered_by p path) o) in
-          went_back p _ _ subject covered room _ _ _ k same (omega arith) (sym came) whole
+          went_back p _ _ table_problem covered room _ _ _ k same (omega arith) (sym came) whole
 
   -- X6
   module _ (o : ℕ) (is_at : at_cursor ≡ At o) where
-    left_at : Here X6 → IsValid p path × IsChoice p (covered_by p path) o
-    left_at k = subst (λ c. FitsAt p X6 path c) is_at k.fit
-
     pub room_for : Here X6 → length path < room
     room_for k =
-        let f = left_at k in
+        let f = retry_at p path at_cursor table_problem covered room o is_at k in
         let d = depth p path f.0 in
         let a = f.1.active in
         let r = k.path_fits in
         let w = k.sound.within in omega arith
 
-    pub to_leave : (new_room : ℕ) → room ≤ new_room → Here X6 → WentBack p (at X6 path at_cursor) (at X8 (path ++ o ∷ []) cursor.None) subject covered new_room
+    pub to_leave : (new_room : ℕ) → room ≤ new_room → Here X6 → WentBack p (at X6 path at_cursor) (at X8 (path ++ o ∷ []) cursor.None) table_problem covered new_room
     unfolding prev covered_in
-    to_leave new_room more k = went_back p _ _ subject covered room _ _ _ k refl more (rw is_at refl) (k.stands ∙ rw is_at (sym (covered_by_push p path o)))
+    to_leave new_room more k = went_back p _ _ table_problem covered room _ _ _ k refl more (rw is_at refl) (k.stands ∙ rw is_at (sym (covered_by_push p path o)))
 
   -- X7
   pub to_past : Here X7 → Back X7 (at X5 path Past)
   unfolding prev covered_in
-  to_past k = went_back p _ _ subject covered room _ _ _ k refl (omega arith) refl k.stands
+  to_past k = went_back p _ _ table_problem covered room _ _ _ k refl (omega arith) refl k.stands
 
   -- X8
-  same_open : Here X8 → nat_lt 0 (length (active subject covered)) ≡ is_open p path
+  same_open : Here X8 → nat_lt 0 (length (active table_problem covered)) ≡ is_open p path
   unfolding covered_in
   same_open k = ap (λ q. nat_lt 0 (length (active q covered))) k.same ∙ ap (λ c. nat_lt 0 (length (active p c))) k.stands
 
-  pub to_visit : (b : Bool) → b ≡ nat_lt 0 (length (active subject covered)) → b ≡ false → Here X8 → Back X8 (at X2 path cursor.None)
+  pub to_visit : (b : Bool) → b ≡ nat_lt 0 (length (active table_problem covered)) → b ≡ false → Here X8 → Back X8 (at X2 path cursor.None)
   unfolding prev covered_in
   to_visit b found none k =
       let closed : is_open p path ≡ false = sym (found ∙ same_open k) ∙ none in
-      went_back p _ _ subject covered room _ _ _ k refl (omega arith) (rw closed refl) k.stands
+      went_back p _ _ table_problem covered room _ _ _ k refl (omega arith) (rw closed refl) k.stands
 
   stands_X8 : Here X8 → covered ≡ covered_by p path
   unfolding covered_in
   stands_X8 k = k.stands
 
-  module _ (b : Bool) (found : b ≡ nat_lt 0 (length (active subject covered))) (some : b ≡ true) where
-    pub ready : 0 < length (active subject covered)
-    ready = ltb-true 0 (length (active subject covered)) (sym found ∙ some)
+  module _ (b : Bool) (found : b ≡ nat_lt 0 (length (active table_problem covered))) (some : b ≡ true) where
+    pub ready : 0 < length (active table_problem covered)
+    ready = ltb-true 0 (length (active table_problem covered)) (sym found ∙ some)
 
-    pub covers_again : (item : ℕ) → item ≡ choice subject covered → Here X8 → IsUncovered subject covered item
+    pub covers_again : (item : ℕ) → item ≡ choice table_problem covered → Here X8 → IsUncovered table_problem covered item
     covers_again item e k =
-        let sound : IsProblem subject = subst IsProblem (sym k.same) k.sound in
-        subst (IsUncovered subject covered) (sym e) (active_item subject covered (choice subject covered) sound (choice_active subject covered ready))
+        let sound : IsProblem table_problem = subst IsProblem (sym k.same) k.sound in
+        subst (IsUncovered table_problem covered) (sym e) (active_item table_problem covered (choice table_problem covered) sound (choice_active table_problem covered ready))
 
-    pub to_close : (item : ℕ) (new_subject : ProblemValue) (new_covered : List ℕ) → item ≡ choice subject covered → new_subject ≡ subject → new_covered ≡ covered ++ item ∷ [] → Here X8
-        → BackWith X8 (at X7 path cursor.None) new_subject new_covered
+    pub to_close : (item : ℕ) (new_problem : ProblemValue) (new_covered : List ℕ) → item ≡ choice table_problem covered → new_problem ≡ table_problem → new_covered ≡ covered ++ item ∷ [] → Here X8
+        → BackWith X8 (at X7 path cursor.None) new_problem new_covered
     unfolding prev covered_in
-    to_close item new_subject new_covered e same list k =
+    to_close item new_problem new_covered e same list k =
         let opened : is_open p path ≡ true = sym (found ∙ same_open k) ∙ some in
         let chosen : item ≡ item_after p path = e ∙ ap (λ q. choice q covered) k.same ∙ ap (λ c. choice p c) (stands_X8 k) in
         let whole : new_covered ≡ covered_by p path ++ item_after p path ∷ [] = list ∙ ap (λ c. c ++ item ∷ []) (stands_X8 k) ∙ ap (λ i. covered_by p path ++ i ∷ []) chosen in
-        went_back p _ _ subject covered room _ _ _ k same (omega arith) (rw opened refl) whole
+        went_back p _ _ table_problem covered room _ _ _ k same (omega arith) (rw opened refl) whole
 
   -- Done
   pub to_end : Here Done → Back Done (at X8 path cursor.None)
   unfolding prev covered_in
-  to_end k = went_back p _ _ subject covered room _ _ _ k refl (omega arith) (rw (none_at_Done p path at_cursor k.fit) refl) k.stands
+  to_end k = went_back p _ _ table_problem covered room _ _ _ k refl (omega arith) (rw (none_at_Done p path at_cursor k.fit) refl) k.stands
 
 -- ---- the same at a state whose label is known
 
@@ -247,10 +236,10 @@ IsLater X1 = ⊥
 IsLater _ = Unit {0}
 
 -- what a step back says, from the state inside the machine
-pub goes_back : (p : ProblemValue) (s t : StateValue) (subject : ProblemValue) (covered : List ℕ) (room : ℕ) (l : Label) (old : Position) → record { problem = p; state = s } ≡ old → s.label ≡ l → IsLater l
-    → WentBack p (at l s.path s.cursor) t subject covered room → GoesBack old (record { problem = p; state = t })
-goes_back p s t subject covered room l old e m later w =
-    let v : WentBack p s t subject covered room = subst (λ l. WentBack p (at l s.path s.cursor) t subject covered room) (sym m) w in
+pub goes_back : (p : ProblemValue) (s t : StateValue) (table_problem : ProblemValue) (covered : List ℕ) (room : ℕ) (l : Label) (old : Position) → record { problem = p; state = s } ≡ old → s.label ≡ l → IsLater l
+    → WentBack p (at l s.path s.cursor) t table_problem covered room → GoesBack old (record { problem = p; state = t })
+goes_back p s t table_problem covered room l old e m later w =
+    let v : WentBack p s t table_problem covered room = subst (λ l. WentBack p (at l s.path s.cursor) t table_problem covered room) (sym m) w in
     let apart : s ≡ start → ⊥ = λ f. subst IsLater (sym m ∙ ap (λ (s : StateValue). s.label) f) later in
     subst (λ v. GoesBack v (record { problem = p; state = t })) e
     (record { problem = refl; state = v.steps; before = subst (λ t. IsBefore p t s) (sym v.steps) (prev_before p s v.fit apart) })

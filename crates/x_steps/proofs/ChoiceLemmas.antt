@@ -4,8 +4,9 @@ use Rattle.std.proofs.lemmas.Bool.{cases_lt}
 use Rattle.cover_problem.specs.Lists.{has, above, RisesFrom}
 use Rattle.cover_problem.specs.Problem.{ProblemValue}
 use Rattle.cover_problem.specs.Covering.{active, remaining, choice, list_of}
-use Rattle.cover_problem.proofs.ListLemmas.{above_is, above_none}
-use Rattle.cover_problem.proofs.CoveringLemmas.{active_rises, active_in, choice_unique, choice_active, list_uncovered}
+use Rattle.cover_problem.proofs.RisingLemmas.{above_is, above_none}
+use Rattle.cover_problem.proofs.ActiveLemmas.{active_rises, active_in}
+use Rattle.cover_problem.proofs.RemainingLemmas.{choice_unique, choice_active, list_uncovered}
 
 some_of : {X : Type 0} (o : Option X) → (o ≡ None → ⊥) → IsSome o
 some_of None h = absurd (h refl)

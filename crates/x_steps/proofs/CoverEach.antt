@@ -3,7 +3,7 @@ use Rattle.std.proofs.Common.{◌≡◌, ℕ, ◌+◌, ◌<◌, ◌≤◌, ◌==
 use Rattle.std.proofs.lemmas.List.{length-take, same_from_push}
 use Rattle.std.specs.List.{position_or_len, before_first, after_first}
 use Rattle.cover_problem.specs.Lists.{has}
-use Rattle.cover_problem.proofs.ListLemmas.{parts_are}
+use Rattle.cover_problem.proofs.PartLemmas.{parts_are}
 
 pub place_within : (i : ℕ) (option : List ℕ) → has option i ≡ true → position_or_len (λ x. x == i) option < length option
 place_within i option h =

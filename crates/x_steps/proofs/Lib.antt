@@ -4,6 +4,9 @@ pub mod Neighbours
 pub mod RankLemmas
 pub mod RunLemmas
 pub mod BetweenLemmas
+pub mod StretchLemmas
+pub mod ZeroLemmas
+pub mod PathsLemmas
 pub mod StateLemmas
 pub mod MachineLemmas
 pub mod BackLemmas

@@ -5,8 +5,10 @@ use Rattle.std.proofs.lemmas.List.{map-append, length-map}
 use Rattle.cover_problem.specs.Lists.{has, above, RisesFrom}
 use Rattle.cover_problem.specs.Problem.{ProblemValue}
 use Rattle.cover_problem.specs.Covering.{active, remaining, list_of}
-use Rattle.cover_problem.proofs.CoveringLemmas.{active_rises, active_in, list_uncovered}
-use Rattle.cover_problem.proofs.ListLemmas.{has_here, has_append_right, rises_weaker, rises_member}
+use Rattle.cover_problem.proofs.ActiveLemmas.{active_rises, active_in}
+use Rattle.cover_problem.proofs.RemainingLemmas.{list_uncovered}
+use Rattle.cover_problem.proofs.MemberLemmas.{has_here, has_append_right}
+use Rattle.cover_problem.proofs.NumberLemmas.{rises_weaker, rises_member}
 
 -- of the list, `done` were listed, and `next` is the first of the others
 pub record Lists (all done : List ℕ) (next : Option ℕ) : Type 0 where

@@ -6,7 +6,9 @@ use Rattle.cover_problem.specs.Problem.{ProblemValue, IsProblem, option_at}
 use Rattle.cover_problem.specs.Covering.{active, choice, list_of}
 use Rattle.cover_problem.specs.Path.{IsChoice, IsValid, covered_by, others}
 use Rattle.cover_problem.specs.Coverable.{IsUncovered, CanCover}
-use Rattle.cover_problem.proofs.CoveringLemmas.{active_in, active_item, choice_active, choice_has, can_take, taken_is, covered_by_push, covered_by_none, length-others, list_covered, depth}
+use Rattle.cover_problem.proofs.ActiveLemmas.{active_in, active_item}
+use Rattle.cover_problem.proofs.RemainingLemmas.{choice_active, list_covered}
+use Rattle.cover_problem.proofs.PathLemmas.{choice_has, can_take, taken_is, covered_by_push, covered_by_none, length-others, depth}
 use Rattle.x_steps.specs.declared.state.Label.{Label}
 use Rattle.x_steps.specs.declared.state.Label.TheVariants.{X1, X2, X3, X4, X5, X6, X7, X8, Done}
 use Rattle.x_steps.specs.declared.state.Cursor.{Cursor}
@@ -20,8 +22,8 @@ use Rattle.x_steps.specs.Machine.{Keeps, Position, Goes}
 use Rattle.x_steps.proofs.Neighbours.{fits_next, split_last_push}
 
 -- a step came to t, and the machine keeps what it has to
-pub record Went (p : ProblemValue) (s t : StateValue) (event : Event) (subject : ProblemValue) (covered : List ℕ) (room : ℕ) : Type 0 where
-  pub keeps : Keeps p t subject covered room
+pub record Went (p : ProblemValue) (s t : StateValue) (event : Event) (table_problem : ProblemValue) (covered : List ℕ) (room : ℕ) : Type 0 where
+  pub keeps : Keeps p t table_problem covered room
   pub steps : t ≡ next p s
   pub tells : event ≡ event_of p s
 
@@ -29,8 +31,8 @@ pub record Went (p : ProblemValue) (s t : StateValue) (event : Event) (subject :
 pub by_label : (P : StateValue → Type 0) (s : StateValue) (l : Label) → s.label ≡ l → P (at l s.path s.cursor) → P s
 by_label P s l e h = subst (λ l. P (at l s.path s.cursor)) (sym e) h
 
-module _ (p : ProblemValue) (s t : StateValue) (event : Event) (subject : ProblemValue) (covered : List ℕ) (room : ℕ) (new_subject : ProblemValue) (new_covered : List ℕ) (new_room : ℕ) where
-  went : Keeps p s subject covered room → new_subject ≡ subject → room ≤ new_room → t ≡ next p s → event ≡ event_of p s → new_covered ≡ covered_in p t → Went p s t event new_subject new_covered new_room
+module _ (p : ProblemValue) (s t : StateValue) (event : Event) (table_problem : ProblemValue) (covered : List ℕ) (room : ℕ) (new_problem : ProblemValue) (new_covered : List ℕ) (new_room : ℕ) where
+  went : Keeps p s table_problem covered room → new_problem ≡ table_problem → room ≤ new_room → t ≡ next p s → event ≡ event_of p s → new_covered ≡ covered_in p t → Went p s t event new_problem new_covered new_room
   went k e r n v c = record {
     keeps = record {
       sound = k.sound;
@@ -86,82 +88,83 @@ moved [] [] o e = absurd (cc)
 moved [] (x ∷ xs) o e = absurd (cc)
 moved (y ∷ ys) new_path o e = refl
 
-module _ (p : ProblemValue) (path : List ℕ) (at_cursor : Cursor) (subject : ProblemValue) (covered : List ℕ) (room : ℕ) where
+module _ (p : ProblemValue) (path : List ℕ) (at_cursor : Cursor) (table_problem : ProblemValue) (covered : List ℕ) (room : ℕ) where
   -- what the machine keeps at a label, whatever the cursor
   abbrev Here : Label → Type 0
-  Here l = Keeps p (at l path at_cursor) subject covered room
+  Here l = Keeps p (at l path at_cursor) table_problem covered room
 
   abbrev There : Label → StateValue → Event → Type 0
-  There l t event = Went p (at l path at_cursor) t event subject covered room
+  There l t event = Went p (at l path at_cursor) t event table_problem covered room
 
   -- the same with another table
   abbrev Moves : Label → StateValue → Event → ProblemValue → List ℕ → Type 0
-  Moves l t event new_subject new_covered = Went p (at l path at_cursor) t event new_subject new_covered room
+  Moves l t event new_problem new_covered = Went p (at l path at_cursor) t event new_problem new_covered room
 
   pub begins : Here X1 → There X1 (at X2 path cursor.None) Moved
   unfolding next event_of covered_in
-  begins k = went p _ _ _ subject covered room _ _ _ k refl (omega arith) refl refl k.stands
+  begins k = went p _ _ _ table_problem covered room _ _ _ k refl (omega arith) refl refl k.stands
 
   pub plans : Here X3 → There X3 (at X4 path cursor.None) Moved
   unfolding next event_of covered_in
-  plans k = went p _ _ _ subject covered room _ _ _ k refl (omega arith) refl refl k.stands
+  plans k = went p _ _ _ table_problem covered room _ _ _ k refl (omega arith) refl refl k.stands
 
   -- an item is active for the table where one is after the path
-  same_open : Here X2 → nat_lt 0 (length (active subject covered)) ≡ is_open p path
+  same_open : Here X2 → nat_lt 0 (length (active table_problem covered)) ≡ is_open p path
   unfolding covered_in
   same_open k = ap (λ q. nat_lt 0 (length (active q covered))) k.same ∙ ap (λ c. nat_lt 0 (length (active p c))) k.stands
 
   enters_by : (b : Bool) → is_open p path ≡ b → Here X2 → There X2 (at (if b then X3 else X8) path cursor.None) (if b then Moved else Visited)
   unfolding next event_of covered_in
-  enters_by true e k = went p _ _ _ subject covered room _ _ _ k refl (omega arith) (rw e refl) (rw e refl) k.stands
-  enters_by false e k = went p _ _ _ subject covered room _ _ _ k refl (omega arith) (rw e refl) (rw e refl) k.stands
+  enters_by true e k = went p _ _ _ table_problem covered room _ _ _ k refl (omega arith) (rw e refl) (rw e refl) k.stands
+  enters_by false e k = went p _ _ _ table_problem covered room _ _ _ k refl (omega arith) (rw e refl) (rw e refl) k.stands
 
-  pub enters : (b : Bool) → b ≡ nat_lt 0 (length (active subject covered)) → Here X2
+  pub enters : (b : Bool) → b ≡ nat_lt 0 (length (active table_problem covered)) → Here X2
       → There X2 (at (if b then X3 else X8) path cursor.None) (if b then Moved else Visited)
   enters b e k = enters_by b (sym (e ∙ same_open k)) k
 
   -- X4
-  pub chosen_is : Here X4 → choice subject covered ≡ item_after p path
+  pub chosen_is : Here X4 → choice table_problem covered ≡ item_after p path
   unfolding covered_in
   chosen_is k = ap (λ q. choice q covered) k.same ∙ ap (λ c. choice p c) k.stands
 
-  pub opens_ready : Here X4 → 0 < length (active subject covered)
+  pub opens_ready : Here X4 → 0 < length (active table_problem covered)
   unfolding covered_in
   opens_ready k = subst (λ q. 0 < length (active q covered)) (sym k.same) (subst (λ c. 0 < length (active p c)) (sym k.stands) (open_at_X4 p path at_cursor k.fit))
 
-  pub opens_covers : (item : ℕ) → item ≡ choice subject covered → Here X4 → IsUncovered subject covered item
+  pub opens_covers : (item : ℕ) → item ≡ choice table_problem covered → Here X4 → IsUncovered table_problem covered item
   opens_covers item e k =
-      let sound : IsProblem subject = subst IsProblem (sym k.same) k.sound in
-      subst (IsUncovered subject covered) (sym e) (active_item subject covered (choice subject covered) sound (choice_active subject covered (opens_ready k)))
+      let sound : IsProblem table_problem = subst IsProblem (sym k.same) k.sound in
+      subst (IsUncovered table_problem covered) (sym e) (active_item table_problem covered (choice table_problem covered) sound (choice_active table_problem covered (opens_ready k)))
 
-  pub opens : (item : ℕ) (new_subject : ProblemValue) (new_covered : List ℕ) (first : Option ℕ) (new_cursor : Cursor) → item ≡ choice subject covered → new_subject ≡ subject
-      → new_covered ≡ covered ++ item ∷ [] → first ≡ above 0 (list_of new_subject new_covered item) → new_cursor ≡ cursor_of first → Here X4
-      → Moves X4 (at X5 path new_cursor) Moved new_subject new_covered
+  pub opens : (item : ℕ) (new_problem : ProblemValue) (new_covered : List ℕ) (first : Option ℕ) (new_cursor : Cursor) → item ≡ choice table_problem covered → new_problem ≡ table_problem
+      → new_covered ≡ covered ++ item ∷ [] → first ≡ above 0 (list_of new_problem new_covered item) → new_cursor ≡ cursor_of first → Here X4
+      → Moves X4 (at X5 path new_cursor) Moved new_problem new_covered
   unfolding next event_of covered_in
-  opens item new_subject new_covered first new_cursor e same list found to k =
+  opens item new_problem new_covered first new_cursor e same list found to k =
       let now : item ≡ item_after p path = e ∙ chosen_is k in
       let whole : new_covered ≡ covered_by p path ++ item_after p path ∷ [] = list ∙ ap (λ c. c ++ item ∷ []) k.stands ∙ ap (λ i. covered_by p path ++ i ∷ []) now in
       let free = (active_in p (covered_by p path) (item_after p path) (choice_active p (covered_by p path) (open_at_X4 p path at_cursor k.fit))).0 in
-      let options : list_of new_subject new_covered item ≡ remaining_after p path =
+      let options : list_of new_problem new_covered item ≡ remaining_after p path =
       ap (λ q. list_of q new_covered item) (same ∙ k.same) ∙ ap (λ c. list_of p c item) whole ∙ ap (λ i. list_of p (covered_by p path ++ item_after p path ∷ []) i) now
       ∙ list_covered p (covered_by p path) (item_after p path) [] free in
       let reached : new_cursor ≡ cursor_of (above 0 (remaining_after p path)) = to ∙ ap cursor_of (found ∙ ap (above 0) options) in
-      went p _ _ _ subject covered room _ _ _ k same (omega arith) (ap (λ c. at X5 path c) reached) refl whole
+      went p _ _ _ table_problem covered room _ _ _ k same (omega arith) (ap (λ c. at X5 path c) reached) refl whole
+
+  -- X5: the chosen item is covered last
+  pub chosen_last : Here X5 → covered ≡ covered_by p path ++ item_after p path ∷ []
+  unfolding covered_in
+  chosen_last k = k.stands
+
+  pub some_chosen : Here X5 → 0 < length covered
+  some_chosen k = let e = ap (length {A = ℕ}) (chosen_last k) in let n = length-append (covered_by p path) (item_after p path ∷ []) in omega arith
+
+  pub item_is : (item : ℕ) → (front : List ℕ) × (covered ≡ front ++ item ∷ []) → Here X5 → item ≡ item_after p path
+  item_is item w k = (same_from_push _ _ _ _ (sym w.1 ∙ chosen_last k)).1
 
   -- X5 at an option
   module _ (o : ℕ) (is_at : at_cursor ≡ At o) where
     choice_at : Here X5 → IsValid p path × IsChoice p (covered_by p path) o
     choice_at k = subst (λ c. FitsAt p X5 path c) is_at k.fit
-
-    last_at : Here X5 → covered ≡ covered_by p path ++ item_after p path ∷ []
-    unfolding covered_in
-    last_at k = k.stands
-
-    pub some_covered : Here X5 → 0 < length covered
-    some_covered k = let e = ap (length {A = ℕ}) (last_at k) in let n = length-append (covered_by p path) (item_after p path ∷ []) in omega arith
-
-    item_is : (item : ℕ) → (front : List ℕ) × (covered ≡ front ++ item ∷ []) → Here X5 → (item ≡ item_after p path)
-    item_is item w k = (same_from_push _ _ _ _ (sym w.1 ∙ last_at k)).1
 
     pub option_in : Here X5 → (0 < o) × (o ≤ length p.options)
     option_in k = let t = choice_has p (covered_by p path) o (choice_at k).1 in (t.some, t.within)
@@ -169,11 +172,11 @@ module _ (p : ProblemValue) (path : List ℕ) (at_cursor : Cursor) (subject : Pr
     pub has_item : (item : ℕ) → (front : List ℕ) × (covered ≡ front ++ item ∷ []) → Here X5 → has (option_at p o) item ≡ true
     has_item item w k = let t = choice_has p (covered_by p path) o (choice_at k).1 in subst (λ i. has (option_at p o) i ≡ true) (sym (item_is item w k)) t.item
 
-    pub can_cover : (item : ℕ) → (front : List ℕ) × (covered ≡ front ++ item ∷ []) → Here X5 → CanCover subject covered (others item (option_at p o))
+    pub can_cover : (item : ℕ) → (front : List ℕ) × (covered ≡ front ++ item ∷ []) → Here X5 → CanCover table_problem covered (others item (option_at p o))
     can_cover item w k =
         let t = (can_take p (covered_by p path) o k.sound (choice_at k).1).1 in
         subst (λ q. CanCover q covered (others item (option_at p o))) (sym k.same) (subst (λ i. CanCover p covered (others i (option_at p o))) (sym (item_is item w k))
-        (subst (λ c. CanCover p c (others (item_after p path) (option_at p o))) (sym (last_at k)) t))
+        (subst (λ c. CanCover p c (others (item_after p path) (option_at p o))) (sym (chosen_last k)) t))
 
     pub room_left : Here X5 → length path < room
     room_left k =
@@ -183,20 +186,20 @@ module _ (p : ProblemValue) (path : List ℕ) (at_cursor : Cursor) (subject : Pr
         let r = k.path_fits in
         let w = k.sound.within in omega arith
 
-    pub takes : (item : ℕ) (new_subject : ProblemValue) (new_covered : List ℕ) (new_room : ℕ) → (front : List ℕ) × (covered ≡ front ++ item ∷ []) → new_subject ≡ subject
+    pub takes : (item : ℕ) (new_problem : ProblemValue) (new_covered : List ℕ) (new_room : ℕ) → (front : List ℕ) × (covered ≡ front ++ item ∷ []) → new_problem ≡ table_problem
         → new_covered ≡ covered ++ others item (option_at p o) → room ≤ new_room → Here X5
-        → Went p (at X5 path at_cursor) (at X2 (path ++ o ∷ []) cursor.None) Moved new_subject new_covered new_room
+        → Went p (at X5 path at_cursor) (at X2 (path ++ o ∷ []) cursor.None) Moved new_problem new_covered new_room
     unfolding next event_of covered_in
-    takes item new_subject new_covered new_room w same list more k =
+    takes item new_problem new_covered new_room w same list more k =
         let whole : new_covered ≡ covered_by p (path ++ o ∷ []) =
-        list ∙ ap (λ i. covered ++ others i (option_at p o)) (item_is item w k) ∙ ap (λ c. c ++ others (item_after p path) (option_at p o)) (last_at k)
+        list ∙ ap (λ i. covered ++ others i (option_at p o)) (item_is item w k) ∙ ap (λ c. c ++ others (item_after p path) (option_at p o)) (chosen_last k)
         ∙ sym (taken_is p (covered_by p path) o) ∙ sym (covered_by_push p path o) in
-        went p _ _ _ subject covered room _ _ _ k same more (rw is_at refl) refl whole
+        went p _ _ _ table_problem covered room _ _ _ k same more (rw is_at refl) refl whole
 
   -- X5 past the last option
   pub gives_up : ((o : ℕ) → at_cursor ≡ At o → ⊥) → Here X5 → There X5 (at X7 path cursor.None) Moved
   unfolding next event_of covered_in
-  gives_up never k = went p _ _ _ subject covered room _ _ _ k refl (omega arith) (rw (past_at_X5 p path at_cursor never k.fit) refl) refl k.stands
+  gives_up never k = went p _ _ _ table_problem covered room _ _ _ k refl (omega arith) (rw (past_at_X5 p path at_cursor never k.fit) refl) refl k.stands
 
   -- X6
   module _ (o : ℕ) (is_at : at_cursor ≡ At o) where
@@ -231,22 +234,22 @@ module _ (p : ProblemValue) (path : List ℕ) (at_cursor : Cursor) (subject : Pr
       mid_item : (item : ℕ) → (front : List ℕ) × (mid ≡ front ++ item ∷ []) → Here X6 → item ≡ item_after p path
       mid_item item w k = (same_from_push _ _ _ _ (sym w.1 ∙ mid_is k)).1
 
-      mid_list : (item : ℕ) (new_subject : ProblemValue) → (front : List ℕ) × (mid ≡ front ++ item ∷ []) → new_subject ≡ subject → Here X6 → list_of new_subject mid item ≡ remaining_after p path
-      mid_list item new_subject w same k =
+      mid_list : (item : ℕ) (new_problem : ProblemValue) → (front : List ℕ) × (mid ≡ front ++ item ∷ []) → new_problem ≡ table_problem → Here X6 → list_of new_problem mid item ≡ remaining_after p path
+      mid_list item new_problem w same k =
           let t = choice_has p (covered_by p path) o (retry_at k).1 in
           let free = (active_in p (covered_by p path) (item_after p path) t.chosen).0 in
           ap (λ q. list_of q mid item) (same ∙ k.same) ∙ ap (λ c. list_of p c item) (mid_is k) ∙ ap (λ i. list_of p (covered_by p path ++ item_after p path ∷ []) i) (mid_item item w k)
           ∙ list_covered p (covered_by p path) (item_after p path) [] free
 
-      pub mid_has : (item : ℕ) (new_subject : ProblemValue) → (front : List ℕ) × (mid ≡ front ++ item ∷ []) → new_subject ≡ subject → Here X6 → has (list_of new_subject mid item) o ≡ true
-      mid_has item new_subject w same k = subst (λ l. has l o ≡ true) (sym (mid_list item new_subject w same k)) (retry_at k).1.left
+      pub mid_has : (item : ℕ) (new_problem : ProblemValue) → (front : List ℕ) × (mid ≡ front ++ item ∷ []) → new_problem ≡ table_problem → Here X6 → has (list_of new_problem mid item) o ≡ true
+      mid_has item new_problem w same k = subst (λ l. has l o ≡ true) (sym (mid_list item new_problem w same k)) (retry_at k).1.left
 
-      pub retries : (item : ℕ) (new_subject : ProblemValue) (found : Option ℕ) (new_cursor : Cursor) → (front : List ℕ) × (mid ≡ front ++ item ∷ []) → new_subject ≡ subject
-          → found ≡ above o (list_of new_subject mid item) → new_cursor ≡ cursor_of found → Here X6 → Moves X6 (at X5 path new_cursor) Moved new_subject mid
+      pub retries : (item : ℕ) (new_problem : ProblemValue) (found : Option ℕ) (new_cursor : Cursor) → (front : List ℕ) × (mid ≡ front ++ item ∷ []) → new_problem ≡ table_problem
+          → found ≡ above o (list_of new_problem mid item) → new_cursor ≡ cursor_of found → Here X6 → Moves X6 (at X5 path new_cursor) Moved new_problem mid
       unfolding next event_of covered_in
-      retries item new_subject found new_cursor w same e to k =
-          let reached : new_cursor ≡ cursor_of (above o (remaining_after p path)) = to ∙ ap cursor_of (e ∙ ap (above o) (mid_list item new_subject w same k)) in
-          went p _ _ _ subject covered room _ _ _ k same (omega arith) (rw is_at (ap (λ c. at X5 path c) reached)) refl (mid_is k)
+      retries item new_problem found new_cursor w same e to k =
+          let reached : new_cursor ≡ cursor_of (above o (remaining_after p path)) = to ∙ ap cursor_of (e ∙ ap (above o) (mid_list item new_problem w same k)) in
+          went p _ _ _ table_problem covered room _ _ _ k same (omega arith) (rw is_at (ap (λ c. at X5 path c) reached)) refl (mid_is k)
 
   -- X7
   pub last_at_X7 : Here X7 → covered ≡ covered_by p path ++ item_after p path ∷ []
@@ -256,40 +259,40 @@ module _ (p : ProblemValue) (path : List ℕ) (at_cursor : Cursor) (subject : Pr
   pub some_at_X7 : Here X7 → 0 < length covered
   some_at_X7 k = let e = ap (length {A = ℕ}) (last_at_X7 k) in let n = length-append (covered_by p path) (item_after p path ∷ []) in omega arith
 
-  pub closes : (item : ℕ) (new_subject : ProblemValue) (new_covered : List ℕ) → new_subject ≡ subject → covered ≡ new_covered ++ item ∷ [] → Here X7
-      → Moves X7 (at X8 path cursor.None) Moved new_subject new_covered
+  pub closes : (item : ℕ) (new_problem : ProblemValue) (new_covered : List ℕ) → new_problem ≡ table_problem → covered ≡ new_covered ++ item ∷ [] → Here X7
+      → Moves X7 (at X8 path cursor.None) Moved new_problem new_covered
   unfolding next event_of covered_in
-  closes item new_subject new_covered same e k =
-      went p _ _ _ subject covered room _ _ _ k same (omega arith) refl refl (same_from_push _ _ _ _ (sym e ∙ last_at_X7 k)).0
+  closes item new_problem new_covered same e k =
+      went p _ _ _ table_problem covered room _ _ _ k same (omega arith) refl refl (same_from_push _ _ _ _ (sym e ∙ last_at_X7 k)).0
 
   -- X8
   pub ends : (new_path : List ℕ) (new_room : ℕ) → path ≡ new_path ++ [] → length path ≡ 0 → new_room ≡ room → Here X8
-      → Went p (at X8 path at_cursor) (at Done new_path cursor.None) Finished subject covered new_room
+      → Went p (at X8 path at_cursor) (at Done new_path cursor.None) Finished table_problem covered new_room
   unfolding next event_of covered_in
   ends new_path new_room e zero same k =
       let none = emptied path zero in
       let bare : new_path ≡ [] = sym (append-nil new_path) ∙ sym e ∙ none in
-      went p _ _ _ subject covered room _ _ _ k refl (omega arith) (rw (none, bare) refl) (rw none refl) (k.stands ∙ ap (covered_by p) (none ∙ sym bare))
+      went p _ _ _ table_problem covered room _ _ _ k refl (omega arith) (rw (none, bare) refl) (rw none refl) (k.stands ∙ ap (covered_by p) (none ∙ sym bare))
 
   pub leaves : (new_path : List ℕ) (o : ℕ) (new_room : ℕ) → path ≡ new_path ++ o ∷ [] → new_room ≡ room → Here X8
-      → Went p (at X8 path at_cursor) (at X6 new_path (At o)) Moved subject covered new_room
+      → Went p (at X8 path at_cursor) (at X6 new_path (At o)) Moved table_problem covered new_room
   unfolding next event_of covered_in
   leaves new_path o new_room e same k =
       let last : split_last path ≡ Some (new_path, o) = ap split_last e ∙ split_last_push new_path o in
-      went p _ _ _ subject covered room _ _ _ k refl (omega arith) (rw last refl) (moved path new_path o e) (k.stands ∙ ap (covered_by p) e ∙ covered_by_push p new_path o)
+      went p _ _ _ table_problem covered room _ _ _ k refl (omega arith) (rw last refl) (moved path new_path o e) (k.stands ∙ ap (covered_by p) e ∙ covered_by_push p new_path o)
 
 -- ---- the same at a state whose label is known
 
-module _ (p : ProblemValue) (s : StateValue) (subject : ProblemValue) (covered : List ℕ) (room : ℕ) (k : Keeps p s subject covered room) where
-  pub from_label : (l : Label) → s.label ≡ l → Keeps p (at l s.path s.cursor) subject covered room
-  from_label l e = subst (λ l. Keeps p (at l s.path s.cursor) subject covered room) e k
+module _ (p : ProblemValue) (s : StateValue) (table_problem : ProblemValue) (covered : List ℕ) (room : ℕ) (k : Keeps p s table_problem covered room) where
+  pub from_label : (l : Label) → s.label ≡ l → Keeps p (at l s.path s.cursor) table_problem covered room
+  from_label l e = subst (λ l. Keeps p (at l s.path s.cursor) table_problem covered room) e k
 
-  pub to_state : (l : Label) (t : StateValue) (event : Event) (new_subject : ProblemValue) (new_covered : List ℕ) (new_room : ℕ) → s.label ≡ l → Went p (at l s.path s.cursor) t event new_subject new_covered new_room → Went p s t event new_subject new_covered new_room
-  to_state l t event new_subject new_covered new_room e w = subst (λ l. Went p (at l s.path s.cursor) t event new_subject new_covered new_room) (sym e) w
+  pub to_state : (l : Label) (t : StateValue) (event : Event) (new_problem : ProblemValue) (new_covered : List ℕ) (new_room : ℕ) → s.label ≡ l → Went p (at l s.path s.cursor) t event new_problem new_covered new_room → Went p s t event new_problem new_covered new_room
+  to_state l t event new_problem new_covered new_room e w = subst (λ l. Went p (at l s.path s.cursor) t event new_problem new_covered new_room) (sym e) w
 
 -- what a machine's step says, from the state inside it
-pub goes : (p : ProblemValue) (s t : StateValue) (event : Event) (subject : ProblemValue) (covered : List ℕ) (room : ℕ) (old : Position) → record { problem = p; state = s } ≡ old → Went p s t event subject covered room → Goes old (record { problem = p; state = t }) event
-goes p s t event subject covered room old e w = subst (λ v. Goes v (record { problem = p; state = t }) event) e (record { problem = refl; state = w.steps; tells = w.tells })
+pub goes : (p : ProblemValue) (s t : StateValue) (event : Event) (table_problem : ProblemValue) (covered : List ℕ) (room : ℕ) (old : Position) → record { problem = p; state = s } ≡ old → Went p s t event table_problem covered room → Goes old (record { problem = p; state = t }) event
+goes p s t event table_problem covered room old e w = subst (λ v. Goes v (record { problem = p; state = t }) event) e (record { problem = refl; state = w.steps; tells = w.tells })
 
 pub label_of : (p : ProblemValue) (s : StateValue) (old : Position) (l : Label) → record { problem = p; state = s } ≡ old → old.state.label ≡ l → s.label ≡ l
 label_of p s old l e h = ap (λ v. v.state.label) e ∙ h
@@ -298,9 +301,9 @@ pub cursor_in : (p : ProblemValue) (s : StateValue) (old : Position) (k : Cursor
 cursor_in p s old k e h = ap (λ v. v.state.cursor) e ∙ h
 
 -- a machine that was just made
-pub starts : (p subject : ProblemValue) (covered path : List ℕ) (room : ℕ) → IsProblem p → subject ≡ p → covered ≡ [] → path ≡ [] → length p.names ≤ room → Keeps p (at X1 path cursor.None) subject covered room
+pub starts : (p table_problem : ProblemValue) (covered path : List ℕ) (room : ℕ) → IsProblem p → table_problem ≡ p → covered ≡ [] → path ≡ [] → length p.names ≤ room → Keeps p (at X1 path cursor.None) table_problem covered room
 unfolding covered_in
-starts p subject covered path room sound same none empty fits = record {
+starts p table_problem covered path room sound same none empty fits = record {
   sound = sound;
   fit = empty;
   same = same;

@@ -9,18 +9,16 @@ use Rattle.cover_problem.specs.Lists.{has}
 use Rattle.cover_problem.specs.Problem.{ProblemValue, IsProblem, option_at}
 use Rattle.cover_problem.specs.Covering.{is_remaining, remaining}
 use Rattle.cover_problem.specs.Path.{IsChoice, taken}
-use Rattle.cover_problem.proofs.ListLemmas.{has_at, has_here, has_later, has-append, has_append_cases, has_append_left, has_append_right}
-use Rattle.cover_problem.proofs.CoveringLemmas.{option_is, remaining_in, remaining_from}
+use Rattle.std.proofs.Math.Bool.{or-false}
+use Rattle.cover_problem.proofs.MemberLemmas.{has_at, has_here, has_later, has-append, has_append_cases, has_append_left, has_append_right}
+use Rattle.cover_problem.proofs.ActiveLemmas.{option_is}
+use Rattle.cover_problem.proofs.RemainingLemmas.{remaining_in, remaining_from}
 use Rattle.cover_problem.proofs.CoverLemmas.{taken_keeps, taken_covers, taken_cases}
 use Rattle.x_steps.specs.Marked.{AreMarked}
 
 -- a list that has one more
 has_last : (c : List ℕ) (x i : ℕ) → (x ≡ i → ⊥) → has (c ++ x ∷ []) i ≡ has c i
-has_last c x i e = let f : x == i ≡ false = ne_eqb x i e in rw (has-append c (x ∷ []) i, f) (same (has c i))
-  where
-    same : (b : Bool) → (b || false) ≡ b
-    same true = refl
-    same false = refl
+has_last c x i e = let f : x == i ≡ false = ne_eqb x i e in rw (has-append c (x ∷ []) i, f) (or-false (has c i))
 
 pub marks_more : (marks : List Bool) (items : List ℕ) (k n : ℕ) (c : List ℕ) → AreMarked marks n (c ++ take k items) → k < length items → get_or items k 0 < length marks
     → AreMarked (set marks (get_or items k 0) true) n (c ++ take (k + 1) items)

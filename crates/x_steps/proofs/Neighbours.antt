@@ -6,8 +6,10 @@ use Rattle.cover_problem.specs.Lists.{RisesFrom, above, below, last_of}
 use Rattle.cover_problem.specs.Problem.{ProblemValue}
 use Rattle.cover_problem.specs.Covering.{active}
 use Rattle.cover_problem.specs.Path.{covered_by}
-use Rattle.cover_problem.proofs.ListLemmas.{rises_member, above_is, above_from, below_is, below_none, below_none_from, below_above, above_below, last_is, last_none, above_last, last_above, last_first}
-use Rattle.cover_problem.proofs.CoveringLemmas.{remaining_rises, valid_start, valid_push, valid_pop}
+use Rattle.cover_problem.proofs.NumberLemmas.{rises_member}
+use Rattle.cover_problem.proofs.RisingLemmas.{above_is, above_from, below_is, below_none, below_none_from, below_above, above_below, last_is, last_none, above_last, last_above, last_first}
+use Rattle.cover_problem.proofs.RemainingLemmas.{remaining_rises}
+use Rattle.cover_problem.proofs.PathLemmas.{valid_start, valid_push, valid_pop}
 use Rattle.x_steps.specs.declared.state.Label.{Label}
 use Rattle.x_steps.specs.declared.state.Label.TheVariants.{X1, X2, X3, X4, X5, X6, X7, X8, Done}
 use Rattle.x_steps.specs.declared.state.Cursor.{Cursor}

@@ -4,7 +4,7 @@ use Rattle.std.proofs.lemmas.Bool.{cases_order}
 use Rattle.std.proofs.lemmas.List.{map-append, length-map}
 use Rattle.cover_problem.specs.Problem.{ProblemValue}
 use Rattle.cover_problem.specs.Path.{taken, covered_from, IsValidFrom, IsValid, covered_by}
-use Rattle.cover_problem.proofs.CoveringLemmas.{choice_has, depth}
+use Rattle.cover_problem.proofs.PathLemmas.{choice_has, depth}
 use Rattle.cover_problem.proofs.CoverLemmas.{valid_split}
 use Rattle.x_steps.specs.declared.state.Label.{Label}
 use Rattle.x_steps.specs.declared.state.Label.TheVariants.{X1, X2, X3, X4, X5, X6, X7, X8, Done}
@@ -100,6 +100,9 @@ rank_path p q r v w l = step (path_cases q r)
 
 -- ---- the cuts' order
 
+inside : (p : ProblemValue) (c q : List ℕ) (o : ℕ) → IsValidFrom p c (q ++ o ∷ []) → AllBelow (4 * length p.options + 9) (map (λ o. 4 * o + 2) q ++ (4 * o + 1) ∷ [])
+inside p c q o v = let s = valid_split p c q (o ∷ []) v in let t = choice_has p (covered_from p c q) o s.1.0 in below_digits p c q (4 * o + 1) s.0 (omega (arith, t.within))
+
 cut_number : (p : ProblemValue) (c q r : List ℕ) (o t n : ℕ) → length q < n → IsValidFrom p c (q ++ o ∷ []) → PathLess (q ++ o ∷ []) (r ++ t ∷ []) → number (4 * length p.options + 9) n (map (λ o. 4 * o + 2) q ++ (4 * o + 1) ∷ []) < number (4 * length p.options + 9) n (map (λ o. 4 * o + 2) r ++ (4 * t + 1) ∷ [])
 cut_number p c [] [] o t n l v h = step h
   where
@@ -120,17 +123,11 @@ cut_number p c (x ∷ q) [] o t (suc n) l v h = step h
 
     step : (x < t) ⊎ ((x ≡ t) × PathLess (q ++ o ∷ []) []) → number (4 * length p.options + 9) (suc n) ((4 * x + 2) ∷ (map (λ o. 4 * o + 2) q ++ (4 * o + 1) ∷ [])) < number (4 * length p.options + 9) (suc n) ((4 * t + 1) ∷ [])
     step (inl k) = number_less (4 * length p.options + 9) (suc n) [] (4 * x + 2) (4 * t + 1) (map (λ o. 4 * o + 2) q ++ (4 * o + 1) ∷ []) [] (omega arith) (omega arith) (omega arith) (inside p (taken p c x) q o v.1)
-      where
-        inside : (p : ProblemValue) (c q : List ℕ) (o : ℕ) → IsValidFrom p c (q ++ o ∷ []) → AllBelow (4 * length p.options + 9) (map (λ o. 4 * o + 2) q ++ (4 * o + 1) ∷ [])
-        inside p c q o v = let s = valid_split p c q (o ∷ []) v in let t = choice_has p (covered_from p c q) o s.1.0 in below_digits p c q (4 * o + 1) s.0 (omega (arith, t.within))
     step (inr k) = absurd (last q k.1)
 cut_number p c (x ∷ q) (y ∷ r) o t (suc n) l v h = step (cut_number p (taken p c x) q r o t n (omega arith) v.1) h
   where
     step : (PathLess (q ++ o ∷ []) (r ++ t ∷ []) → number (4 * length p.options + 9) n (map (λ o. 4 * o + 2) q ++ (4 * o + 1) ∷ []) < number (4 * length p.options + 9) n (map (λ o. 4 * o + 2) r ++ (4 * t + 1) ∷ [])) → (x < y) ⊎ ((x ≡ y) × PathLess (q ++ o ∷ []) (r ++ t ∷ [])) → number (4 * length p.options + 9) (suc n) ((4 * x + 2) ∷ (map (λ o. 4 * o + 2) q ++ (4 * o + 1) ∷ [])) < number (4 * length p.options + 9) (suc n) ((4 * y + 2) ∷ (map (λ o. 4 * o + 2) r ++ (4 * t + 1) ∷ []))
     step ih (inl k) = number_less (4 * length p.options + 9) (suc n) [] (4 * x + 2) (4 * y + 2) (map (λ o. 4 * o + 2) q ++ (4 * o + 1) ∷ []) (map (λ o. 4 * o + 2) r ++ (4 * t + 1) ∷ []) (omega arith) (omega arith) (omega arith) (inside p (taken p c x) q o v.1)
-      where
-        inside : (p : ProblemValue) (c q : List ℕ) (o : ℕ) → IsValidFrom p c (q ++ o ∷ []) → AllBelow (4 * length p.options + 9) (map (λ o. 4 * o + 2) q ++ (4 * o + 1) ∷ [])
-        inside p c q o v = let s = valid_split p c q (o ∷ []) v in let t = choice_has p (covered_from p c q) o s.1.0 in below_digits p c q (4 * o + 1) s.0 (omega (arith, t.within))
     step ih (inr k) = let i = ih k.1 in rw k.0 (omega arith)
 
 -- cuts come on the run in the order of their paths
@@ -159,7 +156,7 @@ rank_cut p q r o t v w l = step (path_cases (q ++ o ∷ []) (r ++ t ∷ []))
 
 -- ---- below an option
 
-digit_small : (p : ProblemValue) (l : Label) (path : List ℕ) (k : Cursor) → FitsAt p l path k → digit_at (length p.options) l k < 4 * length p.options + 9
+pub digit_small : (p : ProblemValue) (l : Label) (path : List ℕ) (k : Cursor) → FitsAt p l path k → digit_at (length p.options) l k < 4 * length p.options + 9
 digit_small p X1 path cursor.None f = omega arith
 digit_small p X2 path cursor.None f = omega arith
 digit_small p X3 path cursor.None f = omega arith

@@ -7,8 +7,8 @@ use Rattle.cover_problem.specs.Lists.{above}
 use Rattle.cover_problem.specs.Problem.{ProblemValue}
 use Rattle.cover_problem.specs.Covering.{active}
 use Rattle.cover_problem.specs.Path.{IsValid, covered_by}
-use Rattle.cover_problem.proofs.ListLemmas.{above_is}
-use Rattle.cover_problem.proofs.CoveringLemmas.{choice_has, depth, valid_pop}
+use Rattle.cover_problem.proofs.RisingLemmas.{above_is}
+use Rattle.cover_problem.proofs.PathLemmas.{choice_has, depth, valid_pop}
 use Rattle.x_steps.specs.declared.state.Label.{Label}
 use Rattle.x_steps.specs.declared.state.Label.TheVariants.{X1, X2, X3, X4, X5, X6, X7, X8, Done}
 use Rattle.x_steps.specs.declared.state.Cursor.{Cursor}

@@ -4,7 +4,8 @@ use Rattle.std.proofs.lemmas.List.{same_from_push, get_or_at}
 use Rattle.cover_problem.specs.Problem.{ProblemValue, option_at}
 use Rattle.cover_problem.specs.Covering.{active, choice, list_of}
 use Rattle.cover_problem.specs.Path.{covered_by, others}
-use Rattle.cover_problem.proofs.CoveringLemmas.{active_item, choice_active}
+use Rattle.cover_problem.proofs.ActiveLemmas.{active_item}
+use Rattle.cover_problem.proofs.RemainingLemmas.{choice_active}
 use Rattle.x_steps.specs.declared.state.Label.{Label}
 use Rattle.x_steps.specs.declared.state.Label.TheVariants.{X1, X2, X3, X4, X5, X6, X7, X8, Done}
 use Rattle.x_steps.specs.declared.state.Cursor.{Cursor}
@@ -13,8 +14,8 @@ use Rattle.x_steps.specs.declared.state.Cursor.TheVariants.{At, Past}
 use Rattle.x_steps.specs.StateValue.{StateValue}
 use Rattle.x_steps.specs.Steps.{FitsAt, IsOpen, item_after, covered_in}
 use Rattle.x_steps.specs.Machine.{Keeps, Position, is_chosen, chosen_item, chosen_in}
-use Rattle.x_steps.proofs.MachineLemmas.{from_label, chosen_is, last_at_X7, taken_at, others_count, retry_option_in, opens_ready, some_at_X7, open_at_X4}
-use Rattle.x_steps.proofs.BackLemmas.{some_chosen, item_is, open_at_X5}
+use Rattle.x_steps.proofs.MachineLemmas.{from_label, chosen_is, last_at_X7, taken_at, others_count, retry_option_in, opens_ready, some_at_X7, open_at_X4, some_chosen, item_is}
+use Rattle.x_steps.proofs.BackLemmas.{open_at_X5}
 
 chosen_some : (p : ProblemValue) (s : StateValue) (l : Label) → s.label ≡ l → is_chosen l ≡ true → chosen_item p s ≡ Some (item_after p s.path)
 unfolding chosen_item
@@ -56,15 +57,15 @@ pub row_chosen : (p : ProblemValue) (s : StateValue) (item : ℕ) (options : Lis
 unfolding chosen_in
 row_chosen p s item options e f = rw (← e, f) refl
 
-module _ (p : ProblemValue) (s : StateValue) (subject : ProblemValue) (covered : List ℕ) (room : ℕ) (k : Keeps p s subject covered room) where
+module _ (p : ProblemValue) (s : StateValue) (table_problem : ProblemValue) (covered : List ℕ) (room : ℕ) (k : Keeps p s table_problem covered room) where
   pub none_chosen : (s.label ≡ X4 → ⊥) → (s.label ≡ X5 → ⊥) → (s.label ≡ X6 → ⊥) → (s.label ≡ X7 → ⊥) → None ≡ chosen_item p s
   unfolding chosen_item
   none_chosen a b c d = let f = not_chosen s.label a b c d in rw f refl
 
-  pub ready_at_X4 : s.label ≡ X4 → 0 < length (active subject covered)
+  pub ready_at_X4 : s.label ≡ X4 → 0 < length (active table_problem covered)
   ready_at_X4 e = opens_ready _ _ _ _ _ _ (from_label _ _ _ _ _ k _ e)
 
-  pub chosen_at_X4 : s.label ≡ X4 → (item : ℕ) → item ≡ choice subject covered → Some item ≡ chosen_item p s
+  pub chosen_at_X4 : s.label ≡ X4 → (item : ℕ) → item ≡ choice table_problem covered → Some item ≡ chosen_item p s
   chosen_at_X4 e item c = ap {B = Option ℕ} Some (c ∙ chosen_is _ _ _ _ _ _ (from_label _ _ _ _ _ k _ e)) ∙ sym (chosen_some p s X4 e refl)
 
   pub some_at_X5 : s.label ≡ X5 → 0 < length covered
@@ -112,13 +113,13 @@ module _ (p : ProblemValue) (s : StateValue) (subject : ProblemValue) (covered :
           ap {B = Option ℕ} Some (ap (λ c. get_or c (length list - length option) 0) (list_is ∙ r.0) ∙ place) ∙ sym (chosen_some p s X6 e refl)
 
   -- the chosen item is an item of the problem
-  pub chosen_within : (item : ℕ) → Some item ≡ chosen_item p s → (0 < item) × (item ≤ length subject.names)
+  pub chosen_within : (item : ℕ) → Some item ≡ chosen_item p s → (0 < item) × (item ≤ length table_problem.names)
   chosen_within item e =
       let c = is_chosen_some p s item e in
       let u = active_item p (covered_by p s.path) (item_after p s.path) k.sound (choice_active p (covered_by p s.path) (open_chosen p s.label s.path s.cursor k.fit c.0)) in
       rw (c.1, k.same) (u.some, u.within)
 
-  pub chosen_options : (item : ℕ) (options : List ℕ) → Some item ≡ chosen_item p s → options ≡ list_of subject covered item → Some (item, options) ≡ chosen_in p s
+  pub chosen_options : (item : ℕ) (options : List ℕ) → Some item ≡ chosen_item p s → options ≡ list_of table_problem covered item → Some (item, options) ≡ chosen_in p s
   chosen_options item options e f = row_chosen p s item options e (f ∙ ap (λ q. list_of q covered item) k.same ∙ ap (λ c. list_of p c item) k.stands)
 
 pub row_none : (p : ProblemValue) (s : StateValue) → None ≡ chosen_item p s → None ≡ chosen_in p s

@@ -8,7 +8,7 @@ use Rattle.cover_problem.specs.Lists.{has, above}
 use Rattle.cover_problem.specs.Problem.{ProblemValue, option_at}
 use Rattle.cover_problem.specs.Covering.{active, remaining, choice}
 use Rattle.cover_problem.specs.Path.{IsChoice, IsValid, covered_by}
-use Rattle.cover_problem.proofs.CoveringLemmas.{covered_by_push, covered_by_none, valid_push, valid_start, choice_has}
+use Rattle.cover_problem.proofs.PathLemmas.{covered_by_push, covered_by_none, valid_push, valid_start, choice_has}
 use Rattle.cover_problem.proofs.CoverLemmas.{valid_split}
 use Rattle.x_steps.specs.declared.state.Label.{Label}
 use Rattle.x_steps.specs.declared.state.Label.TheVariants.{X1, X2, X3, X4, X5, X6, X7, X8, Done}
@@ -122,7 +122,7 @@ down_more p path o m marks h e a = record { here = e; marked = rw (covered_by_pu
 
 -- ---- whether the path can go on
 
-module _ (p : ProblemValue) (s : StateValue) (subject : ProblemValue) (covered : List ℕ) (room : ℕ) (k : Keeps p s subject covered room) (at_label : s.label ≡ X2) where
+module _ (p : ProblemValue) (s : StateValue) (table_problem : ProblemValue) (covered : List ℕ) (room : ℕ) (k : Keeps p s table_problem covered room) (at_label : s.label ≡ X2) where
   stands_X2 : covered ≡ covered_by p s.path
   unfolding covered_in
   stands_X2 = let h = from_label _ _ _ _ _ k _ at_label in h.stands
@@ -130,9 +130,9 @@ module _ (p : ProblemValue) (s : StateValue) (subject : ProblemValue) (covered :
   pub valid_X2 : IsValid p s.path
   valid_X2 = let h = from_label _ _ _ _ _ k _ at_label in valid_at_X2 p s.path s.cursor h.fit
 
-  pub active_X2 : (b : Bool) → b ≡ nat_lt 0 (length (active subject covered)) → (IsTrue b → IsOpen p s.path) × (IsOpen p s.path → IsTrue b)
+  pub active_X2 : (b : Bool) → b ≡ nat_lt 0 (length (active table_problem covered)) → (IsTrue b → IsOpen p s.path) × (IsOpen p s.path → IsTrue b)
   active_X2 b e =
-      let same : length (active subject covered) ≡ length (active p (covered_by p s.path)) = ap (λ q. length (active q covered)) k.same ∙ ap (λ c. length (active p c)) stands_X2 in
+      let same : length (active table_problem covered) ≡ length (active p (covered_by p s.path)) = ap (λ q. length (active q covered)) k.same ∙ ap (λ c. length (active p c)) stands_X2 in
       let f : b ≡ nat_lt 0 (length (active p (covered_by p s.path))) = rw (← same) e in
       (λ t. ltb-true 0 (length (active p (covered_by p s.path))) (sym f ∙ t), λ h. f ∙ lt-ltb 0 (length (active p (covered_by p s.path))) h)
 
@@ -141,14 +141,14 @@ module _ (p : ProblemValue) (s : StateValue) (subject : ProblemValue) (covered :
   option_none o b e h = (λ f. absurd (false≢true f), λ f. let t = choice_has p (covered_by p s.path) o f.1 in sym e ∙ h (t.some, t.within))
 
   -- no active item
-  pub active_none : (o : ℕ) (b : Bool) → b ≡ false → b ≡ nat_lt 0 (length (active subject covered)) → (IsTrue false → Fits p (at X5 s.path (At o))) × (Fits p (at X5 s.path (At o)) → IsTrue false)
+  pub active_none : (o : ℕ) (b : Bool) → b ≡ false → b ≡ nat_lt 0 (length (active table_problem covered)) → (IsTrue false → Fits p (at X5 s.path (At o))) × (Fits p (at X5 s.path (At o)) → IsTrue false)
   active_none o b e h = (λ f. absurd (false≢true f), λ f. sym e ∙ (active_X2 b h).1 f.1.active)
 
   module _ (o : ℕ) (some : 0 < o) (within : o ≤ length p.options) (marks : List Bool) (option : List ℕ) (is : option ≡ option_at p o) (marked : AreMarked marks (length p.names) (covered_by p s.path)) where
     pub all_within : All (λ i. i < length marks) option
     all_within = option_within p k.sound o some within marks (covered_by p s.path) option marked is
 
-    pub choice_X2 : (a : Bool) → a ≡ true → a ≡ nat_lt 0 (length (active subject covered)) → (item : ℕ) → item ≡ choice subject covered → (b : Bool) → b ≡ (has option item && not (list_any (λ i. get_or marks i false) option))
+    pub choice_X2 : (a : Bool) → a ≡ true → a ≡ nat_lt 0 (length (active table_problem covered)) → (item : ℕ) → item ≡ choice table_problem covered → (b : Bool) → b ≡ (has option item && not (list_any (λ i. get_or marks i false) option))
         → (IsTrue b → Fits p (at X5 s.path (At o))) × (Fits p (at X5 s.path (At o)) → IsTrue b)
     choice_X2 a e h item chosen b f =
         let now : item ≡ item_after p s.path = chosen ∙ ap (λ q. choice q covered) k.same ∙ ap (λ c. choice p c) stands_X2 in
@@ -165,9 +165,9 @@ marked_in p s now marks e d = subst (λ v. AreMarked marks (length v.problem.nam
 pub down_label : (p : ProblemValue) (s : StateValue) (q : ProblemValue) (path : List ℕ) (now : Position) (marks : List Bool) → position p s ≡ now → IsDown q path now marks → s.label ≡ X2
 down_label p s q path now marks e d = ap (λ m. m.state.label) (e ∙ d.here)
 
-pub active_open : (p : ProblemValue) (s : StateValue) (subject : ProblemValue) (covered : List ℕ) (room : ℕ) → Keeps p s subject covered room → (b : Bool) → b ≡ true → b ≡ nat_lt 0 (length (active subject covered))
-    → 0 < length (active subject covered)
-active_open p s subject covered room k b e f = ltb-true 0 (length (active subject covered)) (sym f ∙ e)
+pub active_open : (p : ProblemValue) (s : StateValue) (table_problem : ProblemValue) (covered : List ℕ) (room : ℕ) → Keeps p s table_problem covered room → (b : Bool) → b ≡ true → b ≡ nat_lt 0 (length (active table_problem covered))
+    → 0 < length (active table_problem covered)
+active_open p s table_problem covered room k b e f = ltb-true 0 (length (active table_problem covered)) (sym f ∙ e)
 
 -- a chosen option is one of the problem's
 pub option_in : (p q : ProblemValue) (s t : StateValue) (now : Position) (path : List ℕ) (o : ℕ) → position p s ≡ now → now ≡ position q t → Fits q (at X5 path (At o)) → (0 < o) × (o ≤ length p.options)
@@ -203,18 +203,3 @@ down_next p path k old new marks new_marks d l n =
 
 pub down_all : (p : ProblemValue) (path : List ℕ) (k : ℕ) (m : Position) (marks : List Bool) → IsDown p (take k path) m marks → length path ≤ k → IsDown p path m marks
 down_all p path k m marks d l = subst (λ q. IsDown p q m marks) (take_all k path l) d
-
--- ---- a state that fits has a path that can be walked down
-
-pub path_valid : (p : ProblemValue) (l : Label) (path : List ℕ) (k : Cursor) → FitsAt p l path k → IsValid p path
-path_valid p X1 path cursor.None f = rw f (valid_start p)
-path_valid p X2 path cursor.None f = f
-path_valid p X3 path cursor.None f = f.0
-path_valid p X4 path cursor.None f = f.0
-path_valid p X5 path (At o) f = f.0
-path_valid p X5 path Past f = f.0
-path_valid p X6 path (At o) f = f.0
-path_valid p X7 path cursor.None f = f.0
-path_valid p X8 path cursor.None f = f
-path_valid p Done path cursor.None f = rw f (valid_start p)
-path_valid p _ path _ f = absurd f

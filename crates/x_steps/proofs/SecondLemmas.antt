@@ -6,8 +6,9 @@ use Rattle.cover_problem.specs.Lists.{has, numbers}
 use Rattle.cover_problem.specs.Problem.{ProblemValue}
 use Rattle.cover_problem.specs.Covering.{remaining, list_of}
 use Rattle.cover_problem.specs.Table.{IsCoveredList}
-use Rattle.cover_problem.proofs.ListLemmas.{has_at}
-use Rattle.cover_problem.proofs.CoveringLemmas.{covered_item, list_uncovered}
+use Rattle.cover_problem.proofs.MemberLemmas.{has_at}
+use Rattle.cover_problem.proofs.CoveredLemmas.{covered_item}
+use Rattle.cover_problem.proofs.RemainingLemmas.{list_uncovered}
 use Rattle.x_steps.specs.Machine.{secondary}
 use Rattle.x_steps.specs.Marked.{AreMarked}
 
@@ -17,7 +18,7 @@ pub record ListsSecond (p : ProblemValue) (c : List ℕ) (before : ℕ) (rows : 
   pub reached : p.primary + passed ≡ before
   pub rows_are : rows ≡ map (λ i. (i, remaining p c i)) (filter (λ i. not (has c i)) (numbers passed (p.primary + 1)))
 
-numbers_last : (n k : ℕ) → numbers (suc n) k ≡ numbers n k ++ (k + n) ∷ []
+pub numbers_last : (n k : ℕ) → numbers (suc n) k ≡ numbers n k ++ (k + n) ∷ []
 numbers_last zero k = rw add-zero refl
 numbers_last (suc n) k = ap (λ l. k ∷ l) (numbers_last n (suc k) ∙ ap (λ x. numbers n (suc k) ++ x ∷ []) (suc-plus k n))
   where
@@ -67,8 +68,8 @@ module _ (p : ProblemValue) (c : List ℕ) where
       pub second_marked : b ≡ true → ListsSecond p c (before + 1) rows
       second_marked e = second_covered (sym mark ∙ e)
 
-      pub second_unmarked : b ≡ false → (subject : ProblemValue) → subject ≡ p → (found : List ℕ) → found ≡ list_of subject c (before + 1) → ListsSecond p c (before + 1) (rows ++ (before + 1, found) ∷ [])
-      second_unmarked e subject same found f = second_more (sym mark ∙ e) found (f ∙ ap (λ q. list_of q c (before + 1)) same)
+      pub second_unmarked : b ≡ false → (table_problem : ProblemValue) → table_problem ≡ p → (found : List ℕ) → found ≡ list_of table_problem c (before + 1) → ListsSecond p c (before + 1) (rows ++ (before + 1, found) ∷ [])
+      second_unmarked e table_problem same found f = second_more (sym mark ∙ e) found (f ∙ ap (λ q. list_of q c (before + 1)) same)
 
   pub second_all : (before : ℕ) (rows : List (ℕ × List ℕ)) → ListsSecond p c before rows → before ≡ length p.names → rows ≡ map (λ i. (i, remaining p c i)) (secondary p c)
   unfolding secondary
@@ -78,10 +79,10 @@ module _ (p : ProblemValue) (c : List ℕ) where
       l.rows_are ∙ ap (λ n. map (λ i. (i, remaining p c i)) (filter (λ i. not (has c i)) (numbers n (p.primary + 1)))) n
 
 -- the covered items are items of the problem
-pub covered_within : (subject p : ProblemValue) (c list : List ℕ) (n : ℕ) → subject ≡ p → n ≡ length p.names → IsCoveredList subject c → list ≡ c → All (λ i. i ≤ n) list
-covered_within subject p c list n same size a e k d l =
-    let within = (covered_item subject c (get_or c k d) a (has_at c k d (rw e at l))).1 in
-    let names : length subject.names ≡ n = ap (λ (q : ProblemValue). length q.names) same ∙ sym size in
+pub covered_within : (table_problem p : ProblemValue) (c list : List ℕ) (n : ℕ) → table_problem ≡ p → n ≡ length p.names → IsCoveredList table_problem c → list ≡ c → All (λ i. i ≤ n) list
+covered_within table_problem p c list n same size a e k d l =
+    let within = (covered_item table_problem c (get_or c k d) a (has_at c k d (rw e at l))).1 in
+    let names : length table_problem.names ≡ n = ap (λ (q : ProblemValue). length q.names) same ∙ sym size in
     rw (e, ← names) within
 
 -- what a mark says

@@ -8,7 +8,10 @@ use Rattle.cover_problem.specs.Covering.{list_of}
 use Rattle.cover_problem.specs.Path.{others, taken, IsChoice, IsValid, covered_by}
 use Rattle.cover_problem.specs.Coverable.{IsUncovered, CanCover}
 use Rattle.cover_problem.specs.Table.{IsCoveredList}
-use Rattle.cover_problem.proofs.CoveringLemmas.{active_item, list_covered, list_uncovered, choice_active, choice_has, can_take, taken_is, length-taken, covered_by_push, covered_path, covered_taken, covered_push, depth, valid_start}
+use Rattle.cover_problem.proofs.ActiveLemmas.{active_item}
+use Rattle.cover_problem.proofs.RemainingLemmas.{list_covered, list_uncovered, choice_active}
+use Rattle.cover_problem.proofs.PathLemmas.{choice_has, can_take, taken_is, length-taken, covered_by_push, covered_path, covered_taken, depth, valid_start}
+use Rattle.cover_problem.proofs.CoveredLemmas.{covered_push}
 use Rattle.x_steps.specs.declared.state.Label.{Label}
 use Rattle.x_steps.specs.declared.state.Label.TheVariants.{X1, X2, X3, X4, X5, X6, X7, X8, Done}
 use Rattle.x_steps.specs.declared.state.Cursor.{Cursor}

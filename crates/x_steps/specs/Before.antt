@@ -1,7 +1,7 @@
 -- What comes before a state on the run.
 --
 -- Example: in the small problem X5 past 2 3 came before X7 with the path 2 3, and X4 with the path 2 3 before that X5,
--- since no option is left for item e.
+-- since no option is left for item e (computed in proofs/StepExamples.antt).
 use Rattle.std.specs.Prelude.{ℕ, Option, Some, List, [], ◌∷◌, ◌++◌, if◌then◌else◌}
 use Rattle.std.specs.Prelude as prelude
 use Rattle.cover_problem.specs.Lists.{below, last_of}

@@ -10,7 +10,7 @@ abbrev pub number_of : StepFault → ℕ
 number_of AtFirst = 1
 number_of Done = 2
 
--- the number of a state that was refused; want of memory has none
+-- the number of a state that was refused; out of memory has none
 abbrev pub number_at : AtFault → Option ℕ
 number_at NotAState = Some 3
 number_at OutOfMemory = None

@@ -3,6 +3,8 @@ pub mod StateView
 pub mod Steps
 pub mod Before
 pub mod Run
+pub mod Levels
+pub mod Paths
 pub mod Order
 pub mod Covers
 pub mod Rank

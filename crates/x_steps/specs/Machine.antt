@@ -16,10 +16,10 @@ pub record Position : Type 0 where
   pub state : StateValue
 
 -- the state fits the problem, the table stands for what is covered there, and the path has room for a choice of each item
-pub record Keeps (p : ProblemValue) (s : StateValue) (subject : ProblemValue) (covered : List ℕ) (room : ℕ) : Type 0 where
+pub record Keeps (p : ProblemValue) (s : StateValue) (table_problem : ProblemValue) (covered : List ℕ) (room : ℕ) : Type 0 where
   pub sound : IsProblem p
   pub fit : Fits p s
-  pub same : subject ≡ p
+  pub same : table_problem ≡ p
   pub stands : covered ≡ covered_in p s
   pub path_fits : length p.names ≤ room
 
@@ -43,6 +43,10 @@ pub record GoesBack (old new : Position) : Type 0 where
 abbrev pub remaining_items : ProblemValue → List ℕ → List (ℕ × List ℕ)
 remaining_items p c = map (λ i. (i, remaining p c i)) (active p c)
 
+-- the active items of a state, each with the options left for it
+abbrev pub remaining_in : ProblemValue → StateValue → List (ℕ × List ℕ)
+remaining_in p s = remaining_items p (covered_in p s)
+
 -- the secondary items, above the primary ones, that are not covered
 unfoldable pub secondary : ProblemValue → List ℕ → List ℕ
 secondary p c = filter (λ i. not (has c i)) (numbers (length p.names - p.primary) (p.primary + 1))
@@ -50,6 +54,10 @@ secondary p c = filter (λ i. not (has c i)) (numbers (length p.names - p.primar
 -- each with the options left for it
 abbrev pub second_items : ProblemValue → List ℕ → List (ℕ × List ℕ)
 second_items p c = map (λ i. (i, remaining p c i)) (secondary p c)
+
+-- the same at a state
+abbrev pub second_in : ProblemValue → StateValue → List (ℕ × List ℕ)
+second_in p s = second_items p (covered_in p s)
 
 -- whether an item is chosen at the step
 abbrev pub is_chosen : Label → Bool

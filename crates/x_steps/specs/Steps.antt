@@ -2,7 +2,7 @@
 -- TAOCP volume 4B, section 7.2.2.1, Algorithm X, as steps X1 to X8 that can be taken one by one.
 --
 -- Example: in the small problem X4 with the path 2 3 is followed by X5 past 2 3: after the options 2 and 3 the item chosen
--- is e, and it has no option left; covered are then a d g b c f e.
+-- is e, and it has no option left; covered are then a d g b c f e (computed in proofs/StepExamples.antt).
 use Rattle.std.specs.Prelude.{ℕ, ◌<◌, ◌≡◌, nat_lt, Bool, not, ◌&&◌, true, false, Option, Some, List, [], ◌∷◌, ◌++◌, length, if◌then◌else◌}
 use Rattle.cover_problem.specs.Lists.{above}
 use Rattle.cover_problem.specs.Problem.{ProblemValue}

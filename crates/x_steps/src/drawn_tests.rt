@@ -1,26 +1,8 @@
-//! Problems drawn by a seed, stepped to the end and back, and searched by trying every set of options.
-use crate::{Event, Label, Machine, State, StepFault};
-use cover_problem::{PlainTable, Problem, Table, read_cover};
+//! Problems drawn by a seed, walked to the end and back, and searched by trying every set of options.
+use crate::tests::walk_through;
+use cover_problem::read_cover;
 use std::alloc::{AllocError, Global};
-use std::process::Abort;
 use std::test::Fail;
-
-/// A machine at X1.
-fn begun<'p>(
-    rt: &impl Abort,
-    alloc: Global,
-    problem: &'p Problem,
-) -> Result<Machine<'p, PlainTable>, Fail> {
-    let table = PlainTable::new(alloc, problem)?;
-    match Machine::new(alloc, problem, table) {
-        Ok(machine) => Ok(machine),
-        Err(_) => panic!(rt; "out of memory"),
-    }
-}
-
-fn same(one: &State, other: &State) -> bool {
-    one.label == other.label && one.cursor == other.cursor && one.path == other.path
-}
 
 /// The next number that is drawn, below 2^31.
 fn draw(seed: &mut u64) -> u32 {
@@ -40,11 +22,11 @@ fn drawn_options(alloc: Global, seed: &mut u64) -> Result<Vec<u32>, AllocError> 
 }
 
 /// The text of the problem of the items a to e, of which so many are primary.
-fn text_of(alloc: Global, primary: usize, masks: &[u32]) -> Result<String, AllocError> {
+fn text_of(alloc: Global, primary: u32, masks: &[u32]) -> Result<String, AllocError> {
     let mut text = String::new(alloc);
     text.push_str("items")?;
     for (index, name) in [" a", " b", " c", " d", " e"].iter().enumerate() {
-        if index == primary {
+        if index == primary as usize {
             text.push_str("\nmaybe")?;
         }
         text.push_str(name)?;
@@ -76,37 +58,6 @@ fn is_cover(masks: &[u32], primary: u32, set: u32) -> bool {
     rest == 0 && covered & primary == primary
 }
 
-/// The path's options as bits.
-fn bits_of(path: &[u32]) -> u32 {
-    let mut set = 0;
-    for option in path {
-        set |= 1u32.wrapping_shl(option.wrapping_sub(1));
-    }
-    set
-}
-
-/// Steps to the end and back, and answers the visits as bits.
-fn walked(rt: &impl Abort, alloc: Global, problem: &Problem) -> Result<Vec<u32>, Fail> {
-    let mut machine = begun(rt, alloc, problem)?;
-    let mut states = Vec::new(alloc);
-    let mut visits = Vec::new(alloc);
-    for _ in 0..100_000 {
-        states.push(machine.state().copy()?)?;
-        match machine.step()? {
-            Event::Moved => {}
-            Event::Visited => visits.push(bits_of(&machine.state().path))?,
-            Event::Finished => break,
-        }
-    }
-    assert_eq!(rt; machine.state().label, Label::Done);
-    for state in states.iter().rev() {
-        machine.back()?;
-        assert!(rt; same(machine.state(), state));
-    }
-    assert_eq!(rt; machine.back(), Err(StepFault::AtFirst));
-    Ok(visits)
-}
-
 /// The sets of up to eight options that are covers, in order as numbers.
 fn covers(alloc: Global, masks: &[u32], primary: u32) -> Result<Vec<u32>, AllocError> {
     let mut covers = Vec::new(alloc);
@@ -118,19 +69,41 @@ fn covers(alloc: Global, masks: &[u32], primary: u32) -> Result<Vec<u32>, AllocE
     Ok(covers)
 }
 
+/// The options of each visit as bits, in order as numbers; a 0 closes a visit.
+fn sets_of(alloc: Global, visits: &[u32]) -> Result<Vec<u32>, AllocError> {
+    let mut sets = Vec::new(alloc);
+    let mut set = 0;
+    for option in visits {
+        if *option == 0 {
+            sets.push(set)?;
+            set = 0;
+        } else {
+            set |= 1u32.wrapping_shl(option.wrapping_sub(1));
+        }
+    }
+    sets.sort()?;
+    Ok(sets)
+}
+
+/// Whether the visits of a drawn problem are its covers, and each step was taken back.
+fn is_right(alloc: Global, primary: u32, masks: &[u32]) -> Result<bool, Fail> {
+    let text = text_of(alloc, primary, masks)?;
+    let problem = read_cover(alloc, text.as_bytes())?;
+    let walk = walk_through(alloc, &problem)?;
+    let bits = 1u32.wrapping_shl(primary).wrapping_sub(1);
+    let covers = covers(alloc, masks, bits)?;
+    Ok(walk.is_undone && sets_of(alloc, &walk.visits)? == covers)
+}
+
 #[test]
 fn visits_are_the_covers_of_drawn_problems(rt: HostRuntime) -> Result<(), Fail> {
-    let alloc = rt.alloc();
     let mut seed = 1;
     for round in 0..60 {
-        let primary = round % 5 + 1;
-        let masks = drawn_options(alloc, &mut seed)?;
-        let text = text_of(alloc, primary, &masks)?;
-        let problem = read_cover(alloc, text.as_bytes())?;
-        let mut visits = walked(&rt, alloc, &problem)?;
-        visits.sort()?;
-        let bits = 1u32.wrapping_shl(primary as u32).wrapping_sub(1);
-        assert_eq!(rt; visits, covers(alloc, &masks, bits)?, "for {text}");
+        let masks = drawn_options(rt.alloc(), &mut seed)?;
+        assert!(rt;
+            is_right(rt.alloc(), round % 5 + 1, &masks)?,
+            "at the problem drawn as {round}"
+        );
     }
     Ok(())
 }

@@ -38,7 +38,7 @@ pub enum AtFault {
 }
 
 impl AtFault {
-    /// Its number, after those of a step; want of memory has none.
+    /// Its number, after those of a step; out of memory has none.
     pub fn number(self) -> Option<u8>
         ensures { result ≡ number_at self }
     {

@@ -8,11 +8,13 @@ pub mod laws;
 mod listing;
 mod machine;
 mod marks;
+mod paths;
 mod state;
 
 pub use event::Event;
 pub use fault::{AtFault, Refused, StepFault};
 pub use machine::Machine;
+pub use paths::Paths;
 pub use state::{Cursor, Label, State};
 
 #[cfg(test)]

@@ -81,9 +81,9 @@ impl<'p, T: Table> Model for Machine<'p, T> {
 }
 
 impl<'p, T: Table> Machine<'p, T> {
-    /// The machine at X1. Refused only for want of memory, and then the table comes back.
+    /// The machine at X1. Refused only when out of memory, and then the table comes back.
     pub fn new(alloc: Global, problem: &'p Problem, table: T) -> Result<Machine<'p, T>, T>
-        requires same_problem { T.problem_value table ≡ problem.now }
+        requires problem { T.problem_value table ≡ problem.now }
         requires covered { T.covered_list table ≡ [] }
         ensures at_first { IfOk result (λ m. m ≡ record { problem = problem.now; state = start }) }
         ensures given_back { IfErr result (λ t. t ≡ table) }
@@ -117,6 +117,21 @@ impl<'p, T: Table> Machine<'p, T> {
         ensures covered { T.covered_list result.now ≡ covered_in self.now.problem self.now.state }
     {
         &self.table
+    }
+
+    /// Gives the table back with nothing covered, without memory.
+    pub fn into_table(self) -> T
+        ensures same_problem { T.problem_value result ≡ self.entry.problem }
+        ensures covered { T.covered_list result ≡ [] }
+    {
+        let Machine {
+            problem: _,
+            mut table,
+            state: _,
+        } = self;
+        let count = table.covered().len();
+        uncover_last(&mut table, count);
+        table
     }
 
     /// Takes one step of the table X1 to X8, without memory; refused only at Done, which changes nothing.

@@ -33,7 +33,7 @@ pub struct State {
 }
 
 impl State {
-    ghost use Rattle.std.specs.Prelude.{◌≡◌, IfOk};
+    ghost use Rattle.std.specs.Prelude.{◌≡◌, ◌↔◌, IfOk, IsTrue};
     ghost use Rattle.x_steps.specs.StateView.{state_value};
 
     /// The same state, with a path of its own.
@@ -45,6 +45,13 @@ impl State {
             path: self.path.clone()?,
             cursor: self.cursor,
         })
+    }
+
+    /// Whether it is the same state: the same step, choices and cursor.
+    pub fn same(&self, other: &State) -> bool
+        ensures { IsTrue result ↔ (state_value self.now ≡ state_value other.now) }
+    {
+        self.label == other.label && self.cursor == other.cursor && self.path == other.path
     }
 
     /// Goes to this step, with the same path.

@@ -1,36 +1,133 @@
-//! The small problem: the items a to g and the options c e, a d g, b c f, a d f, b g and d e g. Its run has 43 steps and the
-//! visit 4 5 1.
-ghost use Rattle.std.specs.Prelude.{◌≡◌, [], IfOk};
-
-use crate::{AtFault, Cursor, Event, Label, Machine, State, StepFault};
-use cover_problem::{PlainTable, Problem, Table};
+//! Runs that are walked to the end and back, and what a machine tells at a state.
+use crate::{Cursor, Event, Label, Machine, Paths, State, StepFault};
+use cover_problem::{PlainTable, Problem, Table, read_cover};
 use std::alloc::{AllocError, Global};
-use std::process::Abort;
 use std::test::Fail;
 
-fn made(alloc: Global, names: &[&str], primary: u32, options: &[&[u32]]) -> Result<Problem, Fail> {
-    let mut words = Vec::new(alloc);
-    for name in names {
-        words.push(String::from_str(alloc, name)?)?;
-    }
-    let mut lists = Vec::new(alloc);
-    for option in options {
-        lists.push(Vec::from_slice(alloc, option)?)?;
-    }
-    Ok(Problem::new(alloc, words, primary, lists)?)
+/// The small problem: its run has 43 steps and the visit 4 5 1.
+const SMALL: &str =
+    "items a b c d e f g\noption c e\noption a d g\noption b c f\noption a d f\noption b g\noption d e g";
+
+/// A problem whose item c is secondary.
+const SECONDARY: &str = "items a b\nmaybe c\noption a c\noption b c\noption a\noption b";
+
+/// What a run had: how many states, its visits, each closed by a 0, and whether each step was taken back.
+#[derive(Drop)]
+pub struct Walk {
+    states: usize,
+    pub visits: Vec<u32>,
+    pub is_undone: bool,
 }
 
-fn small(alloc: Global) -> Result<Problem, Fail> {
-    let names = ["a", "b", "c", "d", "e", "f", "g"];
-    let options: [&[u32]; 6] = [
-        &[3, 5],
-        &[1, 4, 7],
-        &[2, 3, 6],
-        &[1, 4, 6],
-        &[2, 7],
-        &[4, 5, 7],
-    ];
-    made(alloc, &names, 7, &options)
+/// Takes every step, and notes the states and the visits.
+fn forwards<T: Table>(
+    machine: &mut Machine<T>,
+    states: &mut Vec<State>,
+    visits: &mut Vec<u32>,
+) -> Result<(), AllocError> {
+    for _ in 0..100_000 {
+        states.push(machine.state().copy()?)?;
+        match machine.step() {
+            Ok(Event::Visited) => {
+                visits.extend_from_slice(&machine.state().path)?;
+                visits.push(0)?;
+            }
+            Ok(_) => {}
+            Err(_) => break,
+        }
+    }
+    Ok(())
+}
+
+/// Takes every step back: whether the machine stood at each of these states, the last one first.
+fn backwards<T: Table>(machine: &mut Machine<T>, states: &[State]) -> bool {
+    let mut is_same = true;
+    for state in states.iter().rev() {
+        is_same = is_same && machine.state().same(state);
+        is_same = is_same && (machine.back().is_ok() || state.label == Label::X1);
+    }
+    is_same
+}
+
+/// Whether the run is over, and goes no further.
+fn is_over<T: Table>(machine: &mut Machine<T>) -> bool {
+    machine.state().label == Label::Done && machine.step() == Err(StepFault::Done)
+}
+
+/// Whether the run has not begun, and goes no further back.
+fn is_unbegun<T: Table>(machine: &mut Machine<T>) -> bool {
+    machine.state().label == Label::X1
+        && machine.back() == Err(StepFault::AtFirst)
+        && machine.table().covered().is_empty()
+}
+
+/// Walks a problem's run to its end and back.
+pub fn walk_through(alloc: Global, problem: &Problem) -> Result<Walk, Fail> {
+    let table = PlainTable::new(alloc, problem)?;
+    let mut machine = Machine::new(alloc, problem, table).map_err(|_| "out of memory")?;
+    let mut states = Vec::new(alloc);
+    let mut visits = Vec::new(alloc);
+    forwards(&mut machine, &mut states, &mut visits)?;
+    let is_undone = is_over(&mut machine)
+        && backwards(&mut machine, &states)
+        && is_unbegun(&mut machine);
+    Ok(Walk {
+        states: states.len(),
+        visits,
+        is_undone,
+    })
+}
+
+/// The number of the refusal of a state; none where a machine stands there.
+fn refused_at(alloc: Global, problem: &Problem, state: &State) -> Result<Option<u8>, Fail> {
+    let table = PlainTable::new(alloc, problem)?;
+    match Machine::at(alloc, problem, table, state) {
+        Ok(machine) if machine.state().same(state) => Ok(None),
+        Ok(_) => Err(Fail::from("the machine stands elsewhere")),
+        Err(refused) => Ok(refused.fault.number()),
+    }
+}
+
+/// The items with their options as one list, each closed by a 0.
+fn flat(alloc: Global, rows: &[(u32, Vec<u32>)]) -> Result<Vec<u32>, AllocError> {
+    let mut list = Vec::new(alloc);
+    for row in rows {
+        list.push(row.0)?;
+        list.extend_from_slice(&row.1)?;
+        list.push(0)?;
+    }
+    Ok(list)
+}
+
+/// What a machine tells at a state.
+#[derive(Drop)]
+struct Told {
+    covered: Vec<u32>,
+    remaining: Vec<u32>,
+    chosen: Vec<u32>,
+    second: Vec<u32>,
+}
+
+/// What this machine tells.
+fn all_told<T: Table>(alloc: Global, machine: &Machine<T>) -> Result<Told, AllocError> {
+    let mut chosen = Vec::new(alloc);
+    if let Some(row) = machine.chosen()? {
+        chosen.push(row)?;
+    }
+    Ok(Told {
+        covered: Vec::from_slice(alloc, machine.covered())?,
+        remaining: flat(alloc, &machine.remaining()?)?,
+        chosen: flat(alloc, &chosen)?,
+        second: flat(alloc, &machine.second()?)?,
+    })
+}
+
+/// What a machine tells that stands at a state of the text's problem.
+fn told_at(alloc: Global, text: &str, state: &State) -> Result<Told, Fail> {
+    let problem = read_cover(alloc, text.as_bytes())?;
+    let table = PlainTable::new(alloc, &problem)?;
+    let machine = Machine::at(alloc, &problem, table, state).map_err(|refused| refused.fault)?;
+    Ok(all_told(alloc, &machine)?)
 }
 
 fn state_of(
@@ -39,121 +136,79 @@ fn state_of(
     path: &[u32],
     cursor: Cursor,
 ) -> Result<State, AllocError> {
+    let path = Vec::from_slice(alloc, path)?;
     Ok(State {
         label,
-        path: Vec::from_slice(alloc, path)?,
+        path,
         cursor,
     })
 }
 
-/// The machine at a state, or that there is none.
-fn machine_at<'p>(
-    alloc: Global,
-    problem: &'p Problem,
-    label: Label,
-    path: &[u32],
-    cursor: Cursor,
-) -> Result<Result<Machine<'p, PlainTable>, AtFault>, AllocError> {
-    let state = state_of(alloc, label, path, cursor)?;
-    let table = PlainTable::new(alloc, problem)?;
-    Ok(Machine::at(alloc, problem, table, &state).map_err(|refused| refused.fault))
-}
-
-fn assert_rows(rt: &impl Abort, rows: Vec<(u32, Vec<u32>)>, wanted: &[(u32, &[u32])]) {
-    assert_eq!(rt; rows.len(), wanted.len());
-    for (row, (item, options)) in rows.iter().zip(wanted) {
-        assert_eq!(rt; row.0, *item);
-        assert_eq!(rt; row.1.as_slice(), *options);
-    }
-}
-
 #[test]
 fn each_step_is_taken_back(rt: HostRuntime) -> Result<(), Fail> {
-    let problem = small(rt.alloc())?;
-    let table = PlainTable::new(rt.alloc(), &problem)?;
-    let mut machine = Machine::new(rt.alloc(), &problem, table).map_err(|_| "no memory")?;
-    let mut visited = false;
-    for _ in 0..43 {
-        if machine.step()? == Event::Visited {
-            assert!(rt; !visited);
-            visited = true;
-            assert_eq!(rt; machine.state().path.as_slice(), [4, 5, 1].as_slice());
-        }
-    }
-    assert!(rt; visited);
-    assert_eq!(rt; machine.state().label, Label::Done);
-    assert_eq!(rt; machine.step(), Err(StepFault::Done));
-    for _ in 0..43 {
-        machine.back()?;
-    }
-    assert_eq!(rt; machine.state().label, Label::X1);
-    assert_eq!(rt; machine.back(), Err(StepFault::AtFirst));
-    assert_eq!(rt; machine.table().covered().len(), 0);
+    let problem = read_cover(rt.alloc(), SMALL.as_bytes())?;
+    let walk = walk_through(rt.alloc(), &problem)?;
+    assert!(rt; walk.states == 44);
+    assert!(rt; walk.visits.as_slice() == [4, 5, 1, 0].as_slice());
+    assert!(rt; walk.is_undone);
     Ok(())
 }
 
+const STATES: [(Label, &[u32], Cursor, Option<u8>); 8] = [
+    (Label::X5, &[2, 3], Cursor::Past, None),
+    (Label::X5, &[4, 5], Cursor::At(1), None),
+    (Label::Done, &[], Cursor::None, None),
+    (Label::X6, &[], Cursor::At(5), Some(3)),
+    (Label::X3, &[4, 5, 1], Cursor::None, Some(3)),
+    (Label::X8, &[2, 1], Cursor::None, Some(3)),
+    (Label::X2, &[0], Cursor::None, Some(3)),
+    (
+        Label::X2,
+        &[2, 2, 2, 2, 2, 2, 2, 2, 2],
+        Cursor::None,
+        Some(3),
+    ),
+];
+
 #[test]
 fn states_of_the_search_are_taken(rt: HostRuntime) -> Result<(), Fail> {
-    let problem = small(rt.alloc())?;
-    let rows: [(Label, &[u32], Cursor, bool); 8] = [
-        (Label::X5, &[2, 3], Cursor::Past, true),
-        (Label::X5, &[4, 5], Cursor::At(1), true),
-        (Label::Done, &[], Cursor::None, true),
-        (Label::X6, &[], Cursor::At(5), false),
-        (Label::X3, &[4, 5, 1], Cursor::None, false),
-        (Label::X8, &[2, 1], Cursor::None, false),
-        (Label::X2, &[0], Cursor::None, false),
-        (Label::X2, &[2, 2, 2, 2, 2, 2, 2, 2, 2], Cursor::None, false),
-    ];
-    for (label, path, cursor, fits) in rows {
-        match machine_at(rt.alloc(), &problem, label, path, cursor)? {
-            Ok(machine) => {
-                assert!(rt; fits);
-                assert_eq!(rt; machine.state().label, label);
-                assert_eq!(rt; machine.state().path.as_slice(), path);
-            }
-            Err(fault) => {
-                assert!(rt; !fits);
-                assert_eq!(rt; fault.number(), Some(3));
-            }
-        }
+    let problem = read_cover(rt.alloc(), SMALL.as_bytes())?;
+    for (label, path, cursor, number) in STATES {
+        let state = state_of(rt.alloc(), label, path, cursor)?;
+        assert!(rt; refused_at(rt.alloc(), &problem, &state)? == number);
     }
     Ok(())
 }
 
 #[test]
 fn a_machine_tells_what_is_left(rt: HostRuntime) -> Result<(), Fail> {
-    let problem = small(rt.alloc())?;
-    let machine = machine_at(rt.alloc(), &problem, Label::X2, &[2], Cursor::None)??;
-    assert_eq!(rt; machine.covered(), [1, 4, 7].as_slice());
-    let wanted: [(u32, &[u32]); 4] = [(2, &[3]), (3, &[1, 3]), (5, &[1]), (6, &[3])];
-    assert_rows(&rt, machine.remaining()?, &wanted);
-    assert!(rt; machine.chosen()?.is_none());
+    let state = state_of(rt.alloc(), Label::X2, &[2], Cursor::None)?;
+    let told = told_at(rt.alloc(), SMALL, &state)?;
+    assert!(rt; told.covered.as_slice() == [1, 4, 7].as_slice());
+    assert!(rt; told.remaining.as_slice() == [2, 3, 0, 3, 1, 3, 0, 5, 1, 0, 6, 3, 0].as_slice());
+    assert!(rt; told.chosen.is_empty());
     Ok(())
 }
 
 #[test]
 fn a_machine_tells_the_chosen_item(rt: HostRuntime) -> Result<(), Fail> {
-    let problem = small(rt.alloc())?;
     for label in [Label::X5, Label::X6] {
-        let machine = machine_at(rt.alloc(), &problem, label, &[4, 5], Cursor::At(1))??;
-        let (item, options) = machine.chosen()?.ok_or("nothing is chosen")?;
-        assert_eq!(rt; item, 3);
-        assert_eq!(rt; options.as_slice(), [1].as_slice());
+        let state = state_of(rt.alloc(), label, &[4, 5], Cursor::At(1))?;
+        let told = told_at(rt.alloc(), SMALL, &state)?;
+        assert!(rt; told.chosen.as_slice() == [3, 1, 0].as_slice());
     }
     Ok(())
 }
 
+const SECONDS: [(&[u32], &[u32]); 3] = [(&[], &[3, 1, 2, 0]), (&[3], &[3, 2, 0]), (&[1], &[])];
+
 #[test]
 fn secondary_items_are_listed_until_covered(rt: HostRuntime) -> Result<(), Fail> {
-    let options: [&[u32]; 4] = [&[1, 3], &[2, 3], &[1], &[2]];
-    let problem = made(rt.alloc(), &["a", "b", "c"], 2, &options)?;
-    let first = machine_at(rt.alloc(), &problem, Label::X2, &[], Cursor::None)??;
-    assert_rows(&rt, first.second()?, &[(3, &[1, 2])]);
-    let without = machine_at(rt.alloc(), &problem, Label::X2, &[3], Cursor::None)??;
-    assert_rows(&rt, without.second()?, &[(3, &[2])]);
-    let with = machine_at(rt.alloc(), &problem, Label::X2, &[1], Cursor::None)??;
-    assert_rows(&rt, with.second()?, &[]);
+    for (path, second) in SECONDS {
+        let state = state_of(rt.alloc(), Label::X2, path, Cursor::None)?;
+        let told = told_at(rt.alloc(), SECONDARY, &state)?;
+        assert!(rt; told.second.as_slice() == second);
+    }
     Ok(())
 }
 
@@ -161,8 +216,32 @@ fn secondary_items_are_listed_until_covered(rt: HostRuntime) -> Result<(), Fail>
 fn a_copy_is_the_same_state(rt: HostRuntime) -> Result<(), Fail> {
     let state = state_of(rt.alloc(), Label::X6, &[4, 5], Cursor::At(1))?;
     let copy = state.copy()?;
-    assert_eq!(rt; copy.label, Label::X6);
-    assert_eq!(rt; copy.path.as_slice(), [4, 5].as_slice());
-    assert_eq!(rt; copy.cursor, Cursor::At(1));
+    assert!(rt; copy.label == Label::X6);
+    assert!(rt; copy.path.as_slice() == [4, 5].as_slice());
+    assert!(rt; copy.cursor == Cursor::At(1));
+    assert!(rt; state.same(&copy));
+    Ok(())
+}
+
+/// The paths as one list, each closed by a 0.
+fn flat_paths(alloc: Global, paths: &Paths) -> Result<Vec<u32>, AllocError> {
+    let mut list = Vec::new(alloc);
+    for place in 0..paths.len() {
+        list.extend_from_slice(paths.path(place))?;
+        list.push(0)?;
+    }
+    Ok(list)
+}
+
+#[test]
+fn paths_keep_their_order(rt: HostRuntime) -> Result<(), Fail> {
+    let mut paths = Paths::new(rt.alloc());
+    paths.push(&[4, 5, 1])?;
+    paths.push(&[])?;
+    let mut more = paths.copy()?;
+    more.push(&[2])?;
+    paths.append(&more)?;
+    let wanted = [4, 5, 1, 0, 0, 4, 5, 1, 0, 0, 2, 0];
+    assert!(rt; flat_paths(rt.alloc(), &paths)?.as_slice() == wanted.as_slice());
     Ok(())
 }

@@ -10,7 +10,7 @@ ghost use Rattle.x_steps.specs.Machine.{IsAt};
 ghost use Rattle.x_steps.specs.Marked.{AreMarked};
 ghost use Rattle.x_steps.specs.Resume.{position, IsDown};
 
-use crate::covering::{choose, has_active, uncover_last};
+use crate::covering::{choose, has_active};
 use crate::fault::{AtFault, Refused};
 use crate::machine::Machine;
 use crate::marks::{any_marked, mark_all, no_marks};
@@ -34,7 +34,7 @@ fn is_free(option: &[u32], item: u32, marks: &[bool]) -> bool
 }
 
 impl<'p, T: Table> Machine<'p, T> {
-    /// The machine at a state of the search. Refused where the search has no such state, and for want of memory; the table
+    /// The machine at a state of the search. Refused where the search has no such state, and when out of memory; the table
     /// then comes back with nothing covered.
     pub fn at(
         alloc: Global,
@@ -42,12 +42,12 @@ impl<'p, T: Table> Machine<'p, T> {
         table: T,
         state: &State,
     ) -> Result<Machine<'p, T>, Refused<AtFault, T>>
-        requires same_problem { T.problem_value table ≡ problem.now }
+        requires problem { T.problem_value table ≡ problem.now }
         requires covered { T.covered_list table ≡ [] }
         ensures at { IfOk result (λ m. m ≡ record { problem = problem.now; state = state_value state.now }) }
         ensures fits { OnOk result (Fits problem.now (state_value state.now)) }
         ensures unfit { IfErr result (λ r. r.fault ≡ AtFault.NotAState → Fits problem.now (state_value state.now) → ⊥) }
-        ensures subject_back { IfErr result (λ r. T.problem_value r.given ≡ problem.now) }
+        ensures problem_back { IfErr result (λ r. T.problem_value r.given ≡ problem.now) }
         ensures covered_back { IfErr result (λ r. T.covered_list r.given ≡ []) }
     {
         let mut marks = match no_marks(alloc, problem.items()) {
@@ -77,21 +77,6 @@ impl<'p, T: Table> Machine<'p, T> {
                 given: machine.into_table(),
             })
         }
-    }
-
-    /// The table, with nothing covered.
-    fn into_table(self) -> T
-        ensures same_problem { T.problem_value result ≡ self.entry.problem }
-        ensures covered { T.covered_list result ≡ [] }
-    {
-        let Machine {
-            problem: _,
-            mut table,
-            state: _,
-        } = self;
-        let count = table.covered().len();
-        uncover_last(&mut table, count);
-        table
     }
 
     /// Goes to the state, if the search has it.

@@ -4,7 +4,8 @@ use Rattle.cover_links.specs.Entries.{changed, to_down}
 use Rattle.cover_links.specs.Fresh.{nodes_appended, option_appended}
 use Rattle.cover_links.specs.Safety.{CanAppendNodes}
 use Rattle.cover_links.proofs.EntryLemmas.{written}
-use Rattle.cover_links.proofs.BuildLemmas.{drop_all, drop_next}
+use Rattle.std.proofs.lemmas.List.{drop_all}
+use Rattle.std.proofs.Math.Seq.{drop-cons}
 use Rattle.cover_links.proofs.SafetyLemmas.{length-node_appended}
 use Rattle.cover_links.proofs.build.append_option.Goals as goal
 
@@ -12,7 +13,8 @@ pub loop-item-preserved : goal.loop-item-preserved
 loop-item-preserved c =
     let es = c.loop-item.block in let x = c.loop-item.index in let i = c.loop-item.item-index in let o = c.args.option.now in let s = c.loop-item.invariant in
     let l = c.args.start in let r = c.args.start + length o in
-    let cut = drop_next o i c.loop-item-test.true in
+    let second : suc i ≡ i + 1 = omega arith in
+    let cut : drop i o ≡ get_or o i 0 ∷ drop (i + 1) o = drop-cons o i 0 c.loop-item-test.true ∙ ap (λ k. get_or o i 0 ∷ drop k o) second in
     let next : suc x ≡ x + 1 = omega arith in
     let can : CanAppendNodes es x l r (get_or o i 0 ∷ drop (i + 1) o) = subst (λ js. CanAppendNodes es x l r js) cut s.can in
     record {
@@ -26,7 +28,7 @@ pub returns : goal.returns
 unfolding option_appended
 returns c =
     let es = c.args.block.now in let o = c.args.option.now in let s = c.loop-item.invariant in let l = c.args.start in let r = c.args.start + length o in
-    let none : drop c.loop-item.item-index o ≡ [] = drop_all o c.loop-item.item-index c.loop-item-test.false in
+    let none : drop c.loop-item.item-index o ≡ [] = drop_all c.loop-item.item-index o c.loop-item-test.false in
     let all : c.loop-item.block ≡ nodes_appended es l l r o = sym (ap (λ js. nodes_appended c.loop-item.block c.loop-item.index l r js) none) ∙ s.rest in
     let down = written (to_down (r - 1)) c.loop-item.block c.write.new.self (l - 1) c.read-before.result c.write.ensures c.read-before.ensures in
     c.write-2.ensures ∙ ap (λ fs. set fs r (record { top = c.args.number; up = l; down = 0; left = 0; right = 0 })) (down ∙ ap (λ fs. changed (to_down (r - 1)) fs (l - 1)) all)

@@ -1,4 +1,4 @@
-use Rattle.std.proofs.Common.{◌≡◌, ℕ, zero, suc, ◌+◌, ◌<◌, length, get_or, replicate, refl, sym, ap, ◌∙◌, subst, arith, List}
+use Rattle.std.proofs.Common.{◌≡◌, ℕ, suc, ◌+◌, ◌<◌, length, get_or, replicate, sym, ap, ◌∙◌, subst, arith, List}
 use Rattle.cover_problem.specs.Problem.{option_at, size_of}
 use Rattle.cover_links.specs.declared.entry.Entry.{Entry}
 use Rattle.cover_links.specs.Entries.{blank}
@@ -7,17 +7,14 @@ use Rattle.cover_links.specs.Safety.{CanAppendOption}
 use Rattle.cover_links.proofs.LayoutLemmas.{start_last, start_low}
 use Rattle.cover_links.proofs.BuiltLemmas.{built_can}
 use Rattle.cover_links.proofs.build.fresh.Goals as goal
-
-length_blank : (n : ℕ) → length (replicate n blank) ≡ n
-length_blank zero = refl
-length_blank (suc n) = ap suc (length_blank n)
+use Rattle.std.proofs.lemmas.List.{length-replicate}
 
 pub write_heads-requires-clause-within : goal.write_heads-requires-clause-within
 write_heads-requires-clause-within c =
     let p = c.args.problem.now in
     let m = c.options-options.ensures in
     let size : get_or c.args.starts.now c.options-options.result 0 ≡ size_of p = ap (λ k. get_or c.args.starts.now k 0) m ∙ c.requires.each (length p.options) (omega arith) ∙ start_last p in
-    let long = ap length c.in_ok-block.ensures ∙ length_blank (get_or c.args.starts.now c.options-options.result 0) in
+    let long = ap length c.in_ok-block.ensures ∙ length-replicate (get_or c.args.starts.now c.options-options.result 0) blank in
     let low = start_low p (length p.options) in let last = start_last p in let n = c.items-items.ensures.count in
     omega arith
 

@@ -1,7 +1,7 @@
 use Rattle.std.proofs.Common.{sym}
 use Rattle.cover_problem.specs.Covering.{list_of}
-use Rattle.cover_problem.proofs.ListLemmas.{last_is}
-use Rattle.cover_problem.proofs.CoveringLemmas.{list_rises}
+use Rattle.cover_problem.proofs.RisingLemmas.{last_is}
+use Rattle.cover_problem.proofs.RemainingLemmas.{list_rises}
 use Rattle.cover_links.proofs.tests.last_but_one.Goals as goal
 
 pub prev_option-requires : goal.prev_option-requires

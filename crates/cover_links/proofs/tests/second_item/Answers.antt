@@ -1,7 +1,7 @@
 use Rattle.std.proofs.Common.{sym}
 use Rattle.cover_problem.specs.Covering.{active}
-use Rattle.cover_problem.proofs.ListLemmas.{above_is}
-use Rattle.cover_problem.proofs.CoveringLemmas.{active_rises}
+use Rattle.cover_problem.proofs.RisingLemmas.{above_is}
+use Rattle.cover_problem.proofs.ActiveLemmas.{active_rises}
 use Rattle.cover_links.proofs.tests.second_item.Goals as goal
 
 pub next_item-requires : goal.next_item-requires

@@ -1,7 +1,7 @@
 use Rattle.std.proofs.Common.{sym}
 use Rattle.cover_problem.specs.Covering.{list_of}
-use Rattle.cover_problem.proofs.ListLemmas.{above_is}
-use Rattle.cover_problem.proofs.CoveringLemmas.{list_rises}
+use Rattle.cover_problem.proofs.RisingLemmas.{above_is}
+use Rattle.cover_problem.proofs.RemainingLemmas.{list_rises}
 use Rattle.cover_links.proofs.tests.second_option.Goals as goal
 
 pub next_option-requires : goal.next_option-requires

@@ -4,7 +4,7 @@ use Rattle.text_lines.specs.Lines.{words_of}
 use Rattle.text_lines.specs.Each.{each}
 use Rattle.text_lines.proofs.EachLemmas.{each_goes, each_stops, each_ends}
 use Rattle.cover_problem.specs.Validation.{add_name}
-use Rattle.cover_problem.proofs.ProblemLemmas.{passes_on}
+use Rattle.text_lines.proofs.ResultLemmas.{passes_on}
 use Rattle.cover_problem.proofs.draft.with_names.Goals as goal
 
 pub returns-in_err-take_name : goal.returns-in_err-take_name

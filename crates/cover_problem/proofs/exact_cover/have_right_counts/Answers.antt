@@ -1,6 +1,6 @@
 use Rattle.std.proofs.Common.{arith, sym, ◌∙◌, length}
 use Rattle.cover_problem.specs.CoverTest.{has_right_count}
-use Rattle.cover_problem.proofs.FairLemmas.{right_count_more}
+use Rattle.cover_problem.proofs.CoverTestLemmas.{right_count_more}
 use Rattle.cover_problem.proofs.exact_cover.have_right_counts.Goals as goal
 
 pub loop-item-preserved : goal.loop-item-preserved

@@ -1,7 +1,7 @@
 use Rattle.std.proofs.Common.{ℕ, Bool, true, false, ◌≡◌, cond, ap, ◌∙◌}
 use Rattle.cover_problem.specs.Lists.{has}
 use Rattle.cover_problem.specs.Problem.{option_at}
-use Rattle.cover_problem.proofs.FairLemmas.{count_more}
+use Rattle.cover_problem.proofs.CoverTestLemmas.{count_more}
 use Rattle.cover_problem.proofs.exact_cover.occurrences.Goals as goal
 use mir.Val.{bool_byte}
 

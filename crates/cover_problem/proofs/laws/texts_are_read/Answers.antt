@@ -1,4 +1,4 @@
-use Rattle.cover_problem.proofs.SaidLemmas.{read_is_text}
+use Rattle.cover_problem.proofs.TextLemmas.{read_is_text}
 use Rattle.cover_problem.proofs.GrammarLemmas.{text_again}
 use Rattle.cover_problem.proofs.laws.texts_are_read.Goals as goal
 

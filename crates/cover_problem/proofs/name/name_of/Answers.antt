@@ -1,6 +1,6 @@
 -- A name is text, so that this arm isn't reached.
 use Rattle.std.proofs.Common.{sym, ◌∙◌}
-use Rattle.cover_problem.proofs.ProblemLemmas.{name_is_text}
+use Rattle.cover_problem.proofs.NameLemmas.{name_is_text}
 use Rattle.cover_problem.proofs.name.name_of.Goals as goal
 
 pub returns-in-Err : goal.returns-in-Err

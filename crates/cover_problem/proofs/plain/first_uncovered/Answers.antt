@@ -1,6 +1,6 @@
 use Rattle.std.proofs.Common.{◌∙◌, ◌-◌, ◌==◌, sym, get_or, ne_eqb}
 use Rattle.cover_problem.specs.declared.plain.TheConstants.{NEVER}
-use Rattle.cover_problem.proofs.TableLemmas.{find_next}
+use Rattle.cover_problem.proofs.NumberLemmas.{find_next}
 use Rattle.cover_problem.proofs.plain.first_uncovered.Goals as goal
 
 pub loop-item-preserved : goal.loop-item-preserved

@@ -1,6 +1,6 @@
 use Rattle.std.proofs.Common.{◌<◌, ◌≤◌, ◌∙◌, sym, map, length}
 use Rattle.cover_problem.specs.Plain.{is_in}
-use Rattle.cover_problem.proofs.TableLemmas.{last_yes, last_no, all_front}
+use Rattle.cover_problem.proofs.WalkLemmas.{last_yes, last_no, all_front}
 use Rattle.cover_problem.proofs.plain.last_left.Goals as goal
 
 pub returns-then-is_in : goal.returns-then-is_in

@@ -1,6 +1,6 @@
 use Rattle.std.proofs.Common.{map}
 use Rattle.std.proofs.lemmas.List.{length-map}
-use Rattle.cover_problem.proofs.TableLemmas.{noted_more}
+use Rattle.cover_problem.proofs.HolderLemmas.{noted_more}
 use Rattle.cover_problem.proofs.plain.note.Goals as goal
 
 pub loop-item-preserved : goal.loop-item-preserved

@@ -1,7 +1,7 @@
 use Rattle.std.proofs.Common.{◌≡◌, ◌+◌, ◌∙◌, sym, ap, map, take, length, length-take-le, arith}
 use Rattle.std.proofs.lemmas.List.{length-map}
-use Rattle.cover_problem.proofs.ProblemLemmas.{map_more}
-use Rattle.cover_problem.proofs.TableLemmas.{holders_none, holders_push, option_of_all}
+use Rattle.cover_problem.proofs.MapLemmas.{map_more}
+use Rattle.cover_problem.proofs.HolderLemmas.{holders_none, holders_push, option_of_all}
 use Rattle.cover_problem.proofs.plain.note_all.Goals as goal
 
 pub loop-place-init : goal.loop-place-init

@@ -1,6 +1,7 @@
 use Rattle.std.proofs.Common.{rules, sym, nat_lt}
 use Rattle.std.proofs.lemmas.List.Sorted.{IsPartitionPoint-from_clause, IsPartitionedBy-ltb}
-use Rattle.cover_problem.proofs.TableLemmas.{rising, prefix_from_point}
+use Rattle.cover_problem.proofs.RisingLemmas.{rising}
+use Rattle.cover_problem.proofs.WalkLemmas.{prefix_from_point}
 use Rattle.cover_problem.proofs.plain.place_below.Goals as goal
 
 pub returns-clause-count : goal.returns-clause-count

@@ -1,5 +1,6 @@
 use Rattle.std.proofs.Common.{◌≡◌, ◌≤◌, ◌<◌, ◌∙◌, sym, map, length, true≢false, arith}
-use Rattle.cover_problem.proofs.ProblemLemmas.{too_long, place_is, held}
+use Rattle.cover_problem.proofs.NameLemmas.{too_long, place_is}
+use Rattle.cover_problem.proofs.ProblemLemmas.{held}
 use Rattle.cover_problem.proofs.problem.place_of.Goals as goal
 
 pub returns-in_err-key : goal.returns-in_err-key

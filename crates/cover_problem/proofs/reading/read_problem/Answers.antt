@@ -1,26 +1,38 @@
-use Rattle.std.proofs.Common.{◌≡◌, ◌∙◌, sym, nat_lt, true, false}
+use Rattle.std.proofs.Common.{◌≡◌, ◌∙◌, sym, subst, nat_lt, true, false}
 use Rattle.std.proofs.lemmas.Result.{err_from_is_err_and}
-use Rattle.cover_problem.proofs.ReadingLemmas.{text_refused, text_read, text_without_items}
-use Rattle.cover_problem.proofs.SaidLemmas.{lines_are}
+use Rattle.text_lines.specs.Lines.{lines_of}
+use Rattle.text_lines.specs.Answers.{IsFaultAt}
+use Rattle.text_lines.specs.Reading.{lines_read}
+use Rattle.text_lines.proofs.ReadingLemmas.{text_refused}
+use Rattle.cover_problem.specs.Problem.{ProblemValue}
+use Rattle.cover_problem.specs.Reading.{line, nothing, with_items, problem_of}
+use Rattle.cover_problem.proofs.TextLemmas.{lines_are, text_with_items, text_without_items}
 use Rattle.cover_problem.proofs.reading.read_problem.Goals as goal
 
 pub returns-in_err-draft : goal.returns-in_err-draft
+unfolding problem_of
 returns-in_err-draft c =
     let p = err_from_is_err_and c.from_residual.result c.from_residual.ensures.1 in
-    rw (p.1, p.2) (text_refused c.args.bytes.now c.in_err-draft.field-0.0 c.in_err-draft.ensures.refused)
+    let lines = lines_of c.args.bytes.now in
+    let r = c.in_err-draft.field-0.0 in
+    let h : IsFaultAt r (lines_read line nothing lines) = subst (λ (s : ProblemValue). IsFaultAt r (lines_read line s lines)) c.new.ensures c.in_err-draft.ensures.refused in
+    rw (p.1, p.2) (text_refused line nothing with_items lines r h)
 
 pub returns-then-not-has_items : goal.returns-then-not-has_items
 returns-then-not-has_items c =
     let none : nat_lt 0 c.in_ok-draft.draft.primary ≡ false = sym c.has_items.ensures ∙ c.if-not-has_items.true in
-    text_without_items c.args.bytes.now c.in_ok-draft.draft c.in_ok-draft.ensures.read.0 c.in_ok-draft.ensures.read.1 none
+    let read = rw c.new.ensures at c.in_ok-draft.ensures.read in
+    rw c.in_line.ensures (text_without_items c.args.bytes.now c.in_ok-draft.draft read.0 read.1 none)
 
 pub into_problem-requires : goal.into_problem-requires
 into_problem-requires c =
     let some : nat_lt 0 c.in_ok-draft.draft.primary ≡ true = sym c.has_items.ensures ∙ c.if-not-has_items.false in
-    let text = lines_are c.args.bytes.now c.in_ok-draft.draft c.in_ok-draft.ensures.read.0 c.in_ok-draft.ensures.read.1 some in
+    let read = rw c.new.ensures at c.in_ok-draft.ensures.read in
+    let text = lines_are c.args.bytes.now c.in_ok-draft.draft read.0 read.1 some in
     text.problem
 
 pub returns : goal.returns
 returns c =
     let some : nat_lt 0 c.in_ok-draft.draft.primary ≡ true = sym c.has_items.ensures ∙ c.if-not-has_items.false in
-    rw c.into_problem.ensures (text_read c.args.bytes.now c.in_ok-draft.draft c.in_ok-draft.ensures.read.0 c.in_ok-draft.ensures.read.1 some)
+    let read = rw c.new.ensures at c.in_ok-draft.ensures.read in
+    rw c.into_problem.ensures (text_with_items c.args.bytes.now c.in_ok-draft.draft read.0 read.1 some)

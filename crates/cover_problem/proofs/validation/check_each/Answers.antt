@@ -2,7 +2,8 @@ use Rattle.std.proofs.Common.{[], map, length}
 use Rattle.std.proofs.lemmas.Result.{err_from_is_err_and}
 use Rattle.text_lines.specs.Each.{each}
 use Rattle.cover_problem.specs.Validation.{add_option, option_from}
-use Rattle.cover_problem.proofs.ProblemLemmas.{options_go, options_stop, options_end, passes_on}
+use Rattle.text_lines.proofs.ResultLemmas.{passes_on}
+use Rattle.cover_problem.proofs.OptionLemmas.{options_go, options_stop, options_end}
 use Rattle.cover_problem.proofs.validation.check_each.Goals as goal
 
 pub returns-in_err-check_option : goal.returns-in_err-check_option

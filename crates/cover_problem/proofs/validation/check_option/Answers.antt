@@ -1,6 +1,6 @@
 use Rattle.std.proofs.Common.{length, arith, inl, inr}
 use Rattle.cover_problem.specs.Validation.{option_from}
-use Rattle.cover_problem.proofs.ProblemLemmas.{stops_unknown, stops_twice, takes_once, stamped, numbers_end}
+use Rattle.cover_problem.proofs.OptionLemmas.{stops_unknown, stops_twice, takes_once, stamped, numbers_end}
 use Rattle.cover_problem.proofs.validation.check_option.Goals as goal
 use Rattle.cover_problem.proofs.validation.check_option.Goals.{then-number-eq0-via-then-number-eq0, then-number-eq0-via-else-number-eq0+then-number-marks}
 

@@ -1,6 +1,6 @@
 use Rattle.std.proofs.Common.{sym, ◌∙◌}
 use Rattle.std.proofs.lemmas.Bool.{not-false, not-true}
-use Rattle.cover_problem.proofs.ProblemLemmas.{not_a_name, name_repeated, name_added}
+use Rattle.cover_problem.proofs.NameLemmas.{not_a_name, name_repeated, name_added}
 use Rattle.cover_problem.proofs.validation.take_name.Goals as goal
 
 pub returns-in_default : goal.returns-in_default

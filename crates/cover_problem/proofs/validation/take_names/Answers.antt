@@ -2,7 +2,8 @@ use Rattle.std.proofs.Common.{[], map, ◌∙◌, ap, sym, string_bytes}
 use Rattle.std.proofs.lemmas.Result.{err_from_is_err_and}
 use Rattle.text_lines.specs.Each.{each}
 use Rattle.cover_problem.specs.Validation.{add_name}
-use Rattle.cover_problem.proofs.ProblemLemmas.{mapped_goes, mapped_stops, mapped_ends, passes_on}
+use Rattle.text_lines.proofs.ResultLemmas.{passes_on}
+use Rattle.cover_problem.proofs.MapLemmas.{mapped_goes, mapped_stops, mapped_ends}
 use Rattle.cover_problem.proofs.validation.take_names.Goals as goal
 
 pub returns-in_err-take_name : goal.returns-in_err-take_name

@@ -1,6 +1,6 @@
 use Rattle.std.proofs.Common.{ℕ, List, [], ◌∷◌, ◌++◌, map, ap, ap₂, ◌∙◌}
 use Rattle.std.specs.String.{string_bytes}
-use Rattle.poly_texts.specs.Grammar.{cell_word}
+use Rattle.poly_cells.specs.CellWords.{cell_word}
 use Rattle.poly_place.proofs.CompiledLemmas.{names_are}
 use Rattle.poly_place.proofs.compiled.item_names.Goals as goal
 

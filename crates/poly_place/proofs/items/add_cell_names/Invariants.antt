@@ -1,6 +1,6 @@
 use Rattle.std.proofs.Common.{◌≡◌, ◌++◌, map, take}
 use Rattle.std.specs.String.{string_bytes}
-use Rattle.poly_texts.specs.Grammar.{cell_word}
+use Rattle.poly_cells.specs.CellWords.{cell_word}
 use Rattle.poly_place.proofs.items.add_cell_names.Given as goal
 
 -- the names of the cells so far are added

@@ -1,6 +1,6 @@
 use Rattle.std.proofs.Common.{arith, ◌==◌}
 use Rattle.std.specs.List.{before_first, after_first}
-use Rattle.cover_problem.proofs.CoveringLemmas.{can_parts}
+use Rattle.cover_problem.proofs.PathLemmas.{can_parts}
 use Rattle.x_steps.proofs.CoverEach.{place_within}
 use Rattle.x_steps.proofs.covering.cover_others.Goals as goal
 

@@ -1,6 +1,6 @@
 use Rattle.std.proofs.Common.{arith}
 use Rattle.std.proofs.lemmas.List.{map-append}
-use Rattle.cover_problem.proofs.CoveringLemmas.{active_rises, active_in}
+use Rattle.cover_problem.proofs.ActiveLemmas.{active_rises, active_in}
 use Rattle.x_steps.proofs.ListingLemmas.{rows_member, active_more, rows_all}
 use Rattle.x_steps.proofs.listing.active_items.Goals as goal
 

@@ -1,4 +1,4 @@
-use Rattle.cover_problem.proofs.CoveringLemmas.{list_rises}
+use Rattle.cover_problem.proofs.RemainingLemmas.{list_rises}
 use Rattle.x_steps.proofs.ListingLemmas.{lists_member, lists_more, lists_all}
 use Rattle.x_steps.proofs.listing.options_of.Goals as goal
 

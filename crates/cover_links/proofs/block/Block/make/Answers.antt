@@ -1,22 +1,22 @@
 use Rattle.std.proofs.Common.{◌≡◌, ℕ, suc, ◌+◌, ◌-◌, length, set, sym, ap, subst, ◌∙◌, arith, Some, List, Option}
 use Rattle.cover_links.specs.declared.entry.Entry.{Entry}
 use Rattle.cover_links.specs.Slots.{values, IsFull}
-use Rattle.cover_links.proofs.PlaceLemmas.{filled, filled_none, filled_one, filled_values, filled_full, filled_length}
+use Rattle.cover_links.proofs.FullRows.{filled, filled_none, filled_one, filled_values, filled_full, filled_length}
 use Rattle.cover_links.proofs.block.Block.make.Goals as goal
 
 pub loop-index-init : goal.loop-index-init
-loop-index-init c =
+loop-index-init g c =
     let e : c.args.len - 0 ≡ c.args.len = omega arith in
     record { places = c.in_ok-base.ensures.1 ∙ sym (filled_none c.args.len c.args.blank) ∙ ap (λ n. filled 0 n c.args.blank) (sym e); begin = c.in_ok-base.ensures.0 }
 
 pub put-requires : goal.put-requires
-put-requires c =
+put-requires g c =
     let i = c.loop-index.index in let s = c.loop-index.invariant in let lt = c.loop-index-test.true in
     let l = ap length s.places ∙ filled_length i (c.args.len - i) c.args.blank in
     (sym s.begin, omega (arith, l, lt))
 
 pub loop-index-preserved : goal.loop-index-preserved
-loop-index-preserved c =
+loop-index-preserved g c =
     let i = c.loop-index.index in let s = c.loop-index.invariant in let lt = c.loop-index-test.true in let n = c.args.len in let e = c.args.blank in
     let one : n - i ≡ suc (n - (i + 1)) = omega (arith, lt) in
     let next : suc i ≡ i + 1 = omega arith in
@@ -29,7 +29,7 @@ all_filled : (i n : ℕ) (e : Entry) (cs : List (Option Entry)) → cs ≡ fille
 all_filled i n e cs h same = let none : n - i ≡ 0 = omega arith in h ∙ ap (λ k. filled i k e) none ∙ ap (λ k. filled k 0 e) same
 
 pub invariant_of-result : goal.invariant_of-result
-invariant_of-result c =
+invariant_of-result g c =
     let i = c.loop-index.index in let s = c.loop-index.invariant in let n = c.args.len in let e = c.args.blank in let r = c.in_ok-base.ensures in
     let same : i ≡ n = omega (arith, c.loop-index-test.false, c.loop-index.auto.index-end) in
     let all = all_filled i n e c.loop-index.slots.slots s.places same in
@@ -37,7 +37,7 @@ invariant_of-result c =
     (s.begin, ap length all ∙ filled_length n 0 e ∙ none, r.2, r.3, r.4, subst IsFull (sym all) (filled_full n e))
 
 pub returns : goal.returns
-returns c =
+returns g c =
     let i = c.loop-index.index in let s = c.loop-index.invariant in let n = c.args.len in let e = c.args.blank in
     let same : i ≡ n = omega (arith, c.loop-index-test.false, c.loop-index.auto.index-end) in
     ap values (all_filled i n e c.loop-index.slots.slots s.places same) ∙ filled_values n e

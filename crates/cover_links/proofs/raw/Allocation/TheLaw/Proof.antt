@@ -8,11 +8,11 @@ use denote.Struct.Laws.{field_copy}
 use denote.Struct.Lending.{of_Lends, Lends-nothing}
 use Rattle.core.specs.declared.alloc.Allocator.{Ghosts}
 use Rattle.core.specs.contracts.marker.PhantomData as marker
-use Rattle.cover_links.specs.contracts.raw.Allocation as deed
+use Rattle.cover_links.specs.contracts.raw.Allocation as allocation
 use Rattle.cover_links.proofs.raw.Allocation.TheLaw.Statement.{statement}
 
 pub shares : (A : RattleType) (g : Ghosts A.Denot) (L : Laws A) → statement A g L
 shares A g L =
-    of_Lends (deed.struct A g) (deed.the_codes A.Denot A.coded (marker.the_row RawPtr).coded) (deed.the_heap A g) (deed.the_lent A g) (λ d p. nothing_shr_laws)
+    of_Lends (allocation.struct A g) (allocation.the_codes A.Denot A.coded (marker.the_row RawPtr).coded) (allocation.the_heap A g) (allocation.the_lent A g) (λ d p. nothing_shr_laws)
     (copy_shared (marker.the_field RawPtr) (field_copy (marker.the_type RawPtr) tt), tt)
-    (λ M 𝓤 𝓛 d p. Lends-nothing 𝓛 (deed.the_heap A g d) (deed.the_row A g).lives)
+    (λ M 𝓤 𝓛 d p. Lends-nothing 𝓛 (allocation.the_heap A g d) (allocation.the_row A g).lives)

@@ -1,6 +1,6 @@
 use denote.Param.Send.{IsSend}
-use Rattle.cover_links.proofs.Crossing.{cells_send}
+use Rattle.cover_links.proofs.SendParts.{slots_send}
 use Rattle.cover_links.specs.contracts.raw.Slots.{the_row}
 
 pub send : IsSend the_row
-send = cells_send
+send = slots_send

@@ -31,7 +31,7 @@ use Rattle.cover_links.specs.contracts.raw.Slots.{the_row as Row}
 use Rattle.cover_links.specs.contracts.raw.Base.{the_row as Start}
 use Rattle.cover_links.proofs.raw.Base.TheLaws as start
 use Rattle.cover_links.specs.Ownership.{entry_size, slot_lent, row_lent}
-use Rattle.cover_links.proofs.Places.{filled_within, place_seen}
+use Rattle.cover_links.proofs.SlotRows.{filled_within, place_seen}
 use Rattle.cover_links.specs.contracts.raw.Slots.get as f
 use Rattle.cover_links.proofs.raw.Slots.get.Statement.{statement}
 use Rattle.cover_links.proofs.raw.Slots.get.Code as code

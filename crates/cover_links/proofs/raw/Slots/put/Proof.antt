@@ -34,7 +34,7 @@ use Rattle.cover_links.specs.contracts.raw.Slots.{the_row as Row}
 use Rattle.cover_links.specs.contracts.raw.Base.{the_row as Start}
 use Rattle.cover_links.proofs.raw.Base.TheLaws as start
 use Rattle.cover_links.specs.Ownership.{entry_type, entry_size, slot_own, slots_own, row_own}
-use Rattle.cover_links.proofs.Places.{besides, place_out, place_in, to_room}
+use Rattle.cover_links.proofs.SlotRows.{besides, place_out, place_in, to_room}
 use Rattle.cover_links.specs.contracts.raw.Slots.put as f
 use Rattle.cover_links.proofs.raw.Slots.put.Statement.{statement}
 use Rattle.cover_links.proofs.raw.Slots.put.Code as code

@@ -4,7 +4,7 @@ use Rattle.cover_problem.specs.Problem.{option_at}
 use Rattle.cover_problem.specs.Table.{TableValue}
 use Rattle.cover_links.specs.declared.entry.Entry.{Entry}
 use Rattle.cover_links.specs.Layout.{node_index}
-use Rattle.cover_links.proofs.Standing.{top_at}
+use Rattle.cover_links.proofs.HidingLemmas.{top_at}
 use Rattle.std.proofs.lemmas.Bool.{cases_eq}
 use Rattle.cover_links.proofs.TableLemmas.{end_some, place_from, place_before, top_here, in_block, item_here}
 use Rattle.cover_links.proofs.table.LinkTable.node_of.Goals as goal

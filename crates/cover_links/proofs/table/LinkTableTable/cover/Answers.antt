@@ -1,9 +1,8 @@
-use Rattle.std.proofs.Common.{◌≡◌, ◌≤◌, false, length, sym, ap, ◌∙◌, subst, arith}
+use Rattle.std.proofs.Common.{◌≡◌, ◌≤◌, false, length, sym, ap, ◌∙◌, subst, arith, rules}
 use Rattle.cover_problem.specs.Lists.{has}
 use Rattle.cover_problem.specs.Table.{TableValue, IsCoveredList}
-use Rattle.std.proofs.Common.{rules}
 use Rattle.cover_problem.specs.Coverable.{IsUncovered}
-use Rattle.cover_problem.proofs.CoveringLemmas.{covered_room, covered_push}
+use Rattle.cover_problem.proofs.CoveredLemmas.{covered_room, covered_push}
 use Rattle.cover_links.specs.Hiding.{item_covered}
 use Rattle.cover_links.specs.Safety.{CanCoverItem}
 use Rattle.cover_links.specs.StandsFor.{block_of}

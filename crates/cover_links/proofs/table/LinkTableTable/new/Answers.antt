@@ -1,8 +1,7 @@
-use Rattle.std.proofs.Common.{◌≡◌, ℕ, List, [], sym, ◌∙◌, subst, arith}
+use Rattle.std.proofs.Common.{◌≡◌, ℕ, List, [], sym, ◌∙◌, subst, arith, vec_capacity}
 use Rattle.cover_problem.specs.Problem.{ProblemValue}
 use Rattle.cover_links.specs.Table.{IsTable}
-use Rattle.std.proofs.Common.{vec_capacity}
-use Rattle.cover_problem.proofs.CoveringLemmas.{covered_none}
+use Rattle.cover_problem.proofs.CoveredLemmas.{covered_none}
 use Rattle.cover_links.proofs.BlockLemmas.{block_none}
 use Rattle.cover_links.proofs.table.LinkTableTable.new.Goals as goal
 

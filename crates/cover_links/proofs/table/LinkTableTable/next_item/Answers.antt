@@ -5,7 +5,7 @@ use Rattle.cover_problem.specs.Table.{TableValue}
 use Rattle.cover_links.specs.declared.entry.Entry.{Entry}
 use Rattle.cover_links.specs.Table.{nonzero}
 use Rattle.cover_links.proofs.TableLemmas.{item_low, row_next, is_active}
-use Rattle.cover_problem.proofs.CoveringLemmas.{active_in}
+use Rattle.cover_problem.proofs.ActiveLemmas.{active_in}
 use Rattle.cover_links.proofs.table.LinkTableTable.next_item.Goals as goal
 
 pub read-requires : goal.read-requires

@@ -5,11 +5,11 @@ use Rattle.cover_problem.specs.Table.{TableValue}
 use Rattle.cover_links.specs.declared.entry.Entry.{Entry}
 use Rattle.cover_links.specs.Layout.{node_index}
 use Rattle.cover_links.specs.Table.{IsHeadOrNode}
-use Rattle.cover_links.proofs.TableLemmas.{is_shown, next_spot, linked_above}
-use Rattle.cover_links.proofs.Standing.{down_at}
-use Rattle.cover_problem.proofs.CoveringLemmas.{list_in, option_is}
+use Rattle.cover_links.proofs.TableLemmas.{is_shown, next_spot, linked_above, stands}
+use Rattle.cover_links.proofs.HidingLemmas.{down_at}
+use Rattle.cover_problem.proofs.RemainingLemmas.{list_in}
+use Rattle.cover_problem.proofs.ActiveLemmas.{option_is}
 use Rattle.cover_links.proofs.LayoutLemmas.{place_low}
-use Rattle.cover_links.proofs.TableLemmas.{stands}
 use Rattle.cover_links.proofs.table.LinkTableTable.next_option.Goals as goal
 
 pub node_of-here-requires : goal.node_of-here-requires

@@ -1,7 +1,6 @@
-use Rattle.std.proofs.Common.{◌≡◌, ℕ, ◌-◌, ◌≤◌, List, [], ◌∷◌, ◌++◌, length, sym, ap, ◌∙◌, subst, arith}
+use Rattle.std.proofs.Common.{◌≡◌, ℕ, ◌-◌, ◌≤◌, List, [], ◌∷◌, ◌++◌, length, sym, ap, ◌∙◌, subst, arith, rules, take, vec_len, length-append}
 use Rattle.cover_problem.specs.Table.{TableValue, IsCoveredList}
-use Rattle.cover_problem.proofs.CoveringLemmas.{covered_pop, covered_last}
-use Rattle.std.proofs.Common.{rules, take, vec_len, length-append}
+use Rattle.cover_problem.proofs.CoveredLemmas.{covered_pop, covered_last}
 use Rattle.cover_links.proofs.TableLemmas.{take_front}
 use Rattle.cover_links.specs.Hiding.{item_covered, item_uncovered}
 use Rattle.cover_links.specs.Safety.{CanUncoverItem}

@@ -1,7 +1,8 @@
 use Rattle.std.proofs.Common.{◌∙◌, lit<, arith}
 use Rattle.cover_problem.specs.declared.plain.TheConstants.{NEVER}
 use Rattle.cover_problem.specs.Plain.{was_in}
-use Rattle.cover_problem.proofs.TableLemmas.{holders_within, count_from, count_small}
+use Rattle.cover_problem.proofs.TableLemmas.{holders_within, count_from}
+use Rattle.cover_problem.proofs.HolderLemmas.{count_small}
 use Rattle.cover_problem.proofs.plain.PlainTableTable.len.Goals as goal
 
 pub count_in-requires : goal.count_in-requires

@@ -3,7 +3,7 @@ use Rattle.std.proofs.lemmas.List.Elements.{same_from_all_zip}
 use Rattle.std.specs.List.{list_all}
 use Rattle.cover_problem.specs.Problem.{is_option}
 use Rattle.cover_problem.specs.declared.plain.TheConstants.{NEVER}
-use Rattle.cover_problem.proofs.ProblemLemmas.{zip_map}
+use Rattle.cover_problem.proofs.MapLemmas.{zip_map}
 use Rattle.cover_problem.proofs.TableLemmas.{plain_new}
 use Rattle.cover_problem.proofs.plain.PlainTableTable.new.Goals as goal
 

@@ -1,5 +1,6 @@
 use Rattle.std.proofs.Common.{◌∙◌, lit<, arith}
-use Rattle.cover_problem.proofs.TableLemmas.{plain_at, walks, times_long, primary_within, active_in}
+use Rattle.cover_problem.proofs.TableLemmas.{plain_at, walks, times_long, primary_within}
+use Rattle.cover_problem.proofs.ActiveLemmas.{active_in}
 use Rattle.cover_problem.proofs.plain.PlainTableTable.next_item.Goals as goal
 
 pub first_uncovered-requires-clause-after : goal.first_uncovered-requires-clause-after

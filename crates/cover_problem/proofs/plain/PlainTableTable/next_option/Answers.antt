@@ -1,7 +1,9 @@
 use Rattle.std.proofs.Common.{◌<◌, ◌≤◌, ◌∙◌, length, lit<, arith}
 use Rattle.std.proofs.lemmas.List.Elements.{All-drop}
 use Rattle.cover_problem.specs.declared.plain.TheConstants.{NEVER}
-use Rattle.cover_problem.proofs.TableLemmas.{in_list, plain_at, rest_is, holders_rise, holders_within, next_from, few_options}
+use Rattle.cover_problem.proofs.TableLemmas.{in_list, plain_at, holders_rise, holders_within, next_from}
+use Rattle.cover_problem.proofs.WalkLemmas.{rest_is}
+use Rattle.cover_problem.proofs.HolderLemmas.{few_options}
 use Rattle.cover_problem.proofs.plain.PlainTableTable.next_option.Goals as goal
 
 pub row-time-requires-clause-some : goal.row-time-requires-clause-some

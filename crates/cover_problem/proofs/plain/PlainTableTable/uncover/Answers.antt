@@ -1,17 +1,18 @@
 use Rattle.std.proofs.Common.{◌∙◌, ap, vec_len, vec_capacity, arith}
-use Rattle.cover_problem.proofs.TableLemmas.{plain_at, popped, plain_uncovered, times_long, covered_pop}
+use Rattle.cover_problem.proofs.TableLemmas.{plain_at, popped, plain_uncovered, times_long}
+use Rattle.cover_problem.proofs.CoveredLemmas.{covered_last}
 use Rattle.cover_problem.proofs.plain.PlainTableTable.uncover.Goals as goal
 
 pub overflow_sub-item : goal.overflow_sub-item
-overflow_sub-item c = let h = plain_at c.self.view_is c.self.invariant in (covered_pop c.args.self.now.problem c.requires.0 c.args.item (rw c.requires.1 at h.distinct)).0
+overflow_sub-item c = let h = plain_at c.self.view_is c.self.invariant in (covered_last c.args.self.now.problem c.requires.0 c.args.item (rw c.requires.1 at h.distinct)).some
 
 pub index_mut-requires : goal.index_mut-requires
 index_mut-requires c =
     let h = plain_at c.self.view_is c.self.invariant in
-    let q = covered_pop c.args.self.now.problem c.requires.0 c.args.item (rw c.requires.1 at h.distinct) in
+    let q = covered_last c.args.self.now.problem c.requires.0 c.args.item (rw c.requires.1 at h.distinct) in
     let l = times_long h in
     let o = c.self.inside.times.ok.0 in
-    let a = q.0 in let b = q.1 in
+    let a = q.some in let b = q.within in
     omega arith
 
 pub invariant_of-self : goal.invariant_of-self

@@ -1,6 +1,6 @@
 use Rattle.std.proofs.Common.{ap}
 use Rattle.std.proofs.lemmas.List.Elements.{same_from_all_zip}
-use Rattle.cover_problem.proofs.ProblemLemmas.{zip_map}
+use Rattle.cover_problem.proofs.MapLemmas.{zip_map}
 use Rattle.cover_problem.proofs.problem.Problem.copy.Goals as goal
 
 pub invariant_of-result : goal.invariant_of-result

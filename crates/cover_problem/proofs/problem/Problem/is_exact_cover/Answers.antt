@@ -1,5 +1,5 @@
 use Rattle.std.proofs.Common.{sym, ◌∙◌}
-use Rattle.cover_problem.proofs.FairLemmas.{passes_is, passes_from}
+use Rattle.cover_problem.proofs.CoverTestLemmas.{passes_is, passes_from}
 use Rattle.cover_problem.proofs.problem.Problem.is_exact_cover.Goals as goal
 
 pub returns : goal.returns

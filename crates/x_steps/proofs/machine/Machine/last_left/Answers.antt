@@ -1,5 +1,5 @@
-use Rattle.x_steps.proofs.BackLemmas.{some_chosen, item_within, last_is}
-use Rattle.x_steps.proofs.MachineLemmas.{from_label, label_of}
+use Rattle.x_steps.proofs.BackLemmas.{item_within, last_is}
+use Rattle.x_steps.proofs.MachineLemmas.{from_label, label_of, some_chosen}
 use Rattle.x_steps.proofs.machine.Machine.last_left.Goals as goal
 
 pub last_covered-item-requires : goal.last_covered-item-requires

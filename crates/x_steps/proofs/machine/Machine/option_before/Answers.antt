@@ -1,5 +1,5 @@
-use Rattle.x_steps.proofs.BackLemmas.{some_chosen, list_has, below_is}
-use Rattle.x_steps.proofs.MachineLemmas.{from_label, label_of, cursor_in}
+use Rattle.x_steps.proofs.BackLemmas.{list_has, below_is}
+use Rattle.x_steps.proofs.MachineLemmas.{from_label, label_of, cursor_in, some_chosen}
 use Rattle.x_steps.proofs.machine.Machine.option_before.Goals as goal
 
 pub last_covered-item-requires : goal.last_covered-item-requires

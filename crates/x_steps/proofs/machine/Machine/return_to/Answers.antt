@@ -1,5 +1,5 @@
-use Rattle.x_steps.proofs.BackLemmas.{some_chosen, option_within, option_has, can_retake, to_open, to_retry, came_in, goes_back}
-use Rattle.x_steps.proofs.MachineLemmas.{from_label, label_of}
+use Rattle.x_steps.proofs.BackLemmas.{option_within, option_has, can_retake, to_open, to_retry, came_in, goes_back}
+use Rattle.x_steps.proofs.MachineLemmas.{from_label, label_of, some_chosen}
 use Rattle.x_steps.proofs.machine.Machine.return_to.Goals as goal
 
 pub last_covered-item-requires : goal.last_covered-item-requires

@@ -1,5 +1,5 @@
 use Rattle.std.proofs.Common.{arith}
-use Rattle.x_steps.proofs.MachineLemmas.{takes, some_covered, option_in, has_item, can_cover, room_left, from_label, to_state, label_of, cursor_in, goes}
+use Rattle.x_steps.proofs.MachineLemmas.{takes, some_chosen, option_in, has_item, can_cover, room_left, from_label, to_state, label_of, cursor_in, goes}
 use Rattle.x_steps.proofs.machine.Machine.take.Goals as goal
 
 pub last_covered-item-requires : goal.last_covered-item-requires
@@ -7,7 +7,7 @@ last_covered-item-requires g c =
     let at_label = label_of _ _ _ _ c.self.view_is c.requires.label in
     let at_cursor = cursor_in _ _ _ _ c.self.view_is c.requires.cursor in
     let here = from_label _ _ _ _ _ c.self.invariant _ at_label in
-    some_covered _ _ _ _ _ _ _ at_cursor here
+    some_chosen _ _ _ _ _ _ here
 
 pub option-requires-clause-some : goal.option-requires-clause-some
 option-requires-clause-some g c =

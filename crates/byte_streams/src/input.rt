@@ -1,0 +1,74 @@
+//! Reading the whole input, up to a limit.
+ghost use Rattle.std.specs.Prelude.{◌≡◌, ◌<◌, ◌≤◌, ◌+◌, ◌++◌, IfOk, IfErr, OnOk, IfSome, length, List, ℕ, vec_len};
+ghost use Rattle.std.specs.Io.KnownBytes.{Consumes, IsAtEnd};
+ghost use Rattle.byte_streams.specs.Stream.{IsSound};
+ghost use Rattle.byte_streams.specs.Input.{most_input, StopsReading};
+
+use crate::stream::Source;
+use std::alloc::{AllocError, Global};
+
+/// The most bytes that are read.
+const MOST_INPUT: usize = 134_217_728;
+
+/// How many bytes one read asks for.
+const CHUNK: usize = 65_536;
+
+/// Why the input was not read.
+#[derive(Clone, Copy, Debug, PartialEq, Eq)]
+pub enum InputFault {
+    /// A read failed.
+    Failed,
+    /// The input goes on past the limit.
+    PastLimit,
+    /// There is no memory for the input.
+    OutOfMemory,
+}
+
+/// So many zeros.
+fn zeros(alloc: Global, count: usize) -> Result<Vec<u8>, AllocError>
+    ensures { IfOk result (λ chunk. vec_len chunk ≡ count) }
+{
+    vec![in alloc; 0u8; count]
+}
+
+/// Reads once and appends what came; answers how many bytes came.
+fn read_some<S: Source>(
+    source: &mut S,
+    chunk: &mut [u8],
+    text: &mut Vec<u8>,
+) -> Result<usize, InputFault>
+    requires { 0 < length chunk.old }
+    ensures grown { IfOk result (λ count. vec_len text.new ≡ vec_len text.old + count) }
+    ensures read { OnOk result ((came : List ℕ) × (text.new.items ≡ text.old.items ++ came)
+        × Consumes (S.stream source.old).bytes (S.stream source.new).bytes came) }
+    ensures end { IfOk result (λ count. count ≡ 0 → IsAtEnd (S.stream source.new).bytes) }
+    ensures sound { OnOk result (IsSound (S.stream source.old) (S.stream source.new)) }
+    ensures fault { IfErr result (λ fault. StopsReading (S.stream source.old) (S.stream source.new) fault) }
+{
+    let Ok(count) = source.read(chunk) else {
+        return Err(InputFault::Failed);
+    };
+    if text.extend_from_slice(&chunk[..count]).is_err() {
+        return Err(InputFault::OutOfMemory);
+    }
+    Ok(count)
+}
+
+/// Reads to the end. No read that fails is tried again.
+pub fn read_whole<S: Source>(alloc: Global, source: &mut S) -> Result<Vec<u8>, InputFault>
+    ensures all { IfOk result (λ text. IfSome (S.stream source.old).bytes (λ bytes. text.items ≡ bytes)) }
+    ensures within { IfOk result (λ text. length text.items ≤ most_input) }
+    ensures sound { OnOk result (IsSound (S.stream source.old) (S.stream source.new)) }
+    ensures fault { IfErr result (λ fault. StopsReading (S.stream source.old) (S.stream source.new) fault) }
+{
+    let mut text = Vec::new(alloc);
+    let Ok(mut chunk) = zeros(alloc, CHUNK) else {
+        return Err(InputFault::OutOfMemory);
+    };
+    while text.len() <= MOST_INPUT {
+        if read_some(source, &mut chunk, &mut text)? == 0 {
+            return Ok(text);
+        }
+    }
+    Err(InputFault::PastLimit)
+}

@@ -1,0 +1,7 @@
+mod LineLemmas
+mod ZeroLemmas
+mod AccountLemmas
+mod SearchLemmas
+mod ListingLemmas
+mod EndingLemmas
+mod OutputExamples

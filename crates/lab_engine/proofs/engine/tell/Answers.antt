@@ -1,0 +1,5 @@
+use Rattle.lab_engine.proofs.EndingLemmas.{taken}
+use Rattle.lab_engine.proofs.engine.tell.Goals as goal
+
+pub returns : goal.returns
+returns g c = taken c.write_whole.result _ _ _ c.write_whole.ensures.all c.write_whole.ensures.part

@@ -1,0 +1,9 @@
+use Rattle.std.proofs.Common.{◌≡◌, vec_len}
+use Rattle.lab_engine.specs.Output.{without_last_zeros}
+use Rattle.lab_engine.proofs.report.drop_last_zeros.Given as goal
+
+abbrev pub invariant-loop-counts : goal.invariant-loop-counts
+invariant-loop-counts l = without_last_zeros l.counts.items ≡ without_last_zeros l.fn.counts.items
+
+abbrev pub decreases-loop-counts : goal.decreases-loop-counts
+decreases-loop-counts l = vec_len l.counts

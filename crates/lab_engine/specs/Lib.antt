@@ -1,0 +1,5 @@
+pub mod Account
+pub mod Output
+pub mod Outcome
+pub mod Listing
+pub mod Ending

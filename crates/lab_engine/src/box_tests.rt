@@ -1,0 +1,181 @@
+//! Pieces in boxes through `run`, with the counts that two other programs print.
+
+use crate::lines::push_word;
+use crate::tests::{cover, ends_with};
+use std::alloc::{AllocError, Global};
+use std::test::Fail;
+
+/// The coordinates wrap: what is below 0 lies in no box.
+type Cell = (u32, u32, u32);
+
+/// The cells of a box in order, each with a bit of its own, from the highest down.
+type Grid = Vec<(Cell, u64)>;
+
+/// A name, and cells as the digits of x, y and z.
+type Piece = (&'static str, &'static [u32]);
+
+const SOMA: [Piece; 7] = [
+    ("V", &[000, 001, 010]),
+    ("L", &[000, 001, 002, 010]),
+    ("T", &[000, 001, 002, 011]),
+    ("Z", &[000, 001, 011, 012]),
+    ("A", &[000, 001, 010, 101]),
+    ("B", &[000, 001, 010, 110]),
+    ("P", &[000, 001, 010, 100]),
+];
+
+const PENTOMINOES: [Piece; 12] = [
+    ("F", &[000, 010, 110, 120, 210]),
+    ("I", &[000, 100, 200, 300, 400]),
+    ("L", &[000, 010, 100, 200, 300]),
+    ("N", &[000, 100, 110, 210, 310]),
+    ("P", &[000, 010, 020, 100, 110]),
+    ("T", &[000, 010, 020, 110, 210]),
+    ("U", &[000, 010, 020, 100, 120]),
+    ("V", &[000, 010, 020, 100, 200]),
+    ("W", &[000, 010, 110, 120, 220]),
+    ("X", &[010, 100, 110, 120, 210]),
+    ("Y", &[000, 100, 110, 200, 300]),
+    ("Z", &[000, 010, 110, 210, 220]),
+];
+
+fn grid_of(alloc: Global, size: Cell) -> Result<Grid, AllocError> {
+    let mut grid = Vec::new(alloc);
+    let mut bit = 1u64 << 63;
+    for x in 0..size.0 {
+        for y in 0..size.1 {
+            for z in 0..size.2 {
+                grid.push(((x, y, z), bit))?;
+                bit /= 2;
+            }
+        }
+    }
+    Ok(grid)
+}
+
+fn cells_of(alloc: Global, digits: &[u32]) -> Result<Vec<Cell>, AllocError> {
+    let mut cells = Vec::new(alloc);
+    for cell in digits {
+        cells.push((*cell / 100, *cell / 10 % 10, *cell % 10))?;
+    }
+    Ok(cells)
+}
+
+/// Turns the cells about x, or about z.
+fn turn(cells: &mut [Cell], about_x: bool) {
+    for cell in cells.iter_mut() {
+        let (x, y, z) = *cell;
+        *cell = if about_x {
+            (x, 0u32.wrapping_sub(z), y)
+        } else {
+            (0u32.wrapping_sub(y), x, z)
+        };
+    }
+}
+
+/// The bits of the cells, moved so that the first comes to a place, if they are all in the grid.
+fn bits_at(grid: &[(Cell, u64)], cells: &[Cell], place: Cell) -> Option<u64> {
+    let first = cells.first()?;
+    let mut bits = 0;
+    for cell in cells {
+        let moved = (
+            cell.0.wrapping_sub(first.0).wrapping_add(place.0),
+            cell.1.wrapping_sub(first.1).wrapping_add(place.1),
+            cell.2.wrapping_sub(first.2).wrapping_add(place.2),
+        );
+        let (_, bit) = grid.iter().find(|spot| spot.0 == moved)?;
+        bits |= *bit;
+    }
+    Some(bits)
+}
+
+/// Where a piece fits, each place once. The 64 turns go through the 24 rotations.
+fn placements(alloc: Global, grid: &[(Cell, u64)], piece: &[u32]) -> Result<Vec<u64>, AllocError> {
+    let mut cells = cells_of(alloc, piece)?;
+    let mut found = Vec::new(alloc);
+    for turns in 1..65u32 {
+        for (place, _) in grid {
+            if let Some(bits) = bits_at(grid, &cells, *place) {
+                found.push(bits)?;
+            }
+        }
+        turn(&mut cells, false);
+        if turns % 4 == 0 {
+            turn(&mut cells, true);
+        }
+        if turns % 16 == 0 {
+            turn(&mut cells, false);
+        }
+    }
+    found.sort_unstable();
+    found.dedup();
+    Ok(found)
+}
+
+/// Appends a space and the three coordinates of a cell, from `0` to `9` and on from `a`.
+fn push_cell(text: &mut Vec<u8>, cell: &Cell) -> Result<(), AllocError> {
+    let digits = "0123456789abcdefghij";
+    let (x, y, z) = *cell;
+    text.push(b' ')?;
+    for coordinate in [x, y, z] {
+        let digit = digits.bytes().nth(coordinate as usize).unwrap_or(b'?');
+        text.push(digit)?;
+    }
+    Ok(())
+}
+
+/// Appends the cells with these bits.
+fn push_cells(text: &mut Vec<u8>, grid: &[(Cell, u64)], bits: u64) -> Result<(), AllocError> {
+    for (cell, bit) in grid {
+        if bits & *bit != 0 {
+            push_cell(text, cell)?;
+        }
+    }
+    Ok(())
+}
+
+/// The cover text: an item for each piece and each cell, and an option for each placement, the pieces in order and a piece's
+/// placements in the order of their cells.
+fn text_of(alloc: Global, size: Cell, pieces: &[Piece]) -> Result<Vec<u8>, AllocError> {
+    let grid = grid_of(alloc, size)?;
+    let mut text = Vec::from_slice(alloc, b"items")?;
+    for (name, _) in pieces {
+        push_word(&mut text, name)?;
+    }
+    push_cells(&mut text, &grid, u64::MAX)?;
+    for (name, piece) in pieces {
+        for bits in placements(alloc, &grid, piece)?.iter().rev() {
+            text.extend_from_slice(b"\noption")?;
+            push_word(&mut text, name)?;
+            push_cells(&mut text, &grid, *bits)?;
+        }
+    }
+    text.push(b'\n')?;
+    Ok(text)
+}
+
+#[test]
+fn packings_of_a_box_are_listed(rt: HostRuntime) -> Result<(), Fail> {
+    let rows: [(&[Piece], Cell, usize, &[u8]); 2] = [
+        (
+            &SOMA,
+            (3, 3, 3),
+            11_523,
+            b"\nvisits 11520\nsteps 1991327\nlevels 1 55 1089 10633 48900 110149 72329 11520\n",
+        ),
+        (
+            &PENTOMINOES,
+            (20, 3, 1),
+            11,
+            b"\nvisits 8\nsteps 263103\nlevels 1 18 170 360 801 2252 4790 9284 7726 5150 1968 364 8\n",
+        ),
+    ];
+    for (pieces, size, lines, end) in rows {
+        let text = text_of(rt.alloc(), size, pieces)?;
+        let done = cover(&rt, &text);
+        assert_eq!(rt; done.status, 0);
+        assert!(rt; ends_with(&done.output, lines, end));
+        assert!(rt; done.faults.is_empty());
+    }
+    Ok(())
+}

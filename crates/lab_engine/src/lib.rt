@@ -1,0 +1,20 @@
+//! What the program does with its input: the jobs, and one run from the bytes read to the bytes written.
+#![tactic(auto)]
+
+mod answer;
+mod count;
+mod engine;
+mod job;
+mod lines;
+mod report;
+mod search;
+
+pub use engine::run;
+pub use job::Job;
+
+#[cfg(test)]
+mod box_tests;
+#[cfg(test)]
+mod lockstep_tests;
+#[cfg(test)]
+mod tests;

@@ -1,0 +1,186 @@
+//! Problems drawn by a seed, stepped side by side on a plain table and on links.
+
+use crate::lines::push_word;
+use cover_links::LinkTable;
+use cover_problem::{PlainTable, Problem, Table, read_cover};
+use std::alloc::{AllocError, Global};
+use std::test::Fail;
+use x_steps::{Cursor, Event, Label, Machine, StepFault};
+
+const NAMES: [&str; 12] = ["a", "b", "c", "d", "e", "f", "g", "h", "i", "j", "k", "l"];
+
+/// The next number that is drawn, below 2^31.
+fn draw(seed: &mut u64) -> u32 {
+    *seed = seed
+        .wrapping_mul(6_364_136_223_846_793_005)
+        .wrapping_add(1_442_695_040_888_963_407);
+    (*seed >> 33) as u32
+}
+
+/// The bit of an item, from 0.
+fn bit(item: u32) -> u32 {
+    1u32.wrapping_shl(item)
+}
+
+/// A key, and the names of the items with these bits.
+fn push_line(text: &mut Vec<u8>, key: &[u8], items: u32) -> Result<(), AllocError> {
+    let mut rest = items;
+    text.extend_from_slice(key)?;
+    for name in NAMES {
+        if rest % 2 == 1 {
+            push_word(text, name)?;
+        }
+        rest /= 2;
+    }
+    text.push(b'\n')?;
+    Ok(())
+}
+
+/// The text of so many items, of which the first are primary, and so many options of one to five items.
+fn drawn(
+    alloc: Global,
+    seed: &mut u64,
+    items: u32,
+    primary: u32,
+    options: u32,
+) -> Result<Vec<u8>, AllocError> {
+    let first = bit(primary).wrapping_sub(1);
+    let mut text = Vec::new(alloc);
+    push_line(&mut text, b"items", first)?;
+    if primary < items {
+        push_line(&mut text, b"maybe", bit(items).wrapping_sub(1) & !first)?;
+    }
+    for _ in 0..options {
+        let mut option = 0;
+        for _ in 0..draw(seed) % 5 + 1 {
+            option |= bit(draw(seed).checked_rem(items).unwrap_or(0));
+        }
+        push_line(&mut text, b"option", option)?;
+    }
+    Ok(text)
+}
+
+/// What a machine tells of its state.
+#[derive(PartialEq, Eq, Drop)]
+struct Seen {
+    label: Label,
+    path: Vec<u32>,
+    cursor: Cursor,
+    covered: Vec<u32>,
+    remaining: Vec<(u32, Vec<u32>)>,
+    chosen: Option<(u32, Vec<u32>)>,
+    second: Vec<(u32, Vec<u32>)>,
+}
+
+fn look<T: Table>(alloc: Global, machine: &Machine<T>) -> Result<Seen, AllocError> {
+    let state = machine.state();
+    Ok(Seen {
+        label: state.label,
+        path: state.path.clone()?,
+        cursor: state.cursor,
+        covered: Vec::from_slice(alloc, machine.covered())?,
+        remaining: machine.remaining()?,
+        chosen: machine.chosen()?,
+        second: machine.second()?,
+    })
+}
+
+/// What was seen on a way, from state to state, what each step told, and the refusal at the end.
+#[derive(PartialEq, Eq, Drop)]
+struct Walk {
+    seen: Vec<Seen>,
+    events: Vec<Event>,
+    refused: Option<StepFault>,
+}
+
+/// Nothing seen yet.
+fn empty_walk(alloc: Global) -> Walk {
+    Walk {
+        seen: Vec::new(alloc),
+        events: Vec::new(alloc),
+        refused: None,
+    }
+}
+
+/// Steps on to the end.
+fn walk_on<T: Table>(alloc: Global, machine: &mut Machine<T>) -> Result<Walk, AllocError> {
+    let mut walk = empty_walk(alloc);
+    for _ in 0..100_000 {
+        walk.seen.push(look(alloc, machine)?)?;
+        match machine.step() {
+            Ok(event) => walk.events.push(event)?,
+            Err(fault) => {
+                walk.refused = Some(fault);
+                break;
+            }
+        }
+    }
+    Ok(walk)
+}
+
+/// Steps back to the start.
+fn walk_back<T: Table>(alloc: Global, machine: &mut Machine<T>) -> Result<Walk, AllocError> {
+    let mut walk = empty_walk(alloc);
+    for _ in 0..100_000 {
+        walk.seen.push(look(alloc, machine)?)?;
+        if let Err(fault) = machine.back() {
+            walk.refused = Some(fault);
+            break;
+        }
+    }
+    walk.seen.reverse();
+    Ok(walk)
+}
+
+/// The way of a machine with a table of this kind to the end, and back.
+fn walks<T: Table>(alloc: Global, problem: &Problem) -> Result<(Walk, Walk), AllocError> {
+    let table = T::new(alloc, problem)?;
+    let Ok(mut machine) = Machine::new(alloc, problem, table) else {
+        return Err(AllocError);
+    };
+    let on = walk_on(alloc, &mut machine)?;
+    let back = walk_back(alloc, &mut machine)?;
+    Ok((on, back))
+}
+
+/// How many steps a machine takes, if with either table it sees the same on its way to Done, and again on its way back to X1.
+fn steps_of_both(alloc: Global, problem: &Problem) -> Result<Option<usize>, AllocError> {
+    let pair = walks::<PlainTable>(alloc, problem)?;
+    let (on, back) = &pair;
+    let same = (on.seen == back.seen)
+        && on.refused == Some(StepFault::Done)
+        && back.refused == Some(StepFault::AtFirst)
+        && pair == walks::<LinkTable>(alloc, problem)?;
+    Ok(if same { Some(on.events.len()) } else { None })
+}
+
+// The steps were counted by another program, from the numbers of states and of visits.
+#[test]
+fn both_tables_make_the_same_steps(rt: HostRuntime) -> Result<(), Fail> {
+    let alloc = rt.alloc();
+    let mut seed = 1;
+    let mut steps = 0usize;
+    for round in 0..60u32 {
+        let items = round % 4 + 5;
+        let options = draw(&mut seed) % 13;
+        let text = drawn(alloc, &mut seed, items, items - round % 3, options)?;
+        let problem = read_cover(alloc, &text)?;
+        steps = steps.saturating_add(steps_of_both(alloc, &problem)?.unwrap_or(100_000));
+    }
+    assert_eq!(rt; steps, 1_628);
+    Ok(())
+}
+
+#[test]
+fn both_tables_make_the_same_steps_of_larger_problems(rt: HostRuntime) -> Result<(), Fail> {
+    let alloc = rt.alloc();
+    let mut seed = 4;
+    let mut steps = 0usize;
+    for primary in 9..13 {
+        let text = drawn(alloc, &mut seed, 12, primary, 30)?;
+        let problem = read_cover(alloc, &text)?;
+        steps = steps.saturating_add(steps_of_both(alloc, &problem)?.unwrap_or(100_000));
+    }
+    assert_eq!(rt; steps, 2_240);
+    Ok(())
+}

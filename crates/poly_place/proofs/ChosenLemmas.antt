@@ -1,0 +1,50 @@
+-- The packing that is made of an exact cover is one, and stands for it.
+use Rattle.std.proofs.Common.{◌≡◌, ℕ, ◌-◌, ◌<◌, ◌≤◌, List, [], ◌∷◌, ◌++◌, map, get_or, length, Bool, true, refl, sym, ap, subst, ◌∙◌, nat_cmp, IsPermutation, IsSorted}
+use Rattle.std.specs.List.{dedup}
+use Rattle.std.proofs.lemmas.Map.Lookups.{exact_unsigned}
+use Rattle.std.proofs.lemmas.List.{map-id}
+use Rattle.std.proofs.lemmas.Cmp.{nat_cmp_total}
+use Rattle.std.specs.Ordering.{eq_by_cmp}
+use Rattle.poly_cells.specs.Sets.{IsIn, IsExact, in_order}
+use Rattle.poly_cells.proofs.SetLemmas.{in_map, in_from_map, in_from_order, in_to_order, in_at}
+use Rattle.poly_cells.proofs.SortLemmas.{after_sort}
+use Rattle.poly_texts.specs.Puzzle.{PuzzleValue, IsPuzzle}
+use Rattle.cover_problem.specs.Lists.{has}
+use Rattle.cover_problem.specs.ExactCover.{IsExactCover}
+use Rattle.poly_place.specs.Packings.{ChoiceValue, choice, IsPacking, StandsFor, choices, choice_at, packing_problem}
+use Rattle.poly_place.specs.Chosen.{same_choice, is_among, AreNumbered, chosen_by}
+use Rattle.poly_place.proofs.DistinctLemmas.{some_passes, passes_some, in_from_name, name_from_in}
+use Rattle.poly_place.proofs.PackingLemmas.{same_choice_is, same_choice_itself, count_back, are_packings}
+
+pub nat_exact : IsExact nat_cmp
+nat_exact m n h = exact_unsigned m n h
+
+pub cover_stands : (p : PuzzleValue) (path : List ℕ) → IsExactCover (packing_problem p) (has path) → StandsFor p (has path) (is_among (chosen_by p path))
+cover_stands p path e = record {
+  forth = λ o h.
+      let at = e.options o h in
+      let here = in_map (choice_at p) o (in_order nat_cmp path) (in_to_order nat_exact o path (in_from_name path o h)) in
+      (at.0, count_back p o at.1, passes_some (same_choice (choice_at p o)) (choice_at p o) (chosen_by p path) here (same_choice_itself (choice_at p o)));
+  back = λ c h.
+      let d = some_passes (same_choice c) (chosen_by p path) h in
+      let o = in_from_map (choice_at p) d.0 (in_order nat_cmp path) d.1 in
+      (o.0, name_from_in path o.0 (in_from_order nat_cmp o.0 path o.1), sym o.2 ∙ sym (same_choice_is c d.0 d.2));
+}
+
+pub cover_packs : (p : PuzzleValue) → IsPuzzle p → (path : List ℕ) → IsExactCover (packing_problem p) (has path) → IsPacking p (is_among (chosen_by p path))
+cover_packs p z path e = (are_packings p z).packs (has path) (is_among (chosen_by p path)) (cover_stands p path e) e
+
+-- ---- the numbers in order
+
+pub numbers_sorted : (E : ℕ → ℕ → Bool) → ((a b : ℕ) → E a b ≡ eq_by_cmp nat_cmp a b) → (xs ys zs : List ℕ) → IsPermutation xs ys → IsSorted nat_cmp ys → zs ≡ dedup E ys → zs ≡ in_order nat_cmp xs
+numbers_sorted E ties xs ys zs p sorted is =
+    sym (map-id zs) ∙ after_sort (λ (n : ℕ). n) nat_cmp_total nat_exact E ties xs ys zs p sorted is ∙ ap (in_order nat_cmp) (map-id xs)
+
+-- each of them numbers a choice
+pub numbered : (p : PuzzleValue) (path numbers : List ℕ) (cs : List ChoiceValue) → IsExactCover (packing_problem p) (has path) → numbers ≡ in_order nat_cmp path → cs ≡ choices p
+    → AreNumbered cs numbers
+numbered p path numbers cs e is all i lt =
+    let o = get_or numbers i 0 in
+    let here : IsIn o (in_order nat_cmp path) = subst (λ (ns : List ℕ). IsIn o ns) is (in_at numbers i 0 lt) in
+    let low = e.options o (name_from_in path o (in_from_order nat_cmp o path here)) in
+    (low.0, subst (λ (ds : List ChoiceValue). o ≤ length ds) (sym all) (count_back p o low.1))

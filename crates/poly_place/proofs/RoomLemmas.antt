@@ -1,0 +1,72 @@
+-- Counting the choices of a puzzle, piece by piece, up to the limits.
+use Rattle.std.proofs.Common.{◌≡◌, ℕ, ◌+◌, ◌<◌, ◌≤◌, List, ◌++◌, length, get_or, Bool, true, false, ◌&&◌, nat_le, ◌⊎◌, inl, inr, refl, sym, ap, ◌∙◌, arith}
+use Rattle.std.proofs.lemmas.Bool.{and_parts, and_from}
+use Rattle.poly_cells.specs.Coordinates.{Coordinates}
+use Rattle.poly_texts.specs.Puzzle.{PuzzleValue, IsPuzzle}
+use Rattle.cover_problem.specs.declared.limits.TheConstants.{MOST_OPTIONS, MOST_ENTRIES}
+use Rattle.cover_problem.specs.Problem.{is_small}
+use Rattle.poly_place.specs.Packings.{ChoiceValue, choices_of, choices, things, packing_problem}
+use Rattle.poly_place.specs.Compiled.{entries_of, is_within}
+use Rattle.poly_place.proofs.TestLemmas.{le_true, true_le}
+use Rattle.poly_place.proofs.ThingLemmas.{bool_cases}
+use Rattle.poly_place.proofs.CountLemmas.{long_append}
+use Rattle.poly_place.proofs.OptionLemmas.{choices_before, choices_next, choices_all, entries_append, no_room_before}
+use Rattle.poly_place.proofs.CompiledLemmas.{small_is}
+
+-- the choices of the first k pieces are counted with their entries, and there is room for them
+pub record IsCounted (p : PuzzleValue) (pieces : List (ℕ × List Coordinates)) (k items options entries : ℕ) : Type 0 where
+  pub count : options ≡ length (choices_before p pieces k)
+  pub sum : entries ≡ items + entries_of (choices_before p pieces k) + 2
+  pub few : options ≤ MOST_OPTIONS
+  pub low : entries ≤ MOST_ENTRIES
+
+module _ (p : PuzzleValue) (pieces : List (ℕ × List Coordinates)) (k items options entries : ℕ) (s : IsCounted p pieces k items options entries) (q : ℕ × List Coordinates) (lt : k < length pieces)
+    (is : q ≡ get_or pieces k q) (cs : List ChoiceValue) (n e : ℕ) (new : cs ≡ choices_of p q) (many : n ≡ length cs) (exact : e ≤ MOST_ENTRIES → e ≡ entries + entries_of cs) where
+  next : choices_before p pieces (k + 1) ≡ choices_before p pieces k ++ cs
+  next = choices_next p pieces k q lt is ∙ ap (λ (ds : List ChoiceValue). choices_before p pieces k ++ ds) (sym new)
+
+  long : length (choices_before p pieces (k + 1)) ≡ options + n
+  long = let l = long_append (choices_before p pieces k) cs in let a = ap length next in let c = s.count in omega (arith, l, a, c, many)
+
+  whole : items + entries_of (choices_before p pieces (k + 1)) + 2 ≡ entries + entries_of cs
+  whole =
+      let l = entries_append (choices_before p pieces k) cs in
+      let a = ap entries_of next in
+      let c = s.sum in
+      omega (arith, l, a, c)
+
+  pub counted_next : options + n ≤ MOST_OPTIONS → e ≤ MOST_ENTRIES → IsCounted p pieces (k + 1) items (options + n) e
+  counted_next few low = record { count = sym long; sum = exact low ∙ sym whole; few = few; low = low }
+
+  -- past a limit the problem of the puzzle is too large
+  pub counted_past : pieces ≡ p.pieces → items ≡ length (things p) → items ≤ 8316 → (entries + entries_of cs ≤ MOST_ENTRIES → e ≤ MOST_ENTRIES)
+      → (MOST_OPTIONS < options + n) ⊎ (MOST_ENTRIES < e) → false ≡ is_small (packing_problem p)
+  counted_past same all few within past =
+      sym (small_is p (omega (arith, all, few)) ∙ ap (λ (m : ℕ). is_within m (choices p)) (sym all) ∙ no_room_before p items pieces (k + 1) same no_room)
+    where
+      no_room : is_within items (choices_before p pieces (k + 1)) ≡ false
+      no_room =
+          elim (bool_cases (is_within items (choices_before p pieces (k + 1)))) [
+            | inl t ↦
+                let parts = and_parts (nat_le (length (choices_before p pieces (k + 1))) MOST_OPTIONS) (nat_le (items + entries_of (choices_before p pieces (k + 1)) + 2) MOST_ENTRIES) t in
+                let a = le_true (length (choices_before p pieces (k + 1))) MOST_OPTIONS parts.0 in
+                let b = le_true (items + entries_of (choices_before p pieces (k + 1)) + 2) MOST_ENTRIES parts.1 in
+                let l = long in
+                let w = whole in
+                elim past [ inl h ↦ absurd (omega (arith, a, l, h)) | inr h ↦ let c = within (omega (arith, b, w)) in absurd (omega (arith, c, h)) ]
+            | inr f ↦ f
+          ]
+
+-- once all are counted, the problem of the puzzle is small
+pub counted_all : (p : PuzzleValue) (pieces : List (ℕ × List Coordinates)) (k items options entries : ℕ) → IsCounted p pieces k items options entries → choices_before p pieces k ≡ choices p
+    → items ≡ length (things p) → items ≤ 8316 → true ≡ is_small (packing_problem p)
+counted_all p pieces k items options entries s end all few =
+    let count = s.count in
+    let sum = s.sum in
+    let low = s.low in
+    let most = s.few in
+    let a = ap length end in
+    let b = ap entries_of end in
+    sym (small_is p (omega (arith, all, few))
+    ∙ and_from (nat_le (length (choices p)) MOST_OPTIONS) (nat_le (length (things p) + entries_of (choices p) + 2) MOST_ENTRIES) (true_le (length (choices p)) MOST_OPTIONS (omega (arith, count, most, a)))
+    (true_le (length (things p) + entries_of (choices p) + 2) MOST_ENTRIES (omega (arith, sum, low, b, all))))

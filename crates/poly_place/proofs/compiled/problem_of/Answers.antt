@@ -1,0 +1,38 @@
+use Rattle.std.proofs.Common.{◌≡◌, ap, sym, ◌+◌, ◌∙◌, arith, length, map, vec_items}
+use Rattle.std.specs.String.{string_bytes}
+use Rattle.poly_place.proofs.CountLemmas.{are_few, needed_count}
+use Rattle.poly_place.proofs.CompiledLemmas.{AreParts, parts_make, not_faulty}
+use Rattle.poly_place.proofs.compiled.problem_of.Goals as goal
+use Rattle.poly_place.proofs.compiled.problem_of.Goals.{After-new}
+
+-- the parts of the problem
+parts : (c : After-new) → AreParts c.args.puzzle.now (map string_bytes c.in_ok-names.names.items) (length c.args.pieces.now + length c.args.cells.now) (map vec_items c.in_ok-options.options.items)
+parts c = record {
+  names_are = c.in_ok-names.ensures;
+  primary_is =
+      let count = needed_count c.args.puzzle.now in
+      let a = ap length c.requires.pieces in
+      let b = ap length c.requires.cells in
+      omega (arith, count, a, b);
+  options_are = c.in_ok-options.ensures;
+}
+
+pub overflow_cast-primary : goal.overflow_cast-primary
+overflow_cast-primary c =
+    let few = are_few c.args.puzzle.now c.requires.puzzle in
+    let pieces = few.pieces in
+    let cells = few.cells in
+    let a = ap length c.requires.pieces in
+    let b = ap length c.requires.cells in
+    omega (arith, pieces, cells, a, b)
+
+pub returns-in-Ok : goal.returns-in-Ok
+returns-in-Ok c =
+    let m = parts_make c.args.puzzle.now c.requires.puzzle _ _ _ (parts (goal.at.returns-in-Ok c).After-new) c.requires.small in
+    let given = c.in-Ok.ensures.made in
+    cc
+
+pub unreachable-requires : goal.unreachable-requires
+unreachable-requires c =
+    let m = parts_make c.args.puzzle.now c.requires.puzzle _ _ _ (parts (goal.at.unreachable-requires c).After-new) c.requires.small in
+    not_faulty _ c.in-Fault.field-0 _ _ m c.in-Fault.is c.in-Err.ensures.refused

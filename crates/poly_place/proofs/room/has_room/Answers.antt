@@ -1,0 +1,75 @@
+use Rattle.std.proofs.Common.{◌≡◌, ◌≤◌, ◌+◌, ℕ, List, ap, sym, subst, ◌∙◌, arith, option_map, take, take_all, ◌++◌, length, false, true, refl, inl, inr}
+use Rattle.std.specs.Map.Iter.{deref_pair}
+use Rattle.poly_cells.specs.Coordinates.{Coordinates}
+use Rattle.poly_cells.specs.Sets.{IsIn}
+use Rattle.poly_cells.proofs.SetLemmas.{in_map}
+use Rattle.poly_place.proofs.CountLemmas.{IsEntry, entry_is, are_few, things_count, needed_count}
+use Rattle.poly_place.proofs.OptionLemmas.{choices_all}
+use Rattle.poly_place.proofs.RoomLemmas.{counted_next, counted_past, counted_all}
+use Rattle.poly_place.specs.Packings.{ChoiceValue, choices_of}
+use Rattle.std.specs.List.{flat_map}
+use Rattle.poly_place.proofs.room.has_room.Goals as goal
+use Rattle.poly_place.proofs.room.has_room.Goals.{After-unwrap, After-as_slice, After-pieces-pieces}
+
+-- the piece at hand
+entry : (c : After-unwrap) → IsEntry c.pieces-pieces.result.now.entries c.loop-k.k c.unwrap.result.0.now c.unwrap.result.1.now
+entry c = entry_is c.pieces-pieces.result.now.entries c.loop-k.k _ _ (sym c.get_index.ensures.entry ∙ ap (option_map deref_pair) c.unwrap.ensures)
+
+pub add_choices-requires-clause-member : goal.add_choices-requires-clause-member
+add_choices-requires-clause-member c =
+    let e = entry (goal.at.add_choices-requires-clause-member c).After-unwrap in
+    in_map (λ (q : ℕ × List Coordinates). q.0) (c.unwrap.result.0.now, c.unwrap.result.1.now) c.args.puzzle.now.pieces
+    (subst (λ (qs : List (ℕ × List Coordinates)). IsIn (c.unwrap.result.0.now, c.unwrap.result.1.now) qs) c.pieces-pieces.ensures.value e.member)
+
+-- the choices that are added are those of the piece
+chosen : (c : After-as_slice) → c.as_slice.result.now ≡ choices_of c.args.puzzle.now (c.unwrap.result.0.now, c.unwrap.result.1.now)
+chosen c = c.as_slice.ensures.value ∙ c.in_ok-add_choices.ensures ∙ ap (λ (cs : List ChoiceValue). cs ++ choices_of c.args.puzzle.now (c.unwrap.result.0.now, c.unwrap.result.1.now)) c.new-choices.ensures.items
+
+counted : (c : After-as_slice) → c.len-options.result ≡ length c.as_slice.result.now
+counted c = c.len-options.ensures ∙ sym c.as_slice.ensures.len
+
+-- how many things there are
+few : (c : After-pieces-pieces) → c.args.items ≤ 8316
+few c =
+    let all = things_count c.args.puzzle.now in
+    let count = needed_count c.args.puzzle.now in
+    let many = are_few c.args.puzzle.now c.pieces-pieces.ensures.puzzle in
+    let pieces = many.pieces in
+    let cells = many.cells in
+    let maybe = many.maybe_pieces in
+    let empty = many.maybe_cells in
+    let is = c.requires.items in
+    omega (arith, all, count, pieces, cells, maybe, empty, is)
+
+pub overflow_add-entries : goal.overflow_add-entries
+overflow_add-entries c = let low = few (goal.at.overflow_add-entries c).After-pieces-pieces in omega (arith, low)
+
+pub loop-k-init : goal.loop-k-init
+loop-k-init c =
+    let low = few (goal.at.loop-k-init c).After-pieces-pieces in
+    record { count = refl; sum = omega arith; few = omega arith; low = omega (arith, low) }
+
+pub returns-then-options-gt-MOST_OPTIONS : goal.returns-then-options-gt-MOST_OPTIONS
+returns-then-options-gt-MOST_OPTIONS c =
+    let at = goal.at.returns-then-options-gt-MOST_OPTIONS c in
+    let here = entry at.After-unwrap in
+    counted_past c.args.puzzle.now c.pieces-pieces.result.now.entries c.loop-k.k c.args.items c.loop-k.options c.loop-k.entries c.loop-k.invariant (c.unwrap.result.0.now, c.unwrap.result.1.now) here.low here.at
+    c.as_slice.result.now c.len-options.result c.entries_with-entries.result (chosen at.After-as_slice) (counted at.After-as_slice) c.entries_with-entries.ensures.exact c.pieces-pieces.ensures.value
+    c.requires.items (few at.After-pieces-pieces) c.entries_with-entries.ensures.past
+    (elim c.then-options-gt-MOST_OPTIONS.either [ inl h ↦ inl h | inr h ↦ inr h.1 ])
+
+pub loop-k-preserved : goal.loop-k-preserved
+loop-k-preserved c =
+    let at = goal.at.loop-k-preserved c in
+    let here = entry at.After-unwrap in
+    counted_next c.args.puzzle.now c.pieces-pieces.result.now.entries c.loop-k.k c.args.items c.loop-k.options c.loop-k.entries c.loop-k.invariant (c.unwrap.result.0.now, c.unwrap.result.1.now) here.low here.at
+    c.as_slice.result.now c.len-options.result c.entries_with-entries.result (chosen at.After-as_slice) (counted at.After-as_slice) c.entries_with-entries.ensures.exact
+    c.if-options-gt-MOST_OPTIONS.false c.if-entries-gt-MOST_ENTRIES.false
+
+pub returns : goal.returns
+returns c =
+    let at = goal.at.returns c in
+    let all : take c.loop-k.k c.pieces-pieces.result.now.entries ≡ c.args.puzzle.now.pieces =
+    take_all c.loop-k.k c.pieces-pieces.result.now.entries (omega (arith, c.loop-k-test.false, c.len-k-end.ensures.len)) ∙ c.pieces-pieces.ensures.value in
+    counted_all c.args.puzzle.now c.pieces-pieces.result.now.entries c.loop-k.k c.args.items c.loop-k.options c.loop-k.entries c.loop-k.invariant
+    (ap (flat_map (choices_of c.args.puzzle.now)) all ∙ choices_all c.args.puzzle.now) c.requires.items (few at.After-pieces-pieces)

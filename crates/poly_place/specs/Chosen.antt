@@ -1,0 +1,42 @@
+-- The packing for which an exact cover of a puzzle's problem stands, as a value: what is shown of it.
+--
+-- Example: in the puzzle of the pieces A and B of one cell each and the region 0 0 0, 1 0 0 the options 3 2 stand for A at 1 0 0
+-- and B at 0 0 0 (proofs/PackingExamples.antt).
+use Rattle.std.specs.Prelude.{ℕ, ◌-◌, ◌<◌, ◌≤◌, ◌==◌, Bool, ◌&&◌, List, [], map, length, slice_index, slice_index_or, EachIndex}
+use Rattle.std.specs.List.{list_any}
+use Rattle.std.specs.Ordering.{is_eq, nat_cmp}
+use Rattle.poly_cells.specs.Coordinates.{Coordinates}
+use Rattle.poly_cells.specs.Sets.{in_order}
+use Rattle.poly_texts.specs.Puzzle.{PuzzleValue}
+use Rattle.poly_place.specs.Placements.{cells_cmp}
+use Rattle.poly_place.specs.Packings.{ChoiceValue, choice, choice_at}
+
+-- a packing: the region, the cells of it that may stay empty, and a placement for each piece that is used
+pub record PackingValue : Type 0 where
+  pub region : List Coordinates
+  pub maybe_cells : List Coordinates
+  pub placements : List ChoiceValue
+
+-- whether two choices are the same
+abbrev pub same_choice : ChoiceValue → ChoiceValue → Bool
+same_choice c d = (c.name == d.name) && is_eq (cells_cmp c.cells d.cells)
+
+-- whether the choice is one of these
+abbrev pub is_among : List ChoiceValue → ChoiceValue → Bool
+is_among cs c = list_any (same_choice c) cs
+
+-- the choice numbered o, from 1 on
+abbrev pub choice_numbered : List ChoiceValue → ℕ → ChoiceValue
+choice_numbered cs o = slice_index_or cs (o - 1) (choice 0 [])
+
+-- each of these numbers one of the choices
+abbrev pub AreNumbered : List ChoiceValue → List ℕ → Type 0
+AreNumbered cs numbers = EachIndex numbers (λ i. (0 < slice_index numbers i) × (slice_index numbers i ≤ length cs))
+
+-- the choices for which these options stand, in the order of the options, which is that of the pieces
+abbrev pub chosen_by : PuzzleValue → List ℕ → List ChoiceValue
+chosen_by p path = map (choice_at p) (in_order nat_cmp path)
+
+-- the packing for which these options stand
+abbrev pub packing_value : PuzzleValue → List ℕ → PackingValue
+packing_value p path = record { region = p.region; maybe_cells = p.maybe_cells; placements = chosen_by p path }

@@ -1,0 +1,67 @@
+-- How a packing is shown in layers of text: a line for each y, in it a word for each z, and in that a symbol for each x, all over
+-- the bounding box of the region.
+--
+-- Example: the piece A at 0 0 0 and 1 0 0 in the region 0 0 0, 1 0 0, 2 0 0, whose last cell may stay empty, is the line `AA_`
+-- (proofs/LayerExamples.antt).
+use Rattle.std.specs.Prelude.{ℕ, ◌+◌, ◌-◌, ◌<◌, ◌≡◌, max, if◌then◌else◌, List, [], ◌∷◌, map, find, option_map, unwrap_or, length, slice_index}
+use Rattle.std.specs.List.{range_with_len}
+use Rattle.text_lines.specs.Writing.{text_of}
+use Rattle.poly_cells.specs.Coordinates.{Coordinates, coordinates, IsInGrid}
+use Rattle.poly_cells.specs.Shapes.{corner}
+use Rattle.poly_cells.specs.CellTests.{has_cell}
+use Rattle.poly_place.specs.Packings.{ChoiceValue}
+use Rattle.poly_place.specs.Chosen.{PackingValue}
+use Rattle.poly_place.specs.Tables.{bit_index}
+
+-- the greatest of a coordinate, and 0 where there is no cell
+abbrev pub greatest : (Coordinates → ℕ) → List Coordinates → ℕ
+greatest part [] = 0
+greatest part (v ∷ vs) = max (part v) (greatest part vs)
+
+-- the greatest x, the greatest y and the greatest z
+abbrev pub far_corner : List Coordinates → Coordinates
+far_corner vs = coordinates (greatest (λ v. v.x) vs) (greatest (λ v. v.y) vs) (greatest (λ v. v.z) vs)
+
+-- the numbers from a to b
+abbrev pub from_to : ℕ → ℕ → List ℕ
+from_to a b = range_with_len a (b + 1 - a)
+
+-- the name of the piece that has the cell, or what shows the cell where none has it
+abbrev pub symbol_over : List ChoiceValue → (Coordinates → ℕ) → Coordinates → ℕ
+symbol_over cs ground v = unwrap_or (option_map (λ c. c.name) (find (λ c. has_cell c.cells v) cs)) (ground v)
+
+-- what shows a cell that no piece has: `_` in the region, and `.` outside
+abbrev pub ground : List Coordinates → Coordinates → ℕ
+ground region v = if has_cell region v then 95 else 46
+
+-- what shows a cell
+abbrev pub symbol_at : PackingValue → Coordinates → ℕ
+symbol_at q v = symbol_over q.placements (ground q.region) v
+
+-- the symbols of the cells with this y and z, in the box from one corner to the other
+abbrev pub row : (Coordinates → ℕ) → Coordinates → Coordinates → ℕ → ℕ → List ℕ
+row symbol low high y z = map (λ x. symbol (coordinates x y z)) (from_to low.x high.x)
+
+-- the words of the line for y
+abbrev pub layer_words : (Coordinates → ℕ) → Coordinates → Coordinates → ℕ → List (List ℕ)
+layer_words symbol low high y = map (row symbol low high y) (from_to low.z high.z)
+
+-- the lines for each y
+abbrev pub layer_lines : (Coordinates → ℕ) → Coordinates → Coordinates → List (List (List ℕ))
+layer_lines symbol low high = map (layer_words symbol low high) (from_to low.y high.y)
+
+-- the layers
+unfoldable pub layers : PackingValue → List ℕ
+layers q = text_of (layer_lines (symbol_at q) (corner q.region) (far_corner q.region))
+
+-- ---- a table of symbols
+
+-- the table shows each cell by its symbol, which is an ASCII byte
+pub record AreSymbols (symbol : Coordinates → ℕ) (table : List ℕ) : Type 0 where
+  pub long : length table ≡ 32768
+  pub shows : (v : Coordinates) → IsInGrid v → slice_index table (bit_index v) ≡ symbol v
+  pub ascii : (i : ℕ) → slice_index table i < 128
+
+-- the symbols, once these cells are shown by one
+abbrev pub painted : (Coordinates → ℕ) → List Coordinates → ℕ → Coordinates → ℕ
+painted symbol cells b v = if has_cell cells v then b else symbol v

@@ -1,0 +1,121 @@
+//! What may be chosen for the pieces of a puzzle: a placement of each.
+ghost use Rattle.std.specs.Prelude.{◌≡◌, ◌||◌, ◌++◌, IfOk, OnOk, length};
+ghost use Rattle.std.specs.List.{list_any};
+ghost use Rattle.poly_cells.specs.Sets.{IsIn};
+ghost use Rattle.poly_texts.specs.Puzzle.{IsPuzzle, names_of};
+ghost use Rattle.poly_place.specs.Tables.{IsTable, has_bit};
+ghost use Rattle.poly_place.specs.Packings.{choices, choices_of};
+ghost use Rattle.poly_place.specs.Compiled.{filled_cells, needed_names};
+
+use crate::placement::placements;
+use crate::table::has_bit;
+use poly_cells::{Cell, Shape};
+use poly_texts::{PieceName, Puzzle};
+use std::alloc::{AllocError, Global};
+use std::marker::Model;
+
+/// A piece and a placement of it.
+#[derive(Drop)]
+pub struct Choice {
+    name: PieceName,
+    cells: Shape,
+}
+
+impl Model for Choice {
+    ghost use Rattle.poly_place.specs.Packings.{ChoiceValue};
+
+    ghost Value = { ChoiceValue };
+
+    ghost view = { λ a. record { name = a.name; cells = a.cells } };
+}
+
+impl Choice {
+    ghost use Rattle.std.specs.Prelude.{◌≡◌, IfOk};
+
+    /// The piece's name.
+    pub fn name(&self) -> PieceName
+        ensures { result ≡ self.now.name }
+    {
+        self.name
+    }
+
+    /// The cells that the piece takes, in order.
+    pub fn cells(&self) -> &[Cell]
+        ensures { result.now ≡ self.now.cells }
+    {
+        self.cells.cells()
+    }
+
+    /// An equal choice.
+    pub fn copy(&self) -> Result<Choice, AllocError>
+        ensures { IfOk result (λ c. c ≡ self.now) }
+    {
+        Ok(Choice {
+            name: self.name,
+            cells: self.cells.copy()?,
+        })
+    }
+}
+
+/// Adds what may be chosen for a piece: its placements, those of a piece that may be left out only where they fill a cell that
+/// has to be filled.
+pub fn add_choices(
+    alloc: Global,
+    choices: &mut Vec<Choice>,
+    puzzle: &Puzzle,
+    needed: &[PieceName],
+    filled: &[bool],
+    name: PieceName,
+    piece: &Shape,
+) -> Result<(), AllocError>
+    requires needed { needed.now ≡ needed_names puzzle.now }
+    requires filled { IsTable (filled_cells puzzle.now) filled.now }
+    requires member { IsIn name (names_of puzzle.now.pieces) }
+    ensures { OnOk result (choices.new.items ≡ choices.old.items ++ choices_of puzzle.now (name, piece.now)) }
+{
+    let is_needed = needed.contains(&name);
+    for cells in placements(alloc, piece, puzzle.region())? {
+        if is_useful(is_needed, filled, cells.cells()) {
+            choices.push(Choice { name, cells })?;
+        }
+    }
+    Ok(())
+}
+
+// Whether the piece is required, or one of the cells is in the table.
+fn is_useful(is_needed: bool, filled: &[bool], cells: &[Cell]) -> bool
+    requires { length filled.now ≡ 32768 }
+    ensures { result ≡ (is_needed || list_any (has_bit filled.now) cells.now) }
+{
+    is_needed || meets(filled, cells)
+}
+
+// Whether one of the cells is in the table.
+fn meets(bits: &[bool], cells: &[Cell]) -> bool
+    requires { length bits.now ≡ 32768 }
+    ensures { result ≡ list_any (has_bit bits.now) cells.now }
+{
+    cells
+        .iter()
+        .any(|cell| has_bit(bits, cell.x(), cell.y(), cell.z()))
+}
+
+/// What may be chosen for all pieces, piece by piece.
+pub fn all_choices(
+    alloc: Global,
+    puzzle: &Puzzle,
+    needed: &[PieceName],
+    filled: &[bool],
+) -> Result<Vec<Choice>, AllocError>
+    requires needed { needed.now ≡ needed_names puzzle.now }
+    requires filled { IsTable (filled_cells puzzle.now) filled.now }
+    ensures { IfOk result (λ cs. cs.items ≡ choices puzzle.now) }
+{
+    let pieces = puzzle.pieces();
+    let mut choices = Vec::new(alloc);
+    for k in 0..pieces.len() {
+        let (name, piece) = pieces.get_index(k).unwrap();
+        add_choices(alloc, &mut choices, puzzle, needed, filled, *name, piece)?;
+    }
+    Ok(choices)
+}

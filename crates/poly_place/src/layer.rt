@@ -1,0 +1,168 @@
+//! Packings as layers of text.
+ghost use Rattle.std.specs.Prelude.{◌≡◌, if◌then◌else◌, ◌≤◌, ◌<◌, ◌++◌, ◌∷◌, [], ℕ, length, replicate, slice_index, IfOk, OnOk};
+ghost use Rattle.std.specs.String.{string_bytes};
+ghost use Rattle.text_lines.specs.Writing.{line_text, text_of};
+ghost use Rattle.poly_cells.specs.Coordinates.{Coordinates};
+ghost use Rattle.poly_cells.specs.Shapes.{corner};
+ghost use Rattle.poly_place.specs.Layers.{AreSymbols, far_corner, layer_lines, layer_words, layers, painted, row, symbol_at};
+
+use crate::packing::Packing;
+use crate::table::bit_index;
+use poly_cells::Cell;
+use std::alloc::{AllocError, Global};
+
+// How many cells there are within the limits.
+const CELLS: usize = 32_768;
+
+// The greatest coordinate of a cell.
+const LAST: u8 = 31;
+
+/// The layers of a packing: a line for each y of the region's bounding box, in it a block for each z, one space between two,
+/// and in that a symbol for each x: the name of the piece there, `_` where the cell is empty, `.` outside the region.
+#[tactic(auto, unfolding(crate::specs::Layers::layers))]
+pub fn layers(alloc: Global, packing: &Packing<'_>) -> Result<String, AllocError>
+    ensures { IfOk result (λ text. string_bytes text ≡ layers packing.now) }
+{
+    let symbols = symbols_of(alloc, packing)?;
+    let cells = packing.region().cells();
+    let mut text = String::new(alloc);
+    push_lines(
+        &mut text,
+        symbols.as_slice(),
+        near_corner(cells),
+        far_corner(cells),
+    )?;
+    Ok(text)
+}
+
+// Adds the lines of the box from one corner to the other.
+fn push_lines(text: &mut String, symbols: &[u8], low: Cell, high: Cell) -> Result<(), AllocError>
+    requires long { length symbols.now ≡ 32768 }
+    requires ascii { (i : ℕ) → slice_index symbols.now i < 128 }
+    ensures { (f : Coordinates → ℕ) → AreSymbols f symbols.now →
+        OnOk result (string_bytes text.new ≡ string_bytes text.old ++ text_of (layer_lines f low high)) }
+{
+    for y in low.y()..high.y() + 1 {
+        push_line(text, symbols, low, high, y)?;
+    }
+    Ok(())
+}
+
+// Adds the line for y.
+fn push_line(
+    text: &mut String,
+    symbols: &[u8],
+    low: Cell,
+    high: Cell,
+    y: u8,
+) -> Result<(), AllocError>
+    requires long { length symbols.now ≡ 32768 }
+    requires within { y ≤ 31 }
+    requires ascii { (i : ℕ) → slice_index symbols.now i < 128 }
+    ensures { (f : Coordinates → ℕ) → AreSymbols f symbols.now →
+        OnOk result (string_bytes text.new ≡ string_bytes text.old ++ line_text (layer_words f low high y)) }
+{
+    for z in low.z()..high.z() + 1 {
+        push_gap(text, z > low.z())?;
+        push_row(text, symbols, low, high, y, z)?;
+    }
+    push_symbol(text, b'\n')
+}
+
+// Adds the symbols of the cells with this y and z.
+fn push_row(
+    text: &mut String,
+    symbols: &[u8],
+    low: Cell,
+    high: Cell,
+    y: u8,
+    z: u8,
+) -> Result<(), AllocError>
+    requires long { length symbols.now ≡ 32768 }
+    requires y_within { y ≤ 31 }
+    requires z_within { z ≤ 31 }
+    requires ascii { (i : ℕ) → slice_index symbols.now i < 128 }
+    ensures { (f : Coordinates → ℕ) → AreSymbols f symbols.now →
+        OnOk result (string_bytes text.new ≡ string_bytes text.old ++ row f low high y z) }
+{
+    for x in low.x()..high.x() + 1 {
+        push_symbol(text, symbols[bit_index(x, y, z)])?;
+    }
+    Ok(())
+}
+
+// Adds a space, where a word stands before.
+fn push_gap(text: &mut String, is_later: bool) -> Result<(), AllocError>
+    ensures { OnOk result (string_bytes text.new ≡ (if is_later then string_bytes text.old ++ 32 ∷ [] else string_bytes text.old)) }
+{
+    if is_later {
+        return push_symbol(text, b' ');
+    }
+    Ok(())
+}
+
+// Adds an ASCII byte.
+fn push_symbol(text: &mut String, symbol: u8) -> Result<(), AllocError>
+    requires { symbol < 128 }
+    ensures { OnOk result (string_bytes text.new ≡ string_bytes text.old ++ symbol ∷ []) }
+{
+    text.push(symbol as char)
+}
+
+// What shows each cell.
+fn symbols_of(alloc: Global, packing: &Packing<'_>) -> Result<Vec<u8>, AllocError>
+    ensures { IfOk result (λ symbols. AreSymbols (symbol_at packing.now) symbols.items) }
+{
+    let mut symbols = blank(alloc, CELLS)?;
+    paint(&mut symbols, packing.region().cells(), b'_');
+    let placements = packing.placements();
+    for k in 0..placements.len() {
+        let choice = &placements[placements.len() - 1 - k];
+        paint(&mut symbols, choice.cells(), choice.name().symbol());
+    }
+    Ok(symbols)
+}
+
+// So many points.
+fn blank(alloc: Global, count: usize) -> Result<Vec<u8>, AllocError>
+    ensures { IfOk result (λ symbols. symbols.items ≡ replicate count 46) }
+{
+    vec![in alloc; b'.'; count]
+}
+
+// Shows these cells by one symbol.
+fn paint(symbols: &mut [u8], cells: &[Cell], symbol: u8)
+    requires long { length symbols.old ≡ 32768 }
+    requires ascii { symbol < 128 }
+    ensures { (f : Coordinates → ℕ) → AreSymbols f symbols.old → AreSymbols (painted f cells.now symbol) symbols.new }
+{
+    for cell in cells {
+        symbols[bit_index(cell.x(), cell.y(), cell.z())] = symbol;
+    }
+}
+
+// The least x, the least y and the least z.
+fn near_corner(cells: &[Cell]) -> Cell
+    ensures { result ≡ corner cells.now }
+{
+    let (mut x, mut y, mut z) = (LAST, LAST, LAST);
+    for cell in cells {
+        x = x.min(cell.x());
+        y = y.min(cell.y());
+        z = z.min(cell.z());
+    }
+    Cell::new(x, y, z).unwrap()
+}
+
+// The greatest x, the greatest y and the greatest z.
+fn far_corner(cells: &[Cell]) -> Cell
+    ensures { result ≡ far_corner cells.now }
+{
+    let (mut x, mut y, mut z): (u8, u8, u8) = (0, 0, 0);
+    for cell in cells {
+        x = x.max(cell.x());
+        y = y.max(cell.y());
+        z = z.max(cell.z());
+    }
+    Cell::new(x, y, z).unwrap()
+}

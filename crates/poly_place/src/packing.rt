@@ -1,0 +1,94 @@
+//! Packings of a puzzle, made of the exact covers of its problem.
+ghost use Rattle.std.specs.Prelude.{◌≡◌, map, IfOk};
+ghost use Rattle.std.specs.Ordering.{nat_cmp};
+ghost use Rattle.poly_cells.specs.Sets.{in_order};
+ghost use Rattle.cover_problem.specs.Lists.{has};
+ghost use Rattle.cover_problem.specs.ExactCover.{IsExactCover};
+ghost use Rattle.poly_place.specs.Packings.{IsPacking, StandsFor, packing_problem};
+ghost use Rattle.poly_place.specs.Chosen.{AreNumbered, choice_numbered, is_among, packing_value};
+
+use crate::choice::Choice;
+use crate::compiled::Compiled;
+use poly_cells::{Cell, Shape};
+use poly_texts::Puzzle;
+use std::alloc::{AllocError, Global};
+use std::marker::Model;
+
+/// A packing of a puzzle: a placement for each piece that is used, in the order of the pieces.
+#[derive(Drop)]
+pub struct Packing<'p> {
+    puzzle: &'p Puzzle,
+    placements: Vec<Choice>,
+}
+
+impl<'p> Model for Packing<'p> {
+    ghost use Rattle.poly_place.specs.Chosen.{PackingValue};
+
+    ghost Value = { PackingValue };
+
+    ghost view = { λ a. record { region = a.puzzle.now.region; maybe_cells = a.puzzle.now.maybe_cells; placements = a.placements.items } };
+}
+
+impl<'p> Packing<'p> {
+    /// The placements, each with the name of its piece.
+    pub fn placements(&self) -> &[Choice]
+        ensures { result.now ≡ self.now.placements }
+    {
+        self.placements.as_slice()
+    }
+
+    /// The region.
+    pub fn region(&self) -> &Shape
+        ensures { result.now ≡ self.now.region }
+    {
+        self.puzzle.region()
+    }
+
+    /// The cells of the region that may stay empty.
+    pub fn maybe_cells(&self) -> &[Cell]
+        ensures { result.now ≡ self.now.maybe_cells }
+    {
+        self.puzzle.maybe_cells()
+    }
+}
+
+/// The packing for which the options of an exact cover stand, given in any order.
+pub fn packing_of<'p>(
+    alloc: Global,
+    compiled: &Compiled<'p>,
+    path: &[u32],
+) -> Result<Packing<'p>, AllocError>
+    requires { IsExactCover (packing_problem compiled.now) (has path.now) }
+    ensures value { IfOk result (λ q. q ≡ packing_value compiled.now path.now) }
+    ensures packs { IfOk result (λ q. IsPacking compiled.now (is_among q.placements)) }
+    ensures stands { IfOk result (λ q. StandsFor compiled.now (has path.now) (is_among q.placements)) }
+{
+    let numbers = in_order(alloc, path)?;
+    let placements = chosen(alloc, compiled.choices(), numbers.as_slice())?;
+    Ok(Packing {
+        puzzle: compiled.puzzle(),
+        placements,
+    })
+}
+
+// The numbers in order, each once.
+fn in_order(alloc: Global, path: &[u32]) -> Result<Vec<u32>, AllocError>
+    ensures { IfOk result (λ numbers. numbers.items ≡ in_order nat_cmp path.now) }
+{
+    let mut numbers = Vec::from_slice(alloc, path)?;
+    numbers.sort_unstable();
+    numbers.dedup();
+    Ok(numbers)
+}
+
+// The choices with these numbers, from 1 on.
+fn chosen(alloc: Global, choices: &[Choice], numbers: &[u32]) -> Result<Vec<Choice>, AllocError>
+    requires { AreNumbered choices.now numbers.now }
+    ensures { IfOk result (λ cs. cs.items ≡ map (choice_numbered choices.now) numbers.now) }
+{
+    let mut chosen = Vec::with_capacity(alloc, numbers.len())?;
+    for number in numbers {
+        chosen.push(choices[*number as usize - 1].copy()?)?;
+    }
+    Ok(chosen)
+}

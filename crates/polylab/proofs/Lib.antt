@@ -1,6 +1,0 @@
-mod Transfer
-mod LineLemmas
-mod ZeroLemmas
-mod AccountLemmas
-mod SearchLemmas
-mod ListingLemmas

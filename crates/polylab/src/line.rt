@@ -1,0 +1,112 @@
+//! The command line: which job the words ask for.
+
+ghost use Rattle.std.specs.Prelude.{◌≡◌};
+ghost use Rattle.polylab.specs.Line.{status_of};
+
+use clap::error::ErrorKind;
+use clap::{Command, Error};
+use lab_engine::Job;
+use std::alloc::{AllocError, Global};
+
+/// Why the words name no job. The texts are `clap`'s.
+#[derive(Debug, Drop)]
+pub enum LineFault {
+    /// Help or the version was asked for; this is the text.
+    Help(String),
+    /// The words were refused; this is why.
+    Usage(String),
+    /// There is no memory to read the words.
+    OutOfMemory,
+}
+
+impl LineFault {
+    /// The program's exit status.
+    pub fn status(&self) -> u8
+        ensures { result ≡ status_of self.now }
+    {
+        match self {
+            LineFault::Help(_) => 0,
+            LineFault::Usage(_) => 2,
+            LineFault::OutOfMemory => 4,
+        }
+    }
+}
+
+const ABOUT: &str = "Lists every exact cover of a problem, each once.";
+
+const STATUSES: &str = "\
+Every job reads standard input and writes standard output.
+
+Exit statuses:
+  0  done
+  2  the command line was refused
+  3  the input was refused; one line on standard error tells why
+  4  there was not enough memory
+  5  reading or writing failed";
+
+const COVER: &str = "Lists the exact covers of a cover text.";
+
+const COVER_TEXT: &str = "\
+The text names items, then options as lists of items. An exact cover is a set of
+options in which each item of the line `items` is once, and each item of the
+line `maybe` at most once. A `#` begins a comment.
+
+Example, saved as small.cover:
+  items a b c d e f g
+  option c e
+  option a d g
+  option b c f
+  option a d f
+  option b g
+  option d e g
+
+`polylab cover < small.cover` prints
+  visit 4 5 1
+  visits 1
+  steps 43
+  levels 1 2 2 1
+
+Each `visit` line is an exact cover, as option numbers from 1 in the order in
+which the search took them; then come the number of covers, the number of steps
+of Algorithm X, and how many paths of 0, 1, 2, .. choices it met.
+
+Exit statuses: 0 done, 2 command line refused, 3 text refused, 4 no memory,
+5 reading or writing failed.";
+
+/// The command line that the program takes.
+fn command<'a>(alloc: Global) -> Result<Command<'a>, AllocError> {
+    let cover = Command::new(alloc, "cover")
+        .about(COVER)
+        .after_help(COVER_TEXT);
+    Command::new(alloc, "polylab")
+        .about(ABOUT)
+        .after_help(STATUSES)
+        .version("0.1.0")
+        .no_binary_name(true)
+        .subcommand_required(true)
+        .arg_required_else_help(true)
+        .subcommand(cover)
+}
+
+/// What a refusal by `clap` means.
+fn refused(alloc: Global, error: &Error) -> LineFault {
+    if error.kind() == ErrorKind::OutOfMemory {
+        return LineFault::OutOfMemory;
+    }
+    match error.to_string(alloc) {
+        Err(_) => LineFault::OutOfMemory,
+        Ok(text) if error.use_stderr() => LineFault::Usage(text),
+        Ok(text) => LineFault::Help(text),
+    }
+}
+
+/// Reads the words of a command line, without the program's name.
+pub fn parse_line(alloc: Global, words: &[&str]) -> Result<Job, LineFault> {
+    let Ok(command) = command(alloc) else {
+        return Err(LineFault::OutOfMemory);
+    };
+    match command.try_get_matches_from(words) {
+        Ok(_) => Ok(Job::Cover),
+        Err(error) => Err(refused(alloc, &error)),
+    }
+}

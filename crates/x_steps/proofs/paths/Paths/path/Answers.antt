@@ -1,0 +1,40 @@
+use Rattle.std.proofs.Common.{◌≡◌, ℕ, ◌-◌, ◌<◌, List, [], length, take, drop, get_or, ◌∙◌, sym, ap, arith}
+use Rattle.x_steps.specs.Paths.{paths_at, start_at}
+use Rattle.x_steps.proofs.PathsLemmas.{path_here, same_default}
+use Rattle.x_steps.proofs.paths.Paths.path.Goals as goal
+
+pub start_of-start-requires : goal.start_of-start-requires
+start_of-start-requires c =
+    let p = c.self.inside in
+    let r = path_here p.choices.items p.ends.items c.args.self.now c.args.place c.self.invariant c.self.view_is c.requires in
+    let d = ap length c.deref.ensures.value in omega (arith, r.0, d)
+
+pub index-requires : goal.index-requires
+index-requires c =
+    let p = c.self.inside in
+    let r = path_here p.choices.items p.ends.items c.args.self.now c.args.place c.self.invariant c.self.view_is c.requires in
+    omega (arith, r.0, p.ends.ok.0)
+
+pub part-requires-clause-order : goal.part-requires-clause-order
+part-requires-clause-order c =
+    let p = c.self.inside in
+    let r = path_here p.choices.items p.ends.items c.args.self.now c.args.place c.self.invariant c.self.view_is c.requires in
+    let s : c.start_of-start.result ≡ start_at 0 p.ends.items c.args.place = c.start_of-start.ensures ∙ ap (λ l. start_at 0 l c.args.place) c.deref.ensures.value in
+    let e = c.index.ensures ∙ same_default p.ends.items c.args.place c.index.result.now 0 r.0 in
+    omega (arith, r.1.order, s, e)
+
+pub part-requires-clause-within : goal.part-requires-clause-within
+part-requires-clause-within c =
+    let p = c.self.inside in
+    let r = path_here p.choices.items p.ends.items c.args.self.now c.args.place c.self.invariant c.self.view_is c.requires in
+    let e = c.index.ensures ∙ same_default p.ends.items c.args.place c.index.result.now 0 r.0 in
+    let d = ap length c.deref-2.ensures.value in
+    omega (arith, r.1.within, e, d)
+
+pub returns : goal.returns
+returns c =
+    let p = c.self.inside in
+    let r = path_here p.choices.items p.ends.items c.args.self.now c.args.place c.self.invariant c.self.view_is c.requires in
+    let s : c.start_of-start.result ≡ start_at 0 p.ends.items c.args.place = c.start_of-start.ensures ∙ ap (λ l. start_at 0 l c.args.place) c.deref.ensures.value in
+    let e = c.index.ensures ∙ same_default p.ends.items c.args.place c.index.result.now 0 r.0 in
+    c.part.ensures ∙ (λ j. take (e j - s j) (drop (s j) (c.deref-2.ensures.value j))) ∙ sym r.1.path ∙ ap (λ l. get_or l c.args.place []) c.self.view_is

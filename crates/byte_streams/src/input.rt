@@ -43,7 +43,8 @@ fn read_some<S: Source>(
         × Consumes (S.stream source.old).bytes (S.stream source.new).bytes came) }
     ensures end { IfOk result (λ count. count ≡ 0 → IsAtEnd (S.stream source.new).bytes) }
     ensures sound { OnOk result (IsSound (S.stream source.old) (S.stream source.new)) }
-    ensures fault { IfErr result (λ fault. StopsReading (S.stream source.old) (S.stream source.new) fault) }
+    ensures fault { IfErr result (λ fault.
+        StopsReading (S.stream source.old) (S.stream source.new) fault) }
 {
     let Ok(count) = source.read(chunk) else {
         return Err(InputFault::Failed);
@@ -56,10 +57,12 @@ fn read_some<S: Source>(
 
 /// Reads to the end. No read that fails is tried again.
 pub fn read_whole<S: Source>(alloc: Global, source: &mut S) -> Result<Vec<u8>, InputFault>
-    ensures all { IfOk result (λ text. IfSome (S.stream source.old).bytes (λ bytes. text.items ≡ bytes)) }
+    ensures all { IfOk result (λ text.
+        IfSome (S.stream source.old).bytes (λ bytes. text.items ≡ bytes)) }
     ensures within { IfOk result (λ text. length text.items ≤ most_input) }
     ensures sound { OnOk result (IsSound (S.stream source.old) (S.stream source.new)) }
-    ensures fault { IfErr result (λ fault. StopsReading (S.stream source.old) (S.stream source.new) fault) }
+    ensures fault { IfErr result (λ fault.
+        StopsReading (S.stream source.old) (S.stream source.new) fault) }
 {
     let mut text = Vec::new(alloc);
     let Ok(mut chunk) = zeros(alloc, CHUNK) else {

@@ -16,7 +16,8 @@ pub trait Source {
     /// Reads some bytes; none only at the end, or into no room.
     fn read(&mut self, chunk: &mut [u8]) -> Result<usize, Failed>
         ensures bound { ReadsAtMost result chunk.new }
-        ensures bytes { ReadConsumes (stream self.old).bytes (stream self.new).bytes result chunk.new }
+        ensures bytes { ReadConsumes (stream self.old).bytes (stream self.new).bytes
+            result chunk.new }
         ensures sound { OnOk result (IsSound (stream self.old) (stream self.new)) }
         ensures failed { OnErr result (HasFailed (stream self.new)) };
 }
@@ -30,7 +31,8 @@ pub trait Sink {
     fn write(&mut self, text: &[u8]) -> Result<usize, Failed>
         ensures bound { WritesAtMost result text.now }
         ensures some { 0 < length text.now → IfOk result (λ count. 0 < count) }
-        ensures bytes { WriteAppends (stream self.old).bytes (stream self.new).bytes result text.now }
+        ensures bytes { WriteAppends (stream self.old).bytes (stream self.new).bytes
+            result text.now }
         ensures sound { OnOk result (IsSound (stream self.old) (stream self.new)) }
         ensures failed { OnErr result (HasFailed (stream self.new)) };
 }

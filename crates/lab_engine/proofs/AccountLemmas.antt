@@ -17,7 +17,7 @@ use Rattle.x_steps.specs.StateValue.{StateValue, at}
 use Rattle.x_steps.specs.Steps.{Fits, is_level, is_open, is_visit, next, event_of}
 use Rattle.x_steps.specs.Run.{visits, level_count}
 use Rattle.x_steps.proofs.BetweenLemmas.{visits_push, level_count_push}
-use Rattle.lab_engine.specs.Account.{Account, account_of, with_step, one_more, empty_account, is_visited, visit_words}
+use Rattle.lab_engine.specs.Account.{Account, account_of, with_step, one_more, empty_account, is_visited, kept}
 
 differs : (a b : ℕ) → (a ≡ b → ⊥) → (a == b) ≡ false
 differs a b h = elim (eqb_tells a b) [ inl e ↦ absurd (h e.1) | inr e ↦ e.0 ]
@@ -55,10 +55,15 @@ none_counted : (n i : ℕ) → map (level_count []) (numbers n i) ≡ replicate 
 none_counted zero i = refl
 none_counted (suc n) i = ap (λ l. 0 ∷ l) (none_counted n (suc i))
 
-pub nothing_is : (p : ProblemValue) → account_of p [] ≡ empty_account (length p.names)
+none_kept : (keeps : Bool) → kept keeps [] ≡ []
+none_kept true = refl
+none_kept false = refl
+
+pub nothing_is : (keeps : Bool) (p : ProblemValue) → account_of keeps p [] ≡ empty_account (length p.names)
 unfolding account_of
-nothing_is p =
-    ap (λ l. record { text = []; visited = 0; steps = 0; entered = l }) (none_counted (suc (length p.names)) 0 ∙ ap (λ n. replicate n 0) (sym (add-one (length p.names))))
+nothing_is keeps p =
+    ap (λ l. record { visits = l; visited = 0; steps = 0; entered = map (level_count []) (numbers (suc (length p.names)) 0) }) (none_kept keeps)
+    ∙ ap (λ l. record { visits = []; visited = 0; steps = 0; entered = l }) (none_counted (suc (length p.names)) 0 ∙ ap (λ n. replicate n 0) (sym (add-one (length p.names))))
 
 -- one more at a place from 0 on
 counted_at : (g : ℕ → ℕ) (k n : ℕ) → k < n → map (λ l. g l + cond (k == l) 1 0) (numbers n 0) ≡ one_more (map g (numbers n 0)) k
@@ -79,11 +84,10 @@ entered_is ss s n h = same_map _ _ (level_count_push ss s) (numbers n 0) ∙ by_
   by_level true e = counted_at (level_count ss) (length s.path) n (h e)
   by_level false e = same_map (λ l. level_count ss l + 0) (level_count ss) (λ l. let r : level_count ss l + 0 ≡ level_count ss l = omega arith in r) (numbers n 0)
 
-text_is : (b : Bool) (vs : List (List ℕ)) (path : List ℕ) → text_of (map visit_words (vs ++ cond b (path ∷ []) [])) ≡ (if b then text_of (map visit_words vs) ++ line_text (visit_words path) else text_of (map visit_words vs))
-text_is true vs path =
-    ap text_of (map-append visit_words vs (path ∷ [])) ∙ flat_map-append line_text (map visit_words vs) (visit_words path ∷ [])
-    ∙ ap (λ l. text_of (map visit_words vs) ++ l) (append-nil (line_text (visit_words path)))
-text_is false vs path = ap (λ l. text_of (map visit_words l)) (append-nil vs)
+kept_is : (k b : Bool) (vs : List (List ℕ)) (path : List ℕ) → kept k (vs ++ cond b (path ∷ []) []) ≡ (if k && b then kept k vs ++ path ∷ [] else kept k vs)
+kept_is true true vs path = refl
+kept_is true false vs path = append-nil vs
+kept_is false b vs path = refl
 
 visited_is : (b : Bool) (vs : List (List ℕ)) (path : List ℕ) → length (vs ++ cond b (path ∷ []) []) ≡ (if b then length vs + 1 else length vs)
 visited_is true vs path = length-append vs (path ∷ [])
@@ -139,10 +143,11 @@ level_within p X8 path k sound f e = absurd (cc)
 level_within p Done path k sound f e = absurd (cc)
 
 -- a visit's path is that after the step, too
-shown_is : (b l : Bool) (old : List ℕ) (path after : List ℕ) → (b ≡ true → l ≡ true) → (l ≡ true → after ≡ path)
-    → (if b then old ++ line_text (visit_words path) else old) ≡ (if b then old ++ line_text (visit_words after) else old)
-shown_is true l old path after h e = ap (λ q. old ++ line_text (visit_words q)) (sym (e (h refl)))
-shown_is false l old path after h e = refl
+shown_is : (k b l : Bool) (old : List (List ℕ)) (path after : List ℕ) → (b ≡ true → l ≡ true) → (l ≡ true → after ≡ path)
+    → (if k && b then old ++ path ∷ [] else old) ≡ (if k && b then old ++ after ∷ [] else old)
+shown_is true true l old path after h e = ap (λ q. old ++ q ∷ []) (sym (e (h refl)))
+shown_is true false l old path after h e = refl
+shown_is false b l old path after h e = refl
 
 counts_are : (l : Bool) (old : List ℕ) (path after : List ℕ) → (l ≡ true → after ≡ path) → (if l then one_more old (length path) else old) ≡ (if l then one_more old (length after) else old)
 counts_are true old path after e = ap (λ q. one_more old (length q)) (sym (e refl))
@@ -152,24 +157,24 @@ both : (a b : Bool) → (a && b) ≡ true → a ≡ true
 both true b e = refl
 both false b e = e
 
-fields : (t : List ℕ) (v n : ℕ) (e : List ℕ) (t' : List ℕ) (v' n' : ℕ) (e' : List ℕ) → t ≡ t' → v ≡ v' → n ≡ n' → e ≡ e'
-    → let a : Account = record { text = t; visited = v; steps = n; entered = e } in let b : Account = record { text = t'; visited = v'; steps = n'; entered = e' } in a ≡ b
+fields : (t : List (List ℕ)) (v n : ℕ) (e : List ℕ) (t' : List (List ℕ)) (v' n' : ℕ) (e' : List ℕ) → t ≡ t' → v ≡ v' → n ≡ n' → e ≡ e'
+    → let a : Account = record { visits = t; visited = v; steps = n; entered = e } in let b : Account = record { visits = t'; visited = v'; steps = n'; entered = e' } in a ≡ b
 fields t v n e t' v' n' e' p q r s = cc
 
 -- the account with one state more is the account so far with that step noted
-pub account_push : (p : ProblemValue) (ss : List StateValue) (s : StateValue) → IsProblem p → Fits p s → account_of p (ss ++ s ∷ []) ≡ with_step (account_of p ss) s.label (event_of p s) (next p s).path
+pub account_push : (keeps : Bool) (p : ProblemValue) (ss : List StateValue) (s : StateValue) → IsProblem p → Fits p s → account_of keeps p (ss ++ s ∷ []) ≡ with_step keeps (account_of keeps p ss) s.label (event_of p s) (next p s).path
 unfolding account_of
-account_push p ss s sound f =
+account_push keeps p ss s sound f =
     let seen = visits_push p ss s in
     let told : is_visited (event_of p s) ≡ is_visit p s = tells p s.label s.path s.cursor in
     let stays : is_level s.label ≡ true → (next p s).path ≡ s.path = leaves p s.label s.path s.cursor in
     let level : is_visit p s ≡ true → is_level s.label ≡ true = λ e. (both (is_level s.label) _ e) in
-    let text = ap (λ v. text_of (map visit_words v)) seen ∙ text_is (is_visit p s) (visits p ss) s.path ∙ shown_is (is_visit p s) (is_level s.label) (text_of (map visit_words (visits p ss))) s.path (next p s).path level stays in
+    let paths = ap (kept keeps) seen ∙ kept_is keeps (is_visit p s) (visits p ss) s.path ∙ shown_is keeps (is_visit p s) (is_level s.label) (kept keeps (visits p ss)) s.path (next p s).path level stays in
     let visited = ap (length {A = List ℕ}) seen ∙ visited_is (is_visit p s) (visits p ss) s.path in
     let entered = entered_is ss s (suc (length p.names)) (level_within p s.label s.path s.cursor sound f) ∙ counts_are (is_level s.label) (map (level_count ss) (numbers (suc (length p.names)) 0)) s.path (next p s).path stays in
     let steps = length-append ss (s ∷ []) in
-    rw told (fields _ _ _ _ _ _ _ _ text visited steps entered)
+    rw told (fields _ _ _ _ _ _ _ _ paths visited steps entered)
 
-pub entered_length : (p : ProblemValue) (ss : List StateValue) → length (account_of p ss).entered ≡ suc (length p.names)
+pub entered_length : (keeps : Bool) (p : ProblemValue) (ss : List StateValue) → length (account_of keeps p ss).entered ≡ suc (length p.names)
 unfolding account_of
-entered_length p ss = length-map (numbers (suc (length p.names)) 0) (level_count ss) ∙ length-numbers (suc (length p.names)) 0
+entered_length keeps p ss = length-map (numbers (suc (length p.names)) 0) (level_count ss) ∙ length-numbers (suc (length p.names)) 0

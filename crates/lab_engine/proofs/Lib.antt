@@ -1,7 +1,7 @@
 mod LineLemmas
-mod ZeroLemmas
 mod AccountLemmas
 mod SearchLemmas
 mod ListingLemmas
 mod EndingLemmas
+pub mod PackedLemmas
 mod OutputExamples

@@ -1,28 +1,47 @@
--- What is written lists the exact covers.
-use Rattle.std.proofs.Common.{◌≡◌, ℕ, List, Result, Ok, Err, None, Some, IfSome, refl, sym, ap, ◌∙◌, subst}
+-- What is written lists the exact covers, or the packings.
+use Rattle.std.proofs.Common.{◌≡◌, ℕ, zero, suc, ◌+◌, ◌<◌, arith, Bool, true, false, List, [], ◌∷◌, ◌++◌, length, get_or, cond, Result, Ok, Err, None, Some, IfSome, refl, sym, ap, ◌∙◌, subst, inl, inr}
 use Rattle.std.specs.Prelude.{Option}
 use Rattle.std.specs.Io.KnownBytes.{Appends}
-use Rattle.cover_problem.specs.Problem.{ProblemValue, IsProblem}
+use Rattle.cover_problem.specs.Lists.{has}
+use Rattle.cover_problem.specs.Problem.{ProblemValue, IsProblem, is_small}
+use Rattle.cover_problem.specs.ExactCover.{IsExactCover}
 use Rattle.cover_problem.specs.declared.fault.Fault.{Fault}
 use Rattle.cover_problem.specs.Reading.{problem_of}
 use Rattle.cover_problem.proofs.TextLemmas.{read_is_text}
+use Rattle.poly_texts.specs.declared.fault.Fault as puzzle
+use Rattle.poly_texts.specs.Puzzle.{PuzzleValue, IsPuzzle}
+use Rattle.poly_texts.specs.Reading.{puzzle_of}
+use Rattle.poly_texts.proofs.TextLemmas as texts
+use Rattle.poly_texts.proofs.PuzzleLemmas.{puzzle_is}
+use Rattle.cover_problem.specs.Grammar.{written}
+use Rattle.poly_place.specs.Packings.{ChoiceValue, ArePackings, IsPacking, StandsFor, choice_at, packing_problem}
+use Rattle.poly_place.specs.Chosen.{chosen_by, is_among}
+use Rattle.poly_place.proofs.PackingLemmas.{are_packings}
+use Rattle.poly_place.proofs.CompiledLemmas.{is_problem}
+use Rattle.poly_place.proofs.ChosenLemmas.{cover_stands, cover_packs}
+use Rattle.x_steps.specs.Order.{IsIn}
+use Rattle.x_steps.specs.Covers.{AreCovers}
 use Rattle.x_steps.specs.StateValue.{start, done}
 use Rattle.x_steps.specs.Run.{states_between, visits_between}
+use Rattle.x_steps.specs.Levels.{without_last_zeros}
 use Rattle.x_steps.proofs.VisitLemmas.{visits_rise, visits_are_covers}
 use Rattle.lab_engine.specs.declared.job.Job.{Job}
 use Rattle.lab_engine.specs.declared.job.Job.TheVariants as jobs
 use Rattle.lab_engine.specs.Account.{account_of}
-use Rattle.lab_engine.specs.Output.{cover_output, without_last_zeros}
-use Rattle.lab_engine.specs.Outcome.{outcome, covers_of}
-use Rattle.lab_engine.specs.Listing.{ListsCovers, IsListed}
+use Rattle.lab_engine.specs.Output.{cover_output, whole_account}
+use Rattle.lab_engine.specs.Packed.{solve_output, count_output, options_output}
+use Rattle.lab_engine.specs.Outcome.{outcome, covers_of, packed_of, place_refusal}
+use Rattle.lab_engine.specs.Listing.{ListsCovers, ListsPackings, CountsPackings, ArePackingPaths, AreExactCovers, IsListed}
+
+-- ---- covers
 
 -- a problem's output lists its exact covers
 lists : (p : ProblemValue) → IsProblem p → ListsCovers p (cover_output p)
 unfolding cover_output account_of visits_between
 lists p sound = record {
   paths = visits_between p start done;
-  steps = (account_of p (states_between p start done)).steps;
-  levels = without_last_zeros (account_of p (states_between p start done)).entered;
+  steps = (whole_account true p).steps;
+  levels = without_last_zeros (whole_account true p).entered;
   lines = refl;
   rise = visits_rise p;
   covers = visits_are_covers p sound;
@@ -33,9 +52,90 @@ listed : (read : Result ProblemValue (Fault × ℕ)) (text : List ℕ) → ((p :
 listed (Ok p) text sound e = let same : cover_output p ≡ text = cc in (p, refl, subst (ListsCovers p) same (lists p (sound p refl)))
 listed (Err f) text sound e = absurd (cc)
 
+-- the visits of a problem are exact covers
+pub visits_covers : (p : ProblemValue) → IsProblem p → AreExactCovers p (whole_account true p).visits
+unfolding account_of visits_between
+visits_covers p sound k lt = (visits_are_covers p sound).sound (get_or (visits_between p start done) k []) (path_in (visits_between p start done) k lt)
+  where
+    path_in : (paths : List (List ℕ)) (i : ℕ) → i < length paths → IsIn (get_or paths i []) paths
+    path_in [] i h = absurd (omega (arith, h))
+    path_in (x ∷ xs) zero h = inl refl
+    path_in (x ∷ xs) (suc i) h = inr (path_in xs i (omega (arith, h)))
+
+-- ---- packings
+
+-- the exact covers of a puzzle's problem stand for its packings
+packing_paths : (p : PuzzleValue) → IsPuzzle p → (paths : List (List ℕ)) → AreCovers (packing_problem p) paths → ArePackingPaths p paths
+packing_paths p z paths a = record {
+  sound = λ q i. cover_packs p z q (a.sound q i);
+  complete = λ chosen packing.
+      let set = all.some_cover chosen packing in
+      let q = a.complete set.0 (all.covers set.0 chosen set.1 packing) in
+      let cover = a.sound q.0 q.1 in
+      (q.0, q.1, all.one_packing (has q.0) (is_among (chosen_by p q.0)) chosen (cover_stands p q.0 cover) (along set.0 (has q.0) chosen (λ o. sym (q.2 o)) set.1));
+  once = λ q r i j same.
+      a.once q r i j
+      (all.one_cover (has q) (has r) (is_among (chosen_by p r)) (alike (has q) (is_among (chosen_by p q)) (is_among (chosen_by p r)) same (cover_stands p q (a.sound q i)))
+      (cover_stands p r (a.sound r j)));
+}
+  where
+    all : ArePackings p
+    all = are_packings p z
+
+    along : (set other : ℕ → Bool) (chosen : ChoiceValue → Bool) → ((o : ℕ) → set o ≡ other o) → StandsFor p set chosen → StandsFor p other chosen
+    along set other chosen e s = record {
+      forth = λ o h. s.forth o (e o ∙ h);
+      back = λ c h. let o = s.back c h in (o.0, sym (e o.0) ∙ o.1, o.2);
+    }
+
+    alike : (set : ℕ → Bool) (chosen other : ChoiceValue → Bool) → ((c : ChoiceValue) → chosen c ≡ other c) → StandsFor p set chosen → StandsFor p set other
+    alike set chosen other e s = record {
+      forth = λ o h. let f = s.forth o h in (f.0, f.1, sym (e (choice_at p o)) ∙ f.2);
+      back = λ c h. s.back c (e c ∙ h);
+    }
+
+shows : (p : PuzzleValue) → IsPuzzle p → is_small (packing_problem p) ≡ true → ListsPackings p (solve_output p)
+unfolding solve_output account_of visits_between
+shows p z small = record {
+  paths = visits_between (packing_problem p) start done;
+  lines = refl;
+  rise = visits_rise (packing_problem p);
+  packings = packing_paths p z _ (visits_are_covers (packing_problem p) (is_problem p z small));
+}
+
+counts : (p : PuzzleValue) → IsPuzzle p → is_small (packing_problem p) ≡ true → CountsPackings p (count_output p)
+unfolding count_output account_of visits_between
+counts p z small = record {
+  paths = visits_between (packing_problem p) start done;
+  steps = (whole_account false (packing_problem p)).steps;
+  levels = without_last_zeros (whole_account false (packing_problem p)).entered;
+  lines = refl;
+  packings = packing_paths p z _ (visits_are_covers (packing_problem p) (is_problem p z small));
+}
+
+-- what is written of a puzzle that was read
+packed : (Listed : PuzzleValue → List ℕ → Type 0) (output : PuzzleValue → List ℕ) → ((p : PuzzleValue) → IsPuzzle p → is_small (packing_problem p) ≡ true → Listed p (output p))
+    → (read : Result PuzzleValue (puzzle.Fault × ℕ)) (text : List ℕ) → ((p : PuzzleValue) → read ≡ Ok p → IsPuzzle p) → packed_of output read ≡ Ok text
+    → (p : PuzzleValue) × (read ≡ Ok p) × Listed p text
+packed Listed output tells (Ok p) text sound e = (p, refl, by_test (is_small (packing_problem p)) refl e)
+  where
+    by_test : (b : Bool) → is_small (packing_problem p) ≡ b → cond b (Ok (output p)) (Err place_refusal) ≡ Ok text → Listed p text
+    by_test true t h = let same : output p ≡ text = cc in subst (Listed p) same (tells p (sound p refl) t)
+    by_test false t h = absurd (cc)
+packed Listed output tells (Err f) text sound e = absurd (cc)
+
+options_are : (p : PuzzleValue) → options_output p ≡ written (packing_problem p)
+unfolding options_output
+options_are p = refl
+
+-- ---- jobs
+
 pub outcome_lists : (job : Job) (input text : List ℕ) → outcome job input ≡ Ok text → IsListed job input text
 unfolding outcome
 outcome_lists jobs.Cover input text e = listed (problem_of input) text (λ p h. (read_is_text input p h).problem) e
+outcome_lists jobs.Solve input text e = packed ListsPackings solve_output shows (puzzle_of input) text (λ p h. puzzle_is input p (texts.read_is_text input p h)) e
+outcome_lists jobs.Count input text e = packed CountsPackings count_output counts (puzzle_of input) text (λ p h. puzzle_is input p (texts.read_is_text input p h)) e
+outcome_lists jobs.Options input text e = packed (λ p t. t ≡ written (packing_problem p)) options_output (λ p z s. options_are p) (puzzle_of input) text (λ p h. puzzle_is input p (texts.read_is_text input p h)) e
 
 -- the same, where the input is what a reader had left, and the text was written
 pub finished : (job : Job) (known : Option (List ℕ)) (input text : List ℕ) (old new : Option (List ℕ)) → IfSome known (λ bytes. input ≡ bytes) → Ok text ≡ outcome job input → Appends old new text

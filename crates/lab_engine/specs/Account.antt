@@ -1,6 +1,5 @@
--- What a search tells: the lines of its visits, and how many visits, steps and X2 states at each level it had.
-use Rattle.std.specs.Prelude.{ℕ, suc, ◌+◌, Bool, true, false, List, [], ◌∷◌, ◌++◌, length, map, decimal, codes, slice_index, slice_set, replicate, if◌then◌else◌}
-use Rattle.text_lines.specs.Writing.{line_text, text_of}
+-- The account of a search: its visits, where they are kept, and how many visits, steps and X2 states at each level it had.
+use Rattle.std.specs.Prelude.{ℕ, suc, ◌+◌, Bool, true, false, ◌&&◌, List, [], ◌∷◌, ◌++◌, length, map, slice_index, slice_set, replicate, if◌then◌else◌}
 use Rattle.cover_problem.specs.Lists.{numbers}
 use Rattle.cover_problem.specs.Problem.{ProblemValue}
 use Rattle.x_steps.specs.declared.state.Label.{Label}
@@ -10,21 +9,21 @@ use Rattle.x_steps.specs.StateValue.{StateValue}
 use Rattle.x_steps.specs.Steps.{is_level}
 use Rattle.x_steps.specs.Run.{visits, level_count}
 
--- the lines of the visits, the number of visits and of steps, and the number of X2 states at each level from 0 on
+-- the visits that are kept, the number of visits and of steps, and the number of X2 states at each level from 0 on
 pub record Account : Type 0 where
-  pub text : List ℕ
+  pub visits : List (List ℕ)
   pub visited : ℕ
   pub steps : ℕ
   pub entered : List ℕ
 
--- the words of a visit's line: the options of its path
-abbrev pub visit_words : List ℕ → List (List ℕ)
-visit_words path = codes "visit" ∷ map decimal path
+-- these paths, or none where they are not kept
+abbrev pub kept : Bool → List (List ℕ) → List (List ℕ)
+kept keeps paths = if keeps then paths else []
 
--- the account of these states of a run
-unfoldable pub account_of : ProblemValue → List StateValue → Account
-account_of p ss = record {
-  text = text_of (map visit_words (visits p ss));
+-- the account of these states of a run, which keeps the visits or not
+unfoldable pub account_of : Bool → ProblemValue → List StateValue → Account
+account_of keeps p ss = record {
+  visits = kept keeps (visits p ss);
   visited = length (visits p ss);
   steps = length ss;
   entered = map (level_count ss) (numbers (suc (length p.names)) 0);
@@ -32,9 +31,9 @@ account_of p ss = record {
 
 -- the account of no state, for n items
 abbrev pub empty_account : ℕ → Account
-empty_account n = record { text = []; visited = 0; steps = 0; entered = replicate (n + 1) 0 }
+empty_account n = record { visits = []; visited = 0; steps = 0; entered = replicate (n + 1) 0 }
 
--- whether a step told a visit
+-- whether a step came to a visit
 abbrev pub is_visited : Event → Bool
 is_visited Visited = true
 is_visited _ = false
@@ -43,11 +42,23 @@ is_visited _ = false
 abbrev pub one_more : List ℕ → ℕ → List ℕ
 one_more counts place = slice_set counts place (slice_index counts place + 1)
 
--- an account with one step more: the step's label, what it told, and the path there
-abbrev pub with_step : Account → Label → Event → List ℕ → Account
-with_step a label event path = record {
-  text = if is_visited event then a.text ++ line_text (visit_words path) else a.text;
-  visited = if is_visited event then a.visited + 1 else a.visited;
+-- the visits that are kept, after a step that ends at this path
+abbrev pub kept_with : Bool → List (List ℕ) → Event → List ℕ → List (List ℕ)
+kept_with keeps visits event path = if keeps && is_visited event then visits ++ path ∷ [] else visits
+
+-- the number of visits, after a step
+abbrev pub visits_with : ℕ → Event → ℕ
+visits_with count event = if is_visited event then count + 1 else count
+
+-- the counts of X2 states at each level, after a step with this label and a path of so many choices
+abbrev pub levels_with : List ℕ → Label → ℕ → List ℕ
+levels_with counts label level = if is_level label then one_more counts level else counts
+
+-- an account with one step more: the step's label, its event, and the path there
+abbrev pub with_step : Bool → Account → Label → Event → List ℕ → Account
+with_step keeps a label event path = record {
+  visits = kept_with keeps a.visits event path;
+  visited = visits_with a.visited event;
   steps = a.steps + 1;
-  entered = if is_level label then one_more a.entered (length path) else a.entered;
+  entered = levels_with a.entered label (length path);
 }

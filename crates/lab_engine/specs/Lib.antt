@@ -1,5 +1,6 @@
 pub mod Account
 pub mod Output
+pub mod Packed
 pub mod Outcome
 pub mod Listing
 pub mod Ending

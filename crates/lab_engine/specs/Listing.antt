@@ -1,13 +1,21 @@
--- What the output of `cover` lists: the exact covers of the problem, each once, in path order.
-use Rattle.std.specs.Prelude.{ℕ, ◌≡◌, List, [], ◌∷◌, ◌++◌, length, map, decimal, codes, Ok}
-use Rattle.text_lines.specs.Writing.{text_of}
+-- What the output lists: of `cover` the exact covers of the problem, of `solve` the packings of the puzzle, each once, in path order.
+use Rattle.std.specs.Prelude.{ℕ, ◌≡◌, Bool, true, List, [], ◌∷◌, ◌++◌, length, map, slice_index_or, EachIndex, Ok}
+use Rattle.text_lines.specs.Writing.{line_text, text_of}
+use Rattle.cover_problem.specs.Lists.{has}
 use Rattle.cover_problem.specs.Problem.{ProblemValue}
+use Rattle.cover_problem.specs.ExactCover.{IsExactCover}
+use Rattle.cover_problem.specs.Grammar.{written}
 use Rattle.cover_problem.specs.Reading.{problem_of}
-use Rattle.x_steps.specs.Order.{PathsRise}
+use Rattle.poly_texts.specs.Puzzle.{PuzzleValue}
+use Rattle.poly_texts.specs.Reading.{puzzle_of}
+use Rattle.poly_place.specs.Packings.{ChoiceValue, IsPacking, packing_problem}
+use Rattle.poly_place.specs.Chosen.{chosen_by, is_among}
+use Rattle.x_steps.specs.Order.{IsIn, PathsRise}
 use Rattle.x_steps.specs.Covers.{AreCovers}
 use Rattle.lab_engine.specs.declared.job.Job.{Job}
 use Rattle.lab_engine.specs.declared.job.Job.TheVariants as jobs
-use Rattle.lab_engine.specs.Account.{visit_words}
+use Rattle.lab_engine.specs.Output.{visit_words, step_lines, total_lines}
+use Rattle.lab_engine.specs.Packed.{packings_from, number_line, options_line}
 
 -- the text is a line for each of these paths, which rise in path order and are, as sets, the exact covers, each once; then
 -- how many they are, the number of steps, and the levels
@@ -15,10 +23,38 @@ pub record ListsCovers (p : ProblemValue) (text : List ℕ) : Type 0 where
   pub paths : List (List ℕ)
   pub steps : ℕ
   pub levels : List ℕ
-  pub lines : text ≡ text_of (map visit_words paths) ++ text_of ((codes "visits" ∷ decimal (length paths) ∷ []) ∷ (codes "steps" ∷ decimal steps ∷ []) ∷ (codes "levels" ∷ map decimal levels) ∷ [])
+  pub lines : text ≡ text_of (map visit_words paths) ++ text_of (total_lines (length paths) steps levels)
   pub rise : PathsRise paths
   pub covers : AreCovers p paths
 
--- what is written is what the job is to list of the input's problem
+-- the paths are exact covers
+abbrev pub AreExactCovers : ProblemValue → List (List ℕ) → Type 0
+AreExactCovers p paths = EachIndex paths (λ k. IsExactCover p (has (slice_index_or paths k [])))
+
+-- the paths stand for the packings, each once: as tests on choices
+pub record ArePackingPaths (p : PuzzleValue) (paths : List (List ℕ)) : Type 0 where
+  pub sound : (q : List ℕ) → IsIn q paths → IsPacking p (is_among (chosen_by p q))
+  pub complete : (chosen : ChoiceValue → Bool) → IsPacking p chosen → (q : List ℕ) × IsIn q paths × ((c : ChoiceValue) → is_among (chosen_by p q) c ≡ chosen c)
+  pub once : (q r : List ℕ) → IsIn q paths → IsIn r paths → ((c : ChoiceValue) → is_among (chosen_by p q) c ≡ is_among (chosen_by p r) c) → q ≡ r
+
+-- the text shows the packings, each once, in path order, and tells how many they are
+pub record ListsPackings (p : PuzzleValue) (text : List ℕ) : Type 0 where
+  pub paths : List (List ℕ)
+  pub lines : text ≡ packings_from p 1 paths ++ line_text (number_line (length paths))
+  pub rise : PathsRise paths
+  pub packings : ArePackingPaths p paths
+
+-- the text tells how many packings there are, how many options, and the steps and levels of the search
+pub record CountsPackings (p : PuzzleValue) (text : List ℕ) : Type 0 where
+  pub paths : List (List ℕ)
+  pub steps : ℕ
+  pub levels : List ℕ
+  pub lines : text ≡ text_of (number_line (length paths) ∷ options_line p ∷ step_lines steps levels)
+  pub packings : ArePackingPaths p paths
+
+-- what is written is what the job is to tell of the input's problem or puzzle
 abbrev pub IsListed : Job → List ℕ → List ℕ → Type 0
 IsListed jobs.Cover input text = (p : ProblemValue) × (problem_of input ≡ Ok p) × ListsCovers p text
+IsListed jobs.Solve input text = (p : PuzzleValue) × (puzzle_of input ≡ Ok p) × ListsPackings p text
+IsListed jobs.Count input text = (p : PuzzleValue) × (puzzle_of input ≡ Ok p) × CountsPackings p text
+IsListed jobs.Options input text = (p : PuzzleValue) × (puzzle_of input ≡ Ok p) × (text ≡ written (packing_problem p))

@@ -1,30 +1,64 @@
 -- What the program does with an input: what it writes, or the line that refuses it.
 --
 -- Example: `items a`, `option z` is refused by `refused cover 3 UnknownItem line 2` (proofs/OutputExamples.antt).
-use Rattle.std.specs.Prelude.{ℕ, List, [], ◌∷◌, Result, Ok, Err, decimal, codes}
+use Rattle.std.specs.Prelude.{ℕ, List, [], ◌∷◌, Result, Ok, Err, if◌then◌else◌, decimal, codes}
 use Rattle.text_lines.specs.Writing.{line_text}
 use Rattle.cover_problem.specs.declared.fault.Fault.{Fault}
 use Rattle.cover_problem.specs.Faults.{number_of, name_of}
-use Rattle.cover_problem.specs.Problem.{ProblemValue}
+use Rattle.cover_problem.specs.Problem.{ProblemValue, is_small}
 use Rattle.cover_problem.specs.Reading.{problem_of}
 use Rattle.lab_engine.specs.declared.job.Job.{Job}
 use Rattle.lab_engine.specs.declared.job.Job.TheVariants as jobs
+use Rattle.lab_engine.specs.declared.answer.PuzzleJob.{PuzzleJob}
+use Rattle.lab_engine.specs.declared.answer.PuzzleJob.TheVariants as puzzle_jobs
 use Rattle.lab_engine.specs.declared.answer.Answer.{Answer}
 use Rattle.lab_engine.specs.declared.answer.Answer.TheVariants.{Text, Refused}
+use Rattle.poly_texts.specs.declared.fault.Fault as puzzle
+use Rattle.poly_texts.specs.Faults as puzzle_faults
+use Rattle.poly_texts.specs.Puzzle.{PuzzleValue}
+use Rattle.poly_texts.specs.Reading.{puzzle_of}
+use Rattle.poly_place.specs.Packings.{packing_problem}
 use Rattle.lab_engine.specs.Output.{cover_output}
+use Rattle.lab_engine.specs.Packed.{solve_output, count_output, options_output}
 
--- the words of a refusal: the fault's number, its name, and the number of its line
-abbrev pub refusal_words : Fault → ℕ → List (List ℕ)
-refusal_words fault line = codes "refused" ∷ codes "cover" ∷ decimal (number_of fault) ∷ name_of fault ∷ codes "line" ∷ decimal line ∷ []
+-- the words of a refused text: what it was to be, the fault's number, its name, and the number of its line
+abbrev pub refusal_words : List ℕ → ℕ → List ℕ → ℕ → List (List ℕ)
+refusal_words text number name line = codes "refused" ∷ text ∷ decimal number ∷ name ∷ codes "line" ∷ decimal line ∷ []
+
+-- the line that refuses a cover text
+abbrev pub cover_refusal : Fault → ℕ → List ℕ
+cover_refusal fault line = line_text (refusal_words (codes "cover") (number_of fault) (name_of fault) line)
+
+-- the line that refuses a puzzle text
+abbrev pub puzzle_refusal : puzzle.Fault → ℕ → List ℕ
+puzzle_refusal fault line = line_text (refusal_words (codes "puzzle") (puzzle_faults.number_of fault) (puzzle_faults.name_of fault) line)
+
+-- the line that refuses a puzzle with too many options
+abbrev pub place_refusal : List ℕ
+place_refusal = line_text (codes "refused" ∷ codes "place" ∷ codes "1" ∷ codes "TooManyOptions" ∷ [])
 
 -- a problem's output, or the refusal of a text
 abbrev pub covers_of : Result ProblemValue (Fault × ℕ) → Result (List ℕ) (List ℕ)
 covers_of (Ok p) = Ok (cover_output p)
-covers_of (Err f) = Err (line_text (refusal_words f.0 f.1))
+covers_of (Err f) = Err (cover_refusal f.0 f.1)
+
+-- what is written of a puzzle whose problem is within the limits, or the refusal of a text or of a puzzle
+abbrev pub packed_of : (PuzzleValue → List ℕ) → Result PuzzleValue (puzzle.Fault × ℕ) → Result (List ℕ) (List ℕ)
+packed_of output (Ok p) = if is_small (packing_problem p) then Ok (output p) else Err place_refusal
+packed_of output (Err f) = Err (puzzle_refusal f.0 f.1)
+
+-- what a job writes of a puzzle
+abbrev pub output_of : PuzzleJob → PuzzleValue → List ℕ
+output_of puzzle_jobs.Solve p = solve_output p
+output_of puzzle_jobs.Count p = count_output p
+output_of puzzle_jobs.Options p = options_output p
 
 -- what a job writes for an input, or the line that refuses it
 unfoldable pub outcome : Job → List ℕ → Result (List ℕ) (List ℕ)
 outcome jobs.Cover text = covers_of (problem_of text)
+outcome jobs.Solve text = packed_of solve_output (puzzle_of text)
+outcome jobs.Count text = packed_of count_output (puzzle_of text)
+outcome jobs.Options text = packed_of options_output (puzzle_of text)
 
 -- what is to be written: the text, or nothing where the input is refused
 abbrev pub to_write : Result (List ℕ) (List ℕ) → List ℕ

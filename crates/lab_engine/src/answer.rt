@@ -1,13 +1,21 @@
 //! What a job writes for an input.
-ghost use Rattle.std.specs.Prelude.{◌≡◌, IfOk};
+ghost use Rattle.std.specs.Prelude.{◌≡◌, IfOk, List, ℕ, codes};
 ghost use Rattle.text_lines.specs.Writing.{line_text};
 ghost use Rattle.cover_problem.specs.Reading.{problem_of};
-ghost use Rattle.lab_engine.specs.Outcome.{refusal_words, covers_of, outcome, outcome_of};
+ghost use Rattle.cover_problem.specs.Problem.{is_small};
+ghost use Rattle.poly_texts.specs.Puzzle.{PuzzleValue};
+ghost use Rattle.poly_texts.specs.Reading.{puzzle_of};
+ghost use Rattle.poly_place.specs.Packings.{packing_problem};
+ghost use Rattle.lab_engine.specs.Packed.{solve_output, count_output, options_output};
+ghost use Rattle.lab_engine.specs.Outcome.{refusal_words, place_refusal, covers_of, packed_of, outcome, outcome_of, output_of};
 
+use crate::cover::covers;
 use crate::job::Job;
 use crate::lines::{push_number, push_word};
-use crate::search::search;
-use cover_problem::{CoverFault, Fault, Table, read_cover};
+use crate::packed::{count, options, solve};
+use cover_problem::{CoverFault, Table, read_cover};
+use poly_place::{Compiled, PlaceFault, compile};
+use poly_texts::{Puzzle, PuzzleFault, read_puzzle};
 use std::alloc::{AllocError, Global};
 
 /// The text to write, or the line that refuses the input.
@@ -17,36 +25,105 @@ pub enum Answer {
     Refused(Vec<u8>),
 }
 
-/// The line that refuses a cover text.
-fn refusal(alloc: Global, fault: Fault, line: u64) -> Result<Vec<u8>, AllocError>
-    ensures { IfOk result (λ text. text.items ≡ line_text (refusal_words fault line)) }
-{
-    let mut text = Vec::from_slice(alloc, b"refused cover")?;
-    push_number(&mut text, fault.number())?;
-    push_word(&mut text, fault.name())?;
-    push_word(&mut text, "line")?;
-    push_number(&mut text, line)?;
-    text.push(b'\n')?;
-    Ok(text)
-}
-
-/// The exact covers of a cover text, or its refusal.
-fn covers<T: Table>(alloc: Global, text: &[u8]) -> Result<Answer, AllocError>
-    ensures { IfOk result (λ answer. outcome_of answer ≡ covers_of (problem_of text.now)) }
-{
-    match read_cover(alloc, text) {
-        Ok(problem) => Ok(Answer::Text(search::<T>(alloc, &problem)?)),
-        Err(CoverFault::Fault { fault, line }) => Ok(Answer::Refused(refusal(alloc, fault, line)?)),
-        Err(CoverFault::OutOfMemory) => Err(AllocError),
-    }
-}
-
 /// What the job writes for an input.
 #[tactic(auto, unfolding(crate::specs::Outcome::outcome))]
 pub fn answer_to<T: Table>(alloc: Global, job: Job, input: &[u8]) -> Result<Answer, AllocError>
     ensures { IfOk result (λ answer. outcome_of answer ≡ outcome job input.now) }
 {
     match job {
-        Job::Cover => covers::<T>(alloc, input),
+        Job::Cover => cover_answer::<T>(alloc, input),
+        Job::Solve => puzzle_answer::<T>(alloc, PuzzleJob::Solve, input),
+        Job::Count => puzzle_answer::<T>(alloc, PuzzleJob::Count, input),
+        Job::Options => puzzle_answer::<T>(alloc, PuzzleJob::Options, input),
     }
+}
+
+/// The exact covers of a cover text, or its refusal.
+fn cover_answer<T: Table>(alloc: Global, text: &[u8]) -> Result<Answer, AllocError>
+    ensures { IfOk result (λ answer. outcome_of answer ≡ covers_of (problem_of text.now)) }
+{
+    match read_cover(alloc, text) {
+        Ok(problem) => Ok(Answer::Text(covers::<T>(alloc, &problem)?)),
+        Err(CoverFault::Fault { fault, line }) => {
+            let (number, name) = (fault.number(), fault.name());
+            Ok(Answer::Refused(refusal(alloc, "cover", number, name, line)?))
+        }
+        Err(CoverFault::OutOfMemory) => Err(AllocError),
+    }
+}
+
+/// What is asked of a puzzle.
+#[derive(Clone, Copy)]
+pub enum PuzzleJob {
+    Solve,
+    Count,
+    Options,
+}
+
+/// What the job writes of the puzzle of a text, or the refusal of the text or of the puzzle.
+fn puzzle_answer<T: Table>(alloc: Global, job: PuzzleJob, text: &[u8]) -> Result<Answer, AllocError>
+    ensures { IfOk result (λ answer. outcome_of answer ≡ packed_of (output_of job) (puzzle_of text.now)) }
+{
+    match read_puzzle(alloc, text) {
+        Ok(puzzle) => packed_answer::<T>(alloc, job, &puzzle),
+        Err(PuzzleFault::Fault { fault, line }) => {
+            let (number, name) = (fault.number(), fault.name());
+            Ok(Answer::Refused(refusal(alloc, "puzzle", number, name, line)?))
+        }
+        Err(PuzzleFault::OutOfMemory) => Err(AllocError),
+    }
+}
+
+/// What the job writes of a puzzle, or its refusal.
+fn packed_answer<T: Table>(
+    alloc: Global,
+    job: PuzzleJob,
+    puzzle: &Puzzle,
+) -> Result<Answer, AllocError>
+    ensures { (given : PuzzleValue) → given ≡ puzzle.now →
+        IfOk result (λ answer. outcome_of answer ≡ packed_of (output_of job) (Ok given)) }
+{
+    match compile(alloc, puzzle) {
+        Ok(compiled) => Ok(Answer::Text(packed_text::<T>(alloc, job, &compiled)?)),
+        Err(PlaceFault::TooManyOptions) => {
+            let line = Vec::from_slice(alloc, b"refused place 1 TooManyOptions\n")?;
+            Ok(Answer::Refused(line))
+        }
+        Err(PlaceFault::OutOfMemory) => Err(AllocError),
+    }
+}
+
+/// What the job writes of a puzzle whose problem is within the limits.
+fn packed_text<T: Table>(
+    alloc: Global,
+    job: PuzzleJob,
+    compiled: &Compiled<'_>,
+) -> Result<Vec<u8>, AllocError>
+    ensures { IfOk result (λ text. text.items ≡ output_of job compiled.now) }
+{
+    match job {
+        PuzzleJob::Solve => solve::<T>(alloc, compiled),
+        PuzzleJob::Count => count::<T>(alloc, compiled),
+        PuzzleJob::Options => options(alloc, compiled),
+    }
+}
+
+/// The line that refuses a text.
+fn refusal(
+    alloc: Global,
+    text: &str,
+    number: u8,
+    name: &str,
+    line: u64,
+) -> Result<Vec<u8>, AllocError>
+    ensures { IfOk result (λ bytes. bytes.items ≡ line_text (refusal_words text.now number name.now line)) }
+{
+    let mut bytes = Vec::from_slice(alloc, b"refused")?;
+    push_word(&mut bytes, text)?;
+    push_number(&mut bytes, number)?;
+    push_word(&mut bytes, name)?;
+    push_word(&mut bytes, "line")?;
+    push_number(&mut bytes, line)?;
+    bytes.push(b'\n')?;
+    Ok(bytes)
 }

@@ -1,6 +1,6 @@
 //! Pieces in boxes through `run`, with the counts that two other programs print.
 
-use crate::lines::push_word;
+use crate::lines::{push_number, push_word};
 use crate::tests::{cover, ends_with};
 use std::alloc::{AllocError, Global};
 use std::test::Fail;
@@ -11,33 +11,29 @@ type Cell = (u32, u32, u32);
 /// The cells of a box in order, each with a bit of its own, from the highest down.
 type Grid = Vec<(Cell, u64)>;
 
-/// A name, and cells as the digits of x, y and z.
-type Piece = (&'static str, &'static [u32]);
+/// Pieces, a line each: a name, and cells as the digits of x, y and z.
+const SOMA: &str = "\
+V 000 001 010
+L 000 001 002 010
+T 000 001 002 011
+Z 000 001 011 012
+A 000 001 010 101
+B 000 001 010 110
+P 000 001 010 100";
 
-const SOMA: [Piece; 7] = [
-    ("V", &[000, 001, 010]),
-    ("L", &[000, 001, 002, 010]),
-    ("T", &[000, 001, 002, 011]),
-    ("Z", &[000, 001, 011, 012]),
-    ("A", &[000, 001, 010, 101]),
-    ("B", &[000, 001, 010, 110]),
-    ("P", &[000, 001, 010, 100]),
-];
-
-const PENTOMINOES: [Piece; 12] = [
-    ("F", &[000, 010, 110, 120, 210]),
-    ("I", &[000, 100, 200, 300, 400]),
-    ("L", &[000, 010, 100, 200, 300]),
-    ("N", &[000, 100, 110, 210, 310]),
-    ("P", &[000, 010, 020, 100, 110]),
-    ("T", &[000, 010, 020, 110, 210]),
-    ("U", &[000, 010, 020, 100, 120]),
-    ("V", &[000, 010, 020, 100, 200]),
-    ("W", &[000, 010, 110, 120, 220]),
-    ("X", &[010, 100, 110, 120, 210]),
-    ("Y", &[000, 100, 110, 200, 300]),
-    ("Z", &[000, 010, 110, 210, 220]),
-];
+const PENTOMINOES: &str = "\
+F 000 010 110 120 210
+I 000 100 200 300 400
+L 000 010 100 200 300
+N 000 100 110 210 310
+P 000 010 020 100 110
+T 000 010 020 110 210
+U 000 010 020 100 120
+V 000 010 020 100 200
+W 000 010 110 120 220
+X 010 100 110 120 210
+Y 000 100 110 200 300
+Z 000 010 110 210 220";
 
 fn grid_of(alloc: Global, size: Cell) -> Result<Grid, AllocError> {
     let mut grid = Vec::new(alloc);
@@ -53,10 +49,18 @@ fn grid_of(alloc: Global, size: Cell) -> Result<Grid, AllocError> {
     Ok(grid)
 }
 
-fn cells_of(alloc: Global, digits: &[u32]) -> Result<Vec<Cell>, AllocError> {
+/// A piece's name.
+fn name_of(piece: &str) -> &str {
+    piece.split(' ').next().unwrap_or("")
+}
+
+/// A piece's cells, somewhere: each coordinate is the byte of its digit.
+fn cells_of(alloc: Global, piece: &str) -> Result<Vec<Cell>, AllocError> {
     let mut cells = Vec::new(alloc);
-    for cell in digits {
-        cells.push((*cell / 100, *cell / 10 % 10, *cell % 10))?;
+    for word in piece.split(' ') {
+        if let [x, y, z] = word.as_bytes() {
+            cells.push((u32::from(*x), u32::from(*y), u32::from(*z)))?;
+        }
     }
     Ok(cells)
 }
@@ -90,7 +94,7 @@ fn bits_at(grid: &[(Cell, u64)], cells: &[Cell], place: Cell) -> Option<u64> {
 }
 
 /// Where a piece fits, each place once. The 64 turns go through the 24 rotations.
-fn placements(alloc: Global, grid: &[(Cell, u64)], piece: &[u32]) -> Result<Vec<u64>, AllocError> {
+fn placements(alloc: Global, grid: &[(Cell, u64)], piece: &str) -> Result<Vec<u64>, AllocError> {
     let mut cells = cells_of(alloc, piece)?;
     let mut found = Vec::new(alloc);
     for turns in 1..65u32 {
@@ -112,23 +116,19 @@ fn placements(alloc: Global, grid: &[(Cell, u64)], piece: &[u32]) -> Result<Vec<
     Ok(found)
 }
 
-/// Appends a space and the three coordinates of a cell, from `0` to `9` and on from `a`.
-fn push_cell(text: &mut Vec<u8>, cell: &Cell) -> Result<(), AllocError> {
-    let digits = "0123456789abcdefghij";
+/// The name of a cell: its coordinates as the digits of a number.
+fn cell_number(cell: &Cell) -> u32 {
     let (x, y, z) = *cell;
-    text.push(b' ')?;
-    for coordinate in [x, y, z] {
-        let digit = digits.bytes().nth(coordinate as usize).unwrap_or(b'?');
-        text.push(digit)?;
-    }
-    Ok(())
+    x.wrapping_mul(100)
+        .wrapping_add(y.wrapping_mul(10))
+        .wrapping_add(z)
 }
 
 /// Appends the cells with these bits.
 fn push_cells(text: &mut Vec<u8>, grid: &[(Cell, u64)], bits: u64) -> Result<(), AllocError> {
     for (cell, bit) in grid {
         if bits & *bit != 0 {
-            push_cell(text, cell)?;
+            push_number(text, cell_number(cell))?;
         }
     }
     Ok(())
@@ -136,17 +136,17 @@ fn push_cells(text: &mut Vec<u8>, grid: &[(Cell, u64)], bits: u64) -> Result<(),
 
 /// The cover text: an item for each piece and each cell, and an option for each placement, the pieces in order and a piece's
 /// placements in the order of their cells.
-fn text_of(alloc: Global, size: Cell, pieces: &[Piece]) -> Result<Vec<u8>, AllocError> {
+fn text_of(alloc: Global, size: Cell, pieces: &str) -> Result<Vec<u8>, AllocError> {
     let grid = grid_of(alloc, size)?;
     let mut text = Vec::from_slice(alloc, b"items")?;
-    for (name, _) in pieces {
-        push_word(&mut text, name)?;
+    for piece in pieces.lines() {
+        push_word(&mut text, name_of(piece))?;
     }
     push_cells(&mut text, &grid, u64::MAX)?;
-    for (name, piece) in pieces {
+    for piece in pieces.lines() {
         for bits in placements(alloc, &grid, piece)?.iter().rev() {
             text.extend_from_slice(b"\noption")?;
-            push_word(&mut text, name)?;
+            push_word(&mut text, name_of(piece))?;
             push_cells(&mut text, &grid, *bits)?;
         }
     }
@@ -156,15 +156,15 @@ fn text_of(alloc: Global, size: Cell, pieces: &[Piece]) -> Result<Vec<u8>, Alloc
 
 #[test]
 fn packings_of_a_box_are_listed(rt: HostRuntime) -> Result<(), Fail> {
-    let rows: [(&[Piece], Cell, usize, &[u8]); 2] = [
+    let rows: [(&str, Cell, usize, &[u8]); 2] = [
         (
-            &SOMA,
+            SOMA,
             (3, 3, 3),
             11_523,
             b"\nvisits 11520\nsteps 1991327\nlevels 1 55 1089 10633 48900 110149 72329 11520\n",
         ),
         (
-            &PENTOMINOES,
+            PENTOMINOES,
             (20, 3, 1),
             11,
             b"\nvisits 8\nsteps 263103\nlevels 1 18 170 360 801 2252 4790 9284 7726 5150 1968 364 8\n",

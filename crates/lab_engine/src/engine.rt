@@ -79,11 +79,11 @@ fn work<I: Source, O: Sink>(alloc: Global, job: Job, reader: &mut I, writer: &mu
     }
 }
 
-/// Reads the whole input, does the job, writes the whole output, and answers the exit status. One line goes to `faults`
-/// where the status isn't 0; it is whole unless `faults` failed.
+/// Reads the whole input, does the job, writes the whole output, and answers the exit status. One line goes to
+/// `faults` where the status isn't 0; it is whole unless `faults` failed.
 ///
-/// What is written at status 0 is a function of the job and of the bytes read (`outcome`), and it lists exactly the exact
-/// covers of the input's problem, each once, in path order. At 3 and 4 nothing is written.
+/// What is written at status 0 is a function of the job and of the bytes read (`outcome`), and it lists exactly the
+/// exact covers of the input's problem, each once, in path order. At 3 and 4 nothing is written.
 pub fn run<R, I: Source, O: Sink, F: Sink>(
     _rt: &R,
     alloc: Global,
@@ -102,9 +102,11 @@ pub fn run<R, I: Source, O: Sink, F: Sink>(
     ensures refused { result ≡ 3 → (line : List ℕ) × Gives job (I.stream reader.old) (Err line)
         × Takes (F.stream faults.old) (F.stream faults.new) line }
     ensures memory { result ≡ 4 → Takes (F.stream faults.old) (F.stream faults.new) no_memory }
-    ensures unwritten { Contains (3 ∷ 4 ∷ []) result → Stays (O.stream writer.old) (O.stream writer.new) }
+    ensures unwritten { Contains (3 ∷ 4 ∷ []) result
+        → Stays (O.stream writer.old) (O.stream writer.new) }
     ensures failed { result ≡ 5 →
-        (IsUnread (I.stream reader.old) (I.stream reader.new) × Stays (O.stream writer.old) (O.stream writer.new)
+        (IsUnread (I.stream reader.old) (I.stream reader.new)
+        × Stays (O.stream writer.old) (O.stream writer.new)
         × Takes (F.stream faults.old) (F.stream faults.new) bad_reader)
         ⊎ (IsSound (I.stream reader.old) (I.stream reader.new) × HasFailed (O.stream writer.new)
         × Takes (F.stream faults.old) (F.stream faults.new) bad_writer) }
@@ -113,7 +115,8 @@ pub fn run<R, I: Source, O: Sink, F: Sink>(
     ensures limit { IfSome (I.stream reader.old).bytes (λ bytes.
         134217728 < length bytes → Contains (4 ∷ 5 ∷ []) result) }
     ensures beginning { IfSome (I.stream reader.old).bytes (λ bytes. (n : ℕ)
-        × Appends (O.stream writer.old).bytes (O.stream writer.new).bytes (take n (to_write (outcome job bytes)))) }
+        × Appends (O.stream writer.old).bytes (O.stream writer.new).bytes
+        (take n (to_write (outcome job bytes)))) }
 {
     let ending = work(alloc, job, reader, writer);
     tell_ending(faults, &ending);

@@ -3,9 +3,11 @@
 
 mod answer;
 mod count;
+mod cover;
 mod engine;
 mod job;
 mod lines;
+mod packed;
 mod report;
 mod search;
 
@@ -16,5 +18,7 @@ pub use job::Job;
 mod box_tests;
 #[cfg(test)]
 mod lockstep_tests;
+#[cfg(test)]
+mod puzzle_tests;
 #[cfg(test)]
 mod tests;

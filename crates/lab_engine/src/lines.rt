@@ -25,7 +25,8 @@ pub fn push_word(text: &mut Vec<u8>, word: &str) -> Result<(), AllocError>
 
 /// Appends a line: a key and a number.
 pub fn push_number_line(text: &mut Vec<u8>, key: &str, number: u128) -> Result<(), AllocError>
-    ensures { OnOk result (text.new.items ≡ text.old.items ++ line_text (key.now ∷ decimal number ∷ [])) }
+    ensures { OnOk result (text.new.items
+        ≡ text.old.items ++ line_text (key.now ∷ decimal number ∷ [])) }
 {
     text.extend_from_slice(key.as_bytes())?;
     push_number(text, number)?;
@@ -35,7 +36,8 @@ pub fn push_number_line(text: &mut Vec<u8>, key: &str, number: u128) -> Result<(
 
 /// Appends a line: a key and the options of a path.
 pub fn push_path_line(text: &mut Vec<u8>, key: &str, path: &[u32]) -> Result<(), AllocError>
-    ensures { OnOk result (text.new.items ≡ text.old.items ++ line_text (key.now ∷ map decimal path.now)) }
+    ensures { OnOk result (text.new.items
+        ≡ text.old.items ++ line_text (key.now ∷ map decimal path.now)) }
 {
     text.extend_from_slice(key.as_bytes())?;
     for option in path {
@@ -47,7 +49,8 @@ pub fn push_path_line(text: &mut Vec<u8>, key: &str, path: &[u32]) -> Result<(),
 
 /// Appends a line: a key and numbers.
 pub fn push_numbers_line(text: &mut Vec<u8>, key: &str, numbers: &[u128]) -> Result<(), AllocError>
-    ensures { OnOk result (text.new.items ≡ text.old.items ++ line_text (key.now ∷ map decimal numbers.now)) }
+    ensures { OnOk result (text.new.items
+        ≡ text.old.items ++ line_text (key.now ∷ map decimal numbers.now)) }
 {
     text.extend_from_slice(key.as_bytes())?;
     for number in numbers {

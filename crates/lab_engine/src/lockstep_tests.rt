@@ -143,7 +143,8 @@ fn walks<T: Table>(alloc: Global, problem: &Problem) -> Result<(Walk, Walk), All
     Ok((on, back))
 }
 
-/// How many steps a machine takes, if with either table it sees the same on its way to Done, and again on its way back to X1.
+/// How many steps a machine takes, if with either table it tells the same on its way to Done, and again on its way
+/// back to X1.
 fn steps_of_both(alloc: Global, problem: &Problem) -> Result<Option<usize>, AllocError> {
     let pair = walks::<PlainTable>(alloc, problem)?;
     let (on, back) = &pair;

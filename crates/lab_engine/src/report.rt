@@ -1,20 +1,21 @@
-//! What a search tells, gathered step by step.
-ghost use Rattle.std.specs.Prelude.{◌≡◌, ◌<◌, ◌+◌, ◌++◌, [], ◌∷◌, if◌then◌else◌, true, map, codes, decimal, length, replicate, IfOk, OnOk, IsTrue, ◌↔◌, ◌-◌, Some, slice_get};
-ghost use Rattle.text_lines.specs.Writing.{line_text, text_of};
+//! The report of a search, gathered step by step.
+ghost use Rattle.std.specs.Prelude.{◌≡◌, ◌<◌, ◌++◌, true, length, replicate, IfOk, OnOk, IsTrue, ◌↔◌, ◌-◌, Some, slice_get};
+ghost use Rattle.text_lines.specs.Writing.{text_of};
 ghost use Rattle.x_steps.specs.Steps.{is_level};
-ghost use Rattle.lab_engine.specs.Account.{with_step, one_more, empty_account, is_visited, visit_words};
-ghost use Rattle.lab_engine.specs.Output.{report_text, without_last_zeros};
+ghost use Rattle.lab_engine.specs.Account.{with_step, one_more, empty_account, kept_with, levels_with, visits_with};
+ghost use Rattle.lab_engine.specs.Output.{step_lines};
+ghost use Rattle.x_steps.specs.Levels.{without_last_zeros};
 
 use crate::count::Count;
-use crate::lines::{push_number_line, push_numbers_line, push_path_line};
+use crate::lines::{push_number_line, push_numbers_line};
 use std::alloc::{AllocError, Global};
 use std::marker::Model;
-use x_steps::{Event, Label};
+use x_steps::{Event, Label, Paths};
 
-/// The lines of the visits, and the numbers of visits, of steps, and of X2 states at each level.
+/// The visits that are kept, and the numbers of visits, of steps, and of X2 states at each level.
 #[derive(Drop)]
 pub struct Report {
-    text: Vec<u8>,
+    visits: Paths,
     visited: Count,
     steps: Count,
     entered: Vec<Count>,
@@ -25,7 +26,12 @@ impl Model for Report {
 
     ghost Value = { Account };
 
-    ghost view = { λ r. record { text = r.text.items; visited = r.visited; steps = r.steps; entered = r.entered.items } };
+    ghost view = { λ r. record {
+      visits = r.visits;
+      visited = r.visited;
+      steps = r.steps;
+      entered = r.entered.items;
+    } };
 }
 
 /// So many counts of nothing.
@@ -76,49 +82,65 @@ fn totals_of(alloc: Global, counts: &[Count]) -> Result<Vec<u128>, AllocError>
 }
 
 impl Report {
-    /// Nothing told, for a problem of so many items.
+    /// The report of no step, for a problem of so many items.
     pub fn new(alloc: Global, items: u32) -> Result<Report, AllocError>
         ensures { IfOk result (λ report. report ≡ empty_account items) }
     {
         let entered = no_counts(alloc, items as usize + 1)?;
         Ok(Report {
-            text: Vec::new(alloc),
+            visits: Paths::new(alloc),
             visited: Count::new(alloc),
             steps: Count::new(alloc),
             entered,
         })
     }
 
-    /// Notes a step: its label, what it told, and the path there.
-    pub fn note(&mut self, label: Label, event: Event, path: &[u32]) -> Result<(), AllocError>
+    /// Notes a step: its label, its event, and the path there, which is kept where it is a visit and visits are kept.
+    pub fn note(
+        &mut self,
+        keeps: bool,
+        label: Label,
+        event: Event,
+        path: &[u32],
+    ) -> Result<(), AllocError>
         requires { is_level label ≡ true → length path.now < length self.old.entered }
-        ensures { OnOk result (self.new ≡ with_step self.old label event path.now) }
+        ensures { OnOk result (self.new ≡ with_step keeps self.old label event path.now) }
     {
         self.steps.add_one()?;
         note_level(&mut self.entered, label, path.len())?;
-        note_visit(&mut self.text, &mut self.visited, event, path)
+        note_visit(&mut self.visited, event)?;
+        keep_visit(&mut self.visits, keeps, event, path)
     }
 
-    /// The text: the lines of the visits, and then the totals.
-    pub fn finish(self, alloc: Global) -> Result<Vec<u8>, AllocError>
-        ensures { IfOk result (λ text. text.items ≡ report_text self) }
+    /// The visits that are kept.
+    pub fn visits(&self) -> &Paths
+        ensures { result.now ≡ self.now.visits }
     {
-        let Report {
-            text,
-            visited,
-            steps,
-            entered,
-        } = self;
-        let mut entered = totals_of(alloc, &entered)?;
+        &self.visits
+    }
+
+    /// How many visits there were.
+    pub fn visited(&self) -> u128
+        ensures { result ≡ self.now.visited }
+    {
+        self.visited.total()
+    }
+
+    /// Adds the lines of the steps and of the levels.
+    pub fn push_steps(&self, alloc: Global, text: &mut Vec<u8>) -> Result<(), AllocError>
+        ensures { OnOk result (text.new.items ≡ text.old.items ++ text_of (step_lines self.now.steps (without_last_zeros self.now.entered))) }
+    {
+        let mut entered = totals_of(alloc, &self.entered)?;
         drop_last_zeros(&mut entered);
-        with_totals(text, visited.total(), steps.total(), &entered)
+        push_number_line(text, "steps", self.steps.total())?;
+        push_numbers_line(text, "levels", &entered)
     }
 }
 
 /// Notes an X2 state at its level.
 fn note_level(entered: &mut Vec<Count>, label: Label, level: usize) -> Result<(), AllocError>
     requires { is_level label ≡ true → level < length entered.old.items }
-    ensures { OnOk result (entered.new.items ≡ (if is_level label then one_more entered.old.items level else entered.old.items)) }
+    ensures { OnOk result (entered.new.items ≡ levels_with entered.old.items label level) }
 {
     match label {
         Label::X2 => count_at(entered, level),
@@ -126,37 +148,22 @@ fn note_level(entered: &mut Vec<Count>, label: Label, level: usize) -> Result<()
     }
 }
 
-/// Notes a visit, if the step told one.
-fn note_visit(
-    text: &mut Vec<u8>,
-    visited: &mut Count,
-    event: Event,
-    path: &[u32],
-) -> Result<(), AllocError>
-    ensures text { OnOk result (text.new.items ≡ (if is_visited event then text.old.items ++ line_text (visit_words path.now) else text.old.items)) }
-    ensures visited { OnOk result (visited.new ≡ (if is_visited event then visited.old + 1 else visited.old)) }
+/// Counts a visit, if the step came to one.
+fn note_visit(visited: &mut Count, event: Event) -> Result<(), AllocError>
+    ensures { OnOk result (visited.new ≡ visits_with visited.old event) }
 {
     match event {
-        Event::Visited => {
-            visited.add_one()?;
-            push_path_line(text, "visit", path)
-        }
+        Event::Visited => visited.add_one(),
         _ => Ok(()),
     }
 }
 
-/// The text with its last lines.
-fn with_totals(
-    text: Vec<u8>,
-    visited: u128,
-    steps: u128,
-    entered: &[u128],
-) -> Result<Vec<u8>, AllocError>
-    ensures { IfOk result (λ whole. whole.items ≡ text.items ++ text_of ((codes "visits" ∷ decimal visited ∷ []) ∷ (codes "steps" ∷ decimal steps ∷ []) ∷ (codes "levels" ∷ map decimal entered.now) ∷ [])) }
+/// Keeps a visit, if the step came to one and visits are kept.
+fn keep_visit(visits: &mut Paths, keeps: bool, event: Event, path: &[u32]) -> Result<(), AllocError>
+    ensures { OnOk result (visits.new ≡ kept_with keeps visits.old event path.now) }
 {
-    let mut whole = text;
-    push_number_line(&mut whole, "visits", visited)?;
-    push_number_line(&mut whole, "steps", steps)?;
-    push_numbers_line(&mut whole, "levels", entered)?;
-    Ok(whole)
+    match event {
+        Event::Visited if keeps => visits.push(path),
+        _ => Ok(()),
+    }
 }

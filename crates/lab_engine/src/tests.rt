@@ -19,22 +19,40 @@ pub struct Done {
     pub faults: Vec<u8>,
 }
 
-pub fn cover(rt: &HostRuntime, text: &[u8]) -> Done {
-    let mut output = Vec::new(rt.alloc());
-    let mut faults = Vec::new(rt.alloc());
-    let status = run(
+/// The status of `cover` on what this reader reads.
+fn status_of<R: Read + Drop, W: Write + Drop>(
+    rt: &HostRuntime,
+    reader: R,
+    writer: W,
+    faults: &mut Vec<u8>,
+) -> u8 {
+    run(
         rt,
         rt.alloc(),
         Job::Cover,
-        &mut Watched::reader(text),
-        &mut Watched::writer(&mut output),
-        &mut Watched::writer(&mut faults),
-    );
+        &mut Watched::reader(reader),
+        &mut Watched::writer(writer),
+        &mut Watched::writer(faults),
+    )
+}
+
+pub fn cover(rt: &HostRuntime, text: &[u8]) -> Done {
+    let mut output = Vec::new(rt.alloc());
+    let mut faults = Vec::new(rt.alloc());
+    let status = status_of(rt, text, &mut output, &mut faults);
     Done {
         status,
         output,
         faults,
     }
+}
+
+/// Whether `cover` on the text ends so.
+fn ends_so(rt: &HostRuntime, text: &str, status: u8, output: &str, line: &str) -> bool {
+    let done = cover(rt, text.as_bytes());
+    done.status == status
+        && done.output.as_slice() == output.as_bytes()
+        && done.faults.as_slice() == line.as_bytes()
 }
 
 #[test]
@@ -52,14 +70,7 @@ fn covers_are_listed(rt: HostRuntime) {
         ),
     ];
     for (text, output) in rows {
-        let Done {
-            status,
-            output: written,
-            faults,
-        } = cover(&rt, text.as_bytes());
-        assert_eq!(rt; written.as_slice(), output.as_bytes(), "for {text}");
-        assert_eq!(rt; status, 0, "for {text}");
-        assert!(rt; faults.is_empty(), "for {text}");
+        assert!(rt; ends_so(&rt, text, 0, output, ""), "for {text}");
     }
 }
 
@@ -79,14 +90,7 @@ fn texts_are_refused(rt: HostRuntime) {
         ("option", "refused cover 7 BadLine line 1\n"),
     ];
     for (text, line) in rows {
-        let Done {
-            status,
-            output,
-            faults,
-        } = cover(&rt, text.as_bytes());
-        assert_eq!(rt; faults.as_slice(), line.as_bytes(), "for {text}");
-        assert_eq!(rt; status, 3, "for {text}");
-        assert!(rt; output.is_empty(), "for {text}");
+        assert!(rt; ends_so(&rt, text, 3, "", line), "for {text}");
     }
 }
 
@@ -158,29 +162,12 @@ impl Write for Takes {
     }
 }
 
-/// The status of `cover` on the small problem, read by this reader and written by this writer.
-fn small<R: Read + Drop, W: Write + Drop>(
-    rt: &HostRuntime,
-    reader: R,
-    writer: W,
-    faults: &mut Vec<u8>,
-) -> u8 {
-    run(
-        rt,
-        rt.alloc(),
-        Job::Cover,
-        &mut Watched::reader(reader),
-        &mut Watched::writer(writer),
-        &mut Watched::writer(faults),
-    )
-}
-
 #[test]
 fn a_broken_reader_is_told(rt: HostRuntime) {
     let mut output: Vec<u8> = Vec::new(rt.alloc());
     let mut faults: Vec<u8> = Vec::new(rt.alloc());
     let reader = Breaks(SMALL.as_bytes());
-    assert!(rt; small(&rt, reader, &mut output, &mut faults) == 5);
+    assert!(rt; status_of(&rt, reader, &mut output, &mut faults) == 5);
     assert!(rt; faults.as_slice() == b"refused input\n".as_slice());
     assert!(rt; output.is_empty());
 }
@@ -193,7 +180,7 @@ fn a_broken_writer_is_told(rt: HostRuntime) {
             left,
             taken: Vec::new(rt.alloc()),
         };
-        let status = small(&rt, SMALL.as_bytes(), &mut writer, &mut faults);
+        let status = status_of(&rt, SMALL.as_bytes(), &mut writer, &mut faults);
         let whole = left == SMALL_OUTPUT.len();
         let line: &[u8] = if whole { b"" } else { b"refused output\n" };
         assert!(rt; status == if whole { 0 } else { 5 });

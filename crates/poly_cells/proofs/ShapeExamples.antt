@@ -1,8 +1,9 @@
--- The examples of specs/Shapes.antt and specs/Images.antt, computed.
-use Rattle.std.proofs.Common.{◌≡◌, Bool, false, ◌==◌, ◌&&◌, List, [], ◌∷◌, map, length, filter, pos, refl}
+-- The examples of specs/Shapes.antt, specs/Images.antt and specs/Points.antt, computed.
+use Rattle.std.proofs.Common.{◌≡◌, Bool, false, List, [], ◌∷◌, map, length, filter, pos, negsuc, refl}
 use Rattle.std.specs.List.{range_with_len, list_any}
 use lib.Pointwise.{pointwise}
 use Rattle.poly_cells.specs.Coordinates.{Coordinates, coordinates}
+use Rattle.poly_cells.specs.CellTests.{is_same}
 use Rattle.poly_cells.specs.Points.{point, point_at, translated}
 use Rattle.poly_cells.specs.Symmetries.{matrix, is_rotation, rotations}
 use Rattle.poly_cells.specs.Sets.{in_order}
@@ -22,13 +23,16 @@ translated_by_one : map point pair ≡ map (λ (v : Coordinates). translated (po
 unfolding normal
 translated_by_one = refl
 
+past_the_origin : translated (point_at (negsuc 1) (pos 0) (pos 0)) (point (coordinates 1 0 0)) ≡ point_at (negsuc 0) (pos 0) (pos 0)
+past_the_origin = refl
+
 -- rotation 4 lays a row along y down along z
 laid_along_z : turned 9 (coordinates 0 0 0 ∷ coordinates 0 1 0 ∷ []) ≡ coordinates 0 0 0 ∷ coordinates 0 0 1 ∷ []
 unfolding matrix in_order normal turned
 laid_along_z = refl
 
 abbrev same : List Coordinates → List Coordinates → Bool
-same vs ws = pointwise (λ (v w : Coordinates). (v.x == w.x) && ((v.y == w.y) && (v.z == w.z))) vs ws
+same vs ws = pointwise is_same vs ws
 
 -- the square of four cells comes onto itself by 16 symmetries
 abbrev square : List Coordinates

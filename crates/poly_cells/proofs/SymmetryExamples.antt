@@ -1,4 +1,4 @@
--- The examples of specs/Symmetries.antt and specs/Turns.antt, computed.
+-- The examples of specs/Symmetries.antt, specs/Turns.antt and specs/Products.antt, computed.
 use Rattle.std.proofs.Common.{◌≡◌, [], ◌∷◌, refl, pos, negsuc, take, slice_index}
 use Rattle.poly_cells.specs.Coordinates.{coordinates}
 use Rattle.poly_cells.specs.Points.{point_at}
@@ -26,6 +26,14 @@ first_rotations = refl
 an_exchange_is_no_rotation : determinant (matrix 8) ≡ negsuc 0
 unfolding matrix
 an_exchange_is_no_rotation = refl
+
+twice_numbered : composed 9 9 ≡ 3
+unfolding matrix composed
+twice_numbered = refl
+
+back_numbered : inverse_of 9 ≡ 10
+unfolding matrix inverse_of
+back_numbered = refl
 
 -- a quarter turn twice is rotation 1
 twice : composed 9 9 ≡ slice_index rotations 1

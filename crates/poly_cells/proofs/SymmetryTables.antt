@@ -97,11 +97,11 @@ all_numbers : all_below 48 (λ n. number_from (sent_by n probe) == n) ≡ true
 unfolding matrix
 all_numbers = refl
 
-pub known_by_probe : (n : ℕ) → n < 48 → number_from (sent_by n probe) ≡ n
-known_by_probe n ln = eqb-true _ _ (all_at 48 (λ n. number_from (sent_by n probe) == n) all_numbers n ln)
+pub number_of_probe : (n : ℕ) → n < 48 → number_from (sent_by n probe) ≡ n
+number_of_probe n ln = eqb-true _ _ (all_at 48 (λ n. number_from (sent_by n probe) == n) all_numbers n ln)
 
 pub faithful : (a b : ℕ) → a < 48 → b < 48 → sent_by a probe ≡ sent_by b probe → a ≡ b
-faithful a b la lb h = sym (known_by_probe a la) ∙ ap number_from h ∙ known_by_probe b lb
+faithful a b la lb h = sym (number_of_probe a la) ∙ ap number_from h ∙ number_of_probe b lb
 
 -- ---- rotations
 

@@ -1,4 +1,6 @@
 -- Points with integer coordinates: where matrices act, and where a translation may lead anywhere.
+--
+-- Example: the cell 1 0 0, translated by -2 0 0, is the point -1 0 0 (proofs/ShapeExamples.antt).
 use Rattle.std.specs.Prelude.{ℤ, pos, ◌+ℤ◌}
 use Rattle.poly_cells.specs.Coordinates.{Coordinates}
 

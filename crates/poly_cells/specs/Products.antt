@@ -1,4 +1,7 @@
 -- How the code computes with matrices: products, inverses and numbers. Contracts of private functions cite these words.
+--
+-- Example: a quarter turn about x, symmetry 9, twice is symmetry 3, and its inverse is symmetry 10
+-- (proofs/SymmetryExamples.antt).
 use Rattle.std.specs.Prelude.{ℕ, ◌+◌, ◌*◌, Bool, cond, not, ◌||◌, ◌==◌, nat_lt}
 use Rattle.std.specs.Int.{from_bool}
 use Rattle.poly_cells.specs.Symmetries.{pick, Matrix, matrix}

@@ -32,7 +32,7 @@ pub enum TranslateFault {
 }
 
 impl TranslateFault {
-    /// The fault's number; want of memory has none.
+    /// The fault's number; out of memory has none.
     pub fn number(self) -> Option<u8>
         ensures out_of_range { self ≡ TranslateFault.OutOfRange → result ≡ Some 1 }
         ensures out_of_memory { self ≡ TranslateFault.OutOfMemory → result ≡ None }

@@ -1,13 +1,13 @@
-//! Each public function once, with values from outside: rows worked by hand and known counts.
+//! Each public function once, with values from outside: rows worked by hand, and counts.
 use crate::{Cell, Rotation, Shape, Symmetry, TranslateFault, put_in_order, symmetries_of};
 use std::alloc::Global;
 use std::test::Fail;
 
 // The shape of these cells, in any order.
-fn shape_of(alloc: Global, places: &[[u8; 3]]) -> Result<Shape, Fail> {
+fn shape_of(alloc: Global, rows: &[[u8; 3]]) -> Result<Shape, Fail> {
     let mut cells = Vec::new(alloc);
-    for place in places {
-        cells.push(Cell::new(place[0], place[1], place[2])?)?;
+    for row in rows {
+        cells.push(Cell::new(row[0], row[1], row[2])?)?;
     }
     put_in_order(&mut cells);
     if cells.is_empty() {

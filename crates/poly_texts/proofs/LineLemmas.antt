@@ -171,7 +171,7 @@ piece_taken s optional (word ∷ words) t h =
       name = p.1.0;
       cs = m.cs;
       words_are = words_same w.1 m.words_are;
-      good = and_from _ _ w.0 (and_from _ _ (and_from _ _ (some_cells m.cs some) m.places) (and_from _ _ (subst (λ cs. are_apart cs ≡ true) all m.apart) (le-leb (length m.cs) most_piece_cells (subst (λ cs. length cs ≤ most_piece_cells) all m.few))));
+      good = and_from _ _ w.0 (and_from _ _ (and_from _ _ (some_cells m.cs some) m.in_grid) (and_from _ _ (subst (λ cs. are_apart cs ≡ true) all m.apart) (le-leb (length m.cs) most_piece_cells (subst (λ cs. length cs ≤ most_piece_cells) all m.few))));
       new = not_from_false _ n.1;
       more = sym p.1.2.2 ∙ ap (with_piece s optional p.1.0) (sym k.2 ∙ ap kept_shape all);
     }
@@ -212,8 +212,8 @@ box_parts : (s : DraftValue) (words : List (List ℕ)) (t : DraftValue) → box_
 unfolding box_line
 box_parts s words t h = box_taken s words (three_words words) t refl h
 
-places_from : (cs : List Coordinates) (words : List (List ℕ)) → words ≡ map cell_word cs → is_empty words ≡ false → list_all is_in_grid cs ≡ true → are_in_grid cs ≡ true
-places_from cs words e some p = and_from _ _ (some_cells cs (rw (← e) some)) p
+in_grid_from_words : (cs : List Coordinates) (words : List (List ℕ)) → words ≡ map cell_word cs → is_empty words ≡ false → list_all is_in_grid cs ≡ true → are_in_grid cs ≡ true
+in_grid_from_words cs words e some p = and_from _ _ (some_cells cs (rw (← e) some)) p
 
 cells_taken : (s : DraftValue) (words : List (List ℕ)) (t : DraftValue) → cells_line s words ≡ Ok t → IsTakenLine s (codes "cells" ∷ words) t
 unfolding cells_line
@@ -225,7 +225,7 @@ cells_taken s words t h =
     record {
       line = cells false m.cs;
       words_are = ap (λ ws. codes "cells" ∷ ws) m.words_are;
-      good = places_from m.cs words m.words_are u.0 m.places;
+      good = in_grid_from_words m.cs words m.words_are u.0 m.in_grid;
       fits = subst (λ named. nat_le (length named) most_region_cells ≡ true) m.all_are x.0;
       more = sym x.1 ∙ ap (λ named. record s { named = named }) m.all_are;
     }
@@ -238,12 +238,12 @@ maybe_taken s words t h =
     let d = bind_ok (each add_cell s.maybe_cells words) (λ maybe. within (record s { named = b.0; maybe_cells = maybe })) t b.2 in
     let x = within_is (record s { named = b.0; maybe_cells = d.0 }) t d.2 in
     let m = cells_are s.named words b.0 b.1 in
-    let again : each add_cell s.maybe_cells words ≡ Ok (with_cells s.maybe_cells m.cs) = ap (each add_cell s.maybe_cells) m.words_are ∙ cells_again s.maybe_cells m.cs m.places in
+    let again : each add_cell s.maybe_cells words ≡ Ok (with_cells s.maybe_cells m.cs) = ap (each add_cell s.maybe_cells) m.words_are ∙ cells_again s.maybe_cells m.cs m.in_grid in
     let same : d.0 ≡ with_cells s.maybe_cells m.cs = ok_is d.0 (with_cells s.maybe_cells m.cs) (sym d.1 ∙ again) in
     record {
       line = cells true m.cs;
       words_are = ap (λ ws. codes "maybe" ∷ codes "cells" ∷ ws) m.words_are;
-      good = places_from m.cs words m.words_are u.0 m.places;
+      good = in_grid_from_words m.cs words m.words_are u.0 m.in_grid;
       fits = subst (λ named. nat_le (length named) most_region_cells ≡ true) m.all_are x.0;
       more = sym x.1 ∙ ap (λ named. record s { named = named; maybe_cells = d.0 }) m.all_are ∙ ap (λ maybe. record s { named = with_cells s.named m.cs; maybe_cells = maybe }) same;
     }
@@ -257,7 +257,7 @@ cut_taken s words t h =
     record {
       line = cut m.cs;
       words_are = ap (λ ws. codes "cut" ∷ ws) m.words_are;
-      good = places_from m.cs words m.words_are u.0 m.places;
+      good = in_grid_from_words m.cs words m.words_are u.0 m.in_grid;
       fits = refl;
       more = sym (ok_is (record s { cut = b.0 }) t b.2) ∙ ap (λ cut. record s { cut = cut }) m.all_are;
     }

@@ -57,7 +57,7 @@ maybe_left gone named maybe f = all_pass (has_cell (in_order coordinates_cmp (wi
 
 -- *the puzzle*
 
-puzzle_is : (text : List ℕ) (p : PuzzleValue) → IsPuzzleText text p → IsPuzzle p
+pub puzzle_is : (text : List ℕ) (p : PuzzleValue) → IsPuzzleText text p → IsPuzzle p
 puzzle_is text p t =
     let ls = t.lines in
     subst IsPuzzle (sym t.puzzle) (record {

@@ -43,7 +43,7 @@ cells_again acc (c ∷ cs) h =
 pub record AreCells (acc : List Coordinates) (words : List (List ℕ)) (all : List Coordinates) : Type 0 where
   pub cs : List Coordinates
   pub words_are : words ≡ map cell_word cs
-  pub places : list_all is_in_grid cs ≡ true
+  pub in_grid : list_all is_in_grid cs ≡ true
   pub all_are : all ≡ with_cells acc cs
 
 added : (cells : List Coordinates) (word : List ℕ) (more : List Coordinates) → add_cell cells word ≡ Ok more → (c : Coordinates) × (cell_of word ≡ Some c) × (with_cell cells c ≡ more)
@@ -54,7 +54,7 @@ added cells word more h =
 
 pub cells_are : (acc : List Coordinates) (words : List (List ℕ)) (all : List Coordinates) → each add_cell acc words ≡ Ok all → AreCells acc words all
 unfolding with_cells
-cells_are acc [] all h = record { cs = []; words_are = refl; places = refl; all_are = sym (each_none add_cell acc all h) }
+cells_are acc [] all h = record { cs = []; words_are = refl; in_grid = refl; all_are = sym (each_none add_cell acc all h) }
 cells_are acc (w ∷ words) all h = step (λ t. cells_are t words all) (each_parts add_cell acc w words all h)
   where
     step : ((t : List Coordinates) → each add_cell t words ≡ Ok all → AreCells t words all) → (t : List Coordinates) × (add_cell acc w ≡ Ok t) × (each add_cell t words ≡ Ok all) → AreCells acc (w ∷ words) all
@@ -65,7 +65,7 @@ cells_are acc (w ∷ words) all h = step (λ t. cells_are t words all) (each_par
         record {
           cs = d.0 ∷ l.cs;
           words_are = words_same k.1 l.words_are;
-          places = and_from _ _ k.0 l.places;
+          in_grid = and_from _ _ k.0 l.in_grid;
           all_are = l.all_are ∙ ap (λ s. with_cells s l.cs) (sym d.2);
         }
 
@@ -105,7 +105,7 @@ piece_again acc (c ∷ cs) p a l =
 pub record AreTaken (acc : List Coordinates) (words : List (List ℕ)) (all : List Coordinates) : Type 0 where
   pub cs : List Coordinates
   pub words_are : words ≡ map cell_word cs
-  pub places : list_all is_in_grid cs ≡ true
+  pub in_grid : list_all is_in_grid cs ≡ true
   pub all_are : all ≡ acc ++ cs
   pub apart : are_apart all ≡ true
   pub few : length all ≤ most_piece_cells
@@ -113,7 +113,7 @@ pub record AreTaken (acc : List Coordinates) (words : List (List ℕ)) (all : Li
 pub piece_cells_are : (acc : List Coordinates) (words : List (List ℕ)) (all : List Coordinates) → are_apart acc ≡ true → length acc ≤ most_piece_cells → each add_piece_cell acc words ≡ Ok all → AreTaken acc words all
 piece_cells_are acc [] all a l h =
     let e = each_none add_piece_cell acc all h in
-    record { cs = []; words_are = refl; places = refl; all_are = sym e ∙ sym (append-nil acc); apart = subst (λ s. are_apart s ≡ true) e a; few = subst (λ s. length s ≤ most_piece_cells) e l }
+    record { cs = []; words_are = refl; in_grid = refl; all_are = sym e ∙ sym (append-nil acc); apart = subst (λ s. are_apart s ≡ true) e a; few = subst (λ s. length s ≤ most_piece_cells) e l }
 piece_cells_are acc (w ∷ words) all a l h = step (λ t. piece_cells_are t words all) (each_parts add_piece_cell acc w words all h)
   where
     step : ((t : List Coordinates) → are_apart t ≡ true → length t ≤ most_piece_cells → each add_piece_cell t words ≡ Ok all → AreTaken t words all) → (t : List Coordinates) × (add_piece_cell acc w ≡ Ok t) × (each add_piece_cell t words ≡ Ok all) → AreTaken acc (w ∷ words) all
@@ -127,7 +127,7 @@ piece_cells_are acc (w ∷ words) all a l h = step (λ t. piece_cells_are t word
         record {
           cs = k.cell ∷ m.cs;
           words_are = words_same is.1 m.words_are;
-          places = and_from _ _ is.0 m.places;
+          in_grid = and_from _ _ is.0 m.in_grid;
           all_are = m.all_are ∙ ap (λ s. s ++ m.cs) k.more_is ∙ append_assoc acc (k.cell ∷ []) m.cs;
           apart = m.apart;
           few = m.few;

@@ -10,12 +10,11 @@ use Rattle.std.specs.List.{list_all}
 use Rattle.text_lines.specs.Lines.{lines_of}
 use Rattle.text_lines.specs.Writing.{are_plain}
 use Rattle.text_lines.specs.Reading.{words_by_line}
-use Rattle.poly_cells.specs.Coordinates.{Coordinates, coordinates_cmp}
+use Rattle.poly_cells.specs.Coordinates.{Coordinates}
 use Rattle.poly_cells.specs.CellTests.{has_cell, is_in_grid}
 use Rattle.poly_cells.specs.CellWords.{cell_word}
-use Rattle.poly_cells.specs.Sets.{in_order}
 use Rattle.poly_texts.specs.Limits.{most_size, most_region_cells, most_piece_cells}
-use Rattle.poly_texts.specs.Cells.{with_cells, without, box_cells}
+use Rattle.poly_texts.specs.Cells.{with_cells, ordered_without, box_cells}
 use Rattle.poly_texts.specs.Words.{is_name}
 use Rattle.poly_texts.specs.Puzzle.{PuzzleValue, names_of, are_new, needs_nothing}
 use Rattle.poly_texts.specs.Reading.{kept_shape}
@@ -116,7 +115,7 @@ pub record AreLines (lines : List Line) : Type 0 where
 
 -- the cells of these that no line cuts, in order, each once
 abbrev pub uncut : List Line → List Coordinates → List Coordinates
-uncut lines cs = in_order coordinates_cmp (without (flat_map cut_by lines) cs)
+uncut lines cs = ordered_without (flat_map cut_by lines) cs
 
 -- the puzzle of these lines
 abbrev pub puzzle_by : List Line → PuzzleValue

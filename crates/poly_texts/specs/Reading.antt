@@ -27,7 +27,7 @@ use Rattle.poly_texts.specs.declared.key.Key.{Key}
 use Rattle.poly_texts.specs.declared.key.Key.TheVariants as keys
 use Rattle.poly_cells.specs.CellTests.{has_cell}
 use Rattle.poly_cells.specs.CellWords.{cell_of}
-use Rattle.poly_texts.specs.Cells.{with_cell, with_cells, without, box_cells}
+use Rattle.poly_texts.specs.Cells.{with_cell, with_cells, ordered_without, box_cells}
 use Rattle.poly_texts.specs.Words.{piece_name, are_sizes, are_small, size_of}
 use Rattle.poly_texts.specs.Puzzle.{PuzzleValue, puzzle_from, needs_nothing}
 
@@ -59,6 +59,10 @@ found_or (Some c) = Ok c
 -- these cells with that of a word, each once
 unfoldable pub add_cell : List Coordinates → List ℕ → Result (List Coordinates) Fault
 add_cell cells word = found_or (cell_of word) >>= λ c. Ok (with_cell cells c)
+
+-- these cells with those of words, each once
+abbrev pub add_cells : List Coordinates → List (List ℕ) → Result (List Coordinates) Fault
+add_cells cells words = each add_cell cells words
 
 -- the cells of a piece with one more, which is new there
 abbrev pub new_cell : List Coordinates → Coordinates → Result (List Coordinates) Fault
@@ -136,20 +140,20 @@ box_line s words = sized_box s (three_words words)
 -- a `cells` line, with a cell
 unfoldable pub cells_line : DraftValue → List (List ℕ) → Result DraftValue Fault
 cells_line s words =
-    if is_empty words then Err BadLine else (each add_cell s.named words >>= λ named. within (record s { named = named }))
+    if is_empty words then Err BadLine else (add_cells s.named words >>= λ named. within (record s { named = named }))
 
 -- a `maybe cells` line, with a cell
 unfoldable pub maybe_cells_line : DraftValue → List (List ℕ) → Result DraftValue Fault
 maybe_cells_line s words =
     if is_empty words then Err BadLine else (do
-      named ← each add_cell s.named words
-      maybe ← each add_cell s.maybe_cells words
+      named ← add_cells s.named words
+      maybe ← add_cells s.maybe_cells words
       within (record s { named = named; maybe_cells = maybe }))
 
 -- a `cut` line, with a cell
 unfoldable pub cut_line : DraftValue → List (List ℕ) → Result DraftValue Fault
 cut_line s words =
-    if is_empty words then Err BadLine else (each add_cell s.cut words >>= λ cut. Ok (record s { cut = cut }))
+    if is_empty words then Err BadLine else (add_cells s.cut words >>= λ cut. Ok (record s { cut = cut }))
 
 -- what a word at the front of a line says
 abbrev pub key_from : List ℕ → Option Key
@@ -196,11 +200,11 @@ line s bytes = plain_line BadLine words_line s bytes
 
 -- the region that is said, in order
 abbrev pub region_of : DraftValue → List Coordinates
-region_of s = in_order coordinates_cmp (without s.cut s.named)
+region_of s = ordered_without s.cut s.named
 
 -- the cells of the region that may stay empty, in order
 abbrev pub maybe_region_of : DraftValue → List Coordinates
-maybe_region_of s = in_order coordinates_cmp (without s.cut s.maybe_cells)
+maybe_region_of s = ordered_without s.cut s.maybe_cells
 
 -- the fault of a whole text: no cell, no piece, or none of these required
 abbrev pub whole_fault : List (ℕ × List Coordinates) → List ℕ → List Coordinates → List Coordinates → Option Fault
@@ -222,9 +226,13 @@ abbrev pub unless : Option Fault → PuzzleValue → Result PuzzleValue Fault
 unless None p = Ok p
 unless (Some f) p = Err f
 
+-- the fault of what is said, with this region
+abbrev pub fault_with : DraftValue → List Coordinates → Option Fault
+fault_with s region = whole_fault s.pieces s.maybe_pieces region s.maybe_cells
+
 -- the puzzle of all lines
 unfoldable pub whole : DraftValue → Result PuzzleValue Fault
-whole s = unless (whole_fault s.pieces s.maybe_pieces (region_of s) s.maybe_cells) (puzzle_said s)
+whole s = unless (fault_with s (region_of s)) (puzzle_said s)
 
 -- the puzzle of a text; or its first fault, and the number of its line, which is 0 for a fault of the whole text
 unfoldable pub puzzle_of : List ℕ → Result PuzzleValue (Fault × ℕ)

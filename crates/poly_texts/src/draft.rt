@@ -243,7 +243,7 @@ impl Draft {
 
     /// The fault of a whole text with this region, if it has one.
     fn whole_fault(&self, region: &[Cell]) -> Option<Fault>
-        ensures fault { result ≡ reading.whole_fault self.now.pieces self.now.maybe_pieces region.now self.now.maybe_cells }
+        ensures fault { result ≡ reading.fault_with self.now region.now }
         ensures some { IfNone result (0 < length region.now) }
     {
         if region.is_empty() {
@@ -279,12 +279,7 @@ impl Draft {
         ensures { Gives (λ p. p) result (reading.whole self) }
     {
         let (region, maybe_cells) = self.whole_region(alloc)?;
-        let Draft {
-            pieces,
-            maybe_pieces,
-            ..
-        } = self;
-        Ok(Puzzle::from_parts(pieces, maybe_pieces, region, maybe_cells))
+        Ok(Puzzle::from_parts(self.pieces, self.maybe_pieces, region, maybe_cells))
     }
 }
 

@@ -32,7 +32,7 @@ impl LineFault {
     }
 }
 
-const ABOUT: &str = "Lists every exact cover of a problem, each once.";
+const ABOUT: &str = "Packs polycubes into regions, and lists exact covers: every one, each once.";
 
 const STATUSES: &str = "\
 Every job reads standard input and writes standard output.
@@ -73,11 +73,68 @@ of Algorithm X, and how many paths of 0, 1, 2, .. choices it met.
 Exit statuses: 0 done, 2 command line refused, 3 text refused, 4 no memory,
 5 reading or writing failed.";
 
+const SOLVE: &str = "Shows every packing of a puzzle, in layers of text.";
+
+const SOLVE_TEXT: &str = "\
+The text has a line for each piece, with its name (a letter or digit) and its
+cells, and lines that say the region: `box a b c`, `cells ..`, `cut ..`. A cell
+is three of 0-9 and a-v: its x, y and z. After `maybe` a piece may be left out,
+and cells may stay empty. A `#` begins a comment.
+
+Example, saved as dominoes.puzzle:
+  piece A 000 100
+  piece B 000 100
+  box 2 2 1
+
+`polylab solve < dominoes.puzzle` prints four packings and their number, first
+  packing 1
+  AB
+  AB
+
+A packing has a line for each y, in it a block for each z, and in that a letter
+for each x: the piece there, `_` for an empty cell, `.` outside the region.
+
+A refusal is one line on standard error: `refused puzzle 6 EmptyRegion line 0`.
+Exit statuses: 0 done, 2 command line refused, 3 text refused, 4 no memory,
+5 reading or writing failed.";
+
+const COUNT: &str = "Counts the packings of a puzzle.";
+
+const COUNT_TEXT: &str = "\
+It reads the text that `solve` reads, and prints the number of packings and of
+options (the placements of all pieces), the number of steps of Algorithm X, and
+how many paths of 0, 1, 2, .. choices the search met.
+
+Example: for two dominoes in the box 2 2 1
+  packings 4
+  options 8
+  steps 55
+  levels 1 4 4
+
+Exit statuses: 0 done, 2 command line refused, 3 text refused, 4 no memory,
+5 reading or writing failed.";
+
+const OPTIONS: &str = "Writes the cover text whose exact covers are the packings of a puzzle.";
+
+const OPTIONS_TEXT: &str = "\
+It reads the text that `solve` reads, and writes a text that `cover` reads: the
+items are the pieces and the cells, the options are the placements.
+
+Exit statuses: 0 done, 2 command line refused, 3 text refused, 4 no memory,
+5 reading or writing failed.";
+
+/// A subcommand with its help.
+fn job<'a>(
+    alloc: Global,
+    name: &'static str,
+    about: &'static str,
+    text: &'static str,
+) -> Command<'a> {
+    Command::new(alloc, name).about(about).after_help(text)
+}
+
 /// The command line that the program takes.
 fn command<'a>(alloc: Global) -> Result<Command<'a>, AllocError> {
-    let cover = Command::new(alloc, "cover")
-        .about(COVER)
-        .after_help(COVER_TEXT);
     Command::new(alloc, "polylab")
         .about(ABOUT)
         .after_help(STATUSES)
@@ -85,7 +142,20 @@ fn command<'a>(alloc: Global) -> Result<Command<'a>, AllocError> {
         .no_binary_name(true)
         .subcommand_required(true)
         .arg_required_else_help(true)
-        .subcommand(cover)
+        .subcommand(job(alloc, "cover", COVER, COVER_TEXT))?
+        .subcommand(job(alloc, "solve", SOLVE, SOLVE_TEXT))?
+        .subcommand(job(alloc, "count", COUNT, COUNT_TEXT))?
+        .subcommand(job(alloc, "options", OPTIONS, OPTIONS_TEXT))
+}
+
+/// The job of a subcommand.
+fn job_named(name: Option<&str>) -> Job {
+    match name {
+        Some("solve") => Job::Solve,
+        Some("count") => Job::Count,
+        Some("options") => Job::Options,
+        _ => Job::Cover,
+    }
 }
 
 /// What a refusal by `clap` means.
@@ -106,7 +176,7 @@ pub fn parse_line(alloc: Global, words: &[&str]) -> Result<Job, LineFault> {
         return Err(LineFault::OutOfMemory);
     };
     match command.try_get_matches_from(words) {
-        Ok(_) => Ok(Job::Cover),
+        Ok(matches) => Ok(job_named(matches.subcommand_name())),
         Err(error) => Err(refused(alloc, &error)),
     }
 }

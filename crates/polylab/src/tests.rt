@@ -14,12 +14,25 @@ fn refused(rt: &HostRuntime, words: &[&str]) -> u8 {
 
 #[test]
 fn the_job_is_read(rt: HostRuntime) {
-    assert!(rt; matches!(parse_line(rt.alloc(), &["cover"]), Ok(Job::Cover)));
+    let rows = [
+        ("cover", Job::Cover),
+        ("solve", Job::Solve),
+        ("count", Job::Count),
+        ("options", Job::Options),
+    ];
+    for (word, job) in rows {
+        assert!(rt; matches!(parse_line(rt.alloc(), &[word]), Ok(read) if read == job));
+    }
 }
 
 #[test]
 fn help_is_given(rt: HostRuntime) {
-    let rows: [&[&str]; 3] = [&["--help"], &["cover", "--help"], &["--version"]];
+    let rows: [&[&str]; 4] = [
+        &["--help"],
+        &["cover", "--help"],
+        &["count", "--help"],
+        &["--version"],
+    ];
     for words in rows {
         assert!(rt; refused(&rt, words) == 0);
     }

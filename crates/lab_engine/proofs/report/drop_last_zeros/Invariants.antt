@@ -1,5 +1,5 @@
 use Rattle.std.proofs.Common.{◌≡◌, vec_len}
-use Rattle.lab_engine.specs.Output.{without_last_zeros}
+use Rattle.x_steps.specs.Levels.{without_last_zeros}
 use Rattle.lab_engine.proofs.report.drop_last_zeros.Given as goal
 
 abbrev pub invariant-loop-counts : goal.invariant-loop-counts

@@ -1,0 +1,46 @@
+-- What `solve`, `count` and `options` write of a puzzle.
+--
+-- Example: of two dominoes A and B in the box 2 2 1 `solve` writes first `packing 1`, `AB`, `AB`; `count` writes `packings 4`,
+-- `options 8`, `steps 55`, `levels 1 4 4`.
+use Rattle.std.specs.Prelude.{ℕ, ◌+◌, List, [], ◌∷◌, ◌++◌, Bool, true, false, length, decimal, codes}
+use Rattle.text_lines.specs.Writing.{line_text, text_of}
+use Rattle.poly_texts.specs.Puzzle.{PuzzleValue}
+use Rattle.cover_problem.specs.Grammar.{written}
+use Rattle.poly_place.specs.Packings.{packing_problem}
+use Rattle.poly_place.specs.Chosen.{packing_value}
+use Rattle.poly_place.specs.Layers.{layers}
+use Rattle.x_steps.specs.Levels.{without_last_zeros}
+use Rattle.lab_engine.specs.Output.{whole_account, step_lines}
+
+-- the packing of a path, with its number and its layers
+abbrev pub packing_text : PuzzleValue → ℕ → List ℕ → List ℕ
+packing_text p k path = line_text (codes "packing" ∷ decimal k ∷ []) ++ layers (packing_value p path)
+
+-- the packings of these paths, numbered from k on
+abbrev pub packings_from : PuzzleValue → ℕ → List (List ℕ) → List ℕ
+packings_from p k [] = []
+packings_from p k (path ∷ paths) = packing_text p k path ++ packings_from p (k + 1) paths
+
+-- the line of their number
+abbrev pub number_line : ℕ → List (List ℕ)
+number_line n = codes "packings" ∷ decimal n ∷ []
+
+-- the line of the number of options
+abbrev pub options_line : PuzzleValue → List (List ℕ)
+options_line p = codes "options" ∷ decimal (length (packing_problem p).options) ∷ []
+
+-- what `solve` writes: the packings in path order, and their number
+unfoldable pub solve_output : PuzzleValue → List ℕ
+solve_output p =
+    let a = whole_account true (packing_problem p) in
+    packings_from p 1 a.visits ++ line_text (number_line a.visited)
+
+-- what `count` writes: the number of packings and of options, and the steps and the levels of the search
+unfoldable pub count_output : PuzzleValue → List ℕ
+count_output p =
+    let a = whole_account false (packing_problem p) in
+    text_of (number_line a.visited ∷ options_line p ∷ step_lines a.steps (without_last_zeros a.entered))
+
+-- what `options` writes: the problem whose exact covers are the packings
+unfoldable pub options_output : PuzzleValue → List ℕ
+options_output p = written (packing_problem p)

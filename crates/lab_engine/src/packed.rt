@@ -1,0 +1,82 @@
+//! What `solve`, `count` and `options` write.
+ghost use Rattle.std.specs.Prelude.{◌≡◌, ◌<◌, ◌++◌, ◌∷◌, [], ℕ, List, length, IfOk, OnOk, decimal};
+ghost use Rattle.text_lines.specs.Writing.{line_text};
+ghost use Rattle.cover_problem.specs.Lists.{has};
+ghost use Rattle.cover_problem.specs.ExactCover.{IsExactCover};
+ghost use Rattle.poly_place.specs.Packings.{packing_problem};
+ghost use Rattle.lab_engine.specs.Packed.{solve_output, count_output, options_output, packing_text, packings_from, number_line};
+ghost use Rattle.lab_engine.specs.Listing.{AreExactCovers};
+
+use crate::lines::push_number_line;
+use crate::search::search;
+use cover_problem::{Table, write_cover};
+use poly_place::{Compiled, layers, packing_of};
+use std::alloc::{AllocError, Global};
+use x_steps::Paths;
+
+/// The packings of the puzzle in path order, each with its layers, and then their number.
+#[tactic(auto, unfolding(crate::specs::Packed::solve_output))]
+pub fn solve<T: Table>(alloc: Global, compiled: &Compiled<'_>) -> Result<Vec<u8>, AllocError>
+    ensures { IfOk result (λ text. text.items ≡ solve_output compiled.now) }
+{
+    let report = search::<T>(alloc, compiled.problem(), true)?;
+    let mut text = Vec::new(alloc);
+    push_packings(alloc, &mut text, compiled, report.visits())?;
+    push_number_line(&mut text, "packings", report.visited())?;
+    Ok(text)
+}
+
+/// The number of packings and of options, and the steps and the levels of the search.
+#[tactic(auto, unfolding(crate::specs::Packed::count_output))]
+pub fn count<T: Table>(alloc: Global, compiled: &Compiled<'_>) -> Result<Vec<u8>, AllocError>
+    ensures { IfOk result (λ text. text.items ≡ count_output compiled.now) }
+{
+    let problem = compiled.problem();
+    let report = search::<T>(alloc, problem, false)?;
+    let mut text = Vec::new(alloc);
+    push_number_line(&mut text, "packings", report.visited())?;
+    push_number_line(&mut text, "options", u128::from(problem.options()))?;
+    report.push_steps(alloc, &mut text)?;
+    Ok(text)
+}
+
+/// The cover text whose exact covers are the packings.
+#[tactic(auto, unfolding(crate::specs::Packed::options_output))]
+pub fn options(alloc: Global, compiled: &Compiled<'_>) -> Result<Vec<u8>, AllocError>
+    ensures { IfOk result (λ text. text.items ≡ options_output compiled.now) }
+{
+    write_cover(alloc, compiled.problem())
+}
+
+/// Adds the packings for which these exact covers stand, numbered from 1.
+fn push_packings(
+    alloc: Global,
+    text: &mut Vec<u8>,
+    compiled: &Compiled<'_>,
+    visits: &Paths,
+) -> Result<(), AllocError>
+    requires { AreExactCovers (packing_problem compiled.now) visits.now }
+    ensures { OnOk result (text.new.items ≡ text.old.items ++ packings_from compiled.now 1 visits.now) }
+{
+    for k in 0..visits.len() {
+        push_packing(alloc, text, compiled, k as u128 + 1, visits.path(k))?;
+    }
+    Ok(())
+}
+
+/// Adds a packing: a line with its number, and its layers.
+fn push_packing(
+    alloc: Global,
+    text: &mut Vec<u8>,
+    compiled: &Compiled<'_>,
+    number: u128,
+    path: &[u32],
+) -> Result<(), AllocError>
+    requires { IsExactCover (packing_problem compiled.now) (has path.now) }
+    ensures { OnOk result (text.new.items ≡ text.old.items ++ packing_text compiled.now number path.now) }
+{
+    push_number_line(text, "packing", number)?;
+    let packing = packing_of(alloc, compiled, path)?;
+    let shown = layers(alloc, &packing)?;
+    text.extend_from_slice(shown.as_bytes())
+}

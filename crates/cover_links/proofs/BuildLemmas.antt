@@ -17,11 +17,8 @@ start_most p k le = pick (cases_lt k (length p.options))
 
 -- one more number at the end of a list whose n-th number is f n
 pub pushed_each : (f : ℕ → ℕ) (xs : List ℕ) (n x : ℕ) → length xs ≡ n → ((i : ℕ) → i < n → get_or xs i 0 ≡ f i) → x ≡ f n → (i : ℕ) → i ≤ n → get_or (xs ++ x ∷ []) i 0 ≡ f i
-pushed_each f xs n x l each e i le = at f xs n x l each e i le
-  where
-    at : (f : ℕ → ℕ) (xs : List ℕ) (n x : ℕ) → length xs ≡ n → ((i : ℕ) → i < n → get_or xs i 0 ≡ f i) → x ≡ f n → (i : ℕ) → i ≤ n → get_or (xs ++ x ∷ []) i 0 ≡ f i
-    at f [] n x l each e zero le = e ∙ ap f (sym l)
-    at f [] n x l each e (suc i) le = absurd (omega arith)
-    at f (y ∷ ys) zero x l each e i le = absurd (omega arith)
-    at f (y ∷ ys) (suc n) x l each e zero le = each 0 (omega arith)
-    at f (y ∷ ys) (suc n) x l each e (suc i) le = at (λ k. f (suc k)) ys n x (omega arith) (λ k h. each (suc k) (omega arith)) e i (omega arith)
+pushed_each f [] n x l each e zero le = e ∙ ap f (sym l)
+pushed_each f [] n x l each e (suc i) le = absurd (omega arith)
+pushed_each f (y ∷ ys) zero x l each e i le = absurd (omega arith)
+pushed_each f (y ∷ ys) (suc n) x l each e zero le = each 0 (omega arith)
+pushed_each f (y ∷ ys) (suc n) x l each e (suc i) le = pushed_each (λ k. f (suc k)) ys n x (omega arith) (λ k h. each (suc k) (omega arith)) e i (omega arith)

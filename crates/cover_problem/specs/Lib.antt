@@ -1,4 +1,5 @@
 pub mod Limits
+pub mod Views
 pub mod Lists
 pub mod Problem
 pub mod Covering

@@ -10,6 +10,7 @@ ghost use Rattle.cover_problem.specs.Validation.{add_name, with_item};
 ghost use Rattle.cover_problem.specs.Stamps.{AreStamps};
 ghost use Rattle.cover_problem.specs.Reading as reading;
 ghost use Rattle.cover_problem.specs.Reading.{item_of, add_item, nothing};
+ghost use Rattle.cover_problem.specs.Views.{items_of, bytes_of};
 
 use crate::fault::{Fault, ProblemFault};
 use crate::key::{Key, key_of};
@@ -37,22 +38,22 @@ pub struct Draft {
 }
 
 impl Model for Draft {
-    ghost use Rattle.std.specs.Prelude.{map};
+    ghost use Rattle.cover_problem.specs.Views.{items_of, bytes_of};
     ghost use Rattle.cover_problem.specs.Problem.{ProblemValue};
     ghost use Rattle.cover_problem.specs.Stamps.{IsDraft};
 
     ghost Value = { ProblemValue };
 
-    ghost view = { λ a. record { names = map (λ n. n.bytes) a.names.keys; primary = a.primary; options = map (λ o. o.items) a.options.items } };
+    ghost view = { λ a. record { names = bytes_of a.names.keys; primary = a.primary; options = items_of a.options.items } };
 
-    ghost invariant = { λ a. IsDraft (record { names = map (λ n. n.bytes) a.names.keys; primary = a.primary; options = map (λ o. o.items) a.options.items }) a.entries a.marks.items };
+    ghost invariant = { λ a. IsDraft (record { names = bytes_of a.names.keys; primary = a.primary; options = items_of a.options.items }) a.entries a.marks.items };
 }
 
 /// The item of a name.
 #[tactic(auto, unfolding(crate::specs::Reading::item_of))]
 fn item_named(names: &IndexSet<Name>, word: &[u8]) -> Result<u32, ProblemFault>
     requires { length names.now.keys ≤ MOST_ITEMS }
-    ensures item { Gives (λ i. i) result (item_of (map (λ n. n.bytes) names.now.keys) word.now) }
+    ensures item { Gives (λ i. i) result (item_of (bytes_of names.now.keys) word.now) }
     ensures some { IfOk result (λ i. 0 < i) }
     ensures within { IfOk result (λ i. i ≤ length names.now.keys) }
 {
@@ -99,7 +100,7 @@ fn take_item(
     requires few { length names.now.keys ≤ MOST_ITEMS }
     requires each_item { length marks.old ≡ length names.now.keys }
     requires marked { AreStamps stamp option.old.items marks.old }
-    ensures item { Gives (λ _. option.new.items) result (add_item (map (λ n. n.bytes) names.now.keys) option.old.items word.now) }
+    ensures item { Gives (λ _. option.new.items) result (add_item (bytes_of names.now.keys) option.old.items word.now) }
     ensures marked { OnOk result (AreStamps stamp option.new.items marks.new) }
 {
     let item = item_named(names, word)?;
@@ -117,7 +118,7 @@ fn option_of(
     requires few { length names.now.keys ≤ MOST_ITEMS }
     requires each_item { length marks.old ≡ length names.now.keys }
     requires old { All (λ mark. mark < stamp) marks.old }
-    ensures option { Gives (λ o. o.items) result (each (add_item (map (λ n. n.bytes) names.now.keys)) [] (words_of words.now)) }
+    ensures option { Gives (λ o. o.items) result (each (add_item (bytes_of names.now.keys)) [] (words_of words.now)) }
     ensures marks { OnOk result (All (λ mark. mark ≤ stamp) marks.new) }
 {
     let mut option = Vec::new(alloc);
@@ -131,7 +132,7 @@ fn option_of(
 
 /// The names with those of these words.
 fn with_names(mut names: IndexSet<Name>, words: &[u8]) -> Result<IndexSet<Name>, ProblemFault>
-    ensures { Gives (λ these. map (λ n. n.bytes) these.keys) result (each add_name (map (λ n. n.bytes) names.keys) (words_of words.now)) }
+    ensures { Gives (λ these. bytes_of these.keys) result (each add_name (bytes_of names.keys) (words_of words.now)) }
 {
     let mut rest = words;
     while let Some((word, after)) = split_word(rest) {
@@ -157,10 +158,10 @@ fn within(
     marks: Vec<u32>,
 ) -> Result<Draft, ProblemFault>
     requires primary { primary ≤ length names.keys }
-    requires counted { entries ≡ sum_by length (map (λ o. o.items) options.items) }
+    requires counted { entries ≡ sum_by length (items_of options.items) }
     requires marked { length marks.items ≡ length names.keys }
     requires old { All (λ mark. mark ≤ length options.items) marks.items }
-    ensures { Gives (λ d. d) result (making.within (record { names = map (λ n. n.bytes) names.keys; primary = primary; options = map (λ o. o.items) options.items })) }
+    ensures { Gives (λ d. d) result (making.within (record { names = bytes_of names.keys; primary = primary; options = items_of options.items })) }
 {
     if !is_within(names.len(), options.len(), entries) {
         return Err(ProblemFault::Fault(Fault::TooLarge));
@@ -177,7 +178,7 @@ fn within(
 /// A draft without options.
 fn of_names(alloc: Global, names: IndexSet<Name>, primary: usize) -> Result<Draft, ProblemFault>
     requires { primary ≤ length names.keys }
-    ensures { Gives (λ d. d) result (making.within (record { names = map (λ n. n.bytes) names.keys; primary = primary; options = [] })) }
+    ensures { Gives (λ d. d) result (making.within (record { names = bytes_of names.keys; primary = primary; options = [] })) }
 {
     let marks = vec![in alloc; 0u32; names.len()]?;
     within(names, primary, Vec::new(alloc), 0, marks)

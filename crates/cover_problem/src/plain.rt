@@ -6,6 +6,7 @@ ghost use Rattle.cover_problem.specs.Plain as plain;
 ghost use Rattle.cover_problem.specs.Problem as problem;
 ghost use Rattle.cover_problem.specs.Problem.{IsProblem};
 ghost use Rattle.cover_problem.specs.Table.{IsCoveredList};
+ghost use Rattle.cover_problem.specs.Views.{items_of};
 
 use crate::problem::Problem;
 use crate::table::Table;
@@ -35,7 +36,8 @@ pub struct PlainTable {
 }
 
 impl Model for PlainTable {
-    ghost use Rattle.std.specs.Prelude.{map, vec_capacity};
+    ghost use Rattle.std.specs.Prelude.{vec_capacity};
+    ghost use Rattle.cover_problem.specs.Views.{items_of};
     ghost use Rattle.cover_problem.specs.Table.{TableValue};
     ghost use Rattle.cover_problem.specs.Plain.{IsPlain};
     ghost use Rattle.cover_problem.specs.declared.plain.TheConstants.{NEVER};
@@ -44,7 +46,7 @@ impl Model for PlainTable {
 
     ghost view = { λ a. record { problem = a.problem.value; covered = a.covered.items } };
 
-    ghost invariant = { λ a. IsPlain a.problem.value a.primary (map (λ o. o.items) a.options.items) (map (λ o. o.items) a.holders.items) a.covered.items a.times.items NEVER (vec_capacity a.covered) };
+    ghost invariant = { λ a. IsPlain a.problem.value a.primary (items_of a.options.items) (items_of a.holders.items) a.covered.items a.times.items NEVER (vec_capacity a.covered) };
 }
 
 /// Whether one of an option's items was covered before this time.
@@ -62,7 +64,7 @@ fn is_in(options: &[Vec<u32>], times: &[u32], limit: u32, k: u32) -> bool
     requires fit { All (λ o. All (λ i. (0 < i) × (i ≤ length times.now)) o.items) options.now }
     requires some { 0 < k }
     requires within { k ≤ length options.now }
-    ensures { result ≡ plain.is_in (map (λ o. o.items) options.now) times.now limit k }
+    ensures { result ≡ plain.is_in (items_of options.now) times.now limit k }
 {
     !is_out(&options[(k - 1) as usize], times, limit)
 }
@@ -71,7 +73,7 @@ fn is_in(options: &[Vec<u32>], times: &[u32], limit: u32, k: u32) -> bool
 fn first_left(options: &[Vec<u32>], times: &[u32], limit: u32, holders: &[u32]) -> Option<u32>
     requires fit { All (λ o. All (λ i. (0 < i) × (i ≤ length times.now)) o.items) options.now }
     requires within { All (λ k. (0 < k) × (k ≤ length options.now)) holders.now }
-    ensures { result ≡ find (plain.is_in (map (λ o. o.items) options.now) times.now limit) holders.now }
+    ensures { result ≡ find (plain.is_in (items_of options.now) times.now limit) holders.now }
 {
     holders
         .iter()
@@ -83,7 +85,7 @@ fn first_left(options: &[Vec<u32>], times: &[u32], limit: u32, holders: &[u32]) 
 fn last_left(options: &[Vec<u32>], times: &[u32], limit: u32, holders: &[u32]) -> Option<u32>
     requires fit { All (λ o. All (λ i. (0 < i) × (i ≤ length times.now)) o.items) options.now }
     requires within { All (λ k. (0 < k) × (k ≤ length options.now)) holders.now }
-    ensures { result ≡ last_of (filter (plain.is_in (map (λ o. o.items) options.now) times.now limit) holders.now) }
+    ensures { result ≡ last_of (filter (plain.is_in (items_of options.now) times.now limit) holders.now) }
 {
     let mut rest = holders;
     while let Some((k, before)) = rest.split_last() {
@@ -99,7 +101,7 @@ fn last_left(options: &[Vec<u32>], times: &[u32], limit: u32, holders: &[u32]) -
 fn count_left(options: &[Vec<u32>], times: &[u32], limit: u32, holders: &[u32]) -> usize
     requires fit { All (λ o. All (λ i. (0 < i) × (i ≤ length times.now)) o.items) options.now }
     requires within { All (λ k. (0 < k) × (k ≤ length options.now)) holders.now }
-    ensures { result ≡ length (filter (plain.is_in (map (λ o. o.items) options.now) times.now limit) holders.now) }
+    ensures { result ≡ length (filter (plain.is_in (items_of options.now) times.now limit) holders.now) }
 {
     holders
         .iter()
@@ -124,7 +126,7 @@ fn first_uncovered(times: &[u32], after: u32, primary: u32) -> Option<u32>
 
 /// So many empty lists.
 fn empty_lists(alloc: Global, count: u32) -> Result<Vec<Vec<u32>>, AllocError>
-    ensures { IfOk result (λ lists. map (λ o. o.items) lists.items ≡ replicate count []) }
+    ensures { IfOk result (λ lists. items_of lists.items ≡ replicate count []) }
 {
     let mut lists = Vec::with_capacity(alloc, count as usize)?;
     for _ in 0..count {
@@ -136,7 +138,7 @@ fn empty_lists(alloc: Global, count: u32) -> Result<Vec<Vec<u32>>, AllocError>
 /// Notes an option with each of its items.
 fn note(holders: &mut [Vec<u32>], option: &[u32], k: u32) -> Result<(), AllocError>
     requires { problem.is_option (length holders.old) option.now ≡ true }
-    ensures { OnOk result (plain.IsNoted k option.now (map (λ o. o.items) holders.old) (map (λ o. o.items) holders.new)) }
+    ensures { OnOk result (plain.IsNoted k option.now (items_of holders.old) (items_of holders.new)) }
 {
     for item in option {
         holders[(*item - 1) as usize].push(k)?;
@@ -146,10 +148,10 @@ fn note(holders: &mut [Vec<u32>], option: &[u32], k: u32) -> Result<(), AllocErr
 
 /// For each of so many items the options that have it.
 fn note_all(holders: &mut [Vec<u32>], options: &[Vec<u32>]) -> Result<(), AllocError>
-    requires options { list_all (problem.is_option (length holders.old)) (map (λ o. o.items) options.now) ≡ true }
-    requires empty { map (λ o. o.items) holders.old ≡ replicate (length holders.old) [] }
+    requires options { list_all (problem.is_option (length holders.old)) (items_of options.now) ≡ true }
+    requires empty { items_of holders.old ≡ replicate (length holders.old) [] }
     requires small { length options.now < 2 ^ 32 }
-    ensures { OnOk result (map (λ o. o.items) holders.new ≡ plain.holders_of (length holders.old) (map (λ o. o.items) options.now)) }
+    ensures { OnOk result (items_of holders.new ≡ plain.holders_of (length holders.old) (items_of options.now)) }
 {
     for (place, option) in options.iter().enumerate() {
         note(holders, option, place as u32 + 1)?;
@@ -159,9 +161,9 @@ fn note_all(holders: &mut [Vec<u32>], options: &[Vec<u32>]) -> Result<(), AllocE
 
 /// For each of so many items the options that have it.
 fn holders_of(alloc: Global, count: u32, options: &[Vec<u32>]) -> Result<Vec<Vec<u32>>, AllocError>
-    requires options { list_all (problem.is_option count) (map (λ o. o.items) options.now) ≡ true }
+    requires options { list_all (problem.is_option count) (items_of options.now) ≡ true }
     requires small { length options.now < 2 ^ 32 }
-    ensures { IfOk result (λ holders. map (λ o. o.items) holders.items ≡ plain.holders_of count (map (λ o. o.items) options.now)) }
+    ensures { IfOk result (λ holders. items_of holders.items ≡ plain.holders_of count (items_of options.now)) }
 {
     let mut holders = empty_lists(alloc, count)?;
     note_all(&mut holders, options)?;

@@ -8,6 +8,7 @@ ghost use Rattle.text_lines.specs.Answers.{IsFaultOf};
 ghost use Rattle.text_lines.specs.declared.refusal.Refusal.TheVariants as refusals;
 ghost use Rattle.cover_problem.specs.declared.fault.Fault.TheVariants.{NoItemLine};
 ghost use Rattle.cover_problem.specs.Validation.{problem_from};
+ghost use Rattle.cover_problem.specs.Views.{items_of, bytes_of, texts_of};
 
 use crate::fault::{ProblemFault, Refused};
 use crate::name::Name;
@@ -25,34 +26,34 @@ pub struct Problem {
 }
 
 impl Model for Problem {
-    ghost use Rattle.std.specs.Prelude.{map};
+    ghost use Rattle.cover_problem.specs.Views.{items_of, bytes_of};
     ghost use Rattle.cover_problem.specs.Problem.{ProblemValue, IsProblem};
 
     ghost Value = { ProblemValue };
 
-    ghost view = { λ a. record { names = map (λ n. n.bytes) a.names.keys; primary = a.primary; options = map (λ o. o.items) a.options.items } };
+    ghost view = { λ a. record { names = bytes_of a.names.keys; primary = a.primary; options = items_of a.options.items } };
 
-    ghost invariant = { λ a. IsProblem (record { names = map (λ n. n.bytes) a.names.keys; primary = a.primary; options = map (λ o. o.items) a.options.items }) };
+    ghost invariant = { λ a. IsProblem (record { names = bytes_of a.names.keys; primary = a.primary; options = items_of a.options.items }) };
 }
 
 /// Whether the names are the same, in the same order.
 fn are_same_names(names: &[Name], others: &[Name]) -> bool
-    ensures { result ≡ pointwise bytes_eq (map (λ n. n.bytes) names.now) (map (λ n. n.bytes) others.now) }
+    ensures { result ≡ pointwise bytes_eq (bytes_of names.now) (bytes_of others.now) }
 {
     names == others
 }
 
 /// Whether the options are the same.
 fn are_same_options(options: &[Vec<u32>], others: &[Vec<u32>]) -> bool
-    ensures { result ≡ pointwise bytes_eq (map (λ o. o.items) options.now) (map (λ o. o.items) others.now) }
+    ensures { result ≡ pointwise bytes_eq (items_of options.now) (items_of others.now) }
 {
     options == others
 }
 
 /// Where a name stands.
 fn place_of(names: &IndexSet<Name>, name: &str) -> Option<usize>
-    requires { list_all is_name (map (λ n. n.bytes) names.now.keys) ≡ true }
-    ensures { result ≡ position (bytes_eq name.now) (map (λ n. n.bytes) names.now.keys) }
+    requires { list_all is_name (bytes_of names.now.keys) ≡ true }
+    ensures { result ≡ position (bytes_eq name.now) (bytes_of names.now.keys) }
 {
     let key = Name::from(name).ok()?;
     names.get_index_of(&key)
@@ -68,9 +69,9 @@ impl Problem {
         primary: u32,
         options: Vec<Vec<u32>>,
     ) -> Result<Problem, Refused<ProblemFault, (Vec<String>, Vec<Vec<u32>>)>>
-        ensures made { IfOk result (λ p. problem_from (map string_bytes names.items) primary (map (λ o. o.items) options.items) ≡ Ok p) }
-        ensures parts { IfOk result (λ p. p ≡ record { names = map string_bytes names.items; primary = primary; options = map (λ o. o.items) options.items }) }
-        ensures refused { IfErr result (λ r. IsFaultOf r.fault (problem_from (map string_bytes names.items) primary (map (λ o. o.items) options.items))) }
+        ensures made { IfOk result (λ p. problem_from (texts_of names.items) primary (items_of options.items) ≡ Ok p) }
+        ensures parts { IfOk result (λ p. p ≡ record { names = texts_of names.items; primary = primary; options = items_of options.items }) }
+        ensures refused { IfErr result (λ r. IsFaultOf r.fault (problem_from (texts_of names.items) primary (items_of options.items))) }
         ensures primary { IsErrAnd result (λ r. r.fault ≡ refusals.Fault NoItemLine) ↔ (is_item (length names.items) primary ≡ false) }
         ensures given { IfErr result (λ r. r.given ≡ (names, options)) }
     {
@@ -89,8 +90,8 @@ impl Problem {
 
     /// The problem of parts that are known to make one.
     pub(crate) fn from_parts(names: IndexSet<Name>, primary: u32, options: Vec<Vec<u32>>) -> Problem
-        requires { IsProblem (record { names = map (λ n. n.bytes) names.keys; primary = primary; options = map (λ o. o.items) options.items }) }
-        ensures { result ≡ record { names = map (λ n. n.bytes) names.keys; primary = primary; options = map (λ o. o.items) options.items } }
+        requires { IsProblem (record { names = bytes_of names.keys; primary = primary; options = items_of options.items }) }
+        ensures { result ≡ record { names = bytes_of names.keys; primary = primary; options = items_of options.items } }
     {
         Problem {
             names,
@@ -149,7 +150,7 @@ impl Problem {
 
     /// The names of the items.
     pub(crate) fn name_list(&self) -> &[Name]
-        ensures names { map (λ n. n.bytes) result.now ≡ self.now.names }
+        ensures names { bytes_of result.now ≡ self.now.names }
         ensures problem { IsProblem self.now }
     {
         self.names.as_slice()
@@ -157,7 +158,7 @@ impl Problem {
 
     /// The items of each option.
     pub(crate) fn option_lists(&self) -> &[Vec<u32>]
-        ensures { map (λ o. o.items) result.now ≡ self.now.options }
+        ensures { items_of result.now ≡ self.now.options }
     {
         &self.options
     }

@@ -9,6 +9,7 @@ ghost use Rattle.text_lines.specs.Answers.{Gives};
 ghost use Rattle.cover_problem.specs.Problem as problem;
 ghost use Rattle.cover_problem.specs.Validation as making;
 ghost use Rattle.cover_problem.specs.Validation.{add_name, add_option, option_from};
+ghost use Rattle.cover_problem.specs.Views.{items_of, bytes_of, texts_of};
 
 use crate::fault::{Fault, ProblemFault};
 use crate::limits::{MOST_ENTRIES, MOST_ITEMS, MOST_OPTIONS};
@@ -18,7 +19,7 @@ use std::alloc::Global;
 
 /// Takes a name, once.
 pub fn take_name(names: &mut IndexSet<Name>, word: &[u8]) -> Result<(), ProblemFault>
-    ensures { Gives (λ _. map (λ n. n.bytes) names.new.keys) result (add_name (map (λ n. n.bytes) names.old.keys) word.now) }
+    ensures { Gives (λ _. bytes_of names.new.keys) result (add_name (bytes_of names.old.keys) word.now) }
 {
     let Some(name) = name_of(word) else {
         return Err(ProblemFault::Fault(Fault::BadName));
@@ -31,7 +32,7 @@ pub fn take_name(names: &mut IndexSet<Name>, word: &[u8]) -> Result<(), ProblemF
 
 /// The names, each once.
 fn take_names(alloc: Global, given: &[String]) -> Result<IndexSet<Name>, ProblemFault>
-    ensures { Gives (λ names. map (λ n. n.bytes) names.keys) result (each add_name [] (map string_bytes given.now)) }
+    ensures { Gives (λ names. bytes_of names.keys) result (each add_name [] (texts_of given.now)) }
 {
     let mut names = IndexSet::new(alloc);
     for name in given {
@@ -65,7 +66,7 @@ fn check_option(marks: &mut [usize], stamp: usize, numbers: &[u32]) -> Result<()
 /// Whether these are options over as many items as there are marks, which are all 0.
 fn check_each(marks: &mut [usize], options: &[Vec<u32>]) -> Result<(), ProblemFault>
     requires { All (λ mark. mark ≤ 0) marks.old }
-    ensures { Gives (λ _. map (λ o. o.items) options.now) result (each (add_option (length marks.old)) [] (map (λ o. o.items) options.now)) }
+    ensures { Gives (λ _. items_of options.now) result (each (add_option (length marks.old)) [] (items_of options.now)) }
 {
     for (place, option) in options.iter().enumerate() {
         check_option(marks, place + 1, option)?;
@@ -75,7 +76,7 @@ fn check_each(marks: &mut [usize], options: &[Vec<u32>]) -> Result<(), ProblemFa
 
 /// Whether these are options over so many items.
 fn check_options(alloc: Global, count: usize, options: &[Vec<u32>]) -> Result<(), ProblemFault>
-    ensures { Gives (λ _. map (λ o. o.items) options.now) result (each (add_option count) [] (map (λ o. o.items) options.now)) }
+    ensures { Gives (λ _. items_of options.now) result (each (add_option count) [] (items_of options.now)) }
 {
     let mut marks = vec![in alloc; 0usize; count]?;
     check_each(&mut marks, options)
@@ -83,7 +84,7 @@ fn check_options(alloc: Global, count: usize, options: &[Vec<u32>]) -> Result<()
 
 /// Whether the options have at most so many items together.
 fn are_few(options: &[Vec<u32>], most: usize) -> bool
-    ensures { result ≡ nat_le (sum_by length (map (λ o. o.items) options.now)) most }
+    ensures { result ≡ nat_le (sum_by length (items_of options.now)) most }
 {
     let mut left = most;
     for option in options {
@@ -97,7 +98,7 @@ fn are_few(options: &[Vec<u32>], most: usize) -> bool
 
 /// Whether so many items and these options are within the limits.
 fn is_within(count: usize, options: &[Vec<u32>]) -> bool
-    ensures { (names : List (List ℕ)) (primary : ℕ) → length names ≡ count → result ≡ problem.is_small (record { names = names; primary = primary; options = map (λ o. o.items) options.now }) }
+    ensures { (names : List (List ℕ)) (primary : ℕ) → length names ≡ count → result ≡ problem.is_small (record { names = names; primary = primary; options = items_of options.now }) }
 {
     count <= MOST_ITEMS
         && options.len() <= MOST_OPTIONS
@@ -112,7 +113,7 @@ fn checked_parts(
     options: &[Vec<u32>],
 ) -> Result<IndexSet<Name>, ProblemFault>
     requires { problem.is_item (length names.now) primary ≡ true }
-    ensures { Gives (λ these. record { names = map (λ n. n.bytes) these.keys; primary = primary; options = map (λ o. o.items) options.now }) result (making.problem_from (map string_bytes names.now) primary (map (λ o. o.items) options.now)) }
+    ensures { Gives (λ these. record { names = bytes_of these.keys; primary = primary; options = items_of options.now }) result (making.problem_from (texts_of names.now) primary (items_of options.now)) }
 {
     let these = take_names(alloc, names)?;
     check_options(alloc, names.len(), options)?;
@@ -129,7 +130,7 @@ pub fn checked_names(
     primary: u32,
     options: &[Vec<u32>],
 ) -> Result<IndexSet<Name>, ProblemFault>
-    ensures names { Gives (λ these. record { names = map (λ n. n.bytes) these.keys; primary = primary; options = map (λ o. o.items) options.now }) result (making.problem_from (map string_bytes names.now) primary (map (λ o. o.items) options.now)) }
+    ensures names { Gives (λ these. record { names = bytes_of these.keys; primary = primary; options = items_of options.now }) result (making.problem_from (texts_of names.now) primary (items_of options.now)) }
     ensures primary { IsErrOf result (refusals.Fault NoItemLine) ↔ (problem.is_item (length names.now) primary ≡ false) }
 {
     if primary == 0 || primary as usize > names.len() {

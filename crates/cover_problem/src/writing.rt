@@ -4,6 +4,7 @@ ghost use Rattle.std.specs.List.{list_all};
 ghost use Rattle.text_lines.specs.Writing.{line_text, text_of};
 ghost use Rattle.cover_problem.specs.Problem.{is_item, is_option};
 ghost use Rattle.cover_problem.specs.Grammar.{maybe_words, option_words, written};
+ghost use Rattle.cover_problem.specs.Views.{items_of, bytes_of};
 
 use crate::name::Name;
 use crate::problem::Problem;
@@ -20,7 +21,7 @@ fn write_word(text: &mut Vec<u8>, word: &[u8]) -> Result<(), AllocError>
 
 /// Writes a line of names.
 fn write_names(text: &mut Vec<u8>, key: &[u8], names: &[Name]) -> Result<(), AllocError>
-    ensures { OnOk result (text.new.items ≡ text.old.items ++ line_text (key.now ∷ map (λ n. n.bytes) names.now)) }
+    ensures { OnOk result (text.new.items ≡ text.old.items ++ line_text (key.now ∷ bytes_of names.now)) }
 {
     text.extend_from_slice(key)?;
     for name in names {
@@ -32,7 +33,7 @@ fn write_names(text: &mut Vec<u8>, key: &[u8], names: &[Name]) -> Result<(), All
 
 /// Writes the `maybe` line, where there are names for it.
 fn write_maybe(text: &mut Vec<u8>, names: &[Name]) -> Result<(), AllocError>
-    ensures { OnOk result (text.new.items ≡ text.old.items ++ text_of (maybe_words (map (λ n. n.bytes) names.now))) }
+    ensures { OnOk result (text.new.items ≡ text.old.items ++ text_of (maybe_words (bytes_of names.now))) }
 {
     if names.is_empty() {
         return Ok(());
@@ -43,7 +44,7 @@ fn write_maybe(text: &mut Vec<u8>, names: &[Name]) -> Result<(), AllocError>
 /// Writes the line of an option over items with these names.
 fn write_option(text: &mut Vec<u8>, names: &[Name], option: &[u32]) -> Result<(), AllocError>
     requires { list_all (is_item (length names.now)) option.now ≡ true }
-    ensures { OnOk result (text.new.items ≡ text.old.items ++ line_text (option_words (map (λ n. n.bytes) names.now) option.now)) }
+    ensures { OnOk result (text.new.items ≡ text.old.items ++ line_text (option_words (bytes_of names.now) option.now)) }
 {
     text.extend_from_slice(b"option")?;
     for item in option {
@@ -55,8 +56,8 @@ fn write_option(text: &mut Vec<u8>, names: &[Name], option: &[u32]) -> Result<()
 
 /// Writes the lines of options over items with these names.
 fn write_options(text: &mut Vec<u8>, names: &[Name], options: &[Vec<u32>]) -> Result<(), AllocError>
-    requires { list_all (is_option (length names.now)) (map (λ o. o.items) options.now) ≡ true }
-    ensures { OnOk result (text.new.items ≡ text.old.items ++ text_of (map (option_words (map (λ n. n.bytes) names.now)) (map (λ o. o.items) options.now))) }
+    requires { list_all (is_option (length names.now)) (items_of options.now) ≡ true }
+    ensures { OnOk result (text.new.items ≡ text.old.items ++ text_of (map (option_words (bytes_of names.now)) (items_of options.now))) }
 {
     for option in options {
         write_option(text, names, option)?;

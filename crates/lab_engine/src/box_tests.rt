@@ -124,10 +124,15 @@ fn cell_number(cell: &Cell) -> u32 {
         .wrapping_add(z)
 }
 
+/// Whether a cell's bit is one of these.
+fn has(bits: u64, bit: u64) -> bool {
+    bits & bit != 0
+}
+
 /// Appends the cells with these bits.
 fn push_cells(text: &mut Vec<u8>, grid: &[(Cell, u64)], bits: u64) -> Result<(), AllocError> {
     for (cell, bit) in grid {
-        if bits & *bit != 0 {
+        if has(bits, *bit) {
             push_number(text, cell_number(cell))?;
         }
     }

@@ -15,6 +15,7 @@ fn begins_well(word: &[u8]) -> bool
     }
 }
 
+/// Whether each byte is a digit.
 fn is_all_digits(word: &[u8]) -> bool
     ensures { result ≡ list_all spec.is_digit word.now }
 {

@@ -1,3 +1,4 @@
 pub mod StageLemmas
 pub mod CutLemmas
 pub mod CutExamples
+pub mod StretchKeeps

@@ -1,5 +1,7 @@
 //! The order of a run's states, and cuts of the small problem.
-use crate::{Branch, Cut, CutFault, RunnerFault, run_order};
+ghost use Rattle.std.specs.Prelude.{◌≡◌};
+
+use crate::{Branch, Cut, CutFault, RunnerFault, Stretch, run_order};
 use cover_problem::{PlainTable, Problem, Table, read_cover};
 use std::alloc::{AllocError, Global};
 use std::cmp::Ordering;
@@ -171,4 +173,30 @@ fn refusals_have_numbers_and_names(rt: HostRuntime) {
     for (fault, number, name) in REFUSALS {
         assert!(rt; fault.number() == number && fault.name() == name);
     }
+}
+
+/// Whether a stretch without a step, and its copy, begin at this machine's state, lead there, and have nothing in them.
+fn is_empty_stretch<T: Table>(problem: &Problem, machine: &Machine<T>) -> Result<bool, AllocError>
+    requires { machine.now.problem ≡ problem.now }
+{
+    let state = machine.state();
+    let stretch = Stretch::empty(problem, state)?;
+    let copy = stretch.copy()?;
+    Ok(
+        copy.from().same(state)
+            && copy.to().same(state)
+            && copy.problem().same(problem)
+            && copy.steps() == 0
+            && copy.visits().len() == 0
+            && copy.levels().is_empty(),
+    )
+}
+
+#[test]
+fn a_stretch_begins_without_a_step(rt: HostRuntime) -> Result<(), Fail> {
+    let problem = read_cover(rt.alloc(), SMALL.as_bytes())?;
+    let table = PlainTable::new(rt.alloc(), &problem)?;
+    let machine = Machine::new(rt.alloc(), &problem, table).map_err(|_| "out of memory")?;
+    assert!(rt; is_empty_stretch(&problem, &machine)?);
+    Ok(())
 }

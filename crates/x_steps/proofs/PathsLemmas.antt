@@ -1,6 +1,6 @@
 -- Lemmas on paths in one flat list.
-use Rattle.std.proofs.Common.{◌≡◌, ℕ, zero, suc, ◌+◌, ◌-◌, ◌<◌, ◌≤◌, All, map, List, [], ◌∷◌, ◌++◌, length, take, drop, get_or, refl, sym, ap, ◌∙◌, subst, arith, length-append, append-nil}
-use Rattle.std.proofs.lemmas.List.{drop-append-le, take-append-le, length-drop, take_all, drop_all}
+use Rattle.std.proofs.Common.{◌≡◌, ℕ, zero, suc, ◌+◌, ◌-◌, ◌<◌, ◌≤◌, All, map, List, [], ◌∷◌, ◌++◌, length, take, drop, get_or, refl, sym, ap, ◌∙◌, subst, arith, length-append, take-suc}
+use Rattle.std.proofs.lemmas.List.{drop-append-le, take-append-le, length-drop, length-take-le, take_all, take-take, drop-take, drop_all}
 use Rattle.std.proofs.Math.Seq.{drop-append-add}
 use Rattle.std.proofs.lemmas.List.Elements.{All-cons}
 use Rattle.x_steps.specs.Paths.{paths_at, start_at, IsParted}
@@ -76,3 +76,53 @@ append_paths xs ys a (e ∷ es) fs p =
 pub ends_within : (xs : List ℕ) (a : ℕ) (es : List ℕ) → IsParted xs a es → All (λ e. e ≤ length xs) es
 ends_within xs a [] p = λ k d l. absurd (omega arith)
 ends_within xs a (e ∷ es) p = All-cons (λ e. e ≤ length xs) e es p.1 (ends_within xs e es p.2)
+
+-- ---- a list without its last path
+
+abbrev end_of : ℕ → List ℕ → ℕ
+end_of a [] = a
+end_of a (e ∷ es) = end_of e es
+
+end_is : (a : ℕ) (es : List ℕ) → start_at a es (length es) ≡ end_of a es
+end_is a [] = refl
+end_is a (e ∷ []) = refl
+end_is a (e ∷ f ∷ es) = end_is e (f ∷ es)
+
+popped_end : (xs : List ℕ) (a : ℕ) (es : List ℕ) (l : ℕ) → IsParted xs a (es ++ l ∷ []) → (a ≤ end_of a es) × (end_of a es ≤ length xs)
+popped_end xs a [] l p = let q = p.0 in let r = p.1 in (omega arith, omega arith)
+popped_end xs a (e ∷ es) l p = let q = p.0 in let r = popped_end xs e es l p.2 in let s = r.0 in (omega arith, r.1)
+
+popped_parted : (xs : List ℕ) (a : ℕ) (es : List ℕ) (l e : ℕ) → IsParted xs a (es ++ l ∷ []) → end_of a es ≡ e → IsParted (take e xs) a es
+popped_parted xs a [] l e p h = let b = popped_end xs a [] l p in let c = b.1 in let n = length-take-le e xs (omega arith) in omega arith
+popped_parted xs a (f ∷ es) l e p h =
+    let b = popped_end xs f es l p.2 in let c = b.0 in let d = b.1 in let n = length-take-le e xs (omega arith) in
+    (p.0, omega arith, popped_parted xs f es l e p.2 h)
+
+kept_path : (xs : List ℕ) (a f e : ℕ) → a ≤ f → f ≤ e → take (f - a) (drop a xs) ≡ take (f - a) (drop a (take e xs))
+kept_path xs a f e p q =
+    let w : a + (e - a) ≡ e = omega arith in
+    sym (ap (take (f - a)) (ap (λ n. drop a (take n xs)) (sym w) ∙ drop-take a (e - a) xs) ∙ take-take (f - a) (e - a) (drop a xs) (omega arith))
+
+popped_paths : (xs : List ℕ) (a : ℕ) (es : List ℕ) (l e : ℕ) → IsParted xs a (es ++ l ∷ []) → end_of a es ≡ e → paths_at xs a (es ++ l ∷ []) ≡ paths_at (take e xs) a es ++ take (l - e) (drop e xs) ∷ []
+popped_paths xs a [] l e p h = ap (λ b. take (l - b) (drop b xs) ∷ []) h
+popped_paths xs a (f ∷ es) l e p h =
+    let b = popped_end xs f es l p.2 in let c = b.0 in
+    ap (λ q. q ∷ paths_at xs f (es ++ l ∷ [])) (kept_path xs a f e p.0 (omega arith)) ∙ ap (λ qs. take (f - a) (drop a (take e xs)) ∷ qs) (popped_paths xs f es l e p.2 h)
+
+-- the first k paths of k + 1
+pub record IsPopped (xs es : List ℕ) (e k : ℕ) : Type 0 where
+  pub parted : IsParted (take e xs) 0 (take k es)
+  pub last : List ℕ
+  pub paths : paths_at xs 0 es ≡ paths_at (take e xs) 0 (take k es) ++ last ∷ []
+
+pub popped : (xs es : List ℕ) (e k : ℕ) → IsParted xs 0 es → suc k ≡ length es → e ≡ start_at 0 (take k es) k → IsPopped xs es e k
+popped xs es e k p n h =
+    let whole : es ≡ take k es ++ get_or es k 0 ∷ [] = sym (take_all (suc k) es (omega arith)) ∙ take-suc es k 0 (omega arith) in
+    let m : length (take k es) ≡ k = length-take-le k es (omega arith) in
+    let end : end_of 0 (take k es) ≡ e = sym (end_is 0 (take k es)) ∙ ap (start_at 0 (take k es)) m ∙ sym h in
+    let q : IsParted xs 0 (take k es ++ get_or es k 0 ∷ []) = subst (IsParted xs 0) whole p in
+    record {
+      parted = popped_parted xs 0 (take k es) (get_or es k 0) e q end;
+      last = take (get_or es k 0 - e) (drop e xs);
+      paths = ap (paths_at xs 0) whole ∙ popped_paths xs 0 (take k es) (get_or es k 0) e q end;
+    }

@@ -8,7 +8,7 @@ use Rattle.cover_problem.specs.Lists.{has, above}
 use Rattle.cover_problem.specs.Problem.{ProblemValue, option_at}
 use Rattle.cover_problem.specs.Covering.{active, remaining, choice}
 use Rattle.cover_problem.specs.Path.{IsChoice, IsValid, covered_by}
-use Rattle.cover_problem.proofs.PathLemmas.{covered_by_push, covered_by_none, valid_push, valid_start, choice_has}
+use Rattle.cover_problem.proofs.PathLemmas.{covered_by_push, covered_by_none, valid_push, choice_has}
 use Rattle.cover_problem.proofs.CoverLemmas.{valid_split}
 use Rattle.x_steps.specs.declared.state.Label.{Label}
 use Rattle.x_steps.specs.declared.state.Label.TheVariants.{X1, X2, X3, X4, X5, X6, X7, X8, Done}

@@ -1,5 +1,5 @@
 -- A list without the zeros at its end.
-use Rattle.std.proofs.Common.{◌≡◌, ℕ, zero, suc, ◌+◌, ◌-◌, ◌<◌, ◌==◌, true, false, ◌⊎◌, inl, inr, Option, option_to_list, append-nil, length-append, List, [], ◌∷◌, ◌++◌, length, replicate, Some, None, slice_get, refl, sym, ap, ◌∙◌, arith}
+use Rattle.std.proofs.Common.{◌≡◌, ℕ, zero, suc, ◌-◌, ◌<◌, ◌==◌, true, false, ◌⊎◌, inl, inr, Option, option_to_list, append-nil, length-append, List, [], ◌∷◌, ◌++◌, length, replicate, Some, None, slice_get, refl, sym, ap, ◌∙◌, arith}
 use Rattle.std.proofs.lemmas.Bool.Decides.{eqb_tells}
 use Rattle.x_steps.specs.Levels.{without_last_zeros, before_counts}
 

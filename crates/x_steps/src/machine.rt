@@ -83,7 +83,7 @@ impl<'p, T: Table> Model for Machine<'p, T> {
 impl<'p, T: Table> Machine<'p, T> {
     /// The machine at X1. Refused only when out of memory, and then the table comes back.
     pub fn new(alloc: Global, problem: &'p Problem, table: T) -> Result<Machine<'p, T>, T>
-        requires problem { T.problem_value table ≡ problem.now }
+        requires same_problem { T.problem_value table ≡ problem.now }
         requires covered { T.covered_list table ≡ [] }
         ensures at_first { IfOk result (λ m. m ≡ record { problem = problem.now; state = start }) }
         ensures given_back { IfErr result (λ t. t ≡ table) }

@@ -106,6 +106,17 @@ impl Paths {
         Ok(())
     }
 
+    /// Takes the last path away.
+    pub fn pop(&mut self)
+        requires { 0 < length self.old }
+        ensures { (path : List ℕ) × (self.old ≡ self.new ++ path ∷ []) }
+    {
+        let count = self.ends.len() - 1;
+        self.ends.truncate(count);
+        let end = start_of(&self.ends, count);
+        self.choices.truncate(end);
+    }
+
     /// The same paths, in memory of their own.
     pub fn copy(&self) -> Result<Paths, AllocError>
         ensures { IfOk result (λ paths. paths ≡ self.now) }

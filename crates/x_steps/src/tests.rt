@@ -240,6 +240,8 @@ fn paths_keep_their_order(rt: HostRuntime) -> Result<(), Fail> {
     paths.push(&[])?;
     let mut more = paths.copy()?;
     more.push(&[2])?;
+    more.push(&[7])?;
+    more.pop();
     paths.append(&more)?;
     let wanted = [4, 5, 1, 0, 0, 4, 5, 1, 0, 0, 2, 0];
     assert!(rt; flat_paths(rt.alloc(), &paths)?.as_slice() == wanted.as_slice());

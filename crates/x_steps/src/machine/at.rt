@@ -42,12 +42,12 @@ impl<'p, T: Table> Machine<'p, T> {
         table: T,
         state: &State,
     ) -> Result<Machine<'p, T>, Refused<AtFault, T>>
-        requires problem { T.problem_value table ≡ problem.now }
+        requires same_problem { T.problem_value table ≡ problem.now }
         requires covered { T.covered_list table ≡ [] }
         ensures at { IfOk result (λ m. m ≡ record { problem = problem.now; state = state_value state.now }) }
         ensures fits { OnOk result (Fits problem.now (state_value state.now)) }
         ensures unfit { IfErr result (λ r. r.fault ≡ AtFault.NotAState → Fits problem.now (state_value state.now) → ⊥) }
-        ensures problem_back { IfErr result (λ r. T.problem_value r.given ≡ problem.now) }
+        ensures same_problem_back { IfErr result (λ r. T.problem_value r.given ≡ problem.now) }
         ensures covered_back { IfErr result (λ r. T.covered_list r.given ≡ []) }
     {
         let mut marks = match no_marks(alloc, problem.items()) {

@@ -1,4 +1,4 @@
-use Rattle.std.proofs.Common.{◌≡◌, ℕ, ◌+◌, ◌-◌, ◌<◌, List, [], ◌∷◌, ◌++◌, length, map, get_or, ◌∙◌, sym, ap, subst, arith}
+use Rattle.std.proofs.Common.{◌≡◌, ℕ, ◌+◌, ◌-◌, ◌<◌, List, ◌++◌, length, map, get_or, ◌∙◌, sym, ap, subst, arith}
 use Rattle.x_steps.specs.Paths.{paths_at, IsParted}
 use Rattle.x_steps.proofs.PathsLemmas.{append_parted, append_paths, ends_within}
 use Rattle.x_steps.proofs.paths.Paths.append.Goals as goal

@@ -1,4 +1,4 @@
-use Rattle.std.proofs.Common.{◌≡◌, ℕ, ◌∙◌, sym, ap, length, List}
+use Rattle.std.proofs.Common.{◌≡◌, ◌∙◌, sym, ap, length}
 use Rattle.x_steps.specs.Paths.{paths_at}
 use Rattle.x_steps.proofs.PathsLemmas.{length-paths}
 use Rattle.x_steps.proofs.paths.Paths.len.Goals as goal

@@ -1,5 +1,5 @@
-use Rattle.std.proofs.Common.{◌≡◌, ℕ, ◌-◌, ◌<◌, List, [], length, take, drop, get_or, ◌∙◌, sym, ap, arith}
-use Rattle.x_steps.specs.Paths.{paths_at, start_at}
+use Rattle.std.proofs.Common.{◌≡◌, ◌-◌, [], length, take, drop, get_or, ◌∙◌, sym, ap, arith}
+use Rattle.x_steps.specs.Paths.{start_at}
 use Rattle.x_steps.proofs.PathsLemmas.{path_here, same_default}
 use Rattle.x_steps.proofs.paths.Paths.path.Goals as goal
 

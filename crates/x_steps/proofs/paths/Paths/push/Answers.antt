@@ -1,4 +1,4 @@
-use Rattle.std.proofs.Common.{◌≡◌, ℕ, List, [], ◌∷◌, ◌++◌, length, ◌∙◌, sym, ap, subst}
+use Rattle.std.proofs.Common.{ℕ, List, [], ◌∷◌, ◌++◌, length, ◌∙◌, sym, ap, subst}
 use Rattle.x_steps.specs.Paths.{paths_at, IsParted}
 use Rattle.x_steps.proofs.PathsLemmas.{push_parted, push_paths}
 use Rattle.x_steps.proofs.paths.Paths.push.Goals as goal

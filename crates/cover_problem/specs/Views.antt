@@ -1,0 +1,17 @@
+-- What the contracts see of the code's lists of options, names and strings.
+use Rattle.std.specs.Prelude.{ℕ, List, Vec, String, map, string_bytes}
+use Rattle.std.specs.declared.alloc.Global.{Global}
+use Rattle.cover_problem.specs.Limits.{most_name_bytes}
+use Rattle.arrayvec.specs.declared.array_string.ArrayString.{ArrayString}
+
+-- the items of each option
+abbrev pub items_of : List (Vec ℕ Global) → List (List ℕ)
+items_of options = map (λ o. o.items) options
+
+-- the bytes of each name
+abbrev pub bytes_of : List (ArrayString most_name_bytes) → List (List ℕ)
+bytes_of names = map (λ n. n.bytes) names
+
+-- the bytes of each string
+abbrev pub texts_of : List (String Global) → List (List ℕ)
+texts_of strings = map string_bytes strings

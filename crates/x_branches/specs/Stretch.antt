@@ -1,0 +1,25 @@
+-- A stretch: the part of a problem's run from one state up to another, without that one.
+use Rattle.std.specs.Prelude.{◌≡◌, ℕ, List}
+use Rattle.cover_problem.specs.Problem.{ProblemValue}
+use Rattle.x_steps.specs.StateValue.{StateValue}
+use Rattle.x_steps.specs.Steps.{Fits}
+use Rattle.x_steps.specs.Run.{ReachesIn, steps_between, visits_between}
+use Rattle.x_steps.specs.Levels.{trimmed_levels}
+
+-- a problem, and two states of its run: what lies between them is a function of these
+pub record StretchValue : Type 0 where
+  pub problem : ProblemValue
+  pub from : StateValue
+  pub to : StateValue
+
+-- the first state is one of the run, and the second is it or comes later
+pub record IsStretch (p : ProblemValue) (s t : StateValue) : Type 0 where
+  pub fits : Fits p s
+  pub reaches : ReachesIn p s t (steps_between p s t)
+
+-- what is kept of the part between: how many steps it has, its visits, and its X2 states at each level
+pub record KeepsStretch (p : ProblemValue) (s t : StateValue) (steps : ℕ) (visits : List (List ℕ)) (levels : List ℕ) : Type 0 where
+  pub order : IsStretch p s t
+  pub steps_are : steps ≡ steps_between p s t
+  pub visits_are : visits ≡ visits_between p s t
+  pub levels_are : levels ≡ trimmed_levels p s t

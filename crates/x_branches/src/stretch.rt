@@ -1,0 +1,116 @@
+//! Stretches: parts of a run that were walked.
+ghost use Rattle.std.specs.Prelude.{◌≡◌, IfOk};
+ghost use Rattle.x_steps.specs.StateView.{state_value};
+ghost use Rattle.x_steps.specs.Steps.{Fits};
+ghost use Rattle.x_steps.specs.Run.{steps_between, visits_between};
+ghost use Rattle.x_steps.specs.Levels.{trimmed_levels};
+ghost use Rattle.x_branches.specs.Stretch.{IsStretch};
+
+use cover_problem::Problem;
+use std::alloc::AllocError;
+use std::marker::Model;
+use x_steps::{Paths, State};
+
+/// The part of a problem's run from one state up to another, without that one.
+#[derive(Drop)]
+pub struct Stretch<'p> {
+    problem: &'p Problem,
+    from: State,
+    to: State,
+    steps: u32,
+    visits: Paths,
+    /// How many X2 states there are at each level, up to the last level that has one.
+    levels: Vec<u32>,
+}
+
+impl<'p> Model for Stretch<'p> {
+    ghost use Rattle.x_steps.specs.StateView.{state_value};
+    ghost use Rattle.x_branches.specs.Stretch.{StretchValue, KeepsStretch};
+
+    ghost Value = { StretchValue };
+
+    ghost view = { λ s. record { problem = s.problem.now; from = state_value s.from; to = state_value s.to } };
+
+    ghost invariant = { λ s. KeepsStretch s.problem.now (state_value s.from) (state_value s.to) s.steps s.visits s.levels.items };
+}
+
+impl<'p> Stretch<'p> {
+    /// The stretch without a step, at a state of the search.
+    pub(crate) fn empty(problem: &'p Problem, state: &State) -> Result<Stretch<'p>, AllocError>
+        requires { Fits problem.now (state_value state.now) }
+        ensures { IfOk result (λ s. s ≡ record { problem = problem.now; from = state_value state.now; to = state_value state.now }) }
+    {
+        let alloc = *state.path.allocator();
+        let from = state.copy()?;
+        let to = state.copy()?;
+        Ok(Stretch {
+            problem,
+            from,
+            to,
+            steps: 0,
+            visits: Paths::new(alloc),
+            levels: Vec::new(alloc),
+        })
+    }
+
+    /// The problem whose run it is part of.
+    pub fn problem(&self) -> &'p Problem
+        ensures { result.now ≡ self.now.problem }
+    {
+        self.problem
+    }
+
+    /// Its first state.
+    pub fn from(&self) -> &State
+        ensures state { state_value result.now ≡ self.now.from }
+        ensures stretch { IsStretch self.now.problem self.now.from self.now.to }
+    {
+        &self.from
+    }
+
+    /// The state that it leads to, which isn't in it.
+    pub fn to(&self) -> &State
+        ensures { state_value result.now ≡ self.now.to }
+    {
+        &self.to
+    }
+
+    /// How many steps it has.
+    pub fn steps(&self) -> u32
+        ensures { result ≡ steps_between self.now.problem self.now.from self.now.to }
+    {
+        self.steps
+    }
+
+    /// The paths that it visits.
+    pub fn visits(&self) -> &Paths
+        ensures { result.now ≡ visits_between self.now.problem self.now.from self.now.to }
+    {
+        &self.visits
+    }
+
+    /// How many X2 states it has at each level, up to the last level that has one.
+    pub fn levels(&self) -> &[u32]
+        ensures { result.now ≡ trimmed_levels self.now.problem self.now.from self.now.to }
+    {
+        &self.levels
+    }
+
+    /// The same stretch, in memory of its own.
+    pub fn copy(&self) -> Result<Stretch<'p>, AllocError>
+        ensures { IfOk result (λ stretch. stretch ≡ self.now) }
+    {
+        let from = self.from.copy()?;
+        let to = self.to.copy()?;
+        let visits = self.visits.copy()?;
+        let levels = self.levels.clone()?;
+        Ok(Stretch {
+            problem: self.problem,
+            from,
+            to,
+            steps: self.steps,
+            visits,
+            levels,
+        })
+    }
+}

@@ -112,6 +112,18 @@ normal_is vs some limits = record {
   };
 }
 
+pub normal_by : (vs : List Coordinates) (some : 0 < length vs) (limits : AllInGrid vs) → (normal_is vs some limits).by ≡ negated (corner vs)
+unfolding normal_is
+normal_by vs some limits = refl
+
+forth_one : (c d : ℤ) → c +ℤ neg_ℤ d +ℤ d ≡ c
+forth_one c d = omega (arith, ints)
+
+-- a translation back and forth
+pub led_forth : (k : Coordinates) (p : Point) → translated (point k) (translated (negated k) p) ≡ p
+unfolding negated
+led_forth k p = same_point _ _ _ _ _ _ (forth_one p.x (pos k.x)) (forth_one p.y (pos k.y)) (forth_one p.z (pos k.z))
+
 -- ---- the turned form
 
 pub some_from_in : {K : Type 0} (x : K) (xs : List K) → IsIn x xs → 0 < length xs

@@ -49,13 +49,13 @@ symmetry_from_forms n vs s same =
 -- ---- a symmetry gives equal forms
 
 -- two sets, each a translate of the other, that are both at the origin are the same
-abbrev across : Point → Point → Point → Point
+abbrev pub across : Point → Point → Point → Point
 across b d e = point_at (d.x +ℤ e.x -ℤ b.x) (d.y +ℤ e.y -ℤ b.y) (d.z +ℤ e.z -ℤ b.z)
 
 across_one : (t m r u b d e : ℤ) → t ≡ m +ℤ b → r ≡ m +ℤ d → u ≡ r +ℤ e → u ≡ t +ℤ (d +ℤ e -ℤ b)
 across_one t m r u b d e p q s = omega (arith, ints)
 
-led_across : (t m r u b d e : Point) → t ≡ translated b m → r ≡ translated d m → u ≡ translated e r → u ≡ translated (across b d e) t
+pub led_across : (t m r u b d e : Point) → t ≡ translated b m → r ≡ translated d m → u ≡ translated e r → u ≡ translated (across b d e) t
 led_across t m r u b d e p q s =
     same_point _ _ _ _ _ _
     (across_one t.x m.x r.x u.x b.x d.x e.x (ap (λ (v : Point). v.x) p) (ap (λ (v : Point). v.x) q) (ap (λ (v : Point). v.x) s))
@@ -68,7 +68,7 @@ no_shift a a' b b' e p q r s = omega (arith, ints)
 stays : (v : Point) (e : Point) → e.x ≡ pos 0 → e.y ≡ pos 0 → e.z ≡ pos 0 → translated e v ≡ v
 stays v e x y z = same_point _ _ _ _ _ _ (omega (arith, ints)) (omega (arith, ints)) (omega (arith, ints))
 
-at_rest : (vs ws : List Coordinates) (e : Point) → IsAtOrigin vs → IsAtOrigin ws → IsTranslate e vs ws → (v : Point) → translated e v ≡ v
+pub at_rest : (vs ws : List Coordinates) (e : Point) → IsAtOrigin vs → IsAtOrigin ws → IsTranslate e vs ws → (v : Point) → translated e v ≡ v
 at_rest vs ws e o p t =
     let ax = t.into o.x.0 o.x.1 in
     let bx = t.onto p.x.0 p.x.1 in

@@ -3,11 +3,12 @@ ghost use Rattle.std.specs.Prelude.{◌≡◌, ◌≢◌, ◌≤◌, ◌↔◌, 
 ghost use Rattle.poly_cells.specs.Coordinates.{Coordinates, coordinates, IsInGrid};
 ghost use Rattle.poly_cells.specs.Points.{point, point_at, translated};
 ghost use Rattle.poly_cells.specs.Symmetries.{pick};
-ghost use Rattle.poly_cells.specs.Turns.{mirrored, turned_by};
+ghost use Rattle.poly_cells.specs.Turns.{mirrored, turn, turned_by};
 ghost use Rattle.poly_cells.specs.Shapes.{moved_back};
 
 use crate::fault::CellFault;
 use crate::matrix::SignedPermutation;
+use crate::symmetry::Symmetry;
 use std::marker::Model;
 
 // The greatest coordinate of a cell.
@@ -89,6 +90,13 @@ impl Cell {
             1 => self.y,
             _ => self.z,
         }
+    }
+
+    /// The cell to which the symmetry turns this one within the cube of cells: a minus sign reads a coordinate from the other end.
+    pub fn turned(self, symmetry: Symmetry) -> Cell
+        ensures { result ≡ turn symmetry self }
+    {
+        self.turned_by(symmetry.matrix())
     }
 
     // The cell to which the matrix turns this one; a minus sign reads a coordinate from the other end.

@@ -18,6 +18,6 @@ pub use cell::Cell;
 pub use fault::{CellFault, TranslateFault};
 pub use region::symmetries_of;
 pub use rotation::Rotation;
-pub use set::put_in_order;
+pub use set::{corner_of, put_in_order};
 pub use shape::Shape;
 pub use symmetry::Symmetry;

@@ -22,7 +22,7 @@ pub fn put_in_order(cells: &mut Vec<Cell>)
     cells.dedup();
 }
 
-// The least x, the least y and the least z; 31 31 31 where there is no cell.
+/// The least x, the least y and the least z; 31 31 31 where there is no cell.
 pub fn corner_of(cells: &[Cell]) -> Cell
     ensures value { result ≡ corner cells.now }
     ensures limits { AllInGrid cells.now }

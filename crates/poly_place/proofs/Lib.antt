@@ -19,3 +19,10 @@ pub mod LayerLemmas
 pub mod CompiledLemmas
 pub mod RoomLemmas
 pub mod LayerExamples
+pub mod CountingLemmas
+pub mod FormLemmas
+pub mod KeyLemmas
+pub mod CarryLemmas
+pub mod ClassLemmas
+pub mod LoopLemmas
+pub mod ClassExamples

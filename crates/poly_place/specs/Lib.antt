@@ -5,3 +5,5 @@ pub mod Chosen
 pub mod Compiled
 pub mod Layers
 pub mod Faults
+pub mod Classes
+pub mod Forms

@@ -1,11 +1,16 @@
 //! Placements of a piece in a region, and the exact cover problem whose exact covers are the packings of a puzzle.
 #![tactic(auto)]
 
+mod alike;
 mod choice;
+#[cfg(test)]
+mod class_tests;
 mod compiled;
 #[cfg(test)]
 mod compiled_tests;
 mod fault;
+mod forms;
+mod images;
 mod items;
 pub mod laws;
 mod layer;
@@ -19,6 +24,7 @@ mod table;
 #[cfg(test)]
 mod tests;
 
+pub use alike::{Group, classes};
 pub use choice::Choice;
 pub use compiled::{Compiled, compile};
 pub use fault::PlaceFault;

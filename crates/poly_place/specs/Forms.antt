@@ -1,0 +1,91 @@
+-- Forms of a packing: its parts as one list of numbers for each symmetry, the same for packings that are carried onto one another.
+-- Contracts of private functions cite these words.
+--
+-- Example: the parts 2 0 2 1 have the form 1 0 1 4, since the part numbered 2 stands first at place 1 (proofs/ClassExamples.antt).
+use Rattle.std.specs.Prelude.{◌≡◌, ◌↔◌, ℕ, ◌+◌, ◌<◌, ◌==◌, true, cond, List, [], ◌∷◌, map, slice_index}
+use Rattle.std.specs.Ordering.{nat_cmp}
+use Rattle.std.specs.Cmp.Lexicographic.{slice_cmp}
+use Rattle.std.specs.declared.cmp.Ordering.{Ordering}
+use Rattle.poly_cells.specs.Coordinates.{Coordinates}
+use Rattle.poly_cells.specs.Turns.{turn}
+use Rattle.poly_cells.specs.Sets.{IsIn, by_order}
+use Rattle.poly_cells.specs.Shapes.{corner, moved, moved_back}
+use Rattle.poly_cells.specs.Images.{HasSymmetry}
+use Rattle.poly_cells.specs.CellTests.{is_same, has_cell}
+use Rattle.poly_place.specs.declared.alike.Group.{Group}
+use Rattle.poly_place.specs.Packings.{ChoiceValue}
+use Rattle.poly_place.specs.Chosen.{PackingValue}
+use Rattle.poly_place.specs.Classes.{is_member, part_at}
+
+-- the least corner of the turned region
+abbrev pub turned_corner : List Coordinates → ℕ → Coordinates
+turned_corner region n = corner (map (turn n) region)
+
+-- the cell turned, and then moved as the turned region is moved to bring its least corner to the region's
+unfoldable pub image_in : List Coordinates → ℕ → Coordinates → Coordinates
+image_in region n v = moved (corner region) (moved_back (turned_corner region n) (turn n v))
+
+-- the cells to which these are brought, in the same order
+abbrev pub images_in : List Coordinates → ℕ → List Coordinates
+images_in region n = map (image_in region n) region
+
+-- how many cells come before this one
+abbrev pub place_of : List Coordinates → Coordinates → ℕ
+place_of [] v = 0
+place_of (c ∷ cs) v = cond (is_same c v) 0 (1 + place_of cs v)
+
+-- for each cell of the region the place of its image
+abbrev pub carrier : List Coordinates → ℕ → List ℕ
+carrier region n = map (place_of region) (images_in region n)
+
+-- symmetry n of the group brings the region onto itself and optional cells onto optional cells
+pub record IsKept (group : Group) (region maybe : List Coordinates) (n : ℕ) : Type 0 where
+  pub limit : n < 48
+  pub member : is_member group n ≡ true
+  pub symmetry : HasSymmetry n region
+  pub optional : map (has_cell maybe) (images_in region n) ≡ map (has_cell maybe) region
+
+-- exactly the carriers of these symmetries
+abbrev pub AreCarriers : Group → List Coordinates → List Coordinates → List (List ℕ) → Type 0
+AreCarriers group region maybe carriers =
+    (g : List ℕ) → IsIn g carriers ↔ ((n : ℕ) × IsKept group region maybe n × (g ≡ carrier region n))
+
+-- ---- forms
+
+-- the part of each cell
+abbrev pub parts_in : List Coordinates → List ChoiceValue → List ℕ
+parts_in region cs = map (part_at cs) region
+
+-- the numbers at these places
+abbrev pub carried : List ℕ → List ℕ → List ℕ
+carried numbers places = map (slice_index numbers) places
+
+-- how many come before the first x
+abbrev pub place_in : List ℕ → ℕ → ℕ
+place_in [] x = 0
+place_in (y ∷ ys) x = cond (y == x) 0 (1 + place_in ys x)
+
+-- for each number where it stands first, from 1 on, and 0 for 0
+unfoldable pub first_form : List ℕ → List ℕ
+first_form numbers = map (place_in (0 ∷ numbers)) numbers
+
+-- the form of the numbers, carried
+abbrev pub form_by : List ℕ → List ℕ → List ℕ
+form_by numbers places = first_form (carried numbers places)
+
+-- forms are ordered as lists of numbers
+abbrev pub forms_cmp : List ℕ → List ℕ → Ordering
+forms_cmp = slice_cmp nat_cmp
+
+-- the lesser of two forms
+abbrev pub lesser : List ℕ → List ℕ → List ℕ
+lesser form best = by_order (forms_cmp form best) form best best
+
+-- the least of a form and of those of the numbers, carried in each way
+unfoldable pub least_from : List ℕ → List ℕ → List (List ℕ) → List ℕ
+least_from numbers best [] = best
+least_from numbers best (g ∷ gs) = least_from numbers (lesser (form_by numbers g) best) gs
+
+-- the least form of a packing
+abbrev pub key_of : List Coordinates → List (List ℕ) → PackingValue → List ℕ
+key_of region carriers p = least_from (parts_in region p.placements) (first_form (parts_in region p.placements)) carriers

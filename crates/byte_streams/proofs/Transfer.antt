@@ -1,8 +1,8 @@
 -- What was read or written so far.
-use Rattle.std.proofs.Common.{◌≡◌, ◌<◌, ◌≤◌, ℕ, List, [], ◌++◌, length, take, drop, sym, ap, ◌∙◌, append_assoc, length-append, append-nil, take-append-drop, subst, arith, None, Some, IfSome}
+use Rattle.std.proofs.Common.{◌≡◌, ◌<◌, ℕ, List, ◌++◌, length, take, drop, sym, ap, ◌∙◌, append_assoc, length-append, take-append-drop, subst, arith, None, Some, IfSome}
 use Rattle.std.specs.Prelude.{Option}
 use Rattle.std.specs.Io.KnownBytes.{Appends, Consumes, Keeps}
-use Rattle.std.proofs.KnownBytes.{Appends-trans, Appends-kept, Appends-nil}
+use Rattle.std.proofs.KnownBytes.{Appends-trans, Appends-kept}
 use lib.Seq.{take-append_seam}
 use Rattle.byte_streams.specs.Stream.{Stream, IsSound, HasFailed, TakesPart}
 use Rattle.byte_streams.specs.Input.{GoesPastLimit, most_input}

@@ -1,9 +1,7 @@
 -- An account with one state more.
 use Rattle.std.proofs.Common.{◌≡◌, ℕ, zero, suc, ◌+◌, ◌<◌, ◌==◌, Bool, true, false, not, cond, ◌&&◌, if◌then◌else◌, inl, inr, List, [], ◌∷◌, ◌++◌, length, map, refl, sym, ap, ◌∙◌, arith, append-nil, subst, slice_index, slice_set, replicate, length-append, zero-add, add-one}
 use Rattle.std.proofs.lemmas.Bool.Decides.{eqb_tells}
-use Rattle.std.proofs.lemmas.Grind.{flat_map-append}
-use Rattle.std.proofs.lemmas.List.{map-append, length-map}
-use Rattle.text_lines.specs.Writing.{line_text, text_of}
+use Rattle.std.proofs.lemmas.List.{length-map}
 use Rattle.cover_problem.specs.Lists.{numbers}
 use Rattle.cover_problem.specs.Problem.{ProblemValue, IsProblem}
 use Rattle.cover_problem.proofs.NumberLemmas.{length-numbers}

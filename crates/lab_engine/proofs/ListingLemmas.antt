@@ -1,10 +1,9 @@
 -- What is written lists the exact covers, or the packings.
-use Rattle.std.proofs.Common.{◌≡◌, ℕ, zero, suc, ◌+◌, ◌<◌, arith, Bool, true, false, List, [], ◌∷◌, ◌++◌, length, get_or, cond, Result, Ok, Err, None, Some, IfSome, refl, sym, ap, ◌∙◌, subst, inl, inr}
+use Rattle.std.proofs.Common.{◌≡◌, ℕ, zero, suc, ◌<◌, arith, Bool, true, false, List, [], ◌∷◌, length, get_or, cond, Result, Ok, Err, None, Some, IfSome, refl, sym, ap, ◌∙◌, subst, inl, inr}
 use Rattle.std.specs.Prelude.{Option}
 use Rattle.std.specs.Io.KnownBytes.{Appends}
 use Rattle.cover_problem.specs.Lists.{has}
 use Rattle.cover_problem.specs.Problem.{ProblemValue, IsProblem, is_small}
-use Rattle.cover_problem.specs.ExactCover.{IsExactCover}
 use Rattle.cover_problem.specs.declared.fault.Fault.{Fault}
 use Rattle.cover_problem.specs.Reading.{problem_of}
 use Rattle.cover_problem.proofs.TextLemmas.{read_is_text}
@@ -14,7 +13,7 @@ use Rattle.poly_texts.specs.Reading.{puzzle_of}
 use Rattle.poly_texts.proofs.TextLemmas as texts
 use Rattle.poly_texts.proofs.PuzzleLemmas.{puzzle_is}
 use Rattle.cover_problem.specs.Grammar.{written}
-use Rattle.poly_place.specs.Packings.{ChoiceValue, ArePackings, IsPacking, StandsFor, choice_at, packing_problem}
+use Rattle.poly_place.specs.Packings.{ChoiceValue, ArePackings, StandsFor, choice_at, packing_problem}
 use Rattle.poly_place.specs.Chosen.{chosen_by, is_among}
 use Rattle.poly_place.proofs.PackingLemmas.{are_packings}
 use Rattle.poly_place.proofs.CompiledLemmas.{is_problem}
@@ -22,7 +21,7 @@ use Rattle.poly_place.proofs.ChosenLemmas.{cover_stands, cover_packs}
 use Rattle.x_steps.specs.Order.{IsIn}
 use Rattle.x_steps.specs.Covers.{AreCovers}
 use Rattle.x_steps.specs.StateValue.{start, done}
-use Rattle.x_steps.specs.Run.{states_between, visits_between}
+use Rattle.x_steps.specs.Run.{visits_between}
 use Rattle.x_steps.specs.Levels.{without_last_zeros}
 use Rattle.x_steps.proofs.VisitLemmas.{visits_rise, visits_are_covers}
 use Rattle.lab_engine.specs.declared.job.Job.{Job}

@@ -1,21 +1,8 @@
--- Lines and packings that are added one by one.
-use Rattle.std.proofs.Common.{◌≡◌, ℕ, ◌+◌, ◌<◌, ◌≤◌, List, [], ◌∷◌, ◌++◌, length, map, get_or, take, refl, sym, ap, ap₂, ◌∙◌, arith, append_assoc, append-nil}
-use Rattle.std.proofs.lemmas.Grind.{flat_map-append}
-use Rattle.std.proofs.lemmas.List.{take_more, map-append, length-take-le}
-use Rattle.text_lines.specs.Writing.{line_text, text_of}
+-- Packings that are added one by one.
+use Rattle.std.proofs.Common.{◌≡◌, ℕ, ◌+◌, ◌<◌, List, [], ◌∷◌, ◌++◌, length, get_or, take, sym, ap, ◌∙◌, arith, append_assoc, append-nil}
+use Rattle.std.proofs.lemmas.List.{take_more, length-take-le}
 use Rattle.poly_texts.specs.Puzzle.{PuzzleValue}
-use Rattle.lab_engine.specs.Output.{visit_words}
 use Rattle.lab_engine.specs.Packed.{packing_text, packings_from}
-
--- a visit's line more
-pub visit_more : (paths : List (List ℕ)) (k : ℕ) (path start before after : List ℕ) → k < length paths → path ≡ get_or paths k [] → after ≡ before ++ line_text (visit_words path)
-    → before ≡ start ++ text_of (map visit_words (take k paths)) → after ≡ start ++ text_of (map visit_words (take (k + 1) paths))
-visit_more paths k path start before after lt is push so =
-    push ∙ ap (λ (bs : List ℕ). bs ++ line_text (visit_words path)) so ∙ append_assoc start (text_of (map visit_words (take k paths))) (line_text (visit_words path))
-    ∙ ap (λ (bs : List ℕ). start ++ bs)
-    (sym (ap (λ (ps : List (List ℕ)). text_of (map visit_words ps)) (take_more paths k [] lt ∙ ap (λ (p : List ℕ). take k paths ++ p ∷ []) (sym is))
-    ∙ ap text_of (map-append visit_words (take k paths) (path ∷ [])) ∙ flat_map-append line_text (map visit_words (take k paths)) (visit_words path ∷ [])
-    ∙ ap (λ (bs : List ℕ). text_of (map visit_words (take k paths)) ++ bs) (append-nil (line_text (visit_words path)))))
 
 packings_push : (p : PuzzleValue) (n : ℕ) (paths : List (List ℕ)) (path : List ℕ) → packings_from p n (paths ++ path ∷ []) ≡ packings_from p n paths ++ packing_text p (n + length paths) path
 packings_push p n [] path = append-nil (packing_text p n path) ∙ ap (λ (k : ℕ). packing_text p k path) (omega arith)

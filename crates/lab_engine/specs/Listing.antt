@@ -1,5 +1,5 @@
 -- What the output lists: of `cover` the exact covers of the problem, of `solve` the packings of the puzzle, each once, in path order.
-use Rattle.std.specs.Prelude.{ℕ, ◌≡◌, Bool, true, List, [], ◌∷◌, ◌++◌, length, map, slice_index_or, EachIndex, Ok}
+use Rattle.std.specs.Prelude.{ℕ, ◌≡◌, Bool, List, [], ◌∷◌, ◌++◌, length, map, slice_index_or, EachIndex, Ok}
 use Rattle.text_lines.specs.Writing.{line_text, text_of}
 use Rattle.cover_problem.specs.Lists.{has}
 use Rattle.cover_problem.specs.Problem.{ProblemValue}

@@ -83,7 +83,8 @@ fn work<I: Source, O: Sink>(alloc: Global, job: Job, reader: &mut I, writer: &mu
 /// `faults` where the status isn't 0; it is whole unless `faults` failed.
 ///
 /// What is written at status 0 is a function of the job and of the bytes read (`outcome`), and it lists exactly the
-/// exact covers of the input's problem, each once, in path order. At 3 and 4 nothing is written.
+/// exact covers of the input's problem, or the packings of its puzzle, each once, in path order, or tells how many
+/// these are. At 3 and 4 nothing is written.
 pub fn run<R, I: Source, O: Sink, F: Sink>(
     _rt: &R,
     alloc: Global,

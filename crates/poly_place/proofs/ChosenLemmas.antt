@@ -1,5 +1,5 @@
 -- The packing that is made of an exact cover is one, and stands for it.
-use Rattle.std.proofs.Common.{◌≡◌, ℕ, ◌-◌, ◌<◌, ◌≤◌, List, [], ◌∷◌, ◌++◌, map, get_or, length, Bool, true, refl, sym, ap, subst, ◌∙◌, nat_cmp, IsPermutation, IsSorted}
+use Rattle.std.proofs.Common.{◌≡◌, ℕ, ◌≤◌, List, get_or, length, Bool, sym, ap, subst, ◌∙◌, nat_cmp, IsPermutation, IsSorted}
 use Rattle.std.specs.List.{dedup}
 use Rattle.std.proofs.lemmas.Map.Lookups.{exact_unsigned}
 use Rattle.std.proofs.lemmas.List.{map-id}
@@ -11,7 +11,7 @@ use Rattle.poly_cells.proofs.SortLemmas.{after_sort}
 use Rattle.poly_texts.specs.Puzzle.{PuzzleValue, IsPuzzle}
 use Rattle.cover_problem.specs.Lists.{has}
 use Rattle.cover_problem.specs.ExactCover.{IsExactCover}
-use Rattle.poly_place.specs.Packings.{ChoiceValue, choice, IsPacking, StandsFor, choices, choice_at, packing_problem}
+use Rattle.poly_place.specs.Packings.{ChoiceValue, IsPacking, StandsFor, choices, choice_at, packing_problem}
 use Rattle.poly_place.specs.Chosen.{same_choice, is_among, AreNumbered, chosen_by}
 use Rattle.poly_place.proofs.DistinctLemmas.{some_passes, passes_some, in_from_name, name_from_in}
 use Rattle.poly_place.proofs.PackingLemmas.{same_choice_is, same_choice_itself, count_back, are_packings}

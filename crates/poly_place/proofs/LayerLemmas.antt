@@ -1,16 +1,15 @@
 -- The loops that show a packing in layers.
-use Rattle.std.proofs.Common.{◌≡◌, ℕ, zero, suc, ◌+◌, ◌-◌, ◌*◌, ◌<◌, ◌≤◌, max, List, [], ◌∷◌, ◌++◌, length, get_or, set, take, drop, map, Bool, true, false, cond, ◌||◌, nat_lt, Some, ◌⊎◌, inl, inr, refl, sym, ap, ap₂, subst, ◌∙◌, arith, append_assoc, append-nil, replicate, flat_map, find, option_map, unwrap_or, drop-cons}
-use Rattle.std.specs.List.{range_with_len, join_with_byte}
+use Rattle.std.proofs.Common.{◌≡◌, ℕ, zero, suc, ◌+◌, ◌-◌, ◌<◌, ◌≤◌, max, List, [], ◌∷◌, ◌++◌, length, get_or, set, take, drop, map, Bool, true, false, cond, ◌||◌, nat_lt, Some, ◌⊎◌, inl, inr, refl, sym, ap, ap₂, subst, ◌∙◌, arith, append_assoc, append-nil, replicate, find, option_map, unwrap_or}
+use Rattle.std.specs.List.{range_with_len}
 use Rattle.std.proofs.lemmas.Grind.{flat_map-append}
 use Rattle.std.proofs.lemmas.List.{take_more, map-append, get_or-set_same, get_or-set_other, length-set, length-replicate, get_or-replicate, drop_more, drop_all}
 use Rattle.text_lines.specs.Writing.{spaced, line_text, text_of}
 use Rattle.poly_cells.specs.Coordinates.{Coordinates, coordinates, IsInGrid}
-use Rattle.poly_cells.specs.Shapes.{corner}
 use Rattle.poly_cells.proofs.CoordinateLemmas.{same_coordinates, is_same_Decides}
 use Rattle.poly_cells.specs.CellTests.{is_same, has_cell}
 use Rattle.poly_place.specs.Packings.{ChoiceValue}
 use Rattle.poly_place.specs.Tables.{bit_index}
-use Rattle.poly_place.specs.Layers.{greatest, far_corner, from_to, symbol_over, ground, AreSymbols, painted}
+use Rattle.poly_place.specs.Layers.{greatest, far_corner, symbol_over, ground, AreSymbols, painted}
 use Rattle.poly_place.proofs.TestLemmas.{lt_true, lt_false}
 use Rattle.poly_place.proofs.ThingLemmas.{bool_cases}
 use Rattle.poly_place.proofs.NumberLemmas.{written}

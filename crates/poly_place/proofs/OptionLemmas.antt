@@ -1,5 +1,5 @@
 -- The option of a choice by a table of numbers, and where there is no room for some choices, there is none for more.
-use Rattle.std.proofs.Common.{◌≡◌, ℕ, ◌+◌, ◌<◌, ◌≤◌, List, [], ◌∷◌, ◌++◌, map, length, get_or, take, drop, Bool, true, false, nat_le, sum_by, inl, inr, refl, sym, ap, ap₂, subst, ◌∙◌, arith}
+use Rattle.std.proofs.Common.{◌≡◌, ℕ, ◌+◌, ◌<◌, List, [], ◌∷◌, ◌++◌, map, length, get_or, take, drop, true, false, nat_le, inl, inr, refl, sym, ap, ap₂, subst, ◌∙◌, arith}
 use Rattle.std.specs.List.{flat_map}
 use Rattle.std.proofs.lemmas.Bool.{and_parts, and_from}
 use Rattle.std.proofs.lemmas.Grind.{flat_map-append}
@@ -12,7 +12,7 @@ use Rattle.cover_problem.specs.declared.limits.TheConstants.{MOST_OPTIONS, MOST_
 use Rattle.poly_place.specs.Packings.{ChoiceValue, IsPlaced, choices_of, choices, a_piece, a_cell, item_of, option_of}
 use Rattle.poly_place.specs.Compiled.{number_at, AreNumbers, option_by, entries_of, is_within}
 use Rattle.poly_place.proofs.TestLemmas.{le_true, true_le}
-use Rattle.poly_place.proofs.CountLemmas.{long_append, long_map}
+use Rattle.poly_place.proofs.CountLemmas.{long_append}
 use Rattle.poly_cells.proofs.SetLemmas.{in_at}
 use Rattle.poly_place.proofs.PackingLemmas.{has_shapes, placed_in}
 use Rattle.poly_place.proofs.ThingLemmas.{bool_cases}

@@ -1,8 +1,8 @@
 -- Counting the choices of a puzzle, piece by piece, up to the limits.
-use Rattle.std.proofs.Common.{◌≡◌, ℕ, ◌+◌, ◌<◌, ◌≤◌, List, ◌++◌, length, get_or, Bool, true, false, ◌&&◌, nat_le, ◌⊎◌, inl, inr, refl, sym, ap, ◌∙◌, arith}
+use Rattle.std.proofs.Common.{◌≡◌, ℕ, ◌+◌, ◌<◌, ◌≤◌, List, ◌++◌, length, get_or, true, false, nat_le, ◌⊎◌, inl, inr, sym, ap, ◌∙◌, arith}
 use Rattle.std.proofs.lemmas.Bool.{and_parts, and_from}
 use Rattle.poly_cells.specs.Coordinates.{Coordinates}
-use Rattle.poly_texts.specs.Puzzle.{PuzzleValue, IsPuzzle}
+use Rattle.poly_texts.specs.Puzzle.{PuzzleValue}
 use Rattle.cover_problem.specs.declared.limits.TheConstants.{MOST_OPTIONS, MOST_ENTRIES}
 use Rattle.cover_problem.specs.Problem.{is_small}
 use Rattle.poly_place.specs.Packings.{ChoiceValue, choices_of, choices, things, packing_problem}
@@ -10,7 +10,7 @@ use Rattle.poly_place.specs.Compiled.{entries_of, is_within}
 use Rattle.poly_place.proofs.TestLemmas.{le_true, true_le}
 use Rattle.poly_place.proofs.ThingLemmas.{bool_cases}
 use Rattle.poly_place.proofs.CountLemmas.{long_append}
-use Rattle.poly_place.proofs.OptionLemmas.{choices_before, choices_next, choices_all, entries_append, no_room_before}
+use Rattle.poly_place.proofs.OptionLemmas.{choices_before, choices_next, entries_append, no_room_before}
 use Rattle.poly_place.proofs.CompiledLemmas.{small_is}
 
 -- the choices of the first k pieces are counted with their entries, and there is room for them

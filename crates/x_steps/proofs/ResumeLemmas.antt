@@ -17,7 +17,7 @@ use Rattle.x_steps.specs.declared.state.Cursor.TheVariants as cursor
 use Rattle.x_steps.specs.declared.state.Cursor.TheVariants.{At, Past}
 use Rattle.x_steps.specs.declared.event.Event.{Event}
 use Rattle.x_steps.specs.StateValue.{StateValue, at, start}
-use Rattle.x_steps.specs.Steps.{Fits, FitsAt, IsOpen, item_after, remaining_after, cursor_of, covered_in, covered_at, next}
+use Rattle.x_steps.specs.Steps.{Fits, IsOpen, item_after, remaining_after, cursor_of, covered_in, covered_at, next}
 use Rattle.x_steps.specs.Machine.{Keeps, Position, Goes}
 use Rattle.x_steps.specs.Marked.{AreMarked}
 use Rattle.x_steps.specs.Resume.{position, IsDown}

@@ -1,4 +1,4 @@
-use Rattle.std.proofs.Common.{◌+◌, ◌-◌, ◌<◌, ◌≡◌, vec_len}
+use Rattle.std.proofs.Common.{◌+◌, ◌-◌, ◌<◌, vec_len}
 use Rattle.std.specs.Io.KnownBytes.{Consumes}
 use Rattle.byte_streams.specs.Stream.{IsSound}
 use Rattle.byte_streams.specs.declared.input.TheConstants.{MOST_INPUT}

@@ -1,4 +1,4 @@
-use Rattle.std.proofs.Common.{sym, ap, ◌∙◌, ◌≡◌, refl}
+use Rattle.std.proofs.Common.{sym, ap, ◌∙◌, refl}
 use Rattle.lab_engine.specs.Account.{with_step, empty_account}
 use Rattle.x_steps.specs.Steps.{is_level}
 use Rattle.lab_engine.proofs.SearchLemmas.{searches_begin, searches_on, searches_nearer, searches_end, level_in}

@@ -1,4 +1,4 @@
-use Rattle.std.proofs.Common.{ap, sym, subst, ◌+◌, ◌∙◌, arith, length}
+use Rattle.std.proofs.Common.{ap, sym, subst, ◌∙◌, arith, length}
 use Rattle.poly_cells.specs.Shapes.{AllInGrid}
 use Rattle.poly_place.proofs.CountLemmas.{are_few, things_count, needed_count}
 use Rattle.poly_place.proofs.NumberLemmas.{filled_places}

@@ -1,4 +1,4 @@
-use Rattle.std.proofs.Common.{◌≡◌, ap, sym, ◌+◌, ◌∙◌, arith, length, map, vec_items}
+use Rattle.std.proofs.Common.{ap, ◌+◌, arith, length, map, vec_items}
 use Rattle.std.specs.String.{string_bytes}
 use Rattle.poly_place.proofs.CountLemmas.{are_few, needed_count}
 use Rattle.poly_place.proofs.CompiledLemmas.{AreParts, parts_make, not_faulty}

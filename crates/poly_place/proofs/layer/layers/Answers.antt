@@ -1,5 +1,4 @@
 use Rattle.std.proofs.Common.{◌++◌, ℕ, List, ap, ap₂, subst, ◌∙◌, sym}
-use Rattle.std.specs.String.{string_bytes}
 use Rattle.text_lines.specs.Writing.{text_of}
 use Rattle.poly_cells.specs.Coordinates.{Coordinates}
 use Rattle.poly_cells.specs.Shapes.{corner}

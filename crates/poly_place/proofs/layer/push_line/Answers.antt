@@ -1,4 +1,4 @@
-use Rattle.std.proofs.Common.{ap, nat_lt, ◌∙◌, arith, inl}
+use Rattle.std.proofs.Common.{ap, nat_lt, arith, inl}
 use Rattle.std.specs.String.{string_bytes}
 use Rattle.poly_place.specs.Layers.{row}
 use Rattle.poly_place.proofs.LayerLemmas.{word_next}

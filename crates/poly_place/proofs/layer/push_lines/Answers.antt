@@ -1,4 +1,4 @@
-use Rattle.std.proofs.Common.{◌∙◌, arith, inl}
+use Rattle.std.proofs.Common.{arith, inl}
 use Rattle.std.specs.String.{string_bytes}
 use Rattle.poly_place.specs.Layers.{layer_words}
 use Rattle.poly_place.proofs.LayerLemmas.{line_next}

@@ -1,8 +1,7 @@
-use Rattle.std.proofs.Common.{◌≡◌, ◌++◌, ◌∷◌, [], ◌-◌, ◌+◌, ℕ, List, ap, sym, ◌∙◌, arith, inl, inr, map, get_or}
+use Rattle.std.proofs.Common.{◌++◌, ◌∷◌, [], ℕ, ap, ◌∙◌, arith, inl, inr, map, get_or}
 use Rattle.std.specs.List.{range_with_len}
 use Rattle.std.specs.String.{string_bytes}
-use Rattle.poly_cells.specs.Coordinates.{Coordinates, coordinates, IsInGrid}
-use Rattle.poly_place.specs.Layers.{AreSymbols}
+use Rattle.poly_cells.specs.Coordinates.{coordinates, IsInGrid}
 use Rattle.poly_place.proofs.LayerLemmas.{symbol_next, range_ends}
 use Rattle.poly_place.proofs.layer.push_row.Goals as goal
 

@@ -1,4 +1,4 @@
-use Rattle.std.proofs.Common.{◌-◌, ◌≡◌, ℕ, List, drop, length, subst, sym, ◌∙◌, arith, refl}
+use Rattle.std.proofs.Common.{◌-◌, ℕ, List, drop, length, subst, sym, ◌∙◌, arith, refl}
 use Rattle.poly_cells.specs.Coordinates.{Coordinates}
 use Rattle.poly_place.specs.Layers.{AreSymbols, symbol_over, ground, painted}
 use Rattle.poly_place.proofs.LayerLemmas.{points_shown, ground_shown, over_next, written_symbols}

@@ -1,0 +1,45 @@
+# What there is to do here. Only build, ci and what follows from them need rt, the command of the Rattle toolchain.
+PREFIX = /usr/local
+
+# The puzzles and cover texts of examples/ that take seconds; the others take up to some minutes each.
+QUICK = two-dominoes optional soma-cube soma-without-centre tetracubes-2x2x8 tetracubes-2x4x4 pentominoes-20x3 \
+	pentominoes-scott five-pentominoes-5x5 slothouber-graatsma solid-pentominoes-2x3x10
+QUICK_COVERS = small secondary soma-cube pent-20x3 langford-10 permutations-09 domino-8x6
+LONG = pentominoes-15x4 pentominoes-12x5 pentominoes-10x6 pentominoes-8x8-without-corners dudeney \
+	solid-pentominoes-2x5x6 solid-pentominoes-3x4x5
+LONG_COVERS = pent-10x6 langford-12
+
+.PHONY: all build ci bench gallery gallery-long check-docs check-tools install
+
+all: build gallery check-tools check-docs
+
+# Proves and builds the program where anything changed.
+build:
+	./polylab --version
+
+# The gate: every proof from nothing, wrong bodies that have to be refused, tests, the program.
+ci:
+	rt ci
+
+# Times beside a plain C program.
+bench: build
+	bench/compare 3
+
+# The examples with known counts: what is printed has to be what stands beside each, in NAME.expect.
+gallery: build
+	@tools/gallery $(QUICK:%=puzzles/%) $(QUICK_COVERS:%=covers/%)
+
+gallery-long: build
+	@tools/gallery $(LONG:%=puzzles/%) $(LONG_COVERS:%=covers/%)
+
+# Each command line shown in the recipes and the tutorial is run, and has to print what is shown.
+check-docs: build
+	@tools/check_docs docs/RECIPES.md docs/TUTORIAL.md
+
+# Puts packings through the checker and the drawer; a spoilt one has to be found.
+check-tools: build
+	@tools/check_tools
+
+install: build
+	mkdir -p "$(DESTDIR)$(PREFIX)/bin"
+	cp crates/polylab/out/polylab "$(DESTDIR)$(PREFIX)/bin/polylab"

@@ -38,6 +38,7 @@ fn counts(rt: &HostRuntime, text: &[u8], paths: &[&[u32]]) -> Result<(u64, u64),
 fn names_of_pieces_make_no_class(rt: HostRuntime) -> Result<(), Fail> {
     let text = b"piece A 000 100\npiece B 000 100\nbox 2 2 1\n";
     assert!(rt; counts(&rt, text, &[])? == (0, 0));
+    assert!(rt; counts(&rt, text, &[&[1, 8]])? == (1, 1));
     assert!(rt; counts(&rt, text, &[&[1, 8], &[2, 7], &[3, 6], &[4, 5]])? == (1, 1));
     Ok(())
 }

@@ -18,6 +18,10 @@ pub record ProblemValue : Type 0 where
   pub primary : ℕ
   pub options : List (List ℕ)
 
+-- the problem of these names, so many of them primary, and these options
+abbrev pub problem_with : List (List ℕ) → ℕ → List (List ℕ) → ProblemValue
+problem_with names primary options = record { names = names; primary = primary; options = options }
+
 -- the items of the option numbered k
 abbrev pub option_at : ProblemValue → ℕ → List ℕ
 option_at p k = slice_index_or p.options (k - 1) []
@@ -55,9 +59,13 @@ is_option n option = nat_lt 0 (length option) && are_distinct option && list_all
 abbrev pub size_of : ProblemValue → ℕ
 size_of p = length p.names + sum_by length p.options + length p.options + 2
 
+-- whether so many items, and so many options with so many items together, are within the limits
+abbrev pub are_within : ℕ → ℕ → ℕ → Bool
+are_within items options entries = nat_le items most_items && nat_le options most_options && nat_le (items + entries + options + 2) most_entries
+
 -- whether it is within the limits
 abbrev pub is_small : ProblemValue → Bool
-is_small p = nat_le (length p.names) most_items && nat_le (length p.options) most_options && nat_le (size_of p) most_entries
+is_small p = are_within (length p.names) (length p.options) (sum_by length p.options)
 
 -- whether two problems are equal
 abbrev pub is_same : ProblemValue → ProblemValue → Bool

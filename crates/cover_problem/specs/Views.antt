@@ -3,6 +3,7 @@ use Rattle.std.specs.Prelude.{ℕ, List, Vec, String, map, string_bytes}
 use Rattle.std.specs.declared.alloc.Global.{Global}
 use Rattle.cover_problem.specs.Limits.{most_name_bytes}
 use Rattle.arrayvec.specs.declared.array_string.ArrayString.{ArrayString}
+use Rattle.cover_problem.specs.Problem.{ProblemValue, problem_with}
 
 -- the items of each option
 abbrev pub items_of : List (Vec ℕ Global) → List (List ℕ)
@@ -15,3 +16,7 @@ bytes_of names = map (λ n. n.bytes) names
 -- the bytes of each string
 abbrev pub texts_of : List (String Global) → List (List ℕ)
 texts_of strings = map string_bytes strings
+
+-- the problem that the code's names and options stand for
+abbrev pub problem_of_parts : List (ArrayString most_name_bytes) → ℕ → List (Vec ℕ Global) → ProblemValue
+problem_of_parts names primary options = problem_with (bytes_of names) primary (items_of options)

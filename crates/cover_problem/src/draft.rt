@@ -4,13 +4,13 @@ ghost use Rattle.std.specs.List.{All};
 ghost use Rattle.text_lines.specs.Lines.{words_of};
 ghost use Rattle.text_lines.specs.Each.{each};
 ghost use Rattle.text_lines.specs.Answers.{Gives};
-ghost use Rattle.cover_problem.specs.Problem.{ProblemValue, IsProblem, is_small};
+ghost use Rattle.cover_problem.specs.Problem.{ProblemValue, IsProblem, are_within, problem_with};
 ghost use Rattle.cover_problem.specs.Validation as making;
 ghost use Rattle.cover_problem.specs.Validation.{add_name, with_item};
 ghost use Rattle.cover_problem.specs.Stamps.{AreStamps};
 ghost use Rattle.cover_problem.specs.Reading as reading;
 ghost use Rattle.cover_problem.specs.Reading.{item_of, add_item, nothing};
-ghost use Rattle.cover_problem.specs.Views.{items_of, bytes_of};
+ghost use Rattle.cover_problem.specs.Views.{items_of, bytes_of, problem_of_parts};
 
 use crate::fault::{Fault, ProblemFault};
 use crate::key::{Key, key_of};
@@ -38,15 +38,15 @@ pub struct Draft {
 }
 
 impl Model for Draft {
-    ghost use Rattle.cover_problem.specs.Views.{items_of, bytes_of};
+    ghost use Rattle.cover_problem.specs.Views.{problem_of_parts};
     ghost use Rattle.cover_problem.specs.Problem.{ProblemValue};
     ghost use Rattle.cover_problem.specs.Stamps.{IsDraft};
 
     ghost Value = { ProblemValue };
 
-    ghost view = { λ a. record { names = bytes_of a.names.keys; primary = a.primary; options = items_of a.options.items } };
+    ghost view = { λ a. problem_of_parts a.names.keys a.primary a.options.items };
 
-    ghost invariant = { λ a. IsDraft (record { names = bytes_of a.names.keys; primary = a.primary; options = items_of a.options.items }) a.entries a.marks.items };
+    ghost invariant = { λ a. IsDraft (problem_of_parts a.names.keys a.primary a.options.items) a.entries a.marks.items };
 }
 
 /// The item of a name.
@@ -144,7 +144,7 @@ fn with_names(mut names: IndexSet<Name>, words: &[u8]) -> Result<IndexSet<Name>,
 
 /// Whether so many items, and so many options with so many items together, are within the limits.
 fn is_within(items: usize, options: usize, entries: usize) -> bool
-    ensures { (p : ProblemValue) → length p.names ≡ items → length p.options ≡ options → sum_by length p.options ≡ entries → result ≡ is_small p }
+    ensures { result ≡ are_within items options entries }
 {
     items <= MOST_ITEMS && options <= MOST_OPTIONS && entries <= MOST_ENTRIES - 2 - items - options
 }
@@ -161,7 +161,7 @@ fn within(
     requires counted { entries ≡ sum_by length (items_of options.items) }
     requires marked { length marks.items ≡ length names.keys }
     requires old { All (λ mark. mark ≤ length options.items) marks.items }
-    ensures { Gives (λ d. d) result (making.within (record { names = bytes_of names.keys; primary = primary; options = items_of options.items })) }
+    ensures { Gives (λ d. d) result (making.within (problem_of_parts names.keys primary options.items)) }
 {
     if !is_within(names.len(), options.len(), entries) {
         return Err(ProblemFault::Fault(Fault::TooLarge));
@@ -178,7 +178,7 @@ fn within(
 /// A draft without options.
 fn of_names(alloc: Global, names: IndexSet<Name>, primary: usize) -> Result<Draft, ProblemFault>
     requires { primary ≤ length names.keys }
-    ensures { Gives (λ d. d) result (making.within (record { names = bytes_of names.keys; primary = primary; options = [] })) }
+    ensures { Gives (λ d. d) result (making.within (problem_with (bytes_of names.keys) primary [])) }
 {
     let marks = vec![in alloc; 0u32; names.len()]?;
     within(names, primary, Vec::new(alloc), 0, marks)

@@ -22,7 +22,7 @@ pub fn choice_is_first_shortest()
 
 /// Names, a number of primary items and options make a problem exactly where they are one, and it is what was given.
 pub fn problems_are_made()
-    ensures { (names : List (List ℕ)) (primary : ℕ) (options : List (List ℕ)) (p : ProblemValue) → (problem_from names primary options ≡ Ok p) ↔ ((p ≡ record { names = names; primary = primary; options = options }) × IsProblem p) }
+    ensures { (given p : ProblemValue) → (problem_from given.names given.primary given.options ≡ Ok p) ↔ ((p ≡ given) × IsProblem p) }
 {}
 
 /// What is written is read as the same problem.

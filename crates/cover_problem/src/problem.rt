@@ -3,12 +3,12 @@ ghost use Rattle.std.specs.Prelude.{◌≡◌, ◌<◌, ◌≤◌, Ok, length, m
 ghost use Rattle.std.specs.Cmp.Lexicographic.{pointwise};
 ghost use Rattle.std.specs.List.{list_all};
 ghost use Rattle.std.specs.String.{string_bytes};
-ghost use Rattle.cover_problem.specs.Problem.{IsProblem, is_item, is_name, option_at, name_at, item_named, is_same};
+ghost use Rattle.cover_problem.specs.Problem.{IsProblem, problem_with, is_item, is_name, option_at, name_at, item_named, is_same};
 ghost use Rattle.text_lines.specs.Answers.{IsFaultOf};
 ghost use Rattle.text_lines.specs.declared.refusal.Refusal.TheVariants as refusals;
 ghost use Rattle.cover_problem.specs.declared.fault.Fault.TheVariants.{NoItemLine};
 ghost use Rattle.cover_problem.specs.Validation.{problem_from};
-ghost use Rattle.cover_problem.specs.Views.{items_of, bytes_of, texts_of};
+ghost use Rattle.cover_problem.specs.Views.{items_of, bytes_of, texts_of, problem_of_parts};
 
 use crate::fault::{ProblemFault, Refused};
 use crate::name::Name;
@@ -26,14 +26,14 @@ pub struct Problem {
 }
 
 impl Model for Problem {
-    ghost use Rattle.cover_problem.specs.Views.{items_of, bytes_of};
+    ghost use Rattle.cover_problem.specs.Views.{problem_of_parts};
     ghost use Rattle.cover_problem.specs.Problem.{ProblemValue, IsProblem};
 
     ghost Value = { ProblemValue };
 
-    ghost view = { λ a. record { names = bytes_of a.names.keys; primary = a.primary; options = items_of a.options.items } };
+    ghost view = { λ a. problem_of_parts a.names.keys a.primary a.options.items };
 
-    ghost invariant = { λ a. IsProblem (record { names = bytes_of a.names.keys; primary = a.primary; options = items_of a.options.items }) };
+    ghost invariant = { λ a. IsProblem (problem_of_parts a.names.keys a.primary a.options.items) };
 }
 
 /// Whether the names are the same, in the same order.
@@ -70,7 +70,7 @@ impl Problem {
         options: Vec<Vec<u32>>,
     ) -> Result<Problem, Refused<ProblemFault, (Vec<String>, Vec<Vec<u32>>)>>
         ensures made { IfOk result (λ p. problem_from (texts_of names.items) primary (items_of options.items) ≡ Ok p) }
-        ensures parts { IfOk result (λ p. p ≡ record { names = texts_of names.items; primary = primary; options = items_of options.items }) }
+        ensures parts { IfOk result (λ p. p ≡ problem_with (texts_of names.items) primary (items_of options.items)) }
         ensures refused { IfErr result (λ r. IsFaultOf r.fault (problem_from (texts_of names.items) primary (items_of options.items))) }
         ensures primary { IsErrAnd result (λ r. r.fault ≡ refusals.Fault NoItemLine) ↔ (is_item (length names.items) primary ≡ false) }
         ensures given { IfErr result (λ r. r.given ≡ (names, options)) }
@@ -90,8 +90,8 @@ impl Problem {
 
     /// The problem of parts that are known to make one.
     pub(crate) fn from_parts(names: IndexSet<Name>, primary: u32, options: Vec<Vec<u32>>) -> Problem
-        requires { IsProblem (record { names = bytes_of names.keys; primary = primary; options = items_of options.items }) }
-        ensures { result ≡ record { names = bytes_of names.keys; primary = primary; options = items_of options.items } }
+        requires { IsProblem (problem_of_parts names.keys primary options.items) }
+        ensures { result ≡ problem_of_parts names.keys primary options.items }
     {
         Problem {
             names,

@@ -9,7 +9,7 @@ ghost use Rattle.text_lines.specs.Answers.{Gives};
 ghost use Rattle.cover_problem.specs.Problem as problem;
 ghost use Rattle.cover_problem.specs.Validation as making;
 ghost use Rattle.cover_problem.specs.Validation.{add_name, add_option, option_from};
-ghost use Rattle.cover_problem.specs.Views.{items_of, bytes_of, texts_of};
+ghost use Rattle.cover_problem.specs.Views.{items_of, bytes_of, texts_of, problem_of_parts};
 
 use crate::fault::{Fault, ProblemFault};
 use crate::limits::{MOST_ENTRIES, MOST_ITEMS, MOST_OPTIONS};
@@ -98,7 +98,7 @@ fn are_few(options: &[Vec<u32>], most: usize) -> bool
 
 /// Whether so many items and these options are within the limits.
 fn is_within(count: usize, options: &[Vec<u32>]) -> bool
-    ensures { (names : List (List ℕ)) (primary : ℕ) → length names ≡ count → result ≡ problem.is_small (record { names = names; primary = primary; options = items_of options.now }) }
+    ensures { result ≡ problem.are_within count (length options.now) (sum_by length (items_of options.now)) }
 {
     count <= MOST_ITEMS
         && options.len() <= MOST_OPTIONS
@@ -113,7 +113,7 @@ fn checked_parts(
     options: &[Vec<u32>],
 ) -> Result<IndexSet<Name>, ProblemFault>
     requires { problem.is_item (length names.now) primary ≡ true }
-    ensures { Gives (λ these. record { names = bytes_of these.keys; primary = primary; options = items_of options.now }) result (making.problem_from (texts_of names.now) primary (items_of options.now)) }
+    ensures { Gives (λ these. problem_of_parts these.keys primary options.now) result (making.problem_from (texts_of names.now) primary (items_of options.now)) }
 {
     let these = take_names(alloc, names)?;
     check_options(alloc, names.len(), options)?;
@@ -130,7 +130,7 @@ pub fn checked_names(
     primary: u32,
     options: &[Vec<u32>],
 ) -> Result<IndexSet<Name>, ProblemFault>
-    ensures names { Gives (λ these. record { names = bytes_of these.keys; primary = primary; options = items_of options.now }) result (making.problem_from (texts_of names.now) primary (items_of options.now)) }
+    ensures names { Gives (λ these. problem_of_parts these.keys primary options.now) result (making.problem_from (texts_of names.now) primary (items_of options.now)) }
     ensures primary { IsErrOf result (refusals.Fault NoItemLine) ↔ (problem.is_item (length names.now) primary ≡ false) }
 {
     if primary == 0 || primary as usize > names.len() {

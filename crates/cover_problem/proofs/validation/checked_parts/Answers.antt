@@ -1,8 +1,8 @@
-use Rattle.std.proofs.Common.{◌≡◌, true, [], map, ◌∙◌, ap, sym, refl, length, string_bytes}
+use Rattle.std.proofs.Common.{◌≡◌, true, [], map, ◌∙◌, ap, sym, refl, length, sum_by, string_bytes}
 use Rattle.std.proofs.lemmas.List.{length-map}
 use Rattle.std.proofs.lemmas.Result.{err_from_is_err_and}
 use Rattle.text_lines.specs.Each.{each}
-use Rattle.cover_problem.specs.Problem.{is_item}
+use Rattle.cover_problem.specs.Problem.{is_item, is_small, are_within, problem_with}
 use Rattle.cover_problem.specs.Validation.{add_name, add_option, problem_from}
 use Rattle.text_lines.proofs.ResultLemmas.{passes_on}
 use Rattle.cover_problem.proofs.ProblemLemmas.{names_stop, options_refused, too_large, all_made}
@@ -35,7 +35,8 @@ returns-then-not-is_within c =
     let these = map (λ n. n.bytes) c.in_ok-these.these.keys in
     let some : is_item (length names) c.args.primary ≡ true = rw length-map c.requires in
     let same : length these ≡ length c.args.names.now = ap length (names_are [] names these c.in_ok-these.ensures refl refl).0 ∙ length-map c.args.names.now string_bytes in
-    too_large names c.args.primary options some these c.in_ok-these.ensures options (rw length-map c.in_ok-check_options.ensures) (sym (c.is_within.ensures these c.args.primary same) ∙ c.if-not-is_within.true)
+    let size : is_small (problem_with these c.args.primary options) ≡ are_within (length c.args.names.now) (length c.args.options.now) (sum_by length options) = rw (same, length-map) refl in
+    too_large names c.args.primary options some these c.in_ok-these.ensures options (rw length-map c.in_ok-check_options.ensures) (size ∙ sym c.is_within.ensures ∙ c.if-not-is_within.true)
 
 pub returns : goal.returns
 returns c =
@@ -44,4 +45,5 @@ returns c =
     let these = map (λ n. n.bytes) c.in_ok-these.these.keys in
     let some : is_item (length names) c.args.primary ≡ true = rw length-map c.requires in
     let same : length these ≡ length c.args.names.now = ap length (names_are [] names these c.in_ok-these.ensures refl refl).0 ∙ length-map c.args.names.now string_bytes in
-    all_made names c.args.primary options some these c.in_ok-these.ensures options (rw length-map c.in_ok-check_options.ensures) (sym (c.is_within.ensures these c.args.primary same) ∙ c.if-not-is_within.false)
+    let size : is_small (problem_with these c.args.primary options) ≡ are_within (length c.args.names.now) (length c.args.options.now) (sum_by length options) = rw (same, length-map) refl in
+    all_made names c.args.primary options some these c.in_ok-these.ensures options (rw length-map c.in_ok-check_options.ensures) (size ∙ sym c.is_within.ensures ∙ c.if-not-is_within.false)

@@ -1,5 +1,5 @@
 //! Problems that are made of names and options, with answers that were worked out by hand.
-use crate::{Fault, Problem, ProblemFault, Refused};
+use crate::{Fault, Problem, ProblemFault, Refused, read_cover};
 use std::alloc::{AllocError, Global};
 use std::test::Fail;
 
@@ -42,6 +42,22 @@ const SAME: [(&[&str], u32, &[&[u32]], bool); 4] = [
     (&["a", "b"], 1, &[&[1, 2]], false),
     (&["a", "c"], 2, &[&[1, 2]], false),
     (&["a", "b"], 2, &[&[2, 1]], false),
+];
+
+/// Names, numbers of primary items and options, each with a text of the same problem.
+const TEXTS: [(&[&str], u32, &[&[u32]], &[u8]); 2] = [
+    (
+        NAMES,
+        7,
+        OPTIONS,
+        b"items a b c d e f g\noption c e\noption a d g\noption b c f\noption a d f\noption b g\noption d e g\n",
+    ),
+    (
+        &["a", "b", "c"],
+        2,
+        &[&[1, 3], &[2, 3], &[1], &[2]],
+        b"items a b\nmaybe c\noption a c\noption b c\noption a\noption b\n",
+    ),
 ];
 
 /// The faults with their numbers and names.
@@ -210,6 +226,23 @@ fn is_too_large(made: Made, names: usize, options: usize) -> bool {
                 && refused.given.1.len() == options
         }
     }
+}
+
+/// Whether what is made is the problem that is read of this text.
+fn is_read(alloc: Global, made: Made, text: &[u8]) -> Result<bool, Fail> {
+    let read = read_cover(alloc, text)?;
+    Ok(made?.same(&read))
+}
+
+#[test]
+fn a_made_problem_is_the_one_of_its_text(rt: HostRuntime) -> Result<(), Fail> {
+    for (names, primary, options, text) in TEXTS {
+        let made = made(rt.alloc(), names, primary, options)?;
+        assert!(rt; is_read(rt.alloc(), made, text)?);
+    }
+    let text = crate::text_tests::many_options(rt.alloc(), 70_000)?;
+    assert!(rt; is_read(rt.alloc(), many(rt.alloc(), 70_000)?, &text)?);
+    Ok(())
 }
 
 #[test]

@@ -143,12 +143,25 @@ fn walks<T: Table>(alloc: Global, problem: &Problem) -> Result<(Walk, Walk), All
     Ok((on, back))
 }
 
+/// Whether the last step, and none before it, told that it was the last, and led to Done.
+fn is_finished(walk: &Walk) -> bool {
+    match (walk.events.split_last(), walk.seen.last()) {
+        (Some((last, before)), Some(seen)) => {
+            *last == Event::Finished
+                && !before.contains(&Event::Finished)
+                && seen.label == Label::Done
+        }
+        _ => false,
+    }
+}
+
 /// How many steps a machine takes, if with either table it tells the same on its way to Done, and again on its way
 /// back to X1.
 fn steps_of_both(alloc: Global, problem: &Problem) -> Result<Option<usize>, AllocError> {
     let pair = walks::<PlainTable>(alloc, problem)?;
     let (on, back) = &pair;
     let same = (on.seen == back.seen)
+        && is_finished(on)
         && on.refused == Some(StepFault::Done)
         && back.refused == Some(StepFault::AtFirst)
         && pair == walks::<LinkTable>(alloc, problem)?;

@@ -85,14 +85,14 @@ fn sets_of(alloc: Global, visits: &[u32]) -> Result<Vec<u32>, AllocError> {
     Ok(sets)
 }
 
-/// Whether the visits of a drawn problem are its covers, and each step was taken back.
+/// Whether the visits of a drawn problem are its covers, its last step was told, and each step was taken back.
 fn is_right(alloc: Global, primary: u32, masks: &[u32]) -> Result<bool, Fail> {
     let text = text_of(alloc, primary, masks)?;
     let problem = read_cover(alloc, text.as_bytes())?;
     let walk = walk_through(alloc, &problem)?;
     let bits = 1u32.wrapping_shl(primary).wrapping_sub(1);
     let covers = covers(alloc, masks, bits)?;
-    Ok(walk.is_undone && sets_of(alloc, &walk.visits)? == covers)
+    Ok(walk.is_finished && walk.is_undone && sets_of(alloc, &walk.visits)? == covers)
 }
 
 #[test]

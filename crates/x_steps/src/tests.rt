@@ -11,32 +11,43 @@ const SMALL: &str =
 /// A problem whose item c is secondary.
 const SECONDARY: &str = "items a b\nmaybe c\noption a c\noption b c\noption a\noption b";
 
-/// What a run had: how many states, its visits, each closed by a 0, and whether each step was taken back.
+/// What a run had: how many states, its visits, each closed by a 0, whether its last step alone told that it was the last, and
+/// whether each step was taken back.
 #[derive(Drop)]
 pub struct Walk {
     states: usize,
     pub visits: Vec<u32>,
+    pub is_finished: bool,
     pub is_undone: bool,
 }
 
-/// Takes every step, and notes the states and the visits.
+/// Takes every step, and notes the states, the visits, and what each step told.
 fn forwards<T: Table>(
     machine: &mut Machine<T>,
     states: &mut Vec<State>,
     visits: &mut Vec<u32>,
+    events: &mut Vec<Event>,
 ) -> Result<(), AllocError> {
     for _ in 0..100_000 {
         states.push(machine.state().copy()?)?;
-        match machine.step() {
-            Ok(Event::Visited) => {
-                visits.extend_from_slice(&machine.state().path)?;
-                visits.push(0)?;
-            }
-            Ok(_) => {}
-            Err(_) => break,
+        let Ok(event) = machine.step() else {
+            break;
+        };
+        events.push(event)?;
+        if event == Event::Visited {
+            visits.extend_from_slice(&machine.state().path)?;
+            visits.push(0)?;
         }
     }
     Ok(())
+}
+
+/// Whether the last step, and none before it, told that it was the last.
+fn ends_finished(events: &[Event]) -> bool {
+    match events.split_last() {
+        Some((last, before)) => *last == Event::Finished && !before.contains(&Event::Finished),
+        None => false,
+    }
 }
 
 /// Takes every step back: whether the machine stood at each of these states, the last one first.
@@ -67,13 +78,15 @@ pub fn walk_through(alloc: Global, problem: &Problem) -> Result<Walk, Fail> {
     let mut machine = Machine::new(alloc, problem, table).map_err(|_| "out of memory")?;
     let mut states = Vec::new(alloc);
     let mut visits = Vec::new(alloc);
-    forwards(&mut machine, &mut states, &mut visits)?;
+    let mut events = Vec::new(alloc);
+    forwards(&mut machine, &mut states, &mut visits, &mut events)?;
     let is_undone = is_over(&mut machine)
         && backwards(&mut machine, &states)
         && is_unbegun(&mut machine);
     Ok(Walk {
         states: states.len(),
         visits,
+        is_finished: ends_finished(&events),
         is_undone,
     })
 }
@@ -150,6 +163,7 @@ fn each_step_is_taken_back(rt: HostRuntime) -> Result<(), Fail> {
     let walk = walk_through(rt.alloc(), &problem)?;
     assert!(rt; walk.states == 44);
     assert!(rt; walk.visits.as_slice() == [4, 5, 1, 0].as_slice());
+    assert!(rt; walk.is_finished);
     assert!(rt; walk.is_undone);
     Ok(())
 }

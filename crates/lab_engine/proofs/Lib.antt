@@ -1,6 +1,7 @@
 mod LineLemmas
 mod AccountLemmas
 mod SearchLemmas
+pub mod ClassifiedLemmas
 mod ListingLemmas
 mod EndingLemmas
 pub mod PackedLemmas

@@ -15,7 +15,9 @@ use Rattle.poly_texts.proofs.PuzzleLemmas.{puzzle_is}
 use Rattle.cover_problem.specs.Grammar.{written}
 use Rattle.poly_place.specs.Packings.{ChoiceValue, ArePackings, StandsFor, choice_at, packing_problem}
 use Rattle.poly_place.specs.Chosen.{chosen_by, is_among}
+use Rattle.poly_place.specs.declared.alike.Group.TheVariants.{Rotations, Symmetries}
 use Rattle.poly_place.proofs.PackingLemmas.{are_packings}
+use Rattle.poly_place.proofs.ClassCountLemmas.{puzzle_classes}
 use Rattle.poly_place.proofs.CompiledLemmas.{is_problem}
 use Rattle.poly_place.proofs.ChosenLemmas.{cover_stands, cover_packs}
 use Rattle.x_steps.specs.Order.{IsIn}
@@ -29,8 +31,9 @@ use Rattle.lab_engine.specs.declared.job.Job.TheVariants as jobs
 use Rattle.lab_engine.specs.Account.{account_of}
 use Rattle.lab_engine.specs.Output.{cover_output, whole_account}
 use Rattle.lab_engine.specs.Packed.{solve_output, count_output, options_output}
+use Rattle.lab_engine.specs.Classified.{packings_of, classes_of, classes_output}
 use Rattle.lab_engine.specs.Outcome.{outcome, covers_of, packed_of, place_refusal}
-use Rattle.lab_engine.specs.Listing.{ListsCovers, ListsPackings, CountsPackings, ArePackingPaths, AreExactCovers, IsListed}
+use Rattle.lab_engine.specs.Listing.{ListsCovers, ListsPackings, CountsPackings, CountsClasses, ArePackingPaths, AreExactCovers, IsListed}
 
 -- ---- covers
 
@@ -112,6 +115,22 @@ counts p z small = record {
   packings = packing_paths p z _ (visits_are_covers (packing_problem p) (is_problem p z small));
 }
 
+classified : (p : PuzzleValue) → IsPuzzle p → is_small (packing_problem p) ≡ true → CountsClasses p (classes_output p)
+unfolding classes_output count_output account_of visits_between
+classified p z small =
+    let paths = visits_between (packing_problem p) start done in
+    record {
+      paths = paths;
+      steps = (whole_account false (packing_problem p)).steps;
+      levels = without_last_zeros (whole_account false (packing_problem p)).entered;
+      rotations = classes_of Rotations (packings_of p paths);
+      symmetries = classes_of Symmetries (packings_of p paths);
+      lines = refl;
+      packings = packing_paths p z _ (visits_are_covers (packing_problem p) (is_problem p z small));
+      by_rotations = puzzle_classes p z Rotations paths;
+      by_symmetries = puzzle_classes p z Symmetries paths;
+    }
+
 -- what is written of a puzzle that was read
 packed : (Listed : PuzzleValue → List ℕ → Type 0) (output : PuzzleValue → List ℕ) → ((p : PuzzleValue) → IsPuzzle p → is_small (packing_problem p) ≡ true → Listed p (output p))
     → (read : Result PuzzleValue (puzzle.Fault × ℕ)) (text : List ℕ) → ((p : PuzzleValue) → read ≡ Ok p → IsPuzzle p) → packed_of output read ≡ Ok text
@@ -134,6 +153,7 @@ unfolding outcome
 outcome_lists jobs.Cover input text e = listed (problem_of input) text (λ p h. (read_is_text input p h).problem) e
 outcome_lists jobs.Solve input text e = packed ListsPackings solve_output shows (puzzle_of input) text (λ p h. puzzle_is input p (texts.read_is_text input p h)) e
 outcome_lists jobs.Count input text e = packed CountsPackings count_output counts (puzzle_of input) text (λ p h. puzzle_is input p (texts.read_is_text input p h)) e
+outcome_lists jobs.Classes input text e = packed CountsClasses classes_output classified (puzzle_of input) text (λ p h. puzzle_is input p (texts.read_is_text input p h)) e
 outcome_lists jobs.Options input text e = packed (λ p t. t ≡ written (packing_problem p)) options_output (λ p z s. options_are p) (puzzle_of input) text (λ p h. puzzle_is input p (texts.read_is_text input p h)) e
 
 -- the same, where the input is what a reader had left, and the text was written

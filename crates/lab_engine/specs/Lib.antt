@@ -1,6 +1,7 @@
 pub mod Account
 pub mod Output
 pub mod Packed
+pub mod Classified
 pub mod Outcome
 pub mod Listing
 pub mod Ending

@@ -1,5 +1,5 @@
 -- What the output lists: of `cover` the exact covers of the problem, of `solve` the packings of the puzzle, each once, in path order.
-use Rattle.std.specs.Prelude.{ℕ, ◌≡◌, Bool, List, [], ◌∷◌, ◌++◌, length, map, slice_index_or, EachIndex, Ok}
+use Rattle.std.specs.Prelude.{ℕ, ◌≡◌, Bool, List, [], ◌++◌, length, map, slice_index_or, EachIndex, Ok}
 use Rattle.text_lines.specs.Writing.{line_text, text_of}
 use Rattle.cover_problem.specs.Lists.{has}
 use Rattle.cover_problem.specs.Problem.{ProblemValue}
@@ -10,12 +10,15 @@ use Rattle.poly_texts.specs.Puzzle.{PuzzleValue}
 use Rattle.poly_texts.specs.Reading.{puzzle_of}
 use Rattle.poly_place.specs.Packings.{ChoiceValue, IsPacking, packing_problem}
 use Rattle.poly_place.specs.Chosen.{chosen_by, is_among}
+use Rattle.poly_place.specs.declared.alike.Group.TheVariants.{Rotations, Symmetries}
+use Rattle.poly_place.specs.Classes.{AreAlike, IsClassCount}
 use Rattle.x_steps.specs.Order.{IsIn, PathsRise}
 use Rattle.x_steps.specs.Covers.{AreCovers}
 use Rattle.lab_engine.specs.declared.job.Job.{Job}
 use Rattle.lab_engine.specs.declared.job.Job.TheVariants as jobs
-use Rattle.lab_engine.specs.Output.{visit_words, step_lines, total_lines}
-use Rattle.lab_engine.specs.Packed.{packings_from, number_line, options_line}
+use Rattle.lab_engine.specs.Output.{visit_words, total_lines}
+use Rattle.lab_engine.specs.Packed.{packings_from, number_line, count_lines}
+use Rattle.lab_engine.specs.Classified.{packings_of, class_lines}
 
 -- the text is a line for each of these paths, which rise in path order and are, as sets, the exact covers, each once; then
 -- how many they are, the number of steps, and the levels
@@ -49,12 +52,26 @@ pub record CountsPackings (p : PuzzleValue) (text : List ℕ) : Type 0 where
   pub paths : List (List ℕ)
   pub steps : ℕ
   pub levels : List ℕ
-  pub lines : text ≡ text_of (number_line (length paths) ∷ options_line p ∷ step_lines steps levels)
+  pub lines : text ≡ text_of (count_lines p (length paths) steps levels)
   pub packings : ArePackingPaths p paths
+
+-- the text tells what `count` tells, and then how many of the packings are like none before them where rotations, or all symmetries,
+-- carry some onto others
+pub record CountsClasses (p : PuzzleValue) (text : List ℕ) : Type 0 where
+  pub paths : List (List ℕ)
+  pub steps : ℕ
+  pub levels : List ℕ
+  pub rotations : ℕ
+  pub symmetries : ℕ
+  pub lines : text ≡ text_of (count_lines p (length paths) steps levels) ++ text_of (class_lines rotations symmetries)
+  pub packings : ArePackingPaths p paths
+  pub by_rotations : IsClassCount (AreAlike Rotations) (packings_of p paths) rotations
+  pub by_symmetries : IsClassCount (AreAlike Symmetries) (packings_of p paths) symmetries
 
 -- what is written is what the job is to tell of the input's problem or puzzle
 abbrev pub IsListed : Job → List ℕ → List ℕ → Type 0
 IsListed jobs.Cover input text = (p : ProblemValue) × (problem_of input ≡ Ok p) × ListsCovers p text
 IsListed jobs.Solve input text = (p : PuzzleValue) × (puzzle_of input ≡ Ok p) × ListsPackings p text
 IsListed jobs.Count input text = (p : PuzzleValue) × (puzzle_of input ≡ Ok p) × CountsPackings p text
+IsListed jobs.Classes input text = (p : PuzzleValue) × (puzzle_of input ≡ Ok p) × CountsClasses p text
 IsListed jobs.Options input text = (p : PuzzleValue) × (puzzle_of input ≡ Ok p) × (text ≡ written (packing_problem p))

@@ -20,6 +20,7 @@ use Rattle.poly_texts.specs.Reading.{puzzle_of}
 use Rattle.poly_place.specs.Packings.{packing_problem}
 use Rattle.lab_engine.specs.Output.{cover_output}
 use Rattle.lab_engine.specs.Packed.{solve_output, count_output, options_output}
+use Rattle.lab_engine.specs.Classified.{classes_output}
 
 -- the words of a refused text: what it was to be, the fault's number, its name, and the number of its line
 abbrev pub refusal_words : List ℕ → ℕ → List ℕ → ℕ → List (List ℕ)
@@ -51,6 +52,7 @@ packed_of output (Err f) = Err (puzzle_refusal f.0 f.1)
 abbrev pub output_of : PuzzleJob → PuzzleValue → List ℕ
 output_of puzzle_jobs.Solve p = solve_output p
 output_of puzzle_jobs.Count p = count_output p
+output_of puzzle_jobs.Classes p = classes_output p
 output_of puzzle_jobs.Options p = options_output p
 
 -- what a job writes for an input, or the line that refuses it
@@ -58,6 +60,7 @@ unfoldable pub outcome : Job → List ℕ → Result (List ℕ) (List ℕ)
 outcome jobs.Cover text = covers_of (problem_of text)
 outcome jobs.Solve text = packed_of solve_output (puzzle_of text)
 outcome jobs.Count text = packed_of count_output (puzzle_of text)
+outcome jobs.Classes text = packed_of classes_output (puzzle_of text)
 outcome jobs.Options text = packed_of options_output (puzzle_of text)
 
 -- what is to be written: the text, or nothing where the input is refused

@@ -10,6 +10,7 @@ use Rattle.poly_place.specs.Packings.{packing_problem}
 use Rattle.poly_place.specs.Chosen.{packing_value}
 use Rattle.poly_place.specs.Layers.{layers}
 use Rattle.x_steps.specs.Levels.{without_last_zeros}
+use Rattle.lab_engine.specs.Account.{Account}
 use Rattle.lab_engine.specs.Output.{whole_account, step_lines}
 
 -- the packing of a path, with its number and its layers
@@ -35,11 +36,17 @@ solve_output p =
     let a = whole_account true (packing_problem p) in
     packings_from p 1 a.visits ++ line_text (number_line a.visited)
 
+-- the lines of the number of packings and of options, and of the steps and the levels
+abbrev pub count_lines : PuzzleValue → ℕ → ℕ → List ℕ → List (List (List ℕ))
+count_lines p packings steps levels = number_line packings ∷ options_line p ∷ step_lines steps levels
+
+-- these lines, of the account of a search
+abbrev pub count_text : PuzzleValue → Account → List ℕ
+count_text p a = text_of (count_lines p a.visited a.steps (without_last_zeros a.entered))
+
 -- what `count` writes: the number of packings and of options, and the steps and the levels of the search
 unfoldable pub count_output : PuzzleValue → List ℕ
-count_output p =
-    let a = whole_account false (packing_problem p) in
-    text_of (number_line a.visited ∷ options_line p ∷ step_lines a.steps (without_last_zeros a.entered))
+count_output p = count_text p (whole_account false (packing_problem p))
 
 -- what `options` writes: the problem whose exact covers are the packings
 unfoldable pub options_output : PuzzleValue → List ℕ

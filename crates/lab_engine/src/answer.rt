@@ -7,8 +7,10 @@ ghost use Rattle.poly_texts.specs.Puzzle.{PuzzleValue};
 ghost use Rattle.poly_texts.specs.Reading.{puzzle_of};
 ghost use Rattle.poly_place.specs.Packings.{packing_problem};
 ghost use Rattle.lab_engine.specs.Packed.{solve_output, count_output, options_output};
+ghost use Rattle.lab_engine.specs.Classified.{classes_output};
 ghost use Rattle.lab_engine.specs.Outcome.{refusal_words, place_refusal, covers_of, packed_of, outcome, outcome_of, output_of};
 
+use crate::classes::count_classes;
 use crate::cover::covers;
 use crate::job::Job;
 use crate::lines::{push_number, push_word};
@@ -34,6 +36,7 @@ pub fn answer_to<T: Table>(alloc: Global, job: Job, input: &[u8]) -> Result<Answ
         Job::Cover => cover_answer::<T>(alloc, input),
         Job::Solve => puzzle_answer::<T>(alloc, PuzzleJob::Solve, input),
         Job::Count => puzzle_answer::<T>(alloc, PuzzleJob::Count, input),
+        Job::Classes => puzzle_answer::<T>(alloc, PuzzleJob::Classes, input),
         Job::Options => puzzle_answer::<T>(alloc, PuzzleJob::Options, input),
     }
 }
@@ -57,6 +60,7 @@ fn cover_answer<T: Table>(alloc: Global, text: &[u8]) -> Result<Answer, AllocErr
 pub enum PuzzleJob {
     Solve,
     Count,
+    Classes,
     Options,
 }
 
@@ -104,6 +108,7 @@ fn packed_text<T: Table>(
     match job {
         PuzzleJob::Solve => solve::<T>(alloc, compiled),
         PuzzleJob::Count => count::<T>(alloc, compiled),
+        PuzzleJob::Classes => count_classes::<T>(alloc, compiled),
         PuzzleJob::Options => options(alloc, compiled),
     }
 }

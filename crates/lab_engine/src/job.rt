@@ -9,6 +9,8 @@ pub enum Job {
     Solve,
     /// Count the packings of a puzzle.
     Count,
+    /// Count the packings of a puzzle, and how many are different where symmetries carry some onto others.
+    Classes,
     /// Write the cover text whose exact covers are the packings of a puzzle.
     Options,
 }

@@ -2,6 +2,7 @@
 #![tactic(auto)]
 
 mod answer;
+mod classes;
 mod count;
 mod cover;
 mod engine;
@@ -16,6 +17,8 @@ pub use job::Job;
 
 #[cfg(test)]
 mod box_tests;
+#[cfg(test)]
+mod class_tests;
 #[cfg(test)]
 mod lockstep_tests;
 #[cfg(test)]

@@ -4,10 +4,11 @@ ghost use Rattle.text_lines.specs.Writing.{line_text};
 ghost use Rattle.cover_problem.specs.Lists.{has};
 ghost use Rattle.cover_problem.specs.ExactCover.{IsExactCover};
 ghost use Rattle.poly_place.specs.Packings.{packing_problem};
-ghost use Rattle.lab_engine.specs.Packed.{solve_output, count_output, options_output, packing_text, packings_from, number_line};
+ghost use Rattle.lab_engine.specs.Packed.{solve_output, count_output, count_text, options_output, packing_text, packings_from, number_line};
 ghost use Rattle.lab_engine.specs.Listing.{AreExactCovers};
 
 use crate::lines::push_number_line;
+use crate::report::Report;
 use crate::search::search;
 use cover_problem::{Table, write_cover};
 use poly_place::{Compiled, layers, packing_of};
@@ -31,11 +32,22 @@ pub fn solve<T: Table>(alloc: Global, compiled: &Compiled<'_>) -> Result<Vec<u8>
 pub fn count<T: Table>(alloc: Global, compiled: &Compiled<'_>) -> Result<Vec<u8>, AllocError>
     ensures { IfOk result (λ text. text.items ≡ count_output compiled.now) }
 {
-    let problem = compiled.problem();
-    let report = search::<T>(alloc, problem, false)?;
+    let report = search::<T>(alloc, compiled.problem(), false)?;
+    count_text(alloc, compiled, &report)
+}
+
+/// The number of packings and of options, and the steps and the levels, of the report of a search.
+pub fn count_text(
+    alloc: Global,
+    compiled: &Compiled<'_>,
+    report: &Report,
+) -> Result<Vec<u8>, AllocError>
+    ensures { IfOk result (λ text. text.items ≡ count_text compiled.now report.now) }
+{
+    let options = compiled.problem().options();
     let mut text = Vec::new(alloc);
     push_number_line(&mut text, "packings", report.visited())?;
-    push_number_line(&mut text, "options", u128::from(problem.options()))?;
+    push_number_line(&mut text, "options", u128::from(options))?;
     report.push_steps(alloc, &mut text)?;
     Ok(text)
 }

@@ -3,17 +3,24 @@
 use crate::{Job, run};
 use byte_streams::Watched;
 
-const DOMINOES: &str = "piece A 000 100\npiece B 000 100\nbox 2 2 1\n";
+pub const DOMINOES: &str = "piece A 000 100\npiece B 000 100\nbox 2 2 1\n";
 
-const STRIP: &str = "cells 000 100\nmaybe cells 200\npiece A 000 100\n";
+pub const STRIP: &str = "cells 000 100\nmaybe cells 200\npiece A 000 100\n";
 
-const OPTIONAL: &str = "cells 000 100\nmaybe cells 200\npiece A 000 100\nmaybe piece B 000\n";
+pub const OPTIONAL: &str = "cells 000 100\nmaybe cells 200\npiece A 000 100\nmaybe piece B 000\n";
 
-const SOMA: &str =
+pub const SOMA: &str =
     "piece V 000 100 010\npiece L 000 100 200 010\npiece T 000 100 200 110\npiece Z 000 100 110 210\npiece A 000 100 010 011\npiece B 000 100 010 101\npiece P 000 100 010 001\nbox 3 3 3\n";
 
 /// Whether the job on a text ends with this status, writes this text, and tells this line.
-fn ends_so(rt: &HostRuntime, job: Job, text: &str, status: u8, written: &str, line: &str) -> bool {
+pub fn ends_so(
+    rt: &HostRuntime,
+    job: Job,
+    text: &str,
+    status: u8,
+    written: &str,
+    line: &str,
+) -> bool {
     let mut output = Vec::new(rt.alloc());
     let mut faults = Vec::new(rt.alloc());
     let ended = run(
@@ -109,7 +116,7 @@ fn puzzles_are_refused(rt: HostRuntime) {
         ("box 32 32 5\n", "refused puzzle 8 TooLarge line 1\n"),
     ];
     for (text, line) in rows {
-        for job in [Job::Solve, Job::Count, Job::Options] {
+        for job in [Job::Solve, Job::Count, Job::Classes, Job::Options] {
             assert!(rt; ends_so(&rt, job, text, 3, "", line), "for {text}");
         }
     }

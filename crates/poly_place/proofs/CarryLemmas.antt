@@ -19,7 +19,8 @@ use Rattle.poly_cells.specs.CellTests.{has_cell}
 use Rattle.poly_place.specs.declared.alike.Group.{Group}
 use Rattle.poly_place.specs.declared.alike.Group.TheVariants.{Rotations, Symmetries}
 use Rattle.poly_place.specs.Classes.{is_member}
-use Rattle.poly_place.specs.Forms.{image_in, IsKept}
+use Rattle.poly_place.specs.ClassCount.{image_in}
+use Rattle.poly_place.specs.Forms.{IsKept}
 
 -- ---- a symmetry sends sums to sums
 

@@ -10,7 +10,8 @@ use Rattle.poly_place.specs.declared.alike.Group.TheVariants.{Rotations}
 use Rattle.poly_place.specs.Packings.{choice}
 use Rattle.poly_place.specs.Chosen.{PackingValue}
 use Rattle.poly_place.specs.Classes.{AreAlike, part_at}
-use Rattle.poly_place.specs.Forms.{image_in, first_form}
+use Rattle.poly_place.specs.ClassCount.{image_in, carries, are_alike, class_count}
+use Rattle.poly_place.specs.Forms.{first_form}
 use Rattle.poly_place.proofs.FormLemmas.{alike_form}
 use Rattle.poly_place.proofs.ClassLemmas.{alike}
 
@@ -63,3 +64,11 @@ both_are_alike =
 a_form : first_form (2 ∷ 0 ∷ 2 ∷ 1 ∷ []) ≡ 1 ∷ 0 ∷ 1 ∷ 4 ∷ []
 unfolding first_form
 a_form = refl
+
+-- the packing of the row that reads ABC
+abbrev apart : PackingValue
+apart = record { region = row; maybe_cells = []; placements = choice 65 (coordinates 0 0 0 ∷ []) ∷ choice 66 (coordinates 1 0 0 ∷ []) ∷ choice 67 (coordinates 2 0 0 ∷ []) ∷ [] }
+
+two_classes : class_count (are_alike Rotations) (left ∷ right ∷ apart ∷ []) ≡ 2
+unfolding class_count are_alike carries image_in matrix is_rotation turned normal in_order
+two_classes = refl

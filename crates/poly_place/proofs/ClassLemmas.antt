@@ -12,7 +12,8 @@ use Rattle.poly_place.specs.declared.alike.Group.{Group}
 use Rattle.poly_place.specs.Packings.{ChoiceValue}
 use Rattle.poly_place.specs.Chosen.{PackingValue}
 use Rattle.poly_place.specs.Classes.{part_at, IsSent, AreAlike, HaveOneRegion, IsClassCount}
-use Rattle.poly_place.specs.Forms.{image_in, place_of, carrier, IsKept, AreCarriers, parts_in, first_form, form_by, forms_cmp, key_of}
+use Rattle.poly_place.specs.ClassCount.{image_in}
+use Rattle.poly_place.specs.Forms.{place_of, carrier, IsKept, AreCarriers, parts_in, first_form, form_by, forms_cmp, key_of}
 use Rattle.poly_place.proofs.CountingLemmas.{AreKeys, classes_are_keys}
 use Rattle.poly_place.proofs.FormLemmas.{PartAlike, same_form, alike_form}
 use Rattle.poly_place.proofs.KeyLemmas.{forms_total, forms_exact, forms_of, least_in, least_lowest, same_lowest}
@@ -21,10 +22,10 @@ use Rattle.poly_place.proofs.CarryLemmas.{image_point, image_is, kept_stays, neu
 -- ---- alike packings and the maps of the region
 
 -- some symmetry that counts carries one's parts onto the other's
-abbrev AreMatched : Group → List Coordinates → List Coordinates → List ChoiceValue → List ChoiceValue → Type 0
+abbrev pub AreMatched : Group → List Coordinates → List Coordinates → List ChoiceValue → List ChoiceValue → Type 0
 AreMatched group vs ms cs ds = (n : ℕ) × IsKept group vs ms n × PartAlike vs (part_at cs) (λ v. part_at ds (image_in vs n v))
 
-matched : (group : Group) (p q : PackingValue) → IsShape p.region → p.region ≡ q.region → p.maybe_cells ≡ q.maybe_cells → AreAlike group p q → AreMatched group p.region p.maybe_cells p.placements q.placements
+pub matched : (group : Group) (p q : PackingValue) → IsShape p.region → p.region ≡ q.region → p.maybe_cells ≡ q.maybe_cells → AreAlike group p q → AreMatched group p.region p.maybe_cells p.placements q.placements
 matched group p q s e m a =
     let n = a.symmetry in
     let image : IsImage n a.by p.region p.region = subst (λ (ws : List Coordinates). IsImage n a.by p.region ws) (sym e) a.carried.region in

@@ -72,7 +72,7 @@ nothing_after : {P : Type 0} (ps : List P) → ps ++ [] ≡ ps
 nothing_after [] = refl
 nothing_after (p ∷ ps) = ap (λ qs. p ∷ qs) (nothing_after ps)
 
-regrouped : {P : Type 0} (before : List P) (p : P) (ps : List P) → (before ++ p ∷ []) ++ ps ≡ before ++ p ∷ ps
+pub regrouped : {P : Type 0} (before : List P) (p : P) (ps : List P) → (before ++ p ∷ []) ++ ps ≡ before ++ p ∷ ps
 regrouped [] p ps = refl
 regrouped (b ∷ bs) p ps = ap (λ qs. b ∷ qs) (regrouped bs p ps)
 

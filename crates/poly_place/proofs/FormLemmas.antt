@@ -50,7 +50,7 @@ maps_apart {V} a b f g (w ∷ ws) h v i =
     elim i [ inl e ↦ subst (λ (x : V). a (f x) ≡ b (g x)) (sym e) parts.0 | inr r ↦ maps_apart a b f g ws parts.1 v r ]
 
 -- a place tells the number
-place_tells : (xs : List ℕ) (x y : ℕ) → IsIn x xs → IsIn y xs → place_in xs x ≡ place_in xs y → x ≡ y
+pub place_tells : (xs : List ℕ) (x y : ℕ) → IsIn x xs → IsIn y xs → place_in xs x ≡ place_in xs y → x ≡ y
 place_tells [] x y i j h = absurd i
 place_tells (z ∷ zs) x y i j h =
     elim (cases_Bool (z == x)) [

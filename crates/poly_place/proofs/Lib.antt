@@ -21,8 +21,10 @@ pub mod RoomLemmas
 pub mod LayerExamples
 pub mod CountingLemmas
 pub mod FormLemmas
+pub mod PieceOrderLemmas
 pub mod KeyLemmas
 pub mod CarryLemmas
 pub mod ClassLemmas
+pub mod ClassCountLemmas
 pub mod LoopLemmas
 pub mod ClassExamples

@@ -12,7 +12,8 @@ use Rattle.poly_cells.specs.CellTests.{is_same, has_cell}
 use Rattle.poly_place.specs.declared.alike.Group.{Group}
 use Rattle.poly_place.specs.Packings.{ChoiceValue}
 use Rattle.poly_place.specs.Classes.{is_member, part_at}
-use Rattle.poly_place.specs.Forms.{image_in, images_in, place_of, carrier, IsKept, AreCarriers, lesser, form_by, least_from}
+use Rattle.poly_place.specs.ClassCount.{image_in, images_in}
+use Rattle.poly_place.specs.Forms.{place_of, carrier, IsKept, AreCarriers, lesser, form_by, least_from}
 use Rattle.poly_place.proofs.FormLemmas.{turned_test}
 use Rattle.poly_place.proofs.CarryLemmas.{image_stays}
 

@@ -73,13 +73,13 @@ in_placed p s c h =
 
 -- ---- no choice comes twice
 
-named_by : (p : PuzzleValue) (n : ℕ × List Coordinates) (c : ChoiceValue) → IsIn c (choices_of p n) → c.name ≡ n.0
+pub named_by : (p : PuzzleValue) (n : ℕ × List Coordinates) (c : ChoiceValue) → IsIn c (choices_of p n) → c.name ≡ n.0
 named_by p n c i =
     let kept = in_from_filter (is_useful p) c (map (choice (n.0)) (placements (n.1) p.region)) i in
     let set = in_from_map (choice (n.0)) c (placements (n.1) p.region) kept.0 in
     ap (λ (d : ChoiceValue). d.name) set.2
 
-named_among : (p : PuzzleValue) (ns : List (ℕ × List Coordinates)) (c : ChoiceValue) → IsIn c (flat_map (choices_of p) ns) → IsIn c.name (names_of ns)
+pub named_among : (p : PuzzleValue) (ns : List (ℕ × List Coordinates)) (c : ChoiceValue) → IsIn c (flat_map (choices_of p) ns) → IsIn c.name (names_of ns)
 named_among p ns c i =
     let n = in_from_flat_map (choices_of p) c ns i in
     subst (λ (m : ℕ). IsIn m (names_of ns)) (sym (named_by p n.0 c n.2)) (in_map (λ (m : ℕ × List Coordinates). m.0) n.0 ns n.1)
@@ -117,7 +117,7 @@ number_of_choice p c i =
     let at = at_of_in (choice 0 []) c (choices p) i in
     (at.0 + 1, omega arith, let w = at.1 in omega arith, ap (λ (k : ℕ). get_or (choices p) k (choice 0 [])) (one_after at.0) ∙ at.2)
 
-same_number : (p : PuzzleValue) → IsPuzzle p → (a b : ℕ) → 0 < a → a ≤ length (choices p) → 0 < b → b ≤ length (choices p) → choice_at p a ≡ choice_at p b → a ≡ b
+pub same_number : (p : PuzzleValue) → IsPuzzle p → (a b : ℕ) → 0 < a → a ≤ length (choices p) → 0 < b → b ≤ length (choices p) → choice_at p a ≡ choice_at p b → a ≡ b
 same_number p z a b sa wa sb wb e =
     let same = distinct_at (choice 0 []) (choices p) (a - 1) (b - 1) (choices_distinct p z) (omega arith) (omega arith) e in
     omega (arith, same)

@@ -2,12 +2,12 @@
 --
 -- Example: in the puzzle of the pieces A and B of one cell each and the region 0 0 0, 1 0 0 the options 3 2 stand for A at 1 0 0
 -- and B at 0 0 0 (proofs/PackingExamples.antt).
-use Rattle.std.specs.Prelude.{ℕ, ◌-◌, ◌<◌, ◌≤◌, ◌==◌, Bool, ◌&&◌, List, [], map, length, slice_index, slice_index_or, EachIndex}
+use Rattle.std.specs.Prelude.{◌≡◌, ℕ, ◌-◌, ◌<◌, ◌≤◌, ◌==◌, Bool, ◌&&◌, List, [], map, filter, length, slice_index, slice_index_or, EachIndex}
 use Rattle.std.specs.List.{list_any}
 use Rattle.std.specs.Ordering.{is_eq, nat_cmp}
 use Rattle.poly_cells.specs.Coordinates.{Coordinates}
 use Rattle.poly_cells.specs.Sets.{in_order}
-use Rattle.poly_texts.specs.Puzzle.{PuzzleValue}
+use Rattle.poly_texts.specs.Puzzle.{PuzzleValue, names_of, has_name}
 use Rattle.poly_place.specs.Placements.{cells_cmp}
 use Rattle.poly_place.specs.Packings.{ChoiceValue, choice, choice_at}
 
@@ -24,6 +24,14 @@ same_choice c d = (c.name == d.name) && is_eq (cells_cmp c.cells d.cells)
 -- whether the choice is one of these
 abbrev pub is_among : List ChoiceValue → ChoiceValue → Bool
 is_among cs c = list_any (same_choice c) cs
+
+-- the names of the pieces of these choices
+abbrev pub names_in : List ChoiceValue → List ℕ
+names_in cs = map (λ c. c.name) cs
+
+-- the names of the choices are those of the pieces that have one, in the order of the pieces
+abbrev pub AreInPieceOrder : PuzzleValue → List ChoiceValue → Type 0
+AreInPieceOrder p cs = names_in cs ≡ filter (has_name (names_in cs)) (names_of p.pieces)
 
 -- the choice numbered o, from 1 on
 abbrev pub choice_numbered : List ChoiceValue → ℕ → ChoiceValue

@@ -7,27 +7,14 @@ use Rattle.std.specs.Ordering.{nat_cmp}
 use Rattle.std.specs.Cmp.Lexicographic.{slice_cmp}
 use Rattle.std.specs.declared.cmp.Ordering.{Ordering}
 use Rattle.poly_cells.specs.Coordinates.{Coordinates}
-use Rattle.poly_cells.specs.Turns.{turn}
 use Rattle.poly_cells.specs.Sets.{IsIn, by_order}
-use Rattle.poly_cells.specs.Shapes.{corner, moved, moved_back}
 use Rattle.poly_cells.specs.Images.{HasSymmetry}
 use Rattle.poly_cells.specs.CellTests.{is_same, has_cell}
 use Rattle.poly_place.specs.declared.alike.Group.{Group}
 use Rattle.poly_place.specs.Packings.{ChoiceValue}
 use Rattle.poly_place.specs.Chosen.{PackingValue}
 use Rattle.poly_place.specs.Classes.{is_member, part_at}
-
--- the least corner of the turned region
-abbrev pub turned_corner : List Coordinates → ℕ → Coordinates
-turned_corner region n = corner (map (turn n) region)
-
--- the cell turned, and then moved as the turned region is moved to bring its least corner to the region's
-unfoldable pub image_in : List Coordinates → ℕ → Coordinates → Coordinates
-image_in region n v = moved (corner region) (moved_back (turned_corner region n) (turn n v))
-
--- the cells to which these are brought, in the same order
-abbrev pub images_in : List Coordinates → ℕ → List Coordinates
-images_in region n = map (image_in region n) region
+use Rattle.poly_place.specs.ClassCount.{images_in}
 
 -- how many cells come before this one
 abbrev pub place_of : List Coordinates → Coordinates → ℕ

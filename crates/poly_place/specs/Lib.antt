@@ -6,4 +6,5 @@ pub mod Compiled
 pub mod Layers
 pub mod Faults
 pub mod Classes
+pub mod ClassCount
 pub mod Forms

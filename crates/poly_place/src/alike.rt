@@ -1,6 +1,7 @@
 //! Classes of packings: how many there are where those that a symmetry carries onto one another count as one.
 ghost use Rattle.std.specs.Prelude.{◌≡◌, IfOk, map, vec_items};
 ghost use Rattle.poly_place.specs.Classes.{AreAlike, HaveOneRegion, IsClassCount, is_member};
+ghost use Rattle.poly_place.specs.ClassCount.{are_alike, class_count};
 ghost use Rattle.poly_place.specs.Forms.{AreCarriers};
 
 use crate::forms::{all_keys, put_keys_in_order};
@@ -22,7 +23,8 @@ pub enum Group {
 /// translation that brings the region onto itself, whatever the names of the pieces.
 pub fn classes(alloc: Global, packings: &[Packing<'_>], group: Group) -> Result<u64, AllocError>
     requires { HaveOneRegion packings.now }
-    ensures { IfOk result (λ n. IsClassCount (AreAlike group) packings.now n) }
+    ensures value { IfOk result (λ n. n ≡ class_count (are_alike group) packings.now) }
+    ensures counts { IfOk result (λ n. IsClassCount (AreAlike group) packings.now n) }
 {
     let Some(first) = packings.first() else {
         return Ok(0);

@@ -6,7 +6,8 @@ ghost use Rattle.poly_cells.specs.Sets.{IsIn};
 ghost use Rattle.poly_cells.specs.Shapes.{IsShape, moved, moved_back};
 ghost use Rattle.poly_cells.specs.Images.{HasSymmetry};
 ghost use Rattle.poly_cells.specs.CellTests.{has_cell};
-ghost use Rattle.poly_place.specs.Forms.{images_in, place_of};
+ghost use Rattle.poly_place.specs.ClassCount.{images_in};
+ghost use Rattle.poly_place.specs.Forms.{place_of};
 
 use crate::set::moved_back;
 use poly_cells::{Cell, Symmetry, corner_of};

@@ -4,7 +4,7 @@ ghost use Rattle.std.specs.Prelude.{◌≡◌};
 ghost use Rattle.polylab.specs.Line.{status_of};
 
 use clap::error::ErrorKind;
-use clap::{Command, Error};
+use clap::{Arg, ArgAction, ArgMatches, Command, Error};
 use lab_engine::Job;
 use std::alloc::{AllocError, Global};
 
@@ -111,8 +111,15 @@ Example: for two dominoes in the box 2 2 1
   steps 55
   levels 1 4 4
 
+With --classes come two more lines, here `rotations 1` and `symmetries 1`: how
+many packings are left where those count as one that a rotation of the region,
+or a rotation or reflection, carries onto one another, whatever the names of
+the pieces. All packings are then kept in memory until the end.
+
 Exit statuses: 0 done, 2 command line refused, 3 text refused, 4 no memory,
 5 reading or writing failed.";
+
+const CLASSES: &str = "Also counts the packings up to rotations, and up to all symmetries";
 
 const OPTIONS: &str = "Writes the cover text whose exact covers are the packings of a puzzle.";
 
@@ -133,8 +140,17 @@ fn job<'a>(
     Command::new(alloc, name).about(about).after_help(text)
 }
 
+/// The word that asks for classes.
+fn classes<'a>(alloc: Global) -> Arg<'a> {
+    Arg::new(alloc, "classes")
+        .long("classes")
+        .action(ArgAction::SetTrue)
+        .help(CLASSES)
+}
+
 /// The command line that the program takes.
 fn command<'a>(alloc: Global) -> Result<Command<'a>, AllocError> {
+    let count = job(alloc, "count", COUNT, COUNT_TEXT).arg(classes(alloc))?;
     Command::new(alloc, "polylab")
         .about(ABOUT)
         .after_help(STATUSES)
@@ -144,16 +160,17 @@ fn command<'a>(alloc: Global) -> Result<Command<'a>, AllocError> {
         .arg_required_else_help(true)
         .subcommand(job(alloc, "cover", COVER, COVER_TEXT))?
         .subcommand(job(alloc, "solve", SOLVE, SOLVE_TEXT))?
-        .subcommand(job(alloc, "count", COUNT, COUNT_TEXT))?
+        .subcommand(count)?
         .subcommand(job(alloc, "options", OPTIONS, OPTIONS_TEXT))
 }
 
-/// The job of a subcommand.
-fn job_named(name: Option<&str>) -> Job {
-    match name {
-        Some("solve") => Job::Solve,
-        Some("count") => Job::Count,
-        Some("options") => Job::Options,
+/// The job that the words ask for.
+fn job_of(matches: &ArgMatches<'_>) -> Job {
+    match matches.subcommand() {
+        Some(("solve", _)) => Job::Solve,
+        Some(("count", words)) if words.get_flag("classes") => Job::Classes,
+        Some(("count", _)) => Job::Count,
+        Some(("options", _)) => Job::Options,
         _ => Job::Cover,
     }
 }
@@ -176,7 +193,7 @@ pub fn parse_line(alloc: Global, words: &[&str]) -> Result<Job, LineFault> {
         return Err(LineFault::OutOfMemory);
     };
     match command.try_get_matches_from(words) {
-        Ok(matches) => Ok(job_named(matches.subcommand_name())),
+        Ok(matches) => Ok(job_of(&matches)),
         Err(error) => Err(refused(alloc, &error)),
     }
 }

@@ -14,14 +14,15 @@ fn refused(rt: &HostRuntime, words: &[&str]) -> u8 {
 
 #[test]
 fn the_job_is_read(rt: HostRuntime) {
-    let rows = [
-        ("cover", Job::Cover),
-        ("solve", Job::Solve),
-        ("count", Job::Count),
-        ("options", Job::Options),
+    let rows: [(&[&str], Job); 5] = [
+        (&["cover"], Job::Cover),
+        (&["solve"], Job::Solve),
+        (&["count"], Job::Count),
+        (&["count", "--classes"], Job::Classes),
+        (&["options"], Job::Options),
     ];
-    for (word, job) in rows {
-        assert!(rt; matches!(parse_line(rt.alloc(), &[word]), Ok(read) if read == job));
+    for (words, job) in rows {
+        assert!(rt; matches!(parse_line(rt.alloc(), words), Ok(read) if read == job));
     }
 }
 
@@ -40,7 +41,14 @@ fn help_is_given(rt: HostRuntime) {
 
 #[test]
 fn other_words_are_refused(rt: HostRuntime) {
-    let rows: [&[&str]; 3] = [&[], &["covers"], &["cover", "--workers", "2"]];
+    let rows: [&[&str]; 6] = [
+        &[],
+        &["covers"],
+        &["cover", "--workers", "2"],
+        &["solve", "--classes"],
+        &["count", "--classes", "2"],
+        &["--classes", "count"],
+    ];
     for words in rows {
         assert!(rt; refused(&rt, words) == 2);
     }

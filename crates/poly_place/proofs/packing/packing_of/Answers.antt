@@ -1,8 +1,9 @@
 use Rattle.std.proofs.Common.{◌≡◌, ℕ, List, map, ap₂, sym, subst, ◌∙◌}
 use Rattle.cover_problem.specs.Lists.{has}
 use Rattle.poly_place.specs.Packings.{ChoiceValue, IsPacking, StandsFor}
-use Rattle.poly_place.specs.Chosen.{choice_numbered, chosen_by, is_among}
+use Rattle.poly_place.specs.Chosen.{AreInPieceOrder, choice_numbered, chosen_by, is_among}
 use Rattle.poly_place.proofs.ChosenLemmas.{numbered, cover_stands, cover_packs}
+use Rattle.poly_place.proofs.PieceOrderLemmas.{placed_in_order}
 use Rattle.poly_place.proofs.packing.packing_of.Goals as goal
 use Rattle.poly_place.proofs.packing.packing_of.Goals.{In_ok-placements}
 
@@ -24,3 +25,8 @@ pub returns-clause-stands : goal.returns-clause-stands
 returns-clause-stands c =
     subst (λ (cs : List ChoiceValue). StandsFor c.args.compiled.now (has c.args.path.now) (is_among cs)) (sym (here (goal.at.returns-clause-stands c).In_ok-placements))
     (cover_stands c.args.compiled.now c.args.path.now c.requires)
+
+pub returns-clause-order : goal.returns-clause-order
+returns-clause-order c =
+    subst (λ (cs : List ChoiceValue). AreInPieceOrder c.args.compiled.now cs) (sym (here (goal.at.returns-clause-order c).In_ok-placements))
+    (placed_in_order c.args.compiled.now c.choices.ensures.puzzle c.args.path.now c.requires)

@@ -1,0 +1,64 @@
+//! What `count --classes` writes.
+ghost use Rattle.std.specs.Prelude.{◌≡◌, ◌++◌, IfOk, OnOk};
+ghost use Rattle.text_lines.specs.Writing.{text_of};
+ghost use Rattle.poly_place.specs.declared.alike.Group.TheVariants.{Rotations, Symmetries};
+ghost use Rattle.poly_place.specs.Packings.{packing_problem};
+ghost use Rattle.lab_engine.specs.Classified.{packings_of, classes_of, class_lines, classes_output};
+ghost use Rattle.lab_engine.specs.Listing.{AreExactCovers};
+
+use crate::lines::push_number_line;
+use crate::packed::count_text;
+use crate::search::search;
+use cover_problem::Table;
+use poly_place::{Compiled, Group, Packing, classes, packing_of};
+use std::alloc::{AllocError, Global};
+use x_steps::Paths;
+
+/// What `count` writes, and then how many classes the packings make, by the rotations and by all symmetries of the region.
+#[tactic(auto, unfolding(crate::specs::Classified::classes_output))]
+pub fn count_classes<T: Table>(
+    alloc: Global,
+    compiled: &Compiled<'_>,
+) -> Result<Vec<u8>, AllocError>
+    ensures { IfOk result (λ text. text.items ≡ classes_output compiled.now) }
+{
+    let report = search::<T>(alloc, compiled.problem(), true)?;
+    let mut text = count_text(alloc, compiled, &report)?;
+    push_classes(alloc, &mut text, compiled, report.visits())?;
+    Ok(text)
+}
+
+/// Adds the lines of the classes of the packings for which these exact covers stand.
+fn push_classes(
+    alloc: Global,
+    text: &mut Vec<u8>,
+    compiled: &Compiled<'_>,
+    visits: &Paths,
+) -> Result<(), AllocError>
+    requires { AreExactCovers (packing_problem compiled.now) visits.now }
+    ensures { OnOk result (text.new.items ≡ text.old.items ++ text_of (class_lines
+        (classes_of Rotations (packings_of compiled.now visits.now))
+        (classes_of Symmetries (packings_of compiled.now visits.now)))) }
+{
+    let packings = packings_of(alloc, compiled, visits)?;
+    let rotations = classes(alloc, packings.as_slice(), Group::Rotations)?;
+    let symmetries = classes(alloc, packings.as_slice(), Group::Symmetries)?;
+    push_number_line(text, "rotations", u128::from(rotations))?;
+    push_number_line(text, "symmetries", u128::from(symmetries))
+}
+
+/// The packings for which these exact covers stand.
+fn packings_of<'p>(
+    alloc: Global,
+    compiled: &Compiled<'p>,
+    visits: &Paths,
+) -> Result<Vec<Packing<'p>>, AllocError>
+    requires { AreExactCovers (packing_problem compiled.now) visits.now }
+    ensures { IfOk result (λ packings. packings.items ≡ packings_of compiled.now visits.now) }
+{
+    let mut packings = Vec::with_capacity(alloc, visits.len())?;
+    for k in 0..visits.len() {
+        packings.push(packing_of(alloc, compiled, visits.path(k))?)?;
+    }
+    Ok(packings)
+}

@@ -1,7 +1,8 @@
 -- Cuts on the run, and what is untried.
-use Rattle.std.proofs.Common.{◌≡◌, ℕ, zero, suc, ◌<◌, ◌≤◌, ◌⊎◌, true, false, List, [], ◌∷◌, ◌++◌, length, take, drop, filter, refl, sym, ap, ◌∙◌, subst, inl, inr, arith, append-nil, length-append, length-drop}
+use Rattle.std.proofs.Common.{◌≡◌, ℕ, zero, suc, ◌+◌, ◌-◌, ◌<◌, ◌≤◌, ◌⊎◌, true, false, List, [], ◌∷◌, ◌++◌, length, take, drop, filter, get_or, refl, sym, ap, ap₂, ◌∙◌, subst, inl, inr, arith, append-nil, length-append, length-drop}
 use Rattle.std.specs.Prelude.{◌↔◌, nat_lt}
 use Rattle.std.proofs.lemmas.Bool.{cases_lt, cases_order, lt-ltb, ltb-true, false≢true}
+use Rattle.std.proofs.lemmas.List.{get_or-drop}
 use Rattle.cover_problem.specs.Problem.{ProblemValue}
 use Rattle.cover_problem.specs.Lists.{has}
 use Rattle.cover_problem.specs.Path.{IsChoice, IsValid, covered_by}
@@ -25,7 +26,8 @@ use Rattle.x_steps.proofs.StretchLemmas.{steps_between_none}
 use Rattle.x_branches.specs.Cut.{option_of, choices, state_after_choices, cut_state, IsCut}
 use Rattle.x_branches.specs.RunOrder.{ComesBefore, comes_before}
 use Rattle.x_branches.specs.Untried.{remaining_above, is_before_end, untried_after, untried, with_choice, IsUntried}
-use Rattle.x_branches.proofs.StageLemmas.{comes_rank, rank_comes}
+use Rattle.x_steps.proofs.MachineLemmas.{emptied}
+use Rattle.x_branches.proofs.StageLemmas.{comes_rank, rank_comes, parts}
 
 -- ---- the test of the order
 
@@ -58,6 +60,16 @@ cut_parts p path c = step (split_last_cases path)
     step (inl e) = let n = ap (λ (q : List ℕ). length q) e in let h = c.some in absurd (omega arith)
     step (inr r) = r
 
+-- a cut's path, parted before its last choice
+pub cut_parted : (path front back : List ℕ) (n : ℕ) → 0 < length path → n ≡ length path - 1 → front ≡ take n path → back ≡ drop n path → at X5 front (At (get_or back 0 0)) ≡ cut_state path
+cut_parted path front back n s a b d =
+    let e : path ≡ take n path ++ get_or path n 0 ∷ drop (suc n) path = parts path n (omega arith) in
+    let l : length (drop (suc n) path) ≡ 0 = omega (arith, length-drop (suc n) path) in
+    let r : drop (suc n) path ≡ [] = emptied (drop (suc n) path) l in
+    let h : get_or back 0 0 ≡ get_or path n 0 = ap (λ xs. get_or xs 0 0) d ∙ get_or-drop n path 0 0 ∙ ap (λ i. get_or path i 0) (let k : n + 0 ≡ n = omega arith in k) in
+    let f : path ≡ take n path ++ get_or path n 0 ∷ [] = e ∙ ap (λ xs. take n path ++ get_or path n 0 ∷ xs) r in
+    ap₂ (λ (q : List ℕ) (o : ℕ). at X5 q (At o)) b h ∙ sym (cut_is (take n path) (get_or path n 0)) ∙ ap cut_state (sym f)
+
 pub cut_fits : (p : ProblemValue) (path : List ℕ) → IsCut p path → Fits p (cut_state path)
 cut_fits p path c =
     let s = cut_parts p path c in
@@ -81,7 +93,7 @@ cuts_in_order p q r c d =
 -- ---- what is untried
 
 -- where a level of some choices lies: on the path, or past it
-level_in : (path more : List ℕ) (level o : ℕ) (rest : List ℕ) → drop level (path ++ more) ≡ o ∷ rest → ((after : List ℕ) × (path ≡ take level (path ++ more) ++ o ∷ after)) ⊎ ((n : ℕ) × (take level (path ++ more) ≡ path ++ take n more) × (drop n more ≡ o ∷ rest))
+pub level_in : (path more : List ℕ) (level o : ℕ) (rest : List ℕ) → drop level (path ++ more) ≡ o ∷ rest → ((after : List ℕ) × (path ≡ take level (path ++ more) ++ o ∷ after)) ⊎ ((n : ℕ) × (take level (path ++ more) ≡ path ++ take n more) × (drop n more ≡ o ∷ rest))
 level_in [] more level o rest e = inr (level, refl, e)
 level_in (x ∷ path) more zero o rest e = let f : x ≡ o = cc in inl (path, ap (λ y. y ∷ path) f)
 level_in (x ∷ path) more (suc n) o rest e = step (level_in path more n o rest e)
@@ -98,7 +110,7 @@ pub record IsChosen (p : ProblemValue) (s : StateValue) (q : List ℕ) (o : ℕ)
   pub own : rank p (at X5 q (At o)) ≤ rank p s
   pub later : (k : ℕ) → o < k → rank p s < rank p (at X5 q (At k))
 
-front : (p : ProblemValue) (q after : List ℕ) (o : ℕ) → IsValid p (q ++ o ∷ after) → IsValid p q × IsChoice p (covered_by p q) o
+pub front : (p : ProblemValue) (q after : List ℕ) (o : ℕ) → IsValid p (q ++ o ∷ after) → IsValid p q × IsChoice p (covered_by p q) o
 unfolding IsValid covered_by
 front p q after o v = let t = valid_split p [] q (o ∷ after) v in (t.0, t.1.0)
 
@@ -155,7 +167,7 @@ pub record IsLater (p : ProblemValue) (s : StateValue) (path : List ℕ) : Type 
   pub cut : IsCut p path
   pub rises : rank p s < rank p (cut_state path)
 
-later_one : (p : ProblemValue) (s : StateValue) (q : List ℕ) (o k : ℕ) → IsChosen p s q o → has (remaining_above p q o) k ≡ true → IsLater p s (q ++ k ∷ [])
+pub later_one : (p : ProblemValue) (s : StateValue) (q : List ℕ) (o k : ℕ) → IsChosen p s q o → has (remaining_above p q o) k ≡ true → IsLater p s (q ++ k ∷ [])
 later_one p s q o k c h =
     let a = has_filter_in (λ k. nat_lt o k) (remaining_after p q) k h in
     let choice : IsChoice p (covered_by p q) k = record { active = c.choice.active; left = a.1 } in

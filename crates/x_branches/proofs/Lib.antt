@@ -1,4 +1,10 @@
 pub mod StageLemmas
 pub mod CutLemmas
 pub mod CutExamples
+pub mod BranchLemmas
+pub mod MarkLemmas
+pub mod RunnerLemmas
+pub mod AboveLemmas
+pub mod UntriedLemmas
+pub mod PostingLemmas
 pub mod StretchKeeps

@@ -66,7 +66,7 @@ below_drop base zero ds a = a
 below_drop base (suc n) [] a = tt
 below_drop base (suc n) (d ∷ ds) a = below_drop base n ds a.1
 
-parts : (ds : List ℕ) (n : ℕ) → n < length ds → ds ≡ take n ds ++ get_or ds n 0 ∷ drop (suc n) ds
+pub parts : (ds : List ℕ) (n : ℕ) → n < length ds → ds ≡ take n ds ++ get_or ds n 0 ∷ drop (suc n) ds
 parts [] n l = absurd (omega arith)
 parts (d ∷ ds) zero l = refl
 parts (d ∷ ds) (suc n) l = ap (λ xs. d ∷ xs) (parts ds n (omega arith))
@@ -105,11 +105,11 @@ digit_last m l path k n h =
     get_or_at (map (λ o. 4 * o + 2) path) (digit_at m l k) [] 0 n (omega arith)
 
 -- a choice of a valid path is an option
-record IsNumber (m o : ℕ) : Type 0 where
-  some : 0 < o
-  within : o ≤ m
+pub record IsNumber (m o : ℕ) : Type 0 where
+  pub some : 0 < o
+  pub within : o ≤ m
 
-choice_in : (p : ProblemValue) (path : List ℕ) (n : ℕ) → IsValid p path → n < length path → IsNumber (length p.options) (get_or path n 0)
+pub choice_in : (p : ProblemValue) (path : List ℕ) (n : ℕ) → IsValid p path → n < length path → IsNumber (length p.options) (get_or path n 0)
 unfolding IsValid
 choice_in p path n v h =
     let w = subst (λ q. IsValid p q) (parts path n h) v in

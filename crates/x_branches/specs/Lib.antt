@@ -4,4 +4,6 @@ pub mod Stage
 pub mod Branch
 pub mod Stretch
 pub mod Untried
+pub mod Runner
+pub mod Refusals
 pub mod Faults

@@ -13,6 +13,15 @@ use Rattle.x_branches.specs.RunOrder.{ComesBefore, comes_before}
 abbrev pub remaining_above : ProblemValue → List ℕ → ℕ → List ℕ
 remaining_above p q o = filter (λ k. nat_lt o k) (remaining_after p q)
 
+-- after the choices q: those of the options above the next choice; none where there is no next choice
+abbrev pub left_after : ProblemValue → List ℕ → List ℕ → List ℕ
+left_after p q [] = []
+left_after p q (o ∷ more) = remaining_above p q o
+
+-- what is left above the choice at a level of a state
+abbrev pub left_above : ProblemValue → ℕ → StateValue → List ℕ
+left_above p level s = left_after p (take level (choices s)) (drop level (choices s))
+
 -- whether the cut at k after q comes before the end
 abbrev pub is_before_end : ProblemValue → StateValue → List ℕ → ℕ → Bool
 is_before_end p end q k = comes_before p (cut_state (q ++ k ∷ [])) end

@@ -1,8 +1,17 @@
 //! Branches: parts of a run.
-ghost use Rattle.std.specs.Prelude.{◌≡◌, IfOk};
+ghost use Rattle.std.specs.Prelude.{◌≡◌, ◌↔◌, IsTrue, IfOk, Option};
+ghost use Rattle.cover_problem.specs.Problem.{ProblemValue};
+ghost use Rattle.x_steps.specs.Steps.{Fits};
+ghost use Rattle.x_steps.specs.StateView.{state_value};
+ghost use Rattle.x_branches.specs.Branch.{first_of, end_of};
+ghost use Rattle.x_branches.specs.Runner.{IsOf, IsBranch, IsWithin};
 
 use crate::cut::Cut;
+use crate::order::is_before;
+use crate::place::Place;
+use cover_problem::Problem;
 use std::alloc::AllocError;
+use x_steps::State;
 
 /// The part of a run from X1, or the cut `lo`, up to but without the cut `hi`, or Done.
 #[derive(Drop)]
@@ -21,6 +30,16 @@ fn copied<'p>(cut: &Option<Cut<'p>>) -> Result<Option<Cut<'p>>, AllocError>
     }
 }
 
+/// Whether a cut, if there is one, is the problem's.
+fn is_of(cut: &Option<Cut<'_>>, problem: &Problem) -> bool
+    ensures { IsTrue result ↔ IsOf problem.now cut.now }
+{
+    match cut {
+        Some(cut) => cut.problem().same(problem),
+        None => true,
+    }
+}
+
 impl<'p> Branch<'p> {
     /// A copy.
     pub fn copy(&self) -> Result<Branch<'p>, AllocError>
@@ -29,5 +48,61 @@ impl<'p> Branch<'p> {
         let lo = copied(&self.lo)?;
         let hi = copied(&self.hi)?;
         Ok(Branch { lo, hi })
+    }
+
+    /// Where its first state stands.
+    #[inline(always)]
+    pub(crate) fn first(&self) -> Place<'_>
+        ensures place { result ≡ first_of self.now.lo }
+        ensures fits { (p : ProblemValue) → IsOf p self.now.lo → Fits p (first_of self.now.lo) }
+    {
+        match &self.lo {
+            Some(cut) => cut.place(),
+            None => Place::first(),
+        }
+    }
+
+    /// Where the state stands that ends it.
+    #[inline(always)]
+    pub(crate) fn end(&self) -> Place<'_>
+        ensures place { result ≡ end_of self.now.hi }
+        ensures fits { (p : ProblemValue) → IsOf p self.now.hi → Fits p (end_of self.now.hi) }
+    {
+        match &self.hi {
+            Some(cut) => cut.place(),
+            None => Place::last(),
+        }
+    }
+
+    /// Whether it is a branch of the problem's run: it begins before it ends.
+    fn is_of(&self, problem: &Problem) -> bool
+        ensures { IsTrue result ↔ IsBranch problem.now self.now }
+    {
+        if !is_of(&self.lo, problem) {
+            return false;
+        }
+        if !is_of(&self.hi, problem) {
+            return false;
+        }
+        is_before(&self.first(), &self.end())
+    }
+
+    /// Whether it is a branch of the problem's run that has this state, or ends there.
+    pub(crate) fn holds(&self, problem: &Problem, state: &State) -> bool
+        requires { Fits problem.now (state_value state.now) }
+        ensures first_fits { IsTrue result → Fits problem.now (first_of self.now.lo) }
+        ensures end_fits { IsTrue result → Fits problem.now (end_of self.now.hi) }
+        ensures branch { IsTrue result → IsBranch problem.now self.now }
+        ensures within { IsTrue result → IsWithin problem.now self.now (state_value state.now) }
+        ensures outside { IsBranch problem.now self.now → IsWithin problem.now self.now (state_value state.now) → IsTrue result }
+    {
+        let place = Place::of(state);
+        if !self.is_of(problem) {
+            return false;
+        }
+        if is_before(&place, &self.first()) {
+            return false;
+        }
+        !is_before(&self.end(), &place)
     }
 }

@@ -1,9 +1,11 @@
 //! Cuts: where a run is parted.
-ghost use Rattle.std.specs.Prelude.{◌≡◌, IfOk, IfErr, OnOk};
-ghost use Rattle.x_branches.specs.Cut.{IsCut};
+ghost use Rattle.std.specs.Prelude.{◌≡◌, ◌↔◌, [], IfOk, IfErr, OnOk};
+ghost use Rattle.x_steps.specs.Steps.{Fits};
+ghost use Rattle.x_branches.specs.Cut.{cut_state, IsCut};
 ghost use Rattle.x_branches.specs.declared.fault.CutFault as cut_faults;
 
 use crate::fault::CutFault;
+use crate::place::Place;
 use cover_problem::{PlainTable, Problem, Table};
 use std::alloc::{AllocError, Global};
 use std::marker::Model;
@@ -26,6 +28,16 @@ impl<'p> Model for Cut<'p> {
     ghost invariant = { λ c. IsCut c.problem.now c.path.items };
 }
 
+/// Why a path is no cut, where the search has no such state.
+fn fault_of(fault: AtFault) -> CutFault
+    ensures not_a_state { (fault ≡ AtFault.NotAState) ↔ (result ≡ CutFault.NotUntried) }
+{
+    match fault {
+        AtFault::NotAState => CutFault::NotUntried,
+        AtFault::OutOfMemory => CutFault::OutOfMemory,
+    }
+}
+
 impl<'p> Cut<'p> {
     /// The cut of a path. Refused exactly where the path is empty or none that the search can take, out of memory aside; the
     /// path comes back.
@@ -45,24 +57,55 @@ impl<'p> Cut<'p> {
                 given: path,
             });
         };
+        let (_, cut) = Cut::with_table(alloc, problem, table, path);
+        cut
+    }
+
+    /// The same by a table of the problem with nothing covered, which comes back so.
+    pub fn with_table<T: Table>(
+        alloc: Global,
+        problem: &'p Problem,
+        table: T,
+        path: Vec<u32>,
+    ) -> (T, Result<Cut<'p>, Refused<CutFault, Vec<u32>>>)
+        requires same_problem { T.problem_value table ≡ problem.now }
+        requires covered { T.covered_list table ≡ [] }
+        ensures made { IfOk result.1 (λ cut. cut ≡ record { problem = problem.now; path = path.items }) }
+        ensures cut { OnOk result.1 (IsCut problem.now path.items) }
+        ensures not_cut { IfErr result.1 (λ r. r.fault ≡ CutFault.NotUntried → IsCut problem.now path.items → ⊥) }
+        ensures given_back { IfErr result.1 (λ r. r.given ≡ path) }
+        ensures same_problem_back { T.problem_value result.0 ≡ problem.now }
+        ensures covered_back { T.covered_list result.0 ≡ [] }
+    {
         let state = State {
             label: Label::X2,
             path,
             cursor: Cursor::None,
         };
-        let found = Machine::at(alloc, problem, table, &state).map_err(|refused| refused.fault);
+        let found = Machine::at(alloc, problem, table, &state);
         let path = state.path;
         match found {
-            Ok(_) if !path.is_empty() => Ok(Cut { problem, path }),
-            Err(AtFault::OutOfMemory) => Err(Refused {
-                fault: CutFault::OutOfMemory,
-                given: path,
-            }),
-            _ => Err(Refused {
-                fault: CutFault::NotUntried,
-                given: path,
-            }),
+            Ok(machine) => {
+                let table = machine.into_table();
+                if path.is_empty() {
+                    let fault = CutFault::NotUntried;
+                    return (table, Err(Refused { fault, given: path }));
+                }
+                (table, Ok(Cut { problem, path }))
+            }
+            Err(refused) => {
+                let fault = fault_of(refused.fault);
+                (refused.given, Err(Refused { fault, given: path }))
+            }
         }
+    }
+
+    /// The cut of a path that is one.
+    pub(crate) fn of_path(problem: &'p Problem, path: Vec<u32>) -> Cut<'p>
+        requires { IsCut problem.now path.items }
+        ensures { result ≡ record { problem = problem.now; path = path.items } }
+    {
+        Cut { problem, path }
     }
 
     /// Its choices.
@@ -71,6 +114,20 @@ impl<'p> Cut<'p> {
         ensures cut { IsCut self.now.problem self.now.path }
     {
         &self.path
+    }
+
+    /// Where its state stands.
+    #[inline(always)]
+    pub(crate) fn place(&self) -> Place<'_>
+        ensures place { result ≡ cut_state self.now.path }
+        ensures fits { Fits self.now.problem (cut_state self.now.path) }
+    {
+        let (front, last) = self.path.split_at(self.path.len() - 1);
+        Place {
+            label: Label::X5,
+            path: front,
+            cursor: Cursor::At(last[0]),
+        }
     }
 
     /// Its problem.

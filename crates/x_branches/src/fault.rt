@@ -3,6 +3,7 @@ ghost use Rattle.std.specs.Prelude.{◌≡◌};
 ghost use Rattle.x_branches.specs.Faults.{number_of, name_of, number_of_cut};
 
 use thiserror::Error;
+use x_steps::AtFault;
 
 /// Why a call of a runner was refused.
 #[derive(Clone, Copy, Debug, PartialEq, Eq, Error)]
@@ -79,4 +80,15 @@ impl CutFault {
             CutFault::OutOfMemory => None,
         }
     }
+}
+
+/// Why no runner could be set at a state.
+#[derive(Clone, Copy, Debug, PartialEq, Eq, Error)]
+pub enum StartFault {
+    /// The state is none of the problem's search.
+    #[error("{0}")]
+    Steps(AtFault),
+    /// The branch is none of the problem's run, or the state is outside it.
+    #[error("{0}")]
+    Runner(RunnerFault),
 }

@@ -6,15 +6,20 @@ mod cut;
 mod fault;
 pub mod laws;
 mod order;
+mod place;
+mod runner;
 mod stretch;
 
 pub use branch::Branch;
 pub use cut::Cut;
-pub use fault::{CutFault, RunnerFault};
+pub use fault::{CutFault, RunnerFault, StartFault};
 pub use order::run_order;
+pub use runner::Runner;
 pub use stretch::Stretch;
 
 #[cfg(test)]
 mod drawn_tests;
+#[cfg(test)]
+mod runner_tests;
 #[cfg(test)]
 mod tests;

@@ -1,5 +1,5 @@
 //! Which of two states of one search comes first.
-ghost use Rattle.std.specs.Prelude.{◌≡◌, ◌<◌, ◌≤◌, ◌↔◌, ◌+◌, ◌*◌, ◌^◌, length, vec_len, slice_index_or};
+ghost use Rattle.std.specs.Prelude.{◌≡◌, ◌<◌, ◌≤◌, ◌↔◌, ◌+◌, ◌*◌, ◌^◌, length, slice_index_or, IsTrue};
 ghost use Rattle.cover_problem.specs.Problem.{ProblemValue};
 ghost use Rattle.x_steps.specs.StateView.{state_value};
 ghost use Rattle.x_steps.specs.Steps.{Fits};
@@ -7,6 +7,7 @@ ghost use Rattle.x_steps.specs.Rank.{digit_at};
 ghost use Rattle.x_branches.specs.RunOrder.{ComesBefore};
 ghost use Rattle.x_branches.specs.Stage.{MANY, IsShared, IsWithin, Shifts, digit_of};
 
+use crate::place::Place;
 use std::cmp::Ordering;
 use x_steps::{Cursor, Label, State};
 
@@ -56,21 +57,45 @@ fn stage_of(label: Label, cursor: Cursor) -> u64
     }
 }
 
-/// Where a state stands among those with the same first choices.
-fn stage(state: &State, level: usize) -> u64
-    requires { level ≤ length (state_value state.now).path }
-    ensures { (p : ProblemValue) → Fits p (state_value state.now) →
-        Shifts (length p.options) result (digit_of p (state_value state.now) level) }
+/// Where a place stands among those with the same first choices.
+fn stage(place: &Place<'_>, level: usize) -> u64
+    requires { level ≤ length place.now.path }
+    ensures { (p : ProblemValue) → Fits p place.now →
+        Shifts (length p.options) result (digit_of p place.now level) }
 {
-    if level < state.path.len() {
-        stage_below(state.path[level])
+    if level < place.path.len() {
+        stage_below(place.path[level])
     } else {
-        stage_of(state.label, state.cursor)
+        stage_of(place.label, place.cursor)
     }
 }
 
-/// Which of two states of one search comes first on its run: by the first choice that differs, and by the step where they
+/// Which of two places of one search comes first on its run: by the first choice that differs, and by the step where they
 /// share their choices.
+pub fn place_order(one: &Place<'_>, other: &Place<'_>) -> Ordering
+    ensures less { (p : ProblemValue) → Fits p one.now → Fits p other.now →
+        ((result ≡ Ordering.Less) ↔ ComesBefore p one.now other.now) }
+    ensures equal { (p : ProblemValue) → Fits p one.now → Fits p other.now →
+        ((result ≡ Ordering.Equal) ↔ (one.now ≡ other.now)) }
+    ensures greater { (p : ProblemValue) → Fits p one.now → Fits p other.now →
+        ((result ≡ Ordering.Greater) ↔ ComesBefore p other.now one.now) }
+{
+    let level = shared(one.path, other.path);
+    stage(one, level).cmp(&stage(other, level))
+}
+
+/// Whether of two places of one search the first comes before the second on its run.
+pub fn is_before(one: &Place<'_>, other: &Place<'_>) -> bool
+    ensures { (p : ProblemValue) → Fits p one.now → Fits p other.now →
+        (IsTrue result ↔ ComesBefore p one.now other.now) }
+{
+    match place_order(one, other) {
+        Ordering::Less => true,
+        _ => false,
+    }
+}
+
+/// Which of two states of one search comes first on its run.
 pub fn run_order(one: &State, other: &State) -> Ordering
     ensures less { (p : ProblemValue) → Fits p (state_value one.now) → Fits p (state_value other.now) →
         ((result ≡ Ordering.Less) ↔ ComesBefore p (state_value one.now) (state_value other.now)) }
@@ -79,6 +104,5 @@ pub fn run_order(one: &State, other: &State) -> Ordering
     ensures greater { (p : ProblemValue) → Fits p (state_value one.now) → Fits p (state_value other.now) →
         ((result ≡ Ordering.Greater) ↔ ComesBefore p (state_value other.now) (state_value one.now)) }
 {
-    let level = shared(&one.path, &other.path);
-    stage(one, level).cmp(&stage(other, level))
+    place_order(&Place::of(one), &Place::of(other))
 }

@@ -14,13 +14,13 @@ use x_steps::{Paths, State};
 /// The part of a problem's run from one state up to another, without that one.
 #[derive(Drop)]
 pub struct Stretch<'p> {
-    problem: &'p Problem,
-    from: State,
-    to: State,
-    steps: u32,
-    visits: Paths,
+    pub(crate) problem: &'p Problem,
+    pub(crate) from: State,
+    pub(crate) to: State,
+    pub(crate) steps: u32,
+    pub(crate) visits: Paths,
     /// How many X2 states there are at each level, up to the last level that has one.
-    levels: Vec<u32>,
+    pub(crate) levels: Vec<u32>,
 }
 
 impl<'p> Model for Stretch<'p> {

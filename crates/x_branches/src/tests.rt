@@ -9,7 +9,7 @@ use std::test::Fail;
 use x_steps::{Cursor, Label, Machine, State};
 
 /// The small problem: its run has 43 steps.
-const SMALL: &str =
+pub const SMALL: &str =
     "items a b c d e f g\noption c e\noption a d g\noption b c f\noption a d f\noption b g\noption d e g";
 
 /// Takes every step, and notes each state.

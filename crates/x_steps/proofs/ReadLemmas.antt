@@ -1,5 +1,5 @@
 -- What a machine tells of its state.
-use Rattle.std.proofs.Common.{◌≡◌, ℕ, suc, ◌+◌, ◌-◌, ◌<◌, ◌≤◌, List, [], ◌∷◌, ◌++◌, length, get_or, true, false, Bool, Option, Some, None, arith, refl, sym, ap, ◌∙◌, append_assoc, length-append}
+use Rattle.std.proofs.Common.{◌≡◌, ℕ, suc, ◌+◌, ◌-◌, ◌<◌, ◌≤◌, List, [], ◌∷◌, ◌++◌, length, get_or, true, false, Bool, not, nat_lt, Option, Some, None, arith, refl, sym, ap, ◌∙◌, append_assoc, length-append}
 use Rattle.std.proofs.lemmas.List.{same_from_push, get_or_at}
 use Rattle.cover_problem.specs.Problem.{ProblemValue, option_at}
 use Rattle.cover_problem.specs.Covering.{active, choice, list_of}
@@ -12,7 +12,7 @@ use Rattle.x_steps.specs.declared.state.Cursor.{Cursor}
 use Rattle.x_steps.specs.declared.state.Cursor.TheVariants as cursor
 use Rattle.x_steps.specs.declared.state.Cursor.TheVariants.{At, Past}
 use Rattle.x_steps.specs.StateValue.{StateValue}
-use Rattle.x_steps.specs.Steps.{FitsAt, IsOpen, item_after, covered_in}
+use Rattle.x_steps.specs.Steps.{FitsAt, IsOpen, item_after, covered_at, covered_in, is_level, is_visit}
 use Rattle.x_steps.specs.Machine.{Keeps, Position, is_chosen, chosen_item, chosen_in}
 use Rattle.x_steps.proofs.MachineLemmas.{from_label, chosen_is, last_at_X7, taken_at, others_count, retry_option_in, opens_ready, some_at_X7, open_at_X4, some_chosen, item_is}
 use Rattle.x_steps.proofs.BackLemmas.{open_at_X5}
@@ -112,6 +112,13 @@ module _ (p : ProblemValue) (s : StateValue) (table_problem : ProblemValue) (cov
           get_or_at (covered_by p s.path) (item_after p s.path) (others (item_after p s.path) (option_at p o)) 0 (length list - length option) (omega arith) in
           ap {B = Option ℕ} Some (ap (λ c. get_or c (length list - length option) 0) (list_is ∙ r.0) ∙ place) ∙ sym (chosen_some p s X6 e refl)
 
+  pub visit_at_X2 : s.label ≡ X2 → (b : Bool) → b ≡ nat_lt 0 (length (active table_problem covered)) → not b ≡ is_visit p s
+  unfolding covered_in
+  visit_at_X2 e b f =
+      let behind : covered_at p s.label s.path s.cursor ≡ covered_by p s.path = rw e refl in
+      let here : covered ≡ covered_by p s.path = k.stands ∙ behind in
+      rw (e, f, k.same, here) refl
+
   -- the chosen item is an item of the problem
   pub chosen_within : (item : ℕ) → Some item ≡ chosen_item p s → (0 < item) × (item ≤ length table_problem.names)
   chosen_within item e =
@@ -121,6 +128,20 @@ module _ (p : ProblemValue) (s : StateValue) (table_problem : ProblemValue) (cov
 
   pub chosen_options : (item : ℕ) (options : List ℕ) → Some item ≡ chosen_item p s → options ≡ list_of table_problem covered item → Some (item, options) ≡ chosen_in p s
   chosen_options item options e f = row_chosen p s item options e (f ∙ ap (λ q. list_of q covered item) k.same ∙ ap (λ c. list_of p c item) k.stands)
+
+pub no_visit : (p : ProblemValue) (s : StateValue) → (s.label ≡ X2 → ⊥) → false ≡ is_visit p s
+no_visit p s h = let e = not_level s.label h in rw e refl
+  where
+    not_level : (l : Label) → (l ≡ X2 → ⊥) → is_level l ≡ false
+    not_level X1 h = refl
+    not_level X2 h = absurd (h refl)
+    not_level X3 h = refl
+    not_level X4 h = refl
+    not_level X5 h = refl
+    not_level X6 h = refl
+    not_level X7 h = refl
+    not_level X8 h = refl
+    not_level Done h = refl
 
 pub row_none : (p : ProblemValue) (s : StateValue) → None ≡ chosen_item p s → None ≡ chosen_in p s
 unfolding chosen_in

@@ -102,6 +102,13 @@ impl<'p, T: Table> Machine<'p, T> {
         }
     }
 
+    /// The problem that is searched.
+    pub fn problem(&self) -> &'p Problem
+        ensures { result.now ≡ self.now.problem }
+    {
+        self.problem
+    }
+
     /// Where the search stands.
     pub fn state(&self) -> &State
         ensures state { state_value result.now ≡ self.now.state }

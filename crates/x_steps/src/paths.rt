@@ -117,6 +117,14 @@ impl Paths {
         self.choices.truncate(end);
     }
 
+    /// Takes all paths away, and keeps their room.
+    pub fn clear(&mut self)
+        ensures { self.new ≡ [] }
+    {
+        self.choices.clear();
+        self.ends.clear();
+    }
+
     /// The same paths, in memory of their own.
     pub fn copy(&self) -> Result<Paths, AllocError>
         ensures { IfOk result (λ paths. paths ≡ self.now) }

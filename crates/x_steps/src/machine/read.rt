@@ -1,10 +1,10 @@
 //! What a machine tells of the search: the covered items, the item that is chosen, and which items are left.
 ghost use Rattle.std.specs.Prelude.{◌≡◌, option_map, IfOk};
-ghost use Rattle.x_steps.specs.Steps.{covered_in};
+ghost use Rattle.x_steps.specs.Steps.{covered_in, is_visit};
 ghost use Rattle.x_steps.specs.Machine.{remaining_in, second_in, chosen_item, chosen_in};
 ghost use Rattle.x_steps.specs.StateView.{row_value, row_values};
 
-use crate::covering::{choose, last_covered};
+use crate::covering::{choose, has_active, last_covered};
 use crate::listing::{active_items, options_of, secondary_items};
 use crate::machine::Machine;
 use crate::state::{Cursor, Label};
@@ -42,6 +42,17 @@ impl<'p, T: Table> Machine<'p, T> {
         };
         let options = options_of(*self.state.path.allocator(), &self.table, item)?;
         Ok(Some((item, options)))
+    }
+
+    /// Whether the step about to be done visits the path: X2, where no item is active.
+    #[inline(always)]
+    pub fn is_visit(&self) -> bool
+        ensures { result ≡ is_visit self.now.problem self.now.state }
+    {
+        match self.state.label {
+            Label::X2 => !has_active(&self.table),
+            _ => false,
+        }
     }
 
     /// The item that is chosen at X4 to X7. From X5 on it is covered: last at X5 and X7, and before the option's others at X6.

@@ -1,15 +1,16 @@
-use Rattle.std.proofs.Common.{arith, sym}
-use Rattle.std.proofs.lemmas.List.{get_or_read_under}
-use Rattle.x_steps.specs.StateView.{state_value}
+use Rattle.std.proofs.Common.{◌≤◌, length, refl, subst}
+use Rattle.x_steps.specs.StateValue.{StateValue}
+use Rattle.x_steps.specs.Steps.{Fits}
+use Rattle.x_branches.specs.Stage.{Shifts, digit_of}
 use Rattle.x_branches.proofs.StageLemmas.{choice_shifts, end_shifts}
 use Rattle.x_branches.proofs.order.stage.Goals as goal
 
-pub returns-then-level-len : goal.returns-then-level-len
-returns-then-level-len c p f =
-    let fits = c.args.state.now.path.ok.0 in
-    let e = c.len.ensures in
-    let l = c.if-level-len.true in
-    choice_shifts p (state_value c.args.state.now) c.args.level _ _ f (omega arith) (sym (get_or_read_under c.args.state.now.path.items c.args.level c.len.result _ 0 c.index.ensures l (omega arith))) c.stage_below.ensures.stage c.stage_below.ensures.within
+pub returns-then-level-place : goal.returns-then-level-place
+returns-then-level-place c p f =
+    subst (λ (s : StateValue). Fits p s → Shifts (length p.options) c.stage_below.result (digit_of p s c.args.level)) c.place.view_is
+    (λ g. choice_shifts p _ c.args.level _ _ g c.if-level-place.true refl c.stage_below.ensures.stage c.stage_below.ensures.within) f
 
-pub returns-else-level-len : goal.returns-else-level-len
-returns-else-level-len c p f = end_shifts p (state_value c.args.state.now) c.args.level _ f c.requires (omega (arith, c.if-level-len.false, c.len.ensures)) c.stage_of.ensures.stage c.stage_of.ensures.within
+pub returns-else-level-place : goal.returns-else-level-place
+returns-else-level-place c p f =
+    subst (λ (s : StateValue). Fits p s → c.args.level ≤ length s.path → Shifts (length p.options) c.stage_of.result (digit_of p s c.args.level)) c.place.view_is
+    (λ g l. end_shifts p _ c.args.level _ g l c.if-level-place.false c.stage_of.ensures.stage c.stage_of.ensures.within) f c.requires

@@ -1,0 +1,221 @@
+-- What a runner finds on the covered list and on the list of the item that was chosen at a level.
+use Rattle.std.proofs.Common.{◌≡◌, ◌↔◌, ℕ, zero, suc, ◌+◌, ◌<◌, ◌≤◌, ◌⊎◌, Bool, true, false, cond, IsTrue, Some, None, All, List, [], ◌∷◌, ◌++◌, length, take, drop, filter, get_or, refl, sym, ap, ◌∙◌, subst, inl, inr, arith, append_assoc, append-nil, length-append}
+use Rattle.std.specs.Prelude.{nat_lt}
+use Rattle.std.specs.List.{slice_get}
+use Rattle.std.proofs.lemmas.Bool.{cases_lt}
+use Rattle.std.proofs.lemmas.List.{take_more}
+use Rattle.std.proofs.lemmas.List.Elements.{All-from_get_or, filter_more}
+use Rattle.std.proofs.lemmas.Option.{slice_get-get_or}
+use Rattle.cover_problem.specs.Lists.{has}
+use Rattle.cover_problem.specs.Problem.{ProblemValue, IsProblem, option_at}
+use Rattle.cover_problem.specs.Covering.{choice, list_of}
+use Rattle.cover_problem.specs.Path.{others, taken, IsValid, covered_from, covered_by}
+use Rattle.cover_problem.proofs.MemberLemmas.{has_at}
+use Rattle.cover_problem.proofs.PathLemmas.{length-taken, covered_by_push}
+use Rattle.cover_problem.proofs.CoverLemmas.{covered_join}
+use Rattle.x_steps.specs.declared.state.Label.{Label}
+use Rattle.x_steps.specs.declared.state.Label.TheVariants.{X1, X2, X3, X4, X5, X6, X7, X8, Done}
+use Rattle.x_steps.specs.declared.state.Cursor.{Cursor}
+use Rattle.x_steps.specs.declared.state.Cursor.TheVariants as cursor
+use Rattle.x_steps.specs.declared.state.Cursor.TheVariants.{At, Past}
+use Rattle.x_steps.specs.StateValue.{StateValue, at}
+use Rattle.x_steps.specs.Steps.{FitsAt, Fits, item_after, remaining_after, covered_at, covered_in}
+use Rattle.x_steps.proofs.StateLemmas.{level_is}
+use Rattle.x_branches.specs.Cut.{option_of, choices}
+use Rattle.x_branches.specs.RunOrder.{ComesBefore, comes_before}
+use Rattle.x_branches.specs.Untried.{left_after, left_above, is_before_end, untried}
+use Rattle.x_branches.proofs.StageLemmas.{parts}
+use Rattle.x_branches.proofs.CutLemmas.{test_is_order, cut_is, cut_fits, front, level_in, chosen_is, later_one}
+
+-- ---- lists
+
+same_tests : (a b : Bool) → (a ≡ true → b ≡ true) → (b ≡ true → a ≡ true) → a ≡ b
+same_tests true b f g = sym (f refl)
+same_tests false true f g = g refl
+same_tests false false f g = refl
+
+pub all_members : (P : ℕ → Type 0) (xs : List ℕ) → ((k : ℕ) → has xs k ≡ true → P k) → All P xs
+all_members P xs h = All-from_get_or P xs 0 (λ i l. h (get_or xs i 0) (has_at xs i 0 l))
+
+-- one more of a list's members, if it passes
+pub kept_one : (test : ℕ → Bool) (xs kept : List ℕ) (i : ℕ) → kept ≡ filter test (take i xs) → i < length xs → test (get_or xs i 0) ≡ true → kept ++ get_or xs i 0 ∷ [] ≡ filter test (take (i + 1) xs)
+kept_one test xs kept i e l t = ap (λ ks. ks ++ get_or xs i 0 ∷ []) e ∙ sym (filter_more test xs i 0 l ∙ ap (λ b. filter test (take i xs) ++ cond b (get_or xs i 0 ∷ []) []) t)
+
+pub kept_none : (test : ℕ → Bool) (xs kept : List ℕ) (i : ℕ) → kept ≡ filter test (take i xs) → i < length xs → test (get_or xs i 0) ≡ false → kept ≡ filter test (take (i + 1) xs)
+kept_none test xs kept i e l t = e ∙ sym (filter_more test xs i 0 l ∙ ap (λ b. filter test (take i xs) ++ cond b (get_or xs i 0 ∷ []) []) t ∙ append-nil (filter test (take i xs)))
+
+-- what is at a place stands behind what is before it
+pub read_drop : (xs : List ℕ) (n o : ℕ) → Some o ≡ slice_get xs n → (rest : List ℕ) × (drop n xs ≡ o ∷ rest)
+read_drop [] n o e = absurd (nothing n e)
+  where
+    nothing : (n : ℕ) → Some o ≡ slice_get [] n → ⊥
+    nothing zero e = cc
+    nothing (suc n) e = cc
+read_drop (x ∷ xs) zero o e = let h : o ≡ x = cc in (xs, rw h refl)
+read_drop (x ∷ xs) (suc n) o e = read_drop xs n o e
+
+pub none_drop : (xs : List ℕ) (n : ℕ) → None ≡ slice_get xs n → drop n xs ≡ []
+none_drop [] zero e = refl
+none_drop [] (suc n) e = refl
+none_drop (x ∷ xs) zero e = absurd (cc)
+none_drop (x ∷ xs) (suc n) e = none_drop xs n e
+
+-- ---- what choices cover
+
+covered_begins : (p : ProblemValue) (c path : List ℕ) → (more : List ℕ) × (covered_from p c path ≡ c ++ more)
+unfolding taken
+covered_begins p c [] = ([], sym (append-nil c))
+covered_begins p c (o ∷ path) =
+    let i = covered_begins p (taken p c o) path in
+    ((choice p c ∷ others (choice p c) (option_at p o)) ++ i.0, i.1 ∙ append_assoc c (choice p c ∷ others (choice p c) (option_at p o)) i.0)
+
+pub covered_more : (p : ProblemValue) (path : List ℕ) (i : ℕ) → IsValid p path → i < length path → length (covered_by p (take (i + 1) path)) ≡ length (covered_by p (take i path)) + length (option_at p (get_or path i 0))
+covered_more p path i v l =
+    let s = front p (take i path) (drop (suc i) path) (get_or path i 0) (subst (IsValid p) (parts path i l) v) in
+    ap (λ q. length (covered_by p q)) (take_more path i 0 l) ∙ ap (length {A = ℕ}) (covered_by_push p (take i path) (get_or path i 0)) ∙ length-taken p (covered_by p (take i path)) (get_or path i 0) s.1
+
+-- a part of the choices covers a beginning
+pub covered_part : (p : ProblemValue) (q r : List ℕ) → length (covered_by p q) ≤ length (covered_by p (q ++ r))
+unfolding covered_by
+covered_part p q r =
+    let b = covered_begins p (covered_from p [] q) r in
+    let e = ap (length {A = ℕ}) (covered_join p [] q r ∙ b.1) ∙ length-append (covered_from p [] q) b.0 in omega arith
+
+-- a state covers what its path covers first
+state_begins : (p : ProblemValue) (l : Label) (path : List ℕ) (k : Cursor) → FitsAt p l path k → (more : List ℕ) × (covered_at p l path k ≡ covered_by p path ++ more)
+unfolding taken
+state_begins p X5 path k f = (item_after p path ∷ [], refl)
+state_begins p X7 path k f = (item_after p path ∷ [], refl)
+state_begins p X6 path (At o) f = (choice p (covered_by p path) ∷ others (choice p (covered_by p path)) (option_at p o), refl)
+state_begins p X1 path cursor.None f = ([], sym (append-nil (covered_by p path)))
+state_begins p X2 path cursor.None f = ([], sym (append-nil (covered_by p path)))
+state_begins p X3 path cursor.None f = ([], sym (append-nil (covered_by p path)))
+state_begins p X4 path cursor.None f = ([], sym (append-nil (covered_by p path)))
+state_begins p X8 path cursor.None f = ([], sym (append-nil (covered_by p path)))
+state_begins p Done path cursor.None f = ([], sym (append-nil (covered_by p path)))
+state_begins p _ path _ f = absurd f
+
+-- below a choice the item stands behind what the choices before it cover
+below_choice : (p : ProblemValue) (q after : List ℕ) (o : ℕ) → (more : List ℕ) × (covered_by p (q ++ o ∷ after) ≡ covered_by p q ++ item_after p q ∷ more)
+unfolding covered_by taken
+below_choice p q after o =
+    let b = covered_begins p (taken p (covered_from p [] q) o) after in
+    let c = covered_from p [] q in
+    (others (choice p c) (option_at p o) ++ b.0, covered_join p [] q (o ∷ after) ∙ b.1 ∙ append_assoc c (choice p c ∷ others (choice p c) (option_at p o)) b.0)
+
+at_cursor : (p : ProblemValue) (l : Label) (path : List ℕ) (o : ℕ) → FitsAt p l path (At o) → (more : List ℕ) × (covered_at p l path (At o) ≡ covered_by p path ++ item_after p path ∷ more)
+unfolding taken
+at_cursor p X5 path o f = ([], refl)
+at_cursor p X6 path o f = (others (item_after p path) (option_at p o), refl)
+at_cursor p X1 path o f = absurd f
+at_cursor p X2 path o f = absurd f
+at_cursor p X3 path o f = absurd f
+at_cursor p X4 path o f = absurd f
+at_cursor p X7 path o f = absurd f
+at_cursor p X8 path o f = absurd f
+at_cursor p Done path o f = absurd f
+
+-- the item chosen at a level of a state stands on the covered list behind what the choices before that level cover
+pub covered_front : (p : ProblemValue) (s : StateValue) (level o : ℕ) (rest : List ℕ) → Fits p s → drop level (choices s) ≡ o ∷ rest → (more : List ℕ) × (covered_in p s ≡ covered_by p (take level (choices s)) ++ item_after p (take level (choices s)) ∷ more)
+unfolding covered_in
+covered_front p s level o rest f e = step (level_in s.path (option_of s.cursor) level o rest e)
+  where
+    on_path : (after : List ℕ) → s.path ≡ take level (choices s) ++ o ∷ after → (more : List ℕ) × (covered_in p s ≡ covered_by p (take level (choices s)) ++ item_after p (take level (choices s)) ∷ more)
+    on_path after h =
+        let q = take level (choices s) in
+        let a = state_begins p s.label s.path s.cursor f in
+        let b = below_choice p (take level (choices s)) after o in
+        (b.0 ++ a.0, a.1 ∙ ap (λ c. c ++ a.0) (ap (covered_by p) h ∙ b.1) ∙ append_assoc (covered_by p q) (item_after p q ∷ b.0) a.0)
+
+    past : (n : ℕ) (k : Cursor) → FitsAt p s.label s.path k → (q : List ℕ) → q ≡ s.path ++ take n (option_of k) → drop n (option_of k) ≡ o ∷ rest → (more : List ℕ) × (covered_at p s.label s.path k ≡ covered_by p q ++ item_after p q ∷ more)
+    past zero (At t) g q h d = let r : q ≡ s.path = h ∙ append-nil s.path in rw r (at_cursor p s.label s.path t g)
+    past (suc n) (At t) g q h d = absurd (nothing n d)
+      where
+        nothing : (n : ℕ) → drop n [] ≡ o ∷ rest → ⊥
+        nothing zero d = cc
+        nothing (suc n) d = cc
+    past zero cursor.None g q h d = absurd (cc)
+    past (suc n) cursor.None g q h d = absurd (cc)
+    past zero Past g q h d = absurd (cc)
+    past (suc n) Past g q h d = absurd (cc)
+
+    step : ((after : List ℕ) × (s.path ≡ take level (choices s) ++ o ∷ after)) ⊎ ((n : ℕ) × (take level (choices s) ≡ s.path ++ take n (option_of s.cursor)) × (drop n (option_of s.cursor) ≡ o ∷ rest)) → (more : List ℕ) × (covered_in p s ≡ covered_by p (take level (choices s)) ++ item_after p (take level (choices s)) ∷ more)
+    step (inl a) = on_path a.0 a.1
+    step (inr a) = past a.0 s.cursor f (take level (choices s)) a.1 a.2
+
+-- ---- what is left
+
+-- what the covered list tells of a level where there is a choice
+pub record IsAtLevel (p : ProblemValue) (s : StateValue) (level o : ℕ) (item : ℕ) : Type 0 where
+  pub valid : IsValid p (take level (choices s))
+  pub within : length (covered_by p (take level (choices s))) < length (covered_in p s)
+  pub place : get_or (covered_in p s) (length (covered_by p (take level (choices s)))) 0 ≡ item
+  pub member : has (list_of p (covered_in p s) item) o ≡ true
+  pub left : filter (λ k. nat_lt o k) (list_of p (covered_in p s) item) ≡ left_above p level s
+
+pub at_level : (p : ProblemValue) (s : StateValue) (level o : ℕ) → IsProblem p → Fits p s → Some o ≡ slice_get (choices s) level → IsAtLevel p s level o (item_after p (take level (choices s)))
+at_level p s level o sound f e =
+    let d = read_drop (choices s) level o e in
+    let q = take level (choices s) in
+    let c = chosen_is p s level o d.0 f d.1 in
+    let w = covered_front p s level o d.0 f d.1 in
+    let l = level_is p (take level (choices s)) sound c.valid c.choice.active in
+    let here : list_of p (covered_in p s) (item_after p q) ≡ remaining_after p q = ap (λ c. list_of p c (item_after p q)) w.1 ∙ l.list_covered w.0 in
+    record {
+      valid = c.valid;
+      within = let n = ap (length {A = ℕ}) w.1 ∙ length-append (covered_by p q) (item_after p q ∷ w.0) in omega arith;
+      place = ap (λ c. get_or c (length (covered_by p q)) 0) w.1 ∙ l.place w.0 0;
+      member = ap (λ xs. has xs o) here ∙ c.choice.left;
+      left = ap (filter (λ k. nat_lt o k)) here ∙ ap (left_after p q) (sym d.1);
+    }
+
+pub none_left : (p : ProblemValue) (s : StateValue) (level : ℕ) → None ≡ slice_get (choices s) level → [] ≡ left_above p level s
+none_left p s level e = ap (left_after p (take level (choices s))) (sym (none_drop (choices s) level e))
+
+-- each option left above a choice makes a cut
+pub left_fit : (p : ProblemValue) (s : StateValue) (level : ℕ) → Fits p s → All (λ k. Fits p (at X5 (take level (choices s)) (At k))) (left_above p level s)
+left_fit p s level f = all_members _ (left_above p level s) (λ k h. look (drop level (choices s)) refl k h)
+  where
+    look : (rest : List ℕ) → drop level (choices s) ≡ rest → (k : ℕ) → has (left_after p (take level (choices s)) rest) k ≡ true → Fits p (at X5 (take level (choices s)) (At k))
+    look [] e k h = absurd (cc)
+    look (o ∷ rest) e k h =
+        let b = later_one p s (take level (choices s)) o k (chosen_is p s level o rest f e) h in
+        rw (cut_is (take level (choices s)) k) at (cut_fits p (take level (choices s) ++ k ∷ []) b.cut)
+
+pub untried_left : (p : ProblemValue) (end s : StateValue) (level : ℕ) → filter (is_before_end p end (take level (choices s))) (left_above p level s) ≡ untried p end level s
+untried_left p end s level = look (drop level (choices s)) refl
+  where
+    look : (rest : List ℕ) → drop level (choices s) ≡ rest → filter (is_before_end p end (take level (choices s))) (left_above p level s) ≡ untried p end level s
+    look [] e = rw e refl
+    look (o ∷ rest) e = rw e refl
+
+-- where something is left there is a choice
+pub left_some : (p : ProblemValue) (s : StateValue) (level : ℕ) (xs : List ℕ) → xs ≡ left_above p level s → (length xs ≡ 0 → ⊥) → level < length (choices s)
+left_some p s level xs e h = step (cases_lt level (length (choices s)))
+  where
+    ended : (n : ℕ) (ys : List ℕ) → length ys ≤ n → drop n ys ≡ []
+    ended zero [] l = refl
+    ended zero (y ∷ ys) l = absurd (omega arith)
+    ended (suc n) [] l = refl
+    ended (suc n) (y ∷ ys) l = ended n ys (omega arith)
+
+    step : (level < length (choices s)) ⊎ (length (choices s) ≤ level) → level < length (choices s)
+    step (inl l) = l
+    step (inr l) = let d : xs ≡ [] = e ∙ ap (left_after p (take level (choices s))) (ended level (choices s) l) in absurd (h (ap (length {A = ℕ}) d))
+
+-- the test of a cut
+pub cut_tested : (p : ProblemValue) (end : StateValue) (q : List ℕ) (o : ℕ) (test : Bool) → Fits p (at X5 q (At o)) → Fits p end → IsTrue test ↔ ComesBefore p (at X5 q (At o)) end → test ≡ is_before_end p end q o
+cut_tested p end q o test f g t =
+    let u = test_is_order p (at X5 q (At o)) end f g in
+    same_tests test (comes_before p (at X5 q (At o)) end) (λ h. u.1 (t.0 h)) (λ h. t.1 (u.0 h)) ∙ ap (λ s. comes_before p s end) (sym (cut_is q o))
+
+pub covered_upto : (p : ProblemValue) (path : List ℕ) (n : ℕ) → length (covered_by p (take n path)) ≤ length (covered_by p path)
+covered_upto p path n = subst (λ q. length (covered_by p (take n path)) ≤ length (covered_by p q)) (whole path n) (covered_part p (take n path) (drop n path))
+  where
+    whole : (path : List ℕ) (n : ℕ) → take n path ++ drop n path ≡ path
+    whole path zero = refl
+    whole [] (suc n) = refl
+    whole (x ∷ path) (suc n) = ap (λ q. x ∷ q) (whole path n)
+
+pub level_known : (p : ProblemValue) (s : StateValue) (level : ℕ) → IsProblem p → Fits p s → level < length (choices s) → (o : ℕ) × IsAtLevel p s level o (item_after p (take level (choices s)))
+level_known p s level sound f l = (get_or (choices s) level 0, at_level p s level (get_or (choices s) level 0) sound f (sym (slice_get-get_or (choices s) level 0 l)))

@@ -1,0 +1,294 @@
+//! Runners: a search within one branch of a run, with the stretch of its steps that was not posted yet.
+ghost use Rattle.std.specs.Prelude.{◌≡◌, ◌≢◌, ◌<◌, ◌≤◌, ◌+◌, ◌-◌, ◌↔◌, ◌++◌, ◌∷◌, [], ℕ, List, length, replicate, true, option_map, if◌then◌else◌, IfOk, IfErr, OnOk, OnErr, IsErr, IsTrue, slice_index};
+ghost use Rattle.cover_problem.specs.Problem.{IsProblem};
+ghost use Rattle.x_steps.specs.StateView.{state_value, row_value, row_values};
+ghost use Rattle.x_steps.specs.Steps.{Fits, IsBefore, covered_in, next, event_of, is_visit, is_level};
+ghost use Rattle.x_steps.specs.Before.{prev};
+ghost use Rattle.x_steps.specs.Run.{steps_between};
+ghost use Rattle.x_steps.specs.Machine.{remaining_in, second_in, chosen_in};
+ghost use Rattle.x_branches.specs.Branch.{end_of};
+ghost use Rattle.x_branches.specs.Runner.{IsRunner, visit_of, with_level, without_level};
+ghost use Rattle.x_branches.specs.Refusals.{CanStart, StartRefused, CanAdvance, AdvanceRefused};
+
+mod posting;
+mod untried;
+
+use crate::branch::Branch;
+use crate::fault::{RunnerFault, StartFault};
+use cover_problem::{Problem, Table};
+use std::alloc::{AllocError, Global};
+use std::marker::Model;
+use x_steps::{Event, Label, Machine, Paths, Refused, State};
+
+/// A search in one branch of a run. The stretch from its mark up to its position is unposted: the runner keeps how many steps
+/// it has, its visits, and how many X2 states it has at each level.
+#[derive(Drop)]
+pub struct Runner<'p, T: Table> {
+    machine: Machine<'p, T>,
+    branch: Branch<'p>,
+    mark: State,
+    steps: u32,
+    visits: Paths,
+    /// For each level from 0 up to the number of items.
+    counts: Vec<u32>,
+}
+
+impl<'p, T: Table> Model for Runner<'p, T> {
+    ghost use Rattle.x_steps.specs.StateView.{state_value};
+    ghost use Rattle.x_branches.specs.Runner.{RunnerValue, KeepsRunner};
+
+    ghost Value = { RunnerValue };
+
+    ghost view = { λ r. record { problem = r.machine.problem; branch = r.branch; mark = state_value r.mark; position = r.machine.state } };
+
+    ghost invariant = { λ r. KeepsRunner (record { problem = r.machine.problem; branch = r.branch; mark = state_value r.mark; position = r.machine.state }) r.steps r.visits r.counts.items };
+}
+
+/// Counts a state at its level, if it is one of X2.
+#[inline(always)]
+fn count(counts: &mut [u32], state: &State)
+    requires within { is_level state.now.label ≡ true → length state.now.path.items < length counts.old }
+    requires small { is_level state.now.label ≡ true → slice_index counts.old (length state.now.path.items) < 4294967295 }
+    ensures { counts.new ≡ with_level counts.old (state_value state.now) }
+{
+    match state.label {
+        Label::X2 => counts[state.path.len()] += 1,
+        _ => (),
+    }
+}
+
+/// Takes a state's count at its level away, if it is one of X2.
+#[inline(always)]
+fn discount(counts: &mut [u32], state: &State)
+    requires within { is_level state.now.label ≡ true → length state.now.path.items < length counts.old }
+    requires some { is_level state.now.label ≡ true → 0 < slice_index counts.old (length state.now.path.items) }
+    ensures { counts.new ≡ without_level counts.old (state_value state.now) }
+{
+    match state.label {
+        Label::X2 => counts[state.path.len()] -= 1,
+        _ => (),
+    }
+}
+
+/// Notes a state that is left by a step: its visit, and its level at X2. Takes memory at a visit alone, and changes nothing
+/// where there is none.
+#[inline(always)]
+fn note<T: Table>(
+    machine: &Machine<'_, T>,
+    visits: &mut Paths,
+    counts: &mut [u32],
+) -> Result<(), AllocError>
+    requires within { is_level machine.now.state.label ≡ true → length machine.now.state.path < length counts.old }
+    requires small { is_level machine.now.state.label ≡ true →
+        slice_index counts.old (length machine.now.state.path) < 4294967295 }
+    ensures visits { OnOk result (visits.new ≡ visits.old ++ visit_of machine.now.problem machine.now.state) }
+    ensures counts { OnOk result (counts.new ≡ with_level counts.old machine.now.state) }
+    ensures visits_kept { OnErr result (visits.new ≡ visits.old) }
+    ensures counts_kept { OnErr result (counts.new ≡ counts.old) }
+    ensures at_visit { OnErr result (is_visit machine.now.problem machine.now.state ≡ true) }
+{
+    let state = machine.state();
+    if machine.is_visit() && visits.push(&state.path).is_err() {
+        return Err(AllocError);
+    }
+    count(counts, state);
+    Ok(())
+}
+
+/// Takes a state away that was noted: its visit, and its count at its level.
+#[inline(always)]
+fn forget<T: Table>(machine: &Machine<'_, T>, visits: &mut Paths, counts: &mut [u32])
+    requires visit { is_visit machine.now.problem machine.now.state ≡ true → 0 < length visits.old }
+    requires within { is_level machine.now.state.label ≡ true → length machine.now.state.path < length counts.old }
+    requires some { is_level machine.now.state.label ≡ true →
+        0 < slice_index counts.old (length machine.now.state.path) }
+    ensures visits { (last : List (List ℕ)) × (visits.old ≡ visits.new ++ last)
+        × (length last ≡ length (visit_of machine.now.problem machine.now.state)) }
+    ensures counts { counts.new ≡ without_level counts.old machine.now.state }
+{
+    if machine.is_visit() {
+        visits.pop();
+    }
+    discount(counts, machine.state());
+}
+
+/// No count, for each level from 0 up to this one.
+fn no_counts(alloc: Global, most: u32) -> Result<Vec<u32>, AllocError>
+    ensures { IfOk result (λ counts. counts.items ≡ replicate (most + 1) 0) }
+{
+    vec![in alloc; 0; most as usize + 1]
+}
+
+impl<'p, T: Table> Runner<'p, T> {
+    /// A runner at a state, with its mark there. Refused where the search has no such state, then where the branch isn't one of
+    /// the problem's run or the state is outside it, and when out of memory. The table then comes back with nothing covered,
+    /// and so does the branch.
+    pub fn new(
+        alloc: Global,
+        problem: &'p Problem,
+        table: T,
+        branch: Branch<'p>,
+        state: &State,
+    ) -> Result<Runner<'p, T>, Refused<StartFault, (T, Branch<'p>)>>
+        requires same_problem { T.problem_value table ≡ problem.now }
+        requires covered { T.covered_list table ≡ [] }
+        ensures runner { IfOk result (λ r. r ≡ record {
+          problem = problem.now;
+          branch = branch.entry;
+          mark = state_value state.now;
+          position = state_value state.now;
+        }) }
+        ensures can { OnOk result (CanStart problem.now branch.entry (state_value state.now)) }
+        ensures refused { IfErr result (λ r. StartRefused problem.now branch.entry (state_value state.now) r.fault) }
+        ensures same_problem_back { IfErr result (λ r. T.problem_value r.given.0 ≡ problem.now) }
+        ensures covered_back { IfErr result (λ r. T.covered_list r.given.0 ≡ []) }
+        ensures branch_back { IfErr result (λ r. r.given.1 ≡ branch.entry) }
+    {
+        let machine = match Machine::at(alloc, problem, table, state) {
+            Ok(machine) => machine,
+            Err(refused) => {
+                return Err(Refused {
+                    fault: StartFault::Steps(refused.fault),
+                    given: (refused.given, branch),
+                });
+            }
+        };
+        if !branch.holds(problem, state) {
+            return Err(Refused {
+                fault: StartFault::Runner(RunnerFault::OutsideBranch),
+                given: (machine.into_table(), branch),
+            });
+        }
+        let Ok(counts) = no_counts(alloc, problem.items()) else {
+            return Err(Refused {
+                fault: StartFault::Runner(RunnerFault::OutOfMemory),
+                given: (machine.into_table(), branch),
+            });
+        };
+        let Ok(mark) = state.copy() else {
+            return Err(Refused {
+                fault: StartFault::Runner(RunnerFault::OutOfMemory),
+                given: (machine.into_table(), branch),
+            });
+        };
+        Ok(Runner {
+            machine,
+            branch,
+            mark,
+            steps: 0,
+            visits: Paths::new(alloc),
+            counts,
+        })
+    }
+
+    /// Where the search stands.
+    pub fn state(&self) -> &State
+        ensures state { state_value result.now ≡ self.now.position }
+        ensures runner { IsRunner self.now }
+        ensures problem { IsProblem self.now.problem }
+    {
+        self.machine.state()
+    }
+
+    /// From where on its steps are not posted.
+    pub fn mark(&self) -> &State
+        ensures { state_value result.now ≡ self.now.mark }
+    {
+        &self.mark
+    }
+
+    /// Its branch.
+    pub fn branch(&self) -> &Branch<'p>
+        ensures { result.now ≡ self.now.branch }
+    {
+        &self.branch
+    }
+
+    /// How many steps lead from its mark to its position.
+    pub fn unposted(&self) -> u32
+        ensures { result ≡ steps_between self.now.problem self.now.mark self.now.position }
+    {
+        self.steps
+    }
+
+    /// The covered items, in the order of covering.
+    pub fn covered(&self) -> &[u32]
+        ensures { result.now ≡ covered_in self.now.problem self.now.position }
+    {
+        self.machine.covered()
+    }
+
+    /// The active items in order, each with the options left for it.
+    pub fn remaining(&self) -> Result<Vec<(u32, Vec<u32>)>, AllocError>
+        ensures { IfOk result (λ rows. row_values rows.items ≡ remaining_in self.now.problem self.now.position) }
+    {
+        self.machine.remaining()
+    }
+
+    /// The secondary items that are not covered, in order, each with the options left for it.
+    pub fn second(&self) -> Result<Vec<(u32, Vec<u32>)>, AllocError>
+        ensures { IfOk result (λ rows. row_values rows.items ≡ second_in self.now.problem self.now.position) }
+    {
+        self.machine.second()
+    }
+
+    /// At X4 to X7 the chosen item, with the options of its list.
+    pub fn chosen(&self) -> Result<Option<(u32, Vec<u32>)>, AllocError>
+        ensures { IfOk result (λ row. option_map row_value row ≡ chosen_in self.now.problem self.now.position) }
+    {
+        self.machine.chosen()
+    }
+
+    /// Whether it stands at its branch's end.
+    #[inline(always)]
+    fn is_at_end(&self) -> bool
+        ensures { IsTrue result ↔ (self.now.position ≡ end_of self.now.branch.hi) }
+    {
+        self.branch.end().is(self.state())
+    }
+
+    /// Takes one step, and tells what the step told. Refused at the branch's end, then where the stretch has as many steps as
+    /// can be counted, and, at a visit alone, when out of memory; nothing has then changed.
+    #[inline]
+    pub fn advance(&mut self) -> Result<Event, RunnerFault>
+        ensures state { OnOk result (self.new ≡ record self.old { position = next self.old.problem self.old.position }) }
+        ensures event { IfOk result (λ event. event ≡ event_of self.old.problem self.old.position) }
+        ensures can { OnOk result (CanAdvance self.old) }
+        ensures refused { IfErr result (AdvanceRefused self.old) }
+        ensures unchanged { OnErr result (self.new ≡ self.old) }
+    {
+        if self.is_at_end() {
+            return Err(RunnerFault::AtBranchEnd);
+        }
+        if self.steps == u32::MAX {
+            return Err(RunnerFault::StretchFull);
+        }
+        let Ok(()) = note(&self.machine, &mut self.visits, &mut self.counts) else {
+            return Err(RunnerFault::OutOfMemory);
+        };
+        self.steps += 1;
+        let Ok(event) = self.machine.step() else {
+            unreachable!()
+        };
+        Ok(event)
+    }
+
+    /// Takes the last step back, without memory; refused only at the mark, which changes nothing.
+    #[inline]
+    pub fn retreat(&mut self) -> Result<(), RunnerFault>
+        ensures state { OnOk result (self.new ≡ record self.old { position = prev self.old.problem self.old.position }) }
+        ensures before { OnOk result (IsBefore self.old.problem self.new.position self.old.position) }
+        ensures at_mark { IsErr result ↔ (self.old.position ≡ self.old.mark) }
+        ensures refused { IfErr result (λ fault. (fault ≡ RunnerFault.AtMark) × (self.new ≡ self.old)) }
+    {
+        if self.steps == 0 {
+            return Err(RunnerFault::AtMark);
+        }
+        let Ok(()) = self.machine.back() else {
+            unreachable!()
+        };
+        forget(&self.machine, &mut self.visits, &mut self.counts);
+        self.steps -= 1;
+        Ok(())
+    }
+}

@@ -1,0 +1,145 @@
+//! The unposted stretch of a runner: it is taken out to be posted, and joined again.
+ghost use Rattle.std.specs.Prelude.{◌≡◌, ◌<◌, ◌≤◌, ◌-◌, ◌↔◌, ◌++◌, [], length, take, drop, replicate, slice_index, IsTrue, IfOk, IfErr, OnOk, OnErr};
+ghost use Rattle.x_steps.specs.Levels.{without_last_zeros};
+ghost use Rattle.x_branches.specs.Refusals.{EndsHere, CanReopen, ReopenRefused};
+
+use crate::fault::RunnerFault;
+use crate::order::is_before;
+use crate::place::Place;
+use crate::runner::Runner;
+use crate::stretch::Stretch;
+use cover_problem::Table;
+use std::alloc::{AllocError, Global};
+use std::mem;
+use x_steps::Refused;
+
+/// Whether the last of the first so many counts is 0.
+fn is_zero_before(counts: &[u32], count: usize) -> bool
+    requires { count ≤ length counts.now }
+    ensures { IsTrue result ↔ ((0 < count) × (slice_index counts.now (count - 1) ≡ 0)) }
+{
+    count > 0 && counts[count - 1] == 0
+}
+
+/// How many counts there are up to the last above 0.
+fn counted(counts: &[u32]) -> usize
+    ensures within { result ≤ length counts.now }
+    ensures cut { take result counts.now ≡ without_last_zeros counts.now }
+{
+    let mut count = counts.len();
+    while is_zero_before(counts, count) {
+        count -= 1;
+    }
+    count
+}
+
+/// The counts up to the last above 0, in memory of just their size.
+fn trimmed(alloc: Global, counts: &[u32]) -> Result<Vec<u32>, AllocError>
+    ensures { IfOk result (λ levels. levels.items ≡ without_last_zeros counts.now) }
+{
+    let (front, _) = counts.split_at(counted(counts));
+    Vec::from_slice(alloc, front)
+}
+
+/// Takes all counts away.
+fn forget_all(counts: &mut [u32])
+    ensures { counts.new ≡ replicate (length counts.old) 0 }
+{
+    counts.fill(0);
+}
+
+/// Puts counts in place of the first ones.
+fn put(counts: &mut [u32], levels: &[u32])
+    requires { length levels.now ≤ length counts.old }
+    ensures { counts.new ≡ levels.now ++ drop (length levels.now) counts.old }
+{
+    for (level, count) in levels.iter().enumerate() {
+        counts[level] = *count;
+    }
+}
+
+impl<'p, T: Table> Runner<'p, T> {
+    /// Takes the stretch from the mark up to the position out, and sets the mark there. Where memory runs out, nothing changes.
+    pub fn take_stretch(&mut self) -> Result<Stretch<'p>, AllocError>
+        ensures stretch { IfOk result (λ s. s ≡ record { problem = self.old.problem; from = self.old.mark; to = self.old.position }) }
+        ensures marked { OnOk result (self.new ≡ record self.old { mark = self.old.position }) }
+        ensures unchanged { OnErr result (self.new ≡ self.old) }
+    {
+        let state = self.machine.state();
+        let to = state.copy()?;
+        let mark = state.copy()?;
+        let visits = self.visits.copy()?;
+        let levels = trimmed(*state.path.allocator(), &self.counts)?;
+        let steps = self.steps;
+        let from = mem::replace(&mut self.mark, mark);
+        self.steps = 0;
+        self.visits.clear();
+        forget_all(&mut self.counts);
+        Ok(Stretch {
+            problem: self.machine.problem(),
+            from,
+            to,
+            steps,
+            visits,
+            levels,
+        })
+    }
+
+    /// Whether it stands at its mark, and a stretch ends there.
+    fn is_end_of(&self, stretch: &Stretch<'_>) -> bool
+        ensures { IsTrue result ↔ EndsHere self.now stretch.now }
+    {
+        if self.steps > 0 {
+            return false;
+        }
+        stretch.to().same(self.machine.state())
+    }
+
+    /// Whether a stretch is the problem's and begins within the branch.
+    fn has_begin_of(&self, stretch: &Stretch<'_>) -> bool
+        requires { EndsHere self.now stretch.now }
+        ensures { IsTrue result ↔ CanReopen self.now stretch.now }
+    {
+        if !stretch.problem().same(self.machine.problem()) {
+            return false;
+        }
+        !is_before(&Place::of(stretch.from()), &self.branch.first())
+    }
+
+    /// Joins a stretch again that ends at the mark, without memory: it is unposted then, and the mark is where it begins.
+    /// Refused where the runner isn't at its mark or the stretch doesn't end there, then where the stretch is another problem's
+    /// or begins before the branch; nothing has then changed, and the stretch comes back.
+    pub fn reopen(&mut self, stretch: Stretch<'p>) -> Result<(), Refused<RunnerFault, Stretch<'p>>>
+        ensures reopened { OnOk result (self.new ≡ record self.old { mark = stretch.entry.from }) }
+        ensures can { OnOk result (CanReopen self.old stretch.entry) }
+        ensures refused { IfErr result (λ r. ReopenRefused self.old stretch.entry r.fault) }
+        ensures given_back { IfErr result (λ r. r.given ≡ stretch.entry) }
+        ensures unchanged { OnErr result (self.new ≡ self.old) }
+    {
+        if !self.is_end_of(&stretch) {
+            return Err(Refused {
+                fault: RunnerFault::NotAtMark,
+                given: stretch,
+            });
+        }
+        if !self.has_begin_of(&stretch) {
+            return Err(Refused {
+                fault: RunnerFault::OutsideBranch,
+                given: stretch,
+            });
+        }
+        let Stretch {
+            problem: _,
+            from,
+            to: _,
+            steps,
+            visits,
+            levels,
+        } = stretch;
+        put(&mut self.counts, &levels);
+        self.mark = from;
+        self.steps = steps;
+        self.visits = visits;
+        Ok(())
+    }
+}

@@ -1,0 +1,243 @@
+//! What a runner leaves untried in its branch, and where its branch can be cut.
+ghost use Rattle.std.specs.Prelude.{All, ◌≡◌, ◌<◌, ◌≤◌, ◌↔◌, ◌++◌, ◌∷◌, [], ℕ, List, length, take, filter, nat_lt, true, Some, IsTrue, IfOk, IfErr, OnOk, OnErr};
+ghost use Rattle.std.specs.List.{slice_get};
+ghost use Rattle.cover_problem.specs.Lists.{has};
+ghost use Rattle.cover_problem.specs.Problem.{ProblemValue};
+ghost use Rattle.cover_problem.specs.Covering.{list_of};
+ghost use Rattle.cover_problem.specs.Path.{IsValid, covered_by};
+ghost use Rattle.x_steps.specs.StateValue.{at};
+ghost use Rattle.x_steps.specs.StateView.{state_value};
+ghost use Rattle.x_steps.specs.Steps.{Fits, item_after};
+ghost use Rattle.x_branches.specs.Cut.{choices, cut_state};
+ghost use Rattle.x_branches.specs.Branch.{end_of};
+ghost use Rattle.x_branches.specs.Untried.{is_before_end, left_above, untried, with_choice};
+ghost use Rattle.x_branches.specs.Runner.{IsOf};
+ghost use Rattle.x_branches.specs.Refusals.{untried_in, CanShorten, CutRefused};
+
+use crate::branch::Branch;
+use crate::cut::Cut;
+use crate::fault::RunnerFault;
+use crate::order::is_before;
+use crate::place::Place;
+use crate::runner::Runner;
+use cover_problem::{Problem, Table};
+use std::alloc::{AllocError, Global};
+use x_steps::{Cursor, Label, Refused, State};
+
+/// A state's choice at a level: the path's, or after the path the cursor's option.
+fn choice_at(state: &State, level: usize) -> Option<u32>
+    ensures { result ≡ slice_get (choices (state_value state.now)) level }
+{
+    if level < state.path.len() {
+        return Some(state.path[level]);
+    }
+    match state.cursor {
+        Cursor::At(option) if level == state.path.len() => Some(option),
+        _ => None,
+    }
+}
+
+/// How many items these choices cover: each covers all items of its option. They are the first of a longer list.
+fn covered_count(problem: &Problem, path: &[u32], covered: &[u32]) -> usize
+    requires valid { IsValid problem.now path.now }
+    requires within { length (covered_by problem.now path.now) ≤ length covered.now }
+    ensures { result ≡ length (covered_by problem.now path.now) }
+{
+    let mut count = 0;
+    for option in path {
+        count += problem.option(*option).len();
+    }
+    count
+}
+
+/// The options of an item's list above one of them.
+fn options_above<T: Table>(
+    alloc: Global,
+    table: &T,
+    item: u32,
+    option: u32,
+) -> Result<Vec<u32>, AllocError>
+    requires { has (list_of (T.problem_value table.now) (T.covered_list table.now) item) option ≡ true }
+    ensures { IfOk result (λ options. options.items ≡
+        filter (λ k. nat_lt option k) (list_of (T.problem_value table.now) (T.covered_list table.now) item)) }
+{
+    let mut options = Vec::new(alloc);
+    let mut next = table.next_option(item, option);
+    while let Some(above) = next {
+        options.push(above)?;
+        next = table.next_option(item, above);
+    }
+    Ok(options)
+}
+
+/// Whether the cut at an option after these choices comes before the end of a branch.
+fn is_cut_inside(branch: &Branch<'_>, front: &[u32], option: u32) -> bool
+    ensures { (p : ProblemValue) → IsOf p branch.now.hi → Fits p (at Label.X5 front.now (Cursor.At option)) →
+        result ≡ is_before_end p (end_of branch.now.hi) front.now option }
+{
+    let cut = Place {
+        label: Label::X5,
+        path: front,
+        cursor: Cursor::At(option),
+    };
+    is_before(&cut, &branch.end())
+}
+
+/// Of these options those whose cuts, after the choices before them, come before the end of a branch.
+fn cut_inside(
+    branch: &Branch<'_>,
+    front: &[u32],
+    options: &[u32],
+    alloc: Global,
+) -> Result<Vec<u32>, AllocError>
+    ensures { (p : ProblemValue) → IsOf p branch.now.hi →
+        All (λ k. Fits p (at Label.X5 front.now (Cursor.At k))) options.now →
+        IfOk result (λ kept. kept.items ≡ filter (is_before_end p (end_of branch.now.hi) front.now) options.now) }
+{
+    let mut kept = Vec::new(alloc);
+    for option in options {
+        if is_cut_inside(branch, front, *option) {
+            kept.push(*option)?;
+        }
+    }
+    Ok(kept)
+}
+
+impl<'p, T: Table> Runner<'p, T> {
+    /// The options left above the choice at a level.
+    fn left_above(&self, level: usize) -> Result<Vec<u32>, AllocError>
+        ensures { IfOk result (λ options. options.items ≡ left_above self.now.problem level self.now.position) }
+    {
+        let state = self.machine.state();
+        let alloc = *state.path.allocator();
+        let Some(choice) = choice_at(state, level) else {
+            return Ok(Vec::new(alloc));
+        };
+        options_above(alloc, self.machine.table(), self.item_at(level), choice)
+    }
+
+    /// The item that was chosen at a level where there is a choice. It is covered behind what the choices before it cover.
+    fn item_at(&self, level: usize) -> u32
+        requires { level < length (choices self.now.position) }
+        ensures { result ≡ item_after self.now.problem (take level (choices self.now.position)) }
+    {
+        let covered = self.machine.covered();
+        covered[covered_count(self.machine.problem(), self.front(level), covered)]
+    }
+
+    /// The choices before a level where there is one.
+    fn front(&self, level: usize) -> &[u32]
+        requires { level < length (choices self.now.position) }
+        ensures { result.now ≡ take level (choices self.now.position) }
+    {
+        let (front, _) = self.machine.state().path.split_at(level);
+        front
+    }
+
+    /// Of the options left above the choice at a level, those whose cuts come before the branch's end.
+    fn before_end(&self, level: usize, above: &[u32]) -> Result<Vec<u32>, AllocError>
+        requires { above.now ≡ left_above self.now.problem level self.now.position }
+        ensures { IfOk result (λ options. options.items ≡ untried_in self.now level) }
+    {
+        let alloc = *self.machine.state().path.allocator();
+        if above.is_empty() {
+            return Ok(Vec::new(alloc));
+        }
+        cut_inside(&self.branch, self.front(level), above, alloc)
+    }
+
+    /// The options that are untried at a level: those left there above its choice whose cuts come before the branch's end.
+    pub fn untried(&self, level: usize) -> Result<Vec<u32>, AllocError>
+        ensures { IfOk result (λ options. options.items ≡
+            untried self.now.problem (end_of self.now.branch.hi) level self.now.position) }
+    {
+        let above = self.left_above(level)?;
+        self.before_end(level, &above)
+    }
+
+    /// The cut at an untried option of a level. Refused, in this order: where the option is left above the level's choice and
+    /// its cut doesn't come before the branch's end; where nothing is untried there; where the option isn't; and when out of
+    /// memory.
+    pub fn cut(&self, level: usize, option: u32) -> Result<Cut<'p>, RunnerFault>
+        ensures cut { IfOk result (λ cut. cut ≡ record {
+          problem = self.now.problem;
+          path = with_choice self.now.position level option;
+        }) }
+        ensures untried { OnOk result (has (untried_in self.now level) option ≡ true) }
+        ensures refused { IfErr result (CutRefused self.now level option) }
+    {
+        let Ok(above) = self.left_above(level) else {
+            return Err(RunnerFault::OutOfMemory);
+        };
+        let Ok(untried) = self.before_end(level, &above) else {
+            return Err(RunnerFault::OutOfMemory);
+        };
+        if untried.contains(&option) {
+            return self.cut_at(level, option);
+        }
+        if above.contains(&option) {
+            return Err(RunnerFault::OutsideBranch);
+        }
+        if untried.is_empty() {
+            return Err(RunnerFault::NothingUntried);
+        }
+        Err(RunnerFault::NotUntried)
+    }
+
+    /// The cut at an untried option of a level; refused when out of memory alone.
+    fn cut_at(&self, level: usize, option: u32) -> Result<Cut<'p>, RunnerFault>
+        requires { has (untried_in self.now level) option ≡ true }
+        ensures cut { IfOk result (λ cut. cut ≡ record {
+          problem = self.now.problem;
+          path = with_choice self.now.position level option;
+        }) }
+        ensures refused { IfErr result (λ fault. fault ≡ RunnerFault.OutOfMemory) }
+    {
+        let Ok(mut path) = Vec::from_slice(
+            *self.machine.state().path.allocator(),
+            self.front(level),
+        ) else {
+            return Err(RunnerFault::OutOfMemory);
+        };
+        let Ok(()) = path.push(option) else {
+            return Err(RunnerFault::OutOfMemory);
+        };
+        Ok(Cut::of_path(self.machine.problem(), path))
+    }
+
+    /// Whether the branch can be ended at a cut.
+    fn can_shorten(&self, cut: &Cut<'_>) -> bool
+        ensures { IsTrue result ↔ CanShorten self.now cut.now }
+    {
+        if !cut.problem().same(self.machine.problem()) {
+            return false;
+        }
+        if !is_before(&Place::of(self.machine.state()), &cut.place()) {
+            return false;
+        }
+        is_before(&cut.place(), &self.branch.end())
+    }
+
+    /// Ends the branch at a cut, without memory. Refused where the cut is another problem's, doesn't come after the position, or
+    /// doesn't come before the branch's end; nothing has then changed, and the cut comes back.
+    pub fn shorten(&mut self, cut: Cut<'p>) -> Result<(), Refused<RunnerFault, Cut<'p>>>
+        ensures shortened { OnOk result (self.new ≡ record self.old {
+          branch =
+              record self.old.branch { hi = Some cut.entry };
+        }) }
+        ensures can { OnOk result (CanShorten self.old cut.entry) }
+        ensures outside { OnErr result (CanShorten self.old cut.entry → ⊥) }
+        ensures refused { IfErr result (λ r. r.fault ≡ RunnerFault.OutsideBranch) }
+        ensures given_back { IfErr result (λ r. r.given ≡ cut.entry) }
+        ensures unchanged { OnErr result (self.new ≡ self.old) }
+    {
+        if !self.can_shorten(&cut) {
+            return Err(Refused {
+                fault: RunnerFault::OutsideBranch,
+                given: cut,
+            });
+        }
+        self.branch.hi = Some(cut);
+        Ok(())
+    }
+}

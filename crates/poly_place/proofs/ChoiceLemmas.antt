@@ -14,7 +14,8 @@ use Rattle.poly_place.specs.Tables.{IsTable, has_bit}
 use Rattle.poly_place.specs.Packings.{choice, is_needed, must_fill, is_useful}
 use Rattle.poly_place.specs.Compiled.{filled_cells, needed_names}
 use Rattle.poly_place.proofs.TestLemmas.{both_true}
-use Rattle.poly_place.proofs.DistinctLemmas.{in_from_filter, in_filter, in_from_name, name_from_in}
+use Rattle.poly_cells.proofs.MemberLemmas.{in_from_filter, in_filter}
+use Rattle.poly_place.proofs.DistinctLemmas.{in_from_name, name_from_in}
 
 needed_is : (p : PuzzleValue) (name : ℕ) → IsIn name (names_of p.pieces) → has_name (needed_names p) name ≡ is_needed p name
 needed_is p name i =

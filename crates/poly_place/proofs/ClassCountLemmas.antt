@@ -20,7 +20,7 @@ use Rattle.poly_place.specs.Classes.{is_member, part_at, is_empty, same_part, Ar
 use Rattle.poly_place.specs.ClassCount.{image_in, agree, carries, are_alike, count_new, class_count, AlikeIsTested, ClassesAreCounted}
 use Rattle.poly_place.specs.Forms.{IsKept}
 use Rattle.poly_place.proofs.OrderLemmas.{cells_total, cells_exact}
-use Rattle.poly_place.proofs.MemberLemmas.{all_pass, passes}
+use Rattle.poly_cells.proofs.MemberLemmas.{all_pass, passes}
 use Rattle.poly_place.proofs.DistinctLemmas.{some_passes, passes_some, at_of_in}
 use Rattle.poly_place.proofs.CarryLemmas.{maps_at, maps_are}
 use Rattle.poly_place.proofs.FormLemmas.{PartAlike}

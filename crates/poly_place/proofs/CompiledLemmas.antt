@@ -28,7 +28,7 @@ use Rattle.cover_problem.specs.Problem.{ProblemValue, IsProblem, is_name, is_nam
 use Rattle.poly_place.specs.Packings.{ChoiceValue, is_needed, must_fill, IsPlaced, choices, Thing, a_piece, a_cell, needed_things, things, index_among, item_of, things_of, option_of, thing_name, packing_problem}
 use Rattle.poly_place.specs.Compiled.{needed_names, filled_cells, entries_of, is_within}
 use Rattle.poly_place.proofs.TestLemmas.{le_true, true_le, true_lt, both_true}
-use Rattle.poly_place.proofs.MemberLemmas.{all_pass, passes}
+use Rattle.poly_cells.proofs.MemberLemmas.{all_pass, passes}
 use Rattle.poly_place.proofs.DistinctLemmas.{in_from_name, name_from_in, some_passes, IsDistinct, distinct_append, distinct_filter, distinct_map, distinct_rising, distinct_names}
 use Rattle.poly_place.proofs.CountLemmas.{long_map, long_append}
 use Rattle.poly_place.proofs.PackingLemmas.{has_shapes, placed_in}

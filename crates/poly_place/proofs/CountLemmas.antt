@@ -13,8 +13,7 @@ use Rattle.poly_cells.specs.CellTests.{has_cell}
 use Rattle.poly_texts.specs.Puzzle.{PuzzleValue, IsPuzzle, names_of, has_name}
 use Rattle.poly_place.specs.Packings.{is_needed, must_fill, needed_things, things, a_piece, a_cell}
 use Rattle.poly_place.specs.Compiled.{needed_names, filled_cells}
-use Rattle.poly_place.proofs.MemberLemmas.{passes}
-use Rattle.poly_place.proofs.DistinctLemmas.{in_from_filter, in_filter}
+use Rattle.poly_cells.proofs.MemberLemmas.{passes, in_from_filter, in_filter}
 
 -- ---- lengths
 

@@ -5,26 +5,11 @@ use Rattle.std.specs.List.{list_any}
 use Rattle.std.specs.List.Sorted.{IsStrictlySortedBy}
 use Rattle.std.proofs.lemmas.Bool.{and_parts, or_left, or_right, or_cases}
 use Rattle.poly_cells.specs.Sets.{IsIn}
+use Rattle.poly_cells.proofs.MemberLemmas.{in_from_filter, in_filter}
 use Rattle.poly_cells.proofs.SetLemmas.{in_append_cases, in_from_map, rising_head, rising_tail, not_itself, in_at}
 use Rattle.poly_texts.specs.Puzzle.{has_name, are_new}
 
--- ---- members of a filtered list, and tests on numbers
-
-pub in_from_filter : {X : Type 0} (test : X → Bool) (x : X) (xs : List X) → IsIn x (filter test xs) → IsIn x xs × (test x ≡ true)
-in_from_filter test x [] i = absurd i
-in_from_filter {X} test x (y ∷ ys) i = by_test (test y) refl (in_from_filter test x ys) i
-  where
-    by_test : (b : Bool) → test y ≡ b → (IsIn x (filter test ys) → IsIn x ys × (test x ≡ true)) → IsIn x (cond b (y ∷ filter test ys) (filter test ys)) → IsIn x (y ∷ ys) × (test x ≡ true)
-    by_test true h rest j = elim j [ inl e ↦ (inl e, subst (λ (z : X). test z ≡ true) (sym e) h) | inr r ↦ let more = rest r in (inr more.0, more.1) ]
-    by_test false h rest j = let more = rest j in (inr more.0, more.1)
-
-pub in_filter : {X : Type 0} (test : X → Bool) (x : X) (xs : List X) → IsIn x xs → test x ≡ true → IsIn x (filter test xs)
-in_filter test x [] i h = absurd i
-in_filter {X} test x (y ∷ ys) i h = by_test (test y) refl (λ r. in_filter test x ys r h)
-  where
-    by_test : (b : Bool) → test y ≡ b → (IsIn x ys → IsIn x (filter test ys)) → IsIn x (cond b (y ∷ filter test ys) (filter test ys))
-    by_test true t rest = elim i [ inl e ↦ inl e | inr r ↦ inr (rest r) ]
-    by_test false f rest = elim i [ inl e ↦ let t = subst (λ (z : X). test z ≡ true) e h in cc | inr r ↦ rest r ]
+-- ---- a test that some member passes, and tests on numbers
 
 pub some_passes : {X : Type 0} (test : X → Bool) (xs : List X) → list_any test xs ≡ true → (x : X) × IsIn x xs × (test x ≡ true)
 some_passes test [] h = cc

@@ -8,22 +8,13 @@ use Rattle.poly_cells.specs.Sets.{IsIn, by_order, IsExact}
 use Rattle.poly_cells.proofs.SetLemmas.{cases_order, turned_back, not_itself}
 use Rattle.poly_place.specs.Forms.{forms_cmp, lesser, form_by, least_from}
 use Rattle.poly_place.proofs.ChosenLemmas.{nat_exact}
+use Rattle.poly_place.proofs.OrderLemmas.{lists_exact}
 
 pub forms_total : IsTotalOrder forms_cmp
 forms_total = lists_total nat_cmp_total
 
-then_equal : (a b : Ordering) → ordering_then a b ≡ Equal → (a ≡ Equal) × (b ≡ Equal)
-then_equal Less b h = cc
-then_equal Equal b h = (refl, h)
-then_equal Greater b h = cc
-
 pub forms_exact : IsExact forms_cmp
-forms_exact [] [] h = refl
-forms_exact [] (y ∷ ys) h = cc
-forms_exact (x ∷ xs) [] h = cc
-forms_exact (x ∷ xs) (y ∷ ys) h =
-    let parts = then_equal (nat_cmp x y) (forms_cmp xs ys) h in
-    ap₂ (λ (m : ℕ) (ms : List ℕ). m ∷ ms) (nat_exact x y parts.0) (forms_exact xs ys parts.1)
+forms_exact = lists_exact nat_exact
 
 -- `==` of two forms agrees with the order
 pub forms_ties : (xs ys : List ℕ) → pointwise (λ (m n : ℕ). m == n) xs ys ≡ eq_by_cmp forms_cmp xs ys

@@ -1,6 +1,5 @@
 pub mod TestLemmas
 pub mod OrderLemmas
-pub mod MemberLemmas
 pub mod MoveLemmas
 pub mod PlacementLemmas
 pub mod TableLemmas

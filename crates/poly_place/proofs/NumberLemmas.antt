@@ -14,9 +14,9 @@ use Rattle.poly_texts.specs.Puzzle.{PuzzleValue, IsPuzzle, names_of, has_name}
 use Rattle.poly_place.specs.Packings.{must_fill, Thing, a_piece, a_cell, same_thing, needed_things, index_among, item_of}
 use Rattle.poly_place.specs.Tables.{bit_index}
 use Rattle.poly_place.specs.Compiled.{needed_names, filled_cells, number_at, numbered, AreNumbers}
-use Rattle.poly_place.proofs.MemberLemmas.{passes}
+use Rattle.poly_cells.proofs.MemberLemmas.{passes, in_from_filter, in_filter}
 use Rattle.poly_place.proofs.CountLemmas.{long_map}
-use Rattle.poly_place.proofs.DistinctLemmas.{in_from_filter, in_filter, in_from_name, IsDistinct, distinct_filter, distinct_rising}
+use Rattle.poly_place.proofs.DistinctLemmas.{in_from_name, IsDistinct, distinct_filter, distinct_rising}
 use Rattle.poly_place.proofs.TableLemmas.{low, bit_index_same}
 use Rattle.poly_place.proofs.ThingLemmas.{same_is, place_here, place_later, bool_cases, place_in, place_append, nothing, needed_piece, needed_cell, needed_cases, not_false}
 

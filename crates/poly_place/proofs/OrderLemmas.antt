@@ -3,6 +3,7 @@ use Rattle.std.proofs.Common.{◌≡◌, List, [], ◌∷◌, refl, ap₂, Order
 use Rattle.std.specs.Cmp.{IsTotalOrder}
 use Rattle.std.specs.Cmp.Lexicographic.{pointwise, lists_ties}
 use Rattle.std.specs.Ordering.{ordering_then, eq_by_cmp}
+use Rattle.std.specs.Cmp.Lexicographic.{slice_cmp}
 use Rattle.std.proofs.lemmas.Cmp.{lists_total}
 use Rattle.poly_cells.specs.Coordinates.{Coordinates, coordinates_cmp}
 use Rattle.poly_cells.specs.Sets.{IsExact}
@@ -18,13 +19,17 @@ then_equal Less b h = cc
 then_equal Equal b h = (refl, h)
 then_equal Greater b h = cc
 
+-- lists of things with an exact order have one
+pub lists_exact : {K : Type 0} {R : K → K → Ordering} → IsExact R → IsExact (slice_cmp R)
+lists_exact exact [] [] h = refl
+lists_exact exact [] (y ∷ ys) h = cc
+lists_exact exact (x ∷ xs) [] h = cc
+lists_exact {K} {R} exact (x ∷ xs) (y ∷ ys) h =
+    let parts = then_equal (R x y) (slice_cmp R xs ys) h in
+    ap₂ (λ (v : K) (vs : List K). v ∷ vs) (exact x y parts.0) (lists_exact exact xs ys parts.1)
+
 pub cells_exact : IsExact cells_cmp
-cells_exact [] [] h = refl
-cells_exact [] (y ∷ ys) h = cc
-cells_exact (x ∷ xs) [] h = cc
-cells_exact (x ∷ xs) (y ∷ ys) h =
-    let parts = then_equal (coordinates_cmp x y) (cells_cmp xs ys) h in
-    ap₂ (λ (v : Coordinates) (vs : List Coordinates). v ∷ vs) (coordinates_exact x y parts.0) (cells_exact xs ys parts.1)
+cells_exact = lists_exact coordinates_exact
 
 -- `==` of two sets agrees with the order
 pub cells_ties : (xs ys : List Coordinates) → pointwise is_same xs ys ≡ eq_by_cmp cells_cmp xs ys

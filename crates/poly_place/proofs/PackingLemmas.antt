@@ -17,9 +17,9 @@ use Rattle.std.proofs.lemmas.Cmp.{tied_itself}
 use Rattle.poly_place.proofs.OrderLemmas.{cells_total, cells_exact}
 use Rattle.poly_place.specs.Chosen.{same_choice}
 use Rattle.poly_place.proofs.TestLemmas.{both_true, le_true, lt_true, true_le, true_lt}
-use Rattle.poly_place.proofs.MemberLemmas.{in_flat_map, in_from_flat_map}
+use Rattle.poly_cells.proofs.MemberLemmas.{in_flat_map, in_from_flat_map, in_from_filter, in_filter}
 use Rattle.poly_place.proofs.PlacementLemmas.{sound, complete, placements_rise}
-use Rattle.poly_place.proofs.DistinctLemmas.{in_from_filter, in_filter, some_passes, passes_some, IsDistinct, distinct_append, distinct_filter, distinct_map, distinct_rising, distinct_names, at_of_in, distinct_at}
+use Rattle.poly_place.proofs.DistinctLemmas.{some_passes, passes_some, IsDistinct, distinct_append, distinct_filter, distinct_map, distinct_rising, distinct_names, at_of_in, distinct_at}
 use Rattle.poly_place.proofs.ThingLemmas.{item_same, item_positive, item_needed, needed_in, needed_piece, needed_cell, needed_cases, needed_at, parts_in, has_item, thing_of_item}
 
 -- ---- the pieces and the region are shapes

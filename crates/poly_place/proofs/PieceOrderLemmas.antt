@@ -17,7 +17,8 @@ use Rattle.cover_problem.specs.ExactCover.{IsExactCover}
 use Rattle.poly_place.specs.Packings.{ChoiceValue, choice, choices, choices_of, choice_at, packing_problem}
 use Rattle.poly_place.specs.Chosen.{chosen_by, is_among, same_choice, names_in, AreInPieceOrder}
 use Rattle.poly_place.specs.Forms.{place_in}
-use Rattle.poly_place.proofs.DistinctLemmas.{IsDistinct, distinct_names, in_from_filter, in_filter, in_from_name, name_from_in, passes_some}
+use Rattle.poly_cells.proofs.MemberLemmas.{in_from_filter, in_filter}
+use Rattle.poly_place.proofs.DistinctLemmas.{IsDistinct, distinct_names, in_from_name, name_from_in, passes_some}
 use Rattle.poly_place.proofs.FormLemmas.{place_tells}
 use Rattle.poly_place.proofs.TestLemmas.{lt_true, lt_false}
 use Rattle.poly_place.proofs.PackingLemmas.{same_choice_itself, count_back, named_by, named_among, same_number, chosen_in}

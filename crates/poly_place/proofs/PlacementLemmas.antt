@@ -1,5 +1,5 @@
 -- The list of placements has exactly the placements of the piece in the region, each once, in order.
-use Rattle.std.proofs.Common.{◌≡◌, ℕ, ◌+◌, ◌<◌, List, [], ◌∷◌, map, length, Bool, true, ◌&&◌, nat_le, inl, inr, refl, sym, ap, subst, ◌∙◌, arith}
+use Rattle.std.proofs.Common.{◌≡◌, ℕ, ◌+◌, ◌<◌, List, [], ◌∷◌, map, length, Bool, true, false, cond, ◌&&◌, nat_le, inl, inr, refl, sym, ap, subst, ◌∙◌, arith}
 use Rattle.std.specs.List.{list_all, flat_map}
 use Rattle.std.specs.List.Sorted.{IsStrictlySortedBy}
 use Rattle.std.proofs.lemmas.Bool.{and_from}
@@ -10,6 +10,7 @@ use Rattle.poly_cells.specs.Symmetries.{rotations}
 use Rattle.poly_cells.specs.Sets.{IsIn, in_order}
 use Rattle.poly_cells.specs.Shapes.{IsShape, moved, moved_back, turned}
 use Rattle.poly_cells.specs.Images.{IsImage}
+use Rattle.poly_cells.proofs.MemberLemmas.{in_flat_map, in_from_flat_map, all_pass, passes}
 use Rattle.poly_cells.proofs.SetLemmas.{in_map, in_from_map, in_order_rises, in_from_order, in_to_order}
 use Rattle.poly_cells.proofs.ImageLemmas.{turned_is, some_from_in, in_from_some}
 use Rattle.poly_cells.proofs.ShapeLemmas.{turned_is_shape}
@@ -18,9 +19,18 @@ use Rattle.poly_cells.specs.CellTests.{has_cell}
 use Rattle.poly_place.specs.Placements.{cells_cmp, IsPlacement, ArePlacements, is_below, if_inside, at_cell, at_cells, orientations, placements}
 use Rattle.poly_place.specs.Tables.{has_bit, IsTable}
 use Rattle.poly_place.proofs.OrderLemmas.{cells_total, cells_exact}
-use Rattle.poly_place.proofs.MemberLemmas.{in_flat_map, in_from_flat_map, in_cond, in_from_cond, all_pass, passes}
 use Rattle.poly_place.proofs.WalkLemmas.{at_cells_same}
 use Rattle.poly_place.proofs.MoveLemmas.{moved_rises, moved_image, moved_by, is_moved}
+
+-- ---- members under a test
+
+in_cond : {X : Type 0} (b : Bool) (x : X) (xs : List X) → b ≡ true → IsIn x xs → IsIn x (cond b xs [])
+in_cond true x xs h i = i
+in_cond false x xs h i = cc
+
+in_from_cond : {X : Type 0} (b : Bool) (x : X) (xs : List X) → IsIn x (cond b xs []) → (b ≡ true) × IsIn x xs
+in_from_cond true x xs i = (refl, i)
+in_from_cond false x xs i = absurd i
 
 -- ---- a set of the list is the piece, turned, moved up and inside
 

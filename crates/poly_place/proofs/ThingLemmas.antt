@@ -10,7 +10,8 @@ use Rattle.poly_cells.specs.CellTests.{has_cell}
 use Rattle.poly_texts.specs.Puzzle.{PuzzleValue, IsPuzzle, names_of, has_name}
 use Rattle.cover_problem.specs.Lists.{has}
 use Rattle.poly_place.specs.Packings.{ChoiceValue, is_needed, must_fill, IsPlaced, Thing, a_piece, a_cell, same_thing, needed_things, things, index_among, item_of, things_of}
-use Rattle.poly_place.proofs.DistinctLemmas.{in_from_filter, in_filter, some_passes, passes_some, in_from_name, IsDistinct, distinct_append, distinct_filter, distinct_map, distinct_rising, distinct_names, distinct_at}
+use Rattle.poly_cells.proofs.MemberLemmas.{in_from_filter, in_filter}
+use Rattle.poly_place.proofs.DistinctLemmas.{some_passes, passes_some, in_from_name, IsDistinct, distinct_append, distinct_filter, distinct_map, distinct_rising, distinct_names, distinct_at}
 
 -- ---- the test
 

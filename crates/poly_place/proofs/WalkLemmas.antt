@@ -13,7 +13,7 @@ use Rattle.poly_cells.proofs.SetLemmas.{in_map, in_at}
 use Rattle.poly_cells.proofs.GroupLemmas.{are_rotations}
 use Rattle.poly_place.specs.Placements.{cells_cmp, at_cell, at_cells, is_below, orientations}
 use Rattle.poly_place.specs.Tables.{has_bit}
-use Rattle.poly_place.proofs.MemberLemmas.{passes}
+use Rattle.poly_cells.proofs.MemberLemmas.{passes}
 use Rattle.poly_place.proofs.TableLemmas.{bit_in}
 
 -- ---- cells moved, one by one

@@ -8,7 +8,7 @@ ghost use Rattle.poly_place.specs.Layers.{AreSymbols, far_corner, layer_lines, l
 
 use crate::packing::Packing;
 use crate::table::bit_index;
-use poly_cells::Cell;
+use poly_cells::{Cell, corner_of};
 use std::alloc::{AllocError, Global};
 
 // How many cells there are within the limits.
@@ -29,7 +29,7 @@ pub fn layers(alloc: Global, packing: &Packing<'_>) -> Result<String, AllocError
     push_lines(
         &mut text,
         symbols.as_slice(),
-        near_corner(cells),
+        corner_of(cells),
         far_corner(cells),
     )?;
     Ok(text)
@@ -139,19 +139,6 @@ fn paint(symbols: &mut [u8], cells: &[Cell], symbol: u8)
     for cell in cells {
         symbols[bit_index(cell.x(), cell.y(), cell.z())] = symbol;
     }
-}
-
-// The least x, the least y and the least z.
-fn near_corner(cells: &[Cell]) -> Cell
-    ensures { result ≡ corner cells.now }
-{
-    let (mut x, mut y, mut z) = (LAST, LAST, LAST);
-    for cell in cells {
-        x = x.min(cell.x());
-        y = y.min(cell.y());
-        z = z.min(cell.z());
-    }
-    Cell::new(x, y, z).unwrap()
 }
 
 // The greatest x, the greatest y and the greatest z.

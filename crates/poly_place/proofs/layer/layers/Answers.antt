@@ -11,4 +11,4 @@ returns c =
     let region = c.cells-cells.ensures.value ∙ c.region.ensures in
     c.in_ok-push_lines.ensures (symbol_at c.args.packing.now) (subst (AreSymbols (symbol_at c.args.packing.now)) (sym c.as_slice.ensures.value) c.in_ok-symbols.ensures)
     ∙ ap₂ (λ (before lines : List ℕ). before ++ lines) c.new-text.ensures.bytes
-    (ap₂ (λ (low high : Coordinates). text_of (layer_lines (symbol_at c.args.packing.now) low high)) (c.near_corner.ensures ∙ ap corner region) (c.far_corner.ensures ∙ ap far_corner region))
+    (ap₂ (λ (low high : Coordinates). text_of (layer_lines (symbol_at c.args.packing.now) low high)) (c.corner_of.ensures.value ∙ ap corner region) (c.far_corner.ensures ∙ ap far_corner region))

@@ -250,6 +250,7 @@ module _ (p : ProblemValue) (active : ℕ → Bool) (problem : IsProblem p) (i k
     can_hide : CanHide es q
     can_hide = record {
       here = low shown es s;
+      begin = (let l = left_is shown es s in omega arith);
       end = (let r = right_is shown es s in let l = long in omega arith);
       after = subst (λ n. CanHideRun es (suc q) n) (sym (after_count (right_at es q) (right_is shown es s))) one.can;
       before = subst (λ (w : List Entry × ℕ × ℕ). CanHideRun w.0 w.1 w.2) (λ j. (sym after_is j, sym (left_is shown es s) j, sym (before_count (left_at es q) (left_is shown es s)) j)) two.can;

@@ -42,6 +42,7 @@ CanUnhideRun es a b = (q : ℕ) → a ≤ q → q < b → CanUnhideNode (run_unh
 -- the others of p's option can be hidden
 pub record CanHide (es : List Entry) (p : ℕ) : Type 0 where
   pub here : p < length es
+  pub begin : (entry_at es p).left ≤ p
   pub end : p < (entry_at es p).right
   pub after : CanHideRun es (suc p) ((entry_at es p).right - suc p)
   pub before : CanHideRun (after_hidden es p) (entry_at es p).left (p - (entry_at es p).left)

@@ -1,9 +1,9 @@
 //! Taking entries out of their lists and putting them back, and the covering of an item made of it.
 //! (TAOCP volume 4B, section 7.2.2.1, (1), (2) and (12) to (15).)
-ghost use Rattle.std.specs.Prelude.{◌≡◌, ◌≤◌, ◌-◌};
+ghost use Rattle.std.specs.Prelude.{◌≡◌, ◌<◌, ◌≤◌, ◌+◌, ◌-◌, ◌==◌, if◌then◌else◌};
 ghost use Rattle.cover_links.specs.Entries.{unlinked, relinked, item_unlinked, item_relinked};
-ghost use Rattle.cover_links.specs.Hiding.{node_hidden, node_unhidden, run_hidden, run_unhidden, hidden, unhidden, item_covered, item_uncovered};
-ghost use Rattle.cover_links.specs.Safety.{IsInside, IsItemInside, CanHideNode, CanUnhideNode, CanHideRun, CanUnhideRun, CanHide, CanUnhide, CanCoverItem, CanUncoverItem};
+ghost use Rattle.cover_links.specs.Hiding.{node_hidden, node_unhidden, hidden, unhidden, item_covered, item_uncovered};
+ghost use Rattle.cover_links.specs.Safety.{IsInside, IsItemInside, CanHideNode, CanUnhideNode, CanHide, CanUnhide, CanCoverItem, CanUncoverItem};
 
 use crate::block::Block;
 use crate::entry::Entry;
@@ -114,38 +114,42 @@ pub(crate) fn unhide_node(block: &mut Block, index: u32)
     relink(block, index);
 }
 
-/// Hides the nodes from one up to another.
+/// The place after one in an option, whose nodes stand from `start` up to `end`: after the last comes the first.
 #[inline(always)]
-fn hide_run(block: &mut Block, from: u32, to: u32)
-    requires { CanHideRun block.old from (to - from) }
-    ensures { block.new ≡ run_hidden block.old from (to - from) }
+fn place_after(place: u32, start: u32, end: u32) -> u32
+    requires { place < end }
+    ensures { result ≡ (if place + 1 == end then start else place + 1) }
 {
-    for index in from..to {
-        hide_node(block, index);
-    }
+    if place + 1 == end { start } else { place + 1 }
 }
 
-/// Puts them back, the last one first.
+/// The place before one: before the first comes the last.
 #[inline(always)]
-fn unhide_run(block: &mut Block, from: u32, to: u32)
-    requires order { from ≤ to }
-    requires can { CanUnhideRun block.old from to }
-    ensures { block.new ≡ run_unhidden block.old from (to - from) }
+fn place_before(place: u32, start: u32, end: u32) -> u32
+    requires within { start ≤ place }
+    requires some { start < end }
+    ensures { result ≡ (if place == start then end - 1 else place - 1) }
 {
-    for index in (from..to).rev() {
-        unhide_node(block, index);
-    }
+    if place == start { end - 1 } else { place - 1 }
 }
 
-/// Hides the other nodes of a node's option: those after it, then those before it.
+/// Hides the other nodes of a node's option: those after it, then those before it. One loop goes round the option, so that its
+/// number of turns is the option's length less one, which the processor foresees.
 #[inline(always)]
 fn hide(block: &mut Block, index: u32)
     requires { CanHide block.old index }
     ensures { block.new ≡ hidden block.old index }
 {
-    let Entry { left, right, .. } = block.read(index);
-    hide_run(block, index + 1, right);
-    hide_run(block, left, index);
+    let Entry {
+        left: start,
+        right: end,
+        ..
+    } = block.read(index);
+    let mut node = place_after(index, start, end);
+    while node != index {
+        hide_node(block, node);
+        node = place_after(node, start, end);
+    }
 }
 
 /// Puts them back, in the reverse order.
@@ -159,8 +163,11 @@ fn unhide(block: &mut Block, index: u32)
         right: end,
         ..
     } = block.read(index);
-    unhide_run(block, start, index);
-    unhide_run(block, index + 1, end);
+    let mut node = place_before(index, start, end);
+    while node != index {
+        unhide_node(block, node);
+        node = place_before(node, start, end);
+    }
 }
 
 /// Covers an item: hides the options of its list, and takes it out of the row of active items.

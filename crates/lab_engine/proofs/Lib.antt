@@ -1,5 +1,6 @@
 mod LineLemmas
 mod AccountLemmas
+mod TotalLemmas
 mod SearchLemmas
 pub mod ClassifiedLemmas
 mod ListingLemmas

@@ -1,12 +1,10 @@
 -- The account of a search: its visits, where they are kept, and how many visits, steps and X2 states at each level it had.
-use Rattle.std.specs.Prelude.{ℕ, suc, ◌+◌, Bool, true, false, ◌&&◌, List, [], ◌∷◌, ◌++◌, length, map, slice_index, slice_set, replicate, if◌then◌else◌}
+use Rattle.std.specs.Prelude.{ℕ, suc, ◌+◌, ◌<◌, ◌≡◌, Bool, true, false, ◌&&◌, List, [], ◌∷◌, ◌++◌, length, map, slice_index, replicate, if◌then◌else◌}
 use Rattle.cover_problem.specs.Lists.{numbers}
 use Rattle.cover_problem.specs.Problem.{ProblemValue}
-use Rattle.x_steps.specs.declared.state.Label.{Label}
 use Rattle.x_steps.specs.declared.event.Event.{Event}
 use Rattle.x_steps.specs.declared.event.Event.TheVariants.{Visited}
 use Rattle.x_steps.specs.StateValue.{StateValue}
-use Rattle.x_steps.specs.Steps.{is_level}
 use Rattle.x_steps.specs.Run.{visits, level_count}
 
 -- the visits that are kept, the number of visits and of steps, and the number of X2 states at each level from 0 on
@@ -38,27 +36,24 @@ abbrev pub is_visited : Event → Bool
 is_visited Visited = true
 is_visited _ = false
 
--- one more at a place of a list
-abbrev pub one_more : List ℕ → ℕ → List ℕ
-one_more counts place = slice_set counts place (slice_index counts place + 1)
-
--- the visits that are kept, after a step that ends at this path
+-- the visits that are kept, after steps the last of which ends at this path
 abbrev pub kept_with : Bool → List (List ℕ) → Event → List ℕ → List (List ℕ)
 kept_with keeps visits event path = if keeps && is_visited event then visits ++ path ∷ [] else visits
 
--- the number of visits, after a step
+-- the number of visits, after steps the last of which tells this
 abbrev pub visits_with : ℕ → Event → ℕ
 visits_with count event = if is_visited event then count + 1 else count
 
--- the counts of X2 states at each level, after a step with this label and a path of so many choices
-abbrev pub levels_with : List ℕ → Label → ℕ → List ℕ
-levels_with counts label level = if is_level label then one_more counts level else counts
-
--- an account with one step more: the step's label, its event, and the path there
-abbrev pub with_step : Bool → Account → Label → Event → List ℕ → Account
-with_step keeps a label event path = record {
+-- an account with n steps more, but for the levels: what the last of them tells, and the path there
+abbrev pub with_walk : Bool → Account → ℕ → Event → List ℕ → Account
+with_walk keeps a n event path = record {
   visits = kept_with keeps a.visits event path;
   visited = visits_with a.visited event;
-  steps = a.steps + 1;
-  entered = levels_with a.entered label (length path);
+  steps = a.steps + n;
+  entered = a.entered;
 }
+
+-- to the count of each level is added another
+pub record AreSums (old more new : List ℕ) : Type 0 where
+  pub levels : length new ≡ length old
+  pub each : (level : ℕ) → level < length old → slice_index new level ≡ slice_index old level + slice_index more level

@@ -1,8 +1,7 @@
-//! The report of a search, gathered step by step.
-ghost use Rattle.std.specs.Prelude.{◌≡◌, ◌<◌, ◌++◌, true, length, replicate, IfOk, OnOk, IsTrue, ◌↔◌, ◌-◌, Some, slice_get};
+//! The report of a search, gathered walk by walk.
+ghost use Rattle.std.specs.Prelude.{◌≡◌, ◌++◌, length, replicate, IfOk, OnOk, IsTrue, ◌↔◌, ◌-◌, Some, slice_get};
 ghost use Rattle.text_lines.specs.Writing.{text_of};
-ghost use Rattle.x_steps.specs.Steps.{is_level};
-ghost use Rattle.lab_engine.specs.Account.{with_step, one_more, empty_account, kept_with, levels_with, visits_with};
+ghost use Rattle.lab_engine.specs.Account.{AreSums, with_walk, empty_account, kept_with, visits_with};
 ghost use Rattle.lab_engine.specs.Output.{step_lines};
 ghost use Rattle.x_steps.specs.Levels.{without_last_zeros};
 
@@ -10,7 +9,7 @@ use crate::count::Count;
 use crate::lines::{push_number_line, push_numbers_line};
 use std::alloc::{AllocError, Global};
 use std::marker::Model;
-use x_steps::{Event, Label, Paths};
+use x_steps::{Event, Paths, Walk};
 
 /// The visits that are kept, and the numbers of visits, of steps, and of X2 states at each level.
 #[derive(Drop)]
@@ -45,13 +44,15 @@ fn no_counts(alloc: Global, count: usize) -> Result<Vec<Count>, AllocError>
     Ok(counts)
 }
 
-/// Counts one more at a place.
-fn count_at(counts: &mut Vec<Count>, place: usize) -> Result<(), AllocError>
-    requires { place < length counts.old.items }
-    ensures { OnOk result (counts.new.items ≡ one_more counts.old.items place) }
+/// Adds to each total its count.
+fn add_each(totals: &mut [Count], counts: &[u32]) -> Result<(), AllocError>
+    requires { length counts.now ≡ length totals.old }
+    ensures { OnOk result (AreSums totals.old counts.now totals.new) }
 {
-    let count = &mut counts[place];
-    count.add_one()
+    for (level, count) in counts.iter().enumerate() {
+        totals[level].add(*count)?;
+    }
+    Ok(())
 }
 
 /// Whether the last of the counts is a zero.
@@ -95,21 +96,22 @@ impl Report {
         })
     }
 
-    /// Notes a step: its label, its event, and the path there, which is kept where it is a visit and visits are kept.
-    pub fn note(
-        &mut self,
-        keeps: bool,
-        label: Label,
-        event: Event,
-        path: &[u32],
-    ) -> Result<(), AllocError>
-        requires { is_level label ≡ true → length path.now < length self.old.entered }
-        ensures { OnOk result (self.new ≡ with_step keeps self.old label event path.now) }
+    /// Notes a walk: its steps, and its visit, if it came to one; the path there is kept where visits are kept.
+    pub fn note(&mut self, keeps: bool, walk: Walk, path: &[u32]) -> Result<(), AllocError>
+        ensures { OnOk result (self.new ≡ with_walk keeps self.old walk.steps walk.event path.now) }
     {
-        self.steps.add_one()?;
-        note_level(&mut self.entered, label, path.len())?;
-        note_visit(&mut self.visited, event)?;
-        keep_visit(&mut self.visits, keeps, event, path)
+        self.steps.add(walk.steps)?;
+        note_visit(&mut self.visited, walk.event)?;
+        keep_visit(&mut self.visits, keeps, walk.event, path)
+    }
+
+    /// Adds counts of X2 states, one for each level.
+    pub fn add_counts(&mut self, counts: &[u32]) -> Result<(), AllocError>
+        requires { length counts.now ≡ length self.old.entered }
+        ensures others { OnOk result (self.new ≡ record self.old { entered = self.new.entered }) }
+        ensures sums { OnOk result (AreSums self.old.entered counts.now self.new.entered) }
+    {
+        add_each(&mut self.entered, counts)
     }
 
     /// The visits that are kept.
@@ -137,28 +139,17 @@ impl Report {
     }
 }
 
-/// Notes an X2 state at its level.
-fn note_level(entered: &mut Vec<Count>, label: Label, level: usize) -> Result<(), AllocError>
-    requires { is_level label ≡ true → level < length entered.old.items }
-    ensures { OnOk result (entered.new.items ≡ levels_with entered.old.items label level) }
-{
-    match label {
-        Label::X2 => count_at(entered, level),
-        _ => Ok(()),
-    }
-}
-
-/// Counts a visit, if the step came to one.
+/// Counts a visit, if the walk came to one.
 fn note_visit(visited: &mut Count, event: Event) -> Result<(), AllocError>
     ensures { OnOk result (visited.new ≡ visits_with visited.old event) }
 {
     match event {
-        Event::Visited => visited.add_one(),
+        Event::Visited => visited.add(1),
         _ => Ok(()),
     }
 }
 
-/// Keeps a visit, if the step came to one and visits are kept.
+/// Keeps a visit, if the walk came to one and visits are kept.
 fn keep_visit(visits: &mut Paths, keeps: bool, event: Event, path: &[u32]) -> Result<(), AllocError>
     ensures { OnOk result (visits.new ≡ kept_with keeps visits.old event path.now) }
 {

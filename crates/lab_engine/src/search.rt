@@ -6,7 +6,7 @@ ghost use Rattle.lab_engine.specs.Output.{whole_account};
 use crate::report::Report;
 use cover_problem::{Problem, Table};
 use std::alloc::{AllocError, Global};
-use x_steps::Machine;
+use x_steps::{Machine, no_counts};
 
 /// Takes the run of the problem from X1 to Done, and reports it: the totals, and the visits in path order where they are kept.
 pub fn search<T: Table>(alloc: Global, problem: &Problem, keeps: bool) -> Result<Report, AllocError>
@@ -19,11 +19,19 @@ pub fn search<T: Table>(alloc: Global, problem: &Problem, keeps: bool) -> Result
         return Err(AllocError);
     };
     let mut report = Report::new(alloc, items)?;
+    let mut counts = no_counts(alloc, items)?;
+    let mut room = u32::MAX;
     loop {
-        let label = machine.state().label;
-        let Ok(event) = machine.step() else {
+        let Ok(walk) = machine.walk(room, &[], &mut counts) else {
+            report.add_counts(&counts)?;
             return Ok(report);
         };
-        report.note(keeps, label, event, &machine.state().path)?;
+        report.note(keeps, walk, &machine.state().path)?;
+        room -= walk.steps;
+        if room == 0 {
+            report.add_counts(&counts)?;
+            counts = no_counts(alloc, items)?;
+            room = u32::MAX;
+        }
     }
 }

@@ -120,13 +120,6 @@ same_front [] (y ∷ ys) us vs e n = let m = ap (length {A = List ℕ}) e in let
 same_front (x ∷ xs) [] us vs e n = let m = ap (length {A = List ℕ}) e in let l = length-append xs us in absurd (omega arith)
 same_front (x ∷ xs) (y ∷ ys) us vs e n = let h : x ≡ y = cc in let t : xs ++ us ≡ ys ++ vs = cc in ap₂ (λ (z : List ℕ) (zs : List (List ℕ)). z ∷ zs) h (same_front xs ys us vs t n)
 
--- a vector that was lent whole has what it was given
-pub lent_whole : (xs ys : List ℕ) (len : ℕ) → length xs ≡ length ys → len ≡ length ys → take len (xs ++ drop (length xs) ys) ≡ xs
-lent_whole xs ys len e f =
-    let a : drop (length xs) ys ≡ [] = emptied (drop (length xs) ys) (omega (arith, length-drop (length xs) ys)) in
-    let b : len ≡ length xs = omega arith in
-    ap₂ (λ (n : ℕ) (zs : List ℕ). take n (xs ++ zs)) b a ∙ ap (take (length xs)) (append-nil xs) ∙ take_all (length xs) xs (le_refl (length xs))
-
 -- ---- a runner
 
 module _ (r : RunnerValue) (steps : ℕ) (visits : List (List ℕ)) (counts : List ℕ) (k : KeepsRunner r steps visits counts) where

@@ -18,7 +18,7 @@ use crate::fault::{RunnerFault, StartFault};
 use cover_problem::{Problem, Table};
 use std::alloc::{AllocError, Global};
 use std::marker::Model;
-use x_steps::{Event, Label, Machine, Paths, Refused, State};
+use x_steps::{Event, Label, Machine, Paths, Refused, State, no_counts};
 
 /// A search in one branch of a run. The stretch from its mark up to its position is unposted: the runner keeps how many steps
 /// it has, its visits, and how many X2 states it has at each level.
@@ -110,13 +110,6 @@ fn forget<T: Table>(machine: &Machine<'_, T>, visits: &mut Paths, counts: &mut [
         visits.pop();
     }
     discount(counts, machine.state());
-}
-
-/// No count, for each level from 0 up to this one.
-fn no_counts(alloc: Global, most: u32) -> Result<Vec<u32>, AllocError>
-    ensures { IfOk result (λ counts. counts.items ≡ replicate (most + 1) 0) }
-{
-    vec![in alloc; 0; most as usize + 1]
 }
 
 impl<'p, T: Table> Runner<'p, T> {

@@ -105,13 +105,17 @@ get_or-numbers zero k i d l = absurd (omega arith)
 get_or-numbers (suc n) k zero d l = omega arith
 get_or-numbers (suc n) k (suc i) d l = let e = get_or-numbers n (suc k) i d (omega arith) in omega arith
 
+-- of what is told of each level, the one at a level
+pub counts_at : (count : ℕ → ℕ) (n level d : ℕ) → level < n → get_or (map count (numbers n 0)) level d ≡ count level
+counts_at count n level d l =
+    let e = length-numbers n 0 in
+    let f = get_or-numbers n 0 level 0 l in
+    get_or-map count (numbers n 0) level 0 d (omega arith) ∙ ap count (let g : get_or (numbers n 0) level 0 ≡ level = omega arith in g)
+
 -- the count at each level
 pub levels_at : (p : ProblemValue) (s t : StateValue) (level d : ℕ) → level ≤ length p.names → get_or (levels p s t) level d ≡ level_count (states_between p s t) level
 unfolding levels
-levels_at p s t level d l =
-    let e = length-numbers (length p.names + 1) 0 in
-    let f = get_or-numbers (length p.names + 1) 0 level 0 (omega arith) in
-    get_or-map (level_count (states_between p s t)) (numbers (length p.names + 1) 0) level 0 d (omega arith) ∙ ap (level_count (states_between p s t)) (let g : get_or (numbers (length p.names + 1) 0) level 0 ≡ level = omega arith in g)
+levels_at p s t level d l = counts_at (level_count (states_between p s t)) (length p.names + 1) level d (omega arith)
 
 pub level_count_next : (p : ProblemValue) (s t : StateValue) (level : ℕ) → Fits p s → Fits p t → rank p s ≤ rank p t → (t.label ≡ Done → ⊥) → level_count (states_between p s (next p t)) level ≡ level_count (states_between p s t) level + cond (is_level t.label && (length t.path == level)) 1 0
 level_count_next p s t level f g l h = ap (λ ss. level_count ss level) (states_between_next p s t f g l h) ∙ level_count_push (states_between p s t) t level

@@ -16,6 +16,9 @@ pub mod MarkedLemmas
 pub mod ResumeLemmas
 pub mod SecondLemmas
 pub mod Length
+pub mod WalkLemmas
+pub mod RoundLemmas
 pub mod OrderLemmas
 pub mod VisitLemmas
 pub mod StepExamples
+pub mod WalkExamples

@@ -4,6 +4,7 @@ pub mod Steps
 pub mod Before
 pub mod Run
 pub mod Levels
+pub mod Walk
 pub mod Paths
 pub mod Order
 pub mod Covers

@@ -1,5 +1,6 @@
 //! Problems drawn by a seed, walked to the end and back, and searched by trying every set of options.
-use crate::tests::walk_through;
+use crate::tests::there_and_back;
+use crate::walk_tests::walks_as_steps;
 use cover_problem::read_cover;
 use std::alloc::{AllocError, Global};
 use std::test::Fail;
@@ -85,14 +86,17 @@ fn sets_of(alloc: Global, visits: &[u32]) -> Result<Vec<u32>, AllocError> {
     Ok(sets)
 }
 
-/// Whether the visits of a drawn problem are its covers, its last step was told, and each step was taken back.
+/// Whether the visits of a drawn problem are its covers, its last step was told, each step was taken back, and walks are that
+/// many steps.
 fn is_right(alloc: Global, primary: u32, masks: &[u32]) -> Result<bool, Fail> {
     let text = text_of(alloc, primary, masks)?;
     let problem = read_cover(alloc, text.as_bytes())?;
-    let walk = walk_through(alloc, &problem)?;
+    let trip = there_and_back(alloc, &problem)?;
     let bits = 1u32.wrapping_shl(primary).wrapping_sub(1);
     let covers = covers(alloc, masks, bits)?;
-    Ok(walk.is_finished && walk.is_undone && sets_of(alloc, &walk.visits)? == covers)
+    let walks = walks_as_steps(alloc, &problem, 7)?;
+    let is_whole = trip.is_finished && trip.is_undone;
+    Ok(walks && is_whole && sets_of(alloc, &trip.visits)? == covers)
 }
 
 #[test]

@@ -13,7 +13,7 @@ mod state;
 
 pub use event::Event;
 pub use fault::{AtFault, Refused, StepFault};
-pub use machine::Machine;
+pub use machine::{Machine, Walk, no_counts};
 pub use paths::Paths;
 pub use state::{Cursor, Label, State};
 
@@ -21,3 +21,5 @@ pub use state::{Cursor, Label, State};
 mod drawn_tests;
 #[cfg(test)]
 mod tests;
+#[cfg(test)]
+mod walk_tests;

@@ -9,6 +9,7 @@ ghost use Rattle.x_steps.specs.Machine.{IsAt, Goes};
 mod at;
 mod back;
 mod read;
+mod walk;
 
 use crate::covering::{choose, cover_others, has_active, last_covered, uncover_last};
 use crate::event::Event;
@@ -17,6 +18,7 @@ use crate::state::{Cursor, Label, State};
 use cover_problem::{Problem, Table};
 use std::alloc::Global;
 use std::marker::Model;
+pub use walk::{Walk, no_counts};
 
 /// Pushes where there is room, so that no memory is taken.
 #[inline(always)]

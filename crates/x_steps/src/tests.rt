@@ -5,7 +5,7 @@ use std::alloc::{AllocError, Global};
 use std::test::Fail;
 
 /// The small problem: its run has 43 steps and the visit 4 5 1.
-const SMALL: &str =
+pub const SMALL: &str =
     "items a b c d e f g\noption c e\noption a d g\noption b c f\noption a d f\noption b g\noption d e g";
 
 /// A problem whose item c is secondary.
@@ -14,7 +14,7 @@ const SECONDARY: &str = "items a b\nmaybe c\noption a c\noption b c\noption a\no
 /// What a run had: how many states, its visits, each closed by a 0, whether its last step alone told that it was the last, and
 /// whether each step was taken back.
 #[derive(Drop)]
-pub struct Walk {
+pub struct RoundTrip {
     states: usize,
     pub visits: Vec<u32>,
     pub is_finished: bool,
@@ -73,7 +73,7 @@ fn is_unbegun<T: Table>(machine: &mut Machine<T>) -> bool {
 }
 
 /// Walks a problem's run to its end and back.
-pub fn walk_through(alloc: Global, problem: &Problem) -> Result<Walk, Fail> {
+pub fn there_and_back(alloc: Global, problem: &Problem) -> Result<RoundTrip, Fail> {
     let table = PlainTable::new(alloc, problem)?;
     let mut machine = Machine::new(alloc, problem, table).map_err(|_| "out of memory")?;
     let mut states = Vec::new(alloc);
@@ -83,7 +83,7 @@ pub fn walk_through(alloc: Global, problem: &Problem) -> Result<Walk, Fail> {
     let is_undone = is_over(&mut machine)
         && backwards(&mut machine, &states)
         && is_unbegun(&mut machine);
-    Ok(Walk {
+    Ok(RoundTrip {
         states: states.len(),
         visits,
         is_finished: ends_finished(&events),
@@ -160,11 +160,11 @@ fn state_of(
 #[test]
 fn each_step_is_taken_back(rt: HostRuntime) -> Result<(), Fail> {
     let problem = read_cover(rt.alloc(), SMALL.as_bytes())?;
-    let walk = walk_through(rt.alloc(), &problem)?;
-    assert!(rt; walk.states == 44);
-    assert!(rt; walk.visits.as_slice() == [4, 5, 1, 0].as_slice());
-    assert!(rt; walk.is_finished);
-    assert!(rt; walk.is_undone);
+    let trip = there_and_back(rt.alloc(), &problem)?;
+    assert!(rt; trip.states == 44);
+    assert!(rt; trip.visits.as_slice() == [4, 5, 1, 0].as_slice());
+    assert!(rt; trip.is_finished);
+    assert!(rt; trip.is_undone);
     Ok(())
 }
 

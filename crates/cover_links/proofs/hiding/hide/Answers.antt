@@ -1,24 +1,12 @@
-use Rattle.std.proofs.Common.{List, ◌≡◌, ℕ, suc, ◌+◌, ◌-◌, subst, sym, ◌∙◌, arith}
-use Rattle.cover_links.specs.declared.entry.Entry.{Entry}
-use Rattle.cover_links.specs.Hiding.{run_hidden, after_hidden, hidden}
-use Rattle.cover_links.specs.Safety.{CanHideRun}
+use Rattle.std.proofs.Common.{sym, ap}
+use Rattle.cover_links.proofs.TurnLemmas.{hides_begin, hides_can, hides_on, hides_fewer, hides_end, hides_below}
 use Rattle.cover_links.proofs.hiding.hide.Goals as goal
 
-pub hide_run-requires : goal.hide_run-requires
-hide_run-requires c =
-    let es = c.args.block.now in let p = c.args.index in let next : suc p ≡ p + 1 = omega arith in
-    subst (λ (k : ℕ × Entry). CanHideRun es k.0 (k.1.right - k.0)) (λ j. (next j, sym c.read-left.ensures j)) c.requires.after
+pub loop-node-init : goal.loop-node-init
+loop-node-init c = hides_begin _ _ _ _ _ c.requires (ap (λ e. e.left) c.read-start.ensures) (ap (λ e. e.right) c.read-start.ensures) c.place_after-node.ensures
 
-pub hide_run-requires-2 : goal.hide_run-requires-2
-unfolding after_hidden
-hide_run-requires-2 c =
-    let es = c.args.block.now in let p = c.args.index in let next : suc p ≡ p + 1 = omega arith in
-    let one = c.hide_run.ensures ∙ (λ j. run_hidden es (sym next j) ((c.read-left.ensures j).right - sym next j)) in
-    subst (λ (k : List Entry × Entry). CanHideRun k.0 k.1.left (p - k.1.left)) (λ j. (sym one j, sym c.read-left.ensures j)) c.requires.before
+pub hide_node-requires : goal.hide_node-requires
+hide_node-requires c = hides_can _ _ _ _ _ _ c.loop-node-test.true c.loop-node.invariant
 
-pub returns : goal.returns
-unfolding hidden after_hidden
-returns c =
-    let es = c.args.block.now in let p = c.args.index in let next : suc p ≡ p + 1 = omega arith in
-    let one = c.hide_run.ensures ∙ (λ j. run_hidden es (sym next j) ((c.read-left.ensures j).right - sym next j)) in
-    c.hide_run-2.ensures ∙ (λ j. run_hidden (one j) (c.read-left.ensures j).left (p - (c.read-left.ensures j).left))
+pub loop-node-preserved : goal.loop-node-preserved
+loop-node-preserved c = hides_on _ _ _ _ _ _ c.loop-node-test.true _ _ c.hide_node.ensures c.place_after-node-in-loop-node.ensures c.loop-node.invariant

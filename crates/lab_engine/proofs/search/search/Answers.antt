@@ -1,29 +1,56 @@
-use Rattle.std.proofs.Common.{sym, ap, ◌∙◌, refl}
-use Rattle.lab_engine.specs.Account.{with_step, empty_account}
-use Rattle.x_steps.specs.Steps.{is_level}
-use Rattle.lab_engine.proofs.SearchLemmas.{searches_begin, searches_on, searches_nearer, searches_end, level_in}
+use Rattle.std.proofs.Common.{◌≡◌, ℕ, ◌+◌, ◌-◌, ◌<◌, List, length, replicate, sym, ap, ◌∙◌, refl, subst, arith}
+use Rattle.x_steps.specs.Run.{states}
+use Rattle.x_steps.specs.Walk.{AreCounted}
+use Rattle.lab_engine.specs.Account.{AreSums, empty_account}
+use Rattle.lab_engine.proofs.SearchLemmas.{Searches, searches_begin, searches_on, searches_nearer, searches_anew, searches_end, walks_some, total_each, counts_all}
+use Rattle.x_steps.proofs.WalkLemmas.{lent_whole}
 use Rattle.lab_engine.proofs.search.search.Goals as goal
 
-pub loop-event-init : goal.loop-event-init
-loop-event-init g c = searches_begin _ _ _ _ c.items-items.ensures.problem c.in-Ok.ensures.at_first (c.in_ok-report.ensures ∙ ap empty_account c.items-items.ensures.count)
+pub loop-walk-init : goal.loop-walk-init
+loop-walk-init g c = (
+  searches_begin _ _ _ _ _ _ c.items-items.ensures.problem c.in-Ok.ensures.at_first (c.in_ok-report.ensures ∙ ap empty_account c.items-items.ensures.count)
+      (c.in_ok-counts.ensures ∙ ap (λ n. replicate (n + 1) 0) c.items-items.ensures.count) (omega arith),
+  omega arith,
+)
 
-pub note-requires : goal.note-requires
-note-requires g c = λ h.
-    let label = ap (λ s. s.label) c.state.ensures.state in
-    level_in _ _ _ _ _ c.loop-event.invariant (λ e. let h = c.in-Ok-step.ensures.over.1 e in cc) c.in-Ok-step.ensures.problem c.in-Ok-step.ensures.state _
-    (c.deref.ensures.value ∙ ap (λ s. s.path) c.state-in-loop-event.ensures.state)
-    (ap is_level (sym label) ∙ h)
+pub returns-in_default-walk-clause-account : goal.returns-in_default-walk-clause-account
+returns-in_default-walk-clause-account g c =
+    let s = c.loop-walk.invariant in
+    let kept = c.in_default-walk.ensures.refused.2 ∙ c.deref_mut.ensures.value in
+    let size : c.loop-walk.counts.len ≡ length c.loop-walk.counts.items = sym c.deref_mut.ensures.len ∙ ap length c.deref_mut.ensures.value in
+    let row = c.deref.ensures.value ∙ lent_whole _ _ _ (ap length kept) size ∙ kept in
+    searches_end _ _ _ _ _ _ _ s.0 (c.in_default-walk.ensures.over.0 refl) c.in_ok-add_counts.ensures.others (subst (λ l. AreSums c.loop-walk.report.entered l c.add_counts.new.self.entered) row c.in_ok-add_counts.ensures.sums)
 
-pub loop-event-smaller : goal.loop-event-smaller
-loop-event-smaller g c =
-    searches_nearer _ _ _ _ _ c.loop-event.invariant (λ e. let h = c.in-Ok-step.ensures.over.1 e in cc) c.in-Ok-step.ensures.problem c.in-Ok-step.ensures.state
+pub loop-walk-smaller : goal.loop-walk-smaller
+loop-walk-smaller g c =
+    let s = c.loop-walk.invariant in
+    let some = walks_some _ _ _ c.walk.new.self _ _ _ s.0 _ c.in-Ok-walk.ensures.steps _ s.1 c.in-Ok-walk.ensures.event c.in-Ok-walk.ensures.stops in
+    searches_nearer _ _ _ c.walk.new.self _ _ _ s.0 _ c.in-Ok-walk.ensures.steps some
 
-pub loop-event-preserved : goal.loop-event-preserved
-loop-event-preserved g c =
-    let label = ap (λ s. s.label) c.state.ensures.state in
-    searches_on _ _ _ _ _ c.loop-event.invariant (λ e. let h = c.in-Ok-step.ensures.over.1 e in cc) c.in-Ok-step.ensures.problem c.in-Ok-step.ensures.state c.in-Ok-step.event _ _
-    c.in-Ok-step.ensures.event (c.deref.ensures.value ∙ ap (λ s. s.path) c.state-in-loop-event.ensures.state)
-    (c.in_ok-note.ensures ∙ ap (λ l. with_step c.args.keeps c.loop-event.report l c.in-Ok-step.event c.deref.result.now) label)
+pub loop-walk-smaller-then-room-eq0 : goal.loop-walk-smaller-then-room-eq0
+loop-walk-smaller-then-room-eq0 g c =
+    let s = c.loop-walk.invariant in
+    let some = walks_some _ _ _ c.walk.new.self _ _ _ s.0 _ c.in-Ok-walk.ensures.steps _ s.1 c.in-Ok-walk.ensures.event c.in-Ok-walk.ensures.stops in
+    searches_nearer _ _ _ c.walk.new.self _ _ _ s.0 _ c.in-Ok-walk.ensures.steps some
 
-pub returns-in_default-step-clause-account : goal.returns-in_default-step-clause-account
-returns-in_default-step-clause-account g c = searches_end _ _ _ _ c.loop-event.invariant (c.in_default-step.ensures.over.0 refl)
+pub loop-walk-preserved : goal.loop-walk-preserved
+loop-walk-preserved g c =
+    let s = c.loop-walk.invariant in
+    let walk = c.in-Ok-walk.ensures in
+    let size : c.loop-walk.counts.len ≡ length c.loop-walk.counts.items = sym c.deref_mut.ensures.len ∙ ap length c.deref_mut.ensures.value in
+    let counted = subst (λ l. AreCounted l c.walk.new.counts (states c.loop-walk.machine.problem c.in-Ok-walk.walk.steps c.loop-walk.machine.state)) c.deref_mut.ensures.value walk.levels in
+    let path = c.deref-in-loop-walk.ensures.value ∙ ap (λ t. t.path) c.state.ensures.state in
+    let on = searches_on _ _ _ c.walk.new.self _ _ _ s.0 _ walk.steps _ _ _ _ walk.problem walk.within walk.moves walk.event counted path c.in_ok-note.ensures in
+    (subst (λ l. Searches c.args.keeps c.args.problem.now c.walk.new.self c.note.new.self l (c.loop-walk.room - c.in-Ok-walk.walk.steps)) (sym (lent_whole _ _ _ counted.levels size)) on, omega arith)
+
+pub loop-walk-preserved-then-room-eq0 : goal.loop-walk-preserved-then-room-eq0
+loop-walk-preserved-then-room-eq0 g c =
+    let s = c.loop-walk.invariant in
+    let walk = c.in-Ok-walk.ensures in
+    let size : c.loop-walk.counts.len ≡ length c.loop-walk.counts.items = sym c.deref_mut.ensures.len ∙ ap length c.deref_mut.ensures.value in
+    let counted = subst (λ l. AreCounted l c.walk.new.counts (states c.loop-walk.machine.problem c.in-Ok-walk.walk.steps c.loop-walk.machine.state)) c.deref_mut.ensures.value walk.levels in
+    let path = c.deref-in-loop-walk.ensures.value ∙ ap (λ t. t.path) c.state.ensures.state in
+    let on = searches_on _ _ _ c.walk.new.self _ _ _ s.0 _ walk.steps _ _ _ _ walk.problem walk.within walk.moves walk.event counted path c.in_ok-note.ensures in
+    let row = c.deref-then-room-eq0.ensures.value ∙ lent_whole _ _ _ counted.levels size in
+    let sums = subst (λ l. AreSums c.note.new.self.entered l c.add_counts-then-room-eq0.new.self.entered) row c.in_ok-add_counts-2.ensures.sums in
+    (searches_anew _ _ _ _ _ _ _ _ on c.in_ok-add_counts-2.ensures.others sums (c.in_ok-counts-2.ensures ∙ ap (λ n. replicate (n + 1) 0) c.items-items.ensures.count) 4294967295 (omega arith), omega arith)

@@ -1,0 +1,281 @@
+-- Rounds: the steps from one X5 to the next, or to a visit or the end.
+use Rattle.std.proofs.Common.{◌≡◌, ◌≢◌, ℕ, zero, suc, ◌+◌, ◌<◌, ◌≤◌, Bool, true, false, Option, Some, List, [], ◌∷◌, length, slice_index, slice_set, refl, sym, ap, ◌∙◌, subst, arith, if◌then◌else◌}
+use Rattle.std.proofs.Common as common
+use Rattle.cover_problem.specs.Problem.{ProblemValue, IsProblem}
+use Rattle.cover_problem.proofs.PathLemmas.{depth}
+use Rattle.x_steps.specs.declared.state.Label.{Label}
+use Rattle.x_steps.specs.declared.state.Label.TheVariants.{X1, X2, X3, X4, X5, X6, X7, X8, Done}
+use Rattle.x_steps.specs.declared.state.Cursor.{Cursor}
+use Rattle.x_steps.specs.declared.state.Cursor.TheVariants as cursor
+use Rattle.x_steps.specs.declared.state.Cursor.TheVariants.{At, Past}
+use Rattle.x_steps.specs.declared.event.Event.{Event}
+use Rattle.x_steps.specs.declared.event.Event.TheVariants.{Moved, Visited, Finished}
+use Rattle.x_steps.specs.StateValue.{StateValue, at}
+use Rattle.x_steps.specs.Steps.{Fits, FitsAt, next, event_of, event_at, is_level, is_open, split_last, taken_back}
+use Rattle.x_steps.specs.Run.{after}
+use Rattle.x_steps.specs.Machine.{Position, Goes, Keeps}
+use Rattle.x_steps.specs.Walk.{IsWalk, IsRound}
+use Rattle.x_steps.proofs.WalkLemmas.{none_walked, walked_other, walked_level}
+
+-- ---- where a step leads
+
+module _ (p : ProblemValue) (s : StateValue) where
+  X5_to_X2 : (o : ℕ) → s.label ≡ X5 → s.cursor ≡ At o → (next p s).label ≡ X2
+  unfolding next
+  X5_to_X2 o e k = rw (e, k) refl
+
+  X5_to_X7 : s.label ≡ X5 → s.cursor ≡ Past → (next p s).label ≡ X7
+  unfolding next
+  X5_to_X7 e k = rw (e, k) refl
+
+  X7_to_X8 : s.label ≡ X7 → (next p s).label ≡ X8
+  unfolding next
+  X7_to_X8 e = rw e refl
+
+  X3_to_X4 : s.label ≡ X3 → (next p s).label ≡ X4
+  unfolding next
+  X3_to_X4 e = rw e refl
+
+  X2_by : (b : Bool) → (if b then Moved else Visited) ≡ Moved → (if b then at X3 s.path cursor.None else at X8 s.path cursor.None).label ≡ X3
+  X2_by true e = refl
+  X2_by false e = absurd (cc)
+
+  X2_to_X3 : s.label ≡ X2 → event_of p s ≡ Moved → (next p s).label ≡ X3
+  unfolding next event_of
+  X2_to_X3 e m = rw e (X2_by (is_open p s.path) (rw e at m))
+
+  back_by : (last : Option (List ℕ × ℕ)) (o : ℕ) → (taken_back last).cursor ≡ At o → (taken_back last).label ≡ X6
+  back_by common.None o e = absurd (cc)
+  back_by (Some t) o e = refl
+
+  X8_to_X6 : (o : ℕ) → s.label ≡ X8 → (next p s).cursor ≡ At o → (next p s).label ≡ X6
+  unfolding next
+  X8_to_X6 o e k = rw e (back_by (split_last s.path) o (rw e at k))
+
+  moved_by : (path : List ℕ) (o : ℕ) → (taken_back (split_last path)).cursor ≡ At o → event_at p X8 path ≡ Moved
+  moved_by [] o e = absurd (cc)
+  moved_by (x ∷ xs) o e = refl
+
+  X8_moves : (o : ℕ) → s.label ≡ X8 → (next p s).cursor ≡ At o → event_of p s ≡ Moved
+  unfolding next event_of
+  X8_moves o e k = rw e (moved_by s.path o (rw e at k))
+
+  X3_moves : s.label ≡ X3 → event_of p s ≡ Moved
+  unfolding event_of
+  X3_moves e = rw e refl
+
+  X5_moves : s.label ≡ X5 → event_of p s ≡ Moved
+  unfolding event_of
+  X5_moves e = rw e refl
+
+  X7_moves : s.label ≡ X7 → event_of p s ≡ Moved
+  unfolding event_of
+  X7_moves e = rw e refl
+
+-- the level of an X2 state is one of those from 0 up to the number of items
+level_fits : (p : ProblemValue) (path : List ℕ) (k : Cursor) → IsProblem p → FitsAt p X2 path k → length path < length p.names + 1
+level_fits p path cursor.None sound f = let d = depth p path f in let w = sound.within in omega arith
+level_fits p path (At o) sound f = absurd f
+level_fits p path Past sound f = absurd f
+
+pub level_within : (p : ProblemValue) (s : StateValue) → IsProblem p → Fits p s → s.label ≡ X2 → length s.path < length p.names + 1
+level_within p s sound f e = level_fits p s.path s.cursor sound (subst (λ l. FitsAt p l s.path s.cursor) e f)
+
+-- the same of a machine, for counts of all levels
+pub level_counted : (q : ProblemValue) (s : StateValue) (table_problem : ProblemValue) (covered : List ℕ) (room : ℕ) → Keeps q s table_problem covered room
+    → (m : Position) → record { problem = q; state = s } ≡ m → (p : ProblemValue) → m.problem ≡ p → m.state.label ≡ X2 → (counts : List ℕ) → length counts ≡ length p.names + 1 → length m.state.path < length counts
+level_counted q s table_problem covered room k m e p same label counts levels =
+    let below = level_within q s k.sound k.fit (ap (λ v. v.state.label) e ∙ label) in
+    let names = ap (λ v. length v.problem.names) e ∙ ap (λ v. length v.names) same in
+    let path = ap (λ v. length v.state.path) e in omega arith
+
+-- ---- one step of a machine
+
+-- two labels that differ
+other_label : {l : Label} (m : Label) → l ≡ m → is_level m ≡ false → is_level l ≡ false
+other_label m e h = ap is_level e ∙ h
+
+module _ {old new : Position} {event : Event} (g : Goes old new event) where
+  pub takes_to_X2 : {o : ℕ} → old.state.label ≡ X5 → old.state.cursor ≡ At o → new.state.label ≡ X2
+  takes_to_X2 {o} e k = ap (λ s. s.label) g.state ∙ X5_to_X2 old.problem old.state o e k
+
+  pub gives_up_to_X7 : old.state.label ≡ X5 → old.state.cursor ≡ Past → new.state.label ≡ X7
+  gives_up_to_X7 e k = ap (λ s. s.label) g.state ∙ X5_to_X7 old.problem old.state e k
+
+  pub closes_to_X8 : old.state.label ≡ X7 → new.state.label ≡ X8
+  closes_to_X8 e = ap (λ s. s.label) g.state ∙ X7_to_X8 old.problem old.state e
+
+  pub plans_to_X4 : old.state.label ≡ X3 → new.state.label ≡ X4
+  plans_to_X4 e = ap (λ s. s.label) g.state ∙ X3_to_X4 old.problem old.state e
+
+  pub enters_to_X3 : old.state.label ≡ X2 → event ≡ Moved → new.state.label ≡ X3
+  enters_to_X3 e m = ap (λ s. s.label) g.state ∙ X2_to_X3 old.problem old.state e (sym g.tells ∙ m)
+
+  pub leaves_to_X6 : {o : ℕ} → old.state.label ≡ X8 → new.state.cursor ≡ At o → new.state.label ≡ X6
+  leaves_to_X6 {o} e k = ap (λ s. s.label) g.state ∙ X8_to_X6 old.problem old.state o e (ap (λ s. s.cursor) (sym g.state) ∙ k)
+
+  leaving_moves : {o : ℕ} → old.state.label ≡ X8 → new.state.cursor ≡ At o → event ≡ Moved
+  leaving_moves {o} e k = g.tells ∙ X8_moves old.problem old.state o e (ap (λ s. s.cursor) (sym g.state) ∙ k)
+
+  -- a walk goes on by this step
+  module _ (p : ProblemValue) (same : old.problem ≡ p) (s : StateValue) (a b : List ℕ) (n : ℕ) where
+    goes_other : IsWalk p s old.state a b n Moved → (old.state.label ≡ Done → ⊥) → is_level old.state.label ≡ false → IsWalk p s new.state a b (suc n) event
+    goes_other w goes_on other =
+        let t : new.state ≡ next p old.state = g.state ∙ ap (λ q. next q old.state) same in
+        let v : event ≡ event_of p old.state = g.tells ∙ ap (λ q. event_of q old.state) same in
+        rw (t, v) (walked_other p s old.state a b n w goes_on other)
+
+    goes_level : IsWalk p s old.state a b n Moved → old.state.label ≡ X2 → length old.state.path < length b → IsWalk p s new.state a (slice_set b (length old.state.path) (slice_index b (length old.state.path) + 1)) (suc n) event
+    goes_level w e l =
+        let t : new.state ≡ next p old.state = g.state ∙ ap (λ q. next q old.state) same in
+        let v : event ≡ event_of p old.state = g.tells ∙ ap (λ q. event_of q old.state) same in
+        rw (t, v) (walked_level p s old.state a b n w e l)
+
+    goes_at : (l : Label) → old.state.label ≡ l → (l ≡ Done → ⊥) → is_level l ≡ false → IsWalk p s old.state a b n Moved → IsWalk p s new.state a b (suc n) event
+    goes_at l e goes_on other w = goes_other w (λ d. goes_on (sym e ∙ d)) (ap is_level e ∙ other)
+
+-- what a step from each label tells
+module _ {old new : Position} {event : Event} (g : Goes old new event) where
+  X5_tells : old.state.label ≡ X5 → event ≡ Moved
+  X5_tells e = g.tells ∙ X5_moves old.problem old.state e
+
+  X3_tells : old.state.label ≡ X3 → event ≡ Moved
+  X3_tells e = g.tells ∙ X3_moves old.problem old.state e
+
+  X7_tells : old.state.label ≡ X7 → event ≡ Moved
+  X7_tells e = g.tells ∙ X7_moves old.problem old.state e
+
+-- ---- X5 at an option: it is taken
+
+module _ {m0 m1 m2 : Position} {e1 e2 : Event} (g1 : Goes m0 m1 e1) (g2 : Goes m1 m2 e2) (counts : List ℕ)
+    {o : ℕ} (label : m0.state.label ≡ X5) (at_option : m0.state.cursor ≡ At o) (level : length m1.state.path < length counts) where
+  abbrev counted : List ℕ
+  counted = slice_set counts (length m1.state.path) (slice_index counts (length m1.state.path) + 1)
+
+  first : IsWalk m0.problem m0.state m1.state counts counts 1 Moved
+  first = subst (IsWalk m0.problem m0.state m1.state counts counts 1) (X5_tells g1 label) (goes_at g1 m0.problem refl m0.state counts counts 0 X5 label (λ d. absurd (cc)) refl (none_walked m0.problem m0.state counts))
+
+  second : IsWalk m0.problem m0.state m2.state counts counted 2 e2
+  second = goes_level g2 m0.problem g1.problem m0.state counts counts 1 first (takes_to_X2 g1 label at_option) level
+
+  passes_X2 : (after m0.problem 1 m0.state).label ≡ X5 → ⊥
+  passes_X2 h = let x : X2 ≡ X5 = sym (takes_to_X2 g1 label at_option) ∙ ap (λ s. s.label) (sym first.reaches.ends) ∙ h in absurd (cc)
+
+  passes_two : (i : ℕ) → 0 < i → i < 2 → (after m0.problem i m0.state).label ≡ X5 → ⊥
+  passes_two zero l m h = absurd (omega arith)
+  passes_two (suc zero) l m h = passes_X2 h
+  passes_two (suc (suc i)) l m h = absurd (omega arith)
+
+  pub two_steps : IsRound m0.problem 4 m0.state m2.state counts counted 2 e2
+  two_steps = record { walk = second; some = omega arith; within = omega arith; passes = passes_two }
+
+  module _ {m3 m4 : Position} {e3 e4 : Event} (g3 : Goes m2 m3 e3) (g4 : Goes m3 m4 e4) (moved : e2 ≡ Moved) where
+    at_X3 : m2.state.label ≡ X3
+    at_X3 = enters_to_X3 g2 (takes_to_X2 g1 label at_option) moved
+
+    at_X4 : m3.state.label ≡ X4
+    at_X4 = plans_to_X4 g3 at_X3
+
+    second_moved : IsWalk m0.problem m0.state m2.state counts counted 2 Moved
+    second_moved = subst (IsWalk m0.problem m0.state m2.state counts counted 2) moved second
+
+    third : IsWalk m0.problem m0.state m3.state counts counted 3 Moved
+    third = subst (IsWalk m0.problem m0.state m3.state counts counted 3) (X3_tells g3 at_X3) (goes_at g3 m0.problem (g2.problem ∙ g1.problem) m0.state counts counted 2 X3 at_X3 (λ d. absurd (cc)) refl second_moved)
+
+    passes_four : (i : ℕ) → 0 < i → i < 4 → (after m0.problem i m0.state).label ≡ X5 → ⊥
+    passes_four zero l m h = absurd (omega arith)
+    passes_four (suc zero) l m h = passes_X2 h
+    passes_four (suc (suc zero)) l m h = let x : X3 ≡ X5 = sym at_X3 ∙ ap (λ s. s.label) (sym second.reaches.ends) ∙ h in absurd (cc)
+    passes_four (suc (suc (suc zero))) l m h = let x : X4 ≡ X5 = sym at_X4 ∙ ap (λ s. s.label) (sym third.reaches.ends) ∙ h in absurd (cc)
+    passes_four (suc (suc (suc (suc i)))) l m h = absurd (omega arith)
+
+    pub four_steps : IsRound m0.problem 4 m0.state m4.state counts counted 4 e4
+    four_steps = record {
+      walk = goes_at g4 m0.problem (g3.problem ∙ g2.problem ∙ g1.problem) m0.state counts counted 3 X4 at_X4 (λ d. absurd (cc)) refl third;
+      some = omega arith;
+      within = omega arith;
+      passes = passes_four;
+    }
+
+-- ---- X5 past the last option: the item is closed
+
+module _ {m0 m1 m2 m3 : Position} {e1 e2 e3 : Event} (g1 : Goes m0 m1 e1) (g2 : Goes m1 m2 e2) (g3 : Goes m2 m3 e3) (counts : List ℕ)
+    (label : m0.state.label ≡ X5) (past : m0.state.cursor ≡ Past) where
+  at_X7 : m1.state.label ≡ X7
+  at_X7 = gives_up_to_X7 g1 label past
+
+  at_X8 : m2.state.label ≡ X8
+  at_X8 = closes_to_X8 g2 at_X7
+
+  given_up : IsWalk m0.problem m0.state m1.state counts counts 1 Moved
+  given_up = subst (IsWalk m0.problem m0.state m1.state counts counts 1) (X5_tells g1 label) (goes_at g1 m0.problem refl m0.state counts counts 0 X5 label (λ d. absurd (cc)) refl (none_walked m0.problem m0.state counts))
+
+  closed : IsWalk m0.problem m0.state m2.state counts counts 2 Moved
+  closed = subst (IsWalk m0.problem m0.state m2.state counts counts 2) (X7_tells g2 at_X7) (goes_at g2 m0.problem g1.problem m0.state counts counts 1 X7 at_X7 (λ d. absurd (cc)) refl given_up)
+
+  left : IsWalk m0.problem m0.state m3.state counts counts 3 e3
+  left = goes_at g3 m0.problem (g2.problem ∙ g1.problem) m0.state counts counts 2 X8 at_X8 (λ d. absurd (cc)) refl closed
+
+  passes_X7 : (after m0.problem 1 m0.state).label ≡ X5 → ⊥
+  passes_X7 h = let x : X7 ≡ X5 = sym at_X7 ∙ ap (λ s. s.label) (sym given_up.reaches.ends) ∙ h in absurd (cc)
+
+  passes_X8 : (after m0.problem 2 m0.state).label ≡ X5 → ⊥
+  passes_X8 h = let x : X8 ≡ X5 = sym at_X8 ∙ ap (λ s. s.label) (sym closed.reaches.ends) ∙ h in absurd (cc)
+
+  passes_three : (i : ℕ) → 0 < i → i < 3 → (after m0.problem i m0.state).label ≡ X5 → ⊥
+  passes_three zero l m h = absurd (omega arith)
+  passes_three (suc zero) l m h = passes_X7 h
+  passes_three (suc (suc zero)) l m h = passes_X8 h
+  passes_three (suc (suc (suc i))) l m h = absurd (omega arith)
+
+  pub three_back : IsRound m0.problem 4 m0.state m3.state counts counts 3 e3
+  three_back = record { walk = left; some = omega arith; within = omega arith; passes = passes_three }
+
+  module _ {m4 : Position} {e4 : Event} (g4 : Goes m3 m4 e4) {o : ℕ} (at_option : m3.state.cursor ≡ At o) where
+    at_X6 : m3.state.label ≡ X6
+    at_X6 = leaves_to_X6 g3 at_X8 at_option
+
+    left_moved : IsWalk m0.problem m0.state m3.state counts counts 3 Moved
+    left_moved = subst (IsWalk m0.problem m0.state m3.state counts counts 3) (leaving_moves g3 at_X8 at_option) left
+
+    passes_back : (i : ℕ) → 0 < i → i < 4 → (after m0.problem i m0.state).label ≡ X5 → ⊥
+    passes_back zero l m h = absurd (omega arith)
+    passes_back (suc zero) l m h = passes_X7 h
+    passes_back (suc (suc zero)) l m h = passes_X8 h
+    passes_back (suc (suc (suc zero))) l m h = let x : X6 ≡ X5 = sym at_X6 ∙ ap (λ s. s.label) (sym left.reaches.ends) ∙ h in absurd (cc)
+    passes_back (suc (suc (suc (suc i)))) l m h = absurd (omega arith)
+
+    pub four_back : IsRound m0.problem 4 m0.state m4.state counts counts 4 e4
+    four_back = record {
+      walk = goes_at g4 m0.problem (g3.problem ∙ g2.problem ∙ g1.problem) m0.state counts counts 3 X6 at_X6 (λ d. absurd (cc)) refl left_moved;
+      some = omega arith;
+      within = omega arith;
+      passes = passes_back;
+    }
+
+-- ---- one step
+
+passes_none : (p : ProblemValue) (s : StateValue) (i : ℕ) → 0 < i → i < 1 → (after p i s).label ≡ X5 → ⊥
+passes_none p s i l m h = absurd (omega arith)
+
+module _ {old new : Position} {event : Event} (g : Goes old new event) (counts : List ℕ) where
+  pub one_other : (old.state.label ≡ Done → ⊥) → is_level old.state.label ≡ false → IsRound old.problem 1 old.state new.state counts counts 1 event
+  one_other goes_on other = record {
+    walk = goes_other g old.problem refl old.state counts counts 0 (none_walked old.problem old.state counts) goes_on other;
+    some = omega arith;
+    within = omega arith;
+    passes = passes_none old.problem old.state;
+  }
+
+  pub one_level : old.state.label ≡ X2 → length old.state.path < length counts
+      → IsRound old.problem 1 old.state new.state counts (slice_set counts (length old.state.path) (slice_index counts (length old.state.path) + 1)) 1 event
+  one_level e l = record {
+    walk = goes_level g old.problem refl old.state counts counts 0 (none_walked old.problem old.state counts) e l;
+    some = omega arith;
+    within = omega arith;
+    passes = passes_none old.problem old.state;
+  }
+
+-- a round stays one where more steps are allowed
+pub more_room : (p : ProblemValue) (few most : ℕ) (s t : StateValue) (a b : List ℕ) (n : ℕ) (event : Event) → few ≤ most → IsRound p few s t a b n event → IsRound p most s t a b n event
+more_room p few most s t a b n event l r = let w = r.within in record { walk = r.walk; some = r.some; within = omega arith; passes = r.passes }

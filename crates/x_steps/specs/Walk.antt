@@ -1,0 +1,52 @@
+-- Many steps at once: up to the first visit, the end of the run, or a state at which to stop.
+--
+-- Example: in the small problem a walk from X1 takes 30 steps to the first visit, 4 5 1, and 13 more to Done (computed in
+-- proofs/WalkExamples.antt).
+use Rattle.std.specs.Prelude.{ℕ, zero, suc, ◌+◌, ◌^◌, ◌<◌, ◌≤◌, ◌≡◌, List, [], ◌∷◌, ◌++◌, length, slice_index}
+use Rattle.cover_problem.specs.Problem.{ProblemValue}
+use Rattle.x_steps.specs.declared.state.Label.TheVariants.{X5}
+use Rattle.x_steps.specs.declared.state.Cursor.TheVariants.{At}
+use Rattle.x_steps.specs.declared.event.Event.{Event}
+use Rattle.x_steps.specs.declared.event.Event.TheVariants.{Moved}
+use Rattle.x_steps.specs.StateValue.{StateValue}
+use Rattle.x_steps.specs.Steps.{event_of}
+use Rattle.x_steps.specs.Run.{after, states, level_count, ReachesIn}
+
+-- what the last of n steps tells; where there is none, nothing but that the search moves on
+abbrev pub last_event : ProblemValue → ℕ → StateValue → Event
+last_event p zero s = Moved
+last_event p (suc n) s = event_of p (after p n s)
+
+-- none of n steps but the last comes to a visit or to the end
+abbrev pub OnlyMoves : ProblemValue → ℕ → StateValue → Type 0
+OnlyMoves p n s = (i : ℕ) → suc i < n → event_of p (after p i s) ≡ Moved
+
+-- X5 at the last of these choices, after the others
+pub record IsAtCut (s : StateValue) (choices : List ℕ) : Type 0 where
+  pub label : s.label ≡ X5
+  pub option : ℕ
+  pub cursor : s.cursor ≡ At option
+  pub path : s.path ++ option ∷ [] ≡ choices
+
+-- to the count of each level are added the X2 states of that level
+pub record AreCounted (old new : List ℕ) (ss : List StateValue) : Type 0 where
+  pub levels : length new ≡ length old
+  pub each : (level : ℕ) → level < length old → slice_index new level ≡ slice_index old level + level_count ss level
+
+-- so many more fit into each count
+abbrev pub HasRoom : ℕ → List ℕ → Type 0
+HasRoom most counts = (level : ℕ) → level < length counts → slice_index counts level + most < 2 ^ 32
+
+-- n steps from s to t, none of which but the last comes to a visit or to the end; and what was counted
+pub record IsWalk (p : ProblemValue) (s t : StateValue) (old new : List ℕ) (n : ℕ) (event : Event) : Type 0 where
+  pub reaches : ReachesIn p s t n
+  pub moves : OnlyMoves p n s
+  pub tells : event ≡ last_event p n s
+  pub counted : AreCounted old new (states p n s)
+
+-- such a walk of at least one step and at most `most`, which passes no X5
+pub record IsRound (p : ProblemValue) (most : ℕ) (s t : StateValue) (old new : List ℕ) (n : ℕ) (event : Event) : Type 0 where
+  pub walk : IsWalk p s t old new n event
+  pub some : 0 < n
+  pub within : n ≤ most
+  pub passes : (i : ℕ) → 0 < i → i < n → (after p i s).label ≡ X5 → ⊥

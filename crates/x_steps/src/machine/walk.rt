@@ -1,0 +1,176 @@
+//! Many steps at once. Here a label of the step table is a place in the code, and no choice is made where the table has none.
+ghost use Rattle.std.specs.Prelude.{◌≡◌, ◌≢◌, ◌<◌, ◌≤◌, ◌+◌, ◌^◌, ◌⊎◌, ◌↔◌, ◌∷◌, ◌++◌, [], ℕ, suc, List, length, replicate, slice_index, slice_set, IfErr, IfOk, IsErr, IsTrue};
+ghost use Rattle.x_steps.specs.Run.{after, states, ReachesIn};
+ghost use Rattle.x_steps.specs.Walk.{last_event, OnlyMoves, IsAtCut, AreCounted, HasRoom, IsRound, IsWalk};
+ghost use Rattle.x_steps.specs.StateView.{state_value};
+
+use crate::event::Event;
+use crate::fault::StepFault;
+use crate::machine::Machine;
+use crate::state::{Cursor, Label, State};
+use cover_problem::Table;
+use std::alloc::{AllocError, Global};
+
+/// What a walk did: how many steps it took, and what the last of them told.
+#[derive(Clone, Copy, Debug, PartialEq, Eq)]
+pub struct Walk {
+    pub steps: u32,
+    pub event: Event,
+}
+
+/// A count of nothing for each level that a problem of so many items has.
+pub fn no_counts(alloc: Global, items: u32) -> Result<Vec<u32>, AllocError>
+    ensures { IfOk result (λ counts. counts.items ≡ replicate (items + 1) 0) }
+{
+    vec![in alloc; 0; items as usize + 1]
+}
+
+/// Whether the search only moved on.
+#[inline(always)]
+fn is_move(event: Event) -> bool
+    ensures { IsTrue result ↔ (event ≡ Event.Moved) }
+{
+    matches!(event, Event::Moved)
+}
+
+/// Counts one more at a level.
+#[inline(always)]
+fn count_level(counts: &mut [u32], level: usize)
+    requires within { level < length counts.old }
+    requires room { slice_index counts.old level + 1 < 2 ^ 32 }
+    ensures { counts.new ≡ slice_set counts.old level (slice_index counts.old level + 1) }
+{
+    counts[level] += 1;
+}
+
+/// Whether the choices are the path and then the option.
+#[inline(always)]
+fn are_choices(path: &[u32], option: u32, choices: &[u32]) -> bool
+    ensures { IsTrue result ↔ (path.now ++ option ∷ [] ≡ choices.now) }
+{
+    match choices.split_last() {
+        Some((last, front)) => *last == option && front == path,
+        None => false,
+    }
+}
+
+/// Whether the state is X5 at the last of these choices, after the others.
+#[inline(always)]
+fn is_at_cut(state: &State, choices: &[u32]) -> bool
+    ensures { IsTrue result ↔ IsAtCut (state_value state.now) choices.now }
+{
+    match (state.label, state.cursor) {
+        (Label::X5, Cursor::At(option)) => are_choices(&state.path, option, choices),
+        _ => false,
+    }
+}
+
+impl<'p, T: Table> Machine<'p, T> {
+    /// Takes steps without memory: until `most` are taken, one of them came to a visit or to the end of the run, or the search
+    /// stands at X5 at the last of the choices `end`, after the others; no choices stop it nowhere. To the count of each level
+    /// are added the X2 states passed. Refused only at Done, which changes nothing.
+    pub fn walk(&mut self, most: u32, end: &[u32], counts: &mut [u32]) -> Result<Walk, StepFault>
+        requires levels { length counts.old ≡ length self.old.problem.names + 1 }
+        requires room { HasRoom most counts.old }
+        ensures problem { self.new.problem ≡ self.old.problem }
+        ensures steps { IfOk result (λ w. ReachesIn self.old.problem self.old.state self.new.state w.steps) }
+        ensures within { IfOk result (λ w. w.steps ≤ most) }
+        ensures event { IfOk result (λ w. w.event ≡ last_event self.old.problem w.steps self.old.state) }
+        ensures moves { IfOk result (λ w. OnlyMoves self.old.problem w.steps self.old.state) }
+        ensures levels { IfOk result (λ w. AreCounted counts.old counts.new (states self.old.problem w.steps self.old.state)) }
+        ensures before { IfOk result (λ w. (i : ℕ) → i < w.steps → IsAtCut (after self.old.problem i self.old.state) end.now → ⊥) }
+        ensures stops { IfOk result (λ w. (w.steps ≡ most) ⊎ (w.event ≢ Event.Moved) ⊎ IsAtCut self.new.state end.now) }
+        ensures over { IsErr result ↔ (self.old.state.label ≡ Label.Done) }
+        ensures refused { IfErr result (λ fault. (fault ≡ StepFault.Done) × (self.new ≡ self.old) × (counts.new ≡ counts.old)) }
+    {
+        if let Label::Done = self.state.label {
+            return Err(StepFault::Done);
+        }
+        let mut walk = Walk {
+            steps: 0,
+            event: Event::Moved,
+        };
+        while is_move(walk.event) && walk.steps < most && !is_at_cut(&self.state, end) {
+            let round = self.round(most - walk.steps, counts);
+            walk = Walk {
+                steps: walk.steps + round.steps,
+                event: round.event,
+            };
+        }
+        Ok(walk)
+    }
+
+    /// At least one step and at most `most`, with no X5 between them.
+    #[inline(always)]
+    fn round(&mut self, most: u32, counts: &mut [u32]) -> Walk
+        requires goes_on { self.old.state.label ≢ Label.Done }
+        requires some { 0 < most }
+        requires levels { length counts.old ≡ length self.old.problem.names + 1 }
+        requires room { HasRoom most counts.old }
+        ensures problem { self.new.problem ≡ self.old.problem }
+        ensures round { IsRound self.old.problem most self.old.state self.new.state counts.old counts.new result.steps result.event }
+    {
+        match (self.state.label, self.state.cursor) {
+            (Label::X5, Cursor::At(option)) if most >= 4 => self.take_and_open(option, counts),
+            (Label::X5, Cursor::Past) if most >= 4 => self.close_and_retry(),
+            _ => self.single(counts),
+        }
+    }
+
+    /// X5 at an option: the option is taken, and the next item is opened, or there is none.
+    #[inline(always)]
+    fn take_and_open(&mut self, option: u32, counts: &mut [u32]) -> Walk
+        requires label { self.old.state.label ≡ Label.X5 }
+        requires cursor { self.old.state.cursor ≡ Cursor.At option }
+        requires levels { length counts.old ≡ length self.old.problem.names + 1 }
+        requires room { HasRoom 4 counts.old }
+        ensures problem { self.new.problem ≡ self.old.problem }
+        ensures round { IsRound self.old.problem 4 self.old.state self.new.state counts.old counts.new result.steps result.event }
+    {
+        self.take(option);
+        count_level(counts, self.state.path.len());
+        match self.enter() {
+            Event::Moved => {
+                self.plan();
+                let event = self.open();
+                Walk { steps: 4, event }
+            }
+            event => Walk { steps: 2, event },
+        }
+    }
+
+    /// X5 past the last option: the item is closed, and the option before it is tried again, or there is none.
+    #[inline(always)]
+    fn close_and_retry(&mut self) -> Walk
+        requires label { self.old.state.label ≡ Label.X5 }
+        requires cursor { self.old.state.cursor ≡ Cursor.Past }
+        ensures problem { self.new.problem ≡ self.old.problem }
+        ensures round { (counts : List ℕ) → IsRound self.old.problem 4 self.old.state self.new.state counts counts result.steps result.event }
+    {
+        self.give_up();
+        self.close();
+        let event = self.leave();
+        let Cursor::At(option) = self.state.cursor else {
+            return Walk { steps: 3, event };
+        };
+        let event = self.retry(option);
+        Walk { steps: 4, event }
+    }
+
+    /// One step.
+    fn single(&mut self, counts: &mut [u32]) -> Walk
+        requires goes_on { self.old.state.label ≢ Label.Done }
+        requires levels { length counts.old ≡ length self.old.problem.names + 1 }
+        requires room { HasRoom 1 counts.old }
+        ensures problem { self.new.problem ≡ self.old.problem }
+        ensures round { IsRound self.old.problem 1 self.old.state self.new.state counts.old counts.new result.steps result.event }
+    {
+        if let Label::X2 = self.state.label {
+            count_level(counts, self.state.path.len());
+        }
+        match self.step() {
+            Ok(event) => Walk { steps: 1, event },
+            Err(_) => unreachable!(),
+        }
+    }
+}

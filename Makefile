@@ -9,9 +9,9 @@ LONG = pentominoes-15x4 pentominoes-12x5 pentominoes-10x6 pentominoes-8x8-withou
 	solid-pentominoes-2x5x6 solid-pentominoes-3x4x5
 LONG_COVERS = pent-10x6 langford-12
 
-.PHONY: all build ci bench gallery gallery-long check-docs check-tools install
+.PHONY: all build ci bench gallery gallery-long check-docs check-tools check-words check-statuses install
 
-all: build gallery check-tools check-docs
+all: build gallery check-tools check-docs check-words check-statuses
 
 # Proves and builds the program where anything changed.
 build:
@@ -40,6 +40,15 @@ check-docs: build
 check-tools: build
 	@tools/check_tools
 
+# The man page and the completions name the jobs and options that the program's help names.
+check-words: build
+	@tools/check_words
+
+# Each exit status, by a run of the program itself.
+check-statuses: build
+	@tools/check_statuses
+
 install: build
-	mkdir -p "$(DESTDIR)$(PREFIX)/bin"
+	mkdir -p "$(DESTDIR)$(PREFIX)/bin" "$(DESTDIR)$(PREFIX)/share/man/man1"
 	cp crates/polylab/out/polylab "$(DESTDIR)$(PREFIX)/bin/polylab"
+	cp docs/polylab.1 "$(DESTDIR)$(PREFIX)/share/man/man1/polylab.1"

@@ -44,6 +44,8 @@ Exit statuses:
   4  there was not enough memory
   5  reading or writing failed";
 
+const COVER_USAGE: &str = "polylab cover < COVER-TEXT";
+
 const COVER: &str = "Lists the exact covers of a cover text.";
 
 const COVER_TEXT: &str = "\
@@ -73,6 +75,8 @@ of Algorithm X, and how many paths of 0, 1, 2, .. choices it met.
 Exit statuses: 0 done, 2 command line refused, 3 text refused, 4 no memory,
 5 reading or writing failed.";
 
+const SOLVE_USAGE: &str = "polylab solve < PUZZLE";
+
 const SOLVE: &str = "Shows every packing of a puzzle, in layers of text.";
 
 const SOLVE_TEXT: &str = "\
@@ -98,6 +102,8 @@ A refusal is one line on standard error: `refused puzzle 6 EmptyRegion line 0`.
 Exit statuses: 0 done, 2 command line refused, 3 text refused, 4 no memory,
 5 reading or writing failed.";
 
+const COUNT_USAGE: &str = "polylab count [--classes] < PUZZLE";
+
 const COUNT: &str = "Counts the packings of a puzzle.";
 
 const COUNT_TEXT: &str = "\
@@ -121,6 +127,8 @@ Exit statuses: 0 done, 2 command line refused, 3 text refused, 4 no memory,
 
 const CLASSES: &str = "Also counts the packings up to rotations, and up to all symmetries";
 
+const OPTIONS_USAGE: &str = "polylab options < PUZZLE";
+
 const OPTIONS: &str = "Writes the cover text whose exact covers are the packings of a puzzle.";
 
 const OPTIONS_TEXT: &str = "\
@@ -130,14 +138,18 @@ items are the pieces and the cells, the options are the placements.
 Exit statuses: 0 done, 2 command line refused, 3 text refused, 4 no memory,
 5 reading or writing failed.";
 
-/// A subcommand with its help.
+/// A subcommand with its usage and its help.
 fn job<'a>(
     alloc: Global,
     name: &'static str,
+    usage: &'static str,
     about: &'static str,
     text: &'static str,
 ) -> Command<'a> {
-    Command::new(alloc, name).about(about).after_help(text)
+    Command::new(alloc, name)
+        .about(about)
+        .override_usage(usage)
+        .after_help(text)
 }
 
 /// The word that asks for classes.
@@ -150,7 +162,7 @@ fn classes<'a>(alloc: Global) -> Arg<'a> {
 
 /// The command line that the program takes.
 fn command<'a>(alloc: Global) -> Result<Command<'a>, AllocError> {
-    let count = job(alloc, "count", COUNT, COUNT_TEXT).arg(classes(alloc))?;
+    let count = job(alloc, "count", COUNT_USAGE, COUNT, COUNT_TEXT).arg(classes(alloc))?;
     Command::new(alloc, "polylab")
         .about(ABOUT)
         .after_help(STATUSES)
@@ -158,10 +170,10 @@ fn command<'a>(alloc: Global) -> Result<Command<'a>, AllocError> {
         .no_binary_name(true)
         .subcommand_required(true)
         .arg_required_else_help(true)
-        .subcommand(job(alloc, "cover", COVER, COVER_TEXT))?
-        .subcommand(job(alloc, "solve", SOLVE, SOLVE_TEXT))?
+        .subcommand(job(alloc, "cover", COVER_USAGE, COVER, COVER_TEXT))?
+        .subcommand(job(alloc, "solve", SOLVE_USAGE, SOLVE, SOLVE_TEXT))?
         .subcommand(count)?
-        .subcommand(job(alloc, "options", OPTIONS, OPTIONS_TEXT))
+        .subcommand(job(alloc, "options", OPTIONS_USAGE, OPTIONS, OPTIONS_TEXT))
 }
 
 /// The job that the words ask for.

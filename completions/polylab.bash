@@ -1,0 +1,11 @@
+# Words of polylab for bash: source this file, or put it where bash-completion finds it.
+_polylab() {
+    local word=${COMP_WORDS[COMP_CWORD]}
+    local choices='solve count options cover help --help --version'
+    case ${COMP_WORDS[1]} in
+        count) [ "$COMP_CWORD" -gt 1 ] && choices='--classes --help' ;;
+        solve | options | cover) [ "$COMP_CWORD" -gt 1 ] && choices='--help' ;;
+    esac
+    mapfile -t COMPREPLY < <(compgen -W "$choices" -- "$word")
+}
+complete -o default -F _polylab polylab

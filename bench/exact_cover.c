@@ -1,9 +1,13 @@
 /* Exact cover by Algorithm X with dancing links (The Art of Computer Programming, volume 4B, section 7.2.2.1),
-   written plainly to be compared with `polylab cover`: the same texts in, the same lines out, the same run.
+   written to be compared with `polylab cover`: the same texts in, the same lines out, the same run.
 
    The nodes have 32-bit fields TOP (LEN in a head), ULINK and DLINK, and a spacer stands between options; the row of
    items has LLINK and RLINK. X3 takes the first item whose list is the shortest. A fault of the text ends the
-   program with a line on standard error: only good texts are of interest here. */
+   program with a line on standard error: only good texts are of interest here.
+
+   This is the published form. With -DRING a node has a fourth link, to the next node of its option (the first one
+   after the last), so that hiding and unhiding test no spacer: within an option they may go in one order, since its
+   nodes stand in lists of their own. */
 
 #include <stdint.h>
 #include <stdio.h>
@@ -13,6 +17,9 @@
 typedef struct {
   int32_t top; /* a head's LEN; a spacer has minus the number of the option before it */
   uint32_t up, down;
+#ifdef RING
+  uint32_t next; /* in its option, round it */
+#endif
 } Node;
 
 typedef struct {
@@ -55,7 +62,7 @@ static uint32_t add_node(int32_t top, uint32_t up, uint32_t down) {
     node_room = node_room ? 2 * node_room : 1024;
     nodes = grown(nodes, node_room * sizeof *nodes);
   }
-  nodes[node_count] = (Node){top, up, down};
+  nodes[node_count] = (Node){.top = top, .up = up, .down = down};
   return node_count++;
 }
 
@@ -76,6 +83,9 @@ static void add_to_option(const char *name, size_t length) {
 
 /* The spacer after an option knows the option's first node, the one before it its last. */
 static void end_option(uint32_t spacer) {
+#ifdef RING
+  for (uint32_t x = spacer + 1; x < node_count; x++) nodes[x].next = x + 1 < node_count ? x + 1 : spacer + 1;
+#endif
   nodes[spacer].down = node_count - 1;
   add_node(-(int32_t)++option_count, spacer + 1, 0);
 }
@@ -141,17 +151,38 @@ static void put_text(const char *text) {
   written += length;
 }
 
+/* A blank and a number, once there is room for one of 64 bits. */
 static void put_number(uint64_t number) {
-  char digits[24], *first = digits + 23;
-  *first = 0;
-  do *--first = '0' + number % 10;
+  if (written + 21 > sizeof output) flush();
+  size_t digits = 1;
+  for (uint64_t rest = number; rest >= 10; rest /= 10) digits++;
+  char *end = output + written + 1 + digits;
+  output[written] = ' ';
+  written += 1 + digits;
+  do *--end = '0' + number % 10;
   while (number /= 10);
-  *--first = ' ';
-  put_text(first);
 }
 
 /* The search. */
 
+#ifdef RING
+static void hide(uint32_t p) {
+  for (uint32_t q = nodes[p].next; q != p; q = nodes[q].next) {
+    uint32_t up = nodes[q].up, down = nodes[q].down;
+    nodes[up].down = down;
+    nodes[down].up = up;
+    nodes[nodes[q].top].top--;
+  }
+}
+
+static void unhide(uint32_t p) {
+  for (uint32_t q = nodes[p].next; q != p; q = nodes[q].next) {
+    nodes[nodes[q].up].down = q;
+    nodes[nodes[q].down].up = q;
+    nodes[nodes[q].top].top++;
+  }
+}
+#else
 static void hide(uint32_t p) {
   for (uint32_t q = p + 1; q != p;) {
     int32_t top = nodes[q].top;
@@ -181,6 +212,7 @@ static void unhide(uint32_t p) {
     }
   }
 }
+#endif
 
 static void cover(uint32_t i) {
   for (uint32_t p = nodes[i].down; p != i; p = nodes[p].down) hide(p);

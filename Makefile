@@ -4,7 +4,7 @@ PREFIX = /usr/local
 # The puzzles and cover texts of examples/ that take seconds; the others take up to some minutes each.
 QUICK = two-dominoes optional soma-cube soma-without-centre tetracubes-2x2x8 tetracubes-2x4x4 pentominoes-20x3 \
 	pentominoes-scott five-pentominoes-5x5 slothouber-graatsma solid-pentominoes-2x3x10
-QUICK_COVERS = small secondary soma-cube pent-20x3 langford-10 permutations-09 domino-8x6
+QUICK_COVERS = small secondary soma-cube pent-20x3 langford-10 permutations-09 domino-8x6 queens-8 latin-4 sudoku
 LONG = pentominoes-15x4 pentominoes-12x5 pentominoes-10x6 pentominoes-8x8-without-corners dudeney \
 	solid-pentominoes-2x5x6 solid-pentominoes-3x4x5
 LONG_COVERS = pent-10x6 langford-12

@@ -55,12 +55,6 @@ fn other_words_are_refused(rt: HostRuntime) {
 }
 
 #[test]
-fn a_file_as_a_word_is_told_how_to_be_read(rt: HostRuntime) {
-    let refusal = parse_line(rt.alloc(), &["cover", "small.cover"]);
-    assert!(rt; matches!(refusal, Err(LineFault::Usage(text)) if text.contains("polylab cover <")));
-}
-
-#[test]
 fn want_of_memory_has_its_status(rt: HostRuntime) {
     assert!(rt; status(&rt, Err(LineFault::OutOfMemory)) == 4);
 }

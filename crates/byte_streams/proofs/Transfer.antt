@@ -1,11 +1,9 @@
 -- What was read or written so far.
-use Rattle.std.proofs.Common.{◌≡◌, ◌<◌, ℕ, List, ◌++◌, length, take, drop, sym, ap, ◌∙◌, append_assoc, length-append, take-append-drop, subst, arith, None, Some, IfSome}
-use Rattle.std.specs.Prelude.{Option}
-use Rattle.std.specs.Io.KnownBytes.{Appends, Consumes, Keeps}
+use Rattle.std.proofs.Common.{◌≡◌, ℕ, List, ◌++◌, length, take, drop, sym, ap, ◌∙◌, append_assoc, take-append-drop, subst}
+use Rattle.std.specs.Io.KnownBytes.{Appends, Keeps}
 use Rattle.std.proofs.KnownBytes.{Appends-trans, Appends-kept}
 use lib.Seq.{take-append_seam}
 use Rattle.byte_streams.specs.Stream.{Stream, IsSound, HasFailed, TakesPart}
-use Rattle.byte_streams.specs.Input.{GoesPastLimit, most_input}
 
 -- a part of the text was written, and the rest is left
 pub record IsWritten (old new : Stream) (text rest : List ℕ) : Type 0 where
@@ -28,11 +26,3 @@ pub written_part : (old mid new : Stream) (text rest : List ℕ) → IsWritten o
 written_part old mid new text rest w h f =
     let all = ap (take (length w.front)) w.whole ∙ take-append_seam w.front rest in
     ((length w.front, subst (Appends old.bytes new.bytes) (sym all) (Appends-kept old.bytes mid.bytes new.bytes w.front w.appended h)), f)
-
--- a source that gave more bytes than the limit had them
-pub past_limit : (old : Stream) (left : Option (List ℕ)) (text : List ℕ) → Consumes old.bytes left text → most_input < length text → GoesPastLimit old
-past_limit old left text c h = from old.bytes left c where
-  from : (known left : Option (List ℕ)) → Consumes known left text → IfSome known (λ bytes. most_input < length bytes)
-  from None left c = tt
-  from (Some bytes) None c = absurd c
-  from (Some bytes) (Some rest) c = let n = ap length c in omega (arith, length-append text rest)

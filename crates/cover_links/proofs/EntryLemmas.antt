@@ -83,6 +83,3 @@ run_hidden_step es a b lt =
 pub written : (f : Entry → Entry) (es fs : List Entry) (z : ℕ) (e : Entry) → fs ≡ set es z (f e) → e ≡ entry_at es z → fs ≡ changed f es z
 unfolding changed
 written f es fs z e h r = h ∙ ap (λ k. set es z (f k)) r
-
-pub written_inside : (f : Entry → Entry) (es fs : List Entry) (z : ℕ) → fs ≡ changed f es z → length fs ≡ length es
-written_inside f es fs z h = ap length h ∙ length-changed f es z

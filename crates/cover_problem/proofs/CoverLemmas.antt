@@ -2,7 +2,7 @@
 use Rattle.std.proofs.Common.{◌≡◌, ℕ, zero, suc, ◌<◌, ◌≤◌, ◌⊎◌, Bool, true, false, not, List, [], ◌∷◌, ◌++◌, length, refl, sym, ap, ◌∙◌, inl, inr, arith, le_refl}
 use Rattle.std.specs.List.{list_any}
 use Rattle.std.proofs.lemmas.Bool.{false≢true, and_from, cases_Bool, cases_eq, cases_order, ne_eqb, not_from_false, both_ways, false_from_ne_true, true_from_ne_false}
-use Rattle.cover_problem.specs.Lists.{has, are_distinct}
+use Rattle.cover_problem.specs.Lists.{has}
 use Rattle.cover_problem.specs.Problem.{ProblemValue, option_at}
 use Rattle.cover_problem.specs.Covering.{active, choice}
 use Rattle.cover_problem.specs.Path.{others, taken, IsChoice, covered_from, IsValidFrom}
@@ -39,10 +39,6 @@ taken_cases p c o i h m = step (has_append_cases c (choice p c ∷ others (choic
 pub valid_split : (p : ProblemValue) (c path more : List ℕ) → IsValidFrom p c (path ++ more) → IsValidFrom p c path × IsValidFrom p (covered_from p c path) more
 valid_split p c [] more v = (tt, v)
 valid_split p c (o ∷ path) more v = let r = valid_split p (taken p c o) path more v.1 in ((v.0, r.0), r.1)
-
-pub valid_join : (p : ProblemValue) (c path more : List ℕ) → IsValidFrom p c path → IsValidFrom p (covered_from p c path) more → IsValidFrom p c (path ++ more)
-valid_join p c [] more v w = w
-valid_join p c (o ∷ path) more v w = (v.0, valid_join p (taken p c o) path more v.1 w)
 
 pub covered_join : (p : ProblemValue) (c path more : List ℕ) → covered_from p c (path ++ more) ≡ covered_from p (covered_from p c path) more
 covered_join p c [] more = refl
@@ -110,10 +106,6 @@ path_once p c (x ∷ path) i a b v h k m n = step (λ s t. path_once p (taken p 
 -- an option is chosen once on a path
 pub path_new : (p : ProblemValue) (c path : List ℕ) (o : ℕ) → IsChoice p c o → IsValidFrom p (taken p c o) path → has path o ≡ false
 path_new p c path o h v = false_from_ne_true (has path o) (λ m. both_ways (has (option_at p o) (choice p c)) (path_apart p (taken p c o) path o (choice p c) v m (taken_covers p c o (choice p c) h (choice_has p c o h).item)) (choice_has p c o h).item)
-
-pub path_distinct : (p : ProblemValue) (c path : List ℕ) → IsValidFrom p c path → are_distinct path ≡ true
-path_distinct p c [] v = refl
-path_distinct p c (o ∷ path) v = and_from (not (has path o)) (are_distinct path) (not_from_false (has path o) (path_new p c path o v.0 v.1)) (path_distinct p (taken p c o) path v.1)
 
 -- each option of a path has an item that was active
 pub path_useful : (p : ProblemValue) (c path : List ℕ) (o : ℕ) → IsValidFrom p c path → has path o ≡ true → (i : ℕ) × (0 < i) × (i ≤ p.primary) × (has (option_at p o) i ≡ true)

@@ -10,9 +10,6 @@ use Rattle.cover_problem.proofs.MemberLemmas.{has_cases, has_here, has_later, ha
 pub before_at : (i : ℕ) (xs : List ℕ) → before_first (λ x. x == i) (i ∷ xs) ≡ []
 before_at i xs = let f : i == i ≡ true = eq-eqb i i refl in rw f refl
 
-pub after_at : (i : ℕ) (xs : List ℕ) → after_first (λ x. x == i) (i ∷ xs) ≡ xs
-after_at i xs = let f : i == i ≡ true = eq-eqb i i refl in rw f refl
-
 pub before_past : (i x : ℕ) (xs : List ℕ) → (x ≡ i → ⊥) → before_first (λ x. x == i) (x ∷ xs) ≡ x ∷ before_first (λ x. x == i) xs
 before_past i x xs e = let f : x == i ≡ false = ne_eqb x i e in rw (f, one-add) refl
 

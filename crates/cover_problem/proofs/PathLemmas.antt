@@ -86,10 +86,6 @@ pub can_parts : (p : ProblemValue) (c xs ys : List ℕ) → CanCover p c (xs ++ 
 can_parts p c [] ys h = (tt, rw append-nil h)
 can_parts p c (x ∷ xs) ys h = let r = can_parts p (c ++ x ∷ []) xs ys h.1 in ((h.0, r.0), rw append_assoc at r.1)
 
-pub can_join : (p : ProblemValue) (c xs ys : List ℕ) → CanCover p c xs → CanCover p (c ++ xs) ys → CanCover p c (xs ++ ys)
-can_join p c [] ys a b = rw append-nil at b
-can_join p c (x ∷ xs) ys a b = (a.0, can_join p (c ++ x ∷ []) xs ys a.1 (rw append_assoc b))
-
 -- distinct uncovered items can be covered one after another
 pub can_from : (p : ProblemValue) (c xs : List ℕ) → ((x : ℕ) → has xs x ≡ true → IsUncovered p c x) → are_distinct xs ≡ true → CanCover p c xs
 can_from p c [] each d = tt

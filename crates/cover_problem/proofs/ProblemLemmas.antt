@@ -59,9 +59,6 @@ within_parts p q h = by_size (chosen (is_small p) (Ok p) (Err TooLarge) (Ok q) h
     by_size (inl h) = (h.0, ok_is p q h.1)
     by_size (inr h) = absurd (no_fault TooLarge q h.1)
 
-after_names : ℕ → ℕ → List (List ℕ) → List (List ℕ) → Result ProblemValue Fault
-after_names n primary options these = each (add_option n) [] options >>= λ those. within (record { names = these; primary = primary; options = those })
-
 made_parts : (names : List (List ℕ)) (primary : ℕ) (options : List (List ℕ)) (p : ProblemValue) → problem_from names primary options ≡ Ok p →
     (is_item (length names) primary ≡ true) × ((these : List (List ℕ)) × (each add_name [] names ≡ Ok these) × ((those : List (List ℕ)) × (each (add_option (length names)) [] options ≡ Ok those) × (within (record { names = these; primary = primary; options = those }) ≡ Ok p)))
 unfolding problem_from

@@ -166,11 +166,6 @@ all_turned : all_below 24 (λ r. nat_lt (slice_index rotations r) 48 && is_rotat
 unfolding matrix is_rotation rotations
 all_turned = refl
 
-pub rotation_in : (r : ℕ) → r < 24 → (slice_index rotations r < 48) × (is_rotation (slice_index rotations r) ≡ true)
-rotation_in r lr =
-    let both = and_parts _ _ (all_at 24 (λ r. nat_lt (slice_index rotations r) 48 && is_rotation (slice_index rotations r)) all_turned r lr) in
-    (ltb-true _ _ both.0, both.1)
-
 -- ---- the matrix of a number, by the permutation's number
 
 pub matrix_at : (n p : ℕ) → n / 8 ≡ p

@@ -51,9 +51,6 @@ digit_at word i h l =
 
 -- *a number within its bound*
 
-pub none_of_others : (most : ℕ) (word : List ℕ) → is_decimal word ≡ false → None ≡ number_of most word
-none_of_others most word h = rw h refl
-
 none_above_step : (d : Bool) (v most : ℕ) → most < v → None ≡ cond (d && nat_le v most) (Some v) None
 none_above_step true v most h = let e : nat_le v most ≡ false = grind (arith, nat_tests) in rw e refl
 none_above_step false v most h = refl

@@ -27,10 +27,6 @@ pub record Went (p : ProblemValue) (s t : StateValue) (event : Event) (table_pro
   pub steps : t ≡ next p s
   pub tells : event ≡ event_of p s
 
--- a state with a known label
-pub by_label : (P : StateValue → Type 0) (s : StateValue) (l : Label) → s.label ≡ l → P (at l s.path s.cursor) → P s
-by_label P s l e h = subst (λ l. P (at l s.path s.cursor)) (sym e) h
-
 module _ (p : ProblemValue) (s t : StateValue) (event : Event) (table_problem : ProblemValue) (covered : List ℕ) (room : ℕ) (new_problem : ProblemValue) (new_covered : List ℕ) (new_room : ℕ) where
   went : Keeps p s table_problem covered room → new_problem ≡ table_problem → room ≤ new_room → t ≡ next p s → event ≡ event_of p s → new_covered ≡ covered_in p t → Went p s t event new_problem new_covered new_room
   went k e r n v c = record {

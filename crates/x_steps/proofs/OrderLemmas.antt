@@ -36,33 +36,6 @@ path_cases (x ∷ q) (y ∷ r) = step (path_cases q r) (cases_order x y)
     step ih (inr (inl l)) = inl (inl l)
     step ih (inr (inr l)) = inr (inr (inl l))
 
-pub path_not_self : (q : List ℕ) → PathLess q q → ⊥
-path_not_self [] l = l
-path_not_self (x ∷ q) l = step (path_not_self q) l
-  where
-    step : (PathLess q q → ⊥) → (x < x) ⊎ ((x ≡ x) × PathLess q q) → ⊥
-    step ih (inl k) = omega arith
-    step ih (inr k) = ih k.1
-
-pub path_trans : (q r s : List ℕ) → PathLess q r → PathLess r s → PathLess q s
-path_trans q r [] a b = b
-path_trans q [] (z ∷ s) a b = absurd (nothing q a)
-  where
-    nothing : (q : List ℕ) → PathLess q [] → ⊥
-    nothing [] a = a
-    nothing (x ∷ q) a = a
-path_trans [] (y ∷ r) (z ∷ s) a b = tt
-path_trans (x ∷ q) (y ∷ r) (z ∷ s) a b = step (path_trans q r s) a b
-  where
-    step : (PathLess q r → PathLess r s → PathLess q s) → (x < y) ⊎ ((x ≡ y) × PathLess q r) → (y < z) ⊎ ((y ≡ z) × PathLess r s) → (x < z) ⊎ ((x ≡ z) × PathLess q s)
-    step ih (inl k) (inl l) = inl (omega arith)
-    step ih (inl k) (inr l) = let e = l.0 in inl (omega arith)
-    step ih (inr k) (inl l) = let e = k.0 in inl (omega arith)
-    step ih (inr k) (inr l) = inr (k.0 ∙ l.0, ih k.1 l.1)
-
-pub path_not_both : (q r : List ℕ) → PathLess q r → PathLess r q → ⊥
-path_not_both q r a b = path_not_self q (path_trans q r q a b)
-
 -- ---- digits
 
 pub below_digits : (p : ProblemValue) (c path : List ℕ) (d : ℕ) → IsValidFrom p c path → d < 4 * length p.options + 9 → AllBelow (4 * length p.options + 9) (map (λ o. 4 * o + 2) path ++ d ∷ [])
@@ -203,11 +176,6 @@ inside_below p q rest o e l k f m =
     rw (inside_digits q rest o (digit_at (length p.options) l k))
     (number_less (4 * length p.options + 9) (suc p.primary) (map (λ o. 4 * o + 2) q) (4 * o + 2) e (map (λ o. 4 * o + 2) rest ++ digit_at (length p.options) l k ∷ []) [] (front_short p q rest o v) m (omega arith)
     (below_digits p (taken p (covered_from p [] q) o) rest (digit_at (length p.options) l k) s.1.1 (digit_small p l (q ++ o ∷ rest) k f)))
-
--- before the option is left,
-pub inside_left : (p : ProblemValue) (q rest : List ℕ) (o : ℕ) (l : Label) (k : Cursor) → FitsAt p l (q ++ o ∷ rest) k → rank p (at l (q ++ o ∷ rest) k) < rank p (at X6 q (At o))
-unfolding rank
-inside_left p q rest o l k f = inside_below p q rest o (4 * o + 3) l k f (omega arith)
 
 -- and before the cut at any later option of that level
 pub inside_before : (p : ProblemValue) (q rest : List ℕ) (o t : ℕ) (l : Label) (k : Cursor) → FitsAt p l (q ++ o ∷ rest) k → o < t → rank p (at l (q ++ o ∷ rest) k) < rank p (at X5 q (At t))

@@ -50,9 +50,6 @@ number_less base (suc n) (x ∷ front) a b us vs l m h k =
 
 -- ---- ranks
 
-pub choice_digits : List ℕ → List ℕ
-choice_digits path = map (λ o. 4 * o + 2) path
-
 -- a valid path leaves room for one more digit
 pub short : (p : ProblemValue) (path : List ℕ) → IsValid p path → length (map (λ o. 4 * o + 2) path) < suc p.primary
 short p path v = let d = depth p path v in let e = length-map path (λ o. 4 * o + 2) in omega arith

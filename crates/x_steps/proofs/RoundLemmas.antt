@@ -4,12 +4,12 @@ use Rattle.std.proofs.Common as common
 use Rattle.cover_problem.specs.Problem.{ProblemValue, IsProblem}
 use Rattle.cover_problem.proofs.PathLemmas.{depth}
 use Rattle.x_steps.specs.declared.state.Label.{Label}
-use Rattle.x_steps.specs.declared.state.Label.TheVariants.{X1, X2, X3, X4, X5, X6, X7, X8, Done}
+use Rattle.x_steps.specs.declared.state.Label.TheVariants.{X2, X3, X4, X5, X6, X7, X8, Done}
 use Rattle.x_steps.specs.declared.state.Cursor.{Cursor}
 use Rattle.x_steps.specs.declared.state.Cursor.TheVariants as cursor
 use Rattle.x_steps.specs.declared.state.Cursor.TheVariants.{At, Past}
 use Rattle.x_steps.specs.declared.event.Event.{Event}
-use Rattle.x_steps.specs.declared.event.Event.TheVariants.{Moved, Visited, Finished}
+use Rattle.x_steps.specs.declared.event.Event.TheVariants.{Moved, Visited}
 use Rattle.x_steps.specs.StateValue.{StateValue, at}
 use Rattle.x_steps.specs.Steps.{Fits, FitsAt, next, event_of, event_at, is_level, is_open, split_last, taken_back}
 use Rattle.x_steps.specs.Run.{after}

@@ -29,17 +29,6 @@ is_first X7 = inr (λ e. cc)
 is_first X8 = inr (λ e. cc)
 is_first Done = inr (λ e. cc)
 
-pub is_end : (l : Label) → (l ≡ Done) ⊎ (l ≡ Done → ⊥)
-is_end X1 = inr (λ e. cc)
-is_end X2 = inr (λ e. cc)
-is_end X3 = inr (λ e. cc)
-is_end X4 = inr (λ e. cc)
-is_end X5 = inr (λ e. cc)
-is_end X6 = inr (λ e. cc)
-is_end X7 = inr (λ e. cc)
-is_end X8 = inr (λ e. cc)
-is_end Done = inl refl
-
 pub start_fits : (p : ProblemValue) → Fits p start
 start_fits p = refl
 
@@ -115,9 +104,6 @@ prev_before p s f g = record { fit = fits_prev p s f; goes_on = prev_goes_on p s
 pub one_predecessor : (p : ProblemValue) (s : StateValue) → Fits p s → (s ≡ start → ⊥) → (t : StateValue) × IsBefore p t s × ((u : StateValue) → IsBefore p u s → u ≡ t)
 one_predecessor p s f g = (prev p s, prev_before p s f g, λ u b. sym (prev_next p u b.fit b.goes_on) ∙ ap (prev p) b.steps)
 
-pub before_is_prev : (p : ProblemValue) (t s : StateValue) → IsBefore p t s → t ≡ prev p s
-before_is_prev p t s b = sym (prev_next p t b.fit b.goes_on) ∙ ap (prev p) b.steps
-
 -- ---- steps
 
 pub after_fits : (p : ProblemValue) (n : ℕ) (s : StateValue) → Fits p s → Fits p (after p n s)
@@ -143,21 +129,6 @@ rises_between p n s f g i (suc j) l m = step (cases_lt i j) (rises_between p n s
     step : (i < j) ⊎ (j ≤ i) → (i < j → j ≤ n → rank p (after p i s) < rank p (after p j s)) → rank p (after p i s) < rank p (after p (suc j) s)
     step (inl a) ih = let b = ih a (omega arith) in let c = up in omega arith
     step (inr a) ih = let e : i ≡ j = omega arith in rw e up
-
--- what leads from one state to another does so in one way
-leads_once_less : (p : ProblemValue) (s t : StateValue) (m n : ℕ) → Fits p s → ReachesIn p s t m → ReachesIn p s t n → m < n → ⊥
-leads_once_less p s t m n f a b l =
-    let r = rises_between p n s f b.goes_on m n l (le_refl n) in
-    let e : after p m s ≡ after p n s = a.ends ∙ sym b.ends in
-    let h = ap (rank p) e in omega arith
-
-pub leads_once : (p : ProblemValue) (s t : StateValue) (m n : ℕ) → Fits p s → ReachesIn p s t m → ReachesIn p s t n → m ≡ n
-leads_once p s t m n f a b = step (cases_order m n)
-  where
-    step : (m ≡ n) ⊎ ((m < n) ⊎ (n < m)) → m ≡ n
-    step (inl e) = e
-    step (inr (inl l)) = absurd (leads_once_less p s t m n f a b l)
-    step (inr (inr l)) = absurd (leads_once_less p s t n m f b a l)
 
 pub leads_none : (p : ProblemValue) (s : StateValue) → ReachesIn p s s 0
 leads_none p s = record { ends = refl; goes_on = λ i l. absurd (omega arith) }
@@ -272,10 +243,6 @@ start_first p s f = step (stands p s f)
 pub none_before : (p : ProblemValue) (u : StateValue) → IsBefore p u start → ⊥
 none_before p u b = let r = rank_next p u b.fit b.goes_on in let l = start_first p u b.fit in let e = ap (rank p) b.steps in omega arith
 
--- a state before another isn't Done
-pub not_done : (p : ProblemValue) (s t : StateValue) → Fits p s → Fits p t → rank p s < rank p t → s.label ≡ Done → ⊥
-not_done p s t f g l e = let d = done_last p t g in let h = ap (rank p) (end_is p s f e) in omega arith
-
 -- ---- the run
 
 pub run_leads : (p : ProblemValue) → ReachesIn p start done (steps_between p start done)
@@ -311,20 +278,3 @@ place_within p s f = step (cases_lt (steps_between p start done) (steps_between 
     step : (steps_between p start done < steps_between p start s) ⊎ (steps_between p start s ≤ steps_between p start done) → steps_between p start s ≤ steps_between p start done
     step (inr l) = l
     step (inl l) = absurd ((leads_to p start s (start_fits p) f (start_first p s f)).goes_on (steps_between p start done) l (ap (λ (s : StateValue). s.label) (run_leads p).ends))
-
--- the order of ranks is that of the places
-pub rank_place : (p : ProblemValue) (s t : StateValue) → Fits p s → Fits p t → steps_between p start s < steps_between p start t → rank p s < rank p t
-rank_place p s t f g l =
-    let a = leads_to p start t (start_fits p) g (start_first p t g) in
-    let r = rises_between p (steps_between p start t) start (start_fits p) a.goes_on (steps_between p start s) (steps_between p start t) l (le_refl (steps_between p start t)) in
-    let x = ap (rank p) (after_place p s f) in
-    let y = ap (rank p) a.ends in
-    omega arith
-
-pub place_rank : (p : ProblemValue) (s t : StateValue) → Fits p s → Fits p t → rank p s < rank p t → steps_between p start s < steps_between p start t
-place_rank p s t f g l = step (cases_order (steps_between p start s) (steps_between p start t))
-  where
-    step : (steps_between p start s ≡ steps_between p start t) ⊎ ((steps_between p start s < steps_between p start t) ⊎ (steps_between p start t < steps_between p start s)) → steps_between p start s < steps_between p start t
-    step (inl e) = let h : s ≡ t = sym (after_place p s f) ∙ ap (λ n. after p n start) e ∙ after_place p t g in let x = ap (rank p) h in absurd (omega arith)
-    step (inr (inl k)) = k
-    step (inr (inr k)) = let r = rank_place p t s g f k in absurd (omega arith)

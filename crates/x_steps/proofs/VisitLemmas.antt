@@ -16,7 +16,7 @@ use Rattle.x_steps.specs.Order.{IsIn, PathLess, AllAfter, PathsRise}
 use Rattle.x_steps.specs.Covers.{AreCovers}
 use Rattle.x_steps.specs.Run.{after, states, visits, steps_between, visits_between}
 use Rattle.x_steps.specs.Rank.{rank}
-use Rattle.x_steps.proofs.RunLemmas.{start_fits, after_fits, rises_between, run_leads, run_is_fitting, leads_to}
+use Rattle.x_steps.proofs.RunLemmas.{start_fits, after_fits, rises_between, run_leads, run_is_fitting}
 use Rattle.x_steps.proofs.BetweenLemmas.{visit_of, visits_push}
 use Rattle.x_steps.proofs.OrderLemmas.{rank_path}
 
@@ -132,11 +132,6 @@ visits_rise_from p (suc n) s f g = rw (visits_push p (states p n s) (after p n s
 pub visits_rise : (p : ProblemValue) → PathsRise (visits_between p start done)
 unfolding visits_between
 visits_rise p = visits_rise_from p (steps_between p start done) start (start_fits p) (run_leads p).goes_on
-
--- of any stretch too
-pub visits_between_rises : (p : ProblemValue) (s t : StateValue) → Fits p s → Fits p t → rank p s ≤ rank p t → PathsRise (visits_between p s t)
-unfolding visits_between
-visits_between_rises p s t f g l = visits_rise_from p (steps_between p s t) s f (leads_to p s t f g l).goes_on
 
 -- ---- the visits of the run
 

@@ -16,7 +16,7 @@ use Rattle.x_steps.specs.StateValue.{StateValue, at}
 use Rattle.x_steps.specs.Steps.{next, next_at, event_of, event_at, is_level, is_open}
 use Rattle.x_steps.specs.Machine.{Position}
 use Rattle.x_steps.specs.Run.{after, states, level_count, ReachesIn}
-use Rattle.x_steps.specs.Walk.{last_event, OnlyMoves, AreCounted, HasRoom, IsWalk, IsRound, IsAtCut}
+use Rattle.x_steps.specs.Walk.{last_event, AreCounted, HasRoom, IsWalk, IsRound, IsAtCut}
 use Rattle.x_steps.proofs.RunLemmas.{after_add, leads_none, leads_push, leads_join}
 use Rattle.x_steps.proofs.BetweenLemmas.{states_join, length-states, level_count_push, level_count_join}
 

@@ -1,5 +1,5 @@
-use Rattle.std.proofs.Common.{sym, ap}
-use Rattle.cover_links.proofs.TurnLemmas.{hides_begin, hides_can, hides_on, hides_fewer, hides_end, hides_below}
+use Rattle.std.proofs.Common.{ap}
+use Rattle.cover_links.proofs.TurnLemmas.{hides_begin, hides_can, hides_on}
 use Rattle.cover_links.proofs.hiding.hide.Goals as goal
 
 pub loop-node-init : goal.loop-node-init

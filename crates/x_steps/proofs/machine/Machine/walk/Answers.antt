@@ -1,4 +1,4 @@
-use Rattle.std.proofs.Common.{◌≡◌, ◌∙◌, sym, ap, subst, refl, arith, length}
+use Rattle.std.proofs.Common.{◌∙◌, sym, ap, subst, refl, arith, length}
 use Rattle.x_steps.specs.Walk.{IsAtCut}
 use Rattle.x_steps.proofs.WalkLemmas.{walks_open, walks_room, walks_on}
 use Rattle.x_steps.proofs.machine.Machine.walk.Goals as goal

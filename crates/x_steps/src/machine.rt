@@ -178,6 +178,7 @@ impl<'p, T: Table> Machine<'p, T> {
     }
 
     /// X2: whether an item is active.
+    #[inline(always)]
     fn enter(&mut self) -> Event
         requires { IsAt self.old Label.X2 }
         ensures { Goes self.old self.new result }
@@ -188,6 +189,7 @@ impl<'p, T: Table> Machine<'p, T> {
     }
 
     /// X3: the next step covers the item.
+    #[inline(always)]
     fn plan(&mut self) -> Event
         requires { IsAt self.old Label.X3 }
         ensures { Goes self.old self.new result }
@@ -197,6 +199,7 @@ impl<'p, T: Table> Machine<'p, T> {
     }
 
     /// X4: the chosen item is covered, and its first option comes.
+    #[inline(always)]
     fn open(&mut self) -> Event
         requires { IsAt self.old Label.X4 }
         ensures { Goes self.old self.new result }
@@ -209,6 +212,7 @@ impl<'p, T: Table> Machine<'p, T> {
     }
 
     /// X5: the option is taken.
+    #[inline(always)]
     fn take(&mut self, option: u32) -> Event
         requires label { IsAt self.old Label.X5 }
         requires cursor { self.old.state.cursor ≡ Cursor.At option }
@@ -222,6 +226,7 @@ impl<'p, T: Table> Machine<'p, T> {
     }
 
     /// X5 past the last option.
+    #[inline(always)]
     fn give_up(&mut self) -> Event
         requires label { IsAt self.old Label.X5 }
         requires cursor { (o : ℕ) → self.old.state.cursor ≢ Cursor.At o }
@@ -232,6 +237,7 @@ impl<'p, T: Table> Machine<'p, T> {
     }
 
     /// X6: the option's other items are uncovered, and the item's next option comes.
+    #[inline(always)]
     fn retry(&mut self, option: u32) -> Event
         requires label { IsAt self.old Label.X6 }
         requires cursor { self.old.state.cursor ≡ Cursor.At option }
@@ -246,6 +252,7 @@ impl<'p, T: Table> Machine<'p, T> {
     }
 
     /// X7: the item is uncovered.
+    #[inline(always)]
     fn close(&mut self) -> Event
         requires { IsAt self.old Label.X7 }
         ensures { Goes self.old self.new result }
@@ -257,6 +264,7 @@ impl<'p, T: Table> Machine<'p, T> {
     }
 
     /// X8: the last choice is taken back, or the search ends.
+    #[inline(always)]
     fn leave(&mut self) -> Event
         requires { IsAt self.old Label.X8 }
         ensures { Goes self.old self.new result }

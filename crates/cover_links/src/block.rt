@@ -27,7 +27,9 @@ impl<A: Allocator> Model for Block<A> {
 
     ghost view = { λ a. values a.slots.slots };
 
-    ghost invariant = { λ a. (a.slots.at ≡ a.base.ptr) × (length a.slots.slots ≡ a.len) × (a.allocation.at ≡ a.base.ptr) × (a.allocation.len ≡ a.len) × (a.allocation.alloc ≡ a.alloc) × IsFull a.slots.slots };
+    ghost invariant = { λ a. (a.slots.at ≡ a.base.ptr) × (length a.slots.slots ≡ a.len)
+        × (a.allocation.at ≡ a.base.ptr) × (a.allocation.len ≡ a.len) × (a.allocation.alloc ≡ a.alloc)
+        × IsFull a.slots.slots };
 }
 
 impl<A: Allocator> Block<A> {

@@ -23,7 +23,8 @@ pub(crate) const BLANK: Entry = Entry {
 /// For each option where its first node stands, and at the end where the block ends.
 pub(crate) fn starts(alloc: Global, problem: &Problem) -> Result<Vec<u32>, AllocError>
     ensures count { IfOk result (λ s. length s.items ≡ suc (length problem.now.options)) }
-    ensures each { IfOk result (λ s. (k : ℕ) → k ≤ length problem.now.options → slice_index s.items k ≡ start_of problem.now k) }
+    ensures each { IfOk result (λ s. (k : ℕ) → k ≤ length problem.now.options →
+        slice_index s.items k ≡ start_of problem.now k) }
 {
     let options = problem.options();
     let mut starts = Vec::with_capacity(alloc, options as usize + 1)?;

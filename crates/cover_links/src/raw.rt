@@ -74,7 +74,8 @@ pub(crate) fn allocate<A: Allocator>(
     len: usize,
 ) -> Result<(Base, Slots, Allocation<A>), AllocError>
     requires { FitsInBlock len }
-    ensures { IfOk result (λ r. (r.1.at ≡ r.0.ptr) × (r.1.slots ≡ replicate len None) × (r.2.at ≡ r.0.ptr) × (r.2.len ≡ len) × (r.2.alloc ≡ alloc.now)) }
+    ensures { IfOk result (λ r. (r.1.at ≡ r.0.ptr) × (r.1.slots ≡ replicate len None) × (r.2.at ≡ r.0.ptr)
+        × (r.2.len ≡ len) × (r.2.alloc ≡ alloc.now)) }
 {
     match alloc.allocate(len * size_of::<Entry>(), align_of::<Entry>()) {
         Ok(block) => {
@@ -99,7 +100,8 @@ pub(crate) fn deallocate<A: Allocator>(
     slots: Slots,
     allocation: Allocation<A>,
 )
-    requires { (slots.at ≡ base.ptr) × (length slots.slots ≡ len) × (allocation.at ≡ base.ptr) × (allocation.len ≡ len) × (allocation.alloc ≡ alloc.now) }
+    requires { (slots.at ≡ base.ptr) × (length slots.slots ≡ len) × (allocation.at ≡ base.ptr)
+        × (allocation.len ≡ len) × (allocation.alloc ≡ alloc.now) }
 {
     let Slots { mark: _ } = slots;
     let Allocation { mark: _ } = allocation;

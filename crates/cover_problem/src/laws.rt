@@ -22,7 +22,8 @@ pub fn choice_is_first_shortest()
 
 /// Names, a number of primary items and options make a problem exactly where they are one, and it is what was given.
 pub fn problems_are_made()
-    ensures { (given p : ProblemValue) → (problem_from given.names given.primary given.options ≡ Ok p) ↔ ((p ≡ given) × IsProblem p) }
+    ensures { (given p : ProblemValue) →
+        (problem_from given.names given.primary given.options ≡ Ok p) ↔ ((p ≡ given) × IsProblem p) }
 {}
 
 /// What is written is read as the same problem.

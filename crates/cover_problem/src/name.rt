@@ -32,7 +32,8 @@ pub fn is_name(word: &[u8]) -> bool
 
 /// A word as a name, where it is one.
 pub fn name_of(word: &[u8]) -> Option<Name>
-    ensures { MatchOption result (problem.is_name word.now ≡ false) (λ name. (problem.is_name word.now ≡ true) × (name.bytes ≡ word.now)) }
+    ensures { MatchOption result (problem.is_name word.now ≡ false)
+        (λ name. (problem.is_name word.now ≡ true) × (name.bytes ≡ word.now)) }
 {
     if !is_name(word) {
         return None;

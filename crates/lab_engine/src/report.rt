@@ -130,7 +130,8 @@ impl Report {
 
     /// Adds the lines of the steps and of the levels.
     pub fn push_steps(&self, alloc: Global, text: &mut Vec<u8>) -> Result<(), AllocError>
-        ensures { OnOk result (text.new.items ≡ text.old.items ++ text_of (step_lines self.now.steps (without_last_zeros self.now.entered))) }
+        ensures { OnOk result (text.new.items ≡ text.old.items
+            ++ text_of (step_lines self.now.steps (without_last_zeros self.now.entered))) }
     {
         let mut entered = totals_of(alloc, &self.entered)?;
         drop_last_zeros(&mut entered);

@@ -124,7 +124,8 @@ impl Cell {
     // This cell translated, where a cell is there.
     pub(crate) fn translated(self, dx: i32, dy: i32, dz: i32) -> Option<Cell>
         ensures inside { IfSome result (λ cell. IsInGrid cell × (point cell ≡ translated (point_at dx dy dz) (point self))) }
-        ensures outside { IfNone result ((p : Coordinates) → IsInGrid p → point p ≢ translated (point_at dx dy dz) (point self)) }
+        ensures outside { IfNone result ((p : Coordinates) → IsInGrid p →
+            point p ≢ translated (point_at dx dy dz) (point self)) }
     {
         let x = shifted(self.x, dx)?;
         let y = shifted(self.y, dy)?;

@@ -21,11 +21,25 @@ impl Model for SignedPermutation {
 
     ghost Value = { Matrix };
 
-    ghost view = { λ m. record { from_x = m.from_x; from_y = m.from_y; from_z = m.from_z; minus_x = m.minus_x; minus_y = m.minus_y; minus_z = m.minus_z } };
+    ghost view = { λ m. record {
+      from_x = m.from_x;
+      from_y = m.from_y;
+      from_z = m.from_z;
+      minus_x = m.minus_x;
+      minus_y = m.minus_y;
+      minus_z = m.minus_z;
+    } };
 
     ghost invariant = { λ m. (m.from_x ≤ 2) × (m.from_y ≤ 2) × (m.from_z ≤ 2) };
 
-    ghost inverse = { λ m. record { from_x = m.from_x; from_y = m.from_y; from_z = m.from_z; minus_x = m.minus_x; minus_y = m.minus_y; minus_z = m.minus_z } };
+    ghost inverse = { λ m. record {
+      from_x = m.from_x;
+      from_y = m.from_y;
+      from_z = m.from_z;
+      minus_x = m.minus_x;
+      minus_y = m.minus_y;
+      minus_z = m.minus_z;
+    } };
 }
 
 impl SignedPermutation {

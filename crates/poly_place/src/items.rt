@@ -125,7 +125,8 @@ pub fn add_piece_names(
     names: &mut Vec<String>,
     pieces: &[PieceName],
 ) -> Result<(), AllocError>
-    ensures { OnOk result (map string_bytes names.new.items ≡ map string_bytes names.old.items ++ map (λ n. n ∷ []) pieces.now) }
+    ensures { OnOk result (map string_bytes names.new.items ≡ map string_bytes names.old.items
+        ++ map (λ n. n ∷ []) pieces.now) }
 {
     for name in pieces {
         let mut text = String::new(alloc);

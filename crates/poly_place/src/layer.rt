@@ -93,7 +93,8 @@ fn push_row(
 
 // Adds a space, where a word stands before.
 fn push_gap(text: &mut String, is_later: bool) -> Result<(), AllocError>
-    ensures { OnOk result (string_bytes text.new ≡ (if is_later then string_bytes text.old ++ 32 ∷ [] else string_bytes text.old)) }
+    ensures { OnOk result (string_bytes text.new ≡
+        (if is_later then string_bytes text.old ++ 32 ∷ [] else string_bytes text.old)) }
 {
     if is_later {
         return push_symbol(text, b' ');

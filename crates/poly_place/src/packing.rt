@@ -26,7 +26,11 @@ impl<'p> Model for Packing<'p> {
 
     ghost Value = { PackingValue };
 
-    ghost view = { λ a. record { region = a.puzzle.now.region; maybe_cells = a.puzzle.now.maybe_cells; placements = a.placements.items } };
+    ghost view = { λ a. record {
+      region = a.puzzle.now.region;
+      maybe_cells = a.puzzle.now.maybe_cells;
+      placements = a.placements.items;
+    } };
 }
 
 impl<'p> Packing<'p> {

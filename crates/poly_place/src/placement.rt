@@ -74,7 +74,8 @@ fn add_at_cells(
     piece: &[Cell],
 ) -> Result<(), AllocError>
     requires { length bits.now ≡ 32768 }
-    ensures { OnOk result (map vec_items sets.new.items ≡ map vec_items sets.old.items ++ at_cells (has_bit bits.now) cells.now piece.now) }
+    ensures { OnOk result (map vec_items sets.new.items ≡ map vec_items sets.old.items
+        ++ at_cells (has_bit bits.now) cells.now piece.now) }
 {
     for cell in cells {
         add_at_cell(alloc, sets, bits, piece, *cell)?;
@@ -91,7 +92,8 @@ fn add_at_cell(
     cell: Cell,
 ) -> Result<(), AllocError>
     requires { length bits.now ≡ 32768 }
-    ensures { OnOk result (map vec_items sets.new.items ≡ map vec_items sets.old.items ++ at_cell (has_bit bits.now) piece.now cell) }
+    ensures { OnOk result (map vec_items sets.new.items ≡ map vec_items sets.old.items
+        ++ at_cell (has_bit bits.now) piece.now cell) }
 {
     let Some(first) = piece.first() else {
         return Ok(());
@@ -111,7 +113,8 @@ fn add_if_inside(
     by: Cell,
 ) -> Result<(), AllocError>
     requires { length bits.now ≡ 32768 }
-    ensures { OnOk result (map vec_items sets.new.items ≡ map vec_items sets.old.items ++ if_inside (has_bit bits.now) (map (moved by) cells.now)) }
+    ensures { OnOk result (map vec_items sets.new.items ≡ map vec_items sets.old.items
+        ++ if_inside (has_bit bits.now) (map (moved by) cells.now)) }
 {
     if all_inside(bits, cells, by) {
         sets.push(all_moved(alloc, cells, by)?)?;

@@ -9,7 +9,8 @@ ghost use Rattle.text_lines.specs.Reading.{FaultIsFirst, FaultIsOfWhole, SaysIts
 
 /// Lines of words that are written are read as the same lines of words.
 pub fn written_text_is_read()
-    ensures words { (lines : List (List (List ℕ))) → are_words lines ≡ true → map words_of_line (lines_of (text_of lines)) ≡ lines }
+    ensures words { (lines : List (List (List ℕ))) → are_words lines ≡ true →
+        map words_of_line (lines_of (text_of lines)) ≡ lines }
     ensures plain { (lines : List (List (List ℕ))) → are_words lines ≡ true → are_plain (lines_of (text_of lines)) ≡ true }
 {}
 
@@ -20,7 +21,8 @@ pub fn plain_lines_say_words()
 
 /// The word of a number is the text that printing it gives, and no other.
 pub fn number_is_as_printed()
-    ensures { (most n : ℕ) (word : List ℕ) → most < 2 ^ 64 → ((number_of most word ≡ Some n) ↔ ((word ≡ decimal n) × (n ≤ most))) }
+    ensures { (most n : ℕ) (word : List ℕ) → most < 2 ^ 64 →
+        ((number_of most word ≡ Some n) ↔ ((word ≡ decimal n) × (n ≤ most))) }
 {}
 
 /// Steps give a state where each of them goes on from what the one before left.
@@ -37,10 +39,12 @@ pub fn each_stops_at_the_first_fault<S, X, F>()
 /// with the number 0 is one of the whole text, where no line has one.
 pub fn fault_is_first<S, P, F>()
     ensures line { (line : S → List ℕ → Result S F) (nothing : S) (whole : S → Result P F) → FaultIsFirst line nothing whole }
-    ensures whole { (line : S → List ℕ → Result S F) (nothing : S) (whole : S → Result P F) → FaultIsOfWhole line nothing whole }
+    ensures whole { (line : S → List ℕ → Result S F) (nothing : S) (whole : S → Result P F) →
+        FaultIsOfWhole line nothing whole }
 {}
 
 /// A text that is read by the words of its lines says what those words say: comments, blanks and empty lines say nothing.
 pub fn text_says_its_words<S, F>()
-    ensures { (bad : F) (words_line : S → List (List ℕ) → Result S F) → ((s : S) → words_line s [] ≡ Ok s) → SaysItsWords bad words_line }
+    ensures { (bad : F) (words_line : S → List (List ℕ) → Result S F) → ((s : S) → words_line s [] ≡ Ok s) →
+        SaysItsWords bad words_line }
 {}

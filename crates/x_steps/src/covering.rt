@@ -89,7 +89,8 @@ pub fn cover_others<T: Table>(table: &mut T, option: &[u32], item: u32)
 pub fn uncover_last<T: Table>(table: &mut T, count: usize)
     requires { (front back : List ℕ) × (T.covered_list table.old ≡ front ++ back) × (length back ≡ count) }
     ensures same_problem { T.problem_value table.new ≡ T.problem_value table.old }
-    ensures covered { (back : List ℕ) × (T.covered_list table.old ≡ T.covered_list table.new ++ back) × (length back ≡ count) }
+    ensures covered { (back : List ℕ) × (T.covered_list table.old ≡ T.covered_list table.new ++ back)
+        × (length back ≡ count) }
 {
     for _ in 0..count {
         let item = last_covered(table);

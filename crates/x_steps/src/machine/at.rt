@@ -253,7 +253,8 @@ impl<'p, T: Table> Machine<'p, T> {
     /// Stands at another step, where the same items are covered.
     fn turn(&mut self, label: Label, cursor: Cursor)
         requires fits { Fits self.old.problem (at label self.old.state.path cursor) }
-        requires same { covered_in self.old.problem (at label self.old.state.path cursor) ≡ covered_in self.old.problem self.old.state }
+        requires same { covered_in self.old.problem (at label self.old.state.path cursor) ≡
+            covered_in self.old.problem self.old.state }
         ensures { self.new ≡ position self.old.problem (at label self.old.state.path cursor) }
     {
         self.state.go(label, cursor);

@@ -78,10 +78,12 @@ impl<'p, T: Table> Machine<'p, T> {
         ensures event { IfOk result (λ w. w.event ≡ last_event self.old.problem w.steps self.old.state) }
         ensures moves { IfOk result (λ w. OnlyMoves self.old.problem w.steps self.old.state) }
         ensures levels { IfOk result (λ w. AreCounted counts.old counts.new (states self.old.problem w.steps self.old.state)) }
-        ensures before { IfOk result (λ w. (i : ℕ) → i < w.steps → IsAtCut (after self.old.problem i self.old.state) end.now → ⊥) }
+        ensures before { IfOk result (λ w. (i : ℕ) → i < w.steps →
+            IsAtCut (after self.old.problem i self.old.state) end.now → ⊥) }
         ensures stops { IfOk result (λ w. (w.steps ≡ most) ⊎ (w.event ≢ Event.Moved) ⊎ IsAtCut self.new.state end.now) }
         ensures over { IsErr result ↔ (self.old.state.label ≡ Label.Done) }
-        ensures refused { IfErr result (λ fault. (fault ≡ StepFault.Done) × (self.new ≡ self.old) × (counts.new ≡ counts.old)) }
+        ensures refused { IfErr result (λ fault. (fault ≡ StepFault.Done) × (self.new ≡ self.old)
+            × (counts.new ≡ counts.old)) }
     {
         if let Label::Done = self.state.label {
             return Err(StepFault::Done);

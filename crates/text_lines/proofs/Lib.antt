@@ -8,6 +8,7 @@ pub mod ResultLemmas
 pub mod EachLemmas
 pub mod ReadingLemmas
 pub mod FirstFaultLemmas
+pub mod FirstByteLemmas
 pub mod TextWordLemmas
 mod LineExamples
 mod NumberExamples

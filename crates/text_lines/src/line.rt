@@ -5,12 +5,14 @@ ghost use Rattle.std.specs.List.{list_all, position_or_len};
 ghost use Rattle.text_lines.specs.Lines as spec;
 ghost use Rattle.text_lines.specs.Lines.{lines_of, is_newline, is_one_line, is_plain};
 
+use memchr::memchr;
+
 /// The place of the first newline, or the length where there is none.
 fn newline_at(text: &[u8]) -> usize
     ensures first { result ≡ position_or_len is_newline text.now }
     ensures within { result ≤ length text.now }
 {
-    text.iter().take_while(|byte| **byte != b'\n').count()
+    memchr(b'\n', text).unwrap_or(text.len())
 }
 
 /// The first line of a text that isn't empty, without its end, and what stands after that end.
@@ -59,7 +61,7 @@ fn comment_at(line: &[u8]) -> usize
     ensures first { result ≡ position_or_len spec.begins_comment line.now }
     ensures within { result ≤ length line.now }
 {
-    line.iter().take_while(|byte| **byte != b'#').count()
+    memchr(b'#', line).unwrap_or(line.len())
 }
 
 /// What a line says: without one carriage return at its end, and without its comment.

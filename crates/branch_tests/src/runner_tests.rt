@@ -213,17 +213,32 @@ fn a_runner_tells_what_it_has_to(rt: HostRuntime) -> Result<(), Fail> {
     Ok(())
 }
 
-/// Why the stretch from X1 up to the cut 4 isn't joined to a runner's from there on, after so many steps, if it isn't.
+/// The stretch from X1 up to the cut 4.
+fn first_stretch<'p>(alloc: Global, problem: &'p Problem) -> Result<Stretch<'p>, Fail> {
+    let mut runner = whole(alloc, problem)?;
+    advances(&mut runner, 20);
+    Ok(runner.take_stretch()?)
+}
+
+/// Why a stretch isn't joined to a runner's from the cut 4 on, after so many steps, if it isn't.
+fn join_refused<'p>(
+    alloc: Global,
+    problem: &'p Problem,
+    stretch: Stretch<'p>,
+    steps: u32,
+) -> Result<Option<RunnerFault>, Fail> {
+    let mut runner = runner_of::<PlainTable>(alloc, problem, &[4], &[])?;
+    advances(&mut runner, steps);
+    Ok(refusal(runner.reopen(stretch)))
+}
+
+/// Why the first stretch isn't joined to a runner's from the cut 4 on, after so many steps, if it isn't.
 fn first_refused(
     alloc: Global,
     problem: &Problem,
     steps: u32,
 ) -> Result<Option<RunnerFault>, Fail> {
-    let mut runner = runner_of::<PlainTable>(alloc, problem, &[4], &[])?;
-    let mut first = whole(alloc, problem)?;
-    advances(&mut first, 20);
-    advances(&mut runner, steps);
-    Ok(refusal(runner.reopen(first.take_stretch()?)))
+    join_refused(alloc, problem, first_stretch(alloc, problem)?, steps)
 }
 
 #[test]

@@ -1,6 +1,6 @@
 //! Cuts and branches of the small problem.
-use crate::setting::{SMALL, branch_of, cut_of};
-use cover_problem::{PlainTable, Problem, Table, read_cover};
+use crate::setting::{branch_of, cut_of, small};
+use cover_problem::Problem;
 use std::alloc::Global;
 use std::test::Fail;
 use x_branches::{Cut, CutFault};
@@ -17,9 +17,10 @@ const CUTS: [&[u32]; 4] = [&[2], &[4], &[4, 5], &[4, 5, 1]];
 
 #[test]
 fn cuts_are_the_paths_of_the_search(rt: HostRuntime) -> Result<(), Fail> {
-    let problem = read_cover(rt.alloc(), SMALL.as_bytes())?;
+    let alloc = rt.alloc();
+    let problem = small(alloc)?;
     for path in CUTS {
-        assert!(rt; is_cut(rt.alloc(), &problem, path)?);
+        assert!(rt; is_cut(alloc, &problem, path)?);
     }
     Ok(())
 }
@@ -46,9 +47,10 @@ const OTHERS: [&[u32]; 6] = [&[], &[1], &[2, 1], &[4, 5, 1, 1], &[0], &[7]];
 
 #[test]
 fn other_paths_come_back(rt: HostRuntime) -> Result<(), Fail> {
-    let problem = read_cover(rt.alloc(), SMALL.as_bytes())?;
+    let alloc = rt.alloc();
+    let problem = small(alloc)?;
     for path in OTHERS {
-        assert!(rt; comes_back(rt.alloc(), &problem, path)?);
+        assert!(rt; comes_back(alloc, &problem, path)?);
     }
     Ok(())
 }
@@ -71,9 +73,10 @@ const BRANCHES: [(&[u32], &[u32]); 3] = [(&[2], &[4]), (&[], &[4]), (&[4, 5], &[
 
 #[test]
 fn a_branch_is_copied(rt: HostRuntime) -> Result<(), Fail> {
-    let problem = read_cover(rt.alloc(), SMALL.as_bytes())?;
+    let alloc = rt.alloc();
+    let problem = small(alloc)?;
     for (lo, hi) in BRANCHES {
-        assert!(rt; is_copied(rt.alloc(), &problem, lo, hi)?);
+        assert!(rt; is_copied(alloc, &problem, lo, hi)?);
     }
     Ok(())
 }

@@ -41,10 +41,11 @@ fn drawn_text(alloc: Global, primary: usize, seed: &mut u64) -> Result<String, A
 
 #[test]
 fn states_of_drawn_problems_come_in_order(rt: HostRuntime) -> Result<(), Fail> {
+    let alloc = rt.alloc();
     let mut seed = 7;
     for round in 0..30 {
-        let text = drawn_text(rt.alloc(), round % 5 + 1, &mut seed)?;
-        let states = states_of(rt.alloc(), &text)?;
+        let text = drawn_text(alloc, round % 5 + 1, &mut seed)?;
+        let states = states_of(alloc, &text)?;
         assert!(rt; are_in_order(&states), "for {text}");
     }
     Ok(())
@@ -138,14 +139,18 @@ struct Parts {
 }
 
 impl Parts {
+    fn add(&mut self, stretch: &Stretch<'_>) -> Result<(), AllocError> {
+        self.end = stretch.to().copy()?;
+        self.tally.add(stretch)
+    }
+
     /// Takes the stretch out, which has to begin where the last one ended.
     fn post<T: Table>(&mut self, runner: &mut Runner<'_, T>) -> Result<(), Fail> {
         let stretch = runner.take_stretch()?;
         if !stretch.from().same(&self.end) {
             return Err(Fail::from("a stretch begins elsewhere"));
         }
-        self.end = stretch.to().copy()?;
-        self.tally.add(&stretch)?;
+        self.add(&stretch)?;
         Ok(())
     }
 
@@ -259,14 +264,12 @@ fn is_its_parts(alloc: Global, problem: &Problem, seed: &mut u64) -> Result<bool
 
 #[test]
 fn drawn_runs_are_their_parts(rt: HostRuntime) -> Result<(), Fail> {
+    let alloc = rt.alloc();
     let mut seed = 5;
     for round in 0..60 {
-        let text = drawn_text(rt.alloc(), round % 5 + 1, &mut seed)?;
-        let problem = read_cover(rt.alloc(), text.as_bytes())?;
-        assert!(rt;
-            is_its_parts(rt.alloc(), &problem, &mut seed)?,
-            "for {text}"
-        );
+        let text = drawn_text(alloc, round % 5 + 1, &mut seed)?;
+        let problem = read_cover(alloc, text.as_bytes())?;
+        assert!(rt; is_its_parts(alloc, &problem, &mut seed)?, "for {text}");
     }
     Ok(())
 }

@@ -55,7 +55,8 @@ pub fn are_in_order(states: &[State]) -> bool {
 
 #[test]
 fn states_come_in_the_order_of_the_run(rt: HostRuntime) -> Result<(), Fail> {
-    let states = states_of(rt.alloc(), SMALL)?;
+    let alloc = rt.alloc();
+    let states = states_of(alloc, SMALL)?;
     assert!(rt; states.len() == 44 && are_in_order(&states));
     Ok(())
 }
@@ -65,9 +66,10 @@ const STEPS: [(Label, Ordering); 2] = [(Label::X5, Ordering::Less), (Label::X6, 
 
 #[test]
 fn a_step_comes_before_or_after_what_lies_below(rt: HostRuntime) -> Result<(), Fail> {
-    let below = state_at(rt.alloc(), Label::X8, &[4, 5, 1], Cursor::None)?;
+    let alloc = rt.alloc();
+    let below = state_at(alloc, Label::X8, &[4, 5, 1], Cursor::None)?;
     for (label, order) in STEPS {
-        let state = state_at(rt.alloc(), label, &[4], Cursor::At(5))?;
+        let state = state_at(alloc, label, &[4], Cursor::At(5))?;
         assert!(rt; run_order(&state, &below) == order);
     }
     Ok(())

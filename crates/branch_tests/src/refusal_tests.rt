@@ -1,5 +1,5 @@
 //! Where a runner can't start, what is of another problem, and the numbers and names of refusals.
-use crate::setting::{SMALL, branch_of, cut_of, refusal, state_at, whole};
+use crate::setting::{branch_of, cut_of, refusal, small, state_at, whole};
 use cover_problem::{PlainTable, Problem, Table, read_cover};
 use std::alloc::Global;
 use std::test::Fail;
@@ -63,9 +63,10 @@ fn start_between(
 
 #[test]
 fn a_runner_starts_within_its_branch(rt: HostRuntime) -> Result<(), Fail> {
-    let problem = read_cover(rt.alloc(), SMALL.as_bytes())?;
+    let alloc = rt.alloc();
+    let problem = small(alloc)?;
     for (lo, hi, path, fault) in STARTS {
-        assert!(rt; start_between(rt.alloc(), &problem, lo, hi, path)? == fault);
+        assert!(rt; start_between(alloc, &problem, lo, hi, path)? == fault);
     }
     Ok(())
 }
@@ -96,13 +97,14 @@ fn foreign_start<'p>(
 
 /// Whether the other problem's cut is outside all branches of the small problem.
 fn is_outside(alloc: Global, other: &Problem) -> Result<bool, Fail> {
-    let problem = read_cover(alloc, SMALL.as_bytes())?;
+    let problem = small(alloc)?;
     Ok(is_foreign(alloc, &problem, other)? && foreign_start(alloc, &problem, other)? == OUTSIDE)
 }
 
 #[test]
 fn cuts_of_another_problem_are_outside(rt: HostRuntime) -> Result<(), Fail> {
-    let other = read_cover(rt.alloc(), OTHER.as_bytes())?;
-    assert!(rt; is_outside(rt.alloc(), &other)?);
+    let alloc = rt.alloc();
+    let other = read_cover(alloc, OTHER.as_bytes())?;
+    assert!(rt; is_outside(alloc, &other)?);
     Ok(())
 }

@@ -1,6 +1,6 @@
 //! The worked example: a runner on the small problem. What is asked of it stands in rows, each with what it has to tell.
-use crate::setting::{SMALL, refusal, runner_of, whole};
-use cover_problem::{PlainTable, Problem, Table, read_cover};
+use crate::setting::{refusal, runner_of, small, whole};
+use cover_problem::{PlainTable, Problem, Table};
 use std::alloc::Global;
 use std::test::Fail;
 use x_branches::{Runner, RunnerFault, Stretch};
@@ -112,6 +112,12 @@ fn is_stretch(stretch: &Stretch<'_>, steps: u32, visits: &[&[u32]], levels: &[u3
     stretch.steps() == steps && stretch.levels() == levels
 }
 
+/// Whether a stretch begins and ends where another of its problem does.
+fn has_ends_of(stretch: &Stretch<'_>, other: &Stretch<'_>) -> bool {
+    let problem = stretch.problem().same(other.problem());
+    problem && stretch.from().same(other.from()) && stretch.to().same(other.to())
+}
+
 fn hands_out<T: Table>(
     runner: &mut Runner<'_, T>,
     steps: u32,
@@ -120,9 +126,9 @@ fn hands_out<T: Table>(
 ) -> Result<bool, Fail> {
     let stretch = runner.take_stretch()?;
     let copy = stretch.copy()?;
-    let ends = copy.from().same(stretch.from()) && copy.to().same(stretch.to());
     Ok(
-        ends && is_stretch(&stretch, steps, visits, levels)
+        has_ends_of(&copy, &stretch)
+            && is_stretch(&stretch, steps, visits, levels)
             && is_stretch(&copy, steps, visits, levels),
     )
 }
@@ -206,9 +212,10 @@ const PLAYS: [(&[u32], &[Row]); 5] = [
 
 #[test]
 fn a_runner_tells_what_it_has_to(rt: HostRuntime) -> Result<(), Fail> {
-    let problem = read_cover(rt.alloc(), SMALL.as_bytes())?;
+    let alloc = rt.alloc();
+    let problem = small(alloc)?;
     for (first, rows) in PLAYS {
-        assert!(rt; plays(rt.alloc(), &problem, first, rows)?);
+        assert!(rt; plays(alloc, &problem, first, rows)?);
     }
     Ok(())
 }
@@ -220,35 +227,45 @@ fn first_stretch<'p>(alloc: Global, problem: &'p Problem) -> Result<Stretch<'p>,
     Ok(runner.take_stretch()?)
 }
 
-/// Why a stretch isn't joined to a runner's from the cut 4 on, after so many steps, if it isn't.
+/// Why a stretch isn't joined to a runner's from the cut 4 on, if it isn't: after so many steps, of which the stretch is taken out or
+/// is left.
 fn join_refused<'p>(
     alloc: Global,
     problem: &'p Problem,
     stretch: Stretch<'p>,
     steps: u32,
+    takes: bool,
 ) -> Result<Option<RunnerFault>, Fail> {
     let mut runner = runner_of::<PlainTable>(alloc, problem, &[4], &[])?;
     advances(&mut runner, steps);
+    if takes {
+        runner.take_stretch()?;
+    }
     Ok(refusal(runner.reopen(stretch)))
 }
 
-/// Why the first stretch isn't joined to a runner's from the cut 4 on, after so many steps, if it isn't.
+/// Why the first stretch isn't joined so, if it isn't.
 fn first_refused(
     alloc: Global,
     problem: &Problem,
     steps: u32,
+    takes: bool,
 ) -> Result<Option<RunnerFault>, Fail> {
-    join_refused(alloc, problem, first_stretch(alloc, problem)?, steps)
+    join_refused(alloc, problem, first_stretch(alloc, problem)?, steps, takes)
 }
+
+const FIRST_REFUSED: [(u32, bool, RunnerFault); 3] = [
+    (0, true, RunnerFault::OutsideBranch),
+    (23, true, RunnerFault::NotAtMark),
+    (5, false, RunnerFault::NotAtMark),
+];
 
 #[test]
 fn a_stretch_from_before_the_branch_is_refused(rt: HostRuntime) -> Result<(), Fail> {
-    let problem = read_cover(rt.alloc(), SMALL.as_bytes())?;
-    for (steps, fault) in [
-        (0, RunnerFault::OutsideBranch),
-        (23, RunnerFault::NotAtMark),
-    ] {
-        assert!(rt; first_refused(rt.alloc(), &problem, steps)? == Some(fault));
+    let alloc = rt.alloc();
+    let problem = small(alloc)?;
+    for (steps, takes, fault) in FIRST_REFUSED {
+        assert!(rt; first_refused(alloc, &problem, steps, takes)? == Some(fault));
     }
     Ok(())
 }

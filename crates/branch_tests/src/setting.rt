@@ -1,13 +1,18 @@
 //! The small problem, and cuts and runners of a problem.
-use cover_problem::{PlainTable, Problem, Table};
+use cover_problem::{PlainTable, Problem, Table, read_cover};
 use std::alloc::{AllocError, Global};
 use std::test::Fail;
 use x_branches::{Branch, Cut, Runner};
 use x_steps::{Cursor, Label, Refused, State};
 
-/// The small problem: its run has 43 steps.
+/// The text of the small problem, whose run has 43 steps.
 pub const SMALL: &str =
     "items a b c d e f g\noption c e\noption a d g\noption b c f\noption a d f\noption b g\noption d e g";
+
+/// The small problem.
+pub fn small(alloc: Global) -> Result<Problem, Fail> {
+    Ok(read_cover(alloc, SMALL.as_bytes())?)
+}
 
 /// What was made, or that it was refused.
 pub fn made<V: Drop, F: Drop, G: Drop>(made: Result<V, Refused<F, G>>) -> Result<V, Fail> {

@@ -13,14 +13,15 @@ use Rattle.x_steps.specs.Steps.{Fits}
 use Rattle.x_steps.specs.Run.{after, states, visits, level_count, levels, states_between, steps_between, ReachesIn}
 use Rattle.x_steps.specs.Rank.{rank}
 use Rattle.x_steps.specs.Machine.{Position}
-use Rattle.x_steps.specs.Walk.{last_event, OnlyMoves, IsAtCut, AreCounted, HasRoom}
+use Rattle.x_steps.specs.Walk.{last_event, is_visited, OnlyMoves, IsAtCut, AreCounted, HasRoom}
 use Rattle.x_steps.proofs.BetweenLemmas.{states_between_self, states_between_join, length-states, counts_at, visits_join, level_count_join}
 use Rattle.x_steps.proofs.StretchLemmas.{reached_fits, reached_rank}
 use Rattle.x_steps.proofs.RunLemmas.{start_fits, start_first, end_is, done_last, rises_between, steps_between_is}
 use Rattle.x_steps.proofs.WalkLemmas.{zeros_room, room_left}
-use Rattle.lab_engine.specs.Account.{Account, account_of, with_walk, empty_account, AreSums, kept, is_visited}
+use Rattle.x_steps.proofs.VisitedLemmas.{walk_shows}
+use Rattle.lab_engine.specs.Account.{Account, account_of, with_walk, empty_account, AreSums, kept}
 use Rattle.lab_engine.specs.Output.{whole_account}
-use Rattle.lab_engine.proofs.AccountLemmas.{none_kept, walk_shows, kept_more, visited_more, same_accounts}
+use Rattle.lab_engine.proofs.AccountLemmas.{none_kept, kept_more, visited_more, same_accounts}
 
 -- the report with the counts beside it is the account of these states
 pub record Tells (keeps : Bool) (p : ProblemValue) (ss : List StateValue) (a : Account) (counts : List ℕ) : Type 0 where

@@ -1,11 +1,11 @@
 -- The account of a search: its visits, where they are kept, and how many visits, steps and X2 states at each level it had.
-use Rattle.std.specs.Prelude.{ℕ, suc, ◌+◌, ◌<◌, ◌≡◌, Bool, true, false, ◌&&◌, List, [], ◌∷◌, ◌++◌, length, map, slice_index, replicate, if◌then◌else◌}
+use Rattle.std.specs.Prelude.{ℕ, suc, ◌+◌, ◌<◌, ◌≡◌, Bool, ◌&&◌, List, [], ◌∷◌, ◌++◌, length, map, slice_index, replicate, if◌then◌else◌}
 use Rattle.cover_problem.specs.Lists.{numbers}
 use Rattle.cover_problem.specs.Problem.{ProblemValue}
 use Rattle.x_steps.specs.declared.event.Event.{Event}
-use Rattle.x_steps.specs.declared.event.Event.TheVariants.{Visited}
 use Rattle.x_steps.specs.StateValue.{StateValue}
 use Rattle.x_steps.specs.Run.{visits, level_count}
+use Rattle.x_steps.specs.Walk.{is_visited}
 
 -- the visits that are kept, the number of visits and of steps, and the number of X2 states at each level from 0 on
 pub record Account : Type 0 where
@@ -30,11 +30,6 @@ account_of keeps p ss = record {
 -- the account of no state, for n items
 abbrev pub empty_account : ℕ → Account
 empty_account n = record { visits = []; visited = 0; steps = 0; entered = replicate (n + 1) 0 }
-
--- whether a step came to a visit
-abbrev pub is_visited : Event → Bool
-is_visited Visited = true
-is_visited _ = false
 
 -- the visits that are kept, after steps the last of which ends at this path
 abbrev pub kept_with : Bool → List (List ℕ) → Event → List ℕ → List (List ℕ)

@@ -7,4 +7,4 @@ pub mod RunnerLemmas
 pub mod AboveLemmas
 pub mod UntriedLemmas
 pub mod PostingLemmas
-pub mod StretchKeeps
+pub mod WalkedLemmas

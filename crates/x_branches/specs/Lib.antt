@@ -6,4 +6,5 @@ pub mod Stretch
 pub mod Untried
 pub mod Runner
 pub mod Refusals
+pub mod Walk
 pub mod Faults

@@ -5,6 +5,7 @@ ghost use Rattle.x_steps.specs.Steps.{Fits};
 ghost use Rattle.x_steps.specs.StateView.{state_value};
 ghost use Rattle.x_branches.specs.Branch.{first_of, end_of};
 ghost use Rattle.x_branches.specs.Runner.{IsOf, IsBranch, IsWithin};
+ghost use Rattle.x_branches.specs.Walk.{end_choices};
 
 use crate::cut::Cut;
 use crate::order::is_before;
@@ -71,6 +72,17 @@ impl<'p> Branch<'p> {
         match &self.hi {
             Some(cut) => cut.place(),
             None => Place::last(),
+        }
+    }
+
+    /// The choices of the cut that ends it; none where it ends with the run.
+    #[inline(always)]
+    pub(crate) fn end_choices(&self) -> &[u32]
+        ensures { result.now ≡ end_choices self.now.hi }
+    {
+        match &self.hi {
+            Some(cut) => cut.path(),
+            None => &[],
         }
     }
 

@@ -16,10 +16,3 @@ pub use fault::{CutFault, RunnerFault, StartFault};
 pub use order::run_order;
 pub use runner::Runner;
 pub use stretch::Stretch;
-
-#[cfg(test)]
-mod drawn_tests;
-#[cfg(test)]
-mod runner_tests;
-#[cfg(test)]
-mod tests;

@@ -12,6 +12,7 @@ ghost use Rattle.x_branches.specs.Refusals.{CanStart, StartRefused, CanAdvance, 
 
 mod posting;
 mod untried;
+mod walk;
 
 use crate::branch::Branch;
 use crate::fault::{RunnerFault, StartFault};

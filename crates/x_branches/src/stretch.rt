@@ -1,7 +1,6 @@
 //! Stretches: parts of a run that were walked.
 ghost use Rattle.std.specs.Prelude.{◌≡◌, IfOk};
 ghost use Rattle.x_steps.specs.StateView.{state_value};
-ghost use Rattle.x_steps.specs.Steps.{Fits};
 ghost use Rattle.x_steps.specs.Run.{steps_between, visits_between};
 ghost use Rattle.x_steps.specs.Levels.{trimmed_levels};
 ghost use Rattle.x_branches.specs.Stretch.{IsStretch};
@@ -35,24 +34,6 @@ impl<'p> Model for Stretch<'p> {
 }
 
 impl<'p> Stretch<'p> {
-    /// The stretch without a step, at a state of the search.
-    pub(crate) fn empty(problem: &'p Problem, state: &State) -> Result<Stretch<'p>, AllocError>
-        requires { Fits problem.now (state_value state.now) }
-        ensures { IfOk result (λ s. s ≡ record { problem = problem.now; from = state_value state.now; to = state_value state.now }) }
-    {
-        let alloc = *state.path.allocator();
-        let from = state.copy()?;
-        let to = state.copy()?;
-        Ok(Stretch {
-            problem,
-            from,
-            to,
-            steps: 0,
-            visits: Paths::new(alloc),
-            levels: Vec::new(alloc),
-        })
-    }
-
     /// The problem whose run it is part of.
     pub fn problem(&self) -> &'p Problem
         ensures { result.now ≡ self.now.problem }

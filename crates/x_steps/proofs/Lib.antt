@@ -17,6 +17,7 @@ pub mod ResumeLemmas
 pub mod SecondLemmas
 pub mod Length
 pub mod WalkLemmas
+pub mod VisitedLemmas
 pub mod RoundLemmas
 pub mod OrderLemmas
 pub mod VisitLemmas

@@ -2,12 +2,12 @@
 --
 -- Example: in the small problem a walk from X1 takes 30 steps to the first visit, 4 5 1, and 13 more to Done (computed in
 -- proofs/WalkExamples.antt).
-use Rattle.std.specs.Prelude.{ℕ, zero, suc, ◌+◌, ◌^◌, ◌<◌, ◌≤◌, ◌≡◌, List, [], ◌∷◌, ◌++◌, length, slice_index}
+use Rattle.std.specs.Prelude.{ℕ, zero, suc, ◌+◌, ◌^◌, ◌<◌, ◌≤◌, ◌≡◌, Bool, true, false, cond, List, [], ◌∷◌, ◌++◌, length, slice_index}
 use Rattle.cover_problem.specs.Problem.{ProblemValue}
 use Rattle.x_steps.specs.declared.state.Label.TheVariants.{X5}
 use Rattle.x_steps.specs.declared.state.Cursor.TheVariants.{At}
 use Rattle.x_steps.specs.declared.event.Event.{Event}
-use Rattle.x_steps.specs.declared.event.Event.TheVariants.{Moved}
+use Rattle.x_steps.specs.declared.event.Event.TheVariants.{Moved, Visited}
 use Rattle.x_steps.specs.StateValue.{StateValue}
 use Rattle.x_steps.specs.Steps.{event_of}
 use Rattle.x_steps.specs.Run.{after, states, level_count, ReachesIn}
@@ -16,6 +16,15 @@ use Rattle.x_steps.specs.Run.{after, states, level_count, ReachesIn}
 abbrev pub last_event : ProblemValue → ℕ → StateValue → Event
 last_event p zero s = Moved
 last_event p (suc n) s = event_of p (after p n s)
+
+-- whether a step came to a visit
+abbrev pub is_visited : Event → Bool
+is_visited Visited = true
+is_visited _ = false
+
+-- the visit of steps none of which but the last may come to one: what that one tells, and the path there
+abbrev pub visit_told : Event → List ℕ → List (List ℕ)
+visit_told event path = cond (is_visited event) (path ∷ []) []
 
 -- none of n steps but the last comes to a visit or to the end
 abbrev pub OnlyMoves : ProblemValue → ℕ → StateValue → Type 0

@@ -1,0 +1,275 @@
+//! Problems drawn by a seed: the states of each run come in the order of their positions, and a run that is cut at drawn places,
+//! and walked by drawn steps on and back, is the run, stretch by stretch, over both tables.
+use crate::order_tests::{are_in_order, states_of};
+use crate::setting::{made, runner_of, state_at};
+use cover_links::LinkTable;
+use cover_problem::{PlainTable, Problem, Table, read_cover};
+use std::alloc::{AllocError, Global};
+use std::test::Fail;
+use x_branches::{Runner, Stretch};
+use x_steps::{Cursor, Label, Machine, State, no_counts};
+
+/// The next number that is drawn, below 2^31.
+fn draw(seed: &mut u64) -> u32 {
+    *seed = seed
+        .wrapping_mul(6_364_136_223_846_793_005)
+        .wrapping_add(1_442_695_040_888_963_407);
+    (*seed >> 33) as u32
+}
+
+/// The text of a problem of the items a to e, of which so many are primary, with up to eight options.
+fn drawn_text(alloc: Global, primary: usize, seed: &mut u64) -> Result<String, AllocError> {
+    let mut text = String::new(alloc);
+    text.push_str("items")?;
+    for (index, name) in [" a", " b", " c", " d", " e"].iter().enumerate() {
+        if index == primary {
+            text.push_str("\nmaybe")?;
+        }
+        text.push_str(name)?;
+    }
+    for _ in 0..draw(seed) % 9 {
+        let mask = draw(seed) % 31 + 1;
+        text.push_str("\noption")?;
+        for (index, name) in [" a", " b", " c", " d", " e"].iter().enumerate() {
+            if mask.wrapping_shr(index as u32) % 2 == 1 {
+                text.push_str(name)?;
+            }
+        }
+    }
+    Ok(text)
+}
+
+#[test]
+fn states_of_drawn_problems_come_in_order(rt: HostRuntime) -> Result<(), Fail> {
+    let alloc = rt.alloc();
+    let mut seed = 7;
+    for round in 0..30 {
+        let text = drawn_text(alloc, round % 5 + 1, &mut seed)?;
+        let states = states_of(alloc, &text)?;
+        assert!(rt; are_in_order(&states), "for {text}");
+    }
+    Ok(())
+}
+
+/// Counts so many more at a level.
+fn count(levels: &mut [u32], level: usize, more: u32) {
+    if level < levels.len() {
+        levels[level] = levels[level].wrapping_add(more);
+    }
+}
+
+/// What a run has from X1 on: how many steps, its visits with a 0 after each, and how many X2 states at each level.
+#[derive(Debug, Drop, PartialEq, Eq)]
+struct Tally {
+    steps: u32,
+    visits: Vec<u32>,
+    levels: Vec<u32>,
+}
+
+impl Tally {
+    /// Nothing yet, for a problem of so many items.
+    fn new(alloc: Global, items: u32) -> Result<Tally, AllocError> {
+        Ok(Tally {
+            steps: 0,
+            visits: Vec::new(alloc),
+            levels: no_counts(alloc, items)?,
+        })
+    }
+
+    fn push_visit(&mut self, path: &[u32]) -> Result<(), AllocError> {
+        self.visits.extend_from_slice(path)?;
+        self.visits.push(0)?;
+        Ok(())
+    }
+
+    /// Adds a state of the run.
+    fn note(&mut self, state: &State, is_visit: bool) -> Result<(), AllocError> {
+        self.steps = self.steps.wrapping_add(1);
+        if state.label == Label::X2 {
+            count(&mut self.levels, state.path.len(), 1);
+        }
+        if is_visit {
+            self.push_visit(&state.path)?;
+        }
+        Ok(())
+    }
+
+    /// Adds a stretch.
+    fn add(&mut self, stretch: &Stretch<'_>) -> Result<(), AllocError> {
+        self.steps = self.steps.wrapping_add(stretch.steps());
+        for (level, more) in stretch.levels().iter().enumerate() {
+            count(&mut self.levels, level, *more);
+        }
+        for place in 0..stretch.visits().len() {
+            self.push_visit(stretch.visits().path(place))?;
+        }
+        Ok(())
+    }
+}
+
+/// The run by single steps.
+fn note_run<T: Table>(machine: &mut Machine<'_, T>, tally: &mut Tally) -> Result<(), AllocError> {
+    for _ in 0..100_000 {
+        if machine.state().label == Label::Done {
+            return Ok(());
+        }
+        tally.note(machine.state(), machine.is_visit())?;
+        let _ = machine.step();
+    }
+    Ok(())
+}
+
+/// What the run of a problem has, by single steps.
+fn one_run(alloc: Global, problem: &Problem) -> Result<Tally, Fail> {
+    let table = PlainTable::new(alloc, problem)?;
+    let mut tally = Tally::new(alloc, problem.items())?;
+    match Machine::new(alloc, problem, table) {
+        Ok(mut machine) => note_run(&mut machine, &mut tally)?,
+        Err(_) => return Err(Fail::from("no machine")),
+    }
+    Ok(tally)
+}
+
+/// A run that is walked in parts: what its stretches have, where the last of them ended, and where it was cut, nearest last.
+#[derive(Drop)]
+struct Parts {
+    tally: Tally,
+    end: State,
+    cuts: Vec<Vec<u32>>,
+}
+
+impl Parts {
+    fn add(&mut self, stretch: &Stretch<'_>) -> Result<(), AllocError> {
+        self.end = stretch.to().copy()?;
+        self.tally.add(stretch)
+    }
+
+    /// Takes the stretch out, which has to begin where the last one ended.
+    fn post<T: Table>(&mut self, runner: &mut Runner<'_, T>) -> Result<(), Fail> {
+        let stretch = runner.take_stretch()?;
+        if !stretch.from().same(&self.end) {
+            return Err(Fail::from("a stretch begins elsewhere"));
+        }
+        self.add(&stretch)?;
+        Ok(())
+    }
+
+    /// Ends the branch at the first option that is untried, if there is one.
+    fn cut<T: Table>(&mut self, alloc: Global, runner: &mut Runner<'_, T>) -> Result<(), Fail> {
+        for level in 0..6 {
+            let untried = runner.untried(level)?;
+            if let Some(option) = untried.first() {
+                let Ok(cut) = runner.cut(level, *option) else {
+                    return Err(Fail::from("no cut"));
+                };
+                self.cuts.push(Vec::from_slice(alloc, cut.path())?)?;
+                return made(runner.shorten(cut));
+            }
+        }
+        Ok(())
+    }
+
+    /// Does what is drawn; false where there is no step any more.
+    fn go<T: Table>(
+        &mut self,
+        alloc: Global,
+        runner: &mut Runner<'_, T>,
+        seed: &mut u64,
+    ) -> Result<bool, Fail> {
+        match draw(seed) % 8 {
+            0 => self.cut(alloc, runner)?,
+            1 => self.post(runner)?,
+            2 => reopen(runner)?,
+            3 => retreat(runner, draw(seed) % 6),
+            4 => return Ok(runner.walk(draw(seed) % 9).is_ok()),
+            _ => return Ok(runner.advance().is_ok()),
+        }
+        Ok(true)
+    }
+
+    /// Walks a branch to its end.
+    fn walk<T: Table>(
+        &mut self,
+        alloc: Global,
+        runner: &mut Runner<'_, T>,
+        seed: &mut u64,
+    ) -> Result<(), Fail> {
+        for _ in 0..100_000 {
+            if !self.go(alloc, runner, seed)? {
+                return self.post(runner);
+            }
+        }
+        Err(Fail::from("too many steps"))
+    }
+
+    /// Walks the branch from a cut to the nearest one after it.
+    fn walk_from<T: Table>(
+        &mut self,
+        alloc: Global,
+        problem: &Problem,
+        first: &[u32],
+        seed: &mut u64,
+    ) -> Result<(), Fail> {
+        let mut runner = runner_of::<T>(alloc, problem, first, last_of(&self.cuts))?;
+        self.walk(alloc, &mut runner, seed)
+    }
+}
+
+/// Takes the stretch out, and joins it again.
+fn reopen<T: Table>(runner: &mut Runner<'_, T>) -> Result<(), Fail> {
+    let stretch = runner.take_stretch()?;
+    made(runner.reopen(stretch))
+}
+
+/// Takes so many steps back, as far as there are any.
+fn retreat<T: Table>(runner: &mut Runner<'_, T>, steps: u32) {
+    for _ in 0..steps {
+        let _ = runner.retreat();
+    }
+}
+
+/// The last cut; nothing where there is none.
+fn last_of(cuts: &[Vec<u32>]) -> &[u32] {
+    match cuts.last() {
+        Some(cut) => cut,
+        None => &[],
+    }
+}
+
+/// What the run of a problem has, by branches between drawn cuts.
+fn run_in_parts<T: Table>(alloc: Global, problem: &Problem, seed: &mut u64) -> Result<Tally, Fail> {
+    let mut parts = Parts {
+        tally: Tally::new(alloc, problem.items())?,
+        end: state_at(alloc, Label::X1, &[], Cursor::None)?,
+        cuts: Vec::new(alloc),
+    };
+    let mut first = Vec::new(alloc);
+    for _ in 0..10_000 {
+        parts.walk_from::<T>(alloc, problem, &first, seed)?;
+        match parts.cuts.pop() {
+            Some(cut) => first = cut,
+            None => return Ok(parts.tally),
+        }
+    }
+    Err(Fail::from("too many branches"))
+}
+
+/// Whether a problem's run is its parts, with either table.
+fn is_its_parts(alloc: Global, problem: &Problem, seed: &mut u64) -> Result<bool, Fail> {
+    let run = one_run(alloc, problem)?;
+    let plain = run_in_parts::<PlainTable>(alloc, problem, seed)?;
+    let links = run_in_parts::<LinkTable>(alloc, problem, seed)?;
+    Ok(run == plain && run == links)
+}
+
+#[test]
+fn drawn_runs_are_their_parts(rt: HostRuntime) -> Result<(), Fail> {
+    let alloc = rt.alloc();
+    let mut seed = 5;
+    for round in 0..60 {
+        let text = drawn_text(alloc, round % 5 + 1, &mut seed)?;
+        let problem = read_cover(alloc, text.as_bytes())?;
+        assert!(rt; is_its_parts(alloc, &problem, &mut seed)?, "for {text}");
+    }
+    Ok(())
+}

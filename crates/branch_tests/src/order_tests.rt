@@ -1,0 +1,76 @@
+//! The order of a run's states.
+use crate::setting::{SMALL, state_at};
+use cover_problem::{PlainTable, Table, read_cover};
+use std::alloc::{AllocError, Global};
+use std::cmp::Ordering;
+use std::test::Fail;
+use x_branches::run_order;
+use x_steps::{Cursor, Label, Machine, State};
+
+/// Takes every step, and notes each state.
+fn note_states<T: Table>(
+    machine: &mut Machine<T>,
+    states: &mut Vec<State>,
+) -> Result<(), AllocError> {
+    for _ in 0..100_000 {
+        states.push(machine.state().copy()?)?;
+        if machine.step().is_err() {
+            break;
+        }
+    }
+    Ok(())
+}
+
+/// The states of the run of the text's problem, in order.
+pub fn states_of(alloc: Global, text: &str) -> Result<Vec<State>, Fail> {
+    let problem = read_cover(alloc, text.as_bytes())?;
+    let table = PlainTable::new(alloc, &problem)?;
+    let mut states = Vec::new(alloc);
+    match Machine::new(alloc, &problem, table) {
+        Ok(mut machine) => note_states(&mut machine, &mut states)?,
+        Err(_) => return Err(Fail::from("no machine")),
+    }
+    Ok(states)
+}
+
+/// Whether a state that stands there among the states comes before those after it, and after those before it.
+fn stands_at(states: &[State], place: usize, state: &State) -> bool {
+    for (other_place, other) in states.iter().enumerate() {
+        if run_order(state, other) != place.cmp(&other_place) {
+            return false;
+        }
+    }
+    true
+}
+
+/// Whether each two states come in the order in which they stand.
+pub fn are_in_order(states: &[State]) -> bool {
+    for (place, state) in states.iter().enumerate() {
+        if !stands_at(states, place, state) {
+            return false;
+        }
+    }
+    true
+}
+
+#[test]
+fn states_come_in_the_order_of_the_run(rt: HostRuntime) -> Result<(), Fail> {
+    let alloc = rt.alloc();
+    let states = states_of(alloc, SMALL)?;
+    assert!(rt; states.len() == 44 && are_in_order(&states));
+    Ok(())
+}
+
+/// A step after the option 4, at the option 5, and how it stands to what lies below that option.
+const STEPS: [(Label, Ordering); 2] = [(Label::X5, Ordering::Less), (Label::X6, Ordering::Greater)];
+
+#[test]
+fn a_step_comes_before_or_after_what_lies_below(rt: HostRuntime) -> Result<(), Fail> {
+    let alloc = rt.alloc();
+    let below = state_at(alloc, Label::X8, &[4, 5, 1], Cursor::None)?;
+    for (label, order) in STEPS {
+        let state = state_at(alloc, label, &[4], Cursor::At(5))?;
+        assert!(rt; run_order(&state, &below) == order);
+    }
+    Ok(())
+}

@@ -1,0 +1,28 @@
+-- Many steps of a runner at once.
+use Rattle.std.specs.Prelude.{ℕ, ◌<◌, ◌≡◌, ◌≢◌, ◌⊎◌, true, Option, Some, List, []}
+use Rattle.std.specs.Prelude as prelude
+use Rattle.x_steps.specs.declared.event.Event.{Event}
+use Rattle.x_steps.specs.declared.event.Event.TheVariants.{Moved}
+use Rattle.x_steps.specs.Steps.{is_visit}
+use Rattle.x_steps.specs.Run.{after}
+use Rattle.x_branches.specs.Cut.{CutPath}
+use Rattle.x_branches.specs.Runner.{RunnerValue}
+use Rattle.x_branches.specs.Refusals.{CanAdvance}
+
+-- the choices of the cut that ends a branch; none where the branch ends with the run
+abbrev pub end_choices : Option CutPath → List ℕ
+end_choices prelude.None = []
+end_choices (Some cut) = cut.path
+
+-- a runner n steps on
+abbrev pub advanced_by : RunnerValue → ℕ → RunnerValue
+advanced_by r n = record r { position = after r.problem n r.position }
+
+-- a runner can take n steps, one after the other
+abbrev pub CanAdvanceBy : RunnerValue → ℕ → Type 0
+CanAdvanceBy r n = (i : ℕ) → i < n → CanAdvance (advanced_by r i)
+
+-- a walk stops here though more steps are asked for: its last step came to a visit or to the end of the run, no step can be taken,
+-- or the next one is a visit's, which takes memory
+abbrev pub HasToStop : RunnerValue → Event → Type 0
+HasToStop r event = (event ≢ Moved) ⊎ ((CanAdvance r → ⊥) ⊎ (is_visit r.problem r.position ≡ true))

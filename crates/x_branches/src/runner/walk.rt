@@ -1,0 +1,105 @@
+//! Many steps of a runner at once.
+ghost use Rattle.std.specs.Prelude.{◌≡◌, ◌≢◌, ◌<◌, ◌≤◌, ◌+◌, ◌++◌, ◌⊎◌, ◌∷◌, [], ℕ, true, false, length, IsTrue, IfOk, IfErr, OnOk, OnErr};
+ghost use Rattle.x_steps.specs.StateView.{state_value};
+ghost use Rattle.x_steps.specs.Steps.{Fits, is_visit};
+ghost use Rattle.x_steps.specs.Run as run;
+ghost use Rattle.x_steps.specs.Run.{after, states};
+ghost use Rattle.x_steps.specs.Walk.{last_event, visit_told, OnlyMoves, IsAtCut, HasRoom, IsWalk};
+ghost use Rattle.x_branches.specs.Refusals.{CanAdvance, AdvanceRefused};
+ghost use Rattle.x_branches.specs.Walk.{advanced_by, CanAdvanceBy, HasToStop};
+
+use crate::fault::RunnerFault;
+use crate::runner::{Runner, discount};
+use cover_problem::Table;
+use x_steps::{Event, Label, Machine, Paths, State, Walk};
+
+/// Keeps the path where a walk came to a visit; false where memory runs out.
+#[inline(always)]
+fn keep_visit(visits: &mut Paths, event: Event, state: &State) -> bool
+    ensures kept { IsTrue result → visits.new ≡ visits.old ++ visit_told event (state_value state.now).path }
+    ensures unchanged { result ≡ false → visits.new ≡ visits.old }
+    ensures at_visit { result ≡ false → event ≡ Event.Visited }
+{
+    match event {
+        Event::Visited => visits.push(&state.path).is_ok(),
+        _ => true,
+    }
+}
+
+/// Walks on, and keeps the visit where it came to one. Where there is no memory for that, it stops before the visit's step.
+#[inline(always)]
+fn walk_noted<T: Table>(
+    machine: &mut Machine<'_, T>,
+    most: u32,
+    end: &[u32],
+    visits: &mut Paths,
+    counts: &mut [u32],
+) -> Walk
+    requires fits { Fits machine.old.problem machine.old.state }
+    requires goes_on { machine.old.state.label ≢ Label.Done }
+    requires levels { length counts.old ≡ length machine.old.problem.names + 1 }
+    requires room { HasRoom most counts.old }
+    ensures problem { machine.new.problem ≡ machine.old.problem }
+    ensures walk { IsWalk machine.old.problem machine.old.state machine.new.state counts.old counts.new result.steps result.event }
+    ensures visits { visits.new ≡ visits.old ++ run.visits machine.old.problem (states machine.old.problem result.steps machine.old.state) }
+    ensures within { result.steps ≤ most }
+    ensures before { (i : ℕ) → i < result.steps →
+        IsAtCut (after machine.old.problem i machine.old.state) end.now → ⊥ }
+    ensures stops { (result.steps ≡ most) ⊎ ((result.event ≢ Event.Moved) ⊎ (IsAtCut machine.new.state end.now
+        ⊎ (is_visit machine.old.problem machine.new.state ≡ true))) }
+{
+    let Ok(walk) = machine.walk(most, end, counts) else {
+        unreachable!()
+    };
+    if keep_visit(visits, walk.event, machine.state()) {
+        return walk;
+    }
+    let Ok(()) = machine.back() else {
+        unreachable!()
+    };
+    discount(counts, machine.state());
+    Walk {
+        steps: walk.steps - 1,
+        event: Event::Moved,
+    }
+}
+
+impl<'p, T: Table> Runner<'p, T> {
+    /// Takes steps as `advance` does, one after the other, until `most` are taken, the last one came to a visit or to the end of
+    /// the run, or the next one would be refused; tells how many they are, and what the last of them told. Refused where the first
+    /// is: at the branch's end, then where the stretch has as many steps as can be counted, and, at a visit alone, when out of
+    /// memory; nothing has then changed.
+    pub fn walk(&mut self, most: u32) -> Result<Walk, RunnerFault>
+        ensures state { IfOk result (λ w. self.new ≡ advanced_by self.old w.steps) }
+        ensures each_step { IfOk result (λ w. CanAdvanceBy self.old w.steps) }
+        ensures event { IfOk result (λ w. w.event ≡ last_event self.old.problem w.steps self.old.position) }
+        ensures moves { IfOk result (λ w. OnlyMoves self.old.problem w.steps self.old.position) }
+        ensures within { IfOk result (λ w. w.steps ≤ most) }
+        ensures some { IfOk result (λ w. 0 < most → 0 < w.steps) }
+        ensures stops { IfOk result (λ w. (w.steps ≡ most) ⊎ HasToStop self.new w.event) }
+        ensures can { OnOk result (CanAdvance self.old) }
+        ensures refused { IfErr result (AdvanceRefused self.old) }
+        ensures unchanged { OnErr result (self.new ≡ self.old) }
+    {
+        if self.is_at_end() {
+            return Err(RunnerFault::AtBranchEnd);
+        }
+        if self.steps == u32::MAX {
+            return Err(RunnerFault::StretchFull);
+        }
+        let room = most.min(u32::MAX - self.steps);
+        let end = self.branch.end_choices();
+        let walk = walk_noted(
+            &mut self.machine,
+            room,
+            end,
+            &mut self.visits,
+            &mut self.counts,
+        );
+        self.steps += walk.steps;
+        if walk.steps == 0 && most > 0 {
+            return Err(RunnerFault::OutOfMemory);
+        }
+        Ok(walk)
+    }
+}

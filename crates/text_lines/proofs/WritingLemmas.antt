@@ -1,13 +1,14 @@
 -- Lines of words that are written are read as they were meant.
-use Rattle.std.proofs.Common.{◌≡◌, ℕ, zero, suc, ◌-◌, ◌==◌, List, [], ◌∷◌, ◌++◌, map, length, get_or, Bool, true, false, not, ◌||◌, refl, ◌∙◌, ap, one-add, arith, append_assoc}
+use Rattle.std.proofs.Common.{◌^◌, decimal, ◌<◌, ◌≡◌, ℕ, zero, suc, ◌-◌, ◌==◌, List, [], ◌∷◌, ◌++◌, map, length, get_or, Bool, true, false, not, ◌||◌, refl, ◌∙◌, ap, one-add, arith, append_assoc}
 use Rattle.std.specs.Prelude.{filter}
 use Rattle.std.proofs.lemmas.Bool.{and_parts, and_from, not-true}
 use Rattle.std.proofs.lemmas.Bool.Decides.{nat_tests}
 use Rattle.std.specs.List.{onto_first, slice_split, list_all, before_first}
 use Rattle.text_lines.specs.Lines.{lines_of, words_of, is_blank, has_bytes, is_newline, is_plain, begins_comment, outside_comment, without_return}
 use Rattle.text_lines.specs.Writing.{is_word_byte, is_word, spaced, line_text, text_of, words_of_line, are_plain}
-use Rattle.text_lines.specs.Numbers.{begins_well}
+use Rattle.text_lines.specs.Numbers.{is_digit, begins_well}
 use Rattle.text_lines.proofs.LineLemmas.{ended_line}
+use Rattle.text_lines.proofs.NumberLemmas.{printed_is_decimal}
 
 -- *the bytes of a line*
 
@@ -154,6 +155,15 @@ written_plain lines h = rw (written_lines lines h) (spaced_are_plain lines h)
 
 -- *numbers*
 
+digit_in_word : (b : ℕ) → is_digit b ≡ true → is_word_byte b ≡ true
+digit_in_word b h = grind (arith, nat_tests)
+
 some_bytes : (word : List ℕ) → begins_well word ≡ true → has_bytes word ≡ true
 some_bytes [] h = cc
 some_bytes (b ∷ bs) h = refl
+
+-- the text of a number is a word
+pub printed_is_word : (n : ℕ) → n < 2 ^ 64 → is_word (decimal n) ≡ true
+printed_is_word n h =
+    let e : (begins_well (decimal n) ≡ true) × (list_all is_digit (decimal n) ≡ true) = and_parts _ _ (printed_is_decimal n h) in
+    and_from (has_bytes (decimal n)) (list_all is_word_byte (decimal n)) (some_bytes (decimal n) e.0) (weaker is_digit is_word_byte digit_in_word (decimal n) e.1)

@@ -119,3 +119,6 @@ levels_at p s t level d l = counts_at (level_count (states_between p s t)) (leng
 
 pub level_count_next : (p : ProblemValue) (s t : StateValue) (level : ℕ) → Fits p s → Fits p t → rank p s ≤ rank p t → (t.label ≡ Done → ⊥) → level_count (states_between p s (next p t)) level ≡ level_count (states_between p s t) level + cond (is_level t.label && (length t.path == level)) 1 0
 level_count_next p s t level f g l h = ap (λ ss. level_count ss level) (states_between_next p s t f g l h) ∙ level_count_push (states_between p s t) t level
+
+pub level_count_between : (p : ProblemValue) (s t u : StateValue) (level : ℕ) → Fits p s → Fits p t → Fits p u → rank p s ≤ rank p t → rank p t ≤ rank p u → level_count (states_between p s u) level ≡ level_count (states_between p s t) level + level_count (states_between p t u) level
+level_count_between p s t u level f g h a b = ap (λ ss. level_count ss level) (states_between_join p s t u f g h a b) ∙ level_count_join (states_between p s t) (states_between p t u) level

@@ -1,0 +1,5 @@
+pub mod Breaks
+pub mod Snapshot
+pub mod Faults
+pub mod Refusals
+pub mod Writing

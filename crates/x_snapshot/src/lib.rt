@@ -11,3 +11,6 @@ pub use breakpoint::Break;
 pub use fault::SnapshotFault;
 pub use snapshot::{Snapshot, SnapshotParts};
 pub use writing::write_snapshot;
+
+#[cfg(test)]
+mod tests;

@@ -1,3 +1,9 @@
 pub mod PlaceLemmas
 pub mod BreakLemmas
 pub mod WriterLemmas
+pub mod ReadLemmas
+pub mod BackLemmas
+pub mod ProblemBack
+pub mod BreakBack
+pub mod WholeBack
+pub mod ReadFaults

@@ -3,3 +3,5 @@ pub mod Snapshot
 pub mod Faults
 pub mod Refusals
 pub mod Writing
+pub mod Reading
+pub mod ReadRefusals

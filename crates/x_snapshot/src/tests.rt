@@ -14,7 +14,7 @@ const SMALL: &[u8] =
 const SECONDARY: &[u8] = b"items a\nmaybe b\noption a b\noption a";
 
 /// The small problem from the cut 4 to the end, at X2 after the choices 4 5 1: 150 bytes.
-const FROM_FOUR: &[u8] = b"polysnap 1
+pub const FROM_FOUR: &[u8] = b"polysnap 1
 problem 7
 items a b c d e f g
 option c e
@@ -30,7 +30,7 @@ end
 ";
 
 /// The same with the breakpoint `level 3`: 173 bytes.
-const WITH_LEVEL: &[u8] = b"polysnap 2
+pub const WITH_LEVEL: &[u8] = b"polysnap 2
 problem 7
 items a b c d e f g
 option c e
@@ -48,7 +48,7 @@ end
 ";
 
 /// The problem with a secondary item from start to end, at X1: 99 bytes.
-const WITH_SECONDARY: &[u8] = b"polysnap 2
+pub const WITH_SECONDARY: &[u8] = b"polysnap 2
 problem 4
 items a
 maybe b
@@ -62,7 +62,7 @@ end
 ";
 
 /// The same problem, at X5 at option 2, from the cut 1 to the cut 2, with a breakpoint of each kind.
-const WITH_EACH: &[u8] = b"polysnap 2
+pub const WITH_EACH: &[u8] = b"polysnap 2
 problem 4
 items a
 maybe b

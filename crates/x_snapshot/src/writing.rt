@@ -160,7 +160,7 @@ fn write_each_break(
 }
 
 /// Whether the second version is needed: there are secondary items, or breakpoints.
-fn needs_second(problem: &Problem, breaks: &[Break]) -> bool
+pub fn needs_second(problem: &Problem, breaks: &[Break]) -> bool
     ensures { result ≡ spec.needs_second problem.now breaks.now }
 {
     problem.primary() < problem.items() || !breaks.is_empty()

@@ -25,7 +25,7 @@ use Rattle.x_snapshot.proofs.BackLemmas.{some_is, none_some, found_is, map_is, o
 
 -- *one breakpoint*
 
-few : (p : ProblemValue) → IsProblem p → (length p.names ≤ 65535) × (length p.options ≤ 262143)
+pub few : (p : ProblemValue) → IsProblem p → (length p.names ≤ 65535) × (length p.options ≤ 262143)
 few p g =
     let a = and_parts (nat_le (length p.names) 65535 && nat_le (length p.options) 262143) _ g.small in
     let b = and_parts (nat_le (length p.names) 65535) (nat_le (length p.options) 262143) a.0 in

@@ -7,3 +7,7 @@ pub mod ProblemBack
 pub mod BreakBack
 pub mod WholeBack
 pub mod ReadFaults
+pub mod LineAgain
+pub mod ProblemAgain
+pub mod BreakAgain
+pub mod WholeAgain

@@ -21,11 +21,11 @@ use Rattle.x_snapshot.proofs.BreakBack.{AreFine, breaks_back}
 
 -- *the branch and the state*
 
-abbrev Place : Type 0
+abbrev pub Place : Type 0
 Place = Option (List ℕ) × Option (List ℕ) × StateValue
 
 -- the three lines, and what stands after them
-abbrev place_text : Place → List ℕ → List ℕ
+abbrev pub place_text : Place → List ℕ → List ℕ
 place_text v rest = line_text (codes "from" ∷ cut_words (codes "start") v.0) ++ (line_text (codes "to" ∷ cut_words (codes "end") v.1) ++ (line_text (codes "state" ∷ state_words v.2) ++ rest))
 
 place_back : (text : List ℕ) (r : Place × List ℕ) → place_in text ≡ Ok r → text ≡ place_text r.0 r.1
@@ -97,10 +97,10 @@ version_back p version text r g (inr e) h plain spelling =
 
 -- *the whole*
 
-one_printed : decimal 1 ≡ codes "1"
+pub one_printed : decimal 1 ≡ codes "1"
 one_printed = decimal_digit 1 (omega arith)
 
-two_printed : decimal 2 ≡ codes "2"
+pub two_printed : decimal 2 ≡ codes "2"
 two_printed = decimal_digit 2 (omega arith)
 
 -- what the words of the first line say
@@ -117,7 +117,7 @@ header_is n words (inr q) =
     let e : n ≡ 2 = q.0 in
     record { words_are = q.1 ∙ ap (λ w. w ∷ []) (sym two_printed ∙ ap decimal (sym e)); one_of = inr e; small = omega arith }
 
-joined : (a b f t s e : List (List ℕ)) (cover more : List ℕ) (t0 t1 t2 t3 t4 t5 : List ℕ) → t0 ≡ line_text a ++ t1 → t1 ≡ line_text b ++ (cover ++ t2) → t2 ≡ line_text f ++ (line_text t ++ (line_text s ++ t3)) → t3 ≡ more ++ t4 → t4 ≡ line_text e ++ t5 → t5 ≡ [] → t0 ≡ text_of (a ∷ b ∷ []) ++ cover ++ text_of (f ∷ t ∷ s ∷ []) ++ more ++ text_of (e ∷ [])
+pub joined : (a b f t s e : List (List ℕ)) (cover more : List ℕ) (t0 t1 t2 t3 t4 t5 : List ℕ) → t0 ≡ line_text a ++ t1 → t1 ≡ line_text b ++ (cover ++ t2) → t2 ≡ line_text f ++ (line_text t ++ (line_text s ++ t3)) → t3 ≡ more ++ t4 → t4 ≡ line_text e ++ t5 → t5 ≡ [] → t0 ≡ text_of (a ∷ b ∷ []) ++ cover ++ text_of (f ∷ t ∷ s ∷ []) ++ more ++ text_of (e ∷ [])
 joined a b f t s e cover more t0 t1 t2 t3 t4 t5 e0 e1 e2 e3 e4 e5 = rw (e0, e1, e2, e3, e4, e5) (simp (append_assoc, append-nil))
 
 -- a text that is read is the snapshot's, whose problem is one and whose breakpoints are in order

@@ -3,7 +3,7 @@ ghost use Rattle.std.specs.Prelude.{◌≡◌, Ok, codes, IfOk, IfErr};
 ghost use Rattle.text_lines.specs.Lines.{words_of};
 ghost use Rattle.text_lines.specs.Answers.{Gives};
 ghost use Rattle.x_steps.specs.StateView.{state_value};
-ghost use Rattle.x_snapshot.specs.Snapshot.{snapshot_with, choices_of};
+ghost use Rattle.x_snapshot.specs.Snapshot.{SnapshotValue, IsSnapshot, snapshot_with, choices_of};
 ghost use Rattle.x_snapshot.specs.Writing.{snapshot_text};
 ghost use Rattle.x_snapshot.specs.Reading as spec;
 ghost use Rattle.x_snapshot.specs.Reading.{keyed_line, parts_of};
@@ -128,6 +128,8 @@ fn fault_from(refusal: Refusal<SnapshotFault>) -> SnapshotFault
 pub fn read_snapshot(alloc: Global, bytes: &[u8]) -> Result<Snapshot, SnapshotFault>
     ensures read { IfOk result (λ s. parts_of bytes.now ≡ Ok s) }
     ensures text { IfOk result (λ s. bytes.now ≡ snapshot_text s) }
+    ensures every { (v : SnapshotValue) → IsSnapshot v → bytes.now ≡ snapshot_text v → IfOk result (λ s. s ≡ v) }
+    ensures always { (v : SnapshotValue) → IsSnapshot v → bytes.now ≡ snapshot_text v → IfErr result (λ fault. fault ≡ SnapshotFault.OutOfMemory) }
     ensures refused { IfErr result (λ fault. IsReadRefused bytes.now fault) }
 {
     let (problem, lo, hi, state, breaks) = match read_parts(alloc, bytes) {

@@ -11,3 +11,4 @@ pub mod LineAgain
 pub mod ProblemAgain
 pub mod BreakAgain
 pub mod WholeAgain
+mod SnapshotExamples

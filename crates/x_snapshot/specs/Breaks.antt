@@ -1,7 +1,7 @@
 -- Where a search that is run by hand stops: at a level, at an option, at the choice of an item, at a visit.
 --
--- Example: over the small problem, of 7 items and 6 options, `level 7` and `option 6` are breakpoints, `option 0` and `item 8`
--- are none. proofs/BreakExamples.antt computes it.
+-- Example: over a problem of one item and two options, `level 1`, `option 2`, `item 1` and `visit` are breakpoints; `level 2`,
+-- `option 0` and `item 2` are none. proofs/SnapshotExamples.antt computes it.
 use Rattle.std.specs.Prelude.{◌==◌, nat_le, Bool, true, false, not, ◌&&◌, List, [], ◌∷◌, length}
 use Rattle.std.specs.List.{list_any, list_all}
 use Rattle.cover_problem.specs.Problem.{ProblemValue, is_item}

@@ -1,8 +1,7 @@
 -- Why a text is read as no snapshot.
-use Rattle.std.specs.Prelude.{◌≡◌, ◌⊎◌, Ok, Err}
+use Rattle.std.specs.Prelude.{ℕ, ◌≡◌, ◌⊎◌, List, Ok, Err}
 use Rattle.text_lines.specs.declared.refusal.Refusal.{Refusal}
 use Rattle.text_lines.specs.declared.refusal.Refusal.TheVariants as refusals
-use Rattle.std.specs.Prelude.{ℕ, List}
 use Rattle.x_snapshot.specs.declared.fault.SnapshotFault.{SnapshotFault}
 use Rattle.x_snapshot.specs.declared.fault.SnapshotFault.TheVariants.{OutOfMemory}
 use Rattle.x_snapshot.specs.Snapshot.{SnapshotValue}
@@ -16,7 +15,8 @@ fault_from refusals.OutOfMemory = OutOfMemory
 
 -- the first fault of a text's lines; or of the cuts and the state that they say
 abbrev pub IsFaultOfText : List ℕ → SnapshotFault → Type 0
-IsFaultOfText text fault = (parts_of text ≡ Err fault) ⊎ ((v : SnapshotValue) × (parts_of text ≡ Ok v) × IsPlaceRefused v.problem v.lo v.hi v.state fault)
+IsFaultOfText text fault = (parts_of text ≡ Err fault)
+    ⊎ ((v : SnapshotValue) × (parts_of text ≡ Ok v) × IsPlaceRefused v.problem v.lo v.hi v.state fault)
 
 -- the first fault of a text, unless memory ran out
 abbrev pub IsReadRefused : List ℕ → SnapshotFault → Type 0

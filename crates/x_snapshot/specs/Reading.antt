@@ -4,7 +4,8 @@
 -- after it, with one space between two. Once the lines are read, bytes that follow are a fault, and then a second version that
 -- nothing asks for. Whether the cuts and the state are on the run, and in the branch, is judged last.
 --
--- Example: `polysnap 01` is a BadVersion, `problem 07` a BadProblem, `from 04` a BadState and `breaks 01` a BadBreak.
+-- Example: the text `polysnap 01` and a newline has the fault BadVersion, `hello` is cut off, and with a newline it is a BadHeader.
+-- proofs/SnapshotExamples.antt computes it.
 use Rattle.std.specs.Prelude.{ℕ, zero, suc, ◌+◌, ◌-◌, ◌==◌, nat_lt, nat_le, Bool, not, ◌&&◌, if◌then◌else◌, List, [], ◌∷◌, ◌++◌, length, take, Option, Some, None, option_map, option_and_then, Result, Ok, Err, codes}
 use Rattle.std.specs.List.{list_any, list_all}
 use Rattle.std.specs.Str.{bytes_eq}

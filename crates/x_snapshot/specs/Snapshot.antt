@@ -5,7 +5,9 @@ use Rattle.std.specs.Prelude.{ℕ, ◌≡◌, true, List, Option, Some, option_m
 use Rattle.std.specs.Prelude as prelude
 use Rattle.std.specs.Global.{Vec}
 use Rattle.cover_problem.specs.Problem.{ProblemValue, IsProblem}
+use Rattle.x_steps.specs.declared.state.State.{State}
 use Rattle.x_steps.specs.StateValue.{StateValue}
+use Rattle.x_steps.specs.StateView.{state_value}
 use Rattle.x_steps.specs.Steps.{Fits}
 use Rattle.x_branches.specs.declared.branch.Branch.{Branch}
 use Rattle.x_branches.specs.Cut.{CutPath, IsCut}
@@ -27,6 +29,10 @@ snapshot_with problem lo hi state breaks = record { problem = problem; lo = lo; 
 -- the choices of a path, if there is one, without where they lie in memory
 abbrev pub choices_of : Option (Vec ℕ) → Option (List ℕ)
 choices_of path = option_map (λ choices. choices.items) path
+
+-- the snapshot of parts, without where they lie in memory
+abbrev pub parts_value : ProblemValue → Option (Vec ℕ) → Option (Vec ℕ) → State → List Break → SnapshotValue
+parts_value problem lo hi state breaks = snapshot_with problem (choices_of lo) (choices_of hi) (state_value state) breaks
 
 -- a path, if there is one, is a cut
 abbrev pub IsCutIfAny : ProblemValue → Option (List ℕ) → Type 0

@@ -39,7 +39,9 @@ version_of p breaks = if needs_second p breaks then 2 else 1
 
 -- the version, and the number of lines of the problem
 abbrev pub head_lines : SnapshotValue → List (List (List ℕ))
-head_lines v = (codes "polysnap" ∷ decimal (version_of v.problem v.breaks) ∷ []) ∷ (codes "problem" ∷ decimal (length (word_lines v.problem)) ∷ []) ∷ []
+head_lines v =
+    (codes "polysnap" ∷ decimal (version_of v.problem v.breaks) ∷ [])
+    ∷ (codes "problem" ∷ decimal (length (word_lines v.problem)) ∷ []) ∷ []
 
 -- the choices of a cut, or the word for none
 abbrev pub cut_words : List ℕ → Option (List ℕ) → List (List ℕ)
@@ -85,7 +87,10 @@ lines_of_breaks p breaks = if needs_second p breaks then break_lines p breaks el
 
 -- the lines of the branch and the state
 abbrev pub place_lines : SnapshotValue → List (List (List ℕ))
-place_lines v = (codes "from" ∷ cut_words (codes "start") v.lo) ∷ (codes "to" ∷ cut_words (codes "end") v.hi) ∷ (codes "state" ∷ state_words v.state) ∷ []
+place_lines v =
+    (codes "from" ∷ cut_words (codes "start") v.lo)
+    ∷ (codes "to" ∷ cut_words (codes "end") v.hi)
+    ∷ (codes "state" ∷ state_words v.state) ∷ []
 
 -- the last line
 abbrev pub end_line : List (List (List ℕ))
@@ -93,4 +98,6 @@ end_line = (codes "end" ∷ []) ∷ []
 
 -- the text of a snapshot
 unfoldable pub snapshot_text : SnapshotValue → List ℕ
-snapshot_text v = text_of (head_lines v) ++ written v.problem ++ text_of (place_lines v) ++ text_of (lines_of_breaks v.problem v.breaks) ++ text_of end_line
+snapshot_text v =
+    text_of (head_lines v) ++ written v.problem ++ text_of (place_lines v)
+    ++ text_of (lines_of_breaks v.problem v.breaks) ++ text_of end_line

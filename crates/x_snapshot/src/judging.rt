@@ -2,7 +2,7 @@
 ghost use Rattle.std.specs.Prelude.{◌≡◌, [], option_map, IfOk, IfErr, OnOk};
 ghost use Rattle.x_steps.specs.StateView.{state_value};
 ghost use Rattle.x_branches.specs.Refusals.{CanStart};
-ghost use Rattle.x_snapshot.specs.Snapshot.{IsCutIfAny, IsOnRun, IsInside, IsSnapshot, choices_of, path_in, snapshot_with};
+ghost use Rattle.x_snapshot.specs.Snapshot.{IsCutIfAny, IsOnRun, IsInside, IsSnapshot, choices_of, path_in, parts_value};
 ghost use Rattle.x_snapshot.specs.Refusals.{cut_fault_of, start_fault_of, IsCutRefused, IsStartRefused, IsPlaceRefused, IsRefused};
 
 use crate::breakpoint::{Break, check_breaks};
@@ -89,7 +89,8 @@ fn check_place(
 ) -> Result<(), SnapshotFault>
     ensures on_run { OnOk result (IsOnRun problem.now (choices_of lo.now) (choices_of hi.now) (state_value state.now)) }
     ensures inside { OnOk result (IsInside problem.now (choices_of lo.now) (choices_of hi.now) (state_value state.now)) }
-    ensures refused { IfErr result (λ fault. IsPlaceRefused problem.now (choices_of lo.now) (choices_of hi.now) (state_value state.now) fault) }
+    ensures refused { IfErr result (λ fault.
+        IsPlaceRefused problem.now (choices_of lo.now) (choices_of hi.now) (state_value state.now) fault) }
 {
     let table = LinkTable::new(alloc, problem)?;
     let (table, lo) = cut_of(alloc, problem, table, lo)?;
@@ -106,8 +107,8 @@ pub fn check_parts(
     state: &State,
     breaks: &[Break],
 ) -> Result<(), SnapshotFault>
-    ensures snapshot { OnOk result (IsSnapshot (snapshot_with problem.now (choices_of lo.now) (choices_of hi.now) (state_value state.now) breaks.now)) }
-    ensures refused { IfErr result (λ fault. IsRefused (snapshot_with problem.now (choices_of lo.now) (choices_of hi.now) (state_value state.now) breaks.now) fault) }
+    ensures snapshot { OnOk result (IsSnapshot (parts_value problem.now lo.now hi.now state.now breaks.now)) }
+    ensures refused { IfErr result (λ fault. IsRefused (parts_value problem.now lo.now hi.now state.now breaks.now) fault) }
 {
     let _items = problem.items();
     check_breaks(alloc, problem, breaks)?;

@@ -2,8 +2,7 @@
 ghost use Rattle.std.specs.Prelude.{◌≡◌, Ok, codes, IfOk, IfErr};
 ghost use Rattle.text_lines.specs.Lines.{words_of};
 ghost use Rattle.text_lines.specs.Answers.{Gives};
-ghost use Rattle.x_steps.specs.StateView.{state_value};
-ghost use Rattle.x_snapshot.specs.Snapshot.{SnapshotValue, IsSnapshot, snapshot_with, choices_of};
+ghost use Rattle.x_snapshot.specs.Snapshot.{SnapshotValue, IsSnapshot, parts_value};
 ghost use Rattle.x_snapshot.specs.Writing.{snapshot_text};
 ghost use Rattle.x_snapshot.specs.Reading as spec;
 ghost use Rattle.x_snapshot.specs.Reading.{keyed_line, parts_of};
@@ -57,7 +56,8 @@ fn header(words: &[u8]) -> Found<u8>
 /// The version, and what stands after the first line.
 #[tactic(auto, unfolding(crate::specs::Reading::keyed_line))]
 fn version_in(text: &[u8]) -> Found<(u8, &[u8])>
-    ensures { Gives (λ r. (r.0, r.1.now)) result (keyed_line SnapshotFault.BadHeader (codes "polysnap") spec.header text.now) }
+    ensures { Gives (λ r. (r.0, r.1.now)) result
+        (keyed_line SnapshotFault.BadHeader (codes "polysnap") spec.header text.now) }
 {
     let (words, rest) = keyed(SnapshotFault::BadHeader, b"polysnap", text)?;
     let version = header(words)?;
@@ -78,7 +78,8 @@ fn check_end(words: &[u8]) -> Found<()>
 /// What stands after the last line.
 #[tactic(auto, unfolding(crate::specs::Reading::keyed_line))]
 fn after_end(text: &[u8]) -> Found<&[u8]>
-    ensures { Gives (λ rest. (tt, rest.now)) result (keyed_line SnapshotFault.BadState (codes "end") spec.end_from text.now) }
+    ensures { Gives (λ rest. (tt, rest.now)) result
+        (keyed_line SnapshotFault.BadState (codes "end") spec.end_from text.now) }
 {
     let (words, rest) = keyed(SnapshotFault::BadState, b"end", text)?;
     check_end(words)?;
@@ -102,7 +103,7 @@ fn check_whole(version: u8, problem: &Problem, breaks: &[Break], rest: &[u8]) ->
 /// What a text says. Whether it is on the run is not judged.
 #[tactic(auto, unfolding(crate::specs::Reading::parts_of))]
 fn read_parts(alloc: Global, text: &[u8]) -> Found<SnapshotParts>
-    ensures { Gives (λ v. snapshot_with v.0 (choices_of v.1) (choices_of v.2) (state_value v.3) v.4.items) result (parts_of text.now) }
+    ensures { Gives (λ v. parts_value v.0 v.1 v.2 v.3 v.4.items) result (parts_of text.now) }
 {
     let (version, rest) = version_in(text)?;
     let (problem, rest) = problem_in(alloc, version, rest)?;
@@ -129,7 +130,8 @@ pub fn read_snapshot(alloc: Global, bytes: &[u8]) -> Result<Snapshot, SnapshotFa
     ensures read { IfOk result (λ s. parts_of bytes.now ≡ Ok s) }
     ensures text { IfOk result (λ s. bytes.now ≡ snapshot_text s) }
     ensures every { (v : SnapshotValue) → IsSnapshot v → bytes.now ≡ snapshot_text v → IfOk result (λ s. s ≡ v) }
-    ensures always { (v : SnapshotValue) → IsSnapshot v → bytes.now ≡ snapshot_text v → IfErr result (λ fault. fault ≡ SnapshotFault.OutOfMemory) }
+    ensures always { (v : SnapshotValue) → IsSnapshot v → bytes.now ≡ snapshot_text v →
+        IfErr result (λ fault. fault ≡ SnapshotFault.OutOfMemory) }
     ensures refused { IfErr result (λ fault. IsReadRefused bytes.now fault) }
 {
     let (problem, lo, hi, state, breaks) = match read_parts(alloc, bytes) {

@@ -1,7 +1,7 @@
 //! A snapshot: a problem, a branch of its run, a state within it, and breakpoints.
 ghost use Rattle.std.specs.Prelude.{◌≡◌, None, Some, MatchOption, IfOk, IfErr, OnOk};
 ghost use Rattle.x_steps.specs.StateView.{state_value};
-ghost use Rattle.x_snapshot.specs.Snapshot.{IsSnapshot, choices_of, snapshot_with};
+ghost use Rattle.x_snapshot.specs.Snapshot.{IsSnapshot, parts_value};
 ghost use Rattle.x_snapshot.specs.Refusals.{IsRefused};
 
 use crate::breakpoint::Break;
@@ -33,14 +33,13 @@ pub struct Snapshot {
 }
 
 impl Model for Snapshot {
-    ghost use Rattle.x_steps.specs.StateView.{state_value};
-    ghost use Rattle.x_snapshot.specs.Snapshot.{SnapshotValue, IsSnapshot, snapshot_with, choices_of};
+    ghost use Rattle.x_snapshot.specs.Snapshot.{SnapshotValue, IsSnapshot, parts_value};
 
     ghost Value = { SnapshotValue };
 
-    ghost view = { λ s. snapshot_with s.problem (choices_of s.lo) (choices_of s.hi) (state_value s.state) s.breaks.items };
+    ghost view = { λ s. parts_value s.problem s.lo s.hi s.state s.breaks.items };
 
-    ghost invariant = { λ s. IsSnapshot (snapshot_with s.problem (choices_of s.lo) (choices_of s.hi) (state_value s.state) s.breaks.items) };
+    ghost invariant = { λ s. IsSnapshot (parts_value s.problem s.lo s.hi s.state s.breaks.items) };
 }
 
 impl Snapshot {
@@ -55,9 +54,9 @@ impl Snapshot {
         state: State,
         breaks: Vec<Break>,
     ) -> Result<Snapshot, Refused<SnapshotFault, SnapshotParts>>
-        ensures made { IfOk result (λ s. s ≡ snapshot_with problem (choices_of lo) (choices_of hi) (state_value state) breaks.items) }
-        ensures snapshot { OnOk result (IsSnapshot (snapshot_with problem (choices_of lo) (choices_of hi) (state_value state) breaks.items)) }
-        ensures refused { IfErr result (λ r. IsRefused (snapshot_with problem (choices_of lo) (choices_of hi) (state_value state) breaks.items) r.fault) }
+        ensures made { IfOk result (λ s. s ≡ parts_value problem lo hi state breaks.items) }
+        ensures snapshot { OnOk result (IsSnapshot (parts_value problem lo hi state breaks.items)) }
+        ensures refused { IfErr result (λ r. IsRefused (parts_value problem lo hi state breaks.items) r.fault) }
         ensures given_back { IfErr result (λ r. r.given ≡ (problem, lo, hi, state, breaks)) }
     {
         match check_parts(alloc, &problem, &lo, &hi, &state, &breaks) {

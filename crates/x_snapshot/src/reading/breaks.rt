@@ -123,7 +123,8 @@ fn said_break(problem: &Problem, words: &[u8]) -> Found<Break>
 /// The breakpoint of the first line, and what stands after it.
 #[tactic(auto, unfolding(crate::specs::Reading::keyed_line))]
 fn break_in<'t>(problem: &Problem, text: &'t [u8]) -> Found<(Break, &'t [u8])>
-    ensures { Gives (λ r. (r.0, r.1.now)) result (keyed_line SnapshotFault.BadBreak (codes "break") (spec.said_break problem.now) text.now) }
+    ensures { Gives (λ r. (r.0, r.1.now)) result
+        (keyed_line SnapshotFault.BadBreak (codes "break") (spec.said_break problem.now) text.now) }
 {
     let (words, rest) = keyed(SnapshotFault::BadBreak, b"break", text)?;
     let breakpoint = said_break(problem, words)?;
@@ -171,7 +172,8 @@ fn breaks_from<'t>(
 /// The number of breakpoints, and what stands after its line.
 #[tactic(auto, unfolding(crate::specs::Reading::keyed_line))]
 fn count_in(text: &[u8]) -> Found<(u32, &[u8])>
-    ensures { Gives (λ r. (r.0, r.1.now)) result (keyed_line SnapshotFault.BadBreak (codes "breaks") (spec.count_from SnapshotFault.BadBreak most_breaks) text.now) }
+    ensures { Gives (λ r. (r.0, r.1.now)) result
+        (keyed_line SnapshotFault.BadBreak (codes "breaks") (spec.count_from SnapshotFault.BadBreak most_breaks) text.now) }
 {
     let (words, rest) = keyed(SnapshotFault::BadBreak, b"breaks", text)?;
     let count = count_from(SnapshotFault::BadBreak, MOST_BREAKS, words)?;

@@ -66,7 +66,8 @@ fn cut_in<'t>(
     none: &[u8],
     text: &'t [u8],
 ) -> Found<(Option<Vec<u32>>, &'t [u8])>
-    ensures { Gives (λ r. (choices_of r.0, r.1.now)) result (keyed_line SnapshotFault.BadState key.now (spec.cut_from none.now) text.now) }
+    ensures { Gives (λ r. (choices_of r.0, r.1.now)) result
+        (keyed_line SnapshotFault.BadState key.now (spec.cut_from none.now) text.now) }
 {
     let (words, rest) = keyed(SnapshotFault::BadState, key, text)?;
     let cut = cut_from(alloc, none, words)?;
@@ -136,7 +137,8 @@ fn state_from(alloc: Global, words: &[u8]) -> Found<State>
 /// The state of the first line, and what stands after it.
 #[tactic(auto, unfolding(crate::specs::Reading::keyed_line))]
 fn state_in(alloc: Global, text: &[u8]) -> Found<(State, &[u8])>
-    ensures { Gives (λ r. (state_value r.0, r.1.now)) result (keyed_line SnapshotFault.BadState (codes "state") spec.state_from text.now) }
+    ensures { Gives (λ r. (state_value r.0, r.1.now)) result
+        (keyed_line SnapshotFault.BadState (codes "state") spec.state_from text.now) }
 {
     let (words, rest) = keyed(SnapshotFault::BadState, b"state", text)?;
     let state = state_from(alloc, words)?;

@@ -31,7 +31,8 @@ fn lines_from(version: u8, words: &[u8]) -> Found<u32>
 /// The number of the problem's lines, and what stands after its line.
 #[tactic(auto, unfolding(crate::specs::Reading::keyed_line))]
 fn lines_in(version: u8, text: &[u8]) -> Found<(u32, &[u8])>
-    ensures { Gives (λ r. (r.0, r.1.now)) result (keyed_line SnapshotFault.BadProblem (codes "problem") (spec.lines_from version) text.now) }
+    ensures { Gives (λ r. (r.0, r.1.now)) result
+        (keyed_line SnapshotFault.BadProblem (codes "problem") (spec.lines_from version) text.now) }
 {
     let (words, rest) = keyed(SnapshotFault::BadProblem, b"problem", text)?;
     let count = lines_from(version, words)?;

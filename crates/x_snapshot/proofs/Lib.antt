@@ -1,0 +1,14 @@
+pub mod PlaceLemmas
+pub mod BreakLemmas
+pub mod WriterLemmas
+pub mod ReadLemmas
+pub mod BackLemmas
+pub mod ProblemBack
+pub mod BreakBack
+pub mod WholeBack
+pub mod ReadFaults
+pub mod LineAgain
+pub mod ProblemAgain
+pub mod BreakAgain
+pub mod WholeAgain
+mod SnapshotExamples

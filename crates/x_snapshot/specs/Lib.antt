@@ -1,0 +1,7 @@
+pub mod Breaks
+pub mod Snapshot
+pub mod Faults
+pub mod Refusals
+pub mod Writing
+pub mod Reading
+pub mod ReadRefusals

@@ -1,0 +1,63 @@
+-- Why parts make no snapshot.
+use Rattle.std.specs.Prelude.{ℕ, ◌≡◌, true, false, List, Option}
+use Rattle.cover_problem.specs.Problem.{ProblemValue}
+use Rattle.x_steps.specs.declared.fault.AtFault.TheVariants as steps
+use Rattle.x_steps.specs.StateValue.{StateValue}
+use Rattle.x_steps.specs.Steps.{Fits}
+use Rattle.x_branches.specs.declared.branch.Branch.{Branch}
+use Rattle.x_branches.specs.declared.fault.CutFault.{CutFault}
+use Rattle.x_branches.specs.declared.fault.CutFault.TheVariants as cuts
+use Rattle.x_branches.specs.declared.fault.StartFault.{StartFault}
+use Rattle.x_branches.specs.declared.fault.StartFault.TheVariants as starts
+use Rattle.x_branches.specs.declared.fault.RunnerFault.TheVariants as runners
+use Rattle.x_branches.specs.Refusals.{CanStart}
+use Rattle.x_snapshot.specs.declared.breakpoint.Break.{Break}
+use Rattle.x_snapshot.specs.declared.fault.SnapshotFault.{SnapshotFault}
+use Rattle.x_snapshot.specs.declared.fault.SnapshotFault.TheVariants.{NotOnRun, OutsideBranch, BadBreak, OutOfMemory}
+use Rattle.x_snapshot.specs.Breaks.{are_breaks}
+use Rattle.x_snapshot.specs.Snapshot.{SnapshotValue, IsCutIfAny, IsOnRun, IsInside}
+
+-- why a path is no cut, and a state none of a branch, as faults of a snapshot
+abbrev pub cut_fault_of : CutFault → SnapshotFault
+cut_fault_of cuts.NotUntried = NotOnRun
+cut_fault_of cuts.OutOfMemory = OutOfMemory
+
+abbrev pub start_fault_of : StartFault → SnapshotFault
+start_fault_of (starts.Steps steps.NotAState) = NotOnRun
+start_fault_of (starts.Steps steps.OutOfMemory) = OutOfMemory
+start_fault_of (starts.Runner runners.OutsideBranch) = OutsideBranch
+start_fault_of (starts.Runner _) = OutOfMemory
+
+-- one of these can be met nowhere, or comes twice
+abbrev pub IsBreakRefused : ProblemValue → List Break → SnapshotFault → Type 0
+IsBreakRefused p breaks BadBreak = are_breaks p breaks ≡ false
+IsBreakRefused p breaks OutOfMemory = Unit {0}
+IsBreakRefused p breaks _ = ⊥
+
+-- a path is no cut
+abbrev pub IsCutRefused : ProblemValue → Option (List ℕ) → SnapshotFault → Type 0
+IsCutRefused p path NotOnRun = IsCutIfAny p path → ⊥
+IsCutRefused p path OutOfMemory = Unit {0}
+IsCutRefused p path _ = ⊥
+
+-- a state isn't on the run, or outside the branch
+abbrev pub IsStartRefused : ProblemValue → Branch → StateValue → SnapshotFault → Type 0
+IsStartRefused p b s NotOnRun = Fits p s → ⊥
+IsStartRefused p b s OutsideBranch = Fits p s × (CanStart p b s → ⊥)
+IsStartRefused p b s OutOfMemory = Unit {0}
+IsStartRefused p b s _ = ⊥
+
+-- a cut or the state isn't on the run; or all of them are, and the branch or the state's place in it isn't right
+abbrev pub IsPlaceRefused : ProblemValue → Option (List ℕ) → Option (List ℕ) → StateValue → SnapshotFault → Type 0
+IsPlaceRefused p lo hi s NotOnRun = IsOnRun p lo hi s → ⊥
+IsPlaceRefused p lo hi s OutsideBranch = IsOnRun p lo hi s × (IsInside p lo hi s → ⊥)
+IsPlaceRefused p lo hi s OutOfMemory = Unit {0}
+IsPlaceRefused p lo hi s _ = ⊥
+
+-- why parts make no snapshot: the first of these faults, unless memory ran out
+abbrev pub IsRefused : SnapshotValue → SnapshotFault → Type 0
+IsRefused v BadBreak = are_breaks v.problem v.breaks ≡ false
+IsRefused v NotOnRun = (are_breaks v.problem v.breaks ≡ true) × IsPlaceRefused v.problem v.lo v.hi v.state NotOnRun
+IsRefused v OutsideBranch = (are_breaks v.problem v.breaks ≡ true) × IsPlaceRefused v.problem v.lo v.hi v.state OutsideBranch
+IsRefused v OutOfMemory = Unit {0}
+IsRefused v _ = ⊥

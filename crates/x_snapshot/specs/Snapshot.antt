@@ -1,0 +1,66 @@
+-- What a snapshot is: a problem, a branch of its run, a state within it, and the breakpoints of a search that stands there.
+--
+-- Example: in the small problem, from the cut 4 to the end, the state X2 after the choices 4 5 1.
+use Rattle.std.specs.Prelude.{ℕ, ◌≡◌, true, List, Option, Some, option_map}
+use Rattle.std.specs.Prelude as prelude
+use Rattle.std.specs.Global.{Vec}
+use Rattle.cover_problem.specs.Problem.{ProblemValue, IsProblem}
+use Rattle.x_steps.specs.declared.state.State.{State}
+use Rattle.x_steps.specs.StateValue.{StateValue}
+use Rattle.x_steps.specs.StateView.{state_value}
+use Rattle.x_steps.specs.Steps.{Fits}
+use Rattle.x_branches.specs.declared.branch.Branch.{Branch}
+use Rattle.x_branches.specs.Cut.{CutPath, IsCut}
+use Rattle.x_branches.specs.Runner.{IsBranch, IsWithin}
+use Rattle.x_snapshot.specs.declared.breakpoint.Break.{Break}
+use Rattle.x_snapshot.specs.Breaks.{are_breaks}
+
+-- a problem, the paths of the cuts between which the branch lies (none: the start, the end), a state, and breakpoints
+pub record SnapshotValue : Type 0 where
+  pub problem : ProblemValue
+  pub lo : Option (List ℕ)
+  pub hi : Option (List ℕ)
+  pub state : StateValue
+  pub breaks : List Break
+
+abbrev pub snapshot_with : ProblemValue → Option (List ℕ) → Option (List ℕ) → StateValue → List Break → SnapshotValue
+snapshot_with problem lo hi state breaks = record { problem = problem; lo = lo; hi = hi; state = state; breaks = breaks }
+
+-- the choices of a path, if there is one, without where they lie in memory
+abbrev pub choices_of : Option (Vec ℕ) → Option (List ℕ)
+choices_of path = option_map (λ choices. choices.items) path
+
+-- the snapshot of parts, without where they lie in memory
+abbrev pub parts_value : ProblemValue → Option (Vec ℕ) → Option (Vec ℕ) → State → List Break → SnapshotValue
+parts_value problem lo hi state breaks = snapshot_with problem (choices_of lo) (choices_of hi) (state_value state) breaks
+
+-- a path, if there is one, is a cut
+abbrev pub IsCutIfAny : ProblemValue → Option (List ℕ) → Type 0
+IsCutIfAny p prelude.None = Unit {0}
+IsCutIfAny p (Some path) = IsCut p path
+
+-- a path of the problem's search
+abbrev pub path_in : ProblemValue → List ℕ → CutPath
+path_in p path = record { problem = p; path = path }
+
+-- the branch between two cuts of a problem's run
+abbrev pub branch_between : ProblemValue → Option (List ℕ) → Option (List ℕ) → Branch
+branch_between p lo hi = record { lo = option_map (path_in p) lo; hi = option_map (path_in p) hi }
+
+-- the cuts, if there are any, and the state are on the problem's run
+pub record IsOnRun (p : ProblemValue) (lo hi : Option (List ℕ)) (s : StateValue) : Type 0 where
+  pub low : IsCutIfAny p lo
+  pub high : IsCutIfAny p hi
+  pub fits : Fits p s
+
+-- the low cut comes before the high one, and the state is neither before the first state of the branch nor after its end
+pub record IsInside (p : ProblemValue) (lo hi : Option (List ℕ)) (s : StateValue) : Type 0 where
+  pub branch : IsBranch p (branch_between p lo hi)
+  pub within : IsWithin p (branch_between p lo hi) s
+
+-- what is true of every snapshot
+pub record IsSnapshot (v : SnapshotValue) : Type 0 where
+  pub problem : IsProblem v.problem
+  pub breaks : are_breaks v.problem v.breaks ≡ true
+  pub on_run : IsOnRun v.problem v.lo v.hi v.state
+  pub inside : IsInside v.problem v.lo v.hi v.state

@@ -1,0 +1,103 @@
+-- The one text of a snapshot.
+--
+--     polysnap 1           the version: 2 where there are secondary items or breakpoints, else 1
+--     problem 3            the number of lines of the problem, and then these: its cover text
+--     items a
+--     option a
+--     option a
+--     from 1               the choices of the low cut, or `start`
+--     to end               the choices of the high cut, or `end`
+--     state X5 2           the state's label, its cursor (`-`, `past` or an option), and its choices
+--     end
+--
+-- In version 2 the breakpoints stand between `state` and `end`: a line with their number, and a line for each.
+use Rattle.std.specs.Prelude.{ℕ, ◌+◌, Bool, ◌||◌, nat_lt, if◌then◌else◌, List, [], ◌∷◌, ◌++◌, length, map, flat_map, decimal, codes, Option, Some}
+use Rattle.std.specs.Prelude as prelude
+use Rattle.text_lines.specs.Writing.{text_of}
+use Rattle.cover_problem.specs.Problem.{ProblemValue, name_at}
+use Rattle.cover_problem.specs.Grammar.{word_lines, written}
+use Rattle.x_steps.specs.declared.state.Label.{Label}
+use Rattle.x_steps.specs.declared.state.Label.TheVariants.{X1, X2, X3, X4, X5, X6, X7, X8, Done}
+use Rattle.x_steps.specs.declared.state.Cursor.{Cursor}
+use Rattle.x_steps.specs.declared.state.Cursor.TheVariants as cursor
+use Rattle.x_steps.specs.StateValue.{StateValue}
+use Rattle.x_snapshot.specs.declared.breakpoint.Break.{Break}
+use Rattle.x_snapshot.specs.declared.breakpoint.Break.TheVariants as at
+use Rattle.x_snapshot.specs.Snapshot.{SnapshotValue}
+
+-- each word after a space
+abbrev pub words_after : List (List ℕ) → List ℕ
+words_after words = flat_map (λ word. 32 ∷ word) words
+
+-- whether the second version is needed: there are secondary items, or breakpoints
+abbrev pub needs_second : ProblemValue → List Break → Bool
+needs_second p breaks = nat_lt p.primary (length p.names) || nat_lt 0 (length breaks)
+
+-- the version
+abbrev pub version_of : ProblemValue → List Break → ℕ
+version_of p breaks = if needs_second p breaks then 2 else 1
+
+-- the version, and the number of lines of the problem
+abbrev pub head_lines : SnapshotValue → List (List (List ℕ))
+head_lines v =
+    (codes "polysnap" ∷ decimal (version_of v.problem v.breaks) ∷ [])
+    ∷ (codes "problem" ∷ decimal (length (word_lines v.problem)) ∷ []) ∷ []
+
+-- the choices of a cut, or the word for none
+abbrev pub cut_words : List ℕ → Option (List ℕ) → List (List ℕ)
+cut_words none prelude.None = none ∷ []
+cut_words none (Some path) = map decimal path
+
+-- the step about to be done
+abbrev pub label_word : Label → List ℕ
+label_word X1 = codes "X1"
+label_word X2 = codes "X2"
+label_word X3 = codes "X3"
+label_word X4 = codes "X4"
+label_word X5 = codes "X5"
+label_word X6 = codes "X6"
+label_word X7 = codes "X7"
+label_word X8 = codes "X8"
+label_word Done = codes "Done"
+
+-- the option that a step is at
+abbrev pub cursor_word : Cursor → List ℕ
+cursor_word cursor.None = codes "-"
+cursor_word (cursor.At o) = decimal o
+cursor_word cursor.Past = codes "past"
+
+-- label, cursor and choices
+abbrev pub state_words : StateValue → List (List ℕ)
+state_words s = label_word s.label ∷ cursor_word s.cursor ∷ map decimal s.path
+
+-- a breakpoint, over items with these names
+abbrev pub break_words : List (List ℕ) → Break → List (List ℕ)
+break_words names (at.Level n) = codes "break" ∷ codes "level" ∷ decimal n ∷ []
+break_words names (at.Option k) = codes "break" ∷ codes "option" ∷ decimal k ∷ []
+break_words names (at.Item i) = codes "break" ∷ codes "item" ∷ name_at names i ∷ []
+break_words names at.Visit = codes "break" ∷ codes "visit" ∷ []
+
+-- the number of breakpoints, and each of them
+abbrev pub break_lines : ProblemValue → List Break → List (List (List ℕ))
+break_lines p breaks = (codes "breaks" ∷ decimal (length breaks) ∷ []) ∷ map (break_words p.names) breaks
+
+-- the same, in the second version
+abbrev pub lines_of_breaks : ProblemValue → List Break → List (List (List ℕ))
+lines_of_breaks p breaks = if needs_second p breaks then break_lines p breaks else []
+
+-- the lines of the branch and the state
+abbrev pub place_lines : SnapshotValue → List (List (List ℕ))
+place_lines v =
+    (codes "from" ∷ cut_words (codes "start") v.lo)
+    ∷ (codes "to" ∷ cut_words (codes "end") v.hi)
+    ∷ (codes "state" ∷ state_words v.state) ∷ []
+
+-- the last line
+abbrev pub end_line : List (List (List ℕ))
+end_line = (codes "end" ∷ []) ∷ []
+
+-- the text of a snapshot
+unfoldable pub snapshot_text : SnapshotValue → List ℕ
+snapshot_text v =
+    text_of (head_lines v) ++ written v.problem ++ text_of (place_lines v)
+    ++ text_of (lines_of_breaks v.problem v.breaks) ++ text_of end_line

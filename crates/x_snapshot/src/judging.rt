@@ -1,0 +1,116 @@
+//! Whether parts make a snapshot, and which fault is the first where they don't.
+ghost use Rattle.std.specs.Prelude.{◌≡◌, [], option_map, IfOk, IfErr, OnOk};
+ghost use Rattle.x_steps.specs.StateView.{state_value};
+ghost use Rattle.x_branches.specs.Refusals.{CanStart};
+ghost use Rattle.x_snapshot.specs.Snapshot.{IsCutIfAny, IsOnRun, IsInside, IsSnapshot, choices_of, path_in, parts_value};
+ghost use Rattle.x_snapshot.specs.Refusals.{cut_fault_of, start_fault_of, IsCutRefused, IsStartRefused, IsPlaceRefused, IsRefused};
+
+use crate::breakpoint::{Break, check_breaks};
+use crate::fault::SnapshotFault;
+use cover_links::LinkTable;
+use cover_problem::{Problem, Table};
+use std::alloc::Global;
+use x_branches::{Branch, Cut, CutFault, Runner, RunnerFault, StartFault};
+use x_steps::{AtFault, State};
+
+/// Why there is no cut.
+fn cut_fault(fault: CutFault) -> SnapshotFault
+    ensures { result ≡ cut_fault_of fault }
+{
+    match fault {
+        CutFault::NotUntried => SnapshotFault::NotOnRun,
+        CutFault::OutOfMemory => SnapshotFault::OutOfMemory,
+    }
+}
+
+/// Why no search can stand at a state of a branch.
+fn start_fault(fault: StartFault) -> SnapshotFault
+    ensures { result ≡ start_fault_of fault }
+{
+    match fault {
+        StartFault::Steps(AtFault::NotAState) => SnapshotFault::NotOnRun,
+        StartFault::Steps(AtFault::OutOfMemory) => SnapshotFault::OutOfMemory,
+        StartFault::Runner(RunnerFault::OutsideBranch) => SnapshotFault::OutsideBranch,
+        StartFault::Runner(_) => SnapshotFault::OutOfMemory,
+    }
+}
+
+/// The cut of a path, if there is one, by a table with nothing covered, which comes back so.
+fn cut_of<'p, T: Table>(
+    alloc: Global,
+    problem: &'p Problem,
+    table: T,
+    path: &Option<Vec<u32>>,
+) -> Result<(T, Option<Cut<'p>>), SnapshotFault>
+    requires same_problem { T.problem_value table ≡ problem.now }
+    requires covered { T.covered_list table ≡ [] }
+    ensures same_problem_back { IfOk result (λ made. T.problem_value made.0 ≡ problem.now) }
+    ensures covered_back { IfOk result (λ made. T.covered_list made.0 ≡ []) }
+    ensures made { IfOk result (λ made. made.1 ≡ option_map (path_in problem.now) (choices_of path.now)) }
+    ensures cut { OnOk result (IsCutIfAny problem.now (choices_of path.now)) }
+    ensures refused { IfErr result (λ fault. IsCutRefused problem.now (choices_of path.now) fault) }
+{
+    let Some(path) = path else {
+        return Ok((table, None));
+    };
+    let (table, made) = Cut::with_table(alloc, problem, table, path.clone()?);
+    match made {
+        Ok(cut) => Ok((table, Some(cut))),
+        Err(refused) => Err(cut_fault(refused.fault)),
+    }
+}
+
+/// Whether a search can stand at a state of a branch.
+fn check_state<'p, T: Table>(
+    alloc: Global,
+    problem: &'p Problem,
+    table: T,
+    branch: Branch<'p>,
+    state: &State,
+) -> Result<(), SnapshotFault>
+    requires same_problem { T.problem_value table ≡ problem.now }
+    requires covered { T.covered_list table ≡ [] }
+    ensures can { OnOk result (CanStart problem.now branch.entry (state_value state.now)) }
+    ensures refused { IfErr result (λ fault. IsStartRefused problem.now branch.entry (state_value state.now) fault) }
+{
+    match Runner::new(alloc, problem, table, branch, state) {
+        Ok(_) => Ok(()),
+        Err(refused) => Err(start_fault(refused.fault)),
+    }
+}
+
+/// Whether cuts and a state are on the run, and the state within the branch between them.
+fn check_place(
+    alloc: Global,
+    problem: &Problem,
+    lo: &Option<Vec<u32>>,
+    hi: &Option<Vec<u32>>,
+    state: &State,
+) -> Result<(), SnapshotFault>
+    ensures on_run { OnOk result (IsOnRun problem.now (choices_of lo.now) (choices_of hi.now) (state_value state.now)) }
+    ensures inside { OnOk result (IsInside problem.now (choices_of lo.now) (choices_of hi.now) (state_value state.now)) }
+    ensures refused { IfErr result (λ fault.
+        IsPlaceRefused problem.now (choices_of lo.now) (choices_of hi.now) (state_value state.now) fault) }
+{
+    let table = LinkTable::new(alloc, problem)?;
+    let (table, lo) = cut_of(alloc, problem, table, lo)?;
+    let (table, hi) = cut_of(alloc, problem, table, hi)?;
+    check_state(alloc, problem, table, Branch { lo, hi }, state)
+}
+
+/// Whether these make a snapshot.
+pub fn check_parts(
+    alloc: Global,
+    problem: &Problem,
+    lo: &Option<Vec<u32>>,
+    hi: &Option<Vec<u32>>,
+    state: &State,
+    breaks: &[Break],
+) -> Result<(), SnapshotFault>
+    ensures snapshot { OnOk result (IsSnapshot (parts_value problem.now lo.now hi.now state.now breaks.now)) }
+    ensures refused { IfErr result (λ fault. IsRefused (parts_value problem.now lo.now hi.now state.now breaks.now) fault) }
+{
+    let _items = problem.items();
+    check_breaks(alloc, problem, breaks)?;
+    check_place(alloc, problem, lo, hi, state)
+}

@@ -1,0 +1,145 @@
+//! The reader of snapshots.
+ghost use Rattle.std.specs.Prelude.{◌≡◌, Ok, codes, IfOk, IfErr};
+ghost use Rattle.text_lines.specs.Lines.{words_of};
+ghost use Rattle.text_lines.specs.Answers.{Gives};
+ghost use Rattle.x_snapshot.specs.Snapshot.{SnapshotValue, IsSnapshot, parts_value};
+ghost use Rattle.x_snapshot.specs.Writing.{snapshot_text};
+ghost use Rattle.x_snapshot.specs.Reading as spec;
+ghost use Rattle.x_snapshot.specs.Reading.{keyed_line, parts_of};
+ghost use Rattle.x_snapshot.specs.ReadRefusals.{IsReadRefused, fault_from};
+
+mod breaks;
+mod lines;
+mod place;
+mod problem;
+
+use crate::breakpoint::Break;
+use crate::fault::SnapshotFault;
+use crate::snapshot::{Snapshot, SnapshotParts};
+use crate::writing::needs_second;
+use breaks::breaks_of_version;
+use cover_problem::Problem;
+use lines::{are_digits, keyed, only_word};
+use place::place_in;
+use problem::problem_in;
+use std::alloc::Global;
+use text_lines::{Refusal, has_words};
+
+/// What a part of a text says, or why it is refused.
+pub type Found<T> = Result<T, Refusal<SnapshotFault>>;
+
+/// The version of these digits.
+fn version_from(word: &[u8]) -> Found<u8>
+    ensures { Gives (λ n. n) result (spec.version_from word.now) }
+{
+    match word {
+        b"1" => Ok(1),
+        b"2" => Ok(2),
+        _ => Err(Refusal::Fault(SnapshotFault::BadVersion)),
+    }
+}
+
+/// The version of the first line's words.
+#[tactic(auto, unfolding(crate::specs::Reading::header))]
+fn header(words: &[u8]) -> Found<u8>
+    ensures { Gives (λ n. n) result (spec.header (words_of words.now)) }
+{
+    let Some(word) = only_word(words) else {
+        return Err(Refusal::Fault(SnapshotFault::BadHeader));
+    };
+    if !are_digits(word) {
+        return Err(Refusal::Fault(SnapshotFault::BadHeader));
+    }
+    version_from(word)
+}
+
+/// The version, and what stands after the first line.
+#[tactic(auto, unfolding(crate::specs::Reading::keyed_line))]
+fn version_in(text: &[u8]) -> Found<(u8, &[u8])>
+    ensures { Gives (λ r. (r.0, r.1.now)) result
+        (keyed_line SnapshotFault.BadHeader (codes "polysnap") spec.header text.now) }
+{
+    let (words, rest) = keyed(SnapshotFault::BadHeader, b"polysnap", text)?;
+    let version = header(words)?;
+    Ok((version, rest))
+}
+
+/// Whether nothing but the key stands in the last line.
+#[tactic(auto, unfolding(crate::specs::Reading::end_from))]
+fn check_end(words: &[u8]) -> Found<()>
+    ensures { Gives (λ _. tt) result (spec.end_from (words_of words.now)) }
+{
+    if has_words(words) {
+        return Err(Refusal::Fault(SnapshotFault::BadState));
+    }
+    Ok(())
+}
+
+/// What stands after the last line.
+#[tactic(auto, unfolding(crate::specs::Reading::keyed_line))]
+fn after_end(text: &[u8]) -> Found<&[u8]>
+    ensures { Gives (λ rest. (tt, rest.now)) result
+        (keyed_line SnapshotFault.BadState (codes "end") spec.end_from text.now) }
+{
+    let (words, rest) = keyed(SnapshotFault::BadState, b"end", text)?;
+    check_end(words)?;
+    Ok(rest)
+}
+
+/// Whether nothing follows, and the second version is needed.
+#[tactic(auto, unfolding(crate::specs::Reading::whole))]
+fn check_whole(version: u8, problem: &Problem, breaks: &[Break], rest: &[u8]) -> Found<()>
+    ensures { Gives (λ _. tt) result (spec.whole version problem.now breaks.now rest.now) }
+{
+    if !rest.is_empty() {
+        return Err(Refusal::Fault(SnapshotFault::TrailingBytes));
+    }
+    if version == 2 && !needs_second(problem, breaks) {
+        return Err(Refusal::Fault(SnapshotFault::Spelling));
+    }
+    Ok(())
+}
+
+/// What a text says. Whether it is on the run is not judged.
+#[tactic(auto, unfolding(crate::specs::Reading::parts_of))]
+fn read_parts(alloc: Global, text: &[u8]) -> Found<SnapshotParts>
+    ensures { Gives (λ v. parts_value v.0 v.1 v.2 v.3 v.4.items) result (parts_of text.now) }
+{
+    let (version, rest) = version_in(text)?;
+    let (problem, rest) = problem_in(alloc, version, rest)?;
+    let ((lo, hi, state), rest) = place_in(alloc, rest)?;
+    let (breaks, rest) = breaks_of_version(alloc, version, &problem, rest)?;
+    let rest = after_end(rest)?;
+    check_whole(version, &problem, &breaks, rest)?;
+    Ok((problem, lo, hi, state, breaks))
+}
+
+/// A refusal as a fault.
+fn fault_from(refusal: Refusal<SnapshotFault>) -> SnapshotFault
+    ensures { result ≡ fault_from refusal }
+{
+    match refusal {
+        Refusal::Fault(fault) => fault,
+        Refusal::OutOfMemory => SnapshotFault::OutOfMemory,
+    }
+}
+
+/// Reads a snapshot. A refusal is the first fault: of the lines in their order, then bytes that follow, then a second version that
+/// nothing asks for, then a cut or a state that isn't on the run, then one that is outside the branch.
+pub fn read_snapshot(alloc: Global, bytes: &[u8]) -> Result<Snapshot, SnapshotFault>
+    ensures read { IfOk result (λ s. parts_of bytes.now ≡ Ok s) }
+    ensures text { IfOk result (λ s. bytes.now ≡ snapshot_text s) }
+    ensures every { (v : SnapshotValue) → IsSnapshot v → bytes.now ≡ snapshot_text v → IfOk result (λ s. s ≡ v) }
+    ensures always { (v : SnapshotValue) → IsSnapshot v → bytes.now ≡ snapshot_text v →
+        IfErr result (λ fault. fault ≡ SnapshotFault.OutOfMemory) }
+    ensures refused { IfErr result (λ fault. IsReadRefused bytes.now fault) }
+{
+    let (problem, lo, hi, state, breaks) = match read_parts(alloc, bytes) {
+        Ok(parts) => parts,
+        Err(refusal) => return Err(fault_from(refusal)),
+    };
+    match Snapshot::new(alloc, problem, lo, hi, state, breaks) {
+        Ok(snapshot) => Ok(snapshot),
+        Err(refused) => Err(refused.fault),
+    }
+}

@@ -1,0 +1,112 @@
+//! A snapshot: a problem, a branch of its run, a state within it, and breakpoints.
+ghost use Rattle.std.specs.Prelude.{◌≡◌, None, Some, MatchOption, IfOk, IfErr, OnOk};
+ghost use Rattle.x_steps.specs.StateView.{state_value};
+ghost use Rattle.x_snapshot.specs.Snapshot.{IsSnapshot, parts_value};
+ghost use Rattle.x_snapshot.specs.Refusals.{IsRefused};
+
+use crate::breakpoint::Break;
+use crate::fault::SnapshotFault;
+use crate::judging::check_parts;
+use cover_problem::Problem;
+use std::alloc::Global;
+use std::marker::Model;
+use x_steps::{Refused, State};
+
+/// The parts of a snapshot: its problem, the paths of its low and its high cut, its state, and its breakpoints.
+pub type SnapshotParts = (
+    Problem,
+    Option<Vec<u32>>,
+    Option<Vec<u32>>,
+    State,
+    Vec<Break>,
+);
+
+/// A place in the search of a problem: a branch of its run, from a cut or the start up to a later cut or the end, and a state
+/// in the branch or at its end. With it go the breakpoints of a search that stands there.
+#[derive(Drop)]
+pub struct Snapshot {
+    problem: Problem,
+    lo: Option<Vec<u32>>,
+    hi: Option<Vec<u32>>,
+    state: State,
+    breaks: Vec<Break>,
+}
+
+impl Model for Snapshot {
+    ghost use Rattle.x_snapshot.specs.Snapshot.{SnapshotValue, IsSnapshot, parts_value};
+
+    ghost Value = { SnapshotValue };
+
+    ghost view = { λ s. parts_value s.problem s.lo s.hi s.state s.breaks.items };
+
+    ghost invariant = { λ s. IsSnapshot (parts_value s.problem s.lo s.hi s.state s.breaks.items) };
+}
+
+impl Snapshot {
+    /// The snapshot of these parts. Refused, in this order, where a breakpoint can't be met or comes twice; where a cut's path
+    /// is empty or none that the search can take, or the search has no such state; and where the low cut doesn't come before
+    /// the high one, or the state is outside the branch; and when out of memory. All parts come back.
+    pub fn new(
+        alloc: Global,
+        problem: Problem,
+        lo: Option<Vec<u32>>,
+        hi: Option<Vec<u32>>,
+        state: State,
+        breaks: Vec<Break>,
+    ) -> Result<Snapshot, Refused<SnapshotFault, SnapshotParts>>
+        ensures made { IfOk result (λ s. s ≡ parts_value problem lo hi state breaks.items) }
+        ensures snapshot { OnOk result (IsSnapshot (parts_value problem lo hi state breaks.items)) }
+        ensures refused { IfErr result (λ r. IsRefused (parts_value problem lo hi state breaks.items) r.fault) }
+        ensures given_back { IfErr result (λ r. r.given ≡ (problem, lo, hi, state, breaks)) }
+    {
+        match check_parts(alloc, &problem, &lo, &hi, &state, &breaks) {
+            Ok(()) => Ok(Snapshot {
+                problem,
+                lo,
+                hi,
+                state,
+                breaks,
+            }),
+            Err(fault) => Err(Refused {
+                fault,
+                given: (problem, lo, hi, state, breaks),
+            }),
+        }
+    }
+
+    /// Its problem.
+    pub fn problem(&self) -> &Problem
+        ensures problem { result.now ≡ self.now.problem }
+        ensures snapshot { IsSnapshot self.now }
+    {
+        &self.problem
+    }
+
+    /// The choices of the cut where its branch begins; None where that is the start of the run.
+    pub fn lo(&self) -> Option<&[u32]>
+        ensures { MatchOption result (self.now.lo ≡ None) (λ path. self.now.lo ≡ Some path.now) }
+    {
+        self.lo.as_deref()
+    }
+
+    /// The choices of the cut where its branch ends; None where that is the end of the run.
+    pub fn hi(&self) -> Option<&[u32]>
+        ensures { MatchOption result (self.now.hi ≡ None) (λ path. self.now.hi ≡ Some path.now) }
+    {
+        self.hi.as_deref()
+    }
+
+    /// Its state.
+    pub fn state(&self) -> &State
+        ensures { state_value result.now ≡ self.now.state }
+    {
+        &self.state
+    }
+
+    /// Its breakpoints, in order.
+    pub fn breaks(&self) -> &[Break]
+        ensures { result.now ≡ self.now.breaks }
+    {
+        &self.breaks
+    }
+}

@@ -1,0 +1,377 @@
+//! Snapshots of small problems, with texts that were worked out by hand.
+
+use super::*;
+use cover_problem::{Problem, read_cover};
+use std::alloc::{AllocError, Global};
+use std::test::Fail;
+use x_steps::{Cursor, Label, State};
+
+/// The small problem.
+const SMALL: &[u8] =
+    b"items a b c d e f g\noption c e\noption a d g\noption b c f\noption a d f\noption b g\noption d e g";
+
+/// A problem with a secondary item.
+const SECONDARY: &[u8] = b"items a\nmaybe b\noption a b\noption a";
+
+/// The small problem from the cut 4 to the end, at X2 after the choices 4 5 1: 150 bytes.
+pub const FROM_FOUR: &[u8] = b"polysnap 1
+problem 7
+items a b c d e f g
+option c e
+option a d g
+option b c f
+option a d f
+option b g
+option d e g
+from 4
+to end
+state X2 - 4 5 1
+end
+";
+
+/// The same with the breakpoint `level 3`: 173 bytes.
+pub const WITH_LEVEL: &[u8] = b"polysnap 2
+problem 7
+items a b c d e f g
+option c e
+option a d g
+option b c f
+option a d f
+option b g
+option d e g
+from 4
+to end
+state X2 - 4 5 1
+breaks 1
+break level 3
+end
+";
+
+/// The problem with a secondary item from start to end, at X1: 99 bytes.
+pub const WITH_SECONDARY: &[u8] = b"polysnap 2
+problem 4
+items a
+maybe b
+option a b
+option a
+from start
+to end
+state X1 -
+breaks 0
+end
+";
+
+/// The same problem, at X5 at option 2, from the cut 1 to the cut 2, with a breakpoint of each kind.
+pub const WITH_EACH: &[u8] = b"polysnap 2
+problem 4
+items a
+maybe b
+option a b
+option a
+from 1
+to 2
+state X5 2
+breaks 4
+break item b
+break visit
+break option 2
+break level 0
+end
+";
+
+/// The parts of a snapshot beside its problem.
+#[derive(Clone, Copy)]
+struct Row {
+    lo: Option<&'static [u32]>,
+    hi: Option<&'static [u32]>,
+    label: Label,
+    cursor: Cursor,
+    path: &'static [u32],
+    breaks: &'static [Break],
+}
+
+/// At X2 after the choices 4 5 1, from the cut 4 to the end.
+const AT_VISIT: Row = Row {
+    lo: Some(&[4]),
+    hi: None,
+    label: Label::X2,
+    cursor: Cursor::None,
+    path: &[4, 5, 1],
+    breaks: &[],
+};
+
+/// At X1, from start to end.
+const AT_START: Row = Row {
+    lo: None,
+    hi: None,
+    label: Label::X1,
+    cursor: Cursor::None,
+    path: &[],
+    breaks: &[],
+};
+
+/// Problems and parts, each with the text that is written of the snapshot.
+const WRITTEN: [(&[u8], Row, &[u8]); 4] = [
+    (SMALL, AT_VISIT, FROM_FOUR),
+    (
+        SMALL,
+        Row {
+            breaks: &[Break::Level(3)],
+            ..AT_VISIT
+        },
+        WITH_LEVEL,
+    ),
+    (SECONDARY, AT_START, WITH_SECONDARY),
+    (
+        SECONDARY,
+        Row {
+            lo: Some(&[1]),
+            hi: Some(&[2]),
+            label: Label::X5,
+            cursor: Cursor::At(2),
+            path: &[],
+            breaks: &[
+                Break::Item(2),
+                Break::Visit,
+                Break::Option(2),
+                Break::Level(0),
+            ],
+        },
+        WITH_EACH,
+    ),
+];
+
+/// Parts over the small problem, each with the fault that is the first.
+const REFUSED: [(Row, SnapshotFault); 18] = [
+    (
+        Row {
+            lo: Some(&[9]),
+            breaks: &[Break::Level(8)],
+            ..AT_START
+        },
+        SnapshotFault::BadBreak,
+    ),
+    (
+        Row {
+            breaks: &[Break::Option(0)],
+            ..AT_START
+        },
+        SnapshotFault::BadBreak,
+    ),
+    (
+        Row {
+            breaks: &[Break::Option(7)],
+            ..AT_START
+        },
+        SnapshotFault::BadBreak,
+    ),
+    (
+        Row {
+            breaks: &[Break::Item(8)],
+            ..AT_START
+        },
+        SnapshotFault::BadBreak,
+    ),
+    (
+        Row {
+            breaks: &[Break::Visit, Break::Level(1), Break::Visit],
+            ..AT_START
+        },
+        SnapshotFault::BadBreak,
+    ),
+    (
+        Row {
+            lo: Some(&[]),
+            ..AT_VISIT
+        },
+        SnapshotFault::NotOnRun,
+    ),
+    // option 1 doesn't have the item that is chosen first
+    (
+        Row {
+            lo: Some(&[1]),
+            ..AT_VISIT
+        },
+        SnapshotFault::NotOnRun,
+    ),
+    (
+        Row {
+            hi: Some(&[2, 1]),
+            ..AT_VISIT
+        },
+        SnapshotFault::NotOnRun,
+    ),
+    (
+        Row {
+            hi: Some(&[7]),
+            ..AT_VISIT
+        },
+        SnapshotFault::NotOnRun,
+    ),
+    // no item is active there
+    (
+        Row {
+            label: Label::X3,
+            ..AT_VISIT
+        },
+        SnapshotFault::NotOnRun,
+    ),
+    (
+        Row {
+            cursor: Cursor::At(5),
+            ..AT_VISIT
+        },
+        SnapshotFault::NotOnRun,
+    ),
+    (
+        Row {
+            label: Label::X5,
+            ..AT_START
+        },
+        SnapshotFault::NotOnRun,
+    ),
+    (
+        Row {
+            label: Label::X8,
+            path: &[2, 1],
+            ..AT_START
+        },
+        SnapshotFault::NotOnRun,
+    ),
+    // a state that isn't on the run comes before cuts in the wrong order
+    (
+        Row {
+            label: Label::X3,
+            hi: Some(&[2]),
+            ..AT_VISIT
+        },
+        SnapshotFault::NotOnRun,
+    ),
+    (
+        Row {
+            hi: Some(&[2]),
+            ..AT_VISIT
+        },
+        SnapshotFault::OutsideBranch,
+    ),
+    (
+        Row {
+            hi: Some(&[4]),
+            ..AT_VISIT
+        },
+        SnapshotFault::OutsideBranch,
+    ),
+    (
+        Row {
+            lo: Some(&[4]),
+            ..AT_START
+        },
+        SnapshotFault::OutsideBranch,
+    ),
+    (
+        Row {
+            label: Label::Done,
+            hi: Some(&[4]),
+            ..AT_START
+        },
+        SnapshotFault::OutsideBranch,
+    ),
+];
+
+/// A path in memory of its own, if there is one.
+fn copied(alloc: Global, path: Option<&[u32]>) -> Result<Option<Vec<u32>>, AllocError> {
+    match path {
+        Some(path) => Ok(Some(Vec::from_slice(alloc, path)?)),
+        None => Ok(None),
+    }
+}
+
+/// The state of these parts.
+fn state_of(alloc: Global, row: &Row) -> Result<State, AllocError> {
+    Ok(State {
+        label: row.label,
+        path: Vec::from_slice(alloc, row.path)?,
+        cursor: row.cursor,
+    })
+}
+
+/// The snapshot of a problem with these parts; None out of memory.
+fn made(alloc: Global, problem: Problem, row: &Row) -> Option<Result<Snapshot, SnapshotFault>> {
+    let lo = copied(alloc, row.lo).ok()?;
+    let hi = copied(alloc, row.hi).ok()?;
+    let state = state_of(alloc, row).ok()?;
+    let breaks = Vec::from_slice(alloc, row.breaks).ok()?;
+    match Snapshot::new(alloc, problem, lo, hi, state, breaks) {
+        Ok(snapshot) => Some(Ok(snapshot)),
+        Err(refused) => Some(Err(refused.fault)),
+    }
+}
+
+/// The snapshot of a cover text's problem with these parts.
+fn snapshot_of(alloc: Global, cover: &[u8], row: &Row) -> Option<Result<Snapshot, SnapshotFault>> {
+    let problem = read_cover(alloc, cover).ok()?;
+    made(alloc, problem, row)
+}
+
+/// Whether these parts are written as this text.
+fn is_written(alloc: Global, cover: &[u8], row: &Row, text: &[u8]) -> bool {
+    let Some(Ok(snapshot)) = snapshot_of(alloc, cover, row) else {
+        return false;
+    };
+    match write_snapshot(alloc, &snapshot) {
+        Ok(written) => written.as_slice() == text,
+        Err(_) => false,
+    }
+}
+
+/// Whether these parts over the small problem have this fault.
+fn is_refused(alloc: Global, row: &Row, fault: SnapshotFault) -> bool {
+    match snapshot_of(alloc, SMALL, row) {
+        Some(Err(found)) => found == fault,
+        _ => false,
+    }
+}
+
+/// The place of the first of these parts that are written otherwise.
+fn wrong_text(alloc: Global) -> Option<usize> {
+    WRITTEN
+        .iter()
+        .position(|(cover, row, text)| !is_written(alloc, cover, row, text))
+}
+
+/// The place of the first of these parts with another fault.
+fn wrong_fault(alloc: Global) -> Option<usize> {
+    REFUSED
+        .iter()
+        .position(|(row, fault)| !is_refused(alloc, row, *fault))
+}
+
+#[test]
+fn snapshots_are_written(rt: HostRuntime) {
+    assert!(rt; FROM_FOUR.len() == 150);
+    assert!(rt; WITH_LEVEL.len() == 173);
+    assert!(rt; WITH_SECONDARY.len() == 99);
+    assert!(rt; wrong_text(rt.alloc()).is_none());
+}
+
+#[test]
+fn the_first_fault_is_told(rt: HostRuntime) {
+    assert!(rt; wrong_fault(rt.alloc()).is_none());
+}
+
+/// The parts that a snapshot tells are those that it was made of.
+#[test]
+fn parts_are_told(rt: HostRuntime) -> Result<(), Fail> {
+    let found = snapshot_of(rt.alloc(), SMALL, &AT_VISIT);
+    let Some(Ok(snapshot)) = found else {
+        return Err("no snapshot".into());
+    };
+    assert!(rt; snapshot.problem().options() == 6);
+    assert!(rt; snapshot.lo() == Some([4u32].as_slice()));
+    assert!(rt; snapshot.hi().is_none());
+    assert!(rt; snapshot.state().path.as_slice() == [4u32, 5, 1].as_slice());
+    assert!(rt; snapshot.breaks().is_empty());
+    assert!(rt; SnapshotFault::OutsideBranch.number() == Some(6));
+    assert!(rt; SnapshotFault::OutsideBranch.name() == "OutsideBranch");
+    Ok(())
+}

@@ -1,0 +1,217 @@
+//! The writer of snapshots.
+ghost use Rattle.std.specs.Prelude.{◌≡◌, ◌++◌, ◌∷◌, [], true, map, length, decimal, codes, OnOk, IfOk};
+ghost use Rattle.std.specs.List.{list_all};
+ghost use Rattle.text_lines.specs.Writing.{line_text, text_of};
+ghost use Rattle.cover_problem.specs.Grammar.{word_lines};
+ghost use Rattle.x_steps.specs.StateView.{state_value};
+ghost use Rattle.x_snapshot.specs.Breaks.{is_break};
+ghost use Rattle.x_snapshot.specs.Writing as spec;
+ghost use Rattle.x_snapshot.specs.Writing.{words_after, cut_words, state_words, break_words, lines_of_breaks, snapshot_text};
+
+use crate::breakpoint::Break;
+use crate::snapshot::Snapshot;
+use cover_problem::{Problem, write_cover};
+use itoa::{Buffer, Integer};
+use std::alloc::{AllocError, Global};
+use x_steps::{Cursor, Label, State};
+
+/// Writes a word after another.
+fn write_word(text: &mut Vec<u8>, word: &str) -> Result<(), AllocError>
+    ensures { OnOk result (text.new.items ≡ text.old.items ++ 32 ∷ word.now) }
+{
+    text.push(b' ')?;
+    text.extend_from_slice(word.as_bytes())
+}
+
+/// Writes a number after a word.
+fn write_number<N: Integer + Drop>(text: &mut Vec<u8>, number: N) -> Result<(), AllocError>
+    ensures { OnOk result (text.new.items ≡ text.old.items ++ 32 ∷ N.text number) }
+{
+    let mut buffer = Buffer::new();
+    write_word(text, buffer.format(number))
+}
+
+/// Writes numbers after a word.
+fn write_numbers(text: &mut Vec<u8>, numbers: &[u32]) -> Result<(), AllocError>
+    ensures { OnOk result (text.new.items ≡ text.old.items ++ words_after (map decimal numbers.now)) }
+{
+    for number in numbers {
+        write_number(text, *number)?;
+    }
+    Ok(())
+}
+
+/// Writes a line of a word and a number.
+fn write_count(text: &mut Vec<u8>, key: &str, number: usize) -> Result<(), AllocError>
+    ensures { OnOk result (text.new.items ≡ text.old.items ++ line_text (key.now ∷ decimal number ∷ [])) }
+{
+    text.extend_from_slice(key.as_bytes())?;
+    write_number(text, number)?;
+    text.push(b'\n')?;
+    Ok(())
+}
+
+/// Writes a line of two words.
+fn write_pair(text: &mut Vec<u8>, key: &str, word: &str) -> Result<(), AllocError>
+    ensures { OnOk result (text.new.items ≡ text.old.items ++ line_text (key.now ∷ word.now ∷ [])) }
+{
+    text.extend_from_slice(key.as_bytes())?;
+    write_word(text, word)?;
+    text.push(b'\n')?;
+    Ok(())
+}
+
+/// Writes a line of a word and the choices of a path.
+fn write_path(text: &mut Vec<u8>, key: &str, path: &[u32]) -> Result<(), AllocError>
+    ensures { OnOk result (text.new.items ≡ text.old.items ++ line_text (key.now ∷ map decimal path.now)) }
+{
+    text.extend_from_slice(key.as_bytes())?;
+    write_numbers(text, path)?;
+    text.push(b'\n')?;
+    Ok(())
+}
+
+/// Writes the line of the low cut.
+fn write_from(text: &mut Vec<u8>, snapshot: &Snapshot) -> Result<(), AllocError>
+    ensures { OnOk result (text.new.items ≡ text.old.items ++ line_text (codes "from" ∷ cut_words (codes "start") snapshot.now.lo)) }
+{
+    match snapshot.lo() {
+        Some(path) => write_path(text, "from", path),
+        None => write_pair(text, "from", "start"),
+    }
+}
+
+/// Writes the line of the high cut.
+fn write_to(text: &mut Vec<u8>, snapshot: &Snapshot) -> Result<(), AllocError>
+    ensures { OnOk result (text.new.items ≡ text.old.items ++ line_text (codes "to" ∷ cut_words (codes "end") snapshot.now.hi)) }
+{
+    match snapshot.hi() {
+        Some(path) => write_path(text, "to", path),
+        None => write_pair(text, "to", "end"),
+    }
+}
+
+/// The word of a label.
+fn label_word(label: Label) -> &'static str
+    ensures { result.now ≡ spec.label_word label }
+{
+    match label {
+        Label::X1 => "X1",
+        Label::X2 => "X2",
+        Label::X3 => "X3",
+        Label::X4 => "X4",
+        Label::X5 => "X5",
+        Label::X6 => "X6",
+        Label::X7 => "X7",
+        Label::X8 => "X8",
+        Label::Done => "Done",
+    }
+}
+
+/// Writes a cursor after a word.
+fn write_cursor(text: &mut Vec<u8>, cursor: Cursor) -> Result<(), AllocError>
+    ensures { OnOk result (text.new.items ≡ text.old.items ++ 32 ∷ spec.cursor_word cursor) }
+{
+    match cursor {
+        Cursor::None => write_word(text, "-"),
+        Cursor::At(option) => write_number(text, option),
+        Cursor::Past => write_word(text, "past"),
+    }
+}
+
+/// Writes the line of a state.
+fn write_state(text: &mut Vec<u8>, state: &State) -> Result<(), AllocError>
+    ensures { OnOk result (text.new.items ≡ text.old.items ++ line_text (codes "state" ∷ state_words (state_value state.now))) }
+{
+    text.extend_from_slice(b"state")?;
+    write_word(text, label_word(state.label))?;
+    write_cursor(text, state.cursor)?;
+    write_numbers(text, &state.path)?;
+    text.push(b'\n')?;
+    Ok(())
+}
+
+/// Writes the line of a breakpoint.
+fn write_break(text: &mut Vec<u8>, problem: &Problem, breakpoint: Break) -> Result<(), AllocError>
+    requires { is_break problem.now breakpoint ≡ true }
+    ensures { OnOk result (text.new.items ≡ text.old.items ++ line_text (break_words problem.now.names breakpoint)) }
+{
+    match breakpoint {
+        Break::Level(level) => write_count(text, "break level", level as usize),
+        Break::Option(option) => write_count(text, "break option", option as usize),
+        Break::Item(item) => write_pair(text, "break item", problem.name(item)),
+        Break::Visit => text.extend_from_slice(b"break visit\n"),
+    }
+}
+
+/// Writes the lines of breakpoints.
+fn write_each_break(
+    text: &mut Vec<u8>,
+    problem: &Problem,
+    breaks: &[Break],
+) -> Result<(), AllocError>
+    requires { list_all (is_break problem.now) breaks.now ≡ true }
+    ensures { OnOk result (text.new.items ≡ text.old.items ++ text_of (map (break_words problem.now.names) breaks.now)) }
+{
+    for breakpoint in breaks {
+        write_break(text, problem, *breakpoint)?;
+    }
+    Ok(())
+}
+
+/// Whether the second version is needed: there are secondary items, or breakpoints.
+pub fn needs_second(problem: &Problem, breaks: &[Break]) -> bool
+    ensures { result ≡ spec.needs_second problem.now breaks.now }
+{
+    problem.primary() < problem.items() || !breaks.is_empty()
+}
+
+/// Writes the number of breakpoints and their lines, in the second version.
+fn write_breaks(text: &mut Vec<u8>, problem: &Problem, breaks: &[Break]) -> Result<(), AllocError>
+    requires { list_all (is_break problem.now) breaks.now ≡ true }
+    ensures { OnOk result (text.new.items ≡ text.old.items ++ text_of (lines_of_breaks problem.now breaks.now)) }
+{
+    if !needs_second(problem, breaks) {
+        return Ok(());
+    }
+    write_count(text, "breaks", breaks.len())?;
+    write_each_break(text, problem, breaks)
+}
+
+/// The version of a snapshot of the problem with these breakpoints.
+fn version_of(problem: &Problem, breaks: &[Break]) -> usize
+    ensures { result ≡ spec.version_of problem.now breaks.now }
+{
+    if needs_second(problem, breaks) { 2 } else { 1 }
+}
+
+/// How many lines the cover text of a problem has.
+fn line_count(problem: &Problem) -> usize
+    ensures { result ≡ length (word_lines problem.now) }
+{
+    let maybe = if problem.primary() < problem.items() {
+        1
+    } else {
+        0
+    };
+    1 + maybe + problem.options() as usize
+}
+
+/// Writes a snapshot, in its one spelling.
+pub fn write_snapshot(alloc: Global, snapshot: &Snapshot) -> Result<Vec<u8>, AllocError>
+    ensures { IfOk result (λ text. text.items ≡ snapshot_text snapshot.now) }
+{
+    let problem = snapshot.problem();
+    let breaks = snapshot.breaks();
+    let cover = write_cover(alloc, problem)?;
+    let mut text = Vec::new(alloc);
+    write_count(&mut text, "polysnap", version_of(problem, breaks))?;
+    write_count(&mut text, "problem", line_count(problem))?;
+    text.extend_from_slice(&cover)?;
+    write_from(&mut text, snapshot)?;
+    write_to(&mut text, snapshot)?;
+    write_state(&mut text, snapshot.state())?;
+    write_breaks(&mut text, problem, breaks)?;
+    text.extend_from_slice(b"end\n")?;
+    Ok(text)
+}

@@ -19,3 +19,6 @@ pub use lease::{Grant, Lease, Leased, Posted};
 pub use mark::{Mark, Path};
 pub use status::Status;
 pub use tile::Tile;
+
+#[cfg(test)]
+mod tests;

@@ -1,5 +1,5 @@
 -- What each call is, once its place is found or it is refused.
-use Rattle.std.proofs.Common.{◌≡◌, ℕ, ◌⊎◌, Bool, Option, Some, None, Result, Ok, Err, List, refl, sym, ap, ◌∙◌, inl, inr}
+use Rattle.std.proofs.Common.{◌≡◌, ℕ, ◌⊎◌, Bool, Option, Some, None, Result, Ok, Err, List, refl, sym, ap, ◌∙◌, inl, inr, not}
 use Rattle.x_steps.specs.StateValue.{StateValue}
 use Rattle.lab_book.specs.declared.status.Status.{Status}
 use Rattle.lab_book.specs.declared.lease.Grant.{Grant}
@@ -7,9 +7,9 @@ use Rattle.lab_book.specs.declared.fault.BookFault.{BookFault}
 use Rattle.lab_book.specs.declared.fault.BookFault.TheVariants.{OutOfMemory}
 use Rattle.lab_book.specs.declared.entry.Call.{Call}
 use Rattle.lab_book.specs.declared.entry.Call.TheVariants as call
-use Rattle.lab_book.specs.Tile.{TileValue, is_waiting, is_held, freed_status}
+use Rattle.lab_book.specs.Tile.{TileValue, is_waiting, is_held, freed_status, is_closed}
 use Rattle.lab_book.specs.Tiling.{tile_at}
-use Rattle.lab_book.specs.Book.{BookValue, Outcome, outcome, found, unless, status_fault, lease_fault, stretch_fault, end_fault, made_at, refused, lent, lent_any, first_waiting, posted, settled, freed, closed}
+use Rattle.lab_book.specs.Book.{BookValue, Outcome, outcome, found, unless, status_fault, lease_fault, stretch_fault, end_fault, made_at, refused, lent, lent_any, first_waiting, posted, settled, freed, closed, asked_to_stop, retracted, retract_fault, put_back, mark_fault}
 use Rattle.lab_book.specs.Calls.{Judged, Doubted}
 use Rattle.lab_book.proofs.BookLemmas.{judged_ok, judged_err}
 
@@ -46,6 +46,42 @@ module _ (b : BookValue) (w : ℕ) where
   pub abandon_err : (g : Grant) (r : Result ℕ BookFault) (f : BookFault) → Judged r (found b.tiles g.id (λ t. lease_fault g t None)) → r ≡ Err f → (f ≡ OutOfMemory) ⊎ (outcome b w (call.Abandon g) ≡ refused b.tiles f)
   unfolding outcome
   abandon_err g r f j h = judged_err b w (call.Abandon g) (settled b freed) r (found b.tiles g.id (λ t. lease_fault g t None)) f refl j h
+
+  pub park_ok : (g : Grant) (r : Result ℕ BookFault) (i : ℕ) (s : Status) → Judged r (found b.tiles g.id (λ t. lease_fault g t None)) → r ≡ Ok i → s ≡ freed_status (tile_at b.tiles i).stop → outcome b w (call.Park g) ≡ settled b (λ t. record t { status = s }) i
+  unfolding outcome
+  park_ok g r i s j h e =
+      made_ok (call.Park g) (settled b freed) (found b.tiles g.id (λ t. lease_fault g t None)) i refl (judged_ok r _ i j h) ∙ rw e refl
+
+  pub park_err : (g : Grant) (r : Result ℕ BookFault) (f : BookFault) → Judged r (found b.tiles g.id (λ t. lease_fault g t None)) → r ≡ Err f → (f ≡ OutOfMemory) ⊎ (outcome b w (call.Park g) ≡ refused b.tiles f)
+  unfolding outcome
+  park_err g r f j h = judged_err b w (call.Park g) (settled b freed) r (found b.tiles g.id (λ t. lease_fault g t None)) f refl j h
+
+  pub stop_ok : (id : ℕ) (r : Result ℕ BookFault) (i : ℕ) → r ≡ found b.tiles id (λ t. status_fault (not (is_closed t.status)) t) → r ≡ Ok i → outcome b w (call.RequestStop id) ≡ settled b asked_to_stop i
+  unfolding outcome
+  stop_ok id r i e h = made_ok (call.RequestStop id) (settled b asked_to_stop) (found b.tiles id (λ t. status_fault (not (is_closed t.status)) t)) i refl (sym e ∙ h)
+
+  pub stop_err : (id : ℕ) (r : Result ℕ BookFault) (f : BookFault) → r ≡ found b.tiles id (λ t. status_fault (not (is_closed t.status)) t) → r ≡ Err f → (f ≡ OutOfMemory) ⊎ (outcome b w (call.RequestStop id) ≡ refused b.tiles f)
+  unfolding outcome
+  stop_err id r f e h = judged_err b w (call.RequestStop id) (settled b asked_to_stop) r (found b.tiles id (λ t. status_fault (not (is_closed t.status)) t)) f refl (inr e) h
+
+  pub retract_ok : (g : Grant) (r : Result ℕ BookFault) (i : ℕ) → Judged r (found b.tiles g.id (λ t. lease_fault g t (retract_fault t))) → r ≡ Ok i → outcome b w (call.Retract g) ≡ retracted b i
+  unfolding outcome
+  retract_ok g r i j h = made_ok (call.Retract g) (retracted b) (found b.tiles g.id (λ t. lease_fault g t (retract_fault t))) i refl (judged_ok r _ i j h)
+
+  pub retract_err : (g : Grant) (r : Result ℕ BookFault) (f : BookFault) → Judged r (found b.tiles g.id (λ t. lease_fault g t (retract_fault t))) → r ≡ Err f → (f ≡ OutOfMemory) ⊎ (outcome b w (call.Retract g) ≡ refused b.tiles f)
+  unfolding outcome
+  retract_err g r f j h = judged_err b w (call.Retract g) (retracted b) r (found b.tiles g.id (λ t. lease_fault g t (retract_fault t))) f refl j h
+
+  back_ok : (id : ℕ) (s : StateValue) (i : ℕ) → found b.tiles id (mark_fault s) ≡ Ok i → outcome b w (call.PutBack id s) ≡ settled b (put_back s) i
+  unfolding outcome
+  back_ok id s i e = made_ok (call.PutBack id s) (settled b (put_back s)) (found b.tiles id (mark_fault s)) i refl e
+
+  pub put_back_ok : (id : ℕ) (mark s : StateValue) (i : ℕ) → mark ≡ s → found b.tiles id (mark_fault s) ≡ Ok i → outcome b w (call.PutBack id mark) ≡ settled b (put_back s) i
+  put_back_ok id mark s i m e = ap (λ (m : StateValue). outcome b w (call.PutBack id m)) m ∙ back_ok id s i e
+
+  pub put_back_err : (id : ℕ) (s : StateValue) (f : BookFault) → found b.tiles id (mark_fault s) ≡ Err f → (f ≡ OutOfMemory) ⊎ (outcome b w (call.PutBack id s) ≡ refused b.tiles f)
+  unfolding outcome
+  put_back_err id s f e = judged_err b w (call.PutBack id s) (settled b (put_back s)) (Err f) (found b.tiles id (mark_fault s)) f refl (inr (sym e)) refl
 
   pub close_ok : (g : Grant) (r : Result ℕ BookFault) (i : ℕ) → Judged r (found b.tiles g.id (λ t. lease_fault g t (end_fault t))) → r ≡ Ok i → outcome b w (call.Close g) ≡ settled b closed i
   unfolding outcome

@@ -1,5 +1,5 @@
 -- What a book keeps when a call is entered.
-use Rattle.std.proofs.Common.{◌≡◌, ℕ, ◌+◌, ◌-◌, ◌<◌, ◌⊎◌, Bool, true, false, not, cond, Option, Some, None, List, [], ◌∷◌, ◌++◌, length, refl, sym, ap, ◌∙◌, subst, inl, inr, arith, Ordering, Less}
+use Rattle.std.proofs.Common.{◌≡◌, ℕ, ◌+◌, ◌-◌, ◌<◌, ◌⊎◌, ◌==◌, Bool, true, false, not, cond, Option, Some, None, List, [], ◌∷◌, ◌++◌, length, take, refl, sym, ap, ◌∙◌, subst, inl, inr, arith, Ordering, Less}
 use Rattle.std.specs.Prelude.{IfSome, ◌↔◌, IsTrue}
 use Rattle.std.proofs.Math.ListN.{set}
 use Rattle.std.proofs.lemmas.Bool.{false≢true}
@@ -31,11 +31,11 @@ use Rattle.lab_book.specs.declared.entry.Reply.{Reply}
 use Rattle.lab_book.specs.declared.entry.Reply.TheVariants as reply
 use Rattle.lab_book.specs.declared.entry.Entry.{Entry}
 use Rattle.lab_book.specs.States.{same_state}
-use Rattle.lab_book.specs.Tile.{TileValue, IsTile, Stands, is_waiting, is_leased, mark_of, tile_end}
+use Rattle.lab_book.specs.Tile.{TileValue, IsTile, Stands, is_waiting, is_leased, is_closed, is_free, asked_status, mark_of, tile_end}
 use Rattle.lab_book.specs.Tiling.{IsTiling, no_tile, tile_at}
-use Rattle.lab_book.specs.Book.{BookValue, HistoryValue, outcome, whole_tile, opened, leased_in, waiting_in, path_of, lent, lent_tile, posted, posted_tile, settled, refused, stretch_fault, end_fault, else_fault, first_waiting, KeepsBook}
+use Rattle.lab_book.specs.Book.{BookValue, HistoryValue, outcome, whole_tile, opened, leased_in, waiting_in, path_of, lent, lent_tile, posted, posted_tile, settled, refused, stretch_fault, end_fault, else_fault, first_waiting, KeepsBook, Outcome, stretches_to, put_back, last_of, retracted, retract_fault}
 use Rattle.lab_book.specs.Calls.{Made, Doubted}
-use Rattle.lab_book.proofs.TileLemmas.{stretch_by, end_fits, posted_is_tile, settled_is_tile, tile_can_start, same_state_is, tested}
+use Rattle.lab_book.proofs.TileLemmas.{stretch_by, end_fits, posted_is_tile, settled_is_tile, tile_can_start, same_state_is, tested, last_problem, last_some}
 use Rattle.lab_book.proofs.TilingLemmas.{tile_in, tiling_set}
 use Rattle.lab_book.proofs.BookLemmas.{made_by, kept_by}
 
@@ -185,6 +185,25 @@ module _ (p : ProblemValue) (b : Branch) (s : StateValue) (ts : List TileValue) 
         stands_so (status.Leased w i) t h = tt
         stands_so status.Closed t h = h
 
+    -- a tile changes, and is leased still or isn't
+    pub change_keeps : (u : TileValue) (r : Reply) (o : Outcome) (after : List TileValue) → outcome (record { problem = p; branch = b; first = s; tiles = ts; history = old.entries }) w c ≡ o → r ≡ o.reply → o.tiles ≡ set ts i u → after ≡ set ts i u
+        → u.id ≡ (tile_at ts i).id → u.branch ≡ (tile_at ts i).branch → u.first ≡ (tile_at ts i).first → is_leased u.status ≡ is_leased (tile_at ts i).status → (IsTile p (tile_at ts i) → IsTile p u)
+        → mid ≡ record old { kept = old.kept + 1 } → new ≡ record { entries = mid.entries ++ record { worker = w; call = c; reply = r } ∷ []; kept = mid.kept - 1 }
+        → KeepsBook (record { problem = p; branch = b; first = s; tiles = after; history = new.entries }) new.kept
+    change_keeps u r o after is er eo et ei eb ef el tile k a =
+        let room = room_is old mid new _ 1 k a (omega arith) in
+        let m = keeps.room in
+        let l = leased_set u in
+        let g : cond {A = ℕ} (is_leased u.status) 1 0 ≡ cond {A = ℕ} (is_leased (tile_at ts i).status) 1 0 = ap {B = ℕ} (λ b. cond b 1 0) el in
+        let n = ap leased_in et in
+        kept_by _ w c r o after new.entries is er (et ∙ sym eo) (entries_are old mid new _ 1 k a (omega arith)) old.kept new.kept keeps
+        (subst (IsTiling p b s) (sym eo) (tiling_set p b s ts i u keeps.sound.tiling within ei eb ef tile)) (omega arith)
+
+    pub change_made : (u : TileValue) (r : Reply) (o : Outcome) (after : List TileValue) → outcome (record { problem = p; branch = b; first = s; tiles = ts; history = old.entries }) w c ≡ o → r ≡ o.reply → o.tiles ≡ set ts i u → after ≡ set ts i u
+        → mid ≡ record old { kept = old.kept + 1 } → new ≡ record { entries = mid.entries ++ record { worker = w; call = c; reply = r } ∷ []; kept = mid.kept - 1 }
+        → Made (record { problem = p; branch = b; first = s; tiles = ts; history = old.entries }) (record { problem = p; branch = b; first = s; tiles = after; history = new.entries }) w c r
+    change_made u r o after is er eo et k a = made_by _ w c r o after new.entries is er (et ∙ sym eo) (entries_are old mid new _ 1 k a (omega arith))
+
     -- a stretch is posted
     pub post_keeps : (x : StretchValue) (stop : Bool) (n : ℕ) (after : List TileValue) → outcome (record { problem = p; branch = b; first = s; tiles = ts; history = old.entries }) w c ≡ posted (record { problem = p; branch = b; first = s; tiles = ts; history = old.entries }) x.from x.to i
         → is_leased (tile_at ts i).status ≡ true → x.problem ≡ p → IsStretch x.problem x.from x.to → stretch_fault p x.from x.to true (tile_at ts i) ≡ None
@@ -278,3 +297,59 @@ module _ (t u : TileValue) (tile : u ≡ t) (a e : StateValue) (test : Bool) (te
 
   pub end_doubt : test ≡ false → Doubted (Some NotAtEnd) (end_fault t)
   end_doubt h = rw (end_test, h) (inr refl)
+
+-- ---- other changes of a tile
+
+pub asked_is_tile : (p : ProblemValue) (t : TileValue) (s : Status) → s ≡ asked_status t.status → is_closed t.status ≡ false → IsTile p t → IsTile p (record t { status = s; stop = true })
+asked_is_tile p t s e o i = settled_is_tile p t s true i (stands t.status s e o)
+  where
+    stands : (a s : Status) → s ≡ asked_status a → is_closed a ≡ false → Stands s (record t { status = s; stop = true })
+    stands status.Waiting s e o = rw e refl
+    stands status.Held s e o = rw e refl
+    stands (status.Leased w i) s e o = rw e tt
+    stands status.Closed s e o = absurd (false≢true (sym o))
+
+pub asked_leased : (a s : Status) → s ≡ asked_status a → is_leased s ≡ is_leased a
+asked_leased status.Waiting s e = rw e refl
+asked_leased status.Held s e = rw e refl
+asked_leased (status.Leased w i) s e = rw e refl
+asked_leased status.Closed s e = rw e refl
+
+pub leased_open : (s : Status) → is_leased s ≡ true → is_closed s ≡ false
+leased_open status.Waiting h = refl
+leased_open status.Held h = refl
+leased_open (status.Leased w i) h = refl
+leased_open status.Closed h = absurd (false≢true h)
+
+pub free_open : (s : Status) → is_free s ≡ true → is_closed s ≡ false
+free_open status.Waiting h = refl
+free_open status.Held h = refl
+free_open (status.Leased w i) h = absurd (false≢true h)
+free_open status.Closed h = absurd (false≢true h)
+
+-- the tile that goes back, by how many stretches it keeps
+pub back_is : (t : TileValue) (s : StateValue) (n : ℕ) → stretches_to s t.first t.stretches ≡ Some (take n t.stretches) → put_back s t ≡ record t { stretches = take n t.stretches }
+back_is t s n e = rw e refl
+
+-- ---- what is taken out
+
+-- the reply is told by the last stretch
+pub retracted_reply : (b : BookValue) (i : ℕ) (x : StretchValue) (from to : StateValue) → last_of (tile_at b.tiles i).stretches ≡ Some x → from ≡ x.from → to ≡ x.to → reply.Retracted from to ≡ (retracted b i).reply
+retracted_reply b i x from to e f g = rw (e, f, g) refl
+
+pub same_last : (t : TileValue) (x y : StretchValue) → last_of t.stretches ≡ Some x → last_of t.stretches ≡ Some y → x ≡ y
+same_last t x y e f = let h : Some x ≡ Some y = sym e ∙ f in cc
+
+pub retracted_problem : (p : ProblemValue) (b : Branch) (s : StateValue) (ts : List TileValue) (i : ℕ) (x : StretchValue) → IsTiling p b s ts → i < length ts → last_of (tile_at ts i).stretches ≡ Some x → x.problem ≡ p
+retracted_problem p b s ts i x t l e = last_problem p (tile_at ts i).first (tile_at ts i).stretches x (tile_in p b.lo s ts b.hi i t.tiles l).joins e
+
+-- nothing stands against taking out where there is a stretch
+pub retract_fine : (t : TileValue) → 0 < length t.stretches → Doubted None (retract_fault t)
+retract_fine t l = rw (last_some t.stretches l) (inr refl)
+
+pub not_empty : (xs ys : List StretchValue) (empty : Bool) → xs ≡ ys → empty ≡ (length xs == 0) → empty ≡ false → 0 < length ys
+not_empty [] ys empty e h f = absurd (false≢true (sym f ∙ h))
+not_empty (x ∷ xs) ys empty e h f = let l = ap (length {A = StretchValue}) e in omega arith
+
+pub told_same : (old new : BookValue) (w : ℕ) (c : Call) (r t : Reply) → Made old new w c r → r ≡ t → Made old new w c t
+told_same old new w c r t m e = subst (Made old new w c) e m

@@ -1,9 +1,10 @@
 -- Marks of tiles, the test of states, and what posting a stretch keeps.
-use Rattle.std.proofs.Common.{◌≡◌, ℕ, zero, suc, ◌-◌, ◌<◌, ◌≤◌, ◌==◌, Bool, true, false, ◌&&◌, Some, None, List, [], ◌∷◌, ◌++◌, length, refl, sym, ap, ◌∙◌, subst, arith, eq-eqb, eqb-true, bytes_eq}
-use Rattle.std.specs.Prelude.{◌↔◌, IsTrue, if◌then◌else◌}
+use Rattle.std.proofs.Common.{◌≡◌, ℕ, zero, suc, ◌-◌, ◌<◌, ◌≤◌, ◌==◌, Bool, true, false, ◌&&◌, Some, None, List, [], ◌∷◌, ◌++◌, length, take, get_or, refl, sym, ap, ◌∙◌, subst, arith, eq-eqb, eqb-true, bytes_eq, ◌+◌, ◌⊎◌, inl, inr}
+use Rattle.std.specs.Prelude.{◌↔◌, IsTrue, is_some, if◌then◌else◌}
 use Rattle.std.specs.List.{slice_get}
 use Rattle.std.specs.Cmp.Lexicographic.{bytes_decides}
-use Rattle.std.proofs.lemmas.Bool.{and_parts, and_from, false≢true}
+use Rattle.std.proofs.lemmas.Bool.{and_parts, and_from, false≢true, cases_lt}
+use Rattle.std.proofs.lemmas.List.{take_more}
 use Rattle.cover_problem.specs.Problem.{ProblemValue}
 use Rattle.x_steps.specs.declared.state.Label.{Label}
 use Rattle.x_steps.specs.declared.state.Label.TheVariants.{X1, X2, X3, X4, X5, X6, X7, X8, Done}
@@ -22,7 +23,8 @@ use Rattle.x_branches.specs.Refusals.{CanStart}
 use Rattle.x_branches.proofs.CutLemmas.{test_is_order}
 use Rattle.x_branches.proofs.RunnerLemmas.{not_before, before_not}
 use Rattle.lab_book.specs.States.{label_number, cursor_number, same_state}
-use Rattle.lab_book.specs.Tile.{TileValue, led_to, mark_of, tile_end, Join, Stands, IsTile, is_leased}
+use Rattle.lab_book.specs.Tile.{TileValue, led_to, mark_of, tile_end, Join, Stands, IsTile, is_leased, is_closed}
+use Rattle.lab_book.specs.Book.{last_of, stretches_to}
 use Rattle.lab_book.specs.declared.status.Status.{Status}
 use Rattle.lab_book.specs.declared.status.Status.TheVariants.{Waiting, Held, Leased, Closed}
 
@@ -185,3 +187,103 @@ tile_can_start p t i =
     joined s (x ∷ xs) j f =
         let a = end_after p s x.to j.2 in
         let b = joined x.to xs j.3 (end_fits p s x.to j.2) in omega arith
+
+-- ---- fewer stretches
+
+pub last_push : (ys : List StretchValue) (x : StretchValue) → last_of (ys ++ x ∷ []) ≡ Some x
+last_push [] x = refl
+last_push (y ∷ ys) x = rw (last_push ys x) refl
+
+last_at : (xs : List StretchValue) (x : StretchValue) (n : ℕ) → suc n ≡ length xs → slice_get xs n ≡ Some x → last_of xs ≡ Some x
+last_at [] x n l e = absurd (omega arith)
+last_at (y ∷ []) x zero l e = e
+last_at (y ∷ []) x (suc n) l e = absurd (omega arith)
+last_at (y ∷ z ∷ zs) x zero l e = absurd (omega arith)
+last_at (y ∷ z ∷ zs) x (suc n) l e = rw (last_at (z ∷ zs) x n (omega arith) e) refl
+
+pub last_read : (xs : List StretchValue) (x : StretchValue) → Some x ≡ slice_get xs (length xs - 1) → last_of xs ≡ Some x
+last_read [] x e = absurd (cc)
+last_read (y ∷ ys) x e =
+    let h : length (y ∷ ys) - 1 ≡ length ys = omega arith in
+    last_at (y ∷ ys) x (length ys) refl (sym (subst (λ n. Some x ≡ slice_get (y ∷ ys) n) h e))
+
+-- the last of stretches that join is the problem's
+pub last_problem : (p : ProblemValue) (s : StateValue) (xs : List StretchValue) (x : StretchValue) → Join p s xs → last_of xs ≡ Some x → x.problem ≡ p
+last_problem p s [] x j e = absurd (cc)
+last_problem p s (y ∷ []) x j e = let h : y ≡ x = cc in rw (← h) j.0
+last_problem p s (y ∷ z ∷ zs) x j e = last_problem p y.to (z ∷ zs) x j.3 e
+
+-- a list that isn't empty has a last element
+pub last_some : (xs : List StretchValue) → 0 < length xs → is_some (last_of xs) ≡ true
+last_some [] l = absurd (omega arith)
+last_some (x ∷ xs) l = refl
+
+join_take : (p : ProblemValue) (s : StateValue) (xs : List StretchValue) (n : ℕ) → Join p s xs → Join p s (take n xs)
+join_take p s [] zero j = tt
+join_take p s [] (suc n) j = tt
+join_take p s (x ∷ xs) zero j = tt
+join_take p s (x ∷ xs) (suc n) j = (j.0, j.1, j.2, join_take p x.to xs n j.3)
+
+led_rank : (p : ProblemValue) (s : StateValue) (xs : List StretchValue) → Join p s xs → Fits p s → rank p s ≤ rank p (led_to s xs)
+led_rank p s [] j f = omega arith
+led_rank p s (x ∷ xs) j f =
+    let a = end_after p s x.to j.2 in
+    let b = led_rank p x.to xs j.3 (end_fits p s x.to j.2) in omega arith
+
+part_fits : (p : ProblemValue) (s : StateValue) (xs : List StretchValue) (n : ℕ) → Join p s xs → Fits p s → Fits p (led_to s (take n xs))
+part_fits p s [] zero j f = f
+part_fits p s [] (suc n) j f = f
+part_fits p s (x ∷ xs) zero j f = f
+part_fits p s (x ∷ xs) (suc n) j f = part_fits p x.to xs n j.3 (end_fits p s x.to j.2)
+
+part_rank : (p : ProblemValue) (s : StateValue) (xs : List StretchValue) (n : ℕ) → Join p s xs → Fits p s → rank p (led_to s (take n xs)) ≤ rank p (led_to s xs)
+part_rank p s [] zero j f = omega arith
+part_rank p s [] (suc n) j f = omega arith
+part_rank p s (x ∷ xs) zero j f = led_rank p s (x ∷ xs) j f
+part_rank p s (x ∷ xs) (suc n) j f = part_rank p x.to xs n j.3 (end_fits p s x.to j.2)
+
+-- an open tile with its first stretches alone
+pub part_is_tile : (p : ProblemValue) (t : TileValue) (n : ℕ) → IsTile p t → is_closed t.status ≡ false → IsTile p (record t { stretches = take n t.stretches })
+part_is_tile p t n i o =
+    let f = end_fits p (first_of t.branch.lo) t.first i.begins in
+    let r = part_rank p t.first t.stretches n i.joins f in
+    let e = end_after p (mark_of t) (tile_end t) i.within in
+    record {
+      branch = i.branch;
+      begins = i.begins;
+      joins = join_take p t.first t.stretches n i.joins;
+      within = stretch_by p (led_to t.first (take n t.stretches)) (tile_end t) (part_fits p t.first t.stretches n i.joins f) (end_fits p (mark_of t) (tile_end t) i.within) (omega arith);
+      stands = stands_so t.status o i.stands;
+    }
+  where
+    stands_so : (s : Status) → is_closed s ≡ false → Stands s t → Stands s (record t { stretches = take n t.stretches })
+    stands_so Waiting o h = h
+    stands_so Held o h = h
+    stands_so (Leased w i) o h = tt
+    stands_so Closed o h = absurd (false≢true (sym o))
+
+-- ---- the first mark that is a state
+
+pub mark_found : (s m : StateValue) (xs : List StretchValue) (n : ℕ) → n ≤ length xs → ((k : ℕ) → k < n → same_state s (led_to m (take k xs)) ≡ false) → same_state s (led_to m (take n xs)) ≡ true → stretches_to s m xs ≡ Some (take n xs)
+mark_found s m [] zero l before here = rw here refl
+mark_found s m [] (suc n) l before here = absurd (omega arith)
+mark_found s m (x ∷ xs) zero l before here = rw here refl
+mark_found s m (x ∷ xs) (suc n) l before here =
+    rw (before 0 (omega arith), mark_found s x.to xs n (omega arith) (λ k b. before (suc k) (omega arith)) here) refl
+
+pub mark_missed : (s m : StateValue) (xs : List StretchValue) → ((k : ℕ) → k ≤ length xs → same_state s (led_to m (take k xs)) ≡ false) → stretches_to s m xs ≡ None
+mark_missed s m [] each = rw (each 0 (omega arith)) refl
+mark_missed s m (x ∷ xs) each =
+    rw (each 0 (omega arith), mark_missed s x.to xs (λ k b. each (suc k) (omega arith))) refl
+
+-- where the stretches up to a place lead
+pub led_more : (s : StateValue) (xs : List StretchValue) (i : ℕ) (x : StretchValue) → i < length xs → x ≡ get_or xs i x → led_to s (take (i + 1) xs) ≡ x.to
+led_more s xs i x l e = ap (led_to s) (take_more xs i x l) ∙ mark_push s (take i xs) (get_or xs i x) ∙ ap (λ (y : StretchValue). y.to) (sym e)
+
+-- one mark more that isn't the state
+pub missed_more : (s m : StateValue) (xs : List StretchValue) (i : ℕ) (x : StretchValue) → i < length xs → x ≡ get_or xs i x → same_state s x.to ≡ false → ((k : ℕ) → k ≤ i → same_state s (led_to m (take k xs)) ≡ false) → (k : ℕ) → k ≤ i + 1 → same_state s (led_to m (take k xs)) ≡ false
+missed_more s m xs i x l e h before k b = step (cases_lt i k)
+  where
+    step : (i < k) ⊎ (k ≤ i) → same_state s (led_to m (take k xs)) ≡ false
+    step (inl o) = let n : k ≡ i + 1 = omega arith in rw (n, led_more m xs i x l e) h
+    step (inr o) = before k o

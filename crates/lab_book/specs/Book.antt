@@ -1,5 +1,5 @@
 -- A book: the tiles of a problem's run, and the history of the calls; what each call does to it.
-use Rattle.std.specs.Prelude.{ℕ, ◌≡◌, ◌+◌, ◌-◌, ◌==◌, Bool, true, false, not, ◌||◌, Option, Some, None, is_some, unwrap_or, option_map, Result, Ok, Err, List, [], ◌∷◌, ◌++◌, length, take, drop, slice_set, count_by, if◌then◌else◌}
+use Rattle.std.specs.Prelude.{ℕ, ◌≡◌, ◌+◌, ◌-◌, ◌==◌, Bool, true, false, not, Option, Some, None, is_some, unwrap_or, option_map, Result, Ok, Err, List, [], ◌∷◌, ◌++◌, length, take, drop, slice_set, count_by, if◌then◌else◌}
 use Rattle.std.specs.List.{position}
 use Rattle.cover_problem.specs.Problem.{ProblemValue}
 use Rattle.x_steps.specs.StateValue.{StateValue}
@@ -17,7 +17,7 @@ use Rattle.lab_book.specs.declared.entry.Reply.{Reply}
 use Rattle.lab_book.specs.declared.entry.Reply.TheVariants as reply
 use Rattle.lab_book.specs.declared.entry.Entry.{Entry}
 use Rattle.lab_book.specs.States.{same_state}
-use Rattle.lab_book.specs.Tile.{TileValue, is_waiting, is_held, is_leased, is_closed, is_lease, freed_status, mark_of, tile_end}
+use Rattle.lab_book.specs.Tile.{TileValue, is_waiting, is_held, is_leased, is_closed, is_free, is_lease, freed_status, asked_status, mark_of, tile_end}
 use Rattle.lab_book.specs.Tiling.{tile_at, IsTiling}
 
 -- a book: a branch of a problem's run with its first mark, the tiles that part it, and the history
@@ -64,6 +64,20 @@ checked ts check (Some i) = unless i (check (tile_at ts i))
 abbrev pub found : List TileValue → ℕ → (TileValue → Option BookFault) → Result ℕ BookFault
 found ts id check = checked ts check (place_of id ts)
 
+-- the last stretch, if there is one
+abbrev pub last_of : List StretchValue → Option StretchValue
+last_of [] = None
+last_of (x ∷ xs) = Some (unwrap_or (last_of xs) x)
+
+-- the stretches up to the first mark that is this state, if one is
+abbrev pub with_stretch : StretchValue → Option (List StretchValue) → Option (List StretchValue)
+with_stretch x None = None
+with_stretch x (Some xs) = Some (x ∷ xs)
+
+abbrev pub stretches_to : StateValue → StateValue → List StretchValue → Option (List StretchValue)
+stretches_to s mark [] = if same_state s mark then Some [] else None
+stretches_to s mark (x ∷ xs) = if same_state s mark then Some [] else with_stretch x (stretches_to s x.to xs)
+
 -- the fault where a test fails, else what the next tests say
 abbrev pub else_fault : Bool → BookFault → Option BookFault → Option BookFault
 else_fault test f next = if test then next else Some f
@@ -89,6 +103,14 @@ cut_fault p path same t =
 -- a tile to be closed has to be posted up to its end
 abbrev pub end_fault : TileValue → Option BookFault
 end_fault t = else_fault (same_state (mark_of t) (tile_end t)) NotAtEnd None
+
+-- a tile whose last stretch is taken out has to have one
+abbrev pub retract_fault : TileValue → Option BookFault
+retract_fault t = else_fault (is_some (last_of t.stretches)) NothingToRetract None
+
+-- a tile that goes back to a state has to wait or be held, and to have that mark
+abbrev pub mark_fault : StateValue → TileValue → Option BookFault
+mark_fault s t = else_fault (is_free t.status) NotWaiting (else_fault (is_some (stretches_to s t.first t.stretches)) NotAMark None)
 
 abbrev pub refused : List TileValue → BookFault → Outcome
 refused ts f = record { reply = reply.Refused f; tiles = ts }
@@ -153,29 +175,18 @@ split b path i = record {
   tiles = take i b.tiles ++ parted (tile_at b.tiles i) (length b.tiles) (record { problem = b.problem; path = path }) ++ drop (i + 1) b.tiles;
 }
 
--- the last stretch, if there is one
-abbrev pub last_of : List StretchValue → Option StretchValue
-last_of [] = None
-last_of (x ∷ xs) = Some (unwrap_or (last_of xs) x)
-
 -- the last stretch is taken out
+abbrev pub retracted_tile : TileValue → TileValue
+retracted_tile t = record t { stretches = take (length t.stretches - 1) t.stretches }
+
 abbrev pub retracted : BookValue → ℕ → Outcome
 retracted b i =
     let t = tile_at b.tiles i in
     let x = unwrap_or (last_of t.stretches) (record { problem = b.problem; from = t.first; to = t.first }) in
     record {
       reply = reply.Retracted x.from x.to;
-      tiles = slice_set b.tiles i (record t { stretches = take (length t.stretches - 1) t.stretches });
+      tiles = slice_set b.tiles i (retracted_tile t);
     }
-
--- the stretches up to the first mark that is this state, if one is
-abbrev pub with_stretch : StretchValue → Option (List StretchValue) → Option (List StretchValue)
-with_stretch x None = None
-with_stretch x (Some xs) = Some (x ∷ xs)
-
-abbrev pub stretches_to : StateValue → StateValue → List StretchValue → Option (List StretchValue)
-stretches_to s mark [] = if same_state s mark then Some [] else None
-stretches_to s mark (x ∷ xs) = if same_state s mark then Some [] else with_stretch x (stretches_to s x.to xs)
 
 -- a tile is changed, and the answer is that it is done
 abbrev pub settled : BookValue → (TileValue → TileValue) → ℕ → Outcome
@@ -192,9 +203,9 @@ closed t = record t { status = status.Closed }
 abbrev pub put_back : StateValue → TileValue → TileValue
 put_back s t = record t { stretches = unwrap_or (stretches_to s t.first t.stretches) t.stretches }
 
--- a tile is asked to stop: where it waits it is held
+-- a tile is asked to stop
 abbrev pub asked_to_stop : TileValue → TileValue
-asked_to_stop t = record t { stop = true; status = if is_waiting t.status then status.Held else t.status }
+asked_to_stop t = record t { status = asked_status t.status; stop = true }
 
 -- what each call does, the first refusal first
 unfoldable pub outcome : BookValue → ℕ → Call → Outcome
@@ -203,11 +214,11 @@ outcome b w call.LeaseAny = lent_any b w (first_waiting b.tiles)
 outcome b w (call.TakeHeld id) = made_at b.tiles (lent b w) (found b.tiles id (λ t. status_fault (is_held t.status) t))
 outcome b w (call.Post g from to same) = made_at b.tiles (posted b from to) (found b.tiles g.id (λ t. lease_fault g t (stretch_fault b.problem from to same t)))
 outcome b w (call.Split g path same) = made_at b.tiles (split b path) (found b.tiles g.id (λ t. lease_fault g t (cut_fault b.problem path same t)))
-outcome b w (call.Retract g) = made_at b.tiles (retracted b) (found b.tiles g.id (λ t. lease_fault g t (else_fault (is_some (last_of t.stretches)) NothingToRetract None)))
+outcome b w (call.Retract g) = made_at b.tiles (retracted b) (found b.tiles g.id (λ t. lease_fault g t (retract_fault t)))
 outcome b w (call.Park g) = made_at b.tiles (settled b freed) (found b.tiles g.id (λ t. lease_fault g t None))
 outcome b w (call.Abandon g) = made_at b.tiles (settled b freed) (found b.tiles g.id (λ t. lease_fault g t None))
 outcome b w (call.Close g) = made_at b.tiles (settled b closed) (found b.tiles g.id (λ t. lease_fault g t (end_fault t)))
-outcome b w (call.PutBack id s) = made_at b.tiles (settled b (put_back s)) (found b.tiles id (λ t. else_fault (is_waiting t.status || is_held t.status) NotWaiting (else_fault (is_some (stretches_to s t.first t.stretches)) NotAMark None)))
+outcome b w (call.PutBack id s) = made_at b.tiles (settled b (put_back s)) (found b.tiles id (mark_fault s))
 outcome b w (call.RequestStop id) = made_at b.tiles (settled b asked_to_stop) (found b.tiles id (λ t. status_fault (not (is_closed t.status)) t))
 
 -- one call: the tiles change as it says, and the history gains its entry

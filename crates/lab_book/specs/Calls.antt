@@ -1,5 +1,7 @@
 -- What a caller is told of a call.
-use Rattle.std.specs.Prelude.{ℕ, ◌≡◌, ◌⊎◌, Option, Some, None, Result, Err}
+use Rattle.x_steps.specs.StateValue.{StateValue}
+use Rattle.lab_book.specs.Tile.{TileValue}
+use Rattle.std.specs.Prelude.{ℕ, ◌≡◌, ◌⊎◌, Option, Some, None, Result, Err, ◌≤◌, length, take}
 use Rattle.x_steps.specs.StateView.{state_value}
 use Rattle.cover_problem.specs.Problem.{ProblemValue, is_same}
 use Rattle.x_branches.specs.Stretch.{StretchValue}
@@ -12,7 +14,7 @@ use Rattle.lab_book.specs.declared.entry.Call.{Call}
 use Rattle.lab_book.specs.declared.entry.Call.TheVariants as call
 use Rattle.lab_book.specs.declared.entry.Reply.{Reply}
 use Rattle.lab_book.specs.declared.entry.Reply.TheVariants as reply
-use Rattle.lab_book.specs.Book.{BookValue, outcome, book_step, path_of}
+use Rattle.lab_book.specs.Book.{BookValue, outcome, book_step, path_of, stretches_to}
 
 -- a book made this call, and gave this answer
 pub record Made (old new : BookValue) (w : ℕ) (c : Call) (r : Reply) : Type 0 where
@@ -46,3 +48,8 @@ Judged answer right = (answer ≡ Err OutOfMemory) ⊎ (answer ≡ right)
 -- what stands against a call: what the definition says, unless memory is wanting
 abbrev pub Doubted : Option BookFault → Option BookFault → Type 0
 Doubted answer right = (answer ≡ Some OutOfMemory) ⊎ (answer ≡ right)
+
+-- a tile goes back to a state by keeping so many of its stretches
+pub record GoesBack (t : TileValue) (s : StateValue) (count : ℕ) : Type 0 where
+  pub some : count ≤ length t.stretches
+  pub kept : stretches_to s t.first t.stretches ≡ Some (take count t.stretches)

@@ -28,6 +28,12 @@ abbrev pub is_closed : Status → Bool
 is_closed Closed = true
 is_closed _ = false
 
+-- whether a tile waits or is held: it is open, and nobody's
+abbrev pub is_free : Status → Bool
+is_free Waiting = true
+is_free Held = true
+is_free _ = false
+
 -- whether a tile is leased by this lease
 abbrev pub is_lease : Status → Grant → Bool
 is_lease (Leased w i) g = (w == g.worker) && (i == g.index)
@@ -36,6 +42,11 @@ is_lease _ g = false
 -- how a tile stands that is given up
 abbrev pub freed_status : Bool → Status
 freed_status stop = if stop then Held else Waiting
+
+-- and how one stands once it is asked to stop: where it waits it is held
+abbrev pub asked_status : Status → Status
+asked_status Waiting = Held
+asked_status s = s
 
 -- a tile
 pub record TileValue : Type 0 where

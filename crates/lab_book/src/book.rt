@@ -11,6 +11,7 @@ ghost use Rattle.lab_book.specs.Calls.{Refuses};
 mod ending;
 mod leasing;
 mod posting;
+mod taking_back;
 
 use crate::entry::{Call, Entry, Reply};
 use crate::fault::BookFault;

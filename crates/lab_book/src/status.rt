@@ -1,6 +1,6 @@
 //! How a tile stands.
 ghost use Rattle.std.specs.Prelude.{◌≡◌};
-ghost use Rattle.lab_book.specs.Tile.{is_waiting, is_leased, is_closed, is_lease, freed_status};
+ghost use Rattle.lab_book.specs.Tile.{is_waiting, is_leased, is_closed, is_free, is_lease, freed_status, asked_status};
 
 use crate::lease::Grant;
 
@@ -35,6 +35,17 @@ impl Status {
         }
     }
 
+    /// Whether it waits or is held.
+    pub(crate) fn is_free(self) -> bool
+        ensures { result ≡ is_free self }
+    {
+        match self {
+            Status::Waiting => true,
+            Status::Held => true,
+            _ => false,
+        }
+    }
+
     /// Whether it is done.
     pub(crate) fn is_closed(self) -> bool
         ensures { result ≡ is_closed self }
@@ -60,5 +71,15 @@ impl Status {
         ensures { result ≡ freed_status stop }
     {
         if stop { Status::Held } else { Status::Waiting }
+    }
+
+    /// How a tile stands once it is asked to stop: one that waits is held.
+    pub(crate) fn asked(self) -> Status
+        ensures { result ≡ asked_status self }
+    {
+        match self {
+            Status::Waiting => Status::Held,
+            status => status,
+        }
     }
 }

@@ -1,10 +1,10 @@
 //! Tiles: the parts into which a book parts the run.
-ghost use Rattle.std.specs.Prelude.{◌≡◌, ◌++◌, ◌∷◌, [], OnOk, IfOk, IfErr, OnErr};
+ghost use Rattle.std.specs.Prelude.{◌≡◌, ◌<◌, ◌≤◌, ◌++◌, ◌∷◌, [], length, take, option_map, Some, IfSome, OnOk, IfOk, IfErr, OnErr};
 ghost use Rattle.x_steps.specs.StateView.{state_value};
 ghost use Rattle.x_branches.specs.Branch.{end_of};
 ghost use Rattle.x_branches.specs.Cut.{cut_state};
 ghost use Rattle.lab_book.specs.Tile.{mark_of, tile_end};
-ghost use Rattle.lab_book.specs.Book.{whole_tile, posted_tile};
+ghost use Rattle.lab_book.specs.Book.{whole_tile, posted_tile, retracted_tile, last_of, stretches_to};
 
 use crate::mark::Mark;
 use crate::status::Status;
@@ -64,6 +64,23 @@ fn cut_state(alloc: Global, cut: &Cut<'_>) -> Result<Mark, AllocError>
         path,
         cursor: Cursor::At(last[0]),
     }))
+}
+
+/// How many stretches come before the first mark that is a state: the marks are the first one and the ends of the stretches.
+fn mark_place(state: &State, first: &State, stretches: &[Stretch<'_>]) -> Option<usize>
+    ensures place { option_map (λ n. take n stretches.now) result ≡
+        stretches_to (state_value state.now) (state_value first.now) stretches.now }
+    ensures within { IfSome result (λ n. n ≤ length stretches.now) }
+{
+    if state.same(first) {
+        return Some(0);
+    }
+    for (place, stretch) in stretches.iter().enumerate() {
+        if state.same(stretch.to()) {
+            return Some(place + 1);
+        }
+    }
+    None
 }
 
 impl<'p> Tile<'p> {
@@ -179,5 +196,34 @@ impl<'p> Tile<'p> {
         }
         self.stretches.push_reserved(stretch);
         Ok(())
+    }
+
+    /// Takes the last stretch out.
+    pub(crate) fn retract(&mut self) -> Stretch<'p>
+        requires { 0 < length self.old.stretches }
+        ensures tile { self.new ≡ retracted_tile self.old }
+        ensures stretch { last_of self.old.stretches ≡ Some result }
+    {
+        let Some(stretch) = self.stretches.pop() else {
+            unreachable!()
+        };
+        stretch
+    }
+
+    /// Keeps the first stretches alone.
+    pub(crate) fn put_back(&mut self, count: usize)
+        requires { count ≤ length self.old.stretches }
+        ensures { self.new ≡ record self.old { stretches = take count self.old.stretches } }
+    {
+        self.stretches.truncate(count);
+    }
+
+    /// How many stretches come before the first of its marks that is this state.
+    pub(crate) fn mark_place(&self, state: &State) -> Option<usize>
+        ensures place { option_map (λ n. take n self.now.stretches) result ≡
+            stretches_to (state_value state.now) self.now.first self.now.stretches }
+        ensures within { IfSome result (λ n. n ≤ length self.now.stretches) }
+    {
+        mark_place(state, self.first.state(), &self.stretches)
     }
 }

@@ -1,8 +1,8 @@
 //! The tiles of a book in order, with what is kept beside them so that no call has to go over all.
-ghost use Rattle.std.specs.Prelude.{◌≡◌, ◌⊎◌, ◌≤◌, ◌<◌, ◌+◌, ◌-◌, ◌^◌, true, cond, [], ◌∷◌, length, slice_set, Option, None, is_ok, IsOk, IfSome, OnOk, OnErr, IfErr, IfOk};
-ghost use Rattle.lab_book.specs.Tile.{TileValue, is_leased, is_waiting, is_held, mark_of};
+ghost use Rattle.std.specs.Prelude.{◌≡◌, ◌⊎◌, ◌≤◌, ◌<◌, ◌+◌, ◌-◌, ◌^◌, true, false, not, Some, take, cond, [], ◌∷◌, length, slice_set, Option, None, is_ok, IsOk, IfSome, OnOk, OnErr, IfErr, IfOk};
+ghost use Rattle.lab_book.specs.Tile.{TileValue, is_leased, is_waiting, is_held, is_closed, mark_of};
 ghost use Rattle.lab_book.specs.Tiling.{tile_at, AreNumbered};
-ghost use Rattle.lab_book.specs.Book.{place_of, first_waiting, waiting_in, leased_in, found, status_fault, lease_fault, posted_tile};
+ghost use Rattle.lab_book.specs.Book.{place_of, first_waiting, waiting_in, leased_in, found, status_fault, lease_fault, posted_tile, retracted_tile, last_of};
 ghost use Rattle.lab_book.specs.Calls.{Judged};
 
 use crate::fault::BookFault;
@@ -135,6 +135,21 @@ impl<'p> Tiles<'p> {
         }
     }
 
+    /// The place of the tile with an id, which must not be closed.
+    pub fn open_place(&self, id: u64) -> Result<usize, BookFault>
+        ensures place { result ≡ found self.now id (λ t. status_fault (not (is_closed t.status)) t) }
+        ensures within { IfOk result (λ i. i < length self.now) }
+        ensures not_closed { IfOk result (λ i. is_closed (tile_at self.now i).status ≡ false) }
+    {
+        let Some(i) = self.place(id) else {
+            return Err(BookFault::UnknownBranch);
+        };
+        match self.tile(i).status() {
+            Status::Closed => Err(BookFault::NotWaiting),
+            _ => Ok(i),
+        }
+    }
+
     /// The place of the first tile that waits.
     pub fn first_waiting(&self) -> Option<usize>
         ensures place { result ≡ first_waiting self.now }
@@ -187,5 +202,24 @@ impl<'p> Tiles<'p> {
         ensures given_back { IfErr result (λ s. s ≡ stretch.entry) }
     {
         self.list[i].add(stretch)
+    }
+
+    /// Takes the last stretch of the tile at a place out.
+    pub fn retract(&mut self, i: usize) -> Stretch<'p>
+        requires within { i < length self.old }
+        requires some { 0 < length (tile_at self.old i).stretches }
+        ensures tiles { self.new ≡ slice_set self.old i (retracted_tile (tile_at self.old i)) }
+        ensures stretch { last_of (tile_at self.old i).stretches ≡ Some result }
+    {
+        self.list[i].retract()
+    }
+
+    /// Keeps the first stretches of the tile at a place alone.
+    pub fn put_back(&mut self, i: usize, count: usize)
+        requires within { i < length self.old }
+        requires some { count ≤ length (tile_at self.old i).stretches }
+        ensures { self.new ≡ slice_set self.old i (record (tile_at self.old i) { stretches = take count (tile_at self.old i).stretches }) }
+    {
+        self.list[i].put_back(count);
     }
 }

@@ -99,4 +99,29 @@ impl<'p> Book<'p> {
         self.settle(grant.worker, i, Call::Abandon(grant), status);
         Ok(())
     }
+
+    /// The same for a tile that is to be taken up again: its worker has posted what it wants to keep. It waits, or is held where a
+    /// stop was asked for. Takes no memory for the tile's current lease.
+    pub fn park(&mut self, lease: Lease) -> Result<(), Refused<BookFault, Lease>>
+        ensures made { OnOk result (Made self.old self.new lease.worker (Call.Park lease) replies.Done) }
+        ensures current { is_ok (found self.old.tiles lease.id (λ t. lease_fault lease t None)) ≡ true → IsOk result }
+        ensures refused { IfErr result (λ r. Refuses self.old self.new lease.worker (Call.Park lease) r.fault) }
+        ensures given_back { IfErr result (λ r. r.given ≡ lease) }
+    {
+        let grant = lease.grant();
+        let i = match self.tiles.leased_place(grant) {
+            Ok(i) => i,
+            Err(fault) => {
+                let fault = self.refuse(grant.worker, Call::Park(grant), fault);
+                return Err(Refused {
+                    fault,
+                    given: lease,
+                });
+            }
+        };
+        lease.discard();
+        let status = Status::freed(self.tiles.tile(i).stop());
+        self.settle(grant.worker, i, Call::Park(grant), status);
+        Ok(())
+    }
 }

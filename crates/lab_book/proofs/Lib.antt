@@ -4,3 +4,4 @@ pub mod IndexLemmas
 pub mod BookLemmas
 pub mod CallLemmas
 pub mod StepLemmas
+pub mod PostedLemmas

@@ -1,7 +1,7 @@
 -- What a caller is told of a call.
 use Rattle.x_steps.specs.StateValue.{StateValue}
 use Rattle.lab_book.specs.Tile.{TileValue}
-use Rattle.std.specs.Prelude.{ℕ, ◌≡◌, ◌⊎◌, Option, Some, None, Result, Err, ◌≤◌, length, take}
+use Rattle.std.specs.Prelude.{ℕ, ◌≡◌, ◌⊎◌, Option, Some, None, Result, Err, ◌≤◌, length, take, List, Bool, is_ok}
 use Rattle.x_steps.specs.StateView.{state_value}
 use Rattle.cover_problem.specs.Problem.{ProblemValue, is_same}
 use Rattle.x_branches.specs.Stretch.{StretchValue}
@@ -14,7 +14,7 @@ use Rattle.lab_book.specs.declared.entry.Call.{Call}
 use Rattle.lab_book.specs.declared.entry.Call.TheVariants as call
 use Rattle.lab_book.specs.declared.entry.Reply.{Reply}
 use Rattle.lab_book.specs.declared.entry.Reply.TheVariants as reply
-use Rattle.lab_book.specs.Book.{BookValue, outcome, book_step, path_of, stretches_to}
+use Rattle.lab_book.specs.Book.{BookValue, outcome, book_step, path_of, stretches_to, found, lease_fault}
 
 -- a book made this call, and gave this answer
 pub record Made (old new : BookValue) (w : ℕ) (c : Call) (r : Reply) : Type 0 where
@@ -40,6 +40,18 @@ posted_reply r = reply.Posted r.stop r.waiting
 -- a post, as the history keeps it
 abbrev pub post_of : ProblemValue → Grant → StretchValue → Call
 post_of p g x = call.Post g x.from x.to (is_same x.problem p)
+
+-- a book made a post of this stretch, by this lease, and answered so
+abbrev pub Posts : BookValue → BookValue → Grant → StretchValue → Posted → Type 0
+Posts old new g x r = Made old new g.worker (post_of old.problem g x) (posted_reply r)
+
+-- a book refused it
+abbrev pub PostRefused : BookValue → BookValue → Grant → StretchValue → BookFault → Type 0
+PostRefused old new g x f = Refuses old new g.worker (post_of old.problem g x) f
+
+-- whether a lease is the current one of a tile
+abbrev pub is_current : List TileValue → Grant → Bool
+is_current ts g = is_ok (found ts g.id (λ t. lease_fault g t None))
 
 -- a search of the tiles: the answer of the definition, unless memory is wanting
 abbrev pub Judged : Result ℕ BookFault → Result ℕ BookFault → Type 0

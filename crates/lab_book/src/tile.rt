@@ -4,6 +4,7 @@ ghost use Rattle.x_steps.specs.StateView.{state_value};
 ghost use Rattle.x_branches.specs.Branch.{end_of};
 ghost use Rattle.x_branches.specs.Cut.{cut_state};
 ghost use Rattle.lab_book.specs.Tile.{mark_of, tile_end};
+ghost use Rattle.lab_book.specs.Posted.{stretch_visits};
 ghost use Rattle.lab_book.specs.Book.{whole_tile, posted_tile, retracted_tile, last_of, stretches_to};
 
 use crate::mark::Mark;
@@ -11,7 +12,7 @@ use crate::status::Status;
 use std::alloc::{AllocError, Global};
 use std::marker::Model;
 use x_branches::{Branch, Cut, Stretch};
-use x_steps::{Cursor, Label, State};
+use x_steps::{Cursor, Label, Paths, State};
 
 /// A branch of the run, how it stands, where its search began, and the stretches that were posted of it.
 #[derive(Drop)]
@@ -225,5 +226,15 @@ impl<'p> Tile<'p> {
         ensures within { IfSome result (λ n. n ≤ length self.now.stretches) }
     {
         mark_place(state, self.first.state(), &self.stretches)
+    }
+
+    /// Adds the paths that its stretches visit; where memory runs out, some may be there.
+    pub(crate) fn add_visits(&self, visits: &mut Paths) -> Result<(), AllocError>
+        ensures { OnOk result (visits.new ≡ visits.old ++ stretch_visits self.now.stretches) }
+    {
+        for stretch in self.stretches() {
+            visits.append(stretch.visits())?;
+        }
+        Ok(())
     }
 }

@@ -1,9 +1,9 @@
 //! The tiles of a book in order, with what is kept beside them so that no call has to go over all.
-ghost use Rattle.std.specs.Prelude.{◌≡◌, ◌⊎◌, ◌≤◌, ◌<◌, ◌+◌, ◌-◌, ◌^◌, true, false, not, Some, take, cond, [], ◌∷◌, length, slice_set, Option, None, is_ok, IsOk, IfSome, OnOk, OnErr, IfErr, IfOk};
+ghost use Rattle.std.specs.Prelude.{◌≡◌, ◌⊎◌, ◌≤◌, ◌<◌, ◌+◌, ◌-◌, ◌^◌, true, false, not, Some, take, cond, [], ◌∷◌, length, slice_set, Option, None, IsOk, IfSome, OnOk, OnErr, IfErr, IfOk};
 ghost use Rattle.lab_book.specs.Tile.{TileValue, is_leased, is_waiting, is_held, is_closed, mark_of};
 ghost use Rattle.lab_book.specs.Tiling.{tile_at, AreNumbered};
 ghost use Rattle.lab_book.specs.Book.{place_of, first_waiting, waiting_in, leased_in, found, status_fault, lease_fault, posted_tile, retracted_tile, last_of};
-ghost use Rattle.lab_book.specs.Calls.{Judged};
+ghost use Rattle.lab_book.specs.Calls.{Judged, is_current};
 
 use crate::fault::BookFault;
 use crate::lease::Grant;
@@ -171,7 +171,7 @@ impl<'p> Tiles<'p> {
         ensures place { Judged result (found self.now lease.id (λ t. lease_fault lease t None)) }
         ensures within { IfOk result (λ i. i < length self.now) }
         ensures leased { IfOk result (λ i. is_leased (tile_at self.now i).status ≡ true) }
-        ensures current { is_ok (found self.now lease.id (λ t. lease_fault lease t None)) ≡ true → IsOk result }
+        ensures current { is_current self.now lease ≡ true → IsOk result }
     {
         let Some(i) = self.place(lease.id) else {
             return Err(BookFault::UnknownBranch);

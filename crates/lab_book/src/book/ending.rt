@@ -1,10 +1,10 @@
 //! Leases are given up.
-ghost use Rattle.std.specs.Prelude.{◌≡◌, ◌≤◌, ◌<◌, true, false, length, slice_set, is_ok, IsOk, IfOk, IfErr, OnOk, OnErr};
+ghost use Rattle.std.specs.Prelude.{◌≡◌, ◌≤◌, ◌<◌, true, false, length, slice_set, IsOk, IfOk, IfErr, OnOk, OnErr};
 ghost use Rattle.lab_book.specs.declared.entry.Reply.TheVariants as replies;
 ghost use Rattle.lab_book.specs.Tile.{is_leased, Stands};
 ghost use Rattle.lab_book.specs.Tiling.{tile_at};
 ghost use Rattle.lab_book.specs.Book.{outcome, settled, found, lease_fault, end_fault};
-ghost use Rattle.lab_book.specs.Calls.{Made, Refuses, Judged};
+ghost use Rattle.lab_book.specs.Calls.{Made, Refuses, Judged, is_current};
 
 use crate::book::Book;
 use crate::entry::{Call, Entry, Reply};
@@ -79,7 +79,7 @@ impl<'p> Book<'p> {
     /// comes back.
     pub fn abandon(&mut self, lease: Lease) -> Result<(), Refused<BookFault, Lease>>
         ensures made { OnOk result (Made self.old self.new lease.worker (Call.Abandon lease) replies.Done) }
-        ensures current { is_ok (found self.old.tiles lease.id (λ t. lease_fault lease t None)) ≡ true → IsOk result }
+        ensures current { is_current self.old.tiles lease ≡ true → IsOk result }
         ensures refused { IfErr result (λ r. Refuses self.old self.new lease.worker (Call.Abandon lease) r.fault) }
         ensures given_back { IfErr result (λ r. r.given ≡ lease) }
     {
@@ -104,7 +104,7 @@ impl<'p> Book<'p> {
     /// stop was asked for. Takes no memory for the tile's current lease.
     pub fn park(&mut self, lease: Lease) -> Result<(), Refused<BookFault, Lease>>
         ensures made { OnOk result (Made self.old self.new lease.worker (Call.Park lease) replies.Done) }
-        ensures current { is_ok (found self.old.tiles lease.id (λ t. lease_fault lease t None)) ≡ true → IsOk result }
+        ensures current { is_current self.old.tiles lease ≡ true → IsOk result }
         ensures refused { IfErr result (λ r. Refuses self.old self.new lease.worker (Call.Park lease) r.fault) }
         ensures given_back { IfErr result (λ r. r.given ≡ lease) }
     {

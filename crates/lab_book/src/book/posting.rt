@@ -6,7 +6,7 @@ ghost use Rattle.lab_book.specs.declared.entry.Call.TheVariants as calls;
 ghost use Rattle.lab_book.specs.Tile.{is_leased};
 ghost use Rattle.lab_book.specs.Tiling.{tile_at};
 ghost use Rattle.lab_book.specs.Book.{outcome, posted, found, lease_fault, stretch_fault};
-ghost use Rattle.lab_book.specs.Calls.{Made, Refuses, Judged, Doubted, posted_reply, post_of};
+ghost use Rattle.lab_book.specs.Calls.{Made, Posts, PostRefused, Judged, Doubted, posted_reply};
 
 use crate::book::Book;
 use crate::entry::{Call, Entry, Reply};
@@ -61,10 +61,12 @@ impl<'p> Book<'p> {
         same: bool,
     ) -> Result<usize, BookFault>
         requires { same ≡ is_same stretch.now.problem self.now.problem }
-        ensures place { Judged result (found self.now.tiles lease.id (λ t. lease_fault lease t (stretch_fault self.now.problem stretch.now.from stretch.now.to same t))) }
+        ensures place { Judged result (found self.now.tiles lease.id
+            (λ t. lease_fault lease t (stretch_fault self.now.problem stretch.now.from stretch.now.to same t))) }
         ensures within { IfOk result (λ i. i < length self.now.tiles) }
         ensures leased { IfOk result (λ i. is_leased (tile_at self.now.tiles i).status ≡ true) }
-        ensures fine { IfOk result (λ i. stretch_fault self.now.problem stretch.now.from stretch.now.to same (tile_at self.now.tiles i) ≡ None) }
+        ensures fine { IfOk result (λ i.
+            stretch_fault self.now.problem stretch.now.from stretch.now.to same (tile_at self.now.tiles i) ≡ None) }
     {
         let i = match self.tiles.leased_place(lease) {
             Ok(i) => i,
@@ -120,8 +122,8 @@ impl<'p> Book<'p> {
         same: bool,
     ) -> Result<Posted, Refused<BookFault, Stretch<'p>>>
         requires { same ≡ is_same stretch.problem self.old.problem }
-        ensures made { IfOk result (λ r. Made self.old self.new lease.now.worker (post_of self.old.problem lease.now stretch.entry) (posted_reply r)) }
-        ensures refused { IfErr result (λ r. Refuses self.old self.new lease.now.worker (post_of self.old.problem lease.now stretch.entry) r.fault) }
+        ensures made { IfOk result (λ r. Posts self.old self.new lease.now stretch.entry r) }
+        ensures refused { IfErr result (λ r. PostRefused self.old self.new lease.now stretch.entry r.fault) }
         ensures given_back { IfErr result (λ r. r.given ≡ stretch.entry) }
     {
         let lease = lease.grant();
@@ -158,8 +160,8 @@ impl<'p> Book<'p> {
         lease: &Lease,
         stretch: Stretch<'p>,
     ) -> Result<Posted, Refused<BookFault, Stretch<'p>>>
-        ensures made { IfOk result (λ r. Made self.old self.new lease.now.worker (post_of self.old.problem lease.now stretch.entry) (posted_reply r)) }
-        ensures refused { IfErr result (λ r. Refuses self.old self.new lease.now.worker (post_of self.old.problem lease.now stretch.entry) r.fault) }
+        ensures made { IfOk result (λ r. Posts self.old self.new lease.now stretch.entry r) }
+        ensures refused { IfErr result (λ r. PostRefused self.old self.new lease.now stretch.entry r.fault) }
         ensures given_back { IfErr result (λ r. r.given ≡ stretch.entry) }
     {
         let same = stretch.problem().same(self.problem);

@@ -11,7 +11,8 @@ use x_steps::{AtFault, Cursor, Label, State};
 const SMALL: &str =
     "items a b c d e f g\noption c e\noption a d g\noption b c f\noption a d f\noption b g\noption d e g";
 
-/// One call. A lease of the first tile is named by its worker and its entry, a stretch by how many steps of the run lead to it and how many it has.
+/// One call. A lease of the first tile is named by its worker and its entry, a stretch by how many steps of the run lead to it
+/// and how many it has, and a state by how many lead to it.
 #[derive(Clone, Copy)]
 enum Act {
     Lease(u8, u64),
@@ -21,6 +22,10 @@ enum Act {
     PostForeign(u8, u64, u32, u32),
     Close(u8, u64),
     Abandon(u8, u64),
+    Park(u8, u64),
+    Retract(u8, u64),
+    RequestStop(u8, u64),
+    PutBack(u8, u64, u32),
 }
 
 /// The lease of the first tile by a worker, given by an entry.
@@ -134,6 +139,36 @@ fn abandon(book: &mut Book<'_>, grant: Grant) -> Option<u8> {
     }
 }
 
+/// Ends a lease by parking the tile: the number of the refusal, or 0.
+fn park(book: &mut Book<'_>, grant: Grant) -> Option<u8> {
+    match book.park(Lease::of(grant)) {
+        Ok(()) => Some(0),
+        Err(refused) => {
+            refused.given.discard();
+            refused.fault.number()
+        }
+    }
+}
+
+/// Takes the last stretch out: the number of the refusal, or 0.
+fn retract(book: &mut Book<'_>, grant: Grant) -> Option<u8> {
+    let lease = Lease::of(grant);
+    let answer = match book.retract(&lease) {
+        Ok(_) => Some(0),
+        Err(fault) => fault.number(),
+    };
+    lease.discard();
+    answer
+}
+
+/// The number of a refusal, or 0.
+fn number(answer: Result<(), BookFault>) -> Option<u8> {
+    match answer {
+        Ok(()) => Some(0),
+        Err(fault) => fault.number(),
+    }
+}
+
 /// Makes a call: the number of the refusal, or 0.
 fn make<'p>(
     alloc: Global,
@@ -165,6 +200,13 @@ fn make<'p>(
         }
         Act::Close(worker, index) => close(book, lease(worker, index)),
         Act::Abandon(worker, index) => abandon(book, lease(worker, index)),
+        Act::Park(worker, index) => park(book, lease(worker, index)),
+        Act::Retract(worker, index) => retract(book, lease(worker, index)),
+        Act::RequestStop(worker, id) => number(book.request_stop(worker % 32, id)),
+        Act::PutBack(worker, id, steps) => {
+            let stretch = stretch_of(alloc, problem, 0, steps)?;
+            number(book.put_back(worker % 32, id, stretch.to()))
+        }
     })
 }
 
@@ -179,6 +221,12 @@ fn look(book: &Book<'_>) -> (Option<Status>, u32) {
         }
     }
     (status, steps)
+}
+
+/// Whether the posted stretches visit 4 5 1 alone.
+fn is_visited(book: &Book<'_>) -> Result<bool, Fail> {
+    let visits = book.visits()?;
+    Ok(visits.len() == 1 && visits.path(0) == [4, 5, 1].as_slice())
 }
 
 /// Whether each call answers so; a refused one leaves the first tile as it was, and each adds an entry.
@@ -233,6 +281,44 @@ fn the_run_is_posted_and_closed(rt: HostRuntime) -> Result<(), Fail> {
     assert!(rt; !book.finished());
     assert!(rt; answers(rt.alloc(), &problem, &other, &mut book, &WHOLE)?);
     assert!(rt; look(&book) == (Some(Status::Closed), 43) && book.finished());
+    assert!(rt; is_visited(&book)?);
+    Ok(())
+}
+
+/// A tile that is asked to stop, posted in three parts, and put back.
+const STOPPED: [(Act, u8); 24] = [
+    (Act::LeaseAny(0), 0),
+    (Act::Retract(0, 0), 9),
+    (Act::Post(0, 0, 0, 5), 0),
+    (Act::Post(0, 0, 5, 0), 0),
+    (Act::PutBack(1, 0, 5), 2),
+    (Act::RequestStop(1, 0), 0),
+    (Act::RequestStop(1, 3), 1),
+    (Act::Park(1, 0), 3),
+    (Act::Park(0, 0), 0),
+    (Act::Lease(1, 0), 2),
+    (Act::PutBack(1, 0, 6), 7),
+    (Act::PutBack(1, 3, 6), 1),
+    (Act::TakeHeld(1, 0), 0),
+    (Act::Post(1, 12, 5, 38), 0),
+    (Act::Retract(1, 12), 0),
+    (Act::Retract(1, 11), 3),
+    (Act::Park(1, 12), 0),
+    (Act::RequestStop(2, 0), 0),
+    (Act::PutBack(1, 0, 5), 0),
+    (Act::PutBack(1, 0, 0), 0),
+    (Act::TakeHeld(2, 0), 0),
+    (Act::Post(2, 20, 0, 43), 0),
+    (Act::Close(2, 20), 0),
+    (Act::RequestStop(2, 0), 2),
+];
+
+#[test]
+fn a_tile_is_stopped_and_put_back(rt: HostRuntime) -> Result<(), Fail> {
+    let problem = read_cover(rt.alloc(), SMALL.as_bytes())?;
+    let mut book = Book::new(rt.alloc(), &problem)?;
+    assert!(rt; answers(rt.alloc(), &problem, &problem, &mut book, &STOPPED)?);
+    assert!(rt; look(&book) == (Some(Status::Closed), 43) && is_visited(&book)?);
     Ok(())
 }
 
@@ -299,7 +385,7 @@ fn a_search_goes_on_where_it_was(rt: HostRuntime) -> Result<(), Fail> {
     )? {
         Ok(mut book) => {
             assert!(rt; answers(rt.alloc(), &problem, &problem, &mut book, &FROM_THE_VISIT)?);
-            assert!(rt; look(&book) == (Some(Status::Closed), 14) && book.finished());
+            assert!(rt; look(&book) == (Some(Status::Closed), 14) && is_visited(&book)?);
         }
         Err(_) => return Err(Fail::from("no book")),
     }

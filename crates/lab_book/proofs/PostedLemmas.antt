@@ -1,0 +1,105 @@
+-- Where all tiles are closed, what was posted is the whole of the branch from its first mark on.
+use Rattle.std.proofs.Common.{◌≡◌, ℕ, suc, ◌+◌, ◌<◌, ◌≤◌, Option, Some, List, [], ◌∷◌, ◌++◌, length, take, get_or, sym, ap, ap₂, ◌∙◌, subst, arith, append-nil}
+use Rattle.std.specs.List.{flat_map}
+use Rattle.std.proofs.lemmas.List.Concat.{flat_map-cons}
+use Rattle.std.proofs.lemmas.List.{flat_map_more, take_more, take_all}
+use Rattle.cover_problem.specs.Problem.{ProblemValue}
+use Rattle.x_steps.specs.StateValue.{StateValue}
+use Rattle.x_steps.specs.Steps.{Fits}
+use Rattle.x_steps.specs.Run.{visits_between}
+use Rattle.x_steps.specs.Rank.{rank}
+use Rattle.x_steps.proofs.BetweenLemmas.{visits_between_self, visits_between_join}
+use Rattle.x_branches.specs.Cut.{CutPath, cut_state}
+use Rattle.x_branches.specs.Branch.{end_of}
+use Rattle.x_branches.specs.Stretch.{StretchValue}
+use Rattle.lab_book.specs.declared.status.Status.{Status}
+use Rattle.lab_book.specs.declared.status.Status.TheVariants.{Closed}
+use Rattle.lab_book.specs.Tile.{TileValue, IsTile, Join, Stands, led_to, mark_of, tile_end}
+use Rattle.lab_book.specs.Tiling.{AreTiles}
+use Rattle.lab_book.specs.Posted.{stretch_visits, posted_visits, AllClosed}
+use Rattle.lab_book.proofs.TileLemmas.{end_fits, end_after}
+
+-- ---- stretches that join
+
+joined_up : (p : ProblemValue) (s : StateValue) (xs : List StretchValue) → Join p s xs → Fits p s → rank p s ≤ rank p (led_to s xs)
+joined_up p s [] j f = omega arith
+joined_up p s (x ∷ xs) j f =
+    let a = end_after p s x.to j.2 in
+    let b = joined_up p x.to xs j.3 (end_fits p s x.to j.2) in omega arith
+
+joined_fits : (p : ProblemValue) (s : StateValue) (xs : List StretchValue) → Join p s xs → Fits p s → Fits p (led_to s xs)
+joined_fits p s [] j f = f
+joined_fits p s (x ∷ xs) j f = joined_fits p x.to xs j.3 (end_fits p s x.to j.2)
+
+joined_visits : (p : ProblemValue) (s : StateValue) (xs : List StretchValue) → Join p s xs → Fits p s → stretch_visits xs ≡ visits_between p s (led_to s xs)
+joined_visits p s [] j f = sym (visits_between_self p s f)
+joined_visits p s (x ∷ xs) j f =
+    let g = end_fits p s x.to j.2 in
+    let first : visits_between x.problem x.from x.to ≡ visits_between p s x.to = ap₂ (λ (q : ProblemValue) (a : StateValue). visits_between q a x.to) j.0 j.1 in
+    flat_map-cons (λ (x : StretchValue). visits_between x.problem x.from x.to) x xs
+    ∙ ap₂ (λ (vs ws : List (List ℕ)). vs ++ ws) first (joined_visits p x.to xs j.3 g)
+    ∙ sym (visits_between_join p s x.to (led_to x.to xs) f g (joined_fits p x.to xs j.3 g) (end_after p s x.to j.2) (joined_up p x.to xs j.3 g))
+
+-- ---- tiles
+
+-- a closed tile's stretches go from its first mark to its end
+module _ (p : ProblemValue) (t : TileValue) (i : IsTile p t) (closed : t.status ≡ Closed) where
+  closed_end : mark_of t ≡ tile_end t
+  closed_end = subst (λ (s : Status). Stands s t) closed i.stands
+
+  tile_first : Fits p t.first
+  tile_first = end_fits p _ t.first i.begins
+
+  tile_up : rank p t.first ≤ rank p (tile_end t)
+  tile_up = subst (λ (s : StateValue). rank p t.first ≤ rank p s) closed_end (joined_up p t.first t.stretches i.joins tile_first)
+
+  tile_visits : stretch_visits t.stretches ≡ visits_between p t.first (tile_end t)
+  tile_visits = joined_visits p t.first t.stretches i.joins tile_first ∙ ap (visits_between p t.first) closed_end
+
+first_closed : (t : TileValue) (ts : List TileValue) → AllClosed (t ∷ ts) → t.status ≡ Closed
+first_closed t ts c = c 0 t (omega arith)
+
+rest_closed : (t : TileValue) (ts : List TileValue) → AllClosed (t ∷ ts) → AllClosed ts
+rest_closed t ts c = λ k d l. c (suc k) d (omega arith)
+
+-- what tiles from a first mark to an end tell of the two
+record Reaches (p : ProblemValue) (first end : StateValue) : Type 0 where
+  pub from : Fits p first
+  pub to : Fits p end
+  pub up : rank p first ≤ rank p end
+
+tiles_reach : (p : ProblemValue) (lo : Option CutPath) (first : StateValue) (ts : List TileValue) (hi : Option CutPath) → AreTiles p lo first ts hi → AllClosed ts → Reaches p first (end_of hi)
+tiles_reach p lo first [] hi a c = absurd a
+tiles_reach p lo first (t ∷ []) hi a c =
+    subst (λ (x : StateValue × Option CutPath). Reaches p x.0 (end_of x.1)) (λ j. (a.1 j, a.3 j))
+    (record { from = tile_first p t a.2 (first_closed t [] c); to = end_fits p (mark_of t) (tile_end t) a.2.within; up = tile_up p t a.2 (first_closed t [] c) })
+tiles_reach p lo first (t ∷ u ∷ ts) hi a c =
+    let rest = tiles_reach p (Some a.3) (cut_state a.3.path) (u ∷ ts) hi a.5 (rest_closed t (u ∷ ts) c) in
+    let here : rank p t.first ≤ rank p (cut_state a.3.path) = subst (λ (h : Option CutPath). rank p t.first ≤ rank p (end_of h)) a.4 (tile_up p t a.2 (first_closed t (u ∷ ts) c)) in
+    let more = rest.up in
+    subst (λ (s : StateValue). Reaches p s (end_of hi)) a.1 (record { from = tile_first p t a.2 (first_closed t (u ∷ ts) c); to = rest.to; up = omega arith })
+
+pub closed_visits : (p : ProblemValue) (lo : Option CutPath) (first : StateValue) (ts : List TileValue) (hi : Option CutPath) → AreTiles p lo first ts hi → AllClosed ts → posted_visits ts ≡ visits_between p first (end_of hi)
+closed_visits p lo first [] hi a c = absurd a
+closed_visits p lo first (t ∷ []) hi a c =
+    flat_map-cons (λ (t : TileValue). stretch_visits t.stretches) t []
+    ∙ append-nil (stretch_visits t.stretches) ∙ tile_visits p t a.2 (first_closed t [] c)
+    ∙ ap₂ (λ (s : StateValue) (h : Option CutPath). visits_between p s (end_of h)) a.1 a.3
+closed_visits p lo first (t ∷ u ∷ ts) hi a c =
+    let rest = tiles_reach p (Some a.3) (cut_state a.3.path) (u ∷ ts) hi a.5 (rest_closed t (u ∷ ts) c) in
+    let here : stretch_visits t.stretches ≡ visits_between p first (cut_state a.3.path) = tile_visits p t a.2 (first_closed t (u ∷ ts) c) ∙ ap₂ (λ (s : StateValue) (h : Option CutPath). visits_between p s (end_of h)) a.1 a.4 in
+    let up : rank p first ≤ rank p (cut_state a.3.path) = subst (λ (x : StateValue × Option CutPath). rank p x.0 ≤ rank p (end_of x.1)) (λ j. (a.1 j, a.4 j)) (tile_up p t a.2 (first_closed t (u ∷ ts) c)) in
+    let fits : Fits p first = subst (Fits p) a.1 (tile_first p t a.2 (first_closed t (u ∷ ts) c)) in
+    flat_map-cons (λ (t : TileValue). stretch_visits t.stretches) t (u ∷ ts)
+    ∙ ap₂ (λ (vs ws : List (List ℕ)). vs ++ ws) here (closed_visits p (Some a.3) (cut_state a.3.path) (u ∷ ts) hi a.5 (rest_closed t (u ∷ ts) c))
+    ∙ sym (visits_between_join p first (cut_state a.3.path) (end_of hi) fits rest.from rest.to up rest.up)
+
+-- ---- a walk over what was posted
+
+pub visits_more : {X : Type 0} (f : X → List (List ℕ)) (xs : List X) (i : ℕ) (x : X) (base v w u : List (List ℕ)) → i < length xs → x ≡ get_or xs i x → v ≡ base ++ flat_map f (take i xs) → w ≡ f x → u ≡ v ++ w → u ≡ base ++ flat_map f (take (i + 1) xs)
+visits_more f xs i x base v w u l e a b c =
+    c ∙ ap₂ (λ (p q : List (List ℕ)). p ++ q) a b ∙ flat_map_more f base (take i xs) x
+    ∙ ap (λ ys. base ++ flat_map f ys) (ap (λ y. take i xs ++ y ∷ []) e ∙ sym (take_more xs i x l))
+
+pub visits_all : {X : Type 0} (f : X → List (List ℕ)) (xs : List X) (i : ℕ) (base v : List (List ℕ)) → length xs ≤ i → v ≡ base ++ flat_map f (take i xs) → v ≡ base ++ flat_map f xs
+visits_all f xs i base v l a = a ∙ ap (λ ys. base ++ flat_map f ys) (take_all i xs l)

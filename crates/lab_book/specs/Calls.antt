@@ -1,0 +1,67 @@
+-- What a caller is told of a call.
+use Rattle.x_steps.specs.StateValue.{StateValue}
+use Rattle.lab_book.specs.Tile.{TileValue}
+use Rattle.std.specs.Prelude.{ℕ, ◌≡◌, ◌⊎◌, Option, Some, None, Result, Err, ◌≤◌, length, take, List, Bool, is_ok}
+use Rattle.x_steps.specs.StateView.{state_value}
+use Rattle.cover_problem.specs.Problem.{ProblemValue, is_same}
+use Rattle.x_branches.specs.Stretch.{StretchValue}
+use Rattle.lab_book.specs.declared.lease.Grant.{Grant}
+use Rattle.lab_book.specs.declared.lease.Leased.{Leased}
+use Rattle.lab_book.specs.declared.lease.Posted.{Posted}
+use Rattle.lab_book.specs.declared.fault.BookFault.{BookFault}
+use Rattle.lab_book.specs.declared.fault.BookFault.TheVariants.{OutOfMemory}
+use Rattle.lab_book.specs.declared.entry.Call.{Call}
+use Rattle.lab_book.specs.declared.entry.Call.TheVariants as call
+use Rattle.lab_book.specs.declared.entry.Reply.{Reply}
+use Rattle.lab_book.specs.declared.entry.Reply.TheVariants as reply
+use Rattle.lab_book.specs.Book.{BookValue, outcome, book_step, path_of, stretches_to, found, lease_fault}
+
+-- a book made this call, and gave this answer
+pub record Made (old new : BookValue) (w : ℕ) (c : Call) (r : Reply) : Type 0 where
+  pub book : new ≡ book_step old w c
+  pub reply : r ≡ (outcome old w c).reply
+
+-- a call was refused: for want of memory nothing has changed, else the book made it and answered so
+abbrev pub Refuses : BookValue → BookValue → ℕ → Call → BookFault → Type 0
+Refuses old new w c f = ((f ≡ OutOfMemory) × (new ≡ old)) ⊎ ((f ≡ OutOfMemory → ⊥) × Made old new w c (reply.Refused f))
+
+-- the answer to a worker that leases a tile, as the history keeps it
+abbrev pub leased_reply : Leased → Reply
+leased_reply r = reply.Leased r.lease (path_of r.branch.lo) (path_of r.branch.hi) (state_value r.mark) r.waiting
+
+-- and to one that leases any, where there may be none
+abbrev pub any_reply : Option Leased → Reply
+any_reply None = reply.NoneWaits
+any_reply (Some r) = leased_reply r
+
+abbrev pub posted_reply : Posted → Reply
+posted_reply r = reply.Posted r.stop r.waiting
+
+-- a post, as the history keeps it
+abbrev pub post_of : ProblemValue → Grant → StretchValue → Call
+post_of p g x = call.Post g x.from x.to (is_same x.problem p)
+
+-- a book made a post of this stretch, by this lease, and answered so
+abbrev pub Posts : BookValue → BookValue → Grant → StretchValue → Posted → Type 0
+Posts old new g x r = Made old new g.worker (post_of old.problem g x) (posted_reply r)
+
+-- a book refused it
+abbrev pub PostRefused : BookValue → BookValue → Grant → StretchValue → BookFault → Type 0
+PostRefused old new g x f = Refuses old new g.worker (post_of old.problem g x) f
+
+-- whether a lease is the current one of a tile
+abbrev pub is_current : List TileValue → Grant → Bool
+is_current ts g = is_ok (found ts g.id (λ t. lease_fault g t None))
+
+-- a search of the tiles: the answer of the definition, unless memory is wanting
+abbrev pub Judged : Result ℕ BookFault → Result ℕ BookFault → Type 0
+Judged answer right = (answer ≡ Err OutOfMemory) ⊎ (answer ≡ right)
+
+-- what stands against a call: what the definition says, unless memory is wanting
+abbrev pub Doubted : Option BookFault → Option BookFault → Type 0
+Doubted answer right = (answer ≡ Some OutOfMemory) ⊎ (answer ≡ right)
+
+-- a tile goes back to a state by keeping so many of its stretches
+pub record GoesBack (t : TileValue) (s : StateValue) (count : ℕ) : Type 0 where
+  pub some : count ≤ length t.stretches
+  pub kept : stretches_to s t.first t.stretches ≡ Some (take count t.stretches)

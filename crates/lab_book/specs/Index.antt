@@ -1,0 +1,17 @@
+-- What is kept beside a list of tiles, so that no call goes over all of them.
+use Rattle.std.specs.Prelude.{ℕ, ◌≡◌, ◌<◌, List, length, slice_index}
+use Rattle.lab_book.specs.Tile.{TileValue}
+use Rattle.lab_book.specs.Tiling.{tile_at}
+use Rattle.lab_book.specs.Book.{waiting_in, leased_in}
+
+-- for each id, from 0 on, the place of the tile that has it
+pub record ArePlaces (places : List ℕ) (ts : List TileValue) : Type 0 where
+  pub long : length places ≡ length ts
+  pub ids : (i : ℕ) → i < length ts → ((tile_at ts i).id < length ts) × (slice_index places (tile_at ts i).id ≡ i)
+  pub tiles : (id : ℕ) → id < length ts → (slice_index places id < length ts) × ((tile_at ts (slice_index places id)).id ≡ id)
+
+-- the places of ids, and how many tiles wait and are leased
+pub record KeepsTiles (ts : List TileValue) (places : List ℕ) (waiting leased : ℕ) : Type 0 where
+  pub index : ArePlaces places ts
+  pub waiting_are : waiting ≡ waiting_in ts
+  pub leased_are : leased ≡ leased_in ts

@@ -1,0 +1,91 @@
+-- A tile: a branch of the run, how it stands, and what was posted of it.
+--
+-- Its marks are its first mark and the ends of its stretches; the last of them is its mark.
+use Rattle.std.specs.Prelude.{ℕ, ◌≡◌, ◌==◌, ◌&&◌, Bool, true, false, List, [], ◌∷◌, if◌then◌else◌}
+use Rattle.cover_problem.specs.Problem.{ProblemValue}
+use Rattle.x_steps.specs.StateValue.{StateValue}
+use Rattle.x_branches.specs.declared.branch.Branch.{Branch}
+use Rattle.x_branches.specs.Branch.{first_of, end_of}
+use Rattle.x_branches.specs.Stretch.{StretchValue, IsStretch}
+use Rattle.x_branches.specs.Runner.{IsBranch}
+use Rattle.lab_book.specs.declared.status.Status.{Status}
+use Rattle.lab_book.specs.declared.status.Status.TheVariants.{Waiting, Held, Leased, Closed}
+use Rattle.lab_book.specs.declared.lease.Grant.{Grant}
+
+abbrev pub is_waiting : Status → Bool
+is_waiting Waiting = true
+is_waiting _ = false
+
+abbrev pub is_held : Status → Bool
+is_held Held = true
+is_held _ = false
+
+abbrev pub is_leased : Status → Bool
+is_leased (Leased w i) = true
+is_leased _ = false
+
+abbrev pub is_closed : Status → Bool
+is_closed Closed = true
+is_closed _ = false
+
+-- whether a tile waits or is held: it is open, and nobody's
+abbrev pub is_free : Status → Bool
+is_free Waiting = true
+is_free Held = true
+is_free _ = false
+
+-- whether a tile is leased by this lease
+abbrev pub is_lease : Status → Grant → Bool
+is_lease (Leased w i) g = (w == g.worker) && (i == g.index)
+is_lease _ g = false
+
+-- how a tile stands that is given up
+abbrev pub freed_status : Bool → Status
+freed_status stop = if stop then Held else Waiting
+
+-- and how one stands once it is asked to stop: where it waits it is held
+abbrev pub asked_status : Status → Status
+asked_status Waiting = Held
+asked_status s = s
+
+-- a tile
+pub record TileValue : Type 0 where
+  pub id : ℕ
+  pub branch : Branch
+  pub status : Status
+  pub stop : Bool
+  pub first : StateValue
+  pub stretches : List StretchValue
+
+-- where stretches lead from a state
+abbrev pub led_to : StateValue → List StretchValue → StateValue
+led_to s [] = s
+led_to s (x ∷ xs) = led_to x.to xs
+
+-- where a tile's posted stretches end
+abbrev pub mark_of : TileValue → StateValue
+mark_of t = led_to t.first t.stretches
+
+-- the state that ends a tile
+abbrev pub tile_end : TileValue → StateValue
+tile_end t = end_of t.branch.hi
+
+-- stretches of a problem's run that join, from a state on
+abbrev pub Join : ProblemValue → StateValue → List StretchValue → Type 0
+Join p s [] = Unit {0}
+Join p s (x ∷ xs) = (x.problem ≡ p) × (x.from ≡ s) × IsStretch p s x.to × Join p x.to xs
+
+-- a waiting tile isn't asked to stop, a held one is, and a closed one is posted up to its end
+abbrev pub Stands : Status → TileValue → Type 0
+Stands Waiting t = t.stop ≡ false
+Stands Held t = t.stop ≡ true
+Stands (Leased w i) t = Unit {0}
+Stands Closed t = mark_of t ≡ tile_end t
+
+-- a tile of a problem's run: its first mark is within its branch, its stretches join from there on, and end within it
+pub record IsTile (p : ProblemValue) (t : TileValue) : Type 0 where
+  pub branch : IsBranch p t.branch
+  pub begins : IsStretch p (first_of t.branch.lo) t.first
+  pub joins : Join p t.first t.stretches
+  pub within : IsStretch p (mark_of t) (tile_end t)
+  pub stands : Stands t.status t

@@ -1,0 +1,236 @@
+//! Books.
+ghost use Rattle.std.specs.Prelude.{◌≡◌, ◌≤◌, ◌↔◌, ◌⊎◌, IsTrue, All, None, IfSome, IfOk, IfErr, OnOk, OnErr};
+ghost use Rattle.x_steps.specs.StateView.{state_value};
+ghost use Rattle.x_steps.specs.StateValue.{start};
+ghost use Rattle.x_branches.specs.Cut.{IsCut};
+ghost use Rattle.x_branches.specs.Refusals.{CanStart, StartRefused};
+ghost use Rattle.lab_book.specs.Book.{IsBook, opened, replayed, outcome, refused};
+ghost use Rattle.x_steps.specs.Run.{visits_between};
+ghost use Rattle.x_branches.specs.Branch.{end_of};
+ghost use Rattle.lab_book.specs.Posted.{posted_visits, AllClosed};
+ghost use Rattle.lab_book.specs.Tiling.{IsTiling};
+ghost use Rattle.lab_book.specs.Calls.{Refuses};
+
+mod ending;
+mod leasing;
+mod posting;
+mod taking_back;
+
+use crate::entry::{Call, Entry, Reply};
+use crate::fault::BookFault;
+use crate::history::History;
+use crate::mark::Mark;
+use crate::status::Status;
+use crate::tile::Tile;
+use crate::tiles::Tiles;
+use cover_problem::{PlainTable, Problem, Table};
+use std::alloc::{AllocError, Global};
+use std::marker::Model;
+use x_branches::{Branch, Cut, Runner, RunnerFault, StartFault};
+use x_steps::{AtFault, Cursor, Label, Paths, Refused, State};
+
+/// The tiles into which a branch of a problem's run is parted, and the history of all calls. Its tiles are a tiling after every
+/// call, and it is the replay of its history.
+#[derive(Drop)]
+pub struct Book<'p> {
+    problem: &'p Problem,
+    branch: Branch<'p>,
+    first: Mark,
+    tiles: Tiles<'p>,
+    history: History,
+}
+
+impl<'p> Model for Book<'p> {
+    ghost use Rattle.lab_book.specs.Book.{BookValue, KeepsBook};
+
+    ghost Value = { BookValue };
+
+    ghost view = { λ b. record { problem = b.problem.now; branch = b.branch; first = b.first; tiles = b.tiles; history = b.history.entries } };
+
+    ghost invariant = { λ b. KeepsBook (record { problem = b.problem.now; branch = b.branch; first = b.first; tiles = b.tiles; history = b.history.entries }) b.history.kept };
+}
+
+/// Whether a search can start at a state of a branch: refused as a runner is there.
+fn check_start(
+    alloc: Global,
+    problem: &Problem,
+    branch: &Branch<'_>,
+    state: &State,
+) -> Result<(), StartFault>
+    ensures can { OnOk result (CanStart problem.now branch.now (state_value state.now)) }
+    ensures refused { IfErr result (λ fault. StartRefused problem.now branch.now (state_value state.now) fault) }
+{
+    let Ok(table) = PlainTable::new(alloc, problem) else {
+        return Err(StartFault::Steps(AtFault::OutOfMemory));
+    };
+    let Ok(branch) = branch.copy() else {
+        return Err(StartFault::Steps(AtFault::OutOfMemory));
+    };
+    match Runner::new(alloc, problem, table, branch, state) {
+        Ok(_) => Ok(()),
+        Err(refused) => Err(refused.fault),
+    }
+}
+
+/// A cut of a branch, if there is one, is a cut.
+fn is_cut(cut: &Option<Cut<'_>>)
+    ensures { IfSome cut.now (λ c. IsCut c.problem c.path) }
+{
+    if let Some(cut) = cut {
+        let _path = cut.path();
+    }
+}
+
+impl<'p> Book<'p> {
+    /// The book of a branch whose one tile waits at a state.
+    fn opened(
+        alloc: Global,
+        problem: &'p Problem,
+        branch: &Branch<'p>,
+        state: &State,
+    ) -> Result<Book<'p>, AllocError>
+        requires { CanStart problem.now branch.now (state_value state.now) }
+        ensures { IfOk result (λ book. book ≡ opened problem.now branch.now (state_value state.now)) }
+    {
+        is_cut(&branch.lo);
+        is_cut(&branch.hi);
+        let first = Mark::of(state)?;
+        let begin = Mark::of(state)?;
+        let whole = branch.copy()?;
+        let tile = Tile::whole(alloc, branch.copy()?, begin)?;
+        let tiles = Tiles::of(alloc, tile)?;
+        Ok(Book {
+            problem,
+            branch: whole,
+            first,
+            tiles,
+            history: History::new(alloc),
+        })
+    }
+
+    /// The book of a whole run: one tile, from X1 to Done, which waits and has the id 0.
+    pub fn new(alloc: Global, problem: &'p Problem) -> Result<Book<'p>, AllocError>
+        ensures { IfOk result (λ book. book ≡ opened problem.now (record { lo = None; hi = None }) start) }
+    {
+        let branch = Branch { lo: None, hi: None };
+        let state = State {
+            label: Label::X1,
+            path: Vec::new(alloc),
+            cursor: Cursor::None,
+        };
+        Book::opened(alloc, problem, &branch, &state)
+    }
+
+    /// The book of a branch that goes on from a state in it: one tile, which waits there. Refused as a runner is that starts
+    /// there; branch and state then come back.
+    pub fn resumed(
+        alloc: Global,
+        problem: &'p Problem,
+        branch: Branch<'p>,
+        state: State,
+    ) -> Result<Book<'p>, Refused<StartFault, (Branch<'p>, State)>>
+        ensures made { IfOk result (λ book. book ≡ opened problem.now branch.entry (state_value state)) }
+        ensures can { OnOk result (CanStart problem.now branch.entry (state_value state)) }
+        ensures refused { IfErr result (λ r. StartRefused problem.now branch.entry (state_value state) r.fault) }
+        ensures branch_back { IfErr result (λ r. r.given.0 ≡ branch.entry) }
+        ensures state_back { IfErr result (λ r. r.given.1 ≡ state) }
+    {
+        if let Err(fault) = check_start(alloc, problem, &branch, &state) {
+            return Err(Refused {
+                fault,
+                given: (branch, state),
+            });
+        }
+        let Ok(book) = Book::opened(alloc, problem, &branch, &state) else {
+            return Err(Refused {
+                fault: StartFault::Runner(RunnerFault::OutOfMemory),
+                given: (branch, state),
+            });
+        };
+        Ok(book)
+    }
+
+    /// The problem.
+    pub fn problem(&self) -> &'p Problem
+        ensures { result.now ≡ self.now.problem }
+    {
+        self.problem
+    }
+
+    /// The branch of the run that it parts.
+    pub fn branch(&self) -> &Branch<'p>
+        ensures { result.now ≡ self.now.branch }
+    {
+        &self.branch
+    }
+
+    /// Where its search began.
+    pub fn first_mark(&self) -> &State
+        ensures { state_value result.now ≡ self.now.first }
+    {
+        self.first.state()
+    }
+
+    /// The tiles in order: they are a tiling of the branch.
+    pub fn tiles(&self) -> &[Tile<'p>]
+        ensures tiles { result.now ≡ self.now.tiles }
+        ensures tiling { IsTiling self.now.problem self.now.branch self.now.first self.now.tiles }
+    {
+        self.tiles.list()
+    }
+
+    /// The entries of all calls in order: the book is their replay, with each reply.
+    pub fn history(&self) -> &[Entry]
+        ensures history { result.now ≡ self.now.history }
+        ensures replay { replayed (opened self.now.problem self.now.branch self.now.first) self.now.history ≡ self.now }
+    {
+        self.history.entries()
+    }
+
+    /// Whether all tiles are closed.
+    pub fn finished(&self) -> bool
+        ensures { IsTrue result ↔ AllClosed self.now.tiles }
+    {
+        self.tiles
+            .list()
+            .iter()
+            .all(|tile| tile.status().is_closed())
+    }
+
+    /// The paths that the posted stretches visit, tile by tile: where all tiles are closed, the visits of the run from the first mark
+    /// to the branch's end, in their order.
+    pub fn visits(&self) -> Result<Paths, AllocError>
+        ensures visits { IfOk result (λ paths. paths ≡ posted_visits self.now.tiles) }
+        ensures whole { IfOk result (λ paths. AllClosed self.now.tiles →
+            paths ≡ visits_between self.now.problem self.now.first (end_of self.now.branch.hi)) }
+    {
+        let mut visits = Paths::new(*self.first.state().path.allocator());
+        for tile in self.tiles.list() {
+            tile.add_visits(&mut visits)?;
+        }
+        Ok(visits)
+    }
+
+    /// Notes a refusal in the history, unless it is, or meets, want of memory.
+    fn refuse(&mut self, w: u8, call: Call, fault: BookFault) -> BookFault
+        requires { (fault ≡ BookFault.OutOfMemory) ⊎ (outcome self.old w call ≡ refused self.old.tiles fault) }
+        ensures { Refuses self.old self.new w call result }
+    {
+        let fault = match fault {
+            BookFault::OutOfMemory => return BookFault::OutOfMemory,
+            fault => fault,
+        };
+        let Ok(copy) = fault.copy() else {
+            return BookFault::OutOfMemory;
+        };
+        let Ok(()) = self.history.keep(1) else {
+            return BookFault::OutOfMemory;
+        };
+        self.history.add(Entry {
+            worker: w,
+            call,
+            reply: Reply::Refused(copy),
+        });
+        fault
+    }
+}

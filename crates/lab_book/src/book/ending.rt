@@ -1,0 +1,127 @@
+//! Leases are given up.
+ghost use Rattle.std.specs.Prelude.{◌≡◌, ◌≤◌, ◌<◌, true, false, length, slice_set, IsOk, IfOk, IfErr, OnOk, OnErr};
+ghost use Rattle.lab_book.specs.declared.entry.Reply.TheVariants as replies;
+ghost use Rattle.lab_book.specs.Tile.{is_leased, Stands};
+ghost use Rattle.lab_book.specs.Tiling.{tile_at};
+ghost use Rattle.lab_book.specs.Book.{outcome, settled, found, lease_fault, end_fault};
+ghost use Rattle.lab_book.specs.Calls.{Made, Refuses, Judged, is_current};
+
+use crate::book::Book;
+use crate::entry::{Call, Entry, Reply};
+use crate::fault::BookFault;
+use crate::lease::{Grant, Lease};
+use crate::status::Status;
+use x_steps::Refused;
+
+impl<'p> Book<'p> {
+    /// Ends the lease of the tile at a place, by the entry that room was kept for.
+    fn settle(&mut self, w: u8, i: usize, call: Call, status: Status)
+        requires within { i < length self.old.tiles }
+        requires leased { is_leased (tile_at self.old.tiles i).status ≡ true }
+        requires ends { is_leased status ≡ false }
+        requires stands { Stands status (tile_at self.old.tiles i) }
+        requires outcome { outcome self.old w call ≡ settled self.old (λ t. record t { status = status }) i }
+        ensures { Made self.old self.new w call replies.Done }
+    {
+        let stop = self.tiles.tile(i).stop();
+        self.tiles.settle(i, status, stop);
+        self.history.add(Entry {
+            worker: w,
+            call,
+            reply: Reply::Done,
+        });
+    }
+
+    /// The place of the tile that is closed by its lease.
+    fn close_place(&self, lease: Grant) -> Result<usize, BookFault>
+        ensures place { Judged result (found self.now.tiles lease.id (λ t. lease_fault lease t (end_fault t))) }
+        ensures within { IfOk result (λ i. i < length self.now.tiles) }
+        ensures leased { IfOk result (λ i. is_leased (tile_at self.now.tiles i).status ≡ true) }
+        ensures ended { IfOk result (λ i. Stands Status.Closed (tile_at self.now.tiles i)) }
+    {
+        let i = match self.tiles.leased_place(lease) {
+            Ok(i) => i,
+            Err(fault) => return Err(fault),
+        };
+        let tile = self.tiles.tile(i);
+        if tile.mark().same(tile.end()) {
+            Ok(i)
+        } else {
+            Err(BookFault::NotAtEnd)
+        }
+    }
+
+    /// Closes the tile that is leased. Refused where no tile has the lease's id (1), where the lease isn't its current one (3), and
+    /// where its mark isn't its end (8); the lease comes back.
+    pub fn close(&mut self, lease: Lease) -> Result<(), Refused<BookFault, Lease>>
+        ensures made { OnOk result (Made self.old self.new lease.worker (Call.Close lease) replies.Done) }
+        ensures refused { IfErr result (λ r. Refuses self.old self.new lease.worker (Call.Close lease) r.fault) }
+        ensures given_back { IfErr result (λ r. r.given ≡ lease) }
+    {
+        let grant = lease.grant();
+        let i = match self.close_place(grant) {
+            Ok(i) => i,
+            Err(fault) => {
+                let fault = self.refuse(grant.worker, Call::Close(grant), fault);
+                return Err(Refused {
+                    fault,
+                    given: lease,
+                });
+            }
+        };
+        lease.discard();
+        self.settle(grant.worker, i, Call::Close(grant), Status::Closed);
+        Ok(())
+    }
+
+    /// Gives the tile up that is leased, at its mark: it waits, or is held where a stop was asked for. Takes no memory for the
+    /// tile's current lease. Refused where no tile has the lease's id (1), and where the lease isn't its current one (3); the lease
+    /// comes back.
+    pub fn abandon(&mut self, lease: Lease) -> Result<(), Refused<BookFault, Lease>>
+        ensures made { OnOk result (Made self.old self.new lease.worker (Call.Abandon lease) replies.Done) }
+        ensures current { is_current self.old.tiles lease ≡ true → IsOk result }
+        ensures refused { IfErr result (λ r. Refuses self.old self.new lease.worker (Call.Abandon lease) r.fault) }
+        ensures given_back { IfErr result (λ r. r.given ≡ lease) }
+    {
+        let grant = lease.grant();
+        let i = match self.tiles.leased_place(grant) {
+            Ok(i) => i,
+            Err(fault) => {
+                let fault = self.refuse(grant.worker, Call::Abandon(grant), fault);
+                return Err(Refused {
+                    fault,
+                    given: lease,
+                });
+            }
+        };
+        lease.discard();
+        let status = Status::freed(self.tiles.tile(i).stop());
+        self.settle(grant.worker, i, Call::Abandon(grant), status);
+        Ok(())
+    }
+
+    /// The same for a tile that is to be taken up again: its worker has posted what it wants to keep. It waits, or is held where a
+    /// stop was asked for. Takes no memory for the tile's current lease.
+    pub fn park(&mut self, lease: Lease) -> Result<(), Refused<BookFault, Lease>>
+        ensures made { OnOk result (Made self.old self.new lease.worker (Call.Park lease) replies.Done) }
+        ensures current { is_current self.old.tiles lease ≡ true → IsOk result }
+        ensures refused { IfErr result (λ r. Refuses self.old self.new lease.worker (Call.Park lease) r.fault) }
+        ensures given_back { IfErr result (λ r. r.given ≡ lease) }
+    {
+        let grant = lease.grant();
+        let i = match self.tiles.leased_place(grant) {
+            Ok(i) => i,
+            Err(fault) => {
+                let fault = self.refuse(grant.worker, Call::Park(grant), fault);
+                return Err(Refused {
+                    fault,
+                    given: lease,
+                });
+            }
+        };
+        lease.discard();
+        let status = Status::freed(self.tiles.tile(i).stop());
+        self.settle(grant.worker, i, Call::Park(grant), status);
+        Ok(())
+    }
+}

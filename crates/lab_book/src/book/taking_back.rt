@@ -1,0 +1,150 @@
+//! Tiles are asked to stop, and what was posted is taken out again.
+ghost use Rattle.std.specs.Prelude.{◌≡◌, ◌≤◌, ◌<◌, true, Ok, Err, IfOk, IfErr, OnOk, length};
+ghost use Rattle.x_steps.specs.StateView.{state_value};
+ghost use Rattle.lab_book.specs.declared.entry.Call.TheVariants as calls;
+ghost use Rattle.lab_book.specs.declared.entry.Reply.TheVariants as replies;
+ghost use Rattle.lab_book.specs.Tile.{is_leased, is_free};
+ghost use Rattle.lab_book.specs.Tiling.{tile_at};
+ghost use Rattle.lab_book.specs.Book.{found, lease_fault, retract_fault, mark_fault};
+ghost use Rattle.lab_book.specs.Calls.{Made, Refuses, Judged, GoesBack};
+
+use crate::book::Book;
+use crate::entry::{Call, Entry, Reply};
+use crate::fault::BookFault;
+use crate::lease::{Grant, Lease};
+use crate::mark::Mark;
+use std::alloc::AllocError;
+use x_branches::Stretch;
+use x_steps::State;
+
+/// The two states of a stretch, as the history keeps them.
+fn ends_of(stretch: &Stretch<'_>) -> Result<(Mark, Mark), AllocError>
+    ensures from { IfOk result (λ marks. marks.0 ≡ stretch.now.from) }
+    ensures to { IfOk result (λ marks. marks.1 ≡ stretch.now.to) }
+{
+    let from = Mark::of(stretch.from())?;
+    let to = Mark::of(stretch.to())?;
+    Ok((from, to))
+}
+
+impl<'p> Book<'p> {
+    /// Asks the worker of a tile to stop: a tile that waits is held from now on. Refused where no tile has the id (1), then where it
+    /// is closed (2).
+    pub fn request_stop(&mut self, w: u8, id: u64) -> Result<(), BookFault>
+        requires { w ≤ 31 }
+        ensures made { OnOk result (Made self.old self.new w (Call.RequestStop id) replies.Done) }
+        ensures refused { IfErr result (λ f. Refuses self.old self.new w (Call.RequestStop id) f) }
+    {
+        let i = match self.tiles.open_place(id) {
+            Ok(i) => i,
+            Err(fault) => return Err(self.refuse(w, Call::RequestStop(id), fault)),
+        };
+        let Ok(()) = self.history.keep(1) else {
+            return Err(BookFault::OutOfMemory);
+        };
+        let status = self.tiles.tile(i).status().asked();
+        self.tiles.settle(i, status, true);
+        self.history.add(Entry {
+            worker: w,
+            call: Call::RequestStop(id),
+            reply: Reply::Done,
+        });
+        Ok(())
+    }
+
+    /// The place of the tile whose last stretch is taken out.
+    fn retract_place(&self, lease: Grant) -> Result<usize, BookFault>
+        ensures place { Judged result (found self.now.tiles lease.id (λ t. lease_fault lease t (retract_fault t))) }
+        ensures within { IfOk result (λ i. i < length self.now.tiles) }
+        ensures leased { IfOk result (λ i. is_leased (tile_at self.now.tiles i).status ≡ true) }
+        ensures some { IfOk result (λ i. 0 < length (tile_at self.now.tiles i).stretches) }
+    {
+        let i = match self.tiles.leased_place(lease) {
+            Ok(i) => i,
+            Err(fault) => return Err(fault),
+        };
+        if self.tiles.tile(i).stretches().is_empty() {
+            Err(BookFault::NothingToRetract)
+        } else {
+            Ok(i)
+        }
+    }
+
+    /// Takes the last posted stretch of the leased tile out: the tile's mark is then where it began. Refused where no tile has the
+    /// lease's id (1), where the lease isn't its current one (3), and where nothing was posted (9).
+    pub fn retract(&mut self, lease: &Lease) -> Result<Stretch<'p>, BookFault>
+        ensures made { IfOk result (λ x. Made self.old self.new lease.now.worker (Call.Retract lease.now) (replies.Retracted x.from x.to)) }
+        ensures problem { IfOk result (λ x. x.problem ≡ self.old.problem) }
+        ensures refused { IfErr result (λ f. Refuses self.old self.new lease.now.worker (Call.Retract lease.now) f) }
+    {
+        let lease = lease.grant();
+        let i = match self.retract_place(lease) {
+            Ok(i) => i,
+            Err(fault) => return Err(self.refuse(lease.worker, Call::Retract(lease), fault)),
+        };
+        let Some(last) = self.tiles.tile(i).stretches().last() else {
+            unreachable!()
+        };
+        let Ok((from, to)) = ends_of(last) else {
+            return Err(BookFault::OutOfMemory);
+        };
+        let Ok(()) = self.history.keep(1) else {
+            return Err(BookFault::OutOfMemory);
+        };
+        let stretch = self.tiles.retract(i);
+        self.history.add(Entry {
+            worker: lease.worker,
+            call: Call::Retract(lease),
+            reply: Reply::Retracted { from, to },
+        });
+        Ok(stretch)
+    }
+
+    /// The place of the tile that goes back to a state, and how many stretches it keeps.
+    fn mark_place(&self, id: u64, state: &State) -> Result<(usize, usize), BookFault>
+        ensures place { IfOk result (λ x. found self.now.tiles id (mark_fault (state_value state.now)) ≡ Ok x.0) }
+        ensures within { IfOk result (λ x. x.0 < length self.now.tiles) }
+        ensures free { IfOk result (λ x. is_free (tile_at self.now.tiles x.0).status ≡ true) }
+        ensures kept { IfOk result (λ x. GoesBack (tile_at self.now.tiles x.0) (state_value state.now) x.1) }
+        ensures refused { IfErr result (λ f. found self.now.tiles id (mark_fault (state_value state.now)) ≡ Err f) }
+    {
+        let Some(i) = self.tiles.place(id) else {
+            return Err(BookFault::UnknownBranch);
+        };
+        let tile = self.tiles.tile(i);
+        if !tile.status().is_free() {
+            return Err(BookFault::NotWaiting);
+        }
+        match tile.mark_place(state) {
+            Some(count) => Ok((i, count)),
+            None => Err(BookFault::NotAMark),
+        }
+    }
+
+    /// A tile that waits or is held goes back to the first of its marks that is a state: the stretches after it are taken out.
+    /// Refused where no tile has the id (1), where it is leased or closed (2), and where the state is none of its marks (7).
+    pub fn put_back(&mut self, w: u8, id: u64, state: &State) -> Result<(), BookFault>
+        requires { w ≤ 31 }
+        ensures made { OnOk result (Made self.old self.new w (calls.PutBack id (state_value state.now)) replies.Done) }
+        ensures refused { IfErr result (λ f. Refuses self.old self.new w (calls.PutBack id (state_value state.now)) f) }
+    {
+        let Ok(mark) = Mark::of(state) else {
+            return Err(BookFault::OutOfMemory);
+        };
+        let call = Call::PutBack { id, state: mark };
+        let (i, count) = match self.mark_place(id, state) {
+            Ok(found) => found,
+            Err(fault) => return Err(self.refuse(w, call, fault)),
+        };
+        let Ok(()) = self.history.keep(1) else {
+            return Err(BookFault::OutOfMemory);
+        };
+        self.tiles.put_back(i, count);
+        self.history.add(Entry {
+            worker: w,
+            call,
+            reply: Reply::Done,
+        });
+        Ok(())
+    }
+}

@@ -1,0 +1,24 @@
+//! The book of a search by many: the tiles into which the run is parted, who has leased each, what was posted of them, and the
+//! history of all calls. No thread and no lock is needed here.
+#![tactic(auto)]
+
+mod book;
+mod entry;
+mod fault;
+mod history;
+mod lease;
+mod mark;
+mod status;
+mod tile;
+mod tiles;
+
+pub use book::Book;
+pub use entry::{Call, Entry, Reply};
+pub use fault::BookFault;
+pub use lease::{Grant, Lease, Leased, Posted};
+pub use mark::{Mark, Path};
+pub use status::Status;
+pub use tile::Tile;
+
+#[cfg(test)]
+mod tests;

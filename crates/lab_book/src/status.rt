@@ -1,0 +1,85 @@
+//! How a tile stands.
+ghost use Rattle.std.specs.Prelude.{◌≡◌};
+ghost use Rattle.lab_book.specs.Tile.{is_waiting, is_leased, is_closed, is_free, is_lease, freed_status, asked_status};
+
+use crate::lease::Grant;
+
+/// How a tile stands: it waits for a worker, it is held back, a worker has leased it by the entry of the history that `index`
+/// names, or it is done.
+#[derive(Clone, Copy, Debug, PartialEq, Eq)]
+pub enum Status {
+    Waiting,
+    Held,
+    Leased { worker: u8, index: u64 },
+    Closed,
+}
+
+impl Status {
+    /// Whether it waits.
+    pub(crate) fn is_waiting(self) -> bool
+        ensures { result ≡ is_waiting self }
+    {
+        match self {
+            Status::Waiting => true,
+            _ => false,
+        }
+    }
+
+    /// Whether it is leased.
+    pub(crate) fn is_leased(self) -> bool
+        ensures { result ≡ is_leased self }
+    {
+        match self {
+            Status::Leased { .. } => true,
+            _ => false,
+        }
+    }
+
+    /// Whether it waits or is held.
+    pub(crate) fn is_free(self) -> bool
+        ensures { result ≡ is_free self }
+    {
+        match self {
+            Status::Waiting => true,
+            Status::Held => true,
+            _ => false,
+        }
+    }
+
+    /// Whether it is done.
+    pub(crate) fn is_closed(self) -> bool
+        ensures { result ≡ is_closed self }
+    {
+        match self {
+            Status::Closed => true,
+            _ => false,
+        }
+    }
+
+    /// Whether it is leased by this lease.
+    pub(crate) fn is_lease(self, lease: Grant) -> bool
+        ensures { result ≡ is_lease self lease }
+    {
+        match self {
+            Status::Leased { worker, index } => worker == lease.worker && index == lease.index,
+            _ => false,
+        }
+    }
+
+    /// How a tile stands that is given up: it waits, or it is held where a stop was asked for.
+    pub(crate) fn freed(stop: bool) -> Status
+        ensures { result ≡ freed_status stop }
+    {
+        if stop { Status::Held } else { Status::Waiting }
+    }
+
+    /// How a tile stands once it is asked to stop: one that waits is held.
+    pub(crate) fn asked(self) -> Status
+        ensures { result ≡ asked_status self }
+    {
+        match self {
+            Status::Waiting => Status::Held,
+            status => status,
+        }
+    }
+}

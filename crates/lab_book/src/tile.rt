@@ -1,0 +1,240 @@
+//! Tiles: the parts into which a book parts the run.
+ghost use Rattle.std.specs.Prelude.{◌≡◌, ◌<◌, ◌≤◌, ◌++◌, ◌∷◌, [], length, take, option_map, Some, IfSome, OnOk, IfOk, IfErr, OnErr};
+ghost use Rattle.x_steps.specs.StateView.{state_value};
+ghost use Rattle.x_branches.specs.Branch.{end_of};
+ghost use Rattle.x_branches.specs.Cut.{cut_state};
+ghost use Rattle.lab_book.specs.Tile.{mark_of, tile_end};
+ghost use Rattle.lab_book.specs.Posted.{stretch_visits};
+ghost use Rattle.lab_book.specs.Book.{whole_tile, posted_tile, retracted_tile, last_of, stretches_to};
+
+use crate::mark::Mark;
+use crate::status::Status;
+use std::alloc::{AllocError, Global};
+use std::marker::Model;
+use x_branches::{Branch, Cut, Stretch};
+use x_steps::{Cursor, Label, Paths, State};
+
+/// A branch of the run, how it stands, where its search began, and the stretches that were posted of it.
+#[derive(Drop)]
+pub struct Tile<'p> {
+    id: u64,
+    branch: Branch<'p>,
+    /// The state that ends the branch.
+    end: Mark,
+    status: Status,
+    stop: bool,
+    first: Mark,
+    stretches: Vec<Stretch<'p>>,
+}
+
+impl<'p> Model for Tile<'p> {
+    ghost use Rattle.std.specs.Prelude.{◌≡◌};
+    ghost use Rattle.x_branches.specs.Branch.{end_of};
+    ghost use Rattle.lab_book.specs.Tile.{TileValue};
+
+    ghost Value = { TileValue };
+
+    ghost view = { λ t. record { id = t.id; branch = t.branch; status = t.status; stop = t.stop; first = t.first; stretches = t.stretches.items } };
+
+    ghost invariant = { λ t. t.end ≡ end_of t.branch.hi };
+}
+
+/// The state that ends a branch: that of its high cut, or Done.
+fn end_state(alloc: Global, hi: &Option<Cut<'_>>) -> Result<Mark, AllocError>
+    ensures { IfOk result (λ mark. mark ≡ end_of hi.now) }
+{
+    match hi {
+        Some(cut) => cut_state(alloc, cut),
+        None => Ok(Mark::from(State {
+            label: Label::Done,
+            path: Vec::new(alloc),
+            cursor: Cursor::None,
+        })),
+    }
+}
+
+/// The state of a cut: X5 at its last choice, after the others.
+fn cut_state(alloc: Global, cut: &Cut<'_>) -> Result<Mark, AllocError>
+    ensures { IfOk result (λ mark. mark ≡ cut_state cut.now.path) }
+{
+    let choices = cut.path();
+    let (front, last) = choices.split_at(choices.len() - 1);
+    let path = Vec::from_slice(alloc, front)?;
+    Ok(Mark::from(State {
+        label: Label::X5,
+        path,
+        cursor: Cursor::At(last[0]),
+    }))
+}
+
+/// How many stretches come before the first mark that is a state: the marks are the first one and the ends of the stretches.
+fn mark_place(state: &State, first: &State, stretches: &[Stretch<'_>]) -> Option<usize>
+    ensures place { option_map (λ n. take n stretches.now) result ≡
+        stretches_to (state_value state.now) (state_value first.now) stretches.now }
+    ensures within { IfSome result (λ n. n ≤ length stretches.now) }
+{
+    if state.same(first) {
+        return Some(0);
+    }
+    for (place, stretch) in stretches.iter().enumerate() {
+        if state.same(stretch.to()) {
+            return Some(place + 1);
+        }
+    }
+    None
+}
+
+impl<'p> Tile<'p> {
+    /// The one tile of a new book: it waits at its first mark.
+    pub(crate) fn whole(
+        alloc: Global,
+        branch: Branch<'p>,
+        first: Mark,
+    ) -> Result<Tile<'p>, AllocError>
+        ensures { IfOk result (λ tile. tile ≡ whole_tile branch.entry first) }
+    {
+        let end = end_state(alloc, &branch.hi)?;
+        Ok(Tile {
+            id: 0,
+            branch,
+            end,
+            status: Status::Waiting,
+            stop: false,
+            first,
+            stretches: Vec::new(alloc),
+        })
+    }
+
+    /// Its id.
+    pub fn id(&self) -> u64
+        ensures { result ≡ self.now.id }
+    {
+        self.id
+    }
+
+    /// Its branch.
+    pub fn branch(&self) -> &Branch<'p>
+        ensures { result.now ≡ self.now.branch }
+    {
+        &self.branch
+    }
+
+    /// The cut where it begins, or None at X1.
+    pub fn lo(&self) -> &Option<Cut<'p>>
+        ensures { result.now ≡ self.now.branch.lo }
+    {
+        &self.branch.lo
+    }
+
+    /// The cut where it ends, or None at Done.
+    pub fn hi(&self) -> &Option<Cut<'p>>
+        ensures { result.now ≡ self.now.branch.hi }
+    {
+        &self.branch.hi
+    }
+
+    /// How it stands.
+    pub fn status(&self) -> Status
+        ensures { result ≡ self.now.status }
+    {
+        self.status
+    }
+
+    /// Whether its worker is asked to stop.
+    pub fn stop(&self) -> bool
+        ensures { result ≡ self.now.stop }
+    {
+        self.stop
+    }
+
+    /// Where its search began.
+    pub fn first_mark(&self) -> &State
+        ensures { state_value result.now ≡ self.now.first }
+    {
+        self.first.state()
+    }
+
+    /// The stretches that were posted, in order.
+    pub fn stretches(&self) -> &[Stretch<'p>]
+        ensures { result.now ≡ self.now.stretches }
+    {
+        &self.stretches
+    }
+
+    /// Where the posted stretches end.
+    pub fn mark(&self) -> &State
+        ensures { state_value result.now ≡ mark_of self.now }
+    {
+        match self.stretches.last() {
+            Some(stretch) => stretch.to(),
+            None => self.first.state(),
+        }
+    }
+
+    /// The state that ends it.
+    pub(crate) fn end(&self) -> &State
+        ensures { state_value result.now ≡ tile_end self.now }
+    {
+        self.end.state()
+    }
+
+    /// Stands so from now on.
+    pub(crate) fn settle(&mut self, status: Status, stop: bool)
+        ensures { self.new ≡ record self.old { status = status; stop = stop } }
+    {
+        self.status = status;
+        self.stop = stop;
+    }
+
+    /// Adds a stretch; where memory runs out, nothing changes and it comes back.
+    pub(crate) fn add(&mut self, stretch: Stretch<'p>) -> Result<(), Stretch<'p>>
+        ensures added { OnOk result (self.new ≡ posted_tile self.old stretch.entry) }
+        ensures unchanged { OnErr result (self.new ≡ self.old) }
+        ensures given_back { IfErr result (λ s. s ≡ stretch.entry) }
+    {
+        if self.stretches.reserve(1).is_err() {
+            return Err(stretch);
+        }
+        self.stretches.push_reserved(stretch);
+        Ok(())
+    }
+
+    /// Takes the last stretch out.
+    pub(crate) fn retract(&mut self) -> Stretch<'p>
+        requires { 0 < length self.old.stretches }
+        ensures tile { self.new ≡ retracted_tile self.old }
+        ensures stretch { last_of self.old.stretches ≡ Some result }
+    {
+        let Some(stretch) = self.stretches.pop() else {
+            unreachable!()
+        };
+        stretch
+    }
+
+    /// Keeps the first stretches alone.
+    pub(crate) fn put_back(&mut self, count: usize)
+        requires { count ≤ length self.old.stretches }
+        ensures { self.new ≡ record self.old { stretches = take count self.old.stretches } }
+    {
+        self.stretches.truncate(count);
+    }
+
+    /// How many stretches come before the first of its marks that is this state.
+    pub(crate) fn mark_place(&self, state: &State) -> Option<usize>
+        ensures place { option_map (λ n. take n self.now.stretches) result ≡
+            stretches_to (state_value state.now) self.now.first self.now.stretches }
+        ensures within { IfSome result (λ n. n ≤ length self.now.stretches) }
+    {
+        mark_place(state, self.first.state(), &self.stretches)
+    }
+
+    /// Adds the paths that its stretches visit; where memory runs out, some may be there.
+    pub(crate) fn add_visits(&self, visits: &mut Paths) -> Result<(), AllocError>
+        ensures { OnOk result (visits.new ≡ visits.old ++ stretch_visits self.now.stretches) }
+    {
+        for stretch in self.stretches() {
+            visits.append(stretch.visits())?;
+        }
+        Ok(())
+    }
+}

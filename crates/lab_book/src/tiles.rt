@@ -1,0 +1,225 @@
+//! The tiles of a book in order, with what is kept beside them so that no call has to go over all.
+ghost use Rattle.std.specs.Prelude.{◌≡◌, ◌⊎◌, ◌≤◌, ◌<◌, ◌+◌, ◌-◌, ◌^◌, true, false, not, Some, take, cond, [], ◌∷◌, length, slice_set, Option, None, IsOk, IfSome, OnOk, OnErr, IfErr, IfOk};
+ghost use Rattle.lab_book.specs.Tile.{TileValue, is_leased, is_waiting, is_held, is_closed, mark_of};
+ghost use Rattle.lab_book.specs.Tiling.{tile_at, AreNumbered};
+ghost use Rattle.lab_book.specs.Book.{place_of, first_waiting, waiting_in, leased_in, found, status_fault, lease_fault, posted_tile, retracted_tile, last_of};
+ghost use Rattle.lab_book.specs.Calls.{Judged, is_current};
+
+use crate::fault::BookFault;
+use crate::lease::Grant;
+use crate::mark::Mark;
+use crate::status::Status;
+use crate::tile::Tile;
+use std::alloc::{AllocError, Global};
+use std::marker::Model;
+use x_branches::Stretch;
+
+/// The tiles in order, the place of each id, and how many tiles wait and are leased.
+#[derive(Drop)]
+pub(crate) struct Tiles<'p> {
+    list: Vec<Tile<'p>>,
+    places: Vec<usize>,
+    waiting: usize,
+    leased: usize,
+}
+
+impl<'p> Model for Tiles<'p> {
+    ghost use Rattle.std.specs.Prelude.{List};
+    ghost use Rattle.lab_book.specs.Tile.{TileValue};
+    ghost use Rattle.lab_book.specs.Index.{KeepsTiles};
+
+    ghost Value = { List TileValue };
+
+    ghost view = { λ t. t.list.items };
+
+    ghost invariant = { λ t. KeepsTiles t.list.items t.places.items t.waiting t.leased };
+}
+
+/// How many pass a test, where one that did or didn't now does or doesn't.
+fn recounted(count: usize, did: bool, does: bool) -> usize
+    requires some { did ≡ true → 0 < count }
+    requires small { does ≡ true → count < 2 ^ 64 - 1 }
+    ensures { result + cond did 1 0 ≡ count + cond does 1 0 }
+{
+    match (did, does) {
+        (true, false) => count - 1,
+        (false, true) => count + 1,
+        _ => count,
+    }
+}
+
+/// The refusal of a lease that isn't a tile's current one.
+pub(crate) fn stale(tile: &Tile<'_>) -> BookFault
+    ensures { (result ≡ BookFault.OutOfMemory) ⊎ (result ≡ BookFault.StaleLease (mark_of tile.now)) }
+{
+    match Mark::of(tile.mark()) {
+        Ok(mark) => BookFault::StaleLease(mark),
+        Err(_) => BookFault::OutOfMemory,
+    }
+}
+
+impl<'p> Tiles<'p> {
+    /// One tile, which waits and has the first id.
+    pub fn of(alloc: Global, tile: Tile<'p>) -> Result<Tiles<'p>, AllocError>
+        requires id { tile.id ≡ 0 }
+        requires waits { tile.status ≡ Status.Waiting }
+        ensures { IfOk result (λ tiles. tiles ≡ tile.entry ∷ []) }
+    {
+        let mut list = Vec::with_capacity(alloc, 1)?;
+        let mut places = Vec::with_capacity(alloc, 1)?;
+        list.push_reserved(tile);
+        places.push_reserved(0);
+        Ok(Tiles {
+            list,
+            places,
+            waiting: 1,
+            leased: 0,
+        })
+    }
+
+    /// The tiles.
+    pub fn list(&self) -> &[Tile<'p>]
+        ensures tiles { result.now ≡ self.now }
+        ensures numbered { AreNumbered self.now }
+    {
+        &self.list
+    }
+
+    /// How many wait.
+    pub fn waiting(&self) -> u64
+        ensures { result ≡ waiting_in self.now }
+    {
+        self.waiting as u64
+    }
+
+    /// The place of the tile with an id.
+    pub fn place(&self, id: u64) -> Option<usize>
+        ensures place { result ≡ place_of id self.now }
+        ensures within { IfSome result (λ i. i < length self.now) }
+    {
+        let id = id as usize;
+        if id < self.places.len() {
+            Some(self.places[id])
+        } else {
+            None
+        }
+    }
+
+    /// The place of the tile with an id, which has to wait.
+    pub fn waiting_place(&self, id: u64) -> Result<usize, BookFault>
+        ensures place { result ≡ found self.now id (λ t. status_fault (is_waiting t.status) t) }
+        ensures within { IfOk result (λ i. i < length self.now) }
+        ensures waits { IfOk result (λ i. (tile_at self.now i).status ≡ Status.Waiting) }
+    {
+        let Some(i) = self.place(id) else {
+            return Err(BookFault::UnknownBranch);
+        };
+        match self.tile(i).status() {
+            Status::Waiting => Ok(i),
+            _ => Err(BookFault::NotWaiting),
+        }
+    }
+
+    /// The place of the tile with an id, which has to be held.
+    pub fn held_place(&self, id: u64) -> Result<usize, BookFault>
+        ensures place { result ≡ found self.now id (λ t. status_fault (is_held t.status) t) }
+        ensures within { IfOk result (λ i. i < length self.now) }
+        ensures held { IfOk result (λ i. (tile_at self.now i).status ≡ Status.Held) }
+    {
+        let Some(i) = self.place(id) else {
+            return Err(BookFault::UnknownBranch);
+        };
+        match self.tile(i).status() {
+            Status::Held => Ok(i),
+            _ => Err(BookFault::NotWaiting),
+        }
+    }
+
+    /// The place of the tile with an id, which must not be closed.
+    pub fn open_place(&self, id: u64) -> Result<usize, BookFault>
+        ensures place { result ≡ found self.now id (λ t. status_fault (not (is_closed t.status)) t) }
+        ensures within { IfOk result (λ i. i < length self.now) }
+        ensures not_closed { IfOk result (λ i. is_closed (tile_at self.now i).status ≡ false) }
+    {
+        let Some(i) = self.place(id) else {
+            return Err(BookFault::UnknownBranch);
+        };
+        match self.tile(i).status() {
+            Status::Closed => Err(BookFault::NotWaiting),
+            _ => Ok(i),
+        }
+    }
+
+    /// The place of the first tile that waits.
+    pub fn first_waiting(&self) -> Option<usize>
+        ensures place { result ≡ first_waiting self.now }
+        ensures within { IfSome result (λ i. i < length self.now) }
+    {
+        self.list.iter().position(|tile| tile.status().is_waiting())
+    }
+
+    /// The tile at a place.
+    pub fn tile(&self, i: usize) -> &Tile<'p>
+        requires { i < length self.now }
+        ensures { result.now ≡ tile_at self.now i }
+    {
+        &self.list[i]
+    }
+
+    /// The place of the tile whose current lease this is.
+    pub fn leased_place(&self, lease: Grant) -> Result<usize, BookFault>
+        ensures place { Judged result (found self.now lease.id (λ t. lease_fault lease t None)) }
+        ensures within { IfOk result (λ i. i < length self.now) }
+        ensures leased { IfOk result (λ i. is_leased (tile_at self.now i).status ≡ true) }
+        ensures current { is_current self.now lease ≡ true → IsOk result }
+    {
+        let Some(i) = self.place(lease.id) else {
+            return Err(BookFault::UnknownBranch);
+        };
+        let tile = self.tile(i);
+        if !tile.status().is_lease(lease) {
+            return Err(stale(tile));
+        }
+        Ok(i)
+    }
+
+    /// The tile at a place stands so from now on.
+    pub fn settle(&mut self, i: usize, status: Status, stop: bool)
+        requires { i < length self.old }
+        ensures { self.new ≡ slice_set self.old i (record (tile_at self.old i) { status = status; stop = stop }) }
+    {
+        let old = self.list[i].status();
+        self.waiting = recounted(self.waiting, old.is_waiting(), status.is_waiting());
+        self.leased = recounted(self.leased, old.is_leased(), status.is_leased());
+        self.list[i].settle(status, stop);
+    }
+
+    /// Adds a stretch to the tile at a place; where memory runs out, nothing changes and it comes back.
+    pub fn add(&mut self, i: usize, stretch: Stretch<'p>) -> Result<(), Stretch<'p>>
+        requires { i < length self.old }
+        ensures added { OnOk result (self.new ≡ slice_set self.old i (posted_tile (tile_at self.old i) stretch.entry)) }
+        ensures unchanged { OnErr result (self.new ≡ self.old) }
+        ensures given_back { IfErr result (λ s. s ≡ stretch.entry) }
+    {
+        self.list[i].add(stretch)
+    }
+
+    /// Takes the last stretch of the tile at a place out.
+    pub fn retract(&mut self, i: usize) -> Stretch<'p>
+        requires within { i < length self.old }
+        requires some { 0 < length (tile_at self.old i).stretches }
+        ensures tiles { self.new ≡ slice_set self.old i (retracted_tile (tile_at self.old i)) }
+        ensures stretch { last_of (tile_at self.old i).stretches ≡ Some result }
+    {
+        self.list[i].retract()
+    }
+
+    /// Keeps the first stretches of the tile at a place alone.
+    pub fn put_back(&mut self, i: usize, count: usize)
+        requires within { i < length self.old }
+        requires some { count ≤ length (tile_at self.old i).stretches }
+        ensures { self.new ≡ slice_set self.old i (record (tile_at self.old i) { stretches = take count (tile_at self.old i).stretches }) }
+    {
+        self.list[i].put_back(count);
+    }
+}

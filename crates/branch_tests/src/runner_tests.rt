@@ -269,3 +269,26 @@ fn a_stretch_from_before_the_branch_is_refused(rt: HostRuntime) -> Result<(), Fa
     }
     Ok(())
 }
+
+/// Whether the stretch that a runner at its mark hands out, copied, begins and ends there and has nothing in it.
+fn hands_out_no_step(alloc: Global, problem: &Problem) -> Result<bool, Fail> {
+    let mut runner = whole(alloc, problem)?;
+    let stretch = runner.take_stretch()?.copy()?;
+    let state = runner.state();
+    Ok(
+        stretch.problem().same(problem)
+            && stretch.from().same(state)
+            && stretch.to().same(state)
+            && stretch.steps() == 0
+            && stretch.visits().len() == 0
+            && stretch.levels().is_empty(),
+    )
+}
+
+#[test]
+fn a_runner_at_its_mark_hands_out_no_step(rt: HostRuntime) -> Result<(), Fail> {
+    let alloc = rt.alloc();
+    let problem = small(alloc)?;
+    assert!(rt; hands_out_no_step(alloc, &problem)?);
+    Ok(())
+}

@@ -46,12 +46,12 @@ module _ (b : BookValue) (w : ℕ) (c : Call) (r : Reply) (o : Outcome) (ts : Li
 
 -- ---- the place that a call finds
 
--- an answer that isn't want of memory is the right one
+-- an answer that isn't OutOfMemory is the right one
 pub judged_ok : (r s : Result ℕ BookFault) (i : ℕ) → Judged r s → r ≡ Ok i → s ≡ Ok i
 judged_ok r s i (inl a) e = absurd (cc)
 judged_ok r s i (inr a) e = sym a ∙ e
 
--- a fault that was found is want of memory, or the call's refusal
+-- a fault that was found is OutOfMemory, or the call's refusal
 pub judged_err : (b : BookValue) (w : ℕ) (c : Call) (change : ℕ → Outcome) (r s : Result ℕ BookFault) (f : BookFault) → outcome b w c ≡ made_at b.tiles change s → Judged r s → r ≡ Err f → (f ≡ OutOfMemory) ⊎ (outcome b w c ≡ refused b.tiles f)
 judged_err b w c change r s f o (inl a) e = inl (cc)
 judged_err b w c change r s f o (inr a) e = inr (o ∙ ap (made_at b.tiles change) (sym a ∙ e))

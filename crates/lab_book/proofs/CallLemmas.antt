@@ -101,7 +101,7 @@ module _ (b : BookValue) (w : ℕ) where
 
 -- ---- further checks of a leased tile
 
--- want of memory, or a refusal, told of the whole search
+-- out of memory, or a refusal, told of the whole search
 pub judged_stale : (ts : List TileValue) (g : Grant) (more : TileValue → Option BookFault) (r : Result ℕ BookFault) (f : BookFault) → Judged r (found ts g.id (λ t. lease_fault g t None)) → r ≡ Err f
     → ((h : BookFault) → found ts g.id (λ t. lease_fault g t None) ≡ Err h → found ts g.id (λ t. lease_fault g t (more t)) ≡ Err h) → Judged (Err f) (found ts g.id (λ t. lease_fault g t (more t)))
 judged_stale ts g more r f (inl a) e s = inl (sym e ∙ a)

@@ -21,7 +21,7 @@ pub record Made (old new : BookValue) (w : ℕ) (c : Call) (r : Reply) : Type 0 
   pub book : new ≡ book_step old w c
   pub reply : r ≡ (outcome old w c).reply
 
--- a call was refused: for want of memory nothing has changed, else the book made it and answered so
+-- a call was refused: when out of memory nothing has changed, else the book made it and answered so
 abbrev pub Refuses : BookValue → BookValue → ℕ → Call → BookFault → Type 0
 Refuses old new w c f = ((f ≡ OutOfMemory) × (new ≡ old)) ⊎ ((f ≡ OutOfMemory → ⊥) × Made old new w c (reply.Refused f))
 
@@ -53,11 +53,11 @@ PostRefused old new g x f = Refuses old new g.worker (post_of old.problem g x) f
 abbrev pub is_current : List TileValue → Grant → Bool
 is_current ts g = is_ok (found ts g.id (λ t. lease_fault g t None))
 
--- a search of the tiles: the answer of the definition, unless memory is wanting
+-- a search of the tiles: the answer of the definition, unless memory ran out
 abbrev pub Judged : Result ℕ BookFault → Result ℕ BookFault → Type 0
 Judged answer right = (answer ≡ Err OutOfMemory) ⊎ (answer ≡ right)
 
--- what stands against a call: what the definition says, unless memory is wanting
+-- what stands against a call: what the definition says, unless memory ran out
 abbrev pub Doubted : Option BookFault → Option BookFault → Type 0
 Doubted answer right = (answer ≡ Some OutOfMemory) ⊎ (answer ≡ right)
 

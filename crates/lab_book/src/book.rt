@@ -211,7 +211,7 @@ impl<'p> Book<'p> {
         Ok(visits)
     }
 
-    /// Notes a refusal in the history, unless it is, or meets, want of memory.
+    /// Notes a refusal in the history, unless memory ran out, or runs out here.
     fn refuse(&mut self, w: u8, call: Call, fault: BookFault) -> BookFault
         requires { (fault ≡ BookFault.OutOfMemory) ⊎ (outcome self.old w call ≡ refused self.old.tiles fault) }
         ensures { Refuses self.old self.new w call result }

@@ -3,7 +3,7 @@ use Rattle.std.specs.Prelude.{ℕ, Option, Some, None, List, codes}
 use Rattle.poly_place.specs.declared.fault.PlaceFault.{PlaceFault}
 use Rattle.poly_place.specs.declared.fault.PlaceFault.TheVariants.{TooManyOptions, OutOfMemory}
 
--- the number of a refusal; want of memory has none
+-- the number of a refusal; out of memory has none
 abbrev pub number_of : PlaceFault → Option ℕ
 number_of TooManyOptions = Some 1
 number_of OutOfMemory = None

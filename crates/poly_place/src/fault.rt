@@ -15,7 +15,7 @@ pub enum PlaceFault {
 }
 
 impl PlaceFault {
-    /// Its number; want of memory has none.
+    /// Its number; OutOfMemory has none.
     pub fn number(self) -> Option<u8>
         ensures { result ≡ number_of self }
     {

@@ -70,7 +70,8 @@ impl LinkTable {
     pub fn node(&self, x: u32) -> Node
         requires some { 0 < x }
         requires within { x < size_of self.now.problem }
-        ensures { result ≡ table.printed_node (length self.now.problem.names) x (entry_at (block_of self.now.problem self.now.covered) x) }
+        ensures { result ≡ table.printed_node (length self.now.problem.names) x
+            (entry_at (block_of self.now.problem self.now.covered) x) }
     {
         let entry = self.block.read(x);
         let is_spacer = x > self.items && entry.right == 0;

@@ -46,7 +46,8 @@ impl Model for PlainTable {
 
     ghost view = { λ a. record { problem = a.problem.value; covered = a.covered.items } };
 
-    ghost invariant = { λ a. IsPlain a.problem.value a.primary (items_of a.options.items) (items_of a.holders.items) a.covered.items a.times.items NEVER (vec_capacity a.covered) };
+    ghost invariant = { λ a. IsPlain a.problem.value a.primary (items_of a.options.items) (items_of a.holders.items)
+        a.covered.items a.times.items NEVER (vec_capacity a.covered) };
 }
 
 /// Whether one of an option's items was covered before this time.

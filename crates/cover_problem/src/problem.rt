@@ -71,8 +71,10 @@ impl Problem {
     ) -> Result<Problem, Refused<ProblemFault, (Vec<String>, Vec<Vec<u32>>)>>
         ensures made { IfOk result (λ p. problem_from (texts_of names.items) primary (items_of options.items) ≡ Ok p) }
         ensures parts { IfOk result (λ p. p ≡ problem_with (texts_of names.items) primary (items_of options.items)) }
-        ensures refused { IfErr result (λ r. IsFaultOf r.fault (problem_from (texts_of names.items) primary (items_of options.items))) }
-        ensures primary { IsErrAnd result (λ r. r.fault ≡ refusals.Fault NoItemLine) ↔ (is_item (length names.items) primary ≡ false) }
+        ensures refused { IfErr result (λ r. IsFaultOf r.fault
+            (problem_from (texts_of names.items) primary (items_of options.items))) }
+        ensures primary { IsErrAnd result (λ r. r.fault ≡ refusals.Fault NoItemLine) ↔
+            (is_item (length names.items) primary ≡ false) }
         ensures given { IfErr result (λ r. r.given ≡ (names, options)) }
     {
         match checked_names(alloc, &names, primary, &options) {

@@ -113,7 +113,8 @@ fn checked_parts(
     options: &[Vec<u32>],
 ) -> Result<IndexSet<Name>, ProblemFault>
     requires { problem.is_item (length names.now) primary ≡ true }
-    ensures { Gives (λ these. problem_of_parts these.keys primary options.now) result (making.problem_from (texts_of names.now) primary (items_of options.now)) }
+    ensures { Gives (λ these. problem_of_parts these.keys primary options.now) result
+        (making.problem_from (texts_of names.now) primary (items_of options.now)) }
 {
     let these = take_names(alloc, names)?;
     check_options(alloc, names.len(), options)?;
@@ -130,7 +131,8 @@ pub fn checked_names(
     primary: u32,
     options: &[Vec<u32>],
 ) -> Result<IndexSet<Name>, ProblemFault>
-    ensures names { Gives (λ these. problem_of_parts these.keys primary options.now) result (making.problem_from (texts_of names.now) primary (items_of options.now)) }
+    ensures names { Gives (λ these. problem_of_parts these.keys primary options.now) result
+        (making.problem_from (texts_of names.now) primary (items_of options.now)) }
     ensures primary { IsErrOf result (refusals.Fault NoItemLine) ↔ (problem.is_item (length names.now) primary ≡ false) }
 {
     if primary == 0 || primary as usize > names.len() {

@@ -45,9 +45,21 @@ impl<'p> Model for Book<'p> {
 
     ghost Value = { BookValue };
 
-    ghost view = { λ b. record { problem = b.problem.now; branch = b.branch; first = b.first; tiles = b.tiles; history = b.history.entries } };
+    ghost view = { λ b. record {
+      problem = b.problem.now;
+      branch = b.branch;
+      first = b.first;
+      tiles = b.tiles;
+      history = b.history.entries;
+    } };
 
-    ghost invariant = { λ b. KeepsBook (record { problem = b.problem.now; branch = b.branch; first = b.first; tiles = b.tiles; history = b.history.entries }) b.history.kept };
+    ghost invariant = { λ b. KeepsBook (record {
+      problem = b.problem.now;
+      branch = b.branch;
+      first = b.first;
+      tiles = b.tiles;
+      history = b.history.entries;
+    }) b.history.kept };
 }
 
 /// Whether a search can start at a state of a branch: refused as a runner is there.

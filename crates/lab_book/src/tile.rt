@@ -34,7 +34,14 @@ impl<'p> Model for Tile<'p> {
 
     ghost Value = { TileValue };
 
-    ghost view = { λ t. record { id = t.id; branch = t.branch; status = t.status; stop = t.stop; first = t.first; stretches = t.stretches.items } };
+    ghost view = { λ t. record {
+      id = t.id;
+      branch = t.branch;
+      status = t.status;
+      stop = t.stop;
+      first = t.first;
+      stretches = t.stretches.items;
+    } };
 
     ghost invariant = { λ t. t.end ≡ end_of t.branch.hi };
 }

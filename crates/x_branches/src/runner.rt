@@ -40,9 +40,19 @@ impl<'p, T: Table> Model for Runner<'p, T> {
 
     ghost Value = { RunnerValue };
 
-    ghost view = { λ r. record { problem = r.machine.problem; branch = r.branch; mark = state_value r.mark; position = r.machine.state } };
+    ghost view = { λ r. record {
+      problem = r.machine.problem;
+      branch = r.branch;
+      mark = state_value r.mark;
+      position = r.machine.state;
+    } };
 
-    ghost invariant = { λ r. KeepsRunner (record { problem = r.machine.problem; branch = r.branch; mark = state_value r.mark; position = r.machine.state }) r.steps r.visits r.counts.items };
+    ghost invariant = { λ r. KeepsRunner (record {
+      problem = r.machine.problem;
+      branch = r.branch;
+      mark = state_value r.mark;
+      position = r.machine.state;
+    }) r.steps r.visits r.counts.items };
 }
 
 /// Counts a state at its level, if it is one of X2.

@@ -34,7 +34,7 @@ gallery-long: build
 
 # Each command line shown in the README, the recipes, the tutorial and the man page is run, and has to print what is shown.
 check-docs: build
-	@tools/check_docs README.md docs/RECIPES.md docs/TUTORIAL.md docs/polylab.1
+	@tools/check_docs README.md docs/RECIPES.md docs/TUTORIAL.md docs/DEBUGGER.md docs/polylab.1
 
 # Puts packings through the checker and the drawer; a spoilt one has to be found.
 check-tools: build

@@ -9,7 +9,7 @@ use Rattle.lab_book.specs.declared.entry.Call.{Call}
 use Rattle.lab_book.specs.declared.entry.Call.TheVariants as call
 use Rattle.lab_book.specs.Tile.{TileValue, is_waiting, is_held, freed_status, is_closed}
 use Rattle.lab_book.specs.Tiling.{tile_at}
-use Rattle.lab_book.specs.Book.{BookValue, Outcome, outcome, found, unless, status_fault, lease_fault, stretch_fault, end_fault, made_at, refused, lent, lent_any, first_waiting, posted, settled, freed, closed, asked_to_stop, retracted, retract_fault, put_back, mark_fault}
+use Rattle.lab_book.specs.Book.{BookValue, Outcome, outcome, found, unless, status_fault, lease_fault, stretch_fault, cut_fault, end_fault, made_at, refused, lent, lent_any, first_waiting, posted, split, settled, freed, closed, asked_to_stop, retracted, retract_fault, put_back, mark_fault}
 use Rattle.lab_book.specs.Calls.{Judged, Doubted}
 use Rattle.lab_book.proofs.BookLemmas.{judged_ok, judged_err}
 
@@ -98,6 +98,14 @@ module _ (b : BookValue) (w : ℕ) where
   pub post_err : (g : Grant) (from to : StateValue) (same : Bool) (r : Result ℕ BookFault) (f : BookFault) → Judged r (found b.tiles g.id (λ t. lease_fault g t (stretch_fault b.problem from to same t))) → r ≡ Err f → (f ≡ OutOfMemory) ⊎ (outcome b w (call.Post g from to same) ≡ refused b.tiles f)
   unfolding outcome
   post_err g from to same r f j h = judged_err b w (call.Post g from to same) (posted b from to) r (found b.tiles g.id (λ t. lease_fault g t (stretch_fault b.problem from to same t))) f refl j h
+
+  pub split_ok : (g : Grant) (path : List ℕ) (same : Bool) (r : Result ℕ BookFault) (i : ℕ) → Judged r (found b.tiles g.id (λ t. lease_fault g t (cut_fault b.problem path same t))) → r ≡ Ok i → outcome b w (call.Split g path same) ≡ split b path i
+  unfolding outcome
+  split_ok g path same r i j h = made_ok (call.Split g path same) (split b path) (found b.tiles g.id (λ t. lease_fault g t (cut_fault b.problem path same t))) i refl (judged_ok r _ i j h)
+
+  pub split_err : (g : Grant) (path : List ℕ) (same : Bool) (r : Result ℕ BookFault) (f : BookFault) → Judged r (found b.tiles g.id (λ t. lease_fault g t (cut_fault b.problem path same t))) → r ≡ Err f → (f ≡ OutOfMemory) ⊎ (outcome b w (call.Split g path same) ≡ refused b.tiles f)
+  unfolding outcome
+  split_err g path same r f j h = judged_err b w (call.Split g path same) (split b path) r (found b.tiles g.id (λ t. lease_fault g t (cut_fault b.problem path same t))) f refl j h
 
 -- ---- further checks of a leased tile
 

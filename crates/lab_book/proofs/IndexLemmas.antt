@@ -1,5 +1,5 @@
 -- The places of ids and the numbers of tiles that wait and are leased.
-use Rattle.std.proofs.Common.{◌≡◌, ℕ, ◌+◌, ◌<◌, ◌≤◌, ◌⊎◌, ◌==◌, Bool, true, false, cond, Some, None, List, length, get_or, refl, sym, ap, ◌∙◌, subst, inl, inr, arith, eq-eqb, lt-ltb}
+use Rattle.std.proofs.Common.{◌≡◌, ℕ, ◌+◌, ◌<◌, ◌≤◌, ◌⊎◌, ◌==◌, Bool, true, false, cond, Some, None, List, [], ◌∷◌, ◌++◌, length, map, get_or, refl, sym, ap, ◌∙◌, subst, inl, inr, arith, eq-eqb, lt-ltb}
 use Rattle.std.specs.Prelude.{count_by, slice_index}
 use Rattle.std.specs.List.{position}
 use Rattle.std.proofs.Math.ListN.{set}
@@ -10,8 +10,10 @@ use Rattle.std.proofs.lemmas.List.Sums.{position_or_len_is, sum_by-set, count_by
 use Rattle.lab_book.specs.declared.status.Status.{Status}
 use Rattle.lab_book.specs.Tile.{TileValue, is_waiting, is_leased}
 use Rattle.lab_book.specs.Tiling.{AreNumbered, no_tile, tile_at}
-use Rattle.lab_book.specs.Book.{place_of}
-use Rattle.lab_book.specs.Index.{ArePlaces, KeepsTiles}
+use Rattle.x_branches.specs.Cut.{CutPath}
+use Rattle.lab_book.specs.Book.{place_of, head_tile, tail_tile}
+use Rattle.lab_book.specs.Index.{ArePlaces, KeepsTiles, moved_up}
+use Rattle.lab_book.proofs.InsertLemmas.{with_two, places_two, count_two}
 use Rattle.lab_book.proofs.TilingLemmas.{ids_set}
 
 -- the first place that passes a test, where one does and none before it
@@ -99,6 +101,31 @@ keeps_same ts places waiting leased i t u k l e a b =
     let old : t ≡ tile_at ts i = e ∙ get_or_default ts i t no_tile l in
     let same : u.status ≡ (tile_at ts i).status = b ∙ ap (λ (t : TileValue). t.status) old in
     keeps_set ts places waiting leased waiting leased i u k l (a ∙ ap (λ (t : TileValue). t.id) old) (rw same refl) (rw same refl)
+
+-- a tile is parted in two, and the second waits
+pub keeps_split : (ts us : List TileValue) (places moved : List ℕ) (waiting leased i n : ℕ) (t u r : TileValue) (cut : CutPath) → KeepsTiles ts places waiting leased → i < length ts
+    → t ≡ get_or ts i t → u ≡ head_tile t cut → n ≡ length ts → r ≡ tail_tile n t cut → us ≡ with_two ts i u r → moved ≡ map (moved_up i) places ++ (i + 1) ∷ []
+    → KeepsTiles us moved (waiting + 1) leased
+keeps_split ts us places moved waiting leased i n t u r cut k l et eu en er es em =
+    let old : t ≡ tile_at ts i = et ∙ get_or_default ts i t no_tile l in
+    let id : u.id ≡ (tile_at ts i).id = ap (λ (t : TileValue). t.id) eu ∙ ap (λ (t : TileValue). t.id) old in
+    let same : u.status ≡ (tile_at ts i).status = ap (λ (t : TileValue). t.status) eu ∙ ap (λ (t : TileValue). t.status) old in
+    let new : r.id ≡ length ts = ap (λ (t : TileValue). t.id) er ∙ en in
+    let free = ap (λ (t : TileValue). t.status) er in
+    let a = count_two (λ (t : TileValue). is_waiting t.status) ts i u r l (ap is_waiting same) in
+    let b = count_two (λ (t : TileValue). is_leased t.status) ts i u r l (ap is_leased same) in
+    let c : cond {A = ℕ} (is_waiting r.status) 1 0 ≡ 1 = ap {B = ℕ} (λ s. cond (is_waiting s) 1 0) free in
+    let d : cond {A = ℕ} (is_leased r.status) 1 0 ≡ 0 = ap {B = ℕ} (λ s. cond (is_leased s) 1 0) free in
+    let e = k.waiting_are in
+    let f = k.leased_are in
+    rw (es, em) (record { index = places_two ts i u r l id places k.index new; waiting_are = omega arith; leased_are = omega arith })
+
+pub split_numbered : (ts us : List TileValue) (places moved : List ℕ) (waiting leased i n : ℕ) (t u r : TileValue) (cut : CutPath) → KeepsTiles ts places waiting leased → i < length ts
+    → t ≡ get_or ts i t → u ≡ head_tile t cut → n ≡ length ts → r ≡ tail_tile n t cut → us ≡ with_two ts i u r → moved ≡ map (moved_up i) places ++ (i + 1) ∷ []
+    → AreNumbered us
+split_numbered ts us places moved waiting leased i n t u r cut k l et eu en er es em =
+    let kept = keeps_split ts us places moved waiting leased i n t u r cut k l et eu en er es em in
+    numbered moved us kept.index
 
 -- a count is at most the number of tiles, and above 0 where a tile passes
 pub count_within : (f : TileValue → Bool) (ts : List TileValue) (n : ℕ) → n ≡ count_by f ts → n ≤ length ts

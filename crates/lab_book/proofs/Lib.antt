@@ -1,7 +1,12 @@
 pub mod TileLemmas
 pub mod TilingLemmas
-pub mod IndexLemmas
 pub mod BookLemmas
 pub mod CallLemmas
 pub mod StepLemmas
 pub mod PostedLemmas
+pub mod InsertLemmas
+pub mod IndexLemmas
+pub mod SplitLemmas
+pub mod CountLemmas
+pub mod SumLemmas
+pub mod RiseLemmas

@@ -21,17 +21,17 @@ use Rattle.lab_book.proofs.TileLemmas.{end_fits, end_after}
 
 -- ---- stretches that join
 
-joined_up : (p : ProblemValue) (s : StateValue) (xs : List StretchValue) → Join p s xs → Fits p s → rank p s ≤ rank p (led_to s xs)
+pub joined_up : (p : ProblemValue) (s : StateValue) (xs : List StretchValue) → Join p s xs → Fits p s → rank p s ≤ rank p (led_to s xs)
 joined_up p s [] j f = omega arith
 joined_up p s (x ∷ xs) j f =
     let a = end_after p s x.to j.2 in
     let b = joined_up p x.to xs j.3 (end_fits p s x.to j.2) in omega arith
 
-joined_fits : (p : ProblemValue) (s : StateValue) (xs : List StretchValue) → Join p s xs → Fits p s → Fits p (led_to s xs)
+pub joined_fits : (p : ProblemValue) (s : StateValue) (xs : List StretchValue) → Join p s xs → Fits p s → Fits p (led_to s xs)
 joined_fits p s [] j f = f
 joined_fits p s (x ∷ xs) j f = joined_fits p x.to xs j.3 (end_fits p s x.to j.2)
 
-joined_visits : (p : ProblemValue) (s : StateValue) (xs : List StretchValue) → Join p s xs → Fits p s → stretch_visits xs ≡ visits_between p s (led_to s xs)
+pub joined_visits : (p : ProblemValue) (s : StateValue) (xs : List StretchValue) → Join p s xs → Fits p s → stretch_visits xs ≡ visits_between p s (led_to s xs)
 joined_visits p s [] j f = sym (visits_between_self p s f)
 joined_visits p s (x ∷ xs) j f =
     let g = end_fits p s x.to j.2 in
@@ -44,31 +44,31 @@ joined_visits p s (x ∷ xs) j f =
 
 -- a closed tile's stretches go from its first mark to its end
 module _ (p : ProblemValue) (t : TileValue) (i : IsTile p t) (closed : t.status ≡ Closed) where
-  closed_end : mark_of t ≡ tile_end t
+  pub closed_end : mark_of t ≡ tile_end t
   closed_end = subst (λ (s : Status). Stands s t) closed i.stands
 
-  tile_first : Fits p t.first
+  pub tile_first : Fits p t.first
   tile_first = end_fits p _ t.first i.begins
 
-  tile_up : rank p t.first ≤ rank p (tile_end t)
+  pub tile_up : rank p t.first ≤ rank p (tile_end t)
   tile_up = subst (λ (s : StateValue). rank p t.first ≤ rank p s) closed_end (joined_up p t.first t.stretches i.joins tile_first)
 
   tile_visits : stretch_visits t.stretches ≡ visits_between p t.first (tile_end t)
   tile_visits = joined_visits p t.first t.stretches i.joins tile_first ∙ ap (visits_between p t.first) closed_end
 
-first_closed : (t : TileValue) (ts : List TileValue) → AllClosed (t ∷ ts) → t.status ≡ Closed
+pub first_closed : (t : TileValue) (ts : List TileValue) → AllClosed (t ∷ ts) → t.status ≡ Closed
 first_closed t ts c = c 0 t (omega arith)
 
-rest_closed : (t : TileValue) (ts : List TileValue) → AllClosed (t ∷ ts) → AllClosed ts
+pub rest_closed : (t : TileValue) (ts : List TileValue) → AllClosed (t ∷ ts) → AllClosed ts
 rest_closed t ts c = λ k d l. c (suc k) d (omega arith)
 
 -- what tiles from a first mark to an end tell of the two
-record Reaches (p : ProblemValue) (first end : StateValue) : Type 0 where
+pub record Reaches (p : ProblemValue) (first end : StateValue) : Type 0 where
   pub from : Fits p first
   pub to : Fits p end
   pub up : rank p first ≤ rank p end
 
-tiles_reach : (p : ProblemValue) (lo : Option CutPath) (first : StateValue) (ts : List TileValue) (hi : Option CutPath) → AreTiles p lo first ts hi → AllClosed ts → Reaches p first (end_of hi)
+pub tiles_reach : (p : ProblemValue) (lo : Option CutPath) (first : StateValue) (ts : List TileValue) (hi : Option CutPath) → AreTiles p lo first ts hi → AllClosed ts → Reaches p first (end_of hi)
 tiles_reach p lo first [] hi a c = absurd a
 tiles_reach p lo first (t ∷ []) hi a c =
     subst (λ (x : StateValue × Option CutPath). Reaches p x.0 (end_of x.1)) (λ j. (a.1 j, a.3 j))

@@ -97,10 +97,10 @@ abbrev with_history : ProblemValue → Branch → StateValue → List TileValue 
 with_history p b s ts h = record { problem = p; branch = b; first = s; tiles = ts; history = h }
 
 module _ (old mid new : HistoryValue) (e : Entry) (n : ℕ) (kept : mid ≡ record old { kept = old.kept + n }) (added : new ≡ record { entries = mid.entries ++ e ∷ []; kept = mid.kept - 1 }) (some : 0 < old.kept + n) where
-  entries_are : new.entries ≡ old.entries ++ e ∷ []
+  pub entries_are : new.entries ≡ old.entries ++ e ∷ []
   entries_are = ap (λ (h : HistoryValue). h.entries) added ∙ ap (λ (h : HistoryValue). h.entries ++ e ∷ []) kept
 
-  room_is : new.kept + 1 ≡ old.kept + n
+  pub room_is : new.kept + 1 ≡ old.kept + n
   room_is =
       let a = ap (λ (h : HistoryValue). h.kept) kept in
       let b = ap (λ (h : HistoryValue). h.kept) added in omega arith

@@ -224,7 +224,7 @@ join_take p s [] (suc n) j = tt
 join_take p s (x ∷ xs) zero j = tt
 join_take p s (x ∷ xs) (suc n) j = (j.0, j.1, j.2, join_take p x.to xs n j.3)
 
-led_rank : (p : ProblemValue) (s : StateValue) (xs : List StretchValue) → Join p s xs → Fits p s → rank p s ≤ rank p (led_to s xs)
+pub led_rank : (p : ProblemValue) (s : StateValue) (xs : List StretchValue) → Join p s xs → Fits p s → rank p s ≤ rank p (led_to s xs)
 led_rank p s [] j f = omega arith
 led_rank p s (x ∷ xs) j f =
     let a = end_after p s x.to j.2 in

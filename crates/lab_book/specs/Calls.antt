@@ -4,6 +4,7 @@ use Rattle.lab_book.specs.Tile.{TileValue}
 use Rattle.std.specs.Prelude.{ℕ, ◌≡◌, ◌⊎◌, Option, Some, None, Result, Err, ◌≤◌, length, take, List, Bool, is_ok}
 use Rattle.x_steps.specs.StateView.{state_value}
 use Rattle.cover_problem.specs.Problem.{ProblemValue, is_same}
+use Rattle.x_branches.specs.Cut.{CutPath}
 use Rattle.x_branches.specs.Stretch.{StretchValue}
 use Rattle.lab_book.specs.declared.lease.Grant.{Grant}
 use Rattle.lab_book.specs.declared.lease.Leased.{Leased}
@@ -48,6 +49,18 @@ Posts old new g x r = Made old new g.worker (post_of old.problem g x) (posted_re
 -- a book refused it
 abbrev pub PostRefused : BookValue → BookValue → Grant → StretchValue → BookFault → Type 0
 PostRefused old new g x f = Refuses old new g.worker (post_of old.problem g x) f
+
+-- a split, as the history keeps it
+abbrev pub split_of : ProblemValue → Grant → CutPath → Call
+split_of p g c = call.Split g c.path (is_same c.problem p)
+
+-- a book made a split at this cut, by this lease, and answered with the new tile's id
+abbrev pub Splits : BookValue → BookValue → Grant → CutPath → ℕ → Type 0
+Splits old new g c id = Made old new g.worker (split_of old.problem g c) (reply.Split id)
+
+-- a book refused it
+abbrev pub SplitRefused : BookValue → BookValue → Grant → CutPath → BookFault → Type 0
+SplitRefused old new g c f = Refuses old new g.worker (split_of old.problem g c) f
 
 -- whether a lease is the current one of a tile
 abbrev pub is_current : List TileValue → Grant → Bool

@@ -1,5 +1,5 @@
 -- What is kept beside a list of tiles, so that no call goes over all of them.
-use Rattle.std.specs.Prelude.{ℕ, ◌≡◌, ◌<◌, List, length, slice_index}
+use Rattle.std.specs.Prelude.{ℕ, ◌≡◌, ◌<◌, ◌+◌, nat_lt, List, length, slice_index, if◌then◌else◌}
 use Rattle.lab_book.specs.Tile.{TileValue}
 use Rattle.lab_book.specs.Tiling.{tile_at}
 use Rattle.lab_book.specs.Book.{waiting_in, leased_in}
@@ -15,3 +15,7 @@ pub record KeepsTiles (ts : List TileValue) (places : List ℕ) (waiting leased 
   pub index : ArePlaces places ts
   pub waiting_are : waiting ≡ waiting_in ts
   pub leased_are : leased ≡ leased_in ts
+
+-- where a tile stands once one more stands behind the place i
+abbrev pub moved_up : ℕ → ℕ → ℕ
+moved_up i place = if nat_lt i place then place + 1 else place

@@ -1,7 +1,10 @@
 -- What was posted of a run, tile by tile.
-use Rattle.std.specs.Prelude.{ℕ, ◌≡◌, List, All}
-use Rattle.std.specs.List.{flat_map}
-use Rattle.x_steps.specs.Run.{visits_between}
+use Rattle.std.specs.Prelude.{ℕ, ◌+◌, ◌≡◌, List, All, length, map}
+use Rattle.std.specs.List.{flat_map, sum_by}
+use Rattle.cover_problem.specs.Lists.{numbers}
+use Rattle.cover_problem.specs.Problem.{ProblemValue}
+use Rattle.x_steps.specs.Levels.{without_last_zeros}
+use Rattle.x_steps.specs.Run.{level_count, states_between, steps_between, visits_between}
 use Rattle.x_branches.specs.Stretch.{StretchValue}
 use Rattle.lab_book.specs.declared.status.Status.TheVariants.{Closed}
 use Rattle.lab_book.specs.Tile.{TileValue}
@@ -17,3 +20,27 @@ posted_visits ts = flat_map (λ (t : TileValue). stretch_visits t.stretches) ts
 -- all tiles are closed
 abbrev pub AllClosed : List TileValue → Type 0
 AllClosed ts = All (λ (t : TileValue). t.status ≡ Closed) ts
+
+-- how many stretches tiles have
+abbrev pub posted_count : List TileValue → ℕ
+posted_count ts = sum_by (λ (t : TileValue). length t.stretches) ts
+
+-- how many steps stretches have
+abbrev pub stretch_steps : List StretchValue → ℕ
+stretch_steps xs = sum_by (λ (x : StretchValue). steps_between x.problem x.from x.to) xs
+
+-- and those of tiles
+abbrev pub posted_steps : List TileValue → ℕ
+posted_steps ts = sum_by (λ (t : TileValue). stretch_steps t.stretches) ts
+
+-- how many X2 states stretches have at a level
+abbrev pub stretch_level : List StretchValue → ℕ → ℕ
+stretch_level xs level = sum_by (λ (x : StretchValue). level_count (states_between x.problem x.from x.to) level) xs
+
+-- and those of tiles
+abbrev pub posted_level : List TileValue → ℕ → ℕ
+posted_level ts level = sum_by (λ (t : TileValue). stretch_level t.stretches level) ts
+
+-- how many X2 states the stretches of a problem's tiles have at each level from 0 on, as far as there are any
+abbrev pub posted_levels : ProblemValue → List TileValue → List ℕ
+posted_levels p ts = without_last_zeros (map (posted_level ts) (numbers (length p.names + 1) 0))

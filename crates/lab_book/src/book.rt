@@ -4,16 +4,15 @@ ghost use Rattle.x_steps.specs.StateView.{state_value};
 ghost use Rattle.x_steps.specs.StateValue.{start};
 ghost use Rattle.x_branches.specs.Cut.{IsCut};
 ghost use Rattle.x_branches.specs.Refusals.{CanStart, StartRefused};
-ghost use Rattle.lab_book.specs.Book.{IsBook, opened, replayed, outcome, refused};
-ghost use Rattle.x_steps.specs.Run.{visits_between};
-ghost use Rattle.x_branches.specs.Branch.{end_of};
-ghost use Rattle.lab_book.specs.Posted.{posted_visits, AllClosed};
+ghost use Rattle.lab_book.specs.Book.{IsBook, opened, replayed, outcome, refused, place_of};
 ghost use Rattle.lab_book.specs.Tiling.{IsTiling};
 ghost use Rattle.lab_book.specs.Calls.{Refuses};
 
 mod ending;
 mod leasing;
+mod posted;
 mod posting;
+mod splitting;
 mod taking_back;
 
 use crate::entry::{Call, Entry, Reply};
@@ -27,7 +26,7 @@ use cover_problem::{PlainTable, Problem, Table};
 use std::alloc::{AllocError, Global};
 use std::marker::Model;
 use x_branches::{Branch, Cut, Runner, RunnerFault, StartFault};
-use x_steps::{AtFault, Cursor, Label, Paths, Refused, State};
+use x_steps::{AtFault, Cursor, Label, Refused, State};
 
 /// The tiles into which a branch of a problem's run is parted, and the history of all calls. Its tiles are a tiling after every
 /// call, and it is the replay of its history.
@@ -191,36 +190,19 @@ impl<'p> Book<'p> {
         self.tiles.list()
     }
 
+    /// The place of the tile with an id among the tiles, without a look at the others; None where no tile has it.
+    pub fn place(&self, id: u64) -> Option<usize>
+        ensures { result ≡ place_of id self.now.tiles }
+    {
+        self.tiles.place(id)
+    }
+
     /// The entries of all calls in order: the book is their replay, with each reply.
     pub fn history(&self) -> &[Entry]
         ensures history { result.now ≡ self.now.history }
         ensures replay { replayed (opened self.now.problem self.now.branch self.now.first) self.now.history ≡ self.now }
     {
         self.history.entries()
-    }
-
-    /// Whether all tiles are closed.
-    pub fn finished(&self) -> bool
-        ensures { IsTrue result ↔ AllClosed self.now.tiles }
-    {
-        self.tiles
-            .list()
-            .iter()
-            .all(|tile| tile.status().is_closed())
-    }
-
-    /// The paths that the posted stretches visit, tile by tile: where all tiles are closed, the visits of the run from the first mark
-    /// to the branch's end, in their order.
-    pub fn visits(&self) -> Result<Paths, AllocError>
-        ensures visits { IfOk result (λ paths. paths ≡ posted_visits self.now.tiles) }
-        ensures whole { IfOk result (λ paths. AllClosed self.now.tiles →
-            paths ≡ visits_between self.now.problem self.now.first (end_of self.now.branch.hi)) }
-    {
-        let mut visits = Paths::new(*self.first.state().path.allocator());
-        for tile in self.tiles.list() {
-            tile.add_visits(&mut visits)?;
-        }
-        Ok(visits)
     }
 
     /// Notes a refusal in the history, unless memory ran out, or runs out here.

@@ -11,6 +11,7 @@ mod mark;
 mod status;
 mod tile;
 mod tiles;
+mod totals;
 
 pub use book::Book;
 pub use entry::{Call, Entry, Reply};

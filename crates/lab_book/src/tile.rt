@@ -7,8 +7,12 @@ ghost use Rattle.lab_book.specs.Tile.{mark_of, tile_end};
 ghost use Rattle.lab_book.specs.Posted.{stretch_visits};
 ghost use Rattle.lab_book.specs.Book.{whole_tile, posted_tile, retracted_tile, last_of, stretches_to};
 
+mod parting;
+mod totals;
+
 use crate::mark::Mark;
 use crate::status::Status;
+pub(crate) use parting::CutCopies;
 use std::alloc::{AllocError, Global};
 use std::marker::Model;
 use x_branches::{Branch, Cut, Stretch};

@@ -5,6 +5,8 @@ ghost use Rattle.lab_book.specs.Tiling.{tile_at, AreNumbered};
 ghost use Rattle.lab_book.specs.Book.{place_of, first_waiting, waiting_in, leased_in, found, status_fault, lease_fault, posted_tile, retracted_tile, last_of};
 ghost use Rattle.lab_book.specs.Calls.{Judged, is_current};
 
+mod splitting;
+
 use crate::fault::BookFault;
 use crate::lease::Grant;
 use crate::mark::Mark;

@@ -32,7 +32,9 @@ use Rattle.lab_engine.specs.Account.{account_of}
 use Rattle.lab_engine.specs.Output.{cover_output, whole_account}
 use Rattle.lab_engine.specs.Packed.{solve_output, count_output, options_output}
 use Rattle.lab_engine.specs.Classified.{packings_of, classes_of, classes_output}
-use Rattle.lab_engine.specs.Outcome.{outcome, covers_of, packed_of, place_refusal}
+use Rattle.lab_debug.specs.Input.{problem_text, command_lines}
+use Rattle.lab_engine.specs.Debugged.{debug_output}
+use Rattle.lab_engine.specs.Outcome.{outcome, covers_of, packed_of, place_refusal, puzzle_replies}
 use Rattle.lab_engine.specs.Listing.{ListsCovers, ListsPackings, CountsPackings, CountsClasses, ArePackingPaths, AreExactCovers, IsListed}
 
 -- ---- covers
@@ -50,9 +52,14 @@ lists p sound = record {
 }
 
 -- what is written of what was read
-listed : (read : Result ProblemValue (Fault × ℕ)) (text : List ℕ) → ((p : ProblemValue) → read ≡ Ok p → IsProblem p) → covers_of read ≡ Ok text → (p : ProblemValue) × (read ≡ Ok p) × ListsCovers p text
+listed : (read : Result ProblemValue (Fault × ℕ)) (text : List ℕ) → ((p : ProblemValue) → read ≡ Ok p → IsProblem p) → covers_of cover_output read ≡ Ok text → (p : ProblemValue) × (read ≡ Ok p) × ListsCovers p text
 listed (Ok p) text sound e = let same : cover_output p ≡ text = cc in (p, refl, subst (ListsCovers p) same (lists p (sound p refl)))
 listed (Err f) text sound e = absurd (cc)
+
+-- what commands over it are answered
+debugged : (lines : List (List ℕ)) (read : Result ProblemValue (Fault × ℕ)) (text : List ℕ) → covers_of (debug_output lines) read ≡ Ok text → (p : ProblemValue) × (read ≡ Ok p) × (text ≡ debug_output lines p)
+debugged lines (Ok p) text e = (p, refl, cc)
+debugged lines (Err f) text e = absurd (cc)
 
 -- the visits of a problem are exact covers
 pub visits_covers : (p : ProblemValue) → IsProblem p → AreExactCovers p (whole_account true p).visits
@@ -155,6 +162,10 @@ outcome_lists jobs.Solve input text e = packed ListsPackings solve_output shows 
 outcome_lists jobs.Count input text e = packed CountsPackings count_output counts (puzzle_of input) text (λ p h. puzzle_is input p (texts.read_is_text input p h)) e
 outcome_lists jobs.Classes input text e = packed CountsClasses classes_output classified (puzzle_of input) text (λ p h. puzzle_is input p (texts.read_is_text input p h)) e
 outcome_lists jobs.Options input text e = packed (λ p t. t ≡ written (packing_problem p)) options_output (λ p z s. options_are p) (puzzle_of input) text (λ p h. puzzle_is input p (texts.read_is_text input p h)) e
+outcome_lists jobs.DebugPuzzle input text e =
+    packed (λ p t. t ≡ debug_output (command_lines input) (packing_problem p)) (puzzle_replies (command_lines input)) (λ p z s. refl)
+    (puzzle_of (problem_text input)) text (λ p h. puzzle_is (problem_text input) p (texts.read_is_text (problem_text input) p h)) e
+outcome_lists jobs.DebugCover input text e = debugged (command_lines input) (problem_of (problem_text input)) text e
 
 -- the same, where the input is what a reader had left, and the text was written
 pub finished : (job : Job) (known : Option (List ℕ)) (input text : List ℕ) (old new : Option (List ℕ)) → IfSome known (λ bytes. input ≡ bytes) → Ok text ≡ outcome job input → Appends old new text

@@ -63,7 +63,7 @@ unfolding cover_output
 small_output = rw (steps_between_is small start done 43 (start_fits small) reaches_done) small_report
 
 -- `option z` on line 2, where no item has that name
-unknown_refused : covers_of (Err (UnknownItem, 2)) ≡ Err (codes "refused cover 3 UnknownItem line 2" ++ 10 ∷ [])
+unknown_refused : covers_of cover_output (Err (UnknownItem, 2)) ≡ Err (codes "refused cover 3 UnknownItem line 2" ++ 10 ∷ [])
 unfolding digits
 unknown_refused = refl
 

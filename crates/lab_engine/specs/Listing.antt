@@ -19,6 +19,8 @@ use Rattle.lab_engine.specs.declared.job.Job.TheVariants as jobs
 use Rattle.lab_engine.specs.Output.{visit_words, total_lines}
 use Rattle.lab_engine.specs.Packed.{packings_from, number_line, count_lines}
 use Rattle.lab_engine.specs.Classified.{packings_of, class_lines}
+use Rattle.lab_debug.specs.Input.{problem_text, command_lines}
+use Rattle.lab_engine.specs.Debugged.{debug_output}
 
 -- the text is a line for each of these paths, which rise in path order and are, as sets, the exact covers, each once; then
 -- how many they are, the number of steps, and the levels
@@ -68,10 +70,12 @@ pub record CountsClasses (p : PuzzleValue) (text : List ℕ) : Type 0 where
   pub by_rotations : IsClassCount (AreAlike Rotations) (packings_of p paths) rotations
   pub by_symmetries : IsClassCount (AreAlike Symmetries) (packings_of p paths) symmetries
 
--- what is written is what the job is to tell of the input's problem or puzzle
+-- what is written is what the job is to tell of the input's problem or puzzle, or what the input's commands are answered
 abbrev pub IsListed : Job → List ℕ → List ℕ → Type 0
 IsListed jobs.Cover input text = (p : ProblemValue) × (problem_of input ≡ Ok p) × ListsCovers p text
 IsListed jobs.Solve input text = (p : PuzzleValue) × (puzzle_of input ≡ Ok p) × ListsPackings p text
 IsListed jobs.Count input text = (p : PuzzleValue) × (puzzle_of input ≡ Ok p) × CountsPackings p text
 IsListed jobs.Classes input text = (p : PuzzleValue) × (puzzle_of input ≡ Ok p) × CountsClasses p text
 IsListed jobs.Options input text = (p : PuzzleValue) × (puzzle_of input ≡ Ok p) × (text ≡ written (packing_problem p))
+IsListed jobs.DebugPuzzle input text = (p : PuzzleValue) × (puzzle_of (problem_text input) ≡ Ok p) × (text ≡ debug_output (command_lines input) (packing_problem p))
+IsListed jobs.DebugCover input text = (p : ProblemValue) × (problem_of (problem_text input) ≡ Ok p) × (text ≡ debug_output (command_lines input) p)

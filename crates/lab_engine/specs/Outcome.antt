@@ -9,6 +9,8 @@ use Rattle.cover_problem.specs.Problem.{ProblemValue, is_small}
 use Rattle.cover_problem.specs.Reading.{problem_of}
 use Rattle.lab_engine.specs.declared.job.Job.{Job}
 use Rattle.lab_engine.specs.declared.job.Job.TheVariants as jobs
+use Rattle.lab_engine.specs.declared.answer.CoverJob.{CoverJob}
+use Rattle.lab_engine.specs.declared.answer.CoverJob.TheVariants as cover_jobs
 use Rattle.lab_engine.specs.declared.answer.PuzzleJob.{PuzzleJob}
 use Rattle.lab_engine.specs.declared.answer.PuzzleJob.TheVariants as puzzle_jobs
 use Rattle.lab_engine.specs.declared.answer.Answer.{Answer}
@@ -21,6 +23,8 @@ use Rattle.poly_place.specs.Packings.{packing_problem}
 use Rattle.lab_engine.specs.Output.{cover_output}
 use Rattle.lab_engine.specs.Packed.{solve_output, count_output, options_output}
 use Rattle.lab_engine.specs.Classified.{classes_output}
+use Rattle.lab_debug.specs.Input.{problem_text, command_lines}
+use Rattle.lab_engine.specs.Debugged.{debug_output}
 
 -- the words of a refused text: what it was to be, the fault's number, its name, and the number of its line
 abbrev pub refusal_words : List ℕ → ℕ → List ℕ → ℕ → List (List ℕ)
@@ -38,30 +42,42 @@ puzzle_refusal fault line = line_text (refusal_words (codes "puzzle") (puzzle_fa
 abbrev pub place_refusal : List ℕ
 place_refusal = line_text (codes "refused" ∷ codes "place" ∷ codes "1" ∷ codes "TooManyOptions" ∷ [])
 
--- a problem's output, or the refusal of a text
-abbrev pub covers_of : Result ProblemValue (Fault × ℕ) → Result (List ℕ) (List ℕ)
-covers_of (Ok p) = Ok (cover_output p)
-covers_of (Err f) = Err (cover_refusal f.0 f.1)
+-- what is written of a problem, or the refusal of a text
+abbrev pub covers_of : (ProblemValue → List ℕ) → Result ProblemValue (Fault × ℕ) → Result (List ℕ) (List ℕ)
+covers_of output (Ok p) = Ok (output p)
+covers_of output (Err f) = Err (cover_refusal f.0 f.1)
 
 -- what is written of a puzzle whose problem is within the limits, or the refusal of a text or of a puzzle
 abbrev pub packed_of : (PuzzleValue → List ℕ) → Result PuzzleValue (puzzle.Fault × ℕ) → Result (List ℕ) (List ℕ)
 packed_of output (Ok p) = if is_small (packing_problem p) then Ok (output p) else Err place_refusal
 packed_of output (Err f) = Err (puzzle_refusal f.0 f.1)
 
+-- what commands are answered over the problem of a puzzle
+abbrev pub puzzle_replies : List (List ℕ) → PuzzleValue → List ℕ
+puzzle_replies lines p = debug_output lines (packing_problem p)
+
+-- what a job writes of a problem; the debugger answers these command lines
+abbrev pub listing_of : CoverJob → List (List ℕ) → ProblemValue → List ℕ
+listing_of cover_jobs.List lines = cover_output
+listing_of cover_jobs.Debug lines = debug_output lines
+
 -- what a job writes of a puzzle
-abbrev pub output_of : PuzzleJob → PuzzleValue → List ℕ
-output_of puzzle_jobs.Solve p = solve_output p
-output_of puzzle_jobs.Count p = count_output p
-output_of puzzle_jobs.Classes p = classes_output p
-output_of puzzle_jobs.Options p = options_output p
+abbrev pub output_of : PuzzleJob → List (List ℕ) → PuzzleValue → List ℕ
+output_of puzzle_jobs.Solve lines = solve_output
+output_of puzzle_jobs.Count lines = count_output
+output_of puzzle_jobs.Classes lines = classes_output
+output_of puzzle_jobs.Options lines = options_output
+output_of puzzle_jobs.Debug lines = puzzle_replies lines
 
 -- what a job writes for an input, or the line that refuses it
 unfoldable pub outcome : Job → List ℕ → Result (List ℕ) (List ℕ)
-outcome jobs.Cover text = covers_of (problem_of text)
+outcome jobs.Cover text = covers_of cover_output (problem_of text)
 outcome jobs.Solve text = packed_of solve_output (puzzle_of text)
 outcome jobs.Count text = packed_of count_output (puzzle_of text)
 outcome jobs.Classes text = packed_of classes_output (puzzle_of text)
 outcome jobs.Options text = packed_of options_output (puzzle_of text)
+outcome jobs.DebugPuzzle text = packed_of (puzzle_replies (command_lines text)) (puzzle_of (problem_text text))
+outcome jobs.DebugCover text = covers_of (debug_output (command_lines text)) (problem_of (problem_text text))
 
 -- what is to be written: the text, or nothing where the input is refused
 abbrev pub to_write : Result (List ℕ) (List ℕ) → List ℕ

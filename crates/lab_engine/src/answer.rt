@@ -8,14 +8,17 @@ ghost use Rattle.poly_texts.specs.Reading.{puzzle_of};
 ghost use Rattle.poly_place.specs.Packings.{packing_problem};
 ghost use Rattle.lab_engine.specs.Packed.{solve_output, count_output, options_output};
 ghost use Rattle.lab_engine.specs.Classified.{classes_output};
-ghost use Rattle.lab_engine.specs.Outcome.{refusal_words, place_refusal, covers_of, packed_of, outcome, outcome_of, output_of};
+ghost use Rattle.lab_debug.specs.Input.{raw_lines};
+ghost use Rattle.lab_engine.specs.Outcome.{refusal_words, place_refusal, covers_of, packed_of, outcome, outcome_of, listing_of, output_of};
 
 use crate::classes::count_classes;
 use crate::cover::covers;
+use crate::debugging::debug;
 use crate::job::Job;
 use crate::lines::{push_number, push_word};
 use crate::packed::{count, options, solve};
-use cover_problem::{CoverFault, Table, read_cover};
+use cover_problem::{CoverFault, Problem, Table, read_cover};
+use lab_debug::split_input;
 use poly_place::{Compiled, PlaceFault, compile};
 use poly_texts::{Puzzle, PuzzleFault, read_puzzle};
 use std::alloc::{AllocError, Global};
@@ -33,25 +36,60 @@ pub fn answer_to<T: Table>(alloc: Global, job: Job, input: &[u8]) -> Result<Answ
     ensures { IfOk result (λ answer. outcome_of answer ≡ outcome job input.now) }
 {
     match job {
-        Job::Cover => cover_answer::<T>(alloc, input),
-        Job::Solve => puzzle_answer::<T>(alloc, PuzzleJob::Solve, input),
-        Job::Count => puzzle_answer::<T>(alloc, PuzzleJob::Count, input),
-        Job::Classes => puzzle_answer::<T>(alloc, PuzzleJob::Classes, input),
-        Job::Options => puzzle_answer::<T>(alloc, PuzzleJob::Options, input),
+        Job::Cover => cover_answer::<T>(alloc, CoverJob::List, input, &[]),
+        Job::Solve => puzzle_answer::<T>(alloc, PuzzleJob::Solve, input, &[]),
+        Job::Count => puzzle_answer::<T>(alloc, PuzzleJob::Count, input, &[]),
+        Job::Classes => puzzle_answer::<T>(alloc, PuzzleJob::Classes, input, &[]),
+        Job::Options => puzzle_answer::<T>(alloc, PuzzleJob::Options, input, &[]),
+        Job::DebugPuzzle => {
+            let (text, commands) = split_input(input);
+            puzzle_answer::<T>(alloc, PuzzleJob::Debug, text, commands)
+        }
+        Job::DebugCover => {
+            let (text, commands) = split_input(input);
+            cover_answer::<T>(alloc, CoverJob::Debug, text, commands)
+        }
     }
 }
 
-/// The exact covers of a cover text, or its refusal.
-fn cover_answer<T: Table>(alloc: Global, text: &[u8]) -> Result<Answer, AllocError>
-    ensures { IfOk result (λ answer. outcome_of answer ≡ covers_of (problem_of text.now)) }
+/// What is asked of a cover text.
+#[derive(Clone, Copy)]
+pub enum CoverJob {
+    List,
+    Debug,
+}
+
+/// What the job writes of the problem of a text, or the refusal of the text.
+fn cover_answer<T: Table>(
+    alloc: Global,
+    job: CoverJob,
+    text: &[u8],
+    commands: &[u8],
+) -> Result<Answer, AllocError>
+    ensures { IfOk result (λ answer. outcome_of answer ≡ covers_of (listing_of job (raw_lines commands.now)) (problem_of text.now)) }
 {
     match read_cover(alloc, text) {
-        Ok(problem) => Ok(Answer::Text(covers::<T>(alloc, &problem)?)),
+        Ok(problem) => Ok(Answer::Text(cover_text::<T>(alloc, job, &problem, commands)?)),
         Err(CoverFault::Fault { fault, line }) => {
             let (number, name) = (fault.number(), fault.name());
             Ok(Answer::Refused(refusal(alloc, "cover", number, name, line)?))
         }
         Err(CoverFault::OutOfMemory) => Err(AllocError),
+    }
+}
+
+/// What the job writes of a problem.
+fn cover_text<T: Table>(
+    alloc: Global,
+    job: CoverJob,
+    problem: &Problem,
+    commands: &[u8],
+) -> Result<Vec<u8>, AllocError>
+    ensures { IfOk result (λ text. text.items ≡ listing_of job (raw_lines commands.now) problem.now) }
+{
+    match job {
+        CoverJob::List => covers::<T>(alloc, problem),
+        CoverJob::Debug => debug::<T>(alloc, problem, commands),
     }
 }
 
@@ -62,14 +100,20 @@ pub enum PuzzleJob {
     Count,
     Classes,
     Options,
+    Debug,
 }
 
 /// What the job writes of the puzzle of a text, or the refusal of the text or of the puzzle.
-fn puzzle_answer<T: Table>(alloc: Global, job: PuzzleJob, text: &[u8]) -> Result<Answer, AllocError>
-    ensures { IfOk result (λ answer. outcome_of answer ≡ packed_of (output_of job) (puzzle_of text.now)) }
+fn puzzle_answer<T: Table>(
+    alloc: Global,
+    job: PuzzleJob,
+    text: &[u8],
+    commands: &[u8],
+) -> Result<Answer, AllocError>
+    ensures { IfOk result (λ answer. outcome_of answer ≡ packed_of (output_of job (raw_lines commands.now)) (puzzle_of text.now)) }
 {
     match read_puzzle(alloc, text) {
-        Ok(puzzle) => packed_answer::<T>(alloc, job, &puzzle),
+        Ok(puzzle) => packed_answer::<T>(alloc, job, &puzzle, commands),
         Err(PuzzleFault::Fault { fault, line }) => {
             let (number, name) = (fault.number(), fault.name());
             Ok(Answer::Refused(refusal(alloc, "puzzle", number, name, line)?))
@@ -83,12 +127,13 @@ fn packed_answer<T: Table>(
     alloc: Global,
     job: PuzzleJob,
     puzzle: &Puzzle,
+    commands: &[u8],
 ) -> Result<Answer, AllocError>
     ensures { (given : PuzzleValue) → given ≡ puzzle.now →
-        IfOk result (λ answer. outcome_of answer ≡ packed_of (output_of job) (Ok given)) }
+        IfOk result (λ answer. outcome_of answer ≡ packed_of (output_of job (raw_lines commands.now)) (Ok given)) }
 {
     match compile(alloc, puzzle) {
-        Ok(compiled) => Ok(Answer::Text(packed_text::<T>(alloc, job, &compiled)?)),
+        Ok(compiled) => Ok(Answer::Text(packed_text::<T>(alloc, job, &compiled, commands)?)),
         Err(PlaceFault::TooManyOptions) => {
             let line = Vec::from_slice(alloc, b"refused place 1 TooManyOptions\n")?;
             Ok(Answer::Refused(line))
@@ -102,14 +147,16 @@ fn packed_text<T: Table>(
     alloc: Global,
     job: PuzzleJob,
     compiled: &Compiled<'_>,
+    commands: &[u8],
 ) -> Result<Vec<u8>, AllocError>
-    ensures { IfOk result (λ text. text.items ≡ output_of job compiled.now) }
+    ensures { IfOk result (λ text. text.items ≡ output_of job (raw_lines commands.now) compiled.now) }
 {
     match job {
         PuzzleJob::Solve => solve::<T>(alloc, compiled),
         PuzzleJob::Count => count::<T>(alloc, compiled),
         PuzzleJob::Classes => count_classes::<T>(alloc, compiled),
         PuzzleJob::Options => options(alloc, compiled),
+        PuzzleJob::Debug => debug::<T>(alloc, compiled.problem(), commands),
     }
 }
 

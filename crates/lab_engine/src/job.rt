@@ -13,4 +13,8 @@ pub enum Job {
     Classes,
     /// Write the cover text whose exact covers are the packings of a puzzle.
     Options,
+    /// Take the search of a puzzle by commands, which follow it.
+    DebugPuzzle,
+    /// Take the search of a cover text by commands, which follow it.
+    DebugCover,
 }

@@ -5,6 +5,7 @@ mod answer;
 mod classes;
 mod count;
 mod cover;
+mod debugging;
 mod engine;
 mod job;
 mod lines;
@@ -19,6 +20,8 @@ pub use job::Job;
 mod box_tests;
 #[cfg(test)]
 mod class_tests;
+#[cfg(test)]
+mod debug_tests;
 #[cfg(test)]
 mod lockstep_tests;
 #[cfg(test)]

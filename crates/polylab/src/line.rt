@@ -138,6 +138,44 @@ items are the pieces and the cells, the options are the placements.
 Exit statuses: 0 done, 2 command line refused, 3 text refused, 4 no memory,
 5 reading or writing failed.";
 
+const DEBUG_USAGE: &str = "polylab debug [--cover] < PROBLEM-AND-COMMANDS";
+
+const DEBUG: &str = "Takes the search of a puzzle step by step, by commands.";
+
+const DEBUG_TEXT: &str = "\
+It reads the text that `solve` reads (with --cover, the text that `cover` reads)
+up to a line `%%`, and then a command from each line:
+  step [N]         N steps, 1 where N isn't given, to the branch's end at most
+  run              steps up to the first breakpoint, or to the branch's end
+  back [N]         N steps back, to where the branch isn't posted at most
+  break level N    a breakpoint: a path of N choices
+  break option N   ... an option that is about to be tried
+  break item NAME  ... an item that was chosen
+  break visit      ... a visit
+  clear            no breakpoints
+  show             the state: what is covered, and the options that are left
+  untried          at each level the options that can be cut off
+  split L O        cuts the branch at the option O of level L
+  park             posts what was walked, and gives the branch back
+  save             the same, and prints a snapshot; save breaks: breakpoints too
+  close            at its end, posts what was walked, and closes the branch
+  open LO          opens the branch that begins at LO: `start`, or choices
+  branches         the branches that are not closed
+  retract          takes what was posted last back, to walk it again
+  hold LO          asks the branch that begins at LO to stop
+  putback LO STATE takes what it has posted after a state back
+  visits           the visits that were posted; steps, levels: how many
+  load K           goes on at the snapshot in the next K lines
+  quit             ends
+
+Each reply is one or more lines. What can't be done is refused in one line, as
+`refused debug 1 BadCommand`, and changes nothing. docs/DEBUGGER.md teaches it.
+
+Exit statuses: 0 done, 2 command line refused, 3 text refused, 4 no memory,
+5 reading or writing failed.";
+
+const OF_COVER: &str = "The problem is a cover text";
+
 /// A subcommand with its usage and its help.
 fn job<'a>(
     alloc: Global,
@@ -160,9 +198,18 @@ fn classes<'a>(alloc: Global) -> Arg<'a> {
         .help(CLASSES)
 }
 
+/// The word that asks for a cover text's problem.
+fn of_cover<'a>(alloc: Global) -> Arg<'a> {
+    Arg::new(alloc, "cover")
+        .long("cover")
+        .action(ArgAction::SetTrue)
+        .help(OF_COVER)
+}
+
 /// The command line that the program takes.
 fn command<'a>(alloc: Global) -> Result<Command<'a>, AllocError> {
     let count = job(alloc, "count", COUNT_USAGE, COUNT, COUNT_TEXT).arg(classes(alloc))?;
+    let debug = job(alloc, "debug", DEBUG_USAGE, DEBUG, DEBUG_TEXT).arg(of_cover(alloc))?;
     Command::new(alloc, "polylab")
         .about(ABOUT)
         .after_help(STATUSES)
@@ -173,7 +220,8 @@ fn command<'a>(alloc: Global) -> Result<Command<'a>, AllocError> {
         .subcommand(job(alloc, "cover", COVER_USAGE, COVER, COVER_TEXT))?
         .subcommand(job(alloc, "solve", SOLVE_USAGE, SOLVE, SOLVE_TEXT))?
         .subcommand(count)?
-        .subcommand(job(alloc, "options", OPTIONS_USAGE, OPTIONS, OPTIONS_TEXT))
+        .subcommand(job(alloc, "options", OPTIONS_USAGE, OPTIONS, OPTIONS_TEXT))?
+        .subcommand(debug)
 }
 
 /// The job that the words ask for.
@@ -183,6 +231,8 @@ fn job_of(matches: &ArgMatches<'_>) -> Job {
         Some(("count", words)) if words.get_flag("classes") => Job::Classes,
         Some(("count", _)) => Job::Count,
         Some(("options", _)) => Job::Options,
+        Some(("debug", words)) if words.get_flag("cover") => Job::DebugCover,
+        Some(("debug", _)) => Job::DebugPuzzle,
         _ => Job::Cover,
     }
 }

@@ -14,12 +14,14 @@ fn refused(rt: &HostRuntime, words: &[&str]) -> u8 {
 
 #[test]
 fn the_job_is_read(rt: HostRuntime) {
-    let rows: [(&[&str], Job); 5] = [
+    let rows: [(&[&str], Job); 7] = [
         (&["cover"], Job::Cover),
         (&["solve"], Job::Solve),
         (&["count"], Job::Count),
         (&["count", "--classes"], Job::Classes),
         (&["options"], Job::Options),
+        (&["debug"], Job::DebugPuzzle),
+        (&["debug", "--cover"], Job::DebugCover),
     ];
     for (words, job) in rows {
         assert!(rt; matches!(parse_line(rt.alloc(), words), Ok(read) if read == job));
@@ -28,10 +30,11 @@ fn the_job_is_read(rt: HostRuntime) {
 
 #[test]
 fn help_is_given(rt: HostRuntime) {
-    let rows: [&[&str]; 4] = [
+    let rows: [&[&str]; 5] = [
         &["--help"],
         &["cover", "--help"],
         &["count", "--help"],
+        &["debug", "--help"],
         &["--version"],
     ];
     for words in rows {
@@ -41,13 +44,15 @@ fn help_is_given(rt: HostRuntime) {
 
 #[test]
 fn other_words_are_refused(rt: HostRuntime) {
-    let rows: [&[&str]; 6] = [
+    let rows: [&[&str]; 8] = [
         &[],
         &["covers"],
         &["cover", "--workers", "2"],
         &["solve", "--classes"],
         &["count", "--classes", "2"],
         &["--classes", "count"],
+        &["debug", "--classes"],
+        &["debug", "--cover", "2"],
     ];
     for words in rows {
         assert!(rt; refused(&rt, words) == 2);

@@ -243,9 +243,17 @@ impl<'p, T: Table> Runner<'p, T> {
         self.machine.chosen()
     }
 
+    /// Whether the next step visits the path: X2, where no item is active.
+    #[inline(always)]
+    pub fn is_visit(&self) -> bool
+        ensures { result ≡ is_visit self.now.problem self.now.position }
+    {
+        self.machine.is_visit()
+    }
+
     /// Whether it stands at its branch's end.
     #[inline(always)]
-    fn is_at_end(&self) -> bool
+    pub fn is_at_end(&self) -> bool
         ensures { IsTrue result ↔ (self.now.position ≡ end_of self.now.branch.hi) }
     {
         self.branch.end().is(self.state())

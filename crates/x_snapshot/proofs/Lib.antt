@@ -11,4 +11,6 @@ pub mod LineAgain
 pub mod ProblemAgain
 pub mod BreakAgain
 pub mod WholeAgain
+pub mod JudgedLemmas
+mod JudgedExamples
 mod SnapshotExamples

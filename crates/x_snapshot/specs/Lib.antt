@@ -5,3 +5,4 @@ pub mod Refusals
 pub mod Writing
 pub mod Reading
 pub mod ReadRefusals
+pub mod Judged

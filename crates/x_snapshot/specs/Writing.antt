@@ -70,12 +70,16 @@ cursor_word cursor.Past = codes "past"
 abbrev pub state_words : StateValue → List (List ℕ)
 state_words s = label_word s.label ∷ cursor_word s.cursor ∷ map decimal s.path
 
--- a breakpoint, over items with these names
+-- what a breakpoint is at, over items with these names
+abbrev pub point_words : List (List ℕ) → Break → List (List ℕ)
+point_words names (at.Level n) = codes "level" ∷ decimal n ∷ []
+point_words names (at.Option k) = codes "option" ∷ decimal k ∷ []
+point_words names (at.Item i) = codes "item" ∷ name_at names i ∷ []
+point_words names at.Visit = codes "visit" ∷ []
+
+-- a breakpoint's line
 abbrev pub break_words : List (List ℕ) → Break → List (List ℕ)
-break_words names (at.Level n) = codes "break" ∷ codes "level" ∷ decimal n ∷ []
-break_words names (at.Option k) = codes "break" ∷ codes "option" ∷ decimal k ∷ []
-break_words names (at.Item i) = codes "break" ∷ codes "item" ∷ name_at names i ∷ []
-break_words names at.Visit = codes "break" ∷ codes "visit" ∷ []
+break_words names b = codes "break" ∷ point_words names b
 
 -- the number of breakpoints, and each of them
 abbrev pub break_lines : ProblemValue → List Break → List (List (List ℕ))

@@ -1,5 +1,5 @@
 //! The reader of snapshots.
-ghost use Rattle.std.specs.Prelude.{◌≡◌, Ok, codes, IfOk, IfErr};
+ghost use Rattle.std.specs.Prelude.{◌≡◌, Ok, Err, codes, IfOk, IfErr};
 ghost use Rattle.text_lines.specs.Lines.{words_of};
 ghost use Rattle.text_lines.specs.Answers.{Gives};
 ghost use Rattle.x_snapshot.specs.Snapshot.{SnapshotValue, IsSnapshot, parts_value};
@@ -7,6 +7,7 @@ ghost use Rattle.x_snapshot.specs.Writing.{snapshot_text};
 ghost use Rattle.x_snapshot.specs.Reading as spec;
 ghost use Rattle.x_snapshot.specs.Reading.{keyed_line, parts_of};
 ghost use Rattle.x_snapshot.specs.ReadRefusals.{IsReadRefused, fault_from};
+ghost use Rattle.x_snapshot.specs.Judged.{snapshot_of};
 
 mod breaks;
 mod lines;
@@ -17,10 +18,13 @@ use crate::breakpoint::Break;
 use crate::fault::SnapshotFault;
 use crate::snapshot::{Snapshot, SnapshotParts};
 use crate::writing::needs_second;
+pub use breaks::break_from;
 use breaks::breaks_of_version;
 use cover_problem::Problem;
-use lines::{are_digits, keyed, only_word};
+pub use lines::{only_word, option_from};
+use lines::{are_digits, keyed};
 use place::place_in;
+pub use place::state_from;
 use problem::problem_in;
 use std::alloc::Global;
 use text_lines::{Refusal, has_words};
@@ -133,6 +137,8 @@ pub fn read_snapshot(alloc: Global, bytes: &[u8]) -> Result<Snapshot, SnapshotFa
     ensures always { (v : SnapshotValue) → IsSnapshot v → bytes.now ≡ snapshot_text v →
         IfErr result (λ fault. fault ≡ SnapshotFault.OutOfMemory) }
     ensures refused { IfErr result (λ fault. IsReadRefused bytes.now fault) }
+    ensures snapshot { IfOk result (λ s. snapshot_of bytes.now ≡ Ok s) }
+    ensures fault { IfErr result (λ fault. (fault ≡ SnapshotFault.OutOfMemory → ⊥) → snapshot_of bytes.now ≡ Err fault) }
 {
     let (problem, lo, hi, state, breaks) = match read_parts(alloc, bytes) {
         Ok(parts) => parts,

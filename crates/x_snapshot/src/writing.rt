@@ -6,7 +6,7 @@ ghost use Rattle.cover_problem.specs.Grammar.{word_lines};
 ghost use Rattle.x_steps.specs.StateView.{state_value};
 ghost use Rattle.x_snapshot.specs.Breaks.{is_break};
 ghost use Rattle.x_snapshot.specs.Writing as spec;
-ghost use Rattle.x_snapshot.specs.Writing.{words_after, cut_words, state_words, break_words, lines_of_breaks, snapshot_text};
+ghost use Rattle.x_snapshot.specs.Writing.{words_after, cut_words, state_words, point_words, break_words, lines_of_breaks, snapshot_text};
 
 use crate::breakpoint::Break;
 use crate::snapshot::Snapshot;
@@ -16,7 +16,7 @@ use std::alloc::{AllocError, Global};
 use x_steps::{Cursor, Label, State};
 
 /// Writes a word after another.
-fn write_word(text: &mut Vec<u8>, word: &str) -> Result<(), AllocError>
+pub fn write_word(text: &mut Vec<u8>, word: &str) -> Result<(), AllocError>
     ensures { OnOk result (text.new.items ≡ text.old.items ++ 32 ∷ word.now) }
 {
     text.push(b' ')?;
@@ -24,7 +24,7 @@ fn write_word(text: &mut Vec<u8>, word: &str) -> Result<(), AllocError>
 }
 
 /// Writes a number after a word.
-fn write_number<N: Integer + Drop>(text: &mut Vec<u8>, number: N) -> Result<(), AllocError>
+pub fn write_number<N: Integer + Drop>(text: &mut Vec<u8>, number: N) -> Result<(), AllocError>
     ensures { OnOk result (text.new.items ≡ text.old.items ++ 32 ∷ N.text number) }
 {
     let mut buffer = Buffer::new();
@@ -32,7 +32,7 @@ fn write_number<N: Integer + Drop>(text: &mut Vec<u8>, number: N) -> Result<(), 
 }
 
 /// Writes numbers after a word.
-fn write_numbers(text: &mut Vec<u8>, numbers: &[u32]) -> Result<(), AllocError>
+pub fn write_numbers(text: &mut Vec<u8>, numbers: &[u32]) -> Result<(), AllocError>
     ensures { OnOk result (text.new.items ≡ text.old.items ++ words_after (map decimal numbers.now)) }
 {
     for number in numbers {
@@ -42,8 +42,12 @@ fn write_numbers(text: &mut Vec<u8>, numbers: &[u32]) -> Result<(), AllocError>
 }
 
 /// Writes a line of a word and a number.
-fn write_count(text: &mut Vec<u8>, key: &str, number: usize) -> Result<(), AllocError>
-    ensures { OnOk result (text.new.items ≡ text.old.items ++ line_text (key.now ∷ decimal number ∷ [])) }
+pub fn write_count<N: Integer + Drop>(
+    text: &mut Vec<u8>,
+    key: &str,
+    number: N,
+) -> Result<(), AllocError>
+    ensures { OnOk result (text.new.items ≡ text.old.items ++ line_text (key.now ∷ N.text number ∷ [])) }
 {
     text.extend_from_slice(key.as_bytes())?;
     write_number(text, number)?;
@@ -62,7 +66,7 @@ fn write_pair(text: &mut Vec<u8>, key: &str, word: &str) -> Result<(), AllocErro
 }
 
 /// Writes a line of a word and the choices of a path.
-fn write_path(text: &mut Vec<u8>, key: &str, path: &[u32]) -> Result<(), AllocError>
+pub fn write_path(text: &mut Vec<u8>, key: &str, path: &[u32]) -> Result<(), AllocError>
     ensures { OnOk result (text.new.items ≡ text.old.items ++ line_text (key.now ∷ map decimal path.now)) }
 {
     text.extend_from_slice(key.as_bytes())?;
@@ -119,11 +123,11 @@ fn write_cursor(text: &mut Vec<u8>, cursor: Cursor) -> Result<(), AllocError>
     }
 }
 
-/// Writes the line of a state.
-fn write_state(text: &mut Vec<u8>, state: &State) -> Result<(), AllocError>
-    ensures { OnOk result (text.new.items ≡ text.old.items ++ line_text (codes "state" ∷ state_words (state_value state.now))) }
+/// Writes a line of a word and a state: its label, its cursor and its choices.
+pub fn write_state(text: &mut Vec<u8>, key: &str, state: &State) -> Result<(), AllocError>
+    ensures { OnOk result (text.new.items ≡ text.old.items ++ line_text (key.now ∷ state_words (state_value state.now))) }
 {
-    text.extend_from_slice(b"state")?;
+    text.extend_from_slice(key.as_bytes())?;
     write_word(text, label_word(state.label))?;
     write_cursor(text, state.cursor)?;
     write_numbers(text, &state.path)?;
@@ -131,17 +135,44 @@ fn write_state(text: &mut Vec<u8>, state: &State) -> Result<(), AllocError>
     Ok(())
 }
 
-/// Writes the line of a breakpoint.
-fn write_break(text: &mut Vec<u8>, problem: &Problem, breakpoint: Break) -> Result<(), AllocError>
+/// Writes a kind of breakpoints and a number after a word.
+fn write_kind(text: &mut Vec<u8>, kind: &str, number: u32) -> Result<(), AllocError>
+    ensures { OnOk result (text.new.items ≡ text.old.items ++ words_after (kind.now ∷ decimal number ∷ [])) }
+{
+    write_word(text, kind)?;
+    write_number(text, number)
+}
+
+/// Writes what a breakpoint is at after a word.
+fn write_point(text: &mut Vec<u8>, problem: &Problem, breakpoint: Break) -> Result<(), AllocError>
     requires { is_break problem.now breakpoint ≡ true }
-    ensures { OnOk result (text.new.items ≡ text.old.items ++ line_text (break_words problem.now.names breakpoint)) }
+    ensures { OnOk result (text.new.items ≡ text.old.items ++ words_after (point_words problem.now.names breakpoint)) }
 {
     match breakpoint {
-        Break::Level(level) => write_count(text, "break level", level as usize),
-        Break::Option(option) => write_count(text, "break option", option as usize),
-        Break::Item(item) => write_pair(text, "break item", problem.name(item)),
-        Break::Visit => text.extend_from_slice(b"break visit\n"),
+        Break::Level(level) => write_kind(text, "level", level),
+        Break::Option(option) => write_kind(text, "option", option),
+        Break::Item(item) => {
+            write_word(text, "item")?;
+            write_word(text, problem.name(item))
+        }
+        Break::Visit => write_word(text, "visit"),
     }
+}
+
+/// Writes a line of a word and what a breakpoint is at.
+pub fn write_break(
+    text: &mut Vec<u8>,
+    key: &str,
+    problem: &Problem,
+    breakpoint: Break,
+) -> Result<(), AllocError>
+    requires { is_break problem.now breakpoint ≡ true }
+    ensures { OnOk result (text.new.items ≡ text.old.items ++ line_text (key.now ∷ point_words problem.now.names breakpoint)) }
+{
+    text.extend_from_slice(key.as_bytes())?;
+    write_point(text, problem, breakpoint)?;
+    text.push(b'\n')?;
+    Ok(())
 }
 
 /// Writes the lines of breakpoints.
@@ -154,7 +185,7 @@ fn write_each_break(
     ensures { OnOk result (text.new.items ≡ text.old.items ++ text_of (map (break_words problem.now.names) breaks.now)) }
 {
     for breakpoint in breaks {
-        write_break(text, problem, *breakpoint)?;
+        write_break(text, "break", problem, *breakpoint)?;
     }
     Ok(())
 }
@@ -210,7 +241,7 @@ pub fn write_snapshot(alloc: Global, snapshot: &Snapshot) -> Result<Vec<u8>, All
     text.extend_from_slice(&cover)?;
     write_from(&mut text, snapshot)?;
     write_to(&mut text, snapshot)?;
-    write_state(&mut text, snapshot.state())?;
+    write_state(&mut text, "state", snapshot.state())?;
     write_breaks(&mut text, problem, breaks)?;
     text.extend_from_slice(b"end\n")?;
     Ok(text)

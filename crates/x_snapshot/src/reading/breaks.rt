@@ -95,9 +95,9 @@ fn lone_break(kind: &[u8]) -> Option<Break>
     }
 }
 
-/// The breakpoint of these words.
+/// The breakpoint of these words, which stand after `break`.
 #[tactic(auto, unfolding(crate::specs::Reading::break_from))]
-fn break_from(problem: &Problem, words: &[u8]) -> Option<Break>
+pub fn break_from(problem: &Problem, words: &[u8]) -> Option<Break>
     ensures { result ≡ spec.break_from problem.now (words_of words.now) }
 {
     let (kind, rest) = split_word(words)?;

@@ -112,9 +112,9 @@ fn step_from(label: &[u8], cursor: &[u8]) -> Option<(Label, Cursor)>
     Some((label, cursor))
 }
 
-/// The state of these words.
+/// The state of these words: its label, its cursor and its choices.
 #[tactic(auto, unfolding(crate::specs::Reading::state_from))]
-fn state_from(alloc: Global, words: &[u8]) -> Found<State>
+pub fn state_from(alloc: Global, words: &[u8]) -> Found<State>
     ensures { Gives state_value result (spec.state_from (words_of words.now)) }
 {
     let Some((label, words)) = split_word(words) else {

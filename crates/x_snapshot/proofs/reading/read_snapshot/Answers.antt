@@ -1,7 +1,8 @@
-use Rattle.std.proofs.Common.{◌∙◌}
+use Rattle.std.proofs.Common.{◌∙◌, sym, ap, Ok}
 use Rattle.x_snapshot.proofs.WholeBack.{parts_back}
 use Rattle.x_snapshot.proofs.ReadFaults.{refused_read}
 use Rattle.x_snapshot.proofs.WholeAgain.{read_as, only_memory, only_memory_left}
+use Rattle.x_snapshot.proofs.JudgedLemmas.{read_judged, refused_judged}
 use Rattle.x_snapshot.proofs.reading.read_snapshot.Goals as goal
 
 pub returns-in-Err-clause-always : goal.returns-in-Err-clause-always
@@ -18,3 +19,11 @@ returns-in-Err-new-clause-always c = λ v g same. only_memory_left c.args.bytes.
 
 pub returns-in-Err-new-clause-refused : goal.returns-in-Err-new-clause-refused
 returns-in-Err-new-clause-refused c = refused_read c.args.bytes.now _ c.in-Ok.ensures c.in-Err-new.refused.fault c.in-Err-new.ensures.refused
+
+pub returns-in-Ok-new-clause-snapshot : goal.returns-in-Ok-new-clause-snapshot
+returns-in-Ok-new-clause-snapshot c = read_judged c.args.bytes.now _ c.in-Ok.ensures c.in-Ok-new.ensures.snapshot ∙ ap Ok (sym c.in-Ok-new.ensures.made)
+
+pub returns-in-Err-new-clause-fault : goal.returns-in-Err-new-clause-fault
+returns-in-Err-new-clause-fault c =
+    refused_judged c.args.bytes.now c.in-Err-new.refused.fault
+    (refused_read c.args.bytes.now _ c.in-Ok.ensures c.in-Err-new.refused.fault c.in-Err-new.ensures.refused)

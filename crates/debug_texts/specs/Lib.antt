@@ -1,0 +1,4 @@
+pub mod Faults
+pub mod Command
+pub mod Reading
+pub mod Replies

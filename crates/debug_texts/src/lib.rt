@@ -1,0 +1,31 @@
+//! The language of the debugger: command lines that are read, and reply lines that are written.
+#![tactic(auto)]
+
+mod command;
+mod engine;
+mod fault;
+pub mod laws;
+mod reading;
+mod refusing;
+mod replies;
+mod showing;
+mod words;
+
+pub use command::Command;
+pub use engine::{EngineCommand, read_engine_command};
+pub use fault::DebugFault;
+pub use reading::read_command;
+pub use refusing::{write_debug_fault, write_refused, write_runner_fault, write_snapshot_fault};
+pub use replies::{
+    write_at, write_counted, write_met, write_plain, write_set, write_visit, write_visits,
+};
+pub use showing::{
+    write_branch, write_covered, write_levels, write_list, write_lists, write_saved,
+    write_standing, write_untried,
+};
+pub use words::{Counted, Layer, Listed, Plain, Standing};
+
+#[cfg(test)]
+mod line_tests;
+#[cfg(test)]
+mod reply_tests;

@@ -1,0 +1,78 @@
+//! What was posted of a book's branch.
+ghost use Rattle.std.specs.Prelude.{◌≡◌, ◌<◌, ◌^◌, ◌↔◌, IsTrue, IfOk};
+ghost use Rattle.x_steps.specs.Levels.{trimmed_levels};
+ghost use Rattle.x_steps.specs.Order.{PathsRise};
+ghost use Rattle.x_steps.specs.Run.{steps_between, visits_between};
+ghost use Rattle.x_branches.specs.Branch.{end_of};
+ghost use Rattle.lab_book.specs.Posted.{posted_count, posted_steps, posted_levels, posted_visits, AllClosed};
+
+use crate::book::Book;
+use crate::totals::{drop_last_zeros, no_totals};
+use std::alloc::AllocError;
+use x_steps::Paths;
+
+impl<'p> Book<'p> {
+    /// Whether all tiles are closed.
+    pub fn finished(&self) -> bool
+        ensures { IsTrue result ↔ AllClosed self.now.tiles }
+    {
+        self.tiles
+            .list()
+            .iter()
+            .all(|tile| tile.status().is_closed())
+    }
+
+    /// The paths that the posted stretches visit, tile by tile: none comes twice, and where all tiles are closed, they are the
+    /// visits of the run from the first mark to the branch's end, in their order.
+    pub fn visits(&self) -> Result<Paths, AllocError>
+        ensures visits { IfOk result (λ paths. paths ≡ posted_visits self.now.tiles) }
+        ensures rise { IfOk result (λ paths. PathsRise paths) }
+        ensures whole { IfOk result (λ paths. AllClosed self.now.tiles →
+            paths ≡ visits_between self.now.problem self.now.first (end_of self.now.branch.hi)) }
+    {
+        let mut visits = Paths::new(*self.first.state().path.allocator());
+        for tile in self.tiles.list() {
+            tile.add_visits(&mut visits)?;
+        }
+        Ok(visits)
+    }
+
+    /// Each stretch was posted by a call, so there are fewer than a number of 64 bits can count.
+    fn count_calls(&self)
+        ensures { posted_count self.now.tiles < 2 ^ 64 }
+    {
+        let _calls = self.history.len();
+    }
+
+    /// How many steps the posted stretches have: where all tiles are closed, the run has so many from the first mark to the branch's
+    /// end.
+    pub fn steps(&self) -> u128
+        ensures steps { result ≡ posted_steps self.now.tiles }
+        ensures whole { AllClosed self.now.tiles →
+            result ≡ steps_between self.now.problem self.now.first (end_of self.now.branch.hi) }
+    {
+        self.count_calls();
+        let mut steps: u128 = 0;
+        for tile in self.tiles.list() {
+            steps += tile.steps();
+        }
+        steps
+    }
+
+    /// How many X2 states the posted stretches have at each level from 0 on, up to the last level that has one: where all tiles
+    /// are closed, the run has so many from the first mark to the branch's end.
+    pub fn levels(&self) -> Result<Vec<u128>, AllocError>
+        ensures levels { IfOk result (λ levels. levels.items ≡ posted_levels self.now.problem self.now.tiles) }
+        ensures whole { IfOk result (λ levels. AllClosed self.now.tiles →
+            levels.items ≡ trimmed_levels self.now.problem self.now.first (end_of self.now.branch.hi)) }
+    {
+        self.count_calls();
+        let alloc = *self.first.state().path.allocator();
+        let mut totals = no_totals(alloc, self.problem.items())?;
+        for tile in self.tiles.list() {
+            tile.add_levels(&mut totals);
+        }
+        drop_last_zeros(&mut totals);
+        Ok(totals)
+    }
+}

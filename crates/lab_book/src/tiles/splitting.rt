@@ -1,0 +1,61 @@
+//! One more tile stands among the others.
+ghost use Rattle.std.specs.Prelude.{◌≡◌, ◌<◌, ◌+◌, ◌-◌, ◌^◌, ◌++◌, All, length, map, take, drop, IfOk, OnOk, OnErr, IfErr};
+ghost use Rattle.x_branches.specs.Cut.{cut_state};
+ghost use Rattle.lab_book.specs.Tiling.{tile_at, AreNumbered};
+ghost use Rattle.lab_book.specs.Book.{parted};
+ghost use Rattle.lab_book.specs.Index.{moved_up};
+
+use crate::tile::CutCopies;
+use crate::tiles::Tiles;
+use x_branches::Cut;
+
+/// Where a tile stands once one more stands behind a place.
+fn moved_up(i: usize, place: usize) -> usize
+    requires { place < 2 ^ 64 - 1 }
+    ensures { result ≡ moved_up i place }
+{
+    if i < place { place + 1 } else { place }
+}
+
+/// Each place behind one goes up by one.
+fn move_up(places: &mut [usize], i: usize)
+    requires { All (λ place. place < 2 ^ 64 - 1) places.old }
+    ensures { places.new ≡ map (moved_up i) places.old }
+{
+    for place in places.iter_mut() {
+        *place = moved_up(i, *place);
+    }
+}
+
+impl<'p> Tiles<'p> {
+    /// Ends the tile at a place at a cut; behind it stands a tile that goes on from there and waits, whose id comes back: the
+    /// number of tiles before. Where memory runs out, nothing changes and the cut comes back.
+    pub fn split(&mut self, i: usize, cut: Cut<'p>, copies: CutCopies<'p>) -> Result<u64, Cut<'p>>
+        requires within { i < length self.old }
+        requires hi { copies.hi ≡ cut }
+        requires end { copies.end ≡ cut_state cut.path }
+        requires first { copies.first ≡ cut_state cut.path }
+        ensures tiles { OnOk result (self.new ≡ take i self.old ++ parted (tile_at self.old i) (length self.old) cut.entry
+            ++ drop (i + 1) self.old) }
+        ensures numbered { OnOk result (AreNumbered self.new) }
+        ensures id { IfOk result (λ id. id ≡ length self.old) }
+        ensures unchanged { OnErr result (self.new ≡ self.old) }
+        ensures given_back { IfErr result (λ c. c ≡ cut.entry) }
+    {
+        if self.list.reserve(1).is_err() {
+            return Err(cut);
+        }
+        if self.places.reserve(1).is_err() {
+            return Err(cut);
+        }
+        let id = self.list.len();
+        let tail = self.list[i].part(id as u64, cut, copies);
+        let Ok(()) = self.list.insert(i + 1, tail) else {
+            unreachable!()
+        };
+        move_up(&mut self.places, i);
+        self.places.push_reserved(i + 1);
+        self.waiting += 1;
+        Ok(id as u64)
+    }
+}

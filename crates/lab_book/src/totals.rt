@@ -1,0 +1,41 @@
+//! Totals for each level.
+ghost use Rattle.std.specs.Prelude.{◌≡◌, ◌<◌, ◌≤◌, ◌+◌, ◌-◌, ◌^◌, ◌↔◌, ℕ, Some, IsTrue, IfOk, length, replicate, slice_get, slice_index};
+ghost use Rattle.x_steps.specs.Levels.{without_last_zeros};
+
+use std::alloc::{AllocError, Global};
+
+/// A total of nothing for each level that a problem of so many items has.
+pub(crate) fn no_totals(alloc: Global, items: u32) -> Result<Vec<u128>, AllocError>
+    ensures { IfOk result (λ totals. totals.items ≡ replicate (items + 1) 0) }
+{
+    vec![in alloc; 0u128; items as usize + 1]
+}
+
+/// Adds to each total its count, as far as there are counts.
+pub(crate) fn add_counts(totals: &mut [u128], counts: &[u32])
+    requires levels { length counts.now ≤ length totals.old }
+    requires room { (level : ℕ) → level < length totals.old → slice_index totals.old level + 4294967295 < 2 ^ 128 }
+    ensures levels { length totals.new ≡ length totals.old }
+    ensures sums { (level : ℕ) → slice_index totals.new level ≡ slice_index totals.old level + slice_index counts.now level }
+    ensures small { (level : ℕ) → slice_index totals.new level ≤ slice_index totals.old level + 4294967295 }
+{
+    for (level, count) in counts.iter().enumerate() {
+        totals[level] += *count as u128;
+    }
+}
+
+/// Whether the last of the totals is a zero.
+fn ends_in_zero(totals: &[u128]) -> bool
+    ensures { IsTrue result ↔ (slice_get totals.now (length totals.now - 1) ≡ Some 0) }
+{
+    matches!(totals.last(), Some(0))
+}
+
+/// Takes the zeros at the end away.
+pub(crate) fn drop_last_zeros(totals: &mut Vec<u128>)
+    ensures { totals.new.items ≡ without_last_zeros totals.old.items }
+{
+    while ends_in_zero(totals) {
+        totals.pop();
+    }
+}

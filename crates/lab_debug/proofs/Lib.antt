@@ -1,0 +1,6 @@
+mod RawLemmas
+mod FirstLemmas
+mod TakingLemmas
+mod SearchingLemmas
+mod InputExamples
+mod ReplyLemmas

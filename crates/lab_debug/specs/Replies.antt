@@ -1,0 +1,46 @@
+-- What command lines are answered, one after the other.
+--
+-- A line asks the engine or the session. `load` takes the lines that follow, so many as it says or as there are, and they are no
+-- commands; `quit` ends the commands. `pool` isn't here yet, and is refused as no command is.
+--
+-- Example: after `load 1` and one line more, `show` is answered; after `quit` nothing is.
+use Rattle.std.specs.Prelude.{ℕ, zero, suc, ◌++◌, List, [], ◌∷◌, take, Option, Some, None, option_map, unwrap_or}
+use Rattle.std.specs.List.{concat}
+use Rattle.debug_texts.specs.declared.engine.EngineCommand.{EngineCommand}
+use Rattle.debug_texts.specs.declared.engine.EngineCommand.TheVariants as engine
+use Rattle.debug_texts.specs.declared.fault.DebugFault.TheVariants.{BadCommand}
+use Rattle.debug_texts.specs.Reading.{engine_command_of}
+use Rattle.x_debug.specs.Lines.{debug_refusal}
+use Rattle.x_debug.specs.Session.{SessionValue}
+use Rattle.x_debug.specs.Commands.{Answer, answer_line}
+use Rattle.x_debug.specs.Loading.{answers, load_answer}
+use Rattle.lab_debug.specs.Input.{without_newline}
+
+-- what a line is answered, the session that is left, and how many of the lines after it are taken with it; None where it ends the
+-- commands
+pub record Turn : Type 0 where
+  pub text : List ℕ
+  pub session : SessionValue
+  pub taken : Option ℕ
+
+-- an answer, by which so many lines are taken
+abbrev pub turned : Answer → ℕ → Turn
+turned a n = record { text = a.text; session = a.session; taken = Some n }
+
+-- a line that asks this of the engine, or else something of the session, before these lines
+abbrev pub turn_by : SessionValue → List ℕ → List (List ℕ) → Option EngineCommand → Turn
+turn_by s line after None = turned (answer_line s line) 0
+turn_by s line after (Some (engine.Load n)) = turned (load_answer s (concat (take n after))) n
+turn_by s line after (Some (engine.Pool n)) = turned (answers (debug_refusal BadCommand) s) 0
+turn_by s line after (Some engine.Quit) = record { text = []; session = s; taken = None }
+
+unfoldable pub turn : SessionValue → List ℕ → List (List ℕ) → Turn
+turn s raw after = turn_by s (without_newline raw) after (engine_command_of (without_newline raw))
+
+-- the answers to raw lines, of which so many are taken already
+unfoldable pub debug_replies : SessionValue → ℕ → List (List ℕ) → List ℕ
+debug_replies s n [] = []
+debug_replies s (suc n) (line ∷ after) = debug_replies s n after
+debug_replies s zero (line ∷ after) =
+    let t = turn s line after in
+    t.text ++ unwrap_or (option_map (λ n. debug_replies t.session n after) t.taken) []

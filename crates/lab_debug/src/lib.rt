@@ -1,0 +1,11 @@
+//! What the debugger does with a text: a problem, and commands that a session of its search answers.
+#![tactic(auto)]
+
+mod answering;
+mod input;
+
+pub use answering::replies;
+pub use input::{raw_line, split_input, take_lines, without_newline};
+
+#[cfg(test)]
+mod tests;

@@ -1,0 +1,9 @@
+-- What `debug` writes: the replies to the commands that follow a problem's text.
+use Rattle.std.specs.Prelude.{ℕ, List}
+use Rattle.cover_problem.specs.Problem.{ProblemValue}
+use Rattle.x_debug.specs.Session.{fresh_session}
+use Rattle.lab_debug.specs.Replies.{debug_replies}
+
+-- the replies to these command lines, in a session that is at the start of a problem's run
+unfoldable pub debug_output : List (List ℕ) → ProblemValue → List ℕ
+debug_output lines p = debug_replies (fresh_session p) 0 lines

@@ -1,0 +1,145 @@
+-- Workers: a lease of a book's tile, with the runner that searches there.
+use Rattle.std.specs.Prelude.{ℕ, ◌≡◌, ◌<◌, true, Option, Some, None, option_map, Result, Ok, Err, List, length}
+use Rattle.cover_problem.specs.Lists.{has}
+use Rattle.cover_problem.specs.Problem.{ProblemValue}
+use Rattle.x_steps.specs.StateValue.{StateValue}
+use Rattle.x_branches.specs.declared.branch.Branch.{Branch}
+use Rattle.x_branches.specs.Cut.{CutPath}
+use Rattle.x_branches.specs.Runner.{RunnerValue}
+use Rattle.x_branches.specs.Stretch.{StretchValue}
+use Rattle.x_branches.specs.Untried.{with_choice}
+use Rattle.x_branches.specs.Refusals.{untried_in, CutRefused}
+use Rattle.lab_book.specs.declared.status.Status.TheVariants as status
+use Rattle.lab_book.specs.declared.lease.Grant.{Grant}
+use Rattle.lab_book.specs.declared.fault.BookFault.{BookFault}
+use Rattle.lab_book.specs.declared.fault.BookFault.TheVariants.{OutOfMemory}
+use Rattle.lab_book.specs.declared.entry.Reply.{Reply}
+use Rattle.lab_book.specs.declared.entry.Reply.TheVariants as reply
+use Rattle.lab_book.specs.Tile.{TileValue, mark_of, is_waiting, is_held}
+use Rattle.lab_book.specs.Tiling.{tile_at}
+use Rattle.lab_book.specs.Book.{BookValue, found, status_fault}
+use Rattle.lab_book.specs.declared.entry.Call.{Call}
+use Rattle.lab_book.specs.declared.entry.Call.TheVariants as call
+use Rattle.lab_book.specs.Calls.{Refuses}
+use Rattle.x_steps.specs.Run.{steps_between}
+use Rattle.x_branches.specs.declared.fault.RunnerFault.TheVariants.{NotAtMark}
+use Rattle.lab_world.specs.declared.worker.ending.Ending.{Ending}
+use Rattle.lab_world.specs.declared.worker.ending.Ending.TheVariants.{Park, Abandon, Close}
+use Rattle.lab_world.specs.declared.fault.WorkerFault.{WorkerFault}
+use Rattle.lab_world.specs.declared.fault.WorkerFault.TheVariants.{Runner, Book}
+
+-- a lease, and a runner
+pub record WorkerValue : Type 0 where
+  pub grant : Grant
+  pub runner : RunnerValue
+
+-- a tile is a worker's: it is leased to it by its lease, and its runner searches the tile's branch from the tile's mark on
+pub record IsWorkers (t : TileValue) (x : WorkerValue) : Type 0 where
+  pub named : t.id ≡ x.grant.id
+  pub leased : t.status ≡ status.Leased x.grant.worker x.grant.index
+  pub branch : x.runner.branch ≡ t.branch
+  pub mark : x.runner.mark ≡ mark_of t
+
+-- one of these tiles is a worker's
+pub record HasTile (ts : List TileValue) (x : WorkerValue) : Type 0 where
+  pub place : ℕ
+  pub within : place < length ts
+  pub tile : IsWorkers (tile_at ts place) x
+
+-- a worker holds its tile: it searches the book's problem, and a tile of the book is its own
+pub record HoldsTile (b : BookValue) (x : WorkerValue) : Type 0 where
+  pub problem : x.runner.problem ≡ b.problem
+  pub tile : HasTile b.tiles x
+
+-- ---- what becomes of a worker
+
+-- its runner stands elsewhere
+abbrev pub moved_to : WorkerValue → StateValue → WorkerValue
+moved_to x s = record { grant = x.grant; runner = record x.runner { position = s } }
+
+-- its mark is another
+abbrev pub marked_at : WorkerValue → StateValue → WorkerValue
+marked_at x s = record { grant = x.grant; runner = record x.runner { mark = s } }
+
+-- the stretch that it has not posted
+abbrev pub unposted : WorkerValue → StretchValue
+unposted x = record { problem = x.runner.problem; from = x.runner.mark; to = x.runner.position }
+
+-- its runner's branch ends at a cut
+abbrev pub shortened : WorkerValue → CutPath → WorkerValue
+shortened x cut = record { grant = x.grant; runner = record x.runner { branch = record x.runner.branch { hi = Some cut } } }
+
+-- the cut at an option of a level of where a runner stands
+abbrev pub cut_at : RunnerValue → ℕ → ℕ → CutPath
+cut_at r level o = record { problem = r.problem; path = with_choice r.position level o }
+
+-- the call that splits a worker's tile at a cut of its problem, by the cut's choices
+abbrev pub split_call : WorkerValue → List ℕ → Call
+split_call x path = call.Split x.grant path true
+
+-- a runner that stands at its mark
+abbrev pub runner_at : ProblemValue → Branch → StateValue → RunnerValue
+runner_at p b mark = record { problem = p; branch = b; mark = mark; position = mark }
+
+-- a problem's cut, by its choices
+abbrev pub cut_of : ProblemValue → Option (List ℕ) → Option CutPath
+cut_of p path = option_map (λ (q : List ℕ). record { problem = p; path = q }) path
+
+-- the call by which a lease is ended
+abbrev pub end_call : Ending → Grant → Call
+end_call Park g = call.Park g
+end_call Abandon g = call.Abandon g
+end_call Close g = call.Close g
+
+-- the worker that is leased a tile, by the book's answer
+abbrev pub lent_worker : ProblemValue → Reply → Option WorkerValue
+lent_worker p (reply.Leased g lo hi mark waiting) = Some (record { grant = g; runner = runner_at p (record { lo = cut_of p lo; hi = cut_of p hi }) mark })
+lent_worker p r = None
+
+-- ---- which tile is leased
+
+abbrev pub place_found : Result ℕ BookFault → Option ℕ
+place_found (Ok i) = Some i
+place_found (Err f) = None
+
+-- the place of the tile with an id, if it waits
+abbrev pub waiting_place : List TileValue → ℕ → Option ℕ
+waiting_place ts id = place_found (found ts id (λ t. status_fault (is_waiting t.status) t))
+
+-- and if it is held
+abbrev pub held_place : List TileValue → ℕ → Option ℕ
+held_place ts id = place_found (found ts id (λ t. status_fault (is_held t.status) t))
+
+-- ---- what becomes of a worker by the book's answer
+
+-- it has posted what it walked
+abbrev pub after_post : WorkerValue → Reply → Option WorkerValue
+after_post x (reply.Posted stop waiting) = Some (marked_at x x.runner.position)
+after_post x r = Some x
+
+-- its tile was split at a cut
+abbrev pub after_split : WorkerValue → CutPath → Reply → Option WorkerValue
+after_split x cut (reply.Split id) = Some (shortened x cut)
+after_split x cut r = Some x
+
+-- it has taken the last stretch again
+abbrev pub after_retract : WorkerValue → Reply → Option WorkerValue
+after_retract x (reply.Retracted from to) = Some (marked_at x from)
+after_retract x r = Some x
+
+-- it has given its tile up, or closed it
+abbrev pub after_end : WorkerValue → Reply → Option WorkerValue
+after_end x reply.Done = None
+after_end x r = Some x
+
+-- why a worker's stretch isn't taken back: it has unposted steps, and then the book wasn't called, or the book refused
+abbrev pub RetractRefused : BookValue → BookValue → WorkerValue → WorkerFault → Type 0
+RetractRefused old new x (Runner NotAtMark) = (0 < steps_between x.runner.problem x.runner.mark x.runner.position) × (new ≡ old)
+RetractRefused old new x (Runner f) = ⊥
+RetractRefused old new x (Book f) = Refuses old new x.grant.worker (call.Retract x.grant) f × (steps_between x.runner.problem x.runner.mark x.runner.position ≡ 0)
+
+-- why a worker's tile isn't split: its runner refused the cut, and then the book wasn't called, or memory ran out at a cut that is
+-- untried; the book is as it was
+abbrev pub WorkerSplitRefused : BookValue → BookValue → WorkerValue → ℕ → ℕ → WorkerFault → Type 0
+WorkerSplitRefused old new x level o (Runner f) = CutRefused x.runner level o f × (new ≡ old)
+WorkerSplitRefused old new x level o (Book f) = (has (untried_in x.runner level) o ≡ true) × (f ≡ OutOfMemory) × (new ≡ old)

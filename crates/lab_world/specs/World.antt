@@ -1,0 +1,173 @@
+-- A world: a book, and for each worker nothing or its lease with its runner; what each event makes of it.
+--
+-- An event is one worker's: it changes the book and that worker's place alone.
+use Rattle.std.specs.Prelude.{ℕ, ◌≡◌, ◌<◌, ◌==◌, Option, Some, None, List, [], ◌∷◌, length, option_map, replicate, slice_set, slice_index_or, if◌then◌else◌}
+use Rattle.cover_problem.specs.Lists.{has}
+use Rattle.x_steps.specs.StateValue.{StateValue}
+use Rattle.x_steps.specs.StateView.{state_value}
+use Rattle.x_steps.specs.declared.event.Event.TheVariants as event
+use Rattle.x_steps.specs.Steps.{next, event_of}
+use Rattle.x_steps.specs.Before.{prev}
+use Rattle.x_steps.specs.Run.{steps_between}
+use Rattle.x_branches.specs.declared.fault.RunnerFault.{RunnerFault}
+use Rattle.x_branches.specs.declared.fault.RunnerFault.TheVariants.{AtBranchEnd, AtMark, NothingUntried, NotUntried, OutsideBranch, NotAtMark, StretchFull}
+use Rattle.x_branches.specs.Branch.{end_of}
+use Rattle.x_branches.specs.Runner.{RunnerValue}
+use Rattle.x_branches.specs.Refusals.{most_steps, untried_in}
+use Rattle.x_branches.specs.Untried.{left_above, with_choice}
+use Rattle.lab_book.specs.declared.entry.Call.{Call}
+use Rattle.lab_book.specs.declared.entry.Call.TheVariants as call
+use Rattle.lab_book.specs.declared.entry.Reply.{Reply}
+use Rattle.lab_book.specs.States.{same_state}
+use Rattle.lab_book.specs.Book.{BookValue, outcome, book_step}
+use Rattle.lab_book.specs.Calls.{post_of}
+use Rattle.lab_world.specs.declared.event.Act.{Act}
+use Rattle.lab_world.specs.declared.event.Act.TheVariants.{Step, Back, Lease, LeaseAny, TakeHeld, Post, Split, Retract, Park, Abandon, Close, PutBack, RequestStop}
+use Rattle.lab_world.specs.declared.event.WorldEvent.{WorldEvent}
+use Rattle.lab_world.specs.declared.worker.ending.Ending.{Ending}
+use Rattle.lab_world.specs.declared.worker.ending.Ending.TheVariants as ending
+use Rattle.lab_world.specs.declared.event.WorldReply.{WorldReply}
+use Rattle.lab_world.specs.declared.event.WorldReply.TheVariants.{Event, Runner, Book, Idle, Busy}
+use Rattle.lab_world.specs.Worker.{WorkerValue, HoldsTile, moved_to, unposted, cut_at, split_call, lent_worker, after_post, after_split, after_retract, after_end}
+
+-- a world
+pub record WorldValue : Type 0 where
+  pub book : BookValue
+  pub workers : List (Option WorkerValue)
+
+-- the worker with a number, if it holds a tile
+abbrev pub worker_at : List (Option WorkerValue) → ℕ → Option WorkerValue
+worker_at ws w = slice_index_or ws w None
+
+-- ---- what an act makes of the book and of the worker's place
+
+-- the answer, the book, and the worker's place
+pub record Turn : Type 0 where
+  pub reply : WorldReply
+  pub book : BookValue
+  pub worker : Option WorkerValue
+
+-- nothing changes
+abbrev pub stays : BookValue → Option WorkerValue → WorldReply → Turn
+stays b x r = record { reply = r; book = b; worker = x }
+
+-- a call of the book, whose answer says what becomes of the worker
+abbrev pub called : BookValue → ℕ → Call → (Reply → Option WorkerValue) → Turn
+called b w c becomes = record { reply = Book (length b.history); book = book_step b w c; worker = becomes (outcome b w c).reply }
+
+-- a worker without a tile leases one
+abbrev pub leasing : BookValue → ℕ → Option WorkerValue → Call → Turn
+leasing b w None c = called b w c (lent_worker b.problem)
+leasing b w (Some x) c = stays b (Some x) Busy
+
+-- a worker with a tile acts
+abbrev pub working : BookValue → Option WorkerValue → (WorkerValue → Turn) → Turn
+working b None f = stays b None Idle
+working b (Some x) f = f x
+
+-- a step, unless the runner is at its branch's end, or its stretch has as many steps as can be counted
+abbrev pub stepped : BookValue → WorkerValue → Turn
+stepped b x =
+    if same_state x.runner.position (end_of x.runner.branch.hi) then stays b (Some x) (Runner AtBranchEnd) else
+    (if steps_between x.runner.problem x.runner.mark x.runner.position == most_steps then stays b (Some x) (Runner StretchFull) else
+    record {
+      reply = Event (event_of x.runner.problem x.runner.position);
+      book = b;
+      worker = Some (moved_to x (next x.runner.problem x.runner.position));
+    })
+
+-- a step back, unless the runner is at its mark
+abbrev pub stepped_back : BookValue → WorkerValue → Turn
+stepped_back b x =
+    if same_state x.runner.position x.runner.mark then stays b (Some x) (Runner AtMark) else
+    record { reply = Event event.Moved; book = b; worker = Some (moved_to x (prev x.runner.problem x.runner.position)) }
+
+-- why a runner refuses the cut at an option of a level, where memory doesn't run out: the option is left there, and its cut doesn't
+-- come before the branch's end; else nothing is untried there; else the option isn't
+abbrev pub cut_refusal : RunnerValue → ℕ → ℕ → RunnerFault
+cut_refusal r level o =
+    if has (left_above r.problem level r.position) o then OutsideBranch else
+    (if length (untried_in r level) == 0 then NothingUntried else NotUntried)
+
+-- the tile is split at an option of a level, unless the runner refuses that cut
+abbrev pub splitting : BookValue → ℕ → ℕ → WorkerValue → Turn
+splitting b level o x =
+    if has (untried_in x.runner level) o then
+    called b x.grant.worker (split_call x (with_choice x.runner.position level o)) (after_split x (cut_at x.runner level o))
+    else stays b (Some x) (Runner (cut_refusal x.runner level o))
+
+-- what was posted last is taken out and walked again, unless there are unposted steps
+abbrev pub retracting : BookValue → WorkerValue → Turn
+retracting b x =
+    if steps_between x.runner.problem x.runner.mark x.runner.position == 0 then called b x.grant.worker (call.Retract x.grant) (after_retract x) else
+    stays b (Some x) (Runner NotAtMark)
+
+-- what worker w's act makes of a book and of its place
+unfoldable pub turn : BookValue → Option WorkerValue → ℕ → Act → Turn
+turn b x w Step = working b x (stepped b)
+turn b x w Back = working b x (stepped_back b)
+turn b x w (Lease id) = leasing b w x (call.Lease id)
+turn b x w LeaseAny = leasing b w x call.LeaseAny
+turn b x w (TakeHeld id) = leasing b w x (call.TakeHeld id)
+turn b x w Post = working b x (λ y. called b y.grant.worker (post_of b.problem y.grant (unposted y)) (after_post y))
+turn b x w (Split level o) = working b x (splitting b level o)
+turn b x w Retract = working b x (retracting b)
+turn b x w Park = working b x (λ y. called b y.grant.worker (call.Park y.grant) (after_end y))
+turn b x w Abandon = working b x (λ y. called b y.grant.worker (call.Abandon y.grant) (after_end y))
+turn b x w Close = working b x (λ y. called b y.grant.worker (call.Close y.grant) (after_end y))
+turn b x w (PutBack id s) = called b w (call.PutBack id (state_value s)) (λ r. x)
+turn b x w (RequestStop id) = called b w (call.RequestStop id) (λ r. x)
+
+-- the act that ends a lease
+abbrev pub end_act : Ending → Act
+end_act ending.Park = Park
+end_act ending.Abandon = Abandon
+end_act ending.Close = Close
+
+-- the answer is a turn's, and so are the book and the worker's place
+pub record Turned (t : Turn) (r : WorldReply) (b : BookValue) (x : Option WorkerValue) : Type 0 where
+  pub reply : r ≡ t.reply
+  pub book : b ≡ t.book
+  pub worker : x ≡ t.worker
+
+-- ---- worlds
+
+-- what an event makes of a world
+pub record Happening : Type 0 where
+  pub reply : WorldReply
+  pub world : WorldValue
+
+abbrev pub placed : List (Option WorkerValue) → ℕ → Turn → Happening
+placed ws w t = record { reply = t.reply; world = record { book = t.book; workers = slice_set ws w t.worker } }
+
+abbrev pub world_step : WorldValue → WorldEvent → Happening
+world_step v e = placed v.workers e.worker (turn v.book (worker_at v.workers e.worker) e.worker e.act)
+
+-- the fold of events
+abbrev pub played : WorldValue → List WorldEvent → WorldValue
+played v [] = v
+played v (e ∷ es) = played (world_step v e).world es
+
+-- the answers that the fold gives
+abbrev pub world_replies : WorldValue → List WorldEvent → List WorldReply
+world_replies v [] = []
+world_replies v (e ∷ es) = (world_step v e).reply ∷ world_replies (world_step v e).world es
+
+-- a worker's place: it is empty, or its lease names it and it holds its tile
+abbrev pub IsPlace : BookValue → ℕ → Option WorkerValue → Type 0
+IsPlace b w None = Unit {0}
+IsPlace b w (Some x) = (x.grant.worker ≡ w) × HoldsTile b x
+
+-- what is true of every world: it has 1 to 32 workers, and each that has a lease holds its tile
+pub record IsWorld (v : WorldValue) : Type 0 where
+  pub some : 0 < length v.workers
+  pub few : length v.workers < 33
+  pub holds : (w : ℕ) → w < length v.workers → IsPlace v.book w (worker_at v.workers w)
+
+-- a world whose workers have no tile
+abbrev pub fresh : BookValue → ℕ → WorldValue
+fresh b n = record { book = b; workers = replicate n None }
+
+-- where a worker stands
+abbrev pub state_of : WorldValue → ℕ → Option StateValue
+state_of v w = option_map (λ (x : WorkerValue). x.runner.position) (worker_at v.workers w)

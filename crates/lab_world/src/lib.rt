@@ -1,0 +1,18 @@
+//! Workers on one book: each holds the lease of a tile and a runner that searches there. No thread and no lock is needed here.
+#![tactic(auto)]
+
+mod event;
+mod fault;
+mod turn;
+mod worker;
+mod world;
+
+pub use event::{Act, WorldEvent, WorldReply};
+pub use fault::WorkerFault;
+pub use worker::Worker;
+pub use world::{PlayStopped, World};
+
+#[cfg(test)]
+mod drawn_tests;
+#[cfg(test)]
+mod tests;

@@ -1,0 +1,416 @@
+//! Worlds of the small problem, row by row, and drawn lists of events on drawn problems.
+ghost use Rattle.std.specs.Prelude.{◌<◌, ◌↔◌, All, IsTrue};
+
+use crate::{Act, World, WorldEvent, WorldReply};
+use cover_problem::{PlainTable, Problem, read_cover};
+use lab_book::{Book, Reply, Tile};
+use std::alloc::{AllocError, Global};
+use std::test::Fail;
+use x_branches::RunnerFault;
+use x_steps::{Cursor, Event, Label, Paths, State};
+
+/// The small problem: its run has 43 steps, the cut 4 stands after 20, and X2 below 4 5 1 after 29.
+const SMALL: &str =
+    "items a b c d e f g\noption c e\noption a d g\noption b c f\noption a d f\noption b g\noption d e g";
+
+/// What a worker does; a tile is put back to a step without choices.
+#[derive(Clone, Copy)]
+pub enum Do {
+    Step,
+    Back,
+    Lease(u64),
+    LeaseAny,
+    TakeHeld(u64),
+    Post,
+    Split(usize, u32),
+    Retract,
+    Park,
+    Abandon,
+    Close,
+    PutBack(u64, Label),
+    RequestStop(u64),
+}
+
+/// What a worker does, how often, and what it is answered each time; the number of the book's refusal, or 0; and how many steps are
+/// posted then.
+type Row = (u8, Do, u32, WorldReply, u8, u128);
+
+/// The act of going back.
+fn put_back(alloc: Global, id: u64, label: Label) -> Act {
+    let state = State {
+        label,
+        path: Vec::new(alloc),
+        cursor: Cursor::None,
+    };
+    Act::PutBack { id, state }
+}
+
+/// The act.
+fn act_of(alloc: Global, todo: Do) -> Act {
+    match todo {
+        Do::Step => Act::Step,
+        Do::Back => Act::Back,
+        Do::Lease(id) => Act::Lease(id),
+        Do::LeaseAny => Act::LeaseAny,
+        Do::TakeHeld(id) => Act::TakeHeld(id),
+        Do::Post => Act::Post,
+        Do::Split(level, option) => Act::Split { level, option },
+        Do::Retract => Act::Retract,
+        Do::Park => Act::Park,
+        Do::Abandon => Act::Abandon,
+        Do::Close => Act::Close,
+        Do::PutBack(id, label) => put_back(alloc, id, label),
+        Do::RequestStop(id) => Act::RequestStop(id),
+    }
+}
+
+/// Adds so many events of a worker.
+pub fn add(
+    alloc: Global,
+    events: &mut Vec<WorldEvent>,
+    worker: u8,
+    todo: Do,
+    times: u32,
+) -> Result<(), AllocError> {
+    for _ in 0..times {
+        let act = act_of(alloc, todo);
+        events.push(WorldEvent { worker, act })?;
+    }
+    Ok(())
+}
+
+/// Whether the worker of each event is one of so many.
+fn have_workers(events: &[WorldEvent], workers: u8) -> bool
+    ensures { IsTrue result ↔ All (λ (e : WorldEvent). e.worker < workers) events.now }
+{
+    events.iter().all(|event| event.worker < workers)
+}
+
+/// What was made, or that it was refused.
+fn made<V: Drop, F: Drop>(made: Result<V, F>) -> Result<V, Fail> {
+    match made {
+        Ok(value) => Ok(value),
+        Err(_) => Err(Fail::from("refused")),
+    }
+}
+
+/// The replies to events of workers that there are.
+pub fn play(
+    world: &mut World<'_, PlainTable>,
+    events: &[WorldEvent],
+) -> Result<Vec<WorldReply>, Fail> {
+    if !have_workers(events, world.workers()) {
+        return Err(Fail::from("no such worker"));
+    }
+    made(world.play(events))
+}
+
+/// Whether all of so many replies are this one.
+fn are_all(replies: &[WorldReply], times: u32, right: WorldReply) -> bool {
+    replies.len() == times as usize && replies.iter().all(|reply| *reply == right)
+}
+
+/// The number of the refusal that a book's last entry has; 0 where it has another answer.
+fn last_number(book: &Book<'_>) -> Option<u8> {
+    match book.history().last() {
+        Some(entry) => match entry.reply() {
+            Reply::Refused(fault) => fault.number(),
+            _ => Some(0),
+        },
+        None => None,
+    }
+}
+
+/// Whether a reply names the one entry that is new, with this refusal, or none is new.
+fn is_noted(book: &Book<'_>, entries: usize, reply: WorldReply, number: u8) -> bool {
+    let now = book.history().len();
+    match reply {
+        WorldReply::Book(index) => {
+            index == entries as u64
+                && now == entries.wrapping_add(1)
+                && last_number(book) == Some(number)
+        }
+        _ => now == entries,
+    }
+}
+
+/// Whether a row holds.
+fn holds(alloc: Global, world: &mut World<'_, PlainTable>, row: Row) -> Result<bool, Fail> {
+    let (worker, todo, times, reply, number, steps) = row;
+    let entries = world.book().history().len();
+    let mut events = Vec::new(alloc);
+    add(alloc, &mut events, worker, todo, times)?;
+    let replies = play(world, &events)?;
+    let book = world.book();
+    Ok(
+        are_all(&replies, times, reply)
+            && is_noted(book, entries, reply, number)
+            && book.steps() == steps,
+    )
+}
+
+/// How many rows hold, up to the first that doesn't.
+fn held(alloc: Global, world: &mut World<'_, PlainTable>, rows: &[Row]) -> Result<usize, Fail> {
+    for (place, row) in rows.iter().enumerate() {
+        if !holds(alloc, world, *row)? {
+            return Ok(place);
+        }
+    }
+    Ok(rows.len())
+}
+
+/// How many rows hold, and what is posted then.
+fn seen(
+    alloc: Global,
+    world: &mut World<'_, PlainTable>,
+    rows: &[Row],
+) -> Result<(usize, Tally), Fail> {
+    let count = held(alloc, world, rows)?;
+    Ok((count, tally_of(alloc, world.book())?))
+}
+
+/// The same in a new world with two workers.
+fn seen_anew(alloc: Global, problem: &Problem, rows: &[Row]) -> Result<(usize, Tally), Fail> {
+    let mut world = World::new(alloc, problem, 2)?;
+    seen(alloc, &mut world, rows)
+}
+
+/// The same of the small problem.
+fn shown(alloc: Global, rows: &[Row]) -> Result<(usize, Tally), Fail> {
+    let problem = read_cover(alloc, SMALL.as_bytes())?;
+    seen_anew(alloc, &problem, rows)
+}
+
+/// What was posted to a book: its visits with a 0 after each, how many X2 states at each level, each stretch by its steps and its levels,
+/// and whether all tiles are closed.
+#[derive(Drop)]
+struct Tally {
+    visits: Vec<u32>,
+    levels: Vec<u128>,
+    parts: Vec<u32>,
+    all: bool,
+}
+
+/// Adds the paths, with a 0 after each.
+fn add_paths(visits: &mut Vec<u32>, paths: &Paths) -> Result<(), AllocError> {
+    for place in 0..paths.len() {
+        visits.extend_from_slice(paths.path(place))?;
+        visits.push(0)?;
+    }
+    Ok(())
+}
+
+/// Adds the stretches of a tile.
+fn add_parts(parts: &mut Vec<u32>, tile: &Tile<'_>) -> Result<(), AllocError> {
+    for stretch in tile.stretches() {
+        parts.push(stretch.steps())?;
+        parts.extend_from_slice(stretch.levels())?;
+    }
+    Ok(())
+}
+
+/// The stretches of a book, tile by tile.
+fn parts_of(alloc: Global, book: &Book<'_>) -> Result<Vec<u32>, AllocError> {
+    let mut parts = Vec::new(alloc);
+    for tile in book.tiles() {
+        add_parts(&mut parts, tile)?;
+    }
+    Ok(parts)
+}
+
+/// The visits of what was posted to a book, with a 0 after each.
+pub fn visits_of(alloc: Global, book: &Book<'_>) -> Result<Vec<u32>, AllocError> {
+    let mut visits = Vec::new(alloc);
+    add_paths(&mut visits, &book.visits()?)?;
+    Ok(visits)
+}
+
+/// What was posted to a book.
+fn tally_of(alloc: Global, book: &Book<'_>) -> Result<Tally, AllocError> {
+    Ok(Tally {
+        visits: visits_of(alloc, book)?,
+        levels: book.levels()?,
+        parts: parts_of(alloc, book)?,
+        all: book.finished(),
+    })
+}
+
+const MOVED: WorldReply = WorldReply::Event(Event::Moved);
+
+const VISITED: WorldReply = WorldReply::Event(Event::Visited);
+
+const FINISHED: WorldReply = WorldReply::Event(Event::Finished);
+
+/// Two workers share the run at the cut 4.
+const SHARED: [Row; 14] = [
+    (0, Do::LeaseAny, 1, WorldReply::Book(0), 0, 0),
+    (0, Do::Step, 5, MOVED, 0, 0),
+    (0, Do::Split(0, 4), 1, WorldReply::Book(1), 0, 0),
+    (1, Do::LeaseAny, 1, WorldReply::Book(2), 0, 0),
+    (0, Do::Step, 15, MOVED, 0, 0),
+    (
+        0,
+        Do::Step,
+        1,
+        WorldReply::Runner(RunnerFault::AtBranchEnd),
+        0,
+        0,
+    ),
+    (1, Do::Step, 9, MOVED, 0, 0),
+    (1, Do::Step, 1, VISITED, 0, 0),
+    (1, Do::Step, 12, MOVED, 0, 0),
+    (1, Do::Step, 1, FINISHED, 0, 0),
+    (1, Do::Post, 1, WorldReply::Book(3), 0, 23),
+    (0, Do::Post, 1, WorldReply::Book(4), 0, 43),
+    (0, Do::Close, 1, WorldReply::Book(5), 0, 43),
+    (1, Do::Close, 1, WorldReply::Book(6), 0, 43),
+];
+
+impl Tally {
+    /// Whether the run is posted in two parts, from X1 to the cut 4 and on to the end.
+    fn is_shared(&self) -> bool {
+        self.all
+            && self.visits.as_slice() == [4, 5, 1, 0].as_slice()
+            && self.levels.as_slice() == [1, 2, 2, 1].as_slice()
+            && self.parts.as_slice() == [20, 1, 1, 1, 23, 0, 1, 1, 1].as_slice()
+    }
+}
+
+#[test]
+fn two_workers_share_the_run(rt: HostRuntime) -> Result<(), Fail> {
+    let (count, tally) = shown(rt.alloc(), &SHARED)?;
+    assert!(rt; count == 14 && tally.is_shared());
+    Ok(())
+}
+
+const IDLE: WorldReply = WorldReply::Idle;
+
+const BUSY: WorldReply = WorldReply::Busy;
+
+/// What needs a runner is refused where there is none, and a lease where there is one.
+const WITHOUT: [Row; 18] = [
+    (0, Do::Step, 1, IDLE, 0, 0),
+    (0, Do::Back, 1, IDLE, 0, 0),
+    (0, Do::Post, 1, IDLE, 0, 0),
+    (0, Do::Split(0, 4), 1, IDLE, 0, 0),
+    (0, Do::Retract, 1, IDLE, 0, 0),
+    (0, Do::Park, 1, IDLE, 0, 0),
+    (0, Do::Abandon, 1, IDLE, 0, 0),
+    (0, Do::Close, 1, IDLE, 0, 0),
+    (0, Do::Lease(5), 1, WorldReply::Book(0), 1, 0),
+    (0, Do::Lease(0), 1, WorldReply::Book(1), 0, 0),
+    (0, Do::Lease(0), 1, BUSY, 0, 0),
+    (0, Do::LeaseAny, 1, BUSY, 0, 0),
+    (0, Do::TakeHeld(0), 1, BUSY, 0, 0),
+    (1, Do::Lease(0), 1, WorldReply::Book(2), 2, 0),
+    (1, Do::LeaseAny, 1, WorldReply::Book(3), 0, 0),
+    (1, Do::Step, 1, IDLE, 0, 0),
+    (0, Do::Abandon, 1, WorldReply::Book(4), 0, 0),
+    (0, Do::Abandon, 1, IDLE, 0, 0),
+];
+
+/// What was walked is posted and taken back, and cuts are refused.
+const BACK: [Row; 21] = [
+    (0, Do::LeaseAny, 1, WorldReply::Book(0), 0, 0),
+    (
+        0,
+        Do::Split(0, 4),
+        1,
+        WorldReply::Runner(RunnerFault::NothingUntried),
+        0,
+        0,
+    ),
+    (0, Do::Step, 5, MOVED, 0, 0),
+    (
+        0,
+        Do::Split(0, 2),
+        1,
+        WorldReply::Runner(RunnerFault::NotUntried),
+        0,
+        0,
+    ),
+    (
+        0,
+        Do::Retract,
+        1,
+        WorldReply::Runner(RunnerFault::NotAtMark),
+        0,
+        0,
+    ),
+    (0, Do::Back, 5, MOVED, 0, 0),
+    (
+        0,
+        Do::Back,
+        1,
+        WorldReply::Runner(RunnerFault::AtMark),
+        0,
+        0,
+    ),
+    (0, Do::Retract, 1, WorldReply::Book(1), 9, 0),
+    (0, Do::Step, 29, MOVED, 0, 0),
+    (0, Do::Step, 1, VISITED, 0, 0),
+    (0, Do::Post, 1, WorldReply::Book(2), 0, 30),
+    (
+        0,
+        Do::Back,
+        1,
+        WorldReply::Runner(RunnerFault::AtMark),
+        0,
+        30,
+    ),
+    (0, Do::Retract, 1, WorldReply::Book(3), 0, 0),
+    (0, Do::Back, 1, MOVED, 0, 0),
+    (0, Do::Step, 1, VISITED, 0, 0),
+    (0, Do::Post, 1, WorldReply::Book(4), 0, 30),
+    (0, Do::Close, 1, WorldReply::Book(5), 8, 30),
+    (0, Do::Step, 12, MOVED, 0, 30),
+    (0, Do::Step, 1, FINISHED, 0, 30),
+    (0, Do::Post, 1, WorldReply::Book(6), 0, 43),
+    (0, Do::Close, 1, WorldReply::Book(7), 0, 43),
+];
+
+/// A tile is put back, and stopped.
+const STOPPED: [Row; 17] = [
+    (0, Do::LeaseAny, 1, WorldReply::Book(0), 0, 0),
+    (0, Do::Step, 29, MOVED, 0, 0),
+    (0, Do::Step, 1, VISITED, 0, 0),
+    (0, Do::Post, 1, WorldReply::Book(1), 0, 30),
+    (0, Do::PutBack(0, Label::X1), 1, WorldReply::Book(2), 2, 30),
+    (0, Do::Park, 1, WorldReply::Book(3), 0, 30),
+    (1, Do::PutBack(0, Label::X2), 1, WorldReply::Book(4), 7, 30),
+    (1, Do::PutBack(0, Label::X1), 1, WorldReply::Book(5), 0, 0),
+    (0, Do::LeaseAny, 1, WorldReply::Book(6), 0, 0),
+    (1, Do::RequestStop(0), 1, WorldReply::Book(7), 0, 0),
+    (1, Do::RequestStop(1), 1, WorldReply::Book(8), 1, 0),
+    (0, Do::Park, 1, WorldReply::Book(9), 0, 0),
+    (1, Do::Lease(0), 1, WorldReply::Book(10), 2, 0),
+    (1, Do::TakeHeld(0), 1, WorldReply::Book(11), 0, 0),
+    (1, Do::Step, 5, MOVED, 0, 0),
+    (1, Do::Split(0, 4), 1, WorldReply::Book(12), 0, 0),
+    (
+        1,
+        Do::Split(0, 4),
+        1,
+        WorldReply::Runner(RunnerFault::OutsideBranch),
+        0,
+        0,
+    ),
+];
+
+#[test]
+fn a_worker_without_a_tile_is_idle(rt: HostRuntime) -> Result<(), Fail> {
+    assert!(rt; shown(rt.alloc(), &WITHOUT)?.0 == 18);
+    Ok(())
+}
+
+#[test]
+fn what_was_walked_is_taken_back(rt: HostRuntime) -> Result<(), Fail> {
+    assert!(rt; shown(rt.alloc(), &BACK)?.0 == 21);
+    Ok(())
+}
+
+#[test]
+fn a_tile_is_put_back_and_stopped(rt: HostRuntime) -> Result<(), Fail> {
+    assert!(rt; shown(rt.alloc(), &STOPPED)?.0 == 17);
+    Ok(())
+}

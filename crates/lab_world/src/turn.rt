@@ -1,0 +1,291 @@
+//! What one worker's act makes of the book and of its place.
+ghost use Rattle.std.specs.Prelude.{◌≡◌, ◌≤◌, ℕ, Option, length, IfOk, OnErr};
+ghost use Rattle.lab_book.specs.Book.{BookValue};
+ghost use Rattle.lab_book.specs.declared.fault.BookFault.TheVariants as faults;
+ghost use Rattle.lab_world.specs.declared.event.Act.TheVariants as acts;
+ghost use Rattle.lab_world.specs.declared.event.WorldReply.TheVariants as replies;
+ghost use Rattle.lab_world.specs.Worker.{WorkerValue};
+ghost use Rattle.lab_world.specs.World.{Turned, IsPlace, turn, end_act};
+
+use crate::event::{Act, WorldReply};
+use crate::fault::WorkerFault;
+use crate::worker::{Ending, Worker};
+use cover_problem::Table;
+use lab_book::{Book, BookFault};
+use std::alloc::{AllocError, Global};
+use x_branches::RunnerFault;
+use x_steps::{Event, Refused, State};
+
+/// The reply to a call that the book refused: the index of its entry. Out of memory, the book has none.
+fn refused(index: u64, fault: &BookFault) -> Result<WorldReply, AllocError>
+    ensures reply { IfOk result (λ r. r ≡ replies.Book index) }
+    ensures noted { IfOk result (λ r. fault.now ≡ faults.OutOfMemory → ⊥) }
+    ensures memory { OnErr result (fault.now ≡ faults.OutOfMemory) }
+{
+    match fault {
+        BookFault::OutOfMemory => Err(AllocError),
+        _ => Ok(WorldReply::Book(index)),
+    }
+}
+
+/// The reply to what the runner refused. Out of memory, there is none.
+fn not_done(fault: RunnerFault) -> Result<WorldReply, AllocError>
+    ensures reply { IfOk result (λ r. r ≡ replies.Runner fault) }
+    ensures noted { IfOk result (λ r. fault ≡ RunnerFault.OutOfMemory → ⊥) }
+    ensures memory { OnErr result (fault ≡ RunnerFault.OutOfMemory) }
+{
+    match fault {
+        RunnerFault::OutOfMemory => Err(AllocError),
+        _ => Ok(WorldReply::Runner(fault)),
+    }
+}
+
+/// The index of the entry that comes next.
+fn next_index(book: &Book<'_>) -> u64
+    ensures { result ≡ length book.now.history }
+{
+    book.history().len() as u64
+}
+
+/// A step.
+fn step<T: Table>(place: &mut Option<Worker<'_, T>>) -> Result<WorldReply, AllocError>
+    ensures turned { IfOk result (λ r. (b : BookValue) (w : ℕ) → Turned (turn b place.old w Act.Step) r b place.new) }
+    ensures unchanged { OnErr result (place.new ≡ place.old) }
+{
+    let Some(worker) = place else {
+        return Ok(WorldReply::Idle);
+    };
+    match worker.step() {
+        Ok(event) => Ok(WorldReply::Event(event)),
+        Err(fault) => not_done(fault),
+    }
+}
+
+/// A step back.
+fn back<T: Table>(place: &mut Option<Worker<'_, T>>) -> WorldReply
+    ensures { (b : BookValue) (w : ℕ) → Turned (turn b place.old w Act.Back) result b place.new }
+{
+    let Some(worker) = place else {
+        return WorldReply::Idle;
+    };
+    match worker.back() {
+        Ok(()) => WorldReply::Event(Event::Moved),
+        Err(fault) => WorldReply::Runner(fault),
+    }
+}
+
+/// A tile is leased by its id.
+fn lease<'p, T: Table>(
+    alloc: Global,
+    book: &mut Book<'p>,
+    place: &mut Option<Worker<'p, T>>,
+    w: u8,
+    id: u64,
+) -> Result<WorldReply, AllocError>
+    requires { w ≤ 31 }
+    ensures turned { IfOk result (λ r. Turned (turn book.old place.old w (Act.Lease id)) r book.new place.new) }
+    ensures book { OnErr result (book.new ≡ book.old) }
+    ensures unchanged { OnErr result (place.new ≡ place.old) }
+{
+    if place.is_some() {
+        return Ok(WorldReply::Busy);
+    }
+    let index = next_index(book);
+    match Worker::lease(alloc, book, w, id) {
+        Ok(worker) => {
+            *place = Some(worker);
+            Ok(WorldReply::Book(index))
+        }
+        Err(fault) => refused(index, &fault),
+    }
+}
+
+/// A held tile is leased by its id.
+fn take_held<'p, T: Table>(
+    alloc: Global,
+    book: &mut Book<'p>,
+    place: &mut Option<Worker<'p, T>>,
+    w: u8,
+    id: u64,
+) -> Result<WorldReply, AllocError>
+    requires { w ≤ 31 }
+    ensures turned { IfOk result (λ r. Turned (turn book.old place.old w (Act.TakeHeld id)) r book.new place.new) }
+    ensures book { OnErr result (book.new ≡ book.old) }
+    ensures unchanged { OnErr result (place.new ≡ place.old) }
+{
+    if place.is_some() {
+        return Ok(WorldReply::Busy);
+    }
+    let index = next_index(book);
+    match Worker::take_held(alloc, book, w, id) {
+        Ok(worker) => {
+            *place = Some(worker);
+            Ok(WorldReply::Book(index))
+        }
+        Err(fault) => refused(index, &fault),
+    }
+}
+
+/// The first tile that waits is leased, if one does.
+fn lease_any<'p, T: Table>(
+    alloc: Global,
+    book: &mut Book<'p>,
+    place: &mut Option<Worker<'p, T>>,
+    w: u8,
+) -> Result<WorldReply, AllocError>
+    requires { w ≤ 31 }
+    ensures turned { IfOk result (λ r. Turned (turn book.old place.old w Act.LeaseAny) r book.new place.new) }
+    ensures book { OnErr result (book.new ≡ book.old) }
+    ensures unchanged { OnErr result (place.new ≡ place.old) }
+{
+    if place.is_some() {
+        return Ok(WorldReply::Busy);
+    }
+    let index = next_index(book);
+    *place = Worker::lease_any(alloc, book, w)?;
+    Ok(WorldReply::Book(index))
+}
+
+/// What was walked is posted.
+fn post<'p, T: Table>(
+    book: &mut Book<'p>,
+    place: &mut Option<Worker<'p, T>>,
+) -> Result<WorldReply, AllocError>
+    ensures turned { IfOk result (λ r. (w : ℕ) → Turned (turn book.old place.old w Act.Post) r book.new place.new) }
+    ensures book { OnErr result (book.new ≡ book.old) }
+    ensures unchanged { OnErr result (place.new ≡ place.old) }
+{
+    let index = next_index(book);
+    let Some(worker) = place else {
+        return Ok(WorldReply::Idle);
+    };
+    match worker.post(book) {
+        Ok(_) => Ok(WorldReply::Book(index)),
+        Err(fault) => refused(index, &fault),
+    }
+}
+
+/// What was posted last is taken out, and walked again.
+fn retract<'p, T: Table>(
+    book: &mut Book<'p>,
+    place: &mut Option<Worker<'p, T>>,
+    w: u8,
+) -> Result<WorldReply, AllocError>
+    requires { IsPlace book.old w place.old }
+    ensures turned { IfOk result (λ r. Turned (turn book.old place.old w Act.Retract) r book.new place.new) }
+    ensures book { OnErr result (book.new ≡ book.old) }
+    ensures unchanged { OnErr result (place.new ≡ place.old) }
+{
+    let index = next_index(book);
+    let Some(worker) = place else {
+        return Ok(WorldReply::Idle);
+    };
+    match worker.retract(book) {
+        Ok(()) => Ok(WorldReply::Book(index)),
+        Err(WorkerFault::Runner(fault)) => Ok(WorldReply::Runner(fault)),
+        Err(WorkerFault::Book(fault)) => refused(index, &fault),
+    }
+}
+
+/// The tile is split at an option of a level.
+fn split<'p, T: Table>(
+    book: &mut Book<'p>,
+    place: &mut Option<Worker<'p, T>>,
+    w: u8,
+    level: usize,
+    option: u32,
+) -> Result<WorldReply, AllocError>
+    requires { IsPlace book.old w place.old }
+    ensures turned { IfOk result (λ r. Turned (turn book.old place.old w (acts.Split level option)) r book.new place.new) }
+    ensures book { OnErr result (book.new ≡ book.old) }
+    ensures unchanged { OnErr result (place.new ≡ place.old) }
+{
+    let index = next_index(book);
+    let Some(worker) = place else {
+        return Ok(WorldReply::Idle);
+    };
+    match worker.split(book, level, option) {
+        Ok(_) => Ok(WorldReply::Book(index)),
+        Err(WorkerFault::Runner(fault)) => not_done(fault),
+        Err(WorkerFault::Book(fault)) => refused(index, &fault),
+    }
+}
+
+/// The tile is given up.
+fn end<'p, T: Table>(
+    book: &mut Book<'p>,
+    place: &mut Option<Worker<'p, T>>,
+    ending: Ending,
+) -> Result<WorldReply, AllocError>
+    ensures turned { IfOk result (λ r. (w : ℕ) → Turned (turn book.old place.old w (end_act ending)) r book.new place.new) }
+    ensures book { OnErr result (book.new ≡ book.old) }
+    ensures unchanged { OnErr result (place.new ≡ place.old) }
+{
+    let index = next_index(book);
+    let Some(worker) = place.take() else {
+        return Ok(WorldReply::Idle);
+    };
+    let Refused { fault, given } = match worker.end(book, ending) {
+        Ok(()) => return Ok(WorldReply::Book(index)),
+        Err(refused) => refused,
+    };
+    *place = Some(given);
+    refused(index, &fault)
+}
+
+/// A tile goes back to one of its marks.
+fn put_back(book: &mut Book<'_>, w: u8, id: u64, state: &State) -> Result<WorldReply, AllocError>
+    requires { w ≤ 31 }
+    ensures turned { IfOk result (λ r. (x : Option WorkerValue) → Turned (turn book.old x w (acts.PutBack id state.now)) r book.new x) }
+    ensures book { OnErr result (book.new ≡ book.old) }
+{
+    let index = next_index(book);
+    match book.put_back(w, id, state) {
+        Ok(()) => Ok(WorldReply::Book(index)),
+        Err(fault) => refused(index, &fault),
+    }
+}
+
+/// A tile is asked to stop.
+fn request_stop(book: &mut Book<'_>, w: u8, id: u64) -> Result<WorldReply, AllocError>
+    requires { w ≤ 31 }
+    ensures turned { IfOk result (λ r. (x : Option WorkerValue) → Turned (turn book.old x w (acts.RequestStop id)) r book.new x) }
+    ensures book { OnErr result (book.new ≡ book.old) }
+{
+    let index = next_index(book);
+    match book.request_stop(w, id) {
+        Ok(()) => Ok(WorldReply::Book(index)),
+        Err(fault) => refused(index, &fault),
+    }
+}
+
+/// One act of worker w. Out of memory, nothing has changed.
+pub(crate) fn act<'p, T: Table>(
+    alloc: Global,
+    book: &mut Book<'p>,
+    place: &mut Option<Worker<'p, T>>,
+    w: u8,
+    act: &Act,
+) -> Result<WorldReply, AllocError>
+    requires small { w ≤ 31 }
+    requires place { IsPlace book.old w place.old }
+    ensures turned { IfOk result (λ r. Turned (turn book.old place.old w act.now) r book.new place.new) }
+    ensures book { OnErr result (book.new ≡ book.old) }
+    ensures unchanged { OnErr result (place.new ≡ place.old) }
+{
+    match act {
+        Act::Step => step(place),
+        Act::Back => Ok(back(place)),
+        Act::Lease(id) => lease(alloc, book, place, w, *id),
+        Act::LeaseAny => lease_any(alloc, book, place, w),
+        Act::TakeHeld(id) => take_held(alloc, book, place, w, *id),
+        Act::Post => post(book, place),
+        Act::Split { level, option } => split(book, place, w, *level, *option),
+        Act::Retract => retract(book, place, w),
+        Act::Park => end(book, place, Ending::Park),
+        Act::Abandon => end(book, place, Ending::Abandon),
+        Act::Close => end(book, place, Ending::Close),
+        Act::PutBack { id, state } => put_back(book, w, *id, state),
+        Act::RequestStop(id) => request_stop(book, w, *id),
+    }
+}

@@ -1,0 +1,81 @@
+//! Workers: a lease with the runner that searches its tile.
+ghost use Rattle.std.specs.Prelude.{◌≡◌, ◌≤◌, ◌<◌, length, is_err, Err, IsTrue, IfOk, IfErr, IfSome, OnOk, OnErr};
+ghost use Rattle.x_steps.specs.StateView.{state_value};
+ghost use Rattle.x_steps.specs.Steps.{next, event_of};
+ghost use Rattle.x_steps.specs.Before.{prev};
+ghost use Rattle.x_branches.specs.Refusals.{CanAdvance, AdvanceRefused};
+ghost use Rattle.lab_book.specs.Book.{BookValue};
+ghost use Rattle.lab_world.specs.Worker.{HoldsTile, moved_to};
+
+mod ending;
+mod leasing;
+mod posting;
+mod splitting;
+
+use cover_problem::Table;
+pub(crate) use ending::Ending;
+use lab_book::{Grant, Lease};
+use std::marker::Model;
+use x_branches::{Runner, RunnerFault};
+use x_steps::Event;
+
+/// The lease of a tile and the runner that searches there. A worker that is let go discards its lease: the tile stays leased.
+pub struct Worker<'p, T: Table> {
+    lease: Lease,
+    runner: Runner<'p, T>,
+}
+
+impl<'p, T: Table> Model for Worker<'p, T> {
+    ghost use Rattle.lab_world.specs.Worker.{WorkerValue};
+
+    ghost Value = { WorkerValue };
+
+    ghost view = { λ w. record { grant = w.lease; runner = w.runner } };
+}
+
+impl<'p, T: Table> Drop for Worker<'p, T> {
+    fn drop(self) {
+        let Worker { lease, runner: _ } = self;
+        lease.discard();
+    }
+}
+
+impl<'p, T: Table> Worker<'p, T> {
+    /// The parts of its lease.
+    pub fn grant(&self) -> Grant
+        ensures { result ≡ self.now.grant }
+    {
+        self.lease.grant()
+    }
+
+    /// Its runner.
+    pub fn runner(&self) -> &Runner<'p, T>
+        ensures { result.now ≡ self.now.runner }
+    {
+        &self.runner
+    }
+
+    /// Takes one step, as its runner does.
+    pub fn step(&mut self) -> Result<Event, RunnerFault>
+        ensures state { OnOk result (self.new ≡ moved_to self.old (next self.old.runner.problem self.old.runner.position)) }
+        ensures event { IfOk result (λ event. event ≡ event_of self.old.runner.problem self.old.runner.position) }
+        ensures can { OnOk result (CanAdvance self.old.runner) }
+        ensures refused { IfErr result (AdvanceRefused self.old.runner) }
+        ensures unchanged { OnErr result (self.new ≡ self.old) }
+        ensures holds { (b : BookValue) → HoldsTile b self.old → HoldsTile b self.new }
+    {
+        self.runner.advance()
+    }
+
+    /// Takes the last step back that isn't posted, as its runner does.
+    pub fn back(&mut self) -> Result<(), RunnerFault>
+        ensures state { OnOk result (self.new ≡ moved_to self.old (prev self.old.runner.problem self.old.runner.position)) }
+        ensures can { OnOk result (self.old.runner.position ≡ self.old.runner.mark → ⊥) }
+        ensures refused { IfErr result (λ fault. fault ≡ RunnerFault.AtMark) }
+        ensures at_mark { OnErr result (self.old.runner.position ≡ self.old.runner.mark) }
+        ensures unchanged { OnErr result (self.new ≡ self.old) }
+        ensures holds { (b : BookValue) → HoldsTile b self.old → HoldsTile b self.new }
+    {
+        self.runner.retreat()
+    }
+}

@@ -1,0 +1,222 @@
+//! Workers are made where they lease a tile.
+ghost use Rattle.std.specs.Prelude.{◌≡◌, ◌≤◌, ◌<◌, length, Some, None, Err, IsErr, IfOk, IfErr, IfSome, OnOk, OnErr};
+ghost use Rattle.lab_book.specs.Tile.{is_waiting, is_held, mark_of};
+ghost use Rattle.lab_book.specs.Tiling.{tile_at, IsTiling};
+ghost use Rattle.lab_book.specs.Book.{outcome, book_step, first_waiting};
+ghost use Rattle.lab_book.specs.Calls.{Refuses};
+ghost use Rattle.lab_book.specs.declared.entry.Call.TheVariants as calls;
+ghost use Rattle.lab_world.specs.Worker.{HoldsTile, runner_at, lent_worker, waiting_place, held_place};
+
+use crate::worker::Worker;
+use cover_problem::Table;
+use lab_book::{Book, BookFault, Lease, Leased, Status};
+use std::alloc::{AllocError, Global};
+use x_branches::Runner;
+
+/// Whether a tile waits.
+fn is_waiting(status: Status) -> bool
+    ensures { result ≡ is_waiting status }
+{
+    match status {
+        Status::Waiting => true,
+        _ => false,
+    }
+}
+
+/// Whether a tile is held.
+fn is_held(status: Status) -> bool
+    ensures { result ≡ is_held status }
+{
+    match status {
+        Status::Held => true,
+        _ => false,
+    }
+}
+
+/// How the tile at a place stands.
+fn status_at(book: &Book<'_>, place: usize) -> Status
+    requires { place < length book.now.tiles }
+    ensures { result ≡ (tile_at book.now.tiles place).status }
+{
+    book.tiles()[place].status()
+}
+
+/// The place of the tile with an id, if it waits.
+fn waiting_place(book: &Book<'_>, id: u64) -> Option<usize>
+    ensures { result ≡ waiting_place book.now.tiles id }
+{
+    let Some(place) = book.place(id) else {
+        return None;
+    };
+    if is_waiting(status_at(book, place)) {
+        Some(place)
+    } else {
+        None
+    }
+}
+
+/// The place of the tile with an id, if it is held.
+fn held_place(book: &Book<'_>, id: u64) -> Option<usize>
+    ensures { result ≡ held_place book.now.tiles id }
+{
+    let Some(place) = book.place(id) else {
+        return None;
+    };
+    if is_held(status_at(book, place)) {
+        Some(place)
+    } else {
+        None
+    }
+}
+
+/// The place of the first tile that waits.
+fn first_waiting(book: &Book<'_>) -> Option<usize>
+    ensures { result ≡ first_waiting book.now.tiles }
+{
+    book.tiles()
+        .iter()
+        .position(|tile| is_waiting(tile.status()))
+}
+
+/// The runner of the tile at a place, at the tile's mark.
+fn runner_of<'p, T: Table>(
+    alloc: Global,
+    book: &Book<'p>,
+    place: usize,
+) -> Result<Runner<'p, T>, AllocError>
+    requires { place < length book.now.tiles }
+    ensures tiling { IsTiling book.now.problem book.now.branch book.now.first book.now.tiles }
+    ensures runner { IfOk result (λ runner. runner ≡
+        runner_at book.now.problem (tile_at book.now.tiles place).branch (mark_of (tile_at book.now.tiles place))) }
+{
+    let tile = &book.tiles()[place];
+    let table = T::new(alloc, book.problem())?;
+    let branch = tile.branch().copy()?;
+    match Runner::new(alloc, book.problem(), table, branch, tile.mark()) {
+        Ok(runner) => Ok(runner),
+        Err(_) => Err(AllocError),
+    }
+}
+
+/// Why a tile isn't leased.
+fn refusal(answer: Result<Leased<'_>, BookFault>) -> BookFault
+    requires { IsErr answer }
+    ensures { answer.entry ≡ Err result }
+{
+    match answer {
+        Ok(leased) => {
+            lease_of(leased).discard();
+            unreachable!()
+        }
+        Err(fault) => fault,
+    }
+}
+
+/// No tile is leased.
+fn none_leased(answer: Option<Leased<'_>>)
+    requires { answer ≡ None }
+{
+    if let Some(leased) = answer {
+        lease_of(leased).discard();
+    }
+}
+
+/// The lease alone.
+fn lease_of(leased: Leased<'_>) -> Lease
+    ensures { result ≡ leased.entry.lease }
+{
+    let Leased {
+        lease,
+        branch: _,
+        mark: _,
+        waiting: _,
+    } = leased;
+    lease
+}
+
+impl<'p, T: Table> Worker<'p, T> {
+    /// Leases the tile with an id for worker w. Table and runner are made before the lease is asked for, where the tile waits;
+    /// where it doesn't, the book refuses with its entry: where no tile has the id (1), then where it doesn't wait (2).
+    pub fn lease(
+        alloc: Global,
+        book: &mut Book<'p>,
+        w: u8,
+        id: u64,
+    ) -> Result<Worker<'p, T>, BookFault>
+        requires { w ≤ 31 }
+        ensures book { OnOk result (book.new ≡ book_step book.old w (calls.Lease id)) }
+        ensures worker { IfOk result (λ x. Some x ≡ lent_worker book.old.problem (outcome book.old w (calls.Lease id)).reply) }
+        ensures holds { IfOk result (λ x. HoldsTile book.new x) }
+        ensures refused { IfErr result (λ f. Refuses book.old book.new w (calls.Lease id) f) }
+    {
+        let Some(place) = waiting_place(book, id) else {
+            return Err(refusal(book.lease(w, id)));
+        };
+        let Ok(runner) = runner_of(alloc, book, place) else {
+            return Err(BookFault::OutOfMemory);
+        };
+        let leased = match book.lease(w, id) {
+            Ok(leased) => leased,
+            Err(fault) => return Err(fault),
+        };
+        Ok(Worker {
+            lease: lease_of(leased),
+            runner,
+        })
+    }
+
+    /// The same for a tile that is held.
+    pub fn take_held(
+        alloc: Global,
+        book: &mut Book<'p>,
+        w: u8,
+        id: u64,
+    ) -> Result<Worker<'p, T>, BookFault>
+        requires { w ≤ 31 }
+        ensures book { OnOk result (book.new ≡ book_step book.old w (calls.TakeHeld id)) }
+        ensures worker { IfOk result (λ x. Some x ≡ lent_worker book.old.problem (outcome book.old w (calls.TakeHeld id)).reply) }
+        ensures holds { IfOk result (λ x. HoldsTile book.new x) }
+        ensures refused { IfErr result (λ f. Refuses book.old book.new w (calls.TakeHeld id) f) }
+    {
+        let Some(place) = held_place(book, id) else {
+            return Err(refusal(book.take_held(w, id)));
+        };
+        let Ok(runner) = runner_of(alloc, book, place) else {
+            return Err(BookFault::OutOfMemory);
+        };
+        let leased = match book.take_held(w, id) {
+            Ok(leased) => leased,
+            Err(fault) => return Err(fault),
+        };
+        Ok(Worker {
+            lease: lease_of(leased),
+            runner,
+        })
+    }
+
+    /// Leases the first tile that waits, or answers None where none does, which makes no table. Out of memory, nothing has changed.
+    pub fn lease_any(
+        alloc: Global,
+        book: &mut Book<'p>,
+        w: u8,
+    ) -> Result<Option<Worker<'p, T>>, AllocError>
+        requires { w ≤ 31 }
+        ensures book { OnOk result (book.new ≡ book_step book.old w calls.LeaseAny) }
+        ensures worker { IfOk result (λ x. x ≡ lent_worker book.old.problem (outcome book.old w calls.LeaseAny).reply) }
+        ensures holds { IfOk result (λ x. IfSome x (HoldsTile book.new)) }
+        ensures unchanged { OnErr result (book.new ≡ book.old) }
+    {
+        let Some(place) = first_waiting(book) else {
+            none_leased(book.lease_any(w)?);
+            return Ok(None);
+        };
+        let runner = runner_of(alloc, book, place)?;
+        let Some(leased) = book.lease_any(w)? else {
+            unreachable!()
+        };
+        Ok(Some(Worker {
+            lease: lease_of(leased),
+            runner,
+        }))
+    }
+}

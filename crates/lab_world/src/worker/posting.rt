@@ -1,0 +1,72 @@
+//! What a worker walked is posted, and taken back.
+ghost use Rattle.std.specs.Prelude.{◌≡◌, ◌<◌, Some, IfOk, IfErr, OnOk, OnErr};
+ghost use Rattle.x_steps.specs.StateValue.{StateValue};
+ghost use Rattle.x_steps.specs.Run.{steps_between};
+ghost use Rattle.lab_book.specs.Book.{outcome, book_step};
+ghost use Rattle.lab_book.specs.Calls.{Posts, PostRefused};
+ghost use Rattle.lab_book.specs.declared.entry.Call.TheVariants as calls;
+ghost use Rattle.lab_book.specs.declared.entry.Reply.TheVariants as replies;
+ghost use Rattle.lab_world.specs.Worker.{HoldsTile, marked_at, unposted, after_retract, RetractRefused};
+
+use crate::fault::WorkerFault;
+use crate::worker::Worker;
+use cover_problem::Table;
+use lab_book::{Book, BookFault, Posted};
+use x_branches::RunnerFault;
+use x_steps::Refused;
+
+impl<'p, T: Table> Worker<'p, T> {
+    /// Posts what it walked since its mark; its mark is then its position. Refused as the book refuses it; what it walked is then
+    /// unposted as before.
+    pub fn post(&mut self, book: &mut Book<'p>) -> Result<Posted, BookFault>
+        ensures made { IfOk result (λ r. Posts book.old book.new self.old.grant (unposted self.old) r) }
+        ensures marked { OnOk result (self.new ≡ marked_at self.old self.old.runner.position) }
+        ensures refused { IfErr result (λ f. PostRefused book.old book.new self.old.grant (unposted self.old) f) }
+        ensures unchanged { OnErr result (self.new ≡ self.old) }
+        ensures holds { HoldsTile book.old self.old → HoldsTile book.new self.new }
+    {
+        let _state = self.runner.state();
+        let _tiles = book.tiles();
+        let Ok(stretch) = self.runner.take_stretch() else {
+            return Err(BookFault::OutOfMemory);
+        };
+        let refused = match book.post(&self.lease, stretch) {
+            Ok(posted) => return Ok(posted),
+            Err(refused) => refused,
+        };
+        let Refused { fault, given } = refused;
+        let Ok(()) = self.runner.reopen(given) else {
+            unreachable!()
+        };
+        Err(fault)
+    }
+
+    /// Takes the last posted stretch of its tile out of the book, and walks on from where it began: that stretch is unposted then.
+    /// Refused, without a call of the book, where it has unposted steps (6), and as the book refuses it.
+    pub fn retract(&mut self, book: &mut Book<'p>) -> Result<(), WorkerFault>
+        requires { HoldsTile book.old self.old }
+        ensures book { OnOk result (book.new ≡ book_step book.old self.old.grant.worker (calls.Retract self.old.grant)) }
+        ensures worker { OnOk result (Some self.new ≡
+            after_retract self.old (outcome book.old self.old.grant.worker (calls.Retract self.old.grant)).reply) }
+        ensures reply { OnOk result ((from : StateValue) × (to : StateValue)
+            × ((outcome book.old self.old.grant.worker (calls.Retract self.old.grant)).reply ≡ replies.Retracted from to)) }
+        ensures none_unposted { OnOk result (steps_between self.old.runner.problem self.old.runner.mark self.old.runner.position ≡ 0) }
+        ensures refused { IfErr result (RetractRefused book.old book.new self.old) }
+        ensures unchanged { OnErr result (self.new ≡ self.old) }
+        ensures holds { HoldsTile book.new self.new }
+    {
+        let _state = self.runner.state();
+        let _tiles = book.tiles();
+        if self.runner.unposted() > 0 {
+            return Err(WorkerFault::Runner(RunnerFault::NotAtMark));
+        }
+        let stretch = match book.retract(&self.lease) {
+            Ok(stretch) => stretch,
+            Err(fault) => return Err(WorkerFault::Book(fault)),
+        };
+        let Ok(()) = self.runner.reopen(stretch) else {
+            unreachable!()
+        };
+        Ok(())
+    }
+}

@@ -1,0 +1,55 @@
+//! Workers split their tiles.
+ghost use Rattle.std.specs.Prelude.{◌≡◌, true, IfOk, IfErr, OnOk, OnErr};
+ghost use Rattle.cover_problem.specs.Lists.{has};
+ghost use Rattle.x_branches.specs.Refusals.{untried_in};
+ghost use Rattle.x_branches.specs.Untried.{with_choice};
+ghost use Rattle.lab_book.specs.declared.entry.Reply.TheVariants as replies;
+ghost use Rattle.lab_book.specs.Book.{outcome, book_step};
+ghost use Rattle.lab_world.specs.Worker.{HoldsTile, cut_at, split_call, shortened, WorkerSplitRefused};
+
+use crate::fault::WorkerFault;
+use crate::worker::Worker;
+use cover_problem::Table;
+use lab_book::Book;
+use x_branches::RunnerFault;
+use x_steps::Refused;
+
+impl<'p, T: Table> Worker<'p, T> {
+    /// Parts its branch at an option of a level: the tile is split at that cut, and its own branch ends there. Answers the new
+    /// tile's id. Refused, without a call of the book, as the runner refuses the cut; out of memory, nothing has changed.
+    pub fn split(
+        &mut self,
+        book: &mut Book<'p>,
+        level: usize,
+        option: u32,
+    ) -> Result<u64, WorkerFault>
+        requires { HoldsTile book.old self.old }
+        ensures untried { OnOk result (has (untried_in self.old.runner level) option ≡ true) }
+        ensures book { OnOk result (book.new ≡
+            book_step book.old self.old.grant.worker (split_call self.old (with_choice self.old.runner.position level option))) }
+        ensures reply { IfOk result (λ id. (outcome book.old self.old.grant.worker
+            (split_call self.old (with_choice self.old.runner.position level option))).reply ≡ replies.Split id) }
+        ensures worker { OnOk result (self.new ≡ shortened self.old (cut_at self.old.runner level option)) }
+        ensures refused { IfErr result (WorkerSplitRefused book.old book.new self.old level option) }
+        ensures unchanged { OnErr result (self.new ≡ self.old) }
+        ensures holds { HoldsTile book.new self.new }
+    {
+        let _state = self.runner.state();
+        let _tiles = book.tiles();
+        let cut = match self.runner.cut(level, option) {
+            Ok(cut) => cut,
+            Err(fault) => return Err(WorkerFault::Runner(fault)),
+        };
+        let Ok(copy) = cut.copy() else {
+            return Err(WorkerFault::Runner(RunnerFault::OutOfMemory));
+        };
+        let id = match book.split(&self.lease, cut) {
+            Ok(id) => id,
+            Err(Refused { fault, given: _ }) => return Err(WorkerFault::Book(fault)),
+        };
+        let Ok(()) = self.runner.shorten(copy) else {
+            unreachable!()
+        };
+        Ok(id)
+    }
+}

@@ -1,0 +1,149 @@
+//! Worlds: a book, and for each worker nothing or its lease with its runner.
+ghost use Rattle.std.specs.Prelude.{◌≡◌, ◌≤◌, ◌<◌, ℕ, All, None, length, take, replicate, option_map, vec_len, IfOk, IfErr, OnOk, OnErr};
+ghost use Rattle.x_steps.specs.StateView.{state_value};
+ghost use Rattle.x_steps.specs.StateValue.{start};
+ghost use Rattle.lab_book.specs.Book.{opened, leased_in};
+ghost use Rattle.lab_world.specs.World.{WorldValue, world_step, played, world_replies, worker_at, fresh, IsPlace, state_of};
+
+use crate::event::{WorldEvent, WorldReply};
+use crate::turn::act;
+use crate::worker::Worker;
+use cover_problem::{Problem, Table};
+use lab_book::Book;
+use std::alloc::{AllocError, Global};
+use std::marker::Model;
+use x_steps::State;
+
+/// A book, and for each worker nothing or its lease with its runner.
+#[derive(Drop)]
+pub struct World<'p, T: Table> {
+    book: Book<'p>,
+    workers: Vec<Option<Worker<'p, T>>>,
+}
+
+impl<'p, T: Table> Model for World<'p, T> {
+    ghost use Rattle.lab_world.specs.World.{WorldValue, IsWorld};
+
+    ghost Value = { WorldValue };
+
+    ghost view = { λ w. record { book = w.book; workers = w.workers.items } };
+
+    ghost invariant = { λ w. IsWorld (record { book = w.book; workers = w.workers.items }) };
+}
+
+/// The replies to the events before one for which memory ran out.
+#[derive(Debug, Drop)]
+pub struct PlayStopped {
+    pub replies: Vec<WorldReply>,
+}
+
+/// Workers without a tile.
+fn without_tiles<'p, T: Table>(
+    alloc: Global,
+    workers: u8,
+) -> Result<Vec<Option<Worker<'p, T>>>, AllocError>
+    ensures { IfOk result (λ places. places.items ≡ replicate workers None) }
+{
+    let mut places = Vec::with_capacity(alloc, workers as usize)?;
+    for made in 0..workers {
+        places.push_reserved(None);
+    }
+    Ok(places)
+}
+
+impl<'p, T: Table> World<'p, T> {
+    /// A world with a new book of the problem's whole run, and so many workers, none of which has a tile.
+    pub fn new(alloc: Global, problem: &'p Problem, workers: u8) -> Result<World<'p, T>, AllocError>
+        requires some { 0 < workers }
+        requires few { workers ≤ 32 }
+        ensures { IfOk result (λ world. world ≡ fresh (opened problem.now (record { lo = None; hi = None }) start) workers) }
+    {
+        let book = Book::new(alloc, problem)?;
+        let workers = without_tiles(alloc, workers)?;
+        Ok(World { book, workers })
+    }
+
+    /// A world on a book of which no tile is leased; the book comes back when out of memory.
+    pub fn on_book(alloc: Global, book: Book<'p>, workers: u8) -> Result<World<'p, T>, Book<'p>>
+        requires some { 0 < workers }
+        requires few { workers ≤ 32 }
+        requires none_leased { leased_in book.tiles ≡ 0 }
+        ensures made { IfOk result (λ world. world ≡ fresh book.entry workers) }
+        ensures given_back { IfErr result (λ given. given ≡ book.entry) }
+    {
+        let Ok(workers) = without_tiles(alloc, workers) else {
+            return Err(book);
+        };
+        Ok(World { book, workers })
+    }
+
+    /// The book. Each worker that has a lease holds a tile of it: its runner searches that tile's branch, from the tile's mark on.
+    pub fn book(&self) -> &Book<'p>
+        ensures book { result.now ≡ self.now.book }
+        ensures holds { (w : ℕ) → w < length self.now.workers → IsPlace self.now.book w (worker_at self.now.workers w) }
+    {
+        &self.book
+    }
+
+    /// How many workers there are.
+    pub fn workers(&self) -> u8
+        ensures { result ≡ length self.now.workers }
+    {
+        self.workers.len() as u8
+    }
+
+    /// Where a worker stands; None where it has no tile.
+    pub fn state(&self, w: u8) -> Option<&State>
+        requires { w < length self.now.workers }
+        ensures { option_map (λ s. state_value s.now) result ≡ state_of self.now w }
+    {
+        match &self.workers[w as usize] {
+            Some(worker) => Some(worker.runner().state()),
+            None => None,
+        }
+    }
+
+    /// One event. Out of memory, nothing has changed.
+    fn happen(&mut self, event: &WorldEvent) -> Result<WorldReply, AllocError>
+        requires { event.now.worker < length self.old.workers }
+        ensures reply { IfOk result (λ r. r ≡ (world_step self.old event.now).reply) }
+        ensures world { OnOk result (self.new ≡ (world_step self.old event.now).world) }
+        ensures unchanged { OnErr result (self.new ≡ self.old) }
+    {
+        let alloc = *self.workers.allocator();
+        let _history = self.book.history();
+        let _tiles = self.book.tiles();
+        act(
+            alloc,
+            &mut self.book,
+            &mut self.workers[event.worker as usize],
+            event.worker,
+            &event.act,
+        )
+    }
+
+    /// Events one after another, and their replies. Room for the replies is made first. When out of memory at an event, the world is
+    /// as the events before it left it, and their replies come.
+    pub fn play(&mut self, events: &[WorldEvent]) -> Result<Vec<WorldReply>, PlayStopped>
+        requires { All (λ (e : WorldEvent). e.worker < length self.old.workers) events.now }
+        ensures replies { IfOk result (λ replies. replies.items ≡ world_replies self.old events.now) }
+        ensures world { OnOk result (self.new ≡ played self.old events.now) }
+        ensures first_replies { IfErr result (λ stopped.
+            stopped.replies.items ≡ world_replies self.old (take (vec_len stopped.replies) events.now)) }
+        ensures first_world { IfErr result (λ stopped. self.new ≡ played self.old (take (vec_len stopped.replies) events.now)) }
+    {
+        let alloc = *self.workers.allocator();
+        let Ok(mut replies) = Vec::with_capacity(alloc, events.len()) else {
+            return Err(PlayStopped {
+                replies: Vec::new(alloc),
+            });
+        };
+        'playing: for event in events {
+            match self.happen(event) {
+                Ok(reply) => replies.push_reserved(reply),
+                Err(_) => return Err(PlayStopped { replies }),
+            }
+        }
+        Ok(replies)
+    }
+}

@@ -1,0 +1,149 @@
+-- A command that is read of a line counts from 1, and its breakpoint can be met.
+use Rattle.std.proofs.Common.{◌≡◌, ◌⊎◌, inl, inr, ℕ, ◌+◌, ◌<◌, ◌≤◌, nat_lt, nat_le, Bool, true, false, cond, ◌&&◌, List, [], ◌∷◌, length, get_or, codes, position, Option, Some, None, option_map, refl, subst, arith, lt-ltb, le-leb}
+use Rattle.std.specs.Prelude.{bytes_eq}
+use Rattle.std.specs.Result.{result_ok}
+use Rattle.std.proofs.lemmas.Bool.{and_parts, and_from}
+use Rattle.std.proofs.lemmas.List.Quantifiers.{position-Some}
+use Rattle.text_lines.specs.Lines.{words_of, without_return}
+use Rattle.text_lines.specs.Numbers.{number_of, is_decimal, value_after}
+use Rattle.text_lines.proofs.ResultLemmas.{chosen}
+use Rattle.cover_problem.specs.Problem.{ProblemValue, is_item, item_named}
+use Rattle.x_snapshot.specs.declared.breakpoint.Break.{Break}
+use Rattle.x_snapshot.specs.declared.breakpoint.Break.TheVariants as breakpoints
+use Rattle.x_snapshot.specs.declared.reading.breaks.Kind.{Kind}
+use Rattle.x_snapshot.specs.declared.reading.breaks.Kind.TheVariants as kinds
+use Rattle.x_snapshot.specs.Breaks.{is_break}
+use Rattle.x_snapshot.specs.Reading.{only, positive, option_from, kind_from, break_of, lone_break, break_from, state_from}
+use Rattle.x_snapshot.proofs.BackLemmas.{some_is, none_some, and_then_is, map_is}
+use Rattle.debug_texts.specs.Command.{CommandValue}
+use Rattle.debug_texts.specs.Command as command
+use Rattle.debug_texts.specs.Reading.{count_from, cut_from, save_word, save_from, put_back_from, joined_cut, plain_command, long_command, lone_command, search_command, command_from, command_of, pair_from}
+use Rattle.x_debug.specs.Commands.{is_command}
+
+-- ---- a breakpoint that was read
+
+at_most : (most n : ℕ) (word : List ℕ) → number_of most word ≡ Some n → nat_le n most ≡ true
+at_most most n word h = by (chosen (is_decimal word && nat_le (value_after 0 word) most) (Some (value_after 0 word)) None (Some n) h)
+  where
+    by : (((is_decimal word && nat_le (value_after 0 word) most) ≡ true) × (◌≡◌ {A = Option ℕ} (Some (value_after 0 word)) (Some n))) ⊎ (((is_decimal word && nat_le (value_after 0 word) most) ≡ false) × (◌≡◌ {A = Option ℕ} None (Some n))) → nat_le n most ≡ true
+    by (inl q) = subst (λ (m : ℕ). nat_le m most ≡ true) (some_is _ n q.1) (and_parts (is_decimal word) (nat_le (value_after 0 word) most) q.0).1
+    by (inr q) = absurd (none_some n q.1)
+
+from_one : (m n : ℕ) → positive m ≡ Some n → (m ≡ n) × (nat_lt 0 n ≡ true)
+from_one m n h = by (chosen (nat_lt 0 m) (Some m) None (Some n) h)
+  where
+    by : ((nat_lt 0 m ≡ true) × (◌≡◌ {A = Option ℕ} (Some m) (Some n))) ⊎ ((nat_lt 0 m ≡ false) × (◌≡◌ {A = Option ℕ} None (Some n))) → (m ≡ n) × (nat_lt 0 n ≡ true)
+    by (inl q) = let e = some_is m n q.1 in (e, subst (λ (k : ℕ). nat_lt 0 k ≡ true) e q.0)
+    by (inr q) = absurd (none_some n q.1)
+
+one_of : (bound o : ℕ) (word : List ℕ) → option_from bound word ≡ Some o → is_item bound o ≡ true
+one_of bound o word h =
+    let a = and_then_is positive (number_of bound word) o h in
+    let b = from_one a.0 o a.2 in
+    and_from (nat_lt 0 o) (nat_le o bound) b.1 (subst (λ (k : ℕ). nat_le k bound ≡ true) b.0 (at_most bound a.0 word a.1))
+
+item_is : (names : List (List ℕ)) (w : List ℕ) (i : ℕ) → item_named names w ≡ Some i → is_item (length names) i ≡ true
+item_is names w i h =
+    let a = map_is (λ k. k + 1) (position (bytes_eq w) names) i h in
+    let q : (a.0 < length names) × (bytes_eq w (get_or names a.0 []) ≡ true) × ((k : ℕ) → k < a.0 → bytes_eq w (get_or names k []) ≡ false) = position-Some (bytes_eq w) names a.0 [] a.1 in
+    let e : a.0 + 1 ≡ i = a.2 in
+    let below : a.0 < length names = q.0 in
+    let some : 0 < i = omega arith in
+    let within : i ≤ length names = omega arith in
+    and_from (nat_lt 0 i) (nat_le i (length names)) (lt-ltb 0 i some) (le-leb i (length names) within)
+
+module _ (p : ProblemValue) where
+  of_is : (k : Option Kind) (w : List ℕ) (b : Break) → break_of p k w ≡ Some b → is_break p b ≡ true
+  of_is None w b h = absurd (none_some b h)
+  of_is (Some kinds.Level) w b h =
+      let a = map_is breakpoints.Level (number_of (length p.names) w) b h in
+      subst (λ (c : Break). is_break p c ≡ true) a.2 (at_most (length p.names) a.0 w a.1)
+  of_is (Some kinds.Option) w b h =
+      let a = map_is breakpoints.Option (option_from (length p.options) w) b h in
+      subst (λ (c : Break). is_break p c ≡ true) a.2 (one_of (length p.options) a.0 w a.1)
+  of_is (Some kinds.Item) w b h =
+      let a = map_is breakpoints.Item (item_named p.names w) b h in
+      subst (λ (c : Break). is_break p c ≡ true) a.2 (item_is p.names w a.0 a.1)
+
+  lone_is : (kind : List ℕ) (b : Break) → lone_break kind ≡ Some b → is_break p b ≡ true
+  lone_is kind b h = by (chosen (bytes_eq kind (codes "visit")) (Some breakpoints.Visit) None (Some b) h)
+    where
+      by : ((bytes_eq kind (codes "visit") ≡ true) × (◌≡◌ {A = Option Break} (Some breakpoints.Visit) (Some b))) ⊎ ((bytes_eq kind (codes "visit") ≡ false) × (◌≡◌ {A = Option Break} None (Some b))) → is_break p b ≡ true
+      by (inl q) = subst (λ (c : Break). is_break p c ≡ true) (some_is breakpoints.Visit b q.1) refl
+      by (inr q) = absurd (none_some b q.1)
+
+  break_is : (words : List (List ℕ)) (b : Break) → break_from p words ≡ Some b → is_break p b ≡ true
+  unfolding break_from
+  break_is [] b h = absurd (none_some b h)
+  break_is (kind ∷ []) b h = lone_is kind b h
+  break_is (kind ∷ w ∷ []) b h = of_is (kind_from kind) w b h
+  break_is (kind ∷ w ∷ v ∷ ws) b h = absurd (none_some b h)
+
+  -- ---- a command that was read
+
+  record Fine (o : Option CommandValue) : Type 0 where
+    fine : (c : CommandValue) → o ≡ Some c → is_command p c ≡ true
+
+  either : (v : Bool) {x y : Option CommandValue} → Fine x → Fine y → Fine (cond v x y)
+  either true a b = a
+  either false a b = b
+
+  sure : (c : CommandValue) → is_command p c ≡ true → Fine (Some c)
+  sure c h = record { fine = λ d e. subst (λ (x : CommandValue). is_command p x ≡ true) (some_is c d e) h }
+
+  no_command : Fine None
+  no_command = record { fine = λ d e. absurd (none_some d e) }
+
+  mapped : {X : Type 0} (f : X → CommandValue) (o : Option X) → ((x : X) → o ≡ Some x → is_command p (f x) ≡ true) → Fine (option_map f o)
+  mapped f o h = record { fine = λ c e. let a = map_is f o c e in subst (λ (x : CommandValue). is_command p x ≡ true) a.2 (h a.0 a.1) }
+
+  counted : (words : List (List ℕ)) (n : ℕ) → count_from words ≡ Some n → nat_lt 0 n ≡ true
+  counted words n h =
+      let a = and_then_is (option_from 4294967295) (only words) n h in
+      let b = and_then_is positive (number_of 4294967295 a.0) n a.2 in
+      (from_one b.0 n b.2).1
+
+  search_fine : (key : List ℕ) → Fine (search_command key)
+  search_fine key =
+      either _ (sure (command.Step 1) refl) (either _ (sure command.Run refl) (either _ (sure (command.Back 1) refl) (either _ (sure command.Clear refl)
+      (either _ (sure command.Show refl) (either _ (sure command.Untried refl) no_command)))))
+
+  lone_fine : (key : List ℕ) → Fine (lone_command key)
+  lone_fine key =
+      either _ (sure command.Park refl) (either _ (sure command.Save refl) (either _ (sure command.Close refl) (either _ (sure command.Branches refl)
+      (either _ (sure command.Visits refl) (either _ (sure command.Retract refl) (either _ (sure command.Steps refl) (either _ (sure command.Levels refl) (search_fine key))))))))
+
+  save_fine : (words : List (List ℕ)) → Fine (save_from words)
+  save_fine words = record { fine = λ c e. let a = and_then_is save_word (only words) c e in (word a.0).fine c a.2 }
+    where
+      word : (w : List ℕ) → Fine (save_word w)
+      word w = either _ (sure command.SaveBreaks refl) no_command
+
+  put_back_fine : (words : List (List ℕ)) → Fine (put_back_from words)
+  unfolding put_back_from
+  put_back_fine [] = no_command
+  put_back_fine (word ∷ words) = record {
+    fine = λ c e.
+        let a = and_then_is (λ lo. option_map (command.PutBack lo) (result_ok (state_from words))) (joined_cut word) c e in
+        (mapped (command.PutBack a.0) (result_ok (state_from words)) (λ s h. refl)).fine c a.2;
+  }
+
+  plain_fine : (key : List ℕ) (words : List (List ℕ)) → Fine (plain_command p key words)
+  unfolding plain_command
+  plain_fine key words =
+      either _ (mapped command.Step (count_from words) (counted words)) (either _ (mapped command.Back (count_from words) (counted words))
+      (either _ (mapped command.SetBreak (break_from p words) (break_is words)) (either _ (mapped (λ pair. command.Split pair.0 pair.1) (pair_from words) (λ pair h. refl))
+      (either _ (save_fine words) no_command))))
+
+  long_fine : (key : List ℕ) (words : List (List ℕ)) → Fine (long_command p key words)
+  unfolding long_command
+  long_fine key words =
+      either _ (mapped command.Enter (cut_from words) (λ lo h. refl)) (either _ (mapped command.Hold (cut_from words) (λ lo h. refl)) (either _ (put_back_fine words) (plain_fine key words)))
+
+  words_fine : (words : List (List ℕ)) → Fine (command_from p words)
+  unfolding command_from
+  words_fine [] = sure command.Nothing refl
+  words_fine (key ∷ words) = either _ (lone_fine key) (long_fine key words)
+
+  pub command_is : (line : List ℕ) (c : CommandValue) → command_of p line ≡ Some c → is_command p c ≡ true
+  command_is line c h = (words_fine (words_of (without_return line))).fine c h

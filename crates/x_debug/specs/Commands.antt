@@ -1,0 +1,221 @@
+-- What a session answers to each command, and what it leaves.
+use Rattle.std.specs.Prelude.{ℕ, ◌≡◌, ◌⊎◌, nat_lt, Bool, true, List, [], ◌∷◌, length, Option, Some, None}
+use Rattle.text_lines.specs.Writing.{text_of}
+use Rattle.cover_problem.specs.Problem.{ProblemValue}
+use Rattle.x_steps.specs.StateValue.{StateValue}
+use Rattle.x_branches.specs.Runner.{RunnerValue}
+use Rattle.x_snapshot.specs.declared.breakpoint.Break.{Break}
+use Rattle.x_snapshot.specs.Breaks.{is_break}
+use Rattle.lab_book.specs.Posted.{posted_visits, posted_steps, posted_levels}
+use Rattle.lab_world.specs.Worker.{WorkerValue, moved_to}
+use Rattle.debug_texts.specs.declared.fault.DebugFault.TheVariants.{BadCommand, AlreadyOpen, NoBranch}
+use Rattle.debug_texts.specs.declared.words.Plain.TheVariants.{NothingUntried, NoBranches}
+use Rattle.debug_texts.specs.declared.words.Counted.TheVariants as counts
+use Rattle.debug_texts.specs.Replies.{levels_words}
+use Rattle.debug_texts.specs.Command.{CommandValue}
+use Rattle.debug_texts.specs.Command as command
+use Rattle.debug_texts.specs.Reading.{command_of}
+use Rattle.x_debug.specs.Breakpoints.{with_break}
+use Rattle.x_debug.specs.Lines.{plain, counted, set, debug_refusal}
+use Rattle.x_debug.specs.Session.{SessionValue, DeskAnswer}
+use Rattle.x_debug.specs.Showing.{shown, all_untried, or_none}
+use Rattle.x_debug.specs.Tiles.{BookAnswer, open_lines, visits_lines, hold, put_back}
+use Rattle.x_debug.specs.Walking.{AtWork, work, forward, IsPartWay, IsPartBack, step_count, step_lines, run_count, run_lines, back_count, back_lines, state_back}
+use Rattle.x_debug.specs.Entering.{enter}
+use Rattle.x_debug.specs.Giving.{park, save, close, IsNotGiven}
+use Rattle.x_debug.specs.Parting.{split, retract}
+
+-- a text that is answered, and the session that is left
+pub record Answer : Type 0 where
+  pub text : List ℕ
+  pub session : SessionValue
+
+-- the session stays as it is
+abbrev pub says : SessionValue → List (List (List ℕ)) → Answer
+says s lines = record { text = text_of lines; session = s }
+
+-- its worker and its book are others
+abbrev pub on_desk : SessionValue → DeskAnswer → Answer
+on_desk s a = record { text = a.text; session = record { book = a.desk.book; worker = a.desk.worker; breaks = s.breaks } }
+
+abbrev pub on_book : SessionValue → BookAnswer → Answer
+on_book s a = record { text = text_of a.lines; session = record { book = a.book; worker = s.worker; breaks = s.breaks } }
+
+-- its breakpoints are others
+abbrev pub with_breaks : SessionValue → List Break → List (List (List ℕ)) → Answer
+with_breaks s breaks lines = record { text = text_of lines; session = record { book = s.book; worker = s.worker; breaks = breaks } }
+
+-- what needs an open branch is refused where there is none
+abbrev pub if_open : SessionValue → Option WorkerValue → (WorkerValue → Answer) → Answer
+if_open s None f = says s (debug_refusal NoBranch ∷ [])
+if_open s (Some w) f = f w
+
+-- and what needs none where there is one
+abbrev pub if_none_open : SessionValue → Option WorkerValue → Answer → Answer
+if_none_open s None a = a
+if_none_open s (Some w) a = says s (debug_refusal AlreadyOpen ∷ [])
+
+-- a book and a worker at work, in the place of its own
+abbrev pub working : SessionValue → AtWork → SessionValue
+working s a = record { book = a.book; worker = Some a.worker; breaks = s.breaks }
+
+-- its branch is at work, and these lines are answered
+abbrev pub on_work : SessionValue → List (List (List ℕ)) → AtWork → Answer
+on_work s lines a = record { text = text_of lines; session = working s a }
+
+-- ---- what is shown
+
+abbrev pub answer_show : SessionValue → Answer
+answer_show s = if_open s s.worker (λ w. says s (shown w.runner))
+
+abbrev pub answer_untried : SessionValue → Answer
+answer_untried s = if_open s s.worker (λ w. says s (or_none (plain NothingUntried) (all_untried w.runner)))
+
+abbrev pub answer_branches : SessionValue → Answer
+answer_branches s = says s (or_none (plain NoBranches) (open_lines s.book.tiles))
+
+abbrev pub answer_visits : SessionValue → Answer
+answer_visits s = says s (visits_lines (posted_visits s.book.tiles))
+
+abbrev pub answer_steps : SessionValue → Answer
+answer_steps s = says s (counted counts.Steps (posted_steps s.book.tiles) ∷ [])
+
+abbrev pub answer_levels : SessionValue → Answer
+answer_levels s = says s (levels_words (posted_levels s.book.problem s.book.tiles) ∷ [])
+
+-- ---- breakpoints
+
+abbrev pub answer_set : SessionValue → Break → Answer
+answer_set s b = with_breaks s (with_break s.breaks b) (set s.book.problem.names b ∷ [])
+
+abbrev pub answer_clear : SessionValue → Answer
+answer_clear s = with_breaks s [] (counted counts.Cleared (length s.breaks) ∷ [])
+
+-- ---- the book's tiles
+
+abbrev pub answer_hold : SessionValue → Option (List ℕ) → Answer
+answer_hold s lo = on_book s (hold s.book lo)
+
+abbrev pub answer_put_back : SessionValue → Option (List ℕ) → StateValue → Answer
+answer_put_back s lo state = on_book s (put_back s.book lo state)
+
+abbrev pub answer_enter : SessionValue → Option (List ℕ) → Answer
+answer_enter s lo = if_none_open s s.worker (on_desk s (enter s.book lo))
+
+-- ---- steps on the branch that is open
+
+abbrev pub answer_step : SessionValue → ℕ → Answer
+answer_step s n = if_open s s.worker (λ w. on_work s (step_lines w.runner n) (forward (step_count w.runner n) (work s.book w)))
+
+abbrev pub answer_run : SessionValue → Answer
+answer_run s = if_open s s.worker (λ w. on_work s (run_lines s.breaks w.runner) (forward (run_count s.breaks w.runner) (work s.book w)))
+
+abbrev pub answer_back : SessionValue → ℕ → Answer
+answer_back s n = if_open s s.worker (λ w. on_work s (back_lines w.runner n) (work s.book (moved_to w (state_back w.runner (back_count w.runner n)))))
+
+-- ---- the branch that is open is given up
+
+abbrev pub answer_park : SessionValue → Answer
+answer_park s = if_open s s.worker (λ w. on_desk s (park (work s.book w)))
+
+abbrev pub answer_save : SessionValue → List Break → Answer
+answer_save s breaks = if_open s s.worker (λ w. on_desk s (save (work s.book w) breaks))
+
+abbrev pub answer_close : SessionValue → Answer
+answer_close s = if_open s s.worker (λ w. on_desk s (close (work s.book w)))
+
+-- ---- the branch that is open is parted, or its last stretch is walked again
+
+abbrev pub answer_split : SessionValue → ℕ → ℕ → Answer
+answer_split s level o = if_open s s.worker (λ w. let a = split (work s.book w) level o in on_work s a.lines a.work)
+
+abbrev pub answer_retract : SessionValue → Answer
+answer_retract s = if_open s s.worker (λ w. let a = retract (work s.book w) in on_work s a.lines a.work)
+
+-- ---- each command
+
+unfoldable pub answer : SessionValue → CommandValue → Answer
+answer s command.Nothing = says s []
+answer s (command.Step n) = answer_step s n
+answer s command.Run = answer_run s
+answer s (command.Back n) = answer_back s n
+answer s (command.SetBreak b) = answer_set s b
+answer s command.Clear = answer_clear s
+answer s command.Show = answer_show s
+answer s command.Untried = answer_untried s
+answer s (command.Split level option) = answer_split s level option
+answer s command.Park = answer_park s
+answer s command.Save = answer_save s []
+answer s command.SaveBreaks = answer_save s s.breaks
+answer s command.Close = answer_close s
+answer s (command.Enter lo) = answer_enter s lo
+answer s command.Branches = answer_branches s
+answer s command.Visits = answer_visits s
+answer s command.Retract = answer_retract s
+answer s (command.Hold lo) = answer_hold s lo
+answer s (command.PutBack lo state) = answer_put_back s lo state
+answer s command.Steps = answer_steps s
+answer s command.Levels = answer_levels s
+
+-- whether a command can be one of a line: it counts from 1, and its breakpoint can be met
+abbrev pub is_command : ProblemValue → CommandValue → Bool
+is_command p (command.Step n) = nat_lt 0 n
+is_command p (command.Back n) = nat_lt 0 n
+is_command p (command.SetBreak b) = is_break p b
+is_command p _ = true
+
+-- ---- a line
+
+abbrev pub answer_if : SessionValue → Option CommandValue → Answer
+answer_if s None = says s (debug_refusal BadCommand ∷ [])
+answer_if s (Some c) = answer s c
+
+abbrev pub answer_line : SessionValue → List ℕ → Answer
+answer_line s line = answer_if s (command_of s.book.problem line)
+
+-- ---- what is left when memory runs out
+
+-- a session without a branch is as it was; of one at work the book and the worker are as this says
+abbrev pub LeftAtWork : SessionValue → Option WorkerValue → (AtWork → AtWork → Type 0) → SessionValue → Type 0
+LeftAtWork s None left new = new ≡ s
+LeftAtWork s (Some w) left new = (a : AtWork) × left (work s.book w) a × (new ≡ working s a)
+
+-- its branch couldn't be given up
+abbrev pub LeftNotGiven : SessionValue → SessionValue → Type 0
+LeftNotGiven s new = LeftAtWork s s.worker IsNotGiven new
+
+-- it is as it was, or as this makes it
+abbrev pub LeftOrDone : SessionValue → (AtWork → AtWork) → SessionValue → Type 0
+LeftOrDone s done new = LeftAtWork s s.worker (λ a b. (b ≡ a) ⊎ (b ≡ done a)) new
+
+-- it has gone some of so many steps on
+abbrev pub LeftPartWay : SessionValue → (RunnerValue → ℕ) → SessionValue → Type 0
+LeftPartWay s most new = LeftAtWork s s.worker (λ a b. IsPartWay a b (most a.worker.runner)) new
+
+-- it has gone some of so many steps back, and the book is the same
+abbrev pub LeftPartBack : SessionValue → (RunnerValue → ℕ) → SessionValue → Type 0
+LeftPartBack s most new = LeftAtWork s s.worker (λ a b. (b.book ≡ a.book) × IsPartBack a.worker b.worker (most a.worker.runner)) new
+
+-- what a command may leave beside the session as it was: a part of its walk, what wasn't posted posted, or the whole of it done
+unfoldable pub LeftBy : SessionValue → CommandValue → SessionValue → Type 0
+LeftBy s (command.Step n) new = LeftPartWay s (λ r. step_count r n) new
+LeftBy s command.Run new = LeftPartWay s (λ r. run_count s.breaks r) new
+LeftBy s (command.Back n) new = LeftPartBack s (λ r. back_count r n) new
+LeftBy s (command.Split level option) new = LeftOrDone s (λ a. (split a level option).work) new
+LeftBy s command.Park new = LeftNotGiven s new
+LeftBy s command.Save new = LeftNotGiven s new
+LeftBy s command.SaveBreaks new = LeftNotGiven s new
+LeftBy s command.Close new = LeftNotGiven s new
+LeftBy s (command.Enter lo) new = new ≡ (answer_enter s lo).session
+LeftBy s command.Retract new = LeftOrDone s (λ a. (retract a).work) new
+LeftBy s (command.Hold lo) new = new ≡ (answer_hold s lo).session
+LeftBy s (command.PutBack lo state) new = new ≡ (answer_put_back s lo state).session
+LeftBy s _ new = ⊥
+
+abbrev pub LeftIf : SessionValue → Option CommandValue → SessionValue → Type 0
+LeftIf s None new = ⊥
+LeftIf s (Some c) new = LeftBy s c new
+
+-- which sessions a line may leave when memory runs out
+abbrev pub IsLeft : SessionValue → List ℕ → SessionValue → Type 0
+IsLeft s line new = (new ≡ s) ⊎ LeftIf s (command_of s.book.problem line) new

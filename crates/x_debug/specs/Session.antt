@@ -1,0 +1,48 @@
+-- A session: a book, the worker that has one of its tiles open or none, and the breakpoints in the order in which they were set.
+use Rattle.std.specs.Prelude.{ℕ, ◌≡◌, true, List, [], Option, None}
+use Rattle.std.specs.List.{list_all}
+use Rattle.cover_problem.specs.Problem.{ProblemValue}
+use Rattle.x_steps.specs.StateValue.{start}
+use Rattle.x_snapshot.specs.declared.breakpoint.Break.{Break}
+use Rattle.x_snapshot.specs.Breaks.{is_break}
+use Rattle.lab_book.specs.Book.{BookValue, opened, outcome, book_step}
+use Rattle.lab_book.specs.declared.entry.Call.TheVariants as call
+use Rattle.lab_world.specs.Worker.{WorkerValue, lent_worker}
+use Rattle.lab_world.specs.World.{IsPlace}
+
+pub record SessionValue : Type 0 where
+  pub book : BookValue
+  pub worker : Option WorkerValue
+  pub breaks : List Break
+
+-- what is true of every session: a branch that is open is leased to worker 0, and each breakpoint can be met
+pub record IsSession (v : SessionValue) : Type 0 where
+  pub place : IsPlace v.book 0 v.worker
+  pub breaks : list_all (is_break v.book.problem) v.breaks ≡ true
+
+-- a book and the worker with an open branch, if there is one
+pub record Desk : Type 0 where
+  pub book : BookValue
+  pub worker : Option WorkerValue
+
+abbrev pub desk : BookValue → Option WorkerValue → Desk
+desk b w = record { book = b; worker = w }
+
+-- worker 0 leases the first tile that waits
+abbrev pub entered : BookValue → Desk
+entered b = desk (book_step b 0 call.LeaseAny) (lent_worker b.problem (outcome b 0 call.LeaseAny).reply)
+
+-- the session of a book with no open branch and no breakpoint
+abbrev pub session_on : BookValue → SessionValue
+session_on b = record { book = b; worker = None; breaks = [] }
+
+-- a session of a problem's whole run, which is open at its start
+abbrev pub fresh_session : ProblemValue → SessionValue
+fresh_session p =
+    let d = entered (opened p (record { lo = None; hi = None }) start) in
+    record { book = d.book; worker = d.worker; breaks = [] }
+
+-- a text that is answered, with the book and the worker that are left
+pub record DeskAnswer : Type 0 where
+  pub text : List ℕ
+  pub desk : Desk

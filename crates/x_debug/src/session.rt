@@ -1,0 +1,101 @@
+//! Sessions.
+ghost use Rattle.std.specs.Prelude.{◌≡◌, None, is_some, true, IfOk, IfErr, OnOk, OnErr};
+ghost use Rattle.lab_world.specs.World.{IsPlace};
+ghost use Rattle.x_debug.specs.Session.{session_on, fresh_session};
+
+mod asking;
+mod breakpoints;
+mod command;
+mod giving;
+mod loading;
+mod looking;
+mod parting;
+mod walking;
+
+pub use command::Reply;
+use cover_problem::{Problem, Table};
+use indexmap::IndexSet;
+use lab_book::Book;
+use lab_world::Worker;
+use std::alloc::{AllocError, Global};
+use std::marker::Model;
+use x_snapshot::Break;
+
+/// A book, the worker that has one of its tiles open or none, and the breakpoints in the order in which they were set.
+#[derive(Drop)]
+pub struct Session<'p, T: Table> {
+    book: Book<'p>,
+    worker: Option<Worker<'p, T>>,
+    breaks: IndexSet<Break>,
+}
+
+impl<'p, T: Table> Model for Session<'p, T> {
+    ghost use Rattle.x_debug.specs.Session.{SessionValue, IsSession};
+
+    ghost Value = { SessionValue };
+
+    ghost view = { λ s. record { book = s.book; worker = s.worker; breaks = s.breaks.keys } };
+
+    ghost invariant = { λ s. IsSession (record { book = s.book; worker = s.worker; breaks = s.breaks.keys }) };
+}
+
+impl<'p, T: Table> Session<'p, T> {
+    /// A session with a new book of the problem's whole run, which is open at its start.
+    pub fn new(alloc: Global, problem: &'p Problem) -> Result<Session<'p, T>, AllocError>
+        ensures made { IfOk result (λ s. s ≡ fresh_session problem.now) }
+        ensures leased { IfOk result (λ s. is_some s.worker ≡ true) }
+    {
+        let mut book = Book::new(alloc, problem)?;
+        let _tiles = book.tiles();
+        let worker = Worker::lease_any(alloc, &mut book, 0)?;
+        Ok(Session {
+            book,
+            worker,
+            breaks: IndexSet::new(alloc),
+        })
+    }
+
+    /// A session on a book, with no branch open and no breakpoint.
+    pub fn on_book(alloc: Global, book: Book<'p>) -> Session<'p, T>
+        ensures { result ≡ session_on book.entry }
+    {
+        Session {
+            book,
+            worker: None,
+            breaks: IndexSet::new(alloc),
+        }
+    }
+
+    /// Its book, where no branch is open; else the session comes back.
+    pub fn into_book(self) -> Result<Book<'p>, Session<'p, T>>
+        ensures book { IfOk result (λ book. book ≡ self.entry.book) }
+        ensures none_open { OnOk result (self.entry.worker ≡ None) }
+        ensures given_back { IfErr result (λ session. session ≡ self.entry) }
+        ensures one_open { OnErr result (is_some self.entry.worker ≡ true) }
+    {
+        if self.worker.is_some() {
+            return Err(self);
+        }
+        let Session {
+            book,
+            worker: _,
+            breaks: _,
+        } = self;
+        Ok(book)
+    }
+
+    /// Its book. Where a branch is open, worker 0 holds a tile of it.
+    pub fn book(&self) -> &Book<'p>
+        ensures book { result.now ≡ self.now.book }
+        ensures place { IsPlace self.now.book 0 self.now.worker }
+    {
+        &self.book
+    }
+
+    /// Its breakpoints, in the order in which they were set.
+    pub fn breaks(&self) -> &[Break]
+        ensures { result.now ≡ self.now.breaks }
+    {
+        self.breaks.as_slice()
+    }
+}

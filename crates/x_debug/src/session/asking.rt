@@ -1,0 +1,63 @@
+//! What a session asks of the tiles of its book.
+ghost use Rattle.std.specs.Prelude.{◌≡◌, ◌++◌, ◌⊎◌, option_copied, OnOk, OnErr};
+ghost use Rattle.x_steps.specs.StateView.{state_value};
+ghost use Rattle.x_debug.specs.Commands.{answer_hold, answer_put_back, answer_enter};
+
+use crate::entering::enter;
+use crate::session::Session;
+use crate::tiles::{hold, put_back};
+use cover_problem::Table;
+use debug_texts::{DebugFault, write_debug_fault};
+use std::alloc::{AllocError, Global};
+use x_steps::State;
+
+impl<'p, T: Table> Session<'p, T> {
+    /// `hold`.
+    pub(super) fn obey_hold(
+        &mut self,
+        lo: Option<&[u32]>,
+        text: &mut Vec<u8>,
+    ) -> Result<(), AllocError>
+        ensures reply { OnOk result (text.new.items ≡ text.old.items ++ (answer_hold self.old (option_copied lo.entry)).text) }
+        ensures session { OnOk result (self.new ≡ (answer_hold self.old (option_copied lo.entry)).session) }
+        ensures left { OnErr result ((self.new ≡ self.old)
+            ⊎ (self.new ≡ (answer_hold self.old (option_copied lo.entry)).session)) }
+    {
+        hold(&mut self.book, lo, text)
+    }
+
+    /// `putback`.
+    pub(super) fn obey_put_back(
+        &mut self,
+        lo: Option<&[u32]>,
+        state: &State,
+        text: &mut Vec<u8>,
+    ) -> Result<(), AllocError>
+        ensures reply { OnOk result (text.new.items ≡ text.old.items
+            ++ (answer_put_back self.old (option_copied lo.entry) (state_value state.now)).text) }
+        ensures session { OnOk result (self.new ≡ (answer_put_back self.old (option_copied lo.entry) (state_value state.now)).session) }
+        ensures left { OnErr result ((self.new ≡ self.old)
+            ⊎ (self.new ≡ (answer_put_back self.old (option_copied lo.entry) (state_value state.now)).session)) }
+    {
+        put_back(&mut self.book, lo, state, text)
+    }
+
+    /// `open`.
+    pub(super) fn obey_enter(
+        &mut self,
+        alloc: Global,
+        lo: Option<&[u32]>,
+        text: &mut Vec<u8>,
+    ) -> Result<(), AllocError>
+        ensures reply { OnOk result (text.new.items ≡ text.old.items ++ (answer_enter self.old (option_copied lo.entry)).text) }
+        ensures session { OnOk result (self.new ≡ (answer_enter self.old (option_copied lo.entry)).session) }
+        ensures left { OnErr result ((self.new ≡ self.old)
+            ⊎ (self.new ≡ (answer_enter self.old (option_copied lo.entry)).session)) }
+    {
+        if self.worker.is_some() {
+            return write_debug_fault(text, DebugFault::AlreadyOpen);
+        }
+        self.worker = enter(alloc, &mut self.book, lo, text)?;
+        Ok(())
+    }
+}

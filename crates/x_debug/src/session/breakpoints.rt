@@ -1,0 +1,39 @@
+//! The breakpoints of a session.
+ghost use Rattle.std.specs.Prelude.{◌≡◌, ◌++◌, true, OnOk, OnErr};
+ghost use Rattle.x_snapshot.specs.Breaks.{is_break};
+ghost use Rattle.x_debug.specs.Commands.{answer_set, answer_clear};
+
+use crate::session::Session;
+use cover_problem::Table;
+use debug_texts::{Counted, write_counted, write_set};
+use std::alloc::AllocError;
+use x_snapshot::Break;
+
+impl<'p, T: Table> Session<'p, T> {
+    /// `break`: sets a breakpoint. Out of memory, nothing has changed.
+    pub(super) fn obey_set(
+        &mut self,
+        breakpoint: Break,
+        text: &mut Vec<u8>,
+    ) -> Result<(), AllocError>
+        requires { is_break self.old.book.problem breakpoint ≡ true }
+        ensures reply { OnOk result (text.new.items ≡ text.old.items ++ (answer_set self.old breakpoint).text) }
+        ensures session { OnOk result (self.new ≡ (answer_set self.old breakpoint).session) }
+        ensures left { OnErr result (self.new ≡ self.old) }
+    {
+        write_set(text, self.book.problem(), breakpoint)?;
+        self.breaks.insert(breakpoint)?;
+        Ok(())
+    }
+
+    /// `clear`: no breakpoint is left. Out of memory, nothing has changed.
+    pub(super) fn obey_clear(&mut self, text: &mut Vec<u8>) -> Result<(), AllocError>
+        ensures reply { OnOk result (text.new.items ≡ text.old.items ++ (answer_clear self.old).text) }
+        ensures session { OnOk result (self.new ≡ (answer_clear self.old).session) }
+        ensures left { OnErr result (self.new ≡ self.old) }
+    {
+        write_counted(text, Counted::Cleared, self.breaks.len() as u128)?;
+        self.breaks.clear();
+        Ok(())
+    }
+}

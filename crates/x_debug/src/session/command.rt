@@ -1,0 +1,84 @@
+//! What a session answers to a line.
+ghost use Rattle.std.specs.Prelude.{◌≡◌, ◌++◌, ◌⊎◌, true, option_copied, IfOk, OnOk, OnErr};
+ghost use Rattle.x_snapshot.specs.Snapshot.{choices_of};
+ghost use Rattle.debug_texts.specs.Command.{command_value};
+ghost use Rattle.x_debug.specs.Commands.{answer, answer_line, is_command, LeftBy, IsLeft};
+
+use crate::session::Session;
+use cover_problem::Table;
+use debug_texts::{Command, read_command, write_debug_fault};
+use std::alloc::{AllocError, Global};
+use text_lines::Refusal;
+
+/// What a session answers: a text of whole lines.
+#[derive(Debug, Drop)]
+pub struct Reply {
+    pub text: Vec<u8>,
+}
+
+/// The choices of a cut, if there is one.
+fn path_of(lo: &Option<Vec<u32>>) -> Option<&[u32]>
+    ensures { option_copied result ≡ choices_of lo.now }
+{
+    match lo {
+        Some(path) => Some(path),
+        None => None,
+    }
+}
+
+impl<'p, T: Table> Session<'p, T> {
+    /// Does what a command asks, and writes what is answered.
+    #[tactic(auto, unfolding(crate::specs::Commands::answer, crate::specs::Commands::LeftBy))]
+    fn obey(
+        &mut self,
+        alloc: Global,
+        command: &Command,
+        text: &mut Vec<u8>,
+    ) -> Result<(), AllocError>
+        requires { is_command self.old.book.problem (command_value command.now) ≡ true }
+        ensures reply { OnOk result (text.new.items ≡ text.old.items ++ (answer self.old (command_value command.now)).text) }
+        ensures session { OnOk result (self.new ≡ (answer self.old (command_value command.now)).session) }
+        ensures left { OnErr result ((self.new ≡ self.old) ⊎ LeftBy self.old (command_value command.now) self.new) }
+    {
+        match command {
+            Command::Nothing => Ok(()),
+            Command::Step(most) => self.obey_step(*most, text),
+            Command::Run => self.obey_run(text),
+            Command::Back(most) => self.obey_back(*most, text),
+            Command::Break(breakpoint) => self.obey_set(*breakpoint, text),
+            Command::Clear => self.obey_clear(text),
+            Command::Show => self.obey_show(text),
+            Command::Untried => self.obey_untried(text),
+            Command::Split { level, option } => self.obey_split(*level, *option, text),
+            Command::Park => self.obey_park(text),
+            Command::Save => self.obey_save(alloc, text),
+            Command::SaveBreaks => self.obey_save_breaks(alloc, text),
+            Command::Close => self.obey_close(text),
+            Command::Enter(lo) => self.obey_enter(alloc, path_of(lo), text),
+            Command::Branches => self.obey_branches(text),
+            Command::Visits => self.obey_visits(text),
+            Command::Retract => self.obey_retract(text),
+            Command::Hold(lo) => self.obey_hold(path_of(lo), text),
+            Command::PutBack { lo, state } => self.obey_put_back(path_of(lo), state, text),
+            Command::Steps => self.obey_steps(text),
+            Command::Levels => self.obey_levels(text),
+        }
+    }
+
+    /// Obeys a line, and answers with a text of whole lines: a refusal is told there, and not an error. Out of memory the session is
+    /// as it was, or as the part of the command left it that was done.
+    pub fn command(&mut self, line: &[u8]) -> Result<Reply, AllocError>
+        ensures reply { IfOk result (λ r. r.text.items ≡ (answer_line self.old line.now).text) }
+        ensures session { OnOk result (self.new ≡ (answer_line self.old line.now).session) }
+        ensures left { OnErr result (IsLeft self.old line.now self.new) }
+    {
+        let alloc = *self.breaks.allocator();
+        let mut text = Vec::new(alloc);
+        match read_command(alloc, self.book.problem(), line) {
+            Ok(command) => self.obey(alloc, &command, &mut text)?,
+            Err(Refusal::Fault(fault)) => write_debug_fault(&mut text, fault)?,
+            Err(Refusal::OutOfMemory) => return Err(AllocError),
+        }
+        Ok(Reply { text })
+    }
+}

@@ -1,0 +1,61 @@
+//! What is shown of a session.
+ghost use Rattle.std.specs.Prelude.{◌≡◌, ◌++◌, OnOk};
+ghost use Rattle.x_debug.specs.Commands.{answer_show, answer_untried, answer_branches, answer_visits, answer_steps, answer_levels};
+
+use crate::session::Session;
+use crate::showing::{show, untried};
+use crate::tiles::{branches, write_posted};
+use cover_problem::Table;
+use debug_texts::{Counted, DebugFault, write_counted, write_debug_fault, write_levels};
+use std::alloc::AllocError;
+
+impl<'p, T: Table> Session<'p, T> {
+    /// `show`.
+    pub(super) fn obey_show(&self, text: &mut Vec<u8>) -> Result<(), AllocError>
+        ensures { OnOk result (text.new.items ≡ text.old.items ++ (answer_show self.now).text) }
+    {
+        let Some(worker) = &self.worker else {
+            return write_debug_fault(text, DebugFault::NoBranch);
+        };
+        show(self.book.problem(), worker.runner(), text)
+    }
+
+    /// `untried`.
+    pub(super) fn obey_untried(&self, text: &mut Vec<u8>) -> Result<(), AllocError>
+        ensures { OnOk result (text.new.items ≡ text.old.items ++ (answer_untried self.now).text) }
+    {
+        let Some(worker) = &self.worker else {
+            return write_debug_fault(text, DebugFault::NoBranch);
+        };
+        untried(worker.runner(), text)
+    }
+
+    /// `branches`.
+    pub(super) fn obey_branches(&self, text: &mut Vec<u8>) -> Result<(), AllocError>
+        ensures { OnOk result (text.new.items ≡ text.old.items ++ (answer_branches self.now).text) }
+    {
+        branches(&self.book, text)
+    }
+
+    /// `visits`.
+    pub(super) fn obey_visits(&self, text: &mut Vec<u8>) -> Result<(), AllocError>
+        ensures { OnOk result (text.new.items ≡ text.old.items ++ (answer_visits self.now).text) }
+    {
+        write_posted(&self.book, text)
+    }
+
+    /// `steps`.
+    pub(super) fn obey_steps(&self, text: &mut Vec<u8>) -> Result<(), AllocError>
+        ensures { OnOk result (text.new.items ≡ text.old.items ++ (answer_steps self.now).text) }
+    {
+        write_counted(text, Counted::Steps, self.book.steps())
+    }
+
+    /// `levels`.
+    pub(super) fn obey_levels(&self, text: &mut Vec<u8>) -> Result<(), AllocError>
+        ensures { OnOk result (text.new.items ≡ text.old.items ++ (answer_levels self.now).text) }
+    {
+        let levels = self.book.levels()?;
+        write_levels(text, &levels)
+    }
+}

@@ -1,0 +1,214 @@
+//! Sessions, line by line: what each command answers, worked out by hand.
+
+use super::*;
+use cover_problem::{PlainTable, Problem, read_cover};
+use std::alloc::{AllocError, Global};
+use std::test::Fail;
+
+/// The small problem: its run has 43 steps, the cut 4 stands after 20, and X2 below 4 5 1 after 29.
+const SMALL: &str =
+    "items a b c d e f g\noption c e\noption a d g\noption b c f\noption a d f\noption b g\noption d e g";
+
+/// What the small problem's branch from the cut 4 to the end is saved as, below 4 5 1.
+const SNAPSHOT: &str =
+    "polysnap 1\nproblem 7\nitems a b c d e f g\noption c e\noption a d g\noption b c f\noption a d f\noption b g\noption d e g\nfrom 4\nto end\nstate X2 - 4 5 1\nend\n";
+
+/// And what it is saved as with a breakpoint.
+const WITH_BREAKS: &str =
+    "polysnap 2\nproblem 7\nitems a b c d e f g\noption c e\noption a d g\noption b c f\noption a d f\noption b g\noption d e g\nfrom 4\nto end\nstate X2 - 4 5 1\nbreaks 1\nbreak level 3\nend\n";
+
+/// Where a session begins anew in the rows below, and where it goes on with its book alone, if no branch is open.
+const NEW: &str = "new";
+
+const AGAIN: &str = "again";
+
+/// Lines and snapshots, each with what is answered.
+const ROWS: [(&str, &str); 109] = [
+    (NEW, ""),
+    // To where nothing is left to try below an option, and back to the start.
+    ("step 12", "moved 12\nat X5 past 2 3\n"),
+    (
+        "show",
+        "at X5 past 2 3\nbranch start to end\ncovered a d g b c f e\nchosen e 0\n",
+    ),
+    ("back 12", "moved 12\nat X1 -\n"),
+    ("back", "refused debug 3 AtStart\n"),
+    (NEW, ""),
+    // A branch is split in two, which are searched one after the other.
+    ("step 5", "moved 5\nat X2 - 2\n"),
+    (
+        "show",
+        "at X2 - 2\nbranch start to end\ncovered a d g\nactive b 1 3\nactive c 2 1 3\nactive e 1 1\nactive f 1 3\n",
+    ),
+    ("untried", "untried 0 4\n"),
+    ("split 0 2", "refused runner 4 NotUntried\n"),
+    ("split 0 4", "branch 4 to end waiting\n"),
+    ("split 0 4", "refused runner 5 OutsideBranch\n"),
+    ("split 0 2", "refused runner 3 NothingUntried\n"),
+    ("run", "moved 15\nat X5 4\nend\n"),
+    ("close", "closed\n"),
+    ("open 4", "at X5 4\n"),
+    ("run", "visit 4 5 1\nmoved 23\nat Done -\nend\n"),
+    ("close", "closed\n"),
+    ("branches", "branches none\n"),
+    ("visits", "visit 4 5 1\nvisits 1\n"),
+    (NEW, ""),
+    // What was posted last is walked again.
+    ("step 30", "visit 4 5 1\nmoved 30\nat X8 - 4 5 1\n"),
+    ("park", "parked\n"),
+    ("open start", "at X8 - 4 5 1\n"),
+    ("retract", "retracted 30\nat X8 - 4 5 1\n"),
+    ("visits", "visits 0\n"),
+    ("back", "moved 1\nat X2 - 4 5 1\n"),
+    ("run", "visit 4 5 1\nmoved 14\nat Done -\nend\n"),
+    ("close", "closed\n"),
+    ("visits", "visit 4 5 1\nvisits 1\n"),
+    (NEW, ""),
+    // A tile goes back to one of its marks.
+    ("step 30", "visit 4 5 1\nmoved 30\nat X8 - 4 5 1\n"),
+    ("park", "parked\n"),
+    ("putback start X2 - 2", "refused book 7 NotAMark\n"),
+    ("putback start X1 -", "branch start to end waiting\n"),
+    ("steps", "steps 0\n"),
+    (NEW, ""),
+    // A tile is held, and what was posted is counted.
+    ("step 5", "moved 5\nat X2 - 2\n"),
+    ("split 0 4", "branch 4 to end waiting\n"),
+    ("park", "parked\n"),
+    ("hold 4", "branch 4 to end held\n"),
+    ("steps", "steps 5\n"),
+    ("levels", "levels 1\n"),
+    ("open 4", "at X5 4\n"),
+    (NEW, ""),
+    // Breakpoints, and what is refused.
+    ("break level 3", "set level 3\n"),
+    ("run", "moved 29\nat X2 - 4 5 1\nbreak level 3\n"),
+    ("clear", "cleared 1\n"),
+    ("jump", "refused debug 1 BadCommand\n"),
+    ("", ""),
+    ("open start", "refused debug 4 AlreadyOpen\n"),
+    ("park", "parked\n"),
+    ("show", "refused debug 5 NoBranch\n"),
+    ("open 4", "refused book 1 UnknownBranch\n"),
+    (NEW, ""),
+    // A search is saved without its breakpoint, and goes on.
+    ("step 5", "moved 5\nat X2 - 2\n"),
+    ("split 0 4", "branch 4 to end waiting\n"),
+    ("park", "parked\n"),
+    ("open 4", "at X5 4\n"),
+    ("break level 3", "set level 3\n"),
+    ("break level 3", "set level 3\n"),
+    ("run", "moved 9\nat X2 - 4 5 1\nbreak level 3\n"),
+    (
+        "save",
+        "snapshot 13\npolysnap 1\nproblem 7\nitems a b c d e f g\noption c e\noption a d g\noption b c f\noption a d f\noption b g\noption d e g\nfrom 4\nto end\nstate X2 - 4 5 1\nend\n",
+    ),
+    (NEW, ""),
+    (SNAPSHOT, "at X2 - 4 5 1\n"),
+    ("branches", "branch 4 to end leased\n"),
+    ("run", "visit 4 5 1\nmoved 14\nat Done -\nend\n"),
+    ("close", "closed\n"),
+    ("clear", "cleared 0\n"),
+    (NEW, ""),
+    // And with it.
+    ("step 5", "moved 5\nat X2 - 2\n"),
+    ("split 0 4", "branch 4 to end waiting\n"),
+    ("park", "parked\n"),
+    ("open 4", "at X5 4\n"),
+    ("break level 3", "set level 3\n"),
+    ("break level 3", "set level 3\n"),
+    ("run", "moved 9\nat X2 - 4 5 1\nbreak level 3\n"),
+    (
+        "save breaks",
+        "snapshot 15\npolysnap 2\nproblem 7\nitems a b c d e f g\noption c e\noption a d g\noption b c f\noption a d f\noption b g\noption d e g\nfrom 4\nto end\nstate X2 - 4 5 1\nbreaks 1\nbreak level 3\nend\n",
+    ),
+    (NEW, ""),
+    ("break visit", "set visit\n"),
+    (SNAPSHOT, "at X2 - 4 5 1\n"),
+    ("clear", "cleared 1\n"),
+    (WITH_BREAKS, "at X2 - 4 5 1\n"),
+    ("run", "visit 4 5 1\nmoved 14\nat Done -\nend\n"),
+    ("clear", "cleared 1\n"),
+    (NEW, ""),
+    // What can't be done with an open branch, and a branch that is parted and saved.
+    ("retract", "refused book 9 NothingToRetract\n"),
+    ("step 5", "moved 5\nat X2 - 2\n"),
+    ("retract", "refused runner 6 NotAtMark\n"),
+    ("split 0 4", "branch 4 to end waiting\n"),
+    ("close", "refused book 8 NotAtEnd\n"),
+    (
+        "save",
+        "snapshot 13\npolysnap 1\nproblem 7\nitems a b c d e f g\noption c e\noption a d g\noption b c f\noption a d f\noption b g\noption d e g\nfrom start\nto 4\nstate X2 - 2\nend\n",
+    ),
+    (
+        "branches",
+        "branch start to 4 waiting\nbranch 4 to end waiting\n",
+    ),
+    (NEW, ""),
+    // To the end, and no further.
+    ("step 43", "visit 4 5 1\nmoved 43\nat Done -\nend\n"),
+    ("step", "refused debug 2 AtEnd\n"),
+    ("run", "refused debug 2 AtEnd\n"),
+    ("close", "closed\n"),
+    ("branches", "branches none\n"),
+    (NEW, ""),
+    // Another problem's snapshot, and texts that are none.
+    (
+        "polysnap 1\nproblem 3\nitems a\noption a\noption a\nfrom 1\nto end\nstate X5 2\nend\n",
+        "refused book 4 ForeignProblem\n",
+    ),
+    ("polysnap 3\n", "refused snapshot 2 BadVersion\n"),
+    ("polysnap 1", "refused snapshot 7 Truncated\n"),
+    ("back", "refused debug 3 AtStart\n"),
+    // The book is taken where no branch is open.
+    (AGAIN, ""),
+    ("open start", "refused debug 4 AlreadyOpen\n"),
+    ("park", "parked\n"),
+    (AGAIN, ""),
+    ("open start", "at X1 -\n"),
+];
+
+/// What a session answers to a line, or to a snapshot.
+pub(crate) fn answer(
+    session: &mut Session<'_, PlainTable>,
+    line: &str,
+) -> Result<Vec<u8>, AllocError> {
+    let bytes = line.as_bytes();
+    let reply = if bytes.starts_with(b"polysnap") {
+        session.load(bytes)?
+    } else {
+        session.command(bytes)?
+    };
+    let Reply { text } = reply;
+    Ok(text)
+}
+
+/// A session on the book of another, or that one where a branch is open.
+fn again<'p>(alloc: Global, session: Session<'p, PlainTable>) -> Session<'p, PlainTable> {
+    match session.into_book() {
+        Ok(book) => Session::on_book(alloc, book),
+        Err(session) => session,
+    }
+}
+
+/// The first row that isn't answered so.
+fn first_other(alloc: Global, problem: &Problem) -> Result<Option<usize>, AllocError> {
+    let mut session = Session::new(alloc, problem)?;
+    for (at, row) in ROWS.iter().enumerate() {
+        if row.0 == NEW {
+            session = Session::new(alloc, problem)?;
+        } else if row.0 == AGAIN {
+            session = again(alloc, session);
+        } else if answer(&mut session, row.0)?.as_slice() != row.1.as_bytes() {
+            return Ok(Some(at));
+        }
+    }
+    Ok(None)
+}
+
+#[test]
+fn lines_are_answered(rt: HostRuntime) -> Result<(), Fail> {
+    let problem = read_cover(rt.alloc(), SMALL.as_bytes())?;
+    assert!(rt; first_other(rt.alloc(), &problem)? == None);
+    Ok(())
+}

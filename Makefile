@@ -9,9 +9,9 @@ LONG = pentominoes-15x4 pentominoes-12x5 pentominoes-10x6 pentominoes-8x8-withou
 	solid-pentominoes-2x5x6 solid-pentominoes-3x4x5
 LONG_COVERS = pent-10x6 langford-12
 
-.PHONY: all build ci bench gallery gallery-long check-docs check-tools check-words check-statuses install
+.PHONY: all build ci bench gallery gallery-long check-docs check-edits check-tools check-words check-statuses install
 
-all: build gallery check-tools check-docs check-words check-statuses
+all: check-edits build gallery check-tools check-docs check-words check-statuses
 
 # Proves and builds the program where anything changed.
 build:
@@ -35,6 +35,10 @@ gallery-long: build
 # Each command line shown in the README, the recipes, the tutorial and the man page is run, and has to print what is shown.
 check-docs: build
 	@tools/check_docs README.md docs/RECIPES.md docs/TUTORIAL.md docs/DEBUGGER.md docs/polylab.1
+
+# Each wrong body that the gate tries can be made, and changes something.
+check-edits:
+	@tools/check_edits
 
 # Puts packings through the checker and the drawer; a spoilt one has to be found.
 check-tools: build

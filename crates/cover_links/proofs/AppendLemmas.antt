@@ -1,10 +1,8 @@
 -- A node that is appended to its list: the block stands for one node more.
-use Rattle.std.proofs.Common.{◌≡◌, ℕ, zero, suc, ◌+◌, ◌-◌, ◌<◌, ◌≤◌, ◌^◌, ◌⊎◌, inl, inr, nat_le, Bool, true, ◌&&◌, unwrap_or, List, [], ◌∷◌, length, length-set, filter, set, refl, sym, ap, ◌∙◌, subst, arith}
-use Rattle.std.proofs.lemmas.Bool.{and_parts, cases_eq, cases_lt, leb-true}
+use Rattle.std.proofs.Common.{◌≡◌, ℕ, zero, suc, ◌+◌, ◌-◌, ◌<◌, ◌≤◌, ◌^◌, ◌⊎◌, inl, inr, Bool, true, unwrap_or, List, [], ◌∷◌, length, length-set, filter, set, refl, sym, ap, ◌∙◌, subst, arith}
+use Rattle.std.proofs.lemmas.Bool.{cases_eq, cases_lt}
 use Rattle.cover_problem.specs.Lists.{numbers, last_of}
 use Rattle.cover_problem.specs.Problem.{ProblemValue, IsProblem, size_of}
-use Rattle.cover_problem.proofs.MemberLemmas.{filter_at_most}
-use Rattle.cover_problem.proofs.NumberLemmas.{length-numbers}
 use Rattle.cover_links.specs.declared.entry.Entry.{Entry}
 use Rattle.cover_links.specs.Entries.{entry_at, changed, one_more, to_up, to_down, relinked}
 use Rattle.cover_links.specs.Hiding.{node_unhidden}
@@ -13,9 +11,10 @@ use Rattle.cover_links.specs.Safety.{CanAppendNode, IsInside}
 use Rattle.cover_links.specs.Ring.{Follows, IsNext, IsRing, without}
 use Rattle.cover_links.specs.Layout.{node_index, spacer_of, start_of}
 use Rattle.cover_links.proofs.EntryLemmas.{length-changed, kept, at_changed, at_other}
+use Rattle.cover_links.proofs.RestoreLemmas.{vertical, length-joined, joined_next, joined_next_other, joined_prev, joined_prev_other, joined_kept}
 use Rattle.cover_links.proofs.RingLemmas.{without_ne, without_from, last_to_head, count_without}
 use Rattle.cover_links.proofs.LayoutLemmas.{IsNode, place_high, place_low, place_apart}
-use Rattle.cover_links.proofs.HidingLemmas.{down_at, up_at, left_at, right_at, top_at}
+use Rattle.cover_links.proofs.HidingLemmas.{down_at, up_at, left_at, right_at, top_at, few}
 use Rattle.cover_links.proofs.Covered.{same_test}
 
 -- a block with the nodes that are shown, while it is built
@@ -163,31 +162,28 @@ module _ (p : ProblemValue) (active : ℕ → Bool) (problem : IsProblem p) (t t
   appended_is = unhidden_is
 
   ks_down_u : down_at ks (up_at es j) ≡ x
-  ks_down_u = kept (λ e. e.down) (to_up x) (λ e. refl) (changed (to_down x) hs (up_at es j)) j (up_at es j) ∙ ap (λ (e : Entry). e.down) (at_changed (to_down x) hs (up_at es j) (subst (λ n. up_at es j < n) (sym hs_length) u_inside))
+  ks_down_u = joined_next vertical hs (up_at es j) x j x (subst (λ n. up_at es j < n) (sym hs_length) u_inside)
 
   ks_down : (y : ℕ) → (y ≡ up_at es j → ⊥) → down_at ks y ≡ down_at fs y
-  ks_down y ne = kept (λ e. e.down) (to_up x) (λ e. refl) (changed (to_down x) hs (up_at es j)) j y ∙ ap (λ (e : Entry). e.down) (at_other (to_down x) hs (up_at es j) y ne) ∙ kept (λ e. e.down) one_more (λ e. refl) fs j y
+  ks_down y ne = joined_next_other vertical hs (up_at es j) x j x y ne ∙ kept (λ e. e.down) one_more (λ e. refl) fs j y
 
   ks_up_j : up_at ks j ≡ x
-  ks_up_j = ap (λ (e : Entry). e.up) (at_changed (to_up x) (changed (to_down x) hs (up_at es j)) j (subst (λ n. j < n) (sym (length-changed (to_down x) hs (up_at es j) ∙ hs_length)) j_low))
+  ks_up_j = joined_prev vertical hs (up_at es j) x j x (subst (λ n. j < n) (sym hs_length) j_low)
 
   ks_up : (y : ℕ) → (y ≡ j → ⊥) → up_at ks y ≡ up_at fs y
-  ks_up y ne = ap (λ (e : Entry). e.up) (at_other (to_up x) (changed (to_down x) hs (up_at es j)) j y ne) ∙ kept (λ e. e.up) (to_down x) (λ e. refl) hs (up_at es j) y ∙ kept (λ e. e.up) one_more (λ e. refl) fs j y
-
-  ks_plain : (π : Entry → ℕ) → ((n : ℕ) (e : Entry) → π (to_up n e) ≡ π e) → ((n : ℕ) (e : Entry) → π (to_down n e) ≡ π e) → (y : ℕ) → π (entry_at ks y) ≡ π (entry_at hs y)
-  ks_plain π b d y = kept π (to_up x) (b x) (changed (to_down x) hs (up_at es j)) j y ∙ kept π (to_down x) (d x) hs (up_at es j) y
+  ks_up y ne = joined_prev_other vertical hs (up_at es j) x j x y ne ∙ kept (λ e. e.up) one_more (λ e. refl) fs j y
 
   ks_left : (y : ℕ) → left_at ks y ≡ left_at fs y
-  ks_left y = ks_plain (λ e. e.left) (λ n e. refl) (λ n e. refl) y ∙ kept (λ e. e.left) one_more (λ e. refl) fs j y
+  ks_left y = joined_kept vertical hs (up_at es j) x j x (λ e. e.left) (λ n e. refl) (λ n e. refl) y ∙ kept (λ e. e.left) one_more (λ e. refl) fs j y
 
   ks_right : (y : ℕ) → right_at ks y ≡ right_at fs y
-  ks_right y = ks_plain (λ e. e.right) (λ n e. refl) (λ n e. refl) y ∙ kept (λ e. e.right) one_more (λ e. refl) fs j y
+  ks_right y = joined_kept vertical hs (up_at es j) x j x (λ e. e.right) (λ n e. refl) (λ n e. refl) y ∙ kept (λ e. e.right) one_more (λ e. refl) fs j y
 
   ks_top : (y : ℕ) → (y ≡ j → ⊥) → top_at ks y ≡ top_at fs y
-  ks_top y ne = ks_plain (λ e. e.top) (λ n e. refl) (λ n e. refl) y ∙ ap (λ (e : Entry). e.top) (at_other one_more fs j y ne)
+  ks_top y ne = joined_kept vertical hs (up_at es j) x j x (λ e. e.top) (λ n e. refl) (λ n e. refl) y ∙ ap (λ (e : Entry). e.top) (at_other one_more fs j y ne)
 
   ks_head : top_at ks j ≡ top_at es j + 1
-  ks_head = ks_plain (λ e. e.top) (λ n e. refl) (λ n e. refl) j ∙ ap (λ (e : Entry). e.top) (at_changed one_more fs j (subst (λ n. j < n) (sym fs_length) j_low)) ∙ ap (λ (e : Entry). e.top + 1) (fs_other j j_apart)
+  ks_head = joined_kept vertical hs (up_at es j) x j x (λ e. e.top) (λ n e. refl) (λ n e. refl) j ∙ ap (λ (e : Entry). e.top) (at_changed one_more fs j (subst (λ n. j < n) (sym fs_length) j_low)) ∙ ap (λ (e : Entry). e.top + 1) (fs_other j j_apart)
 
   -- links side by side that are neither before nor after the new node
   side : (b d : ℕ) → (b ≡ x → ⊥) → (d ≡ x → ⊥) → (b ≡ up_at es j → ⊥) → (d ≡ j → ⊥) → down_at es b ≡ d → up_at es d ≡ b → (down_at ks b ≡ d) × (up_at ks d ≡ b)
@@ -300,7 +296,7 @@ module _ (p : ProblemValue) (active : ℕ → Bool) (problem : IsProblem p) (t t
 
   ks_grows : Grows p t' active ks
   ks_grows = record {
-    size = length-changed (to_up x) (changed (to_down x) hs (up_at es j)) j ∙ length-changed (to_down x) hs (up_at es j) ∙ hs_length ∙ g.size;
+    size = length-joined vertical hs (up_at es j) x j x ∙ hs_length ∙ g.size;
     shown_are = each (λ i m. IsNode p i m) node g.shown_are;
     rings = λ i b d. ring_of i b d (cases_eq i j);
     counts = λ i b d. count_of i b d (cases_eq i j);
@@ -346,18 +342,6 @@ module _ (p : ProblemValue) (active : ℕ → Bool) (problem : IsProblem p) (t t
   pub append_keeps : (y : ℕ) → length p.names < y → (y ≡ x → ⊥) → top_at (node_appended es x j l r) y ≡ top_at es y
   append_keeps y h ne = ap (λ n. top_at n y) appended_is ∙ ks_top y (λ e. absurd (omega arith)) ∙ ap (λ (e : Entry). e.top) (fs_other y ne)
 
-  few : length (filter (t j) (numbers (length p.options) 1)) ≤ 262143
-  few =
-      let b = filter_at_most (λ n. true) (t j) (numbers (length p.options) 1) (λ y h. refl) in
-      let d = all_pass (numbers (length p.options) 1) in let e = length-numbers (length p.options) 1 in
-      let small = and_parts (nat_le (length p.names) 65535 && nat_le (length p.options) 262143) (nat_le (size_of p) 8388608) problem.small in
-      let m = leb-true (length p.options) 262143 (and_parts (nat_le (length p.names) 65535) (nat_le (length p.options) 262143) small.0).1 in
-      omega arith
-    where
-      all_pass : (ys : List ℕ) → length (filter (λ n. true) ys) ≡ length ys
-      all_pass [] = refl
-      all_pass (y ∷ ys) = ap suc (all_pass ys)
-
   pub append_can : CanAppendNode es x j l r
   append_can =
       let top : (entry_at fs x).top ≡ j = ap (λ (e : Entry). e.top) fs_here in
@@ -369,7 +353,7 @@ module _ (p : ProblemValue) (active : ℕ → Bool) (problem : IsProblem p) (t t
         into = record {
           here = here;
           item = subst (λ n. n < length fs) (sym top) head;
-          small = subst (λ n. top_at fs n + 1 < 2 ^ 32) (sym top) (let e = ap (λ (w : Entry). w.top) (fs_other j j_apart) in let c = g.counts j pos le in let f = few in omega arith);
+          small = subst (λ n. top_at fs n + 1 < 2 ^ 32) (sym top) (let e = ap (λ (w : Entry). w.top) (fs_other j j_apart) in let c = g.counts j pos le in let f = few p (t j) problem in omega arith);
           inside = subst (λ n. IsInside (changed one_more fs n) x) (sym top) (record {
             here = subst (λ n. x < n) (sym (length-changed one_more fs j)) here;
             above = subst (λ n. n < length hs) (sym hs_up) (subst (λ n. up_at es j < n) (sym hs_length) u_inside);

@@ -13,8 +13,8 @@ use Rattle.cover_links.specs.Safety.{CanHideList, CanUnhideList, IsItemInside, C
 use Rattle.cover_links.specs.Ring.{Follows, IsRing}
 use Rattle.cover_links.specs.Layout.{node_index, spacer_of}
 use Rattle.cover_links.proofs.EntryLemmas.{length-item_unlinked}
-use Rattle.cover_links.proofs.RestoreLemmas.{item_unlinked_right, item_unlinked_right_other, item_unlinked_left, item_unlinked_left_other, item_unlinked_kept, item_unlinked_left_same, item_unlinked_right_same, row_back}
-use Rattle.cover_links.proofs.RingLemmas.{Leaves, ring_without, next_is, prev_is, next_member}
+use Rattle.cover_links.proofs.RestoreLemmas.{item_unlinked_leaves, item_unlinked_kept, row_back}
+use Rattle.cover_links.proofs.RingLemmas.{Leaves, leaves_next, leaves_prev, ring_without, next_is, prev_is, next_member}
 use Rattle.cover_links.proofs.LayoutLemmas.{IsNode, place_high}
 use Rattle.cover_links.proofs.HidingLemmas.{Stands, down_at, up_at, left_at, right_at, top_at}
 use Rattle.cover_links.proofs.ListWalk.{first_of, last_from, IsChain, chain_from, chain_next, chain_last, list_gone, ListDone, list_done, list_column, list_stays, list_was}
@@ -46,49 +46,43 @@ module _ (p : ProblemValue) (c : List ℕ) (i : ℕ) (shown : ℕ → ℕ → Bo
       let left_low : left_at fs i < length fs = subst (λ n. n < length fs) (sym lefts) low.1 in
       let right_low : right_at fs i < length fs = subst (λ n. n < length fs) (sym rights) high.1 in
       let linked : IsItemLinked fs i = record { before = left_low; after = right_low; from_before = ap (right_at fs) lefts ∙ a.0; from_after = ap (left_at fs) rights ∙ b.1 } in
-      let leaves : Leaves (right_at fs) (left_at fs) (right_at (item_unlinked fs i)) (left_at (item_unlinked fs i)) i = record {
-        to_next = linked.from_before;
-        to_prev = linked.from_after;
-        past = item_unlinked_right fs i left_low;
-        back = item_unlinked_left fs i right_low;
-        next_kept = item_unlinked_right_other fs i;
-        prev_kept = item_unlinked_left_other fs i;
-      } in
+      let leaves = item_unlinked_leaves fs i linked in
       let pos = u.some in
       record {
         linked = linked;
         ring = subst (λ f. IsRing f (λ z. z) (right_at (item_unlinked fs i)) (left_at (item_unlinked fs i))) (sym (active_without p c i u.uncovered))
             (ring_without t (λ z. z) (right_at fs) (left_at fs) (right_at (item_unlinked fs i)) (left_at (item_unlinked fs i)) i s.row leaves h u.some (λ e. absurd (omega arith)) (λ z g e. e));
-        far = λ z l. (item_unlinked_right_other fs i z (λ e. absurd (omega arith)), item_unlinked_left_other fs i z (λ e. absurd (omega arith)));
+        far = λ z l. (leaves.next_kept z (λ e. absurd (omega arith)), leaves.prev_kept z (λ e. absurd (omega arith)));
       }
 
+  -- an item that names itself
   aside : p.primary < i → RowDone p (active_of p (c ++ i ∷ [])) fs i
-  aside l =
-      let own = s.aside i l u.within in
-      let w = u.within in let z = s.size in
-      let here : i < length fs = omega arith in
-      let left_low : left_at fs i < length fs = subst (λ n. n < length fs) (sym own.1) here in
-      let right_low : right_at fs i < length fs = subst (λ n. n < length fs) (sym own.0) here in
-      record {
-        linked = record { before = left_low; after = right_low; from_before = ap (right_at fs) own.1 ∙ own.0; from_after = ap (left_at fs) own.0 ∙ own.1 };
-        ring = subst (λ f. IsRing f (λ n. n) (right_at (item_unlinked fs i)) (left_at (item_unlinked fs i))) (sym (active_aside p c i u.uncovered l))
-            (λ x y f. let r = s.row x y f in (rights x (cases_eq x (left_at fs i)) ∙ r.0, lefts y (cases_eq y (right_at fs i)) ∙ r.1));
-        far = λ y g. (rights y (cases_eq y (left_at fs i)), lefts y (cases_eq y (right_at fs i)));
-      }
+  aside l = record {
+    linked = linked;
+    ring = subst (λ f. IsRing f (λ n. n) (right_at (item_unlinked fs i)) (left_at (item_unlinked fs i))) (sym (active_aside p c i u.uncovered l))
+        (λ x y f. let r = s.row x y f in (rights x (cases_eq x i) ∙ r.0, lefts y (cases_eq y i) ∙ r.1));
+    far = λ y g. (rights y (cases_eq y i), lefts y (cases_eq y i));
+  }
     where
-      rights : (y : ℕ) → (y ≡ left_at fs i) ⊎ (y ≡ left_at fs i → ⊥) → right_at (item_unlinked fs i) y ≡ right_at fs y
-      rights y (inr ne) = item_unlinked_right_other fs i y ne
-      rights y (inl e) =
-          let own = s.aside i l u.within in let w = u.within in let z = s.size in
-          let low : left_at fs i < length fs = subst (λ n. n < length fs) (sym own.1) (omega arith) in
-          ap (right_at (item_unlinked fs i)) e ∙ item_unlinked_right fs i low ∙ ap (right_at fs) (sym own.1 ∙ sym e)
+      own : (right_at fs i ≡ i) × (left_at fs i ≡ i)
+      own = s.aside i l u.within
 
-      lefts : (y : ℕ) → (y ≡ right_at fs i) ⊎ (y ≡ right_at fs i → ⊥) → left_at (item_unlinked fs i) y ≡ left_at fs y
-      lefts y (inr ne) = item_unlinked_left_other fs i y ne
-      lefts y (inl e) =
-          let own = s.aside i l u.within in let w = u.within in let z = s.size in
-          let low : right_at fs i < length fs = subst (λ n. n < length fs) (sym own.0) (omega arith) in
-          ap (left_at (item_unlinked fs i)) e ∙ item_unlinked_left fs i low ∙ ap (left_at fs) (sym own.0 ∙ sym e)
+      here : i < length fs
+      here = let w = u.within in let z = s.size in omega arith
+
+      linked : IsItemLinked fs i
+      linked = record { before = subst (λ n. n < length fs) (sym own.1) here; after = subst (λ n. n < length fs) (sym own.0) here; from_before = ap (right_at fs) own.1 ∙ own.0; from_after = ap (left_at fs) own.0 ∙ own.1 }
+
+      leaves : Leaves (right_at fs) (left_at fs) (right_at (item_unlinked fs i)) (left_at (item_unlinked fs i)) i
+      leaves = item_unlinked_leaves fs i linked
+
+      rights : (y : ℕ) → (y ≡ i) ⊎ (y ≡ i → ⊥) → right_at (item_unlinked fs i) y ≡ right_at fs y
+      rights y (inr ne) = leaves.next_kept y (λ e. ne (e ∙ own.1))
+      rights y (inl e) = ap (right_at (item_unlinked fs i)) e ∙ leaves_next leaves ∙ ap (right_at fs) (sym e)
+
+      lefts : (y : ℕ) → (y ≡ i) ⊎ (y ≡ i → ⊥) → left_at (item_unlinked fs i) y ≡ left_at fs y
+      lefts y (inr ne) = leaves.prev_kept y (λ e. ne (e ∙ own.0))
+      lefts y (inl e) = ap (left_at (item_unlinked fs i)) e ∙ leaves_prev leaves ∙ ap (left_at fs) (sym e)
 
   pub row_done : RowDone p (active_of p (c ++ i ∷ [])) fs i
   row_done = pick (cases_lt p.primary i)
@@ -237,8 +231,8 @@ module _ (p : ProblemValue) (c : List ℕ) (i : ℕ) (es : List Entry) (problem 
   back_can = record {
     row = record {
       here = subst (λ n. i < n) (sym (length-item_unlinked fs i)) (here (shown_of p (c ++ i ∷ [])) (active_of p c) fs fs_stands);
-      before = subst (λ n. n < length (item_unlinked fs i)) (sym (item_unlinked_left_same fs i row.linked)) (subst (λ n. left_at fs i < n) (sym (length-item_unlinked fs i)) (row.linked).before);
-      after = subst (λ n. n < length (item_unlinked fs i)) (sym (item_unlinked_right_same fs i row.linked)) (subst (λ n. right_at fs i < n) (sym (length-item_unlinked fs i)) (row.linked).after);
+      before = subst (λ n. n < length (item_unlinked fs i)) (sym (leaves_prev (item_unlinked_leaves fs i row.linked))) (subst (λ n. left_at fs i < n) (sym (length-item_unlinked fs i)) (row.linked).before);
+      after = subst (λ n. n < length (item_unlinked fs i)) (sym (leaves_next (item_unlinked_leaves fs i row.linked))) (subst (λ n. right_at fs i < n) (sym (length-item_unlinked fs i)) (row.linked).after);
     };
     options = subst (λ (w : List Entry × ℕ × ℕ). CanUnhideList w.0 w.1 w.2) (λ z. (sym again z, (sym up_is ∙ (λ l. up_at (sym again l) i)) z, (sym top_again ∙ (λ l. top_at (sym again l) i)) z)) (walk.back_can 0 tt);
   }

@@ -1,10 +1,11 @@
 -- What a block stands for: which nodes are in their lists, and which items are in the row of active items. A node that is in its
 -- list can be hidden, and hiding it is undone by unhiding it.
-use Rattle.std.proofs.Common.{◌≡◌, ℕ, suc, ◌+◌, ◌-◌, ◌<◌, ◌≤◌, ◌^◌, ◌⊎◌, inl, inr, ◌==◌, Bool, true, false, ◌&&◌, cond, unwrap_or, List, [], ◌∷◌, length, filter, refl, sym, ap, ◌∙◌, subst, arith, nat_le}
-use Rattle.std.proofs.lemmas.Bool.{and_parts, cases_eq, eq-eqb, ne_eqb, leb-true}
+use Rattle.std.proofs.Common.{◌≡◌, ℕ, suc, ◌+◌, ◌-◌, ◌<◌, ◌≤◌, ◌^◌, ◌⊎◌, inl, inr, ◌==◌, Bool, true, false, cond, unwrap_or, List, length, filter, refl, sym, ap, ◌∙◌, subst, arith}
+use Rattle.std.proofs.lemmas.Bool.{cases_eq, eq-eqb, ne_eqb}
+use Rattle.std.proofs.lemmas.List.Sums.{length-filter, count_by-le-length}
 use Rattle.cover_problem.specs.Lists.{numbers, above, below}
 use Rattle.cover_problem.specs.Problem.{ProblemValue, IsProblem, size_of}
-use Rattle.cover_problem.proofs.MemberLemmas.{filter_at_most}
+use Rattle.cover_problem.proofs.HolderLemmas.{few_options}
 use Rattle.cover_problem.proofs.NumberLemmas.{length-numbers}
 use Rattle.cover_links.specs.declared.entry.Entry.{Entry}
 use Rattle.cover_links.specs.Entries.{entry_at, changed, one_less, one_more, unlinked, relinked, IsLinked}
@@ -13,8 +14,8 @@ use Rattle.cover_links.specs.Safety.{IsInside, CanHideNode, CanUnhideNode}
 use Rattle.cover_links.specs.Ring.{Follows, IsRing, without}
 use Rattle.cover_links.specs.Layout.{node_index, spacer_of, start_of}
 use Rattle.cover_links.proofs.EntryLemmas.{length-changed, kept, at_changed, at_other, length-unlinked}
-use Rattle.cover_links.proofs.RestoreLemmas.{cancel, relink_restores, unlinked_down, unlinked_down_other, unlinked_up, unlinked_up_other, unlinked_kept}
-use Rattle.cover_links.proofs.RingLemmas.{Leaves, ring_kept, ring_without, next_is, prev_is, count_without, without_ne, next_member}
+use Rattle.cover_links.proofs.RestoreLemmas.{cancel, relink_restores, unlinked_leaves, unlinked_kept}
+use Rattle.cover_links.proofs.RingLemmas.{Leaves, leaves_next, leaves_prev, ring_kept, ring_without, next_is, prev_is, count_without, without_ne, next_member}
 use Rattle.cover_links.proofs.LayoutLemmas.{IsNode, place_high, place_low, place_apart, spacer_low}
 
 -- the four links and the first field, by index
@@ -32,6 +33,12 @@ right_at es x = (entry_at es x).right
 
 abbrev pub top_at : List Entry → ℕ → ℕ
 top_at es x = (entry_at es x).top
+
+-- a list has fewer nodes than a word counts
+pub few : (p : ProblemValue) (t : ℕ → Bool) → IsProblem p → length (filter t (numbers (length p.options) 1)) ≤ 262143
+few p t problem =
+    let n = count_by-le-length t (numbers (length p.options) 1) in let f = length-filter t (numbers (length p.options) 1) in
+    let l = length-numbers (length p.options) 1 in let m = few_options p problem in omega arith
 
 -- the entries of a problem: `shown j k` says that the node of the item j in the option k is in its list, and `active` which
 -- items are in the row
@@ -162,15 +169,11 @@ module _ (p : ProblemValue) (shown : ℕ → ℕ → Bool) (active : ℕ → Boo
     gone_length : length gone ≡ length es
     gone_length = length-changed one_less (unlinked es q) j ∙ length-unlinked es q
 
+    taken_out : Leaves (down_at es) (up_at es) (down_at (unlinked es q)) (up_at (unlinked es q)) q
+    taken_out = unlinked_leaves es q node_linked
+
     leaves : Leaves (down_at es) (up_at es) (down_at gone) (up_at gone) q
-    leaves = record {
-      to_next = node_linked.from_above;
-      to_prev = node_linked.from_below;
-      past = gone_down (up_at es q) ∙ unlinked_down es q up_low;
-      back = gone_up (down_at es q) ∙ unlinked_up es q down_low;
-      next_kept = λ x ne. gone_down x ∙ unlinked_down_other es q x ne;
-      prev_kept = λ y ne. gone_up y ∙ unlinked_up_other es q y ne;
-    }
+    leaves = subst (λ (w : (ℕ → ℕ) × (ℕ → ℕ)). Leaves (down_at es) (up_at es) w.0 w.1 q) (λ i. (λ y. sym (gone_down y) i, λ y. sym (gone_up y) i)) taken_out
 
     some : suc (length (filter (without (shown j) k) (numbers (length p.options) 1))) ≡ length (filter (shown j) (numbers (length p.options) 1))
     some = count_without (shown j) k (length p.options) 1 h node.some (let w = node.within in omega arith)
@@ -236,37 +239,17 @@ module _ (p : ProblemValue) (shown : ℕ → ℕ → Bool) (active : ℕ → Boo
     unfolding node_unhidden
     node_back = (λ i. relinked (changed one_more (gone_is i) (top_at (gone_is i) q)) q) ∙ ap (λ n. relinked (changed one_more gone n) q) gone_top_here ∙ ap (λ fs. relinked fs q) gone_again ∙ relink_restores es q node_linked
 
-    same_up : (q ≡ down_at es q) ⊎ (q ≡ down_at es q → ⊥) → up_at (unlinked es q) q ≡ up_at es q
-    same_up (inl e) = ap (up_at (unlinked es q)) e ∙ unlinked_up es q down_low
-    same_up (inr ne) = unlinked_up_other es q q ne
-
-    same_down : (q ≡ up_at es q) ⊎ (q ≡ up_at es q → ⊥) → down_at (unlinked es q) q ≡ down_at es q
-    same_down (inl e) = ap (down_at (unlinked es q)) e ∙ unlinked_down es q up_low
-    same_down (inr ne) = unlinked_down_other es q q ne
-
-    few : length (filter (shown j) (numbers (length p.options) 1)) ≤ 262143
-    few =
-        let a = filter_at_most (λ n. true) (shown j) (numbers (length p.options) 1) (λ y g. refl) in
-        let b = all_pass (numbers (length p.options) 1) in let c = length-numbers (length p.options) 1 in
-        let small = and_parts (nat_le (length p.names) 65535 && nat_le (length p.options) 262143) (nat_le (size_of p) 8388608) problem.small in
-        let m = leb-true (length p.options) 262143 (and_parts (nat_le (length p.names) 65535) (nat_le (length p.options) 262143) small.0).1 in
-        omega arith
-      where
-        all_pass : (xs : List ℕ) → length (filter (λ n. true) xs) ≡ length xs
-        all_pass [] = refl
-        all_pass (x ∷ xs) = ap suc (all_pass xs)
-
     gone_can : CanUnhideNode gone q
     gone_can =
         let here : q < length gone = subst (λ n. q < n) (sym gone_length) low in
         record {
           here = here;
           item = subst (λ n. n < length gone) (sym gone_top_here) (subst (λ n. j < n) (sym gone_length) head_low);
-          small = subst (λ n. top_at gone n + 1 < 2 ^ 32) (sym gone_top_here) (let c = s.counts j pos le in let g = gone_head in let f = few in omega arith);
+          small = subst (λ n. top_at gone n + 1 < 2 ^ 32) (sym gone_top_here) (let c = s.counts j pos le in let g = gone_head in let f = few p (shown j) problem in omega arith);
           inside = subst (λ fs. IsInside fs q) (sym (ap (changed one_more gone) gone_top_here ∙ gone_again)) (record {
             here = subst (λ n. q < n) (sym (length-unlinked es q)) low;
-            above = (λ (e : up_at (unlinked es q) q ≡ up_at es q). subst (λ n. n < length (unlinked es q)) (sym e) (subst (λ n. up_at es q < n) (sym (length-unlinked es q)) up_low)) (same_up (cases_eq q (down_at es q)));
-            below = (λ (e : down_at (unlinked es q) q ≡ down_at es q). subst (λ n. n < length (unlinked es q)) (sym e) (subst (λ n. down_at es q < n) (sym (length-unlinked es q)) down_low)) (same_down (cases_eq q (up_at es q)));
+            above = subst (λ n. n < length (unlinked es q)) (sym (leaves_prev taken_out)) (subst (λ n. up_at es q < n) (sym (length-unlinked es q)) up_low);
+            below = subst (λ n. n < length (unlinked es q)) (sym (leaves_next taken_out)) (subst (λ n. down_at es q < n) (sym (length-unlinked es q)) down_low);
           });
         }
 

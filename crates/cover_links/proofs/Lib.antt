@@ -4,6 +4,7 @@ pub mod SendParts
 pub mod NewParts
 pub mod SlotRows
 pub mod SafetyLemmas
+pub mod ListTurns
 pub mod TurnLemmas
 pub mod RingLemmas
 pub mod RestoreLemmas

@@ -107,6 +107,17 @@ pub record Leaves (next prev next' prev' : ℕ → ℕ) (Q : ℕ) : Type 0 where
   pub next_kept : (x : ℕ) → (x ≡ prev Q → ⊥) → next' x ≡ next x
   pub prev_kept : (y : ℕ) → (y ≡ next Q → ⊥) → prev' y ≡ prev y
 
+-- the entry at Q still names its neighbours
+pub leaves_next : {next prev next' prev' : ℕ → ℕ} {Q : ℕ} → Leaves next prev next' prev' Q → next' Q ≡ next Q
+leaves_next {next} {prev} {next'} {prev'} {Q} l = step (cases_eq Q (prev Q))
+  where
+    step : (Q ≡ prev Q) ⊎ (Q ≡ prev Q → ⊥) → next' Q ≡ next Q
+    step (inl e) = ap next' e ∙ l.past
+    step (inr ne) = l.next_kept Q ne
+
+pub leaves_prev : {next prev next' prev' : ℕ → ℕ} {Q : ℕ} → Leaves next prev next' prev' Q → prev' Q ≡ prev Q
+leaves_prev l = leaves_next (record { to_next = l.to_prev; to_prev = l.to_next; past = l.back; back = l.past; next_kept = l.prev_kept; prev_kept = l.next_kept })
+
 -- links that neither come from Q nor lead to it are as they were
 side_by_side : (next prev next' prev' : ℕ → ℕ) (Q a b : ℕ) → Leaves next prev next' prev' Q → next a ≡ b → prev b ≡ a → (a ≡ Q → ⊥) → (b ≡ Q → ⊥) → (next' a ≡ b) × (prev' b ≡ a)
 side_by_side next prev next' prev' Q a b l n p na nb =

@@ -3,9 +3,9 @@ use Rattle.std.proofs.Common.{◌≡◌, ℕ, suc, ◌+◌, ◌-◌, ◌<◌, Li
 use Rattle.cover_links.specs.Fresh.{node_written, node_appended}
 use Rattle.cover_links.proofs.EntryLemmas.{length-node_unhidden}
 use Rattle.cover_links.specs.declared.entry.Entry.{Entry}
-use Rattle.cover_links.specs.Hiding.{node_hidden, hidden, unhidden}
+use Rattle.cover_links.specs.Hiding.{node_hidden}
 use Rattle.cover_links.specs.Entries.{entry_at}
-use Rattle.cover_links.specs.Safety.{CanHideNode, CanHideRun, CanHide, CanUnhide, CanHideList, CanUnhideList}
+use Rattle.cover_links.specs.Safety.{CanHideNode, CanHideRun}
 
 -- the first node of a run, and the rest
 pub hide_run_step : (es : List Entry) (a b : ℕ) → a < b → CanHideRun es a (b - a) → CanHideNode es a × CanHideRun (node_hidden es a) (a + 1) (b - (a + 1))
@@ -13,13 +13,6 @@ hide_run_step es a b lt can =
     let one : b - a ≡ suc (b - (a + 1)) = omega arith in let next : suc a ≡ a + 1 = omega arith in
     let both : CanHideRun es a (suc (b - (a + 1))) = subst (λ n. CanHideRun es a n) one can in
     (both.0, subst (λ k. CanHideRun (node_hidden es a) k (b - (a + 1))) next both.1)
-
--- the first option of a list, and the rest
-pub hide_list_step : (es : List Entry) (p n m : ℕ) → n ≡ suc m → CanHideList es p n → CanHide es p × CanHideList (hidden es p) (entry_at (hidden es p) p).down m
-hide_list_step es p n m e can = subst (λ k. CanHideList es p k) e can
-
-pub unhide_list_step : (es : List Entry) (p n m : ℕ) → n ≡ suc m → CanUnhideList es p n → CanUnhide es p × CanUnhideList (unhidden es p) (entry_at (unhidden es p) p).up m
-unhide_list_step es p n m e can = subst (λ k. CanUnhideList es p k) e can
 
 pub length-node_appended : (es : List Entry) (x i left right : ℕ) → length (node_appended es x i left right) ≡ length es
 unfolding node_appended

@@ -1,15 +1,23 @@
 -- What is read off the links of a table.
-use Rattle.std.proofs.Common.{◌≡◌, ℕ, zero, suc, ◌+◌, ◌-◌, ◌<◌, ◌≤◌, ◌⊎◌, inl, inr, ◌==◌, true, false, Option, Some, None, unwrap_or, List, [], ◌∷◌, ◌++◌, length, filter, get_or, take, refl, sym, ap, ◌∙◌, subst, arith}
+use Rattle.std.proofs.Common.{◌≡◌, ℕ, zero, suc, ◌+◌, ◌-◌, ◌<◌, ◌≤◌, ◌⊎◌, inl, inr, ◌==◌, true, false, Option, Some, None, unwrap_or, List, [], ◌∷◌, ◌++◌, length, length-append, filter, get_or, take, refl, sym, ap, ◌∙◌, subst, arith}
 use Rattle.std.proofs.lemmas.Bool.{ne_eqb, cases_lt}
+use Rattle.std.proofs.Math.Seq.{take-append_seam}
 use Rattle.cover_problem.specs.Lists.{has, numbers, above, below, last_of}
 use Rattle.cover_problem.specs.Problem.{ProblemValue, option_at, size_of}
 use Rattle.cover_problem.specs.Covering.{active, list_of}
+use Rattle.cover_problem.specs.Coverable.{IsUncovered}
+use Rattle.cover_problem.specs.Table.{TableValue, IsCoveredList}
+use Rattle.cover_problem.proofs.CoveredLemmas.{covered_push, covered_pop, covered_last}
 use Rattle.cover_problem.proofs.MemberLemmas.{has_filter_in, has_at}
 use Rattle.cover_problem.proofs.RisingLemmas.{above_is, below_is, last_is}
 use Rattle.cover_problem.proofs.NumberLemmas.{rises_member}
-use Rattle.cover_problem.proofs.ActiveLemmas.{active_rises, active_in}
-use Rattle.cover_problem.proofs.RemainingLemmas.{list_rises}
+use Rattle.cover_problem.proofs.ActiveLemmas.{active_rises, active_in, option_is}
+use Rattle.cover_problem.proofs.RemainingLemmas.{list_rises, list_in}
 use Rattle.cover_links.specs.declared.entry.Entry.{Entry}
+use Rattle.cover_links.specs.Entries.{entry_at}
+use Rattle.cover_links.specs.Hiding.{item_covered, item_uncovered}
+use Rattle.cover_links.specs.Safety.{CanCoverItem, CanUncoverItem}
+use Rattle.cover_links.specs.StandsFor.{block_of}
 use Rattle.cover_links.specs.Layout.{node_index, start_of, index_of}
 use Rattle.cover_links.specs.Ring.{Follows}
 use Rattle.cover_links.specs.Table.{IsTable, nonzero, IsHeadOrNode}
@@ -18,19 +26,35 @@ use Rattle.cover_links.proofs.BuildLemmas.{start_most}
 use Rattle.cover_links.proofs.RingLemmas.{next_is, prev_is, last_to_head, next_member}
 use Rattle.cover_links.proofs.HidingLemmas.{Stands, down_at, up_at, right_at, top_at}
 use Rattle.cover_links.proofs.Covered.{shown_of, active_of, active_is, active_when}
-use Rattle.cover_links.proofs.BlockLemmas.{links_stand, shown_list, active_list}
+use Rattle.cover_links.proofs.BlockLemmas.{links_stand, shown_list, active_list, step_done, block_push}
+use Rattle.cover_links.proofs.CoverStep.{CoverDone}
 
 -- an option that holds no 0 is what the link to its number leads to
 pub linked_option : (o : Option ℕ) → ((k : ℕ) → o ≡ Some k → 0 < k) → nonzero (unwrap_or o 0) ≡ o
 linked_option None h = refl
 linked_option (Some k) h = let f : k == 0 ≡ false = ne_eqb k 0 (λ e. let a = h k refl in absurd (omega arith)) in rw f refl
 
-module _ (p : ProblemValue) (c : List ℕ) (items : ℕ) (block : List Entry) (starts : List ℕ) (room : ℕ) (t : IsTable p c items block starts room) where
+-- a link to the node of the option that is found, or to the item's head where there is none
+abbrev pub Leads : List Entry → ℕ → ℕ → Option ℕ → Type 0
+Leads es j node found = (k : ℕ) × IsHeadOrNode es j node k × (nonzero k ≡ found)
+
+-- the parts of a table, of the value that contracts see
+pub at_view : {p : ProblemValue} {c : List ℕ} {items : ℕ} {block : List Entry} {starts : List ℕ} {room : ℕ} {v : TableValue} → record { problem = p; covered = c } ≡ v → IsTable p c items block starts room
+    → IsTable v.problem v.covered items block starts room
+at_view {p} {c} {items} {block} {starts} {room} e t = subst (λ (v : TableValue). IsTable v.problem v.covered items block starts room) e t
+
+pub uncovered_in : {p : ProblemValue} {c : List ℕ} {v : TableValue} {j : ℕ} → record { problem = p; covered = c } ≡ v → IsUncovered v.problem v.covered j → IsUncovered p c j
+uncovered_in {p} {c} {v} {j} e u = subst (λ (v : TableValue). IsUncovered v.problem v.covered j) (sym e) u
+
+module _ {p : ProblemValue} {c : List ℕ} {items : ℕ} {block : List Entry} {starts : List ℕ} {room : ℕ} (t : IsTable p c items block starts room) where
   pub stands : Stands p (shown_of p c) (active_of p c) block
   stands = subst (λ es. Stands p (shown_of p c) (active_of p c) es) (sym t.block_is) (links_stand p c t.problem t.covered)
 
   pub item_low : (j : ℕ) → j ≤ length p.names → j < length block
   item_low j le = let s = (stands).size in omega arith
+
+  pub entry_low : (x : ℕ) → x < size_of p → x < length block
+  entry_low x lt = let s = (stands).size in omega arith
 
   -- ---- the row
 
@@ -44,6 +68,9 @@ module _ (p : ProblemValue) (c : List ℕ) (items : ℕ) (block : List Entry) (s
 
   pub is_active : (x : ℕ) → has (active p c) x ≡ true → active_of p c x ≡ true
   is_active x h = let q = active_in p c x h in active_when p c x q.1 q.2 q.0
+
+  pub active_low : (x : ℕ) → has (active p c) x ≡ true → x < length block
+  active_low x h = let q = active_in p c x h in item_low x (omega (arith, t.problem.within, q.2))
 
   -- ---- the lists
 
@@ -73,32 +100,51 @@ module _ (p : ProblemValue) (c : List ℕ) (items : ℕ) (block : List Entry) (s
           some = n.some;
         })
 
-    pub next_spot : (x : ℕ) → (x ≡ 0) ⊎ (shown_of p c j x ≡ true) → IsHeadOrNode block j (down_at block (node_index p j x)) (unwrap_or (above x L) 0)
-    next_spot x from =
-        let f = next_is (shown_of p c j) (length p.options) within x from in
-        let g : Follows (shown_of p c j) x (unwrap_or (above x L) 0) = subst (λ l. Follows (shown_of p c j) x (unwrap_or (above x l) 0)) (shown_list p c j) f in
-        subst (λ n. IsHeadOrNode block j n (unwrap_or (above x L) 0)) (sym ((stands).rings j pos le x (unwrap_or (above x L) 0) g).0) (spot (unwrap_or (above x L) 0) (next_member (shown_of p c j) x (unwrap_or (above x L) 0) g.to))
+    next_leads : (x : ℕ) → (x ≡ 0) ⊎ (shown_of p c j x ≡ true) → Leads block j (down_at block (node_index p j x)) (above x L)
+    next_leads x from =
+        let f = subst (λ l. Follows (shown_of p c j) x (unwrap_or (above x l) 0)) (shown_list p c j) (next_is (shown_of p c j) (length p.options) within x from) in
+        let to = spot (unwrap_or (above x L) 0) (next_member (shown_of p c j) x (unwrap_or (above x L) 0) f.to) in (
+          unwrap_or (above x L) 0,
+          subst (λ n. IsHeadOrNode block j n (unwrap_or (above x L) 0)) (sym ((stands).rings j pos le x (unwrap_or (above x L) 0) f).0) to,
+          linked_option (above x L) (λ k h. let a = above_is x 1 L k (list_rises p c j) h in omega (arith, a.more)),
+        )
 
-    pub prev_spot : (y : ℕ) → shown_of p c j y ≡ true → IsHeadOrNode block j (up_at block (node_index p j y)) (unwrap_or (below y L) 0)
-    prev_spot y h =
-        let f = prev_is (shown_of p c j) (length p.options) within y h in
-        let g : Follows (shown_of p c j) (unwrap_or (below y L) 0) y = subst (λ l. Follows (shown_of p c j) (unwrap_or (below y l) 0) y) (shown_list p c j) f in
-        subst (λ n. IsHeadOrNode block j n (unwrap_or (below y L) 0)) (sym ((stands).rings j pos le (unwrap_or (below y L) 0) y g).1) (spot (unwrap_or (below y L) 0) g.from)
+    -- backwards, from the node found and from what follows it
+    prev_leads : (y : ℕ) (found : Option ℕ) → Follows (shown_of p c j) (unwrap_or found 0) y → ((k : ℕ) → found ≡ Some k → has L k ≡ true) → Leads block j (up_at block (node_index p j y)) found
+    prev_leads y found f inside = (
+      unwrap_or found 0,
+      subst (λ n. IsHeadOrNode block j n (unwrap_or found 0)) (sym ((stands).rings j pos le (unwrap_or found 0) y f).1) (spot (unwrap_or found 0) f.from),
+      linked_option found (λ k h. rises_member 1 k L (list_rises p c j) (inside k h)),
+    )
 
-    pub last_spot : IsHeadOrNode block j (up_at block j) (unwrap_or (last_of L) 0)
-    last_spot =
-        let f = last_to_head (shown_of p c j) (length p.options) within in
-        let g : Follows (shown_of p c j) (unwrap_or (last_of L) 0) 0 = subst (λ l. Follows (shown_of p c j) (unwrap_or (last_of l) 0) 0) (shown_list p c j) f in
-        subst (λ n. IsHeadOrNode block j n (unwrap_or (last_of L) 0)) (sym ((stands).rings j pos le (unwrap_or (last_of L) 0) 0 g).1) (spot (unwrap_or (last_of L) 0) g.from)
+    pub first_leads : {e : Entry} → e ≡ entry_at block j → Leads block j e.down (above 0 L)
+    first_leads is = subst (λ (e : Entry). Leads block j e.down (above 0 L)) (sym is) (next_leads 0 (inl refl))
 
-    pub linked_above : (x : ℕ) → nonzero (unwrap_or (above x L) 0) ≡ above x L
-    linked_above x = linked_option (above x L) (λ k h. let a = above_is x 1 L k (list_rises p c j) h in omega (arith, a.more))
+    pub last_leads : {e : Entry} → e ≡ entry_at block j → Leads block j e.up (last_of L)
+    last_leads is =
+        let f = subst (λ l. Follows (shown_of p c j) (unwrap_or (last_of l) 0) 0) (shown_list p c j) (last_to_head (shown_of p c j) (length p.options) within) in
+        subst (λ (e : Entry). Leads block j e.up (last_of L)) (sym is) (prev_leads 0 (last_of L) f (λ k h. (last_is 1 L k (list_rises p c j) h).0))
 
-    pub linked_below : (y : ℕ) → nonzero (unwrap_or (below y L) 0) ≡ below y L
-    linked_below y = linked_option (below y L) (λ k h. let a = below_is y 1 L k (list_rises p c j) h in rises_member 1 k L (list_rises p c j) a.member)
+  -- from an option of the item's list
+  module _ (j o : ℕ) (m : has (list_of p c j) o ≡ true) where
+    member : (has (option_at p o) j ≡ true) × (0 < o) × (o ≤ length p.options)
+    member = list_in p c j o m
 
-    pub linked_last : nonzero (unwrap_or (last_of L) 0) ≡ last_of L
-    linked_last = linked_option (last_of L) (λ k h. let a = last_is 1 L k (list_rises p c j) h in rises_member 1 k L (list_rises p c j) a.0)
+    item : (0 < j) × (j ≤ length p.names)
+    item = (option_is p o t.problem member.1 member.2).items j member.0
+
+    pub node_low : {x : ℕ} → x ≡ node_index p j o → x < length block
+    node_low at = let low = place_low p j o (record { some = member.1; within = member.2; has_item = member.0 }) in let s = (stands).size in omega arith
+
+    pub next_from : {x : ℕ} {e : Entry} → x ≡ node_index p j o → e ≡ entry_at block x → Leads block j e.down (above o (list_of p c j))
+    next_from at is =
+        subst (λ (e : Entry). Leads block j e.down (above o (list_of p c j))) (sym (is ∙ ap (entry_at block) at)) (next_leads j item.0 item.1 o (inr (is_shown j item.0 item.1 o m)))
+
+    pub prev_from : {x : ℕ} {e : Entry} → x ≡ node_index p j o → e ≡ entry_at block x → Leads block j e.up (below o (list_of p c j))
+    prev_from at is =
+        let f = subst (λ l. Follows (shown_of p c j) (unwrap_or (below o l) 0) o) (shown_list p c j) (prev_is (shown_of p c j) (length p.options) (within j item.0 item.1) o (is_shown j item.0 item.1 o m)) in
+        subst (λ (e : Entry). Leads block j e.up (below o (list_of p c j))) (sym (is ∙ ap (entry_at block) at))
+        (prev_leads j item.0 item.1 o (below o (list_of p c j)) f (λ k h. (below_is o 1 (list_of p c j) k (list_rises p c j) h).member))
 
   -- ---- the nodes of an option
 
@@ -117,7 +163,7 @@ module _ (p : ProblemValue) (c : List ℕ) (items : ℕ) (block : List Entry) (s
       ap (λ i. node_index p i (suc k)) (ap (top_at block) (sym r) ∙ top) ∙ r
 
   -- where the nodes of an option lie, between the numbers read for it
-  module _ (j o b e : ℕ) (some : 0 < o) (le : o ≤ length p.options) (h : has (option_at p o) j ≡ true) (first : b ≡ get_or starts (o - 1) b) (past : e ≡ get_or starts o e) where
+  module _ (j o : ℕ) {b e : ℕ} (some : 0 < o) (le : o ≤ length p.options) (h : has (option_at p o) j ≡ true) (first : b ≡ get_or starts (o - 1) b) (past : e ≡ get_or starts o e) where
     any_default : (xs : List ℕ) (i d f : ℕ) → i < length xs → get_or xs i d ≡ get_or xs i f
     any_default [] i d f lt = absurd (omega arith)
     any_default (x ∷ xs) zero d f lt = refl
@@ -169,21 +215,46 @@ module _ (p : ProblemValue) (c : List ℕ) (items : ℕ) (block : List Entry) (s
         let r = item_at (o - 1) (x - start_of p (o - 1)) lt (omega arith) in
         (λ i. node_index p (top_at block (sym n i)) (sym back i)) ∙ r ∙ n
 
--- the list without its last member
-pub take_front : (xs : List ℕ) (y n : ℕ) → n ≡ length xs → take n (xs ++ y ∷ []) ≡ xs
-take_front [] y zero e = refl
-take_front [] y (suc n) e = absurd (omega arith)
-take_front (x ∷ xs) y zero e = absurd (omega arith)
-take_front (x ∷ xs) y (suc n) e = ap (λ l. x ∷ l) (take_front xs y n (omega arith))
+  -- ---- covering and uncovering
 
--- two lists that end in one more number each
-pub same_front : (xs ys : List ℕ) (x y : ℕ) → xs ++ x ∷ [] ≡ ys ++ y ∷ [] → xs ≡ ys
-same_front [] [] x y e = refl
-same_front [] (b ∷ []) x y e = cc
-same_front [] (b ∷ d ∷ ys) x y e = cc
-same_front (a ∷ []) [] x y e = cc
-same_front (a ∷ d ∷ xs) [] x y e = cc
-same_front (a ∷ xs) (b ∷ ys) x y e =
-    let first : a ≡ b = cc in
-    let rest : xs ++ x ∷ [] ≡ ys ++ y ∷ [] = cc in
-    (λ i. first i ∷ same_front xs ys x y rest i)
+  pub covers_can : {j : ℕ} → IsUncovered p c j → CanCoverItem block j
+  covers_can {j} u = subst (λ b. CanCoverItem b j) (sym t.block_is) (step_done p c j t.problem t.covered u).can
+
+  pub covers : {j new_room : ℕ} {new_block : List Entry} {new_covered : List ℕ} → IsUncovered p c j → new_block ≡ item_covered block j → new_covered ≡ c ++ j ∷ [] → new_room ≡ room → IsTable p new_covered items new_block starts new_room
+  covers {j} u now list same = record {
+    problem = t.problem;
+    covered = subst (IsCoveredList p) (sym list) (covered_push p c j t.covered u);
+    items_are = t.items_are;
+    block_is = now ∙ ap (λ b. item_covered b j) t.block_is ∙ sym (block_push p c j) ∙ ap (block_of p) (sym list);
+    count = t.count;
+    each = t.each;
+    capacity = subst (λ n. length p.names ≤ n) (sym same) t.capacity;
+  }
+
+  module _ {j : ℕ} (front : (f : List ℕ) × (c ≡ f ++ j ∷ [])) where
+    all : IsCoveredList p (front.0 ++ j ∷ [])
+    all = subst (IsCoveredList p) front.1 t.covered
+
+    done : CoverDone p front.0 j (block_of p front.0)
+    done = step_done p front.0 j t.problem (covered_pop p front.0 j all) (covered_last p front.0 j all)
+
+    now_is : block ≡ item_covered (block_of p front.0) j
+    now_is = t.block_is ∙ ap (block_of p) front.1 ∙ block_push p front.0 j
+
+    pub uncovers_can : CanUncoverItem block j
+    uncovers_can = subst (λ b. CanUncoverItem b j) (sym now_is) done.back_can
+
+    pub uncovers : {n new_room : ℕ} {new_block : List Entry} {new_covered : List ℕ} → new_block ≡ item_uncovered block j → new_covered ≡ take (n - 1) c → n ≡ length c → new_room ≡ room → IsTable p new_covered items new_block starts new_room
+    uncovers {n} {new_room} {new_block} {new_covered} now rest size same =
+        let long = ap length front.1 ∙ length-append front.0 (j ∷ []) in
+        let less : n - 1 ≡ length front.0 = omega arith in
+        let list : new_covered ≡ front.0 = rest ∙ (λ i. take (less i) (front.1 i)) ∙ take-append_seam front.0 (j ∷ []) in
+        record {
+          problem = t.problem;
+          covered = subst (IsCoveredList p) (sym list) (covered_pop p front.0 j all);
+          items_are = t.items_are;
+          block_is = now ∙ ap (λ b. item_uncovered b j) now_is ∙ done.back ∙ ap (block_of p) (sym list);
+          count = t.count;
+          each = t.each;
+          capacity = subst (λ n. length p.names ≤ n) (sym same) t.capacity;
+        }

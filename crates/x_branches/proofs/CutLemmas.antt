@@ -10,7 +10,7 @@ use Rattle.cover_problem.proofs.MemberLemmas.{has_filter_in, has_filter}
 use Rattle.cover_problem.proofs.PathLemmas.{valid_push, valid_pop}
 use Rattle.cover_problem.proofs.CoverLemmas.{valid_split}
 use Rattle.x_steps.specs.declared.state.Label.{Label}
-use Rattle.x_steps.specs.declared.state.Label.TheVariants.{X1, X2, X3, X4, X5, X6, X7, X8, Done}
+use Rattle.x_steps.specs.declared.state.Label.TheVariants.{X5, X6}
 use Rattle.x_steps.specs.declared.state.Cursor.{Cursor}
 use Rattle.x_steps.specs.declared.state.Cursor.TheVariants as cursor
 use Rattle.x_steps.specs.declared.state.Cursor.TheVariants.{At, Past}
@@ -26,6 +26,7 @@ use Rattle.x_steps.proofs.StretchLemmas.{steps_between_none}
 use Rattle.x_branches.specs.Cut.{option_of, choices, state_after_choices, cut_state, IsCut}
 use Rattle.x_branches.specs.RunOrder.{ComesBefore, comes_before}
 use Rattle.x_branches.specs.Untried.{remaining_above, is_before_end, untried_after, untried, with_choice, IsUntried}
+use Rattle.std.proofs.Math.Seq.{drop-nil}
 use Rattle.x_steps.proofs.MachineLemmas.{emptied}
 use Rattle.x_branches.proofs.StageLemmas.{comes_rank, rank_comes, parts}
 
@@ -93,7 +94,7 @@ cuts_in_order p q r c d =
 -- ---- what is untried
 
 -- where a level of some choices lies: on the path, or past it
-pub level_in : (path more : List ℕ) (level o : ℕ) (rest : List ℕ) → drop level (path ++ more) ≡ o ∷ rest → ((after : List ℕ) × (path ≡ take level (path ++ more) ++ o ∷ after)) ⊎ ((n : ℕ) × (take level (path ++ more) ≡ path ++ take n more) × (drop n more ≡ o ∷ rest))
+level_in : (path more : List ℕ) (level o : ℕ) (rest : List ℕ) → drop level (path ++ more) ≡ o ∷ rest → ((after : List ℕ) × (path ≡ take level (path ++ more) ++ o ∷ after)) ⊎ ((n : ℕ) × (take level (path ++ more) ≡ path ++ take n more) × (drop n more ≡ o ∷ rest))
 level_in [] more level o rest e = inr (level, refl, e)
 level_in (x ∷ path) more zero o rest e = let f : x ≡ o = cc in inl (path, ap (λ y. y ∷ path) f)
 level_in (x ∷ path) more (suc n) o rest e = step (level_in path more n o rest e)
@@ -101,6 +102,23 @@ level_in (x ∷ path) more (suc n) o rest e = step (level_in path more n o rest 
     step : ((after : List ℕ) × (path ≡ take n (path ++ more) ++ o ∷ after)) ⊎ ((k : ℕ) × (take n (path ++ more) ≡ path ++ take k more) × (drop k more ≡ o ∷ rest)) → ((after : List ℕ) × (x ∷ path ≡ take (suc n) (x ∷ path ++ more) ++ o ∷ after)) ⊎ ((k : ℕ) × (take (suc n) (x ∷ path ++ more) ≡ x ∷ path ++ take k more) × (drop k more ≡ o ∷ rest))
     step (inl a) = inl (a.0, ap (λ ys. x ∷ ys) a.1)
     step (inr a) = inr (a.0, ap (λ ys. x ∷ ys) a.1, a.2)
+
+-- of a state's choices one lies on the path, behind those of q, or is the option at the cursor
+abbrev pub IsChoiceAt : StateValue → List ℕ → ℕ → Type 0
+IsChoiceAt s q o = ((after : List ℕ) × (s.path ≡ q ++ o ∷ after)) ⊎ ((q ≡ s.path) × (s.cursor ≡ At o))
+
+past_path : (k : Cursor) (n o : ℕ) (rest path q : List ℕ) → q ≡ path ++ take n (option_of k) → drop n (option_of k) ≡ o ∷ rest → (q ≡ path) × (k ≡ At o)
+past_path (At t) zero o rest path q e g = let h : t ≡ o = cc in (e ∙ append-nil path, ap At h)
+past_path (At t) (suc n) o rest path q e g = let none = drop-nil {A = ℕ} n in absurd (cc)
+past_path cursor.None n o rest path q e g = let none = drop-nil {A = ℕ} n in absurd (cc)
+past_path Past n o rest path q e g = let none = drop-nil {A = ℕ} n in absurd (cc)
+
+pub choice_at : (s : StateValue) (level o : ℕ) (rest : List ℕ) → drop level (choices s) ≡ o ∷ rest → IsChoiceAt s (take level (choices s)) o
+choice_at s level o rest e = step (level_in s.path (option_of s.cursor) level o rest e)
+  where
+    step : ((after : List ℕ) × (s.path ≡ take level (choices s) ++ o ∷ after)) ⊎ ((n : ℕ) × (take level (choices s) ≡ s.path ++ take n (option_of s.cursor)) × (drop n (option_of s.cursor) ≡ o ∷ rest)) → IsChoiceAt s (take level (choices s)) o
+    step (inl a) = inl a
+    step (inr a) = inr (past_path s.cursor a.0 o rest s.path (take level (choices s)) a.1 a.2)
 
 -- a state's choice at a level, with the choices before it: it is an option there, its cut doesn't come after the state, and the
 -- state comes before the cut at each later option
@@ -129,38 +147,17 @@ chosen_path p s q after o f e =
           let b = ap (λ r. rank p (at s.label r s.cursor)) e in omega arith;
     }
 
-chosen_cursor : (p : ProblemValue) (l : Label) (path : List ℕ) (o : ℕ) → FitsAt p l path (At o) → IsChosen p (at l path (At o)) path o
-chosen_cursor p X5 path o f = record { valid = f.0; choice = f.1; own = omega arith; later = λ k l. level_rank p path o k f.0 l }
-chosen_cursor p X6 path o f = record { valid = f.0; choice = f.1; own = (let a = left_after p path o f.0 in omega arith); later = λ k l. left_before p path o k f.0 l }
-chosen_cursor p X1 path o f = absurd f
-chosen_cursor p X2 path o f = absurd f
-chosen_cursor p X3 path o f = absurd f
-chosen_cursor p X4 path o f = absurd f
-chosen_cursor p X7 path o f = absurd f
-chosen_cursor p X8 path o f = absurd f
-chosen_cursor p Done path o f = absurd f
-
-chosen_past : (p : ProblemValue) (l : Label) (path : List ℕ) (k : Cursor) (n o : ℕ) (rest q : List ℕ) → FitsAt p l path k → q ≡ path ++ take n (option_of k) → drop n (option_of k) ≡ o ∷ rest → IsChosen p (at l path k) q o
-chosen_past p l path cursor.None zero o rest q f e g = absurd (cc)
-chosen_past p l path cursor.None (suc n) o rest q f e g = absurd (cc)
-chosen_past p l path Past zero o rest q f e g = absurd (cc)
-chosen_past p l path Past (suc n) o rest q f e g = absurd (cc)
-chosen_past p l path (At t) zero o rest q f e g =
-    let h : t ≡ o = cc in
-    let r : q ≡ path = e ∙ append-nil path in
-    rw (r, sym h) (chosen_cursor p l path t f)
-chosen_past p l path (At t) (suc n) o rest q f e g = nothing n g
-  where
-    nothing : (n : ℕ) → drop n [] ≡ o ∷ rest → IsChosen p (at l path (At t)) q o
-    nothing zero g = absurd (cc)
-    nothing (suc n) g = absurd (cc)
+chosen_at : (p : ProblemValue) (l : Label) (path : List ℕ) (o : ℕ) → FitsAt p l path (At o) → IsChosen p (at l path (At o)) path o
+chosen_at p X5 path o f = record { valid = f.0; choice = f.1; own = omega arith; later = λ k l. level_rank p path o k f.0 l }
+chosen_at p X6 path o f = record { valid = f.0; choice = f.1; own = (let a = left_after p path o f.0 in omega arith); later = λ k l. left_before p path o k f.0 l }
+chosen_at p _ path o f = absurd f
 
 pub chosen_is : (p : ProblemValue) (s : StateValue) (level o : ℕ) (rest : List ℕ) → Fits p s → drop level (choices s) ≡ o ∷ rest → IsChosen p s (take level (choices s)) o
-chosen_is p s level o rest f e = step (level_in s.path (option_of s.cursor) level o rest e)
+chosen_is p s level o rest f e = step (choice_at s level o rest e)
   where
-    step : ((after : List ℕ) × (s.path ≡ take level (choices s) ++ o ∷ after)) ⊎ ((n : ℕ) × (take level (choices s) ≡ s.path ++ take n (option_of s.cursor)) × (drop n (option_of s.cursor) ≡ o ∷ rest)) → IsChosen p s (take level (choices s)) o
+    step : IsChoiceAt s (take level (choices s)) o → IsChosen p s (take level (choices s)) o
     step (inl a) = chosen_path p s (take level (choices s)) a.0 o f a.1
-    step (inr a) = chosen_past p s.label s.path s.cursor a.0 o rest (take level (choices s)) f a.1 a.2
+    step (inr a) = rw a.0 (subst (λ k. IsChosen p (at s.label s.path k) s.path o) (sym a.1) (chosen_at p s.label s.path o (subst (λ k. FitsAt p s.label s.path k) a.1 f)))
 
 -- each option above a state's choice makes a cut, and the state comes before it
 pub record IsLater (p : ProblemValue) (s : StateValue) (path : List ℕ) : Type 0 where

@@ -1,10 +1,10 @@
 -- What a runner keeps of the part from its mark to its position, from step to step.
-use Rattle.std.proofs.Common.{◌≡◌, ℕ, zero, suc, ◌+◌, ◌-◌, ◌<◌, ◌≤◌, ◌⊎◌, ◌==◌, Bool, true, false, ◌&&◌, cond, Some, List, [], ◌∷◌, ◌++◌, length, take, drop, get_or, refl, sym, ap, ap₂, ◌∙◌, subst, inl, inr, arith, le_refl, append-nil, length-append, length-drop}
+use Rattle.std.proofs.Common.{◌≡◌, ℕ, zero, suc, ◌+◌, ◌-◌, ◌<◌, ◌≤◌, ◌⊎◌, ◌==◌, Bool, true, false, ◌&&◌, cond, Some, List, [], ◌∷◌, ◌++◌, length, get_or, refl, sym, ap, ◌∙◌, subst, inl, inr, arith, length-append}
 use Rattle.std.proofs.Math.ListN.{set}
 use Rattle.std.specs.Prelude.{slice_index}
 use Rattle.std.proofs.lemmas.Bool.{cases_lt}
 use Rattle.std.proofs.lemmas.Bool.Decides.{eqb_tells}
-use Rattle.std.proofs.lemmas.List.{take_all, ext_get_or, length-set, get_or-set_same, get_or-set_other, set-set, set-get_or}
+use Rattle.std.proofs.lemmas.List.{ext_get_or, length-set, get_or-set_same, get_or-set_other, set-set, set-get_or}
 use Rattle.std.proofs.lemmas.List.Sums.{count_by-le-length}
 use Rattle.cover_problem.specs.Problem.{ProblemValue, IsProblem}
 use Rattle.cover_problem.proofs.PathLemmas.{depth}
@@ -15,7 +15,7 @@ use Rattle.x_steps.specs.Run.{level_count, steps_between, states_between, visits
 use Rattle.x_steps.specs.Rank.{rank}
 use Rattle.x_steps.proofs.Neighbours.{fits_next}
 use Rattle.x_steps.proofs.RankLemmas.{rank_next}
-use Rattle.x_steps.proofs.MachineLemmas.{emptied}
+use Rattle.x_steps.proofs.MachineLemmas.{same_fronts}
 use Rattle.x_steps.proofs.OrderLemmas.{fits_valid}
 use Rattle.x_steps.proofs.RunLemmas.{first_is, start_first, end_is, done_last, rank_once, leads_to, leads_push, rises_between}
 use Rattle.x_steps.proofs.BetweenLemmas.{length-states, steps_between_self, steps_between_next, visits_between_next, length-levels, levels_at, level_count_next}
@@ -111,14 +111,6 @@ level_taken counts s w = by (is_level s.label) refl
         let a = get_or-set_same counts (length s.path) (get_or counts (length s.path) 0 + 1) 0 (w e) in
         let b : get_or (set counts (length s.path) (get_or counts (length s.path) 0 + 1)) (length s.path) 0 - 1 ≡ get_or counts (length s.path) 0 = omega arith in
         rw e (ap (set (set counts (length s.path) (get_or counts (length s.path) 0 + 1)) (length s.path)) b ∙ set-set counts (length s.path) _ _ ∙ set-get_or counts (length s.path) 0)
-
--- ---- lists
-
-same_front : (xs ys us vs : List (List ℕ)) → xs ++ us ≡ ys ++ vs → length us ≡ length vs → xs ≡ ys
-same_front [] [] us vs e n = refl
-same_front [] (y ∷ ys) us vs e n = let m = ap (length {A = List ℕ}) e in let l = length-append ys vs in absurd (omega arith)
-same_front (x ∷ xs) [] us vs e n = let m = ap (length {A = List ℕ}) e in let l = length-append xs us in absurd (omega arith)
-same_front (x ∷ xs) (y ∷ ys) us vs e n = let h : x ≡ y = cc in let t : xs ++ us ≡ ys ++ vs = cc in ap₂ (λ (z : List ℕ) (zs : List (List ℕ)). z ∷ zs) h (same_front xs ys us vs t n)
 
 -- ---- a runner
 
@@ -276,7 +268,7 @@ module _ (r : RunnerValue) (steps : ℕ) (visits : List (List ℕ)) (counts : Li
 
     pub retreated : (q : ProblemValue) (n : ℕ) (vs last : List (List ℕ)) (cs : List ℕ) → q ≡ r.problem → n ≡ steps - 1 → visits ≡ vs ++ last → length last ≡ length (visit_of r.problem t) → cs ≡ without_level counts t → KeepsRunner (record { problem = q; branch = r.branch; mark = r.mark; position = t }) n vs cs
     retreated q n vs last cs a b c d e =
-        let same = same_front vs (visits_between r.problem r.mark t) last (visit_of r.problem t) (sym c ∙ visits_before) d in
+        let same = same_fronts vs (visits_between r.problem r.mark t) last (visit_of r.problem t) (sym c ∙ visits_before) d in
         rw (a, b, same, e) keeps_before
 
     pub past_mark : r.position ≡ r.mark → ⊥

@@ -1,10 +1,10 @@
 -- Which of two states comes first is told by their digits where they part.
-use Rattle.std.proofs.Common.{◌≡◌, ℕ, zero, suc, ◌+◌, ◌*◌, ◌<◌, ◌≤◌, ◌⊎◌, List, [], ◌∷◌, ◌++◌, map, length, take, drop, get_or, refl, sym, ap, ap₂, ◌∙◌, subst, inl, inr, arith, length-append, Ordering, Less, Equal, Greater}
+use Rattle.std.proofs.Common.{◌≡◌, ℕ, zero, suc, ◌+◌, ◌*◌, ◌<◌, ◌≤◌, ◌⊎◌, List, [], ◌∷◌, ◌++◌, map, length, take, drop, get_or, refl, sym, ap, ap₂, ◌∙◌, subst, inl, inr, arith, length-append, drop-cons, Ordering, Less, Equal, Greater}
 use Rattle.std.specs.Prelude.{◌↔◌}
 use Rattle.std.specs.Ordering.{MatchOrdering, nat_cmp}
 use Rattle.std.proofs.lemmas.Cmp.{ranked}
 use Rattle.std.proofs.lemmas.Bool.{cases_lt}
-use Rattle.std.proofs.lemmas.List.{length-map, get_or_append_left, get_or-map, get_or_at, take-append-le, take-map, length-take-le, take_all}
+use Rattle.std.proofs.lemmas.List.{length-map, get_or_append_left, get_or-map, get_or_at, take-append-le, take-append-drop, take-map, length-take-le, take_all}
 use Rattle.cover_problem.specs.Problem.{ProblemValue}
 use Rattle.cover_problem.specs.Path.{IsValid, covered_by, covered_from}
 use Rattle.cover_problem.proofs.PathLemmas.{choice_has}
@@ -67,9 +67,7 @@ below_drop base (suc n) [] a = tt
 below_drop base (suc n) (d ∷ ds) a = below_drop base n ds a.1
 
 pub parts : (ds : List ℕ) (n : ℕ) → n < length ds → ds ≡ take n ds ++ get_or ds n 0 ∷ drop (suc n) ds
-parts [] n l = absurd (omega arith)
-parts (d ∷ ds) zero l = refl
-parts (d ∷ ds) (suc n) l = ap (λ xs. d ∷ xs) (parts ds n (omega arith))
+parts ds n l = sym (take-append-drop n ds) ∙ ap (λ rest. take n ds ++ rest) (drop-cons ds n 0 l)
 
 -- a state's digits, parted at a level
 digits_parts : (m : ℕ) (l : Label) (path : List ℕ) (k : Cursor) (n : ℕ) → n ≤ length path → digits m l path k ≡ map (λ o. 4 * o + 2) (take n path) ++ get_or (digits m l path k) n 0 ∷ drop (suc n) (digits m l path k)

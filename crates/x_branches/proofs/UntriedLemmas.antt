@@ -3,7 +3,7 @@ use Rattle.std.proofs.Common.{◌≡◌, ◌↔◌, ℕ, zero, suc, ◌+◌, ◌
 use Rattle.std.specs.Prelude.{nat_lt}
 use Rattle.std.specs.List.{slice_get}
 use Rattle.std.proofs.lemmas.Bool.{cases_lt}
-use Rattle.std.proofs.lemmas.List.{take_more}
+use Rattle.std.proofs.lemmas.List.{take_more, take-append-drop, drop_all}
 use Rattle.std.proofs.lemmas.List.Elements.{All-from_get_or, filter_more}
 use Rattle.std.proofs.lemmas.Option.{slice_get-get_or}
 use Rattle.cover_problem.specs.Lists.{has}
@@ -14,18 +14,17 @@ use Rattle.cover_problem.proofs.MemberLemmas.{has_at}
 use Rattle.cover_problem.proofs.PathLemmas.{length-taken, covered_by_push}
 use Rattle.cover_problem.proofs.CoverLemmas.{covered_join}
 use Rattle.x_steps.specs.declared.state.Label.{Label}
-use Rattle.x_steps.specs.declared.state.Label.TheVariants.{X1, X2, X3, X4, X5, X6, X7, X8, Done}
+use Rattle.x_steps.specs.declared.state.Label.TheVariants.{X5, X6, X7}
 use Rattle.x_steps.specs.declared.state.Cursor.{Cursor}
-use Rattle.x_steps.specs.declared.state.Cursor.TheVariants as cursor
-use Rattle.x_steps.specs.declared.state.Cursor.TheVariants.{At, Past}
+use Rattle.x_steps.specs.declared.state.Cursor.TheVariants.{At}
 use Rattle.x_steps.specs.StateValue.{StateValue, at}
 use Rattle.x_steps.specs.Steps.{FitsAt, Fits, item_after, remaining_after, covered_at, covered_in}
 use Rattle.x_steps.proofs.StateLemmas.{level_is}
-use Rattle.x_branches.specs.Cut.{option_of, choices}
+use Rattle.x_branches.specs.Cut.{choices}
 use Rattle.x_branches.specs.RunOrder.{ComesBefore, comes_before}
 use Rattle.x_branches.specs.Untried.{left_after, left_above, is_before_end, untried}
 use Rattle.x_branches.proofs.StageLemmas.{parts}
-use Rattle.x_branches.proofs.CutLemmas.{test_is_order, cut_is, cut_fits, front, level_in, chosen_is, later_one}
+use Rattle.x_branches.proofs.CutLemmas.{test_is_order, cut_is, cut_fits, front, IsChoiceAt, choice_at, chosen_is, later_one}
 
 -- ---- lists
 
@@ -46,11 +45,8 @@ kept_none test xs kept i e l t = e ∙ sym (filter_more test xs i 0 l ∙ ap (λ
 
 -- what is at a place stands behind what is before it
 pub read_drop : (xs : List ℕ) (n o : ℕ) → Some o ≡ slice_get xs n → (rest : List ℕ) × (drop n xs ≡ o ∷ rest)
-read_drop [] n o e = absurd (nothing n e)
-  where
-    nothing : (n : ℕ) → Some o ≡ slice_get [] n → ⊥
-    nothing zero e = cc
-    nothing (suc n) e = cc
+read_drop [] zero o e = absurd (cc)
+read_drop [] (suc n) o e = absurd (cc)
 read_drop (x ∷ xs) zero o e = let h : o ≡ x = cc in (xs, rw h refl)
 read_drop (x ∷ xs) (suc n) o e = read_drop xs n o e
 
@@ -87,13 +83,8 @@ unfolding taken
 state_begins p X5 path k f = (item_after p path ∷ [], refl)
 state_begins p X7 path k f = (item_after p path ∷ [], refl)
 state_begins p X6 path (At o) f = (choice p (covered_by p path) ∷ others (choice p (covered_by p path)) (option_at p o), refl)
-state_begins p X1 path cursor.None f = ([], sym (append-nil (covered_by p path)))
-state_begins p X2 path cursor.None f = ([], sym (append-nil (covered_by p path)))
-state_begins p X3 path cursor.None f = ([], sym (append-nil (covered_by p path)))
-state_begins p X4 path cursor.None f = ([], sym (append-nil (covered_by p path)))
-state_begins p X8 path cursor.None f = ([], sym (append-nil (covered_by p path)))
-state_begins p Done path cursor.None f = ([], sym (append-nil (covered_by p path)))
-state_begins p _ path _ f = absurd f
+state_begins p X6 path _ f = absurd f
+state_begins p _ path k f = ([], sym (append-nil (covered_by p path)))
 
 -- below a choice the item stands behind what the choices before it cover
 below_choice : (p : ProblemValue) (q after : List ℕ) (o : ℕ) → (more : List ℕ) × (covered_by p (q ++ o ∷ after) ≡ covered_by p q ++ item_after p q ∷ more)
@@ -107,41 +98,22 @@ at_cursor : (p : ProblemValue) (l : Label) (path : List ℕ) (o : ℕ) → FitsA
 unfolding taken
 at_cursor p X5 path o f = ([], refl)
 at_cursor p X6 path o f = (others (item_after p path) (option_at p o), refl)
-at_cursor p X1 path o f = absurd f
-at_cursor p X2 path o f = absurd f
-at_cursor p X3 path o f = absurd f
-at_cursor p X4 path o f = absurd f
-at_cursor p X7 path o f = absurd f
-at_cursor p X8 path o f = absurd f
-at_cursor p Done path o f = absurd f
+at_cursor p _ path o f = absurd f
 
 -- the item chosen at a level of a state stands on the covered list behind what the choices before that level cover
 pub covered_front : (p : ProblemValue) (s : StateValue) (level o : ℕ) (rest : List ℕ) → Fits p s → drop level (choices s) ≡ o ∷ rest → (more : List ℕ) × (covered_in p s ≡ covered_by p (take level (choices s)) ++ item_after p (take level (choices s)) ∷ more)
 unfolding covered_in
-covered_front p s level o rest f e = step (level_in s.path (option_of s.cursor) level o rest e)
+covered_front p s level o rest f e = step (choice_at s level o rest e)
   where
-    on_path : (after : List ℕ) → s.path ≡ take level (choices s) ++ o ∷ after → (more : List ℕ) × (covered_in p s ≡ covered_by p (take level (choices s)) ++ item_after p (take level (choices s)) ∷ more)
-    on_path after h =
+    step : IsChoiceAt s (take level (choices s)) o → (more : List ℕ) × (covered_in p s ≡ covered_by p (take level (choices s)) ++ item_after p (take level (choices s)) ∷ more)
+    step (inl a) =
         let q = take level (choices s) in
-        let a = state_begins p s.label s.path s.cursor f in
-        let b = below_choice p (take level (choices s)) after o in
-        (b.0 ++ a.0, a.1 ∙ ap (λ c. c ++ a.0) (ap (covered_by p) h ∙ b.1) ∙ append_assoc (covered_by p q) (item_after p q ∷ b.0) a.0)
-
-    past : (n : ℕ) (k : Cursor) → FitsAt p s.label s.path k → (q : List ℕ) → q ≡ s.path ++ take n (option_of k) → drop n (option_of k) ≡ o ∷ rest → (more : List ℕ) × (covered_at p s.label s.path k ≡ covered_by p q ++ item_after p q ∷ more)
-    past zero (At t) g q h d = let r : q ≡ s.path = h ∙ append-nil s.path in rw r (at_cursor p s.label s.path t g)
-    past (suc n) (At t) g q h d = absurd (nothing n d)
-      where
-        nothing : (n : ℕ) → drop n [] ≡ o ∷ rest → ⊥
-        nothing zero d = cc
-        nothing (suc n) d = cc
-    past zero cursor.None g q h d = absurd (cc)
-    past (suc n) cursor.None g q h d = absurd (cc)
-    past zero Past g q h d = absurd (cc)
-    past (suc n) Past g q h d = absurd (cc)
-
-    step : ((after : List ℕ) × (s.path ≡ take level (choices s) ++ o ∷ after)) ⊎ ((n : ℕ) × (take level (choices s) ≡ s.path ++ take n (option_of s.cursor)) × (drop n (option_of s.cursor) ≡ o ∷ rest)) → (more : List ℕ) × (covered_in p s ≡ covered_by p (take level (choices s)) ++ item_after p (take level (choices s)) ∷ more)
-    step (inl a) = on_path a.0 a.1
-    step (inr a) = past a.0 s.cursor f (take level (choices s)) a.1 a.2
+        let c = state_begins p s.label s.path s.cursor f in
+        let b = below_choice p (take level (choices s)) a.0 o in
+        (b.0 ++ c.0, c.1 ∙ ap (λ d. d ++ c.0) (ap (covered_by p) a.1 ∙ b.1) ∙ append_assoc (covered_by p q) (item_after p q ∷ b.0) c.0)
+    step (inr a) =
+        rw a.0 (subst (λ k. (more : List ℕ) × (covered_at p s.label s.path k ≡ covered_by p s.path ++ item_after p s.path ∷ more)) (sym a.1)
+        (at_cursor p s.label s.path o (subst (λ k. FitsAt p s.label s.path k) a.1 f)))
 
 -- ---- what is left
 
@@ -193,15 +165,9 @@ untried_left p end s level = look (drop level (choices s)) refl
 pub left_some : (p : ProblemValue) (s : StateValue) (level : ℕ) (xs : List ℕ) → xs ≡ left_above p level s → (length xs ≡ 0 → ⊥) → level < length (choices s)
 left_some p s level xs e h = step (cases_lt level (length (choices s)))
   where
-    ended : (n : ℕ) (ys : List ℕ) → length ys ≤ n → drop n ys ≡ []
-    ended zero [] l = refl
-    ended zero (y ∷ ys) l = absurd (omega arith)
-    ended (suc n) [] l = refl
-    ended (suc n) (y ∷ ys) l = ended n ys (omega arith)
-
     step : (level < length (choices s)) ⊎ (length (choices s) ≤ level) → level < length (choices s)
     step (inl l) = l
-    step (inr l) = let d : xs ≡ [] = e ∙ ap (left_after p (take level (choices s))) (ended level (choices s) l) in absurd (h (ap (length {A = ℕ}) d))
+    step (inr l) = let d : xs ≡ [] = e ∙ ap (left_after p (take level (choices s))) (drop_all level (choices s) l) in absurd (h (ap (length {A = ℕ}) d))
 
 -- the test of a cut
 pub cut_tested : (p : ProblemValue) (end : StateValue) (q : List ℕ) (o : ℕ) (test : Bool) → Fits p (at X5 q (At o)) → Fits p end → IsTrue test ↔ ComesBefore p (at X5 q (At o)) end → test ≡ is_before_end p end q o
@@ -210,12 +176,7 @@ cut_tested p end q o test f g t =
     same_tests test (comes_before p (at X5 q (At o)) end) (λ h. u.1 (t.0 h)) (λ h. t.1 (u.0 h)) ∙ ap (λ s. comes_before p s end) (sym (cut_is q o))
 
 pub covered_upto : (p : ProblemValue) (path : List ℕ) (n : ℕ) → length (covered_by p (take n path)) ≤ length (covered_by p path)
-covered_upto p path n = subst (λ q. length (covered_by p (take n path)) ≤ length (covered_by p q)) (whole path n) (covered_part p (take n path) (drop n path))
-  where
-    whole : (path : List ℕ) (n : ℕ) → take n path ++ drop n path ≡ path
-    whole path zero = refl
-    whole [] (suc n) = refl
-    whole (x ∷ path) (suc n) = ap (λ q. x ∷ q) (whole path n)
+covered_upto p path n = subst (λ q. length (covered_by p (take n path)) ≤ length (covered_by p q)) (take-append-drop n path) (covered_part p (take n path) (drop n path))
 
 pub level_known : (p : ProblemValue) (s : StateValue) (level : ℕ) → IsProblem p → Fits p s → level < length (choices s) → (o : ℕ) × IsAtLevel p s level o (item_after p (take level (choices s)))
 level_known p s level sound f l = (get_or (choices s) level 0, at_level p s level (get_or (choices s) level 0) sound f (sym (slice_get-get_or (choices s) level 0 l)))

@@ -1,5 +1,5 @@
 -- Many steps of a runner: what it keeps after them, and where they stop.
-use Rattle.std.proofs.Common.{◌≡◌, ◌≢◌, ℕ, zero, suc, ◌+◌, ◌-◌, ◌<◌, ◌≤◌, ◌^◌, ◌⊎◌, ◌==◌, Bool, true, false, ◌&&◌, cond, Option, Some, List, [], ◌∷◌, ◌++◌, length, get_or, refl, sym, ap, ◌∙◌, subst, inl, inr, arith, le_refl, length-append, min, append-nil}
+use Rattle.std.proofs.Common.{◌≡◌, ◌≢◌, ℕ, zero, suc, ◌+◌, ◌-◌, ◌<◌, ◌≤◌, ◌⊎◌, ◌==◌, Bool, true, false, ◌&&◌, Option, Some, List, [], ◌∷◌, ◌++◌, length, get_or, refl, sym, ap, ◌∙◌, subst, inl, inr, arith, le_refl, length-append, min}
 use Rattle.std.specs.Prelude as prelude
 use Rattle.std.specs.Prelude.{slice_index}
 use Rattle.std.proofs.Math.ListN.{set}
@@ -12,7 +12,7 @@ use Rattle.x_steps.specs.declared.state.Cursor.TheVariants.{At}
 use Rattle.x_steps.specs.declared.event.Event.{Event}
 use Rattle.x_steps.specs.declared.event.Event.TheVariants.{Moved, Visited}
 use Rattle.x_steps.specs.StateValue.{StateValue, at, start}
-use Rattle.x_steps.specs.Steps.{Fits, IsBefore, next, event_of, is_level, is_visit, split_last}
+use Rattle.x_steps.specs.Steps.{Fits, event_of, is_level, is_visit}
 use Rattle.x_steps.specs.Before.{prev}
 use Rattle.x_steps.specs.Run.{after, states, visits, level_count, steps_between, states_between, visits_between, levels, ReachesIn}
 use Rattle.x_steps.specs.Walk.{last_event, is_visited, visit_told, OnlyMoves, AreCounted, HasRoom, IsAtCut, IsWalk}
@@ -25,8 +25,8 @@ use Rattle.x_steps.proofs.VisitedLemmas.{tells, walk_shows}
 use Rattle.x_branches.specs.Cut.{CutPath, cut_state}
 use Rattle.x_branches.specs.Branch.{first_of, end_of}
 use Rattle.x_branches.specs.Runner.{RunnerValue, IsRunner, KeepsRunner, without_level}
-use Rattle.x_branches.specs.Refusals.{most_steps, CanAdvance, AdvanceRefused}
-use Rattle.x_branches.specs.Walk.{end_choices, advanced_by, CanAdvanceBy, HasToStop}
+use Rattle.x_branches.specs.Refusals.{most_steps}
+use Rattle.x_branches.specs.Walk.{end_choices, CanAdvanceBy, HasToStop}
 use Rattle.x_branches.proofs.StageLemmas.{comes_rank}
 use Rattle.x_branches.proofs.CutLemmas.{cut_is}
 use Rattle.x_branches.proofs.RunnerLemmas.{not_before, before_not, other_before, next_before, before_goes_on, level_within, count_within, position_fits, mark_up, end_up}

@@ -22,7 +22,7 @@ use Rattle.x_steps.specs.Before.{prev, prev_at, came_from}
 use Rattle.x_steps.specs.Machine.{Keeps, Position, GoesBack}
 use Rattle.x_steps.proofs.Neighbours.{fits_prev, split_last_push}
 use Rattle.x_steps.proofs.RunLemmas.{prev_before}
-use Rattle.x_steps.proofs.MachineLemmas.{emptied, mid_is, chosen_last, item_is, retry_at}
+use Rattle.x_steps.proofs.MachineLemmas.{emptied, mid_is, chosen_last, item_is, retry_at, label_of}
 
 -- a step back came to t, and the machine keeps what it has to
 pub record WentBack (p : ProblemValue) (s t : StateValue) (table_problem : ProblemValue) (covered : List ℕ) (room : ℕ) : Type 0 where
@@ -48,8 +48,7 @@ module _ (p : ProblemValue) (s t : StateValue) (table_problem : ProblemValue) (c
 
 pub valid_at_X2 : (p : ProblemValue) (path : List ℕ) (k : Cursor) → FitsAt p X2 path k → IsValid p path
 valid_at_X2 p path cursor.None f = f
-valid_at_X2 p path (At o) f = absurd f
-valid_at_X2 p path Past f = absurd f
+valid_at_X2 p path _ f = absurd f
 
 pub open_at_X5 : (p : ProblemValue) (path : List ℕ) (k : Cursor) → FitsAt p X5 path k → IsOpen p path
 open_at_X5 p path cursor.None f = absurd f
@@ -58,8 +57,7 @@ open_at_X5 p path Past f = f.1
 
 none_at_Done : (p : ProblemValue) (path : List ℕ) (k : Cursor) → FitsAt p Done path k → path ≡ []
 none_at_Done p path cursor.None f = f
-none_at_Done p path (At o) f = absurd f
-none_at_Done p path Past f = absurd f
+none_at_Done p path _ f = absurd f
 
 module _ (p : ProblemValue) (path : List ℕ) (at_cursor : Cursor) (table_problem : ProblemValue) (covered : List ℕ) (room : ℕ) where
   -- what the machine keeps at a label, whatever the cursor
@@ -93,13 +91,13 @@ module _ (p : ProblemValue) (path : List ℕ) (at_cursor : Cursor) (table_proble
     path_fits = k.path_fits;
   }
 
-  pub to_option : (new_path : List ℕ) (o : ℕ) (new_room count : ℕ) (new_problem : ProblemValue) (mid : List ℕ) → path ≡ new_path ++ o ∷ [] → new_room ≡ room → new_problem ≡ table_problem
-      → count ≡ length (option_at p o) - 1 → (back : List ℕ) × (covered ≡ mid ++ back) × (length back ≡ count) → Here X2
+  pub to_option : (new_path : List ℕ) (o : ℕ) (new_room : ℕ) (new_problem : ProblemValue) {option : List ℕ} (mid : List ℕ) → path ≡ new_path ++ o ∷ [] → new_room ≡ room → new_problem ≡ table_problem
+      → option ≡ option_at p o → (back : List ℕ) × (covered ≡ mid ++ back) × (length back ≡ length option - 1) → Here X2
       → WentBack p (at X2 path at_cursor) (at X5 new_path (At o)) new_problem mid new_room
   unfolding prev covered_in
-  to_option new_path o new_room count new_problem mid e wide same size gone k =
+  to_option new_path o new_room new_problem mid e wide same read gone k =
       let last : split_last path ≡ Some (new_path, o) = ap split_last e ∙ split_last_push new_path o in
-      let list = mid_is p new_path (At o) table_problem covered room o refl count mid size gone (as_taken new_path o e k) in
+      let list = mid_is p new_path (At o) table_problem covered room o refl mid read gone (as_taken new_path o e k) in
       went_back p _ _ table_problem covered room _ _ _ k same (omega arith) (rw last refl) list
 
   -- X3 and X4
@@ -236,13 +234,13 @@ IsLater X1 = ⊥
 IsLater _ = Unit {0}
 
 -- what a step back says, from the state inside the machine
-pub goes_back : (p : ProblemValue) (s t : StateValue) (table_problem : ProblemValue) (covered : List ℕ) (room : ℕ) (l : Label) (old : Position) → record { problem = p; state = s } ≡ old → s.label ≡ l → IsLater l
+pub goes_back : {p : ProblemValue} {s t : StateValue} {old : Position} {l : Label} {table_problem : ProblemValue} {covered : List ℕ} {room : ℕ} → record { problem = p; state = s } ≡ old → old.state.label ≡ l → IsLater l
     → WentBack p (at l s.path s.cursor) t table_problem covered room → GoesBack old (record { problem = p; state = t })
-goes_back p s t table_problem covered room l old e m later w =
-    let v : WentBack p s t table_problem covered room = subst (λ l. WentBack p (at l s.path s.cursor) t table_problem covered room) (sym m) w in
-    let apart : s ≡ start → ⊥ = λ f. subst IsLater (sym m ∙ ap (λ (s : StateValue). s.label) f) later in
-    subst (λ v. GoesBack v (record { problem = p; state = t })) e
-    (record { problem = refl; state = v.steps; before = subst (λ t. IsBefore p t s) (sym v.steps) (prev_before p s v.fit apart) })
+goes_back {p} {s} {t} {old} {l} e m later w =
+    let same : at l s.path s.cursor ≡ s = ap (λ l. at l s.path s.cursor) (sym (label_of e m)) in
+    let apart : at l s.path s.cursor ≡ start → ⊥ = λ f. subst IsLater (ap (λ (s : StateValue). s.label) f) later in
+    subst (λ v. GoesBack v (record { problem = p; state = t })) (ap (λ s. record { problem = p; state = s }) same ∙ e)
+    (record { problem = refl; state = w.steps; before = subst (λ t. IsBefore p t (at l s.path s.cursor)) (sym w.steps) (prev_before p (at l s.path s.cursor) w.fit apart) })
 
 -- ---- which state came before X5
 
@@ -262,9 +260,8 @@ unfolding prev
 came_last m found at_label never e = rw (at_label, e) (past_before m.problem m.state.path m.state.cursor never)
 
 -- the same, of the state inside the machine
-pub came_in : (p : ProblemValue) (s : StateValue) (old : Position) (before found : Option ℕ) → record { problem = p; state = s } ≡ old → s.label ≡ X5 → prev old.problem old.state ≡ came_from old.state.path before
+pub came_in : {p : ProblemValue} {s : StateValue} {old : Position} {before found : Option ℕ} → record { problem = p; state = s } ≡ old → old.state.label ≡ X5 → prev old.problem old.state ≡ came_from old.state.path before
     → before ≡ found → prev p (at X5 s.path s.cursor) ≡ came_from s.path found
-came_in p s old before found e at_label came same =
+came_in {p} {s} {old} {before} {found} e m came same =
     let inner : prev p s ≡ came_from s.path before = subst (λ v. prev v.problem v.state ≡ came_from v.state.path before) (sym e) came in
-    let labelled : prev p (at X5 s.path s.cursor) ≡ came_from s.path before = subst (λ l. prev p (at l s.path s.cursor) ≡ came_from s.path before) at_label inner in
-    labelled ∙ ap (came_from s.path) same
+    ap (λ l. prev p (at l s.path s.cursor)) (sym (label_of e m)) ∙ inner ∙ ap (came_from s.path) same

@@ -1,6 +1,7 @@
 -- What each step keeps: the table stands for the items covered at the state.
-use Rattle.std.proofs.Common.{◌≡◌, ℕ, suc, ◌-◌, ◌<◌, ◌≤◌, List, [], ◌∷◌, ◌++◌, length, true, false, nat_lt, Bool, Option, Some, arith, refl, sym, ap, ◌∙◌, subst, append-nil, length-append, if◌then◌else◌}
+use Rattle.std.proofs.Common.{◌≡◌, ℕ, suc, ◌-◌, ◌<◌, ◌≤◌, List, [], ◌∷◌, ◌++◌, length, take, true, false, nat_lt, Bool, Option, Some, arith, refl, sym, ap, ◌∙◌, subst, append-nil, length-append, if◌then◌else◌}
 use Rattle.std.proofs.lemmas.List.{same_from_push}
+use Rattle.std.proofs.Math.Seq.{take-append_seam}
 use Rattle.cover_problem.specs.Lists.{has, above}
 use Rattle.cover_problem.specs.Problem.{ProblemValue, IsProblem, option_at}
 use Rattle.cover_problem.specs.Covering.{active, choice, list_of}
@@ -45,8 +46,7 @@ module _ (p : ProblemValue) (s t : StateValue) (event : Event) (table_problem : 
 
 pub open_at_X4 : (p : ProblemValue) (path : List ℕ) (k : Cursor) → FitsAt p X4 path k → IsOpen p path
 open_at_X4 p path cursor.None f = f.1
-open_at_X4 p path (At o) f = absurd f
-open_at_X4 p path Past f = absurd f
+open_at_X4 p path _ f = absurd f
 
 pub past_at_X5 : (p : ProblemValue) (path : List ℕ) (k : Cursor) → ((o : ℕ) → k ≡ At o → ⊥) → FitsAt p X5 path k → k ≡ Past
 past_at_X5 p path cursor.None never f = absurd f
@@ -55,9 +55,8 @@ past_at_X5 p path Past never f = refl
 
 -- X6 is at an option
 pub at_X6 : (p : ProblemValue) (path : List ℕ) (k : Cursor) → ((o : ℕ) → k ≡ At o → ⊥) → FitsAt p X6 path k → ⊥
-at_X6 p path cursor.None never f = f
 at_X6 p path (At o) never f = never o refl
-at_X6 p path Past never f = f
+at_X6 p path _ never f = f
 
 -- a list from which nothing could be taken
 pub emptied : (path : List ℕ) → length path ≡ 0 → path ≡ []
@@ -65,14 +64,11 @@ emptied [] e = refl
 emptied (x ∷ xs) e = absurd (omega arith)
 
 -- of two equal lists whose ends are as long as each other, the fronts are equal
-pub same_fronts : (xs ys us vs : List ℕ) → xs ++ us ≡ ys ++ vs → length us ≡ length vs → xs ≡ ys
-same_fronts [] [] us vs e h = refl
-same_fronts [] (y ∷ ys) us vs e h = let n = ap (length {A = ℕ}) e in let m = length-append (y ∷ ys) vs in absurd (omega arith)
-same_fronts (x ∷ xs) [] us vs e h = let n = ap (length {A = ℕ}) e in let m = length-append (x ∷ xs) us in absurd (omega arith)
-same_fronts (x ∷ xs) (y ∷ ys) us vs e h =
-    let head : x ≡ y = cc in
-    let tail : xs ++ us ≡ ys ++ vs = cc in
-    let rest = same_fronts xs ys us vs tail h in cc
+pub same_fronts : {X : Type 0} (xs ys us vs : List X) → xs ++ us ≡ ys ++ vs → length us ≡ length vs → xs ≡ ys
+same_fronts {X} xs ys us vs e h =
+    let n = ap (length {A = X}) e in let a = length-append xs us in let b = length-append ys vs in
+    let same : length xs ≡ length ys = omega arith in
+    sym (take-append_seam xs us) ∙ (λ i. take (same i) (e i)) ∙ take-append_seam ys vs
 
 -- X8 with a choice moves
 abbrev event_at_X8 : List ℕ → Event
@@ -212,16 +208,15 @@ module _ (p : ProblemValue) (path : List ℕ) (at_cursor : Cursor) (table_proble
     pub others_count : Here X6 → suc (length (others (item_after p path) (option_at p o))) ≡ length (option_at p o)
     others_count k = let t = choice_has p (covered_by p path) o (retry_at k).1 in length-others (item_after p path) (option_at p o) t.item
 
-    pub can_uncover : (count : ℕ) → count ≡ length (option_at p o) - 1 → Here X6 → (front back : List ℕ) × (covered ≡ front ++ back) × (length back ≡ count)
-    can_uncover count e k =
-        let n = others_count k in (covered_by p path ++ item_after p path ∷ [], others (item_after p path) (option_at p o), taken_at k, omega arith)
+    pub can_uncover : {option : List ℕ} → option ≡ option_at p o → Here X6 → (front back : List ℕ) × (covered ≡ front ++ back) × (length back ≡ length option - 1)
+    can_uncover e k =
+        let n = others_count k in let size = ap (length {A = ℕ}) e in (covered_by p path ++ item_after p path ∷ [], others (item_after p path) (option_at p o), taken_at k, omega arith)
 
     -- once the option's other items are uncovered
-    module _ (count : ℕ) (mid : List ℕ) (size : count ≡ length (option_at p o) - 1) (gone : (back : List ℕ) × (covered ≡ mid ++ back) × (length back ≡ count)) where
+    module _ {option : List ℕ} (mid : List ℕ) (read : option ≡ option_at p o) (gone : (back : List ℕ) × (covered ≡ mid ++ back) × (length back ≡ length option - 1)) where
       pub mid_is : Here X6 → mid ≡ covered_by p path ++ item_after p path ∷ []
       mid_is k =
-          let n = others_count k in
-          let m = gone.2 in
+          let n = others_count k in let size = ap (length {A = ℕ}) read in let m = gone.2 in
           same_fronts mid (covered_by p path ++ item_after p path ∷ []) gone.0 (others (item_after p path) (option_at p o)) (sym gone.1 ∙ taken_at k) (omega arith)
 
       pub mid_some : Here X6 → 0 < length mid
@@ -283,18 +278,23 @@ module _ (p : ProblemValue) (s : StateValue) (table_problem : ProblemValue) (cov
   pub from_label : (l : Label) → s.label ≡ l → Keeps p (at l s.path s.cursor) table_problem covered room
   from_label l e = subst (λ l. Keeps p (at l s.path s.cursor) table_problem covered room) e k
 
-  pub to_state : (l : Label) (t : StateValue) (event : Event) (new_problem : ProblemValue) (new_covered : List ℕ) (new_room : ℕ) → s.label ≡ l → Went p (at l s.path s.cursor) t event new_problem new_covered new_room → Went p s t event new_problem new_covered new_room
-  to_state l t event new_problem new_covered new_room e w = subst (λ l. Went p (at l s.path s.cursor) t event new_problem new_covered new_room) (sym e) w
+-- the label and the cursor that a contract tells are those of the state inside
+pub label_of : {p : ProblemValue} {s : StateValue} {old : Position} {l : Label} → record { problem = p; state = s } ≡ old → old.state.label ≡ l → s.label ≡ l
+label_of e h = ap (λ v. v.state.label) e ∙ h
+
+pub cursor_in : {p : ProblemValue} {s : StateValue} {old : Position} {k : Cursor} → record { problem = p; state = s } ≡ old → old.state.cursor ≡ k → s.cursor ≡ k
+cursor_in e h = ap (λ v. v.state.cursor) e ∙ h
+
+pub kept_at : {p : ProblemValue} {s : StateValue} {old : Position} {l : Label} {table_problem : ProblemValue} {covered : List ℕ} {room : ℕ} → record { problem = p; state = s } ≡ old → old.state.label ≡ l
+    → Keeps p s table_problem covered room → Keeps p (at l s.path s.cursor) table_problem covered room
+kept_at {p} {s} {old} {l} {table_problem} {covered} {room} e m k = from_label p s table_problem covered room k l (label_of e m)
 
 -- what a machine's step says, from the state inside it
-pub goes : (p : ProblemValue) (s t : StateValue) (event : Event) (table_problem : ProblemValue) (covered : List ℕ) (room : ℕ) (old : Position) → record { problem = p; state = s } ≡ old → Went p s t event table_problem covered room → Goes old (record { problem = p; state = t }) event
-goes p s t event table_problem covered room old e w = subst (λ v. Goes v (record { problem = p; state = t }) event) e (record { problem = refl; state = w.steps; tells = w.tells })
-
-pub label_of : (p : ProblemValue) (s : StateValue) (old : Position) (l : Label) → record { problem = p; state = s } ≡ old → old.state.label ≡ l → s.label ≡ l
-label_of p s old l e h = ap (λ v. v.state.label) e ∙ h
-
-pub cursor_in : (p : ProblemValue) (s : StateValue) (old : Position) (k : Cursor) → record { problem = p; state = s } ≡ old → old.state.cursor ≡ k → s.cursor ≡ k
-cursor_in p s old k e h = ap (λ v. v.state.cursor) e ∙ h
+pub goes : {p : ProblemValue} {s t : StateValue} {event : Event} {old : Position} {l : Label} {table_problem : ProblemValue} {covered : List ℕ} {room : ℕ} → record { problem = p; state = s } ≡ old → old.state.label ≡ l
+    → Went p (at l s.path s.cursor) t event table_problem covered room → Goes old (record { problem = p; state = t }) event
+goes {p} {s} {t} {event} {old} {l} e m w =
+    let same : at l s.path s.cursor ≡ s = ap (λ l. at l s.path s.cursor) (sym (label_of e m)) in
+    subst (λ v. Goes v (record { problem = p; state = t }) event) (ap (λ s. record { problem = p; state = s }) same ∙ e) (record { problem = refl; state = w.steps; tells = w.tells })
 
 -- a machine that was just made
 pub starts : (p table_problem : ProblemValue) (covered path : List ℕ) (room : ℕ) → IsProblem p → table_problem ≡ p → covered ≡ [] → path ≡ [] → length p.names ≤ room → Keeps p (at X1 path cursor.None) table_problem covered room

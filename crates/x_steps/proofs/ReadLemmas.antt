@@ -7,7 +7,7 @@ use Rattle.cover_problem.specs.Path.{covered_by, others}
 use Rattle.cover_problem.proofs.ActiveLemmas.{active_item}
 use Rattle.cover_problem.proofs.RemainingLemmas.{choice_active}
 use Rattle.x_steps.specs.declared.state.Label.{Label}
-use Rattle.x_steps.specs.declared.state.Label.TheVariants.{X1, X2, X3, X4, X5, X6, X7, X8, Done}
+use Rattle.x_steps.specs.declared.state.Label.TheVariants.{X2, X4, X5, X6, X7}
 use Rattle.x_steps.specs.declared.state.Cursor.{Cursor}
 use Rattle.x_steps.specs.declared.state.Cursor.TheVariants as cursor
 use Rattle.x_steps.specs.declared.state.Cursor.TheVariants.{At, Past}
@@ -22,15 +22,11 @@ unfolding chosen_item
 chosen_some p s l e h = let f : is_chosen s.label ≡ true = ap is_chosen e ∙ h in rw f refl
 
 not_chosen : (l : Label) → (l ≡ X4 → ⊥) → (l ≡ X5 → ⊥) → (l ≡ X6 → ⊥) → (l ≡ X7 → ⊥) → is_chosen l ≡ false
-not_chosen X1 a b c d = refl
-not_chosen X2 a b c d = refl
-not_chosen X3 a b c d = refl
 not_chosen X4 a b c d = absurd (a refl)
 not_chosen X5 a b c d = absurd (b refl)
 not_chosen X6 a b c d = absurd (c refl)
 not_chosen X7 a b c d = absurd (d refl)
-not_chosen X8 a b c d = refl
-not_chosen Done a b c d = refl
+not_chosen _ a b c d = refl
 
 -- where an item is chosen, an item is active after the path
 open_chosen : (p : ProblemValue) (l : Label) (path : List ℕ) (k : Cursor) → FitsAt p l path k → is_chosen l ≡ true → IsOpen p path
@@ -38,12 +34,9 @@ open_chosen p X4 path k f e = open_at_X4 p path k f
 open_chosen p X5 path k f e = open_at_X5 p path k f
 open_chosen p X6 path (At o) f e = f.1.active
 open_chosen p X7 path cursor.None f e = f.1
-open_chosen p X1 path k f e = absurd (cc)
-open_chosen p X2 path k f e = absurd (cc)
-open_chosen p X3 path k f e = absurd (cc)
-open_chosen p X8 path k f e = absurd (cc)
-open_chosen p Done path k f e = absurd (cc)
-open_chosen p _ path _ f e = absurd f
+open_chosen p X6 path _ f e = absurd f
+open_chosen p X7 path _ f e = absurd f
+open_chosen p _ path _ f e = absurd (cc)
 
 is_chosen_some : (p : ProblemValue) (s : StateValue) (item : ℕ) → Some item ≡ chosen_item p s → (is_chosen s.label ≡ true) × (item ≡ item_after p s.path)
 unfolding chosen_item
@@ -129,19 +122,13 @@ module _ (p : ProblemValue) (s : StateValue) (table_problem : ProblemValue) (cov
   pub chosen_options : (item : ℕ) (options : List ℕ) → Some item ≡ chosen_item p s → options ≡ list_of table_problem covered item → Some (item, options) ≡ chosen_in p s
   chosen_options item options e f = row_chosen p s item options e (f ∙ ap (λ q. list_of q covered item) k.same ∙ ap (λ c. list_of p c item) k.stands)
 
+-- X2 alone is a level's
+pub not_level : (l : Label) → (l ≡ X2 → ⊥) → is_level l ≡ false
+not_level X2 h = absurd (h refl)
+not_level _ h = refl
+
 pub no_visit : (p : ProblemValue) (s : StateValue) → (s.label ≡ X2 → ⊥) → false ≡ is_visit p s
 no_visit p s h = let e = not_level s.label h in rw e refl
-  where
-    not_level : (l : Label) → (l ≡ X2 → ⊥) → is_level l ≡ false
-    not_level X1 h = refl
-    not_level X2 h = absurd (h refl)
-    not_level X3 h = refl
-    not_level X4 h = refl
-    not_level X5 h = refl
-    not_level X6 h = refl
-    not_level X7 h = refl
-    not_level X8 h = refl
-    not_level Done h = refl
 
 pub row_none : (p : ProblemValue) (s : StateValue) → None ≡ chosen_item p s → None ≡ chosen_in p s
 unfolding chosen_in

@@ -11,7 +11,7 @@ use Rattle.cover_problem.specs.Path.{IsChoice, IsValid, covered_by}
 use Rattle.cover_problem.proofs.PathLemmas.{covered_by_push, covered_by_none, valid_push, choice_has}
 use Rattle.cover_problem.proofs.CoverLemmas.{valid_split}
 use Rattle.x_steps.specs.declared.state.Label.{Label}
-use Rattle.x_steps.specs.declared.state.Label.TheVariants.{X1, X2, X3, X4, X5, X6, X7, X8, Done}
+use Rattle.x_steps.specs.declared.state.Label.TheVariants.{X1, X2, X3, X4, X5, X6, X7, X8}
 use Rattle.x_steps.specs.declared.state.Cursor.{Cursor}
 use Rattle.x_steps.specs.declared.state.Cursor.TheVariants as cursor
 use Rattle.x_steps.specs.declared.state.Cursor.TheVariants.{At, Past}
@@ -81,15 +81,10 @@ unfolding covered_in
 same_at_X8 m p path k j e = rw e refl
 
 plain : (p : ProblemValue) (l : Label) (path : List ℕ) (k : Cursor) → (l ≡ X5 → ⊥) → (l ≡ X6 → ⊥) → (l ≡ X7 → ⊥) → covered_at p l path k ≡ covered_by p path
-plain p X1 path k a b c = refl
-plain p X2 path k a b c = refl
-plain p X3 path k a b c = refl
-plain p X4 path k a b c = refl
 plain p X5 path k a b c = absurd (a refl)
 plain p X6 path k a b c = absurd (b refl)
 plain p X7 path k a b c = absurd (c refl)
-plain p X8 path k a b c = refl
-plain p Done path k a b c = refl
+plain p _ path k a b c = refl
 
 pub same_at : (m : Position) (l : Label) (k : Cursor) → m.state.label ≡ X2 → (l ≡ X5 → ⊥) → (l ≡ X6 → ⊥) → (l ≡ X7 → ⊥) → covered_in m.problem (at l m.state.path k) ≡ covered_in m.problem m.state
 unfolding covered_in

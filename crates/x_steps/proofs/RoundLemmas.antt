@@ -1,6 +1,7 @@
 -- Rounds: the steps from one X5 to the next, or to a visit or the end.
-use Rattle.std.proofs.Common.{◌≡◌, ◌≢◌, ℕ, zero, suc, ◌+◌, ◌<◌, ◌≤◌, Bool, true, false, Option, Some, List, [], ◌∷◌, length, slice_index, slice_set, refl, sym, ap, ◌∙◌, subst, arith, if◌then◌else◌}
+use Rattle.std.proofs.Common.{◌≡◌, ◌≢◌, ℕ, zero, suc, ◌+◌, ◌<◌, ◌≤◌, ◌⊎◌, inl, inr, Bool, true, false, Option, Some, List, [], ◌∷◌, length, slice_index, slice_set, refl, sym, ap, ◌∙◌, subst, arith, if◌then◌else◌}
 use Rattle.std.proofs.Common as common
+use Rattle.std.proofs.lemmas.Bool.{cases_lt}
 use Rattle.cover_problem.specs.Problem.{ProblemValue, IsProblem}
 use Rattle.cover_problem.proofs.PathLemmas.{depth}
 use Rattle.x_steps.specs.declared.state.Label.{Label}
@@ -75,8 +76,7 @@ module _ (p : ProblemValue) (s : StateValue) where
 -- the level of an X2 state is one of those from 0 up to the number of items
 level_fits : (p : ProblemValue) (path : List ℕ) (k : Cursor) → IsProblem p → FitsAt p X2 path k → length path < length p.names + 1
 level_fits p path cursor.None sound f = let d = depth p path f in let w = sound.within in omega arith
-level_fits p path (At o) sound f = absurd f
-level_fits p path Past sound f = absurd f
+level_fits p path _ sound f = absurd f
 
 pub level_within : (p : ProblemValue) (s : StateValue) → IsProblem p → Fits p s → s.label ≡ X2 → length s.path < length p.names + 1
 level_within p s sound f e = level_fits p s.path s.cursor sound (subst (λ l. FitsAt p l s.path s.cursor) e f)
@@ -134,129 +134,29 @@ module _ {old new : Position} {event : Event} (g : Goes old new event) where
     goes_at : (l : Label) → old.state.label ≡ l → (l ≡ Done → ⊥) → is_level l ≡ false → IsWalk p s old.state a b n Moved → IsWalk p s new.state a b (suc n) event
     goes_at l e goes_on other w = goes_other w (λ d. goes_on (sym e ∙ d)) (ap is_level e ∙ other)
 
--- what a step from each label tells
-module _ {old new : Position} {event : Event} (g : Goes old new event) where
-  X5_tells : old.state.label ≡ X5 → event ≡ Moved
-  X5_tells e = g.tells ∙ X5_moves old.problem old.state e
+    -- and so does a round, where it didn't come to X5
+    passes_on : IsRound p 4 s old.state a b n Moved → (old.state.label ≡ X5 → ⊥) → (i : ℕ) → 0 < i → i < suc n → (after p i s).label ≡ X5 → ⊥
+    passes_on r apart i l m = step (cases_lt i n)
+      where
+        step : (i < n) ⊎ (n ≤ i) → (after p i s).label ≡ X5 → ⊥
+        step (inl b) h = r.passes i l b h
+        step (inr b) h = let e : n ≡ i = omega arith in apart (ap (λ s. s.label) (sym r.walk.reaches.ends) ∙ ap (λ i. (after p i s).label) e ∙ h)
 
-  X3_tells : old.state.label ≡ X3 → event ≡ Moved
-  X3_tells e = g.tells ∙ X3_moves old.problem old.state e
+    round_at : (l : Label) → old.state.label ≡ l → (l ≡ Done → ⊥) → (l ≡ X5 → ⊥) → is_level l ≡ false → n < 4 → IsRound p 4 s old.state a b n Moved → IsRound p 4 s new.state a b (suc n) event
+    round_at l e goes_on apart other lt r = record { walk = goes_at l e goes_on other r.walk; some = omega arith; within = omega arith; passes = passes_on r (λ h. apart (sym e ∙ h)) }
 
-  X7_tells : old.state.label ≡ X7 → event ≡ Moved
-  X7_tells e = g.tells ∙ X7_moves old.problem old.state e
-
--- ---- X5 at an option: it is taken
-
-module _ {m0 m1 m2 : Position} {e1 e2 : Event} (g1 : Goes m0 m1 e1) (g2 : Goes m1 m2 e2) (counts : List ℕ)
-    {o : ℕ} (label : m0.state.label ≡ X5) (at_option : m0.state.cursor ≡ At o) (level : length m1.state.path < length counts) where
-  abbrev counted : List ℕ
-  counted = slice_set counts (length m1.state.path) (slice_index counts (length m1.state.path) + 1)
-
-  first : IsWalk m0.problem m0.state m1.state counts counts 1 Moved
-  first = subst (IsWalk m0.problem m0.state m1.state counts counts 1) (X5_tells g1 label) (goes_at g1 m0.problem refl m0.state counts counts 0 X5 label (λ d. absurd (cc)) refl (none_walked m0.problem m0.state counts))
-
-  second : IsWalk m0.problem m0.state m2.state counts counted 2 e2
-  second = goes_level g2 m0.problem g1.problem m0.state counts counts 1 first (takes_to_X2 g1 label at_option) level
-
-  passes_X2 : (after m0.problem 1 m0.state).label ≡ X5 → ⊥
-  passes_X2 h = let x : X2 ≡ X5 = sym (takes_to_X2 g1 label at_option) ∙ ap (λ s. s.label) (sym first.reaches.ends) ∙ h in absurd (cc)
-
-  passes_two : (i : ℕ) → 0 < i → i < 2 → (after m0.problem i m0.state).label ≡ X5 → ⊥
-  passes_two zero l m h = absurd (omega arith)
-  passes_two (suc zero) l m h = passes_X2 h
-  passes_two (suc (suc i)) l m h = absurd (omega arith)
-
-  pub two_steps : IsRound m0.problem 4 m0.state m2.state counts counted 2 e2
-  two_steps = record { walk = second; some = omega arith; within = omega arith; passes = passes_two }
-
-  module _ {m3 m4 : Position} {e3 e4 : Event} (g3 : Goes m2 m3 e3) (g4 : Goes m3 m4 e4) (moved : e2 ≡ Moved) where
-    at_X3 : m2.state.label ≡ X3
-    at_X3 = enters_to_X3 g2 (takes_to_X2 g1 label at_option) moved
-
-    at_X4 : m3.state.label ≡ X4
-    at_X4 = plans_to_X4 g3 at_X3
-
-    second_moved : IsWalk m0.problem m0.state m2.state counts counted 2 Moved
-    second_moved = subst (IsWalk m0.problem m0.state m2.state counts counted 2) moved second
-
-    third : IsWalk m0.problem m0.state m3.state counts counted 3 Moved
-    third = subst (IsWalk m0.problem m0.state m3.state counts counted 3) (X3_tells g3 at_X3) (goes_at g3 m0.problem (g2.problem ∙ g1.problem) m0.state counts counted 2 X3 at_X3 (λ d. absurd (cc)) refl second_moved)
-
-    passes_four : (i : ℕ) → 0 < i → i < 4 → (after m0.problem i m0.state).label ≡ X5 → ⊥
-    passes_four zero l m h = absurd (omega arith)
-    passes_four (suc zero) l m h = passes_X2 h
-    passes_four (suc (suc zero)) l m h = let x : X3 ≡ X5 = sym at_X3 ∙ ap (λ s. s.label) (sym second.reaches.ends) ∙ h in absurd (cc)
-    passes_four (suc (suc (suc zero))) l m h = let x : X4 ≡ X5 = sym at_X4 ∙ ap (λ s. s.label) (sym third.reaches.ends) ∙ h in absurd (cc)
-    passes_four (suc (suc (suc (suc i)))) l m h = absurd (omega arith)
-
-    pub four_steps : IsRound m0.problem 4 m0.state m4.state counts counted 4 e4
-    four_steps = record {
-      walk = goes_at g4 m0.problem (g3.problem ∙ g2.problem ∙ g1.problem) m0.state counts counted 3 X4 at_X4 (λ d. absurd (cc)) refl third;
-      some = omega arith;
-      within = omega arith;
-      passes = passes_four;
-    }
-
--- ---- X5 past the last option: the item is closed
-
-module _ {m0 m1 m2 m3 : Position} {e1 e2 e3 : Event} (g1 : Goes m0 m1 e1) (g2 : Goes m1 m2 e2) (g3 : Goes m2 m3 e3) (counts : List ℕ)
-    (label : m0.state.label ≡ X5) (past : m0.state.cursor ≡ Past) where
-  at_X7 : m1.state.label ≡ X7
-  at_X7 = gives_up_to_X7 g1 label past
-
-  at_X8 : m2.state.label ≡ X8
-  at_X8 = closes_to_X8 g2 at_X7
-
-  given_up : IsWalk m0.problem m0.state m1.state counts counts 1 Moved
-  given_up = subst (IsWalk m0.problem m0.state m1.state counts counts 1) (X5_tells g1 label) (goes_at g1 m0.problem refl m0.state counts counts 0 X5 label (λ d. absurd (cc)) refl (none_walked m0.problem m0.state counts))
-
-  closed : IsWalk m0.problem m0.state m2.state counts counts 2 Moved
-  closed = subst (IsWalk m0.problem m0.state m2.state counts counts 2) (X7_tells g2 at_X7) (goes_at g2 m0.problem g1.problem m0.state counts counts 1 X7 at_X7 (λ d. absurd (cc)) refl given_up)
-
-  left : IsWalk m0.problem m0.state m3.state counts counts 3 e3
-  left = goes_at g3 m0.problem (g2.problem ∙ g1.problem) m0.state counts counts 2 X8 at_X8 (λ d. absurd (cc)) refl closed
-
-  passes_X7 : (after m0.problem 1 m0.state).label ≡ X5 → ⊥
-  passes_X7 h = let x : X7 ≡ X5 = sym at_X7 ∙ ap (λ s. s.label) (sym given_up.reaches.ends) ∙ h in absurd (cc)
-
-  passes_X8 : (after m0.problem 2 m0.state).label ≡ X5 → ⊥
-  passes_X8 h = let x : X8 ≡ X5 = sym at_X8 ∙ ap (λ s. s.label) (sym closed.reaches.ends) ∙ h in absurd (cc)
-
-  passes_three : (i : ℕ) → 0 < i → i < 3 → (after m0.problem i m0.state).label ≡ X5 → ⊥
-  passes_three zero l m h = absurd (omega arith)
-  passes_three (suc zero) l m h = passes_X7 h
-  passes_three (suc (suc zero)) l m h = passes_X8 h
-  passes_three (suc (suc (suc i))) l m h = absurd (omega arith)
-
-  pub three_back : IsRound m0.problem 4 m0.state m3.state counts counts 3 e3
-  three_back = record { walk = left; some = omega arith; within = omega arith; passes = passes_three }
-
-  module _ {m4 : Position} {e4 : Event} (g4 : Goes m3 m4 e4) {o : ℕ} (at_option : m3.state.cursor ≡ At o) where
-    at_X6 : m3.state.label ≡ X6
-    at_X6 = leaves_to_X6 g3 at_X8 at_option
-
-    left_moved : IsWalk m0.problem m0.state m3.state counts counts 3 Moved
-    left_moved = subst (IsWalk m0.problem m0.state m3.state counts counts 3) (leaving_moves g3 at_X8 at_option) left
-
-    passes_back : (i : ℕ) → 0 < i → i < 4 → (after m0.problem i m0.state).label ≡ X5 → ⊥
-    passes_back zero l m h = absurd (omega arith)
-    passes_back (suc zero) l m h = passes_X7 h
-    passes_back (suc (suc zero)) l m h = passes_X8 h
-    passes_back (suc (suc (suc zero))) l m h = let x : X6 ≡ X5 = sym at_X6 ∙ ap (λ s. s.label) (sym left.reaches.ends) ∙ h in absurd (cc)
-    passes_back (suc (suc (suc (suc i)))) l m h = absurd (omega arith)
-
-    pub four_back : IsRound m0.problem 4 m0.state m4.state counts counts 4 e4
-    four_back = record {
-      walk = goes_at g4 m0.problem (g3.problem ∙ g2.problem ∙ g1.problem) m0.state counts counts 3 X6 at_X6 (λ d. absurd (cc)) refl left_moved;
-      some = omega arith;
-      within = omega arith;
-      passes = passes_back;
-    }
+    round_level : old.state.label ≡ X2 → length old.state.path < length b → n < 4 → IsRound p 4 s old.state a b n Moved
+        → IsRound p 4 s new.state a (slice_set b (length old.state.path) (slice_index b (length old.state.path) + 1)) (suc n) event
+    round_level e l lt r = record { walk = goes_level r.walk e l; some = omega arith; within = omega arith; passes = passes_on r (λ h. let x : X2 ≡ X5 = sym e ∙ h in absurd (cc)) }
 
 -- ---- one step
 
 passes_none : (p : ProblemValue) (s : StateValue) (i : ℕ) → 0 < i → i < 1 → (after p i s).label ≡ X5 → ⊥
 passes_none p s i l m h = absurd (omega arith)
+
+-- a round stays one where more steps are allowed
+pub more_room : (p : ProblemValue) (few most : ℕ) (s t : StateValue) (a b : List ℕ) (n : ℕ) (event : Event) → few ≤ most → IsRound p few s t a b n event → IsRound p most s t a b n event
+more_room p few most s t a b n event l r = let w = r.within in record { walk = r.walk; some = r.some; within = omega arith; passes = r.passes }
 
 module _ {old new : Position} {event : Event} (g : Goes old new event) (counts : List ℕ) where
   pub one_other : (old.state.label ≡ Done → ⊥) → is_level old.state.label ≡ false → IsRound old.problem 1 old.state new.state counts counts 1 event
@@ -276,6 +176,55 @@ module _ {old new : Position} {event : Event} (g : Goes old new event) (counts :
     passes = passes_none old.problem old.state;
   }
 
--- a round stays one where more steps are allowed
-pub more_room : (p : ProblemValue) (few most : ℕ) (s t : StateValue) (a b : List ℕ) (n : ℕ) (event : Event) → few ≤ most → IsRound p few s t a b n event → IsRound p most s t a b n event
-more_room p few most s t a b n event l r = let w = r.within in record { walk = r.walk; some = r.some; within = omega arith; passes = r.passes }
+  from_X5 : old.state.label ≡ X5 → IsRound old.problem 4 old.state new.state counts counts 1 Moved
+  from_X5 e =
+      let r = one_other (λ d. let x : X5 ≡ Done = sym e ∙ d in absurd (cc)) (ap is_level e) in
+      more_room old.problem 1 4 old.state new.state counts counts 1 Moved (omega arith) (subst (IsRound old.problem 1 old.state new.state counts counts 1) (g.tells ∙ X5_moves old.problem old.state e) r)
+
+-- ---- X5 at an option: it is taken
+
+module _ {m0 m1 m2 : Position} {e1 e2 : Event} (g1 : Goes m0 m1 e1) (g2 : Goes m1 m2 e2) (counts : List ℕ)
+    {o : ℕ} (label : m0.state.label ≡ X5) (at_option : m0.state.cursor ≡ At o) (level : length m1.state.path < length counts) where
+  abbrev counted : List ℕ
+  counted = slice_set counts (length m1.state.path) (slice_index counts (length m1.state.path) + 1)
+
+  pub two_steps : IsRound m0.problem 4 m0.state m2.state counts counted 2 e2
+  two_steps = round_level g2 m0.problem g1.problem m0.state counts counts 1 (takes_to_X2 g1 label at_option) level (omega arith) (from_X5 g1 counts label)
+
+  module _ {m3 m4 : Position} {e3 e4 : Event} (g3 : Goes m2 m3 e3) (g4 : Goes m3 m4 e4) (moved : e2 ≡ Moved) where
+    at_X3 : m2.state.label ≡ X3
+    at_X3 = enters_to_X3 g2 (takes_to_X2 g1 label at_option) moved
+
+    third : IsRound m0.problem 4 m0.state m3.state counts counted 3 e3
+    third =
+        round_at g3 m0.problem (g2.problem ∙ g1.problem) m0.state counts counted 2 X3 at_X3 (λ d. absurd (cc)) (λ d. absurd (cc)) refl (omega arith)
+        (subst (IsRound m0.problem 4 m0.state m2.state counts counted 2) moved two_steps)
+
+    pub four_steps : IsRound m0.problem 4 m0.state m4.state counts counted 4 e4
+    four_steps =
+        round_at g4 m0.problem (g3.problem ∙ g2.problem ∙ g1.problem) m0.state counts counted 3 X4 (plans_to_X4 g3 at_X3) (λ d. absurd (cc)) (λ d. absurd (cc)) refl (omega arith)
+        (subst (IsRound m0.problem 4 m0.state m3.state counts counted 3) (g3.tells ∙ X3_moves m2.problem m2.state at_X3) third)
+
+-- ---- X5 past the last option: the item is closed
+
+module _ {m0 m1 m2 m3 : Position} {e1 e2 e3 : Event} (g1 : Goes m0 m1 e1) (g2 : Goes m1 m2 e2) (g3 : Goes m2 m3 e3) (counts : List ℕ)
+    (label : m0.state.label ≡ X5) (past : m0.state.cursor ≡ Past) where
+  at_X7 : m1.state.label ≡ X7
+  at_X7 = gives_up_to_X7 g1 label past
+
+  at_X8 : m2.state.label ≡ X8
+  at_X8 = closes_to_X8 g2 at_X7
+
+  closed : IsRound m0.problem 4 m0.state m2.state counts counts 2 Moved
+  closed =
+      subst (IsRound m0.problem 4 m0.state m2.state counts counts 2) (g2.tells ∙ X7_moves m1.problem m1.state at_X7)
+      (round_at g2 m0.problem g1.problem m0.state counts counts 1 X7 at_X7 (λ d. absurd (cc)) (λ d. absurd (cc)) refl (omega arith) (from_X5 g1 counts label))
+
+  pub three_back : IsRound m0.problem 4 m0.state m3.state counts counts 3 e3
+  three_back = round_at g3 m0.problem (g2.problem ∙ g1.problem) m0.state counts counts 2 X8 at_X8 (λ d. absurd (cc)) (λ d. absurd (cc)) refl (omega arith) closed
+
+  module _ {m4 : Position} {e4 : Event} (g4 : Goes m3 m4 e4) {o : ℕ} (at_option : m3.state.cursor ≡ At o) where
+    pub four_back : IsRound m0.problem 4 m0.state m4.state counts counts 4 e4
+    four_back =
+        round_at g4 m0.problem (g3.problem ∙ g2.problem ∙ g1.problem) m0.state counts counts 3 X6 (leaves_to_X6 g3 at_X8 at_option) (λ d. absurd (cc)) (λ d. absurd (cc)) refl (omega arith)
+        (subst (IsRound m0.problem 4 m0.state m3.state counts counts 3) (leaving_moves g3 at_X8 at_option) three_back)

@@ -20,14 +20,7 @@ use Rattle.x_steps.proofs.RankLemmas.{rank_next}
 
 pub is_first : (l : Label) → (l ≡ X1) ⊎ (l ≡ X1 → ⊥)
 is_first X1 = inl refl
-is_first X2 = inr (λ e. cc)
-is_first X3 = inr (λ e. cc)
-is_first X4 = inr (λ e. cc)
-is_first X5 = inr (λ e. cc)
-is_first X6 = inr (λ e. cc)
-is_first X7 = inr (λ e. cc)
-is_first X8 = inr (λ e. cc)
-is_first Done = inr (λ e. cc)
+is_first _ = inr (λ e. cc)
 
 pub start_fits : (p : ProblemValue) → Fits p start
 start_fits p = refl
@@ -36,35 +29,19 @@ pub done_fits : (p : ProblemValue) → Fits p done
 done_fits p = refl
 
 -- the first and the last state that fit are those of the run
-first_at : (p : ProblemValue) (l : Label) (path : List ℕ) (k : Cursor) → FitsAt p l path k → l ≡ X1 → at l path k ≡ start
-first_at p X1 path cursor.None f e = ap (λ q. at X1 q cursor.None) f
-first_at p X2 path k f e = absurd (cc)
-first_at p X3 path k f e = absurd (cc)
-first_at p X4 path k f e = absurd (cc)
-first_at p X5 path k f e = absurd (cc)
-first_at p X6 path k f e = absurd (cc)
-first_at p X7 path k f e = absurd (cc)
-first_at p X8 path k f e = absurd (cc)
-first_at p Done path k f e = absurd (cc)
-first_at p _ path _ f e = absurd f
+first_at : (p : ProblemValue) (path : List ℕ) (k : Cursor) → FitsAt p X1 path k → at X1 path k ≡ start
+first_at p path cursor.None f = ap (λ q. at X1 q cursor.None) f
+first_at p path _ f = absurd f
 
 pub first_is : (p : ProblemValue) (s : StateValue) → Fits p s → s.label ≡ X1 → s ≡ start
-first_is p s f e = first_at p s.label s.path s.cursor f e
+first_is p s f e = ap (λ l. at l s.path s.cursor) e ∙ first_at p s.path s.cursor (subst (λ l. FitsAt p l s.path s.cursor) e f)
 
-end_at : (p : ProblemValue) (l : Label) (path : List ℕ) (k : Cursor) → FitsAt p l path k → l ≡ Done → at l path k ≡ done
-end_at p Done path cursor.None f e = ap (λ q. at Done q cursor.None) f
-end_at p X1 path k f e = absurd (cc)
-end_at p X2 path k f e = absurd (cc)
-end_at p X3 path k f e = absurd (cc)
-end_at p X4 path k f e = absurd (cc)
-end_at p X5 path k f e = absurd (cc)
-end_at p X6 path k f e = absurd (cc)
-end_at p X7 path k f e = absurd (cc)
-end_at p X8 path k f e = absurd (cc)
-end_at p _ path _ f e = absurd f
+end_at : (p : ProblemValue) (path : List ℕ) (k : Cursor) → FitsAt p Done path k → at Done path k ≡ done
+end_at p path cursor.None f = ap (λ q. at Done q cursor.None) f
+end_at p path _ f = absurd f
 
 pub end_is : (p : ProblemValue) (s : StateValue) → Fits p s → s.label ≡ Done → s ≡ done
-end_is p s f e = end_at p s.label s.path s.cursor f e
+end_is p s f e = ap (λ l. at l s.path s.cursor) e ∙ end_at p s.path s.cursor (subst (λ l. FitsAt p l s.path s.cursor) e f)
 
 -- nothing follows Done
 entered_goes_on : (s : Option (List ℕ × ℕ)) → (entered_from s).label ≡ Done → ⊥

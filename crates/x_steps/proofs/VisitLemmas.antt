@@ -6,7 +6,7 @@ use Rattle.cover_problem.specs.Covering.{active}
 use Rattle.cover_problem.specs.Path.{IsValid, covered_by}
 use Rattle.cover_problem.proofs.CoverLemmas.{path_is_cover, cover_is_path, path_of_cover}
 use Rattle.x_steps.specs.declared.state.Label.{Label}
-use Rattle.x_steps.specs.declared.state.Label.TheVariants.{X1, X2, X3, X4, X5, X6, X7, X8, Done}
+use Rattle.x_steps.specs.declared.state.Label.TheVariants.{X2, Done}
 use Rattle.x_steps.specs.declared.state.Cursor.{Cursor}
 use Rattle.x_steps.specs.declared.state.Cursor.TheVariants as cursor
 use Rattle.x_steps.specs.declared.state.Cursor.TheVariants.{At, Past}
@@ -31,15 +31,8 @@ closed p path h = let l = ltb-false 0 (length (active p (covered_by p path))) (n
 
 visit_at : (p : ProblemValue) (l : Label) (path : List ℕ) (k : Cursor) → FitsAt p l path k → is_visit p (at l path k) ≡ true → IsVisitOf p (at l path k) path
 visit_at p X2 path cursor.None f h = record { place = refl; valid = f; none = closed p path h }
-visit_at p X1 path k f h = absurd (cc)
-visit_at p X3 path k f h = absurd (cc)
-visit_at p X4 path k f h = absurd (cc)
-visit_at p X5 path k f h = absurd (cc)
-visit_at p X6 path k f h = absurd (cc)
-visit_at p X7 path k f h = absurd (cc)
-visit_at p X8 path k f h = absurd (cc)
-visit_at p Done path k f h = absurd (cc)
-visit_at p _ path _ f h = absurd f
+visit_at p X2 path _ f h = absurd f
+visit_at p _ path _ f h = absurd (cc)
 
 pub visit_is : (p : ProblemValue) (s : StateValue) → Fits p s → is_visit p s ≡ true → IsVisitOf p s s.path
 visit_is p s f h = visit_at p s.label s.path s.cursor f h

@@ -2,9 +2,8 @@
 use Rattle.std.proofs.Common.{◌≡◌, ℕ, zero, suc, ◌<◌, Bool, true, false, not, cond, ◌&&◌, if◌then◌else◌, List, [], ◌∷◌, ◌++◌, refl, sym, ap, ◌∙◌, arith}
 use Rattle.cover_problem.specs.Problem.{ProblemValue}
 use Rattle.x_steps.specs.declared.state.Label.{Label}
-use Rattle.x_steps.specs.declared.state.Label.TheVariants.{X1, X2, X3, X4, X5, X6, X7, X8, Done}
+use Rattle.x_steps.specs.declared.state.Label.TheVariants.{X2, X8}
 use Rattle.x_steps.specs.declared.state.Cursor.{Cursor}
-use Rattle.x_steps.specs.declared.event.Event.{Event}
 use Rattle.x_steps.specs.declared.event.Event.TheVariants.{Moved, Visited}
 use Rattle.x_steps.specs.StateValue.{StateValue, at}
 use Rattle.x_steps.specs.Steps.{is_level, is_open, is_visit, next, event_of}
@@ -19,16 +18,10 @@ tells_by p path false = refl
 
 pub tells : (p : ProblemValue) (l : Label) (path : List ℕ) (k : Cursor) → is_visited (event_of p (at l path k)) ≡ is_visit p (at l path k)
 unfolding event_of
-tells p X1 path k = refl
 tells p X2 path k = tells_by p path (is_open p path)
-tells p X3 path k = refl
-tells p X4 path k = refl
-tells p X5 path k = refl
-tells p X6 path k = refl
-tells p X7 path k = refl
 tells p X8 [] k = refl
 tells p X8 (x ∷ xs) k = refl
-tells p Done path k = refl
+tells p _ path k = refl
 
 -- X2 leaves the path
 leaves_by : (path : List ℕ) (b : Bool) (s t : StateValue) → s.path ≡ path → t.path ≡ path → (if b then s else t).path ≡ path
@@ -38,14 +31,7 @@ leaves_by path false s t e f = f
 leaves : (p : ProblemValue) (l : Label) (path : List ℕ) (k : Cursor) → is_level l ≡ true → (next p (at l path k)).path ≡ path
 unfolding next
 leaves p X2 path k e = leaves_by path (is_open p path) _ _ refl refl
-leaves p X1 path k e = absurd (cc)
-leaves p X3 path k e = absurd (cc)
-leaves p X4 path k e = absurd (cc)
-leaves p X5 path k e = absurd (cc)
-leaves p X6 path k e = absurd (cc)
-leaves p X7 path k e = absurd (cc)
-leaves p X8 path k e = absurd (cc)
-leaves p Done path k e = absurd (cc)
+leaves p _ path k e = absurd (cc)
 
 both : (a b : Bool) → (a && b) ≡ true → a ≡ true
 both true b e = refl

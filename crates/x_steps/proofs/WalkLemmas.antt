@@ -6,7 +6,7 @@ use Rattle.std.proofs.lemmas.List.{get_or-set_same, get_or-set_other, length-set
 use Rattle.std.proofs.lemmas.List.Sums.{count_by-le-length}
 use Rattle.cover_problem.specs.Problem.{ProblemValue}
 use Rattle.x_steps.specs.declared.state.Label.{Label}
-use Rattle.x_steps.specs.declared.state.Label.TheVariants.{X1, X2, X3, X4, X5, X6, X7, X8, Done}
+use Rattle.x_steps.specs.declared.state.Label.TheVariants.{X2, X3, X5, X6, X8, Done}
 use Rattle.x_steps.specs.declared.state.Cursor.{Cursor}
 use Rattle.x_steps.specs.declared.state.Cursor.TheVariants as cursor
 use Rattle.x_steps.specs.declared.state.Cursor.TheVariants.{At, Past}
@@ -137,24 +137,17 @@ walks_begin m most cut counts = record { same = refl; walk = none_walked m.probl
 
 -- a step that only moves on doesn't end the run
 moves_on : (p : ProblemValue) (l : Label) (path : List ℕ) (k : Cursor) → (l ≡ Done → ⊥) → event_at p l path ≡ Moved → (next_at p l path k).label ≡ Done → ⊥
-moves_on p X1 path k still e d = absurd (cc)
 moves_on p X2 path k still e d = by_test (is_open p path) d
   where
     by_test : (b : Bool) → (if b then at X3 path cursor.None else at X8 path cursor.None).label ≡ Done → ⊥
     by_test true d = absurd (cc)
     by_test false d = absurd (cc)
-moves_on p X3 path k still e d = absurd (cc)
-moves_on p X4 path k still e d = absurd (cc)
+moves_on p Done path k still e d = still refl
 moves_on p X5 path (At o) still e d = absurd (cc)
-moves_on p X5 path Past still e d = absurd (cc)
-moves_on p X5 path cursor.None still e d = absurd (cc)
 moves_on p X6 path (At o) still e d = absurd (cc)
-moves_on p X6 path Past still e d = absurd (cc)
-moves_on p X6 path cursor.None still e d = absurd (cc)
-moves_on p X7 path k still e d = absurd (cc)
 moves_on p X8 [] k still e d = absurd (cc)
 moves_on p X8 (x ∷ xs) k still e d = absurd (cc)
-moves_on p Done path k still e d = still refl
+moves_on p _ path _ still e d = absurd (cc)
 
 module _ (p : ProblemValue) (most : ℕ) (cut : List ℕ) (m : Position) (s : StateValue) (a b : List ℕ) (n : ℕ) (event : Event) (w : Walks p most cut m s a b n event) where
   pub walks_open : (s.label ≡ Done → ⊥) → event ≡ Moved → m.state.label ≡ Done → ⊥

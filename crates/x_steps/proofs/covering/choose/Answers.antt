@@ -5,22 +5,16 @@ use Rattle.x_steps.proofs.covering.choose.Goals as goal
 pub unwrap-best-requires : goal.unwrap-best-requires
 unwrap-best-requires g c = rw c.first_item.ensures (some_active _ _ c.requires.open)
 
-pub len-least-requires-clause-some : goal.len-least-requires-clause-some
-len-least-requires-clause-some g c = (first_is _ _ _ _ c.first_item.ensures c.unwrap-best.ensures).1
-
-pub len-least-requires-clause-within : goal.len-least-requires-clause-within
-len-least-requires-clause-within g c =
-    let f = first_is _ _ _ _ c.first_item.ensures c.unwrap-best.ensures in omega (arith, f.2, c.requires.problem.within)
+pub len-least-requires : goal.len-least-requires
+len-least-requires g c =
+    let f = first_is _ _ _ _ c.first_item.ensures c.unwrap-best.ensures in record { some = f.1; within = omega (arith, f.2, c.requires.problem.within) }
 
 pub loop-next-init : goal.loop-next-init
 loop-next-init g c = begins _ _ _ _ c.first_item.ensures c.unwrap-best.ensures _ c.len-least.ensures
 
-pub len-len-requires-clause-some : goal.len-len-requires-clause-some
-len-len-requires-clause-some g c = (next_is _ _ _ _ _ _ _ c.loop-next.invariant c.next_item.ensures c.in-Some.is).1
-
-pub len-len-requires-clause-within : goal.len-len-requires-clause-within
-len-len-requires-clause-within g c =
-    let n = next_is _ _ _ _ _ _ _ c.loop-next.invariant c.next_item.ensures c.in-Some.is in omega (arith, n.2, c.requires.problem.within)
+pub len-len-requires : goal.len-len-requires
+len-len-requires g c =
+    let n = next_is _ _ _ _ _ _ _ c.loop-next.invariant c.next_item.ensures c.in-Some.is in record { some = n.1; within = omega (arith, n.2, c.requires.problem.within) }
 
 pub loop-next-smaller-then-len-least : goal.loop-next-smaller-then-len-least
 loop-next-smaller-then-len-least g c = falls _ _ _ _ _ _ _ c.loop-next.invariant c.next_item.ensures c.in-Some.is

@@ -4,12 +4,10 @@ use Rattle.cover_problem.proofs.ActiveLemmas.{active_rises, active_in}
 use Rattle.x_steps.proofs.ListingLemmas.{rows_member, active_more, rows_all}
 use Rattle.x_steps.proofs.listing.active_items.Goals as goal
 
-pub options_of-requires-clause-some : goal.options_of-requires-clause-some
-options_of-requires-clause-some g c = (active_in _ _ _ (rows_member _ _ (active_rises _ _) _ _ c.loop-next.invariant _ c.in-Some.is)).1
-
-pub options_of-requires-clause-within : goal.options_of-requires-clause-within
-options_of-requires-clause-within g c =
-    let within = (active_in _ _ _ (rows_member _ _ (active_rises _ _) _ _ c.loop-next.invariant _ c.in-Some.is)).2 in omega (arith, within, c.requires.within)
+pub options_of-requires : goal.options_of-requires
+options_of-requires g c =
+    let a = active_in _ _ _ (rows_member _ _ (active_rises _ _) _ _ c.loop-next.invariant _ c.in-Some.is) in
+    record { some = a.1; within = omega (arith, a.2, c.requires.within) }
 
 pub next_item-next-requires : goal.next_item-next-requires
 next_item-next-requires g c = rows_member _ _ (active_rises _ _) _ _ c.loop-next.invariant _ c.in-Some.is

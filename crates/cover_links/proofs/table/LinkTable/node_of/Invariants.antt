@@ -3,4 +3,4 @@ use Rattle.cover_links.specs.Layout.{node_index}
 use Rattle.cover_links.proofs.table.LinkTable.node_of.Given as goal
 
 abbrev pub invariant-loop-index : goal.invariant-loop-index
-invariant-loop-index l = l.index ≤ node_index l.self-inside.problem.value l.item l.option
+invariant-loop-index l = l.index ≤ node_index l.self.problem l.item l.option

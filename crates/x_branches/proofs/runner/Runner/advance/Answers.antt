@@ -4,11 +4,11 @@ use Rattle.x_steps.proofs.WalkLemmas.{lent_whole}
 use Rattle.x_branches.proofs.RunnerLemmas.{level_in, count_small, goes_on, advanced}
 use Rattle.x_branches.proofs.runner.Runner.advance.Goals as goal
 
-pub note-requires-clause-within : goal.note-requires-clause-within
-note-requires-clause-within g c = level_in _ _ _ _ c.self.invariant _ c.deref_mut.ensures.value
-
-pub note-requires-clause-small : goal.note-requires-clause-small
-note-requires-clause-small g c = λ _. count_small _ _ _ _ c.self.invariant _ c.deref_mut.ensures.value c.if-self.false (omega arith)
+pub note-requires : goal.note-requires
+note-requires g c = record {
+  within = level_in _ _ _ _ c.self.invariant _ c.deref_mut.ensures.value;
+  small = λ _. count_small _ _ _ _ c.self.invariant _ c.deref_mut.ensures.value c.if-self.false (omega arith);
+}
 
 pub unreachable-requires : goal.unreachable-requires
 unreachable-requires g c =

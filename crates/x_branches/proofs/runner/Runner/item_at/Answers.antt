@@ -3,18 +3,12 @@ use Rattle.x_branches.proofs.RunnerLemmas.{position_fits}
 use Rattle.x_branches.proofs.UntriedLemmas.{level_known}
 use Rattle.x_branches.proofs.runner.Runner.item_at.Goals as goal
 
-pub covered_count-requires-clause-valid : goal.covered_count-requires-clause-valid
-covered_count-requires-clause-valid g c =
-    let here = rw (← c.self.view_is) at c.requires in
-    let l = (level_known _ _ _ c.self.invariant.sound (position_fits _ _ _ _ c.self.invariant) here).1 in
-    rw (c.problem.ensures, c.front.ensures, ← c.self.view_is) l.valid
-
-pub covered_count-requires-clause-within : goal.covered_count-requires-clause-within
-covered_count-requires-clause-within g c =
+pub covered_count-requires : goal.covered_count-requires
+covered_count-requires g c =
     let here = rw (← c.self.view_is) at c.requires in
     let l = (level_known _ _ _ c.self.invariant.sound (position_fits _ _ _ _ c.self.invariant) here).1 in
     let within = l.within in
-    rw (c.problem.ensures, c.front.ensures, c.covered-covered.ensures, ← c.self.view_is) (omega arith)
+    rw (c.problem.ensures, c.front.ensures, c.covered-covered.ensures, ← c.self.view_is) (record { valid = l.valid; within = omega arith })
 
 pub offset_bounds-covered-covered_count : goal.offset_bounds-covered-covered_count
 offset_bounds-covered-covered_count g c =

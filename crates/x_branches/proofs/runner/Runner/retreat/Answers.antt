@@ -7,14 +7,12 @@ use Rattle.x_branches.proofs.runner.Runner.retreat.Goals as goal
 pub unreachable-requires : goal.unreachable-requires
 unreachable-requires g c = first_moved _ _ _ _ c.self.invariant c.if-self-eq0.false (c.in_default.ensures.first.0 refl)
 
-pub forget-requires-clause-visit : goal.forget-requires-clause-visit
-forget-requires-clause-visit g c = rw c.in-Ok.ensures.problem (visit_there _ _ _ _ c.self.invariant _ c.in-Ok.ensures.before c.if-self-eq0.false)
-
-pub forget-requires-clause-within : goal.forget-requires-clause-within
-forget-requires-clause-within g c = level_there _ _ _ _ c.self.invariant _ c.in-Ok.ensures.before c.if-self-eq0.false _ c.deref_mut.ensures.value
-
-pub forget-requires-clause-some : goal.forget-requires-clause-some
-forget-requires-clause-some g c = count_there _ _ _ _ c.self.invariant _ c.in-Ok.ensures.before c.if-self-eq0.false _ c.deref_mut.ensures.value
+pub forget-requires : goal.forget-requires
+forget-requires g c = record {
+  visit = rw c.in-Ok.ensures.problem (visit_there _ _ _ _ c.self.invariant _ c.in-Ok.ensures.before c.if-self-eq0.false);
+  within = level_there _ _ _ _ c.self.invariant _ c.in-Ok.ensures.before c.if-self-eq0.false _ c.deref_mut.ensures.value;
+  some = count_there _ _ _ _ c.self.invariant _ c.in-Ok.ensures.before c.if-self-eq0.false _ c.deref_mut.ensures.value;
+}
 
 pub invariant_of-self : goal.invariant_of-self
 invariant_of-self g c =

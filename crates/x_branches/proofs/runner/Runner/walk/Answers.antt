@@ -5,19 +5,15 @@ use Rattle.x_branches.proofs.RunnerLemmas.{position_fits}
 use Rattle.x_branches.proofs.WalkedLemmas.{walk_levels, walk_room, not_over, each_step, walked, stops_there, visit_refused, room_asked}
 use Rattle.x_branches.proofs.runner.Runner.walk.Goals as goal
 
-pub walk_noted-walk-requires-clause-fits : goal.walk_noted-walk-requires-clause-fits
-walk_noted-walk-requires-clause-fits g c = position_fits _ _ _ _ c.self.invariant
-
-pub walk_noted-walk-requires-clause-goes_on : goal.walk_noted-walk-requires-clause-goes_on
-walk_noted-walk-requires-clause-goes_on g c =
+pub walk_noted-walk-requires : goal.walk_noted-walk-requires
+walk_noted-walk-requires g c =
     let other = rw (← c.self.view_is) at c.if-is_at_end.ensures.1 in
-    not_over _ _ _ _ c.self.invariant (λ e. false≢true (other e))
-
-pub walk_noted-walk-requires-clause-levels : goal.walk_noted-walk-requires-clause-levels
-walk_noted-walk-requires-clause-levels g c = walk_levels _ _ _ _ c.self.invariant _ c.deref_mut.ensures.value
-
-pub walk_noted-walk-requires-clause-room : goal.walk_noted-walk-requires-clause-room
-walk_noted-walk-requires-clause-room g c = walk_room _ _ _ _ c.self.invariant _ _ c.deref_mut.ensures.value (omega arith)
+    record {
+      fits = position_fits _ _ _ _ c.self.invariant;
+      goes_on = not_over _ _ _ _ c.self.invariant (λ e. false≢true (other e));
+      levels = walk_levels _ _ _ _ c.self.invariant _ c.deref_mut.ensures.value;
+      room = walk_room _ _ _ _ c.self.invariant _ _ c.deref_mut.ensures.value (omega arith);
+    }
 
 pub invariant_of-self : goal.invariant_of-self
 invariant_of-self g c =

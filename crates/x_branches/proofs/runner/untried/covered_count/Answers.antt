@@ -7,11 +7,8 @@ use Rattle.x_branches.proofs.runner.untried.covered_count.Goals as goal
 pub loop-option-init : goal.loop-option-init
 loop-option-init c = sym (ap (length {A = ℕ}) (covered_by_none _))
 
-pub option-requires-clause-some : goal.option-requires-clause-some
-option-requires-clause-some c = (choice_in _ _ _ c.requires.valid c.loop-option-test.true).some
-
-pub option-requires-clause-within : goal.option-requires-clause-within
-option-requires-clause-within c = (choice_in _ _ _ c.requires.valid c.loop-option-test.true).within
+pub option-requires : goal.option-requires
+option-requires c = let w = choice_in _ _ _ c.requires.valid c.loop-option-test.true in record { some = w.some; within = w.within }
 
 pub overflow_add-count : goal.overflow_add-count
 overflow_add-count c =

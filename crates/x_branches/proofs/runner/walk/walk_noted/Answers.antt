@@ -1,5 +1,4 @@
-use Rattle.std.proofs.Common.{◌≡◌, ◌++◌, ap, sym, ◌∙◌, refl, inr, append-nil}
-use Rattle.x_steps.specs.Steps.{Fits}
+use Rattle.std.proofs.Common.{◌++◌, ap, sym, ◌∙◌, refl, inr, append-nil}
 use Rattle.x_steps.specs.Walk.{visit_told}
 use Rattle.x_branches.specs.Runner.{without_level}
 use Rattle.x_branches.proofs.WalkedLemmas.{not_first, visit_noted, visit_there, path_within, counted_there, walked_back, none_noted}
@@ -16,17 +15,14 @@ unreachable-requires-in_default-back g c =
     let w = c.in-Ok.ensures in
     not_first _ _ _ _ _ _ _ c.requires.fits (record { reaches = w.steps; moves = w.moves; tells = w.event; counted = w.levels }) (c.if-keep_visit.ensures.at_visit refl) (c.in_default-back.ensures.first.0 refl)
 
-pub discount-requires-clause-within : goal.discount-requires-clause-within
-discount-requires-clause-within g c = λ _.
+pub discount-requires : goal.discount-requires
+discount-requires g c =
     let w = c.in-Ok.ensures in
     let here = c.state-2.ensures.state ∙ (rw w.problem at c.in-Ok-back.ensures.state) in
-    path_within _ _ _ _ _ _ _ _ (rw w.problem at c.state.ensures.problem) c.requires.fits (record { reaches = w.steps; moves = w.moves; tells = w.event; counted = w.levels }) (c.if-keep_visit.ensures.at_visit refl) c.requires.levels here
-
-pub discount-requires-clause-some : goal.discount-requires-clause-some
-discount-requires-clause-some g c = λ _.
-    let w = c.in-Ok.ensures in
-    let here = c.state-2.ensures.state ∙ (rw w.problem at c.in-Ok-back.ensures.state) in
-    counted_there _ _ _ _ _ _ _ _ (rw w.problem at c.state.ensures.problem) c.requires.fits (record { reaches = w.steps; moves = w.moves; tells = w.event; counted = w.levels }) (c.if-keep_visit.ensures.at_visit refl) c.requires.levels here
+    record {
+      within = λ _. path_within _ _ _ _ _ _ _ _ (rw w.problem at c.state.ensures.problem) c.requires.fits (record { reaches = w.steps; moves = w.moves; tells = w.event; counted = w.levels }) (c.if-keep_visit.ensures.at_visit refl) c.requires.levels here;
+      some = λ _. counted_there _ _ _ _ _ _ _ _ (rw w.problem at c.state.ensures.problem) c.requires.fits (record { reaches = w.steps; moves = w.moves; tells = w.event; counted = w.levels }) (c.if-keep_visit.ensures.at_visit refl) c.requires.levels here;
+    }
 
 pub returns-clause-walk : goal.returns-clause-walk
 returns-clause-walk g c =

@@ -4,15 +4,10 @@ use Rattle.x_steps.proofs.machine.Machine.chosen.Goals as goal
 pub returns-in_default : goal.returns-in_default
 returns-in_default g c = row_none _ _ c.in_default.ensures
 
-pub options_of-requires-clause-some : goal.options_of-requires-clause-some
-options_of-requires-clause-some g c =
+pub options_of-requires : goal.options_of-requires
+options_of-requires g c =
     let found = chosen_inside _ _ _ _ c.self.view_is c.in-Some.ensures in
-    (chosen_within _ _ _ _ _ c.self.invariant _ found).0
-
-pub options_of-requires-clause-within : goal.options_of-requires-clause-within
-options_of-requires-clause-within g c =
-    let found = chosen_inside _ _ _ _ c.self.view_is c.in-Some.ensures in
-    (chosen_within _ _ _ _ _ c.self.invariant _ found).1
+    let w = chosen_within _ _ _ _ _ c.self.invariant _ found in record { some = w.0; within = w.1 }
 
 pub returns : goal.returns
 returns g c =

@@ -10,11 +10,8 @@ last_covered-requires g c = some_at_X5 _ _ _ _ _ c.self.invariant c.in-X5-defaul
 pub last_covered-requires-in-X7-default : goal.last_covered-requires-in-X7-default
 last_covered-requires-in-X7-default g c = some_last _ _ _ _ _ c.self.invariant c.in-X7-default.is-0
 
-pub option-requires-clause-some : goal.option-requires-clause-some
-option-requires-clause-some g c = (option_at_X6 _ _ _ _ _ c.self.invariant _ c.in-X6-At.is-0 c.in-X6-At.is-1).0
-
-pub option-requires-clause-within : goal.option-requires-clause-within
-option-requires-clause-within g c = (option_at_X6 _ _ _ _ _ c.self.invariant _ c.in-X6-At.is-0 c.in-X6-At.is-1).1
+pub option-requires : goal.option-requires
+option-requires g c = let w = option_at_X6 _ _ _ _ _ c.self.invariant _ c.in-X6-At.is-0 c.in-X6-At.is-1 in record { some = w.0; within = w.1 }
 
 pub overflow_sub-result : goal.overflow_sub-result
 overflow_sub-result g c = (within_X6 _ _ _ _ _ c.self.invariant _ c.in-X6-At.is-0 c.in-X6-At.is-1 _ _ c.option.ensures c.covered-covered.ensures.list).0

@@ -1,19 +1,12 @@
 use Rattle.x_steps.proofs.ResumeLemmas.{took, option_in, down_more, marks_now}
 use Rattle.x_steps.proofs.machine.Machine.descend.Goals as goal
 
-pub option-requires-clause-some : goal.option-requires-clause-some
-option-requires-clause-some g c =
+pub option-requires : goal.option-requires
+option-requires g c =
     let choice = c.is_choice.ensures.0 c.if-not-is_choice.false in
     let at_X2 = took _ _ _ _ _ _ c.open_at.ensures c.take.ensures in
     let within = option_in _ _ _ _ _ _ _ c.self.view_is at_X2 choice in
-    within.0
-
-pub option-requires-clause-within : goal.option-requires-clause-within
-option-requires-clause-within g c =
-    let choice = c.is_choice.ensures.0 c.if-not-is_choice.false in
-    let at_X2 = took _ _ _ _ _ _ c.open_at.ensures c.take.ensures in
-    let within = option_in _ _ _ _ _ _ _ c.self.view_is at_X2 choice in
-    within.1
+    record { some = within.0; within = within.1 }
 
 pub returns-clause-down : goal.returns-clause-down
 returns-clause-down g c =

@@ -1,12 +1,8 @@
-use Rattle.x_steps.proofs.MachineLemmas.{enters, from_label, to_state, label_of, goes}
+use Rattle.x_steps.proofs.MachineLemmas.{enters, goes, kept_at}
 use Rattle.x_steps.proofs.machine.Machine.enter.Goals as goal
 
 pub invariant_of-self : goal.invariant_of-self
-invariant_of-self g c =
-    let at_label = label_of _ _ _ _ c.self.view_is c.requires in
-    rw (c.go.ensures, c.label_entered.ensures) (enters _ _ _ _ _ _ _ c.has_active-open.ensures (from_label _ _ _ _ _ c.self.invariant _ at_label)).keeps
+invariant_of-self g c = rw (c.go.ensures, c.label_entered.ensures) (enters _ _ _ _ _ _ _ c.has_active-open.ensures (kept_at c.self.view_is c.requires c.self.invariant)).keeps
 
 pub returns : goal.returns
-returns g c =
-    let at_label = label_of _ _ _ _ c.self.view_is c.requires in
-    rw (c.go.ensures, c.label_entered.ensures, c.event_entered.ensures) (goes _ _ _ _ _ _ _ _ c.self.view_is (to_state _ _ _ _ _ c.self.invariant _ _ _ _ _ _ at_label (enters _ _ _ _ _ _ _ c.has_active-open.ensures (from_label _ _ _ _ _ c.self.invariant _ at_label))))
+returns g c = rw (c.go.ensures, c.label_entered.ensures, c.event_entered.ensures) (goes c.self.view_is c.requires (enters _ _ _ _ _ _ _ c.has_active-open.ensures (kept_at c.self.view_is c.requires c.self.invariant)))

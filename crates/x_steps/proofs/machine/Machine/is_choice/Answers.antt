@@ -12,20 +12,13 @@ returns-then-not-has_active g c =
     let at_label = down_label _ _ _ _ _ _ c.self.view_is c.requires in
     rw (← c.self.view_is) (active_none _ _ _ _ _ c.self.invariant at_label _ _ c.if-not-has_active.true c.has_active.ensures)
 
-pub option-requires-clause-some : goal.option-requires-clause-some
-option-requires-clause-some g c =
+pub option-requires : goal.option-requires
+option-requires g c =
     let range = c.if-not-has_option.ensures.0 refl in
-    range.0
-
-pub option-requires-clause-within : goal.option-requires-clause-within
-option-requires-clause-within g c =
-    let range = c.if-not-has_option.ensures.0 refl in
-    range.1
+    record { some = range.0; within = range.1 }
 
 pub choose-requires-clause-open : goal.choose-requires-clause-open
-choose-requires-clause-open g c =
-    let at_label = down_label _ _ _ _ _ _ c.self.view_is c.requires in
-    (active_open _ _ _ _ _ c.self.invariant _ c.if-not-has_active.false c.has_active.ensures)
+choose-requires-clause-open g c = active_open _ _ _ _ _ c.self.invariant _ c.if-not-has_active.false c.has_active.ensures
 
 pub is_free-requires : goal.is_free-requires
 is_free-requires g c =

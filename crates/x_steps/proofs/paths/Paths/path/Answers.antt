@@ -15,21 +15,14 @@ index-requires c =
     let r = path_here p.choices.items p.ends.items c.args.self.now c.args.place c.self.invariant c.self.view_is c.requires in
     omega (arith, r.0, p.ends.ok.0)
 
-pub part-requires-clause-order : goal.part-requires-clause-order
-part-requires-clause-order c =
+pub part-requires : goal.part-requires
+part-requires c =
     let p = c.self.inside in
     let r = path_here p.choices.items p.ends.items c.args.self.now c.args.place c.self.invariant c.self.view_is c.requires in
     let s : c.start_of-start.result ≡ start_at 0 p.ends.items c.args.place = c.start_of-start.ensures ∙ ap (λ l. start_at 0 l c.args.place) c.deref.ensures.value in
     let e = c.index.ensures ∙ same_default p.ends.items c.args.place c.index.result.now 0 r.0 in
-    omega (arith, r.1.order, s, e)
-
-pub part-requires-clause-within : goal.part-requires-clause-within
-part-requires-clause-within c =
-    let p = c.self.inside in
-    let r = path_here p.choices.items p.ends.items c.args.self.now c.args.place c.self.invariant c.self.view_is c.requires in
-    let e = c.index.ensures ∙ same_default p.ends.items c.args.place c.index.result.now 0 r.0 in
     let d = ap length c.deref-2.ensures.value in
-    omega (arith, r.1.within, e, d)
+    record { order = omega (arith, r.1.order, s, e); within = omega (arith, r.1.within, e, d) }
 
 pub returns : goal.returns
 returns c =

@@ -1,5 +1,5 @@
 -- The tests on cells say what their names say.
-use Rattle.std.proofs.Common.{◌≡◌, ◌⊎◌, inl, inr, List, [], ◌∷◌, Bool, true, false, ◌&&◌, ◌||◌, nat_le, refl, sym, subst, ◌∙◌, arith, true≢false}
+use Rattle.std.proofs.Common.{◌≡◌, List, Bool, true, false, ◌&&◌, nat_le, refl, sym, subst, ◌∙◌, arith}
 use Rattle.std.specs.List.{list_all}
 use Rattle.std.proofs.lemmas.Bool.{and_parts}
 use Rattle.std.proofs.lemmas.Bool.Decides.{nat_tests}
@@ -9,25 +9,15 @@ use Rattle.poly_cells.specs.Sets.{IsIn, in_order}
 use Rattle.poly_cells.specs.Shapes.{AllInGrid}
 use Rattle.poly_cells.proofs.SetLemmas.{in_order_rises, in_from_order, in_to_order, same_members}
 use Rattle.poly_cells.proofs.CoordinateLemmas.{coordinates_total, coordinates_exact, is_same_Decides}
+use Rattle.poly_cells.proofs.MemberLemmas.{some_passes, passes_some, passes}
 
 -- *members*
 
 pub in_from_has : (cells : List Coordinates) (c : Coordinates) → has_cell cells c ≡ true → IsIn c cells
-in_from_has [] c h = absurd (true≢false (sym h))
-in_from_has (d ∷ cells) c h = by_test (is_same c d) refl h (in_from_has cells c)
-  where
-    by_test : (b : Bool) → is_same c d ≡ b → (b || has_cell cells c) ≡ true → (has_cell cells c ≡ true → IsIn c cells) → (c ≡ d) ⊎ IsIn c cells
-    by_test true e h later = inl ((is_same_Decides c d).0 e)
-    by_test false e h later = inr (later h)
+in_from_has cells c h = let d = some_passes (is_same c) cells h in subst (λ v. IsIn v cells) (sym ((is_same_Decides c d.0).0 d.2)) d.1
 
 pub has_from_in : (cells : List Coordinates) (c : Coordinates) → IsIn c cells → has_cell cells c ≡ true
-has_from_in [] c h = absurd h
-has_from_in (d ∷ cells) c (inl e) = rw ((is_same_Decides c d).1 e) refl
-has_from_in (d ∷ cells) c (inr h) = by_test (is_same c d) (has_from_in cells c h)
-  where
-    by_test : (b : Bool) → has_cell cells c ≡ true → (b || has_cell cells c) ≡ true
-    by_test true h = refl
-    by_test false h = h
+has_from_in cells c i = passes_some (is_same c) c cells i ((is_same_Decides c c).1 refl)
 
 pub is_same_symmetric : (v w : Coordinates) → is_same v w ≡ is_same w v
 is_same_symmetric v w = grind (arith, nat_tests)
@@ -59,7 +49,4 @@ in_grid_from c h =
     record { x_in = grind (arith, nat_tests); y_in = grind (arith, nat_tests); z_in = grind (arith, nat_tests) }
 
 pub all_in_grid_from : (cs : List Coordinates) → list_all is_in_grid cs ≡ true → AllInGrid cs
-all_in_grid_from [] h c i = absurd i
-all_in_grid_from (d ∷ cs) h c i =
-    let p = and_parts (is_in_grid d) (list_all is_in_grid cs) h in
-    elim i [ inl e ↦ subst IsInGrid (sym e) (in_grid_from d p.0) | inr r ↦ all_in_grid_from cs p.1 c r ]
+all_in_grid_from cs h c i = in_grid_from c (passes is_in_grid cs h c i)

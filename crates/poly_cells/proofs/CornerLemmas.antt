@@ -1,11 +1,10 @@
 -- The least corner of a set of cells: how it grows by one cell, and that it is the least.
 use Rattle.std.proofs.Common.{◌≡◌, ℕ, ◌+◌, ◌<◌, ◌≤◌, min, List, [], ◌∷◌, ◌++◌, length, get_or, take, ◌⊎◌, inl, inr, refl, sym, ap, subst, ◌∙◌, arith}
-use Rattle.std.proofs.lemmas.List.{take_more}
 use Rattle.poly_cells.specs.Coordinates.{Coordinates, coordinates, IsInGrid}
 use Rattle.poly_cells.specs.Sets.{IsIn}
 use Rattle.poly_cells.specs.Shapes.{AllInGrid, least, corner}
 use Rattle.poly_cells.proofs.CoordinateLemmas.{same_coordinates}
-use Rattle.poly_cells.proofs.SetLemmas.{in_append_cases}
+use Rattle.poly_cells.proofs.SetLemmas.{in_append_cases, take_next}
 
 -- ---- a loop's step
 
@@ -23,7 +22,7 @@ corner-push vs v x y z h =
 pub corner_more : (vs : List Coordinates) (i : ℕ) (v : Coordinates) (x y z : ℕ) → i < length vs → v ≡ get_or vs i v → coordinates x y z ≡ corner (take i vs)
     → coordinates (min x v.x) (min y v.y) (min z v.z) ≡ corner (take (i + 1) vs)
 corner_more vs i v x y z lt is h =
-    sym (ap corner (take_more vs i v lt ∙ ap (λ (w : Coordinates). take i vs ++ w ∷ []) (sym is)) ∙ corner-push (take i vs) v x y z h)
+    sym (ap corner (take_next vs i v lt is) ∙ corner-push (take i vs) v x y z h)
 
 AllInGrid-push : (vs : List Coordinates) (v : Coordinates) → AllInGrid vs → IsInGrid v → AllInGrid (vs ++ v ∷ [])
 AllInGrid-push vs v all here w i =
@@ -31,7 +30,7 @@ AllInGrid-push vs v all here w i =
 
 pub limits_more : (vs : List Coordinates) (i : ℕ) (v : Coordinates) → i < length vs → v ≡ get_or vs i v → AllInGrid (take i vs) → IsInGrid v → AllInGrid (take (i + 1) vs)
 limits_more vs i v lt is all here =
-    subst AllInGrid (sym (take_more vs i v lt ∙ ap (λ (w : Coordinates). take i vs ++ w ∷ []) (sym is))) (AllInGrid-push (take i vs) v all here)
+    subst AllInGrid (sym (take_next vs i v lt is)) (AllInGrid-push (take i vs) v all here)
 
 -- ---- the corner is below each cell, and each of its coordinates is reached
 

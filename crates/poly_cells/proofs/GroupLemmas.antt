@@ -1,9 +1,8 @@
 -- The symmetries are a group, and the rotations a part of it.
-use Rattle.std.proofs.Common.{◌≡◌, ℕ, zero, suc, ◌+◌, ◌<◌, Bool, true, cond, List, [], ◌∷◌, length, pos, ◌⊎◌, inl, inr, refl, sym, ap, subst, ◌∙◌, slice_index, filter, arith, ltb-true, nat_lt}
+use Rattle.std.proofs.Common.{◌≡◌, ℕ, ◌+◌, ◌<◌, true, length, pos, refl, sym, ap, subst, ◌∙◌, slice_index, arith, ltb-true, nat_lt}
 use Rattle.std.specs.List.{range_with_len}
 use Rattle.std.specs.List.Sorted.{IsStrictlyIncreasing}
 use Rattle.std.proofs.lemmas.Bool.Decides.{Decides-int_eq}
-use Rattle.std.proofs.lemmas.Bool.{cases_Bool}
 use Rattle.poly_cells.specs.Points.{Point}
 use Rattle.poly_cells.specs.Symmetries.{matrix, sent_by, IsComposed, determinant, is_rotation, rotations}
 use Rattle.poly_cells.specs.Products.{composed, inverse_of}
@@ -11,6 +10,7 @@ use Rattle.poly_cells.specs.Sets.{IsIn}
 use Rattle.poly_cells.specs.Laws.{IsGroup, AreRotations}
 use Rattle.poly_cells.proofs.Tables.{all_below, all_at}
 use Rattle.poly_cells.proofs.SymmetryTables.{is_composed, composed_in, neutral, inverse_in, undone_before, undone_behind, probe, faithful, rotation_composed, rotation_inverse}
+use Rattle.poly_cells.proofs.MemberLemmas.{in_from_filter, in_filter, in_from_range, in_to_range}
 
 pub distinct : (a b : ℕ) → a < 48 → b < 48 → ((v : Point) → sent_by a v ≡ sent_by b v) → a ≡ b
 distinct a b la lb h = faithful a b la lb (h probe)
@@ -34,38 +34,6 @@ is_group = record {
 
 -- ---- rotations
 
-in_from_filter : (p : ℕ → Bool) (x : ℕ) (xs : List ℕ) → IsIn x (filter p xs) → IsIn x xs × (p x ≡ true)
-in_from_filter p x [] h = absurd h
-in_from_filter p x (y ∷ ys) h =
-    elim (cases_Bool (p y)) [
-      | inl t ↦ let i : (x ≡ y) ⊎ IsIn x (filter p ys) = subst (λ b. IsIn x (cond b (y ∷ filter p ys) (filter p ys))) t h in
-          elim i [ inl e ↦ (inl e, ap p e ∙ t) | inr r ↦ let rest = in_from_filter p x ys r in (inr rest.0, rest.1) ]
-      | inr f ↦ let rest = in_from_filter p x ys (subst (λ b. IsIn x (cond b (y ∷ filter p ys) (filter p ys))) f h) in (inr rest.0, rest.1)
-    ]
-
-in_to_filter : (p : ℕ → Bool) (x : ℕ) (xs : List ℕ) → IsIn x xs → p x ≡ true → IsIn x (filter p xs)
-in_to_filter p x [] i t = absurd i
-in_to_filter p x (y ∷ ys) i t =
-    elim i [
-      | inl e ↦ subst (λ b. IsIn x (cond b (y ∷ filter p ys) (filter p ys))) (sym (ap p (sym e) ∙ t)) (inl e)
-      | inr r ↦ elim (cases_Bool (p y)) [
-        | inl here ↦ subst (λ b. IsIn x (cond b (y ∷ filter p ys) (filter p ys))) (sym here) (inr (in_to_filter p x ys r t))
-        | inr not ↦ subst (λ b. IsIn x (cond b (y ∷ filter p ys) (filter p ys))) (sym not) (in_to_filter p x ys r t)
-      ]
-    ]
-
-in_from_range : (x a n : ℕ) → IsIn x (range_with_len a n) → x < a + n
-in_from_range x a zero i = absurd i
-in_from_range x a (suc n) i = elim i [ inl e ↦ omega arith | inr r ↦ let h = in_from_range x (a + 1) n r in omega arith ]
-
-in_to_range : (x a n : ℕ) → a + x < a + n → IsIn (a + x) (range_with_len a n)
-in_to_range x a zero h = absurd (omega arith)
-in_to_range zero a (suc n) h = inl (omega arith)
-in_to_range (suc x) a (suc n) h =
-    let there = in_to_range x (a + 1) n (omega arith) in
-    let same : a + 1 + x ≡ a + suc x = omega arith in
-    inr (subst (λ k. IsIn k (range_with_len (a + 1) n)) same there)
-
 pub rotation_from_in : (n : ℕ) → IsIn n rotations → (n < 48) × (is_rotation n ≡ true)
 unfolding rotations
 rotation_from_in n i =
@@ -76,8 +44,7 @@ rotation_from_in n i =
 pub in_from_rotation : (n : ℕ) → n < 48 → is_rotation n ≡ true → IsIn n rotations
 unfolding rotations
 in_from_rotation n lt h =
-    in_to_filter is_rotation n (range_with_len 0 48)
-    (let same : 0 + n ≡ n = omega arith in subst (λ k. IsIn k (range_with_len 0 48)) same (in_to_range n 0 48 (omega arith))) h
+    in_filter is_rotation n (range_with_len 0 48) (in_to_range n 0 48 (omega arith) (omega arith)) h
 
 determinant_from : (n : ℕ) → is_rotation n ≡ true → determinant (matrix n) ≡ pos 1
 unfolding is_rotation

@@ -76,18 +76,12 @@ point_same v w h =
 pub negated : Coordinates → Point
 negated k = point_at (neg_ℤ (pos k.x)) (neg_ℤ (pos k.y)) (neg_ℤ (pos k.z))
 
-back_one : (k c : ℕ) → k ≤ c → pos (c - k) ≡ pos c +ℤ neg_ℤ (pos k)
-back_one k c h = omega (arith, ints)
-
 pub moved_back_point : (k v : Coordinates) → k.x ≤ v.x → k.y ≤ v.y → k.z ≤ v.z → point (moved_back k v) ≡ translated (negated k) (point v)
 unfolding negated
-moved_back_point k v x y z = same_point _ _ _ _ _ _ (back_one k.x v.x x) (back_one k.y v.y y) (back_one k.z v.z z)
-
-sum_assoc : (a b c : ℤ) → (a +ℤ b) +ℤ c ≡ a +ℤ (b +ℤ c)
-sum_assoc a b c = omega (arith, ints)
+moved_back_point k v x y z = same_point _ _ _ _ _ _ (omega (arith, ints)) (omega (arith, ints)) (omega (arith, ints))
 
 pub translated_twice : (d e v : Point) → translated d (translated e v) ≡ translated (translated d e) v
-translated_twice d e v = same_point _ _ _ _ _ _ (sum_assoc v.x e.x d.x) (sum_assoc v.y e.y d.y) (sum_assoc v.z e.z d.z)
+translated_twice d e v = same_point _ _ _ _ _ _ (omega (arith, ints)) (omega (arith, ints)) (omega (arith, ints))
 
 -- ---- the normal form
 
@@ -116,13 +110,10 @@ pub normal_by : (vs : List Coordinates) (some : 0 < length vs) (limits : AllInGr
 unfolding normal_is
 normal_by vs some limits = refl
 
-forth_one : (c d : ℤ) → c +ℤ neg_ℤ d +ℤ d ≡ c
-forth_one c d = omega (arith, ints)
-
 -- a translation back and forth
 pub led_forth : (k : Coordinates) (p : Point) → translated (point k) (translated (negated k) p) ≡ p
 unfolding negated
-led_forth k p = same_point _ _ _ _ _ _ (forth_one p.x (pos k.x)) (forth_one p.y (pos k.y)) (forth_one p.z (pos k.z))
+led_forth k p = same_point _ _ _ _ _ _ (omega (arith, ints)) (omega (arith, ints)) (omega (arith, ints))
 
 -- ---- the turned form
 

@@ -1,8 +1,9 @@
 -- A loop over numbers that keeps those with a property.
-use Rattle.std.proofs.Common.{◌≡◌, ℕ, zero, suc, ◌+◌, ◌<◌, List, [], ◌∷◌, ◌++◌, length, get_or, ◌↔◌, ◌⊎◌, inl, inr, refl, sym, subst, arith, length-append}
+use Rattle.std.proofs.Common.{◌≡◌, ℕ, ◌+◌, ◌<◌, List, [], ◌∷◌, ◌++◌, length, get_or, ◌↔◌, ◌⊎◌, inl, inr, sym, subst, arith, length-append}
 use Rattle.std.specs.List.Sorted.{IsStrictlyIncreasing}
 use Rattle.poly_cells.specs.Sets.{IsIn}
 use Rattle.poly_cells.proofs.SetLemmas.{in_append_cases, in_append_left, in_append_right, in_at}
+use Rattle.std.proofs.lemmas.List.{get_or_append_left, get_or_push}
 
 -- the list has exactly the numbers below n with the property
 abbrev pub AreThose : (ℕ → Type 0) → ℕ → List ℕ → Type 0
@@ -31,16 +32,6 @@ those_same P n xs ys is none so m = (
 
 -- ---- the list rises
 
-at_end : (n k : ℕ) (xs : List ℕ) → k ≡ length xs → get_or (xs ++ n ∷ []) k 0 ≡ n
-at_end n k [] h = subst (λ j. get_or (n ∷ []) j 0 ≡ n) (sym h) refl
-at_end n zero (x ∷ xs) h = absurd (omega arith)
-at_end n (suc k) (x ∷ xs) h = at_end n k xs (omega arith)
-
-before_end : (n k : ℕ) (xs : List ℕ) → k < length xs → get_or (xs ++ n ∷ []) k 0 ≡ get_or xs k 0
-before_end n k [] h = absurd (omega arith)
-before_end n zero (x ∷ xs) h = refl
-before_end n (suc k) (x ∷ xs) h = before_end n k xs (omega arith)
-
 within_or_end : (k : ℕ) (xs : List ℕ) (n : ℕ) → k + 1 < length (xs ++ n ∷ []) → (k + 1 < length xs) ⊎ (k + 1 ≡ length xs)
 within_or_end k xs n h = let e = length-append xs (n ∷ []) in grind arith
 
@@ -49,14 +40,14 @@ rises_more n xs ys is below up k h =
     subst (λ (zs : List ℕ). get_or zs k 0 < get_or zs (k + 1) 0) (sym is)
     (elim (within_or_end k xs n (subst (λ (zs : List ℕ). k + 1 < length zs) is h)) [
       | inl lt ↦
-          let a = before_end n k xs (omega arith) in
-          let b = before_end n (k + 1) xs lt in
+          let a = get_or_append_left xs (n ∷ []) 0 k (omega arith) in
+          let b = get_or_append_left xs (n ∷ []) 0 (k + 1) lt in
           let u = up k lt in
           omega arith
       | inr e ↦
           let within : k < length xs = omega arith in
-          let a = before_end n k xs within in
-          let b = at_end n (k + 1) xs e in
+          let a = get_or_append_left xs (n ∷ []) 0 k within in
+          let b = get_or_push xs n 0 (k + 1) (sym e) in
           let u = below (get_or xs k 0) (in_at xs k 0 within) in
           omega arith
     ])

@@ -15,7 +15,6 @@ pub mod GroupLemmas
 pub mod TranslateLemmas
 pub mod KeptLemmas
 pub mod NumberLemmas
-pub mod TurnLemmas
 pub mod CoordinateExamples
 pub mod CellTestExamples
 pub mod CellWordExamples

@@ -19,15 +19,12 @@ use Rattle.poly_cells.proofs.ShapeLemmas.{normal_is_shape, turned_is_shape}
 abbrev apart : Point → Point → Point
 apart d e = point_at (d.x -ℤ e.x) (d.y -ℤ e.y) (d.z -ℤ e.z)
 
-back_one : (p m q d e : ℤ) → q ≡ p +ℤ e → q ≡ m +ℤ d → p ≡ m +ℤ (d -ℤ e)
-back_one p m q d e a b = omega (arith, ints)
-
 led_back : (p m q d e : Point) → q ≡ translated e p → q ≡ translated d m → p ≡ translated (apart d e) m
 led_back p m q d e a b =
     same_point _ _ _ _ _ _
-    (back_one p.x m.x q.x d.x e.x (ap (λ (u : Point). u.x) a) (ap (λ (u : Point). u.x) b))
-    (back_one p.y m.y q.y d.y e.y (ap (λ (u : Point). u.y) a) (ap (λ (u : Point). u.y) b))
-    (back_one p.z m.z q.z d.z e.z (ap (λ (u : Point). u.z) a) (ap (λ (u : Point). u.z) b))
+    (omega (arith, ints, ap (λ (u : Point). u.x) a, ap (λ (u : Point). u.x) b))
+    (omega (arith, ints, ap (λ (u : Point). u.y) a, ap (λ (u : Point). u.y) b))
+    (omega (arith, ints, ap (λ (u : Point). u.z) a, ap (λ (u : Point). u.z) b))
 
 pub symmetry_from_forms : (n : ℕ) (vs : List Coordinates) → IsShape vs → turned n vs ≡ normal vs → HasSymmetry n vs
 symmetry_from_forms n vs s same =
@@ -52,15 +49,8 @@ symmetry_from_forms n vs s same =
 abbrev pub across : Point → Point → Point → Point
 across b d e = point_at (d.x +ℤ e.x -ℤ b.x) (d.y +ℤ e.y -ℤ b.y) (d.z +ℤ e.z -ℤ b.z)
 
-across_one : (t m r u b d e : ℤ) → t ≡ m +ℤ b → r ≡ m +ℤ d → u ≡ r +ℤ e → u ≡ t +ℤ (d +ℤ e -ℤ b)
-across_one t m r u b d e p q s = omega (arith, ints)
-
 pub led_across : (t m r u b d e : Point) → t ≡ translated b m → r ≡ translated d m → u ≡ translated e r → u ≡ translated (across b d e) t
-led_across t m r u b d e p q s =
-    same_point _ _ _ _ _ _
-    (across_one t.x m.x r.x u.x b.x d.x e.x (ap (λ (v : Point). v.x) p) (ap (λ (v : Point). v.x) q) (ap (λ (v : Point). v.x) s))
-    (across_one t.y m.y r.y u.y b.y d.y e.y (ap (λ (v : Point). v.y) p) (ap (λ (v : Point). v.y) q) (ap (λ (v : Point). v.y) s))
-    (across_one t.z m.z r.z u.z b.z d.z e.z (ap (λ (v : Point). v.z) p) (ap (λ (v : Point). v.z) q) (ap (λ (v : Point). v.z) s))
+led_across t m r u b d e p q s = rw (s, q, p) (same_point _ _ _ _ _ _ (omega (arith, ints)) (omega (arith, ints)) (omega (arith, ints)))
 
 no_shift : (a a' b b' : ℕ) (e : ℤ) → pos a' ≡ pos a +ℤ e → a ≡ 0 → pos b ≡ pos b' +ℤ e → b ≡ 0 → e ≡ pos 0
 no_shift a a' b b' e p q r s = omega (arith, ints)

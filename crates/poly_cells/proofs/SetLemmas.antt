@@ -1,11 +1,13 @@
 -- Sets in order: a list put in order rises and has the same members, and two rising lists with the same members are equal.
-use Rattle.std.proofs.Common.{◌≡◌, ℕ, zero, suc, ◌<◌, List, [], ◌∷◌, ◌++◌, map, length, get_or, ◌⊎◌, inl, inr, refl, sym, ap, subst, ◌∙◌, Ordering, Less, Equal, Greater, arith, Contains}
+use Rattle.std.proofs.Common.{◌≡◌, ℕ, zero, suc, ◌<◌, List, [], ◌∷◌, ◌++◌, map, length, get_or, ◌⊎◌, inl, inr, refl, sym, ap, subst, ◌∙◌, Ordering, Less, Equal, Greater, arith, Contains, take, ◌+◌}
 use Rattle.std.specs.Cmp.{IsTotalOrder}
 use Rattle.std.specs.Ordering.{ordering_reverse}
 use Rattle.std.specs.List.{AllByRecursion}
 use Rattle.std.specs.List.Sorted.{IsStrictlySortedBy}
 use Rattle.std.proofs.lemmas.Cmp.{tied_itself}
 use Rattle.poly_cells.specs.Sets.{IsIn, by_order, insert_in, in_order, IsExact}
+use Rattle.std.proofs.lemmas.List.Elements.{All-contains, All-from_recursion, recursion_from_All}
+use Rattle.std.proofs.lemmas.List.{take_more}
 
 -- ---- members
 
@@ -36,6 +38,10 @@ in_at [] k d h = absurd (omega arith)
 in_at (y ∷ ys) zero d h = inl refl
 in_at (y ∷ ys) (suc k) d h = inr (in_at ys k d (omega arith))
 
+-- the items so far of a loop, with one more
+pub take_next : {K : Type 0} (xs : List K) (k : ℕ) (x : K) → k < length xs → x ≡ get_or xs k x → take (k + 1) xs ≡ take k xs ++ x ∷ []
+take_next xs k x lt is = take_more xs k x lt ∙ ap (λ y. take k xs ++ y ∷ []) (sym is)
+
 pub in_from_contains : {K : Type 0} (xs : List K) (x : K) → Contains xs x → IsIn x xs
 in_from_contains xs x h = subst (λ y. IsIn y xs) h.2 (in_at xs h.0 x h.1)
 
@@ -48,12 +54,10 @@ contains_from_in (y ∷ ys) x h =
     ]
 
 pub all_in : {K : Type 0} (P : K → Type 0) (xs : List K) → AllByRecursion P xs → (x : K) → IsIn x xs → P x
-all_in P [] h x i = absurd i
-all_in P (y ∷ ys) h x i = elim i [ inl e ↦ subst P (sym e) h.0 | inr r ↦ all_in P ys h.1 x r ]
+all_in P xs h x i = All-contains P xs x (All-from_recursion P xs h) (contains_from_in xs x i)
 
 pub all_from_in : {K : Type 0} (P : K → Type 0) (xs : List K) → ((x : K) → IsIn x xs → P x) → AllByRecursion P xs
-all_from_in P [] h = tt
-all_from_in P (y ∷ ys) h = (h y (inl refl), all_from_in P ys (λ x i. h x (inr i)))
+all_from_in P xs h = recursion_from_All P xs (λ k d lt. h (get_or xs k d) (in_at xs k d lt))
 
 -- ---- the order
 
@@ -99,23 +103,17 @@ rising_map {K} {J} f R S (x ∷ xs) keeps h =
 
 -- ---- an insertion in order
 
-insert_less : {K : Type 0} (R : K → K → Ordering) (x y : K) (ys : List K) → R x y ≡ Less → insert_in R x (y ∷ ys) ≡ x ∷ y ∷ ys
-insert_less R x y ys e = ap (λ o. by_order o (x ∷ y ∷ ys) (y ∷ ys) (y ∷ insert_in R x ys)) e
-
-insert_equal : {K : Type 0} (R : K → K → Ordering) (x y : K) (ys : List K) → R x y ≡ Equal → insert_in R x (y ∷ ys) ≡ y ∷ ys
-insert_equal R x y ys e = ap (λ o. by_order o (x ∷ y ∷ ys) (y ∷ ys) (y ∷ insert_in R x ys)) e
-
-insert_greater : {K : Type 0} (R : K → K → Ordering) (x y : K) (ys : List K) → R x y ≡ Greater → insert_in R x (y ∷ ys) ≡ y ∷ insert_in R x ys
-insert_greater R x y ys e = ap (λ o. by_order o (x ∷ y ∷ ys) (y ∷ ys) (y ∷ insert_in R x ys)) e
+insert_by : {K : Type 0} (R : K → K → Ordering) (x y : K) (ys : List K) (o : Ordering) → R x y ≡ o → insert_in R x (y ∷ ys) ≡ by_order o (x ∷ y ∷ ys) (y ∷ ys) (y ∷ insert_in R x ys)
+insert_by R x y ys o e = ap (λ p. by_order p (x ∷ y ∷ ys) (y ∷ ys) (y ∷ insert_in R x ys)) e
 
 in_from_insert : {K : Type 0} (R : K → K → Ordering) (x a : K) (xs : List K) → IsIn x (insert_in R a xs) → (x ≡ a) ⊎ IsIn x xs
 in_from_insert R x a [] h = h
 in_from_insert R x a (y ∷ ys) h =
     elim (cases_order (R a y)) [
-      | inl e ↦ subst (IsIn x) (insert_less R a y ys e) h
+      | inl e ↦ subst (IsIn x) (insert_by R a y ys Less e) h
       | inr other ↦ elim other [
-        | inl e ↦ inr (subst (IsIn x) (insert_equal R a y ys e) h)
-        | inr e ↦ let moved : (x ≡ y) ⊎ IsIn x (insert_in R a ys) = subst (IsIn x) (insert_greater R a y ys e) h in
+        | inl e ↦ inr (subst (IsIn x) (insert_by R a y ys Equal e) h)
+        | inr e ↦ let moved : (x ≡ y) ⊎ IsIn x (insert_in R a ys) = subst (IsIn x) (insert_by R a y ys Greater e) h in
             elim moved [ inl p ↦ inr (inl p) | inr q ↦ elim (in_from_insert R x a ys q) [ inl p ↦ inl p | inr r ↦ inr (inr r) ] ]
       ]
     ]
@@ -124,10 +122,10 @@ in_to_insert : {K : Type 0} {R : K → K → Ordering} → IsExact R → (x a : 
 in_to_insert exact x a [] h = h
 in_to_insert {K} {R} exact x a (y ∷ ys) h =
     elim (cases_order (R a y)) [
-      | inl e ↦ subst (IsIn x) (sym (insert_less R a y ys e)) h
+      | inl e ↦ subst (IsIn x) (sym (insert_by R a y ys Less e)) h
       | inr other ↦ elim other [
-        | inl e ↦ subst (IsIn x) (sym (insert_equal R a y ys e)) (elim h [ inl p ↦ inl (p ∙ exact a y e) | inr q ↦ q ])
-        | inr e ↦ subst (IsIn x) (sym (insert_greater R a y ys e))
+        | inl e ↦ subst (IsIn x) (sym (insert_by R a y ys Equal e)) (elim h [ inl p ↦ inl (p ∙ exact a y e) | inr q ↦ q ])
+        | inr e ↦ subst (IsIn x) (sym (insert_by R a y ys Greater e))
             (elim h [ inl p ↦ inr (in_to_insert exact x a ys (inl p)) | inr q ↦ elim q [ inl p ↦ inl p | inr r ↦ inr (in_to_insert exact x a ys (inr r)) ] ])
       ]
     ]
@@ -136,11 +134,11 @@ insert_rises : {K : Type 0} {R : K → K → Ordering} → IsTotalOrder R → (a
 insert_rises {K} {R} o a [] h = rising_cons R a [] (λ y i. absurd i) h
 insert_rises {K} {R} o a (y ∷ ys) h =
     elim (cases_order (R a y)) [
-      | inl e ↦ subst (IsStrictlySortedBy R) (sym (insert_less R a y ys e))
+      | inl e ↦ subst (IsStrictlySortedBy R) (sym (insert_by R a y ys Less e))
           (rising_cons R a (y ∷ ys) (λ z i. elim i [ inl p ↦ subst (λ (w : K). R a w ≡ Less) (sym p) e | inr q ↦ o.trans a y z e (rising_head R y ys h z q) ]) h)
       | inr other ↦ elim other [
-        | inl e ↦ subst (IsStrictlySortedBy R) (sym (insert_equal R a y ys e)) h
-        | inr e ↦ subst (IsStrictlySortedBy R) (sym (insert_greater R a y ys e))
+        | inl e ↦ subst (IsStrictlySortedBy R) (sym (insert_by R a y ys Equal e)) h
+        | inr e ↦ subst (IsStrictlySortedBy R) (sym (insert_by R a y ys Greater e))
             (rising_cons R y (insert_in R a ys)
             (λ z i. elim (in_from_insert R z a ys i) [ inl p ↦ subst (λ (w : K). R y w ≡ Less) (sym p) (turned_back o a y e) | inr q ↦ rising_head R y ys h z q ])
             (insert_rises o a ys (rising_tail R y ys h)))

@@ -1,6 +1,6 @@
 -- What is computed once for all 48 symmetries: their products, inverses and numbers, and which of them are rotations.
 use Rattle.std.proofs.Common.{◌≡◌, ℕ, ◌+◌, ◌-◌, ◌*◌, ◌/◌, ◌%◌, ◌<◌, Bool, true, false, not, ◌&&◌, ◌||◌, ◌==◌, nat_lt, pos, nat_abs, int_lt, refl, sym, ap, ap₂, subst, ◌∙◌, slice_index, eqb-true, ltb-true}
-use Rattle.std.proofs.lemmas.Bool.{and_parts}
+use Rattle.std.proofs.lemmas.Bool.{and_parts, not_from_true}
 use mathlib.Core.Bool.{beq}
 use Rattle.poly_cells.specs.Points.{Point, point_at}
 use Rattle.poly_cells.specs.Symmetries.{Matrix, matrix, sent, sent_by, IsComposed, is_rotation, rotations, permutation}
@@ -109,15 +109,8 @@ all_closed : all_below 48 (λ a. all_below 48 (λ b. beq (is_rotation (composed 
 unfolding matrix composed is_rotation
 all_closed = refl
 
-all_three : (x a b : Bool) → a ≡ true → b ≡ true → beq x (beq a b) ≡ true → x ≡ true
-all_three true a b p q h = refl
-all_three false true true p q h = h
-all_three false true false p q h = q
-all_three false false b p q h = p
-
 pub rotation_composed : (a b : ℕ) → a < 48 → b < 48 → is_rotation a ≡ true → is_rotation b ≡ true → is_rotation (composed a b) ≡ true
-rotation_composed a b la lb ra rb =
-    all_three _ _ _ ra rb (pairs 48 (λ a b. beq (is_rotation (composed a b)) (beq (is_rotation a) (is_rotation b))) all_closed a b la lb)
+rotation_composed a b la lb ra rb = same_bools _ _ (pairs 48 (λ a b. beq (is_rotation (composed a b)) (beq (is_rotation a) (is_rotation b))) all_closed a b la lb) ∙ ap₂ beq ra rb
 
 all_undone : all_below 48 (λ a. beq (is_rotation (inverse_of a)) (is_rotation a)) ≡ true
 unfolding matrix inverse_of is_rotation
@@ -126,26 +119,22 @@ all_undone = refl
 pub rotation_inverse : (a : ℕ) → a < 48 → is_rotation a ≡ true → is_rotation (inverse_of a) ≡ true
 rotation_inverse a la ra = same_bools _ _ (all_at 48 (λ a. beq (is_rotation (inverse_of a)) (is_rotation a)) all_undone a la) ∙ ra
 
+other : (a b : Bool) → a ≡ false → (a || b) ≡ true → b ≡ true
+other true b p h = cc
+other false b p h = h
+
 -- rotation n / 2 is n, where n is a rotation
 all_placed : all_below 48 (λ n. not (is_rotation n) || (slice_index rotations (n / 2) == n)) ≡ true
 unfolding matrix is_rotation rotations
 all_placed = refl
 
-second : (a b : Bool) → a ≡ true → (not a || b) ≡ true → b ≡ true
-second true b p h = h
-second false b p h = cc
-
 pub rotation_at_half : (n : ℕ) → n < 48 → is_rotation n ≡ true → slice_index rotations (n / 2) ≡ n
-rotation_at_half n ln r = eqb-true _ _ (second _ _ r (all_at 48 (λ n. not (is_rotation n) || (slice_index rotations (n / 2) == n)) all_placed n ln))
+rotation_at_half n ln r = eqb-true _ _ (other _ _ (not_from_true _ r) (all_at 48 (λ n. not (is_rotation n) || (slice_index rotations (n / 2) == n)) all_placed n ln))
 
 -- one of each pair of numbers is a rotation
 all_pairs : all_below 24 (λ r. is_rotation (2 * r) || is_rotation (2 * r + 1)) ≡ true
 unfolding matrix is_rotation
 all_pairs = refl
-
-other : (a b : Bool) → a ≡ false → (a || b) ≡ true → b ≡ true
-other true b p h = cc
-other false b p h = h
 
 pub odd_rotation : (r : ℕ) → r < 24 → is_rotation (2 * r) ≡ false → is_rotation (2 * r + 1) ≡ true
 odd_rotation r lr f = other _ _ f (all_at 24 (λ r. is_rotation (2 * r) || is_rotation (2 * r + 1)) all_pairs r lr)
@@ -161,10 +150,6 @@ all_parities = refl
 pub parity_is : (n : ℕ) (m : Matrix) (odd : Bool) → n < 48 → odd ≡ is_odd (n / 8) → m ≡ matrix n → parity odd m ≡ is_rotation n
 parity_is n m odd ln e is =
     ap₂ parity e is ∙ same_bools _ _ (all_at 48 (λ n. beq (parity (is_odd (n / 8)) (matrix n)) (is_rotation n)) all_parities n ln)
-
-all_turned : all_below 24 (λ r. nat_lt (slice_index rotations r) 48 && is_rotation (slice_index rotations r)) ≡ true
-unfolding matrix is_rotation rotations
-all_turned = refl
 
 -- ---- the matrix of a number, by the permutation's number
 

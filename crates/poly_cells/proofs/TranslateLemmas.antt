@@ -1,7 +1,7 @@
 -- Cells translated by integers: a loop's steps, and that the translated cells rise and are exactly the translates.
 use Rattle.std.proofs.Common.{◌≡◌, ◌≢◌, ℕ, ◌+◌, ◌<◌, Bool, true, false, not, List, [], ◌∷◌, ◌++◌, map, length, get_or, take, ℤ, pos, ◌+ℤ◌, inl, inr, refl, sym, ap, ap₂, subst, ◌∙◌, arith, Option, Some, None, IfSome, IfNone, is_some, nat_cmp, to_z, of_z, SFits, w32}
 use Rattle.std.proofs.lemmas.Int.{ints, to_z-of_z}
-use Rattle.std.proofs.lemmas.List.{take_more, map-append}
+use Rattle.std.proofs.lemmas.List.{map-append}
 use Rattle.std.proofs.lemmas.Bool.{cases_order}
 use Rattle.std.proofs.lemmas.Bool.Decides.{nat_tests}
 use Rattle.std.specs.Ordering.{ordering_then}
@@ -11,7 +11,7 @@ use Rattle.poly_cells.specs.Points.{Point, point_at, point, translated}
 use Rattle.poly_cells.specs.Sets.{IsIn}
 use Rattle.poly_cells.specs.Images.{StaysInside, IsTranslate, translates}
 use Rattle.poly_cells.proofs.MatrixLemmas.{same_point}
-use Rattle.poly_cells.proofs.SetLemmas.{in_append_cases, in_at, in_map, in_from_map, rising_cons, rising_head, rising_tail, rising_none}
+use Rattle.poly_cells.proofs.SetLemmas.{in_append_cases, in_at, in_map, in_from_map, rising_cons, rising_head, rising_tail, rising_none, take_next}
 
 -- the numbers of a signed type that are passed on are the numbers themselves
 pub same_translation : (x y z : ℤ) → SFits w32 x → SFits w32 y → SFits w32 z
@@ -38,7 +38,7 @@ stay_one d vs v all here u i =
 pub stay_more : (d : Point) (vs : List Coordinates) (i : ℕ) (v : Coordinates) (o : Option Coordinates) (none : Bool) → i < length vs → v ≡ get_or vs i v → is_some o ≡ not none → none ≡ false
     → IfSome o (λ w. IsInGrid w × (point w ≡ translated d (point v))) → StaysInside d (take i vs) → StaysInside d (take (i + 1) vs)
 stay_more d vs i v o none lt is t f h all =
-    subst (StaysInside d) (sym (take_more vs i v lt ∙ ap (λ (u : Coordinates). take i vs ++ u ∷ []) (sym is)))
+    subst (StaysInside d) (sym (take_next vs i v lt is))
     (stay_one d (take i vs) v all (inside_from o d v (t ∙ ap not f) h))
 
 pub one_leaves : (d e : Point) (vs : List Coordinates) (i : ℕ) (v : Coordinates) (o : Option Coordinates) (none : Bool) → i < length vs → v ≡ get_or vs i v → is_some o ≡ not none → none ≡ true
@@ -60,7 +60,7 @@ pub translates_more : (d : Point) (vs : List Coordinates) (i : ℕ) (v w : Coord
 translates_more d vs i v w o ws us lt is at h grown so =
     let here = subst (λ (p : Option Coordinates). IfSome p (λ w. IsInGrid w × (point w ≡ translated d (point v)))) at h in
     ap (map point) grown ∙ map-append point ws (w ∷ []) ∙ ap₂ (λ (a b : List Point). a ++ b) so (ap (λ (p : Point). p ∷ []) here.1)
-    ∙ sym (ap (translates d) (take_more vs i v lt ∙ ap (λ (u : Coordinates). take i vs ++ u ∷ []) (sym is)) ∙ map-append (λ (u : Coordinates). translated d (point u)) (take i vs) (v ∷ []))
+    ∙ sym (ap (translates d) (take_next vs i v lt is) ∙ map-append (λ (u : Coordinates). translated d (point u)) (take i vs) (v ∷ []))
 
 -- ---- translated cells rise
 
@@ -80,9 +80,6 @@ coordinates_cmp_along d v w a b p q =
     (ap₂ ordering_then (cmp_along a.y b.y v.y w.y d.y (ap (λ (u : Point). u.y) p) (ap (λ (u : Point). u.y) q))
     (cmp_along a.z b.z v.z w.z d.z (ap (λ (u : Point). u.z) p) (ap (λ (u : Point). u.z) q)))
 
-heads : (a b : Point) (ps qs : List Point) → a ∷ ps ≡ b ∷ qs → (a ≡ b) × (ps ≡ qs)
-heads a b ps qs h = ((cc), (cc))
-
 pub onto_translates : (d : Point) (vs ws : List Coordinates) → map point ws ≡ translates d vs → (w : Coordinates) → IsIn w ws → (v : Coordinates) × IsIn v vs × (point w ≡ translated d (point v))
 onto_translates d vs ws h w i = in_from_map (λ (v : Coordinates). translated d (point v)) (point w) vs (subst (IsIn (point w)) h (in_map point w ws i))
 
@@ -98,8 +95,9 @@ pub translates_rise : (d : Point) (vs ws : List Coordinates) → map point ws �
 translates_rise d vs [] h up = rising_none coordinates_cmp
 translates_rise d [] (w ∷ ws) h up = cc
 translates_rise d (v ∷ vs) (w ∷ ws) h up =
-    let both = heads (point w) (translated d (point v)) (map point ws) (translates d vs) h in
+    let first : point w ≡ translated d (point v) = cc in
+    let rest : map point ws ≡ translates d vs = cc in
     rising_cons coordinates_cmp w ws
-    (λ u i. let from = onto_translates d vs ws both.1 u i in
-    sym (coordinates_cmp_along d v from.0 w u both.0 from.2) ∙ rising_head coordinates_cmp v vs up from.0 from.1)
-    (translates_rise d vs ws both.1 (rising_tail coordinates_cmp v vs up))
+    (λ u i. let from = onto_translates d vs ws rest u i in
+    sym (coordinates_cmp_along d v from.0 w u first from.2) ∙ rising_head coordinates_cmp v vs up from.0 from.1)
+    (translates_rise d vs ws rest (rising_tail coordinates_cmp v vs up))

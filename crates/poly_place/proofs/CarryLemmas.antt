@@ -1,5 +1,5 @@
 -- Where the symmetries of a region bring its cells: they are a group of maps of the region onto itself.
-use Rattle.std.proofs.Common.{◌≡◌, ℕ, ◌<◌, Bool, true, false, cond, ◌==◌, List, [], ◌∷◌, map, ℤ, pos, neg_ℤ, ◌+ℤ◌, inl, inr, refl, sym, ap, subst, ◌∙◌, arith}
+use Rattle.std.proofs.Common.{◌≡◌, ℕ, ◌<◌, Bool, true, false, cond, ◌==◌, List, map, ℤ, pos, neg_ℤ, ◌+ℤ◌, refl, sym, ap, subst, ◌∙◌, arith}
 use Rattle.std.proofs.lemmas.Int.{ints}
 use Rattle.poly_cells.specs.Coordinates.{Coordinates, IsInGrid}
 use Rattle.poly_cells.specs.Points.{Point, point_at, point, translated}
@@ -7,7 +7,7 @@ use Rattle.poly_cells.specs.Symmetries.{pick, Matrix, matrix, signed, sent, sent
 use Rattle.poly_cells.specs.Products.{composed, inverse_of}
 use Rattle.poly_cells.specs.Turns.{turn}
 use Rattle.poly_cells.specs.Sets.{IsIn}
-use Rattle.poly_cells.specs.Shapes.{AllInGrid, IsShape, corner, moved, moved_back, normal}
+use Rattle.poly_cells.specs.Shapes.{AllInGrid, IsShape, corner, moved_back, normal}
 use Rattle.poly_cells.specs.Images.{IsImage, IsTranslate, HasSymmetry}
 use Rattle.poly_cells.proofs.MatrixLemmas.{same_point}
 use Rattle.poly_cells.proofs.SetLemmas.{in_map, in_from_map}
@@ -21,6 +21,9 @@ use Rattle.poly_place.specs.declared.alike.Group.TheVariants.{Rotations, Symmetr
 use Rattle.poly_place.specs.Classes.{is_member}
 use Rattle.poly_place.specs.ClassCount.{image_in}
 use Rattle.poly_place.specs.Forms.{IsKept}
+use Rattle.poly_place.proofs.MoveLemmas.{moved_point}
+use Rattle.poly_cells.proofs.MemberLemmas.{same_at, same_map}
+use mathlib.Core.List.{map-map}
 
 -- ---- a symmetry sends sums to sums
 
@@ -52,11 +55,8 @@ one_after a b c is d e p =
 abbrev minus : Point → Point
 minus d = point_at (neg_ℤ d.x) (neg_ℤ d.y) (neg_ℤ d.z)
 
-back_one : (c d : ℤ) → c +ℤ d +ℤ neg_ℤ d ≡ c
-back_one c d = omega (arith, ints)
-
 taken_back : (d p : Point) → translated (minus d) (translated d p) ≡ p
-taken_back d p = same_point _ _ _ _ _ _ (back_one p.x d.x) (back_one p.y d.y) (back_one p.z d.z)
+taken_back d p = same_point _ _ _ _ _ _ (omega (arith, ints)) (omega (arith, ints)) (omega (arith, ints))
 
 undone : (n c : ℕ) → IsComposed c n 0 → (d p : Point) → translated (sent_by c (minus d)) (sent_by c (translated d (sent_by n p))) ≡ p
 undone n c is d p =
@@ -86,12 +86,9 @@ image_undone n c d vs is image = record {
 nothing : Point
 nothing = point_at (pos 0) (pos 0) (pos 0)
 
-stays_one : (c : ℤ) → c +ℤ pos 0 ≡ c
-stays_one c = omega (arith, ints)
-
 at_rest_there : (p : Point) → translated nothing (sent_by 0 p) ≡ p
 unfolding nothing
-at_rest_there p = ap (translated nothing) (neutral p) ∙ same_point _ _ _ _ _ _ (stays_one p.x) (stays_one p.y) (stays_one p.z)
+at_rest_there p = ap (translated nothing) (neutral p) ∙ same_point _ _ _ _ _ _ (omega (arith, ints)) (omega (arith, ints)) (omega (arith, ints))
 
 image_neutral : (vs : List Coordinates) → IsImage 0 nothing vs vs
 image_neutral vs = record {
@@ -100,9 +97,6 @@ image_neutral vs = record {
 }
 
 -- ---- where a symmetry of the region brings a cell
-
-moved_point : (d v : Coordinates) → point (moved d v) ≡ translated (point d) (point v)
-moved_point d v = same_point _ _ _ _ _ _ (omega (arith, ints)) (omega (arith, ints)) (omega (arith, ints))
 
 turned_in : (n : ℕ) (vs : List Coordinates) → AllInGrid vs → AllInGrid (map (turn n) vs)
 turned_in n vs limits w i = let v = in_from_map (turn n) w vs i in subst IsInGrid (sym v.2) (turn_in n v.0 (limits v.0 v.1))
@@ -169,20 +163,10 @@ image_stays vs n s h v i =
 -- ---- maps over two lists
 
 pub maps_at : {X Y Z : Type 0} (a : Y → Z) (f : X → Y) (b : X → Z) (xs : List X) → map a (map f xs) ≡ map b xs → (x : X) → IsIn x xs → a (f x) ≡ b x
-maps_at a f b [] h x i = absurd i
-maps_at {X} {Y} {Z} a f b (y ∷ ys) h x i =
-    let parts = head_and_rest (a (f y)) (b y) (map a (map f ys)) (map b ys) h in
-    elim i [ inl e ↦ subst (λ (z : X). a (f z) ≡ b z) (sym e) parts.0 | inr r ↦ maps_at a f b ys parts.1 x r ]
-  where
-    head_and_rest : (m n : Z) (ms ns : List Z) → m ∷ ms ≡ n ∷ ns → (m ≡ n) × (ms ≡ ns)
-    head_and_rest m n ms ns e = (cc, cc)
+maps_at a f b xs h = same_at (λ x. a (f x)) b xs (sym (map-map a f xs) ∙ h)
 
 pub maps_are : {X Y Z : Type 0} (a : Y → Z) (f : X → Y) (b : X → Z) (xs : List X) → ((x : X) → IsIn x xs → a (f x) ≡ b x) → map a (map f xs) ≡ map b xs
-maps_are a f b [] h = refl
-maps_are {X} {Y} {Z} a f b (y ∷ ys) h = joined (h y (inl refl)) (maps_are a f b ys (λ x i. h x (inr i)))
-  where
-    joined : a (f y) ≡ b y → map a (map f ys) ≡ map b ys → a (f y) ∷ map a (map f ys) ≡ b y ∷ map b ys
-    joined p q = cc
+maps_are a f b xs h = map-map a f xs ∙ same_map (λ x. a (f x)) b xs h
 
 -- ---- the symmetries that count are a group
 

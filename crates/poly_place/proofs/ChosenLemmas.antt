@@ -13,8 +13,9 @@ use Rattle.cover_problem.specs.Lists.{has}
 use Rattle.cover_problem.specs.ExactCover.{IsExactCover}
 use Rattle.poly_place.specs.Packings.{ChoiceValue, IsPacking, StandsFor, choices, choice_at, packing_problem}
 use Rattle.poly_place.specs.Chosen.{same_choice, is_among, AreNumbered, chosen_by}
-use Rattle.poly_place.proofs.DistinctLemmas.{some_passes, passes_some, in_from_name, name_from_in}
+use Rattle.poly_place.proofs.DistinctLemmas.{in_from_name, name_from_in}
 use Rattle.poly_place.proofs.PackingLemmas.{same_choice_is, same_choice_itself, count_back, are_packings}
+use Rattle.poly_cells.proofs.MemberLemmas.{some_passes, passes_some}
 
 pub nat_exact : IsExact nat_cmp
 nat_exact m n h = exact_unsigned m n h

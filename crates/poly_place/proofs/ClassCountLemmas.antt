@@ -1,17 +1,16 @@
 -- The test of two packings tells whether they are alike, and the number of classes is how many are like none before them.
-use Rattle.std.proofs.Common.{◌≡◌, ℕ, ◌+◌, ◌<◌, Bool, true, false, ◌&&◌, cond, List, [], ◌∷◌, ◌++◌, ◌⊎◌, map, inl, inr, refl, sym, ap, subst, ◌∙◌, get_or, None, arith}
+use Rattle.std.proofs.Common.{◌≡◌, ℕ, ◌+◌, ◌<◌, Bool, true, false, ◌&&◌, cond, List, [], ◌∷◌, ◌++◌, ◌⊎◌, map, inl, inr, refl, sym, ap, subst, ◌∙◌, None, arith}
 use Rattle.std.specs.List.{list_any, range_with_len, slice_get}
 use Rattle.std.specs.Cmp.{Equal-is, booleans_Decides}
 use Rattle.std.proofs.Math.Bool.{beq}
-use Rattle.std.proofs.lemmas.Bool.{cases_Bool, and_parts, and_from}
+use Rattle.std.proofs.lemmas.Bool.{cases_Bool, and_parts, and_from, both_ways}
 use Rattle.std.proofs.lemmas.Cmp.{tied_itself}
-use Rattle.std.proofs.lemmas.List.FromFn.{length-range_with_len, get_or-range_with_len}
 use Rattle.poly_cells.specs.Coordinates.{Coordinates}
 use Rattle.poly_cells.specs.Sets.{IsIn}
 use Rattle.poly_cells.specs.Shapes.{IsShape, normal, turned}
 use Rattle.poly_cells.specs.CellTests.{has_cell}
 use Rattle.poly_cells.proofs.RegionLemmas.{symmetry_from_forms, forms_from_symmetry}
-use Rattle.poly_cells.proofs.SetLemmas.{in_at, in_from_map, in_append_left, in_append_right}
+use Rattle.poly_cells.proofs.SetLemmas.{in_from_map, in_append_left, in_append_right}
 use Rattle.poly_place.specs.declared.alike.Group.{Group}
 use Rattle.poly_place.specs.Placements.{cells_cmp}
 use Rattle.poly_texts.specs.Puzzle.{PuzzleValue, IsPuzzle}
@@ -20,13 +19,12 @@ use Rattle.poly_place.specs.Classes.{is_member, part_at, is_empty, same_part, Ar
 use Rattle.poly_place.specs.ClassCount.{image_in, agree, carries, are_alike, count_new, class_count, AlikeIsTested, ClassesAreCounted}
 use Rattle.poly_place.specs.Forms.{IsKept}
 use Rattle.poly_place.proofs.OrderLemmas.{cells_total, cells_exact}
-use Rattle.poly_cells.proofs.MemberLemmas.{all_pass, passes}
-use Rattle.poly_place.proofs.DistinctLemmas.{some_passes, passes_some, at_of_in}
+use Rattle.poly_cells.proofs.MemberLemmas.{all_pass, passes, some_passes, passes_some, in_from_range, in_to_range}
 use Rattle.poly_place.proofs.CarryLemmas.{maps_at, maps_are}
 use Rattle.poly_place.proofs.FormLemmas.{PartAlike}
-use Rattle.poly_place.proofs.CountingLemmas.{regrouped}
 use Rattle.poly_place.proofs.ClassLemmas.{AreMatched, matched, alike, one_region}
 use Rattle.poly_place.proofs.PackingLemmas.{has_shapes}
+use Rattle.std.proofs.lemmas.List.{append_assoc}
 
 -- ---- tests over cells, and over the symmetries
 
@@ -37,17 +35,10 @@ agreed : (f g : Coordinates → Bool) (vs : List Coordinates) → ((v : Coordina
 agreed f g vs h = all_pass (λ u. beq (f u) (g u)) vs (λ v i. (booleans_Decides (f v) (g v)).1 (h v i))
 
 below_48 : (n : ℕ) → IsIn n (range_with_len 0 48) → n < 48
-below_48 n i =
-    let at = at_of_in 0 n (range_with_len 0 48) i in
-    let k = at.0 in
-    let lt : k < 48 = subst (λ (m : ℕ). k < m) (length-range_with_len 0 48) at.1 in
-    let is = sym at.2 ∙ get_or-range_with_len 0 48 k 0 lt in
-    omega (arith, lt, is)
+below_48 n i = let h = in_from_range n 0 48 i in omega arith
 
 among_48 : (n : ℕ) → n < 48 → IsIn n (range_with_len 0 48)
-among_48 n lt =
-    let is : get_or (range_with_len 0 48) n 0 ≡ n = get_or-range_with_len 0 48 n 0 lt ∙ (omega arith) in
-    subst (λ (m : ℕ). IsIn m (range_with_len 0 48)) is (in_at (range_with_len 0 48) n 0 (subst (λ (m : ℕ). n < m) (sym (length-range_with_len 0 48)) lt))
+among_48 n lt = in_to_range n 0 48 (omega arith) (omega arith)
 
 -- ---- the test of two packings
 
@@ -124,17 +115,21 @@ like_one {P} Like like before p ps t =
       | inr h ↦ inr (
         (λ one.
             let found = passes_some (λ q. like q p) one.0 before one.1 (t.complete one.0 p (in_append_left one.0 before (p ∷ ps) one.1) (in_append_right p before (p ∷ ps) (inl refl)) one.2) in
-            clash (list_any (λ q. like q p) before) found h),
+            both_ways (list_any (λ q. like q p) before) h found),
         h,
       )
     ]
-  where
-    clash : (b : Bool) → b ≡ true → b ≡ false → ⊥
-    clash true f g = cc
-    clash false f g = cc
 
 further : {P : Type 0} (Like : P → P → Type 0) (like : P → P → Bool) (before : List P) (p : P) (ps : List P) → Tells Like like (before ++ p ∷ ps) → Tells Like like ((before ++ p ∷ []) ++ ps)
-further {P} Like like before p ps t = subst (λ (qs : List P). Tells Like like qs) (sym (regrouped before p ps)) t
+further {P} Like like before p ps t = subst (λ (qs : List P). Tells Like like qs) (sym (append_assoc before (p ∷ []) ps)) t
+
+same : (n : ℕ) (b : Bool) → b ≡ true → n ≡ cond b 0 1 + n
+same n true h = omega arith
+same n false h = cc
+
+more : (n : ℕ) (b : Bool) → b ≡ false → cond b 0 1 + n ≡ n + 1
+more n true h = cc
+more n false h = omega arith
 
 count_is_new : {P : Type 0} (Like : P → P → Type 0) (like : P → P → Bool) (before ps : List P) → Tells Like like (before ++ ps) → AreNew Like before ps (count_new like before ps)
 count_is_new Like like before [] t = refl
@@ -144,14 +139,6 @@ count_is_new {P} Like like before (p ∷ ps) t =
       | inl one ↦ inl (one.0, subst (λ (n : ℕ). AreNew Like (before ++ p ∷ []) ps n) (same (count_new like (before ++ p ∷ []) ps) (list_any (λ q. like q p) before) one.1) rest)
       | inr none ↦ inr (none.0, (count_new like (before ++ p ∷ []) ps, more (count_new like (before ++ p ∷ []) ps) (list_any (λ q. like q p) before) none.1, rest))
     ]
-  where
-    same : (n : ℕ) (b : Bool) → b ≡ true → n ≡ cond b 0 1 + n
-    same n true h = omega arith
-    same n false h = cc
-
-    more : (n : ℕ) (b : Bool) → b ≡ false → cond b 0 1 + n ≡ n + 1
-    more n true h = cc
-    more n false h = omega arith
 
 new_is_count : {P : Type 0} (Like : P → P → Type 0) (like : P → P → Bool) (before ps : List P) (n : ℕ) → Tells Like like (before ++ ps) → AreNew Like before ps n → n ≡ count_new like before ps
 new_is_count Like like before [] n t a = a
@@ -164,17 +151,9 @@ new_is_count {P} Like like before (p ∷ ps) n t a =
       ]
       | inr new ↦ elim (like_one Like like before p ps t) [
         | inl one ↦ absurd (new.0 one.0)
-        | inr none ↦ new.1.1 ∙ more new.1.0 (count_new like (before ++ p ∷ []) ps) (list_any (λ q. like q p) before) (new_is_count Like like (before ++ p ∷ []) ps new.1.0 later new.1.2) none.1
+        | inr none ↦ new.1.1 ∙ ap (λ m. m + 1) (new_is_count Like like (before ++ p ∷ []) ps new.1.0 later new.1.2) ∙ sym (more (count_new like (before ++ p ∷ []) ps) (list_any (λ q. like q p) before) none.1)
       ]
     ]
-  where
-    same : (n : ℕ) (b : Bool) → b ≡ true → n ≡ cond b 0 1 + n
-    same n true h = omega arith
-    same n false h = cc
-
-    more : (m n : ℕ) (b : Bool) → m ≡ n → b ≡ false → m + 1 ≡ cond b 0 1 + n
-    more m n true e h = cc
-    more m n false e h = omega (arith, e)
 
 tells : (group : Group) (ps : List PackingValue) → ((p : PackingValue) → IsIn p ps → IsShape p.region) → HaveOneRegion ps → Tells (AreAlike group) (are_alike group) ps
 tells group ps shapes one = record {

@@ -1,6 +1,5 @@
 -- Packings of one region are alike exactly where their least forms are equal.
-use Rattle.std.proofs.Common.{◌≡◌, ℕ, suc, ◌+◌, ◌<◌, ◌==◌, Bool, true, false, cond, List, [], ◌∷◌, ◌++◌, map, length, inl, inr, refl, sym, ap, subst, ◌∙◌, slice_index, arith}
-use Rattle.std.proofs.lemmas.Bool.{cases_Bool}
+use Rattle.std.proofs.Common.{◌≡◌, ℕ, ◌+◌, ◌<◌, ◌==◌, List, [], ◌∷◌, ◌++◌, map, length, inl, inr, refl, sym, ap, subst, ◌∙◌, slice_index}
 use Rattle.poly_cells.specs.Coordinates.{Coordinates}
 use Rattle.poly_cells.specs.Sets.{IsIn, in_order}
 use Rattle.poly_cells.specs.Shapes.{IsShape}
@@ -18,6 +17,11 @@ use Rattle.poly_place.proofs.CountingLemmas.{AreKeys, classes_are_keys}
 use Rattle.poly_place.proofs.FormLemmas.{PartAlike, same_form, alike_form}
 use Rattle.poly_place.proofs.KeyLemmas.{forms_total, forms_exact, forms_of, least_in, least_lowest, same_lowest}
 use Rattle.poly_place.proofs.CarryLemmas.{image_point, image_is, kept_stays, neutral_stays, neutral_kept, kept_composed, kept_inverse, maps_at, maps_are}
+use mathlib.Core.List.{map-map}
+use Rattle.poly_cells.proofs.MemberLemmas.{first_at, first_within}
+use Rattle.std.proofs.lemmas.List.Sums.{passes_at_first}
+use Rattle.std.specs.List.{position_or_len}
+use Rattle.std.proofs.lemmas.List.{get_or-map}
 
 -- ---- alike packings and the maps of the region
 
@@ -74,33 +78,22 @@ alike group p q s e m a =
 abbrev form_at : List Coordinates → List ChoiceValue → ℕ → List ℕ
 form_at vs cs n = first_form (map (λ v. part_at cs (image_in vs n v)) vs)
 
-next_place : (n : ℕ) (ns : List ℕ) (k : ℕ) → slice_index (n ∷ ns) (1 + k) ≡ slice_index ns k
-next_place n ns k = let e : 1 + k ≡ suc k = omega arith in ap (slice_index (n ∷ ns)) e
+place_is : (vs : List Coordinates) (v : Coordinates) → place_of vs v ≡ position_or_len (λ w. is_same w v) vs
+place_is vs v = first_at (λ w. is_same w v) (λ ws. place_of ws v) refl (λ w ws. refl) vs
+
+place_within : (vs : List Coordinates) (v : Coordinates) → IsIn v vs → position_or_len (λ w. is_same w v) vs < length vs
+place_within vs v i = first_within (λ w. is_same w v) vs v i ((is_same_Decides v v).1 refl)
 
 at_place : (f : Coordinates → ℕ) (vs : List Coordinates) (v : Coordinates) → IsIn v vs → slice_index (map f vs) (place_of vs v) ≡ f v
-at_place f [] v i = absurd i
-at_place f (w ∷ ws) v i =
-    elim (cases_Bool (is_same w v)) [
-      | inl t ↦ ap (λ b. slice_index (map f (w ∷ ws)) (cond b 0 (1 + place_of ws v))) t ∙ ap f ((is_same_Decides w v).0 t)
-      | inr t ↦ ap (λ b. slice_index (map f (w ∷ ws)) (cond b 0 (1 + place_of ws v))) t
-          ∙ next_place (f w) (map f ws) (place_of ws v)
-          ∙ at_place f ws v (elim i [ inl e ↦ absurd (clash (is_same w v) ((is_same_Decides w v).1 (sym e)) t) | inr r ↦ r ])
-    ]
-  where
-    clash : (b : Bool) → b ≡ true → b ≡ false → ⊥
-    clash true p q = cc
-    clash false p q = cc
-
-two_maps : {X Y Z W : Type 0} (a : Z → W) (b : Y → Z) (f : X → Y) (g : X → W) (xs : List X) → ((x : X) → IsIn x xs → a (b (f x)) ≡ g x) → map a (map b (map f xs)) ≡ map g xs
-two_maps a b f g [] h = refl
-two_maps {X} {Y} {Z} {W} a b f g (y ∷ ys) h = joined (h y (inl refl)) (two_maps a b f g ys (λ x i. h x (inr i)))
-  where
-    joined : a (b (f y)) ≡ g y → map a (map b (map f ys)) ≡ map g ys → a (b (f y)) ∷ map a (map b (map f ys)) ≡ g y ∷ map g ys
-    joined p q = cc
+at_place f vs v i =
+    ap (slice_index (map f vs)) (place_is vs v) ∙ get_or-map f vs (position_or_len (λ w. is_same w v) vs) v 0 (place_within vs v i)
+    ∙ ap f ((is_same_Decides _ v).0 (passes_at_first (λ w. is_same w v) vs v (place_within vs v i)))
 
 carried_is : (group : Group) (vs ms : List Coordinates) (cs : List ChoiceValue) (n : ℕ) → IsShape vs → IsKept group vs ms n → form_by (parts_in vs cs) (carrier vs n) ≡ form_at vs cs n
 carried_is group vs ms cs n s k =
-    ap first_form (two_maps (slice_index (parts_in vs cs)) (place_of vs) (image_in vs n) (λ v. part_at cs (image_in vs n v)) vs
+    ap first_form
+    (ap (map (slice_index (parts_in vs cs))) (map-map (place_of vs) (image_in vs n) vs)
+    ∙ maps_are (slice_index (parts_in vs cs)) (λ v. place_of vs (image_in vs n v)) (λ v. part_at cs (image_in vs n v)) vs
     (λ v i. at_place (part_at cs) vs (image_in vs n v) (kept_stays group vs ms n s k v i)))
 
 first_is : (vs : List Coordinates) (cs : List ChoiceValue) → IsShape vs → first_form (parts_in vs cs) ≡ form_at vs cs 0
@@ -244,17 +237,7 @@ keys_count group first gs ps s all here one = classes_are_keys forms_total forms
 -- ---- the places that carriers name
 
 place_below : (vs : List Coordinates) (v : Coordinates) → IsIn v vs → place_of vs v < length vs
-place_below [] v i = absurd i
-place_below (w ∷ ws) v i =
-    elim (cases_Bool (is_same w v)) [
-      | inl t ↦ subst (λ b. cond b 0 (1 + place_of ws v) < length (w ∷ ws)) (sym t) (omega arith)
-      | inr t ↦ subst (λ b. cond b 0 (1 + place_of ws v) < length (w ∷ ws)) (sym t)
-          (let h = place_below ws v (elim i [ inl e ↦ absurd (clash (is_same w v) ((is_same_Decides w v).1 (sym e)) t) | inr r ↦ r ]) in omega arith)
-    ]
-  where
-    clash : (b : Bool) → b ≡ true → b ≡ false → ⊥
-    clash true p q = cc
-    clash false p q = cc
+place_below vs v i = subst (λ k. k < length vs) (sym (place_is vs v)) (place_within vs v i)
 
 pub carriers_below : (group : Group) (vs ms : List Coordinates) (gs : List (List ℕ)) → IsShape vs → AreCarriers group vs ms gs → (g : List ℕ) → IsIn g gs → (k : ℕ) → IsIn k g → k < length vs
 carriers_below group vs ms gs s all g i k j =

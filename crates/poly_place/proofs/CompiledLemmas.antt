@@ -1,16 +1,16 @@
 -- Where it is within the limits, the problem that stands for a puzzle is one.
-use Rattle.std.proofs.Common.{◌≡◌, ℕ, ◌+◌, ◌<◌, ◌≤◌, List, [], ◌∷◌, ◌++◌, map, length, Bool, true, false, cond, not, ◌&&◌, ◌||◌, nat_lt, nat_le, ◌==◌, inl, inr, refl, sym, ap, ap₂, subst, ◌∙◌, arith, bytes_eq, sum_by, Result, Ok}
+use Rattle.std.proofs.Common.{◌≡◌, ℕ, ◌+◌, ◌<◌, ◌≤◌, List, [], ◌∷◌, ◌++◌, map, length, Bool, true, false, not, ◌&&◌, nat_lt, nat_le, ◌==◌, inl, inr, refl, sym, ap, ap₂, subst, ◌∙◌, arith, bytes_eq, sum_by, Result, Ok}
 use Rattle.std.specs.List.{list_any, list_all}
 use Rattle.std.specs.Cmp.Lexicographic.{bytes_decides}
-use Rattle.std.proofs.lemmas.Bool.{and_parts, and_from, or_left, or_right}
+use Rattle.std.proofs.lemmas.Bool.{and_parts, and_from, or_left, leb-true, le-leb, lt-ltb, cases_Bool, not_from_false, agree_below_at, both_ways, not-true, false_from_ne_true, true_from_ne_false}
 use Rattle.std.proofs.lemmas.Bool.Decides.{nat_tests}
-use Rattle.std.proofs.lemmas.List.{map-append}
+use Rattle.std.proofs.lemmas.List.{map-append, length-append, length-map, append_assoc}
 use Rattle.std.proofs.lemmas.List.Sums.{sum_by-cons}
 use Rattle.poly_cells.specs.Coordinates.{Coordinates, IsInGrid}
 use Rattle.poly_cells.specs.Sets.{IsIn}
 use Rattle.poly_cells.proofs.CoordinateLemmas.{coordinates_total, same_coordinates}
 use Rattle.poly_cells.proofs.SetLemmas.{in_append_cases, in_from_map}
-use Rattle.poly_cells.proofs.CellTestLemmas.{in_from_has, has_from_in}
+use Rattle.poly_cells.proofs.CellTestLemmas.{in_from_has, has_from_in, same_tests}
 use Rattle.poly_cells.specs.CellTests.{has_cell}
 use Rattle.poly_cells.specs.CellWords.{symbol, cell_word}
 use Rattle.poly_texts.specs.Words as words
@@ -27,56 +27,21 @@ use Rattle.cover_problem.specs.Lists.{has, are_distinct}
 use Rattle.cover_problem.specs.Problem.{ProblemValue, IsProblem, is_name, is_name_byte, is_item, is_option, is_small, are_new}
 use Rattle.poly_place.specs.Packings.{ChoiceValue, is_needed, must_fill, IsPlaced, choices, Thing, a_piece, a_cell, needed_things, things, index_among, item_of, things_of, option_of, thing_name, packing_problem}
 use Rattle.poly_place.specs.Compiled.{needed_names, filled_cells, entries_of, is_within}
-use Rattle.poly_place.proofs.TestLemmas.{le_true, true_le, true_lt, both_true}
-use Rattle.poly_cells.proofs.MemberLemmas.{all_pass, passes}
-use Rattle.poly_place.proofs.DistinctLemmas.{in_from_name, name_from_in, some_passes, IsDistinct, distinct_append, distinct_filter, distinct_map, distinct_rising, distinct_names}
-use Rattle.poly_place.proofs.CountLemmas.{long_map, long_append}
+use Rattle.poly_cells.proofs.MemberLemmas.{all_pass, passes, some_passes}
+use Rattle.poly_place.proofs.DistinctLemmas.{in_from_name, name_from_in, IsDistinct, distinct_append, distinct_filter, distinct_map, distinct_rising, distinct_names}
 use Rattle.poly_place.proofs.PackingLemmas.{has_shapes, placed_in}
-use Rattle.poly_place.proofs.ThingLemmas.{bool_cases, place_in, nothing, item_same, needed_piece, needed_cell, needed_cases, needed_distinct, not_false, parts_in, thing_of_item}
+use Rattle.poly_place.proofs.ThingLemmas.{place_in, nothing, item_same, needed_piece, needed_cell, needed_cases, needed_distinct, parts_in, thing_of_item}
+use mathlib.Core.List.{map-map}
 
 -- ---- tests
 
-not_both : (b : Bool) → b ≡ true → not b ≡ true → ⊥
-not_both true t f = cc
-not_both false t f = cc
-
 none_from : {X : Type 0} (test : X → Bool) (xs : List X) → ((x : X) → IsIn x xs → test x ≡ true → ⊥) → not (list_any test xs) ≡ true
-none_from test xs h =
-    elim (bool_cases (list_any test xs)) [
-      | inl t ↦ let x = some_passes test xs t in absurd (h x.0 x.1 x.2)
-      | inr f ↦ not_false (list_any test xs) f
-    ]
+none_from test xs h = not_from_false _ (false_from_ne_true _ (λ t. let x = some_passes test xs t in h x.0 x.1 x.2))
 
 -- ---- names
 
 low_symbol : (n : ℕ) → n ≤ 31 → is_name_byte (symbol n) ≡ true
-low_symbol n h = elim (bool_cases (nat_lt n 10)) [
-  | inl t ↦ digit n (ap (λ b. cond b (48 + n) (87 + n)) t) t
-  | inr f ↦ letter n (ap (λ b. cond b (48 + n) (87 + n)) f) f h
-]
-  where
-    digit : (k : ℕ) → symbol k ≡ 48 + k → nat_lt k 10 ≡ true → is_name_byte (symbol k) ≡ true
-    digit k e t = subst (λ (b : ℕ). is_name_byte b ≡ true) (sym e) (first (48 + k) (true_le 48 (48 + k) (omega arith)) (at_most k t))
-      where
-        at_most : (m : ℕ) → nat_lt m 10 ≡ true → nat_le (48 + m) 57 ≡ true
-        at_most m u = grind (arith, nat_tests)
-
-        first : (b : ℕ) → nat_le 48 b ≡ true → nat_le b 57 ≡ true → is_name_byte b ≡ true
-        first b l r =
-            or_left (nat_le 48 b && nat_le b 57 || nat_le 65 b && nat_le b 90 || nat_le 97 b && nat_le b 122) (b == 95)
-            (or_left (nat_le 48 b && nat_le b 57 || nat_le 65 b && nat_le b 90) (nat_le 97 b && nat_le b 122)
-            (or_left (nat_le 48 b && nat_le b 57) (nat_le 65 b && nat_le b 90) (and_from (nat_le 48 b) (nat_le b 57) l r)))
-
-    letter : (k : ℕ) → symbol k ≡ 87 + k → nat_lt k 10 ≡ false → k ≤ 31 → is_name_byte (symbol k) ≡ true
-    letter k e f m = subst (λ (b : ℕ). is_name_byte b ≡ true) (sym e) (third (87 + k) (at_least k f) (true_le (87 + k) 122 (omega (arith, m))))
-      where
-        at_least : (j : ℕ) → nat_lt j 10 ≡ false → nat_le 97 (87 + j) ≡ true
-        at_least j u = grind (arith, nat_tests)
-
-        third : (b : ℕ) → nat_le 97 b ≡ true → nat_le b 122 ≡ true → is_name_byte b ≡ true
-        third b l r =
-            or_left (nat_le 48 b && nat_le b 57 || nat_le 65 b && nat_le b 90 || nat_le 97 b && nat_le b 122) (b == 95)
-            (or_right (nat_le 48 b && nat_le b 57 || nat_le 65 b && nat_le b 90) (nat_le 97 b && nat_le b 122) (and_from (nat_le 97 b) (nat_le b 122) l r))
+low_symbol n h = agree_below_at (λ k. is_name_byte (symbol k)) (λ k. true) 32 n refl (omega arith)
 
 piece_named : (n : ℕ) → words.is_name n ≡ true → is_name (n ∷ []) ≡ true
 piece_named n h =
@@ -91,22 +56,7 @@ cell_named v h =
     and_from (is_name_byte (symbol v.x)) _ x (and_from (is_name_byte (symbol v.y)) _ y (and_from (is_name_byte (symbol v.z)) true w refl))
 
 symbol_same : (m n : ℕ) → symbol m ≡ symbol n → m ≡ n
-symbol_same m n e = elim (bool_cases (nat_lt m 10)) [
-  | inl s ↦ elim (bool_cases (nat_lt n 10)) [ inl t ↦ let a = one m s in let b = one n t in omega (arith, a, b, e) | inr t ↦ let a = one m s in let b = two n t in let c = low m s in let d = high n t in absurd (omega (arith, a, b, c, d, e)) ]
-  | inr s ↦ elim (bool_cases (nat_lt n 10)) [ inl t ↦ let a = two m s in let b = one n t in let c = high m s in let d = low n t in absurd (omega (arith, a, b, c, d, e)) | inr t ↦ let a = two m s in let b = two n t in omega (arith, a, b, e) ]
-]
-  where
-    one : (k : ℕ) → nat_lt k 10 ≡ true → symbol k ≡ 48 + k
-    one k t = ap (λ b. cond b (48 + k) (87 + k)) t
-
-    two : (k : ℕ) → nat_lt k 10 ≡ false → symbol k ≡ 87 + k
-    two k f = ap (λ b. cond b (48 + k) (87 + k)) f
-
-    low : (k : ℕ) → nat_lt k 10 ≡ true → k < 10
-    low k t = grind (arith, nat_tests)
-
-    high : (k : ℕ) → nat_lt k 10 ≡ false → 10 ≤ k
-    high k f = grind (arith, nat_tests)
+symbol_same m n e = grind (arith, nat_tests)
 
 name_same : (a b : Thing) → thing_name a ≡ thing_name b → a ≡ b
 name_same (a_piece m) (a_piece n) e = let s : m ≡ n = cc in ap a_piece s
@@ -188,7 +138,7 @@ module _ (p : PuzzleValue) (z : IsPuzzle p) where
             elim (needed_cases p t i) [
               | inl m ↦
                   let same : n.0 ≡ m.0 = let e = n.2 in let f = m.1 in cc in
-                  not_both (has_name p.maybe_pieces n.0) (name_from_in p.maybe_pieces n.0 n.1) (subst (λ (k : ℕ). is_needed p k ≡ true) (sym same) m.3)
+                  both_ways (has_name p.maybe_pieces n.0) (not-true _ (subst (λ (k : ℕ). is_needed p k ≡ true) (sym same) m.3)) (name_from_in p.maybe_pieces n.0 n.1)
               | inr v ↦ let e = n.2 in let f = v.1 in cc
             ]
         | inr b ↦
@@ -197,8 +147,8 @@ module _ (p : PuzzleValue) (z : IsPuzzle p) where
               | inl m ↦ let e = w.2 in let f = m.1 in cc
               | inr v ↦
                   let same : w.0 ≡ v.0 = let e = w.2 in let f = v.1 in cc in
-                  not_both (has_cell p.maybe_cells w.0) (has_from_in p.maybe_cells w.0 w.1)
-                  (and_parts (has_cell p.region w.0) (not (has_cell p.maybe_cells w.0)) (subst (λ (u : Coordinates). must_fill p u ≡ true) (sym same) v.2)).1
+                  both_ways (has_cell p.maybe_cells w.0)
+                  (not-true _ (and_parts (has_cell p.region w.0) (not (has_cell p.maybe_cells w.0)) (subst (λ (u : Coordinates). must_fill p u ≡ true) (sym same) v.2)).1) (has_from_in p.maybe_cells w.0 w.1)
             ]
       ]
 
@@ -215,21 +165,17 @@ module _ (p : PuzzleValue) (z : IsPuzzle p) where
 
   some_needed : 0 < length (needed_things p)
   some_needed =
-      elim (bool_cases (nat_lt 0 (length (needed_things p)))) [
+      elim (cases_Bool (nat_lt 0 (length (needed_things p)))) [
         | inl t ↦ is_lt (length (needed_things p)) t
         | inr f ↦
             let e = is_none (length (needed_things p)) f in
             let names : list_all (has_name p.maybe_pieces) (names_of p.pieces) ≡ true =
-            all_pass (has_name p.maybe_pieces) (names_of p.pieces) (λ n i.
-            elim (bool_cases (has_name p.maybe_pieces n)) [ inl t ↦ t | inr g ↦ absurd (no_needed e (a_piece n) (needed_piece p n i (not_false (has_name p.maybe_pieces n) g))) ]) in
+            all_pass (has_name p.maybe_pieces) (names_of p.pieces)
+            (λ n i. true_from_ne_false _ (λ g. no_needed e (a_piece n) (needed_piece p n i (not_from_false (has_name p.maybe_pieces n) g)))) in
             let cells : list_all (has_cell p.maybe_cells) p.region ≡ true =
-            all_pass (has_cell p.maybe_cells) p.region (λ v i.
-            elim (bool_cases (has_cell p.maybe_cells v)) [
-              | inl t ↦ t
-              | inr g ↦
-                  absurd (no_needed e (a_cell v)
-                  (needed_cell p v (and_from (has_cell p.region v) (not (has_cell p.maybe_cells v)) (has_from_in p.region v i) (not_false (has_cell p.maybe_cells v) g))))
-            ]) in
+            all_pass (has_cell p.maybe_cells) p.region (λ v i. true_from_ne_false _ (λ g.
+            no_needed e (a_cell v)
+            (needed_cell p v (and_from (has_cell p.region v) (not (has_cell p.maybe_cells v)) (has_from_in p.region v i) (not_from_false (has_cell p.maybe_cells v) g))))) in
             let all = and_from (list_all (has_name p.maybe_pieces) (names_of p.pieces)) (list_all (has_cell p.maybe_cells) p.region) names cells in
             let required = z.required in
             cc
@@ -255,25 +201,22 @@ module _ (p : PuzzleValue) (z : IsPuzzle p) where
       and_from (not (has (map (item_of p) ts) (item_of p t))) (are_distinct (map (item_of p) ts)) alone (distinct_items ts (λ s i. inside s (inr i)) d.1)
     where
       alone : not (has (map (item_of p) ts) (item_of p t)) ≡ true
-      alone = elim (bool_cases (has (map (item_of p) ts) (item_of p t))) [
-        | inl h ↦
-            let s = thing_of_item (item_of p) (item_of p t) ts h in
-            absurd (d.0 (subst (λ (u : Thing). IsIn u ts) (item_same p s.0 t (inside s.0 (inr s.1)) (inside t (inl refl)) s.2) s.1))
-        | inr f ↦ not_false (has (map (item_of p) ts) (item_of p t)) f
-      ]
+      alone = not_from_false _ (false_from_ne_true _ (λ h.
+          let s = thing_of_item (item_of p) (item_of p t) ts h in
+          d.0 (subst (λ (u : Thing). IsIn u ts) (item_same p s.0 t (inside s.0 (inr s.1)) (inside t (inl refl)) s.2) s.1)))
 
   item_within : (t : Thing) → IsIn t (things p) → is_item (length (map thing_name (things p))) (item_of p t) ≡ true
   unfolding item_of
   item_within t i =
       let at = (place_in nothing t (things p) i).0 in
-      let long = long_map thing_name (things p) in
+      let long = length-map (things p) thing_name in
       and_from (nat_lt 0 (index_among t (things p) + 1)) (nat_le (index_among t (things p) + 1) (length (map thing_name (things p))))
-      (true_lt 0 (index_among t (things p) + 1) (omega arith)) (true_le (index_among t (things p) + 1) (length (map thing_name (things p))) (omega (arith, at, long)))
+      (lt-ltb 0 (index_among t (things p) + 1) (omega arith)) (le-leb (index_among t (things p) + 1) (length (map thing_name (things p))) (omega (arith, at, long)))
 
   option_good : (c : ChoiceValue) → IsPlaced p c → is_option (length (map thing_name (things p))) (option_of p c) ≡ true
   option_good c h =
       and_from (nat_lt 0 (length (option_of p c)) && are_distinct (option_of p c)) (list_all (is_item (length (map thing_name (things p)))) (option_of p c))
-      (and_from (nat_lt 0 (length (option_of p c))) (are_distinct (option_of p c)) (true_lt 0 (length (option_of p c)) (omega arith))
+      (and_from (nat_lt 0 (length (option_of p c))) (are_distinct (option_of p c)) (lt-ltb 0 (length (option_of p c)) (omega arith))
       (distinct_items (things_of c) (parts_in p c h) (parts_distinct c h)))
       (all_pass (is_item (length (map thing_name (things p)))) (option_of p c) (λ n i.
       let t = in_from_map (item_of p) n (things_of c) i in
@@ -289,8 +232,8 @@ module _ (p : PuzzleValue) (z : IsPuzzle p) where
   is_problem small = record {
     some = some_needed;
     within =
-        let long = long_map thing_name (things p) in
-        let all = long_append (needed_things p) (map a_piece p.maybe_pieces ++ map a_cell p.maybe_cells) in
+        let long = length-map (things p) thing_name in
+        let all = length-append (needed_things p) (map a_piece p.maybe_pieces ++ map a_cell p.maybe_cells) in
         omega (arith, long, all);
     named = all_named;
     new = all_new;
@@ -302,24 +245,12 @@ module _ (p : PuzzleValue) (z : IsPuzzle p) where
 
 pub names_are : (p : PuzzleValue) → ((map (λ (n : ℕ). n ∷ []) (needed_names p) ++ map cell_word (filled_cells p)) ++ map (λ (n : ℕ). n ∷ []) p.maybe_pieces) ++ map cell_word p.maybe_cells ≡ map thing_name (things p)
 names_are p =
-    joined (map (λ (n : ℕ). n ∷ []) (needed_names p) ++ map cell_word (filled_cells p)) (map (λ (n : ℕ). n ∷ []) p.maybe_pieces) (map cell_word p.maybe_cells)
+    append_assoc (map (λ (n : ℕ). n ∷ []) (needed_names p) ++ map cell_word (filled_cells p)) (map (λ (n : ℕ). n ∷ []) p.maybe_pieces) (map cell_word p.maybe_cells)
     ∙ ap₂ (λ (xs ys : List (List ℕ)). xs ++ ys) (two (needed_names p) (filled_cells p)) (two p.maybe_pieces p.maybe_cells)
     ∙ sym (map-append thing_name (needed_things p) (map a_piece p.maybe_pieces ++ map a_cell p.maybe_cells))
   where
-    joined : {X : Type 0} (xs ys zs : List X) → (xs ++ ys) ++ zs ≡ xs ++ (ys ++ zs)
-    joined [] ys zs = refl
-    joined {X} (x ∷ xs) ys zs = ap (λ (ws : List X). x ∷ ws) (joined xs ys zs)
-
-    pieces : (ns : List ℕ) → map (λ (n : ℕ). n ∷ []) ns ≡ map thing_name (map a_piece ns)
-    pieces [] = refl
-    pieces (n ∷ ns) = ap (λ (ws : List (List ℕ)). (n ∷ []) ∷ ws) (pieces ns)
-
-    cells : (vs : List Coordinates) → map cell_word vs ≡ map thing_name (map a_cell vs)
-    cells [] = refl
-    cells (v ∷ vs) = ap (λ (ws : List (List ℕ)). cell_word v ∷ ws) (cells vs)
-
     two : (ns : List ℕ) (vs : List Coordinates) → map (λ (n : ℕ). n ∷ []) ns ++ map cell_word vs ≡ map thing_name (map a_piece ns ++ map a_cell vs)
-    two ns vs = ap₂ (λ (xs ys : List (List ℕ)). xs ++ ys) (pieces ns) (cells vs) ∙ sym (map-append thing_name (map a_piece ns) (map a_cell vs))
+    two ns vs = ap₂ (λ (xs ys : List (List ℕ)). xs ++ ys) (sym (map-map thing_name a_piece ns)) (sym (map-map thing_name a_cell vs)) ∙ sym (map-append thing_name (map a_piece ns) (map a_cell vs))
 
 -- ---- what is made
 
@@ -327,8 +258,8 @@ entries_same : (p : PuzzleValue) (cs : List ChoiceValue) → sum_by length (map 
 entries_same p [] = refl
 entries_same p (c ∷ cs) =
     let rest = entries_same p cs in
-    let cells = long_map (item_of p) (map a_cell c.cells) in
-    let same = long_map a_cell c.cells in
+    let cells = length-map (map a_cell c.cells) (item_of p) in
+    let same = length-map c.cells a_cell in
     let sum = sum_by-cons length (option_of p c) (map (option_of p) cs) in
     let all = sum_by-cons (λ (d : ChoiceValue). length d.cells + 2) c cs in
     omega (arith, rest, cells, same, sum, all)
@@ -337,21 +268,21 @@ entries_same p (c ∷ cs) =
 pub small_is : (p : PuzzleValue) → length (things p) ≤ MOST_ITEMS → is_small (packing_problem p) ≡ is_within (length (things p)) (choices p)
 unfolding packing_problem
 small_is p few =
-    both_true (is_small (packing_problem p)) (is_within (length (things p)) (choices p))
+    same_tests (is_small (packing_problem p)) (is_within (length (things p)) (choices p))
     (λ t.
     let parts = and_parts (nat_le (length names) MOST_ITEMS && nat_le (length options) MOST_OPTIONS) (nat_le (length names + sum_by length options + length options + 2) MOST_ENTRIES) t in
     let first = and_parts (nat_le (length names) MOST_ITEMS) (nat_le (length options) MOST_OPTIONS) parts.0 in
-    let count = le_true (length options) MOST_OPTIONS first.1 in
-    let size = le_true (length names + sum_by length options + length options + 2) MOST_ENTRIES parts.1 in
-    and_from (nat_le (length (choices p)) MOST_OPTIONS) (nat_le (length (things p) + entries_of (choices p) + 2) MOST_ENTRIES) (true_le (length (choices p)) MOST_OPTIONS (omega (arith, count, many)))
-    (true_le (length (things p) + entries_of (choices p) + 2) MOST_ENTRIES (omega (arith, size, long, entries))))
+    let count = leb-true (length options) MOST_OPTIONS first.1 in
+    let size = leb-true (length names + sum_by length options + length options + 2) MOST_ENTRIES parts.1 in
+    and_from (nat_le (length (choices p)) MOST_OPTIONS) (nat_le (length (things p) + entries_of (choices p) + 2) MOST_ENTRIES) (le-leb (length (choices p)) MOST_OPTIONS (omega (arith, count, many)))
+    (le-leb (length (things p) + entries_of (choices p) + 2) MOST_ENTRIES (omega (arith, size, long, entries))))
     (λ t.
     let parts = and_parts (nat_le (length (choices p)) MOST_OPTIONS) (nat_le (length (things p) + entries_of (choices p) + 2) MOST_ENTRIES) t in
-    let count = le_true (length (choices p)) MOST_OPTIONS parts.0 in
-    let size = le_true (length (things p) + entries_of (choices p) + 2) MOST_ENTRIES parts.1 in
+    let count = leb-true (length (choices p)) MOST_OPTIONS parts.0 in
+    let size = leb-true (length (things p) + entries_of (choices p) + 2) MOST_ENTRIES parts.1 in
     and_from (nat_le (length names) MOST_ITEMS && nat_le (length options) MOST_OPTIONS) (nat_le (length names + sum_by length options + length options + 2) MOST_ENTRIES)
-    (and_from (nat_le (length names) MOST_ITEMS) (nat_le (length options) MOST_OPTIONS) (true_le (length names) MOST_ITEMS (omega (arith, few, long))) (true_le (length options) MOST_OPTIONS (omega (arith, count, many))))
-    (true_le (length names + sum_by length options + length options + 2) MOST_ENTRIES (omega (arith, size, long, entries))))
+    (and_from (nat_le (length names) MOST_ITEMS) (nat_le (length options) MOST_OPTIONS) (le-leb (length names) MOST_ITEMS (omega (arith, few, long))) (le-leb (length options) MOST_OPTIONS (omega (arith, count, many))))
+    (le-leb (length names + sum_by length options + length options + 2) MOST_ENTRIES (omega (arith, size, long, entries))))
   where
     names : List (List ℕ)
     names = map thing_name (things p)
@@ -360,10 +291,10 @@ small_is p few =
     options = map (option_of p) (choices p)
 
     long : length (map thing_name (things p)) ≡ length (things p)
-    long = long_map thing_name (things p)
+    long = length-map (things p) thing_name
 
     many : length (map (option_of p) (choices p)) ≡ length (choices p)
-    many = long_map (option_of p) (choices p)
+    many = length-map (choices p) (option_of p)
 
     entries : sum_by length (map (option_of p) (choices p)) + length (map (option_of p) (choices p)) ≡ entries_of (choices p)
     entries = entries_same p (choices p)

@@ -1,29 +1,20 @@
 -- How many things a puzzle has at most, and lists made by a test, one by one.
-use Rattle.std.proofs.Common.{◌≡◌, ℕ, ◌+◌, ◌<◌, ◌≤◌, List, [], ◌∷◌, ◌++◌, map, filter, length, get_or, take, Bool, true, false, cond, refl, sym, ap, subst, ◌∙◌, Ordering, Some, slice_get, append-nil, arith}
-use Rattle.std.specs.List.Sorted.{IsStrictlySortedBy}
+use Rattle.std.proofs.Common.{◌≡◌, ℕ, ◌+◌, ◌<◌, ◌≤◌, List, [], ◌∷◌, ◌++◌, map, filter, length, get_or, take, Bool, true, false, cond, sym, ap, subst, ◌∙◌, Some, slice_get, append-nil, arith}
 use Rattle.std.proofs.lemmas.List.Elements.{filter_more}
 use Rattle.std.proofs.lemmas.Option.{slice_get_within, get_or_from_slice_get}
-use Rattle.std.proofs.lemmas.List.{get_or-map}
+use Rattle.std.proofs.lemmas.List.{get_or-map, length-append, length-map}
 use Rattle.poly_cells.specs.Coordinates.{Coordinates, coordinates_cmp}
 use Rattle.poly_cells.specs.Sets.{IsIn}
 use Rattle.poly_cells.proofs.CoordinateLemmas.{coordinates_total}
-use Rattle.poly_cells.proofs.SetLemmas.{in_at, rising_head, rising_tail, rising_cons, rising_none, same_members}
+use Rattle.poly_cells.proofs.SetLemmas.{in_at, same_members}
 use Rattle.poly_cells.proofs.CellTestLemmas.{in_from_has, has_from_in}
 use Rattle.poly_cells.specs.CellTests.{has_cell}
 use Rattle.poly_texts.specs.Puzzle.{PuzzleValue, IsPuzzle, names_of, has_name}
 use Rattle.poly_place.specs.Packings.{is_needed, must_fill, needed_things, things, a_piece, a_cell}
 use Rattle.poly_place.specs.Compiled.{needed_names, filled_cells}
 use Rattle.poly_cells.proofs.MemberLemmas.{passes, in_from_filter, in_filter}
-
--- ---- lengths
-
-pub long_map : {X Y : Type 0} (f : X → Y) (xs : List X) → length (map f xs) ≡ length xs
-long_map f [] = refl
-long_map f (x ∷ xs) = let rest = long_map f xs in omega (arith, rest)
-
-pub long_append : {X : Type 0} (xs ys : List X) → length (xs ++ ys) ≡ length xs + length ys
-long_append [] ys = omega arith
-long_append (x ∷ xs) ys = let rest = long_append xs ys in omega (arith, rest)
+use Rattle.std.proofs.lemmas.List.Sums.{length-filter, count_by-le-length}
+use Rattle.std.proofs.lemmas.List.Kept.{IsStrictlySortedBy-filter}
 
 -- ---- a filtered list, one by one
 
@@ -54,7 +45,7 @@ entry_is pieces k name piece h =
     let lt = slice_get_within pieces k (name, piece) h in
     let at = get_or_from_slice_get pieces k (name, piece) (name, piece) h in
     record {
-      lt = subst (λ (n : ℕ). k < n) (sym (long_map (λ (p : ℕ × List Coordinates). p.0) pieces)) lt;
+      lt = subst (λ (n : ℕ). k < n) (sym (length-map pieces (λ (p : ℕ × List Coordinates). p.0))) lt;
       is = sym (get_or-map (λ (p : ℕ × List Coordinates). p.0) pieces k (name, piece) name lt ∙ ap (λ (p : ℕ × List Coordinates). p.0) at);
       low = lt;
       at = sym at;
@@ -64,20 +55,7 @@ entry_is pieces k name piece h =
 -- ---- how many
 
 pub filter_short : {X : Type 0} (test : X → Bool) (xs : List X) → length (filter test xs) ≤ length xs
-filter_short test [] = omega arith
-filter_short {X} test (x ∷ xs) = by_test (test x) (filter_short test xs)
-  where
-    by_test : (b : Bool) → length (filter test xs) ≤ length xs → length (cond b (x ∷ filter test xs) (filter test xs)) ≤ length (x ∷ xs)
-    by_test true h = omega arith
-    by_test false h = omega arith
-
-filter_rises : {X : Type 0} (R : X → X → Ordering) (test : X → Bool) (xs : List X) → IsStrictlySortedBy R xs → IsStrictlySortedBy R (filter test xs)
-filter_rises R test [] h = rising_none R
-filter_rises {X} R test (x ∷ xs) h = by_test (test x) (filter_rises R test xs (rising_tail R x xs h))
-  where
-    by_test : (b : Bool) → IsStrictlySortedBy R (filter test xs) → IsStrictlySortedBy R (cond b (x ∷ filter test xs) (filter test xs))
-    by_test true rest = rising_cons R x (filter test xs) (λ y i. rising_head R x xs h y (in_from_filter test y xs i).0) rest
-    by_test false rest = rest
+filter_short test xs = rw length-filter (count_by-le-length test xs)
 
 pub record AreFew (p : PuzzleValue) : Type 0 where
   pub pieces : length (needed_names p) ≤ 62
@@ -86,37 +64,36 @@ pub record AreFew (p : PuzzleValue) : Type 0 where
   pub maybe_cells : length p.maybe_cells ≤ 4096
 
 names_few : (p : PuzzleValue) → IsPuzzle p → length (names_of p.pieces) ≤ 62
-names_few p z = let few = z.few_pieces in subst (λ (n : ℕ). n ≤ 62) (sym (long_map (λ (q : ℕ × List Coordinates). q.0) p.pieces)) few
+names_few p z = let few = z.few_pieces in subst (λ (n : ℕ). n ≤ 62) (sym (length-map p.pieces (λ (q : ℕ × List Coordinates). q.0))) few
 
 maybe_is : (p : PuzzleValue) → IsPuzzle p → p.maybe_cells ≡ filter (has_cell p.maybe_cells) p.region
 maybe_is p z =
-    same_members coordinates_total p.maybe_cells (filter (has_cell p.maybe_cells) p.region) z.maybe_rises (filter_rises coordinates_cmp (has_cell p.maybe_cells) p.region z.rises)
+    same_members coordinates_total p.maybe_cells (filter (has_cell p.maybe_cells) p.region) z.maybe_rises (IsStrictlySortedBy-filter coordinates_cmp (has_cell p.maybe_cells) p.region z.rises)
     (λ v i. in_filter (has_cell p.maybe_cells) v p.region (in_from_has p.region v (passes (has_cell p.region) p.maybe_cells z.maybe_within v i)) (has_from_in p.maybe_cells v i))
     (λ v i. in_from_has p.maybe_cells v (in_from_filter (has_cell p.maybe_cells) v p.region i).1)
 
 pub are_few : (p : PuzzleValue) → IsPuzzle p → AreFew p
 are_few p z =
     let names = names_few p z in
-    let region = z.few in
     let a = filter_short (is_needed p) (names_of p.pieces) in
     let b = filter_short (must_fill p) p.region in
     let c = filter_short (has_name p.maybe_pieces) (names_of p.pieces) in
     let d = filter_short (has_cell p.maybe_cells) p.region in
     let e : length p.maybe_pieces ≡ length (filter (has_name p.maybe_pieces) (names_of p.pieces)) = ap length z.maybe_in_order in
     let f : length p.maybe_cells ≡ length (filter (has_cell p.maybe_cells) p.region) = ap length (maybe_is p z) in
-    record { pieces = omega (arith, a, names); cells = omega (arith, b, region); maybe_pieces = omega (arith, c, e, names); maybe_cells = omega (arith, d, f, region) }
+    record { pieces = omega (arith, a, names); cells = omega (arith, b); maybe_pieces = omega (arith, c, e, names); maybe_cells = omega (arith, d, f) }
 
 pub needed_count : (p : PuzzleValue) → length (needed_things p) ≡ length (needed_names p) + length (filled_cells p)
 needed_count p =
-    let all = long_append (map a_piece (needed_names p)) (map a_cell (filled_cells p)) in
-    let first = long_map a_piece (needed_names p) in
-    let second = long_map a_cell (filled_cells p) in
+    let all = length-append (map a_piece (needed_names p)) (map a_cell (filled_cells p)) in
+    let first = length-map (needed_names p) a_piece in
+    let second = length-map (filled_cells p) a_cell in
     omega (arith, all, first, second)
 
 pub things_count : (p : PuzzleValue) → length (things p) ≡ length (needed_things p) + length p.maybe_pieces + length p.maybe_cells
 things_count p =
-    let all = long_append (needed_things p) (map a_piece p.maybe_pieces ++ map a_cell p.maybe_cells) in
-    let later = long_append (map a_piece p.maybe_pieces) (map a_cell p.maybe_cells) in
-    let first = long_map a_piece p.maybe_pieces in
-    let second = long_map a_cell p.maybe_cells in
+    let all = length-append (needed_things p) (map a_piece p.maybe_pieces ++ map a_cell p.maybe_cells) in
+    let later = length-append (map a_piece p.maybe_pieces) (map a_cell p.maybe_cells) in
+    let first = length-map p.maybe_pieces a_piece in
+    let second = length-map p.maybe_cells a_cell in
     omega (arith, all, later, first, second)

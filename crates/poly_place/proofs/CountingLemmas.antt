@@ -2,7 +2,7 @@
 use Rattle.std.proofs.Common.{◌≡◌, ℕ, suc, ◌+◌, List, [], ◌∷◌, ◌++◌, ◌⊎◌, map, length, inl, inr, refl, sym, ap, subst, ◌∙◌, Ordering, Equal, arith}
 use Rattle.std.specs.Cmp.{IsTotalOrder}
 use Rattle.std.proofs.lemmas.Cmp.{tied_itself}
-use Rattle.std.proofs.lemmas.List.{map-append}
+use Rattle.std.proofs.lemmas.List.{map-append, append-nil, append_assoc}
 use Rattle.poly_cells.specs.Sets.{IsIn, by_order, insert_in, in_order, IsExact}
 use Rattle.poly_cells.proofs.SetLemmas.{in_append_left, in_append_right, in_append_cases, in_map, in_from_map, cases_order, in_order_rises, in_from_order, in_to_order, same_members}
 use Rattle.poly_place.specs.Classes.{AreNew}
@@ -68,14 +68,6 @@ pub record AreKeys {P C : Type 0} (Like : P → P → Type 0) (key : P → C) (a
   pub same : (p q : P) → IsIn p all → IsIn q all → Like p q → key p ≡ key q
   pub like : (p q : P) → IsIn p all → IsIn q all → key p ≡ key q → Like p q
 
-nothing_after : {P : Type 0} (ps : List P) → ps ++ [] ≡ ps
-nothing_after [] = refl
-nothing_after (p ∷ ps) = ap (λ qs. p ∷ qs) (nothing_after ps)
-
-pub regrouped : {P : Type 0} (before : List P) (p : P) (ps : List P) → (before ++ p ∷ []) ++ ps ≡ before ++ p ∷ ps
-regrouped [] p ps = refl
-regrouped (b ∷ bs) p ps = ap (λ qs. b ∷ qs) (regrouped bs p ps)
-
 sum_same : (a b c n : ℕ) → b ≡ a → b + n ≡ c → a + n ≡ c
 sum_same a b c n e h = omega arith
 
@@ -85,10 +77,10 @@ sum_more a b c n e h = omega arith
 new_keys : {P C : Type 0} {R : C → C → Ordering} → IsTotalOrder R → IsExact R → (Like : P → P → Type 0) (key : P → C) (before ps : List P) → AreKeys Like key (before ++ ps)
     → (n : ℕ) × AreNew Like before ps n × (length (in_order R (map key before)) + n ≡ length (in_order R (map key (before ++ ps))))
 new_keys {P} {C} {R} o exact Like key before [] k =
-    (0, refl, sum_same _ _ _ _ refl (let e = ap (λ (qs : List P). length (in_order R (map key qs))) (nothing_after before) in omega arith))
+    (0, refl, sum_same _ _ _ _ refl (let e = ap (λ (qs : List P). length (in_order R (map key qs))) (append-nil before) in omega arith))
 new_keys {P} {C} {R} o exact Like key before (p ∷ ps) k =
     let step = map-append key before (p ∷ []) in
-    let rest = new_keys o exact Like key (before ++ p ∷ []) ps (subst (λ (qs : List P). AreKeys Like key qs) (sym (regrouped before p ps)) k) in
+    let rest = new_keys o exact Like key (before ++ p ∷ []) ps (subst (λ (qs : List P). AreKeys Like key qs) (sym (append_assoc before (p ∷ []) ps)) k) in
     elim (in_or_not o exact (key p) (map key before)) [
       | inl i ↦
           let q = in_from_map key (key p) before i in
@@ -105,7 +97,7 @@ new_keys {P} {C} {R} o exact Like key before (p ∷ ps) k =
     ]
   where
     together : length (in_order R (map key ((before ++ p ∷ []) ++ ps))) ≡ length (in_order R (map key (before ++ p ∷ ps)))
-    together = ap (λ (qs : List P). length (in_order R (map key qs))) (regrouped before p ps)
+    together = ap (λ (qs : List P). length (in_order R (map key qs))) (append_assoc before (p ∷ []) ps)
 
 none_before : (m n : ℕ) → 0 + m ≡ n → m ≡ n
 none_before m n h = omega arith

@@ -1,31 +1,15 @@
 -- Lists in which nothing comes twice, and places in them.
-use Rattle.std.proofs.Common.{◌≡◌, ℕ, zero, suc, ◌<◌, List, [], ◌∷◌, ◌++◌, map, filter, length, get_or, Bool, true, false, cond, not, ◌==◌, inl, inr, refl, sym, ap, subst, Ordering, arith, eqb-true, eq-eqb}
+use Rattle.std.proofs.Common.{◌≡◌, ℕ, zero, suc, ◌<◌, List, [], ◌∷◌, ◌++◌, map, filter, length, get_or, Bool, true, false, cond, not, ◌==◌, inl, inr, refl, sym, ap, subst, Ordering, arith, eqb-true, eq-eqb, ◌∙◌}
 use Rattle.std.specs.Cmp.{IsTotalOrder}
-use Rattle.std.specs.List.{list_any}
 use Rattle.std.specs.List.Sorted.{IsStrictlySortedBy}
-use Rattle.std.proofs.lemmas.Bool.{and_parts, or_left, or_right, or_cases}
+use Rattle.std.proofs.lemmas.Bool.{and_parts, both_ways, not-true}
 use Rattle.poly_cells.specs.Sets.{IsIn}
-use Rattle.poly_cells.proofs.MemberLemmas.{in_from_filter, in_filter}
-use Rattle.poly_cells.proofs.SetLemmas.{in_append_cases, in_from_map, rising_head, rising_tail, not_itself, in_at}
+use Rattle.poly_cells.proofs.MemberLemmas.{in_from_filter, some_passes, passes_some}
+use Rattle.poly_cells.proofs.SetLemmas.{in_append_cases, in_from_map, rising_head, rising_tail, not_itself, in_at, contains_from_in}
 use Rattle.poly_texts.specs.Puzzle.{has_name, are_new}
+use Rattle.std.proofs.lemmas.List.{get_or_default}
 
--- ---- a test that some member passes, and tests on numbers
-
-pub some_passes : {X : Type 0} (test : X → Bool) (xs : List X) → list_any test xs ≡ true → (x : X) × IsIn x xs × (test x ≡ true)
-some_passes test [] h = cc
-some_passes test (y ∷ ys) h =
-    elim (or_cases (test y) (list_any test ys) h) [
-      | inl t ↦ (y, inl refl, t)
-      | inr r ↦ let rest = some_passes test ys r in (rest.0, inr rest.1, rest.2)
-    ]
-
-pub passes_some : {X : Type 0} (test : X → Bool) (x : X) (xs : List X) → IsIn x xs → test x ≡ true → list_any test xs ≡ true
-passes_some test x [] i h = absurd i
-passes_some {X} test x (y ∷ ys) i h =
-    elim i [
-      | inl e ↦ or_left (test y) (list_any test ys) (subst (λ (z : X). test z ≡ true) e h)
-      | inr r ↦ or_right (test y) (list_any test ys) (passes_some test x ys r h)
-    ]
+-- ---- tests on numbers
 
 pub in_from_name : (names : List ℕ) (n : ℕ) → has_name names n ≡ true → IsIn n names
 in_from_name names n h = let one = some_passes (λ m. m == n) names h in subst (λ (m : ℕ). IsIn m names) (eqb-true one.0 n one.2) one.1
@@ -69,21 +53,12 @@ pub distinct_names : (names : List ℕ) → are_new names ≡ true → IsDistinc
 distinct_names [] h = tt
 distinct_names (n ∷ ns) h =
     let parts = and_parts (not (has_name ns n)) (are_new ns) h in
-    ((λ i. let t = name_from_in ns n i in let f = parts.0 in not_both (has_name ns n) t f), distinct_names ns parts.1)
-  where
-    not_both : (b : Bool) → b ≡ true → not b ≡ true → ⊥
-    not_both true t f = cc
-    not_both false t f = cc
+    ((λ i. both_ways (has_name ns n) (not-true _ parts.0) (name_from_in ns n i)), distinct_names ns parts.1)
 
 -- ---- places
 
 pub at_of_in : {X : Type 0} (d x : X) (xs : List X) → IsIn x xs → (k : ℕ) × (k < length xs) × (get_or xs k d ≡ x)
-at_of_in d x [] i = absurd i
-at_of_in d x (y ∷ ys) i =
-    elim i [
-      | inl e ↦ (0, omega arith, sym e)
-      | inr r ↦ let rest = at_of_in d x ys r in (suc rest.0, omega arith, rest.2)
-    ]
+at_of_in d x xs i = let at = contains_from_in xs x i in (at.0, at.1, get_or_default xs at.0 d x at.1 ∙ at.2)
 
 pub distinct_at : {X : Type 0} (d : X) (xs : List X) (i j : ℕ) → IsDistinct xs → i < length xs → j < length xs → get_or xs i d ≡ get_or xs j d → i ≡ j
 distinct_at d [] i j a p q e = absurd (omega arith)

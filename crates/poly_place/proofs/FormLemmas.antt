@@ -1,22 +1,19 @@
 -- Two lists of parts have one form exactly where they part the cells alike, empty cells in the same places.
-use Rattle.std.proofs.Common.{◌≡◌, ℕ, ◌+◌, ◌==◌, List, [], ◌∷◌, map, Bool, true, false, cond, inl, inr, refl, sym, ap, ap₂, subst, ◌∙◌, eqb-true, eq-eqb, arith}
-use Rattle.std.proofs.lemmas.Bool.{cases_Bool}
+use Rattle.std.proofs.Common.{◌≡◌, ℕ, ◌+◌, ◌==◌, List, [], ◌∷◌, map, Bool, cond, inl, inr, refl, sym, ap, ap₂, ◌∙◌, eqb-true, eq-eqb, get_or}
 use Rattle.poly_cells.specs.Sets.{IsIn}
 use Rattle.poly_cells.proofs.SetLemmas.{in_map}
 use Rattle.poly_place.specs.Forms.{place_in, first_form}
+use Rattle.poly_cells.proofs.CellTestLemmas.{same_tests}
+use Rattle.std.specs.Cmp.{nat_eq_equiv}
+use Rattle.poly_cells.proofs.MemberLemmas.{same_at, same_map, first_at, first_within}
+use mathlib.Core.List.{map-map}
+use Rattle.std.proofs.lemmas.List.Sums.{passes_at_first}
+use Rattle.std.specs.List.{position_or_len}
 
 -- the two number the cells alike, 0 at the same cells
 pub record PartAlike {V : Type 0} (cells : List V) (f g : V → ℕ) : Type 0 where
   pub empty : (v : V) → IsIn v cells → (f v == 0) ≡ (g v == 0)
   pub parts : (v w : V) → IsIn v cells → IsIn w cells → (f v == f w) ≡ (g v == g w)
-
-pub same_tests : (a b : Bool) → (a ≡ true → b ≡ true) → (b ≡ true → a ≡ true) → a ≡ b
-same_tests true b to from = sym (to refl)
-same_tests false true to from = from refl
-same_tests false false to from = refl
-
-pub turned_test : (m n : ℕ) → (m == n) ≡ (n == m)
-turned_test m n = same_tests (m == n) (n == m) (λ t. eq-eqb n m (sym (eqb-true m n t))) (λ t. eq-eqb m n (sym (eqb-true n m t)))
 
 -- ---- alike, so of one form
 
@@ -27,50 +24,25 @@ places_same f g v (w ∷ ws) same =
 
 first_same : {V : Type 0} (cells : List V) (f g : V → ℕ) → PartAlike cells f g → (v : V) → IsIn v cells → place_in (0 ∷ map f cells) (f v) ≡ place_in (0 ∷ map g cells) (g v)
 first_same cells f g alike v i =
-    ap₂ (λ (b : Bool) (k : ℕ). cond b 0 (1 + k)) (turned_test 0 (f v) ∙ alike.empty v i ∙ turned_test (g v) 0)
+    ap₂ (λ (b : Bool) (k : ℕ). cond b 0 (1 + k)) (nat_eq_equiv.symm 0 (f v) ∙ alike.empty v i ∙ nat_eq_equiv.symm (g v) 0)
     (places_same f g v cells (λ w j. alike.parts w v j i))
-
-maps_same : {V : Type 0} (a b : ℕ → ℕ) (f g : V → ℕ) (vs : List V) → ((v : V) → IsIn v vs → a (f v) ≡ b (g v)) → map a (map f vs) ≡ map b (map g vs)
-maps_same a b f g [] same = refl
-maps_same a b f g (v ∷ vs) same = ap₂ (λ (k : ℕ) (ks : List ℕ). k ∷ ks) (same v (inl refl)) (maps_same a b f g vs (λ w i. same w (inr i)))
 
 pub same_form : {V : Type 0} (cells : List V) (f g : V → ℕ) → PartAlike cells f g → first_form (map f cells) ≡ first_form (map g cells)
 unfolding first_form
-same_form cells f g alike = maps_same (place_in (0 ∷ map f cells)) (place_in (0 ∷ map g cells)) f g cells (first_same cells f g alike)
+same_form cells f g alike =
+    map-map (place_in (0 ∷ map f cells)) f cells ∙ same_map _ _ cells (first_same cells f g alike) ∙ sym (map-map (place_in (0 ∷ map g cells)) g cells)
 
 -- ---- of one form, so alike
 
-head_of : (a b : ℕ) (more others : List ℕ) → a ∷ more ≡ b ∷ others → (a ≡ b) × (more ≡ others)
-head_of a b more others h = (cc, cc)
-
-maps_apart : {V : Type 0} (a b : ℕ → ℕ) (f g : V → ℕ) (vs : List V) → map a (map f vs) ≡ map b (map g vs) → (v : V) → IsIn v vs → a (f v) ≡ b (g v)
-maps_apart a b f g [] h v i = absurd i
-maps_apart {V} a b f g (w ∷ ws) h v i =
-    let parts = head_of (a (f w)) (b (g w)) (map a (map f ws)) (map b (map g ws)) h in
-    elim i [ inl e ↦ subst (λ (x : V). a (f x) ≡ b (g x)) (sym e) parts.0 | inr r ↦ maps_apart a b f g ws parts.1 v r ]
+place_is : (xs : List ℕ) (x : ℕ) → place_in xs x ≡ position_or_len (λ y. y == x) xs
+place_is xs x = first_at (λ y. y == x) (λ ys. place_in ys x) refl (λ y ys. refl) xs
 
 -- a place tells the number
 pub place_tells : (xs : List ℕ) (x y : ℕ) → IsIn x xs → IsIn y xs → place_in xs x ≡ place_in xs y → x ≡ y
-place_tells [] x y i j h = absurd i
-place_tells (z ∷ zs) x y i j h =
-    elim (cases_Bool (z == x)) [
-      | inl t ↦ elim (cases_Bool (z == y)) [
-        | inl u ↦ sym (eqb-true z x t) ∙ eqb-true z y u
-        | inr u ↦ absurd (let k = sym (ap (λ b. cond b 0 (1 + place_in zs x)) t) ∙ h ∙ ap (λ b. cond b 0 (1 + place_in zs y)) u in omega arith)
-      ]
-      | inr t ↦ elim (cases_Bool (z == y)) [
-        | inl u ↦ absurd (let k = sym (ap (λ b. cond b 0 (1 + place_in zs x)) t) ∙ h ∙ ap (λ b. cond b 0 (1 + place_in zs y)) u in omega arith)
-        | inr u ↦ place_tells zs x y (later x i t) (later y j u)
-            (let k = sym (ap (λ b. cond b 0 (1 + place_in zs x)) t) ∙ h ∙ ap (λ b. cond b 0 (1 + place_in zs y)) u in omega arith)
-      ]
-    ]
-  where
-    later : (a : ℕ) → IsIn a (z ∷ zs) → (z == a) ≡ false → IsIn a zs
-    later a k f = elim k [ inl e ↦ let t = eq-eqb z a (sym e) in absurd (clash (z == a) t f) | inr r ↦ r ]
-      where
-        clash : (b : Bool) → b ≡ true → b ≡ false → ⊥
-        clash true p q = cc
-        clash false p q = cc
+place_tells xs x y i j h =
+    let here = eqb-true _ x (passes_at_first (λ z. z == x) xs 0 (first_within (λ z. z == x) xs x i (eq-eqb x x refl))) in
+    let there = eqb-true _ y (passes_at_first (λ z. z == y) xs 0 (first_within (λ z. z == y) xs y j (eq-eqb y y refl))) in
+    sym here ∙ ap (λ k. get_or xs k 0) (sym (place_is xs x) ∙ h ∙ place_is xs y) ∙ there
 
 pub alike_form : {V : Type 0} (cells : List V) (f g : V → ℕ) → first_form (map f cells) ≡ first_form (map g cells) → PartAlike cells f g
 unfolding first_form
@@ -84,7 +56,7 @@ alike_form {V} cells f g h = record {
 }
   where
     at : (v : V) → IsIn v cells → place_in (0 ∷ map f cells) (f v) ≡ place_in (0 ∷ map g cells) (g v)
-    at = maps_apart (place_in (0 ∷ map f cells)) (place_in (0 ∷ map g cells)) f g cells h
+    at = same_at _ _ cells (sym (map-map (place_in (0 ∷ map f cells)) f cells) ∙ h ∙ map-map (place_in (0 ∷ map g cells)) g cells)
 
     among : (k : V → ℕ) (v : V) → IsIn v cells → IsIn (k v) (0 ∷ map k cells)
     among k v i = inr (in_map k v cells i)

@@ -1,8 +1,8 @@
 -- The order of forms, and the least of several.
-use Rattle.std.proofs.Common.{◌≡◌, ℕ, true, false, List, [], ◌∷◌, ◌⊎◌, map, inl, inr, refl, sym, ap, ap₂, subst, ◌∙◌, Ordering, Less, Equal, Greater, nat_cmp, ◌==◌}
+use Rattle.std.proofs.Common.{◌≡◌, ℕ, true, false, List, [], ◌∷◌, ◌⊎◌, map, inl, inr, refl, sym, ap, subst, ◌∙◌, Ordering, Less, Equal, Greater, nat_cmp, ◌==◌}
 use Rattle.std.specs.Cmp.{IsTotalOrder, unsigned_ties}
 use Rattle.std.specs.Cmp.Lexicographic.{pointwise, lists_ties}
-use Rattle.std.specs.Ordering.{eq_by_cmp, is_lt, ordering_then}
+use Rattle.std.specs.Ordering.{eq_by_cmp, is_lt}
 use Rattle.std.proofs.lemmas.Cmp.{lists_total, nat_cmp_total}
 use Rattle.poly_cells.specs.Sets.{IsIn, by_order, IsExact}
 use Rattle.poly_cells.proofs.SetLemmas.{cases_order, turned_back, not_itself}

@@ -2,7 +2,7 @@
 use Rattle.std.proofs.Common.{◌≡◌, ℕ, zero, suc, ◌+◌, ◌-◌, ◌<◌, ◌≤◌, max, List, [], ◌∷◌, ◌++◌, length, get_or, set, take, drop, map, Bool, true, false, cond, ◌||◌, nat_lt, Some, ◌⊎◌, inl, inr, refl, sym, ap, ap₂, subst, ◌∙◌, arith, append_assoc, append-nil, replicate, find, option_map, unwrap_or}
 use Rattle.std.specs.List.{range_with_len}
 use Rattle.std.proofs.lemmas.Grind.{flat_map-append}
-use Rattle.std.proofs.lemmas.List.{take_more, map-append, get_or-set_same, get_or-set_other, length-set, length-replicate, get_or-replicate, drop_more, drop_all}
+use Rattle.std.proofs.lemmas.List.{map-append, get_or-set_same, get_or-set_other, length-set, length-replicate, get_or-replicate, drop_more, drop_all, take_at}
 use Rattle.text_lines.specs.Writing.{spaced, line_text, text_of}
 use Rattle.poly_cells.specs.Coordinates.{Coordinates, coordinates, IsInGrid}
 use Rattle.poly_cells.proofs.CoordinateLemmas.{same_coordinates, is_same_Decides}
@@ -10,10 +10,10 @@ use Rattle.poly_cells.specs.CellTests.{is_same, has_cell}
 use Rattle.poly_place.specs.Packings.{ChoiceValue}
 use Rattle.poly_place.specs.Tables.{bit_index}
 use Rattle.poly_place.specs.Layers.{greatest, far_corner, symbol_over, ground, AreSymbols, painted}
-use Rattle.poly_place.proofs.TestLemmas.{lt_true, lt_false}
-use Rattle.poly_place.proofs.ThingLemmas.{bool_cases}
-use Rattle.poly_place.proofs.NumberLemmas.{written}
 use Rattle.poly_place.proofs.TableLemmas.{bit_index_same, low, cell_more}
+use Rattle.std.proofs.lemmas.Bool.{ltb-true, ltb-false, cases_Bool}
+use Rattle.poly_texts.proofs.CellLemmas.{range_more}
+use Rattle.poly_cells.proofs.SetLemmas.{take_next}
 
 -- ---- the far corner
 
@@ -31,28 +31,14 @@ far_push vs v x y z h =
 pub far_more : (vs : List Coordinates) (i : ℕ) (v : Coordinates) (x y z : ℕ) → i < length vs → v ≡ get_or vs i v → coordinates x y z ≡ far_corner (take i vs)
     → coordinates (max x v.x) (max y v.y) (max z v.z) ≡ far_corner (take (i + 1) vs)
 far_more vs i v x y z lt is h =
-    sym (ap far_corner (take_more vs i v lt ∙ ap (λ (w : Coordinates). take i vs ++ w ∷ []) (sym is)) ∙ far_push (take i vs) v x y z h)
+    sym (ap far_corner (take_next vs i v lt is) ∙ far_push (take i vs) v x y z h)
 
 -- ---- ranges, one number more
-
-range_push : (a n : ℕ) → range_with_len a (n + 1) ≡ range_with_len a n ++ (a + n) ∷ []
-range_push a zero = ap (λ (k : ℕ). k ∷ []) (omega arith)
-range_push a (suc n) =
-    ap (range_with_len a) (the_same n) ∙ ap (λ (ks : List ℕ). a ∷ ks) (range_push (a + 1) n ∙ ap (λ (k : ℕ). range_with_len (a + 1) n ++ k ∷ []) (omega arith))
-  where
-    the_same : (m : ℕ) → suc m + 1 ≡ suc (m + 1)
-    the_same m = omega arith
 
 -- the numbers from a up to i, and one more
 pub range_next : (a i : ℕ) → a ≤ i → range_with_len a (i + 1 - a) ≡ range_with_len a (i - a) ++ i ∷ []
 range_next a i h =
-    ap (range_with_len a) (omega (arith, h)) ∙ range_push a (i - a) ∙ ap (λ (k : ℕ). range_with_len a (i - a) ++ k ∷ []) (omega (arith, h))
-
-pub range_none : (a : ℕ) → range_with_len a (a - a) ≡ []
-range_none a = ap (range_with_len a) (the_same a)
-  where
-    the_same : (m : ℕ) → m - m ≡ 0
-    the_same m = omega arith
+    ap (range_with_len a) (omega (arith, h)) ∙ range_more a (i - a) ∙ ap (λ (k : ℕ). range_with_len a (i - a) ++ k ∷ []) (omega (arith, h))
 
 -- ---- words with spaces between them, one more
 
@@ -98,7 +84,7 @@ word_next f a i is_later start before gap after h test so sep push =
 
     same : (b : Bool) → b ≡ nat_lt a i → IsLater (map f (range_with_len a (i - a))) b
     same b e =
-        later (i - a) b (λ t. let l = lt_true a i (sym e ∙ t) in omega (arith, l)) (λ n. let l = lt_false a i (sym e ∙ n) in omega (arith, l))
+        later (i - a) b (λ t. let l = ltb-true a i (sym e ∙ t) in omega (arith, l)) (λ n. let l = ltb-false a i (sym e ∙ n) in omega (arith, l))
 
 -- a loop that adds a symbol for each number
 pub symbol_next : (f : ℕ → ℕ) (a i : ℕ) (start before after : List ℕ) → a ≤ i → before ≡ start ++ map f (range_with_len a (i - a)) → after ≡ before ++ f i ∷ []
@@ -137,7 +123,7 @@ painted_more f vs i v t new b k lt is h ascii at made s =
       long = ap length (made ∙ ap (λ j. set t j b) at) ∙ length-set t (bit_index v) b ∙ s.long;
       shows = λ w g.
           ap (λ (us : List ℕ). get_or us (bit_index w) 0) (made ∙ ap (λ j. set t j b) at)
-          ∙ elim (bool_cases (is_same w v)) [
+          ∙ elim (cases_Bool (is_same w v)) [
             | inl e ↦
                 ap (λ (j : ℕ). get_or (set t (bit_index v) b) j 0) (ap bit_index ((is_same_Decides w v).0 e))
                 ∙ get_or-set_same t (bit_index v) b 0 (let l = low v h in let n = s.long in omega (arith, l, n))
@@ -159,10 +145,7 @@ painted_more f vs i v t new b k lt is h ascii at made s =
     same w =
         over (has_cell (take i vs) w) (is_same w v) b (f w)
         ∙ ap (λ c. cond c b (f w))
-        (sym (cell_more (take i vs) v w) ∙ sym (ap (λ (us : List Coordinates). has_cell us w) (take_more vs i v lt ∙ ap (λ (u : Coordinates). take i vs ++ u ∷ []) (sym is))))
-
-pub painted_none : (f : Coordinates → ℕ) (vs : List Coordinates) (b : ℕ) (t : List ℕ) → AreSymbols f t → AreSymbols (painted f (take 0 vs) b) t
-painted_none f vs b t s = shown_alike f (painted f (take 0 vs) b) t (λ v. refl) s
+        (sym (cell_more (take i vs) v w) ∙ sym (ap (λ (us : List Coordinates). has_cell us w) (take_next vs i v lt is)))
 
 -- points show nothing
 pub points_shown : (n : ℕ) (t : List ℕ) → t ≡ replicate n 46 → n ≡ 32768 → AreSymbols (λ v. 46) t
@@ -187,7 +170,7 @@ over_one cs g c v = by_test (has_cell c.cells v)
 
 -- a vector that a slice of it was written into
 pub written_symbols : (f : Coordinates → ℕ) (t old : List ℕ) (n : ℕ) → n ≡ length t → AreSymbols f t → AreSymbols f (take n (t ++ drop (length t) old))
-written_symbols f t old n e s = subst (AreSymbols f) (sym (written t (drop (length t) old) n (sym e))) s
+written_symbols f t old n e s = subst (AreSymbols f) (sym (take_at t (drop (length t) old) n (sym e))) s
 
 -- the region shown over the points, with no placement
 pub ground_shown : (region : List Coordinates) (cs : List ChoiceValue) (vs : List Coordinates) (t : List ℕ) → vs ≡ region → AreSymbols (painted (λ v. 46) vs 95) t

@@ -1,4 +1,3 @@
-pub mod TestLemmas
 pub mod OrderLemmas
 pub mod MoveLemmas
 pub mod PlacementLemmas

@@ -1,21 +1,22 @@
 -- Steps of the loops that make forms, images and carriers.
-use Rattle.std.proofs.Common.{◌≡◌, ℕ, ◌+◌, ◌-◌, ◌<◌, ◌≤◌, ◌||◌, ◌&&◌, ◌↔◌, Bool, true, false, cond, List, [], ◌∷◌, ◌++◌, map, length, get_or, take, drop, inl, inr, refl, sym, ap, ap₂, subst, ◌∙◌, arith}
+use Rattle.std.proofs.Common.{◌≡◌, ℕ, ◌+◌, ◌-◌, ◌<◌, ◌≤◌, ◌||◌, ◌↔◌, Bool, true, false, cond, List, [], ◌∷◌, ◌++◌, map, length, get_or, take, drop, inl, inr, refl, sym, ap, ap₂, subst, ◌∙◌, arith}
 use Rattle.std.specs.List.{list_any}
-use Rattle.std.proofs.lemmas.List.{at_drop_more, drop_all, take_more, take_all, map_more, map-append}
+use Rattle.std.proofs.lemmas.List.{at_drop_more, drop_all, take_all, map_more}
 use Rattle.poly_cells.specs.Coordinates.{Coordinates, IsInGrid}
 use Rattle.poly_cells.specs.Turns.{turn}
 use Rattle.poly_cells.specs.Sets.{IsIn}
 use Rattle.poly_cells.specs.Shapes.{IsShape, corner, moved, moved_back}
 use Rattle.poly_cells.specs.Images.{HasSymmetry}
-use Rattle.poly_cells.proofs.SetLemmas.{in_map, in_from_map, in_append_left, in_append_right, in_append_cases}
+use Rattle.poly_cells.proofs.SetLemmas.{in_map, in_from_map, in_append_left, in_append_right, in_append_cases, take_next}
 use Rattle.poly_cells.specs.CellTests.{is_same, has_cell}
 use Rattle.poly_place.specs.declared.alike.Group.{Group}
 use Rattle.poly_place.specs.Packings.{ChoiceValue}
 use Rattle.poly_place.specs.Classes.{is_member, part_at}
 use Rattle.poly_place.specs.ClassCount.{image_in, images_in}
 use Rattle.poly_place.specs.Forms.{place_of, carrier, IsKept, AreCarriers, lesser, form_by, least_from}
-use Rattle.poly_place.proofs.FormLemmas.{turned_test}
 use Rattle.poly_place.proofs.CarryLemmas.{image_stays}
+use Rattle.poly_cells.proofs.CellTestLemmas.{is_same_symmetric}
+use mathlib.Core.List.{map-map}
 
 -- what is left of a list from the item on
 from_here : {X : Type 0} (xs : List X) (i : ℕ) (x : X) → i < length xs → x ≡ get_or xs i x → drop i xs ≡ x ∷ drop (i + 1) xs
@@ -23,12 +24,9 @@ from_here {X} xs i x lt is = at_drop_more (λ ys. ys) xs i x lt ∙ ap (λ (y : 
 
 -- ---- cells in lists
 
-same_turned : (v w : Coordinates) → is_same v w ≡ is_same w v
-same_turned v w = ap₂ (λ a b. a && b) (turned_test v.x w.x) (ap₂ (λ a b. a && b) (turned_test v.y w.y) (turned_test v.z w.z))
-
 pub has_turned : (vs : List Coordinates) (v : Coordinates) → list_any (λ w. is_same w v) vs ≡ has_cell vs v
 has_turned [] v = refl
-has_turned (w ∷ ws) v = ap₂ (λ a b. a || b) (same_turned w v) (has_turned ws v)
+has_turned (w ∷ ws) v = ap₂ (λ a b. a || b) (is_same_symmetric w v) (has_turned ws v)
 
 -- ---- the part of a cell
 
@@ -68,17 +66,13 @@ least_done {V} f numbers best total gs i end so =
 
 -- ---- images
 
-one_map : {X Y Z : Type 0} (a : Y → Z) (b : X → Y) (xs : List X) → map a (map b xs) ≡ map (λ x. a (b x)) xs
-one_map a b [] = refl
-one_map {X} {Y} {Z} a b (x ∷ xs) = ap (λ (zs : List Z). a (b x) ∷ zs) (one_map a b xs)
-
 pub images_are : (vs : List Coordinates) (n : ℕ) (ts : List Coordinates) (low high : Coordinates) → ts ≡ map (turn n) vs → low ≡ corner ts → high ≡ corner vs
     → map (λ v. moved high (moved_back low v)) ts ≡ images_in vs n
 unfolding image_in
 images_are vs n ts low high t l h =
     ap₂ (λ (a b : Coordinates). map (λ v. moved a (moved_back b v)) ts) h (l ∙ ap corner t)
     ∙ ap (map (λ v. moved (corner vs) (moved_back (corner (map (turn n) vs)) v))) t
-    ∙ one_map (λ v. moved (corner vs) (moved_back (corner (map (turn n) vs)) v)) (turn n) vs
+    ∙ map-map (λ v. moved (corner vs) (moved_back (corner (map (turn n) vs)) v)) (turn n) vs
 
 pub images_in_grid : (vs : List Coordinates) (n : ℕ) (ts : List Coordinates) (low high : Coordinates) → IsShape vs → HasSymmetry n vs → ts ≡ map (turn n) vs → low ≡ corner ts → high ≡ corner vs
     → (v : Coordinates) → IsIn v ts → IsInGrid (moved high (moved_back low v))
@@ -94,17 +88,10 @@ images_in_grid vs n ts low high s h t l k v i =
 abbrev pub AreSome : Group → List Coordinates → List Coordinates → List ℕ → List (List ℕ) → Type 0
 AreSome group vs ms ns gs = (g : List ℕ) → IsIn g gs ↔ ((n : ℕ) × IsIn n ns × IsKept group vs ms n × (g ≡ carrier vs n))
 
-pub none_yet : (group : Group) (vs ms : List Coordinates) (ns : List ℕ) → AreSome group vs ms (take 0 ns) []
-none_yet group vs ms ns g = ((λ i. absurd i), (λ h. absurd (none ns h.0 h.1)))
-  where
-    none : (ks : List ℕ) (n : ℕ) → IsIn n (take 0 ks) → ⊥
-    none [] n i = i
-    none (k ∷ ks) n i = i
-
 pub some_more : (group : Group) (vs ms : List Coordinates) (ns : List ℕ) (i n : ℕ) (gs hs : List (List ℕ)) → i < length ns → n ≡ get_or ns i n → hs ≡ gs ++ carrier vs n ∷ [] → IsKept group vs ms n
     → AreSome group vs ms (take i ns) gs → AreSome group vs ms (take (i + 1) ns) hs
 some_more group vs ms ns i n gs hs lt is made kept so =
-    let grown : take (i + 1) ns ≡ take i ns ++ n ∷ [] = take_more ns i n lt ∙ ap (λ (m : ℕ). take i ns ++ m ∷ []) (sym is) in
+    let grown : take (i + 1) ns ≡ take i ns ++ n ∷ [] = take_next ns i n lt is in
     λ g. (
       (λ j. elim (in_append_cases g gs (carrier vs n ∷ []) (subst (IsIn g) made j)) [
         | inl l ↦ let m = (so g).0 l in (m.0, subst (IsIn m.0) (sym grown) (in_append_left m.0 (take i ns) (n ∷ []) m.1), m.2, m.3)
@@ -119,7 +106,7 @@ some_more group vs ms ns i n gs hs lt is made kept so =
 pub some_same : (group : Group) (vs ms : List Coordinates) (ns : List ℕ) (i n : ℕ) (gs hs : List (List ℕ)) → i < length ns → n ≡ get_or ns i n → hs ≡ gs → (IsKept group vs ms n → ⊥)
     → AreSome group vs ms (take i ns) gs → AreSome group vs ms (take (i + 1) ns) hs
 some_same group vs ms ns i n gs hs lt is made kept so =
-    let grown : take (i + 1) ns ≡ take i ns ++ n ∷ [] = take_more ns i n lt ∙ ap (λ (m : ℕ). take i ns ++ m ∷ []) (sym is) in
+    let grown : take (i + 1) ns ≡ take i ns ++ n ∷ [] = take_next ns i n lt is in
     λ g. (
       (λ j. let m = (so g).0 (subst (IsIn g) made j) in (m.0, subst (IsIn m.0) (sym grown) (in_append_left m.0 (take i ns) (n ∷ []) m.1), m.2, m.3)),
       (λ h. subst (IsIn g) (sym made) (elim (in_append_cases h.0 (take i ns) (n ∷ []) (subst (IsIn h.0) grown h.1)) [
@@ -154,9 +141,6 @@ marks_by group vs ms n cells images marks c i m kept =
 pub carrier_by : (vs : List Coordinates) (n : ℕ) (cells images : List Coordinates) (places : List ℕ) → cells ≡ vs → images ≡ images_in cells n → places ≡ map (place_of cells) images → places ≡ carrier vs n
 carrier_by vs n cells images places c i p =
     p ∙ ap (map (place_of cells)) i ∙ ap (λ (us : List Coordinates). carrier us n) c
-
-pub pushed : {V : Type 0} (f : V → List ℕ) (before after : List V) (v : V) (g : List ℕ) → after ≡ before ++ v ∷ [] → f v ≡ g → map f after ≡ map f before ++ g ∷ []
-pushed {V} f before after v g grown is = ap (map f) grown ∙ map-append f before (v ∷ []) ∙ ap (λ (h : List ℕ). map f before ++ h ∷ []) is
 
 -- ---- one more item of a list
 

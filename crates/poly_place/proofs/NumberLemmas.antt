@@ -1,13 +1,13 @@
 -- The number of each item: by a table for cells, by their places for pieces.
-use Rattle.std.proofs.Common.{◌≡◌, ℕ, ◌+◌, ◌<◌, ◌≤◌, List, [], ◌∷◌, ◌++◌, map, length, get_or, drop, take, Bool, true, false, not, inl, inr, refl, sym, ap, subst, ◌∙◌, arith, slice_set}
+use Rattle.std.proofs.Common.{◌≡◌, ℕ, ◌+◌, ◌<◌, ◌≤◌, List, [], ◌∷◌, ◌++◌, map, length, take, true, not, inl, inr, refl, sym, ap, subst, ◌∙◌, arith, slice_set}
 use Rattle.std.proofs.Math.ListN.{length-set}
-use Rattle.std.proofs.lemmas.Bool.{and_parts, and_from}
-use Rattle.std.proofs.lemmas.List.{get_or-set_same, get_or-set_other, drop_more, take-append-le, take_all}
+use Rattle.std.proofs.lemmas.Bool.{and_parts, and_from, cases_Bool, not_from_false, both_ways, not-true, cond-true, cases_lt, eq-eqb}
+use Rattle.std.proofs.lemmas.List.{get_or-set_same, get_or-set_other, take_at, length-map}
 use Rattle.poly_cells.specs.Coordinates.{Coordinates, IsInGrid}
 use Rattle.poly_cells.specs.Sets.{IsIn}
 use Rattle.poly_cells.specs.Shapes.{AllInGrid}
 use Rattle.poly_cells.proofs.CoordinateLemmas.{coordinates_total, is_same_Decides}
-use Rattle.poly_cells.proofs.SetLemmas.{in_append_left, in_append_cases, in_map, in_from_map}
+use Rattle.poly_cells.proofs.SetLemmas.{in_append_left, in_append_cases, in_map, in_from_map, in_at}
 use Rattle.poly_cells.proofs.CellTestLemmas.{in_from_has, has_from_in}
 use Rattle.poly_cells.specs.CellTests.{is_same, has_cell}
 use Rattle.poly_texts.specs.Puzzle.{PuzzleValue, IsPuzzle, names_of, has_name}
@@ -15,40 +15,29 @@ use Rattle.poly_place.specs.Packings.{must_fill, Thing, a_piece, a_cell, same_th
 use Rattle.poly_place.specs.Tables.{bit_index}
 use Rattle.poly_place.specs.Compiled.{needed_names, filled_cells, number_at, numbered, AreNumbers}
 use Rattle.poly_cells.proofs.MemberLemmas.{passes, in_from_filter, in_filter}
-use Rattle.poly_place.proofs.CountLemmas.{long_map}
 use Rattle.poly_place.proofs.DistinctLemmas.{in_from_name, IsDistinct, distinct_filter, distinct_rising}
 use Rattle.poly_place.proofs.TableLemmas.{low, bit_index_same}
-use Rattle.poly_place.proofs.ThingLemmas.{same_is, place_here, place_later, bool_cases, place_in, place_append, nothing, needed_piece, needed_cell, needed_cases, not_false}
+use Rattle.poly_place.proofs.ThingLemmas.{same_is, place_here, place_later, place_in, place_append, nothing, needed_piece, needed_cell, needed_cases, place_is}
+use Rattle.std.proofs.lemmas.List.Sums.{passes_at_first, prefix_len-le-length}
+use Rattle.std.proofs.lemmas.List.Folds.{prefix_len-append}
+use Rattle.std.specs.List.{position_or_len}
 
 -- ---- places in joined lists
 
-pub place_past : (t : Thing) (xs ys : List Thing) → (IsIn t xs → ⊥) → index_among t (xs ++ ys) ≡ length xs + index_among t ys
-place_past t [] ys no_one = omega arith
-place_past t (x ∷ xs) ys no_one =
-    elim (bool_cases (same_thing t x)) [
-      | inl h ↦ absurd (no_one (inl (same_is t x h)))
-      | inr h ↦
-          let z = place_later t x (xs ++ ys) h in
-          let rest = place_past t xs ys (λ i. no_one (inr i)) in
-          omega (arith, z, rest)
-    ]
-
 -- what stands before the end is a member
 place_found : (t : Thing) (xs : List Thing) → index_among t xs < length xs → IsIn t xs
-place_found t [] h = absurd (omega arith)
-place_found t (x ∷ xs) h =
-    elim (bool_cases (same_thing t x)) [
-      | inl e ↦ inl (same_is t x e)
-      | inr e ↦ let z = place_later t x xs e in inr (place_found t xs (omega (arith, z, h)))
-    ]
+place_found t xs h =
+    let within : position_or_len (same_thing t) xs < length xs = omega (arith, place_is t xs, h) in
+    subst (λ s. IsIn s xs) (sym (same_is t _ (passes_at_first (same_thing t) xs t within))) (in_at xs (position_or_len (same_thing t) xs) t within)
 
 pub place_limit : (t : Thing) (xs : List Thing) → index_among t xs ≤ length xs
-place_limit t [] = omega arith
-place_limit t (x ∷ xs) =
-    elim (bool_cases (same_thing t x)) [
-      | inl e ↦ let z = place_here t x xs e in omega (arith, z)
-      | inr e ↦ let z = place_later t x xs e in let rest = place_limit t xs in omega (arith, z, rest)
-    ]
+place_limit t xs = omega (arith, place_is t xs, prefix_len-le-length (λ s. not (same_thing t s)) xs)
+
+pub place_past : (t : Thing) (xs ys : List Thing) → (IsIn t xs → ⊥) → index_among t (xs ++ ys) ≡ length xs + index_among t ys
+place_past t xs ys no_one =
+    let full : position_or_len (same_thing t) xs ≡ length xs =
+    elim (cases_lt (index_among t xs) (length xs)) [ inl lt ↦ absurd (no_one (place_found t xs lt)) | inr past ↦ omega (arith, past, place_is t xs, place_limit t xs) ] in
+    place_is t (xs ++ ys) ∙ prefix_len-append (λ s. not (same_thing t s)) xs ys ∙ cond-true _ _ _ (eq-eqb _ _ full) ∙ ap (λ k. length xs + k) (sym (place_is t ys))
 
 -- ---- a piece's item
 
@@ -61,7 +50,7 @@ no_piece v names i = let n = in_from_map a_piece (a_cell v) names i in let m = n
 pub needed_item : (p : PuzzleValue) (name place : ℕ) → place ≡ index_among (a_piece name) (map a_piece (needed_names p)) → place < length (needed_names p) → item_of p (a_piece name) ≡ place + 1
 unfolding item_of
 needed_item p name place e h =
-    let long : length (map a_piece (needed_names p)) ≡ length (needed_names p) = long_map a_piece (needed_names p) in
+    let long : length (map a_piece (needed_names p)) ≡ length (needed_names p) = length-map (needed_names p) a_piece in
     let here = place_found (a_piece name) (map a_piece (needed_names p)) (omega (arith, e, h, long)) in
     let inner = place_append (a_piece name) (map a_piece (needed_names p)) (map a_cell (filled_cells p)) here in
     let outer = place_append (a_piece name) (needed_things p) (map a_piece p.maybe_pieces ++ map a_cell p.maybe_cells) (in_append_left (a_piece name) (map a_piece (needed_names p)) (map a_cell (filled_cells p)) here) in
@@ -71,12 +60,12 @@ pub maybe_item : (p : PuzzleValue) (name place later : ℕ) → IsIn name (names
     → length (needed_names p) ≤ place → later ≡ index_among (a_piece name) (map a_piece p.maybe_pieces) → item_of p (a_piece name) ≡ length (needed_things p) + later + 1
 unfolding item_of
 maybe_item p name place later member e h l =
-    let long : length (map a_piece (needed_names p)) ≡ length (needed_names p) = long_map a_piece (needed_names p) in
+    let long : length (map a_piece (needed_names p)) ≡ length (needed_names p) = length-map (needed_names p) a_piece in
     let out : IsIn (a_piece name) (map a_piece (needed_names p)) → ⊥ = λ i. let at = (place_in nothing (a_piece name) (map a_piece (needed_names p)) i).0 in omega (arith, e, h, long, at) in
     let outside : IsIn (a_piece name) (needed_things p) → ⊥ =
     λ i. elim (in_append_cases (a_piece name) (map a_piece (needed_names p)) (map a_cell (filled_cells p)) i) [ inl a ↦ out a | inr b ↦ no_cell name (filled_cells p) b ] in
     let optional : has_name p.maybe_pieces name ≡ true =
-    elim (bool_cases (has_name p.maybe_pieces name)) [ inl t ↦ t | inr f ↦ absurd (outside (needed_piece p name member (not_false (has_name p.maybe_pieces name) f))) ] in
+    elim (cases_Bool (has_name p.maybe_pieces name)) [ inl t ↦ t | inr f ↦ absurd (outside (needed_piece p name member (not_from_false (has_name p.maybe_pieces name) f))) ] in
     let past = place_past (a_piece name) (needed_things p) (map a_piece p.maybe_pieces ++ map a_cell p.maybe_cells) outside in
     let inner = place_append (a_piece name) (map a_piece p.maybe_pieces) (map a_cell p.maybe_cells) (in_map a_piece name p.maybe_pieces (in_from_name p.maybe_pieces name optional)) in
     omega (arith, l, past, inner)
@@ -97,7 +86,7 @@ numbered_in : (w : Coordinates) (numbers : List ℕ) (k : ℕ) (vs : List Coordi
     → number_at (numbered numbers k vs) w ≡ k + index_among (a_cell w) (map a_cell vs)
 numbered_in w numbers k [] long all d i = absurd i
 numbered_in w numbers k (v ∷ vs) long all d i =
-    elim (bool_cases (is_same w v)) [
+    elim (cases_Bool (is_same w v)) [
       | inl t ↦
           let e : w ≡ v = (is_same_Decides w v).0 t in
           let g = all v (inl refl) in
@@ -136,7 +125,7 @@ module _ (p : PuzzleValue) (z : IsPuzzle p) where
       let must = (in_from_filter (must_fill p) v p.region i).1 in
       let outer = place_append (a_cell v) (needed_things p) (map a_piece p.maybe_pieces ++ map a_cell p.maybe_cells) (needed_cell p v must) in
       let inner = place_past (a_cell v) (map a_piece (needed_names p)) (map a_cell (filled_cells p)) (no_piece v (needed_names p)) in
-      let long : length (map a_piece (needed_names p)) ≡ length (needed_names p) = long_map a_piece (needed_names p) in
+      let long : length (map a_piece (needed_names p)) ≡ length (needed_names p) = length-map (needed_names p) a_piece in
       omega (arith, outer, inner, long)
 
   empty_item : (v : Coordinates) → IsIn v p.maybe_cells → item_of p (a_cell v) ≡ length (needed_things p) + length p.maybe_pieces + index_among (a_cell v) (map a_cell p.maybe_cells) + 1
@@ -147,17 +136,13 @@ module _ (p : PuzzleValue) (z : IsPuzzle p) where
         | inl n ↦ let m = n.1 in cc
         | inr w ↦
             let same : v ≡ w.0 = let m = w.1 in cc in
-            both (has_cell p.maybe_cells v) (has_from_in p.maybe_cells v i)
-            (and_parts (has_cell p.region v) (not (has_cell p.maybe_cells v)) (subst (λ (u : Coordinates). must_fill p u ≡ true) (sym same) w.2)).1
+            both_ways (has_cell p.maybe_cells v)
+            (not-true _ (and_parts (has_cell p.region v) (not (has_cell p.maybe_cells v)) (subst (λ (u : Coordinates). must_fill p u ≡ true) (sym same) w.2)).1) (has_from_in p.maybe_cells v i)
       ] in
       let outer = place_past (a_cell v) (needed_things p) (map a_piece p.maybe_pieces ++ map a_cell p.maybe_cells) outside in
       let inner = place_past (a_cell v) (map a_piece p.maybe_pieces) (map a_cell p.maybe_cells) (no_piece v p.maybe_pieces) in
-      let long : length (map a_piece p.maybe_pieces) ≡ length p.maybe_pieces = long_map a_piece p.maybe_pieces in
+      let long : length (map a_piece p.maybe_pieces) ≡ length p.maybe_pieces = length-map p.maybe_pieces a_piece in
       omega (arith, outer, inner, long)
-    where
-      both : (b : Bool) → b ≡ true → not b ≡ true → ⊥
-      both true t f = cc
-      both false t f = cc
 
   pub are_numbers : (base : List ℕ) (first second : ℕ) → length base ≡ 32768 → first ≡ length (needed_names p) → second ≡ length (needed_things p) + length p.maybe_pieces
       → AreNumbers p (numbered (numbered base (first + 1) (filled_cells p)) (second + 1) p.maybe_cells)
@@ -167,14 +152,14 @@ module _ (p : PuzzleValue) (z : IsPuzzle p) where
       record {
         long = numbered_long one (second + 1) p.maybe_cells ∙ one_long;
         same = λ v i.
-            elim (bool_cases (has_cell p.maybe_cells v)) [
+            elim (cases_Bool (has_cell p.maybe_cells v)) [
               | inl t ↦
                   let here = in_from_has p.maybe_cells v t in
                   let at = numbered_in v one (second + 1) p.maybe_cells one_long maybe_places maybe_distinct here in
                   let item = empty_item v here in
                   omega (arith, at, item, s)
               | inr n ↦
-                  let here = in_filter (must_fill p) v p.region i (and_from (has_cell p.region v) (not (has_cell p.maybe_cells v)) (has_from_in p.region v i) (not_false (has_cell p.maybe_cells v) n)) in
+                  let here = in_filter (must_fill p) v p.region i (and_from (has_cell p.region v) (not (has_cell p.maybe_cells v)) (has_from_in p.region v i) (not_from_false (has_cell p.maybe_cells v) n)) in
                   let other = numbered_other v one (second + 1) p.maybe_cells (z.limits v i) maybe_places (λ j. let t = has_from_in p.maybe_cells v j in cc) in
                   let at = numbered_in v base (first + 1) (filled_cells p) long filled_places filled_distinct here in
                   let item = filled_item v here in
@@ -184,28 +169,15 @@ module _ (p : PuzzleValue) (z : IsPuzzle p) where
 
 -- ---- the loops
 
--- one cell more is numbered
-pub one_numbered : (numbers new : List ℕ) (k : ℕ) (vs : List Coordinates) (i : ℕ) (v : Coordinates) (place : ℕ) (all : List ℕ) → i < length vs → v ≡ get_or vs i v → place ≡ bit_index v → new ≡ slice_set numbers place k
-    → numbered numbers k (drop i vs) ≡ all → numbered new (k + 1) (drop (i + 1) vs) ≡ all
-one_numbered numbers new k vs i v place all lt is at set so =
-    ap (λ (ns : List ℕ). numbered ns (k + 1) (drop (i + 1) vs)) (set ∙ ap (λ (j : ℕ). slice_set numbers j k) at)
-    ∙ sym (ap (numbered numbers k) (drop_more vs i v lt) ∙ ap (λ (u : Coordinates). numbered numbers k (u ∷ drop (i + 1) vs)) (sym is)) ∙ so
-
--- what the vector holds once both lists are numbered as a slice
-pub written : (numbers old : List ℕ) (size : ℕ) → length numbers ≡ size → take size (numbers ++ old) ≡ numbers
-written numbers old size e =
-    let all : size ≤ length numbers = omega (arith, e) in
-    take-append-le size numbers old all ∙ take_all size numbers (omega (arith, e))
-
 pub written_numbers : (p : PuzzleValue) → IsPuzzle p → (base one old new all left later : List ℕ) (cells empty : List Coordinates) (first second size : ℕ) → length base ≡ 32768 → length base ≡ size
     → cells ≡ filled_cells p → empty ≡ p.maybe_cells → first ≡ length (needed_names p) → second ≡ length (needed_things p) + length p.maybe_pieces
     → one ≡ numbered base (first + 1) cells → old ≡ take size (one ++ left) → new ≡ numbered old (second + 1) empty
     → all ≡ take size (new ++ later) → AreNumbers p all
 written_numbers p z base one old new all left later cells empty first second size long sized is_filled is_empty f s made was then whole =
     let one_long : length one ≡ size = ap length made ∙ numbered_long base (first + 1) cells ∙ sized in
-    let old_is : old ≡ one = was ∙ written one left size one_long in
+    let old_is : old ≡ one = was ∙ take_at one left size one_long in
     let new_long : length new ≡ size = ap length then ∙ numbered_long old (second + 1) empty ∙ ap length old_is ∙ one_long in
-    let all_is : all ≡ new = whole ∙ written new later size new_long in
+    let all_is : all ≡ new = whole ∙ take_at new later size new_long in
     let same : all ≡ numbered (numbered base (first + 1) (filled_cells p)) (second + 1) p.maybe_cells =
     all_is ∙ then ∙ ap (λ (ns : List ℕ). numbered ns (second + 1) empty) (old_is ∙ made ∙ ap (numbered base (first + 1)) is_filled)
     ∙ ap (numbered (numbered base (first + 1) (filled_cells p)) (second + 1)) is_empty in

@@ -1,21 +1,18 @@
 -- The option of a choice by a table of numbers, and where there is no room for some choices, there is none for more.
 use Rattle.std.proofs.Common.{◌≡◌, ℕ, ◌+◌, ◌<◌, List, [], ◌∷◌, ◌++◌, map, length, get_or, take, drop, true, false, nat_le, inl, inr, refl, sym, ap, ap₂, subst, ◌∙◌, arith}
 use Rattle.std.specs.List.{flat_map}
-use Rattle.std.proofs.lemmas.Bool.{and_parts, and_from}
+use Rattle.std.proofs.lemmas.Bool.{and_parts, and_from, leb-true, le-leb, false_from_ne_true, both_ways}
 use Rattle.std.proofs.lemmas.Grind.{flat_map-append}
 use Rattle.std.proofs.lemmas.List.Sums.{sum_by-append}
-use Rattle.std.proofs.lemmas.List.{flat_map_more, take_more, take-append-drop, map-append}
+use Rattle.std.proofs.lemmas.List.{flat_map_more, take-append-drop, length-append, map_more}
 use Rattle.poly_cells.specs.Coordinates.{Coordinates}
 use Rattle.poly_cells.specs.Sets.{IsIn}
 use Rattle.poly_texts.specs.Puzzle.{PuzzleValue, IsPuzzle}
 use Rattle.cover_problem.specs.declared.limits.TheConstants.{MOST_OPTIONS, MOST_ENTRIES}
 use Rattle.poly_place.specs.Packings.{ChoiceValue, IsPlaced, choices_of, choices, a_piece, a_cell, item_of, option_of}
 use Rattle.poly_place.specs.Compiled.{number_at, AreNumbers, option_by, entries_of, is_within}
-use Rattle.poly_place.proofs.TestLemmas.{le_true, true_le}
-use Rattle.poly_place.proofs.CountLemmas.{long_append}
-use Rattle.poly_cells.proofs.SetLemmas.{in_at}
+use Rattle.poly_cells.proofs.SetLemmas.{in_at, take_next}
 use Rattle.poly_place.proofs.PackingLemmas.{has_shapes, placed_in}
-use Rattle.poly_place.proofs.ThingLemmas.{bool_cases}
 
 -- ---- the option of a choice
 
@@ -37,9 +34,7 @@ chosen_at p z cs i c same lt is =
 
 pub one_option : (p : PuzzleValue) (cs : List ChoiceValue) (i : ℕ) (c : ChoiceValue) (before after : List (List ℕ)) → i < length cs → c ≡ get_or cs i c → after ≡ before ++ option_of p c ∷ []
     → before ≡ map (option_of p) (take i cs) → after ≡ map (option_of p) (take (i + 1) cs)
-one_option p cs i c before after lt is push so =
-    push ∙ ap (λ (os : List (List ℕ)). os ++ option_of p c ∷ []) so ∙ sym (map-append (option_of p) (take i cs) (c ∷ []))
-    ∙ ap (map (option_of p)) (sym (take_more cs i c lt ∙ ap (λ (d : ChoiceValue). take i cs ++ d ∷ []) (sym is)))
+one_option p cs i c before after lt is push so = push ∙ ap₂ (λ os d. os ++ option_of p d ∷ []) so is ∙ sym (map_more (option_of p) cs i c lt)
 
 -- ---- the choices of the pieces, one by one
 
@@ -51,7 +46,7 @@ pub choices_next : (p : PuzzleValue) (pieces : List (ℕ × List Coordinates)) (
     → choices_before p pieces (k + 1) ≡ choices_before p pieces k ++ choices_of p q
 choices_next p pieces k q lt is =
     sym (flat_map_more (choices_of p) [] (take k pieces) q
-    ∙ ap (flat_map (choices_of p)) (sym (take_more pieces k q lt ∙ ap (λ (r : ℕ × List Coordinates). take k pieces ++ r ∷ []) (sym is))))
+    ∙ ap (flat_map (choices_of p)) (sym (take_next pieces k q lt is)))
 
 pub choices_all : (p : PuzzleValue) → flat_map (choices_of p) p.pieces ≡ choices p
 unfolding choices
@@ -65,19 +60,15 @@ entries_append xs ys = sum_by-append (λ (c : ChoiceValue). length c.cells + 2) 
 fewer : (n : ℕ) (xs ys : List ChoiceValue) → is_within n (xs ++ ys) ≡ true → is_within n xs ≡ true
 fewer n xs ys h =
     let parts = and_parts (nat_le (length (xs ++ ys)) MOST_OPTIONS) (nat_le (n + entries_of (xs ++ ys) + 2) MOST_ENTRIES) h in
-    let a = le_true (length (xs ++ ys)) MOST_OPTIONS parts.0 in
-    let b = le_true (n + entries_of (xs ++ ys) + 2) MOST_ENTRIES parts.1 in
-    let l = long_append xs ys in
+    let a = leb-true (length (xs ++ ys)) MOST_OPTIONS parts.0 in
+    let b = leb-true (n + entries_of (xs ++ ys) + 2) MOST_ENTRIES parts.1 in
+    let l = length-append xs ys in
     let s = entries_append xs ys in
-    and_from (nat_le (length xs) MOST_OPTIONS) (nat_le (n + entries_of xs + 2) MOST_ENTRIES) (true_le (length xs) MOST_OPTIONS (omega (arith, a, l)))
-    (true_le (n + entries_of xs + 2) MOST_ENTRIES (omega (arith, b, l, s)))
+    and_from (nat_le (length xs) MOST_OPTIONS) (nat_le (n + entries_of xs + 2) MOST_ENTRIES) (le-leb (length xs) MOST_OPTIONS (omega (arith, a, l)))
+    (le-leb (n + entries_of xs + 2) MOST_ENTRIES (omega (arith, b, l, s)))
 
 no_room : (n : ℕ) (xs ys : List ChoiceValue) → is_within n xs ≡ false → is_within n (xs ++ ys) ≡ false
-no_room n xs ys h =
-    elim (bool_cases (is_within n (xs ++ ys))) [
-      | inl t ↦ let f = fewer n xs ys t in cc
-      | inr f ↦ f
-    ]
+no_room n xs ys h = false_from_ne_true _ (λ t. both_ways (is_within n xs) h (fewer n xs ys t))
 
 -- where there is no room for the choices of the first pieces, there is none for all
 pub no_room_before : (p : PuzzleValue) (n : ℕ) (pieces : List (ℕ × List Coordinates)) (k : ℕ) → pieces ≡ p.pieces → is_within n (choices_before p pieces k) ≡ false

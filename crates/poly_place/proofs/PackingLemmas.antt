@@ -1,7 +1,7 @@
 -- Packings of a puzzle and exact covers of its problem are the same, one for one.
-use Rattle.std.proofs.Common.{◌≡◌, ℕ, ◌+◌, ◌-◌, ◌<◌, ◌≤◌, List, [], ◌∷◌, map, length, get_or, Bool, true, ◌&&◌, nat_lt, nat_le, ◌⊎◌, inl, inr, refl, sym, ap, subst, ◌∙◌, arith, suc, zero, eqb-true, eq-eqb, ◌==◌, Ordering, Less, Equal, Greater, is_eq, ap₂}
-use Rattle.std.specs.List.{list_any, flat_map}
-use Rattle.std.proofs.lemmas.Bool.{and_parts, and_from, or_left, or_right, or_cases}
+use Rattle.std.proofs.Common.{◌≡◌, ℕ, ◌+◌, ◌-◌, ◌<◌, ◌≤◌, List, [], ◌∷◌, map, length, get_or, Bool, true, ◌&&◌, nat_lt, nat_le, ◌⊎◌, inl, inr, refl, sym, ap, subst, ◌∙◌, arith, eqb-true, eq-eqb, ◌==◌, is_eq, ap₂}
+use Rattle.std.specs.List.{list_any, flat_map, range_with_len}
+use Rattle.std.proofs.lemmas.Bool.{and_parts, and_from, or_left, or_right, or_cases, leb-true, le-leb, ltb-true, lt-ltb}
 use Rattle.std.proofs.lemmas.List.{get_or-map, length-map}
 use Rattle.poly_cells.specs.Coordinates.{Coordinates}
 use Rattle.poly_cells.specs.Sets.{IsIn}
@@ -16,11 +16,12 @@ use Rattle.poly_place.specs.Packings.{ChoiceValue, choice, is_needed, must_fill,
 use Rattle.std.proofs.lemmas.Cmp.{tied_itself}
 use Rattle.poly_place.proofs.OrderLemmas.{cells_total, cells_exact}
 use Rattle.poly_place.specs.Chosen.{same_choice}
-use Rattle.poly_place.proofs.TestLemmas.{both_true, le_true, lt_true, true_le, true_lt}
-use Rattle.poly_cells.proofs.MemberLemmas.{in_flat_map, in_from_flat_map, in_from_filter, in_filter}
+use Rattle.poly_cells.proofs.MemberLemmas.{in_flat_map, in_from_flat_map, in_from_filter, in_filter, some_passes, passes_some, in_to_range}
 use Rattle.poly_place.proofs.PlacementLemmas.{sound, complete, placements_rise}
-use Rattle.poly_place.proofs.DistinctLemmas.{some_passes, passes_some, IsDistinct, distinct_append, distinct_filter, distinct_map, distinct_rising, distinct_names, at_of_in, distinct_at}
+use Rattle.poly_place.proofs.DistinctLemmas.{IsDistinct, distinct_append, distinct_filter, distinct_map, distinct_rising, distinct_names, at_of_in, distinct_at}
 use Rattle.poly_place.proofs.ThingLemmas.{item_same, item_positive, item_needed, needed_in, needed_piece, needed_cell, needed_cases, needed_at, parts_in, has_item, thing_of_item}
+use Rattle.poly_cells.proofs.CellTestLemmas.{same_tests}
+use Rattle.std.specs.Cmp.{Equal-is}
 
 -- ---- the pieces and the region are shapes
 
@@ -261,13 +262,13 @@ module _ (p : PuzzleValue) (z : IsPuzzle p) (h : HasShapes p) (set : ℕ → Boo
 -- ---- one for one
 
 pub one_packing : (p : PuzzleValue) (set : ℕ → Bool) (chosen other : ChoiceValue → Bool) → StandsFor p set chosen → StandsFor p set other → (c : ChoiceValue) → chosen c ≡ other c
-one_packing p set chosen other s t c = both_true (chosen c) (other c) (to chosen other s t) (to other chosen t s)
+one_packing p set chosen other s t c = same_tests (chosen c) (other c) (to chosen other s t) (to other chosen t s)
   where
     to : (f g : ChoiceValue → Bool) → StandsFor p set f → StandsFor p set g → f c ≡ true → g c ≡ true
     to f g q r k = let b = q.back c k in subst (λ (d : ChoiceValue). g d ≡ true) b.2 (r.forth b.0 b.1).2
 
 pub one_cover : (p : PuzzleValue) → IsPuzzle p → (set other : ℕ → Bool) (chosen : ChoiceValue → Bool) → StandsFor p set chosen → StandsFor p other chosen → (o : ℕ) → set o ≡ other o
-one_cover p z set other chosen s t o = both_true (set o) (other o) (to set other s t) (to other set t s)
+one_cover p z set other chosen s t o = same_tests (set o) (other o) (to set other s t) (to other set t s)
   where
     to : (f g : ℕ → Bool) → StandsFor p f chosen → StandsFor p g chosen → f o ≡ true → g o ≡ true
     to f g q r k =
@@ -278,38 +279,20 @@ one_cover p z set other chosen s t o = both_true (set o) (other o) (to set other
 
 -- ---- a packing for each exact cover
 
-is_equal : (o : Ordering) → is_eq o ≡ true → o ≡ Equal
-is_equal Less h = cc
-is_equal Equal h = refl
-is_equal Greater h = cc
-
 pub same_choice_is : (c d : ChoiceValue) → same_choice c d ≡ true → c ≡ d
 same_choice_is c d h =
     let parts = and_parts (c.name == d.name) (is_eq (cells_cmp c.cells d.cells)) h in
-    ap₂ choice (eqb-true c.name d.name parts.0) (cells_exact c.cells d.cells (is_equal (cells_cmp c.cells d.cells) parts.1))
+    ap₂ choice (eqb-true c.name d.name parts.0) (cells_exact c.cells d.cells ((Equal-is (cells_cmp c.cells d.cells)).0 parts.1))
 
 pub same_choice_itself : (c : ChoiceValue) → same_choice c c ≡ true
 same_choice_itself c = and_from (c.name == c.name) (is_eq (cells_cmp c.cells c.cells)) (eq-eqb c.name c.name refl) (ap is_eq (tied_itself cells_total c.cells))
-
--- the numbers from n down to 1
-up_to : ℕ → List ℕ
-up_to zero = []
-up_to (suc n) = suc n ∷ up_to n
-
-last_or_before : (o n : ℕ) → o ≤ suc n → (o ≡ suc n) ⊎ (o ≤ n)
-last_or_before o n h = grind arith
-
-in_up_to : (n o : ℕ) → 0 < o → o ≤ n → IsIn o (up_to n)
-unfolding up_to
-in_up_to zero o some within = absurd (omega arith)
-in_up_to (suc n) o some within = elim (last_or_before o n within) [ inl e ↦ inl e | inr r ↦ inr (in_up_to n o some r) ]
 
 -- the option is taken and stands for the choice
 takes : PuzzleValue → (ℕ → Bool) → ChoiceValue → ℕ → Bool
 takes p set c o = set o && same_choice (choice_at p o) c
 
 is_chosen_by : PuzzleValue → (ℕ → Bool) → ChoiceValue → Bool
-is_chosen_by p set c = list_any (takes p set c) (up_to (length (choices p)))
+is_chosen_by p set c = list_any (takes p set c) (range_with_len 1 (length (choices p)))
 
 pub count_back : (p : PuzzleValue) (o : ℕ) → o ≤ length ((packing_problem p).options) → o ≤ length (choices p)
 unfolding packing_problem
@@ -327,11 +310,11 @@ some_packing p set e = (
         let within = count_back p o at.1 in (
           at.0,
           within,
-          passes_some (takes p set (choice_at p o)) o (up_to (length (choices p))) (in_up_to (length (choices p)) o at.0 within)
+          passes_some (takes p set (choice_at p o)) o (range_with_len 1 (length (choices p))) (in_to_range o 1 (length (choices p)) (omega (arith, at.0)) (omega (arith, within)))
               (and_from (set o) (same_choice (choice_at p o) (choice_at p o)) k (same_choice_itself (choice_at p o))),
         );
     back = λ c k.
-        let o = some_passes (takes p set c) (up_to (length (choices p))) k in
+        let o = some_passes (takes p set c) (range_with_len 1 (length (choices p))) k in
         let parts = and_parts (set o.0) (same_choice (choice_at p o.0) c) o.2 in
         (o.0, parts.0, same_choice_is (choice_at p o.0) c parts.1);
   },
@@ -350,12 +333,12 @@ some_cover p h chosen k = (
     forth = λ o t.
         let one = and_parts (nat_lt 0 o) (nat_le o (length (choices p)) && chosen (choice_at p o)) t in
         let two = and_parts (nat_le o (length (choices p))) (chosen (choice_at p o)) one.1 in
-        (lt_true 0 o one.0, le_true o (length (choices p)) two.0, two.1);
+        (ltb-true 0 o one.0, leb-true o (length (choices p)) two.0, two.1);
     back = λ c t.
         let o = number_of_choice p c (in_placed p h c (k.placed c t)) in (
           o.0,
-          and_from (nat_lt 0 o.0) (nat_le o.0 (length (choices p)) && chosen (choice_at p o.0)) (true_lt 0 o.0 o.1)
-              (and_from (nat_le o.0 (length (choices p))) (chosen (choice_at p o.0)) (true_le o.0 (length (choices p)) o.2)
+          and_from (nat_lt 0 o.0) (nat_le o.0 (length (choices p)) && chosen (choice_at p o.0)) (lt-ltb 0 o.0 o.1)
+              (and_from (nat_le o.0 (length (choices p))) (chosen (choice_at p o.0)) (le-leb o.0 (length (choices p)) o.2)
               (subst (λ (d : ChoiceValue). chosen d ≡ true) (sym o.3) t)),
           o.3,
         );

@@ -1,12 +1,11 @@
 -- The placements of a packing come in the order of the pieces.
-use Rattle.std.proofs.Common.{◌≡◌, ℕ, ◌+◌, ◌-◌, ◌<◌, ◌≤◌, ◌==◌, nat_lt, Bool, true, false, cond, List, [], ◌∷◌, ◌++◌, filter, flat_map, length, get_or, inl, inr, refl, sym, ap, subst, ◌∙◌, Ordering, Less, nat_cmp, eqb-true, eq-eqb, arith}
+use Rattle.std.proofs.Common.{◌≡◌, ℕ, ◌+◌, ◌-◌, ◌<◌, ◌≤◌, ◌==◌, nat_lt, true, cond, List, [], ◌∷◌, ◌++◌, filter, flat_map, length, get_or, inl, inr, refl, sym, ap, subst, ◌∙◌, Ordering, Less, nat_cmp, eqb-true, eq-eqb, arith}
 use Rattle.std.specs.Cmp.{IsTotalOrder, nat_cmp_is}
 use Rattle.std.specs.List.Sorted.{IsStrictlySortedBy}
-use Rattle.std.proofs.lemmas.Bool.{cases_Bool}
+use Rattle.std.proofs.lemmas.Bool.{cases_Bool, ltb-true, ltb-false}
 use Rattle.std.proofs.lemmas.Bool.Decides.{nat_tests}
 use Rattle.std.proofs.lemmas.Cmp.{nat_cmp_total, on_total}
 use Rattle.std.proofs.lemmas.List.{map-id, length-append, get_or_append_left, get_or-append_right}
-use Rattle.std.proofs.Math.Nat.{eq-or-lt_of_le}
 use Rattle.std.proofs.lemmas.List.Kept.{IsStrictlySortedBy-filter}
 use Rattle.poly_cells.specs.Coordinates.{Coordinates}
 use Rattle.poly_cells.specs.Sets.{IsIn, in_order}
@@ -17,10 +16,9 @@ use Rattle.cover_problem.specs.ExactCover.{IsExactCover}
 use Rattle.poly_place.specs.Packings.{ChoiceValue, choice, choices, choices_of, choice_at, packing_problem}
 use Rattle.poly_place.specs.Chosen.{chosen_by, is_among, same_choice, names_in, AreInPieceOrder}
 use Rattle.poly_place.specs.Forms.{place_in}
-use Rattle.poly_cells.proofs.MemberLemmas.{in_from_filter, in_filter}
-use Rattle.poly_place.proofs.DistinctLemmas.{IsDistinct, distinct_names, in_from_name, name_from_in, passes_some}
+use Rattle.poly_cells.proofs.MemberLemmas.{in_from_filter, in_filter, passes_some}
+use Rattle.poly_place.proofs.DistinctLemmas.{IsDistinct, distinct_names, in_from_name, name_from_in}
 use Rattle.poly_place.proofs.FormLemmas.{place_tells}
-use Rattle.poly_place.proofs.TestLemmas.{lt_true, lt_false}
 use Rattle.poly_place.proofs.PackingLemmas.{same_choice_itself, count_back, named_by, named_among, same_number, chosen_in}
 use Rattle.poly_place.proofs.ChosenLemmas.{cover_packs}
 
@@ -38,10 +36,6 @@ less_from m n h = sym (nat_cmp_is m n Less h)
 
 from_less : (m n : ℕ) → nat_cmp m n ≡ Less → m < n
 from_less m n h = grind (arith, nat_tests, h)
-
-clash : (b : Bool) → b ≡ true → b ≡ false → ⊥
-clash true p q = cc
-clash false p q = cc
 
 -- the first name is at place 0, and any other one at a place more than among the others
 first_place : (n : ℕ) (ns : List ℕ) → place_in (n ∷ ns) n ≡ 0
@@ -100,10 +94,10 @@ piece_by_piece p (n ∷ ns) d i j lt within =
     let ih = piece_by_piece p ns d.1 (i - a) (j - a) in
     elim (cases_Bool (nat_lt i a)) [
       | inl t ↦
-          let first = ap (place_in (names_of (n ∷ ns))) (first_name p n (flat_map (choices_of p) ns) i (lt_true i a t)) ∙ first_place (n.0) (names_of ns) in
+          let first = ap (place_in (names_of (n ∷ ns))) (first_name p n (flat_map (choices_of p) ns) i (ltb-true i a t)) ∙ first_place (n.0) (names_of ns) in
           omega (arith, first)
       | inr f ↦
-          let le = lt_false i a f in
+          let le = ltb-false i a f in
           let len = length-append (choices_of p n) (flat_map (choices_of p) ns) in
           let one = place_after p n ns d i le (omega (arith, lt, within)) in
           let other = place_after p n ns d j (omega (arith, le, lt)) within in
@@ -124,9 +118,6 @@ choice_named p c i = named_among p p.pieces c i
 
 -- ---- the placements of a packing
 
-unequal_less : (m n : ℕ) → m ≤ n → (m ≡ n → ⊥) → m < n
-unequal_less m n le differ = elim (eq-or-lt_of_le le) [ inl e ↦ absurd (differ e) | inr l ↦ l ]
-
 module _ (p : PuzzleValue) (z : IsPuzzle p) (path : List ℕ) (e : IsExactCover (packing_problem p) (has path)) where
   in_path : (o : ℕ) → IsIn o (in_order nat_cmp path) → (0 < o) × (o ≤ length (choices p))
   in_path o i = let low = e.options o (name_from_in path o (in_from_order nat_cmp o path i)) in (low.0, count_back p o low.1)
@@ -142,12 +133,13 @@ module _ (p : PuzzleValue) (z : IsPuzzle p) (path : List ℕ) (e : IsExactCover 
   places_rise a b i j lt =
       let low = in_path a i in
       let high = in_path b j in
-      unequal_less (choice_place p a) (choice_place p b) (choices_by_piece p z a b low.0 lt high.1)
-      (λ same.
+      let upto = choices_by_piece p z a b low.0 lt high.1 in
+      let differ : choice_place p a ≡ choice_place p b → ⊥ = λ same.
       let one = (cover_packs p z path e).once (choice_at p a) (choice_at p b) (among a i) (among b j)
       (place_tells (names_of p.pieces) (choice_at p a).name (choice_at p b).name (named_in a i) (named_in b j) same) in
       let number = same_number p z a b low.0 low.1 high.0 high.1 one in
-      absurd (omega (arith, number, lt)))
+      omega (arith, number, lt) in
+      omega (arith, upto, differ)
 
   names_sorted : IsStrictlySortedBy (by_place (names_of p.pieces)) (names_in (chosen_by p path))
   unfolding choice_place by_place

@@ -1,17 +1,15 @@
 -- Counting the choices of a puzzle, piece by piece, up to the limits.
 use Rattle.std.proofs.Common.{◌≡◌, ℕ, ◌+◌, ◌<◌, ◌≤◌, List, ◌++◌, length, get_or, true, false, nat_le, ◌⊎◌, inl, inr, sym, ap, ◌∙◌, arith}
-use Rattle.std.proofs.lemmas.Bool.{and_parts, and_from}
+use Rattle.std.proofs.lemmas.Bool.{and_parts, and_from, leb-true, le-leb, false_from_ne_true}
 use Rattle.poly_cells.specs.Coordinates.{Coordinates}
 use Rattle.poly_texts.specs.Puzzle.{PuzzleValue}
 use Rattle.cover_problem.specs.declared.limits.TheConstants.{MOST_OPTIONS, MOST_ENTRIES}
 use Rattle.cover_problem.specs.Problem.{is_small}
 use Rattle.poly_place.specs.Packings.{ChoiceValue, choices_of, choices, things, packing_problem}
 use Rattle.poly_place.specs.Compiled.{entries_of, is_within}
-use Rattle.poly_place.proofs.TestLemmas.{le_true, true_le}
-use Rattle.poly_place.proofs.ThingLemmas.{bool_cases}
-use Rattle.poly_place.proofs.CountLemmas.{long_append}
 use Rattle.poly_place.proofs.OptionLemmas.{choices_before, choices_next, entries_append, no_room_before}
 use Rattle.poly_place.proofs.CompiledLemmas.{small_is}
+use Rattle.std.proofs.lemmas.List.{length-append}
 
 -- the choices of the first k pieces are counted with their entries, and there is room for them
 pub record IsCounted (p : PuzzleValue) (pieces : List (ℕ × List Coordinates)) (k items options entries : ℕ) : Type 0 where
@@ -26,14 +24,13 @@ module _ (p : PuzzleValue) (pieces : List (ℕ × List Coordinates)) (k items op
   next = choices_next p pieces k q lt is ∙ ap (λ (ds : List ChoiceValue). choices_before p pieces k ++ ds) (sym new)
 
   long : length (choices_before p pieces (k + 1)) ≡ options + n
-  long = let l = long_append (choices_before p pieces k) cs in let a = ap length next in let c = s.count in omega (arith, l, a, c, many)
+  long = let l = length-append (choices_before p pieces k) cs in let a = ap length next in let c = s.count in omega (arith, l, a, c, many)
 
   whole : items + entries_of (choices_before p pieces (k + 1)) + 2 ≡ entries + entries_of cs
   whole =
       let l = entries_append (choices_before p pieces k) cs in
       let a = ap entries_of next in
-      let c = s.sum in
-      omega (arith, l, a, c)
+      omega (arith, l, a)
 
   pub counted_next : options + n ≤ MOST_OPTIONS → e ≤ MOST_ENTRIES → IsCounted p pieces (k + 1) items (options + n) e
   counted_next few low = record { count = sym long; sum = exact low ∙ sym whole; few = few; low = low }
@@ -46,27 +43,20 @@ module _ (p : PuzzleValue) (pieces : List (ℕ × List Coordinates)) (k items op
     where
       no_room : is_within items (choices_before p pieces (k + 1)) ≡ false
       no_room =
-          elim (bool_cases (is_within items (choices_before p pieces (k + 1)))) [
-            | inl t ↦
-                let parts = and_parts (nat_le (length (choices_before p pieces (k + 1))) MOST_OPTIONS) (nat_le (items + entries_of (choices_before p pieces (k + 1)) + 2) MOST_ENTRIES) t in
-                let a = le_true (length (choices_before p pieces (k + 1))) MOST_OPTIONS parts.0 in
-                let b = le_true (items + entries_of (choices_before p pieces (k + 1)) + 2) MOST_ENTRIES parts.1 in
-                let l = long in
-                let w = whole in
-                elim past [ inl h ↦ absurd (omega (arith, a, l, h)) | inr h ↦ let c = within (omega (arith, b, w)) in absurd (omega (arith, c, h)) ]
-            | inr f ↦ f
-          ]
+          false_from_ne_true _ (λ t.
+          let parts = and_parts (nat_le (length (choices_before p pieces (k + 1))) MOST_OPTIONS) (nat_le (items + entries_of (choices_before p pieces (k + 1)) + 2) MOST_ENTRIES) t in
+          let a = leb-true (length (choices_before p pieces (k + 1))) MOST_OPTIONS parts.0 in
+          let b = leb-true (items + entries_of (choices_before p pieces (k + 1)) + 2) MOST_ENTRIES parts.1 in
+          let l = long in
+          let w = whole in
+          elim past [ inl h ↦ absurd (omega (arith, a, l, h)) | inr h ↦ let c = within (omega (arith, b, w)) in absurd (omega (arith, c, h)) ])
 
 -- once all are counted, the problem of the puzzle is small
 pub counted_all : (p : PuzzleValue) (pieces : List (ℕ × List Coordinates)) (k items options entries : ℕ) → IsCounted p pieces k items options entries → choices_before p pieces k ≡ choices p
     → items ≡ length (things p) → items ≤ 8316 → true ≡ is_small (packing_problem p)
 counted_all p pieces k items options entries s end all few =
-    let count = s.count in
-    let sum = s.sum in
-    let low = s.low in
-    let most = s.few in
     let a = ap length end in
     let b = ap entries_of end in
     sym (small_is p (omega (arith, all, few))
-    ∙ and_from (nat_le (length (choices p)) MOST_OPTIONS) (nat_le (length (things p) + entries_of (choices p) + 2) MOST_ENTRIES) (true_le (length (choices p)) MOST_OPTIONS (omega (arith, count, most, a)))
-    (true_le (length (things p) + entries_of (choices p) + 2) MOST_ENTRIES (omega (arith, sum, low, b, all))))
+    ∙ and_from (nat_le (length (choices p)) MOST_OPTIONS) (nat_le (length (things p) + entries_of (choices p) + 2) MOST_ENTRIES) (le-leb (length (choices p)) MOST_OPTIONS (omega (arith, a)))
+    (le-leb (length (things p) + entries_of (choices p) + 2) MOST_ENTRIES (omega (arith, b, all))))

@@ -1,14 +1,15 @@
 -- A region's table: one bit more for one cell more, and the same answers as the region itself.
-use Rattle.std.proofs.Common.{◌≡◌, ℕ, zero, suc, ◌+◌, ◌*◌, ◌<◌, ◌≤◌, List, [], ◌∷◌, ◌++◌, length, get_or, take, Bool, true, false, ◌&&◌, ◌||◌, nat_le, ◌⊎◌, inl, inr, refl, sym, ap, subst, ◌∙◌, arith, replicate, slice_set, slice_index_or, append_assoc}
+use Rattle.std.proofs.Common.{◌≡◌, ℕ, zero, suc, ◌+◌, ◌*◌, ◌<◌, ◌≤◌, List, [], ◌∷◌, ◌++◌, length, get_or, take, Bool, true, false, ◌&&◌, ◌||◌, nat_le, inl, inr, refl, sym, ap, subst, ◌∙◌, arith, replicate, slice_set, slice_index_or, append_assoc}
 use Rattle.std.proofs.Math.ListN.{length-set, length-replicate}
-use Rattle.std.proofs.lemmas.Bool.{and_from}
-use Rattle.std.proofs.lemmas.List.{take_more, take_all, take-append-le, get_or-set_same, get_or-set_other}
+use Rattle.std.proofs.lemmas.Bool.{and_from, leb-true, le-leb, cases_Bool, and_parts, or_right, and_right}
+use Rattle.std.proofs.lemmas.List.{get_or-set_same, get_or-set_other, take_at}
 use Rattle.std.proofs.lemmas.List.Folds.{list_any-append}
 use Rattle.poly_cells.specs.Coordinates.{Coordinates, IsInGrid}
 use Rattle.poly_cells.proofs.CoordinateLemmas.{same_coordinates, is_same_Decides}
 use Rattle.poly_cells.specs.CellTests.{is_same, has_cell}
-use Rattle.poly_place.proofs.TestLemmas.{le_true, true_le}
 use Rattle.poly_place.specs.Tables.{bit_index, has_bit, IsTable}
+use Rattle.std.proofs.Math.Bool.{or-false}
+use Rattle.poly_cells.proofs.SetLemmas.{take_next}
 
 -- ---- the place of a bit tells the cell
 
@@ -38,64 +39,45 @@ and_under false x y h = refl
 alike : (bits new : List Bool) (c : Coordinates) → (IsInGrid c → slice_index_or new (bit_index c) false ≡ slice_index_or bits (bit_index c) false) → has_bit new c ≡ has_bit bits c
 alike bits new c h =
     and_under (nat_le c.x 31) _ _ (λ x. and_under (nat_le c.y 31) _ _ (λ y. and_under (nat_le c.z 31) _ _ (λ z.
-    h (record { x_in = le_true c.x 31 x; y_in = le_true c.y 31 y; z_in = le_true c.z 31 z }))))
+    h (record { x_in = leb-true c.x 31 x; y_in = leb-true c.y 31 y; z_in = leb-true c.z 31 z }))))
 
 true_bit : (bits : List Bool) (c : Coordinates) → IsInGrid c → slice_index_or bits (bit_index c) false ≡ true → has_bit bits c ≡ true
 true_bit bits c h b =
-    and_from (nat_le c.x 31) (nat_le c.y 31 && (nat_le c.z 31 && slice_index_or bits (bit_index c) false)) (true_le c.x 31 h.x_in)
-    (and_from (nat_le c.y 31) (nat_le c.z 31 && slice_index_or bits (bit_index c) false) (true_le c.y 31 h.y_in)
-    (and_from (nat_le c.z 31) (slice_index_or bits (bit_index c) false) (true_le c.z 31 h.z_in) b))
-
-and_parts_of : (b x : Bool) → b && x ≡ true → (b ≡ true) × (x ≡ true)
-and_parts_of true x h = (refl, h)
-and_parts_of false x h = cc
+    and_from (nat_le c.x 31) (nat_le c.y 31 && (nat_le c.z 31 && slice_index_or bits (bit_index c) false)) (le-leb c.x 31 h.x_in)
+    (and_from (nat_le c.y 31) (nat_le c.z 31 && slice_index_or bits (bit_index c) false) (le-leb c.y 31 h.y_in)
+    (and_from (nat_le c.z 31) (slice_index_or bits (bit_index c) false) (le-leb c.z 31 h.z_in) b))
 
 pub bit_in : (bits : List Bool) (c : Coordinates) → has_bit bits c ≡ true → IsInGrid c
 bit_in bits c h =
-    let p = and_parts_of (nat_le c.x 31) (nat_le c.y 31 && (nat_le c.z 31 && slice_index_or bits (bit_index c) false)) h in
-    let q = and_parts_of (nat_le c.y 31) (nat_le c.z 31 && slice_index_or bits (bit_index c) false) p.1 in
-    let r = and_parts_of (nat_le c.z 31) (slice_index_or bits (bit_index c) false) q.1 in
-    record { x_in = le_true c.x 31 p.0; y_in = le_true c.y 31 q.0; z_in = le_true c.z 31 r.0 }
-
-bool_cases : (b : Bool) → (b ≡ true) ⊎ (b ≡ false)
-bool_cases true = inl refl
-bool_cases false = inr refl
-
-or_true : (a b : Bool) → b ≡ true → true ≡ a || b
-or_true true b h = refl
-or_true false b h = sym h
-
-or_false : (a b : Bool) → b ≡ false → a ≡ a || b
-or_false true b h = refl
-or_false false b h = sym h
+    let p = and_parts (nat_le c.x 31) (nat_le c.y 31 && (nat_le c.z 31 && slice_index_or bits (bit_index c) false)) h in
+    let q = and_parts (nat_le c.y 31) (nat_le c.z 31 && slice_index_or bits (bit_index c) false) p.1 in
+    let r = and_parts (nat_le c.z 31) (slice_index_or bits (bit_index c) false) q.1 in
+    record { x_in = leb-true c.x 31 p.0; y_in = leb-true c.y 31 q.0; z_in = leb-true c.z 31 r.0 }
 
 -- ---- one bit more
 
 bit_more : (bits : List Bool) (v c : Coordinates) → IsInGrid v → length bits ≡ 32768 → has_bit (slice_set bits (bit_index v) true) c ≡ has_bit bits c || is_same c v
 bit_more bits v c h long =
     let new = slice_set bits (bit_index v) true in
-    elim (bool_cases (is_same c v)) [
+    elim (cases_Bool (is_same c v)) [
       | inl t ↦
           let e : c ≡ v = (is_same_Decides c v).0 t in
           let lt : bit_index v < length bits = let b = low v h in omega arith in
           let at : slice_index_or new (bit_index c) false ≡ true =
           ap (λ (w : Coordinates). slice_index_or new (bit_index w) false) e ∙ get_or-set_same bits (bit_index v) true false lt in
-          true_bit new c (subst IsInGrid (sym e) h) at ∙ or_true (has_bit bits c) (is_same c v) t
+          true_bit new c (subst IsInGrid (sym e) h) at ∙ sym (or_right (has_bit bits c) (is_same c v) t)
       | inr f ↦
           alike bits new c (λ g. get_or-set_other bits (bit_index v) (bit_index c) true false
           (λ e. let t = (is_same_Decides c v).1 (bit_index_same c v g h e) in cc))
-          ∙ or_false (has_bit bits c) (is_same c v) f
+          ∙ sym (or-false (has_bit bits c)) ∙ ap (λ b. has_bit bits c || b) (sym f)
     ]
 
 pub cell_more : (region : List Coordinates) (v c : Coordinates) → has_cell (region ++ v ∷ []) c ≡ has_cell region c || is_same c v
-cell_more region v c = list_any-append (is_same c) region (v ∷ []) ∙ ap (λ b. has_cell region c || b) (single (is_same c v)) where
-  single : (b : Bool) → b || false ≡ b
-  single true = refl
-  single false = refl
+cell_more region v c = list_any-append (is_same c) region (v ∷ []) ∙ ap (λ b. has_cell region c || b) (or-false (is_same c v))
 
 grown : (region vs : List Coordinates) (i : ℕ) (v : Coordinates) → i < length vs → v ≡ get_or vs i v → (region ++ take i vs) ++ v ∷ [] ≡ region ++ take (i + 1) vs
 grown region vs i v lt is =
-    append_assoc region (take i vs) (v ∷ []) ∙ ap (λ ws. region ++ ws) (sym (take_more vs i v lt ∙ ap (λ (w : Coordinates). take i vs ++ w ∷ []) (sym is)))
+    append_assoc region (take i vs) (v ∷ []) ∙ ap (λ ws. region ++ ws) (sym (take_next vs i v lt is))
 
 -- a loop that sets the bits of vs has set that of one more
 pub table_more : (region vs : List Coordinates) (i : ℕ) (v : Coordinates) (bits new : List Bool) (k : ℕ) → i < length vs → v ≡ get_or vs i v → IsInGrid v → k ≡ bit_index v → new ≡ slice_set bits k true
@@ -115,19 +97,12 @@ no_bit zero k = refl
 no_bit (suc n) zero = refl
 no_bit (suc n) (suc k) = no_bit n k
 
-and_false : (b x : Bool) → x ≡ false → b && x ≡ false
-and_false true x h = h
-and_false false x h = refl
-
 pub empty_table : (bits : List Bool) (n : ℕ) → bits ≡ replicate n false → n ≡ 32768 → IsTable [] bits
 empty_table bits n e m = record {
   long = ap length e ∙ length-replicate n false ∙ m;
-  same = λ c. and_false (nat_le c.x 31) _ (and_false (nat_le c.y 31) _ (and_false (nat_le c.z 31) _ (ap (λ (b : List Bool). slice_index_or b (bit_index c) false) e ∙ no_bit n (bit_index c))));
+  same = λ c. and_right (nat_le c.x 31) _ (and_right (nat_le c.y 31) _ (and_right (nat_le c.z 31) _ (ap (λ (b : List Bool). slice_index_or b (bit_index c) false) e ∙ no_bit n (bit_index c))));
 }
 
 -- what a vector holds after its bits were changed as a slice
 pub table_written : (region : List Coordinates) (bits old : List Bool) (size : ℕ) → length bits ≡ size → IsTable region bits → IsTable region (take size (bits ++ old))
-table_written region bits old size e t =
-    let all : size ≤ length bits = omega arith in
-    let same : take size (bits ++ old) ≡ bits = take-append-le size bits old all ∙ take_all size bits (omega arith) in
-    subst (IsTable region) (sym same) t
+table_written region bits old size e t = subst (IsTable region) (sym (take_at bits old size e)) t

@@ -1,6 +1,6 @@
 -- The items of a puzzle's problem: each thing has one number, and the required ones have the first.
-use Rattle.std.proofs.Common.{◌≡◌, ℕ, suc, ◌+◌, ◌-◌, ◌<◌, ◌≤◌, List, [], ◌∷◌, ◌++◌, map, filter, length, get_or, Bool, true, false, cond, not, ◌&&◌, ◌==◌, ◌⊎◌, inl, inr, refl, sym, ap, subst, ◌∙◌, arith, eqb-true, eq-eqb}
-use Rattle.std.proofs.lemmas.Bool.{and_from}
+use Rattle.std.proofs.Common.{◌≡◌, ℕ, ◌+◌, ◌-◌, ◌<◌, ◌≤◌, List, ◌∷◌, ◌++◌, map, filter, length, get_or, true, false, cond, not, ◌==◌, ◌⊎◌, inl, inr, refl, sym, ap, subst, ◌∙◌, arith, eqb-true, eq-eqb}
+use Rattle.std.proofs.lemmas.Bool.{and_from, cases_Bool, not_from_false, and_parts, cond-false, ne_eqb}
 use Rattle.poly_cells.specs.Coordinates.{Coordinates}
 use Rattle.poly_cells.specs.Sets.{IsIn}
 use Rattle.poly_cells.proofs.CoordinateLemmas.{is_same_Decides, coordinates_total}
@@ -10,8 +10,11 @@ use Rattle.poly_cells.specs.CellTests.{has_cell}
 use Rattle.poly_texts.specs.Puzzle.{PuzzleValue, IsPuzzle, names_of, has_name}
 use Rattle.cover_problem.specs.Lists.{has}
 use Rattle.poly_place.specs.Packings.{ChoiceValue, is_needed, must_fill, IsPlaced, Thing, a_piece, a_cell, same_thing, needed_things, things, index_among, item_of, things_of}
-use Rattle.poly_cells.proofs.MemberLemmas.{in_from_filter, in_filter}
-use Rattle.poly_place.proofs.DistinctLemmas.{some_passes, passes_some, in_from_name, IsDistinct, distinct_append, distinct_filter, distinct_map, distinct_rising, distinct_names, distinct_at}
+use Rattle.poly_cells.proofs.MemberLemmas.{in_from_filter, in_filter, some_passes, passes_some, first_at, first_within}
+use Rattle.poly_place.proofs.DistinctLemmas.{in_from_name, IsDistinct, distinct_append, distinct_filter, distinct_map, distinct_rising, distinct_names, distinct_at}
+use Rattle.std.proofs.lemmas.List.Sums.{passes_at_first}
+use Rattle.std.proofs.lemmas.List.Folds.{prefix_len-append}
+use Rattle.std.specs.List.{position_or_len}
 
 -- ---- the test
 
@@ -33,39 +36,19 @@ place_here t s ss h = ap (λ b. cond b 0 (index_among t ss + 1)) h
 pub place_later : (t s : Thing) (ss : List Thing) → same_thing t s ≡ false → index_among t (s ∷ ss) ≡ index_among t ss + 1
 place_later t s ss h = ap (λ b. cond b 0 (index_among t ss + 1)) h
 
-pub bool_cases : (b : Bool) → (b ≡ true) ⊎ (b ≡ false)
-bool_cases true = inl refl
-bool_cases false = inr refl
-
-at_later : (d s : Thing) (ss : List Thing) (k j : ℕ) → k ≡ j + 1 → get_or (s ∷ ss) k d ≡ get_or ss j d
-at_later d s ss k j h = subst (λ (i : ℕ). get_or (s ∷ ss) i d ≡ get_or ss j d) (sym (h ∙ one_more)) refl
-  where
-    one_more : j + 1 ≡ suc j
-    one_more = omega arith
+pub place_is : (t : Thing) (ss : List Thing) → index_among t ss ≡ position_or_len (same_thing t) ss
+place_is t ss = first_at (same_thing t) (index_among t) refl (λ s rest. ap (cond (same_thing t s) 0) (omega arith)) ss
 
 -- the place of a member, which stands there
 pub place_in : (d t : Thing) (ss : List Thing) → IsIn t ss → (index_among t ss < length ss) × (get_or ss (index_among t ss) d ≡ t)
-place_in d t [] i = absurd i
-place_in d t (s ∷ ss) i =
-    elim (bool_cases (same_thing t s)) [
-      | inl h ↦
-          let z = place_here t s ss h in
-          (omega (arith, z), ap (λ (k : ℕ). get_or (s ∷ ss) k d) z ∙ sym (same_is t s h))
-      | inr h ↦
-          let z = place_later t s ss h in
-          let rest = place_in d t ss (elim i [ inl e ↦ let y = subst (λ (u : Thing). same_thing t u ≡ true) e (same_itself t) in cc | inr r ↦ r ]) in
-          (omega (arith, z, rest.0), at_later d s ss (index_among t (s ∷ ss)) (index_among t ss) z ∙ rest.1)
-    ]
+place_in d t ss i =
+    let within = first_within (same_thing t) ss t i (same_itself t) in
+    (omega (arith, place_is t ss, within), ap (λ k. get_or ss k d) (place_is t ss) ∙ sym (same_is t _ (passes_at_first (same_thing t) ss d within)))
 
 pub place_append : (t : Thing) (xs ys : List Thing) → IsIn t xs → index_among t (xs ++ ys) ≡ index_among t xs
-place_append t [] ys i = absurd i
-place_append t (x ∷ xs) ys i =
-    elim (bool_cases (same_thing t x)) [
-      | inl h ↦ place_here t x (xs ++ ys) h ∙ sym (place_here t x xs h)
-      | inr h ↦
-          let later : IsIn t xs = elim i [ inl e ↦ let y = subst (λ (u : Thing). same_thing t u ≡ true) e (same_itself t) in cc | inr r ↦ r ] in
-          place_later t x (xs ++ ys) h ∙ ap (λ (k : ℕ). k + 1) (place_append t xs ys later) ∙ sym (place_later t x xs h)
-    ]
+place_append t xs ys i =
+    let within = first_within (same_thing t) xs t i (same_itself t) in
+    place_is t (xs ++ ys) ∙ prefix_len-append (λ s. not (same_thing t s)) xs ys ∙ cond-false _ _ _ (ne_eqb (position_or_len (same_thing t) xs) (length xs) (λ e. omega (arith, e, within))) ∙ sym (place_is t xs)
 
 -- ---- items
 
@@ -99,15 +82,11 @@ needed_piece p name i h =
     in_append_left (a_piece name) (map a_piece (filter (is_needed p) (names_of p.pieces))) (map a_cell (filter (must_fill p) p.region))
     (in_map a_piece name (filter (is_needed p) (names_of p.pieces)) (in_filter (is_needed p) name (names_of p.pieces) i h))
 
-and_first : (a b : Bool) → a && b ≡ true → a ≡ true
-and_first true b h = refl
-and_first false b h = cc
-
 pub needed_cell : (p : PuzzleValue) (v : Coordinates) → must_fill p v ≡ true → IsIn (a_cell v) (needed_things p)
 needed_cell p v h =
     in_append_right (a_cell v) (map a_piece (filter (is_needed p) (names_of p.pieces))) (map a_cell (filter (must_fill p) p.region))
     (in_map a_cell v (filter (must_fill p) p.region)
-    (in_filter (must_fill p) v p.region (in_from_has p.region v (and_first (has_cell p.region v) (not (has_cell p.maybe_cells v)) h)) h))
+    (in_filter (must_fill p) v p.region (in_from_has p.region v (and_parts (has_cell p.region v) (not (has_cell p.maybe_cells v)) h).0) h))
 
 -- a required thing is a required piece, or a cell that has to be filled
 abbrev pub IsNeeded : PuzzleValue → Thing → Type 0
@@ -154,28 +133,24 @@ needed_at p z i some within =
 
 -- ---- the parts of a choice are things of the puzzle
 
-pub not_false : (b : Bool) → b ≡ false → not b ≡ true
-not_false true h = cc
-not_false false h = refl
-
 pub piece_in : (p : PuzzleValue) (name : ℕ) → IsIn name (names_of p.pieces) → IsIn (a_piece name) (things p)
 piece_in p name i =
-    elim (bool_cases (has_name p.maybe_pieces name)) [
+    elim (cases_Bool (has_name p.maybe_pieces name)) [
       | inl h ↦
           in_append_right (a_piece name) (needed_things p) (map a_piece p.maybe_pieces ++ map a_cell p.maybe_cells)
           (in_append_left (a_piece name) (map a_piece p.maybe_pieces) (map a_cell p.maybe_cells) (in_map a_piece name p.maybe_pieces (in_from_name p.maybe_pieces name h)))
-      | inr h ↦ needed_in p (a_piece name) (needed_piece p name i (not_false (has_name p.maybe_pieces name) h))
+      | inr h ↦ needed_in p (a_piece name) (needed_piece p name i (not_from_false (has_name p.maybe_pieces name) h))
     ]
 
 pub cell_in : (p : PuzzleValue) (v : Coordinates) → IsIn v p.region → IsIn (a_cell v) (things p)
 cell_in p v i =
-    elim (bool_cases (has_cell p.maybe_cells v)) [
+    elim (cases_Bool (has_cell p.maybe_cells v)) [
       | inl h ↦
           in_append_right (a_cell v) (needed_things p) (map a_piece p.maybe_pieces ++ map a_cell p.maybe_cells)
           (in_append_right (a_cell v) (map a_piece p.maybe_pieces) (map a_cell p.maybe_cells) (in_map a_cell v p.maybe_cells (in_from_has p.maybe_cells v h)))
       | inr h ↦
           needed_in p (a_cell v)
-          (needed_cell p v (and_from (has_cell p.region v) (not (has_cell p.maybe_cells v)) (has_from_in p.region v i) (not_false (has_cell p.maybe_cells v) h)))
+          (needed_cell p v (and_from (has_cell p.region v) (not (has_cell p.maybe_cells v)) (has_from_in p.region v i) (not_from_false (has_cell p.maybe_cells v) h)))
     ]
 
 pub parts_in : (p : PuzzleValue) (c : ChoiceValue) → IsPlaced p c → (t : Thing) → IsIn t (things_of c) → IsIn t (things p)

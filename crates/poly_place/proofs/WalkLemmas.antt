@@ -1,19 +1,18 @@
 -- The loops: cells moved one by one, sets added one by one, and lists made with two tests that agree.
-use Rattle.std.proofs.Common.{◌≡◌, ℕ, ◌+◌, ◌<◌, List, [], ◌∷◌, ◌++◌, map, length, get_or, take, Bool, true, false, cond, ◌&&◌, refl, sym, ap, ap₂, subst, ◌∙◌, slice_index, arith, ◌≤◌}
+use Rattle.std.proofs.Common.{◌≡◌, ℕ, ◌+◌, ◌<◌, List, [], ◌∷◌, ◌++◌, map, length, get_or, take, Bool, true, false, sym, ap, ap₂, subst, ◌∙◌, slice_index, arith, ◌≤◌}
 use Rattle.std.specs.List.{list_all, flat_map}
-use Rattle.std.proofs.lemmas.Bool.{and_from}
-use Rattle.std.proofs.lemmas.List.{take_more, take_all, map_more, flat_map_more, map-append}
-use Rattle.std.proofs.lemmas.List.Folds.{list_all-map, list_all_at, list_all_more}
+use Rattle.std.proofs.lemmas.List.{take_all, map_more, map-append}
+use Rattle.std.proofs.lemmas.List.Folds.{list_all-map, list_all_at}
 use Rattle.poly_cells.specs.Coordinates.{Coordinates, coordinates, IsInGrid}
 use Rattle.poly_cells.specs.Symmetries.{rotations}
 use Rattle.poly_cells.specs.Sets.{IsIn, in_order}
-use Rattle.poly_cells.specs.Shapes.{moved, moved_back, turned}
+use Rattle.poly_cells.specs.Shapes.{moved, turned}
 use Rattle.poly_cells.proofs.CoordinateLemmas.{same_coordinates}
 use Rattle.poly_cells.proofs.SetLemmas.{in_map, in_at}
 use Rattle.poly_cells.proofs.GroupLemmas.{are_rotations}
-use Rattle.poly_place.specs.Placements.{cells_cmp, at_cell, at_cells, is_below, orientations}
+use Rattle.poly_place.specs.Placements.{cells_cmp, at_cells, orientations}
 use Rattle.poly_place.specs.Tables.{has_bit}
-use Rattle.poly_cells.proofs.MemberLemmas.{passes}
+use Rattle.poly_cells.proofs.MemberLemmas.{passes, same_function}
 use Rattle.poly_place.proofs.TableLemmas.{bit_in}
 
 -- ---- cells moved, one by one
@@ -29,50 +28,16 @@ pub one_outside : (test : Coordinates → Bool) (d : Coordinates) (vs : List Coo
 one_outside test d vs i v lt is h =
     sym (list_all-map test (moved d) vs ∙ list_all_at (λ w. test (moved d w)) vs i v lt (ap (λ (w : Coordinates). test (moved d w)) (sym is) ∙ h))
 
-pub one_inside : (test : Coordinates → Bool) (d : Coordinates) (vs : List Coordinates) (i : ℕ) (v : Coordinates) → i < length vs → v ≡ get_or vs i v → test (moved d v) ≡ true
-    → list_all test (map (moved d) (take i vs)) ≡ true → list_all test (map (moved d) (take (i + 1) vs)) ≡ true
-one_inside test d vs i v lt is h so =
-    list_all-map test (moved d) (take (i + 1) vs)
-    ∙ list_all_more (λ w. test (moved d w)) vs i v lt
-    ∙ and_from (list_all (λ w. test (moved d w)) (take i vs)) (test (moved d (get_or vs i v)))
-    (sym (list_all-map test (moved d) (take i vs)) ∙ so) (ap (λ (w : Coordinates). test (moved d w)) (sym is) ∙ h)
-
-pub one_moved : (d : Coordinates) (vs : List Coordinates) (i : ℕ) (v w : Coordinates) (before after : List Coordinates) → i < length vs → v ≡ get_or vs i v → w ≡ moved d v → after ≡ before ++ w ∷ []
-    → before ≡ map (moved d) (take i vs) → after ≡ map (moved d) (take (i + 1) vs)
-one_moved d vs i v w before after lt is at push so =
-    push ∙ ap₂ (λ ws u. ws ++ u ∷ []) so (at ∙ ap (moved d) is) ∙ sym (map_more (moved d) vs i v lt)
-
 -- where the table has each cell after the move, each is within the limits
 pub all_within : (bits : List Bool) (d : Coordinates) (vs : List Coordinates) → list_all (has_bit bits) (map (moved d) vs) ≡ true → (v : Coordinates) → IsIn v vs → IsInGrid (moved d v)
 all_within bits d vs h v i = bit_in bits (moved d v) (passes (has_bit bits) (map (moved d) vs) h (moved d v) (in_map (moved d) v vs i))
 
 -- ---- lists joined, one by one
 
-pub one_joined : {X A : Type 0} (f : X → List A) (xs : List X) (i : ℕ) (x : X) (start before after : List A) → i < length xs → x ≡ get_or xs i x → after ≡ before ++ f x
-    → before ≡ start ++ flat_map f (take i xs) → after ≡ start ++ flat_map f (take (i + 1) xs)
-one_joined {X} {A} f xs i x start before after lt is add so =
-    add ∙ ap (λ (bs : List A). bs ++ f x) so ∙ flat_map_more f start (take i xs) x
-    ∙ ap (λ (ys : List X). start ++ flat_map f ys) (sym (take_more xs i x lt ∙ ap (λ (y : X). take i xs ++ y ∷ []) (sym is)))
-
 -- ---- two tests that agree
 
-all_same : (p q : Coordinates → Bool) → ((c : Coordinates) → p c ≡ q c) → (vs : List Coordinates) → list_all p vs ≡ list_all q vs
-all_same p q h [] = refl
-all_same p q h (v ∷ vs) = ap₂ (λ a b. a && b) (h v) (all_same p q h vs)
-
-at_cell_same : (p q : Coordinates → Bool) → ((c : Coordinates) → p c ≡ q c) → (piece : List Coordinates) (c : Coordinates) → at_cell p piece c ≡ at_cell q piece c
-at_cell_same p q h [] c = refl
-at_cell_same p q h (f ∷ fs) c =
-    let there = map (moved (moved_back f c)) (f ∷ fs) in
-    ap (λ b. cond (is_below f c) (cond b (there ∷ []) []) []) (all_same p q h there)
-
-flat_map_same : {X A : Type 0} (f g : X → List A) → ((x : X) → f x ≡ g x) → (xs : List X) → flat_map f xs ≡ flat_map g xs
-flat_map_same f g h [] = refl
-flat_map_same f g h (x ∷ xs) = ap₂ (λ a b. a ++ b) (h x) (flat_map_same f g h xs)
-
 pub at_cells_same : (p q : Coordinates → Bool) → ((c : Coordinates) → p c ≡ q c) → (cells : List Coordinates) (pieces : List (List Coordinates)) → flat_map (at_cells p cells) pieces ≡ flat_map (at_cells q cells) pieces
-at_cells_same p q h cells pieces =
-    flat_map_same (at_cells p cells) (at_cells q cells) (λ piece. flat_map_same (at_cell p piece) (at_cell q piece) (at_cell_same p q h piece) cells) pieces
+at_cells_same p q h cells pieces = ap (λ (r : Coordinates → Bool). flat_map (at_cells r cells) pieces) (same_function p q h)
 
 -- ---- the rotations, one by one
 

@@ -1,5 +1,5 @@
 -- A line that is taken is a line within the limits, and what it adds to what is said.
-use Rattle.std.proofs.Common.{◌≡◌, ◌<◌, ◌≤◌, ◌⊎◌, inl, inr, ℕ, List, [], ◌∷◌, map, length, Bool, true, false, cond, not, ◌&&◌, nat_lt, nat_le, Option, Some, None, Ok, Err, refl, sym, ap, ◌∙◌, subst, arith, codes, decimal, bytes_eq, lt-ltb, le-leb, ltb-true, leb-true}
+use Rattle.std.proofs.Common.{◌≡◌, ◌<◌, ◌≤◌, inl, inr, ℕ, List, [], ◌∷◌, map, length, Bool, true, false, cond, not, ◌&&◌, nat_lt, nat_le, Option, Some, None, Ok, Err, refl, sym, ap, ◌∙◌, subst, arith, codes, decimal, bytes_eq, lt-ltb, le-leb, ltb-true, leb-true}
 use Rattle.std.specs.List.{list_all}
 use Rattle.std.specs.Cmp.Lexicographic.{bytes_decides}
 use Rattle.std.proofs.lemmas.Bool.{and_parts, and_from, not-true, not-false, not_from_false}
@@ -118,15 +118,6 @@ pub record IsTakenLine (s : DraftValue) (words : List (List ℕ)) (t : DraftValu
   pub fits : is_fit s line ≡ true
   pub more : t ≡ plus s line
 
--- the words after `piece` are a piece's
-record IsTakenPiece (s : DraftValue) (optional : Bool) (words : List (List ℕ)) (t : DraftValue) : Type 0 where
-  pub name : ℕ
-  pub cs : List Coordinates
-  pub words_are : words ≡ (name ∷ []) ∷ map cell_word cs
-  pub good : is_line (piece optional name cs) ≡ true
-  pub new : not (has_piece s.pieces name) ≡ true
-  pub more : t ≡ with_piece s optional name (kept_shape cs)
-
 new_is : (pieces : List (ℕ × List Coordinates)) (found : Option ℕ) (name : ℕ) → is_new pieces found ≡ Ok name → (found ≡ Some name) × (has_piece pieces name ≡ false)
 new_is pieces None name h = absurd (no_fault BadLine name h)
 new_is pieces (Some n) name h =
@@ -157,7 +148,7 @@ no_piece : (s : DraftValue) (optional : Bool) (t : DraftValue) → piece_line s 
 unfolding piece_line
 no_piece s optional t h = no_fault BadLine t h
 
-piece_taken : (s : DraftValue) (optional : Bool) (words : List (List ℕ)) (t : DraftValue) → piece_line s optional words ≡ Ok t → IsTakenPiece s optional words t
+piece_taken : (s : DraftValue) (optional : Bool) (words : List (List ℕ)) (t : DraftValue) → piece_line s optional words ≡ Ok t → IsTakenLine s (maybe_words optional (codes "piece" ∷ words)) t
 piece_taken s optional [] t h = absurd (no_piece s optional t h)
 piece_taken s optional (word ∷ words) t h =
     let p = piece_parts s optional word words t h in
@@ -168,11 +159,10 @@ piece_taken s optional (word ∷ words) t h =
     let all : k.0 ≡ m.cs = m.all_are in
     let some : is_empty (map cell_word m.cs) ≡ false = rw (← m.words_are) p.0 in
     record {
-      name = p.1.0;
-      cs = m.cs;
-      words_are = words_same w.1 m.words_are;
+      line = piece optional p.1.0 m.cs;
+      words_are = ap (λ ws. maybe_words optional (codes "piece" ∷ ws)) (words_same w.1 m.words_are);
       good = and_from _ _ w.0 (and_from _ _ (and_from _ _ (some_cells m.cs some) m.in_grid) (and_from _ _ (subst (λ cs. are_apart cs ≡ true) all m.apart) (le-leb (length m.cs) most_piece_cells (subst (λ cs. length cs ≤ most_piece_cells) all m.few))));
-      new = not_from_false _ n.1;
+      fits = not_from_false _ n.1;
       more = sym p.1.2.2 ∙ ap (with_piece s optional p.1.0) (sym k.2 ∙ ap kept_shape all);
     }
 
@@ -273,51 +263,22 @@ key_word keys.Maybe = codes "maybe"
 
 key_is : (word : List ℕ) (k : Key) → key_from word ≡ Some k → word ≡ key_word k
 unfolding key_word
-key_is word k h = piece_key (chosen (bytes_eq word (codes "piece")) (Some keys.Piece) after_piece (Some k) h)
+key_is word k h = first keys.Piece _ (first keys.Box _ (first keys.Cells _ (first keys.Cut _ (first keys.Maybe None (λ e. absurd (none-some k e)))))) h
   where
-    after_cut : Option Key
-    after_cut = cond (bytes_eq word (codes "maybe")) (Some keys.Maybe) None
-
-    after_cells : Option Key
-    after_cells = cond (bytes_eq word (codes "cut")) (Some keys.Cut) after_cut
-
-    after_box : Option Key
-    after_box = cond (bytes_eq word (codes "cells")) (Some keys.Cells) after_cells
-
-    after_piece : Option Key
-    after_piece = cond (bytes_eq word (codes "box")) (Some keys.Box) after_box
-
-    maybe_key : ((bytes_eq word (codes "maybe") ≡ true) × (◌≡◌ {A = Option Key} (Some keys.Maybe) (Some k))) ⊎ ((bytes_eq word (codes "maybe") ≡ false) × (◌≡◌ {A = Option Key} None (Some k))) → word ≡ key_word k
-    maybe_key (inl e) = (bytes_decides word (codes "maybe")).0 e.0 ∙ ap key_word (same_Some keys.Maybe k e.1)
-    maybe_key (inr e) = absurd (none-some k e.1)
-
-    cut_key : ((bytes_eq word (codes "cut") ≡ true) × (◌≡◌ {A = Option Key} (Some keys.Cut) (Some k))) ⊎ ((bytes_eq word (codes "cut") ≡ false) × (after_cut ≡ Some k)) → word ≡ key_word k
-    cut_key (inl e) = (bytes_decides word (codes "cut")).0 e.0 ∙ ap key_word (same_Some keys.Cut k e.1)
-    cut_key (inr e) = maybe_key (chosen (bytes_eq word (codes "maybe")) (Some keys.Maybe) None (Some k) e.1)
-
-    cells_key : ((bytes_eq word (codes "cells") ≡ true) × (◌≡◌ {A = Option Key} (Some keys.Cells) (Some k))) ⊎ ((bytes_eq word (codes "cells") ≡ false) × (after_cells ≡ Some k)) → word ≡ key_word k
-    cells_key (inl e) = (bytes_decides word (codes "cells")).0 e.0 ∙ ap key_word (same_Some keys.Cells k e.1)
-    cells_key (inr e) = cut_key (chosen (bytes_eq word (codes "cut")) (Some keys.Cut) after_cut (Some k) e.1)
-
-    box_key : ((bytes_eq word (codes "box") ≡ true) × (◌≡◌ {A = Option Key} (Some keys.Box) (Some k))) ⊎ ((bytes_eq word (codes "box") ≡ false) × (after_box ≡ Some k)) → word ≡ key_word k
-    box_key (inl e) = (bytes_decides word (codes "box")).0 e.0 ∙ ap key_word (same_Some keys.Box k e.1)
-    box_key (inr e) = cells_key (chosen (bytes_eq word (codes "cells")) (Some keys.Cells) after_cells (Some k) e.1)
-
-    piece_key : ((bytes_eq word (codes "piece") ≡ true) × (◌≡◌ {A = Option Key} (Some keys.Piece) (Some k))) ⊎ ((bytes_eq word (codes "piece") ≡ false) × (after_piece ≡ Some k)) → word ≡ key_word k
-    piece_key (inl e) = (bytes_decides word (codes "piece")).0 e.0 ∙ ap key_word (same_Some keys.Piece k e.1)
-    piece_key (inr e) = box_key (chosen (bytes_eq word (codes "box")) (Some keys.Box) after_box (Some k) e.1)
-
-piece_line_is : (s : DraftValue) (optional : Bool) (words : List (List ℕ)) (t : DraftValue) → IsTakenPiece s optional words t → IsTakenLine s (maybe_words optional (codes "piece" ∷ words)) t
-piece_line_is s optional words t p = record { line = piece optional p.name p.cs; words_are = ap (λ ws. maybe_words optional (codes "piece" ∷ ws)) p.words_are; good = p.good; fits = p.new; more = p.more }
+    -- either the word is this key's, or the keys after it tell
+    first : (key : Key) (later : Option Key) → (later ≡ Some k → word ≡ key_word k) → cond (bytes_eq word (key_word key)) (Some key) later ≡ Some k → word ≡ key_word k
+    first key later rest e =
+        elim (chosen (bytes_eq word (key_word key)) (Some key) later (Some k) e) [
+          | inl here ↦ (bytes_decides word (key_word key)).0 here.0 ∙ ap key_word (same_Some key k here.1)
+          | inr more ↦ rest more.1
+        ]
 
 maybe_keyed_is : (s : DraftValue) (key : List ℕ) (words : List (List ℕ)) (t : DraftValue) (k : Option Key) → key_from key ≡ k → maybe_keyed k s words ≡ Ok t → IsTakenLine s (codes "maybe" ∷ key ∷ words) t
 unfolding key_word
 maybe_keyed_is s key words t None e h = absurd (no_fault BadLine t h)
-maybe_keyed_is s key words t (Some keys.Piece) e h = rw (key_is key keys.Piece e) (piece_line_is s true words t (piece_taken s true words t h))
+maybe_keyed_is s key words t (Some keys.Piece) e h = rw (key_is key keys.Piece e) (piece_taken s true words t h)
 maybe_keyed_is s key words t (Some keys.Cells) e h = rw (key_is key keys.Cells e) (maybe_taken s words t h)
-maybe_keyed_is s key words t (Some keys.Box) e h = absurd (no_fault BadLine t h)
-maybe_keyed_is s key words t (Some keys.Cut) e h = absurd (no_fault BadLine t h)
-maybe_keyed_is s key words t (Some keys.Maybe) e h = absurd (no_fault BadLine t h)
+maybe_keyed_is s key words t (Some other) e h = absurd (no_fault BadLine t h)
 
 maybe_is : (s : DraftValue) (words : List (List ℕ)) (t : DraftValue) → maybe_line s words ≡ Ok t → IsTakenLine s (codes "maybe" ∷ words) t
 unfolding maybe_line
@@ -327,7 +288,7 @@ maybe_is s (key ∷ words) t h = maybe_keyed_is s key words t (key_from key) ref
 keyed_is : (s : DraftValue) (key : List ℕ) (words : List (List ℕ)) (t : DraftValue) (k : Option Key) → key_from key ≡ k → keyed_line k s words ≡ Ok t → IsTakenLine s (key ∷ words) t
 unfolding key_word
 keyed_is s key words t None e h = absurd (no_fault BadLine t h)
-keyed_is s key words t (Some keys.Piece) e h = rw (key_is key keys.Piece e) (piece_line_is s false words t (piece_taken s false words t h))
+keyed_is s key words t (Some keys.Piece) e h = rw (key_is key keys.Piece e) (piece_taken s false words t h)
 keyed_is s key words t (Some keys.Box) e h = rw (key_is key keys.Box e) (box_parts s words t h)
 keyed_is s key words t (Some keys.Cells) e h = rw (key_is key keys.Cells e) (cells_taken s words t h)
 keyed_is s key words t (Some keys.Cut) e h = rw (key_is key keys.Cut e) (cut_taken s words t h)

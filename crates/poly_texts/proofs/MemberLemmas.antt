@@ -1,16 +1,17 @@
 -- The region has the cells that are named and not cut, however often they are.
 use Rattle.std.proofs.Common.{◌≡◌, inl, inr, List, [], ◌∷◌, ◌++◌, Bool, true, false, cond, not, ◌&&◌, ◌||◌, refl, sym, ap, ◌∙◌}
 use Rattle.std.specs.List.{list_all}
-use Rattle.std.proofs.lemmas.Bool.{and_parts}
+use Rattle.std.proofs.lemmas.Bool.{and_parts, and_from}
 use Rattle.std.proofs.lemmas.List.Folds.{list_any-append}
-use Rattle.std.proofs.Math.Bool.{and-true, and-false, or-false, or_assoc}
+use Rattle.std.proofs.Math.Bool.{and-true, or-false, or_assoc}
 use Rattle.poly_cells.specs.Coordinates.{Coordinates, coordinates_cmp}
 use Rattle.poly_cells.specs.Sets.{IsIn, in_order}
 use Rattle.poly_cells.proofs.SetLemmas.{in_from_order}
 use Rattle.poly_cells.proofs.CoordinateLemmas.{is_same_Decides}
-use Rattle.poly_cells.proofs.CellTestLemmas.{has_from_in, same_in_order, has_ordered}
+use Rattle.poly_cells.proofs.CellTestLemmas.{has_from_in, same_in_order, has_ordered, in_from_has, same_tests}
 use Rattle.poly_cells.specs.CellTests.{is_same, has_cell}
 use Rattle.poly_texts.specs.Cells.{with_cell, with_cells, without}
+use Rattle.poly_cells.proofs.MemberLemmas.{in_from_filter, in_filter}
 
 has_one : (s : List Coordinates) (d c : Coordinates) → has_cell (with_cell s d) c ≡ (has_cell s c || is_same c d)
 has_one s d c = by_test (has_cell s d) refl (is_same c d) refl
@@ -30,21 +31,11 @@ has_once s (d ∷ cs) c = has_once (with_cell s d) cs c ∙ ap (λ b. b || has_c
 
 -- what is left has the cells that are there and aren't cut
 pub has_left : (cut cells : List Coordinates) (c : Coordinates) → has_cell (without cut cells) c ≡ (has_cell cells c && not (has_cell cut c))
-has_left cut [] c = refl
-has_left cut (d ∷ cells) c = by_test (has_cell cut d) refl (is_same c d) refl (has_left cut cells c)
-  where
-    by_test : (b : Bool) → has_cell cut d ≡ b → (e : Bool) → is_same c d ≡ e → has_cell (without cut cells) c ≡ (has_cell cells c && not (has_cell cut c)) →
-        has_cell (cond (not b) (d ∷ without cut cells) (without cut cells)) c ≡ ((e || has_cell cells c) && not (has_cell cut c))
-    by_test true h true e l =
-        let m : c ≡ d = (is_same_Decides c d).0 e in
-        let k : has_cell cut c ≡ true = rw m h in
-        l ∙ rw k (and-false (has_cell cells c))
-    by_test true h false e l = l
-    by_test false h true e l =
-        let m : c ≡ d = (is_same_Decides c d).0 e in
-        let k : has_cell cut c ≡ false = rw m h in
-        rw (e, k) refl
-    by_test false h false e l = rw e l
+has_left cut cells c = same_tests _ _
+    (λ h. let i = in_from_filter (λ d. not (has_cell cut d)) c cells (in_from_has (without cut cells) c h) in and_from _ _ (has_from_in cells c i.0) i.1)
+    (λ h.
+    let p = and_parts (has_cell cells c) (not (has_cell cut c)) h in
+    has_from_in (without cut cells) c (in_filter (λ d. not (has_cell cut d)) c cells (in_from_has cells c p.0) p.1))
 
 -- cutting and taking once don't depend on repeats
 pub left_once : (cut cells : List Coordinates) → in_order coordinates_cmp (without (with_cells [] cut) (with_cells [] cells)) ≡ in_order coordinates_cmp (without cut cells)

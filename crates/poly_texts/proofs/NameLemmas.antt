@@ -1,8 +1,8 @@
 -- Names of pieces: how many there can be, and in which order those are that may be left out.
-use Rattle.std.proofs.Common.{◌≡◌, ◌<◌, ◌≤◌, ℕ, zero, suc, ◌+◌, ◌==◌, List, [], ◌∷◌, ◌++◌, filter, flat_map, length, Bool, true, false, not, ◌&&◌, ◌||◌, nat_eq, nat_le, refl, sym, ap, ◌∙◌, arith, eq-eqb, eqb-true}
+use Rattle.std.proofs.Common.{◌≡◌, ◌<◌, ◌≤◌, ℕ, ◌+◌, ◌==◌, List, [], ◌∷◌, ◌++◌, filter, flat_map, length, Bool, true, false, not, ◌&&◌, ◌||◌, nat_eq, nat_le, refl, sym, ap, ◌∙◌, arith, eq-eqb, eqb-true}
 use Rattle.std.specs.List.{list_all, list_any, range_with_len, IsDistinct, AllByRecursion}
 use Rattle.std.specs.Cmp.{nat_eq_equiv}
-use Rattle.std.proofs.lemmas.Bool.{and_parts, and_from, or_right, not-true}
+use Rattle.std.proofs.lemmas.Bool.{and_parts, and_from, or_right, not-true, false_from_ne_true, both_ways}
 use Rattle.std.proofs.lemmas.Bool.Decides.{nat_tests}
 use Rattle.std.proofs.lemmas.List.Folds.{list_any-append}
 use Rattle.std.proofs.lemmas.List.{length-map}
@@ -11,7 +11,9 @@ use Rattle.poly_cells.specs.Coordinates.{Coordinates}
 use Rattle.poly_texts.specs.Limits.{most_piece_cells, most_pieces}
 use Rattle.poly_texts.specs.Words.{is_name}
 use Rattle.poly_texts.specs.Puzzle.{names_of, has_name, are_new}
-use Rattle.poly_texts.specs.Grammar.{Line, piece, box, cells, cut, is_line, are_in_grid, are_apart, piece_of, maybe_name_of}
+use Rattle.poly_texts.specs.Grammar.{Line, piece, is_line, are_in_grid, are_apart, piece_of, maybe_name_of}
+use Rattle.poly_cells.proofs.MemberLemmas.{all_pass, passes, some_passes, passes_some, in_to_range}
+use Rattle.poly_cells.proofs.SetLemmas.{all_from_in}
 
 -- *names of lines*
 
@@ -21,24 +23,17 @@ names_are (piece optional name cs ∷ ls) h =
     let p = and_parts (is_line (piece optional name cs)) (list_all is_line ls) h in
     let q = and_parts (is_name name) (are_in_grid cs && (are_apart cs && nat_le (length cs) most_piece_cells)) p.0 in
     and_from _ _ q.0 (names_are ls p.1)
-names_are (box a b c ∷ ls) h = names_are ls (and_parts (is_line (box a b c)) (list_all is_line ls) h).1
-names_are (cells optional cs ∷ ls) h = names_are ls (and_parts (is_line (cells optional cs)) (list_all is_line ls) h).1
-names_are (cut cs ∷ ls) h = names_are ls (and_parts (is_line (cut cs)) (list_all is_line ls) h).1
+names_are (l ∷ ls) h = names_are ls (and_parts (is_line l) (list_all is_line ls) h).1
 
 one_more : (n : ℕ) (ns ms : List ℕ) → list_all (has_name ns) ms ≡ true → list_all (has_name (n ∷ ns)) ms ≡ true
-one_more n ns [] h = refl
-one_more n ns (m ∷ ms) h =
-    let p = and_parts (has_name ns m) (list_all (has_name ns) ms) h in
-    and_from _ _ (or_right (n == m) (has_name ns m) p.0) (one_more n ns ms p.1)
+one_more n ns ms h = all_pass (has_name (n ∷ ns)) ms (λ m i. or_right (n == m) (has_name ns m) (passes (has_name ns) ms h m i))
 
 pub maybe_are : (ls : List Line) → list_all (has_name (names_of (flat_map piece_of ls))) (flat_map maybe_name_of ls) ≡ true
 maybe_are [] = refl
 maybe_are (piece true name cs ∷ ls) =
     and_from _ _ (rw (eq-eqb name name refl) refl) (one_more name (names_of (flat_map piece_of ls)) (flat_map maybe_name_of ls) (maybe_are ls))
 maybe_are (piece false name cs ∷ ls) = one_more name (names_of (flat_map piece_of ls)) (flat_map maybe_name_of ls) (maybe_are ls)
-maybe_are (box a b c ∷ ls) = maybe_are ls
-maybe_are (cells optional cs ∷ ls) = maybe_are ls
-maybe_are (cut cs ∷ ls) = maybe_are ls
+maybe_are (l ∷ ls) = maybe_are ls
 
 -- *how many there can be*
 
@@ -47,12 +42,7 @@ abbrev all_names : List ℕ
 all_names = range_with_len 48 10 ++ range_with_len 65 26 ++ range_with_len 97 26
 
 in_range : (n a q : ℕ) → a ≤ q → q < a + n → list_any (nat_eq q) (range_with_len a n) ≡ true
-in_range zero a q low high = absurd (omega arith)
-in_range (suc n) a q low high = by_test (nat_eq q a) refl (in_range n (a + 1) q)
-  where
-    by_test : (b : Bool) → nat_eq q a ≡ b → (a + 1 ≤ q → q < a + 1 + n → list_any (nat_eq q) (range_with_len (a + 1) n) ≡ true) → (b || list_any (nat_eq q) (range_with_len (a + 1) n)) ≡ true
-    by_test true e later = refl
-    by_test false e later = later (grind (arith, nat_tests)) (omega arith)
+in_range n a q low high = passes_some (nat_eq q) q (range_with_len a n) (in_to_range q a n low high) (eq-eqb q q refl)
 
 name_listed : (q : ℕ) → is_name q ≡ true → list_any (nat_eq q) all_names ≡ true
 name_listed q h =
@@ -72,23 +62,12 @@ name_listed q h =
     by_tests false d false e false f h = absurd (cc)
 
 member_is_name : (q : ℕ) (ns : List ℕ) → list_all is_name ns ≡ true → list_any (nat_eq q) ns ≡ true → is_name q ≡ true
-member_is_name q [] all h = absurd (cc)
-member_is_name q (n ∷ ns) all h = by_test (nat_eq q n) refl h (member_is_name q ns parts.1)
-  where
-    parts : (is_name n ≡ true) × (list_all is_name ns ≡ true)
-    parts = and_parts (is_name n) (list_all is_name ns) all
-
-    by_test : (b : Bool) → nat_eq q n ≡ b → (b || list_any (nat_eq q) ns) ≡ true → (list_any (nat_eq q) ns ≡ true → is_name q ≡ true) → is_name q ≡ true
-    by_test true e h later = ap is_name (eqb-true q n e) ∙ parts.0
-    by_test false e h later = later h
+member_is_name q ns all h = let n = some_passes (nat_eq q) ns h in ap is_name (eqb-true q n.0 n.2) ∙ passes is_name ns all n.0 n.1
 
 apart_from : (n : ℕ) (ns : List ℕ) → not (has_name ns n) ≡ true → AllByRecursion (λ m. nat_eq n m ≡ false) ns
-apart_from n [] h = tt
-apart_from n (m ∷ ms) h = by_test (m == n) refl h (apart_from n ms)
-  where
-    by_test : (b : Bool) → (m == n) ≡ b → not (b || has_name ms n) ≡ true → (not (has_name ms n) ≡ true → AllByRecursion (λ m. nat_eq n m ≡ false) ms) → (nat_eq n m ≡ false) × AllByRecursion (λ m. nat_eq n m ≡ false) ms
-    by_test true e h later = absurd (cc)
-    by_test false e h later = (nat_eq_equiv.symm n m ∙ e, later h)
+apart_from n ns h =
+    all_from_in (λ m. nat_eq n m ≡ false) ns
+    (λ m i. false_from_ne_true _ (λ t. both_ways (has_name ns n) (not-true _ h) (passes_some (λ k. k == n) m ns i (nat_eq_equiv.symm m n ∙ t))))
 
 are_distinct : (ns : List ℕ) → are_new ns ≡ true → IsDistinct nat_eq ns
 unfolding IsDistinct
@@ -104,15 +83,9 @@ pieces_few pieces named new =
 -- *the order of those that may be left out*
 
 not_among : (n : ℕ) (ns ms : List ℕ) → has_name ns n ≡ false → list_all (has_name ns) ms ≡ true → has_name ms n ≡ false
-not_among n ns [] h all = refl
-not_among n ns (m ∷ ms) h all = by_test (m == n) refl (not_among n ns ms h parts.1)
-  where
-    parts : (has_name ns m ≡ true) × (list_all (has_name ns) ms ≡ true)
-    parts = and_parts (has_name ns m) (list_all (has_name ns) ms) all
-
-    by_test : (b : Bool) → (m == n) ≡ b → has_name ms n ≡ false → (b || has_name ms n) ≡ false
-    by_test true e later = let same : has_name ns m ≡ has_name ns n = ap (has_name ns) (eqb-true m n e) in absurd (cc (parts.0, same, h))
-    by_test false e later = later
+not_among n ns ms h all = false_from_ne_true _ (λ t.
+    let m = some_passes (λ k. k == n) ms t in
+    both_ways (has_name ns n) h (ap (has_name ns) (sym (eqb-true m.0 n m.2)) ∙ passes (has_name ns) ms all m.0 m.1))
 
 -- a name that is not there keeps nothing
 kept_same : (n : ℕ) (ms ns : List ℕ) → has_name ns n ≡ false → filter (has_name (n ∷ ms)) ns ≡ filter (has_name ms) ns
@@ -137,6 +110,4 @@ maybe_in_order (piece false name cs ∷ ls) h =
     let p = and_parts (not (has_name (names_of (flat_map piece_of ls)) name)) (are_new (names_of (flat_map piece_of ls))) h in
     let out = not_among name (names_of (flat_map piece_of ls)) (flat_map maybe_name_of ls) (not-true _ p.0) (maybe_are ls) in
     rw out (maybe_in_order ls p.1)
-maybe_in_order (box a b c ∷ ls) h = maybe_in_order ls h
-maybe_in_order (cells optional cs ∷ ls) h = maybe_in_order ls h
-maybe_in_order (cut cs ∷ ls) h = maybe_in_order ls h
+maybe_in_order (l ∷ ls) h = maybe_in_order ls h

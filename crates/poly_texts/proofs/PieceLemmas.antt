@@ -1,16 +1,16 @@
 -- The cells of pieces and of the region are within the limits, and pieces lie at the origin.
-use Rattle.std.proofs.Common.{◌≡◌, ◌<◌, ◌≤◌, inl, inr, ℕ, zero, suc, ◌+◌, List, [], ◌∷◌, flat_map, length, true, not, ◌&&◌, nat_lt, nat_le, sym, subst, arith}
+use Rattle.std.proofs.Common.{◌≡◌, ◌<◌, ◌≤◌, inl, inr, ℕ, ◌+◌, List, [], ◌∷◌, flat_map, length, true, not, ◌&&◌, nat_lt, nat_le, sym, subst, arith}
 use Rattle.std.specs.List.{list_all, range_with_len}
 use Rattle.std.proofs.lemmas.Bool.{and_parts}
 use Rattle.std.proofs.lemmas.Bool.Decides.{nat_tests}
 use Rattle.std.proofs.lemmas.List.{length-map}
 use Rattle.std.specs.declared.cmp.Ordering.{Ordering}
 use Rattle.std.specs.declared.cmp.Ordering.TheVariants.{Less, Equal, Greater}
-use Rattle.poly_cells.proofs.MemberLemmas.{in_from_flat_map, in_from_filter}
+use Rattle.poly_cells.proofs.MemberLemmas.{in_from_flat_map, in_from_filter, in_from_range, passes}
 use Rattle.poly_cells.specs.Coordinates.{Coordinates, IsInGrid, coordinates, coordinates_cmp}
-use Rattle.poly_cells.specs.Sets.{IsIn, in_order, insert_in, by_order}
+use Rattle.poly_cells.specs.Sets.{in_order, insert_in, by_order}
 use Rattle.poly_cells.specs.Shapes.{AllInGrid, corner, moved_back, normal}
-use Rattle.poly_cells.proofs.SetLemmas.{in_append_cases, in_from_map, in_from_order, in_order_rises}
+use Rattle.poly_cells.proofs.SetLemmas.{in_from_map, in_from_order, in_order_rises}
 use Rattle.poly_cells.proofs.CoordinateLemmas.{coordinates_total}
 use Rattle.poly_cells.proofs.ShapeLemmas.{normal_is_shape}
 use Rattle.poly_cells.proofs.ImageLemmas.{normal_is}
@@ -21,15 +21,10 @@ use Rattle.poly_texts.specs.Cells.{without, row, layer, box_cells}
 use Rattle.poly_texts.specs.Words.{is_name}
 use Rattle.poly_texts.specs.Puzzle.{IsPiece, ArePieces}
 use Rattle.poly_texts.specs.Reading.{kept_shape}
-use Rattle.poly_texts.specs.Grammar.{Line, piece, box, cells, cut, are_in_grid, are_apart, is_side, is_line, piece_of, named_by}
+use Rattle.poly_texts.specs.Grammar.{Line, piece, box, cells, are_in_grid, are_apart, is_side, is_line, piece_of, named_by}
 use Rattle.poly_texts.proofs.StepLemmas.{some_in_order}
 
 -- *members of lists*
-
-in_range_below : (n a x : ℕ) → IsIn x (range_with_len a n) → x < a + n
-in_range_below zero a x i = absurd i
-in_range_below (suc n) a x (inl e) = omega arith
-in_range_below (suc n) a x (inr r) = let h = in_range_below n (a + 1) x r in omega arith
 
 inserted : (x : Coordinates) (ys : List Coordinates) → length (insert_in coordinates_cmp x ys) ≤ 1 + length ys
 inserted x [] = omega arith
@@ -52,29 +47,25 @@ box_limits a b c la lb lc v i =
     let x = in_from_flat_map (layer b c) v (range_with_len 0 a) i in
     let y = in_from_flat_map (row c x.0) v (range_with_len 0 b) x.2 in
     let z = in_from_map (coordinates x.0 y.0) v (range_with_len 0 c) y.2 in
-    let hx = in_range_below a 0 x.0 x.1 in
-    let hy = in_range_below b 0 y.0 y.1 in
-    let hz = in_range_below c 0 z.0 z.1 in
+    let hx = in_from_range x.0 0 a x.1 in
+    let hy = in_from_range y.0 0 b y.1 in
+    let hz = in_from_range z.0 0 c z.1 in
     subst IsInGrid (sym z.2) (record { x_in = omega arith; y_in = omega arith; z_in = omega arith })
 
 side_most : (n : ℕ) → is_side n ≡ true → n ≤ most_size
 side_most n h = let p = and_parts (nat_lt 0 n) (nat_le n most_size) h in grind (arith, nat_tests)
 
 line_limits : (l : Line) → is_line l ≡ true → AllInGrid (named_by l)
-line_limits (piece optional name cs) h = λ c i. absurd i
 line_limits (box a b c) h =
     let p = and_parts (is_side a) (is_side b && is_side c) h in
     let q = and_parts (is_side b) (is_side c) p.1 in
     box_limits a b c (side_most a p.0) (side_most b q.0) (side_most c q.1)
 line_limits (cells optional cs) h = all_in_grid_from cs (and_parts (nat_lt 0 (length cs)) (list_all is_in_grid cs) h).1
-line_limits (cut cs) h = λ c i. absurd i
+line_limits other h = λ c i. absurd i
 
 -- the cells that lines name are within the limits
 pub named_limits : (ls : List Line) → list_all is_line ls ≡ true → AllInGrid (flat_map named_by ls)
-named_limits [] h c i = absurd i
-named_limits (l ∷ ls) h c i =
-    let p = and_parts (is_line l) (list_all is_line ls) h in
-    elim (in_append_cases c (named_by l) (flat_map named_by ls) i) [ inl e ↦ line_limits l p.0 c e | inr r ↦ named_limits ls p.1 c r ]
+named_limits ls h c i = let l = in_from_flat_map named_by c ls i in line_limits l.0 (passes is_line ls h l.0 l.1) c l.2
 
 pub uncut_limits : (gone named : List Coordinates) → AllInGrid named → AllInGrid (in_order coordinates_cmp (without gone named))
 uncut_limits gone named limits c i =
@@ -109,6 +100,4 @@ pieces_are (piece optional name cs ∷ ls) h =
     let c = and_parts (are_in_grid cs) (are_apart cs && nat_le (length cs) most_piece_cells) b.1 in
     let d = and_parts (are_apart cs) (nat_le (length cs) most_piece_cells) c.1 in
     λ p i. elim i [ inl e ↦ subst (λ (q : ℕ × List Coordinates). IsPiece q.1) (sym e) (piece_is cs c.0 d.1) | inr r ↦ pieces_are ls a.1 p r ]
-pieces_are (box a b c ∷ ls) h = pieces_are ls (and_parts (is_line (box a b c)) (list_all is_line ls) h).1
-pieces_are (cells optional cs ∷ ls) h = pieces_are ls (and_parts (is_line (cells optional cs)) (list_all is_line ls) h).1
-pieces_are (cut cs ∷ ls) h = pieces_are ls (and_parts (is_line (cut cs)) (list_all is_line ls) h).1
+pieces_are (l ∷ ls) h = pieces_are ls (and_parts (is_line l) (list_all is_line ls) h).1

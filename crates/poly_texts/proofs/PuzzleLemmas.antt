@@ -1,21 +1,20 @@
 -- What a text says is a puzzle.
-use Rattle.std.proofs.Common.{◌≡◌, ◌<◌, ◌≤◌, ℕ, List, [], ◌∷◌, flat_map, length, Bool, true, false, not, ◌||◌, Ok, refl, sym, ◌∙◌, subst, le_trans}
+use Rattle.std.proofs.Common.{◌≡◌, ◌<◌, ◌≤◌, ℕ, List, [], flat_map, length, true, false, not, Ok, sym, ◌∙◌, subst, le_trans}
 use Rattle.std.specs.List.{list_all}
 use Rattle.std.proofs.lemmas.Bool.{and_parts, and_from}
-use Rattle.std.proofs.lemmas.List.Folds.{list_any-append}
 use Rattle.std.proofs.lemmas.List.Sums.{length-filter, count_by-le-length}
-use Rattle.poly_cells.proofs.MemberLemmas.{all_pass}
+use Rattle.poly_cells.proofs.MemberLemmas.{all_pass, in_flat_map, in_from_flat_map}
 use Rattle.poly_cells.specs.Coordinates.{Coordinates, coordinates_cmp}
-use Rattle.poly_cells.specs.Sets.{in_order}
+use Rattle.poly_cells.specs.Sets.{in_order, IsIn}
 use Rattle.poly_cells.proofs.SetLemmas.{in_order_rises}
 use Rattle.poly_cells.proofs.CoordinateLemmas.{coordinates_total}
-use Rattle.poly_cells.proofs.CellTestLemmas.{has_ordered, has_from_in}
-use Rattle.poly_cells.specs.CellTests.{is_same, has_cell}
+use Rattle.poly_cells.proofs.CellTestLemmas.{has_ordered, has_from_in, in_from_has}
+use Rattle.poly_cells.specs.CellTests.{has_cell}
 use Rattle.poly_texts.specs.Limits.{most_region_cells}
 use Rattle.poly_texts.specs.Cells.{with_cells, without}
 use Rattle.poly_texts.specs.Puzzle.{PuzzleValue, IsPuzzle, needs_nothing}
 use Rattle.poly_texts.specs.Reading.{DraftValue, line, nothing, whole, puzzle_of}
-use Rattle.poly_texts.specs.Grammar.{Line, piece, box, cells, cut, piece_of, named_by, maybe_by, cut_by, IsPuzzleText}
+use Rattle.poly_texts.specs.Grammar.{Line, cells, piece_of, named_by, maybe_by, cut_by, IsPuzzleText}
 use Rattle.text_lines.specs.Lines.{lines_of}
 use Rattle.text_lines.specs.Reading.{lines_read}
 use Rattle.text_lines.proofs.ReadingLemmas.{text_ok}
@@ -26,23 +25,14 @@ use Rattle.poly_texts.proofs.TextLemmas.{read_is_text}
 
 -- *cells*
 
-or_mono : (a b c d : Bool) → (a ≡ true → b ≡ true) → (c ≡ true → d ≡ true) → (a || c) ≡ true → (b || d) ≡ true
-or_mono true b c d f g h = rw (f refl) refl
-or_mono false true c d f g h = refl
-or_mono false false c d f g h = g h
-
-line_named : (l : Line) (c : Coordinates) → has_cell (maybe_by l) c ≡ true → has_cell (named_by l) c ≡ true
-line_named (piece optional name cs) c h = h
-line_named (box a b d) c h = absurd (cc)
-line_named (cells true cs) c h = h
-line_named (cells false cs) c h = absurd (cc)
-line_named (cut cs) c h = h
+line_named : (l : Line) (c : Coordinates) → IsIn c (maybe_by l) → IsIn c (named_by l)
+line_named (cells true cs) c i = i
+line_named other c i = absurd i
 
 maybe_are_named : (ls : List Line) (c : Coordinates) → has_cell (flat_map maybe_by ls) c ≡ true → has_cell (flat_map named_by ls) c ≡ true
-maybe_are_named [] c h = h
-maybe_are_named (l ∷ ls) c h =
-    list_any-append (is_same c) (named_by l) (flat_map named_by ls)
-    ∙ or_mono (has_cell (maybe_by l) c) (has_cell (named_by l) c) (has_cell (flat_map maybe_by ls) c) (has_cell (flat_map named_by ls) c) (line_named l c) (maybe_are_named ls c) (sym (list_any-append (is_same c) (maybe_by l) (flat_map maybe_by ls)) ∙ h)
+maybe_are_named ls c h =
+    let l = in_from_flat_map maybe_by c ls (in_from_has (flat_map maybe_by ls) c h) in
+    has_from_in (flat_map named_by ls) c (in_flat_map named_by c l.0 ls l.1 (line_named l.0 c l.2))
 
 region_few : (gone named : List Coordinates) → length (with_cells [] named) ≤ most_region_cells → length (in_order coordinates_cmp (without gone named)) ≤ most_region_cells
 region_few gone named h =

@@ -1,14 +1,13 @@
 -- Words have one spelling.
-use Rattle.std.proofs.Common.{◌≡◌, ◌<◌, ◌≤◌, ◌⊎◌, inl, inr, ℕ, zero, suc, ◌+◌, List, [], ◌∷◌, ◌++◌, map, length, Bool, true, false, not, ◌&&◌, nat_lt, nat_le, Option, Some, None, Ok, refl, sym, ap, ◌∙◌, arith, codes, decimal, bytes_eq, append_assoc, append-nil, length-append, lt-ltb, ltb-true, leb-true, true≢false, subst, lit<}
+use Rattle.std.proofs.Common.{◌≡◌, ◌<◌, ◌≤◌, ℕ, zero, suc, ◌+◌, List, [], ◌∷◌, ◌++◌, map, length, true, false, not, ◌&&◌, nat_lt, nat_le, Some, Ok, refl, sym, ap, ◌∙◌, arith, codes, decimal, bytes_eq, append_assoc, append-nil, length-append, lt-ltb, ltb-true, leb-true, true≢false, subst, lit<}
 use Rattle.std.specs.List.{list_all}
 use Rattle.std.specs.Cmp.Lexicographic.{bytes_decides}
-use Rattle.std.proofs.lemmas.Bool.{and_parts, and_from, or_parts, or_from, not-true, not_from_false}
+use Rattle.std.proofs.lemmas.Bool.{and_parts, and_from, or_parts, or_from, not-true, not_from_false, false_from_ne_true}
 use Rattle.std.proofs.lemmas.List.Folds.{list_any-append}
 use Rattle.text_lines.specs.Numbers.{is_decimal, value_after, number_of}
 use Rattle.text_lines.specs.Each.{each}
 use Rattle.text_lines.proofs.NumberLemmas.{reads_printed, printed_again}
-use Rattle.text_lines.proofs.ResultLemmas.{chosen}
-use Rattle.std.proofs.lemmas.Option.{same_Some, none-some}
+use Rattle.std.proofs.lemmas.Option.{none-some, cond_some}
 use Rattle.poly_cells.specs.Coordinates.{Coordinates}
 use Rattle.poly_cells.specs.CellTests.{is_same, has_cell, is_in_grid}
 use Rattle.poly_cells.specs.CellWords.{cell_of, cell_word}
@@ -140,28 +139,18 @@ name_again n h = rw h refl
 
 pub name_is : (word : List ℕ) (n : ℕ) → piece_name word ≡ Some n → (is_name n ≡ true) × (word ≡ n ∷ [])
 name_is [] n h = absurd (none-some n h)
-name_is (b ∷ []) n h = by_test (chosen (is_name b) (Some b) None (Some n) h)
-  where
-    by_test : ((is_name b ≡ true) × (◌≡◌ {A = Option ℕ} (Some b) (Some n))) ⊎ ((is_name b ≡ false) × (◌≡◌ {A = Option ℕ} None (Some n))) → (is_name n ≡ true) × (b ∷ [] ≡ n ∷ [])
-    by_test (inl e) = let m : b ≡ n = same_Some b n e.1 in (subst (λ k. is_name k ≡ true) m e.0, ap (λ k. k ∷ []) m)
-    by_test (inr e) = absurd (none-some n e.1)
+name_is (b ∷ []) n h = let e = cond_some (is_name b) b n h in (subst (λ k. is_name k ≡ true) e.1 e.0, ap (λ k. k ∷ []) e.1)
 name_is (b ∷ d ∷ bs) n h = absurd (none-some n h)
 
 -- *sizes*
 
 counted : (most : ℕ) (word : List ℕ) (n : ℕ) → number_of most word ≡ Some n → (is_decimal word ≡ true) × (value_after 0 word ≡ n)
-counted most word n h = by_test (chosen (is_decimal word && nat_le (value_after 0 word) most) (Some (value_after 0 word)) None (Some n) h)
-  where
-    by_test : (((is_decimal word && nat_le (value_after 0 word) most) ≡ true) × (◌≡◌ {A = Option ℕ} (Some (value_after 0 word)) (Some n))) ⊎ (((is_decimal word && nat_le (value_after 0 word) most) ≡ false) × (◌≡◌ {A = Option ℕ} None (Some n))) → (is_decimal word ≡ true) × (value_after 0 word ≡ n)
-    by_test (inl e) = ((and_parts (is_decimal word) (nat_le (value_after 0 word) most) e.0).0, same_Some (value_after 0 word) n e.1)
-    by_test (inr e) = absurd (none-some n e.1)
+counted most word n h =
+    let e = cond_some (is_decimal word && nat_le (value_after 0 word) most) (value_after 0 word) n h in
+    ((and_parts (is_decimal word) (nat_le (value_after 0 word) most) e.0).0, e.1)
 
 not_zero : (word : List ℕ) → 0 < value_after 0 word → bytes_eq word (codes "0") ≡ false
-not_zero word h = by_test (bytes_eq word (codes "0")) refl
-  where
-    by_test : (b : Bool) → bytes_eq word (codes "0") ≡ b → b ≡ false
-    by_test true e = let z : value_after 0 word ≡ 0 = ap (value_after 0) ((bytes_decides word (codes "0")).0 e) in absurd (omega arith)
-    by_test false e = refl
+not_zero word h = false_from_ne_true _ (λ e. let z : value_after 0 word ≡ 0 = ap (value_after 0) ((bytes_decides word (codes "0")).0 e) in omega arith)
 
 pub side_again : (n : ℕ) → is_side n ≡ true → (is_size (decimal n) ≡ true) × (size_of (decimal n) ≡ n)
 side_again n h =

@@ -112,27 +112,19 @@ whole_is : (s : DraftValue) (p : PuzzleValue) → whole s ≡ Ok p → (whole_fa
 unfolding whole
 whole_is s p h = unless_is (whole_fault s.pieces s.maybe_pieces (region_of s) s.maybe_cells) (puzzle_said s) p h
 
-some_is_not_none : {A : Type 0} (f : Fault) → ◌≡◌ {A = Option Fault} (Some f) None → A
-some_is_not_none f h = absurd (cc)
-
 not_none : (xs : ℕ) → (xs == 0) ≡ false → 0 < xs
 not_none n h = grind (arith, nat_tests)
 
 -- no fault at the end
 faultless : (p : PuzzleValue) → whole_fault p.pieces p.maybe_pieces p.region p.maybe_cells ≡ None → (0 < length p.region) × (0 < length p.pieces) × (needs_nothing p.pieces p.maybe_pieces p.region p.maybe_cells ≡ false)
-faultless p h = by_region (length p.region == 0) refl h
+faultless p h =
+    let region = passed (length p.region == 0) EmptyRegion _ h in
+    let pieces = passed (length p.pieces == 0) NoPiece _ region.1 in
+    (not_none (length p.region) region.0, not_none (length p.pieces) pieces.0, (passed (needs_nothing p.pieces p.maybe_pieces p.region p.maybe_cells) NothingRequired None pieces.1).0)
   where
-    by_needs : (b : Bool) → cond b (Some NothingRequired) None ≡ None → b ≡ false
-    by_needs true h = some_is_not_none NothingRequired h
-    by_needs false h = refl
-
-    by_pieces : (b : Bool) → (length p.pieces == 0) ≡ b → cond b (Some NoPiece) (cond (needs_nothing p.pieces p.maybe_pieces p.region p.maybe_cells) (Some NothingRequired) None) ≡ None → (0 < length p.pieces) × (needs_nothing p.pieces p.maybe_pieces p.region p.maybe_cells ≡ false)
-    by_pieces true e h = some_is_not_none NoPiece h
-    by_pieces false e h = (not_none (length p.pieces) e, by_needs (needs_nothing p.pieces p.maybe_pieces p.region p.maybe_cells) h)
-
-    by_region : (b : Bool) → (length p.region == 0) ≡ b → cond b (Some EmptyRegion) (cond (length p.pieces == 0) (Some NoPiece) (cond (needs_nothing p.pieces p.maybe_pieces p.region p.maybe_cells) (Some NothingRequired) None)) ≡ None → (0 < length p.region) × (0 < length p.pieces) × (needs_nothing p.pieces p.maybe_pieces p.region p.maybe_cells ≡ false)
-    by_region true e h = some_is_not_none EmptyRegion h
-    by_region false e h = let q = by_pieces (length p.pieces == 0) refl h in (not_none (length p.region) e, q.0, q.1)
+    passed : (b : Bool) (f : Fault) (later : Option Fault) → cond b (Some f) later ≡ None → (b ≡ false) × (later ≡ None)
+    passed true f later e = absurd (cc)
+    passed false f later e = (refl, e)
 
 no_fault_at_end : (p : PuzzleValue) → 0 < length p.region → 0 < length p.pieces → needs_nothing p.pieces p.maybe_pieces p.region p.maybe_cells ≡ false → whole_fault p.pieces p.maybe_pieces p.region p.maybe_cells ≡ None
 no_fault_at_end p a b h =

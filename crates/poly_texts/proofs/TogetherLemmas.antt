@@ -29,35 +29,24 @@ plus_all s (l ∷ ls) = plus_all (plus s l) ls
 
 plus_pieces : (s : DraftValue) (l : Line) → (plus s l).pieces ≡ s.pieces ++ piece_of l
 plus_pieces s (piece optional name cs) = refl
-plus_pieces s (box a b c) = sym (append-nil s.pieces)
-plus_pieces s (cells optional cs) = sym (append-nil s.pieces)
-plus_pieces s (cut cs) = sym (append-nil s.pieces)
+plus_pieces s other = sym (append-nil s.pieces)
 
 plus_names : (s : DraftValue) (l : Line) → (plus s l).maybe_pieces ≡ s.maybe_pieces ++ maybe_name_of l
 plus_names s (piece true name cs) = refl
-plus_names s (piece false name cs) = sym (append-nil s.maybe_pieces)
-plus_names s (box a b c) = sym (append-nil s.maybe_pieces)
-plus_names s (cells optional cs) = sym (append-nil s.maybe_pieces)
-plus_names s (cut cs) = sym (append-nil s.maybe_pieces)
+plus_names s other = sym (append-nil s.maybe_pieces)
 
 plus_named : (s : DraftValue) (l : Line) → (plus s l).named ≡ with_cells s.named (named_by l)
-plus_named s (piece optional name cs) = sym (with_none s.named)
 plus_named s (box a b c) = refl
 plus_named s (cells optional cs) = refl
-plus_named s (cut cs) = sym (with_none s.named)
+plus_named s other = sym (with_none s.named)
 
 plus_maybe : (s : DraftValue) (l : Line) → (plus s l).maybe_cells ≡ with_cells s.maybe_cells (maybe_by l)
-plus_maybe s (piece optional name cs) = sym (with_none s.maybe_cells)
-plus_maybe s (box a b c) = sym (with_none s.maybe_cells)
 plus_maybe s (cells true cs) = refl
-plus_maybe s (cells false cs) = sym (with_none s.maybe_cells)
-plus_maybe s (cut cs) = sym (with_none s.maybe_cells)
+plus_maybe s other = sym (with_none s.maybe_cells)
 
 plus_cut : (s : DraftValue) (l : Line) → (plus s l).cut ≡ with_cells s.cut (cut_by l)
-plus_cut s (piece optional name cs) = sym (with_none s.cut)
-plus_cut s (box a b c) = sym (with_none s.cut)
-plus_cut s (cells optional cs) = sym (with_none s.cut)
 plus_cut s (cut cs) = refl
+plus_cut s other = sym (with_none s.cut)
 
 -- *what lines add*
 
@@ -140,27 +129,22 @@ at_most_one true = omega arith
 at_most_one false = omega arith
 
 boxes_more : (s : DraftValue) (l : Line) (ls : List Line) → is_fit s l ≡ true → bit (plus s l).boxed + length (filter is_box ls) ≡ bit s.boxed + length (filter is_box (l ∷ ls))
-boxes_more s (piece optional name cs) ls fit = refl
 boxes_more s (box a b c) ls fit =
     let f = and_parts (not s.boxed) (is_small (plus s (box a b c))) fit in
     let first : s.boxed ≡ false = not-true _ f.0 in
     rw first (omega arith)
-boxes_more s (cells optional cs) ls fit = refl
-boxes_more s (cut cs) ls fit = refl
+boxes_more s other ls fit = refl
 
 plus_new : (s : DraftValue) (l : Line) → are_new (names_of s.pieces) ≡ true → is_fit s l ≡ true → are_new (names_of (plus s l).pieces) ≡ true
 plus_new s (piece optional name cs) new fit =
     let h : has_name (names_of s.pieces) name ≡ false = sym (named_in s.pieces name) ∙ not-true _ fit in
     rw map-append (new_push (names_of s.pieces) name new h)
-plus_new s (box a b c) new fit = new
-plus_new s (cells optional cs) new fit = new
-plus_new s (cut cs) new fit = new
+plus_new s other new fit = new
 
 plus_few : (s : DraftValue) (l : Line) → length s.named ≤ most_region_cells → is_fit s l ≡ true → length (plus s l).named ≤ most_region_cells
-plus_few s (piece optional name cs) few fit = few
 plus_few s (box a b c) few fit = leb-true _ most_region_cells (and_parts (not s.boxed) (is_small (plus s (box a b c))) fit).1
 plus_few s (cells optional cs) few fit = leb-true _ most_region_cells fit
-plus_few s (cut cs) few fit = few
+plus_few s other few fit = few
 
 pub together : (s : DraftValue) (ls : List Line) → are_new (names_of s.pieces) ≡ true → length s.named ≤ most_region_cells → all_fit s ls ≡ true → GoTogether s ls
 together s [] new few fit = record {

@@ -2,8 +2,8 @@ use Rattle.std.proofs.Common.{◌↔◌, ℕ, ◌<◌, List, ap, sym, subst, ◌
 use Rattle.poly_cells.specs.Coordinates.{Coordinates}
 use Rattle.poly_cells.specs.Sets.{IsIn}
 use Rattle.poly_cells.specs.Images.{HasSymmetry}
-use Rattle.poly_place.proofs.WalkLemmas.{item_in}
-use Rattle.poly_place.proofs.LoopLemmas.{some_more, some_same, some_all, kept_by, marks_by, carrier_by, pushed}
+use Rattle.poly_place.proofs.WalkLemmas.{item_in, mapped_push}
+use Rattle.poly_place.proofs.LoopLemmas.{some_more, some_same, some_all, kept_by, marks_by, carrier_by}
 use Rattle.poly_place.proofs.alike.carriers.Goals as goal
 use Rattle.poly_place.proofs.alike.carriers.Goals.{then-is_member+in_ok-images+in_ok-keeps_marks, then-branch+in_ok-places_of+in_ok-push, else-branch, else-is_member}
 
@@ -24,7 +24,7 @@ loop-symmetry-preserved c =
             | then-branch+in_ok-places_of+in_ok-push w' ↦
                 some_more _ _ _ _ _ n _ _ c.loop-symmetry-test.true c.symmetry-item.is
                 (ap (λ v. map vec_items v.items) (w.carriers-is ∙ w'.carriers-is)
-                ∙ pushed vec_items _ _ _ _ w'.in_ok-push.ensures.items (carrier_by _ n _ _ _ c.cells-cells.ensures.value (w'.as_slice-then-branch.ensures.value ∙ w.in_ok-images.ensures) w'.in_ok-places_of.ensures))
+                ∙ mapped_push vec_items _ _ _ _ w'.in_ok-push.ensures.items (carrier_by _ n _ _ _ c.cells-cells.ensures.value (w'.as_slice-then-branch.ensures.value ∙ w.in_ok-images.ensures) w'.in_ok-places_of.ensures))
                 (kept_by _ _ _ n _ _ _ c.cells-cells.ensures.value (w.as_slice-then-is_member.ensures.value ∙ w.in_ok-images.ensures) (w.as_slice.ensures.value ∙ c.in_ok-marks.ensures) is
                 (sym c.is_member.ensures ∙ w.if-is_member.true) (w.in_ok-keeps_marks.ensures.0 w'.if-branch.true))
                 c.loop-symmetry.invariant

@@ -10,30 +10,19 @@ table_of-requires c = subst AllInGrid (sym (c.as_slice.ensures.value ∙ c.in_ok
 pub overflow_add-items : goal.overflow_add-items
 overflow_add-items c =
     let few = are_few c.args.puzzle.now c.region-region.ensures.puzzle in
-    let pieces = few.pieces in
-    let cells = few.cells in
-    let maybe = few.maybe_pieces in
     let a = ap length c.in_ok-pieces.ensures in
     let b = ap length c.in_ok-cells.ensures in
     let d = ap length c.maybe_pieces.ensures in
-    let m = c.len.ensures in
-    let n = c.len-2.ensures in
-    omega (arith, pieces, cells, maybe, a, b, d, m, n)
+    omega arith
 
 pub overflow_add-items-2 : goal.overflow_add-items-2
 overflow_add-items-2 c =
     let few = are_few c.args.puzzle.now c.region-region.ensures.puzzle in
-    let pieces = few.pieces in
-    let cells = few.cells in
-    let maybe = few.maybe_pieces in
-    let empty = few.maybe_cells in
     let a = ap length c.in_ok-pieces.ensures in
     let b = ap length c.in_ok-cells.ensures in
     let d = ap length c.maybe_pieces.ensures in
     let e = ap length c.maybe_cells.ensures in
-    let m = c.len.ensures in
-    let n = c.len-2.ensures in
-    omega (arith, pieces, cells, maybe, empty, a, b, d, e, m, n)
+    omega arith
 
 pub has_room-requires-clause-items : goal.has_room-requires-clause-items
 has_room-requires-clause-items c =
@@ -43,6 +32,4 @@ has_room-requires-clause-items c =
     let b = ap length c.in_ok-cells.ensures in
     let d = ap length c.maybe_pieces.ensures in
     let e = ap length c.maybe_cells.ensures in
-    let m = c.len.ensures in
-    let n = c.len-2.ensures in
-    omega (arith, all, count, a, b, d, e, m, n)
+    omega arith

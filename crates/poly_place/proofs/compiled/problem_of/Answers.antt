@@ -13,18 +13,16 @@ parts c = record {
       let count = needed_count c.args.puzzle.now in
       let a = ap length c.requires.pieces in
       let b = ap length c.requires.cells in
-      omega (arith, count, a, b);
+      omega arith;
   options_are = c.in_ok-options.ensures;
 }
 
 pub overflow_cast-primary : goal.overflow_cast-primary
 overflow_cast-primary c =
     let few = are_few c.args.puzzle.now c.requires.puzzle in
-    let pieces = few.pieces in
-    let cells = few.cells in
     let a = ap length c.requires.pieces in
     let b = ap length c.requires.cells in
-    omega (arith, pieces, cells, a, b)
+    omega arith
 
 pub returns-in-Ok : goal.returns-in-Ok
 returns-in-Ok c =

@@ -1,57 +1,36 @@
-use Rattle.std.proofs.Common.{arith, refl, ◌+◌, ◌∙◌, ap, length}
+use Rattle.std.proofs.Common.{arith, refl, ◌+◌, ◌∙◌, ap, length, ◌≤◌}
 use Rattle.poly_place.proofs.CountLemmas.{are_few, needed_count}
 use Rattle.poly_place.proofs.NumberLemmas.{written_numbers}
 use Rattle.poly_place.proofs.items.cell_numbers.Goals as goal
+use Rattle.poly_place.proofs.items.cell_numbers.Goals.{After-maybe_pieces}
+
+-- how many there are at most of the required pieces, of the cells that have to be filled, and of the other pieces
+few : (c : After-maybe_pieces) → (length c.args.pieces.now ≤ 62) × (length c.args.cells.now ≤ 4096) × (length c.maybe_pieces.result.now ≤ 62)
+few c =
+    let all = are_few c.args.puzzle.now c.requires.puzzle in
+    let a = ap length c.requires.pieces in
+    let b = ap length c.requires.cells in
+    let d = ap length c.maybe_pieces.ensures in
+    (omega arith, omega arith, omega arith)
 
 pub overflow_add-second-2 : goal.overflow_add-second-2
-overflow_add-second-2 c =
-    let few = are_few c.args.puzzle.now c.requires.puzzle in
-    let pieces = few.pieces in
-    let cells = few.cells in
-    let maybe = few.maybe_pieces in
-    let a = ap length c.requires.pieces in
-    let b = ap length c.requires.cells in
-    let d = ap length c.maybe_pieces.ensures in
-    omega (arith, pieces, cells, maybe, a, b, d)
+overflow_add-second-2 c = let low = few (goal.at.overflow_add-second-2 c).After-maybe_pieces in omega arith
 
 pub overflow_cast-first : goal.overflow_cast-first
-overflow_cast-first c =
-    let pieces = (are_few c.args.puzzle.now c.requires.puzzle).pieces in
-    let a = ap length c.requires.pieces in
-    omega (arith, pieces, a)
+overflow_cast-first c = let low = few (goal.at.overflow_cast-first c).After-maybe_pieces in omega arith
 
 pub number_cells-requires-clause-room : goal.number_cells-requires-clause-room
-number_cells-requires-clause-room c =
-    let few = are_few c.args.puzzle.now c.requires.puzzle in
-    let pieces = few.pieces in
-    let cells = few.cells in
-    let a = ap length c.requires.pieces in
-    let b = ap length c.requires.cells in
-    omega (arith, pieces, cells, a, b)
+number_cells-requires-clause-room c = let low = few (goal.at.number_cells-requires-clause-room c).After-maybe_pieces in omega arith
 
 pub overflow_cast-second : goal.overflow_cast-second
-overflow_cast-second c =
-    let few = are_few c.args.puzzle.now c.requires.puzzle in
-    let pieces = few.pieces in
-    let cells = few.cells in
-    let maybe = few.maybe_pieces in
-    let a = ap length c.requires.pieces in
-    let b = ap length c.requires.cells in
-    let d = ap length c.maybe_pieces.ensures in
-    omega (arith, pieces, cells, maybe, a, b, d)
+overflow_cast-second c = let low = few (goal.at.overflow_cast-second c).After-maybe_pieces in omega arith
 
 pub number_cells-requires-2-clause-room : goal.number_cells-requires-2-clause-room
 number_cells-requires-2-clause-room c =
-    let few = are_few c.args.puzzle.now c.requires.puzzle in
-    let pieces = few.pieces in
-    let cells = few.cells in
-    let maybe = few.maybe_pieces in
-    let empty = few.maybe_cells in
-    let a = ap length c.requires.pieces in
-    let b = ap length c.requires.cells in
-    let d = ap length c.maybe_pieces.ensures in
+    let low = few (goal.at.number_cells-requires-2-clause-room c).After-maybe_pieces in
+    let empty = (are_few c.args.puzzle.now c.requires.puzzle).maybe_cells in
     let e = ap length c.maybe_cells.ensures in
-    omega (arith, pieces, cells, maybe, empty, a, b, d, e)
+    omega arith
 
 pub returns : goal.returns
 returns c =

@@ -23,8 +23,6 @@ loop-x-preserved c = record {
 pub returns : goal.returns
 returns c = λ f s.
     let low = c.x-x.ensures.value in
-    let high = c.x-x-end.ensures.value in
-    let past = c.loop-x-test.false in
     c.loop-x.invariant.added f s
     ∙ ap (λ (n : ℕ). string_bytes c.args.text.now ++ map (λ (x : ℕ). f (coordinates x c.args.y c.args.z)) (range_with_len c.args.low.x n))
-    (range_ends c.args.low.x c.args.high.x c.loop-x.x (elim c.loop-x.invariant.end [ inl e ↦ inl (omega (arith, e, high)) | inr e ↦ inr e ]) (omega (arith, past, high)))
+    (range_ends c.args.low.x c.args.high.x c.loop-x.x (elim c.loop-x.invariant.end [ inl e ↦ inl (omega (arith, e)) | inr e ↦ inr e ]) (omega arith))

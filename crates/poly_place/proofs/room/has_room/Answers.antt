@@ -34,12 +34,7 @@ few c =
     let all = things_count c.args.puzzle.now in
     let count = needed_count c.args.puzzle.now in
     let many = are_few c.args.puzzle.now c.pieces-pieces.ensures.puzzle in
-    let pieces = many.pieces in
-    let cells = many.cells in
-    let maybe = many.maybe_pieces in
-    let empty = many.maybe_cells in
-    let is = c.requires.items in
-    omega (arith, all, count, pieces, cells, maybe, empty, is)
+    omega arith
 
 pub overflow_add-entries : goal.overflow_add-entries
 overflow_add-entries c = let low = few (goal.at.overflow_add-entries c).After-pieces-pieces in omega (arith, low)

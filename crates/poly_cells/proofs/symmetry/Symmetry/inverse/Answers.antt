@@ -1,23 +1,19 @@
-use Rattle.std.proofs.Common.{◌≡◌, true, subst, sym, ap, ◌∙◌}
+use Rattle.std.proofs.Common.{◌≡◌, subst, sym, ap, ◌∙◌}
 use Rattle.poly_cells.specs.Symmetries.{IsComposed, is_rotation}
 use Rattle.poly_cells.specs.Products.{inverse_of, transposed, number_of}
 use Rattle.poly_cells.proofs.SymmetryTables.{undone_before, undone_behind, rotation_inverse}
 use Rattle.poly_cells.proofs.symmetry.Symmetry.inverse.Goals as goal
+use Rattle.poly_cells.proofs.symmetry.Symmetry.inverse.Goals.{After-number}
+
+number : (c : After-number) → c.number.result ≡ inverse_of c.args.self
+unfolding inverse_of
+number c = c.number.ensures.value ∙ ap number_of (c.transposed.ensures ∙ ap transposed c.matrix.ensures.value)
 
 pub returns-clause-before : goal.returns-clause-before
-unfolding inverse_of
-returns-clause-before c =
-    let number : c.number.result ≡ inverse_of c.args.self = c.number.ensures.value ∙ ap number_of (c.transposed.ensures ∙ ap transposed c.matrix.ensures.value) in
-    subst (λ n. IsComposed n c.args.self 0) (sym number) (undone_before _ c.matrix.ensures.limit)
+returns-clause-before c = subst (λ n. IsComposed n c.args.self 0) (sym (number (goal.at.returns-clause-before c).After-number)) (undone_before _ c.matrix.ensures.limit)
 
 pub returns-clause-behind : goal.returns-clause-behind
-unfolding inverse_of
-returns-clause-behind c =
-    let number : c.number.result ≡ inverse_of c.args.self = c.number.ensures.value ∙ ap number_of (c.transposed.ensures ∙ ap transposed c.matrix.ensures.value) in
-    subst (λ n. IsComposed c.args.self n 0) (sym number) (undone_behind _ c.matrix.ensures.limit)
+returns-clause-behind c = subst (λ n. IsComposed c.args.self n 0) (sym (number (goal.at.returns-clause-behind c).After-number)) (undone_behind _ c.matrix.ensures.limit)
 
 pub returns-clause-rotation : goal.returns-clause-rotation
-unfolding inverse_of
-returns-clause-rotation c = λ r.
-    let number : c.number.result ≡ inverse_of c.args.self = c.number.ensures.value ∙ ap number_of (c.transposed.ensures ∙ ap transposed c.matrix.ensures.value) in
-    subst (λ n. is_rotation n ≡ true) (sym number) (rotation_inverse _ c.matrix.ensures.limit r)
+returns-clause-rotation c = λ r. ap is_rotation (number (goal.at.returns-clause-rotation c).After-number) ∙ rotation_inverse _ c.matrix.ensures.limit r

@@ -2,7 +2,7 @@
 use Rattle.std.proofs.Common.{◌≡◌, refl, sym, ap, ◌∙◌, subst, ℕ, suc, zero, ◌+◌, ◌<◌, Bool, true, false, not, ◌&&◌, ◌||◌, cond, List, [], ◌∷◌, ◌++◌, map, length, None, Result, Ok, Err, position, nat_lt, nat_le, bytes_eq, arith, inl, inr, ◌⊎◌, IsUtf8, append_assoc, append-nil, le-ltb, leb-true, one-add, IsAscii, le_refl, lit<}
 use Rattle.std.specs.List.{list_any, list_all, position_or_len}
 use Rattle.std.specs.Cmp.Lexicographic.{bytes_decides, nat_list_eq_equiv}
-use Rattle.std.proofs.lemmas.Bool.{and_parts, and_from, or_parts, or_from, not-true, not-false, not_from_false, false_from_ne_true}
+use Rattle.std.proofs.lemmas.Bool.{and_parts, and_from, or_parts, or_from, not-true, not-false, not_from_false, false_from_ne_true, both_ways}
 use Rattle.std.proofs.lemmas.List.Folds.{list_any-append}
 use Rattle.std.proofs.lemmas.List.{length-map, map-append}
 use Rattle.std.proofs.lemmas.Str.{IsUtf8-from_ascii}
@@ -94,9 +94,22 @@ names_are acc (name ∷ names) these h n a = step (names_are (acc ++ name ∷ []
         let r = ih (rw m.2 at q) (are_new_push acc name n m.1) (all_push is_name acc name a m.0) in
         (r.0 ∙ append_assoc acc (name ∷ []) names, r.1, r.2)
 
+-- names that are added are names
+pub names_named : (acc words these : List (List ℕ)) → each add_name acc words ≡ Ok these → list_all is_name acc ≡ true → list_all is_name these ≡ true
+names_named acc [] these h n = subst (λ xs. list_all is_name xs ≡ true) (each_none add_name acc these h) n
+names_named acc (w ∷ words) these h n = step (names_named (acc ++ w ∷ []) words these) (each_parts add_name acc w words these h)
+  where
+    step : (each add_name (acc ++ w ∷ []) words ≡ Ok these → list_all is_name (acc ++ w ∷ []) ≡ true → list_all is_name these ≡ true) → (t : List (List ℕ)) × (add_name acc w ≡ Ok t) × (each add_name t words ≡ Ok these) → list_all is_name these ≡ true
+    step later (t, a, b) =
+        let m = added_is acc w t a in
+        later (rw m.2 at b) (all_push is_name acc w n m.0)
+
 -- a text's place among keys
 pub place_is : {X : Type 0} (text : X → List ℕ) (keys : List X) (word : List ℕ) (key : X) → text key ≡ word → position (λ k. bytes_eq (text key) (text k)) keys ≡ position (bytes_eq word) (map text keys)
 place_is text keys word key e = rw (e, text_place text (bytes_eq word) keys, length-map) refl
+
+pub word_place : {X : Type 0} (text : X → List ℕ) (keys : List X) (word : List ℕ) → position (λ k. bytes_eq word (text k)) keys ≡ position (bytes_eq word) (map text keys)
+word_place text keys word = rw (text_place text (bytes_eq word) keys, length-map) refl
 
 passes_nowhere : {X : Type 0} (test : X → Bool) (xs : List X) → list_all (λ x. not (test x)) xs ≡ true → position_or_len test xs ≡ length xs
 passes_nowhere test [] h = refl
@@ -115,6 +128,17 @@ none_so_long text (name ∷ names) l h =
     let q = and_parts (nat_lt 0 (length name) && nat_le (length name) 8) (list_all is_name_byte name) p.0 in
     let short = leb-true (length name) 8 (and_parts (nat_lt 0 (length name)) (nat_le (length name) 8) q.0).1 in
     and_from _ _ (not_from_false _ (other_length text name (λ e. omega arith))) (none_so_long text names l p.1)
+
+no_name_among : (word : List ℕ) (names : List (List ℕ)) → is_name word ≡ false → list_all is_name names ≡ true → list_all (λ name. not (bytes_eq word name)) names ≡ true
+no_name_among word [] n h = refl
+no_name_among word (name ∷ names) n h =
+    let p = and_parts (is_name name) (list_all is_name names) h in
+    let other : bytes_eq word name ≡ false = false_from_ne_true (bytes_eq word name) (λ e. both_ways (is_name word) n (ap is_name ((bytes_decides word name).0 e) ∙ p.0)) in
+    and_from _ _ (not_from_false _ other) (no_name_among word names n p.1)
+
+-- what is no name stands nowhere among names
+pub no_name : (word : List ℕ) (names : List (List ℕ)) → is_name word ≡ false → list_all is_name names ≡ true → position (bytes_eq word) names ≡ None
+no_name word names n h = rw (passes_nowhere (bytes_eq word) names (no_name_among word names n h), le-ltb (length names) (length names) (le_refl (length names))) refl
 
 -- a name that is too long stands nowhere
 pub too_long : (text : List ℕ) (names : List (List ℕ)) → 8 < length text → list_all is_name names ≡ true → position (bytes_eq text) names ≡ None

@@ -1,23 +1,28 @@
 -- How the reader's steps give what a text says.
-use Rattle.std.proofs.Common.{◌≡◌, ◌≤◌, ℕ, ◌+◌, List, [], ◌∷◌, ◌++◌, map, length, true, false, Some, None, Ok, Err, position, refl, ap, bytes_eq, arith, length-append}
+use Rattle.std.proofs.Common.{◌≡◌, ◌∙◌, ◌≤◌, ℕ, ◌+◌, Bool, List, [], ◌∷◌, ◌++◌, map, length, true, false, Some, None, Ok, Err, position, refl, ap, bytes_eq, arith, length-append}
+use Rattle.std.specs.List.{list_all}
 use Rattle.text_lines.specs.Each.{each}
 use Rattle.text_lines.proofs.EachLemmas.{each_none, each_parts}
 use Rattle.cover_problem.specs.declared.fault.Fault.TheVariants.{UnknownItem, TooLarge}
 use Rattle.cover_problem.specs.Problem.{ProblemValue, is_name, is_small}
 use Rattle.cover_problem.specs.Validation.{add_name, within}
 use Rattle.cover_problem.specs.Reading.{item_of}
-use Rattle.cover_problem.proofs.NameLemmas.{place_is, added_is}
+use Rattle.cover_problem.proofs.NameLemmas.{word_place, no_name, added_is}
 
 -- *the items of an option*
 
-module _ {X : Type 0} (text : X → List ℕ) (keys : List X) (key : X) (word : List ℕ) (named : is_name word ≡ true) (same : text key ≡ word) where
-  pub item_found : (i : ℕ) → Some i ≡ position (λ k. bytes_eq (text key) (text k)) keys → item_of (map text keys) word ≡ Ok (i + 1)
+module _ {X : Type 0} (text : X → List ℕ) (keys : List X) (word : List ℕ) where
+  found_by : (v : Bool) → is_name word ≡ v → list_all is_name (map text keys) ≡ true → (i : ℕ) → Some i ≡ position (bytes_eq word) (map text keys) → item_of (map text keys) word ≡ Ok (i + 1)
   unfolding item_of
-  item_found i e = rw (named, ← place_is text keys word key same, ← e) refl
+  found_by true n named i e = rw (n, ← e) refl
+  found_by false n named i e = let none = no_name word (map text keys) n named in cc
 
-  pub item_not_found : None ≡ position (λ k. bytes_eq (text key) (text k)) keys → item_of (map text keys) word ≡ Err UnknownItem
+  pub item_found : list_all is_name (map text keys) ≡ true → (i : ℕ) → Some i ≡ position (λ k. bytes_eq word (text k)) keys → item_of (map text keys) word ≡ Ok (i + 1)
+  item_found named i e = found_by (is_name word) refl named i (e ∙ word_place text keys word)
+
+  pub item_not_found : is_name word ≡ true → None ≡ position (λ k. bytes_eq word (text k)) keys → item_of (map text keys) word ≡ Err UnknownItem
   unfolding item_of
-  item_not_found e = rw (named, ← place_is text keys word key same, ← e) refl
+  item_not_found named e = rw (named, ← word_place text keys word, ← e) refl
 
 -- *the limits*
 

@@ -1,8 +1,8 @@
 -- Marks of items: how a reader knows the items of an option without going through it.
 use Rattle.std.specs.Prelude.{ℕ, suc, ◌<◌, ◌≤◌, ◌≡◌, ◌==◌, List, length, slice_index, sum_by, true}
-use Rattle.std.specs.List.{All}
+use Rattle.std.specs.List.{All, list_all}
 use Rattle.cover_problem.specs.Lists.{has}
-use Rattle.cover_problem.specs.Problem.{ProblemValue, is_small}
+use Rattle.cover_problem.specs.Problem.{ProblemValue, is_name, is_small}
 
 -- each item has a mark, which is the stamp where the item is in the list, and lower where it isn't
 pub record AreStamps (stamp : ℕ) (items marks : List ℕ) : Type 0 where
@@ -14,6 +14,7 @@ pub record AreStamps (stamp : ℕ) (items marks : List ℕ) : Type 0 where
 pub record IsDraft (p : ProblemValue) (entries : ℕ) (marks : List ℕ) : Type 0 where
   pub small : is_small p ≡ true
   pub within : p.primary ≤ length p.names
+  pub named : list_all is_name p.names ≡ true
   pub counted : entries ≡ sum_by length p.options
   pub marked : length marks ≡ length p.names
   pub old : All (λ mark. mark ≤ length p.options) marks

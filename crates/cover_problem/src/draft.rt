@@ -1,9 +1,10 @@
 //! What has been read of a cover text.
 ghost use Rattle.std.specs.Prelude.{◌≡◌, ◌<◌, ◌≤◌, true, [], ◌∷◌, ◌++◌, length, map, sum_by, nat_lt, OnOk, IfOk};
-ghost use Rattle.std.specs.List.{All};
+ghost use Rattle.std.specs.List.{All, list_all};
 ghost use Rattle.text_lines.specs.Lines.{words_of};
 ghost use Rattle.text_lines.specs.Each.{each};
 ghost use Rattle.text_lines.specs.Answers.{Gives};
+ghost use Rattle.cover_problem.specs.Problem as problem;
 ghost use Rattle.cover_problem.specs.Problem.{ProblemValue, IsProblem, are_within, problem_with};
 ghost use Rattle.cover_problem.specs.Validation as making;
 ghost use Rattle.cover_problem.specs.Validation.{add_name, with_item};
@@ -15,7 +16,7 @@ ghost use Rattle.cover_problem.specs.Views.{items_of, bytes_of, problem_of_parts
 use crate::fault::{Fault, ProblemFault};
 use crate::key::{Key, key_of};
 use crate::limits::{MOST_ENTRIES, MOST_ITEMS, MOST_OPTIONS};
-use crate::name::{Name, name_of};
+use crate::name::{Name, Word, is_name};
 use crate::problem::Problem;
 use crate::validation::take_name;
 use indexmap::IndexSet;
@@ -35,6 +36,8 @@ pub struct Draft {
     entries: usize,
     /// For each item the number of the last option that took it, or 0.
     marks: Vec<u32>,
+    /// Room for the items of an option until its line is read, which is used again.
+    taken: Vec<u32>,
 }
 
 impl Model for Draft {
@@ -52,18 +55,20 @@ impl Model for Draft {
 /// The item of a name.
 #[tactic(auto, unfolding(crate::specs::Reading::item_of))]
 fn item_named(names: &IndexSet<Name>, word: &[u8]) -> Result<u32, ProblemFault>
-    requires { length names.now.keys ≤ MOST_ITEMS }
+    requires few { length names.now.keys ≤ MOST_ITEMS }
+    requires named { list_all problem.is_name (bytes_of names.now.keys) ≡ true }
     ensures item { Gives (λ i. i) result (item_of (bytes_of names.now.keys) word.now) }
     ensures some { IfOk result (λ i. 0 < i) }
     ensures within { IfOk result (λ i. i ≤ length names.now.keys) }
 {
-    let Some(name) = name_of(word) else {
-        return Err(ProblemFault::Fault(Fault::BadName));
-    };
-    match names.get_index_of(&name) {
-        Some(place) => Ok(place as u32 + 1),
-        None => Err(ProblemFault::Fault(Fault::UnknownItem)),
+    // (what stands among the names is a name: only a word that doesn't is looked at again)
+    if let Some(place) = names.get_index_of(Word(word)) {
+        return Ok(place as u32 + 1);
     }
+    if !is_name(word) {
+        return Err(ProblemFault::Fault(Fault::BadName));
+    }
+    Err(ProblemFault::Fault(Fault::UnknownItem))
 }
 
 /// Takes an item into an option that doesn't have it yet. An item that was taken has the stamp as its mark.
@@ -98,6 +103,7 @@ fn take_item(
     word: &[u8],
 ) -> Result<(), ProblemFault>
     requires few { length names.now.keys ≤ MOST_ITEMS }
+    requires named { list_all problem.is_name (bytes_of names.now.keys) ≡ true }
     requires each_item { length marks.old ≡ length names.now.keys }
     requires marked { AreStamps stamp option.old.items marks.old }
     ensures item { Gives (λ _. option.new.items) result (add_item (bytes_of names.now.keys) option.old.items word.now) }
@@ -107,27 +113,49 @@ fn take_item(
     take_once(marks, stamp, option, item)
 }
 
-/// The option of these words. All marks are below the stamp.
+/// Takes the items of these words into an option that doesn't have them yet.
+fn take_items(
+    names: &IndexSet<Name>,
+    marks: &mut [u32],
+    stamp: u32,
+    option: &mut Vec<u32>,
+    words: &[u8],
+) -> Result<(), ProblemFault>
+    requires few { length names.now.keys ≤ MOST_ITEMS }
+    requires named { list_all problem.is_name (bytes_of names.now.keys) ≡ true }
+    requires each_item { length marks.old ≡ length names.now.keys }
+    requires marked { AreStamps stamp option.old.items marks.old }
+    ensures items { Gives (λ _. option.new.items) result
+        (each (add_item (bytes_of names.now.keys)) option.old.items (words_of words.now)) }
+    ensures marked { OnOk result (AreStamps stamp option.new.items marks.new) }
+{
+    let mut rest = words;
+    while let Some((word, after)) = split_word(rest) {
+        take_item(names, marks, stamp, option, word)?;
+        rest = after;
+    }
+    Ok(())
+}
+
+/// The option of these words, with room for its items alone. All marks are below the stamp.
 fn option_of(
     alloc: Global,
     names: &IndexSet<Name>,
     marks: &mut [u32],
     stamp: u32,
+    taken: &mut Vec<u32>,
     words: &[u8],
 ) -> Result<Vec<u32>, ProblemFault>
     requires few { length names.now.keys ≤ MOST_ITEMS }
+    requires named { list_all problem.is_name (bytes_of names.now.keys) ≡ true }
     requires each_item { length marks.old ≡ length names.now.keys }
     requires old { All (λ mark. mark < stamp) marks.old }
     ensures option { Gives (λ o. o.items) result (each (add_item (bytes_of names.now.keys)) [] (words_of words.now)) }
     ensures marks { OnOk result (All (λ mark. mark ≤ stamp) marks.new) }
 {
-    let mut option = Vec::new(alloc);
-    let mut rest = words;
-    while let Some((word, after)) = split_word(rest) {
-        take_item(names, marks, stamp, &mut option, word)?;
-        rest = after;
-    }
-    Ok(option)
+    taken.clear();
+    take_items(names, marks, stamp, taken, words)?;
+    Ok(Vec::from_slice(alloc, taken)?)
 }
 
 /// The names with those of these words.
@@ -156,8 +184,10 @@ fn within(
     options: Vec<Vec<u32>>,
     entries: usize,
     marks: Vec<u32>,
+    taken: Vec<u32>,
 ) -> Result<Draft, ProblemFault>
     requires primary { primary ≤ length names.keys }
+    requires named { list_all problem.is_name (bytes_of names.keys) ≡ true }
     requires counted { entries ≡ sum_by length (items_of options.items) }
     requires marked { length marks.items ≡ length names.keys }
     requires old { All (λ mark. mark ≤ length options.items) marks.items }
@@ -172,16 +202,18 @@ fn within(
         options,
         entries,
         marks,
+        taken,
     })
 }
 
 /// A draft without options.
 fn of_names(alloc: Global, names: IndexSet<Name>, primary: usize) -> Result<Draft, ProblemFault>
-    requires { primary ≤ length names.keys }
+    requires primary { primary ≤ length names.keys }
+    requires named { list_all problem.is_name (bytes_of names.keys) ≡ true }
     ensures { Gives (λ d. d) result (making.within (problem_with (bytes_of names.keys) primary [])) }
 {
     let marks = vec![in alloc; 0u32; names.len()]?;
-    within(names, primary, Vec::new(alloc), 0, marks)
+    within(names, primary, Vec::new(alloc), 0, marks, Vec::new(alloc))
 }
 
 impl Draft {
@@ -195,6 +227,7 @@ impl Draft {
             options: Vec::new(alloc),
             entries: 0,
             marks: Vec::new(alloc),
+            taken: Vec::new(alloc),
         }
     }
 
@@ -243,12 +276,13 @@ impl Draft {
             mut options,
             entries,
             mut marks,
+            mut taken,
         } = self;
         let stamp = options.len() as u32 + 1;
-        let option = option_of(alloc, &names, &mut marks, stamp, words)?;
+        let option = option_of(alloc, &names, &mut marks, stamp, &mut taken, words)?;
         let entries = entries + option.len();
         options.push(option)?;
-        within(names, primary, options, entries, marks)
+        within(names, primary, options, entries, marks, taken)
     }
 
     /// The draft with a line of these words.

@@ -1,10 +1,18 @@
 //! The names of items.
-ghost use Rattle.std.specs.Prelude.{◌≡◌, true, false, MatchOption};
+ghost use Rattle.std.specs.Prelude.{◌≡◌, true, false, MatchOption, nat_eq};
 ghost use Rattle.std.specs.List.{list_all};
+ghost use Rattle.std.specs.Str.{bytes_eq};
+ghost use Rattle.std.specs.Hash as fed;
+ghost use Rattle.std.specs.Cmp.{on_equiv, on_per, partial_equiv_from_equiv};
+ghost use Rattle.std.specs.Cmp.Lexicographic.{pointwise, bytes_decides, nat_list_eq_equiv};
+ghost use Rattle.std.specs.Cmp.Rules.{hashing};
+ghost use Rattle.std.proofs.Common.{ap, rules};
 ghost use Rattle.cover_problem.specs.Problem as problem;
 
 use crate::limits::MOST_NAME_BYTES;
 use arrayvec::ArrayString;
+use indexmap::Equivalent;
+use std::hash::{Hash, Hasher};
 
 /// The name of an item.
 pub type Name = ArrayString<MOST_NAME_BYTES>;
@@ -41,5 +49,46 @@ pub fn name_of(word: &[u8]) -> Option<Name>
     match str::from_utf8(word) {
         Ok(text) => Name::from(text).ok(),
         Err(_) => None,
+    }
+}
+
+/// A word of a text, by which a name is looked up without being made of it first.
+#[derive(Clone, Copy)]
+pub struct Word<'a>(pub &'a [u8]);
+
+impl PartialEq for Word<'_> {
+    ghost eq = { λ a b. pointwise nat_eq a.0.now b.0.now };
+
+    ghost laws = { on_per (λ w. w.0.now) (partial_equiv_from_equiv nat_list_eq_equiv) };
+
+    fn eq(&self, other: &Self) -> bool {
+        self.0 == other.0
+    }
+}
+
+impl Eq for Word<'_> {
+    ghost laws = { on_equiv (λ w. w.0.now) nat_list_eq_equiv };
+}
+
+impl Hash for Word<'_> {
+    ghost hash_input = { λ w. fed.str w.0.now };
+
+    ghost respects_eq = { Prim.search (hashing, rules) };
+
+    fn hash<H: Hasher>(&self, state: &mut H) {
+        state.write(self.0);
+        state.write_u8(0xff);
+    }
+}
+
+impl Equivalent<Name> for Word<'_> {
+    ghost equivalent = { λ w name. bytes_eq w.0.now name.bytes };
+
+    ghost respects_hash = { λ w name h. ap fed.str ((bytes_decides w.0.now name.bytes).0 h) };
+
+    ghost respects_eq = { λ w x y. nat_list_eq_equiv.congr w.0.now x.bytes y.bytes };
+
+    fn equivalent(&self, name: &Name) -> bool {
+        self.0 == name.as_bytes()
     }
 }

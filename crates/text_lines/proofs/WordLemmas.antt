@@ -1,8 +1,8 @@
 -- The first word of a line is what stands after its first blanks, up to the next blank.
-use Rattle.std.proofs.Common.{◌≡◌, ℕ, suc, ◌+◌, List, [], ◌∷◌, length, take, drop, Bool, true, false, not, cond, refl, sym, ◌∙◌, ap, one-add, arith, length-drop, ◌<◌, ◌≤◌}
+use Rattle.std.proofs.Common.{◌≡◌, ℕ, suc, ◌+◌, List, [], ◌∷◌, length, take, drop, Bool, true, false, not, cond, refl, sym, ◌∙◌, ap, one-add, arith, length-drop, ◌<◌, ◌≤◌, ◌==◌, ne_eqb}
 use Rattle.std.specs.Prelude.{filter}
 use Rattle.std.specs.List.{onto_first, slice_split, position_or_len, prefix_len}
-use Rattle.text_lines.specs.Lines.{words_of, is_blank, has_bytes}
+use Rattle.text_lines.specs.Lines.{words_of, is_blank, has_bytes, is_empty}
 
 -- *the blanks before the word*
 
@@ -70,3 +70,10 @@ first_word said after word rest past some front back =
 pub no_word : (said after : List ℕ) → after ≡ drop (prefix_len is_blank said) said → length after ≡ 0 → words_of said ≡ []
 no_word said [] past none = past_blanks said ∙ rw (← past) refl
 no_word said (b ∷ bs) past none = absurd (omega arith)
+
+-- there is no word exactly where nothing stands after the blanks
+pub words_past_blanks : (said after : List ℕ) → after ≡ drop (prefix_len is_blank said) said → (length after == 0) ≡ is_empty (words_of said)
+words_past_blanks said [] past = rw (no_word said [] past refl) refl
+words_past_blanks said (b ∷ bs) past =
+    let p = first_word said (b ∷ bs) _ _ past (omega arith) refl refl in
+    rw p.0 (ne_eqb (length (b ∷ bs)) 0 (λ e. omega arith))

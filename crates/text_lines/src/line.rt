@@ -72,10 +72,21 @@ pub fn outside_comment(line: &[u8]) -> &[u8]
     &kept[..comment_at(kept)]
 }
 
+/// Whether a byte is a tab or printable (32 to 126).
+fn is_plain_byte(byte: u8) -> bool
+    ensures { result ≡ is_plain byte }
+{
+    (byte == b'\t') | ((byte >= b' ') & (byte <= b'~'))
+}
+
 /// Whether each byte is a tab or printable (32 to 126), as each outside a comment has to be.
 pub fn is_all_plain(said: &[u8]) -> bool
     ensures { result ≡ list_all is_plain said.now }
 {
-    said.iter()
-        .all(|byte| *byte == b'\t' || (b' '..=b'~').contains(byte))
+    // All bytes are tested, with no way out at the first that isn't plain: so many are tested at once.
+    let mut all = true;
+    for byte in said {
+        all &= is_plain_byte(*byte);
+    }
+    all
 }

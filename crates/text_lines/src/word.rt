@@ -53,7 +53,8 @@ pub fn split_word(said: &[u8]) -> Option<(&[u8], &[u8])>
 pub fn has_words(said: &[u8]) -> bool
     ensures { result ≡ not (is_empty (words_of said.now)) }
 {
-    split_word(said).is_some()
+    let after = past_blanks(said);
+    !after.is_empty()
 }
 
 /// Whether a line is its words with one space between two: no tab, no space before, after or beside another.

@@ -22,6 +22,7 @@ invariant_of-result c =
     record {
       small = size ∙ sym c.is_within.ensures ∙ c.if-not-is_within.false;
       within = simp length-map c.requires.primary;
+      named = c.requires.named;
       counted = c.requires.counted;
       marked = simp length-map c.requires.marked;
       old = simp length-map c.requires.old;

@@ -38,23 +38,17 @@ module _ (b : BookValue) (w : ℕ) where
   unfolding outcome
   any_is r e = ap (lent_any b w) (sym e)
 
-  pub abandon_ok : (g : Grant) (r : Result ℕ BookFault) (i : ℕ) (s : Status) → Judged r (found b.tiles g.id (λ t. lease_fault g t None)) → r ≡ Ok i → s ≡ freed_status (tile_at b.tiles i).stop → outcome b w (call.Abandon g) ≡ settled b (λ t. record t { status = s }) i
+  -- a lease that is ended at its tile's mark
+  pub abandon_is : (g : Grant) → outcome b w (call.Abandon g) ≡ made_at b.tiles (settled b freed) (found b.tiles g.id (λ t. lease_fault g t None))
   unfolding outcome
-  abandon_ok g r i s j h e =
-      made_ok (call.Abandon g) (settled b freed) (found b.tiles g.id (λ t. lease_fault g t None)) i refl (judged_ok r _ i j h) ∙ rw e refl
+  abandon_is g = refl
 
-  pub abandon_err : (g : Grant) (r : Result ℕ BookFault) (f : BookFault) → Judged r (found b.tiles g.id (λ t. lease_fault g t None)) → r ≡ Err f → (f ≡ OutOfMemory) ⊎ (outcome b w (call.Abandon g) ≡ refused b.tiles f)
+  pub park_is : (g : Grant) → outcome b w (call.Park g) ≡ made_at b.tiles (settled b freed) (found b.tiles g.id (λ t. lease_fault g t None))
   unfolding outcome
-  abandon_err g r f j h = judged_err b w (call.Abandon g) (settled b freed) r (found b.tiles g.id (λ t. lease_fault g t None)) f refl j h
+  park_is g = refl
 
-  pub park_ok : (g : Grant) (r : Result ℕ BookFault) (i : ℕ) (s : Status) → Judged r (found b.tiles g.id (λ t. lease_fault g t None)) → r ≡ Ok i → s ≡ freed_status (tile_at b.tiles i).stop → outcome b w (call.Park g) ≡ settled b (λ t. record t { status = s }) i
-  unfolding outcome
-  park_ok g r i s j h e =
-      made_ok (call.Park g) (settled b freed) (found b.tiles g.id (λ t. lease_fault g t None)) i refl (judged_ok r _ i j h) ∙ rw e refl
-
-  pub park_err : (g : Grant) (r : Result ℕ BookFault) (f : BookFault) → Judged r (found b.tiles g.id (λ t. lease_fault g t None)) → r ≡ Err f → (f ≡ OutOfMemory) ⊎ (outcome b w (call.Park g) ≡ refused b.tiles f)
-  unfolding outcome
-  park_err g r f j h = judged_err b w (call.Park g) (settled b freed) r (found b.tiles g.id (λ t. lease_fault g t None)) f refl j h
+  pub given_up : (c : Call) (r q : Result ℕ BookFault) (i : ℕ) (s : Status) → outcome b w c ≡ made_at b.tiles (settled b freed) q → Judged r q → r ≡ Ok i → s ≡ freed_status (tile_at b.tiles i).stop → outcome b w c ≡ settled b (λ t. record t { status = s }) i
+  given_up c r q i s o j h e = made_ok c (settled b freed) q i o (judged_ok r q i j h) ∙ rw e refl
 
   pub stop_ok : (id : ℕ) (r : Result ℕ BookFault) (i : ℕ) → r ≡ found b.tiles id (λ t. status_fault (not (is_closed t.status)) t) → r ≡ Ok i → outcome b w (call.RequestStop id) ≡ settled b asked_to_stop i
   unfolding outcome

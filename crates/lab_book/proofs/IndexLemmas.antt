@@ -1,10 +1,9 @@
 -- The places of ids and the numbers of tiles that wait and are leased.
-use Rattle.std.proofs.Common.{◌≡◌, ℕ, ◌+◌, ◌<◌, ◌≤◌, ◌⊎◌, ◌==◌, Bool, true, false, cond, Some, None, List, [], ◌∷◌, ◌++◌, length, map, get_or, refl, sym, ap, ◌∙◌, subst, inl, inr, arith, eq-eqb, lt-ltb}
+use Rattle.std.proofs.Common.{◌≡◌, ℕ, ◌+◌, ◌<◌, ◌≤◌, ◌==◌, Bool, true, false, cond, Some, None, List, [], ◌∷◌, ◌++◌, length, map, get_or, refl, sym, ap, ◌∙◌, subst, arith, eq-eqb, lt-ltb}
 use Rattle.std.specs.Prelude.{count_by, slice_index}
 use Rattle.std.specs.List.{position}
 use Rattle.std.proofs.Math.ListN.{set}
-use Rattle.std.proofs.lemmas.Bool.{le-ltb}
-use Rattle.std.proofs.lemmas.Bool.Decides.{eqb_tells}
+use Rattle.std.proofs.lemmas.Bool.{le-ltb, ne_eqb}
 use Rattle.std.proofs.lemmas.List.{length-set, get_or_default}
 use Rattle.std.proofs.lemmas.List.Sums.{position_or_len_is, sum_by-set, count_by-le-length}
 use Rattle.lab_book.specs.declared.status.Status.{Status}
@@ -17,7 +16,7 @@ use Rattle.lab_book.proofs.InsertLemmas.{with_two, places_two, count_two}
 use Rattle.lab_book.proofs.TilingLemmas.{ids_set}
 
 -- the first place that passes a test, where one does and none before it
-position_at : {X : Type 0} (p : X → Bool) (xs : List X) (i : ℕ) (d : X) → i < length xs → ((k : ℕ) → k < i → p (get_or xs k d) ≡ false) → p (get_or xs i d) ≡ true → position p xs ≡ Some i
+pub position_at : {X : Type 0} (p : X → Bool) (xs : List X) (i : ℕ) (d : X) → i < length xs → ((k : ℕ) → k < i → p (get_or xs k d) ≡ false) → p (get_or xs i d) ≡ true → position p xs ≡ Some i
 position_at p xs i d l before here =
     let e = position_or_len_is p xs i d (omega arith) before (λ _. here) in
     rw e (rw (lt-ltb i (length xs) l) refl)
@@ -27,18 +26,11 @@ position_none p xs d each =
     let e = position_or_len_is p xs (length xs) d (omega arith) each (λ l. absurd (omega arith)) in
     rw e (rw (le-ltb (length xs) (length xs) (omega arith)) refl)
 
-differs : (a b : ℕ) → (a ≡ b → ⊥) → (a == b) ≡ false
-differs a b h = step (eqb_tells a b)
-  where
-    step : (((a == b) ≡ true) × (a ≡ b)) ⊎ (((a == b) ≡ false) × (a ≡ b → ⊥)) → (a == b) ≡ false
-    step (inl e) = absurd (h e.1)
-    step (inr e) = e.0
-
 pub placed : (places : List ℕ) (ts : List TileValue) (id : ℕ) → ArePlaces places ts → id < length places → Some (get_or places id 0) ≡ place_of id ts
 placed places ts id a l =
     let m : id < length ts = let e = a.long in omega arith in
     let t = a.tiles id m in
-    sym (position_at (λ (t : TileValue). t.id == id) ts (get_or places id 0) no_tile t.0 (λ k b. differs (tile_at ts k).id id (λ e. off k b e)) (eq-eqb (tile_at ts (get_or places id 0)).id id t.1))
+    sym (position_at (λ (t : TileValue). t.id == id) ts (get_or places id 0) no_tile t.0 (λ k b. ne_eqb (tile_at ts k).id id (λ e. off k b e)) (eq-eqb (tile_at ts (get_or places id 0)).id id t.1))
   where
     off : (k : ℕ) → k < get_or places id 0 → (tile_at ts k).id ≡ id → ⊥
     off k b e =
@@ -52,7 +44,7 @@ place_within places ts id a l = (a.tiles id (let e = a.long in omega arith)).0
 
 pub unplaced : (places : List ℕ) (ts : List TileValue) (id : ℕ) → ArePlaces places ts → length places ≤ id → None ≡ place_of id ts
 unplaced places ts id a l =
-    sym (position_none (λ (t : TileValue). t.id == id) ts no_tile (λ k b. differs (tile_at ts k).id id (λ e. let i = a.ids k b in let m = a.long in omega (arith, i.0))))
+    sym (position_none (λ (t : TileValue). t.id == id) ts no_tile (λ k b. ne_eqb (tile_at ts k).id id (λ e. let i = a.ids k b in let m = a.long in omega (arith, i.0))))
 
 -- what is kept tells that the ids are numbers, each once
 pub numbered : (places : List ℕ) (ts : List TileValue) → ArePlaces places ts → AreNumbered ts
@@ -119,13 +111,6 @@ keeps_split ts us places moved waiting leased i n t u r cut k l et eu en er es e
     let e = k.waiting_are in
     let f = k.leased_are in
     rw (es, em) (record { index = places_two ts i u r l id places k.index new; waiting_are = omega arith; leased_are = omega arith })
-
-pub split_numbered : (ts us : List TileValue) (places moved : List ℕ) (waiting leased i n : ℕ) (t u r : TileValue) (cut : CutPath) → KeepsTiles ts places waiting leased → i < length ts
-    → t ≡ get_or ts i t → u ≡ head_tile t cut → n ≡ length ts → r ≡ tail_tile n t cut → us ≡ with_two ts i u r → moved ≡ map (moved_up i) places ++ (i + 1) ∷ []
-    → AreNumbered us
-split_numbered ts us places moved waiting leased i n t u r cut k l et eu en er es em =
-    let kept = keeps_split ts us places moved waiting leased i n t u r cut k l et eu en er es em in
-    numbered moved us kept.index
 
 -- a count is at most the number of tiles, and above 0 where a tile passes
 pub count_within : (f : TileValue → Bool) (ts : List TileValue) (n : ℕ) → n ≡ count_by f ts → n ≤ length ts

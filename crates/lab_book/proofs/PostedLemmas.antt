@@ -17,15 +17,9 @@ use Rattle.lab_book.specs.declared.status.Status.TheVariants.{Closed}
 use Rattle.lab_book.specs.Tile.{TileValue, IsTile, Join, Stands, led_to, mark_of, tile_end}
 use Rattle.lab_book.specs.Tiling.{AreTiles}
 use Rattle.lab_book.specs.Posted.{stretch_visits, posted_visits, AllClosed}
-use Rattle.lab_book.proofs.TileLemmas.{end_fits, end_after}
+use Rattle.lab_book.proofs.TileLemmas.{end_fits, end_after, led_rank}
 
 -- ---- stretches that join
-
-pub joined_up : (p : ProblemValue) (s : StateValue) (xs : List StretchValue) → Join p s xs → Fits p s → rank p s ≤ rank p (led_to s xs)
-joined_up p s [] j f = omega arith
-joined_up p s (x ∷ xs) j f =
-    let a = end_after p s x.to j.2 in
-    let b = joined_up p x.to xs j.3 (end_fits p s x.to j.2) in omega arith
 
 pub joined_fits : (p : ProblemValue) (s : StateValue) (xs : List StretchValue) → Join p s xs → Fits p s → Fits p (led_to s xs)
 joined_fits p s [] j f = f
@@ -38,7 +32,7 @@ joined_visits p s (x ∷ xs) j f =
     let first : visits_between x.problem x.from x.to ≡ visits_between p s x.to = ap₂ (λ (q : ProblemValue) (a : StateValue). visits_between q a x.to) j.0 j.1 in
     flat_map-cons (λ (x : StretchValue). visits_between x.problem x.from x.to) x xs
     ∙ ap₂ (λ (vs ws : List (List ℕ)). vs ++ ws) first (joined_visits p x.to xs j.3 g)
-    ∙ sym (visits_between_join p s x.to (led_to x.to xs) f g (joined_fits p x.to xs j.3 g) (end_after p s x.to j.2) (joined_up p x.to xs j.3 g))
+    ∙ sym (visits_between_join p s x.to (led_to x.to xs) f g (joined_fits p x.to xs j.3 g) (end_after p s x.to j.2) (led_rank p x.to xs j.3 g))
 
 -- ---- tiles
 
@@ -51,7 +45,7 @@ module _ (p : ProblemValue) (t : TileValue) (i : IsTile p t) (closed : t.status 
   tile_first = end_fits p _ t.first i.begins
 
   pub tile_up : rank p t.first ≤ rank p (tile_end t)
-  tile_up = subst (λ (s : StateValue). rank p t.first ≤ rank p s) closed_end (joined_up p t.first t.stretches i.joins tile_first)
+  tile_up = subst (λ (s : StateValue). rank p t.first ≤ rank p s) closed_end (led_rank p t.first t.stretches i.joins tile_first)
 
   tile_visits : stretch_visits t.stretches ≡ visits_between p t.first (tile_end t)
   tile_visits = joined_visits p t.first t.stretches i.joins tile_first ∙ ap (visits_between p t.first) closed_end

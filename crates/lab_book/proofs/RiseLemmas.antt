@@ -15,8 +15,8 @@ use Rattle.x_branches.specs.Branch.{end_of}
 use Rattle.lab_book.specs.Tile.{TileValue, IsTile, mark_of, tile_end}
 use Rattle.lab_book.specs.Tiling.{AreTiles}
 use Rattle.lab_book.specs.Posted.{stretch_visits, posted_visits}
-use Rattle.lab_book.proofs.TileLemmas.{end_fits, end_after}
-use Rattle.lab_book.proofs.PostedLemmas.{Reaches, joined_up, joined_visits}
+use Rattle.lab_book.proofs.TileLemmas.{end_fits, end_after, led_rank}
+use Rattle.lab_book.proofs.PostedLemmas.{Reaches, joined_visits}
 
 -- ---- some of a list, in its order
 
@@ -64,7 +64,7 @@ module _ (p : ProblemValue) (t : TileValue) (i : IsTile p t) where
   last_fits = end_fits p (mark_of t) (tile_end t) i.within
 
   mark_up : rank p t.first ≤ rank p (mark_of t)
-  mark_up = joined_up p t.first t.stretches i.joins first_fits
+  mark_up = led_rank p t.first t.stretches i.joins first_fits
 
   tile_reach : Reaches p t.first (tile_end t)
   tile_reach = record { from = first_fits; to = last_fits; up = let a = mark_up in let b = end_after p (mark_of t) (tile_end t) i.within in omega arith }

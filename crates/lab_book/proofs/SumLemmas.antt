@@ -25,8 +25,8 @@ use Rattle.lab_book.specs.declared.status.Status.TheVariants.{Closed}
 use Rattle.lab_book.specs.Tile.{TileValue, IsTile, Join, led_to, tile_end}
 use Rattle.lab_book.specs.Tiling.{AreTiles, IsTiling}
 use Rattle.lab_book.specs.Posted.{AllClosed, posted_count, posted_level, posted_levels, posted_steps, stretch_level, stretch_steps}
-use Rattle.lab_book.proofs.TileLemmas.{end_fits, end_after}
-use Rattle.lab_book.proofs.PostedLemmas.{joined_up, joined_fits, closed_end, tile_first, tile_up, tiles_reach, first_closed, rest_closed}
+use Rattle.lab_book.proofs.TileLemmas.{end_fits, end_after, led_rank}
+use Rattle.lab_book.proofs.PostedLemmas.{joined_fits, closed_end, tile_first, tile_up, tiles_reach, first_closed, rest_closed}
 
 add-zero : (n : ℕ) → n + 0 ≡ n
 add-zero n = omega arith
@@ -42,7 +42,7 @@ module _ (of : ProblemValue → StateValue → StateValue → ℕ) (none : (p : 
       let first : of x.problem x.from x.to ≡ of p s x.to = ap₂ (λ (q : ProblemValue) (a : StateValue). of q a x.to) j.0 j.1 in
       sum_by-cons (λ (x : StretchValue). of x.problem x.from x.to) x xs
       ∙ ap₂ (λ (m n : ℕ). m + n) first (joined_sum p x.to xs j.3 g)
-      ∙ sym (join p s x.to (led_to x.to xs) f g (joined_fits p x.to xs j.3 g) (end_after p s x.to j.2) (joined_up p x.to xs j.3 g))
+      ∙ sym (join p s x.to (led_to x.to xs) f g (joined_fits p x.to xs j.3 g) (end_after p s x.to j.2) (led_rank p x.to xs j.3 g))
 
   tile_sum : (p : ProblemValue) (t : TileValue) → IsTile p t → t.status ≡ Closed → sum_by (λ (x : StretchValue). of x.problem x.from x.to) t.stretches ≡ of p t.first (tile_end t)
   tile_sum p t i closed = joined_sum p t.first t.stretches i.joins (tile_first p t i closed) ∙ ap (of p t.first) (closed_end p t i closed)
@@ -152,6 +152,11 @@ added_more old counts new i a l m s = record {
     small_at level (inl e) = rw e.1 (let h = here in omega arith)
     small_at level (inr e) = rw (there level e.1) (a.small level)
 
+zero_at : (n k : ℕ) → get_or (replicate {A = ℕ} n 0) k 0 ≡ 0
+zero_at zero k = refl
+zero_at (suc n) zero = refl
+zero_at (suc n) (suc k) = zero_at n k
+
 -- the counts of a stretch at each level
 pub count_at : (p : ProblemValue) (s t : StateValue) (counts : List ℕ) (level : ℕ) → counts ≡ trimmed_levels p s t → level < length p.names + 1 → get_or counts level 0 ≡ level_count (states_between p s t) level
 unfolding trimmed_levels
@@ -159,11 +164,6 @@ count_at p s t counts level e l =
     let z = zeros_cut (levels p s t) in
     sym (with_zeros counts z.0 level) ∙ ap (λ xs. get_or xs level 0) (ap (λ xs. xs ++ replicate z.0 0) e ∙ sym z.1) ∙ levels_at p s t level 0 (omega arith)
   where
-    zero_at : (n k : ℕ) → get_or (replicate {A = ℕ} n 0) k 0 ≡ 0
-    zero_at zero k = refl
-    zero_at (suc n) zero = refl
-    zero_at (suc n) (suc k) = zero_at n k
-
     with_zeros : (xs : List ℕ) (n k : ℕ) → get_or (xs ++ replicate n 0) k 0 ≡ get_or xs k 0
     with_zeros [] n k = zero_at n k
     with_zeros (x ∷ xs) n zero = refl
@@ -233,12 +233,7 @@ pub record AreLevelsOf (ts : List TileValue) (n : ℕ) (totals : List ℕ) : Typ
   pub small : (level : ℕ) → level < n → get_or totals level 0 ≤ 4294967295 * posted_count ts
 
 pub levels_none : (n : ℕ) → AreLevelsOf [] n (replicate n 0)
-levels_none n = record { long = length-replicate n 0; sums = λ level l. zeros n level; small = λ level l. let z = zeros n level in omega arith }
-  where
-    zeros : (n k : ℕ) → get_or (replicate {A = ℕ} n 0) k 0 ≡ 0
-    zeros zero k = refl
-    zeros (suc n) zero = refl
-    zeros (suc n) (suc k) = zeros n k
+levels_none n = record { long = length-replicate n 0; sums = λ level l. zero_at n level; small = λ level l. let z = zero_at n level in omega arith }
 
 pub levels_all : (p : ProblemValue) (ts : List TileValue) (totals : List ℕ) → AreLevelsOf ts (length p.names + 1) totals → without_last_zeros totals ≡ posted_levels p ts
 levels_all p ts totals s =

@@ -3,7 +3,7 @@ use Rattle.std.proofs.Common.{◌≡◌, ℕ, zero, suc, ◌-◌, ◌<◌, ◌�
 use Rattle.std.specs.Prelude.{◌↔◌, IsTrue, is_some, if◌then◌else◌}
 use Rattle.std.specs.List.{slice_get}
 use Rattle.std.specs.Cmp.Lexicographic.{bytes_decides}
-use Rattle.std.proofs.lemmas.Bool.{and_parts, and_from, false≢true, cases_lt}
+use Rattle.std.proofs.lemmas.Bool.{and_parts, and_from, false≢true, false_from_ne_true, cases_lt}
 use Rattle.std.proofs.lemmas.List.{take_more}
 use Rattle.cover_problem.specs.Problem.{ProblemValue}
 use Rattle.x_steps.specs.declared.state.Label.{Label}
@@ -105,11 +105,7 @@ is_same_state s t e =
 -- a test that tells whether two states are the same is that test
 pub tested : (test : Bool) (s t : StateValue) → IsTrue test ↔ (s ≡ t) → same_state s t ≡ test
 tested true s t h = is_same_state s t (h.0 refl)
-tested false s t h = by (same_state s t) refl
-  where
-    by : (b : Bool) → same_state s t ≡ b → b ≡ false
-    by true e = absurd (false≢true (h.1 (same_state_is s t e)))
-    by false e = refl
+tested false s t h = false_from_ne_true (same_state s t) (λ e. false≢true (h.1 (same_state_is s t e)))
 
 -- ---- stretches
 

@@ -220,7 +220,8 @@ impl<'p> Tiles<'p> {
     pub fn put_back(&mut self, i: usize, count: usize)
         requires within { i < length self.old }
         requires some { count ≤ length (tile_at self.old i).stretches }
-        ensures { self.new ≡ slice_set self.old i (record (tile_at self.old i) { stretches = take count (tile_at self.old i).stretches }) }
+        ensures { self.new ≡ slice_set self.old i
+            (record (tile_at self.old i) { stretches = take count (tile_at self.old i).stretches }) }
     {
         self.list[i].put_back(count);
     }

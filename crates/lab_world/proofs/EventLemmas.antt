@@ -1,7 +1,7 @@
 -- What an act answers and leaves is its turn's.
 use Rattle.std.proofs.Common.{◌≡◌, ℕ, ◌<◌, ◌==◌, Bool, true, false, Option, Some, None, Result, Ok, Err, List, length, take, filter, refl, sym, ap, ◌∙◌, subst, inl, inr, arith, eq-eqb, is_some}
 use Rattle.std.specs.Prelude.{if◌then◌else◌, IfOk}
-use Rattle.std.proofs.lemmas.Bool.{false≢true}
+use Rattle.std.proofs.lemmas.Bool.{false≢true, false_from_ne_true, ne_eqb}
 use Rattle.cover_problem.specs.Lists.{has}
 use Rattle.cover_problem.proofs.MemberLemmas.{has_filter_in}
 use Rattle.x_steps.specs.declared.state.State.{State}
@@ -35,11 +35,12 @@ use Rattle.lab_world.specs.declared.event.WorldReply.{WorldReply}
 use Rattle.lab_world.specs.declared.event.WorldReply.TheVariants as reply_of
 use Rattle.lab_world.specs.declared.worker.ending.Ending.{Ending}
 use Rattle.lab_world.specs.declared.worker.ending.Ending.TheVariants as ending
-use Rattle.lab_world.specs.Worker.{WorkerValue, moved_to, unposted, cut_at, shortened, split_call, end_call, lent_worker, after_post, after_split, after_retract, after_end, RetractRefused, WorkerSplitRefused}
-use Rattle.lab_world.proofs.HoldLemmas.{same_number}
+use Rattle.lab_world.specs.declared.worker.leasing.Wanted.{Wanted}
+use Rattle.lab_world.specs.declared.worker.leasing.Wanted.TheVariants as wanted
+use Rattle.lab_world.specs.Worker.{WorkerValue, moved_to, unposted, cut_at, shortened, split_call, lease_call, end_call, lent_worker, after_post, after_split, after_retract, after_end, RetractRefused, WorkerSplitRefused}
 use Rattle.lab_world.specs.declared.event.Act.{Act}
 use Rattle.lab_world.specs.declared.fault.WorkerFault.TheVariants as worker_fault
-use Rattle.lab_world.specs.World.{Turn, Turned, turn, called, stays, cut_refusal, end_act}
+use Rattle.lab_world.specs.World.{Turn, Turned, turn, called, stays, cut_refusal, lease_act, end_act}
 
 -- ---- calls of the book
 
@@ -76,25 +77,14 @@ second_of_two : (c : Bool) (t u : Turn) (r : WorldReply) (b : BookValue) (x : Op
 second_of_two c t u r b x e h = rw e h
 
 differ : (s t : StateValue) → (s ≡ t → ⊥) → same_state s t ≡ false
-differ s t h = by (same_state s t) refl
-  where
-    by : (c : Bool) → same_state s t ≡ c → c ≡ false
-    by true e = absurd (h (same_state_is s t e))
-    by false e = refl
-
-not_equal : (a b : ℕ) → (a ≡ b → ⊥) → (a == b) ≡ false
-not_equal a b h = by (a == b) refl
-  where
-    by : (c : Bool) → (a == b) ≡ c → c ≡ false
-    by true e = absurd (h (same_number a b e))
-    by false e = refl
+differ s t h = false_from_ne_true (same_state s t) (λ e. h (same_state_is s t e))
 
 module _ (b : BookValue) (w : ℕ) (x y : WorkerValue) where
   pub step_turned : (e : Event) → CanAdvance x.runner → e ≡ event_of x.runner.problem x.runner.position → y ≡ moved_to x (next x.runner.problem x.runner.position) → Turned (turn b (Some x) w Step) (reply_of.Event e) b (Some y)
   unfolding turn
   step_turned e can t m =
       second_of_two _ _ _ _ _ _ (differ _ _ can.goes_on)
-      (second_of_two _ _ _ _ _ _ (not_equal _ _ can.has_room) (record { reply = ap reply_of.Event t; book = refl; worker = ap Some m }))
+      (second_of_two _ _ _ _ _ _ (ne_eqb _ _ can.has_room) (record { reply = ap reply_of.Event t; book = refl; worker = ap Some m }))
 
   pub step_refused : (f : RunnerFault) → AdvanceRefused x.runner f → (f ≡ runner.OutOfMemory → ⊥) → y ≡ x → Turned (turn b (Some x) w Step) (reply_of.Runner f) b (Some y)
   unfolding turn
@@ -135,7 +125,7 @@ cut_refused_is : (r : RunnerValue) (level o : ℕ) (f : RunnerFault) → CutRefu
 cut_refused_is r level o runner.OutsideBranch m n = (m.1, rw m.0 refl)
 cut_refused_is r level o runner.NothingUntried m n = (ap (λ (xs : List ℕ). has xs o) m.1, rw (m.0, m.1) refl)
 cut_refused_is r level o runner.NotUntried m n =
-    let some : (length (untried_in r level) == 0) ≡ false = not_equal (length (untried_in r level)) 0 (λ e. let l = m.1 in omega arith) in
+    let some : (length (untried_in r level) == 0) ≡ false = ne_eqb (length (untried_in r level)) 0 (λ e. let l = m.1 in omega arith) in
     (not_untried r level o m.0, rw (m.0, some) refl)
 cut_refused_is r level o runner.OutOfMemory m n = absurd (n refl)
 cut_refused_is r level o runner.AtBranchEnd m n = absurd m
@@ -168,6 +158,10 @@ leases (Lease id) = true
 leases LeaseAny = true
 leases (TakeHeld id) = true
 leases _ = false
+
+pub lease_leases : (want : Wanted) (id : ℕ) → leases (lease_act want id) ≡ true
+lease_leases wanted.Waiting id = refl
+lease_leases wanted.Held id = refl
 
 module _ (b : BookValue) (w : ℕ) where
   idle : (a : Act) → needs_runner a ≡ true → turn b None w a ≡ stays b None reply_of.Idle
@@ -218,20 +212,16 @@ none_there (Some y) e = absurd (false≢true (sym e))
 
 -- which call each is, and what becomes of the worker
 module _ (b : BookValue) (w : ℕ) where
-  pub lease_is : (x : Option WorkerValue) (id : ℕ) → is_some x ≡ false → turn b x w (Lease id) ≡ called b w (call.Lease id) (lent_worker b.problem)
+  pub lease_is : (x : Option WorkerValue) (want : Wanted) (id : ℕ) → is_some x ≡ false → turn b x w (lease_act want id) ≡ called b w (lease_call want id) (lent_worker b.problem)
   unfolding turn
-  lease_is None id e = refl
-  lease_is (Some y) id e = absurd (false≢true (sym e))
+  lease_is None wanted.Waiting id e = refl
+  lease_is None wanted.Held id e = refl
+  lease_is (Some y) want id e = absurd (false≢true (sym e))
 
   pub lease_any_is : (x : Option WorkerValue) → is_some x ≡ false → turn b x w LeaseAny ≡ called b w call.LeaseAny (lent_worker b.problem)
   unfolding turn
   lease_any_is None e = refl
   lease_any_is (Some y) e = absurd (false≢true (sym e))
-
-  pub take_held_is : (x : Option WorkerValue) (id : ℕ) → is_some x ≡ false → turn b x w (TakeHeld id) ≡ called b w (call.TakeHeld id) (lent_worker b.problem)
-  unfolding turn
-  take_held_is None id e = refl
-  take_held_is (Some y) id e = absurd (false≢true (sym e))
 
   pub put_back_is : (x : Option WorkerValue) (id : ℕ) (s : State) → turn b x w (PutBack id s) ≡ called b w (call.PutBack id (state_value s)) (λ r. x)
   unfolding turn
@@ -265,7 +255,7 @@ module _ (b : BookValue) (w : ℕ) where
     unfolding turn
     retract_stays l =
         at_some Retract
-        ∙ ap (λ (c : Bool). if c then called b y.grant.worker (call.Retract y.grant) (after_retract y) else stays b (Some y) (reply_of.Runner runner.NotAtMark)) (not_equal _ 0 (λ e. omega arith))
+        ∙ ap (λ (c : Bool). if c then called b y.grant.worker (call.Retract y.grant) (after_retract y) else stays b (Some y) (reply_of.Runner runner.NotAtMark)) (ne_eqb _ 0 (λ e. omega arith))
 
     module _ (level o : ℕ) where
       split_by : (c : Bool) → has (untried_in y.runner level) o ≡ c → turn b x w (Split level o) ≡ (if c then called b y.grant.worker (split_call y (with_choice y.runner.position level o)) (after_split y (cut_at y.runner level o)) else stays b (Some y) (reply_of.Runner (cut_refusal y.runner level o)))

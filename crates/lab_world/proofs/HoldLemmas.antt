@@ -1,12 +1,11 @@
 -- Which tile a worker has, before and after a tile is changed.
-use Rattle.std.proofs.Common.{◌≡◌, ℕ, ◌<◌, ◌⊎◌, ◌==◌, ◌&&◌, Bool, true, false, Option, Some, None, Result, Ok, Err, List, [], ◌∷◌, ◌++◌, ◌+◌, ◌≤◌, length, take, drop, get_or, refl, sym, ap, ap₂, ◌∙◌, subst, inl, inr, arith, eq-eqb, lt-ltb}
-use Rattle.std.specs.List.{position, insert}
+use Rattle.std.proofs.Common.{◌≡◌, ℕ, ◌<◌, ◌⊎◌, ◌==◌, ◌&&◌, Bool, true, false, Option, Some, None, Result, Ok, Err, List, [], ◌∷◌, ◌++◌, ◌+◌, ◌≤◌, length, take, drop, get_or, refl, sym, ap, ap₂, ◌∙◌, subst, inl, inr, arith, eq-eqb}
+use Rattle.std.specs.List.{insert}
 use Rattle.std.proofs.Math.ListN.{set}
-use Rattle.std.proofs.lemmas.Bool.{cases_lt}
+use Rattle.std.proofs.lemmas.Bool.{cases_lt, eqb-true, ne_eqb}
 use Rattle.std.proofs.lemmas.Bool.Decides.{eqb_tells}
 use Rattle.std.proofs.lemmas.List.{length-set, get_or-set_same, get_or-set_other}
 use Rattle.std.proofs.lemmas.List.Edits.{length-insert, get_or-insert_below, get_or-insert_above}
-use Rattle.std.proofs.lemmas.List.Sums.{position_or_len_is}
 use Rattle.std.proofs.lemmas.List.Quantifiers.{position-Some}
 use Rattle.lab_book.specs.declared.status.Status.{Status}
 use Rattle.lab_book.specs.declared.status.Status.TheVariants as status
@@ -14,16 +13,12 @@ use Rattle.lab_book.specs.declared.lease.Grant.{Grant}
 use Rattle.lab_book.specs.declared.fault.BookFault.{BookFault}
 use Rattle.lab_book.specs.Tile.{TileValue, is_waiting, is_held, is_free, is_lease}
 use Rattle.lab_book.specs.Tiling.{tile_at, no_tile, AreNumbered}
-use Rattle.lab_book.specs.Book.{Outcome, place_of, found, checked, unless, made_at, else_fault}
+use Rattle.lab_book.specs.Book.{BookValue, Outcome, outcome, lent, place_of, found, checked, unless, made_at, status_fault, else_fault}
+use Rattle.lab_book.proofs.IndexLemmas.{position_at}
 use Rattle.lab_book.proofs.InsertLemmas.{two_parts}
-use Rattle.lab_world.specs.Worker.{WorkerValue, IsWorkers, HasTile}
-
-pub same_number : (a b : ℕ) → (a == b) ≡ true → a ≡ b
-same_number a b e = step (eqb_tells a b)
-  where
-    step : (((a == b) ≡ true) × (a ≡ b)) ⊎ (((a == b) ≡ false) × (a ≡ b → ⊥)) → a ≡ b
-    step (inl h) = h.1
-    step (inr h) = let f = h.0 in absurd (cc)
+use Rattle.lab_world.specs.declared.worker.leasing.Wanted.{Wanted}
+use Rattle.lab_world.specs.declared.worker.leasing.Wanted.TheVariants as wanted
+use Rattle.lab_world.specs.Worker.{WorkerValue, IsWorkers, HasTile, is_wanted, lease_call}
 
 -- ---- the place of a tile
 
@@ -40,25 +35,13 @@ found_ok ts id check i e = by (place_of id ts) refl e
     by (Some j) o e =
         let s = position-Some (λ (t : TileValue). t.id == id) ts j no_tile o in
         let a = at j (check (tile_at ts j)) e in
-        subst (λ (k : ℕ). (k < length ts) × ((tile_at ts k).id ≡ id) × (check (tile_at ts k) ≡ None)) a.0 (s.0, same_number _ _ s.1, a.1)
-
-differs : (a b : ℕ) → (a ≡ b → ⊥) → (a == b) ≡ false
-differs a b h = step (eqb_tells a b)
-  where
-    step : (((a == b) ≡ true) × (a ≡ b)) ⊎ (((a == b) ≡ false) × (a ≡ b → ⊥)) → (a == b) ≡ false
-    step (inl e) = absurd (h e.1)
-    step (inr e) = e.0
-
-position_at : {X : Type 0} (p : X → Bool) (xs : List X) (i : ℕ) (d : X) → i < length xs → ((k : ℕ) → k < i → p (get_or xs k d) ≡ false) → p (get_or xs i d) ≡ true → position p xs ≡ Some i
-position_at p xs i d l before here =
-    let e = position_or_len_is p xs i d (omega arith) before (λ _. here) in
-    rw e (rw (lt-ltb i (length xs) l) refl)
+        subst (λ (k : ℕ). (k < length ts) × ((tile_at ts k).id ≡ id) × (check (tile_at ts k) ≡ None)) a.0 (s.0, eqb-true _ _ s.1, a.1)
 
 -- a tile is the first with its id, since it is the only one
 pub placed : (ts : List TileValue) (id k : ℕ) → AreNumbered ts → k < length ts → (tile_at ts k).id ≡ id → place_of id ts ≡ Some k
 placed ts id k n l e =
     position_at (λ (t : TileValue). t.id == id) ts k no_tile l
-    (λ j b. differs (tile_at ts j).id id (λ h. let s = n.once j k (omega arith) l (h ∙ sym e) in omega arith))
+    (λ j b. ne_eqb (tile_at ts j).id id (λ h. let s = n.once j k (omega arith) l (h ∙ sym e) in omega arith))
     (eq-eqb (tile_at ts k).id id e)
 
 pub found_at : (ts : List TileValue) (id k : ℕ) (check : TileValue → Option BookFault) → AreNumbered ts → k < length ts → (tile_at ts k).id ≡ id → found ts id check ≡ unless k (check (tile_at ts k))
@@ -66,11 +49,15 @@ found_at ts id k check n l e = ap (checked ts check) (placed ts id k n l e)
 
 -- ---- how a tile stands
 
-pub waiting_not_leased : (s : Status) (w i : ℕ) → is_waiting s ≡ true → s ≡ status.Leased w i → ⊥
-waiting_not_leased s w i e h = let f = ap is_waiting h in absurd (cc)
+-- a tile is leased by its id where it stands as wanted
+pub lease_outcome : (b : BookValue) (w : ℕ) (want : Wanted) (id : ℕ) → outcome b w (lease_call want id) ≡ made_at b.tiles (lent b w) (found b.tiles id (λ (t : TileValue). status_fault (is_wanted want t.status) t))
+unfolding outcome
+lease_outcome b w wanted.Waiting id = refl
+lease_outcome b w wanted.Held id = refl
 
-pub held_not_leased : (s : Status) (w i : ℕ) → is_held s ≡ true → s ≡ status.Leased w i → ⊥
-held_not_leased s w i e h = let f = ap is_held h in absurd (cc)
+pub wanted_not_leased : (want : Wanted) (s : Status) (w i : ℕ) → is_wanted want s ≡ true → s ≡ status.Leased w i → ⊥
+wanted_not_leased wanted.Waiting s w i e h = let f = ap is_waiting h in absurd (cc)
+wanted_not_leased wanted.Held s w i e h = let f = ap is_held h in absurd (cc)
 
 pub free_not_leased : (s : Status) (w i : ℕ) → is_free s ≡ true → s ≡ status.Leased w i → ⊥
 free_not_leased s w i e h = let f = ap is_free h in absurd (cc)
@@ -84,7 +71,7 @@ pub other_lease : (s : Status) (g : Grant) (w i : ℕ) → is_lease s g ≡ true
 other_lease s g w i e h = by (w == g.worker) (i == g.index) refl (sym (ap (λ (s : Status). is_lease s g) h) ∙ e)
   where
     by : (a b : Bool) → (w == g.worker) ≡ a → (a && b) ≡ true → w ≡ g.worker
-    by true b h e = same_number _ _ h
+    by true b h e = eqb-true _ _ h
     by false b h e = absurd (cc)
 
 -- what a test says whose failure is a fault

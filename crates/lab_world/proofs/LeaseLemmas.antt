@@ -8,17 +8,18 @@ use Rattle.lab_book.specs.declared.fault.BookFault.{BookFault}
 use Rattle.lab_book.specs.declared.fault.BookFault.TheVariants.{NotWaiting}
 use Rattle.lab_book.specs.declared.entry.Call.{Call}
 use Rattle.lab_book.specs.declared.entry.Call.TheVariants as call
-use Rattle.lab_book.specs.Tile.{TileValue, mark_of, is_waiting, is_held}
+use Rattle.lab_book.specs.Tile.{TileValue, mark_of, is_waiting}
 use Rattle.lab_book.specs.Tiling.{tile_at, no_tile, IsTiling}
 use Rattle.lab_book.specs.Book.{BookValue, Outcome, outcome, book_step, found, checked, unless, place_of, made_at, lent, lent_any, first_waiting, status_fault, else_fault}
 use Rattle.lab_book.specs.Calls.{Made, leased_reply, any_reply}
 use Rattle.std.proofs.lemmas.List.Quantifiers.{position-Some}
-use Rattle.lab_book.proofs.CallLemmas.{lease_ok, held_ok, any_is}
-use Rattle.lab_world.specs.Worker.{WorkerValue, HoldsTile, lent_worker, runner_at, place_found, waiting_place, held_place}
+use Rattle.lab_book.proofs.CallLemmas.{any_is}
+use Rattle.lab_world.specs.declared.worker.leasing.Wanted.{Wanted}
+use Rattle.lab_world.specs.Worker.{WorkerValue, HoldsTile, lent_worker, runner_at, place_found, is_wanted, wanted_place, lease_call}
 use Rattle.lab_world.specs.World.{IsPlace}
-use Rattle.lab_world.proofs.HoldLemmas.{found_ok}
+use Rattle.lab_world.proofs.HoldLemmas.{found_ok, lease_outcome}
 use Rattle.lab_world.proofs.OwnLemmas.{lent_to, lent_is}
-use Rattle.lab_world.proofs.TurnLemmas.{lease_place, lease_any_place, take_held_place}
+use Rattle.lab_world.proofs.TurnLemmas.{lease_place, lease_any_place}
 
 -- ---- the place of a tile that stands so
 
@@ -47,15 +48,10 @@ refused_reply l b w (Ok j) n e = absurd (cc)
 refused_reply l b w (Err f) n e = absurd (cc)
 
 module _ (b new : BookValue) (w : ℕ) where
-  pub lease_refused : (id : ℕ) (r : Result Leased BookFault) → None ≡ waiting_place b.tiles id → IfOk r (λ l. Made b new w (call.Lease id) (leased_reply l)) → IsErr r
-  unfolding outcome
-  lease_refused id (Ok l) n m = absurd (refused_reply l b w (found b.tiles id (λ (t : TileValue). status_fault (is_waiting t.status) t)) n m.reply)
-  lease_refused id (Err f) n m = refl
-
-  pub take_held_refused : (id : ℕ) (r : Result Leased BookFault) → None ≡ held_place b.tiles id → IfOk r (λ l. Made b new w (call.TakeHeld id) (leased_reply l)) → IsErr r
-  unfolding outcome
-  take_held_refused id (Ok l) n m = absurd (refused_reply l b w (found b.tiles id (λ (t : TileValue). status_fault (is_held t.status) t)) n m.reply)
-  take_held_refused id (Err f) n m = refl
+  pub lease_refused : (want : Wanted) (id : ℕ) (r : Result Leased BookFault) → None ≡ wanted_place want b.tiles id → IfOk r (λ l. Made b new w (lease_call want id) (leased_reply l)) → IsErr r
+  lease_refused want id (Ok l) n m =
+      absurd (refused_reply l b w (found b.tiles id (λ (t : TileValue). status_fault (is_wanted want t.status) t)) n (m.reply ∙ ap (λ (o : Outcome). o.reply) (lease_outcome b w want id)))
+  lease_refused want id (Err f) n m = refl
 
   none_is : (r : Option Leased) (o : Option ℕ) → None ≡ o → any_reply r ≡ (lent_any b w o).reply → r ≡ None
   none_is None o n e = refl
@@ -99,23 +95,14 @@ module _ (b new : BookValue) (w i : ℕ) (tiling : IsTiling b.problem b.branch b
   worker_holds : (c : Call) → IsPlace (book_step b w c) w (lent_worker b.problem (outcome b w c).reply) → new ≡ book_step b w c → Some (record { grant = g; runner = run }) ≡ lent_worker b.problem (outcome b w c).reply → HoldsTile new (record { grant = g; runner = run })
   worker_holds c p n e = subst (λ (b : BookValue). HoldsTile b (record { grant = g; runner = run })) (sym n) (subst (IsPlace (book_step b w c) w) (sym e) p).1
 
-  pub lease_worker : (id : ℕ) → Some i ≡ waiting_place b.tiles id → Made b new w (call.Lease id) (leased_reply l) → Some (record { grant = g; runner = run }) ≡ lent_worker b.problem (outcome b w (call.Lease id)).reply
-  lease_worker id e m =
-      let check = λ (t : TileValue). status_fault (is_waiting t.status) t in
+  pub lease_worker : (want : Wanted) (id : ℕ) → Some i ≡ wanted_place want b.tiles id → Made b new w (lease_call want id) (leased_reply l) → Some (record { grant = g; runner = run }) ≡ lent_worker b.problem (outcome b w (lease_call want id)).reply
+  lease_worker want id e m =
+      let check = λ (t : TileValue). status_fault (is_wanted want t.status) t in
       let f = found_is (found b.tiles id check) i e in
-      worker_is (call.Lease id) (found_ok b.tiles id check i f).0 (lease_ok b w id (found b.tiles id check) i refl f) m.reply
+      worker_is (lease_call want id) (found_ok b.tiles id check i f).0 (lease_outcome b w want id ∙ ap (made_at b.tiles (lent b w)) f) m.reply
 
-  pub lease_holds : (id : ℕ) → Some i ≡ waiting_place b.tiles id → Made b new w (call.Lease id) (leased_reply l) → HoldsTile new (record { grant = g; runner = run })
-  lease_holds id e m = worker_holds (call.Lease id) (lease_place b w tiling id) m.book (lease_worker id e m)
-
-  pub take_held_worker : (id : ℕ) → Some i ≡ held_place b.tiles id → Made b new w (call.TakeHeld id) (leased_reply l) → Some (record { grant = g; runner = run }) ≡ lent_worker b.problem (outcome b w (call.TakeHeld id)).reply
-  take_held_worker id e m =
-      let check = λ (t : TileValue). status_fault (is_held t.status) t in
-      let f = found_is (found b.tiles id check) i e in
-      worker_is (call.TakeHeld id) (found_ok b.tiles id check i f).0 (held_ok b w id (found b.tiles id check) i refl f) m.reply
-
-  pub take_held_holds : (id : ℕ) → Some i ≡ held_place b.tiles id → Made b new w (call.TakeHeld id) (leased_reply l) → HoldsTile new (record { grant = g; runner = run })
-  take_held_holds id e m = worker_holds (call.TakeHeld id) (take_held_place b w tiling id) m.book (take_held_worker id e m)
+  pub lease_holds : (want : Wanted) (id : ℕ) → Some i ≡ wanted_place want b.tiles id → Made b new w (lease_call want id) (leased_reply l) → HoldsTile new (record { grant = g; runner = run })
+  lease_holds want id e m = worker_holds (lease_call want id) (lease_place b w tiling want id) m.book (lease_worker want id e m)
 
   pub any_worker : Some i ≡ first_waiting b.tiles → Made b new w call.LeaseAny (leased_reply l) → Some (record { grant = g; runner = run }) ≡ lent_worker b.problem (outcome b w call.LeaseAny).reply
   any_worker e m =

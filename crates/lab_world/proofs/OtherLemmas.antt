@@ -1,5 +1,5 @@
 -- A call of the book leaves the tiles of the other workers as they are.
-use Rattle.std.proofs.Common.{◌≡◌, ℕ, ◌<◌, Bool, not, Option, Some, None, List, length, refl, ap}
+use Rattle.std.proofs.Common.{◌≡◌, ℕ, ◌<◌, Bool, not, Option, Some, None, List, length, refl, sym, ap, subst}
 use Rattle.std.proofs.Math.ListN.{set}
 use Rattle.std.proofs.lemmas.List.Quantifiers.{position-Some}
 use Rattle.x_steps.specs.StateValue.{StateValue}
@@ -8,30 +8,26 @@ use Rattle.lab_book.specs.declared.status.Status.TheVariants as status
 use Rattle.lab_book.specs.declared.lease.Grant.{Grant}
 use Rattle.lab_book.specs.declared.fault.BookFault.{BookFault}
 use Rattle.lab_book.specs.declared.entry.Call.TheVariants as call
-use Rattle.lab_book.specs.Tile.{TileValue, is_waiting, is_held, is_closed, asked_status}
+use Rattle.lab_book.specs.Tile.{TileValue, is_waiting, is_closed, asked_status}
 use Rattle.lab_book.specs.Tiling.{tile_at, no_tile}
-use Rattle.lab_book.specs.Book.{BookValue, outcome, lent, lent_any, first_waiting, posted, split, head_tile, tail_tile, retracted, settled, freed, closed, put_back, asked_to_stop, status_fault, lease_fault, stretch_fault, cut_fault, retract_fault, end_fault, mark_fault}
+use Rattle.lab_book.specs.Book.{BookValue, Outcome, outcome, lent, lent_any, first_waiting, posted, split, head_tile, tail_tile, retracted, settled, freed, closed, put_back, asked_to_stop, status_fault, lease_fault, stretch_fault, cut_fault, retract_fault, end_fault, mark_fault}
 use Rattle.lab_world.specs.declared.worker.ending.Ending.{Ending}
 use Rattle.lab_world.specs.declared.worker.ending.Ending.TheVariants as ending
-use Rattle.lab_world.specs.Worker.{WorkerValue, IsWorkers, HasTile, end_call}
-use Rattle.lab_world.proofs.HoldLemmas.{kept_set, kept_made, kept_parted, passed, waiting_not_leased, held_not_leased, free_not_leased, other_lease}
+use Rattle.lab_world.specs.declared.worker.leasing.Wanted.{Wanted}
+use Rattle.lab_world.specs.declared.worker.leasing.Wanted.TheVariants as wanted
+use Rattle.lab_world.specs.Worker.{WorkerValue, IsWorkers, HasTile, is_wanted, lease_call, end_call}
+use Rattle.lab_world.proofs.HoldLemmas.{kept_set, kept_made, kept_parted, passed, lease_outcome, wanted_not_leased, free_not_leased, other_lease}
 
 module _ (b : BookValue) (w : ℕ) (y : WorkerValue) (has : HasTile b.tiles y) where
   -- a tile that isn't leased is no worker's, and may change
   where_free : (i : ℕ) (u : TileValue) → i < length b.tiles → ((v k : ℕ) → (tile_at b.tiles i).status ≡ status.Leased v k → ⊥) → HasTile (set b.tiles i u) y
   where_free i u l n = kept_set b.tiles y i u l (λ (o : IsWorkers (tile_at b.tiles i) y). absurd (n y.grant.worker y.grant.index o.leased)) has
 
-  pub lease_leaves : (id : ℕ) → HasTile (outcome b w (call.Lease id)).tiles y
-  unfolding outcome
-  lease_leaves id =
-      kept_made b.tiles y (lent b w) id (λ (t : TileValue). status_fault (is_waiting t.status) t)
-      (λ i l n. where_free i _ l (λ v k e. waiting_not_leased _ v k (passed _ _ _ n).0 e)) has
-
-  pub take_held_leaves : (id : ℕ) → HasTile (outcome b w (call.TakeHeld id)).tiles y
-  unfolding outcome
-  take_held_leaves id =
-      kept_made b.tiles y (lent b w) id (λ (t : TileValue). status_fault (is_held t.status) t)
-      (λ i l n. where_free i _ l (λ v k e. held_not_leased _ v k (passed _ _ _ n).0 e)) has
+  pub lease_leaves : (want : Wanted) (id : ℕ) → HasTile (outcome b w (lease_call want id)).tiles y
+  lease_leaves want id =
+      subst (λ (o : Outcome). HasTile o.tiles y) (sym (lease_outcome b w want id))
+      (kept_made b.tiles y (lent b w) id (λ (t : TileValue). status_fault (is_wanted want t.status) t)
+      (λ i l n. where_free i _ l (λ v k e. wanted_not_leased want _ v k (passed _ _ _ n).0 e)) has)
 
   pub lease_any_leaves : HasTile (outcome b w call.LeaseAny).tiles y
   unfolding outcome
@@ -41,7 +37,7 @@ module _ (b : BookValue) (w : ℕ) (y : WorkerValue) (has : HasTile b.tiles y) w
       by None e = has
       by (Some i) e =
           let s = position-Some (λ (t : TileValue). is_waiting t.status) b.tiles i no_tile e in
-          where_free i _ s.0 (λ v k h. waiting_not_leased _ v k s.1 h)
+          where_free i _ s.0 (λ v k h. wanted_not_leased wanted.Waiting _ v k s.1 h)
 
   pub put_back_leaves : (id : ℕ) (s : StateValue) → HasTile (outcome b w (call.PutBack id s)).tiles y
   unfolding outcome

@@ -114,7 +114,7 @@ last_later p s (y ∷ z ∷ zs) x j f e =
     (l.0, omega (arith, l.1))
 
 -- and ends where they end
-last_ends : (s : StateValue) (xs : List StretchValue) (x : StretchValue) → last_of xs ≡ Some x → led_to s xs ≡ x.to
+pub last_ends : (s : StateValue) (xs : List StretchValue) (x : StretchValue) → last_of xs ≡ Some x → led_to s xs ≡ x.to
 last_ends s [] x e = absurd (cc)
 last_ends s (y ∷ []) x e = ap (λ (z : StretchValue). z.to) (let h : y ≡ x = cc in h)
 last_ends s (y ∷ z ∷ zs) x e = last_ends y.to (z ∷ zs) x e

@@ -20,7 +20,7 @@ use Rattle.lab_book.specs.Calls.{post_of}
 use Rattle.lab_book.specs.declared.fault.BookFault.{BookFault}
 use Rattle.lab_book.specs.declared.entry.Call.{Call}
 use Rattle.lab_book.specs.declared.entry.Call.TheVariants as call
-use Rattle.lab_book.specs.Tile.{TileValue, is_waiting, is_held}
+use Rattle.lab_book.specs.Tile.{TileValue, is_waiting}
 use Rattle.lab_book.specs.Tiling.{tile_at, no_tile, IsTiling}
 use Rattle.lab_book.specs.Book.{BookValue, Outcome, outcome, book_step, found, made_at, lent, lent_any, first_waiting, status_fault}
 use Rattle.lab_world.specs.declared.event.Act.{Act}
@@ -28,10 +28,12 @@ use Rattle.lab_world.specs.declared.event.Act.TheVariants.{Step, Back, Lease, Le
 use Rattle.lab_world.specs.declared.event.WorldEvent.{WorldEvent}
 use Rattle.lab_world.specs.declared.worker.ending.Ending.{Ending}
 use Rattle.lab_world.specs.declared.worker.ending.Ending.TheVariants as ending
-use Rattle.lab_world.specs.Worker.{WorkerValue, HasTile, moved_to, unposted, split_call, end_call, after_end, lent_worker}
+use Rattle.lab_world.specs.declared.worker.leasing.Wanted.{Wanted}
+use Rattle.lab_world.specs.declared.worker.leasing.Wanted.TheVariants as wanted
+use Rattle.lab_world.specs.Worker.{WorkerValue, HasTile, moved_to, unposted, split_call, is_wanted, lease_call, end_call, after_end, lent_worker}
 use Rattle.lab_world.specs.World.{WorldValue, Turn, turn, stepped, stepped_back, splitting, retracting, IsPlace, IsWorld, worker_at, world_step}
-use Rattle.lab_world.proofs.HoldLemmas.{found_ok}
-use Rattle.lab_world.proofs.OtherLemmas.{lease_leaves, lease_any_leaves, take_held_leaves, post_leaves, retract_leaves, split_leaves, end_leaves, put_back_leaves, stop_leaves}
+use Rattle.lab_world.proofs.HoldLemmas.{found_ok, lease_outcome}
+use Rattle.lab_world.proofs.OtherLemmas.{lease_leaves, lease_any_leaves, post_leaves, retract_leaves, split_leaves, end_leaves, put_back_leaves, stop_leaves}
 use Rattle.lab_world.proofs.OwnLemmas.{Has, lent_to, lent_is, lent_has, post_has, split_has, retract_has, end_has}
 
 -- ---- what was leased
@@ -51,17 +53,10 @@ module _ (b : BookValue) (w : ℕ) (tiling : IsTiling b.problem b.branch b.first
   found_place c (Ok i) e l = lent_place c i (l i refl) e
   found_place c (Err f) e l = none_place c (ap (λ (o : Outcome). lent_worker b.problem o.reply) e)
 
-  pub lease_place : (id : ℕ) → IsPlace (book_step b w (call.Lease id)) w (lent_worker b.problem (outcome b w (call.Lease id)).reply)
-  unfolding outcome
-  lease_place id =
-      let check = λ (t : TileValue). status_fault (is_waiting t.status) t in
-      found_place (call.Lease id) (found b.tiles id check) refl (λ i e. (found_ok b.tiles id check i e).0)
-
-  pub take_held_place : (id : ℕ) → IsPlace (book_step b w (call.TakeHeld id)) w (lent_worker b.problem (outcome b w (call.TakeHeld id)).reply)
-  unfolding outcome
-  take_held_place id =
-      let check = λ (t : TileValue). status_fault (is_held t.status) t in
-      found_place (call.TakeHeld id) (found b.tiles id check) refl (λ i e. (found_ok b.tiles id check i e).0)
+  pub lease_place : (want : Wanted) (id : ℕ) → IsPlace (book_step b w (lease_call want id)) w (lent_worker b.problem (outcome b w (lease_call want id)).reply)
+  lease_place want id =
+      let check = λ (t : TileValue). status_fault (is_wanted want t.status) t in
+      found_place (lease_call want id) (found b.tiles id check) (lease_outcome b w want id) (λ i e. (found_ok b.tiles id check i e).0)
 
   any_place : (r : Option ℕ) → first_waiting b.tiles ≡ r → outcome b w call.LeaseAny ≡ lent_any b w r → IsPlace (book_step b w call.LeaseAny) w (lent_worker b.problem (outcome b w call.LeaseAny).reply)
   any_place None f e = none_place call.LeaseAny (ap (λ (o : Outcome). lent_worker b.problem o.reply) e)
@@ -120,9 +115,9 @@ module _ (b : BookValue) (w : ℕ) (tiling : IsTiling b.problem b.branch b.first
   unfolding turn
   turn_keeps None Step k = tt
   turn_keeps None Back k = tt
-  turn_keeps None (Lease id) k = lease_place b w tiling id
+  turn_keeps None (Lease id) k = lease_place b w tiling wanted.Waiting id
   turn_keeps None LeaseAny k = lease_any_place b w tiling
-  turn_keeps None (TakeHeld id) k = take_held_place b w tiling id
+  turn_keeps None (TakeHeld id) k = lease_place b w tiling wanted.Held id
   turn_keeps None Post k = tt
   turn_keeps None (Split level o) k = tt
   turn_keeps None Retract k = tt
@@ -170,9 +165,9 @@ module _ (b : BookValue) (w v : ℕ) (y : WorkerValue) (other : v ≡ w → ⊥)
   unfolding turn
   leaves None Step h = k
   leaves None Back h = k
-  leaves None (Lease id) h = left w (call.Lease id) (lease_leaves b w y k.1.tile id)
+  leaves None (Lease id) h = left w (call.Lease id) (lease_leaves b w y k.1.tile wanted.Waiting id)
   leaves None LeaseAny h = left w call.LeaseAny (lease_any_leaves b w y k.1.tile)
-  leaves None (TakeHeld id) h = left w (call.TakeHeld id) (take_held_leaves b w y k.1.tile id)
+  leaves None (TakeHeld id) h = left w (call.TakeHeld id) (lease_leaves b w y k.1.tile wanted.Held id)
   leaves None Post h = k
   leaves None (Split level o) h = k
   leaves None Retract h = k

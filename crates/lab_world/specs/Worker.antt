@@ -1,5 +1,5 @@
 -- Workers: a lease of a book's tile, with the runner that searches there.
-use Rattle.std.specs.Prelude.{ℕ, ◌≡◌, ◌<◌, true, Option, Some, None, option_map, Result, Ok, Err, List, length}
+use Rattle.std.specs.Prelude.{ℕ, ◌≡◌, ◌<◌, Bool, true, Option, Some, None, option_map, Result, Ok, Err, List, length}
 use Rattle.cover_problem.specs.Lists.{has}
 use Rattle.cover_problem.specs.Problem.{ProblemValue}
 use Rattle.x_steps.specs.StateValue.{StateValue}
@@ -9,6 +9,7 @@ use Rattle.x_branches.specs.Runner.{RunnerValue}
 use Rattle.x_branches.specs.Stretch.{StretchValue}
 use Rattle.x_branches.specs.Untried.{with_choice}
 use Rattle.x_branches.specs.Refusals.{untried_in, CutRefused}
+use Rattle.lab_book.specs.declared.status.Status.{Status}
 use Rattle.lab_book.specs.declared.status.Status.TheVariants as status
 use Rattle.lab_book.specs.declared.lease.Grant.{Grant}
 use Rattle.lab_book.specs.declared.fault.BookFault.{BookFault}
@@ -25,6 +26,8 @@ use Rattle.x_steps.specs.Run.{steps_between}
 use Rattle.x_branches.specs.declared.fault.RunnerFault.TheVariants.{NotAtMark}
 use Rattle.lab_world.specs.declared.worker.ending.Ending.{Ending}
 use Rattle.lab_world.specs.declared.worker.ending.Ending.TheVariants.{Park, Abandon, Close}
+use Rattle.lab_world.specs.declared.worker.leasing.Wanted.{Wanted}
+use Rattle.lab_world.specs.declared.worker.leasing.Wanted.TheVariants as wanted
 use Rattle.lab_world.specs.declared.fault.WorkerFault.{WorkerFault}
 use Rattle.lab_world.specs.declared.fault.WorkerFault.TheVariants.{Runner, Book}
 
@@ -102,13 +105,19 @@ abbrev pub place_found : Result ℕ BookFault → Option ℕ
 place_found (Ok i) = Some i
 place_found (Err f) = None
 
--- the place of the tile with an id, if it waits
-abbrev pub waiting_place : List TileValue → ℕ → Option ℕ
-waiting_place ts id = place_found (found ts id (λ t. status_fault (is_waiting t.status) t))
+-- how a tile stands that is leased by its id
+abbrev pub is_wanted : Wanted → Status → Bool
+is_wanted wanted.Waiting = is_waiting
+is_wanted wanted.Held = is_held
 
--- and if it is held
-abbrev pub held_place : List TileValue → ℕ → Option ℕ
-held_place ts id = place_found (found ts id (λ t. status_fault (is_held t.status) t))
+-- the place of the tile with an id, if it stands so
+abbrev pub wanted_place : Wanted → List TileValue → ℕ → Option ℕ
+wanted_place want ts id = place_found (found ts id (λ t. status_fault (is_wanted want t.status) t))
+
+-- the call that leases it
+abbrev pub lease_call : Wanted → ℕ → Call
+lease_call wanted.Waiting id = call.Lease id
+lease_call wanted.Held id = call.TakeHeld id
 
 -- ---- what becomes of a worker by the book's answer
 

@@ -26,6 +26,8 @@ use Rattle.lab_world.specs.declared.event.Act.TheVariants.{Step, Back, Lease, Le
 use Rattle.lab_world.specs.declared.event.WorldEvent.{WorldEvent}
 use Rattle.lab_world.specs.declared.worker.ending.Ending.{Ending}
 use Rattle.lab_world.specs.declared.worker.ending.Ending.TheVariants as ending
+use Rattle.lab_world.specs.declared.worker.leasing.Wanted.{Wanted}
+use Rattle.lab_world.specs.declared.worker.leasing.Wanted.TheVariants as wanted
 use Rattle.lab_world.specs.declared.event.WorldReply.{WorldReply}
 use Rattle.lab_world.specs.declared.event.WorldReply.TheVariants.{Event, Runner, Book, Idle, Busy}
 use Rattle.lab_world.specs.Worker.{WorkerValue, HoldsTile, moved_to, unposted, cut_at, split_call, lent_worker, after_post, after_split, after_retract, after_end}
@@ -117,6 +119,11 @@ turn b x w Abandon = working b x (λ y. called b y.grant.worker (call.Abandon y.
 turn b x w Close = working b x (λ y. called b y.grant.worker (call.Close y.grant) (after_end y))
 turn b x w (PutBack id s) = called b w (call.PutBack id (state_value s)) (λ r. x)
 turn b x w (RequestStop id) = called b w (call.RequestStop id) (λ r. x)
+
+-- the act that leases a tile by its id
+abbrev pub lease_act : Wanted → ℕ → Act
+lease_act wanted.Waiting id = Lease id
+lease_act wanted.Held id = TakeHeld id
 
 -- the act that ends a lease
 abbrev pub end_act : Ending → Act

@@ -5,11 +5,11 @@ ghost use Rattle.lab_book.specs.declared.fault.BookFault.TheVariants as faults;
 ghost use Rattle.lab_world.specs.declared.event.Act.TheVariants as acts;
 ghost use Rattle.lab_world.specs.declared.event.WorldReply.TheVariants as replies;
 ghost use Rattle.lab_world.specs.Worker.{WorkerValue};
-ghost use Rattle.lab_world.specs.World.{Turned, IsPlace, turn, end_act};
+ghost use Rattle.lab_world.specs.World.{Turned, IsPlace, turn, lease_act, end_act};
 
 use crate::event::{Act, WorldReply};
 use crate::fault::WorkerFault;
-use crate::worker::{Ending, Worker};
+use crate::worker::{Ending, Wanted, Worker};
 use cover_problem::Table;
 use lab_book::{Book, BookFault};
 use std::alloc::{AllocError, Global};
@@ -81,9 +81,10 @@ fn lease<'p, T: Table>(
     place: &mut Option<Worker<'p, T>>,
     w: u8,
     id: u64,
+    wanted: Wanted,
 ) -> Result<WorldReply, AllocError>
     requires { w ≤ 31 }
-    ensures turned { IfOk result (λ r. Turned (turn book.old place.old w (Act.Lease id)) r book.new place.new) }
+    ensures turned { IfOk result (λ r. Turned (turn book.old place.old w (lease_act wanted id)) r book.new place.new) }
     ensures book { OnErr result (book.new ≡ book.old) }
     ensures unchanged { OnErr result (place.new ≡ place.old) }
 {
@@ -91,33 +92,7 @@ fn lease<'p, T: Table>(
         return Ok(WorldReply::Busy);
     }
     let index = next_index(book);
-    match Worker::lease(alloc, book, w, id) {
-        Ok(worker) => {
-            *place = Some(worker);
-            Ok(WorldReply::Book(index))
-        }
-        Err(fault) => refused(index, &fault),
-    }
-}
-
-/// A held tile is leased by its id.
-fn take_held<'p, T: Table>(
-    alloc: Global,
-    book: &mut Book<'p>,
-    place: &mut Option<Worker<'p, T>>,
-    w: u8,
-    id: u64,
-) -> Result<WorldReply, AllocError>
-    requires { w ≤ 31 }
-    ensures turned { IfOk result (λ r. Turned (turn book.old place.old w (Act.TakeHeld id)) r book.new place.new) }
-    ensures book { OnErr result (book.new ≡ book.old) }
-    ensures unchanged { OnErr result (place.new ≡ place.old) }
-{
-    if place.is_some() {
-        return Ok(WorldReply::Busy);
-    }
-    let index = next_index(book);
-    match Worker::take_held(alloc, book, w, id) {
+    match Worker::lease_wanted(alloc, book, w, id, wanted) {
         Ok(worker) => {
             *place = Some(worker);
             Ok(WorldReply::Book(index))
@@ -276,9 +251,9 @@ pub(crate) fn act<'p, T: Table>(
     match act {
         Act::Step => step(place),
         Act::Back => Ok(back(place)),
-        Act::Lease(id) => lease(alloc, book, place, w, *id),
+        Act::Lease(id) => lease(alloc, book, place, w, *id, Wanted::Waiting),
         Act::LeaseAny => lease_any(alloc, book, place, w),
-        Act::TakeHeld(id) => take_held(alloc, book, place, w, *id),
+        Act::TakeHeld(id) => lease(alloc, book, place, w, *id, Wanted::Held),
         Act::Post => post(book, place),
         Act::Split { level, option } => split(book, place, w, *level, *option),
         Act::Retract => retract(book, place, w),

@@ -15,6 +15,7 @@ mod splitting;
 use cover_problem::Table;
 pub(crate) use ending::Ending;
 use lab_book::{Grant, Lease};
+pub(crate) use leasing::Wanted;
 use std::marker::Model;
 use x_branches::{Runner, RunnerFault};
 use x_steps::Event;

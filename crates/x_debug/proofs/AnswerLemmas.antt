@@ -1,5 +1,5 @@
 -- What the lines of a walk are, where it went on and where it was refused.
-use Rattle.std.proofs.Common.{◌≡◌, ℕ, ◌<◌, ◌≤◌, ◌==◌, true, false, ◌⊎◌, inl, inr, List, [], ◌∷◌, ◌++◌, Option, IfSome, Result, Ok, Err, OnOk, refl, sym, ◌∙◌, ap, ap₂, subst, arith, append_assoc, append-nil}
+use Rattle.std.proofs.Common.{◌≡◌, ℕ, ◌<◌, ◌≤◌, ◌==◌, true, false, ◌⊎◌, inl, inr, List, [], ◌∷◌, ◌++◌, Option, IfSome, refl, sym, ◌∙◌, ap, ap₂, subst, arith, append_assoc, append-nil}
 use Rattle.std.proofs.lemmas.Bool.{ne_eqb}
 use Rattle.std.proofs.lemmas.Bool.Decides.{eqb_tells}
 use Rattle.std.specs.List.{list_all}
@@ -23,11 +23,6 @@ use Rattle.x_debug.proofs.WalkLemmas.{on_problem, on_branch, on_position}
 use Rattle.x_debug.proofs.ForwardLemmas.{CanWalk, all_gone, not_all}
 use Rattle.x_debug.proofs.WalkedLemmas.{least_second, least_within}
 use Rattle.x_debug.proofs.RunLemmas.{found_passes}
-
--- a fact that a value brings with it
-pub when_ok : {X E P Q : Type 0} (r : Result X E) → (P → Q) → OnOk r P → OnOk r Q
-when_ok (Ok x) f p = f p
-when_ok (Err e) f p = tt
 
 -- where a worker stands after so many steps
 pub stands_at : (n : ℕ) (a v : AtWork) → v ≡ forward n a → v.worker.runner.position ≡ state_on a.worker.runner n

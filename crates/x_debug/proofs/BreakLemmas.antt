@@ -7,8 +7,7 @@ use Rattle.cover_problem.specs.Problem.{ProblemValue}
 use Rattle.x_snapshot.specs.declared.breakpoint.Break.{Break}
 use Rattle.x_snapshot.specs.contracts.breakpoint.BreakPartialEq.TheImpl.{eq-value}
 use Rattle.x_snapshot.specs.Breaks.{is_break, is_same, are_new, are_breaks}
-use Rattle.x_snapshot.proofs.BreakLemmas.{taken_again, keys_taken}
-use Rattle.x_debug.proofs.MetLemmas.{eq_is}
+use Rattle.x_snapshot.proofs.BreakLemmas.{eq_is, taken_again, keys_taken}
 
 none_same : (b : Break) (bs : List Break) → AllByRecursion (λ (c : Break). eq-value.it b c ≡ false) bs → list_any (is_same b) bs ≡ false
 none_same b [] h = refl
@@ -30,5 +29,5 @@ set_one_more p bs items keys more i d fine same within are made = by (list_any (
     here = subst (λ (xs : List Break). i < length xs) same within
 
     by : (v : Bool) → list_any (eq-value.it (get_or bs i d)) keys ≡ v → more ≡ take (i + 1) bs
-    by true e = absurd (let no_breaks = taken_again eq-value.it eq_is bs keys i d here are p e in cc)
-    by false e = keys_taken eq-value.it eq_is bs keys i d here are e more (made ∙ ap (λ (xs : List Break). cond (list_any (eq-value.it (get_or xs i d)) keys) keys (keys ++ get_or xs i d ∷ [])) same)
+    by true e = absurd (let no_breaks = taken_again bs keys i d here are p e in cc)
+    by false e = keys_taken bs keys i d here are e more (made ∙ ap (λ (xs : List Break). cond (list_any (eq-value.it (get_or xs i d)) keys) keys (keys ++ get_or xs i d ∷ [])) same)

@@ -29,6 +29,7 @@ use Rattle.lab_world.specs.Worker.{WorkerValue, HoldsTile, HasTile}
 use Rattle.lab_world.proofs.OwnLemmas.{found_own, own, own_is_tile}
 use Rattle.x_debug.specs.Walking.{AtWork, work, posted, posted_if_any, unposted_steps, steps_ahead}
 use Rattle.x_debug.specs.Giving.{closed, not_closed}
+use Rattle.x_debug.proofs.CallLemmas.{done_not_refused}
 use Rattle.x_debug.proofs.GiveLemmas.{rest_grant, at_mark}
 
 -- ---- where a worker stands in its tile
@@ -156,7 +157,4 @@ module _ (a : AtWork) (b new : BookValue) (w : WorkerValue) (rest : work b w ≡
     -- the book doesn't refuse it, but for memory
     pub close_kept : (f : BookFault) → Refuses b new w.grant.worker (call.Close w.grant) f → new ≡ b
     close_kept f (inl kept) = kept.1
-    close_kept f (inr made) = absurd (refused_not (sym (ap (λ (o : Outcome). o.reply) done_is) ∙ sym made.1.reply))
-      where
-        refused_not : reply.Done ≡ reply.Refused f → ⊥
-        refused_not e = cc
+    close_kept f (inr made) = absurd (done_not_refused f (sym (ap (λ (o : Outcome). o.reply) done_is) ∙ sym made.1.reply))

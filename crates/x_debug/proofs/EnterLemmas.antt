@@ -10,10 +10,11 @@ use Rattle.lab_book.specs.Tile.{TileValue, is_waiting, is_held, mark_of}
 use Rattle.lab_book.specs.Tiling.{tile_at, IsTiling}
 use Rattle.lab_book.specs.Book.{BookValue, Outcome, outcome, book_step, unless, made_at, lent, status_fault}
 use Rattle.lab_book.specs.Calls.{Refuses}
+use Rattle.lab_world.specs.declared.event.Act.TheVariants.{Lease, TakeHeld}
 use Rattle.lab_world.specs.Worker.{WorkerValue, lent_worker}
-use Rattle.lab_world.specs.World.{IsPlace}
+use Rattle.lab_world.specs.World.{IsPlace, turn}
 use Rattle.lab_world.proofs.HoldLemmas.{found_at}
-use Rattle.lab_world.proofs.TurnLemmas.{lease_place, take_held_place}
+use Rattle.lab_world.proofs.TurnLemmas.{turn_keeps}
 use Rattle.x_debug.specs.Lines.{at, book_refusal}
 use Rattle.x_debug.specs.Session.{desk}
 use Rattle.x_debug.specs.Tiles.{place_at, refusal_or}
@@ -63,11 +64,12 @@ module _ (b : BookValue) (i : ℕ) (tiling : IsTiling b.problem b.branch b.first
 
   -- the worker holds the tile
   pub lent_place : IsPlace (book_step b 0 (enter_call tile)) 0 (lent_worker b.problem (outcome b 0 (enter_call tile)).reply)
+  unfolding turn
   lent_place = by (is_held tile.status)
     where
       by : (h : Bool) → IsPlace (book_step b 0 (if h then call.TakeHeld tile.id else call.Lease tile.id)) 0 (lent_worker b.problem (outcome b 0 (if h then call.TakeHeld tile.id else call.Lease tile.id)).reply)
-      by true = take_held_place b 0 tiling tile.id
-      by false = lease_place b 0 tiling tile.id
+      by true = turn_keeps b 0 tiling None (TakeHeld tile.id) tt
+      by false = turn_keeps b 0 tiling None (Lease tile.id) tt
 
   pub lent_holds : (new : BookValue) (x : WorkerValue) → new ≡ book_step b 0 (enter_call tile) → Some x ≡ lent_worker b.problem (outcome b 0 (enter_call tile)).reply → IsPlace new 0 (Some x)
   lent_holds new x n w = subst (λ (c : BookValue). IsPlace c 0 (Some x)) (sym n) (subst (IsPlace (book_step b 0 (enter_call tile)) 0) (sym w) lent_place)

@@ -14,6 +14,7 @@ use Rattle.lab_world.specs.Worker.{WorkerValue, HoldsTile}
 use Rattle.lab_world.proofs.OwnLemmas.{found_own}
 use Rattle.x_debug.specs.Walking.{AtWork, work, posted, posted_if_any, unposted_steps}
 use Rattle.x_debug.specs.Giving.{parked, IsNotGiven}
+use Rattle.x_debug.proofs.CallLemmas.{done_not_refused}
 
 -- ---- what a post leaves
 
@@ -47,10 +48,7 @@ module _ (b new : BookValue) (x : WorkerValue) (tiling : IsTiling b.problem b.br
   -- it isn't refused, but for memory
   pub park_kept : (f : BookFault) → Refuses b new x.grant.worker (call.Park x.grant) f → new ≡ b
   park_kept f (inl kept) = kept.1
-  park_kept f (inr made) = absurd (refused_not (sym (ap (λ (o : Outcome). o.reply) park_done) ∙ sym made.1.reply))
-    where
-      refused_not : reply.Done ≡ reply.Refused f → ⊥
-      refused_not e = cc
+  park_kept f (inr made) = absurd (done_not_refused f (sym (ap (λ (o : Outcome). o.reply) park_done) ∙ sym made.1.reply))
 
 -- a book and a worker that are left as a post left them
 pub not_given : (a : AtWork) (b new : BookValue) (w v : WorkerValue) → work b w ≡ posted_if_any a → new ≡ b → v ≡ w → IsNotGiven a (work new v)

@@ -1,7 +1,7 @@
 -- The items that are shown of a runner are items of its problem.
-use Rattle.std.proofs.Common.{◌≡◌, ℕ, ◌<◌, ◌≤◌, ◌+◌, ◌-◌, nat_lt, nat_le, Bool, true, false, not, Some, None, option_map, List, [], ◌∷◌, ◌++◌, length, map, refl, ap, arith, if◌then◌else◌}
+use Rattle.std.proofs.Common.{◌≡◌, ℕ, ◌<◌, ◌≤◌, ◌+◌, ◌-◌, Bool, true, false, not, Some, None, option_map, List, [], ◌∷◌, ◌++◌, length, map, refl, ap, arith, if◌then◌else◌}
 use Rattle.std.specs.List.{list_all}
-use Rattle.std.proofs.lemmas.Bool.{and_from, and_parts, lt-ltb, le-leb}
+use Rattle.std.proofs.lemmas.Bool.{and_from, and_parts}
 use Rattle.cover_problem.specs.Lists.{has, numbers}
 use Rattle.cover_problem.specs.Problem.{ProblemValue, IsProblem, is_item}
 use Rattle.cover_problem.specs.Covering.{active, list_of}
@@ -25,10 +25,8 @@ use Rattle.x_steps.specs.Machine.{remaining_in, secondary, second_in, is_chosen,
 use Rattle.x_steps.proofs.OrderLemmas.{fits_valid}
 use Rattle.x_steps.proofs.StretchLemmas.{reached_fits}
 use Rattle.x_branches.specs.Runner.{RunnerValue, IsRunner}
+use Rattle.x_snapshot.proofs.BreakBack.{numbered}
 use Rattle.debug_texts.specs.Replies.{are_of_items}
-
-item_yes : (n i : ℕ) → 0 < i → i ≤ n → is_item n i ≡ true
-item_yes n i a b = and_from (nat_lt 0 i) (nat_le i n) (lt-ltb 0 i a) (le-leb i n b)
 
 -- rows of such items
 rows_all : (n : ℕ) (f : ℕ → List ℕ) (xs : List ℕ) → list_all (is_item n) xs ≡ true → list_all (λ (row : ℕ × List ℕ). is_item n row.0) (map (λ i. (i, f i)) xs) ≡ true
@@ -73,7 +71,7 @@ module _ (p : ProblemValue) (sound : IsProblem p) where
   -- ---- active and secondary items
 
   active_items : (c : List ℕ) → list_all (is_item (length p.names)) (active p c) ≡ true
-  active_items c = all_from (is_item (length p.names)) (active p c) (λ i h. let u = active_item p c i sound h in item_yes (length p.names) i u.some u.within)
+  active_items c = all_from (is_item (length p.names)) (active p c) (λ i h. let u = active_item p c i sound h in numbered (length p.names) i u.some u.within)
 
   secondary_items : (c : List ℕ) → list_all (is_item (length p.names)) (secondary p c) ≡ true
   unfolding secondary
@@ -81,7 +79,7 @@ module _ (p : ProblemValue) (sound : IsProblem p) where
       all_from (is_item (length p.names)) (secondary p c) (λ i h.
       let r = has_numbers_in (length p.names - p.primary) (p.primary + 1) i (has_filter_in (λ j. not (has c j)) (numbers (length p.names - p.primary) (p.primary + 1)) i h).1 in
       let w = sound.within in
-      item_yes (length p.names) i (omega (arith, r.0)) (omega (arith, r.1, w)))
+      numbered (length p.names) i (omega (arith, r.0)) (omega (arith, r.1, w)))
 
   -- ---- the chosen item
 

@@ -19,6 +19,7 @@ use Rattle.x_branches.specs.Runner.{RunnerValue, IsRunner}
 use Rattle.x_branches.proofs.RunnerLemmas.{level_within}
 use Rattle.x_steps.proofs.StretchLemmas.{reached_fits}
 use Rattle.x_snapshot.proofs.BreakBack.{few}
+use Rattle.x_snapshot.proofs.BreakLemmas.{eq_is, any_same}
 use Rattle.x_debug.specs.Breakpoints.{tries, is_choice, is_item_break, meets, first_met}
 
 -- breakpoints that are the same are equal
@@ -66,35 +67,12 @@ none_found o (b ∷ bs) h = by (is_same o b) refl h (none_found o bs) where
   by true e h later = cc
   by false e h later = later h
 
--- the derived test is the definition's
-pub eq_is : (a b : Break) → eq-value.it a b ≡ is_same a b
-eq_is (at.Level m) (at.Level n) = refl
-eq_is (at.Level m) (at.Option n) = refl
-eq_is (at.Level m) (at.Item n) = refl
-eq_is (at.Level m) at.Visit = refl
-eq_is (at.Option m) (at.Level n) = refl
-eq_is (at.Option m) (at.Option n) = refl
-eq_is (at.Option m) (at.Item n) = refl
-eq_is (at.Option m) at.Visit = refl
-eq_is (at.Item m) (at.Level n) = refl
-eq_is (at.Item m) (at.Option n) = refl
-eq_is (at.Item m) (at.Item n) = refl
-eq_is (at.Item m) at.Visit = refl
-eq_is at.Visit (at.Level n) = refl
-eq_is at.Visit (at.Option n) = refl
-eq_is at.Visit (at.Item n) = refl
-eq_is at.Visit at.Visit = refl
-
-any_alike : (t u : Break → Bool) (bs : List Break) → ((b : Break) → t b ≡ u b) → list_any t bs ≡ list_any u bs
-any_alike t u [] h = refl
-any_alike t u (b ∷ bs) h = rw (h b, any_alike t u bs h) refl
-
 -- what a set answers that compares as the definition does
 pub set_found : (o : Break) (bs : List Break) → list_any (eq-value.it o) bs ≡ true → Some o ≡ find (is_same o) bs
-set_found o bs h = one_found o bs (any_alike (is_same o) (eq-value.it o) bs (λ b. sym (eq_is o b)) ∙ h)
+set_found o bs h = one_found o bs (sym (any_same o bs) ∙ h)
 
 pub set_not_found : (o : Break) (bs : List Break) → list_any (eq-value.it o) bs ≡ false → None ≡ find (is_same o) bs
-set_not_found o bs h = none_found o bs (any_alike (is_same o) (eq-value.it o) bs (λ b. sym (eq_is o b)) ∙ h)
+set_not_found o bs h = none_found o bs (sym (any_same o bs) ∙ h)
 
 -- ---- the first of two
 

@@ -9,20 +9,19 @@ use Rattle.x_branches.specs.declared.fault.RunnerFault.TheVariants.{AtBranchEnd,
 use Rattle.x_branches.specs.declared.fault.RunnerFault.TheVariants as runners
 use Rattle.x_branches.specs.Faults.{number_of, name_of}
 use Rattle.x_branches.specs.Runner.{IsRunner}
-use Rattle.x_branches.specs.Stretch.{StretchValue}
 use Rattle.lab_book.specs.declared.fault.BookFault.{BookFault}
 use Rattle.lab_book.specs.declared.fault.BookFault.TheVariants.{OutOfMemory}
 use Rattle.lab_book.specs.declared.entry.Call.TheVariants as call
 use Rattle.lab_book.specs.declared.entry.Reply.{Reply}
 use Rattle.lab_book.specs.declared.entry.Reply.TheVariants as reply
-use Rattle.lab_book.specs.Tile.{led_to}
 use Rattle.lab_book.specs.Tiling.{IsTiling}
-use Rattle.lab_book.specs.Book.{BookValue, outcome, book_step, unless, made_at, retracted, retract_fault, last_of}
+use Rattle.lab_book.specs.Book.{BookValue, outcome, book_step, unless, made_at, retracted, retract_fault}
 use Rattle.lab_book.specs.Calls.{Refuses}
 use Rattle.lab_world.specs.declared.fault.WorkerFault.TheVariants.{Runner}
 use Rattle.lab_world.specs.Worker.{WorkerValue, HoldsTile, marked_at, after_retract, RetractRefused}
 use Rattle.lab_world.proofs.HoldLemmas.{passed}
 use Rattle.lab_world.proofs.OwnLemmas.{found_own, own, last_own, some_is}
+use Rattle.lab_world.proofs.PostLemmas.{last_ends}
 use Rattle.debug_texts.specs.declared.words.Counted.TheVariants as counts
 use Rattle.debug_texts.specs.declared.words.Layer.TheVariants as layer
 use Rattle.debug_texts.specs.Replies.{refused_words}
@@ -127,11 +126,6 @@ module _ (b : BookValue) (x : WorkerValue) where
         ∙ ap (λ (a : WorkAnswer). a.lines) (sym back_is)
 
 -- ---- where the last stretch of a tile ends
-
-last_ends : (s : StateValue) (xs : List StretchValue) (x : StretchValue) → last_of xs ≡ Some x → led_to s xs ≡ x.to
-last_ends s [] x e = absurd (cc)
-last_ends s (y ∷ []) x e = ap (λ (z : StretchValue). z.to) (let h : y ≡ x = cc in h)
-last_ends s (y ∷ z ∷ zs) x e = last_ends y.to (z ∷ zs) x e
 
 module _ (b : BookValue) (x : WorkerValue) (tiling : IsTiling b.problem b.branch b.first b.tiles) (h : HoldsTile b x) (k : IsRunner x.runner) where
   to_mark : (from to : StateValue) → (outcome b x.grant.worker (call.Retract x.grant)).reply ≡ reply.Retracted from to → to ≡ x.runner.mark

@@ -201,6 +201,14 @@ none_is : (m : Option Break) → false ≡ is_some m → m ≡ None
 none_is None e = refl
 none_is (Some b) e = cc
 
+-- a step that is taken from elsewhere than the end
+pub record Steps (b c : AtWork) (new more : List ℕ) : Type 0 where
+  pub goes : b.worker.runner.position ≡ end_of b.worker.runner.branch.hi → ⊥
+  pub runner : IsRunner b.worker.runner
+  pub made : c ≡ stepped b
+  pub text : more ≡ new ++ text_of (map visit_words (visit_of b.worker.runner.problem b.worker.runner.position))
+  pub holds : HoldsTile c.book c.worker
+
 module _ (a : AtWork) (breaks : List Break) (n : ℕ) (b : AtWork) (old new : List ℕ) (w : RunsOn a breaks n b old new) where
   -- at the end no state met a breakpoint
   pub run_to_end : 0 < steps_ahead a.worker.runner → b.worker.runner.position ≡ end_of b.worker.runner.branch.hi → n ≡ run_count breaks a.worker.runner
@@ -223,46 +231,45 @@ module _ (a : AtWork) (breaks : List Break) (n : ℕ) (b : AtWork) (old new : Li
     pub run_part : (c : AtWork) → (c ≡ b) ⊎ (c ≡ with_room b) → IsPartWay a c (run_count breaks a.worker.runner)
     run_part c h = let l = further in part_way a n b old new w.walked c (run_count breaks a.worker.runner) (omega arith) h
 
-    module _ (k : IsRunner b.worker.runner) (c : AtWork) (more : List ℕ) (e : c ≡ stepped b)
-        (t : more ≡ new ++ text_of (map visit_words (visit_of b.worker.runner.problem b.worker.runner.position))) (h : HoldsTile c.book c.worker) where
-      pub step_walked : Walked a (suc n) c old more
-      step_walked = walked_on a n b old new w.walked c more go e t h
+  module _ (c : AtWork) (more : List ℕ) (x : Steps b c new more) where
+    pub step_walked : Walked a (suc n) c old more
+    step_walked = walked_on a n b old new w.walked c more x.goes x.made x.text x.holds
 
-      step_spent : (spent c ≡ suc (spent b)) × (unposted_steps c.worker.runner ≤ most_steps)
-      step_spent = subst (λ v. (spent v ≡ suc (spent b)) × (unposted_steps v.worker.runner ≤ most_steps)) (sym e)
-          (one_spent b k (λ d. on_goes_on a.worker.runner w.walked.can n (not_ended a n b old new w.walked go) (ap (λ (s : StateValue). s.label) (sym (position a n b old new w.walked)) ∙ d)) w.small)
+    step_spent : (spent c ≡ suc (spent b)) × (unposted_steps c.worker.runner ≤ most_steps)
+    step_spent = subst (λ v. (spent v ≡ suc (spent b)) × (unposted_steps v.worker.runner ≤ most_steps)) (sym x.made)
+        (one_spent b x.runner (λ d. on_goes_on a.worker.runner w.walked.can n (not_ended a n b old new w.walked x.goes) (ap (λ (s : StateValue). s.label) (sym (position a n b old new w.walked)) ∙ d)) w.small)
 
-      -- there are fewer steps than a u128 can count
-      pub few : length c.book.history < 2 ^ 64 → n + 1 < 2 ^ 128
-      few l = let p = step_spent.0 in let q = step_spent.1 in let r = w.counted in omega arith
+    -- there are fewer steps than a u128 can count
+    pub few : length c.book.history < 2 ^ 64 → n + 1 < 2 ^ 128
+    few l = let p = step_spent.0 in let q = step_spent.1 in let r = w.counted in omega arith
 
-      pub step_part : IsPartWay a c (run_count breaks a.worker.runner)
-      step_part = part_way a (suc n) c old more step_walked c (run_count breaks a.worker.runner) further (inl refl)
+    pub step_part : IsPartWay a c (run_count breaks a.worker.runner)
+    step_part = part_way a (suc n) c old more step_walked c (run_count breaks a.worker.runner) (further x.goes) (inl refl)
 
-      module _ (m : Option Break) (met : m ≡ first_met c.worker.runner.problem breaks c.worker.runner.position) where
-        met_here : m ≡ first_met a.worker.runner.problem breaks (state_on a.worker.runner (suc n))
-        met_here = met ∙ ap₂ (λ p s. first_met p breaks s) (same_problem a (suc n) c old more step_walked) (position a (suc n) c old more step_walked)
+    module _ (m : Option Break) (met : m ≡ first_met c.worker.runner.problem breaks c.worker.runner.position) where
+      met_here : m ≡ first_met a.worker.runner.problem breaks (state_on a.worker.runner (suc n))
+      met_here = met ∙ ap₂ (λ p s. first_met p breaks s) (same_problem a (suc n) c old more step_walked) (position a (suc n) c old more step_walked)
 
-        pub run_to_break : true ≡ is_some m → suc n ≡ run_count breaks a.worker.runner
-        run_to_break some =
-            let f = some_is m some in
-            stops_at a.worker.runner breaks n (not_ended a n b old new w.walked go) w.unmet (λ _. (f.0, sym met_here ∙ f.1))
+      pub run_to_break : true ≡ is_some m → suc n ≡ run_count breaks a.worker.runner
+      run_to_break some =
+          let f = some_is m some in
+          stops_at a.worker.runner breaks n (not_ended a n b old new w.walked x.goes) w.unmet (λ _. (f.0, sym met_here ∙ f.1))
 
-        pub met_there : true ≡ is_some m → m ≡ first_met a.worker.runner.problem breaks (state_on a.worker.runner (run_count breaks a.worker.runner))
-        met_there some = met_here ∙ ap (λ i. first_met a.worker.runner.problem breaks (state_on a.worker.runner i)) (run_to_break some)
+      pub met_there : true ≡ is_some m → m ≡ first_met a.worker.runner.problem breaks (state_on a.worker.runner (run_count breaks a.worker.runner))
+      met_there some = met_here ∙ ap (λ i. first_met a.worker.runner.problem breaks (state_on a.worker.runner i)) (run_to_break some)
 
-        pub runs_on : false ≡ is_some m → RunsOn a breaks (suc n) c old more
-        runs_on none = record {
-          walked = step_walked;
-          unmet = unmet_more a.worker.runner breaks n w.unmet (sym met_here ∙ none_is m none);
-          counted = let p = step_spent.0 in let r = w.counted in omega arith;
-          small = step_spent.1;
-        }
+      pub runs_on : false ≡ is_some m → RunsOn a breaks (suc n) c old more
+      runs_on none = record {
+        walked = step_walked;
+        unmet = unmet_more a.worker.runner breaks n w.unmet (sym met_here ∙ none_is m none);
+        counted = let p = step_spent.0 in let r = w.counted in omega arith;
+        small = step_spent.1;
+      }
 
-      -- fewer are ahead
-      pub fewer_ahead : steps_ahead c.worker.runner < steps_ahead b.worker.runner
-      fewer_ahead =
-          let p = left a n b old new w.walked in
-          let q = left a (suc n) c old more step_walked in
-          let l = not_ended a n b old new w.walked go in
-          omega arith
+    -- fewer are ahead
+    pub fewer_ahead : steps_ahead c.worker.runner < steps_ahead b.worker.runner
+    fewer_ahead =
+        let p = left a n b old new w.walked in
+        let q = left a (suc n) c old more step_walked in
+        let l = not_ended a n b old new w.walked x.goes in
+        omega arith

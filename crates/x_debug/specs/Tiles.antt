@@ -2,7 +2,9 @@
 use Rattle.std.specs.Prelude.{ℕ, Bool, true, false, not, ◌&&◌, List, [], ◌∷◌, ◌++◌, length, map, filter, Option, Some, None}
 use Rattle.std.specs.List.{position}
 use Rattle.std.specs.Str.{bytes_eq}
+use Rattle.x_steps.specs.declared.state.State.{State}
 use Rattle.x_steps.specs.StateValue.{StateValue}
+use Rattle.x_steps.specs.StateView.{state_value}
 use Rattle.lab_book.specs.declared.fault.BookFault.TheVariants.{UnknownBranch}
 use Rattle.lab_book.specs.declared.status.Status.{Status}
 use Rattle.lab_book.specs.declared.status.Status.TheVariants.{Waiting, Held, Leased, Closed}
@@ -78,6 +80,15 @@ asked b make None = record { lines = book_refusal UnknownBranch ∷ []; book = b
 asked b make (Some i) =
     let c = make (tile_at b.tiles i).id in
     called b c (tile_line (tile_at (book_step b 0 c).tiles i) ∷ [])
+
+-- the call for it: to put it back to a state, where there is one, and else to hold it
+abbrev pub asked_call : Option State → ℕ → Call
+asked_call None = call.RequestStop
+asked_call (Some s) = λ id. call.PutBack id (state_value s)
+
+-- what is asked so of the tile that a cut names
+abbrev pub asked_of : BookValue → Option (List ℕ) → Option State → BookAnswer
+asked_of b lo s = asked b (asked_call s) (place_at lo b.tiles)
 
 -- `hold`
 unfoldable pub hold : BookValue → Option (List ℕ) → BookAnswer

@@ -1,12 +1,15 @@
 //! Which tile a cut names, and how tiles are shown.
-ghost use Rattle.std.specs.Prelude.{◌≡◌, ◌<◌, ◌++◌, ◌⊎◌, length, option_copied, OnOk, OnErr, IfSome};
+ghost use Rattle.std.specs.Prelude.{◌≡◌, ◌<◌, ◌++◌, ◌⊎◌, length, option_copied, IfErr, OnOk, OnErr, IfSome};
 ghost use Rattle.text_lines.specs.Writing.{line_text, text_of};
+ghost use Rattle.lab_book.specs.declared.entry.Reply.TheVariants as replies;
 ghost use Rattle.lab_book.specs.Tile.{is_closed};
+ghost use Rattle.lab_book.specs.Tiling.{tile_at};
+ghost use Rattle.lab_book.specs.Calls.{Made, Refuses};
 ghost use Rattle.lab_book.specs.Posted.{posted_visits};
 ghost use Rattle.x_steps.specs.StateView.{state_value};
 ghost use Rattle.x_debug.specs.Lines.{book_refusal, plain};
 ghost use Rattle.x_debug.specs.Showing.{or_none};
-ghost use Rattle.x_debug.specs.Tiles.{is_begun_at, place_at, standing_of, tile_line, open_lines, visits_lines, hold, put_back};
+ghost use Rattle.x_debug.specs.Tiles.{is_begun_at, place_at, standing_of, tile_line, open_lines, visits_lines, asked_call, asked_of, hold, put_back};
 
 use crate::showing::choices;
 use debug_texts::{
@@ -109,24 +112,69 @@ pub fn write_book_fault(text: &mut Vec<u8>, fault: &BookFault) -> Result<(), All
     }
 }
 
+/// The id of the tile at a place.
+fn id_at(book: &Book<'_>, place: usize) -> u64
+    requires { place < length book.now.tiles }
+    ensures { result ≡ (tile_at book.now.tiles place).id }
+{
+    book.tiles()[place].id()
+}
+
+/// Writes the tile at a place.
+fn write_tile_at(text: &mut Vec<u8>, book: &Book<'_>, place: usize) -> Result<(), AllocError>
+    requires { place < length book.now.tiles }
+    ensures { OnOk result (text.new.items ≡ text.old.items ++ line_text (tile_line (tile_at book.now.tiles place))) }
+{
+    write_tile(text, &book.tiles()[place])
+}
+
+/// Asks the tile with an id to go back to a state, where there is one, and else to stop.
+fn ask(book: &mut Book<'_>, id: u64, state: Option<&State>) -> Result<(), BookFault>
+    ensures made { OnOk result (Made book.old book.new 0 (asked_call (option_copied state.entry) id) replies.Done) }
+    ensures refused { IfErr result (λ f. Refuses book.old book.new 0 (asked_call (option_copied state.entry) id) f) }
+{
+    match state {
+        Some(state) => book.put_back(0, id, state),
+        None => book.request_stop(0, id),
+    }
+}
+
+/// Asks the tile that begins at a cut, and isn't closed, and shows it. Refused where there is none, and as the book refuses it.
+fn ask_tile(
+    book: &mut Book<'_>,
+    lo: Option<&[u32]>,
+    state: Option<&State>,
+    text: &mut Vec<u8>,
+) -> Result<(), AllocError>
+    ensures made { OnOk result (book.new ≡ (asked_of book.old (option_copied lo.entry) (option_copied state.entry)).book) }
+    ensures text { OnOk result (text.new.items ≡ text.old.items
+        ++ text_of (asked_of book.old (option_copied lo.entry) (option_copied state.entry)).lines) }
+    ensures left { OnErr result ((book.new ≡ book.old)
+        ⊎ (book.new ≡ (asked_of book.old (option_copied lo.entry) (option_copied state.entry)).book)) }
+{
+    let Some(place) = place_at(book, lo) else {
+        return write_book_fault(text, &BookFault::UnknownBranch);
+    };
+    let id = id_at(book, place);
+    match ask(book, id, state) {
+        Ok(()) => write_tile_at(text, book, place),
+        Err(fault) => write_book_fault(text, &fault),
+    }
+}
+
 /// `hold`: asks the tile that begins at a cut, and isn't closed, to stop. Refused where there is none.
+#[tactic(auto, unfolding(crate::specs::Tiles::hold))]
 pub fn hold(book: &mut Book<'_>, lo: Option<&[u32]>, text: &mut Vec<u8>) -> Result<(), AllocError>
     ensures made { OnOk result (book.new ≡ (hold book.old (option_copied lo.entry)).book) }
     ensures text { OnOk result (text.new.items ≡ text.old.items ++ text_of (hold book.old (option_copied lo.entry)).lines) }
     ensures left { OnErr result ((book.new ≡ book.old) ⊎ (book.new ≡ (hold book.old (option_copied lo.entry)).book)) }
 {
-    let Some(place) = place_at(book, lo) else {
-        return write_book_fault(text, &BookFault::UnknownBranch);
-    };
-    let id = book.tiles()[place].id();
-    match book.request_stop(0, id) {
-        Ok(()) => write_tile(text, &book.tiles()[place]),
-        Err(fault) => write_book_fault(text, &fault),
-    }
+    ask_tile(book, lo, None, text)
 }
 
 /// `putback`: takes what was posted after a state out of the tile that begins at a cut, and isn't closed. Refused where there is
 /// none, and as the book refuses it.
+#[tactic(auto, unfolding(crate::specs::Tiles::put_back))]
 pub fn put_back(
     book: &mut Book<'_>,
     lo: Option<&[u32]>,
@@ -139,12 +187,5 @@ pub fn put_back(
     ensures left { OnErr result ((book.new ≡ book.old)
         ⊎ (book.new ≡ (put_back book.old (option_copied lo.entry) (state_value state.now)).book)) }
 {
-    let Some(place) = place_at(book, lo) else {
-        return write_book_fault(text, &BookFault::UnknownBranch);
-    };
-    let id = book.tiles()[place].id();
-    match book.put_back(0, id, state) {
-        Ok(()) => write_tile(text, &book.tiles()[place]),
-        Err(fault) => write_book_fault(text, &fault),
-    }
+    ask_tile(book, lo, Some(state), text)
 }

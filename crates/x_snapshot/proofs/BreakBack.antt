@@ -35,7 +35,7 @@ few p g =
 abbrev SaysBreak : ProblemValue → List (List ℕ) → Break → Type 0
 SaysBreak p words b = (codes "break" ∷ words ≡ break_words p.names b) × (is_break p b ≡ true)
 
-numbered : (n i : ℕ) → 0 < i → i ≤ n → is_item n i ≡ true
+pub numbered : (n i : ℕ) → 0 < i → i ≤ n → is_item n i ≡ true
 numbered n i some within = and_from (nat_lt 0 i) (nat_le i n) (lt-ltb 0 i some) (le-leb i n within)
 
 item_back : (names : List (List ℕ)) (w : List ℕ) (i : ℕ) → item_named names w ≡ Some i → (is_item (length names) i ≡ true) × (w ≡ name_at names i)

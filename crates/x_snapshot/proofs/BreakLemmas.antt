@@ -7,6 +7,7 @@ use Rattle.std.proofs.lemmas.List.{take_more, take-append-drop}
 use Rattle.std.proofs.lemmas.List.Folds.{list_any-append}
 use Rattle.x_snapshot.specs.declared.breakpoint.Break.{Break}
 use Rattle.x_snapshot.specs.declared.breakpoint.Break.TheVariants as at
+use Rattle.x_snapshot.specs.contracts.breakpoint.BreakPartialEq.TheImpl.{eq-value}
 use Rattle.cover_problem.specs.Problem.{ProblemValue}
 use Rattle.x_snapshot.specs.Breaks.{is_break, is_same, are_new, are_breaks}
 
@@ -57,24 +58,42 @@ pub not_new : (front : List Break) (b : Break) (rest : List Break) → list_any 
 not_new [] b rest h = cc
 not_new (x ∷ xs) b rest h = not_new_step x b xs rest (is_same b x) refl h (not_new xs b rest)
 
--- what a set says that compares as the definition does, where it holds the first i of these
-module _ (eq : Break → Break → Bool) (same : (a b : Break) → eq a b ≡ is_same a b) where
-  any_same : (b : Break) (xs : List Break) → list_any (eq b) xs ≡ list_any (is_same b) xs
-  any_same b [] = refl
-  any_same b (x ∷ xs) = rw (same b x, any_same b xs) refl
+-- the derived test is the definition's
+pub eq_is : (a b : Break) → eq-value.it a b ≡ is_same a b
+eq_is (at.Level m) (at.Level n) = refl
+eq_is (at.Level m) (at.Option n) = refl
+eq_is (at.Level m) (at.Item n) = refl
+eq_is (at.Level m) at.Visit = refl
+eq_is (at.Option m) (at.Level n) = refl
+eq_is (at.Option m) (at.Option n) = refl
+eq_is (at.Option m) (at.Item n) = refl
+eq_is (at.Option m) at.Visit = refl
+eq_is (at.Item m) (at.Level n) = refl
+eq_is (at.Item m) (at.Option n) = refl
+eq_is (at.Item m) (at.Item n) = refl
+eq_is (at.Item m) at.Visit = refl
+eq_is at.Visit (at.Level n) = refl
+eq_is at.Visit (at.Option n) = refl
+eq_is at.Visit (at.Item n) = refl
+eq_is at.Visit at.Visit = refl
 
-  module _ (bs keys : List Break) (i : ℕ) (d : Break) (within : i < length bs) (are : keys ≡ take i bs) where
-    pub taken_again : (p : ProblemValue) → list_any (eq (get_or bs i d)) keys ≡ true → are_breaks p bs ≡ false
-    taken_again p h =
-        let there : list_any (is_same (get_or bs i d)) (take i bs) ≡ true = sym (any_same (get_or bs i d) (take i bs)) ∙ ap (list_any (eq (get_or bs i d))) (sym are) ∙ h in
-        let parts : take i bs ++ get_or bs i d ∷ drop (suc i) bs ≡ bs = ap (λ back. take i bs ++ back) (sym (drop-cons bs i d within)) ∙ take-append-drop i bs in
-        and_false (list_all (is_break p) bs) (are_new bs) (ap are_new (sym parts) ∙ not_new (take i bs) (get_or bs i d) (drop (suc i) bs) there)
+pub any_same : (b : Break) (xs : List Break) → list_any (eq-value.it b) xs ≡ list_any (is_same b) xs
+any_same b [] = refl
+any_same b (x ∷ xs) = rw (eq_is b x, any_same b xs) refl
 
-    module _ (new : list_any (eq (get_or bs i d)) keys ≡ false) where
-      pub keys_taken : (more : List Break) → more ≡ cond (list_any (eq (get_or bs i d)) keys) keys (keys ++ get_or bs i d ∷ []) → more ≡ take (i + 1) bs
-      keys_taken more h = h ∙ rw (new, are) (sym (take_more bs i d within))
+-- what a set says that compares by it, where it holds the first i of these
+module _ (bs keys : List Break) (i : ℕ) (d : Break) (within : i < length bs) (are : keys ≡ take i bs) where
+  pub taken_again : (p : ProblemValue) → list_any (eq-value.it (get_or bs i d)) keys ≡ true → are_breaks p bs ≡ false
+  taken_again p h =
+      let there : list_any (is_same (get_or bs i d)) (take i bs) ≡ true = sym (any_same (get_or bs i d) (take i bs)) ∙ ap (list_any (eq-value.it (get_or bs i d))) (sym are) ∙ h in
+      let parts : take i bs ++ get_or bs i d ∷ drop (suc i) bs ≡ bs = ap (λ back. take i bs ++ back) (sym (drop-cons bs i d within)) ∙ take-append-drop i bs in
+      and_false (list_all (is_break p) bs) (are_new bs) (ap are_new (sym parts) ∙ not_new (take i bs) (get_or bs i d) (drop (suc i) bs) there)
 
-      pub still_new : are_new (take i bs) ≡ true → are_new (take (i + 1) bs) ≡ true
-      still_new so_far =
-          let absent : list_any (is_same (get_or bs i d)) (take i bs) ≡ false = sym (any_same (get_or bs i d) (take i bs)) ∙ ap (list_any (eq (get_or bs i d))) (sym are) ∙ new in
-          ap are_new (take_more bs i d within) ∙ are_new_push (take i bs) (get_or bs i d) so_far absent
+  module _ (new : list_any (eq-value.it (get_or bs i d)) keys ≡ false) where
+    pub keys_taken : (more : List Break) → more ≡ cond (list_any (eq-value.it (get_or bs i d)) keys) keys (keys ++ get_or bs i d ∷ []) → more ≡ take (i + 1) bs
+    keys_taken more h = h ∙ rw (new, are) (sym (take_more bs i d within))
+
+    pub still_new : are_new (take i bs) ≡ true → are_new (take (i + 1) bs) ≡ true
+    still_new so_far =
+        let absent : list_any (is_same (get_or bs i d)) (take i bs) ≡ false = sym (any_same (get_or bs i d) (take i bs)) ∙ ap (list_any (eq-value.it (get_or bs i d))) (sym are) ∙ new in
+        ap are_new (take_more bs i d within) ∙ are_new_push (take i bs) (get_or bs i d) so_far absent

@@ -2,7 +2,7 @@
 use Rattle.std.proofs.Common.{◌≡◌, ◌⊎◌, inl, inr, ℕ, ◌+◌, ◌-◌, ◌^◌, ◌<◌, ◌≤◌, ◌==◌, nat_lt, true, false, ◌&&◌, List, [], ◌∷◌, ◌++◌, length, take, drop, decimal, codes, Ok, refl, sym, ◌∙◌, ap, subst, arith, length-append, length-drop}
 use Rattle.std.specs.List.{list_all}
 use Rattle.std.specs.Cmp.Lexicographic.{bytes_decides}
-use Rattle.std.proofs.lemmas.Bool.Decides.{nat_tests}
+use Rattle.std.proofs.lemmas.Bool.{ltb-false}
 use Rattle.std.proofs.Math.Seq.{take-append_seam}
 use Rattle.text_lines.specs.Writing.{is_word, line_text}
 use Rattle.text_lines.specs.Each.{◌>>=◌}
@@ -22,15 +22,12 @@ one_at_most : (names : List (List ℕ)) → length (maybe_words names) ≤ 1
 one_at_most [] = omega arith
 one_at_most (name ∷ names) = omega arith
 
-not_below : (m n : ℕ) → nat_lt m n ≡ false → n ≤ m
-not_below m n h = grind (arith, nat_tests)
-
 module _ (p : ProblemValue) (g : IsProblem p) where
   -- a problem has no more lines than its version may have
   pub lines_few : (version : ℕ) → (version ≡ 1) ⊎ (version ≡ 2) → ((version == 1) && nat_lt p.primary (length p.names)) ≡ false → length (word_lines p) ≤ most_options + version
   lines_few version (inl e) plain =
       let plain' : nat_lt p.primary (length p.names) ≡ false = subst (λ n. ((n == 1) && nat_lt p.primary (length p.names)) ≡ false) e plain in
-      let below = not_below p.primary (length p.names) plain' in
+      let below = ltb-false p.primary (length p.names) plain' in
       let left : length (drop p.primary p.names) ≡ 0 = omega (arith, length-drop p.primary p.names) in
       let count = lines_counted p 0 (length p.options) (zero_maybe (drop p.primary p.names) left) refl in
       let f = few p g in

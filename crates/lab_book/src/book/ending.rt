@@ -1,9 +1,9 @@
 //! Leases are given up.
-ghost use Rattle.std.specs.Prelude.{◌≡◌, ◌≤◌, ◌<◌, true, false, length, slice_set, IsOk, IfOk, IfErr, OnOk, OnErr};
+ghost use Rattle.std.specs.Prelude.{◌≡◌, ◌≤◌, ◌<◌, true, false, None, length, slice_set, IsOk, IfOk, IfErr, OnOk, OnErr};
 ghost use Rattle.lab_book.specs.declared.entry.Reply.TheVariants as replies;
 ghost use Rattle.lab_book.specs.Tile.{is_leased, Stands};
 ghost use Rattle.lab_book.specs.Tiling.{tile_at};
-ghost use Rattle.lab_book.specs.Book.{outcome, settled, found, lease_fault, end_fault};
+ghost use Rattle.lab_book.specs.Book.{outcome, made_at, settled, freed, found, lease_fault, end_fault};
 ghost use Rattle.lab_book.specs.Calls.{Made, Refuses, Judged, is_current};
 
 use crate::book::Book;
@@ -74,6 +74,32 @@ impl<'p> Book<'p> {
         Ok(())
     }
 
+    /// Ends a lease at its tile's mark by this call: the tile waits, or is held where a stop was asked for.
+    fn give_up(&mut self, lease: Lease, call: Call) -> Result<(), Refused<BookFault, Lease>>
+        requires { outcome self.old lease.worker call ≡ made_at self.old.tiles (settled self.old freed)
+            (found self.old.tiles lease.id (λ t. lease_fault lease t None)) }
+        ensures made { OnOk result (Made self.old self.new lease.worker call replies.Done) }
+        ensures current { is_current self.old.tiles lease ≡ true → IsOk result }
+        ensures refused { IfErr result (λ r. Refuses self.old self.new lease.worker call r.fault) }
+        ensures given_back { IfErr result (λ r. r.given ≡ lease) }
+    {
+        let grant = lease.grant();
+        let i = match self.tiles.leased_place(grant) {
+            Ok(i) => i,
+            Err(fault) => {
+                let fault = self.refuse(grant.worker, call, fault);
+                return Err(Refused {
+                    fault,
+                    given: lease,
+                });
+            }
+        };
+        lease.discard();
+        let status = Status::freed(self.tiles.tile(i).stop());
+        self.settle(grant.worker, i, call, status);
+        Ok(())
+    }
+
     /// Gives the tile up that is leased, at its mark: it waits, or is held where a stop was asked for. Takes no memory for the
     /// tile's current lease. Refused where no tile has the lease's id (1), and where the lease isn't its current one (3); the lease
     /// comes back.
@@ -83,21 +109,8 @@ impl<'p> Book<'p> {
         ensures refused { IfErr result (λ r. Refuses self.old self.new lease.worker (Call.Abandon lease) r.fault) }
         ensures given_back { IfErr result (λ r. r.given ≡ lease) }
     {
-        let grant = lease.grant();
-        let i = match self.tiles.leased_place(grant) {
-            Ok(i) => i,
-            Err(fault) => {
-                let fault = self.refuse(grant.worker, Call::Abandon(grant), fault);
-                return Err(Refused {
-                    fault,
-                    given: lease,
-                });
-            }
-        };
-        lease.discard();
-        let status = Status::freed(self.tiles.tile(i).stop());
-        self.settle(grant.worker, i, Call::Abandon(grant), status);
-        Ok(())
+        let call = Call::Abandon(lease.grant());
+        self.give_up(lease, call)
     }
 
     /// The same for a tile that is to be taken up again: its worker has posted what it wants to keep. It waits, or is held where a
@@ -108,20 +121,7 @@ impl<'p> Book<'p> {
         ensures refused { IfErr result (λ r. Refuses self.old self.new lease.worker (Call.Park lease) r.fault) }
         ensures given_back { IfErr result (λ r. r.given ≡ lease) }
     {
-        let grant = lease.grant();
-        let i = match self.tiles.leased_place(grant) {
-            Ok(i) => i,
-            Err(fault) => {
-                let fault = self.refuse(grant.worker, Call::Park(grant), fault);
-                return Err(Refused {
-                    fault,
-                    given: lease,
-                });
-            }
-        };
-        lease.discard();
-        let status = Status::freed(self.tiles.tile(i).stop());
-        self.settle(grant.worker, i, Call::Park(grant), status);
-        Ok(())
+        let call = Call::Park(lease.grant());
+        self.give_up(lease, call)
     }
 }

@@ -73,7 +73,8 @@ impl<'p> Book<'p> {
     /// Takes the last posted stretch of the leased tile out: the tile's mark is then where it began. Refused where no tile has the
     /// lease's id (1), where the lease isn't its current one (3), and where nothing was posted (9).
     pub fn retract(&mut self, lease: &Lease) -> Result<Stretch<'p>, BookFault>
-        ensures made { IfOk result (λ x. Made self.old self.new lease.now.worker (Call.Retract lease.now) (replies.Retracted x.from x.to)) }
+        ensures made { IfOk result (λ x.
+            Made self.old self.new lease.now.worker (Call.Retract lease.now) (replies.Retracted x.from x.to)) }
         ensures problem { IfOk result (λ x. x.problem ≡ self.old.problem) }
         ensures refused { IfErr result (λ f. Refuses self.old self.new lease.now.worker (Call.Retract lease.now) f) }
     {

@@ -3,15 +3,22 @@ ghost use Rattle.std.specs.Prelude.{◌≡◌, ◌≤◌, ◌<◌, length, Some,
 ghost use Rattle.lab_book.specs.Tile.{is_waiting, is_held, mark_of};
 ghost use Rattle.lab_book.specs.Tiling.{tile_at, IsTiling};
 ghost use Rattle.lab_book.specs.Book.{outcome, book_step, first_waiting};
-ghost use Rattle.lab_book.specs.Calls.{Refuses};
+ghost use Rattle.lab_book.specs.Calls.{Made, Refuses, leased_reply};
 ghost use Rattle.lab_book.specs.declared.entry.Call.TheVariants as calls;
-ghost use Rattle.lab_world.specs.Worker.{HoldsTile, runner_at, lent_worker, waiting_place, held_place};
+ghost use Rattle.lab_world.specs.Worker.{HoldsTile, runner_at, lent_worker, is_wanted, wanted_place, lease_call};
 
 use crate::worker::Worker;
 use cover_problem::Table;
 use lab_book::{Book, BookFault, Lease, Leased, Status};
 use std::alloc::{AllocError, Global};
 use x_branches::Runner;
+
+/// How a tile stands that is leased by its id.
+#[derive(Clone, Copy)]
+pub(crate) enum Wanted {
+    Waiting,
+    Held,
+}
 
 /// Whether a tile waits.
 fn is_waiting(status: Status) -> bool
@@ -41,31 +48,39 @@ fn status_at(book: &Book<'_>, place: usize) -> Status
     book.tiles()[place].status()
 }
 
-/// The place of the tile with an id, if it waits.
-fn waiting_place(book: &Book<'_>, id: u64) -> Option<usize>
-    ensures { result ≡ waiting_place book.now.tiles id }
+/// Whether a tile stands so.
+fn is_wanted(wanted: Wanted, status: Status) -> bool
+    ensures { result ≡ is_wanted wanted status }
+{
+    match wanted {
+        Wanted::Waiting => is_waiting(status),
+        Wanted::Held => is_held(status),
+    }
+}
+
+/// The place of the tile with an id, if it stands so.
+fn wanted_place(book: &Book<'_>, wanted: Wanted, id: u64) -> Option<usize>
+    ensures { result ≡ wanted_place wanted book.now.tiles id }
 {
     let Some(place) = book.place(id) else {
         return None;
     };
-    if is_waiting(status_at(book, place)) {
+    if is_wanted(wanted, status_at(book, place)) {
         Some(place)
     } else {
         None
     }
 }
 
-/// The place of the tile with an id, if it is held.
-fn held_place(book: &Book<'_>, id: u64) -> Option<usize>
-    ensures { result ≡ held_place book.now.tiles id }
+/// Leases the tile with an id from the book.
+fn asked<'p>(book: &mut Book<'p>, w: u8, id: u64, wanted: Wanted) -> Result<Leased<'p>, BookFault>
+    requires { w ≤ 31 }
+    ensures made { IfOk result (λ r. Made book.old book.new w (lease_call wanted id) (leased_reply r)) }
+    ensures refused { IfErr result (λ f. Refuses book.old book.new w (lease_call wanted id) f) }
 {
-    let Some(place) = book.place(id) else {
-        return None;
-    };
-    if is_held(status_at(book, place)) {
-        Some(place)
-    } else {
-        None
+    match wanted {
+        Wanted::Waiting => book.lease(w, id),
+        Wanted::Held => book.take_held(w, id),
     }
 }
 
@@ -135,6 +150,38 @@ fn lease_of(leased: Leased<'_>) -> Lease
 }
 
 impl<'p, T: Table> Worker<'p, T> {
+    /// Leases the tile with an id for worker w. Table and runner are made before the lease is asked for, where the tile stands so;
+    /// where it doesn't, the book refuses with its entry: where no tile has the id (1), then where it doesn't stand so (2).
+    pub(crate) fn lease_wanted(
+        alloc: Global,
+        book: &mut Book<'p>,
+        w: u8,
+        id: u64,
+        wanted: Wanted,
+    ) -> Result<Worker<'p, T>, BookFault>
+        requires { w ≤ 31 }
+        ensures book { OnOk result (book.new ≡ book_step book.old w (lease_call wanted id)) }
+        ensures worker { IfOk result (λ x.
+            Some x ≡ lent_worker book.old.problem (outcome book.old w (lease_call wanted id)).reply) }
+        ensures holds { IfOk result (λ x. HoldsTile book.new x) }
+        ensures refused { IfErr result (λ f. Refuses book.old book.new w (lease_call wanted id) f) }
+    {
+        let Some(place) = wanted_place(book, wanted, id) else {
+            return Err(refusal(asked(book, w, id, wanted)));
+        };
+        let Ok(runner) = runner_of(alloc, book, place) else {
+            return Err(BookFault::OutOfMemory);
+        };
+        let leased = match asked(book, w, id, wanted) {
+            Ok(leased) => leased,
+            Err(fault) => return Err(fault),
+        };
+        Ok(Worker {
+            lease: lease_of(leased),
+            runner,
+        })
+    }
+
     /// Leases the tile with an id for worker w. Table and runner are made before the lease is asked for, where the tile waits;
     /// where it doesn't, the book refuses with its entry: where no tile has the id (1), then where it doesn't wait (2).
     pub fn lease(
@@ -149,20 +196,7 @@ impl<'p, T: Table> Worker<'p, T> {
         ensures holds { IfOk result (λ x. HoldsTile book.new x) }
         ensures refused { IfErr result (λ f. Refuses book.old book.new w (calls.Lease id) f) }
     {
-        let Some(place) = waiting_place(book, id) else {
-            return Err(refusal(book.lease(w, id)));
-        };
-        let Ok(runner) = runner_of(alloc, book, place) else {
-            return Err(BookFault::OutOfMemory);
-        };
-        let leased = match book.lease(w, id) {
-            Ok(leased) => leased,
-            Err(fault) => return Err(fault),
-        };
-        Ok(Worker {
-            lease: lease_of(leased),
-            runner,
-        })
+        Worker::lease_wanted(alloc, book, w, id, Wanted::Waiting)
     }
 
     /// The same for a tile that is held.
@@ -178,20 +212,7 @@ impl<'p, T: Table> Worker<'p, T> {
         ensures holds { IfOk result (λ x. HoldsTile book.new x) }
         ensures refused { IfErr result (λ f. Refuses book.old book.new w (calls.TakeHeld id) f) }
     {
-        let Some(place) = held_place(book, id) else {
-            return Err(refusal(book.take_held(w, id)));
-        };
-        let Ok(runner) = runner_of(alloc, book, place) else {
-            return Err(BookFault::OutOfMemory);
-        };
-        let leased = match book.take_held(w, id) {
-            Ok(leased) => leased,
-            Err(fault) => return Err(fault),
-        };
-        Ok(Worker {
-            lease: lease_of(leased),
-            runner,
-        })
+        Worker::lease_wanted(alloc, book, w, id, Wanted::Held)
     }
 
     /// Leases the first tile that waits, or answers None where none does, which makes no table. Out of memory, nothing has changed.

@@ -1,15 +1,5 @@
-use Rattle.std.proofs.Common.{ap, ◌∙◌}
-use Rattle.lab_book.specs.Tile.{TileValue, freed_status}
-use Rattle.lab_book.proofs.CallLemmas.{abandon_ok, abandon_err}
+use Rattle.lab_book.proofs.CallLemmas.{abandon_is}
 use Rattle.lab_book.proofs.book.Book.abandon.Goals as goal
 
-pub refuse-fault-requires : goal.refuse-fault-requires
-refuse-fault-requires c = rw (← c.self.view_is) (abandon_err _ _ c.grant-grant.result _ _ c.leased_place.ensures.place c.in-Err.is)
-
-pub returns-in-Err-clause-current : goal.returns-in-Err-clause-current
-returns-in-Err-clause-current c = rw (← c.self.view_is, ← c.grant-grant.ensures) c.in-Err.ensures.current
-
-pub settle-requires-clause-outcome : goal.settle-requires-clause-outcome
-settle-requires-clause-outcome c =
-    let status = c.freed-status.ensures ∙ ap freed_status (c.stop.ensures ∙ ap (λ (t : TileValue). t.stop) c.tile.ensures) in
-    rw (← c.self.view_is) (abandon_ok _ _ c.grant-grant.result _ _ _ c.leased_place.ensures.place c.in-Ok.is status)
+pub give_up-requires : goal.give_up-requires
+give_up-requires c = rw c.grant.ensures (abandon_is c.args.self.now c.args.lease.worker c.args.lease)

@@ -4,12 +4,13 @@ use Rattle.text_lines.specs.Writing.{text_of}
 use Rattle.x_branches.specs.Runner.{IsRunner}
 use Rattle.debug_texts.specs.declared.fault.DebugFault.TheVariants.{AtEnd}
 use Rattle.debug_texts.specs.declared.words.Plain.TheVariants.{End}
+use Rattle.x_snapshot.proofs.PlaceLemmas.{on_ok as when_ok}
 use Rattle.x_debug.specs.Lines.{plain, debug_refusal}
 use Rattle.x_debug.specs.Walking.{work}
 use Rattle.x_debug.proofs.CallLemmas.{on_ok, on_err, answered}
 use Rattle.x_debug.proofs.ForwardLemmas.{can_walk}
 use Rattle.x_debug.proofs.WalkedLemmas.{read_end}
-use Rattle.x_debug.proofs.AnswerLemmas.{when_ok, stands_at, walk_text, line_more, step_refused_made, step_refused_lines, step_to_end, step_not_to_end, none_gone}
+use Rattle.x_debug.proofs.AnswerLemmas.{stands_at, walk_text, line_more, step_refused_made, step_refused_lines, step_to_end, step_not_to_end, none_gone}
 use Rattle.x_debug.proofs.walking.onward.step.Goals as goal
 
 pub returns-then-is_at_end-clause-made : goal.returns-then-is_at_end-clause-made

@@ -3,12 +3,13 @@ use Rattle.std.proofs.lemmas.Bool.{false≢true}
 use Rattle.text_lines.specs.Writing.{text_of}
 use Rattle.x_branches.specs.Runner.{IsRunner}
 use Rattle.debug_texts.specs.declared.fault.DebugFault.TheVariants.{AtEnd}
+use Rattle.x_snapshot.proofs.PlaceLemmas.{on_ok as when_ok}
 use Rattle.x_debug.specs.Lines.{debug_refusal}
 use Rattle.x_debug.specs.Walking.{work, stop_line}
 use Rattle.x_debug.proofs.CallLemmas.{on_ok, on_err, answered}
 use Rattle.x_debug.proofs.ForwardLemmas.{can_walk}
 use Rattle.x_debug.proofs.WalkedLemmas.{read_end}
-use Rattle.x_debug.proofs.AnswerLemmas.{when_ok, some_ahead, stands_at, walk_text, line_more, same_book_problem, run_refused_made, run_refused_lines, run_lines_are, met_is_break, none_gone}
+use Rattle.x_debug.proofs.AnswerLemmas.{some_ahead, stands_at, walk_text, line_more, same_book_problem, run_refused_made, run_refused_lines, run_lines_are, met_is_break, none_gone}
 use Rattle.x_debug.proofs.walking.running.run.Goals as goal
 
 pub returns-then-is_at_end-clause-made : goal.returns-then-is_at_end-clause-made

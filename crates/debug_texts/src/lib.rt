@@ -24,8 +24,3 @@ pub use showing::{
     write_standing, write_untried,
 };
 pub use words::{Counted, Layer, Listed, Plain, Standing};
-
-#[cfg(test)]
-mod line_tests;
-#[cfg(test)]
-mod reply_tests;

@@ -9,12 +9,20 @@ use std::test::Fail;
 /// A text of a problem and commands, and what is answered.
 const STORIES: [(&str, &str); 9] = [
     (
-        "items a b c d e f g\noption c e\noption a d g\noption b c f\noption a d f\noption b g\noption d e g\n%%\nstep 12\nshow\nback 12\nback\n",
-        "moved 12\nat X5 past 2 3\nat X5 past 2 3\nbranch start to end\ncovered a d g b c f e\nchosen e 0\nmoved 12\nat X1 -\nrefused debug 3 AtStart\n",
+        "items a b c d e f g\noption c e\noption a d g\noption b c f\noption a d f\noption b g\n\
+         option d e g\n%%\nstep 12\nshow\nback 12\nback\n",
+        "moved 12\nat X5 past 2 3\nat X5 past 2 3\nbranch start to end\ncovered a d g b c f e\nchosen e 0\n\
+         moved 12\nat X1 -\nrefused debug 3 AtStart\n",
     ),
     (
-        "items a b c d e f g\noption c e\noption a d g\noption b c f\noption a d f\noption b g\noption d e g\n%%\nbreak level 3\nrun\nsave\nload 13\npolysnap 1\nproblem 7\nitems a b c d e f g\noption c e\noption a d g\noption b c f\noption a d f\noption b g\noption d e g\nfrom start\nto end\nstate X2 - 4 5 1\nend\nstep\n",
-        "set level 3\nmoved 29\nat X2 - 4 5 1\nbreak level 3\nsnapshot 13\npolysnap 1\nproblem 7\nitems a b c d e f g\noption c e\noption a d g\noption b c f\noption a d f\noption b g\noption d e g\nfrom start\nto end\nstate X2 - 4 5 1\nend\nat X2 - 4 5 1\nvisit 4 5 1\nmoved 1\nat X8 - 4 5 1\n",
+        "items a b c d e f g\noption c e\noption a d g\noption b c f\noption a d f\noption b g\n\
+         option d e g\n%%\nbreak level 3\nrun\nsave\nload 13\npolysnap 1\nproblem 7\nitems a b c d e f g\n\
+         option c e\noption a d g\noption b c f\noption a d f\noption b g\noption d e g\nfrom start\nto end\n\
+         state X2 - 4 5 1\nend\nstep\n",
+        "set level 3\nmoved 29\nat X2 - 4 5 1\nbreak level 3\nsnapshot 13\npolysnap 1\nproblem 7\n\
+         items a b c d e f g\noption c e\noption a d g\noption b c f\noption a d f\noption b g\n\
+         option d e g\nfrom start\nto end\nstate X2 - 4 5 1\nend\nat X2 - 4 5 1\nvisit 4 5 1\nmoved 1\n\
+         at X8 - 4 5 1\n",
     ),
     (
         "items a\noption a\n%%\n%%\nstep\n",

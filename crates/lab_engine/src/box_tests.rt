@@ -139,8 +139,8 @@ fn push_cells(text: &mut Vec<u8>, grid: &[(Cell, u64)], bits: u64) -> Result<(),
     Ok(())
 }
 
-/// The cover text: an item for each piece and each cell, and an option for each placement, the pieces in order and a piece's
-/// placements in the order of their cells.
+/// The cover text: an item for each piece and each cell, and an option for each placement, the pieces in
+/// order and a piece's placements in the order of their cells.
 fn text_of(alloc: Global, size: Cell, pieces: &str) -> Result<Vec<u8>, AllocError> {
     let grid = grid_of(alloc, size)?;
     let mut text = Vec::from_slice(alloc, b"items")?;

@@ -8,10 +8,14 @@ const FIVE_DOMINOES: &str =
 
 // A piece and its mirror image, one of which fills the corner 000 of a cube of eight cells.
 const MIRROR_PAIR: &str =
-    "cells 000\nmaybe cells 001 010 011 100 101 110 111\nmaybe piece A 000 100 010 011\nmaybe piece B 000 010 100 101\n";
+    "cells 000\nmaybe cells 001 010 011 100 101 110 111\nmaybe piece A 000 100 010 011\n\
+     maybe piece B 000 010 100 101\n";
 
 const PENTOMINOES: &str =
-    "piece F 100 200 010 110 120\npiece I 000 100 200 300 400\npiece L 000 100 200 300 010\npiece N 000 100 110 210 310\npiece P 000 100 010 110 020\npiece T 000 100 200 110 120\npiece U 000 200 010 110 210\npiece V 000 010 020 120 220\npiece W 000 010 110 120 220\npiece X 100 010 110 210 120\npiece Y 000 100 200 300 110\npiece Z 000 100 110 120 220\nbox 20 3 1\n";
+    "piece F 100 200 010 110 120\npiece I 000 100 200 300 400\npiece L 000 100 200 300 010\n\
+     piece N 000 100 110 210 310\npiece P 000 100 010 110 020\npiece T 000 100 200 110 120\n\
+     piece U 000 200 010 110 210\npiece V 000 010 020 120 220\npiece W 000 010 110 120 220\n\
+     piece X 100 010 110 210 120\npiece Y 000 100 200 300 110\npiece Z 000 100 110 120 220\nbox 20 3 1\n";
 
 #[test]
 fn classes_are_counted(rt: HostRuntime) {
@@ -33,7 +37,8 @@ fn classes_are_counted(rt: HostRuntime) {
             OPTIONAL,
             "packings 2\noptions 4\nsteps 23\nlevels 1 2 1\nrotations 2\nsymmetries 2\n",
         ),
-        // Upright dominoes (1) and pairs that lie (2), from one end to the other: 11111, 1112, 1121, 122 and 212 are left.
+        // Upright dominoes (1) and pairs that lie (2), from one end to the other: 11111, 1112, 1121, 122 and
+        // 212 are left.
         (
             FIVE_DOMINOES,
             "packings 960\noptions 65\nsteps 14487\nlevels 1 10 60 300 960 960\nrotations 5\nsymmetries 5\n",
@@ -57,11 +62,13 @@ fn known_puzzles_have_their_classes(rt: HostRuntime) {
     let rows = [
         (
             SOMA,
-            "packings 11520\noptions 688\nsteps 1991327\nlevels 1 55 1089 10633 48900 110149 72329 11520\nrotations 480\nsymmetries 240\n",
+            "packings 11520\noptions 688\nsteps 1991327\nlevels 1 55 1089 10633 48900 110149 72329 11520\n\
+             rotations 480\nsymmetries 240\n",
         ),
         (
             PENTOMINOES,
-            "packings 8\noptions 1236\nsteps 263103\nlevels 1 18 170 360 801 2252 4790 9284 7726 5150 1968 364 8\nrotations 2\nsymmetries 2\n",
+            "packings 8\noptions 1236\nsteps 263103\n\
+             levels 1 18 170 360 801 2252 4790 9284 7726 5150 1968 364 8\nrotations 2\nsymmetries 2\n",
         ),
     ];
     for (text, written) in rows {

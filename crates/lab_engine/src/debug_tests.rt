@@ -5,41 +5,58 @@ use crate::puzzle_tests::ends_so;
 
 /// The small problem and commands: to where nothing is left to try below an option, and back to the start.
 const THERE_AND_BACK: &str =
-    "items a b c d e f g\noption c e\noption a d g\noption b c f\noption a d f\noption b g\noption d e g\n%%\nstep 12\nshow\nback 12\nback\n";
+    "items a b c d e f g\noption c e\noption a d g\noption b c f\noption a d f\noption b g\noption d e g\n\
+     %%\nstep 12\nshow\nback 12\nback\n";
 
 /// The same problem: a branch is split in two, and both are searched and closed.
 const SPLIT: &str =
-    "items a b c d e f g\noption c e\noption a d g\noption b c f\noption a d f\noption b g\noption d e g\n%%\nstep 5\nshow\nuntried\nsplit 0 2\nsplit 0 4\nsplit 0 4\nsplit 0 2\nrun\nclose\nopen 4\nrun\nclose\nbranches\nvisits\n";
+    "items a b c d e f g\noption c e\noption a d g\noption b c f\noption a d f\noption b g\noption d e g\n\
+     %%\nstep 5\nshow\nuntried\nsplit 0 2\nsplit 0 4\nsplit 0 4\nsplit 0 2\nrun\nclose\nopen 4\nrun\nclose\n\
+     branches\nvisits\n";
 
 /// The same problem: what was posted is taken back, and walked again.
 const TAKEN_BACK: &str =
-    "items a b c d e f g\noption c e\noption a d g\noption b c f\noption a d f\noption b g\noption d e g\n%%\nstep 30\npark\nopen start\nretract\nvisits\nback\nrun\nclose\nvisits\n";
+    "items a b c d e f g\noption c e\noption a d g\noption b c f\noption a d f\noption b g\noption d e g\n\
+     %%\nstep 30\npark\nopen start\nretract\nvisits\nback\nrun\nclose\nvisits\n";
 
 /// The same problem: a branch is saved at a breakpoint; and loaded, whereupon nothing is read after `quit`.
 const SAVED: &str =
-    "items a b c d e f g\noption c e\noption a d g\noption b c f\noption a d f\noption b g\noption d e g\n%%\nstep 5\nsplit 0 4\npark\nopen 4\nbreak level 3\nrun\nsave\n";
+    "items a b c d e f g\noption c e\noption a d g\noption b c f\noption a d f\noption b g\noption d e g\n\
+     %%\nstep 5\nsplit 0 4\npark\nopen 4\nbreak level 3\nrun\nsave\n";
 
 const LOADED: &str =
-    "items a b c d e f g\noption c e\noption a d g\noption b c f\noption a d f\noption b g\noption d e g\n%%\nload 13\npolysnap 1\nproblem 7\nitems a b c d e f g\noption c e\noption a d g\noption b c f\noption a d f\noption b g\noption d e g\nfrom 4\nto end\nstate X2 - 4 5 1\nend\nrun\nquit\nshow\n";
+    "items a b c d e f g\noption c e\noption a d g\noption b c f\noption a d f\noption b g\noption d e g\n\
+     %%\nload 13\npolysnap 1\nproblem 7\nitems a b c d e f g\noption c e\noption a d g\noption b c f\n\
+     option a d f\noption b g\noption d e g\nfrom 4\nto end\nstate X2 - 4 5 1\nend\nrun\nquit\nshow\n";
 
 #[test]
 fn commands_are_answered(rt: HostRuntime) {
     let rows = [
         (
             THERE_AND_BACK,
-            "moved 12\nat X5 past 2 3\nat X5 past 2 3\nbranch start to end\ncovered a d g b c f e\nchosen e 0\nmoved 12\nat X1 -\nrefused debug 3 AtStart\n",
+            "moved 12\nat X5 past 2 3\nat X5 past 2 3\nbranch start to end\ncovered a d g b c f e\n\
+             chosen e 0\nmoved 12\nat X1 -\nrefused debug 3 AtStart\n",
         ),
         (
             SPLIT,
-            "moved 5\nat X2 - 2\nat X2 - 2\nbranch start to end\ncovered a d g\nactive b 1 3\nactive c 2 1 3\nactive e 1 1\nactive f 1 3\nuntried 0 4\nrefused runner 4 NotUntried\nbranch 4 to end waiting\nrefused runner 5 OutsideBranch\nrefused runner 3 NothingUntried\nmoved 15\nat X5 4\nend\nclosed\nat X5 4\nvisit 4 5 1\nmoved 23\nat Done -\nend\nclosed\nbranches none\nvisit 4 5 1\nvisits 1\n",
+            "moved 5\nat X2 - 2\nat X2 - 2\nbranch start to end\ncovered a d g\nactive b 1 3\n\
+             active c 2 1 3\nactive e 1 1\nactive f 1 3\nuntried 0 4\nrefused runner 4 NotUntried\n\
+             branch 4 to end waiting\nrefused runner 5 OutsideBranch\nrefused runner 3 NothingUntried\n\
+             moved 15\nat X5 4\nend\nclosed\nat X5 4\nvisit 4 5 1\nmoved 23\nat Done -\nend\nclosed\n\
+             branches none\nvisit 4 5 1\nvisits 1\n",
         ),
         (
             TAKEN_BACK,
-            "visit 4 5 1\nmoved 30\nat X8 - 4 5 1\nparked\nat X8 - 4 5 1\nretracted 30\nat X8 - 4 5 1\nvisits 0\nmoved 1\nat X2 - 4 5 1\nvisit 4 5 1\nmoved 14\nat Done -\nend\nclosed\nvisit 4 5 1\nvisits 1\n",
+            "visit 4 5 1\nmoved 30\nat X8 - 4 5 1\nparked\nat X8 - 4 5 1\nretracted 30\nat X8 - 4 5 1\n\
+             visits 0\nmoved 1\nat X2 - 4 5 1\nvisit 4 5 1\nmoved 14\nat Done -\nend\nclosed\nvisit 4 5 1\n\
+             visits 1\n",
         ),
         (
             SAVED,
-            "moved 5\nat X2 - 2\nbranch 4 to end waiting\nparked\nat X5 4\nset level 3\nmoved 9\nat X2 - 4 5 1\nbreak level 3\nsnapshot 13\npolysnap 1\nproblem 7\nitems a b c d e f g\noption c e\noption a d g\noption b c f\noption a d f\noption b g\noption d e g\nfrom 4\nto end\nstate X2 - 4 5 1\nend\n",
+            "moved 5\nat X2 - 2\nbranch 4 to end waiting\nparked\nat X5 4\nset level 3\nmoved 9\n\
+             at X2 - 4 5 1\nbreak level 3\nsnapshot 13\npolysnap 1\nproblem 7\nitems a b c d e f g\n\
+             option c e\noption a d g\noption b c f\noption a d f\noption b g\noption d e g\nfrom 4\nto end\n\
+             state X2 - 4 5 1\nend\n",
         ),
         (
             LOADED,

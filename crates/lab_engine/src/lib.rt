@@ -23,8 +23,6 @@ mod class_tests;
 #[cfg(test)]
 mod debug_tests;
 #[cfg(test)]
-mod lockstep_tests;
-#[cfg(test)]
 mod puzzle_tests;
 #[cfg(test)]
 mod tests;

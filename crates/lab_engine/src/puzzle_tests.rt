@@ -10,7 +10,8 @@ pub const STRIP: &str = "cells 000 100\nmaybe cells 200\npiece A 000 100\n";
 pub const OPTIONAL: &str = "cells 000 100\nmaybe cells 200\npiece A 000 100\nmaybe piece B 000\n";
 
 pub const SOMA: &str =
-    "piece V 000 100 010\npiece L 000 100 200 010\npiece T 000 100 200 110\npiece Z 000 100 110 210\npiece A 000 100 010 011\npiece B 000 100 010 101\npiece P 000 100 010 001\nbox 3 3 3\n";
+    "piece V 000 100 010\npiece L 000 100 200 010\npiece T 000 100 200 110\npiece Z 000 100 110 210\n\
+     piece A 000 100 010 011\npiece B 000 100 010 101\npiece P 000 100 010 001\nbox 3 3 3\n";
 
 /// Whether the job on a text ends with this status, writes this text, and tells this line.
 pub fn ends_so(
@@ -70,7 +71,8 @@ fn packings_are_counted(rt: HostRuntime) {
         (STRIP, "packings 1\noptions 2\nsteps 11\nlevels 1 1\n"),
         (OPTIONAL, "packings 2\noptions 4\nsteps 23\nlevels 1 2 1\n"),
         (
-            "box 5 2 1\npiece A 000 100\npiece B 000 100\npiece C 000 100\npiece D 000 100\npiece E 000 100\n",
+            "box 5 2 1\npiece A 000 100\npiece B 000 100\npiece C 000 100\npiece D 000 100\n\
+             piece E 000 100\n",
             "packings 960\noptions 65\nsteps 14487\nlevels 1 10 60 300 960 960\n",
         ),
     ];
@@ -87,7 +89,8 @@ fn options_are_written(rt: HostRuntime) {
     let rows = [
         (
             DOMINOES,
-            "items A B 000 010 100 110\noption A 000 010\noption A 000 100\noption A 010 110\noption A 100 110\noption B 000 010\noption B 000 100\noption B 010 110\noption B 100 110\n",
+            "items A B 000 010 100 110\noption A 000 010\noption A 000 100\noption A 010 110\n\
+             option A 100 110\noption B 000 010\noption B 000 100\noption B 010 110\noption B 100 110\n",
         ),
         (
             STRIP,

@@ -11,8 +11,3 @@ pub use event::{Act, WorldEvent, WorldReply};
 pub use fault::WorkerFault;
 pub use worker::Worker;
 pub use world::{PlayStopped, World};
-
-#[cfg(test)]
-mod drawn_tests;
-#[cfg(test)]
-mod tests;

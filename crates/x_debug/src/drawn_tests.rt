@@ -1,5 +1,6 @@
-//! Commands that are drawn by a seed, on drawn problems: steps that are taken back change nothing that is shown; and a search that is
-//! parted, saved and loaded at drawn places has in the end the visits of one that runs through.
+//! Commands that are drawn by a seed, on drawn problems: steps that are taken back change nothing that is
+//! shown; and a search that is parted, saved and loaded at drawn places has in the end the visits of one that
+//! runs through.
 
 use super::*;
 use crate::session_tests::answer;
@@ -94,7 +95,8 @@ const SPLITS: [(&str, &str); 15] = [
     ("split 0 15", "open 15"),
 ];
 
-/// Splits at the first option of the first level, from a drawn one on, where that can be; what then opens the new branch, or nothing.
+/// Splits at the first option of the first level, from a drawn one on, where that can be; what then opens the
+/// new branch, or nothing.
 fn split(session: &mut Plain<'_>, first: u32) -> Result<&'static str, AllocError> {
     for (command, opening) in SPLITS.iter().skip(first as usize) {
         if answer(session, command)?.starts_with(b"branch") {
@@ -145,8 +147,8 @@ fn loaded(alloc: Global, problem: &Problem, reply: &[u8]) -> Result<Vec<u8>, All
     finish(&mut session)
 }
 
-/// The visits of a search that takes some steps, is split, saved and loaded: those before, those of the branch that was loaded, and
-/// those of the branch that was split off.
+/// The visits of a search that takes some steps, is split, saved and loaded: those before, those of the
+/// branch that was loaded, and those of the branch that was split off.
 fn parted(
     alloc: Global,
     problem: &Problem,

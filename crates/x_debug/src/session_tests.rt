@@ -11,13 +11,16 @@ const SMALL: &str =
 
 /// What the small problem's branch from the cut 4 to the end is saved as, below 4 5 1.
 const SNAPSHOT: &str =
-    "polysnap 1\nproblem 7\nitems a b c d e f g\noption c e\noption a d g\noption b c f\noption a d f\noption b g\noption d e g\nfrom 4\nto end\nstate X2 - 4 5 1\nend\n";
+    "polysnap 1\nproblem 7\nitems a b c d e f g\noption c e\noption a d g\noption b c f\noption a d f\n\
+     option b g\noption d e g\nfrom 4\nto end\nstate X2 - 4 5 1\nend\n";
 
 /// And what it is saved as with a breakpoint.
 const WITH_BREAKS: &str =
-    "polysnap 2\nproblem 7\nitems a b c d e f g\noption c e\noption a d g\noption b c f\noption a d f\noption b g\noption d e g\nfrom 4\nto end\nstate X2 - 4 5 1\nbreaks 1\nbreak level 3\nend\n";
+    "polysnap 2\nproblem 7\nitems a b c d e f g\noption c e\noption a d g\noption b c f\noption a d f\n\
+     option b g\noption d e g\nfrom 4\nto end\nstate X2 - 4 5 1\nbreaks 1\nbreak level 3\nend\n";
 
-/// Where a session begins anew in the rows below, and where it goes on with its book alone, if no branch is open.
+/// Where a session begins anew in the rows below, and where it goes on with its book alone, if no branch is
+/// open.
 const NEW: &str = "new";
 
 const AGAIN: &str = "again";
@@ -38,7 +41,8 @@ const ROWS: [(&str, &str); 109] = [
     ("step 5", "moved 5\nat X2 - 2\n"),
     (
         "show",
-        "at X2 - 2\nbranch start to end\ncovered a d g\nactive b 1 3\nactive c 2 1 3\nactive e 1 1\nactive f 1 3\n",
+        "at X2 - 2\nbranch start to end\ncovered a d g\nactive b 1 3\nactive c 2 1 3\nactive e 1 1\n\
+         active f 1 3\n",
     ),
     ("untried", "untried 0 4\n"),
     ("split 0 2", "refused runner 4 NotUntried\n"),
@@ -101,7 +105,8 @@ const ROWS: [(&str, &str); 109] = [
     ("run", "moved 9\nat X2 - 4 5 1\nbreak level 3\n"),
     (
         "save",
-        "snapshot 13\npolysnap 1\nproblem 7\nitems a b c d e f g\noption c e\noption a d g\noption b c f\noption a d f\noption b g\noption d e g\nfrom 4\nto end\nstate X2 - 4 5 1\nend\n",
+        "snapshot 13\npolysnap 1\nproblem 7\nitems a b c d e f g\noption c e\noption a d g\noption b c f\n\
+         option a d f\noption b g\noption d e g\nfrom 4\nto end\nstate X2 - 4 5 1\nend\n",
     ),
     (NEW, ""),
     (SNAPSHOT, "at X2 - 4 5 1\n"),
@@ -120,7 +125,9 @@ const ROWS: [(&str, &str); 109] = [
     ("run", "moved 9\nat X2 - 4 5 1\nbreak level 3\n"),
     (
         "save breaks",
-        "snapshot 15\npolysnap 2\nproblem 7\nitems a b c d e f g\noption c e\noption a d g\noption b c f\noption a d f\noption b g\noption d e g\nfrom 4\nto end\nstate X2 - 4 5 1\nbreaks 1\nbreak level 3\nend\n",
+        "snapshot 15\npolysnap 2\nproblem 7\nitems a b c d e f g\noption c e\noption a d g\noption b c f\n\
+         option a d f\noption b g\noption d e g\nfrom 4\nto end\nstate X2 - 4 5 1\nbreaks 1\nbreak level 3\n\
+         end\n",
     ),
     (NEW, ""),
     ("break visit", "set visit\n"),
@@ -138,7 +145,8 @@ const ROWS: [(&str, &str); 109] = [
     ("close", "refused book 8 NotAtEnd\n"),
     (
         "save",
-        "snapshot 13\npolysnap 1\nproblem 7\nitems a b c d e f g\noption c e\noption a d g\noption b c f\noption a d f\noption b g\noption d e g\nfrom start\nto 4\nstate X2 - 2\nend\n",
+        "snapshot 13\npolysnap 1\nproblem 7\nitems a b c d e f g\noption c e\noption a d g\noption b c f\n\
+         option a d f\noption b g\noption d e g\nfrom start\nto 4\nstate X2 - 2\nend\n",
     ),
     (
         "branches",

@@ -17,8 +17,3 @@ pub use writing::{
     write_break, write_count, write_number, write_numbers, write_path, write_snapshot, write_state,
     write_word,
 };
-
-#[cfg(test)]
-mod tests;
-#[cfg(test)]
-mod text_tests;

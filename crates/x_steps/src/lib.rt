@@ -16,10 +16,3 @@ pub use fault::{AtFault, Refused, StepFault};
 pub use machine::{Machine, Walk, no_counts};
 pub use paths::Paths;
 pub use state::{Cursor, Label, State};
-
-#[cfg(test)]
-mod drawn_tests;
-#[cfg(test)]
-mod tests;
-#[cfg(test)]
-mod walk_tests;

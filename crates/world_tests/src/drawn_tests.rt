@@ -1,52 +1,21 @@
-//! Lists of events drawn by a seed, on drawn problems: the tiles part the run after each list, and once all are closed what was posted
-//! is the run of one machine.
+//! Lists of events drawn by a seed, on drawn problems: the tiles part the run after each list, and once all
+//! are closed what was posted is the run of one machine.
 
-use crate::tests::{Do, add, play, visits_of};
-use crate::{World, WorldEvent};
+use crate::setting::{Do, add, play, visits_of};
 use cover_problem::{PlainTable, Problem, Table, read_cover};
+use drawn_problems::{draw, drawn_narrow_options, text_of};
 use lab_book::{Book, Status, Tile};
+use lab_world::{World, WorldEvent};
 use std::alloc::{AllocError, Global};
 use std::test::Fail;
 use x_branches::Cut;
 use x_steps::{Cursor, Label, Machine, State};
 
-/// The next number that is drawn, below 2^31.
-fn draw(seed: &mut u64) -> u32 {
-    *seed = seed
-        .wrapping_mul(6_364_136_223_846_793_005)
-        .wrapping_add(1_442_695_040_888_963_407);
-    (*seed >> 33) as u32
-}
-
-/// An option of the items whose bit is set.
-fn push_option(text: &mut String, mask: u32) -> Result<(), AllocError> {
-    text.push_str("\noption")?;
-    for (index, name) in [" a", " b", " c", " d", " e"].iter().enumerate() {
-        if mask.wrapping_shr(index as u32) % 2 == 1 {
-            text.push_str(name)?;
-        }
-    }
-    Ok(())
-}
-
-/// The items a to e, of which one to five are primary.
-const ITEMS: [&str; 5] = [
-    "items a\nmaybe b c d e",
-    "items a b\nmaybe c d e",
-    "items a b c\nmaybe d e",
-    "items a b c d\nmaybe e",
-    "items a b c d e",
-];
-
-/// The text of a problem of five items, with four to fifteen options of few of them.
-fn drawn_text(alloc: Global, items: &str, seed: &mut u64) -> Result<String, AllocError> {
-    let mut text = String::new(alloc);
-    text.push_str(items)?;
-    for count in 0..draw(seed) % 12 + 4 {
-        let mask = (draw(seed) & draw(seed)) | 1_u32.wrapping_shl(count % 5);
-        push_option(&mut text, mask)?;
-    }
-    Ok(text)
+/// The text of a problem of five items, of which so many are primary, with four to fifteen options of few of
+/// them.
+fn drawn_text(alloc: Global, primary: u32, seed: &mut u64) -> Result<String, AllocError> {
+    let options = drawn_narrow_options(alloc, 4, 12, seed)?;
+    text_of(alloc, 5, primary, &options)
 }
 
 /// What a worker does next; the most of it is steps.
@@ -233,12 +202,13 @@ fn holds(alloc: Global, problem: &Problem, seed: &mut u64) -> Result<(bool, usiz
     goes_to_its_end(alloc, &mut world, seed)
 }
 
-/// How many of so many drawn problems hold, up to the first that doesn't, and how many tiles there are in all.
-fn held(alloc: Global, rounds: usize) -> Result<(usize, usize), Fail> {
+/// How many of so many drawn problems hold, up to the first that doesn't, and how many tiles there are in
+/// all.
+fn held(alloc: Global, rounds: u32) -> Result<(u32, usize), Fail> {
     let mut seed = 11;
     let mut all: usize = 0;
     for round in 0..rounds {
-        let text = drawn_text(alloc, ITEMS[round % 5], &mut seed)?;
+        let text = drawn_text(alloc, round % 5 + 1, &mut seed)?;
         let problem = read_cover(alloc, text.as_bytes())?;
         let (right, tiles) = holds(alloc, &problem, &mut seed)?;
         if !right {

@@ -1,17 +1,14 @@
 //! Snapshots of small problems, with texts that were worked out by hand.
 
-use super::*;
 use cover_problem::{Problem, read_cover};
+use drawn_problems::SMALL;
 use std::alloc::{AllocError, Global};
 use std::test::Fail;
+use x_snapshot::{Break, Snapshot, SnapshotFault, write_snapshot};
 use x_steps::{Cursor, Label, State};
 
-/// The small problem.
-const SMALL: &[u8] =
-    b"items a b c d e f g\noption c e\noption a d g\noption b c f\noption a d f\noption b g\noption d e g";
-
 /// A problem with a secondary item.
-const SECONDARY: &[u8] = b"items a\nmaybe b\noption a b\noption a";
+const SECONDARY: &str = "items a\nmaybe b\noption a b\noption a";
 
 /// The small problem from the cut 4 to the end, at X2 after the choices 4 5 1: 150 bytes.
 pub const FROM_FOUR: &[u8] = b"polysnap 1
@@ -111,7 +108,7 @@ const AT_START: Row = Row {
 };
 
 /// Problems and parts, each with the text that is written of the snapshot.
-const WRITTEN: [(&[u8], Row, &[u8]); 4] = [
+const WRITTEN: [(&str, Row, &[u8]); 4] = [
     (SMALL, AT_VISIT, FROM_FOUR),
     (
         SMALL,
@@ -308,13 +305,13 @@ fn made(alloc: Global, problem: Problem, row: &Row) -> Option<Result<Snapshot, S
 }
 
 /// The snapshot of a cover text's problem with these parts.
-fn snapshot_of(alloc: Global, cover: &[u8], row: &Row) -> Option<Result<Snapshot, SnapshotFault>> {
-    let problem = read_cover(alloc, cover).ok()?;
+fn snapshot_of(alloc: Global, cover: &str, row: &Row) -> Option<Result<Snapshot, SnapshotFault>> {
+    let problem = read_cover(alloc, cover.as_bytes()).ok()?;
     made(alloc, problem, row)
 }
 
 /// Whether these parts are written as this text.
-fn is_written(alloc: Global, cover: &[u8], row: &Row, text: &[u8]) -> bool {
+fn is_written(alloc: Global, cover: &str, row: &Row, text: &[u8]) -> bool {
     let Some(Ok(snapshot)) = snapshot_of(alloc, cover, row) else {
         return false;
     };

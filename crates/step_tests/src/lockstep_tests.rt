@@ -1,40 +1,11 @@
 //! Problems drawn by a seed, stepped side by side on a plain table and on links.
 
-use crate::lines::push_word;
 use cover_links::LinkTable;
 use cover_problem::{PlainTable, Problem, Table, read_cover};
+use drawn_problems::{bit, draw, text_of};
 use std::alloc::{AllocError, Global};
 use std::test::Fail;
 use x_steps::{Cursor, Event, Label, Machine, StepFault};
-
-const NAMES: [&str; 12] = ["a", "b", "c", "d", "e", "f", "g", "h", "i", "j", "k", "l"];
-
-/// The next number that is drawn, below 2^31.
-fn draw(seed: &mut u64) -> u32 {
-    *seed = seed
-        .wrapping_mul(6_364_136_223_846_793_005)
-        .wrapping_add(1_442_695_040_888_963_407);
-    (*seed >> 33) as u32
-}
-
-/// The bit of an item, from 0.
-fn bit(item: u32) -> u32 {
-    1u32.wrapping_shl(item)
-}
-
-/// A key, and the names of the items with these bits.
-fn push_line(text: &mut Vec<u8>, key: &[u8], items: u32) -> Result<(), AllocError> {
-    let mut rest = items;
-    text.extend_from_slice(key)?;
-    for name in NAMES {
-        if rest % 2 == 1 {
-            push_word(text, name)?;
-        }
-        rest /= 2;
-    }
-    text.push(b'\n')?;
-    Ok(())
-}
 
 /// The text of so many items, of which the first are primary, and so many options of one to five items.
 fn drawn(
@@ -43,20 +14,17 @@ fn drawn(
     items: u32,
     primary: u32,
     options: u32,
-) -> Result<Vec<u8>, AllocError> {
-    let first = bit(primary).wrapping_sub(1);
-    let mut text = Vec::new(alloc);
-    push_line(&mut text, b"items", first)?;
-    if primary < items {
-        push_line(&mut text, b"maybe", bit(items).wrapping_sub(1) & !first)?;
-    }
+) -> Result<String, AllocError> {
+    let mut drawn = Vec::new(alloc);
     for _ in 0..options {
         let mut option = 0;
         for _ in 0..draw(seed) % 5 + 1 {
             option |= bit(draw(seed).checked_rem(items).unwrap_or(0));
         }
-        push_line(&mut text, b"option", option)?;
+        drawn.push(option)?;
     }
+    let mut text = text_of(alloc, items, primary, &drawn)?;
+    text.push('\n')?;
     Ok(text)
 }
 
@@ -155,8 +123,8 @@ fn is_finished(walk: &Walk) -> bool {
     }
 }
 
-/// How many steps a machine takes, if with either table it tells the same on its way to Done, and again on its way
-/// back to X1.
+/// How many steps a machine takes, if with either table it tells the same on its way to Done, and again on
+/// its way back to X1.
 fn steps_of_both(alloc: Global, problem: &Problem) -> Result<Option<usize>, AllocError> {
     let pair = walks::<PlainTable>(alloc, problem)?;
     let (on, back) = &pair;
@@ -168,6 +136,19 @@ fn steps_of_both(alloc: Global, problem: &Problem) -> Result<Option<usize>, Allo
     Ok(if same { Some(on.events.len()) } else { None })
 }
 
+/// How many steps both tables make of the problem that is drawn; 100,000 where they differ.
+fn drawn_steps(
+    alloc: Global,
+    seed: &mut u64,
+    items: u32,
+    primary: u32,
+    options: u32,
+) -> Result<usize, Fail> {
+    let text = drawn(alloc, seed, items, primary, options)?;
+    let problem = read_cover(alloc, text.as_bytes())?;
+    Ok(steps_of_both(alloc, &problem)?.unwrap_or(100_000))
+}
+
 // The steps were counted by another program, from the numbers of states and of visits.
 #[test]
 fn both_tables_make_the_same_steps(rt: HostRuntime) -> Result<(), Fail> {
@@ -177,9 +158,8 @@ fn both_tables_make_the_same_steps(rt: HostRuntime) -> Result<(), Fail> {
     for round in 0..60u32 {
         let items = round % 4 + 5;
         let options = draw(&mut seed) % 13;
-        let text = drawn(alloc, &mut seed, items, items - round % 3, options)?;
-        let problem = read_cover(alloc, &text)?;
-        steps = steps.saturating_add(steps_of_both(alloc, &problem)?.unwrap_or(100_000));
+        let more = drawn_steps(alloc, &mut seed, items, items - round % 3, options)?;
+        steps = steps.saturating_add(more);
     }
     assert_eq!(rt; steps, 1_628);
     Ok(())
@@ -191,9 +171,8 @@ fn both_tables_make_the_same_steps_of_larger_problems(rt: HostRuntime) -> Result
     let mut seed = 4;
     let mut steps = 0usize;
     for primary in 9..13 {
-        let text = drawn(alloc, &mut seed, 12, primary, 30)?;
-        let problem = read_cover(alloc, &text)?;
-        steps = steps.saturating_add(steps_of_both(alloc, &problem)?.unwrap_or(100_000));
+        let more = drawn_steps(alloc, &mut seed, 12, primary, 30)?;
+        steps = steps.saturating_add(more);
     }
     assert_eq!(rt; steps, 2_240);
     Ok(())

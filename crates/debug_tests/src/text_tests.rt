@@ -1,9 +1,9 @@
 //! Texts that are read as snapshots, or refused, with answers that were worked out by hand.
 
-use super::*;
-use crate::tests::{FROM_FOUR, WITH_EACH, WITH_LEVEL, WITH_SECONDARY};
+use crate::snapshot_tests::{FROM_FOUR, WITH_EACH, WITH_LEVEL, WITH_SECONDARY};
 use std::alloc::{AllocError, Global};
 use std::test::Fail;
+use x_snapshot::{Snapshot, SnapshotFault, read_snapshot, write_snapshot};
 
 /// Texts, each with its first fault.
 const FAULTS: [(&[u8], SnapshotFault); 19] = [
@@ -124,7 +124,8 @@ const SECOND_FAULTS: [(&[u8], SnapshotFault); 18] = [
         b"breaks 2\nbreak visit\nbreak visit\n",
         SnapshotFault::BadBreak,
     ),
-    // a breakpoint comes before the end, bytes that follow before the version, and the version before the state
+    // a breakpoint comes before the end, bytes that follow before the version, and the version before the
+    // state
     (b"breaks 1\nbreak level 2\nend \n", SnapshotFault::BadBreak),
     (b"breaks 0\nend\nend\n", SnapshotFault::TrailingBytes),
     (b"breaks 0\nend\n", SnapshotFault::Spelling),

@@ -1,18 +1,15 @@
 //! Runs that are walked to the end and back, and what a machine tells at a state.
-use crate::{Cursor, Event, Label, Machine, Paths, State, StepFault};
 use cover_problem::{PlainTable, Problem, Table, read_cover};
+use drawn_problems::SMALL;
 use std::alloc::{AllocError, Global};
 use std::test::Fail;
-
-/// The small problem: its run has 43 steps and the visit 4 5 1.
-pub const SMALL: &str =
-    "items a b c d e f g\noption c e\noption a d g\noption b c f\noption a d f\noption b g\noption d e g";
+use x_steps::{Cursor, Event, Label, Machine, Paths, State, StepFault};
 
 /// A problem whose item c is secondary.
 const SECONDARY: &str = "items a b\nmaybe c\noption a c\noption b c\noption a\noption b";
 
-/// What a run had: how many states, its visits, each closed by a 0, whether its last step alone told that it was the last, and
-/// whether each step was taken back.
+/// What a run had: how many states, its visits, each closed by a 0, whether its last step alone told that it
+/// was the last, and whether each step was taken back.
 #[derive(Drop)]
 pub struct RoundTrip {
     states: usize,
@@ -135,12 +132,19 @@ fn all_told<T: Table>(alloc: Global, machine: &Machine<T>) -> Result<Told, Alloc
     })
 }
 
+/// What a machine tells that stands at a state of a problem.
+fn told_in(alloc: Global, problem: &Problem, state: &State) -> Result<Told, Fail> {
+    let table = PlainTable::new(alloc, problem)?;
+    match Machine::at(alloc, problem, table, state) {
+        Ok(machine) => Ok(all_told(alloc, &machine)?),
+        Err(_) => Err(Fail::from("no machine")),
+    }
+}
+
 /// What a machine tells that stands at a state of the text's problem.
 fn told_at(alloc: Global, text: &str, state: &State) -> Result<Told, Fail> {
     let problem = read_cover(alloc, text.as_bytes())?;
-    let table = PlainTable::new(alloc, &problem)?;
-    let machine = Machine::at(alloc, &problem, table, state).map_err(|refused| refused.fault)?;
-    Ok(all_told(alloc, &machine)?)
+    told_in(alloc, &problem, state)
 }
 
 fn state_of(
@@ -184,12 +188,23 @@ const STATES: [(Label, &[u32], Cursor, Option<u8>); 8] = [
     ),
 ];
 
+/// Whether the state of a row is taken or refused as it tells.
+fn is_taken_so(
+    alloc: Global,
+    problem: &Problem,
+    row: &(Label, &[u32], Cursor, Option<u8>),
+) -> Result<bool, Fail> {
+    let (label, path, cursor, number) = *row;
+    let state = state_of(alloc, label, path, cursor)?;
+    Ok(refused_at(alloc, problem, &state)? == number)
+}
+
 #[test]
 fn states_of_the_search_are_taken(rt: HostRuntime) -> Result<(), Fail> {
-    let problem = read_cover(rt.alloc(), SMALL.as_bytes())?;
-    for (label, path, cursor, number) in STATES {
-        let state = state_of(rt.alloc(), label, path, cursor)?;
-        assert!(rt; refused_at(rt.alloc(), &problem, &state)? == number);
+    let alloc = rt.alloc();
+    let problem = read_cover(alloc, SMALL.as_bytes())?;
+    for row in &STATES {
+        assert!(rt; is_taken_so(alloc, &problem, row)?);
     }
     Ok(())
 }

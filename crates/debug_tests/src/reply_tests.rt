@@ -1,9 +1,14 @@
 //! Replies and their texts, worked out by hand.
 ghost use Rattle.std.specs.Prelude.{◌≤◌, length};
 
-use super::*;
-use crate::line_tests::SMALL;
 use cover_problem::{Problem, read_cover};
+use debug_texts::{
+    Counted, DebugFault, Layer, Listed, Plain, Standing, write_at, write_branch, write_counted,
+    write_covered, write_debug_fault, write_levels, write_list, write_lists, write_met,
+    write_plain, write_refused, write_runner_fault, write_saved, write_set, write_snapshot_fault,
+    write_standing, write_untried, write_visit, write_visits,
+};
+use drawn_problems::SMALL;
 use std::alloc::{AllocError, Global};
 use x_branches::RunnerFault;
 use x_snapshot::{Break, SnapshotFault};
@@ -197,7 +202,7 @@ fn write_rows(text: &mut Vec<u8>, problem: &Problem) -> Result<(), AllocError>
 
 /// Whether lines that name items are written as their text.
 fn are_named(alloc: Global) -> bool {
-    let Ok(problem) = read_cover(alloc, SMALL) else {
+    let Ok(problem) = read_cover(alloc, SMALL.as_bytes()) else {
         return false;
     };
     if problem.items() < 7 || problem.options() < 6 {

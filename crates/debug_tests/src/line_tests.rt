@@ -1,13 +1,10 @@
 //! Command lines and what they are read as, worked out by hand.
 
-use super::*;
 use cover_problem::{Problem, read_cover};
+use debug_texts::{EngineCommand, read_command, read_engine_command};
+use drawn_problems::SMALL;
 use std::alloc::{AllocError, Global};
 use text_lines::Refusal;
-
-/// The small problem: seven items, six options.
-pub const SMALL: &[u8] =
-    b"items a b c d e f g\noption c e\noption a d g\noption b c f\noption a d f\noption b g\noption d e g";
 
 /// Command lines over the small problem, each with the command that it is, or with the fault.
 const LINES: [(&[u8], &str); 86] = [
@@ -170,7 +167,7 @@ fn wrong_engine_line() -> Option<usize> {
 
 /// Whether each line is read as its command.
 fn are_read(alloc: Global) -> bool {
-    match read_cover(alloc, SMALL) {
+    match read_cover(alloc, SMALL.as_bytes()) {
         Ok(problem) => wrong_line(alloc, &problem).is_none(),
         Err(_) => false,
     }

@@ -1,109 +1,18 @@
-//! Worlds of the small problem, row by row, and drawn lists of events on drawn problems.
-ghost use Rattle.std.specs.Prelude.{◌<◌, ◌↔◌, All, IsTrue};
+//! Worlds of the small problem, row by row.
 
-use crate::{Act, World, WorldEvent, WorldReply};
+use crate::setting::{Do, add, play, visits_of};
 use cover_problem::{PlainTable, Problem, read_cover};
+use drawn_problems::SMALL;
 use lab_book::{Book, Reply, Tile};
+use lab_world::{World, WorldReply};
 use std::alloc::{AllocError, Global};
 use std::test::Fail;
 use x_branches::RunnerFault;
-use x_steps::{Cursor, Event, Label, Paths, State};
+use x_steps::{Event, Label};
 
-/// The small problem: its run has 43 steps, the cut 4 stands after 20, and X2 below 4 5 1 after 29.
-const SMALL: &str =
-    "items a b c d e f g\noption c e\noption a d g\noption b c f\noption a d f\noption b g\noption d e g";
-
-/// What a worker does; a tile is put back to a step without choices.
-#[derive(Clone, Copy)]
-pub enum Do {
-    Step,
-    Back,
-    Lease(u64),
-    LeaseAny,
-    TakeHeld(u64),
-    Post,
-    Split(usize, u32),
-    Retract,
-    Park,
-    Abandon,
-    Close,
-    PutBack(u64, Label),
-    RequestStop(u64),
-}
-
-/// What a worker does, how often, and what it is answered each time; the number of the book's refusal, or 0; and how many steps are
-/// posted then.
+/// What a worker does, how often, and what it is answered each time; the number of the book's refusal, or 0;
+/// and how many steps are posted then.
 type Row = (u8, Do, u32, WorldReply, u8, u128);
-
-/// The act of going back.
-fn put_back(alloc: Global, id: u64, label: Label) -> Act {
-    let state = State {
-        label,
-        path: Vec::new(alloc),
-        cursor: Cursor::None,
-    };
-    Act::PutBack { id, state }
-}
-
-/// The act.
-fn act_of(alloc: Global, todo: Do) -> Act {
-    match todo {
-        Do::Step => Act::Step,
-        Do::Back => Act::Back,
-        Do::Lease(id) => Act::Lease(id),
-        Do::LeaseAny => Act::LeaseAny,
-        Do::TakeHeld(id) => Act::TakeHeld(id),
-        Do::Post => Act::Post,
-        Do::Split(level, option) => Act::Split { level, option },
-        Do::Retract => Act::Retract,
-        Do::Park => Act::Park,
-        Do::Abandon => Act::Abandon,
-        Do::Close => Act::Close,
-        Do::PutBack(id, label) => put_back(alloc, id, label),
-        Do::RequestStop(id) => Act::RequestStop(id),
-    }
-}
-
-/// Adds so many events of a worker.
-pub fn add(
-    alloc: Global,
-    events: &mut Vec<WorldEvent>,
-    worker: u8,
-    todo: Do,
-    times: u32,
-) -> Result<(), AllocError> {
-    for _ in 0..times {
-        let act = act_of(alloc, todo);
-        events.push(WorldEvent { worker, act })?;
-    }
-    Ok(())
-}
-
-/// Whether the worker of each event is one of so many.
-fn have_workers(events: &[WorldEvent], workers: u8) -> bool
-    ensures { IsTrue result ↔ All (λ (e : WorldEvent). e.worker < workers) events.now }
-{
-    events.iter().all(|event| event.worker < workers)
-}
-
-/// What was made, or that it was refused.
-fn made<V: Drop, F: Drop>(made: Result<V, F>) -> Result<V, Fail> {
-    match made {
-        Ok(value) => Ok(value),
-        Err(_) => Err(Fail::from("refused")),
-    }
-}
-
-/// The replies to events of workers that there are.
-pub fn play(
-    world: &mut World<'_, PlainTable>,
-    events: &[WorldEvent],
-) -> Result<Vec<WorldReply>, Fail> {
-    if !have_workers(events, world.workers()) {
-        return Err(Fail::from("no such worker"));
-    }
-    made(world.play(events))
-}
 
 /// Whether all of so many replies are this one.
 fn are_all(replies: &[WorldReply], times: u32, right: WorldReply) -> bool {
@@ -181,23 +90,14 @@ fn shown(alloc: Global, rows: &[Row]) -> Result<(usize, Tally), Fail> {
     seen_anew(alloc, &problem, rows)
 }
 
-/// What was posted to a book: its visits with a 0 after each, how many X2 states at each level, each stretch by its steps and its levels,
-/// and whether all tiles are closed.
+/// What was posted to a book: its visits with a 0 after each, how many X2 states at each level, each stretch
+/// by its steps and its levels, and whether all tiles are closed.
 #[derive(Drop)]
 struct Tally {
     visits: Vec<u32>,
     levels: Vec<u128>,
     parts: Vec<u32>,
     all: bool,
-}
-
-/// Adds the paths, with a 0 after each.
-fn add_paths(visits: &mut Vec<u32>, paths: &Paths) -> Result<(), AllocError> {
-    for place in 0..paths.len() {
-        visits.extend_from_slice(paths.path(place))?;
-        visits.push(0)?;
-    }
-    Ok(())
 }
 
 /// Adds the stretches of a tile.
@@ -216,13 +116,6 @@ fn parts_of(alloc: Global, book: &Book<'_>) -> Result<Vec<u32>, AllocError> {
         add_parts(&mut parts, tile)?;
     }
     Ok(parts)
-}
-
-/// The visits of what was posted to a book, with a 0 after each.
-pub fn visits_of(alloc: Global, book: &Book<'_>) -> Result<Vec<u32>, AllocError> {
-    let mut visits = Vec::new(alloc);
-    add_paths(&mut visits, &book.visits()?)?;
-    Ok(visits)
 }
 
 /// What was posted to a book.

@@ -1,47 +1,10 @@
 //! Problems drawn by a seed, walked to the end and back, and searched by trying every set of options.
-use crate::tests::there_and_back;
+use crate::machine_tests::there_and_back;
 use crate::walk_tests::walks_as_steps;
-use cover_problem::read_cover;
+use cover_problem::{Problem, read_cover};
+use drawn_problems::{bit, drawn_options, text_of};
 use std::alloc::{AllocError, Global};
 use std::test::Fail;
-
-/// The next number that is drawn, below 2^31.
-fn draw(seed: &mut u64) -> u32 {
-    *seed = seed
-        .wrapping_mul(6_364_136_223_846_793_005)
-        .wrapping_add(1_442_695_040_888_963_407);
-    (*seed >> 33) as u32
-}
-
-/// Up to eight options of up to five items, each given by its items' bits.
-fn drawn_options(alloc: Global, seed: &mut u64) -> Result<Vec<u32>, AllocError> {
-    let mut masks = Vec::new(alloc);
-    for _ in 0..draw(seed) % 9 {
-        masks.push(draw(seed) % 31 + 1)?;
-    }
-    Ok(masks)
-}
-
-/// The text of the problem of the items a to e, of which so many are primary.
-fn text_of(alloc: Global, primary: u32, masks: &[u32]) -> Result<String, AllocError> {
-    let mut text = String::new(alloc);
-    text.push_str("items")?;
-    for (index, name) in [" a", " b", " c", " d", " e"].iter().enumerate() {
-        if index == primary as usize {
-            text.push_str("\nmaybe")?;
-        }
-        text.push_str(name)?;
-    }
-    for mask in masks {
-        text.push_str("\noption")?;
-        for (index, name) in [" a", " b", " c", " d", " e"].iter().enumerate() {
-            if mask.wrapping_shr(index as u32) % 2 == 1 {
-                text.push_str(name)?;
-            }
-        }
-    }
-    Ok(text)
-}
 
 /// Whether the options of these bits have each primary item once, no item twice, and a primary item each.
 fn is_cover(masks: &[u32], primary: u32, set: u32) -> bool {
@@ -86,17 +49,26 @@ fn sets_of(alloc: Global, visits: &[u32]) -> Result<Vec<u32>, AllocError> {
     Ok(sets)
 }
 
-/// Whether the visits of a drawn problem are its covers, its last step was told, each step was taken back, and walks are that
-/// many steps.
-fn is_right(alloc: Global, primary: u32, masks: &[u32]) -> Result<bool, Fail> {
-    let text = text_of(alloc, primary, masks)?;
-    let problem = read_cover(alloc, text.as_bytes())?;
-    let trip = there_and_back(alloc, &problem)?;
-    let bits = 1u32.wrapping_shl(primary).wrapping_sub(1);
-    let covers = covers(alloc, masks, bits)?;
-    let walks = walks_as_steps(alloc, &problem, 7)?;
+/// Whether the visits of a drawn problem are its covers, its last step was told, each step was taken back,
+/// and walks are that many steps.
+fn is_run_right(
+    alloc: Global,
+    problem: &Problem,
+    primary: u32,
+    masks: &[u32],
+) -> Result<bool, Fail> {
+    let trip = there_and_back(alloc, problem)?;
+    let covers = covers(alloc, masks, bit(primary).wrapping_sub(1))?;
+    let walks = walks_as_steps(alloc, problem, 7)?;
     let is_whole = trip.is_finished && trip.is_undone;
     Ok(walks && is_whole && sets_of(alloc, &trip.visits)? == covers)
+}
+
+/// The same of the problem with these options, of which so many items are primary.
+fn is_right(alloc: Global, primary: u32, masks: &[u32]) -> Result<bool, Fail> {
+    let text = text_of(alloc, 5, primary, masks)?;
+    let problem = read_cover(alloc, text.as_bytes())?;
+    is_run_right(alloc, &problem, primary, masks)
 }
 
 #[test]

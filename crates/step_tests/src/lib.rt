@@ -1,0 +1,12 @@
+//! Tests of `x_steps`: the worked example, each refusal, and drawn problems, alone and side by side over both
+//! tables.
+#![tactic(auto)]
+
+#[cfg(test)]
+mod drawn_tests;
+#[cfg(test)]
+mod lockstep_tests;
+#[cfg(test)]
+mod machine_tests;
+#[cfg(test)]
+mod walk_tests;

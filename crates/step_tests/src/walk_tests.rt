@@ -1,0 +1,148 @@
+//! Walks of many steps beside single steps.
+use cover_problem::{PlainTable, Problem, Table, read_cover};
+use drawn_problems::SMALL;
+use std::alloc::{AllocError, Global};
+use std::test::Fail;
+use x_steps::{Event, Machine, StepFault, Walk, no_counts};
+
+/// A machine at the first step.
+fn machine_of<'p>(alloc: Global, problem: &'p Problem) -> Result<Machine<'p, PlainTable>, Fail> {
+    let table = PlainTable::new(alloc, problem)?;
+    Ok(Machine::new(alloc, problem, table).map_err(|_| "out of memory")?)
+}
+
+/// What a walk did, and the X2 states at each level on its way; nothing at Done.
+fn walk_on<T: Table>(
+    alloc: Global,
+    machine: &mut Machine<T>,
+    most: u32,
+    end: &[u32],
+) -> Result<Option<(Walk, Vec<u32>)>, AllocError> {
+    let mut counts = no_counts(alloc, machine.problem().items())?;
+    match machine.walk(most, end, &mut counts) {
+        Ok(walk) => Ok(Some((walk, counts))),
+        Err(_) => Ok(None),
+    }
+}
+
+/// How many steps are allowed and where to stop; how many are taken, what the last of them tells, and the X2
+/// states at each level.
+type Row = (u32, &'static [u32], u32, Event, [u32; 8]);
+
+const WALKS: [Row; 5] = [
+    (100, &[], 30, Event::Visited, [1, 2, 2, 1, 0, 0, 0, 0]),
+    (100, &[4], 20, Event::Moved, [1, 1, 1, 0, 0, 0, 0, 0]),
+    (100, &[3, 3], 30, Event::Visited, [1, 2, 2, 1, 0, 0, 0, 0]),
+    (30, &[], 30, Event::Visited, [1, 2, 2, 1, 0, 0, 0, 0]),
+    (2, &[], 2, Event::Moved, [1, 0, 0, 0, 0, 0, 0, 0]),
+];
+
+/// Whether a machine walks as a row tells.
+fn walks_so<T: Table>(
+    alloc: Global,
+    machine: &mut Machine<T>,
+    row: &Row,
+) -> Result<bool, AllocError> {
+    let (most, end, steps, event, levels) = *row;
+    match walk_on(alloc, machine, most, end)? {
+        Some((walk, counts)) => {
+            Ok(walk == Walk { steps, event } && counts.as_slice() == levels.as_slice())
+        }
+        None => Ok(false),
+    }
+}
+
+/// Whether the first walk in a problem's run is as a row tells.
+fn begins_so(alloc: Global, problem: &Problem, row: &Row) -> Result<bool, Fail> {
+    let mut machine = machine_of(alloc, problem)?;
+    Ok(walks_so(alloc, &mut machine, row)?)
+}
+
+#[test]
+fn a_walk_stops_where_it_should(rt: HostRuntime) -> Result<(), Fail> {
+    let alloc = rt.alloc();
+    let problem = read_cover(alloc, SMALL.as_bytes())?;
+    for row in &WALKS {
+        assert!(rt; begins_so(alloc, &problem, row)?);
+    }
+    Ok(())
+}
+
+/// Whether the next walk of a machine has so many steps, and its last one tells this.
+fn goes_on_so<T: Table>(
+    alloc: Global,
+    machine: &mut Machine<T>,
+    steps: u32,
+    event: Event,
+) -> Result<bool, AllocError> {
+    match walk_on(alloc, machine, 100, &[])? {
+        Some((walk, _)) => Ok(walk == Walk { steps, event }),
+        None => Ok(false),
+    }
+}
+
+/// Whether a machine walks to the small problem's visit and on to the end; and whether it then goes no
+/// further.
+fn goes_on<T: Table>(alloc: Global, machine: &mut Machine<T>) -> Result<(bool, bool), AllocError> {
+    for (steps, event) in [(30, Event::Visited), (13, Event::Finished)] {
+        if !goes_on_so(alloc, machine, steps, event)? {
+            return Ok((false, false));
+        }
+    }
+    Ok((true, walk_on(alloc, machine, 100, &[])?.is_none()))
+}
+
+/// The same of a new machine.
+fn goes_on_anew(alloc: Global, problem: &Problem) -> Result<(bool, bool), Fail> {
+    let mut machine = machine_of(alloc, problem)?;
+    Ok(goes_on(alloc, &mut machine)?)
+}
+
+#[test]
+fn a_walk_goes_on_after_a_visit(rt: HostRuntime) -> Result<(), Fail> {
+    let alloc = rt.alloc();
+    let problem = read_cover(alloc, SMALL.as_bytes())?;
+    let (goes_on, is_over) = goes_on_anew(alloc, &problem)?;
+    assert!(rt; goes_on);
+    assert!(rt; is_over);
+    Ok(())
+}
+
+/// Whether as many single steps come to the same state, and the last of them tells the same.
+fn is_same_walk<T: Table>(machine: &Machine<T>, stepper: &mut Machine<T>, walk: Walk) -> bool {
+    let mut event = Event::Moved;
+    for _ in 0..walk.steps {
+        match stepper.step() {
+            Ok(told) => event = told,
+            Err(_) => return false,
+        }
+    }
+    event == walk.event && stepper.state().same(machine.state())
+}
+
+/// Whether one machine walks so many steps at a time as another takes single ones, to the end.
+fn walk_as_steps<T: Table>(
+    alloc: Global,
+    machine: &mut Machine<T>,
+    stepper: &mut Machine<T>,
+    most: u32,
+) -> Result<bool, AllocError> {
+    for _ in 0..100_000 {
+        match walk_on(alloc, machine, most, &[])? {
+            None => return Ok(stepper.step() == Err(StepFault::Done)),
+            Some((walk, _)) => {
+                if !is_same_walk(machine, stepper, walk) {
+                    return Ok(false);
+                }
+            }
+        }
+    }
+    Ok(false)
+}
+
+/// Whether a problem's run is the same by walks of so many steps as by single ones.
+pub fn walks_as_steps(alloc: Global, problem: &Problem, most: u32) -> Result<bool, Fail> {
+    let mut machine = machine_of(alloc, problem)?;
+    let mut stepper = machine_of(alloc, problem)?;
+    Ok(walk_as_steps(alloc, &mut machine, &mut stepper, most)?)
+}

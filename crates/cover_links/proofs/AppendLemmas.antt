@@ -14,6 +14,7 @@ use Rattle.cover_links.proofs.EntryLemmas.{length-changed, kept, at_changed, at_
 use Rattle.cover_links.proofs.RestoreLemmas.{vertical, length-joined, joined_next, joined_next_other, joined_prev, joined_prev_other, joined_kept}
 use Rattle.cover_links.proofs.RingLemmas.{without_ne, without_from, last_to_head, count_without}
 use Rattle.cover_links.proofs.LayoutLemmas.{IsNode, place_high, place_low, place_apart}
+use Rattle.cover_links.proofs.BuildLemmas.{place_between}
 use Rattle.cover_links.proofs.HidingLemmas.{down_at, up_at, left_at, right_at, top_at, few}
 use Rattle.cover_links.proofs.Covered.{same_test}
 
@@ -24,8 +25,8 @@ pub record Grows (p : ProblemValue) (shown : ℕ → ℕ → Bool) (active : ℕ
   pub rings : (j : ℕ) → 0 < j → j ≤ length p.names → IsRing (shown j) (node_index p j) (down_at es) (up_at es)
   pub counts : (j : ℕ) → 0 < j → j ≤ length p.names → top_at es j ≡ length (filter (shown j) (numbers (length p.options) 1))
   pub tops : (j k : ℕ) → shown j k ≡ true → top_at es (node_index p j k) ≡ j
-  pub lefts : (j k : ℕ) → shown j k ≡ true → left_at es (node_index p j k) ≡ start_of p (k - 1)
-  pub rights : (j k : ℕ) → shown j k ≡ true → right_at es (node_index p j k) ≡ spacer_of p k
+  pub starts : (j k : ℕ) → shown j k ≡ true → start_of p (k - 1) + left_at es (node_index p j k) ≡ node_index p j k
+  pub ends : (j k : ℕ) → shown j k ≡ true → node_index p j k + right_at es (node_index p j k) ≡ spacer_of p k
   pub row : IsRing active (λ i. i) (right_at es) (left_at es)
   pub aside : (i : ℕ) → p.primary < i → i ≤ length p.names → (right_at es i ≡ i) × (left_at es i ≡ i)
   pub actives : (i : ℕ) → active i ≡ true → (0 < i) × (i ≤ p.primary)
@@ -76,6 +77,9 @@ module _ (p : ProblemValue) (active : ℕ → Bool) (problem : IsProblem p) (t t
   abbrev r : ℕ
   r = spacer_of p k
 
+  between : (l ≤ x) × (x < r) × (r < l + 2 ^ 16)
+  between = place_between p j k problem node
+
   within : (z : ℕ) → t j z ≡ true → (0 < z) × (z ≤ length p.options)
   within z h = let n = g.shown_are j z h in (n.some, n.within)
 
@@ -124,13 +128,13 @@ module _ (p : ProblemValue) (active : ℕ → Bool) (problem : IsProblem p) (t t
   fs = node_written es x j l r
 
   fs_length : length fs ≡ length es
-  fs_length = length-set es x (record { top = j; up = (entry_at es j).up; down = j; left = l; right = r })
+  fs_length = length-set es x (record { top = j; up = (entry_at es j).up; down = j; left = x - l; right = r - x })
 
-  fs_here : entry_at fs x ≡ record { top = j; up = (entry_at es j).up; down = j; left = l; right = r }
-  fs_here = at_set es x (record { top = j; up = (entry_at es j).up; down = j; left = l; right = r }) x_low
+  fs_here : entry_at fs x ≡ record { top = j; up = (entry_at es j).up; down = j; left = x - l; right = r - x }
+  fs_here = at_set es x (record { top = j; up = (entry_at es j).up; down = j; left = x - l; right = r - x }) x_low
 
   fs_other : (y : ℕ) → (y ≡ x → ⊥) → entry_at fs y ≡ entry_at es y
-  fs_other y ne = set_other es x y (record { top = j; up = (entry_at es j).up; down = j; left = l; right = r }) ne
+  fs_other y ne = set_other es x y (record { top = j; up = (entry_at es j).up; down = j; left = x - l; right = r - x }) ne
 
   j_apart : j ≡ x → ⊥
   j_apart h = let w = x_high in absurd (omega arith)
@@ -301,8 +305,12 @@ module _ (p : ProblemValue) (active : ℕ → Bool) (problem : IsProblem p) (t t
     rings = λ i b d. ring_of i b d (cases_eq i j);
     counts = λ i b d. count_of i b d (cases_eq i j);
     tops = each (λ i m. top_at ks (node_index p i m) ≡ i) (ks_top x (λ e. j_apart (sym e)) ∙ ap (λ (e : Entry). e.top) fs_here) (λ i m s. old_plain (λ e. e.top) ks_top i m s ∙ g.tops i m s);
-    lefts = each (λ i m. left_at ks (node_index p i m) ≡ start_of p (m - 1)) (ks_left x ∙ ap (λ (e : Entry). e.left) fs_here) (λ i m s. old_plain (λ e. e.left) (λ y ne. ks_left y) i m s ∙ g.lefts i m s);
-    rights = each (λ i m. right_at ks (node_index p i m) ≡ spacer_of p m) (ks_right x ∙ ap (λ (e : Entry). e.right) fs_here) (λ i m s. old_plain (λ e. e.right) (λ y ne. ks_right y) i m s ∙ g.rights i m s);
+    starts = each (λ i m. start_of p (m - 1) + left_at ks (node_index p i m) ≡ node_index p i m)
+        (let d = ks_left x ∙ ap (λ (e : Entry). e.left) fs_here in let b = between.0 in omega arith)
+        (λ i m s. ap (λ d. start_of p (m - 1) + d) (old_plain (λ e. e.left) (λ y ne. ks_left y) i m s) ∙ g.starts i m s);
+    ends = each (λ i m. node_index p i m + right_at ks (node_index p i m) ≡ spacer_of p m)
+        (let d = ks_right x ∙ ap (λ (e : Entry). e.right) fs_here in let b = between.1 in omega arith)
+        (λ i m s. ap (λ d. node_index p i m + d) (old_plain (λ e. e.right) (λ y ne. ks_right y) i m s) ∙ g.ends i m s);
     row = λ m y f. let q = g.row m y f in (row_right m (row_low f.from) ∙ q.0, row_left y (row_low (row_target m y f.to)) ∙ q.1);
     aside = λ i b d. let q = g.aside i b d in (row_right i d ∙ q.0, row_left i d ∙ q.1);
     actives = g.actives;
@@ -350,6 +358,9 @@ module _ (p : ProblemValue) (active : ℕ → Bool) (problem : IsProblem p) (t t
       record {
         here = x_low;
         item = j_low;
+        from = between.0;
+        to = between.1;
+        short = between.2;
         into = record {
           here = here;
           item = subst (λ n. n < length fs) (sym top) head;

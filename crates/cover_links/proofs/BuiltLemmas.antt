@@ -118,8 +118,8 @@ module _ (p : ProblemValue) (problem : IsProblem p) where
       rings = empty_ring;
       counts = λ j a b. ap (λ (w : Entry). w.top) (head j a b) ∙ sym (ap length (no_members j (length p.options) 1));
       tops = λ j k h. absurd (none j k h);
-      lefts = λ j k h. absurd (none j k h);
-      rights = λ j k h. absurd (none j k h);
+      starts = λ j k h. absurd (none j k h);
+      ends = λ j k h. absurd (none j k h);
       row = full_row;
       aside = λ i a b.
           let f : nat_lt p.primary i ≡ true = lt-ltb p.primary i a in
@@ -159,8 +159,8 @@ module _ (p : ProblemValue) (problem : IsProblem p) where
         rings = g.rings;
         counts = g.counts;
         tops = λ j k n. g.tops j k (every_node j k n);
-        lefts = λ j k n. g.lefts j k (every_node j k n);
-        rights = λ j k n. g.rights j k (every_node j k n);
+        starts = λ j k n. g.starts j k (every_node j k n);
+        ends = λ j k n. g.ends j k (every_node j k n);
         spacers = d.spacers;
         row = g.row;
         aside = g.aside;

@@ -1,5 +1,5 @@
 -- Covering an item: it stays in the block, gives a block that stands for one item more, and is undone by uncovering the item.
-use Rattle.std.proofs.Common.{◌≡◌, ℕ, ◌+◌, ◌<◌, ◌≤◌, ◌⊎◌, inl, inr, Bool, true, false, unwrap_or, List, [], ◌∷◌, ◌++◌, length, filter, refl, sym, ap, ◌∙◌, subst, arith}
+use Rattle.std.proofs.Common.{◌≡◌, ℕ, ◌+◌, ◌-◌, ◌<◌, ◌≤◌, ◌⊎◌, inl, inr, Bool, true, false, unwrap_or, List, [], ◌∷◌, ◌++◌, length, filter, refl, sym, ap, ◌∙◌, subst, arith}
 use Rattle.std.proofs.lemmas.Bool.{cases_eq, cases_lt}
 use Rattle.cover_problem.specs.Lists.{has, numbers, above, below}
 use Rattle.cover_problem.specs.Problem.{ProblemValue, IsProblem}
@@ -11,11 +11,12 @@ use Rattle.cover_links.specs.Entries.{item_unlinked, item_relinked, IsItemLinked
 use Rattle.cover_links.specs.Hiding.{list_hidden, list_unhidden, options_hidden, item_covered, item_uncovered}
 use Rattle.cover_links.specs.Safety.{CanHideList, CanUnhideList, IsItemInside, CanCoverItem, CanUncoverItem}
 use Rattle.cover_links.specs.Ring.{Follows, IsRing}
-use Rattle.cover_links.specs.Layout.{node_index, spacer_of}
+use Rattle.cover_links.specs.Layout.{node_index, spacer_of, start_of}
 use Rattle.cover_links.proofs.EntryLemmas.{length-item_unlinked}
 use Rattle.cover_links.proofs.RestoreLemmas.{item_unlinked_leaves, item_unlinked_kept, row_back}
 use Rattle.cover_links.proofs.RingLemmas.{Leaves, leaves_next, leaves_prev, ring_without, next_is, prev_is, next_member}
 use Rattle.cover_links.proofs.LayoutLemmas.{IsNode, place_high}
+use Rattle.cover_links.proofs.BuildLemmas.{few_items}
 use Rattle.cover_links.proofs.HidingLemmas.{Stands, down_at, up_at, left_at, right_at, top_at}
 use Rattle.cover_links.proofs.ListWalk.{first_of, last_from, IsChain, chain_from, chain_next, chain_last, list_gone, ListDone, list_done, list_column, list_stays, list_was}
 use Rattle.cover_links.proofs.Covered.{shown_of, active_of, active_is, active_when, same_test, rises_distinct, same_column, all_shown, still_shown, was_shown, active_aside, active_without}
@@ -106,8 +107,8 @@ module _ (p : ProblemValue) (c : List ℕ) (i : ℕ) (shown : ℕ → ℕ → Bo
         rings = λ j a b x y f. let q = s.rings j a b x y f in (downs (node_index p j x) ∙ q.0, ups (node_index p j y) ∙ q.1);
         counts = λ j a b. tops j ∙ s.counts j a b;
         tops = λ j k n. tops (node_index p j k) ∙ s.tops j k n;
-        lefts = λ j k n. (r.far (node_index p j k) (let h = place_high p j k n in omega arith)).1 ∙ s.lefts j k n;
-        rights = λ j k n. (r.far (node_index p j k) (let h = place_high p j k n in omega arith)).0 ∙ s.rights j k n;
+        starts = λ j k n. ap (λ d. start_of p (k - 1) + d) (r.far (node_index p j k) (let h = place_high p j k n in omega arith)).1 ∙ s.starts j k n;
+        ends = λ j k n. ap (λ d. node_index p j k + d) (r.far (node_index p j k) (let h = place_high p j k n in omega arith)).0 ∙ s.ends j k n;
         spacers = λ k a b. tops (spacer_of p k) ∙ s.spacers k a b;
         row = r.ring;
         aside = λ x a b. (let f = r.far x a in let q = s.aside x a b in (f.0 ∙ q.0, f.1 ∙ q.1));
@@ -229,6 +230,7 @@ module _ (p : ProblemValue) (c : List ℕ) (i : ℕ) (es : List Entry) (problem 
 
   back_can : CanUncoverItem (item_unlinked fs i) i
   back_can = record {
+    small = (let w = u.within in let f = few_items p problem in omega arith);
     row = record {
       here = subst (λ n. i < n) (sym (length-item_unlinked fs i)) (here (shown_of p (c ++ i ∷ [])) (active_of p c) fs fs_stands);
       before = subst (λ n. n < length (item_unlinked fs i)) (sym (leaves_prev (item_unlinked_leaves fs i row.linked))) (subst (λ n. left_at fs i < n) (sym (length-item_unlinked fs i)) (row.linked).before);

@@ -48,8 +48,8 @@ pub record Stands (p : ProblemValue) (shown : ℕ → ℕ → Bool) (active : �
   pub rings : (j : ℕ) → 0 < j → j ≤ length p.names → IsRing (shown j) (node_index p j) (down_at es) (up_at es)
   pub counts : (j : ℕ) → 0 < j → j ≤ length p.names → top_at es j ≡ length (filter (shown j) (numbers (length p.options) 1))
   pub tops : (j k : ℕ) → IsNode p j k → top_at es (node_index p j k) ≡ j
-  pub lefts : (j k : ℕ) → IsNode p j k → left_at es (node_index p j k) ≡ start_of p (k - 1)
-  pub rights : (j k : ℕ) → IsNode p j k → right_at es (node_index p j k) ≡ spacer_of p k
+  pub starts : (j k : ℕ) → IsNode p j k → start_of p (k - 1) + left_at es (node_index p j k) ≡ node_index p j k
+  pub ends : (j k : ℕ) → IsNode p j k → node_index p j k + right_at es (node_index p j k) ≡ spacer_of p k
   pub spacers : (k : ℕ) → 0 < k → k ≤ length p.options → top_at es (spacer_of p k) ≡ k
   pub row : IsRing active (λ i. i) (right_at es) (left_at es)
   pub aside : (i : ℕ) → p.primary < i → i ≤ length p.names → (right_at es i ≡ i) × (left_at es i ≡ i)
@@ -205,8 +205,8 @@ module _ (p : ProblemValue) (shown : ℕ → ℕ → Bool) (active : ℕ → Boo
       rings = λ i a b. other_ring i a b (cases_eq i j);
       counts = λ i a b. other_count i a b (cases_eq i j);
       tops = λ i m n. gone_top (node_index p i m) (λ g. let z = place_high p i m n in absurd (omega arith)) ∙ s.tops i m n;
-      lefts = λ i m n. gone_left (node_index p i m) ∙ s.lefts i m n;
-      rights = λ i m n. gone_right (node_index p i m) ∙ s.rights i m n;
+      starts = λ i m n. ap (λ d. start_of p (m - 1) + d) (gone_left (node_index p i m)) ∙ s.starts i m n;
+      ends = λ i m n. ap (λ d. node_index p i m + d) (gone_right (node_index p i m)) ∙ s.ends i m n;
       spacers = λ m a b. gone_top (spacer_of p m) (λ g. let z = spacer_low p m a b in absurd (omega arith)) ∙ s.spacers m a b;
       row = λ x y f. let r = s.row x y f in (gone_right x ∙ r.0, gone_left y ∙ r.1);
       aside = λ i a b. let r = s.aside i a b in (gone_right i ∙ r.0, gone_left i ∙ r.1);

@@ -76,9 +76,9 @@ adds p n xs j fresh = record {
 
 -- ---- the nodes of an option
 
-pub record NodesDone (p : ProblemValue) (shown : ℕ → ℕ → Bool) (active : ℕ → Bool) (es fs : List Entry) (x left right : ℕ) (js : List ℕ) : Type 0 where
+pub record NodesDone (p : ProblemValue) (shown : ℕ → ℕ → Bool) (active : ℕ → Bool) (es fs : List Entry) (x start end : ℕ) (js : List ℕ) : Type 0 where
   pub grows : Grows p shown active fs
-  pub can : CanAppendNodes es x left right js
+  pub can : CanAppendNodes es x start end js
   pub keeps : (y : ℕ) → length p.names < y → (y < x) ⊎ (x + length js ≤ y) → top_at fs y ≡ top_at es y
 
 nodes_done : (p : ProblemValue) (active : ℕ → Bool) (n : ℕ) → IsProblem p → n < length p.options → (js xs : List ℕ) (es : List Entry) (x : ℕ) → option_at p (suc n) ≡ xs ++ js → Grows p (upto p n xs) active es → IsRun p (suc n) x js
@@ -175,8 +175,8 @@ grows_aside p shown active es fs z problem g long high apart same =
       rings = λ j a b x y f. let q = g.rings j a b x y f in (ap (λ (e : Entry). e.down) (member j b x f.from) ∙ q.0, ap (λ (e : Entry). e.up) (member j b y (next_member (shown j) x y f.to)) ∙ q.1);
       counts = λ j a b. ap (λ (e : Entry). e.top) (head j b) ∙ g.counts j a b;
       tops = λ j k h. ap (λ (e : Entry). e.top) (node j k h) ∙ g.tops j k h;
-      lefts = λ j k h. ap (λ (e : Entry). e.left) (node j k h) ∙ g.lefts j k h;
-      rights = λ j k h. ap (λ (e : Entry). e.right) (node j k h) ∙ g.rights j k h;
+      starts = λ j k h. ap (λ (e : Entry). start_of p (k - 1) + e.left) (node j k h) ∙ g.starts j k h;
+      ends = λ j k h. ap (λ (e : Entry). node_index p j k + e.right) (node j k h) ∙ g.ends j k h;
       row = λ x y f. let q = g.row x y f in (ap (λ (e : Entry). e.right) (head x (low x f.from)) ∙ q.0, ap (λ (e : Entry). e.left) (head y (low y (next_member active x y f.to))) ∙ q.1);
       aside = λ i a b. let q = g.aside i a b in (ap (λ (e : Entry). e.right) (head i b) ∙ q.0, ap (λ (e : Entry). e.left) (head i b) ∙ q.1);
       actives = g.actives;

@@ -1,6 +1,6 @@
 -- Hiding the nodes of a run, the others of an option, and the options of a list: each stays in the block, gives a block that stands
 -- for what is left, and is undone by the way back.
-use Rattle.std.proofs.Common.{◌≡◌, ℕ, suc, ◌+◌, ◌-◌, ◌<◌, ◌≤◌, ◌⊎◌, inl, inr, ◌==◌, Bool, true, false, not, List, [], ◌∷◌, ◌++◌, length, refl, sym, ap, ◌∙◌, subst, arith, length-append}
+use Rattle.std.proofs.Common.{◌≡◌, ℕ, suc, ◌+◌, ◌-◌, ◌<◌, ◌≤◌, ◌^◌, ◌⊎◌, inl, inr, ◌==◌, Bool, true, false, not, List, [], ◌∷◌, ◌++◌, length, refl, sym, ap, ◌∙◌, subst, arith, length-append}
 use Rattle.std.specs.List.{before_first, after_first}
 use Rattle.std.proofs.lemmas.Bool.{and_parts, cases_eq, cases_lt, not-true, both_ways, false≢true}
 use Rattle.cover_problem.specs.Lists.{has, are_distinct}
@@ -9,12 +9,14 @@ use Rattle.cover_problem.proofs.MemberLemmas.{has_cases, has_here, has_later, ha
 use Rattle.cover_problem.proofs.PartLemmas.{parts_are, distinct_parts}
 use Rattle.cover_problem.proofs.ActiveLemmas.{option_is, IsOptionOf}
 use Rattle.cover_links.specs.declared.entry.Entry.{Entry}
+use Rattle.cover_links.specs.Entries.{start_at, end_at}
 use Rattle.cover_links.specs.Hiding.{node_hidden, node_unhidden, run_hidden, run_unhidden, after_hidden, hidden, before_unhidden, unhidden}
 use Rattle.cover_links.specs.Safety.{CanHideNode, CanUnhideNode, CanHideRun, CanUnhideRun, CanHide, CanUnhide}
 use Rattle.cover_links.specs.Layout.{node_index, start_of}
 use Rattle.cover_links.proofs.RingLemmas.{without_stays}
-use Rattle.cover_links.proofs.LayoutLemmas.{IsNode, IsRun, option_run, run_parts, place_low}
-use Rattle.cover_links.proofs.HidingLemmas.{Stands, minus, minus_here, minus_other, minus_was, left_at, right_at, node_stands, node_can, node_back, back_can}
+use Rattle.cover_links.proofs.LayoutLemmas.{IsNode, IsRun, option_run, run_parts, place_low, spacer_low}
+use Rattle.cover_links.proofs.BuildLemmas.{size_small}
+use Rattle.cover_links.proofs.HidingLemmas.{Stands, minus, minus_here, minus_other, minus_was, left_at, node_stands, node_can, node_back, back_can}
 
 -- ---- a run of nodes
 
@@ -208,11 +210,17 @@ module _ (p : ProblemValue) (active : ℕ → Bool) (problem : IsProblem p) (i k
     abbrev all_hidden : List Entry
     all_hidden = run_hidden mid (start_of p k) (length xs)
 
-    left_is : (f : ℕ → ℕ → Bool) (gs : List Entry) → Stands p f active gs → left_at gs q ≡ start_of p k
-    left_is f gs t = let e : suc k - 1 ≡ k = omega arith in t.lefts i (suc k) node_here ∙ ap (start_of p) e
+    begin_is : (f : ℕ → ℕ → Bool) (gs : List Entry) → Stands p f active gs → start_of p k + left_at gs q ≡ q
+    begin_is f gs t = let e : k ≡ suc k - 1 = omega arith in ap (λ n. start_of p n + left_at gs q) e ∙ t.starts i (suc k) node_here
 
-    right_is : (f : ℕ → ℕ → Bool) (gs : List Entry) → Stands p f active gs → right_at gs q ≡ start_of p k + length o
-    right_is f gs t = t.rights i (suc k) node_here
+    start_is : (f : ℕ → ℕ → Bool) (gs : List Entry) → Stands p f active gs → start_at gs q ≡ start_of p k
+    start_is f gs t = let b = begin_is f gs t in omega arith
+
+    end_is : (f : ℕ → ℕ → Bool) (gs : List Entry) → Stands p f active gs → end_at gs q ≡ start_of p k + length o
+    end_is f gs t = t.ends i (suc k) node_here
+
+    end_small : start_of p k + length o < 2 ^ 32
+    end_small = let s = size_small p problem in let b = (spacer_low p (suc k) (omega arith) (omega arith)).1 in omega arith
 
     long : length o ≡ length xs + suc (length ys)
     long = ap length parts ∙ length-append xs (i ∷ ys)
@@ -225,11 +233,11 @@ module _ (p : ProblemValue) (active : ℕ → Bool) (problem : IsProblem p) (i k
 
     after_is : after_hidden es q ≡ mid
     unfolding after_hidden
-    after_is = ap (λ n. run_hidden es (suc q) n) (after_count (right_at es q) (right_is shown es s))
+    after_is = ap (λ n. run_hidden es (suc q) n) (after_count (end_at es q) (end_is shown es s))
 
     hidden_is : hidden es q ≡ all_hidden
     unfolding hidden
-    hidden_is = (λ j. run_hidden (after_is j) (left_is shown es s j) (q - left_is shown es s j)) ∙ ap (λ n. run_hidden mid (start_of p k) n) (before_count (start_of p k) refl)
+    hidden_is = (λ j. run_hidden (after_is j) (start_is shown es s j) (q - start_is shown es s j)) ∙ ap (λ n. run_hidden mid (start_of p k) n) (before_count (start_of p k) refl)
 
     low : (f : ℕ → ℕ → Bool) (gs : List Entry) → Stands p f active gs → q < length gs
     low f gs t = let z = t.size in let l = place_low p i (suc k) node_here in omega arith
@@ -238,33 +246,36 @@ module _ (p : ProblemValue) (active : ℕ → Bool) (problem : IsProblem p) (i k
     before_is : before_unhidden all_hidden q ≡ mid
     unfolding before_unhidden
     before_is =
-        let l = left_is (option_gone p i shown (suc k)) all_hidden two.stands in
-        (λ j. run_unhidden all_hidden (l j) (q - l j)) ∙ ap (λ n. run_unhidden all_hidden (start_of p k) n) (before_count (start_of p k) refl) ∙ two.back
+        let b = start_is (option_gone p i shown (suc k)) all_hidden two.stands in
+        (λ j. run_unhidden all_hidden (b j) (q - b j)) ∙ ap (λ n. run_unhidden all_hidden (start_of p k) n) (before_count (start_of p k) refl) ∙ two.back
 
     back_is : unhidden all_hidden q ≡ es
     unfolding unhidden
     back_is =
-        let r = right_is (option_gone p i shown (suc k)) all_hidden two.stands in
-        (λ j. run_unhidden (before_is j) (suc q) (right_at all_hidden q - suc q)) ∙ ap (λ n. run_unhidden mid (suc q) n) (after_count (right_at all_hidden q) r) ∙ one.back
+        let r = end_is (option_gone p i shown (suc k)) all_hidden two.stands in
+        (λ j. run_unhidden (before_is j) (suc q) (end_at all_hidden q - suc q)) ∙ ap (λ n. run_unhidden mid (suc q) n) (after_count (end_at all_hidden q) r) ∙ one.back
 
     can_hide : CanHide es q
     can_hide = record {
       here = low shown es s;
-      begin = (let l = left_is shown es s in omega arith);
-      end = (let r = right_is shown es s in let l = long in omega arith);
-      after = subst (λ n. CanHideRun es (suc q) n) (sym (after_count (right_at es q) (right_is shown es s))) one.can;
-      before = subst (λ (w : List Entry × ℕ × ℕ). CanHideRun w.0 w.1 w.2) (λ j. (sym after_is j, sym (left_is shown es s) j, sym (before_count (left_at es q) (left_is shown es s)) j)) two.can;
+      begin = (let b = begin_is shown es s in omega arith);
+      end = (let r = end_is shown es s in let l = long in omega arith);
+      word = subst (λ n. n < 2 ^ 32) (sym (end_is shown es s)) end_small;
+      after = subst (λ n. CanHideRun es (suc q) n) (sym (after_count (end_at es q) (end_is shown es s))) one.can;
+      before = subst (λ (w : List Entry × ℕ × ℕ). CanHideRun w.0 w.1 w.2) (λ j. (sym after_is j, sym (start_is shown es s) j, sym (before_count (start_at es q) (start_is shown es s)) j)) two.can;
     }
 
     can_back : CanUnhide all_hidden q
     can_back =
-        let t = two.stands in let l = left_is (option_gone p i shown (suc k)) all_hidden t in let r = right_is (option_gone p i shown (suc k)) all_hidden t in
+        let t = two.stands in let b = begin_is (option_gone p i shown (suc k)) all_hidden t in let l = start_is (option_gone p i shown (suc k)) all_hidden t in
+        let r = end_is (option_gone p i shown (suc k)) all_hidden t in
         record {
           here = low (option_gone p i shown (suc k)) all_hidden t;
           begin = omega arith;
           end = (let n = long in omega arith);
+          word = subst (λ n. n < 2 ^ 32) (sym r) end_small;
           before = subst (λ n. CanUnhideRun all_hidden n q) (sym l) two.back_can;
-          after = subst (λ (w : List Entry × ℕ). CanUnhideRun w.0 (suc q) w.1) (λ j. (sym before_is j, (let n = long in let e : suc q + length ys ≡ right_at all_hidden q = omega arith in e) j)) one.back_can;
+          after = subst (λ (w : List Entry × ℕ). CanUnhideRun w.0 (suc q) w.1) (λ j. (sym before_is j, (let n = long in let e : suc q + length ys ≡ end_at all_hidden q = omega arith in e) j)) one.back_can;
         }
 
     pub hide_done : HideDone p (option_gone p i shown (suc k)) active es q

@@ -14,6 +14,6 @@ hide_run_step es a b lt can =
     let both : CanHideRun es a (suc (b - (a + 1))) = subst (λ n. CanHideRun es a n) one can in
     (both.0, subst (λ k. CanHideRun (node_hidden es a) k (b - (a + 1))) next both.1)
 
-pub length-node_appended : (es : List Entry) (x i left right : ℕ) → length (node_appended es x i left right) ≡ length es
+pub length-node_appended : (es : List Entry) (x i start end : ℕ) → length (node_appended es x i start end) ≡ length es
 unfolding node_appended
-length-node_appended es x i left right = length-node_unhidden (node_written es x i left right) x ∙ length-set es x (record { top = i; up = (entry_at es i).up; down = i; left = left; right = right })
+length-node_appended es x i start end = length-node_unhidden (node_written es x i start end) x ∙ length-set es x (record { top = i; up = (entry_at es i).up; down = i; left = x - start; right = end - x })

@@ -1,5 +1,5 @@
 -- What is read off the links of a table.
-use Rattle.std.proofs.Common.{◌≡◌, ℕ, zero, suc, ◌+◌, ◌-◌, ◌<◌, ◌≤◌, ◌⊎◌, inl, inr, ◌==◌, true, false, Option, Some, None, unwrap_or, List, [], ◌∷◌, ◌++◌, length, length-append, filter, get_or, take, refl, sym, ap, ◌∙◌, subst, arith}
+use Rattle.std.proofs.Common.{◌≡◌, ℕ, zero, suc, ◌+◌, ◌-◌, ◌<◌, ◌≤◌, ◌^◌, ◌⊎◌, inl, inr, ◌==◌, true, false, Option, Some, None, unwrap_or, List, [], ◌∷◌, ◌++◌, length, length-append, filter, get_or, take, refl, sym, ap, ◌∙◌, subst, arith}
 use Rattle.std.proofs.lemmas.Bool.{ne_eqb, cases_lt}
 use Rattle.std.proofs.Math.Seq.{take-append_seam}
 use Rattle.cover_problem.specs.Lists.{has, numbers, above, below, last_of}
@@ -22,7 +22,7 @@ use Rattle.cover_links.specs.Layout.{node_index, start_of, index_of}
 use Rattle.cover_links.specs.Ring.{Follows}
 use Rattle.cover_links.specs.Table.{IsTable, nonzero, IsHeadOrNode}
 use Rattle.cover_links.proofs.LayoutLemmas.{IsNode, IsRun, option_run, place_high, place_low, spacer_low, start_step, start_below, index_below}
-use Rattle.cover_links.proofs.BuildLemmas.{start_most}
+use Rattle.cover_links.proofs.BuildLemmas.{size_small, start_most}
 use Rattle.cover_links.proofs.RingLemmas.{next_is, prev_is, last_to_head, next_member}
 use Rattle.cover_links.proofs.HidingLemmas.{Stands, down_at, up_at, right_at, top_at}
 use Rattle.cover_links.proofs.Covered.{shown_of, active_of, active_is, active_when}
@@ -95,8 +95,9 @@ module _ {p : ProblemValue} {c : List ℕ} {items : ℕ} {block : List Entry} {s
         inr (record {
           apart = λ e. absurd (omega arith);
           here = omega arith;
-          end = subst (λ m. m < length block) (sym (s.rights j k n)) (omega arith);
-          number = ap (top_at block) (s.rights j k n) ∙ s.spacers k n.some n.within;
+          end = subst (λ m. m < length block) (sym (s.ends j k n)) (omega arith);
+          word = subst (λ m. m < 2 ^ 32) (sym (s.ends j k n)) (let w = size_small p t.problem in omega arith);
+          number = ap (top_at block) (s.ends j k n) ∙ s.spacers k n.some n.within;
           some = n.some;
         })
 

@@ -11,6 +11,14 @@ blank = record { top = 0; up = 0; down = 0; left = 0; right = 0 }
 abbrev pub entry_at : List Entry → ℕ → Entry
 entry_at es x = get_or es x blank
 
+-- where the option of the node at x begins: so many entries before it as its `left` tells
+abbrev pub start_at : List Entry → ℕ → ℕ
+start_at es x = x - (entry_at es x).left
+
+-- where that option ends, at the spacer past it: so many entries after the node as its `right` tells
+abbrev pub end_at : List Entry → ℕ → ℕ
+end_at es x = x + (entry_at es x).right
+
 -- the entry at x is changed by f, and no other
 unfoldable pub changed : (Entry → Entry) → List Entry → ℕ → List Entry
 changed f es x = set es x (f (entry_at es x))

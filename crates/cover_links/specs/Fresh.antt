@@ -23,18 +23,18 @@ abbrev pub heads_written : List Entry → ℕ → ℕ → List Entry
 heads_written es primary zero = set es 0 (record { top = 0; up = 0; down = 0; left = primary; right = 1 })
 heads_written es primary (suc n) = set (heads_written es primary n) (suc n) (empty_head primary (suc n))
 
--- a node of the item i is written at x, past the last of i's list
+-- a node of the item i is written at x, past the last of i's list; its option stands from `start` up to the spacer at `end`
 abbrev pub node_written : List Entry → ℕ → ℕ → ℕ → ℕ → List Entry
-node_written es x i left right = set es x (record { top = i; up = (entry_at es i).up; down = i; left = left; right = right })
+node_written es x i start end = set es x (record { top = i; up = (entry_at es i).up; down = i; left = x - start; right = end - x })
 
 -- and comes into that list
 unfoldable pub node_appended : List Entry → ℕ → ℕ → ℕ → ℕ → List Entry
-node_appended es x i left right = node_unhidden (node_written es x i left right) x
+node_appended es x i start end = node_unhidden (node_written es x i start end) x
 
--- nodes of these items are appended, from x on
+-- nodes of these items are appended, from x on, to the option from `start` up to the spacer at `end`
 abbrev pub nodes_appended : List Entry → ℕ → ℕ → ℕ → List ℕ → List Entry
-nodes_appended es x left right [] = es
-nodes_appended es x left right (i ∷ items) = nodes_appended (node_appended es x i left right) (suc x) left right items
+nodes_appended es x start end [] = es
+nodes_appended es x start end (i ∷ items) = nodes_appended (node_appended es x i start end) (suc x) start end items
 
 -- an option is appended from the entry `start` on: its nodes, and the spacer past them
 unfoldable pub option_appended : List Entry → ℕ → List ℕ → ℕ → List Entry

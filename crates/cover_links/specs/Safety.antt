@@ -1,7 +1,7 @@
 -- Where each step of hiding and of covering stays in the block, and no length falls below 0 or grows too large.
 use Rattle.std.specs.Prelude.{ℕ, zero, suc, ◌+◌, ◌-◌, ◌<◌, ◌≤◌, ◌^◌, List, [], ◌∷◌, length}
 use Rattle.cover_links.specs.declared.entry.Entry.{Entry}
-use Rattle.cover_links.specs.Entries.{entry_at, changed, one_more, unlinked, item_relinked}
+use Rattle.cover_links.specs.Entries.{entry_at, start_at, end_at, changed, one_more, unlinked, item_relinked}
 use Rattle.cover_links.specs.Fresh.{node_written, node_appended}
 use Rattle.cover_links.specs.Hiding.{node_hidden, run_unhidden, after_hidden, hidden, before_unhidden, unhidden, options_hidden}
 
@@ -43,17 +43,19 @@ CanUnhideRun es a b = (q : ℕ) → a ≤ q → q < b → CanUnhideNode (run_unh
 pub record CanHide (es : List Entry) (p : ℕ) : Type 0 where
   pub here : p < length es
   pub begin : (entry_at es p).left ≤ p
-  pub end : p < (entry_at es p).right
-  pub after : CanHideRun es (suc p) ((entry_at es p).right - suc p)
-  pub before : CanHideRun (after_hidden es p) (entry_at es p).left (p - (entry_at es p).left)
+  pub end : p < end_at es p
+  pub word : end_at es p < 2 ^ 32
+  pub after : CanHideRun es (suc p) (end_at es p - suc p)
+  pub before : CanHideRun (after_hidden es p) (start_at es p) (p - start_at es p)
 
 -- the others of p's option can come back
 pub record CanUnhide (es : List Entry) (p : ℕ) : Type 0 where
   pub here : p < length es
   pub begin : (entry_at es p).left ≤ p
-  pub end : p < (entry_at es p).right
-  pub before : CanUnhideRun es (entry_at es p).left p
-  pub after : CanUnhideRun (before_unhidden es p) (suc p) (entry_at es p).right
+  pub end : p < end_at es p
+  pub word : end_at es p < 2 ^ 32
+  pub before : CanUnhideRun es (start_at es p) p
+  pub after : CanUnhideRun (before_unhidden es p) (suc p) (end_at es p)
 
 -- the options of n nodes can be hidden, from p down
 abbrev pub CanHideList : List Entry → ℕ → ℕ → Type 0
@@ -73,19 +75,23 @@ pub record CanCoverItem (es : List Entry) (i : ℕ) : Type 0 where
 
 -- an item can be uncovered
 pub record CanUncoverItem (es : List Entry) (i : ℕ) : Type 0 where
+  pub small : i < 2 ^ 16
   pub row : IsItemInside es i
   pub options : CanUnhideList (item_relinked es i) (entry_at (item_relinked es i) i).up (entry_at (item_relinked es i) i).top
 
--- a node can be appended
-pub record CanAppendNode (es : List Entry) (x i left right : ℕ) : Type 0 where
+-- a node can be appended, to an option that is not too long
+pub record CanAppendNode (es : List Entry) (x i start end : ℕ) : Type 0 where
   pub here : x < length es
   pub item : i < length es
-  pub into : CanUnhideNode (node_written es x i left right) x
+  pub from : start ≤ x
+  pub to : x < end
+  pub short : end < start + 2 ^ 16
+  pub into : CanUnhideNode (node_written es x i start end) x
 
 -- nodes of these items can be appended, from x on
 abbrev pub CanAppendNodes : List Entry → ℕ → ℕ → ℕ → List ℕ → Type 0
-CanAppendNodes es x left right [] = Unit {0}
-CanAppendNodes es x left right (i ∷ items) = CanAppendNode es x i left right × CanAppendNodes (node_appended es x i left right) (suc x) left right items
+CanAppendNodes es x start end [] = Unit {0}
+CanAppendNodes es x start end (i ∷ items) = CanAppendNode es x i start end × CanAppendNodes (node_appended es x i start end) (suc x) start end items
 
 -- an option can be appended
 pub record CanAppendOption (es : List Entry) (start : ℕ) (option : List ℕ) : Type 0 where

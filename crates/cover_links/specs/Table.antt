@@ -1,10 +1,10 @@
 -- What the parts of a table of links are: the block of a problem and the covered items, and where each option begins.
-use Rattle.std.specs.Prelude.{◌≡◌, ℕ, suc, ◌<◌, ◌≤◌, ◌⊎◌, ◌==◌, nat_lt, ◌&&◌, cond, pos, ◌-ℤ◌, Option, Some, None, List, length, get_or}
+use Rattle.std.specs.Prelude.{◌≡◌, ℕ, suc, ◌<◌, ◌≤◌, ◌^◌, ◌⊎◌, ◌==◌, nat_lt, ◌&&◌, cond, pos, ◌-ℤ◌, Option, Some, None, List, length, get_or}
 use Rattle.cover_problem.specs.Problem.{ProblemValue, IsProblem}
 use Rattle.cover_problem.specs.Table.{IsCoveredList}
 use Rattle.cover_links.specs.declared.entry.Entry.{Entry}
 use Rattle.cover_links.specs.declared.entry.Node.{Node}
-use Rattle.cover_links.specs.Entries.{entry_at}
+use Rattle.cover_links.specs.Entries.{entry_at, end_at}
 use Rattle.cover_links.specs.Layout.{start_of}
 use Rattle.cover_links.specs.StandsFor.{block_of}
 
@@ -30,8 +30,9 @@ printed_node items x e = record { top_or_len = cond (nat_lt items x && (e.right 
 pub record IsNodeOf (es : List Entry) (item node k : ℕ) : Type 0 where
   pub apart : node ≡ item → ⊥
   pub here : node < length es
-  pub end : (entry_at es node).right < length es
-  pub number : (entry_at es (entry_at es node).right).top ≡ k
+  pub end : end_at es node < length es
+  pub word : end_at es node < 2 ^ 32
+  pub number : (entry_at es (end_at es node)).top ≡ k
   pub some : 0 < k
 
 -- the item's head, where k is 0, or a node of the option numbered k

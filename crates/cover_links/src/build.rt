@@ -38,17 +38,16 @@ pub(crate) fn starts(alloc: Global, problem: &Problem) -> Result<Vec<u32>, Alloc
 }
 
 /// The head of an item whose list is empty.
-fn empty_head(item: u32, primary: u32) -> Entry
-    requires some { 0 < item }
-    requires small { item < 2 ^ 32 - 1 }
+fn empty_head(item: u16, primary: u16) -> Entry
+    requires { 0 < item }
     ensures { result ≡ list.empty_head primary item }
 {
     let is_primary = item <= primary;
-    let after = if item == primary { 0 } else { item + 1 };
+    let after = if item < primary { item + 1 } else { 0 };
     Entry {
         top: 0,
-        up: item,
-        down: item,
+        up: item as u32,
+        down: item as u32,
         left: if is_primary { item - 1 } else { item },
         right: if is_primary { after } else { item },
     }
@@ -57,26 +56,27 @@ fn empty_head(item: u32, primary: u32) -> Entry
 /// Writes the header, and the heads with empty lists.
 fn write_heads(block: &mut Block, items: u32, primary: u32)
     requires within { items < length block.old }
-    requires small { items < 2 ^ 32 - 1 }
+    requires small { items < 2 ^ 16 }
+    requires row { primary ≤ items }
     ensures { block.new ≡ heads_written block.old primary items }
 {
     block.write(
         0,
         Entry {
-            left: primary,
+            left: primary as u16,
             right: 1,
             ..BLANK
         },
     );
     for item in 1..items + 1 {
-        block.write(item, empty_head(item, primary));
+        block.write(item, empty_head(item as u16, primary as u16));
     }
 }
 
-/// Appends a node to the list of its item.
-fn append_node(block: &mut Block, index: u32, item: u32, left: u32, right: u32)
-    requires { CanAppendNode block.old index item left right }
-    ensures { block.new ≡ node_appended block.old index item left right }
+/// Appends a node of the option from `start` up to the spacer at `end` to the list of its item.
+fn append_node(block: &mut Block, index: u32, item: u32, start: u32, end: u32)
+    requires { CanAppendNode block.old index item start end }
+    ensures { block.new ≡ node_appended block.old index item start end }
 {
     let up = block.read(item).up;
     block.write(
@@ -85,8 +85,8 @@ fn append_node(block: &mut Block, index: u32, item: u32, left: u32, right: u32)
             top: item,
             up,
             down: item,
-            left,
-            right,
+            left: (index - start) as u16,
+            right: (end - index) as u16,
         },
     );
     unhide_node(block, index);

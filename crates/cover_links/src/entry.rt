@@ -9,10 +9,10 @@ pub struct Entry {
     pub up: u32,
     /// The entry below it in its list; of a spacer the last node of the option after it, or 0.
     pub down: u32,
-    /// Of the header and a head the active item before it, of a node the first node of its option.
-    pub left: u32,
-    /// Of the header and a head the active item after it, of a node the spacer past its option.
-    pub right: u32,
+    /// Of the header and a head the active item before it, of a node the number of nodes before it in its option.
+    pub left: u16,
+    /// Of the header and a head the active item after it, of a node the number of entries from it to the spacer past its option.
+    pub right: u16,
 }
 
 /// An entry as the literature prints it: an item's length or a node's item (of a spacer the number of the option before it,

@@ -1,6 +1,6 @@
 //! Taking entries out of their lists and putting them back, and the covering of an item made of it.
 //! (TAOCP volume 4B, section 7.2.2.1, (1), (2) and (12) to (15).)
-ghost use Rattle.std.specs.Prelude.{◌≡◌, ◌<◌, ◌≤◌, ◌+◌, ◌-◌, ◌==◌, if◌then◌else◌};
+ghost use Rattle.std.specs.Prelude.{◌≡◌, ◌<◌, ◌≤◌, ◌+◌, ◌-◌, ◌^◌, ◌==◌, if◌then◌else◌};
 ghost use Rattle.cover_links.specs.Entries.{unlinked, relinked, item_unlinked, item_relinked};
 ghost use Rattle.cover_links.specs.Hiding.{node_hidden, node_unhidden, hidden, unhidden, item_covered, item_uncovered};
 ghost use Rattle.cover_links.specs.Safety.{IsInside, IsItemInside, CanHideNode, CanUnhideNode, CanHide, CanUnhide, CanCoverItem, CanUncoverItem};
@@ -47,32 +47,33 @@ fn unlink_item(block: &mut Block, item: u32)
     ensures { block.new ≡ item_unlinked block.old item }
 {
     let Entry { left, right, .. } = block.read(item);
-    let before = block.read(left);
-    block.write(left, Entry { right, ..before });
-    let after = block.read(right);
-    block.write(right, Entry { left, ..after });
+    let before = block.read(left as u32);
+    block.write(left as u32, Entry { right, ..before });
+    let after = block.read(right as u32);
+    block.write(right as u32, Entry { left, ..after });
 }
 
 /// Lets them name the item again.
 #[inline(always)]
 fn relink_item(block: &mut Block, item: u32)
-    requires { IsItemInside block.old item }
+    requires inside { IsItemInside block.old item }
+    requires small { item < 2 ^ 16 }
     ensures { block.new ≡ item_relinked block.old item }
 {
     let Entry { left, right, .. } = block.read(item);
-    let before = block.read(left);
+    let before = block.read(left as u32);
     block.write(
-        left,
+        left as u32,
         Entry {
-            right: item,
+            right: item as u16,
             ..before
         },
     );
-    let after = block.read(right);
+    let after = block.read(right as u32);
     block.write(
-        right,
+        right as u32,
         Entry {
-            left: item,
+            left: item as u16,
             ..after
         },
     );
@@ -140,11 +141,9 @@ fn hide(block: &mut Block, index: u32)
     requires { CanHide block.old index }
     ensures { block.new ≡ hidden block.old index }
 {
-    let Entry {
-        left: start,
-        right: end,
-        ..
-    } = block.read(index);
+    let Entry { left, right, .. } = block.read(index);
+    let start = index - left as u32;
+    let end = index + right as u32;
     let mut node = place_after(index, start, end);
     while node != index {
         hide_node(block, node);
@@ -158,11 +157,9 @@ fn unhide(block: &mut Block, index: u32)
     requires { CanUnhide block.old index }
     ensures { block.new ≡ unhidden block.old index }
 {
-    let Entry {
-        left: start,
-        right: end,
-        ..
-    } = block.read(index);
+    let Entry { left, right, .. } = block.read(index);
+    let start = index - left as u32;
+    let end = index + right as u32;
     let mut node = place_before(index, start, end);
     while node != index {
         unhide_node(block, node);

@@ -61,7 +61,7 @@ fn option_at(block: &Block, item: u32, node: u32) -> Option<u32>
     if node == item {
         return None;
     }
-    let spacer = block.read(node).right;
+    let spacer = node + block.read(node).right as u32;
     Some(block.read(spacer).top)
 }
 
@@ -125,11 +125,11 @@ impl Table for LinkTable {
     }
 
     fn first_item(&self) -> Option<u32> {
-        nonzero(self.block.read(0).right)
+        nonzero(self.block.read(0).right as u32)
     }
 
     fn next_item(&self, item: u32) -> Option<u32> {
-        nonzero(self.block.read(item).right)
+        nonzero(self.block.read(item).right as u32)
     }
 
     fn len(&self, item: u32) -> u32 {

@@ -1,9 +1,10 @@
-use Rattle.std.proofs.Common.{ap}
+use Rattle.std.proofs.Common.{◌+◌, ◌-◌, ap}
+use Rattle.cover_links.specs.declared.entry.Entry.{Entry}
 use Rattle.cover_links.proofs.TurnLemmas.{hides_begin, hides_can, hides_on}
 use Rattle.cover_links.proofs.hiding.hide.Goals as goal
 
 pub loop-node-init : goal.loop-node-init
-loop-node-init c = hides_begin _ _ _ _ _ c.requires (ap (λ e. e.left) c.read-start.ensures) (ap (λ e. e.right) c.read-start.ensures) c.place_after-node.ensures
+loop-node-init c = hides_begin _ _ _ _ _ c.requires (ap (λ (e : Entry). c.args.index - e.left) c.read-left.ensures) (ap (λ (e : Entry). c.args.index + e.right) c.read-left.ensures) c.place_after-node.ensures
 
 pub hide_node-requires : goal.hide_node-requires
 hide_node-requires c = hides_can _ _ _ _ _ _ c.loop-node-test.true c.loop-node.invariant

@@ -1,12 +1,13 @@
-use Rattle.std.proofs.Common.{ap}
+use Rattle.std.proofs.Common.{◌+◌, ◌-◌, ap}
+use Rattle.cover_links.specs.declared.entry.Entry.{Entry}
 use Rattle.cover_links.proofs.TurnLemmas.{shows_can, shows_on, shows_end}
 use Rattle.cover_links.proofs.hiding.unhide.Goals as goal
 
 pub unhide_node-requires : goal.unhide_node-requires
-unhide_node-requires c = shows_can _ _ _ _ _ _ c.loop-node-test.true c.requires (ap (λ e. e.left) c.read-start.ensures) (ap (λ e. e.right) c.read-start.ensures) c.loop-node.invariant
+unhide_node-requires c = shows_can _ _ _ _ _ _ c.loop-node-test.true c.requires (ap (λ (e : Entry). c.args.index - e.left) c.read-left.ensures) (ap (λ (e : Entry). c.args.index + e.right) c.read-left.ensures) c.loop-node.invariant
 
 pub loop-node-preserved : goal.loop-node-preserved
 loop-node-preserved c = shows_on _ _ _ _ _ _ c.loop-node-test.true _ _ c.unhide_node.ensures c.place_before-node-in-loop-node.ensures c.loop-node.invariant
 
 pub returns : goal.returns
-returns c = shows_end _ _ _ _ _ _ c.loop-node-test.false (ap (λ e. e.left) c.read-start.ensures) (ap (λ e. e.right) c.read-start.ensures) c.loop-node.invariant
+returns c = shows_end _ _ _ _ _ _ c.loop-node-test.false (ap (λ (e : Entry). c.args.index - e.left) c.read-left.ensures) (ap (λ (e : Entry). c.args.index + e.right) c.read-left.ensures) c.loop-node.invariant

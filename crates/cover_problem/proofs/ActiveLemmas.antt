@@ -1,12 +1,13 @@
 -- The options of a problem, and the items that are uncovered and active.
-use Rattle.std.proofs.Common.{◌≡◌, ℕ, zero, suc, ◌-◌, ◌<◌, ◌≤◌, ◌==◌, nat_lt, nat_le, Bool, true, false, not, ◌&&◌, ◌||◌, List, [], ◌∷◌, ◌++◌, length, filter, refl, ap, arith, le_trans}
+use Rattle.std.proofs.Common.{◌≡◌, ℕ, zero, suc, ◌-◌, ◌<◌, ◌≤◌, ◌==◌, nat_lt, Bool, true, false, not, ◌&&◌, ◌||◌, List, [], ◌∷◌, ◌++◌, length, filter, refl, ap, arith, le_trans}
 use Rattle.std.specs.List.{list_all}
-use Rattle.std.proofs.lemmas.Bool.{and_parts, leb-true, ltb-true, not-true, not_from_true, not_from_false}
+use Rattle.std.proofs.lemmas.Bool.{and_parts, ltb-true, not-true, not_from_true, not_from_false}
 use Rattle.std.proofs.lemmas.List.Sums.{AllPass-from_list_all}
 use Rattle.cover_problem.specs.Lists.{has, are_distinct, numbers, RisesFrom}
 use Rattle.cover_problem.specs.Problem.{ProblemValue, IsProblem, is_item, is_option, option_at}
 use Rattle.cover_problem.specs.Covering.{uncovered, active}
 use Rattle.cover_problem.specs.Coverable.{IsUncovered}
+use Rattle.cover_problem.proofs.BoundLemmas.{item_bounds}
 use Rattle.cover_problem.proofs.MemberLemmas.{has_here, has_append_right, has_append_not, all_member, has_filter_in, has_filter, filter_agree_on, filter_falls, filter_at_most, has_not}
 use Rattle.cover_problem.proofs.NumberLemmas.{has_numbers_in, has_numbers, filter_but_one, rises_filter}
 
@@ -23,10 +24,7 @@ option_is p o s l m =
     let t = AllPass-from_list_all (is_option (length p.names)) p.options s.options_are (o - 1) [] (omega arith) in
     let a = and_parts (nat_lt 0 (length (option_at p o)) && are_distinct (option_at p o)) (list_all (is_item (length p.names)) (option_at p o)) t in
     let b = and_parts (nat_lt 0 (length (option_at p o))) (are_distinct (option_at p o)) a.0 in
-    record { some = ltb-true 0 (length (option_at p o)) b.0; distinct = b.1; items = λ i h. item i (and_parts (nat_lt 0 i) (nat_le i (length p.names)) (all_member (is_item (length p.names)) (option_at p o) i a.1 h)) }
-  where
-    item : (i : ℕ) → (nat_lt 0 i ≡ true) × (nat_le i (length p.names) ≡ true) → (0 < i) × (i ≤ length p.names)
-    item i r = (ltb-true 0 i r.0, leb-true i (length p.names) r.1)
+    record { some = ltb-true 0 (length (option_at p o)) b.0; distinct = b.1; items = λ i h. item_bounds (length p.names) i (all_member (is_item (length p.names)) (option_at p o) i a.1 h) }
 
 pub option_items_in : (p : ProblemValue) (o i : ℕ) → IsProblem p → 0 < o → o ≤ length p.options → has (option_at p o) i ≡ true → (0 < i) × (i ≤ length p.names)
 option_items_in p o i s a b h = (option_is p o s a b).items i h

@@ -1,5 +1,5 @@
 -- The items of a problem are read again, and its parts are within the limits.
-use Rattle.std.proofs.Common.{◌≡◌, ◌<◌, ◌≤◌, ℕ, zero, suc, ◌+◌, ◌-◌, List, [], ◌∷◌, ◌++◌, map, length, get_or, Bool, true, false, not, ◌&&◌, nat_lt, nat_le, Ok, sum_by, refl, sym, ap, ◌∙◌, bytes_eq, arith, append_assoc, append-nil, le_trans, one-add, lt-ltb, ltb-true, le-leb, leb-true}
+use Rattle.std.proofs.Common.{◌≡◌, ◌<◌, ◌≤◌, ℕ, zero, suc, ◌+◌, ◌-◌, List, [], ◌∷◌, ◌++◌, map, length, get_or, Bool, true, false, not, ◌&&◌, nat_le, Some, Ok, sum_by, refl, sym, ap, ◌∙◌, bytes_eq, arith, append_assoc, append-nil, le_trans, one-add, lt-ltb, le-leb, leb-true}
 use Rattle.std.specs.List.{list_all, list_any, position_or_len}
 use Rattle.std.specs.Cmp.Lexicographic.{bytes_decides}
 use Rattle.std.proofs.lemmas.Bool.{and_parts, and_from, or_parts, not-true, not_from_false}
@@ -8,9 +8,10 @@ use Rattle.std.proofs.lemmas.List.Sums.{AllPass-from_list_all}
 use Rattle.cover_problem.proofs.PartLemmas.{distinct_before}
 use Rattle.text_lines.specs.Each.{each}
 use Rattle.cover_problem.specs.Lists.{has, are_distinct}
-use Rattle.cover_problem.specs.Problem.{ProblemValue, is_name, is_item, is_small, are_new, name_at}
+use Rattle.cover_problem.specs.Problem.{ProblemValue, is_name, is_item, is_small, are_new, name_at, item_named}
 use Rattle.cover_problem.specs.Validation.{within}
 use Rattle.cover_problem.specs.Reading.{item_of, add_item}
+use Rattle.cover_problem.proofs.BoundLemmas.{item_bounds}
 use Rattle.cover_problem.proofs.NameLemmas.{bytes_eq_sym}
 
 pub new_front : (xs ys : List (List ℕ)) → are_new (xs ++ ys) ≡ true → are_new xs ≡ true
@@ -34,15 +35,24 @@ own_place (x ∷ xs) (suc i) h l =
     let e : bytes_eq (get_or xs i []) x ≡ false = bytes_eq_sym (get_or xs i []) x ∙ none_at (bytes_eq x) xs i (not-true _ p.0) m in
     rw (e, own_place xs i p.1 m) (one-add i)
 
+-- an item is found by its name
+pub item_found : (names : List (List ℕ)) (i : ℕ) → are_new names ≡ true → is_item (length names) i ≡ true → item_named names (name_at names i) ≡ Some i
+item_found names i new is =
+    let b = item_bounds (length names) i is in
+    let some : 0 < i = b.0 in
+    let within : i ≤ length names = b.1 in
+    let l : i - 1 < length names = omega arith in
+    let e : i - 1 + 1 ≡ i = omega arith in
+    rw (own_place names (i - 1) new l, lt-ltb (i - 1) (length names) l) (ap (λ k. Some k) e)
+
 item_again : (names : List (List ℕ)) (i : ℕ) → list_all is_name names ≡ true → are_new names ≡ true → is_item (length names) i ≡ true → item_of names (name_at names i) ≡ Ok i
 unfolding item_of
 item_again names i named new is =
-    let p = and_parts (nat_lt 0 i) (nat_le i (length names)) is in
-    let some : 0 < i = ltb-true 0 i p.0 in
-    let within : i ≤ length names = leb-true i (length names) p.1 in
+    let b = item_bounds (length names) i is in
+    let some : 0 < i = b.0 in
+    let within : i ≤ length names = b.1 in
     let l : i - 1 < length names = omega arith in
-    let e : i - 1 + 1 ≡ i = omega arith in
-    rw (AllPass-from_list_all is_name names named (i - 1) [] l, own_place names (i - 1) new l, lt-ltb (i - 1) (length names) l) (ap (λ k. Ok k) e)
+    rw (AllPass-from_list_all is_name names named (i - 1) [] l, item_found names i new is) refl
 
 item_taken_again : (names : List (List ℕ)) (acc : List ℕ) (i : ℕ) → item_of names (name_at names i) ≡ Ok i → has acc i ≡ false → add_item names acc (name_at names i) ≡ Ok (acc ++ i ∷ [])
 unfolding add_item

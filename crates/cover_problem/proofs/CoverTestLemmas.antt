@@ -9,6 +9,7 @@ use Rattle.cover_problem.specs.Lists.{has, are_distinct, numbers}
 use Rattle.cover_problem.specs.Problem.{ProblemValue, IsProblem, is_item, option_at}
 use Rattle.cover_problem.specs.ExactCover.{IsExactCover}
 use Rattle.cover_problem.specs.CoverTest.{occurrences, has_right_count, is_useful, is_cover}
+use Rattle.cover_problem.proofs.BoundLemmas.{item_bounds, item_numbered}
 use Rattle.cover_problem.proofs.MemberLemmas.{some_head, has_here, has_later, has_cases, all_member, all_from, some_member, some_from}
 use Rattle.cover_problem.proofs.NumberLemmas.{has_numbers, has_numbers_in}
 use Rattle.cover_problem.proofs.ActiveLemmas.{option_is}
@@ -113,17 +114,11 @@ distinct_counts (y ∷ ys) h =
 -- *exact covers*
 
 module _ (p : ProblemValue) (sound : IsProblem p) (chosen : List ℕ) where
-  in_range : (k : ℕ) → is_item (length p.options) k ≡ true → (0 < k) × (k ≤ length p.options)
-  in_range k h = grind (arith, nat_tests)
-
   right_count_primary : (i : ℕ) → i ≤ p.primary → has_right_count p chosen i ≡ true → occurrences p chosen i ≡ 1
   right_count_primary i h e = grind (arith, nat_tests)
 
   right_count_most : (i : ℕ) → has_right_count p chosen i ≡ true → occurrences p chosen i ≤ 1
   right_count_most i e = grind (arith, nat_tests)
-
-  is_item_from : (k : ℕ) → 0 < k → k ≤ length p.options → is_item (length p.options) k ≡ true
-  is_item_from k a b = grind (arith, nat_tests)
 
   right_count_from : (i : ℕ) → occurrences p chosen i ≤ 1 → (i ≤ p.primary → 0 < occurrences p chosen i) → has_right_count p chosen i ≡ true
   right_count_from i few some = grind (arith, nat_tests)
@@ -141,7 +136,7 @@ module _ (p : ProblemValue) (sound : IsProblem p) (chosen : List ℕ) where
   passes_is h =
       let tests = and_parts (list_all (is_item (length p.options)) chosen && list_all (has_right_count p chosen) (numbers (length p.names) 1)) (list_all (is_useful p) chosen) h in
       let front = and_parts (list_all (is_item (length p.options)) chosen) (list_all (has_right_count p chosen) (numbers (length p.names) 1)) tests.0 in
-      let options : (o : ℕ) → has chosen o ≡ true → (0 < o) × (o ≤ length p.options) = λ o m. in_range o (all_member _ chosen o front.0 m) in
+      let options : (o : ℕ) → has chosen o ≡ true → (0 < o) × (o ≤ length p.options) = λ o m. item_bounds (length p.options) o (all_member _ chosen o front.0 m) in
       let right : (i : ℕ) → 0 < i → i ≤ length p.names → has_right_count p chosen i ≡ true = λ i a b. all_member _ (numbers (length p.names) 1) i front.1 (has_numbers (length p.names) 1 i a (omega arith)) in
       let items : (o i : ℕ) → has chosen o ≡ true → has (option_at p o) i ≡ true → (0 < i) × (i ≤ length p.names) = λ o i m e. let r = options o m in (option_is p o sound r.0 r.1).items i e in
       let few : (o i : ℕ) → has chosen o ≡ true → has (option_at p o) i ≡ true → occurrences p chosen i ≤ 1 = λ o i m e. let r = items o i m e in right_count_most i (right i r.0 r.1) in (
@@ -156,7 +151,7 @@ module _ (p : ProblemValue) (sound : IsProblem p) (chosen : List ℕ) where
 
   pub passes_from : are_distinct chosen ≡ true → IsExactCover p (has chosen) → is_cover p chosen ≡ true
   passes_from d c =
-      let options : list_all (is_item (length p.options)) chosen ≡ true = all_from _ chosen (λ o m. let r = c.options o m in is_item_from o r.0 r.1) in
+      let options : list_all (is_item (length p.options)) chosen ≡ true = all_from _ chosen (λ o m. let r = c.options o m in item_numbered (length p.options) o r.0 r.1) in
       let right : list_all (has_right_count p chosen) (numbers (length p.names) 1) ≡ true = all_from _ (numbers (length p.names) 1) (λ i m. let r = has_numbers_in (length p.names) 1 i m in
       right_count_from i (count_one (λ k. has (option_at p k) i) chosen d (λ a b h k e f. c.once i a b h k e f))
       (λ b. let w = c.covers i (omega arith) b in count_some (λ k. has (option_at p k) i) chosen w.0 w.1 w.2)) in

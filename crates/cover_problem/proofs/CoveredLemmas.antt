@@ -1,12 +1,13 @@
 -- The covered items are distinct items of the problem: one more, one less, and how many.
-use Rattle.std.proofs.Common.{◌≡◌, ℕ, ◌+◌, ◌<◌, ◌≤◌, nat_lt, nat_le, true, not, List, [], ◌∷◌, ◌++◌, length, refl, sym, arith, append_assoc, append-nil, length-append, ◌∙◌}
+use Rattle.std.proofs.Common.{◌≡◌, ℕ, ◌+◌, ◌<◌, ◌≤◌, true, not, List, [], ◌∷◌, ◌++◌, length, refl, sym, arith, append_assoc, append-nil, length-append, ◌∙◌}
 use Rattle.std.specs.List.{list_all}
-use Rattle.std.proofs.lemmas.Bool.{and_parts, leb-true, le-leb, ltb-true, not-true, both_ways, and_from, lt-ltb, false_from_ne_true}
+use Rattle.std.proofs.lemmas.Bool.{and_parts, not-true, both_ways, false_from_ne_true}
 use Rattle.cover_problem.specs.Lists.{has, are_distinct}
 use Rattle.cover_problem.specs.Problem.{ProblemValue, is_item}
 use Rattle.cover_problem.specs.Covering.{uncovered}
 use Rattle.cover_problem.specs.Coverable.{IsUncovered, CanCover}
 use Rattle.cover_problem.specs.Table.{IsCoveredList}
+use Rattle.cover_problem.proofs.BoundLemmas.{item_bounds, item_numbered}
 use Rattle.cover_problem.proofs.MemberLemmas.{has_here, has_append_right, all_member}
 use Rattle.cover_problem.proofs.PartLemmas.{distinct_parts}
 use Rattle.std.proofs.lemmas.List.Folds.{list_all-append}
@@ -18,14 +19,12 @@ pub covered_none : (p : ProblemValue) → IsCoveredList p []
 covered_none p = record { distinct = refl; items = refl }
 
 pub covered_item : (p : ProblemValue) (c : List ℕ) (i : ℕ) → IsCoveredList p c → has c i ≡ true → (0 < i) × (i ≤ length p.names)
-covered_item p c i a h =
-    let r = and_parts (nat_lt 0 i) (nat_le i (length p.names)) (all_member (is_item (length p.names)) c i a.items h) in
-    (ltb-true 0 i r.0, leb-true i (length p.names) r.1)
+covered_item p c i a h = item_bounds (length p.names) i (all_member (is_item (length p.names)) c i a.items h)
 
 pub covered_push : (p : ProblemValue) (c : List ℕ) (i : ℕ) → IsCoveredList p c → IsUncovered p c i → IsCoveredList p (c ++ i ∷ [])
 covered_push p c i a u = record {
   distinct = are_distinct_push c i a.distinct u.uncovered;
-  items = all_push (is_item (length p.names)) c i a.items (and_from (nat_lt 0 i) (nat_le i (length p.names)) (lt-ltb 0 i u.some) (le-leb i (length p.names) u.within));
+  items = all_push (is_item (length p.names)) c i a.items (item_numbered (length p.names) i u.some u.within);
 }
 
 -- what stands at the front is covered by itself
@@ -60,9 +59,9 @@ counted n [] d a = let e = uncovered_none n in omega arith
 counted n (i ∷ c) d a =
     let e = and_parts (not (has c i)) (are_distinct c) d in
     let f = and_parts (is_item n i) (list_all (is_item n) c) a in
-    let g = and_parts (nat_lt 0 i) (nat_le i n) f.0 in
+    let g = item_bounds n i f.0 in
     let later = counted n c e.1 f.1 in
-    let less = uncovered_less n c i (uncovered_from n c i (not-true (has c i) e.0) (ltb-true 0 i g.0) (leb-true i n g.1)) in
+    let less = uncovered_less n c i (uncovered_from n c i (not-true (has c i) e.0) g.0 g.1) in
     let add = uncovered_add n c i in
     omega arith
 

@@ -1,16 +1,17 @@
 -- For each item the options that have it, as they are noted.
-use Rattle.std.proofs.Common.{◌≡◌, refl, sym, ap, ◌∙◌, subst, ℕ, suc, zero, ◌+◌, ◌-◌, ◌<◌, ◌≤◌, Bool, true, false, ◌&&◌, cond, List, [], ◌∷◌, ◌++◌, map, filter, replicate, length, get_or, take, set, nat_lt, nat_le, arith, inl, inr, ◌⊎◌, append-nil, add-one, ltb-true, leb-true, length-append, length-set, take-suc, ext_get_or, get_or-set_same, get_or-set_other}
+use Rattle.std.proofs.Common.{◌≡◌, refl, sym, ap, ◌∙◌, ℕ, suc, zero, ◌+◌, ◌-◌, ◌<◌, ◌≤◌, Bool, true, false, ◌&&◌, cond, List, [], ◌∷◌, ◌++◌, map, filter, replicate, length, get_or, take, set, nat_lt, arith, inl, inr, ◌⊎◌, append-nil, add-one, length-append, length-set, take-suc, ext_get_or, get_or-set_same, get_or-set_other}
 use Rattle.std.specs.List.{list_all}
 use Rattle.std.proofs.lemmas.Bool.{and_parts, cases_eq}
 use Rattle.std.proofs.lemmas.List.{length-map, get_or-map, map-set}
 use Rattle.std.proofs.lemmas.List.Sums.{AllPass-from_list_all, length-filter, count_by-le-length}
 use Rattle.cover_problem.specs.Lists.{has, are_distinct, numbers}
-use Rattle.cover_problem.specs.Problem.{ProblemValue, IsProblem, is_item, is_option, size_of}
+use Rattle.cover_problem.specs.Problem.{ProblemValue, IsProblem, is_item, is_option}
 use Rattle.cover_problem.specs.Table.{TableValue}
 use Rattle.cover_problem.specs.Plain.{holding, holders_of, IsNoted}
 use Rattle.std.proofs.Math.Seq.{get_or-append_seam}
 use Rattle.std.proofs.Math.ListN.{get_or-append}
 use Rattle.std.proofs.lemmas.List.Elements.{filter-append}
+use Rattle.cover_problem.proofs.BoundLemmas.{item_bounds, few}
 use Rattle.cover_problem.proofs.MemberLemmas.{has_push_same, has_push_other}
 use Rattle.cover_problem.proofs.NumberLemmas.{length-numbers, filter_on, number_at, numbers_push}
 use Rattle.cover_problem.proofs.PartLemmas.{fresh_at}
@@ -21,8 +22,7 @@ noted_none k lists = record { long = refl; at = λ j l. sym (append-nil (get_or 
 pub item_range : (n : ℕ) (option : List ℕ) → is_option n option ≡ true → (i d : ℕ) → i < length option → (0 < get_or option i d) × (get_or option i d ≤ n)
 item_range n option h i d l =
     let a = and_parts (nat_lt 0 (length option) && are_distinct option) (list_all (is_item n) option) h in
-    let b = and_parts (nat_lt 0 (get_or option i d)) (nat_le (get_or option i d) n) (AllPass-from_list_all (is_item n) option a.1 i d l) in
-    (ltb-true 0 (get_or option i d) b.0, leb-true (get_or option i d) n b.1)
+    item_bounds n (get_or option i d) (AllPass-from_list_all (is_item n) option a.1 i d l)
 
 option_distinct : (n : ℕ) (option : List ℕ) → is_option n option ≡ true → are_distinct option ≡ true
 option_distinct n option h =
@@ -86,12 +86,6 @@ holders_push n options option k old new e h noted =
     ∙ ap (λ i. holding options (j + 1) ++ cond (has option (j + 1)) (i ∷ []) []) e
     ∙ sym (number_at (holding (options ++ option ∷ [])) n 1 j [] m ∙ ap (holding (options ++ option ∷ [])) x ∙ holding_push options option (j + 1)))
 
-pub option_of_all : {X : Type 0} (items : X → List ℕ) (n : ℕ) (xs : List X) (i : ℕ) (x : X) → list_all (is_option n) (map items xs) ≡ true → i < length xs → x ≡ get_or xs i x → is_option n (items x) ≡ true
-option_of_all items n xs i x h l at =
-    let m : i < length (map items xs) = rw length-map l in
-    let e : get_or (map items xs) i [] ≡ items x = get_or-map items xs i x [] l ∙ ap items (sym at) in
-    subst (λ o. is_option n o ≡ true) e (AllPass-from_list_all (is_option n) (map items xs) h i [] m)
-
 pub option_here : (p : ProblemValue) → IsProblem p → (k : ℕ) → 1 ≤ k → k < 1 + length p.options → is_option (length p.names) (get_or p.options (k - 1) []) ≡ true
 option_here p sound k a b = AllPass-from_list_all (is_option (length p.names)) p.options sound.options_are (k - 1) [] (omega arith)
 
@@ -99,9 +93,7 @@ filter_short : (test : ℕ → Bool) (xs : List ℕ) → length (filter test xs)
 filter_short test xs = let a = length-filter test xs in let b = count_by-le-length test xs in omega arith
 
 pub few_options : (p : ProblemValue) → IsProblem p → length p.options ≤ 262143
-few_options p sound =
-    let a = and_parts (nat_le (length p.names) 65535 && nat_le (length p.options) 262143) (nat_le (size_of p) 8388608) sound.small in
-    leb-true (length p.options) 262143 (and_parts (nat_le (length p.names) 65535) (nat_le (length p.options) 262143) a.0).1
+few_options p sound = (few p sound).1
 
 pub count_small : (t : TableValue) (j : ℕ) (holders : List ℕ) (test : ℕ → Bool) → IsProblem t.problem → holders ≡ holding t.problem.options j → length (filter test holders) ≤ 262143
 count_small t j holders test sound are =

@@ -1,8 +1,8 @@
 -- What a step did that gave something: which items an option has.
-use Rattle.std.proofs.Common.{◌≡◌, ◌<◌, ◌≤◌, ℕ, ◌+◌, ◌-◌, List, [], ◌∷◌, ◌++◌, map, length, get_or, true, false, Option, Some, None, option_map, Ok, position, refl, sym, ap, ◌∙◌, subst, bytes_eq, arith, append_assoc, append-nil, lt-ltb, le-leb}
+use Rattle.std.proofs.Common.{◌≡◌, ◌<◌, ◌≤◌, ℕ, ◌+◌, ◌-◌, List, [], ◌∷◌, ◌++◌, map, length, get_or, true, false, Option, Some, None, option_map, Ok, position, refl, sym, ap, ◌∙◌, subst, bytes_eq, arith, append_assoc, append-nil}
 use Rattle.std.specs.List.{list_all}
 use Rattle.std.specs.Cmp.Lexicographic.{bytes_decides}
-use Rattle.std.proofs.lemmas.Bool.{and_from}
+use Rattle.std.proofs.lemmas.Option.{none-some}
 use Rattle.std.proofs.lemmas.List.Quantifiers.{position-Some}
 use Rattle.std.proofs.lemmas.List.{map-append}
 use Rattle.text_lines.specs.Each.{each}
@@ -13,6 +13,7 @@ use Rattle.cover_problem.specs.Validation.{with_item}
 use Rattle.cover_problem.specs.Reading.{item_of, add_item, found_or}
 use Rattle.text_lines.proofs.EachLemmas.{each_none, each_parts}
 use Rattle.text_lines.proofs.ResultLemmas.{ok_is, no_fault, bind_ok, unrefused, granted}
+use Rattle.cover_problem.proofs.BoundLemmas.{item_numbered}
 use Rattle.cover_problem.proofs.PartLemmas.{are_distinct_push}
 use Rattle.cover_problem.proofs.MemberLemmas.{all_push}
 
@@ -22,22 +23,15 @@ found_or_is : (o : Option ℕ) (i : ℕ) → found_or o ≡ Ok i → o ≡ Some 
 found_or_is None i h = absurd (no_fault UnknownItem i h)
 found_or_is (Some j) i h = ap (λ k. Some k) (ok_is j i h)
 
-some_is : (a b : ℕ) → ◌≡◌ {A = Option ℕ} (Some a) (Some b) → a ≡ b
-some_is a b h = cc
-
-none_some : (b : ℕ) → ◌≡◌ {A = Option ℕ} None (Some b) → ⊥
-none_some b h = cc
-
 one_more : (o : Option ℕ) (i : ℕ) → option_map (λ k. k + 1) o ≡ Some i → (j : ℕ) × (o ≡ Some j) × (i ≡ j + 1)
-one_more None i h = absurd (none_some i h)
-one_more (Some j) i h = (j, refl, sym (some_is (j + 1) i h))
+one_more None i h = absurd (none-some i h)
+one_more (Some j) i h = let e : j + 1 ≡ i = cc in (j, refl, sym e)
 
 -- *the items of an option*
 
--- the item of a name has that name
-item_is : (names : List (List ℕ)) (word : List ℕ) (i : ℕ) → item_of names word ≡ Ok i → (is_item (length names) i ≡ true) × (name_at names i ≡ word)
-unfolding item_of
-item_is names word i h = step (one_more (position (bytes_eq word) names) i (found_or_is (item_named names word) i (granted (is_name word) BadName (found_or (item_named names word)) i h).1))
+-- what is found by a word is an item with that name
+pub named_is : (names : List (List ℕ)) (word : List ℕ) (i : ℕ) → item_named names word ≡ Some i → (is_item (length names) i ≡ true) × (name_at names i ≡ word)
+named_is names word i h = step (one_more (position (bytes_eq word) names) i h)
   where
     step : (j : ℕ) × (position (bytes_eq word) names ≡ Some j) × (i ≡ j + 1) → (is_item (length names) i ≡ true) × (name_at names i ≡ word)
     step (j, e, more) =
@@ -45,7 +39,11 @@ item_is names word i h = step (one_more (position (bytes_eq word) names) i (foun
         let a : i - 1 ≡ j = omega arith in
         let some : 0 < i = omega arith in
         let l : i ≤ length names = omega (arith, p.0) in
-        (and_from _ _ (lt-ltb 0 i some) (le-leb i (length names) l), rw a (sym ((bytes_decides word (get_or names j [])).0 p.1)))
+        (item_numbered (length names) i some l, rw a (sym ((bytes_decides word (get_or names j [])).0 p.1)))
+
+item_is : (names : List (List ℕ)) (word : List ℕ) (i : ℕ) → item_of names word ≡ Ok i → (is_item (length names) i ≡ true) × (name_at names i ≡ word)
+unfolding item_of
+item_is names word i h = named_is names word i (found_or_is (item_named names word) i (granted (is_name word) BadName (found_or (item_named names word)) i h).1)
 
 item_taken : (names : List (List ℕ)) (taken : List ℕ) (word : List ℕ) (t : List ℕ) → add_item names taken word ≡ Ok t → (i : ℕ) × (is_item (length names) i ≡ true) × (name_at names i ≡ word) × (has taken i ≡ false) × (t ≡ taken ++ i ∷ [])
 unfolding add_item

@@ -2,11 +2,13 @@ pub mod CoverExamples
 mod ValidationExamples
 mod ReadingExamples
 mod GrammarExamples
+pub mod BoundLemmas
 pub mod MemberLemmas
 pub mod NumberLemmas
 pub mod RisingLemmas
 pub mod PartLemmas
 pub mod MapLemmas
+pub mod FlatListLemmas
 pub mod NameLemmas
 pub mod OptionLemmas
 pub mod HolderLemmas

@@ -2,6 +2,7 @@
 use Rattle.std.proofs.Common.{◌≡◌, ℕ, zero, suc, ◌<◌, ◌≤◌, ◌⊎◌, ◌==◌, Bool, true, false, ◌||◌, cond, List, [], ◌∷◌, ◌++◌, length, get_or, filter, refl, sym, ap, ◌∙◌, inl, inr, arith, le_refl, le_trans}
 use Rattle.std.specs.List.{list_any, list_all}
 use Rattle.std.proofs.lemmas.Bool.{false≢true, true≢false, or_cases, or_left, or_right, or_parts, or_from, and_parts, and_from, cases_Bool, cases_lt, eqb-true, eqb-false, eq-eqb, ne_eqb, both_ways}
+use Rattle.std.proofs.Math.Bool.{or-false}
 use Rattle.std.proofs.lemmas.List.Folds.{list_any-append, list_all-append}
 use Rattle.cover_problem.specs.Lists.{has}
 use Rattle.std.proofs.lemmas.Bool.Decides.{nat_tests}
@@ -189,12 +190,8 @@ nat_eq_sym a b = grind (arith, nat_tests)
 pub all_push : {X : Type 0} (test : X → Bool) (xs : List X) (x : X) → list_all test xs ≡ true → test x ≡ true → list_all test (xs ++ x ∷ []) ≡ true
 all_push test xs x h t = list_all-append test xs (x ∷ []) ∙ and_from _ _ h (and_from _ _ t refl)
 
-or_none : (b : Bool) → (b || false) ≡ b
-or_none true = refl
-or_none false = refl
-
 pub has_push_same : (xs : List ℕ) (x y : ℕ) → x ≡ y → has (xs ++ x ∷ []) y ≡ true
 has_push_same xs x y e = list_any-append (λ z. z == y) xs (x ∷ []) ∙ or_right (has xs y) (has (x ∷ []) y) (or_left (x == y) false (eq-eqb x y e))
 
 pub has_push_other : (xs : List ℕ) (x y : ℕ) → (x ≡ y → ⊥) → has (xs ++ x ∷ []) y ≡ has xs y
-has_push_other xs x y n = list_any-append (λ z. z == y) xs (x ∷ []) ∙ ap (λ b. has xs y || (b || false)) (ne_eqb x y n) ∙ or_none (has xs y)
+has_push_other xs x y n = list_any-append (λ z. z == y) xs (x ∷ []) ∙ ap (λ b. has xs y || (b || false)) (ne_eqb x y n) ∙ or-false (has xs y)

@@ -1,12 +1,13 @@
 -- How the reader's steps give what a text says.
-use Rattle.std.proofs.Common.{◌≡◌, ◌∙◌, ◌≤◌, ℕ, ◌+◌, Bool, List, [], ◌∷◌, ◌++◌, map, length, true, false, Some, None, Ok, Err, position, refl, ap, bytes_eq, arith, length-append}
+use Rattle.std.proofs.Common.{◌≡◌, ◌∙◌, ◌≤◌, ◌==◌, nat_lt, not, ℕ, ◌+◌, Bool, List, [], ◌∷◌, ◌++◌, map, length, true, false, Some, None, Ok, Err, position, refl, ap, bytes_eq, arith, length-append}
 use Rattle.std.specs.List.{list_all}
+use Rattle.text_lines.specs.Lines.{is_empty}
 use Rattle.text_lines.specs.Each.{each}
 use Rattle.text_lines.proofs.EachLemmas.{each_none, each_parts}
 use Rattle.cover_problem.specs.declared.fault.Fault.TheVariants.{UnknownItem, TooLarge}
-use Rattle.cover_problem.specs.Problem.{ProblemValue, is_name, is_small}
+use Rattle.cover_problem.specs.Problem.{ProblemValue, problem_with, is_name, is_small}
 use Rattle.cover_problem.specs.Validation.{add_name, within}
-use Rattle.cover_problem.specs.Reading.{item_of}
+use Rattle.cover_problem.specs.Reading.{item_of, maybe_line}
 use Rattle.cover_problem.proofs.NameLemmas.{word_place, no_name, added_is}
 
 -- *the items of an option*
@@ -31,6 +32,16 @@ within_limits p h = rw h refl
 
 pub over_limits : (p : ProblemValue) → is_small p ≡ false → within p ≡ Err TooLarge
 over_limits p h = rw h refl
+
+-- *a `maybe` line in its place*
+
+pub some_words : (words : List (List ℕ)) (b : Bool) → b ≡ not (is_empty words) → b ≡ true → is_empty words ≡ false
+some_words [] b e h = cc
+some_words (w ∷ words) b e h = refl
+
+pub maybe_taken : (p : ProblemValue) (words names : List (List ℕ)) → is_empty words ≡ false → nat_lt p.primary (length p.names) ≡ false → nat_lt 0 (length p.options) ≡ false → (p.primary == 0) ≡ false → each add_name p.names words ≡ Ok names → maybe_line p words ≡ within (problem_with names p.primary [])
+unfolding maybe_line
+maybe_taken p words names some late options begun e = rw (some, late, options, begun, e) refl
 
 -- *names*
 

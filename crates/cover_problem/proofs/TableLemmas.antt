@@ -1,18 +1,19 @@
 -- What a table that scans keeps is what the definitions ask.
-use Rattle.std.proofs.Common.{◌≡◌, sym, ap, ◌∙◌, ap₂, subst, ℕ, ◌+◌, ◌-◌, ◌<◌, ◌≤◌, true, false, not, ◌&&◌, cond, List, [], ◌∷◌, ◌++◌, map, filter, find, replicate, length, get_or, take, drop, set, All, nat_lt, nat_le, ◌==◌, arith, leb-true, length-append}
+use Rattle.std.proofs.Common.{◌≡◌, sym, ap, ◌∙◌, ap₂, subst, ℕ, ◌+◌, ◌-◌, ◌<◌, ◌≤◌, true, false, not, cond, List, [], ◌∷◌, ◌++◌, filter, find, replicate, length, get_or, take, drop, set, All, nat_lt, ◌==◌, arith, length-append}
 use Rattle.std.specs.List.{list_any, list_all, prefix_len, before_first}
 use Rattle.std.proofs.lemmas.Bool.{and_parts}
-use Rattle.std.proofs.lemmas.List.{length-map, get_or-map}
+use Rattle.std.proofs.lemmas.List.{length-map}
 use Rattle.std.proofs.lemmas.List.Sums.{AllPass-from_list_all}
 use Rattle.std.proofs.lemmas.List.Elements.{All-filter}
 use Rattle.cover_problem.specs.Lists.{has, numbers, RisesFrom, above, below, last_of}
-use Rattle.cover_problem.specs.Problem.{ProblemValue, IsProblem, is_option, size_of}
+use Rattle.cover_problem.specs.Problem.{ProblemValue, IsProblem, is_option}
 use Rattle.cover_problem.specs.Covering.{active, is_remaining, remaining, list_of}
 use Rattle.cover_problem.specs.Table.{IsCoveredList, TableValue}
 use Rattle.cover_problem.specs.Plain.{holding, holders_of, time_of, times_of, is_in, was_in, IsPlain}
 use Rattle.std.proofs.Math.Seq.{take-append_seam}
 use Rattle.cover_problem.proofs.ActiveLemmas.{option_items_in}
 use Rattle.cover_problem.proofs.CoveredLemmas.{covered_none, covered_push, covered_last, covered_pop, covered_most}
+use Rattle.cover_problem.proofs.BoundLemmas.{few}
 use Rattle.cover_problem.proofs.MemberLemmas.{has_filter_in}
 use Rattle.cover_problem.proofs.NumberLemmas.{has_numbers_in, length-numbers, rises_filter, set_number, item_at, numbers_all, find_on}
 use Rattle.cover_problem.proofs.WalkLemmas.{first_above, next_in, prev_in, walk}
@@ -20,10 +21,7 @@ use Rattle.cover_problem.proofs.HolderLemmas.{item_range}
 use Rattle.cover_problem.proofs.TimeLemmas.{place, is_never, list_is, new_time, old_time, times_none}
 
 pub covered_short : (p : ProblemValue) (c : List ℕ) → IsProblem p → IsCoveredList p c → (length c ≤ length p.names) × (length p.names ≤ 65535) × (length p.options ≤ 262143)
-covered_short p c sound cov =
-    let a = and_parts (nat_le (length p.names) 65535 && nat_le (length p.options) 262143) (nat_le (size_of p) 8388608) sound.small in
-    let b = and_parts (nat_le (length p.names) 65535) (nat_le (length p.options) 262143) a.0 in
-    (covered_most p c cov, leb-true (length p.names) 65535 b.0, leb-true (length p.options) 262143 b.1)
+covered_short p c sound cov = let f = few p sound in (covered_most p c cov, f.0, f.1)
 
 pub plain_at : {pr : ℕ} {os hs : List (List ℕ)} {ts : List ℕ} {never room : ℕ} {s t : TableValue} → s ≡ t → IsPlain s.problem pr os hs s.covered ts never room → IsPlain t.problem pr os hs t.covered ts never room
 plain_at {pr} {os} {hs} {ts} {never} {room} e h = subst (λ u. IsPlain u.problem pr os hs u.covered ts never room) e h
@@ -49,14 +47,12 @@ same_test never t os ts time a b = ap₂ (λ (o : List (List ℕ)) (x : List ℕ
 pub was_is : {pr : ℕ} {os hs : List (List ℕ)} {ts : List ℕ} {never room : ℕ} {s t : TableValue} → s ≡ t → IsPlain s.problem pr os hs s.covered ts never room → (time : ℕ) → is_in os ts time ≡ was_in never t time
 was_is {pr} {os} {hs} {ts} {never} {room} {s} {t} e h time = let i = plain_at e h in same_test never t os ts time i.options_are i.times_are
 
-pub items_fit : {X : Type 0} (items : X → List ℕ) (xs : List X) {p : ProblemValue} {pr : ℕ} {hs : List (List ℕ)} {c ts : List ℕ} {never room : ℕ} → IsPlain p pr (map items xs) hs c ts never room → All (λ o. All (λ i. (0 < i) × (i ≤ length ts)) (items o)) xs
-items_fit items xs {p} {pr} {hs} {c} {ts} h k d l m e n =
+pub items_fit : {p : ProblemValue} {pr : ℕ} {os hs : List (List ℕ)} {c ts : List ℕ} {never room : ℕ} → IsPlain p pr os hs c ts never room → All (λ o. All (λ i. (0 < i) × (i ≤ length ts)) o) os
+items_fit {p} {pr} {os} {hs} {c} {ts} h k d l m e n =
     let long : length ts ≡ length p.names = times_long h in
-    let all : list_all (is_option (length p.names)) (map items xs) ≡ true = rw h.options_are h.sound.options_are in
-    let l' : k < length (map items xs) = rw length-map l in
-    let at : get_or (map items xs) k [] ≡ items (get_or xs k d) = get_or-map items xs k d [] l in
-    let o : is_option (length p.names) (items (get_or xs k d)) ≡ true = subst (λ o. is_option (length p.names) o ≡ true) at (AllPass-from_list_all (is_option (length p.names)) (map items xs) all k [] l') in
-    let r = item_range (length p.names) (items (get_or xs k d)) o m e n in
+    let all : list_all (is_option (length p.names)) os ≡ true = rw h.options_are h.sound.options_are in
+    let o : is_option (length p.names) (get_or os k d) ≡ true = AllPass-from_list_all (is_option (length p.names)) os all k d l in
+    let r = item_range (length p.names) (get_or os k d) o m e n in
     (r.0, let b = r.1 in omega arith)
 
 -- the options that have an item, and those of them that are left

@@ -1,5 +1,5 @@
 -- What is written is a text of its problem.
-use Rattle.std.proofs.Common.{◌≡◌, ◌<◌, ◌≤◌, ℕ, ◌-◌, List, [], ◌∷◌, map, filter, length, take, drop, true, not, ◌&&◌, nat_lt, nat_le, Ok, refl, sym, ap, ◌∙◌, codes, arith, ltb-true, leb-true}
+use Rattle.std.proofs.Common.{◌≡◌, ◌<◌, ◌≤◌, ℕ, ◌-◌, List, [], ◌∷◌, map, filter, length, take, drop, true, not, ◌&&◌, nat_lt, nat_le, Ok, refl, sym, ap, ◌∙◌, codes, arith, ltb-true}
 use Rattle.std.specs.List.{list_all}
 use Rattle.std.proofs.lemmas.Bool.{and_parts, and_from}
 use Rattle.std.proofs.lemmas.Bool.Decides.{nat_tests}
@@ -13,6 +13,7 @@ use Rattle.cover_problem.specs.Problem.{ProblemValue, IsProblem, is_name, is_nam
 use Rattle.cover_problem.specs.Reading.{problem_of}
 use Rattle.cover_problem.specs.Grammar.{maybe_words, option_words, word_lines, IsCoverText, written}
 use Rattle.std.proofs.lemmas.List.Sums.{AllPass-from_list_all}
+use Rattle.cover_problem.proofs.BoundLemmas.{item_bounds}
 use Rattle.cover_problem.proofs.GrammarLemmas.{text_again}
 
 -- *names are words*
@@ -30,7 +31,8 @@ some_bytes : (bs : List ℕ) → 0 < length bs → has_bytes bs ≡ true
 some_bytes [] h = absurd (omega arith)
 some_bytes (b ∷ bs) h = refl
 
-name_is_word : (name : List ℕ) → is_name name ≡ true → is_word name ≡ true
+-- a name is a word
+pub name_is_word : (name : List ℕ) → is_name name ≡ true → is_word name ≡ true
 name_is_word name h =
     let p = and_parts (nat_lt 0 (length name) && nat_le (length name) 8) (list_all is_name_byte name) h in
     let q = and_parts (nat_lt 0 (length name)) (nat_le (length name) 8) p.0 in
@@ -48,11 +50,12 @@ maybe_are_words : (names : List (List ℕ)) → list_all is_word names ≡ true 
 maybe_are_words [] h = refl
 maybe_are_words (n ∷ ns) h = and_from _ _ h refl
 
-item_is_word : (names : List (List ℕ)) (i : ℕ) → list_all is_name names ≡ true → is_item (length names) i ≡ true → is_word (name_at names i) ≡ true
+-- the name of an item is a word
+pub item_is_word : (names : List (List ℕ)) (i : ℕ) → list_all is_name names ≡ true → is_item (length names) i ≡ true → is_word (name_at names i) ≡ true
 item_is_word names i named is =
-    let p = and_parts (nat_lt 0 i) (nat_le i (length names)) is in
-    let some : 0 < i = ltb-true 0 i p.0 in
-    let within : i ≤ length names = leb-true i (length names) p.1 in
+    let b = item_bounds (length names) i is in
+    let some : 0 < i = b.0 in
+    let within : i ≤ length names = b.1 in
     name_is_word (name_at names i) (AllPass-from_list_all is_name names named (i - 1) [] (omega arith))
 
 items_are_words : (names : List (List ℕ)) (option : List ℕ) → list_all is_name names ≡ true → list_all (is_item (length names)) option ≡ true → list_all is_word (map (name_at names) option) ≡ true

@@ -23,4 +23,5 @@ is_useful p k = list_any (λ i. nat_le i p.primary) (option_at p k)
 -- has a primary item
 abbrev pub is_cover : ProblemValue → List ℕ → Bool
 is_cover p chosen =
-    list_all (is_item (length p.options)) chosen && list_all (has_right_count p chosen) (numbers (length p.names) 1) && list_all (is_useful p) chosen
+    list_all (is_item (length p.options)) chosen && list_all (has_right_count p chosen) (numbers (length p.names) 1)
+    && list_all (is_useful p) chosen

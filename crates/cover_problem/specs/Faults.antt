@@ -1,7 +1,8 @@
 -- The faults of a problem: a number and a name for each.
 use Rattle.std.specs.Prelude.{ℕ, List, codes}
 use Rattle.cover_problem.specs.declared.fault.Fault.{Fault}
-use Rattle.cover_problem.specs.declared.fault.Fault.TheVariants.{BadName, RepeatedItem, UnknownItem, ItemTwiceInOption, TooLarge, NoItemLine, BadLine}
+use Rattle.cover_problem.specs.declared.fault.Fault.TheVariants.{BadName, RepeatedItem, UnknownItem, ItemTwiceInOption, TooLarge}
+use Rattle.cover_problem.specs.declared.fault.Fault.TheVariants.{NoItemLine, BadLine}
 
 -- the number of a fault
 abbrev pub number_of : Fault → ℕ

@@ -1,6 +1,7 @@
 pub mod Limits
 pub mod Views
 pub mod Lists
+pub mod FlatLists
 pub mod Problem
 pub mod Covering
 pub mod Path

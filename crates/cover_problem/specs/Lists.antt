@@ -1,5 +1,6 @@
 -- Words on lists of numbers.
-use Rattle.std.specs.Prelude.{ℕ, suc, zero, ◌≤◌, ◌==◌, nat_lt, Bool, true, not, ◌&&◌, cond, Option, Some, None, unwrap_or, List, [], ◌∷◌, find}
+use Rattle.std.specs.Prelude.{ℕ, suc, zero, ◌≤◌, ◌==◌, nat_lt, Bool, true, not, ◌&&◌, cond, Option, Some, None, unwrap_or, List, [], ◌∷◌}
+use Rattle.std.specs.Prelude.{find}
 use Rattle.std.specs.List.{list_any}
 
 -- whether x is in the list

@@ -33,7 +33,8 @@ unfoldable pub was_in : ℕ → TableValue → ℕ → ℕ → Bool
 was_in never t limit k = is_in t.problem.options (times_of never (length t.problem.names) t.covered) limit k
 
 -- the fields are those of the problem, with these items covered and room for all
-pub record IsPlain (p : ProblemValue) (primary : ℕ) (options holders : List (List ℕ)) (covered : List ℕ) (times : List ℕ) (never room : ℕ) : Type 0 where
+pub record IsPlain (p : ProblemValue) (primary : ℕ) (options holders : List (List ℕ))
+    (covered : List ℕ) (times : List ℕ) (never room : ℕ) : Type 0 where
   pub sound : IsProblem p
   pub primary_is : primary ≡ p.primary
   pub options_are : options ≡ p.options

@@ -4,7 +4,8 @@
 -- Example: the small problem has the items a to g, all of them primary, and the options
 -- c e, a d g, b c f, a d f, b g and d e g, numbered from 1.
 -- Its table has 31 entries. proofs/CoverExamples.antt computes it.
-use Rattle.std.specs.Prelude.{ℕ, ◌+◌, ◌-◌, ◌≤◌, ◌<◌, ◌≡◌, nat_lt, nat_le, ◌==◌, Bool, true, not, ◌&&◌, ◌||◌, List, [], ◌∷◌, length, sum_by, Option, option_map, position}
+use Rattle.std.specs.Prelude.{ℕ, ◌+◌, ◌-◌, ◌≤◌, ◌<◌, ◌≡◌, nat_lt, nat_le, ◌==◌, Bool, true, not, ◌&&◌, ◌||◌, List, [], ◌∷◌, length}
+use Rattle.std.specs.Prelude.{sum_by, Option, option_map, position}
 use Rattle.std.specs.List.{list_all, list_any, slice_index_or}
 use Rattle.std.specs.Str.{bytes_eq}
 use Rattle.std.specs.Cmp.Lexicographic.{pointwise}
@@ -61,7 +62,8 @@ size_of p = length p.names + sum_by length p.options + length p.options + 2
 
 -- whether so many items, and so many options with so many items together, are within the limits
 abbrev pub are_within : ℕ → ℕ → ℕ → Bool
-are_within items options entries = nat_le items most_items && nat_le options most_options && nat_le (items + entries + options + 2) most_entries
+are_within items options entries =
+    nat_le items most_items && nat_le options most_options && nat_le (items + entries + options + 2) most_entries
 
 -- whether it is within the limits
 abbrev pub is_small : ProblemValue → Bool

@@ -9,7 +9,8 @@
 --
 -- Example: `items a`, `option a a` has the fault ItemTwiceInOption in line 2; `items a`, `option z` has UnknownItem there;
 -- a text of no lines has NoItemLine in line 0. proofs/ReadingExamples.antt computes them.
-use Rattle.std.specs.Prelude.{ℕ, ◌==◌, nat_lt, ◌||◌, List, [], ◌∷◌, ◌++◌, length, Option, Some, None, Result, Ok, Err, ◌≡◌, codes, if◌then◌else◌}
+use Rattle.std.specs.Prelude.{ℕ, ◌==◌, nat_lt, ◌||◌, List, [], ◌∷◌, ◌++◌, length, Option, Some, None, Result, Ok, Err, ◌≡◌, codes}
+use Rattle.std.specs.Prelude.{if◌then◌else◌}
 use Rattle.std.specs.Str.{bytes_eq}
 use Rattle.text_lines.specs.Lines.{lines_of, is_empty}
 use Rattle.text_lines.specs.Each.{each, ◌>>=◌}

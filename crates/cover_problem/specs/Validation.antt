@@ -6,7 +6,8 @@ use Rattle.std.specs.Prelude.{ℕ, not, List, [], ◌∷◌, ◌++◌, length, R
 use Rattle.std.specs.List.{list_any}
 use Rattle.std.specs.Str.{bytes_eq}
 use Rattle.cover_problem.specs.declared.fault.Fault.{Fault}
-use Rattle.cover_problem.specs.declared.fault.Fault.TheVariants.{BadName, RepeatedItem, UnknownItem, ItemTwiceInOption, TooLarge, NoItemLine, BadLine}
+use Rattle.cover_problem.specs.declared.fault.Fault.TheVariants.{BadName, RepeatedItem, UnknownItem, ItemTwiceInOption, TooLarge}
+use Rattle.cover_problem.specs.declared.fault.Fault.TheVariants.{NoItemLine, BadLine}
 use Rattle.cover_problem.specs.Lists.{has}
 use Rattle.cover_problem.specs.Problem.{ProblemValue, is_name, is_item, is_small}
 use Rattle.text_lines.specs.Each.{each, ◌>>=◌}

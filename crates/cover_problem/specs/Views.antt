@@ -17,6 +17,6 @@ bytes_of names = map (λ n. n.bytes) names
 abbrev pub texts_of : List (String Global) → List (List ℕ)
 texts_of strings = map string_bytes strings
 
--- the problem that the code's names and options stand for
-abbrev pub problem_of_parts : List (ArrayString most_name_bytes) → ℕ → List (Vec ℕ Global) → ProblemValue
-problem_of_parts names primary options = problem_with (bytes_of names) primary (items_of options)
+-- the problem that the code's names stand for, with these options
+abbrev pub problem_of_parts : List (ArrayString most_name_bytes) → ℕ → List (List ℕ) → ProblemValue
+problem_of_parts names primary options = problem_with (bytes_of names) primary options

@@ -11,11 +11,12 @@ ghost use Rattle.cover_problem.specs.Validation.{add_name, with_item};
 ghost use Rattle.cover_problem.specs.Stamps.{AreStamps};
 ghost use Rattle.cover_problem.specs.Reading as reading;
 ghost use Rattle.cover_problem.specs.Reading.{item_of, add_item, nothing};
-ghost use Rattle.cover_problem.specs.Views.{items_of, bytes_of, problem_of_parts};
+ghost use Rattle.cover_problem.specs.Views.{bytes_of, problem_of_parts};
 
 use crate::fault::{Fault, ProblemFault};
 use crate::key::{Key, key_of};
 use crate::limits::{MOST_ENTRIES, MOST_ITEMS, MOST_OPTIONS};
+use crate::lists::Lists;
 use crate::name::{Name, Word, is_name};
 use crate::problem::Problem;
 use crate::validation::take_name;
@@ -31,7 +32,7 @@ pub struct Draft {
     names: IndexSet<Name>,
     /// 0 until the `items` line.
     primary: usize,
-    options: Vec<Vec<u32>>,
+    options: Lists,
     /// The items of all options together.
     entries: usize,
     /// For each item the number of the last option that took it, or 0.
@@ -47,9 +48,9 @@ impl Model for Draft {
 
     ghost Value = { ProblemValue };
 
-    ghost view = { λ a. problem_of_parts a.names.keys a.primary a.options.items };
+    ghost view = { λ a. problem_of_parts a.names.keys a.primary a.options };
 
-    ghost invariant = { λ a. IsDraft (problem_of_parts a.names.keys a.primary a.options.items) a.entries a.marks.items };
+    ghost invariant = { λ a. IsDraft (problem_of_parts a.names.keys a.primary a.options) a.entries a.marks.items };
 }
 
 /// The item of a name.
@@ -137,25 +138,23 @@ fn take_items(
     Ok(())
 }
 
-/// The option of these words, with room for its items alone. All marks are below the stamp.
-fn option_of(
-    alloc: Global,
+/// Takes the items of these words, once each. All marks are below the stamp.
+fn take_option(
     names: &IndexSet<Name>,
     marks: &mut [u32],
     stamp: u32,
     taken: &mut Vec<u32>,
     words: &[u8],
-) -> Result<Vec<u32>, ProblemFault>
+) -> Result<(), ProblemFault>
     requires few { length names.now.keys ≤ MOST_ITEMS }
     requires named { list_all problem.is_name (bytes_of names.now.keys) ≡ true }
     requires each_item { length marks.old ≡ length names.now.keys }
     requires old { All (λ mark. mark < stamp) marks.old }
-    ensures option { Gives (λ o. o.items) result (each (add_item (bytes_of names.now.keys)) [] (words_of words.now)) }
+    ensures option { Gives (λ _. taken.new.items) result (each (add_item (bytes_of names.now.keys)) [] (words_of words.now)) }
     ensures marks { OnOk result (All (λ mark. mark ≤ stamp) marks.new) }
 {
     taken.clear();
-    take_items(names, marks, stamp, taken, words)?;
-    Ok(Vec::from_slice(alloc, taken)?)
+    take_items(names, marks, stamp, taken, words)
 }
 
 /// The names with those of these words.
@@ -181,17 +180,17 @@ fn is_within(items: usize, options: usize, entries: usize) -> bool
 fn within(
     names: IndexSet<Name>,
     primary: usize,
-    options: Vec<Vec<u32>>,
+    options: Lists,
     entries: usize,
     marks: Vec<u32>,
     taken: Vec<u32>,
 ) -> Result<Draft, ProblemFault>
     requires primary { primary ≤ length names.keys }
     requires named { list_all problem.is_name (bytes_of names.keys) ≡ true }
-    requires counted { entries ≡ sum_by length (items_of options.items) }
+    requires counted { entries ≡ sum_by length options }
     requires marked { length marks.items ≡ length names.keys }
-    requires old { All (λ mark. mark ≤ length options.items) marks.items }
-    ensures { Gives (λ d. d) result (making.within (problem_of_parts names.keys primary options.items)) }
+    requires old { All (λ mark. mark ≤ length options) marks.items }
+    ensures { Gives (λ d. d) result (making.within (problem_of_parts names.keys primary options)) }
 {
     if !is_within(names.len(), options.len(), entries) {
         return Err(ProblemFault::Fault(Fault::TooLarge));
@@ -213,7 +212,7 @@ fn of_names(alloc: Global, names: IndexSet<Name>, primary: usize) -> Result<Draf
     ensures { Gives (λ d. d) result (making.within (problem_with (bytes_of names.keys) primary [])) }
 {
     let marks = vec![in alloc; 0u32; names.len()]?;
-    within(names, primary, Vec::new(alloc), 0, marks, Vec::new(alloc))
+    within(names, primary, Lists::new(alloc), 0, marks, Vec::new(alloc))
 }
 
 impl Draft {
@@ -224,7 +223,7 @@ impl Draft {
         Draft {
             names: IndexSet::new(alloc),
             primary: 0,
-            options: Vec::new(alloc),
+            options: Lists::new(alloc),
             entries: 0,
             marks: Vec::new(alloc),
             taken: Vec::new(alloc),
@@ -261,7 +260,7 @@ impl Draft {
 
     /// The draft with the option of an `option` line.
     #[tactic(auto, unfolding(crate::specs::Reading::option_line))]
-    fn with_option(self, alloc: Global, words: &[u8]) -> Result<Draft, ProblemFault>
+    fn with_option(self, words: &[u8]) -> Result<Draft, ProblemFault>
         ensures { Gives (λ d. d) result (reading.option_line self (words_of words.now)) }
     {
         if !has_words(words) {
@@ -279,9 +278,9 @@ impl Draft {
             mut taken,
         } = self;
         let stamp = options.len() as u32 + 1;
-        let option = option_of(alloc, &names, &mut marks, stamp, &mut taken, words)?;
-        let entries = entries + option.len();
-        options.push(option)?;
+        take_option(&names, &mut marks, stamp, &mut taken, words)?;
+        let entries = entries + taken.len();
+        options.push(&taken)?;
         within(names, primary, options, entries, marks, taken)
     }
 
@@ -296,7 +295,7 @@ impl Draft {
         match key_of(key) {
             Some(Key::Items) => self.with_items(alloc, words),
             Some(Key::Maybe) => self.with_maybe(alloc, words),
-            Some(Key::Option) => self.with_option(alloc, words),
+            Some(Key::Option) => self.with_option(words),
             None => Err(ProblemFault::Fault(Fault::BadLine)),
         }
     }

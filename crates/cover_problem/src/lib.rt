@@ -7,6 +7,7 @@ mod fault;
 mod key;
 pub mod laws;
 mod limits;
+mod lists;
 mod name;
 mod plain;
 mod problem;
@@ -17,12 +18,15 @@ mod writing;
 
 pub use fault::{CoverFault, Fault, ProblemFault, Refused};
 pub use limits::{MOST_ENTRIES, MOST_ITEMS, MOST_NAME_BYTES, MOST_OPTIONS};
+pub use lists::Lists;
 pub use plain::PlainTable;
 pub use problem::Problem;
 pub use reading::read_cover;
 pub use table::Table;
 pub use writing::write_cover;
 
+#[cfg(test)]
+mod exact_cover_tests;
 #[cfg(test)]
 mod problem_tests;
 #[cfg(test)]

@@ -1,5 +1,6 @@
 //! A table that copies the options and scans: the definition, run.
-ghost use Rattle.std.specs.Prelude.{◌≡◌, ◌<◌, ◌≤◌, ◌^◌, ◌+◌, ◌-◌, ◌==◌, ℕ, List, [], ◌∷◌, ◌++◌, length, filter, map, not, true, find, replicate, nat_lt, vec_len, IfOk, OnOk, vec_capacity};
+ghost use Rattle.std.specs.Prelude.{◌≡◌, ◌<◌, ◌≤◌, ◌^◌, ◌+◌, ◌-◌, ◌==◌, ℕ, List, [], ◌∷◌, ◌++◌, length, filter, map, not, true, find};
+ghost use Rattle.std.specs.Prelude.{replicate, nat_lt, vec_len, IfOk, OnOk, vec_capacity};
 ghost use Rattle.std.specs.List.{All, list_all, list_any, slice_index_or, prefix_len};
 ghost use Rattle.cover_problem.specs.Lists.{last_of, numbers, RisesFrom};
 ghost use Rattle.cover_problem.specs.Plain as plain;
@@ -8,6 +9,7 @@ ghost use Rattle.cover_problem.specs.Problem.{IsProblem};
 ghost use Rattle.cover_problem.specs.Table.{IsCoveredList};
 ghost use Rattle.cover_problem.specs.Views.{items_of};
 
+use crate::lists::Lists;
 use crate::problem::Problem;
 use crate::table::Table;
 use std::alloc::{AllocError, Global};
@@ -26,7 +28,7 @@ pub struct PlainTable {
     /// The problem, which contracts alone see.
     problem: Snapshot<Problem>,
     primary: u32,
-    options: Vec<Vec<u32>>,
+    options: Lists,
     /// For each item the options that have it, rising.
     holders: Vec<Vec<u32>>,
     /// The covered items, with room for all.
@@ -46,7 +48,7 @@ impl Model for PlainTable {
 
     ghost view = { λ a. record { problem = a.problem.value; covered = a.covered.items } };
 
-    ghost invariant = { λ a. IsPlain a.problem.value a.primary (items_of a.options.items) (items_of a.holders.items)
+    ghost invariant = { λ a. IsPlain a.problem.value a.primary a.options (items_of a.holders.items)
         a.covered.items a.times.items NEVER (vec_capacity a.covered) };
 }
 
@@ -61,20 +63,20 @@ fn is_out(option: &[u32], times: &[u32], limit: u32) -> bool
 }
 
 /// Whether none of the items of the option numbered k was covered before this time.
-fn is_in(options: &[Vec<u32>], times: &[u32], limit: u32, k: u32) -> bool
-    requires fit { All (λ o. All (λ i. (0 < i) × (i ≤ length times.now)) o.items) options.now }
+fn is_in(options: &Lists, times: &[u32], limit: u32, k: u32) -> bool
+    requires fit { All (λ o. All (λ i. (0 < i) × (i ≤ length times.now)) o) options.now }
     requires some { 0 < k }
     requires within { k ≤ length options.now }
-    ensures { result ≡ plain.is_in (items_of options.now) times.now limit k }
+    ensures { result ≡ plain.is_in options.now times.now limit k }
 {
-    !is_out(&options[(k - 1) as usize], times, limit)
+    !is_out(options.list((k - 1) as usize), times, limit)
 }
 
 /// The first of these options that is left.
-fn first_left(options: &[Vec<u32>], times: &[u32], limit: u32, holders: &[u32]) -> Option<u32>
-    requires fit { All (λ o. All (λ i. (0 < i) × (i ≤ length times.now)) o.items) options.now }
+fn first_left(options: &Lists, times: &[u32], limit: u32, holders: &[u32]) -> Option<u32>
+    requires fit { All (λ o. All (λ i. (0 < i) × (i ≤ length times.now)) o) options.now }
     requires within { All (λ k. (0 < k) × (k ≤ length options.now)) holders.now }
-    ensures { result ≡ find (plain.is_in (items_of options.now) times.now limit) holders.now }
+    ensures { result ≡ find (plain.is_in options.now times.now limit) holders.now }
 {
     holders
         .iter()
@@ -83,10 +85,10 @@ fn first_left(options: &[Vec<u32>], times: &[u32], limit: u32, holders: &[u32]) 
 }
 
 /// The last of these options that is left.
-fn last_left(options: &[Vec<u32>], times: &[u32], limit: u32, holders: &[u32]) -> Option<u32>
-    requires fit { All (λ o. All (λ i. (0 < i) × (i ≤ length times.now)) o.items) options.now }
+fn last_left(options: &Lists, times: &[u32], limit: u32, holders: &[u32]) -> Option<u32>
+    requires fit { All (λ o. All (λ i. (0 < i) × (i ≤ length times.now)) o) options.now }
     requires within { All (λ k. (0 < k) × (k ≤ length options.now)) holders.now }
-    ensures { result ≡ last_of (filter (plain.is_in (items_of options.now) times.now limit) holders.now) }
+    ensures { result ≡ last_of (filter (plain.is_in options.now times.now limit) holders.now) }
 {
     let mut rest = holders;
     while let Some((k, before)) = rest.split_last() {
@@ -99,10 +101,10 @@ fn last_left(options: &[Vec<u32>], times: &[u32], limit: u32, holders: &[u32]) -
 }
 
 /// How many of these options are left.
-fn count_left(options: &[Vec<u32>], times: &[u32], limit: u32, holders: &[u32]) -> usize
-    requires fit { All (λ o. All (λ i. (0 < i) × (i ≤ length times.now)) o.items) options.now }
+fn count_left(options: &Lists, times: &[u32], limit: u32, holders: &[u32]) -> usize
+    requires fit { All (λ o. All (λ i. (0 < i) × (i ≤ length times.now)) o) options.now }
     requires within { All (λ k. (0 < k) × (k ≤ length options.now)) holders.now }
-    ensures { result ≡ length (filter (plain.is_in (items_of options.now) times.now limit) holders.now) }
+    ensures { result ≡ length (filter (plain.is_in options.now times.now limit) holders.now) }
 {
     holders
         .iter()
@@ -148,23 +150,23 @@ fn note(holders: &mut [Vec<u32>], option: &[u32], k: u32) -> Result<(), AllocErr
 }
 
 /// For each of so many items the options that have it.
-fn note_all(holders: &mut [Vec<u32>], options: &[Vec<u32>]) -> Result<(), AllocError>
-    requires options { list_all (problem.is_option (length holders.old)) (items_of options.now) ≡ true }
+fn note_all(holders: &mut [Vec<u32>], options: &Lists) -> Result<(), AllocError>
+    requires options { list_all (problem.is_option (length holders.old)) options.now ≡ true }
     requires empty { items_of holders.old ≡ replicate (length holders.old) [] }
     requires small { length options.now < 2 ^ 32 }
-    ensures { OnOk result (items_of holders.new ≡ plain.holders_of (length holders.old) (items_of options.now)) }
+    ensures { OnOk result (items_of holders.new ≡ plain.holders_of (length holders.old) options.now) }
 {
-    for (place, option) in options.iter().enumerate() {
-        note(holders, option, place as u32 + 1)?;
+    for place in 0..options.len() {
+        note(holders, options.list(place), place as u32 + 1)?;
     }
     Ok(())
 }
 
 /// For each of so many items the options that have it.
-fn holders_of(alloc: Global, count: u32, options: &[Vec<u32>]) -> Result<Vec<Vec<u32>>, AllocError>
-    requires options { list_all (problem.is_option count) (items_of options.now) ≡ true }
+fn holders_of(alloc: Global, count: u32, options: &Lists) -> Result<Vec<Vec<u32>>, AllocError>
+    requires options { list_all (problem.is_option count) options.now ≡ true }
     requires small { length options.now < 2 ^ 32 }
-    ensures { IfOk result (λ holders. items_of holders.items ≡ plain.holders_of count (items_of options.now)) }
+    ensures { IfOk result (λ holders. items_of holders.items ≡ plain.holders_of count options.now) }
 {
     let mut holders = empty_lists(alloc, count)?;
     note_all(&mut holders, options)?;
@@ -237,7 +239,7 @@ impl Table for PlainTable {
 
     fn new(alloc: Global, problem: &Problem) -> Result<Self, AllocError> {
         let items = problem.items();
-        let options = problem.option_lists().to_vec(alloc)?;
+        let options = problem.option_lists().copy()?;
         let holders = holders_of(alloc, items, &options)?;
         let covered = Vec::with_capacity(alloc, items as usize)?;
         let times = vec![in alloc; NEVER; items as usize]?;

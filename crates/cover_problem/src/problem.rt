@@ -1,16 +1,17 @@
 //! An exact cover problem.
-ghost use Rattle.std.specs.Prelude.{◌≡◌, ◌<◌, ◌≤◌, Ok, length, map, IfOk, IfErr, true, false, IsTrue, IsErrAnd, ◌↔◌, bytes_eq, position};
+ghost use Rattle.std.specs.Prelude.{◌≡◌, ◌<◌, ◌≤◌, Ok, length, map, IfOk, IfErr, true, false, IsTrue, IsErrAnd, IsErrOf, ◌↔◌, bytes_eq, position};
 ghost use Rattle.std.specs.Cmp.Lexicographic.{pointwise};
 ghost use Rattle.std.specs.List.{list_all};
 ghost use Rattle.std.specs.String.{string_bytes};
 ghost use Rattle.cover_problem.specs.Problem.{IsProblem, problem_with, is_item, is_name, option_at, name_at, item_named, is_same};
-ghost use Rattle.text_lines.specs.Answers.{IsFaultOf};
+ghost use Rattle.text_lines.specs.Answers.{Gives, IsFaultOf};
 ghost use Rattle.text_lines.specs.declared.refusal.Refusal.TheVariants as refusals;
 ghost use Rattle.cover_problem.specs.declared.fault.Fault.TheVariants.{NoItemLine};
 ghost use Rattle.cover_problem.specs.Validation.{problem_from};
 ghost use Rattle.cover_problem.specs.Views.{items_of, bytes_of, texts_of, problem_of_parts};
 
 use crate::fault::{ProblemFault, Refused};
+use crate::lists::Lists;
 use crate::name::Name;
 use crate::validation::checked_names;
 use indexmap::IndexSet;
@@ -22,7 +23,7 @@ use std::marker::Model;
 pub struct Problem {
     names: IndexSet<Name>,
     primary: u32,
-    options: Vec<Vec<u32>>,
+    options: Lists,
 }
 
 impl Model for Problem {
@@ -31,9 +32,9 @@ impl Model for Problem {
 
     ghost Value = { ProblemValue };
 
-    ghost view = { λ a. problem_of_parts a.names.keys a.primary a.options.items };
+    ghost view = { λ a. problem_of_parts a.names.keys a.primary a.options };
 
-    ghost invariant = { λ a. IsProblem (problem_of_parts a.names.keys a.primary a.options.items) };
+    ghost invariant = { λ a. IsProblem (problem_of_parts a.names.keys a.primary a.options) };
 }
 
 /// Whether the names are the same, in the same order.
@@ -44,10 +45,21 @@ fn are_same_names(names: &[Name], others: &[Name]) -> bool
 }
 
 /// Whether the options are the same.
-fn are_same_options(options: &[Vec<u32>], others: &[Vec<u32>]) -> bool
-    ensures { result ≡ pointwise bytes_eq (items_of options.now) (items_of others.now) }
+fn are_same_options(options: &Lists, others: &Lists) -> bool
+    ensures { result ≡ pointwise bytes_eq options.now others.now }
 {
-    options == others
+    options.same(others)
+}
+
+/// The options in one list, flat in memory.
+fn flat(alloc: Global, options: &[Vec<u32>]) -> Result<Lists, AllocError>
+    ensures { IfOk result (λ lists. lists ≡ items_of options.now) }
+{
+    let mut lists = Lists::new(alloc);
+    for option in options {
+        lists.push(option)?;
+    }
+    Ok(lists)
 }
 
 /// Where a name stands.
@@ -57,6 +69,25 @@ fn place_of(names: &IndexSet<Name>, name: &str) -> Option<usize>
 {
     let key = Name::from(name).ok()?;
     names.get_index_of(&key)
+}
+
+/// The problem of items with these names, of which the first `primary` have to be covered, and these options.
+fn checked(
+    alloc: Global,
+    names: &[String],
+    primary: u32,
+    options: &[Vec<u32>],
+) -> Result<Problem, ProblemFault>
+    ensures made { Gives (λ p. p) result (problem_from (texts_of names.now) primary (items_of options.now)) }
+    ensures primary { IsErrOf result (refusals.Fault NoItemLine) ↔ (is_item (length names.now) primary ≡ false) }
+{
+    let names = checked_names(alloc, names, primary, options)?;
+    let options = flat(alloc, options)?;
+    Ok(Problem {
+        names,
+        primary,
+        options,
+    })
 }
 
 impl Problem {
@@ -77,12 +108,8 @@ impl Problem {
             (is_item (length names.items) primary ≡ false) }
         ensures given { IfErr result (λ r. r.given ≡ (names, options)) }
     {
-        match checked_names(alloc, &names, primary, &options) {
-            Ok(names) => Ok(Problem {
-                names,
-                primary,
-                options,
-            }),
+        match checked(alloc, &names, primary, &options) {
+            Ok(problem) => Ok(problem),
             Err(fault) => Err(Refused {
                 fault,
                 given: (names, options),
@@ -91,9 +118,9 @@ impl Problem {
     }
 
     /// The problem of parts that are known to make one.
-    pub(crate) fn from_parts(names: IndexSet<Name>, primary: u32, options: Vec<Vec<u32>>) -> Problem
-        requires { IsProblem (problem_of_parts names.keys primary options.items) }
-        ensures { result ≡ problem_of_parts names.keys primary options.items }
+    pub(crate) fn from_parts(names: IndexSet<Name>, primary: u32, options: Lists) -> Problem
+        requires { IsProblem (problem_of_parts names.keys primary options) }
+        ensures { result ≡ problem_of_parts names.keys primary options }
     {
         Problem {
             names,
@@ -147,7 +174,7 @@ impl Problem {
         requires within { k ≤ length self.now.options }
         ensures { result.now ≡ option_at self.now k }
     {
-        &self.options[(k - 1) as usize]
+        self.options.list((k - 1) as usize)
     }
 
     /// The names of the items.
@@ -159,8 +186,8 @@ impl Problem {
     }
 
     /// The items of each option.
-    pub(crate) fn option_lists(&self) -> &[Vec<u32>]
-        ensures { items_of result.now ≡ self.now.options }
+    pub(crate) fn option_lists(&self) -> &Lists
+        ensures { result.now ≡ self.now.options }
     {
         &self.options
     }
@@ -170,7 +197,7 @@ impl Problem {
         ensures { IfOk result (λ p. p ≡ self.now) }
     {
         let names = self.names.clone()?;
-        let options = self.options.clone()?;
+        let options = self.options.copy()?;
         Ok(Problem {
             names,
             primary: self.primary,

@@ -113,7 +113,7 @@ fn checked_parts(
     options: &[Vec<u32>],
 ) -> Result<IndexSet<Name>, ProblemFault>
     requires { problem.is_item (length names.now) primary ≡ true }
-    ensures { Gives (λ these. problem_of_parts these.keys primary options.now) result
+    ensures { Gives (λ these. problem_of_parts these.keys primary (items_of options.now)) result
         (making.problem_from (texts_of names.now) primary (items_of options.now)) }
 {
     let these = take_names(alloc, names)?;
@@ -131,7 +131,7 @@ pub fn checked_names(
     primary: u32,
     options: &[Vec<u32>],
 ) -> Result<IndexSet<Name>, ProblemFault>
-    ensures names { Gives (λ these. problem_of_parts these.keys primary options.now) result
+    ensures names { Gives (λ these. problem_of_parts these.keys primary (items_of options.now)) result
         (making.problem_from (texts_of names.now) primary (items_of options.now)) }
     ensures primary { IsErrOf result (refusals.Fault NoItemLine) ↔ (problem.is_item (length names.now) primary ≡ false) }
 {

@@ -4,8 +4,9 @@ ghost use Rattle.std.specs.List.{list_all};
 ghost use Rattle.text_lines.specs.Writing.{line_text, text_of};
 ghost use Rattle.cover_problem.specs.Problem.{is_item, is_option};
 ghost use Rattle.cover_problem.specs.Grammar.{maybe_words, option_words, written};
-ghost use Rattle.cover_problem.specs.Views.{items_of, bytes_of};
+ghost use Rattle.cover_problem.specs.Views.{bytes_of};
 
+use crate::lists::Lists;
 use crate::name::Name;
 use crate::problem::Problem;
 use std::alloc::{AllocError, Global};
@@ -55,12 +56,12 @@ fn write_option(text: &mut Vec<u8>, names: &[Name], option: &[u32]) -> Result<()
 }
 
 /// Writes the lines of options over items with these names.
-fn write_options(text: &mut Vec<u8>, names: &[Name], options: &[Vec<u32>]) -> Result<(), AllocError>
-    requires { list_all (is_option (length names.now)) (items_of options.now) ≡ true }
-    ensures { OnOk result (text.new.items ≡ text.old.items ++ text_of (map (option_words (bytes_of names.now)) (items_of options.now))) }
+fn write_options(text: &mut Vec<u8>, names: &[Name], options: &Lists) -> Result<(), AllocError>
+    requires { list_all (is_option (length names.now)) options.now ≡ true }
+    ensures { OnOk result (text.new.items ≡ text.old.items ++ text_of (map (option_words (bytes_of names.now)) options.now)) }
 {
-    for option in options {
-        write_option(text, names, option)?;
+    for place in 0..options.len() {
+        write_option(text, names, options.list(place))?;
     }
     Ok(())
 }

@@ -1,14 +1,13 @@
 -- How the writers' steps make the lines of replies.
-use Rattle.std.proofs.Common.{◌≡◌, ℕ, ◌<◌, ◌≤◌, true, nat_lt, nat_le, List, [], ◌∷◌, ◌++◌, length, get_or, map, decimal, codes, refl, sym, ◌∙◌, ap, subst, arith, append_assoc, append-nil, ltb-true, leb-true}
+use Rattle.std.proofs.Common.{◌≡◌, ℕ, ◌<◌, ◌≤◌, true, List, [], ◌∷◌, ◌++◌, length, get_or, map, decimal, codes, refl, sym, ◌∙◌, ap, subst, arith, append_assoc, append-nil}
 use Rattle.std.specs.List.{list_all}
-use Rattle.std.proofs.lemmas.Bool.{and_parts}
 use Rattle.std.proofs.lemmas.List.{length-map, get_or-map}
 use Rattle.std.proofs.lemmas.List.Sums.{AllPass-from_list_all}
 use Rattle.std.proofs.lemmas.Grind.{flat_map-append}
-use Rattle.text_lines.specs.Writing.{spaced, line_text}
+use Rattle.text_lines.specs.Writing.{spaced, words_after, line_text}
+use Rattle.text_lines.proofs.WritingLemmas.{joined}
 use Rattle.cover_problem.specs.Problem.{is_item, name_at}
-use Rattle.cover_problem.proofs.WriterLemmas.{joined}
-use Rattle.x_snapshot.specs.Writing.{words_after}
+use Rattle.cover_problem.proofs.BoundLemmas.{item_bounds}
 use Rattle.x_snapshot.proofs.WriterLemmas.{line_written}
 use Rattle.debug_texts.specs.Replies.{covered_words, levels_words}
 
@@ -66,5 +65,4 @@ row_item value n rows i row h l at =
     let m : i < length (map value rows) = rw length-map l in
     let e : get_or (map value rows) i (0, []) ≡ value row = get_or-map value rows i row (0, []) l ∙ ap value (sym at) in
     let item : is_item n (value row).0 ≡ true = subst (λ (r : ℕ × List ℕ). is_item n r.0 ≡ true) e (AllPass-from_list_all (λ r. is_item n r.0) (map value rows) h i (0, []) m) in
-    let parts = and_parts (nat_lt 0 (value row).0) (nat_le (value row).0 n) item in
-    (ltb-true 0 (value row).0 parts.0, leb-true (value row).0 n parts.1)
+    item_bounds n (value row).0 item

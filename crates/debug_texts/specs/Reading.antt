@@ -5,7 +5,8 @@
 --
 -- Example: `split 0 4` asks to split at level 0 and option 4; `split 0`, `split 0 04` and `# split` are no commands.
 -- proofs/ReadingExamples.antt computes it.
-use Rattle.std.specs.Prelude.{ℕ, ◌≡◌, ◌==◌, nat_le, Bool, ◌&&◌, if◌then◌else◌, List, [], ◌∷◌, codes, Option, Some, option_map, option_and_then}
+use Rattle.std.specs.Prelude.{ℕ, ◌≡◌, ◌==◌, nat_le, Bool, ◌&&◌, if◌then◌else◌, List, [], ◌∷◌, codes, Option, Some, option_map}
+use Rattle.std.specs.Prelude.{option_and_then}
 use Rattle.std.specs.Prelude as prelude
 use Rattle.std.specs.List.{slice_split}
 use Rattle.std.specs.Result.{result_ok}
@@ -16,7 +17,8 @@ use Rattle.text_lines.specs.declared.refusal.Refusal.{Refusal}
 use Rattle.text_lines.specs.declared.refusal.Refusal.TheVariants as refusals
 use Rattle.cover_problem.specs.Problem.{ProblemValue}
 use Rattle.x_snapshot.specs.Reading.{only, option_from, break_from, state_from}
-use Rattle.debug_texts.specs.Command.{CommandValue, Nothing, Step, Run, Back, SetBreak, Clear, Show, Untried, Split, Park, Save, SaveBreaks, Close, Enter, Branches, Visits, Retract, Hold, PutBack, Steps, Levels}
+use Rattle.debug_texts.specs.Command.{CommandValue, Nothing, Step, Run, Back, SetBreak, Clear, Show, Untried, Split, Park, Save}
+use Rattle.debug_texts.specs.Command.{SaveBreaks, Close, Enter, Branches, Visits, Retract, Hold, PutBack, Steps, Levels}
 use Rattle.debug_texts.specs.declared.fault.DebugFault.{DebugFault}
 use Rattle.debug_texts.specs.declared.fault.DebugFault.TheVariants.{BadCommand}
 use Rattle.debug_texts.specs.declared.engine.EngineCommand.{EngineCommand}

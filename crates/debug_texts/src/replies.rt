@@ -7,10 +7,10 @@ ghost use Rattle.x_snapshot.specs.Writing.{state_words, point_words};
 ghost use Rattle.debug_texts.specs.Replies.{plain_word, counted_word, visit_words};
 
 use crate::words::{Counted, Plain};
-use cover_problem::Problem;
+use cover_problem::{Lists, Problem};
 use std::alloc::AllocError;
 use x_snapshot::{Break, write_break, write_count, write_path, write_state};
-use x_steps::{Paths, State};
+use x_steps::State;
 
 /// Writes a line that is always the same.
 pub fn write_plain(text: &mut Vec<u8>, plain: Plain) -> Result<(), AllocError>
@@ -43,11 +43,11 @@ pub fn write_visit(text: &mut Vec<u8>, path: &[u32]) -> Result<(), AllocError>
 }
 
 /// Writes visits, a line for each.
-pub fn write_visits(text: &mut Vec<u8>, visits: &Paths) -> Result<(), AllocError>
+pub fn write_visits(text: &mut Vec<u8>, visits: &Lists) -> Result<(), AllocError>
     ensures { OnOk result (text.new.items ≡ text.old.items ++ text_of (map visit_words visits.now)) }
 {
     for place in 0..visits.len() {
-        write_visit(text, visits.path(place))?;
+        write_visit(text, visits.list(place))?;
     }
     Ok(())
 }

@@ -1,28 +1,18 @@
 //! The lines that show branches, items and levels.
-ghost use Rattle.std.specs.Prelude.{◌≡◌, ◌<◌, ◌≤◌, ◌++◌, ◌∷◌, [], true, map, decimal, codes, length, count_by, option_copied, OnOk};
+ghost use Rattle.std.specs.Prelude.{◌≡◌, ◌<◌, ◌≤◌, ◌++◌, ◌∷◌, [], true, map, codes, length, count_by, option_copied, OnOk};
 ghost use Rattle.std.specs.List.{list_all};
 ghost use Rattle.text_lines.specs.Lines.{is_newline};
-ghost use Rattle.text_lines.specs.Writing.{spaced, line_text, text_of};
+ghost use Rattle.text_lines.specs.Writing.{spaced, words_after, line_text, text_of};
 ghost use Rattle.cover_problem.specs.Problem.{is_item, name_at};
 ghost use Rattle.x_steps.specs.StateView.{row_values};
-ghost use Rattle.x_snapshot.specs.Writing.{words_after, cut_words};
-ghost use Rattle.debug_texts.specs.Replies.{branch_words, standing_words, untried_words, covered_words, listed_word, list_words, levels_words, saved_text, are_of_items};
+ghost use Rattle.debug_texts.specs.Replies.{branch_words, standing_words, untried_words, covered_words, listed_word, list_words};
+ghost use Rattle.debug_texts.specs.Replies.{levels_words, saved_text, are_of_items};
 
 use crate::replies::write_counted;
 use crate::words::{Counted, Listed, Standing};
 use cover_problem::Problem;
 use std::alloc::AllocError;
-use x_snapshot::{write_number, write_numbers, write_word};
-
-/// Writes the choices of a cut after a word, or the word for none.
-fn write_cut(text: &mut Vec<u8>, none: &str, path: Option<&[u32]>) -> Result<(), AllocError>
-    ensures { OnOk result (text.new.items ≡ text.old.items ++ words_after (cut_words none.now (option_copied path.entry))) }
-{
-    match path {
-        Some(path) => write_numbers(text, path),
-        None => write_word(text, none),
-    }
-}
+use x_snapshot::{write_cut, write_number, write_numbers, write_word};
 
 /// Writes a branch without the end of its line.
 fn write_cuts(text: &mut Vec<u8>, lo: Option<&[u32]>, hi: Option<&[u32]>) -> Result<(), AllocError>
@@ -139,16 +129,6 @@ pub fn write_lists(
     Ok(())
 }
 
-/// Writes counts, each after a word.
-fn write_counts(text: &mut Vec<u8>, counts: &[u128]) -> Result<(), AllocError>
-    ensures { OnOk result (text.new.items ≡ text.old.items ++ words_after (map decimal counts.now)) }
-{
-    for count in counts {
-        write_number(text, *count)?;
-    }
-    Ok(())
-}
-
 /// Writes the counts of the levels from 0 on, that of level 0 at least.
 pub fn write_levels(text: &mut Vec<u8>, counts: &[u128]) -> Result<(), AllocError>
     ensures { OnOk result (text.new.items ≡ text.old.items ++ line_text (levels_words counts.now)) }
@@ -157,7 +137,7 @@ pub fn write_levels(text: &mut Vec<u8>, counts: &[u128]) -> Result<(), AllocErro
         return text.extend_from_slice(b"levels 0\n");
     }
     text.extend_from_slice(b"levels")?;
-    write_counts(text, counts)?;
+    write_numbers(text, counts)?;
     text.push(b'\n')?;
     Ok(())
 }

@@ -1,7 +1,7 @@
 -- The first line of a text is what stands before its first newline.
 use Rattle.std.proofs.Common.{◌≡◌, ℕ, ◌+◌, ◌<◌, List, [], ◌∷◌, ◌++◌, length, take, drop, Bool, true, false, not, cond, ◌&&◌, refl, sym, ◌∙◌, ap, ◌-◌, one-add, arith}
 use Rattle.std.proofs.lemmas.Bool.{and_parts, not-true, eqb-true}
-use Rattle.std.proofs.lemmas.List.{take-append-drop}
+use Rattle.std.proofs.lemmas.List.{take-append-drop, nil_from_length}
 use Rattle.std.proofs.Math.Seq.{take-length}
 use Rattle.std.specs.List.{onto_first, position_or_len, list_all}
 use Rattle.text_lines.specs.Lines.{lines_of, is_newline}
@@ -58,10 +58,6 @@ first_line_of : (text : List ℕ) → 0 < length text → lines_of text ≡ take
 first_line_of [] some = absurd (omega arith)
 first_line_of (b ∷ bs) some = first_line b bs
 
-nothing : (bs : List ℕ) → length bs ≡ 0 → bs ≡ []
-nothing [] none = refl
-nothing (b ∷ bs) none = absurd (omega arith)
-
 begins : (text rest : List ℕ) → 0 < length rest → drop (position_or_len is_newline text) text ≡ rest → rest ≡ 10 ∷ drop 1 rest
 begins text [] some from = absurd (omega arith)
 begins text (b ∷ bs) some from = rw (at_newline text bs b from) refl
@@ -80,13 +76,13 @@ module _ (text line rest : List ℕ) (n : ℕ) (at : n ≡ position_or_len is_ne
   cut_line_more some = rw (tail_is rest) (cut_line some)
 
   pub cut_line_last : 0 < length text → length rest ≡ 0 → lines_of text ≡ line ∷ lines_of rest
-  cut_line_last some none = let e : rest ≡ [] = nothing rest none in rw e (rw e at (cut_line some))
+  cut_line_last some none = let e : rest ≡ [] = nil_from_length rest none in rw e (rw e at (cut_line some))
 
   pub cut_first : list_all (λ c. not (is_newline c)) line ≡ true
   cut_first = rw (front, at) (before_newline text)
 
   pub cut_none : length rest ≡ 0 → list_all (λ c. not (is_newline c)) text ≡ true
-  cut_none none = no_newline text (rw (← at) (sym back ∙ nothing rest none))
+  cut_none none = no_newline text (rw (← at) (sym back ∙ nil_from_length rest none))
 
   pub cut_some : 0 < length rest → text ≡ line ++ 10 ∷ take (length rest - 1) (drop 1 rest)
   cut_some some = rw (tail_is rest) (sym (take-append-drop n text) ∙ rw (← front, ← back) (ap (λ t. line ++ t) (begins text rest some (rw (← at) (sym back)))))

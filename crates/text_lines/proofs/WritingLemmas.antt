@@ -1,11 +1,11 @@
 -- Lines of words that are written are read as they were meant.
-use Rattle.std.proofs.Common.{◌^◌, decimal, ◌<◌, ◌≡◌, ℕ, zero, suc, ◌-◌, ◌==◌, List, [], ◌∷◌, ◌++◌, map, length, get_or, Bool, true, false, not, ◌||◌, refl, ◌∙◌, ap, one-add, arith, append_assoc}
+use Rattle.std.proofs.Common.{◌^◌, decimal, ◌<◌, ◌≡◌, ℕ, zero, suc, ◌-◌, ◌==◌, List, [], ◌∷◌, ◌++◌, map, length, get_or, Bool, true, false, not, ◌||◌, refl, sym, ◌∙◌, ap, one-add, arith, append_assoc, append-nil}
 use Rattle.std.specs.Prelude.{filter}
 use Rattle.std.proofs.lemmas.Bool.{and_parts, and_from, not-true}
 use Rattle.std.proofs.lemmas.Bool.Decides.{nat_tests}
 use Rattle.std.specs.List.{onto_first, slice_split, list_all, before_first}
-use Rattle.text_lines.specs.Lines.{lines_of, words_of, is_blank, has_bytes, is_newline, is_plain, begins_comment, outside_comment, without_return}
-use Rattle.text_lines.specs.Writing.{is_word_byte, is_word, spaced, line_text, text_of, words_of_line, are_plain}
+use Rattle.text_lines.specs.Lines.{lines_of, words_of, is_blank, has_bytes, is_newline, is_one_line, is_plain, begins_comment, outside_comment, without_return}
+use Rattle.text_lines.specs.Writing.{is_word_byte, is_word, spaced, words_after, line_text, text_of, words_of_line, are_plain}
 use Rattle.text_lines.specs.Numbers.{is_digit, begins_well}
 use Rattle.text_lines.proofs.LineLemmas.{ended_line}
 use Rattle.text_lines.proofs.NumberLemmas.{printed_is_decimal}
@@ -115,11 +115,15 @@ spaced_words (w ∷ v ∷ words) h =
 
 -- *the main proofs*
 
+-- words that are written have no newline
+pub words_one_line : (words : List (List ℕ)) → list_all is_word words ≡ true → is_one_line (spaced words) ≡ true
+words_one_line words h = weaker is_written (λ b. not (is_newline b)) written_no_newline (spaced words) (line_is_written words h)
+
 -- a line that is written is the first line
 pub line_before : (words : List (List ℕ)) (rest : List ℕ) → list_all is_word words ≡ true → lines_of (line_text words ++ rest) ≡ spaced words ∷ lines_of rest
 line_before words rest h =
     rw (append_assoc (spaced words) (10 ∷ []) rest)
-    (ended_line (spaced words) rest (weaker is_written (λ b. not (is_newline b)) written_no_newline (spaced words) (line_is_written words h)))
+    (ended_line (spaced words) rest (words_one_line words h))
 
 -- and says its words
 pub line_said : (words : List (List ℕ)) → list_all is_word words ≡ true → words_of_line (spaced words) ≡ words
@@ -152,6 +156,18 @@ written_said lines h = rw (written_lines lines h) (spaced_said lines h)
 
 pub written_plain : (lines : List (List (List ℕ))) → list_all (list_all is_word) lines ≡ true → are_plain (lines_of (text_of lines)) ≡ true
 written_plain lines h = rw (written_lines lines h) (spaced_are_plain lines h)
+
+-- *a line that is written word by word*
+
+pub joined : (key : List ℕ) (words : List (List ℕ)) → spaced (key ∷ words) ≡ key ++ words_after words
+joined key [] = sym (append-nil key)
+joined key (w ∷ words) = ap (λ bs. key ++ 32 ∷ bs) (joined w words)
+
+-- a line that is ended
+pub line_ends : (text old key : List ℕ) (words : List (List ℕ)) → text ≡ (old ++ key) ++ words_after words → text ++ 10 ∷ [] ≡ old ++ line_text (key ∷ words)
+line_ends text old key words e =
+    ap (λ bs. bs ++ 10 ∷ []) (e ∙ append_assoc old key (words_after words) ∙ ap (λ bs. old ++ bs) (sym (joined key words)))
+    ∙ append_assoc old (spaced (key ∷ words)) (10 ∷ [])
 
 -- *numbers*
 

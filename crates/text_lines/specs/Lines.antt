@@ -9,7 +9,8 @@
 --     outside_comment line what stands before the comment
 --     is_plain b           a byte that may stand outside a comment
 --     words_of said        the words, in order
-use Rattle.std.specs.Prelude.{ℕ, ◌-◌, ◌==◌, nat_le, List, [], ◌∷◌, length, take, slice_index, Bool, not, true, false, ◌||◌, ◌&&◌, if◌then◌else◌, filter}
+use Rattle.std.specs.Prelude.{ℕ, ◌-◌, ◌==◌, nat_le, List, [], ◌∷◌, length, take, slice_index, filter}
+use Rattle.std.specs.Prelude.{Bool, not, true, false, ◌||◌, ◌&&◌, if◌then◌else◌}
 use Rattle.std.specs.List.{onto_first, before_first, slice_split, list_all}
 
 -- a newline

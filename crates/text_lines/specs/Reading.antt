@@ -15,7 +15,8 @@ use Rattle.text_lines.specs.Each.{each, ◌>>=◌}
 
 -- a line by its words: a byte that isn't plain may stand in its comment alone, and is the fault `bad` elsewhere
 unfoldable pub plain_line : {S F : Type 0} → F → (S → List (List ℕ) → Result S F) → S → List ℕ → Result S F
-plain_line bad words_line s bytes = if list_all is_plain (outside_comment bytes) then words_line s (words_of (outside_comment bytes)) else Err bad
+plain_line bad words_line s bytes =
+    if list_all is_plain (outside_comment bytes) then words_line s (words_of (outside_comment bytes)) else Err bad
 
 -- the words of each line that has words
 abbrev pub words_by_line : List (List ℕ) → List (List (List ℕ))
@@ -50,7 +51,8 @@ text_read line nothing whole lines = lines_read line nothing lines >>= λ read. 
 -- *which fault is the first*
 
 -- after the lines before it, which say s, the line numbered n has the fault f
-pub record IsFirst {S F : Type 0} (line : S → List ℕ → Result S F) (nothing : S) (front : List (List ℕ)) (bytes : List ℕ) (s : S) (f : F) (n : ℕ) : Type 0 where
+pub record IsFirst {S F : Type 0} (line : S → List ℕ → Result S F) (nothing : S)
+    (front : List (List ℕ)) (bytes : List ℕ) (s : S) (f : F) (n : ℕ) : Type 0 where
   pub number : n ≡ length front + 1
   pub read : lines_read line nothing front ≡ Ok (s, n)
   pub fault : line s bytes ≡ Err f
@@ -79,4 +81,5 @@ FaultIsOfWhole {S} {P} {F} line nothing whole = (lines : List (List ℕ)) (f : F
 -- lines say what their words say, where they are plain
 abbrev pub SaysItsWords : {S F : Type 0} → F → (S → List (List ℕ) → Result S F) → Type 0
 SaysItsWords {S} bad words_line = (lines : List (List ℕ)) (s t : S) →
-    (((n : ℕ) × (lines_read (plain_line bad words_line) s lines ≡ Ok (t, n))) ↔ ((are_plain lines ≡ true) × (each words_line s (words_by_line lines) ≡ Ok t)))
+    (((n : ℕ) × (lines_read (plain_line bad words_line) s lines ≡ Ok (t, n)))
+    ↔ ((are_plain lines ≡ true) × (each words_line s (words_by_line lines) ≡ Ok t)))

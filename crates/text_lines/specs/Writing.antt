@@ -21,6 +21,10 @@ are_words lines = list_all (list_all is_word) lines
 abbrev pub spaced : List (List ℕ) → List ℕ
 spaced words = join_with_byte 32 words
 
+-- each word after a space
+abbrev pub words_after : List (List ℕ) → List ℕ
+words_after words = flat_map (λ word. 32 ∷ word) words
+
 -- a line of these words, and its end
 abbrev pub line_text : List (List ℕ) → List ℕ
 line_text words = spaced words ++ 10 ∷ []

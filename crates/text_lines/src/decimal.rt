@@ -15,8 +15,8 @@ fn begins_well(word: &[u8]) -> bool
     }
 }
 
-/// Whether each byte is a digit.
-fn is_all_digits(word: &[u8]) -> bool
+/// Whether each byte is a digit; there may be none.
+pub fn is_all_digits(word: &[u8]) -> bool
     ensures { result ≡ list_all spec.is_digit word.now }
 {
     word.iter().all(|byte| byte.is_ascii_digit())

@@ -9,7 +9,7 @@ mod reading;
 mod refusal;
 mod word;
 
-pub use decimal::{is_decimal, number};
+pub use decimal::{is_all_digits, is_decimal, number};
 pub use laws::{
     each_goes_on, each_stops_at_the_first_fault, fault_is_first, number_is_as_printed,
     plain_lines_say_words, text_says_its_words, written_text_is_read,

@@ -91,6 +91,8 @@ fn numbers_have_one_spelling(rt: HostRuntime) {
     assert_eq!(rt; number(b"4294967296", u32::MAX), None);
     assert_eq!(rt; number(b"01", 9), None);
     assert_eq!(rt; number(b"1x", 9), None);
+    assert!(rt; is_all_digits(b"007"));
+    assert!(rt; !is_all_digits(b"0x7"));
     assert!(rt; is_decimal(b"99999999999999999999"));
     assert!(rt; !is_decimal(b""));
 }
@@ -117,7 +119,10 @@ impl ByLine for Longest {
 
     type Fault = Odd;
 
-    ghost line = { λ s bytes. if list_all is_plain bytes then (if nat_le (length bytes) s.length then Ok s else Ok (record { length = length bytes })) else Err odd.Byte };
+    ghost line = { λ s bytes.
+        if list_all is_plain bytes
+        then (if nat_le (length bytes) s.length then Ok s else Ok (record { length = length bytes }))
+        else Err odd.Byte };
 
     fn add_line(&mut self, alloc: Global, bytes: &[u8]) -> Result<(), Refusal<Odd>> {
         let _ = alloc;

@@ -2,7 +2,7 @@
 use Rattle.std.proofs.Common.{◌≡◌, ℕ, zero, suc, ◌+◌, ◌-◌, ◌<◌, ◌≤◌, ◌⊎◌, true, false, List, [], ◌∷◌, ◌++◌, length, take, drop, filter, get_or, refl, sym, ap, ap₂, ◌∙◌, subst, inl, inr, arith, append-nil, length-append, length-drop}
 use Rattle.std.specs.Prelude.{◌↔◌, nat_lt}
 use Rattle.std.proofs.lemmas.Bool.{cases_lt, cases_order, lt-ltb, ltb-true, false≢true}
-use Rattle.std.proofs.lemmas.List.{get_or-drop}
+use Rattle.std.proofs.lemmas.List.{get_or-drop, nil_from_length}
 use Rattle.cover_problem.specs.Problem.{ProblemValue}
 use Rattle.cover_problem.specs.Lists.{has}
 use Rattle.cover_problem.specs.Path.{IsChoice, IsValid, covered_by}
@@ -19,7 +19,7 @@ use Rattle.x_steps.specs.Steps.{FitsAt, Fits, remaining_after}
 use Rattle.x_steps.specs.Order.{PathLess}
 use Rattle.x_steps.specs.Run.{steps_between}
 use Rattle.x_steps.specs.Rank.{rank}
-use Rattle.x_steps.proofs.Neighbours.{split_last_push, split_last_cases}
+use Rattle.x_steps.proofs.Neighbours.{parted, split_last_push, split_last_cases}
 use Rattle.x_steps.proofs.OrderLemmas.{cut_rank, rank_cut, fits_valid, cut_before, inside_before, level_rank, left_before, left_after}
 use Rattle.x_steps.proofs.BetweenLemmas.{steps_between_some}
 use Rattle.x_steps.proofs.StretchLemmas.{steps_between_none}
@@ -27,8 +27,7 @@ use Rattle.x_branches.specs.Cut.{option_of, choices, state_after_choices, cut_st
 use Rattle.x_branches.specs.RunOrder.{ComesBefore, comes_before}
 use Rattle.x_branches.specs.Untried.{remaining_above, is_before_end, untried_after, untried, with_choice, IsUntried}
 use Rattle.std.proofs.Math.Seq.{drop-nil}
-use Rattle.x_steps.proofs.MachineLemmas.{emptied}
-use Rattle.x_branches.proofs.StageLemmas.{comes_rank, rank_comes, parts}
+use Rattle.x_branches.proofs.StageLemmas.{comes_rank, rank_comes}
 
 -- ---- the test of the order
 
@@ -64,9 +63,9 @@ cut_parts p path c = step (split_last_cases path)
 -- a cut's path, parted before its last choice
 pub cut_parted : (path front back : List ℕ) (n : ℕ) → 0 < length path → n ≡ length path - 1 → front ≡ take n path → back ≡ drop n path → at X5 front (At (get_or back 0 0)) ≡ cut_state path
 cut_parted path front back n s a b d =
-    let e : path ≡ take n path ++ get_or path n 0 ∷ drop (suc n) path = parts path n (omega arith) in
+    let e : path ≡ take n path ++ get_or path n 0 ∷ drop (suc n) path = parted path n (omega arith) in
     let l : length (drop (suc n) path) ≡ 0 = omega (arith, length-drop (suc n) path) in
-    let r : drop (suc n) path ≡ [] = emptied (drop (suc n) path) l in
+    let r : drop (suc n) path ≡ [] = nil_from_length (drop (suc n) path) l in
     let h : get_or back 0 0 ≡ get_or path n 0 = ap (λ xs. get_or xs 0 0) d ∙ get_or-drop n path 0 0 ∙ ap (λ i. get_or path i 0) (let k : n + 0 ≡ n = omega arith in k) in
     let f : path ≡ take n path ++ get_or path n 0 ∷ [] = e ∙ ap (λ xs. take n path ++ get_or path n 0 ∷ xs) r in
     ap₂ (λ (q : List ℕ) (o : ℕ). at X5 q (At o)) b h ∙ sym (cut_is (take n path) (get_or path n 0)) ∙ ap cut_state (sym f)

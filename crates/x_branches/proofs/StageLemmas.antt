@@ -1,10 +1,10 @@
 -- Which of two states comes first is told by their digits where they part.
-use Rattle.std.proofs.Common.{◌≡◌, ℕ, zero, suc, ◌+◌, ◌*◌, ◌<◌, ◌≤◌, ◌⊎◌, List, [], ◌∷◌, ◌++◌, map, length, take, drop, get_or, refl, sym, ap, ap₂, ◌∙◌, subst, inl, inr, arith, length-append, drop-cons, Ordering, Less, Equal, Greater}
+use Rattle.std.proofs.Common.{◌≡◌, ℕ, zero, suc, ◌+◌, ◌*◌, ◌<◌, ◌≤◌, ◌⊎◌, List, [], ◌∷◌, ◌++◌, map, length, take, drop, get_or, refl, sym, ap, ap₂, ◌∙◌, subst, inl, inr, arith, length-append, Ordering, Less, Equal, Greater}
 use Rattle.std.specs.Prelude.{◌↔◌}
 use Rattle.std.specs.Ordering.{MatchOrdering, nat_cmp}
 use Rattle.std.proofs.lemmas.Cmp.{ranked}
 use Rattle.std.proofs.lemmas.Bool.{cases_lt}
-use Rattle.std.proofs.lemmas.List.{length-map, get_or_append_left, get_or-map, get_or_at, take-append-le, take-append-drop, take-map, length-take-le, take_all}
+use Rattle.std.proofs.lemmas.List.{length-map, get_or_append_left, get_or-map, get_or_at, take-append-le, take-map, length-take-le, take_all}
 use Rattle.cover_problem.specs.Problem.{ProblemValue}
 use Rattle.cover_problem.specs.Path.{IsValid, covered_by, covered_from}
 use Rattle.cover_problem.proofs.PathLemmas.{choice_has}
@@ -18,6 +18,7 @@ use Rattle.x_steps.specs.StateValue.{StateValue, at}
 use Rattle.x_steps.specs.Steps.{FitsAt, Fits}
 use Rattle.x_steps.specs.Run.{steps_between}
 use Rattle.x_steps.specs.Rank.{digit_at, digits, number, rank}
+use Rattle.x_steps.proofs.Neighbours.{parted}
 use Rattle.x_steps.proofs.RankLemmas.{AllBelow, number_less, short}
 use Rattle.x_steps.proofs.OrderLemmas.{below_digits, fits_valid, digit_small}
 use Rattle.x_steps.proofs.RunLemmas.{rises_between, leads_to, rank_once}
@@ -66,16 +67,13 @@ below_drop base zero ds a = a
 below_drop base (suc n) [] a = tt
 below_drop base (suc n) (d ∷ ds) a = below_drop base n ds a.1
 
-pub parts : (ds : List ℕ) (n : ℕ) → n < length ds → ds ≡ take n ds ++ get_or ds n 0 ∷ drop (suc n) ds
-parts ds n l = sym (take-append-drop n ds) ∙ ap (λ rest. take n ds ++ rest) (drop-cons ds n 0 l)
-
 -- a state's digits, parted at a level
 digits_parts : (m : ℕ) (l : Label) (path : List ℕ) (k : Cursor) (n : ℕ) → n ≤ length path → digits m l path k ≡ map (λ o. 4 * o + 2) (take n path) ++ get_or (digits m l path k) n 0 ∷ drop (suc n) (digits m l path k)
 digits_parts m l path k n h =
     let e = length-append (map (λ o. 4 * o + 2) path) (digit_at m l k ∷ []) in
     let f = length-map path (λ o. 4 * o + 2) in
     let a : take n (digits m l path k) ≡ map (λ o. 4 * o + 2) (take n path) = take-append-le n (map (λ o. 4 * o + 2) path) (digit_at m l k ∷ []) (omega arith) ∙ take-map (λ o. 4 * o + 2) n path in
-    parts (digits m l path k) n (omega arith) ∙ ap (λ ds. ds ++ get_or (digits m l path k) n 0 ∷ drop (suc n) (digits m l path k)) a
+    parted (digits m l path k) n (omega arith) ∙ ap (λ ds. ds ++ get_or (digits m l path k) n 0 ∷ drop (suc n) (digits m l path k)) a
 
 -- the first digit that differs decides
 digit_decides : (p : ProblemValue) (l j : Label) (path other : List ℕ) (k i : Cursor) (n : ℕ) → FitsAt p l path k → n ≤ length path → n ≤ length other → take n path ≡ take n other → get_or (digits (length p.options) l path k) n 0 < get_or (digits (length p.options) j other i) n 0 → rank p (at l path k) < rank p (at j other i)
@@ -110,7 +108,7 @@ pub record IsNumber (m o : ℕ) : Type 0 where
 pub choice_in : (p : ProblemValue) (path : List ℕ) (n : ℕ) → IsValid p path → n < length path → IsNumber (length p.options) (get_or path n 0)
 unfolding IsValid
 choice_in p path n v h =
-    let w = subst (λ q. IsValid p q) (parts path n h) v in
+    let w = subst (λ q. IsValid p q) (parted path n h) v in
     let s = valid_split p [] (take n path) (get_or path n 0 ∷ drop (suc n) path) w in
     let t = choice_has p (covered_from p [] (take n path)) (get_or path n 0) s.1.0 in
     record { some = t.some; within = t.within }

@@ -2,6 +2,7 @@
 use Rattle.std.proofs.Common.{◌≡◌, ◌↔◌, ℕ, zero, suc, ◌+◌, ◌<◌, ◌≤◌, ◌⊎◌, Bool, true, false, cond, IsTrue, Some, None, All, List, [], ◌∷◌, ◌++◌, length, take, drop, filter, get_or, refl, sym, ap, ◌∙◌, subst, inl, inr, arith, append_assoc, append-nil, length-append}
 use Rattle.std.specs.Prelude.{nat_lt}
 use Rattle.std.specs.List.{slice_get}
+use Rattle.std.specs.Cmp.{both_ways}
 use Rattle.std.proofs.lemmas.Bool.{cases_lt}
 use Rattle.std.proofs.lemmas.List.{take_more, take-append-drop, drop_all}
 use Rattle.std.proofs.lemmas.List.Elements.{All-from_get_or, filter_more}
@@ -19,19 +20,14 @@ use Rattle.x_steps.specs.declared.state.Cursor.{Cursor}
 use Rattle.x_steps.specs.declared.state.Cursor.TheVariants.{At}
 use Rattle.x_steps.specs.StateValue.{StateValue, at}
 use Rattle.x_steps.specs.Steps.{FitsAt, Fits, item_after, remaining_after, covered_at, covered_in}
+use Rattle.x_steps.proofs.Neighbours.{parted}
 use Rattle.x_steps.proofs.StateLemmas.{level_is}
 use Rattle.x_branches.specs.Cut.{choices}
 use Rattle.x_branches.specs.RunOrder.{ComesBefore, comes_before}
 use Rattle.x_branches.specs.Untried.{left_after, left_above, is_before_end, untried}
-use Rattle.x_branches.proofs.StageLemmas.{parts}
 use Rattle.x_branches.proofs.CutLemmas.{test_is_order, cut_is, cut_fits, front, IsChoiceAt, choice_at, chosen_is, later_one}
 
 -- ---- lists
-
-same_tests : (a b : Bool) → (a ≡ true → b ≡ true) → (b ≡ true → a ≡ true) → a ≡ b
-same_tests true b f g = sym (f refl)
-same_tests false true f g = g refl
-same_tests false false f g = refl
 
 pub all_members : (P : ℕ → Type 0) (xs : List ℕ) → ((k : ℕ) → has xs k ≡ true → P k) → All P xs
 all_members P xs h = All-from_get_or P xs 0 (λ i l. h (get_or xs i 0) (has_at xs i 0 l))
@@ -67,7 +63,7 @@ covered_begins p c (o ∷ path) =
 
 pub covered_more : (p : ProblemValue) (path : List ℕ) (i : ℕ) → IsValid p path → i < length path → length (covered_by p (take (i + 1) path)) ≡ length (covered_by p (take i path)) + length (option_at p (get_or path i 0))
 covered_more p path i v l =
-    let s = front p (take i path) (drop (suc i) path) (get_or path i 0) (subst (IsValid p) (parts path i l) v) in
+    let s = front p (take i path) (drop (suc i) path) (get_or path i 0) (subst (IsValid p) (parted path i l) v) in
     ap (λ q. length (covered_by p q)) (take_more path i 0 l) ∙ ap (length {A = ℕ}) (covered_by_push p (take i path) (get_or path i 0)) ∙ length-taken p (covered_by p (take i path)) (get_or path i 0) s.1
 
 -- a part of the choices covers a beginning
@@ -173,7 +169,7 @@ left_some p s level xs e h = step (cases_lt level (length (choices s)))
 pub cut_tested : (p : ProblemValue) (end : StateValue) (q : List ℕ) (o : ℕ) (test : Bool) → Fits p (at X5 q (At o)) → Fits p end → IsTrue test ↔ ComesBefore p (at X5 q (At o)) end → test ≡ is_before_end p end q o
 cut_tested p end q o test f g t =
     let u = test_is_order p (at X5 q (At o)) end f g in
-    same_tests test (comes_before p (at X5 q (At o)) end) (λ h. u.1 (t.0 h)) (λ h. t.1 (u.0 h)) ∙ ap (λ s. comes_before p s end) (sym (cut_is q o))
+    both_ways test (comes_before p (at X5 q (At o)) end) (λ h. u.1 (t.0 h)) (λ h. t.1 (u.0 h)) ∙ ap (λ s. comes_before p s end) (sym (cut_is q o))
 
 pub covered_upto : (p : ProblemValue) (path : List ℕ) (n : ℕ) → length (covered_by p (take n path)) ≤ length (covered_by p path)
 covered_upto p path n = subst (λ q. length (covered_by p (take n path)) ≤ length (covered_by p q)) (take-append-drop n path) (covered_part p (take n path) (drop n path))

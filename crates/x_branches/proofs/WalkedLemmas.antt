@@ -1,9 +1,9 @@
 -- Many steps of a runner: what it keeps after them, and where they stop.
-use Rattle.std.proofs.Common.{◌≡◌, ◌≢◌, ℕ, zero, suc, ◌+◌, ◌-◌, ◌<◌, ◌≤◌, ◌⊎◌, ◌==◌, Bool, true, false, ◌&&◌, Option, Some, List, [], ◌∷◌, ◌++◌, length, get_or, refl, sym, ap, ◌∙◌, subst, inl, inr, arith, le_refl, length-append, min}
+use Rattle.std.proofs.Common.{◌≡◌, ◌≢◌, ℕ, zero, suc, ◌+◌, ◌-◌, ◌<◌, ◌≤◌, ◌⊎◌, ◌==◌, true, false, Option, Some, List, [], ◌∷◌, ◌++◌, length, get_or, refl, sym, ap, ◌∙◌, subst, inl, inr, arith, le_refl, length-append, min}
 use Rattle.std.specs.Prelude as prelude
 use Rattle.std.specs.Prelude.{slice_index}
 use Rattle.std.proofs.Math.ListN.{set}
-use Rattle.std.proofs.lemmas.Bool.{cases_lt}
+use Rattle.std.proofs.lemmas.Bool.{and_parts, cases_lt}
 use Rattle.std.proofs.lemmas.Bool.Decides.{eqb_tells}
 use Rattle.std.proofs.lemmas.List.{ext_get_or, length-set, get_or-set_same, get_or-set_other}
 use Rattle.cover_problem.specs.Problem.{ProblemValue, IsProblem}
@@ -40,10 +40,6 @@ stepped_back p s t u n f r e = e ∙ ap (prev p) (sym r.ends) ∙ prev_next p (a
 -- what tells a visit is one
 pub told_visit : (p : ProblemValue) (s : StateValue) → event_of p s ≡ Visited → is_visit p s ≡ true
 told_visit p s e = sym (tells p s.label s.path s.cursor) ∙ ap is_visited e
-
-visit_level : (a b : Bool) → (a && b) ≡ true → a ≡ true
-visit_level true b e = refl
-visit_level false b e = e
 
 -- one less at a level where one was counted
 uncounted : (a b : List ℕ) (ss : List StateValue) (t : StateValue) → AreCounted a b (ss ++ t ∷ []) → is_level t.label ≡ true → length t.path < length b → AreCounted a (without_level b t) ss
@@ -111,7 +107,7 @@ module _ (p : ProblemValue) (s t u : StateValue) (a b : List ℕ) (m : ℕ) (eve
   visit_there = told_visit p u (ap (event_of p) there ∙ sym whole.tells)
 
   level_there : is_level u.label ≡ true
-  level_there = visit_level (is_level u.label) _ visit_there
+  level_there = (and_parts (is_level u.label) _ visit_there).0
 
   pub path_within : length u.path < length b
   path_within =

@@ -1,7 +1,8 @@
 -- The numbers and names of the refusals.
 use Rattle.std.specs.Prelude.{ℕ, Option, Some, None, List, codes}
 use Rattle.x_branches.specs.declared.fault.RunnerFault.{RunnerFault}
-use Rattle.x_branches.specs.declared.fault.RunnerFault.TheVariants.{AtBranchEnd, AtMark, NothingUntried, NotUntried, OutsideBranch, NotAtMark, StretchFull, OutOfMemory}
+use Rattle.x_branches.specs.declared.fault.RunnerFault.TheVariants.{AtBranchEnd, AtMark, NothingUntried, NotUntried, OutsideBranch}
+use Rattle.x_branches.specs.declared.fault.RunnerFault.TheVariants.{NotAtMark, StretchFull, OutOfMemory}
 use Rattle.x_branches.specs.declared.fault.CutFault.{CutFault}
 use Rattle.x_branches.specs.declared.fault.CutFault.TheVariants as cuts
 

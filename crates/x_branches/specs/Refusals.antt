@@ -10,7 +10,8 @@ use Rattle.x_branches.specs.declared.branch.Branch.{Branch}
 use Rattle.x_branches.specs.declared.fault.StartFault.{StartFault}
 use Rattle.x_branches.specs.declared.fault.StartFault.TheVariants.{Steps, Runner}
 use Rattle.x_branches.specs.declared.fault.RunnerFault.{RunnerFault}
-use Rattle.x_branches.specs.declared.fault.RunnerFault.TheVariants.{AtBranchEnd, NothingUntried, NotUntried, OutsideBranch, NotAtMark, StretchFull, OutOfMemory}
+use Rattle.x_branches.specs.declared.fault.RunnerFault.TheVariants.{AtBranchEnd, NothingUntried, NotUntried, OutsideBranch, NotAtMark}
+use Rattle.x_branches.specs.declared.fault.RunnerFault.TheVariants.{StretchFull, OutOfMemory}
 use Rattle.x_branches.specs.Cut.{CutPath, cut_state}
 use Rattle.x_branches.specs.RunOrder.{ComesBefore}
 use Rattle.x_branches.specs.Stretch.{StretchValue}

@@ -1,5 +1,6 @@
 //! Runners: a search within one branch of a run, with the stretch of its steps that was not posted yet.
-ghost use Rattle.std.specs.Prelude.{◌≡◌, ◌≢◌, ◌<◌, ◌≤◌, ◌+◌, ◌-◌, ◌↔◌, ◌++◌, ◌∷◌, [], ℕ, List, length, replicate, true, option_map, if◌then◌else◌, IfOk, IfErr, OnOk, OnErr, IsErr, IsTrue, slice_index};
+ghost use Rattle.std.specs.Prelude.{◌≡◌, ◌≢◌, ◌<◌, ◌≤◌, ◌+◌, ◌-◌, ◌↔◌, ◌++◌, ◌∷◌, [], ℕ, List, length, replicate, true, option_map};
+ghost use Rattle.std.specs.Prelude.{if◌then◌else◌, IfOk, IfErr, OnOk, OnErr, IsErr, IsTrue, slice_index};
 ghost use Rattle.cover_problem.specs.Problem.{IsProblem};
 ghost use Rattle.x_steps.specs.StateView.{state_value, row_value, row_values};
 ghost use Rattle.x_steps.specs.Steps.{Fits, IsBefore, covered_in, next, event_of, is_visit, is_level};
@@ -16,10 +17,10 @@ mod walk;
 
 use crate::branch::Branch;
 use crate::fault::{RunnerFault, StartFault};
-use cover_problem::{Problem, Table};
+use cover_problem::{Lists, Problem, Table};
 use std::alloc::{AllocError, Global};
 use std::marker::Model;
-use x_steps::{Event, Label, Machine, Paths, Refused, State, no_counts};
+use x_steps::{Event, Label, Machine, Refused, State, no_counts};
 
 /// A search in one branch of a run. The stretch from its mark up to its position is unposted: the runner keeps how many steps
 /// it has, its visits, and how many X2 states it has at each level.
@@ -29,7 +30,7 @@ pub struct Runner<'p, T: Table> {
     branch: Branch<'p>,
     mark: State,
     steps: u32,
-    visits: Paths,
+    visits: Lists,
     /// For each level from 0 up to the number of items.
     counts: Vec<u32>,
 }
@@ -86,7 +87,7 @@ fn discount(counts: &mut [u32], state: &State)
 #[inline(always)]
 fn note<T: Table>(
     machine: &Machine<'_, T>,
-    visits: &mut Paths,
+    visits: &mut Lists,
     counts: &mut [u32],
 ) -> Result<(), AllocError>
     requires within { is_level machine.now.state.label ≡ true → length machine.now.state.path < length counts.old }
@@ -108,7 +109,7 @@ fn note<T: Table>(
 
 /// Takes a state away that was noted: its visit, and its count at its level.
 #[inline(always)]
-fn forget<T: Table>(machine: &Machine<'_, T>, visits: &mut Paths, counts: &mut [u32])
+fn forget<T: Table>(machine: &Machine<'_, T>, visits: &mut Lists, counts: &mut [u32])
     requires visit { is_visit machine.now.problem machine.now.state ≡ true → 0 < length visits.old }
     requires within { is_level machine.now.state.label ≡ true → length machine.now.state.path < length counts.old }
     requires some { is_level machine.now.state.label ≡ true →
@@ -180,7 +181,7 @@ impl<'p, T: Table> Runner<'p, T> {
             branch,
             mark,
             steps: 0,
-            visits: Paths::new(alloc),
+            visits: Lists::new(alloc),
             counts,
         })
     }

@@ -5,10 +5,10 @@ ghost use Rattle.x_steps.specs.Run.{steps_between, visits_between};
 ghost use Rattle.x_steps.specs.Levels.{trimmed_levels};
 ghost use Rattle.x_branches.specs.Stretch.{IsStretch};
 
-use cover_problem::Problem;
+use cover_problem::{Lists, Problem};
 use std::alloc::AllocError;
 use std::marker::Model;
-use x_steps::{Paths, State};
+use x_steps::State;
 
 /// The part of a problem's run from one state up to another, without that one.
 #[derive(Drop)]
@@ -17,7 +17,7 @@ pub struct Stretch<'p> {
     pub(crate) from: State,
     pub(crate) to: State,
     pub(crate) steps: u32,
-    pub(crate) visits: Paths,
+    pub(crate) visits: Lists,
     /// How many X2 states there are at each level, up to the last level that has one.
     pub(crate) levels: Vec<u32>,
 }
@@ -64,7 +64,7 @@ impl<'p> Stretch<'p> {
     }
 
     /// The paths that it visits.
-    pub fn visits(&self) -> &Paths
+    pub fn visits(&self) -> &Lists
         ensures { result.now ≡ visits_between self.now.problem self.now.from self.now.to }
     {
         &self.visits

@@ -1,24 +1,18 @@
 -- Breakpoints that are written are read again.
-use Rattle.std.proofs.Common.{◌≡◌, ℕ, ◌+◌, ◌*◌, ◌-◌, ◌<◌, ◌≤◌, ◌==◌, nat_lt, nat_le, Bool, true, false, not, ◌&&◌, ◌||◌, List, [], ◌∷◌, ◌++◌, length, map, decimal, codes, Option, Some, None, Result, Ok, refl, sym, ◌∙◌, ap, subst, arith, append_assoc, append-nil, ltb-true, leb-true, true≢false, eq-eqb}
+use Rattle.std.proofs.Common.{◌≡◌, ℕ, ◌+◌, ◌*◌, ◌≤◌, ◌==◌, Bool, true, false, not, ◌||◌, List, [], ◌∷◌, ◌++◌, length, map, decimal, codes, Some, Result, Ok, refl, sym, ◌∙◌, ap, subst, arith, append_assoc, append-nil, leb-true, true≢false, eq-eqb}
 use Rattle.std.specs.List.{list_any, list_all}
 use Rattle.std.proofs.lemmas.Bool.{and_parts, and_from, or_right, not_from_false, not-true, false_from_ne_true, eqb-true}
 use Rattle.std.proofs.lemmas.Bool.Decides.{nat_tests}
 use Rattle.std.proofs.lemmas.List.{length-map}
-use Rattle.std.proofs.lemmas.List.Sums.{AllPass-from_list_all}
-use Rattle.text_lines.specs.Lines.{has_bytes}
-use Rattle.text_lines.specs.Writing.{is_word_byte, is_word, line_text, text_of}
-use Rattle.text_lines.specs.Each.{each, ◌>>=◌}
-use Rattle.text_lines.proofs.EachLemmas.{each_none, each_parts}
+use Rattle.text_lines.specs.Writing.{is_word, line_text, text_of}
+use Rattle.text_lines.specs.Each.{◌>>=◌}
 use Rattle.text_lines.proofs.NumberLemmas.{reads_printed}
-use Rattle.text_lines.proofs.ResultLemmas.{ok_is, no_fault, bind_ok, granted}
-use Rattle.cover_problem.specs.declared.fault.Fault.TheVariants.{BadName, UnknownItem}
 use Rattle.cover_problem.specs.Lists.{has, are_distinct, numbers}
-use Rattle.cover_problem.specs.Problem.{ProblemValue, IsProblem, is_name, is_name_byte, is_item, name_at, item_named}
+use Rattle.cover_problem.specs.Problem.{ProblemValue, IsProblem, is_item, name_at}
 use Rattle.cover_problem.specs.Table.{IsCoveredList}
-use Rattle.cover_problem.specs.Validation.{with_item}
-use Rattle.cover_problem.specs.Reading as reading
-use Rattle.cover_problem.specs.Reading.{item_of, add_item}
-use Rattle.cover_problem.proofs.AgainLemmas.{items_again}
+use Rattle.cover_problem.proofs.BoundLemmas.{item_bounds, few}
+use Rattle.cover_problem.proofs.AgainLemmas.{item_found}
+use Rattle.cover_problem.proofs.WrittenLemmas.{item_is_word}
 use Rattle.cover_problem.proofs.CoveredLemmas.{covered_most}
 use Rattle.cover_problem.proofs.NumberLemmas.{length-numbers}
 use Rattle.x_snapshot.specs.declared.breakpoint.Break.{Break}
@@ -29,59 +23,9 @@ use Rattle.x_snapshot.specs.Breaks.{is_break, is_same, are_new}
 use Rattle.x_snapshot.specs.Writing.{break_words, break_lines}
 use Rattle.x_snapshot.specs.Reading.{keyed_line, count_from, break_from, said_break, add_break, next_break, repeated, breaks_from, most_breaks, breaks_in}
 use Rattle.x_snapshot.proofs.BreakLemmas.{not_new}
-use Rattle.x_snapshot.proofs.BreakBack.{few}
 use Rattle.x_snapshot.proofs.LineAgain.{keyed_line_again, number_word, count_again, option_again}
 
--- *items*
-
-name_byte_is_word_byte : (b : ℕ) → is_name_byte b ≡ true → is_word_byte b ≡ true
-name_byte_is_word_byte b h = grind (arith, nat_tests)
-
-name_bytes_are : (bs : List ℕ) → list_all is_name_byte bs ≡ true → list_all is_word_byte bs ≡ true
-name_bytes_are [] h = refl
-name_bytes_are (b ∷ bs) h =
-    let p = and_parts (is_name_byte b) (list_all is_name_byte bs) h in
-    and_from (is_word_byte b) (list_all is_word_byte bs) (name_byte_is_word_byte b p.0) (name_bytes_are bs p.1)
-
-some_bytes : (bs : List ℕ) → 0 < length bs → has_bytes bs ≡ true
-some_bytes [] h = absurd (omega arith)
-some_bytes (b ∷ bs) h = refl
-
-name_is_word : (name : List ℕ) → is_name name ≡ true → is_word name ≡ true
-name_is_word name h =
-    let p = and_parts (nat_lt 0 (length name) && nat_le (length name) 8) (list_all is_name_byte name) h in
-    let q = and_parts (nat_lt 0 (length name)) (nat_le (length name) 8) p.0 in
-    and_from (has_bytes name) (list_all is_word_byte name) (some_bytes name (ltb-true 0 (length name) q.0)) (name_bytes_are name p.1)
-
-item_bounds : (n i : ℕ) → is_item n i ≡ true → (0 < i) × (i ≤ n)
-item_bounds n i h =
-    let p = and_parts (nat_lt 0 i) (nat_le i n) h in
-    (ltb-true 0 i p.0, leb-true i n p.1)
-
-found_item : (o : Option ℕ) (i : ℕ) → reading.found_or o ≡ Ok i → o ≡ Some i
-found_item None i h = absurd (no_fault UnknownItem i h)
-found_item (Some j) i h = ap (λ k. Some k) (ok_is j i h)
-
 module _ (p : ProblemValue) (g : IsProblem p) where
-  item_word : (i : ℕ) → is_item (length p.names) i ≡ true → is_word (name_at p.names i) ≡ true
-  item_word i h =
-      let b = item_bounds (length p.names) i h in
-      let some : 0 < i = b.0 in
-      let within : i ≤ length p.names = b.1 in
-      name_is_word (name_at p.names i) (AllPass-from_list_all is_name p.names g.named (i - 1) [] (omega arith))
-
-  item_found : (i : ℕ) → is_item (length p.names) i ≡ true → item_named p.names (name_at p.names i) ≡ Some i
-  unfolding add_item item_of
-  item_found i h =
-      let w = name_at p.names i in
-      let all : each (add_item p.names) [] (w ∷ []) ≡ Ok (i ∷ []) = items_again p.names [] (i ∷ []) g.named g.new (and_from (is_item (length p.names) i) true h refl) refl in
-      let a = each_parts (add_item p.names) [] w [] (i ∷ []) all in
-      let t : a.0 ≡ i ∷ [] = each_none (add_item p.names) a.0 (i ∷ []) a.2 in
-      let b = bind_ok (item_of p.names w) (with_item []) a.0 a.1 in
-      let one : b.0 ∷ [] ≡ i ∷ [] = ok_is (b.0 ∷ []) a.0 b.2 ∙ t in
-      let same : b.0 ≡ i = cc in
-      found_item (item_named p.names w) b.0 (granted (is_name w) BadName (reading.found_or (item_named p.names w)) b.0 b.1).1 ∙ ap (λ k. Some k) same
-
   -- *one breakpoint*
 
   said_words : Break → List (List ℕ)
@@ -106,14 +50,14 @@ module _ (p : ProblemValue) (g : IsProblem p) where
       let f = few p g in
       let b = item_bounds (length p.options) k h in
       rw (option_again (length p.options) k (omega (arith, f.1)) b.0 b.1) refl
-  break_again (breakpoints.Item i) h = rw (item_found i h) refl
+  break_again (breakpoints.Item i) h = rw (item_found p.names i g.new h) refl
   break_again breakpoints.Visit h = refl
 
   break_is_words : (b : Break) → is_break p b ≡ true → list_all is_word (codes "break" ∷ said_words b) ≡ true
   unfolding said_words
   break_is_words (breakpoints.Level n) h = let f = few p g in number_word n (omega (arith, f.0, leb-true n (length p.names) h))
   break_is_words (breakpoints.Option k) h = let f = few p g in let b = item_bounds (length p.options) k h in number_word k (omega (arith, f.1, b.1))
-  break_is_words (breakpoints.Item i) h = and_from (is_word (name_at p.names i)) true (item_word i h) refl
+  break_is_words (breakpoints.Item i) h = and_from (is_word (name_at p.names i)) true (item_is_word p.names i g.named h) refl
   break_is_words breakpoints.Visit h = refl
 
   said_again : (b : Break) → is_break p b ≡ true → said_break p (said_words b) ≡ Ok b

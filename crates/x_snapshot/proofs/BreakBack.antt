@@ -1,16 +1,16 @@
 -- The lines of breakpoints that are read are those that are written of them.
-use Rattle.std.proofs.Common.{◌≡◌, ◌⊎◌, inl, inr, ℕ, suc, zero, ◌+◌, ◌-◌, ◌^◌, ◌<◌, ◌≤◌, nat_lt, nat_le, true, false, cond, ◌&&◌, List, [], ◌∷◌, ◌++◌, length, get_or, map, decimal, codes, position, Option, Some, None, Ok, refl, sym, ◌∙◌, ap, subst, arith, append_assoc, append-nil, leb-true, lt-ltb, le-leb}
+use Rattle.std.proofs.Common.{◌≡◌, ◌⊎◌, inl, inr, ℕ, suc, zero, ◌^◌, ◌<◌, true, false, cond, List, [], ◌∷◌, ◌++◌, length, map, decimal, codes, Option, Some, None, Ok, refl, sym, ◌∙◌, ap, subst, arith, append_assoc, append-nil, le-leb}
 use Rattle.std.specs.Prelude.{bytes_eq}
 use Rattle.std.specs.List.{list_any, list_all}
 use Rattle.std.specs.Cmp.Lexicographic.{bytes_decides}
-use Rattle.std.proofs.lemmas.Bool.{and_parts, and_from}
-use Rattle.std.proofs.lemmas.List.Quantifiers.{position-Some}
 use Rattle.text_lines.specs.Numbers.{number_of}
 use Rattle.text_lines.specs.Writing.{line_text, text_of}
 use Rattle.text_lines.specs.Each.{◌>>=◌}
 use Rattle.text_lines.proofs.NumberLemmas.{printed_again}
 use Rattle.text_lines.proofs.ResultLemmas.{ok_is, bind_ok, unrefused, chosen}
-use Rattle.cover_problem.specs.Problem.{ProblemValue, IsProblem, is_item, name_at, item_named}
+use Rattle.cover_problem.specs.Problem.{ProblemValue, IsProblem, item_named}
+pub use Rattle.cover_problem.proofs.BoundLemmas.{few, item_numbered as numbered}
+use Rattle.cover_problem.proofs.ItemLemmas.{named_is}
 use Rattle.cover_problem.proofs.MemberLemmas.{all_push}
 use Rattle.x_snapshot.specs.declared.breakpoint.Break.{Break}
 use Rattle.x_snapshot.specs.declared.breakpoint.Break.TheVariants as breakpoints
@@ -25,29 +25,9 @@ use Rattle.x_snapshot.proofs.BackLemmas.{some_is, none_some, found_is, map_is, o
 
 -- *one breakpoint*
 
-pub few : (p : ProblemValue) → IsProblem p → (length p.names ≤ 65535) × (length p.options ≤ 262143)
-few p g =
-    let a = and_parts (nat_le (length p.names) 65535 && nat_le (length p.options) 262143) _ g.small in
-    let b = and_parts (nat_le (length p.names) 65535) (nat_le (length p.options) 262143) a.0 in
-    (leb-true (length p.names) 65535 b.0, leb-true (length p.options) 262143 b.1)
-
 -- the words of the breakpoint, which can be met
 abbrev SaysBreak : ProblemValue → List (List ℕ) → Break → Type 0
 SaysBreak p words b = (codes "break" ∷ words ≡ break_words p.names b) × (is_break p b ≡ true)
-
-pub numbered : (n i : ℕ) → 0 < i → i ≤ n → is_item n i ≡ true
-numbered n i some within = and_from (nat_lt 0 i) (nat_le i n) (lt-ltb 0 i some) (le-leb i n within)
-
-item_back : (names : List (List ℕ)) (w : List ℕ) (i : ℕ) → item_named names w ≡ Some i → (is_item (length names) i ≡ true) × (w ≡ name_at names i)
-item_back names w i h =
-    let a = map_is (λ k. k + 1) (position (bytes_eq w) names) i h in
-    let q : (a.0 < length names) × (bytes_eq w (get_or names a.0 []) ≡ true) × ((k : ℕ) → k < a.0 → bytes_eq w (get_or names k []) ≡ false) = position-Some (bytes_eq w) names a.0 [] a.1 in
-    let e : a.0 + 1 ≡ i = a.2 in
-    let below : a.0 < length names = q.0 in
-    let place : a.0 ≡ i - 1 = omega arith in
-    let some : 0 < i = omega arith in
-    let within : i ≤ length names = omega arith in
-    (numbered (length names) i some within, (bytes_decides w (get_or names a.0 [])).0 q.1 ∙ ap (λ k. get_or names k []) place)
 
 kind_word : Kind → List ℕ
 kind_word kinds.Level = codes "level"
@@ -97,8 +77,8 @@ module _ (p : ProblemValue) (g : IsProblem p) where
   item_break_back : (w : List ℕ) (b : Break) → item_from p w ≡ Some b → SaysBreak p (codes "item" ∷ w ∷ []) b
   item_break_back w b h =
       let a = map_is breakpoints.Item (item_named p.names w) b h in
-      let c = item_back p.names w a.0 a.1 in
-      let here : SaysBreak p (codes "item" ∷ w ∷ []) (breakpoints.Item a.0) = (ap (λ x. codes "break" ∷ codes "item" ∷ x ∷ []) c.1, c.0) in
+      let c = named_is p.names w a.0 a.1 in
+      let here : SaysBreak p (codes "item" ∷ w ∷ []) (breakpoints.Item a.0) = (ap (λ x. codes "break" ∷ codes "item" ∷ x ∷ []) (sym c.1), c.0) in
       subst (SaysBreak p (codes "item" ∷ w ∷ [])) a.2 here
 
   of_back : (k : Option Kind) (kind w : List ℕ) (b : Break) → ((m : Kind) → k ≡ Some m → kind ≡ kind_word m) → break_of p k w ≡ Some b → SaysBreak p (kind ∷ w ∷ []) b

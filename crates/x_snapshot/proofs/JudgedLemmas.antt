@@ -1,7 +1,6 @@
 -- Whether a text says a snapshot, as tests: each decides what it stands for.
 use Rattle.std.proofs.Common.{◌≡◌, ◌↔◌, ◌⊎◌, ◌<◌, ◌&&◌, ℕ, Bool, not, true, false, nat_lt, inl, inr, List, [], ◌∷◌, length, Option, Some, option_map, Ok, Err, refl, sym, ap, ◌∙◌, true≢false}
 use Rattle.std.proofs.Common as common
-use Rattle.std.proofs.lemmas.Bool.Decides.{nat_tests}
 use Rattle.cover_problem.specs.Problem.{ProblemValue}
 use Rattle.cover_problem.specs.Path.{IsChoice, IsValidFrom, IsValid, taken}
 use Rattle.x_steps.specs.declared.state.Label.{Label}
@@ -9,21 +8,19 @@ use Rattle.x_steps.specs.declared.state.Label.TheVariants.{X1, X2, X3, X4, X5, X
 use Rattle.x_steps.specs.declared.state.Cursor.{Cursor}
 use Rattle.x_steps.specs.declared.state.Cursor.TheVariants as cursor
 use Rattle.x_steps.specs.declared.state.Cursor.TheVariants.{At, Past}
-use Rattle.x_steps.specs.StateValue.{StateValue, at}
+use Rattle.x_steps.specs.StateValue.{StateValue}
 use Rattle.x_steps.specs.Steps.{Fits, FitsAt, IsOpen, is_open}
 use Rattle.x_steps.proofs.RunLemmas.{start_fits, done_fits}
 use Rattle.x_branches.specs.Branch.{first_of, end_of}
-use Rattle.x_branches.specs.Cut.{IsCut}
-use Rattle.x_branches.specs.RunOrder.{ComesBefore, comes_before}
-use Rattle.x_branches.specs.Runner.{IsBranch, IsWithin, IsOf}
+use Rattle.x_branches.specs.Runner.{IsOf}
 use Rattle.x_branches.proofs.CutLemmas.{cut_fits, test_is_order}
 use Rattle.x_snapshot.specs.declared.fault.SnapshotFault.{SnapshotFault}
 use Rattle.x_snapshot.specs.declared.fault.SnapshotFault.TheVariants.{BadHeader, BadVersion, BadProblem, BadState, NotOnRun, OutsideBranch, Truncated, TrailingBytes, Spelling, BadBreak, OutOfMemory}
-use Rattle.x_snapshot.specs.Snapshot.{SnapshotValue, IsSnapshot, IsCutIfAny, IsOnRun, IsInside, branch_between, path_in}
+use Rattle.x_snapshot.specs.Snapshot.{SnapshotValue, IsSnapshot, IsCutIfAny, IsOnRun, IsInside, path_in}
 use Rattle.x_snapshot.specs.Refusals.{IsPlaceRefused}
 use Rattle.x_snapshot.specs.Reading.{parts_of}
 use Rattle.x_snapshot.specs.ReadRefusals.{IsReadRefused, IsFaultOfText}
-use Rattle.x_snapshot.specs.Judged.{is_choice, is_valid_from, is_valid, is_none, is_fit, is_fit_at, is_cut_if_any, is_on_run, is_within, is_inside, judged, snapshot_of}
+use Rattle.x_snapshot.specs.Judged.{is_choice, is_valid_from, is_valid, is_none, is_fit, is_fit_at, is_cut_if_any, is_on_run, is_inside, judged, snapshot_of}
 
 -- a test is true where two hold, and only there
 both : {A B : Type 0} {a b : Bool} → (a ≡ true ↔ A) → (b ≡ true ↔ B) → ((a && b) ≡ true) ↔ (A × B)

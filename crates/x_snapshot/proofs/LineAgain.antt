@@ -1,20 +1,19 @@
 -- Lines that are written are read again.
-use Rattle.std.proofs.Common.{◌≡◌, ℕ, ◌+◌, ◌^◌, ◌<◌, ◌≤◌, nat_lt, nat_le, Bool, true, false, not, List, [], ◌∷◌, ◌++◌, length, map, decimal, codes, Option, Some, None, Result, Ok, refl, sym, ◌∙◌, ap, arith, append_assoc, append-nil, ltb-true, leb-true, lt-ltb}
+use Rattle.std.proofs.Common.{◌≡◌, ℕ, ◌+◌, ◌^◌, ◌<◌, ◌≤◌, Bool, true, false, List, [], ◌∷◌, ◌++◌, length, map, decimal, codes, Option, Some, None, Result, Ok, refl, sym, ◌∙◌, ap, arith, append_assoc, append-nil, lt-ltb}
 use Rattle.std.specs.Prelude.{bytes_eq}
 use Rattle.std.specs.List.{list_all}
 use Rattle.std.specs.Cmp.Lexicographic.{bytes_decides}
 use Rattle.std.proofs.lemmas.Bool.{and_parts, and_from, false_from_ne_true}
-use Rattle.std.proofs.lemmas.Bool.Decides.{nat_tests}
-use Rattle.std.proofs.lemmas.List.Folds.{list_all-append}
-use Rattle.text_lines.specs.Lines.{words_of, is_newline, is_one_line, has_bytes}
+use Rattle.text_lines.specs.Lines.{words_of}
 use Rattle.text_lines.specs.Numbers.{number_of}
-use Rattle.text_lines.specs.Writing.{is_word_byte, is_word, spaced, line_text, text_of, are_words}
+use Rattle.text_lines.specs.Writing.{is_word, spaced, line_text, text_of, are_words}
 use Rattle.text_lines.specs.Each.{each}
 use Rattle.text_lines.proofs.EachLemmas.{each_step, each_nothing}
 use Rattle.text_lines.proofs.NumberLemmas.{reads_printed}
-use Rattle.text_lines.proofs.WritingLemmas.{spaced_words, printed_is_word}
+use Rattle.text_lines.proofs.WritingLemmas.{spaced_words, words_one_line, printed_is_word}
 use Rattle.cover_problem.specs.Limits.{most_options}
 use Rattle.cover_problem.specs.Problem.{is_item}
+use Rattle.cover_problem.proofs.BoundLemmas.{item_bounds}
 use Rattle.x_steps.specs.declared.state.Label.{Label}
 use Rattle.x_steps.specs.declared.state.Label.TheVariants.{X1, X2, X3, X4, X5, X6, X7, X8, Done}
 use Rattle.x_steps.specs.declared.state.Cursor.{Cursor}
@@ -26,26 +25,6 @@ use Rattle.x_snapshot.specs.Reading.{first_line, line_words, after_key, keyed, k
 use Rattle.x_snapshot.proofs.ReadLemmas.{line_found}
 
 -- *lines*
-
-word_byte_no_end : (b : ℕ) → is_word_byte b ≡ true → not (is_newline b) ≡ true
-word_byte_no_end b h = grind (arith, nat_tests)
-
-word_bytes_no_end : (bs : List ℕ) → list_all is_word_byte bs ≡ true → is_one_line bs ≡ true
-word_bytes_no_end [] h = refl
-word_bytes_no_end (b ∷ bs) h =
-    let p = and_parts (is_word_byte b) (list_all is_word_byte bs) h in
-    and_from (not (is_newline b)) (is_one_line bs) (word_byte_no_end b p.0) (word_bytes_no_end bs p.1)
-
-pub words_one_line : (words : List (List ℕ)) → list_all is_word words ≡ true → is_one_line (spaced words) ≡ true
-words_one_line [] h = refl
-words_one_line (w ∷ []) h =
-    let p = and_parts (is_word w) true h in
-    word_bytes_no_end w (and_parts (has_bytes w) (list_all is_word_byte w) p.0).1
-words_one_line (w ∷ v ∷ ws) h =
-    let p = and_parts (is_word w) (list_all is_word (v ∷ ws)) h in
-    let front = word_bytes_no_end w (and_parts (has_bytes w) (list_all is_word_byte w) p.0).1 in
-    let back : is_one_line (32 ∷ spaced (v ∷ ws)) ≡ true = words_one_line (v ∷ ws) p.1 in
-    list_all-append (λ b. not (is_newline b)) w (32 ∷ spaced (v ∷ ws)) ∙ and_from (is_one_line w) (is_one_line (32 ∷ spaced (v ∷ ws))) front back
 
 pub line_again : (words : List (List ℕ)) (rest : List ℕ) → list_all is_word words ≡ true → first_line (line_text words ++ rest) ≡ Ok (spaced words, rest)
 line_again words rest h = ap first_line (append_assoc (spaced words) (10 ∷ []) rest) ∙ line_found (spaced words) rest (words_one_line words h)
@@ -106,9 +85,7 @@ is_choice o = is_item most_options o
 
 choice_bounds : (o : ℕ) → is_choice o ≡ true → (0 < o) × (o ≤ 262143)
 unfolding is_choice
-choice_bounds o h =
-    let p = and_parts (nat_lt 0 o) (nat_le o 262143) h in
-    (ltb-true 0 o p.0, leb-true o 262143 p.1)
+choice_bounds o h = item_bounds most_options o h
 
 pub choices_words : (path : List ℕ) → list_all is_choice path ≡ true → list_all is_word (map decimal path) ≡ true
 choices_words [] h = refl

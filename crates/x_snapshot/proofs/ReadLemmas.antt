@@ -1,13 +1,11 @@
 -- What the reader's steps find.
-use Rattle.std.proofs.Common.{◌≡◌, ℕ, suc, ◌+◌, ◌-◌, ◌<◌, ◌≤◌, Bool, true, false, not, List, [], ◌∷◌, ◌++◌, length, None, position, Result, Ok, Err, refl, sym, ◌∙◌, ap, subst, arith, one-add, le-ltb, le_refl, IsUtf8, cond, length-append}
-use Rattle.std.specs.List.{list_all, position_or_len}
-use Rattle.std.specs.Str.{bytes_eq}
-use Rattle.std.specs.Cmp.Lexicographic.{bytes_decides}
+use Rattle.std.proofs.Common.{◌≡◌, ℕ, suc, ◌+◌, ◌-◌, ◌<◌, ◌≤◌, Bool, true, false, not, List, [], ◌∷◌, ◌++◌, length, None, Result, Ok, Err, refl, sym, ◌∙◌, ap, subst, arith, IsUtf8, cond, length-append}
+use Rattle.std.specs.List.{list_all}
 use Rattle.std.proofs.lemmas.Bool.{and_parts, and_from, not-true, not_from_false, false_from_ne_true, eqb-true}
 use Rattle.text_lines.specs.Lines.{is_newline, is_one_line}
 use Rattle.text_lines.specs.Each.{◌>>=◌}
 use Rattle.cover_problem.specs.Problem.{is_name, item_named}
-use Rattle.cover_problem.proofs.NameLemmas.{name_is_text}
+use Rattle.cover_problem.proofs.NameLemmas.{name_is_text, no_name}
 use Rattle.x_snapshot.specs.declared.fault.SnapshotFault.TheVariants.{Truncated}
 use Rattle.text_lines.proofs.ResultLemmas.{ok_is, bind_ok}
 use Rattle.x_snapshot.specs.Reading.{first_line, onto_line, repeated}
@@ -83,22 +81,8 @@ module _ {S F : Type 0} (step : S → Result S F) (n i : ℕ) (s : S) (all : Res
 
 -- *items*
 
-passes_nowhere : {X : Type 0} (test : X → Bool) (xs : List X) → list_all (λ x. not (test x)) xs ≡ true → position_or_len test xs ≡ length xs
-passes_nowhere test [] h = refl
-passes_nowhere test (x ∷ xs) h =
-    let p = and_parts (not (test x)) (list_all (λ x. not (test x)) xs) h in
-    let e = passes_nowhere test xs p.1 in
-    rw (p.0, e) (one-add (length xs))
-
-no_such_name : (word : List ℕ) (names : List (List ℕ)) → (IsUtf8 word → ⊥) → list_all is_name names ≡ true → list_all (λ name. not (bytes_eq word name)) names ≡ true
-no_such_name word [] l h = refl
-no_such_name word (name ∷ names) l h =
-    let p = and_parts (is_name name) (list_all is_name names) h in
-    let other : bytes_eq word name ≡ false = false_from_ne_true (bytes_eq word name) (λ e. l (subst IsUtf8 (sym ((bytes_decides word name).0 e)) (name_is_text name p.0))) in
-    and_from _ _ (not_from_false _ other) (no_such_name word names l p.1)
-
 -- bytes that are no text name no item
 pub no_text : (word : List ℕ) (names : List (List ℕ)) → (IsUtf8 word → ⊥) → list_all is_name names ≡ true → item_named names word ≡ None
 no_text word names l h =
-    let e : position (bytes_eq word) names ≡ None = rw (passes_nowhere (bytes_eq word) names (no_such_name word names l h), le-ltb (length names) (length names) (le_refl (length names))) refl in
-    rw e refl
+    let unnamed : is_name word ≡ false = false_from_ne_true (is_name word) (λ n. l (name_is_text word n)) in
+    rw (no_name word names unnamed h) refl

@@ -13,6 +13,7 @@ use Rattle.cover_problem.specs.Covering.{choice}
 use Rattle.cover_problem.specs.Path.{IsChoice, IsValidFrom, IsValid, covered_by, taken}
 use Rattle.cover_problem.specs.Grammar.{word_lines, written}
 use Rattle.cover_problem.proofs.RemainingLemmas.{remaining_in}
+use Rattle.cover_problem.proofs.BoundLemmas.{few}
 use Rattle.x_steps.specs.declared.state.Label.{Label}
 use Rattle.x_steps.specs.declared.state.Label.TheVariants.{X1, X2, X3, X4, X5, X6, X7, X8, Done}
 use Rattle.x_steps.specs.declared.state.Cursor.{Cursor}
@@ -29,7 +30,6 @@ use Rattle.x_snapshot.specs.Writing.{needs_second, version_of, cut_words, state_
 use Rattle.x_snapshot.specs.Reading.{keyed_line, header, cut_from, state_from, end_from, problem_in, place_in, breaks_in, breaks_of_version, whole, parts_of}
 use Rattle.x_snapshot.specs.ReadRefusals.{fault_from}
 use Rattle.x_snapshot.proofs.BackLemmas.{some_is, none_some}
-use Rattle.x_snapshot.proofs.BreakBack.{few}
 use Rattle.x_snapshot.proofs.WholeBack.{Place, place_text, one_printed, two_printed, joined}
 use Rattle.x_snapshot.proofs.LineAgain.{is_choice, is_cursor, IsWrittenCut, keyed_line_again, cut_again, cut_is_words, state_again, state_is_words, number_word}
 use Rattle.x_snapshot.proofs.ProblemAgain.{problem_again}

@@ -1,14 +1,14 @@
 -- How the writer's steps make the text of a snapshot.
 use Rattle.std.proofs.Common.{◌≡◌, ℕ, ◌+◌, ◌<◌, List, [], ◌∷◌, ◌++◌, length, drop, map, refl, ◌∙◌, ap, arith, decimal, codes, length-append, append_assoc, append-nil}
 use Rattle.std.proofs.lemmas.List.{length-map}
-use Rattle.text_lines.specs.Writing.{line_text, text_of}
+use Rattle.text_lines.specs.Writing.{words_after, line_text, text_of}
+use Rattle.text_lines.proofs.WritingLemmas.{line_ends}
 use Rattle.cover_problem.specs.Problem.{ProblemValue}
 use Rattle.cover_problem.specs.Grammar.{maybe_words, option_words, word_lines, written}
-use Rattle.cover_problem.proofs.WriterLemmas.{line_ends}
 use Rattle.x_steps.specs.StateValue.{StateValue}
 use Rattle.x_snapshot.specs.declared.breakpoint.Break.{Break}
 use Rattle.x_snapshot.specs.Snapshot.{SnapshotValue}
-use Rattle.x_snapshot.specs.Writing.{words_after, version_of, cut_words, state_words, lines_of_breaks, snapshot_text}
+use Rattle.x_snapshot.specs.Writing.{version_of, cut_words, state_words, lines_of_breaks, snapshot_text}
 
 -- *how many lines a problem has*
 

@@ -1,7 +1,9 @@
 -- The numbers and names of the refusals.
 use Rattle.std.specs.Prelude.{ℕ, Option, Some, None, List, codes}
 use Rattle.x_snapshot.specs.declared.fault.SnapshotFault.{SnapshotFault}
-use Rattle.x_snapshot.specs.declared.fault.SnapshotFault.TheVariants.{BadHeader, BadVersion, BadProblem, BadState, NotOnRun, OutsideBranch, Truncated, TrailingBytes, Spelling, BadBreak, OutOfMemory}
+use Rattle.x_snapshot.specs.declared.fault.SnapshotFault.TheVariants.{BadHeader, BadVersion, BadProblem, BadState, NotOnRun}
+use Rattle.x_snapshot.specs.declared.fault.SnapshotFault.TheVariants.{OutsideBranch, Truncated, TrailingBytes, Spelling, BadBreak}
+use Rattle.x_snapshot.specs.declared.fault.SnapshotFault.TheVariants.{OutOfMemory}
 
 -- the number of a refusal; out of memory has none
 abbrev pub number_of : SnapshotFault → Option ℕ

@@ -6,7 +6,8 @@
 --
 -- Example: the text `polysnap 01` and a newline has the fault BadVersion, `hello` is cut off, and with a newline it is a BadHeader.
 -- proofs/SnapshotExamples.antt computes it.
-use Rattle.std.specs.Prelude.{ℕ, zero, suc, ◌+◌, ◌-◌, ◌==◌, nat_lt, nat_le, Bool, not, ◌&&◌, if◌then◌else◌, List, [], ◌∷◌, ◌++◌, length, take, Option, Some, None, option_map, option_and_then, Result, Ok, Err, codes}
+use Rattle.std.specs.Prelude.{ℕ, zero, suc, ◌+◌, ◌-◌, ◌==◌, nat_lt, nat_le, Bool, not, ◌&&◌, if◌then◌else◌, List, [], ◌∷◌, ◌++◌, length}
+use Rattle.std.specs.Prelude.{take, Option, Some, None, option_map, option_and_then, Result, Ok, Err, codes}
 use Rattle.std.specs.List.{list_any, list_all}
 use Rattle.std.specs.Str.{bytes_eq}
 use Rattle.text_lines.specs.Lines.{words_of, is_newline, is_empty}
@@ -28,7 +29,8 @@ use Rattle.x_snapshot.specs.declared.breakpoint.Break.TheVariants as breakpoints
 use Rattle.x_snapshot.specs.declared.reading.breaks.Kind.{Kind}
 use Rattle.x_snapshot.specs.declared.reading.breaks.Kind.TheVariants as kinds
 use Rattle.x_snapshot.specs.declared.fault.SnapshotFault.{SnapshotFault}
-use Rattle.x_snapshot.specs.declared.fault.SnapshotFault.TheVariants.{BadHeader, BadVersion, BadProblem, BadState, Truncated, TrailingBytes, Spelling, BadBreak}
+use Rattle.x_snapshot.specs.declared.fault.SnapshotFault.TheVariants.{BadHeader, BadVersion, BadProblem, BadState, Truncated}
+use Rattle.x_snapshot.specs.declared.fault.SnapshotFault.TheVariants.{TrailingBytes, Spelling, BadBreak}
 use Rattle.x_snapshot.specs.Breaks.{is_same}
 use Rattle.x_snapshot.specs.Snapshot.{SnapshotValue, snapshot_with}
 use Rattle.x_snapshot.specs.Writing.{needs_second}
@@ -62,7 +64,8 @@ keyed fault key text = do
   Ok (others, line.1)
 
 -- what the words after a key say, and what stands after the line
-unfoldable pub keyed_line : {X : Type 0} → SnapshotFault → List ℕ → (List (List ℕ) → Result X SnapshotFault) → List ℕ → Result (X × List ℕ) SnapshotFault
+unfoldable pub keyed_line : {X : Type 0} → SnapshotFault → List ℕ → (List (List ℕ) → Result X SnapshotFault) → List ℕ
+    → Result (X × List ℕ) SnapshotFault
 keyed_line fault key form text = do
   line ← keyed fault key text
   said ← form line.0
@@ -138,7 +141,8 @@ in_version version p = if (version == 1) && nat_lt p.primary (length p.names) th
 
 -- the problem of a text up to what stands after it
 unfoldable pub problem_before : ℕ → List ℕ → List ℕ → Result ProblemValue SnapshotFault
-problem_before version text rest = spelled (take (length text - length rest) text) (problem_of (take (length text - length rest) text)) >>= in_version version
+problem_before version text rest =
+    spelled (take (length text - length rest) text) (problem_of (take (length text - length rest) text)) >>= in_version version
 
 -- the number of the problem's lines, which is at least 1
 unfoldable pub lines_from : ℕ → List (List ℕ) → Result ℕ SnapshotFault

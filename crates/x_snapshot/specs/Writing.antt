@@ -11,7 +11,8 @@
 --     end
 --
 -- In version 2 the breakpoints stand between `state` and `end`: a line with their number, and a line for each.
-use Rattle.std.specs.Prelude.{ℕ, ◌+◌, Bool, ◌||◌, nat_lt, if◌then◌else◌, List, [], ◌∷◌, ◌++◌, length, map, flat_map, decimal, codes, Option, Some}
+use Rattle.std.specs.Prelude.{ℕ, ◌+◌, Bool, ◌||◌, nat_lt, if◌then◌else◌, List, [], ◌∷◌, ◌++◌, length, map, decimal, codes}
+use Rattle.std.specs.Prelude.{Option, Some}
 use Rattle.std.specs.Prelude as prelude
 use Rattle.text_lines.specs.Writing.{text_of}
 use Rattle.cover_problem.specs.Problem.{ProblemValue, name_at}
@@ -24,10 +25,6 @@ use Rattle.x_steps.specs.StateValue.{StateValue}
 use Rattle.x_snapshot.specs.declared.breakpoint.Break.{Break}
 use Rattle.x_snapshot.specs.declared.breakpoint.Break.TheVariants as at
 use Rattle.x_snapshot.specs.Snapshot.{SnapshotValue}
-
--- each word after a space
-abbrev pub words_after : List (List ℕ) → List ℕ
-words_after words = flat_map (λ word. 32 ∷ word) words
 
 -- whether the second version is needed: there are secondary items, or breakpoints
 abbrev pub needs_second : ProblemValue → List Break → Bool

@@ -1,12 +1,12 @@
 //! The writer of snapshots.
-ghost use Rattle.std.specs.Prelude.{◌≡◌, ◌++◌, ◌∷◌, [], true, map, length, decimal, codes, OnOk, IfOk};
+ghost use Rattle.std.specs.Prelude.{◌≡◌, ◌++◌, ◌∷◌, [], true, map, length, decimal, codes, option_copied, OnOk, IfOk};
 ghost use Rattle.std.specs.List.{list_all};
-ghost use Rattle.text_lines.specs.Writing.{line_text, text_of};
+ghost use Rattle.text_lines.specs.Writing.{words_after, line_text, text_of};
 ghost use Rattle.cover_problem.specs.Grammar.{word_lines};
 ghost use Rattle.x_steps.specs.StateView.{state_value};
 ghost use Rattle.x_snapshot.specs.Breaks.{is_break};
 ghost use Rattle.x_snapshot.specs.Writing as spec;
-ghost use Rattle.x_snapshot.specs.Writing.{words_after, cut_words, state_words, point_words, break_words, lines_of_breaks, snapshot_text};
+ghost use Rattle.x_snapshot.specs.Writing.{cut_words, state_words, point_words, break_words, lines_of_breaks, snapshot_text};
 
 use crate::breakpoint::Break;
 use crate::snapshot::Snapshot;
@@ -31,9 +31,9 @@ pub fn write_number<N: Integer + Drop>(text: &mut Vec<u8>, number: N) -> Result<
     write_word(text, buffer.format(number))
 }
 
-/// Writes numbers after a word.
-pub fn write_numbers(text: &mut Vec<u8>, numbers: &[u32]) -> Result<(), AllocError>
-    ensures { OnOk result (text.new.items ≡ text.old.items ++ words_after (map decimal numbers.now)) }
+/// Writes numbers, each after a word.
+pub fn write_numbers<N: Integer + Drop>(text: &mut Vec<u8>, numbers: &[N]) -> Result<(), AllocError>
+    ensures { OnOk result (text.new.items ≡ text.old.items ++ words_after (map N.text numbers.now)) }
 {
     for number in numbers {
         write_number(text, *number)?;
@@ -55,16 +55,6 @@ pub fn write_count<N: Integer + Drop>(
     Ok(())
 }
 
-/// Writes a line of two words.
-fn write_pair(text: &mut Vec<u8>, key: &str, word: &str) -> Result<(), AllocError>
-    ensures { OnOk result (text.new.items ≡ text.old.items ++ line_text (key.now ∷ word.now ∷ [])) }
-{
-    text.extend_from_slice(key.as_bytes())?;
-    write_word(text, word)?;
-    text.push(b'\n')?;
-    Ok(())
-}
-
 /// Writes a line of a word and the choices of a path.
 pub fn write_path(text: &mut Vec<u8>, key: &str, path: &[u32]) -> Result<(), AllocError>
     ensures { OnOk result (text.new.items ≡ text.old.items ++ line_text (key.now ∷ map decimal path.now)) }
@@ -75,24 +65,44 @@ pub fn write_path(text: &mut Vec<u8>, key: &str, path: &[u32]) -> Result<(), All
     Ok(())
 }
 
+/// Writes the choices of a cut after a word, or the word for none.
+pub fn write_cut(text: &mut Vec<u8>, none: &str, path: Option<&[u32]>) -> Result<(), AllocError>
+    ensures { OnOk result (text.new.items ≡ text.old.items ++ words_after (cut_words none.now (option_copied path.entry))) }
+{
+    match path {
+        Some(path) => write_numbers(text, path),
+        None => write_word(text, none),
+    }
+}
+
+/// Writes a line of a word and a cut: its choices, or the word for none.
+fn write_cut_line(
+    text: &mut Vec<u8>,
+    key: &str,
+    none: &str,
+    path: Option<&[u32]>,
+) -> Result<(), AllocError>
+    ensures { OnOk result (text.new.items ≡ text.old.items
+        ++ line_text (key.now ∷ cut_words none.now (option_copied path.entry))) }
+{
+    text.extend_from_slice(key.as_bytes())?;
+    write_cut(text, none, path)?;
+    text.push(b'\n')?;
+    Ok(())
+}
+
 /// Writes the line of the low cut.
 fn write_from(text: &mut Vec<u8>, snapshot: &Snapshot) -> Result<(), AllocError>
     ensures { OnOk result (text.new.items ≡ text.old.items ++ line_text (codes "from" ∷ cut_words (codes "start") snapshot.now.lo)) }
 {
-    match snapshot.lo() {
-        Some(path) => write_path(text, "from", path),
-        None => write_pair(text, "from", "start"),
-    }
+    write_cut_line(text, "from", "start", snapshot.lo())
 }
 
 /// Writes the line of the high cut.
 fn write_to(text: &mut Vec<u8>, snapshot: &Snapshot) -> Result<(), AllocError>
     ensures { OnOk result (text.new.items ≡ text.old.items ++ line_text (codes "to" ∷ cut_words (codes "end") snapshot.now.hi)) }
 {
-    match snapshot.hi() {
-        Some(path) => write_path(text, "to", path),
-        None => write_pair(text, "to", "end"),
-    }
+    write_cut_line(text, "to", "end", snapshot.hi())
 }
 
 /// The word of a label.

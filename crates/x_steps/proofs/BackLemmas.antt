@@ -1,7 +1,7 @@
 -- What each step back keeps: the table stands for the items covered at the state before.
 use Rattle.std.proofs.Common.{◌≡◌, ℕ, ◌-◌, ◌<◌, ◌≤◌, List, [], ◌∷◌, ◌++◌, length, true, false, nat_lt, Bool, Option, Some, arith, refl, sym, ap, ◌∙◌, subst, append-nil}
 use Rattle.std.specs.Prelude as prelude
-use Rattle.std.proofs.lemmas.List.{same_from_push}
+use Rattle.std.proofs.lemmas.List.{same_from_push, nil_from_length}
 use Rattle.std.proofs.lemmas.Bool.{ltb-true}
 use Rattle.cover_problem.specs.Lists.{has, below, last_of}
 use Rattle.cover_problem.specs.Problem.{ProblemValue, IsProblem, option_at}
@@ -22,7 +22,7 @@ use Rattle.x_steps.specs.Before.{prev, prev_at, came_from}
 use Rattle.x_steps.specs.Machine.{Keeps, Position, GoesBack}
 use Rattle.x_steps.proofs.Neighbours.{fits_prev, split_last_push}
 use Rattle.x_steps.proofs.RunLemmas.{prev_before}
-use Rattle.x_steps.proofs.MachineLemmas.{emptied, mid_is, chosen_last, item_is, retry_at, label_of}
+use Rattle.x_steps.proofs.MachineLemmas.{keeps_on, mid_is, chosen_last, item_is, retry_at, label_of}
 
 -- a step back came to t, and the machine keeps what it has to
 pub record WentBack (p : ProblemValue) (s t : StateValue) (table_problem : ProblemValue) (covered : List ℕ) (room : ℕ) : Type 0 where
@@ -33,13 +33,7 @@ pub record WentBack (p : ProblemValue) (s t : StateValue) (table_problem : Probl
 module _ (p : ProblemValue) (s t : StateValue) (table_problem : ProblemValue) (covered : List ℕ) (room : ℕ) (new_problem : ProblemValue) (new_covered : List ℕ) (new_room : ℕ) where
   went_back : Keeps p s table_problem covered room → new_problem ≡ table_problem → room ≤ new_room → t ≡ prev p s → new_covered ≡ covered_in p t → WentBack p s t new_problem new_covered new_room
   went_back k e r n c = record {
-    keeps = record {
-      sound = k.sound;
-      fit = subst (Fits p) (sym n) (fits_prev p s k.fit);
-      same = e ∙ k.same;
-      stands = c;
-      path_fits = let f = k.path_fits in omega arith;
-    };
+    keeps = keeps_on p s t table_problem covered room new_problem new_covered new_room k e r (subst (Fits p) (sym n) (fits_prev p s k.fit)) c;
     steps = n;
     fit = k.fit;
   }
@@ -76,7 +70,7 @@ module _ (p : ProblemValue) (path : List ℕ) (at_cursor : Cursor) (table_proble
       → WentBack p (at X2 path at_cursor) (at X1 new_path cursor.None) table_problem covered new_room
   unfolding prev covered_in
   to_start new_path new_room e zero same k =
-      let none = emptied path zero in
+      let none = nil_from_length path zero in
       let bare : new_path ≡ [] = sym (append-nil new_path) ∙ sym e ∙ none in
       went_back p _ _ table_problem covered room _ _ _ k refl (omega arith) (rw (none, bare) refl) (k.stands ∙ ap (covered_by p) (none ∙ sym bare))
 

@@ -6,7 +6,6 @@ pub mod RunLemmas
 pub mod BetweenLemmas
 pub mod StretchLemmas
 pub mod ZeroLemmas
-pub mod PathsLemmas
 pub mod StateLemmas
 pub mod MachineLemmas
 pub mod BackLemmas

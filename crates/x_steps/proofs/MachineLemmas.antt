@@ -1,6 +1,6 @@
 -- What each step keeps: the table stands for the items covered at the state.
 use Rattle.std.proofs.Common.{◌≡◌, ℕ, suc, ◌-◌, ◌<◌, ◌≤◌, List, [], ◌∷◌, ◌++◌, length, take, true, false, nat_lt, Bool, Option, Some, arith, refl, sym, ap, ◌∙◌, subst, append-nil, length-append, if◌then◌else◌}
-use Rattle.std.proofs.lemmas.List.{same_from_push}
+use Rattle.std.proofs.lemmas.List.{same_from_push, nil_from_length}
 use Rattle.std.proofs.Math.Seq.{take-append_seam}
 use Rattle.cover_problem.specs.Lists.{has, above}
 use Rattle.cover_problem.specs.Problem.{ProblemValue, IsProblem, option_at}
@@ -22,6 +22,17 @@ use Rattle.x_steps.specs.Steps.{Fits, FitsAt, IsOpen, is_open, item_after, remai
 use Rattle.x_steps.specs.Machine.{Keeps, Position, Goes}
 use Rattle.x_steps.proofs.Neighbours.{fits_next, split_last_push}
 
+-- at another state that fits the machine keeps what it has to, if its table stands for what is covered there
+pub keeps_on : (p : ProblemValue) (s t : StateValue) (table_problem : ProblemValue) (covered : List ℕ) (room : ℕ) (new_problem : ProblemValue) (new_covered : List ℕ) (new_room : ℕ)
+    → Keeps p s table_problem covered room → new_problem ≡ table_problem → room ≤ new_room → Fits p t → new_covered ≡ covered_in p t → Keeps p t new_problem new_covered new_room
+keeps_on p s t table_problem covered room new_problem new_covered new_room k e r f c = record {
+  sound = k.sound;
+  fit = f;
+  same = e ∙ k.same;
+  stands = c;
+  path_fits = let fits = k.path_fits in omega arith;
+}
+
 -- a step came to t, and the machine keeps what it has to
 pub record Went (p : ProblemValue) (s t : StateValue) (event : Event) (table_problem : ProblemValue) (covered : List ℕ) (room : ℕ) : Type 0 where
   pub keeps : Keeps p t table_problem covered room
@@ -31,13 +42,7 @@ pub record Went (p : ProblemValue) (s t : StateValue) (event : Event) (table_pro
 module _ (p : ProblemValue) (s t : StateValue) (event : Event) (table_problem : ProblemValue) (covered : List ℕ) (room : ℕ) (new_problem : ProblemValue) (new_covered : List ℕ) (new_room : ℕ) where
   went : Keeps p s table_problem covered room → new_problem ≡ table_problem → room ≤ new_room → t ≡ next p s → event ≡ event_of p s → new_covered ≡ covered_in p t → Went p s t event new_problem new_covered new_room
   went k e r n v c = record {
-    keeps = record {
-      sound = k.sound;
-      fit = subst (Fits p) (sym n) (fits_next p s k.fit);
-      same = e ∙ k.same;
-      stands = c;
-      path_fits = let f = k.path_fits in omega arith;
-    };
+    keeps = keeps_on p s t table_problem covered room new_problem new_covered new_room k e r (subst (Fits p) (sym n) (fits_next p s k.fit)) c;
     steps = n;
     tells = v;
   }
@@ -59,10 +64,6 @@ at_X6 p path (At o) never f = never o refl
 at_X6 p path _ never f = f
 
 -- a list from which nothing could be taken
-pub emptied : (path : List ℕ) → length path ≡ 0 → path ≡ []
-emptied [] e = refl
-emptied (x ∷ xs) e = absurd (omega arith)
-
 -- of two equal lists whose ends are as long as each other, the fronts are equal
 pub same_fronts : {X : Type 0} (xs ys us vs : List X) → xs ++ us ≡ ys ++ vs → length us ≡ length vs → xs ≡ ys
 same_fronts {X} xs ys us vs e h =
@@ -261,7 +262,7 @@ module _ (p : ProblemValue) (path : List ℕ) (at_cursor : Cursor) (table_proble
       → Went p (at X8 path at_cursor) (at Done new_path cursor.None) Finished table_problem covered new_room
   unfolding next event_of covered_in
   ends new_path new_room e zero same k =
-      let none = emptied path zero in
+      let none = nil_from_length path zero in
       let bare : new_path ≡ [] = sym (append-nil new_path) ∙ sym e ∙ none in
       went p _ _ _ table_problem covered room _ _ _ k refl (omega arith) (rw (none, bare) refl) (rw none refl) (k.stands ∙ ap (covered_by p) (none ∙ sym bare))
 

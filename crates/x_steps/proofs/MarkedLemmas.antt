@@ -1,24 +1,19 @@
 -- Marks follow the list of items that they stand for.
-use Rattle.std.proofs.Common.{◌≡◌, ℕ, ◌+◌, ◌<◌, ◌≤◌, ◌⊎◌, ◌==◌, ◌&&◌, Bool, true, false, not, List, [], ◌∷◌, ◌++◌, length, get_or, take, refl, sym, ◌∙◌, subst, inl, inr, arith, append_assoc, add-one, All, get_or-set_same, get_or-set_other}
+use Rattle.std.proofs.Common.{◌≡◌, ℕ, ◌+◌, ◌<◌, ◌≤◌, ◌⊎◌, ◌&&◌, Bool, true, false, not, List, [], ◌∷◌, ◌++◌, length, get_or, take, refl, sym, ◌∙◌, subst, inl, inr, arith, append_assoc, add-one, All, get_or-set_same, get_or-set_other}
 use Rattle.std.proofs.Math.ListN.{set}
 use Rattle.std.proofs.Math.Seq.{take-suc}
 use Rattle.std.specs.List.{list_any}
 use Rattle.std.proofs.lemmas.List.{length-set, take_all, take-append-le}
-use Rattle.std.proofs.lemmas.Bool.{cases_eq, cases_Bool, ne_eqb, both_ways, false_from_ne_true}
+use Rattle.std.proofs.lemmas.Bool.{cases_eq, cases_Bool, both_ways, false_from_ne_true}
 use Rattle.cover_problem.specs.Lists.{has}
 use Rattle.cover_problem.specs.Problem.{ProblemValue, IsProblem, option_at}
 use Rattle.cover_problem.specs.Covering.{is_remaining, remaining}
 use Rattle.cover_problem.specs.Path.{IsChoice, taken}
-use Rattle.std.proofs.Math.Bool.{or-false}
-use Rattle.cover_problem.proofs.MemberLemmas.{has_at, has_here, has_later, has-append, has_append_cases, has_append_left, has_append_right}
+use Rattle.cover_problem.proofs.MemberLemmas.{has_at, has_here, has_later, has_push_other, has_append_cases, has_append_left, has_append_right}
 use Rattle.cover_problem.proofs.ActiveLemmas.{option_is}
 use Rattle.cover_problem.proofs.RemainingLemmas.{remaining_in, remaining_from}
 use Rattle.cover_problem.proofs.CoverLemmas.{taken_keeps, taken_covers, taken_cases}
 use Rattle.x_steps.specs.Marked.{AreMarked}
-
--- a list that has one more
-has_last : (c : List ℕ) (x i : ℕ) → (x ≡ i → ⊥) → has (c ++ x ∷ []) i ≡ has c i
-has_last c x i e = let f : x == i ≡ false = ne_eqb x i e in rw (has-append c (x ∷ []) i, f) (or-false (has c i))
 
 pub marks_more : (marks : List Bool) (items : List ℕ) (k n : ℕ) (c : List ℕ) → AreMarked marks n (c ++ take k items) → k < length items → get_or items k 0 < length marks
     → AreMarked (set marks (get_or items k 0) true) n (c ++ take (k + 1) items)
@@ -30,7 +25,7 @@ marks_more marks items k n c a l w = record { size = length-set marks (get_or it
     step : (i : ℕ) → i ≤ n → (get_or items k 0 ≡ i) ⊎ (get_or items k 0 ≡ i → ⊥) → get_or (set marks (get_or items k 0) true) i false ≡ has (c ++ take (k + 1) items) i
     step i b (inl e) = rw (← e, grown)
         (get_or-set_same marks (get_or items k 0) true false w ∙ sym (has_append_right (c ++ take k items) (get_or items k 0 ∷ []) (get_or items k 0) (has_here (get_or items k 0) [])))
-    step i b (inr e) = rw grown (get_or-set_other marks (get_or items k 0) i true false (λ f. e (sym f)) ∙ a.marked i b ∙ sym (has_last (c ++ take k items) (get_or items k 0) i e))
+    step i b (inr e) = rw grown (get_or-set_other marks (get_or items k 0) i true false (λ f. e (sym f)) ∙ a.marked i b ∙ sym (has_push_other (c ++ take k items) (get_or items k 0) i e))
 
 -- marks see the members alone
 marks_same : (marks : List Bool) (n : ℕ) (c d : List ℕ) → ((i : ℕ) → has c i ≡ has d i) → AreMarked marks n c → AreMarked marks n d

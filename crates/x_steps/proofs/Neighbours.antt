@@ -1,5 +1,7 @@
 -- A step forwards and a step backwards undo each other, and keep a state fitting.
-use Rattle.std.proofs.Common.{◌≡◌, ℕ, ◌⊎◌, true, false, Option, Some, List, [], ◌∷◌, ◌++◌, length, refl, ap, inl, inr, arith}
+use Rattle.std.proofs.Common.{◌≡◌, ℕ, suc, ◌<◌, ◌⊎◌, true, false, Option, Some, List, [], ◌∷◌, ◌++◌, length, take, drop, get_or, refl, sym, ap, ◌∙◌, inl, inr, arith}
+use Rattle.std.proofs.Math.Seq.{drop-cons}
+use Rattle.std.proofs.lemmas.List.{take-append-drop}
 use Rattle.std.specs.Prelude as prelude
 use Rattle.std.proofs.lemmas.Bool.{cases_Bool, ltb-true, ltb-false, lt-ltb}
 use Rattle.cover_problem.specs.Lists.{RisesFrom, above, below, last_of}
@@ -23,6 +25,7 @@ pub split_last_push : (path : List ℕ) (o : ℕ) → split_last (path ++ o ∷ 
 split_last_push [] o = refl
 split_last_push (x ∷ path) o = ap (λ (s : Option (List ℕ × ℕ)). Some (with_first x s)) (split_last_push path o)
 
+-- a list is empty, or has a last member
 pub split_last_cases : (path : List ℕ) → (path ≡ []) ⊎ ((q : List ℕ) × (o : ℕ) × (path ≡ q ++ o ∷ []))
 split_last_cases [] = inl refl
 split_last_cases (x ∷ path) = step (split_last_cases path)
@@ -30,6 +33,10 @@ split_last_cases (x ∷ path) = step (split_last_cases path)
     step : (path ≡ []) ⊎ ((q : List ℕ) × (o : ℕ) × (path ≡ q ++ o ∷ [])) → (x ∷ path ≡ []) ⊎ ((q : List ℕ) × (o : ℕ) × (x ∷ path ≡ q ++ o ∷ []))
     step (inl e) = inr ([], x, ap (λ ys. x ∷ ys) e)
     step (inr s) = inr (x ∷ s.0, s.1, ap (λ ys. x ∷ ys) s.2)
+
+-- a list at one of its places: what stands before it, there, and after it
+pub parted : (xs : List ℕ) (k : ℕ) → k < length xs → xs ≡ take k xs ++ get_or xs k 0 ∷ drop (suc k) xs
+parted xs k l = sym (take-append-drop k xs) ∙ ap (λ rest. take k xs ++ rest) (drop-cons xs k 0 l)
 
 -- whether an item is active
 pub open_cases : (p : ProblemValue) (path : List ℕ) → ((is_open p path ≡ true) × IsOpen p path) ⊎ ((is_open p path ≡ false) × (length (active p (covered_by p path)) ≡ 0))

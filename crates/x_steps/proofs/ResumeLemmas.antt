@@ -1,7 +1,7 @@
 -- A machine on its way down a path to a state.
 use Rattle.std.proofs.Common.{◌≡◌, ℕ, suc, ◌+◌, ◌<◌, ◌≤◌, ◌&&◌, IsTrue, All, Bool, true, false, not, nat_lt, List, [], ◌∷◌, ◌++◌, length, get_or, take, drop, refl, sym, ap, ◌∙◌, subst, add-one}
-use Rattle.std.proofs.Math.Seq.{take-suc, drop-cons}
-use Rattle.std.proofs.lemmas.List.{take_all, take-append-drop}
+use Rattle.std.proofs.Math.Seq.{take-suc}
+use Rattle.std.proofs.lemmas.List.{take_all}
 use Rattle.std.specs.List.{list_any}
 use Rattle.std.proofs.lemmas.Bool.{ltb-true, lt-ltb, false≢true}
 use Rattle.cover_problem.specs.Lists.{has, above}
@@ -21,7 +21,7 @@ use Rattle.x_steps.specs.Steps.{Fits, IsOpen, item_after, remaining_after, curso
 use Rattle.x_steps.specs.Machine.{Keeps, Position, Goes}
 use Rattle.x_steps.specs.Marked.{AreMarked}
 use Rattle.x_steps.specs.Resume.{position, IsDown}
-use Rattle.x_steps.proofs.Neighbours.{open_is, split_last_push}
+use Rattle.x_steps.proofs.Neighbours.{open_is, parted, split_last_push}
 use Rattle.x_steps.proofs.MarkedLemmas.{left_by_marks, option_within, marks_taken}
 use Rattle.x_steps.proofs.MachineLemmas.{from_label}
 use Rattle.x_steps.proofs.BackLemmas.{valid_at_X2}
@@ -178,14 +178,11 @@ marks_now p q s t marks n now c option o e f is a =
 
 -- ---- one choice after another
 
-split_at : (path : List ℕ) (k : ℕ) → k < length path → path ≡ take k path ++ get_or path k 0 ∷ drop (suc k) path
-split_at path k l = sym (take-append-drop k path) ∙ ap (λ r. take k path ++ r) (drop-cons path k 0 l)
-
 pub not_down : (p : ProblemValue) (path : List ℕ) (k : ℕ) (m : Position) (marks : List Bool) → IsDown p (take k path) m marks → k < length path → (Fits m.problem (at X5 m.state.path (At (get_or path k 0))) → ⊥)
     → IsValid p path → ⊥
 unfolding IsValid covered_by
 not_down p path k m marks d l never v =
-    let parts = valid_split p [] (take k path) (get_or path k 0 ∷ drop (suc k) path) (rw (split_at path k l) at v) in
+    let parts = valid_split p [] (take k path) (get_or path k 0 ∷ drop (suc k) path) (rw (parted path k l) at v) in
     let e = d.here in
     never (subst (λ v. Fits v.problem (at X5 v.state.path (At (get_or path k 0)))) (sym e) (parts.0, parts.1.0))
 

@@ -1,5 +1,5 @@
 -- The secondary items that are not covered, one after the other.
-use Rattle.std.proofs.Common.{◌≡◌, ℕ, zero, suc, ◌+◌, ◌-◌, ◌≤◌, ◌⊎◌, inl, inr, Bool, true, false, not, List, [], ◌∷◌, ◌++◌, length, get_or, map, filter, All, if◌then◌else◌, arith, refl, sym, ap, ◌∙◌, add-zero, append-nil}
+use Rattle.std.proofs.Common.{◌≡◌, ℕ, suc, ◌+◌, ◌-◌, ◌≤◌, ◌⊎◌, inl, inr, Bool, true, false, not, List, [], ◌∷◌, ◌++◌, length, get_or, map, filter, All, if◌then◌else◌, arith, refl, sym, ap, ◌∙◌, append-nil}
 use Rattle.std.proofs.lemmas.List.{map-append}
 use Rattle.std.proofs.lemmas.Bool.{cases_Bool, not_from_true, not_from_false}
 use Rattle.cover_problem.specs.Lists.{has, numbers}
@@ -7,6 +7,7 @@ use Rattle.cover_problem.specs.Problem.{ProblemValue}
 use Rattle.cover_problem.specs.Covering.{remaining, list_of}
 use Rattle.cover_problem.specs.Table.{IsCoveredList}
 use Rattle.cover_problem.proofs.MemberLemmas.{has_at}
+use Rattle.cover_problem.proofs.NumberLemmas.{numbers_push}
 use Rattle.cover_problem.proofs.CoveredLemmas.{covered_item}
 use Rattle.cover_problem.proofs.RemainingLemmas.{list_uncovered}
 use Rattle.x_steps.specs.Machine.{secondary}
@@ -17,13 +18,6 @@ pub record ListsSecond (p : ProblemValue) (c : List ℕ) (before : ℕ) (rows : 
   pub passed : ℕ
   pub reached : p.primary + passed ≡ before
   pub rows_are : rows ≡ map (λ i. (i, remaining p c i)) (filter (λ i. not (has c i)) (numbers passed (p.primary + 1)))
-
-pub numbers_last : (n k : ℕ) → numbers (suc n) k ≡ numbers n k ++ (k + n) ∷ []
-numbers_last zero k = rw add-zero refl
-numbers_last (suc n) k = ap (λ l. k ∷ l) (numbers_last n (suc k) ∙ ap (λ x. numbers n (suc k) ++ x ∷ []) (suc-plus k n))
-  where
-    suc-plus : (k n : ℕ) → suc k + n ≡ k + suc n
-    suc-plus k n = omega arith
 
 filter_last : (test : ℕ → Bool) (xs : List ℕ) (x : ℕ) (b : Bool) → test x ≡ b → filter test (xs ++ x ∷ []) ≡ filter test xs ++ (if b then x ∷ [] else [])
 filter_last test [] x true e = rw e refl
@@ -44,7 +38,7 @@ module _ (p : ProblemValue) (c : List ℕ) where
 
     grown : (b : Bool) → not (has c (before + 1)) ≡ b → filter (λ i. not (has c i)) (numbers (suc l.passed) (p.primary + 1)) ≡ filter (λ i. not (has c i)) (numbers l.passed (p.primary + 1)) ++ (if b then (before + 1) ∷ [] else [])
     grown b e =
-        ap (filter (λ i. not (has c i))) (numbers_last l.passed (p.primary + 1) ∙ ap (λ x. numbers l.passed (p.primary + 1) ++ x ∷ []) next_is)
+        ap (filter (λ i. not (has c i))) (numbers_push l.passed (p.primary + 1) ∙ ap (λ x. numbers l.passed (p.primary + 1) ++ x ∷ []) next_is)
         ∙ filter_last (λ i. not (has c i)) (numbers l.passed (p.primary + 1)) (before + 1) b e
 
     second_covered : has c (before + 1) ≡ true → ListsSecond p c (before + 1) rows

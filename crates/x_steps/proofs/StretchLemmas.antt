@@ -10,7 +10,7 @@ use Rattle.x_steps.specs.Steps.{Fits, next}
 use Rattle.x_steps.specs.Run.{after, states, distance, steps_between, states_between, visits_between, ReachesIn}
 use Rattle.x_steps.specs.Rank.{rank}
 use Rattle.x_steps.proofs.RunLemmas.{start_fits, done_fits, end_is, after_fits, after_add, rises_between, leads_to, start_first, done_last}
-use Rattle.x_steps.proofs.SecondLemmas.{numbers_last}
+use Rattle.cover_problem.proofs.NumberLemmas.{numbers_push}
 use Rattle.x_steps.proofs.BetweenLemmas.{states_between_join, visits_between_join}
 
 -- ---- which comes first
@@ -65,7 +65,7 @@ pub states_each : (p : ProblemValue) (n : ℕ) (s : StateValue) → states p n s
 states_each p zero s = refl
 states_each p (suc n) s =
     ap (λ l. l ++ after p n s ∷ []) (states_each p n s) ∙ sym (map-append (λ i. after p i s) (numbers n 0) (n ∷ []))
-    ∙ ap (map (λ i. after p i s)) (ap (λ i. numbers n 0 ++ i ∷ []) (let e : n ≡ 0 + n = omega arith in e) ∙ sym (numbers_last n 0))
+    ∙ ap (map (λ i. after p i s)) (ap (λ i. numbers n 0 ++ i ∷ []) (let e : n ≡ 0 + n = omega arith in e) ∙ sym (numbers_push n 0))
 
 pub states_between_each : (p : ProblemValue) (s t : StateValue) → states_between p s t ≡ map (λ i. after p i s) (numbers (steps_between p s t) 0)
 states_between_each p s t = states_each p (steps_between p s t) s

@@ -1,5 +1,6 @@
 -- The visits of a walk: the last of its steps alone may come to one, and tells so.
-use Rattle.std.proofs.Common.{◌≡◌, ℕ, zero, suc, ◌<◌, Bool, true, false, not, cond, ◌&&◌, if◌then◌else◌, List, [], ◌∷◌, ◌++◌, refl, sym, ap, ◌∙◌, arith}
+use Rattle.std.proofs.Common.{◌≡◌, ℕ, zero, suc, ◌<◌, Bool, true, false, not, cond, if◌then◌else◌, List, [], ◌∷◌, ◌++◌, refl, sym, ap, ◌∙◌, arith}
+use Rattle.std.proofs.lemmas.Bool.{and_parts}
 use Rattle.cover_problem.specs.Problem.{ProblemValue}
 use Rattle.x_steps.specs.declared.state.Label.{Label}
 use Rattle.x_steps.specs.declared.state.Label.TheVariants.{X2, X8}
@@ -33,10 +34,6 @@ unfolding next
 leaves p X2 path k e = leaves_by path (is_open p path) _ _ refl refl
 leaves p _ path k e = absurd (cc)
 
-both : (a b : Bool) → (a && b) ≡ true → a ≡ true
-both true b e = refl
-both false b e = e
-
 moves_show_nothing : (p : ProblemValue) (n : ℕ) (s : StateValue) → ((i : ℕ) → i < n → event_of p (after p i s) ≡ Moved) → visits p (states p n s) ≡ []
 moves_show_nothing p zero s moves = refl
 moves_show_nothing p (suc n) s moves =
@@ -47,7 +44,7 @@ moves_show_nothing p (suc n) s moves =
 
 -- a visit's path is that after the step, too
 stays : (p : ProblemValue) (u : StateValue) (b : Bool) → is_visit p u ≡ b → cond b (u.path ∷ []) [] ≡ cond b ((next p u).path ∷ []) []
-stays p u true e = ap (λ (path : List ℕ). path ∷ []) (sym (leaves p u.label u.path u.cursor (both (is_level u.label) _ e)))
+stays p u true e = ap (λ (path : List ℕ). path ∷ []) (sym (leaves p u.label u.path u.cursor (and_parts (is_level u.label) _ e).0))
 stays p u false e = refl
 
 pub walk_shows : (p : ProblemValue) (n : ℕ) (s : StateValue) → OnlyMoves p n s → visits p (states p n s) ≡ visit_told (last_event p n s) (after p n s).path

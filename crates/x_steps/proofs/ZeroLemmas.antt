@@ -2,6 +2,7 @@
 use Rattle.std.proofs.Common.{◌≡◌, ℕ, zero, suc, ◌-◌, ◌<◌, ◌==◌, true, false, ◌⊎◌, inl, inr, Option, option_to_list, append-nil, length-append, List, [], ◌∷◌, ◌++◌, length, replicate, Some, None, slice_get, refl, sym, ap, ◌∙◌, arith}
 use Rattle.std.proofs.lemmas.Bool.Decides.{eqb_tells}
 use Rattle.x_steps.specs.Levels.{without_last_zeros, before_counts}
+use Rattle.x_steps.proofs.Neighbours.{split_last_cases}
 
 differs : (a b : ℕ) → (a ≡ b → ⊥) → (a == b) ≡ false
 differs a b h = elim (eqb_tells a b) [ inl e ↦ absurd (h e.1) | inr e ↦ e.0 ]
@@ -29,14 +30,6 @@ last_get (x ∷ ys) y =
     let n : length ((x ∷ ys) ++ y ∷ []) - 1 ≡ suc (length (ys ++ y ∷ []) - 1) = omega (arith, length-append ys (y ∷ [])) in
     rw n (last_get ys y)
 
--- a list is empty, or has a last member
-ends : (xs : List ℕ) → (xs ≡ []) ⊎ ((ys : List ℕ) × (y : ℕ) × (xs ≡ ys ++ y ∷ []))
-ends [] = inl refl
-ends (x ∷ xs) = more (ends xs) where
-  more : (xs ≡ []) ⊎ ((ys : List ℕ) × (y : ℕ) × (xs ≡ ys ++ y ∷ [])) → (x ∷ xs ≡ []) ⊎ ((ys : List ℕ) × (y : ℕ) × (x ∷ xs ≡ ys ++ y ∷ []))
-  more (inl e) = inr ([], x, ap (λ l. x ∷ l) e)
-  more (inr w) = inr (x ∷ w.0, w.1, ap (λ l. x ∷ l) w.2)
-
 -- where the last is a zero, the list without it has the same numbers before the zeros at its end
 pub zero_taken : (xs new : List ℕ) (r : Option ℕ) → slice_get xs (length xs - 1) ≡ Some 0 → xs ≡ new ++ option_to_list r → without_last_zeros new ≡ without_last_zeros xs
 zero_taken xs new None h e = ap without_last_zeros (sym (append-nil new) ∙ sym e)
@@ -47,7 +40,7 @@ zero_taken xs new (Some y) h e =
 
 -- where it is none, none is at the end
 pub no_zero_left : (xs : List ℕ) → (slice_get xs (length xs - 1) ≡ Some 0 → ⊥) → without_last_zeros xs ≡ xs
-no_zero_left xs h = from (ends xs) where
+no_zero_left xs h = from (split_last_cases xs) where
   from : (xs ≡ []) ⊎ ((ys : List ℕ) × (y : ℕ) × (xs ≡ ys ++ y ∷ [])) → without_last_zeros xs ≡ xs
   from (inl e) = rw e none_left
   from (inr w) =

@@ -5,7 +5,6 @@ pub mod Before
 pub mod Run
 pub mod Levels
 pub mod Walk
-pub mod Paths
 pub mod Order
 pub mod Covers
 pub mod Rank

@@ -1,16 +1,22 @@
 -- A machine on its way down a path.
 use Rattle.std.specs.Prelude.{◌≡◌, Bool, List, length, ℕ}
+use Rattle.cover_problem.specs.Lists.{above}
 use Rattle.cover_problem.specs.Problem.{ProblemValue}
 use Rattle.cover_problem.specs.Path.{covered_by}
-use Rattle.x_steps.specs.declared.state.Label.TheVariants.{X2}
+use Rattle.x_steps.specs.declared.state.Label.TheVariants.{X2, X5}
 use Rattle.x_steps.specs.declared.state.Cursor.TheVariants.{None}
 use Rattle.x_steps.specs.StateValue.{StateValue, at}
+use Rattle.x_steps.specs.Steps.{remaining_after, cursor_of}
 use Rattle.x_steps.specs.Machine.{Position}
 use Rattle.x_steps.specs.Marked.{AreMarked}
 
 -- a problem with a state
 abbrev pub position : ProblemValue → StateValue → Position
 position p s = record { problem = p; state = s }
+
+-- the state after the item chosen after a path is covered: at X5, at the first option left for it, or past the last
+abbrev pub opened : ProblemValue → List ℕ → StateValue
+opened p path = at X5 path (cursor_of (above 0 (remaining_after p path)))
 
 -- the machine is at X2 with this path, and what the path covers is marked
 pub record IsDown (p : ProblemValue) (path : List ℕ) (m : Position) (marks : List Bool) : Type 0 where

@@ -2,7 +2,8 @@
 --
 -- Example: the run of the small problem has 43 steps, the visit 4 5 1, and 1 2 2 1 X2 states at the levels 0 to 3 (computed in
 -- proofs/StepExamples.antt).
-use Rattle.std.specs.Prelude.{ℕ, zero, suc, ◌+◌, ◌≤◌, ◌<◌, ◌≡◌, ◌==◌, nat_lt, ◌&&◌, List, [], ◌∷◌, ◌++◌, length, map, filter, count_by, if◌then◌else◌}
+use Rattle.std.specs.Prelude.{ℕ, zero, suc, ◌+◌, ◌≤◌, ◌<◌, ◌≡◌, ◌==◌, nat_lt, ◌&&◌, List, [], ◌∷◌, ◌++◌, length, map, filter, count_by}
+use Rattle.std.specs.Prelude.{if◌then◌else◌}
 use Rattle.cover_problem.specs.Problem.{ProblemValue}
 use Rattle.cover_problem.specs.Lists.{numbers}
 use Rattle.x_steps.specs.declared.state.Label.TheVariants.{Done}

@@ -8,11 +8,9 @@ pub mod laws;
 mod listing;
 mod machine;
 mod marks;
-mod paths;
 mod state;
 
 pub use event::Event;
 pub use fault::{AtFault, Refused, StepFault};
 pub use machine::{Machine, Walk, no_counts};
-pub use paths::Paths;
 pub use state::{Cursor, Label, State};

@@ -1,5 +1,6 @@
 //! The machine: a state, and a table that stands for what is covered there.
-ghost use Rattle.std.specs.Prelude.{◌≡◌, ◌<◌, ◌≤◌, ◌++◌, ◌∷◌, ◌↔◌, [], length, vec_len, vec_capacity, if◌then◌else◌, ℕ, ◌≢◌, IfOk, IfErr, OnOk, IsErr};
+ghost use Rattle.std.specs.Prelude.{◌≡◌, ◌<◌, ◌≤◌, ◌++◌, ◌∷◌, ◌↔◌, [], length, vec_len, vec_capacity, if◌then◌else◌, ℕ, ◌≢◌, IfOk, IfErr};
+ghost use Rattle.std.specs.Prelude.{OnOk, IsErr};
 ghost use Rattle.cover_problem.specs.Problem.{IsProblem};
 ghost use Rattle.x_steps.specs.StateValue.{start};
 ghost use Rattle.x_steps.specs.StateView.{state_value};
@@ -79,7 +80,8 @@ impl<'p, T: Table> Model for Machine<'p, T> {
 
     ghost view = { λ m. record { problem = m.problem.now; state = state_value m.state } };
 
-    ghost invariant = { λ m. Keeps m.problem.now (state_value m.state) (T.problem_value m.table) (T.covered_list m.table) (vec_capacity m.state.path) };
+    ghost invariant = { λ m. Keeps m.problem.now (state_value m.state) (T.problem_value m.table) (T.covered_list m.table)
+        (vec_capacity m.state.path) };
 }
 
 impl<'p, T: Table> Machine<'p, T> {
@@ -144,7 +146,7 @@ impl<'p, T: Table> Machine<'p, T> {
     }
 
     /// Takes one step of the table X1 to X8, without memory; refused only at Done, which changes nothing.
-    #[inline]
+    #[inline(always)]
     pub fn step(&mut self) -> Result<Event, StepFault>
         ensures problem { self.new.problem ≡ self.old.problem }
         ensures state { OnOk result (self.new.state ≡ next self.old.problem self.old.state) }

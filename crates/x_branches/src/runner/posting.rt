@@ -1,5 +1,6 @@
 //! The unposted stretch of a runner: it is taken out to be posted, and joined again.
-ghost use Rattle.std.specs.Prelude.{◌≡◌, ◌<◌, ◌≤◌, ◌-◌, ◌↔◌, ◌++◌, [], length, take, drop, replicate, slice_index, IsTrue, IfOk, IfErr, OnOk, OnErr};
+ghost use Rattle.std.specs.Prelude.{◌≡◌, ◌<◌, ◌≤◌, ◌-◌, ◌↔◌, ◌++◌, [], length, take, drop, replicate, slice_index, IsTrue, IfOk, IfErr};
+ghost use Rattle.std.specs.Prelude.{OnOk, OnErr};
 ghost use Rattle.x_steps.specs.Levels.{without_last_zeros};
 ghost use Rattle.x_branches.specs.Refusals.{EndsHere, CanReopen, ReopenRefused};
 

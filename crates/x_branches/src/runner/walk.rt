@@ -10,12 +10,12 @@ ghost use Rattle.x_branches.specs.Walk.{advanced_by, CanAdvanceBy, HasToStop};
 
 use crate::fault::RunnerFault;
 use crate::runner::{Runner, discount};
-use cover_problem::Table;
-use x_steps::{Event, Label, Machine, Paths, State, Walk};
+use cover_problem::{Lists, Table};
+use x_steps::{Event, Label, Machine, State, Walk};
 
 /// Keeps the path where a walk came to a visit; false where memory runs out.
 #[inline(always)]
-fn keep_visit(visits: &mut Paths, event: Event, state: &State) -> bool
+fn keep_visit(visits: &mut Lists, event: Event, state: &State) -> bool
     ensures kept { IsTrue result → visits.new ≡ visits.old ++ visit_told event (state_value state.now).path }
     ensures unchanged { result ≡ false → visits.new ≡ visits.old }
     ensures at_visit { result ≡ false → event ≡ Event.Visited }
@@ -32,7 +32,7 @@ fn walk_noted<T: Table>(
     machine: &mut Machine<'_, T>,
     most: u32,
     end: &[u32],
-    visits: &mut Paths,
+    visits: &mut Lists,
     counts: &mut [u32],
 ) -> Walk
     requires fits { Fits machine.old.problem machine.old.state }
@@ -41,7 +41,8 @@ fn walk_noted<T: Table>(
     requires room { HasRoom most counts.old }
     ensures problem { machine.new.problem ≡ machine.old.problem }
     ensures walk { IsWalk machine.old.problem machine.old.state machine.new.state counts.old counts.new result.steps result.event }
-    ensures visits { visits.new ≡ visits.old ++ run.visits machine.old.problem (states machine.old.problem result.steps machine.old.state) }
+    ensures visits { visits.new ≡ visits.old ++
+        run.visits machine.old.problem (states machine.old.problem result.steps machine.old.state) }
     ensures within { result.steps ≤ most }
     ensures before { (i : ℕ) → i < result.steps →
         IsAtCut (after machine.old.problem i machine.old.state) end.now → ⊥ }

@@ -1,15 +1,15 @@
 //! Lines of a key and words after it.
 ghost use Rattle.std.specs.Prelude.{◌≡◌, None, Some, MatchOption};
-ghost use Rattle.std.specs.List.{list_all};
 ghost use Rattle.text_lines.specs.Lines.{words_of};
-ghost use Rattle.text_lines.specs.Numbers.{is_digit};
 ghost use Rattle.text_lines.specs.Answers.{Gives};
 ghost use Rattle.x_snapshot.specs.Reading as spec;
 ghost use Rattle.x_snapshot.specs.Reading.{first_line, line_words, after_key, only};
 
 use crate::fault::SnapshotFault;
 use crate::reading::Found;
-use text_lines::{Refusal, has_words, is_spaced, number, split_ended_line, split_word};
+use text_lines::{
+    Refusal, has_words, is_all_digits, is_spaced, number, split_ended_line, split_word,
+};
 
 /// The first line of a text, and what stands after its end.
 pub fn take_line(text: &[u8]) -> Found<(&[u8], &[u8])>
@@ -85,13 +85,6 @@ pub fn option_from(bound: u32, word: &[u8]) -> Option<u32>
 {
     let option = number(word, bound)?;
     if option > 0 { Some(option) } else { None }
-}
-
-/// Whether each byte is a digit.
-fn is_all_digits(word: &[u8]) -> bool
-    ensures { result ≡ list_all is_digit word.now }
-{
-    word.iter().all(|byte| byte.is_ascii_digit())
 }
 
 /// Whether these are one to nine digits.

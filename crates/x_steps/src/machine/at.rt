@@ -1,14 +1,15 @@
 //! A machine at a given state: its path is walked down, choice by choice, each tested before it is taken.
-ghost use Rattle.std.specs.Prelude.{◌≡◌, ◌<◌, ◌≤◌, ◌++◌, ◌∷◌, ◌&&◌, ◌↔◌, [], ℕ, All, not, true, false, length, slice_index_or, IsTrue, IfOk, IfErr, OnOk};
+ghost use Rattle.std.specs.Prelude.{◌≡◌, ◌<◌, ◌≤◌, ◌++◌, ◌∷◌, ◌&&◌, ◌↔◌, [], ℕ, All, not, true, false, length, slice_index_or, IsTrue};
+ghost use Rattle.std.specs.Prelude.{IfOk, IfErr, OnOk};
 ghost use Rattle.std.specs.List.{list_any};
-ghost use Rattle.cover_problem.specs.Lists.{has, above};
+ghost use Rattle.cover_problem.specs.Lists.{has};
 ghost use Rattle.cover_problem.specs.Path.{IsChoice, IsValid, covered_by};
 ghost use Rattle.x_steps.specs.StateValue.{at};
 ghost use Rattle.x_steps.specs.StateView.{state_value};
-ghost use Rattle.x_steps.specs.Steps.{Fits, IsOpen, remaining_after, cursor_of, covered_in};
+ghost use Rattle.x_steps.specs.Steps.{Fits, IsOpen, covered_in};
 ghost use Rattle.x_steps.specs.Machine.{IsAt};
 ghost use Rattle.x_steps.specs.Marked.{AreMarked};
-ghost use Rattle.x_steps.specs.Resume.{position, IsDown};
+ghost use Rattle.x_steps.specs.Resume.{position, opened, IsDown};
 
 use crate::covering::{choose, has_active};
 use crate::fault::{AtFault, Refused};
@@ -243,7 +244,7 @@ impl<'p, T: Table> Machine<'p, T> {
     fn open_level(&mut self)
         requires label { IsAt self.old Label.X2 }
         requires open { IsOpen self.old.problem self.old.state.path }
-        ensures { self.new ≡ position self.old.problem (at Label.X5 self.old.state.path (cursor_of (above 0 (remaining_after self.old.problem self.old.state.path)))) }
+        ensures { self.new ≡ position self.old.problem (opened self.old.problem self.old.state.path) }
     {
         self.enter();
         self.plan();

@@ -1,5 +1,6 @@
 //! Many steps at once. Here a label of the step table is a place in the code, and no choice is made where the table has none.
-ghost use Rattle.std.specs.Prelude.{◌≡◌, ◌≢◌, ◌<◌, ◌≤◌, ◌+◌, ◌^◌, ◌⊎◌, ◌↔◌, ◌∷◌, ◌++◌, [], ℕ, suc, List, length, replicate, slice_index, slice_set, IfErr, IfOk, IsErr, IsTrue};
+ghost use Rattle.std.specs.Prelude.{◌≡◌, ◌≢◌, ◌<◌, ◌≤◌, ◌+◌, ◌^◌, ◌⊎◌, ◌↔◌, ◌∷◌, ◌++◌, [], ℕ, suc, List, length, replicate, slice_index};
+ghost use Rattle.std.specs.Prelude.{slice_set, IfErr, IfOk, IsErr, IsTrue};
 ghost use Rattle.x_steps.specs.Run.{after, states, ReachesIn};
 ghost use Rattle.x_steps.specs.Walk.{last_event, OnlyMoves, IsAtCut, AreCounted, HasRoom, IsRound, IsWalk};
 ghost use Rattle.x_steps.specs.StateView.{state_value};
@@ -147,7 +148,8 @@ impl<'p, T: Table> Machine<'p, T> {
         requires label { self.old.state.label ≡ Label.X5 }
         requires cursor { self.old.state.cursor ≡ Cursor.Past }
         ensures problem { self.new.problem ≡ self.old.problem }
-        ensures round { (counts : List ℕ) → IsRound self.old.problem 4 self.old.state self.new.state counts counts result.steps result.event }
+        ensures round { (counts : List ℕ) →
+            IsRound self.old.problem 4 self.old.state self.new.state counts counts result.steps result.event }
     {
         self.give_up();
         self.close();
@@ -159,7 +161,9 @@ impl<'p, T: Table> Machine<'p, T> {
         Walk { steps: 4, event }
     }
 
-    /// One step.
+    /// One step. Inlined with what it calls, so that no call is handed the machine's address: the compiler then keeps the block's
+    /// address in a register while it goes round an option.
+    #[inline(always)]
     fn single(&mut self, counts: &mut [u32]) -> Walk
         requires goes_on { self.old.state.label ≢ Label.Done }
         requires levels { length counts.old ≡ length self.old.problem.names + 1 }

@@ -1,11 +1,11 @@
-use Rattle.std.proofs.Common.{◌≡◌, ◌<◌, ◌≤◌, map, length, filter, All}
+use Rattle.std.proofs.Common.{◌≡◌, ◌<◌, ◌≤◌, length, filter, All}
 use Rattle.cover_problem.specs.Lists.{last_of}
 use Rattle.cover_problem.specs.Plain.{is_in}
 use Rattle.cover_problem.proofs.plain.last_left.Given as goal
 
 abbrev pub invariant-loop-k : goal.invariant-loop-k
 invariant-loop-k l = record {
-  same : last_of (filter (is_in (map (λ o. o.items) l.options) l.times l.limit) l.rest) ≡ last_of (filter (is_in (map (λ o. o.items) l.options) l.times l.limit) l.holders);
+  same : last_of (filter (is_in l.options l.times l.limit) l.rest) ≡ last_of (filter (is_in l.options l.times l.limit) l.holders);
   within : All (λ k. (0 < k) × (k ≤ length l.options)) l.rest;
 }
 

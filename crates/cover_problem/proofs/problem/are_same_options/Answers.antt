@@ -1,7 +1,7 @@
-use Rattle.std.proofs.Common.{◌∙◌, sym}
 use Rattle.std.proofs.Common.{bytes_eq}
-use Rattle.std.specs.Cmp.Derive.Mapped.{pointwise-map}
+use Rattle.std.specs.Cmp.Lexicographic.{pointwise, pointwise_decides, bytes_decides}
+use Rattle.std.proofs.lemmas.Bool.Decides.{same_from_decides}
 use Rattle.cover_problem.proofs.problem.are_same_options.Goals as goal
 
 pub returns : goal.returns
-returns c = c.eq.ensures ∙ sym (pointwise-map (λ o. o.items) bytes_eq c.args.options.now c.args.others.now)
+returns c = same_from_decides c.same.result (pointwise bytes_eq c.args.options.now c.args.others.now) c.same.ensures (pointwise_decides bytes_decides c.args.options.now c.args.others.now)

@@ -1,5 +1,6 @@
 use Rattle.std.proofs.Common.{◌≡◌, ◌++◌, map, take, ap, ◌∙◌, take_all}
-use Rattle.cover_problem.proofs.WriterLemmas.{line_ends, words_after}
+use Rattle.text_lines.specs.Writing.{words_after}
+use Rattle.text_lines.proofs.WritingLemmas.{line_ends}
 use Rattle.cover_problem.proofs.writing.write_names.Goals as goal
 
 pub returns : goal.returns

@@ -1,6 +1,7 @@
 use Rattle.std.proofs.Common.{◌≡◌, ◌++◌, map, take, ap, ◌∙◌, take_all, codes}
 use Rattle.cover_problem.specs.Problem.{name_at}
-use Rattle.cover_problem.proofs.WriterLemmas.{line_ends, words_after}
+use Rattle.text_lines.specs.Writing.{words_after}
+use Rattle.text_lines.proofs.WritingLemmas.{line_ends}
 use Rattle.cover_problem.proofs.writing.write_option.Goals as goal
 
 pub returns : goal.returns

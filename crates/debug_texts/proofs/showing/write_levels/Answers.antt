@@ -6,4 +6,4 @@ use Rattle.debug_texts.proofs.showing.write_levels.Goals as goal
 pub returns : goal.returns
 returns c =
     rw (levels_some c.args.counts.now (grind arith))
-    (line_written c.args.text.now.items (codes "levels") _ _ _ (map decimal c.args.counts.now) c.in_ok-extend_from_slice.ensures.items c.in_ok-write_counts.ensures c.in_ok-push.ensures.items)
+    (line_written c.args.text.now.items (codes "levels") _ _ _ (map decimal c.args.counts.now) c.in_ok-extend_from_slice.ensures.items c.in_ok-write_numbers.ensures c.in_ok-push.ensures.items)

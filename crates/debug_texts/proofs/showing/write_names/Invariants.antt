@@ -1,6 +1,6 @@
 use Rattle.std.proofs.Common.{◌≡◌, ◌++◌, map, take}
 use Rattle.cover_problem.specs.Problem.{name_at}
-use Rattle.x_snapshot.specs.Writing.{words_after}
+use Rattle.text_lines.specs.Writing.{words_after}
 use Rattle.debug_texts.proofs.showing.write_names.Given as goal
 
 abbrev pub invariant-loop-item : goal.invariant-loop-item

@@ -1,8 +1,10 @@
-use Rattle.std.proofs.Common.{map, arith}
+use Rattle.std.proofs.Common.{◌≡◌, ◌∙◌, sym, map, length, nat_lt, false, arith, ne_eqb, eqb-true}
 use Rattle.std.proofs.lemmas.List.{length-map}
 use Rattle.text_lines.specs.Lines.{words_of}
 use Rattle.cover_problem.proofs.NameLemmas.{names_named}
-use Rattle.cover_problem.proofs.ReadingLemmas.{names_grow}
+use Rattle.std.proofs.lemmas.Bool.{le-ltb}
+use Rattle.cover_problem.specs.Views.{bytes_of, problem_of_parts}
+use Rattle.cover_problem.proofs.ReadingLemmas.{names_grow, some_words, maybe_taken}
 use Rattle.cover_problem.proofs.draft.Draft.with_maybe.Goals as goal
 
 pub of_names-requires-clause-primary : goal.of_names-requires-clause-primary
@@ -18,3 +20,14 @@ of_names-requires-clause-primary c =
 pub of_names-requires-clause-named : goal.of_names-requires-clause-named
 of_names-requires-clause-named c =
     names_named (map (λ n. n.bytes) c.self.inside.names.keys) (words_of c.args.words.now) (map (λ n. n.bytes) c.in_ok-with_names.field-0.keys) c.in_ok-with_names.ensures c.self.invariant.named
+
+pub returns : goal.returns
+returns c =
+    let old = c.self.inside in
+    let words = words_of c.args.words.now in
+    let names = length-map old.names.keys (λ n. n.bytes) in
+    let late : nat_lt old.primary (length (bytes_of old.names.keys)) ≡ false = le-ltb old.primary (length (bytes_of old.names.keys)) (omega (arith, c.len.ensures.len)) in
+    let none : length old.options ≡ 0 = eqb-true (length old.options) 0 (sym c.is_empty.ensures ∙ c.if-not-is_empty.false) in
+    let line = maybe_taken (problem_of_parts old.names.keys old.primary old.options) words (bytes_of c.in_ok-with_names.field-0.keys)
+    (some_words words c.has_words.result c.has_words.ensures c.if-not-has_words.false) late (le-ltb 0 (length old.options) (omega arith)) (ne_eqb _ _ c.if-self-eq0.false) c.in_ok-with_names.ensures in
+    rw (← c.self.view_is, line) c.of_names.ensures

@@ -1,11 +1,12 @@
 -- What follows from how a run ended, clause by clause.
-use Rattle.std.proofs.Common.{zero, suc, ◌≡◌, ◌<◌, ◌≤◌, ℕ, ◌⊎◌, inl, inr, List, [], ◌∷◌, Result, Ok, Err, Some, None, IfSome, length, take, refl, sym, subst, arith}
+use Rattle.std.proofs.Common.{◌≡◌, ◌<◌, ℕ, ◌⊎◌, inl, inr, List, [], ◌∷◌, Result, Ok, Err, Some, None, IfSome, length, take, refl, sym, subst, arith}
 use Rattle.std.specs.Prelude.{Option, Contains, OnOk, OnErr}
+use Rattle.std.proofs.lemmas.Grind.{common_steps}
 use Rattle.std.proofs.lemmas.List.{take_all}
+use Rattle.std.proofs.lemmas.Option.{IfSome_then}
 use Rattle.std.specs.Io.KnownBytes.{Appends}
 use Rattle.std.proofs.KnownBytes.{Appends-kept, Appends-nil}
 use Rattle.byte_streams.specs.Stream.{Stream, IsSound, HasFailed, Stays, TakesAll, TakesPart, Takes}
-use Rattle.byte_streams.specs.Input.{most_input}
 use Rattle.lab_engine.specs.declared.job.Job.{Job}
 use Rattle.lab_engine.specs.declared.engine.Ending.{Ending}
 use Rattle.lab_engine.specs.declared.engine.Ending.TheVariants.{Written, Refused, OutOfMemory, Unread, Unwritten}
@@ -14,15 +15,10 @@ use Rattle.lab_engine.specs.Listing.{IsListed}
 use Rattle.lab_engine.specs.Ending.{Gives, IsUnread, IsEnd, IsTold, status_of}
 use Rattle.lab_engine.proofs.ListingLemmas.{outcome_lists}
 
--- a text that a job gives is the list of what it is to list
-gives_list : (job : Job) (known : Option (List ℕ)) (text : List ℕ) → IfSome known (λ bytes. (length bytes ≤ most_input) × (outcome job bytes ≡ Ok text))
-    → IfSome known (λ bytes. IsListed job bytes text)
-gives_list job None text h = tt
-gives_list job (Some bytes) text h = outcome_lists job bytes text h.1
-
--- nothing written is a beginning of any text
-nothing : (old new : Stream) (text : List ℕ) → Stays old new → (n : ℕ) × Appends old.bytes new.bytes (take n text)
-nothing old new text h = (0, Appends-kept old.bytes old.bytes new.bytes [] (Appends-nil old.bytes) h.0)
+-- what holds of all bytes holds of those that are known
+always : {P : List ℕ → Type 0} (known : Option (List ℕ)) → ((bytes : List ℕ) → P bytes) → IfSome known P
+always None h = tt
+always (Some bytes) h = h bytes
 
 whole : (old new : Stream) (text : List ℕ) → TakesAll old new text → (n : ℕ) × Appends old.bytes new.bytes (take n text)
 whole old new text h = (length text, subst (Appends old.bytes new.bytes) (sym (take_all (length text) text (omega arith))) h.0)
@@ -31,91 +27,58 @@ abbrev Beginning : Stream → Stream → Result (List ℕ) (List ℕ) → Type 0
 Beginning old new given = (n : ℕ) × Appends old.bytes new.bytes (take n (to_write given))
 
 -- what was written is a beginning of what is to be written, where that is a beginning for what was given
-begins : (job : Job) (known : Option (List ℕ)) (old new : Stream) (given : Result (List ℕ) (List ℕ)) → IfSome known (λ bytes. (length bytes ≤ most_input) × (outcome job bytes ≡ given))
-    → Beginning old new given → IfSome known (λ bytes. Beginning old new (outcome job bytes))
-begins job None old new given h b = tt
-begins job (Some bytes) old new given h b = subst (Beginning old new) (sym h.1) b
+begins : (job : Job) (input old new : Stream) (given : Result (List ℕ) (List ℕ)) → Gives job input given → Beginning old new given → IfSome input.bytes (λ bytes. Beginning old new (outcome job bytes))
+begins job input old new given h b = IfSome_then input.bytes h (λ bytes g. subst (Beginning old new) (sym g.1) b)
 
-kept : (job : Job) (known : Option (List ℕ)) (old new : Stream) → Stays old new → IfSome known (λ bytes. Beginning old new (outcome job bytes))
-kept job None old new h = tt
-kept job (Some bytes) old new h = nothing old new _ h
+-- nothing written is a beginning of any text
+kept : (job : Job) (input old new : Stream) → Stays old new → IfSome input.bytes (λ bytes. Beginning old new (outcome job bytes))
+kept job input old new h = always input.bytes (λ bytes. (0, Appends-kept old.bytes old.bytes new.bytes [] (Appends-nil old.bytes) h.0))
 
 -- input past the limit gives nothing
-within : (known : Option (List ℕ)) (job : Job) (given : Result (List ℕ) (List ℕ)) (P : Type 0) → IfSome known (λ bytes. (length bytes ≤ most_input) × (outcome job bytes ≡ given))
-    → IfSome known (λ bytes. 134217728 < length bytes → P)
-within None job given P h = tt
-within (Some bytes) job given P h = λ past. absurd (let low = h.0 in omega arith)
-
-either_way : (known : Option (List ℕ)) (P : Type 0) → P → IfSome known (λ bytes. 134217728 < length bytes → P)
-either_way None P h = tt
-either_way (Some bytes) P h = λ past. h
-
--- a number that is neither of two is none of them
-none : (k a b : ℕ) → Contains (a ∷ b ∷ []) k → (k ≡ a → ⊥) → (k ≡ b → ⊥) → ⊥
-none k a b (zero, h, e) na nb = na (sym e)
-none k a b (suc zero, h, e) na nb = nb (sym e)
-none k a b (suc (suc i), h, e) na nb = absurd (omega arith)
+within : (job : Job) (input : Stream) (given : Result (List ℕ) (List ℕ)) (P : Type 0) → Gives job input given → IfSome input.bytes (λ bytes. 134217728 < length bytes → P)
+within job input given P h = IfSome_then input.bytes h (λ bytes g past. absurd (let low = g.0 in omega arith))
 
 pub status_known : (e : Ending) → Contains (0 ∷ 3 ∷ 4 ∷ 5 ∷ []) (status_of e)
 status_known Written = (0, omega arith, refl)
 status_known (Refused line) = (1, omega arith, refl)
 status_known OutOfMemory = (2, omega arith, refl)
-status_known Unread = (3, omega arith, refl)
-status_known Unwritten = (3, omega arith, refl)
+status_known _ = (3, omega arith, refl)
 
 module _ (job : Job) (r r' w w' f f' : Stream) where
   pub done_is : (e : Ending) → IsEnd job r r' w w' e → status_of e ≡ 0 → (text : List ℕ) × Gives job r (Ok text) × TakesAll w w' text
   done_is Written h s = h.1
-  done_is (Refused line) h s = absurd (omega arith)
-  done_is OutOfMemory h s = absurd (omega arith)
-  done_is Unread h s = absurd (omega arith)
-  done_is Unwritten h s = absurd (omega arith)
+  done_is _ h s = absurd (omega arith)
 
   pub covers_is : (e : Ending) → IsEnd job r r' w w' e → status_of e ≡ 0 → (text : List ℕ) × IfSome r.bytes (λ bytes. IsListed job bytes text) × TakesAll w w' text
-  covers_is e h s = let d = done_is e h s in (d.0, gives_list job r.bytes d.0 d.1, d.2)
+  covers_is e h s = let d = done_is e h s in (d.0, IfSome_then r.bytes d.1 (λ bytes g. outcome_lists job bytes d.0 g.1), d.2)
 
   pub quiet_is : (e : Ending) → IsTold e f f' → status_of e ≡ 0 → Stays f f'
   quiet_is Written h s = h
-  quiet_is (Refused line) h s = absurd (omega arith)
-  quiet_is OutOfMemory h s = absurd (omega arith)
-  quiet_is Unread h s = absurd (omega arith)
-  quiet_is Unwritten h s = absurd (omega arith)
+  quiet_is _ h s = absurd (omega arith)
 
   pub refused_is : (e : Ending) → IsEnd job r r' w w' e → IsTold e f f' → status_of e ≡ 3 → (line : List ℕ) × Gives job r (Err line) × Takes f f' line
   refused_is (Refused line) h t s = (line.items, h.1, t)
-  refused_is Written h t s = absurd (omega arith)
-  refused_is OutOfMemory h t s = absurd (omega arith)
-  refused_is Unread h t s = absurd (omega arith)
-  refused_is Unwritten h t s = absurd (omega arith)
+  refused_is _ h t s = absurd (omega arith)
 
   pub memory_is : (e : Ending) → IsTold e f f' → status_of e ≡ 4 → Takes f f' no_memory
   memory_is OutOfMemory t s = t
-  memory_is Written t s = absurd (omega arith)
-  memory_is (Refused line) t s = absurd (omega arith)
-  memory_is Unread t s = absurd (omega arith)
-  memory_is Unwritten t s = absurd (omega arith)
+  memory_is _ t s = absurd (omega arith)
 
   pub unwritten_is : (e : Ending) → IsEnd job r r' w w' e → Contains (3 ∷ 4 ∷ []) (status_of e) → Stays w w'
   unwritten_is (Refused line) h s = h.2
   unwritten_is OutOfMemory h s = h.1
   unwritten_is Unread h s = h.1
-  unwritten_is Written h s = absurd (none 0 3 4 s (λ e. omega arith) (λ e. omega arith))
-  unwritten_is Unwritten h s = absurd (none 5 3 4 s (λ e. omega arith) (λ e. omega arith))
+  unwritten_is _ h s = absurd (grind (arith, common_steps))
 
   pub failed_is : (e : Ending) → IsEnd job r r' w w' e → IsTold e f f' → status_of e ≡ 5
       → (IsUnread r r' × Stays w w' × Takes f f' bad_reader) ⊎ (IsSound r r' × HasFailed w' × Takes f f' bad_writer)
   failed_is Unread h t s = inl (h.0, h.1, t)
   failed_is Unwritten h t s = inr (h.0, h.1.2.1, t)
-  failed_is Written h t s = absurd (omega arith)
-  failed_is (Refused line) h t s = absurd (omega arith)
-  failed_is OutOfMemory h t s = absurd (omega arith)
+  failed_is _ h t s = absurd (omega arith)
 
   pub reader_is : (e : Ending) → IsEnd job r r' w w' e → (status_of e ≡ 5 → ⊥) → IsSound r r'
-  reader_is Written h s = h.0
-  reader_is (Refused line) h s = h.0
-  reader_is OutOfMemory h s = h.0
   reader_is Unread h s = absurd (s refl)
-  reader_is Unwritten h s = h.0
+  reader_is _ h s = h.0
 
   pub writer_is : (e : Ending) → IsEnd job r r' w w' e → (status_of e ≡ 5 → ⊥) → IsSound w w'
   writer_is Written h s = h.1.2.1
@@ -125,18 +88,16 @@ module _ (job : Job) (r r' w w' f f' : Stream) where
   writer_is Unwritten h s = absurd (s refl)
 
   pub limit_is : (e : Ending) → IsEnd job r r' w w' e → IfSome r.bytes (λ bytes. 134217728 < length bytes → Contains (4 ∷ 5 ∷ []) (status_of e))
-  limit_is Written h = within r.bytes job (Ok h.1.0) _ h.1.1
-  limit_is (Refused line) h = within r.bytes job (Err line.items) _ h.1
-  limit_is OutOfMemory h = either_way r.bytes _ (0, omega arith, refl)
-  limit_is Unread h = either_way r.bytes _ (1, omega arith, refl)
-  limit_is Unwritten h = either_way r.bytes _ (1, omega arith, refl)
+  limit_is Written h = within job r (Ok h.1.0) _ h.1.1
+  limit_is (Refused line) h = within job r (Err line.items) _ h.1
+  limit_is OutOfMemory h = always r.bytes (λ bytes past. (0, omega arith, refl))
+  limit_is _ h = always r.bytes (λ bytes past. (1, omega arith, refl))
 
   pub beginning_is : (e : Ending) → IsEnd job r r' w w' e → IfSome r.bytes (λ bytes. Beginning w w' (outcome job bytes))
-  beginning_is Written h = begins job r.bytes w w' (Ok h.1.0) h.1.1 (whole w w' h.1.0 h.1.2)
-  beginning_is (Refused line) h = kept job r.bytes w w' h.2
-  beginning_is OutOfMemory h = kept job r.bytes w w' h.1
-  beginning_is Unread h = kept job r.bytes w w' h.1
-  beginning_is Unwritten h = begins job r.bytes w w' (Ok h.1.0) h.1.1 h.1.2.0
+  beginning_is Written h = begins job r w w' (Ok h.1.0) h.1.1 (whole w w' h.1.0 h.1.2)
+  beginning_is (Refused line) h = kept job r w w' h.2
+  beginning_is Unwritten h = begins job r w w' (Ok h.1.0) h.1.1 h.1.2.0
+  beginning_is _ h = kept job r w w' h.1
 
 -- a text was written whole, or a part of it where the sink failed
 pub taken : {E : Type 0} (r : Result (Unit {0}) E) (old new : Stream) (text : List ℕ) → OnOk r (TakesAll old new text) → OnErr r (TakesPart old new text) → Takes old new text

@@ -1,6 +1,5 @@
 mod LineLemmas
 mod AccountLemmas
-mod TotalLemmas
 mod SearchLemmas
 pub mod ClassifiedLemmas
 mod ListingLemmas

@@ -1,7 +1,5 @@
 -- What is written lists the exact covers, or the packings.
-use Rattle.std.proofs.Common.{◌≡◌, ℕ, zero, suc, ◌<◌, arith, Bool, true, false, List, [], ◌∷◌, length, get_or, cond, Result, Ok, Err, None, Some, IfSome, refl, sym, ap, ◌∙◌, subst, inl, inr}
-use Rattle.std.specs.Prelude.{Option}
-use Rattle.std.specs.Io.KnownBytes.{Appends}
+use Rattle.std.proofs.Common.{◌≡◌, ℕ, zero, suc, ◌<◌, arith, Bool, true, false, List, [], ◌∷◌, length, get_or, cond, Result, Ok, Err, refl, sym, ap, ◌∙◌, subst, inl, inr}
 use Rattle.cover_problem.specs.Lists.{has}
 use Rattle.cover_problem.specs.Problem.{ProblemValue, IsProblem, is_small}
 use Rattle.cover_problem.specs.declared.fault.Fault.{Fault}
@@ -28,7 +26,7 @@ use Rattle.x_steps.specs.Levels.{without_last_zeros}
 use Rattle.x_steps.proofs.VisitLemmas.{visits_rise, visits_are_covers}
 use Rattle.lab_engine.specs.declared.job.Job.{Job}
 use Rattle.lab_engine.specs.declared.job.Job.TheVariants as jobs
-use Rattle.lab_engine.specs.Account.{account_of}
+use Rattle.lab_engine.specs.Account.{Account, account_of}
 use Rattle.lab_engine.specs.Output.{cover_output, whole_account}
 use Rattle.lab_engine.specs.Packed.{solve_output, count_output, options_output}
 use Rattle.lab_engine.specs.Classified.{packings_of, classes_of, classes_output}
@@ -51,18 +49,14 @@ lists p sound = record {
   covers = visits_are_covers p sound;
 }
 
--- what is written of what was read
-listed : (read : Result ProblemValue (Fault × ℕ)) (text : List ℕ) → ((p : ProblemValue) → read ≡ Ok p → IsProblem p) → covers_of cover_output read ≡ Ok text → (p : ProblemValue) × (read ≡ Ok p) × ListsCovers p text
-listed (Ok p) text sound e = let same : cover_output p ≡ text = cc in (p, refl, subst (ListsCovers p) same (lists p (sound p refl)))
-listed (Err f) text sound e = absurd (cc)
-
--- what commands over it are answered
-debugged : (lines : List (List ℕ)) (read : Result ProblemValue (Fault × ℕ)) (text : List ℕ) → covers_of (debug_output lines) read ≡ Ok text → (p : ProblemValue) × (read ≡ Ok p) × (text ≡ debug_output lines p)
-debugged lines (Ok p) text e = (p, refl, cc)
-debugged lines (Err f) text e = absurd (cc)
+-- what is written of a problem that was read
+listed : (Listed : ProblemValue → List ℕ → Type 0) (output : ProblemValue → List ℕ) → ((p : ProblemValue) → IsProblem p → Listed p (output p)) → (read : Result ProblemValue (Fault × ℕ)) (text : List ℕ)
+    → ((p : ProblemValue) → read ≡ Ok p → IsProblem p) → covers_of output read ≡ Ok text → (p : ProblemValue) × (read ≡ Ok p) × Listed p text
+listed Listed output tells (Ok p) text sound e = let same : output p ≡ text = cc in (p, refl, subst (Listed p) same (tells p (sound p refl)))
+listed Listed output tells (Err f) text sound e = absurd (cc)
 
 -- the visits of a problem are exact covers
-pub visits_covers : (p : ProblemValue) → IsProblem p → AreExactCovers p (whole_account true p).visits
+visits_covers : (p : ProblemValue) → IsProblem p → AreExactCovers p (whole_account true p).visits
 unfolding account_of visits_between
 visits_covers p sound k lt = (visits_are_covers p sound).sound (get_or (visits_between p start done) k []) (path_in (visits_between p start done) k lt)
   where
@@ -71,11 +65,15 @@ visits_covers p sound k lt = (visits_are_covers p sound).sound (get_or (visits_b
     path_in (x ∷ xs) zero h = inl refl
     path_in (x ∷ xs) (suc i) h = inr (path_in xs i (omega (arith, h)))
 
+-- the same, of the visits that a report of a puzzle's problem keeps
+pub report_covers : (p : PuzzleValue) (q : ProblemValue) (a : Account) (visits : List (List ℕ)) → q ≡ packing_problem p → IsProblem q → a ≡ whole_account true q → visits ≡ a.visits → AreExactCovers (packing_problem p) visits
+report_covers p q a visits e sound account kept = subst (λ vs. AreExactCovers (packing_problem p) vs) (sym (kept ∙ ap (λ b. b.visits) (account ∙ ap (whole_account true) e))) (visits_covers (packing_problem p) (subst IsProblem e sound))
+
 -- ---- packings
 
 -- the exact covers of a puzzle's problem stand for its packings
-packing_paths : (p : PuzzleValue) → IsPuzzle p → (paths : List (List ℕ)) → AreCovers (packing_problem p) paths → ArePackingPaths p paths
-packing_paths p z paths a = record {
+packing_paths : (p : PuzzleValue) → IsPuzzle p → is_small (packing_problem p) ≡ true → ArePackingPaths p (visits_between (packing_problem p) start done)
+packing_paths p z small = record {
   sound = λ q i. cover_packs p z q (a.sound q i);
   complete = λ chosen packing.
       let set = all.some_cover chosen packing in
@@ -90,6 +88,9 @@ packing_paths p z paths a = record {
   where
     all : ArePackings p
     all = are_packings p z
+
+    a : AreCovers (packing_problem p) (visits_between (packing_problem p) start done)
+    a = visits_are_covers (packing_problem p) (is_problem p z small)
 
     along : (set other : ℕ → Bool) (chosen : ChoiceValue → Bool) → ((o : ℕ) → set o ≡ other o) → StandsFor p set chosen → StandsFor p other chosen
     along set other chosen e s = record {
@@ -109,7 +110,7 @@ shows p z small = record {
   paths = visits_between (packing_problem p) start done;
   lines = refl;
   rise = visits_rise (packing_problem p);
-  packings = packing_paths p z _ (visits_are_covers (packing_problem p) (is_problem p z small));
+  packings = packing_paths p z small;
 }
 
 counts : (p : PuzzleValue) → IsPuzzle p → is_small (packing_problem p) ≡ true → CountsPackings p (count_output p)
@@ -119,7 +120,7 @@ counts p z small = record {
   steps = (whole_account false (packing_problem p)).steps;
   levels = without_last_zeros (whole_account false (packing_problem p)).entered;
   lines = refl;
-  packings = packing_paths p z _ (visits_are_covers (packing_problem p) (is_problem p z small));
+  packings = packing_paths p z small;
 }
 
 classified : (p : PuzzleValue) → IsPuzzle p → is_small (packing_problem p) ≡ true → CountsClasses p (classes_output p)
@@ -133,7 +134,7 @@ classified p z small =
       rotations = classes_of Rotations (packings_of p paths);
       symmetries = classes_of Symmetries (packings_of p paths);
       lines = refl;
-      packings = packing_paths p z _ (visits_are_covers (packing_problem p) (is_problem p z small));
+      packings = packing_paths p z small;
       by_rotations = puzzle_classes p z Rotations paths;
       by_symmetries = puzzle_classes p z Symmetries paths;
     }
@@ -155,21 +156,22 @@ options_are p = refl
 
 -- ---- jobs
 
+problem_read : (input : List ℕ) (p : ProblemValue) → problem_of input ≡ Ok p → IsProblem p
+problem_read input p h = (read_is_text input p h).problem
+
+puzzle_read : (input : List ℕ) (p : PuzzleValue) → puzzle_of input ≡ Ok p → IsPuzzle p
+puzzle_read input p h = puzzle_is input p (texts.read_is_text input p h)
+
 pub outcome_lists : (job : Job) (input text : List ℕ) → outcome job input ≡ Ok text → IsListed job input text
 unfolding outcome
-outcome_lists jobs.Cover input text e = listed (problem_of input) text (λ p h. (read_is_text input p h).problem) e
-outcome_lists jobs.Solve input text e = packed ListsPackings solve_output shows (puzzle_of input) text (λ p h. puzzle_is input p (texts.read_is_text input p h)) e
-outcome_lists jobs.Count input text e = packed CountsPackings count_output counts (puzzle_of input) text (λ p h. puzzle_is input p (texts.read_is_text input p h)) e
-outcome_lists jobs.Classes input text e = packed CountsClasses classes_output classified (puzzle_of input) text (λ p h. puzzle_is input p (texts.read_is_text input p h)) e
-outcome_lists jobs.Options input text e = packed (λ p t. t ≡ written (packing_problem p)) options_output (λ p z s. options_are p) (puzzle_of input) text (λ p h. puzzle_is input p (texts.read_is_text input p h)) e
+outcome_lists jobs.Cover input text e = listed ListsCovers cover_output lists (problem_of input) text (problem_read input) e
+outcome_lists jobs.Solve input text e = packed ListsPackings solve_output shows (puzzle_of input) text (puzzle_read input) e
+outcome_lists jobs.Count input text e = packed CountsPackings count_output counts (puzzle_of input) text (puzzle_read input) e
+outcome_lists jobs.Classes input text e = packed CountsClasses classes_output classified (puzzle_of input) text (puzzle_read input) e
+outcome_lists jobs.Options input text e = packed (λ p t. t ≡ written (packing_problem p)) options_output (λ p z s. options_are p) (puzzle_of input) text (puzzle_read input) e
 outcome_lists jobs.DebugPuzzle input text e =
-    packed (λ p t. t ≡ debug_output (command_lines input) (packing_problem p)) (puzzle_replies (command_lines input)) (λ p z s. refl)
-    (puzzle_of (problem_text input)) text (λ p h. puzzle_is (problem_text input) p (texts.read_is_text (problem_text input) p h)) e
-outcome_lists jobs.DebugCover input text e = debugged (command_lines input) (problem_of (problem_text input)) text e
-
--- the same, where the input is what a reader had left, and the text was written
-pub finished : (job : Job) (known : Option (List ℕ)) (input text : List ℕ) (old new : Option (List ℕ)) → IfSome known (λ bytes. input ≡ bytes) → Ok text ≡ outcome job input → Appends old new text
-    → IfSome known (λ bytes. (written : List ℕ) × IsListed job bytes written × Appends old new written)
-finished job None input text old new read e appended = tt
-finished job (Some bytes) input text old new read e appended =
-    (text, outcome_lists job bytes text (sym (e ∙ ap (outcome job) read)), appended)
+    let lines = command_lines input in
+    packed (λ p t. t ≡ debug_output lines (packing_problem p)) (puzzle_replies lines) (λ p z s. refl) (puzzle_of (problem_text input)) text (puzzle_read (problem_text input)) e
+outcome_lists jobs.DebugCover input text e =
+    let lines = command_lines input in
+    listed (λ p t. t ≡ debug_output lines p) (debug_output lines) (λ p s. refl) (problem_of (problem_text input)) text (problem_read (problem_text input)) e

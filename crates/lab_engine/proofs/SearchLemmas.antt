@@ -10,7 +10,7 @@ use Rattle.x_steps.specs.declared.event.Event.{Event}
 use Rattle.x_steps.specs.declared.event.Event.TheVariants.{Moved}
 use Rattle.x_steps.specs.StateValue.{StateValue, start, done}
 use Rattle.x_steps.specs.Steps.{Fits}
-use Rattle.x_steps.specs.Run.{after, states, visits, level_count, levels, states_between, steps_between, ReachesIn}
+use Rattle.x_steps.specs.Run.{after, states, visits, level_count, states_between, ReachesIn}
 use Rattle.x_steps.specs.Rank.{rank}
 use Rattle.x_steps.specs.Machine.{Position}
 use Rattle.x_steps.specs.Walk.{last_event, is_visited, OnlyMoves, IsAtCut, AreCounted, HasRoom}
@@ -32,23 +32,34 @@ pub record Tells (keeps : Bool) (p : ProblemValue) (ss : List StateValue) (a : A
   pub levels : length counts ≡ length p.names + 1
   pub entered_is : (level : ℕ) → level < length counts → slice_index a.entered level + slice_index counts level ≡ level_count ss level
 
--- ---- no state, more states, and other counts
+-- ---- an account of these states with counts of nothing, more states, and the counts added
 
-tells_none : (keeps : Bool) (p : ProblemValue) (a : Account) (counts : List ℕ) → a ≡ empty_account (length p.names) → counts ≡ replicate (length p.names + 1) 0 → Tells keeps p [] a counts
-tells_none keeps p a counts e z =
-    let size = length-replicate (length p.names + 1) 0 in
+tells_all : (keeps : Bool) (p : ProblemValue) (ss : List StateValue) (a : Account) (zeros : List ℕ) → a ≡ account_of keeps p ss → zeros ≡ replicate (length p.names + 1) 0 → Tells keeps p ss a zeros
+unfolding account_of
+tells_all keeps p ss a zeros e z =
+    let size = ap length z ∙ length-replicate (length p.names + 1) 0 in
+    let totals = ap (λ b. length b.entered) e ∙ length-map (numbers (suc (length p.names)) 0) (level_count ss) ∙ length-numbers (suc (length p.names)) 0 in
     record {
-      visits_are = ap (λ b. b.visits) e ∙ sym (none_kept keeps);
+      visits_are = ap (λ b. b.visits) e;
       visited_is = ap (λ b. b.visited) e;
       steps_are = ap (λ b. b.steps) e;
-      totals = ap (λ b. length b.entered) e ∙ size;
-      levels = ap length z ∙ size;
+      totals = omega arith;
+      levels = size;
       entered_is = λ level h.
-          let l : level < length p.names + 1 = subst (λ n. level < n) (ap length z ∙ size) h in
-          let zero = get_or-replicate (length p.names + 1) level 0 0 l in
-          let x : slice_index a.entered level ≡ 0 = ap (λ b. slice_index b.entered level) e ∙ zero in
-          let y : slice_index counts level ≡ 0 = ap (λ c. slice_index c level) z ∙ zero in omega arith;
+          let l : level < length p.names + 1 = subst (λ n. level < n) size h in
+          let x : slice_index a.entered level ≡ level_count ss level = ap (λ b. slice_index b.entered level) e ∙ counts_at (level_count ss) (suc (length p.names)) level 0 (omega arith) in
+          let y : slice_index zeros level ≡ 0 = ap (λ c. slice_index c level) z ∙ get_or-replicate (length p.names + 1) level 0 0 l in omega arith;
     }
+
+-- the account of no state
+none_told : (keeps : Bool) (p : ProblemValue) → empty_account (length p.names) ≡ account_of keeps p []
+unfolding account_of
+none_told keeps p =
+    let zeros = length-replicate {A = ℕ} (length p.names + 1) 0 in
+    let counted = length-map (numbers (suc (length p.names)) 0) (level_count []) ∙ length-numbers (suc (length p.names)) 0 in
+    let entered : replicate {A = ℕ} (length p.names + 1) 0 ≡ map (level_count []) (numbers (suc (length p.names)) 0) =
+    same_number_lists _ _ (omega arith) (λ level h. get_or-replicate (length p.names + 1) level 0 0 (omega arith) ∙ sym (counts_at (level_count []) (suc (length p.names)) level 0 (omega arith))) in
+    same_accounts _ _ (sym (none_kept keeps)) refl refl entered
 
 module _ (keeps : Bool) (p : ProblemValue) (ss : List StateValue) (a : Account) (counts : List ℕ) (t : Tells keeps p ss a counts) where
   tells_more : (n : ℕ) (s : StateValue) (event : Event) (path : List ℕ) (more : Account) (new : List ℕ) → OnlyMoves p n s → event ≡ last_event p n s → path ≡ (after p n s).path
@@ -85,23 +96,6 @@ module _ (keeps : Bool) (p : ProblemValue) (ss : List StateValue) (a : Account) 
         let x = sums.each level (omega arith) in
         let y = t.entered_is level (omega arith) in omega arith
 
-    tells_anew : (zeros : List ℕ) → zeros ≡ replicate (length p.names + 1) 0 → Tells keeps p ss b zeros
-    tells_anew zeros z =
-        let size = length-replicate (length p.names + 1) 0 in
-        record {
-          visits_are = ap (λ v. v.visits) others ∙ t.visits_are;
-          visited_is = ap (λ v. v.visited) others ∙ t.visited_is;
-          steps_are = ap (λ v. v.steps) others ∙ t.steps_are;
-          totals = sums.levels ∙ t.totals;
-          levels = ap length z ∙ size;
-          entered_is = λ level h.
-              let l : level < length p.names + 1 = subst (λ n. level < n) (ap length z ∙ size) h in
-              let all = sums.levels in
-              let k = t.totals in
-              let x = all_in level (omega arith) in
-              let y : slice_index zeros level ≡ 0 = ap (λ c. slice_index c level) z ∙ get_or-replicate (length p.names + 1) level 0 0 l in omega arith;
-        }
-
     tells_whole : b ≡ account_of keeps p ss
     unfolding account_of
     tells_whole =
@@ -124,18 +118,22 @@ pub record Searches (keeps : Bool) (p : ProblemValue) (m : Position) (a : Accoun
   pub tells : Tells keeps p (states_between p start m.state) a counts
   pub fitting : HasRoom room counts
 
+searches_from : (keeps : Bool) (p : ProblemValue) (m : Position) (a : Account) (zeros : List ℕ) (room : ℕ) → IsProblem p → m.problem ≡ p → Fits p m.state → a ≡ account_of keeps p (states_between p start m.state)
+    → zeros ≡ replicate (length p.names + 1) 0 → room < 2 ^ 32 → Searches keeps p m a zeros room
+searches_from keeps p m a zeros room sound same fits e z l = record {
+  sound = sound;
+  same = same;
+  fits = fits;
+  tells = tells_all keeps p (states_between p start m.state) a zeros e z;
+  fitting = subst (HasRoom room) (sym z) (zeros_room (length p.names + 1) room l);
+}
+
 pub searches_begin : (keeps : Bool) (p : ProblemValue) (m : Position) (a : Account) (counts : List ℕ) (room : ℕ) → IsProblem p → m ≡ record { problem = p; state = start } → a ≡ empty_account (length p.names)
     → counts ≡ replicate (length p.names + 1) 0 → room < 2 ^ 32 → Searches keeps p m a counts room
 searches_begin keeps p m a counts room sound e n z l =
     let here : m.state ≡ start = ap (λ v. v.state) e in
     let none : states_between p start m.state ≡ [] = ap (states_between p start) here ∙ states_between_self p start (start_fits p) in
-    record {
-      sound = sound;
-      same = ap (λ v. v.problem) e;
-      fits = subst (Fits p) (sym here) (start_fits p);
-      tells = subst (λ ss. Tells keeps p ss a counts) (sym none) (tells_none keeps p a counts n z);
-      fitting = subst (HasRoom room) (sym z) (zeros_room (length p.names + 1) room l);
-    }
+    searches_from keeps p m a counts room sound (ap (λ v. v.problem) e) (subst (Fits p) (sym here) (start_fits p)) (n ∙ none_told keeps p ∙ ap (account_of keeps p) (sym none)) z l
 
 module _ (keeps : Bool) (p : ProblemValue) (m new : Position) (a : Account) (counts : List ℕ) (room : ℕ) (s : Searches keeps p m a counts room)
     (n : ℕ) (reaches : ReachesIn m.problem m.state new.state n) where
@@ -162,7 +160,7 @@ module _ (keeps : Bool) (p : ProblemValue) (m new : Position) (a : Account) (cou
       }
 
   -- a walk takes a step
-  pub walks_some : (event : Event) → 0 < room → event ≡ last_event m.problem n m.state → (n ≡ room) ⊎ ((event ≡ Moved → ⊥) ⊎ IsAtCut new.state []) → 0 < n
+  walks_some : (event : Event) → 0 < room → event ≡ last_event m.problem n m.state → (n ≡ room) ⊎ ((event ≡ Moved → ⊥) ⊎ IsAtCut new.state []) → 0 < n
   walks_some event some e (inl h) = omega arith
   walks_some event some e (inr (inl h)) = by_count n e
     where
@@ -171,8 +169,9 @@ module _ (keeps : Bool) (p : ProblemValue) (m new : Position) (a : Account) (cou
       by_count (suc k) t = omega arith
   walks_some event some e (inr (inr h)) = let none = ap (length {A = ℕ}) h.path in let l = length-append new.state.path (h.option ∷ []) in absurd (omega arith)
 
-  pub searches_nearer : 0 < n → rank p done - rank p new.state < rank p done - rank p m.state
-  searches_nearer some =
+  pub searches_nearer : (event : Event) → 0 < room → event ≡ last_event m.problem n m.state → (n ≡ room) ⊎ ((event ≡ Moved → ⊥) ⊎ IsAtCut new.state []) → rank p done - rank p new.state < rank p done - rank p m.state
+  searches_nearer event room_left e stops =
+      let some = walks_some event room_left e stops in
       let up = rises_between p n m.state s.fits here.goes_on 0 n some (le_refl n) in
       let top = done_last p new.state (reached_fits p m.state new.state n s.fits here) in
       let same_rank = ap (rank p) here.ends in omega arith
@@ -180,13 +179,8 @@ module _ (keeps : Bool) (p : ProblemValue) (m new : Position) (a : Account) (cou
 -- the counts go into the report, and others begin
 pub searches_anew : (keeps : Bool) (p : ProblemValue) (m : Position) (a b : Account) (counts zeros : List ℕ) (room : ℕ) → Searches keeps p m a counts room → b ≡ record a { entered = b.entered } → AreSums a.entered counts b.entered
     → zeros ≡ replicate (length p.names + 1) 0 → (more : ℕ) → more < 2 ^ 32 → Searches keeps p m b zeros more
-searches_anew keeps p m a b counts zeros room s others sums z more l = record {
-  sound = s.sound;
-  same = s.same;
-  fits = s.fits;
-  tells = tells_anew keeps p (states_between p start m.state) a counts s.tells b others sums zeros z;
-  fitting = subst (HasRoom more) (sym z) (zeros_room (length p.names + 1) more l);
-}
+searches_anew keeps p m a b counts zeros room s others sums z more l =
+    searches_from keeps p m b zeros more s.sound s.same s.fits (tells_whole keeps p (states_between p start m.state) a counts s.tells b others sums) z l
 
 -- once the machine is at Done, the report with the last counts is that of the whole run
 pub searches_end : (keeps : Bool) (p : ProblemValue) (m : Position) (a b : Account) (counts : List ℕ) (room : ℕ) → Searches keeps p m a counts room → m.state.label ≡ Done
@@ -194,11 +188,3 @@ pub searches_end : (keeps : Bool) (p : ProblemValue) (m : Position) (a b : Accou
 searches_end keeps p m a b counts room s e others sums =
     let here : m.state ≡ done = end_is p m.state s.fits e in
     tells_whole keeps p (states_between p start m.state) a counts s.tells b others sums ∙ ap (λ t. account_of keeps p (states_between p start t)) here
-
--- there is a total for each count
-pub total_each : (keeps : Bool) (p : ProblemValue) (m : Position) (a : Account) (counts : List ℕ) (room : ℕ) → Searches keeps p m a counts room → length counts ≡ length a.entered
-total_each keeps p m a counts room s = s.tells.levels ∙ sym s.tells.totals
-
--- what a walk asks of the counts
-pub counts_all : (keeps : Bool) (p : ProblemValue) (m : Position) (a : Account) (counts : List ℕ) (room : ℕ) → Searches keeps p m a counts room → length counts ≡ length m.problem.names + 1
-counts_all keeps p m a counts room s = s.tells.levels ∙ ap (λ q. length q.names + 1) (sym s.same)

@@ -1,8 +1,11 @@
 //! What a job writes for an input.
-ghost use Rattle.std.specs.Prelude.{◌≡◌, IfOk, List, ℕ, codes};
+ghost use Rattle.std.specs.Prelude.{◌≡◌, IfOk, List, ℕ, codes, Result};
+ghost use Rattle.text_lines.specs.Answers.{GivesAt};
 ghost use Rattle.text_lines.specs.Writing.{line_text};
+ghost use Rattle.cover_problem.specs.declared.fault.Fault.{Fault};
+ghost use Rattle.poly_texts.specs.declared.fault.Fault as puzzle;
 ghost use Rattle.cover_problem.specs.Reading.{problem_of};
-ghost use Rattle.cover_problem.specs.Problem.{is_small};
+ghost use Rattle.cover_problem.specs.Problem.{ProblemValue, is_small};
 ghost use Rattle.poly_texts.specs.Puzzle.{PuzzleValue};
 ghost use Rattle.poly_texts.specs.Reading.{puzzle_of};
 ghost use Rattle.poly_place.specs.Packings.{packing_problem};
@@ -30,26 +33,41 @@ pub enum Answer {
     Refused(Vec<u8>),
 }
 
-/// What the job writes for an input.
+/// What the job writes for an input. The bytes of an input that is all one text are let go before anything is searched; those
+/// of a text with commands are kept, since the commands stand in them.
 #[tactic(auto, unfolding(crate::specs::Outcome::outcome))]
-pub fn answer_to<T: Table>(alloc: Global, job: Job, input: &[u8]) -> Result<Answer, AllocError>
-    ensures { IfOk result (λ answer. outcome_of answer ≡ outcome job input.now) }
+pub fn answer_to<T: Table>(alloc: Global, job: Job, input: Vec<u8>) -> Result<Answer, AllocError>
+    ensures { IfOk result (λ answer. outcome_of answer ≡ outcome job input.items) }
 {
     match job {
-        Job::Cover => cover_answer::<T>(alloc, CoverJob::List, input, &[]),
-        Job::Solve => puzzle_answer::<T>(alloc, PuzzleJob::Solve, input, &[]),
-        Job::Count => puzzle_answer::<T>(alloc, PuzzleJob::Count, input, &[]),
-        Job::Classes => puzzle_answer::<T>(alloc, PuzzleJob::Classes, input, &[]),
-        Job::Options => puzzle_answer::<T>(alloc, PuzzleJob::Options, input, &[]),
+        Job::Cover => cover_answer::<T>(alloc, CoverJob::List, problem_in(alloc, input), &[]),
+        Job::Solve => puzzle_answer::<T>(alloc, PuzzleJob::Solve, puzzle_in(alloc, input), &[]),
+        Job::Count => puzzle_answer::<T>(alloc, PuzzleJob::Count, puzzle_in(alloc, input), &[]),
+        Job::Classes => puzzle_answer::<T>(alloc, PuzzleJob::Classes, puzzle_in(alloc, input), &[]),
+        Job::Options => puzzle_answer::<T>(alloc, PuzzleJob::Options, puzzle_in(alloc, input), &[]),
         Job::DebugPuzzle => {
-            let (text, commands) = split_input(input);
-            puzzle_answer::<T>(alloc, PuzzleJob::Debug, text, commands)
+            let (text, commands) = split_input(&input);
+            puzzle_answer::<T>(alloc, PuzzleJob::Debug, read_puzzle(alloc, text), commands)
         }
         Job::DebugCover => {
-            let (text, commands) = split_input(input);
-            cover_answer::<T>(alloc, CoverJob::Debug, text, commands)
+            let (text, commands) = split_input(&input);
+            cover_answer::<T>(alloc, CoverJob::Debug, read_cover(alloc, text), commands)
         }
     }
+}
+
+/// The problem of a text, which is let go.
+fn problem_in(alloc: Global, text: Vec<u8>) -> Result<Problem, CoverFault>
+    ensures { GivesAt (λ p. p) result (problem_of text.items) }
+{
+    read_cover(alloc, &text)
+}
+
+/// The puzzle of a text, which is let go.
+fn puzzle_in(alloc: Global, text: Vec<u8>) -> Result<Puzzle, PuzzleFault>
+    ensures { GivesAt (λ p. p) result (puzzle_of text.items) }
+{
+    read_puzzle(alloc, &text)
 }
 
 /// What is asked of a cover text.
@@ -59,16 +77,17 @@ pub enum CoverJob {
     Debug,
 }
 
-/// What the job writes of the problem of a text, or the refusal of the text.
+/// What the job writes of the problem that was found in a text, or the refusal of the text.
 fn cover_answer<T: Table>(
     alloc: Global,
     job: CoverJob,
-    text: &[u8],
+    found: Result<Problem, CoverFault>,
     commands: &[u8],
 ) -> Result<Answer, AllocError>
-    ensures { IfOk result (λ answer. outcome_of answer ≡ covers_of (listing_of job (raw_lines commands.now)) (problem_of text.now)) }
+    ensures { (read : Result ProblemValue (Fault × ℕ)) → GivesAt (λ p. p) found read →
+        IfOk result (λ answer. outcome_of answer ≡ covers_of (listing_of job (raw_lines commands.now)) read) }
 {
-    match read_cover(alloc, text) {
+    match found {
         Ok(problem) => Ok(Answer::Text(cover_text::<T>(alloc, job, &problem, commands)?)),
         Err(CoverFault::Fault { fault, line }) => {
             let (number, name) = (fault.number(), fault.name());
@@ -103,16 +122,17 @@ pub enum PuzzleJob {
     Debug,
 }
 
-/// What the job writes of the puzzle of a text, or the refusal of the text or of the puzzle.
+/// What the job writes of the puzzle that was found in a text, or the refusal of the text or of the puzzle.
 fn puzzle_answer<T: Table>(
     alloc: Global,
     job: PuzzleJob,
-    text: &[u8],
+    found: Result<Puzzle, PuzzleFault>,
     commands: &[u8],
 ) -> Result<Answer, AllocError>
-    ensures { IfOk result (λ answer. outcome_of answer ≡ packed_of (output_of job (raw_lines commands.now)) (puzzle_of text.now)) }
+    ensures { (read : Result PuzzleValue (puzzle.Fault × ℕ)) → GivesAt (λ p. p) found read →
+        IfOk result (λ answer. outcome_of answer ≡ packed_of (output_of job (raw_lines commands.now)) read) }
 {
-    match read_puzzle(alloc, text) {
+    match found {
         Ok(puzzle) => packed_answer::<T>(alloc, job, &puzzle, commands),
         Err(PuzzleFault::Fault { fault, line }) => {
             let (number, name) = (fault.number(), fault.name());

@@ -9,10 +9,9 @@ ghost use Rattle.lab_engine.specs.Listing.{AreExactCovers};
 use crate::lines::push_number_line;
 use crate::packed::count_text;
 use crate::search::search;
-use cover_problem::Table;
+use cover_problem::{Lists, Table};
 use poly_place::{Compiled, Group, Packing, classes, packing_of};
 use std::alloc::{AllocError, Global};
-use x_steps::Paths;
 
 /// What `count` writes, and then how many classes the packings make, by the rotations and by all symmetries of the region.
 #[tactic(auto, unfolding(crate::specs::Classified::classes_output))]
@@ -33,7 +32,7 @@ fn push_classes(
     alloc: Global,
     text: &mut Vec<u8>,
     compiled: &Compiled<'_>,
-    visits: &Paths,
+    visits: &Lists,
 ) -> Result<(), AllocError>
     requires { AreExactCovers (packing_problem compiled.now) visits.now }
     ensures { OnOk result (text.new.items ≡ text.old.items ++ text_of (class_lines
@@ -51,14 +50,14 @@ fn push_classes(
 fn packings_of<'p>(
     alloc: Global,
     compiled: &Compiled<'p>,
-    visits: &Paths,
+    visits: &Lists,
 ) -> Result<Vec<Packing<'p>>, AllocError>
     requires { AreExactCovers (packing_problem compiled.now) visits.now }
     ensures { IfOk result (λ packings. packings.items ≡ packings_of compiled.now visits.now) }
 {
     let mut packings = Vec::with_capacity(alloc, visits.len())?;
     for k in 0..visits.len() {
-        packings.push(packing_of(alloc, compiled, visits.path(k))?)?;
+        packings.push(packing_of(alloc, compiled, visits.list(k))?)?;
     }
     Ok(packings)
 }

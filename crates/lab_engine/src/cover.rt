@@ -3,11 +3,10 @@ ghost use Rattle.std.specs.Prelude.{◌≡◌, ◌++◌, IfOk, OnOk, List, map};
 ghost use Rattle.text_lines.specs.Writing.{text_of};
 ghost use Rattle.lab_engine.specs.Output.{cover_output, visit_words};
 
-use crate::lines::{push_number_line, push_path_line};
+use crate::lines::{push_number_line, push_numbers_line};
 use crate::search::search;
-use cover_problem::{Problem, Table};
+use cover_problem::{Lists, Problem, Table};
 use std::alloc::{AllocError, Global};
-use x_steps::Paths;
 
 /// The exact covers of the problem in path order, and then their number, the steps and the levels.
 #[tactic(auto, unfolding(crate::specs::Output::cover_output))]
@@ -23,11 +22,11 @@ pub fn covers<T: Table>(alloc: Global, problem: &Problem) -> Result<Vec<u8>, All
 }
 
 /// Adds a line for each visit.
-fn push_visits(text: &mut Vec<u8>, visits: &Paths) -> Result<(), AllocError>
+fn push_visits(text: &mut Vec<u8>, visits: &Lists) -> Result<(), AllocError>
     ensures { OnOk result (text.new.items ≡ text.old.items ++ text_of (map visit_words visits.now)) }
 {
     for k in 0..visits.len() {
-        push_path_line(text, "visit", visits.path(k))?;
+        push_numbers_line(text, "visit", visits.list(k))?;
     }
     Ok(())
 }

@@ -69,7 +69,7 @@ fn work<I: Source, O: Sink>(alloc: Global, job: Job, reader: &mut I, writer: &mu
         Err(InputFault::OutOfMemory) => return Ending::OutOfMemory,
         Err(_) => return Ending::Unread,
     };
-    match answer_to::<LinkTable>(alloc, job, &bytes) {
+    match answer_to::<LinkTable>(alloc, job, bytes) {
         Ok(Answer::Text(text)) => match write_whole(writer, &text) {
             Ok(()) => Ending::Written,
             Err(_) => Ending::Unwritten,

@@ -34,23 +34,14 @@ pub fn push_number_line(text: &mut Vec<u8>, key: &str, number: u128) -> Result<(
     Ok(())
 }
 
-/// Appends a line: a key and the options of a path.
-pub fn push_path_line(text: &mut Vec<u8>, key: &str, path: &[u32]) -> Result<(), AllocError>
-    ensures { OnOk result (text.new.items
-        ≡ text.old.items ++ line_text (key.now ∷ map decimal path.now)) }
-{
-    text.extend_from_slice(key.as_bytes())?;
-    for option in path {
-        push_number(text, *option)?;
-    }
-    text.push(b'\n')?;
-    Ok(())
-}
-
 /// Appends a line: a key and numbers.
-pub fn push_numbers_line(text: &mut Vec<u8>, key: &str, numbers: &[u128]) -> Result<(), AllocError>
+pub fn push_numbers_line<N: Integer + Drop>(
+    text: &mut Vec<u8>,
+    key: &str,
+    numbers: &[N],
+) -> Result<(), AllocError>
     ensures { OnOk result (text.new.items
-        ≡ text.old.items ++ line_text (key.now ∷ map decimal numbers.now)) }
+        ≡ text.old.items ++ line_text (key.now ∷ map N.text numbers.now)) }
 {
     text.extend_from_slice(key.as_bytes())?;
     for number in numbers {

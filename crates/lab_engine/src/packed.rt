@@ -10,10 +10,9 @@ ghost use Rattle.lab_engine.specs.Listing.{AreExactCovers};
 use crate::lines::push_number_line;
 use crate::report::Report;
 use crate::search::search;
-use cover_problem::{Table, write_cover};
+use cover_problem::{Lists, Table, write_cover};
 use poly_place::{Compiled, layers, packing_of};
 use std::alloc::{AllocError, Global};
-use x_steps::Paths;
 
 /// The packings of the puzzle in path order, each with its layers, and then their number.
 #[tactic(auto, unfolding(crate::specs::Packed::solve_output))]
@@ -65,13 +64,13 @@ fn push_packings(
     alloc: Global,
     text: &mut Vec<u8>,
     compiled: &Compiled<'_>,
-    visits: &Paths,
+    visits: &Lists,
 ) -> Result<(), AllocError>
     requires { AreExactCovers (packing_problem compiled.now) visits.now }
     ensures { OnOk result (text.new.items ≡ text.old.items ++ packings_from compiled.now 1 visits.now) }
 {
     for k in 0..visits.len() {
-        push_packing(alloc, text, compiled, k as u128 + 1, visits.path(k))?;
+        push_packing(alloc, text, compiled, k as u128 + 1, visits.list(k))?;
     }
     Ok(())
 }

@@ -7,14 +7,15 @@ ghost use Rattle.x_steps.specs.Levels.{without_last_zeros};
 
 use crate::count::Count;
 use crate::lines::{push_number_line, push_numbers_line};
+use cover_problem::Lists;
 use std::alloc::{AllocError, Global};
 use std::marker::Model;
-use x_steps::{Event, Paths, Walk};
+use x_steps::{Event, Walk};
 
 /// The visits that are kept, and the numbers of visits, of steps, and of X2 states at each level.
 #[derive(Drop)]
 pub struct Report {
-    visits: Paths,
+    visits: Lists,
     visited: Count,
     steps: Count,
     entered: Vec<Count>,
@@ -89,7 +90,7 @@ impl Report {
     {
         let entered = no_counts(alloc, items as usize + 1)?;
         Ok(Report {
-            visits: Paths::new(alloc),
+            visits: Lists::new(alloc),
             visited: Count::new(alloc),
             steps: Count::new(alloc),
             entered,
@@ -115,7 +116,7 @@ impl Report {
     }
 
     /// The visits that are kept.
-    pub fn visits(&self) -> &Paths
+    pub fn visits(&self) -> &Lists
         ensures { result.now ≡ self.now.visits }
     {
         &self.visits
@@ -151,7 +152,7 @@ fn note_visit(visited: &mut Count, event: Event) -> Result<(), AllocError>
 }
 
 /// Keeps a visit, if the walk came to one and visits are kept.
-fn keep_visit(visits: &mut Paths, keeps: bool, event: Event, path: &[u32]) -> Result<(), AllocError>
+fn keep_visit(visits: &mut Lists, keeps: bool, event: Event, path: &[u32]) -> Result<(), AllocError>
     ensures { OnOk result (visits.new ≡ kept_with keeps visits.old event path.now) }
 {
     match event {

@@ -1,8 +1,8 @@
-use Rattle.std.proofs.Common.{◌≡◌, ℕ, ◌+◌, ◌-◌, ◌<◌, List, length, replicate, sym, ap, ◌∙◌, refl, subst, arith}
+use Rattle.std.proofs.Common.{◌≡◌, ◌+◌, ◌-◌, length, replicate, sym, ap, ◌∙◌, refl, subst, arith}
 use Rattle.x_steps.specs.Run.{states}
 use Rattle.x_steps.specs.Walk.{AreCounted}
 use Rattle.lab_engine.specs.Account.{AreSums, empty_account}
-use Rattle.lab_engine.proofs.SearchLemmas.{Searches, searches_begin, searches_on, searches_nearer, searches_anew, searches_end, walks_some, total_each, counts_all}
+use Rattle.lab_engine.proofs.SearchLemmas.{Searches, searches_begin, searches_on, searches_nearer, searches_anew, searches_end}
 use Rattle.x_steps.proofs.WalkLemmas.{lent_whole}
 use Rattle.lab_engine.proofs.search.search.Goals as goal
 
@@ -24,14 +24,12 @@ returns-in_default-walk-clause-account g c =
 pub loop-walk-smaller : goal.loop-walk-smaller
 loop-walk-smaller g c =
     let s = c.loop-walk.invariant in
-    let some = walks_some _ _ _ c.walk.new.self _ _ _ s.0 _ c.in-Ok-walk.ensures.steps _ s.1 c.in-Ok-walk.ensures.event c.in-Ok-walk.ensures.stops in
-    searches_nearer _ _ _ c.walk.new.self _ _ _ s.0 _ c.in-Ok-walk.ensures.steps some
+    let walk = c.in-Ok-walk.ensures in searches_nearer _ _ _ c.walk.new.self _ _ _ s.0 _ walk.steps _ s.1 walk.event walk.stops
 
 pub loop-walk-smaller-then-room-eq0 : goal.loop-walk-smaller-then-room-eq0
 loop-walk-smaller-then-room-eq0 g c =
     let s = c.loop-walk.invariant in
-    let some = walks_some _ _ _ c.walk.new.self _ _ _ s.0 _ c.in-Ok-walk.ensures.steps _ s.1 c.in-Ok-walk.ensures.event c.in-Ok-walk.ensures.stops in
-    searches_nearer _ _ _ c.walk.new.self _ _ _ s.0 _ c.in-Ok-walk.ensures.steps some
+    let walk = c.in-Ok-walk.ensures in searches_nearer _ _ _ c.walk.new.self _ _ _ s.0 _ walk.steps _ s.1 walk.event walk.stops
 
 pub loop-walk-preserved : goal.loop-walk-preserved
 loop-walk-preserved g c =

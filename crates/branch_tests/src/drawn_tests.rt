@@ -1,42 +1,19 @@
 //! Problems drawn by a seed: the states of each run come in the order of their positions, and a run that is cut at drawn places,
 //! and walked by drawn steps on and back, is the run, stretch by stretch, over both tables.
 use crate::order_tests::{are_in_order, states_of};
-use crate::setting::{made, runner_of, state_at};
+use crate::setting::{made, runner_of};
 use cover_links::LinkTable;
 use cover_problem::{PlainTable, Problem, Table, read_cover};
+use drawn_problems::{draw, drawn_options, state_of, text_of};
 use std::alloc::{AllocError, Global};
 use std::test::Fail;
 use x_branches::{Runner, Stretch};
 use x_steps::{Cursor, Label, Machine, State, no_counts};
 
-/// The next number that is drawn, below 2^31.
-fn draw(seed: &mut u64) -> u32 {
-    *seed = seed
-        .wrapping_mul(6_364_136_223_846_793_005)
-        .wrapping_add(1_442_695_040_888_963_407);
-    (*seed >> 33) as u32
-}
-
 /// The text of a problem of the items a to e, of which so many are primary, with up to eight options.
-fn drawn_text(alloc: Global, primary: usize, seed: &mut u64) -> Result<String, AllocError> {
-    let mut text = String::new(alloc);
-    text.push_str("items")?;
-    for (index, name) in [" a", " b", " c", " d", " e"].iter().enumerate() {
-        if index == primary {
-            text.push_str("\nmaybe")?;
-        }
-        text.push_str(name)?;
-    }
-    for _ in 0..draw(seed) % 9 {
-        let mask = draw(seed) % 31 + 1;
-        text.push_str("\noption")?;
-        for (index, name) in [" a", " b", " c", " d", " e"].iter().enumerate() {
-            if mask.wrapping_shr(index as u32) % 2 == 1 {
-                text.push_str(name)?;
-            }
-        }
-    }
-    Ok(text)
+fn drawn_text(alloc: Global, primary: u32, seed: &mut u64) -> Result<String, AllocError> {
+    let options = drawn_options(alloc, seed)?;
+    text_of(alloc, 5, primary, &options)
 }
 
 #[test]
@@ -101,7 +78,7 @@ impl Tally {
             count(&mut self.levels, level, *more);
         }
         for place in 0..stretch.visits().len() {
-            self.push_visit(stretch.visits().path(place))?;
+            self.push_visit(stretch.visits().list(place))?;
         }
         Ok(())
     }
@@ -240,7 +217,7 @@ fn last_of(cuts: &[Vec<u32>]) -> &[u32] {
 fn run_in_parts<T: Table>(alloc: Global, problem: &Problem, seed: &mut u64) -> Result<Tally, Fail> {
     let mut parts = Parts {
         tally: Tally::new(alloc, problem.items())?,
-        end: state_at(alloc, Label::X1, &[], Cursor::None)?,
+        end: state_of(alloc, Label::X1, &[], Cursor::None)?,
         cuts: Vec::new(alloc),
     };
     let mut first = Vec::new(alloc);

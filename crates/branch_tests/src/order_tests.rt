@@ -1,6 +1,6 @@
 //! The order of a run's states.
-use crate::setting::{SMALL, state_at};
-use cover_problem::{PlainTable, Table, read_cover};
+use cover_problem::{PlainTable, Problem, Table, read_cover};
+use drawn_problems::{SMALL, state_of};
 use std::alloc::{AllocError, Global};
 use std::cmp::Ordering;
 use std::test::Fail;
@@ -21,16 +21,21 @@ fn note_states<T: Table>(
     Ok(())
 }
 
-/// The states of the run of the text's problem, in order.
-pub fn states_of(alloc: Global, text: &str) -> Result<Vec<State>, Fail> {
-    let problem = read_cover(alloc, text.as_bytes())?;
-    let table = PlainTable::new(alloc, &problem)?;
+/// The states of the run of a problem, in order.
+fn states_in(alloc: Global, problem: &Problem) -> Result<Vec<State>, Fail> {
+    let table = PlainTable::new(alloc, problem)?;
     let mut states = Vec::new(alloc);
-    match Machine::new(alloc, &problem, table) {
+    match Machine::new(alloc, problem, table) {
         Ok(mut machine) => note_states(&mut machine, &mut states)?,
         Err(_) => return Err(Fail::from("no machine")),
     }
     Ok(states)
+}
+
+/// The same of the text's problem.
+pub fn states_of(alloc: Global, text: &str) -> Result<Vec<State>, Fail> {
+    let problem = read_cover(alloc, text.as_bytes())?;
+    states_in(alloc, &problem)
 }
 
 /// Whether a state that stands there among the states comes before those after it, and after those before it.
@@ -67,9 +72,9 @@ const STEPS: [(Label, Ordering); 2] = [(Label::X5, Ordering::Less), (Label::X6, 
 #[test]
 fn a_step_comes_before_or_after_what_lies_below(rt: HostRuntime) -> Result<(), Fail> {
     let alloc = rt.alloc();
-    let below = state_at(alloc, Label::X8, &[4, 5, 1], Cursor::None)?;
+    let below = state_of(alloc, Label::X8, &[4, 5, 1], Cursor::None)?;
     for (label, order) in STEPS {
-        let state = state_at(alloc, label, &[4], Cursor::At(5))?;
+        let state = state_of(alloc, label, &[4], Cursor::At(5))?;
         assert!(rt; run_order(&state, &below) == order);
     }
     Ok(())

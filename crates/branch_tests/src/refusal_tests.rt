@@ -1,6 +1,7 @@
 //! Where a runner can't start, what is of another problem, and the numbers and names of refusals.
-use crate::setting::{branch_of, cut_of, refusal, small, state_at, whole};
+use crate::setting::{branch_of, cut_of, refusal, small, whole};
 use cover_problem::{PlainTable, Problem, Table, read_cover};
+use drawn_problems::state_of;
 use std::alloc::Global;
 use std::test::Fail;
 use x_branches::{Branch, Runner, RunnerFault, StartFault};
@@ -32,7 +33,7 @@ fn start_refused<'p>(
     path: &[u32],
 ) -> Result<Option<StartFault>, Fail> {
     let table = PlainTable::new(alloc, problem)?;
-    let state = state_at(alloc, Label::X2, path, Cursor::None)?;
+    let state = state_of(alloc, Label::X2, path, Cursor::None)?;
     Ok(refusal(Runner::new(alloc, problem, table, branch, &state)))
 }
 

@@ -4,7 +4,7 @@ use cover_problem::{PlainTable, Problem, Table};
 use std::alloc::Global;
 use std::test::Fail;
 use x_branches::{Runner, RunnerFault, Stretch};
-use x_steps::{Cursor, Event, Label, Walk};
+use x_steps::{Cursor, Event, Label, State, Walk};
 
 /// What is asked of a runner, and what it has to tell.
 enum Row {
@@ -105,7 +105,7 @@ fn is_stretch(stretch: &Stretch<'_>, steps: u32, visits: &[&[u32]], levels: &[u3
         return false;
     }
     for (place, visit) in visits.iter().enumerate() {
-        if stretch.visits().path(place) != *visit {
+        if stretch.visits().list(place) != *visit {
             return false;
         }
     }
@@ -270,19 +270,27 @@ fn a_stretch_from_before_the_branch_is_refused(rt: HostRuntime) -> Result<(), Fa
     Ok(())
 }
 
-/// Whether the stretch that a runner at its mark hands out, copied, begins and ends there and has nothing in it.
+/// Whether a stretch of a problem begins and ends at a state and has nothing in it.
+fn is_no_step(stretch: &Stretch<'_>, problem: &Problem, state: &State) -> bool {
+    stretch.problem().same(problem)
+        && stretch.from().same(state)
+        && stretch.to().same(state)
+        && stretch.steps() == 0
+        && stretch.visits().len() == 0
+        && stretch.levels().is_empty()
+}
+
+/// Whether the stretch that a runner of a problem at its mark hands out, copied, begins and ends there and has nothing in it.
+fn hands_out_none<T: Table>(runner: &mut Runner<'_, T>, problem: &Problem) -> Result<bool, Fail> {
+    let stretch = runner.take_stretch()?;
+    let copy = stretch.copy()?;
+    Ok(is_no_step(&copy, problem, runner.state()))
+}
+
+/// The same of a new runner.
 fn hands_out_no_step(alloc: Global, problem: &Problem) -> Result<bool, Fail> {
     let mut runner = whole(alloc, problem)?;
-    let stretch = runner.take_stretch()?.copy()?;
-    let state = runner.state();
-    Ok(
-        stretch.problem().same(problem)
-            && stretch.from().same(state)
-            && stretch.to().same(state)
-            && stretch.steps() == 0
-            && stretch.visits().len() == 0
-            && stretch.levels().is_empty(),
-    )
+    hands_out_none(&mut runner, problem)
 }
 
 #[test]

@@ -1,13 +1,10 @@
 //! The small problem, and cuts and runners of a problem.
 use cover_problem::{PlainTable, Problem, Table, read_cover};
+use drawn_problems::{SMALL, state_of};
 use std::alloc::{AllocError, Global};
 use std::test::Fail;
 use x_branches::{Branch, Cut, Runner};
 use x_steps::{Cursor, Label, Refused, State};
-
-/// The text of the small problem, whose run has 43 steps.
-pub const SMALL: &str =
-    "items a b c d e f g\noption c e\noption a d g\noption b c f\noption a d f\noption b g\noption d e g";
 
 /// The small problem.
 pub fn small(alloc: Global) -> Result<Problem, Fail> {
@@ -28,21 +25,6 @@ pub fn refusal<V: Drop, F: Drop, G: Drop>(made: Result<V, Refused<F, G>>) -> Opt
         Ok(_) => None,
         Err(Refused { fault, given: _ }) => Some(fault),
     }
-}
-
-/// The state at a step after these choices.
-pub fn state_at(
-    alloc: Global,
-    label: Label,
-    path: &[u32],
-    cursor: Cursor,
-) -> Result<State, AllocError> {
-    let path = Vec::from_slice(alloc, path)?;
-    Ok(State {
-        label,
-        path,
-        cursor,
-    })
 }
 
 /// The cut of a path.
@@ -77,8 +59,8 @@ pub fn branch_of<'p>(
 /// Where a branch begins that has this path as its first cut, or none.
 fn first_of(alloc: Global, lo: &[u32]) -> Result<State, AllocError> {
     match lo.split_last() {
-        Some((option, path)) => state_at(alloc, Label::X5, path, Cursor::At(*option)),
-        None => state_at(alloc, Label::X1, &[], Cursor::None),
+        Some((option, path)) => state_of(alloc, Label::X5, path, Cursor::At(*option)),
+        None => state_of(alloc, Label::X1, &[], Cursor::None),
     }
 }
 

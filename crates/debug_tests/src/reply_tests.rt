@@ -1,7 +1,7 @@
 //! Replies and their texts, worked out by hand.
 ghost use Rattle.std.specs.Prelude.{◌≤◌, length};
 
-use cover_problem::{Problem, read_cover};
+use cover_problem::{Lists, Problem, read_cover};
 use debug_texts::{
     Counted, DebugFault, Layer, Listed, Plain, Standing, write_at, write_branch, write_counted,
     write_covered, write_debug_fault, write_levels, write_list, write_lists, write_met,
@@ -12,7 +12,7 @@ use drawn_problems::SMALL;
 use std::alloc::{AllocError, Global};
 use x_branches::RunnerFault;
 use x_snapshot::{Break, SnapshotFault};
-use x_steps::{Cursor, Label, Paths, State};
+use x_steps::{Cursor, Label, State};
 
 /// A reply that names no item.
 enum Reply {
@@ -217,7 +217,7 @@ fn are_named(alloc: Global) -> bool {
 
 /// The lines of two visits.
 fn two_visits(alloc: Global) -> Result<Vec<u8>, AllocError> {
-    let mut visits = Paths::new(alloc);
+    let mut visits = Lists::new(alloc);
     visits.push(&[4, 5, 1])?;
     visits.push(&[2])?;
     let mut text = Vec::new(alloc);

@@ -1,7 +1,8 @@
-//! Texts of exact cover problems that tests share: the small problem, and problems that are drawn by a seed.
+//! What tests of a search share: the texts of the small problem and of problems that are drawn by a seed, and states.
 #![tactic(auto)]
 
 use std::alloc::{AllocError, Global};
+use x_steps::{Cursor, Label, State};
 
 /// The small problem: its run has 43 steps, the cut 4 stands after 20, and X2 below 4 5 1 after 29.
 pub const SMALL: &str =
@@ -81,4 +82,19 @@ pub fn text_of(
         push_line(&mut text, "\noption", *option)?;
     }
     Ok(text)
+}
+
+/// The state at a step after these choices.
+pub fn state_of(
+    alloc: Global,
+    label: Label,
+    path: &[u32],
+    cursor: Cursor,
+) -> Result<State, AllocError> {
+    let path = Vec::from_slice(alloc, path)?;
+    Ok(State {
+        label,
+        path,
+        cursor,
+    })
 }

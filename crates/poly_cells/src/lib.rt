@@ -11,8 +11,6 @@ mod rotation;
 mod set;
 mod shape;
 mod symmetry;
-#[cfg(test)]
-mod tests;
 
 pub use cell::Cell;
 pub use fault::{CellFault, TranslateFault};

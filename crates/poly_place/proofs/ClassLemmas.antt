@@ -1,10 +1,10 @@
 -- Packings of one region are alike exactly where their least forms are equal.
-use Rattle.std.proofs.Common.{◌≡◌, ℕ, ◌+◌, ◌<◌, ◌==◌, List, [], ◌∷◌, ◌++◌, map, length, inl, inr, refl, sym, ap, subst, ◌∙◌, slice_index}
+use Rattle.std.proofs.Common.{◌≡◌, ℕ, ◌+◌, ◌<◌, ◌==◌, List, [], map, length, inl, inr, refl, sym, ap, subst, ◌∙◌, slice_index}
 use Rattle.poly_cells.specs.Coordinates.{Coordinates}
 use Rattle.poly_cells.specs.Sets.{IsIn, in_order}
 use Rattle.poly_cells.specs.Shapes.{IsShape}
 use Rattle.poly_cells.specs.Images.{IsImage}
-use Rattle.poly_cells.proofs.SetLemmas.{in_map, in_from_map, in_append_cases}
+use Rattle.poly_cells.proofs.SetLemmas.{in_map, in_from_map}
 use Rattle.poly_cells.proofs.CoordinateLemmas.{is_same_Decides}
 use Rattle.poly_cells.specs.CellTests.{is_same, has_cell}
 use Rattle.poly_place.specs.declared.alike.Group.{Group}
@@ -264,13 +264,3 @@ AreIn region maybe ps = (p : PackingValue) → IsIn p ps → (p.region ≡ regio
 
 pub one_region : (region maybe : List Coordinates) (ps : List PackingValue) → AreIn region maybe ps → HaveOneRegion ps
 one_region region maybe ps h p q i j = ((h p i).0 ∙ sym (h q j).0, (h p i).1 ∙ sym (h q j).1)
-
-pub one_more_in : (region maybe : List Coordinates) (ps qs : List PackingValue) (q : PackingValue) → qs ≡ ps ++ q ∷ [] → q.region ≡ region → q.maybe_cells ≡ maybe → AreIn region maybe ps → AreIn region maybe qs
-one_more_in region maybe ps qs q grown r m h p i =
-    elim (in_append_cases p ps (q ∷ []) (subst (λ (xs : List PackingValue). IsIn p xs) grown i)) [
-      | inl l ↦ h p l
-      | inr e ↦ elim e [
-        | inl same ↦ (ap (λ (x : PackingValue). x.region) same ∙ r, ap (λ (x : PackingValue). x.maybe_cells) same ∙ m)
-        | inr none ↦ absurd none
-      ]
-    ]

@@ -3,11 +3,7 @@
 
 mod alike;
 mod choice;
-#[cfg(test)]
-mod class_tests;
 mod compiled;
-#[cfg(test)]
-mod compiled_tests;
 mod fault;
 mod forms;
 mod images;
@@ -15,14 +11,10 @@ mod items;
 pub mod laws;
 mod layer;
 mod packing;
-#[cfg(test)]
-mod packing_tests;
 mod placement;
 mod room;
 mod set;
 mod table;
-#[cfg(test)]
-mod tests;
 
 pub use alike::{Group, classes};
 pub use choice::Choice;

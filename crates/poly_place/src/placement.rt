@@ -56,7 +56,8 @@ fn all_sets(
     turns: &[Vec<Cell>],
 ) -> Result<Vec<Vec<Cell>>, AllocError>
     requires { length bits.now ≡ 32768 }
-    ensures { IfOk result (λ sets. map vec_items sets.items ≡ flat_map (at_cells (has_bit bits.now) cells.now) (map vec_items turns.now)) }
+    ensures { IfOk result (λ sets. map vec_items sets.items ≡
+        flat_map (at_cells (has_bit bits.now) cells.now) (map vec_items turns.now)) }
 {
     let mut sets = Vec::new(alloc);
     for turned in turns {

@@ -18,6 +18,3 @@ pub use limits::{MOST_PIECE_CELLS, MOST_PIECES, MOST_REGION_CELLS, MOST_SIZE};
 pub use name::PieceName;
 pub use puzzle::Puzzle;
 pub use reading::read_puzzle;
-
-#[cfg(test)]
-mod tests;

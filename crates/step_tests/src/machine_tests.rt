@@ -1,9 +1,9 @@
 //! Runs that are walked to the end and back, and what a machine tells at a state.
-use cover_problem::{PlainTable, Problem, Table, read_cover};
-use drawn_problems::SMALL;
+use cover_problem::{Lists, PlainTable, Problem, Table, read_cover};
+use drawn_problems::{SMALL, state_of};
 use std::alloc::{AllocError, Global};
 use std::test::Fail;
-use x_steps::{Cursor, Event, Label, Machine, Paths, State, StepFault};
+use x_steps::{Cursor, Event, Label, Machine, State, StepFault};
 
 /// A problem whose item c is secondary.
 const SECONDARY: &str = "items a b\nmaybe c\noption a c\noption b c\noption a\noption b";
@@ -147,20 +147,6 @@ fn told_at(alloc: Global, text: &str, state: &State) -> Result<Told, Fail> {
     told_in(alloc, &problem, state)
 }
 
-fn state_of(
-    alloc: Global,
-    label: Label,
-    path: &[u32],
-    cursor: Cursor,
-) -> Result<State, AllocError> {
-    let path = Vec::from_slice(alloc, path)?;
-    Ok(State {
-        label,
-        path,
-        cursor,
-    })
-}
-
 #[test]
 fn each_step_is_taken_back(rt: HostRuntime) -> Result<(), Fail> {
     let problem = read_cover(rt.alloc(), SMALL.as_bytes())?;
@@ -253,10 +239,10 @@ fn a_copy_is_the_same_state(rt: HostRuntime) -> Result<(), Fail> {
 }
 
 /// The paths as one list, each closed by a 0.
-fn flat_paths(alloc: Global, paths: &Paths) -> Result<Vec<u32>, AllocError> {
+fn flat_paths(alloc: Global, paths: &Lists) -> Result<Vec<u32>, AllocError> {
     let mut list = Vec::new(alloc);
     for place in 0..paths.len() {
-        list.extend_from_slice(paths.path(place))?;
+        list.extend_from_slice(paths.list(place))?;
         list.push(0)?;
     }
     Ok(list)
@@ -264,7 +250,7 @@ fn flat_paths(alloc: Global, paths: &Paths) -> Result<Vec<u32>, AllocError> {
 
 #[test]
 fn paths_keep_their_order(rt: HostRuntime) -> Result<(), Fail> {
-    let mut paths = Paths::new(rt.alloc());
+    let mut paths = Lists::new(rt.alloc());
     paths.push(&[4, 5, 1])?;
     paths.push(&[])?;
     let mut more = paths.copy()?;

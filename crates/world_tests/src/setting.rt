@@ -1,12 +1,12 @@
 //! What workers do, the replies of a world, and the visits of a book.
 ghost use Rattle.std.specs.Prelude.{◌<◌, ◌↔◌, All, IsTrue};
 
-use cover_problem::PlainTable;
+use cover_problem::{Lists, PlainTable};
 use lab_book::Book;
 use lab_world::{Act, World, WorldEvent, WorldReply};
 use std::alloc::{AllocError, Global};
 use std::test::Fail;
-use x_steps::{Cursor, Label, Paths, State};
+use x_steps::{Cursor, Label, State};
 
 /// What a worker does; a tile is put back to a step without choices.
 #[derive(Clone, Copy)]
@@ -97,9 +97,9 @@ pub fn play(
 }
 
 /// Adds the paths, with a 0 after each.
-fn add_paths(visits: &mut Vec<u32>, paths: &Paths) -> Result<(), AllocError> {
+fn add_paths(visits: &mut Vec<u32>, paths: &Lists) -> Result<(), AllocError> {
     for place in 0..paths.len() {
-        visits.extend_from_slice(paths.path(place))?;
+        visits.extend_from_slice(paths.list(place))?;
         visits.push(0)?;
     }
     Ok(())

@@ -1,9 +1,10 @@
-//! Each call once, with answers that were written down by hand. Texts and their answers are rows of tables; a long text is
-//! written by functions that change it in place.
+//! Texts of puzzles, with answers that were written down by hand. Texts and their answers are rows of tables; a long text is written by
+//! functions that change it in place.
 ghost use Rattle.std.specs.Prelude.{◌<◌};
 
-use super::*;
+use crate::setting::{Cells, are_cells};
 use poly_cells::Cell;
+use poly_texts::{Fault, MOST_PIECES, PieceName, Puzzle, PuzzleFault, read_puzzle};
 use std::alloc::Global;
 use std::process::Abort;
 use std::test::Fail;
@@ -80,8 +81,11 @@ fn the_first_fault_of_a_line_is_named(rt: HostRuntime) {
 }
 
 /// A piece of 64 cells and a word more.
-const FULL_PIECE: &[u8] =
-    b"piece A 000 001 002 003 004 005 006 007 008 009 00a 00b 00c 00d 00e 00f 010 011 012 013 014 015 016 017 018 019 01a 01b 01c 01d 01e 01f 020 021 022 023 024 025 026 027 028 029 02a 02b 02c 02d 02e 02f 030 031 032 033 034 035 036 037 038 039 03a 03b 03c 03d 03e 03f x";
+const FULL_PIECE: &[u8] = b"piece A \
+    000 001 002 003 004 005 006 007 008 009 00a 00b 00c 00d 00e 00f \
+    010 011 012 013 014 015 016 017 018 019 01a 01b 01c 01d 01e 01f \
+    020 021 022 023 024 025 026 027 028 029 02a 02b 02c 02d 02e 02f \
+    030 031 032 033 034 035 036 037 038 039 03a 03b 03c 03d 03e 03f x";
 
 const LIMITS: [Refusal; 5] = [
     (b"box 32 32 4", Fault::NoPiece, 0),
@@ -114,24 +118,12 @@ fn the_last_line_may_lack_its_end(rt: HostRuntime) {
     assert_refused(&rt, rt.alloc(), &LAST_LINES);
 }
 
-/// Coordinates of cells.
-type Cells = &'static [(u8, u8, u8)];
-
 /// What a puzzle has: its pieces, the names of those that may be left out, its region, and the cells that may stay empty.
 struct Parts {
     pieces: &'static [(u8, Cells)],
     maybe_pieces: &'static [u8],
     region: Cells,
     maybe_cells: Cells,
-}
-
-/// Whether the cells have these coordinates.
-fn are_cells(cells: &[Cell], coordinates: Cells) -> bool {
-    cells.len() == coordinates.len()
-        && cells
-            .iter()
-            .zip(coordinates.iter())
-            .all(|(cell, at)| (cell.x(), cell.y(), cell.z()) == *at)
 }
 
 /// Whether the pieces have these names and cells.
@@ -240,6 +232,15 @@ const LAST_CELL: Parts = Parts {
     maybe_cells: &[(31, 31, 31)],
 };
 
+/// Writes a region of 4,096 cells that are named twice, in lines of so many cells.
+fn write_full_region(text: &mut Vec<u8>, each: usize) -> Result<(), Fail>
+    requires { 0 < each }
+{
+    text.extend_from_slice(b"piece A 000")?;
+    write_cells(text, b"cells", 28_672, 32_768, each)?;
+    write_cells(text, b"maybe cells", 28_672, 32_768, each)
+}
+
 /// Whether a region of 4,096 cells is read that are named twice, in lines of so many cells; then the same with all but the last
 /// of them cut; and then one cell more is refused, in the line with this number.
 fn is_full_region_read(
@@ -250,9 +251,7 @@ fn is_full_region_read(
 ) -> Result<bool, Fail>
     requires { 0 < each }
 {
-    text.extend_from_slice(b"piece A 000")?;
-    write_cells(text, b"cells", 28_672, 32_768, each)?;
-    write_cells(text, b"maybe cells", 28_672, 32_768, each)?;
+    write_full_region(text, each)?;
     let sizes = sizes_of(alloc, text.as_slice());
     write_cells(text, b"cut", 28_672, 32_767, each)?;
     let is_cut = is_read(alloc, text.as_slice(), &LAST_CELL);

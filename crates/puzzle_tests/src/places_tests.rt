@@ -1,0 +1,133 @@
+//! Counts of placements from the literature and from an independent program, and rows worked by hand.
+use crate::setting::{Cells, are_cells, box_of, shape_at};
+use poly_cells::{Cell, Shape};
+use poly_place::placements;
+use std::alloc::Global;
+use std::process::Abort;
+use std::test::Fail;
+
+/// The placements of the piece with these cells.
+fn placed(alloc: Global, piece: Cells, region: &Shape) -> Result<Vec<Shape>, Fail> {
+    let piece = shape_at(alloc, piece)?;
+    Ok(placements(alloc, &piece, region)?)
+}
+
+/// How many they are.
+fn count(alloc: Global, piece: Cells, region: &Shape) -> Result<usize, Fail> {
+    Ok(placed(alloc, piece, region)?.len())
+}
+
+/// Whether each of the pieces has so many placements in the region.
+fn have_counts(
+    alloc: Global,
+    pieces: &[Cells],
+    region: &Shape,
+    wanted: &[usize],
+) -> Result<bool, Fail> {
+    for (piece, number) in pieces.iter().zip(wanted) {
+        if count(alloc, piece, region)? != *number {
+            return Ok(false);
+        }
+    }
+    Ok(pieces.len() == wanted.len())
+}
+
+const SOMA: [Cells; 7] = [
+    &[(0, 0, 0), (1, 0, 0), (0, 1, 0)],
+    &[(0, 0, 0), (1, 0, 0), (2, 0, 0), (0, 1, 0)],
+    &[(0, 0, 0), (1, 0, 0), (2, 0, 0), (1, 1, 0)],
+    &[(0, 0, 0), (1, 0, 0), (1, 1, 0), (2, 1, 0)],
+    &[(0, 0, 0), (1, 0, 0), (0, 1, 0), (0, 1, 1)],
+    &[(0, 0, 0), (1, 0, 0), (0, 1, 0), (1, 0, 1)],
+    &[(0, 0, 0), (1, 0, 0), (0, 1, 0), (0, 0, 1)],
+];
+
+const PENTOMINOES: [Cells; 12] = [
+    &[(1, 0, 0), (2, 0, 0), (0, 1, 0), (1, 1, 0), (1, 2, 0)],
+    &[(0, 0, 0), (1, 0, 0), (2, 0, 0), (3, 0, 0), (4, 0, 0)],
+    &[(0, 0, 0), (1, 0, 0), (2, 0, 0), (3, 0, 0), (0, 1, 0)],
+    &[(0, 0, 0), (1, 0, 0), (1, 1, 0), (2, 1, 0), (3, 1, 0)],
+    &[(0, 0, 0), (1, 0, 0), (0, 1, 0), (1, 1, 0), (0, 2, 0)],
+    &[(0, 0, 0), (1, 0, 0), (2, 0, 0), (1, 1, 0), (1, 2, 0)],
+    &[(0, 0, 0), (2, 0, 0), (0, 1, 0), (1, 1, 0), (2, 1, 0)],
+    &[(0, 0, 0), (0, 1, 0), (0, 2, 0), (1, 2, 0), (2, 2, 0)],
+    &[(0, 0, 0), (0, 1, 0), (1, 1, 0), (1, 2, 0), (2, 2, 0)],
+    &[(1, 0, 0), (0, 1, 0), (1, 1, 0), (2, 1, 0), (1, 2, 0)],
+    &[(0, 0, 0), (1, 0, 0), (2, 0, 0), (3, 0, 0), (1, 1, 0)],
+    &[(0, 0, 0), (1, 0, 0), (1, 1, 0), (1, 2, 0), (2, 2, 0)],
+];
+
+#[test]
+fn the_soma_pieces_lie_in_the_cube(rt: HostRuntime) -> Result<(), Fail> {
+    let cube = box_of(rt.alloc(), 3, 3, 3, None)?;
+    assert!(rt; have_counts(rt.alloc(), &SOMA, &cube, &[144, 144, 72, 72, 96, 96, 64])?);
+    Ok(())
+}
+
+#[test]
+fn the_soma_pieces_lie_in_the_cube_without_its_middle(rt: HostRuntime) -> Result<(), Fail> {
+    let hollow = box_of(rt.alloc(), 3, 3, 3, Some(Cell::new(1, 1, 1)?))?;
+    assert!(rt; have_counts(rt.alloc(), &SOMA, &hollow, &[108, 120, 48, 48, 48, 48, 32])?);
+    Ok(())
+}
+
+const IN_A_STRIP: [usize; 12] = [144, 48, 136, 136, 220, 72, 110, 72, 72, 18, 136, 72];
+
+#[test]
+fn the_pentominoes_lie_in_a_strip(rt: HostRuntime) -> Result<(), Fail> {
+    let strip = box_of(rt.alloc(), 20, 3, 1, None)?;
+    assert!(rt; have_counts(rt.alloc(), &PENTOMINOES, &strip, &IN_A_STRIP)?);
+    Ok(())
+}
+
+const DOMINO: Cells = &[(0, 0, 0), (1, 0, 0)];
+
+const IN_A_SQUARE: [Cells; 4] = [
+    &[(0, 0, 0), (0, 1, 0)],
+    &[(0, 0, 0), (1, 0, 0)],
+    &[(0, 1, 0), (1, 1, 0)],
+    &[(1, 0, 0), (1, 1, 0)],
+];
+
+/// Tells the first of four placements in a square that isn't the one that stands there.
+fn compare_with_square(rt: &impl Abort, found: &[Shape]) {
+    assert!(rt; found.len() == 4);
+    for (set, cells) in found.iter().zip(IN_A_SQUARE) {
+        assert!(rt; are_cells(set.cells(), cells));
+    }
+}
+
+#[test]
+fn placements_come_in_order(rt: HostRuntime) -> Result<(), Fail> {
+    let square = box_of(rt.alloc(), 2, 2, 1, None)?;
+    let found = placed(rt.alloc(), DOMINO, &square)?;
+    compare_with_square(&rt, found.as_slice());
+    Ok(())
+}
+
+const SCREW: Cells = &[(0, 0, 0), (1, 0, 0), (0, 1, 0), (0, 1, 1)];
+
+const MIRRORED: Cells = &[(0, 0, 0), (1, 0, 0), (0, 1, 0), (1, 0, 1)];
+
+/// How many placements a piece has in the region with these cells.
+fn count_at(alloc: Global, piece: Cells, region: Cells) -> Result<usize, Fail> {
+    let region = shape_at(alloc, region)?;
+    count(alloc, piece, &region)
+}
+
+#[test]
+fn a_piece_that_does_not_fit_has_none(rt: HostRuntime) -> Result<(), Fail> {
+    let alloc = rt.alloc();
+    assert!(rt; count_at(alloc, DOMINO, &[(0, 0, 0)])? == 0);
+    // The mirror image of a screw is none of its rotations.
+    assert!(rt; count_at(alloc, SCREW, MIRRORED)? == 0);
+    assert!(rt; count_at(alloc, MIRRORED, MIRRORED)? == 1);
+    Ok(())
+}
+
+#[test]
+fn a_large_region_takes_no_time(rt: HostRuntime) -> Result<(), Fail> {
+    let slab = box_of(rt.alloc(), 32, 32, 4, None)?;
+    assert!(rt; count(rt.alloc(), DOMINO, &slab)? == 11_008);
+    Ok(())
+}

@@ -1,5 +1,6 @@
 -- Each posted stretch has an entry of its own in the history.
-use Rattle.std.proofs.Common.{◌≡◌, ℕ, ◌+◌, ◌-◌, ◌<◌, ◌≤◌, ◌⊎◌, Bool, true, false, Option, Some, None, Result, Ok, Err, List, [], ◌∷◌, ◌++◌, length, take, drop, refl, ap, inl, inr, arith, length-append}
+use Rattle.std.proofs.Common.{◌≡◌, ℕ, ◌+◌, ◌-◌, ◌<◌, ◌≤◌, ◌⊎◌, Bool, true, false, Option, Some, None, Result, Ok, Err, List, [], ◌∷◌, ◌++◌}
+use Rattle.std.proofs.Common.{length, take, drop, refl, ap, inl, inr, arith, length-append}
 use Rattle.std.specs.Prelude.{unwrap_or, if◌then◌else◌}
 use Rattle.std.specs.List.{sum_by}
 use Rattle.std.proofs.Math.ListN.{set}
@@ -17,13 +18,16 @@ use Rattle.lab_book.specs.Tile.{TileValue}
 use Rattle.lab_book.specs.Tiling.{no_tile, tile_at}
 use Rattle.lab_book.specs.Posted.{posted_count}
 use Rattle.lab_book.specs.States.{same_state}
-use Rattle.lab_book.specs.Book.{BookValue, Outcome, IsBook, outcome, book_step, opened, replayed, made_at, lent, lent_any, posted, split, parted, retracted, settled, freed, closed, put_back, asked_to_stop, stretches_to, with_stretch, first_waiting}
+use Rattle.lab_book.specs.Book.{BookValue, Outcome, IsBook, outcome, book_step, opened, replayed, made_at, lent, lent_any, posted, split}
+use Rattle.lab_book.specs.Book.{parted, retracted, settled, freed, closed, put_back, asked_to_stop, stretches_to, with_stretch}
+use Rattle.lab_book.specs.Book.{first_waiting}
 
 count_of : TileValue → ℕ
 count_of t = length t.stretches
 
 -- a tile with at most one stretch more in the place of one
-count_set : (ts : List TileValue) (i : ℕ) (u : TileValue) → length u.stretches ≤ length (tile_at ts i).stretches + 1 → posted_count (set ts i u) ≤ posted_count ts + 1
+count_set : (ts : List TileValue) (i : ℕ) (u : TileValue) → length u.stretches ≤ length (tile_at ts i).stretches + 1
+    → posted_count (set ts i u) ≤ posted_count ts + 1
 count_set ts i u m = step (cases_lt i (length ts))
   where
     step : (i < length ts) ⊎ (length ts ≤ i) → posted_count (set ts i u) ≤ posted_count ts + 1
@@ -31,14 +35,17 @@ count_set ts i u m = step (cases_lt i (length ts))
     step (inr l) = let e = ap posted_count (set_past ts i u l) in omega arith
 
 -- a tile in two, of which the second has none
-count_parted : (ts : List TileValue) (i id : ℕ) (cut : CutPath) → posted_count (take i ts ++ parted (tile_at ts i) id cut ++ drop (i + 1) ts) ≤ posted_count ts
+count_parted : (ts : List TileValue) (i id : ℕ) (cut : CutPath)
+    → posted_count (take i ts ++ parted (tile_at ts i) id cut ++ drop (i + 1) ts) ≤ posted_count ts
 count_parted ts i id cut =
     let a = sum_by-append (λ (t : TileValue). length t.stretches) (take i ts ++ parted (tile_at ts i) id cut) (drop (i + 1) ts) in
     let b = sum_by-append (λ (t : TileValue). length t.stretches) (take i ts) (parted (tile_at ts i) id cut) in
     let c = step (cases_lt i (length ts)) in
     omega arith
   where
-    step : (i < length ts) ⊎ (length ts ≤ i) → sum_by (λ (t : TileValue). length t.stretches) (take i ts) + length (tile_at ts i).stretches + sum_by (λ (t : TileValue). length t.stretches) (drop (i + 1) ts) ≤ posted_count ts
+    step : (i < length ts) ⊎ (length ts ≤ i)
+        → sum_by (λ (t : TileValue). length t.stretches) (take i ts) + length (tile_at ts i).stretches + sum_by
+        (λ (t : TileValue). length t.stretches) (drop (i + 1) ts) ≤ posted_count ts
     step (inl l) =
         let a = sum_by-take-drop (λ (t : TileValue). length t.stretches) ts i in
         let b = sum_by-drop_more (λ (t : TileValue). length t.stretches) ts i no_tile l in omega arith
@@ -55,7 +62,9 @@ count_back s m [] ys e = here (same_state s m) e
     here false h = absurd (cc)
 count_back s m (x ∷ xs) ys e = here (same_state s m) (stretches_to s x.to xs) (λ zs r. count_back s x.to xs zs r) refl e
   where
-    here : (b : Bool) (rest : Option (List StretchValue)) → ((zs : List StretchValue) → stretches_to s x.to xs ≡ Some zs → length zs ≤ length xs) → stretches_to s x.to xs ≡ rest → (if b then Some [] else with_stretch x rest) ≡ Some ys → length ys ≤ length (x ∷ xs)
+    here : (b : Bool) (rest : Option (List StretchValue))
+        → ((zs : List StretchValue) → stretches_to s x.to xs ≡ Some zs → length zs ≤ length xs) → stretches_to s x.to xs ≡ rest
+        → (if b then Some [] else with_stretch x rest) ≡ Some ys → length ys ≤ length (x ∷ xs)
     here true rest f r h = let n : [] ≡ ys = cc in let k = ap (length {A = StretchValue}) n in omega arith
     here false None f r h = absurd (cc)
     here false (Some zs) f r h =
@@ -70,7 +79,8 @@ count_put_back s t = here (stretches_to s t.first t.stretches) refl
     here None e = omega arith
     here (Some ys) e = count_back s t.first t.stretches ys e
 
-count_made : (ts : List TileValue) (change : ℕ → Outcome) (r : Result ℕ BookFault) → ((i : ℕ) → posted_count (change i).tiles ≤ posted_count ts + 1) → posted_count (made_at ts change r).tiles ≤ posted_count ts + 1
+count_made : (ts : List TileValue) (change : ℕ → Outcome) (r : Result ℕ BookFault)
+    → ((i : ℕ) → posted_count (change i).tiles ≤ posted_count ts + 1) → posted_count (made_at ts change r).tiles ≤ posted_count ts + 1
 count_made ts change (Ok i) h = h i
 count_made ts change (Err f) h = omega arith
 
@@ -82,7 +92,8 @@ module _ (b : BookValue) (w : ℕ) where
   count_any None = omega arith
   count_any (Some i) = count_lent i
 
-  count_settled : (change : TileValue → TileValue) → ((t : TileValue) → length (change t).stretches ≤ length t.stretches) → (i : ℕ) → posted_count (settled b change i).tiles ≤ posted_count b.tiles + 1
+  count_settled : (change : TileValue → TileValue) → ((t : TileValue) → length (change t).stretches ≤ length t.stretches) → (i : ℕ)
+      → posted_count (settled b change i).tiles ≤ posted_count b.tiles + 1
   count_settled change h i = let l = h (tile_at b.tiles i) in count_set b.tiles i (change (tile_at b.tiles i)) (omega arith)
 
   count_posted : (from to : StateValue) (i : ℕ) → posted_count (posted b from to i).tiles ≤ posted_count b.tiles + 1
@@ -111,7 +122,8 @@ count_outcome b w (call.Park g) = count_made b.tiles (settled b freed) _ (count_
 count_outcome b w (call.Abandon g) = count_made b.tiles (settled b freed) _ (count_settled b w freed (λ t. omega arith))
 count_outcome b w (call.Close g) = count_made b.tiles (settled b closed) _ (count_settled b w closed (λ t. omega arith))
 count_outcome b w (call.PutBack id s) = count_made b.tiles (settled b (put_back s)) _ (count_settled b w (put_back s) (count_put_back s))
-count_outcome b w (call.RequestStop id) = count_made b.tiles (settled b asked_to_stop) _ (count_settled b w asked_to_stop (λ t. omega arith))
+count_outcome b w (call.RequestStop id) =
+    count_made b.tiles (settled b asked_to_stop) _ (count_settled b w asked_to_stop (λ t. omega arith))
 
 count_replayed : (b : BookValue) (es : List Entry) → posted_count (replayed b es).tiles ≤ posted_count b.tiles + length es
 count_replayed b [] = omega arith

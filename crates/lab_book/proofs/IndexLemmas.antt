@@ -1,5 +1,6 @@
 -- The places of ids and the numbers of tiles that wait and are leased.
-use Rattle.std.proofs.Common.{◌≡◌, ℕ, ◌+◌, ◌<◌, ◌≤◌, ◌==◌, Bool, true, false, cond, Some, None, List, [], ◌∷◌, ◌++◌, length, map, get_or, refl, sym, ap, ◌∙◌, subst, arith, eq-eqb, lt-ltb}
+use Rattle.std.proofs.Common.{◌≡◌, ℕ, ◌+◌, ◌<◌, ◌≤◌, ◌==◌, Bool, true, false, cond, Some, None, List, [], ◌∷◌, ◌++◌, length, map, get_or}
+use Rattle.std.proofs.Common.{refl, sym, ap, ◌∙◌, subst, arith, eq-eqb, lt-ltb}
 use Rattle.std.specs.Prelude.{count_by, slice_index}
 use Rattle.std.specs.List.{position}
 use Rattle.std.proofs.Math.ListN.{set}
@@ -16,21 +17,25 @@ use Rattle.lab_book.proofs.InsertLemmas.{with_two, places_two, count_two}
 use Rattle.lab_book.proofs.TilingLemmas.{ids_set}
 
 -- the first place that passes a test, where one does and none before it
-pub position_at : {X : Type 0} (p : X → Bool) (xs : List X) (i : ℕ) (d : X) → i < length xs → ((k : ℕ) → k < i → p (get_or xs k d) ≡ false) → p (get_or xs i d) ≡ true → position p xs ≡ Some i
+pub position_at : {X : Type 0} (p : X → Bool) (xs : List X) (i : ℕ) (d : X) → i < length xs → ((k : ℕ) → k < i → p (get_or xs k d) ≡ false)
+    → p (get_or xs i d) ≡ true → position p xs ≡ Some i
 position_at p xs i d l before here =
     let e = position_or_len_is p xs i d (omega arith) before (λ _. here) in
     rw e (rw (lt-ltb i (length xs) l) refl)
 
-position_none : {X : Type 0} (p : X → Bool) (xs : List X) (d : X) → ((k : ℕ) → k < length xs → p (get_or xs k d) ≡ false) → position p xs ≡ None
+position_none : {X : Type 0} (p : X → Bool) (xs : List X) (d : X) → ((k : ℕ) → k < length xs → p (get_or xs k d) ≡ false)
+    → position p xs ≡ None
 position_none p xs d each =
     let e = position_or_len_is p xs (length xs) d (omega arith) each (λ l. absurd (omega arith)) in
     rw e (rw (le-ltb (length xs) (length xs) (omega arith)) refl)
 
-pub placed : (places : List ℕ) (ts : List TileValue) (id : ℕ) → ArePlaces places ts → id < length places → Some (get_or places id 0) ≡ place_of id ts
+pub placed : (places : List ℕ) (ts : List TileValue) (id : ℕ) → ArePlaces places ts → id < length places
+    → Some (get_or places id 0) ≡ place_of id ts
 placed places ts id a l =
     let m : id < length ts = let e = a.long in omega arith in
     let t = a.tiles id m in
-    sym (position_at (λ (t : TileValue). t.id == id) ts (get_or places id 0) no_tile t.0 (λ k b. ne_eqb (tile_at ts k).id id (λ e. off k b e)) (eq-eqb (tile_at ts (get_or places id 0)).id id t.1))
+    sym (position_at (λ (t : TileValue). t.id == id) ts (get_or places id 0) no_tile t.0
+    (λ k b. ne_eqb (tile_at ts k).id id (λ e. off k b e)) (eq-eqb (tile_at ts (get_or places id 0)).id id t.1))
   where
     off : (k : ℕ) → k < get_or places id 0 → (tile_at ts k).id ≡ id → ⊥
     off k b e =
@@ -39,12 +44,14 @@ placed places ts id a l =
         let i = a.ids k (omega (arith, t.0)) in
         let f : get_or places id 0 ≡ k = subst (λ n. get_or places n 0 ≡ k) e i.1 in omega arith
 
-pub place_within : (places : List ℕ) (ts : List TileValue) (id : ℕ) → ArePlaces places ts → id < length places → get_or places id 0 < length ts
+pub place_within : (places : List ℕ) (ts : List TileValue) (id : ℕ) → ArePlaces places ts → id < length places
+    → get_or places id 0 < length ts
 place_within places ts id a l = (a.tiles id (let e = a.long in omega arith)).0
 
 pub unplaced : (places : List ℕ) (ts : List TileValue) (id : ℕ) → ArePlaces places ts → length places ≤ id → None ≡ place_of id ts
 unplaced places ts id a l =
-    sym (position_none (λ (t : TileValue). t.id == id) ts no_tile (λ k b. ne_eqb (tile_at ts k).id id (λ e. let i = a.ids k b in let m = a.long in omega (arith, i.0))))
+    sym (position_none (λ (t : TileValue). t.id == id) ts no_tile
+    (λ k b. ne_eqb (tile_at ts k).id id (λ e. let i = a.ids k b in let m = a.long in omega (arith, i.0))))
 
 -- what is kept tells that the ids are numbers, each once
 pub numbered : (places : List ℕ) (ts : List TileValue) → ArePlaces places ts → AreNumbered ts
@@ -53,7 +60,8 @@ numbered places ts a = record {
   once = λ i j k l e. sym (a.ids i k).1 ∙ ap (λ n. get_or places n 0) e ∙ (a.ids j l).1;
 }
 
-places_set : (places : List ℕ) (ts : List TileValue) (i : ℕ) (u : TileValue) → ArePlaces places ts → i < length ts → u.id ≡ (tile_at ts i).id → ArePlaces places (set ts i u)
+places_set : (places : List ℕ) (ts : List TileValue) (i : ℕ) (u : TileValue) → ArePlaces places ts → i < length ts
+    → u.id ≡ (tile_at ts i).id → ArePlaces places (set ts i u)
 places_set places ts i u a l e =
     let long = length-set ts i u in
     let same = ids_set ts i u l e in
@@ -63,11 +71,14 @@ places_set places ts i u a l e =
       tiles = λ id k. rw (same (slice_index places id), long) (a.tiles id (let m = long in omega arith));
     }
 
-recount : (f : TileValue → Bool) (ts : List TileValue) (i n m : ℕ) (u : TileValue) → i < length ts → n ≡ count_by f ts → m + cond (f (tile_at ts i)) 1 0 ≡ n + cond (f u) 1 0 → m ≡ count_by f (set ts i u)
+recount : (f : TileValue → Bool) (ts : List TileValue) (i n m : ℕ) (u : TileValue) → i < length ts → n ≡ count_by f ts
+    → m + cond (f (tile_at ts i)) 1 0 ≡ n + cond (f u) 1 0 → m ≡ count_by f (set ts i u)
 recount f ts i n m u l e h = let s = sum_by-set (λ t. cond (f t) 1 0) ts i u no_tile l in omega arith
 
-pub keeps_set : (ts : List TileValue) (places : List ℕ) (waiting leased waits lent i : ℕ) (u : TileValue) → KeepsTiles ts places waiting leased → i < length ts → u.id ≡ (tile_at ts i).id
-    → waits + cond (is_waiting (tile_at ts i).status) 1 0 ≡ waiting + cond (is_waiting u.status) 1 0 → lent + cond (is_leased (tile_at ts i).status) 1 0 ≡ leased + cond (is_leased u.status) 1 0
+pub keeps_set : (ts : List TileValue) (places : List ℕ) (waiting leased waits lent i : ℕ) (u : TileValue)
+    → KeepsTiles ts places waiting leased → i < length ts → u.id ≡ (tile_at ts i).id
+    → waits + cond (is_waiting (tile_at ts i).status) 1 0 ≡ waiting + cond (is_waiting u.status) 1 0
+    → lent + cond (is_leased (tile_at ts i).status) 1 0 ≡ leased + cond (is_leased u.status) 1 0
     → KeepsTiles (set ts i u) places waits lent
 keeps_set ts places waiting leased waits lent i u k l e a b = record {
   index = places_set places ts i u k.index l e;
@@ -76,9 +87,11 @@ keeps_set ts places waiting leased waits lent i u k l e a b = record {
 }
 
 -- the same where the tiles before and after are read
-pub keeps_settled : (ts : List TileValue) (places : List ℕ) (waiting leased waits lent i : ℕ) (t v u : TileValue) (s : Status) (stop a b c d : Bool) → KeepsTiles ts places waiting leased → i < length ts
+pub keeps_settled : (ts : List TileValue) (places : List ℕ) (waiting leased waits lent i : ℕ) (t v u : TileValue) (s : Status)
+    (stop a b c d : Bool) → KeepsTiles ts places waiting leased → i < length ts
     → t ≡ get_or ts i t → v ≡ get_or ts i v → u ≡ record v { status = s; stop = stop }
-    → a ≡ is_waiting t.status → b ≡ is_waiting s → waits + cond a 1 0 ≡ waiting + cond b 1 0 → c ≡ is_leased t.status → d ≡ is_leased s → lent + cond c 1 0 ≡ leased + cond d 1 0
+    → a ≡ is_waiting t.status → b ≡ is_waiting s → waits + cond a 1 0 ≡ waiting + cond b 1 0 → c ≡ is_leased t.status → d ≡ is_leased s
+    → lent + cond c 1 0 ≡ leased + cond d 1 0
     → KeepsTiles (set ts i u) places waits lent
 keeps_settled ts places waiting leased waits lent i t v u s stop a b c d k l et ev eu ea eb ew ec ed el =
     let old : t ≡ tile_at ts i = et ∙ get_or_default ts i t no_tile l in
@@ -87,7 +100,8 @@ keeps_settled ts places waiting leased waits lent i t v u s stop a b c d k l et 
     (rw (← old, eu, ← ea, ← eb) ew) (rw (← old, eu, ← ec, ← ed) el)
 
 -- a tile with the same id and status
-pub keeps_same : (ts : List TileValue) (places : List ℕ) (waiting leased i : ℕ) (t u : TileValue) → KeepsTiles ts places waiting leased → i < length ts → t ≡ get_or ts i t → u.id ≡ t.id → u.status ≡ t.status
+pub keeps_same : (ts : List TileValue) (places : List ℕ) (waiting leased i : ℕ) (t u : TileValue) → KeepsTiles ts places waiting leased
+    → i < length ts → t ≡ get_or ts i t → u.id ≡ t.id → u.status ≡ t.status
     → KeepsTiles (set ts i u) places waiting leased
 keeps_same ts places waiting leased i t u k l e a b =
     let old : t ≡ tile_at ts i = e ∙ get_or_default ts i t no_tile l in
@@ -95,8 +109,10 @@ keeps_same ts places waiting leased i t u k l e a b =
     keeps_set ts places waiting leased waiting leased i u k l (a ∙ ap (λ (t : TileValue). t.id) old) (rw same refl) (rw same refl)
 
 -- a tile is parted in two, and the second waits
-pub keeps_split : (ts us : List TileValue) (places moved : List ℕ) (waiting leased i n : ℕ) (t u r : TileValue) (cut : CutPath) → KeepsTiles ts places waiting leased → i < length ts
-    → t ≡ get_or ts i t → u ≡ head_tile t cut → n ≡ length ts → r ≡ tail_tile n t cut → us ≡ with_two ts i u r → moved ≡ map (moved_up i) places ++ (i + 1) ∷ []
+pub keeps_split : (ts us : List TileValue) (places moved : List ℕ) (waiting leased i n : ℕ) (t u r : TileValue) (cut : CutPath)
+    → KeepsTiles ts places waiting leased → i < length ts
+    → t ≡ get_or ts i t → u ≡ head_tile t cut → n ≡ length ts → r ≡ tail_tile n t cut → us ≡ with_two ts i u r
+    → moved ≡ map (moved_up i) places ++ (i + 1) ∷ []
     → KeepsTiles us moved (waiting + 1) leased
 keeps_split ts us places moved waiting leased i n t u r cut k l et eu en er es em =
     let old : t ≡ tile_at ts i = et ∙ get_or_default ts i t no_tile l in
@@ -116,7 +132,8 @@ keeps_split ts us places moved waiting leased i n t u r cut k l et eu en er es e
 pub count_within : (f : TileValue → Bool) (ts : List TileValue) (n : ℕ) → n ≡ count_by f ts → n ≤ length ts
 count_within f ts n e = let c = count_by-le-length f ts in omega arith
 
-pub count_some : (f : TileValue → Bool) (ts : List TileValue) (i n : ℕ) → f no_tile ≡ false → i < length ts → n ≡ count_by f ts → f (tile_at ts i) ≡ true → 0 < n
+pub count_some : (f : TileValue → Bool) (ts : List TileValue) (i n : ℕ) → f no_tile ≡ false → i < length ts → n ≡ count_by f ts
+    → f (tile_at ts i) ≡ true → 0 < n
 count_some f ts i n none l e h =
     let s = sum_by-set (λ t. cond (f t) 1 0) ts i no_tile no_tile l in
     let g : cond {A = ℕ} (f (tile_at ts i)) 1 0 ≡ 1 = ap {B = ℕ} (λ b. cond b 1 0) h in

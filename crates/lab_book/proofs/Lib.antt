@@ -3,6 +3,7 @@ pub mod TilingLemmas
 pub mod BookLemmas
 pub mod CallLemmas
 pub mod StepLemmas
+pub mod DoubtLemmas
 pub mod PostedLemmas
 pub mod InsertLemmas
 pub mod IndexLemmas

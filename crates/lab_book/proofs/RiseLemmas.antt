@@ -51,7 +51,10 @@ some_rise : (xs ys : List (List ℕ)) → AreSome xs ys → PathsRise ys → Pat
 unfolding AreSome
 some_rise [] ys h r = tt
 some_rise (x ∷ xs) [] h r = absurd h
-some_rise (x ∷ xs) (y ∷ ys) (inl h) r = (subst (λ (q : List ℕ). AllAfter q xs) (sym h.0) (some_after y xs ys h.1 r.0), some_rise xs ys h.1 r.1)
+some_rise (x ∷ xs) (y ∷ ys) (inl h) r = (
+  subst (λ (q : List ℕ). AllAfter q xs) (sym h.0) (some_after y xs ys h.1 r.0),
+  some_rise xs ys h.1 r.1,
+)
 some_rise (x ∷ xs) (y ∷ ys) (inr h) r = some_rise (x ∷ xs) ys h r.1
 
 -- ---- what was posted
@@ -67,17 +70,25 @@ module _ (p : ProblemValue) (t : TileValue) (i : IsTile p t) where
   mark_up = led_rank p t.first t.stretches i.joins first_fits
 
   tile_reach : Reaches p t.first (tile_end t)
-  tile_reach = record { from = first_fits; to = last_fits; up = let a = mark_up in let b = end_after p (mark_of t) (tile_end t) i.within in omega arith }
+  tile_reach = record {
+    from = first_fits;
+    to = last_fits;
+    up = let a = mark_up in let b = end_after p (mark_of t) (tile_end t) i.within in
+        omega arith;
+  }
 
   -- what a tile's stretches visit is visited from its first mark on
   tile_visits : visits_between p t.first (tile_end t) ≡ stretch_visits t.stretches ++ visits_between p (mark_of t) (tile_end t)
   tile_visits =
-      visits_between_join p t.first (mark_of t) (tile_end t) first_fits i.within.fits last_fits mark_up (end_after p (mark_of t) (tile_end t) i.within)
+      visits_between_join p t.first (mark_of t) (tile_end t) first_fits i.within.fits last_fits mark_up
+      (end_after p (mark_of t) (tile_end t) i.within)
       ∙ ap (λ vs. vs ++ visits_between p (mark_of t) (tile_end t)) (sym (joined_visits p t.first t.stretches i.joins first_fits))
 
-reach : (p : ProblemValue) (lo : Option CutPath) (first : StateValue) (ts : List TileValue) (hi : Option CutPath) → AreTiles p lo first ts hi → Reaches p first (end_of hi)
+reach : (p : ProblemValue) (lo : Option CutPath) (first : StateValue) (ts : List TileValue) (hi : Option CutPath)
+    → AreTiles p lo first ts hi → Reaches p first (end_of hi)
 reach p lo first [] hi a = absurd a
-reach p lo first (t ∷ []) hi a = subst (λ (x : StateValue × Option CutPath). Reaches p x.0 (end_of x.1)) (λ j. (a.1 j, a.3 j)) (tile_reach p t a.2)
+reach p lo first (t ∷ []) hi a = subst (λ (x : StateValue × Option CutPath). Reaches p x.0 (end_of x.1)) (λ j. (a.1 j, a.3 j))
+    (tile_reach p t a.2)
 reach p lo first (t ∷ u ∷ ts) hi a =
     let rest = reach p (Some a.3) (cut_state a.3.path) (u ∷ ts) hi a.5 in
     let here = subst (λ (x : StateValue × Option CutPath). Reaches p x.0 (end_of x.1)) (λ j. (a.1 j, a.4 j)) (tile_reach p t a.2) in
@@ -85,25 +96,33 @@ reach p lo first (t ∷ u ∷ ts) hi a =
     let c = rest.up in
     record { from = here.from; to = rest.to; up = omega arith }
 
-some_visits : (p : ProblemValue) (lo : Option CutPath) (first : StateValue) (ts : List TileValue) (hi : Option CutPath) → AreTiles p lo first ts hi → AreSome (posted_visits ts) (visits_between p first (end_of hi))
+some_visits : (p : ProblemValue) (lo : Option CutPath) (first : StateValue) (ts : List TileValue) (hi : Option CutPath)
+    → AreTiles p lo first ts hi → AreSome (posted_visits ts) (visits_between p first (end_of hi))
 some_visits p lo first [] hi a = absurd a
 some_visits p lo first (t ∷ []) hi a =
     subst (λ (x : StateValue × Option CutPath). AreSome (posted_visits (t ∷ [])) (visits_between p x.0 (end_of x.1))) (λ j. (a.1 j, a.3 j))
-    (rw (tile_visits p t a.2, flat_map-cons (λ (t : TileValue). stretch_visits t.stretches) t []) (some_join (stretch_visits t.stretches) [] _ (none_some _)))
+    (rw (tile_visits p t a.2, flat_map-cons (λ (t : TileValue). stretch_visits t.stretches) t [])
+    (some_join (stretch_visits t.stretches) [] _ (none_some _)))
 some_visits p lo first (t ∷ u ∷ ts) hi a =
     let rest = reach p (Some a.3) (cut_state a.3.path) (u ∷ ts) hi a.5 in
     let here = subst (λ (x : StateValue × Option CutPath). Reaches p x.0 (end_of x.1)) (λ j. (a.1 j, a.4 j)) (tile_reach p t a.2) in
     let visits : visits_between p first (cut_state a.3.path) ≡ stretch_visits t.stretches ++ visits_between p (mark_of t) (tile_end t) =
-    subst (λ (x : StateValue × Option CutPath). visits_between p x.0 (end_of x.1) ≡ stretch_visits t.stretches ++ visits_between p (mark_of t) (tile_end t)) (λ j. (a.1 j, a.4 j)) (tile_visits p t a.2) in
+    subst (λ (x : StateValue × Option CutPath). visits_between p x.0 (end_of x.1)
+    ≡ stretch_visits t.stretches ++ visits_between p (mark_of t) (tile_end t)) (λ j. (a.1 j, a.4 j)) (tile_visits p t a.2) in
     let all = visits_between_join p first (cut_state a.3.path) (end_of hi) here.from rest.from rest.to here.up rest.up
     ∙ ap (λ vs. vs ++ visits_between p (cut_state a.3.path) (end_of hi)) visits
-    ∙ append_assoc (stretch_visits t.stretches) (visits_between p (mark_of t) (tile_end t)) (visits_between p (cut_state a.3.path) (end_of hi)) in
+    ∙ append_assoc (stretch_visits t.stretches) (visits_between p (mark_of t) (tile_end t))
+    (visits_between p (cut_state a.3.path) (end_of hi)) in
     rw (all, flat_map-cons (λ (t : TileValue). stretch_visits t.stretches) t (u ∷ ts))
-    (some_join (stretch_visits t.stretches) (posted_visits (u ∷ ts)) _ (some_behind (posted_visits (u ∷ ts)) (visits_between p (mark_of t) (tile_end t)) _ (some_visits p (Some a.3) (cut_state a.3.path) (u ∷ ts) hi a.5)))
+    (some_join (stretch_visits t.stretches) (posted_visits (u ∷ ts)) _
+    (some_behind (posted_visits (u ∷ ts)) (visits_between p (mark_of t) (tile_end t)) _
+    (some_visits p (Some a.3) (cut_state a.3.path) (u ∷ ts) hi a.5)))
 
-pub posted_rise : (p : ProblemValue) (lo : Option CutPath) (first : StateValue) (ts : List TileValue) (hi : Option CutPath) → AreTiles p lo first ts hi → PathsRise (posted_visits ts)
+pub posted_rise : (p : ProblemValue) (lo : Option CutPath) (first : StateValue) (ts : List TileValue) (hi : Option CutPath)
+    → AreTiles p lo first ts hi → PathsRise (posted_visits ts)
 unfolding visits_between
 posted_rise p lo first ts hi a =
     let r = reach p lo first ts hi a in
     let n = leads_to p first (end_of hi) r.from r.to r.up in
-    some_rise (posted_visits ts) (visits_between p first (end_of hi)) (some_visits p lo first ts hi a) (visits_rise_from p (steps_between p first (end_of hi)) first r.from n.goes_on)
+    some_rise (posted_visits ts) (visits_between p first (end_of hi)) (some_visits p lo first ts hi a)
+    (visits_rise_from p (steps_between p first (end_of hi)) first r.from n.goes_on)

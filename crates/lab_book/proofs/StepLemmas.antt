@@ -1,13 +1,13 @@
 -- What a book keeps when a call is entered.
-use Rattle.std.proofs.Common.{◌≡◌, ℕ, ◌+◌, ◌-◌, ◌<◌, ◌⊎◌, ◌==◌, Bool, true, false, not, cond, Option, Some, None, List, [], ◌∷◌, ◌++◌, length, take, refl, sym, ap, ◌∙◌, subst, inl, inr, arith, Ordering, Less}
-use Rattle.std.specs.Prelude.{IfSome, ◌↔◌, IsTrue}
+use Rattle.std.proofs.Common.{◌≡◌, ℕ, ◌+◌, ◌-◌, ◌<◌, ◌⊎◌, Bool, true, false, not, cond, Option, Some, None, List, [], ◌∷◌, ◌++◌}
+use Rattle.std.proofs.Common.{length, take, refl, sym, ap, ◌∙◌, subst, inl, inr, arith}
+use Rattle.std.specs.Prelude.{IfSome}
 use Rattle.std.proofs.Math.ListN.{set}
 use Rattle.std.proofs.lemmas.Bool.{false≢true}
 use Rattle.std.proofs.lemmas.List.{get_or-set_same}
 use Rattle.std.proofs.lemmas.List.Sums.{sum_by-set}
 use Rattle.std.proofs.lemmas.List.Quantifiers.{position-Some}
-use Rattle.cover_problem.specs.Problem.{ProblemValue, is_same}
-use Rattle.cover_problem.proofs.ProblemLemmas.{is_same_decides}
+use Rattle.cover_problem.specs.Problem.{ProblemValue}
 use Rattle.x_steps.specs.declared.state.Label.TheVariants.{X1, Done}
 use Rattle.x_steps.specs.StateValue.{StateValue, start, done}
 use Rattle.x_steps.specs.Steps.{Fits}
@@ -15,17 +15,17 @@ use Rattle.x_steps.proofs.RunLemmas.{start_fits, done_fits, start_first}
 use Rattle.x_branches.specs.declared.branch.Branch.{Branch}
 use Rattle.x_branches.specs.Cut.{CutPath, IsCut}
 use Rattle.x_branches.specs.Branch.{first_of, end_of}
-use Rattle.x_branches.specs.RunOrder.{ComesBefore, comes_before}
+use Rattle.x_branches.specs.RunOrder.{comes_before}
 use Rattle.x_branches.specs.Stretch.{StretchValue, IsStretch}
 use Rattle.x_branches.specs.Runner.{IsOf}
 use Rattle.x_branches.specs.Refusals.{CanStart}
-use Rattle.x_branches.proofs.CutLemmas.{cut_fits, test_is_order}
+use Rattle.x_branches.proofs.CutLemmas.{cut_fits}
 use Rattle.x_branches.proofs.StageLemmas.{rank_comes}
 use Rattle.x_branches.proofs.RunnerLemmas.{not_before, before_not, other_before}
 use Rattle.lab_book.specs.declared.status.Status.{Status}
 use Rattle.lab_book.specs.declared.status.Status.TheVariants as status
 use Rattle.lab_book.specs.declared.fault.BookFault.{BookFault}
-use Rattle.lab_book.specs.declared.fault.BookFault.TheVariants.{OutOfMemory, StaleLease, BeyondEnd, NotAtEnd}
+use Rattle.lab_book.specs.declared.fault.BookFault.TheVariants.{OutOfMemory, StaleLease, BeyondEnd}
 use Rattle.lab_book.specs.declared.entry.Call.{Call}
 use Rattle.lab_book.specs.declared.entry.Reply.{Reply}
 use Rattle.lab_book.specs.declared.entry.Reply.TheVariants as reply
@@ -33,23 +33,33 @@ use Rattle.lab_book.specs.declared.entry.Entry.{Entry}
 use Rattle.lab_book.specs.States.{same_state}
 use Rattle.lab_book.specs.Tile.{TileValue, IsTile, Stands, is_waiting, is_leased, is_closed, is_free, asked_status, mark_of, tile_end}
 use Rattle.lab_book.specs.Tiling.{IsTiling, no_tile, tile_at}
-use Rattle.lab_book.specs.Book.{BookValue, HistoryValue, outcome, whole_tile, opened, leased_in, waiting_in, path_of, lent, lent_tile, posted, posted_tile, settled, refused, stretch_fault, end_fault, else_fault, first_waiting, KeepsBook, Outcome, stretches_to, put_back, last_of, retracted, retract_fault}
-use Rattle.lab_book.specs.Calls.{Made, Doubted}
-use Rattle.lab_book.proofs.TileLemmas.{stretch_by, end_fits, posted_is_tile, settled_is_tile, tile_can_start, same_state_is, tested, last_problem, last_some}
+use Rattle.lab_book.specs.Book.{BookValue, HistoryValue, outcome, whole_tile, opened, leased_in, waiting_in, path_of, lent, lent_tile}
+use Rattle.lab_book.specs.Book.{posted, posted_tile, settled, refused, stretch_fault, else_fault, first_waiting, KeepsBook}
+use Rattle.lab_book.specs.Book.{Outcome, stretches_to, put_back, last_of, retracted}
+use Rattle.lab_book.specs.Calls.{Made}
+use Rattle.lab_book.proofs.TileLemmas.{stretch_by, posted_is_tile, settled_is_tile, tile_can_start, same_state_is}
+use Rattle.lab_book.proofs.TileLemmas.{last_problem}
 use Rattle.lab_book.proofs.TilingLemmas.{tile_in, tiling_set}
 use Rattle.lab_book.proofs.BookLemmas.{made_by, kept_by}
 
+-- a book in its parts
+abbrev pub with_history : ProblemValue → Branch → StateValue → List TileValue → List Entry → BookValue
+with_history p b s ts h = record { problem = p; branch = b; first = s; tiles = ts; history = h }
+
 -- ---- a new book
 
-pub first_fits : (p : ProblemValue) (lo : Option CutPath) → IsOf p lo → IfSome lo (λ (c : CutPath). IsCut c.problem c.path) → Fits p (first_of lo)
+pub first_fits : (p : ProblemValue) (lo : Option CutPath) → IsOf p lo → IfSome lo (λ (c : CutPath). IsCut c.problem c.path)
+    → Fits p (first_of lo)
 first_fits p None o c = start_fits p
 first_fits p (Some cut) o c = cut_fits p cut.path (subst (λ (q : ProblemValue). IsCut q cut.path) o c)
 
-pub last_fits : (p : ProblemValue) (hi : Option CutPath) → IsOf p hi → IfSome hi (λ (c : CutPath). IsCut c.problem c.path) → Fits p (end_of hi)
+pub last_fits : (p : ProblemValue) (hi : Option CutPath) → IsOf p hi → IfSome hi (λ (c : CutPath). IsCut c.problem c.path)
+    → Fits p (end_of hi)
 last_fits p None o c = done_fits p
 last_fits p (Some cut) o c = cut_fits p cut.path (subst (λ (q : ProblemValue). IsCut q cut.path) o c)
 
-whole_is_tile : (p : ProblemValue) (b : Branch) (s : StateValue) → CanStart p b s → Fits p (first_of b.lo) → Fits p (end_of b.hi) → IsTile p (whole_tile b s)
+whole_is_tile : (p : ProblemValue) (b : Branch) (s : StateValue) → CanStart p b s → Fits p (first_of b.lo) → Fits p (end_of b.hi)
+    → IsTile p (whole_tile b s)
 whole_is_tile p b s c f g = record {
   branch = c.branch;
   begins = stretch_by p (first_of b.lo) s f c.fits (not_before p s (first_of b.lo) c.fits f c.within.begun);
@@ -58,7 +68,8 @@ whole_is_tile p b s c f g = record {
   stands = refl;
 }
 
-whole_keeps : (p : ProblemValue) (b : Branch) (s : StateValue) → CanStart p b s → Fits p (first_of b.lo) → Fits p (end_of b.hi) → KeepsBook (opened p b s) 0
+whole_keeps : (p : ProblemValue) (b : Branch) (s : StateValue) → CanStart p b s → Fits p (first_of b.lo) → Fits p (end_of b.hi)
+    → KeepsBook (opened p b s) 0
 whole_keeps p b s c f g = record {
   sound = record {
     tiling = record {
@@ -74,14 +85,17 @@ whole_keeps p b s c f g = record {
     one i l = let e : i ≡ 0 = omega arith in rw e (omega arith)
 
 -- the same where its parts were copied
-pub opened_keeps : (p : ProblemValue) (b whole : Branch) (s first : StateValue) (ts : List TileValue) (h : HistoryValue) → CanStart p b s → IfSome b.lo (λ (c : CutPath). IsCut c.problem c.path) → IfSome b.hi (λ (c : CutPath). IsCut c.problem c.path)
-    → whole ≡ b → first ≡ s → ts ≡ whole_tile b s ∷ [] → h ≡ record { entries = []; kept = 0 } → KeepsBook (record { problem = p; branch = whole; first = first; tiles = ts; history = h.entries }) h.kept
+pub opened_keeps : (p : ProblemValue) (b whole : Branch) (s first : StateValue) (ts : List TileValue) (h : HistoryValue) → CanStart p b s
+    → IfSome b.lo (λ (c : CutPath). IsCut c.problem c.path) → IfSome b.hi (λ (c : CutPath). IsCut c.problem c.path)
+    → whole ≡ b → first ≡ s → ts ≡ whole_tile b s ∷ [] → h ≡ record { entries = []; kept = 0 }
+    → KeepsBook (with_history p whole first ts h.entries) h.kept
 opened_keeps p b whole s first ts h c lo hi eb es et eh =
     rw (eb, es, et, eh) (whole_keeps p b s c (first_fits p b.lo c.branch.low lo) (last_fits p b.hi c.branch.high hi))
 
 pub whole_run : (p : ProblemValue) → CanStart p (record { lo = None; hi = None }) start
 whole_run p =
-    let l = other_before p start done (start_fits p) (done_fits p) (start_first p done (done_fits p)) (λ e. let h : X1 ≡ Done = ap (λ (s : StateValue). s.label) e in absurd (cc)) in
+    let l = other_before p start done (start_fits p) (done_fits p) (start_first p done (done_fits p))
+    (λ e. let h : X1 ≡ Done = ap (λ (s : StateValue). s.label) e in absurd (cc)) in
     record {
       fits = start_fits p;
       branch = record { low = tt; high = tt; order = rank_comes p start done (start_fits p) (done_fits p) l };
@@ -93,10 +107,8 @@ whole_run p =
 
 -- ---- entries
 
-abbrev with_history : ProblemValue → Branch → StateValue → List TileValue → List Entry → BookValue
-with_history p b s ts h = record { problem = p; branch = b; first = s; tiles = ts; history = h }
-
-module _ (old mid new : HistoryValue) (e : Entry) (n : ℕ) (kept : mid ≡ record old { kept = old.kept + n }) (added : new ≡ record { entries = mid.entries ++ e ∷ []; kept = mid.kept - 1 }) (some : 0 < old.kept + n) where
+module _ (old mid new : HistoryValue) (e : Entry) (n : ℕ) (kept : mid ≡ record old { kept = old.kept + n })
+    (added : new ≡ record { entries = mid.entries ++ e ∷ []; kept = mid.kept - 1 }) (some : 0 < old.kept + n) where
   pub entries_are : new.entries ≡ old.entries ++ e ∷ []
   entries_are = ap (λ (h : HistoryValue). h.entries) added ∙ ap (λ (h : HistoryValue). h.entries ++ e ∷ []) kept
 
@@ -105,39 +117,52 @@ module _ (old mid new : HistoryValue) (e : Entry) (n : ℕ) (kept : mid ≡ reco
       let a = ap (λ (h : HistoryValue). h.kept) kept in
       let b = ap (λ (h : HistoryValue). h.kept) added in omega arith
 
-module _ (p : ProblemValue) (b : Branch) (s : StateValue) (ts : List TileValue) (old mid new : HistoryValue) (keeps : KeepsBook (record { problem = p; branch = b; first = s; tiles = ts; history = old.entries }) old.kept) (w : ℕ) (c : Call) where
+module _ (p : ProblemValue) (b : Branch) (s : StateValue) (ts : List TileValue) (old mid new : HistoryValue)
+    (keeps : KeepsBook (with_history p b s ts old.entries) old.kept) (w : ℕ) (c : Call) where
   -- a refusal is entered
-  pub refuse_keeps : (f copy : BookFault) → (f ≡ OutOfMemory) ⊎ (outcome (record { problem = p; branch = b; first = s; tiles = ts; history = old.entries }) w c ≡ refused ts f) → (f ≡ OutOfMemory → ⊥) → copy ≡ f → mid ≡ record old { kept = old.kept + 1 } → new ≡ record { entries = mid.entries ++ record { worker = w; call = c; reply = reply.Refused copy } ∷ []; kept = mid.kept - 1 }
-      → KeepsBook (record { problem = p; branch = b; first = s; tiles = ts; history = new.entries }) new.kept
+  pub refuse_keeps : (f copy : BookFault) → (f ≡ OutOfMemory) ⊎ (outcome (with_history p b s ts old.entries) w c ≡ refused ts f)
+      → (f ≡ OutOfMemory → ⊥) → copy ≡ f → mid ≡ record old { kept = old.kept + 1 }
+      → new ≡ record { entries = mid.entries ++ record { worker = w; call = c; reply = reply.Refused copy } ∷ []; kept = mid.kept - 1 }
+      → KeepsBook (with_history p b s ts new.entries) new.kept
   refuse_keeps f copy (inl o) h e k a = absurd (h o)
   refuse_keeps f copy (inr o) h e k a =
       let r = room_is old mid new _ 1 k a (omega arith) in
       let m = keeps.room in
-      kept_by _ w c (reply.Refused copy) (refused ts f) ts new.entries o (ap reply.Refused e) refl (entries_are old mid new _ 1 k a (omega arith)) old.kept new.kept keeps keeps.sound.tiling (omega arith)
+      kept_by _ w c (reply.Refused copy) (refused ts f) ts new.entries o (ap reply.Refused e) refl
+      (entries_are old mid new _ 1 k a (omega arith)) old.kept new.kept keeps keeps.sound.tiling (omega arith)
 
   -- that none waits is entered
-  pub none_keeps : outcome (record { problem = p; branch = b; first = s; tiles = ts; history = old.entries }) w c ≡ record { reply = reply.NoneWaits; tiles = ts } → mid ≡ record old { kept = old.kept + 1 } → new ≡ record { entries = mid.entries ++ record { worker = w; call = c; reply = reply.NoneWaits } ∷ []; kept = mid.kept - 1 }
-      → KeepsBook (record { problem = p; branch = b; first = s; tiles = ts; history = new.entries }) new.kept
+  pub none_keeps : outcome (with_history p b s ts old.entries) w c ≡ record { reply = reply.NoneWaits; tiles = ts }
+      → mid ≡ record old { kept = old.kept + 1 }
+      → new ≡ record { entries = mid.entries ++ record { worker = w; call = c; reply = reply.NoneWaits } ∷ []; kept = mid.kept - 1 }
+      → KeepsBook (with_history p b s ts new.entries) new.kept
   none_keeps o k a =
       let r = room_is old mid new _ 1 k a (omega arith) in
       let m = keeps.room in
-      kept_by _ w c reply.NoneWaits (record { reply = reply.NoneWaits; tiles = ts }) ts new.entries o refl refl (entries_are old mid new _ 1 k a (omega arith)) old.kept new.kept keeps keeps.sound.tiling (omega arith)
+      kept_by _ w c reply.NoneWaits (record { reply = reply.NoneWaits; tiles = ts }) ts new.entries o refl refl
+      (entries_are old mid new _ 1 k a (omega arith)) old.kept new.kept keeps keeps.sound.tiling (omega arith)
 
-  pub none_made : outcome (record { problem = p; branch = b; first = s; tiles = ts; history = old.entries }) w c ≡ record { reply = reply.NoneWaits; tiles = ts } → mid ≡ record old { kept = old.kept + 1 } → new ≡ record { entries = mid.entries ++ record { worker = w; call = c; reply = reply.NoneWaits } ∷ []; kept = mid.kept - 1 }
-      → Made (record { problem = p; branch = b; first = s; tiles = ts; history = old.entries }) (record { problem = p; branch = b; first = s; tiles = ts; history = new.entries }) w c reply.NoneWaits
-  none_made o k a = made_by _ w c reply.NoneWaits (record { reply = reply.NoneWaits; tiles = ts }) ts new.entries o refl refl (entries_are old mid new _ 1 k a (omega arith))
+  pub none_made : outcome (with_history p b s ts old.entries) w c ≡ record { reply = reply.NoneWaits; tiles = ts }
+      → mid ≡ record old { kept = old.kept + 1 }
+      → new ≡ record { entries = mid.entries ++ record { worker = w; call = c; reply = reply.NoneWaits } ∷ []; kept = mid.kept - 1 }
+      → Made (with_history p b s ts old.entries) (with_history p b s ts new.entries) w c reply.NoneWaits
+  none_made o k a = made_by _ w c reply.NoneWaits (record { reply = reply.NoneWaits; tiles = ts }) ts new.entries o refl refl
+      (entries_are old mid new _ 1 k a (omega arith))
 
   module _ (i : ℕ) (within : i < length ts) where
-    leased_set : (u : TileValue) → leased_in (set ts i u) + cond (is_leased (tile_at ts i).status) 1 0 ≡ leased_in ts + cond (is_leased u.status) 1 0
+    leased_set : (u : TileValue) → leased_in (set ts i u) + cond (is_leased (tile_at ts i).status) 1 0
+        ≡ leased_in ts + cond (is_leased u.status) 1 0
     leased_set u = sum_by-set (λ (t : TileValue). cond (is_leased t.status) 1 0) ts i u no_tile within
 
-    lent_is : (u : TileValue) → is_leased u.status ≡ true → is_leased (tile_at ts i).status ≡ false → leased_in (set ts i u) ≡ leased_in ts + 1
+    lent_is : (u : TileValue) → is_leased u.status ≡ true → is_leased (tile_at ts i).status ≡ false
+        → leased_in (set ts i u) ≡ leased_in ts + 1
     lent_is u e f =
         let l = leased_set u in
         let g : cond {A = ℕ} (is_leased (tile_at ts i).status) 1 0 ≡ 0 = ap {B = ℕ} (λ b. cond b 1 0) f in
         let h : cond {A = ℕ} (is_leased u.status) 1 0 ≡ 1 = ap {B = ℕ} (λ b. cond b 1 0) e in omega arith
 
-    ended_is : (u : TileValue) → is_leased u.status ≡ false → is_leased (tile_at ts i).status ≡ true → leased_in (set ts i u) + 1 ≡ leased_in ts
+    ended_is : (u : TileValue) → is_leased u.status ≡ false → is_leased (tile_at ts i).status ≡ true
+        → leased_in (set ts i u) + 1 ≡ leased_in ts
     ended_is u e f =
         let l = leased_set u in
         let g : cond {A = ℕ} (is_leased (tile_at ts i).status) 1 0 ≡ 1 = ap {B = ℕ} (λ b. cond b 1 0) f in
@@ -146,14 +171,18 @@ module _ (p : ProblemValue) (b : Branch) (s : StateValue) (ts : List TileValue) 
     same_is : (u : TileValue) → u.status ≡ (tile_at ts i).status → leased_in (set ts i u) ≡ leased_in ts
     same_is u e =
         let l = leased_set u in
-        let g : cond {A = ℕ} (is_leased u.status) 1 0 ≡ cond {A = ℕ} (is_leased (tile_at ts i).status) 1 0 = ap {B = ℕ} (λ s. cond (is_leased s) 1 0) e in omega arith
+        let g : cond {A = ℕ} (is_leased u.status) 1 0
+        ≡ cond {A = ℕ} (is_leased (tile_at ts i).status) 1 0 = ap {B = ℕ} (λ s. cond (is_leased s) 1 0) e in omega arith
 
     -- a tile is leased
-    pub lend_keeps : (index n : ℕ) (r : Reply) (after : List TileValue) → outcome (record { problem = p; branch = b; first = s; tiles = ts; history = old.entries }) w c ≡ lent (record { problem = p; branch = b; first = s; tiles = ts; history = old.entries }) w i
-        → is_leased (tile_at ts i).status ≡ false → mid ≡ record old { kept = old.kept + 2 } → index ≡ length mid.entries → after ≡ set ts i (record (tile_at ts i) { status = status.Leased w index; stop = false })
-        → r ≡ reply.Leased (record { id = (tile_at ts i).id; worker = w; index = index }) (path_of (tile_at ts i).branch.lo) (path_of (tile_at ts i).branch.hi) (mark_of (tile_at ts i)) (waiting_in after)
+    pub lend_keeps : (index n : ℕ) (r : Reply) (after : List TileValue)
+        → outcome (with_history p b s ts old.entries) w c ≡ lent (with_history p b s ts old.entries) w i
+        → is_leased (tile_at ts i).status ≡ false → mid ≡ record old { kept = old.kept + 2 } → index ≡ length mid.entries
+        → after ≡ set ts i (record (tile_at ts i) { status = status.Leased w index; stop = false })
+        → r ≡ reply.Leased (record { id = (tile_at ts i).id; worker = w; index = index }) (path_of (tile_at ts i).branch.lo)
+        (path_of (tile_at ts i).branch.hi) (mark_of (tile_at ts i)) (waiting_in after)
         → new ≡ record { entries = mid.entries ++ record { worker = w; call = c; reply = r } ∷ []; kept = mid.kept - 1 }
-        → KeepsBook (record { problem = p; branch = b; first = s; tiles = after; history = new.entries }) new.kept
+        → KeepsBook (with_history p b s after new.entries) new.kept
     lend_keeps index n r after o free k len t e a =
         let r1 = room_is old mid new _ 2 k a (omega arith) in
         let m = keeps.room in
@@ -162,22 +191,28 @@ module _ (p : ProblemValue) (b : Branch) (s : StateValue) (ts : List TileValue) 
         let t2 : after ≡ set ts i (lent_tile (tile_at ts i) w (length old.entries)) = t ∙ rw here refl in
         let l = lent_is (lent_tile (tile_at ts i) w (length old.entries)) refl free in
         let l2 = ap leased_in t2 in
-        kept_by _ w c r (lent (with_history p b s ts old.entries) w i) after new.entries o (e ∙ rw (t2, here) refl) t2 (entries_are old mid new _ 2 k a (omega arith)) old.kept new.kept keeps
-        (tiling_set p b s ts i (lent_tile (tile_at ts i) w (length old.entries)) keeps.sound.tiling within refl refl refl (λ h. settled_is_tile p (tile_at ts i) (status.Leased w (length old.entries)) false h tt)) (omega arith)
+        kept_by _ w c r (lent (with_history p b s ts old.entries) w i) after new.entries o (e ∙ rw (t2, here) refl) t2
+        (entries_are old mid new _ 2 k a (omega arith)) old.kept new.kept keeps
+        (tiling_set p b s ts i (lent_tile (tile_at ts i) w (length old.entries)) keeps.sound.tiling within refl refl refl
+        (λ h. settled_is_tile p (tile_at ts i) (status.Leased w (length old.entries)) false h tt)) (omega arith)
 
     -- a lease ends
-    pub settle_keeps : (st : Status) (stop : Bool) (after : List TileValue) → outcome (record { problem = p; branch = b; first = s; tiles = ts; history = old.entries }) w c ≡ settled (record { problem = p; branch = b; first = s; tiles = ts; history = old.entries }) (λ t. record t { status = st }) i
-        → is_leased (tile_at ts i).status ≡ true → is_leased st ≡ false → Stands st (tile_at ts i) → stop ≡ (tile_at ts i).stop → after ≡ set ts i (record (tile_at ts i) { status = st; stop = stop })
+    pub settle_keeps : (st : Status) (stop : Bool) (after : List TileValue)
+        → outcome (with_history p b s ts old.entries) w c ≡ settled (with_history p b s ts old.entries) (λ t. record t { status = st }) i
+        → is_leased (tile_at ts i).status ≡ true → is_leased st ≡ false → Stands st (tile_at ts i) → stop ≡ (tile_at ts i).stop
+        → after ≡ set ts i (record (tile_at ts i) { status = st; stop = stop })
         → new ≡ record { entries = old.entries ++ record { worker = w; call = c; reply = reply.Done } ∷ []; kept = old.kept - 1 }
-        → KeepsBook (record { problem = p; branch = b; first = s; tiles = after; history = new.entries }) new.kept
+        → KeepsBook (with_history p b s after new.entries) new.kept
     settle_keeps st stop after o leased ends stands es t a =
         let m = keeps.room in
         let t2 : after ≡ set ts i (record (tile_at ts i) { status = st }) = t ∙ rw es refl in
         let l = ended_is (record (tile_at ts i) { status = st }) ends leased in
         let l2 = ap leased_in t2 in
         let n = ap (λ (h : HistoryValue). h.kept) a in
-        kept_by _ w c reply.Done (settled (with_history p b s ts old.entries) (λ t. record t { status = st }) i) after new.entries o refl t2 (ap (λ (h : HistoryValue). h.entries) a) old.kept new.kept keeps
-        (tiling_set p b s ts i (record (tile_at ts i) { status = st }) keeps.sound.tiling within refl refl refl (λ h. settled_is_tile p (tile_at ts i) st (tile_at ts i).stop h (stands_so st (tile_at ts i) stands))) (omega arith)
+        kept_by _ w c reply.Done (settled (with_history p b s ts old.entries) (λ t. record t { status = st }) i) after new.entries o refl t2
+        (ap (λ (h : HistoryValue). h.entries) a) old.kept new.kept keeps
+        (tiling_set p b s ts i (record (tile_at ts i) { status = st }) keeps.sound.tiling within refl refl refl
+        (λ h. settled_is_tile p (tile_at ts i) st (tile_at ts i).stop h (stands_so st (tile_at ts i) stands))) (omega arith)
       where
         stands_so : (st : Status) (t : TileValue) → Stands st t → Stands st (record t { status = st })
         stands_so status.Waiting t h = h
@@ -186,44 +221,61 @@ module _ (p : ProblemValue) (b : Branch) (s : StateValue) (ts : List TileValue) 
         stands_so status.Closed t h = h
 
     -- a tile changes, and is leased still or isn't
-    pub change_keeps : (u : TileValue) (r : Reply) (o : Outcome) (after : List TileValue) → outcome (record { problem = p; branch = b; first = s; tiles = ts; history = old.entries }) w c ≡ o → r ≡ o.reply → o.tiles ≡ set ts i u → after ≡ set ts i u
-        → u.id ≡ (tile_at ts i).id → u.branch ≡ (tile_at ts i).branch → u.first ≡ (tile_at ts i).first → is_leased u.status ≡ is_leased (tile_at ts i).status → (IsTile p (tile_at ts i) → IsTile p u)
-        → mid ≡ record old { kept = old.kept + 1 } → new ≡ record { entries = mid.entries ++ record { worker = w; call = c; reply = r } ∷ []; kept = mid.kept - 1 }
-        → KeepsBook (record { problem = p; branch = b; first = s; tiles = after; history = new.entries }) new.kept
+    pub change_keeps : (u : TileValue) (r : Reply) (o : Outcome) (after : List TileValue)
+        → outcome (with_history p b s ts old.entries) w c ≡ o → r ≡ o.reply → o.tiles ≡ set ts i u → after ≡ set ts i u
+        → u.id ≡ (tile_at ts i).id → u.branch ≡ (tile_at ts i).branch → u.first ≡ (tile_at ts i).first
+        → is_leased u.status ≡ is_leased (tile_at ts i).status → (IsTile p (tile_at ts i) → IsTile p u)
+        → mid ≡ record old { kept = old.kept + 1 }
+        → new ≡ record { entries = mid.entries ++ record { worker = w; call = c; reply = r } ∷ []; kept = mid.kept - 1 }
+        → KeepsBook (with_history p b s after new.entries) new.kept
     change_keeps u r o after is er eo et ei eb ef el tile k a =
         let room = room_is old mid new _ 1 k a (omega arith) in
         let m = keeps.room in
         let l = leased_set u in
-        let g : cond {A = ℕ} (is_leased u.status) 1 0 ≡ cond {A = ℕ} (is_leased (tile_at ts i).status) 1 0 = ap {B = ℕ} (λ b. cond b 1 0) el in
+        let g : cond {A = ℕ} (is_leased u.status) 1 0
+        ≡ cond {A = ℕ} (is_leased (tile_at ts i).status) 1 0 = ap {B = ℕ} (λ b. cond b 1 0) el in
         let n = ap leased_in et in
         kept_by _ w c r o after new.entries is er (et ∙ sym eo) (entries_are old mid new _ 1 k a (omega arith)) old.kept new.kept keeps
         (subst (IsTiling p b s) (sym eo) (tiling_set p b s ts i u keeps.sound.tiling within ei eb ef tile)) (omega arith)
 
-    pub change_made : (u : TileValue) (r : Reply) (o : Outcome) (after : List TileValue) → outcome (record { problem = p; branch = b; first = s; tiles = ts; history = old.entries }) w c ≡ o → r ≡ o.reply → o.tiles ≡ set ts i u → after ≡ set ts i u
-        → mid ≡ record old { kept = old.kept + 1 } → new ≡ record { entries = mid.entries ++ record { worker = w; call = c; reply = r } ∷ []; kept = mid.kept - 1 }
-        → Made (record { problem = p; branch = b; first = s; tiles = ts; history = old.entries }) (record { problem = p; branch = b; first = s; tiles = after; history = new.entries }) w c r
-    change_made u r o after is er eo et k a = made_by _ w c r o after new.entries is er (et ∙ sym eo) (entries_are old mid new _ 1 k a (omega arith))
+    pub change_made : (u : TileValue) (r : Reply) (o : Outcome) (after : List TileValue)
+        → outcome (with_history p b s ts old.entries) w c ≡ o → r ≡ o.reply → o.tiles ≡ set ts i u → after ≡ set ts i u
+        → mid ≡ record old { kept = old.kept + 1 }
+        → new ≡ record { entries = mid.entries ++ record { worker = w; call = c; reply = r } ∷ []; kept = mid.kept - 1 }
+        → Made (with_history p b s ts old.entries) (with_history p b s after new.entries) w c r
+    change_made u r o after is er eo et k a =
+        made_by _ w c r o after new.entries is er (et ∙ sym eo) (entries_are old mid new _ 1 k a (omega arith))
 
     -- a stretch is posted
-    pub post_keeps : (x : StretchValue) (stop : Bool) (n : ℕ) (after : List TileValue) → outcome (record { problem = p; branch = b; first = s; tiles = ts; history = old.entries }) w c ≡ posted (record { problem = p; branch = b; first = s; tiles = ts; history = old.entries }) x.from x.to i
-        → is_leased (tile_at ts i).status ≡ true → x.problem ≡ p → IsStretch x.problem x.from x.to → stretch_fault p x.from x.to true (tile_at ts i) ≡ None
-        → mid ≡ record old { kept = old.kept + 1 } → after ≡ set ts i (posted_tile (tile_at ts i) x) → stop ≡ (tile_at after i).stop → n ≡ waiting_in after
+    pub post_keeps : (x : StretchValue) (stop : Bool) (n : ℕ) (after : List TileValue)
+        → outcome (with_history p b s ts old.entries) w c ≡ posted (with_history p b s ts old.entries) x.from x.to i
+        → is_leased (tile_at ts i).status ≡ true → x.problem ≡ p → IsStretch x.problem x.from x.to
+        → stretch_fault p x.from x.to true (tile_at ts i) ≡ None
+        → mid ≡ record old { kept = old.kept + 1 } → after ≡ set ts i (posted_tile (tile_at ts i) x) → stop ≡ (tile_at after i).stop
+        → n ≡ waiting_in after
         → new ≡ record { entries = mid.entries ++ record { worker = w; call = c; reply = reply.Posted stop n } ∷ []; kept = mid.kept - 1 }
-        → KeepsBook (record { problem = p; branch = b; first = s; tiles = after; history = new.entries }) new.kept
+        → KeepsBook (with_history p b s after new.entries) new.kept
     post_keeps x stop n after o leased ep part fine k t es en a =
         let r = room_is old mid new _ 1 k a (omega arith) in
         let m = keeps.room in
         let ex : x ≡ record { problem = p; from = x.from; to = x.to } = λ j. record { problem = ep j; from = x.from; to = x.to } in
-        let t2 : after ≡ set ts i (posted_tile (tile_at ts i) (record { problem = p; from = x.from; to = x.to })) = t ∙ ap (λ (y : StretchValue). set ts i (posted_tile (tile_at ts i) y)) ex in
-        let stop2 : stop ≡ (tile_at ts i).stop = es ∙ ap (λ (us : List TileValue). (tile_at us i).stop) t ∙ ap (λ (u : TileValue). u.stop) (get_or-set_same ts i (posted_tile (tile_at ts i) x) no_tile within) in
-        let n2 : n ≡ waiting_in (set ts i (posted_tile (tile_at ts i) (record { problem = p; from = x.from; to = x.to }))) = en ∙ ap waiting_in t2 in
+        let t2 : after ≡ set ts i (posted_tile (tile_at ts i) (record { problem = p; from = x.from; to = x.to })) = t
+        ∙ ap (λ (y : StretchValue). set ts i (posted_tile (tile_at ts i) y)) ex in
+        let stop2 : stop ≡ (tile_at ts i).stop = es ∙ ap (λ (us : List TileValue). (tile_at us i).stop) t
+        ∙ ap (λ (u : TileValue). u.stop) (get_or-set_same ts i (posted_tile (tile_at ts i) x) no_tile within) in
+        let n2 : n ≡ waiting_in (set ts i (posted_tile (tile_at ts i) (record { problem = p; from = x.from; to = x.to }))) = en
+        ∙ ap waiting_in t2 in
         let l = same_is (posted_tile (tile_at ts i) (record { problem = p; from = x.from; to = x.to })) refl in
         let l2 = ap leased_in t2 in
-        let passes = fine_parts (same_state x.from (mark_of (tile_at ts i))) (comes_before p (tile_end (tile_at ts i)) x.to) (StaleLease (mark_of (tile_at ts i))) fine in
+        let passes = fine_parts (same_state x.from (mark_of (tile_at ts i))) (comes_before p (tile_end (tile_at ts i)) x.to)
+        (StaleLease (mark_of (tile_at ts i))) fine in
         let begin = same_state_is x.from (mark_of (tile_at ts i)) passes.0 in
-        kept_by _ w c (reply.Posted stop n) (posted (with_history p b s ts old.entries) x.from x.to i) after new.entries o (rw (stop2, n2) refl) t2 (entries_are old mid new _ 1 k a (omega arith)) old.kept new.kept keeps
-        (tiling_set p b s ts i (posted_tile (tile_at ts i) (record { problem = p; from = x.from; to = x.to })) keeps.sound.tiling within refl refl refl
-        (λ h. posted_is_tile p (tile_at ts i) (record { problem = p; from = x.from; to = x.to }) h leased refl (subst (λ (q : ProblemValue). IsStretch q x.from x.to) ep part) begin passes.1)) (omega arith)
+        kept_by _ w c (reply.Posted stop n) (posted (with_history p b s ts old.entries) x.from x.to i) after new.entries o
+        (rw (stop2, n2) refl) t2 (entries_are old mid new _ 1 k a (omega arith)) old.kept new.kept keeps
+        (tiling_set p b s ts i (posted_tile (tile_at ts i) (record { problem = p; from = x.from; to = x.to }))
+        keeps.sound.tiling within refl refl refl
+        (λ h. posted_is_tile p (tile_at ts i) (record { problem = p; from = x.from; to = x.to }) h leased refl
+        (subst (λ (q : ProblemValue). IsStretch q x.from x.to) ep part) begin passes.1)) (omega arith)
       where
         fine_parts : (m e : Bool) (f : BookFault) → else_fault m f (else_fault (not e) BeyondEnd None) ≡ None → (m ≡ true) × (e ≡ false)
         fine_parts true false f h = (refl, refl)
@@ -232,12 +284,9 @@ module _ (p : ProblemValue) (b : Branch) (s : StateValue) (ts : List TileValue) 
 
 -- ---- a search can start at a leased tile's mark
 
-pub lent_can_start : (p : ProblemValue) (b : Branch) (s : StateValue) (ts : List TileValue) (i : ℕ) (branch : Branch) (mark : StateValue) → IsTiling p b s ts → i < length ts → branch ≡ (tile_at ts i).branch → mark ≡ mark_of (tile_at ts i) → CanStart p branch mark
+pub lent_can_start : (p : ProblemValue) (b : Branch) (s : StateValue) (ts : List TileValue) (i : ℕ) (branch : Branch) (mark : StateValue)
+    → IsTiling p b s ts → i < length ts → branch ≡ (tile_at ts i).branch → mark ≡ mark_of (tile_at ts i) → CanStart p branch mark
 lent_can_start p b s ts i branch mark t l eb em = rw (eb, em) (tile_can_start p (tile_at ts i) (tile_in p b.lo s ts b.hi i t.tiles l))
-
--- a tile's end, and a stretch's
-pub ends_fit : (p : ProblemValue) (b : Branch) (s : StateValue) (ts : List TileValue) (i : ℕ) → IsTiling p b s ts → i < length ts → Fits p (tile_end (tile_at ts i))
-ends_fit p b s ts i t l = let k = tile_in p b.lo s ts b.hi i t.tiles l in end_fits p (mark_of (tile_at ts i)) (tile_end (tile_at ts i)) k.within
 
 -- a tile that waits isn't leased
 pub waiting_free : (ts : List TileValue) (i : ℕ) → Some i ≡ first_waiting ts → is_leased (tile_at ts i).status ≡ false
@@ -249,58 +298,10 @@ waiting_free ts i e = free (tile_at ts i).status (position-Some (λ (t : TileVal
     free (status.Leased w i) h = absurd (false≢true h)
     free status.Closed h = absurd (false≢true h)
 
--- ---- what stands against a post
-
--- a post that nothing stands against is of the problem
-pub post_same : (p q : ProblemValue) (same : Bool) (from to : StateValue) (t : TileValue) → same ≡ is_same q p → stretch_fault p from to same t ≡ None → (same ≡ true) × (q ≡ p)
-post_same p q true from to t e h = (refl, (is_same_decides q p).0 (sym e))
-post_same p q false from to t e h = absurd (cc)
-
-pub same_fits : (p q : ProblemValue) (same : Bool) (from to : StateValue) → same ≡ is_same q p → same ≡ true → IsStretch q from to → Fits p to
-same_fits p q same from to e h s = subst (λ (r : ProblemValue). Fits r to) ((is_same_decides q p).0 (sym e ∙ h)) (end_fits q from to s)
-
-module _ (p : ProblemValue) (from to : StateValue) (same : Bool) (t u : TileValue) (is : same ≡ true) (tile : u ≡ t) (a m : StateValue) (test : Bool) (tells : IsTrue test ↔ (a ≡ m)) (first : a ≡ from) (mark : m ≡ mark_of u) where
-  same_test : same_state from (mark_of t) ≡ test
-  same_test = rw (← first, ← tile, ← mark) (tested test a m tells)
-
-  pub stale_doubt : (r : BookFault) → test ≡ false → (r ≡ OutOfMemory) ⊎ (r ≡ StaleLease (mark_of u)) → Doubted (Some r) (stretch_fault p from to same t)
-  stale_doubt r e d = rw (is, same_test, e) (told d)
-    where
-      told : (r ≡ OutOfMemory) ⊎ (r ≡ StaleLease (mark_of u)) → Doubted (Some r) (Some (StaleLease (mark_of t)))
-      told (inl o) = inl (ap Some o)
-      told (inr o) = inr (ap Some (o ∙ ap (λ (u : TileValue). StaleLease (mark_of u)) tile))
-
-  module _ (e x : StateValue) (o : Ordering) (end : e ≡ tile_end u) (last : x ≡ to) (fits : Fits p (tile_end t)) (last_fits : Fits p to) (order : Fits p e → Fits p x → (o ≡ Less) ↔ ComesBefore p e x) where
-    ordered : (o ≡ Less) ↔ ComesBefore p (tile_end t) to
-    ordered =
-        let h : e ≡ tile_end t = end ∙ ap tile_end tile in
-        rw (h, last) at (order (rw h fits) (rw last last_fits))
-
-    pub beyond_doubt : test ≡ true → o ≡ Less → Doubted (Some BeyondEnd) (stretch_fault p from to same t)
-    beyond_doubt h l = rw (is, same_test, h, (test_is_order p (tile_end t) to fits last_fits).1 (ordered.0 l)) (inr refl)
-
-    pub fine_doubt : test ≡ true → (o ≡ Less → ⊥) → Doubted None (stretch_fault p from to same t)
-    fine_doubt h l = rw (is, same_test, h, off (comes_before p (tile_end t) to) refl) (inr refl)
-      where
-        off : (b : Bool) → comes_before p (tile_end t) to ≡ b → comes_before p (tile_end t) to ≡ false
-        off true k = absurd (l (ordered.1 ((test_is_order p (tile_end t) to fits last_fits).0 k)))
-        off false k = k
-
--- ---- what stands against a close
-
-module _ (t u : TileValue) (tile : u ≡ t) (a e : StateValue) (test : Bool) (tells : IsTrue test ↔ (a ≡ e)) (mark : a ≡ mark_of u) (end : e ≡ tile_end u) where
-  end_test : same_state (mark_of t) (tile_end t) ≡ test
-  end_test = rw (← tile, ← mark, ← end) (tested test a e tells)
-
-  pub end_fine : test ≡ true → Doubted None (end_fault t)
-  end_fine h = rw (end_test, h) (inr refl)
-
-  pub end_doubt : test ≡ false → Doubted (Some NotAtEnd) (end_fault t)
-  end_doubt h = rw (end_test, h) (inr refl)
-
 -- ---- other changes of a tile
 
-pub asked_is_tile : (p : ProblemValue) (t : TileValue) (s : Status) → s ≡ asked_status t.status → is_closed t.status ≡ false → IsTile p t → IsTile p (record t { status = s; stop = true })
+pub asked_is_tile : (p : ProblemValue) (t : TileValue) (s : Status) → s ≡ asked_status t.status → is_closed t.status ≡ false → IsTile p t
+    → IsTile p (record t { status = s; stop = true })
 asked_is_tile p t s e o i = settled_is_tile p t s true i (stands t.status s e o)
   where
     stands : (a s : Status) → s ≡ asked_status a → is_closed a ≡ false → Stands s (record t { status = s; stop = true })
@@ -328,28 +329,24 @@ free_open (status.Leased w i) h = absurd (false≢true h)
 free_open status.Closed h = absurd (false≢true h)
 
 -- the tile that goes back, by how many stretches it keeps
-pub back_is : (t : TileValue) (s : StateValue) (n : ℕ) → stretches_to s t.first t.stretches ≡ Some (take n t.stretches) → put_back s t ≡ record t { stretches = take n t.stretches }
+pub back_is : (t : TileValue) (s : StateValue) (n : ℕ) → stretches_to s t.first t.stretches ≡ Some (take n t.stretches)
+    → put_back s t ≡ record t { stretches = take n t.stretches }
 back_is t s n e = rw e refl
 
 -- ---- what is taken out
 
 -- the reply is told by the last stretch
-pub retracted_reply : (b : BookValue) (i : ℕ) (x : StretchValue) (from to : StateValue) → last_of (tile_at b.tiles i).stretches ≡ Some x → from ≡ x.from → to ≡ x.to → reply.Retracted from to ≡ (retracted b i).reply
+pub retracted_reply : (b : BookValue) (i : ℕ) (x : StretchValue) (from to : StateValue) → last_of (tile_at b.tiles i).stretches ≡ Some x
+    → from ≡ x.from → to ≡ x.to → reply.Retracted from to ≡ (retracted b i).reply
 retracted_reply b i x from to e f g = rw (e, f, g) refl
 
 pub same_last : (t : TileValue) (x y : StretchValue) → last_of t.stretches ≡ Some x → last_of t.stretches ≡ Some y → x ≡ y
 same_last t x y e f = let h : Some x ≡ Some y = sym e ∙ f in cc
 
-pub retracted_problem : (p : ProblemValue) (b : Branch) (s : StateValue) (ts : List TileValue) (i : ℕ) (x : StretchValue) → IsTiling p b s ts → i < length ts → last_of (tile_at ts i).stretches ≡ Some x → x.problem ≡ p
-retracted_problem p b s ts i x t l e = last_problem p (tile_at ts i).first (tile_at ts i).stretches x (tile_in p b.lo s ts b.hi i t.tiles l).joins e
-
--- nothing stands against taking out where there is a stretch
-pub retract_fine : (t : TileValue) → 0 < length t.stretches → Doubted None (retract_fault t)
-retract_fine t l = rw (last_some t.stretches l) (inr refl)
-
-pub not_empty : (xs ys : List StretchValue) (empty : Bool) → xs ≡ ys → empty ≡ (length xs == 0) → empty ≡ false → 0 < length ys
-not_empty [] ys empty e h f = absurd (false≢true (sym f ∙ h))
-not_empty (x ∷ xs) ys empty e h f = let l = ap (length {A = StretchValue}) e in omega arith
+pub retracted_problem : (p : ProblemValue) (b : Branch) (s : StateValue) (ts : List TileValue) (i : ℕ) (x : StretchValue)
+    → IsTiling p b s ts → i < length ts → last_of (tile_at ts i).stretches ≡ Some x → x.problem ≡ p
+retracted_problem p b s ts i x t l e = last_problem p (tile_at ts i).first (tile_at ts i).stretches x
+    (tile_in p b.lo s ts b.hi i t.tiles l).joins e
 
 pub told_same : (old new : BookValue) (w : ℕ) (c : Call) (r t : Reply) → Made old new w c r → r ≡ t → Made old new w c t
 told_same old new w c r t m e = subst (Made old new w c) e m

@@ -1,10 +1,12 @@
 -- What the posted stretches count, tile by tile: where all tiles are closed, what is counted from the first mark to the end.
-use Rattle.std.proofs.Common.{◌≡◌, ℕ, zero, suc, ◌+◌, ◌*◌, ◌^◌, ◌<◌, ◌≤◌, ◌⊎◌, ◌==◌, true, false, Option, Some, List, [], ◌∷◌, ◌++◌, length, map, take, get_or, replicate, refl, sym, ap, ap₂, ◌∙◌, subst, inl, inr, arith}
+use Rattle.std.proofs.Common.{◌≡◌, ℕ, zero, suc, ◌+◌, ◌*◌, ◌^◌, ◌<◌, ◌≤◌, ◌⊎◌, ◌==◌, true, false, Option, List, [], ◌∷◌, ◌++◌, length}
+use Rattle.std.proofs.Common.{map, take, get_or, replicate, refl, sym, ap, ap₂, ◌∙◌, inl, inr, arith}
 use Rattle.std.specs.Prelude.{All}
 use Rattle.std.specs.List.{sum_by}
 use Rattle.std.proofs.Math.ListN.{set}
 use Rattle.std.proofs.lemmas.Bool.Decides.{eqb_tells}
-use Rattle.std.proofs.lemmas.List.{length-set, length-map, get_or-set_same, get_or-set_other, get_or_past, get_or-take, length-take-le, length-replicate}
+use Rattle.std.proofs.lemmas.List.{length-set, length-map, get_or-set_same, get_or-set_other, get_or_past, get_or-take, length-take-le}
+use Rattle.std.proofs.lemmas.List.{length-replicate}
 use Rattle.std.proofs.lemmas.List.Sums.{sum_by-cons, sum_by_more, sum_by_more_le}
 use Rattle.cover_problem.specs.Lists.{numbers}
 use Rattle.cover_problem.specs.Problem.{ProblemValue}
@@ -14,19 +16,18 @@ use Rattle.x_steps.specs.Rank.{rank}
 use Rattle.x_steps.specs.Run.{level_count, levels, states_between, steps_between}
 use Rattle.x_steps.specs.Levels.{without_last_zeros, trimmed_levels}
 use Rattle.cover_problem.proofs.NumberLemmas.{length-numbers}
-use Rattle.x_steps.proofs.BetweenLemmas.{steps_between_self, steps_between_join, states_between_self, level_count_between, levels_at, counts_at}
+use Rattle.x_steps.proofs.BetweenLemmas.{steps_between_self, steps_between_join, states_between_self, level_count_between, levels_at}
+use Rattle.x_steps.proofs.BetweenLemmas.{counts_at}
 use Rattle.x_steps.proofs.ZeroLemmas.{zeros_cut}
 use Rattle.x_branches.specs.declared.branch.Branch.{Branch}
 use Rattle.x_branches.specs.Branch.{end_of}
-use Rattle.x_branches.specs.Cut.{CutPath, cut_state}
+use Rattle.x_branches.specs.Cut.{CutPath}
 use Rattle.x_branches.specs.Stretch.{StretchValue}
 use Rattle.x_branches.proofs.PostingLemmas.{counts_fit}
-use Rattle.lab_book.specs.declared.status.Status.TheVariants.{Closed}
-use Rattle.lab_book.specs.Tile.{TileValue, IsTile, Join, led_to, tile_end}
+use Rattle.lab_book.specs.Tile.{TileValue, IsTile, Join}
 use Rattle.lab_book.specs.Tiling.{AreTiles, IsTiling}
 use Rattle.lab_book.specs.Posted.{AllClosed, posted_count, posted_level, posted_levels, posted_steps, stretch_level, stretch_steps}
-use Rattle.lab_book.proofs.TileLemmas.{end_fits, end_after, led_rank}
-use Rattle.lab_book.proofs.PostedLemmas.{joined_fits, closed_end, tile_first, tile_up, tiles_reach, first_closed, rest_closed}
+use Rattle.lab_book.proofs.PostedLemmas.{closed_is}
 
 add-zero : (n : ℕ) → n + 0 ≡ n
 add-zero n = omega arith
@@ -34,42 +35,24 @@ add-zero n = omega arith
 -- ---- a number that tells of two states, and adds up where stretches join
 
 module _ (of : ProblemValue → StateValue → StateValue → ℕ) (none : (p : ProblemValue) (s : StateValue) → Fits p s → of p s s ≡ 0)
-    (join : (p : ProblemValue) (s t u : StateValue) → Fits p s → Fits p t → Fits p u → rank p s ≤ rank p t → rank p t ≤ rank p u → of p s u ≡ of p s t + of p t u) where
-  joined_sum : (p : ProblemValue) (s : StateValue) (xs : List StretchValue) → Join p s xs → Fits p s → sum_by (λ (x : StretchValue). of x.problem x.from x.to) xs ≡ of p s (led_to s xs)
-  joined_sum p s [] j f = sym (none p s f)
-  joined_sum p s (x ∷ xs) j f =
-      let g = end_fits p s x.to j.2 in
-      let first : of x.problem x.from x.to ≡ of p s x.to = ap₂ (λ (q : ProblemValue) (a : StateValue). of q a x.to) j.0 j.1 in
-      sum_by-cons (λ (x : StretchValue). of x.problem x.from x.to) x xs
-      ∙ ap₂ (λ (m n : ℕ). m + n) first (joined_sum p x.to xs j.3 g)
-      ∙ sym (join p s x.to (led_to x.to xs) f g (joined_fits p x.to xs j.3 g) (end_after p s x.to j.2) (led_rank p x.to xs j.3 g))
-
-  tile_sum : (p : ProblemValue) (t : TileValue) → IsTile p t → t.status ≡ Closed → sum_by (λ (x : StretchValue). of x.problem x.from x.to) t.stretches ≡ of p t.first (tile_end t)
-  tile_sum p t i closed = joined_sum p t.first t.stretches i.joins (tile_first p t i closed) ∙ ap (of p t.first) (closed_end p t i closed)
-
-  pub closed_sum : (p : ProblemValue) (lo : Option CutPath) (first : StateValue) (ts : List TileValue) (hi : Option CutPath) → AreTiles p lo first ts hi → AllClosed ts
+    (join : (p : ProblemValue) (s t u : StateValue) → Fits p s → Fits p t → Fits p u → rank p s ≤ rank p t → rank p t ≤ rank p u
+    → of p s u ≡ of p s t + of p t u) where
+  closed_sum : (p : ProblemValue) (lo : Option CutPath) (first : StateValue) (ts : List TileValue) (hi : Option CutPath)
+      → AreTiles p lo first ts hi → AllClosed ts
       → sum_by (λ (t : TileValue). sum_by (λ (x : StretchValue). of x.problem x.from x.to) t.stretches) ts ≡ of p first (end_of hi)
-  closed_sum p lo first [] hi a c = absurd a
-  closed_sum p lo first (t ∷ []) hi a c =
-      sum_by-cons (λ (t : TileValue). sum_by (λ (x : StretchValue). of x.problem x.from x.to) t.stretches) t []
-      ∙ add-zero _
-      ∙ tile_sum p t a.2 (first_closed t [] c)
-      ∙ ap₂ (λ (s : StateValue) (h : Option CutPath). of p s (end_of h)) a.1 a.3
-  closed_sum p lo first (t ∷ u ∷ ts) hi a c =
-      let rest = tiles_reach p (Some a.3) (cut_state a.3.path) (u ∷ ts) hi a.5 (rest_closed t (u ∷ ts) c) in
-      let here : sum_by (λ (x : StretchValue). of x.problem x.from x.to) t.stretches ≡ of p first (cut_state a.3.path) = tile_sum p t a.2 (first_closed t (u ∷ ts) c) ∙ ap₂ (λ (s : StateValue) (h : Option CutPath). of p s (end_of h)) a.1 a.4 in
-      let up : rank p first ≤ rank p (cut_state a.3.path) = subst (λ (x : StateValue × Option CutPath). rank p x.0 ≤ rank p (end_of x.1)) (λ j. (a.1 j, a.4 j)) (tile_up p t a.2 (first_closed t (u ∷ ts) c)) in
-      let fits : Fits p first = subst (Fits p) a.1 (tile_first p t a.2 (first_closed t (u ∷ ts) c)) in
-      sum_by-cons (λ (t : TileValue). sum_by (λ (x : StretchValue). of x.problem x.from x.to) t.stretches) t (u ∷ ts)
-      ∙ ap₂ (λ (m n : ℕ). m + n) here (closed_sum p (Some a.3) (cut_state a.3.path) (u ∷ ts) hi a.5 (rest_closed t (u ∷ ts) c))
-      ∙ sym (join p first (cut_state a.3.path) (end_of hi) fits rest.from rest.to up rest.up)
+  closed_sum =
+      let told = λ (x : StretchValue). of x.problem x.from x.to in
+      closed_is (λ (m n : ℕ). m + n) 0 add-zero of none join (sum_by told) refl (sum_by-cons told)
+      (sum_by (λ (t : TileValue). sum_by told t.stretches)) refl (sum_by-cons (λ (t : TileValue). sum_by told t.stretches))
 
 -- ---- steps
 
-steps_join : (p : ProblemValue) (s t u : StateValue) → Fits p s → Fits p t → Fits p u → rank p s ≤ rank p t → rank p t ≤ rank p u → steps_between p s u ≡ steps_between p s t + steps_between p t u
+steps_join : (p : ProblemValue) (s t u : StateValue) → Fits p s → Fits p t → Fits p u → rank p s ≤ rank p t → rank p t ≤ rank p u
+    → steps_between p s u ≡ steps_between p s t + steps_between p t u
 steps_join p s t u f g h a b = let e = steps_between_join p s t u f g h a b in omega arith
 
-pub closed_steps : (p : ProblemValue) (b : Branch) (first : StateValue) (ts : List TileValue) → IsTiling p b first ts → AllClosed ts → posted_steps ts ≡ steps_between p first (end_of b.hi)
+pub closed_steps : (p : ProblemValue) (b : Branch) (first : StateValue) (ts : List TileValue) → IsTiling p b first ts → AllClosed ts
+    → posted_steps ts ≡ steps_between p first (end_of b.hi)
 closed_steps p b first ts t c = closed_sum steps_between steps_between_self steps_join p b.lo first ts b.hi t.tiles c
 
 -- ---- levels
@@ -81,17 +64,21 @@ level_none : (level : ℕ) (p : ProblemValue) (s : StateValue) → Fits p s → 
 unfolding level_at
 level_none level p s f = ap (λ ss. level_count ss level) (states_between_self p s f)
 
-level_join : (level : ℕ) (p : ProblemValue) (s t u : StateValue) → Fits p s → Fits p t → Fits p u → rank p s ≤ rank p t → rank p t ≤ rank p u → level_at level p s u ≡ level_at level p s t + level_at level p t u
+level_join : (level : ℕ) (p : ProblemValue) (s t u : StateValue) → Fits p s → Fits p t → Fits p u → rank p s ≤ rank p t
+    → rank p t ≤ rank p u → level_at level p s u ≡ level_at level p s t + level_at level p t u
 unfolding level_at
 level_join level p s t u f g h a b = level_count_between p s t u level f g h a b
 
-closed_level : (p : ProblemValue) (b : Branch) (first : StateValue) (ts : List TileValue) → IsTiling p b first ts → AllClosed ts → (level : ℕ) → posted_level ts level ≡ level_count (states_between p first (end_of b.hi)) level
+closed_level : (p : ProblemValue) (b : Branch) (first : StateValue) (ts : List TileValue) → IsTiling p b first ts → AllClosed ts
+    → (level : ℕ) → posted_level ts level ≡ level_count (states_between p first (end_of b.hi)) level
 unfolding level_at
 closed_level p b first ts t c level = closed_sum (level_at level) (level_none level) (level_join level) p b.lo first ts b.hi t.tiles c
 
-pub closed_levels : (p : ProblemValue) (b : Branch) (first : StateValue) (ts : List TileValue) → IsTiling p b first ts → AllClosed ts → posted_levels p ts ≡ trimmed_levels p first (end_of b.hi)
+pub closed_levels : (p : ProblemValue) (b : Branch) (first : StateValue) (ts : List TileValue) → IsTiling p b first ts → AllClosed ts
+    → posted_levels p ts ≡ trimmed_levels p first (end_of b.hi)
 unfolding trimmed_levels levels
-closed_levels p b first ts t c = ap (λ (count : ℕ → ℕ). without_last_zeros (map count (numbers (length p.names + 1) 0))) (λ j level. closed_level p b first ts t c level j)
+closed_levels p b first ts t c = ap (λ (count : ℕ → ℕ). without_last_zeros (map count (numbers (length p.names + 1) 0)))
+    (λ j level. closed_level p b first ts t c level j)
 
 -- ---- totals by loops
 
@@ -129,7 +116,8 @@ taken_before xs i k h l = let n : i + 1 ≡ suc i = omega arith in rw n (each xs
 taken_at : (xs : List ℕ) (i : ℕ) → i < length xs → get_or (take (i + 1) xs) i 0 ≡ get_or xs i 0
 taken_at xs i l = get_or-take (i + 1) xs i 0 (omega arith)
 
-pub added_more : (old counts new : List ℕ) (i : ℕ) → AreAdded old (take i counts) new → i < length counts → length counts ≤ length old → get_or counts i 0 ≤ 4294967295 → AreAdded old (take (i + 1) counts) (set new i (get_or new i 0 + get_or counts i 0))
+pub added_more : (old counts new : List ℕ) (i : ℕ) → AreAdded old (take i counts) new → i < length counts → length counts ≤ length old
+    → get_or counts i 0 ≤ 4294967295 → AreAdded old (take (i + 1) counts) (set new i (get_or new i 0 + get_or counts i 0))
 added_more old counts new i a l m s = record {
   long = length-set new i (get_or new i 0 + get_or counts i 0) ∙ a.long;
   sums = λ level. sum_at level (eqb_tells level i);
@@ -144,11 +132,13 @@ added_more old counts new i a l m s = record {
     there : (level : ℕ) → (level ≡ i → ⊥) → get_or (set new i (get_or new i 0 + get_or counts i 0)) level 0 ≡ get_or new level 0
     there level h = get_or-set_other new i level (get_or new i 0 + get_or counts i 0) 0 h
 
-    sum_at : (level : ℕ) → (((level == i) ≡ true) × (level ≡ i)) ⊎ (((level == i) ≡ false) × (level ≡ i → ⊥)) → get_or (set new i (get_or new i 0 + get_or counts i 0)) level 0 ≡ get_or old level 0 + get_or (take (i + 1) counts) level 0
+    sum_at : (level : ℕ) → (((level == i) ≡ true) × (level ≡ i)) ⊎ (((level == i) ≡ false) × (level ≡ i → ⊥))
+        → get_or (set new i (get_or new i 0 + get_or counts i 0)) level 0 ≡ get_or old level 0 + get_or (take (i + 1) counts) level 0
     sum_at level (inl e) = rw (e.1, taken_at counts i l) here
     sum_at level (inr e) = rw (there level e.1, taken_before counts i level e.1 l) (a.sums level)
 
-    small_at : (level : ℕ) → (((level == i) ≡ true) × (level ≡ i)) ⊎ (((level == i) ≡ false) × (level ≡ i → ⊥)) → get_or (set new i (get_or new i 0 + get_or counts i 0)) level 0 ≤ get_or old level 0 + 4294967295
+    small_at : (level : ℕ) → (((level == i) ≡ true) × (level ≡ i)) ⊎ (((level == i) ≡ false) × (level ≡ i → ⊥))
+        → get_or (set new i (get_or new i 0 + get_or counts i 0)) level 0 ≤ get_or old level 0 + 4294967295
     small_at level (inl e) = rw e.1 (let h = here in omega arith)
     small_at level (inr e) = rw (there level e.1) (a.small level)
 
@@ -158,11 +148,13 @@ zero_at (suc n) zero = refl
 zero_at (suc n) (suc k) = zero_at n k
 
 -- the counts of a stretch at each level
-pub count_at : (p : ProblemValue) (s t : StateValue) (counts : List ℕ) (level : ℕ) → counts ≡ trimmed_levels p s t → level < length p.names + 1 → get_or counts level 0 ≡ level_count (states_between p s t) level
+pub count_at : (p : ProblemValue) (s t : StateValue) (counts : List ℕ) (level : ℕ) → counts ≡ trimmed_levels p s t
+    → level < length p.names + 1 → get_or counts level 0 ≡ level_count (states_between p s t) level
 unfolding trimmed_levels
 count_at p s t counts level e l =
     let z = zeros_cut (levels p s t) in
-    sym (with_zeros counts z.0 level) ∙ ap (λ xs. get_or xs level 0) (ap (λ xs. xs ++ replicate z.0 0) e ∙ sym z.1) ∙ levels_at p s t level 0 (omega arith)
+    sym (with_zeros counts z.0 level) ∙ ap (λ xs. get_or xs level 0) (ap (λ xs. xs ++ replicate z.0 0) e ∙ sym z.1)
+    ∙ levels_at p s t level 0 (omega arith)
   where
     with_zeros : (xs : List ℕ) (n k : ℕ) → get_or (xs ++ replicate n 0) k 0 ≡ get_or xs k 0
     with_zeros [] n k = zero_at n k
@@ -178,18 +170,22 @@ pub record AreSummed (xs : List StretchValue) (old new : List ℕ) : Type 0 wher
 pub summed_none : (old : List ℕ) → AreSummed [] old old
 summed_none old = record { long = refl; sums = λ level l. omega arith; small = λ level l. omega arith }
 
-module _ (xs : List StretchValue) (i : ℕ) (x : StretchValue) (old mid new counts : List ℕ) (s : AreSummed (take i xs) old mid) (l : i < length xs) (e : x ≡ get_or xs i x) (c : counts ≡ trimmed_levels x.problem x.from x.to) (n : length x.problem.names + 1 ≡ length old) where
+module _ (xs : List StretchValue) (i : ℕ) (x : StretchValue) (old mid new counts : List ℕ) (s : AreSummed (take i xs) old mid)
+    (l : i < length xs) (e : x ≡ get_or xs i x) (c : counts ≡ trimmed_levels x.problem x.from x.to)
+    (n : length x.problem.names + 1 ≡ length old) where
   pub summed_fit : length counts ≤ length mid
   summed_fit = let f = counts_fit x.problem x.from x.to counts c in let m = s.long in omega arith
 
-  pub summed_room : ((level : ℕ) → level < length old → get_or old level 0 + 4294967295 * length xs < 2 ^ 128) → (level : ℕ) → level < length mid → get_or mid level 0 + 4294967295 < 2 ^ 128
+  pub summed_room : ((level : ℕ) → level < length old → get_or old level 0 + 4294967295 * length xs < 2 ^ 128) → (level : ℕ)
+      → level < length mid → get_or mid level 0 + 4294967295 < 2 ^ 128
   summed_room room level m =
       let k : level < length old = let o = s.long in omega arith in
       let a = s.small level k in
       let b = room level k in
       let t = length-take-le i xs (omega arith) in omega arith
 
-  pub summed_more : length new ≡ length mid → ((level : ℕ) → get_or new level 0 ≡ get_or mid level 0 + get_or counts level 0) → ((level : ℕ) → get_or new level 0 ≤ get_or mid level 0 + 4294967295) → AreSummed (take (i + 1) xs) old new
+  pub summed_more : length new ≡ length mid → ((level : ℕ) → get_or new level 0 ≡ get_or mid level 0 + get_or counts level 0)
+      → ((level : ℕ) → get_or new level 0 ≤ get_or mid level 0 + 4294967295) → AreSummed (take (i + 1) xs) old new
   summed_more a b d = record {
     long = a ∙ s.long;
     sums = λ level k.
@@ -210,14 +206,16 @@ pub record AreSteps (xs : List StretchValue) (steps : ℕ) : Type 0 where
   pub sum : steps ≡ stretch_steps xs
   pub small : steps ≤ 4294967295 * length xs
 
-pub steps_more : (xs : List StretchValue) (i : ℕ) (x : StretchValue) (steps more : ℕ) → AreSteps (take i xs) steps → i < length xs → x ≡ get_or xs i x → more ≡ steps_between x.problem x.from x.to → more ≤ 4294967295 → AreSteps (take (i + 1) xs) (steps + more)
+pub steps_more : (xs : List StretchValue) (i : ℕ) (x : StretchValue) (steps more : ℕ) → AreSteps (take i xs) steps → i < length xs
+    → x ≡ get_or xs i x → more ≡ steps_between x.problem x.from x.to → more ≤ 4294967295 → AreSteps (take (i + 1) xs) (steps + more)
 steps_more xs i x steps more s l e m b =
     let t = length-take-le i xs (omega arith) in
     let u = length-take-le (i + 1) xs (omega arith) in
     let a = s.sum in
     let d = s.small in
     record {
-      sum = let f = sum_by_more (λ (x : StretchValue). steps_between x.problem x.from x.to) xs i x l in let g = ap (λ (y : StretchValue). steps_between y.problem y.from y.to) e in omega arith;
+      sum = let f = sum_by_more (λ (x : StretchValue). steps_between x.problem x.from x.to) xs i x l in
+          let g = ap (λ (y : StretchValue). steps_between y.problem y.from y.to) e in omega arith;
       small = omega arith;
     }
 
@@ -233,9 +231,15 @@ pub record AreLevelsOf (ts : List TileValue) (n : ℕ) (totals : List ℕ) : Typ
   pub small : (level : ℕ) → level < n → get_or totals level 0 ≤ 4294967295 * posted_count ts
 
 pub levels_none : (n : ℕ) → AreLevelsOf [] n (replicate n 0)
-levels_none n = record { long = length-replicate n 0; sums = λ level l. zero_at n level; small = λ level l. let z = zero_at n level in omega arith }
+levels_none n = record {
+  long = length-replicate n 0;
+  sums = λ level l. zero_at n level;
+  small = λ level l. let z = zero_at n level in
+      omega arith;
+}
 
-pub levels_all : (p : ProblemValue) (ts : List TileValue) (totals : List ℕ) → AreLevelsOf ts (length p.names + 1) totals → without_last_zeros totals ≡ posted_levels p ts
+pub levels_all : (p : ProblemValue) (ts : List TileValue) (totals : List ℕ) → AreLevelsOf ts (length p.names + 1) totals
+    → without_last_zeros totals ≡ posted_levels p ts
 levels_all p ts totals s =
     let n = length-map (numbers (length p.names + 1) 0) (posted_level ts) in
     let m = length-numbers (length p.names + 1) 0 in
@@ -247,42 +251,54 @@ levels_all p ts totals s =
     same_at [] [] e h = refl
     same_at [] (y ∷ ys) e h = absurd (omega arith)
     same_at (x ∷ xs) [] e h = absurd (omega arith)
-    same_at (x ∷ xs) (y ∷ ys) e h = ap₂ (λ (a : ℕ) (rest : List ℕ). a ∷ rest) (h 0 (omega arith)) (same_at xs ys (omega arith) (λ k l. h (suc k) (omega arith)))
+    same_at (x ∷ xs) (y ∷ ys) e h = ap₂ (λ (a : ℕ) (rest : List ℕ). a ∷ rest) (h 0 (omega arith))
+        (same_at xs ys (omega arith) (λ k l. h (suc k) (omega arith)))
 
 -- the stretches of a tile are the problem's
-pub joined_levels : (p : ProblemValue) (t : TileValue) (n : ℕ) → IsTile p t → length p.names + 1 ≡ n → All (λ (x : StretchValue). length x.problem.names + 1 ≡ n) t.stretches
+pub joined_levels : (p : ProblemValue) (t : TileValue) (n : ℕ) → IsTile p t → length p.names + 1 ≡ n
+    → All (λ (x : StretchValue). length x.problem.names + 1 ≡ n) t.stretches
 joined_levels p t n i e = each t.first t.stretches i.joins
   where
-    each : (s : StateValue) (xs : List StretchValue) → Join p s xs → (k : ℕ) (d : StretchValue) → k < length xs → length (get_or xs k d).problem.names + 1 ≡ n
+    each : (s : StateValue) (xs : List StretchValue) → Join p s xs → (k : ℕ) (d : StretchValue) → k < length xs
+        → length (get_or xs k d).problem.names + 1 ≡ n
     each s [] j k d l = absurd (omega arith)
     each s (x ∷ xs) j zero d l = ap (λ (q : ProblemValue). length q.names + 1) j.0 ∙ e
     each s (x ∷ xs) j (suc k) d l = each x.to xs j.3 k d (omega arith)
 
 module _ (ts : List TileValue) (i : ℕ) (t : TileValue) (l : i < length ts) (e : t ≡ get_or ts i t) where
   count_more : posted_count (take (i + 1) ts) ≡ posted_count (take i ts) + length t.stretches
-  count_more = sum_by_more (λ (t : TileValue). length t.stretches) ts i t l ∙ ap (λ (u : TileValue). posted_count (take i ts) + length u.stretches) (sym e)
+  count_more = sum_by_more (λ (t : TileValue). length t.stretches) ts i t l
+      ∙ ap (λ (u : TileValue). posted_count (take i ts) + length u.stretches) (sym e)
 
   count_within : posted_count (take i ts) + length t.stretches ≤ posted_count ts
-  count_within = let a = sum_by_more_le (λ (t : TileValue). length t.stretches) ts i t l in let b = ap (λ (u : TileValue). length u.stretches) e in omega arith
+  count_within = let a = sum_by_more_le (λ (t : TileValue). length t.stretches) ts i t l in
+      let b = ap (λ (u : TileValue). length u.stretches) e in omega arith
 
-  pub steps_of_more : (steps more : ℕ) → AreStepsOf (take i ts) steps → more ≡ stretch_steps t.stretches → more ≤ 4294967295 * length t.stretches → AreStepsOf (take (i + 1) ts) (steps + more)
+  pub steps_of_more : (steps more : ℕ) → AreStepsOf (take i ts) steps → more ≡ stretch_steps t.stretches
+      → more ≤ 4294967295 * length t.stretches → AreStepsOf (take (i + 1) ts) (steps + more)
   steps_of_more steps more s m b =
       let a = s.sum in
       let d = s.small in
       let c = count_more in
       record {
-        sum = let f = sum_by_more (λ (t : TileValue). stretch_steps t.stretches) ts i t l in let g = ap (λ (u : TileValue). stretch_steps u.stretches) e in omega arith;
+        sum = let f = sum_by_more (λ (t : TileValue). stretch_steps t.stretches) ts i t l in
+            let g = ap (λ (u : TileValue). stretch_steps u.stretches) e in omega arith;
         small = omega arith;
       }
 
-  pub steps_of_fit : (steps more : ℕ) → AreStepsOf (take i ts) steps → more ≤ 4294967295 * length t.stretches → posted_count ts < 2 ^ 64 → steps + more < 2 ^ 128
+  pub steps_of_fit : (steps more : ℕ) → AreStepsOf (take i ts) steps → more ≤ 4294967295 * length t.stretches → posted_count ts < 2 ^ 64
+      → steps + more < 2 ^ 128
   steps_of_fit steps more s b few = let d = s.small in let c = count_within in omega arith
 
   -- the totals with those of so many tiles
-  pub levels_of_room : (totals : List ℕ) (n : ℕ) → AreLevelsOf (take i ts) n totals → posted_count ts < 2 ^ 64 → (level : ℕ) → level < length totals → get_or totals level 0 + 4294967295 * length t.stretches < 2 ^ 128
+  pub levels_of_room : (totals : List ℕ) (n : ℕ) → AreLevelsOf (take i ts) n totals → posted_count ts < 2 ^ 64 → (level : ℕ)
+      → level < length totals → get_or totals level 0 + 4294967295 * length t.stretches < 2 ^ 128
   levels_of_room totals n s few level m = let d = s.small level (let o = s.long in omega arith) in let c = count_within in omega arith
 
-  pub levels_of_more : (totals new : List ℕ) (n : ℕ) → AreLevelsOf (take i ts) n totals → length new ≡ length totals → ((level : ℕ) → level < length totals → get_or new level 0 ≡ get_or totals level 0 + stretch_level t.stretches level) → ((level : ℕ) → level < length totals → get_or new level 0 ≤ get_or totals level 0 + 4294967295 * length t.stretches) → AreLevelsOf (take (i + 1) ts) n new
+  pub levels_of_more : (totals new : List ℕ) (n : ℕ) → AreLevelsOf (take i ts) n totals → length new ≡ length totals
+      → ((level : ℕ) → level < length totals → get_or new level 0 ≡ get_or totals level 0 + stretch_level t.stretches level)
+      → ((level : ℕ) → level < length totals → get_or new level 0 ≤ get_or totals level 0 + 4294967295 * length t.stretches)
+      → AreLevelsOf (take (i + 1) ts) n new
   levels_of_more totals new n s a b d = record {
     long = a ∙ s.long;
     sums = λ level k.

@@ -1,5 +1,6 @@
 -- Marks of tiles, the test of states, and what posting a stretch keeps.
-use Rattle.std.proofs.Common.{◌≡◌, ℕ, zero, suc, ◌-◌, ◌<◌, ◌≤◌, ◌==◌, Bool, true, false, ◌&&◌, Some, None, List, [], ◌∷◌, ◌++◌, length, take, get_or, refl, sym, ap, ◌∙◌, subst, arith, eq-eqb, eqb-true, bytes_eq, ◌+◌, ◌⊎◌, inl, inr}
+use Rattle.std.proofs.Common.{◌≡◌, ℕ, zero, suc, ◌-◌, ◌<◌, ◌≤◌, ◌==◌, Bool, true, false, ◌&&◌, Some, None, List, [], ◌∷◌, ◌++◌, length}
+use Rattle.std.proofs.Common.{take, get_or, refl, sym, ap, ◌∙◌, subst, arith, eq-eqb, eqb-true, bytes_eq, ◌+◌, ◌⊎◌, inl, inr}
 use Rattle.std.specs.Prelude.{◌↔◌, IsTrue, is_some, if◌then◌else◌}
 use Rattle.std.specs.List.{slice_get}
 use Rattle.std.specs.Cmp.Lexicographic.{bytes_decides}
@@ -30,7 +31,8 @@ use Rattle.lab_book.specs.declared.status.Status.TheVariants.{Waiting, Held, Lea
 
 -- ---- marks
 
-mark_last : (s : StateValue) (xs : List StretchValue) (x : StretchValue) (n : ℕ) → suc n ≡ length xs → slice_get xs n ≡ Some x → led_to s xs ≡ x.to
+mark_last : (s : StateValue) (xs : List StretchValue) (x : StretchValue) (n : ℕ) → suc n ≡ length xs → slice_get xs n ≡ Some x
+    → led_to s xs ≡ x.to
 mark_last s [] x n l e = absurd (omega arith)
 mark_last s (y ∷ []) x zero l e = let h : y ≡ x = cc in ap (λ (z : StretchValue). z.to) h
 mark_last s (y ∷ []) x (suc n) l e = absurd (omega arith)
@@ -59,7 +61,9 @@ mark_push s (y ∷ ys) x = mark_push y.to ys x
 -- ---- the test of two states
 
 label_at : ℕ → Label
-label_at n = if n == 1 then X1 else (if n == 2 then X2 else (if n == 3 then X3 else (if n == 4 then X4 else (if n == 5 then X5 else (if n == 6 then X6 else (if n == 7 then X7 else (if n == 8 then X8 else Done)))))))
+label_at n = if n == 1 then X1 else (if n == 2 then X2 else
+    (if n == 3 then X3 else (if n == 4 then X4 else
+    (if n == 5 then X5 else (if n == 6 then X6 else (if n == 7 then X7 else (if n == 8 then X8 else Done)))))))
 
 label_back : (l : Label) → label_at (label_number l) ≡ l
 unfolding label_at
@@ -93,14 +97,18 @@ same_parts s t a b c = λ i. record { label = a i; path = b i; cursor = c i }
 pub same_state_is : (s t : StateValue) → same_state s t ≡ true → s ≡ t
 unfolding same_state
 same_state_is s t h =
-    let a = and_parts ((label_number s.label == label_number t.label) && bytes_eq s.path t.path) (cursor_number s.cursor == cursor_number t.cursor) h in
+    let a = and_parts ((label_number s.label == label_number t.label) && bytes_eq s.path t.path)
+    (cursor_number s.cursor == cursor_number t.cursor) h in
     let b = and_parts (label_number s.label == label_number t.label) (bytes_eq s.path t.path) a.0 in
-    same_parts s t (one_label _ _ (eqb-true (label_number s.label) (label_number t.label) b.0)) ((bytes_decides s.path t.path).0 b.1) (one_cursor _ _ (eqb-true (cursor_number s.cursor) (cursor_number t.cursor) a.1))
+    same_parts s t (one_label _ _ (eqb-true (label_number s.label) (label_number t.label) b.0)) ((bytes_decides s.path t.path).0 b.1)
+    (one_cursor _ _ (eqb-true (cursor_number s.cursor) (cursor_number t.cursor) a.1))
 
 pub is_same_state : (s t : StateValue) → s ≡ t → same_state s t ≡ true
 unfolding same_state
 is_same_state s t e =
-    and_from _ _ (and_from _ _ (eq-eqb (label_number s.label) (label_number t.label) (ap (λ (u : StateValue). label_number u.label) e)) ((bytes_decides s.path t.path).1 (ap (λ (u : StateValue). u.path) e))) (eq-eqb (cursor_number s.cursor) (cursor_number t.cursor) (ap (λ (u : StateValue). cursor_number u.cursor) e))
+    and_from _ _ (and_from _ _ (eq-eqb (label_number s.label) (label_number t.label) (ap (λ (u : StateValue). label_number u.label) e))
+    ((bytes_decides s.path t.path).1 (ap (λ (u : StateValue). u.path) e)))
+    (eq-eqb (cursor_number s.cursor) (cursor_number t.cursor) (ap (λ (u : StateValue). cursor_number u.cursor) e))
 
 -- a test that tells whether two states are the same is that test
 pub tested : (test : Bool) (s t : StateValue) → IsTrue test ↔ (s ≡ t) → same_state s t ≡ test
@@ -118,7 +126,8 @@ end_fits p s t x = reached_fits p s t _ x.fits x.reaches
 pub end_after : (p : ProblemValue) (s t : StateValue) → IsStretch p s t → rank p s ≤ rank p t
 end_after p s t x = reached_rank p s t _ x.fits x.reaches
 
-join_push : (p : ProblemValue) (s : StateValue) (xs : List StretchValue) (x : StretchValue) → Join p s xs → x.problem ≡ p → x.from ≡ led_to s xs → IsStretch p (led_to s xs) x.to → Join p s (xs ++ x ∷ [])
+join_push : (p : ProblemValue) (s : StateValue) (xs : List StretchValue) (x : StretchValue) → Join p s xs → x.problem ≡ p
+    → x.from ≡ led_to s xs → IsStretch p (led_to s xs) x.to → Join p s (xs ++ x ∷ [])
 join_push p s [] x j a b c = (a, b, c, tt)
 join_push p s (y ∷ ys) x j a b c = (j.0, j.1, j.2, join_push p y.to ys x j.3 a b c)
 
@@ -127,7 +136,8 @@ not_past : (p : ProblemValue) (s t : StateValue) → Fits p s → Fits p t → c
 not_past p s t f g h = not_before p s t f g (λ b. false≢true (sym h ∙ (test_is_order p s t f g).1 b))
 
 -- the test of an order that a comparison answers
-pub order_tested : (p : ProblemValue) (s t : StateValue) (test : Bool) → Fits p s → Fits p t → IsTrue test ↔ ComesBefore p s t → comes_before p s t ≡ test
+pub order_tested : (p : ProblemValue) (s t : StateValue) (test : Bool) → Fits p s → Fits p t → IsTrue test ↔ ComesBefore p s t
+    → comes_before p s t ≡ test
 order_tested p s t test f g h = by test (comes_before p s t) refl refl
   where
     by : (a b : Bool) → test ≡ a → comes_before p s t ≡ b → comes_before p s t ≡ test
@@ -145,7 +155,9 @@ not_closed Held e t = absurd (false≢true e)
 not_closed Closed e t = absurd (false≢true e)
 
 -- a leased tile to which a stretch is posted that begins at its mark and doesn't end after it
-pub posted_is_tile : (p : ProblemValue) (t : TileValue) (x : StretchValue) → IsTile p t → is_leased t.status ≡ true → x.problem ≡ p → IsStretch x.problem x.from x.to → x.from ≡ mark_of t → comes_before p (tile_end t) x.to ≡ false → IsTile p (record t { stretches = t.stretches ++ x ∷ [] })
+pub posted_is_tile : (p : ProblemValue) (t : TileValue) (x : StretchValue) → IsTile p t → is_leased t.status ≡ true → x.problem ≡ p
+    → IsStretch x.problem x.from x.to → x.from ≡ mark_of t → comes_before p (tile_end t) x.to ≡ false
+    → IsTile p (record t { stretches = t.stretches ++ x ∷ [] })
 posted_is_tile p t x i l e s m h =
     let part : IsStretch p (mark_of t) x.to = subst (λ (q : ProblemValue × StateValue). IsStretch q.0 q.1 x.to) (λ j. (e j, m j)) s in
     let here = end_fits p (mark_of t) x.to part in
@@ -155,12 +167,14 @@ posted_is_tile p t x i l e s m h =
       branch = i.branch;
       begins = i.begins;
       joins = join_push p t.first t.stretches x i.joins e m part;
-      within = subst (λ (s : StateValue). IsStretch p s (tile_end t)) (sym (mark_push t.first t.stretches x)) (stretch_by p x.to (tile_end t) here last up);
+      within = subst (λ (s : StateValue). IsStretch p s (tile_end t)) (sym (mark_push t.first t.stretches x))
+          (stretch_by p x.to (tile_end t) here last up);
       stands = not_closed t.status l _;
     }
 
 -- a tile that stands otherwise
-pub settled_is_tile : (p : ProblemValue) (t : TileValue) (s : Status) (stop : Bool) → IsTile p t → Stands s (record t { status = s; stop = stop }) → IsTile p (record t { status = s; stop = stop })
+pub settled_is_tile : (p : ProblemValue) (t : TileValue) (s : Status) (stop : Bool) → IsTile p t
+    → Stands s (record t { status = s; stop = stop }) → IsTile p (record t { status = s; stop = stop })
 settled_is_tile p t s stop i h = record { branch = i.branch; begins = i.begins; joins = i.joins; within = i.within; stands = h }
 
 -- a search can start at a tile's mark, within its branch
@@ -204,7 +218,8 @@ last_read (y ∷ ys) x e =
     last_at (y ∷ ys) x (length ys) refl (sym (subst (λ n. Some x ≡ slice_get (y ∷ ys) n) h e))
 
 -- the last of stretches that join is the problem's
-pub last_problem : (p : ProblemValue) (s : StateValue) (xs : List StretchValue) (x : StretchValue) → Join p s xs → last_of xs ≡ Some x → x.problem ≡ p
+pub last_problem : (p : ProblemValue) (s : StateValue) (xs : List StretchValue) (x : StretchValue) → Join p s xs → last_of xs ≡ Some x
+    → x.problem ≡ p
 last_problem p s [] x j e = absurd (cc)
 last_problem p s (y ∷ []) x j e = let h : y ≡ x = cc in rw (← h) j.0
 last_problem p s (y ∷ z ∷ zs) x j e = last_problem p y.to (z ∷ zs) x j.3 e
@@ -232,14 +247,16 @@ part_fits p s [] (suc n) j f = f
 part_fits p s (x ∷ xs) zero j f = f
 part_fits p s (x ∷ xs) (suc n) j f = part_fits p x.to xs n j.3 (end_fits p s x.to j.2)
 
-part_rank : (p : ProblemValue) (s : StateValue) (xs : List StretchValue) (n : ℕ) → Join p s xs → Fits p s → rank p (led_to s (take n xs)) ≤ rank p (led_to s xs)
+part_rank : (p : ProblemValue) (s : StateValue) (xs : List StretchValue) (n : ℕ) → Join p s xs → Fits p s
+    → rank p (led_to s (take n xs)) ≤ rank p (led_to s xs)
 part_rank p s [] zero j f = omega arith
 part_rank p s [] (suc n) j f = omega arith
 part_rank p s (x ∷ xs) zero j f = led_rank p s (x ∷ xs) j f
 part_rank p s (x ∷ xs) (suc n) j f = part_rank p x.to xs n j.3 (end_fits p s x.to j.2)
 
 -- an open tile with its first stretches alone
-pub part_is_tile : (p : ProblemValue) (t : TileValue) (n : ℕ) → IsTile p t → is_closed t.status ≡ false → IsTile p (record t { stretches = take n t.stretches })
+pub part_is_tile : (p : ProblemValue) (t : TileValue) (n : ℕ) → IsTile p t → is_closed t.status ≡ false
+    → IsTile p (record t { stretches = take n t.stretches })
 part_is_tile p t n i o =
     let f = end_fits p (first_of t.branch.lo) t.first i.begins in
     let r = part_rank p t.first t.stretches n i.joins f in
@@ -248,7 +265,8 @@ part_is_tile p t n i o =
       branch = i.branch;
       begins = i.begins;
       joins = join_take p t.first t.stretches n i.joins;
-      within = stretch_by p (led_to t.first (take n t.stretches)) (tile_end t) (part_fits p t.first t.stretches n i.joins f) (end_fits p (mark_of t) (tile_end t) i.within) (omega arith);
+      within = stretch_by p (led_to t.first (take n t.stretches)) (tile_end t) (part_fits p t.first t.stretches n i.joins f)
+          (end_fits p (mark_of t) (tile_end t) i.within) (omega arith);
       stands = stands_so t.status o i.stands;
     }
   where
@@ -260,24 +278,31 @@ part_is_tile p t n i o =
 
 -- ---- the first mark that is a state
 
-pub mark_found : (s m : StateValue) (xs : List StretchValue) (n : ℕ) → n ≤ length xs → ((k : ℕ) → k < n → same_state s (led_to m (take k xs)) ≡ false) → same_state s (led_to m (take n xs)) ≡ true → stretches_to s m xs ≡ Some (take n xs)
+pub mark_found : (s m : StateValue) (xs : List StretchValue) (n : ℕ) → n ≤ length xs
+    → ((k : ℕ) → k < n → same_state s (led_to m (take k xs)) ≡ false) → same_state s (led_to m (take n xs)) ≡ true
+    → stretches_to s m xs ≡ Some (take n xs)
 mark_found s m [] zero l before here = rw here refl
 mark_found s m [] (suc n) l before here = absurd (omega arith)
 mark_found s m (x ∷ xs) zero l before here = rw here refl
 mark_found s m (x ∷ xs) (suc n) l before here =
     rw (before 0 (omega arith), mark_found s x.to xs n (omega arith) (λ k b. before (suc k) (omega arith)) here) refl
 
-pub mark_missed : (s m : StateValue) (xs : List StretchValue) → ((k : ℕ) → k ≤ length xs → same_state s (led_to m (take k xs)) ≡ false) → stretches_to s m xs ≡ None
+pub mark_missed : (s m : StateValue) (xs : List StretchValue) → ((k : ℕ) → k ≤ length xs → same_state s (led_to m (take k xs)) ≡ false)
+    → stretches_to s m xs ≡ None
 mark_missed s m [] each = rw (each 0 (omega arith)) refl
 mark_missed s m (x ∷ xs) each =
     rw (each 0 (omega arith), mark_missed s x.to xs (λ k b. each (suc k) (omega arith))) refl
 
 -- where the stretches up to a place lead
-pub led_more : (s : StateValue) (xs : List StretchValue) (i : ℕ) (x : StretchValue) → i < length xs → x ≡ get_or xs i x → led_to s (take (i + 1) xs) ≡ x.to
-led_more s xs i x l e = ap (led_to s) (take_more xs i x l) ∙ mark_push s (take i xs) (get_or xs i x) ∙ ap (λ (y : StretchValue). y.to) (sym e)
+pub led_more : (s : StateValue) (xs : List StretchValue) (i : ℕ) (x : StretchValue) → i < length xs → x ≡ get_or xs i x
+    → led_to s (take (i + 1) xs) ≡ x.to
+led_more s xs i x l e = ap (led_to s) (take_more xs i x l) ∙ mark_push s (take i xs) (get_or xs i x)
+    ∙ ap (λ (y : StretchValue). y.to) (sym e)
 
 -- one mark more that isn't the state
-pub missed_more : (s m : StateValue) (xs : List StretchValue) (i : ℕ) (x : StretchValue) → i < length xs → x ≡ get_or xs i x → same_state s x.to ≡ false → ((k : ℕ) → k ≤ i → same_state s (led_to m (take k xs)) ≡ false) → (k : ℕ) → k ≤ i + 1 → same_state s (led_to m (take k xs)) ≡ false
+pub missed_more : (s m : StateValue) (xs : List StretchValue) (i : ℕ) (x : StretchValue) → i < length xs → x ≡ get_or xs i x
+    → same_state s x.to ≡ false → ((k : ℕ) → k ≤ i → same_state s (led_to m (take k xs)) ≡ false) → (k : ℕ) → k ≤ i + 1
+    → same_state s (led_to m (take k xs)) ≡ false
 missed_more s m xs i x l e h before k b = step (cases_lt i k)
   where
     step : (i < k) ⊎ (k ≤ i) → same_state s (led_to m (take k xs)) ≡ false

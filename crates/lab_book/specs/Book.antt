@@ -1,5 +1,6 @@
 -- A book: the tiles of a problem's run, and the history of the calls; what each call does to it.
-use Rattle.std.specs.Prelude.{ℕ, ◌≡◌, ◌+◌, ◌-◌, ◌==◌, Bool, true, false, not, Option, Some, None, is_some, unwrap_or, option_map, Result, Ok, Err, List, [], ◌∷◌, ◌++◌, length, take, drop, slice_set, count_by, if◌then◌else◌}
+use Rattle.std.specs.Prelude.{ℕ, ◌≡◌, ◌+◌, ◌-◌, ◌==◌, Bool, true, false, not, Option, Some, None, is_some, unwrap_or, option_map, Result}
+use Rattle.std.specs.Prelude.{Ok, Err, List, [], ◌∷◌, ◌++◌, length, take, drop, slice_set, count_by, if◌then◌else◌}
 use Rattle.std.specs.List.{position}
 use Rattle.cover_problem.specs.Problem.{ProblemValue}
 use Rattle.x_steps.specs.StateValue.{StateValue}
@@ -10,14 +11,16 @@ use Rattle.x_branches.specs.Stretch.{StretchValue}
 use Rattle.lab_book.specs.declared.status.Status.TheVariants as status
 use Rattle.lab_book.specs.declared.lease.Grant.{Grant}
 use Rattle.lab_book.specs.declared.fault.BookFault.{BookFault}
-use Rattle.lab_book.specs.declared.fault.BookFault.TheVariants.{UnknownBranch, NotWaiting, StaleLease, ForeignProblem, NotAfterMark, BeyondEnd, NotAMark, NotAtEnd, NothingToRetract}
+use Rattle.lab_book.specs.declared.fault.BookFault.TheVariants.{UnknownBranch, NotWaiting, StaleLease, ForeignProblem, NotAfterMark}
+use Rattle.lab_book.specs.declared.fault.BookFault.TheVariants.{BeyondEnd, NotAMark, NotAtEnd, NothingToRetract}
 use Rattle.lab_book.specs.declared.entry.Call.{Call}
 use Rattle.lab_book.specs.declared.entry.Call.TheVariants as call
 use Rattle.lab_book.specs.declared.entry.Reply.{Reply}
 use Rattle.lab_book.specs.declared.entry.Reply.TheVariants as reply
 use Rattle.lab_book.specs.declared.entry.Entry.{Entry}
 use Rattle.lab_book.specs.States.{same_state}
-use Rattle.lab_book.specs.Tile.{TileValue, is_waiting, is_held, is_leased, is_closed, is_free, is_lease, freed_status, asked_status, mark_of, tile_end}
+use Rattle.lab_book.specs.Tile.{TileValue, is_waiting, is_held, is_leased, is_closed, is_free, is_lease, freed_status, asked_status}
+use Rattle.lab_book.specs.Tile.{mark_of, tile_end}
 use Rattle.lab_book.specs.Tiling.{tile_at, IsTiling}
 
 -- a book: a branch of a problem's run with its first mark, the tiles that part it, and the history
@@ -93,12 +96,14 @@ lease_fault g t next = else_fault (is_lease t.status g) (StaleLease (mark_of t))
 -- then a stretch has to be the problem's, to begin at the mark, and to end within the tile
 abbrev pub stretch_fault : ProblemValue → StateValue → StateValue → Bool → TileValue → Option BookFault
 stretch_fault p from to same t =
-    else_fault same ForeignProblem (else_fault (same_state from (mark_of t)) (StaleLease (mark_of t)) (else_fault (not (comes_before p (tile_end t) to)) BeyondEnd None))
+    else_fault same ForeignProblem (else_fault (same_state from (mark_of t)) (StaleLease (mark_of t))
+    (else_fault (not (comes_before p (tile_end t) to)) BeyondEnd None))
 
 -- a cut has to be the problem's, after the mark and before the end
 abbrev pub cut_fault : ProblemValue → List ℕ → Bool → TileValue → Option BookFault
 cut_fault p path same t =
-    else_fault same ForeignProblem (else_fault (comes_before p (mark_of t) (cut_state path)) NotAfterMark (else_fault (comes_before p (cut_state path) (tile_end t)) BeyondEnd None))
+    else_fault same ForeignProblem (else_fault (comes_before p (mark_of t) (cut_state path)) NotAfterMark
+    (else_fault (comes_before p (cut_state path) (tile_end t)) BeyondEnd None))
 
 -- a tile to be closed has to be posted up to its end
 abbrev pub end_fault : TileValue → Option BookFault
@@ -133,7 +138,8 @@ lent b w i =
     let t = tile_at b.tiles i in
     let ts = slice_set b.tiles i (lent_tile t w (length b.history)) in
     record {
-      reply = reply.Leased (record { id = t.id; worker = w; index = length b.history }) (path_of t.branch.lo) (path_of t.branch.hi) (mark_of t) (waiting_in ts);
+      reply = reply.Leased (record { id = t.id; worker = w; index = length b.history }) (path_of t.branch.lo) (path_of t.branch.hi)
+          (mark_of t) (waiting_in ts);
       tiles = ts;
     }
 
@@ -172,7 +178,8 @@ parted t id cut = head_tile t cut ∷ tail_tile id t cut ∷ []
 abbrev pub split : BookValue → List ℕ → ℕ → Outcome
 split b path i = record {
   reply = reply.Split (length b.tiles);
-  tiles = take i b.tiles ++ parted (tile_at b.tiles i) (length b.tiles) (record { problem = b.problem; path = path }) ++ drop (i + 1) b.tiles;
+  tiles = take i b.tiles ++ parted (tile_at b.tiles i) (length b.tiles) (record { problem = b.problem; path = path })
+      ++ drop (i + 1) b.tiles;
 }
 
 -- the last stretch is taken out
@@ -212,14 +219,17 @@ unfoldable pub outcome : BookValue → ℕ → Call → Outcome
 outcome b w (call.Lease id) = made_at b.tiles (lent b w) (found b.tiles id (λ t. status_fault (is_waiting t.status) t))
 outcome b w call.LeaseAny = lent_any b w (first_waiting b.tiles)
 outcome b w (call.TakeHeld id) = made_at b.tiles (lent b w) (found b.tiles id (λ t. status_fault (is_held t.status) t))
-outcome b w (call.Post g from to same) = made_at b.tiles (posted b from to) (found b.tiles g.id (λ t. lease_fault g t (stretch_fault b.problem from to same t)))
-outcome b w (call.Split g path same) = made_at b.tiles (split b path) (found b.tiles g.id (λ t. lease_fault g t (cut_fault b.problem path same t)))
+outcome b w (call.Post g from to same) =
+    made_at b.tiles (posted b from to) (found b.tiles g.id (λ t. lease_fault g t (stretch_fault b.problem from to same t)))
+outcome b w (call.Split g path same) = made_at b.tiles (split b path)
+    (found b.tiles g.id (λ t. lease_fault g t (cut_fault b.problem path same t)))
 outcome b w (call.Retract g) = made_at b.tiles (retracted b) (found b.tiles g.id (λ t. lease_fault g t (retract_fault t)))
 outcome b w (call.Park g) = made_at b.tiles (settled b freed) (found b.tiles g.id (λ t. lease_fault g t None))
 outcome b w (call.Abandon g) = made_at b.tiles (settled b freed) (found b.tiles g.id (λ t. lease_fault g t None))
 outcome b w (call.Close g) = made_at b.tiles (settled b closed) (found b.tiles g.id (λ t. lease_fault g t (end_fault t)))
 outcome b w (call.PutBack id s) = made_at b.tiles (settled b (put_back s)) (found b.tiles id (mark_fault s))
-outcome b w (call.RequestStop id) = made_at b.tiles (settled b asked_to_stop) (found b.tiles id (λ t. status_fault (not (is_closed t.status)) t))
+outcome b w (call.RequestStop id) = made_at b.tiles (settled b asked_to_stop)
+    (found b.tiles id (λ t. status_fault (not (is_closed t.status)) t))
 
 -- one call: the tiles change as it says, and the history gains its entry
 abbrev pub book_step : BookValue → ℕ → Call → BookValue

@@ -62,6 +62,14 @@ Splits old new g c id = Made old new g.worker (split_of old.problem g c) (reply.
 abbrev pub SplitRefused : BookValue → BookValue → Grant → CutPath → BookFault → Type 0
 SplitRefused old new g c f = Refuses old new g.worker (split_of old.problem g c) f
 
+-- a book ended this lease by a call, and answered that it is done
+abbrev pub Ends : BookValue → BookValue → (Grant → Call) → Grant → Type 0
+Ends old new c g = Made old new g.worker (c g) reply.Done
+
+-- a book refused to
+abbrev pub EndRefused : BookValue → BookValue → (Grant → Call) → Grant → BookFault → Type 0
+EndRefused old new c g f = Refuses old new g.worker (c g) f
+
 -- whether a lease is the current one of a tile
 abbrev pub is_current : List TileValue → Grant → Bool
 is_current ts g = is_ok (found ts g.id (λ t. lease_fault g t None))

@@ -1,7 +1,8 @@
 -- The numbers and names of the refusals.
 use Rattle.std.specs.Prelude.{ℕ, Option, Some, None, List, codes}
 use Rattle.lab_book.specs.declared.fault.BookFault.{BookFault}
-use Rattle.lab_book.specs.declared.fault.BookFault.TheVariants.{UnknownBranch, NotWaiting, StaleLease, ForeignProblem, NotAfterMark, BeyondEnd, NotAMark, NotAtEnd, NothingToRetract, OutOfMemory}
+use Rattle.lab_book.specs.declared.fault.BookFault.TheVariants.{UnknownBranch, NotWaiting, StaleLease, ForeignProblem, NotAfterMark}
+use Rattle.lab_book.specs.declared.fault.BookFault.TheVariants.{BeyondEnd, NotAMark, NotAtEnd, NothingToRetract, OutOfMemory}
 
 -- the number of a refusal; out of memory has none
 abbrev pub number_of : BookFault → Option ℕ

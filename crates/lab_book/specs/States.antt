@@ -28,4 +28,5 @@ cursor_number (At o) = o + 2
 
 -- whether two states are the same: the same step, choices and cursor
 unfoldable pub same_state : StateValue → StateValue → Bool
-same_state s t = (label_number s.label == label_number t.label) && bytes_eq s.path t.path && (cursor_number s.cursor == cursor_number t.cursor)
+same_state s t = (label_number s.label == label_number t.label) && bytes_eq s.path t.path &&
+    (cursor_number s.cursor == cursor_number t.cursor)

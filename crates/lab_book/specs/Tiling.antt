@@ -13,7 +13,8 @@ abbrev pub AreTiles : ProblemValue → Option CutPath → StateValue → List Ti
 AreTiles p lo first [] hi = ⊥
 AreTiles p lo first (t ∷ []) hi = (t.branch.lo ≡ lo) × (t.first ≡ first) × IsTile p t × (t.branch.hi ≡ hi)
 AreTiles p lo first (t ∷ u ∷ ts) hi =
-    (t.branch.lo ≡ lo) × (t.first ≡ first) × IsTile p t × (cut : CutPath) × (t.branch.hi ≡ Some cut) × AreTiles p (Some cut) (cut_state cut.path) (u ∷ ts) hi
+    (t.branch.lo ≡ lo) × (t.first ≡ first) × IsTile p t × (cut : CutPath) × (t.branch.hi ≡ Some cut)
+    × AreTiles p (Some cut) (cut_state cut.path) (u ∷ ts) hi
 
 -- no tile: a closed one without a part of the run
 abbrev pub no_tile : TileValue

@@ -83,6 +83,17 @@ fn check_start(
     }
 }
 
+/// What a call was given comes back, when out of memory.
+fn out_of_memory<G>(given: G) -> Refused<BookFault, G>
+    ensures fault { result.fault ≡ BookFault.OutOfMemory }
+    ensures given_back { result.given ≡ given }
+{
+    Refused {
+        fault: BookFault::OutOfMemory,
+        given,
+    }
+}
+
 /// A cut of a branch, if there is one, is a cut.
 fn is_cut(cut: &Option<Cut<'_>>)
     ensures { IfSome cut.now (λ c. IsCut c.problem c.path) }
@@ -226,5 +237,21 @@ impl<'p> Book<'p> {
             reply: Reply::Refused(copy),
         });
         fault
+    }
+
+    /// Notes a refusal as `refuse` does, and hands back what the call was given.
+    fn hand_back<G>(
+        &mut self,
+        w: u8,
+        call: Call,
+        fault: BookFault,
+        given: G,
+    ) -> Refused<BookFault, G>
+        requires { (fault ≡ BookFault.OutOfMemory) ⊎ (outcome self.old w call ≡ refused self.old.tiles fault) }
+        ensures refused { Refuses self.old self.new w call result.fault }
+        ensures given_back { result.given ≡ given }
+    {
+        let fault = self.refuse(w, call, fault);
+        Refused { fault, given }
     }
 }

@@ -12,11 +12,12 @@ mod totals;
 
 use crate::mark::Mark;
 use crate::status::Status;
+use cover_problem::Lists;
 pub(crate) use parting::CutCopies;
 use std::alloc::{AllocError, Global};
 use std::marker::Model;
 use x_branches::{Branch, Cut, Stretch};
-use x_steps::{Cursor, Label, Paths, State};
+use x_steps::{Cursor, Label, State};
 
 /// A branch of the run, how it stands, where its search began, and the stretches that were posted of it.
 #[derive(Drop)]
@@ -240,7 +241,7 @@ impl<'p> Tile<'p> {
     }
 
     /// Adds the paths that its stretches visit; where memory runs out, some may be there.
-    pub(crate) fn add_visits(&self, visits: &mut Paths) -> Result<(), AllocError>
+    pub(crate) fn add_visits(&self, visits: &mut Lists) -> Result<(), AllocError>
         ensures { OnOk result (visits.new ≡ visits.old ++ stretch_visits self.now.stretches) }
     {
         for stretch in self.stretches() {

@@ -1,8 +1,10 @@
 //! The tiles of a book in order, with what is kept beside them so that no call has to go over all.
-ghost use Rattle.std.specs.Prelude.{◌≡◌, ◌⊎◌, ◌≤◌, ◌<◌, ◌+◌, ◌-◌, ◌^◌, true, false, not, Some, take, cond, [], ◌∷◌, length, slice_set, Option, None, IsOk, IfSome, OnOk, OnErr, IfErr, IfOk};
+ghost use Rattle.std.specs.Prelude.{◌≡◌, ◌⊎◌, ◌≤◌, ◌<◌, ◌+◌, ◌-◌, ◌^◌, true, false, not, Some, take, cond, [], ◌∷◌, length, slice_set};
+ghost use Rattle.std.specs.Prelude.{Option, None, IsOk, IfSome, OnOk, OnErr, IfErr, IfOk};
 ghost use Rattle.lab_book.specs.Tile.{TileValue, is_leased, is_waiting, is_held, is_closed, mark_of};
 ghost use Rattle.lab_book.specs.Tiling.{tile_at, AreNumbered};
-ghost use Rattle.lab_book.specs.Book.{place_of, first_waiting, waiting_in, leased_in, found, status_fault, lease_fault, posted_tile, retracted_tile, last_of};
+ghost use Rattle.lab_book.specs.Book.{place_of, first_waiting, waiting_in, leased_in, found, status_fault, lease_fault, posted_tile};
+ghost use Rattle.lab_book.specs.Book.{retracted_tile, last_of};
 ghost use Rattle.lab_book.specs.Calls.{Judged, is_current};
 
 mod splitting;

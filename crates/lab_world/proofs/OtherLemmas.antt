@@ -10,18 +10,23 @@ use Rattle.lab_book.specs.declared.fault.BookFault.{BookFault}
 use Rattle.lab_book.specs.declared.entry.Call.TheVariants as call
 use Rattle.lab_book.specs.Tile.{TileValue, is_waiting, is_closed, asked_status}
 use Rattle.lab_book.specs.Tiling.{tile_at, no_tile}
-use Rattle.lab_book.specs.Book.{BookValue, Outcome, outcome, lent, lent_any, first_waiting, posted, split, head_tile, tail_tile, retracted, settled, freed, closed, put_back, asked_to_stop, status_fault, lease_fault, stretch_fault, cut_fault, retract_fault, end_fault, mark_fault}
+use Rattle.lab_book.specs.Book.{BookValue, Outcome, outcome, lent, lent_any, first_waiting, posted, split, head_tile, tail_tile, retracted}
+use Rattle.lab_book.specs.Book.{settled, freed, closed, put_back, asked_to_stop, status_fault, lease_fault, stretch_fault, cut_fault}
+use Rattle.lab_book.specs.Book.{retract_fault, end_fault, mark_fault}
 use Rattle.lab_world.specs.declared.worker.ending.Ending.{Ending}
 use Rattle.lab_world.specs.declared.worker.ending.Ending.TheVariants as ending
 use Rattle.lab_world.specs.declared.worker.leasing.Wanted.{Wanted}
 use Rattle.lab_world.specs.declared.worker.leasing.Wanted.TheVariants as wanted
 use Rattle.lab_world.specs.Worker.{WorkerValue, IsWorkers, HasTile, is_wanted, lease_call, end_call}
-use Rattle.lab_world.proofs.HoldLemmas.{kept_set, kept_made, kept_parted, passed, lease_outcome, wanted_not_leased, free_not_leased, other_lease}
+use Rattle.lab_world.proofs.HoldLemmas.{kept_set, kept_made, kept_parted, passed, lease_outcome, wanted_not_leased, free_not_leased}
+use Rattle.lab_world.proofs.HoldLemmas.{other_lease}
 
 module _ (b : BookValue) (w : ℕ) (y : WorkerValue) (has : HasTile b.tiles y) where
   -- a tile that isn't leased is no worker's, and may change
-  where_free : (i : ℕ) (u : TileValue) → i < length b.tiles → ((v k : ℕ) → (tile_at b.tiles i).status ≡ status.Leased v k → ⊥) → HasTile (set b.tiles i u) y
-  where_free i u l n = kept_set b.tiles y i u l (λ (o : IsWorkers (tile_at b.tiles i) y). absurd (n y.grant.worker y.grant.index o.leased)) has
+  where_free : (i : ℕ) (u : TileValue) → i < length b.tiles → ((v k : ℕ) → (tile_at b.tiles i).status ≡ status.Leased v k → ⊥)
+      → HasTile (set b.tiles i u) y
+  where_free i u l n = kept_set b.tiles y i u l (λ (o : IsWorkers (tile_at b.tiles i) y). absurd (n y.grant.worker y.grant.index o.leased))
+      has
 
   pub lease_leaves : (want : Wanted) (id : ℕ) → HasTile (outcome b w (lease_call want id)).tiles y
   lease_leaves want id =
@@ -49,13 +54,20 @@ module _ (b : BookValue) (w : ℕ) (y : WorkerValue) (has : HasTile b.tiles y) w
   unfolding outcome
   stop_leaves id =
       kept_made b.tiles y (settled b asked_to_stop) id (λ (t : TileValue). status_fault (not (is_closed t.status)) t)
-      (λ i l n. kept_set b.tiles y i _ l (λ (o : IsWorkers (tile_at b.tiles i) y). record { named = o.named; leased = ap asked_status o.leased; branch = o.branch; mark = o.mark }) has) has
+      (λ i l n. kept_set b.tiles y i _ l (λ (o : IsWorkers (tile_at b.tiles i) y). record {
+        named = o.named;
+        leased = ap asked_status o.leased;
+        branch = o.branch;
+        mark = o.mark;
+      }) has) has
 
   module _ (g : Grant) (other : y.grant.worker ≡ g.worker → ⊥) where
     -- a tile leased by another's lease may change
-    where_other : (i : ℕ) (u : TileValue) (next : Option BookFault) → i < length b.tiles → lease_fault g (tile_at b.tiles i) next ≡ None → HasTile (set b.tiles i u) y
+    where_other : (i : ℕ) (u : TileValue) (next : Option BookFault) → i < length b.tiles → lease_fault g (tile_at b.tiles i) next ≡ None
+        → HasTile (set b.tiles i u) y
     where_other i u next l n =
-        kept_set b.tiles y i u l (λ (o : IsWorkers (tile_at b.tiles i) y). absurd (other (other_lease _ g _ _ (passed _ _ _ n).0 o.leased))) has
+        kept_set b.tiles y i u l (λ (o : IsWorkers (tile_at b.tiles i) y). absurd (other (other_lease _ g _ _ (passed _ _ _ n).0 o.leased)))
+        has
 
     pub post_leaves : (from to : StateValue) (same : Bool) → HasTile (outcome b w (call.Post g from to same)).tiles y
     unfolding outcome
@@ -68,7 +80,8 @@ module _ (b : BookValue) (w : ℕ) (y : WorkerValue) (has : HasTile b.tiles y) w
     split_leaves path same =
         let cut : CutPath = record { problem = b.problem; path = path } in
         kept_made b.tiles y (split b path) g.id (λ (t : TileValue). lease_fault g t (cut_fault b.problem path same t))
-        (λ i l n. kept_parted b.tiles y i (head_tile (tile_at b.tiles i) cut) (tail_tile (length b.tiles) (tile_at b.tiles i) cut) l (where_other i _ _ l n)) has
+        (λ i l n. kept_parted b.tiles y i (head_tile (tile_at b.tiles i) cut) (tail_tile (length b.tiles) (tile_at b.tiles i) cut) l
+        (where_other i _ _ l n)) has
 
     pub retract_leaves : HasTile (outcome b w (call.Retract g)).tiles y
     unfolding outcome

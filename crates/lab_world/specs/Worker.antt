@@ -18,7 +18,7 @@ use Rattle.lab_book.specs.declared.entry.Reply.{Reply}
 use Rattle.lab_book.specs.declared.entry.Reply.TheVariants as reply
 use Rattle.lab_book.specs.Tile.{TileValue, mark_of, is_waiting, is_held}
 use Rattle.lab_book.specs.Tiling.{tile_at}
-use Rattle.lab_book.specs.Book.{BookValue, found, status_fault}
+use Rattle.lab_book.specs.Book.{BookValue, outcome, book_step, found, status_fault}
 use Rattle.lab_book.specs.declared.entry.Call.{Call}
 use Rattle.lab_book.specs.declared.entry.Call.TheVariants as call
 use Rattle.lab_book.specs.Calls.{Refuses}
@@ -68,6 +68,10 @@ marked_at x s = record { grant = x.grant; runner = record x.runner { mark = s } 
 abbrev pub unposted : WorkerValue → StretchValue
 unposted x = record { problem = x.runner.problem; from = x.runner.mark; to = x.runner.position }
 
+-- and how many steps that has
+abbrev pub unposted_steps : WorkerValue → ℕ
+unposted_steps x = steps_between x.runner.problem x.runner.mark x.runner.position
+
 -- its runner's branch ends at a cut
 abbrev pub shortened : WorkerValue → CutPath → WorkerValue
 shortened x cut = record { grant = x.grant; runner = record x.runner { branch = record x.runner.branch { hi = Some cut } } }
@@ -79,6 +83,10 @@ cut_at r level o = record { problem = r.problem; path = with_choice r.position l
 -- the call that splits a worker's tile at a cut of its problem, by the cut's choices
 abbrev pub split_call : WorkerValue → List ℕ → Call
 split_call x path = call.Split x.grant path true
+
+-- and at the cut at an option of a level of where its runner stands
+abbrev pub split_at : WorkerValue → ℕ → ℕ → Grant → Call
+split_at x level o g = call.Split g (with_choice x.runner.position level o) true
 
 -- a runner that stands at its mark
 abbrev pub runner_at : ProblemValue → Branch → StateValue → RunnerValue
@@ -96,8 +104,20 @@ end_call Close g = call.Close g
 
 -- the worker that is leased a tile, by the book's answer
 abbrev pub lent_worker : ProblemValue → Reply → Option WorkerValue
-lent_worker p (reply.Leased g lo hi mark waiting) = Some (record { grant = g; runner = runner_at p (record { lo = cut_of p lo; hi = cut_of p hi }) mark })
+lent_worker p (reply.Leased g lo hi mark waiting) =
+    Some (record { grant = g; runner = runner_at p (record { lo = cut_of p lo; hi = cut_of p hi }) mark })
 lent_worker p r = None
+
+-- the worker that a call of the book leases a tile to, if it does
+abbrev pub leased_by : BookValue → ℕ → Call → Option WorkerValue
+leased_by b w c = lent_worker b.problem (outcome b w c).reply
+
+-- what a worker's call by its lease makes of the book, and what the book answers it
+abbrev pub after_call : BookValue → WorkerValue → (Grant → Call) → BookValue
+after_call b x c = book_step b x.grant.worker (c x.grant)
+
+abbrev pub answer_to : BookValue → WorkerValue → (Grant → Call) → Reply
+answer_to b x c = (outcome b x.grant.worker (c x.grant)).reply
 
 -- ---- which tile is leased
 
@@ -143,9 +163,9 @@ after_end x r = Some x
 
 -- why a worker's stretch isn't taken back: it has unposted steps, and then the book wasn't called, or the book refused
 abbrev pub RetractRefused : BookValue → BookValue → WorkerValue → WorkerFault → Type 0
-RetractRefused old new x (Runner NotAtMark) = (0 < steps_between x.runner.problem x.runner.mark x.runner.position) × (new ≡ old)
+RetractRefused old new x (Runner NotAtMark) = (0 < unposted_steps x) × (new ≡ old)
 RetractRefused old new x (Runner f) = ⊥
-RetractRefused old new x (Book f) = Refuses old new x.grant.worker (call.Retract x.grant) f × (steps_between x.runner.problem x.runner.mark x.runner.position ≡ 0)
+RetractRefused old new x (Book f) = Refuses old new x.grant.worker (call.Retract x.grant) f × (unposted_steps x ≡ 0)
 
 -- why a worker's tile isn't split: its runner refused the cut, and then the book wasn't called, or memory ran out at a cut that is
 -- untried; the book is as it was

@@ -1,16 +1,17 @@
 -- A world: a book, and for each worker nothing or its lease with its runner; what each event makes of it.
 --
 -- An event is one worker's: it changes the book and that worker's place alone.
-use Rattle.std.specs.Prelude.{ℕ, ◌≡◌, ◌<◌, ◌==◌, Option, Some, None, List, [], ◌∷◌, length, option_map, replicate, slice_set, slice_index_or, if◌then◌else◌}
+use Rattle.std.specs.Prelude.{ℕ, ◌≡◌, ◌<◌, ◌==◌, Option, Some, None, List, [], ◌∷◌, length, option_map, replicate, slice_set}
+use Rattle.std.specs.Prelude.{slice_index_or, if◌then◌else◌}
 use Rattle.cover_problem.specs.Lists.{has}
 use Rattle.x_steps.specs.StateValue.{StateValue}
 use Rattle.x_steps.specs.StateView.{state_value}
 use Rattle.x_steps.specs.declared.event.Event.TheVariants as event
 use Rattle.x_steps.specs.Steps.{next, event_of}
 use Rattle.x_steps.specs.Before.{prev}
-use Rattle.x_steps.specs.Run.{steps_between}
 use Rattle.x_branches.specs.declared.fault.RunnerFault.{RunnerFault}
-use Rattle.x_branches.specs.declared.fault.RunnerFault.TheVariants.{AtBranchEnd, AtMark, NothingUntried, NotUntried, OutsideBranch, NotAtMark, StretchFull}
+use Rattle.x_branches.specs.declared.fault.RunnerFault.TheVariants.{AtBranchEnd, AtMark, NothingUntried, NotUntried, OutsideBranch}
+use Rattle.x_branches.specs.declared.fault.RunnerFault.TheVariants.{NotAtMark, StretchFull}
 use Rattle.x_branches.specs.Branch.{end_of}
 use Rattle.x_branches.specs.Runner.{RunnerValue}
 use Rattle.x_branches.specs.Refusals.{most_steps, untried_in}
@@ -22,7 +23,8 @@ use Rattle.lab_book.specs.States.{same_state}
 use Rattle.lab_book.specs.Book.{BookValue, outcome, book_step}
 use Rattle.lab_book.specs.Calls.{post_of}
 use Rattle.lab_world.specs.declared.event.Act.{Act}
-use Rattle.lab_world.specs.declared.event.Act.TheVariants.{Step, Back, Lease, LeaseAny, TakeHeld, Post, Split, Retract, Park, Abandon, Close, PutBack, RequestStop}
+use Rattle.lab_world.specs.declared.event.Act.TheVariants.{Step, Back, Lease, LeaseAny, TakeHeld, Post, Split, Retract, Park, Abandon}
+use Rattle.lab_world.specs.declared.event.Act.TheVariants.{Close, PutBack, RequestStop}
 use Rattle.lab_world.specs.declared.event.WorldEvent.{WorldEvent}
 use Rattle.lab_world.specs.declared.worker.ending.Ending.{Ending}
 use Rattle.lab_world.specs.declared.worker.ending.Ending.TheVariants as ending
@@ -30,7 +32,8 @@ use Rattle.lab_world.specs.declared.worker.leasing.Wanted.{Wanted}
 use Rattle.lab_world.specs.declared.worker.leasing.Wanted.TheVariants as wanted
 use Rattle.lab_world.specs.declared.event.WorldReply.{WorldReply}
 use Rattle.lab_world.specs.declared.event.WorldReply.TheVariants.{Event, Runner, Book, Idle, Busy}
-use Rattle.lab_world.specs.Worker.{WorkerValue, HoldsTile, moved_to, unposted, cut_at, split_call, lent_worker, after_post, after_split, after_retract, after_end}
+use Rattle.lab_world.specs.Worker.{WorkerValue, HoldsTile, moved_to, unposted, unposted_steps, cut_at, split_call, lent_worker, after_post}
+use Rattle.lab_world.specs.Worker.{after_split, after_retract, after_end}
 
 -- a world
 pub record WorldValue : Type 0 where
@@ -71,7 +74,7 @@ working b (Some x) f = f x
 abbrev pub stepped : BookValue → WorkerValue → Turn
 stepped b x =
     if same_state x.runner.position (end_of x.runner.branch.hi) then stays b (Some x) (Runner AtBranchEnd) else
-    (if steps_between x.runner.problem x.runner.mark x.runner.position == most_steps then stays b (Some x) (Runner StretchFull) else
+    (if unposted_steps x == most_steps then stays b (Some x) (Runner StretchFull) else
     record {
       reply = Event (event_of x.runner.problem x.runner.position);
       book = b;
@@ -101,7 +104,7 @@ splitting b level o x =
 -- what was posted last is taken out and walked again, unless there are unposted steps
 abbrev pub retracting : BookValue → WorkerValue → Turn
 retracting b x =
-    if steps_between x.runner.problem x.runner.mark x.runner.position == 0 then called b x.grant.worker (call.Retract x.grant) (after_retract x) else
+    if unposted_steps x == 0 then called b x.grant.worker (call.Retract x.grant) (after_retract x) else
     stays b (Some x) (Runner NotAtMark)
 
 -- what worker w's act makes of a book and of its place

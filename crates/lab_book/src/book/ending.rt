@@ -1,10 +1,11 @@
 //! Leases are given up.
 ghost use Rattle.std.specs.Prelude.{◌≡◌, ◌≤◌, ◌<◌, true, false, None, length, slice_set, IsOk, IfOk, IfErr, OnOk, OnErr};
+ghost use Rattle.lab_book.specs.declared.entry.Call.TheVariants as calls;
 ghost use Rattle.lab_book.specs.declared.entry.Reply.TheVariants as replies;
 ghost use Rattle.lab_book.specs.Tile.{is_leased, Stands};
 ghost use Rattle.lab_book.specs.Tiling.{tile_at};
 ghost use Rattle.lab_book.specs.Book.{outcome, made_at, settled, freed, found, lease_fault, end_fault};
-ghost use Rattle.lab_book.specs.Calls.{Made, Refuses, Judged, is_current};
+ghost use Rattle.lab_book.specs.Calls.{Made, Refuses, Ends, EndRefused, Judged, is_current};
 
 use crate::book::Book;
 use crate::entry::{Call, Entry, Reply};
@@ -54,20 +55,19 @@ impl<'p> Book<'p> {
     /// Closes the tile that is leased. Refused where no tile has the lease's id (1), where the lease isn't its current one (3), and
     /// where its mark isn't its end (8); the lease comes back.
     pub fn close(&mut self, lease: Lease) -> Result<(), Refused<BookFault, Lease>>
-        ensures made { OnOk result (Made self.old self.new lease.worker (Call.Close lease) replies.Done) }
-        ensures refused { IfErr result (λ r. Refuses self.old self.new lease.worker (Call.Close lease) r.fault) }
+        ensures made { OnOk result (Ends self.old self.new calls.Close lease) }
+        ensures refused { IfErr result (λ r. EndRefused self.old self.new calls.Close lease r.fault) }
         ensures given_back { IfErr result (λ r. r.given ≡ lease) }
     {
         let grant = lease.grant();
         let i = match self.close_place(grant) {
             Ok(i) => i,
-            Err(fault) => {
-                let fault = self.refuse(grant.worker, Call::Close(grant), fault);
-                return Err(Refused {
-                    fault,
-                    given: lease,
-                });
-            }
+            Err(fault) => return Err(self.hand_back(
+                grant.worker,
+                Call::Close(grant),
+                fault,
+                lease,
+            )),
         };
         lease.discard();
         self.settle(grant.worker, i, Call::Close(grant), Status::Closed);
@@ -86,13 +86,7 @@ impl<'p> Book<'p> {
         let grant = lease.grant();
         let i = match self.tiles.leased_place(grant) {
             Ok(i) => i,
-            Err(fault) => {
-                let fault = self.refuse(grant.worker, call, fault);
-                return Err(Refused {
-                    fault,
-                    given: lease,
-                });
-            }
+            Err(fault) => return Err(self.hand_back(grant.worker, call, fault, lease)),
         };
         lease.discard();
         let status = Status::freed(self.tiles.tile(i).stop());
@@ -104,9 +98,9 @@ impl<'p> Book<'p> {
     /// tile's current lease. Refused where no tile has the lease's id (1), and where the lease isn't its current one (3); the lease
     /// comes back.
     pub fn abandon(&mut self, lease: Lease) -> Result<(), Refused<BookFault, Lease>>
-        ensures made { OnOk result (Made self.old self.new lease.worker (Call.Abandon lease) replies.Done) }
+        ensures made { OnOk result (Ends self.old self.new calls.Abandon lease) }
         ensures current { is_current self.old.tiles lease ≡ true → IsOk result }
-        ensures refused { IfErr result (λ r. Refuses self.old self.new lease.worker (Call.Abandon lease) r.fault) }
+        ensures refused { IfErr result (λ r. EndRefused self.old self.new calls.Abandon lease r.fault) }
         ensures given_back { IfErr result (λ r. r.given ≡ lease) }
     {
         let call = Call::Abandon(lease.grant());
@@ -116,9 +110,9 @@ impl<'p> Book<'p> {
     /// The same for a tile that is to be taken up again: its worker has posted what it wants to keep. It waits, or is held where a
     /// stop was asked for. Takes no memory for the tile's current lease.
     pub fn park(&mut self, lease: Lease) -> Result<(), Refused<BookFault, Lease>>
-        ensures made { OnOk result (Made self.old self.new lease.worker (Call.Park lease) replies.Done) }
+        ensures made { OnOk result (Ends self.old self.new calls.Park lease) }
         ensures current { is_current self.old.tiles lease ≡ true → IsOk result }
-        ensures refused { IfErr result (λ r. Refuses self.old self.new lease.worker (Call.Park lease) r.fault) }
+        ensures refused { IfErr result (λ r. EndRefused self.old self.new calls.Park lease r.fault) }
         ensures given_back { IfErr result (λ r. r.given ≡ lease) }
     {
         let call = Call::Park(lease.grant());

@@ -8,8 +8,8 @@ ghost use Rattle.lab_book.specs.Posted.{posted_count, posted_steps, posted_level
 
 use crate::book::Book;
 use crate::totals::{drop_last_zeros, no_totals};
+use cover_problem::Lists;
 use std::alloc::AllocError;
-use x_steps::Paths;
 
 impl<'p> Book<'p> {
     /// Whether all tiles are closed.
@@ -24,13 +24,13 @@ impl<'p> Book<'p> {
 
     /// The paths that the posted stretches visit, tile by tile: none comes twice, and where all tiles are closed, they are the
     /// visits of the run from the first mark to the branch's end, in their order.
-    pub fn visits(&self) -> Result<Paths, AllocError>
+    pub fn visits(&self) -> Result<Lists, AllocError>
         ensures visits { IfOk result (λ paths. paths ≡ posted_visits self.now.tiles) }
         ensures rise { IfOk result (λ paths. PathsRise paths) }
         ensures whole { IfOk result (λ paths. AllClosed self.now.tiles →
             paths ≡ visits_between self.now.problem self.now.first (end_of self.now.branch.hi)) }
     {
-        let mut visits = Paths::new(*self.first.state().path.allocator());
+        let mut visits = Lists::new(*self.first.state().path.allocator());
         for tile in self.tiles.list() {
             tile.add_visits(&mut visits)?;
         }

@@ -8,7 +8,7 @@ ghost use Rattle.lab_book.specs.Tiling.{tile_at};
 ghost use Rattle.lab_book.specs.Book.{outcome, posted, found, lease_fault, stretch_fault};
 ghost use Rattle.lab_book.specs.Calls.{Made, Posts, PostRefused, Judged, Doubted, posted_reply};
 
-use crate::book::Book;
+use crate::book::{Book, out_of_memory};
 use crate::entry::{Call, Entry, Reply};
 use crate::fault::BookFault;
 use crate::lease::{Grant, Lease, Posted};
@@ -128,27 +128,15 @@ impl<'p> Book<'p> {
     {
         let lease = lease.grant();
         let Ok(call) = post_call(lease, &stretch, same) else {
-            return Err(Refused {
-                fault: BookFault::OutOfMemory,
-                given: stretch,
-            });
+            return Err(out_of_memory(stretch));
         };
         let i = match self.post_place(lease, &stretch, same) {
             Ok(i) => i,
-            Err(fault) => {
-                let fault = self.refuse(lease.worker, call, fault);
-                return Err(Refused {
-                    fault,
-                    given: stretch,
-                });
-            }
+            Err(fault) => return Err(self.hand_back(lease.worker, call, fault, stretch)),
         };
         match self.commit_post(lease.worker, i, call, stretch) {
             Ok(posted) => Ok(posted),
-            Err(stretch) => Err(Refused {
-                fault: BookFault::OutOfMemory,
-                given: stretch,
-            }),
+            Err(stretch) => Err(out_of_memory(stretch)),
         }
     }
 

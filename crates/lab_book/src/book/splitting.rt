@@ -10,7 +10,7 @@ ghost use Rattle.lab_book.specs.Tiling.{tile_at};
 ghost use Rattle.lab_book.specs.Book.{outcome, split, found, lease_fault, cut_fault};
 ghost use Rattle.lab_book.specs.Calls.{Made, Splits, SplitRefused, Judged, Doubted};
 
-use crate::book::Book;
+use crate::book::{Book, out_of_memory};
 use crate::entry::{Call, Entry, Reply};
 use crate::fault::BookFault;
 use crate::lease::{Grant, Lease};
@@ -142,24 +142,15 @@ impl<'p> Book<'p> {
         let lease = lease.grant();
         let alloc = *self.first.state().path.allocator();
         let Ok((call, copies)) = copied(alloc, lease, &cut, same) else {
-            return Err(Refused {
-                fault: BookFault::OutOfMemory,
-                given: cut,
-            });
+            return Err(out_of_memory(cut));
         };
         let i = match self.split_place(lease, &cut, copies.state(), same) {
             Ok(i) => i,
-            Err(fault) => {
-                let fault = self.refuse(lease.worker, call, fault);
-                return Err(Refused { fault, given: cut });
-            }
+            Err(fault) => return Err(self.hand_back(lease.worker, call, fault, cut)),
         };
         match self.commit_split(lease.worker, i, call, cut, copies) {
             Ok(id) => Ok(id),
-            Err(cut) => Err(Refused {
-                fault: BookFault::OutOfMemory,
-                given: cut,
-            }),
+            Err(cut) => Err(out_of_memory(cut)),
         }
     }
 

@@ -1,7 +1,6 @@
 //! Workers give their tiles up.
 ghost use Rattle.std.specs.Prelude.{◌≡◌, IfErr, OnOk};
-ghost use Rattle.lab_book.specs.declared.entry.Reply.TheVariants as replies;
-ghost use Rattle.lab_book.specs.Calls.{Made, Refuses};
+ghost use Rattle.lab_book.specs.Calls.{Ends, EndRefused};
 ghost use Rattle.lab_book.specs.declared.entry.Call.TheVariants as calls;
 ghost use Rattle.lab_world.specs.Worker.{end_call};
 
@@ -25,8 +24,8 @@ fn end_lease(
     lease: Lease,
     ending: Ending,
 ) -> Result<(), Refused<BookFault, Lease>>
-    ensures made { OnOk result (Made book.old book.new lease.worker (end_call ending lease) replies.Done) }
-    ensures refused { IfErr result (λ r. Refuses book.old book.new lease.worker (end_call ending lease) r.fault) }
+    ensures made { OnOk result (Ends book.old book.new (end_call ending) lease) }
+    ensures refused { IfErr result (λ r. EndRefused book.old book.new (end_call ending) lease r.fault) }
     ensures given_back { IfErr result (λ r. r.given ≡ lease) }
 {
     match ending {
@@ -52,9 +51,8 @@ impl<'p, T: Table> Worker<'p, T> {
         book: &mut Book<'p>,
         ending: Ending,
     ) -> Result<(), Refused<BookFault, Worker<'p, T>>>
-        ensures made { OnOk result (Made book.old book.new self.entry.grant.worker (end_call ending self.entry.grant) replies.Done) }
-        ensures refused { IfErr result (λ r.
-            Refuses book.old book.new self.entry.grant.worker (end_call ending self.entry.grant) r.fault) }
+        ensures made { OnOk result (Ends book.old book.new (end_call ending) self.entry.grant) }
+        ensures refused { IfErr result (λ r. EndRefused book.old book.new (end_call ending) self.entry.grant r.fault) }
         ensures given_back { IfErr result (λ r. r.given ≡ self.entry) }
     {
         let (lease, runner) = self.parts();
@@ -74,9 +72,8 @@ impl<'p, T: Table> Worker<'p, T> {
 
     /// Parks its tile: what it has not posted is lost. Refused as the book refuses it; the worker then comes back.
     pub fn park(self, book: &mut Book<'p>) -> Result<(), Refused<BookFault, Worker<'p, T>>>
-        ensures made { OnOk result (Made book.old book.new self.entry.grant.worker (calls.Park self.entry.grant) replies.Done) }
-        ensures refused { IfErr result (λ r.
-            Refuses book.old book.new self.entry.grant.worker (calls.Park self.entry.grant) r.fault) }
+        ensures made { OnOk result (Ends book.old book.new calls.Park self.entry.grant) }
+        ensures refused { IfErr result (λ r. EndRefused book.old book.new calls.Park self.entry.grant r.fault) }
         ensures given_back { IfErr result (λ r. r.given ≡ self.entry) }
     {
         self.end(book, Ending::Park)
@@ -85,9 +82,8 @@ impl<'p, T: Table> Worker<'p, T> {
     /// Gives its tile up at its mark, without memory where its lease is the tile's current one: what it has not posted is lost.
     /// Refused as the book refuses it; the worker then comes back.
     pub fn abandon(self, book: &mut Book<'p>) -> Result<(), Refused<BookFault, Worker<'p, T>>>
-        ensures made { OnOk result (Made book.old book.new self.entry.grant.worker (calls.Abandon self.entry.grant) replies.Done) }
-        ensures refused { IfErr result (λ r.
-            Refuses book.old book.new self.entry.grant.worker (calls.Abandon self.entry.grant) r.fault) }
+        ensures made { OnOk result (Ends book.old book.new calls.Abandon self.entry.grant) }
+        ensures refused { IfErr result (λ r. EndRefused book.old book.new calls.Abandon self.entry.grant r.fault) }
         ensures given_back { IfErr result (λ r. r.given ≡ self.entry) }
     {
         self.end(book, Ending::Abandon)
@@ -95,9 +91,8 @@ impl<'p, T: Table> Worker<'p, T> {
 
     /// Closes its tile, which has to be posted up to its end. Refused as the book refuses it; the worker then comes back.
     pub fn close(self, book: &mut Book<'p>) -> Result<(), Refused<BookFault, Worker<'p, T>>>
-        ensures made { OnOk result (Made book.old book.new self.entry.grant.worker (calls.Close self.entry.grant) replies.Done) }
-        ensures refused { IfErr result (λ r.
-            Refuses book.old book.new self.entry.grant.worker (calls.Close self.entry.grant) r.fault) }
+        ensures made { OnOk result (Ends book.old book.new calls.Close self.entry.grant) }
+        ensures refused { IfErr result (λ r. EndRefused book.old book.new calls.Close self.entry.grant r.fault) }
         ensures given_back { IfErr result (λ r. r.given ≡ self.entry) }
     {
         self.end(book, Ending::Close)

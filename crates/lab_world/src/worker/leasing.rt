@@ -2,10 +2,10 @@
 ghost use Rattle.std.specs.Prelude.{◌≡◌, ◌≤◌, ◌<◌, length, Some, None, Err, IsErr, IfOk, IfErr, IfSome, OnOk, OnErr};
 ghost use Rattle.lab_book.specs.Tile.{is_waiting, is_held, mark_of};
 ghost use Rattle.lab_book.specs.Tiling.{tile_at, IsTiling};
-ghost use Rattle.lab_book.specs.Book.{outcome, book_step, first_waiting};
+ghost use Rattle.lab_book.specs.Book.{book_step, first_waiting};
 ghost use Rattle.lab_book.specs.Calls.{Made, Refuses, leased_reply};
 ghost use Rattle.lab_book.specs.declared.entry.Call.TheVariants as calls;
-ghost use Rattle.lab_world.specs.Worker.{HoldsTile, runner_at, lent_worker, is_wanted, wanted_place, lease_call};
+ghost use Rattle.lab_world.specs.Worker.{HoldsTile, runner_at, leased_by, is_wanted, wanted_place, lease_call};
 
 use crate::worker::Worker;
 use cover_problem::Table;
@@ -161,8 +161,7 @@ impl<'p, T: Table> Worker<'p, T> {
     ) -> Result<Worker<'p, T>, BookFault>
         requires { w ≤ 31 }
         ensures book { OnOk result (book.new ≡ book_step book.old w (lease_call wanted id)) }
-        ensures worker { IfOk result (λ x.
-            Some x ≡ lent_worker book.old.problem (outcome book.old w (lease_call wanted id)).reply) }
+        ensures worker { IfOk result (λ x. Some x ≡ leased_by book.old w (lease_call wanted id)) }
         ensures holds { IfOk result (λ x. HoldsTile book.new x) }
         ensures refused { IfErr result (λ f. Refuses book.old book.new w (lease_call wanted id) f) }
     {
@@ -192,7 +191,7 @@ impl<'p, T: Table> Worker<'p, T> {
     ) -> Result<Worker<'p, T>, BookFault>
         requires { w ≤ 31 }
         ensures book { OnOk result (book.new ≡ book_step book.old w (calls.Lease id)) }
-        ensures worker { IfOk result (λ x. Some x ≡ lent_worker book.old.problem (outcome book.old w (calls.Lease id)).reply) }
+        ensures worker { IfOk result (λ x. Some x ≡ leased_by book.old w (calls.Lease id)) }
         ensures holds { IfOk result (λ x. HoldsTile book.new x) }
         ensures refused { IfErr result (λ f. Refuses book.old book.new w (calls.Lease id) f) }
     {
@@ -208,7 +207,7 @@ impl<'p, T: Table> Worker<'p, T> {
     ) -> Result<Worker<'p, T>, BookFault>
         requires { w ≤ 31 }
         ensures book { OnOk result (book.new ≡ book_step book.old w (calls.TakeHeld id)) }
-        ensures worker { IfOk result (λ x. Some x ≡ lent_worker book.old.problem (outcome book.old w (calls.TakeHeld id)).reply) }
+        ensures worker { IfOk result (λ x. Some x ≡ leased_by book.old w (calls.TakeHeld id)) }
         ensures holds { IfOk result (λ x. HoldsTile book.new x) }
         ensures refused { IfErr result (λ f. Refuses book.old book.new w (calls.TakeHeld id) f) }
     {
@@ -223,7 +222,7 @@ impl<'p, T: Table> Worker<'p, T> {
     ) -> Result<Option<Worker<'p, T>>, AllocError>
         requires { w ≤ 31 }
         ensures book { OnOk result (book.new ≡ book_step book.old w calls.LeaseAny) }
-        ensures worker { IfOk result (λ x. x ≡ lent_worker book.old.problem (outcome book.old w calls.LeaseAny).reply) }
+        ensures worker { IfOk result (λ x. x ≡ leased_by book.old w calls.LeaseAny) }
         ensures holds { IfOk result (λ x. IfSome x (HoldsTile book.new)) }
         ensures unchanged { OnErr result (book.new ≡ book.old) }
     {

@@ -1,12 +1,11 @@
 //! What a worker walked is posted, and taken back.
 ghost use Rattle.std.specs.Prelude.{◌≡◌, ◌<◌, Some, IfOk, IfErr, OnOk, OnErr};
 ghost use Rattle.x_steps.specs.StateValue.{StateValue};
-ghost use Rattle.x_steps.specs.Run.{steps_between};
-ghost use Rattle.lab_book.specs.Book.{outcome, book_step};
 ghost use Rattle.lab_book.specs.Calls.{Posts, PostRefused};
 ghost use Rattle.lab_book.specs.declared.entry.Call.TheVariants as calls;
 ghost use Rattle.lab_book.specs.declared.entry.Reply.TheVariants as replies;
-ghost use Rattle.lab_world.specs.Worker.{HoldsTile, marked_at, unposted, after_retract, RetractRefused};
+ghost use Rattle.lab_world.specs.Worker.{HoldsTile, marked_at, unposted, unposted_steps, after_call, answer_to, after_retract};
+ghost use Rattle.lab_world.specs.Worker.{RetractRefused};
 
 use crate::fault::WorkerFault;
 use crate::worker::Worker;
@@ -45,12 +44,11 @@ impl<'p, T: Table> Worker<'p, T> {
     /// Refused, without a call of the book, where it has unposted steps (6), and as the book refuses it.
     pub fn retract(&mut self, book: &mut Book<'p>) -> Result<(), WorkerFault>
         requires { HoldsTile book.old self.old }
-        ensures book { OnOk result (book.new ≡ book_step book.old self.old.grant.worker (calls.Retract self.old.grant)) }
-        ensures worker { OnOk result (Some self.new ≡
-            after_retract self.old (outcome book.old self.old.grant.worker (calls.Retract self.old.grant)).reply) }
+        ensures book { OnOk result (book.new ≡ after_call book.old self.old calls.Retract) }
+        ensures worker { OnOk result (Some self.new ≡ after_retract self.old (answer_to book.old self.old calls.Retract)) }
         ensures reply { OnOk result ((from : StateValue) × (to : StateValue)
-            × ((outcome book.old self.old.grant.worker (calls.Retract self.old.grant)).reply ≡ replies.Retracted from to)) }
-        ensures none_unposted { OnOk result (steps_between self.old.runner.problem self.old.runner.mark self.old.runner.position ≡ 0) }
+            × (answer_to book.old self.old calls.Retract ≡ replies.Retracted from to)) }
+        ensures none_unposted { OnOk result (unposted_steps self.old ≡ 0) }
         ensures refused { IfErr result (RetractRefused book.old book.new self.old) }
         ensures unchanged { OnErr result (self.new ≡ self.old) }
         ensures holds { HoldsTile book.new self.new }

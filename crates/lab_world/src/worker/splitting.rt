@@ -2,10 +2,8 @@
 ghost use Rattle.std.specs.Prelude.{◌≡◌, true, IfOk, IfErr, OnOk, OnErr};
 ghost use Rattle.cover_problem.specs.Lists.{has};
 ghost use Rattle.x_branches.specs.Refusals.{untried_in};
-ghost use Rattle.x_branches.specs.Untried.{with_choice};
 ghost use Rattle.lab_book.specs.declared.entry.Reply.TheVariants as replies;
-ghost use Rattle.lab_book.specs.Book.{outcome, book_step};
-ghost use Rattle.lab_world.specs.Worker.{HoldsTile, cut_at, split_call, shortened, WorkerSplitRefused};
+ghost use Rattle.lab_world.specs.Worker.{HoldsTile, cut_at, split_at, after_call, answer_to, shortened, WorkerSplitRefused};
 
 use crate::fault::WorkerFault;
 use crate::worker::Worker;
@@ -25,10 +23,8 @@ impl<'p, T: Table> Worker<'p, T> {
     ) -> Result<u64, WorkerFault>
         requires { HoldsTile book.old self.old }
         ensures untried { OnOk result (has (untried_in self.old.runner level) option ≡ true) }
-        ensures book { OnOk result (book.new ≡
-            book_step book.old self.old.grant.worker (split_call self.old (with_choice self.old.runner.position level option))) }
-        ensures reply { IfOk result (λ id. (outcome book.old self.old.grant.worker
-            (split_call self.old (with_choice self.old.runner.position level option))).reply ≡ replies.Split id) }
+        ensures book { OnOk result (book.new ≡ after_call book.old self.old (split_at self.old level option)) }
+        ensures reply { IfOk result (λ id. answer_to book.old self.old (split_at self.old level option) ≡ replies.Split id) }
         ensures worker { OnOk result (self.new ≡ shortened self.old (cut_at self.old.runner level option)) }
         ensures refused { IfErr result (WorkerSplitRefused book.old book.new self.old level option) }
         ensures unchanged { OnErr result (self.new ≡ self.old) }

@@ -6,7 +6,8 @@ use Rattle.lab_book.proofs.tile.mark_place.Goals as goal
 pub returns-then-same-clause-place : goal.returns-then-same-clause-place
 returns-then-same-clause-place c =
     let here = tested c.same.result (state_value c.args.state.now) (state_value c.args.first.now) c.same.ensures ∙ c.if-same.true in
-    sym (mark_found (state_value c.args.state.now) (state_value c.args.first.now) c.args.stretches.now 0 (omega arith) (λ k l. absurd (omega arith)) here)
+    sym (mark_found (state_value c.args.state.now) (state_value c.args.first.now) c.args.stretches.now 0 (omega arith)
+    (λ k l. absurd (omega arith)) here)
 
 pub loop-place-init : goal.loop-place-init
 loop-place-init c = λ k l.
@@ -18,7 +19,8 @@ returns-then-same-2-clause-place c =
     let s = state_value c.args.state.now in
     let m = state_value c.args.first.now in
     let x = c.index-stretches-place.result in
-    let here = rw c.to.ensures at (tested c.same-in-loop-place.result s (state_value c.to.result.now) c.same-in-loop-place.ensures ∙ c.if-same-2.true) in
+    let here = rw c.to.ensures at (tested c.same-in-loop-place.result s (state_value c.to.result.now) c.same-in-loop-place.ensures
+    ∙ c.if-same-2.true) in
     sym (mark_found s m c.args.stretches.now (c.loop-place.place + 1) (omega arith) (λ k l. c.loop-place.invariant k (omega arith))
     (rw (led_more m c.args.stretches.now c.loop-place.place x c.loop-place-test.true c.index-stretches-place.is) here))
 
@@ -26,9 +28,12 @@ pub loop-place-preserved : goal.loop-place-preserved
 loop-place-preserved c =
     let s = state_value c.args.state.now in
     let m = state_value c.args.first.now in
-    let other = rw c.to.ensures at (tested c.same-in-loop-place.result s (state_value c.to.result.now) c.same-in-loop-place.ensures ∙ c.if-same-2.false) in
-    missed_more s m c.args.stretches.now c.loop-place.place c.index-stretches-place.result c.loop-place-test.true c.index-stretches-place.is other c.loop-place.invariant
+    let other = rw c.to.ensures at (tested c.same-in-loop-place.result s (state_value c.to.result.now) c.same-in-loop-place.ensures
+    ∙ c.if-same-2.false) in
+    missed_more s m c.args.stretches.now c.loop-place.place c.index-stretches-place.result c.loop-place-test.true c.index-stretches-place.is
+    other c.loop-place.invariant
 
 pub returns-clause-place : goal.returns-clause-place
 returns-clause-place c =
-    sym (mark_missed (state_value c.args.state.now) (state_value c.args.first.now) c.args.stretches.now (λ k l. c.loop-place.invariant k (omega arith)))
+    sym (mark_missed (state_value c.args.state.now) (state_value c.args.first.now) c.args.stretches.now
+    (λ k l. c.loop-place.invariant k (omega arith)))

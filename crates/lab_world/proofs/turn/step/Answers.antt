@@ -9,9 +9,11 @@ returns-in_default-clause-turned g c = λ b w. idle_turned b w c.args.place.now 
 
 pub returns-in-Ok-clause-turned : goal.returns-in-Ok-clause-turned
 returns-in-Ok-clause-turned g c =
-    λ b w. step_taken b w c.args.place.now c.in-Some.worker c.step.new.self c.in-Some.is c.in-Ok.event c.in-Ok.ensures.can c.in-Ok.ensures.event c.in-Ok.ensures.state
+    λ b w. step_taken b w c.args.place.now c.in-Some.worker c.step.new.self c.in-Some.is c.in-Ok.event c.in-Ok.ensures.can
+    c.in-Ok.ensures.event c.in-Ok.ensures.state
 
 pub returns-in-Err-clause-turned : goal.returns-in-Err-clause-turned
 returns-in-Err-clause-turned g c =
     told c.not_done.result (Runner c.in-Err.fault) _ _ c.not_done.ensures.reply c.not_done.ensures.noted
-    (λ o b w. step_not_taken b w c.args.place.now c.in-Some.worker c.step.new.self c.in-Some.is c.in-Err.fault c.in-Err.ensures.refused o c.in-Err.ensures.unchanged)
+    (λ o b w. step_not_taken b w c.args.place.now c.in-Some.worker c.step.new.self c.in-Some.is c.in-Err.fault c.in-Err.ensures.refused o
+    c.in-Err.ensures.unchanged)

@@ -1,8 +1,10 @@
-use Rattle.lab_book.proofs.CallLemmas.{close_ok, close_err}
+use Rattle.lab_book.proofs.BookLemmas.{judged_err}
+use Rattle.lab_book.proofs.CallLemmas.{call_made, close_is}
 use Rattle.lab_book.proofs.book.Book.close.Goals as goal
 
-pub refuse-fault-requires : goal.refuse-fault-requires
-refuse-fault-requires c = close_err c.args.self.now _ c.grant-grant.result _ _ c.close_place.ensures.place c.in-Err.is
+pub hand_back-requires : goal.hand_back-requires
+hand_back-requires c = judged_err _ _ _ _ _ _ _ (close_is c.args.self.now _ c.grant-grant.result) c.close_place.ensures.place c.in-Err.is
 
 pub settle-requires-clause-outcome : goal.settle-requires-clause-outcome
-settle-requires-clause-outcome c = close_ok c.args.self.now _ c.grant-grant.result _ _ c.close_place.ensures.place c.in-Ok.is
+settle-requires-clause-outcome c = call_made _ _ _ _ _ _ _ (close_is c.args.self.now _ c.grant-grant.result)
+    c.close_place.ensures.place c.in-Ok.is

@@ -4,8 +4,8 @@ use Rattle.lab_book.proofs.BookLemmas.{judged_err}
 use Rattle.lab_book.proofs.CallLemmas.{given_up}
 use Rattle.lab_book.proofs.book.Book.give_up.Goals as goal
 
-pub refuse-fault-requires : goal.refuse-fault-requires
-refuse-fault-requires c =
+pub hand_back-requires : goal.hand_back-requires
+hand_back-requires c =
     let asked = rw (← c.self.view_is, ← c.grant-grant.ensures) at c.requires in
     rw (← c.self.view_is) (judged_err _ _ _ _ _ _ _ asked c.leased_place.ensures.place c.in-Err.is)
 

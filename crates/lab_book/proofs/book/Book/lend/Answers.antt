@@ -8,7 +8,16 @@ invariant_of-self-2 c =
     let asked = rw (← c.self.view_is) at c.requires.outcome in
     let within = rw (← c.self.view_is) at c.requires.within in
     let free = rw (← c.self.view_is) at c.requires.free in
-    lend_keeps _ _ _ _ _ _ _ c.self.invariant _ _ _ within _ 0 _ _ asked free c.in-Ok-keep.ensures.kept c.len-index.ensures c.settle.ensures (rw (c.id-id.ensures, c.in-Ok.ensures.lo, c.in-Ok.ensures.hi, c.in-Ok.ensures.mark, c.waiting-waiting.ensures, c.tile-2.ensures, c.tile.ensures) refl) c.add.ensures
+    lend_keeps _ _ _ _ _ _ _ c.self.invariant _ _ _ within _ 0 _ _ asked free c.in-Ok-keep.ensures.kept c.len-index.ensures c.settle.ensures
+    (rw (
+      c.id-id.ensures,
+      c.in-Ok.ensures.lo,
+      c.in-Ok.ensures.hi,
+      c.in-Ok.ensures.mark,
+      c.waiting-waiting.ensures,
+      c.tile-2.ensures,
+      c.tile.ensures,
+    ) refl) c.add.ensures
 
 pub returns-clause-can_start : goal.returns-clause-can_start
 returns-clause-can_start c =

@@ -21,17 +21,22 @@ loop-tile-preserved c =
     let tiles = c.list-tile-items.ensures.tiles ∙ ap (λ (b : BookValue). b.tiles) c.self.view_is in
     let within = rw tiles at c.loop-tile-test.true in
     let read = rw tiles at c.tile-item.is in
-    let size : c.loop-tile.totals.len ≡ length c.loop-tile.totals.items = sym c.deref_mut.ensures.len ∙ ap length c.deref_mut.ensures.value in
+    let size : c.loop-tile.totals.len ≡ length c.loop-tile.totals.items = sym c.deref_mut.ensures.len
+    ∙ ap length c.deref_mut.ensures.value in
     let lent = c.deref_mut.ensures.value in
     let long = c.add_levels.ensures.levels ∙ ap length lent in
-    let more = levels_of_more c.args.self.now.tiles c.loop-tile.tile-index c.tile-item.result within read c.loop-tile.totals.items c.add_levels.new.totals _ c.loop-tile.invariant long (rw lent at c.add_levels.ensures.sums) (rw lent at c.add_levels.ensures.small) in
-    subst (AreLevelsOf (take (c.loop-tile.tile-index + 1) c.args.self.now.tiles) (length c.args.self.now.problem.names + 1)) (sym (lent_whole _ _ _ long size)) more
+    let more = levels_of_more c.args.self.now.tiles c.loop-tile.tile-index c.tile-item.result within read c.loop-tile.totals.items
+    c.add_levels.new.totals _ c.loop-tile.invariant long (rw lent at c.add_levels.ensures.sums) (rw lent at c.add_levels.ensures.small)
+    in
+    subst (AreLevelsOf (take (c.loop-tile.tile-index + 1) c.args.self.now.tiles) (length c.args.self.now.problem.names + 1))
+    (sym (lent_whole _ _ _ long size)) more
 
 pub returns-clause-levels : goal.returns-clause-levels
 returns-clause-levels c =
     let tiles = c.list-tile-items.ensures.tiles ∙ ap (λ (b : BookValue). b.tiles) c.self.view_is in
     let past = rw tiles at c.loop-tile-test.false in
-    let all = subst (λ (ts : List TileValue). AreLevelsOf ts (length c.args.self.now.problem.names + 1) c.loop-tile.totals.items) (take_all c.loop-tile.tile-index c.args.self.now.tiles past) c.loop-tile.invariant in
+    let all = subst (λ (ts : List TileValue). AreLevelsOf ts (length c.args.self.now.problem.names + 1) c.loop-tile.totals.items)
+    (take_all c.loop-tile.tile-index c.args.self.now.tiles past) c.loop-tile.invariant in
     let told = c.drop_last_zeros.ensures ∙ levels_all c.args.self.now.problem c.args.self.now.tiles c.loop-tile.totals.items all in
     told
 
@@ -39,7 +44,9 @@ pub returns-clause-whole : goal.returns-clause-whole
 returns-clause-whole c =
     let tiles = c.list-tile-items.ensures.tiles ∙ ap (λ (b : BookValue). b.tiles) c.self.view_is in
     let past = rw tiles at c.loop-tile-test.false in
-    let all = subst (λ (ts : List TileValue). AreLevelsOf ts (length c.args.self.now.problem.names + 1) c.loop-tile.totals.items) (take_all c.loop-tile.tile-index c.args.self.now.tiles past) c.loop-tile.invariant in
+    let all = subst (λ (ts : List TileValue). AreLevelsOf ts (length c.args.self.now.problem.names + 1) c.loop-tile.totals.items)
+    (take_all c.loop-tile.tile-index c.args.self.now.tiles past) c.loop-tile.invariant in
     let told = c.drop_last_zeros.ensures ∙ levels_all c.args.self.now.problem c.args.self.now.tiles c.loop-tile.totals.items all in
     let sound = subst IsBook c.self.view_is c.self.invariant.sound in
-    λ closed. told ∙ closed_levels c.args.self.now.problem c.args.self.now.branch c.args.self.now.first c.args.self.now.tiles sound.tiling closed
+    λ closed. told ∙ closed_levels c.args.self.now.problem c.args.self.now.branch c.args.self.now.first c.args.self.now.tiles sound.tiling
+    closed

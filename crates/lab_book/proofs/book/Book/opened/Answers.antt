@@ -6,5 +6,6 @@ use Rattle.lab_book.proofs.book.Book.opened.Goals as goal
 
 pub invariant_of-result : goal.invariant_of-result
 invariant_of-result c =
-    let tile = c.in_ok-tiles.ensures ∙ ap (λ (t : TileValue). t ∷ []) (c.in_ok-tile.ensures ∙ ap₂ whole_tile c.in_ok-copy.ensures c.in_ok-begin.ensures) in
+    let tile = c.in_ok-tiles.ensures ∙ ap (λ (t : TileValue). t ∷ [])
+    (c.in_ok-tile.ensures ∙ ap₂ whole_tile c.in_ok-copy.ensures c.in_ok-begin.ensures) in
     opened_keeps _ _ _ _ _ _ _ c.requires c.is_cut.ensures c.is_cut-2.ensures c.in_ok-whole.ensures c.in_ok-first.ensures tile c.new.ensures

@@ -10,4 +10,5 @@ invariant_of-self c =
     let leased = rw (← c.self.view_is) at c.requires.leased in
     let stands = rw (← c.self.view_is) at c.requires.stands in
     let stop = c.stop-stop.ensures ∙ ap (λ (t : TileValue). t.stop) c.tile.ensures in
-    settle_keeps _ _ _ _ _ c.self.inside.history _ c.self.invariant _ _ _ within _ _ _ asked leased c.requires.ends stands stop c.settle.ensures c.add.ensures
+    settle_keeps _ _ _ _ _ c.self.inside.history _ c.self.invariant _ _ _ within _ _ _ asked leased c.requires.ends stands stop
+    c.settle.ensures c.add.ensures

@@ -9,7 +9,8 @@ add_counts-requires-clause-levels c =
     let within = rw c.stretches-stretch-items.ensures at c.loop-stretch-test.true in
     let here = rw c.stretches-stretch-items.ensures at c.stretch-item.is in
     let names = ap (λ (y : StretchValue). length y.problem.names + 1) here ∙ c.requires.levels c.loop-stretch.stretch-index x within in
-    summed_fit c.args.self.now.stretches c.loop-stretch.stretch-index x c.args.totals.now c.loop-stretch.totals c.loop-stretch.totals _ c.loop-stretch.invariant within here c.levels.ensures names
+    summed_fit c.args.self.now.stretches c.loop-stretch.stretch-index x c.args.totals.now c.loop-stretch.totals c.loop-stretch.totals _
+    c.loop-stretch.invariant within here c.levels.ensures names
 
 pub loop-stretch-preserved : goal.loop-stretch-preserved
 loop-stretch-preserved c =
@@ -17,4 +18,6 @@ loop-stretch-preserved c =
     let within = rw c.stretches-stretch-items.ensures at c.loop-stretch-test.true in
     let here = rw c.stretches-stretch-items.ensures at c.stretch-item.is in
     let names = ap (λ (y : StretchValue). length y.problem.names + 1) here ∙ c.requires.levels c.loop-stretch.stretch-index x within in
-    summed_more c.args.self.now.stretches c.loop-stretch.stretch-index x c.args.totals.now c.loop-stretch.totals _ _ c.loop-stretch.invariant within here c.levels.ensures names c.add_counts.ensures.levels c.add_counts.ensures.sums c.add_counts.ensures.small
+    summed_more c.args.self.now.stretches c.loop-stretch.stretch-index x c.args.totals.now c.loop-stretch.totals _ _
+    c.loop-stretch.invariant within here c.levels.ensures names c.add_counts.ensures.levels c.add_counts.ensures.sums
+    c.add_counts.ensures.small

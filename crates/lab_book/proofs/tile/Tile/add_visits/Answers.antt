@@ -7,4 +7,6 @@ pub loop-stretch-preserved : goal.loop-stretch-preserved
 loop-stretch-preserved c =
     let within = rw c.stretches-stretch-items.ensures at c.loop-stretch-test.true in
     let here = rw c.stretches-stretch-items.ensures at c.stretch-item.is in
-    visits_more (λ (x : StretchValue). visits_between x.problem x.from x.to) c.args.self.now.stretches c.loop-stretch.stretch-index c.stretch-item.result _ _ _ _ within here c.loop-stretch.invariant c.visits.ensures c.in_ok-append.ensures.added
+    visits_more (λ (x : StretchValue). visits_between x.problem x.from x.to)
+    c.args.self.now.stretches c.loop-stretch.stretch-index c.stretch-item.result _ _ _ _ within here c.loop-stretch.invariant
+    c.visits.ensures c.in_ok-append.ensures.added

@@ -11,7 +11,8 @@ playing-init g c = record {
 
 pub happen-requires : goal.happen-requires
 happen-requires g c =
-    event_within c.args.self.now c.args.events.now c.playing.event-index c.event-item.result c.playing.self c.playing.replies.items c.requires c.playing.invariant.plays c.playing-test.true c.event-item.is
+    event_within c.args.self.now c.args.events.now c.playing.event-index c.event-item.result c.playing.self c.playing.replies.items
+    c.requires c.playing.invariant.plays c.playing-test.true c.event-item.is
 
 pub push_reserved-requires : goal.push_reserved-requires
 push_reserved-requires g c = omega (arith, c.playing.invariant.count, c.playing.invariant.room, c.playing-test.true)
@@ -26,14 +27,17 @@ pub playing-preserved : goal.playing-preserved
 playing-preserved g c = record {
   plays =
       subst (Plays c.args.self.now c.args.events.now (c.playing.event-index + 1) c.happen.new.self) (sym c.push_reserved.ensures.items)
-      (plays_more c.args.self.now c.args.events.now c.playing.event-index c.event-item.result c.playing.self c.happen.new.self c.playing.replies.items c.in-Ok-happen.reply c.playing.invariant.plays c.playing-test.true
+      (plays_more c.args.self.now c.args.events.now c.playing.event-index c.event-item.result c.playing.self c.happen.new.self
+      c.playing.replies.items c.in-Ok-happen.reply c.playing.invariant.plays c.playing-test.true
       c.event-item.is c.in-Ok-happen.ensures.reply c.in-Ok-happen.ensures.world);
   count = omega (arith, c.playing.invariant.count, c.push_reserved.ensures.len);
   room = omega (arith, c.playing.invariant.room, c.push_reserved.ensures.capacity);
 }
 
 pub returns-clause-replies : goal.returns-clause-replies
-returns-clause-replies g c = all_replies c.args.self.now c.args.events.now c.playing.event-index c.playing.self c.playing.replies.items c.playing.invariant.plays c.playing-test.false
+returns-clause-replies g c = all_replies c.args.self.now c.args.events.now c.playing.event-index c.playing.self c.playing.replies.items
+    c.playing.invariant.plays c.playing-test.false
 
 pub returns-clause-world : goal.returns-clause-world
-returns-clause-world g c = all_world c.args.self.now c.args.events.now c.playing.event-index c.playing.self c.playing.replies.items c.playing.invariant.plays c.playing-test.false
+returns-clause-world g c = all_world c.args.self.now c.args.events.now c.playing.event-index c.playing.self c.playing.replies.items
+    c.playing.invariant.plays c.playing-test.false

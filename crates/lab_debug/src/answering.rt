@@ -1,5 +1,7 @@
 //! What a session of a problem answers to command lines.
 ghost use Rattle.std.specs.Prelude.{◌≡◌, ◌≤◌, ◌++◌, length, drop, option_map, IfOk, IfSome, OnOk};
+ghost use Rattle.text_lines.specs.Writing.{line_text};
+ghost use Rattle.x_debug.specs.Lines.{debug_refusal};
 ghost use Rattle.x_debug.specs.Session.{fresh_session};
 ghost use Rattle.lab_debug.specs.Input.{raw_lines};
 ghost use Rattle.lab_debug.specs.Replies as spec;
@@ -10,6 +12,20 @@ use cover_problem::{Problem, Table};
 use debug_texts::{DebugFault, EngineCommand, read_engine_command, write_debug_fault};
 use std::alloc::{AllocError, Global};
 use x_debug::Session;
+
+/// Writes an answer after those before it.
+fn append(text: &mut Vec<u8>, answer: &[u8]) -> Result<(), AllocError>
+    ensures { OnOk result (text.new.items ≡ text.old.items ++ answer.now) }
+{
+    text.extend_from_slice(answer)
+}
+
+/// Writes that there is no pool, as of a line that is no command.
+fn refuse_pool(text: &mut Vec<u8>) -> Result<(), AllocError>
+    ensures { OnOk result (text.new.items ≡ text.old.items ++ line_text (debug_refusal DebugFault.BadCommand)) }
+{
+    write_debug_fault(text, DebugFault::BadCommand)
+}
 
 /// Answers a line, and tells what is left of what stands after it; None where the commands end.
 #[tactic(auto, unfolding(crate::specs::Replies::turn))]
@@ -29,17 +45,17 @@ fn turn<'a, T: Table>(
     match read_engine_command(line) {
         None => {
             let reply = session.command(line)?;
-            text.extend_from_slice(reply.text.as_slice())?;
+            append(text, reply.text.as_slice())?;
             Ok(Some(after))
         }
         Some(EngineCommand::Load(lines)) => {
             let (snapshot, rest) = take_lines(after, lines);
             let loaded = session.load(snapshot)?;
-            text.extend_from_slice(loaded.text.as_slice())?;
+            append(text, loaded.text.as_slice())?;
             Ok(Some(rest))
         }
         Some(EngineCommand::Pool(_)) => {
-            write_debug_fault(text, DebugFault::BadCommand)?;
+            refuse_pool(text)?;
             Ok(Some(after))
         }
         Some(EngineCommand::Quit) => Ok(None),

@@ -1,5 +1,5 @@
 -- A worker at its tile's end closes it; before it the book refuses.
-use Rattle.std.proofs.Common.{◌≡◌, List, subst, ℕ, ◌≤◌, ◌⊎◌, ◌==◌, Bool, true, false, cond, nat_lt, IsTrue, ◌↔◌, None, inl, inr, refl, sym, ap, ◌∙◌, arith, eq-eqb, ltb-false}
+use Rattle.std.proofs.Common.{◌≡◌, List, subst, ℕ, ◌≤◌, ◌⊎◌, ◌==◌, Bool, true, false, cond, nat_lt, IsTrue, ◌↔◌, None, inl, inr, refl, sym, ap, ap₂, ◌∙◌, arith, eq-eqb, ltb-false}
 use Rattle.std.proofs.lemmas.Bool.{false≢true}
 use Rattle.std.proofs.lemmas.Bool.Decides.{eqb_tells}
 use Rattle.x_steps.specs.StateValue.{StateValue}
@@ -112,9 +112,16 @@ unfolding not_closed
 refused_made b new x f (inl m) some = absurd (some m.0)
 refused_made b new x f (inr m) some = m.1.book
 
-pub refused_kept : (b new : BookValue) (x : WorkerValue) (f : BookFault) → Refuses b new x.grant.worker (call.Close x.grant) f → f ≡ OutOfMemory → new ≡ b
+refused_kept : (b new : BookValue) (x : WorkerValue) (f : BookFault) → Refuses b new x.grant.worker (call.Close x.grant) f → f ≡ OutOfMemory → new ≡ b
 refused_kept b new x f (inl m) none = m.1
 refused_kept b new x f (inr m) none = absurd (m.0 none)
+
+-- out of memory the worker comes back as it was
+pub memory_left : (b new : BookValue) (x w : WorkerValue) (f : BookFault) → Refuses b new x.grant.worker (call.Close x.grant) f → f ≡ OutOfMemory → w ≡ x → work new w ≡ work b x
+memory_left b new x w f r none e = ap₂ work (refused_kept b new x f r none) e
+
+pub memory_holds : (b new : BookValue) (x w : WorkerValue) (f : BookFault) → HoldsTile b x → Refuses b new x.grant.worker (call.Close x.grant) f → f ≡ OutOfMemory → w ≡ x → HoldsTile new w
+memory_holds b new x w f h r none e = let kept = refused_kept b new x f r none in rw (kept, e) h
 
 -- ---- it is there
 

@@ -1,5 +1,5 @@
 -- How lines are written one after the other.
-use Rattle.std.proofs.Common.{◌≡◌, ℕ, suc, ◌+◌, ◌<◌, List, [], ◌∷◌, ◌++◌, length, refl, sym, ◌∙◌, ap, arith, append_assoc, append-nil}
+use Rattle.std.proofs.Common.{◌≡◌, ℕ, suc, ◌+◌, ◌<◌, Result, Ok, Err, OnOk, List, [], ◌∷◌, ◌++◌, length, refl, sym, ◌∙◌, ap, arith, append_assoc, append-nil}
 use Rattle.std.specs.List.{flat_map}
 use Rattle.std.proofs.lemmas.Grind.{flat_map-append}
 use Rattle.text_lines.specs.Writing.{line_text, text_of}
@@ -16,20 +16,26 @@ one_line line = sym (append-nil (line_text line))
 pub more_lines : (lines more : List (List (List ℕ))) → text_of (lines ++ more) ≡ text_of lines ++ text_of more
 more_lines lines more = flat_map-append line_text lines more
 
+-- two texts of lines
+pub both_lines : (a b : List (List (List ℕ))) (old one new : List ℕ) → one ≡ old ++ text_of a → new ≡ one ++ text_of b → new ≡ old ++ text_of (a ++ b)
+both_lines a b old one new h i = i ∙ ap (λ t. t ++ text_of b) h ∙ append_assoc old _ _ ∙ ap (λ t. old ++ t) (sym (more_lines a b))
+
 -- three lines, and then more
-three_lines : (a b c : List (List ℕ)) (d e f : List (List (List ℕ))) (old one two three four five new : List ℕ) → one ≡ old ++ line_text a → two ≡ one ++ line_text b → three ≡ two ++ line_text c
-    → four ≡ three ++ text_of d → five ≡ four ++ text_of e → new ≡ five ++ text_of f → new ≡ old ++ text_of (a ∷ b ∷ c ∷ d ++ e ++ f)
-three_lines a b c d e f old one two three four five new h i j k l m =
-    let whole : text_of (((a ∷ b ∷ c ∷ d) ++ e) ++ f) ≡ ((line_text a ++ (line_text b ++ (line_text c ++ text_of d))) ++ text_of e) ++ text_of f =
-    more_lines ((a ∷ b ∷ c ∷ d) ++ e) f ∙ ap (λ t. t ++ text_of f) (more_lines (a ∷ b ∷ c ∷ d) e) in
-    let all : new ≡ old ++ (((line_text a ++ (line_text b ++ (line_text c ++ text_of d))) ++ text_of e) ++ text_of f) = rw (m, l, k, j, i, h) (simp append_assoc) in
+three_lines : (a b c : List (List ℕ)) (d e : List (List (List ℕ))) (old one two three four new : List ℕ) → one ≡ old ++ line_text a → two ≡ one ++ line_text b → three ≡ two ++ line_text c
+    → four ≡ three ++ text_of d → new ≡ four ++ text_of e → new ≡ old ++ text_of (a ∷ b ∷ c ∷ d ++ e)
+three_lines a b c d e old one two three four new h i j k l =
+    let whole : text_of ((a ∷ b ∷ c ∷ d) ++ e) ≡ (line_text a ++ (line_text b ++ (line_text c ++ text_of d))) ++ text_of e = more_lines (a ∷ b ∷ c ∷ d) e in
+    let all : new ≡ old ++ ((line_text a ++ (line_text b ++ (line_text c ++ text_of d))) ++ text_of e) = rw (l, k, j, i, h) (simp append_assoc) in
     all ∙ ap (λ t. old ++ t) (sym whole)
 
-pub shown_lines : (r : RunnerValue) (old one two three four five new : List ℕ) → one ≡ old ++ line_text (at r.position) → two ≡ one ++ line_text (runner_branch r) → three ≡ two ++ line_text (runner_covered r)
-    → four ≡ three ++ text_of (runner_chosen r) → five ≡ four ++ text_of (runner_active r) → new ≡ five ++ text_of (runner_second r) → new ≡ old ++ text_of (shown r)
+-- whatever the last of them gave
+pub shown_lines : {X E : Type 0} (z : Result X E) (r : RunnerValue) (old one two three four new : List ℕ) → one ≡ old ++ line_text (at r.position) → two ≡ one ++ line_text (runner_branch r) → three ≡ two ++ line_text (runner_covered r)
+    → four ≡ three ++ text_of (runner_chosen r) → OnOk z (new ≡ four ++ text_of (runner_active r ++ runner_second r)) → OnOk z (new ≡ old ++ text_of (shown r))
 unfolding shown
-shown_lines r old one two three four five new h i j k l m =
-    three_lines (at r.position) (runner_branch r) (runner_covered r) (runner_chosen r) (runner_active r) (runner_second r) old one two three four five new h i j k l m
+shown_lines (Ok x) r old one two three four new h i j k l =
+    three_lines (at r.position) (runner_branch r) (runner_covered r) (runner_chosen r) (runner_active r ++ runner_second r) old one two three four new h i j k l
+    ∙ ap (λ ls. old ++ text_of ls) (sym (append_assoc (at r.position ∷ runner_branch r ∷ runner_covered r ∷ runner_chosen r) (runner_active r) (runner_second r)))
+shown_lines (Err x) r old one two three four new h i j k l = tt
 
 -- ---- the levels so far
 

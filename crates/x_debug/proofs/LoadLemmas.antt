@@ -1,5 +1,5 @@
 -- A session that goes on from a snapshot.
-use Rattle.std.proofs.Common.{◌≡◌, ◌⊎◌, inl, inr, ℕ, true, false, cond, List, [], ◌∷◌, ◌++◌, length, Option, Some, Ok, Err, unwrap_or, refl, sym, ap, ap₂, ◌∙◌, subst}
+use Rattle.std.proofs.Common.{◌≡◌, ℕ, Bool, true, false, cond, List, ◌++◌, Option, Some, Result, Ok, Err, OnOk, unwrap_or, sym, ap, ap₂, ◌∙◌, subst}
 use Rattle.std.specs.List.{list_all}
 use Rattle.std.proofs.lemmas.Bool.{and_parts}
 use Rattle.text_lines.specs.Writing.{line_text}
@@ -21,74 +21,79 @@ use Rattle.lab_world.proofs.TurnLemmas.{lease_any_place}
 use Rattle.debug_texts.specs.declared.words.Layer.TheVariants as layer
 use Rattle.debug_texts.specs.Replies.{refused_words}
 use Rattle.x_debug.specs.Lines.{at, book_refusal, snapshot_refusal}
-use Rattle.x_debug.specs.Session.{SessionValue, IsSession, Desk, desk, entered}
-use Rattle.x_debug.specs.Entering.{resumed, breaks_of, loaded}
+use Rattle.x_debug.specs.Session.{SessionValue, Desk, desk, entered}
+use Rattle.x_debug.specs.Entering.{resumed, with_some, seated, loaded}
 use Rattle.x_debug.specs.Commands.{Answer}
 use Rattle.x_debug.specs.Loading.{answers, load_by, load_answer}
 
-pub some_breaks : (old new : List Break) → (length new ≡ 0 → ⊥) → new ≡ breaks_of old new
-some_breaks old [] h = absurd (h refl)
-some_breaks old (b ∷ bs) h = refl
-
 -- ---- the session that goes on
 
-module _ (s : SessionValue) (v : SnapshotValue) (same : v.problem ≡ s.book.problem) (b new : BookValue) (x : Option WorkerValue) (fresh : b ≡ opened s.book.problem (branch_between s.book.problem v.lo v.hi) v.state)
+-- a book of a snapshot of this problem, and the worker that leases its tile
+module _ (p : ProblemValue) (v : SnapshotValue) (same : v.problem ≡ p) (b new : BookValue) (x : Option WorkerValue) (fresh : b ≡ opened p (branch_between p v.lo v.hi) v.state)
     (lease : new ≡ book_step b 0 call.LeaseAny) (worker : x ≡ lent_worker b.problem (outcome b 0 call.LeaseAny).reply) where
-  desk_is : desk new x ≡ resumed v
-  desk_is = ap₂ desk lease worker ∙ ap entered (fresh ∙ ap (λ (p : ProblemValue). opened p (branch_between p v.lo v.hi) v.state) (sym same))
+  pub desk_is : desk new x ≡ resumed v
+  desk_is = ap₂ desk lease worker ∙ ap entered (fresh ∙ ap (λ (q : ProblemValue). opened q (branch_between q v.lo v.hi) v.state) (sym same))
 
-  pub loaded_is : (breaks : List Break) → breaks ≡ breaks_of s.breaks v.breaks → ◌≡◌ {A = SessionValue} (record { book = new; worker = x; breaks = breaks }) (loaded s v)
-  loaded_is breaks e = ap₂ (λ (d : Desk) (bs : List Break). record { book = d.book; worker = d.worker; breaks = bs }) desk_is e
+  pub desk_place : IsTiling b.problem b.branch b.first b.tiles → IsPlace new 0 x
+  desk_place tiling = subst (λ (c : BookValue). IsPlace c 0 x) (sym lease) (subst (IsPlace (book_step b 0 call.LeaseAny) 0) (sym worker) (lease_any_place b 0 tiling))
 
-  pub loaded_session : (breaks : List Break) → IsSession s → IsSnapshot v → IsTiling b.problem b.branch b.first b.tiles → (breaks ≡ v.breaks) ⊎ (breaks ≡ s.breaks) → IsSession (record { book = new; worker = x; breaks = breaks })
-  loaded_session breaks k g tiling e = record {
-    place = subst (λ (c : BookValue). IsPlace c 0 x) (sym lease) (subst (IsPlace (book_step b 0 call.LeaseAny) 0) (sym worker) (lease_any_place b 0 tiling));
-    breaks = subst (λ (p : ProblemValue). list_all (is_break p) breaks ≡ true) (sym problem) (met e);
-  }
-    where
-      problem : new.problem ≡ s.book.problem
-      problem = ap (λ (c : BookValue). c.problem) lease ∙ ap (λ (c : BookValue). c.problem) fresh
+-- with these, and the snapshot's breakpoints, a session goes on
+module _ (v : SnapshotValue) (b : BookValue) (x : Option WorkerValue) (made : desk b x ≡ resumed v) where
+  pub desk_problem : (p : ProblemValue) → v.problem ≡ p → b.problem ≡ p
+  desk_problem p same = ap (λ (d : Desk). d.book.problem) made ∙ same
 
-      met : (breaks ≡ v.breaks) ⊎ (breaks ≡ s.breaks) → list_all (is_break s.book.problem) breaks ≡ true
-      met (inl h) = ap (list_all (is_break s.book.problem)) h ∙ subst (λ (p : ProblemValue). list_all (is_break p) v.breaks ≡ true) same (and_parts (list_all (is_break v.problem) v.breaks) (are_new v.breaks) g.breaks).0
-      met (inr h) = ap (list_all (is_break s.book.problem)) h ∙ k.breaks
+  pub met_by_seated : (t s : SessionValue) → t ≡ seated s (desk b x) → (breaks : List Break) → breaks ≡ v.breaks → IsSnapshot v → list_all (is_break t.book.problem) breaks ≡ true
+  met_by_seated t s e breaks h g =
+      let problem : t.book.problem ≡ v.problem = ap (λ (u : SessionValue). u.book.problem) e ∙ ap (λ (d : Desk). d.book.problem) made in
+      rw (problem, h) (and_parts (list_all (is_break v.problem) v.breaks) (are_new v.breaks) g.breaks).0
+
+  pub loaded_is : (s t u : SessionValue) → t ≡ seated s (desk b x) → (breaks : List Break) → breaks ≡ v.breaks → u ≡ with_some t breaks → u ≡ loaded s v
+  loaded_is s t u e breaks h f = f ∙ ap₂ with_some e h ∙ ap (λ (d : Desk). with_some (seated s d) v.breaks) made
 
 -- ---- what is answered
 
--- what is answered, and the session that is left, are as a text's bytes say
-abbrev pub IsAnswered : SessionValue → List ℕ → List ℕ → SessionValue → Type 0
-IsAnswered s bytes text new = (text ≡ (load_answer s bytes).text) × (new ≡ (load_answer s bytes).session)
+-- what a test of two problems tells, where others stand for them
+pub same_problems : (p q r s : ProblemValue) (t v : Bool) → p ≡ r → q ≡ s → t ≡ is_same p q → t ≡ v → is_same r s ≡ v
+same_problems p q r s t v e h i j = sym (ap₂ is_same e h) ∙ sym i ∙ j
 
--- the three answers
-none_answer : (s : SessionValue) (bytes : List ℕ) (f : SnapshotFault) → snapshot_of bytes ≡ Err f → load_answer s bytes ≡ answers (snapshot_refusal f) s
-unfolding load_answer
-none_answer s bytes f e = ap (load_by s) e
+-- the answers to a snapshot
+pub foreign_answer : (s : SessionValue) (v : SnapshotValue) → is_same v.problem s.book.problem ≡ false → load_by s (Ok v) ≡ answers (book_refusal ForeignProblem) s
+foreign_answer s v other = ap (λ b. cond b (answers (at v.state) (loaded s v)) (answers (book_refusal ForeignProblem) s)) other
 
-foreign_answer : (s : SessionValue) (bytes : List ℕ) (v : SnapshotValue) → snapshot_of bytes ≡ Ok v → is_same v.problem s.book.problem ≡ false →
-    load_answer s bytes ≡ answers (book_refusal ForeignProblem) s
-unfolding load_answer
-foreign_answer s bytes v e other = ap (load_by s) e ∙ ap (λ b. cond b (answers (at v.state) (loaded s v)) (answers (book_refusal ForeignProblem) s)) other
+pub resumed_answer : (s : SessionValue) (v : SnapshotValue) → is_same v.problem s.book.problem ≡ true → load_by s (Ok v) ≡ answers (at v.state) (loaded s v)
+resumed_answer s v same = ap (λ b. cond b (answers (at v.state) (loaded s v)) (answers (book_refusal ForeignProblem) s)) same
 
-resumed_answer : (s : SessionValue) (bytes : List ℕ) (v : SnapshotValue) → snapshot_of bytes ≡ Ok v → is_same v.problem s.book.problem ≡ true →
-    load_answer s bytes ≡ answers (at v.state) (loaded s v)
-unfolding load_answer
-resumed_answer s bytes v e same = ap (load_by s) e ∙ ap (λ b. cond b (answers (at v.state) (loaded s v)) (answers (book_refusal ForeignProblem) s)) same
+-- what a write or a call gave is answered
+pub said : {X E : Type 0} (r : Result X E) (old new : List ℕ) (a c : Answer) → a ≡ c → OnOk r (new ≡ old ++ c.text) → OnOk r (new ≡ old ++ a.text)
+said (Ok x) old new a c e h = h ∙ ap (λ (d : Answer). old ++ d.text) (sym e)
+said (Err x) old new a c e h = tt
 
-module _ (s : SessionValue) (bytes empty text : List ℕ) (e : empty ≡ []) where
-  answered : (line : List (List ℕ)) (new : SessionValue) → load_answer s bytes ≡ answers line new → text ≡ empty ++ line_text line → IsAnswered s bytes text new
-  answered line new a h = (h ∙ ap (λ t. t ++ line_text line) e ∙ sym (ap (λ (x : Answer). x.text) a), sym (ap (λ (x : Answer). x.session) a))
+pub left : {X E : Type 0} (r : Result X E) (new : SessionValue) (a c : Answer) → a ≡ c → OnOk r (new ≡ c.session) → OnOk r (new ≡ a.session)
+left (Ok x) new a c e h = h ∙ ap (λ (d : Answer). d.session) (sym e)
+left (Err x) new a c e h = tt
 
-  pub none_loads : (f : SnapshotFault) → ((f ≡ snapshot.OutOfMemory → ⊥) → snapshot_of bytes ≡ Err f) → (n : ℕ) × (number_of f ≡ Some n) × (text ≡ empty ++ line_text (refused_words layer.Snapshot n (name_of f))) → IsAnswered s bytes text s
-  none_loads f r w =
+module _ (s : SessionValue) (bytes : List ℕ) where
+  -- a text that is a snapshot, and one that is none
+  pub read_answer : (v : SnapshotValue) → snapshot_of bytes ≡ Ok v → load_answer s bytes ≡ load_by s (Ok v)
+  unfolding load_answer
+  read_answer v e = ap (load_by s) e
+
+  none_answer : (f : SnapshotFault) → snapshot_of bytes ≡ Err f → load_answer s bytes ≡ answers (snapshot_refusal f) s
+  unfolding load_answer
+  none_answer f e = ap (load_by s) e
+
+  abbrev Told : SnapshotFault → List ℕ → List ℕ → Type 0
+  Told f old new = (n : ℕ) × (number_of f ≡ Some n) × (new ≡ old ++ line_text (refused_words layer.Snapshot n (name_of f)))
+
+  told_answer : (f : SnapshotFault) (old new : List ℕ) → ((f ≡ snapshot.OutOfMemory → ⊥) → snapshot_of bytes ≡ Err f) → Told f old new → load_answer s bytes ≡ answers (snapshot_refusal f) s
+  told_answer f old new r w = none_answer f (r (λ m. let h = sym w.1 ∙ ap number_of m in absurd (cc)))
+
+  pub none_said : {X E : Type 0} (r : Result X E) (f : SnapshotFault) (old new : List ℕ) → ((f ≡ snapshot.OutOfMemory → ⊥) → snapshot_of bytes ≡ Err f) → OnOk r (Told f old new) → OnOk r (new ≡ old ++ (load_answer s bytes).text)
+  none_said (Ok x) f old new r w =
       let number : w.0 ≡ unwrap_or (number_of f) 0 = ap (λ (o : Option ℕ). unwrap_or o 0) (sym w.1) in
-      let line = w.2 ∙ ap (λ n. empty ++ line_text (refused_words layer.Snapshot n (name_of f))) number in
-      answered (snapshot_refusal f) s (none_answer s bytes f (r (λ m. let h = sym w.1 ∙ ap number_of m in absurd (cc)))) line
+      w.2 ∙ ap (λ n. old ++ line_text (refused_words layer.Snapshot n (name_of f))) number ∙ ap (λ (d : Answer). old ++ d.text) (sym (told_answer f old new r w))
+  none_said (Err x) f old new r w = tt
 
-  module _ (v : SnapshotValue) (read : snapshot_of bytes ≡ Ok v) where
-    pub foreign_loads : is_same v.problem s.book.problem ≡ false → text ≡ empty ++ line_text (book_refusal ForeignProblem) → IsAnswered s bytes text s
-    foreign_loads other h = answered (book_refusal ForeignProblem) s (foreign_answer s bytes v read other) h
-
-    pub resumes_loads : (new : SessionValue) → is_same v.problem s.book.problem ≡ true → text ≡ empty ++ line_text (at v.state) → new ≡ loaded s v → IsAnswered s bytes text new
-    resumes_loads new same h n =
-        let a = answered (at v.state) (loaded s v) (resumed_answer s bytes v read same) h in
-        (a.0, n ∙ a.1)
+  pub none_left : {X E : Type 0} (r : Result X E) (f : SnapshotFault) (old new : List ℕ) → ((f ≡ snapshot.OutOfMemory → ⊥) → snapshot_of bytes ≡ Err f) → OnOk r (Told f old new) → OnOk r (s ≡ (load_answer s bytes).session)
+  none_left (Ok x) f old new r w = ap (λ (d : Answer). d.session) (sym (told_answer f old new r w))
+  none_left (Err x) f old new r w = tt

@@ -5,11 +5,11 @@ use Rattle.std.proofs.lemmas.Bool.{eqb-true}
 use Rattle.std.proofs.lemmas.Grind.{common_steps}
 use Rattle.cover_problem.specs.Problem.{ProblemValue, IsProblem}
 use Rattle.x_steps.specs.declared.state.Label.{Label}
-use Rattle.x_steps.specs.declared.state.Label.TheVariants.{X1, X2, X3, X4, X5, X6, X7, X8, Done}
+use Rattle.x_steps.specs.declared.state.Label.TheVariants.{X2, X4, X5}
 use Rattle.x_steps.specs.declared.state.Cursor.{Cursor}
 use Rattle.x_steps.specs.declared.state.Cursor.TheVariants as cursor
 use Rattle.x_steps.specs.StateValue.{StateValue}
-use Rattle.x_steps.specs.Steps.{Fits, is_level, is_visit, item_after}
+use Rattle.x_steps.specs.Steps.{Fits, is_visit, item_after}
 use Rattle.x_steps.specs.Machine.{chosen_in, chosen_item}
 use Rattle.x_snapshot.specs.declared.breakpoint.Break.{Break}
 use Rattle.x_snapshot.specs.declared.breakpoint.Break.TheVariants as at
@@ -18,6 +18,7 @@ use Rattle.x_snapshot.specs.Breaks.{is_same}
 use Rattle.x_branches.specs.Runner.{RunnerValue, IsRunner}
 use Rattle.x_branches.proofs.RunnerLemmas.{level_within}
 use Rattle.x_steps.proofs.StretchLemmas.{reached_fits}
+use Rattle.x_steps.proofs.ReadLemmas.{not_level}
 use Rattle.x_snapshot.proofs.BreakBack.{few}
 use Rattle.x_snapshot.proofs.BreakLemmas.{eq_is, any_same}
 use Rattle.x_debug.specs.Breakpoints.{tries, is_choice, is_item_break, meets, first_met}
@@ -207,45 +208,18 @@ module _ (p : ProblemValue) (s : StateValue) where
 
   tries_none : (l : Label) (c : Cursor) (k : ℕ) → (l ≡ X5 → (o : ℕ) → c ≡ cursor.At o → ⊥) → tries l c k ≡ false
   tries_none X5 (cursor.At o) k h = absurd (h refl o refl)
-  tries_none X5 cursor.None k h = refl
-  tries_none X5 cursor.Past k h = refl
-  tries_none X1 c k h = refl
-  tries_none X2 c k h = refl
-  tries_none X3 c k h = refl
-  tries_none X4 c k h = refl
-  tries_none X6 c k h = refl
-  tries_none X7 c k h = refl
-  tries_none X8 c k h = refl
-  tries_none Done c k h = refl
-
-  no_level : (l : Label) → (l ≡ X2 → ⊥) → is_level l ≡ false
-  no_level X2 h = absurd (h refl)
-  no_level X1 h = refl
-  no_level X3 h = refl
-  no_level X4 h = refl
-  no_level X5 h = refl
-  no_level X6 h = refl
-  no_level X7 h = refl
-  no_level X8 h = refl
-  no_level Done h = refl
+  tries_none _ _ k h = refl
 
   no_choice : (l : Label) → (l ≡ X4 → ⊥) → is_choice l ≡ false
   no_choice X4 h = absurd (h refl)
-  no_choice X1 h = refl
-  no_choice X2 h = refl
-  no_choice X3 h = refl
-  no_choice X5 h = refl
-  no_choice X6 h = refl
-  no_choice X7 h = refl
-  no_choice X8 h = refl
-  no_choice Done h = refl
+  no_choice _ h = refl
 
   none_meets : (s.label ≡ X2 → ⊥) → (s.label ≡ X4 → ⊥) → (s.label ≡ X5 → (o : ℕ) → s.cursor ≡ cursor.At o → ⊥) → (b : Break) → meets p s b ≡ false
   unfolding meets
-  none_meets x2 x4 x5 (at.Level n) = rw (no_level s.label x2) refl
+  none_meets x2 x4 x5 (at.Level n) = rw (not_level s.label x2) refl
   none_meets x2 x4 x5 (at.Option k) = tries_none s.label s.cursor k x5
   none_meets x2 x4 x5 (at.Item i) = rw (no_choice s.label x4) refl
-  none_meets x2 x4 x5 at.Visit = rw (no_level s.label x2) refl
+  none_meets x2 x4 x5 at.Visit = rw (not_level s.label x2) refl
 
   -- the chosen item is the one of the path
   is_there : Option (ℕ × List ℕ) → Bool

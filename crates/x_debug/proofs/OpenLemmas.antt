@@ -1,5 +1,5 @@
 -- A tile that is named in a reply isn't closed.
-use Rattle.std.proofs.Common.{◌≡◌, ℕ, ◌<◌, ◌⊎◌, ◌==◌, ◌&&◌, Bool, true, false, not, Option, Some, None, Result, Ok, Err, List, length, refl, sym, ap, ◌∙◌, subst, inl, inr}
+use Rattle.std.proofs.Common.{◌≡◌, ℕ, ◌<◌, ◌⊎◌, ◌==◌, ◌&&◌, Bool, true, false, not, Option, Some, Result, Ok, Err, List, length, refl, sym, ap, ◌∙◌, subst, inl, inr}
 use Rattle.std.proofs.Math.ListN.{set}
 use Rattle.std.proofs.lemmas.Bool.Decides.{eqb_tells}
 use Rattle.std.proofs.lemmas.List.{get_or-set_same, get_or-set_other}
@@ -11,9 +11,9 @@ use Rattle.lab_book.specs.declared.fault.BookFault.{BookFault}
 use Rattle.lab_book.specs.declared.entry.Call.TheVariants as call
 use Rattle.lab_book.specs.Tile.{TileValue, is_closed, asked_status}
 use Rattle.lab_book.specs.Tiling.{tile_at, no_tile}
-use Rattle.lab_book.specs.Book.{BookValue, Outcome, outcome, found, made_at, settled, asked_to_stop, put_back, status_fault, mark_fault}
+use Rattle.lab_book.specs.Book.{BookValue, outcome, found, made_at, settled, asked_to_stop, put_back, status_fault, mark_fault}
 use Rattle.lab_world.proofs.HoldLemmas.{found_ok}
-use Rattle.x_debug.specs.Tiles.{place_at, is_begun_at, same_cut}
+use Rattle.x_debug.specs.Tiles.{place_at, is_begun_at}
 
 -- the tile that begins at a cut isn't closed
 pub begun_is_open : (ts : List TileValue) (lo : Option (List ℕ)) (i : ℕ) → place_at lo ts ≡ Some i → is_closed (tile_at ts i).status ≡ false

@@ -51,5 +51,12 @@ abbrev pub breaks_of : List Break → List Break → List Break
 breaks_of old [] = old
 breaks_of old (b ∷ bs) = b ∷ bs
 
+-- a session at another desk, and one with the breakpoints of a snapshot
+abbrev pub seated : SessionValue → Desk → SessionValue
+seated s d = record { book = d.book; worker = d.worker; breaks = s.breaks }
+
+abbrev pub with_some : SessionValue → List Break → SessionValue
+with_some s breaks = record { book = s.book; worker = s.worker; breaks = breaks_of s.breaks breaks }
+
 abbrev pub loaded : SessionValue → SnapshotValue → SessionValue
 loaded s v = record { book = (resumed v).book; worker = (resumed v).worker; breaks = breaks_of s.breaks v.breaks }

@@ -21,8 +21,3 @@ pub use session::{Reply, Session};
 pub use showing::{choices, show, untried};
 pub use tiles::{branches, hold, place_at, put_back, write_book_fault, write_posted, write_tile};
 pub use walking::{back, run, step, step_on, write_moved};
-
-#[cfg(test)]
-mod drawn_tests;
-#[cfg(test)]
-mod session_tests;

@@ -69,32 +69,18 @@ fn write_chosen<T: Table>(
     write_list(text, problem, Listed::Chosen, item, &options)
 }
 
-/// Writes the active items of a runner of this problem, each with its options.
-fn write_active<T: Table>(
+/// Writes the active items of a runner of this problem, and then the secondary ones that are not covered, each with its options.
+fn write_left<T: Table>(
     text: &mut Vec<u8>,
     problem: &Problem,
     runner: &Runner<'_, T>,
 ) -> Result<(), AllocError>
     requires same { problem.now ≡ runner.now.problem }
-    ensures { OnOk result (text.new.items ≡ text.old.items ++ text_of (runner_active runner.now)) }
+    ensures { OnOk result (text.new.items ≡ text.old.items ++ text_of (runner_active runner.now ++ runner_second runner.now)) }
 {
     let _state = runner.state();
-    let rows = runner.remaining()?;
-    write_lists(text, problem, Listed::Active, &rows)
-}
-
-/// Writes the secondary items of a runner of this problem that are not covered, each with its options.
-fn write_second<T: Table>(
-    text: &mut Vec<u8>,
-    problem: &Problem,
-    runner: &Runner<'_, T>,
-) -> Result<(), AllocError>
-    requires same { problem.now ≡ runner.now.problem }
-    ensures { OnOk result (text.new.items ≡ text.old.items ++ text_of (runner_second runner.now)) }
-{
-    let _state = runner.state();
-    let rows = runner.second()?;
-    write_lists(text, problem, Listed::Second, &rows)
+    write_lists(text, problem, Listed::Active, &runner.remaining()?)?;
+    write_lists(text, problem, Listed::Second, &runner.second()?)
 }
 
 /// `show`: where the search stands, its branch, the covered items, the chosen item with its list, the active items, and the
@@ -111,9 +97,7 @@ pub fn show<T: Table>(
     write_part(text, runner)?;
     write_items(text, problem, runner)?;
     write_chosen(text, problem, runner)?;
-    write_active(text, problem, runner)?;
-    write_second(text, problem, runner)?;
-    Ok(())
+    write_left(text, problem, runner)
 }
 
 /// Writes the options that are untried at a level of a runner, where there are some.

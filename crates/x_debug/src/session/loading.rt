@@ -1,13 +1,17 @@
 //! A session goes on from a snapshot.
-ghost use Rattle.std.specs.Prelude.{◌≡◌, [], option_copied, option_map, IfOk, OnOk, OnErr};
+ghost use Rattle.std.specs.Prelude.{◌≡◌, ◌++◌, [], true, Ok, option_copied, option_map, IfOk, OnOk, OnErr};
+ghost use Rattle.std.specs.List.{list_all};
 ghost use Rattle.cover_problem.specs.Problem.{ProblemValue};
 ghost use Rattle.x_branches.specs.Refusals.{CanStart, StartRefused};
 ghost use Rattle.x_branches.specs.declared.branch.Branch.{Branch};
 ghost use Rattle.x_steps.specs.StateValue.{StateValue};
+ghost use Rattle.x_snapshot.specs.Breaks.{is_break};
 ghost use Rattle.x_snapshot.specs.Snapshot.{IsCutIfAny, branch_between, path_in};
 ghost use Rattle.lab_book.specs.Book.{opened};
-ghost use Rattle.x_debug.specs.Entering.{loaded};
-ghost use Rattle.x_debug.specs.Loading.{load_answer};
+ghost use Rattle.lab_world.specs.World.{IsPlace};
+ghost use Rattle.x_debug.specs.Session.{desk};
+ghost use Rattle.x_debug.specs.Entering.{resumed, with_some, seated, loaded};
+ghost use Rattle.x_debug.specs.Loading.{load_by, load_answer};
 
 use crate::session::{Reply, Session};
 use crate::tiles::write_book_fault;
@@ -95,7 +99,43 @@ fn book_of<'p, T: Table>(
     }
 }
 
+/// A book of the branch of a snapshot of this problem, and the worker that leases its tile.
+fn desk_of<'p, T: Table>(
+    alloc: Global,
+    problem: &'p Problem,
+    snapshot: &Snapshot,
+) -> Result<(Book<'p>, Option<Worker<'p, T>>), AllocError>
+    requires { snapshot.now.problem ≡ problem.now }
+    ensures made { IfOk result (λ r. desk r.0 r.1 ≡ resumed snapshot.now) }
+    ensures place { IfOk result (λ r. IsPlace r.0 0 r.1) }
+{
+    let mut book = book_of::<T>(alloc, problem, snapshot)?;
+    let _tiles = book.tiles();
+    let worker = Worker::lease_any(alloc, &mut book, 0)?;
+    Ok((book, worker))
+}
+
 impl<'p, T: Table> Session<'p, T> {
+    /// Goes on with another book of its problem, and a worker that may have one of its tiles open.
+    fn sit_down(&mut self, book: Book<'p>, worker: Option<Worker<'p, T>>)
+        requires problem { book.problem ≡ self.old.book.problem }
+        requires place { IsPlace book 0 worker }
+        ensures { self.new ≡ seated self.old (desk book.entry worker.entry) }
+    {
+        self.book = book;
+        self.worker = worker;
+    }
+
+    /// Goes on with these breakpoints, if there are some.
+    fn take_breaks(&mut self, breaks: IndexSet<Break>)
+        requires { list_all (is_break self.old.book.problem) breaks.keys ≡ true }
+        ensures { self.new ≡ with_some self.old breaks.keys }
+    {
+        if !breaks.is_empty() {
+            self.breaks = breaks;
+        }
+    }
+
     /// Goes on from a snapshot of its problem. Out of memory, nothing has changed.
     fn resume(&mut self, alloc: Global, snapshot: &Snapshot) -> Result<(), AllocError>
         requires { snapshot.now.problem ≡ self.old.book.problem }
@@ -104,15 +144,45 @@ impl<'p, T: Table> Session<'p, T> {
     {
         let _problem = snapshot.problem();
         let breaks = set_of(alloc, snapshot)?;
-        let mut book = book_of::<T>(alloc, self.book.problem(), snapshot)?;
-        let _tiles = book.tiles();
-        let worker = Worker::lease_any(alloc, &mut book, 0)?;
-        self.book = book;
-        self.worker = worker;
-        if !breaks.is_empty() {
-            self.breaks = breaks;
-        }
+        let (book, worker) = desk_of(alloc, self.book.problem(), snapshot)?;
+        self.sit_down(book, worker);
+        self.take_breaks(breaks);
         Ok(())
+    }
+
+    /// Goes on from a snapshot, where it is one of its problem, and writes where it stands.
+    fn go_on(
+        &mut self,
+        alloc: Global,
+        snapshot: &Snapshot,
+        text: &mut Vec<u8>,
+    ) -> Result<(), AllocError>
+        ensures reply { OnOk result (text.new.items ≡ text.old.items ++ (load_by self.old (Ok snapshot.now)).text) }
+        ensures session { OnOk result (self.new ≡ (load_by self.old (Ok snapshot.now)).session) }
+        ensures unchanged { OnErr result (self.new ≡ self.old) }
+    {
+        if !snapshot.problem().same(self.book.problem()) {
+            return write_book_fault(text, &BookFault::ForeignProblem);
+        }
+        write_at(text, snapshot.state())?;
+        self.resume(alloc, snapshot)
+    }
+
+    /// Reads a snapshot and goes on from it, and writes what is answered.
+    fn obey_load(
+        &mut self,
+        alloc: Global,
+        bytes: &[u8],
+        text: &mut Vec<u8>,
+    ) -> Result<(), AllocError>
+        ensures reply { OnOk result (text.new.items ≡ text.old.items ++ (load_answer self.old bytes.now).text) }
+        ensures session { OnOk result (self.new ≡ (load_answer self.old bytes.now).session) }
+        ensures unchanged { OnErr result (self.new ≡ self.old) }
+    {
+        match read_snapshot(alloc, bytes) {
+            Ok(snapshot) => self.go_on(alloc, &snapshot, text),
+            Err(fault) => write_snapshot_fault(text, fault),
+        }
     }
 
     /// Loads a snapshot: the session goes on where it was saved, with its branch open in a new book, and with its breakpoints,
@@ -125,19 +195,7 @@ impl<'p, T: Table> Session<'p, T> {
     {
         let alloc = *self.breaks.allocator();
         let mut text = Vec::new(alloc);
-        let snapshot = match read_snapshot(alloc, bytes) {
-            Ok(snapshot) => snapshot,
-            Err(fault) => {
-                write_snapshot_fault(&mut text, fault)?;
-                return Ok(Reply { text });
-            }
-        };
-        if !snapshot.problem().same(self.book.problem()) {
-            write_book_fault(&mut text, &BookFault::ForeignProblem)?;
-            return Ok(Reply { text });
-        }
-        write_at(&mut text, snapshot.state())?;
-        self.resume(alloc, &snapshot)?;
+        self.obey_load(alloc, bytes, &mut text)?;
         Ok(Reply { text })
     }
 }

@@ -1,4 +1,4 @@
-use Rattle.std.proofs.Common.{◌≡◌, None, ◌++◌, sym, ap, ◌∙◌, rules, arith, option_copied}
+use Rattle.std.proofs.Common.{◌≡◌, ℕ, List, Option, None, ◌++◌, sym, ap, ◌∙◌, rules, arith, option_copied}
 use Rattle.x_debug.specs.Session.{DeskAnswer}
 use Rattle.x_debug.proofs.EnterLemmas.{enter_none, enter_some}
 use Rattle.x_debug.proofs.entering.enter.Goals as goal
@@ -11,7 +11,8 @@ returns-in_default-clause-made g c =
 pub returns-in_default-clause-text : goal.returns-in_default-clause-text
 returns-in_default-clause-text g c =
     let none : c.place_at.result ≡ None = first_of (search rules, grind arith) in
-    c.in_ok-write_book_fault.ensures.text ∙ ap (λ (a : DeskAnswer). c.args.text.now.items ++ a.text) (sym (enter_none c.args.book.now (option_copied c.args.lo) (sym none ∙ c.place_at.ensures.place)))
+    ◌∙◌ {A = List ℕ} c.in_ok-write_book_fault.ensures.text
+    (ap (λ (a : DeskAnswer). c.args.text.now.items ++ a.text) (sym (enter_none c.args.book.now (option_copied c.args.lo) (◌∙◌ {A = Option ℕ} (sym none) c.place_at.ensures.place))))
 
 pub returns-clause-made : goal.returns-clause-made
 returns-clause-made g c = rw (enter_some c.args.book.now (option_copied c.args.lo) c.in-Some.place (sym c.in-Some.is ∙ c.place_at.ensures.place)) c.enter_at.ensures.made

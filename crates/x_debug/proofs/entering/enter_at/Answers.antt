@@ -1,6 +1,7 @@
-use Rattle.std.proofs.Common.{◌++◌, ◌∙◌, ap, arith}
+use Rattle.std.proofs.Common.{ℕ, List, ◌++◌, ◌∙◌, ap, arith}
 use Rattle.text_lines.specs.Writing.{line_text}
 use Rattle.lab_book.specs.Tile.{mark_of}
+use Rattle.x_steps.specs.StateValue.{StateValue}
 use Rattle.x_steps.specs.StateView.{state_value}
 use Rattle.x_debug.specs.Lines.{at}
 use Rattle.x_debug.proofs.CallLemmas.{tile_is}
@@ -12,7 +13,7 @@ returns-in-Ok-clause-text g c =
     let b = c.args.book.now in
     let is = tile_is b.tiles _ c.args.place _ c.tiles.ensures.tiles c.requires c.index-tiles-place.is in
     lent_text b c.args.place c.tiles.ensures.tiling c.requires c.in-Ok.worker c.args.text.now.items _ c.in-Ok.ensures.worker
-    (c.in_ok-write_at.ensures ∙ ap (λ s. c.args.text.now.items ++ line_text (at s)) (c.mark.ensures ∙ ap mark_of is))
+    (◌∙◌ {A = List ℕ} c.in_ok-write_at.ensures (ap (λ s. c.args.text.now.items ++ line_text (at s)) (◌∙◌ {A = StateValue} c.mark.ensures (ap mark_of is))))
 
 pub returns-clause-text : goal.returns-clause-text
 returns-clause-text g c =

@@ -1,4 +1,4 @@
-use Rattle.std.proofs.Common.{◌++◌, ◌∙◌, ap, map}
+use Rattle.std.proofs.Common.{ℕ, List, ◌++◌, ◌∙◌, ap, map}
 use Rattle.text_lines.specs.Writing.{text_of}
 use Rattle.debug_texts.specs.Replies.{visit_words}
 use Rattle.x_debug.specs.Walking.{work}
@@ -12,6 +12,6 @@ returns-in-Ok-clause-made g c =
 
 pub returns-in-Ok-clause-text : goal.returns-in-Ok-clause-text
 returns-in-Ok-clause-text g c =
-    c.in_ok-note_visit.ensures
-    ∙ ap (λ visits. c.args.text.now.items ++ text_of (map visit_words visits))
-    (same_visit (work c.args.book.now c.args.worker.now) c.make_room.new.book c.make_room.new.worker c.in_ok-make_room.ensures.made)
+    ◌∙◌ {A = List ℕ} c.in_ok-note_visit.ensures
+    (ap (λ visits. c.args.text.now.items ++ text_of (map visit_words visits))
+    (same_visit (work c.args.book.now c.args.worker.now) c.make_room.new.book c.make_room.new.worker c.in_ok-make_room.ensures.made))

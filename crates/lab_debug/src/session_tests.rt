@@ -1,9 +1,9 @@
 //! Sessions, line by line: what each command answers, worked out by hand.
 
-use super::*;
 use cover_problem::{PlainTable, Problem, read_cover};
 use std::alloc::{AllocError, Global};
 use std::test::Fail;
+use x_debug::{Reply, Session};
 
 /// The small problem: its run has 43 steps, the cut 4 stands after 20, and X2 below 4 5 1 after 29.
 const SMALL: &str =

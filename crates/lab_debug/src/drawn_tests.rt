@@ -2,12 +2,12 @@
 //! shown; and a search that is parted, saved and loaded at drawn places has in the end the visits of one that
 //! runs through.
 
-use super::*;
 use crate::session_tests::answer;
 use cover_problem::{PlainTable, Problem, read_cover};
 use std::alloc::{AllocError, Global};
 use std::test::Fail;
 use text_lines::split_ended_line;
+use x_debug::Session;
 
 /// A session over a table that filters.
 type Plain<'p> = Session<'p, PlainTable>;

@@ -7,6 +7,7 @@ pub record Stream : Type 0 where
   pub bytes : Option (List ℕ)
   pub failed : Bool
 
+-- a read of this source, or a write to this sink, has failed
 abbrev pub HasFailed : Stream → Type 0
 HasFailed s = s.failed ≡ true
 

@@ -10,6 +10,3 @@ pub use input::{InputFault, read_whole};
 pub use output::write_whole;
 pub use stream::{Failed, Sink, Source};
 pub use watched::Watched;
-
-#[cfg(test)]
-mod tests;

@@ -4,3 +4,4 @@ mod TakingLemmas
 mod SearchingLemmas
 mod InputExamples
 mod ReplyLemmas
+mod ReplyExamples

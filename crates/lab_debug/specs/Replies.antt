@@ -4,6 +4,7 @@
 -- commands; `quit` ends the commands. `pool` isn't here yet, and is refused as no command is.
 --
 -- Example: after `load 1` and one line more, `show` is answered; after `quit` nothing is.
+-- proofs/ReplyExamples.antt computes it.
 use Rattle.std.specs.Prelude.{ℕ, zero, suc, ◌++◌, List, [], ◌∷◌, take, Option, Some, None, option_map, unwrap_or}
 use Rattle.std.specs.List.{concat}
 use Rattle.debug_texts.specs.declared.engine.EngineCommand.{EngineCommand}
@@ -34,6 +35,7 @@ turn_by s line after (Some (engine.Load n)) = turned (load_answer s (concat (tak
 turn_by s line after (Some (engine.Pool n)) = turned (answers (debug_refusal BadCommand) s) 0
 turn_by s line after (Some engine.Quit) = record { text = []; session = s; taken = None }
 
+-- what a raw line is answered, with these lines after it: it is the engine's own command, or else one line of session s
 unfoldable pub turn : SessionValue → List ℕ → List (List ℕ) → Turn
 turn s raw after = turn_by s (without_newline raw) after (engine_command_of (without_newline raw))
 

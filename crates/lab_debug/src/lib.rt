@@ -6,10 +6,3 @@ mod input;
 
 pub use answering::replies;
 pub use input::{raw_line, split_input, take_lines, without_newline};
-
-#[cfg(test)]
-mod drawn_tests;
-#[cfg(test)]
-mod session_tests;
-#[cfg(test)]
-mod tests;

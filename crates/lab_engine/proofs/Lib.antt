@@ -6,3 +6,4 @@ mod ListingLemmas
 mod EndingLemmas
 pub mod PackedLemmas
 mod OutputExamples
+mod PackedExamples

@@ -1,7 +1,7 @@
 -- What `count --classes` writes of a puzzle: what `count` writes, and then how many classes the packings make.
 --
 -- Example: of two dominoes in the box 2 2 1 it writes `packings 4`, `options 8`, `steps 55`, `levels 1 4 4`, `rotations 1`,
--- `symmetries 1`.
+-- `symmetries 1` (proofs/PackedExamples.antt computes it).
 use Rattle.std.specs.Prelude.{ℕ, List, [], ◌∷◌, ◌++◌, true, map, decimal, codes}
 use Rattle.text_lines.specs.Writing.{text_of}
 use Rattle.poly_texts.specs.Puzzle.{PuzzleValue}

@@ -31,6 +31,7 @@ IsTold OutOfMemory old new = Takes old new no_memory
 IsTold Unread old new = Takes old new bad_reader
 IsTold Unwritten old new = Takes old new bad_writer
 
+-- the exit status of a run that ends so
 abbrev pub status_of : Ending → ℕ
 status_of Written = 0
 status_of (Refused line) = 3

@@ -39,8 +39,10 @@ AreExactCovers p paths = EachIndex paths (λ k. IsExactCover p (has (slice_index
 -- the paths stand for the packings, each once: as tests on choices
 pub record ArePackingPaths (p : PuzzleValue) (paths : List (List ℕ)) : Type 0 where
   pub sound : (q : List ℕ) → IsIn q paths → IsPacking p (is_among (chosen_by p q))
-  pub complete : (chosen : ChoiceValue → Bool) → IsPacking p chosen → (q : List ℕ) × IsIn q paths × ((c : ChoiceValue) → is_among (chosen_by p q) c ≡ chosen c)
-  pub once : (q r : List ℕ) → IsIn q paths → IsIn r paths → ((c : ChoiceValue) → is_among (chosen_by p q) c ≡ is_among (chosen_by p r) c) → q ≡ r
+  pub complete : (chosen : ChoiceValue → Bool) → IsPacking p chosen
+      → (q : List ℕ) × IsIn q paths × ((c : ChoiceValue) → is_among (chosen_by p q) c ≡ chosen c)
+  pub once : (q r : List ℕ) → IsIn q paths → IsIn r paths
+      → ((c : ChoiceValue) → is_among (chosen_by p q) c ≡ is_among (chosen_by p r) c) → q ≡ r
 
 -- the text shows the packings, each once, in path order, and tells how many they are
 pub record ListsPackings (p : PuzzleValue) (text : List ℕ) : Type 0 where
@@ -77,5 +79,7 @@ IsListed jobs.Solve input text = (p : PuzzleValue) × (puzzle_of input ≡ Ok p)
 IsListed jobs.Count input text = (p : PuzzleValue) × (puzzle_of input ≡ Ok p) × CountsPackings p text
 IsListed jobs.Classes input text = (p : PuzzleValue) × (puzzle_of input ≡ Ok p) × CountsClasses p text
 IsListed jobs.Options input text = (p : PuzzleValue) × (puzzle_of input ≡ Ok p) × (text ≡ written (packing_problem p))
-IsListed jobs.DebugPuzzle input text = (p : PuzzleValue) × (puzzle_of (problem_text input) ≡ Ok p) × (text ≡ debug_output (command_lines input) (packing_problem p))
-IsListed jobs.DebugCover input text = (p : ProblemValue) × (problem_of (problem_text input) ≡ Ok p) × (text ≡ debug_output (command_lines input) p)
+IsListed jobs.DebugPuzzle input text = (p : PuzzleValue) × (puzzle_of (problem_text input) ≡ Ok p)
+    × (text ≡ debug_output (command_lines input) (packing_problem p))
+IsListed jobs.DebugCover input text = (p : ProblemValue) × (problem_of (problem_text input) ≡ Ok p)
+    × (text ≡ debug_output (command_lines input) p)

@@ -88,9 +88,11 @@ to_write (Err line) = []
 abbrev pub no_memory : List ℕ
 no_memory = line_text (codes "refused" ∷ codes "memory" ∷ [])
 
+-- the line that is told where the input isn't read: a read failed, or the input goes on past its limit
 abbrev pub bad_reader : List ℕ
 bad_reader = line_text (codes "refused" ∷ codes "input" ∷ [])
 
+-- the line that is told where a write of the output failed
 abbrev pub bad_writer : List ℕ
 bad_writer = line_text (codes "refused" ∷ codes "output" ∷ [])
 

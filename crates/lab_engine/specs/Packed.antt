@@ -1,7 +1,7 @@
 -- What `solve`, `count` and `options` write of a puzzle.
 --
 -- Example: of two dominoes A and B in the box 2 2 1 `solve` writes first `packing 1`, `AB`, `AB`; `count` writes `packings 4`,
--- `options 8`, `steps 55`, `levels 1 4 4`.
+-- `options 8`, `steps 55`, `levels 1 4 4` (proofs/PackedExamples.antt computes both).
 use Rattle.std.specs.Prelude.{ℕ, ◌+◌, List, [], ◌∷◌, ◌++◌, true, false, length, decimal, codes}
 use Rattle.text_lines.specs.Writing.{line_text, text_of}
 use Rattle.poly_texts.specs.Puzzle.{PuzzleValue}

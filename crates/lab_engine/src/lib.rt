@@ -15,14 +15,3 @@ mod search;
 
 pub use engine::run;
 pub use job::Job;
-
-#[cfg(test)]
-mod box_tests;
-#[cfg(test)]
-mod class_tests;
-#[cfg(test)]
-mod debug_tests;
-#[cfg(test)]
-mod puzzle_tests;
-#[cfg(test)]
-mod tests;

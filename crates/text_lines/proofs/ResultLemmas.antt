@@ -1,5 +1,7 @@
 -- What a step that gave something did.
-use Rattle.std.proofs.Common.{◌≡◌, ◌⊎◌, inl, inr, Bool, true, false, cond, Result, Ok, Err, refl}
+use Rattle.std.proofs.Common.{◌≡◌, ◌⊎◌, inl, inr, ℕ, List, Bool, true, false, cond, Option, Some, Result, Ok, Err, refl, ap, ◌∙◌, bytes_eq}
+use Rattle.std.specs.Cmp.Lexicographic.{bytes_decides}
+use Rattle.std.proofs.lemmas.Option.{same_Some}
 use Rattle.text_lines.specs.Each.{◌>>=◌}
 use Rattle.text_lines.specs.Answers.{IsFaultOf}
 use Rattle.text_lines.specs.declared.refusal.Refusal.{Refusal}
@@ -40,6 +42,15 @@ granted false f r x h = absurd (no_fault f x h)
 pub chosen : {A : Type 0} (b : Bool) (x y z : A) → cond b x y ≡ z → ((b ≡ true) × (x ≡ z)) ⊎ ((b ≡ false) × (y ≡ z))
 chosen true x y z h = inl (refl, h)
 chosen false x y z h = inr (refl, h)
+
+-- Where keys are told by their words, tried in turn, a word has the key that it tells: for one key, and those after it.
+pub key_told : {K : Type 0} (key_word : K → List ℕ) (word : List ℕ) (k key : K) (later : Option K)
+    → (later ≡ Some k → word ≡ key_word k) → cond (bytes_eq word (key_word key)) (Some key) later ≡ Some k → word ≡ key_word k
+key_told key_word word k key later rest e =
+    elim (chosen (bytes_eq word (key_word key)) (Some key) later (Some k) e) [
+      | inl here ↦ (bytes_decides word (key_word key)).0 here.0 ∙ ap key_word (same_Some key k here.1)
+      | inr more ↦ rest more.1
+    ]
 
 -- a fault of a part is passed on
 pub passes_on : {A B F : Type 0} (e : Refusal F) (at : Result A F) (all : Result B F) → ((f : F) → at ≡ Err f → all ≡ Err f) → IsFaultOf e at → IsFaultOf e all

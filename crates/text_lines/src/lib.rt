@@ -18,6 +18,3 @@ pub use line::{is_all_plain, outside_comment, split_ended_line, split_line, with
 pub use reading::{ByLine, read_lines};
 pub use refusal::{Refusal, TextRefusal};
 pub use word::{has_words, is_spaced, split_word};
-
-#[cfg(test)]
-mod tests;

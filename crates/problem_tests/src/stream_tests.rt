@@ -1,6 +1,6 @@
 //! Broken readers and writers, and input at its limit.
 
-use crate::{InputFault, Watched, read_whole, write_whole};
+use byte_streams::{InputFault, Watched, read_whole, write_whole};
 use std::io::{self, ErrorKind, Read, Write};
 
 /// A reader that fails after its bytes.

@@ -1,7 +1,7 @@
 //! Puzzles from their text to the output: rows that were worked by hand, and counts from the literature.
 
-use crate::{Job, run};
 use byte_streams::Watched;
+use lab_engine::{Job, run};
 
 pub const DOMINOES: &str = "piece A 000 100\npiece B 000 100\nbox 2 2 1\n";
 

@@ -1,7 +1,7 @@
 //! Whole inputs through `run`, with outputs that were worked out by hand or printed by other programs.
 
-use crate::{Job, run};
 use byte_streams::Watched;
+use lab_engine::{Job, run};
 use std::alloc::{AllocError, Global};
 use std::io::{self, ErrorKind, Read, Write};
 use std::test::Fail;

@@ -1,7 +1,7 @@
 //! Searches that are taken by commands, from the input to the output: rows that were worked by hand.
 
-use crate::Job;
 use crate::puzzle_tests::ends_so;
+use lab_engine::Job;
 
 /// The small problem and commands: to where nothing is left to try below an option, and back to the start.
 const THERE_AND_BACK: &str =

@@ -1,8 +1,8 @@
 //! Pieces in boxes through `run`, with the counts that two other programs print.
 
-use crate::lines::{push_number, push_word};
-use crate::tests::{cover, ends_with};
+use crate::cover_tests::{cover, ends_with};
 use std::alloc::{AllocError, Global};
+use std::fmt::Write;
 use std::test::Fail;
 
 /// The coordinates wrap: what is below 0 lies in no box.
@@ -130,10 +130,10 @@ fn has(bits: u64, bit: u64) -> bool {
 }
 
 /// Appends the cells with these bits.
-fn push_cells(text: &mut Vec<u8>, grid: &[(Cell, u64)], bits: u64) -> Result<(), AllocError> {
+fn push_cells(text: &mut String, grid: &[(Cell, u64)], bits: u64) -> Result<(), AllocError> {
     for (cell, bit) in grid {
         if has(bits, *bit) {
-            push_number(text, cell_number(cell))?;
+            write!(text, " {}", cell_number(cell))?;
         }
     }
     Ok(())
@@ -141,21 +141,20 @@ fn push_cells(text: &mut Vec<u8>, grid: &[(Cell, u64)], bits: u64) -> Result<(),
 
 /// The cover text: an item for each piece and each cell, and an option for each placement, the pieces in
 /// order and a piece's placements in the order of their cells.
-fn text_of(alloc: Global, size: Cell, pieces: &str) -> Result<Vec<u8>, AllocError> {
+fn text_of(alloc: Global, size: Cell, pieces: &str) -> Result<String, AllocError> {
     let grid = grid_of(alloc, size)?;
-    let mut text = Vec::from_slice(alloc, b"items")?;
+    let mut text = String::from_str(alloc, "items")?;
     for piece in pieces.lines() {
-        push_word(&mut text, name_of(piece))?;
+        write!(text, " {}", name_of(piece))?;
     }
     push_cells(&mut text, &grid, u64::MAX)?;
     for piece in pieces.lines() {
         for bits in placements(alloc, &grid, piece)?.iter().rev() {
-            text.extend_from_slice(b"\noption")?;
-            push_word(&mut text, name_of(piece))?;
+            write!(text, "\noption {}", name_of(piece))?;
             push_cells(&mut text, &grid, *bits)?;
         }
     }
-    text.push(b'\n')?;
+    text.push_str("\n")?;
     Ok(text)
 }
 
@@ -177,7 +176,7 @@ fn packings_of_a_box_are_listed(rt: HostRuntime) -> Result<(), Fail> {
     ];
     for (pieces, size, lines, end) in rows {
         let text = text_of(rt.alloc(), size, pieces)?;
-        let done = cover(&rt, &text);
+        let done = cover(&rt, text.as_bytes());
         assert_eq!(rt; done.status, 0);
         assert!(rt; ends_with(&done.output, lines, end));
         assert!(rt; done.faults.is_empty());

@@ -1,8 +1,7 @@
 //! Sessions as texts: what is read, and what is answered.
 
-use crate::answering::replies;
-use crate::input::split_input;
 use cover_problem::{PlainTable, read_cover};
+use lab_debug::{replies, split_input};
 use std::alloc::Global;
 use std::test::Fail;
 

@@ -1,13 +1,10 @@
 //! Sessions, line by line: what each command answers, worked out by hand.
 
 use cover_problem::{PlainTable, Problem, read_cover};
+use drawn_problems::SMALL;
 use std::alloc::{AllocError, Global};
 use std::test::Fail;
 use x_debug::{Reply, Session};
-
-/// The small problem: its run has 43 steps, the cut 4 stands after 20, and X2 below 4 5 1 after 29.
-const SMALL: &str =
-    "items a b c d e f g\noption c e\noption a d g\noption b c f\noption a d f\noption b g\noption d e g";
 
 /// What the small problem's branch from the cut 4 to the end is saved as, below 4 5 1.
 const SNAPSHOT: &str =
@@ -25,8 +22,25 @@ const NEW: &str = "new";
 
 const AGAIN: &str = "again";
 
+/// What stands for the rows to a breakpoint.
+const TO_BREAK: &str = "to break";
+
+/// A line or a snapshot, and what is answered.
+type Row = (&'static str, &'static str);
+
+/// A branch is split off and searched to a breakpoint, which is set twice.
+const BREAK_ROWS: [Row; 7] = [
+    ("step 5", "moved 5\nat X2 - 2\n"),
+    ("split 0 4", "branch 4 to end waiting\n"),
+    ("park", "parked\n"),
+    ("open 4", "at X5 4\n"),
+    ("break level 3", "set level 3\n"),
+    ("break level 3", "set level 3\n"),
+    ("run", "moved 9\nat X2 - 4 5 1\nbreak level 3\n"),
+];
+
 /// Lines and snapshots, each with what is answered.
-const ROWS: [(&str, &str); 109] = [
+const ROWS: [Row; 97] = [
     (NEW, ""),
     // To where nothing is left to try below an option, and back to the start.
     ("step 12", "moved 12\nat X5 past 2 3\n"),
@@ -96,13 +110,7 @@ const ROWS: [(&str, &str); 109] = [
     ("open 4", "refused book 1 UnknownBranch\n"),
     (NEW, ""),
     // A search is saved without its breakpoint, and goes on.
-    ("step 5", "moved 5\nat X2 - 2\n"),
-    ("split 0 4", "branch 4 to end waiting\n"),
-    ("park", "parked\n"),
-    ("open 4", "at X5 4\n"),
-    ("break level 3", "set level 3\n"),
-    ("break level 3", "set level 3\n"),
-    ("run", "moved 9\nat X2 - 4 5 1\nbreak level 3\n"),
+    (TO_BREAK, ""),
     (
         "save",
         "snapshot 13\npolysnap 1\nproblem 7\nitems a b c d e f g\noption c e\noption a d g\noption b c f\n\
@@ -116,13 +124,7 @@ const ROWS: [(&str, &str); 109] = [
     ("clear", "cleared 0\n"),
     (NEW, ""),
     // And with it.
-    ("step 5", "moved 5\nat X2 - 2\n"),
-    ("split 0 4", "branch 4 to end waiting\n"),
-    ("park", "parked\n"),
-    ("open 4", "at X5 4\n"),
-    ("break level 3", "set level 3\n"),
-    ("break level 3", "set level 3\n"),
-    ("run", "moved 9\nat X2 - 4 5 1\nbreak level 3\n"),
+    (TO_BREAK, ""),
     (
         "save breaks",
         "snapshot 15\npolysnap 2\nproblem 7\nitems a b c d e f g\noption c e\noption a d g\noption b c f\n\
@@ -177,10 +179,7 @@ const ROWS: [(&str, &str); 109] = [
 ];
 
 /// What a session answers to a line, or to a snapshot.
-pub(crate) fn answer(
-    session: &mut Session<'_, PlainTable>,
-    line: &str,
-) -> Result<Vec<u8>, AllocError> {
+pub fn answer(session: &mut Session<'_, PlainTable>, line: &str) -> Result<Vec<u8>, AllocError> {
     let bytes = line.as_bytes();
     let reply = if bytes.starts_with(b"polysnap") {
         session.load(bytes)?
@@ -199,6 +198,24 @@ fn again<'p>(alloc: Global, session: Session<'p, PlainTable>) -> Session<'p, Pla
     }
 }
 
+/// Whether a row is answered so.
+fn is_answered(session: &mut Session<'_, PlainTable>, row: &Row) -> Result<bool, AllocError> {
+    Ok(answer(session, row.0)?.as_slice() == row.1.as_bytes())
+}
+
+/// Whether a row is answered so, or each of the rows that it stands for.
+fn is_right(session: &mut Session<'_, PlainTable>, row: &Row) -> Result<bool, AllocError> {
+    if row.0 != TO_BREAK {
+        return is_answered(session, row);
+    }
+    for row in BREAK_ROWS.iter() {
+        if !is_answered(session, row)? {
+            return Ok(false);
+        }
+    }
+    Ok(true)
+}
+
 /// The first row that isn't answered so.
 fn first_other(alloc: Global, problem: &Problem) -> Result<Option<usize>, AllocError> {
     let mut session = Session::new(alloc, problem)?;
@@ -207,7 +224,7 @@ fn first_other(alloc: Global, problem: &Problem) -> Result<Option<usize>, AllocE
             session = Session::new(alloc, problem)?;
         } else if row.0 == AGAIN {
             session = again(alloc, session);
-        } else if answer(&mut session, row.0)?.as_slice() != row.1.as_bytes() {
+        } else if !is_right(&mut session, row)? {
             return Ok(Some(at));
         }
     }

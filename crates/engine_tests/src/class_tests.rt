@@ -1,7 +1,7 @@
 //! Classes of packings, from a puzzle's text to the output: worked by hand, and counts from the literature.
 
-use crate::Job;
 use crate::puzzle_tests::{DOMINOES, OPTIONAL, SOMA, STRIP, ends_so};
+use lab_engine::Job;
 
 const FIVE_DOMINOES: &str =
     "box 5 2 1\npiece A 000 100\npiece B 000 100\npiece C 000 100\npiece D 000 100\npiece E 000 100\n";

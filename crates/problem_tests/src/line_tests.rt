@@ -1,7 +1,10 @@
 //! Each call once, on texts whose lines, words and numbers were written down by hand.
 
-use super::*;
 use std::alloc::Global;
+use text_lines::{
+    ByLine, Refusal, TextRefusal, has_words, is_all_digits, is_all_plain, is_decimal, is_spaced,
+    number, outside_comment, read_lines, split_ended_line, split_line, split_word, without_return,
+};
 
 /// The numbers of a line, each at most 100, added up: how a reader goes over words.
 fn total(line: &[u8]) -> Option<u32> {
@@ -115,7 +118,7 @@ impl ByLine for Longest {
     ghost use Rattle.std.specs.Prelude.{nat_le, length, Result, Ok, Err, if◌then◌else◌};
     ghost use Rattle.std.specs.List.{list_all};
     ghost use Rattle.text_lines.specs.Lines.{is_plain};
-    ghost use Rattle.text_lines.specs.declared.tests.Odd.TheVariants as odd;
+    ghost use Rattle.problem_tests.specs.declared.line_tests.Odd.TheVariants as odd;
 
     type Fault = Odd;
 

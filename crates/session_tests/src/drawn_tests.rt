@@ -1,9 +1,10 @@
 //! Commands that are drawn by a seed, on drawn problems: steps that are taken back change nothing that is
-//! shown; and a search that is parted, saved and loaded at drawn places has in the end the visits of one that
+//! shown; and a search that is parted, saved and loaded at drawn positions has in the end the visits of one that
 //! runs through.
 
 use crate::session_tests::answer;
 use cover_problem::{PlainTable, Problem, read_cover};
+use drawn_problems::{draw, drawn_narrow_options, text_of};
 use std::alloc::{AllocError, Global};
 use std::test::Fail;
 use text_lines::split_ended_line;
@@ -12,41 +13,12 @@ use x_debug::Session;
 /// A session over a table that filters.
 type Plain<'p> = Session<'p, PlainTable>;
 
-/// The next number that is drawn, below 2^31.
-fn draw(seed: &mut u64) -> u32 {
-    *seed = seed
-        .wrapping_mul(6_364_136_223_846_793_005)
-        .wrapping_add(1_442_695_040_888_963_407);
-    (*seed >> 33) as u32
-}
-
-/// The items a to e, of which three to five are primary.
-const ITEMS: [&str; 3] = [
-    "items a b c\nmaybe d e",
-    "items a b c d\nmaybe e",
-    "items a b c d e",
-];
-
-/// An option of the items whose bit is set.
-fn push_option(text: &mut String, mask: u32) -> Result<(), AllocError> {
-    text.push_str("\noption")?;
-    for (index, name) in [" a", " b", " c", " d", " e"].iter().enumerate() {
-        if mask.wrapping_shr(index as u32) % 2 == 1 {
-            text.push_str(name)?;
-        }
-    }
-    Ok(())
-}
-
-/// The text of a problem of five items, with five to fifteen options of few of them.
+/// The text of a problem of five items, of which three to five are primary, with five to fifteen options of few
+/// of them.
 fn drawn_text(alloc: Global, seed: &mut u64) -> Result<String, AllocError> {
-    let mut text = String::new(alloc);
-    text.push_str(ITEMS[draw(seed) as usize % 3])?;
-    for count in 0..draw(seed) % 11 + 5 {
-        let mask = (draw(seed) & draw(seed)) | 1_u32.wrapping_shl(count % 5);
-        push_option(&mut text, mask)?;
-    }
-    Ok(text)
+    let primary = draw(seed) % 3 + 3;
+    let options = drawn_narrow_options(alloc, 5, 11, seed)?;
+    text_of(alloc, 5, primary, &options)
 }
 
 /// So many steps, as far as there are any: how many there were.

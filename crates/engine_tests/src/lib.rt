@@ -1,0 +1,13 @@
+//! Tests of `lab_engine`: whole inputs of every job through `run`, with what is written and told.
+#![tactic(auto)]
+
+#[cfg(test)]
+mod box_tests;
+#[cfg(test)]
+mod class_tests;
+#[cfg(test)]
+mod cover_tests;
+#[cfg(test)]
+mod debug_tests;
+#[cfg(test)]
+mod puzzle_tests;

@@ -1,0 +1,17 @@
+//! Tests of `text_lines`, `byte_streams` and `cover_problem`: lines and words, streams that break, problems, their texts and their tables.
+#![tactic(auto)]
+
+#[cfg(test)]
+mod exact_cover_tests;
+#[cfg(test)]
+mod line_tests;
+#[cfg(test)]
+mod problem_tests;
+#[cfg(test)]
+mod setting;
+#[cfg(test)]
+mod stream_tests;
+#[cfg(test)]
+mod table_tests;
+#[cfg(test)]
+mod text_tests;

@@ -1,0 +1,276 @@
+//! Problems that are made of names and options, with answers that were worked out by hand.
+use crate::setting::{SMALL, many_options};
+use cover_problem::{Fault, Problem, ProblemFault, Refused, read_cover};
+use std::alloc::{AllocError, Global};
+use std::test::Fail;
+
+type Made = Result<Problem, Refused<ProblemFault, (Vec<String>, Vec<Vec<u32>>)>>;
+
+/// The small problem.
+const NAMES: &[&str] = &["a", "b", "c", "d", "e", "f", "g"];
+
+const OPTIONS: &[&[u32]] = &[
+    &[3, 5],
+    &[1, 4, 7],
+    &[2, 3, 6],
+    &[1, 4, 6],
+    &[2, 7],
+    &[4, 5, 7],
+];
+
+/// Names, numbers of primary items and options, each with the first fault.
+const REFUSED: [(&[&str], u32, &[&[u32]], Fault); 10] = [
+    (&[], 0, &[], Fault::NoItemLine),
+    (&["a", "a"], 0, &[&[]], Fault::NoItemLine),
+    (&["a", "b"], 3, &[], Fault::NoItemLine),
+    (&["a", "a b", "a"], 2, &[&[]], Fault::BadName),
+    (&["123456789"], 1, &[], Fault::BadName),
+    (&["a", "b", "a"], 2, &[&[]], Fault::RepeatedItem),
+    (&["a", "b"], 2, &[&[1], &[], &[3]], Fault::BadLine),
+    (&["a", "b"], 2, &[&[1, 3, 1], &[]], Fault::UnknownItem),
+    (&["a", "b"], 2, &[&[0]], Fault::UnknownItem),
+    (
+        &["a", "b"],
+        2,
+        &[&[1], &[1, 2, 1, 3]],
+        Fault::ItemTwiceInOption,
+    ),
+];
+
+/// Problems, each with whether it is the one of a and b, both primary, with the option a b.
+const SAME: [(&[&str], u32, &[&[u32]], bool); 4] = [
+    (&["a", "b"], 2, &[&[1, 2]], true),
+    (&["a", "b"], 1, &[&[1, 2]], false),
+    (&["a", "c"], 2, &[&[1, 2]], false),
+    (&["a", "b"], 2, &[&[2, 1]], false),
+];
+
+/// Names, numbers of primary items and options, each with a text of the same problem.
+const TEXTS: [(&[&str], u32, &[&[u32]], &[u8]); 2] = [
+    (NAMES, 7, OPTIONS, SMALL),
+    (
+        &["a", "b", "c"],
+        2,
+        &[&[1, 3], &[2, 3], &[1], &[2]],
+        b"items a b\nmaybe c\noption a c\noption b c\noption a\noption b\n",
+    ),
+];
+
+/// The faults with their numbers and names.
+const FAULTS: [(Fault, u8, &str); 7] = [
+    (Fault::BadName, 1, "BadName"),
+    (Fault::RepeatedItem, 2, "RepeatedItem"),
+    (Fault::UnknownItem, 3, "UnknownItem"),
+    (Fault::ItemTwiceInOption, 4, "ItemTwiceInOption"),
+    (Fault::TooLarge, 5, "TooLarge"),
+    (Fault::NoItemLine, 6, "NoItemLine"),
+    (Fault::BadLine, 7, "BadLine"),
+];
+
+fn words(alloc: Global, names: &[&str]) -> Result<Vec<String>, AllocError> {
+    let mut words = Vec::new(alloc);
+    for name in names {
+        words.push(String::from_str(alloc, name)?)?;
+    }
+    Ok(words)
+}
+
+fn lists(alloc: Global, options: &[&[u32]]) -> Result<Vec<Vec<u32>>, AllocError> {
+    let mut lists = Vec::new(alloc);
+    for option in options {
+        lists.push(Vec::from_slice(alloc, option)?)?;
+    }
+    Ok(lists)
+}
+
+fn problem_of(
+    alloc: Global,
+    names: &[&str],
+    primary: u32,
+    options: &[&[u32]],
+) -> Result<Made, AllocError> {
+    let names = words(alloc, names)?;
+    let options = lists(alloc, options)?;
+    Ok(Problem::new(alloc, names, primary, options))
+}
+
+fn small(alloc: Global) -> Result<Problem, Fail> {
+    Ok(problem_of(alloc, NAMES, 7, OPTIONS)??)
+}
+
+/// Whether it has seven items, all of them primary, and six options.
+fn is_counted(problem: &Problem) -> bool {
+    problem.items() == 7 && problem.primary() == 7 && problem.options() == 6
+}
+
+/// The names of the first and the last item, and the second option.
+fn has_parts(problem: &Problem) -> bool {
+    if problem.items() < 7 || problem.options() < 2 {
+        return false;
+    }
+    problem.name(1) == "a" && problem.name(7) == "g" && problem.option(2) == [1, 4, 7].as_slice()
+}
+
+#[test]
+fn the_small_problem_is_made(rt: HostRuntime) -> Result<(), Fail> {
+    let problem = small(rt.alloc())?;
+    assert!(rt; is_counted(&problem));
+    assert!(rt; has_parts(&problem));
+    Ok(())
+}
+
+/// Whether items are found by their names, and no other names are found.
+fn finds(problem: &Problem) -> bool {
+    problem.item("d") == Some(4)
+        && problem.item("h").is_none()
+        && problem.item("a_long_name").is_none()
+}
+
+#[test]
+fn items_are_found_by_name(rt: HostRuntime) -> Result<(), Fail> {
+    let problem = small(rt.alloc())?;
+    assert!(rt; finds(&problem));
+    Ok(())
+}
+
+#[test]
+fn a_copy_is_the_same(rt: HostRuntime) -> Result<(), Fail> {
+    let problem = small(rt.alloc())?;
+    let other = problem.copy()?;
+    assert!(rt; problem.same(&other));
+    Ok(())
+}
+
+/// Whether this is the problem of a and b, both primary, with the option a b.
+fn is_a_b(alloc: Global, names: &[&str], primary: u32, options: &[&[u32]]) -> Result<bool, Fail> {
+    let problem = problem_of(alloc, &["a", "b"], 2, &[&[1, 2]])??;
+    let other = problem_of(alloc, names, primary, options)??;
+    Ok(problem.same(&other))
+}
+
+#[test]
+fn problems_differ_in_each_part(rt: HostRuntime) -> Result<(), Fail> {
+    for (names, primary, options, same) in SAME {
+        assert!(rt; is_a_b(rt.alloc(), names, primary, options)? == same);
+    }
+    Ok(())
+}
+
+/// Whether it is a refusal with this fault, which hands both lists back.
+fn is_refused(made: Made, fault: Fault, names: Vec<String>, options: Vec<Vec<u32>>) -> bool {
+    match made {
+        Ok(_) => false,
+        Err(refused) => {
+            refused.fault == ProblemFault::Fault(fault) && refused.given == (names, options)
+        }
+    }
+}
+
+#[test]
+fn each_fault_is_the_first_one(rt: HostRuntime) -> Result<(), Fail> {
+    let alloc = rt.alloc();
+    for (names, primary, options, fault) in REFUSED {
+        let made = problem_of(alloc, names, primary, options)?;
+        assert!(rt; is_refused(made, fault, words(alloc, names)?, lists(alloc, options)?));
+    }
+    Ok(())
+}
+
+/// So many names, which are the numbers from 0.
+fn numbers(alloc: Global, count: u32) -> Result<Vec<String>, AllocError> {
+    let mut names = Vec::new(alloc);
+    for number in 0..count {
+        names.push(format!(in alloc; "{number}")?)?;
+    }
+    Ok(names)
+}
+
+/// The option of the items to this one.
+fn first_items(alloc: Global, last: u32) -> Result<Vec<u32>, AllocError> {
+    let mut option = Vec::new(alloc);
+    for item in 1..=last {
+        option.push(item)?;
+    }
+    Ok(option)
+}
+
+/// So many items with these options, each of the first so many items.
+fn large(alloc: Global, items: u32, sizes: &[u32]) -> Result<Made, AllocError> {
+    let mut options = Vec::new(alloc);
+    for size in sizes {
+        options.push(first_items(alloc, *size)?)?;
+    }
+    Ok(Problem::new(alloc, numbers(alloc, items)?, 1, options))
+}
+
+/// So many options with the first item.
+fn many(alloc: Global, count: u32) -> Result<Made, AllocError> {
+    let mut options = Vec::new(alloc);
+    for _ in 0..count {
+        options.push(Vec::from_slice(alloc, &[1])?)?;
+    }
+    Ok(Problem::new(alloc, words(alloc, &["a"])?, 1, options))
+}
+
+/// Whether it is too large, and as many names and options are handed back.
+fn is_too_large(made: Made, names: usize, options: usize) -> bool {
+    match made {
+        Ok(_) => false,
+        Err(refused) => {
+            refused.fault == ProblemFault::Fault(Fault::TooLarge)
+                && refused.given.0.len() == names
+                && refused.given.1.len() == options
+        }
+    }
+}
+
+/// Whether what is made is the problem that is read of this text.
+fn is_read(alloc: Global, made: Made, text: &[u8]) -> Result<bool, Fail> {
+    let read = read_cover(alloc, text)?;
+    Ok(made?.same(&read))
+}
+
+#[test]
+fn a_made_problem_is_the_one_of_its_text(rt: HostRuntime) -> Result<(), Fail> {
+    for (names, primary, options, text) in TEXTS {
+        let made = problem_of(rt.alloc(), names, primary, options)?;
+        assert!(rt; is_read(rt.alloc(), made, text)?);
+    }
+    let text = many_options(rt.alloc(), 70_000)?;
+    assert!(rt; is_read(rt.alloc(), many(rt.alloc(), 70_000)?, &text)?);
+    Ok(())
+}
+
+#[test]
+fn the_limit_on_options_is_exact(rt: HostRuntime) -> Result<(), Fail> {
+    let problem = many(rt.alloc(), 262_143)??;
+    assert!(rt; problem.options() == 262_143);
+    assert!(rt; is_too_large(many(rt.alloc(), 262_144)?, 1, 262_144));
+    Ok(())
+}
+
+#[test]
+fn the_limit_on_items_is_exact(rt: HostRuntime) -> Result<(), Fail> {
+    let problem = large(rt.alloc(), 65_535, &[])??;
+    assert!(rt; problem.items() == 65_535);
+    assert!(rt; is_too_large(large(rt.alloc(), 65_536, &[])?, 65_536, 0));
+    Ok(())
+}
+
+/// 127 options of all 65,535 items are one entry too many: 2 and 65,535 and 127 times 65,536 are 8,388,609.
+#[test]
+fn the_limit_on_entries_is_exact(rt: HostRuntime) -> Result<(), Fail> {
+    let mut sizes = [65_535; 127];
+    assert!(rt; is_too_large(large(rt.alloc(), 65_535, &sizes)?, 65_535, 127));
+    sizes[126] = 65_534;
+    let problem = large(rt.alloc(), 65_535, &sizes)??;
+    assert!(rt; problem.options() == 127);
+    Ok(())
+}
+
+#[test]
+fn faults_have_numbers_and_names(rt: HostRuntime) {
+    for (fault, number, name) in FAULTS {
+        assert!(rt; fault.number() == number && fault.name() == name);
+    }
+}

@@ -16,7 +16,7 @@ use Rattle.cover_links.proofs.RingLemmas.{without_ne, without_from, last_to_head
 use Rattle.cover_links.proofs.LayoutLemmas.{IsNode, place_high, place_low, place_apart}
 use Rattle.cover_links.proofs.BuildLemmas.{place_between}
 use Rattle.cover_links.proofs.HidingLemmas.{down_at, up_at, left_at, right_at, top_at, few}
-use Rattle.cover_links.proofs.Covered.{same_test}
+use Rattle.std.specs.Cmp.{both_ways as same_test}
 
 -- a block with the nodes that are shown, while it is built
 pub record Grows (p : ProblemValue) (shown : ℕ → ℕ → Bool) (active : ℕ → Bool) (es : List Entry) : Type 0 where

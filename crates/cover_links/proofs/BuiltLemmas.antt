@@ -1,5 +1,6 @@
 -- The block that is built, option by option, stands for the problem with nothing covered.
 use Rattle.std.proofs.Common.{◌≡◌, ℕ, zero, suc, ◌+◌, ◌-◌, ◌<◌, ◌≤◌, ◌⊎◌, inl, inr, ◌==◌, nat_lt, true, false, List, [], length, length-set, filter, replicate, refl, sym, ap, ◌∙◌, subst, arith}
+use Rattle.std.specs.Cmp.{both_ways as same_test}
 use Rattle.std.proofs.lemmas.Bool.{cases_eq, false≢true, eq-eqb, lt-ltb, le-ltb, ne_eqb}
 use Rattle.cover_problem.specs.Lists.{has, numbers}
 use Rattle.cover_problem.specs.Problem.{ProblemValue, IsProblem, option_at, size_of}
@@ -11,7 +12,7 @@ use Rattle.cover_links.specs.Ring.{IsNext, IsRing}
 use Rattle.cover_links.specs.Layout.{node_index, start_of}
 use Rattle.cover_links.proofs.LayoutLemmas.{IsNode}
 use Rattle.cover_links.proofs.HidingLemmas.{Stands, down_at, up_at, left_at, right_at}
-use Rattle.cover_links.proofs.Covered.{shown_of, active_of, IsShown, shown_is, shown_from, active_is, active_when, same_test, false_from}
+use Rattle.cover_links.proofs.Covered.{shown_of, active_of, IsShown, shown_is, shown_from, active_is, active_when, false_from}
 use Rattle.cover_links.proofs.AppendLemmas.{at_set, set_other}
 use Rattle.std.proofs.lemmas.List.{length-replicate}
 use Rattle.cover_links.proofs.OptionLemmas.{upto, upto_is, upto_old, BuiltDone, option_done, option_can}

@@ -1,5 +1,6 @@
 -- Covering an item: it stays in the block, gives a block that stands for one item more, and is undone by uncovering the item.
 use Rattle.std.proofs.Common.{◌≡◌, ℕ, ◌+◌, ◌-◌, ◌<◌, ◌≤◌, ◌⊎◌, inl, inr, Bool, true, false, unwrap_or, List, [], ◌∷◌, ◌++◌, length, filter, refl, sym, ap, ◌∙◌, subst, arith}
+use Rattle.std.specs.Cmp.{both_ways as same_test}
 use Rattle.std.proofs.lemmas.Bool.{cases_eq, cases_lt}
 use Rattle.cover_problem.specs.Lists.{has, numbers, above, below}
 use Rattle.cover_problem.specs.Problem.{ProblemValue, IsProblem}
@@ -19,7 +20,7 @@ use Rattle.cover_links.proofs.LayoutLemmas.{IsNode, place_high}
 use Rattle.cover_links.proofs.BuildLemmas.{few_items}
 use Rattle.cover_links.proofs.HidingLemmas.{Stands, down_at, up_at, left_at, right_at, top_at}
 use Rattle.cover_links.proofs.ListWalk.{first_of, last_from, IsChain, chain_from, chain_next, chain_last, list_gone, ListDone, list_done, list_column, list_stays, list_was}
-use Rattle.cover_links.proofs.Covered.{shown_of, active_of, active_is, active_when, same_test, rises_distinct, same_column, all_shown, still_shown, was_shown, active_aside, active_without}
+use Rattle.cover_links.proofs.Covered.{shown_of, active_of, active_is, active_when, rises_distinct, same_column, all_shown, still_shown, was_shown, active_aside, active_without}
 
 -- ---- an item leaves the row
 

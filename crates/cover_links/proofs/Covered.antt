@@ -1,6 +1,7 @@
 -- Which nodes are shown, and which items are in the row, once the items of a list are covered.
 use Rattle.std.proofs.Common.{◌≡◌, ℕ, suc, ◌<◌, ◌≤◌, ◌⊎◌, inl, inr, ◌==◌, nat_lt, nat_le, Bool, true, false, not, ◌&&◌, List, [], ◌∷◌, ◌++◌, length, refl, sym, ap, ◌∙◌, subst, arith}
 use Rattle.std.specs.List.{list_any, before_first}
+use Rattle.std.specs.Cmp.{both_ways as same_test}
 use Rattle.std.proofs.lemmas.Bool.{and_parts, and_from, cases_eq, cases_Bool, not-true, not_from_false, both_ways, false≢true, eq-eqb, ltb-true, leb-true, lt-ltb, le-leb, ne_eqb}
 use Rattle.cover_problem.specs.Lists.{has, are_distinct, RisesFrom}
 use Rattle.cover_problem.specs.Problem.{ProblemValue, option_at}
@@ -56,13 +57,6 @@ active_is p c i h =
 pub active_when : (p : ProblemValue) (c : List ℕ) (i : ℕ) → 0 < i → i ≤ p.primary → has c i ≡ false → active_of p c i ≡ true
 unfolding active_of
 active_when p c i a b h = and_from (nat_lt 0 i && nat_le i p.primary) (not (has c i)) (and_from (nat_lt 0 i) (nat_le i p.primary) (lt-ltb 0 i a) (le-leb i p.primary b)) (not_from_false (has c i) h)
-
--- two tests that imply each other
-pub same_test : (a b : Bool) → (a ≡ true → b ≡ true) → (b ≡ true → a ≡ true) → a ≡ b
-same_test true true f g = refl
-same_test true false f g = absurd (false≢true (f refl))
-same_test false true f g = absurd (false≢true (g refl))
-same_test false false f g = refl
 
 pub rises_distinct : (n : ℕ) (xs : List ℕ) → RisesFrom n xs → are_distinct xs ≡ true
 rises_distinct n [] r = refl

@@ -14,7 +14,7 @@ use Rattle.cover_links.specs.Layout.{node_index, spacer_of, start_of, index_of}
 use Rattle.cover_links.proofs.EntryLemmas.{length-changed, kept, at_other}
 use Rattle.cover_links.proofs.LayoutLemmas.{IsNode, IsRun, option_run, place_high, spacer_low, start_step, start_zero, start_low, start_below, index_below}
 use Rattle.cover_links.proofs.HidingLemmas.{top_at}
-use Rattle.cover_links.proofs.Covered.{same_test}
+use Rattle.std.specs.Cmp.{both_ways as same_test}
 use Rattle.cover_links.proofs.AppendLemmas.{Grows, Adds, at_set, set_other, append_grows, append_keeps, append_can}
 use Rattle.cover_links.proofs.RingLemmas.{next_member}
 

@@ -35,8 +35,8 @@ linked_option None h = refl
 linked_option (Some k) h = let f : k == 0 ≡ false = ne_eqb k 0 (λ e. let a = h k refl in absurd (omega arith)) in rw f refl
 
 -- a link to the node of the option that is found, or to the item's head where there is none
-abbrev pub Leads : List Entry → ℕ → ℕ → Option ℕ → Type 0
-Leads es j node found = (k : ℕ) × IsHeadOrNode es j node k × (nonzero k ≡ found)
+abbrev pub IsLinkTo : List Entry → ℕ → ℕ → Option ℕ → Type 0
+IsLinkTo es j node found = (k : ℕ) × IsHeadOrNode es j node k × (nonzero k ≡ found)
 
 -- the parts of a table, of the value that contracts see
 pub at_view : {p : ProblemValue} {c : List ℕ} {items : ℕ} {block : List Entry} {starts : List ℕ} {room : ℕ} {v : TableValue} → record { problem = p; covered = c } ≡ v → IsTable p c items block starts room
@@ -101,7 +101,7 @@ module _ {p : ProblemValue} {c : List ℕ} {items : ℕ} {block : List Entry} {s
           some = n.some;
         })
 
-    next_leads : (x : ℕ) → (x ≡ 0) ⊎ (shown_of p c j x ≡ true) → Leads block j (down_at block (node_index p j x)) (above x L)
+    next_leads : (x : ℕ) → (x ≡ 0) ⊎ (shown_of p c j x ≡ true) → IsLinkTo block j (down_at block (node_index p j x)) (above x L)
     next_leads x from =
         let f = subst (λ l. Follows (shown_of p c j) x (unwrap_or (above x l) 0)) (shown_list p c j) (next_is (shown_of p c j) (length p.options) within x from) in
         let to = spot (unwrap_or (above x L) 0) (next_member (shown_of p c j) x (unwrap_or (above x L) 0) f.to) in (
@@ -111,20 +111,20 @@ module _ {p : ProblemValue} {c : List ℕ} {items : ℕ} {block : List Entry} {s
         )
 
     -- backwards, from the node found and from what follows it
-    prev_leads : (y : ℕ) (found : Option ℕ) → Follows (shown_of p c j) (unwrap_or found 0) y → ((k : ℕ) → found ≡ Some k → has L k ≡ true) → Leads block j (up_at block (node_index p j y)) found
+    prev_leads : (y : ℕ) (found : Option ℕ) → Follows (shown_of p c j) (unwrap_or found 0) y → ((k : ℕ) → found ≡ Some k → has L k ≡ true) → IsLinkTo block j (up_at block (node_index p j y)) found
     prev_leads y found f inside = (
       unwrap_or found 0,
       subst (λ n. IsHeadOrNode block j n (unwrap_or found 0)) (sym ((stands).rings j pos le (unwrap_or found 0) y f).1) (spot (unwrap_or found 0) f.from),
       linked_option found (λ k h. rises_member 1 k L (list_rises p c j) (inside k h)),
     )
 
-    pub first_leads : {e : Entry} → e ≡ entry_at block j → Leads block j e.down (above 0 L)
-    first_leads is = subst (λ (e : Entry). Leads block j e.down (above 0 L)) (sym is) (next_leads 0 (inl refl))
+    pub first_leads : {e : Entry} → e ≡ entry_at block j → IsLinkTo block j e.down (above 0 L)
+    first_leads is = subst (λ (e : Entry). IsLinkTo block j e.down (above 0 L)) (sym is) (next_leads 0 (inl refl))
 
-    pub last_leads : {e : Entry} → e ≡ entry_at block j → Leads block j e.up (last_of L)
+    pub last_leads : {e : Entry} → e ≡ entry_at block j → IsLinkTo block j e.up (last_of L)
     last_leads is =
         let f = subst (λ l. Follows (shown_of p c j) (unwrap_or (last_of l) 0) 0) (shown_list p c j) (last_to_head (shown_of p c j) (length p.options) within) in
-        subst (λ (e : Entry). Leads block j e.up (last_of L)) (sym is) (prev_leads 0 (last_of L) f (λ k h. (last_is 1 L k (list_rises p c j) h).0))
+        subst (λ (e : Entry). IsLinkTo block j e.up (last_of L)) (sym is) (prev_leads 0 (last_of L) f (λ k h. (last_is 1 L k (list_rises p c j) h).0))
 
   -- from an option of the item's list
   module _ (j o : ℕ) (m : has (list_of p c j) o ≡ true) where
@@ -137,14 +137,14 @@ module _ {p : ProblemValue} {c : List ℕ} {items : ℕ} {block : List Entry} {s
     pub node_low : {x : ℕ} → x ≡ node_index p j o → x < length block
     node_low at = let low = place_low p j o (record { some = member.1; within = member.2; has_item = member.0 }) in let s = (stands).size in omega arith
 
-    pub next_from : {x : ℕ} {e : Entry} → x ≡ node_index p j o → e ≡ entry_at block x → Leads block j e.down (above o (list_of p c j))
+    pub next_from : {x : ℕ} {e : Entry} → x ≡ node_index p j o → e ≡ entry_at block x → IsLinkTo block j e.down (above o (list_of p c j))
     next_from at is =
-        subst (λ (e : Entry). Leads block j e.down (above o (list_of p c j))) (sym (is ∙ ap (entry_at block) at)) (next_leads j item.0 item.1 o (inr (is_shown j item.0 item.1 o m)))
+        subst (λ (e : Entry). IsLinkTo block j e.down (above o (list_of p c j))) (sym (is ∙ ap (entry_at block) at)) (next_leads j item.0 item.1 o (inr (is_shown j item.0 item.1 o m)))
 
-    pub prev_from : {x : ℕ} {e : Entry} → x ≡ node_index p j o → e ≡ entry_at block x → Leads block j e.up (below o (list_of p c j))
+    pub prev_from : {x : ℕ} {e : Entry} → x ≡ node_index p j o → e ≡ entry_at block x → IsLinkTo block j e.up (below o (list_of p c j))
     prev_from at is =
         let f = subst (λ l. Follows (shown_of p c j) (unwrap_or (below o l) 0) o) (shown_list p c j) (prev_is (shown_of p c j) (length p.options) (within j item.0 item.1) o (is_shown j item.0 item.1 o m)) in
-        subst (λ (e : Entry). Leads block j e.up (below o (list_of p c j))) (sym (is ∙ ap (entry_at block) at))
+        subst (λ (e : Entry). IsLinkTo block j e.up (below o (list_of p c j))) (sym (is ∙ ap (entry_at block) at))
         (prev_leads j item.0 item.1 o (below o (list_of p c j)) f (λ k h. (below_is o 1 (list_of p c j) k (list_rises p c j) h).member))
 
   -- ---- the nodes of an option

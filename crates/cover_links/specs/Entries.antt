@@ -57,7 +57,8 @@ relinked es x = changed (to_up x) (changed (to_down x) es (entry_at es x).up) (e
 
 -- the same in the row of active items
 unfoldable pub item_unlinked : List Entry → ℕ → List Entry
-item_unlinked es x = changed (to_left (entry_at es x).left) (changed (to_right (entry_at es x).right) es (entry_at es x).left) (entry_at es x).right
+item_unlinked es x =
+    changed (to_left (entry_at es x).left) (changed (to_right (entry_at es x).right) es (entry_at es x).left) (entry_at es x).right
 
 -- the item comes back into that row
 unfoldable pub item_relinked : List Entry → ℕ → List Entry

@@ -39,7 +39,8 @@ nodes_appended es x start end (i ∷ items) = nodes_appended (node_appended es x
 -- an option is appended from the entry `start` on: its nodes, and the spacer past them
 unfoldable pub option_appended : List Entry → ℕ → List ℕ → ℕ → List Entry
 option_appended es start option number =
-    set (changed (to_down (start + length option - 1)) (nodes_appended es start start (start + length option) option) (start - 1)) (start + length option)
+    set (changed (to_down (start + length option - 1)) (nodes_appended es start start (start + length option) option) (start - 1))
+    (start + length option)
     (record { top = number; up = start; down = 0; left = 0; right = 0 })
 
 -- the block with the first k options

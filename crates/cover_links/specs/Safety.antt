@@ -91,7 +91,8 @@ pub record CanAppendNode (es : List Entry) (x i start end : ℕ) : Type 0 where
 -- nodes of these items can be appended, from x on
 abbrev pub CanAppendNodes : List Entry → ℕ → ℕ → ℕ → List ℕ → Type 0
 CanAppendNodes es x start end [] = Unit {0}
-CanAppendNodes es x start end (i ∷ items) = CanAppendNode es x i start end × CanAppendNodes (node_appended es x i start end) (suc x) start end items
+CanAppendNodes es x start end (i ∷ items) =
+    CanAppendNode es x i start end × CanAppendNodes (node_appended es x i start end) (suc x) start end items
 
 -- an option can be appended
 pub record CanAppendOption (es : List Entry) (start : ℕ) (option : List ℕ) : Type 0 where

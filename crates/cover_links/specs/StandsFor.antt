@@ -42,4 +42,6 @@ BlockStands = (p : ProblemValue) (c : List ℕ) → IsProblem p → IsCoveredLis
 
 -- uncovering the item that was covered last gives the block back that stood before
 abbrev pub UncoverRestores : Type 0
-UncoverRestores = (p : ProblemValue) (c : List ℕ) (i : ℕ) → IsProblem p → IsCoveredList p c → IsUncovered p c i → item_uncovered (block_of p (c ++ i ∷ [])) i ≡ block_of p c
+UncoverRestores =
+    (p : ProblemValue) (c : List ℕ) (i : ℕ) → IsProblem p → IsCoveredList p c → IsUncovered p c i
+    → item_uncovered (block_of p (c ++ i ∷ [])) i ≡ block_of p c

@@ -24,7 +24,11 @@ nonzero n = cond (n == 0) None (Some n)
 
 -- an entry as the literature prints it: past the heads an entry with no end of an option is a spacer
 abbrev pub printed_node : ℕ → ℕ → Entry → Node
-printed_node items x e = record { top_or_len = cond (nat_lt items x && (e.right == 0)) (pos 0 -ℤ pos e.top) (pos e.top); up = e.up; down = e.down }
+printed_node items x e = record {
+  top_or_len = cond (nat_lt items x && (e.right == 0)) (pos 0 -ℤ pos e.top) (pos e.top);
+  up = e.up;
+  down = e.down;
+}
 
 -- a node of an option's, with that option's number at the spacer past it
 pub record IsNodeOf (es : List Entry) (item node k : ℕ) : Type 0 where

@@ -1,6 +1,6 @@
 -- What is read is a text of the grammar.
-use Rattle.std.proofs.Common.{◌≡◌, ◌<◌, ◌⊎◌, inl, inr, ℕ, List, [], ◌∷◌, ◌++◌, true, false, cond, nat_lt, Option, Some, None, Ok, Err, refl, sym, ap, ◌∙◌, subst, bytes_eq, codes, arith, append_assoc, append-nil, ltb-true, ltb-false}
-use Rattle.std.specs.Cmp.Lexicographic.{bytes_decides}
+use Rattle.std.proofs.Common.{◌≡◌, ◌<◌, inl, inr, ℕ, List, [], ◌∷◌, ◌++◌, true, false, nat_lt, Option, Some, None, Ok, Err, refl, sym, ap, ◌∙◌, subst, codes, arith, append_assoc, append-nil, ltb-true, ltb-false}
+use Rattle.std.proofs.lemmas.Option.{none-some}
 use Rattle.text_lines.specs.Lines.{lines_of}
 use Rattle.text_lines.specs.Writing.{words_of_line}
 use Rattle.text_lines.specs.Each.{each}
@@ -16,7 +16,7 @@ use Rattle.cover_problem.specs.Problem.{ProblemValue, IsProblem}
 use Rattle.cover_problem.specs.Reading.{nothing, key_from, keyed_line, words_line, line, problem_of, with_items}
 use Rattle.cover_problem.specs.Grammar.{IsCoverText}
 use Rattle.text_lines.proofs.EachLemmas.{each_none, each_parts}
-use Rattle.text_lines.proofs.ResultLemmas.{chosen, ok_is, no_fault, granted}
+use Rattle.text_lines.proofs.ResultLemmas.{key_told, ok_is, no_fault, granted}
 use Rattle.cover_problem.proofs.BegunLemmas.{IsBegun, begun_lines, Says, begun_some, items_say, maybe_say, option_says}
 
 -- *a line by its first word*
@@ -26,33 +26,10 @@ key_word keys.Items = codes "items"
 key_word keys.Maybe = codes "maybe"
 key_word keys.Option = codes "option"
 
-some_key : (k l : Key) → ◌≡◌ {A = Option Key} (Some k) (Some l) → k ≡ l
-some_key k l h = cc
-
-no_key : (l : Key) → ◌≡◌ {A = Option Key} None (Some l) → ⊥
-no_key l h = cc
-
 key_is : (word : List ℕ) (k : Key) → key_from word ≡ Some k → word ≡ key_word k
 unfolding key_word
-key_is word k h = items (chosen (bytes_eq word (codes "items")) (Some keys.Items) after_items (Some k) h)
-  where
-    after_maybe : Option Key
-    after_maybe = cond (bytes_eq word (codes "option")) (Some keys.Option) None
-
-    after_items : Option Key
-    after_items = cond (bytes_eq word (codes "maybe")) (Some keys.Maybe) after_maybe
-
-    option : ((bytes_eq word (codes "option") ≡ true) × (◌≡◌ {A = Option Key} (Some keys.Option) (Some k))) ⊎ ((bytes_eq word (codes "option") ≡ false) × (◌≡◌ {A = Option Key} None (Some k))) → word ≡ key_word k
-    option (inl e) = (bytes_decides word (codes "option")).0 e.0 ∙ ap key_word (some_key keys.Option k e.1)
-    option (inr e) = absurd (no_key k e.1)
-
-    maybe : ((bytes_eq word (codes "maybe") ≡ true) × (◌≡◌ {A = Option Key} (Some keys.Maybe) (Some k))) ⊎ ((bytes_eq word (codes "maybe") ≡ false) × (after_maybe ≡ Some k)) → word ≡ key_word k
-    maybe (inl e) = (bytes_decides word (codes "maybe")).0 e.0 ∙ ap key_word (some_key keys.Maybe k e.1)
-    maybe (inr e) = option (chosen (bytes_eq word (codes "option")) (Some keys.Option) None (Some k) e.1)
-
-    items : ((bytes_eq word (codes "items") ≡ true) × (◌≡◌ {A = Option Key} (Some keys.Items) (Some k))) ⊎ ((bytes_eq word (codes "items") ≡ false) × (after_items ≡ Some k)) → word ≡ key_word k
-    items (inl e) = (bytes_decides word (codes "items")).0 e.0 ∙ ap key_word (some_key keys.Items k e.1)
-    items (inr e) = maybe (chosen (bytes_eq word (codes "maybe")) (Some keys.Maybe) after_maybe (Some k) e.1)
+key_is word k h =
+    let first = key_told key_word word k in first keys.Items _ (first keys.Maybe _ (first keys.Option None (λ e. absurd (none-some k e)))) h
 
 keyed_says : (p q : ProblemValue) (key : List ℕ) (words : List (List ℕ)) (k : Option Key) → key_from key ≡ k → IsBegun p → keyed_line k p words ≡ Ok q → Says p q (key ∷ words)
 unfolding key_word

@@ -12,6 +12,7 @@ mod name;
 mod plain;
 mod problem;
 mod reading;
+mod room;
 mod table;
 mod validation;
 mod writing;
@@ -22,14 +23,6 @@ pub use lists::Lists;
 pub use plain::PlainTable;
 pub use problem::Problem;
 pub use reading::read_cover;
+pub use room::push_within;
 pub use table::Table;
 pub use writing::write_cover;
-
-#[cfg(test)]
-mod exact_cover_tests;
-#[cfg(test)]
-mod problem_tests;
-#[cfg(test)]
-mod table_tests;
-#[cfg(test)]
-mod text_tests;

@@ -11,6 +11,7 @@ ghost use Rattle.cover_problem.specs.Views.{items_of};
 
 use crate::lists::Lists;
 use crate::problem::Problem;
+use crate::room::push_within;
 use crate::table::Table;
 use std::alloc::{AllocError, Global};
 use std::marker::Model;
@@ -180,15 +181,6 @@ fn place_below(holders: &[u32], bound: u32) -> usize
     ensures within { result ≤ length holders.now }
 {
     holders.partition_point(|k| *k < bound)
-}
-
-/// Pushes where there is room, so that no memory is taken.
-fn push_within(items: &mut Vec<u32>, item: u32)
-    requires { vec_len items.old < vec_capacity items.old }
-    ensures items { items.new.items ≡ items.old.items ++ item ∷ [] }
-    ensures room { vec_capacity items.old ≤ vec_capacity items.new }
-{
-    let _ = items.push(item);
 }
 
 impl PlainTable {

@@ -1,6 +1,7 @@
 -- The tests on cells say what their names say.
-use Rattle.std.proofs.Common.{◌≡◌, List, Bool, true, false, ◌&&◌, nat_le, refl, sym, subst, ◌∙◌, arith}
+use Rattle.std.proofs.Common.{◌≡◌, List, true, ◌&&◌, nat_le, refl, sym, subst, ◌∙◌, arith}
 use Rattle.std.specs.List.{list_all}
+use Rattle.std.specs.Cmp.{both_ways as same_tests}
 use Rattle.std.proofs.lemmas.Bool.{and_parts}
 use Rattle.std.proofs.lemmas.Bool.Decides.{nat_tests}
 use Rattle.poly_cells.specs.Coordinates.{Coordinates, IsInGrid, coordinates_cmp}
@@ -28,12 +29,6 @@ same_in_order xs ys h =
     same_members coordinates_total (in_order coordinates_cmp xs) (in_order coordinates_cmp ys) (in_order_rises coordinates_total xs) (in_order_rises coordinates_total ys)
     (λ c i. in_to_order coordinates_exact c ys (in_from_has ys c (sym (h c) ∙ has_from_in xs c (in_from_order coordinates_cmp c xs i))))
     (λ c i. in_to_order coordinates_exact c xs (in_from_has xs c (h c ∙ has_from_in ys c (in_from_order coordinates_cmp c ys i))))
-
--- two tests that pass together are the same
-pub same_tests : (a b : Bool) → (a ≡ true → b ≡ true) → (b ≡ true → a ≡ true) → a ≡ b
-same_tests true b f g = sym (f refl)
-same_tests false true f g = g refl
-same_tests false false f g = refl
 
 pub has_ordered : (cells : List Coordinates) (c : Coordinates) → has_cell (in_order coordinates_cmp cells) c ≡ has_cell cells c
 has_ordered cells c = same_tests (has_cell (in_order coordinates_cmp cells) c) (has_cell cells c)

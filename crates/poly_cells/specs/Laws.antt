@@ -20,7 +20,8 @@ pub record IsGroup : Type 0 where
   pub distinct : (a b : ℕ) → a < 48 → b < 48 → ((v : Point) → sent_by a v ≡ sent_by b v) → a ≡ b
   pub once : (a b c d : ℕ) → c < 48 → d < 48 → IsComposed a b c → IsComposed a b d → c ≡ d
   pub closed : (a b : ℕ) → a < 48 → b < 48 → (c : ℕ) × (c < 48) × IsComposed a b c
-  pub associative : (a b c ab bc x y : ℕ) → x < 48 → y < 48 → IsComposed a b ab → IsComposed b c bc → IsComposed ab c x → IsComposed a bc y → x ≡ y
+  pub associative : (a b c ab bc x y : ℕ) → x < 48 → y < 48 → IsComposed a b ab → IsComposed b c bc
+      → IsComposed ab c x → IsComposed a bc y → x ≡ y
   pub neutral : (v : Point) → sent_by 0 v ≡ v
   pub inverse : (a : ℕ) → a < 48 → (b : ℕ) × (b < 48) × IsComposed a b 0 × IsComposed b a 0
 

@@ -36,7 +36,8 @@ pub record IsSignedPermutation (m : Matrix) : Type 0 where
 -- the point to which the matrix sends v: each coordinate is plus or minus one of v's
 abbrev pub sent : Matrix → Point → Point
 sent m v =
-    point_at (signed m.minus_x (pick m.from_x v.x v.y v.z)) (signed m.minus_y (pick m.from_y v.x v.y v.z)) (signed m.minus_z (pick m.from_z v.x v.y v.z))
+    point_at (signed m.minus_x (pick m.from_x v.x v.y v.z)) (signed m.minus_y (pick m.from_y v.x v.y v.z))
+    (signed m.minus_z (pick m.from_z v.x v.y v.z))
 
 -- the permutations of three places, in the order of their numbers
 abbrev pub permutations : List (List ℕ)

@@ -13,7 +13,8 @@ mirrored minus c = cond minus (31 - c) c
 -- the cell to which the matrix turns v
 abbrev pub turned_by : Matrix → Coordinates → Coordinates
 turned_by m v =
-    coordinates (mirrored m.minus_x (pick m.from_x v.x v.y v.z)) (mirrored m.minus_y (pick m.from_y v.x v.y v.z)) (mirrored m.minus_z (pick m.from_z v.x v.y v.z))
+    coordinates (mirrored m.minus_x (pick m.from_x v.x v.y v.z)) (mirrored m.minus_y (pick m.from_y v.x v.y v.z))
+    (mirrored m.minus_z (pick m.from_z v.x v.y v.z))
 
 -- the cell to which symmetry n turns v
 abbrev pub turn : ℕ → Coordinates → Coordinates

@@ -72,7 +72,7 @@ impl Cell {
         self.z
     }
 
-    // The cell with these coordinates.
+    /// The cell with these coordinates.
     pub(crate) fn at(x: u8, y: u8, z: u8) -> Cell
         requires { IsInGrid (coordinates x y z) }
         ensures { result ≡ coordinates x y z }
@@ -80,7 +80,7 @@ impl Cell {
         Cell { x, y, z }
     }
 
-    // The coordinate at place 0, 1 or 2.
+    /// The coordinate at place 0, 1 or 2.
     fn coordinate(self, coordinates: u8) -> u8
         ensures value { result ≡ pick coordinates self.x self.y self.z }
         ensures limit { result ≤ 31 }
@@ -99,7 +99,7 @@ impl Cell {
         self.turned_by(symmetry.matrix())
     }
 
-    // The cell to which the matrix turns this one; a minus sign reads a coordinate from the other end.
+    /// The cell to which the matrix turns this one; a minus sign reads a coordinate from the other end.
     pub(crate) fn turned_by(self, m: SignedPermutation) -> Cell
         ensures { result ≡ turned_by m self }
     {
@@ -110,7 +110,7 @@ impl Cell {
         }
     }
 
-    // This cell moved back by the coordinates of `by`, or to 0 where they are greater.
+    /// This cell moved back by the coordinates of `by`, or to 0 where they are greater.
     pub(crate) fn moved_back(self, by: Cell) -> Cell
         ensures { result ≡ moved_back by self }
     {
@@ -121,7 +121,7 @@ impl Cell {
         }
     }
 
-    // This cell translated, where a cell is there.
+    /// This cell translated, where a cell is there.
     pub(crate) fn translated(self, dx: i32, dy: i32, dz: i32) -> Option<Cell>
         ensures inside { IfSome result (λ cell. IsInGrid cell × (point cell ≡ translated (point_at dx dy dz) (point self))) }
         ensures outside { IfNone result ((p : Coordinates) → IsInGrid p →
@@ -134,7 +134,7 @@ impl Cell {
     }
 }
 
-// c, or c counted from the other end.
+/// c, or c counted from the other end.
 fn mirrored(minus: bool, c: u8) -> u8
     requires { c ≤ 31 }
     ensures value { result ≡ mirrored minus c }
@@ -143,7 +143,7 @@ fn mirrored(minus: bool, c: u8) -> u8
     if minus { LAST - c } else { c }
 }
 
-// The coordinate c + by, where there is one.
+/// The coordinate c + by, where there is one.
 fn shifted(c: u8, by: i32) -> Option<u8>
     ensures inside { IfSome result (λ r. (r ≤ 31) × (pos r ≡ pos c +ℤ by)) }
     ensures outside { IfNone result ((n : ℕ) → n ≤ 31 → pos n ≢ (pos c +ℤ by)) }

@@ -43,7 +43,7 @@ impl Model for SignedPermutation {
 }
 
 impl SignedPermutation {
-    // The place from which row `row` takes its coordinate.
+    /// The place from which row `row` takes its coordinate.
     pub fn source(self, row: u8) -> u8
         ensures value { result ≡ from_at self row }
         ensures limit { result ≤ 2 }
@@ -55,7 +55,7 @@ impl SignedPermutation {
         }
     }
 
-    // Whether row `row` has a minus sign.
+    /// Whether row `row` has a minus sign.
     pub fn is_minus(self, row: u8) -> bool
         ensures { result ≡ minus_at self row }
     {
@@ -66,7 +66,7 @@ impl SignedPermutation {
         }
     }
 
-    // The row that takes its coordinate from `place`.
+    /// The row that takes its coordinate from `place`.
     fn row_from(self, place: u8) -> u8
         ensures value { result ≡ row_from self place }
         ensures limit { result ≤ 2 }
@@ -80,7 +80,7 @@ impl SignedPermutation {
         }
     }
 
-    // `first`, and then this one.
+    /// `first`, and then this one.
     pub fn product(self, first: Self) -> Self
         ensures { result ≡ product self first }
     {
@@ -94,7 +94,7 @@ impl SignedPermutation {
         }
     }
 
-    // The inverse: rows and columns exchanged.
+    /// The inverse: rows and columns exchanged.
     pub fn transposed(self) -> Self
         ensures { result ≡ transposed self }
     {
@@ -111,7 +111,7 @@ impl SignedPermutation {
         }
     }
 
-    // The number of the symmetry with this matrix.
+    /// The number of the symmetry with this matrix.
     pub fn number(self) -> u8
         ensures value { result ≡ number_of self }
         ensures limit { result < 48 }

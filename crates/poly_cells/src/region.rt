@@ -25,7 +25,7 @@ pub fn symmetries_of(alloc: Global, region: &Shape) -> Result<Vec<Symmetry>, All
     Ok(found)
 }
 
-// Whether the symmetry and then some translation bring the region, whose normal form is given, onto itself.
+/// Whether the symmetry and then some translation bring the region, whose normal form is given, onto itself.
 fn is_kept(region: &Shape, settled: &Shape, symmetry: Symmetry) -> Result<bool, AllocError>
     requires shape { IsShape region.now }
     requires settled { settled.now ≡ normal region.now }

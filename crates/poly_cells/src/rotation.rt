@@ -73,7 +73,7 @@ impl Rotation {
         Self::of(self.symmetry().inverse())
     }
 
-    // The rotation that is this symmetry.
+    /// The rotation that is this symmetry.
     fn of(symmetry: Symmetry) -> Self
         requires { is_rotation symmetry ≡ true }
         ensures value { slice_index rotations result ≡ symmetry }

@@ -38,21 +38,21 @@ pub fn corner_of(cells: &[Cell]) -> Cell
     Cell::at(x, y, z)
 }
 
-// The cells to which the matrix turns these, in the same order.
+/// The cells to which the matrix turns these, in the same order.
 pub fn images(alloc: Global, cells: &[Cell], m: SignedPermutation) -> Result<Vec<Cell>, AllocError>
     ensures { IfOk result (λ turned. turned.items ≡ map (turned_by m) cells.now) }
 {
     cells.iter().map(|cell| cell.turned_by(m)).collect(alloc)
 }
 
-// These cells, each moved back by the coordinates of `by`.
+/// These cells, each moved back by the coordinates of `by`.
 pub fn moved_back(alloc: Global, cells: &[Cell], by: Cell) -> Result<Vec<Cell>, AllocError>
     ensures { IfOk result (λ moved. moved.items ≡ map (moved_back by) cells.now) }
 {
     cells.iter().map(|cell| cell.moved_back(by)).collect(alloc)
 }
 
-// Whether each of the cells, translated, is a cell again.
+/// Whether each of the cells, translated, is a cell again.
 pub fn stay_inside(cells: &[Cell], dx: i32, dy: i32, dz: i32) -> bool
     ensures { IsTrue result ↔ StaysInside (point_at dx dy dz) cells.now }
 {
@@ -64,7 +64,7 @@ pub fn stay_inside(cells: &[Cell], dx: i32, dy: i32, dz: i32) -> bool
     true
 }
 
-// These cells, each translated.
+/// These cells, each translated.
 pub fn translated(
     alloc: Global,
     cells: &[Cell],

@@ -97,13 +97,13 @@ impl Shape {
         Ok(Shape::new(moved))
     }
 
-    // The allocator of the cells.
+    /// The allocator of the cells.
     fn allocator(&self) -> Global {
         *self.cells.allocator()
     }
 }
 
-// The shape of these cells with their least corner moved to 0 0 0.
+/// The shape of these cells with their least corner moved to 0 0 0.
 fn at_origin(alloc: Global, cells: &[Cell], least: Cell) -> Result<Shape, AllocError>
     requires some { 0 < length cells.now }
     requires rises { IsStrictlySortedBy coordinates_cmp cells.now }

@@ -74,7 +74,7 @@ impl Symmetry {
         !(odd ^ m.minus_x ^ m.minus_y ^ m.minus_z)
     }
 
-    // Whether an odd number of coordinates change places.
+    /// Whether an odd number of coordinates change places.
     fn has_odd_permutation(self) -> bool
         ensures { result ≡ is_odd (self / 8) }
     {
@@ -82,7 +82,7 @@ impl Symmetry {
         permutation == 1 || permutation == 2 || permutation == 5
     }
 
-    // The symmetry's matrix.
+    /// The symmetry's matrix.
     pub(crate) fn matrix(self) -> SignedPermutation
         ensures value { result ≡ matrix self }
         ensures limit { self < 48 }

@@ -1,7 +1,6 @@
 -- A line that is taken is a line within the limits, and what it adds to what is said.
-use Rattle.std.proofs.Common.{◌≡◌, ◌<◌, ◌≤◌, inl, inr, ℕ, List, [], ◌∷◌, map, length, Bool, true, false, cond, not, ◌&&◌, nat_lt, nat_le, Option, Some, None, Ok, Err, refl, sym, ap, ◌∙◌, subst, arith, codes, decimal, bytes_eq, lt-ltb, le-leb, ltb-true, leb-true}
+use Rattle.std.proofs.Common.{◌≡◌, ◌<◌, ◌≤◌, ℕ, List, [], ◌∷◌, map, length, Bool, true, false, cond, not, ◌&&◌, nat_lt, nat_le, Option, Some, None, Ok, Err, refl, sym, ap, ◌∙◌, subst, arith, codes, decimal, lt-ltb, le-leb, ltb-true, leb-true}
 use Rattle.std.specs.List.{list_all}
-use Rattle.std.specs.Cmp.Lexicographic.{bytes_decides}
 use Rattle.std.proofs.lemmas.Bool.{and_parts, and_from, not-true, not-false, not_from_false}
 use Rattle.text_lines.specs.Lines.{is_empty}
 use Rattle.text_lines.specs.Each.{each, ◌>>=◌}
@@ -17,7 +16,7 @@ use Rattle.poly_texts.specs.Reading.{DraftValue, kept_shape, shape_of, within, h
 use Rattle.poly_cells.specs.CellTests.{is_in_grid}
 use Rattle.poly_cells.specs.CellWords.{cell_word}
 use Rattle.poly_texts.specs.Grammar.{Line, piece, box, cells, cut, maybe_words, line_words, are_in_grid, are_apart, is_side, is_line}
-use Rattle.text_lines.proofs.ResultLemmas.{ok_is, no_fault, bind_ok, unrefused, granted, chosen}
+use Rattle.text_lines.proofs.ResultLemmas.{ok_is, no_fault, bind_ok, unrefused, granted, key_told}
 use Rattle.poly_texts.proofs.ReadingLemmas.{piece_read, name_found}
 use Rattle.poly_texts.proofs.SpellingLemmas.{words_same, cells_again, cells_are, piece_again, piece_cells_are, name_again, name_is, side_again, side_is}
 
@@ -263,15 +262,9 @@ key_word keys.Maybe = codes "maybe"
 
 key_is : (word : List ℕ) (k : Key) → key_from word ≡ Some k → word ≡ key_word k
 unfolding key_word
-key_is word k h = first keys.Piece _ (first keys.Box _ (first keys.Cells _ (first keys.Cut _ (first keys.Maybe None (λ e. absurd (none-some k e)))))) h
-  where
-    -- either the word is this key's, or the keys after it tell
-    first : (key : Key) (later : Option Key) → (later ≡ Some k → word ≡ key_word k) → cond (bytes_eq word (key_word key)) (Some key) later ≡ Some k → word ≡ key_word k
-    first key later rest e =
-        elim (chosen (bytes_eq word (key_word key)) (Some key) later (Some k) e) [
-          | inl here ↦ (bytes_decides word (key_word key)).0 here.0 ∙ ap key_word (same_Some key k here.1)
-          | inr more ↦ rest more.1
-        ]
+key_is word k h =
+    let first = key_told key_word word k in
+    first keys.Piece _ (first keys.Box _ (first keys.Cells _ (first keys.Cut _ (first keys.Maybe None (λ e. absurd (none-some k e)))))) h
 
 maybe_keyed_is : (s : DraftValue) (key : List ℕ) (words : List (List ℕ)) (t : DraftValue) (k : Option Key) → key_from key ≡ k → maybe_keyed k s words ≡ Ok t → IsTakenLine s (codes "maybe" ∷ key ∷ words) t
 unfolding key_word

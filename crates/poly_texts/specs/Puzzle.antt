@@ -23,7 +23,12 @@ pub record PuzzleValue : Type 0 where
 
 -- the puzzle of these parts
 abbrev pub puzzle_from : List (ℕ × List Coordinates) → List ℕ → List Coordinates → List Coordinates → PuzzleValue
-puzzle_from pieces maybe_pieces region maybe_cells = record { pieces = pieces; maybe_pieces = maybe_pieces; region = region; maybe_cells = maybe_cells }
+puzzle_from pieces maybe_pieces region maybe_cells = record {
+  pieces = pieces;
+  maybe_pieces = maybe_pieces;
+  region = region;
+  maybe_cells = maybe_cells;
+}
 
 -- the names of pieces
 abbrev pub names_of : List (ℕ × List Coordinates) → List ℕ
@@ -40,7 +45,8 @@ are_new (n ∷ ns) = not (has_name ns n) && are_new ns
 
 -- whether each of the pieces may be left out, and each of the cells may stay empty
 abbrev pub needs_nothing : List (ℕ × List Coordinates) → List ℕ → List Coordinates → List Coordinates → Bool
-needs_nothing pieces maybe_pieces region maybe_cells = list_all (has_name maybe_pieces) (names_of pieces) && list_all (has_cell maybe_cells) region
+needs_nothing pieces maybe_pieces region maybe_cells =
+    list_all (has_name maybe_pieces) (names_of pieces) && list_all (has_cell maybe_cells) region
 
 -- the cells of a piece: from 1 to 64 of them, rising, each within the limits; the least x, the least y and the least z are 0
 pub record IsPiece (cells : List Coordinates) : Type 0 where

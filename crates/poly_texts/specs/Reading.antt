@@ -43,7 +43,14 @@ pub record DraftValue : Type 0 where
 
 -- these parts together
 abbrev pub draft_from : List (ℕ × List Coordinates) → List ℕ → Bool → List Coordinates → List Coordinates → List Coordinates → DraftValue
-draft_from pieces maybe_pieces boxed named maybe_cells cut = record { pieces = pieces; maybe_pieces = maybe_pieces; boxed = boxed; named = named; maybe_cells = maybe_cells; cut = cut }
+draft_from pieces maybe_pieces boxed named maybe_cells cut = record {
+  pieces = pieces;
+  maybe_pieces = maybe_pieces;
+  boxed = boxed;
+  named = named;
+  maybe_cells = maybe_cells;
+  cut = cut;
+}
 
 -- no lines say this
 abbrev pub nothing : DraftValue
@@ -96,7 +103,8 @@ with_name there names name = if there then names ++ name ∷ [] else names
 
 -- with one more piece
 abbrev pub with_piece : DraftValue → Bool → ℕ → List Coordinates → DraftValue
-with_piece s optional name shape = record s { pieces = s.pieces ++ (name, shape) ∷ []; maybe_pieces = with_name optional s.maybe_pieces name }
+with_piece s optional name shape =
+    record s { pieces = s.pieces ++ (name, shape) ∷ []; maybe_pieces = with_name optional s.maybe_pieces name }
 
 -- the name of a new piece
 abbrev pub is_new : List (ℕ × List Coordinates) → Option ℕ → Result ℕ Fault

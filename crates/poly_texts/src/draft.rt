@@ -273,13 +273,21 @@ impl Draft {
         Ok((Shape::new(region), maybe_cells))
     }
 
+    /// The puzzle of the pieces, with this region and these cells of it that may stay empty.
+    fn with_region(self, region: Shape, maybe_cells: Vec<Cell>) -> Puzzle
+        requires { IsPuzzle (with_region self region maybe_cells.items) }
+        ensures { result ≡ with_region self region maybe_cells.items }
+    {
+        Puzzle::from_parts(self.pieces, self.maybe_pieces, region, maybe_cells)
+    }
+
     /// The puzzle of a whole text.
     pub fn into_puzzle(self, alloc: Global) -> Result<Puzzle, LineFault>
         requires { (p : PuzzleValue) → reading.whole self ≡ Ok p → IsPuzzle p }
         ensures { Gives (λ p. p) result (reading.whole self) }
     {
         let (region, maybe_cells) = self.whole_region(alloc)?;
-        Ok(Puzzle::from_parts(self.pieces, self.maybe_pieces, region, maybe_cells))
+        Ok(self.with_region(region, maybe_cells))
     }
 }
 

@@ -13,10 +13,10 @@ use Rattle.cover_problem.proofs.MemberLemmas.{has_at, has_here, has_later, has_p
 use Rattle.cover_problem.proofs.ActiveLemmas.{option_is}
 use Rattle.cover_problem.proofs.RemainingLemmas.{remaining_in, remaining_from}
 use Rattle.cover_problem.proofs.CoverLemmas.{taken_keeps, taken_covers, taken_cases}
-use Rattle.x_steps.specs.Marked.{AreMarked}
+use Rattle.x_steps.specs.Marked.{AreMarksOf}
 
-pub marks_more : (marks : List Bool) (items : List ℕ) (k n : ℕ) (c : List ℕ) → AreMarked marks n (c ++ take k items) → k < length items → get_or items k 0 < length marks
-    → AreMarked (set marks (get_or items k 0) true) n (c ++ take (k + 1) items)
+pub marks_more : (marks : List Bool) (items : List ℕ) (k n : ℕ) (c : List ℕ) → AreMarksOf marks n (c ++ take k items) → k < length items → get_or items k 0 < length marks
+    → AreMarksOf (set marks (get_or items k 0) true) n (c ++ take (k + 1) items)
 marks_more marks items k n c a l w = record { size = length-set marks (get_or items k 0) true ∙ a.size; marked = λ i b. step i b (cases_eq (get_or items k 0) i) }
   where
     grown : c ++ take (k + 1) items ≡ (c ++ take k items) ++ get_or items k 0 ∷ []
@@ -28,11 +28,11 @@ marks_more marks items k n c a l w = record { size = length-set marks (get_or it
     step i b (inr e) = rw grown (get_or-set_other marks (get_or items k 0) i true false (λ f. e (sym f)) ∙ a.marked i b ∙ sym (has_push_other (c ++ take k items) (get_or items k 0) i e))
 
 -- marks see the members alone
-marks_same : (marks : List Bool) (n : ℕ) (c d : List ℕ) → ((i : ℕ) → has c i ≡ has d i) → AreMarked marks n c → AreMarked marks n d
+marks_same : (marks : List Bool) (n : ℕ) (c d : List ℕ) → ((i : ℕ) → has c i ≡ has d i) → AreMarksOf marks n c → AreMarksOf marks n d
 marks_same marks n c d e a = record { size = a.size; marked = λ i b. a.marked i b ∙ e i }
 
 -- an option's items marked beside those of c are what is covered once it was taken
-pub marks_taken : (p : ProblemValue) (c : List ℕ) (o : ℕ) (marks : List Bool) (n : ℕ) → IsChoice p c o → AreMarked marks n (c ++ option_at p o) → AreMarked marks n (taken p c o)
+pub marks_taken : (p : ProblemValue) (c : List ℕ) (o : ℕ) (marks : List Bool) (n : ℕ) → IsChoice p c o → AreMarksOf marks n (c ++ option_at p o) → AreMarksOf marks n (taken p c o)
 marks_taken p c o marks n h a = marks_same marks n (c ++ option_at p o) (taken p c o) (λ i. same i (cases_Bool (has (c ++ option_at p o) i)) (cases_Bool (has (taken p c o) i))) a
   where
     here : (i : ℕ) → (has c i ≡ true) ⊎ (has (option_at p o) i ≡ true) → has (taken p c o) i ≡ true
@@ -50,14 +50,14 @@ marks_taken p c o marks n h a = marks_same marks n (c ++ option_at p o) (taken p
     same i (inr a) (inr b) = a ∙ sym b
 
 -- a mark tells of each item whether it is in c
-pub any_is : (marks : List Bool) (n : ℕ) (c items : List ℕ) → AreMarked marks n c → ((i : ℕ) → has items i ≡ true → i ≤ n) → list_any (λ i. get_or marks i false) items ≡ list_any (has c) items
+pub any_is : (marks : List Bool) (n : ℕ) (c items : List ℕ) → AreMarksOf marks n c → ((i : ℕ) → has items i ≡ true → i ≤ n) → list_any (λ i. get_or marks i false) items ≡ list_any (has c) items
 any_is marks n c [] a w = refl
 any_is marks n c (x ∷ items) a w =
     let ih = any_is marks n c items a (λ i h. w i (has_later x items i h)) in
     let here = a.marked x (w x (has_here x items)) in
     rw (here, ih) refl
 
-pub all_within : (marks : List Bool) (n : ℕ) (c items : List ℕ) → AreMarked marks n c → ((i : ℕ) → has items i ≡ true → i ≤ n) → All (λ i. i < length marks) items
+pub all_within : (marks : List Bool) (n : ℕ) (c items : List ℕ) → AreMarksOf marks n c → ((i : ℕ) → has items i ≡ true → i ≤ n) → All (λ i. i < length marks) items
 all_within marks n c items a w k d l = let here = w (get_or items k d) (has_at items k d l) in let s = a.size in omega arith
 
 -- ---- the options of a problem
@@ -66,11 +66,11 @@ module _ (p : ProblemValue) (sound : IsProblem p) (o : ℕ) (some : 0 < o) (with
   items_within : (i : ℕ) → has (option_at p o) i ≡ true → i ≤ length p.names
   items_within i h = ((option_is p o sound some within).items i h).1
 
-  pub option_within : (marks : List Bool) (c option : List ℕ) → AreMarked marks (length p.names) c → option ≡ option_at p o → All (λ i. i < length marks) option
+  pub option_within : (marks : List Bool) (c option : List ℕ) → AreMarksOf marks (length p.names) c → option ≡ option_at p o → All (λ i. i < length marks) option
   option_within marks c option a e = subst (All (λ i. i < length marks)) (sym e) (all_within marks (length p.names) c (option_at p o) a items_within)
 
   -- whether the option is left for an item, by the marks
-  pub left_by_marks : (marks : List Bool) (c option : List ℕ) (item : ℕ) → AreMarked marks (length p.names) c → option ≡ option_at p o
+  pub left_by_marks : (marks : List Bool) (c option : List ℕ) (item : ℕ) → AreMarksOf marks (length p.names) c → option ≡ option_at p o
       → (has option item && not (list_any (λ i. get_or marks i false) option)) ≡ has (remaining p c item) o
   left_by_marks marks c option item a e = rw (e, any_is marks (length p.names) c (option_at p o) a items_within) (same (cases_Bool (is_remaining c item (option_at p o))))
     where
@@ -83,8 +83,8 @@ pub none_left : (p : ProblemValue) (c : List ℕ) (item o : ℕ) → ((0 < o) ×
 none_left p c item o out = false_from_ne_true (has (remaining p c item) o) (λ h. let r = remaining_in p c item o h in out (r.1, r.2))
 
 -- what a vector holds after its marks were changed as a slice
-pub marks_written : (marks old : List Bool) (size n : ℕ) (c : List ℕ) → length marks ≡ size → AreMarked marks n c → AreMarked (take size (marks ++ old)) n c
+pub marks_written : (marks old : List Bool) (size n : ℕ) (c : List ℕ) → length marks ≡ size → AreMarksOf marks n c → AreMarksOf (take size (marks ++ old)) n c
 marks_written marks old size n c e a =
     let all : size ≤ length marks = omega arith in
     let same : take size (marks ++ old) ≡ marks = take-append-le size marks old all ∙ take_all size marks (omega arith) in
-    subst (λ l. AreMarked l n c) (sym same) a
+    subst (λ l. AreMarksOf l n c) (sym same) a

@@ -19,7 +19,7 @@ use Rattle.x_steps.specs.declared.event.Event.{Event}
 use Rattle.x_steps.specs.StateValue.{StateValue, at, start}
 use Rattle.x_steps.specs.Steps.{Fits, IsOpen, item_after, remaining_after, cursor_of, covered_in, covered_at, next}
 use Rattle.x_steps.specs.Machine.{Keeps, Position, Goes}
-use Rattle.x_steps.specs.Marked.{AreMarked}
+use Rattle.x_steps.specs.Marked.{AreMarksOf}
 use Rattle.x_steps.specs.Resume.{position, IsDown}
 use Rattle.x_steps.proofs.Neighbours.{open_is, parted, split_last_push}
 use Rattle.x_steps.proofs.MarkedLemmas.{left_by_marks, option_within, marks_taken}
@@ -105,14 +105,14 @@ down_here p path m marks d =
     subst (λ v. IsDown v.problem v.state.path m marks) (sym e) d
 
 -- the search has begun
-pub down_first : (p : ProblemValue) (old m : Position) (event : Event) (marks list : List Bool) (n : ℕ) → old ≡ position p start → Goes old m event → AreMarked marks n [] → n ≡ length p.names → list ≡ marks → IsDown m.problem [] m list
+pub down_first : (p : ProblemValue) (old m : Position) (event : Event) (marks list : List Bool) (n : ℕ) → old ≡ position p start → Goes old m event → AreMarksOf marks n [] → n ≡ length p.names → list ≡ marks → IsDown m.problem [] m list
 down_first p old m event marks list n e g a size same =
     let here : m ≡ position p (at X2 [] cursor.None) = began p old m event e g in
     let first : IsDown p [] m list = record { here = here; marked = rw (covered_by_none p, same, ← size) a } in
     subst (λ q. IsDown q [] m list) (sym (ap (λ m. m.problem) here)) first
 
 pub down_more : (p : ProblemValue) (path : List ℕ) (o : ℕ) (m : Position) (marks : List Bool) → IsChoice p (covered_by p path) o → m ≡ position p (at X2 (path ++ o ∷ []) cursor.None)
-    → AreMarked marks (length p.names) (covered_by p path ++ option_at p o) → IsDown p (path ++ o ∷ []) m marks
+    → AreMarksOf marks (length p.names) (covered_by p path ++ option_at p o) → IsDown p (path ++ o ∷ []) m marks
 down_more p path o m marks h e a = record { here = e; marked = rw (covered_by_push p path o) (marks_taken p (covered_by p path) o marks (length p.names) h a) }
 
 -- ---- whether the path can go on
@@ -139,7 +139,7 @@ module _ (p : ProblemValue) (s : StateValue) (table_problem : ProblemValue) (cov
   pub active_none : (o : ℕ) (b : Bool) → b ≡ false → b ≡ nat_lt 0 (length (active table_problem covered)) → (IsTrue false → Fits p (at X5 s.path (At o))) × (Fits p (at X5 s.path (At o)) → IsTrue false)
   active_none o b e h = (λ f. absurd (false≢true f), λ f. sym e ∙ (active_X2 b h).1 f.1.active)
 
-  module _ (o : ℕ) (some : 0 < o) (within : o ≤ length p.options) (marks : List Bool) (option : List ℕ) (is : option ≡ option_at p o) (marked : AreMarked marks (length p.names) (covered_by p s.path)) where
+  module _ (o : ℕ) (some : 0 < o) (within : o ≤ length p.options) (marks : List Bool) (option : List ℕ) (is : option ≡ option_at p o) (marked : AreMarksOf marks (length p.names) (covered_by p s.path)) where
     pub all_within : All (λ i. i < length marks) option
     all_within = option_within p k.sound o some within marks (covered_by p s.path) option marked is
 
@@ -154,8 +154,8 @@ module _ (p : ProblemValue) (s : StateValue) (table_problem : ProblemValue) (cov
 
 -- ---- the same, of the state inside the machine
 
-pub marked_in : (p : ProblemValue) (s : StateValue) (now : Position) (marks : List Bool) → position p s ≡ now → IsDown now.problem now.state.path now marks → AreMarked marks (length p.names) (covered_by p s.path)
-marked_in p s now marks e d = subst (λ v. AreMarked marks (length v.problem.names) (covered_by v.problem v.state.path)) (sym e) d.marked
+pub marked_in : (p : ProblemValue) (s : StateValue) (now : Position) (marks : List Bool) → position p s ≡ now → IsDown now.problem now.state.path now marks → AreMarksOf marks (length p.names) (covered_by p s.path)
+marked_in p s now marks e d = subst (λ v. AreMarksOf marks (length v.problem.names) (covered_by v.problem v.state.path)) (sym e) d.marked
 
 pub down_label : (p : ProblemValue) (s : StateValue) (q : ProblemValue) (path : List ℕ) (now : Position) (marks : List Bool) → position p s ≡ now → IsDown q path now marks → s.label ≡ X2
 down_label p s q path now marks e d = ap (λ m. m.state.label) (e ∙ d.here)
@@ -170,8 +170,8 @@ option_in p q s t now path o e f h =
     let same : p ≡ q = ap (λ m. m.problem) (e ∙ f) in
     let c = choice_has q (covered_by q path) o h.1 in rw same (c.some, c.within)
 
-pub marks_now : (p q : ProblemValue) (s t : StateValue) (marks : List Bool) (n : ℕ) (now : Position) (c option : List ℕ) (o : ℕ) → position p s ≡ now → now ≡ position q t → option ≡ option_at p o → AreMarked marks n (c ++ option)
-    → AreMarked marks n (c ++ option_at q o)
+pub marks_now : (p q : ProblemValue) (s t : StateValue) (marks : List Bool) (n : ℕ) (now : Position) (c option : List ℕ) (o : ℕ) → position p s ≡ now → now ≡ position q t → option ≡ option_at p o → AreMarksOf marks n (c ++ option)
+    → AreMarksOf marks n (c ++ option_at q o)
 marks_now p q s t marks n now c option o e f is a =
     let same : p ≡ q = ap (λ m. m.problem) (e ∙ f) in
     let whole : option ≡ option_at q o = is ∙ ap (λ r. option_at r o) same in rw (← whole) a

@@ -11,7 +11,7 @@ use Rattle.cover_problem.proofs.NumberLemmas.{numbers_push}
 use Rattle.cover_problem.proofs.CoveredLemmas.{covered_item}
 use Rattle.cover_problem.proofs.RemainingLemmas.{list_uncovered}
 use Rattle.x_steps.specs.Machine.{secondary}
-use Rattle.x_steps.specs.Marked.{AreMarked}
+use Rattle.x_steps.specs.Marked.{AreMarksOf}
 
 -- of the items up to `before` those that are secondary and not covered have a row each
 pub record ListsSecond (p : ProblemValue) (c : List ℕ) (before : ℕ) (rows : List (ℕ × List ℕ)) : Type 0 where
@@ -80,5 +80,5 @@ covered_within table_problem p c list n same size a e k d l =
     rw (e, ← names) within
 
 -- what a mark says
-pub mark_is : (marks slice : List Bool) (list c : List ℕ) (n item : ℕ) (b : Bool) → AreMarked marks n list → list ≡ c → slice ≡ marks → b ≡ get_or slice item false → item ≤ n → b ≡ has c item
+pub mark_is : (marks slice : List Bool) (list c : List ℕ) (n item : ℕ) (b : Bool) → AreMarksOf marks n list → list ≡ c → slice ≡ marks → b ≡ get_or slice item false → item ≤ n → b ≡ has c item
 mark_is marks slice list c n item b a e f g l = g ∙ ap (λ m. get_or m item false) f ∙ a.marked item l ∙ ap (λ c. has c item) e

@@ -12,6 +12,7 @@ PathLess q [] = ⊥
 PathLess [] (y ∷ r) = Unit {0}
 PathLess (x ∷ q) (y ∷ r) = (x < y) ⊎ ((x ≡ y) × PathLess q r)
 
+-- path q comes before each of these paths
 abbrev pub AllAfter : List ℕ → List (List ℕ) → Type 0
 AllAfter q [] = Unit {0}
 AllAfter q (x ∷ xs) = PathLess q x × AllAfter q xs

@@ -22,6 +22,7 @@ digit_at m X7 k = 4 * m + 6
 digit_at m X8 k = 4 * m + 7
 digit_at m Done k = 4 * m + 8
 
+-- the digits of a state where a problem has m options: one for each choice of its path, and one for its label and its cursor
 abbrev pub digits : ℕ → Label → List ℕ → Cursor → List ℕ
 digits m label path k = map (λ o. 4 * o + 2) path ++ digit_at m label k ∷ []
 

@@ -8,7 +8,7 @@ use Rattle.x_steps.specs.declared.state.Cursor.TheVariants.{None}
 use Rattle.x_steps.specs.StateValue.{StateValue, at}
 use Rattle.x_steps.specs.Steps.{remaining_after, cursor_of}
 use Rattle.x_steps.specs.Machine.{Position}
-use Rattle.x_steps.specs.Marked.{AreMarked}
+use Rattle.x_steps.specs.Marked.{AreMarksOf}
 
 -- a problem with a state
 abbrev pub position : ProblemValue → StateValue → Position
@@ -21,4 +21,4 @@ opened p path = at X5 path (cursor_of (above 0 (remaining_after p path)))
 -- the machine is at X2 with this path, and what the path covers is marked
 pub record IsDown (p : ProblemValue) (path : List ℕ) (m : Position) (marks : List Bool) : Type 0 where
   pub here : m ≡ position p (at X2 path None)
-  pub marked : AreMarked marks (length p.names) (covered_by p path)
+  pub marked : AreMarksOf marks (length p.names) (covered_by p path)

@@ -11,6 +11,7 @@ pub record StateValue : Type 0 where
   pub path : List ℕ
   pub cursor : Cursor
 
+-- the state with this label, this path and this cursor
 abbrev pub at : Label → List ℕ → Cursor → StateValue
 at label path cursor = record { label = label; path = path; cursor = cursor }
 

@@ -35,10 +35,12 @@ abbrev pub remaining_after : ProblemValue → List ℕ → List ℕ
 remaining_after p path = remaining p (covered_by p path) (item_after p path)
 
 -- a path without its last choice, and that choice
+-- (here for a path that begins with x, from what the choices after x are split into; None where there are none)
 abbrev pub with_first : ℕ → Option (List ℕ × ℕ) → List ℕ × ℕ
 with_first x prelude.None = ([], x)
 with_first x (Some s) = (x ∷ s.0, s.1)
 
+-- the same for a whole path, where None says that it has no choice
 abbrev pub split_last : List ℕ → Option (List ℕ × ℕ)
 split_last [] = prelude.None
 split_last (x ∷ xs) = Some (with_first x (split_last xs))
@@ -63,6 +65,7 @@ FitsAt p X8 path cursor.None = IsValid p path
 FitsAt p Done path cursor.None = path ≡ []
 FitsAt p _ path _ = ⊥
 
+-- a state fits problem p: by its label, its path and its cursor it is one of these
 abbrev pub Fits : ProblemValue → StateValue → Type 0
 Fits p s = FitsAt p s.label s.path s.cursor
 
@@ -73,6 +76,7 @@ covered_at p X7 path k = covered_by p path ++ item_after p path ∷ []
 covered_at p X6 path (At o) = taken p (covered_by p path) o
 covered_at p label path k = covered_by p path
 
+-- the same for a state, by its label, its path and its cursor
 unfoldable pub covered_in : ProblemValue → StateValue → List ℕ
 covered_in p s = covered_at p s.label s.path s.cursor
 
@@ -118,6 +122,7 @@ event_at p X2 path = if is_open p path then Moved else Visited
 event_at p X8 [] = Finished
 event_at p _ _ = Moved
 
+-- what the step that is about to be done at state s of problem p tells
 unfoldable pub event_of : ProblemValue → StateValue → Event
 event_of p s = event_at p s.label s.path
 

@@ -48,10 +48,3 @@ impl AtFault {
         }
     }
 }
-
-/// What a refused call hands back beside its fault.
-#[derive(Debug, Drop)]
-pub struct Refused<F, G> {
-    pub fault: F,
-    pub given: G,
-}

@@ -10,7 +10,8 @@ mod machine;
 mod marks;
 mod state;
 
+pub use cover_problem::Refused;
 pub use event::Event;
-pub use fault::{AtFault, Refused, StepFault};
+pub use fault::{AtFault, StepFault};
 pub use machine::{Machine, Walk, no_counts};
 pub use state::{Cursor, Label, State};

@@ -16,20 +16,10 @@ use crate::covering::{choose, cover_others, has_active, last_covered, uncover_la
 use crate::event::Event;
 use crate::fault::StepFault;
 use crate::state::{Cursor, Label, State};
-use cover_problem::{Problem, Table};
+use cover_problem::{Problem, Table, push_within};
 use std::alloc::Global;
 use std::marker::Model;
 pub use walk::{Walk, no_counts};
-
-/// Pushes where there is room, so that no memory is taken.
-#[inline(always)]
-fn push_within(items: &mut Vec<u32>, item: u32)
-    requires { vec_len items.old < vec_capacity items.old }
-    ensures items { items.new.items ≡ items.old.items ++ item ∷ [] }
-    ensures room { vec_capacity items.old ≤ vec_capacity items.new }
-{
-    items.push_reserved(item);
-}
 
 /// At the option, or past the last.
 #[inline(always)]

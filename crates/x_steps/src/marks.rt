@@ -2,13 +2,13 @@
 ghost use Rattle.std.specs.Prelude.{◌≡◌, ◌<◌, ◌≤◌, ◌++◌, [], ℕ, All, List, length, true, false, not, ◌&&◌, slice_index_or, IfOk};
 ghost use Rattle.std.specs.List.{list_any};
 ghost use Rattle.cover_problem.specs.Lists.{has};
-ghost use Rattle.x_steps.specs.Marked.{AreMarked};
+ghost use Rattle.x_steps.specs.Marked.{AreMarksOf};
 
 use std::alloc::{AllocError, Global};
 
 /// No mark, for this many items.
 pub fn no_marks(alloc: Global, items: u32) -> Result<Vec<bool>, AllocError>
-    ensures { IfOk result (λ marks. AreMarked marks.items items []) }
+    ensures { IfOk result (λ marks. AreMarksOf marks.items items []) }
 {
     vec![in alloc; false; items as usize + 1]
 }
@@ -16,7 +16,7 @@ pub fn no_marks(alloc: Global, items: u32) -> Result<Vec<bool>, AllocError>
 /// Marks for these, of this many items.
 pub fn marks_of(alloc: Global, items: u32, marked: &[u32]) -> Result<Vec<bool>, AllocError>
     requires { All (λ i. i ≤ items) marked.now }
-    ensures { IfOk result (λ marks. AreMarked marks.items items marked.now) }
+    ensures { IfOk result (λ marks. AreMarksOf marks.items items marked.now) }
 {
     let mut marks = no_marks(alloc, items)?;
     mark_all(&mut marks, marked);
@@ -26,7 +26,7 @@ pub fn marks_of(alloc: Global, items: u32, marked: &[u32]) -> Result<Vec<bool>, 
 /// Marks these items too.
 pub fn mark_all(marks: &mut [bool], items: &[u32])
     requires { All (λ i. i < length marks.old) items.now }
-    ensures { (n : ℕ) (c : List ℕ) → AreMarked marks.old n c → AreMarked marks.new n (c ++ items.now) }
+    ensures { (n : ℕ) (c : List ℕ) → AreMarksOf marks.old n c → AreMarksOf marks.new n (c ++ items.now) }
 {
     for item in items {
         marks[*item as usize] = true;

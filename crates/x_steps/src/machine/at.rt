@@ -8,15 +8,15 @@ ghost use Rattle.x_steps.specs.StateValue.{at};
 ghost use Rattle.x_steps.specs.StateView.{state_value};
 ghost use Rattle.x_steps.specs.Steps.{Fits, IsOpen, covered_in};
 ghost use Rattle.x_steps.specs.Machine.{IsAt};
-ghost use Rattle.x_steps.specs.Marked.{AreMarked};
+ghost use Rattle.x_steps.specs.Marked.{AreMarksOf};
 ghost use Rattle.x_steps.specs.Resume.{position, opened, IsDown};
 
 use crate::covering::{choose, has_active};
-use crate::fault::{AtFault, Refused};
+use crate::fault::AtFault;
 use crate::machine::Machine;
 use crate::marks::{any_marked, mark_all, no_marks};
 use crate::state::{Cursor, Label, State};
-use cover_problem::{Problem, Table};
+use cover_problem::{Problem, Refused, Table};
 use std::alloc::Global;
 
 /// Whether the problem has an option of this number.

@@ -8,9 +8,9 @@ ghost use Rattle.x_steps.specs.Machine.{IsAt, GoesBack};
 
 use crate::covering::{choose, cover_others, has_active, last_covered, uncover_last};
 use crate::fault::StepFault;
-use crate::machine::{Machine, push_within};
+use crate::machine::Machine;
 use crate::state::{Cursor, Label};
-use cover_problem::Table;
+use cover_problem::{Table, push_within};
 
 impl<'p, T: Table> Machine<'p, T> {
     /// Takes the last step back, without memory; refused only at X1, which changes nothing.

@@ -1,6 +1,6 @@
 use Rattle.std.proofs.Common.{arith, ◌++◌, subst}
 use Rattle.std.proofs.lemmas.List.{take_all}
-use Rattle.x_steps.specs.Marked.{AreMarked}
+use Rattle.x_steps.specs.Marked.{AreMarksOf}
 use Rattle.x_steps.proofs.MarkedLemmas.{marks_more}
 use Rattle.x_steps.proofs.marks.mark_all.Goals as goal
 
@@ -8,4 +8,4 @@ pub loop-item-preserved : goal.loop-item-preserved
 loop-item-preserved d n c a = marks_more d.loop-item.marks d.args.items.now d.loop-item.item-index n c (d.loop-item.invariant n c a) (omega arith) (omega (arith, d.requires d.loop-item.item-index 0))
 
 pub returns : goal.returns
-returns d n c a = subst (λ l. AreMarked d.loop-item.marks n (c ++ l)) (take_all d.loop-item.item-index d.args.items.now (omega arith)) (d.loop-item.invariant n c a)
+returns d n c a = subst (λ l. AreMarksOf d.loop-item.marks n (c ++ l)) (take_all d.loop-item.item-index d.args.items.now (omega arith)) (d.loop-item.invariant n c a)

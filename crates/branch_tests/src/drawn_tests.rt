@@ -1,7 +1,7 @@
-//! Problems drawn by a seed: the states of each run come in the order of their positions, and a run that is cut at drawn places,
+//! Problems drawn by a seed: the states of each run come in the order of their positions, and a run that is cut at drawn positions,
 //! and walked by drawn steps on and back, is the run, stretch by stretch, over both tables.
 use crate::order_tests::{are_in_order, states_of};
-use crate::setting::{made, runner_of};
+use crate::setting::{runner_of, value_of};
 use cover_links::LinkTable;
 use cover_problem::{PlainTable, Problem, Table, read_cover};
 use drawn_problems::{draw, drawn_options, state_of, text_of};
@@ -140,7 +140,7 @@ impl Parts {
                     return Err(Fail::from("no cut"));
                 };
                 self.cuts.push(Vec::from_slice(alloc, cut.path())?)?;
-                return made(runner.shorten(cut));
+                return value_of(runner.shorten(cut));
             }
         }
         Ok(())
@@ -195,7 +195,7 @@ impl Parts {
 /// Takes the stretch out, and joins it again.
 fn reopen<T: Table>(runner: &mut Runner<'_, T>) -> Result<(), Fail> {
     let stretch = runner.take_stretch()?;
-    made(runner.reopen(stretch))
+    value_of(runner.reopen(stretch))
 }
 
 /// Takes so many steps back, as far as there are any.

@@ -12,7 +12,7 @@ pub fn small(alloc: Global) -> Result<Problem, Fail> {
 }
 
 /// What was made, or that it was refused.
-pub fn made<V: Drop, F: Drop, G: Drop>(made: Result<V, Refused<F, G>>) -> Result<V, Fail> {
+pub fn value_of<V: Drop, F: Drop, G: Drop>(made: Result<V, Refused<F, G>>) -> Result<V, Fail> {
     match made {
         Ok(value) => Ok(value),
         Err(_) => Err(Fail::from("refused")),
@@ -29,7 +29,7 @@ pub fn refusal<V: Drop, F: Drop, G: Drop>(made: Result<V, Refused<F, G>>) -> Opt
 
 /// The cut of a path.
 pub fn cut_of<'p>(alloc: Global, problem: &'p Problem, path: &[u32]) -> Result<Cut<'p>, Fail> {
-    made(Cut::new(alloc, problem, Vec::from_slice(alloc, path)?))
+    value_of(Cut::new(alloc, problem, Vec::from_slice(alloc, path)?))
 }
 
 /// The cut of a path that isn't empty.
@@ -73,7 +73,7 @@ pub fn runner_of<'p, T: Table>(
 ) -> Result<Runner<'p, T>, Fail> {
     let branch = branch_of(alloc, problem, lo, hi)?;
     let table = T::new(alloc, problem)?;
-    made(Runner::new(alloc, problem, table, branch, &first_of(alloc, lo)?))
+    value_of(Runner::new(alloc, problem, table, branch, &first_of(alloc, lo)?))
 }
 
 /// A runner at the first state of the whole run.

@@ -130,7 +130,7 @@ const ENGINE_LINES: [(&[u8], Option<EngineCommand>); 14] = [
 ];
 
 /// A command as it is shown, or its fault.
-fn said(alloc: Global, problem: &Problem, line: &[u8]) -> Result<String, AllocError> {
+fn command_text(alloc: Global, problem: &Problem, line: &[u8]) -> Result<String, AllocError> {
     match read_command(alloc, problem, line) {
         Ok(command) => format!(in alloc; "{command:?}"),
         Err(Refusal::Fault(fault)) => String::from_str(alloc, fault.name()),
@@ -140,7 +140,7 @@ fn said(alloc: Global, problem: &Problem, line: &[u8]) -> Result<String, AllocEr
 
 /// Whether a line is read as this command.
 fn is_read(alloc: Global, problem: &Problem, line: &[u8], command: &str) -> bool {
-    match said(alloc, problem, line) {
+    match command_text(alloc, problem, line) {
         Ok(text) => text.as_str() == command,
         Err(_) => false,
     }

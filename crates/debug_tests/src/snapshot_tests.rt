@@ -293,7 +293,11 @@ fn state_of(alloc: Global, row: &Row) -> Result<State, AllocError> {
 }
 
 /// The snapshot of a problem with these parts; None out of memory.
-fn made(alloc: Global, problem: Problem, row: &Row) -> Option<Result<Snapshot, SnapshotFault>> {
+fn snapshot_with(
+    alloc: Global,
+    problem: Problem,
+    row: &Row,
+) -> Option<Result<Snapshot, SnapshotFault>> {
     let lo = copied(alloc, row.lo).ok()?;
     let hi = copied(alloc, row.hi).ok()?;
     let state = state_of(alloc, row).ok()?;
@@ -307,7 +311,7 @@ fn made(alloc: Global, problem: Problem, row: &Row) -> Option<Result<Snapshot, S
 /// The snapshot of a cover text's problem with these parts.
 fn snapshot_of(alloc: Global, cover: &str, row: &Row) -> Option<Result<Snapshot, SnapshotFault>> {
     let problem = read_cover(alloc, cover.as_bytes()).ok()?;
-    made(alloc, problem, row)
+    snapshot_with(alloc, problem, row)
 }
 
 /// Whether these parts are written as this text.

@@ -1,7 +1,7 @@
 -- What a line asks of the debugger: a command, or none.
 --
 -- One carriage return at the end of the line is dropped, and what is left is split at spaces and tabs. The first word names the
--- command, and the words after it say more. Numbers are decimal, without zeros before them, and at most 4294967295.
+-- command, and the words after it say more. Numbers are decimal, without zeros before them, and of at most 32 bits.
 --
 -- Example: `split 0 4` asks to split at level 0 and option 4; `split 0`, `split 0 04` and `# split` are no commands.
 -- proofs/ReadingExamples.antt computes it.
@@ -26,9 +26,13 @@ use Rattle.debug_texts.specs.declared.engine.EngineCommand.TheVariants as engine
 
 -- *numbers and cuts*
 
+-- the greatest number that a line can have
+abbrev pub most_number : ℕ
+most_number = 4294967295
+
 -- the number that a word is
 abbrev pub number_in : List ℕ → Option ℕ
-number_in word = number_of 4294967295 word
+number_in word = number_of most_number word
 
 -- the number that is the only word
 abbrev pub number_from : List (List ℕ) → Option ℕ
@@ -36,7 +40,7 @@ number_from words = option_and_then number_in (only words)
 
 -- the same, from 1
 abbrev pub count_from : List (List ℕ) → Option ℕ
-count_from words = option_and_then (option_from 4294967295) (only words)
+count_from words = option_and_then (option_from most_number) (only words)
 
 -- the numbers that words are
 unfoldable pub numbers_from : List (List ℕ) → Option (List ℕ)
@@ -77,6 +81,7 @@ split_from words = option_map (λ pair. Split pair.0 pair.1) (pair_from words)
 abbrev pub save_word : List ℕ → Option CommandValue
 save_word word = if bytes_eq word (codes "breaks") then Some SaveBreaks else prelude.None
 
+-- `save` with more words: the one word `breaks`, and no other
 abbrev pub save_from : List (List ℕ) → Option CommandValue
 save_from words = option_and_then save_word (only words)
 
@@ -152,6 +157,7 @@ load_from words = option_map engine.Load (number_from words)
 abbrev pub workers : ℕ → Option EngineCommand
 workers n = if nat_le n 32 then Some (engine.Pool n) else prelude.None
 
+-- the words after `pool`: one number of workers, and no other word
 abbrev pub pool_from : List (List ℕ) → Option EngineCommand
 pool_from words = option_and_then workers (count_from words)
 

@@ -9,7 +9,7 @@ use Rattle.lab_book.specs.declared.entry.Reply.{Reply}
 use Rattle.lab_book.specs.declared.entry.Entry.{Entry}
 use Rattle.lab_book.specs.Tile.{TileValue, is_lease}
 use Rattle.lab_book.specs.Tiling.{tile_at, IsTiling}
-use Rattle.lab_book.specs.Book.{BookValue, Outcome, outcome, book_step, opened, replayed, leased_in, found, checked, unless, place_of}
+use Rattle.lab_book.specs.Book.{BookValue, Outcome, outcome, book_step, opened, replayed, leased_in, found, checked, unless, tile_place}
 use Rattle.lab_book.specs.Book.{lease_fault, else_fault, made_at, refused, IsBook, KeepsBook}
 use Rattle.lab_book.specs.Calls.{Made, Judged}
 
@@ -68,7 +68,7 @@ judged_err b w c change r s f o (inr a) e = inr (o ∙ ap (made_at b.tiles chang
 -- what is found and then passes further checks of the tile
 pub found_more : (ts : List TileValue) (g : Grant) (more : TileValue → Option BookFault) (i : ℕ)
     → found ts g.id (λ t. lease_fault g t None) ≡ Ok i → found ts g.id (λ t. lease_fault g t (more t)) ≡ unless i (more (tile_at ts i))
-found_more ts g more i = by (place_of g.id ts)
+found_more ts g more i = by (tile_place g.id ts)
   where
     at : (j : ℕ) (b : Bool) (f : BookFault) (next : Option BookFault) → unless j (else_fault b f None) ≡ Ok i
         → (j ≡ i) × (unless j (else_fault b f next) ≡ unless j next)
@@ -84,7 +84,7 @@ found_more ts g more i = by (place_of g.id ts)
 
 pub found_stale : (ts : List TileValue) (g : Grant) (more : TileValue → Option BookFault) (f : BookFault)
     → found ts g.id (λ t. lease_fault g t None) ≡ Err f → found ts g.id (λ t. lease_fault g t (more t)) ≡ Err f
-found_stale ts g more f = by (place_of g.id ts)
+found_stale ts g more f = by (tile_place g.id ts)
   where
     at : (j : ℕ) (b : Bool) (h : BookFault) (next : Option BookFault) → unless j (else_fault b h None) ≡ Err f
         → unless j (else_fault b h next) ≡ Err f

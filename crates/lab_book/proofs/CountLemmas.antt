@@ -19,7 +19,7 @@ use Rattle.lab_book.specs.Tiling.{no_tile, tile_at}
 use Rattle.lab_book.specs.Posted.{posted_count}
 use Rattle.lab_book.specs.States.{same_state}
 use Rattle.lab_book.specs.Book.{BookValue, Outcome, IsBook, outcome, book_step, opened, replayed, made_at, lent, lent_any, posted, split}
-use Rattle.lab_book.specs.Book.{parted, retracted, settled, freed, closed, put_back, asked_to_stop, stretches_to, with_stretch}
+use Rattle.lab_book.specs.Book.{split_tiles, retracted, settled, freed, closed, put_back, asked_to_stop, stretches_to, with_stretch}
 use Rattle.lab_book.specs.Book.{first_waiting}
 
 count_of : TileValue → ℕ
@@ -36,10 +36,10 @@ count_set ts i u m = step (cases_lt i (length ts))
 
 -- a tile in two, of which the second has none
 count_parted : (ts : List TileValue) (i id : ℕ) (cut : CutPath)
-    → posted_count (take i ts ++ parted (tile_at ts i) id cut ++ drop (i + 1) ts) ≤ posted_count ts
+    → posted_count (take i ts ++ split_tiles (tile_at ts i) id cut ++ drop (i + 1) ts) ≤ posted_count ts
 count_parted ts i id cut =
-    let a = sum_by-append (λ (t : TileValue). length t.stretches) (take i ts ++ parted (tile_at ts i) id cut) (drop (i + 1) ts) in
-    let b = sum_by-append (λ (t : TileValue). length t.stretches) (take i ts) (parted (tile_at ts i) id cut) in
+    let a = sum_by-append (λ (t : TileValue). length t.stretches) (take i ts ++ split_tiles (tile_at ts i) id cut) (drop (i + 1) ts) in
+    let b = sum_by-append (λ (t : TileValue). length t.stretches) (take i ts) (split_tiles (tile_at ts i) id cut) in
     let c = step (cases_lt i (length ts)) in
     omega arith
   where

@@ -11,7 +11,7 @@ use Rattle.lab_book.specs.declared.status.Status.{Status}
 use Rattle.lab_book.specs.Tile.{TileValue, is_waiting, is_leased}
 use Rattle.lab_book.specs.Tiling.{AreNumbered, no_tile, tile_at}
 use Rattle.x_branches.specs.Cut.{CutPath}
-use Rattle.lab_book.specs.Book.{place_of, head_tile, tail_tile}
+use Rattle.lab_book.specs.Book.{tile_place, head_tile, tail_tile}
 use Rattle.lab_book.specs.Index.{ArePlaces, KeepsTiles, moved_up}
 use Rattle.lab_book.proofs.InsertLemmas.{with_two, places_two, count_two}
 use Rattle.lab_book.proofs.TilingLemmas.{ids_set}
@@ -30,7 +30,7 @@ position_none p xs d each =
     rw e (rw (le-ltb (length xs) (length xs) (omega arith)) refl)
 
 pub placed : (places : List ℕ) (ts : List TileValue) (id : ℕ) → ArePlaces places ts → id < length places
-    → Some (get_or places id 0) ≡ place_of id ts
+    → Some (get_or places id 0) ≡ tile_place id ts
 placed places ts id a l =
     let m : id < length ts = let e = a.long in omega arith in
     let t = a.tiles id m in
@@ -48,7 +48,7 @@ pub place_within : (places : List ℕ) (ts : List TileValue) (id : ℕ) → AreP
     → get_or places id 0 < length ts
 place_within places ts id a l = (a.tiles id (let e = a.long in omega arith)).0
 
-pub unplaced : (places : List ℕ) (ts : List TileValue) (id : ℕ) → ArePlaces places ts → length places ≤ id → None ≡ place_of id ts
+pub unplaced : (places : List ℕ) (ts : List TileValue) (id : ℕ) → ArePlaces places ts → length places ≤ id → None ≡ tile_place id ts
 unplaced places ts id a l =
     sym (position_none (λ (t : TileValue). t.id == id) ts no_tile
     (λ k b. ne_eqb (tile_at ts k).id id (λ e. let i = a.ids k b in let m = a.long in omega (arith, i.0))))

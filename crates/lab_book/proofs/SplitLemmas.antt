@@ -21,7 +21,7 @@ use Rattle.lab_book.specs.declared.entry.Call.{Call}
 use Rattle.lab_book.specs.declared.entry.Reply.TheVariants as reply
 use Rattle.lab_book.specs.Tile.{TileValue, IsTile, Stands, is_leased, mark_of, tile_end}
 use Rattle.lab_book.specs.Tiling.{AreTiles, IsTiling, AreNumbered, tile_at}
-use Rattle.lab_book.specs.Book.{HistoryValue, KeepsBook, outcome, head_tile, tail_tile, parted, split, leased_in, cut_fault, else_fault}
+use Rattle.lab_book.specs.Book.{HistoryValue, KeepsBook, outcome, head_tile, tail_tile, split_tiles, split, leased_in, cut_fault, else_fault}
 use Rattle.lab_book.specs.Calls.{Doubted}
 use Rattle.lab_book.proofs.TileLemmas.{stretch_by, end_fits, end_after, led_rank}
 use Rattle.lab_book.proofs.TilingLemmas.{tile_in}
@@ -107,7 +107,7 @@ module _ (p : ProblemValue) (t : TileValue) (path : List ℕ) (id : ℕ) (i : Is
 tiles_split : (p : ProblemValue) (lo : Option CutPath) (first : StateValue) (ts : List TileValue) (hi : Option CutPath) (i id : ℕ)
     (cut : CutPath) → AreTiles p lo first ts hi → i < length ts
     → IsTile p (head_tile (tile_at ts i) cut) → IsTile p (tail_tile id (tile_at ts i) cut)
-    → AreTiles p lo first (take i ts ++ parted (tile_at ts i) id cut ++ drop (suc i) ts) hi
+    → AreTiles p lo first (take i ts ++ split_tiles (tile_at ts i) id cut ++ drop (suc i) ts) hi
 tiles_split p lo first [] hi i id cut a l h r = absurd a
 tiles_split p lo first (t ∷ []) hi zero id cut a l h r = (a.0, a.1, h, cut, refl, (refl, refl, r, a.3))
 tiles_split p lo first (t ∷ []) hi (suc i) id cut a l h r = absurd (omega arith)
@@ -125,7 +125,7 @@ module _ (p : ProblemValue) (b : Branch) (s : StateValue) (ts : List TileValue) 
       → outcome (with_history p b s ts old.entries) w c ≡ split (with_history p b s ts old.entries) cut.path i
       → is_leased (tile_at ts i).status ≡ true → cut.problem ≡ p → IsCut cut.problem cut.path
       → cut_fault p cut.path true (tile_at ts i) ≡ None
-      → mid ≡ record old { kept = old.kept + 1 } → after ≡ take i ts ++ parted (tile_at ts i) (length ts) cut ++ drop (i + 1) ts
+      → mid ≡ record old { kept = old.kept + 1 } → after ≡ take i ts ++ split_tiles (tile_at ts i) (length ts) cut ++ drop (i + 1) ts
       → AreNumbered after → id ≡ length ts
       → new ≡ record { entries = mid.entries ++ record { worker = w; call = c; reply = reply.Split id } ∷ []; kept = mid.kept - 1 }
       → KeepsBook (with_history p b s after new.entries) new.kept
@@ -133,14 +133,14 @@ module _ (p : ProblemValue) (b : Branch) (s : StateValue) (ts : List TileValue) 
       let room = room_is old mid new _ 1 k a (omega arith) in
       let m = keeps.room in
       let ec : cut ≡ record { problem = p; path = cut.path } = λ j. record { problem = ep j; path = cut.path } in
-      let t2 : after ≡ take i ts ++ parted (tile_at ts i) (length ts) (record { problem = p; path = cut.path }) ++ drop (i + 1) ts = t
-      ∙ ap (λ (x : CutPath). take i ts ++ parted (tile_at ts i) (length ts) x ++ drop (i + 1) ts) ec in
+      let t2 : after ≡ take i ts ++ split_tiles (tile_at ts i) (length ts) (record { problem = p; path = cut.path }) ++ drop (i + 1) ts = t
+      ∙ ap (λ (x : CutPath). take i ts ++ split_tiles (tile_at ts i) (length ts) x ++ drop (i + 1) ts) ec in
       let here = tile_in p b.lo s ts b.hi i keeps.sound.tiling.tiles within in
       let cut_is : IsCut p cut.path = subst (λ (q : ProblemValue). IsCut q cut.path) ep is in
       let head = head_is_tile p (tile_at ts i) cut.path (length ts) here leased cut_is fine in
       let tail = tail_is_tile p (tile_at ts i) cut.path (length ts) here leased cut_is fine in
       let n : i + 1 ≡ suc i = omega arith in
-      let tiles : AreTiles p b.lo s (take i ts ++ parted (tile_at ts i) (length ts) (record { problem = p; path = cut.path })
+      let tiles : AreTiles p b.lo s (take i ts ++ split_tiles (tile_at ts i) (length ts) (record { problem = p; path = cut.path })
       ++ drop (i + 1) ts) b.hi =
       rw n (tiles_split p b.lo s ts b.hi i (length ts) (record { problem = p; path = cut.path }) keeps.sound.tiling.tiles within head tail)
       in

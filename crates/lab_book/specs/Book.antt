@@ -47,8 +47,8 @@ pub record Outcome : Type 0 where
   pub tiles : List TileValue
 
 -- the first tile with an id
-abbrev pub place_of : ℕ → List TileValue → Option ℕ
-place_of id ts = position (λ t. t.id == id) ts
+abbrev pub tile_place : ℕ → List TileValue → Option ℕ
+tile_place id ts = position (λ t. t.id == id) ts
 
 -- the first tile that waits
 abbrev pub first_waiting : List TileValue → Option ℕ
@@ -59,13 +59,14 @@ abbrev pub unless : ℕ → Option BookFault → Result ℕ BookFault
 unless i None = Ok i
 unless i (Some f) = Err f
 
+-- the place of the tile that was looked for, or the fault: none was found, or what the check says of the one that was
 abbrev pub checked : List TileValue → (TileValue → Option BookFault) → Option ℕ → Result ℕ BookFault
 checked ts check None = Err UnknownBranch
 checked ts check (Some i) = unless i (check (tile_at ts i))
 
 -- the place of the tile with an id, or why the call is refused: no tile has it, or what the check says of the tile
 abbrev pub found : List TileValue → ℕ → (TileValue → Option BookFault) → Result ℕ BookFault
-found ts id check = checked ts check (place_of id ts)
+found ts id check = checked ts check (tile_place id ts)
 
 -- the last stretch, if there is one
 abbrev pub last_of : List StretchValue → Option StretchValue
@@ -73,10 +74,12 @@ last_of [] = None
 last_of (x ∷ xs) = Some (unwrap_or (last_of xs) x)
 
 -- the stretches up to the first mark that is this state, if one is
+-- (here with stretch x before them)
 abbrev pub with_stretch : StretchValue → Option (List StretchValue) → Option (List StretchValue)
 with_stretch x None = None
 with_stretch x (Some xs) = Some (x ∷ xs)
 
+-- of the stretches that lead on from this mark, those up to the first mark that is state s; None where no mark is
 abbrev pub stretches_to : StateValue → StateValue → List StretchValue → Option (List StretchValue)
 stretches_to s mark [] = if same_state s mark then Some [] else None
 stretches_to s mark (x ∷ xs) = if same_state s mark then Some [] else with_stretch x (stretches_to s x.to xs)
@@ -117,6 +120,7 @@ retract_fault t = else_fault (is_some (last_of t.stretches)) NothingToRetract No
 abbrev pub mark_fault : StateValue → TileValue → Option BookFault
 mark_fault s t = else_fault (is_free t.status) NotWaiting (else_fault (is_some (stretches_to s t.first t.stretches)) NotAMark None)
 
+-- the outcome of a call that is refused with fault f: these tiles stay as they are
 abbrev pub refused : List TileValue → BookFault → Outcome
 refused ts f = record { reply = reply.Refused f; tiles = ts }
 
@@ -133,6 +137,8 @@ path_of cut = option_map (λ (c : CutPath). c.path) cut
 abbrev pub lent_tile : TileValue → ℕ → ℕ → TileValue
 lent_tile t w index = record t { status = status.Leased w index; stop = false }
 
+-- the outcome of a lease of the tile at i to worker w: the reply gives the lease, the tile's cuts and its mark, and says how many
+-- tiles wait now
 abbrev pub lent : BookValue → ℕ → ℕ → Outcome
 lent b w i =
     let t = tile_at b.tiles i in
@@ -152,6 +158,8 @@ lent_any b w (Some i) = lent b w i
 abbrev pub posted_tile : TileValue → StretchValue → TileValue
 posted_tile t x = record t { stretches = t.stretches ++ x ∷ [] }
 
+-- the outcome of a post of the stretch between two states, for the tile at i: it has the stretch now, and the reply says whether
+-- it is asked to stop, and how many tiles wait
 abbrev pub posted : BookValue → StateValue → StateValue → ℕ → Outcome
 posted b from to i =
     let t = tile_at b.tiles i in
@@ -162,6 +170,7 @@ posted b from to i =
 abbrev pub head_tile : TileValue → CutPath → TileValue
 head_tile t cut = record t { branch = record { lo = t.branch.lo; hi = Some cut } }
 
+-- the new tile: it goes from the cut to the end of tile t, waits, has the cut as its first mark, and nothing of it is posted
 abbrev pub tail_tile : ℕ → TileValue → CutPath → TileValue
 tail_tile id t cut = record {
   id = id;
@@ -172,13 +181,16 @@ tail_tile id t cut = record {
   stretches = [];
 }
 
-abbrev pub parted : TileValue → ℕ → CutPath → List TileValue
-parted t id cut = head_tile t cut ∷ tail_tile id t cut ∷ []
+-- both tiles that tile t becomes: up to the cut, and from there on with the new id
+abbrev pub split_tiles : TileValue → ℕ → CutPath → List TileValue
+split_tiles t id cut = head_tile t cut ∷ tail_tile id t cut ∷ []
 
+-- the outcome of a split at a cut, by its choices, for the tile at i: both its parts stand where it stood, and the reply is the id
+-- of the new one
 abbrev pub split : BookValue → List ℕ → ℕ → Outcome
 split b path i = record {
   reply = reply.Split (length b.tiles);
-  tiles = take i b.tiles ++ parted (tile_at b.tiles i) (length b.tiles) (record { problem = b.problem; path = path })
+  tiles = take i b.tiles ++ split_tiles (tile_at b.tiles i) (length b.tiles) (record { problem = b.problem; path = path })
       ++ drop (i + 1) b.tiles;
 }
 
@@ -186,6 +198,7 @@ split b path i = record {
 abbrev pub retracted_tile : TileValue → TileValue
 retracted_tile t = record t { stretches = take (length t.stretches - 1) t.stretches }
 
+-- the outcome where the last stretch of the tile at i, which has one, is taken out: the reply says from where to where it went
 abbrev pub retracted : BookValue → ℕ → Outcome
 retracted b i =
     let t = tile_at b.tiles i in
@@ -203,6 +216,7 @@ settled b change i = record { reply = reply.Done; tiles = slice_set b.tiles i (c
 abbrev pub freed : TileValue → TileValue
 freed t = record t { status = freed_status t.stop }
 
+-- a tile is closed
 abbrev pub closed : TileValue → TileValue
 closed t = record t { status = status.Closed }
 
@@ -247,6 +261,7 @@ book_step b w c = record {
 abbrev pub whole_tile : Branch → StateValue → TileValue
 whole_tile branch first = record { id = 0; branch = branch; status = status.Waiting; stop = false; first = first; stretches = [] }
 
+-- the book of a branch of a problem's run as it is first made, with this first mark: one tile, and no history
 abbrev pub opened : ProblemValue → Branch → StateValue → BookValue
 opened p branch first = record { problem = p; branch = branch; first = first; tiles = whole_tile branch first ∷ []; history = [] }
 

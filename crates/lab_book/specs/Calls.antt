@@ -35,6 +35,7 @@ abbrev pub any_reply : Option Leased → Reply
 any_reply None = reply.NoneWaits
 any_reply (Some r) = leased_reply r
 
+-- the answer to a worker that posts, as the history keeps it
 abbrev pub posted_reply : Posted → Reply
 posted_reply r = reply.Posted r.stop r.waiting
 

@@ -12,18 +12,22 @@ use Rattle.lab_book.specs.declared.status.Status.{Status}
 use Rattle.lab_book.specs.declared.status.Status.TheVariants.{Waiting, Held, Leased, Closed}
 use Rattle.lab_book.specs.declared.lease.Grant.{Grant}
 
+-- whether a tile that stands so waits: it can be leased, and nobody has it
 abbrev pub is_waiting : Status → Bool
 is_waiting Waiting = true
 is_waiting _ = false
 
+-- whether a tile that stands so is held: nobody has it, and it is leased only to one who takes a held tile
 abbrev pub is_held : Status → Bool
 is_held Held = true
 is_held _ = false
 
+-- whether a tile that stands so is leased, to whichever worker
 abbrev pub is_leased : Status → Bool
 is_leased (Leased w i) = true
 is_leased _ = false
 
+-- whether a tile that stands so is closed
 abbrev pub is_closed : Status → Bool
 is_closed Closed = true
 is_closed _ = false

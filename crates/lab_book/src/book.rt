@@ -4,7 +4,7 @@ ghost use Rattle.x_steps.specs.StateView.{state_value};
 ghost use Rattle.x_steps.specs.StateValue.{start};
 ghost use Rattle.x_branches.specs.Cut.{IsCut};
 ghost use Rattle.x_branches.specs.Refusals.{CanStart, StartRefused};
-ghost use Rattle.lab_book.specs.Book.{IsBook, opened, replayed, outcome, refused, place_of};
+ghost use Rattle.lab_book.specs.Book.{IsBook, opened, replayed, outcome, refused, tile_place};
 ghost use Rattle.lab_book.specs.Tiling.{IsTiling};
 ghost use Rattle.lab_book.specs.Calls.{Refuses};
 
@@ -203,7 +203,7 @@ impl<'p> Book<'p> {
 
     /// The place of the tile with an id among the tiles, without a look at the others; None where no tile has it.
     pub fn place(&self, id: u64) -> Option<usize>
-        ensures { result ≡ place_of id self.now.tiles }
+        ensures { result ≡ tile_place id self.now.tiles }
     {
         self.tiles.place(id)
     }

@@ -3,7 +3,7 @@ ghost use Rattle.std.specs.Prelude.{◌≡◌, ◌⊎◌, ◌≤◌, ◌<◌, �
 ghost use Rattle.std.specs.Prelude.{Option, None, IsOk, IfSome, OnOk, OnErr, IfErr, IfOk};
 ghost use Rattle.lab_book.specs.Tile.{TileValue, is_leased, is_waiting, is_held, is_closed, mark_of};
 ghost use Rattle.lab_book.specs.Tiling.{tile_at, AreNumbered};
-ghost use Rattle.lab_book.specs.Book.{place_of, first_waiting, waiting_in, leased_in, found, status_fault, lease_fault, posted_tile};
+ghost use Rattle.lab_book.specs.Book.{tile_place, first_waiting, waiting_in, leased_in, found, status_fault, lease_fault, posted_tile};
 ghost use Rattle.lab_book.specs.Book.{retracted_tile, last_of};
 ghost use Rattle.lab_book.specs.Calls.{Judged, is_current};
 
@@ -98,7 +98,7 @@ impl<'p> Tiles<'p> {
 
     /// The place of the tile with an id.
     pub fn place(&self, id: u64) -> Option<usize>
-        ensures place { result ≡ place_of id self.now }
+        ensures place { result ≡ tile_place id self.now }
         ensures within { IfSome result (λ i. i < length self.now) }
     {
         let id = id as usize;

@@ -1,6 +1,7 @@
 //! Totals for each level.
 ghost use Rattle.std.specs.Prelude.{◌≡◌, ◌<◌, ◌≤◌, ◌+◌, ◌-◌, ◌^◌, ◌↔◌, ℕ, Some, IsTrue, IfOk, length, replicate, slice_get, slice_index};
 ghost use Rattle.x_steps.specs.Levels.{without_last_zeros};
+ghost use Rattle.x_branches.specs.Refusals.{most_steps};
 
 use std::alloc::{AllocError, Global};
 
@@ -14,10 +15,10 @@ pub(crate) fn no_totals(alloc: Global, items: u32) -> Result<Vec<u128>, AllocErr
 /// Adds to each total its count, as far as there are counts.
 pub(crate) fn add_counts(totals: &mut [u128], counts: &[u32])
     requires levels { length counts.now ≤ length totals.old }
-    requires room { (level : ℕ) → level < length totals.old → slice_index totals.old level + 4294967295 < 2 ^ 128 }
+    requires room { (level : ℕ) → level < length totals.old → slice_index totals.old level + most_steps < 2 ^ 128 }
     ensures levels { length totals.new ≡ length totals.old }
     ensures sums { (level : ℕ) → slice_index totals.new level ≡ slice_index totals.old level + slice_index counts.now level }
-    ensures small { (level : ℕ) → slice_index totals.new level ≤ slice_index totals.old level + 4294967295 }
+    ensures small { (level : ℕ) → slice_index totals.new level ≤ slice_index totals.old level + most_steps }
 {
     for (level, count) in counts.iter().enumerate() {
         totals[level] += *count as u128;

@@ -199,7 +199,7 @@ module _ (b : BookValue) (w : ℕ) where
   idle_turned x a n e = subst (λ (y : Option WorkerValue). Turned (turn b y w a) reply_of.Idle b y) (sym e)
       (subst (λ (u : Turn). Turned u reply_of.Idle b None) (sym (idle a n)) (stays_turned b None reply_of.Idle))
 
-  -- an act that takes the worker out of its place leaves none
+  -- an act that takes the worker out of its seat leaves none
   pub taken_idle : (x y : Option WorkerValue) (a : Act) → needs_runner a ≡ true → x ≡ None → y ≡ None
       → Turned (turn b x w a) reply_of.Idle b y
   taken_idle x y a n e f = subst (Turned (turn b x w a) reply_of.Idle b) (e ∙ sym f) (idle_turned x a n e)

@@ -14,7 +14,7 @@ use Rattle.lab_book.specs.declared.lease.Grant.{Grant}
 use Rattle.lab_book.specs.declared.fault.BookFault.{BookFault}
 use Rattle.lab_book.specs.Tile.{TileValue, is_waiting, is_held, is_free, is_lease}
 use Rattle.lab_book.specs.Tiling.{tile_at, no_tile, AreNumbered}
-use Rattle.lab_book.specs.Book.{BookValue, Outcome, outcome, lent, place_of, found, checked, unless, made_at, status_fault, else_fault}
+use Rattle.lab_book.specs.Book.{BookValue, Outcome, outcome, lent, tile_place, found, checked, unless, made_at, status_fault, else_fault}
 use Rattle.lab_book.proofs.IndexLemmas.{position_at}
 use Rattle.lab_book.proofs.InsertLemmas.{two_parts}
 use Rattle.lab_world.specs.declared.worker.leasing.Wanted.{Wanted}
@@ -26,13 +26,13 @@ use Rattle.lab_world.specs.Worker.{WorkerValue, IsWorkers, HasTile, is_wanted, l
 -- what is found is a tile with the id, and nothing stands against it
 pub found_ok : (ts : List TileValue) (id : ℕ) (check : TileValue → Option BookFault) (i : ℕ) → found ts id check ≡ Ok i
     → (i < length ts) × ((tile_at ts i).id ≡ id) × (check (tile_at ts i) ≡ None)
-found_ok ts id check i e = by (place_of id ts) refl e
+found_ok ts id check i e = by (tile_place id ts) refl e
   where
     at : (j : ℕ) (d : Option BookFault) → unless j d ≡ Ok i → (j ≡ i) × (d ≡ None)
     at j None e = (cc, refl)
     at j (Some f) e = absurd (cc)
 
-    by : (place : Option ℕ) → place_of id ts ≡ place → checked ts check place ≡ Ok i
+    by : (place : Option ℕ) → tile_place id ts ≡ place → checked ts check place ≡ Ok i
         → (i < length ts) × ((tile_at ts i).id ≡ id) × (check (tile_at ts i) ≡ None)
     by None o e = absurd (cc)
     by (Some j) o e =
@@ -41,7 +41,7 @@ found_ok ts id check i e = by (place_of id ts) refl e
         subst (λ (k : ℕ). (k < length ts) × ((tile_at ts k).id ≡ id) × (check (tile_at ts k) ≡ None)) a.0 (s.0, eqb-true _ _ s.1, a.1)
 
 -- a tile is the first with its id, since it is the only one
-pub placed : (ts : List TileValue) (id k : ℕ) → AreNumbered ts → k < length ts → (tile_at ts k).id ≡ id → place_of id ts ≡ Some k
+pub placed : (ts : List TileValue) (id k : ℕ) → AreNumbered ts → k < length ts → (tile_at ts k).id ≡ id → tile_place id ts ≡ Some k
 placed ts id k n l e =
     position_at (λ (t : TileValue). t.id == id) ts k no_tile l
     (λ j b. ne_eqb (tile_at ts j).id id (λ h. let s = n.once j k (omega arith) l (h ∙ sym e) in omega arith))

@@ -11,7 +11,7 @@ use Rattle.lab_book.specs.declared.entry.Call.{Call}
 use Rattle.lab_book.specs.declared.entry.Call.TheVariants as call
 use Rattle.lab_book.specs.Tile.{TileValue, mark_of, is_waiting}
 use Rattle.lab_book.specs.Tiling.{tile_at, no_tile, IsTiling}
-use Rattle.lab_book.specs.Book.{BookValue, Outcome, outcome, book_step, found, checked, unless, place_of, made_at, lent, lent_any}
+use Rattle.lab_book.specs.Book.{BookValue, Outcome, outcome, book_step, found, checked, unless, tile_place, made_at, lent, lent_any}
 use Rattle.lab_book.specs.Book.{first_waiting, status_fault, else_fault}
 use Rattle.lab_book.specs.Calls.{Made, leased_reply, any_reply}
 use Rattle.std.proofs.lemmas.List.Quantifiers.{position-Some}
@@ -19,10 +19,10 @@ use Rattle.lab_book.proofs.CallLemmas.{any_is}
 use Rattle.lab_world.specs.declared.worker.leasing.Wanted.{Wanted}
 use Rattle.lab_world.specs.Worker.{leased_by, WorkerValue, HoldsTile, lent_worker, runner_at, place_found, is_wanted, wanted_place}
 use Rattle.lab_world.specs.Worker.{lease_call}
-use Rattle.lab_world.specs.World.{IsPlace}
+use Rattle.lab_world.specs.World.{IsSeat}
 use Rattle.lab_world.proofs.HoldLemmas.{found_ok, lease_outcome}
 use Rattle.lab_world.proofs.OwnLemmas.{lent_to, lent_is}
-use Rattle.lab_world.proofs.TurnLemmas.{lease_place, lease_any_place}
+use Rattle.lab_world.proofs.TurnLemmas.{lease_seat, lease_any_seat}
 
 -- ---- the place of a tile that stands so
 
@@ -30,15 +30,15 @@ module _ (ts : List TileValue) (id : ℕ) (test : TileValue → Bool) where
   abbrev stands_at : Option ℕ
   stands_at = place_found (found ts id (λ (t : TileValue). status_fault (test t) t))
 
-  pub place_some : (i : ℕ) → place_of id ts ≡ Some i → test (tile_at ts i) ≡ true → stands_at ≡ Some i
+  pub place_some : (i : ℕ) → tile_place id ts ≡ Some i → test (tile_at ts i) ≡ true → stands_at ≡ Some i
   place_some i e h = ap (λ (o : Option ℕ). place_found (checked ts (λ (t : TileValue). status_fault (test t) t) o)) e
       ∙ ap (λ (c : Bool). place_found (unless i (else_fault c NotWaiting None))) h
 
-  pub place_other : (i : ℕ) → place_of id ts ≡ Some i → test (tile_at ts i) ≡ false → stands_at ≡ None
+  pub place_other : (i : ℕ) → tile_place id ts ≡ Some i → test (tile_at ts i) ≡ false → stands_at ≡ None
   place_other i e h = ap (λ (o : Option ℕ). place_found (checked ts (λ (t : TileValue). status_fault (test t) t) o)) e
       ∙ ap (λ (c : Bool). place_found (unless i (else_fault c NotWaiting None))) h
 
-  pub place_none : place_of id ts ≡ None → stands_at ≡ None
+  pub place_none : tile_place id ts ≡ None → stands_at ≡ None
   place_none e = ap (λ (o : Option ℕ). place_found (checked ts (λ (t : TileValue). status_fault (test t) t) o)) e
 
 pub found_is : (r : Result ℕ BookFault) (i : ℕ) → Some i ≡ place_found r → r ≡ Ok i
@@ -87,7 +87,7 @@ none_worker b w n = ap (λ (o : Option ℕ). lent_worker b.problem (lent_any b w
 -- ---- a tile is leased
 
 -- a place that was found is one of a tile
-pub place_within : (ts : List TileValue) (id i : ℕ) → Some i ≡ place_of id ts → i < length ts
+pub place_within : (ts : List TileValue) (id i : ℕ) → Some i ≡ tile_place id ts → i < length ts
 place_within ts id i e = (position-Some (λ (t : TileValue). t.id == id) ts i no_tile (sym e)).0
 
 module _ (b new : BookValue) (w i : ℕ) (tiling : IsTiling b.problem b.branch b.first b.tiles) (l : Leased) (g : Grant) (run : RunnerValue)
@@ -104,10 +104,10 @@ module _ (b new : BookValue) (w i : ℕ) (tiling : IsTiling b.problem b.branch b
       ap (λ (x : WorkerValue). Some x) is ∙ sym (lent_is b w i tiling within) ∙ sym (ap (λ (o : Outcome). lent_worker b.problem o.reply) o)
 
   -- and has its tile
-  worker_holds : (c : Call) → IsPlace (book_step b w c) w (leased_by b w c) → new ≡ book_step b w c
+  worker_holds : (c : Call) → IsSeat (book_step b w c) w (leased_by b w c) → new ≡ book_step b w c
       → Some (record { grant = g; runner = run }) ≡ leased_by b w c → HoldsTile new (record { grant = g; runner = run })
   worker_holds c p n e = subst (λ (b : BookValue). HoldsTile b (record { grant = g; runner = run })) (sym n)
-      (subst (IsPlace (book_step b w c) w) (sym e) p).1
+      (subst (IsSeat (book_step b w c) w) (sym e) p).1
 
   pub lease_worker : (want : Wanted) (id : ℕ) → Some i ≡ wanted_place want b.tiles id → Made b new w (lease_call want id) (leased_reply l)
       → Some (record { grant = g; runner = run }) ≡ leased_by b w (lease_call want id)
@@ -119,7 +119,7 @@ module _ (b new : BookValue) (w i : ℕ) (tiling : IsTiling b.problem b.branch b
 
   pub lease_holds : (want : Wanted) (id : ℕ) → Some i ≡ wanted_place want b.tiles id → Made b new w (lease_call want id) (leased_reply l)
       → HoldsTile new (record { grant = g; runner = run })
-  lease_holds want id e m = worker_holds (lease_call want id) (lease_place b w tiling want id) m.book (lease_worker want id e m)
+  lease_holds want id e m = worker_holds (lease_call want id) (lease_seat b w tiling want id) m.book (lease_worker want id e m)
 
   pub any_worker : Some i ≡ first_waiting b.tiles → Made b new w call.LeaseAny (leased_reply l)
       → Some (record { grant = g; runner = run }) ≡ leased_by b w call.LeaseAny
@@ -129,4 +129,4 @@ module _ (b new : BookValue) (w i : ℕ) (tiling : IsTiling b.problem b.branch b
 
   pub any_holds : Some i ≡ first_waiting b.tiles → Made b new w call.LeaseAny (leased_reply l)
       → HoldsTile new (record { grant = g; runner = run })
-  any_holds e m = worker_holds call.LeaseAny (lease_any_place b w tiling) m.book (any_worker e m)
+  any_holds e m = worker_holds call.LeaseAny (lease_any_seat b w tiling) m.book (any_worker e m)

@@ -34,7 +34,7 @@ use Rattle.lab_world.specs.declared.worker.leasing.Wanted.TheVariants as wanted
 use Rattle.lab_world.specs.Worker.{leased_by, WorkerValue, HasTile, moved_to, unposted, unposted_steps, split_call, is_wanted, lease_call}
 use Rattle.lab_world.specs.Worker.{end_call}
 use Rattle.lab_world.specs.Worker.{after_end, lent_worker}
-use Rattle.lab_world.specs.World.{WorldValue, Turn, turn, stepped, stepped_back, splitting, retracting, IsPlace, IsWorld, worker_at}
+use Rattle.lab_world.specs.World.{WorldValue, Turn, turn, stepped, stepped_back, splitting, retracting, IsSeat, IsWorld, worker_at}
 use Rattle.lab_world.specs.World.{world_step}
 use Rattle.lab_world.proofs.HoldLemmas.{found_ok, lease_outcome}
 use Rattle.lab_world.proofs.OtherLemmas.{lease_leaves, lease_any_leaves, post_leaves, retract_leaves, split_leaves, end_leaves}
@@ -45,33 +45,33 @@ use Rattle.lab_world.proofs.OwnLemmas.{Has, lent_to, lent_is, lent_has, post_has
 
 module _ (b : BookValue) (w : ℕ) (tiling : IsTiling b.problem b.branch b.first b.tiles) where
   -- a tile that is leased is its worker's
-  lent_place : (c : Call) (i : ℕ) → i < length b.tiles → outcome b w c ≡ lent b w i → IsPlace (book_step b w c) w (leased_by b w c)
-  lent_place c i l e =
+  lent_seat : (c : Call) (i : ℕ) → i < length b.tiles → outcome b w c ≡ lent b w i → IsSeat (book_step b w c) w (leased_by b w c)
+  lent_seat c i l e =
       let worker = lent_to b.problem (tile_at b.tiles i) w (length b.history) in
-      subst (IsPlace (book_step b w c) w) (sym (ap (λ (o : Outcome). lent_worker b.problem o.reply) e ∙ lent_is b w i tiling l))
+      subst (IsSeat (book_step b w c) w) (sym (ap (λ (o : Outcome). lent_worker b.problem o.reply) e ∙ lent_is b w i tiling l))
       (refl, record { problem = refl; tile = subst (λ (o : Outcome). HasTile o.tiles worker) (sym e) (lent_has b w i tiling l) })
 
-  none_place : (c : Call) → leased_by b w c ≡ None → IsPlace (book_step b w c) w (leased_by b w c)
-  none_place c e = subst (IsPlace (book_step b w c) w) (sym e) tt
+  none_seat : (c : Call) → leased_by b w c ≡ None → IsSeat (book_step b w c) w (leased_by b w c)
+  none_seat c e = subst (IsSeat (book_step b w c) w) (sym e) tt
 
-  found_place : (c : Call) (r : Result ℕ BookFault) → outcome b w c ≡ made_at b.tiles (lent b w) r
-      → ((i : ℕ) → r ≡ Ok i → i < length b.tiles) → IsPlace (book_step b w c) w (leased_by b w c)
-  found_place c (Ok i) e l = lent_place c i (l i refl) e
-  found_place c (Err f) e l = none_place c (ap (λ (o : Outcome). lent_worker b.problem o.reply) e)
+  found_seat : (c : Call) (r : Result ℕ BookFault) → outcome b w c ≡ made_at b.tiles (lent b w) r
+      → ((i : ℕ) → r ≡ Ok i → i < length b.tiles) → IsSeat (book_step b w c) w (leased_by b w c)
+  found_seat c (Ok i) e l = lent_seat c i (l i refl) e
+  found_seat c (Err f) e l = none_seat c (ap (λ (o : Outcome). lent_worker b.problem o.reply) e)
 
-  pub lease_place : (want : Wanted) (id : ℕ) → IsPlace (book_step b w (lease_call want id)) w (leased_by b w (lease_call want id))
-  lease_place want id =
+  pub lease_seat : (want : Wanted) (id : ℕ) → IsSeat (book_step b w (lease_call want id)) w (leased_by b w (lease_call want id))
+  lease_seat want id =
       let check = λ (t : TileValue). status_fault (is_wanted want t.status) t in
-      found_place (lease_call want id) (found b.tiles id check) (lease_outcome b w want id) (λ i e. (found_ok b.tiles id check i e).0)
+      found_seat (lease_call want id) (found b.tiles id check) (lease_outcome b w want id) (λ i e. (found_ok b.tiles id check i e).0)
 
-  any_place : (r : Option ℕ) → first_waiting b.tiles ≡ r → outcome b w call.LeaseAny ≡ lent_any b w r
-      → IsPlace (book_step b w call.LeaseAny) w (leased_by b w call.LeaseAny)
-  any_place None f e = none_place call.LeaseAny (ap (λ (o : Outcome). lent_worker b.problem o.reply) e)
-  any_place (Some i) f e = lent_place call.LeaseAny i (position-Some (λ (t : TileValue). is_waiting t.status) b.tiles i no_tile f).0 e
+  any_seat : (r : Option ℕ) → first_waiting b.tiles ≡ r → outcome b w call.LeaseAny ≡ lent_any b w r
+      → IsSeat (book_step b w call.LeaseAny) w (leased_by b w call.LeaseAny)
+  any_seat None f e = none_seat call.LeaseAny (ap (λ (o : Outcome). lent_worker b.problem o.reply) e)
+  any_seat (Some i) f e = lent_seat call.LeaseAny i (position-Some (λ (t : TileValue). is_waiting t.status) b.tiles i no_tile f).0 e
 
-  pub lease_any_place : IsPlace (book_step b w call.LeaseAny) w (leased_by b w call.LeaseAny)
+  pub lease_any_seat : IsSeat (book_step b w call.LeaseAny) w (leased_by b w call.LeaseAny)
   unfolding outcome
-  lease_any_place = any_place (first_waiting b.tiles) refl refl
+  lease_any_seat = any_seat (first_waiting b.tiles) refl refl
 
 -- ---- the worker that acts
 
@@ -80,13 +80,13 @@ either : (P : Turn → Type 0) (c : Bool) (t u : Turn) → P t → P u → P (if
 either P true t u a b = a
 either P false t u a b = b
 
--- a turn's place
+-- a turn's seat
 abbrev Keeps : ℕ → Turn → Type 0
-Keeps w t = IsPlace t.book w t.worker
+Keeps w t = IsSeat t.book w t.worker
 
 module _ (b : BookValue) (w : ℕ) (tiling : IsTiling b.problem b.branch b.first b.tiles) where
   -- its runner stands elsewhere
-  moved_keeps : (x : WorkerValue) (s : StateValue) → IsPlace b w (Some x) → IsPlace b w (Some (moved_to x s))
+  moved_keeps : (x : WorkerValue) (s : StateValue) → IsSeat b w (Some x) → IsSeat b w (Some (moved_to x s))
   moved_keeps x s k = (
     k.0,
     record {
@@ -104,46 +104,46 @@ module _ (b : BookValue) (w : ℕ) (tiling : IsTiling b.problem b.branch b.first
     },
   )
 
-  step_keeps : (x : WorkerValue) → IsPlace b w (Some x) → Keeps w (stepped b x)
+  step_keeps : (x : WorkerValue) → IsSeat b w (Some x) → Keeps w (stepped b x)
   step_keeps x k =
       either (Keeps w) (same_state x.runner.position (end_of x.runner.branch.hi)) _ _ k
       (either (Keeps w) (unposted_steps x == most_steps) _ _ k (moved_keeps x (next x.runner.problem x.runner.position) k))
 
-  back_keeps : (x : WorkerValue) → IsPlace b w (Some x) → Keeps w (stepped_back b x)
+  back_keeps : (x : WorkerValue) → IsSeat b w (Some x) → Keeps w (stepped_back b x)
   back_keeps x k = either (Keeps w) (same_state x.runner.position x.runner.mark) _ _ k
       (moved_keeps x (prev x.runner.problem x.runner.position) k)
 
-  own_place : (x : WorkerValue) (u : ℕ) (c : Call) (y : Option WorkerValue) → x.grant.worker ≡ w
-      → Has b.problem x.grant (outcome b u c).tiles y → IsPlace (book_step b u c) w y
-  own_place x u c None k h = tt
-  own_place x u c (Some y) k h = (ap (λ (g : Grant). g.worker) h.1 ∙ k, record { problem = h.0; tile = h.2 })
+  own_seat : (x : WorkerValue) (u : ℕ) (c : Call) (y : Option WorkerValue) → x.grant.worker ≡ w
+      → Has b.problem x.grant (outcome b u c).tiles y → IsSeat (book_step b u c) w y
+  own_seat x u c None k h = tt
+  own_seat x u c (Some y) k h = (ap (λ (g : Grant). g.worker) h.1 ∙ k, record { problem = h.0; tile = h.2 })
 
-  retract_keeps : (x : WorkerValue) → IsPlace b w (Some x) → Keeps w (retracting b x)
+  retract_keeps : (x : WorkerValue) → IsSeat b w (Some x) → Keeps w (retracting b x)
   retract_keeps x k =
       either (Keeps w) (unposted_steps x == 0) _ _
-      (own_place x x.grant.worker (call.Retract x.grant) _ k.0 (retract_has b x tiling k.1 x.grant.worker)) k
+      (own_seat x x.grant.worker (call.Retract x.grant) _ k.0 (retract_has b x tiling k.1 x.grant.worker)) k
 
-  split_keeps : (x : WorkerValue) (level o : ℕ) → IsPlace b w (Some x) → Keeps w (splitting b level o x)
+  split_keeps : (x : WorkerValue) (level o : ℕ) → IsSeat b w (Some x) → Keeps w (splitting b level o x)
   split_keeps x level o k =
       let path = with_choice x.runner.position level o in
       either (Keeps w) (has (untried_in x.runner level) o) _ _
-      (own_place x x.grant.worker (split_call x path) _ k.0 (split_has b x tiling k.1 x.grant.worker path)) k
+      (own_seat x x.grant.worker (split_call x path) _ k.0 (split_has b x tiling k.1 x.grant.worker path)) k
 
-  end_keeps : (x : WorkerValue) (e : Ending) → IsPlace b w (Some x)
-      → IsPlace (book_step b x.grant.worker (end_call e x.grant)) w (after_end x (outcome b x.grant.worker (end_call e x.grant)).reply)
-  end_keeps x e k = own_place x x.grant.worker (end_call e x.grant) _ k.0 (end_has b x tiling k.1 x.grant.worker e)
+  end_keeps : (x : WorkerValue) (e : Ending) → IsSeat b w (Some x)
+      → IsSeat (book_step b x.grant.worker (end_call e x.grant)) w (after_end x (outcome b x.grant.worker (end_call e x.grant)).reply)
+  end_keeps x e k = own_seat x x.grant.worker (end_call e x.grant) _ k.0 (end_has b x tiling k.1 x.grant.worker e)
 
   -- a call that leaves its tile
-  same_place : (x : WorkerValue) (c : Call) → HasTile (outcome b w c).tiles x → IsPlace b w (Some x) → IsPlace (book_step b w c) w (Some x)
-  same_place x c h k = (k.0, record { problem = k.1.problem; tile = h })
+  same_seat : (x : WorkerValue) (c : Call) → HasTile (outcome b w c).tiles x → IsSeat b w (Some x) → IsSeat (book_step b w c) w (Some x)
+  same_seat x c h k = (k.0, record { problem = k.1.problem; tile = h })
 
-  pub turn_keeps : (x : Option WorkerValue) (a : Act) → IsPlace b w x → Keeps w (turn b x w a)
+  pub turn_keeps : (x : Option WorkerValue) (a : Act) → IsSeat b w x → Keeps w (turn b x w a)
   unfolding turn
   turn_keeps None Step k = tt
   turn_keeps None Back k = tt
-  turn_keeps None (Lease id) k = lease_place b w tiling wanted.Waiting id
-  turn_keeps None LeaseAny k = lease_any_place b w tiling
-  turn_keeps None (TakeHeld id) k = lease_place b w tiling wanted.Held id
+  turn_keeps None (Lease id) k = lease_seat b w tiling wanted.Waiting id
+  turn_keeps None LeaseAny k = lease_any_seat b w tiling
+  turn_keeps None (TakeHeld id) k = lease_seat b w tiling wanted.Held id
   turn_keeps None Post k = tt
   turn_keeps None (Split level o) k = tt
   turn_keeps None Retract k = tt
@@ -157,35 +157,35 @@ module _ (b : BookValue) (w : ℕ) (tiling : IsTiling b.problem b.branch b.first
   turn_keeps (Some x) (Lease id) k = k
   turn_keeps (Some x) LeaseAny k = k
   turn_keeps (Some x) (TakeHeld id) k = k
-  turn_keeps (Some x) Post k = own_place x x.grant.worker (post_of b.problem x.grant (unposted x)) _ k.0
+  turn_keeps (Some x) Post k = own_seat x x.grant.worker (post_of b.problem x.grant (unposted x)) _ k.0
       (post_has b x tiling k.1 x.grant.worker (is_same x.runner.problem b.problem))
   turn_keeps (Some x) (Split level o) k = split_keeps x level o k
   turn_keeps (Some x) Retract k = retract_keeps x k
   turn_keeps (Some x) Park k = end_keeps x ending.Park k
   turn_keeps (Some x) Abandon k = end_keeps x ending.Abandon k
   turn_keeps (Some x) Close k = end_keeps x ending.Close k
-  turn_keeps (Some x) (PutBack id s) k = same_place x (call.PutBack id (state_value s)) (put_back_leaves b w x k.1.tile id (state_value s))
+  turn_keeps (Some x) (PutBack id s) k = same_seat x (call.PutBack id (state_value s)) (put_back_leaves b w x k.1.tile id (state_value s))
       k
-  turn_keeps (Some x) (RequestStop id) k = same_place x (call.RequestStop id) (stop_leaves b w x k.1.tile id) k
+  turn_keeps (Some x) (RequestStop id) k = same_seat x (call.RequestStop id) (stop_leaves b w x k.1.tile id) k
 
 -- ---- the others
 
-module _ (b : BookValue) (w v : ℕ) (y : WorkerValue) (other : v ≡ w → ⊥) (k : IsPlace b v (Some y)) where
+module _ (b : BookValue) (w v : ℕ) (y : WorkerValue) (other : v ≡ w → ⊥) (k : IsSeat b v (Some y)) where
   -- a call leaves its tile
-  left : (u : ℕ) (c : Call) → HasTile (outcome b u c).tiles y → IsPlace (book_step b u c) v (Some y)
+  left : (u : ℕ) (c : Call) → HasTile (outcome b u c).tiles y → IsSeat (book_step b u c) v (Some y)
   left u c h = (k.0, record { problem = k.1.problem; tile = h })
 
   -- a call's book, or the same
   abbrev Leaves : Turn → Type 0
-  Leaves t = IsPlace t.book v (Some y)
+  Leaves t = IsSeat t.book v (Some y)
 
   not_own : (x : WorkerValue) → x.grant.worker ≡ w → y.grant.worker ≡ x.grant.worker → ⊥
   not_own x e h = other (sym k.0 ∙ h ∙ e)
 
-  end_left : (x : WorkerValue) (e : Ending) → IsPlace b w (Some x) → IsPlace (book_step b x.grant.worker (end_call e x.grant)) v (Some y)
+  end_left : (x : WorkerValue) (e : Ending) → IsSeat b w (Some x) → IsSeat (book_step b x.grant.worker (end_call e x.grant)) v (Some y)
   end_left x e h = left x.grant.worker (end_call e x.grant) (end_leaves b x.grant.worker y k.1.tile x.grant (not_own x h.0) e)
 
-  leaves : (x : Option WorkerValue) (a : Act) → IsPlace b w x → Leaves (turn b x w a)
+  leaves : (x : Option WorkerValue) (a : Act) → IsSeat b w x → Leaves (turn b x w a)
   unfolding turn
   leaves None Step h = k
   leaves None Back h = k
@@ -221,8 +221,8 @@ module _ (b : BookValue) (w v : ℕ) (y : WorkerValue) (other : v ≡ w → ⊥)
   leaves (Some x) (PutBack id s) h = left w (call.PutBack id (state_value s)) (put_back_leaves b w y k.1.tile id (state_value s))
   leaves (Some x) (RequestStop id) h = left w (call.RequestStop id) (stop_leaves b w y k.1.tile id)
 
-pub turn_leaves : (b : BookValue) (w v : ℕ) (x y : Option WorkerValue) (a : Act) → (v ≡ w → ⊥) → IsPlace b w x → IsPlace b v y
-    → IsPlace (turn b x w a).book v y
+pub turn_leaves : (b : BookValue) (w v : ℕ) (x y : Option WorkerValue) (a : Act) → (v ≡ w → ⊥) → IsSeat b w x → IsSeat b v y
+    → IsSeat (turn b x w a).book v y
 turn_leaves b w v x None a other h k = tt
 turn_leaves b w v x (Some y) a other h k = leaves b w v y other k x a h
 
@@ -240,13 +240,13 @@ world_keeps v e tiling l k =
     }
   where
     by : (u : ℕ) → u < length v.workers → (((u == e.worker) ≡ true) × (u ≡ e.worker)) ⊎ (((u == e.worker) ≡ false) × (u ≡ e.worker → ⊥))
-        → IsPlace (world_step v e).world.book u (worker_at (world_step v e).world.workers u)
+        → IsSeat (world_step v e).world.book u (worker_at (world_step v e).world.workers u)
     by u m (inl h) =
         let t = turn v.book (worker_at v.workers e.worker) e.worker e.act in
-        subst (λ (i : ℕ). IsPlace t.book i (worker_at (world_step v e).world.workers i)) (sym h.1)
-        (subst (IsPlace t.book e.worker) (sym (get_or-set_same v.workers e.worker t.worker None l))
+        subst (λ (i : ℕ). IsSeat t.book i (worker_at (world_step v e).world.workers i)) (sym h.1)
+        (subst (IsSeat t.book e.worker) (sym (get_or-set_same v.workers e.worker t.worker None l))
         (turn_keeps v.book e.worker tiling (worker_at v.workers e.worker) e.act (k.holds e.worker l)))
     by u m (inr h) =
         let t = turn v.book (worker_at v.workers e.worker) e.worker e.act in
-        subst (IsPlace t.book u) (sym (get_or-set_other v.workers e.worker u t.worker None h.1))
+        subst (IsSeat t.book u) (sym (get_or-set_other v.workers e.worker u t.worker None h.1))
         (turn_leaves v.book e.worker u (worker_at v.workers e.worker) (worker_at v.workers u) e.act h.1 (k.holds e.worker l) (k.holds u m))

@@ -11,7 +11,7 @@ use Rattle.lab_world.proofs.TurnLemmas.{world_keeps}
 use Rattle.lab_world.specs.declared.event.WorldEvent.{WorldEvent}
 use Rattle.lab_world.specs.declared.event.WorldReply.{WorldReply}
 use Rattle.lab_world.specs.Worker.{WorkerValue}
-use Rattle.lab_world.specs.World.{WorldValue, Turned, turn, worker_at, world_step, played, world_replies, IsPlace, IsWorld}
+use Rattle.lab_world.specs.World.{WorldValue, Turned, turn, worker_at, world_step, played, world_replies, IsSeat, IsWorld}
 
 -- ---- folds
 
@@ -24,7 +24,7 @@ replies_push : (v : WorldValue) (es : List WorldEvent) (e : WorldEvent)
 replies_push v [] e = refl
 replies_push v (x ∷ xs) e = ap (λ (rs : List WorldReply). (world_step v x).reply ∷ rs) (replies_push (world_step v x).world xs e)
 
--- how far the events were played: the world and the replies are those of the fold, and there is a place for each worker as before
+-- how far the events were played: the world and the replies are those of the fold, and there is a seat for each worker as before
 pub record Plays (v : WorldValue) (es : List WorldEvent) (n : ℕ) (w : WorldValue) (rs : List WorldReply) : Type 0 where
   pub world : w ≡ played v (take n es)
   pub replies : rs ≡ world_replies v (take n es)
@@ -57,7 +57,7 @@ plays_more v es i e w u rs r p l g a b =
       count = omega arith;
     }
 
--- the worker of an event has a place
+-- the worker of an event has a seat
 pub event_within : (v : WorldValue) (es : List WorldEvent) (i : ℕ) (e : WorldEvent) (w : WorldValue) (rs : List WorldReply)
     → All (λ (e : WorldEvent). e.worker < length v.workers) es → Plays v es i w rs → i < length es → e ≡ get_or es i e
     → e.worker < length w.workers
@@ -76,8 +76,8 @@ fresh_is_world b n ws e some few =
     record {
       some = omega arith;
       few = omega arith;
-      holds = λ w l. subst (λ (us : List (Option WorkerValue)). IsPlace b w (worker_at us w)) (sym e)
-          (subst (IsPlace b w) (sym (none n w)) tt);
+      holds = λ w l. subst (λ (us : List (Option WorkerValue)). IsSeat b w (worker_at us w)) (sym e)
+          (subst (IsSeat b w) (sym (none n w)) tt);
     }
   where
     none : (n w : ℕ) → worker_at (replicate n None) w ≡ None
@@ -103,7 +103,7 @@ happened_is_world v e (Err y) b ws x tiling l k t f g s =
     let same : ws ≡ v.workers = s ∙ ap (set v.workers e.worker) g ∙ set-get_or v.workers e.worker None in
     subst IsWorld (ap₂ (λ (b : BookValue) (ws : List (Option WorkerValue)). record { book = b; workers = ws }) (sym f) (sym same)) k
 
--- the same, where the worker's place was read
+-- the same, where the worker's seat was read
 pub happened_here : {E : Type 0} (v : WorldValue) (e : WorldEvent) (r : Result WorldReply E) (b : BookValue)
     (ws : List (Option WorkerValue)) (x old : Option WorkerValue) → old ≡ get_or v.workers e.worker old
     → IsTiling v.book.problem v.book.branch v.book.first v.book.tiles → e.worker < length v.workers → IsWorld v
@@ -129,7 +129,7 @@ pub all_replies : (v : WorldValue) (es : List WorldEvent) (n : ℕ) (w : WorldVa
     → length es ≤ n → rs ≡ world_replies v es
 all_replies v es n w rs p l = p.replies ∙ ap (world_replies v) (all_taken es n l)
 
--- one place more without a worker
+-- one seat more without a worker
 replicate_suc : {X : Type 0} (n : ℕ) (x : X) → replicate n x ++ x ∷ [] ≡ replicate (suc n) x
 replicate_suc zero x = refl
 replicate_suc {X} (suc n) x = ap (λ (xs : List X). x ∷ xs) (replicate_suc n x)

@@ -116,11 +116,13 @@ leased_by b w c = lent_worker b.problem (outcome b w c).reply
 abbrev pub after_call : BookValue → WorkerValue → (Grant → Call) → BookValue
 after_call b x c = book_step b x.grant.worker (c x.grant)
 
+-- what book b answers worker x, that makes this call by its lease
 abbrev pub answer_to : BookValue → WorkerValue → (Grant → Call) → Reply
 answer_to b x c = (outcome b x.grant.worker (c x.grant)).reply
 
 -- ---- which tile is leased
 
+-- where in the list a tile was found, or None where none was, or the one that was is refused
 abbrev pub place_found : Result ℕ BookFault → Option ℕ
 place_found (Ok i) = Some i
 place_found (Err f) = None

@@ -1,6 +1,6 @@
 -- A world: a book, and for each worker nothing or its lease with its runner; what each event makes of it.
 --
--- An event is one worker's: it changes the book and that worker's place alone.
+-- An event is one worker's: it changes the book and that worker's seat alone.
 use Rattle.std.specs.Prelude.{ℕ, ◌≡◌, ◌<◌, ◌==◌, Option, Some, None, List, [], ◌∷◌, length, option_map, replicate, slice_set}
 use Rattle.std.specs.Prelude.{slice_index_or, if◌then◌else◌}
 use Rattle.cover_problem.specs.Lists.{has}
@@ -44,9 +44,9 @@ pub record WorldValue : Type 0 where
 abbrev pub worker_at : List (Option WorkerValue) → ℕ → Option WorkerValue
 worker_at ws w = slice_index_or ws w None
 
--- ---- what an act makes of the book and of the worker's place
+-- ---- what an act makes of the book and of the worker's seat
 
--- the answer, the book, and the worker's place
+-- the answer, the book, and the worker's seat
 pub record Turn : Type 0 where
   pub reply : WorldReply
   pub book : BookValue
@@ -107,7 +107,7 @@ retracting b x =
     if unposted_steps x == 0 then called b x.grant.worker (call.Retract x.grant) (after_retract x) else
     stays b (Some x) (Runner NotAtMark)
 
--- what worker w's act makes of a book and of its place
+-- what worker w's act makes of a book and of its seat
 unfoldable pub turn : BookValue → Option WorkerValue → ℕ → Act → Turn
 turn b x w Step = working b x (stepped b)
 turn b x w Back = working b x (stepped_back b)
@@ -134,7 +134,7 @@ end_act ending.Park = Park
 end_act ending.Abandon = Abandon
 end_act ending.Close = Close
 
--- the answer is a turn's, and so are the book and the worker's place
+-- the answer is a turn's, and so are the book and the worker's seat
 pub record Turned (t : Turn) (r : WorldReply) (b : BookValue) (x : Option WorkerValue) : Type 0 where
   pub reply : r ≡ t.reply
   pub book : b ≡ t.book
@@ -147,11 +147,13 @@ pub record Happening : Type 0 where
   pub reply : WorldReply
   pub world : WorldValue
 
-abbrev pub placed : List (Option WorkerValue) → ℕ → Turn → Happening
-placed ws w t = record { reply = t.reply; world = record { book = t.book; workers = slice_set ws w t.worker } }
+-- what a turn of worker w makes of a world with these workers: its book and that one worker are as the turn leaves them
+abbrev pub happening_of : List (Option WorkerValue) → ℕ → Turn → Happening
+happening_of ws w t = record { reply = t.reply; world = record { book = t.book; workers = slice_set ws w t.worker } }
 
+-- what event e makes of world v: the turn of the worker that it names, with the act that it names
 abbrev pub world_step : WorldValue → WorldEvent → Happening
-world_step v e = placed v.workers e.worker (turn v.book (worker_at v.workers e.worker) e.worker e.act)
+world_step v e = happening_of v.workers e.worker (turn v.book (worker_at v.workers e.worker) e.worker e.act)
 
 -- the fold of events
 abbrev pub played : WorldValue → List WorldEvent → WorldValue
@@ -163,16 +165,16 @@ abbrev pub world_replies : WorldValue → List WorldEvent → List WorldReply
 world_replies v [] = []
 world_replies v (e ∷ es) = (world_step v e).reply ∷ world_replies (world_step v e).world es
 
--- a worker's place: it is empty, or its lease names it and it holds its tile
-abbrev pub IsPlace : BookValue → ℕ → Option WorkerValue → Type 0
-IsPlace b w None = Unit {0}
-IsPlace b w (Some x) = (x.grant.worker ≡ w) × HoldsTile b x
+-- a worker's seat: it is empty, or its lease names it and it holds its tile
+abbrev pub IsSeat : BookValue → ℕ → Option WorkerValue → Type 0
+IsSeat b w None = Unit {0}
+IsSeat b w (Some x) = (x.grant.worker ≡ w) × HoldsTile b x
 
 -- what is true of every world: it has 1 to 32 workers, and each that has a lease holds its tile
 pub record IsWorld (v : WorldValue) : Type 0 where
   pub some : 0 < length v.workers
   pub few : length v.workers < 33
-  pub holds : (w : ℕ) → w < length v.workers → IsPlace v.book w (worker_at v.workers w)
+  pub holds : (w : ℕ) → w < length v.workers → IsSeat v.book w (worker_at v.workers w)
 
 -- a world whose workers have no tile
 abbrev pub fresh : BookValue → ℕ → WorldValue

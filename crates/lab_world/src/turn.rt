@@ -1,11 +1,11 @@
-//! What one worker's act makes of the book and of its place.
+//! What one worker's act makes of the book and of its seat.
 ghost use Rattle.std.specs.Prelude.{◌≡◌, ◌≤◌, ℕ, Option, length, IfOk, OnErr};
 ghost use Rattle.lab_book.specs.Book.{BookValue};
 ghost use Rattle.lab_book.specs.declared.fault.BookFault.TheVariants as faults;
 ghost use Rattle.lab_world.specs.declared.event.Act.TheVariants as acts;
 ghost use Rattle.lab_world.specs.declared.event.WorldReply.TheVariants as replies;
 ghost use Rattle.lab_world.specs.Worker.{WorkerValue};
-ghost use Rattle.lab_world.specs.World.{Turned, IsPlace, turn, lease_act, end_act};
+ghost use Rattle.lab_world.specs.World.{Turned, IsSeat, turn, lease_act, end_act};
 
 use crate::event::{Act, WorldReply};
 use crate::fault::WorkerFault;
@@ -19,7 +19,7 @@ use x_steps::{Event, Refused, State};
 /// The reply to a call that the book refused: the index of its entry. Out of memory, the book has none.
 fn refused(index: u64, fault: &BookFault) -> Result<WorldReply, AllocError>
     ensures reply { IfOk result (λ r. r ≡ replies.Book index) }
-    ensures noted { IfOk result (λ r. fault.now ≡ faults.OutOfMemory → ⊥) }
+    ensures not_out_of_memory { IfOk result (λ r. fault.now ≡ faults.OutOfMemory → ⊥) }
     ensures memory { OnErr result (fault.now ≡ faults.OutOfMemory) }
 {
     match fault {
@@ -31,7 +31,7 @@ fn refused(index: u64, fault: &BookFault) -> Result<WorldReply, AllocError>
 /// The reply to what the runner refused. Out of memory, there is none.
 fn not_done(fault: RunnerFault) -> Result<WorldReply, AllocError>
     ensures reply { IfOk result (λ r. r ≡ replies.Runner fault) }
-    ensures noted { IfOk result (λ r. fault ≡ RunnerFault.OutOfMemory → ⊥) }
+    ensures not_out_of_memory { IfOk result (λ r. fault ≡ RunnerFault.OutOfMemory → ⊥) }
     ensures memory { OnErr result (fault ≡ RunnerFault.OutOfMemory) }
 {
     match fault {
@@ -48,11 +48,11 @@ fn next_index(book: &Book<'_>) -> u64
 }
 
 /// A step.
-fn step<T: Table>(place: &mut Option<Worker<'_, T>>) -> Result<WorldReply, AllocError>
-    ensures turned { IfOk result (λ r. (b : BookValue) (w : ℕ) → Turned (turn b place.old w Act.Step) r b place.new) }
-    ensures unchanged { OnErr result (place.new ≡ place.old) }
+fn step<T: Table>(seat: &mut Option<Worker<'_, T>>) -> Result<WorldReply, AllocError>
+    ensures turned { IfOk result (λ r. (b : BookValue) (w : ℕ) → Turned (turn b seat.old w Act.Step) r b seat.new) }
+    ensures unchanged { OnErr result (seat.new ≡ seat.old) }
 {
-    let Some(worker) = place else {
+    let Some(worker) = seat else {
         return Ok(WorldReply::Idle);
     };
     match worker.step() {
@@ -62,10 +62,10 @@ fn step<T: Table>(place: &mut Option<Worker<'_, T>>) -> Result<WorldReply, Alloc
 }
 
 /// A step back.
-fn back<T: Table>(place: &mut Option<Worker<'_, T>>) -> WorldReply
-    ensures { (b : BookValue) (w : ℕ) → Turned (turn b place.old w Act.Back) result b place.new }
+fn back<T: Table>(seat: &mut Option<Worker<'_, T>>) -> WorldReply
+    ensures { (b : BookValue) (w : ℕ) → Turned (turn b seat.old w Act.Back) result b seat.new }
 {
-    let Some(worker) = place else {
+    let Some(worker) = seat else {
         return WorldReply::Idle;
     };
     match worker.back() {
@@ -78,23 +78,23 @@ fn back<T: Table>(place: &mut Option<Worker<'_, T>>) -> WorldReply
 fn lease<'p, T: Table>(
     alloc: Global,
     book: &mut Book<'p>,
-    place: &mut Option<Worker<'p, T>>,
+    seat: &mut Option<Worker<'p, T>>,
     w: u8,
     id: u64,
     wanted: Wanted,
 ) -> Result<WorldReply, AllocError>
     requires { w ≤ 31 }
-    ensures turned { IfOk result (λ r. Turned (turn book.old place.old w (lease_act wanted id)) r book.new place.new) }
+    ensures turned { IfOk result (λ r. Turned (turn book.old seat.old w (lease_act wanted id)) r book.new seat.new) }
     ensures book { OnErr result (book.new ≡ book.old) }
-    ensures unchanged { OnErr result (place.new ≡ place.old) }
+    ensures unchanged { OnErr result (seat.new ≡ seat.old) }
 {
-    if place.is_some() {
+    if seat.is_some() {
         return Ok(WorldReply::Busy);
     }
     let index = next_index(book);
     match Worker::lease_wanted(alloc, book, w, id, wanted) {
         Ok(worker) => {
-            *place = Some(worker);
+            *seat = Some(worker);
             Ok(WorldReply::Book(index))
         }
         Err(fault) => refused(index, &fault),
@@ -105,33 +105,33 @@ fn lease<'p, T: Table>(
 fn lease_any<'p, T: Table>(
     alloc: Global,
     book: &mut Book<'p>,
-    place: &mut Option<Worker<'p, T>>,
+    seat: &mut Option<Worker<'p, T>>,
     w: u8,
 ) -> Result<WorldReply, AllocError>
     requires { w ≤ 31 }
-    ensures turned { IfOk result (λ r. Turned (turn book.old place.old w Act.LeaseAny) r book.new place.new) }
+    ensures turned { IfOk result (λ r. Turned (turn book.old seat.old w Act.LeaseAny) r book.new seat.new) }
     ensures book { OnErr result (book.new ≡ book.old) }
-    ensures unchanged { OnErr result (place.new ≡ place.old) }
+    ensures unchanged { OnErr result (seat.new ≡ seat.old) }
 {
-    if place.is_some() {
+    if seat.is_some() {
         return Ok(WorldReply::Busy);
     }
     let index = next_index(book);
-    *place = Worker::lease_any(alloc, book, w)?;
+    *seat = Worker::lease_any(alloc, book, w)?;
     Ok(WorldReply::Book(index))
 }
 
 /// What was walked is posted.
 fn post<'p, T: Table>(
     book: &mut Book<'p>,
-    place: &mut Option<Worker<'p, T>>,
+    seat: &mut Option<Worker<'p, T>>,
 ) -> Result<WorldReply, AllocError>
-    ensures turned { IfOk result (λ r. (w : ℕ) → Turned (turn book.old place.old w Act.Post) r book.new place.new) }
+    ensures turned { IfOk result (λ r. (w : ℕ) → Turned (turn book.old seat.old w Act.Post) r book.new seat.new) }
     ensures book { OnErr result (book.new ≡ book.old) }
-    ensures unchanged { OnErr result (place.new ≡ place.old) }
+    ensures unchanged { OnErr result (seat.new ≡ seat.old) }
 {
     let index = next_index(book);
-    let Some(worker) = place else {
+    let Some(worker) = seat else {
         return Ok(WorldReply::Idle);
     };
     match worker.post(book) {
@@ -143,16 +143,16 @@ fn post<'p, T: Table>(
 /// What was posted last is taken out, and walked again.
 fn retract<'p, T: Table>(
     book: &mut Book<'p>,
-    place: &mut Option<Worker<'p, T>>,
+    seat: &mut Option<Worker<'p, T>>,
     w: u8,
 ) -> Result<WorldReply, AllocError>
-    requires { IsPlace book.old w place.old }
-    ensures turned { IfOk result (λ r. Turned (turn book.old place.old w Act.Retract) r book.new place.new) }
+    requires { IsSeat book.old w seat.old }
+    ensures turned { IfOk result (λ r. Turned (turn book.old seat.old w Act.Retract) r book.new seat.new) }
     ensures book { OnErr result (book.new ≡ book.old) }
-    ensures unchanged { OnErr result (place.new ≡ place.old) }
+    ensures unchanged { OnErr result (seat.new ≡ seat.old) }
 {
     let index = next_index(book);
-    let Some(worker) = place else {
+    let Some(worker) = seat else {
         return Ok(WorldReply::Idle);
     };
     match worker.retract(book) {
@@ -165,18 +165,18 @@ fn retract<'p, T: Table>(
 /// The tile is split at an option of a level.
 fn split<'p, T: Table>(
     book: &mut Book<'p>,
-    place: &mut Option<Worker<'p, T>>,
+    seat: &mut Option<Worker<'p, T>>,
     w: u8,
     level: usize,
     option: u32,
 ) -> Result<WorldReply, AllocError>
-    requires { IsPlace book.old w place.old }
-    ensures turned { IfOk result (λ r. Turned (turn book.old place.old w (acts.Split level option)) r book.new place.new) }
+    requires { IsSeat book.old w seat.old }
+    ensures turned { IfOk result (λ r. Turned (turn book.old seat.old w (acts.Split level option)) r book.new seat.new) }
     ensures book { OnErr result (book.new ≡ book.old) }
-    ensures unchanged { OnErr result (place.new ≡ place.old) }
+    ensures unchanged { OnErr result (seat.new ≡ seat.old) }
 {
     let index = next_index(book);
-    let Some(worker) = place else {
+    let Some(worker) = seat else {
         return Ok(WorldReply::Idle);
     };
     match worker.split(book, level, option) {
@@ -189,22 +189,22 @@ fn split<'p, T: Table>(
 /// The tile is given up.
 fn end<'p, T: Table>(
     book: &mut Book<'p>,
-    place: &mut Option<Worker<'p, T>>,
+    seat: &mut Option<Worker<'p, T>>,
     ending: Ending,
 ) -> Result<WorldReply, AllocError>
-    ensures turned { IfOk result (λ r. (w : ℕ) → Turned (turn book.old place.old w (end_act ending)) r book.new place.new) }
+    ensures turned { IfOk result (λ r. (w : ℕ) → Turned (turn book.old seat.old w (end_act ending)) r book.new seat.new) }
     ensures book { OnErr result (book.new ≡ book.old) }
-    ensures unchanged { OnErr result (place.new ≡ place.old) }
+    ensures unchanged { OnErr result (seat.new ≡ seat.old) }
 {
     let index = next_index(book);
-    let Some(worker) = place.take() else {
+    let Some(worker) = seat.take() else {
         return Ok(WorldReply::Idle);
     };
     let Refused { fault, given } = match worker.end(book, ending) {
         Ok(()) => return Ok(WorldReply::Book(index)),
         Err(refused) => refused,
     };
-    *place = Some(given);
+    *seat = Some(given);
     refused(index, &fault)
 }
 
@@ -238,28 +238,28 @@ fn request_stop(book: &mut Book<'_>, w: u8, id: u64) -> Result<WorldReply, Alloc
 pub(crate) fn act<'p, T: Table>(
     alloc: Global,
     book: &mut Book<'p>,
-    place: &mut Option<Worker<'p, T>>,
+    seat: &mut Option<Worker<'p, T>>,
     w: u8,
     act: &Act,
 ) -> Result<WorldReply, AllocError>
     requires small { w ≤ 31 }
-    requires place { IsPlace book.old w place.old }
-    ensures turned { IfOk result (λ r. Turned (turn book.old place.old w act.now) r book.new place.new) }
+    requires seat { IsSeat book.old w seat.old }
+    ensures turned { IfOk result (λ r. Turned (turn book.old seat.old w act.now) r book.new seat.new) }
     ensures book { OnErr result (book.new ≡ book.old) }
-    ensures unchanged { OnErr result (place.new ≡ place.old) }
+    ensures unchanged { OnErr result (seat.new ≡ seat.old) }
 {
     match act {
-        Act::Step => step(place),
-        Act::Back => Ok(back(place)),
-        Act::Lease(id) => lease(alloc, book, place, w, *id, Wanted::Waiting),
-        Act::LeaseAny => lease_any(alloc, book, place, w),
-        Act::TakeHeld(id) => lease(alloc, book, place, w, *id, Wanted::Held),
-        Act::Post => post(book, place),
-        Act::Split { level, option } => split(book, place, w, *level, *option),
-        Act::Retract => retract(book, place, w),
-        Act::Park => end(book, place, Ending::Park),
-        Act::Abandon => end(book, place, Ending::Abandon),
-        Act::Close => end(book, place, Ending::Close),
+        Act::Step => step(seat),
+        Act::Back => Ok(back(seat)),
+        Act::Lease(id) => lease(alloc, book, seat, w, *id, Wanted::Waiting),
+        Act::LeaseAny => lease_any(alloc, book, seat, w),
+        Act::TakeHeld(id) => lease(alloc, book, seat, w, *id, Wanted::Held),
+        Act::Post => post(book, seat),
+        Act::Split { level, option } => split(book, seat, w, *level, *option),
+        Act::Retract => retract(book, seat, w),
+        Act::Park => end(book, seat, Ending::Park),
+        Act::Abandon => end(book, seat, Ending::Abandon),
+        Act::Close => end(book, seat, Ending::Close),
         Act::PutBack { id, state } => put_back(book, w, *id, state),
         Act::RequestStop(id) => request_stop(book, w, *id),
     }

@@ -3,7 +3,7 @@ ghost use Rattle.std.specs.Prelude.{◌≡◌, ◌≤◌, ◌<◌, ℕ, All, Non
 ghost use Rattle.x_steps.specs.StateView.{state_value};
 ghost use Rattle.x_steps.specs.StateValue.{start};
 ghost use Rattle.lab_book.specs.Book.{opened, leased_in};
-ghost use Rattle.lab_world.specs.World.{WorldValue, world_step, played, world_replies, worker_at, fresh, IsPlace, state_of};
+ghost use Rattle.lab_world.specs.World.{WorldValue, world_step, played, world_replies, worker_at, fresh, IsSeat, state_of};
 
 use crate::event::{WorldEvent, WorldReply};
 use crate::turn::act;
@@ -42,13 +42,13 @@ fn without_tiles<'p, T: Table>(
     alloc: Global,
     workers: u8,
 ) -> Result<Vec<Option<Worker<'p, T>>>, AllocError>
-    ensures { IfOk result (λ places. places.items ≡ replicate workers None) }
+    ensures { IfOk result (λ seats. seats.items ≡ replicate workers None) }
 {
-    let mut places = Vec::with_capacity(alloc, workers as usize)?;
+    let mut seats = Vec::with_capacity(alloc, workers as usize)?;
     for made in 0..workers {
-        places.push_reserved(None);
+        seats.push_reserved(None);
     }
-    Ok(places)
+    Ok(seats)
 }
 
 impl<'p, T: Table> World<'p, T> {
@@ -80,7 +80,7 @@ impl<'p, T: Table> World<'p, T> {
     /// The book. Each worker that has a lease holds a tile of it: its runner searches that tile's branch, from the tile's mark on.
     pub fn book(&self) -> &Book<'p>
         ensures book { result.now ≡ self.now.book }
-        ensures holds { (w : ℕ) → w < length self.now.workers → IsPlace self.now.book w (worker_at self.now.workers w) }
+        ensures holds { (w : ℕ) → w < length self.now.workers → IsSeat self.now.book w (worker_at self.now.workers w) }
     {
         &self.book
     }

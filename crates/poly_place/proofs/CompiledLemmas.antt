@@ -1,6 +1,7 @@
 -- Where it is within the limits, the problem that stands for a puzzle is one.
 use Rattle.std.proofs.Common.{◌≡◌, ℕ, ◌+◌, ◌<◌, ◌≤◌, List, [], ◌∷◌, ◌++◌, map, length, Bool, true, false, not, ◌&&◌, nat_lt, nat_le, ◌==◌, inl, inr, refl, sym, ap, ap₂, subst, ◌∙◌, arith, bytes_eq, sum_by, Result, Ok}
 use Rattle.std.specs.List.{list_any, list_all}
+use Rattle.std.specs.Cmp.{both_ways as same_tests}
 use Rattle.std.specs.Cmp.Lexicographic.{bytes_decides}
 use Rattle.std.proofs.lemmas.Bool.{and_parts, and_from, or_left, leb-true, le-leb, lt-ltb, cases_Bool, not_from_false, agree_below_at, both_ways, not-true, false_from_ne_true, true_from_ne_false}
 use Rattle.std.proofs.lemmas.Bool.Decides.{nat_tests}
@@ -10,7 +11,7 @@ use Rattle.poly_cells.specs.Coordinates.{Coordinates, IsInGrid}
 use Rattle.poly_cells.specs.Sets.{IsIn}
 use Rattle.poly_cells.proofs.CoordinateLemmas.{coordinates_total, same_coordinates}
 use Rattle.poly_cells.proofs.SetLemmas.{in_append_cases, in_from_map}
-use Rattle.poly_cells.proofs.CellTestLemmas.{in_from_has, has_from_in, same_tests}
+use Rattle.poly_cells.proofs.CellTestLemmas.{in_from_has, has_from_in}
 use Rattle.poly_cells.specs.CellTests.{has_cell}
 use Rattle.poly_cells.specs.CellWords.{symbol, cell_word}
 use Rattle.poly_texts.specs.Words as words

@@ -3,8 +3,7 @@ use Rattle.std.proofs.Common.{◌≡◌, ℕ, ◌+◌, ◌==◌, List, [], ◌�
 use Rattle.poly_cells.specs.Sets.{IsIn}
 use Rattle.poly_cells.proofs.SetLemmas.{in_map}
 use Rattle.poly_place.specs.Forms.{place_in, first_form}
-use Rattle.poly_cells.proofs.CellTestLemmas.{same_tests}
-use Rattle.std.specs.Cmp.{nat_eq_equiv}
+use Rattle.std.specs.Cmp.{nat_eq_equiv, both_ways as same_tests}
 use Rattle.poly_cells.proofs.MemberLemmas.{same_at, same_map, first_at, first_within}
 use mathlib.Core.List.{map-map}
 use Rattle.std.proofs.lemmas.List.Sums.{passes_at_first}

@@ -26,3 +26,4 @@ pub mod ClassLemmas
 pub mod ClassCountLemmas
 pub mod LoopLemmas
 pub mod ClassExamples
+pub mod DominoExamples

@@ -20,8 +20,7 @@ use Rattle.poly_cells.proofs.MemberLemmas.{in_flat_map, in_from_flat_map, in_fro
 use Rattle.poly_place.proofs.PlacementLemmas.{sound, complete, placements_rise}
 use Rattle.poly_place.proofs.DistinctLemmas.{IsDistinct, distinct_append, distinct_filter, distinct_map, distinct_rising, distinct_names, at_of_in, distinct_at}
 use Rattle.poly_place.proofs.ThingLemmas.{item_same, item_positive, item_needed, needed_in, needed_piece, needed_cell, needed_cases, needed_at, parts_in, has_item, thing_of_item}
-use Rattle.poly_cells.proofs.CellTestLemmas.{same_tests}
-use Rattle.std.specs.Cmp.{Equal-is}
+use Rattle.std.specs.Cmp.{Equal-is, both_ways as same_tests}
 
 -- ---- the pieces and the region are shapes
 

@@ -42,7 +42,8 @@ carries n p q =
     is_eq (cells_cmp (turned n p.region) (normal p.region))
     && (agree (has_cell p.maybe_cells) (λ v. has_cell q.maybe_cells (image_in p.region n v)) p.region
     && (agree (is_empty p.placements) (λ v. is_empty q.placements (image_in p.region n v)) p.region
-    && list_all (λ v. agree (same_part p.placements v) (λ w. same_part q.placements (image_in p.region n v) (image_in p.region n w)) p.region) p.region))
+    && list_all (λ v. agree (same_part p.placements v) (λ w. same_part q.placements (image_in p.region n v) (image_in p.region n w))
+    p.region) p.region))
 
 -- whether a symmetry of the group carries one packing onto the other
 unfoldable pub are_alike : Group → PackingValue → PackingValue → Bool

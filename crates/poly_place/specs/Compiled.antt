@@ -5,7 +5,7 @@ use Rattle.poly_cells.specs.Sets.{IsIn}
 use Rattle.poly_texts.specs.Puzzle.{PuzzleValue, names_of}
 use Rattle.cover_problem.specs.declared.limits.TheConstants.{MOST_OPTIONS, MOST_ENTRIES}
 use Rattle.poly_place.specs.Packings.{ChoiceValue, is_needed, must_fill, a_cell, item_of}
-use Rattle.poly_place.specs.Tables.{bit_index}
+use Rattle.poly_place.specs.Tables.{grid_cells, bit_index}
 
 -- ---- items
 
@@ -28,7 +28,7 @@ numbered numbers k (v ∷ vs) = numbered (slice_set numbers (bit_index v) k) (k 
 
 -- the table has the number of the item of each cell of the region
 pub record AreNumbers (p : PuzzleValue) (numbers : List ℕ) : Type 0 where
-  pub long : length numbers ≡ 32768
+  pub long : length numbers ≡ grid_cells
   pub same : (v : Coordinates) → IsIn v p.region → number_at numbers v ≡ item_of p (a_cell v)
 
 -- ---- options

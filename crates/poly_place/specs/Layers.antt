@@ -11,7 +11,7 @@ use Rattle.poly_cells.specs.Shapes.{corner}
 use Rattle.poly_cells.specs.CellTests.{has_cell}
 use Rattle.poly_place.specs.Packings.{ChoiceValue}
 use Rattle.poly_place.specs.Chosen.{PackingValue}
-use Rattle.poly_place.specs.Tables.{bit_index}
+use Rattle.poly_place.specs.Tables.{grid_cells, bit_index}
 
 -- the greatest of a coordinate, and 0 where there is no cell
 abbrev pub greatest : (Coordinates → ℕ) → List Coordinates → ℕ
@@ -58,7 +58,7 @@ layers q = text_of (layer_lines (symbol_at q) (corner q.region) (far_corner q.re
 
 -- the table shows each cell by its symbol, which is an ASCII byte
 pub record AreSymbols (symbol : Coordinates → ℕ) (table : List ℕ) : Type 0 where
-  pub long : length table ≡ 32768
+  pub long : length table ≡ grid_cells
   pub shows : (v : Coordinates) → IsInGrid v → slice_index table (bit_index v) ≡ symbol v
   pub ascii : (i : ℕ) → slice_index table i < 128
 

@@ -108,7 +108,11 @@ thing_name (a_cell v) = cell_word v
 
 -- the problem that stands for the puzzle
 unfoldable pub packing_problem : PuzzleValue → ProblemValue
-packing_problem p = record { names = map thing_name (things p); primary = length (needed_things p); options = map (option_of p) (choices p) }
+packing_problem p = record {
+  names = map thing_name (things p);
+  primary = length (needed_things p);
+  options = map (option_of p) (choices p);
+}
 
 -- ---- packings and exact covers
 
@@ -123,12 +127,16 @@ pub record StandsFor (p : PuzzleValue) (set : ℕ → Bool) (chosen : ChoiceValu
 
 -- packings and exact covers are the same, one for one
 pub record ArePackings (p : PuzzleValue) : Type 0 where
-  pub packs : (set : ℕ → Bool) (chosen : ChoiceValue → Bool) → StandsFor p set chosen → IsExactCover (packing_problem p) set → IsPacking p chosen
-  pub covers : (set : ℕ → Bool) (chosen : ChoiceValue → Bool) → StandsFor p set chosen → IsPacking p chosen → IsExactCover (packing_problem p) set
+  pub packs : (set : ℕ → Bool) (chosen : ChoiceValue → Bool) → StandsFor p set chosen → IsExactCover (packing_problem p) set
+      → IsPacking p chosen
+  pub covers : (set : ℕ → Bool) (chosen : ChoiceValue → Bool) → StandsFor p set chosen → IsPacking p chosen
+      → IsExactCover (packing_problem p) set
   pub some_packing : (set : ℕ → Bool) → IsExactCover (packing_problem p) set → (chosen : ChoiceValue → Bool) × StandsFor p set chosen
   pub some_cover : (chosen : ChoiceValue → Bool) → IsPacking p chosen → (set : ℕ → Bool) × StandsFor p set chosen
-  pub one_packing : (set : ℕ → Bool) (chosen other : ChoiceValue → Bool) → StandsFor p set chosen → StandsFor p set other → (c : ChoiceValue) → chosen c ≡ other c
-  pub one_cover : (set other : ℕ → Bool) (chosen : ChoiceValue → Bool) → StandsFor p set chosen → StandsFor p other chosen → (o : ℕ) → set o ≡ other o
+  pub one_packing : (set : ℕ → Bool) (chosen other : ChoiceValue → Bool) → StandsFor p set chosen → StandsFor p set other
+      → (c : ChoiceValue) → chosen c ≡ other c
+  pub one_cover : (set other : ℕ → Bool) (chosen : ChoiceValue → Bool) → StandsFor p set chosen → StandsFor p other chosen
+      → (o : ℕ) → set o ≡ other o
 
 -- so it is for each puzzle
 abbrev pub CoversArePackings : Type 0

@@ -31,7 +31,8 @@ pub record IsPlacement (piece region set : List Coordinates) : Type 0 where
 pub record ArePlacements (piece region : List Coordinates) (sets : List (List Coordinates)) : Type 0 where
   pub rises : IsStrictlySortedBy cells_cmp sets
   pub sound : (set : List Coordinates) → IsIn set sets → IsStrictlySortedBy coordinates_cmp set × IsPlacement piece region set
-  pub complete : (set : List Coordinates) → IsStrictlySortedBy coordinates_cmp set → 0 < length set → IsPlacement piece region set → IsIn set sets
+  pub complete : (set : List Coordinates) → IsStrictlySortedBy coordinates_cmp set → 0 < length set → IsPlacement piece region set
+      → IsIn set sets
 
 -- ---- the list of the placements
 

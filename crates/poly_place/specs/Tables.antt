@@ -3,6 +3,10 @@ use Rattle.std.specs.Prelude.{◌≡◌, ℕ, ◌+◌, ◌*◌, Bool, false, ◌
 use Rattle.poly_cells.specs.Coordinates.{Coordinates}
 use Rattle.poly_cells.specs.CellTests.{has_cell}
 
+-- how many cells there are within the limits: 32 for each coordinate
+abbrev pub grid_cells : ℕ
+grid_cells = 32768
+
 -- the place of a cell's bit
 abbrev pub bit_index : Coordinates → ℕ
 bit_index c = 1024 * c.x + 32 * c.y + c.z
@@ -13,5 +17,5 @@ has_bit bits c = nat_le c.x 31 && (nat_le c.y 31 && (nat_le c.z 31 && slice_inde
 
 -- the table has exactly the cells of the region
 pub record IsTable (region : List Coordinates) (bits : List Bool) : Type 0 where
-  pub long : length bits ≡ 32768
+  pub long : length bits ≡ grid_cells
   pub same : (c : Coordinates) → has_bit bits c ≡ has_cell region c

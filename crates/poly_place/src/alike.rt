@@ -36,7 +36,7 @@ pub fn classes(alloc: Global, packings: &[Packing<'_>], group: Group) -> Result<
     Ok(keys.len() as u64)
 }
 
-// The carriers of the symmetries that count.
+/// The carriers of the symmetries that count.
 fn carriers(
     alloc: Global,
     region: &Shape,
@@ -60,7 +60,7 @@ fn carriers(
     Ok(carriers)
 }
 
-// Whether the group has the symmetry.
+/// Whether the group has the symmetry.
 fn is_member(group: Group, symmetry: Symmetry) -> bool
     ensures { result ≡ is_member group symmetry }
 {

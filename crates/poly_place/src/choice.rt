@@ -3,7 +3,7 @@ ghost use Rattle.std.specs.Prelude.{◌≡◌, ◌||◌, ◌++◌, IfOk, OnOk, l
 ghost use Rattle.std.specs.List.{list_any};
 ghost use Rattle.poly_cells.specs.Sets.{IsIn};
 ghost use Rattle.poly_texts.specs.Puzzle.{IsPuzzle, names_of};
-ghost use Rattle.poly_place.specs.Tables.{IsTable, has_bit};
+ghost use Rattle.poly_place.specs.Tables.{IsTable, grid_cells, has_bit};
 ghost use Rattle.poly_place.specs.Packings.{choices, choices_of};
 ghost use Rattle.poly_place.specs.Compiled.{filled_cells, needed_names};
 
@@ -82,17 +82,17 @@ pub fn add_choices(
     Ok(())
 }
 
-// Whether the piece is required, or one of the cells is in the table.
+/// Whether the piece is required, or one of the cells is in the table.
 fn is_useful(is_needed: bool, filled: &[bool], cells: &[Cell]) -> bool
-    requires { length filled.now ≡ 32768 }
+    requires { length filled.now ≡ grid_cells }
     ensures { result ≡ (is_needed || list_any (has_bit filled.now) cells.now) }
 {
     is_needed || meets(filled, cells)
 }
 
-// Whether one of the cells is in the table.
+/// Whether one of the cells is in the table.
 fn meets(bits: &[bool], cells: &[Cell]) -> bool
-    requires { length bits.now ≡ 32768 }
+    requires { length bits.now ≡ grid_cells }
     ensures { result ≡ list_any (has_bit bits.now) cells.now }
 {
     cells

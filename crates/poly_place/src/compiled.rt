@@ -5,6 +5,7 @@ ghost use Rattle.poly_texts.specs.Puzzle.{IsPuzzle};
 ghost use Rattle.cover_problem.specs.Problem.{is_small};
 ghost use Rattle.poly_place.specs.Packings.{choices, packing_problem, needed_things, option_of, thing_name, things};
 ghost use Rattle.poly_place.specs.Compiled.{AreNumbers, filled_cells, needed_names, option_by};
+ghost use Rattle.poly_place.specs.Tables.{grid_cells};
 
 use crate::choice::{Choice, all_choices};
 use crate::fault::PlaceFault;
@@ -117,7 +118,7 @@ pub fn compile<'p>(alloc: Global, puzzle: &'p Puzzle) -> Result<Compiled<'p>, Pl
     })
 }
 
-// The problem of a puzzle with these required pieces and cells, and these choices.
+/// The problem of a puzzle with these required pieces and cells, and these choices.
 fn problem_of(
     alloc: Global,
     puzzle: &Puzzle,
@@ -145,7 +146,7 @@ fn problem_of(
     }
 }
 
-// The names of the items, in order.
+/// The names of the items, in order.
 fn item_names(
     alloc: Global,
     puzzle: &Puzzle,
@@ -164,7 +165,7 @@ fn item_names(
     Ok(names)
 }
 
-// The options of these choices.
+/// The options of these choices.
 fn all_options(
     alloc: Global,
     puzzle: &Puzzle,
@@ -188,14 +189,14 @@ fn all_options(
     Ok(options)
 }
 
-// The piece's item, and then the items of its cells.
+/// The piece's item, and then the items of its cells.
 fn option_of(
     alloc: Global,
     item: u32,
     numbers: &[u32],
     cells: &[Cell],
 ) -> Result<Vec<u32>, AllocError>
-    requires { length numbers.now ≡ 32768 }
+    requires { length numbers.now ≡ grid_cells }
     ensures { IfOk result (λ option. option.items ≡ option_by numbers.now item cells.now) }
 {
     let mut option = Vec::with_capacity(alloc, cells.len() + 1)?;

@@ -27,7 +27,7 @@ pub fn all_keys(
     Ok(keys)
 }
 
-// The part of each cell of the region.
+/// The part of each cell of the region.
 fn parts_in(alloc: Global, region: &[Cell], placements: &[Choice]) -> Result<Vec<usize>, AllocError>
     ensures { IfOk result (λ parts. parts.items ≡ parts_in region.now placements.now) }
 {
@@ -38,7 +38,7 @@ fn parts_in(alloc: Global, region: &[Cell], placements: &[Choice]) -> Result<Vec
     Ok(parts)
 }
 
-// Which placement has the cell: how many are left from it on, and 0 where none has it.
+/// Which placement has the cell: how many are left from it on, and 0 where none has it.
 fn part_at(placements: &[Choice], cell: Cell) -> usize
     ensures { result ≡ part_at placements.now cell }
 {
@@ -52,7 +52,7 @@ fn part_at(placements: &[Choice], cell: Cell) -> usize
     0
 }
 
-// The least of the forms of these parts, carried in each way.
+/// The least of the forms of these parts, carried in each way.
 fn least_form(
     alloc: Global,
     parts: &[usize],
@@ -72,7 +72,7 @@ fn least_form(
     Ok(best)
 }
 
-// The numbers at these places.
+/// The numbers at these places.
 fn carried(alloc: Global, numbers: &[usize], places: &[usize]) -> Result<Vec<usize>, AllocError>
     requires { (k : ℕ) → IsIn k places.now → k < length numbers.now }
     ensures { IfOk result (λ there. there.items ≡ carried numbers.now places.now) }
@@ -84,7 +84,7 @@ fn carried(alloc: Global, numbers: &[usize], places: &[usize]) -> Result<Vec<usi
     Ok(there)
 }
 
-// For each number where it stands first, from 1 on, and 0 for 0.
+/// For each number where it stands first, from 1 on, and 0 for 0.
 fn first_form(alloc: Global, numbers: &[usize]) -> Result<Vec<usize>, AllocError>
     ensures { IfOk result (λ form. form.items ≡ first_form numbers.now) }
 {
@@ -95,7 +95,7 @@ fn first_form(alloc: Global, numbers: &[usize]) -> Result<Vec<usize>, AllocError
     Ok(form)
 }
 
-// Where the number stands first, from 1 on, and 0 for 0.
+/// Where the number stands first, from 1 on, and 0 for 0.
 fn form_at(numbers: &[usize], number: usize) -> usize
     ensures { result ≡ place_in (0 ∷ numbers.now) number }
 {
@@ -105,7 +105,7 @@ fn form_at(numbers: &[usize], number: usize) -> usize
     1 + place_in(numbers, number)
 }
 
-// How many of the numbers come before this one.
+/// How many of the numbers come before this one.
 fn place_in(numbers: &[usize], number: usize) -> usize
     ensures value { result ≡ place_in numbers.now number }
     ensures limit { result ≤ length numbers.now }

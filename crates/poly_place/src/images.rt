@@ -53,7 +53,7 @@ pub fn images_in(
     all_led(alloc, turned.as_slice(), lowest, corner)
 }
 
-// The cells turned.
+/// The cells turned.
 fn all_turned(alloc: Global, cells: &[Cell], symmetry: Symmetry) -> Result<Vec<Cell>, AllocError>
     ensures { IfOk result (λ turned. turned.items ≡ map (turn symmetry) cells.now) }
 {
@@ -64,7 +64,7 @@ fn all_turned(alloc: Global, cells: &[Cell], symmetry: Symmetry) -> Result<Vec<C
     Ok(turned)
 }
 
-// The cells, each moved from `back` to `to`.
+/// The cells, each moved from `back` to `to`.
 fn all_led(alloc: Global, cells: &[Cell], back: Cell, to: Cell) -> Result<Vec<Cell>, AllocError>
     requires { (v : Coordinates) → IsIn v cells.now → IsInGrid (moved to (moved_back back v)) }
     ensures { IfOk result (λ led. led.items ≡ map (λ v. moved to (moved_back back v)) cells.now) }
@@ -89,7 +89,7 @@ pub fn places_of(alloc: Global, region: &[Cell], cells: &[Cell]) -> Result<Vec<u
     Ok(places)
 }
 
-// How many of the cells come before this one.
+/// How many of the cells come before this one.
 fn place_of(cells: &[Cell], cell: Cell) -> usize
     ensures { result ≡ place_of cells.now cell }
 {

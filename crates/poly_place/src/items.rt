@@ -5,16 +5,15 @@ ghost use Rattle.poly_cells.specs.CellWords.{cell_word};
 ghost use Rattle.poly_cells.specs.CellWords as grammar;
 ghost use Rattle.poly_cells.specs.Sets.{IsIn};
 ghost use Rattle.poly_texts.specs.Puzzle.{IsPuzzle, names_of};
+ghost use Rattle.cover_problem.specs.Limits.{most_items};
 ghost use Rattle.poly_place.specs.Packings.{a_piece, item_of, needed_things, index_among};
 ghost use Rattle.poly_place.specs.Compiled.{AreNumbers, filled_cells, needed_names, numbered};
+ghost use Rattle.poly_place.specs.Tables.{grid_cells};
 
-use crate::table::{bit_index, has_bit, table_of};
+use crate::table::{GRID_CELLS, bit_index, has_bit, table_of};
 use poly_cells::Cell;
 use poly_texts::{PieceName, Puzzle};
 use std::alloc::{AllocError, Global};
-
-// How many cells there are within the limits.
-const CELLS: usize = 32_768;
 
 /// The pieces that may not be left out, in the order of the puzzle.
 pub fn needed_pieces(alloc: Global, puzzle: &Puzzle) -> Result<Vec<PieceName>, AllocError>
@@ -62,23 +61,23 @@ pub fn cell_numbers(
 {
     let first = pieces.len();
     let second = first + cells.len() + puzzle.maybe_pieces().len();
-    let mut numbers = no_numbers(alloc, CELLS)?;
+    let mut numbers = no_numbers(alloc, GRID_CELLS)?;
     number_cells(&mut numbers, cells, first as u32);
     number_cells(&mut numbers, puzzle.maybe_cells(), second as u32);
     Ok(numbers)
 }
 
-// A table without numbers.
+/// A table without numbers.
 fn no_numbers(alloc: Global, count: usize) -> Result<Vec<u32>, AllocError>
     ensures { IfOk result (λ numbers. length numbers.items ≡ count) }
 {
     vec![in alloc; 0u32; count]
 }
 
-// Numbers these cells from the number after `last` on.
+/// Numbers these cells from the number after `last` on.
 fn number_cells(numbers: &mut [u32], cells: &[Cell], last: u32)
-    requires long { length numbers.old ≡ 32768 }
-    requires room { last + length cells.now ≤ 65535 }
+    requires long { length numbers.old ≡ grid_cells }
+    requires room { last + length cells.now ≤ most_items }
     ensures { numbers.new ≡ numbered numbers.old (last + 1) cells.now }
 {
     let mut number = last;
@@ -104,7 +103,7 @@ pub fn piece_number(puzzle: &Puzzle, needed: &[PieceName], primary: u32, name: P
     }
 }
 
-// How many come before the name.
+/// How many come before the name.
 fn index_among(names: &[PieceName], name: PieceName) -> usize
     ensures value { result ≡ index_among (a_piece name) (map a_piece names.now) }
     ensures limit { result ≤ length names.now }
@@ -154,7 +153,7 @@ pub fn add_cell_names(
     Ok(())
 }
 
-// One of `0-9a-v`, for 0 to 31.
+/// One of `0-9a-v`, for 0 to 31.
 fn symbol(coordinate: u8) -> char
     requires { coordinate ≤ 31 }
     ensures { result ≡ grammar.symbol coordinate }

@@ -5,14 +5,12 @@ ghost use Rattle.text_lines.specs.Writing.{line_text, text_of};
 ghost use Rattle.poly_cells.specs.Coordinates.{Coordinates};
 ghost use Rattle.poly_cells.specs.Shapes.{corner};
 ghost use Rattle.poly_place.specs.Layers.{AreSymbols, far_corner, layer_lines, layer_words, layers, painted, row, symbol_at};
+ghost use Rattle.poly_place.specs.Tables.{grid_cells};
 
 use crate::packing::Packing;
-use crate::table::bit_index;
+use crate::table::{GRID_CELLS, bit_index};
 use poly_cells::{Cell, corner_of};
 use std::alloc::{AllocError, Global};
-
-// How many cells there are within the limits.
-const CELLS: usize = 32_768;
 
 // The greatest coordinate of a cell.
 const LAST: u8 = 31;
@@ -35,9 +33,9 @@ pub fn layers(alloc: Global, packing: &Packing<'_>) -> Result<String, AllocError
     Ok(text)
 }
 
-// Adds the lines of the box from one corner to the other.
+/// Adds the lines of the box from one corner to the other.
 fn push_lines(text: &mut String, symbols: &[u8], low: Cell, high: Cell) -> Result<(), AllocError>
-    requires long { length symbols.now ≡ 32768 }
+    requires long { length symbols.now ≡ grid_cells }
     requires ascii { (i : ℕ) → slice_index symbols.now i < 128 }
     ensures { (f : Coordinates → ℕ) → AreSymbols f symbols.now →
         OnOk result (string_bytes text.new ≡ string_bytes text.old ++ text_of (layer_lines f low high)) }
@@ -48,7 +46,7 @@ fn push_lines(text: &mut String, symbols: &[u8], low: Cell, high: Cell) -> Resul
     Ok(())
 }
 
-// Adds the line for y.
+/// Adds the line for y.
 fn push_line(
     text: &mut String,
     symbols: &[u8],
@@ -56,7 +54,7 @@ fn push_line(
     high: Cell,
     y: u8,
 ) -> Result<(), AllocError>
-    requires long { length symbols.now ≡ 32768 }
+    requires long { length symbols.now ≡ grid_cells }
     requires within { y ≤ 31 }
     requires ascii { (i : ℕ) → slice_index symbols.now i < 128 }
     ensures { (f : Coordinates → ℕ) → AreSymbols f symbols.now →
@@ -69,7 +67,7 @@ fn push_line(
     push_symbol(text, b'\n')
 }
 
-// Adds the symbols of the cells with this y and z.
+/// Adds the symbols of the cells with this y and z.
 fn push_row(
     text: &mut String,
     symbols: &[u8],
@@ -78,7 +76,7 @@ fn push_row(
     y: u8,
     z: u8,
 ) -> Result<(), AllocError>
-    requires long { length symbols.now ≡ 32768 }
+    requires long { length symbols.now ≡ grid_cells }
     requires y_within { y ≤ 31 }
     requires z_within { z ≤ 31 }
     requires ascii { (i : ℕ) → slice_index symbols.now i < 128 }
@@ -91,7 +89,7 @@ fn push_row(
     Ok(())
 }
 
-// Adds a space, where a word stands before.
+/// Adds a space, where a word stands before.
 fn push_gap(text: &mut String, is_later: bool) -> Result<(), AllocError>
     ensures { OnOk result (string_bytes text.new ≡
         (if is_later then string_bytes text.old ++ 32 ∷ [] else string_bytes text.old)) }
@@ -102,7 +100,7 @@ fn push_gap(text: &mut String, is_later: bool) -> Result<(), AllocError>
     Ok(())
 }
 
-// Adds an ASCII byte.
+/// Adds an ASCII byte.
 fn push_symbol(text: &mut String, symbol: u8) -> Result<(), AllocError>
     requires { symbol < 128 }
     ensures { OnOk result (string_bytes text.new ≡ string_bytes text.old ++ symbol ∷ []) }
@@ -110,11 +108,11 @@ fn push_symbol(text: &mut String, symbol: u8) -> Result<(), AllocError>
     text.push(symbol as char)
 }
 
-// What shows each cell.
+/// What shows each cell.
 fn symbols_of(alloc: Global, packing: &Packing<'_>) -> Result<Vec<u8>, AllocError>
     ensures { IfOk result (λ symbols. AreSymbols (symbol_at packing.now) symbols.items) }
 {
-    let mut symbols = blank(alloc, CELLS)?;
+    let mut symbols = blank(alloc, GRID_CELLS)?;
     paint(&mut symbols, packing.region().cells(), b'_');
     let placements = packing.placements();
     for k in 0..placements.len() {
@@ -124,16 +122,16 @@ fn symbols_of(alloc: Global, packing: &Packing<'_>) -> Result<Vec<u8>, AllocErro
     Ok(symbols)
 }
 
-// So many points.
+/// So many points.
 fn blank(alloc: Global, count: usize) -> Result<Vec<u8>, AllocError>
     ensures { IfOk result (λ symbols. symbols.items ≡ replicate count 46) }
 {
     vec![in alloc; b'.'; count]
 }
 
-// Shows these cells by one symbol.
+/// Shows these cells by one symbol.
 fn paint(symbols: &mut [u8], cells: &[Cell], symbol: u8)
-    requires long { length symbols.old ≡ 32768 }
+    requires long { length symbols.old ≡ grid_cells }
     requires ascii { symbol < 128 }
     ensures { (f : Coordinates → ℕ) → AreSymbols f symbols.old → AreSymbols (painted f cells.now symbol) symbols.new }
 {
@@ -142,7 +140,7 @@ fn paint(symbols: &mut [u8], cells: &[Cell], symbol: u8)
     }
 }
 
-// The greatest x, the greatest y and the greatest z.
+/// The greatest x, the greatest y and the greatest z.
 fn far_corner(cells: &[Cell]) -> Cell
     ensures { result ≡ far_corner cells.now }
 {

@@ -76,7 +76,7 @@ pub fn packing_of<'p>(
     })
 }
 
-// The numbers in order, each once.
+/// The numbers in order, each once.
 fn in_order(alloc: Global, path: &[u32]) -> Result<Vec<u32>, AllocError>
     ensures { IfOk result (λ numbers. numbers.items ≡ in_order nat_cmp path.now) }
 {
@@ -86,7 +86,7 @@ fn in_order(alloc: Global, path: &[u32]) -> Result<Vec<u32>, AllocError>
     Ok(numbers)
 }
 
-// The choices with these numbers, from 1 on.
+/// The choices with these numbers, from 1 on.
 fn chosen(alloc: Global, choices: &[Choice], numbers: &[u32]) -> Result<Vec<Choice>, AllocError>
     requires { AreNumbered choices.now numbers.now }
     ensures { IfOk result (λ cs. cs.items ≡ map (choice_numbered choices.now) numbers.now) }

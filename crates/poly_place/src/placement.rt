@@ -4,7 +4,7 @@ ghost use Rattle.std.specs.List.{flat_map};
 ghost use Rattle.poly_place.specs.Placements.{ArePlacements, at_cell, at_cells, if_inside, orientations, placements};
 ghost use Rattle.poly_cells.specs.Symmetries.{rotations};
 ghost use Rattle.poly_cells.specs.Shapes.{moved};
-ghost use Rattle.poly_place.specs.Tables.{has_bit};
+ghost use Rattle.poly_place.specs.Tables.{grid_cells, has_bit};
 
 use crate::set::{all_inside, all_moved, is_below, moved_back, put_sets_in_order, shapes_of};
 use crate::table::table_of;
@@ -27,7 +27,7 @@ pub fn placements(alloc: Global, piece: &Shape, region: &Shape) -> Result<Vec<Sh
     shapes_of(alloc, sets)
 }
 
-// The turned forms of the piece, in order, each once.
+/// The turned forms of the piece, in order, each once.
 fn orientations(alloc: Global, piece: &Shape) -> Result<Vec<Vec<Cell>>, AllocError>
     ensures { IfOk result (λ turns. map vec_items turns.items ≡ orientations piece.now) }
 {
@@ -40,7 +40,7 @@ fn orientations(alloc: Global, piece: &Shape) -> Result<Vec<Vec<Cell>>, AllocErr
     Ok(turns)
 }
 
-// The rotation numbered `r`, among the symmetries.
+/// The rotation numbered `r`, among the symmetries.
 fn turn(r: u8) -> Symmetry
     requires { r < 24 }
     ensures { result ≡ slice_index rotations r }
@@ -48,14 +48,14 @@ fn turn(r: u8) -> Symmetry
     Rotation::new(r).symmetry()
 }
 
-// Each of the turned forms with its first cell at each of the cells, where it is then inside.
+/// Each of the turned forms with its first cell at each of the cells, where it is then inside.
 fn all_sets(
     alloc: Global,
     bits: &[bool],
     cells: &[Cell],
     turns: &[Vec<Cell>],
 ) -> Result<Vec<Vec<Cell>>, AllocError>
-    requires { length bits.now ≡ 32768 }
+    requires { length bits.now ≡ grid_cells }
     ensures { IfOk result (λ sets. map vec_items sets.items ≡
         flat_map (at_cells (has_bit bits.now) cells.now) (map vec_items turns.now)) }
 {
@@ -66,7 +66,7 @@ fn all_sets(
     Ok(sets)
 }
 
-// Adds the piece with its first cell at each of the cells, where it is then inside.
+/// Adds the piece with its first cell at each of the cells, where it is then inside.
 fn add_at_cells(
     alloc: Global,
     sets: &mut Vec<Vec<Cell>>,
@@ -74,7 +74,7 @@ fn add_at_cells(
     cells: &[Cell],
     piece: &[Cell],
 ) -> Result<(), AllocError>
-    requires { length bits.now ≡ 32768 }
+    requires { length bits.now ≡ grid_cells }
     ensures { OnOk result (map vec_items sets.new.items ≡ map vec_items sets.old.items
         ++ at_cells (has_bit bits.now) cells.now piece.now) }
 {
@@ -84,7 +84,7 @@ fn add_at_cells(
     Ok(())
 }
 
-// Adds the piece with its first cell at this cell, where it is then inside.
+/// Adds the piece with its first cell at this cell, where it is then inside.
 fn add_at_cell(
     alloc: Global,
     sets: &mut Vec<Vec<Cell>>,
@@ -92,7 +92,7 @@ fn add_at_cell(
     piece: &[Cell],
     cell: Cell,
 ) -> Result<(), AllocError>
-    requires { length bits.now ≡ 32768 }
+    requires { length bits.now ≡ grid_cells }
     ensures { OnOk result (map vec_items sets.new.items ≡ map vec_items sets.old.items
         ++ at_cell (has_bit bits.now) piece.now cell) }
 {
@@ -105,7 +105,7 @@ fn add_at_cell(
     Ok(())
 }
 
-// Adds the cells moved by the coordinates of `by`, where each is then inside.
+/// Adds the cells moved by the coordinates of `by`, where each is then inside.
 fn add_if_inside(
     alloc: Global,
     sets: &mut Vec<Vec<Cell>>,
@@ -113,7 +113,7 @@ fn add_if_inside(
     cells: &[Cell],
     by: Cell,
 ) -> Result<(), AllocError>
-    requires { length bits.now ≡ 32768 }
+    requires { length bits.now ≡ grid_cells }
     ensures { OnOk result (map vec_items sets.new.items ≡ map vec_items sets.old.items
         ++ if_inside (has_bit bits.now) (map (moved by) cells.now)) }
 {

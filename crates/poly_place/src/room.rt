@@ -39,7 +39,7 @@ pub fn has_room(
     Ok(true)
 }
 
-// The entries of a table with the options of these choices added; where that goes past the limit, some number past it.
+/// The entries of a table with the options of these choices added; where that goes past the limit, some number past it.
 fn entries_with(entries: usize, choices: &[Choice]) -> usize
     requires { entries ≤ MOST_ENTRIES }
     ensures exact { result ≤ MOST_ENTRIES → result ≡ entries + entries_of choices.now }

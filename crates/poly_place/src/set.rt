@@ -5,7 +5,7 @@ ghost use Rattle.poly_cells.specs.Coordinates.{Coordinates, IsInGrid, coordinate
 ghost use Rattle.poly_cells.specs.Sets.{IsIn, in_order};
 ghost use Rattle.poly_cells.specs.Shapes.{IsShape, moved, moved_back};
 ghost use Rattle.poly_place.specs.Placements.{cells_cmp, is_below};
-ghost use Rattle.poly_place.specs.Tables.{has_bit};
+ghost use Rattle.poly_place.specs.Tables.{grid_cells, has_bit};
 
 use crate::table::has_bit;
 use poly_cells::{Cell, Shape};
@@ -52,7 +52,7 @@ pub fn moved_back(by: Cell, cell: Cell) -> Cell
 
 /// Whether each of the cells, moved by the coordinates of `by`, is one of the table's.
 pub fn all_inside(bits: &[bool], cells: &[Cell], by: Cell) -> bool
-    requires { length bits.now ≡ 32768 }
+    requires { length bits.now ≡ grid_cells }
     ensures { result ≡ list_all (has_bit bits.now) (map (moved by) cells.now) }
 {
     for cell in cells {

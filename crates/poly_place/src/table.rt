@@ -2,7 +2,7 @@
 ghost use Rattle.std.specs.Prelude.{◌≡◌, ◌++◌, List, false, length, replicate, IfOk};
 ghost use Rattle.poly_cells.specs.Coordinates.{Coordinates, coordinates};
 ghost use Rattle.poly_cells.specs.Shapes.{AllInGrid};
-ghost use Rattle.poly_place.specs.Tables.{IsTable, bit_index, has_bit};
+ghost use Rattle.poly_place.specs.Tables.{IsTable, grid_cells, bit_index, has_bit};
 
 use poly_cells::Cell;
 use std::alloc::{AllocError, Global};
@@ -10,22 +10,22 @@ use std::alloc::{AllocError, Global};
 // The greatest coordinate of a cell.
 const LAST: u8 = 31;
 
-// How many cells there are within the limits.
-const CELLS: usize = 32_768;
+/// How many cells there are within the limits.
+pub const GRID_CELLS: usize = 32_768;
 
 /// The table of a region.
 pub fn table_of(alloc: Global, region: &[Cell]) -> Result<Vec<bool>, AllocError>
     requires { AllInGrid region.now }
     ensures { IfOk result (λ bits. IsTable region.now bits.items) }
 {
-    let mut bits = no_bits(alloc, CELLS)?;
+    let mut bits = no_bits(alloc, GRID_CELLS)?;
     set_bits(&mut bits, region);
     Ok(bits)
 }
 
 /// Whether the region has the cell with these coordinates, which may be above the limits.
 pub fn has_bit(bits: &[bool], x: u8, y: u8, z: u8) -> bool
-    requires { length bits.now ≡ 32768 }
+    requires { length bits.now ≡ grid_cells }
     ensures { result ≡ has_bit bits.now (coordinates x y z) }
 {
     x <= LAST && y <= LAST && z <= LAST && bits[bit_index(x, y, z)]
@@ -38,17 +38,17 @@ pub fn bit_index(x: u8, y: u8, z: u8) -> usize
     1024 * x as usize + 32 * y as usize + z as usize
 }
 
-// A table with no bit set.
+/// A table with no bit set.
 fn no_bits(alloc: Global, count: usize) -> Result<Vec<bool>, AllocError>
     ensures { IfOk result (λ bits. bits.items ≡ replicate count false) }
 {
     vec![in alloc; false; count]
 }
 
-// Sets the bits of these cells too.
+/// Sets the bits of these cells too.
 fn set_bits(bits: &mut [bool], cells: &[Cell])
     requires limits { AllInGrid cells.now }
-    requires long { length bits.old ≡ 32768 }
+    requires long { length bits.old ≡ grid_cells }
     ensures { (region : List Coordinates) → IsTable region bits.old → IsTable (region ++ cells.now) bits.new }
 {
     for cell in cells {

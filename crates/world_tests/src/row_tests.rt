@@ -59,7 +59,11 @@ fn holds(alloc: Global, world: &mut World<'_, PlainTable>, row: Row) -> Result<b
 }
 
 /// How many rows hold, up to the first that doesn't.
-fn held(alloc: Global, world: &mut World<'_, PlainTable>, rows: &[Row]) -> Result<usize, Fail> {
+fn count_holding(
+    alloc: Global,
+    world: &mut World<'_, PlainTable>,
+    rows: &[Row],
+) -> Result<usize, Fail> {
     for (place, row) in rows.iter().enumerate() {
         if !holds(alloc, world, *row)? {
             return Ok(place);
@@ -69,25 +73,29 @@ fn held(alloc: Global, world: &mut World<'_, PlainTable>, rows: &[Row]) -> Resul
 }
 
 /// How many rows hold, and what is posted then.
-fn seen(
+fn rows_and_tally(
     alloc: Global,
     world: &mut World<'_, PlainTable>,
     rows: &[Row],
 ) -> Result<(usize, Tally), Fail> {
-    let count = held(alloc, world, rows)?;
+    let count = count_holding(alloc, world, rows)?;
     Ok((count, tally_of(alloc, world.book())?))
 }
 
 /// The same in a new world with two workers.
-fn seen_anew(alloc: Global, problem: &Problem, rows: &[Row]) -> Result<(usize, Tally), Fail> {
+fn rows_and_tally_anew(
+    alloc: Global,
+    problem: &Problem,
+    rows: &[Row],
+) -> Result<(usize, Tally), Fail> {
     let mut world = World::new(alloc, problem, 2)?;
-    seen(alloc, &mut world, rows)
+    rows_and_tally(alloc, &mut world, rows)
 }
 
 /// The same of the small problem.
-fn shown(alloc: Global, rows: &[Row]) -> Result<(usize, Tally), Fail> {
+fn rows_and_tally_of_small(alloc: Global, rows: &[Row]) -> Result<(usize, Tally), Fail> {
     let problem = read_cover(alloc, SMALL.as_bytes())?;
-    seen_anew(alloc, &problem, rows)
+    rows_and_tally_anew(alloc, &problem, rows)
 }
 
 /// What was posted to a book: its visits with a 0 after each, how many X2 states at each level, each stretch
@@ -171,7 +179,7 @@ impl Tally {
 
 #[test]
 fn two_workers_share_the_run(rt: HostRuntime) -> Result<(), Fail> {
-    let (count, tally) = shown(rt.alloc(), &SHARED)?;
+    let (count, tally) = rows_and_tally_of_small(rt.alloc(), &SHARED)?;
     assert!(rt; count == 14 && tally.is_shared());
     Ok(())
 }
@@ -292,18 +300,18 @@ const STOPPED: [Row; 17] = [
 
 #[test]
 fn a_worker_without_a_tile_is_idle(rt: HostRuntime) -> Result<(), Fail> {
-    assert!(rt; shown(rt.alloc(), &WITHOUT)?.0 == 18);
+    assert!(rt; rows_and_tally_of_small(rt.alloc(), &WITHOUT)?.0 == 18);
     Ok(())
 }
 
 #[test]
 fn what_was_walked_is_taken_back(rt: HostRuntime) -> Result<(), Fail> {
-    assert!(rt; shown(rt.alloc(), &BACK)?.0 == 21);
+    assert!(rt; rows_and_tally_of_small(rt.alloc(), &BACK)?.0 == 21);
     Ok(())
 }
 
 #[test]
 fn a_tile_is_put_back_and_stopped(rt: HostRuntime) -> Result<(), Fail> {
-    assert!(rt; shown(rt.alloc(), &STOPPED)?.0 == 17);
+    assert!(rt; rows_and_tally_of_small(rt.alloc(), &STOPPED)?.0 == 17);
     Ok(())
 }

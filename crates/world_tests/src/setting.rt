@@ -78,7 +78,7 @@ fn have_workers(events: &[WorldEvent], workers: u8) -> bool
 }
 
 /// What was made, or that it was refused.
-fn made<V: Drop, F: Drop>(made: Result<V, F>) -> Result<V, Fail> {
+fn value_of<V: Drop, F: Drop>(made: Result<V, F>) -> Result<V, Fail> {
     match made {
         Ok(value) => Ok(value),
         Err(_) => Err(Fail::from("refused")),
@@ -93,7 +93,7 @@ pub fn play(
     if !have_workers(events, world.workers()) {
         return Err(Fail::from("no such worker"));
     }
-    made(world.play(events))
+    value_of(world.play(events))
 }
 
 /// Adds the paths, with a 0 after each.

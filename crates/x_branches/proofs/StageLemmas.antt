@@ -24,7 +24,7 @@ use Rattle.x_steps.proofs.OrderLemmas.{below_digits, fits_valid, digit_small}
 use Rattle.x_steps.proofs.RunLemmas.{rises_between, leads_to, rank_once}
 use Rattle.x_steps.proofs.BetweenLemmas.{steps_between_some}
 use Rattle.x_branches.specs.RunOrder.{ComesBefore}
-use Rattle.x_branches.specs.Stage.{MANY, IsShared, IsWithin, Shifts}
+use Rattle.x_branches.specs.Stage.{many, IsShared, IsWithin, Shifts}
 
 -- ---- the run's order is that of the ranks
 
@@ -115,13 +115,13 @@ choice_in p path n v h =
 
 -- ---- room for all numbers
 
-pub choice_shifts : (p : ProblemValue) (s : StateValue) (n o d : ℕ) → Fits p s → n < length s.path → get_or s.path n 0 ≡ o → d ≡ 4 * o + 2 → o < MANY → Shifts (length p.options) d (get_or (digits (length p.options) s.label s.path s.cursor) n 0)
+pub choice_shifts : (p : ProblemValue) (s : StateValue) (n o d : ℕ) → Fits p s → n < length s.path → get_or s.path n 0 ≡ o → d ≡ 4 * o + 2 → o < many → Shifts (length p.options) d (get_or (digits (length p.options) s.label s.path s.cursor) n 0)
 choice_shifts p s n o d f h e g l =
     let x = digit_in (length p.options) s.label s.path s.cursor n h in
     let t = choice_in p s.path n (fits_valid p s.label s.path s.cursor f) h in
     inl (omega arith, omega arith, omega (arith, t.within))
 
-own_shifts : (p : ProblemValue) (l : Label) (path : List ℕ) (k : Cursor) → FitsAt p l path k → IsWithin k → Shifts (length p.options) (digit_at MANY l k) (digit_at (length p.options) l k)
+own_shifts : (p : ProblemValue) (l : Label) (path : List ℕ) (k : Cursor) → FitsAt p l path k → IsWithin k → Shifts (length p.options) (digit_at many l k) (digit_at (length p.options) l k)
 own_shifts p X1 path cursor.None f w = inl (refl, omega arith, omega arith)
 own_shifts p X2 path cursor.None f w = inl (refl, omega arith, omega arith)
 own_shifts p X3 path cursor.None f w = inl (refl, omega arith, omega arith)
@@ -134,7 +134,7 @@ own_shifts p X8 path cursor.None f w = inr (omega arith, omega arith)
 own_shifts p Done path cursor.None f w = inr (omega arith, omega arith)
 own_shifts p _ path _ f w = absurd f
 
-pub end_shifts : (p : ProblemValue) (s : StateValue) (n d : ℕ) → Fits p s → n ≤ length s.path → length s.path ≤ n → d ≡ digit_at MANY s.label s.cursor → IsWithin s.cursor → Shifts (length p.options) d (get_or (digits (length p.options) s.label s.path s.cursor) n 0)
+pub end_shifts : (p : ProblemValue) (s : StateValue) (n d : ℕ) → Fits p s → n ≤ length s.path → length s.path ≤ n → d ≡ digit_at many s.label s.cursor → IsWithin s.cursor → Shifts (length p.options) d (get_or (digits (length p.options) s.label s.path s.cursor) n 0)
 end_shifts p s n d f a b e w =
     let x = digit_last (length p.options) s.label s.path s.cursor n (omega arith) in
     rw (e, x) (own_shifts p s.label s.path s.cursor f w)

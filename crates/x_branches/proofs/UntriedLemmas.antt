@@ -1,10 +1,10 @@
 -- What a runner finds on the covered list and on the list of the item that was chosen at a level.
-use Rattle.std.proofs.Common.{◌≡◌, ◌↔◌, ℕ, zero, suc, ◌+◌, ◌<◌, ◌≤◌, ◌⊎◌, Bool, true, false, cond, IsTrue, Some, None, All, List, [], ◌∷◌, ◌++◌, length, take, drop, filter, get_or, refl, sym, ap, ◌∙◌, subst, inl, inr, arith, append_assoc, append-nil, length-append}
-use Rattle.std.specs.Prelude.{nat_lt}
+use Rattle.std.proofs.Common.{◌≡◌, ◌↔◌, ℕ, zero, suc, ◌+◌, ◌<◌, ◌≤◌, ◌⊎◌, Bool, true, false, cond, IsTrue, Some, None, All, List, [], ◌∷◌, ◌++◌, length, take, drop, filter, get_or, refl, sym, ap, ◌∙◌, subst, inl, inr, arith, eqb-true, append_assoc, append-nil, length-append}
+use Rattle.std.specs.Prelude.{nat_lt, ◌==◌}
 use Rattle.std.specs.List.{slice_get}
 use Rattle.std.specs.Cmp.{both_ways}
 use Rattle.std.proofs.lemmas.Bool.{cases_lt}
-use Rattle.std.proofs.lemmas.List.{take_more, take-append-drop, drop_all}
+use Rattle.std.proofs.lemmas.List.{nil_from_length, take_more, take-append-drop, drop_all}
 use Rattle.std.proofs.lemmas.List.Elements.{All-from_get_or, filter_more}
 use Rattle.std.proofs.lemmas.Option.{slice_get-get_or}
 use Rattle.cover_problem.specs.Lists.{has}
@@ -164,6 +164,17 @@ left_some p s level xs e h = step (cases_lt level (length (choices s)))
     step : (level < length (choices s)) ⊎ (length (choices s) ≤ level) → level < length (choices s)
     step (inl l) = l
     step (inr l) = let d : xs ≡ [] = e ∙ ap (left_after p (take level (choices s))) (drop_all level (choices s) l) in absurd (h (ap (length {A = ℕ}) d))
+
+-- what a test for an empty list says of what is left
+pub left_unless : (p : ProblemValue) (s : StateValue) (level : ℕ) (xs : List ℕ) → xs ≡ left_above p level s → (empty : Bool) → empty ≡ (length xs == 0) → empty ≡ false → level < length (choices s)
+left_unless p s level [] e empty is not = absurd (cc)
+left_unless p s level (x ∷ xs) e empty is not = left_some p s level (x ∷ xs) e (λ none. absurd (cc))
+
+pub none_untried : (p : ProblemValue) (end s : StateValue) (level : ℕ) (xs : List ℕ) → xs ≡ left_above p level s → (empty : Bool) → empty ≡ (length xs == 0) → empty ≡ true → untried p end level s ≡ []
+none_untried p end s level xs e empty is holds =
+    let nothing : xs ≡ [] = nil_from_length xs (eqb-true (length xs) 0 (sym is ∙ holds)) in
+    let u = untried_left p end s level in
+    sym (rw (← e, nothing) at u)
 
 -- the test of a cut
 pub cut_tested : (p : ProblemValue) (end : StateValue) (q : List ℕ) (o : ℕ) (test : Bool) → Fits p (at X5 q (At o)) → Fits p end → IsTrue test ↔ ComesBefore p (at X5 q (At o)) end → test ≡ is_before_end p end q o

@@ -8,12 +8,12 @@ use Rattle.x_steps.specs.StateValue.{StateValue}
 use Rattle.x_steps.specs.Rank.{digits}
 
 -- more options than a number of 32 bits can name
-abbrev pub MANY : ℕ
-MANY = 4294967296
+abbrev pub many : ℕ
+many = 4294967296
 
 -- the cursor's option is below that
 abbrev pub IsWithin : Cursor → Type 0
-IsWithin (At o) = o < MANY
+IsWithin (At o) = o < many
 IsWithin k = Unit {0}
 
 -- the first n choices are the same, and then one path ends or the next choices differ
@@ -30,4 +30,4 @@ digit_of p s level = slice_index_or (digits (length p.options) s.label s.path s.
 -- a digit with room for all numbers, and the one with room for m options: the same up to the last option, and from there on
 -- as far from the end
 abbrev pub Shifts : ℕ → ℕ → ℕ → Type 0
-Shifts m d e = ((d ≡ e) × (d < 4 * MANY + 5) × (e < 4 * m + 5)) ⊎ ((d + 4 * m ≡ e + 4 * MANY) × (4 * m + 5 ≤ e))
+Shifts m d e = ((d ≡ e) × (d < 4 * many + 5) × (e < 4 * m + 5)) ⊎ ((d + 4 * m ≡ e + 4 * many) × (4 * m + 5 ≤ e))

@@ -9,7 +9,7 @@ ghost use Rattle.x_branches.specs.Walk.{end_choices};
 
 use crate::cut::Cut;
 use crate::order::is_before;
-use crate::place::Place;
+use crate::position::Position;
 use cover_problem::Problem;
 use std::alloc::AllocError;
 use x_steps::State;
@@ -53,25 +53,25 @@ impl<'p> Branch<'p> {
 
     /// Where its first state stands.
     #[inline(always)]
-    pub(crate) fn first(&self) -> Place<'_>
-        ensures place { result ≡ first_of self.now.lo }
+    pub(crate) fn first(&self) -> Position<'_>
+        ensures position { result ≡ first_of self.now.lo }
         ensures fits { (p : ProblemValue) → IsOf p self.now.lo → Fits p (first_of self.now.lo) }
     {
         match &self.lo {
-            Some(cut) => cut.place(),
-            None => Place::first(),
+            Some(cut) => cut.position(),
+            None => Position::first(),
         }
     }
 
     /// Where the state stands that ends it.
     #[inline(always)]
-    pub(crate) fn end(&self) -> Place<'_>
-        ensures place { result ≡ end_of self.now.hi }
+    pub(crate) fn end(&self) -> Position<'_>
+        ensures position { result ≡ end_of self.now.hi }
         ensures fits { (p : ProblemValue) → IsOf p self.now.hi → Fits p (end_of self.now.hi) }
     {
         match &self.hi {
-            Some(cut) => cut.place(),
-            None => Place::last(),
+            Some(cut) => cut.position(),
+            None => Position::last(),
         }
     }
 
@@ -108,13 +108,13 @@ impl<'p> Branch<'p> {
         ensures within { IsTrue result → IsWithin problem.now self.now (state_value state.now) }
         ensures outside { IsBranch problem.now self.now → IsWithin problem.now self.now (state_value state.now) → IsTrue result }
     {
-        let place = Place::of(state);
+        let position = Position::of(state);
         if !self.is_of(problem) {
             return false;
         }
-        if is_before(&place, &self.first()) {
+        if is_before(&position, &self.first()) {
             return false;
         }
-        !is_before(&self.end(), &place)
+        !is_before(&self.end(), &position)
     }
 }

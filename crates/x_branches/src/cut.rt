@@ -5,7 +5,7 @@ ghost use Rattle.x_branches.specs.Cut.{cut_state, IsCut};
 ghost use Rattle.x_branches.specs.declared.fault.CutFault as cut_faults;
 
 use crate::fault::CutFault;
-use crate::place::Place;
+use crate::position::Position;
 use cover_problem::{PlainTable, Problem, Table};
 use std::alloc::{AllocError, Global};
 use std::marker::Model;
@@ -118,12 +118,12 @@ impl<'p> Cut<'p> {
 
     /// Where its state stands.
     #[inline(always)]
-    pub(crate) fn place(&self) -> Place<'_>
-        ensures place { result ≡ cut_state self.now.path }
+    pub(crate) fn position(&self) -> Position<'_>
+        ensures position { result ≡ cut_state self.now.path }
         ensures fits { Fits self.now.problem (cut_state self.now.path) }
     {
         let (front, last) = self.path.split_at(self.path.len() - 1);
-        Place {
+        Position {
             label: Label::X5,
             path: front,
             cursor: Cursor::At(last[0]),

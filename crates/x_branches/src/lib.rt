@@ -6,7 +6,7 @@ mod cut;
 mod fault;
 pub mod laws;
 mod order;
-mod place;
+mod position;
 mod runner;
 mod stretch;
 

@@ -5,17 +5,17 @@ ghost use Rattle.x_steps.specs.StateView.{state_value};
 ghost use Rattle.x_steps.specs.Steps.{Fits};
 ghost use Rattle.x_steps.specs.Rank.{digit_at};
 ghost use Rattle.x_branches.specs.RunOrder.{ComesBefore};
-ghost use Rattle.x_branches.specs.Stage.{MANY, IsShared, IsWithin, Shifts, digit_of};
+ghost use Rattle.x_branches.specs.Stage.{many, IsShared, IsWithin, Shifts, digit_of};
 
-use crate::place::Place;
+use crate::position::Position;
 use std::cmp::Ordering;
 use x_steps::{Cursor, Label, State};
 
 /// More options than a number of 32 bits can name.
-const ROOM: u64 = 4_294_967_296;
+const MANY: u64 = 4_294_967_296;
 
 /// Where X5 stands past all options of its level.
-const PAST_ALL: u64 = 4 * ROOM + 5;
+const PAST_ALL: u64 = 4 * MANY + 5;
 
 /// How many choices two paths share, up to their first difference.
 fn shared(one: &[u32], other: &[u32]) -> usize
@@ -39,7 +39,7 @@ fn stage_below(option: u32) -> u64
 /// Where a step stands, among all that is done at its level: before the first option, at an option before and after what lies
 /// below it, and past all options.
 fn stage_of(label: Label, cursor: Cursor) -> u64
-    ensures stage { result ≡ digit_at MANY label cursor }
+    ensures stage { result ≡ digit_at many label cursor }
     ensures within { IsWithin cursor }
 {
     match (label, cursor) {
@@ -57,22 +57,22 @@ fn stage_of(label: Label, cursor: Cursor) -> u64
     }
 }
 
-/// Where a place stands among those with the same first choices.
-fn stage(place: &Place<'_>, level: usize) -> u64
-    requires { level ≤ length place.now.path }
-    ensures { (p : ProblemValue) → Fits p place.now →
-        Shifts (length p.options) result (digit_of p place.now level) }
+/// Where a position stands among those with the same first choices.
+fn stage(position: &Position<'_>, level: usize) -> u64
+    requires { level ≤ length position.now.path }
+    ensures { (p : ProblemValue) → Fits p position.now →
+        Shifts (length p.options) result (digit_of p position.now level) }
 {
-    if level < place.path.len() {
-        stage_below(place.path[level])
+    if level < position.path.len() {
+        stage_below(position.path[level])
     } else {
-        stage_of(place.label, place.cursor)
+        stage_of(position.label, position.cursor)
     }
 }
 
-/// Which of two places of one search comes first on its run: by the first choice that differs, and by the step where they
+/// Which of two positions of one search comes first on its run: by the first choice that differs, and by the step where they
 /// share their choices.
-pub fn place_order(one: &Place<'_>, other: &Place<'_>) -> Ordering
+pub fn position_order(one: &Position<'_>, other: &Position<'_>) -> Ordering
     ensures less { (p : ProblemValue) → Fits p one.now → Fits p other.now →
         ((result ≡ Ordering.Less) ↔ ComesBefore p one.now other.now) }
     ensures equal { (p : ProblemValue) → Fits p one.now → Fits p other.now →
@@ -84,12 +84,12 @@ pub fn place_order(one: &Place<'_>, other: &Place<'_>) -> Ordering
     stage(one, level).cmp(&stage(other, level))
 }
 
-/// Whether of two places of one search the first comes before the second on its run.
-pub fn is_before(one: &Place<'_>, other: &Place<'_>) -> bool
+/// Whether of two positions of one search the first comes before the second on its run.
+pub fn is_before(one: &Position<'_>, other: &Position<'_>) -> bool
     ensures { (p : ProblemValue) → Fits p one.now → Fits p other.now →
         (IsTrue result ↔ ComesBefore p one.now other.now) }
 {
-    match place_order(one, other) {
+    match position_order(one, other) {
         Ordering::Less => true,
         _ => false,
     }
@@ -104,5 +104,5 @@ pub fn run_order(one: &State, other: &State) -> Ordering
     ensures greater { (p : ProblemValue) → Fits p (state_value one.now) → Fits p (state_value other.now) →
         ((result ≡ Ordering.Greater) ↔ ComesBefore p (state_value other.now) (state_value one.now)) }
 {
-    place_order(&Place::of(one), &Place::of(other))
+    position_order(&Position::of(one), &Position::of(other))
 }

@@ -9,7 +9,7 @@ ghost use Rattle.x_steps.specs.Run.{steps_between};
 ghost use Rattle.x_steps.specs.Machine.{remaining_in, second_in, chosen_in};
 ghost use Rattle.x_branches.specs.Branch.{end_of};
 ghost use Rattle.x_branches.specs.Runner.{IsRunner, visit_of, with_level, without_level};
-ghost use Rattle.x_branches.specs.Refusals.{CanStart, StartRefused, CanAdvance, AdvanceRefused};
+ghost use Rattle.x_branches.specs.Refusals.{most_steps, CanStart, StartRefused, CanAdvance, AdvanceRefused};
 
 mod posting;
 mod untried;
@@ -60,7 +60,7 @@ impl<'p, T: Table> Model for Runner<'p, T> {
 #[inline(always)]
 fn count(counts: &mut [u32], state: &State)
     requires within { is_level state.now.label ≡ true → length state.now.path.items < length counts.old }
-    requires small { is_level state.now.label ≡ true → slice_index counts.old (length state.now.path.items) < 4294967295 }
+    requires small { is_level state.now.label ≡ true → slice_index counts.old (length state.now.path.items) < most_steps }
     ensures { counts.new ≡ with_level counts.old (state_value state.now) }
 {
     match state.label {
@@ -92,7 +92,7 @@ fn note<T: Table>(
 ) -> Result<(), AllocError>
     requires within { is_level machine.now.state.label ≡ true → length machine.now.state.path < length counts.old }
     requires small { is_level machine.now.state.label ≡ true →
-        slice_index counts.old (length machine.now.state.path) < 4294967295 }
+        slice_index counts.old (length machine.now.state.path) < most_steps }
     ensures visits { OnOk result (visits.new ≡ visits.old ++ visit_of machine.now.problem machine.now.state) }
     ensures counts { OnOk result (counts.new ≡ with_level counts.old machine.now.state) }
     ensures visits_kept { OnErr result (visits.new ≡ visits.old) }

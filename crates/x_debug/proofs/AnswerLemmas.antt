@@ -28,7 +28,7 @@ use Rattle.x_debug.proofs.RunLemmas.{found_passes}
 pub stands_at : (n : ℕ) (a v : AtWork) → v ≡ forward n a → v.worker.runner.position ≡ state_on a.worker.runner n
 stands_at n a v e = ap (λ (u : AtWork). u.worker.runner.position) e ∙ on_position n a
 
--- visits, the count and the place, one after the other
+-- visits, the count and the position, one after the other
 pub walk_text : (r : RunnerValue) (n m : ℕ) (s : StateValue) (old one two : List ℕ) → m ≡ n → s ≡ state_on r n
     → one ≡ old ++ text_of (visit_lines r.problem r.position (state_on r n)) → two ≡ one ++ text_of (moved_lines m s) → two ≡ old ++ text_of (walk_lines r n)
 walk_text r n m s old one two e h i j =

@@ -12,7 +12,7 @@ use Rattle.lab_book.specs.Book.{BookValue, Outcome, outcome, book_step, unless, 
 use Rattle.lab_book.specs.Calls.{Refuses}
 use Rattle.lab_world.specs.declared.event.Act.TheVariants.{Lease, TakeHeld}
 use Rattle.lab_world.specs.Worker.{WorkerValue, lent_worker}
-use Rattle.lab_world.specs.World.{IsPlace, turn}
+use Rattle.lab_world.specs.World.{IsSeat, turn}
 use Rattle.lab_world.proofs.HoldLemmas.{found_at}
 use Rattle.lab_world.proofs.TurnLemmas.{turn_keeps}
 use Rattle.x_debug.specs.Lines.{at, book_refusal}
@@ -63,16 +63,16 @@ module _ (b : BookValue) (i : ℕ) (tiling : IsTiling b.problem b.branch b.first
   refused_made left f (inr r) = inr (ap₂ desk r.1.book (ap (lent_worker b.problem) r.1.reply))
 
   -- the worker holds the tile
-  pub lent_place : IsPlace (book_step b 0 (enter_call tile)) 0 (lent_worker b.problem (outcome b 0 (enter_call tile)).reply)
+  pub lent_seat : IsSeat (book_step b 0 (enter_call tile)) 0 (lent_worker b.problem (outcome b 0 (enter_call tile)).reply)
   unfolding turn
-  lent_place = by (is_held tile.status)
+  lent_seat = by (is_held tile.status)
     where
-      by : (h : Bool) → IsPlace (book_step b 0 (if h then call.TakeHeld tile.id else call.Lease tile.id)) 0 (lent_worker b.problem (outcome b 0 (if h then call.TakeHeld tile.id else call.Lease tile.id)).reply)
+      by : (h : Bool) → IsSeat (book_step b 0 (if h then call.TakeHeld tile.id else call.Lease tile.id)) 0 (lent_worker b.problem (outcome b 0 (if h then call.TakeHeld tile.id else call.Lease tile.id)).reply)
       by true = turn_keeps b 0 tiling None (TakeHeld tile.id) tt
       by false = turn_keeps b 0 tiling None (Lease tile.id) tt
 
-  pub lent_holds : (new : BookValue) (x : WorkerValue) → new ≡ book_step b 0 (enter_call tile) → Some x ≡ lent_worker b.problem (outcome b 0 (enter_call tile)).reply → IsPlace new 0 (Some x)
-  lent_holds new x n w = subst (λ (c : BookValue). IsPlace c 0 (Some x)) (sym n) (subst (IsPlace (book_step b 0 (enter_call tile)) 0) (sym w) lent_place)
+  pub lent_holds : (new : BookValue) (x : WorkerValue) → new ≡ book_step b 0 (enter_call tile) → Some x ≡ lent_worker b.problem (outcome b 0 (enter_call tile)).reply → IsSeat new 0 (Some x)
+  lent_holds new x n w = subst (λ (c : BookValue). IsSeat c 0 (Some x)) (sym n) (subst (IsSeat (book_step b 0 (enter_call tile)) 0) (sym w) lent_seat)
 
 -- ---- the tile that a cut names
 

@@ -8,7 +8,7 @@ use Rattle.cover_problem.proofs.NumberLemmas.{numbers_push}
 use Rattle.x_branches.specs.Runner.{RunnerValue}
 use Rattle.debug_texts.specs.Replies.{untried_words}
 use Rattle.x_debug.specs.Lines.{at}
-use Rattle.x_debug.specs.Showing.{runner_branch, runner_covered, runner_chosen, runner_active, runner_second, shown, level_lines, untried_at}
+use Rattle.x_debug.specs.Showing.{runner_branch, runner_covered, runner_chosen, runner_active, runner_second, show_lines, level_lines, untried_at}
 
 pub one_line : (line : List (List ℕ)) → line_text line ≡ text_of (line ∷ [])
 one_line line = sym (append-nil (line_text line))
@@ -30,8 +30,8 @@ three_lines a b c d e old one two three four new h i j k l =
 
 -- whatever the last of them gave
 pub shown_lines : {X E : Type 0} (z : Result X E) (r : RunnerValue) (old one two three four new : List ℕ) → one ≡ old ++ line_text (at r.position) → two ≡ one ++ line_text (runner_branch r) → three ≡ two ++ line_text (runner_covered r)
-    → four ≡ three ++ text_of (runner_chosen r) → OnOk z (new ≡ four ++ text_of (runner_active r ++ runner_second r)) → OnOk z (new ≡ old ++ text_of (shown r))
-unfolding shown
+    → four ≡ three ++ text_of (runner_chosen r) → OnOk z (new ≡ four ++ text_of (runner_active r ++ runner_second r)) → OnOk z (new ≡ old ++ text_of (show_lines r))
+unfolding show_lines
 shown_lines (Ok x) r old one two three four new h i j k l =
     three_lines (at r.position) (runner_branch r) (runner_covered r) (runner_chosen r) (runner_active r ++ runner_second r) old one two three four new h i j k l
     ∙ ap (λ ls. old ++ text_of ls) (sym (append_assoc (at r.position ∷ runner_branch r ∷ runner_covered r ∷ runner_chosen r) (runner_active r) (runner_second r)))

@@ -16,8 +16,8 @@ use Rattle.lab_book.specs.declared.entry.Call.TheVariants as call
 use Rattle.lab_book.specs.Tiling.{IsTiling}
 use Rattle.lab_book.specs.Book.{BookValue, opened, outcome, book_step}
 use Rattle.lab_world.specs.Worker.{WorkerValue, lent_worker}
-use Rattle.lab_world.specs.World.{IsPlace}
-use Rattle.lab_world.proofs.TurnLemmas.{lease_any_place}
+use Rattle.lab_world.specs.World.{IsSeat}
+use Rattle.lab_world.proofs.TurnLemmas.{lease_any_seat}
 use Rattle.debug_texts.specs.declared.words.Layer.TheVariants as layer
 use Rattle.debug_texts.specs.Replies.{refused_words}
 use Rattle.x_debug.specs.Lines.{at, book_refusal, snapshot_refusal}
@@ -34,8 +34,8 @@ module _ (p : ProblemValue) (v : SnapshotValue) (same : v.problem ≡ p) (b new 
   pub desk_is : desk new x ≡ resumed v
   desk_is = ap₂ desk lease worker ∙ ap entered (fresh ∙ ap (λ (q : ProblemValue). opened q (branch_between q v.lo v.hi) v.state) (sym same))
 
-  pub desk_place : IsTiling b.problem b.branch b.first b.tiles → IsPlace new 0 x
-  desk_place tiling = subst (λ (c : BookValue). IsPlace c 0 x) (sym lease) (subst (IsPlace (book_step b 0 call.LeaseAny) 0) (sym worker) (lease_any_place b 0 tiling))
+  pub desk_seat : IsTiling b.problem b.branch b.first b.tiles → IsSeat new 0 x
+  desk_seat tiling = subst (λ (c : BookValue). IsSeat c 0 x) (sym lease) (subst (IsSeat (book_step b 0 call.LeaseAny) 0) (sym worker) (lease_any_seat b 0 tiling))
 
 -- with these, and the snapshot's breakpoints, a session goes on
 module _ (v : SnapshotValue) (b : BookValue) (x : Option WorkerValue) (made : desk b x ≡ resumed v) where

@@ -19,9 +19,9 @@ use Rattle.lab_book.specs.declared.entry.Reply.TheVariants as replies
 use Rattle.lab_book.specs.Tiling.{tile_at, IsTiling}
 use Rattle.lab_book.specs.Book.{BookValue, outcome, book_step}
 use Rattle.lab_world.specs.Worker.{WorkerValue, HasTile, HoldsTile, lent_worker, moved_to, cut_at}
-use Rattle.lab_world.specs.World.{IsPlace}
+use Rattle.lab_world.specs.World.{IsSeat}
 use Rattle.lab_world.proofs.OtherLemmas.{put_back_leaves, stop_leaves}
-use Rattle.lab_world.proofs.TurnLemmas.{lease_any_place}
+use Rattle.lab_world.proofs.TurnLemmas.{lease_any_seat}
 use Rattle.debug_texts.specs.declared.words.Plain.TheVariants.{Closed}
 use Rattle.x_debug.specs.Lines.{plain, book_refusal, runner_refusal}
 use Rattle.x_debug.specs.Session.{SessionValue, IsSession, Desk, DeskAnswer, desk, fresh_session}
@@ -35,15 +35,15 @@ use Rattle.x_debug.proofs.EnterLemmas.{enter_problem}
 use Rattle.x_debug.proofs.GiveLemmas.{rest_grant}
 
 -- a session whose book and worker are others
-pub changed_session : (v : SessionValue) (b : BookValue) (x : Option WorkerValue) → IsSession v → b.problem ≡ v.book.problem → IsPlace b 0 x → IsSession (record { book = b; worker = x; breaks = v.breaks })
-changed_session v b x s p h = record { place = h; breaks = subst (λ (q : ProblemValue). list_all (is_break q) v.breaks ≡ true) (sym p) s.breaks }
+pub changed_session : (v : SessionValue) (b : BookValue) (x : Option WorkerValue) → IsSession v → b.problem ≡ v.book.problem → IsSeat b 0 x → IsSession (record { book = b; worker = x; breaks = v.breaks })
+changed_session v b x s p h = record { seat = h; breaks = subst (λ (q : ProblemValue). list_all (is_break q) v.breaks ≡ true) (sym p) s.breaks }
 
 -- ---- a new session
 
 pub leased_session : (b new : BookValue) (x : Option WorkerValue) (breaks : List Break) → IsTiling b.problem b.branch b.first b.tiles → new ≡ book_step b 0 call.LeaseAny → x ≡ lent_worker b.problem (outcome b 0 call.LeaseAny).reply → breaks ≡ []
     → IsSession (record { book = new; worker = x; breaks = breaks })
 leased_session b new x breaks tiling n w e = record {
-  place = rw (n, w) (lease_any_place b 0 tiling);
+  seat = rw (n, w) (lease_any_seat b 0 tiling);
   breaks = rw e refl;
 }
 
@@ -55,10 +55,10 @@ fresh_leased p = refl
 -- ---- `hold` and `putback`
 
 module _ (b : BookValue) (make : ℕ → Call) (keeps : (x : WorkerValue) (id : ℕ) → HasTile b.tiles x → HasTile (outcome b 0 (make id)).tiles x) where
-  asked_place : (x : Option WorkerValue) (place : Option ℕ) → IsPlace b 0 x → IsPlace (asked b make place).book 0 x
-  asked_place None place h = tt
-  asked_place (Some x) None h = h
-  asked_place (Some x) (Some i) h = (h.0, record { problem = h.1.problem; tile = keeps x (tile_at b.tiles i).id h.1.tile })
+  asked_seat : (x : Option WorkerValue) (place : Option ℕ) → IsSeat b 0 x → IsSeat (asked b make place).book 0 x
+  asked_seat None place h = tt
+  asked_seat (Some x) None h = h
+  asked_seat (Some x) (Some i) h = (h.0, record { problem = h.1.problem; tile = keeps x (tile_at b.tiles i).id h.1.tile })
 
   asked_problem : (place : Option ℕ) → (asked b make place).book.problem ≡ b.problem
   asked_problem None = refl
@@ -70,12 +70,12 @@ module _ (b : BookValue) (make : ℕ → Call) (keeps : (x : WorkerValue) (id : 
   asked_session {X = X} {E = E} r v place new e s ok err = step r ok err
     where
       before : new ≡ b → IsSession (record { book = new; worker = v.worker; breaks = v.breaks })
-      before n = changed_session v new v.worker s (ap (λ (c : BookValue). c.problem) (n ∙ sym e)) (subst (λ (c : BookValue). IsPlace c 0 v.worker) (e ∙ sym n) s.place)
+      before n = changed_session v new v.worker s (ap (λ (c : BookValue). c.problem) (n ∙ sym e)) (subst (λ (c : BookValue). IsSeat c 0 v.worker) (e ∙ sym n) s.seat)
 
       after : new ≡ (asked b make place).book → IsSession (record { book = new; worker = v.worker; breaks = v.breaks })
       after n =
           changed_session v new v.worker s (ap (λ (c : BookValue). c.problem) n ∙ asked_problem place ∙ ap (λ (c : BookValue). c.problem) (sym e))
-          (subst (λ (c : BookValue). IsPlace c 0 v.worker) (sym n) (asked_place v.worker place (subst (λ (c : BookValue). IsPlace c 0 v.worker) e s.place)))
+          (subst (λ (c : BookValue). IsSeat c 0 v.worker) (sym n) (asked_seat v.worker place (subst (λ (c : BookValue). IsSeat c 0 v.worker) e s.seat)))
 
       step : (r : Result X E) → OnOk r (new ≡ (asked b make place).book) → OnErr r ((new ≡ b) ⊎ (new ≡ (asked b make place).book)) → IsSession (record { book = new; worker = v.worker; breaks = v.breaks })
       step (Ok y) ok err = after ok
@@ -95,12 +95,12 @@ put_back_session r v lo state new s ok err = asked_session v.book (λ n. call.Pu
 -- ---- `open`
 
 -- a branch is opened
-pub entered_session : (v : SessionValue) (lo : Option (List ℕ)) (new : BookValue) (x : Option WorkerValue) → IsSession v → desk new x ≡ (enter v.book lo).desk → IsPlace new 0 x → IsSession (record { book = new; worker = x; breaks = v.breaks })
+pub entered_session : (v : SessionValue) (lo : Option (List ℕ)) (new : BookValue) (x : Option WorkerValue) → IsSession v → desk new x ≡ (enter v.book lo).desk → IsSeat new 0 x → IsSession (record { book = new; worker = x; breaks = v.breaks })
 entered_session v lo new x s e h = changed_session v new x s (ap (λ (d : Desk). d.book.problem) e ∙ enter_problem v.book lo) h
 
 -- memory ran out before one was
 pub unopened_session : (v : SessionValue) (lo : Option (List ℕ)) (new : BookValue) → IsSession v → v.worker ≡ None → (new ≡ v.book) ⊎ (desk new None ≡ (enter v.book lo).desk) → IsSession (record { book = new; worker = v.worker; breaks = v.breaks })
-unopened_session v lo new s n left = changed_session v new v.worker s (same left) (subst (IsPlace new 0) (sym n) tt)
+unopened_session v lo new s n left = changed_session v new v.worker s (same left) (subst (IsSeat new 0) (sym n) tt)
   where
     same : (new ≡ v.book) ⊎ (desk new None ≡ (enter v.book lo).desk) → new.problem ≡ v.book.problem
     same (inl e) = ap (λ (b : BookValue). b.problem) e
@@ -132,11 +132,11 @@ not_given_grant a b (inr e) = ap (λ (c : AtWork). c.worker.grant) e ∙ rest_gr
 module _ (v : SessionValue) (w : WorkerValue) (s : IsSession v) (at : v.worker ≡ Some w) where
   -- its worker is worker 0
   own_number : w.grant.worker ≡ 0
-  own_number = (subst (IsPlace v.book 0) at s.place).0
+  own_number = (subst (IsSeat v.book 0) at s.seat).0
 
   -- and holds its tile
   pub own_tile : HoldsTile v.book w
-  own_tile = (subst (IsPlace v.book 0) at s.place).1
+  own_tile = (subst (IsSeat v.book 0) at s.seat).1
 
   -- its worker goes on with the same lease
   pub working_session : (a : AtWork) → a.book.problem ≡ v.book.problem → a.worker.grant ≡ w.grant → HoldsTile a.book a.worker → IsSession (working v a)
@@ -144,7 +144,7 @@ module _ (v : SessionValue) (w : WorkerValue) (s : IsSession v) (at : v.worker �
 
   -- its worker is gone
   pub given_session : (new : BookValue) (x : Option WorkerValue) → new ≡ parked (work v.book w) → x ≡ None → IsSession (record { book = new; worker = x; breaks = v.breaks })
-  given_session new x n e = changed_session v new x s (ap (λ (b : BookValue). b.problem) n ∙ parked_problem (work v.book w)) (subst (IsPlace new 0) (sym e) tt)
+  given_session new x n e = changed_session v new x s (ap (λ (b : BookValue). b.problem) n ∙ parked_problem (work v.book w)) (subst (IsSeat new 0) (sym e) tt)
 
   -- it couldn't be given up
   pub kept_session : (a : AtWork) → IsNotGiven (work v.book w) a → HoldsTile a.book a.worker → IsSession (working v a)
@@ -215,11 +215,11 @@ module _ (a : AtWork) where
   closed_kept : ((close a).desk.book.problem ≡ a.book.problem) × ((y : WorkerValue) → (close a).desk.worker ≡ Some y → y.grant ≡ a.worker.grant)
   closed_kept = ended_kept (steps_ahead a.worker.runner == 0)
 
-pub closed_session : (v : SessionValue) (w : WorkerValue) (new : BookValue) (place : Option WorkerValue) → IsSession v → v.worker ≡ Some w → desk new place ≡ (close (work v.book w)).desk → IfSome place (HoldsTile new)
-    → IsSession (record { book = new; worker = place; breaks = v.breaks })
-closed_session v w new place s at made still = changed_session v new place s (ap (λ (d : Desk). d.book.problem) made ∙ (closed_kept (work v.book w)).0) (own place (ap (λ (d : Desk). d.worker) made) still)
+pub closed_session : (v : SessionValue) (w : WorkerValue) (new : BookValue) (seat : Option WorkerValue) → IsSession v → v.worker ≡ Some w → desk new seat ≡ (close (work v.book w)).desk → IfSome seat (HoldsTile new)
+    → IsSession (record { book = new; worker = seat; breaks = v.breaks })
+closed_session v w new seat s at made still = changed_session v new seat s (ap (λ (d : Desk). d.book.problem) made ∙ (closed_kept (work v.book w)).0) (own seat (ap (λ (d : Desk). d.worker) made) still)
   where
-    own : (o : Option WorkerValue) → o ≡ (close (work v.book w)).desk.worker → IfSome o (HoldsTile new) → IsPlace new 0 o
+    own : (o : Option WorkerValue) → o ≡ (close (work v.book w)).desk.worker → IfSome o (HoldsTile new) → IsSeat new 0 o
     own None e h = tt
     own (Some y) e h = (ap (λ (g : Grant). g.worker) ((closed_kept (work v.book w)).1 y (sym e)) ∙ own_number v w s at, h)
 

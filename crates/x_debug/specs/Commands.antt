@@ -18,7 +18,7 @@ use Rattle.debug_texts.specs.Reading.{command_of}
 use Rattle.x_debug.specs.Breakpoints.{with_break}
 use Rattle.x_debug.specs.Lines.{plain, counted, set, debug_refusal}
 use Rattle.x_debug.specs.Session.{SessionValue, DeskAnswer}
-use Rattle.x_debug.specs.Showing.{shown, all_untried, or_none}
+use Rattle.x_debug.specs.Showing.{show_lines, all_untried, or_none}
 use Rattle.x_debug.specs.Tiles.{BookAnswer, open_lines, visits_lines, hold, put_back}
 use Rattle.x_debug.specs.Walking.{AtWork, work, forward, IsPartWay, IsPartBack, step_count, step_lines, run_count, run_lines, back_count, back_lines, state_back}
 use Rattle.x_debug.specs.Entering.{enter}
@@ -38,6 +38,7 @@ says s lines = record { text = text_of lines; session = s }
 abbrev pub on_desk : SessionValue → DeskAnswer → Answer
 on_desk s a = record { text = a.text; session = record { book = a.desk.book; worker = a.desk.worker; breaks = s.breaks } }
 
+-- its book is another, and its worker and its breakpoints stay
 abbrev pub on_book : SessionValue → BookAnswer → Answer
 on_book s a = record { text = text_of a.lines; session = record { book = a.book; worker = s.worker; breaks = s.breaks } }
 
@@ -65,75 +66,96 @@ on_work s lines a = record { text = text_of lines; session = working s a }
 
 -- ---- what is shown
 
+-- `show`: where the search of the open branch stands, the branch, what is covered, and the items with the options left for them
 abbrev pub answer_show : SessionValue → Answer
-answer_show s = if_open s s.worker (λ w. says s (shown w.runner))
+answer_show s = if_open s s.worker (λ w. says s (show_lines w.runner))
 
+-- `untried`: a line for each level of the open branch where an option is untried, or one line that says that there is none
 abbrev pub answer_untried : SessionValue → Answer
 answer_untried s = if_open s s.worker (λ w. says s (or_none (plain NothingUntried) (all_untried w.runner)))
 
+-- `branches`: a line for each tile that isn't closed, or one line that says that there is none
 abbrev pub answer_branches : SessionValue → Answer
 answer_branches s = says s (or_none (plain NoBranches) (open_lines s.book.tiles))
 
+-- `visits`: the visits of all stretches that are posted, and how many they are
 abbrev pub answer_visits : SessionValue → Answer
 answer_visits s = says s (visits_lines (posted_visits s.book.tiles))
 
+-- `steps`: how many steps the posted stretches have
 abbrev pub answer_steps : SessionValue → Answer
 answer_steps s = says s (counted counts.Steps (posted_steps s.book.tiles) ∷ [])
 
+-- `levels`: how many states X2 the posted stretches have at each level
 abbrev pub answer_levels : SessionValue → Answer
 answer_levels s = says s (levels_words (posted_levels s.book.problem s.book.tiles) ∷ [])
 
 -- ---- breakpoints
 
+-- `break`: b is a breakpoint now, after those that were set before; it stays where it is if it is one already
 abbrev pub answer_set : SessionValue → Break → Answer
 answer_set s b = with_breaks s (with_break s.breaks b) (set s.book.problem.names b ∷ [])
 
+-- `clear`: no breakpoint is left, and the answer is how many there were
 abbrev pub answer_clear : SessionValue → Answer
 answer_clear s = with_breaks s [] (counted counts.Cleared (length s.breaks) ∷ [])
 
 -- ---- the book's tiles
 
+-- `hold`: the book is asked to stop the tile that begins at cut lo (None: at the start) and isn't closed
 abbrev pub answer_hold : SessionValue → Option (List ℕ) → Answer
 answer_hold s lo = on_book s (hold s.book lo)
 
+-- `putback`: the book is asked to put the tile that begins at cut lo back to its mark that is this state
 abbrev pub answer_put_back : SessionValue → Option (List ℕ) → StateValue → Answer
 answer_put_back s lo state = on_book s (put_back s.book lo state)
 
+-- `open`: the tile that begins at cut lo, and isn't closed, is leased to worker 0, where no branch is open
 abbrev pub answer_enter : SessionValue → Option (List ℕ) → Answer
 answer_enter s lo = if_none_open s s.worker (on_desk s (enter s.book lo))
 
 -- ---- steps on the branch that is open
 
+-- `step`: the search goes n steps on, or to the end of its branch where that is nearer
 abbrev pub answer_step : SessionValue → ℕ → Answer
 answer_step s n = if_open s s.worker (λ w. on_work s (step_lines w.runner n) (forward (step_count w.runner n) (work s.book w)))
 
+-- `run`: the search goes on to the first state that meets a breakpoint, or to the end of its branch
 abbrev pub answer_run : SessionValue → Answer
 answer_run s = if_open s s.worker (λ w. on_work s (run_lines s.breaks w.runner) (forward (run_count s.breaks w.runner) (work s.book w)))
 
+-- `back`: the search goes n steps back, or to its mark where that is nearer
 abbrev pub answer_back : SessionValue → ℕ → Answer
-answer_back s n = if_open s s.worker (λ w. on_work s (back_lines w.runner n) (work s.book (moved_to w (state_back w.runner (back_count w.runner n)))))
+answer_back s n =
+    if_open s s.worker (λ w. on_work s (back_lines w.runner n) (work s.book (moved_to w (state_back w.runner (back_count w.runner n)))))
 
 -- ---- the branch that is open is given up
 
+-- `park`: what isn't posted is posted, and the lease is given up: the tile waits again, or is held where a stop was asked for
 abbrev pub answer_park : SessionValue → Answer
 answer_park s = if_open s s.worker (λ w. on_desk s (park (work s.book w)))
 
+-- `save`: the same, and the answer is a snapshot of where the search stands, with these breakpoints
 abbrev pub answer_save : SessionValue → List Break → Answer
 answer_save s breaks = if_open s s.worker (λ w. on_desk s (save (work s.book w) breaks))
 
+-- `close`: what isn't posted is posted and the tile is closed, where the search stands at the end of its branch
 abbrev pub answer_close : SessionValue → Answer
 answer_close s = if_open s s.worker (λ w. on_desk s (close (work s.book w)))
 
 -- ---- the branch that is open is parted, or its last stretch is walked again
 
+-- `split`: the part of the open branch from an untried option o of a level on becomes a tile of its own, which waits
 abbrev pub answer_split : SessionValue → ℕ → ℕ → Answer
 answer_split s level o = if_open s s.worker (λ w. let a = split (work s.book w) level o in on_work s a.lines a.work)
 
+-- `retract`: the stretch that was posted last is taken out of the tile, and the mark goes back to where it began
 abbrev pub answer_retract : SessionValue → Answer
 answer_retract s = if_open s s.worker (λ w. let a = retract (work s.book w) in on_work s a.lines a.work)
 
 -- ---- each command
 
+-- what session s answers to a command, and the session that is left
 unfoldable pub answer : SessionValue → CommandValue → Answer
 answer s command.Nothing = says s []
 answer s (command.Step n) = answer_step s n
@@ -166,10 +188,12 @@ is_command p _ = true
 
 -- ---- a line
 
+-- the answer to the command that a line is, or the refusal of a line that is none
 abbrev pub answer_if : SessionValue → Option CommandValue → Answer
 answer_if s None = says s (debug_refusal BadCommand ∷ [])
 answer_if s (Some c) = answer s c
 
+-- the answer to a line, by the command that it is over the problem of the session's book
 abbrev pub answer_line : SessionValue → List ℕ → Answer
 answer_line s line = answer_if s (command_of s.book.problem line)
 
@@ -212,6 +236,7 @@ LeftBy s (command.Hold lo) new = new ≡ (answer_hold s lo).session
 LeftBy s (command.PutBack lo state) new = new ≡ (answer_put_back s lo state).session
 LeftBy s _ new = ⊥
 
+-- what the command that a line is may leave; a line that is none leaves nothing but the session as it was
 abbrev pub LeftIf : SessionValue → Option CommandValue → SessionValue → Type 0
 LeftIf s None new = ⊥
 LeftIf s (Some c) new = LeftBy s c new

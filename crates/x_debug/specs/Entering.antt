@@ -29,7 +29,10 @@ stand_lines None = []
 abbrev pub lent_by : BookValue → Call → DeskAnswer
 lent_by b c =
     let r = (outcome b 0 c).reply in
-    record { text = text_of (refusal_or (stand_lines (lent_worker b.problem r)) r); desk = desk (book_step b 0 c) (lent_worker b.problem r) }
+    record {
+      text = text_of (refusal_or (stand_lines (lent_worker b.problem r)) r);
+      desk = desk (book_step b 0 c) (lent_worker b.problem r);
+    }
 
 -- the tile at a place is entered; where there is none it is refused, and the book isn't called
 abbrev pub entered_at : BookValue → Option ℕ → DeskAnswer
@@ -55,8 +58,10 @@ breaks_of old (b ∷ bs) = b ∷ bs
 abbrev pub seated : SessionValue → Desk → SessionValue
 seated s d = record { book = d.book; worker = d.worker; breaks = s.breaks }
 
+-- a session whose breakpoints are these of a snapshot, or its own where the snapshot has none
 abbrev pub with_some : SessionValue → List Break → SessionValue
 with_some s breaks = record { book = s.book; worker = s.worker; breaks = breaks_of s.breaks breaks }
 
+-- session s after snapshot v was loaded: at a desk on the snapshot, and with its breakpoints, if it has some
 abbrev pub loaded : SessionValue → SnapshotValue → SessionValue
 loaded s v = record { book = (resumed v).book; worker = (resumed v).worker; breaks = breaks_of s.breaks v.breaks }

@@ -45,6 +45,6 @@ close a =
     then record { text = line_text (plain Closed); desk = desk (closed a) None }
     else record { text = line_text (book_refusal NotAtEnd); desk = desk (not_closed a) (Some a.worker) }
 
--- where a branch is left that couldn't be given up for want of memory: as it was, or with what wasn't posted posted
+-- where a branch is left that couldn't be given up, out of memory: as it was, or with what wasn't posted posted
 abbrev pub IsNotGiven : AtWork → AtWork → Type 0
 IsNotGiven a b = (b ≡ a) ⊎ (b ≡ posted_if_any a)

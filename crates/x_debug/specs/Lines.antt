@@ -32,6 +32,7 @@ at s = codes "at" ∷ state_words s
 abbrev pub set : List (List ℕ) → Break → List (List ℕ)
 set names b = codes "set" ∷ point_words names b
 
+-- the line of a breakpoint that is met, over items with these names
 abbrev pub met : List (List ℕ) → Break → List (List ℕ)
 met names b = codes "break" ∷ point_words names b
 
@@ -39,11 +40,14 @@ met names b = codes "break" ∷ point_words names b
 abbrev pub debug_refusal : DebugFault → List (List ℕ)
 debug_refusal f = refused_words layer.Debug (debug.number_of f) (debug.name_of f)
 
+-- the line of what a runner refuses
 abbrev pub runner_refusal : RunnerFault → List (List ℕ)
 runner_refusal f = refused_words layer.Runner (unwrap_or (runner.number_of f) 0) (runner.name_of f)
 
+-- the line of what a book refuses
 abbrev pub book_refusal : BookFault → List (List ℕ)
 book_refusal f = refused_words layer.Book (unwrap_or (book.number_of f) 0) (book.name_of f)
 
+-- the line of a text that is no snapshot
 abbrev pub snapshot_refusal : SnapshotFault → List (List ℕ)
 snapshot_refusal f = refused_words layer.Snapshot (unwrap_or (snapshot.number_of f) 0) (snapshot.name_of f)

@@ -21,5 +21,6 @@ abbrev pub load_by : SessionValue → Result SnapshotValue SnapshotFault → Ans
 load_by s (Ok v) = if is_same v.problem s.book.problem then answers (at v.state) (loaded s v) else answers (book_refusal ForeignProblem) s
 load_by s (Err f) = answers (snapshot_refusal f) s
 
+-- what session s answers to a text that is loaded, and the session that is left
 unfoldable pub load_answer : SessionValue → List ℕ → Answer
 load_answer s bytes = load_by s (snapshot_of bytes)

@@ -24,6 +24,7 @@ pub record WorkAnswer : Type 0 where
   pub lines : List (List (List ℕ))
   pub work : AtWork
 
+-- these lines, and this book with this worker
 abbrev pub answered : List (List (List ℕ)) → AtWork → WorkAnswer
 answered lines a = record { lines = lines; work = a }
 
@@ -43,6 +44,8 @@ parted a cut = work (book_step a.book a.worker.grant.worker (call.Split a.worker
 abbrev pub parted_line : RunnerValue → CutPath → List (List ℕ)
 parted_line r cut = standing_words (Some cut.path) (path_of r.branch.hi) standing.Waiting
 
+-- `split` at option o of a level: the tile is parted there where the option is untried; else the lines say why it isn't, and nothing
+-- changes
 abbrev pub split : AtWork → ℕ → ℕ → WorkAnswer
 split a level o =
     if has (untried_in a.worker.runner level) o
@@ -63,6 +66,7 @@ retracted_by a (reply.Retracted from to) =
 retracted_by a (reply.Refused f) = answered (book_refusal f ∷ []) (work (book_asked a) a.worker)
 retracted_by a r = answered [] a
 
+-- `retract`: the book is asked for the last stretch where the worker stands at its mark; else it is refused, and the book isn't asked
 unfoldable pub retract : AtWork → WorkAnswer
 retract a =
     if unposted_steps a.worker.runner == 0

@@ -8,8 +8,9 @@ use Rattle.x_snapshot.specs.Breaks.{is_break}
 use Rattle.lab_book.specs.Book.{BookValue, opened, outcome, book_step}
 use Rattle.lab_book.specs.declared.entry.Call.TheVariants as call
 use Rattle.lab_world.specs.Worker.{WorkerValue, lent_worker}
-use Rattle.lab_world.specs.World.{IsPlace}
+use Rattle.lab_world.specs.World.{IsSeat}
 
+-- what a session has: a book, the worker whose branch is open or none, and the breakpoints in the order in which they were set
 pub record SessionValue : Type 0 where
   pub book : BookValue
   pub worker : Option WorkerValue
@@ -17,7 +18,7 @@ pub record SessionValue : Type 0 where
 
 -- what is true of every session: a branch that is open is leased to worker 0, and each breakpoint can be met
 pub record IsSession (v : SessionValue) : Type 0 where
-  pub place : IsPlace v.book 0 v.worker
+  pub seat : IsSeat v.book 0 v.worker
   pub breaks : list_all (is_break v.book.problem) v.breaks ≡ true
 
 -- a book and the worker with an open branch, if there is one
@@ -25,6 +26,7 @@ pub record Desk : Type 0 where
   pub book : BookValue
   pub worker : Option WorkerValue
 
+-- this book and this worker, as a desk
 abbrev pub desk : BookValue → Option WorkerValue → Desk
 desk b w = record { book = b; worker = w }
 

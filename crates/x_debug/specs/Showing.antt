@@ -20,6 +20,7 @@ chosen_lines names (Some row) = list_words names Chosen row ∷ []
 abbrev pub runner_branch : RunnerValue → List (List ℕ)
 runner_branch r = branch_words (path_of r.branch.lo) (path_of r.branch.hi)
 
+-- the line of the items that are covered where a runner stands
 abbrev pub runner_covered : RunnerValue → List (List ℕ)
 runner_covered r = covered_words r.problem.names (covered_in r.problem r.position)
 
@@ -27,21 +28,24 @@ runner_covered r = covered_words r.problem.names (covered_in r.problem r.positio
 abbrev pub runner_chosen : RunnerValue → List (List (List ℕ))
 runner_chosen r = chosen_lines r.problem.names (chosen_in r.problem r.position)
 
+-- a line for each item that is active where a runner stands, with the options left for it
 abbrev pub runner_active : RunnerValue → List (List (List ℕ))
 runner_active r = map (list_words r.problem.names Active) (remaining_in r.problem r.position)
 
+-- a line for each secondary item that isn't covered where a runner stands, with the options left for it
 abbrev pub runner_second : RunnerValue → List (List (List ℕ))
 runner_second r = map (list_words r.problem.names Second) (second_in r.problem r.position)
 
 -- where the search stands, and then these
-unfoldable pub shown : RunnerValue → List (List (List ℕ))
-shown r = at r.position ∷ runner_branch r ∷ runner_covered r ∷ runner_chosen r ++ runner_active r ++ runner_second r
+unfoldable pub show_lines : RunnerValue → List (List (List ℕ))
+show_lines r = at r.position ∷ runner_branch r ∷ runner_covered r ∷ runner_chosen r ++ runner_active r ++ runner_second r
 
 -- the line of a level, where something is untried there
 abbrev pub level_lines : ℕ → List ℕ → List (List (List ℕ))
 level_lines level [] = []
 level_lines level (o ∷ os) = untried_words level (o ∷ os) ∷ []
 
+-- the line of what a runner leaves untried at a level, where it leaves something
 abbrev pub untried_at : RunnerValue → ℕ → List (List (List ℕ))
 untried_at r level = level_lines level (untried_in r level)
 

@@ -24,6 +24,7 @@ pub record AtWork : Type 0 where
   pub book : BookValue
   pub worker : WorkerValue
 
+-- this book and this worker, as one value
 abbrev pub work : BookValue → WorkerValue → AtWork
 work b w = record { book = b; worker = w }
 
@@ -31,6 +32,7 @@ work b w = record { book = b; worker = w }
 abbrev pub unposted_steps : RunnerValue → ℕ
 unposted_steps r = steps_between r.problem r.mark r.position
 
+-- how many steps lead from a runner on to the end of its branch
 abbrev pub steps_ahead : RunnerValue → ℕ
 steps_ahead r = steps_between r.problem r.position (end_of r.branch.hi)
 
@@ -38,6 +40,7 @@ steps_ahead r = steps_between r.problem r.position (end_of r.branch.hi)
 abbrev pub post_call : WorkerValue → Call
 post_call w = call.Post w.grant w.runner.mark w.runner.position true
 
+-- the book once the worker's stretch that isn't posted is posted, and the worker, whose mark is now where its search stands
 unfoldable pub posted : AtWork → AtWork
 posted a = work (book_step a.book a.worker.grant.worker (post_call a.worker)) (marked_at a.worker a.worker.runner.position)
 
@@ -80,11 +83,13 @@ state_on r n = after r.problem n r.position
 abbrev pub walk_lines : RunnerValue → ℕ → List (List (List ℕ))
 walk_lines r n = visit_lines r.problem r.position (state_on r n) ++ moved_lines n (state_on r n)
 
+-- the smaller one of two numbers
 abbrev pub least : ℕ → ℕ → ℕ
 least m n = if nat_lt m n then m else n
 
 -- ---- `step`: on by so many steps, or to the end; refused at the end
 
+-- how many steps `step` takes of n that are asked for: no more than lead to the end of the branch
 abbrev pub step_count : RunnerValue → ℕ → ℕ
 step_count r n = least n (steps_ahead r)
 
@@ -92,6 +97,7 @@ step_count r n = least n (steps_ahead r)
 abbrev pub end_lines : RunnerValue → ℕ → List (List (List ℕ))
 end_lines r n = if n == steps_ahead r then plain End ∷ [] else []
 
+-- what `step` answers where n steps are asked for
 abbrev pub step_lines : RunnerValue → ℕ → List (List (List ℕ))
 step_lines r n =
     if steps_ahead r == 0 then debug_refusal AtEnd ∷ [] else
@@ -99,6 +105,7 @@ step_lines r n =
 
 -- ---- `run`: on to the first state that meets a breakpoint, or to the end; refused at the end
 
+-- how many steps `run` takes: on to the first state that meets one of these breakpoints, or to the end of the branch; 0 at the end
 abbrev pub run_count : List Break → RunnerValue → ℕ
 run_count breaks r = if steps_ahead r == 0 then 0 else steps_to_break r.problem breaks r.position (end_of r.branch.hi)
 
@@ -107,6 +114,7 @@ abbrev pub stop_line : List (List ℕ) → Option Break → List (List ℕ)
 stop_line names (Some b) = met names b
 stop_line names None = plain End
 
+-- what `run` answers with these breakpoints: the walk, and why it stopped
 abbrev pub run_lines : List Break → RunnerValue → List (List (List ℕ))
 run_lines breaks r =
     if steps_ahead r == 0 then debug_refusal AtEnd ∷ [] else
@@ -114,12 +122,15 @@ run_lines breaks r =
 
 -- ---- `back`: back by so many steps, or to the mark; refused at the mark
 
+-- how many steps `back` takes of n that are asked for: no more than lead back to the mark
 abbrev pub back_count : RunnerValue → ℕ → ℕ
 back_count r n = least n (unposted_steps r)
 
+-- the state n steps before the one where runner r stands, back to its mark at most
 abbrev pub state_back : RunnerValue → ℕ → StateValue
 state_back r n = after r.problem (unposted_steps r - n) r.mark
 
+-- what `back` answers where n steps are asked for
 abbrev pub back_lines : RunnerValue → ℕ → List (List (List ℕ))
 back_lines r n =
     if unposted_steps r == 0 then debug_refusal AtStart ∷ [] else

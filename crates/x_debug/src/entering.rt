@@ -5,7 +5,7 @@ ghost use Rattle.lab_book.specs.Tiling.{tile_at};
 ghost use Rattle.lab_book.specs.Book.{outcome, book_step};
 ghost use Rattle.lab_book.specs.Calls.{Refuses};
 ghost use Rattle.lab_world.specs.Worker.{HoldsTile, lent_worker};
-ghost use Rattle.lab_world.specs.World.{IsPlace};
+ghost use Rattle.lab_world.specs.World.{IsSeat};
 ghost use Rattle.x_debug.specs.Session.{desk};
 ghost use Rattle.x_debug.specs.Entering.{enter_call, lent_by, enter};
 
@@ -59,7 +59,7 @@ fn enter_at<'p, T: Table>(
     ensures text { OnOk result (text.new.items ≡ text.old.items ++ (lent_by book.old (enter_call (tile_at book.old.tiles place))).text) }
     ensures left { OnErr result ((book.new ≡ book.old)
         ⊎ (desk book.new None ≡ (lent_by book.old (enter_call (tile_at book.old.tiles place))).desk)) }
-    ensures place { IfOk result (IsPlace book.new 0) }
+    ensures seat { IfOk result (IsSeat book.new 0) }
 {
     let written = text.len();
     write_at(text, book.tiles()[place].mark())?;
@@ -83,7 +83,7 @@ pub fn enter<'p, T: Table>(
     ensures made { IfOk result (λ worker. desk book.new worker ≡ (enter book.old (option_copied lo.entry)).desk) }
     ensures text { OnOk result (text.new.items ≡ text.old.items ++ (enter book.old (option_copied lo.entry)).text) }
     ensures left { OnErr result ((book.new ≡ book.old) ⊎ (desk book.new None ≡ (enter book.old (option_copied lo.entry)).desk)) }
-    ensures place { IfOk result (IsPlace book.new 0) }
+    ensures seat { IfOk result (IsSeat book.new 0) }
 {
     let Some(place) = place_at(book, lo) else {
         write_book_fault(text, &BookFault::UnknownBranch)?;

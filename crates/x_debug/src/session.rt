@@ -1,6 +1,6 @@
 //! Sessions.
 ghost use Rattle.std.specs.Prelude.{◌≡◌, None, is_some, true, IfOk, IfErr, OnOk, OnErr};
-ghost use Rattle.lab_world.specs.World.{IsPlace};
+ghost use Rattle.lab_world.specs.World.{IsSeat};
 ghost use Rattle.x_debug.specs.Session.{session_on, fresh_session};
 
 mod asking;
@@ -87,7 +87,7 @@ impl<'p, T: Table> Session<'p, T> {
     /// Its book. Where a branch is open, worker 0 holds a tile of it.
     pub fn book(&self) -> &Book<'p>
         ensures book { result.now ≡ self.now.book }
-        ensures place { IsPlace self.now.book 0 self.now.worker }
+        ensures seat { IsSeat self.now.book 0 self.now.worker }
     {
         &self.book
     }

@@ -4,7 +4,7 @@ ghost use Rattle.text_lines.specs.Writing.{line_text, text_of};
 ghost use Rattle.lab_book.specs.Book.{path_of};
 ghost use Rattle.x_debug.specs.Lines.{at, plain};
 ghost use Rattle.x_debug.specs.Showing.{runner_branch, runner_covered, runner_chosen, runner_active, runner_second};
-ghost use Rattle.x_debug.specs.Showing.{shown, untried_at, all_untried, or_none};
+ghost use Rattle.x_debug.specs.Showing.{show_lines, untried_at, all_untried, or_none};
 
 use cover_problem::{Problem, Table};
 use debug_texts::{
@@ -25,7 +25,7 @@ pub fn choices<'a>(cut: &'a Option<Cut<'_>>) -> Option<&'a [u32]>
 }
 
 /// Writes where a runner stands.
-fn write_place<T: Table>(text: &mut Vec<u8>, runner: &Runner<'_, T>) -> Result<(), AllocError>
+fn write_position<T: Table>(text: &mut Vec<u8>, runner: &Runner<'_, T>) -> Result<(), AllocError>
     ensures { OnOk result (text.new.items ≡ text.old.items ++ line_text (at runner.now.position)) }
 {
     write_at(text, runner.state())
@@ -91,9 +91,9 @@ pub fn show<T: Table>(
     text: &mut Vec<u8>,
 ) -> Result<(), AllocError>
     requires same { problem.now ≡ runner.now.problem }
-    ensures { OnOk result (text.new.items ≡ text.old.items ++ text_of (shown runner.now)) }
+    ensures { OnOk result (text.new.items ≡ text.old.items ++ text_of (show_lines runner.now)) }
 {
-    write_place(text, runner)?;
+    write_position(text, runner)?;
     write_part(text, runner)?;
     write_items(text, problem, runner)?;
     write_chosen(text, problem, runner)?;

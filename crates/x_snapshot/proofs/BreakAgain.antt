@@ -21,7 +21,7 @@ use Rattle.x_snapshot.specs.declared.fault.SnapshotFault.{SnapshotFault}
 use Rattle.x_snapshot.specs.declared.fault.SnapshotFault.TheVariants.{BadBreak}
 use Rattle.x_snapshot.specs.Breaks.{is_break, is_same, are_new}
 use Rattle.x_snapshot.specs.Writing.{break_words, break_lines}
-use Rattle.x_snapshot.specs.Reading.{keyed_line, count_from, break_from, said_break, add_break, next_break, repeated, breaks_from, most_breaks, breaks_in}
+use Rattle.x_snapshot.specs.Reading.{keyed_line, count_from, break_from, break_of_words, add_break, next_break, repeated, breaks_from, most_breaks, breaks_in}
 use Rattle.x_snapshot.proofs.BreakLemmas.{not_new}
 use Rattle.x_snapshot.proofs.LineAgain.{keyed_line_again, number_word, count_again, option_again}
 
@@ -60,13 +60,13 @@ module _ (p : ProblemValue) (g : IsProblem p) where
   break_is_words (breakpoints.Item i) h = and_from (is_word (name_at p.names i)) true (item_is_word p.names i g.named h) refl
   break_is_words breakpoints.Visit h = refl
 
-  said_again : (b : Break) → is_break p b ≡ true → said_break p (said_words b) ≡ Ok b
+  said_again : (b : Break) → is_break p b ≡ true → break_of_words p (said_words b) ≡ Ok b
   said_again b h = rw (break_again b h) refl
 
   one_again : (acc : List Break) (b : Break) (rest : List ℕ) → is_break p b ≡ true → list_any (is_same b) acc ≡ false → add_break p acc (line_text (break_words p.names b) ++ rest) ≡ Ok (acc ++ b ∷ [], rest)
   unfolding add_break
   one_again acc b rest h new =
-      rw (words_said b, keyed_line_again BadBreak (codes "break") (said_break p) (said_words b) rest b (break_is_words b h) (said_again b h), new) refl
+      rw (words_said b, keyed_line_again BadBreak (codes "break") (break_of_words p) (said_words b) rest b (break_is_words b h) (said_again b h), new) refl
 
   -- *all of them*
 

@@ -19,7 +19,7 @@ use Rattle.x_snapshot.specs.declared.reading.breaks.Kind.TheVariants as kinds
 use Rattle.x_snapshot.specs.declared.fault.SnapshotFault.TheVariants.{BadBreak}
 use Rattle.x_snapshot.specs.Breaks.{is_break, is_same, are_new}
 use Rattle.x_snapshot.specs.Writing.{break_words, break_lines}
-use Rattle.x_snapshot.specs.Reading.{keyed_line, count_from, option_from, level_from, option_break_from, item_from, kind_from, break_of, lone_break, break_from, said_break, new_break, add_break, next_break, repeated, breaks_from, most_breaks, breaks_in}
+use Rattle.x_snapshot.specs.Reading.{keyed_line, count_from, option_from, level_from, option_break_from, item_from, kind_from, break_of, lone_break, break_from, break_of_words, new_break, add_break, next_break, repeated, breaks_from, most_breaks, breaks_in}
 use Rattle.x_snapshot.proofs.BreakLemmas.{are_new_push}
 use Rattle.x_snapshot.proofs.BackLemmas.{some_is, none_some, found_is, map_is, option_back, count_back, keyed_line_back}
 
@@ -116,9 +116,9 @@ module _ (p : ProblemValue) (g : IsProblem p) where
   one_back : (bs : List Break) (text : List ℕ) (r : List Break × List ℕ) → AreFine p bs → add_break p bs text ≡ Ok r → (b : Break) × Adds p bs text (b ∷ []) r.0 r.1
   unfolding add_break
   one_back bs text r f h =
-      let a = bind_ok (keyed_line BadBreak (codes "break") (said_break p) text) (λ line. new_break bs line.0 >>= λ more. Ok (more, line.1)) r h in
+      let a = bind_ok (keyed_line BadBreak (codes "break") (break_of_words p) text) (λ line. new_break bs line.0 >>= λ more. Ok (more, line.1)) r h in
       let c = bind_ok (new_break bs a.0.0) (λ more. Ok (more, a.0.1)) r a.2 in
-      let k = keyed_line_back BadBreak (codes "break") (said_break p) text a.0 a.1 in
+      let k = keyed_line_back BadBreak (codes "break") (break_of_words p) text a.0 a.1 in
       let s = break_back k.0 a.0.0 (found_is BadBreak (break_from p k.0) a.0.0 k.1) in
       let u = unrefused (list_any (is_same a.0.0) bs) BadBreak (Ok (bs ++ a.0.0 ∷ [])) c.0 c.1 in
       let new_is : c.0 ≡ bs ++ a.0.0 ∷ [] = sym (ok_is (bs ++ a.0.0 ∷ []) c.0 u.1) in

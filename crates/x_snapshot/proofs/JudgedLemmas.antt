@@ -17,7 +17,7 @@ use Rattle.x_branches.proofs.CutLemmas.{cut_fits, test_is_order}
 use Rattle.x_snapshot.specs.declared.fault.SnapshotFault.{SnapshotFault}
 use Rattle.x_snapshot.specs.declared.fault.SnapshotFault.TheVariants.{BadHeader, BadVersion, BadProblem, BadState, NotOnRun, OutsideBranch, Truncated, TrailingBytes, Spelling, BadBreak, OutOfMemory}
 use Rattle.x_snapshot.specs.Snapshot.{SnapshotValue, IsSnapshot, IsCutIfAny, IsOnRun, IsInside, path_in}
-use Rattle.x_snapshot.specs.Refusals.{IsPlaceRefused}
+use Rattle.x_snapshot.specs.Refusals.{IsPositionRefused}
 use Rattle.x_snapshot.specs.Reading.{parts_of}
 use Rattle.x_snapshot.specs.ReadRefusals.{IsReadRefused, IsFaultOfText}
 use Rattle.x_snapshot.specs.Judged.{is_choice, is_valid_from, is_valid, is_none, is_fit, is_fit_at, is_cut_if_any, is_on_run, is_inside, judged, snapshot_of}
@@ -114,7 +114,7 @@ cut_decides p (Some path) =
     (λ e. let h = d.0 e in record { some = h.0; valid = h.1 }, λ h. d.1 (h.some, h.valid))
 
 -- the cuts and the state are on the run
-on_run_decides : (v : SnapshotValue) → (is_on_run v ≡ true) ↔ IsOnRun v.problem v.lo v.hi v.state
+pub on_run_decides : (v : SnapshotValue) → (is_on_run v ≡ true) ↔ IsOnRun v.problem v.lo v.hi v.state
 unfolding is_on_run
 on_run_decides v =
     let d = both (cut_decides v.problem v.lo) (both (cut_decides v.problem v.hi) (fit_decides v.problem v.state)) in
@@ -154,22 +154,22 @@ pub read_judged : (text : List ℕ) (v : SnapshotValue) → parts_of text ≡ Ok
 read_judged text v e s = rw (e, (on_run_decides v).1 s.on_run, (inside_decides v s.on_run).1 s.inside) refl
 
 -- what is said may be on no run, or outside the branch
-placed : (v : SnapshotValue) (f : SnapshotFault) → IsPlaceRefused v.problem v.lo v.hi v.state f → (f ≡ OutOfMemory → ⊥) → judged (Ok v) ≡ Err f
-placed v NotOnRun r n = rw (neither (is_on_run v) (on_run_decides v) r) refl
-placed v OutsideBranch r n = rw ((on_run_decides v).1 r.0, neither (is_inside v) (inside_decides v r.0) r.1) refl
-placed v OutOfMemory r n = absurd (n refl)
-placed v BadHeader r n = absurd r
-placed v BadVersion r n = absurd r
-placed v BadProblem r n = absurd r
-placed v BadState r n = absurd r
-placed v Truncated r n = absurd r
-placed v TrailingBytes r n = absurd r
-placed v Spelling r n = absurd r
-placed v BadBreak r n = absurd r
+position_refused : (v : SnapshotValue) (f : SnapshotFault) → IsPositionRefused v.problem v.lo v.hi v.state f → (f ≡ OutOfMemory → ⊥) → judged (Ok v) ≡ Err f
+position_refused v NotOnRun r n = rw (neither (is_on_run v) (on_run_decides v) r) refl
+position_refused v OutsideBranch r n = rw ((on_run_decides v).1 r.0, neither (is_inside v) (inside_decides v r.0) r.1) refl
+position_refused v OutOfMemory r n = absurd (n refl)
+position_refused v BadHeader r n = absurd r
+position_refused v BadVersion r n = absurd r
+position_refused v BadProblem r n = absurd r
+position_refused v BadState r n = absurd r
+position_refused v Truncated r n = absurd r
+position_refused v TrailingBytes r n = absurd r
+position_refused v Spelling r n = absurd r
+position_refused v BadBreak r n = absurd r
 
 of_text : (text : List ℕ) (f : SnapshotFault) → IsFaultOfText text f → (f ≡ OutOfMemory → ⊥) → snapshot_of text ≡ Err f
 of_text text f (inl e) n = rw e refl
-of_text text f (inr r) n = rw r.1 (placed r.0 f r.2 n)
+of_text text f (inr r) n = rw r.1 (position_refused r.0 f r.2 n)
 
 -- a fault, unless memory ran out, is the text's
 pub refused_judged : (text : List ℕ) (f : SnapshotFault) → IsReadRefused text f → (f ≡ OutOfMemory → ⊥) → snapshot_of text ≡ Err f

@@ -1,4 +1,4 @@
-pub mod PlaceLemmas
+pub mod PositionLemmas
 pub mod BreakLemmas
 pub mod WriterLemmas
 pub mod ReadLemmas

@@ -27,10 +27,10 @@ use Rattle.x_snapshot.specs.Breaks.{is_break, are_new}
 use Rattle.x_snapshot.specs.Snapshot.{SnapshotValue, snapshot_with, IsCutIfAny, IsSnapshot}
 use Rattle.x_snapshot.specs.Refusals.{IsRefused}
 use Rattle.x_snapshot.specs.Writing.{needs_second, version_of, cut_words, state_words, break_lines, lines_of_breaks, snapshot_text}
-use Rattle.x_snapshot.specs.Reading.{keyed_line, header, cut_from, state_from, end_from, problem_in, place_in, breaks_in, breaks_of_version, whole, parts_of}
+use Rattle.x_snapshot.specs.Reading.{keyed_line, header, cut_from, state_from, end_from, problem_in, position_in, breaks_in, breaks_of_version, whole, ended, parts_after, parts_of}
 use Rattle.x_snapshot.specs.ReadRefusals.{fault_from}
 use Rattle.x_snapshot.proofs.BackLemmas.{some_is, none_some}
-use Rattle.x_snapshot.proofs.WholeBack.{Place, place_text, one_printed, two_printed, joined}
+use Rattle.x_snapshot.proofs.WholeBack.{Position, position_text, one_printed, two_printed, joined}
 use Rattle.x_snapshot.proofs.LineAgain.{is_choice, is_cursor, IsWrittenCut, keyed_line_again, cut_again, cut_is_words, state_again, state_is_words, number_word}
 use Rattle.x_snapshot.proofs.ProblemAgain.{problem_again}
 use Rattle.x_snapshot.proofs.BreakAgain.{breaks_again}
@@ -78,21 +78,21 @@ module _ (p : ProblemValue) (g : IsProblem p) where
   cursor_is l path cursors.Past f = refl
   cursor_is l path (cursors.At o) f = at_is l path o f
 
-  -- *the lines of the place*
+  -- *the lines of the position*
 
-  place_again : (place : Place) (rest : List ℕ) → IsCutIfAny p place.0 → IsCutIfAny p place.1 → Fits p place.2 → place_in (place_text place rest) ≡ Ok (place, rest)
-  unfolding place_in
-  place_again place rest low high fits =
-      let s = place.2 in
+  position_again : (position : Position) (rest : List ℕ) → IsCutIfAny p position.0 → IsCutIfAny p position.1 → Fits p position.2 → position_in (position_text position rest) ≡ Ok (position, rest)
+  unfolding position_in
+  position_again position rest low high fits =
+      let s = position.2 in
       let path = path_is s.path (fits_valid p s.label s.path s.cursor fits) in
       let cursor = cursor_is s.label s.path s.cursor fits in
-      let lo = cut_is place.0 low in
-      let hi = cut_is place.1 high in
+      let lo = cut_is position.0 low in
+      let hi = cut_is position.1 high in
       let t2 = line_text (codes "state" ∷ state_words s) ++ rest in
-      let t1 = line_text (codes "to" ∷ cut_words (codes "end") place.1) ++ t2 in
+      let t1 = line_text (codes "to" ∷ cut_words (codes "end") position.1) ++ t2 in
       rw (
-        keyed_line_again BadState (codes "from") (cut_from (codes "start")) (cut_words (codes "start") place.0) t1 place.0 (cut_is_words (codes "start") place.0 refl lo) (cut_again (codes "start") place.0 refl lo),
-        keyed_line_again BadState (codes "to") (cut_from (codes "end")) (cut_words (codes "end") place.1) t2 place.1 (cut_is_words (codes "end") place.1 refl hi) (cut_again (codes "end") place.1 refl hi),
+        keyed_line_again BadState (codes "from") (cut_from (codes "start")) (cut_words (codes "start") position.0) t1 position.0 (cut_is_words (codes "start") position.0 refl lo) (cut_again (codes "start") position.0 refl lo),
+        keyed_line_again BadState (codes "to") (cut_from (codes "end")) (cut_words (codes "end") position.1) t2 position.1 (cut_is_words (codes "end") position.1 refl hi) (cut_again (codes "end") position.1 refl hi),
         keyed_line_again BadState (codes "state") state_from (state_words s) rest s (state_is_words s cursor path) (state_again s cursor path),
       ) refl
 
@@ -144,9 +144,9 @@ end_again = refl
 
 -- *the whole*
 
-module _ (n : ℕ) (t0 t1 t2 t3 t4 t5 : List ℕ) (p : ProblemValue) (place : Place) (bs : List Break) where
-  chained : keyed_line BadHeader (codes "polysnap") header t0 ≡ Ok (n, t1) → problem_in n t1 ≡ Ok (p, t2) → place_in t2 ≡ Ok (place, t3) → breaks_of_version n p t3 ≡ Ok (bs, t4) → keyed_line BadState (codes "end") end_from t4 ≡ Ok (tt, t5) → whole n p bs t5 ≡ Ok tt → parts_of t0 ≡ Ok (snapshot_with p place.0 place.1 place.2 bs)
-  unfolding parts_of
+module _ (n : ℕ) (t0 t1 t2 t3 t4 t5 : List ℕ) (p : ProblemValue) (position : Position) (bs : List Break) where
+  chained : keyed_line BadHeader (codes "polysnap") header t0 ≡ Ok (n, t1) → problem_in n t1 ≡ Ok (p, t2) → position_in t2 ≡ Ok (position, t3) → breaks_of_version n p t3 ≡ Ok (bs, t4) → keyed_line BadState (codes "end") end_from t4 ≡ Ok (tt, t5) → whole n p bs t5 ≡ Ok tt → parts_of t0 ≡ Ok (snapshot_with p position.0 position.1 position.2 bs)
+  unfolding parts_of parts_after ended
   chained a b c d e f = rw (a, b, c, d, e, f) refl
 
 -- a snapshot's text says the snapshot
@@ -156,19 +156,19 @@ parts_again v g =
     let p = v.problem in
     let bs = v.breaks in
     let n = version_of p bs in
-    let place : Place = (v.lo, v.hi, v.state) in
+    let position : Position = (v.lo, v.hi, v.state) in
     let fine = and_parts (list_all (is_break p) bs) (are_new bs) g.breaks in
     let version = version_is p bs in
     let t4 = line_text (codes "end" ∷ []) ++ [] in
     let t3 = text_of (lines_of_breaks p bs) ++ t4 in
-    let t2 = place_text place t3 in
+    let t2 = position_text position t3 in
     let t1 = line_text (codes "problem" ∷ decimal (length (word_lines p)) ∷ []) ++ (written p ++ t2) in
     let t0 = line_text (codes "polysnap" ∷ decimal n ∷ []) ++ t1 in
     let text_is = joined (codes "polysnap" ∷ decimal n ∷ []) (codes "problem" ∷ decimal (length (word_lines p)) ∷ []) (codes "from" ∷ cut_words (codes "start") v.lo) (codes "to" ∷ cut_words (codes "end") v.hi) (codes "state" ∷ state_words v.state) (codes "end" ∷ []) (written p) (text_of (lines_of_breaks p bs)) t0 t1 t2 t3 t4 [] refl refl refl refl refl refl in
-    let read : parts_of t0 ≡ Ok v = chained n t0 t1 t2 t3 t4 [] p place bs
+    let read : parts_of t0 ≡ Ok v = chained n t0 t1 t2 t3 t4 [] p position bs
     (keyed_line_again BadHeader (codes "polysnap") header (decimal n ∷ []) t1 n (header_word n version.small) (header_again n version.one_of))
     (problem_again p g.problem n t2 version.one_of version.small version.plain)
-    (place_again p g.problem place t3 g.on_run.low g.on_run.high g.on_run.fits)
+    (position_again p g.problem position t3 g.on_run.low g.on_run.high g.on_run.fits)
     (breaks_version_again p g.problem bs t4 fine.0 fine.1)
     (keyed_line_again BadState (codes "end") end_from [] [] tt refl end_again)
     (whole_again n p bs version.spelled) in

@@ -14,23 +14,23 @@ use Rattle.x_snapshot.specs.declared.fault.SnapshotFault.TheVariants.{BadHeader,
 use Rattle.x_snapshot.specs.Breaks.{is_break, are_new, are_breaks}
 use Rattle.x_snapshot.specs.Snapshot.{SnapshotValue, snapshot_with}
 use Rattle.x_snapshot.specs.Writing.{needs_second, version_of, cut_words, state_words, break_lines, lines_of_breaks, snapshot_text}
-use Rattle.x_snapshot.specs.Reading.{keyed_line, header, cut_from, state_from, end_from, problem_in, place_in, breaks_of_version, whole, parts_of}
+use Rattle.x_snapshot.specs.Reading.{keyed_line, header, cut_from, state_from, end_from, problem_in, position_in, breaks_of_version, whole, ended, parts_after, parts_of}
 use Rattle.x_snapshot.proofs.BackLemmas.{keyed_line_back, header_back, cut_back, state_back, end_back}
 use Rattle.x_snapshot.proofs.ProblemBack.{IsProblemText, problem_back}
 use Rattle.x_snapshot.proofs.BreakBack.{AreFine, breaks_back}
 
 -- *the branch and the state*
 
-abbrev pub Place : Type 0
-Place = Option (List ℕ) × Option (List ℕ) × StateValue
+abbrev pub Position : Type 0
+Position = Option (List ℕ) × Option (List ℕ) × StateValue
 
 -- the three lines, and what stands after them
-abbrev pub place_text : Place → List ℕ → List ℕ
-place_text v rest = line_text (codes "from" ∷ cut_words (codes "start") v.0) ++ (line_text (codes "to" ∷ cut_words (codes "end") v.1) ++ (line_text (codes "state" ∷ state_words v.2) ++ rest))
+abbrev pub position_text : Position → List ℕ → List ℕ
+position_text v rest = line_text (codes "from" ∷ cut_words (codes "start") v.0) ++ (line_text (codes "to" ∷ cut_words (codes "end") v.1) ++ (line_text (codes "state" ∷ state_words v.2) ++ rest))
 
-place_back : (text : List ℕ) (r : Place × List ℕ) → place_in text ≡ Ok r → text ≡ place_text r.0 r.1
-unfolding place_in
-place_back text r h =
+position_back : (text : List ℕ) (r : Position × List ℕ) → position_in text ≡ Ok r → text ≡ position_text r.0 r.1
+unfolding position_in
+position_back text r h =
     let a = bind_ok (keyed_line BadState (codes "from") (cut_from (codes "start")) text) (λ lo. keyed_line BadState (codes "to") (cut_from (codes "end")) lo.1 >>= λ hi. keyed_line BadState (codes "state") state_from hi.1 >>= λ state. Ok ((lo.0, hi.0, state.0), state.1)) r h in
     let b = bind_ok (keyed_line BadState (codes "to") (cut_from (codes "end")) a.0.1) (λ hi. keyed_line BadState (codes "state") state_from hi.1 >>= λ state. Ok ((a.0.0, hi.0, state.0), state.1)) r a.2 in
     let c = bind_ok (keyed_line BadState (codes "state") state_from b.0.1) (λ state. Ok ((a.0.0, b.0.0, state.0), state.1)) r b.2 in
@@ -40,8 +40,8 @@ place_back text r h =
     let from : text ≡ line_text (codes "from" ∷ cut_words (codes "start") a.0.0) ++ a.0.1 = i.2 ∙ ap (λ ws. line_text (codes "from" ∷ ws) ++ a.0.1) (cut_back (codes "start") i.0 a.0.0 i.1) in
     let to : a.0.1 ≡ line_text (codes "to" ∷ cut_words (codes "end") b.0.0) ++ b.0.1 = j.2 ∙ ap (λ ws. line_text (codes "to" ∷ ws) ++ b.0.1) (cut_back (codes "end") j.0 b.0.0 j.1) in
     let state : b.0.1 ≡ line_text (codes "state" ∷ state_words c.0.0) ++ c.0.1 = k.2 ∙ ap (λ ws. line_text (codes "state" ∷ ws) ++ c.0.1) (state_back k.0 c.0.0 k.1) in
-    let all : text ≡ place_text (a.0.0, b.0.0, c.0.0) c.0.1 = from ∙ ap (λ t. line_text (codes "from" ∷ cut_words (codes "start") a.0.0) ++ t) (to ∙ ap (λ t. line_text (codes "to" ∷ cut_words (codes "end") b.0.0) ++ t) state) in
-    subst (λ (v : Place × List ℕ). text ≡ place_text v.0 v.1) (ok_is ((a.0.0, b.0.0, c.0.0), c.0.1) r c.2) all
+    let all : text ≡ position_text (a.0.0, b.0.0, c.0.0) c.0.1 = from ∙ ap (λ t. line_text (codes "from" ∷ cut_words (codes "start") a.0.0) ++ t) (to ∙ ap (λ t. line_text (codes "to" ∷ cut_words (codes "end") b.0.0) ++ t) state) in
+    subst (λ (v : Position × List ℕ). text ≡ position_text v.0 v.1) (ok_is ((a.0.0, b.0.0, c.0.0), c.0.1) r c.2) all
 
 -- *the end*
 
@@ -126,30 +126,30 @@ pub record IsRead (text : List ℕ) (v : SnapshotValue) : Type 0 where
   pub problem : IsProblem v.problem
   pub breaks : are_breaks v.problem v.breaks ≡ true
 
-module _ (text : List ℕ) (n : ℕ) (words ends : List (List ℕ)) (t1 t2 t3 t4 t5 : List ℕ) (p : ProblemValue) (place : Place) (bs : List Break) where
-  assembled : IsHeader n words → text ≡ line_text (codes "polysnap" ∷ words) ++ t1 → IsProblemText n t1 p t2 → t2 ≡ place_text place t3 → IsVersion p n t3 bs t4 → ends ≡ [] → t4 ≡ line_text (codes "end" ∷ ends) ++ t5 → t5 ≡ [] → IsRead text (snapshot_with p place.0 place.1 place.2 bs)
+module _ (text : List ℕ) (n : ℕ) (words ends : List (List ℕ)) (t1 t2 t3 t4 t5 : List ℕ) (p : ProblemValue) (position : Position) (bs : List Break) where
+  assembled : IsHeader n words → text ≡ line_text (codes "polysnap" ∷ words) ++ t1 → IsProblemText n t1 p t2 → t2 ≡ position_text position t3 → IsVersion p n t3 bs t4 → ends ≡ [] → t4 ≡ line_text (codes "end" ∷ ends) ++ t5 → t5 ≡ [] → IsRead text (snapshot_with p position.0 position.1 position.2 bs)
   unfolding snapshot_text
   assembled head e0 cover e2 version no_ends e4 e5 = record {
-    text_is = joined (codes "polysnap" ∷ decimal (version_of p bs) ∷ []) (codes "problem" ∷ decimal (length (word_lines p)) ∷ []) (codes "from" ∷ cut_words (codes "start") place.0) (codes "to" ∷ cut_words (codes "end") place.1) (codes "state" ∷ state_words place.2) (codes "end" ∷ []) (written p) (text_of (lines_of_breaks p bs)) text t1 t2 t3 t4 t5
+    text_is = joined (codes "polysnap" ∷ decimal (version_of p bs) ∷ []) (codes "problem" ∷ decimal (length (word_lines p)) ∷ []) (codes "from" ∷ cut_words (codes "start") position.0) (codes "to" ∷ cut_words (codes "end") position.1) (codes "state" ∷ state_words position.2) (codes "end" ∷ []) (written p) (text_of (lines_of_breaks p bs)) text t1 t2 t3 t4 t5
         (e0 ∙ ap (λ ws. line_text (codes "polysnap" ∷ ws) ++ t1) (head.words_are ∙ ap (λ m. decimal m ∷ []) version.version_is)) cover.text_is e2 version.text_is (e4 ∙ ap (λ ws. line_text (codes "end" ∷ ws) ++ t5) no_ends) e5;
     problem = cover.problem;
     breaks = and_from (list_all (is_break p) bs) (are_new bs) version.fine.met version.fine.new;
   }
 
 pub parts_back : (text : List ℕ) (v : SnapshotValue) → parts_of text ≡ Ok v → IsRead text v
-unfolding parts_of
+unfolding parts_of parts_after ended
 parts_back text v h =
     let a = bind_ok (keyed_line BadHeader (codes "polysnap") header text) _ v h in
     let b = bind_ok (problem_in a.0.0 a.0.1) _ v a.2 in
-    let c = bind_ok (place_in b.0.1) _ v b.2 in
+    let c = bind_ok (position_in b.0.1) _ v b.2 in
     let d = bind_ok (breaks_of_version a.0.0 b.0.0 c.0.1) _ v c.2 in
-    let e = bind_ok (keyed_line BadState (codes "end") end_from d.0.1) _ v d.2 in
-    let f = bind_ok (whole a.0.0 b.0.0 d.0.0 e.0.1) (λ checked. Ok (snapshot_with b.0.0 c.0.0.0 c.0.0.1 c.0.0.2 d.0.0)) v e.2 in
+    let f = bind_ok (ended a.0.0 b.0.0 d.0.0 d.0.1) (λ checked. Ok (snapshot_with b.0.0 c.0.0.0 c.0.0.1 c.0.0.2 d.0.0)) v d.2 in
+    let e = bind_ok (keyed_line BadState (codes "end") end_from d.0.1) _ f.0 f.1 in
     let i = keyed_line_back BadHeader (codes "polysnap") header text a.0 a.1 in
     let head = header_is a.0.0 i.0 (header_back i.0 a.0.0 i.1) in
     let j = problem_back a.0.0 a.0.1 b.0 head.small b.1 in
     let k = keyed_line_back BadState (codes "end") end_from d.0.1 e.0 e.1 in
-    let w = whole_back a.0.0 b.0.0 d.0.0 e.0.1 f.0 f.1 in
+    let w = whole_back a.0.0 b.0.0 d.0.0 e.0.1 f.0 e.2 in
     let m = version_back b.0.0 a.0.0 c.0.1 d.0 j.problem head.one_of d.1 j.in_version w.1 in
     subst (IsRead text) (ok_is (snapshot_with b.0.0 c.0.0.0 c.0.0.1 c.0.0.2 d.0.0) v f.2)
-    (assembled text a.0.0 i.0 k.0 a.0.1 b.0.1 c.0.1 d.0.1 e.0.1 b.0.0 c.0.0 d.0.0 head i.2 j (place_back b.0.1 c.0 c.1) m (end_back k.0 e.0.0 k.1) k.2 w.0)
+    (assembled text a.0.0 i.0 k.0 a.0.1 b.0.1 c.0.1 d.0.1 e.0.1 b.0.0 c.0.0 d.0.0 head i.2 j (position_back b.0.1 c.0 c.1) m (end_back k.0 e.0.0 k.1) k.2 w.0)

@@ -33,6 +33,7 @@ abbrev pub is_valid_from : ProblemValue → List ℕ → List ℕ → Bool
 is_valid_from p c [] = true
 is_valid_from p c (o ∷ path) = is_choice p c o && is_valid_from p (taken p c o) path
 
+-- the same from the beginning, where nothing is covered: whether the path is one of the search
 abbrev pub is_valid : ProblemValue → List ℕ → Bool
 is_valid p path = is_valid_from p [] path
 
@@ -55,6 +56,7 @@ is_fit_at p X8 path cursor.None = is_valid p path
 is_fit_at p Done path cursor.None = is_none path
 is_fit_at p _ path _ = false
 
+-- the same of a state s, by its label, its path and its cursor
 abbrev pub is_fit : ProblemValue → StateValue → Bool
 is_fit p s = is_fit_at p s.label s.path s.cursor
 
@@ -73,6 +75,7 @@ is_within p b s =
     comes_before p (first_of b.lo) (end_of b.hi)
     && (not (comes_before p s (first_of b.lo)) && not (comes_before p (end_of b.hi) s))
 
+-- whether the cuts of a snapshot bound a branch in this order, and its state is within that branch
 unfoldable pub is_inside : SnapshotValue → Bool
 is_inside v = is_within v.problem (branch_between v.problem v.lo v.hi) v.state
 
@@ -80,6 +83,7 @@ is_inside v = is_within v.problem (branch_between v.problem v.lo v.hi) v.state
 abbrev pub judged_parts : SnapshotValue → Result SnapshotValue SnapshotFault
 judged_parts v = if is_on_run v then (if is_inside v then Ok v else Err OutsideBranch) else Err NotOnRun
 
+-- what was read of a text, judged so: a fault that the reading found stays the first
 abbrev pub judged : Result SnapshotValue SnapshotFault → Result SnapshotValue SnapshotFault
 judged (Ok v) = judged_parts v
 judged (Err f) = Err f

@@ -5,7 +5,7 @@ use Rattle.text_lines.specs.declared.refusal.Refusal.TheVariants as refusals
 use Rattle.x_snapshot.specs.declared.fault.SnapshotFault.{SnapshotFault}
 use Rattle.x_snapshot.specs.declared.fault.SnapshotFault.TheVariants.{OutOfMemory}
 use Rattle.x_snapshot.specs.Snapshot.{SnapshotValue}
-use Rattle.x_snapshot.specs.Refusals.{IsPlaceRefused}
+use Rattle.x_snapshot.specs.Refusals.{IsPositionRefused}
 use Rattle.x_snapshot.specs.Reading.{parts_of}
 
 -- a refusal as a fault
@@ -16,7 +16,7 @@ fault_from refusals.OutOfMemory = OutOfMemory
 -- the first fault of a text's lines; or of the cuts and the state that they say
 abbrev pub IsFaultOfText : List ℕ → SnapshotFault → Type 0
 IsFaultOfText text fault = (parts_of text ≡ Err fault)
-    ⊎ ((v : SnapshotValue) × (parts_of text ≡ Ok v) × IsPlaceRefused v.problem v.lo v.hi v.state fault)
+    ⊎ ((v : SnapshotValue) × (parts_of text ≡ Ok v) × IsPositionRefused v.problem v.lo v.hi v.state fault)
 
 -- the first fault of a text, unless memory ran out
 abbrev pub IsReadRefused : List ℕ → SnapshotFault → Type 0

@@ -117,6 +117,7 @@ abbrev pub digits_from : Option (List ℕ) → Result ℕ SnapshotFault
 digits_from None = Err BadHeader
 digits_from (Some word) = if are_digits word then version_from word else Err BadHeader
 
+-- the version that the first line says, by the words after its key
 unfoldable pub header : List (List ℕ) → Result ℕ SnapshotFault
 header words = digits_from (only words)
 
@@ -198,6 +199,7 @@ cursor_from word =
 abbrev pub step_from : List ℕ → List ℕ → Option (Label × Cursor)
 step_from label cursor = option_and_then (λ l. option_map (λ k. (l, k)) (cursor_from cursor)) (label_from label)
 
+-- the state that these words say: a label, a cursor, and the choices of its path
 unfoldable pub state_from : List (List ℕ) → Result StateValue SnapshotFault
 state_from (label ∷ cursor ∷ words) = do
   step ← found_or BadState (step_from label cursor)
@@ -215,9 +217,11 @@ end_from words = if is_empty words then Ok tt else Err BadState
 abbrev pub level_from : ProblemValue → List ℕ → Option Break
 level_from p word = option_map breakpoints.Level (number_of (length p.names) word)
 
+-- the breakpoint at an option of problem p, by the option's number
 abbrev pub option_break_from : ProblemValue → List ℕ → Option Break
 option_break_from p word = option_map breakpoints.Option (option_from (length p.options) word)
 
+-- the breakpoint at an item of problem p, by the item's name
 abbrev pub item_from : ProblemValue → List ℕ → Option Break
 item_from p word = option_map breakpoints.Item (item_named p.names word)
 
@@ -245,8 +249,9 @@ break_from p (kind ∷ []) = lone_break kind
 break_from p (kind ∷ word ∷ []) = break_of p (kind_from kind) word
 break_from p _ = None
 
-abbrev pub said_break : ProblemValue → List (List ℕ) → Result Break SnapshotFault
-said_break p words = found_or BadBreak (break_from p words)
+-- the same, or the fault of a line whose words are no breakpoint over problem p
+abbrev pub break_of_words : ProblemValue → List (List ℕ) → Result Break SnapshotFault
+break_of_words p words = found_or BadBreak (break_from p words)
 
 -- breakpoints with one more, which is new
 abbrev pub new_break : List Break → Break → Result (List Break) SnapshotFault
@@ -255,7 +260,7 @@ new_break bs b = if list_any (is_same b) bs then Err BadBreak else Ok (bs ++ b �
 -- breakpoints with that of the next line, and what stands after it
 unfoldable pub add_break : ProblemValue → List Break → List ℕ → Result (List Break × List ℕ) SnapshotFault
 add_break p bs text = do
-  line ← keyed_line BadBreak (codes "break") (said_break p) text
+  line ← keyed_line BadBreak (codes "break") (break_of_words p) text
   more ← new_break bs line.0
   Ok (more, line.1)
 
@@ -290,20 +295,30 @@ whole version p breaks rest =
     (if (version == 2) && not (needs_second p breaks) then Err Spelling else Ok tt)
 
 -- the cuts and the state
-unfoldable pub place_in : List ℕ → Result ((Option (List ℕ) × Option (List ℕ) × StateValue) × List ℕ) SnapshotFault
-place_in text = do
+unfoldable pub position_in : List ℕ → Result ((Option (List ℕ) × Option (List ℕ) × StateValue) × List ℕ) SnapshotFault
+position_in text = do
   lo ← keyed_line BadState (codes "from") (cut_from (codes "start")) text
   hi ← keyed_line BadState (codes "to") (cut_from (codes "end")) lo.1
   state ← keyed_line BadState (codes "state") state_from hi.1
   Ok ((lo.0, hi.0, state.0), state.1)
+
+-- after the breakpoints: the last line, and nothing that it doesn't allow
+unfoldable pub ended : ℕ → ProblemValue → List Break → List ℕ → Result (Unit {0}) SnapshotFault
+ended version p breaks text = do
+  end ← keyed_line BadState (codes "end") end_from text
+  whole version p breaks end.1
+
+-- what a text says after its problem: the cuts, the state and the breakpoints
+unfoldable pub parts_after : ℕ → ProblemValue → List ℕ → Result SnapshotValue SnapshotFault
+parts_after version p text = do
+  position ← position_in text
+  breaks ← breaks_of_version version p position.1
+  checked ← ended version p breaks.0 breaks.1
+  Ok (snapshot_with p position.0.0 position.0.1 position.0.2 breaks.0)
 
 -- what a text says, or its first fault; whether it is on the run is not judged
 unfoldable pub parts_of : List ℕ → Result SnapshotValue SnapshotFault
 parts_of text = do
   version ← keyed_line BadHeader (codes "polysnap") header text
   problem ← problem_in version.0 version.1
-  place ← place_in problem.1
-  breaks ← breaks_of_version version.0 problem.0 place.1
-  end ← keyed_line BadState (codes "end") end_from breaks.1
-  checked ← whole version.0 problem.0 breaks.0 end.1
-  Ok (snapshot_with problem.0 place.0.0 place.0.1 place.0.2 breaks.0)
+  parts_after version.0 problem.0 problem.1

@@ -22,6 +22,7 @@ abbrev pub cut_fault_of : CutFault → SnapshotFault
 cut_fault_of cuts.NotUntried = NotOnRun
 cut_fault_of cuts.OutOfMemory = OutOfMemory
 
+-- why a runner can't start at a state, as a fault of a snapshot
 abbrev pub start_fault_of : StartFault → SnapshotFault
 start_fault_of (starts.Steps steps.NotAState) = NotOnRun
 start_fault_of (starts.Steps steps.OutOfMemory) = OutOfMemory
@@ -47,17 +48,17 @@ IsStartRefused p b s OutsideBranch = Fits p s × (CanStart p b s → ⊥)
 IsStartRefused p b s OutOfMemory = Unit {0}
 IsStartRefused p b s _ = ⊥
 
--- a cut or the state isn't on the run; or all of them are, and the branch or the state's place in it isn't right
-abbrev pub IsPlaceRefused : ProblemValue → Option (List ℕ) → Option (List ℕ) → StateValue → SnapshotFault → Type 0
-IsPlaceRefused p lo hi s NotOnRun = IsOnRun p lo hi s → ⊥
-IsPlaceRefused p lo hi s OutsideBranch = IsOnRun p lo hi s × (IsInside p lo hi s → ⊥)
-IsPlaceRefused p lo hi s OutOfMemory = Unit {0}
-IsPlaceRefused p lo hi s _ = ⊥
+-- a cut or the state isn't on the run; or all of them are, and the branch or the state's position in it isn't right
+abbrev pub IsPositionRefused : ProblemValue → Option (List ℕ) → Option (List ℕ) → StateValue → SnapshotFault → Type 0
+IsPositionRefused p lo hi s NotOnRun = IsOnRun p lo hi s → ⊥
+IsPositionRefused p lo hi s OutsideBranch = IsOnRun p lo hi s × (IsInside p lo hi s → ⊥)
+IsPositionRefused p lo hi s OutOfMemory = Unit {0}
+IsPositionRefused p lo hi s _ = ⊥
 
 -- why parts make no snapshot: the first of these faults, unless memory ran out
 abbrev pub IsRefused : SnapshotValue → SnapshotFault → Type 0
 IsRefused v BadBreak = are_breaks v.problem v.breaks ≡ false
-IsRefused v NotOnRun = (are_breaks v.problem v.breaks ≡ true) × IsPlaceRefused v.problem v.lo v.hi v.state NotOnRun
-IsRefused v OutsideBranch = (are_breaks v.problem v.breaks ≡ true) × IsPlaceRefused v.problem v.lo v.hi v.state OutsideBranch
+IsRefused v NotOnRun = (are_breaks v.problem v.breaks ≡ true) × IsPositionRefused v.problem v.lo v.hi v.state NotOnRun
+IsRefused v OutsideBranch = (are_breaks v.problem v.breaks ≡ true) × IsPositionRefused v.problem v.lo v.hi v.state OutsideBranch
 IsRefused v OutOfMemory = Unit {0}
 IsRefused v _ = ⊥

@@ -1,6 +1,7 @@
 -- What a snapshot is: a problem, a branch of its run, a state within it, and the breakpoints of a search that stands there.
 --
--- Example: in the small problem, from the cut 4 to the end, the state X2 after the choices 4 5 1.
+-- Example: in the small problem, from the cut 4 to the end, the state X2 after the choices 4 5 1. proofs/SnapshotExamples.antt shows
+-- that it is one.
 use Rattle.std.specs.Prelude.{ℕ, ◌≡◌, true, List, Option, Some, option_map}
 use Rattle.std.specs.Prelude as prelude
 use Rattle.std.specs.Global.{Vec}
@@ -23,6 +24,7 @@ pub record SnapshotValue : Type 0 where
   pub state : StateValue
   pub breaks : List Break
 
+-- the snapshot that has these parts
 abbrev pub snapshot_with : ProblemValue → Option (List ℕ) → Option (List ℕ) → StateValue → List Break → SnapshotValue
 snapshot_with problem lo hi state breaks = record { problem = problem; lo = lo; hi = hi; state = state; breaks = breaks }
 

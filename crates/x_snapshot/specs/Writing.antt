@@ -87,8 +87,8 @@ abbrev pub lines_of_breaks : ProblemValue → List Break → List (List (List �
 lines_of_breaks p breaks = if needs_second p breaks then break_lines p breaks else []
 
 -- the lines of the branch and the state
-abbrev pub place_lines : SnapshotValue → List (List (List ℕ))
-place_lines v =
+abbrev pub position_lines : SnapshotValue → List (List (List ℕ))
+position_lines v =
     (codes "from" ∷ cut_words (codes "start") v.lo)
     ∷ (codes "to" ∷ cut_words (codes "end") v.hi)
     ∷ (codes "state" ∷ state_words v.state) ∷ []
@@ -100,5 +100,5 @@ end_line = (codes "end" ∷ []) ∷ []
 -- the text of a snapshot
 unfoldable pub snapshot_text : SnapshotValue → List ℕ
 snapshot_text v =
-    text_of (head_lines v) ++ written v.problem ++ text_of (place_lines v)
+    text_of (head_lines v) ++ written v.problem ++ text_of (position_lines v)
     ++ text_of (lines_of_breaks v.problem v.breaks) ++ text_of end_line

@@ -3,7 +3,7 @@ ghost use Rattle.std.specs.Prelude.{◌≡◌, [], option_map, IfOk, IfErr, OnOk
 ghost use Rattle.x_steps.specs.StateView.{state_value};
 ghost use Rattle.x_branches.specs.Refusals.{CanStart};
 ghost use Rattle.x_snapshot.specs.Snapshot.{IsCutIfAny, IsOnRun, IsInside, IsSnapshot, choices_of, path_in, parts_value};
-ghost use Rattle.x_snapshot.specs.Refusals.{cut_fault_of, start_fault_of, IsCutRefused, IsStartRefused, IsPlaceRefused, IsRefused};
+ghost use Rattle.x_snapshot.specs.Refusals.{cut_fault_of, start_fault_of, IsCutRefused, IsStartRefused, IsPositionRefused, IsRefused};
 
 use crate::breakpoint::{Break, check_breaks};
 use crate::fault::SnapshotFault;
@@ -80,7 +80,7 @@ fn check_state<'p, T: Table>(
 }
 
 /// Whether cuts and a state are on the run, and the state within the branch between them.
-fn check_place(
+fn check_position(
     alloc: Global,
     problem: &Problem,
     lo: &Option<Vec<u32>>,
@@ -90,7 +90,7 @@ fn check_place(
     ensures on_run { OnOk result (IsOnRun problem.now (choices_of lo.now) (choices_of hi.now) (state_value state.now)) }
     ensures inside { OnOk result (IsInside problem.now (choices_of lo.now) (choices_of hi.now) (state_value state.now)) }
     ensures refused { IfErr result (λ fault.
-        IsPlaceRefused problem.now (choices_of lo.now) (choices_of hi.now) (state_value state.now) fault) }
+        IsPositionRefused problem.now (choices_of lo.now) (choices_of hi.now) (state_value state.now) fault) }
 {
     let table = LinkTable::new(alloc, problem)?;
     let (table, lo) = cut_of(alloc, problem, table, lo)?;
@@ -112,5 +112,5 @@ pub fn check_parts(
 {
     let _items = problem.items();
     check_breaks(alloc, problem, breaks)?;
-    check_place(alloc, problem, lo, hi, state)
+    check_position(alloc, problem, lo, hi, state)
 }

@@ -1,4 +1,4 @@
-//! Snapshots: a place in a search, with its problem, its branch and its breakpoints, as one text.
+//! Snapshots: a position in a search, with its problem, its branch and its breakpoints, as one text.
 #![tactic(auto)]
 
 mod breakpoint;

@@ -11,20 +11,20 @@ ghost use Rattle.x_snapshot.specs.Judged.{snapshot_of};
 
 mod breaks;
 mod lines;
-mod place;
+mod position;
 mod problem;
 
 use crate::breakpoint::Break;
 use crate::fault::SnapshotFault;
-use crate::snapshot::{Snapshot, SnapshotParts};
+use crate::snapshot::{PartsAfter, Snapshot, SnapshotParts};
 use crate::writing::needs_second;
 pub use breaks::break_from;
 use breaks::breaks_of_version;
 use cover_problem::Problem;
 pub use lines::{only_word, option_from};
 use lines::{are_digits, keyed};
-use place::place_in;
-pub use place::state_from;
+use position::position_in;
+pub use position::state_from;
 use problem::problem_in;
 use std::alloc::Global;
 use text_lines::{Refusal, has_words};
@@ -104,6 +104,26 @@ fn check_whole(version: u8, problem: &Problem, breaks: &[Break], rest: &[u8]) ->
     Ok(())
 }
 
+/// Checks what stands after the breakpoints: the last line, nothing after it, and the version that is needed.
+#[tactic(auto, unfolding(crate::specs::Reading::ended))]
+fn check_ended(version: u8, problem: &Problem, breaks: &[Break], text: &[u8]) -> Found<()>
+    ensures { Gives (λ _. tt) result (spec.ended version problem.now breaks.now text.now) }
+{
+    let rest = after_end(text)?;
+    check_whole(version, problem, breaks, rest)
+}
+
+/// What a text says after its problem: the cuts, the state and the breakpoints.
+#[tactic(auto, unfolding(crate::specs::Reading::parts_after))]
+fn parts_after(alloc: Global, version: u8, problem: &Problem, text: &[u8]) -> Found<PartsAfter>
+    ensures { Gives (λ v. parts_value problem.now v.0 v.1 v.2 v.3.items) result (spec.parts_after version problem.now text.now) }
+{
+    let ((lo, hi, state), rest) = position_in(alloc, text)?;
+    let (breaks, rest) = breaks_of_version(alloc, version, problem, rest)?;
+    check_ended(version, problem, &breaks, rest)?;
+    Ok((lo, hi, state, breaks))
+}
+
 /// What a text says. Whether it is on the run is not judged.
 #[tactic(auto, unfolding(crate::specs::Reading::parts_of))]
 fn read_parts(alloc: Global, text: &[u8]) -> Found<SnapshotParts>
@@ -111,10 +131,7 @@ fn read_parts(alloc: Global, text: &[u8]) -> Found<SnapshotParts>
 {
     let (version, rest) = version_in(text)?;
     let (problem, rest) = problem_in(alloc, version, rest)?;
-    let ((lo, hi, state), rest) = place_in(alloc, rest)?;
-    let (breaks, rest) = breaks_of_version(alloc, version, &problem, rest)?;
-    let rest = after_end(rest)?;
-    check_whole(version, &problem, &breaks, rest)?;
+    let (lo, hi, state, breaks) = parts_after(alloc, version, &problem, rest)?;
     Ok((problem, lo, hi, state, breaks))
 }
 

@@ -21,7 +21,10 @@ pub type SnapshotParts = (
     Vec<Break>,
 );
 
-/// A place in the search of a problem: a branch of its run, from a cut or the start up to a later cut or the end, and a state
+/// The parts that come after its problem.
+pub type PartsAfter = (Option<Vec<u32>>, Option<Vec<u32>>, State, Vec<Break>);
+
+/// A position in the search of a problem: a branch of its run, from a cut or the start up to a later cut or the end, and a state
 /// in the branch or at its end. With it go the breakpoints of a search that stands there.
 #[derive(Drop)]
 pub struct Snapshot {

@@ -24,7 +24,7 @@ pub fn state_at(alloc: Global, label: Label, path: &[u32], cursor: Cursor) -> Re
 }
 
 /// What was made, or that it was refused.
-fn made<V: Drop, F: Drop, G: Drop>(made: Result<V, Refused<F, G>>) -> Result<V, Fail> {
+fn value_of<V: Drop, F: Drop, G: Drop>(made: Result<V, Refused<F, G>>) -> Result<V, Fail> {
     match made {
         Ok(value) => Ok(value),
         Err(_) => Err(Fail::from("refused")),
@@ -33,14 +33,14 @@ fn made<V: Drop, F: Drop, G: Drop>(made: Result<V, Refused<F, G>>) -> Result<V, 
 
 /// The cut of a path.
 pub fn cut_of<'p>(alloc: Global, problem: &'p Problem, path: &[u32]) -> Result<Cut<'p>, Fail> {
-    made(Cut::new(alloc, problem, Vec::from_slice(alloc, path)?))
+    value_of(Cut::new(alloc, problem, Vec::from_slice(alloc, path)?))
 }
 
 /// A runner of the whole run, at X1.
 pub fn whole<'p>(alloc: Global, problem: &'p Problem) -> Result<Runner<'p, PlainTable>, Fail> {
     let table = PlainTable::new(alloc, problem)?;
     let state = state_at(alloc, Label::X1, &[], Cursor::None)?;
-    made(Runner::new(alloc, problem, table, Branch { lo: None, hi: None }, &state))
+    value_of(Runner::new(alloc, problem, table, Branch { lo: None, hi: None }, &state))
 }
 
 /// Takes so many steps, as far as there are any.

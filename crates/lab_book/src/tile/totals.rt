@@ -1,5 +1,6 @@
 //! What the stretches of a tile count: their steps, and their X2 states at each level.
 ghost use Rattle.std.specs.Prelude.{◌≡◌, ◌<◌, ◌≤◌, ◌+◌, ◌*◌, ◌^◌, ℕ, All, length, slice_index};
+ghost use Rattle.x_branches.specs.Refusals.{most_steps};
 ghost use Rattle.x_branches.specs.Stretch.{StretchValue};
 ghost use Rattle.lab_book.specs.Posted.{stretch_steps, stretch_level};
 
@@ -10,7 +11,7 @@ impl<'p> Tile<'p> {
     /// How many steps its stretches have.
     pub(crate) fn steps(&self) -> u128
         ensures steps { result ≡ stretch_steps self.now.stretches }
-        ensures small { result ≤ 4294967295 * length self.now.stretches }
+        ensures small { result ≤ most_steps * length self.now.stretches }
     {
         let mut steps: u128 = 0;
         for stretch in self.stretches() {
@@ -23,12 +24,12 @@ impl<'p> Tile<'p> {
     pub(crate) fn add_levels(&self, totals: &mut [u128])
         requires levels { All (λ (x : StretchValue). length x.problem.names + 1 ≡ length totals.old) self.now.stretches }
         requires room { (level : ℕ) → level < length totals.old →
-            slice_index totals.old level + 4294967295 * length self.now.stretches < 2 ^ 128 }
+            slice_index totals.old level + most_steps * length self.now.stretches < 2 ^ 128 }
         ensures levels { length totals.new ≡ length totals.old }
         ensures sums { (level : ℕ) → level < length totals.old →
             slice_index totals.new level ≡ slice_index totals.old level + stretch_level self.now.stretches level }
         ensures small { (level : ℕ) → level < length totals.old →
-            slice_index totals.new level ≤ slice_index totals.old level + 4294967295 * length self.now.stretches }
+            slice_index totals.new level ≤ slice_index totals.old level + most_steps * length self.now.stretches }
     {
         for stretch in self.stretches() {
             add_counts(totals, stretch.levels());

@@ -2,7 +2,7 @@
 ghost use Rattle.std.specs.Prelude.{◌≡◌, ◌<◌, ◌+◌, ◌-◌, ◌^◌, ◌++◌, All, length, map, take, drop, IfOk, OnOk, OnErr, IfErr};
 ghost use Rattle.x_branches.specs.Cut.{cut_state};
 ghost use Rattle.lab_book.specs.Tiling.{tile_at, AreNumbered};
-ghost use Rattle.lab_book.specs.Book.{parted};
+ghost use Rattle.lab_book.specs.Book.{split_tiles};
 ghost use Rattle.lab_book.specs.Index.{moved_up};
 
 use crate::tile::CutCopies;
@@ -35,7 +35,7 @@ impl<'p> Tiles<'p> {
         requires hi { copies.hi ≡ cut }
         requires end { copies.end ≡ cut_state cut.path }
         requires first { copies.first ≡ cut_state cut.path }
-        ensures tiles { OnOk result (self.new ≡ take i self.old ++ parted (tile_at self.old i) (length self.old) cut.entry
+        ensures tiles { OnOk result (self.new ≡ take i self.old ++ split_tiles (tile_at self.old i) (length self.old) cut.entry
             ++ drop (i + 1) self.old) }
         ensures numbered { OnOk result (AreNumbered self.new) }
         ensures id { IfOk result (λ id. id ≡ length self.old) }

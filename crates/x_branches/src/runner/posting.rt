@@ -1,18 +1,19 @@
 //! The unposted stretch of a runner: it is taken out to be posted, and joined again.
 ghost use Rattle.std.specs.Prelude.{◌≡◌, ◌<◌, ◌≤◌, ◌-◌, ◌↔◌, ◌++◌, [], length, take, drop, replicate, slice_index, IsTrue, IfOk, IfErr};
 ghost use Rattle.std.specs.Prelude.{OnOk, OnErr};
+ghost use Rattle.x_steps.specs.StateView.{state_value};
 ghost use Rattle.x_steps.specs.Levels.{without_last_zeros};
 ghost use Rattle.x_branches.specs.Refusals.{EndsHere, CanReopen, ReopenRefused};
 
 use crate::fault::RunnerFault;
 use crate::order::is_before;
-use crate::place::Place;
+use crate::position::Position;
 use crate::runner::Runner;
 use crate::stretch::Stretch;
-use cover_problem::Table;
+use cover_problem::{Lists, Table};
 use std::alloc::{AllocError, Global};
 use std::mem;
-use x_steps::Refused;
+use x_steps::{Refused, State};
 
 /// Whether the last of the first so many counts is 0.
 fn is_zero_before(counts: &[u32], count: usize) -> bool
@@ -42,6 +43,26 @@ fn trimmed(alloc: Global, counts: &[u32]) -> Result<Vec<u32>, AllocError>
     Vec::from_slice(alloc, front)
 }
 
+/// Two copies of a state.
+fn twice(state: &State) -> Result<(State, State), AllocError>
+    ensures first { IfOk result (λ two. state_value two.0 ≡ state_value state.now) }
+    ensures second { IfOk result (λ two. state_value two.1 ≡ state_value state.now) }
+{
+    let first = state.copy()?;
+    let second = state.copy()?;
+    Ok((first, second))
+}
+
+/// Copies of the visits, and of the counts up to the last above 0.
+fn copied(alloc: Global, visits: &Lists, counts: &[u32]) -> Result<(Lists, Vec<u32>), AllocError>
+    ensures visits { IfOk result (λ kept. kept.0 ≡ visits.now) }
+    ensures levels { IfOk result (λ kept. kept.1.items ≡ without_last_zeros counts.now) }
+{
+    let visits = visits.copy()?;
+    let levels = trimmed(alloc, counts)?;
+    Ok((visits, levels))
+}
+
 /// Takes all counts away.
 fn forget_all(counts: &mut [u32])
     ensures { counts.new ≡ replicate (length counts.old) 0 }
@@ -67,10 +88,8 @@ impl<'p, T: Table> Runner<'p, T> {
         ensures unchanged { OnErr result (self.new ≡ self.old) }
     {
         let state = self.machine.state();
-        let to = state.copy()?;
-        let mark = state.copy()?;
-        let visits = self.visits.copy()?;
-        let levels = trimmed(*state.path.allocator(), &self.counts)?;
+        let (to, mark) = twice(state)?;
+        let (visits, levels) = copied(*state.path.allocator(), &self.visits, &self.counts)?;
         let steps = self.steps;
         let from = mem::replace(&mut self.mark, mark);
         self.steps = 0;
@@ -104,7 +123,7 @@ impl<'p, T: Table> Runner<'p, T> {
         if !stretch.problem().same(self.machine.problem()) {
             return false;
         }
-        !is_before(&Place::of(stretch.from()), &self.branch.first())
+        !is_before(&Position::of(stretch.from()), &self.branch.first())
     }
 
     /// Joins a stretch again that ends at the mark, without memory: it is unposted then, and the mark is where it begins.

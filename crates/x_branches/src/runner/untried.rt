@@ -19,7 +19,7 @@ use crate::branch::Branch;
 use crate::cut::Cut;
 use crate::fault::RunnerFault;
 use crate::order::is_before;
-use crate::place::Place;
+use crate::position::Position;
 use crate::runner::Runner;
 use cover_problem::{Problem, Table};
 use std::alloc::{AllocError, Global};
@@ -76,7 +76,7 @@ fn is_cut_inside(branch: &Branch<'_>, front: &[u32], option: u32) -> bool
     ensures { (p : ProblemValue) → IsOf p branch.now.hi → Fits p (at Label.X5 front.now (Cursor.At option)) →
         result ≡ is_before_end p (end_of branch.now.hi) front.now option }
 {
-    let cut = Place {
+    let cut = Position {
         label: Label::X5,
         path: front,
         cursor: Cursor::At(option),
@@ -213,10 +213,10 @@ impl<'p, T: Table> Runner<'p, T> {
         if !cut.problem().same(self.machine.problem()) {
             return false;
         }
-        if !is_before(&Place::of(self.machine.state()), &cut.place()) {
+        if !is_before(&Position::of(self.machine.state()), &cut.position()) {
             return false;
         }
-        is_before(&cut.place(), &self.branch.end())
+        is_before(&cut.position(), &self.branch.end())
     }
 
     /// Ends the branch at a cut, without memory. Refused where the cut is another problem's, doesn't come after the position, or

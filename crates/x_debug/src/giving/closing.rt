@@ -47,7 +47,7 @@ fn finish<'p, T: Table>(book: &mut Book<'p>, worker: Worker<'p, T>) -> Result<()
     Err(given)
 }
 
-/// Whether a call was refused for want of memory.
+/// Whether a call was refused as out of memory.
 fn is_out_of_memory(fault: &BookFault) -> bool
     ensures { IsTrue result ↔ (fault.now ≡ BookFault.OutOfMemory) }
 {
@@ -90,10 +90,10 @@ pub fn close<'p, T: Table>(
     text: &mut Vec<u8>,
 ) -> Result<Option<Worker<'p, T>>, Worker<'p, T>>
     requires holds { HoldsTile book.old worker }
-    ensures made { IfOk result (λ place. desk book.new place ≡ (close (work book.old worker.entry)).desk) }
+    ensures made { IfOk result (λ seat. desk book.new seat ≡ (close (work book.old worker.entry)).desk) }
     ensures text { OnOk result (text.new.items ≡ text.old.items ++ (close (work book.old worker.entry)).text) }
     ensures left { IfErr result (λ w. IsNotGiven (work book.old worker.entry) (work book.new w)) }
-    ensures holds_still { IfOk result (λ place. IfSome place (HoldsTile book.new)) }
+    ensures holds_still { IfOk result (λ seat. IfSome seat (HoldsTile book.new)) }
     ensures holds_on { IfErr result (λ w. HoldsTile book.new w) }
 {
     if is_at_end(book, &worker) {

@@ -62,7 +62,7 @@ fn snapshot_of<T: Table>(
 }
 
 /// Writes where a worker of this problem stands, as a snapshot with these breakpoints, after the number of its lines.
-fn write_place<T: Table>(
+fn write_position<T: Table>(
     alloc: Global,
     problem: &Problem,
     worker: &Worker<'_, T>,
@@ -94,7 +94,7 @@ pub fn save<'p, T: Table>(
     ensures left { IfErr result (λ w. IsNotGiven (work book.old worker.entry) (work book.new w)) }
     ensures holds_on { IfErr result (λ w. HoldsTile book.new w) }
 {
-    let Ok(()) = write_place(alloc, book.problem(), &worker, breaks, text) else {
+    let Ok(()) = write_position(alloc, book.problem(), &worker, breaks, text) else {
         return Err(worker);
     };
     give_up(book, worker)

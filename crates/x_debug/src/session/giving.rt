@@ -37,8 +37,8 @@ impl<'p, T: Table> Session<'p, T> {
             return write_debug_fault(text, DebugFault::NoBranch);
         };
         match close(&mut self.book, worker, text) {
-            Ok(place) => {
-                self.worker = place;
+            Ok(seat) => {
+                self.worker = seat;
                 Ok(())
             }
             Err(given) => {

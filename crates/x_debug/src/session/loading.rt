@@ -8,7 +8,7 @@ ghost use Rattle.x_steps.specs.StateValue.{StateValue};
 ghost use Rattle.x_snapshot.specs.Breaks.{is_break};
 ghost use Rattle.x_snapshot.specs.Snapshot.{IsCutIfAny, branch_between, path_in};
 ghost use Rattle.lab_book.specs.Book.{opened};
-ghost use Rattle.lab_world.specs.World.{IsPlace};
+ghost use Rattle.lab_world.specs.World.{IsSeat};
 ghost use Rattle.x_debug.specs.Session.{desk};
 ghost use Rattle.x_debug.specs.Entering.{resumed, with_some, seated, loaded};
 ghost use Rattle.x_debug.specs.Loading.{load_by, load_answer};
@@ -107,7 +107,7 @@ fn desk_of<'p, T: Table>(
 ) -> Result<(Book<'p>, Option<Worker<'p, T>>), AllocError>
     requires { snapshot.now.problem ≡ problem.now }
     ensures made { IfOk result (λ r. desk r.0 r.1 ≡ resumed snapshot.now) }
-    ensures place { IfOk result (λ r. IsPlace r.0 0 r.1) }
+    ensures seat { IfOk result (λ r. IsSeat r.0 0 r.1) }
 {
     let mut book = book_of::<T>(alloc, problem, snapshot)?;
     let _tiles = book.tiles();
@@ -119,7 +119,7 @@ impl<'p, T: Table> Session<'p, T> {
     /// Goes on with another book of its problem, and a worker that may have one of its tiles open.
     fn sit_down(&mut self, book: Book<'p>, worker: Option<Worker<'p, T>>)
         requires problem { book.problem ≡ self.old.book.problem }
-        requires place { IsPlace book 0 worker }
+        requires seat { IsSeat book 0 worker }
         ensures { self.new ≡ seated self.old (desk book.entry worker.entry) }
     {
         self.book = book;

@@ -111,8 +111,8 @@ pub fn break_from(problem: &Problem, words: &[u8]) -> Option<Break>
 }
 
 /// The breakpoint of these words, or that they are none.
-fn said_break(problem: &Problem, words: &[u8]) -> Found<Break>
-    ensures { Gives (λ b. b) result (spec.said_break problem.now (words_of words.now)) }
+fn break_of_words(problem: &Problem, words: &[u8]) -> Found<Break>
+    ensures { Gives (λ b. b) result (spec.break_of_words problem.now (words_of words.now)) }
 {
     match break_from(problem, words) {
         Some(breakpoint) => Ok(breakpoint),
@@ -124,10 +124,10 @@ fn said_break(problem: &Problem, words: &[u8]) -> Found<Break>
 #[tactic(auto, unfolding(crate::specs::Reading::keyed_line))]
 fn break_in<'t>(problem: &Problem, text: &'t [u8]) -> Found<(Break, &'t [u8])>
     ensures { Gives (λ r. (r.0, r.1.now)) result
-        (keyed_line SnapshotFault.BadBreak (codes "break") (spec.said_break problem.now) text.now) }
+        (keyed_line SnapshotFault.BadBreak (codes "break") (spec.break_of_words problem.now) text.now) }
 {
     let (words, rest) = keyed(SnapshotFault::BadBreak, b"break", text)?;
-    let breakpoint = said_break(problem, words)?;
+    let breakpoint = break_of_words(problem, words)?;
     Ok((breakpoint, rest))
 }
 

@@ -8,25 +8,25 @@ use Rattle.lab_world.proofs.turn.end.Goals as goal
 
 pub returns-in_default-clause-turned : goal.returns-in_default-clause-turned
 returns-in_default-clause-turned g c =
-    let none : c.args.place.now ≡ None = cc in
+    let none : c.args.seat.now ≡ None = cc in
     let after : c.take.new.self ≡ None = cc in
-    λ w. taken_idle c.args.book.now w c.args.place.now c.take.new.self (end_act c.args.ending) (end_needs c.args.ending) none after
+    λ w. taken_idle c.args.book.now w c.args.seat.now c.take.new.self (end_act c.args.ending) (end_needs c.args.ending) none after
 
 pub returns-in-Ok-clause-turned : goal.returns-in-Ok-clause-turned
 returns-in-Ok-clause-turned g c =
-    let here : c.args.place.now ≡ Some c.in-Some.worker = cc in
+    let here : c.args.seat.now ≡ Some c.in-Some.worker = cc in
     let after : c.take.new.self ≡ None = cc in
     λ w. act_made c.args.book.now c.end.new.book w c.in-Some.worker.grant.worker c.next_index-index.result (end_act c.args.ending)
-    (end_call c.args.ending c.in-Some.worker.grant) (after_end c.in-Some.worker) c.args.place.now c.take.new.self
-    (end_is c.args.book.now w c.args.place.now c.in-Some.worker here c.args.ending)
+    (end_call c.args.ending c.in-Some.worker.grant) (after_end c.in-Some.worker) c.args.seat.now c.take.new.self
+    (end_is c.args.book.now w c.args.seat.now c.in-Some.worker here c.args.ending)
     c.next_index-index.ensures reply.Done c.in-Ok.ensures.made (sym after)
 
 pub returns-clause-turned : goal.returns-clause-turned
 returns-clause-turned g c =
-    told c.refused.result (Book c.next_index-index.result) _ _ c.refused.ensures.reply c.refused.ensures.noted
-    (λ o w. let here : c.args.place.now ≡ Some c.in-Some.worker = cc in
+    told c.refused.result (Book c.next_index-index.result) _ _ c.refused.ensures.reply c.refused.ensures.not_out_of_memory
+    (λ o w. let here : c.args.seat.now ≡ Some c.in-Some.worker = cc in
     act_refused c.args.book.now c.end.new.book w c.in-Some.worker.grant.worker c.next_index-index.result (end_act c.args.ending)
-    (end_call c.args.ending c.in-Some.worker.grant) (after_end c.in-Some.worker) c.args.place.now (Some c.in-Err.refused.given)
-    (end_is c.args.book.now w c.args.place.now c.in-Some.worker here c.args.ending)
+    (end_call c.args.ending c.in-Some.worker.grant) (after_end c.in-Some.worker) c.args.seat.now (Some c.in-Err.refused.given)
+    (end_is c.args.book.now w c.args.seat.now c.in-Some.worker here c.args.ending)
     c.next_index-index.ensures c.in-Err.refused.fault c.in-Err.ensures.refused o
     (λ f. ap (λ (v : WorkerValue). Some v) (sym c.in-Err.ensures.given_back)))

@@ -16,7 +16,7 @@ returns-in-Ok-clause-turned c =
 
 pub returns-in-Err-clause-turned : goal.returns-in-Err-clause-turned
 returns-in-Err-clause-turned c =
-    told c.refused.result (Book c.next_index-index.result) _ _ c.refused.ensures.reply c.refused.ensures.noted
+    told c.refused.result (Book c.next_index-index.result) _ _ c.refused.ensures.reply c.refused.ensures.not_out_of_memory
     (λ o x. act_refused c.args.book.now c.put_back.new.self c.args.w c.args.w c.next_index-index.result (PutBack c.args.id c.args.state.now)
     (call.PutBack c.args.id (state_value c.args.state.now)) (λ (r : Reply). x) x x
     (put_back_is c.args.book.now c.args.w x c.args.id c.args.state.now) c.next_index-index.ensures c.in-Err.fault c.in-Err.ensures.refused o

@@ -15,7 +15,7 @@ returns-in-Ok-clause-turned c =
 
 pub returns-in-Err-clause-turned : goal.returns-in-Err-clause-turned
 returns-in-Err-clause-turned c =
-    told c.refused.result (Book c.next_index-index.result) _ _ c.refused.ensures.reply c.refused.ensures.noted
+    told c.refused.result (Book c.next_index-index.result) _ _ c.refused.ensures.reply c.refused.ensures.not_out_of_memory
     (λ o x. act_refused c.args.book.now c.request_stop.new.self c.args.w c.args.w c.next_index-index.result (RequestStop c.args.id)
     (call.RequestStop c.args.id) (λ (r : Reply). x) x x
     (stop_is c.args.book.now c.args.w x c.args.id) c.next_index-index.ensures c.in-Err.fault c.in-Err.ensures.refused o (λ f. refl))

@@ -3,6 +3,6 @@ use Rattle.lab_world.proofs.world.without_tiles.Given as goal
 
 abbrev pub invariant-loop-made : goal.invariant-loop-made
 invariant-loop-made g l = record {
-  all : l.places.items ≡ replicate l.made None;
-  room : l.workers ≤ vec_capacity l.places;
+  all : l.seats.items ≡ replicate l.made None;
+  room : l.workers ≤ vec_capacity l.seats;
 }

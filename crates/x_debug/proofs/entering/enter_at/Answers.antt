@@ -20,5 +20,5 @@ returns-clause-text g c =
     refused_text c.args.book.now c.args.place c.tiles.ensures.tiling c.requires c.lend.new.book c.in-Err.fault (line_text (at (state_value c.mark.result.now))) c.args.text.now.items c.write_at.new.text.items _ _ c.len-written.result
     c.in-Err.ensures.refused c.in_ok-write_book_fault.ensures.told (omega (arith, c.len-written.ensures, c.args.text.now.ok.0)) c.in_ok-write_at.ensures c.truncate.ensures.items c.in_ok-write_book_fault.ensures.text
 
-pub returns-in-Ok-clause-place : goal.returns-in-Ok-clause-place
-returns-in-Ok-clause-place g c = lent_holds c.args.book.now c.args.place c.tiles.ensures.tiling c.requires c.lend.new.book c.in-Ok.worker c.in-Ok.ensures.book c.in-Ok.ensures.worker
+pub returns-in-Ok-clause-seat : goal.returns-in-Ok-clause-seat
+returns-in-Ok-clause-seat g c = lent_holds c.args.book.now c.args.place c.tiles.ensures.tiling c.requires c.lend.new.book c.in-Ok.worker c.in-Ok.ensures.book c.in-Ok.ensures.worker

@@ -2,15 +2,21 @@ use Rattle.std.proofs.Common.{refl, ap, ap₂, ◌∙◌}
 use Rattle.x_branches.specs.Stretch.{StretchValue}
 use Rattle.lab_book.specs.declared.entry.Reply.TheVariants as replies
 use Rattle.lab_book.specs.Tiling.{tile_at}
-use Rattle.lab_book.specs.Book.{retracted_tile}
+use Rattle.lab_book.specs.Book.{BookValue, retracted_tile}
 use Rattle.lab_book.proofs.TileLemmas.{last_read, part_is_tile}
 use Rattle.lab_book.proofs.BookLemmas.{judged_err}
 use Rattle.lab_book.proofs.CallLemmas.{call_made, retract_is}
+use Rattle.lab_book.proofs.StepLemmas.{with_history}
 use Rattle.lab_book.proofs.StepLemmas.{change_keeps, change_made, retracted_reply, retracted_problem, same_last, leased_open, told_same}
 use Rattle.lab_book.proofs.book.Book.retract.Goals as goal
 
 pub refuse-requires : goal.refuse-requires
 refuse-requires c = judged_err _ _ _ _ _ _ _ (retract_is c.args.self.now _ c.grant-lease.result) c.retract_place.ensures.place c.in-Err.is
+
+-- the book as it was
+abbrev before : goal.After-add → BookValue
+before c =
+    with_history c.self.inside.problem.now c.self.inside.branch c.self.inside.first c.self.inside.tiles c.self.inside.history.entries
 
 pub invariant_of-self-2 : goal.invariant_of-self-2
 invariant_of-self-2 c =
@@ -21,21 +27,8 @@ invariant_of-self-2 c =
     let leased = rw (← c.self.view_is) at c.in-Ok.ensures.leased in
     change_keeps _ _ _ _ _ _ _ c.self.invariant _ _ c.in-Ok.i within (retracted_tile (tile_at c.self.inside.tiles c.in-Ok.i))
     (replies.Retracted c.in-Ok-ends_of.from c.in-Ok-ends_of.to) _ _
-    (call_made _ _ _ _ _ _ _ (retract_is (record {
-      problem = c.self.inside.problem.now;
-      branch = c.self.inside.branch;
-      first = c.self.inside.first;
-      tiles = c.self.inside.tiles;
-      history = c.self.inside.history.entries;
-    }) _ c.grant-lease.result)
-    place c.in-Ok.is) (retracted_reply (record {
-      problem = c.self.inside.problem.now;
-      branch = c.self.inside.branch;
-      first = c.self.inside.first;
-      tiles = c.self.inside.tiles;
-      history = c.self.inside.history.entries;
-    })
-    c.in-Ok.i c.in-Some.last.now _ _ last c.in-Ok-ends_of.ensures.from c.in-Ok-ends_of.ensures.to)
+    (call_made _ _ _ _ _ _ _ (retract_is (before c) _ c.grant-lease.result) place c.in-Ok.is)
+    (retracted_reply (before c) c.in-Ok.i c.in-Some.last.now _ _ last c.in-Ok-ends_of.ensures.from c.in-Ok-ends_of.ensures.to)
     refl c.retract-stretch.ensures.tiles refl refl refl refl
     (λ h. part_is_tile _ _ _ h (leased_open _ leased)) c.in-Ok-keep.ensures.kept c.add.ensures
 
@@ -51,21 +44,8 @@ returns-clause-made c =
     (c.in-Ok-ends_of.ensures.to ∙ ap (λ (x : StretchValue). x.to) same) in
     let made = change_made _ _ _ _ _ _ _ c.self.invariant _ _ c.in-Ok.i within (retracted_tile (tile_at c.self.inside.tiles c.in-Ok.i))
     (replies.Retracted c.in-Ok-ends_of.from c.in-Ok-ends_of.to) _ _
-    (call_made _ _ _ _ _ _ _ (retract_is (record {
-      problem = c.self.inside.problem.now;
-      branch = c.self.inside.branch;
-      first = c.self.inside.first;
-      tiles = c.self.inside.tiles;
-      history = c.self.inside.history.entries;
-    }) _ c.grant-lease.result)
-    place c.in-Ok.is) (retracted_reply (record {
-      problem = c.self.inside.problem.now;
-      branch = c.self.inside.branch;
-      first = c.self.inside.first;
-      tiles = c.self.inside.tiles;
-      history = c.self.inside.history.entries;
-    })
-    c.in-Ok.i c.in-Some.last.now _ _ last c.in-Ok-ends_of.ensures.from c.in-Ok-ends_of.ensures.to)
+    (call_made _ _ _ _ _ _ _ (retract_is (before c) _ c.grant-lease.result) place c.in-Ok.is)
+    (retracted_reply (before c) c.in-Ok.i c.in-Some.last.now _ _ last c.in-Ok-ends_of.ensures.from c.in-Ok-ends_of.ensures.to)
     refl c.retract-stretch.ensures.tiles c.in-Ok-keep.ensures.kept c.add.ensures in
     rw (← c.self.view_is, ← c.grant-lease.ensures) (told_same _ _ _ _ _ _ made told)
 

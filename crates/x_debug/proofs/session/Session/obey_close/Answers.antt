@@ -8,7 +8,7 @@ use Rattle.x_debug.proofs.session.Session.obey_close.Goals as goal
 
 pub invariant_of-self-in-Ok : goal.invariant_of-self-in-Ok
 invariant_of-self-in-Ok g c =
-    closed_session (record { book = c.self.inside.book; worker = c.self.inside.worker; breaks = c.self.inside.breaks.keys }) c.in-Some.worker c.close.new.book c.in-Ok.place c.self.invariant (sym c.take.ensures.value ∙ c.in-Some.is)
+    closed_session (record { book = c.self.inside.book; worker = c.self.inside.worker; breaks = c.self.inside.breaks.keys }) c.in-Some.worker c.close.new.book c.in-Ok.seat c.self.invariant (sym c.take.ensures.value ∙ c.in-Some.is)
     c.in-Ok.ensures.made c.in-Ok.ensures.holds_still
 
 pub invariant_of-self-in-Err : goal.invariant_of-self-in-Err

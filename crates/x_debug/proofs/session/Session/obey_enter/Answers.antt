@@ -10,4 +10,4 @@ invariant_of-self g c =
 pub invariant_of-self-2 : goal.invariant_of-self-2
 invariant_of-self-2 g c =
     entered_session (record { book = c.self.inside.book; worker = c.self.inside.worker; breaks = c.self.inside.breaks.keys }) (option_copied c.args.lo) c.enter.new.book c.in_ok-self-inside.field-0 c.self.invariant
-    c.in_ok-self-inside.ensures.made c.in_ok-self-inside.ensures.place
+    c.in_ok-self-inside.ensures.made c.in_ok-self-inside.ensures.seat

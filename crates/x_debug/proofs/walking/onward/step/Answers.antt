@@ -4,7 +4,7 @@ use Rattle.text_lines.specs.Writing.{text_of}
 use Rattle.x_branches.specs.Runner.{IsRunner}
 use Rattle.debug_texts.specs.declared.fault.DebugFault.TheVariants.{AtEnd}
 use Rattle.debug_texts.specs.declared.words.Plain.TheVariants.{End}
-use Rattle.x_snapshot.proofs.PlaceLemmas.{on_ok as when_ok}
+use Rattle.x_snapshot.proofs.PositionLemmas.{on_ok as when_ok}
 use Rattle.x_debug.specs.Lines.{plain, debug_refusal}
 use Rattle.x_debug.specs.Walking.{work}
 use Rattle.x_debug.proofs.CallLemmas.{on_ok, on_err, answered}

@@ -3,7 +3,7 @@ use Rattle.std.proofs.lemmas.Bool.{false≢true}
 use Rattle.text_lines.specs.Writing.{text_of}
 use Rattle.x_branches.specs.Runner.{IsRunner}
 use Rattle.debug_texts.specs.declared.fault.DebugFault.TheVariants.{AtEnd}
-use Rattle.x_snapshot.proofs.PlaceLemmas.{on_ok as when_ok}
+use Rattle.x_snapshot.proofs.PositionLemmas.{on_ok as when_ok}
 use Rattle.x_debug.specs.Lines.{debug_refusal}
 use Rattle.x_debug.specs.Walking.{work, stop_line}
 use Rattle.x_debug.proofs.CallLemmas.{on_ok, on_err, answered}

@@ -8,13 +8,13 @@ use x_steps::{Cursor, Label, State};
 
 /// The step about to be done, the choices so far, and the option that the step is at.
 #[derive(Drop)]
-pub struct Place<'a> {
+pub struct Position<'a> {
     pub label: Label,
     pub path: &'a [u32],
     pub cursor: Cursor,
 }
 
-impl<'a> Model for Place<'a> {
+impl<'a> Model for Position<'a> {
     ghost use Rattle.x_steps.specs.StateValue.{StateValue, at};
 
     ghost Value = { StateValue };
@@ -22,12 +22,12 @@ impl<'a> Model for Place<'a> {
     ghost view = { λ s. at s.label s.path.now s.cursor };
 }
 
-impl<'a> Place<'a> {
-    /// A state's place.
-    pub fn of(state: &'a State) -> Place<'a>
+impl<'a> Position<'a> {
+    /// A state's position.
+    pub fn of(state: &'a State) -> Position<'a>
         ensures { result ≡ state_value state.now }
     {
-        Place {
+        Position {
             label: state.label,
             path: &state.path,
             cursor: state.cursor,
@@ -35,10 +35,10 @@ impl<'a> Place<'a> {
     }
 
     /// The first of a run.
-    pub fn first() -> Place<'a>
+    pub fn first() -> Position<'a>
         ensures { result ≡ start }
     {
-        Place {
+        Position {
             label: Label::X1,
             path: &[],
             cursor: Cursor::None,
@@ -46,10 +46,10 @@ impl<'a> Place<'a> {
     }
 
     /// The last of a run.
-    pub fn last() -> Place<'a>
+    pub fn last() -> Position<'a>
         ensures { result ≡ done }
     {
-        Place {
+        Position {
             label: Label::Done,
             path: &[],
             cursor: Cursor::None,

@@ -5,7 +5,7 @@ use Rattle.text_lines.specs.Each.{each}
 use Rattle.text_lines.proofs.EachLemmas.{each_goes, each_stops, each_ends}
 use Rattle.text_lines.proofs.ResultLemmas.{passes_on}
 use Rattle.x_snapshot.specs.Reading.{add_choice}
-use Rattle.x_snapshot.proofs.reading.place.choices.Goals as goal
+use Rattle.x_snapshot.proofs.reading.position.choices.Goals as goal
 
 pub returns-in_err-take_choice : goal.returns-in_err-take_choice
 returns-in_err-take_choice c =

@@ -2,7 +2,7 @@ use Rattle.std.proofs.Common.{◌≡◌, length, []}
 use Rattle.text_lines.specs.Lines.{words_of}
 use Rattle.text_lines.specs.Each.{each}
 use Rattle.x_snapshot.specs.Reading.{add_choice}
-use Rattle.x_snapshot.proofs.reading.place.choices.Given as goal
+use Rattle.x_snapshot.proofs.reading.position.choices.Given as goal
 
 -- what the words left add to the path so far is what all words say
 abbrev pub invariant-loop-word : goal.invariant-loop-word

@@ -146,12 +146,12 @@ fn state_in(alloc: Global, text: &[u8]) -> Found<(State, &[u8])>
 }
 
 /// The paths of the two cuts and the state, and what stands after them.
-#[tactic(auto, unfolding(crate::specs::Reading::place_in))]
-pub fn place_in(
+#[tactic(auto, unfolding(crate::specs::Reading::position_in))]
+pub fn position_in(
     alloc: Global,
     text: &[u8],
 ) -> Found<((Option<Vec<u32>>, Option<Vec<u32>>, State), &[u8])>
-    ensures { Gives (λ r. ((choices_of r.0.0, choices_of r.0.1, state_value r.0.2), r.1.now)) result (spec.place_in text.now) }
+    ensures { Gives (λ r. ((choices_of r.0.0, choices_of r.0.1, state_value r.0.2), r.1.now)) result (spec.position_in text.now) }
 {
     let (lo, rest) = cut_in(alloc, b"from", b"start", text)?;
     let (hi, rest) = cut_in(alloc, b"to", b"end", rest)?;

@@ -3,7 +3,7 @@ use Rattle.cover_problem.specs.Problem.{ProblemValue}
 use Rattle.x_steps.specs.StateValue.{StateValue}
 use Rattle.x_steps.specs.Steps.{Fits}
 use Rattle.x_branches.proofs.StageLemmas.{orders}
-use Rattle.x_branches.proofs.order.place_order.Goals as goal
+use Rattle.x_branches.proofs.order.position_order.Goals as goal
 
 pub returns : goal.returns
 returns c =

@@ -8,7 +8,7 @@ use Rattle.cover_links.specs.Entries.{entry_at, changed, one_more, to_up, to_dow
 use Rattle.cover_links.specs.Hiding.{node_unhidden}
 use Rattle.cover_links.specs.Fresh.{node_written, node_appended}
 use Rattle.cover_links.specs.Safety.{CanAppendNode, IsInside}
-use Rattle.cover_links.specs.Ring.{Follows, IsNext, IsRing, without}
+use Rattle.cover_links.specs.Ring.{Follows, IsNext, IsRing, but_for}
 use Rattle.cover_links.specs.Layout.{node_index, spacer_of, start_of}
 use Rattle.cover_links.proofs.EntryLemmas.{length-changed, kept, at_changed, at_other}
 use Rattle.cover_links.proofs.RestoreLemmas.{vertical, length-joined, joined_next, joined_next_other, joined_prev, joined_prev_other, joined_kept}
@@ -47,8 +47,8 @@ module _ (t t' : ℕ → ℕ → Bool) (j k : ℕ) (a : Adds t t' j k) where
       pick m (inl e) = absurd (ne e.0)
       pick m (inr h) = h
 
-  pub added_without : without (t' j) k ≡ t j
-  added_without = λ z m. (same_test (without (t' j) k m) (t j m) (λ h. let w = without_ne (t' j) k m h in pick m w.1 (a.only j m w.0)) (λ h. without_from (t' j) k m (a.stays j m h) (λ e. a.is_new (subst (λ n. t j n ≡ true) e h)))) z
+  pub added_without : but_for (t' j) k ≡ t j
+  added_without = λ z m. (same_test (but_for (t' j) k m) (t j m) (λ h. let w = without_ne (t' j) k m h in pick m w.1 (a.only j m w.0)) (λ h. without_from (t' j) k m (a.stays j m h) (λ e. a.is_new (subst (λ n. t j n ≡ true) e h)))) z
     where
       pick : (m : ℕ) → (m ≡ k → ⊥) → ((j ≡ j) × (m ≡ k)) ⊎ (t j m ≡ true) → t j m ≡ true
       pick m ne (inl e) = absurd (ne e.1)

@@ -9,7 +9,7 @@ use Rattle.cover_problem.specs.Covering.{is_remaining}
 use Rattle.cover_problem.proofs.MemberLemmas.{has_cases, has_here, has_append_cases, has_append_left, has_append_right, has_append_not, has_append_not_from, has_not_from, none_member, none_from}
 use Rattle.cover_problem.proofs.PartLemmas.{before_at, before_past, before_none, before_here}
 use Rattle.cover_problem.proofs.NumberLemmas.{rises_member}
-use Rattle.cover_links.specs.Ring.{without}
+use Rattle.cover_links.specs.Ring.{but_for}
 use Rattle.cover_links.proofs.LayoutLemmas.{IsNode}
 
 -- the node of the item j in the option k is in its list, once the items of c are covered
@@ -136,15 +136,15 @@ module _ (p : ProblemValue) (c : List ℕ) (i : ℕ) (fresh : has c i ≡ false)
       from : (x : ℕ) → active_of p c x ≡ true → active_of p (c ++ i ∷ []) x ≡ true
       from x h = let a = active_is p c x h in active_when p (c ++ i ∷ []) x a.0 a.1 (has_append_not_from c (i ∷ []) x a.2 (has_not_from i [] x (λ e. absurd (omega arith)) refl))
 
-  pub active_without : active_of p (c ++ i ∷ []) ≡ without (active_of p c) i
-  active_without = λ z x. (same_test (active_of p (c ++ i ∷ []) x) (without (active_of p c) i x) (to x) (from x)) z
+  pub active_without : active_of p (c ++ i ∷ []) ≡ but_for (active_of p c) i
+  active_without = λ z x. (same_test (active_of p (c ++ i ∷ []) x) (but_for (active_of p c) i x) (to x) (from x)) z
     where
-      to : (x : ℕ) → active_of p (c ++ i ∷ []) x ≡ true → without (active_of p c) i x ≡ true
+      to : (x : ℕ) → active_of p (c ++ i ∷ []) x ≡ true → but_for (active_of p c) i x ≡ true
       to x h =
           let a = active_is p (c ++ i ∷ []) x h in let n = has_append_not c (i ∷ []) x a.2 in
           and_from (active_of p c x) (not (x == i)) (active_when p c x a.0 a.1 n.0) (not_from_false (x == i) (ne_eqb x i (λ e. both_ways (has (i ∷ []) x) n.1 (subst (λ w. has (w ∷ []) x ≡ true) e (has_here x [])))))
 
-      from : (x : ℕ) → without (active_of p c) i x ≡ true → active_of p (c ++ i ∷ []) x ≡ true
+      from : (x : ℕ) → but_for (active_of p c) i x ≡ true → active_of p (c ++ i ∷ []) x ≡ true
       from x h =
           let w = and_parts (active_of p c x) (not (x == i)) h in let a = active_is p c x w.0 in
           active_when p (c ++ i ∷ []) x a.0 a.1 (has_append_not_from c (i ∷ []) x a.2 (has_not_from i [] x (λ e. both_ways (x == i) (not-true (x == i) w.1) (eq-eqb x i (sym e))) refl))

@@ -1,7 +1,7 @@
 -- Lemmas on a change of one entry: what is at that entry, at the others, and in a field that it keeps.
 use Rattle.std.proofs.Common.{◌≡◌, ℕ, zero, suc, ◌+◌, ◌-◌, ◌<◌, List, [], ◌∷◌, length, set, refl, ap, ◌∙◌, arith, length-set}
 use Rattle.cover_links.specs.declared.entry.Entry.{Entry}
-use Rattle.cover_links.specs.Entries.{entry_at, start_at, end_at, changed, unlinked, relinked, item_unlinked, item_relinked}
+use Rattle.cover_links.specs.Entries.{entry_at, option_start, option_end, changed, unlinked, relinked, item_unlinked, item_relinked}
 use Rattle.cover_links.specs.Hiding.{node_hidden, node_unhidden, run_hidden, run_unhidden, after_hidden, hidden, before_unhidden, unhidden}
 
 pub length-changed : (f : Entry → Entry) (es : List Entry) (z : ℕ) → length (changed f es z) ≡ length es
@@ -67,11 +67,11 @@ length-run_unhidden es a (suc n) = length-node_unhidden (run_unhidden es (suc a)
 
 pub length-hidden : (es : List Entry) (p : ℕ) → length (hidden es p) ≡ length es
 unfolding hidden after_hidden
-length-hidden es p = length-run_hidden (run_hidden es (suc p) (end_at es p - suc p)) (start_at es p) (p - start_at es p) ∙ length-run_hidden es (suc p) (end_at es p - suc p)
+length-hidden es p = length-run_hidden (run_hidden es (suc p) (option_end es p - suc p)) (option_start es p) (p - option_start es p) ∙ length-run_hidden es (suc p) (option_end es p - suc p)
 
 pub length-unhidden : (es : List Entry) (p : ℕ) → length (unhidden es p) ≡ length es
 unfolding unhidden before_unhidden
-length-unhidden es p = length-run_unhidden (run_unhidden es (start_at es p) (p - start_at es p)) (suc p) (end_at es p - suc p) ∙ length-run_unhidden es (start_at es p) (p - start_at es p)
+length-unhidden es p = length-run_unhidden (run_unhidden es (option_start es p) (p - option_start es p)) (suc p) (option_end es p - suc p) ∙ length-run_unhidden es (option_start es p) (p - option_start es p)
 
 -- one more turn of a run
 pub run_hidden_step : (es : List Entry) (a b : ℕ) → a < b → run_hidden es a (b - a) ≡ run_hidden (node_hidden es a) (a + 1) (b - (a + 1))

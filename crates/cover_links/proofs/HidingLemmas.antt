@@ -11,7 +11,7 @@ use Rattle.cover_links.specs.declared.entry.Entry.{Entry}
 use Rattle.cover_links.specs.Entries.{entry_at, changed, one_less, one_more, unlinked, relinked, IsLinked}
 use Rattle.cover_links.specs.Hiding.{node_hidden, node_unhidden}
 use Rattle.cover_links.specs.Safety.{IsInside, CanHideNode, CanUnhideNode}
-use Rattle.cover_links.specs.Ring.{Follows, IsRing, without}
+use Rattle.cover_links.specs.Ring.{Follows, IsRing, but_for}
 use Rattle.cover_links.specs.Layout.{node_index, spacer_of, start_of}
 use Rattle.cover_links.proofs.EntryLemmas.{length-changed, kept, at_changed, at_other, length-unlinked}
 use Rattle.cover_links.proofs.RestoreLemmas.{cancel, relink_restores, unlinked_leaves, unlinked_kept}
@@ -57,9 +57,9 @@ pub record Stands (p : ProblemValue) (shown : ℕ → ℕ → Bool) (active : �
 
 -- shown, but for the item j in the option k
 unfoldable pub minus : (ℕ → ℕ → Bool) → ℕ → ℕ → ℕ → ℕ → Bool
-minus shown j k i = cond (i == j) (without (shown i) k) (shown i)
+minus shown j k i = cond (i == j) (but_for (shown i) k) (shown i)
 
-pub minus_here : (shown : ℕ → ℕ → Bool) (j k i : ℕ) → i ≡ j → minus shown j k i ≡ without (shown i) k
+pub minus_here : (shown : ℕ → ℕ → Bool) (j k i : ℕ) → i ≡ j → minus shown j k i ≡ but_for (shown i) k
 unfolding minus
 minus_here shown j k i e = let f : i == j ≡ true = eq-eqb i j e in rw f refl
 
@@ -175,7 +175,7 @@ module _ (p : ProblemValue) (shown : ℕ → ℕ → Bool) (active : ℕ → Boo
     leaves : Leaves (down_at es) (up_at es) (down_at gone) (up_at gone) q
     leaves = subst (λ (w : (ℕ → ℕ) × (ℕ → ℕ)). Leaves (down_at es) (up_at es) w.0 w.1 q) (λ i. (λ y. sym (gone_down y) i, λ y. sym (gone_up y) i)) taken_out
 
-    some : suc (length (filter (without (shown j) k) (numbers (length p.options) 1))) ≡ length (filter (shown j) (numbers (length p.options) 1))
+    some : suc (length (filter (but_for (shown j) k) (numbers (length p.options) 1))) ≡ length (filter (shown j) (numbers (length p.options) 1))
     some = count_without (shown j) k (length p.options) 1 h node.some (let w = node.within in omega arith)
 
     other_ring : (i : ℕ) → 0 < i → i ≤ length p.names → (i ≡ j) ⊎ (i ≡ j → ⊥) → IsRing (minus shown j k i) (node_index p i) (down_at gone) (up_at gone)
@@ -193,8 +193,8 @@ module _ (p : ProblemValue) (shown : ℕ → ℕ → Bool) (active : ℕ → Boo
     other_count : (i : ℕ) → 0 < i → i ≤ length p.names → (i ≡ j) ⊎ (i ≡ j → ⊥) → top_at gone i ≡ length (filter (minus shown j k i) (numbers (length p.options) 1))
     other_count i a b (inl e) =
         let c = s.counts j pos le in
-        let one : top_at es j - 1 ≡ length (filter (without (shown j) k) (numbers (length p.options) 1)) = omega (arith, some) in
-        ap (top_at gone) e ∙ gone_head ∙ one ∙ ap (λ n. length (filter (without (shown n) k) (numbers (length p.options) 1))) (sym e)
+        let one : top_at es j - 1 ≡ length (filter (but_for (shown j) k) (numbers (length p.options) 1)) = omega (arith, some) in
+        ap (top_at gone) e ∙ gone_head ∙ one ∙ ap (λ n. length (filter (but_for (shown n) k) (numbers (length p.options) 1))) (sym e)
         ∙ ap (λ (f : ℕ → Bool). length (filter f (numbers (length p.options) 1))) (sym (minus_here shown j k i e))
     other_count i a b (inr ne) = gone_top i ne ∙ s.counts i a b ∙ ap (λ (f : ℕ → Bool). length (filter f (numbers (length p.options) 1))) (sym (minus_other shown j k i ne))
 

@@ -5,7 +5,7 @@ use Rattle.cover_problem.specs.Lists.{has, numbers, RisesFrom, above, below, las
 use Rattle.cover_problem.proofs.MemberLemmas.{has_filter, has_filter_in, filter_agree_on}
 use Rattle.cover_problem.proofs.NumberLemmas.{has_numbers, has_numbers_in, rises_filter}
 use Rattle.cover_problem.proofs.RisingLemmas.{above_is, above_none, below_is, below_none, last_is, last_none}
-use Rattle.cover_links.specs.Ring.{IsNext, Follows, IsRing, without}
+use Rattle.cover_links.specs.Ring.{IsNext, Follows, IsRing, but_for}
 
 -- what comes next is a member, or the head
 pub next_member : (t : ℕ → Bool) (x y : ℕ) → IsNext t x y → (y ≡ 0) ⊎ (t y ≡ true)
@@ -14,13 +14,13 @@ next_member t x y (inr n) = inl n.0
 
 -- ---- a member leaves
 
-pub without_ne : (t : ℕ → Bool) (q k : ℕ) → without t q k ≡ true → (t k ≡ true) × (k ≡ q → ⊥)
+pub without_ne : (t : ℕ → Bool) (q k : ℕ) → but_for t q k ≡ true → (t k ≡ true) × (k ≡ q → ⊥)
 without_ne t q k h = let a = and_parts (t k) (not (k == q)) h in (a.0, λ e. both_ways (k == q) (not-true (k == q) a.1) (eq-eqb k q e))
 
-pub without_from : (t : ℕ → Bool) (q k : ℕ) → t k ≡ true → (k ≡ q → ⊥) → without t q k ≡ true
+pub without_from : (t : ℕ → Bool) (q k : ℕ) → t k ≡ true → (k ≡ q → ⊥) → but_for t q k ≡ true
 without_from t q k h ne = and_from (t k) (not (k == q)) h (not_from_false (k == q) (ne_eqb k q ne))
 
-pub without_stays : (t : ℕ → Bool) (q k : ℕ) → (k ≡ q → ⊥) → without t q k ≡ t k
+pub without_stays : (t : ℕ → Bool) (q k : ℕ) → (k ≡ q → ⊥) → but_for t q k ≡ t k
 without_stays t q k ne = let f : k == q ≡ false = ne_eqb k q ne in rw f (pick (t k))
   where
     pick : (b : Bool) → (b && true) ≡ b
@@ -31,41 +31,41 @@ without_stays t q k ne = let f : k == q ≡ false = ne_eqb k q ne in rw f (pick 
 abbrev pub StoodBy : (ℕ → Bool) → ℕ → ℕ → ℕ → Type 0
 StoodBy t q x y = (Follows t x q × Follows t q y) ⊎ (Follows t x y × (x ≡ q → ⊥) × (y ≡ q → ⊥))
 
-pub left_behind : (t : ℕ → Bool) (q x y : ℕ) → t q ≡ true → 0 < q → Follows (without t q) x y → StoodBy t q x y
+pub left_behind : (t : ℕ → Bool) (q x y : ℕ) → t q ≡ true → 0 < q → Follows (but_for t q) x y → StoodBy t q x y
 left_behind t q x y tq pos f = step (cases_lt x q) f.to
   where
-    from : (x ≡ 0) ⊎ (without t q x ≡ true) → (x ≡ 0) ⊎ (t x ≡ true)
+    from : (x ≡ 0) ⊎ (but_for t q x ≡ true) → (x ≡ 0) ⊎ (t x ≡ true)
     from (inl e) = inl e
     from (inr h) = inr (without_ne t q x h).0
 
-    other : (x ≡ 0) ⊎ (without t q x ≡ true) → x ≡ q → ⊥
+    other : (x ≡ 0) ⊎ (but_for t q x ≡ true) → x ≡ q → ⊥
     other (inl e) g = absurd (omega arith)
     other (inr h) g = (without_ne t q x h).1 g
 
     -- a member beyond x is q, or a member still
-    beyond : (z : ℕ) → t z ≡ true → (z ≡ q) ⊎ (without t q z ≡ true)
+    beyond : (z : ℕ) → t z ≡ true → (z ≡ q) ⊎ (but_for t q z ≡ true)
     beyond z h = pick (cases_eq z q)
       where
-        pick : (z ≡ q) ⊎ (z ≡ q → ⊥) → (z ≡ q) ⊎ (without t q z ≡ true)
+        pick : (z ≡ q) ⊎ (z ≡ q → ⊥) → (z ≡ q) ⊎ (but_for t q z ≡ true)
         pick (inl e) = inl e
         pick (inr ne) = inr (without_from t q z h ne)
 
-    past : q ≤ x → IsNext (without t q) x y → StoodBy t q x y
+    past : q ≤ x → IsNext (but_for t q) x y → StoodBy t q x y
     past le (inl n) = inr (record { from = from f.from; to = inl ((without_ne t q y n.0).0, n.1, λ z h l. least z l (beyond z h)) }, other f.from, λ e. absurd (omega (arith, n.1)))
       where
-        least : (z : ℕ) → x < z → (z ≡ q) ⊎ (without t q z ≡ true) → y ≤ z
+        least : (z : ℕ) → x < z → (z ≡ q) ⊎ (but_for t q z ≡ true) → y ≤ z
         least z l (inl e) = absurd (omega arith)
         least z l (inr h) = n.2 z h l
     past le (inr n) = inr (record { from = from f.from; to = inr (n.0, λ z h. most z (beyond z h)) }, other f.from, λ e. absurd (omega (arith, n.0)))
       where
-        most : (z : ℕ) → (z ≡ q) ⊎ (without t q z ≡ true) → z ≤ x
+        most : (z : ℕ) → (z ≡ q) ⊎ (but_for t q z ≡ true) → z ≤ x
         most z (inl e) = omega arith
         most z (inr h) = n.1 z h
 
-    near : x < q → (without t q y ≡ true) × (x < y) × ((z : ℕ) → without t q z ≡ true → x < z → y ≤ z) → (y < q) ⊎ (q ≤ y) → StoodBy t q x y
+    near : x < q → (but_for t q y ≡ true) × (x < y) × ((z : ℕ) → but_for t q z ≡ true → x < z → y ≤ z) → (y < q) ⊎ (q ≤ y) → StoodBy t q x y
     near lt n (inl l) = inr (record { from = from f.from; to = inl ((without_ne t q y n.0).0, n.1, λ z h m. least z m (beyond z h)) }, other f.from, λ e. absurd (omega arith))
       where
-        least : (z : ℕ) → x < z → (z ≡ q) ⊎ (without t q z ≡ true) → y ≤ z
+        least : (z : ℕ) → x < z → (z ≡ q) ⊎ (but_for t q z ≡ true) → y ≤ z
         least z m (inl e) = omega arith
         least z m (inr h) = n.2 z h m
     near lt n (inr l) = inl (record { from = from f.from; to = inl (tq, lt, λ z h m. least z m (beyond z h)) }, record { from = inr tq; to = inl ((without_ne t q y n.0).0, after, λ z h m. rest z m (beyond z h)) })
@@ -77,24 +77,24 @@ left_behind t q x y tq pos f = step (cases_lt x q) f.to
             pick (inl e) = absurd ((without_ne t q y n.0).1 (sym e))
             pick (inr ne) = omega (arith, ne)
 
-        least : (z : ℕ) → x < z → (z ≡ q) ⊎ (without t q z ≡ true) → q ≤ z
+        least : (z : ℕ) → x < z → (z ≡ q) ⊎ (but_for t q z ≡ true) → q ≤ z
         least z m (inl e) = omega arith
         least z m (inr h) = let r = n.2 z h m in omega arith
 
-        rest : (z : ℕ) → q < z → (z ≡ q) ⊎ (without t q z ≡ true) → y ≤ z
+        rest : (z : ℕ) → q < z → (z ≡ q) ⊎ (but_for t q z ≡ true) → y ≤ z
         rest z m (inl e) = absurd (omega arith)
         rest z m (inr h) = n.2 z h (omega arith)
 
-    step : (x < q) ⊎ (q ≤ x) → IsNext (without t q) x y → StoodBy t q x y
+    step : (x < q) ⊎ (q ≤ x) → IsNext (but_for t q) x y → StoodBy t q x y
     step (inr le) n = past le n
     step (inl lt) (inl n) = near lt n (cases_lt y q)
     step (inl lt) (inr n) = inl (record { from = from f.from; to = inl (tq, lt, λ z h m. least z m (beyond z h)) }, record { from = inr tq; to = inr (n.0, λ z h. most z (beyond z h)) })
       where
-        least : (z : ℕ) → x < z → (z ≡ q) ⊎ (without t q z ≡ true) → q ≤ z
+        least : (z : ℕ) → x < z → (z ≡ q) ⊎ (but_for t q z ≡ true) → q ≤ z
         least z m (inl e) = omega arith
         least z m (inr h) = let r = n.1 z h in absurd (omega arith)
 
-        most : (z : ℕ) → (z ≡ q) ⊎ (without t q z ≡ true) → z ≤ q
+        most : (z : ℕ) → (z ≡ q) ⊎ (but_for t q z ≡ true) → z ≤ q
         most z (inl e) = omega arith
         most z (inr h) = let r = n.1 z h in omega arith
 
@@ -139,7 +139,7 @@ ring_kept t place next prev next' prev' Q r l head apart x y f =
 
 -- the ring that q leaves
 pub ring_without : (t : ℕ → Bool) (place next prev next' prev' : ℕ → ℕ) (q : ℕ) → IsRing t place next prev → Leaves next prev next' prev' (place q) → t q ≡ true → 0 < q
-    → (place 0 ≡ place q → ⊥) → ((x : ℕ) → t x ≡ true → place x ≡ place q → x ≡ q) → IsRing (without t q) place next' prev'
+    → (place 0 ≡ place q → ⊥) → ((x : ℕ) → t x ≡ true → place x ≡ place q → x ≡ q) → IsRing (but_for t q) place next' prev'
 ring_without t place next prev next' prev' q r l tq pos head same x y f = step (left_behind t q x y tq pos f)
   where
     target : Follows t x y → (y ≡ q → ⊥) → place y ≡ place q → ⊥
@@ -217,11 +217,11 @@ module _ (t : ℕ → Bool) (m : ℕ) (within : (z : ℕ) → t z ≡ true → (
 -- ---- how many members
 
 -- one member less
-pub count_without : (t : ℕ → Bool) (q n k : ℕ) → t q ≡ true → k ≤ q → q < k + n → suc (length (filter (without t q) (numbers n k))) ≡ length (filter t (numbers n k))
+pub count_without : (t : ℕ → Bool) (q n k : ℕ) → t q ≡ true → k ≤ q → q < k + n → suc (length (filter (but_for t q) (numbers n k))) ≡ length (filter t (numbers n k))
 count_without t q zero k tq a b = absurd (omega arith)
 count_without t q (suc n) k tq a b = step (count_without t q n (suc k) tq) (cases_eq k q) (cases_Bool (t k))
   where
-    same : (i : ℕ) → has (numbers n (suc k)) i ≡ true → k ≡ q → without t q i ≡ t i
+    same : (i : ℕ) → has (numbers n (suc k)) i ≡ true → k ≡ q → but_for t q i ≡ t i
     same i h e = let r = has_numbers_in n (suc k) i h in let f : i == q ≡ false = ne_eqb i q (λ d. absurd (omega arith)) in
         pick (t i) f
       where
@@ -229,9 +229,9 @@ count_without t q (suc n) k tq a b = step (count_without t q n (suc k) tq) (case
         pick true f = rw f refl
         pick false f = refl
 
-    step : (suc k ≤ q → q < suc k + n → suc (length (filter (without t q) (numbers n (suc k)))) ≡ length (filter t (numbers n (suc k)))) → (k ≡ q) ⊎ (k ≡ q → ⊥) → (t k ≡ true) ⊎ (t k ≡ false) → suc (length (filter (without t q) (numbers (suc n) k))) ≡ length (filter t (numbers (suc n) k))
+    step : (suc k ≤ q → q < suc k + n → suc (length (filter (but_for t q) (numbers n (suc k)))) ≡ length (filter t (numbers n (suc k)))) → (k ≡ q) ⊎ (k ≡ q → ⊥) → (t k ≡ true) ⊎ (t k ≡ false) → suc (length (filter (but_for t q) (numbers (suc n) k))) ≡ length (filter t (numbers (suc n) k))
     step ih (inl e) (inl h) = let f : k == q ≡ true = eq-eqb k q e in
-        rw (h, f) (ap suc (ap length (filter_agree_on (without t q) t (numbers n (suc k)) (λ i g. same i g e))))
+        rw (h, f) (ap suc (ap length (filter_agree_on (but_for t q) t (numbers n (suc k)) (λ i g. same i g e))))
     step ih (inl e) (inr h) = absurd (both_ways (t k) h (subst (λ z. t z ≡ true) (sym e) tq))
     step ih (inr ne) (inl h) = let f : k == q ≡ false = ne_eqb k q ne in let r = ih (omega (arith, ne)) (omega arith) in
         rw (h, f) (ap suc r)

@@ -9,7 +9,7 @@ use Rattle.cover_problem.proofs.MemberLemmas.{has_cases, has_here, has_later, ha
 use Rattle.cover_problem.proofs.PartLemmas.{parts_are, distinct_parts}
 use Rattle.cover_problem.proofs.ActiveLemmas.{option_is, IsOptionOf}
 use Rattle.cover_links.specs.declared.entry.Entry.{Entry}
-use Rattle.cover_links.specs.Entries.{start_at, end_at}
+use Rattle.cover_links.specs.Entries.{option_start, option_end}
 use Rattle.cover_links.specs.Hiding.{node_hidden, node_unhidden, run_hidden, run_unhidden, after_hidden, hidden, before_unhidden, unhidden}
 use Rattle.cover_links.specs.Safety.{CanHideNode, CanUnhideNode, CanHideRun, CanUnhideRun, CanHide, CanUnhide}
 use Rattle.cover_links.specs.Layout.{node_index, start_of}
@@ -213,10 +213,10 @@ module _ (p : ProblemValue) (active : ℕ → Bool) (problem : IsProblem p) (i k
     begin_is : (f : ℕ → ℕ → Bool) (gs : List Entry) → Stands p f active gs → start_of p k + left_at gs q ≡ q
     begin_is f gs t = let e : k ≡ suc k - 1 = omega arith in ap (λ n. start_of p n + left_at gs q) e ∙ t.starts i (suc k) node_here
 
-    start_is : (f : ℕ → ℕ → Bool) (gs : List Entry) → Stands p f active gs → start_at gs q ≡ start_of p k
+    start_is : (f : ℕ → ℕ → Bool) (gs : List Entry) → Stands p f active gs → option_start gs q ≡ start_of p k
     start_is f gs t = let b = begin_is f gs t in omega arith
 
-    end_is : (f : ℕ → ℕ → Bool) (gs : List Entry) → Stands p f active gs → end_at gs q ≡ start_of p k + length o
+    end_is : (f : ℕ → ℕ → Bool) (gs : List Entry) → Stands p f active gs → option_end gs q ≡ start_of p k + length o
     end_is f gs t = t.ends i (suc k) node_here
 
     end_small : start_of p k + length o < 2 ^ 32
@@ -233,7 +233,7 @@ module _ (p : ProblemValue) (active : ℕ → Bool) (problem : IsProblem p) (i k
 
     after_is : after_hidden es q ≡ mid
     unfolding after_hidden
-    after_is = ap (λ n. run_hidden es (suc q) n) (after_count (end_at es q) (end_is shown es s))
+    after_is = ap (λ n. run_hidden es (suc q) n) (after_count (option_end es q) (end_is shown es s))
 
     hidden_is : hidden es q ≡ all_hidden
     unfolding hidden
@@ -253,7 +253,7 @@ module _ (p : ProblemValue) (active : ℕ → Bool) (problem : IsProblem p) (i k
     unfolding unhidden
     back_is =
         let r = end_is (option_gone p i shown (suc k)) all_hidden two.stands in
-        (λ j. run_unhidden (before_is j) (suc q) (end_at all_hidden q - suc q)) ∙ ap (λ n. run_unhidden mid (suc q) n) (after_count (end_at all_hidden q) r) ∙ one.back
+        (λ j. run_unhidden (before_is j) (suc q) (option_end all_hidden q - suc q)) ∙ ap (λ n. run_unhidden mid (suc q) n) (after_count (option_end all_hidden q) r) ∙ one.back
 
     can_hide : CanHide es q
     can_hide = record {
@@ -261,8 +261,8 @@ module _ (p : ProblemValue) (active : ℕ → Bool) (problem : IsProblem p) (i k
       begin = (let b = begin_is shown es s in omega arith);
       end = (let r = end_is shown es s in let l = long in omega arith);
       word = subst (λ n. n < 2 ^ 32) (sym (end_is shown es s)) end_small;
-      after = subst (λ n. CanHideRun es (suc q) n) (sym (after_count (end_at es q) (end_is shown es s))) one.can;
-      before = subst (λ (w : List Entry × ℕ × ℕ). CanHideRun w.0 w.1 w.2) (λ j. (sym after_is j, sym (start_is shown es s) j, sym (before_count (start_at es q) (start_is shown es s)) j)) two.can;
+      after = subst (λ n. CanHideRun es (suc q) n) (sym (after_count (option_end es q) (end_is shown es s))) one.can;
+      before = subst (λ (w : List Entry × ℕ × ℕ). CanHideRun w.0 w.1 w.2) (λ j. (sym after_is j, sym (start_is shown es s) j, sym (before_count (option_start es q) (start_is shown es s)) j)) two.can;
     }
 
     can_back : CanUnhide all_hidden q
@@ -275,7 +275,7 @@ module _ (p : ProblemValue) (active : ℕ → Bool) (problem : IsProblem p) (i k
           end = (let n = long in omega arith);
           word = subst (λ n. n < 2 ^ 32) (sym r) end_small;
           before = subst (λ n. CanUnhideRun all_hidden n q) (sym l) two.back_can;
-          after = subst (λ (w : List Entry × ℕ). CanUnhideRun w.0 (suc q) w.1) (λ j. (sym before_is j, (let n = long in let e : suc q + length ys ≡ end_at all_hidden q = omega arith in e) j)) one.back_can;
+          after = subst (λ (w : List Entry × ℕ). CanUnhideRun w.0 (suc q) w.1) (λ j. (sym before_is j, (let n = long in let e : suc q + length ys ≡ option_end all_hidden q = omega arith in e) j)) one.back_can;
         }
 
     pub hide_done : HideDone p (option_gone p i shown (suc k)) active es q

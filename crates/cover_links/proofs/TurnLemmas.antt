@@ -3,7 +3,7 @@ use Rattle.std.proofs.Common.{◌≡◌, ℕ, suc, ◌+◌, ◌-◌, ◌<◌, �
 use Rattle.std.proofs.lemmas.Bool.{lt-ltb, le-ltb}
 use Rattle.std.proofs.lemmas.Bool.Decides.{eqb_tells}
 use Rattle.cover_links.specs.declared.entry.Entry.{Entry}
-use Rattle.cover_links.specs.Entries.{start_at, end_at}
+use Rattle.cover_links.specs.Entries.{option_start, option_end}
 use Rattle.cover_links.specs.Hiding.{node_hidden, node_unhidden, run_hidden, run_unhidden, after_hidden, hidden, before_unhidden, unhidden}
 use Rattle.cover_links.specs.Safety.{CanHideNode, CanUnhideNode, CanHideRun, CanHide, CanUnhide}
 use Rattle.cover_links.proofs.EntryLemmas.{run_hidden_step}
@@ -49,7 +49,7 @@ Hides whole es p start end q = HidesAfter whole es p start end q ⊎ HidesBefore
 abbrev pub turns_to_hide : ℕ → ℕ → ℕ → ℕ → ℕ
 turns_to_hide p start end q = cond (nat_lt p q) ((end - q) + (p - start)) (p - q)
 
-pub hides_begin : (es : List Entry) (p start end q : ℕ) → CanHide es p → start ≡ start_at es p → end ≡ end_at es p → q ≡ after_place p start end → Hides (hidden es p) es p start end q
+pub hides_begin : (es : List Entry) (p start end q : ℕ) → CanHide es p → start ≡ option_start es p → end ≡ option_end es p → q ≡ after_place p start end → Hides (hidden es p) es p start end q
 unfolding hidden after_hidden
 hides_begin es p start end q can s e at_q = by_equal (p + 1) end at_end inside
   where
@@ -264,11 +264,11 @@ shows_begin es p start end q low within at_q = by_equal p start at_start inside
         inl (record { low = omega arith; high = omega arith; within = within; so_far = sym (ap (λ n. run_unhidden es (suc q) n) none) })
 
 module _ (old es : List Entry) (p start end q : ℕ) (other : q ≡ p → ⊥) where
-  pub shows_can : CanUnhide old p → start ≡ start_at old p → end ≡ end_at old p → Shows old es p start end q → CanUnhideNode es q
+  pub shows_can : CanUnhide old p → start ≡ option_start old p → end ≡ option_end old p → Shows old es p start end q → CanUnhideNode es q
   unfolding before_unhidden
   shows_can can s e (inl h) = subst (λ fs. CanUnhideNode fs q) (sym h.so_far) (can.before q (let l = h.low in omega arith) h.high)
   shows_can can s e (inr h) =
-      let same : es ≡ run_unhidden (before_unhidden old p) (suc q) (end_at old p - suc q) = h.so_far ∙ (λ j. run_unhidden (run_unhidden old (s j) (p - s j)) (suc q) (e j - suc q)) in
+      let same : es ≡ run_unhidden (before_unhidden old p) (suc q) (option_end old p - suc q) = h.so_far ∙ (λ j. run_unhidden (run_unhidden old (s j) (p - s j)) (suc q) (e j - suc q)) in
       let l = h.low in let k : (q ≡ p → ⊥) = other in
       subst (λ fs. CanUnhideNode fs q) (sym same) (can.after q (omega arith) (let b = h.high in omega arith))
 
@@ -375,7 +375,7 @@ module _ (old es : List Entry) (p start end q : ℕ) (other : q ≡ p → ⊥) w
     shows_fewer (inl h) = fewer_back h
     shows_fewer (inr h) = fewer_on h
 
-pub shows_end : (old es : List Entry) (p start end q : ℕ) → q ≡ p → start ≡ start_at old p → end ≡ end_at old p → Shows old es p start end q → es ≡ unhidden old p
+pub shows_end : (old es : List Entry) (p start end q : ℕ) → q ≡ p → start ≡ option_start old p → end ≡ option_end old p → Shows old es p start end q → es ≡ unhidden old p
 unfolding unhidden before_unhidden
 shows_end old es p start end q e s f (inl h) = let l = h.high in absurd (omega arith)
 shows_end old es p start end q e s f (inr h) = h.so_far ∙ (λ j. run_unhidden (run_unhidden old (s j) (p - s j)) (suc (e j)) (f j - suc (e j)))

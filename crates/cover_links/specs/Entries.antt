@@ -12,12 +12,12 @@ abbrev pub entry_at : List Entry → ℕ → Entry
 entry_at es x = get_or es x blank
 
 -- where the option of the node at x begins: so many entries before it as its `left` tells
-abbrev pub start_at : List Entry → ℕ → ℕ
-start_at es x = x - (entry_at es x).left
+abbrev pub option_start : List Entry → ℕ → ℕ
+option_start es x = x - (entry_at es x).left
 
 -- where that option ends, at the spacer past it: so many entries after the node as its `right` tells
-abbrev pub end_at : List Entry → ℕ → ℕ
-end_at es x = x + (entry_at es x).right
+abbrev pub option_end : List Entry → ℕ → ℕ
+option_end es x = x + (entry_at es x).right
 
 -- the entry at x is changed by f, and no other
 unfoldable pub changed : (Entry → Entry) → List Entry → ℕ → List Entry

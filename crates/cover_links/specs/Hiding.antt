@@ -2,7 +2,7 @@
 -- TAOCP volume 4B, section 7.2.2.1, (12) to (15).
 use Rattle.std.specs.Prelude.{ℕ, zero, suc, ◌-◌, List, [], ◌∷◌}
 use Rattle.cover_links.specs.declared.entry.Entry.{Entry}
-use Rattle.cover_links.specs.Entries.{entry_at, start_at, end_at, changed, one_less, one_more, unlinked, relinked, item_unlinked, item_relinked}
+use Rattle.cover_links.specs.Entries.{entry_at, option_start, option_end, changed, one_less, one_more, unlinked, relinked, item_unlinked, item_relinked}
 
 -- a node leaves its list, which is one shorter
 unfoldable pub node_hidden : List Entry → ℕ → List Entry
@@ -24,19 +24,19 @@ run_unhidden es a (suc n) = node_unhidden (run_unhidden es (suc a) n) a
 
 -- the nodes of p's option after p are hidden
 unfoldable pub after_hidden : List Entry → ℕ → List Entry
-after_hidden es p = run_hidden es (suc p) (end_at es p - suc p)
+after_hidden es p = run_hidden es (suc p) (option_end es p - suc p)
 
 -- then those before p
 unfoldable pub hidden : List Entry → ℕ → List Entry
-hidden es p = run_hidden (after_hidden es p) (start_at es p) (p - start_at es p)
+hidden es p = run_hidden (after_hidden es p) (option_start es p) (p - option_start es p)
 
 -- the nodes of p's option before p come back
 unfoldable pub before_unhidden : List Entry → ℕ → List Entry
-before_unhidden es p = run_unhidden es (start_at es p) (p - start_at es p)
+before_unhidden es p = run_unhidden es (option_start es p) (p - option_start es p)
 
 -- then those after p
 unfoldable pub unhidden : List Entry → ℕ → List Entry
-unhidden es p = run_unhidden (before_unhidden es p) (suc p) (end_at es p - suc p)
+unhidden es p = run_unhidden (before_unhidden es p) (suc p) (option_end es p - suc p)
 
 -- the options of n nodes are hidden, from p down
 abbrev pub list_hidden : List Entry → ℕ → ℕ → List Entry

@@ -15,5 +15,5 @@ abbrev pub IsRing : (ℕ → Bool) → (ℕ → ℕ) → (ℕ → ℕ) → (ℕ 
 IsRing t place next prev = (x y : ℕ) → Follows t x y → (next (place x) ≡ place y) × (prev (place y) ≡ place x)
 
 -- the test, but for q
-abbrev pub without : (ℕ → Bool) → ℕ → ℕ → Bool
-without t q k = t k && not (k == q)
+abbrev pub but_for : (ℕ → Bool) → ℕ → ℕ → Bool
+but_for t q k = t k && not (k == q)

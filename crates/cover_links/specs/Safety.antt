@@ -1,7 +1,7 @@
 -- Where each step of hiding and of covering stays in the block, and no length falls below 0 or grows too large.
 use Rattle.std.specs.Prelude.{ℕ, zero, suc, ◌+◌, ◌-◌, ◌<◌, ◌≤◌, ◌^◌, List, [], ◌∷◌, length}
 use Rattle.cover_links.specs.declared.entry.Entry.{Entry}
-use Rattle.cover_links.specs.Entries.{entry_at, start_at, end_at, changed, one_more, unlinked, item_relinked}
+use Rattle.cover_links.specs.Entries.{entry_at, option_start, option_end, changed, one_more, unlinked, item_relinked}
 use Rattle.cover_links.specs.Fresh.{node_written, node_appended}
 use Rattle.cover_links.specs.Hiding.{node_hidden, run_unhidden, after_hidden, hidden, before_unhidden, unhidden, options_hidden}
 
@@ -43,19 +43,19 @@ CanUnhideRun es a b = (q : ℕ) → a ≤ q → q < b → CanUnhideNode (run_unh
 pub record CanHide (es : List Entry) (p : ℕ) : Type 0 where
   pub here : p < length es
   pub begin : (entry_at es p).left ≤ p
-  pub end : p < end_at es p
-  pub word : end_at es p < 2 ^ 32
-  pub after : CanHideRun es (suc p) (end_at es p - suc p)
-  pub before : CanHideRun (after_hidden es p) (start_at es p) (p - start_at es p)
+  pub end : p < option_end es p
+  pub word : option_end es p < 2 ^ 32
+  pub after : CanHideRun es (suc p) (option_end es p - suc p)
+  pub before : CanHideRun (after_hidden es p) (option_start es p) (p - option_start es p)
 
 -- the others of p's option can come back
 pub record CanUnhide (es : List Entry) (p : ℕ) : Type 0 where
   pub here : p < length es
   pub begin : (entry_at es p).left ≤ p
-  pub end : p < end_at es p
-  pub word : end_at es p < 2 ^ 32
-  pub before : CanUnhideRun es (start_at es p) p
-  pub after : CanUnhideRun (before_unhidden es p) (suc p) (end_at es p)
+  pub end : p < option_end es p
+  pub word : option_end es p < 2 ^ 32
+  pub before : CanUnhideRun es (option_start es p) p
+  pub after : CanUnhideRun (before_unhidden es p) (suc p) (option_end es p)
 
 -- the options of n nodes can be hidden, from p down
 abbrev pub CanHideList : List Entry → ℕ → ℕ → Type 0

@@ -4,7 +4,7 @@ use Rattle.cover_problem.specs.Problem.{ProblemValue, IsProblem}
 use Rattle.cover_problem.specs.Table.{IsCoveredList}
 use Rattle.cover_links.specs.declared.entry.Entry.{Entry}
 use Rattle.cover_links.specs.declared.entry.Node.{Node}
-use Rattle.cover_links.specs.Entries.{entry_at, end_at}
+use Rattle.cover_links.specs.Entries.{entry_at, option_end}
 use Rattle.cover_links.specs.Layout.{start_of}
 use Rattle.cover_links.specs.StandsFor.{block_of}
 
@@ -34,9 +34,9 @@ printed_node items x e = record {
 pub record IsNodeOf (es : List Entry) (item node k : ℕ) : Type 0 where
   pub apart : node ≡ item → ⊥
   pub here : node < length es
-  pub end : end_at es node < length es
-  pub word : end_at es node < 2 ^ 32
-  pub number : (entry_at es (end_at es node)).top ≡ k
+  pub end : option_end es node < length es
+  pub word : option_end es node < 2 ^ 32
+  pub number : (entry_at es (option_end es node)).top ≡ k
   pub some : 0 < k
 
 -- the item's head, where k is 0, or a node of the option numbered k

@@ -8,7 +8,7 @@ use Rattle.std.specs.List.{list_all}
 use Rattle.cover_problem.specs.Lists.{has, are_distinct, numbers}
 use Rattle.cover_problem.specs.Problem.{ProblemValue, IsProblem, is_item, option_at}
 use Rattle.cover_problem.specs.ExactCover.{IsExactCover}
-use Rattle.cover_problem.specs.CoverTest.{occurrences, has_right_count, is_useful, is_cover}
+use Rattle.cover_problem.specs.CoverTest.{occurrences, has_right_count, has_primary_item, is_cover}
 use Rattle.cover_problem.proofs.BoundLemmas.{item_bounds, item_numbered}
 use Rattle.cover_problem.proofs.MemberLemmas.{some_head, has_here, has_later, has_cases, all_member, all_from, some_member, some_from}
 use Rattle.cover_problem.proofs.NumberLemmas.{has_numbers, has_numbers_in}
@@ -134,7 +134,7 @@ module _ (p : ProblemValue) (sound : IsProblem p) (chosen : List ℕ) where
 
   pub passes_is : is_cover p chosen ≡ true → (are_distinct chosen ≡ true) × IsExactCover p (has chosen)
   passes_is h =
-      let tests = and_parts (list_all (is_item (length p.options)) chosen && list_all (has_right_count p chosen) (numbers (length p.names) 1)) (list_all (is_useful p) chosen) h in
+      let tests = and_parts (list_all (is_item (length p.options)) chosen && list_all (has_right_count p chosen) (numbers (length p.names) 1)) (list_all (has_primary_item p) chosen) h in
       let front = and_parts (list_all (is_item (length p.options)) chosen) (list_all (has_right_count p chosen) (numbers (length p.names) 1)) tests.0 in
       let options : (o : ℕ) → has chosen o ≡ true → (0 < o) × (o ≤ length p.options) = λ o m. item_bounds (length p.options) o (all_member _ chosen o front.0 m) in
       let right : (i : ℕ) → 0 < i → i ≤ length p.names → has_right_count p chosen i ≡ true = λ i a b. all_member _ (numbers (length p.names) 1) i front.1 (has_numbers (length p.names) 1 i a (omega arith)) in
@@ -155,5 +155,5 @@ module _ (p : ProblemValue) (sound : IsProblem p) (chosen : List ℕ) where
       let right : list_all (has_right_count p chosen) (numbers (length p.names) 1) ≡ true = all_from _ (numbers (length p.names) 1) (λ i m. let r = has_numbers_in (length p.names) 1 i m in
       right_count_from i (count_one (λ k. has (option_at p k) i) chosen d (λ a b h k e f. c.once i a b h k e f))
       (λ b. let w = c.covers i (omega arith) b in count_some (λ k. has (option_at p k) i) chosen w.0 w.1 w.2)) in
-      let useful : list_all (is_useful p) chosen ≡ true = all_from _ chosen (λ o m. let w = c.useful o m in some_from (λ i. nat_le i p.primary) (option_at p o) w.0 w.3 (le-leb w.0 p.primary w.2)) in
+      let useful : list_all (has_primary_item p) chosen ≡ true = all_from _ chosen (λ o m. let w = c.useful o m in some_from (λ i. nat_le i p.primary) (option_at p o) w.0 w.3 (le-leb w.0 p.primary w.2)) in
       and_from _ _ (and_from _ _ options right) useful

@@ -16,12 +16,12 @@ abbrev pub has_right_count : ProblemValue → List ℕ → ℕ → Bool
 has_right_count p chosen i = if nat_le i p.primary then occurrences p chosen i == 1 else nat_le (occurrences p chosen i) 1
 
 -- whether an option has a primary item
-abbrev pub is_useful : ProblemValue → ℕ → Bool
-is_useful p k = list_any (λ i. nat_le i p.primary) (option_at p k)
+abbrev pub has_primary_item : ProblemValue → ℕ → Bool
+has_primary_item p k = list_any (λ i. nat_le i p.primary) (option_at p k)
 
 -- whether numbers pass each test of an exact cover: they are options, each item is in as many of them as it may be, and each
 -- has a primary item
 abbrev pub is_cover : ProblemValue → List ℕ → Bool
 is_cover p chosen =
     list_all (is_item (length p.options)) chosen && list_all (has_right_count p chosen) (numbers (length p.names) 1)
-    && list_all (is_useful p) chosen
+    && list_all (has_primary_item p) chosen

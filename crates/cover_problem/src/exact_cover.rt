@@ -55,10 +55,10 @@ fn have_right_counts(problem: &Problem, chosen: &[u32]) -> bool
 }
 
 /// Whether an option has a primary item.
-fn is_useful(problem: &Problem, k: u32) -> bool
+fn has_primary_item(problem: &Problem, k: u32) -> bool
     requires some { 0 < k }
     requires within { k ≤ length problem.now.options }
-    ensures { result ≡ cover_test.is_useful problem.now k }
+    ensures { result ≡ cover_test.has_primary_item problem.now k }
 {
     let primary = problem.primary();
     problem.option(k).iter().any(|item| *item <= primary)
@@ -67,10 +67,10 @@ fn is_useful(problem: &Problem, k: u32) -> bool
 /// Whether each option has a primary item.
 fn are_useful(problem: &Problem, chosen: &[u32]) -> bool
     requires { list_all (is_item (length problem.now.options)) chosen.now ≡ true }
-    ensures { result ≡ list_all (cover_test.is_useful problem.now) chosen.now }
+    ensures { result ≡ list_all (cover_test.has_primary_item problem.now) chosen.now }
 {
     for k in chosen {
-        if !is_useful(problem, *k) {
+        if !has_primary_item(problem, *k) {
             return false;
         }
     }

@@ -10,15 +10,7 @@ use crate::lists::Lists;
 use crate::name::Name;
 use crate::problem::Problem;
 use std::alloc::{AllocError, Global};
-
-/// Writes a word after another.
-fn write_word(text: &mut Vec<u8>, word: &[u8]) -> Result<(), AllocError>
-    ensures { OnOk result (text.new.items ≡ text.old.items ++ 32 ∷ word.now) }
-{
-    text.push(b' ')?;
-    text.extend_from_slice(word)?;
-    Ok(())
-}
+use text_lines::write_word;
 
 /// Writes a line of names.
 fn write_names(text: &mut Vec<u8>, key: &[u8], names: &[Name]) -> Result<(), AllocError>
@@ -26,7 +18,7 @@ fn write_names(text: &mut Vec<u8>, key: &[u8], names: &[Name]) -> Result<(), All
 {
     text.extend_from_slice(key)?;
     for name in names {
-        write_word(text, name.as_bytes())?;
+        write_word(text, name.as_str())?;
     }
     text.push(b'\n')?;
     Ok(())
@@ -49,7 +41,7 @@ fn write_option(text: &mut Vec<u8>, names: &[Name], option: &[u32]) -> Result<()
 {
     text.extend_from_slice(b"option")?;
     for item in option {
-        write_word(text, names[(*item - 1) as usize].as_bytes())?;
+        write_word(text, names[(*item - 1) as usize].as_str())?;
     }
     text.push(b'\n')?;
     Ok(())

@@ -5,10 +5,9 @@ use Rattle.std.proofs.lemmas.List.{length-map, get_or-map}
 use Rattle.std.proofs.lemmas.List.Sums.{AllPass-from_list_all}
 use Rattle.std.proofs.lemmas.Grind.{flat_map-append}
 use Rattle.text_lines.specs.Writing.{spaced, words_after, line_text}
-use Rattle.text_lines.proofs.WritingLemmas.{joined}
+use Rattle.text_lines.proofs.WritingLemmas.{joined, line_written}
 use Rattle.cover_problem.specs.Problem.{is_item, name_at}
 use Rattle.cover_problem.proofs.BoundLemmas.{item_bounds}
-use Rattle.x_snapshot.proofs.WriterLemmas.{line_written}
 use Rattle.debug_texts.specs.Replies.{covered_words, levels_words}
 
 -- *lists that may be empty*

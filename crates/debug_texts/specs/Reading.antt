@@ -16,7 +16,7 @@ use Rattle.text_lines.specs.Numbers.{number_of}
 use Rattle.text_lines.specs.declared.refusal.Refusal.{Refusal}
 use Rattle.text_lines.specs.declared.refusal.Refusal.TheVariants as refusals
 use Rattle.cover_problem.specs.Problem.{ProblemValue}
-use Rattle.x_snapshot.specs.Reading.{only, option_from, break_from, state_from}
+use Rattle.x_snapshot.specs.Reading.{only, option_number, break_from, state_from}
 use Rattle.debug_texts.specs.Command.{CommandValue, Nothing, Step, Run, Back, SetBreak, Clear, Show, Untried, Split, Park, Save}
 use Rattle.debug_texts.specs.Command.{SaveBreaks, Close, Enter, Branches, Visits, Retract, Hold, PutBack, Steps, Levels}
 use Rattle.debug_texts.specs.declared.fault.DebugFault.{DebugFault}
@@ -40,7 +40,7 @@ number_from words = option_and_then number_in (only words)
 
 -- the same, from 1
 abbrev pub count_from : List (List ℕ) → Option ℕ
-count_from words = option_and_then (option_from most_number) (only words)
+count_from words = option_and_then (option_number most_number) (only words)
 
 -- the numbers that words are
 unfoldable pub numbers_from : List (List ℕ) → Option (List ℕ)

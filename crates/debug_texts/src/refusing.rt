@@ -9,8 +9,9 @@ ghost use Rattle.debug_texts.specs.Replies.{refused_words};
 use crate::fault::DebugFault;
 use crate::words::Layer;
 use std::alloc::AllocError;
+use text_lines::{write_number, write_word};
 use x_branches::RunnerFault;
-use x_snapshot::{SnapshotFault, write_number, write_word};
+use x_snapshot::SnapshotFault;
 
 /// Writes the line of a refusal: `refused`, its layer, its number and its name.
 pub fn write_refused(

@@ -9,7 +9,8 @@ ghost use Rattle.debug_texts.specs.Replies.{plain_word, counted_word, visit_word
 use crate::words::{Counted, Plain};
 use cover_problem::{Lists, Problem};
 use std::alloc::AllocError;
-use x_snapshot::{Break, write_break, write_count, write_path, write_state};
+use text_lines::{write_number_line, write_numbers_line};
+use x_snapshot::{Break, write_break, write_state};
 use x_steps::State;
 
 /// Writes a line that is always the same.
@@ -25,7 +26,7 @@ pub fn write_plain(text: &mut Vec<u8>, plain: Plain) -> Result<(), AllocError>
 pub fn write_counted(text: &mut Vec<u8>, counted: Counted, count: u128) -> Result<(), AllocError>
     ensures { OnOk result (text.new.items ≡ text.old.items ++ line_text (counted_word counted ∷ decimal count ∷ [])) }
 {
-    write_count(text, counted.word(), count)
+    write_number_line(text, counted.word(), count)
 }
 
 /// Writes where the search stands: its label, its cursor and its choices.
@@ -39,7 +40,7 @@ pub fn write_at(text: &mut Vec<u8>, state: &State) -> Result<(), AllocError>
 pub fn write_visit(text: &mut Vec<u8>, path: &[u32]) -> Result<(), AllocError>
     ensures { OnOk result (text.new.items ≡ text.old.items ++ line_text (visit_words path.now)) }
 {
-    write_path(text, "visit", path)
+    write_numbers_line(text, "visit", path)
 }
 
 /// Writes visits, a line for each.

@@ -12,7 +12,8 @@ use crate::replies::write_counted;
 use crate::words::{Counted, Listed, Standing};
 use cover_problem::Problem;
 use std::alloc::AllocError;
-use x_snapshot::{write_cut, write_number, write_numbers, write_word};
+use text_lines::{write_number, write_numbers, write_word};
+use x_snapshot::write_cut;
 
 /// Writes a branch without the end of its line.
 fn write_cuts(text: &mut Vec<u8>, lo: Option<&[u32]>, hi: Option<&[u32]>) -> Result<(), AllocError>

@@ -9,7 +9,7 @@ use Rattle.lab_book.specs.declared.entry.Reply.{Reply}
 use Rattle.lab_book.specs.declared.entry.Entry.{Entry}
 use Rattle.lab_book.specs.Tile.{TileValue, is_lease}
 use Rattle.lab_book.specs.Tiling.{tile_at, IsTiling}
-use Rattle.lab_book.specs.Book.{BookValue, Outcome, outcome, book_step, opened, replayed, leased_in, found, checked, unless, tile_place}
+use Rattle.lab_book.specs.Book.{BookValue, Outcome, outcome, book_step, new_book, replayed, leased_in, found, checked, unless, tile_place}
 use Rattle.lab_book.specs.Book.{lease_fault, else_fault, made_at, refused, IsBook, KeepsBook}
 use Rattle.lab_book.specs.Calls.{Made, Judged}
 
@@ -23,7 +23,7 @@ step_is_book : (b : BookValue) (w : ℕ) (c : Call) → IsBook b → IsTiling b.
     → IsBook (book_step b w c)
 step_is_book b w c i t = record {
   tiling = t;
-  replay = replayed_push (opened b.problem b.branch b.first) b.history (record { worker = w; call = c; reply = (outcome b w c).reply })
+  replay = replayed_push (new_book b.problem b.branch b.first) b.history (record { worker = w; call = c; reply = (outcome b w c).reply })
       ∙ ap (λ (x : BookValue). book_step x w c) i.replay;
 }
 

@@ -18,7 +18,7 @@ use Rattle.lab_book.specs.Tile.{TileValue}
 use Rattle.lab_book.specs.Tiling.{no_tile, tile_at}
 use Rattle.lab_book.specs.Posted.{posted_count}
 use Rattle.lab_book.specs.States.{same_state}
-use Rattle.lab_book.specs.Book.{BookValue, Outcome, IsBook, outcome, book_step, opened, replayed, made_at, lent, lent_any, posted, split}
+use Rattle.lab_book.specs.Book.{BookValue, Outcome, IsBook, outcome, book_step, new_book, replayed, made_at, lent, lent_any, posted, split}
 use Rattle.lab_book.specs.Book.{split_tiles, retracted, settled, freed, closed, put_back, asked_to_stop, stretches_to, with_stretch}
 use Rattle.lab_book.specs.Book.{first_waiting}
 
@@ -135,4 +135,4 @@ count_replayed b (e ∷ es) =
 pub count_book : (b : BookValue) → IsBook b → posted_count b.tiles ≤ length b.history
 count_book b i =
     let e = ap (λ (x : BookValue). posted_count x.tiles) i.replay in
-    let l = count_replayed (opened b.problem b.branch b.first) b.history in omega arith
+    let l = count_replayed (new_book b.problem b.branch b.first) b.history in omega arith

@@ -33,7 +33,7 @@ use Rattle.lab_book.specs.declared.entry.Entry.{Entry}
 use Rattle.lab_book.specs.States.{same_state}
 use Rattle.lab_book.specs.Tile.{TileValue, IsTile, Stands, is_waiting, is_leased, is_closed, is_free, asked_status, mark_of, tile_end}
 use Rattle.lab_book.specs.Tiling.{IsTiling, no_tile, tile_at}
-use Rattle.lab_book.specs.Book.{BookValue, HistoryValue, outcome, whole_tile, opened, leased_in, waiting_in, path_of, lent, lent_tile}
+use Rattle.lab_book.specs.Book.{BookValue, HistoryValue, outcome, whole_tile, new_book, leased_in, waiting_in, path_of, lent, lent_tile}
 use Rattle.lab_book.specs.Book.{posted, posted_tile, settled, refused, stretch_fault, else_fault, first_waiting, KeepsBook}
 use Rattle.lab_book.specs.Book.{Outcome, stretches_to, put_back, last_of, retracted}
 use Rattle.lab_book.specs.Calls.{Made}
@@ -69,7 +69,7 @@ whole_is_tile p b s c f g = record {
 }
 
 whole_keeps : (p : ProblemValue) (b : Branch) (s : StateValue) → CanStart p b s → Fits p (first_of b.lo) → Fits p (end_of b.hi)
-    → KeepsBook (opened p b s) 0
+    → KeepsBook (new_book p b s) 0
 whole_keeps p b s c f g = record {
   sound = record {
     tiling = record {

@@ -262,8 +262,8 @@ abbrev pub whole_tile : Branch → StateValue → TileValue
 whole_tile branch first = record { id = 0; branch = branch; status = status.Waiting; stop = false; first = first; stretches = [] }
 
 -- the book of a branch of a problem's run as it is first made, with this first mark: one tile, and no history
-abbrev pub opened : ProblemValue → Branch → StateValue → BookValue
-opened p branch first = record { problem = p; branch = branch; first = first; tiles = whole_tile branch first ∷ []; history = [] }
+abbrev pub new_book : ProblemValue → Branch → StateValue → BookValue
+new_book p branch first = record { problem = p; branch = branch; first = first; tiles = whole_tile branch first ∷ []; history = [] }
 
 -- the fold of the calls of a history, from a book on
 abbrev pub replayed : BookValue → List Entry → BookValue
@@ -274,7 +274,7 @@ replayed b (e ∷ es) = replayed (book_step b e.worker e.call) es
 -- the book that was first made
 pub record IsBook (b : BookValue) : Type 0 where
   pub tiling : IsTiling b.problem b.branch b.first b.tiles
-  pub replay : replayed (opened b.problem b.branch b.first) b.history ≡ b
+  pub replay : replayed (new_book b.problem b.branch b.first) b.history ≡ b
 
 -- entries, and for how many more room is kept
 pub record HistoryValue : Type 0 where

@@ -4,7 +4,7 @@ ghost use Rattle.x_steps.specs.StateView.{state_value};
 ghost use Rattle.x_steps.specs.StateValue.{start};
 ghost use Rattle.x_branches.specs.Cut.{IsCut};
 ghost use Rattle.x_branches.specs.Refusals.{CanStart, StartRefused};
-ghost use Rattle.lab_book.specs.Book.{IsBook, opened, replayed, outcome, refused, tile_place};
+ghost use Rattle.lab_book.specs.Book.{IsBook, new_book, replayed, outcome, refused, tile_place};
 ghost use Rattle.lab_book.specs.Tiling.{IsTiling};
 ghost use Rattle.lab_book.specs.Calls.{Refuses};
 
@@ -105,14 +105,14 @@ fn is_cut(cut: &Option<Cut<'_>>)
 
 impl<'p> Book<'p> {
     /// The book of a branch whose one tile waits at a state.
-    fn opened(
+    fn new_book(
         alloc: Global,
         problem: &'p Problem,
         branch: &Branch<'p>,
         state: &State,
     ) -> Result<Book<'p>, AllocError>
         requires { CanStart problem.now branch.now (state_value state.now) }
-        ensures { IfOk result (λ book. book ≡ opened problem.now branch.now (state_value state.now)) }
+        ensures { IfOk result (λ book. book ≡ new_book problem.now branch.now (state_value state.now)) }
     {
         is_cut(&branch.lo);
         is_cut(&branch.hi);
@@ -132,7 +132,7 @@ impl<'p> Book<'p> {
 
     /// The book of a whole run: one tile, from X1 to Done, which waits and has the id 0.
     pub fn new(alloc: Global, problem: &'p Problem) -> Result<Book<'p>, AllocError>
-        ensures { IfOk result (λ book. book ≡ opened problem.now (record { lo = None; hi = None }) start) }
+        ensures { IfOk result (λ book. book ≡ new_book problem.now (record { lo = None; hi = None }) start) }
     {
         let branch = Branch { lo: None, hi: None };
         let state = State {
@@ -140,7 +140,7 @@ impl<'p> Book<'p> {
             path: Vec::new(alloc),
             cursor: Cursor::None,
         };
-        Book::opened(alloc, problem, &branch, &state)
+        Book::new_book(alloc, problem, &branch, &state)
     }
 
     /// The book of a branch that goes on from a state in it: one tile, which waits there. Refused as a runner is that starts
@@ -151,7 +151,7 @@ impl<'p> Book<'p> {
         branch: Branch<'p>,
         state: State,
     ) -> Result<Book<'p>, Refused<StartFault, (Branch<'p>, State)>>
-        ensures made { IfOk result (λ book. book ≡ opened problem.now branch.entry (state_value state)) }
+        ensures made { IfOk result (λ book. book ≡ new_book problem.now branch.entry (state_value state)) }
         ensures can { OnOk result (CanStart problem.now branch.entry (state_value state)) }
         ensures refused { IfErr result (λ r. StartRefused problem.now branch.entry (state_value state) r.fault) }
         ensures branch_back { IfErr result (λ r. r.given.0 ≡ branch.entry) }
@@ -163,7 +163,7 @@ impl<'p> Book<'p> {
                 given: (branch, state),
             });
         }
-        let Ok(book) = Book::opened(alloc, problem, &branch, &state) else {
+        let Ok(book) = Book::new_book(alloc, problem, &branch, &state) else {
             return Err(Refused {
                 fault: StartFault::Runner(RunnerFault::OutOfMemory),
                 given: (branch, state),
@@ -211,7 +211,7 @@ impl<'p> Book<'p> {
     /// The entries of all calls in order: the book is their replay, with each reply.
     pub fn history(&self) -> &[Entry]
         ensures history { result.now ≡ self.now.history }
-        ensures replay { replayed (opened self.now.problem self.now.branch self.now.first) self.now.history ≡ self.now }
+        ensures replay { replayed (new_book self.now.problem self.now.branch self.now.first) self.now.history ≡ self.now }
     {
         self.history.entries()
     }

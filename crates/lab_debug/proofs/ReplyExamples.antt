@@ -5,7 +5,7 @@ use Rattle.debug_texts.specs.Reading.{command_from, engine_from}
 use Rattle.x_debug.specs.Session.{SessionValue}
 use Rattle.x_debug.specs.Commands.{Answer, answer, answer_show}
 use Rattle.x_debug.specs.Loading.{load_answer}
-use Rattle.lab_debug.specs.Replies.{turn, debug_replies}
+use Rattle.lab_debug.specs.Replies.{exchange, debug_replies}
 
 -- `load 1`, a line, `show`, `quit`, `show`
 abbrev lines : List ℕ → List (List ℕ)
@@ -17,7 +17,7 @@ loaded_and_shown
     : (s : SessionValue) (line : List ℕ)
     → let loaded = load_answer s (concat (line ∷ [])) in
     debug_replies s 0 (lines line) ≡ loaded.text ++ (answer_show loaded.session).text
-unfolding debug_replies turn engine_from command_from answer
+unfolding debug_replies exchange engine_from command_from answer
 loaded_and_shown s line =
     let loaded = load_answer s (concat (line ∷ [])) in
     ap (λ (bs : List ℕ). loaded.text ++ bs) (append-nil (answer_show loaded.session).text)

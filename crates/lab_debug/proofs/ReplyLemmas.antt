@@ -2,7 +2,7 @@
 use Rattle.std.proofs.Common.{◌≡◌, ℕ, zero, suc, List, [], ◌∷◌, ◌++◌, drop, Option, Some, None, option_map, unwrap_or, refl, sym, ◌∙◌, ap, length, append_assoc, append-nil, arith}
 use Rattle.x_debug.specs.Session.{SessionValue}
 use Rattle.lab_debug.specs.Input.{raw_lines}
-use Rattle.lab_debug.specs.Replies.{turn, debug_replies}
+use Rattle.lab_debug.specs.Replies.{exchange, debug_replies}
 
 -- lines that are taken already are answered nothing
 skipped : (s : SessionValue) (n : ℕ) (lines : List (List ℕ)) → debug_replies s n lines ≡ debug_replies s 0 (drop n lines)
@@ -24,25 +24,25 @@ ends s lines (Some n) e = absurd (cc)
 
 -- one line, and what is answered after it
 one : (s : SessionValue) (line : List ℕ) (lines : List (List ℕ)) → debug_replies s 0 (line ∷ lines)
-    ≡ (turn s line lines).text ++ unwrap_or (option_map (λ n. debug_replies (turn s line lines).session n lines) (turn s line lines).taken) []
+    ≡ (exchange s line lines).text ++ unwrap_or (option_map (λ n. debug_replies (exchange s line lines).session n lines) (exchange s line lines).taken) []
 unfolding debug_replies
 one s line lines = refl
 
 -- a line of what is left to answer
 module _ (s t : SessionValue) (said text whole rest line after : List ℕ) (lines : raw_lines rest ≡ line ∷ raw_lines after)
     (so_far : said ++ debug_replies s 0 (raw_lines rest) ≡ whole)
-    (answered : text ≡ said ++ (turn s line (raw_lines after)).text) (session : t ≡ (turn s line (raw_lines after)).session) where
-  said_of : (further : List ℕ) → unwrap_or (option_map (λ n. debug_replies t n (raw_lines after)) (turn s line (raw_lines after)).taken) [] ≡ further → text ++ further ≡ whole
+    (answered : text ≡ said ++ (exchange s line (raw_lines after)).text) (session : t ≡ (exchange s line (raw_lines after)).session) where
+  said_of : (further : List ℕ) → unwrap_or (option_map (λ n. debug_replies t n (raw_lines after)) (exchange s line (raw_lines after)).taken) [] ≡ further → text ++ further ≡ whole
   said_of further e =
       ap (λ l. l ++ further) answered ∙ append_assoc said _ _
-      ∙ ap (λ l. said ++ l) (ap (λ l. (turn s line (raw_lines after)).text ++ l) (sym e ∙ ap (λ u. unwrap_or (option_map (λ n. debug_replies u n (raw_lines after)) (turn s line (raw_lines after)).taken) []) session)
+      ∙ ap (λ l. said ++ l) (ap (λ l. (exchange s line (raw_lines after)).text ++ l) (sym e ∙ ap (λ u. unwrap_or (option_map (λ n. debug_replies u n (raw_lines after)) (exchange s line (raw_lines after)).taken) []) session)
       ∙ sym (one s line (raw_lines after)) ∙ ap (debug_replies s 0) (sym lines))
       ∙ so_far
 
-  pub replies_go : (left : List ℕ) → Some (raw_lines left) ≡ option_map (λ n. drop n (raw_lines after)) (turn s line (raw_lines after)).taken → text ++ debug_replies t 0 (raw_lines left) ≡ whole
+  pub replies_go : (left : List ℕ) → Some (raw_lines left) ≡ option_map (λ n. drop n (raw_lines after)) (exchange s line (raw_lines after)).taken → text ++ debug_replies t 0 (raw_lines left) ≡ whole
   replies_go left e = said_of _ (goes_on t (raw_lines after) (raw_lines left) _ e)
 
-  pub replies_end : None ≡ option_map (λ n. drop n (raw_lines after)) (turn s line (raw_lines after)).taken → text ≡ whole
+  pub replies_end : None ≡ option_map (λ n. drop n (raw_lines after)) (exchange s line (raw_lines after)).taken → text ≡ whole
   replies_end e = sym (append-nil text) ∙ said_of [] (ends t (raw_lines after) _ e)
 
 -- no line is left

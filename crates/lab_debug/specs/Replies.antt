@@ -19,30 +19,30 @@ use Rattle.lab_debug.specs.Input.{without_newline}
 
 -- what a line is answered, the session that is left, and how many of the lines after it are taken with it; None where it ends the
 -- commands
-pub record Turn : Type 0 where
+pub record Exchange : Type 0 where
   pub text : List ℕ
   pub session : SessionValue
   pub taken : Option ℕ
 
 -- an answer, by which so many lines are taken
-abbrev pub turned : Answer → ℕ → Turn
-turned a n = record { text = a.text; session = a.session; taken = Some n }
+abbrev pub exchange_with : Answer → ℕ → Exchange
+exchange_with a n = record { text = a.text; session = a.session; taken = Some n }
 
 -- a line that asks this of the engine, or else something of the session, before these lines
-abbrev pub turn_by : SessionValue → List ℕ → List (List ℕ) → Option EngineCommand → Turn
-turn_by s line after None = turned (answer_line s line) 0
-turn_by s line after (Some (engine.Load n)) = turned (load_answer s (concat (take n after))) n
-turn_by s line after (Some (engine.Pool n)) = turned (answers (debug_refusal BadCommand) s) 0
-turn_by s line after (Some engine.Quit) = record { text = []; session = s; taken = None }
+abbrev pub exchange_by : SessionValue → List ℕ → List (List ℕ) → Option EngineCommand → Exchange
+exchange_by s line after None = exchange_with (answer_line s line) 0
+exchange_by s line after (Some (engine.Load n)) = exchange_with (load_answer s (concat (take n after))) n
+exchange_by s line after (Some (engine.Pool n)) = exchange_with (answers (debug_refusal BadCommand) s) 0
+exchange_by s line after (Some engine.Quit) = record { text = []; session = s; taken = None }
 
 -- what a raw line is answered, with these lines after it: it is the engine's own command, or else one line of session s
-unfoldable pub turn : SessionValue → List ℕ → List (List ℕ) → Turn
-turn s raw after = turn_by s (without_newline raw) after (engine_command_of (without_newline raw))
+unfoldable pub exchange : SessionValue → List ℕ → List (List ℕ) → Exchange
+exchange s raw after = exchange_by s (without_newline raw) after (engine_command_of (without_newline raw))
 
 -- the answers to raw lines, of which so many are taken already
 unfoldable pub debug_replies : SessionValue → ℕ → List (List ℕ) → List ℕ
 debug_replies s n [] = []
 debug_replies s (suc n) (line ∷ after) = debug_replies s n after
 debug_replies s zero (line ∷ after) =
-    let t = turn s line after in
+    let t = exchange s line after in
     t.text ++ unwrap_or (option_map (λ n. debug_replies t.session n after) t.taken) []

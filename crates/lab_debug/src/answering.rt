@@ -28,17 +28,17 @@ fn refuse_pool(text: &mut Vec<u8>) -> Result<(), AllocError>
 }
 
 /// Answers a line, and tells what is left of what stands after it; None where the commands end.
-#[tactic(auto, unfolding(crate::specs::Replies::turn))]
-fn turn<'a, T: Table>(
+#[tactic(auto, unfolding(crate::specs::Replies::exchange))]
+fn exchange<'a, T: Table>(
     session: &mut Session<'_, T>,
     raw: &[u8],
     after: &'a [u8],
     text: &mut Vec<u8>,
 ) -> Result<Option<&'a [u8]>, AllocError>
-    ensures text { OnOk result (text.new.items ≡ text.old.items ++ (spec.turn session.old raw.now (raw_lines after.now)).text) }
-    ensures session { OnOk result (session.new ≡ (spec.turn session.old raw.now (raw_lines after.now)).session) }
+    ensures text { OnOk result (text.new.items ≡ text.old.items ++ (spec.exchange session.old raw.now (raw_lines after.now)).text) }
+    ensures session { OnOk result (session.new ≡ (spec.exchange session.old raw.now (raw_lines after.now)).session) }
     ensures left { IfOk result (λ left. option_map (λ rest. raw_lines rest.now) left
-        ≡ option_map (λ n. drop n (raw_lines after.now)) (spec.turn session.old raw.now (raw_lines after.now)).taken) }
+        ≡ option_map (λ n. drop n (raw_lines after.now)) (spec.exchange session.old raw.now (raw_lines after.now)).taken) }
     ensures no_longer { IfOk result (λ left. IfSome left (λ rest. length rest.now ≤ length after.now)) }
 {
     let line = without_newline(raw);
@@ -73,7 +73,7 @@ fn answer_lines<T: Table>(
     let mut rest = commands;
     while !rest.is_empty() {
         let (raw, after) = raw_line(rest);
-        let Some(left) = turn(session, raw, after, text)? else {
+        let Some(left) = exchange(session, raw, after, text)? else {
             return Ok(());
         };
         rest = left;

@@ -12,7 +12,7 @@ use Rattle.lab_engine.specs.declared.engine.Ending.{Ending}
 use Rattle.lab_engine.specs.declared.engine.Ending.TheVariants.{Written, Refused, OutOfMemory, Unread, Unwritten}
 use Rattle.lab_engine.specs.Outcome.{outcome, to_write, no_memory, bad_reader, bad_writer}
 use Rattle.lab_engine.specs.Listing.{IsListed}
-use Rattle.lab_engine.specs.Ending.{Gives, IsUnread, IsEnd, IsTold, status_of}
+use Rattle.lab_engine.specs.Ending.{IsOutcomeOf, IsUnread, IsEnd, IsTold, status_of}
 use Rattle.lab_engine.proofs.ListingLemmas.{outcome_lists}
 
 -- what holds of all bytes holds of those that are known
@@ -27,7 +27,7 @@ abbrev Beginning : Stream → Stream → Result (List ℕ) (List ℕ) → Type 0
 Beginning old new given = (n : ℕ) × Appends old.bytes new.bytes (take n (to_write given))
 
 -- what was written is a beginning of what is to be written, where that is a beginning for what was given
-begins : (job : Job) (input old new : Stream) (given : Result (List ℕ) (List ℕ)) → Gives job input given → Beginning old new given → IfSome input.bytes (λ bytes. Beginning old new (outcome job bytes))
+begins : (job : Job) (input old new : Stream) (given : Result (List ℕ) (List ℕ)) → IsOutcomeOf job input given → Beginning old new given → IfSome input.bytes (λ bytes. Beginning old new (outcome job bytes))
 begins job input old new given h b = IfSome_then input.bytes h (λ bytes g. subst (Beginning old new) (sym g.1) b)
 
 -- nothing written is a beginning of any text
@@ -35,7 +35,7 @@ kept : (job : Job) (input old new : Stream) → Stays old new → IfSome input.b
 kept job input old new h = always input.bytes (λ bytes. (0, Appends-kept old.bytes old.bytes new.bytes [] (Appends-nil old.bytes) h.0))
 
 -- input past the limit gives nothing
-within : (job : Job) (input : Stream) (given : Result (List ℕ) (List ℕ)) (P : Type 0) → Gives job input given → IfSome input.bytes (λ bytes. 134217728 < length bytes → P)
+within : (job : Job) (input : Stream) (given : Result (List ℕ) (List ℕ)) (P : Type 0) → IsOutcomeOf job input given → IfSome input.bytes (λ bytes. 134217728 < length bytes → P)
 within job input given P h = IfSome_then input.bytes h (λ bytes g past. absurd (let low = g.0 in omega arith))
 
 pub status_known : (e : Ending) → Contains (0 ∷ 3 ∷ 4 ∷ 5 ∷ []) (status_of e)
@@ -45,7 +45,7 @@ status_known OutOfMemory = (2, omega arith, refl)
 status_known _ = (3, omega arith, refl)
 
 module _ (job : Job) (r r' w w' f f' : Stream) where
-  pub done_is : (e : Ending) → IsEnd job r r' w w' e → status_of e ≡ 0 → (text : List ℕ) × Gives job r (Ok text) × TakesAll w w' text
+  pub done_is : (e : Ending) → IsEnd job r r' w w' e → status_of e ≡ 0 → (text : List ℕ) × IsOutcomeOf job r (Ok text) × TakesAll w w' text
   done_is Written h s = h.1
   done_is _ h s = absurd (omega arith)
 
@@ -56,7 +56,7 @@ module _ (job : Job) (r r' w w' f f' : Stream) where
   quiet_is Written h s = h
   quiet_is _ h s = absurd (omega arith)
 
-  pub refused_is : (e : Ending) → IsEnd job r r' w w' e → IsTold e f f' → status_of e ≡ 3 → (line : List ℕ) × Gives job r (Err line) × Takes f f' line
+  pub refused_is : (e : Ending) → IsEnd job r r' w w' e → IsTold e f f' → status_of e ≡ 3 → (line : List ℕ) × IsOutcomeOf job r (Err line) × Takes f f' line
   refused_is (Refused line) h t s = (line.items, h.1, t)
   refused_is _ h t s = absurd (omega arith)
 

@@ -1,4 +1,3 @@
-mod LineLemmas
 mod AccountLemmas
 mod SearchLemmas
 pub mod ClassifiedLemmas

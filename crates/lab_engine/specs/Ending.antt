@@ -8,8 +8,8 @@ use Rattle.lab_engine.specs.declared.engine.Ending.TheVariants.{Written, Refused
 use Rattle.lab_engine.specs.Outcome.{outcome, no_memory, bad_reader, bad_writer}
 
 -- the input, where it is known, is within the limit, and this is what the job does with it
-abbrev pub Gives : Job → Stream → Result (List ℕ) (List ℕ) → Type 0
-Gives job input given = IfSome input.bytes (λ bytes. (length bytes ≤ most_input) × (outcome job bytes ≡ given))
+abbrev pub IsOutcomeOf : Job → Stream → Result (List ℕ) (List ℕ) → Type 0
+IsOutcomeOf job input given = IfSome input.bytes (λ bytes. (length bytes ≤ most_input) × (outcome job bytes ≡ given))
 
 -- the input was not read: the reader failed, or its bytes go on past the limit
 abbrev pub IsUnread : Stream → Stream → Type 0
@@ -17,11 +17,11 @@ IsUnread old new = HasFailed new ⊎ (GoesPastLimit old × IsSound old new)
 
 -- what is true of the reader and the writer, before and after, where a run ends so
 abbrev pub IsEnd : Job → Stream → Stream → Stream → Stream → Ending → Type 0
-IsEnd job r r' w w' Written = IsSound r r' × ((text : List ℕ) × Gives job r (Ok text) × TakesAll w w' text)
-IsEnd job r r' w w' (Refused line) = IsSound r r' × Gives job r (Err line.items) × Stays w w'
+IsEnd job r r' w w' Written = IsSound r r' × ((text : List ℕ) × IsOutcomeOf job r (Ok text) × TakesAll w w' text)
+IsEnd job r r' w w' (Refused line) = IsSound r r' × IsOutcomeOf job r (Err line.items) × Stays w w'
 IsEnd job r r' w w' OutOfMemory = IsSound r r' × Stays w w'
 IsEnd job r r' w w' Unread = IsUnread r r' × Stays w w'
-IsEnd job r r' w w' Unwritten = IsSound r r' × ((text : List ℕ) × Gives job r (Ok text) × TakesPart w w' text)
+IsEnd job r r' w w' Unwritten = IsSound r r' × ((text : List ℕ) × IsOutcomeOf job r (Ok text) × TakesPart w w' text)
 
 -- what is told where a run ends so
 abbrev pub IsTold : Ending → Stream → Stream → Type 0

@@ -16,7 +16,8 @@ use Rattle.x_steps.specs.Order.{IsIn, PathsRise}
 use Rattle.x_steps.specs.Covers.{AreCovers}
 use Rattle.lab_engine.specs.declared.job.Job.{Job}
 use Rattle.lab_engine.specs.declared.job.Job.TheVariants as jobs
-use Rattle.lab_engine.specs.Output.{visit_words, total_lines}
+use Rattle.debug_texts.specs.Replies.{visit_words}
+use Rattle.lab_engine.specs.Output.{total_lines}
 use Rattle.lab_engine.specs.Packed.{packings_from, number_line, count_lines}
 use Rattle.lab_engine.specs.Classified.{packings_of, class_lines}
 use Rattle.lab_debug.specs.Input.{problem_text, command_lines}

@@ -7,19 +7,16 @@ use Rattle.cover_problem.specs.Problem.{ProblemValue}
 use Rattle.x_steps.specs.StateValue.{start, done}
 use Rattle.x_steps.specs.Run.{states_between}
 use Rattle.x_steps.specs.Levels.{without_last_zeros}
+use Rattle.debug_texts.specs.Replies.{visit_words}
 use Rattle.lab_engine.specs.Account.{Account, account_of}
 
 -- the lines of the steps and the levels
-abbrev pub step_lines : ℕ → List ℕ → List (List (List ℕ))
-step_lines steps levels = (codes "steps" ∷ decimal steps ∷ []) ∷ (codes "levels" ∷ map decimal levels) ∷ []
+abbrev pub tally_lines : ℕ → List ℕ → List (List (List ℕ))
+tally_lines steps levels = (codes "steps" ∷ decimal steps ∷ []) ∷ (codes "levels" ∷ map decimal levels) ∷ []
 
 -- the lines after the visits: how many visits and steps, and the levels
 abbrev pub total_lines : ℕ → ℕ → List ℕ → List (List (List ℕ))
-total_lines visited steps levels = (codes "visits" ∷ decimal visited ∷ []) ∷ step_lines steps levels
-
--- the words of a visit's line: the options of its path
-abbrev pub visit_words : List ℕ → List (List ℕ)
-visit_words path = codes "visit" ∷ map decimal path
+total_lines visited steps levels = (codes "visits" ∷ decimal visited ∷ []) ∷ tally_lines steps levels
 
 -- what is written of an account that keeps its visits
 abbrev pub report_text : Account → List ℕ

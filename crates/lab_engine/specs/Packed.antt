@@ -11,7 +11,7 @@ use Rattle.poly_place.specs.Chosen.{packing_value}
 use Rattle.poly_place.specs.Layers.{layers}
 use Rattle.x_steps.specs.Levels.{without_last_zeros}
 use Rattle.lab_engine.specs.Account.{Account}
-use Rattle.lab_engine.specs.Output.{whole_account, step_lines}
+use Rattle.lab_engine.specs.Output.{whole_account, tally_lines}
 
 -- the packing of a path, with its number and its layers
 abbrev pub packing_text : PuzzleValue → ℕ → List ℕ → List ℕ
@@ -38,7 +38,7 @@ solve_output p =
 
 -- the lines of the number of packings and of options, and of the steps and the levels
 abbrev pub count_lines : PuzzleValue → ℕ → ℕ → List ℕ → List (List (List ℕ))
-count_lines p packings steps levels = number_line packings ∷ options_line p ∷ step_lines steps levels
+count_lines p packings steps levels = number_line packings ∷ options_line p ∷ tally_lines steps levels
 
 -- these lines, of the account of a search
 abbrev pub count_text : PuzzleValue → Account → List ℕ

@@ -18,13 +18,13 @@ use crate::classes::count_classes;
 use crate::cover::covers;
 use crate::debugging::debug;
 use crate::job::Job;
-use crate::lines::{push_number, push_word};
 use crate::packed::{count, options, solve};
 use cover_problem::{CoverFault, Problem, Table, read_cover};
 use lab_debug::split_input;
 use poly_place::{Compiled, PlaceFault, compile};
 use poly_texts::{Puzzle, PuzzleFault, read_puzzle};
 use std::alloc::{AllocError, Global};
+use text_lines::{write_number, write_word};
 
 /// The text to write, or the line that refuses the input.
 #[derive(Drop)]
@@ -191,11 +191,11 @@ fn refusal(
     ensures { IfOk result (λ bytes. bytes.items ≡ line_text (refusal_words text.now number name.now line)) }
 {
     let mut bytes = Vec::from_slice(alloc, b"refused")?;
-    push_word(&mut bytes, text)?;
-    push_number(&mut bytes, number)?;
-    push_word(&mut bytes, name)?;
-    push_word(&mut bytes, "line")?;
-    push_number(&mut bytes, line)?;
+    write_word(&mut bytes, text)?;
+    write_number(&mut bytes, number)?;
+    write_word(&mut bytes, name)?;
+    write_word(&mut bytes, "line")?;
+    write_number(&mut bytes, line)?;
     bytes.push(b'\n')?;
     Ok(bytes)
 }

@@ -6,12 +6,12 @@ ghost use Rattle.poly_place.specs.Packings.{packing_problem};
 ghost use Rattle.lab_engine.specs.Classified.{packings_of, classes_of, class_lines, classes_output};
 ghost use Rattle.lab_engine.specs.Listing.{AreExactCovers};
 
-use crate::lines::push_number_line;
 use crate::packed::count_text;
 use crate::search::search;
 use cover_problem::{Lists, Table};
 use poly_place::{Compiled, Group, Packing, classes, packing_of};
 use std::alloc::{AllocError, Global};
+use text_lines::write_number_line;
 
 /// What `count` writes, and then how many classes the packings make, by the rotations and by all symmetries of the region.
 #[tactic(auto, unfolding(crate::specs::Classified::classes_output))]
@@ -42,8 +42,8 @@ fn push_classes(
     let packings = packings_of(alloc, compiled, visits)?;
     let rotations = classes(alloc, packings.as_slice(), Group::Rotations)?;
     let symmetries = classes(alloc, packings.as_slice(), Group::Symmetries)?;
-    push_number_line(text, "rotations", u128::from(rotations))?;
-    push_number_line(text, "symmetries", u128::from(symmetries))
+    write_number_line(text, "rotations", u128::from(rotations))?;
+    write_number_line(text, "symmetries", u128::from(symmetries))
 }
 
 /// The packings for which these exact covers stand.

@@ -4,7 +4,7 @@ ghost use Rattle.std.specs.Io.KnownBytes.{Appends};
 ghost use Rattle.byte_streams.specs.Stream.{IsSound, HasFailed, Stays, TakesAll, Takes};
 ghost use Rattle.lab_engine.specs.Outcome.{outcome, to_write, no_memory, bad_reader, bad_writer};
 ghost use Rattle.lab_engine.specs.Listing.{IsListed};
-ghost use Rattle.lab_engine.specs.Ending.{Gives, IsUnread, IsEnd, IsTold, status_of};
+ghost use Rattle.lab_engine.specs.Ending.{IsOutcomeOf, IsUnread, IsEnd, IsTold, status_of};
 
 use crate::answer::{Answer, answer_to};
 use crate::job::Job;
@@ -94,13 +94,13 @@ pub fn run<R, I: Source, O: Sink, F: Sink>(
     faults: &mut F,
 ) -> u8
     ensures statuses { Contains (0 ∷ 3 ∷ 4 ∷ 5 ∷ []) result }
-    ensures done { result ≡ 0 → (text : List ℕ) × Gives job (I.stream reader.old) (Ok text)
+    ensures done { result ≡ 0 → (text : List ℕ) × IsOutcomeOf job (I.stream reader.old) (Ok text)
         × TakesAll (O.stream writer.old) (O.stream writer.new) text }
     ensures covers { result ≡ 0 → (text : List ℕ)
         × IfSome (I.stream reader.old).bytes (λ bytes. IsListed job bytes text)
         × TakesAll (O.stream writer.old) (O.stream writer.new) text }
     ensures quiet { result ≡ 0 → Stays (F.stream faults.old) (F.stream faults.new) }
-    ensures refused { result ≡ 3 → (line : List ℕ) × Gives job (I.stream reader.old) (Err line)
+    ensures refused { result ≡ 3 → (line : List ℕ) × IsOutcomeOf job (I.stream reader.old) (Err line)
         × Takes (F.stream faults.old) (F.stream faults.new) line }
     ensures memory { result ≡ 4 → Takes (F.stream faults.old) (F.stream faults.new) no_memory }
     ensures unwritten { Contains (3 ∷ 4 ∷ []) result

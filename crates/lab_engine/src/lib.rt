@@ -8,7 +8,6 @@ mod cover;
 mod debugging;
 mod engine;
 mod job;
-mod lines;
 mod packed;
 mod report;
 mod search;

@@ -7,12 +7,12 @@ ghost use Rattle.poly_place.specs.Packings.{packing_problem};
 ghost use Rattle.lab_engine.specs.Packed.{solve_output, count_output, count_text, options_output, packing_text, packings_from, number_line};
 ghost use Rattle.lab_engine.specs.Listing.{AreExactCovers};
 
-use crate::lines::push_number_line;
 use crate::report::Report;
 use crate::search::search;
 use cover_problem::{Lists, Table, write_cover};
 use poly_place::{Compiled, layers, packing_of};
 use std::alloc::{AllocError, Global};
+use text_lines::write_number_line;
 
 /// The packings of the puzzle in path order, each with its layers, and then their number.
 #[tactic(auto, unfolding(crate::specs::Packed::solve_output))]
@@ -22,7 +22,7 @@ pub fn solve<T: Table>(alloc: Global, compiled: &Compiled<'_>) -> Result<Vec<u8>
     let report = search::<T>(alloc, compiled.problem(), true)?;
     let mut text = Vec::new(alloc);
     push_packings(alloc, &mut text, compiled, report.visits())?;
-    push_number_line(&mut text, "packings", report.visited())?;
+    write_number_line(&mut text, "packings", report.visited())?;
     Ok(text)
 }
 
@@ -45,8 +45,8 @@ pub fn count_text(
 {
     let options = compiled.problem().options();
     let mut text = Vec::new(alloc);
-    push_number_line(&mut text, "packings", report.visited())?;
-    push_number_line(&mut text, "options", u128::from(options))?;
+    write_number_line(&mut text, "packings", report.visited())?;
+    write_number_line(&mut text, "options", u128::from(options))?;
     report.push_steps(alloc, &mut text)?;
     Ok(text)
 }
@@ -86,7 +86,7 @@ fn push_packing(
     requires { IsExactCover (packing_problem compiled.now) (has path.now) }
     ensures { OnOk result (text.new.items ≡ text.old.items ++ packing_text compiled.now number path.now) }
 {
-    push_number_line(text, "packing", number)?;
+    write_number_line(text, "packing", number)?;
     let packing = packing_of(alloc, compiled, path)?;
     let shown = layers(alloc, &packing)?;
     text.extend_from_slice(shown.as_bytes())

@@ -2,14 +2,14 @@
 ghost use Rattle.std.specs.Prelude.{◌≡◌, ◌++◌, length, replicate, IfOk, OnOk, IsTrue, ◌↔◌, ◌-◌, Some, slice_get};
 ghost use Rattle.text_lines.specs.Writing.{text_of};
 ghost use Rattle.lab_engine.specs.Account.{AreSums, with_walk, empty_account, kept_with, visits_with};
-ghost use Rattle.lab_engine.specs.Output.{step_lines};
+ghost use Rattle.lab_engine.specs.Output.{tally_lines};
 ghost use Rattle.x_steps.specs.Levels.{without_last_zeros};
 
 use crate::count::Count;
-use crate::lines::{push_number_line, push_numbers_line};
 use cover_problem::Lists;
 use std::alloc::{AllocError, Global};
 use std::marker::Model;
+use text_lines::{write_number_line, write_numbers_line};
 use x_steps::{Event, Walk};
 
 /// The visits that are kept, and the numbers of visits, of steps, and of X2 states at each level.
@@ -132,12 +132,12 @@ impl Report {
     /// Adds the lines of the steps and of the levels.
     pub fn push_steps(&self, alloc: Global, text: &mut Vec<u8>) -> Result<(), AllocError>
         ensures { OnOk result (text.new.items ≡ text.old.items
-            ++ text_of (step_lines self.now.steps (without_last_zeros self.now.entered))) }
+            ++ text_of (tally_lines self.now.steps (without_last_zeros self.now.entered))) }
     {
         let mut entered = totals_of(alloc, &self.entered)?;
         drop_last_zeros(&mut entered);
-        push_number_line(text, "steps", self.steps.total())?;
-        push_numbers_line(text, "levels", &entered)
+        write_number_line(text, "steps", self.steps.total())?;
+        write_numbers_line(text, "levels", &entered)
     }
 }
 

@@ -66,9 +66,9 @@ leasing b w None c = called b w c (lent_worker b.problem)
 leasing b w (Some x) c = stays b (Some x) Busy
 
 -- a worker with a tile acts
-abbrev pub working : BookValue → Option WorkerValue → (WorkerValue → Turn) → Turn
-working b None f = stays b None Idle
-working b (Some x) f = f x
+abbrev pub if_working : BookValue → Option WorkerValue → (WorkerValue → Turn) → Turn
+if_working b None f = stays b None Idle
+if_working b (Some x) f = f x
 
 -- a step, unless the runner is at its branch's end, or its stretch has as many steps as can be counted
 abbrev pub stepped : BookValue → WorkerValue → Turn
@@ -109,17 +109,17 @@ retracting b x =
 
 -- what worker w's act makes of a book and of its seat
 unfoldable pub turn : BookValue → Option WorkerValue → ℕ → Act → Turn
-turn b x w Step = working b x (stepped b)
-turn b x w Back = working b x (stepped_back b)
+turn b x w Step = if_working b x (stepped b)
+turn b x w Back = if_working b x (stepped_back b)
 turn b x w (Lease id) = leasing b w x (call.Lease id)
 turn b x w LeaseAny = leasing b w x call.LeaseAny
 turn b x w (TakeHeld id) = leasing b w x (call.TakeHeld id)
-turn b x w Post = working b x (λ y. called b y.grant.worker (post_of b.problem y.grant (unposted y)) (after_post y))
-turn b x w (Split level o) = working b x (splitting b level o)
-turn b x w Retract = working b x (retracting b)
-turn b x w Park = working b x (λ y. called b y.grant.worker (call.Park y.grant) (after_end y))
-turn b x w Abandon = working b x (λ y. called b y.grant.worker (call.Abandon y.grant) (after_end y))
-turn b x w Close = working b x (λ y. called b y.grant.worker (call.Close y.grant) (after_end y))
+turn b x w Post = if_working b x (λ y. called b y.grant.worker (post_of b.problem y.grant (unposted y)) (after_post y))
+turn b x w (Split level o) = if_working b x (splitting b level o)
+turn b x w Retract = if_working b x (retracting b)
+turn b x w Park = if_working b x (λ y. called b y.grant.worker (call.Park y.grant) (after_end y))
+turn b x w Abandon = if_working b x (λ y. called b y.grant.worker (call.Abandon y.grant) (after_end y))
+turn b x w Close = if_working b x (λ y. called b y.grant.worker (call.Close y.grant) (after_end y))
 turn b x w (PutBack id s) = called b w (call.PutBack id (state_value s)) (λ r. x)
 turn b x w (RequestStop id) = called b w (call.RequestStop id) (λ r. x)
 

@@ -2,7 +2,7 @@
 ghost use Rattle.std.specs.Prelude.{◌≡◌, ◌≤◌, ◌<◌, ℕ, All, None, length, take, replicate, option_map, vec_len, IfOk, IfErr, OnOk, OnErr};
 ghost use Rattle.x_steps.specs.StateView.{state_value};
 ghost use Rattle.x_steps.specs.StateValue.{start};
-ghost use Rattle.lab_book.specs.Book.{opened, leased_in};
+ghost use Rattle.lab_book.specs.Book.{new_book, leased_in};
 ghost use Rattle.lab_world.specs.World.{WorldValue, world_step, played, world_replies, worker_at, fresh, IsSeat, state_of};
 
 use crate::event::{WorldEvent, WorldReply};
@@ -56,7 +56,7 @@ impl<'p, T: Table> World<'p, T> {
     pub fn new(alloc: Global, problem: &'p Problem, workers: u8) -> Result<World<'p, T>, AllocError>
         requires some { 0 < workers }
         requires few { workers ≤ 32 }
-        ensures { IfOk result (λ world. world ≡ fresh (opened problem.now (record { lo = None; hi = None }) start) workers) }
+        ensures { IfOk result (λ world. world ≡ fresh (new_book problem.now (record { lo = None; hi = None }) start) workers) }
     {
         let book = Book::new(alloc, problem)?;
         let workers = without_tiles(alloc, workers)?;

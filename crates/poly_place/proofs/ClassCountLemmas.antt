@@ -15,7 +15,7 @@ use Rattle.poly_place.specs.declared.alike.Group.{Group}
 use Rattle.poly_place.specs.Placements.{cells_cmp}
 use Rattle.poly_texts.specs.Puzzle.{PuzzleValue, IsPuzzle}
 use Rattle.poly_place.specs.Chosen.{PackingValue, packing_value}
-use Rattle.poly_place.specs.Classes.{is_member, part_at, is_empty, same_part, AreAlike, HaveOneRegion, IsLikeOne, AreNew, IsClassCount}
+use Rattle.poly_place.specs.Classes.{is_member, part_at, is_empty_cell, same_part, AreAlike, HaveOneRegion, IsLikeOne, AreNew, IsClassCount}
 use Rattle.poly_place.specs.ClassCount.{image_in, agree, carries, are_alike, count_new, class_count, AlikeIsTested, ClassesAreCounted}
 use Rattle.poly_place.specs.Forms.{IsKept}
 use Rattle.poly_place.proofs.OrderLemmas.{cells_total, cells_exact}
@@ -59,7 +59,7 @@ matched_by group p q n s m lt member h =
             (λ v i. ap (λ (ms : List Coordinates). has_cell ms (image_in vs n v)) m ∙ sym (agrees (has_cell p.maybe_cells) (λ v. has_cell q.maybe_cells (image_in vs n v)) vs two.0 v i));
       },
       record {
-        empty = agrees (is_empty p.placements) (λ v. is_empty q.placements (image_in vs n v)) vs three.0;
+        empty = agrees (is_empty_cell p.placements) (λ v. is_empty_cell q.placements (image_in vs n v)) vs three.0;
         parts = λ v w i j.
             agrees (same_part p.placements v) (λ w. same_part q.placements (image_in vs n v) (image_in vs n w)) vs
             (passes (λ v. agree (same_part p.placements v) (λ w. same_part q.placements (image_in vs n v) (image_in vs n w)) vs) vs three.1 v i) w j;
@@ -77,7 +77,7 @@ carries_by group p q n s m k a =
     (agreed (has_cell p.maybe_cells) (λ v. has_cell q.maybe_cells (image_in vs n v)) vs
     (λ v i. sym (maps_at (has_cell p.maybe_cells) (image_in vs n) (has_cell p.maybe_cells) vs k.optional v i) ∙ ap (λ (ms : List Coordinates). has_cell ms (image_in vs n v)) m))
     (and_from _ _
-    (agreed (is_empty p.placements) (λ v. is_empty q.placements (image_in vs n v)) vs a.empty)
+    (agreed (is_empty_cell p.placements) (λ v. is_empty_cell q.placements (image_in vs n v)) vs a.empty)
     (all_pass (λ v. agree (same_part p.placements v) (λ w. same_part q.placements (image_in vs n v) (image_in vs n w)) vs) vs
     (λ v i. agreed (same_part p.placements v) (λ w. same_part q.placements (image_in vs n v) (image_in vs n w)) vs (λ w j. a.parts v w i j)))))
 

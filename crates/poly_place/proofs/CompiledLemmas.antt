@@ -27,7 +27,7 @@ use Rattle.cover_problem.proofs.ProblemLemmas.{made_again}
 use Rattle.cover_problem.specs.Lists.{has, are_distinct}
 use Rattle.cover_problem.specs.Problem.{ProblemValue, IsProblem, is_name, is_name_byte, is_item, is_option, is_small, are_new}
 use Rattle.poly_place.specs.Packings.{ChoiceValue, is_needed, must_fill, IsPlaced, choices, Thing, a_piece, a_cell, needed_things, things, index_among, item_of, things_of, option_of, thing_name, packing_problem}
-use Rattle.poly_place.specs.Compiled.{needed_names, filled_cells, entries_of, is_within}
+use Rattle.poly_place.specs.Compiled.{needed_names, filled_cells, entries_of, has_room}
 use Rattle.poly_cells.proofs.MemberLemmas.{all_pass, passes, some_passes}
 use Rattle.poly_place.proofs.DistinctLemmas.{in_from_name, name_from_in, IsDistinct, distinct_append, distinct_filter, distinct_map, distinct_rising, distinct_names}
 use Rattle.poly_place.proofs.PackingLemmas.{has_shapes, placed_in}
@@ -266,10 +266,10 @@ entries_same p (c ∷ cs) =
     omega (arith, rest, cells, same, sum, all)
 
 -- the problem is small exactly where there is room for the choices
-pub small_is : (p : PuzzleValue) → length (things p) ≤ MOST_ITEMS → is_small (packing_problem p) ≡ is_within (length (things p)) (choices p)
+pub small_is : (p : PuzzleValue) → length (things p) ≤ MOST_ITEMS → is_small (packing_problem p) ≡ has_room (length (things p)) (choices p)
 unfolding packing_problem
 small_is p few =
-    same_tests (is_small (packing_problem p)) (is_within (length (things p)) (choices p))
+    same_tests (is_small (packing_problem p)) (has_room (length (things p)) (choices p))
     (λ t.
     let parts = and_parts (nat_le (length names) MOST_ITEMS && nat_le (length options) MOST_OPTIONS) (nat_le (length names + sum_by length options + length options + 2) MOST_ENTRIES) t in
     let first = and_parts (nat_le (length names) MOST_ITEMS) (nat_le (length options) MOST_OPTIONS) parts.0 in

@@ -13,7 +13,7 @@ use Rattle.poly_cells.specs.CellTests.{is_same, has_cell}
 use Rattle.poly_texts.specs.Puzzle.{PuzzleValue, IsPuzzle, names_of, has_name}
 use Rattle.poly_place.specs.Packings.{must_fill, Thing, a_piece, a_cell, same_thing, needed_things, index_among, item_of}
 use Rattle.poly_place.specs.Tables.{bit_index}
-use Rattle.poly_place.specs.Compiled.{needed_names, filled_cells, number_at, numbered, AreNumbers}
+use Rattle.poly_place.specs.Compiled.{needed_names, filled_cells, item_number_at, numbered, AreNumbers}
 use Rattle.poly_cells.proofs.MemberLemmas.{passes, in_from_filter, in_filter}
 use Rattle.poly_place.proofs.DistinctLemmas.{in_from_name, IsDistinct, distinct_filter, distinct_rising}
 use Rattle.poly_place.proofs.TableLemmas.{low, bit_index_same}
@@ -76,14 +76,14 @@ pub numbered_long : (numbers : List ℕ) (k : ℕ) (vs : List Coordinates) → l
 numbered_long numbers k [] = refl
 numbered_long numbers k (v ∷ vs) = numbered_long (slice_set numbers (bit_index v) k) (k + 1) vs ∙ length-set numbers (bit_index v) k
 
-numbered_other : (w : Coordinates) (numbers : List ℕ) (k : ℕ) (vs : List Coordinates) → IsInGrid w → AllInGrid vs → (IsIn w vs → ⊥) → number_at (numbered numbers k vs) w ≡ number_at numbers w
+numbered_other : (w : Coordinates) (numbers : List ℕ) (k : ℕ) (vs : List Coordinates) → IsInGrid w → AllInGrid vs → (IsIn w vs → ⊥) → item_number_at (numbered numbers k vs) w ≡ item_number_at numbers w
 numbered_other w numbers k [] g all no_one = refl
 numbered_other w numbers k (v ∷ vs) g all no_one =
     numbered_other w (slice_set numbers (bit_index v) k) (k + 1) vs g (λ u i. all u (inr i)) (λ i. no_one (inr i))
     ∙ get_or-set_other numbers (bit_index v) (bit_index w) k 0 (λ e. no_one (inl (bit_index_same w v g (all v (inl refl)) e)))
 
 numbered_in : (w : Coordinates) (numbers : List ℕ) (k : ℕ) (vs : List Coordinates) → length numbers ≡ 32768 → AllInGrid vs → IsDistinct vs → IsIn w vs
-    → number_at (numbered numbers k vs) w ≡ k + index_among (a_cell w) (map a_cell vs)
+    → item_number_at (numbered numbers k vs) w ≡ k + index_among (a_cell w) (map a_cell vs)
 numbered_in w numbers k [] long all d i = absurd i
 numbered_in w numbers k (v ∷ vs) long all d i =
     elim (cases_Bool (is_same w v)) [
@@ -94,7 +94,7 @@ numbered_in w numbers k (v ∷ vs) long all d i =
           let other = numbered_other v (slice_set numbers (bit_index v) k) (k + 1) vs g (λ u j. all u (inr j)) d.0 in
           let here = get_or-set_same numbers (bit_index v) k 0 lt in
           let z = place_here (a_cell w) (a_cell v) (map a_cell vs) t in
-          ap (number_at (numbered (slice_set numbers (bit_index v) k) (k + 1) vs)) e ∙ other ∙ here ∙ plus_none k (index_among (a_cell w) (map a_cell (v ∷ vs))) z
+          ap (item_number_at (numbered (slice_set numbers (bit_index v) k) (k + 1) vs)) e ∙ other ∙ here ∙ plus_none k (index_among (a_cell w) (map a_cell (v ∷ vs))) z
       | inr f ↦
           let later : IsIn w vs = elim i [ inl e ↦ let y = (is_same_Decides w v).1 e in cc | inr r ↦ r ] in
           let rest =

@@ -9,15 +9,15 @@ use Rattle.poly_cells.specs.Coordinates.{Coordinates}
 use Rattle.poly_cells.specs.Sets.{IsIn}
 use Rattle.poly_texts.specs.Puzzle.{PuzzleValue, IsPuzzle}
 use Rattle.cover_problem.specs.declared.limits.TheConstants.{MOST_OPTIONS, MOST_ENTRIES}
-use Rattle.poly_place.specs.Packings.{ChoiceValue, IsPlaced, choices_of, choices, a_piece, a_cell, item_of, option_of}
-use Rattle.poly_place.specs.Compiled.{number_at, AreNumbers, option_by, entries_of, is_within}
+use Rattle.poly_place.specs.Packings.{ChoiceValue, IsPlaced, choices_of_piece, choices, a_piece, a_cell, item_of, option_of}
+use Rattle.poly_place.specs.Compiled.{item_number_at, AreNumbers, option_by, entries_of, has_room}
 use Rattle.poly_cells.proofs.SetLemmas.{in_at, take_next}
 use Rattle.poly_place.proofs.PackingLemmas.{has_shapes, placed_in}
 
 -- ---- the option of a choice
 
 module _ (p : PuzzleValue) (numbers : List ℕ) (n : AreNumbers p numbers) where
-  cells_same : (vs : List Coordinates) → ((v : Coordinates) → IsIn v vs → IsIn v p.region) → map (number_at numbers) vs ≡ map (item_of p) (map a_cell vs)
+  cells_same : (vs : List Coordinates) → ((v : Coordinates) → IsIn v vs → IsIn v p.region) → map (item_number_at numbers) vs ≡ map (item_of p) (map a_cell vs)
   cells_same [] inside = refl
   cells_same (v ∷ vs) inside = ap₂ (λ (i : ℕ) (is : List ℕ). i ∷ is) (n.same v (inside v (inl refl))) (cells_same vs (λ u i. inside u (inr i)))
 
@@ -40,15 +40,15 @@ one_option p cs i c before after lt is push so = push ∙ ap₂ (λ os d. os ++ 
 
 -- the choices of the first k pieces
 abbrev pub choices_before : PuzzleValue → List (ℕ × List Coordinates) → ℕ → List ChoiceValue
-choices_before p pieces k = flat_map (choices_of p) (take k pieces)
+choices_before p pieces k = flat_map (choices_of_piece p) (take k pieces)
 
 pub choices_next : (p : PuzzleValue) (pieces : List (ℕ × List Coordinates)) (k : ℕ) (q : ℕ × List Coordinates) → k < length pieces → q ≡ get_or pieces k q
-    → choices_before p pieces (k + 1) ≡ choices_before p pieces k ++ choices_of p q
+    → choices_before p pieces (k + 1) ≡ choices_before p pieces k ++ choices_of_piece p q
 choices_next p pieces k q lt is =
-    sym (flat_map_more (choices_of p) [] (take k pieces) q
-    ∙ ap (flat_map (choices_of p)) (sym (take_next pieces k q lt is)))
+    sym (flat_map_more (choices_of_piece p) [] (take k pieces) q
+    ∙ ap (flat_map (choices_of_piece p)) (sym (take_next pieces k q lt is)))
 
-pub choices_all : (p : PuzzleValue) → flat_map (choices_of p) p.pieces ≡ choices p
+pub choices_all : (p : PuzzleValue) → flat_map (choices_of_piece p) p.pieces ≡ choices p
 unfolding choices
 choices_all p = refl
 
@@ -57,7 +57,7 @@ choices_all p = refl
 pub entries_append : (xs ys : List ChoiceValue) → entries_of (xs ++ ys) ≡ entries_of xs + entries_of ys
 entries_append xs ys = sum_by-append (λ (c : ChoiceValue). length c.cells + 2) xs ys
 
-fewer : (n : ℕ) (xs ys : List ChoiceValue) → is_within n (xs ++ ys) ≡ true → is_within n xs ≡ true
+fewer : (n : ℕ) (xs ys : List ChoiceValue) → has_room n (xs ++ ys) ≡ true → has_room n xs ≡ true
 fewer n xs ys h =
     let parts = and_parts (nat_le (length (xs ++ ys)) MOST_OPTIONS) (nat_le (n + entries_of (xs ++ ys) + 2) MOST_ENTRIES) h in
     let a = leb-true (length (xs ++ ys)) MOST_OPTIONS parts.0 in
@@ -67,12 +67,12 @@ fewer n xs ys h =
     and_from (nat_le (length xs) MOST_OPTIONS) (nat_le (n + entries_of xs + 2) MOST_ENTRIES) (le-leb (length xs) MOST_OPTIONS (omega (arith, a, l)))
     (le-leb (n + entries_of xs + 2) MOST_ENTRIES (omega (arith, b, l, s)))
 
-no_room : (n : ℕ) (xs ys : List ChoiceValue) → is_within n xs ≡ false → is_within n (xs ++ ys) ≡ false
-no_room n xs ys h = false_from_ne_true _ (λ t. both_ways (is_within n xs) h (fewer n xs ys t))
+no_room : (n : ℕ) (xs ys : List ChoiceValue) → has_room n xs ≡ false → has_room n (xs ++ ys) ≡ false
+no_room n xs ys h = false_from_ne_true _ (λ t. both_ways (has_room n xs) h (fewer n xs ys t))
 
 -- where there is no room for the choices of the first pieces, there is none for all
-pub no_room_before : (p : PuzzleValue) (n : ℕ) (pieces : List (ℕ × List Coordinates)) (k : ℕ) → pieces ≡ p.pieces → is_within n (choices_before p pieces k) ≡ false
-    → is_within n (choices p) ≡ false
+pub no_room_before : (p : PuzzleValue) (n : ℕ) (pieces : List (ℕ × List Coordinates)) (k : ℕ) → pieces ≡ p.pieces → has_room n (choices_before p pieces k) ≡ false
+    → has_room n (choices p) ≡ false
 no_room_before p n pieces k same f =
-    ap (is_within n) (sym (choices_all p) ∙ ap (flat_map (choices_of p)) (sym same ∙ sym (take-append-drop k pieces)) ∙ flat_map-append (choices_of p) (take k pieces) (drop k pieces))
-    ∙ no_room n (choices_before p pieces k) (flat_map (choices_of p) (drop k pieces)) f
+    ap (has_room n) (sym (choices_all p) ∙ ap (flat_map (choices_of_piece p)) (sym same ∙ sym (take-append-drop k pieces)) ∙ flat_map-append (choices_of_piece p) (take k pieces) (drop k pieces))
+    ∙ no_room n (choices_before p pieces k) (flat_map (choices_of_piece p) (drop k pieces)) f

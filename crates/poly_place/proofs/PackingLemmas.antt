@@ -12,7 +12,7 @@ use Rattle.cover_problem.specs.Lists.{has}
 use Rattle.cover_problem.specs.Problem.{option_at}
 use Rattle.cover_problem.specs.ExactCover.{IsExactCover}
 use Rattle.poly_place.specs.Placements.{cells_cmp, placements}
-use Rattle.poly_place.specs.Packings.{ChoiceValue, choice, is_needed, must_fill, IsPlaced, IsPacking, is_useful, choices_of, choices, Thing, a_piece, a_cell, needed_things, item_of, things_of, option_of, packing_problem, choice_at, StandsFor, ArePackings}
+use Rattle.poly_place.specs.Packings.{ChoiceValue, choice, is_needed, must_fill, IsPlaced, IsPacking, is_useful, choices_of_piece, choices, Thing, a_piece, a_cell, needed_things, item_of, things_of, option_of, packing_problem, choice_at, StandsFor, ArePackings}
 use Rattle.std.proofs.lemmas.Cmp.{tied_itself}
 use Rattle.poly_place.proofs.OrderLemmas.{cells_total, cells_exact}
 use Rattle.poly_place.specs.Chosen.{same_choice}
@@ -57,7 +57,7 @@ placed_from p s name piece set named i h =
 pub placed_in : (p : PuzzleValue) → HasShapes p → (c : ChoiceValue) → IsIn c (choices p) → IsPlaced p c
 unfolding choices
 placed_in p s c i =
-    let n = in_from_flat_map (choices_of p) c p.pieces i in
+    let n = in_from_flat_map (choices_of_piece p) c p.pieces i in
     let kept = in_from_filter (is_useful p) c (map (choice (n.0.0)) (placements (n.0.1) p.region)) n.2 in
     let set = in_from_map (choice (n.0.0)) c (placements (n.0.1) p.region) kept.0 in
     subst (IsPlaced p) (sym set.2)
@@ -66,31 +66,31 @@ placed_in p s c i =
 pub in_placed : (p : PuzzleValue) → HasShapes p → (c : ChoiceValue) → IsPlaced p c → IsIn c (choices p)
 unfolding choices
 in_placed p s c h =
-    in_flat_map (choices_of p) c (c.name, h.piece) p.pieces h.named
+    in_flat_map (choices_of_piece p) c (c.name, h.piece) p.pieces h.named
     (in_filter (is_useful p) c (map (choice c.name) (placements h.piece p.region))
     (in_map (choice c.name) c.cells (placements h.piece p.region) (complete h.piece p.region c.cells (s.pieces (c.name, h.piece) h.named) h.rises h.placed))
     (from_useful p c h.useful))
 
 -- ---- no choice comes twice
 
-pub named_by : (p : PuzzleValue) (n : ℕ × List Coordinates) (c : ChoiceValue) → IsIn c (choices_of p n) → c.name ≡ n.0
+pub named_by : (p : PuzzleValue) (n : ℕ × List Coordinates) (c : ChoiceValue) → IsIn c (choices_of_piece p n) → c.name ≡ n.0
 named_by p n c i =
     let kept = in_from_filter (is_useful p) c (map (choice (n.0)) (placements (n.1) p.region)) i in
     let set = in_from_map (choice (n.0)) c (placements (n.1) p.region) kept.0 in
     ap (λ (d : ChoiceValue). d.name) set.2
 
-pub named_among : (p : PuzzleValue) (ns : List (ℕ × List Coordinates)) (c : ChoiceValue) → IsIn c (flat_map (choices_of p) ns) → IsIn c.name (names_of ns)
+pub named_among : (p : PuzzleValue) (ns : List (ℕ × List Coordinates)) (c : ChoiceValue) → IsIn c (flat_map (choices_of_piece p) ns) → IsIn c.name (names_of ns)
 named_among p ns c i =
-    let n = in_from_flat_map (choices_of p) c ns i in
+    let n = in_from_flat_map (choices_of_piece p) c ns i in
     subst (λ (m : ℕ). IsIn m (names_of ns)) (sym (named_by p n.0 c n.2)) (in_map (λ (m : ℕ × List Coordinates). m.0) n.0 ns n.1)
 
 cells_same : (name : ℕ) (a b : List Coordinates) → choice name a ≡ choice name b → a ≡ b
 cells_same name a b e = ap (λ (c : ChoiceValue). c.cells) e
 
-distinct_of : (p : PuzzleValue) (ns : List (ℕ × List Coordinates)) → IsDistinct (names_of ns) → IsDistinct (flat_map (choices_of p) ns)
+distinct_of : (p : PuzzleValue) (ns : List (ℕ × List Coordinates)) → IsDistinct (names_of ns) → IsDistinct (flat_map (choices_of_piece p) ns)
 distinct_of p [] d = tt
 distinct_of p (n ∷ ns) d =
-    distinct_append (choices_of p n) (flat_map (choices_of p) ns)
+    distinct_append (choices_of_piece p n) (flat_map (choices_of_piece p) ns)
     (distinct_filter (is_useful p) (map (choice (n.0)) (placements (n.1) p.region))
     (distinct_map (choice (n.0)) (placements (n.1) p.region) (cells_same (n.0)) (distinct_rising cells_total (placements (n.1) p.region) (placements_rise (n.1) p.region))))
     (distinct_of p ns d.1)

@@ -13,7 +13,7 @@ use Rattle.poly_cells.proofs.SetLemmas.{in_at, in_map, in_from_map, in_from_orde
 use Rattle.poly_texts.specs.Puzzle.{PuzzleValue, IsPuzzle, names_of, has_name}
 use Rattle.cover_problem.specs.Lists.{has}
 use Rattle.cover_problem.specs.ExactCover.{IsExactCover}
-use Rattle.poly_place.specs.Packings.{ChoiceValue, choice, choices, choices_of, choice_at, packing_problem}
+use Rattle.poly_place.specs.Packings.{ChoiceValue, choice, choices, choices_of_piece, choice_at, packing_problem}
 use Rattle.poly_place.specs.Chosen.{chosen_by, is_among, same_choice, names_in, AreInPieceOrder}
 use Rattle.poly_place.specs.Forms.{place_in}
 use Rattle.poly_cells.proofs.MemberLemmas.{in_from_filter, in_filter, passes_some}
@@ -68,37 +68,37 @@ names_rise (n ∷ ns) d =
 abbrev name_at : List ChoiceValue → ℕ → ℕ
 name_at cs i = (get_or cs i (choice 0 [])).name
 
-first_name : (p : PuzzleValue) (n : ℕ × List Coordinates) (ds : List ChoiceValue) (i : ℕ) → i < length (choices_of p n) → name_at (choices_of p n ++ ds) i ≡ n.0
+first_name : (p : PuzzleValue) (n : ℕ × List Coordinates) (ds : List ChoiceValue) (i : ℕ) → i < length (choices_of_piece p n) → name_at (choices_of_piece p n ++ ds) i ≡ n.0
 first_name p n ds i lt =
-    ap (λ (c : ChoiceValue). c.name) (get_or_append_left (choices_of p n) ds (choice 0 []) i lt)
-    ∙ named_by p n (get_or (choices_of p n) i (choice 0 [])) (in_at (choices_of p n) i (choice 0 []) lt)
+    ap (λ (c : ChoiceValue). c.name) (get_or_append_left (choices_of_piece p n) ds (choice 0 []) i lt)
+    ∙ named_by p n (get_or (choices_of_piece p n) i (choice 0 [])) (in_at (choices_of_piece p n) i (choice 0 []) lt)
 
-later_name : (p : PuzzleValue) (n : ℕ × List Coordinates) (ds : List ChoiceValue) (i : ℕ) → length (choices_of p n) ≤ i → name_at (choices_of p n ++ ds) i ≡ name_at ds (i - length (choices_of p n))
-later_name p n ds i le = ap (λ (c : ChoiceValue). c.name) (get_or-append_right (choices_of p n) ds (length (choices_of p n)) i (choice 0 []) refl le)
+later_name : (p : PuzzleValue) (n : ℕ × List Coordinates) (ds : List ChoiceValue) (i : ℕ) → length (choices_of_piece p n) ≤ i → name_at (choices_of_piece p n ++ ds) i ≡ name_at ds (i - length (choices_of_piece p n))
+later_name p n ds i le = ap (λ (c : ChoiceValue). c.name) (get_or-append_right (choices_of_piece p n) ds (length (choices_of_piece p n)) i (choice 0 []) refl le)
 
 -- a name of a later piece is at a place one more than among the later pieces
-place_after : (p : PuzzleValue) (n : ℕ × List Coordinates) (ns : List (ℕ × List Coordinates)) → IsDistinct (names_of (n ∷ ns)) → (i : ℕ) → length (choices_of p n) ≤ i → i < length (choices_of p n ++ flat_map (choices_of p) ns)
-    → place_in (names_of (n ∷ ns)) (name_at (choices_of p n ++ flat_map (choices_of p) ns) i) ≡ 1 + place_in (names_of ns) (name_at (flat_map (choices_of p) ns) (i - length (choices_of p n)))
+place_after : (p : PuzzleValue) (n : ℕ × List Coordinates) (ns : List (ℕ × List Coordinates)) → IsDistinct (names_of (n ∷ ns)) → (i : ℕ) → length (choices_of_piece p n) ≤ i → i < length (choices_of_piece p n ++ flat_map (choices_of_piece p) ns)
+    → place_in (names_of (n ∷ ns)) (name_at (choices_of_piece p n ++ flat_map (choices_of_piece p) ns) i) ≡ 1 + place_in (names_of ns) (name_at (flat_map (choices_of_piece p) ns) (i - length (choices_of_piece p n)))
 place_after p n ns d i le within =
-    let len = length-append (choices_of p n) (flat_map (choices_of p) ns) in
-    let k = i - length (choices_of p n) in
-    let inside : k < length (flat_map (choices_of p) ns) = omega (arith, le, within, len) in
-    ap (place_in (names_of (n ∷ ns))) (later_name p n (flat_map (choices_of p) ns) i le)
-    ∙ later_place (n.0) (name_at (flat_map (choices_of p) ns) k) (names_of ns) d.0 (named_among p ns (get_or (flat_map (choices_of p) ns) k (choice 0 [])) (in_at (flat_map (choices_of p) ns) k (choice 0 []) inside))
+    let len = length-append (choices_of_piece p n) (flat_map (choices_of_piece p) ns) in
+    let k = i - length (choices_of_piece p n) in
+    let inside : k < length (flat_map (choices_of_piece p) ns) = omega (arith, le, within, len) in
+    ap (place_in (names_of (n ∷ ns))) (later_name p n (flat_map (choices_of_piece p) ns) i le)
+    ∙ later_place (n.0) (name_at (flat_map (choices_of_piece p) ns) k) (names_of ns) d.0 (named_among p ns (get_or (flat_map (choices_of_piece p) ns) k (choice 0 [])) (in_at (flat_map (choices_of_piece p) ns) k (choice 0 []) inside))
 
-piece_by_piece : (p : PuzzleValue) (ns : List (ℕ × List Coordinates)) → IsDistinct (names_of ns) → (i j : ℕ) → i < j → j < length (flat_map (choices_of p) ns)
-    → place_in (names_of ns) (name_at (flat_map (choices_of p) ns) i) ≤ place_in (names_of ns) (name_at (flat_map (choices_of p) ns) j)
+piece_by_piece : (p : PuzzleValue) (ns : List (ℕ × List Coordinates)) → IsDistinct (names_of ns) → (i j : ℕ) → i < j → j < length (flat_map (choices_of_piece p) ns)
+    → place_in (names_of ns) (name_at (flat_map (choices_of_piece p) ns) i) ≤ place_in (names_of ns) (name_at (flat_map (choices_of_piece p) ns) j)
 piece_by_piece p [] d i j lt within = absurd (omega arith)
 piece_by_piece p (n ∷ ns) d i j lt within =
-    let a = length (choices_of p n) in
+    let a = length (choices_of_piece p n) in
     let ih = piece_by_piece p ns d.1 (i - a) (j - a) in
     elim (cases_Bool (nat_lt i a)) [
       | inl t ↦
-          let first = ap (place_in (names_of (n ∷ ns))) (first_name p n (flat_map (choices_of p) ns) i (ltb-true i a t)) ∙ first_place (n.0) (names_of ns) in
+          let first = ap (place_in (names_of (n ∷ ns))) (first_name p n (flat_map (choices_of_piece p) ns) i (ltb-true i a t)) ∙ first_place (n.0) (names_of ns) in
           omega (arith, first)
       | inr f ↦
           let le = ltb-false i a f in
-          let len = length-append (choices_of p n) (flat_map (choices_of p) ns) in
+          let len = length-append (choices_of_piece p n) (flat_map (choices_of_piece p) ns) in
           let one = place_after p n ns d i le (omega (arith, lt, within)) in
           let other = place_after p n ns d j (omega (arith, le, lt)) within in
           let more = ih (omega (arith, le, lt)) (omega (arith, le, lt, within, len)) in

@@ -5,8 +5,8 @@ use Rattle.poly_cells.specs.Coordinates.{Coordinates}
 use Rattle.poly_texts.specs.Puzzle.{PuzzleValue}
 use Rattle.cover_problem.specs.declared.limits.TheConstants.{MOST_OPTIONS, MOST_ENTRIES}
 use Rattle.cover_problem.specs.Problem.{is_small}
-use Rattle.poly_place.specs.Packings.{ChoiceValue, choices_of, choices, things, packing_problem}
-use Rattle.poly_place.specs.Compiled.{entries_of, is_within}
+use Rattle.poly_place.specs.Packings.{ChoiceValue, choices_of_piece, choices, things, packing_problem}
+use Rattle.poly_place.specs.Compiled.{entries_of, has_room}
 use Rattle.poly_place.proofs.OptionLemmas.{choices_before, choices_next, entries_append, no_room_before}
 use Rattle.poly_place.proofs.CompiledLemmas.{small_is}
 use Rattle.std.proofs.lemmas.List.{length-append}
@@ -19,7 +19,7 @@ pub record IsCounted (p : PuzzleValue) (pieces : List (ℕ × List Coordinates))
   pub low : entries ≤ MOST_ENTRIES
 
 module _ (p : PuzzleValue) (pieces : List (ℕ × List Coordinates)) (k items options entries : ℕ) (s : IsCounted p pieces k items options entries) (q : ℕ × List Coordinates) (lt : k < length pieces)
-    (is : q ≡ get_or pieces k q) (cs : List ChoiceValue) (n e : ℕ) (new : cs ≡ choices_of p q) (many : n ≡ length cs) (exact : e ≤ MOST_ENTRIES → e ≡ entries + entries_of cs) where
+    (is : q ≡ get_or pieces k q) (cs : List ChoiceValue) (n e : ℕ) (new : cs ≡ choices_of_piece p q) (many : n ≡ length cs) (exact : e ≤ MOST_ENTRIES → e ≡ entries + entries_of cs) where
   next : choices_before p pieces (k + 1) ≡ choices_before p pieces k ++ cs
   next = choices_next p pieces k q lt is ∙ ap (λ (ds : List ChoiceValue). choices_before p pieces k ++ ds) (sym new)
 
@@ -39,9 +39,9 @@ module _ (p : PuzzleValue) (pieces : List (ℕ × List Coordinates)) (k items op
   pub counted_past : pieces ≡ p.pieces → items ≡ length (things p) → items ≤ 8316 → (entries + entries_of cs ≤ MOST_ENTRIES → e ≤ MOST_ENTRIES)
       → (MOST_OPTIONS < options + n) ⊎ (MOST_ENTRIES < e) → false ≡ is_small (packing_problem p)
   counted_past same all few within past =
-      sym (small_is p (omega (arith, all, few)) ∙ ap (λ (m : ℕ). is_within m (choices p)) (sym all) ∙ no_room_before p items pieces (k + 1) same no_room)
+      sym (small_is p (omega (arith, all, few)) ∙ ap (λ (m : ℕ). has_room m (choices p)) (sym all) ∙ no_room_before p items pieces (k + 1) same no_room)
     where
-      no_room : is_within items (choices_before p pieces (k + 1)) ≡ false
+      no_room : has_room items (choices_before p pieces (k + 1)) ≡ false
       no_room =
           false_from_ne_true _ (λ t.
           let parts = and_parts (nat_le (length (choices_before p pieces (k + 1))) MOST_OPTIONS) (nat_le (items + entries_of (choices_before p pieces (k + 1)) + 2) MOST_ENTRIES) t in

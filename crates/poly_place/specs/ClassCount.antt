@@ -15,7 +15,7 @@ use Rattle.poly_cells.specs.CellTests.{has_cell}
 use Rattle.poly_place.specs.declared.alike.Group.{Group}
 use Rattle.poly_place.specs.Placements.{cells_cmp}
 use Rattle.poly_place.specs.Chosen.{PackingValue}
-use Rattle.poly_place.specs.Classes.{is_member, is_empty, same_part, AreAlike, HaveOneRegion, IsClassCount}
+use Rattle.poly_place.specs.Classes.{is_member, is_empty_cell, same_part, AreAlike, HaveOneRegion, IsClassCount}
 
 -- ---- a test of two packings
 
@@ -41,7 +41,7 @@ unfoldable pub carries : ℕ → PackingValue → PackingValue → Bool
 carries n p q =
     is_eq (cells_cmp (turned n p.region) (normal p.region))
     && (agree (has_cell p.maybe_cells) (λ v. has_cell q.maybe_cells (image_in p.region n v)) p.region
-    && (agree (is_empty p.placements) (λ v. is_empty q.placements (image_in p.region n v)) p.region
+    && (agree (is_empty_cell p.placements) (λ v. is_empty_cell q.placements (image_in p.region n v)) p.region
     && list_all (λ v. agree (same_part p.placements v) (λ w. same_part q.placements (image_in p.region n v) (image_in p.region n w))
     p.region) p.region))
 

@@ -29,8 +29,8 @@ part_at [] v = 0
 part_at (c ∷ cs) v = cond (has_cell c.cells v) (length (c ∷ cs)) (part_at cs v)
 
 -- whether no placement has the cell
-abbrev pub is_empty : List ChoiceValue → Coordinates → Bool
-is_empty cs v = part_at cs v == 0
+abbrev pub is_empty_cell : List ChoiceValue → Coordinates → Bool
+is_empty_cell cs v = part_at cs v == 0
 
 -- whether the same placement has both cells, or none has either
 abbrev pub same_part : List ChoiceValue → Coordinates → Coordinates → Bool
@@ -41,7 +41,7 @@ same_part cs v w = part_at cs v == part_at cs w
 pub record Carries (n : ℕ) (d : Point) (p q : PackingValue) : Type 0 where
   pub region : IsImage n d p.region q.region
   pub optional : (v w : Coordinates) → IsIn v p.region → IsSent n d v w → has_cell p.maybe_cells v ≡ has_cell q.maybe_cells w
-  pub empty : (v w : Coordinates) → IsIn v p.region → IsSent n d v w → is_empty p.placements v ≡ is_empty q.placements w
+  pub empty : (v w : Coordinates) → IsIn v p.region → IsSent n d v w → is_empty_cell p.placements v ≡ is_empty_cell q.placements w
   pub parts : (v w x y : Coordinates) → IsIn v p.region → IsIn w p.region → IsSent n d v x → IsSent n d w y
       → same_part p.placements v w ≡ same_part q.placements x y
 

@@ -18,8 +18,8 @@ abbrev pub filled_cells : PuzzleValue → List Coordinates
 filled_cells p = filter (must_fill p) p.region
 
 -- what a table of numbers has at the place of the cell's bit
-abbrev pub number_at : List ℕ → Coordinates → ℕ
-number_at numbers v = slice_index_or numbers (bit_index v) 0
+abbrev pub item_number_at : List ℕ → Coordinates → ℕ
+item_number_at numbers v = slice_index_or numbers (bit_index v) 0
 
 -- the table after these cells are numbered from k on
 abbrev pub numbered : List ℕ → ℕ → List Coordinates → List ℕ
@@ -29,13 +29,13 @@ numbered numbers k (v ∷ vs) = numbered (slice_set numbers (bit_index v) k) (k 
 -- the table has the number of the item of each cell of the region
 pub record AreNumbers (p : PuzzleValue) (numbers : List ℕ) : Type 0 where
   pub long : length numbers ≡ grid_cells
-  pub same : (v : Coordinates) → IsIn v p.region → number_at numbers v ≡ item_of p (a_cell v)
+  pub same : (v : Coordinates) → IsIn v p.region → item_number_at numbers v ≡ item_of p (a_cell v)
 
 -- ---- options
 
 -- the item, and then the items of the cells by the table
 abbrev pub option_by : List ℕ → ℕ → List Coordinates → List ℕ
-option_by numbers item cells = item ∷ map (number_at numbers) cells
+option_by numbers item cells = item ∷ map (item_number_at numbers) cells
 
 -- ---- room
 
@@ -44,5 +44,5 @@ abbrev pub entries_of : List ChoiceValue → ℕ
 entries_of cs = sum_by (λ c. length c.cells + 2) cs
 
 -- there is room for this many items and the options of these choices
-abbrev pub is_within : ℕ → List ChoiceValue → Bool
-is_within items cs = nat_le (length cs) MOST_OPTIONS && nat_le (items + entries_of cs + 2) MOST_ENTRIES
+abbrev pub has_room : ℕ → List ChoiceValue → Bool
+has_room items cs = nat_le (length cs) MOST_OPTIONS && nat_le (items + entries_of cs + 2) MOST_ENTRIES

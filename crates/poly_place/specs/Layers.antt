@@ -39,12 +39,12 @@ abbrev pub symbol_at : PackingValue → Coordinates → ℕ
 symbol_at q v = symbol_over q.placements (ground q.region) v
 
 -- the symbols of the cells with this y and z, in the box from one corner to the other
-abbrev pub row : (Coordinates → ℕ) → Coordinates → Coordinates → ℕ → ℕ → List ℕ
-row symbol low high y z = map (λ x. symbol (coordinates x y z)) (from_to low.x high.x)
+abbrev pub row_symbols : (Coordinates → ℕ) → Coordinates → Coordinates → ℕ → ℕ → List ℕ
+row_symbols symbol low high y z = map (λ x. symbol (coordinates x y z)) (from_to low.x high.x)
 
 -- the words of the line for y
 abbrev pub layer_words : (Coordinates → ℕ) → Coordinates → Coordinates → ℕ → List (List ℕ)
-layer_words symbol low high y = map (row symbol low high y) (from_to low.z high.z)
+layer_words symbol low high y = map (row_symbols symbol low high y) (from_to low.z high.z)
 
 -- the lines for each y
 abbrev pub layer_lines : (Coordinates → ℕ) → Coordinates → Coordinates → List (List (List ℕ))

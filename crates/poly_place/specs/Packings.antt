@@ -57,12 +57,12 @@ abbrev pub is_useful : PuzzleValue → ChoiceValue → Bool
 is_useful p c = is_needed p c.name || list_any (must_fill p) c.cells
 
 -- what may be chosen for a piece, in the order of its placements
-abbrev pub choices_of : PuzzleValue → ℕ × List Coordinates → List ChoiceValue
-choices_of p named = filter (is_useful p) (map (choice (named.0)) (placements (named.1) p.region))
+abbrev pub choices_of_piece : PuzzleValue → ℕ × List Coordinates → List ChoiceValue
+choices_of_piece p named = filter (is_useful p) (map (choice (named.0)) (placements (named.1) p.region))
 
 -- what may be chosen, piece by piece
 unfoldable pub choices : PuzzleValue → List ChoiceValue
-choices p = flat_map (choices_of p) p.pieces
+choices p = flat_map (choices_of_piece p) p.pieces
 
 -- what an item stands for: a piece, by its name, or a cell
 pub data Thing : Type 0 where

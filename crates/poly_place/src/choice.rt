@@ -4,7 +4,7 @@ ghost use Rattle.std.specs.List.{list_any};
 ghost use Rattle.poly_cells.specs.Sets.{IsIn};
 ghost use Rattle.poly_texts.specs.Puzzle.{IsPuzzle, names_of};
 ghost use Rattle.poly_place.specs.Tables.{IsTable, grid_cells, has_bit};
-ghost use Rattle.poly_place.specs.Packings.{choices, choices_of};
+ghost use Rattle.poly_place.specs.Packings.{choices, choices_of_piece};
 ghost use Rattle.poly_place.specs.Compiled.{filled_cells, needed_names};
 
 use crate::placement::placements;
@@ -71,7 +71,7 @@ pub fn add_choices(
     requires needed { needed.now ≡ needed_names puzzle.now }
     requires filled { IsTable (filled_cells puzzle.now) filled.now }
     requires member { IsIn name (names_of puzzle.now.pieces) }
-    ensures { OnOk result (choices.new.items ≡ choices.old.items ++ choices_of puzzle.now (name, piece.now)) }
+    ensures { OnOk result (choices.new.items ≡ choices.old.items ++ choices_of_piece puzzle.now (name, piece.now)) }
 {
     let is_needed = needed.contains(&name);
     for cells in placements(alloc, piece, puzzle.region())? {

@@ -4,7 +4,7 @@ ghost use Rattle.std.specs.String.{string_bytes};
 ghost use Rattle.text_lines.specs.Writing.{line_text, text_of};
 ghost use Rattle.poly_cells.specs.Coordinates.{Coordinates};
 ghost use Rattle.poly_cells.specs.Shapes.{corner};
-ghost use Rattle.poly_place.specs.Layers.{AreSymbols, far_corner, layer_lines, layer_words, layers, painted, row, symbol_at};
+ghost use Rattle.poly_place.specs.Layers.{AreSymbols, far_corner, layer_lines, layer_words, layers, painted, row_symbols, symbol_at};
 ghost use Rattle.poly_place.specs.Tables.{grid_cells};
 
 use crate::packing::Packing;
@@ -81,7 +81,7 @@ fn push_row(
     requires z_within { z ≤ 31 }
     requires ascii { (i : ℕ) → slice_index symbols.now i < 128 }
     ensures { (f : Coordinates → ℕ) → AreSymbols f symbols.now →
-        OnOk result (string_bytes text.new ≡ string_bytes text.old ++ row f low high y z) }
+        OnOk result (string_bytes text.new ≡ string_bytes text.old ++ row_symbols f low high y z) }
 {
     for x in low.x()..high.x() + 1 {
         push_symbol(text, symbols[bit_index(x, y, z)])?;

@@ -11,7 +11,7 @@ use Rattle.poly_texts.specs.declared.fault.Fault.TheVariants.{BadLine, RepeatedP
 use Rattle.poly_texts.specs.declared.key.Key.{Key}
 use Rattle.poly_texts.specs.declared.key.Key.TheVariants as keys
 use Rattle.poly_texts.specs.Cells.{with_cells}
-use Rattle.poly_texts.specs.Words.{piece_name, is_name, are_sizes, are_small, is_size, size_of}
+use Rattle.poly_texts.specs.Words.{piece_name, is_name, are_sizes, are_small, is_size, size_from}
 use Rattle.poly_texts.specs.Reading.{DraftValue, kept_shape, shape_of, within, has_piece, with_piece, is_new, new_name, add_cell, add_piece_cell, three_words, with_box, sized_box, piece_line, box_line, cells_line, maybe_cells_line, cut_line, key_from, maybe_keyed, maybe_line, keyed_line, words_line}
 use Rattle.poly_cells.specs.CellTests.{is_in_grid}
 use Rattle.poly_cells.specs.CellWords.{cell_word}
@@ -77,7 +77,7 @@ box_again_line s a b c is fit =
     let k = (and_parts (nat_lt 0 c) (nat_le c most_size) q.1).1 in
     sized (decimal a) (decimal b) (decimal c) (and_from _ _ x.0 (and_from _ _ y.0 z.0)) x.1 y.1 z.1 (and_from _ _ i (and_from _ _ j k)) (not-true _ f.0) f.1
   where
-    sized : (u v w : List ℕ) → are_sizes u v w ≡ true → size_of u ≡ a → size_of v ≡ b → size_of w ≡ c → (nat_le a most_size && (nat_le b most_size && nat_le c most_size)) ≡ true → s.boxed ≡ false → is_small (with_box s a b c) ≡ true → sized_box s (Some (u, v, w)) ≡ Ok (with_box s a b c)
+    sized : (u v w : List ℕ) → are_sizes u v w ≡ true → size_from u ≡ a → size_from v ≡ b → size_from w ≡ c → (nat_le a most_size && (nat_le b most_size && nat_le c most_size)) ≡ true → s.boxed ≡ false → is_small (with_box s a b c) ≡ true → sized_box s (Some (u, v, w)) ≡ Ok (with_box s a b c)
     sized u v w sizes x y z few first small = rw (sizes, first, x, y, z, few, small) refl
 
 cells_again_line : (s : DraftValue) (cs : List Coordinates) → are_in_grid cs ≡ true → is_fit s (cells false cs) ≡ true → cells_line s (map cell_word cs) ≡ Ok (plus s (cells false cs))
@@ -175,19 +175,19 @@ three_is (x ∷ y ∷ z ∷ w ∷ ws) a b c h = absurd (cc)
 box_taken : (s : DraftValue) (words : List (List ℕ)) (found : Option (List ℕ × List ℕ × List ℕ)) (t : DraftValue) → three_words words ≡ found → sized_box s found ≡ Ok t → IsTakenLine s (codes "box" ∷ words) t
 box_taken s words None t e h = absurd (no_fault BadLine t h)
 box_taken s words (Some (a, b, c)) t e h =
-    let u = unrefused (not (are_sizes a b c)) BadLine (cond s.boxed (Err SecondBox) (cond (are_small a b c) (within (with_box s (size_of a) (size_of b) (size_of c))) (Err TooLarge))) t h in
-    let v = unrefused s.boxed SecondBox (cond (are_small a b c) (within (with_box s (size_of a) (size_of b) (size_of c))) (Err TooLarge)) t u.1 in
-    let w = granted (are_small a b c) TooLarge (within (with_box s (size_of a) (size_of b) (size_of c))) t v.1 in
-    let x = within_is (with_box s (size_of a) (size_of b) (size_of c)) t w.1 in
+    let u = unrefused (not (are_sizes a b c)) BadLine (cond s.boxed (Err SecondBox) (cond (are_small a b c) (within (with_box s (size_from a) (size_from b) (size_from c))) (Err TooLarge))) t h in
+    let v = unrefused s.boxed SecondBox (cond (are_small a b c) (within (with_box s (size_from a) (size_from b) (size_from c))) (Err TooLarge)) t u.1 in
+    let w = granted (are_small a b c) TooLarge (within (with_box s (size_from a) (size_from b) (size_from c))) t v.1 in
+    let x = within_is (with_box s (size_from a) (size_from b) (size_from c)) t w.1 in
     let i = and_parts (is_size a) (is_size b && is_size c) (not-false _ u.0) in
     let j = and_parts (is_size b) (is_size c) i.1 in
-    let k = and_parts (nat_le (size_of a) most_size) (nat_le (size_of b) most_size && nat_le (size_of c) most_size) w.0 in
-    let l = and_parts (nat_le (size_of b) most_size) (nat_le (size_of c) most_size) k.1 in
+    let k = and_parts (nat_le (size_from a) most_size) (nat_le (size_from b) most_size && nat_le (size_from c) most_size) w.0 in
+    let l = and_parts (nat_le (size_from b) most_size) (nat_le (size_from c) most_size) k.1 in
     let p = side_is a i.0 k.0 in
     let q = side_is b j.0 l.0 in
     let r = side_is c j.1 l.1 in
     record {
-      line = box (size_of a) (size_of b) (size_of c);
+      line = box (size_from a) (size_from b) (size_from c);
       words_are = ap (λ ws. codes "box" ∷ ws) (three_is words a b c e ∙ three_same p.1 q.1 r.1);
       good = and_from _ _ p.0 (and_from _ _ q.0 r.0);
       fits = and_from _ _ (not_from_false _ v.0) x.0;

@@ -28,7 +28,7 @@ use Rattle.poly_texts.specs.declared.key.Key.TheVariants as keys
 use Rattle.poly_cells.specs.CellTests.{has_cell}
 use Rattle.poly_cells.specs.CellWords.{cell_of}
 use Rattle.poly_texts.specs.Cells.{with_cell, with_cells, ordered_without, box_cells}
-use Rattle.poly_texts.specs.Words.{piece_name, are_sizes, are_small, size_of}
+use Rattle.poly_texts.specs.Words.{piece_name, are_sizes, are_small, size_from}
 use Rattle.poly_texts.specs.Puzzle.{PuzzleValue, puzzle_from, needs_nothing}
 
 -- what the lines so far say: the pieces, the names of those that may be left out, whether there was a box, and the cells that
@@ -139,7 +139,7 @@ sized_box s None = Err BadLine
 sized_box s (Some (a, b, c)) =
     if not (are_sizes a b c) then Err BadLine else
     (if s.boxed then Err SecondBox else
-    (if are_small a b c then within (with_box s (size_of a) (size_of b) (size_of c)) else Err TooLarge))
+    (if are_small a b c then within (with_box s (size_from a) (size_from b) (size_from c)) else Err TooLarge))
 
 -- a `box` line: three sizes
 unfoldable pub box_line : DraftValue → List (List ℕ) → Result DraftValue Fault

@@ -20,8 +20,8 @@ abbrev pub is_size : List ℕ → Bool
 is_size word = is_decimal word && not (bytes_eq word (codes "0"))
 
 -- the number that such a word is
-abbrev pub size_of : List ℕ → ℕ
-size_of word = value_after 0 word
+abbrev pub size_from : List ℕ → ℕ
+size_from word = value_after 0 word
 
 -- three decimal numbers from 1 on
 abbrev pub are_sizes : List ℕ → List ℕ → List ℕ → Bool
@@ -29,4 +29,4 @@ are_sizes a b c = is_size a && (is_size b && is_size c)
 
 -- three numbers that are at most the greatest size of a box
 abbrev pub are_small : List ℕ → List ℕ → List ℕ → Bool
-are_small a b c = nat_le (size_of a) most_size && (nat_le (size_of b) most_size && nat_le (size_of c) most_size)
+are_small a b c = nat_le (size_from a) most_size && (nat_le (size_from b) most_size && nat_le (size_from c) most_size)

@@ -169,6 +169,10 @@ line_ends text old key words e =
     ap (λ bs. bs ++ 10 ∷ []) (e ∙ append_assoc old key (words_after words) ∙ ap (λ bs. old ++ bs) (sym (joined key words)))
     ∙ append_assoc old (spaced (key ∷ words)) (10 ∷ [])
 
+-- a line of a key and words after it, written in three steps
+pub line_written : (old key first second new : List ℕ) (words : List (List ℕ)) → first ≡ old ++ key → second ≡ first ++ words_after words → new ≡ second ++ 10 ∷ [] → new ≡ old ++ line_text (key ∷ words)
+line_written old key first second new words e f g = g ∙ line_ends second old key words (f ∙ ap (λ bs. bs ++ words_after words) e)
+
 -- *numbers*
 
 digit_in_word : (b : ℕ) → is_digit b ≡ true → is_word_byte b ≡ true

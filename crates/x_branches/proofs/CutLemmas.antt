@@ -23,7 +23,7 @@ use Rattle.x_steps.proofs.Neighbours.{parted, split_last_push, split_last_cases}
 use Rattle.x_steps.proofs.OrderLemmas.{cut_rank, rank_cut, fits_valid, cut_before, inside_before, level_rank, left_before, left_after}
 use Rattle.x_steps.proofs.BetweenLemmas.{steps_between_some}
 use Rattle.x_steps.proofs.StretchLemmas.{steps_between_none}
-use Rattle.x_branches.specs.Cut.{option_of, choices, state_after_choices, cut_state, IsCut}
+use Rattle.x_branches.specs.Cut.{cursor_option, choices, state_after_choices, cut_state, IsCut}
 use Rattle.x_branches.specs.RunOrder.{ComesBefore, comes_before}
 use Rattle.x_branches.specs.Untried.{remaining_above, is_before_end, untried_after, untried, with_choice, IsUntried}
 use Rattle.std.proofs.Math.Seq.{drop-nil}
@@ -106,16 +106,16 @@ level_in (x ∷ path) more (suc n) o rest e = step (level_in path more n o rest 
 abbrev pub IsChoiceAt : StateValue → List ℕ → ℕ → Type 0
 IsChoiceAt s q o = ((after : List ℕ) × (s.path ≡ q ++ o ∷ after)) ⊎ ((q ≡ s.path) × (s.cursor ≡ At o))
 
-past_path : (k : Cursor) (n o : ℕ) (rest path q : List ℕ) → q ≡ path ++ take n (option_of k) → drop n (option_of k) ≡ o ∷ rest → (q ≡ path) × (k ≡ At o)
+past_path : (k : Cursor) (n o : ℕ) (rest path q : List ℕ) → q ≡ path ++ take n (cursor_option k) → drop n (cursor_option k) ≡ o ∷ rest → (q ≡ path) × (k ≡ At o)
 past_path (At t) zero o rest path q e g = let h : t ≡ o = cc in (e ∙ append-nil path, ap At h)
 past_path (At t) (suc n) o rest path q e g = let none = drop-nil {A = ℕ} n in absurd (cc)
 past_path cursor.None n o rest path q e g = let none = drop-nil {A = ℕ} n in absurd (cc)
 past_path Past n o rest path q e g = let none = drop-nil {A = ℕ} n in absurd (cc)
 
 pub choice_at : (s : StateValue) (level o : ℕ) (rest : List ℕ) → drop level (choices s) ≡ o ∷ rest → IsChoiceAt s (take level (choices s)) o
-choice_at s level o rest e = step (level_in s.path (option_of s.cursor) level o rest e)
+choice_at s level o rest e = step (level_in s.path (cursor_option s.cursor) level o rest e)
   where
-    step : ((after : List ℕ) × (s.path ≡ take level (choices s) ++ o ∷ after)) ⊎ ((n : ℕ) × (take level (choices s) ≡ s.path ++ take n (option_of s.cursor)) × (drop n (option_of s.cursor) ≡ o ∷ rest)) → IsChoiceAt s (take level (choices s)) o
+    step : ((after : List ℕ) × (s.path ≡ take level (choices s) ++ o ∷ after)) ⊎ ((n : ℕ) × (take level (choices s) ≡ s.path ++ take n (cursor_option s.cursor)) × (drop n (cursor_option s.cursor) ≡ o ∷ rest)) → IsChoiceAt s (take level (choices s)) o
     step (inl a) = inl a
     step (inr a) = inr (past_path s.cursor a.0 o rest s.path (take level (choices s)) a.1 a.2)
 

@@ -13,13 +13,13 @@ use Rattle.x_steps.specs.StateValue.{StateValue, at, start}
 use Rattle.x_steps.specs.Steps.{split_last}
 
 -- the option of a cursor, if it is at one
-abbrev pub option_of : Cursor → List ℕ
-option_of (At o) = o ∷ []
-option_of k = []
+abbrev pub cursor_option : Cursor → List ℕ
+cursor_option (At o) = o ∷ []
+cursor_option k = []
 
 -- the choices of a state: its path, and then the cursor's option if there is one
 abbrev pub choices : StateValue → List ℕ
-choices s = s.path ++ option_of s.cursor
+choices s = s.path ++ cursor_option s.cursor
 
 -- X5 at the last choice, after the others; X1 where there are no choices
 abbrev pub state_after_choices : Option (List ℕ × ℕ) → StateValue

@@ -13,7 +13,7 @@ use Rattle.x_snapshot.specs.declared.breakpoint.Break.TheVariants as breakpoints
 use Rattle.x_snapshot.specs.declared.reading.breaks.Kind.{Kind}
 use Rattle.x_snapshot.specs.declared.reading.breaks.Kind.TheVariants as kinds
 use Rattle.x_snapshot.specs.Breaks.{is_break}
-use Rattle.x_snapshot.specs.Reading.{only, positive, option_from, kind_from, break_of, lone_break, break_from, state_from}
+use Rattle.x_snapshot.specs.Reading.{only, positive, option_number, kind_from, break_of, lone_break, break_from, state_from}
 use Rattle.x_snapshot.proofs.BackLemmas.{some_is, none_some, and_then_is, map_is}
 use Rattle.debug_texts.specs.Command.{CommandValue}
 use Rattle.debug_texts.specs.Command as command
@@ -36,7 +36,7 @@ from_one m n h = by (chosen (nat_lt 0 m) (Some m) None (Some n) h)
     by (inl q) = let e = some_is m n q.1 in (e, subst (λ (k : ℕ). nat_lt 0 k ≡ true) e q.0)
     by (inr q) = absurd (none_some n q.1)
 
-one_of : (bound o : ℕ) (word : List ℕ) → option_from bound word ≡ Some o → is_item bound o ≡ true
+one_of : (bound o : ℕ) (word : List ℕ) → option_number bound word ≡ Some o → is_item bound o ≡ true
 one_of bound o word h =
     let a = and_then_is positive (number_of bound word) o h in
     let b = from_one a.0 o a.2 in
@@ -59,7 +59,7 @@ module _ (p : ProblemValue) where
       let a = map_is breakpoints.Level (number_of (length p.names) w) b h in
       subst (λ (c : Break). is_break p c ≡ true) a.2 (at_most (length p.names) a.0 w a.1)
   of_is (Some kinds.Option) w b h =
-      let a = map_is breakpoints.Option (option_from (length p.options) w) b h in
+      let a = map_is breakpoints.Option (option_number (length p.options) w) b h in
       subst (λ (c : Break). is_break p c ≡ true) a.2 (one_of (length p.options) a.0 w a.1)
   of_is (Some kinds.Item) w b h =
       let a = map_is breakpoints.Item (item_named p.names w) b h in
@@ -99,7 +99,7 @@ module _ (p : ProblemValue) where
 
   counted : (words : List (List ℕ)) (n : ℕ) → count_from words ≡ Some n → nat_lt 0 n ≡ true
   counted words n h =
-      let a = and_then_is (option_from 4294967295) (only words) n h in
+      let a = and_then_is (option_number 4294967295) (only words) n h in
       let b = and_then_is positive (number_of 4294967295 a.0) n a.2 in
       (from_one b.0 n b.2).1
 

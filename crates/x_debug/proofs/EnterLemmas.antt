@@ -15,7 +15,7 @@ use Rattle.lab_world.specs.Worker.{WorkerValue, lent_worker}
 use Rattle.lab_world.specs.World.{IsSeat, turn}
 use Rattle.lab_world.proofs.HoldLemmas.{found_at}
 use Rattle.lab_world.proofs.TurnLemmas.{turn_keeps}
-use Rattle.x_debug.specs.Lines.{at, book_refusal}
+use Rattle.x_debug.specs.Lines.{state_line, book_refusal}
 use Rattle.x_debug.specs.Session.{desk}
 use Rattle.x_debug.specs.Tiles.{place_at, refusal_or}
 use Rattle.x_debug.specs.Entering.{enter_call, stand_lines, lent_by, entered_at, enter}
@@ -39,11 +39,11 @@ module _ (b : BookValue) (i : ℕ) (tiling : IsTiling b.problem b.branch b.first
 
   -- where a worker has the tile it stands at the tile's mark
   stands : (o : Outcome) (x : WorkerValue) (fault : Option BookFault) → o ≡ made_at b.tiles (lent b 0) (unless i fault) → Some x ≡ lent_worker b.problem o.reply
-      → line_text (at (mark_of tile)) ≡ text_of (refusal_or (stand_lines (lent_worker b.problem o.reply)) o.reply)
-  stands o x None e w = one_line (at (mark_of tile)) ∙ ap (λ (p : Outcome). text_of (refusal_or (stand_lines (lent_worker b.problem p.reply)) p.reply)) (sym e)
+      → line_text (state_line (mark_of tile)) ≡ text_of (refusal_or (stand_lines (lent_worker b.problem o.reply)) o.reply)
+  stands o x None e w = one_line (state_line (mark_of tile)) ∙ ap (λ (p : Outcome). text_of (refusal_or (stand_lines (lent_worker b.problem p.reply)) p.reply)) (sym e)
   stands o x (Some f) e w = let h = w ∙ ap (λ (p : Outcome). lent_worker b.problem p.reply) e in absurd (cc)
 
-  pub lent_text : (x : WorkerValue) (old new : List ℕ) → Some x ≡ lent_worker b.problem (outcome b 0 (enter_call tile)).reply → new ≡ old ++ line_text (at (mark_of tile)) → new ≡ old ++ (lent_by b (enter_call tile)).text
+  pub lent_text : (x : WorkerValue) (old new : List ℕ) → Some x ≡ lent_worker b.problem (outcome b 0 (enter_call tile)).reply → new ≡ old ++ line_text (state_line (mark_of tile)) → new ≡ old ++ (lent_by b (enter_call tile)).text
   lent_text x old new w e =
       let l = leases (is_held tile.status) refl in
       e ∙ ap (λ t. old ++ t) (stands (outcome b 0 (enter_call tile)) x l.0 l.1 w)
@@ -79,11 +79,11 @@ module _ (b : BookValue) (i : ℕ) (tiling : IsTiling b.problem b.branch b.first
 module _ (b : BookValue) (lo : Option (List ℕ)) where
   pub enter_none : None ≡ place_at lo b.tiles → enter b lo ≡ entered_at b None
   unfolding enter
-  enter_none at = ap (entered_at b) (sym at)
+  enter_none state_line = ap (entered_at b) (sym state_line)
 
   pub enter_some : (i : ℕ) → Some i ≡ place_at lo b.tiles → enter b lo ≡ lent_by b (enter_call (tile_at b.tiles i))
   unfolding enter
-  enter_some i at = ap (entered_at b) (sym at)
+  enter_some i state_line = ap (entered_at b) (sym state_line)
 
   -- whatever comes of it, the book is one of the same problem
   pub enter_problem : (enter b lo).desk.book.problem ≡ b.problem

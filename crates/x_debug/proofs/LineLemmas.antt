@@ -7,7 +7,7 @@ use Rattle.cover_problem.specs.Lists.{numbers}
 use Rattle.cover_problem.proofs.NumberLemmas.{numbers_push}
 use Rattle.x_branches.specs.Runner.{RunnerValue}
 use Rattle.debug_texts.specs.Replies.{untried_words}
-use Rattle.x_debug.specs.Lines.{at}
+use Rattle.x_debug.specs.Lines.{state_line}
 use Rattle.x_debug.specs.Showing.{runner_branch, runner_covered, runner_chosen, runner_active, runner_second, show_lines, level_lines, untried_at}
 
 pub one_line : (line : List (List ℕ)) → line_text line ≡ text_of (line ∷ [])
@@ -29,12 +29,12 @@ three_lines a b c d e old one two three four new h i j k l =
     all ∙ ap (λ t. old ++ t) (sym whole)
 
 -- whatever the last of them gave
-pub shown_lines : {X E : Type 0} (z : Result X E) (r : RunnerValue) (old one two three four new : List ℕ) → one ≡ old ++ line_text (at r.position) → two ≡ one ++ line_text (runner_branch r) → three ≡ two ++ line_text (runner_covered r)
+pub shown_lines : {X E : Type 0} (z : Result X E) (r : RunnerValue) (old one two three four new : List ℕ) → one ≡ old ++ line_text (state_line r.position) → two ≡ one ++ line_text (runner_branch r) → three ≡ two ++ line_text (runner_covered r)
     → four ≡ three ++ text_of (runner_chosen r) → OnOk z (new ≡ four ++ text_of (runner_active r ++ runner_second r)) → OnOk z (new ≡ old ++ text_of (show_lines r))
 unfolding show_lines
 shown_lines (Ok x) r old one two three four new h i j k l =
-    three_lines (at r.position) (runner_branch r) (runner_covered r) (runner_chosen r) (runner_active r ++ runner_second r) old one two three four new h i j k l
-    ∙ ap (λ ls. old ++ text_of ls) (sym (append_assoc (at r.position ∷ runner_branch r ∷ runner_covered r ∷ runner_chosen r) (runner_active r) (runner_second r)))
+    three_lines (state_line r.position) (runner_branch r) (runner_covered r) (runner_chosen r) (runner_active r ++ runner_second r) old one two three four new h i j k l
+    ∙ ap (λ ls. old ++ text_of ls) (sym (append_assoc (state_line r.position ∷ runner_branch r ∷ runner_covered r ∷ runner_chosen r) (runner_active r) (runner_second r)))
 shown_lines (Err x) r old one two three four new h i j k l = tt
 
 -- ---- the levels so far

@@ -14,13 +14,13 @@ use Rattle.x_snapshot.specs.Judged.{snapshot_of}
 use Rattle.lab_book.specs.declared.fault.BookFault.TheVariants.{ForeignProblem}
 use Rattle.lab_book.specs.declared.entry.Call.TheVariants as call
 use Rattle.lab_book.specs.Tiling.{IsTiling}
-use Rattle.lab_book.specs.Book.{BookValue, opened, outcome, book_step}
+use Rattle.lab_book.specs.Book.{BookValue, new_book, outcome, book_step}
 use Rattle.lab_world.specs.Worker.{WorkerValue, lent_worker}
 use Rattle.lab_world.specs.World.{IsSeat}
 use Rattle.lab_world.proofs.TurnLemmas.{lease_any_seat}
 use Rattle.debug_texts.specs.declared.words.Layer.TheVariants as layer
 use Rattle.debug_texts.specs.Replies.{refused_words}
-use Rattle.x_debug.specs.Lines.{at, book_refusal, snapshot_refusal}
+use Rattle.x_debug.specs.Lines.{state_line, book_refusal, snapshot_refusal}
 use Rattle.x_debug.specs.Session.{SessionValue, Desk, desk, entered}
 use Rattle.x_debug.specs.Entering.{resumed, with_some, seated, loaded}
 use Rattle.x_debug.specs.Commands.{Answer}
@@ -29,10 +29,10 @@ use Rattle.x_debug.specs.Loading.{answers, load_by, load_answer}
 -- ---- the session that goes on
 
 -- a book of a snapshot of this problem, and the worker that leases its tile
-module _ (p : ProblemValue) (v : SnapshotValue) (same : v.problem ≡ p) (b new : BookValue) (x : Option WorkerValue) (fresh : b ≡ opened p (branch_between p v.lo v.hi) v.state)
+module _ (p : ProblemValue) (v : SnapshotValue) (same : v.problem ≡ p) (b new : BookValue) (x : Option WorkerValue) (fresh : b ≡ new_book p (branch_between p v.lo v.hi) v.state)
     (lease : new ≡ book_step b 0 call.LeaseAny) (worker : x ≡ lent_worker b.problem (outcome b 0 call.LeaseAny).reply) where
   pub desk_is : desk new x ≡ resumed v
-  desk_is = ap₂ desk lease worker ∙ ap entered (fresh ∙ ap (λ (q : ProblemValue). opened q (branch_between q v.lo v.hi) v.state) (sym same))
+  desk_is = ap₂ desk lease worker ∙ ap entered (fresh ∙ ap (λ (q : ProblemValue). new_book q (branch_between q v.lo v.hi) v.state) (sym same))
 
   pub desk_seat : IsTiling b.problem b.branch b.first b.tiles → IsSeat new 0 x
   desk_seat tiling = subst (λ (c : BookValue). IsSeat c 0 x) (sym lease) (subst (IsSeat (book_step b 0 call.LeaseAny) 0) (sym worker) (lease_any_seat b 0 tiling))
@@ -58,10 +58,10 @@ same_problems p q r s t v e h i j = sym (ap₂ is_same e h) ∙ sym i ∙ j
 
 -- the answers to a snapshot
 pub foreign_answer : (s : SessionValue) (v : SnapshotValue) → is_same v.problem s.book.problem ≡ false → load_by s (Ok v) ≡ answers (book_refusal ForeignProblem) s
-foreign_answer s v other = ap (λ b. cond b (answers (at v.state) (loaded s v)) (answers (book_refusal ForeignProblem) s)) other
+foreign_answer s v other = ap (λ b. cond b (answers (state_line v.state) (loaded s v)) (answers (book_refusal ForeignProblem) s)) other
 
-pub resumed_answer : (s : SessionValue) (v : SnapshotValue) → is_same v.problem s.book.problem ≡ true → load_by s (Ok v) ≡ answers (at v.state) (loaded s v)
-resumed_answer s v same = ap (λ b. cond b (answers (at v.state) (loaded s v)) (answers (book_refusal ForeignProblem) s)) same
+pub resumed_answer : (s : SessionValue) (v : SnapshotValue) → is_same v.problem s.book.problem ≡ true → load_by s (Ok v) ≡ answers (state_line v.state) (loaded s v)
+resumed_answer s v same = ap (λ b. cond b (answers (state_line v.state) (loaded s v)) (answers (book_refusal ForeignProblem) s)) same
 
 -- what a write or a call gave is answered
 pub said : {X E : Type 0} (r : Result X E) (old new : List ℕ) (a c : Answer) → a ≡ c → OnOk r (new ≡ old ++ c.text) → OnOk r (new ≡ old ++ a.text)

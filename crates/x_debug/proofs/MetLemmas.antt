@@ -21,7 +21,7 @@ use Rattle.x_steps.proofs.StretchLemmas.{reached_fits}
 use Rattle.x_steps.proofs.ReadLemmas.{not_level}
 use Rattle.x_snapshot.proofs.BreakBack.{few}
 use Rattle.x_snapshot.proofs.BreakLemmas.{eq_is, any_same}
-use Rattle.x_debug.specs.Breakpoints.{tries, is_choice, is_item_break, meets, first_met}
+use Rattle.x_debug.specs.Breakpoints.{tries, is_about_to_cover, is_item_break, meets, first_met}
 
 -- breakpoints that are the same are equal
 pub same_is : (a b : Break) → is_same a b ≡ true → a ≡ b
@@ -210,7 +210,7 @@ module _ (p : ProblemValue) (s : StateValue) where
   tries_none X5 (cursor.At o) k h = absurd (h refl o refl)
   tries_none _ _ k h = refl
 
-  no_choice : (l : Label) → (l ≡ X4 → ⊥) → is_choice l ≡ false
+  no_choice : (l : Label) → (l ≡ X4 → ⊥) → is_about_to_cover l ≡ false
   no_choice X4 h = absurd (h refl)
   no_choice _ h = refl
 

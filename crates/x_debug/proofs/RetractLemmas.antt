@@ -25,7 +25,7 @@ use Rattle.lab_world.proofs.PostLemmas.{last_ends}
 use Rattle.debug_texts.specs.declared.words.Counted.TheVariants as counts
 use Rattle.debug_texts.specs.declared.words.Layer.TheVariants as layer
 use Rattle.debug_texts.specs.Replies.{refused_words}
-use Rattle.x_debug.specs.Lines.{at, counted, runner_refusal, book_refusal}
+use Rattle.x_debug.specs.Lines.{state_line, counted, runner_refusal, book_refusal}
 use Rattle.x_debug.specs.Walking.{work, unposted_steps}
 use Rattle.x_debug.specs.Parting.{WorkAnswer, answered, retracted_by, retract}
 use Rattle.x_debug.proofs.GiveLemmas.{at_mark}
@@ -119,10 +119,10 @@ module _ (b : BookValue) (x : WorkerValue) where
     back_work = ap₂ work made back_at ∙ ap (λ (a : WorkAnswer). a.work) (sym back_is)
 
     -- the stretch ended where the worker stands
-    pub back_lines : to ≡ x.runner.position → counted counts.Retracted (unposted_steps y.runner) ∷ at y.runner.position ∷ [] ≡ (retract (work b x)).lines
+    pub back_lines : to ≡ x.runner.position → counted counts.Retracted (unposted_steps y.runner) ∷ state_line y.runner.position ∷ [] ≡ (retract (work b x)).lines
     back_lines here =
-        ap (λ (z : WorkerValue). counted counts.Retracted (unposted_steps z.runner) ∷ at z.runner.position ∷ []) back_at
-        ∙ ap (λ (s : StateValue). counted counts.Retracted (steps_between x.runner.problem from s) ∷ at x.runner.position ∷ []) (sym here)
+        ap (λ (z : WorkerValue). counted counts.Retracted (unposted_steps z.runner) ∷ state_line z.runner.position ∷ []) back_at
+        ∙ ap (λ (s : StateValue). counted counts.Retracted (steps_between x.runner.problem from s) ∷ state_line x.runner.position ∷ []) (sym here)
         ∙ ap (λ (a : WorkAnswer). a.lines) (sym back_is)
 
 -- ---- where the last stretch of a tile ends

@@ -25,7 +25,7 @@ use Rattle.lab_world.proofs.TurnLemmas.{lease_any_seat}
 use Rattle.debug_texts.specs.declared.words.Plain.TheVariants.{Closed}
 use Rattle.x_debug.specs.Lines.{plain, book_refusal, runner_refusal}
 use Rattle.x_debug.specs.Session.{SessionValue, IsSession, Desk, DeskAnswer, desk, fresh_session}
-use Rattle.x_debug.specs.Tiles.{asked, hold, put_back, place_at}
+use Rattle.x_debug.specs.Tiles.{answer_of_tile, hold, put_back, place_at}
 use Rattle.x_debug.specs.Entering.{enter}
 use Rattle.x_debug.specs.Walking.{AtWork, work, posted, posted_if_any, with_room, stepped, forward, unposted_steps, steps_ahead, IsPartWay, IsPartBack}
 use Rattle.x_debug.specs.Giving.{parked, close, closed, not_closed, IsNotGiven}
@@ -55,29 +55,29 @@ fresh_leased p = refl
 -- ---- `hold` and `putback`
 
 module _ (b : BookValue) (make : ℕ → Call) (keeps : (x : WorkerValue) (id : ℕ) → HasTile b.tiles x → HasTile (outcome b 0 (make id)).tiles x) where
-  asked_seat : (x : Option WorkerValue) (place : Option ℕ) → IsSeat b 0 x → IsSeat (asked b make place).book 0 x
+  asked_seat : (x : Option WorkerValue) (place : Option ℕ) → IsSeat b 0 x → IsSeat (answer_of_tile b make place).book 0 x
   asked_seat None place h = tt
   asked_seat (Some x) None h = h
   asked_seat (Some x) (Some i) h = (h.0, record { problem = h.1.problem; tile = keeps x (tile_at b.tiles i).id h.1.tile })
 
-  asked_problem : (place : Option ℕ) → (asked b make place).book.problem ≡ b.problem
+  asked_problem : (place : Option ℕ) → (answer_of_tile b make place).book.problem ≡ b.problem
   asked_problem None = refl
   asked_problem (Some i) = refl
 
   -- where memory runs out it is the book of before, or the one after
-  asked_session : {X E : Type 0} (r : Result X E) (v : SessionValue) (place : Option ℕ) (new : BookValue) → v.book ≡ b → IsSession v → OnOk r (new ≡ (asked b make place).book) → OnErr r ((new ≡ b) ⊎ (new ≡ (asked b make place).book))
+  asked_session : {X E : Type 0} (r : Result X E) (v : SessionValue) (place : Option ℕ) (new : BookValue) → v.book ≡ b → IsSession v → OnOk r (new ≡ (answer_of_tile b make place).book) → OnErr r ((new ≡ b) ⊎ (new ≡ (answer_of_tile b make place).book))
       → IsSession (record { book = new; worker = v.worker; breaks = v.breaks })
   asked_session {X = X} {E = E} r v place new e s ok err = step r ok err
     where
       before : new ≡ b → IsSession (record { book = new; worker = v.worker; breaks = v.breaks })
       before n = changed_session v new v.worker s (ap (λ (c : BookValue). c.problem) (n ∙ sym e)) (subst (λ (c : BookValue). IsSeat c 0 v.worker) (e ∙ sym n) s.seat)
 
-      after : new ≡ (asked b make place).book → IsSession (record { book = new; worker = v.worker; breaks = v.breaks })
+      after : new ≡ (answer_of_tile b make place).book → IsSession (record { book = new; worker = v.worker; breaks = v.breaks })
       after n =
           changed_session v new v.worker s (ap (λ (c : BookValue). c.problem) n ∙ asked_problem place ∙ ap (λ (c : BookValue). c.problem) (sym e))
           (subst (λ (c : BookValue). IsSeat c 0 v.worker) (sym n) (asked_seat v.worker place (subst (λ (c : BookValue). IsSeat c 0 v.worker) e s.seat)))
 
-      step : (r : Result X E) → OnOk r (new ≡ (asked b make place).book) → OnErr r ((new ≡ b) ⊎ (new ≡ (asked b make place).book)) → IsSession (record { book = new; worker = v.worker; breaks = v.breaks })
+      step : (r : Result X E) → OnOk r (new ≡ (answer_of_tile b make place).book) → OnErr r ((new ≡ b) ⊎ (new ≡ (answer_of_tile b make place).book)) → IsSession (record { book = new; worker = v.worker; breaks = v.breaks })
       step (Ok y) ok err = after ok
       step (Err y) ok (inl n) = before n
       step (Err y) ok (inr n) = after n

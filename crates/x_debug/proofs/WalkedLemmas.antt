@@ -7,7 +7,7 @@ use Rattle.x_branches.specs.Branch.{end_of}
 use Rattle.x_branches.specs.Runner.{RunnerValue, visit_of}
 use Rattle.lab_world.specs.Worker.{HoldsTile}
 use Rattle.debug_texts.specs.Replies.{visit_words}
-use Rattle.x_debug.specs.Walking.{AtWork, with_room, stepped, forward, IsPartWay, steps_ahead, state_on, visit_lines, least, step_count}
+use Rattle.x_debug.specs.Walking.{AtWork, with_room, stepped, forward, IsPartWay, steps_ahead, state_on, visit_lines, smaller_of, step_count}
 use Rattle.x_debug.proofs.WalkLemmas.{on_problem, on_branch, on_position}
 use Rattle.x_debug.proofs.ForwardLemmas.{CanWalk, all_gone, not_all, ahead_is, no_lines, lines_next}
 
@@ -78,20 +78,20 @@ module _ (a : AtWork) (n : ℕ) (b : AtWork) (old new : List ℕ) (w : Walked a 
   part_way c most l (inr e) = record { steps = n; within = l; left = inr (e ∙ ap with_room w.made) }
 
 -- the less of two numbers
-pub least_second : (m n : ℕ) → n ≤ m → n ≡ least m n
+pub least_second : (m n : ℕ) → n ≤ m → n ≡ smaller_of m n
 least_second m n l = let e = le-ltb m n l in rw e refl
 
-pub least_within : (m n : ℕ) → least m n ≤ n
+pub least_within : (m n : ℕ) → smaller_of m n ≤ n
 least_within m n = step (cases_lt m n)
   where
-    step : (m < n) ⊎ (n ≤ m) → least m n ≤ n
+    step : (m < n) ⊎ (n ≤ m) → smaller_of m n ≤ n
     step (inl h) = let e = lt-ltb m n h in rw e (omega arith)
     step (inr h) = let e = le-ltb m n h in rw e (omega arith)
 
-pub least_both : (k m n : ℕ) → k ≤ m → k ≤ n → k ≤ least m n
+pub least_both : (k m n : ℕ) → k ≤ m → k ≤ n → k ≤ smaller_of m n
 least_both k m n a b = step (cases_lt m n)
   where
-    step : (m < n) ⊎ (n ≤ m) → k ≤ least m n
+    step : (m < n) ⊎ (n ≤ m) → k ≤ smaller_of m n
     step (inl h) = let e = lt-ltb m n h in rw e a
     step (inr h) = let e = le-ltb m n h in rw e b
 

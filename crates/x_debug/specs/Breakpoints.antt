@@ -19,9 +19,9 @@ tries X5 (At o) k = o == k
 tries _ _ k = false
 
 -- whether a step is about to cover the chosen item
-abbrev pub is_choice : Label → Bool
-is_choice X4 = true
-is_choice _ = false
+abbrev pub is_about_to_cover : Label → Bool
+is_about_to_cover X4 = true
+is_about_to_cover _ = false
 
 -- whether a breakpoint is the choice of an item
 abbrev pub is_item_break : Break → Bool
@@ -33,7 +33,7 @@ is_item_break _ = false
 unfoldable pub meets : ProblemValue → StateValue → Break → Bool
 meets p s (at.Level n) = is_level s.label && (length s.path == n)
 meets p s (at.Option k) = tries s.label s.cursor k
-meets p s (at.Item i) = is_choice s.label && (item_after p s.path == i)
+meets p s (at.Item i) = is_about_to_cover s.label && (item_after p s.path == i)
 meets p s at.Visit = is_visit p s
 
 -- the first of those that a state meets, in the order in which they were set

@@ -8,9 +8,9 @@ use Rattle.lab_book.specs.declared.entry.Call.{Call}
 use Rattle.lab_book.specs.declared.entry.Call.TheVariants as call
 use Rattle.lab_book.specs.Tile.{TileValue, is_held}
 use Rattle.lab_book.specs.Tiling.{tile_at}
-use Rattle.lab_book.specs.Book.{BookValue, opened, outcome, book_step}
+use Rattle.lab_book.specs.Book.{BookValue, new_book, outcome, book_step}
 use Rattle.lab_world.specs.Worker.{WorkerValue, lent_worker}
-use Rattle.x_debug.specs.Lines.{at, book_refusal}
+use Rattle.x_debug.specs.Lines.{state_line, book_refusal}
 use Rattle.x_debug.specs.Session.{SessionValue, Desk, DeskAnswer, desk, entered}
 use Rattle.x_debug.specs.Tiles.{place_at, refusal_or}
 
@@ -22,7 +22,7 @@ enter_call t = if is_held t.status then call.TakeHeld t.id else call.Lease t.id
 
 -- where a worker stands that has a tile now
 abbrev pub stand_lines : Option WorkerValue → List (List (List ℕ))
-stand_lines (Some w) = at w.runner.position ∷ []
+stand_lines (Some w) = state_line w.runner.position ∷ []
 stand_lines None = []
 
 -- worker 0 makes a call that leases, and stands where its tile's mark is; or the book's refusal
@@ -47,7 +47,7 @@ enter b lo = entered_at b (place_at lo b.tiles)
 
 -- a book of a snapshot's branch, with its state as the first mark; worker 0 leases it
 abbrev pub resumed : SnapshotValue → Desk
-resumed v = entered (opened v.problem (branch_between v.problem v.lo v.hi) v.state)
+resumed v = entered (new_book v.problem (branch_between v.problem v.lo v.hi) v.state)
 
 -- the breakpoints of a snapshot, if it has some, else those that there are
 abbrev pub breaks_of : List Break → List Break → List Break

@@ -23,12 +23,12 @@ abbrev pub park : AtWork → DeskAnswer
 park a = record { text = line_text (plain Parked); desk = desk (parked a) None }
 
 -- where the search stands, as a snapshot
-abbrev pub snapshot_of : WorkerValue → List Break → SnapshotValue
-snapshot_of w breaks = snapshot_with w.runner.problem (path_of w.runner.branch.lo) (path_of w.runner.branch.hi) w.runner.position breaks
+abbrev pub snapshot_of_worker : WorkerValue → List Break → SnapshotValue
+snapshot_of_worker w breaks = snapshot_with w.runner.problem (path_of w.runner.branch.lo) (path_of w.runner.branch.hi) w.runner.position breaks
 
 -- `save`, with these breakpoints
 abbrev pub save : AtWork → List Break → DeskAnswer
-save a breaks = record { text = saved_text (snapshot_text (snapshot_of a.worker breaks)); desk = desk (parked a) None }
+save a breaks = record { text = saved_text (snapshot_text (snapshot_of_worker a.worker breaks)); desk = desk (parked a) None }
 
 -- what isn't posted is posted, and the tile is closed
 unfoldable pub closed : AtWork → BookValue

@@ -25,8 +25,8 @@ abbrev pub counted : Counted → ℕ → List (List ℕ)
 counted c n = counted_word c ∷ decimal n ∷ []
 
 -- where the search stands
-abbrev pub at : StateValue → List (List ℕ)
-at s = codes "at" ∷ state_words s
+abbrev pub state_line : StateValue → List (List ℕ)
+state_line s = codes "at" ∷ state_words s
 
 -- a breakpoint that is set, and one that is met, over items with these names
 abbrev pub set : List (List ℕ) → Break → List (List ℕ)

@@ -16,7 +16,7 @@ use Rattle.debug_texts.specs.declared.words.Counted.TheVariants as counts
 use Rattle.debug_texts.specs.declared.words.Standing.TheVariants as standing
 use Rattle.debug_texts.specs.Replies.{standing_words}
 use Rattle.x_steps.specs.Run.{steps_between}
-use Rattle.x_debug.specs.Lines.{at, counted, runner_refusal, book_refusal}
+use Rattle.x_debug.specs.Lines.{state_line, counted, runner_refusal, book_refusal}
 use Rattle.x_debug.specs.Walking.{AtWork, work, unposted_steps}
 
 -- lines that are answered, and what is left of a book and its worker
@@ -61,7 +61,7 @@ book_asked a = book_step a.book a.worker.grant.worker (call.Retract a.worker.gra
 -- the worker as the book's answer leaves it, and what is answered
 abbrev pub retracted_by : AtWork → Reply → WorkAnswer
 retracted_by a (reply.Retracted from to) =
-    answered (counted counts.Retracted (steps_between a.worker.runner.problem from to) ∷ at a.worker.runner.position ∷ [])
+    answered (counted counts.Retracted (steps_between a.worker.runner.problem from to) ∷ state_line a.worker.runner.position ∷ [])
     (work (book_asked a) (marked_at a.worker from))
 retracted_by a (reply.Refused f) = answered (book_refusal f ∷ []) (work (book_asked a) a.worker)
 retracted_by a r = answered [] a

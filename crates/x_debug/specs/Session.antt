@@ -5,7 +5,7 @@ use Rattle.cover_problem.specs.Problem.{ProblemValue}
 use Rattle.x_steps.specs.StateValue.{start}
 use Rattle.x_snapshot.specs.declared.breakpoint.Break.{Break}
 use Rattle.x_snapshot.specs.Breaks.{is_break}
-use Rattle.lab_book.specs.Book.{BookValue, opened, outcome, book_step}
+use Rattle.lab_book.specs.Book.{BookValue, new_book, outcome, book_step}
 use Rattle.lab_book.specs.declared.entry.Call.TheVariants as call
 use Rattle.lab_world.specs.Worker.{WorkerValue, lent_worker}
 use Rattle.lab_world.specs.World.{IsSeat}
@@ -41,7 +41,7 @@ session_on b = record { book = b; worker = None; breaks = [] }
 -- a session of a problem's whole run, which is open at its start
 abbrev pub fresh_session : ProblemValue → SessionValue
 fresh_session p =
-    let d = entered (opened p (record { lo = None; hi = None }) start) in
+    let d = entered (new_book p (record { lo = None; hi = None }) start) in
     record { book = d.book; worker = d.worker; breaks = [] }
 
 -- a text that is answered, with the book and the worker that are left

@@ -9,7 +9,7 @@ use Rattle.x_branches.specs.Refusals.{untried_in}
 use Rattle.lab_book.specs.Book.{path_of}
 use Rattle.debug_texts.specs.declared.words.Listed.TheVariants.{Chosen, Active, Second}
 use Rattle.debug_texts.specs.Replies.{branch_words, covered_words, list_words, untried_words}
-use Rattle.x_debug.specs.Lines.{at}
+use Rattle.x_debug.specs.Lines.{state_line}
 
 -- the line of the chosen item, where there is one
 abbrev pub chosen_lines : List (List ℕ) → Option (ℕ × List ℕ) → List (List (List ℕ))
@@ -38,7 +38,7 @@ runner_second r = map (list_words r.problem.names Second) (second_in r.problem r
 
 -- where the search stands, and then these
 unfoldable pub show_lines : RunnerValue → List (List (List ℕ))
-show_lines r = at r.position ∷ runner_branch r ∷ runner_covered r ∷ runner_chosen r ++ runner_active r ++ runner_second r
+show_lines r = state_line r.position ∷ runner_branch r ∷ runner_covered r ∷ runner_chosen r ++ runner_active r ++ runner_second r
 
 -- the line of a level, where something is untried there
 abbrev pub level_lines : ℕ → List ℕ → List (List (List ℕ))

@@ -71,29 +71,29 @@ refusal_or lines (replies.Refused f) = book_refusal f ∷ []
 refusal_or lines r = lines
 
 -- a call of the book by worker 0, and its refusal or these lines
-abbrev pub called : BookValue → Call → List (List (List ℕ)) → BookAnswer
-called b c lines = record { lines = refusal_or lines (outcome b 0 c).reply; book = book_step b 0 c }
+abbrev pub answer_of_call : BookValue → Call → List (List (List ℕ)) → BookAnswer
+answer_of_call b c lines = record { lines = refusal_or lines (outcome b 0 c).reply; book = book_step b 0 c }
 
 -- a call for the tile at a place, which is then shown; where there is none it is refused, and the book isn't called
-abbrev pub asked : BookValue → (ℕ → Call) → Option ℕ → BookAnswer
-asked b make None = record { lines = book_refusal UnknownBranch ∷ []; book = b }
-asked b make (Some i) =
+abbrev pub answer_of_tile : BookValue → (ℕ → Call) → Option ℕ → BookAnswer
+answer_of_tile b make None = record { lines = book_refusal UnknownBranch ∷ []; book = b }
+answer_of_tile b make (Some i) =
     let c = make (tile_at b.tiles i).id in
-    called b c (tile_line (tile_at (book_step b 0 c).tiles i) ∷ [])
+    answer_of_call b c (tile_line (tile_at (book_step b 0 c).tiles i) ∷ [])
 
 -- the call for it: to put it back to a state, where there is one, and else to hold it
-abbrev pub asked_call : Option State → ℕ → Call
-asked_call None = call.RequestStop
-asked_call (Some s) = λ id. call.PutBack id (state_value s)
+abbrev pub tile_call : Option State → ℕ → Call
+tile_call None = call.RequestStop
+tile_call (Some s) = λ id. call.PutBack id (state_value s)
 
 -- what is asked so of the tile that a cut names
-abbrev pub asked_of : BookValue → Option (List ℕ) → Option State → BookAnswer
-asked_of b lo s = asked b (asked_call s) (place_at lo b.tiles)
+abbrev pub answer_of_cut : BookValue → Option (List ℕ) → Option State → BookAnswer
+answer_of_cut b lo s = answer_of_tile b (tile_call s) (place_at lo b.tiles)
 
 -- `hold`
 unfoldable pub hold : BookValue → Option (List ℕ) → BookAnswer
-hold b lo = asked b call.RequestStop (place_at lo b.tiles)
+hold b lo = answer_of_tile b call.RequestStop (place_at lo b.tiles)
 
 -- `putback`
 unfoldable pub put_back : BookValue → Option (List ℕ) → StateValue → BookAnswer
-put_back b lo state = asked b (λ id. call.PutBack id state) (place_at lo b.tiles)
+put_back b lo state = answer_of_tile b (λ id. call.PutBack id state) (place_at lo b.tiles)

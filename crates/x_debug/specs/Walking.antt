@@ -17,7 +17,7 @@ use Rattle.debug_texts.specs.declared.words.Plain.TheVariants.{End}
 use Rattle.debug_texts.specs.declared.words.Counted.TheVariants.{Moved}
 use Rattle.debug_texts.specs.Replies.{visit_words}
 use Rattle.x_debug.specs.Breakpoints.{first_met, steps_to_break}
-use Rattle.x_debug.specs.Lines.{plain, counted, at, met, debug_refusal}
+use Rattle.x_debug.specs.Lines.{plain, counted, state_line, met, debug_refusal}
 
 -- a book, and a worker that holds one of its tiles
 pub record AtWork : Type 0 where
@@ -73,7 +73,7 @@ visit_lines p s t = map visit_words (visits_between p s t)
 
 -- how many steps there were, and where the search stands
 abbrev pub moved_lines : ℕ → StateValue → List (List (List ℕ))
-moved_lines n s = counted Moved n ∷ at s ∷ []
+moved_lines n s = counted Moved n ∷ state_line s ∷ []
 
 -- a runner so many steps on
 abbrev pub state_on : RunnerValue → ℕ → StateValue
@@ -84,14 +84,14 @@ abbrev pub walk_lines : RunnerValue → ℕ → List (List (List ℕ))
 walk_lines r n = visit_lines r.problem r.position (state_on r n) ++ moved_lines n (state_on r n)
 
 -- the smaller one of two numbers
-abbrev pub least : ℕ → ℕ → ℕ
-least m n = if nat_lt m n then m else n
+abbrev pub smaller_of : ℕ → ℕ → ℕ
+smaller_of m n = if nat_lt m n then m else n
 
 -- ---- `step`: on by so many steps, or to the end; refused at the end
 
 -- how many steps `step` takes of n that are asked for: no more than lead to the end of the branch
 abbrev pub step_count : RunnerValue → ℕ → ℕ
-step_count r n = least n (steps_ahead r)
+step_count r n = smaller_of n (steps_ahead r)
 
 -- one line more at the end
 abbrev pub end_lines : RunnerValue → ℕ → List (List (List ℕ))
@@ -124,7 +124,7 @@ run_lines breaks r =
 
 -- how many steps `back` takes of n that are asked for: no more than lead back to the mark
 abbrev pub back_count : RunnerValue → ℕ → ℕ
-back_count r n = least n (unposted_steps r)
+back_count r n = smaller_of n (unposted_steps r)
 
 -- the state n steps before the one where runner r stands, back to its mark at most
 abbrev pub state_back : RunnerValue → ℕ → StateValue

@@ -5,7 +5,7 @@ ghost use Rattle.lab_book.specs.Book.{path_of};
 ghost use Rattle.lab_world.specs.Worker.{HoldsTile};
 ghost use Rattle.debug_texts.specs.Replies.{standing_words};
 ghost use Rattle.x_debug.specs.Walking.{work, unposted_steps};
-ghost use Rattle.x_debug.specs.Lines.{at, counted};
+ghost use Rattle.x_debug.specs.Lines.{state_line, counted};
 ghost use Rattle.x_debug.specs.Parting.{retract, split};
 
 use crate::showing::choices;
@@ -20,7 +20,7 @@ use x_branches::Branch;
 /// Writes how many steps a worker took back, which are unposted now, and where it stands.
 fn write_retracted<T: Table>(text: &mut Vec<u8>, worker: &Worker<'_, T>) -> Result<(), AllocError>
     ensures { OnOk result (text.new.items ≡ text.old.items
-        ++ text_of (counted Counted.Retracted (unposted_steps worker.now.runner) ∷ at worker.now.runner.position ∷ [])) }
+        ++ text_of (counted Counted.Retracted (unposted_steps worker.now.runner) ∷ state_line worker.now.runner.position ∷ [])) }
 {
     write_counted(text, Counted::Retracted, worker.runner().unposted() as u128)?;
     write_at(text, worker.runner().state())

@@ -2,7 +2,7 @@
 ghost use Rattle.std.specs.Prelude.{◌≡◌, ◌++◌, length, option_copied, OnOk};
 ghost use Rattle.text_lines.specs.Writing.{line_text, text_of};
 ghost use Rattle.lab_book.specs.Book.{path_of};
-ghost use Rattle.x_debug.specs.Lines.{at, plain};
+ghost use Rattle.x_debug.specs.Lines.{state_line, plain};
 ghost use Rattle.x_debug.specs.Showing.{runner_branch, runner_covered, runner_chosen, runner_active, runner_second};
 ghost use Rattle.x_debug.specs.Showing.{show_lines, untried_at, all_untried, or_none};
 
@@ -26,7 +26,7 @@ pub fn choices<'a>(cut: &'a Option<Cut<'_>>) -> Option<&'a [u32]>
 
 /// Writes where a runner stands.
 fn write_position<T: Table>(text: &mut Vec<u8>, runner: &Runner<'_, T>) -> Result<(), AllocError>
-    ensures { OnOk result (text.new.items ≡ text.old.items ++ line_text (at runner.now.position)) }
+    ensures { OnOk result (text.new.items ≡ text.old.items ++ line_text (state_line runner.now.position)) }
 {
     write_at(text, runner.state())
 }

@@ -9,7 +9,7 @@ ghost use Rattle.lab_book.specs.Posted.{posted_visits};
 ghost use Rattle.x_steps.specs.StateView.{state_value};
 ghost use Rattle.x_debug.specs.Lines.{book_refusal, plain};
 ghost use Rattle.x_debug.specs.Showing.{or_none};
-ghost use Rattle.x_debug.specs.Tiles.{is_begun_at, place_at, standing_of, tile_line, open_lines, visits_lines, asked_call, asked_of, hold, put_back};
+ghost use Rattle.x_debug.specs.Tiles.{is_begun_at, place_at, standing_of, tile_line, open_lines, visits_lines, tile_call, answer_of_cut, hold, put_back};
 
 use crate::showing::choices;
 use debug_texts::{
@@ -130,8 +130,8 @@ fn write_tile_at(text: &mut Vec<u8>, book: &Book<'_>, place: usize) -> Result<()
 
 /// Asks the tile with an id to go back to a state, where there is one, and else to stop.
 fn ask(book: &mut Book<'_>, id: u64, state: Option<&State>) -> Result<(), BookFault>
-    ensures made { OnOk result (Made book.old book.new 0 (asked_call (option_copied state.entry) id) replies.Done) }
-    ensures refused { IfErr result (λ f. Refuses book.old book.new 0 (asked_call (option_copied state.entry) id) f) }
+    ensures made { OnOk result (Made book.old book.new 0 (tile_call (option_copied state.entry) id) replies.Done) }
+    ensures refused { IfErr result (λ f. Refuses book.old book.new 0 (tile_call (option_copied state.entry) id) f) }
 {
     match state {
         Some(state) => book.put_back(0, id, state),
@@ -146,11 +146,11 @@ fn ask_tile(
     state: Option<&State>,
     text: &mut Vec<u8>,
 ) -> Result<(), AllocError>
-    ensures made { OnOk result (book.new ≡ (asked_of book.old (option_copied lo.entry) (option_copied state.entry)).book) }
+    ensures made { OnOk result (book.new ≡ (answer_of_cut book.old (option_copied lo.entry) (option_copied state.entry)).book) }
     ensures text { OnOk result (text.new.items ≡ text.old.items
-        ++ text_of (asked_of book.old (option_copied lo.entry) (option_copied state.entry)).lines) }
+        ++ text_of (answer_of_cut book.old (option_copied lo.entry) (option_copied state.entry)).lines) }
     ensures left { OnErr result ((book.new ≡ book.old)
-        ⊎ (book.new ≡ (asked_of book.old (option_copied lo.entry) (option_copied state.entry)).book)) }
+        ⊎ (book.new ≡ (answer_of_cut book.old (option_copied lo.entry) (option_copied state.entry)).book)) }
 {
     let Some(place) = place_at(book, lo) else {
         return write_book_fault(text, &BookFault::UnknownBranch);

@@ -19,7 +19,7 @@ use Rattle.x_steps.specs.StateValue.{StateValue, at}
 use Rattle.x_snapshot.specs.declared.fault.SnapshotFault.{SnapshotFault}
 use Rattle.x_snapshot.specs.declared.fault.SnapshotFault.TheVariants.{BadHeader, BadVersion, BadState}
 use Rattle.x_snapshot.specs.Writing.{cut_words, label_word, cursor_word, state_words}
-use Rattle.x_snapshot.specs.Reading.{first_line, line_words, after_key, keyed, keyed_line, found_or, only, count_from, positive, option_from, are_digits, version_from, header, add_choice, some_path, cut_from, label_from, cursor_from, step_from, state_from, end_from}
+use Rattle.x_snapshot.specs.Reading.{first_line, line_words, after_key, keyed, keyed_line, found_or, only, count_from, positive, option_number, are_digits, version_from, header, add_choice, some_path, cut_from, label_from, cursor_from, step_from, state_from, end_from}
 use Rattle.x_snapshot.proofs.ReadLemmas.{line_back}
 
 -- *what was found*
@@ -106,7 +106,7 @@ positive_is (suc n) m h = step (nat_lt 0 (suc n)) refl h
     step true e h = let same : suc n ≡ m = some_is (suc n) m h in (same, omega arith)
     step false e h = absurd (none_some m h)
 
-pub option_back : (bound : ℕ) (word : List ℕ) (o : ℕ) → bound < 2 ^ 64 → option_from bound word ≡ Some o → (word ≡ decimal o) × (0 < o) × (o ≤ bound)
+pub option_back : (bound : ℕ) (word : List ℕ) (o : ℕ) → bound < 2 ^ 64 → option_number bound word ≡ Some o → (word ≡ decimal o) × (0 < o) × (o ≤ bound)
 option_back bound word o small h =
     let a = and_then_is positive (number_of bound word) o h in
     let b = positive_is a.0 o a.2 in
@@ -144,8 +144,8 @@ small_options = omega arith
 choice_back : (path : List ℕ) (w : List ℕ) (t : List ℕ) → add_choice path w ≡ Ok t → (o : ℕ) × (t ≡ path ++ o ∷ []) × (w ≡ decimal o)
 unfolding add_choice
 choice_back path w t h =
-    let a = bind_ok (found_or BadState (option_from most_options w)) (λ o. Ok (path ++ o ∷ [])) t h in
-    let b = option_back most_options w a.0 small_options (found_is BadState (option_from most_options w) a.0 a.1) in
+    let a = bind_ok (found_or BadState (option_number most_options w)) (λ o. Ok (path ++ o ∷ [])) t h in
+    let b = option_back most_options w a.0 small_options (found_is BadState (option_number most_options w) a.0 a.1) in
     (a.0, sym (ok_is (path ++ a.0 ∷ []) t a.2), b.0)
 
 pub choices_back : (acc : List ℕ) (words : List (List ℕ)) (path : List ℕ) → each add_choice acc words ≡ Ok path → (more : List ℕ) × (path ≡ acc ++ more) × (words ≡ map decimal more)
@@ -199,17 +199,17 @@ label_back w m h =
     label_step X1 w _ m (label_step X2 w _ m (label_step X3 w _ m (label_step X4 w _ m (label_step X5 w _ m (label_step X6 w _ m (label_step X7 w _ m (label_step X8 w _ m (label_step Done w None m (λ e. absurd (none_some m e)))))))))) h
 
 pub cursor_back : (w : List ℕ) (k : Cursor) → cursor_from w ≡ Some k → w ≡ cursor_word k
-cursor_back w k h = first (chosen (bytes_eq w (codes "-")) (Some cursors.None) (cond (bytes_eq w (codes "past")) (Some cursors.Past) (option_map cursors.At (option_from most_options w))) (Some k) h)
+cursor_back w k h = first (chosen (bytes_eq w (codes "-")) (Some cursors.None) (cond (bytes_eq w (codes "past")) (Some cursors.Past) (option_map cursors.At (option_number most_options w))) (Some k) h)
   where
-    second : ((bytes_eq w (codes "past") ≡ true) × (◌≡◌ {A = Option Cursor} (Some cursors.Past) (Some k))) ⊎ ((bytes_eq w (codes "past") ≡ false) × (option_map cursors.At (option_from most_options w) ≡ Some k)) → w ≡ cursor_word k
+    second : ((bytes_eq w (codes "past") ≡ true) × (◌≡◌ {A = Option Cursor} (Some cursors.Past) (Some k))) ⊎ ((bytes_eq w (codes "past") ≡ false) × (option_map cursors.At (option_number most_options w) ≡ Some k)) → w ≡ cursor_word k
     second (inl p) = (bytes_decides w (codes "past")).0 p.0 ∙ ap cursor_word (some_is cursors.Past k p.1)
     second (inr p) =
-        let a = map_is cursors.At (option_from most_options w) k p.1 in
+        let a = map_is cursors.At (option_number most_options w) k p.1 in
         (option_back most_options w a.0 small_options a.1).0 ∙ ap cursor_word a.2
 
-    first : ((bytes_eq w (codes "-") ≡ true) × (◌≡◌ {A = Option Cursor} (Some cursors.None) (Some k))) ⊎ ((bytes_eq w (codes "-") ≡ false) × (cond (bytes_eq w (codes "past")) (Some cursors.Past) (option_map cursors.At (option_from most_options w)) ≡ Some k)) → w ≡ cursor_word k
+    first : ((bytes_eq w (codes "-") ≡ true) × (◌≡◌ {A = Option Cursor} (Some cursors.None) (Some k))) ⊎ ((bytes_eq w (codes "-") ≡ false) × (cond (bytes_eq w (codes "past")) (Some cursors.Past) (option_map cursors.At (option_number most_options w)) ≡ Some k)) → w ≡ cursor_word k
     first (inl p) = (bytes_decides w (codes "-")).0 p.0 ∙ ap cursor_word (some_is cursors.None k p.1)
-    first (inr p) = second (chosen (bytes_eq w (codes "past")) (Some cursors.Past) (option_map cursors.At (option_from most_options w)) (Some k) p.1)
+    first (inr p) = second (chosen (bytes_eq w (codes "past")) (Some cursors.Past) (option_map cursors.At (option_number most_options w)) (Some k) p.1)
 
 pub state_back : (words : List (List ℕ)) (s : StateValue) → state_from words ≡ Ok s → words ≡ state_words s
 unfolding state_from

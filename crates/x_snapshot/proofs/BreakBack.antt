@@ -19,7 +19,7 @@ use Rattle.x_snapshot.specs.declared.reading.breaks.Kind.TheVariants as kinds
 use Rattle.x_snapshot.specs.declared.fault.SnapshotFault.TheVariants.{BadBreak}
 use Rattle.x_snapshot.specs.Breaks.{is_break, is_same, are_new}
 use Rattle.x_snapshot.specs.Writing.{break_words, break_lines}
-use Rattle.x_snapshot.specs.Reading.{keyed_line, count_from, option_from, level_from, option_break_from, item_from, kind_from, break_of, lone_break, break_from, break_of_words, new_break, add_break, next_break, repeated, breaks_from, most_breaks, breaks_in}
+use Rattle.x_snapshot.specs.Reading.{keyed_line, count_from, option_number, level_from, option_break_from, item_from, kind_from, break_of, lone_break, break_from, break_of_words, new_break, add_break, next_break, repeated, breaks_from, most_breaks, breaks_in}
 use Rattle.x_snapshot.proofs.BreakLemmas.{are_new_push}
 use Rattle.x_snapshot.proofs.BackLemmas.{some_is, none_some, found_is, map_is, option_back, count_back, keyed_line_back}
 
@@ -68,7 +68,7 @@ module _ (p : ProblemValue) (g : IsProblem p) where
 
   option_break_back : (w : List ℕ) (b : Break) → option_break_from p w ≡ Some b → SaysBreak p (codes "option" ∷ w ∷ []) b
   option_break_back w b h =
-      let a = map_is breakpoints.Option (option_from (length p.options) w) b h in
+      let a = map_is breakpoints.Option (option_number (length p.options) w) b h in
       let f = few p g in
       let c = option_back (length p.options) w a.0 (omega (arith, f.1)) a.1 in
       let here : SaysBreak p (codes "option" ∷ w ∷ []) (breakpoints.Option a.0) = (ap (λ x. codes "break" ∷ codes "option" ∷ x ∷ []) c.0, numbered (length p.options) a.0 c.1 c.2) in

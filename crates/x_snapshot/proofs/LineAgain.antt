@@ -21,7 +21,7 @@ use Rattle.x_steps.specs.declared.state.Cursor.TheVariants as cursors
 use Rattle.x_steps.specs.StateValue.{StateValue}
 use Rattle.x_snapshot.specs.declared.fault.SnapshotFault.{SnapshotFault}
 use Rattle.x_snapshot.specs.Writing.{cut_words, label_word, cursor_word, state_words}
-use Rattle.x_snapshot.specs.Reading.{first_line, line_words, after_key, keyed, keyed_line, count_from, positive, option_from, lines_from, add_choice, cut_from, label_from, cursor_from, state_from, repeated, after_lines}
+use Rattle.x_snapshot.specs.Reading.{first_line, line_words, after_key, keyed, keyed_line, count_from, positive, option_number, lines_from, add_choice, cut_from, label_from, cursor_from, state_from, repeated, after_lines}
 use Rattle.x_snapshot.proofs.ReadLemmas.{line_found}
 
 -- *lines*
@@ -68,7 +68,7 @@ count_again f bound n small within = rw (reads_printed bound n small within) ref
 pub some_positive : (n : ℕ) → 0 < n → positive n ≡ Some n
 some_positive n h = rw (lt-ltb 0 n h) refl
 
-pub option_again : (bound o : ℕ) → bound < 2 ^ 64 → 0 < o → o ≤ bound → option_from bound (decimal o) ≡ Some o
+pub option_again : (bound o : ℕ) → bound < 2 ^ 64 → 0 < o → o ≤ bound → option_number bound (decimal o) ≡ Some o
 option_again bound o small some within = rw (reads_printed bound o small within) (some_positive o some)
 
 pub lines_from_again : (version n : ℕ) → version ≤ 2 → 0 < n → n ≤ most_options + version → lines_from version (decimal n ∷ []) ≡ Ok n

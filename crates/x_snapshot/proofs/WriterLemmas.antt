@@ -27,10 +27,6 @@ lines_counted p maybe options e f =
 
 -- *lines*
 
--- a key and words after it
-pub line_written : (old key first second new : List ℕ) (words : List (List ℕ)) → first ≡ old ++ key → second ≡ first ++ words_after words → new ≡ second ++ 10 ∷ [] → new ≡ old ++ line_text (key ∷ words)
-line_written old key first second new words e f g = g ∙ line_ends second old key words (f ∙ ap (λ bs. bs ++ words_after words) e)
-
 -- a key and a state
 pub state_written : (old key label cursor one two three four new : List ℕ) (words : List (List ℕ)) → one ≡ old ++ key → two ≡ one ++ 32 ∷ label → three ≡ two ++ 32 ∷ cursor → four ≡ three ++ words_after words → new ≡ four ++ 10 ∷ [] → new ≡ old ++ line_text (key ∷ label ∷ cursor ∷ words)
 state_written old key label cursor one two three four new words a b c d e =

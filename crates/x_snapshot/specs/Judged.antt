@@ -70,14 +70,14 @@ unfoldable pub is_on_run : SnapshotValue → Bool
 is_on_run v = is_cut_if_any v.problem v.lo && (is_cut_if_any v.problem v.hi && is_fit v.problem v.state)
 
 -- whether a branch begins before its end, and a state is neither before its first state nor after its end
-abbrev pub is_within : ProblemValue → Branch → StateValue → Bool
-is_within p b s =
+abbrev pub is_in_branch : ProblemValue → Branch → StateValue → Bool
+is_in_branch p b s =
     comes_before p (first_of b.lo) (end_of b.hi)
     && (not (comes_before p s (first_of b.lo)) && not (comes_before p (end_of b.hi) s))
 
 -- whether the cuts of a snapshot bound a branch in this order, and its state is within that branch
 unfoldable pub is_inside : SnapshotValue → Bool
-is_inside v = is_within v.problem (branch_between v.problem v.lo v.hi) v.state
+is_inside v = is_in_branch v.problem (branch_between v.problem v.lo v.hi) v.state
 
 -- what is said, if it is so
 abbrev pub judged_parts : SnapshotValue → Result SnapshotValue SnapshotFault

@@ -92,8 +92,8 @@ abbrev pub positive : ℕ → Option ℕ
 positive n = if nat_lt 0 n then Some n else None
 
 -- the number of one of so many options
-abbrev pub option_from : ℕ → List ℕ → Option ℕ
-option_from bound word = option_and_then positive (number_of bound word)
+abbrev pub option_number : ℕ → List ℕ → Option ℕ
+option_number bound word = option_and_then positive (number_of bound word)
 
 -- a step so many times, up to the first fault
 unfoldable pub repeated : {S F : Type 0} → (S → Result S F) → ℕ → S → Result S F
@@ -161,7 +161,7 @@ problem_in version text = do
 
 -- choices with one more
 unfoldable pub add_choice : List ℕ → List ℕ → Result (List ℕ) SnapshotFault
-add_choice path word = found_or BadState (option_from most_options word) >>= λ o. Ok (path ++ o ∷ [])
+add_choice path word = found_or BadState (option_number most_options word) >>= λ o. Ok (path ++ o ∷ [])
 
 -- the choices of these words
 abbrev pub choices_from : List (List ℕ) → Result (List ℕ) SnapshotFault
@@ -193,7 +193,7 @@ label_from word =
 abbrev pub cursor_from : List ℕ → Option Cursor
 cursor_from word =
     if bytes_eq word (codes "-") then Some cursors.None else
-    (if bytes_eq word (codes "past") then Some cursors.Past else option_map cursors.At (option_from most_options word))
+    (if bytes_eq word (codes "past") then Some cursors.Past else option_map cursors.At (option_number most_options word))
 
 -- a state without its choices
 abbrev pub step_from : List ℕ → List ℕ → Option (Label × Cursor)
@@ -219,7 +219,7 @@ level_from p word = option_map breakpoints.Level (number_of (length p.names) wor
 
 -- the breakpoint at an option of problem p, by the option's number
 abbrev pub option_break_from : ProblemValue → List ℕ → Option Break
-option_break_from p word = option_map breakpoints.Option (option_from (length p.options) word)
+option_break_from p word = option_map breakpoints.Option (option_number (length p.options) word)
 
 -- the breakpoint at an item of problem p, by the item's name
 abbrev pub item_from : ProblemValue → List ℕ → Option Break

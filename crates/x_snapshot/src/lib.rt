@@ -11,9 +11,6 @@ mod writing;
 
 pub use breakpoint::Break;
 pub use fault::SnapshotFault;
-pub use reading::{break_from, only_word, option_from, read_snapshot, state_from};
+pub use reading::{break_from, only_word, option_number, read_snapshot, state_from};
 pub use snapshot::{Snapshot, SnapshotParts};
-pub use writing::{
-    write_break, write_count, write_cut, write_number, write_numbers, write_path, write_snapshot,
-    write_state, write_word,
-};
+pub use writing::{write_break, write_cut, write_snapshot, write_state};

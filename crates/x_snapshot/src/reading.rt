@@ -21,7 +21,7 @@ use crate::writing::needs_second;
 pub use breaks::break_from;
 use breaks::breaks_of_version;
 use cover_problem::Problem;
-pub use lines::{only_word, option_from};
+pub use lines::{only_word, option_number};
 use lines::{are_digits, keyed};
 use position::position_in;
 pub use position::state_from;

@@ -11,59 +11,9 @@ ghost use Rattle.x_snapshot.specs.Writing.{cut_words, state_words, point_words, 
 use crate::breakpoint::Break;
 use crate::snapshot::Snapshot;
 use cover_problem::{Problem, write_cover};
-use itoa::{Buffer, Integer};
 use std::alloc::{AllocError, Global};
+use text_lines::{write_number, write_number_line, write_numbers, write_word};
 use x_steps::{Cursor, Label, State};
-
-/// Writes a word after another.
-pub fn write_word(text: &mut Vec<u8>, word: &str) -> Result<(), AllocError>
-    ensures { OnOk result (text.new.items ≡ text.old.items ++ 32 ∷ word.now) }
-{
-    text.push(b' ')?;
-    text.extend_from_slice(word.as_bytes())
-}
-
-/// Writes a number after a word.
-pub fn write_number<N: Integer + Drop>(text: &mut Vec<u8>, number: N) -> Result<(), AllocError>
-    ensures { OnOk result (text.new.items ≡ text.old.items ++ 32 ∷ N.text number) }
-{
-    let mut buffer = Buffer::new();
-    write_word(text, buffer.format(number))
-}
-
-/// Writes numbers, each after a word.
-pub fn write_numbers<N: Integer + Drop>(text: &mut Vec<u8>, numbers: &[N]) -> Result<(), AllocError>
-    ensures { OnOk result (text.new.items ≡ text.old.items ++ words_after (map N.text numbers.now)) }
-{
-    for number in numbers {
-        write_number(text, *number)?;
-    }
-    Ok(())
-}
-
-/// Writes a line of a word and a number.
-pub fn write_count<N: Integer + Drop>(
-    text: &mut Vec<u8>,
-    key: &str,
-    number: N,
-) -> Result<(), AllocError>
-    ensures { OnOk result (text.new.items ≡ text.old.items ++ line_text (key.now ∷ N.text number ∷ [])) }
-{
-    text.extend_from_slice(key.as_bytes())?;
-    write_number(text, number)?;
-    text.push(b'\n')?;
-    Ok(())
-}
-
-/// Writes a line of a word and the choices of a path.
-pub fn write_path(text: &mut Vec<u8>, key: &str, path: &[u32]) -> Result<(), AllocError>
-    ensures { OnOk result (text.new.items ≡ text.old.items ++ line_text (key.now ∷ map decimal path.now)) }
-{
-    text.extend_from_slice(key.as_bytes())?;
-    write_numbers(text, path)?;
-    text.push(b'\n')?;
-    Ok(())
-}
 
 /// Writes the choices of a cut after a word, or the word for none.
 pub fn write_cut(text: &mut Vec<u8>, none: &str, path: Option<&[u32]>) -> Result<(), AllocError>
@@ -215,7 +165,7 @@ fn write_breaks(text: &mut Vec<u8>, problem: &Problem, breaks: &[Break]) -> Resu
     if !needs_second(problem, breaks) {
         return Ok(());
     }
-    write_count(text, "breaks", breaks.len())?;
+    write_number_line(text, "breaks", breaks.len())?;
     write_each_break(text, problem, breaks)
 }
 
@@ -246,8 +196,8 @@ pub fn write_snapshot(alloc: Global, snapshot: &Snapshot) -> Result<Vec<u8>, All
     let breaks = snapshot.breaks();
     let cover = write_cover(alloc, problem)?;
     let mut text = Vec::new(alloc);
-    write_count(&mut text, "polysnap", version_of(problem, breaks))?;
-    write_count(&mut text, "problem", line_count(problem))?;
+    write_number_line(&mut text, "polysnap", version_of(problem, breaks))?;
+    write_number_line(&mut text, "problem", line_count(problem))?;
     text.extend_from_slice(&cover)?;
     write_from(&mut text, snapshot)?;
     write_to(&mut text, snapshot)?;

@@ -10,7 +10,7 @@ ghost use Rattle.debug_texts.specs.Reading.{is_comma, parts_of};
 use crate::reading::Found;
 use std::alloc::Global;
 use text_lines::{has_words, number, split_word};
-use x_snapshot::{only_word, option_from};
+use x_snapshot::{only_word, option_number};
 
 /// Whether a word is this one.
 pub fn is_word(word: &[u8], wanted: &[u8]) -> bool
@@ -39,7 +39,7 @@ pub fn count_from(words: &[u8]) -> Option<u32>
     ensures { result ≡ spec.count_from (words_of words.now) }
 {
     let word = only_word(words)?;
-    option_from(u32::MAX, word)
+    option_number(u32::MAX, word)
 }
 
 /// The two numbers that are the only words.

@@ -9,7 +9,7 @@ ghost use Rattle.lab_book.specs.Book.{path_of};
 ghost use Rattle.lab_world.specs.Worker.{HoldsTile};
 ghost use Rattle.debug_texts.specs.Replies.{saved_text};
 ghost use Rattle.x_debug.specs.Walking.{work};
-ghost use Rattle.x_debug.specs.Giving.{snapshot_of, save, IsNotGiven};
+ghost use Rattle.x_debug.specs.Giving.{snapshot_of_worker, save, IsNotGiven};
 
 use crate::giving::give_up;
 use cover_problem::{Problem, Table};
@@ -34,7 +34,7 @@ fn path_of(alloc: Global, cut: &Option<Cut<'_>>) -> Result<Option<Vec<u32>>, All
 
 /// Where a worker of this problem stands, as a snapshot with these breakpoints. It isn't refused, since a runner stands in a
 /// branch of the problem's run.
-fn snapshot_of<T: Table>(
+fn snapshot_of_worker<T: Table>(
     alloc: Global,
     problem: &Problem,
     worker: &Worker<'_, T>,
@@ -42,7 +42,7 @@ fn snapshot_of<T: Table>(
 ) -> Result<Snapshot, AllocError>
     requires same { problem.now ≡ worker.now.runner.problem }
     requires breaks { are_breaks worker.now.runner.problem breaks.items ≡ true }
-    ensures { IfOk result (λ s. s ≡ snapshot_of worker.now breaks.items) }
+    ensures { IfOk result (λ s. s ≡ snapshot_of_worker worker.now breaks.items) }
 {
     let runner = worker.runner();
     let branch = runner.branch();
@@ -71,9 +71,9 @@ fn write_position<T: Table>(
 ) -> Result<(), AllocError>
     requires same { problem.now ≡ worker.now.runner.problem }
     requires breaks { are_breaks worker.now.runner.problem breaks.items ≡ true }
-    ensures { OnOk result (text.new.items ≡ text.old.items ++ saved_text (snapshot_text (snapshot_of worker.now breaks.items))) }
+    ensures { OnOk result (text.new.items ≡ text.old.items ++ saved_text (snapshot_text (snapshot_of_worker worker.now breaks.items))) }
 {
-    let snapshot = snapshot_of(alloc, problem, worker, breaks)?;
+    let snapshot = snapshot_of_worker(alloc, problem, worker, breaks)?;
     let written = write_snapshot(alloc, &snapshot)?;
     write_saved(text, &written)
 }

@@ -7,7 +7,7 @@ ghost use Rattle.x_branches.specs.declared.branch.Branch.{Branch};
 ghost use Rattle.x_steps.specs.StateValue.{StateValue};
 ghost use Rattle.x_snapshot.specs.Breaks.{is_break};
 ghost use Rattle.x_snapshot.specs.Snapshot.{IsCutIfAny, branch_between, path_in};
-ghost use Rattle.lab_book.specs.Book.{opened};
+ghost use Rattle.lab_book.specs.Book.{new_book};
 ghost use Rattle.lab_world.specs.World.{IsSeat};
 ghost use Rattle.x_debug.specs.Session.{desk};
 ghost use Rattle.x_debug.specs.Entering.{resumed, with_some, seated, loaded};
@@ -86,7 +86,7 @@ fn book_of<'p, T: Table>(
 ) -> Result<Book<'p>, AllocError>
     requires { snapshot.now.problem ≡ problem.now }
     ensures { IfOk result (λ book. book
-        ≡ opened problem.now (branch_between problem.now snapshot.now.lo snapshot.now.hi) snapshot.now.state) }
+        ≡ new_book problem.now (branch_between problem.now snapshot.now.lo snapshot.now.hi) snapshot.now.state) }
 {
     let _problem = snapshot.problem();
     let table = T::new(alloc, problem)?;

@@ -10,7 +10,7 @@ ghost use Rattle.x_snapshot.specs.Reading.{keyed_line, found_or, most_breaks};
 use crate::breakpoint::Break;
 use crate::fault::SnapshotFault;
 use crate::reading::Found;
-use crate::reading::lines::{count_from, keyed, option_from};
+use crate::reading::lines::{count_from, keyed, option_number};
 use cover_problem::Problem;
 use indexmap::IndexSet;
 use std::alloc::Global;
@@ -49,7 +49,7 @@ fn level_from(problem: &Problem, word: &[u8]) -> Option<Break>
 fn option_break_from(problem: &Problem, word: &[u8]) -> Option<Break>
     ensures { result ≡ spec.option_break_from problem.now word.now }
 {
-    let option = option_from(problem.options(), word)?;
+    let option = option_number(problem.options(), word)?;
     Some(Break::Option(option))
 }
 

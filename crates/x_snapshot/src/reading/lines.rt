@@ -80,8 +80,8 @@ pub fn count_from(fault: SnapshotFault, bound: u32, words: &[u8]) -> Found<u32>
 }
 
 /// The number of one of so many options.
-pub fn option_from(bound: u32, word: &[u8]) -> Option<u32>
-    ensures { result ≡ spec.option_from bound word.now }
+pub fn option_number(bound: u32, word: &[u8]) -> Option<u32>
+    ensures { result ≡ spec.option_number bound word.now }
 {
     let option = number(word, bound)?;
     if option > 0 { Some(option) } else { None }

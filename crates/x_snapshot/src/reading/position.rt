@@ -9,7 +9,7 @@ ghost use Rattle.x_snapshot.specs.Reading.{keyed_line, add_choice, choices_from}
 
 use crate::fault::SnapshotFault;
 use crate::reading::Found;
-use crate::reading::lines::{keyed, option_from};
+use crate::reading::lines::{keyed, option_number};
 use cover_problem::MOST_OPTIONS;
 use std::alloc::Global;
 use text_lines::{Refusal, has_words, split_word};
@@ -23,7 +23,7 @@ const MOST: u32 = MOST_OPTIONS as u32;
 fn take_choice(path: &mut Vec<u32>, word: &[u8]) -> Found<()>
     ensures { Gives (λ _. path.new.items) result (add_choice path.old.items word.now) }
 {
-    let Some(option) = option_from(MOST, word) else {
+    let Some(option) = option_number(MOST, word) else {
         return Err(Refusal::Fault(SnapshotFault::BadState));
     };
     path.push(option)?;
@@ -99,7 +99,7 @@ fn cursor_from(word: &[u8]) -> Option<Cursor>
     match word {
         b"-" => Some(Cursor::None),
         b"past" => Some(Cursor::Past),
-        _ => Some(Cursor::At(option_from(MOST, word)?)),
+        _ => Some(Cursor::At(option_number(MOST, word)?)),
     }
 }
 

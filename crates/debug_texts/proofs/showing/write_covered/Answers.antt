@@ -1,6 +1,6 @@
 use Rattle.std.proofs.Common.{codes, map, arith}
 use Rattle.cover_problem.specs.Problem.{name_at}
-use Rattle.x_snapshot.proofs.WriterLemmas.{line_written}
+use Rattle.text_lines.proofs.WritingLemmas.{line_written}
 use Rattle.debug_texts.proofs.WriterLemmas.{covered_some}
 use Rattle.debug_texts.proofs.showing.write_covered.Goals as goal
 

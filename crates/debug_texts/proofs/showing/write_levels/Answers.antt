@@ -1,5 +1,5 @@
 use Rattle.std.proofs.Common.{codes, map, decimal, arith}
-use Rattle.x_snapshot.proofs.WriterLemmas.{line_written}
+use Rattle.text_lines.proofs.WritingLemmas.{line_written}
 use Rattle.debug_texts.proofs.WriterLemmas.{levels_some}
 use Rattle.debug_texts.proofs.showing.write_levels.Goals as goal
 

@@ -15,8 +15,8 @@ classes-requires-2 c = subst (λ (ps : List PackingValue). HaveOneRegion ps) (sy
 
 pub returns : goal.returns
 returns c =
-    subst (λ (ks : List ℕ). OnOk c.push_number_line-2.result (c.push_number_line-2.new.text.items ≡ ks))
-    (class_lines_added _ _ _ _ _ _ c.in_ok-push_number_line.ensures
+    subst (λ (ks : List ℕ). OnOk c.write_number_line-2.result (c.write_number_line-2.new.text.items ≡ ks))
+    (class_lines_added _ _ _ _ _ _ c.in_ok-write_number_line.ensures
     (c.from.ensures ∙ c.in_ok-rotations.ensures.value ∙ ap (classes_of Rotations) (c.as_slice.ensures.value ∙ c.in_ok-packings.ensures))
     (c.from-2.ensures ∙ c.in_ok-symmetries.ensures.value ∙ ap (classes_of Symmetries) (c.as_slice-2.ensures.value ∙ c.in_ok-packings.ensures)))
-    c.push_number_line-2.ensures
+    c.write_number_line-2.ensures

@@ -4,7 +4,7 @@ use Rattle.std.specs.Map.Iter.{deref_pair}
 use Rattle.poly_cells.specs.Coordinates.{Coordinates}
 use Rattle.poly_cells.specs.Sets.{IsIn}
 use Rattle.poly_cells.proofs.SetLemmas.{in_map}
-use Rattle.poly_place.specs.Packings.{ChoiceValue, choices_of}
+use Rattle.poly_place.specs.Packings.{ChoiceValue, choices_of_piece}
 use Rattle.poly_place.proofs.CountLemmas.{IsEntry, entry_is}
 use Rattle.poly_place.proofs.OptionLemmas.{choices_next, choices_all}
 use Rattle.poly_place.proofs.choice.all_choices.Goals as goal
@@ -23,12 +23,12 @@ add_choices-requires-clause-member c =
 pub loop-k-preserved : goal.loop-k-preserved
 loop-k-preserved c =
     let here = entry (goal.at.loop-k-preserved c).After-unwrap in
-    c.in_ok-add_choices.ensures ∙ ap (λ (cs : List ChoiceValue). cs ++ choices_of c.args.puzzle.now (c.unwrap.result.0.now, c.unwrap.result.1.now)) c.loop-k.invariant
+    c.in_ok-add_choices.ensures ∙ ap (λ (cs : List ChoiceValue). cs ++ choices_of_piece c.args.puzzle.now (c.unwrap.result.0.now, c.unwrap.result.1.now)) c.loop-k.invariant
     ∙ sym (choices_next c.args.puzzle.now c.pieces-pieces.result.now.entries c.loop-k.k (c.unwrap.result.0.now, c.unwrap.result.1.now) here.low here.at)
 
 pub returns : goal.returns
 returns c =
     c.loop-k.invariant
-    ∙ ap (flat_map (choices_of c.args.puzzle.now))
+    ∙ ap (flat_map (choices_of_piece c.args.puzzle.now))
     (take_all c.loop-k.k c.pieces-pieces.result.now.entries (omega (arith, c.loop-k-test.false, c.len-k-end.ensures.len)) ∙ c.pieces-pieces.ensures.value)
     ∙ choices_all c.args.puzzle.now

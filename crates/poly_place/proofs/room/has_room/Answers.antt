@@ -6,7 +6,7 @@ use Rattle.poly_cells.proofs.SetLemmas.{in_map}
 use Rattle.poly_place.proofs.CountLemmas.{IsEntry, entry_is, are_few, things_count, needed_count}
 use Rattle.poly_place.proofs.OptionLemmas.{choices_all}
 use Rattle.poly_place.proofs.RoomLemmas.{counted_next, counted_past, counted_all}
-use Rattle.poly_place.specs.Packings.{ChoiceValue, choices_of}
+use Rattle.poly_place.specs.Packings.{ChoiceValue, choices_of_piece}
 use Rattle.std.specs.List.{flat_map}
 use Rattle.poly_place.proofs.room.has_room.Goals as goal
 use Rattle.poly_place.proofs.room.has_room.Goals.{After-unwrap, After-as_slice, After-pieces-pieces}
@@ -22,8 +22,8 @@ add_choices-requires-clause-member c =
     (subst (λ (qs : List (ℕ × List Coordinates)). IsIn (c.unwrap.result.0.now, c.unwrap.result.1.now) qs) c.pieces-pieces.ensures.value e.member)
 
 -- the choices that are added are those of the piece
-chosen : (c : After-as_slice) → c.as_slice.result.now ≡ choices_of c.args.puzzle.now (c.unwrap.result.0.now, c.unwrap.result.1.now)
-chosen c = c.as_slice.ensures.value ∙ c.in_ok-add_choices.ensures ∙ ap (λ (cs : List ChoiceValue). cs ++ choices_of c.args.puzzle.now (c.unwrap.result.0.now, c.unwrap.result.1.now)) c.new-choices.ensures.items
+chosen : (c : After-as_slice) → c.as_slice.result.now ≡ choices_of_piece c.args.puzzle.now (c.unwrap.result.0.now, c.unwrap.result.1.now)
+chosen c = c.as_slice.ensures.value ∙ c.in_ok-add_choices.ensures ∙ ap (λ (cs : List ChoiceValue). cs ++ choices_of_piece c.args.puzzle.now (c.unwrap.result.0.now, c.unwrap.result.1.now)) c.new-choices.ensures.items
 
 counted : (c : After-as_slice) → c.len-options.result ≡ length c.as_slice.result.now
 counted c = c.len-options.ensures ∙ sym c.as_slice.ensures.len
@@ -67,4 +67,4 @@ returns c =
     let all : take c.loop-k.k c.pieces-pieces.result.now.entries ≡ c.args.puzzle.now.pieces =
     take_all c.loop-k.k c.pieces-pieces.result.now.entries (omega (arith, c.loop-k-test.false, c.len-k-end.ensures.len)) ∙ c.pieces-pieces.ensures.value in
     counted_all c.args.puzzle.now c.pieces-pieces.result.now.entries c.loop-k.k c.args.items c.loop-k.options c.loop-k.entries c.loop-k.invariant
-    (ap (flat_map (choices_of c.args.puzzle.now)) all ∙ choices_all c.args.puzzle.now) c.requires.items (few at.After-pieces-pieces)
+    (ap (flat_map (choices_of_piece c.args.puzzle.now)) all ∙ choices_all c.args.puzzle.now) c.requires.items (few at.After-pieces-pieces)

@@ -1,6 +1,6 @@
 use Rattle.std.specs.Prelude.{option_copied}
 use Rattle.x_snapshot.specs.Writing.{cut_words}
-use Rattle.x_snapshot.proofs.WriterLemmas.{line_written}
+use Rattle.text_lines.proofs.WritingLemmas.{line_written}
 use Rattle.x_snapshot.proofs.writing.write_cut_line.Goals as goal
 
 pub returns : goal.returns

@@ -2,7 +2,7 @@ use Rattle.std.proofs.Common.{◌≡◌, ℕ, List, ◌++◌, true, false, refl,
 use Rattle.text_lines.specs.Writing.{line_text}
 use Rattle.cover_problem.specs.Problem.{ProblemValue, is_same}
 use Rattle.lab_book.specs.declared.fault.BookFault.TheVariants.{ForeignProblem}
-use Rattle.x_debug.specs.Lines.{at, book_refusal}
+use Rattle.x_debug.specs.Lines.{state_line, book_refusal}
 use Rattle.x_debug.specs.Entering.{loaded}
 use Rattle.x_debug.specs.Session.{SessionValue}
 use Rattle.x_debug.specs.Loading.{answers}
@@ -33,8 +33,8 @@ returns-clause-reply g c =
     ◌∙◌ {A = ProblemValue} c.problem-2.ensures (ap (λ (v : SessionValue). v.book.problem) c.self.view_is) in
     let same : is_same c.args.snapshot.now.problem c.args.self.now.book.problem ≡ true =
     same_problems c.problem.result.now c.problem-2.result.now c.args.snapshot.now.problem c.args.self.now.book.problem c.same.result true c.problem.ensures.problem book c.same.ensures.test c.if-not-same.false in
-    said c.resume.result c.args.text.now.items c.write_at.new.text.items _ (answers (at c.args.snapshot.now.state) (loaded c.args.self.now c.args.snapshot.now)) (resumed_answer c.args.self.now c.args.snapshot.now same)
-    (on_ok c.resume.result (◌∙◌ {A = List ℕ} c.in_ok-write_at.ensures (ap (λ s. c.args.text.now.items ++ line_text (at s)) c.state.ensures)))
+    said c.resume.result c.args.text.now.items c.write_at.new.text.items _ (answers (state_line c.args.snapshot.now.state) (loaded c.args.self.now c.args.snapshot.now)) (resumed_answer c.args.self.now c.args.snapshot.now same)
+    (on_ok c.resume.result (◌∙◌ {A = List ℕ} c.in_ok-write_at.ensures (ap (λ s. c.args.text.now.items ++ line_text (state_line s)) c.state.ensures)))
 
 pub returns-clause-session : goal.returns-clause-session
 returns-clause-session g c =
@@ -42,4 +42,4 @@ returns-clause-session g c =
     ◌∙◌ {A = ProblemValue} c.problem-2.ensures (ap (λ (v : SessionValue). v.book.problem) c.self.view_is) in
     let same : is_same c.args.snapshot.now.problem c.args.self.now.book.problem ≡ true =
     same_problems c.problem.result.now c.problem-2.result.now c.args.snapshot.now.problem c.args.self.now.book.problem c.same.result true c.problem.ensures.problem book c.same.ensures.test c.if-not-same.false in
-    left c.resume.result c.resume.new.self _ (answers (at c.args.snapshot.now.state) (loaded c.args.self.now c.args.snapshot.now)) (resumed_answer c.args.self.now c.args.snapshot.now same) c.resume.ensures.made
+    left c.resume.result c.resume.new.self _ (answers (state_line c.args.snapshot.now.state) (loaded c.args.self.now c.args.snapshot.now)) (resumed_answer c.args.self.now c.args.snapshot.now same) c.resume.ensures.made

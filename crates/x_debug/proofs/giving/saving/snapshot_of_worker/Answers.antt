@@ -2,7 +2,7 @@ use Rattle.std.proofs.Common.{◌∙◌}
 use Rattle.x_snapshot.specs.Snapshot.{choices_of}
 use Rattle.x_steps.specs.StateView.{state_value}
 use Rattle.x_debug.proofs.SaveLemmas.{is_snapshot}
-use Rattle.x_debug.proofs.giving.saving.snapshot_of.Goals as goal
+use Rattle.x_debug.proofs.giving.saving.snapshot_of_worker.Goals as goal
 
 pub unreachable-requires : goal.unreachable-requires
 unreachable-requires g c =

@@ -1,0 +1,61 @@
+//! Lines of words and numbers, as they are written: one space between two, and a newline after the last.
+ghost use Rattle.std.specs.Prelude.{◌≡◌, ◌++◌, ◌∷◌, [], map, OnOk};
+ghost use Rattle.text_lines.specs.Writing.{words_after, line_text};
+
+use itoa::{Buffer, Integer};
+use std::alloc::AllocError;
+
+/// Writes a word after another.
+#[inline]
+pub fn write_word(text: &mut Vec<u8>, word: &str) -> Result<(), AllocError>
+    ensures { OnOk result (text.new.items ≡ text.old.items ++ 32 ∷ word.now) }
+{
+    text.push(b' ')?;
+    text.extend_from_slice(word.as_bytes())
+}
+
+/// Writes a number after a word.
+pub fn write_number<N: Integer + Drop>(text: &mut Vec<u8>, number: N) -> Result<(), AllocError>
+    ensures { OnOk result (text.new.items ≡ text.old.items ++ 32 ∷ N.text number) }
+{
+    let mut buffer = Buffer::new();
+    write_word(text, buffer.format(number))
+}
+
+/// Writes numbers, each after a word.
+pub fn write_numbers<N: Integer + Drop>(text: &mut Vec<u8>, numbers: &[N]) -> Result<(), AllocError>
+    ensures { OnOk result (text.new.items ≡ text.old.items ++ words_after (map N.text numbers.now)) }
+{
+    for number in numbers {
+        write_number(text, *number)?;
+    }
+    Ok(())
+}
+
+/// Writes a line of a word and a number.
+pub fn write_number_line<N: Integer + Drop>(
+    text: &mut Vec<u8>,
+    key: &str,
+    number: N,
+) -> Result<(), AllocError>
+    ensures { OnOk result (text.new.items ≡ text.old.items ++ line_text (key.now ∷ N.text number ∷ [])) }
+{
+    text.extend_from_slice(key.as_bytes())?;
+    write_number(text, number)?;
+    text.push(b'\n')?;
+    Ok(())
+}
+
+/// Writes a line of a word and numbers.
+pub fn write_numbers_line<N: Integer + Drop>(
+    text: &mut Vec<u8>,
+    key: &str,
+    numbers: &[N],
+) -> Result<(), AllocError>
+    ensures { OnOk result (text.new.items ≡ text.old.items ++ line_text (key.now ∷ map N.text numbers.now)) }
+{
+    text.extend_from_slice(key.as_bytes())?;
+    write_numbers(text, numbers)?;
+    text.push(b'\n')?;
+    Ok(())
+}

@@ -1,11 +1,11 @@
 //! Snapshots of small problems, with texts that were worked out by hand.
 
 use cover_problem::{Problem, read_cover};
-use drawn_problems::SMALL;
+use drawn_problems::{SMALL, state_of};
 use std::alloc::{AllocError, Global};
 use std::test::Fail;
 use x_snapshot::{Break, Snapshot, SnapshotFault, write_snapshot};
-use x_steps::{Cursor, Label, State};
+use x_steps::{Cursor, Label};
 
 /// A problem with a secondary item.
 const SECONDARY: &str = "items a\nmaybe b\noption a b\noption a";
@@ -283,15 +283,6 @@ fn copied(alloc: Global, path: Option<&[u32]>) -> Result<Option<Vec<u32>>, Alloc
     }
 }
 
-/// The state of these parts.
-fn state_of(alloc: Global, row: &Row) -> Result<State, AllocError> {
-    Ok(State {
-        label: row.label,
-        path: Vec::from_slice(alloc, row.path)?,
-        cursor: row.cursor,
-    })
-}
-
 /// The snapshot of a problem with these parts; None out of memory.
 fn snapshot_with(
     alloc: Global,
@@ -300,7 +291,7 @@ fn snapshot_with(
 ) -> Option<Result<Snapshot, SnapshotFault>> {
     let lo = copied(alloc, row.lo).ok()?;
     let hi = copied(alloc, row.hi).ok()?;
-    let state = state_of(alloc, row).ok()?;
+    let state = state_of(alloc, row.label, row.path, row.cursor).ok()?;
     let breaks = Vec::from_slice(alloc, row.breaks).ok()?;
     match Snapshot::new(alloc, problem, lo, hi, state, breaks) {
         Ok(snapshot) => Some(Ok(snapshot)),

@@ -1,13 +1,12 @@
 //! Whole inputs through `run`, with outputs that were worked out by hand or printed by other programs.
 
+use crate::puzzle_tests::ends_so;
 use byte_streams::Watched;
+use drawn_problems::SMALL;
 use lab_engine::{Job, run};
 use std::alloc::{AllocError, Global};
 use std::io::{self, ErrorKind, Read, Write};
 use std::test::Fail;
-
-const SMALL: &str =
-    "items a b c d e f g\noption c e\noption a d g\noption b c f\noption a d f\noption b g\noption d e g\n";
 
 const SMALL_OUTPUT: &str = "visit 4 5 1\nvisits 1\nsteps 43\nlevels 1 2 2 1\n";
 
@@ -47,14 +46,6 @@ pub fn cover(rt: &HostRuntime, text: &[u8]) -> Done {
     }
 }
 
-/// Whether `cover` on the text ends so.
-fn ends_so(rt: &HostRuntime, text: &str, status: u8, output: &str, line: &str) -> bool {
-    let done = cover(rt, text.as_bytes());
-    done.status == status
-        && done.output.as_slice() == output.as_bytes()
-        && done.faults.as_slice() == line.as_bytes()
-}
-
 #[test]
 fn covers_are_listed(rt: HostRuntime) {
     let rows = [
@@ -70,7 +61,7 @@ fn covers_are_listed(rt: HostRuntime) {
         ),
     ];
     for (text, output) in rows {
-        assert!(rt; ends_so(&rt, text, 0, output, ""), "for {text}");
+        assert!(rt; ends_so(&rt, Job::Cover, text, 0, output, ""), "for {text}");
     }
 }
 
@@ -90,7 +81,7 @@ fn texts_are_refused(rt: HostRuntime) {
         ("option", "refused cover 7 BadLine line 1\n"),
     ];
     for (text, line) in rows {
-        assert!(rt; ends_so(&rt, text, 3, "", line), "for {text}");
+        assert!(rt; ends_so(&rt, Job::Cover, text, 3, "", line), "for {text}");
     }
 }
 

@@ -1,36 +1,41 @@
 //! Searches that are taken by commands, from the input to the output: rows that were worked by hand.
 
 use crate::puzzle_tests::ends_so;
+use drawn_problems::SMALL;
 use lab_engine::Job;
+use std::alloc::{AllocError, Global};
+use std::test::Fail;
 
-/// The small problem and commands: to where nothing is left to try below an option, and back to the start.
-const THERE_AND_BACK: &str =
-    "items a b c d e f g\noption c e\noption a d g\noption b c f\noption a d f\noption b g\noption d e g\n\
-     %%\nstep 12\nshow\nback 12\nback\n";
+/// To where nothing is left to try below an option, and back to the start.
+const THERE_AND_BACK: &str = "step 12\nshow\nback 12\nback\n";
 
-/// The same problem: a branch is split in two, and both are searched and closed.
+/// A branch is split in two, and both are searched and closed.
 const SPLIT: &str =
-    "items a b c d e f g\noption c e\noption a d g\noption b c f\noption a d f\noption b g\noption d e g\n\
-     %%\nstep 5\nshow\nuntried\nsplit 0 2\nsplit 0 4\nsplit 0 4\nsplit 0 2\nrun\nclose\nopen 4\nrun\nclose\n\
+    "step 5\nshow\nuntried\nsplit 0 2\nsplit 0 4\nsplit 0 4\nsplit 0 2\nrun\nclose\nopen 4\nrun\nclose\n\
      branches\nvisits\n";
 
-/// The same problem: what was posted is taken back, and walked again.
-const TAKEN_BACK: &str =
-    "items a b c d e f g\noption c e\noption a d g\noption b c f\noption a d f\noption b g\noption d e g\n\
-     %%\nstep 30\npark\nopen start\nretract\nvisits\nback\nrun\nclose\nvisits\n";
+/// What was posted is taken back, and walked again.
+const TAKEN_BACK: &str = "step 30\npark\nopen start\nretract\nvisits\nback\nrun\nclose\nvisits\n";
 
-/// The same problem: a branch is saved at a breakpoint; and loaded, whereupon nothing is read after `quit`.
-const SAVED: &str =
-    "items a b c d e f g\noption c e\noption a d g\noption b c f\noption a d f\noption b g\noption d e g\n\
-     %%\nstep 5\nsplit 0 4\npark\nopen 4\nbreak level 3\nrun\nsave\n";
+/// A branch is saved at a breakpoint.
+const SAVED: &str = "step 5\nsplit 0 4\npark\nopen 4\nbreak level 3\nrun\nsave\n";
 
+/// It is loaded, and nothing is read after `quit`.
 const LOADED: &str =
-    "items a b c d e f g\noption c e\noption a d g\noption b c f\noption a d f\noption b g\noption d e g\n\
-     %%\nload 13\npolysnap 1\nproblem 7\nitems a b c d e f g\noption c e\noption a d g\noption b c f\n\
+    "load 13\npolysnap 1\nproblem 7\nitems a b c d e f g\noption c e\noption a d g\noption b c f\n\
      option a d f\noption b g\noption d e g\nfrom 4\nto end\nstate X2 - 4 5 1\nend\nrun\nquit\nshow\n";
 
+/// The small problem, and these commands.
+fn with_commands(alloc: Global, commands: &str) -> Result<String, AllocError> {
+    let mut text = String::new(alloc);
+    text.push_str(SMALL)?;
+    text.push_str("\n%%\n")?;
+    text.push_str(commands)?;
+    Ok(text)
+}
+
 #[test]
-fn commands_are_answered(rt: HostRuntime) {
+fn commands_are_answered(rt: HostRuntime) -> Result<(), Fail> {
     let rows = [
         (
             THERE_AND_BACK,
@@ -62,14 +67,20 @@ fn commands_are_answered(rt: HostRuntime) {
             LOADED,
             "at X2 - 4 5 1\nvisit 4 5 1\nmoved 14\nat Done -\nend\n",
         ),
-        ("items a\noption a\n", ""),
     ];
-    for (text, written) in rows {
+    for (commands, written) in rows {
+        let text = with_commands(rt.alloc(), commands)?;
         assert!(rt;
-            ends_so(&rt, Job::DebugCover, text, 0, written, ""),
-            "for {text}"
+            ends_so(&rt, Job::DebugCover, text.as_str(), 0, written, ""),
+            "for {commands}"
         );
     }
+    Ok(())
+}
+
+#[test]
+fn no_command_is_answered_by_nothing(rt: HostRuntime) {
+    assert!(rt; ends_so(&rt, Job::DebugCover, "items a\noption a\n", 0, "", ""));
 }
 
 #[test]

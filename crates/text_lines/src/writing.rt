@@ -15,6 +15,7 @@ pub fn write_word(text: &mut Vec<u8>, word: &str) -> Result<(), AllocError>
 }
 
 /// Writes a number after a word.
+#[inline]
 pub fn write_number<N: Integer + Drop>(text: &mut Vec<u8>, number: N) -> Result<(), AllocError>
     ensures { OnOk result (text.new.items ≡ text.old.items ++ 32 ∷ N.text number) }
 {

@@ -11,7 +11,7 @@ use Rattle.debug_texts.specs.declared.engine.EngineCommand.{EngineCommand}
 use Rattle.debug_texts.specs.declared.engine.EngineCommand.TheVariants as engine
 use Rattle.debug_texts.specs.declared.fault.DebugFault.TheVariants.{BadCommand}
 use Rattle.debug_texts.specs.Reading.{engine_command_of}
-use Rattle.x_debug.specs.Lines.{debug_refusal}
+use Rattle.debug_views.specs.Lines.{debug_refusal}
 use Rattle.x_debug.specs.Session.{SessionValue}
 use Rattle.x_debug.specs.Commands.{Answer, answer_line}
 use Rattle.x_debug.specs.Loading.{answers, load_answer}

@@ -1,7 +1,7 @@
 //! What a session of a problem answers to command lines.
 ghost use Rattle.std.specs.Prelude.{◌≡◌, ◌≤◌, ◌++◌, length, drop, option_map, IfOk, IfSome, OnOk};
 ghost use Rattle.text_lines.specs.Writing.{line_text};
-ghost use Rattle.x_debug.specs.Lines.{debug_refusal};
+ghost use Rattle.debug_views.specs.Lines.{debug_refusal};
 ghost use Rattle.x_debug.specs.Session.{fresh_session};
 ghost use Rattle.lab_debug.specs.Input.{raw_lines};
 ghost use Rattle.lab_debug.specs.Replies as spec;

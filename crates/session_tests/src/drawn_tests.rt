@@ -49,7 +49,7 @@ fn is_taken_back(session: &mut Plain<'_>, before: u32, most: u32) -> Result<bool
 }
 
 /// Splits at an option of the first level, with the command that then opens the new branch.
-const SPLITS: [(&str, &str); 15] = [
+static SPLITS: [(&str, &str); 15] = [
     ("split 0 1", "open 1"),
     ("split 0 2", "open 2"),
     ("split 0 3", "open 3"),

@@ -29,7 +29,7 @@ const TO_BREAK: &str = "to break";
 type Row = (&'static str, &'static str);
 
 /// A branch is split off and searched to a breakpoint, which is set twice.
-const BREAK_ROWS: [Row; 7] = [
+static BREAK_ROWS: [Row; 7] = [
     ("step 5", "moved 5\nat X2 - 2\n"),
     ("split 0 4", "branch 4 to end waiting\n"),
     ("park", "parked\n"),
@@ -40,7 +40,7 @@ const BREAK_ROWS: [Row; 7] = [
 ];
 
 /// Lines and snapshots, each with what is answered.
-const ROWS: [Row; 97] = [
+static ROWS: [Row; 97] = [
     (NEW, ""),
     // To where nothing is left to try below an option, and back to the start.
     ("step 12", "moved 12\nat X5 past 2 3\n"),

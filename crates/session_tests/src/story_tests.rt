@@ -6,7 +6,7 @@ use std::alloc::Global;
 use std::test::Fail;
 
 /// A text of a problem and commands, and what is answered.
-const STORIES: [(&str, &str); 9] = [
+static STORIES: [(&str, &str); 9] = [
     (
         "items a b c d e f g\noption c e\noption a d g\noption b c f\noption a d f\noption b g\n\
          option d e g\n%%\nstep 12\nshow\nback 12\nback\n",

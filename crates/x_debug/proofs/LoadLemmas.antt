@@ -20,9 +20,10 @@ use Rattle.lab_world.specs.World.{IsSeat}
 use Rattle.lab_world.proofs.TurnLemmas.{lease_any_seat}
 use Rattle.debug_texts.specs.declared.words.Layer.TheVariants as layer
 use Rattle.debug_texts.specs.Replies.{refused_words}
-use Rattle.x_debug.specs.Lines.{state_line, book_refusal, snapshot_refusal}
-use Rattle.x_debug.specs.Session.{SessionValue, Desk, desk, entered}
-use Rattle.x_debug.specs.Entering.{resumed, with_some, seated, loaded}
+use Rattle.debug_views.specs.Lines.{state_line, book_refusal, snapshot_refusal}
+use Rattle.debug_work.specs.Desk.{Desk, desk}
+use Rattle.x_debug.specs.Session.{SessionValue, entered}
+use Rattle.x_debug.specs.Loading.{resumed, with_some, seated, loaded}
 use Rattle.x_debug.specs.Commands.{Answer}
 use Rattle.x_debug.specs.Loading.{answers, load_by, load_answer}
 

@@ -15,15 +15,16 @@ use Rattle.debug_texts.specs.Replies.{levels_words}
 use Rattle.debug_texts.specs.Command.{CommandValue}
 use Rattle.debug_texts.specs.Command as command
 use Rattle.debug_texts.specs.Reading.{command_of}
-use Rattle.x_debug.specs.Breakpoints.{with_break}
-use Rattle.x_debug.specs.Lines.{plain, counted, set, debug_refusal}
-use Rattle.x_debug.specs.Session.{SessionValue, DeskAnswer}
-use Rattle.x_debug.specs.Showing.{show_lines, all_untried, or_none}
-use Rattle.x_debug.specs.Tiles.{BookAnswer, open_lines, visits_lines, hold, put_back}
-use Rattle.x_debug.specs.Walking.{AtWork, work, forward, IsPartWay, IsPartBack, step_count, step_lines, run_count, run_lines, back_count, back_lines, state_back}
-use Rattle.x_debug.specs.Entering.{enter}
-use Rattle.x_debug.specs.Giving.{park, save, close, IsNotGiven}
-use Rattle.x_debug.specs.Parting.{split, retract}
+use Rattle.debug_views.specs.Breakpoints.{with_break}
+use Rattle.debug_views.specs.Lines.{plain, counted, set, debug_refusal}
+use Rattle.debug_work.specs.Desk.{DeskAnswer}
+use Rattle.x_debug.specs.Session.{SessionValue}
+use Rattle.debug_views.specs.Showing.{show_lines, all_untried, or_none}
+use Rattle.debug_views.specs.Tiles.{BookAnswer, open_lines, visits_lines, hold, put_back}
+use Rattle.debug_work.specs.Walking.{AtWork, work, forward, IsPartWay, IsPartBack, step_count, step_lines, run_count, run_lines, back_count, back_lines, state_back}
+use Rattle.debug_work.specs.Entering.{enter}
+use Rattle.debug_work.specs.Giving.{park, save, close, IsNotGiven}
+use Rattle.debug_work.specs.Parting.{split, retract}
 
 -- a text that is answered, and the session that is left
 pub record Answer : Type 0 where

@@ -1,11 +1,3 @@
-pub mod Breakpoints
-pub mod Lines
-pub mod Walking
-pub mod Showing
-pub mod Tiles
 pub mod Session
-pub mod Entering
-pub mod Giving
-pub mod Parting
 pub mod Commands
 pub mod Loading

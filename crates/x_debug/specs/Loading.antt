@@ -1,16 +1,43 @@
 -- What a text that is loaded is answered, and what it leaves: the session on the snapshot that it is; the refusal of another problem's
 -- snapshot, or the first fault of a text that is none. Where it is refused nothing has changed.
-use Rattle.std.specs.Prelude.{ℕ, List, Result, Ok, Err, if◌then◌else◌}
+use Rattle.std.specs.Prelude.{ℕ, List, [], ◌∷◌, Result, Ok, Err, if◌then◌else◌}
 use Rattle.text_lines.specs.Writing.{line_text}
 use Rattle.cover_problem.specs.Problem.{is_same}
+use Rattle.x_snapshot.specs.declared.breakpoint.Break.{Break}
 use Rattle.x_snapshot.specs.declared.fault.SnapshotFault.{SnapshotFault}
-use Rattle.x_snapshot.specs.Snapshot.{SnapshotValue}
+use Rattle.x_snapshot.specs.Snapshot.{SnapshotValue, branch_between}
 use Rattle.x_snapshot.specs.Judged.{snapshot_of}
 use Rattle.lab_book.specs.declared.fault.BookFault.TheVariants.{ForeignProblem}
-use Rattle.x_debug.specs.Lines.{state_line, book_refusal, snapshot_refusal}
-use Rattle.x_debug.specs.Session.{SessionValue}
-use Rattle.x_debug.specs.Entering.{loaded}
+use Rattle.lab_book.specs.Book.{new_book}
+use Rattle.debug_work.specs.Desk.{Desk}
+use Rattle.debug_views.specs.Lines.{state_line, book_refusal, snapshot_refusal}
+use Rattle.x_debug.specs.Session.{SessionValue, entered}
 use Rattle.x_debug.specs.Commands.{Answer}
+
+-- ---- the session on a snapshot
+
+-- a book of a snapshot's branch, with its state as the first mark; worker 0 leases it
+abbrev pub resumed : SnapshotValue → Desk
+resumed v = entered (new_book v.problem (branch_between v.problem v.lo v.hi) v.state)
+
+-- the breakpoints of a snapshot, if it has some, else those that there are
+abbrev pub breaks_of : List Break → List Break → List Break
+breaks_of old [] = old
+breaks_of old (b ∷ bs) = b ∷ bs
+
+-- a session at another desk, and one with the breakpoints of a snapshot
+abbrev pub seated : SessionValue → Desk → SessionValue
+seated s d = record { book = d.book; worker = d.worker; breaks = s.breaks }
+
+-- a session whose breakpoints are these of a snapshot, or its own where the snapshot has none
+abbrev pub with_some : SessionValue → List Break → SessionValue
+with_some s breaks = record { book = s.book; worker = s.worker; breaks = breaks_of s.breaks breaks }
+
+-- session s after snapshot v was loaded: at a desk on the snapshot, and with its breakpoints, if it has some
+abbrev pub loaded : SessionValue → SnapshotValue → SessionValue
+loaded s v = record { book = (resumed v).book; worker = (resumed v).worker; breaks = breaks_of s.breaks v.breaks }
+
+-- ---- what is answered
 
 -- one line is answered
 abbrev pub answers : List (List ℕ) → SessionValue → Answer

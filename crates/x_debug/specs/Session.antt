@@ -9,6 +9,7 @@ use Rattle.lab_book.specs.Book.{BookValue, new_book, outcome, book_step}
 use Rattle.lab_book.specs.declared.entry.Call.TheVariants as call
 use Rattle.lab_world.specs.Worker.{WorkerValue, lent_worker}
 use Rattle.lab_world.specs.World.{IsSeat}
+use Rattle.debug_work.specs.Desk.{Desk, desk}
 
 -- what a session has: a book, the worker whose branch is open or none, and the breakpoints in the order in which they were set
 pub record SessionValue : Type 0 where
@@ -20,15 +21,6 @@ pub record SessionValue : Type 0 where
 pub record IsSession (v : SessionValue) : Type 0 where
   pub seat : IsSeat v.book 0 v.worker
   pub breaks : list_all (is_break v.book.problem) v.breaks ≡ true
-
--- a book and the worker with an open branch, if there is one
-pub record Desk : Type 0 where
-  pub book : BookValue
-  pub worker : Option WorkerValue
-
--- this book and this worker, as a desk
-abbrev pub desk : BookValue → Option WorkerValue → Desk
-desk b w = record { book = b; worker = w }
 
 -- worker 0 leases the first tile that waits
 abbrev pub entered : BookValue → Desk
@@ -43,8 +35,3 @@ abbrev pub fresh_session : ProblemValue → SessionValue
 fresh_session p =
     let d = entered (new_book p (record { lo = None; hi = None }) start) in
     record { book = d.book; worker = d.worker; breaks = [] }
-
--- a text that is answered, with the book and the worker that are left
-pub record DeskAnswer : Type 0 where
-  pub text : List ℕ
-  pub desk : Desk

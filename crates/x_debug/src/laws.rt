@@ -5,7 +5,7 @@ ghost use Rattle.lab_book.specs.declared.entry.Call.TheVariants as calls;
 ghost use Rattle.lab_book.specs.Tile.{is_closed};
 ghost use Rattle.lab_book.specs.Tiling.{tile_at};
 ghost use Rattle.lab_book.specs.Book.{BookValue, book_step};
-ghost use Rattle.x_debug.specs.Tiles.{place_at};
+ghost use Rattle.debug_views.specs.Tiles.{place_at};
 
 /// No reply names a closed tile. `branches` shows those that are not closed, by its definition; the tile that `open`, `hold` and
 /// `putback` find isn't closed, nor is it when the book has made the call, and it is shown.

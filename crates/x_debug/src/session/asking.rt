@@ -3,11 +3,11 @@ ghost use Rattle.std.specs.Prelude.{◌≡◌, ◌++◌, ◌⊎◌, option_copie
 ghost use Rattle.x_steps.specs.StateView.{state_value};
 ghost use Rattle.x_debug.specs.Commands.{answer_hold, answer_put_back, answer_enter};
 
-use crate::entering::enter;
 use crate::session::Session;
-use crate::tiles::{hold, put_back};
 use cover_problem::Table;
 use debug_texts::{DebugFault, write_debug_fault};
+use debug_views::{hold, put_back};
+use debug_work::enter;
 use std::alloc::{AllocError, Global};
 use x_steps::State;
 

@@ -3,10 +3,10 @@ ghost use Rattle.std.specs.Prelude.{◌≡◌, ◌++◌, ◌⊎◌, [], true, On
 ghost use Rattle.x_snapshot.specs.Breaks.{are_breaks};
 ghost use Rattle.x_debug.specs.Commands.{answer_park, answer_close, answer_save, LeftNotGiven};
 
-use crate::giving::{close, park, save};
 use crate::session::Session;
 use cover_problem::Table;
 use debug_texts::{DebugFault, write_debug_fault};
+use debug_work::{close, park, save};
 use std::alloc::{AllocError, Global};
 use x_snapshot::Break;
 

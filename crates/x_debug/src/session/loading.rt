@@ -9,14 +9,13 @@ ghost use Rattle.x_snapshot.specs.Breaks.{is_break};
 ghost use Rattle.x_snapshot.specs.Snapshot.{IsCutIfAny, branch_between, path_in};
 ghost use Rattle.lab_book.specs.Book.{new_book};
 ghost use Rattle.lab_world.specs.World.{IsSeat};
-ghost use Rattle.x_debug.specs.Session.{desk};
-ghost use Rattle.x_debug.specs.Entering.{resumed, with_some, seated, loaded};
-ghost use Rattle.x_debug.specs.Loading.{load_by, load_answer};
+ghost use Rattle.debug_work.specs.Desk.{desk};
+ghost use Rattle.x_debug.specs.Loading.{resumed, with_some, seated, loaded, load_by, load_answer};
 
 use crate::session::{Reply, Session};
-use crate::tiles::write_book_fault;
 use cover_problem::{Problem, Table};
 use debug_texts::{write_at, write_snapshot_fault};
+use debug_views::write_book_fault;
 use indexmap::IndexSet;
 use lab_book::{Book, BookFault};
 use lab_world::Worker;

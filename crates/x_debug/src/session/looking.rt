@@ -3,10 +3,9 @@ ghost use Rattle.std.specs.Prelude.{◌≡◌, ◌++◌, OnOk};
 ghost use Rattle.x_debug.specs.Commands.{answer_show, answer_untried, answer_branches, answer_visits, answer_steps, answer_levels};
 
 use crate::session::Session;
-use crate::showing::{show, untried};
-use crate::tiles::{branches, write_posted};
 use cover_problem::Table;
 use debug_texts::{Counted, DebugFault, write_counted, write_debug_fault, write_levels};
+use debug_views::{branches, show, untried, write_posted};
 use std::alloc::AllocError;
 
 impl<'p, T: Table> Session<'p, T> {

@@ -1,12 +1,12 @@
 //! Steps on the branch that is open.
 ghost use Rattle.std.specs.Prelude.{◌≡◌, ◌<◌, ◌++◌, OnOk, OnErr};
-ghost use Rattle.x_debug.specs.Walking.{step_count, run_count, back_count};
+ghost use Rattle.debug_work.specs.Walking.{step_count, run_count, back_count};
 ghost use Rattle.x_debug.specs.Commands.{answer_step, answer_run, answer_back, LeftPartWay, LeftPartBack};
 
 use crate::session::Session;
-use crate::walking::{back, run, step};
 use cover_problem::Table;
 use debug_texts::{DebugFault, write_debug_fault};
+use debug_work::{back, run, step};
 use std::alloc::AllocError;
 
 impl<'p, T: Table> Session<'p, T> {

@@ -2,11 +2,11 @@ use Rattle.std.proofs.Common.{◌≡◌, ℕ, List, ◌++◌, true, false, refl,
 use Rattle.text_lines.specs.Writing.{line_text}
 use Rattle.cover_problem.specs.Problem.{ProblemValue, is_same}
 use Rattle.lab_book.specs.declared.fault.BookFault.TheVariants.{ForeignProblem}
-use Rattle.x_debug.specs.Lines.{state_line, book_refusal}
-use Rattle.x_debug.specs.Entering.{loaded}
+use Rattle.debug_views.specs.Lines.{state_line, book_refusal}
+use Rattle.x_debug.specs.Loading.{loaded}
 use Rattle.x_debug.specs.Session.{SessionValue}
 use Rattle.x_debug.specs.Loading.{answers}
-use Rattle.x_debug.proofs.CallLemmas.{on_ok}
+use Rattle.debug_views.proofs.CallLemmas.{on_ok}
 use Rattle.x_debug.proofs.LoadLemmas.{same_problems, foreign_answer, resumed_answer, said, left}
 use Rattle.x_debug.proofs.session.Session.go_on.Goals as goal
 

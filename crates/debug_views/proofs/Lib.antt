@@ -1,0 +1,4 @@
+pub mod MetLemmas
+pub mod ItemLemmas
+pub mod LineLemmas
+pub mod CallLemmas

@@ -1,0 +1,62 @@
+-- How lines are written one after the other.
+use Rattle.std.proofs.Common.{◌≡◌, ℕ, suc, ◌+◌, ◌<◌, Result, Ok, Err, OnOk, List, [], ◌∷◌, ◌++◌, length, refl, sym, ◌∙◌, ap, arith, append_assoc, append-nil}
+use Rattle.std.specs.List.{flat_map}
+use Rattle.std.proofs.lemmas.Grind.{flat_map-append}
+use Rattle.text_lines.specs.Writing.{line_text, text_of}
+use Rattle.cover_problem.specs.Lists.{numbers}
+use Rattle.cover_problem.proofs.NumberLemmas.{numbers_push}
+use Rattle.x_branches.specs.Runner.{RunnerValue}
+use Rattle.debug_texts.specs.Replies.{untried_words}
+use Rattle.debug_views.specs.Lines.{state_line}
+use Rattle.debug_views.specs.Showing.{runner_branch, runner_covered, runner_chosen, runner_active, runner_second, show_lines, level_lines, untried_at}
+
+pub one_line : (line : List (List ℕ)) → line_text line ≡ text_of (line ∷ [])
+one_line line = sym (append-nil (line_text line))
+
+pub more_lines : (lines more : List (List (List ℕ))) → text_of (lines ++ more) ≡ text_of lines ++ text_of more
+more_lines lines more = flat_map-append line_text lines more
+
+-- two texts of lines
+pub both_lines : (a b : List (List (List ℕ))) (old one new : List ℕ) → one ≡ old ++ text_of a → new ≡ one ++ text_of b → new ≡ old ++ text_of (a ++ b)
+both_lines a b old one new h i = i ∙ ap (λ t. t ++ text_of b) h ∙ append_assoc old _ _ ∙ ap (λ t. old ++ t) (sym (more_lines a b))
+
+-- three lines, and then more
+three_lines : (a b c : List (List ℕ)) (d e : List (List (List ℕ))) (old one two three four new : List ℕ) → one ≡ old ++ line_text a → two ≡ one ++ line_text b → three ≡ two ++ line_text c
+    → four ≡ three ++ text_of d → new ≡ four ++ text_of e → new ≡ old ++ text_of (a ∷ b ∷ c ∷ d ++ e)
+three_lines a b c d e old one two three four new h i j k l =
+    let whole : text_of ((a ∷ b ∷ c ∷ d) ++ e) ≡ (line_text a ++ (line_text b ++ (line_text c ++ text_of d))) ++ text_of e = more_lines (a ∷ b ∷ c ∷ d) e in
+    let all : new ≡ old ++ ((line_text a ++ (line_text b ++ (line_text c ++ text_of d))) ++ text_of e) = rw (l, k, j, i, h) (simp append_assoc) in
+    all ∙ ap (λ t. old ++ t) (sym whole)
+
+-- whatever the last of them gave
+pub shown_lines : {X E : Type 0} (z : Result X E) (r : RunnerValue) (old one two three four new : List ℕ) → one ≡ old ++ line_text (state_line r.position) → two ≡ one ++ line_text (runner_branch r) → three ≡ two ++ line_text (runner_covered r)
+    → four ≡ three ++ text_of (runner_chosen r) → OnOk z (new ≡ four ++ text_of (runner_active r ++ runner_second r)) → OnOk z (new ≡ old ++ text_of (show_lines r))
+unfolding show_lines
+shown_lines (Ok x) r old one two three four new h i j k l =
+    three_lines (state_line r.position) (runner_branch r) (runner_covered r) (runner_chosen r) (runner_active r ++ runner_second r) old one two three four new h i j k l
+    ∙ ap (λ ls. old ++ text_of ls) (sym (append_assoc (state_line r.position ∷ runner_branch r ∷ runner_covered r ∷ runner_chosen r) (runner_active r) (runner_second r)))
+shown_lines (Err x) r old one two three four new h i j k l = tt
+
+-- ---- the levels so far
+
+abbrev pub levels_to : RunnerValue → ℕ → List (List (List ℕ))
+levels_to r level = flat_map (untried_at r) (numbers level 0)
+
+-- the lines of one level more
+pub levels_more : (r : RunnerValue) (level : ℕ) → text_of (levels_to r (level + 1)) ≡ text_of (levels_to r level) ++ text_of (untried_at r level)
+levels_more r level =
+    let e : level + 1 ≡ suc level = omega arith in
+    let z : 0 + level ≡ level = omega arith in
+    let n : numbers (level + 1) 0 ≡ numbers level 0 ++ level ∷ [] = ap (λ m. numbers m 0) e ∙ numbers_push level 0 ∙ ap (λ m. numbers level 0 ++ m ∷ []) z in
+    let l : levels_to r (level + 1) ≡ levels_to r level ++ untried_at r level =
+    ap (flat_map (untried_at r)) n ∙ flat_map-append (untried_at r) (numbers level 0) (level ∷ []) ∙ ap (λ ls. levels_to r level ++ ls) (append-nil (untried_at r level)) in
+    ap text_of l ∙ more_lines (levels_to r level) (untried_at r level)
+
+-- nothing, or the one line of a level
+pub level_none : (level : ℕ) (options : List ℕ) → length options ≡ 0 → text_of (level_lines level options) ≡ []
+level_none level [] l = refl
+level_none level (o ∷ os) l = absurd (omega arith)
+
+pub level_some : (level : ℕ) (options : List ℕ) → 0 < length options → text_of (level_lines level options) ≡ line_text (untried_words level options)
+level_some level [] l = absurd (omega arith)
+level_some level (o ∷ os) l = sym (one_line (untried_words level (o ∷ os)))

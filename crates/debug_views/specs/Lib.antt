@@ -1,0 +1,4 @@
+pub mod Lines
+pub mod Breakpoints
+pub mod Showing
+pub mod Tiles

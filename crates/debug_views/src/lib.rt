@@ -1,0 +1,10 @@
+//! What a search that is run by hand shows: which breakpoint it meets, where it stands, and the tiles of its book.
+#![tactic(auto)]
+
+mod met;
+mod showing;
+mod tiles;
+
+pub use met::first_met;
+pub use showing::{choices, show, untried};
+pub use tiles::{branches, hold, place_at, put_back, write_book_fault, write_posted, write_tile};

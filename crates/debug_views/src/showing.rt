@@ -1,0 +1,147 @@
+//! What is shown of where the search stands, and of what is untried.
+ghost use Rattle.std.specs.Prelude.{◌≡◌, ◌++◌, length, option_copied, OnOk};
+ghost use Rattle.text_lines.specs.Writing.{line_text, text_of};
+ghost use Rattle.lab_book.specs.Book.{path_of};
+ghost use Rattle.debug_views.specs.Lines.{state_line, plain};
+ghost use Rattle.debug_views.specs.Showing.{runner_branch, runner_covered, runner_chosen, runner_active, runner_second};
+ghost use Rattle.debug_views.specs.Showing.{show_lines, untried_at, all_untried, or_none};
+
+use cover_problem::{Problem, Table};
+use debug_texts::{
+    Listed, Plain, write_at, write_branch, write_covered, write_list, write_lists, write_plain,
+    write_untried,
+};
+use std::alloc::AllocError;
+use x_branches::{Cut, Runner};
+
+/// The choices of a cut, if there is one.
+pub fn choices<'a>(cut: &'a Option<Cut<'_>>) -> Option<&'a [u32]>
+    ensures { option_copied result ≡ path_of cut.now }
+{
+    match cut {
+        Some(cut) => Some(cut.path()),
+        None => None,
+    }
+}
+
+/// Writes where a runner stands.
+fn write_position<T: Table>(text: &mut Vec<u8>, runner: &Runner<'_, T>) -> Result<(), AllocError>
+    ensures { OnOk result (text.new.items ≡ text.old.items ++ line_text (state_line runner.now.position)) }
+{
+    write_at(text, runner.state())
+}
+
+/// Writes the branch of a runner.
+fn write_part<T: Table>(text: &mut Vec<u8>, runner: &Runner<'_, T>) -> Result<(), AllocError>
+    ensures { OnOk result (text.new.items ≡ text.old.items ++ line_text (runner_branch runner.now)) }
+{
+    let branch = runner.branch();
+    write_branch(text, choices(&branch.lo), choices(&branch.hi))
+}
+
+/// Writes the covered items of a runner of this problem.
+fn write_items<T: Table>(
+    text: &mut Vec<u8>,
+    problem: &Problem,
+    runner: &Runner<'_, T>,
+) -> Result<(), AllocError>
+    requires same { problem.now ≡ runner.now.problem }
+    ensures { OnOk result (text.new.items ≡ text.old.items ++ line_text (runner_covered runner.now)) }
+{
+    // A runner's state tells that what is covered are items of its problem; so it does below.
+    let _state = runner.state();
+    write_covered(text, problem, runner.covered())
+}
+
+/// Writes the chosen item of a runner of this problem with its list, where there is one.
+fn write_chosen<T: Table>(
+    text: &mut Vec<u8>,
+    problem: &Problem,
+    runner: &Runner<'_, T>,
+) -> Result<(), AllocError>
+    requires same { problem.now ≡ runner.now.problem }
+    ensures { OnOk result (text.new.items ≡ text.old.items ++ text_of (runner_chosen runner.now)) }
+{
+    let _state = runner.state();
+    let Some((item, options)) = runner.chosen()? else {
+        return Ok(());
+    };
+    write_list(text, problem, Listed::Chosen, item, &options)
+}
+
+/// Writes the active items of a runner of this problem, and then the secondary ones that are not covered, each with its options.
+fn write_left<T: Table>(
+    text: &mut Vec<u8>,
+    problem: &Problem,
+    runner: &Runner<'_, T>,
+) -> Result<(), AllocError>
+    requires same { problem.now ≡ runner.now.problem }
+    ensures { OnOk result (text.new.items ≡ text.old.items ++ text_of (runner_active runner.now ++ runner_second runner.now)) }
+{
+    let _state = runner.state();
+    write_lists(text, problem, Listed::Active, &runner.remaining()?)?;
+    write_lists(text, problem, Listed::Second, &runner.second()?)
+}
+
+/// `show`: where the search stands, its branch, the covered items, the chosen item with its list, the active items, and the
+/// secondary items that are not covered.
+pub fn show<T: Table>(
+    problem: &Problem,
+    runner: &Runner<'_, T>,
+    text: &mut Vec<u8>,
+) -> Result<(), AllocError>
+    requires same { problem.now ≡ runner.now.problem }
+    ensures { OnOk result (text.new.items ≡ text.old.items ++ text_of (show_lines runner.now)) }
+{
+    write_position(text, runner)?;
+    write_part(text, runner)?;
+    write_items(text, problem, runner)?;
+    write_chosen(text, problem, runner)?;
+    write_left(text, problem, runner)
+}
+
+/// Writes the options that are untried at a level of a runner, where there are some.
+#[tactic(auto, using(crate::proofs::LineLemmas::level_none, crate::proofs::LineLemmas::level_some))]
+fn write_level<T: Table>(
+    text: &mut Vec<u8>,
+    runner: &Runner<'_, T>,
+    level: usize,
+) -> Result<(), AllocError>
+    ensures { OnOk result (text.new.items ≡ text.old.items ++ text_of (untried_at runner.now level)) }
+{
+    let options = runner.untried(level)?;
+    if options.is_empty() {
+        return Ok(());
+    }
+    write_untried(text, level, &options)
+}
+
+/// The level of a runner's cursor, which comes after those of its path.
+fn last_level<T: Table>(runner: &Runner<'_, T>) -> usize
+    ensures { result ≡ length runner.now.position.path }
+{
+    runner.state().path.len()
+}
+
+/// Writes the levels of a runner where something is untried.
+#[tactic(auto, using(crate::proofs::LineLemmas::levels_more, std::proofs::lemmas::Grind::common_steps))]
+fn write_levels<T: Table>(text: &mut Vec<u8>, runner: &Runner<'_, T>) -> Result<(), AllocError>
+    ensures { OnOk result (text.new.items ≡ text.old.items ++ text_of (all_untried runner.now)) }
+{
+    for level in 0..=last_level(runner) {
+        write_level(text, runner, level)?;
+    }
+    Ok(())
+}
+
+/// `untried`: for each level that has some the options that are untried there.
+pub fn untried<T: Table>(runner: &Runner<'_, T>, text: &mut Vec<u8>) -> Result<(), AllocError>
+    ensures { OnOk result (text.new.items ≡ text.old.items ++ text_of (or_none (plain Plain.NothingUntried) (all_untried runner.now))) }
+{
+    let written = text.len();
+    write_levels(text, runner)?;
+    if text.len() == written {
+        return write_plain(text, Plain::NothingUntried);
+    }
+    Ok(())
+}

@@ -1,0 +1,191 @@
+//! Which tile a cut names, and how tiles are shown.
+ghost use Rattle.std.specs.Prelude.{◌≡◌, ◌<◌, ◌++◌, ◌⊎◌, length, option_copied, IfErr, OnOk, OnErr, IfSome};
+ghost use Rattle.text_lines.specs.Writing.{line_text, text_of};
+ghost use Rattle.lab_book.specs.declared.entry.Reply.TheVariants as replies;
+ghost use Rattle.lab_book.specs.Tile.{is_closed};
+ghost use Rattle.lab_book.specs.Tiling.{tile_at};
+ghost use Rattle.lab_book.specs.Calls.{Made, Refuses};
+ghost use Rattle.lab_book.specs.Posted.{posted_visits};
+ghost use Rattle.x_steps.specs.StateView.{state_value};
+ghost use Rattle.debug_views.specs.Lines.{book_refusal, plain};
+ghost use Rattle.debug_views.specs.Showing.{or_none};
+ghost use Rattle.debug_views.specs.Tiles.{is_begun_at, place_at, standing_of, tile_line, open_lines, visits_lines, tile_call, answer_of_cut, hold, put_back};
+
+use crate::showing::choices;
+use debug_texts::{
+    Counted, Layer, Plain, Standing, write_counted, write_plain, write_refused, write_standing,
+    write_visits,
+};
+use lab_book::{Book, BookFault, Status, Tile};
+use std::alloc::AllocError;
+use x_steps::State;
+
+/// Whether a tile is closed.
+fn is_closed(status: Status) -> bool
+    ensures { result ≡ is_closed status }
+{
+    match status {
+        Status::Closed => true,
+        _ => false,
+    }
+}
+
+/// Whether a tile begins at a cut, None for the start of the run, and isn't closed.
+fn is_begun_at(tile: &Tile<'_>, lo: Option<&[u32]>) -> bool
+    ensures { result ≡ is_begun_at (option_copied lo.entry) tile.now }
+{
+    !is_closed(tile.status()) && choices(tile.lo()) == lo
+}
+
+/// The place of the tile that begins at a cut and isn't closed.
+pub fn place_at(book: &Book<'_>, lo: Option<&[u32]>) -> Option<usize>
+    ensures place { result ≡ place_at (option_copied lo.entry) book.now.tiles }
+    ensures within { IfSome result (λ i. i < length book.now.tiles) }
+{
+    book.tiles().iter().position(|tile| is_begun_at(tile, lo))
+}
+
+/// How a tile stands that isn't closed.
+fn standing_of(status: Status) -> Standing
+    ensures { result ≡ standing_of status }
+{
+    match status {
+        Status::Held => Standing::Held,
+        Status::Leased { .. } => Standing::Leased,
+        Status::Waiting | Status::Closed => Standing::Waiting,
+    }
+}
+
+/// Writes a tile: its cuts, and how it stands.
+pub fn write_tile(text: &mut Vec<u8>, tile: &Tile<'_>) -> Result<(), AllocError>
+    ensures { OnOk result (text.new.items ≡ text.old.items ++ line_text (tile_line tile.now)) }
+{
+    write_standing(
+        text,
+        choices(tile.lo()),
+        choices(tile.hi()),
+        standing_of(tile.status()),
+    )
+}
+
+/// Writes the tiles that are not closed.
+fn write_open(text: &mut Vec<u8>, tiles: &[Tile<'_>]) -> Result<(), AllocError>
+    ensures { OnOk result (text.new.items ≡ text.old.items ++ text_of (open_lines tiles.now)) }
+{
+    for tile in tiles {
+        if !is_closed(tile.status()) {
+            write_tile(text, tile)?;
+        }
+    }
+    Ok(())
+}
+
+/// `branches`: the tiles that are not closed.
+pub fn branches(book: &Book<'_>, text: &mut Vec<u8>) -> Result<(), AllocError>
+    ensures { OnOk result (text.new.items ≡ text.old.items ++ text_of (or_none (plain Plain.NoBranches) (open_lines book.now.tiles))) }
+{
+    let written = text.len();
+    write_open(text, book.tiles())?;
+    if text.len() == written {
+        return write_plain(text, Plain::NoBranches);
+    }
+    Ok(())
+}
+
+/// `visits`: the posted visits, and how many they are.
+pub fn write_posted(book: &Book<'_>, text: &mut Vec<u8>) -> Result<(), AllocError>
+    ensures { OnOk result (text.new.items ≡ text.old.items ++ text_of (visits_lines (posted_visits book.now.tiles))) }
+{
+    let visits = book.visits()?;
+    write_visits(text, &visits)?;
+    write_counted(text, Counted::Visits, visits.len() as u128)
+}
+
+/// Writes the line of a refusal by the book. Want of memory has none, and is passed on.
+pub fn write_book_fault(text: &mut Vec<u8>, fault: &BookFault) -> Result<(), AllocError>
+    ensures text { OnOk result (text.new.items ≡ text.old.items ++ line_text (book_refusal fault.now)) }
+    ensures told { OnOk result (fault.now ≡ BookFault.OutOfMemory → ⊥) }
+{
+    match fault.number() {
+        Some(number) => write_refused(text, Layer::Book, number, fault.name()),
+        None => Err(AllocError),
+    }
+}
+
+/// The id of the tile at a place.
+fn id_at(book: &Book<'_>, place: usize) -> u64
+    requires { place < length book.now.tiles }
+    ensures { result ≡ (tile_at book.now.tiles place).id }
+{
+    book.tiles()[place].id()
+}
+
+/// Writes the tile at a place.
+fn write_tile_at(text: &mut Vec<u8>, book: &Book<'_>, place: usize) -> Result<(), AllocError>
+    requires { place < length book.now.tiles }
+    ensures { OnOk result (text.new.items ≡ text.old.items ++ line_text (tile_line (tile_at book.now.tiles place))) }
+{
+    write_tile(text, &book.tiles()[place])
+}
+
+/// Asks the tile with an id to go back to a state, where there is one, and else to stop.
+fn ask(book: &mut Book<'_>, id: u64, state: Option<&State>) -> Result<(), BookFault>
+    ensures made { OnOk result (Made book.old book.new 0 (tile_call (option_copied state.entry) id) replies.Done) }
+    ensures refused { IfErr result (λ f. Refuses book.old book.new 0 (tile_call (option_copied state.entry) id) f) }
+{
+    match state {
+        Some(state) => book.put_back(0, id, state),
+        None => book.request_stop(0, id),
+    }
+}
+
+/// Asks the tile that begins at a cut, and isn't closed, and shows it. Refused where there is none, and as the book refuses it.
+fn ask_tile(
+    book: &mut Book<'_>,
+    lo: Option<&[u32]>,
+    state: Option<&State>,
+    text: &mut Vec<u8>,
+) -> Result<(), AllocError>
+    ensures made { OnOk result (book.new ≡ (answer_of_cut book.old (option_copied lo.entry) (option_copied state.entry)).book) }
+    ensures text { OnOk result (text.new.items ≡ text.old.items
+        ++ text_of (answer_of_cut book.old (option_copied lo.entry) (option_copied state.entry)).lines) }
+    ensures left { OnErr result ((book.new ≡ book.old)
+        ⊎ (book.new ≡ (answer_of_cut book.old (option_copied lo.entry) (option_copied state.entry)).book)) }
+{
+    let Some(place) = place_at(book, lo) else {
+        return write_book_fault(text, &BookFault::UnknownBranch);
+    };
+    let id = id_at(book, place);
+    match ask(book, id, state) {
+        Ok(()) => write_tile_at(text, book, place),
+        Err(fault) => write_book_fault(text, &fault),
+    }
+}
+
+/// `hold`: asks the tile that begins at a cut, and isn't closed, to stop. Refused where there is none.
+#[tactic(auto, unfolding(crate::specs::Tiles::hold))]
+pub fn hold(book: &mut Book<'_>, lo: Option<&[u32]>, text: &mut Vec<u8>) -> Result<(), AllocError>
+    ensures made { OnOk result (book.new ≡ (hold book.old (option_copied lo.entry)).book) }
+    ensures text { OnOk result (text.new.items ≡ text.old.items ++ text_of (hold book.old (option_copied lo.entry)).lines) }
+    ensures left { OnErr result ((book.new ≡ book.old) ⊎ (book.new ≡ (hold book.old (option_copied lo.entry)).book)) }
+{
+    ask_tile(book, lo, None, text)
+}
+
+/// `putback`: takes what was posted after a state out of the tile that begins at a cut, and isn't closed. Refused where there is
+/// none, and as the book refuses it.
+#[tactic(auto, unfolding(crate::specs::Tiles::put_back))]
+pub fn put_back(
+    book: &mut Book<'_>,
+    lo: Option<&[u32]>,
+    state: &State,
+    text: &mut Vec<u8>,
+) -> Result<(), AllocError>
+    ensures made { OnOk result (book.new ≡ (put_back book.old (option_copied lo.entry) (state_value state.now)).book) }
+    ensures text { OnOk result (text.new.items ≡ text.old.items
+        ++ text_of (put_back book.old (option_copied lo.entry) (state_value state.now)).lines) }
+    ensures left { OnErr result ((book.new ≡ book.old)
+        ⊎ (book.new ≡ (put_back book.old (option_copied lo.entry) (state_value state.now)).book)) }
+{
+    ask_tile(book, lo, Some(state), text)
+}

@@ -1,0 +1,18 @@
+-- A desk: a book, and the worker that has one of its tiles open or none.
+use Rattle.std.specs.Prelude.{ℕ, List, Option}
+use Rattle.lab_book.specs.Book.{BookValue}
+use Rattle.lab_world.specs.Worker.{WorkerValue}
+
+-- a book and the worker with an open branch, if there is one
+pub record Desk : Type 0 where
+  pub book : BookValue
+  pub worker : Option WorkerValue
+
+-- this book and this worker, as a desk
+abbrev pub desk : BookValue → Option WorkerValue → Desk
+desk b w = record { book = b; worker = w }
+
+-- a text that is answered, with the book and the worker that are left
+pub record DeskAnswer : Type 0 where
+  pub text : List ℕ
+  pub desk : Desk

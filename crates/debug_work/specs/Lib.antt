@@ -1,0 +1,5 @@
+pub mod Walking
+pub mod Desk
+pub mod Entering
+pub mod Giving
+pub mod Parting

@@ -1,6 +1,5 @@
 //! Totals for each level.
-ghost use Rattle.std.specs.Prelude.{◌≡◌, ◌<◌, ◌≤◌, ◌+◌, ◌-◌, ◌^◌, ◌↔◌, ℕ, Some, IsTrue, IfOk, length, replicate, slice_get, slice_index};
-ghost use Rattle.x_steps.specs.Levels.{without_last_zeros};
+ghost use Rattle.std.specs.Prelude.{◌≡◌, ◌<◌, ◌≤◌, ◌+◌, ◌^◌, ℕ, IfOk, length, replicate, slice_index};
 ghost use Rattle.x_branches.specs.Refusals.{most_steps};
 
 use std::alloc::{AllocError, Global};
@@ -22,21 +21,5 @@ pub(crate) fn add_counts(totals: &mut [u128], counts: &[u32])
 {
     for (level, count) in counts.iter().enumerate() {
         totals[level] += *count as u128;
-    }
-}
-
-/// Whether the last of the totals is a zero.
-fn ends_in_zero(totals: &[u128]) -> bool
-    ensures { IsTrue result ↔ (slice_get totals.now (length totals.now - 1) ≡ Some 0) }
-{
-    matches!(totals.last(), Some(0))
-}
-
-/// Takes the zeros at the end away.
-pub(crate) fn drop_last_zeros(totals: &mut Vec<u128>)
-    ensures { totals.new.items ≡ without_last_zeros totals.old.items }
-{
-    while ends_in_zero(totals) {
-        totals.pop();
     }
 }

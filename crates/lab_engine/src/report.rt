@@ -1,5 +1,5 @@
 //! The report of a search, gathered walk by walk.
-ghost use Rattle.std.specs.Prelude.{◌≡◌, ◌++◌, length, replicate, IfOk, OnOk, IsTrue, ◌↔◌, ◌-◌, Some, slice_get};
+ghost use Rattle.std.specs.Prelude.{◌≡◌, ◌++◌, length, replicate, IfOk, OnOk};
 ghost use Rattle.text_lines.specs.Writing.{text_of};
 ghost use Rattle.lab_engine.specs.Account.{AreSums, with_walk, empty_account, kept_with, visits_with};
 ghost use Rattle.lab_engine.specs.Output.{tally_lines};
@@ -10,7 +10,7 @@ use cover_problem::Lists;
 use std::alloc::{AllocError, Global};
 use std::marker::Model;
 use text_lines::{write_number_line, write_numbers_line};
-use x_steps::{Event, Walk};
+use x_steps::{Event, Walk, drop_last_zeros};
 
 /// The visits that are kept, and the numbers of visits, of steps, and of X2 states at each level.
 #[derive(Drop)]
@@ -54,22 +54,6 @@ fn add_each(totals: &mut [Count], counts: &[u32]) -> Result<(), AllocError>
         totals[level].add(*count)?;
     }
     Ok(())
-}
-
-/// Whether the last of the counts is a zero.
-fn ends_in_zero(counts: &[u128]) -> bool
-    ensures { IsTrue result ↔ (slice_get counts.now (length counts.now - 1) ≡ Some 0) }
-{
-    matches!(counts.last(), Some(0))
-}
-
-/// Takes the zeros at the end away.
-fn drop_last_zeros(counts: &mut Vec<u128>)
-    ensures { counts.new.items ≡ without_last_zeros counts.old.items }
-{
-    while ends_in_zero(counts) {
-        counts.pop();
-    }
 }
 
 /// The counts as numbers.

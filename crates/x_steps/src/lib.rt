@@ -1,6 +1,7 @@
 //! Algorithm X, one step at a time: the state, the step table, the run, and the laws of the run.
 #![tactic(auto)]
 
+mod counts;
 mod covering;
 mod event;
 mod fault;
@@ -10,6 +11,7 @@ mod machine;
 mod marks;
 mod state;
 
+pub use counts::drop_last_zeros;
 pub use cover_problem::Refused;
 pub use event::Event;
 pub use fault::{AtFault, StepFault};

@@ -7,9 +7,10 @@ ghost use Rattle.x_branches.specs.Branch.{end_of};
 ghost use Rattle.lab_book.specs.Posted.{posted_count, posted_steps, posted_levels, posted_visits, AllClosed};
 
 use crate::book::Book;
-use crate::totals::{drop_last_zeros, no_totals};
+use crate::totals::no_totals;
 use cover_problem::Lists;
 use std::alloc::AllocError;
+use x_steps::drop_last_zeros;
 
 impl<'p> Book<'p> {
     /// Whether all tiles are closed.

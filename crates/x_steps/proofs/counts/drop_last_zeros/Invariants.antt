@@ -1,6 +1,6 @@
 use Rattle.std.proofs.Common.{◌≡◌, vec_len}
 use Rattle.x_steps.specs.Levels.{without_last_zeros}
-use Rattle.lab_engine.proofs.report.drop_last_zeros.Given as goal
+use Rattle.x_steps.proofs.counts.drop_last_zeros.Given as goal
 
 abbrev pub invariant-loop-counts : goal.invariant-loop-counts
 invariant-loop-counts l = without_last_zeros l.counts.items ≡ without_last_zeros l.fn.counts.items

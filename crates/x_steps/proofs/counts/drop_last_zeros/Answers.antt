@@ -1,7 +1,7 @@
 use Rattle.std.proofs.Common.{◌∙◌, sym, refl}
 use Rattle.std.proofs.lemmas.Bool.{false≢true}
 use Rattle.x_steps.proofs.ZeroLemmas.{zero_taken, no_zero_left}
-use Rattle.lab_engine.proofs.report.drop_last_zeros.Goals as goal
+use Rattle.x_steps.proofs.counts.drop_last_zeros.Goals as goal
 
 pub loop-counts-preserved : goal.loop-counts-preserved
 loop-counts-preserved c =

@@ -6,6 +6,7 @@ use cover_links::LinkTable;
 use cover_problem::{PlainTable, Problem, Table, read_cover};
 use drawn_problems::{draw, drawn_options, state_of, text_of};
 use std::alloc::{AllocError, Global};
+use std::process::Abort;
 use std::test::Fail;
 use x_branches::{Runner, Stretch};
 use x_steps::{Cursor, Label, Machine, State, no_counts};
@@ -85,7 +86,7 @@ impl Tally {
 }
 
 /// The run by single steps.
-fn note_run<T: Table>(machine: &mut Machine<'_, T>, tally: &mut Tally) -> Result<(), AllocError> {
+fn note_run<T: Table>(machine: &mut Machine<'_, T>, tally: &mut Tally) -> Result<(), Fail> {
     for _ in 0..100_000 {
         if machine.state().label == Label::Done {
             return Ok(());
@@ -96,14 +97,19 @@ fn note_run<T: Table>(machine: &mut Machine<'_, T>, tally: &mut Tally) -> Result
     Ok(())
 }
 
+/// The run of a problem from X1 on, by single steps.
+fn note_whole(alloc: Global, problem: &Problem, tally: &mut Tally) -> Result<(), Fail> {
+    let table = PlainTable::new(alloc, problem)?;
+    match Machine::new(alloc, problem, table) {
+        Ok(mut machine) => note_run(&mut machine, tally),
+        Err(_) => Err(Fail::from("no machine")),
+    }
+}
+
 /// What the run of a problem has, by single steps.
 fn one_run(alloc: Global, problem: &Problem) -> Result<Tally, Fail> {
-    let table = PlainTable::new(alloc, problem)?;
     let mut tally = Tally::new(alloc, problem.items())?;
-    match Machine::new(alloc, problem, table) {
-        Ok(mut machine) => note_run(&mut machine, &mut tally)?,
-        Err(_) => return Err(Fail::from("no machine")),
-    }
+    note_whole(alloc, problem, &mut tally)?;
     Ok(tally)
 }
 
@@ -116,34 +122,37 @@ struct Parts {
 }
 
 impl Parts {
-    fn add(&mut self, stretch: &Stretch<'_>) -> Result<(), AllocError> {
-        self.end = stretch.to().copy()?;
-        self.tally.add(stretch)
-    }
-
-    /// Takes the stretch out, which has to begin where the last one ended.
-    fn post<T: Table>(&mut self, runner: &mut Runner<'_, T>) -> Result<(), Fail> {
-        let stretch = runner.take_stretch()?;
+    /// Adds a stretch, which has to begin where the last one ended.
+    fn add(&mut self, stretch: &Stretch<'_>) -> Result<(), Fail> {
         if !stretch.from().same(&self.end) {
             return Err(Fail::from("a stretch begins elsewhere"));
         }
-        self.add(&stretch)?;
-        Ok(())
+        self.end = stretch.to().copy()?;
+        Ok(self.tally.add(stretch)?)
+    }
+
+    /// Takes the stretch out, and adds it.
+    fn post<T: Table>(&mut self, runner: &mut Runner<'_, T>) -> Result<(), Fail> {
+        let stretch = runner.take_stretch()?;
+        self.add(&stretch)
+    }
+
+    fn push_cut(&mut self, alloc: Global, path: &[u32]) -> Result<(), AllocError> {
+        let path = Vec::from_slice(alloc, path)?;
+        Ok(self.cuts.push(path)?)
     }
 
     /// Ends the branch at the first option that is untried, if there is one.
     fn cut<T: Table>(&mut self, alloc: Global, runner: &mut Runner<'_, T>) -> Result<(), Fail> {
-        for level in 0..6 {
-            let untried = runner.untried(level)?;
-            if let Some(option) = untried.first() {
-                let Ok(cut) = runner.cut(level, *option) else {
-                    return Err(Fail::from("no cut"));
-                };
-                self.cuts.push(Vec::from_slice(alloc, cut.path())?)?;
-                return value_of(runner.shorten(cut));
-            }
-        }
-        Ok(())
+        let Some((level, option)) = first_untried(runner)? else {
+            return Ok(());
+        };
+        let Ok(cut) = runner.cut(level, option) else {
+            return Err(Fail::from("no cut"));
+        };
+        let pushed = self.push_cut(alloc, cut.path());
+        value_of(runner.shorten(cut))?;
+        Ok(pushed?)
     }
 
     /// Does what is drawn; false where there is no step any more.
@@ -190,6 +199,17 @@ impl Parts {
         let mut runner = runner_of::<T>(alloc, problem, first, last_of(&self.cuts))?;
         self.walk(alloc, &mut runner, seed)
     }
+}
+
+/// The first option that is untried, and its level.
+fn first_untried<T: Table>(runner: &Runner<'_, T>) -> Result<Option<(usize, u32)>, AllocError> {
+    for level in 0..6 {
+        let untried = runner.untried(level)?;
+        if let Some(option) = untried.first() {
+            return Ok(Some((level, *option)));
+        }
+    }
+    Ok(None)
 }
 
 /// Takes the stretch out, and joins it again.
@@ -239,14 +259,24 @@ fn is_its_parts(alloc: Global, problem: &Problem, seed: &mut u64) -> Result<bool
     Ok(run == plain && run == links)
 }
 
+/// Whether the run of the text's problem is its parts.
+fn is_text_its_parts(alloc: Global, text: &str, seed: &mut u64) -> Result<bool, Fail> {
+    let problem = read_cover(alloc, text.as_bytes())?;
+    is_its_parts(alloc, &problem, seed)
+}
+
+/// Tells a text whose problem's run isn't its parts.
+fn assert_parts(rt: &impl Abort, alloc: Global, text: &str, seed: &mut u64) -> Result<(), Fail> {
+    assert!(rt; is_text_its_parts(alloc, text, seed)?, "for {text}");
+    Ok(())
+}
+
 #[test]
 fn drawn_runs_are_their_parts(rt: HostRuntime) -> Result<(), Fail> {
-    let alloc = rt.alloc();
     let mut seed = 5;
     for round in 0..60 {
-        let text = drawn_text(alloc, round % 5 + 1, &mut seed)?;
-        let problem = read_cover(alloc, text.as_bytes())?;
-        assert!(rt; is_its_parts(alloc, &problem, &mut seed)?, "for {text}");
+        let text = drawn_text(rt.alloc(), round % 5 + 1, &mut seed)?;
+        assert_parts(&rt, rt.alloc(), &text, &mut seed)?;
     }
     Ok(())
 }

@@ -67,7 +67,10 @@ fn states_come_in_the_order_of_the_run(rt: HostRuntime) -> Result<(), Fail> {
 }
 
 /// A step after the option 4, at the option 5, and how it stands to what lies below that option.
-const STEPS: [(Label, Ordering); 2] = [(Label::X5, Ordering::Less), (Label::X6, Ordering::Greater)];
+static STEPS: [(Label, Ordering); 2] = [
+    (Label::X5, Ordering::Less),
+    (Label::X6, Ordering::Greater),
+];
 
 #[test]
 fn a_step_comes_before_or_after_what_lies_below(rt: HostRuntime) -> Result<(), Fail> {

@@ -2,6 +2,7 @@
 use crate::setting::{refusal, runner_of, small, whole};
 use cover_problem::{PlainTable, Problem, Table};
 use std::alloc::Global;
+use std::process::Abort;
 use std::test::Fail;
 use x_branches::{Runner, RunnerFault, Stretch};
 use x_steps::{Cursor, Event, Label, State, Walk};
@@ -118,6 +119,21 @@ fn has_ends_of(stretch: &Stretch<'_>, other: &Stretch<'_>) -> bool {
     problem && stretch.from().same(other.from()) && stretch.to().same(other.to())
 }
 
+/// The same of a stretch and its copy, which has its ends.
+fn is_copied(
+    stretch: &Stretch<'_>,
+    steps: u32,
+    visits: &[&[u32]],
+    levels: &[u32],
+) -> Result<bool, Fail> {
+    let copy = stretch.copy()?;
+    Ok(
+        has_ends_of(&copy, stretch)
+            && is_stretch(stretch, steps, visits, levels)
+            && is_stretch(&copy, steps, visits, levels),
+    )
+}
+
 fn hands_out<T: Table>(
     runner: &mut Runner<'_, T>,
     steps: u32,
@@ -125,12 +141,7 @@ fn hands_out<T: Table>(
     levels: &[u32],
 ) -> Result<bool, Fail> {
     let stretch = runner.take_stretch()?;
-    let copy = stretch.copy()?;
-    Ok(
-        has_ends_of(&copy, &stretch)
-            && is_stretch(&stretch, steps, visits, levels)
-            && is_stretch(&copy, steps, visits, levels),
-    )
+    is_copied(&stretch, steps, visits, levels)
 }
 
 /// Whether a runner tells what it has to, row by row.
@@ -202,7 +213,7 @@ const WALKED_TO_A_CUT: [Row; 6] = [
 ];
 
 /// After which choices a runner begins, what is asked of it, and what it has to tell.
-const PLAYS: [(&[u32], &[Row]); 5] = [
+static PLAYS: [(&[u32], &[Row]); 5] = [
     (&[], &CUT_AND_WALKED),
     (&[4], &REST),
     (&[], &JOINED_AGAIN),
@@ -210,64 +221,87 @@ const PLAYS: [(&[u32], &[Row]); 5] = [
     (&[], &WALKED_TO_A_CUT),
 ];
 
-#[test]
-fn a_runner_tells_what_it_has_to(rt: HostRuntime) -> Result<(), Fail> {
-    let alloc = rt.alloc();
-    let problem = small(alloc)?;
+/// Tells a runner that tells something else.
+fn assert_plays(rt: &impl Abort, alloc: Global, problem: &Problem) -> Result<(), Fail> {
     for (first, rows) in PLAYS {
-        assert!(rt; plays(alloc, &problem, first, rows)?);
+        assert!(rt; plays(alloc, problem, first, rows)?);
     }
     Ok(())
+}
+
+#[test]
+fn a_runner_tells_what_it_has_to(rt: HostRuntime) -> Result<(), Fail> {
+    let problem = small(rt.alloc())?;
+    assert_plays(&rt, rt.alloc(), &problem)
+}
+
+/// The stretch of a runner's next so many steps.
+fn stretch_of<'p, T: Table>(runner: &mut Runner<'p, T>, steps: u32) -> Result<Stretch<'p>, Fail> {
+    advances(runner, steps);
+    Ok(runner.take_stretch()?)
 }
 
 /// The stretch from X1 up to the cut 4.
 fn first_stretch<'p>(alloc: Global, problem: &'p Problem) -> Result<Stretch<'p>, Fail> {
     let mut runner = whole(alloc, problem)?;
-    advances(&mut runner, 20);
-    Ok(runner.take_stretch()?)
+    stretch_of(&mut runner, 20)
 }
 
-/// Why a stretch isn't joined to a runner's from the cut 4 on, if it isn't: after so many steps, of which the stretch is taken out or
-/// is left.
-fn join_refused<'p>(
+/// Why the first stretch isn't joined to a runner's, if it isn't.
+fn join_refused<'p, T: Table>(
     alloc: Global,
     problem: &'p Problem,
-    stretch: Stretch<'p>,
-    steps: u32,
-    takes: bool,
+    runner: &mut Runner<'p, T>,
 ) -> Result<Option<RunnerFault>, Fail> {
-    let mut runner = runner_of::<PlainTable>(alloc, problem, &[4], &[])?;
-    advances(&mut runner, steps);
-    if takes {
-        runner.take_stretch()?;
-    }
+    let stretch = first_stretch(alloc, problem)?;
     Ok(refusal(runner.reopen(stretch)))
 }
 
-/// Why the first stretch isn't joined so, if it isn't.
+/// The same after so many steps of the runner, of which the stretch is taken out or is left.
+fn join_refused_after<'p, T: Table>(
+    alloc: Global,
+    problem: &'p Problem,
+    runner: &mut Runner<'p, T>,
+    steps: u32,
+    takes: bool,
+) -> Result<Option<RunnerFault>, Fail> {
+    if takes {
+        let _taken = stretch_of(runner, steps)?;
+    } else {
+        advances(runner, steps);
+    }
+    join_refused(alloc, problem, runner)
+}
+
+/// The same of a runner from the cut 4 on.
 fn first_refused(
     alloc: Global,
     problem: &Problem,
     steps: u32,
     takes: bool,
 ) -> Result<Option<RunnerFault>, Fail> {
-    join_refused(alloc, problem, first_stretch(alloc, problem)?, steps, takes)
+    let mut runner = runner_of::<PlainTable>(alloc, problem, &[4], &[])?;
+    join_refused_after(alloc, problem, &mut runner, steps, takes)
 }
 
-const FIRST_REFUSED: [(u32, bool, RunnerFault); 3] = [
+static FIRST_REFUSED: [(u32, bool, RunnerFault); 3] = [
     (0, true, RunnerFault::OutsideBranch),
     (23, true, RunnerFault::NotAtMark),
     (5, false, RunnerFault::NotAtMark),
 ];
 
-#[test]
-fn a_stretch_from_before_the_branch_is_refused(rt: HostRuntime) -> Result<(), Fail> {
-    let alloc = rt.alloc();
-    let problem = small(alloc)?;
+/// Tells a join that isn't refused so.
+fn assert_refused(rt: &impl Abort, alloc: Global, problem: &Problem) -> Result<(), Fail> {
     for (steps, takes, fault) in FIRST_REFUSED {
-        assert!(rt; first_refused(alloc, &problem, steps, takes)? == Some(fault));
+        assert!(rt; first_refused(alloc, problem, steps, takes)? == Some(fault));
     }
     Ok(())
+}
+
+#[test]
+fn a_stretch_from_before_the_branch_is_refused(rt: HostRuntime) -> Result<(), Fail> {
+    let problem = small(rt.alloc())?;
+    assert_refused(&rt, rt.alloc(), &problem)
 }
 
 /// Whether a stretch of a problem begins and ends at a state and has nothing in it.
@@ -280,11 +314,20 @@ fn is_no_step(stretch: &Stretch<'_>, problem: &Problem, state: &State) -> bool {
         && stretch.levels().is_empty()
 }
 
+/// The same of its copy.
+fn is_copied_no_step(
+    stretch: &Stretch<'_>,
+    problem: &Problem,
+    state: &State,
+) -> Result<bool, Fail> {
+    let copy = stretch.copy()?;
+    Ok(is_no_step(&copy, problem, state))
+}
+
 /// Whether the stretch that a runner of a problem at its mark hands out, copied, begins and ends there and has nothing in it.
 fn hands_out_none<T: Table>(runner: &mut Runner<'_, T>, problem: &Problem) -> Result<bool, Fail> {
     let stretch = runner.take_stretch()?;
-    let copy = stretch.copy()?;
-    Ok(is_no_step(&copy, problem, runner.state()))
+    is_copied_no_step(&stretch, problem, runner.state())
 }
 
 /// The same of a new runner.
@@ -293,10 +336,13 @@ fn hands_out_no_step(alloc: Global, problem: &Problem) -> Result<bool, Fail> {
     hands_out_none(&mut runner, problem)
 }
 
+fn assert_no_step(rt: &impl Abort, alloc: Global, problem: &Problem) -> Result<(), Fail> {
+    assert!(rt; hands_out_no_step(alloc, problem)?);
+    Ok(())
+}
+
 #[test]
 fn a_runner_at_its_mark_hands_out_no_step(rt: HostRuntime) -> Result<(), Fail> {
-    let alloc = rt.alloc();
-    let problem = small(alloc)?;
-    assert!(rt; hands_out_no_step(alloc, &problem)?);
-    Ok(())
+    let problem = small(rt.alloc())?;
+    assert_no_step(&rt, rt.alloc(), &problem)
 }

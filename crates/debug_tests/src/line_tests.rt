@@ -7,7 +7,7 @@ use std::alloc::{AllocError, Global};
 use text_lines::Refusal;
 
 /// Command lines over the small problem, each with the command that it is, or with the fault.
-const LINES: [(&[u8], &str); 86] = [
+static LINES: [(&[u8], &str); 86] = [
     (b"", "Nothing"),
     (b"\r", "Nothing"),
     (b" \t \r", "Nothing"),
@@ -112,7 +112,7 @@ const LINES: [(&[u8], &str); 86] = [
 ];
 
 /// Command lines, each with the engine's command that it is.
-const ENGINE_LINES: [(&[u8], Option<EngineCommand>); 14] = [
+static ENGINE_LINES: [(&[u8], Option<EngineCommand>); 14] = [
     (b"quit", Some(EngineCommand::Quit)),
     (b"quit now", None),
     (b"load 13", Some(EngineCommand::Load(13))),
@@ -146,9 +146,9 @@ fn is_read(alloc: Global, problem: &Problem, line: &[u8], command: &str) -> bool
     }
 }
 
-/// The place of the first of the lines that is read otherwise.
-fn wrong_line(alloc: Global, problem: &Problem) -> Option<usize> {
-    LINES
+/// The place of the first of these lines that is read otherwise.
+fn wrong_line(alloc: Global, problem: &Problem, lines: &[(&[u8], &str)]) -> Option<usize> {
+    lines
         .iter()
         .position(|(line, command)| !is_read(alloc, problem, line, command))
 }
@@ -158,27 +158,27 @@ fn is_engines(line: &[u8], command: Option<EngineCommand>) -> bool {
     read_engine_command(line) == command
 }
 
-/// The place of the first of the lines that the engine reads otherwise.
-fn wrong_engine_line() -> Option<usize> {
-    ENGINE_LINES
+/// The place of the first of these lines that the engine reads otherwise.
+fn wrong_engine_line(lines: &[(&[u8], Option<EngineCommand>)]) -> Option<usize> {
+    lines
         .iter()
         .position(|(line, command)| !is_engines(line, *command))
 }
 
-/// Whether each line is read as its command.
-fn are_read(alloc: Global) -> bool {
+/// Whether each of these lines over the small problem is read as its command.
+fn are_read(alloc: Global, lines: &[(&[u8], &str)]) -> bool {
     match read_cover(alloc, SMALL.as_bytes()) {
-        Ok(problem) => wrong_line(alloc, &problem).is_none(),
+        Ok(problem) => wrong_line(alloc, &problem, lines).is_none(),
         Err(_) => false,
     }
 }
 
 #[test]
 fn lines_are_read(rt: HostRuntime) {
-    assert!(rt; are_read(rt.alloc()));
+    assert!(rt; are_read(rt.alloc(), &LINES));
 }
 
 #[test]
 fn engine_lines_are_read(rt: HostRuntime) {
-    assert!(rt; wrong_engine_line().is_none());
+    assert!(rt; wrong_engine_line(&ENGINE_LINES).is_none());
 }

@@ -32,7 +32,7 @@ enum Reply {
 }
 
 /// Replies, each with its text.
-const REPLIES: [(Reply, &[u8]); 36] = [
+static REPLIES: [(Reply, &[u8]); 36] = [
     (Reply::Plain(Plain::End), b"end\n"),
     (Reply::Plain(Plain::Parked), b"parked\n"),
     (Reply::Plain(Plain::Closed), b"closed\n"),
@@ -182,9 +182,9 @@ fn is_written(alloc: Global, reply: &Reply, wanted: &[u8]) -> bool {
     }
 }
 
-/// The place of the first of the replies that is written otherwise.
-fn wrong_reply(alloc: Global) -> Option<usize> {
-    REPLIES
+/// The place of the first of these replies that is written otherwise.
+fn wrong_reply(alloc: Global, replies: &[(Reply, &[u8])]) -> Option<usize> {
+    replies
         .iter()
         .position(|(reply, text)| !is_written(alloc, reply, text))
 }
@@ -200,17 +200,22 @@ fn write_rows(text: &mut Vec<u8>, problem: &Problem) -> Result<(), AllocError>
     write_lists(text, problem, Listed::Active, &rows)
 }
 
-/// Whether lines that name items are written as their text.
-fn are_named(alloc: Global) -> bool {
-    let Ok(problem) = read_cover(alloc, SMALL.as_bytes()) else {
-        return false;
-    };
+/// Whether lines that name items of a problem are written as their text.
+fn are_named_in(alloc: Global, problem: &Problem) -> bool {
     if problem.items() < 7 || problem.options() < 6 {
         return false;
     }
     let mut text = Vec::new(alloc);
-    match write_named(&mut text, &problem) {
+    match write_named(&mut text, problem) {
         Ok(()) => text.as_slice() == NAMED,
+        Err(_) => false,
+    }
+}
+
+/// Whether they are so of the small problem.
+fn are_named(alloc: Global) -> bool {
+    match read_cover(alloc, SMALL.as_bytes()) {
+        Ok(problem) => are_named_in(alloc, &problem),
         Err(_) => false,
     }
 }
@@ -235,7 +240,7 @@ fn are_visits(alloc: Global) -> bool {
 
 #[test]
 fn replies_are_written(rt: HostRuntime) {
-    assert!(rt; wrong_reply(rt.alloc()).is_none());
+    assert!(rt; wrong_reply(rt.alloc(), &REPLIES).is_none());
 }
 
 #[test]

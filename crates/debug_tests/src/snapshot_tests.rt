@@ -3,9 +3,10 @@
 use cover_problem::{Problem, read_cover};
 use drawn_problems::{SMALL, state_of};
 use std::alloc::{AllocError, Global};
+use std::process::Abort;
 use std::test::Fail;
 use x_snapshot::{Break, Snapshot, SnapshotFault, write_snapshot};
-use x_steps::{Cursor, Label};
+use x_steps::{Cursor, Label, State};
 
 /// A problem with a secondary item.
 const SECONDARY: &str = "items a\nmaybe b\noption a b\noption a";
@@ -108,7 +109,7 @@ const AT_START: Row = Row {
 };
 
 /// Problems and parts, each with the text that is written of the snapshot.
-const WRITTEN: [(&str, Row, &[u8]); 4] = [
+static WRITTEN: [(&str, Row, &[u8]); 4] = [
     (SMALL, AT_VISIT, FROM_FOUR),
     (
         SMALL,
@@ -139,7 +140,7 @@ const WRITTEN: [(&str, Row, &[u8]); 4] = [
 ];
 
 /// Parts over the small problem, each with the fault that is the first.
-const REFUSED: [(Row, SnapshotFault); 18] = [
+static REFUSED: [(Row, SnapshotFault); 18] = [
     (
         Row {
             lo: Some(&[9]),
@@ -283,35 +284,50 @@ fn copied(alloc: Global, path: Option<&[u32]>) -> Result<Option<Vec<u32>>, Alloc
     }
 }
 
-/// The snapshot of a problem with these parts; None out of memory.
-fn snapshot_with(
-    alloc: Global,
-    problem: Problem,
-    row: &Row,
-) -> Option<Result<Snapshot, SnapshotFault>> {
-    let lo = copied(alloc, row.lo).ok()?;
-    let hi = copied(alloc, row.hi).ok()?;
-    let state = state_of(alloc, row.label, row.path, row.cursor).ok()?;
-    let breaks = Vec::from_slice(alloc, row.breaks).ok()?;
+/// The cuts of a row, in memory of their own.
+fn cuts_of(alloc: Global, row: &Row) -> Result<(Option<Vec<u32>>, Option<Vec<u32>>), AllocError> {
+    let lo = copied(alloc, row.lo)?;
+    Ok((lo, copied(alloc, row.hi)?))
+}
+
+/// The state and the breakpoints of a row, in memory of their own.
+fn state_and_breaks(alloc: Global, row: &Row) -> Result<(State, Vec<Break>), AllocError> {
+    let state = state_of(alloc, row.label, row.path, row.cursor)?;
+    Ok((state, Vec::from_slice(alloc, row.breaks)?))
+}
+
+/// The snapshot of a problem with the parts of a row.
+fn snapshot_with(alloc: Global, problem: Problem, row: &Row) -> Result<Snapshot, SnapshotFault> {
+    let (Ok((lo, hi)), Ok((state, breaks))) = (cuts_of(alloc, row), state_and_breaks(alloc, row))
+    else {
+        return Err(SnapshotFault::OutOfMemory);
+    };
     match Snapshot::new(alloc, problem, lo, hi, state, breaks) {
-        Ok(snapshot) => Some(Ok(snapshot)),
-        Err(refused) => Some(Err(refused.fault)),
+        Ok(snapshot) => Ok(snapshot),
+        Err(refused) => Err(refused.fault),
     }
 }
 
-/// The snapshot of a cover text's problem with these parts.
-fn snapshot_of(alloc: Global, cover: &str, row: &Row) -> Option<Result<Snapshot, SnapshotFault>> {
-    let problem = read_cover(alloc, cover.as_bytes()).ok()?;
-    snapshot_with(alloc, problem, row)
+/// The snapshot of a cover text's problem with the parts of a row.
+fn snapshot_of(alloc: Global, cover: &str, row: &Row) -> Result<Snapshot, SnapshotFault> {
+    match read_cover(alloc, cover.as_bytes()) {
+        Ok(problem) => snapshot_with(alloc, problem, row),
+        Err(_) => Err(SnapshotFault::OutOfMemory),
+    }
+}
+
+/// Whether a snapshot is written as this text.
+fn has_text(alloc: Global, snapshot: &Snapshot, text: &[u8]) -> bool {
+    match write_snapshot(alloc, snapshot) {
+        Ok(written) => written.as_slice() == text,
+        Err(_) => false,
+    }
 }
 
 /// Whether these parts are written as this text.
 fn is_written(alloc: Global, cover: &str, row: &Row, text: &[u8]) -> bool {
-    let Some(Ok(snapshot)) = snapshot_of(alloc, cover, row) else {
-        return false;
-    };
-    match write_snapshot(alloc, &snapshot) {
-        Ok(written) => written.as_slice() == text,
+    match snapshot_of(alloc, cover, row) {
+        Ok(snapshot) => has_text(alloc, &snapshot, text),
         Err(_) => false,
     }
 }
@@ -319,22 +335,20 @@ fn is_written(alloc: Global, cover: &str, row: &Row, text: &[u8]) -> bool {
 /// Whether these parts over the small problem have this fault.
 fn is_refused(alloc: Global, row: &Row, fault: SnapshotFault) -> bool {
     match snapshot_of(alloc, SMALL, row) {
-        Some(Err(found)) => found == fault,
-        _ => false,
+        Ok(_) => false,
+        Err(found) => found == fault,
     }
 }
 
 /// The place of the first of these parts that are written otherwise.
-fn wrong_text(alloc: Global) -> Option<usize> {
-    WRITTEN
-        .iter()
+fn wrong_text(alloc: Global, rows: &[(&str, Row, &[u8])]) -> Option<usize> {
+    rows.iter()
         .position(|(cover, row, text)| !is_written(alloc, cover, row, text))
 }
 
 /// The place of the first of these parts with another fault.
-fn wrong_fault(alloc: Global) -> Option<usize> {
-    REFUSED
-        .iter()
+fn wrong_fault(alloc: Global, rows: &[(Row, SnapshotFault)]) -> Option<usize> {
+    rows.iter()
         .position(|(row, fault)| !is_refused(alloc, row, *fault))
 }
 
@@ -343,27 +357,37 @@ fn snapshots_are_written(rt: HostRuntime) {
     assert!(rt; FROM_FOUR.len() == 150);
     assert!(rt; WITH_LEVEL.len() == 173);
     assert!(rt; WITH_SECONDARY.len() == 99);
-    assert!(rt; wrong_text(rt.alloc()).is_none());
+    assert!(rt; wrong_text(rt.alloc(), &WRITTEN).is_none());
 }
 
 #[test]
 fn the_first_fault_is_told(rt: HostRuntime) {
-    assert!(rt; wrong_fault(rt.alloc()).is_none());
+    assert!(rt; wrong_fault(rt.alloc(), &REFUSED).is_none());
 }
 
-/// The parts that a snapshot tells are those that it was made of.
-#[test]
-fn parts_are_told(rt: HostRuntime) -> Result<(), Fail> {
-    let found = snapshot_of(rt.alloc(), SMALL, &AT_VISIT);
-    let Some(Ok(snapshot)) = found else {
-        return Err("no snapshot".into());
-    };
+/// Tells the first part of the snapshot `AT_VISIT` that is another.
+fn assert_parts(rt: &impl Abort, snapshot: &Snapshot) {
     assert!(rt; snapshot.problem().options() == 6);
     assert!(rt; snapshot.lo() == Some([4u32].as_slice()));
     assert!(rt; snapshot.hi().is_none());
     assert!(rt; snapshot.state().path.as_slice() == [4u32, 5, 1].as_slice());
     assert!(rt; snapshot.breaks().is_empty());
+}
+
+/// The parts that a snapshot tells are those that it was made of.
+#[test]
+fn parts_are_told(rt: HostRuntime) -> Result<(), Fail> {
+    match snapshot_of(rt.alloc(), SMALL, &AT_VISIT) {
+        Ok(snapshot) => {
+            assert_parts(&rt, &snapshot);
+            Ok(())
+        }
+        Err(_) => Err("no snapshot".into()),
+    }
+}
+
+#[test]
+fn faults_have_numbers_and_names(rt: HostRuntime) {
     assert!(rt; SnapshotFault::OutsideBranch.number() == Some(6));
     assert!(rt; SnapshotFault::OutsideBranch.name() == "OutsideBranch");
-    Ok(())
 }

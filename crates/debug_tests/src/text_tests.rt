@@ -6,7 +6,7 @@ use std::test::Fail;
 use x_snapshot::{Snapshot, SnapshotFault, read_snapshot, write_snapshot};
 
 /// Texts, each with its first fault.
-const FAULTS: [(&[u8], SnapshotFault); 19] = [
+static FAULTS: [(&[u8], SnapshotFault); 19] = [
     (b"", SnapshotFault::Truncated),
     (b"hello", SnapshotFault::Truncated),
     (b"hello\n", SnapshotFault::BadHeader),
@@ -45,7 +45,7 @@ const FAULTS: [(&[u8], SnapshotFault); 19] = [
 const FIRST: &[u8] = b"polysnap 1\nproblem 2\nitems a\noption a\n";
 
 /// What may follow it, each with the first fault.
-const FIRST_FAULTS: [(&[u8], SnapshotFault); 22] = [
+static FIRST_FAULTS: [(&[u8], SnapshotFault); 22] = [
     (b"from 04\n", SnapshotFault::BadState),
     (b"from 0\n", SnapshotFault::BadState),
     (b"from\n", SnapshotFault::BadState),
@@ -106,7 +106,7 @@ const SECOND: &[u8] =
     b"polysnap 2\nproblem 2\nitems a\noption a\nfrom start\nto end\nstate X2 past\n";
 
 /// What may follow it, each with the first fault.
-const SECOND_FAULTS: [(&[u8], SnapshotFault); 18] = [
+static SECOND_FAULTS: [(&[u8], SnapshotFault); 18] = [
     (b"end\n", SnapshotFault::BadBreak),
     (b"breaks\n", SnapshotFault::BadBreak),
     (b"breaks 01\n", SnapshotFault::BadBreak),
@@ -133,7 +133,7 @@ const SECOND_FAULTS: [(&[u8], SnapshotFault); 18] = [
 ];
 
 /// Texts that are read.
-const READ: [&[u8]; 5] = [
+static READ: [&[u8]; 5] = [
     FROM_FOUR,
     WITH_LEVEL,
     WITH_SECONDARY,

@@ -9,7 +9,7 @@ const SECONDARY: &[u8] =
     b"items a b\nmaybe c\noption a c\noption b c\noption a\noption b\noption c\n";
 
 /// Texts of problems, each with numbers of options, and whether they are an exact cover.
-const ROWS: [(&[u8], &[u32], bool); 11] = [
+static ROWS: [(&[u8], &[u32], bool); 11] = [
     (SMALL, &[1, 4, 5], true),
     (SMALL, &[4, 5, 1], true),
     (SMALL, &[1, 1, 4, 5], false),

@@ -38,21 +38,16 @@ fn a_text_is_read_to_its_end(rt: HostRuntime) {
 #[test]
 fn a_line_is_taken_off(rt: HostRuntime) {
     let (line, rest) = split_line(b"items a b\r\noption a");
-    assert_eq!(rt; line, b"items a b\r".as_slice());
-    assert_eq!(rt; rest, b"option a".as_slice());
-    assert_eq!(rt; without_return(line), b"items a b".as_slice());
-    let (last, none) = split_line(b"option a");
-    assert_eq!(rt; last, b"option a".as_slice());
-    assert_eq!(rt; none.len(), 0);
+    assert!(rt; line == b"items a b\r".as_slice() && rest == b"option a".as_slice());
+    assert!(rt; without_return(line) == b"items a b".as_slice());
+    let (last, none) = split_line(rest);
+    assert!(rt; last == rest && none.is_empty());
 }
 
 #[test]
 fn only_one_return_is_dropped(rt: HostRuntime) {
-    assert_eq!(rt; outside_comment(b"a\r\r"), b"a\r".as_slice());
-    assert_eq!(rt;
-        outside_comment(b"piece A 000#x\r"),
-        b"piece A 000".as_slice()
-    );
+    assert!(rt; outside_comment(b"a\r\r") == b"a\r".as_slice());
+    assert!(rt; outside_comment(b"piece A 000#x\r") == b"piece A 000".as_slice());
     assert!(rt; !is_all_plain(b"a\r"));
     assert!(rt; is_all_plain(b"a\t~ "));
     assert!(rt; !is_all_plain(b"\x7f"));
@@ -61,16 +56,14 @@ fn only_one_return_is_dropped(rt: HostRuntime) {
 #[test]
 fn an_unended_line_is_told(rt: HostRuntime) {
     let (line, rest) = split_ended_line(b"from 4\nto end").expect(&rt, "a newline");
-    assert_eq!(rt; line, b"from 4".as_slice());
-    assert_eq!(rt; rest, b"to end".as_slice());
+    assert!(rt; line == b"from 4".as_slice() && rest == b"to end".as_slice());
     assert!(rt; split_ended_line(rest).is_none());
 }
 
 #[test]
 fn words_stand_between_blanks(rt: HostRuntime) {
     let (word, rest) = split_word(b"\t step  25 ").expect(&rt, "a word");
-    assert_eq!(rt; word, b"step".as_slice());
-    assert_eq!(rt; rest, b"  25 ".as_slice());
+    assert!(rt; word == b"step".as_slice() && rest == b"  25 ".as_slice());
     assert!(rt; has_words(rest));
     assert!(rt; !has_words(b" \t"));
 }
@@ -85,15 +78,26 @@ fn one_space_between_words(rt: HostRuntime) {
     assert!(rt; !is_spaced(b" to end"));
 }
 
+/// Words, each with the most that its number may be, and the number.
+static NUMBERS: [(&[u8], u32, Option<u32>); 7] = [
+    (b"0", 0, Some(0)),
+    (b"65535", 65535, Some(65535)),
+    (b"65536", 65535, None),
+    (b"4294967295", u32::MAX, Some(u32::MAX)),
+    (b"4294967296", u32::MAX, None),
+    (b"01", 9, None),
+    (b"1x", 9, None),
+];
+
 #[test]
 fn numbers_have_one_spelling(rt: HostRuntime) {
-    assert_eq!(rt; number(b"0", 0), Some(0));
-    assert_eq!(rt; number(b"65535", 65535), Some(65535));
-    assert_eq!(rt; number(b"65536", 65535), None);
-    assert_eq!(rt; number(b"4294967295", u32::MAX), Some(u32::MAX));
-    assert_eq!(rt; number(b"4294967296", u32::MAX), None);
-    assert_eq!(rt; number(b"01", 9), None);
-    assert_eq!(rt; number(b"1x", 9), None);
+    for (word, most, told) in NUMBERS {
+        assert!(rt; number(word, most) == told);
+    }
+}
+
+#[test]
+fn digits_are_told_from_other_words(rt: HostRuntime) {
     assert!(rt; is_all_digits(b"007"));
     assert!(rt; !is_all_digits(b"0x7"));
     assert!(rt; is_decimal(b"99999999999999999999"));

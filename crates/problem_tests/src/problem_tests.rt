@@ -2,9 +2,13 @@
 use crate::setting::{SMALL, many_options};
 use cover_problem::{Fault, Problem, ProblemFault, Refused, read_cover};
 use std::alloc::{AllocError, Global};
+use std::process::Abort;
 use std::test::Fail;
 
-type Made = Result<Problem, Refused<ProblemFault, (Vec<String>, Vec<Vec<u32>>)>>;
+/// What a problem is made of: names and options.
+type Parts = (Vec<String>, Vec<Vec<u32>>);
+
+type Made = Result<Problem, Refused<ProblemFault, Parts>>;
 
 /// The small problem.
 const NAMES: &[&str] = &["a", "b", "c", "d", "e", "f", "g"];
@@ -19,7 +23,7 @@ const OPTIONS: &[&[u32]] = &[
 ];
 
 /// Names, numbers of primary items and options, each with the first fault.
-const REFUSED: [(&[&str], u32, &[&[u32]], Fault); 10] = [
+static REFUSED: [(&[&str], u32, &[&[u32]], Fault); 10] = [
     (&[], 0, &[], Fault::NoItemLine),
     (&["a", "a"], 0, &[&[]], Fault::NoItemLine),
     (&["a", "b"], 3, &[], Fault::NoItemLine),
@@ -38,7 +42,7 @@ const REFUSED: [(&[&str], u32, &[&[u32]], Fault); 10] = [
 ];
 
 /// Problems, each with whether it is the one of a and b, both primary, with the option a b.
-const SAME: [(&[&str], u32, &[&[u32]], bool); 4] = [
+static SAME: [(&[&str], u32, &[&[u32]], bool); 4] = [
     (&["a", "b"], 2, &[&[1, 2]], true),
     (&["a", "b"], 1, &[&[1, 2]], false),
     (&["a", "c"], 2, &[&[1, 2]], false),
@@ -46,7 +50,7 @@ const SAME: [(&[&str], u32, &[&[u32]], bool); 4] = [
 ];
 
 /// Names, numbers of primary items and options, each with a text of the same problem.
-const TEXTS: [(&[&str], u32, &[&[u32]], &[u8]); 2] = [
+static TEXTS: [(&[&str], u32, &[&[u32]], &[u8]); 2] = [
     (NAMES, 7, OPTIONS, SMALL),
     (
         &["a", "b", "c"],
@@ -57,7 +61,7 @@ const TEXTS: [(&[&str], u32, &[&[u32]], &[u8]); 2] = [
 ];
 
 /// The faults with their numbers and names.
-const FAULTS: [(Fault, u8, &str); 7] = [
+static FAULTS: [(Fault, u8, &str); 7] = [
     (Fault::BadName, 1, "BadName"),
     (Fault::RepeatedItem, 2, "RepeatedItem"),
     (Fault::UnknownItem, 3, "UnknownItem"),
@@ -83,14 +87,18 @@ fn lists(alloc: Global, options: &[&[u32]]) -> Result<Vec<Vec<u32>>, AllocError>
     Ok(lists)
 }
 
+fn parts_of(alloc: Global, names: &[&str], options: &[&[u32]]) -> Result<Parts, AllocError> {
+    let names = words(alloc, names)?;
+    Ok((names, lists(alloc, options)?))
+}
+
 fn problem_of(
     alloc: Global,
     names: &[&str],
     primary: u32,
     options: &[&[u32]],
 ) -> Result<Made, AllocError> {
-    let names = words(alloc, names)?;
-    let options = lists(alloc, options)?;
+    let (names, options) = parts_of(alloc, names, options)?;
     Ok(Problem::new(alloc, names, primary, options))
 }
 
@@ -133,19 +141,23 @@ fn items_are_found_by_name(rt: HostRuntime) -> Result<(), Fail> {
     Ok(())
 }
 
+/// Tells a problem whose copy is another.
+fn assert_copied(rt: &impl Abort, problem: &Problem) -> Result<(), Fail> {
+    let copy = problem.copy()?;
+    assert!(rt; problem.same(&copy));
+    Ok(())
+}
+
 #[test]
 fn a_copy_is_the_same(rt: HostRuntime) -> Result<(), Fail> {
     let problem = small(rt.alloc())?;
-    let other = problem.copy()?;
-    assert!(rt; problem.same(&other));
-    Ok(())
+    assert_copied(&rt, &problem)
 }
 
 /// Whether this is the problem of a and b, both primary, with the option a b.
 fn is_a_b(alloc: Global, names: &[&str], primary: u32, options: &[&[u32]]) -> Result<bool, Fail> {
-    let problem = problem_of(alloc, &["a", "b"], 2, &[&[1, 2]])??;
-    let other = problem_of(alloc, names, primary, options)??;
-    Ok(problem.same(&other))
+    let problem = problem_of(alloc, names, primary, options)??;
+    is_read(alloc, &problem, b"items a b\noption a b")
 }
 
 #[test]
@@ -156,22 +168,33 @@ fn problems_differ_in_each_part(rt: HostRuntime) -> Result<(), Fail> {
     Ok(())
 }
 
-/// Whether it is a refusal with this fault, which hands both lists back.
-fn is_refused(made: Made, fault: Fault, names: Vec<String>, options: Vec<Vec<u32>>) -> bool {
+/// Whether it is a refusal with this fault, which hands these parts back.
+fn is_refused(made: Made, fault: Fault, parts: &Parts) -> bool {
     match made {
         Ok(_) => false,
-        Err(refused) => {
-            refused.fault == ProblemFault::Fault(fault) && refused.given == (names, options)
-        }
+        Err(refused) => refused.fault == ProblemFault::Fault(fault) && &refused.given == parts,
+    }
+}
+
+/// Whether names and options are refused with this fault, and come back.
+fn are_refused(
+    alloc: Global,
+    names: &[&str],
+    primary: u32,
+    options: &[&[u32]],
+    fault: Fault,
+) -> Result<bool, Fail> {
+    let parts = parts_of(alloc, names, options)?;
+    match problem_of(alloc, names, primary, options) {
+        Ok(made) => Ok(is_refused(made, fault, &parts)),
+        Err(_) => Ok(false),
     }
 }
 
 #[test]
 fn each_fault_is_the_first_one(rt: HostRuntime) -> Result<(), Fail> {
-    let alloc = rt.alloc();
     for (names, primary, options, fault) in REFUSED {
-        let made = problem_of(alloc, names, primary, options)?;
-        assert!(rt; is_refused(made, fault, words(alloc, names)?, lists(alloc, options)?));
+        assert!(rt; are_refused(rt.alloc(), names, primary, options, fault)?);
     }
     Ok(())
 }
@@ -224,35 +247,70 @@ fn is_too_large(made: Made, names: usize, options: usize) -> bool {
     }
 }
 
-/// Whether what is made is the problem that is read of this text.
-fn is_read(alloc: Global, made: Made, text: &[u8]) -> Result<bool, Fail> {
+/// How many items were made, if a problem was.
+fn items_of(made: Made) -> Option<u32> {
+    made.ok().map(|problem| problem.items())
+}
+
+/// How many options were made, if a problem was.
+fn options_of(made: Made) -> Option<u32> {
+    made.ok().map(|problem| problem.options())
+}
+
+/// Whether a problem is the one that is read of this text.
+fn is_read(alloc: Global, problem: &Problem, text: &[u8]) -> Result<bool, Fail> {
     let read = read_cover(alloc, text)?;
-    Ok(made?.same(&read))
+    Ok(problem.same(&read))
+}
+
+/// Whether names and options make the problem of this text.
+fn is_of_text(
+    alloc: Global,
+    names: &[&str],
+    primary: u32,
+    options: &[&[u32]],
+    text: &[u8],
+) -> Result<bool, Fail> {
+    let problem = problem_of(alloc, names, primary, options)??;
+    is_read(alloc, &problem, text)
 }
 
 #[test]
 fn a_made_problem_is_the_one_of_its_text(rt: HostRuntime) -> Result<(), Fail> {
     for (names, primary, options, text) in TEXTS {
-        let made = problem_of(rt.alloc(), names, primary, options)?;
-        assert!(rt; is_read(rt.alloc(), made, text)?);
+        assert!(rt; is_of_text(rt.alloc(), names, primary, options, text)?);
     }
-    let text = many_options(rt.alloc(), 70_000)?;
-    assert!(rt; is_read(rt.alloc(), many(rt.alloc(), 70_000)?, &text)?);
+    Ok(())
+}
+
+/// Whether so many equal options make the problem of their text.
+fn is_of_equal_options(alloc: Global, count: u32) -> Result<bool, Fail> {
+    let problem = many(alloc, count)??;
+    has_equal_options(alloc, &problem, count)
+}
+
+/// Whether a problem is the one of so many equal options.
+fn has_equal_options(alloc: Global, problem: &Problem, count: u32) -> Result<bool, Fail> {
+    let text = many_options(alloc, count)?;
+    is_read(alloc, problem, &text)
+}
+
+#[test]
+fn a_problem_of_many_options_is_the_one_of_its_text(rt: HostRuntime) -> Result<(), Fail> {
+    assert!(rt; is_of_equal_options(rt.alloc(), 70_000)?);
     Ok(())
 }
 
 #[test]
 fn the_limit_on_options_is_exact(rt: HostRuntime) -> Result<(), Fail> {
-    let problem = many(rt.alloc(), 262_143)??;
-    assert!(rt; problem.options() == 262_143);
+    assert!(rt; options_of(many(rt.alloc(), 262_143)?) == Some(262_143));
     assert!(rt; is_too_large(many(rt.alloc(), 262_144)?, 1, 262_144));
     Ok(())
 }
 
 #[test]
 fn the_limit_on_items_is_exact(rt: HostRuntime) -> Result<(), Fail> {
-    let problem = large(rt.alloc(), 65_535, &[])??;
-    assert!(rt; problem.items() == 65_535);
+    assert!(rt; items_of(large(rt.alloc(), 65_535, &[])?) == Some(65_535));
     assert!(rt; is_too_large(large(rt.alloc(), 65_536, &[])?, 65_536, 0));
     Ok(())
 }
@@ -263,8 +321,7 @@ fn the_limit_on_entries_is_exact(rt: HostRuntime) -> Result<(), Fail> {
     let mut sizes = [65_535; 127];
     assert!(rt; is_too_large(large(rt.alloc(), 65_535, &sizes)?, 65_535, 127));
     sizes[126] = 65_534;
-    let problem = large(rt.alloc(), 65_535, &sizes)??;
-    assert!(rt; problem.options() == 127);
+    assert!(rt; options_of(large(rt.alloc(), 65_535, &sizes)?) == Some(127));
     Ok(())
 }
 

@@ -4,6 +4,7 @@ ghost use Rattle.std.specs.Prelude.{◌≡◌, ◌<◌, ◌≤◌, [], ◌∷◌
 use crate::setting::{SMALL, many_options};
 use cover_problem::{PlainTable, Problem, Table, read_cover};
 use std::alloc::{AllocError, Global};
+use std::process::Abort;
 use std::test::Fail;
 
 const SECONDARY: &[u8] = b"items a b\nmaybe c\noption a c\noption b c\noption a\noption b\n";
@@ -176,21 +177,29 @@ fn goes_back(alloc: Global, problem: &Problem) -> Result<bool, AllocError>
     tells(alloc, &table, 7, BEGUN)
 }
 
+fn assert_filters(rt: &impl Abort, alloc: Global, problem: &Problem) -> Result<(), Fail> {
+    assert!(rt; problem.items() == 7);
+    assert!(rt; is_begun(alloc, problem, BEGUN)?);
+    assert!(rt; is_filtered(alloc, problem)?);
+    Ok(())
+}
+
 #[test]
 fn a_plain_table_filters(rt: HostRuntime) -> Result<(), Fail> {
     let problem = read_cover(rt.alloc(), SMALL)?;
+    assert_filters(&rt, rt.alloc(), &problem)
+}
+
+fn assert_goes_back(rt: &impl Abort, alloc: Global, problem: &Problem) -> Result<(), Fail> {
     assert!(rt; problem.items() == 7);
-    assert!(rt; is_begun(rt.alloc(), &problem, BEGUN)?);
-    assert!(rt; is_filtered(rt.alloc(), &problem)?);
+    assert!(rt; goes_back(alloc, problem)?);
     Ok(())
 }
 
 #[test]
 fn uncovering_goes_back(rt: HostRuntime) -> Result<(), Fail> {
     let problem = read_cover(rt.alloc(), SMALL)?;
-    assert!(rt; problem.items() == 7);
-    assert!(rt; goes_back(rt.alloc(), &problem)?);
-    Ok(())
+    assert_goes_back(&rt, rt.alloc(), &problem)
 }
 
 /// Whether the item c is told as it should be once it is covered.
@@ -202,32 +211,53 @@ fn is_secondary(alloc: Global, problem: &Problem) -> Result<bool, AllocError>
     tells(alloc, &table, 3, SECONDARY_AFTER_C)
 }
 
-#[test]
-fn a_secondary_item_is_never_active(rt: HostRuntime) -> Result<(), Fail> {
-    let problem = read_cover(rt.alloc(), SECONDARY)?;
+fn assert_secondary(rt: &impl Abort, alloc: Global, problem: &Problem) -> Result<(), Fail> {
     assert!(rt; problem.items() == 3);
-    assert!(rt; is_begun(rt.alloc(), &problem, SECONDARY_BEGUN)?);
-    assert!(rt; is_secondary(rt.alloc(), &problem)?);
+    assert!(rt; is_begun(alloc, problem, SECONDARY_BEGUN)?);
+    assert!(rt; is_secondary(alloc, problem)?);
     Ok(())
 }
 
-/// How many options the list of the first item has, from its first and from its last.
+#[test]
+fn a_secondary_item_is_never_active(rt: HostRuntime) -> Result<(), Fail> {
+    let problem = read_cover(rt.alloc(), SECONDARY)?;
+    assert_secondary(&rt, rt.alloc(), &problem)
+}
+
+/// How many options the list of a table's first item has, from its first and from its last.
+fn lengths_in<T: Table>(alloc: Global, table: &T) -> Result<(usize, usize), AllocError>
+    requires { 1 ≤ length (T.problem_value table.now).names }
+{
+    let mut list = Vec::new(alloc);
+    add_list(&mut list, table, 1)?;
+    let there = list.len();
+    list.clear();
+    add_list_back(&mut list, table, 1)?;
+    Ok((there, list.len()))
+}
+
+/// The same of a table of a problem.
 fn lengths(alloc: Global, problem: &Problem) -> Result<(usize, usize), AllocError>
     requires { 1 ≤ length problem.now.names }
 {
     let table = PlainTable::new(alloc, problem)?;
-    let mut there = Vec::new(alloc);
-    add_list(&mut there, &table, 1)?;
-    let mut back = Vec::new(alloc);
-    add_list_back(&mut back, &table, 1)?;
-    Ok((there.len(), back.len()))
+    lengths_in(alloc, &table)
+}
+
+fn assert_lengths(rt: &impl Abort, alloc: Global, problem: &Problem) -> Result<(), Fail> {
+    assert!(rt; problem.items() == 1);
+    assert!(rt; lengths(alloc, problem)? == (70_000, 70_000));
+    Ok(())
+}
+
+/// The problem of so many equal options.
+fn many(alloc: Global, count: u32) -> Result<Problem, Fail> {
+    let text = many_options(alloc, count)?;
+    Ok(read_cover(alloc, &text)?)
 }
 
 #[test]
 fn a_long_list_is_walked_in_linear_time(rt: HostRuntime) -> Result<(), Fail> {
-    let text = many_options(rt.alloc(), 70_000)?;
-    let problem = read_cover(rt.alloc(), &text)?;
-    assert!(rt; problem.items() == 1);
-    assert!(rt; lengths(rt.alloc(), &problem)? == (70_000, 70_000));
-    Ok(())
+    let problem = many(rt.alloc(), 70_000)?;
+    assert_lengths(&rt, rt.alloc(), &problem)
 }

@@ -1,12 +1,12 @@
 //! Cover texts, with answers that were worked out by hand.
 
 use crate::setting::many_options;
-use cover_problem::{CoverFault, Fault, read_cover, write_cover};
+use cover_problem::{CoverFault, Fault, Problem, read_cover, write_cover};
 use std::alloc::{AllocError, Global};
 use std::test::Fail;
 
 /// Texts, each with its first fault and the number of that fault's line.
-const FAULTS: [(&[u8], Fault, u64); 27] = [
+static FAULTS: [(&[u8], Fault, u64); 27] = [
     (b"items a a!", Fault::BadName, 1),
     (b"items a ninechars", Fault::BadName, 1),
     (b"items a b a", Fault::RepeatedItem, 1),
@@ -40,14 +40,14 @@ const FAULTS: [(&[u8], Fault, u64); 27] = [
 ];
 
 /// Texts without a fault.
-const READ: [&[u8]; 3] = [
+static READ: [&[u8]; 3] = [
     b"items a\nmaybe b\noption b\noption b",
     b"items a\n#\xff",
     b"items a\r\n\r\noption a\r",
 ];
 
 /// Texts, each with the text that is written of its problem.
-const WRITTEN: [(&[u8], &[u8]); 2] = [
+static WRITTEN: [(&[u8], &[u8]); 2] = [
     (
         b"# small\n\nitems a b # two\r\n\tmaybe  c\n \noption c a\noption b c#\xff\noption b",
         b"items a b\nmaybe c\noption c a\noption b c\noption b\n",
@@ -65,12 +65,25 @@ fn has_fault(alloc: Global, text: &[u8], fault: Fault, line: u64) -> bool {
     fault_of(alloc, text) == Some(CoverFault::Fault { fault, line })
 }
 
-/// Whether a text's problem is written as these lines, which are read as the same problem.
+/// Whether a text is read as this problem.
+fn is_read_as(alloc: Global, text: &[u8], problem: &Problem) -> Result<bool, Fail> {
+    let read = read_cover(alloc, text)?;
+    Ok(read.same(problem))
+}
+
+/// Whether a problem is written as these lines, which are read as the same problem.
+fn is_written_as(alloc: Global, problem: &Problem, lines: &[u8]) -> Result<bool, Fail> {
+    let written = write_cover(alloc, problem)?;
+    if written.as_slice() != lines {
+        return Ok(false);
+    }
+    is_read_as(alloc, &written, problem)
+}
+
+/// Whether a text's problem is.
 fn is_written(alloc: Global, text: &[u8], lines: &[u8]) -> Result<bool, Fail> {
     let problem = read_cover(alloc, text)?;
-    let written = write_cover(alloc, &problem)?;
-    let again = read_cover(alloc, &written)?;
-    Ok(written.as_slice() == lines && again.same(&problem))
+    is_written_as(alloc, &problem, lines)
 }
 
 /// The place of the first of these whose fault is another.

@@ -5,7 +5,7 @@ ghost use Rattle.poly_place.specs.Classes.{HaveOneRegion};
 
 use poly_place::{Compiled, Group, Packing, classes, compile, packing_of};
 use poly_texts::{Puzzle, read_puzzle};
-use std::alloc::{AllocError, Global};
+use std::alloc::Global;
 use std::test::Fail;
 
 /// The packings for which these exact covers stand.
@@ -27,7 +27,7 @@ fn packings_of<'p>(
 }
 
 /// How many classes there are, by the rotations and by all symmetries.
-fn both_counts(alloc: Global, packings: &[Packing<'_>]) -> Result<(u64, u64), AllocError>
+fn both_counts(alloc: Global, packings: &[Packing<'_>]) -> Result<(u64, u64), Fail>
     requires { HaveOneRegion packings.now }
 {
     let rotations = classes(alloc, packings, Group::Rotations)?;
@@ -38,7 +38,7 @@ fn both_counts(alloc: Global, packings: &[Packing<'_>]) -> Result<(u64, u64), Al
 /// The same of the packings for which exact covers stand.
 fn counts_of(alloc: Global, compiled: &Compiled<'_>, paths: &[&[u32]]) -> Result<(u64, u64), Fail> {
     let packings = packings_of(alloc, compiled, paths)?;
-    Ok(both_counts(alloc, packings.as_slice())?)
+    both_counts(alloc, packings.as_slice())
 }
 
 /// The same of exact covers of a puzzle.

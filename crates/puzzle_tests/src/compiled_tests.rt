@@ -6,7 +6,7 @@ use std::alloc::{AllocError, Global};
 use std::test::Fail;
 
 /// Whether a problem is written so.
-fn is_written(alloc: Global, compiled: &Compiled<'_>, wanted: &[u8]) -> Result<bool, AllocError> {
+fn is_written(alloc: Global, compiled: &Compiled<'_>, wanted: &[u8]) -> Result<bool, Fail> {
     let written = write_cover(alloc, compiled.problem())?;
     Ok(written.as_slice() == wanted)
 }
@@ -14,7 +14,7 @@ fn is_written(alloc: Global, compiled: &Compiled<'_>, wanted: &[u8]) -> Result<b
 /// Whether the problem that stands for a puzzle is written so.
 fn is_written_for(alloc: Global, puzzle: &Puzzle, wanted: &[u8]) -> Result<bool, Fail> {
     let compiled = compile(alloc, puzzle)?;
-    Ok(is_written(alloc, &compiled, wanted)?)
+    is_written(alloc, &compiled, wanted)
 }
 
 /// The same of the puzzle of a text.
@@ -42,6 +42,12 @@ fn sizes_of(alloc: Global, puzzle: &Puzzle) -> Result<(u32, u32, u32), Fail> {
     Ok((problem.items(), problem.primary(), problem.options()))
 }
 
+/// The same of the puzzle of a text.
+fn sizes(alloc: Global, text: &[u8]) -> Result<(u32, u32, u32), Fail> {
+    let puzzle = read_puzzle(alloc, text)?;
+    sizes_of(alloc, &puzzle)
+}
+
 const SOMA: &[u8] = b"piece V 000 100 010\n\
     piece L 000 100 200 010\n\
     piece T 000 100 200 110\n\
@@ -53,11 +59,7 @@ const SOMA: &[u8] = b"piece V 000 100 010\n\
 
 #[test]
 fn soma_has_its_options(rt: HostRuntime) -> Result<(), Fail> {
-    let puzzle = read_puzzle(rt.alloc(), SOMA)?;
-    let (items, primary, options) = sizes_of(rt.alloc(), &puzzle)?;
-    assert!(rt; items == 34);
-    assert!(rt; primary == 34);
-    assert!(rt; options == 688);
+    assert!(rt; sizes(rt.alloc(), SOMA)? == (34, 34, 688));
     Ok(())
 }
 

@@ -1,11 +1,11 @@
 //! Packings and their layers, drawn by hand.
 use poly_place::{Compiled, Packing, compile, layers, packing_of};
 use poly_texts::{Puzzle, read_puzzle};
-use std::alloc::{AllocError, Global};
+use std::alloc::Global;
 use std::test::Fail;
 
 /// Whether a packing is shown so.
-fn has_layers(alloc: Global, packing: &Packing<'_>, wanted: &str) -> Result<bool, AllocError> {
+fn has_layers(alloc: Global, packing: &Packing<'_>, wanted: &str) -> Result<bool, Fail> {
     let shown = layers(alloc, packing)?;
     Ok(shown.as_str() == wanted)
 }
@@ -16,7 +16,7 @@ fn is_cover_shown(
     compiled: &Compiled<'_>,
     path: &[u32],
     wanted: &str,
-) -> Result<bool, AllocError> {
+) -> Result<bool, Fail> {
     if !compiled.problem().is_exact_cover(path) {
         return Ok(false);
     }
@@ -27,7 +27,7 @@ fn is_cover_shown(
 /// The same of options of a puzzle.
 fn is_shown_in(alloc: Global, puzzle: &Puzzle, path: &[u32], wanted: &str) -> Result<bool, Fail> {
     let compiled = compile(alloc, puzzle)?;
-    Ok(is_cover_shown(alloc, &compiled, path, wanted)?)
+    is_cover_shown(alloc, &compiled, path, wanted)
 }
 
 /// The same of the puzzle of a text.

@@ -32,7 +32,7 @@ fn have_counts(
     Ok(pieces.len() == wanted.len())
 }
 
-const SOMA: [Cells; 7] = [
+static SOMA: [Cells; 7] = [
     &[(0, 0, 0), (1, 0, 0), (0, 1, 0)],
     &[(0, 0, 0), (1, 0, 0), (2, 0, 0), (0, 1, 0)],
     &[(0, 0, 0), (1, 0, 0), (2, 0, 0), (1, 1, 0)],
@@ -42,7 +42,7 @@ const SOMA: [Cells; 7] = [
     &[(0, 0, 0), (1, 0, 0), (0, 1, 0), (0, 0, 1)],
 ];
 
-const PENTOMINOES: [Cells; 12] = [
+static PENTOMINOES: [Cells; 12] = [
     &[(1, 0, 0), (2, 0, 0), (0, 1, 0), (1, 1, 0), (1, 2, 0)],
     &[(0, 0, 0), (1, 0, 0), (2, 0, 0), (3, 0, 0), (4, 0, 0)],
     &[(0, 0, 0), (1, 0, 0), (2, 0, 0), (3, 0, 0), (0, 1, 0)],
@@ -82,7 +82,7 @@ fn the_pentominoes_lie_in_a_strip(rt: HostRuntime) -> Result<(), Fail> {
 
 const DOMINO: Cells = &[(0, 0, 0), (1, 0, 0)];
 
-const IN_A_SQUARE: [Cells; 4] = [
+static IN_A_SQUARE: [Cells; 4] = [
     &[(0, 0, 0), (0, 1, 0)],
     &[(0, 0, 0), (1, 0, 0)],
     &[(0, 1, 0), (1, 1, 0)],

@@ -26,7 +26,7 @@ fn assert_refused(rt: &impl Abort, alloc: Global, rows: &[Refusal]) {
     assert_eq!(rt; wrong, None);
 }
 
-const NINE_FAULTS: [Refusal; 9] = [
+static NINE_FAULTS: [Refusal; 9] = [
     (b"bin 1 1 1", Fault::BadLine, 1),
     (b"cells 000\ncells 00w", Fault::BadCell, 2),
     (b"piece V 000 100 100", Fault::RepeatedCell, 1),
@@ -53,7 +53,7 @@ fn a_fault_has_a_number_and_a_name(rt: HostRuntime) {
     assert!(rt; Fault::TooLarge.name().as_bytes() == b"TooLarge".as_slice());
 }
 
-const FIRST_FAULTS: [Refusal; 15] = [
+static FIRST_FAULTS: [Refusal; 15] = [
     (b"piece V 000\rx", Fault::BadLine, 1),
     (b"piece VV 00", Fault::BadLine, 1),
     (b"piece V 000\npiece V 00", Fault::RepeatedPiece, 2),
@@ -87,7 +87,7 @@ const FULL_PIECE: &[u8] = b"piece A \
     020 021 022 023 024 025 026 027 028 029 02a 02b 02c 02d 02e 02f \
     030 031 032 033 034 035 036 037 038 039 03a 03b 03c 03d 03e 03f x";
 
-const LIMITS: [Refusal; 5] = [
+static LIMITS: [Refusal; 5] = [
     (b"box 32 32 4", Fault::NoPiece, 0),
     (b"box 32 32 5", Fault::TooLarge, 1),
     (
@@ -106,7 +106,7 @@ fn limits_are_kept(rt: HostRuntime) {
     assert!(rt; is_refused(rt.alloc(), most, Fault::EmptyRegion, 0));
 }
 
-const LAST_LINES: [Refusal; 4] = [
+static LAST_LINES: [Refusal; 4] = [
     (b"box 1 1 1\r", Fault::NoPiece, 0),
     (b"box 1 1 1\r\r", Fault::BadLine, 1),
     (b"box 1 1 1 \x0b", Fault::BadLine, 1),

@@ -158,7 +158,7 @@ fn each_step_is_taken_back(rt: HostRuntime) -> Result<(), Fail> {
     Ok(())
 }
 
-const STATES: [(Label, &[u32], Cursor, Option<u8>); 8] = [
+static STATES: [(Label, &[u32], Cursor, Option<u8>); 8] = [
     (Label::X5, &[2, 3], Cursor::Past, None),
     (Label::X5, &[4, 5], Cursor::At(1), None),
     (Label::Done, &[], Cursor::None, None),
@@ -215,7 +215,7 @@ fn a_machine_tells_the_chosen_item(rt: HostRuntime) -> Result<(), Fail> {
     Ok(())
 }
 
-const SECONDS: [(&[u32], &[u32]); 3] = [(&[], &[3, 1, 2, 0]), (&[3], &[3, 2, 0]), (&[1], &[])];
+static SECONDS: [(&[u32], &[u32]); 3] = [(&[], &[3, 1, 2, 0]), (&[3], &[3, 2, 0]), (&[1], &[])];
 
 #[test]
 fn secondary_items_are_listed_until_covered(rt: HostRuntime) -> Result<(), Fail> {

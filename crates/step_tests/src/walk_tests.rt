@@ -29,7 +29,7 @@ fn walk_on<T: Table>(
 /// states at each level.
 type Row = (u32, &'static [u32], u32, Event, [u32; 8]);
 
-const WALKS: [Row; 5] = [
+static WALKS: [Row; 5] = [
     (100, &[], 30, Event::Visited, [1, 2, 2, 1, 0, 0, 0, 0]),
     (100, &[4], 20, Event::Moved, [1, 1, 1, 0, 0, 0, 0, 0]),
     (100, &[3, 3], 30, Event::Visited, [1, 2, 2, 1, 0, 0, 0, 0]),

@@ -143,7 +143,7 @@ const VISITED: WorldReply = WorldReply::Event(Event::Visited);
 const FINISHED: WorldReply = WorldReply::Event(Event::Finished);
 
 /// Two workers share the run at the cut 4.
-const SHARED: [Row; 14] = [
+static SHARED: [Row; 14] = [
     (0, Do::LeaseAny, 1, WorldReply::Book(0), 0, 0),
     (0, Do::Step, 5, MOVED, 0, 0),
     (0, Do::Split(0, 4), 1, WorldReply::Book(1), 0, 0),
@@ -189,7 +189,7 @@ const IDLE: WorldReply = WorldReply::Idle;
 const BUSY: WorldReply = WorldReply::Busy;
 
 /// What needs a runner is refused where there is none, and a lease where there is one.
-const WITHOUT: [Row; 18] = [
+static WITHOUT: [Row; 18] = [
     (0, Do::Step, 1, IDLE, 0, 0),
     (0, Do::Back, 1, IDLE, 0, 0),
     (0, Do::Post, 1, IDLE, 0, 0),
@@ -211,7 +211,7 @@ const WITHOUT: [Row; 18] = [
 ];
 
 /// What was walked is posted and taken back, and cuts are refused.
-const BACK: [Row; 21] = [
+static BACK: [Row; 21] = [
     (0, Do::LeaseAny, 1, WorldReply::Book(0), 0, 0),
     (
         0,
@@ -271,7 +271,7 @@ const BACK: [Row; 21] = [
 ];
 
 /// A tile is put back, and stopped.
-const STOPPED: [Row; 17] = [
+static STOPPED: [Row; 17] = [
     (0, Do::LeaseAny, 1, WorldReply::Book(0), 0, 0),
     (0, Do::Step, 29, MOVED, 0, 0),
     (0, Do::Step, 1, VISITED, 0, 0),

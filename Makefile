@@ -9,17 +9,21 @@ LONG = pentominoes-15x4 pentominoes-12x5 pentominoes-10x6 pentominoes-8x8-withou
 	solid-pentominoes-2x5x6 solid-pentominoes-3x4x5
 LONG_COVERS = pent-10x6 langford-12
 
-.PHONY: all build ci bench gallery gallery-long check-docs check-edits check-tools check-words check-statuses install
+.PHONY: all build ci wrong-bodies bench gallery gallery-long check-docs check-edits check-ownership check-tools check-words check-statuses install
 
-all: check-edits build gallery check-tools check-docs check-words check-statuses
+all: check-edits check-ownership build gallery check-tools check-docs check-words check-statuses
 
 # Proves and builds the program where anything changed.
 build:
 	./polylab --version
 
-# The gate: every proof from nothing, wrong bodies that have to be refused, tests, the program.
+# The gate: every proof from nothing, the wrong bodies that turn the theorem's sentences, tests, the program.
 ci:
 	rt ci
+
+# The other wrong bodies, many in one check; CRATES="NAME .." tries those of some crates alone. Some 50 minutes of one processor.
+wrong-bodies:
+	@tools/wrong_bodies --lanes 3 $(CRATES)
 
 # Times beside a plain C program.
 bench: build
@@ -36,9 +40,13 @@ gallery-long: build
 check-docs: build
 	@tools/check_docs README.md docs/RECIPES.md docs/TUTORIAL.md docs/DEBUGGER.md docs/polylab.1
 
-# Each wrong body that the gate tries can be made, and changes something.
+# Each wrong body can be made and changes something, and those that are tried in batches were refused over today's texts.
 check-edits:
 	@tools/check_edits
+
+# What owns the raw block can't be let go by the compiler: a derived or written Drop would drop the block's owner, and leak the block.
+check-ownership:
+	@! grep -n 'Drop' crates/cover_links/src/raw.rt
 
 # Puts packings through the checker and the drawer; a spoilt one has to be found.
 check-tools: build

@@ -20,6 +20,3 @@ pub use lease::{Grant, Lease, Leased, Posted};
 pub use mark::{Mark, Path};
 pub use status::Status;
 pub use tile::Tile;
-
-#[cfg(test)]
-mod tests;

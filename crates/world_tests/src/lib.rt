@@ -1,6 +1,8 @@
-//! Tests of `lab_world`: worlds of the small problem, row by row, and drawn events on drawn problems.
+//! Tests of `lab_book` and `lab_world`: books and worlds of the small problem, row by row, and drawn events on drawn problems.
 #![tactic(auto)]
 
+#[cfg(test)]
+mod books;
 #[cfg(test)]
 mod drawn_tests;
 #[cfg(test)]

@@ -1,8 +1,8 @@
 //! What a book's calls leave, and what a finished book has.
 
-use crate::tests::acts::{Act, make};
-use crate::{Book, Status};
+use crate::books::acts::{Act, make};
 use cover_problem::Problem;
+use lab_book::{Book, Status};
 use std::alloc::Global;
 use std::test::Fail;
 

@@ -1,10 +1,10 @@
 //! Books that go on from a state in a branch, and where none does.
 
-use crate::Book;
-use crate::tests::acts::Act;
-use crate::tests::finishing::{Done, finishes};
-use crate::tests::setting::{SMALL, cut_of, state_at};
+use crate::books::acts::Act;
+use crate::books::finishing::{Done, finishes};
+use crate::books::setting::{SMALL, cut_of, state_at};
 use cover_problem::{Problem, read_cover};
+use lab_book::Book;
 use std::alloc::Global;
 use std::test::Fail;
 use x_branches::{Branch, Cut, RunnerFault, StartFault};

@@ -1,10 +1,11 @@
 //! Calls of a book as rows of a table, each answered by the number of its refusal.
 
-use crate::tests::setting::{advance, cut_of, stretch_of, whole};
-use crate::{Book, BookFault, Grant, Lease, Leased};
+use crate::books::setting::{advance, cut_of, stretch_of, whole};
 use cover_problem::Problem;
+use lab_book::{Book, BookFault, Lease, Leased};
 use std::alloc::Global;
 use std::test::Fail;
+use x_branches::{Cut, Stretch};
 use x_steps::Refused;
 
 /// A lease, current or not: a tile's id, a worker, and an entry.
@@ -29,10 +30,52 @@ pub enum Act {
     PutBack(u8, u64, u32),
 }
 
-/// The lease of these parts.
-fn lease(given: Given) -> Lease {
+/// Splits the first tile so often that there is a tile of this id, 1 or 2 at the most; the problem has an item and two options.
+fn make_tiles<'p>(
+    alloc: Global,
+    problem: &'p Problem,
+    book: &mut Book<'p>,
+    id: u64,
+) -> Result<(), Fail> {
+    if id == 0 {
+        return Ok(());
+    }
+    let high = cut_of(alloc, problem, &[2])?;
+    let low = cut_of(alloc, problem, &[1])?;
+    let lease = lease_of(book.lease(0, 0))?;
+    let _parted = fault_of(book.split(&lease, high));
+    if id > 1 {
+        let _parted = fault_of(book.split(&lease, low));
+    }
+    lease.discard();
+    Ok(())
+}
+
+/// The lease that was given.
+fn lease_of(answer: Result<Leased<'_>, BookFault>) -> Result<Lease, Fail> {
+    match answer {
+        Ok(
+            Leased {
+                lease,
+                branch: _,
+                mark: _,
+                waiting: _,
+            },
+        ) => Ok(lease),
+        Err(_) => Err(Fail::from("no lease")),
+    }
+}
+
+/// The lease of these parts, whether or not the tested book gave it: of a second book, of a problem with an item and two options, where
+/// refused calls add entries until the next one is that which the lease names.
+fn lease(alloc: Global, problem: &Problem, given: Given) -> Result<Lease, Fail> {
     let (id, worker, index) = given;
-    Lease::of(Grant { id, worker, index })
+    let mut book = Book::new(alloc, problem)?;
+    make_tiles(alloc, problem, &mut book, id)?;
+    for _ in book.history().len() as u64..index {
+        let _refused = book.request_stop(0, 99);
+    }
+    lease_of(book.lease(worker % 32, id))
 }
 
 /// The fault of a refusal.
@@ -89,39 +132,21 @@ fn lease_any(book: &mut Book<'_>, worker: u8) -> Result<Option<u8>, Fail> {
 }
 
 /// Posts a stretch.
-fn post<'p>(
-    alloc: Global,
-    problem: &'p Problem,
-    book: &mut Book<'p>,
-    given: Given,
-    from: u32,
-    steps: u32,
-) -> Result<Option<u8>, Fail> {
-    let stretch = stretch_of(alloc, problem, from, steps)?;
-    let lease = lease(given);
+fn post<'p>(book: &mut Book<'p>, stretch: Stretch<'p>, lease: Lease) -> Option<u8> {
     let answer = number(fault_of(book.post(&lease, stretch)));
     lease.discard();
-    Ok(answer)
+    answer
 }
 
-/// Splits a tile at the cut of one choice.
-fn split<'p>(
-    alloc: Global,
-    problem: &'p Problem,
-    book: &mut Book<'p>,
-    given: Given,
-    choice: u32,
-) -> Result<Option<u8>, Fail> {
-    let cut = cut_of(alloc, problem, &[choice])?;
-    let lease = lease(given);
+/// Splits a tile at a cut.
+fn split<'p>(book: &mut Book<'p>, cut: Cut<'p>, lease: Lease) -> Option<u8> {
     let answer = number(fault_of(book.split(&lease, cut)));
     lease.discard();
-    Ok(answer)
+    answer
 }
 
 /// Takes the last stretch out.
-fn retract(book: &mut Book<'_>, given: Given) -> Option<u8> {
-    let lease = lease(given);
+fn retract(book: &mut Book<'_>, lease: Lease) -> Option<u8> {
     let answer = number(book.retract(&lease));
     lease.discard();
     answer
@@ -153,14 +178,26 @@ pub fn make<'p>(
         Act::Lease(worker, id) => Ok(leased(book.lease(worker % 32, id))),
         Act::LeaseAny(worker) => lease_any(book, worker),
         Act::TakeHeld(worker, id) => Ok(leased(book.take_held(worker % 32, id))),
-        Act::Post(given, from, steps) => post(alloc, problem, book, given, from, steps),
-        Act::PostForeign(given, from, steps) => post(alloc, other, book, given, from, steps),
-        Act::Split(given, choice) => split(alloc, problem, book, given, choice),
-        Act::SplitForeign(given, choice) => split(alloc, other, book, given, choice),
-        Act::Retract(given) => Ok(retract(book, given)),
-        Act::Close(given) => Ok(ended(book.close(lease(given)))),
-        Act::Abandon(given) => Ok(ended(book.abandon(lease(given)))),
-        Act::Park(given) => Ok(ended(book.park(lease(given)))),
+        Act::Post(given, from, steps) => {
+            let stretch = stretch_of(alloc, problem, from, steps)?;
+            Ok(post(book, stretch, lease(alloc, other, given)?))
+        }
+        Act::PostForeign(given, from, steps) => {
+            let stretch = stretch_of(alloc, other, from, steps)?;
+            Ok(post(book, stretch, lease(alloc, other, given)?))
+        }
+        Act::Split(given, choice) => {
+            let cut = cut_of(alloc, problem, &[choice])?;
+            Ok(split(book, cut, lease(alloc, other, given)?))
+        }
+        Act::SplitForeign(given, choice) => {
+            let cut = cut_of(alloc, other, &[choice])?;
+            Ok(split(book, cut, lease(alloc, other, given)?))
+        }
+        Act::Retract(given) => Ok(retract(book, lease(alloc, other, given)?)),
+        Act::Close(given) => Ok(ended(book.close(lease(alloc, other, given)?))),
+        Act::Abandon(given) => Ok(ended(book.abandon(lease(alloc, other, given)?))),
+        Act::Park(given) => Ok(ended(book.park(lease(alloc, other, given)?))),
         Act::RequestStop(worker, id) => Ok(number(book.request_stop(worker % 32, id))),
         Act::PutBack(worker, id, steps) => put_back(alloc, problem, book, worker, id, steps),
     }

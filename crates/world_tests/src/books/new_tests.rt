@@ -1,10 +1,10 @@
 //! Books of the whole run: what each call answers.
 
-use crate::Book;
-use crate::tests::acts::Act;
-use crate::tests::finishing::{Done, finishes};
-use crate::tests::setting::{OTHER, SMALL};
+use crate::books::acts::Act;
+use crate::books::finishing::{Done, finishes};
+use crate::books::setting::{OTHER, SMALL};
 use cover_problem::{Problem, read_cover};
+use lab_book::Book;
 use std::alloc::Global;
 use std::test::Fail;
 
@@ -99,8 +99,8 @@ const PARTED: [(Act, u8); 14] = [
     (Act::LeaseAny(0), 0),
     (Act::Split((0, 0, 0), 4), 0),
     (Act::Split((0, 0, 0), 4), 6),
-    (Act::Split((1, 0, 0), 4), 3),
-    (Act::Split((2, 0, 0), 4), 1),
+    (Act::Split((1, 0, 2), 4), 3),
+    (Act::Split((2, 0, 3), 4), 1),
     (Act::SplitForeign((0, 0, 0), 2), 4),
     (Act::Post((0, 0, 0), 0, 5), 0),
     (Act::Split((0, 0, 0), 2), 5),

@@ -42,7 +42,7 @@ fn make_tiles<'p>(
     }
     let high = cut_of(alloc, problem, &[2])?;
     let low = cut_of(alloc, problem, &[1])?;
-    let lease = lease_of(book.lease(0, 0))?;
+    let lease = given_lease(book.lease(0, 0))?;
     let _parted = fault_of(book.split(&lease, high));
     if id > 1 {
         let _parted = fault_of(book.split(&lease, low));
@@ -52,7 +52,7 @@ fn make_tiles<'p>(
 }
 
 /// The lease that was given.
-fn lease_of(answer: Result<Leased<'_>, BookFault>) -> Result<Lease, Fail> {
+fn lease_of(answer: Result<Leased<'_>, BookFault>) -> Result<Lease, BookFault> {
     match answer {
         Ok(
             Leased {
@@ -62,6 +62,14 @@ fn lease_of(answer: Result<Leased<'_>, BookFault>) -> Result<Lease, Fail> {
                 waiting: _,
             },
         ) => Ok(lease),
+        Err(fault) => Err(fault),
+    }
+}
+
+/// A lease that has to be given.
+fn given_lease(answer: Result<Leased<'_>, BookFault>) -> Result<Lease, Fail> {
+    match lease_of(answer) {
+        Ok(lease) => Ok(lease),
         Err(_) => Err(Fail::from("no lease")),
     }
 }
@@ -75,7 +83,7 @@ fn lease(alloc: Global, problem: &Problem, given: Given) -> Result<Lease, Fail> 
     for _ in book.history().len() as u64..index {
         let _refused = book.request_stop(0, 99);
     }
-    lease_of(book.lease(worker % 32, id))
+    given_lease(book.lease(worker % 32, id))
 }
 
 /// The fault of a refusal.
@@ -96,15 +104,8 @@ fn number<V: Drop>(answer: Result<V, BookFault>) -> Option<u8> {
 
 /// The number of a refusal of a lease, or 0.
 fn leased(answer: Result<Leased<'_>, BookFault>) -> Option<u8> {
-    match answer {
-        Ok(
-            Leased {
-                lease,
-                branch: _,
-                mark: _,
-                waiting: _,
-            },
-        ) => {
+    match lease_of(answer) {
+        Ok(lease) => {
             lease.discard();
             Some(0)
         }

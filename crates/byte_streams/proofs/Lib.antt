@@ -1,1 +1,2 @@
 mod Transfer
+mod Walks

@@ -1,5 +1,6 @@
 -- Reading the whole input.
-use Rattle.std.specs.Prelude.{ℕ, ◌<◌, IfSome, length}
+use Rattle.std.specs.Prelude.{ℕ, ◌+◌, ◌<◌, ◌≤◌, List, IfSome, length, ⊤}
+use Rattle.std.specs.Io.KnownBytes.{Consumes}
 use Rattle.byte_streams.specs.declared.input.InputFault.{InputFault}
 use Rattle.byte_streams.specs.declared.input.InputFault.TheVariants.{Failed, PastLimit, OutOfMemory}
 use Rattle.byte_streams.specs.Stream.{Stream, HasFailed, IsSound}
@@ -17,3 +18,20 @@ abbrev pub StopsReading : Stream → Stream → InputFault → Type 0
 StopsReading old new Failed = HasFailed new
 StopsReading old new PastLimit = GoesPastLimit old × IsSound old new
 StopsReading old new OutOfMemory = IsSound old new
+
+-- the bytes that the source handed out, where they are known, are no more than are read
+abbrev pub StaysWithinLimit : Stream → Stream → Type 0
+StaysWithinLimit old new = (came : List ℕ) × Consumes old.bytes new.bytes came × (length came ≤ most_input)
+
+-- memory is told to be refused only where the bytes that came are within the limit
+abbrev pub LacksMemoryWithin : Stream → Stream → InputFault → Type 0
+LacksMemoryWithin old new OutOfMemory = StaysWithinLimit old new
+LacksMemoryWithin old new _ = ⊤
+
+-- why a read stopped, where so many bytes had come before it: a failure, more bytes than are read, or want of memory for no more
+abbrev pub StopsAfter : ℕ → Stream → Stream → InputFault → Type 0
+StopsAfter n old new Failed = HasFailed new
+StopsAfter n old new PastLimit =
+    ((came : List ℕ) × Consumes old.bytes new.bytes came × (most_input < n + length came)) × IsSound old new
+StopsAfter n old new OutOfMemory =
+    ((came : List ℕ) × Consumes old.bytes new.bytes came × (n + length came ≤ most_input)) × IsSound old new

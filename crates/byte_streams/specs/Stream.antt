@@ -1,15 +1,30 @@
 -- What a contract sees of a source or a sink of bytes, and what happens to it.
-use Rattle.std.specs.Prelude.{ℕ, ◌≡◌, ◌⊎◌, Bool, true, List, Option, take}
+use Rattle.std.specs.Prelude.{ℕ, ◌≡◌, ◌⊎◌, Bool, true, List, [], ◌∷◌, ◌++◌, Option, Result, is_err, take}
+use Rattle.std.specs.List.{list_any}
 use Rattle.std.specs.Io.KnownBytes.{Appends, Keeps}
 
--- the bytes that a source has left or a sink holds, where they are known, and whether a read or a write has failed
+-- the bytes that a source has left or a sink holds, where they are known, whether a read or a write has failed, and for each
+-- answer so far whether it was a failure
 pub record Stream : Type 0 where
   pub bytes : Option (List ℕ)
   pub failed : Bool
+  pub answers : List Bool
 
 -- a read of this source, or a write to this sink, has failed
 abbrev pub HasFailed : Stream → Type 0
 HasFailed s = s.failed ≡ true
+
+-- one of the answers was a failure
+abbrev pub has_failure : List Bool → Bool
+has_failure answers = list_any (λ failed. failed) answers
+
+-- a stream has failed where one of its answers was a failure, and nowhere else
+abbrev pub IsToldByAnswers : Stream → Type 0
+IsToldByAnswers s = s.failed ≡ has_failure s.answers
+
+-- there is one answer more, which is the one that was handed out
+abbrev pub AnswersOnce : {E : Type 0} → Stream → Stream → Result ℕ E → Type 0
+AnswersOnce old new answer = new.answers ≡ old.answers ++ is_err answer ∷ []
 
 -- no call failed from old to new
 abbrev pub IsSound : Stream → Stream → Type 0

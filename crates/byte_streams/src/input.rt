@@ -2,7 +2,7 @@
 ghost use Rattle.std.specs.Prelude.{◌≡◌, ◌<◌, ◌≤◌, ◌+◌, ◌++◌, IfOk, IfErr, OnOk, IfSome, length, List, ℕ, vec_len};
 ghost use Rattle.std.specs.Io.KnownBytes.{Consumes, IsAtEnd};
 ghost use Rattle.byte_streams.specs.Stream.{IsSound};
-ghost use Rattle.byte_streams.specs.Input.{most_input, StopsReading};
+ghost use Rattle.byte_streams.specs.Input.{most_input, StopsReading, StopsAfter, LacksMemoryWithin};
 
 use crate::stream::Source;
 use std::alloc::{AllocError, Global};
@@ -31,24 +31,29 @@ fn zeros(alloc: Global, count: usize) -> Result<Vec<u8>, AllocError>
     vec![in alloc; 0u8; count]
 }
 
-/// Reads once and appends what came; answers how many bytes came.
+/// Reads once and appends what came, if all is within the limit; answers how many bytes came.
 fn read_some<S: Source>(
     source: &mut S,
     chunk: &mut [u8],
     text: &mut Vec<u8>,
 ) -> Result<usize, InputFault>
-    requires { 0 < length chunk.old }
+    requires room { 0 < length chunk.old }
+    requires within { vec_len text.old ≤ most_input }
     ensures grown { IfOk result (λ count. vec_len text.new ≡ vec_len text.old + count) }
+    ensures within { OnOk result (vec_len text.new ≤ most_input) }
     ensures read { OnOk result ((came : List ℕ) × (text.new.items ≡ text.old.items ++ came)
         × Consumes (S.stream source.old).bytes (S.stream source.new).bytes came) }
     ensures end { IfOk result (λ count. count ≡ 0 → IsAtEnd (S.stream source.new).bytes) }
     ensures sound { OnOk result (IsSound (S.stream source.old) (S.stream source.new)) }
-    ensures fault { IfErr result (λ fault.
-        StopsReading (S.stream source.old) (S.stream source.new) fault) }
+    ensures fault { IfErr result (λ fault. StopsAfter (length text.old.items)
+        (S.stream source.old) (S.stream source.new) fault) }
 {
     let Ok(count) = source.read(chunk) else {
         return Err(InputFault::Failed);
     };
+    if count > MOST_INPUT - text.len() {
+        return Err(InputFault::PastLimit);
+    }
     if text.extend_from_slice(&chunk[..count]).is_err() {
         return Err(InputFault::OutOfMemory);
     }
@@ -63,15 +68,17 @@ pub fn read_whole<S: Source>(alloc: Global, source: &mut S) -> Result<Vec<u8>, I
     ensures sound { OnOk result (IsSound (S.stream source.old) (S.stream source.new)) }
     ensures fault { IfErr result (λ fault.
         StopsReading (S.stream source.old) (S.stream source.new) fault) }
+    ensures memory { IfErr result (λ fault.
+        LacksMemoryWithin (S.stream source.old) (S.stream source.new) fault) }
 {
     let mut text = Vec::new(alloc);
     let Ok(mut chunk) = zeros(alloc, CHUNK) else {
         return Err(InputFault::OutOfMemory);
     };
-    while text.len() <= MOST_INPUT {
-        if read_some(source, &mut chunk, &mut text)? == 0 {
+    loop {
+        let count = read_some(source, &mut chunk, &mut text)?;
+        if count == 0 {
             return Ok(text);
         }
     }
-    Err(InputFault::PastLimit)
 }

@@ -1,6 +1,8 @@
 //! Bytes in and out: sources and sinks that tell whether they failed, reading to the end, and writing whole.
 #![tactic(auto)]
 
+mod answers;
+mod asked;
 mod input;
 mod output;
 mod stream;

@@ -2,7 +2,7 @@
 ghost use Rattle.std.specs.Prelude.{◌<◌, IfOk, OnOk, OnErr, length};
 ghost use Rattle.std.specs.Io.{ReadsAtMost, WritesAtMost};
 ghost use Rattle.std.specs.Io.KnownBytes.{ReadConsumes, WriteAppends};
-ghost use Rattle.byte_streams.specs.Stream.{Stream, IsSound, HasFailed};
+ghost use Rattle.byte_streams.specs.Stream.{Stream, IsSound, HasFailed, AnswersOnce, IsToldByAnswers};
 
 /// A read or a write failed.
 #[derive(Clone, Copy, Debug, PartialEq, Eq)]
@@ -10,7 +10,7 @@ pub struct Failed;
 
 /// Where bytes come from.
 pub trait Source {
-    // The bytes that it has left, where they are known, and whether a read failed.
+    // The bytes that it has left, where they are known, whether a read failed, and what reads have answered.
     ghost stream: { Self → Stream };
 
     /// Reads some bytes; none only at the end, or into no room.
@@ -18,13 +18,15 @@ pub trait Source {
         ensures bound { ReadsAtMost result chunk.new }
         ensures bytes { ReadConsumes (stream self.old).bytes (stream self.new).bytes
             result chunk.new }
+        ensures once { AnswersOnce (stream self.old) (stream self.new) result }
+        ensures told { IsToldByAnswers (stream self.new) }
         ensures sound { OnOk result (IsSound (stream self.old) (stream self.new)) }
         ensures failed { OnErr result (HasFailed (stream self.new)) };
 }
 
 /// Where bytes go.
 pub trait Sink {
-    // The bytes that it holds, where they are known, and whether a write failed.
+    // The bytes that it holds, where they are known, whether a write failed, and what writes have answered.
     ghost stream: { Self → Stream };
 
     /// Takes a beginning of the text, which is empty only where the text is.
@@ -33,6 +35,8 @@ pub trait Sink {
         ensures some { 0 < length text.now → IfOk result (λ count. 0 < count) }
         ensures bytes { WriteAppends (stream self.old).bytes (stream self.new).bytes
             result text.now }
+        ensures once { AnswersOnce (stream self.old) (stream self.new) result }
+        ensures told { IsToldByAnswers (stream self.new) }
         ensures sound { OnOk result (IsSound (stream self.old) (stream self.new)) }
         ensures failed { OnErr result (HasFailed (stream self.new)) };
 }

@@ -1,15 +1,14 @@
-use Rattle.std.proofs.Common.{◌+◌, ◌-◌, ◌<◌, vec_len}
-use Rattle.std.specs.Io.KnownBytes.{Consumes}
-use Rattle.byte_streams.specs.Stream.{IsSound}
+use Rattle.std.proofs.Common.{◌-◌, ◌<◌, ◌≤◌, vec_len}
 use Rattle.byte_streams.specs.declared.input.TheConstants.{MOST_INPUT}
+use Rattle.byte_streams.proofs.Transfer.{IsRead}
 use Rattle.byte_streams.proofs.input.read_whole.Given as goal
 
-abbrev pub invariant-loop-source : goal.invariant-loop-source
-invariant-loop-source g l = record {
-  came : Consumes (g.S.Source.stream l.fn.source).bytes (g.S.Source.stream l.source).bytes l.text.items;
-  sound : IsSound (g.S.Source.stream l.fn.source) (g.S.Source.stream l.source);
+abbrev pub invariant-loop-chunk : goal.invariant-loop-chunk
+invariant-loop-chunk g l = record {
+  read : IsRead (g.S.Source.stream l.fn.source) (g.S.Source.stream l.source) l.text.items;
+  within : vec_len l.text ≤ MOST_INPUT;
   room : 0 < vec_len l.chunk;
 }
 
-abbrev pub decreases-loop-source : goal.decreases-loop-source
-decreases-loop-source g l = MOST_INPUT + 1 - vec_len l.text
+abbrev pub decreases-loop-chunk : goal.decreases-loop-chunk
+decreases-loop-chunk g l = MOST_INPUT - vec_len l.text

@@ -9,4 +9,4 @@ loop-rest-preserved g c =
 pub returns-in_err-count-clause-part : goal.returns-in_err-count-clause-part
 returns-in_err-count-clause-part g c =
     let p = err_from_is_err_and c.from_residual.result c.from_residual.ensures.1 in
-    rw p.1 (written_part _ _ _ _ _ c.loop-rest.invariant c.in_err-count.ensures.bytes c.in_err-count.ensures.failed)
+    rw p.1 (written_part _ _ (g.S.Sink.stream c.write.new.self) _ _ c.loop-rest.invariant c.in_err-count.ensures.bytes c.in_err-count.ensures.failed)

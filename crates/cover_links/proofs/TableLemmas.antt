@@ -21,7 +21,7 @@ use Rattle.cover_links.specs.StandsFor.{block_of}
 use Rattle.cover_links.specs.Layout.{node_index, start_of, index_of}
 use Rattle.cover_links.specs.Ring.{Follows}
 use Rattle.cover_links.specs.Table.{IsTable, nonzero, IsHeadOrNode}
-use Rattle.cover_links.proofs.LayoutLemmas.{IsNode, IsRun, option_run, place_high, place_low, spacer_low, start_step, start_below, index_below}
+use Rattle.cover_links.proofs.LayoutLemmas.{IsNode, IsRun, option_run, place_high, place_low, spacer_low, start_step, start_below, start_last, index_below}
 use Rattle.cover_links.proofs.BuildLemmas.{size_small, start_most}
 use Rattle.cover_links.proofs.RingLemmas.{next_is, prev_is, last_to_head, next_member}
 use Rattle.cover_links.proofs.HidingLemmas.{Stands, down_at, up_at, right_at, top_at}
@@ -46,6 +46,12 @@ at_view {p} {c} {items} {block} {starts} {room} e t = subst (λ (v : TableValue)
 pub uncovered_in : {p : ProblemValue} {c : List ℕ} {v : TableValue} {j : ℕ} → record { problem = p; covered = c } ≡ v → IsUncovered v.problem v.covered j → IsUncovered p c j
 uncovered_in {p} {c} {v} {j} e u = subst (λ (v : TableValue). IsUncovered v.problem v.covered j) (sym e) u
 
+-- inside a list the default is not read
+any_default : (xs : List ℕ) (i d f : ℕ) → i < length xs → get_or xs i d ≡ get_or xs i f
+any_default [] i d f lt = absurd (omega arith)
+any_default (x ∷ xs) zero d f lt = refl
+any_default (x ∷ xs) (suc i) d f lt = any_default xs i d f (omega arith)
+
 module _ {p : ProblemValue} {c : List ℕ} {items : ℕ} {block : List Entry} {starts : List ℕ} {room : ℕ} (t : IsTable p c items block starts room) where
   pub stands : Stands p (shown_of p c) (active_of p c) block
   stands = subst (λ es. Stands p (shown_of p c) (active_of p c) es) (sym t.block_is) (links_stand p c t.problem t.covered)
@@ -55,6 +61,12 @@ module _ {p : ProblemValue} {c : List ℕ} {items : ℕ} {block : List Entry} {s
 
   pub entry_low : (x : ℕ) → x < size_of p → x < length block
   entry_low x lt = let s = (stands).size in omega arith
+
+  -- the last of the starts is how many entries there are
+  pub last_start : {n x : ℕ} → n ≡ length starts → x ≡ get_or starts (n - 1) x → x ≡ size_of p
+  last_start {n} {x} all read =
+      let m = t.count in let last : n - 1 ≡ length p.options = omega arith in
+      read ∙ any_default starts (n - 1) x 0 (omega arith) ∙ ap (λ k. get_or starts k 0) last ∙ t.each (length p.options) (omega arith) ∙ start_last p
 
   -- ---- the row
 
@@ -165,11 +177,6 @@ module _ {p : ProblemValue} {c : List ℕ} {items : ℕ} {block : List Entry} {s
 
   -- where the nodes of an option lie, between the numbers read for it
   module _ (j o : ℕ) {b e : ℕ} (some : 0 < o) (le : o ≤ length p.options) (h : has (option_at p o) j ≡ true) (first : b ≡ get_or starts (o - 1) b) (past : e ≡ get_or starts o e) where
-    any_default : (xs : List ℕ) (i d f : ℕ) → i < length xs → get_or xs i d ≡ get_or xs i f
-    any_default [] i d f lt = absurd (omega arith)
-    any_default (x ∷ xs) zero d f lt = refl
-    any_default (x ∷ xs) (suc i) d f lt = any_default xs i d f (omega arith)
-
     back : suc (o - 1) ≡ o
     back = omega arith
 

@@ -34,7 +34,7 @@ impl<A: Allocator> Model for Block<A> {
 
 impl<A: Allocator> Block<A> {
     /// A block of so many entries, each the one given.
-    pub(crate) fn make(alloc: A, len: usize, blank: Entry) -> Result<Block<A>, AllocError>
+    pub fn make(alloc: A, len: usize, blank: Entry) -> Result<Block<A>, AllocError>
         requires { FitsInBlock len }
         ensures { IfOk result (λ b. b ≡ replicate len blank) }
     {
@@ -53,7 +53,7 @@ impl<A: Allocator> Block<A> {
 
     /// The entry at an index.
     #[inline(always)]
-    pub(crate) fn read(&self, index: u32) -> Entry
+    pub fn read(&self, index: u32) -> Entry
         requires { index < length self.now }
         ensures { result ≡ entry_at self.now index }
     {
@@ -62,7 +62,7 @@ impl<A: Allocator> Block<A> {
 
     /// Puts an entry at an index.
     #[inline(always)]
-    pub(crate) fn write(&mut self, index: u32, entry: Entry)
+    pub fn write(&mut self, index: u32, entry: Entry)
         requires { index < length self.old }
         ensures { self.new ≡ slice_set self.old index entry }
     {

@@ -9,8 +9,6 @@ pub mod laws;
 mod raw;
 mod table;
 
-pub use entry::Node;
+pub use block::Block;
+pub use entry::{Entry, Node};
 pub use table::LinkTable;
-
-#[cfg(test)]
-mod tests;

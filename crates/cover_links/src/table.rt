@@ -83,6 +83,13 @@ impl LinkTable {
         }
     }
 
+    /// How many entries the block has, with the header: `node` shows those from 1 on.
+    pub fn entries(&self) -> u32
+        ensures { result ≡ size_of self.now.problem }
+    {
+        self.starts[self.starts.len() - 1]
+    }
+
     /// An item's node in an option that has it.
     fn node_of(&self, item: u32, option: u32) -> u32
         requires some { 0 < option }

@@ -7,7 +7,7 @@ use Rattle.text_lines.proofs.EachLemmas.{each_none, each_parts}
 use Rattle.cover_problem.specs.declared.fault.Fault.TheVariants.{UnknownItem, TooLarge}
 use Rattle.cover_problem.specs.Problem.{ProblemValue, problem_with, is_name, is_small}
 use Rattle.cover_problem.specs.Validation.{add_name, within}
-use Rattle.cover_problem.specs.Reading.{item_of, maybe_line}
+use Rattle.cover_problem.specs.Reading.{item_of, add_item, items_line, maybe_line, option_line}
 use Rattle.cover_problem.proofs.NameLemmas.{word_place, no_name, added_is}
 
 -- *the items of an option*
@@ -33,6 +33,12 @@ within_limits p h = rw h refl
 pub over_limits : (p : ProblemValue) → is_small p ≡ false → within p ≡ Err TooLarge
 over_limits p h = rw h refl
 
+-- *an `items` line in its place*
+
+pub items_taken : (p : ProblemValue) (words names : List (List ℕ)) (n : ℕ) → is_empty words ≡ false → nat_lt 0 p.primary ≡ false → each add_name [] words ≡ Ok names → length names ≡ n → items_line p words ≡ within (problem_with names n [])
+unfolding items_line
+items_taken p words names n some first e all = rw (some, first, e, ← all) refl
+
 -- *a `maybe` line in its place*
 
 pub some_words : (words : List (List ℕ)) (b : Bool) → b ≡ not (is_empty words) → b ≡ true → is_empty words ≡ false
@@ -42,6 +48,12 @@ some_words (w ∷ words) b e h = refl
 pub maybe_taken : (p : ProblemValue) (words names : List (List ℕ)) → is_empty words ≡ false → nat_lt p.primary (length p.names) ≡ false → nat_lt 0 (length p.options) ≡ false → (p.primary == 0) ≡ false → each add_name p.names words ≡ Ok names → maybe_line p words ≡ within (problem_with names p.primary [])
 unfolding maybe_line
 maybe_taken p words names some late options begun e = rw (some, late, options, begun, e) refl
+
+-- *an `option` line in its place*
+
+pub option_taken : (p : ProblemValue) (words : List (List ℕ)) (option : List ℕ) → is_empty words ≡ false → (p.primary == 0) ≡ false → each (add_item p.names) [] words ≡ Ok option → option_line p words ≡ within (problem_with p.names p.primary (p.options ++ option ∷ []))
+unfolding option_line
+option_taken p words option some begun e = rw (some, begun, e) refl
 
 -- *names*
 

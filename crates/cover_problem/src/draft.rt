@@ -4,6 +4,7 @@ ghost use Rattle.std.specs.List.{All, list_all};
 ghost use Rattle.text_lines.specs.Lines.{words_of};
 ghost use Rattle.text_lines.specs.Each.{each};
 ghost use Rattle.text_lines.specs.Answers.{Gives};
+ghost use Rattle.cover_problem.specs.Faults.{Tells};
 ghost use Rattle.cover_problem.specs.Problem as problem;
 ghost use Rattle.cover_problem.specs.Problem.{ProblemValue, IsProblem, are_within, problem_with};
 ghost use Rattle.cover_problem.specs.Validation as making;
@@ -13,7 +14,7 @@ ghost use Rattle.cover_problem.specs.Reading as reading;
 ghost use Rattle.cover_problem.specs.Reading.{item_of, add_item, nothing};
 ghost use Rattle.cover_problem.specs.Views.{bytes_of, problem_of_parts};
 
-use crate::fault::{Fault, ProblemFault};
+use crate::fault::{Fault, ProblemFault, told};
 use crate::key::{Key, key_of};
 use crate::limits::{MOST_ENTRIES, MOST_ITEMS, MOST_OPTIONS};
 use crate::lists::Lists;
@@ -55,10 +56,10 @@ impl Model for Draft {
 
 /// The item of a name.
 #[tactic(auto, unfolding(crate::specs::Reading::item_of))]
-fn item_named(names: &IndexSet<Name>, word: &[u8]) -> Result<u32, ProblemFault>
+fn item_named(names: &IndexSet<Name>, word: &[u8]) -> Result<u32, Fault>
     requires few { length names.now.keys ≤ MOST_ITEMS }
     requires named { list_all problem.is_name (bytes_of names.now.keys) ≡ true }
-    ensures item { Gives (λ i. i) result (item_of (bytes_of names.now.keys) word.now) }
+    ensures item { Tells (λ i. i) result (item_of (bytes_of names.now.keys) word.now) }
     ensures some { IfOk result (λ i. 0 < i) }
     ensures within { IfOk result (λ i. i ≤ length names.now.keys) }
 {
@@ -67,9 +68,9 @@ fn item_named(names: &IndexSet<Name>, word: &[u8]) -> Result<u32, ProblemFault>
         return Ok(place as u32 + 1);
     }
     if !is_name(word) {
-        return Err(ProblemFault::Fault(Fault::BadName));
+        return Err(Fault::BadName);
     }
-    Err(ProblemFault::Fault(Fault::UnknownItem))
+    Err(Fault::UnknownItem)
 }
 
 /// Takes an item into an option that doesn't have it yet. An item that was taken has the stamp as its mark.
@@ -86,9 +87,7 @@ fn take_once(
     ensures marked { OnOk result (AreStamps stamp option.new.items marks.new) }
 {
     let place = item as usize - 1;
-    if marks[place] == stamp {
-        return Err(ProblemFault::Fault(Fault::ItemTwiceInOption));
-    }
+    told(marks[place] != stamp, Fault::ItemTwiceInOption)?;
     option.push(item)?;
     marks[place] = stamp;
     Ok(())
@@ -184,16 +183,16 @@ fn within(
     entries: usize,
     marks: Vec<u32>,
     taken: Vec<u32>,
-) -> Result<Draft, ProblemFault>
+) -> Result<Draft, Fault>
     requires primary { primary ≤ length names.keys }
     requires named { list_all problem.is_name (bytes_of names.keys) ≡ true }
     requires counted { entries ≡ sum_by length options }
     requires marked { length marks.items ≡ length names.keys }
     requires old { All (λ mark. mark ≤ length options) marks.items }
-    ensures { Gives (λ d. d) result (making.within (problem_of_parts names.keys primary options)) }
+    ensures { Tells (λ d. d) result (making.within (problem_of_parts names.keys primary options)) }
 {
     if !is_within(names.len(), options.len(), entries) {
-        return Err(ProblemFault::Fault(Fault::TooLarge));
+        return Err(Fault::TooLarge);
     }
     Ok(Draft {
         names,
@@ -212,7 +211,7 @@ fn of_names(alloc: Global, names: IndexSet<Name>, primary: usize) -> Result<Draf
     ensures { Gives (λ d. d) result (making.within (problem_with (bytes_of names.keys) primary [])) }
 {
     let marks = vec![in alloc; 0u32; names.len()]?;
-    within(names, primary, Lists::new(alloc), 0, marks, Vec::new(alloc))
+    Ok(within(names, primary, Lists::new(alloc), 0, marks, Vec::new(alloc))?)
 }
 
 impl Draft {
@@ -235,9 +234,8 @@ impl Draft {
     fn with_items(self, alloc: Global, words: &[u8]) -> Result<Draft, ProblemFault>
         ensures { Gives (λ d. d) result (reading.items_line self (words_of words.now)) }
     {
-        if !has_words(words) || self.primary > 0 {
-            return Err(ProblemFault::Fault(Fault::BadLine));
-        }
+        told(has_words(words), Fault::BadLine)?;
+        told(self.primary == 0, Fault::BadLine)?;
         let names = with_names(IndexSet::new(alloc), words)?;
         let primary = names.len();
         of_names(alloc, names, primary)
@@ -248,12 +246,10 @@ impl Draft {
     fn with_maybe(self, alloc: Global, words: &[u8]) -> Result<Draft, ProblemFault>
         ensures { Gives (λ d. d) result (reading.maybe_line self (words_of words.now)) }
     {
-        if !has_words(words) || self.primary < self.names.len() || !self.options.is_empty() {
-            return Err(ProblemFault::Fault(Fault::BadLine));
-        }
-        if self.primary == 0 {
-            return Err(ProblemFault::Fault(Fault::NoItemLine));
-        }
+        told(has_words(words), Fault::BadLine)?;
+        told(self.primary >= self.names.len(), Fault::BadLine)?;
+        told(self.options.is_empty(), Fault::BadLine)?;
+        told(self.primary > 0, Fault::NoItemLine)?;
         let Draft { names, primary, .. } = self;
         of_names(alloc, with_names(names, words)?, primary)
     }
@@ -263,12 +259,8 @@ impl Draft {
     fn with_option(self, words: &[u8]) -> Result<Draft, ProblemFault>
         ensures { Gives (λ d. d) result (reading.option_line self (words_of words.now)) }
     {
-        if !has_words(words) {
-            return Err(ProblemFault::Fault(Fault::BadLine));
-        }
-        if self.primary == 0 {
-            return Err(ProblemFault::Fault(Fault::NoItemLine));
-        }
+        told(has_words(words), Fault::BadLine)?;
+        told(self.primary > 0, Fault::NoItemLine)?;
         let Draft {
             names,
             primary,
@@ -281,7 +273,7 @@ impl Draft {
         take_option(&names, &mut marks, stamp, &mut taken, words)?;
         let entries = entries + taken.len();
         options.push(&taken)?;
-        within(names, primary, options, entries, marks, taken)
+        Ok(within(names, primary, options, entries, marks, taken)?)
     }
 
     /// The draft with a line of these words.
@@ -292,11 +284,10 @@ impl Draft {
         let Some((key, words)) = split_word(words) else {
             return Ok(self);
         };
-        match key_of(key) {
-            Some(Key::Items) => self.with_items(alloc, words),
-            Some(Key::Maybe) => self.with_maybe(alloc, words),
-            Some(Key::Option) => self.with_option(words),
-            None => Err(ProblemFault::Fault(Fault::BadLine)),
+        match key_of(key).ok_or(Fault::BadLine)? {
+            Key::Items => self.with_items(alloc, words),
+            Key::Maybe => self.with_maybe(alloc, words),
+            Key::Option => self.with_option(words),
         }
     }
 
@@ -306,9 +297,7 @@ impl Draft {
         ensures { Gives (λ d. d) result (reading.line self line.now) }
     {
         let said = outside_comment(line);
-        if !is_all_plain(said) {
-            return Err(ProblemFault::Fault(Fault::BadLine));
-        }
+        told(is_all_plain(said), Fault::BadLine)?;
         self.with_words(alloc, said)
     }
 

@@ -1,6 +1,7 @@
 //! What can be wrong with a problem.
-ghost use Rattle.std.specs.Prelude.{◌≡◌};
+ghost use Rattle.std.specs.Prelude.{◌≡◌, true, false, OnOk, IfErr};
 ghost use Rattle.cover_problem.specs.Faults.{number_of, name_of};
+ghost use Rattle.text_lines.specs.declared.refusal.Refusal.TheVariants as refusals;
 
 use text_lines::{Refusal, TextRefusal};
 use thiserror::Error;
@@ -58,6 +59,27 @@ impl Fault {
 
 /// Why no problem could be made: a fault, or no memory.
 pub type ProblemFault = Refusal<Fault>;
+
+/// A call that takes no memory answers a fault alone. Where it stands in a call that takes some, its fault is told as it is.
+impl From<Fault> for ProblemFault {
+    ghost from_gives = { λ fault refusal. refusal ≡ refusals.Fault fault };
+
+    fn from(fault: Fault) -> ProblemFault {
+        Refusal::Fault(fault)
+    }
+}
+
+/// The fault, where what has to hold doesn't. No memory is asked for here, so none can be wanting.
+#[inline(always)]
+pub fn told(holds: bool, fault: Fault) -> Result<(), Fault>
+    ensures holds { OnOk result (holds ≡ true) }
+    ensures fault { IfErr result (λ told. (told ≡ fault) × (holds ≡ false)) }
+{
+    if holds {
+        return Ok(());
+    }
+    Err(fault)
+}
 
 /// Why a text could not be read: a fault with the number of its line, which is 0 for a fault of the whole text, or no memory.
 pub type CoverFault = TextRefusal<Fault>;

@@ -1,5 +1,6 @@
 //! Laws of the definitions: each is a function that does nothing, whose contract is the law.
 ghost use Rattle.std.specs.Prelude.{ℕ, ◌≡◌, ◌<◌, ◌≤◌, ◌↔◌, List, length, true, Ok, Err};
+ghost use Rattle.cover_problem.specs.Limits.{most_items, most_options, most_entries, most_name_bytes};
 ghost use Rattle.cover_problem.specs.Lists.{has};
 ghost use Rattle.cover_problem.specs.declared.fault.Fault.{Fault};
 ghost use Rattle.cover_problem.specs.declared.fault.Fault.TheVariants.{NoItemLine};
@@ -10,6 +11,8 @@ ghost use Rattle.text_lines.specs.Lines.{lines_of};
 ghost use Rattle.text_lines.specs.Reading.{IsFirstFault};
 ghost use Rattle.cover_problem.specs.Reading.{line, nothing, problem_of, LacksItems};
 ghost use Rattle.cover_problem.specs.Grammar.{IsCoverText, written};
+
+use crate::limits::{MOST_ENTRIES, MOST_ITEMS, MOST_NAME_BYTES, MOST_OPTIONS};
 
 /// The choice is the first of the active items with the fewest options left.
 pub fn choice_is_first_shortest()
@@ -47,4 +50,12 @@ pub fn fault_is_first()
     ensures line { (text : List ℕ) (f : Fault) (n : ℕ) → 0 < n →
         ((problem_of text ≡ Err (f, n)) ↔ IsFirstFault line nothing (lines_of text) f n) }
     ensures whole { (text : List ℕ) (f : Fault) → ((problem_of text ≡ Err (f, 0)) ↔ ((f ≡ NoItemLine) × LacksItems text)) }
+{}
+
+/// The limits that a program can read are those of the definitions.
+pub fn limits_are_told()
+    ensures items { MOST_ITEMS ≡ most_items }
+    ensures options { MOST_OPTIONS ≡ most_options }
+    ensures entries { MOST_ENTRIES ≡ most_entries }
+    ensures name_bytes { MOST_NAME_BYTES ≡ most_name_bytes }
 {}

@@ -1,5 +1,5 @@
 //! The names of items.
-ghost use Rattle.std.specs.Prelude.{◌≡◌, true, false, MatchOption, nat_eq};
+ghost use Rattle.std.specs.Prelude.{◌≡◌, true, false, MatchResult, nat_eq};
 ghost use Rattle.std.specs.List.{list_all};
 ghost use Rattle.std.specs.Str.{bytes_eq};
 ghost use Rattle.std.specs.Hash as fed;
@@ -8,7 +8,9 @@ ghost use Rattle.std.specs.Cmp.Lexicographic.{pointwise, bytes_decides, nat_list
 ghost use Rattle.std.specs.Cmp.Rules.{hashing};
 ghost use Rattle.std.proofs.Common.{ap, rules};
 ghost use Rattle.cover_problem.specs.Problem as problem;
+ghost use Rattle.cover_problem.specs.declared.fault.Fault.TheVariants.{BadName};
 
+use crate::fault::Fault;
 use crate::limits::MOST_NAME_BYTES;
 use arrayvec::ArrayString;
 use indexmap::Equivalent;
@@ -38,17 +40,18 @@ pub fn is_name(word: &[u8]) -> bool
     !word.is_empty() && word.len() <= MOST_NAME_BYTES && are_name_bytes(word)
 }
 
-/// A word as a name, where it is one.
-pub fn name_of(word: &[u8]) -> Option<Name>
-    ensures { MatchOption result (problem.is_name word.now ≡ false)
-        (λ name. (problem.is_name word.now ≡ true) × (name.bytes ≡ word.now)) }
+/// A word as a name, or the fault that it is none.
+pub fn name_of(word: &[u8]) -> Result<Name, Fault>
+    ensures { MatchResult result
+        (λ name. (problem.is_name word.now ≡ true) × (name.bytes ≡ word.now))
+        (λ fault. (fault ≡ BadName) × (problem.is_name word.now ≡ false)) }
 {
     if !is_name(word) {
-        return None;
+        return Err(Fault::BadName);
     }
     match str::from_utf8(word) {
-        Ok(text) => Name::from(text).ok(),
-        Err(_) => None,
+        Ok(text) => Name::from(text).map_err(|_| Fault::BadName),
+        Err(_) => Err(Fault::BadName),
     }
 }
 

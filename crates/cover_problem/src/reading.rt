@@ -6,7 +6,7 @@ ghost use Rattle.cover_problem.specs.Reading.{problem_of};
 ghost use Rattle.cover_problem.specs.Grammar.{IsCoverText};
 
 use crate::draft::Draft;
-use crate::fault::{CoverFault, Fault, ProblemFault};
+use crate::fault::{CoverFault, Fault, ProblemFault, told};
 use crate::problem::Problem;
 use std::alloc::Global;
 use text_lines::read_lines;
@@ -16,10 +16,10 @@ fn read_problem(alloc: Global, bytes: &[u8]) -> Result<Problem, CoverFault>
     ensures { GivesAt (λ p. p) result (problem_of bytes.now) }
 {
     let draft = read_lines(alloc, Draft::new(alloc), bytes)?;
-    if !draft.has_items() {
-        return Err(ProblemFault::Fault(Fault::NoItemLine).in_line(0));
+    match told(draft.has_items(), Fault::NoItemLine) {
+        Ok(()) => Ok(draft.into_problem()),
+        Err(fault) => Err(ProblemFault::from(fault).in_line(0)),
     }
-    Ok(draft.into_problem())
 }
 
 /// Reads a cover text. A refusal is the first fault.

@@ -1,11 +1,12 @@
 //! Whether names and options make a problem, and which fault is the first where they don't.
 ghost use Rattle.text_lines.specs.declared.refusal.Refusal.TheVariants as refusals;
-ghost use Rattle.cover_problem.specs.declared.fault.Fault.TheVariants.{NoItemLine};
-ghost use Rattle.std.specs.Prelude.{◌≡◌, ◌↔◌, true, false, IsErrOf, ◌<◌, ◌≤◌, [], ℕ, List, nat_le, sum_by, length, map, OnOk, IsTrue};
+ghost use Rattle.cover_problem.specs.declared.fault.Fault.TheVariants.{NoItemLine, TooLarge};
+ghost use Rattle.std.specs.Prelude.{◌≡◌, ◌↔◌, true, false, IsErrOf, ◌<◌, ◌≤◌, [], ℕ, List, nat_le, sum_by, length, map, OnOk, IfErr, IsTrue};
 ghost use Rattle.std.specs.List.{All};
 ghost use Rattle.std.specs.String.{string_bytes};
 ghost use Rattle.text_lines.specs.Each.{each};
 ghost use Rattle.text_lines.specs.Answers.{Gives};
+ghost use Rattle.cover_problem.specs.Faults.{Tells};
 ghost use Rattle.cover_problem.specs.Problem as problem;
 ghost use Rattle.cover_problem.specs.Validation as making;
 ghost use Rattle.cover_problem.specs.Validation.{add_name, add_option, option_from};
@@ -21,9 +22,7 @@ use std::alloc::Global;
 pub fn take_name(names: &mut IndexSet<Name>, word: &[u8]) -> Result<(), ProblemFault>
     ensures { Gives (λ _. bytes_of names.new.keys) result (add_name (bytes_of names.old.keys) word.now) }
 {
-    let Some(name) = name_of(word) else {
-        return Err(ProblemFault::Fault(Fault::BadName));
-    };
+    let name = name_of(word)?;
     if !names.insert(name)? {
         return Err(ProblemFault::Fault(Fault::RepeatedItem));
     }
@@ -42,21 +41,21 @@ fn take_names(alloc: Global, given: &[String]) -> Result<IndexSet<Name>, Problem
 }
 
 /// Whether the numbers are an option over as many items as there are marks. An item that was taken has the stamp as its mark.
-fn check_option(marks: &mut [usize], stamp: usize, numbers: &[u32]) -> Result<(), ProblemFault>
+fn check_option(marks: &mut [usize], stamp: usize, numbers: &[u32]) -> Result<(), Fault>
     requires { All (λ mark. mark < stamp) marks.old }
-    ensures option { Gives (λ _. numbers.now) result (option_from (length marks.old) numbers.now) }
+    ensures option { Tells (λ _. numbers.now) result (option_from (length marks.old) numbers.now) }
     ensures marks { OnOk result (All (λ mark. mark ≤ stamp) marks.new) }
 {
     if numbers.is_empty() {
-        return Err(ProblemFault::Fault(Fault::BadLine));
+        return Err(Fault::BadLine);
     }
     for number in numbers {
         let number = *number as usize;
         if number == 0 || number > marks.len() {
-            return Err(ProblemFault::Fault(Fault::UnknownItem));
+            return Err(Fault::UnknownItem);
         }
         if marks[number - 1] == stamp {
-            return Err(ProblemFault::Fault(Fault::ItemTwiceInOption));
+            return Err(Fault::ItemTwiceInOption);
         }
         marks[number - 1] = stamp;
     }
@@ -64,9 +63,9 @@ fn check_option(marks: &mut [usize], stamp: usize, numbers: &[u32]) -> Result<()
 }
 
 /// Whether these are options over as many items as there are marks, which are all 0.
-fn check_each(marks: &mut [usize], options: &[Vec<u32>]) -> Result<(), ProblemFault>
+fn check_each(marks: &mut [usize], options: &[Vec<u32>]) -> Result<(), Fault>
     requires { All (λ mark. mark ≤ 0) marks.old }
-    ensures { Gives (λ _. items_of options.now) result (each (add_option (length marks.old)) [] (items_of options.now)) }
+    ensures { Tells (λ _. items_of options.now) result (each (add_option (length marks.old)) [] (items_of options.now)) }
 {
     for (place, option) in options.iter().enumerate() {
         check_option(marks, place + 1, option)?;
@@ -79,7 +78,7 @@ fn check_options(alloc: Global, count: usize, options: &[Vec<u32>]) -> Result<()
     ensures { Gives (λ _. items_of options.now) result (each (add_option count) [] (items_of options.now)) }
 {
     let mut marks = vec![in alloc; 0usize; count]?;
-    check_each(&mut marks, options)
+    Ok(check_each(&mut marks, options)?)
 }
 
 /// Whether the options have at most so many items together.
@@ -105,6 +104,19 @@ fn is_within(count: usize, options: &[Vec<u32>]) -> bool
         && are_few(options, MOST_ENTRIES - 2 - count - options.len())
 }
 
+/// Whether so many items and these options are within the limits, or the fault that they aren't.
+fn check_size(count: usize, options: &[Vec<u32>]) -> Result<(), Fault>
+    ensures within { OnOk result
+        (problem.are_within count (length options.now) (sum_by length (items_of options.now)) ≡ true) }
+    ensures over { IfErr result (λ fault. (fault ≡ TooLarge)
+        × (problem.are_within count (length options.now) (sum_by length (items_of options.now)) ≡ false)) }
+{
+    if !is_within(count, options) {
+        return Err(Fault::TooLarge);
+    }
+    Ok(())
+}
+
 /// The names of a problem, once its names, options and sizes are checked.
 fn checked_parts(
     alloc: Global,
@@ -118,9 +130,7 @@ fn checked_parts(
 {
     let these = take_names(alloc, names)?;
     check_options(alloc, names.len(), options)?;
-    if !is_within(names.len(), options) {
-        return Err(ProblemFault::Fault(Fault::TooLarge));
-    }
+    check_size(names.len(), options)?;
     Ok(these)
 }
 

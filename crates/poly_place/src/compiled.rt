@@ -1,5 +1,6 @@
 //! The exact cover problem that stands for a puzzle.
-ghost use Rattle.std.specs.Prelude.{◌≡◌, ◌++◌, Ok, true, false, map, length, vec_items, IfOk, IsOk, IsErrOf};
+ghost use Rattle.std.specs.Prelude.{◌≡◌, ◌++◌, Ok, Some, None, true, false, map, length, vec_items, if◌then◌else◌};
+ghost use Rattle.std.specs.Prelude.{IfOk, IsOk, IsErrOf};
 ghost use Rattle.std.specs.String.{string_bytes};
 ghost use Rattle.poly_texts.specs.Puzzle.{IsPuzzle};
 ghost use Rattle.cover_problem.specs.Problem.{is_small};
@@ -87,6 +88,16 @@ impl<'p> Compiled<'p> {
     }
 }
 
+/// The refusal of a puzzle for whose options there is no room. No memory is asked for here, so none can be wanting.
+fn refusal(room: bool) -> Option<PlaceFault>
+    ensures { result ≡ (if room then None else Some PlaceFault.TooManyOptions) }
+{
+    if room {
+        return None;
+    }
+    Some(PlaceFault::TooManyOptions)
+}
+
 /// The problem that stands for the puzzle; refused exactly where it would be past the limits of a problem.
 pub fn compile<'p>(alloc: Global, puzzle: &'p Puzzle) -> Result<Compiled<'p>, PlaceFault>
     ensures value { IfOk result (λ c. c ≡ puzzle.now) }
@@ -100,8 +111,9 @@ pub fn compile<'p>(alloc: Global, puzzle: &'p Puzzle) -> Result<Compiled<'p>, Pl
     let filled = table_of(alloc, cells.as_slice())?;
     let primary = pieces.len() + cells.len();
     let items = primary + puzzle.maybe_pieces().len() + puzzle.maybe_cells().len();
-    if !has_room(alloc, puzzle, pieces.as_slice(), filled.as_slice(), items)? {
-        return Err(PlaceFault::TooManyOptions);
+    let room = has_room(alloc, puzzle, pieces.as_slice(), filled.as_slice(), items)?;
+    if let Some(fault) = refusal(room) {
+        return Err(fault);
     }
     let choices = all_choices(alloc, puzzle, pieces.as_slice(), filled.as_slice())?;
     let problem = problem_of(

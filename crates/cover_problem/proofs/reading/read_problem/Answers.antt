@@ -18,21 +18,21 @@ returns-in_err-draft c =
     let h : IsFaultAt r (lines_read line nothing lines) = subst (λ (s : ProblemValue). IsFaultAt r (lines_read line s lines)) c.new.ensures c.in_err-draft.ensures.refused in
     rw (p.1, p.2) (text_refused line nothing with_items lines r h)
 
-pub returns-then-not-has_items : goal.returns-then-not-has_items
-returns-then-not-has_items c =
-    let none : nat_lt 0 c.in_ok-draft.draft.primary ≡ false = sym c.has_items.ensures ∙ c.if-not-has_items.true in
+pub returns-in-Err : goal.returns-in-Err
+returns-in-Err c =
+    let none : nat_lt 0 c.in_ok-draft.draft.primary ≡ false = sym c.has_items.ensures ∙ c.in-Err.ensures.fault.1 in
     let read = rw c.new.ensures at c.in_ok-draft.ensures.read in
-    rw c.in_line.ensures (text_without_items c.args.bytes.now c.in_ok-draft.draft read.0 read.1 none)
+    rw (c.in_line.ensures, c.from.ensures, c.in-Err.ensures.fault.0) (text_without_items c.args.bytes.now c.in_ok-draft.draft read.0 read.1 none)
 
 pub into_problem-requires : goal.into_problem-requires
 into_problem-requires c =
-    let some : nat_lt 0 c.in_ok-draft.draft.primary ≡ true = sym c.has_items.ensures ∙ c.if-not-has_items.false in
+    let some : nat_lt 0 c.in_ok-draft.draft.primary ≡ true = sym c.has_items.ensures ∙ c.in-Ok.ensures.holds in
     let read = rw c.new.ensures at c.in_ok-draft.ensures.read in
     let text = lines_are c.args.bytes.now c.in_ok-draft.draft read.0 read.1 some in
     text.problem
 
-pub returns : goal.returns
-returns c =
-    let some : nat_lt 0 c.in_ok-draft.draft.primary ≡ true = sym c.has_items.ensures ∙ c.if-not-has_items.false in
+pub returns-in-Ok : goal.returns-in-Ok
+returns-in-Ok c =
+    let some : nat_lt 0 c.in_ok-draft.draft.primary ≡ true = sym c.has_items.ensures ∙ c.in-Ok.ensures.holds in
     let read = rw c.new.ensures at c.in_ok-draft.ensures.read in
     rw c.into_problem.ensures (text_with_items c.args.bytes.now c.in_ok-draft.draft read.0 read.1 some)

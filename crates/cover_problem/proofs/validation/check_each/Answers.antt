@@ -1,8 +1,7 @@
 use Rattle.std.proofs.Common.{[], map, length}
 use Rattle.std.proofs.lemmas.Result.{err_from_is_err_and}
 use Rattle.text_lines.specs.Each.{each}
-use Rattle.cover_problem.specs.Validation.{add_option, option_from}
-use Rattle.text_lines.proofs.ResultLemmas.{passes_on}
+use Rattle.cover_problem.specs.Validation.{add_option}
 use Rattle.cover_problem.proofs.OptionLemmas.{options_go, options_stop, options_end}
 use Rattle.cover_problem.proofs.validation.check_each.Goals as goal
 
@@ -12,10 +11,8 @@ returns-in_err-check_option c =
     let n = length c.args.marks.now in
     let all = each (add_option n) [] (map (λ o. o.items) c.args.options.now) in
     rw (p.1, p.2)
-    (passes_on c.in_err-check_option.field-0.0 (option_from (length c.loop-place.marks) c.deref.result.now) all
-    (λ f h. options_stop (λ o. o.items) n c.args.options.now c.loop-place.place all c.loop-place.invariant.so_far c.index-options-place.result c.loop-place-test.true c.index-options-place.is f
-    (rw (c.loop-place.auto.marks, c.deref.ensures.value) at h))
-    c.in_err-check_option.ensures.option)
+    (options_stop (λ o. o.items) n c.args.options.now c.loop-place.place all c.loop-place.invariant.so_far c.index-options-place.result c.loop-place-test.true c.index-options-place.is c.in_err-check_option.field-0.0
+    (rw (c.loop-place.auto.marks, c.deref.ensures.value) at c.in_err-check_option.ensures.option))
 
 pub loop-place-preserved : goal.loop-place-preserved
 loop-place-preserved c =

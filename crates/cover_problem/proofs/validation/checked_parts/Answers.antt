@@ -1,4 +1,4 @@
-use Rattle.std.proofs.Common.{◌≡◌, true, [], map, ◌∙◌, ap, sym, refl, length, sum_by, string_bytes}
+use Rattle.std.proofs.Common.{◌≡◌, true, [], map, ◌∙◌, ap, refl, length, sum_by, string_bytes}
 use Rattle.std.proofs.lemmas.List.{length-map}
 use Rattle.std.proofs.lemmas.Result.{err_from_is_err_and}
 use Rattle.text_lines.specs.Each.{each}
@@ -28,15 +28,17 @@ returns-in_err-check_options c =
     rw (p.1, p.2)
     (passes_on c.in_err-check_options.field-0.0 (each (add_option (length names)) [] options) (problem_from names c.args.primary options) (options_refused names c.args.primary options some these c.in_ok-these.ensures) (rw length-map c.in_err-check_options.ensures))
 
-pub returns-then-not-is_within : goal.returns-then-not-is_within
-returns-then-not-is_within c =
+pub returns-in_err-check_size : goal.returns-in_err-check_size
+returns-in_err-check_size c =
+    let p = err_from_is_err_and c.from_residual-in_err-check_size.result c.from_residual-in_err-check_size.ensures.1 in
     let names = map string_bytes c.args.names.now in
     let options = map (λ o. o.items) c.args.options.now in
     let these = map (λ n. n.bytes) c.in_ok-these.these.keys in
     let some : is_item (length names) c.args.primary ≡ true = rw length-map c.requires in
     let same : length these ≡ length c.args.names.now = ap length (names_are [] names these c.in_ok-these.ensures refl refl).0 ∙ length-map c.args.names.now string_bytes in
     let size : is_small (problem_with these c.args.primary options) ≡ are_within (length c.args.names.now) (length c.args.options.now) (sum_by length options) = rw (same, length-map) refl in
-    too_large names c.args.primary options some these c.in_ok-these.ensures options (rw length-map c.in_ok-check_options.ensures) (size ∙ sym c.is_within.ensures ∙ c.if-not-is_within.true)
+    rw (p.1, p.2, c.in_err-check_size.ensures.over.0)
+    (too_large names c.args.primary options some these c.in_ok-these.ensures options (rw length-map c.in_ok-check_options.ensures) (size ∙ c.in_err-check_size.ensures.over.1))
 
 pub returns : goal.returns
 returns c =
@@ -46,4 +48,4 @@ returns c =
     let some : is_item (length names) c.args.primary ≡ true = rw length-map c.requires in
     let same : length these ≡ length c.args.names.now = ap length (names_are [] names these c.in_ok-these.ensures refl refl).0 ∙ length-map c.args.names.now string_bytes in
     let size : is_small (problem_with these c.args.primary options) ≡ are_within (length c.args.names.now) (length c.args.options.now) (sum_by length options) = rw (same, length-map) refl in
-    all_made names c.args.primary options some these c.in_ok-these.ensures options (rw length-map c.in_ok-check_options.ensures) (size ∙ sym c.is_within.ensures ∙ c.if-not-is_within.false)
+    all_made names c.args.primary options some these c.in_ok-these.ensures options (rw length-map c.in_ok-check_options.ensures) (size ∙ c.in_ok-check_size.ensures.within)

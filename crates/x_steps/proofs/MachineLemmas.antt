@@ -290,6 +290,11 @@ pub kept_at : {p : ProblemValue} {s : StateValue} {old : Position} {l : Label} {
     → Keeps p s table_problem covered room → Keeps p (at l s.path s.cursor) table_problem covered room
 kept_at {p} {s} {old} {l} {table_problem} {covered} {room} e m k = from_label p s table_problem covered room k l (label_of e m)
 
+-- the item that is chosen at X4, for the table and after the path
+pub chosen_for : {p : ProblemValue} {s : StateValue} {old : Position} {table_problem : ProblemValue} {covered : List ℕ} {room : ℕ} → record { problem = p; state = s } ≡ old → old.state.label ≡ X4
+    → Keeps p s table_problem covered room → choice table_problem covered ≡ item_after old.problem old.state.path
+chosen_for e m k = chosen_is _ _ _ _ _ _ (kept_at e m k) ∙ ap (λ v. item_after v.problem v.state.path) e
+
 -- what a machine's step says, from the state inside it
 pub goes : {p : ProblemValue} {s t : StateValue} {event : Event} {old : Position} {l : Label} {table_problem : ProblemValue} {covered : List ℕ} {room : ℕ} → record { problem = p; state = s } ≡ old → old.state.label ≡ l
     → Went p (at l s.path s.cursor) t event table_problem covered room → Goes old (record { problem = p; state = t }) event

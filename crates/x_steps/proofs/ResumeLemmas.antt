@@ -139,6 +139,10 @@ module _ (p : ProblemValue) (s : StateValue) (table_problem : ProblemValue) (cov
   pub active_none : (o : ℕ) (b : Bool) → b ≡ false → b ≡ nat_lt 0 (length (active table_problem covered)) → (IsTrue false → Fits p (at X5 s.path (At o))) × (Fits p (at X5 s.path (At o)) → IsTrue false)
   active_none o b e h = (λ f. absurd (false≢true f), λ f. sym e ∙ (active_X2 b h).1 f.1.active)
 
+  -- the item that is chosen
+  pub chosen_X2 : (item : ℕ) → item ≡ choice table_problem covered → item ≡ item_after p s.path
+  chosen_X2 item chosen = chosen ∙ ap (λ q. choice q covered) k.same ∙ ap (λ c. choice p c) stands_X2
+
   module _ (o : ℕ) (some : 0 < o) (within : o ≤ length p.options) (marks : List Bool) (option : List ℕ) (is : option ≡ option_at p o) (marked : AreMarksOf marks (length p.names) (covered_by p s.path)) where
     pub all_within : All (λ i. i < length marks) option
     all_within = option_within p k.sound o some within marks (covered_by p s.path) option marked is
@@ -146,11 +150,15 @@ module _ (p : ProblemValue) (s : StateValue) (table_problem : ProblemValue) (cov
     pub choice_X2 : (a : Bool) → a ≡ true → a ≡ nat_lt 0 (length (active table_problem covered)) → (item : ℕ) → item ≡ choice table_problem covered → (b : Bool) → b ≡ (has option item && not (list_any (λ i. get_or marks i false) option))
         → (IsTrue b → Fits p (at X5 s.path (At o))) × (Fits p (at X5 s.path (At o)) → IsTrue b)
     choice_X2 a e h item chosen b f =
-        let now : item ≡ item_after p s.path = chosen ∙ ap (λ q. choice q covered) k.same ∙ ap (λ c. choice p c) stands_X2 in
+        let now : item ≡ item_after p s.path = chosen_X2 item chosen in
         let left_is : b ≡ has (remaining p (covered_by p s.path) (item_after p s.path)) o =
         f ∙ left_by_marks p k.sound o some within marks (covered_by p s.path) option item marked is ∙ ap (λ i. has (remaining p (covered_by p s.path) i) o) now in
         let active = (active_X2 a h).0 e in
         (λ t. (valid_X2, record { active = active; left = sym left_is ∙ t }), λ g. left_is ∙ g.1.left)
+
+-- where the test fails there is no choice
+pub no_choice : {X : Type 0} (b : Bool) → b ≡ false → (IsTrue b → X) × (X → IsTrue b) → X → ⊥
+no_choice b e h x = false≢true (sym e ∙ h.1 x)
 
 -- ---- the same, of the state inside the machine
 

@@ -4,7 +4,7 @@ ghost use Rattle.std.specs.Prelude.{OnOk, IsErr};
 ghost use Rattle.cover_problem.specs.Problem.{IsProblem};
 ghost use Rattle.x_steps.specs.StateValue.{start};
 ghost use Rattle.x_steps.specs.StateView.{state_value};
-ghost use Rattle.x_steps.specs.Steps.{Fits, covered_in, next, event_of, cursor_of};
+ghost use Rattle.x_steps.specs.Steps.{Fits, item_after, covered_in, next, event_of, cursor_of};
 ghost use Rattle.x_steps.specs.Machine.{IsAt, Goes};
 
 mod at;
@@ -197,6 +197,16 @@ impl<'p, T: Table> Machine<'p, T> {
         ensures { Goes self.old self.new result }
     {
         let item = choose(&self.table);
+        self.open_list(item)
+    }
+
+    /// The same where the item that is chosen is known.
+    #[inline(always)]
+    fn open_list(&mut self, item: u32) -> Event
+        requires label { IsAt self.old Label.X4 }
+        requires item { item ≡ item_after self.old.problem self.old.state.path }
+        ensures { Goes self.old self.new result }
+    {
         self.table.cover(item);
         let cursor = cursor_at(self.table.first_option(item));
         self.state.go(Label::X5, cursor);

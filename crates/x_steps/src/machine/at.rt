@@ -1,12 +1,12 @@
 //! A machine at a given state: its path is walked down, choice by choice, each tested before it is taken.
 ghost use Rattle.std.specs.Prelude.{◌≡◌, ◌<◌, ◌≤◌, ◌++◌, ◌∷◌, ◌&&◌, ◌↔◌, [], ℕ, All, not, true, false, length, slice_index_or, IsTrue};
-ghost use Rattle.std.specs.Prelude.{IfOk, IfErr, OnOk};
+ghost use Rattle.std.specs.Prelude.{None, IfSome, OnSome, IfOk, IfErr, OnOk};
 ghost use Rattle.std.specs.List.{list_any};
 ghost use Rattle.cover_problem.specs.Lists.{has};
 ghost use Rattle.cover_problem.specs.Path.{IsChoice, IsValid, covered_by};
 ghost use Rattle.x_steps.specs.StateValue.{at};
 ghost use Rattle.x_steps.specs.StateView.{state_value};
-ghost use Rattle.x_steps.specs.Steps.{Fits, IsOpen, covered_in};
+ghost use Rattle.x_steps.specs.Steps.{Fits, IsOpen, item_after, covered_in};
 ghost use Rattle.x_steps.specs.Machine.{IsAt};
 ghost use Rattle.x_steps.specs.Marked.{AreMarksOf};
 ghost use Rattle.x_steps.specs.Resume.{position, opened, IsDown};
@@ -116,27 +116,42 @@ impl<'p, T: Table> Machine<'p, T> {
         ensures unfit { result ≡ false → Fits self.old.problem (at Label.X5 self.old.state.path (Cursor.At option)) → ⊥ }
         ensures problem { self.new.problem ≡ self.old.problem }
     {
-        if !self.is_choice(option, marks) {
+        let Some(item) = self.item_for(option, marks) else {
             return false;
-        }
-        self.open_at(option);
+        };
+        self.open_for(item, option);
         self.take(option);
         mark_all(marks, self.problem.option(option));
         true
     }
 
-    /// Whether the path can go on with the option: it is left for the item that is chosen.
+    /// The item that is chosen, where the path can go on with the option: it is left for that item.
+    fn item_for(&self, option: u32, marks: &[bool]) -> Option<u32>
+        requires { IsDown self.now.problem self.now.state.path self.now marks.now }
+        ensures item { IfSome result (λ item. item ≡ item_after self.now.problem self.now.state.path) }
+        ensures choice { OnSome result (Fits self.now.problem (at Label.X5 self.now.state.path (Cursor.At option))) }
+        ensures none { result ≡ None → Fits self.now.problem (at Label.X5 self.now.state.path (Cursor.At option)) → ⊥ }
+    {
+        if !has_option(self.problem, option) {
+            return None;
+        }
+        if !has_active(&self.table) {
+            return None;
+        }
+        let item = choose(&self.table);
+        if is_free(self.problem.option(option), item, marks) {
+            Some(item)
+        } else {
+            None
+        }
+    }
+
+    /// Whether the path can go on with the option.
     fn is_choice(&self, option: u32, marks: &[bool]) -> bool
         requires { IsDown self.now.problem self.now.state.path self.now marks.now }
         ensures { IsTrue result ↔ Fits self.now.problem (at Label.X5 self.now.state.path (Cursor.At option)) }
     {
-        if !has_option(self.problem, option) {
-            return false;
-        }
-        if !has_active(&self.table) {
-            return false;
-        }
-        is_free(self.problem.option(option), choose(&self.table), marks)
+        self.item_for(option, marks).is_some()
     }
 
     /// Whether an item is active.
@@ -205,6 +220,19 @@ impl<'p, T: Table> Machine<'p, T> {
         ensures { self.new ≡ position self.old.problem (at Label.X5 self.old.state.path (Cursor.At option)) }
     {
         self.open_level();
+        self.turn(Label::X5, Cursor::At(option));
+    }
+
+    /// The same where the item that is chosen is known.
+    fn open_for(&mut self, item: u32, option: u32)
+        requires label { IsAt self.old Label.X2 }
+        requires item { item ≡ item_after self.old.problem self.old.state.path }
+        requires fits { Fits self.old.problem (at Label.X5 self.old.state.path (Cursor.At option)) }
+        ensures { self.new ≡ position self.old.problem (at Label.X5 self.old.state.path (Cursor.At option)) }
+    {
+        self.enter();
+        self.plan();
+        self.open_list(item);
         self.turn(Label::X5, Cursor::At(option));
     }
 

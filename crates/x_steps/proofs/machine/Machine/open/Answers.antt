@@ -1,20 +1,9 @@
-use Rattle.x_steps.proofs.MachineLemmas.{opens, opens_ready, opens_covers, goes, kept_at}
+use Rattle.std.proofs.Common.{◌∙◌}
+use Rattle.x_steps.proofs.MachineLemmas.{opens_ready, chosen_for, kept_at}
 use Rattle.x_steps.proofs.machine.Machine.open.Goals as goal
 
 pub choose-item-requires-clause-open : goal.choose-item-requires-clause-open
 choose-item-requires-clause-open g c = opens_ready _ _ _ _ _ _ (kept_at c.self.view_is c.requires c.self.invariant)
 
-pub cover-requires : goal.cover-requires
-cover-requires g c = let w = opens_covers _ _ _ _ _ _ _ c.choose-item.ensures (kept_at c.self.view_is c.requires c.self.invariant) in record { some = w.some; within = w.within; uncovered = w.uncovered }
-
-pub first_option-requires-clause-some : goal.first_option-requires-clause-some
-first_option-requires-clause-some g c = (opens_covers _ _ _ _ _ _ _ c.choose-item.ensures (kept_at c.self.view_is c.requires c.self.invariant)).some
-
-pub first_option-requires-clause-within : goal.first_option-requires-clause-within
-first_option-requires-clause-within g c = rw c.cover.ensures.same_problem (opens_covers _ _ _ _ _ _ _ c.choose-item.ensures (kept_at c.self.view_is c.requires c.self.invariant)).within
-
-pub invariant_of-self : goal.invariant_of-self
-invariant_of-self g c = rw c.go.ensures (opens _ _ _ _ _ _ _ _ _ _ _ c.choose-item.ensures c.cover.ensures.same_problem c.cover.ensures.covered c.first_option.ensures c.cursor_at-cursor.ensures (kept_at c.self.view_is c.requires c.self.invariant)).keeps
-
-pub returns : goal.returns
-returns g c = rw c.go.ensures (goes c.self.view_is c.requires (opens _ _ _ _ _ _ _ _ _ _ _ c.choose-item.ensures c.cover.ensures.same_problem c.cover.ensures.covered c.first_option.ensures c.cursor_at-cursor.ensures (kept_at c.self.view_is c.requires c.self.invariant)))
+pub open_list-requires-clause-item : goal.open_list-requires-clause-item
+open_list-requires-clause-item g c = c.choose-item.ensures ∙ chosen_for c.self.view_is c.requires c.self.invariant

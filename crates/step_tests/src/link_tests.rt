@@ -1,0 +1,213 @@
+//! The table of nodes of the small problem, its lists while items are covered, and the memory of a block.
+ghost use Rattle.std.specs.Prelude.{◌≡◌, ◌<◌, ◌≤◌, length, [], ◌∷◌};
+ghost use Rattle.cover_problem.specs.Problem.{size_of};
+
+use cover_links::{Block, Entry, LinkTable};
+use cover_problem::{Table, read_cover};
+use drawn_problems::SMALL;
+use linked_list_allocator::LocalHeap;
+use std::alloc::{AllocError, Allocator};
+use std::test::Fail;
+
+/// The entries 1 to 30: an item's length, a node's item, or a spacer's option negated, and the links up and down.
+/// (TAOCP volume 4B, section 7.2.2.1, table 1, with the spacers' links.)
+const NODES: [(i64, u32, u32); 30] = [
+    (2, 20, 12),
+    (2, 24, 16),
+    (2, 17, 9),
+    (3, 27, 13),
+    (2, 28, 10),
+    (2, 22, 18),
+    (3, 29, 14),
+    (0, 0, 10),
+    (3, 3, 17),
+    (5, 5, 28),
+    (-1, 9, 14),
+    (1, 1, 20),
+    (4, 4, 21),
+    (7, 7, 25),
+    (-2, 12, 18),
+    (2, 2, 24),
+    (3, 9, 3),
+    (6, 6, 22),
+    (-3, 16, 22),
+    (1, 12, 1),
+    (4, 13, 27),
+    (6, 18, 6),
+    (-4, 20, 25),
+    (2, 16, 2),
+    (7, 14, 29),
+    (-5, 24, 29),
+    (4, 21, 4),
+    (5, 10, 5),
+    (7, 25, 7),
+    (-6, 27, 0),
+];
+
+/// Whether the entries 1 to 30 are those of the small problem.
+fn is_small_block(table: &LinkTable) -> bool
+    requires { size_of table.now.problem ≡ 31 }
+{
+    for (place, entry) in NODES.iter().enumerate() {
+        let node = table.node(place as u32 + 1);
+        if node.top_or_len != entry.0 || node.up != entry.1 || node.down != entry.2 {
+            return false;
+        }
+    }
+    true
+}
+
+/// Covers three items.
+pub fn cover_three<T: Table>(table: &mut T, a: u32, b: u32, c: u32)
+    requires none { T.covered_list table.old ≡ [] }
+    requires first { (0 < a) }
+    requires rising { a < b }
+    requires more { b < c }
+    requires within { c ≤ length (T.problem_value table.old).names }
+    ensures same_problem { T.problem_value table.new ≡ T.problem_value table.old }
+    ensures covered { T.covered_list table.new ≡ a ∷ b ∷ c ∷ [] }
+{
+    table.cover(a);
+    table.cover(b);
+    table.cover(c);
+}
+
+/// Uncovers them again.
+pub fn uncover_three<T: Table>(table: &mut T, a: u32, b: u32, c: u32)
+    requires { T.covered_list table.old ≡ a ∷ b ∷ c ∷ [] }
+    ensures same_problem { T.problem_value table.new ≡ T.problem_value table.old }
+    ensures covered { T.covered_list table.new ≡ [] }
+{
+    table.uncover(c);
+    table.uncover(b);
+    table.uncover(a);
+}
+
+/// The second active item.
+fn second_item(table: &LinkTable) -> Option<u32> {
+    table.next_item(table.first_item()?)
+}
+
+/// The second option of an item's list.
+fn second_option(table: &LinkTable, item: u32) -> Option<u32>
+    requires some { 0 < item }
+    requires within { item ≤ length table.now.problem.names }
+{
+    table.next_option(item, table.first_option(item)?)
+}
+
+/// The last but one option of an item's list.
+fn last_but_one(table: &LinkTable, item: u32) -> Option<u32>
+    requires some { 0 < item }
+    requires within { item ≤ length table.now.problem.names }
+{
+    table.prev_option(item, table.last_option(item)?)
+}
+
+#[test]
+fn the_small_problem_has_its_table_of_nodes(rt: HostRuntime) -> Result<(), Fail> {
+    let problem = read_cover(rt.alloc(), SMALL.as_bytes())?;
+    let table = LinkTable::new(rt.alloc(), &problem)?;
+    assert!(rt; table.entries() == 31);
+    assert!(rt; is_small_block(&table));
+    Ok(())
+}
+
+#[test]
+fn uncovering_gives_the_table_of_nodes_back(rt: HostRuntime) -> Result<(), Fail> {
+    let problem = read_cover(rt.alloc(), SMALL.as_bytes())?;
+    assert!(rt; problem.items() == 7);
+    let mut table = LinkTable::new(rt.alloc(), &problem)?;
+    assert!(rt; table.entries() == 31);
+    cover_three(&mut table, 1, 4, 7);
+    assert!(rt; !is_small_block(&table));
+    uncover_three(&mut table, 1, 4, 7);
+    assert!(rt; is_small_block(&table));
+    Ok(())
+}
+
+#[test]
+fn what_is_left_once_a_d_and_g_are_covered(rt: HostRuntime) -> Result<(), Fail> {
+    let problem = read_cover(rt.alloc(), SMALL.as_bytes())?;
+    assert!(rt; problem.items() == 7);
+    let mut table = LinkTable::new(rt.alloc(), &problem)?;
+    cover_three(&mut table, 1, 4, 7);
+    assert!(rt; table.covered() == [1, 4, 7].as_slice());
+    assert!(rt; table.first_item() == Some(2));
+    assert!(rt; second_item(&table) == Some(3));
+    assert!(rt; table.len(2) == 1);
+    assert!(rt; table.first_option(3) == Some(1));
+    assert!(rt; second_option(&table, 3) == Some(3));
+    assert!(rt; second_option(&table, 2) == None);
+    assert!(rt; table.last_option(3) == Some(3));
+    assert!(rt; last_but_one(&table, 3) == Some(1));
+    assert!(rt; last_but_one(&table, 2) == None);
+    // The lists of covered items stay as they were.
+    assert!(rt; table.len(1) == 2);
+    assert!(rt; table.first_option(4) == Some(6));
+    assert!(rt; table.len(4) == 1);
+    Ok(())
+}
+
+/// An entry that names nothing.
+static BLANK: Entry = Entry {
+    top: 0,
+    up: 0,
+    down: 0,
+    left: 0,
+    right: 0,
+};
+
+/// Writes a number into each entry, and reads each again: whether each is what was written.
+fn is_used<A: Allocator>(block: &mut Block<A>, len: u32) -> bool
+    requires { len ≤ length block.old }
+{
+    write_each(block, len);
+    for index in 0..len {
+        if block.read(index).top != index {
+            return false;
+        }
+    }
+    true
+}
+
+/// Writes its own number into each entry.
+fn write_each<A: Allocator>(block: &mut Block<A>, len: u32)
+    requires { len ≤ length block.old }
+    ensures { length block.new ≡ length block.old }
+{
+    for index in 0..len {
+        let entry = Entry {
+            top: index,
+            ..BLANK
+        };
+        block.write(index, entry);
+    }
+}
+
+/// Whether a block takes its memory of the heap, holds what is written, and gives all back when it is dropped.
+fn is_given_back(heap: &LocalHeap, len: u32) -> Result<bool, AllocError> {
+    let mut block = Block::make(heap, len as usize, BLANK)?;
+    let taken = heap.used();
+    let is_used = is_used(&mut block, len);
+    let held = heap.used();
+    drop(block);
+    Ok(is_used && taken / 16 >= len as usize && held == taken && heap.used() == 0)
+}
+
+#[test]
+fn a_block_goes_back_to_its_heap(rt: HostRuntime) -> Result<(), Fail> {
+    let heap = LocalHeap::new(rt.alloc(), 2_000_000)?;
+    assert!(rt; is_given_back(&heap, 1)?);
+    assert!(rt; is_given_back(&heap, 31)?);
+    assert!(rt; is_given_back(&heap, 60_000)?);
+    Ok(())
+}
+
+#[test]
+fn a_block_of_a_million_entries_goes_back_to_its_heap(rt: HostRuntime) -> Result<(), Fail> {
+    let heap = LocalHeap::new(rt.alloc(), 20_000_000)?;
+    assert!(rt; is_given_back(&heap, 1_100_000)?);
+    assert!(rt; is_given_back(&heap, 1_100_000)?);
+    Ok(())
+}

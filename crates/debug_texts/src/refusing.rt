@@ -38,7 +38,7 @@ pub fn write_debug_fault(text: &mut Vec<u8>, fault: DebugFault) -> Result<(), Al
     write_refused(text, Layer::Debug, fault.number(), fault.name())
 }
 
-/// Writes the line of a refusal by a runner. Want of memory has none, and is passed on.
+/// Writes the line of a refusal by a runner. Out of memory has none, and is passed on.
 pub fn write_runner_fault(text: &mut Vec<u8>, fault: RunnerFault) -> Result<(), AllocError>
     ensures { OnOk result ((number : ℕ) × (runner.number_of fault ≡ Some number) × (text.new.items ≡ text.old.items
         ++ line_text (refused_words Layer.Runner number (runner.name_of fault)))) }
@@ -49,7 +49,7 @@ pub fn write_runner_fault(text: &mut Vec<u8>, fault: RunnerFault) -> Result<(), 
     }
 }
 
-/// Writes the line of a refusal of a snapshot. Want of memory has none, and is passed on.
+/// Writes the line of a refusal of a snapshot. Out of memory has none, and is passed on.
 pub fn write_snapshot_fault(text: &mut Vec<u8>, fault: SnapshotFault) -> Result<(), AllocError>
     ensures { OnOk result ((number : ℕ) × (snapshot.number_of fault ≡ Some number) × (text.new.items ≡ text.old.items
         ++ line_text (refused_words Layer.Snapshot number (snapshot.name_of fault)))) }

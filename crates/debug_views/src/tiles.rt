@@ -101,7 +101,7 @@ pub fn write_posted(book: &Book<'_>, text: &mut Vec<u8>) -> Result<(), AllocErro
     write_counted(text, Counted::Visits, visits.len() as u128)
 }
 
-/// Writes the line of a refusal by the book. Want of memory has none, and is passed on.
+/// Writes the line of a refusal by the book. Out of memory has none, and is passed on.
 pub fn write_book_fault(text: &mut Vec<u8>, fault: &BookFault) -> Result<(), AllocError>
     ensures text { OnOk result (text.new.items ≡ text.old.items ++ line_text (book_refusal fault.now)) }
     ensures told { OnOk result (fault.now ≡ BookFault.OutOfMemory → ⊥) }

@@ -79,11 +79,11 @@ module _ (b : BookValue) (i : ℕ) (tiling : IsTiling b.problem b.branch b.first
 module _ (b : BookValue) (lo : Option (List ℕ)) where
   pub enter_none : None ≡ place_at lo b.tiles → enter b lo ≡ entered_at b None
   unfolding enter
-  enter_none state_line = ap (entered_at b) (sym state_line)
+  enter_none found = ap (entered_at b) (sym found)
 
   pub enter_some : (i : ℕ) → Some i ≡ place_at lo b.tiles → enter b lo ≡ lent_by b (enter_call (tile_at b.tiles i))
   unfolding enter
-  enter_some i state_line = ap (entered_at b) (sym state_line)
+  enter_some i found = ap (entered_at b) (sym found)
 
   -- whatever comes of it, the book is one of the same problem
   pub enter_problem : (enter b lo).desk.book.problem ≡ b.problem

@@ -8,3 +8,4 @@ pub mod AboveLemmas
 pub mod UntriedLemmas
 pub mod PostingLemmas
 pub mod WalkedLemmas
+pub mod FirstLemmas

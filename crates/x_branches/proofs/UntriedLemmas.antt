@@ -96,6 +96,15 @@ at_cursor p X5 path o f = ([], refl)
 at_cursor p X6 path o f = (others (item_after p path) (option_at p o), refl)
 at_cursor p _ path o f = absurd f
 
+-- a state covers at least what the choices of a beginning of its path cover
+pub covered_within : (p : ProblemValue) (s : StateValue) (n : ℕ) → Fits p s → length (covered_by p (take n s.path)) ≤ length (covered_in p s)
+unfolding covered_in
+covered_within p s n f =
+    let a = state_begins p s.label s.path s.cursor f in
+    let b = ap (length {A = ℕ}) a.1 ∙ length-append (covered_by p s.path) a.0 in
+    let c = subst (λ q. length (covered_by p (take n s.path)) ≤ length (covered_by p q)) (take-append-drop n s.path) (covered_part p (take n s.path) (drop n s.path)) in
+    omega arith
+
 -- the item chosen at a level of a state stands on the covered list behind what the choices before that level cover
 pub covered_front : (p : ProblemValue) (s : StateValue) (level o : ℕ) (rest : List ℕ) → Fits p s → drop level (choices s) ≡ o ∷ rest → (more : List ℕ) × (covered_in p s ≡ covered_by p (take level (choices s)) ++ item_after p (take level (choices s)) ∷ more)
 unfolding covered_in

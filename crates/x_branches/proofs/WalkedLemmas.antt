@@ -143,7 +143,7 @@ end_is_cut (Some cut) s a =
     let here : s ≡ at X5 s.path (At a.option) = (λ j. at (a.label j) s.path (a.cursor j)) in
     here ∙ sym (cut_is s.path a.option) ∙ ap cut_state a.path
 
-none_is_start : cut_state [] ≡ start
+pub none_is_start : cut_state [] ≡ start
 unfolding cut_state
 none_is_start = refl
 

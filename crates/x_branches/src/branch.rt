@@ -31,6 +31,17 @@ fn copied<'p>(cut: &Option<Cut<'p>>) -> Result<Option<Cut<'p>>, AllocError>
     }
 }
 
+/// Whether two cuts, if there are, are the same.
+fn are_same(one: &Option<Cut<'_>>, other: &Option<Cut<'_>>) -> bool
+    ensures { IsTrue result ↔ (one.now ≡ other.now) }
+{
+    match (one, other) {
+        (Some(one), Some(other)) => one.same(other),
+        (None, None) => true,
+        _ => false,
+    }
+}
+
 /// Whether a cut, if there is one, is the problem's.
 fn is_of(cut: &Option<Cut<'_>>, problem: &Problem) -> bool
     ensures { IsTrue result ↔ IsOf problem.now cut.now }
@@ -49,6 +60,13 @@ impl<'p> Branch<'p> {
         let lo = copied(&self.lo)?;
         let hi = copied(&self.hi)?;
         Ok(Branch { lo, hi })
+    }
+
+    /// Whether it is the same branch.
+    pub fn same(&self, other: &Branch<'_>) -> bool
+        ensures { IsTrue result ↔ (self.now ≡ other.now) }
+    {
+        are_same(&self.lo, &other.lo) && are_same(&self.hi, &other.hi)
     }
 
     /// Where its first state stands.

@@ -1,5 +1,5 @@
 //! Cuts: where a run is parted.
-ghost use Rattle.std.specs.Prelude.{◌≡◌, ◌↔◌, [], IfOk, IfErr, OnOk};
+ghost use Rattle.std.specs.Prelude.{◌≡◌, ◌↔◌, [], IfOk, IfErr, OnOk, IsTrue};
 ghost use Rattle.x_steps.specs.Steps.{Fits};
 ghost use Rattle.x_branches.specs.Cut.{cut_state, IsCut};
 ghost use Rattle.x_branches.specs.declared.fault.CutFault as cut_faults;
@@ -135,6 +135,13 @@ impl<'p> Cut<'p> {
         ensures { result.now ≡ self.now.problem }
     {
         self.problem
+    }
+
+    /// Whether it is the same cut of the same problem.
+    pub fn same(&self, other: &Cut<'_>) -> bool
+        ensures { IsTrue result ↔ (self.now ≡ other.now) }
+    {
+        self.problem.same(other.problem) && self.path == other.path
     }
 
     /// A copy, with a path of its own.

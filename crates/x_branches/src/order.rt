@@ -18,7 +18,7 @@ const MANY: u64 = 4_294_967_296;
 const PAST_ALL: u64 = 4 * MANY + 5;
 
 /// How many choices two paths share, up to their first difference.
-fn shared(one: &[u32], other: &[u32]) -> usize
+pub(crate) fn shared(one: &[u32], other: &[u32]) -> usize
     ensures { IsShared one.now other.now result }
 {
     let mut level = 0;

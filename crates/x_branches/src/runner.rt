@@ -186,6 +186,30 @@ impl<'p, T: Table> Runner<'p, T> {
         })
     }
 
+    /// The table, which stands for the items covered at the position.
+    pub fn table(&self) -> &T
+        ensures same_problem { T.problem_value result.now ≡ self.now.problem }
+        ensures covered { T.covered_list result.now ≡ covered_in self.now.problem self.now.position }
+    {
+        self.machine.table()
+    }
+
+    /// Gives the table back with nothing covered, without memory. What is unposted is lost.
+    pub fn into_table(self) -> T
+        ensures same_problem { T.problem_value result ≡ self.entry.problem }
+        ensures covered { T.covered_list result ≡ [] }
+    {
+        let Runner {
+            machine,
+            branch: _,
+            mark: _,
+            steps: _,
+            visits: _,
+            counts: _,
+        } = self;
+        machine.into_table()
+    }
+
     /// Where the search stands.
     pub fn state(&self) -> &State
         ensures state { state_value result.now ≡ self.now.position }

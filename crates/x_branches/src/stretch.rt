@@ -1,5 +1,5 @@
 //! Stretches: parts of a run that were walked.
-ghost use Rattle.std.specs.Prelude.{◌≡◌, IfOk};
+ghost use Rattle.std.specs.Prelude.{◌≡◌, ◌↔◌, IfOk, IsTrue};
 ghost use Rattle.x_steps.specs.StateView.{state_value};
 ghost use Rattle.x_steps.specs.Run.{steps_between, visits_between};
 ghost use Rattle.x_steps.specs.Levels.{trimmed_levels};
@@ -75,6 +75,13 @@ impl<'p> Stretch<'p> {
         ensures { result.now ≡ trimmed_levels self.now.problem self.now.from self.now.to }
     {
         &self.levels
+    }
+
+    /// Whether it is the same stretch of the same problem.
+    pub fn same(&self, other: &Stretch<'_>) -> bool
+        ensures { IsTrue result ↔ (self.now ≡ other.now) }
+    {
+        self.problem.same(other.problem) && self.from.same(&other.from) && self.to.same(&other.to)
     }
 
     /// The same stretch, in memory of its own.

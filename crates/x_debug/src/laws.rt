@@ -7,8 +7,8 @@ ghost use Rattle.lab_book.specs.Tiling.{tile_at};
 ghost use Rattle.lab_book.specs.Book.{BookValue, book_step};
 ghost use Rattle.debug_views.specs.Tiles.{place_at};
 
-/// No reply names a closed tile. `branches` shows those that are not closed, by its definition; the tile that `open`, `hold` and
-/// `putback` find isn't closed, nor is it when the book has made the call, and it is shown.
+/// The tile that `open`, `hold` and `putback` find isn't closed; nor does it become so where the book asks it to stop, or puts it
+/// back, which is when `hold` and `putback` show it.
 pub fn no_closed_tile_is_named()
     ensures found { (b : BookValue) (lo : Option (List ℕ)) (i : ℕ) → place_at lo b.tiles ≡ Some i →
         is_closed (tile_at b.tiles i).status ≡ false }

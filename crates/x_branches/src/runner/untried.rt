@@ -1,5 +1,5 @@
 //! What a runner leaves untried in its branch, and where its branch can be cut.
-ghost use Rattle.std.specs.Prelude.{All, ◌≡◌, ◌<◌, ◌≤◌, ◌↔◌, ◌++◌, ◌∷◌, [], ℕ, List, length, take, filter, nat_lt, true, Some, IsTrue};
+ghost use Rattle.std.specs.Prelude.{All, ◌≡◌, ◌<◌, ◌≤◌, ◌↔◌, ◌++◌, ◌∷◌, [], ℕ, List, length, take, filter, nat_lt, true, Some, None, IfSome, IsTrue};
 ghost use Rattle.std.specs.Prelude.{IfOk, IfErr, OnOk, OnErr};
 ghost use Rattle.std.specs.List.{slice_get};
 ghost use Rattle.cover_problem.specs.Lists.{has};
@@ -18,7 +18,7 @@ ghost use Rattle.x_branches.specs.Refusals.{untried_in, CanShorten, CutRefused};
 use crate::branch::Branch;
 use crate::cut::Cut;
 use crate::fault::RunnerFault;
-use crate::order::is_before;
+use crate::order::{is_before, shared};
 use crate::position::Position;
 use crate::runner::Runner;
 use cover_problem::{Problem, Table};
@@ -154,6 +154,54 @@ impl<'p, T: Table> Runner<'p, T> {
     {
         let above = self.left_above(level)?;
         self.before_end(level, &above)
+    }
+
+    /// The first option that is untried at a level; None where nothing is. The choice there is given, and how many items the choices
+    /// before it cover. Options that are left rise, so where the first comes after the branch's end, so do all.
+    fn first_at(&self, level: usize, choice: u32, covered: usize) -> Option<u32>
+        requires choice { Some choice ≡ slice_get (choices self.now.position) level }
+        requires covered { covered ≡ length (covered_by self.now.problem (take level (choices self.now.position))) }
+        ensures { result ≡ slice_get (untried_in self.now level) 0 }
+    {
+        let item = self.machine.covered()[covered];
+        let Some(option) = self.machine.table().next_option(item, choice) else {
+            return None;
+        };
+        if is_cut_inside(&self.branch, self.front(level), option) {
+            Some(option)
+        } else {
+            None
+        }
+    }
+
+    /// The least level at which something is untried, with the first option there; None where nothing is untried. It takes no
+    /// memory, and is linear in the depth: where the choices are those of the branch's end nothing is untried, so it looks from
+    /// the level on at which they part.
+    pub fn first_untried(&self) -> Option<(usize, u32)>
+        ensures first { IfSome result (λ found. Some found.1 ≡ slice_get (untried_in self.now found.0) 0) }
+        ensures least { IfSome result (λ found. (level : ℕ) → level < found.0 → untried_in self.now level ≡ []) }
+        ensures none { result ≡ None → (level : ℕ) → untried_in self.now level ≡ [] }
+    {
+        let problem = self.machine.problem();
+        let state = self.machine.state();
+        let last = state.path.len();
+        let parted = shared(&state.path, self.branch.end_choices());
+        let (front, _) = state.path.split_at(parted);
+        let mut covered = covered_count(problem, front, self.machine.covered());
+        'seeking: for level in parted..last {
+            let choice = state.path[level];
+            if let Some(option) = self.first_at(level, choice, covered) {
+                return Some((level, option));
+            }
+            covered += problem.option(choice).len();
+        }
+        let Some(choice) = choice_at(state, last) else {
+            return None;
+        };
+        match self.first_at(last, choice, covered) {
+            Some(option) => Some((last, option)),
+            None => None,
+        }
     }
 
     /// The cut at an untried option of a level. Refused, in this order: where the option is left above the level's choice and

@@ -11,3 +11,4 @@ pub mod SplitLemmas
 pub mod CountLemmas
 pub mod SumLemmas
 pub mod RiseLemmas
+pub mod ForetellLemmas

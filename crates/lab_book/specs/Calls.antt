@@ -14,6 +14,7 @@ use Rattle.lab_book.specs.declared.fault.BookFault.TheVariants.{OutOfMemory}
 use Rattle.lab_book.specs.declared.entry.Call.{Call}
 use Rattle.lab_book.specs.declared.entry.Call.TheVariants as call
 use Rattle.lab_book.specs.declared.entry.Reply.{Reply}
+use Rattle.lab_book.specs.declared.entry.Entry.{Entry}
 use Rattle.lab_book.specs.declared.entry.Reply.TheVariants as reply
 use Rattle.lab_book.specs.Book.{BookValue, outcome, book_step, path_of, stretches_to, found, lease_fault}
 
@@ -21,6 +22,10 @@ use Rattle.lab_book.specs.Book.{BookValue, outcome, book_step, path_of, stretche
 pub record Made (old new : BookValue) (w : ℕ) (c : Call) (r : Reply) : Type 0 where
   pub book : new ≡ book_step old w c
   pub reply : r ≡ (outcome old w c).reply
+
+-- the entry that a call adds
+abbrev pub next_entry : BookValue → ℕ → Call → Entry
+next_entry b w c = record { worker = w; call = c; reply = (outcome b w c).reply }
 
 -- a call was refused: when out of memory nothing has changed, else the book made it and answered so
 abbrev pub Refuses : BookValue → BookValue → ℕ → Call → BookFault → Type 0

@@ -2,7 +2,7 @@
 use Rattle.std.specs.Prelude.{ℕ, Option, Some, None, List, codes}
 use Rattle.lab_book.specs.declared.fault.BookFault.{BookFault}
 use Rattle.lab_book.specs.declared.fault.BookFault.TheVariants.{UnknownBranch, NotWaiting, StaleLease, ForeignProblem, NotAfterMark}
-use Rattle.lab_book.specs.declared.fault.BookFault.TheVariants.{BeyondEnd, NotAMark, NotAtEnd, NothingToRetract, OutOfMemory}
+use Rattle.lab_book.specs.declared.fault.BookFault.TheVariants.{BeyondEnd, NotAMark, NotAtEnd, NothingToRetract, SeatMismatch, OutOfMemory}
 
 -- the number of a refusal; out of memory has none
 abbrev pub number_of : BookFault → Option ℕ
@@ -15,6 +15,7 @@ number_of BeyondEnd = Some 6
 number_of NotAMark = Some 7
 number_of NotAtEnd = Some 8
 number_of NothingToRetract = Some 9
+number_of SeatMismatch = Some 10
 number_of OutOfMemory = None
 
 -- its name
@@ -28,4 +29,5 @@ name_of BeyondEnd = codes "BeyondEnd"
 name_of NotAMark = codes "NotAMark"
 name_of NotAtEnd = codes "NotAtEnd"
 name_of NothingToRetract = codes "NothingToRetract"
+name_of SeatMismatch = codes "SeatMismatch"
 name_of OutOfMemory = codes "OutOfMemory"

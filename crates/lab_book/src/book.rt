@@ -4,11 +4,12 @@ ghost use Rattle.x_steps.specs.StateView.{state_value};
 ghost use Rattle.x_steps.specs.StateValue.{start};
 ghost use Rattle.x_branches.specs.Cut.{IsCut};
 ghost use Rattle.x_branches.specs.Refusals.{CanStart, StartRefused};
-ghost use Rattle.lab_book.specs.Book.{IsBook, new_book, replayed, outcome, refused, tile_place};
+ghost use Rattle.lab_book.specs.Book.{waiting_in, leased_in, IsBook, new_book, replayed, outcome, refused, tile_place};
 ghost use Rattle.lab_book.specs.Tiling.{IsTiling};
 ghost use Rattle.lab_book.specs.Calls.{Refuses};
 
 mod ending;
+mod foretelling;
 mod leasing;
 mod posted;
 mod posting;
@@ -199,6 +200,20 @@ impl<'p> Book<'p> {
         ensures tiling { IsTiling self.now.problem self.now.branch self.now.first self.now.tiles }
     {
         self.tiles.list()
+    }
+
+    /// How many tiles wait.
+    pub fn waiting(&self) -> u64
+        ensures { result ≡ waiting_in self.now.tiles }
+    {
+        self.tiles.waiting()
+    }
+
+    /// How many tiles are leased.
+    pub fn leased(&self) -> u64
+        ensures { result ≡ leased_in self.now.tiles }
+    {
+        self.tiles.leased()
     }
 
     /// The place of the tile with an id among the tiles, without a look at the others; None where no tile has it.

@@ -1,5 +1,5 @@
 //! The entries of a history: who called what, and what was answered.
-ghost use Rattle.std.specs.Prelude.{◌≡◌};
+ghost use Rattle.std.specs.Prelude.{◌≡◌, ◌↔◌, IsTrue};
 
 use crate::fault::BookFault;
 use crate::lease::Grant;
@@ -66,7 +66,131 @@ pub struct Entry {
     pub reply: Reply,
 }
 
+impl Call {
+    /// Whether it is the same call.
+    pub fn same(&self, other: &Call) -> bool
+        ensures { IsTrue result ↔ (self.now ≡ other.now) }
+    {
+        match (self, other) {
+            (Call::Lease(one), Call::Lease(other)) => one == other,
+            (Call::LeaseAny, Call::LeaseAny) => true,
+            (Call::TakeHeld(one), Call::TakeHeld(other)) => one == other,
+            (
+                Call::Post {
+                    lease,
+                    from,
+                    to,
+                    same,
+                },
+                Call::Post {
+                    lease: other_lease,
+                    from: other_from,
+                    to: other_to,
+                    same: other_same,
+                },
+            ) => {
+                lease == other_lease
+                    && same == other_same
+                    && from.same(other_from)
+                    && to.same(other_to)
+            }
+            (
+                Call::Split { lease, path, same },
+                Call::Split {
+                    lease: other_lease,
+                    path: other_path,
+                    same: other_same,
+                },
+            ) => lease == other_lease && same == other_same && path.same(other_path),
+            (Call::Retract(one), Call::Retract(other)) => one == other,
+            (Call::Park(one), Call::Park(other)) => one == other,
+            (Call::Abandon(one), Call::Abandon(other)) => one == other,
+            (Call::Close(one), Call::Close(other)) => one == other,
+            (
+                Call::PutBack { id, state },
+                Call::PutBack {
+                    id: other_id,
+                    state: other_state,
+                },
+            ) => id == other_id && state.same(other_state),
+            (Call::RequestStop(one), Call::RequestStop(other)) => one == other,
+            _ => false,
+        }
+    }
+}
+
+/// Whether two paths, if there are, are the same.
+fn are_same(one: &Option<Path>, other: &Option<Path>) -> bool
+    ensures { IsTrue result ↔ (one.now ≡ other.now) }
+{
+    match (one, other) {
+        (Some(one), Some(other)) => one.same(other),
+        (None, None) => true,
+        _ => false,
+    }
+}
+
+impl Reply {
+    /// Whether it is the same answer.
+    pub fn same(&self, other: &Reply) -> bool
+        ensures { IsTrue result ↔ (self.now ≡ other.now) }
+    {
+        match (self, other) {
+            (
+                Reply::Leased {
+                    lease,
+                    lo,
+                    hi,
+                    mark,
+                    waiting,
+                },
+                Reply::Leased {
+                    lease: other_lease,
+                    lo: other_lo,
+                    hi: other_hi,
+                    mark: other_mark,
+                    waiting: other_waiting,
+                },
+            ) => {
+                lease == other_lease
+                    && waiting == other_waiting
+                    && are_same(lo, other_lo)
+                    && are_same(hi, other_hi)
+                    && mark.same(other_mark)
+            }
+            (Reply::NoneWaits, Reply::NoneWaits) => true,
+            (
+                Reply::Posted { stop, waiting },
+                Reply::Posted {
+                    stop: other_stop,
+                    waiting: other_waiting,
+                },
+            ) => stop == other_stop && waiting == other_waiting,
+            (Reply::Split(one), Reply::Split(other)) => one == other,
+            (
+                Reply::Retracted { from, to },
+                Reply::Retracted {
+                    from: other_from,
+                    to: other_to,
+                },
+            ) => from.same(other_from) && to.same(other_to),
+            (Reply::Done, Reply::Done) => true,
+            (Reply::Refused(one), Reply::Refused(other)) => one.same(other),
+            _ => false,
+        }
+    }
+}
+
 impl Entry {
+    /// Whether it is the same entry.
+    pub fn same(&self, other: &Entry) -> bool
+        ensures { IsTrue result ↔ (self.now ≡ other.now) }
+    {
+        self.worker == other.worker
+            && self.call.same(&other.call)
+            && self.reply.same(&other.reply)
+    }
+
     /// Who called.
     pub fn worker(&self) -> u8
         ensures { result ≡ self.now.worker }

@@ -1,5 +1,5 @@
 //! The refusals of a book.
-ghost use Rattle.std.specs.Prelude.{◌≡◌, IfOk};
+ghost use Rattle.std.specs.Prelude.{◌≡◌, ◌↔◌, IfOk, IsTrue};
 ghost use Rattle.lab_book.specs.Faults.{number_of, name_of};
 
 use crate::mark::Mark;
@@ -26,6 +26,8 @@ pub enum BookFault {
     NotAtEnd,
     /// The tile has no posted stretch.
     NothingToRetract,
+    /// The seats that come back to a desk aren't all of its own with the records of what was called at them.
+    SeatMismatch,
     OutOfMemory,
 }
 
@@ -44,6 +46,7 @@ impl BookFault {
             BookFault::NotAMark => Some(7),
             BookFault::NotAtEnd => Some(8),
             BookFault::NothingToRetract => Some(9),
+            BookFault::SeatMismatch => Some(10),
             BookFault::OutOfMemory => None,
         }
     }
@@ -62,7 +65,28 @@ impl BookFault {
             BookFault::NotAMark => "NotAMark",
             BookFault::NotAtEnd => "NotAtEnd",
             BookFault::NothingToRetract => "NothingToRetract",
+            BookFault::SeatMismatch => "SeatMismatch",
             BookFault::OutOfMemory => "OutOfMemory",
+        }
+    }
+
+    /// Whether it is the same refusal.
+    pub fn same(&self, other: &BookFault) -> bool
+        ensures { IsTrue result ↔ (self.now ≡ other.now) }
+    {
+        match (self, other) {
+            (BookFault::UnknownBranch, BookFault::UnknownBranch) => true,
+            (BookFault::NotWaiting, BookFault::NotWaiting) => true,
+            (BookFault::StaleLease(one), BookFault::StaleLease(other)) => one.same(other),
+            (BookFault::ForeignProblem, BookFault::ForeignProblem) => true,
+            (BookFault::NotAfterMark, BookFault::NotAfterMark) => true,
+            (BookFault::BeyondEnd, BookFault::BeyondEnd) => true,
+            (BookFault::NotAMark, BookFault::NotAMark) => true,
+            (BookFault::NotAtEnd, BookFault::NotAtEnd) => true,
+            (BookFault::NothingToRetract, BookFault::NothingToRetract) => true,
+            (BookFault::SeatMismatch, BookFault::SeatMismatch) => true,
+            (BookFault::OutOfMemory, BookFault::OutOfMemory) => true,
+            _ => false,
         }
     }
 
@@ -80,6 +104,7 @@ impl BookFault {
             BookFault::NotAMark => Ok(BookFault::NotAMark),
             BookFault::NotAtEnd => Ok(BookFault::NotAtEnd),
             BookFault::NothingToRetract => Ok(BookFault::NothingToRetract),
+            BookFault::SeatMismatch => Ok(BookFault::SeatMismatch),
             BookFault::OutOfMemory => Ok(BookFault::OutOfMemory),
         }
     }

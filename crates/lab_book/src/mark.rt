@@ -1,5 +1,5 @@
 //! States and paths in memory of their own, as a book keeps them.
-ghost use Rattle.std.specs.Prelude.{◌≡◌, IfOk};
+ghost use Rattle.std.specs.Prelude.{◌≡◌, ◌↔◌, IfOk, IsTrue};
 ghost use Rattle.x_steps.specs.StateView.{state_value};
 
 use std::alloc::{AllocError, Global};
@@ -45,6 +45,13 @@ impl Mark {
         &self.state
     }
 
+    /// Whether it is the same state.
+    pub fn same(&self, other: &Mark) -> bool
+        ensures { IsTrue result ↔ (self.now ≡ other.now) }
+    {
+        self.state.same(&other.state)
+    }
+
     /// A copy.
     pub fn copy(&self) -> Result<Mark, AllocError>
         ensures { IfOk result (λ mark. mark ≡ self.now) }
@@ -74,6 +81,13 @@ impl Path {
     {
         let choices = Vec::from_slice(alloc, cut.path())?;
         Ok(Path { choices })
+    }
+
+    /// Whether they are the same choices.
+    pub fn same(&self, other: &Path) -> bool
+        ensures { IsTrue result ↔ (self.now ≡ other.now) }
+    {
+        self.choices == other.choices
     }
 
     /// The choices.

@@ -1,5 +1,5 @@
 //! Tiles: the parts into which a book parts the run.
-ghost use Rattle.std.specs.Prelude.{◌≡◌, ◌<◌, ◌≤◌, ◌++◌, ◌∷◌, [], length, take, option_map, Some, IfSome, OnOk, IfOk, IfErr, OnErr};
+ghost use Rattle.std.specs.Prelude.{◌≡◌, ◌<◌, ◌≤◌, ◌++◌, ◌∷◌, [], length, take, option_map, Some, IfSome, OnOk, IfOk, IfErr, OnErr, ◌↔◌, IsTrue};
 ghost use Rattle.x_steps.specs.StateView.{state_value};
 ghost use Rattle.x_branches.specs.Branch.{end_of};
 ghost use Rattle.x_branches.specs.Cut.{cut_state};
@@ -96,7 +96,34 @@ fn mark_place(state: &State, first: &State, stretches: &[Stretch<'_>]) -> Option
     None
 }
 
+/// Whether these are the same stretches.
+fn are_same(stretches: &[Stretch<'_>], others: &[Stretch<'_>]) -> bool
+    ensures { IsTrue result → stretches.now ≡ others.now }
+{
+    if stretches.len() != others.len() {
+        return false;
+    }
+    'comparing: for k in 0..stretches.len() {
+        if !stretches[k].same(&others[k]) {
+            return false;
+        }
+    }
+    true
+}
+
 impl<'p> Tile<'p> {
+    /// Whether it is the same tile; false tells nothing.
+    pub fn same(&self, other: &Tile<'_>) -> bool
+        ensures { IsTrue result → self.now ≡ other.now }
+    {
+        self.id == other.id
+            && self.status == other.status
+            && self.stop == other.stop
+            && self.branch.same(&other.branch)
+            && self.first.same(&other.first)
+            && are_same(&self.stretches, &other.stretches)
+    }
+
     /// The one tile of a new book: it waits at its first mark.
     pub(crate) fn whole(
         alloc: Global,

@@ -96,6 +96,21 @@ impl<'p> Tiles<'p> {
         self.waiting as u64
     }
 
+    /// How many are leased.
+    pub fn leased(&self) -> u64
+        ensures { result ≡ leased_in self.now }
+    {
+        self.leased as u64
+    }
+
+    /// How many wait beside the tile at a place.
+    pub fn waiting_beside(&self, i: usize) -> u64
+        requires { i < length self.now }
+        ensures { result + cond (is_waiting (tile_at self.now i).status) 1 0 ≡ waiting_in self.now }
+    {
+        recounted(self.waiting, self.list[i].status().is_waiting(), false) as u64
+    }
+
     /// The place of the tile with an id.
     pub fn place(&self, id: u64) -> Option<usize>
         ensures place { result ≡ tile_place id self.now }

@@ -34,7 +34,7 @@ impl<'p> Book<'p> {
     }
 
     /// The place of the tile that is closed by its lease.
-    fn close_place(&self, lease: Grant) -> Result<usize, BookFault>
+    pub(crate) fn close_place(&self, lease: Grant) -> Result<usize, BookFault>
         ensures place { Judged result (found self.now.tiles lease.id (λ t. lease_fault lease t (end_fault t))) }
         ensures within { IfOk result (λ i. i < length self.now.tiles) }
         ensures leased { IfOk result (λ i. is_leased (tile_at self.now.tiles i).status ≡ true) }

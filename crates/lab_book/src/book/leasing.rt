@@ -29,7 +29,7 @@ struct Copies<'p> {
 }
 
 /// The choices of a cut, if there is one.
-fn path_of(alloc: Global, cut: &Option<Cut<'_>>) -> Result<Option<Path>, AllocError>
+pub(crate) fn path_of(alloc: Global, cut: &Option<Cut<'_>>) -> Result<Option<Path>, AllocError>
     ensures { IfOk result (λ path. path ≡ path_of cut.now) }
 {
     match cut {
@@ -69,6 +69,7 @@ impl<'p> Book<'p> {
         requires outcome { outcome self.old w call ≡ lent self.old w i }
         ensures made { IfOk result (λ r. Made self.old self.new w call (leased_reply r)) }
         ensures can_start { IfOk result (λ r. CanStart self.old.problem r.branch (state_value r.mark)) }
+        ensures worker { IfOk result (λ r. r.lease.worker ≡ w) }
         ensures refused { IfErr result (λ f. (f ≡ BookFault.OutOfMemory) × (self.new ≡ self.old)) }
     {
         let Ok(copies) = copied(self.tiles.tile(i)) else {
@@ -119,6 +120,7 @@ impl<'p> Book<'p> {
         requires { w ≤ 31 }
         ensures made { IfOk result (λ r. Made self.old self.new w (Call.Lease id) (leased_reply r)) }
         ensures can_start { IfOk result (λ r. CanStart self.old.problem r.branch (state_value r.mark)) }
+        ensures worker { IfOk result (λ r. r.lease.worker ≡ w) }
         ensures refused { IfErr result (λ f. Refuses self.old self.new w (Call.Lease id) f) }
     {
         let i = match self.tiles.waiting_place(id) {
@@ -133,6 +135,7 @@ impl<'p> Book<'p> {
         requires { w ≤ 31 }
         ensures made { IfOk result (λ r. Made self.old self.new w Call.LeaseAny (any_reply r)) }
         ensures can_start { IfOk result (λ r. IfSome r (λ l. CanStart self.old.problem l.branch (state_value l.mark))) }
+        ensures worker { IfOk result (λ r. IfSome r (λ l. l.lease.worker ≡ w)) }
         ensures unchanged { OnErr result (self.new ≡ self.old) }
     {
         let Some(i) = self.tiles.first_waiting() else {
@@ -156,6 +159,7 @@ impl<'p> Book<'p> {
         requires { w ≤ 31 }
         ensures made { IfOk result (λ r. Made self.old self.new w (Call.TakeHeld id) (leased_reply r)) }
         ensures can_start { IfOk result (λ r. CanStart self.old.problem r.branch (state_value r.mark)) }
+        ensures worker { IfOk result (λ r. r.lease.worker ≡ w) }
         ensures refused { IfErr result (λ f. Refuses self.old self.new w (Call.TakeHeld id) f) }
     {
         let i = match self.tiles.held_place(id) {

@@ -20,7 +20,7 @@ use x_branches::{Stretch, run_order};
 use x_steps::Refused;
 
 /// A post, as the history keeps it.
-fn post_call(lease: Grant, stretch: &Stretch<'_>, same: bool) -> Result<Call, AllocError>
+pub(crate) fn post_call(lease: Grant, stretch: &Stretch<'_>, same: bool) -> Result<Call, AllocError>
     ensures { IfOk result (λ call. call ≡ calls.Post lease stretch.now.from stretch.now.to same) }
 {
     let from = Mark::of(stretch.from())?;
@@ -54,7 +54,7 @@ impl<'p> Book<'p> {
     }
 
     /// The place of the tile that a stretch is posted to.
-    fn post_place(
+    pub(crate) fn post_place(
         &self,
         lease: Grant,
         stretch: &Stretch<'_>,

@@ -61,7 +61,7 @@ impl<'p> Book<'p> {
     }
 
     /// The place of the tile that is split at a cut with this state.
-    fn split_place(
+    pub(crate) fn split_place(
         &self,
         lease: Grant,
         cut: &Cut<'_>,

@@ -18,7 +18,7 @@ use x_branches::Stretch;
 use x_steps::State;
 
 /// The two states of a stretch, as the history keeps them.
-fn ends_of(stretch: &Stretch<'_>) -> Result<(Mark, Mark), AllocError>
+pub(crate) fn ends_of(stretch: &Stretch<'_>) -> Result<(Mark, Mark), AllocError>
     ensures from { IfOk result (λ marks. marks.0 ≡ stretch.now.from) }
     ensures to { IfOk result (λ marks. marks.1 ≡ stretch.now.to) }
 {
@@ -53,7 +53,7 @@ impl<'p> Book<'p> {
     }
 
     /// The place of the tile whose last stretch is taken out.
-    fn retract_place(&self, lease: Grant) -> Result<usize, BookFault>
+    pub(crate) fn retract_place(&self, lease: Grant) -> Result<usize, BookFault>
         ensures place { Judged result (found self.now.tiles lease.id (λ t. lease_fault lease t (retract_fault t))) }
         ensures within { IfOk result (λ i. i < length self.now.tiles) }
         ensures leased { IfOk result (λ i. is_leased (tile_at self.now.tiles i).status ≡ true) }
@@ -102,7 +102,7 @@ impl<'p> Book<'p> {
     }
 
     /// The place of the tile that goes back to a state, and how many stretches it keeps.
-    fn mark_place(&self, id: u64, state: &State) -> Result<(usize, usize), BookFault>
+    pub(crate) fn mark_place(&self, id: u64, state: &State) -> Result<(usize, usize), BookFault>
         ensures place { IfOk result (λ x. found self.now.tiles id (mark_fault (state_value state.now)) ≡ Ok x.0) }
         ensures within { IfOk result (λ x. x.0 < length self.now.tiles) }
         ensures free { IfOk result (λ x. is_free (tile_at self.now.tiles x.0).status ≡ true) }

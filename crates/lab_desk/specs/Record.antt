@@ -1,0 +1,40 @@
+-- What a seat notes of its calls.
+use Rattle.std.specs.Prelude.{◌≡◌, ℕ, ◌+◌, ◌==◌, ◌⊎◌, Bool, List, [], ◌∷◌, ◌++◌, cond}
+use Rattle.lab_book.specs.declared.entry.Call.{Call}
+use Rattle.lab_book.specs.declared.entry.Reply.{Reply}
+use Rattle.lab_book.specs.declared.entry.Reply.TheVariants as reply
+use Rattle.lab_book.specs.declared.entry.Entry.{Entry}
+use Rattle.lab_book.specs.declared.fault.BookFault.{BookFault}
+use Rattle.lab_book.specs.declared.fault.BookFault.TheVariants.{OutOfMemory}
+use Rattle.lab_desk.specs.declared.seat.Noted.{Noted}
+
+-- a note of the entry with an index
+abbrev pub noted : ℕ → Entry → Noted
+noted i e = record { index = i; entry = e }
+
+-- a seat: its number, and the notes of the calls made there
+pub record SeatValue : Type 0 where
+  pub number : ℕ
+  pub notes : List Noted
+
+-- notes, and for how many more room is kept
+pub record SheetValue : Type 0 where
+  pub list : List Noted
+  pub kept : ℕ
+
+-- the entry of a call
+abbrev pub entry : ℕ → Call → Reply → Entry
+entry w c r = record { worker = w; call = c; reply = r }
+
+-- the entries of a worker, with their indexes, from an index on
+abbrev pub notes_of : ℕ → ℕ → List Entry → List Noted
+notes_of k i [] = []
+notes_of k i (e ∷ es) = cond (e.worker == k) (noted i e ∷ []) [] ++ notes_of k (i + 1) es
+
+-- one call more of a worker is noted, with what it was answered
+abbrev pub Notes : List Noted → List Noted → ℕ → Call → Reply → Type 0
+Notes old new w c r = (i : ℕ) × (new ≡ old ++ noted i (entry w c r) ∷ [])
+
+-- the same where it was refused; when out of memory, nothing is noted
+abbrev pub NotesRefusal : List Noted → List Noted → ℕ → Call → BookFault → Type 0
+NotesRefusal old new w c f = ((f ≡ OutOfMemory) × (new ≡ old)) ⊎ ((f ≡ OutOfMemory → ⊥) × Notes old new w c (reply.Refused f))

@@ -1,0 +1,405 @@
+//! A desk: a book under one lock, which each worker calls from a seat of its own.
+ghost use Rattle.std.specs.Prelude.{◌≡◌, ◌<◌, ◌≤◌, ◌+◌, [], ◌∷◌, ◌++◌, IfOk, IfErr, OnErr, OnOk, IfSome, vec_len, vec_capacity, length, drop, take, true, List};
+ghost use Rattle.cover_problem.specs.Problem.{ProblemValue, is_same};
+ghost use Rattle.x_steps.specs.StateValue.{StateValue};
+ghost use Rattle.x_steps.specs.StateView.{state_value};
+ghost use Rattle.x_branches.specs.declared.branch.Branch.{Branch};
+ghost use Rattle.x_branches.specs.Refusals.{CanStart};
+ghost use Rattle.lab_book.specs.declared.entry.Entry.{Entry};
+ghost use Rattle.lab_book.specs.declared.entry.Call.TheVariants as calls;
+ghost use Rattle.lab_book.specs.declared.entry.Reply.TheVariants as replies;
+ghost use Rattle.lab_book.specs.Calls.{leased_reply, any_reply, posted_reply, post_of, split_of};
+ghost use Rattle.lab_desk.specs.Record.{Notes, NotesRefusal};
+ghost use Rattle.lab_desk.specs.Seats.{AreSeats, are_of_workers};
+
+use crate::finishing::tell_all;
+use crate::locked::Locked;
+use crate::seat::Seat;
+use cover_problem::Problem;
+use lab_book::{Book, BookFault, Lease, Leased, Posted};
+use std::alloc::{AllocError, Global};
+use std::marker::{Brand, Model};
+use std::sync::ledger::{Blank, Ledger, Share};
+use std::sync::{Condvar, Mutex, Wait};
+use x_branches::{Cut, Stretch};
+use x_steps::{Refused, State};
+
+/// The ledger of a desk, and what its book came with: the history, the problem, the branch and the
+/// first mark.
+pub trait Desking: Ledger {
+    ghost opening: { List Entry };
+    ghost whole: { ProblemValue };
+    ghost part: { Branch };
+    ghost begin: { StateValue };
+}
+
+impl Desking for Brand {
+    ghost use Rattle.std.specs.Prelude.{[], None};
+    ghost use Rattle.x_steps.specs.StateValue.{start};
+
+    ghost opening = { [] };
+    ghost whole = { record { names = []; primary = 0; options = [] } };
+    ghost part = { record { lo = None; hi = None } };
+    ghost begin = { start };
+}
+
+/// A book under one lock. Contracts see how many seats it has.
+#[derive(Drop)]
+pub struct Desk<'p, L: Desking> {
+    lock: Mutex<Locked<'p, L>>,
+    changed: Condvar,
+    problem: &'p Problem,
+    /// How many entries the book came with.
+    from: usize,
+    seats: u8,
+    ghost same: { problem.now ≡ L.whole },
+    ghost opened: { from ≡ length L.opening },
+    ghost few: { seats ≤ 32 },
+}
+
+impl<'p, L: Desking> Model for Desk<'p, L> {
+    ghost use Rattle.lab_desk.specs.Seats.{DeskValue};
+
+    ghost Value = { DeskValue };
+
+    ghost view = { λ d. record { seats = d.seats } };
+}
+
+/// Makes a seat for each part of a ledger.
+fn seat_all<L: Ledger>(alloc: Global, seats: &mut Vec<Seat<L>>, rest: Share<L>, n: u8)
+    requires none { seats.old.items ≡ [] }
+    requires room { n ≤ vec_capacity seats.old }
+    requires parts { (rest.parts ≡ n) × (rest.amount ≡ 0) }
+    requires few { n ≤ 32 }
+    ensures len { vec_len seats.new ≡ n }
+    ensures seats { AreSeats 0 [] seats.new.items }
+{
+    let mut rest = rest;
+    'seating: for k in 0..n {
+        let share = rest.split_off(1, 0);
+        seats.push_reserved(Seat::new(alloc, k, share));
+    }
+}
+
+impl<'p, L: Desking> Desk<'p, L> {
+    /// A desk over a book, with n seats, at which nothing was called. When out of memory the blank
+    /// ledger and the book come back.
+    pub fn new(
+        alloc: Global,
+        blank: Blank,
+        book: Book<'p>,
+        n: u8,
+    ) -> Result<(Desk<'p, L>, Vec<Seat<L>>), (Blank, Book<'p>)>
+        requires name { blank.name ≡ L.name }
+        requires parts { (blank.parts ≡ L.parts) × (blank.parts ≡ n) }
+        requires seats { (0 < n) × (n ≤ 32) }
+        requires opening { book.history ≡ L.opening }
+        requires whole { book.problem ≡ L.whole }
+        requires part { book.branch ≡ L.part }
+        requires begin { book.first ≡ L.begin }
+        ensures desk { IfOk result (λ r. r.0 ≡ record { seats = n }) }
+        ensures number { IfOk result (λ r. vec_len r.1 ≡ n) }
+        ensures seats { IfOk result (λ r. AreSeats 0 [] r.1.items) }
+        ensures blank_back { IfErr result (λ r. r.0 ≡ blank) }
+        ensures book_back { IfErr result (λ r. r.1 ≡ book.entry) }
+    {
+        let Ok(mut seats) = Vec::with_capacity(alloc, n as usize) else {
+            return Err((blank, book));
+        };
+        let problem = book.problem();
+        let from = book.history().len();
+        let (count, rest) = blank.open::<L>();
+        seat_all(alloc, &mut seats, rest, n);
+        let lock = Mutex::new(Locked { book, count });
+        let desk = Desk {
+            lock,
+            changed: Condvar::new(),
+            problem,
+            from,
+            seats: n,
+        };
+        Ok((desk, seats))
+    }
+
+    /// The problem of its book.
+    pub fn problem(&self) -> &'p Problem
+        ensures { result.now ≡ L.whole }
+    {
+        self.problem
+    }
+
+    /// How many seats it has.
+    pub fn seats(&self) -> u8
+        ensures { result ≡ self.now.seats }
+    {
+        self.seats
+    }
+
+    /// Leases the tile with an id, as the book does.
+    pub fn lease<R: Wait>(
+        &self,
+        rt: &R,
+        seat: &mut Seat<L>,
+        id: u64,
+    ) -> Result<Leased<'p>, BookFault>
+        ensures noted { IfOk result (λ r.
+            Notes seat.old.notes seat.new.notes seat.old.number (calls.Lease id) (leased_reply r)) }
+        ensures refused { IfErr result (λ f.
+            NotesRefusal seat.old.notes seat.new.notes seat.old.number (calls.Lease id) f) }
+        ensures can_start { IfOk result (λ r. CanStart L.whole r.branch (state_value r.mark)) }
+        ensures worker { IfOk result (λ r. r.lease.worker ≡ seat.old.number) }
+        ensures number { seat.new.number ≡ seat.old.number }
+    {
+        self.lock.lock(rt).lease(seat, id)
+    }
+
+    /// Waits while no tile waits and some tile is leased, and then leases the first that waits, if
+    /// there is one.
+    pub fn lease_next<R: Wait>(
+        &self,
+        rt: &R,
+        seat: &mut Seat<L>,
+    ) -> Result<Option<Leased<'p>>, AllocError>
+        ensures noted { IfOk result (λ r.
+            Notes seat.old.notes seat.new.notes seat.old.number calls.LeaseAny (any_reply r)) }
+        ensures unchanged { OnErr result (seat.new.notes ≡ seat.old.notes) }
+        ensures can_start { IfOk result
+            (λ r. IfSome r (λ l. CanStart L.whole l.branch (state_value l.mark))) }
+        ensures worker { IfOk result (λ r. IfSome r (λ l. l.lease.worker ≡ seat.old.number)) }
+        ensures number { seat.new.number ≡ seat.old.number }
+    {
+        let mut locked = self.changed.wait_while(rt, self.lock.lock(rt), |locked| {
+            locked.book.waiting() == 0 && locked.book.leased() > 0
+        });
+        locked.lease_any(seat)
+    }
+
+    /// Posts a stretch, as the book does. Its problem is compared before the lock is taken.
+    pub fn post<R: Wait>(
+        &self,
+        rt: &R,
+        seat: &mut Seat<L>,
+        lease: &Lease,
+        stretch: Stretch<'p>,
+    ) -> Result<Posted, Refused<BookFault, Stretch<'p>>>
+        requires { lease.now.worker ≡ seat.old.number }
+        ensures noted { IfOk result (λ r.
+            Notes seat.old.notes seat.new.notes seat.old.number
+                (post_of L.whole lease.now stretch.entry) (posted_reply r)) }
+        ensures refused { IfErr result (λ r.
+            NotesRefusal seat.old.notes seat.new.notes seat.old.number
+                (post_of L.whole lease.now stretch.entry) r.fault) }
+        ensures given_back { IfErr result (λ r. r.given ≡ stretch.entry) }
+        ensures number { seat.new.number ≡ seat.old.number }
+    {
+        let same = stretch.problem().same(self.problem);
+        self.lock.lock(rt).post(seat, lease, stretch, same)
+    }
+
+    /// Splits the tile that is leased, as the book does. The cut's problem is compared before the
+    /// lock is taken.
+    pub fn split<R: Wait>(
+        &self,
+        rt: &R,
+        seat: &mut Seat<L>,
+        lease: &Lease,
+        cut: Cut<'p>,
+    ) -> Result<u64, Refused<BookFault, Cut<'p>>>
+        requires { lease.now.worker ≡ seat.old.number }
+        ensures noted { IfOk result (λ id.
+            Notes seat.old.notes seat.new.notes seat.old.number
+                (split_of L.whole lease.now cut.entry) (replies.Split id)) }
+        ensures refused { IfErr result (λ r.
+            NotesRefusal seat.old.notes seat.new.notes seat.old.number
+                (split_of L.whole lease.now cut.entry) r.fault) }
+        ensures given_back { IfErr result (λ r. r.given ≡ cut.entry) }
+        ensures number { seat.new.number ≡ seat.old.number }
+    {
+        let same = cut.problem().same(self.problem);
+        let id = self.lock.lock(rt).split(seat, lease, cut, same);
+        self.changed.notify_all();
+        id
+    }
+
+    /// Parks the tile that is leased, as the book does.
+    pub fn park<R: Wait>(
+        &self,
+        rt: &R,
+        seat: &mut Seat<L>,
+        lease: Lease,
+    ) -> Result<(), Refused<BookFault, Lease>>
+        requires { lease.worker ≡ seat.old.number }
+        ensures noted { OnOk result
+            (Notes seat.old.notes seat.new.notes seat.old.number (calls.Park lease) replies.Done) }
+        ensures refused { IfErr result (λ r.
+            NotesRefusal seat.old.notes seat.new.notes seat.old.number (calls.Park lease) r.fault) }
+        ensures given_back { IfErr result (λ r. r.given ≡ lease) }
+        ensures number { seat.new.number ≡ seat.old.number }
+    {
+        let done = self.lock.lock(rt).park(seat, lease);
+        self.changed.notify_all();
+        done
+    }
+
+    /// Gives the tile up that is leased, as the book does.
+    pub fn abandon<R: Wait>(
+        &self,
+        rt: &R,
+        seat: &mut Seat<L>,
+        lease: Lease,
+    ) -> Result<(), Refused<BookFault, Lease>>
+        requires { lease.worker ≡ seat.old.number }
+        ensures noted { OnOk result
+            (Notes seat.old.notes seat.new.notes seat.old.number
+                (calls.Abandon lease) replies.Done) }
+        ensures refused { IfErr result (λ r.
+            NotesRefusal seat.old.notes seat.new.notes seat.old.number
+                (calls.Abandon lease) r.fault) }
+        ensures given_back { IfErr result (λ r. r.given ≡ lease) }
+        ensures number { seat.new.number ≡ seat.old.number }
+    {
+        let done = self.lock.lock(rt).abandon(seat, lease);
+        self.changed.notify_all();
+        done
+    }
+
+    /// Closes the tile that is leased, as the book does.
+    pub fn close<R: Wait>(
+        &self,
+        rt: &R,
+        seat: &mut Seat<L>,
+        lease: Lease,
+    ) -> Result<(), Refused<BookFault, Lease>>
+        requires { lease.worker ≡ seat.old.number }
+        ensures noted { OnOk result
+            (Notes seat.old.notes seat.new.notes seat.old.number (calls.Close lease) replies.Done) }
+        ensures refused { IfErr result (λ r.
+            NotesRefusal seat.old.notes seat.new.notes seat.old.number
+                (calls.Close lease) r.fault) }
+        ensures given_back { IfErr result (λ r. r.given ≡ lease) }
+        ensures number { seat.new.number ≡ seat.old.number }
+    {
+        let done = self.lock.lock(rt).close(seat, lease);
+        self.changed.notify_all();
+        done
+    }
+
+    /// Leases the held tile with an id, as the book does.
+    pub fn take_held<R: Wait>(
+        &self,
+        rt: &R,
+        seat: &mut Seat<L>,
+        id: u64,
+    ) -> Result<Leased<'p>, BookFault>
+        ensures noted { IfOk result (λ r.
+            Notes seat.old.notes seat.new.notes seat.old.number
+                (calls.TakeHeld id) (leased_reply r)) }
+        ensures refused { IfErr result (λ f.
+            NotesRefusal seat.old.notes seat.new.notes seat.old.number (calls.TakeHeld id) f) }
+        ensures can_start { IfOk result (λ r. CanStart L.whole r.branch (state_value r.mark)) }
+        ensures worker { IfOk result (λ r. r.lease.worker ≡ seat.old.number) }
+        ensures number { seat.new.number ≡ seat.old.number }
+    {
+        self.lock.lock(rt).take_held(seat, id)
+    }
+
+    /// Asks the worker of a tile to stop, as the book does.
+    pub fn request_stop<R: Wait>(
+        &self,
+        rt: &R,
+        seat: &mut Seat<L>,
+        id: u64,
+    ) -> Result<(), BookFault>
+        ensures noted { OnOk result
+            (Notes seat.old.notes seat.new.notes seat.old.number
+                (calls.RequestStop id) replies.Done) }
+        ensures refused { IfErr result (λ f.
+            NotesRefusal seat.old.notes seat.new.notes seat.old.number (calls.RequestStop id) f) }
+        ensures number { seat.new.number ≡ seat.old.number }
+    {
+        self.lock.lock(rt).request_stop(seat, id)
+    }
+
+    /// Puts a tile back to one of its marks, as the book does.
+    pub fn put_back<R: Wait>(
+        &self,
+        rt: &R,
+        seat: &mut Seat<L>,
+        id: u64,
+        state: &State,
+    ) -> Result<(), BookFault>
+        ensures noted { OnOk result
+            (Notes seat.old.notes seat.new.notes seat.old.number
+                (calls.PutBack id (state_value state.now)) replies.Done) }
+        ensures refused { IfErr result (λ f.
+            NotesRefusal seat.old.notes seat.new.notes seat.old.number
+                (calls.PutBack id (state_value state.now)) f) }
+        ensures number { seat.new.number ≡ seat.old.number }
+    {
+        self.lock.lock(rt).put_back(seat, id, state)
+    }
+
+    /// Takes the last posted stretch out, as the book does.
+    pub fn retract<R: Wait>(
+        &self,
+        rt: &R,
+        seat: &mut Seat<L>,
+        lease: &Lease,
+    ) -> Result<Stretch<'p>, BookFault>
+        requires worker { lease.now.worker ≡ seat.old.number }
+        ensures noted { IfOk result (λ x.
+            Notes seat.old.notes seat.new.notes seat.old.number
+                (calls.Retract lease.now) (replies.Retracted x.from x.to)) }
+        ensures refused { IfErr result (λ f.
+            NotesRefusal seat.old.notes seat.new.notes seat.old.number
+                (calls.Retract lease.now) f) }
+        ensures number { seat.new.number ≡ seat.old.number }
+    {
+        self.lock.lock(rt).retract(seat, lease)
+    }
+
+    /// Takes the desk apart, without memory: the book comes out where all its seats are there and
+    /// their notes are the entries that the book gained, each by its own worker. Else both
+    /// come back.
+    pub fn finish(
+        self,
+        seats: Vec<Seat<L>>,
+    ) -> Result<Book<'p>, Refused<BookFault, (Desk<'p, L>, Vec<Seat<L>>)>>
+        ensures problem { IfOk result (λ b. b.problem ≡ L.whole) }
+        ensures branch { IfOk result (λ b. b.branch ≡ L.part) }
+        ensures first { IfOk result (λ b. b.first ≡ L.begin) }
+        ensures begins { IfOk result (λ b. take (length L.opening) b.history ≡ L.opening) }
+        ensures number { OnOk result (vec_len seats ≡ self.entry.seats) }
+        ensures notes { IfOk result (λ b.
+            AreSeats (length L.opening) (drop (length L.opening) b.history) seats.items) }
+        ensures workers { IfOk result (λ b.
+            are_of_workers self.entry.seats (drop (length L.opening) b.history) ≡ true) }
+        ensures refused { IfErr result (λ r. r.fault ≡ BookFault.SeatMismatch) }
+        ensures desk_back { IfErr result (λ r. r.given.0 ≡ self.entry) }
+        ensures seats_back { IfErr result (λ r. r.given.1 ≡ seats) }
+    {
+        let Desk {
+            lock,
+            changed,
+            problem,
+            from,
+            seats: n,
+        } = self;
+        let locked = lock.into_inner();
+        if seats.len() == n as usize && tell_all(&seats, from, locked.book.history()) {
+            let Locked { book, count: _ } = locked;
+            return Ok(book);
+        }
+        let desk = Desk {
+            lock: Mutex::new(locked),
+            changed,
+            problem,
+            from,
+            seats: n,
+        };
+        Err(Refused {
+            fault: BookFault::SeatMismatch,
+            given: (desk, seats),
+        })
+    }
+}

@@ -1,0 +1,102 @@
+//! A worker's seat at a desk, with notes of its calls.
+ghost use Rattle.std.specs.Prelude.{◌≡◌, ◌≤◌, ◌↔◌, [], true, length, drop, vec_len, IsTrue};
+ghost use Rattle.lab_desk.specs.Record.{noted, notes_of};
+
+use crate::sheet::Sheet;
+use lab_book::Entry;
+use std::alloc::Global;
+use std::marker::Model;
+use std::sync::ledger::{Ledger, Share};
+
+/// An entry that a call of the seat added, with its index in the history.
+#[derive(Drop)]
+pub struct Noted {
+    pub index: u64,
+    pub entry: Entry,
+}
+
+impl Noted {
+    /// Whether it is a note of this entry; false tells nothing.
+    fn is(&self, index: u64, entry: &Entry) -> bool
+        ensures { IsTrue result → self.now ≡ noted index entry.now }
+    {
+        self.index == index && self.entry.same(entry)
+    }
+}
+
+/// A seat: its number, its notes, and its share of the desk's ledger, which counts the notes.
+/// Contracts see number and notes.
+#[derive(Drop)]
+pub struct Seat<L: Ledger> {
+    pub(crate) number: u8,
+    pub(crate) notes: Sheet,
+    pub(crate) share: Share<L>,
+    ghost few: { number ≤ 31 },
+    ghost one_part: { share.parts ≡ 1 },
+    ghost counted: { share.amount ≡ length notes.list },
+}
+
+impl<L: Ledger> Model for Seat<L> {
+    ghost use Rattle.lab_desk.specs.Record.{SeatValue};
+
+    ghost Value = { SeatValue };
+
+    ghost view = { λ s. record { number = s.number; notes = s.notes.list } };
+}
+
+/// Whether these are the entries of a worker, with their indexes, from an index on; false tells
+/// nothing.
+fn is_record(notes: &[Noted], number: u8, from: usize, history: &[Entry]) -> bool
+    requires { from ≤ length history.now }
+    ensures { IsTrue result → notes.now ≡ notes_of number from (drop from history.now) }
+{
+    let mut next = 0;
+    'comparing: for i in from..history.len() {
+        let entry = &history[i];
+        if entry.worker() == number {
+            if next >= notes.len() {
+                return false;
+            }
+            if !notes[next].is(i as u64, entry) {
+                return false;
+            }
+            next += 1;
+        }
+    }
+    next == notes.len()
+}
+
+impl<L: Ledger> Seat<L> {
+    /// A seat without notes.
+    pub(crate) fn new(alloc: Global, number: u8, share: Share<L>) -> Seat<L>
+        requires share { (share.parts ≡ 1) × (share.amount ≡ 0) }
+        requires few { number ≤ 31 }
+        ensures { result ≡ record { number = number; notes = [] } }
+    {
+        Seat {
+            number,
+            notes: Sheet::new(alloc),
+            share,
+        }
+    }
+
+    /// Its number, which its calls have as the worker's.
+    pub fn number(&self) -> u8
+        ensures number { result ≡ self.now.number }
+        ensures few { result ≤ 31 }
+    {
+        self.number
+    }
+
+    /// Whether it has this number, and its notes are its entries from an index on; false tells
+    /// nothing.
+    pub(crate) fn stands(&self, number: u8, from: usize, history: &[Entry]) -> bool
+        requires { from ≤ length history.now }
+        ensures { IsTrue result → self.now ≡ record {
+          number = number;
+          notes = notes_of number from (drop from history.now);
+        } }
+    {
+        self.number == number && is_record(self.notes.list(), number, from, history)
+    }
+}

@@ -1,0 +1,249 @@
+//! Workers over a desk.
+ghost use Rattle.std.specs.Prelude.{◌≡◌, ◌<◌, ◌≤◌, ◌+◌, [], IfOk, IfErr, OnOk, IfSome, IsTrue, vec_len, length, take, filter};
+ghost use Rattle.lab_book.specs.Book.{leased_in};
+ghost use Rattle.lab_book.specs.Posted.{AllClosed};
+ghost use Rattle.lab_pool.specs.Pool.{GoesOn, GivenBack, OnlyHeld, is_held_tile, is_open_tile};
+
+use crate::fault::PoolFault;
+use crate::gate::Gate;
+use crate::held::{are_open, held_tiles};
+use crate::worker::work;
+use cover_problem::Problem;
+use lab_book::{Book, Tile};
+use lab_desk::{Desk, Desking, Seat};
+use lab_tickets::TicketSeat;
+use lab_tickets::tickets;
+use std::alloc::Global;
+use std::marker::Brand;
+use std::sync::Wait;
+use std::sync::atomic::{AtomicBool, Ordering};
+use std::sync::ledger::{Blank, Ledger};
+use std::thread;
+use std::thread::{Scope, Threads};
+use x_steps::Refused;
+
+/// Starts a thread for each seat but the first, whose worker runs here. Answers whether a thread
+/// was refused.
+fn start_all<
+    's,
+    'a: 's,
+    'b: 's,
+    'c: 's,
+    'd: 's,
+    'e: 's,
+    'f: 's,
+    'p: 's,
+    E,
+    L: Desking + Send + Sync,
+    R: Wait + Sync,
+    G: Gate,
+>(
+    scope: &Scope<'s, E>,
+    rt: &'a R,
+    alloc: Global,
+    desk: &'b Desk<'p, L>,
+    gate: &'c G,
+    memory: &'d AtomicBool,
+    seats: &'e mut [Seat<L>],
+    lanes: &'f mut [TicketSeat],
+) -> bool {
+    let Some((first, others)) = seats.split_first_mut() else {
+        return false;
+    };
+    let Some((first_lane, other_lanes)) = lanes.split_first_mut() else {
+        return false;
+    };
+    let mut refused = false;
+    for (seat, lane) in others.iter_mut().zip(other_lanes.iter_mut()) {
+        if scope
+            .spawn(move || work(rt, alloc, desk, gate, memory, seat, lane))
+            .is_err()
+        {
+            refused = true;
+        }
+    }
+    work(rt, alloc, desk, gate, memory, first, first_lane);
+    refused
+}
+
+/// Runs a worker at each seat. Answers whether a thread was refused.
+fn run_seats<L: Desking + Send + Sync, R: Threads + Wait + Sync, G: Gate>(
+    rt: &R,
+    alloc: Global,
+    desk: &Desk<'_, L>,
+    gate: &G,
+    memory: &AtomicBool,
+    seats: &mut [Seat<L>],
+    lanes: &mut [TicketSeat],
+) -> bool {
+    thread::scope(thread::scope_env(), rt, |scope| {
+        start_all(scope, rt, alloc, desk, gate, memory, seats, lanes)
+    })
+}
+
+/// What is answered of a book, by the tiles that were held, and by what went wrong.
+fn answer<'p>(
+    book: Book<'p>,
+    held: &[Tile<'p>],
+    memory: bool,
+    refused: bool,
+) -> Result<Book<'p>, Refused<PoolFault, Option<Book<'p>>>>
+    ensures book { IfOk result (λ b. b ≡ book.entry) }
+    ensures finished { IfOk result (λ b. AllClosed b.tiles) }
+    ensures none_held { OnOk result (held.now ≡ []) }
+    ensures book_back { IfErr result (λ r. IfSome r.given (λ b. b ≡ book.entry)) }
+    ensures free { IfErr result (λ r. IfSome r.given (λ b. leased_in b.tiles ≡ 0)) }
+    ensures held { IfErr result (λ r. r.fault ≡ PoolFault.Held →
+        IfSome r.given (λ b. filter is_open_tile b.tiles ≡ held.now)) }
+{
+    let mismatch = Refused {
+        fault: PoolFault::Mismatch,
+        given: None,
+    };
+    if book.leased() > 0 {
+        return Err(mismatch);
+    }
+    if book.finished() {
+        if held.is_empty() {
+            return Ok(book);
+        }
+        return Err(mismatch);
+    }
+    if are_open(book.tiles(), held) {
+        return Err(Refused {
+            fault: PoolFault::Held,
+            given: Some(book),
+        });
+    }
+    if book.waiting() == 0 {
+        return Err(mismatch);
+    }
+    if memory {
+        return Err(Refused {
+            fault: PoolFault::OutOfMemory,
+            given: Some(book),
+        });
+    }
+    if refused {
+        return Err(Refused {
+            fault: PoolFault::NoThread,
+            given: Some(book),
+        });
+    }
+    Err(mismatch)
+}
+
+/// Finishes a book by a desk of this ledger.
+fn run_at<'p, L: Desking + Send + Sync, R: Threads + Wait + Sync, G: Gate>(
+    rt: &R,
+    alloc: Global,
+    blank: Blank,
+    book: Book<'p>,
+    workers: u8,
+    gate: &G,
+) -> Result<Book<'p>, Refused<PoolFault, Option<Book<'p>>>>
+    requires name { blank.name ≡ L.name }
+    requires parts { (blank.parts ≡ L.parts) × (blank.parts ≡ workers) }
+    requires workers { (0 < workers) × (workers ≤ 32) }
+    requires opening { book.history ≡ L.opening }
+    requires whole { book.problem ≡ L.whole }
+    requires part { book.branch ≡ L.part }
+    requires begin { book.first ≡ L.begin }
+    requires free { leased_in book.tiles ≡ 0 }
+    ensures on { IfOk result (λ b. GoesOn book.entry b) }
+    ensures finished { IfOk result (λ b. AllClosed b.tiles) }
+    ensures none_held { OnOk result (filter is_held_tile book.entry.tiles ≡ []) }
+    ensures given_back { IfErr result (λ r. IfSome r.given (λ b. GivenBack book.entry b)) }
+    ensures held { IfErr result (λ r. r.fault ≡ PoolFault.Held →
+        IfSome r.given (λ b. OnlyHeld book.entry b)) }
+{
+    let Ok(held) = held_tiles(alloc, book.tiles()) else {
+        return Err(Refused {
+            fault: PoolFault::OutOfMemory,
+            given: Some(book),
+        });
+    };
+    let Ok(mut lanes) = tickets(alloc, workers) else {
+        return Err(Refused {
+            fault: PoolFault::OutOfMemory,
+            given: Some(book),
+        });
+    };
+    let (desk, mut seats) = match Desk::<L>::new(alloc, blank, book, workers) {
+        Ok(made) => made,
+        Err((_, book)) => {
+            return Err(Refused {
+                fault: PoolFault::OutOfMemory,
+                given: Some(book),
+            });
+        }
+    };
+    let memory = AtomicBool::new(false);
+    let refused = run_seats(
+        rt,
+        alloc,
+        &desk,
+        gate,
+        &memory,
+        seats.as_mut_slice(),
+        lanes.as_mut_slice(),
+    );
+    let Ok(book) = desk.finish(seats) else {
+        return Err(Refused {
+            fault: PoolFault::Mismatch,
+            given: None,
+        });
+    };
+    answer(book, &held, memory.load(Ordering::SeqCst), refused)
+}
+
+/// Finishes a book with so many workers. The first runs here: one worker starts no thread.
+pub fn run_pool_on<'p, R: Threads + Wait + Sync, G: Gate>(
+    rt: &R,
+    alloc: Global,
+    book: Book<'p>,
+    workers: u32,
+    gate: &G,
+) -> Result<Book<'p>, Refused<PoolFault, Option<Book<'p>>>>
+    requires free { leased_in book.tiles ≡ 0 }
+    ensures on { IfOk result (λ b. GoesOn book.entry b) }
+    ensures finished { IfOk result (λ b. AllClosed b.tiles) }
+    ensures none_held { OnOk result (filter is_held_tile book.entry.tiles ≡ []) }
+    ensures given_back { IfErr result (λ r. IfSome r.given (λ b. GivenBack book.entry b)) }
+    ensures held { IfErr result (λ r. r.fault ≡ PoolFault.Held →
+        IfSome r.given (λ b. OnlyHeld book.entry b)) }
+{
+    if workers == 0 || workers > 32 {
+        return Err(Refused {
+            fault: PoolFault::BadWorkerCount,
+            given: Some(book),
+        });
+    }
+    run_at::<Brand, R, G>(rt, alloc, Blank::new(workers as u64), book, workers as u8, gate)
+}
+
+/// Searches a problem with so many workers.
+pub fn run_pool<'p, R: Threads + Wait + Sync, G: Gate>(
+    rt: &R,
+    alloc: Global,
+    problem: &'p Problem,
+    workers: u32,
+    gate: &G,
+) -> Result<Book<'p>, Refused<PoolFault, Option<Book<'p>>>>
+    ensures problem { IfOk result (λ b. b.problem ≡ problem.now) }
+    ensures finished { IfOk result (λ b. AllClosed b.tiles) }
+{
+    if workers == 0 || workers > 32 {
+        return Err(Refused {
+            fault: PoolFault::BadWorkerCount,
+            given: None,
+        });
+    }
+    let Ok(book) = Book::new(alloc, problem) else {
+        return Err(Refused {
+            fault: PoolFault::OutOfMemory,
+            given: None,
+        });
+    };
+    run_pool_on(rt, alloc, book, workers, gate)
+}

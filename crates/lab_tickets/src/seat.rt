@@ -1,0 +1,128 @@
+//! A seat: its own deque, and those of the other seats.
+ghost use Rattle.std.specs.Prelude.{◌≡◌, ◌≢◌, ◌<◌, ◌≤◌, ◌+◌, [], map, length, vec_len, IfOk, IfErr, MatchOption};
+ghost use Rattle.lab_tickets.specs.Rule.{tally};
+ghost use Rattle.lab_tickets.specs.Deques.{tally_of, source};
+ghost use Rattle.lab_tickets.specs.TicketView.{TicketView, alone, pushed, popped, stolen, place, seat_count};
+
+use crate::deques::{OtherDeque, OwnDeque};
+use std::alloc::{AllocError, Global};
+use std::marker::Model;
+
+/// A seat. Contracts see its number, and what it pushed and took, deque by deque (`TicketView`).
+#[derive(Drop)]
+pub struct TicketSeat {
+    number: u8,
+    own: OwnDeque,
+    others: Vec<OtherDeque>,
+}
+
+impl Model for TicketSeat {
+    ghost use Rattle.std.specs.Prelude.{map, ◌≤◌, ◌<◌, vec_len};
+    ghost use Rattle.crossbeam_deque.specs.Handles.{worker_view, worker_deque};
+    ghost use Rattle.lab_tickets.specs.Deques.{tally_of, source};
+    ghost use Rattle.lab_tickets.specs.TicketView.{TicketView};
+
+    ghost Value = { TicketView };
+
+    ghost view = { λ s. record {
+      number = s.number;
+      own = worker_view s.own.worker;
+      others = map tally_of s.others.items;
+      deque = (worker_deque s.own.worker).0;
+      deques = map source s.others.items;
+    } };
+
+    ghost invariant = { λ s. (s.number ≤ vec_len s.others) × (vec_len s.others < 32) };
+}
+
+impl TicketSeat {
+    /// A seat that is the only one.
+    pub(crate) fn alone(alloc: Global) -> Result<TicketSeat, AllocError>
+        ensures { IfOk result (λ s. s ≡ alone s.deque) }
+    {
+        let own = OwnDeque::new(alloc)?;
+        Ok(TicketSeat {
+            number: 0,
+            own,
+            others: Vec::new(alloc),
+        })
+    }
+
+    /// What another seat needs to steal from this one.
+    pub(crate) fn other(&self) -> Result<OtherDeque, AllocError>
+        ensures deque { IfOk result (λ d. source d ≡ self.now.deque) }
+        ensures untouched { IfOk result (λ d. tally_of d ≡ tally [] []) }
+    {
+        self.own.other()
+    }
+
+    /// From now on it has this number, and steals from these deques.
+    pub(crate) fn join(&mut self, number: u8, others: Vec<OtherDeque>)
+        requires { (number ≤ vec_len others) × (vec_len others < 32) }
+        ensures { self.new ≡ record self.old {
+          number = number;
+          others = map tally_of others.items;
+          deques = map source others.items;
+        } }
+    {
+        self.number = number;
+        self.others = others;
+    }
+
+    /// The seat's number, from 0.
+    pub fn number(&self) -> u8
+        ensures number { result ≡ self.now.number }
+        ensures below { self.now.number < seat_count self.now }
+    {
+        self.number
+    }
+
+    /// How many seats there are, this one with the others.
+    pub fn seats(&self) -> u8
+        ensures seats { result ≡ seat_count self.now }
+        ensures most { seat_count self.now ≤ 32 }
+    {
+        self.others.len() as u8 + 1
+    }
+
+    /// Adds a ticket to the seat's own deque, or hands it back where the deque can't grow.
+    pub fn push(&mut self, id: u64) -> Result<(), u64>
+        ensures pushed { IfOk result (λ _. self.new ≡ pushed self.old id) }
+        ensures refused { IfErr result (λ x. (x ≡ id) × (self.new ≡ self.old)) }
+    {
+        self.own.push(id)
+    }
+
+    /// Takes the oldest ticket out of the seat's own deque.
+    pub fn pop(&mut self) -> Option<u64>
+        ensures { MatchOption result (self.new ≡ self.old) (λ x. self.new ≡ popped self.old x) }
+    {
+        self.own.pop()
+    }
+
+    /// Takes the oldest ticket out of another seat's deque, unless that is empty or a third seat was
+    /// faster.
+    pub fn steal(&mut self, from: u8) -> Option<u64>
+        requires other { from ≢ self.old.number }
+        requires seat { from < seat_count self.old }
+        ensures { MatchOption result (self.new ≡ self.old) (λ x. self.new ≡ stolen self.old from x) }
+    {
+        let at = place_of(self.number, from, self.others.len());
+        let other = &mut self.others[at];
+        other.steal()
+    }
+}
+
+/// The place of the seat `from` among the others of the seat `number`.
+fn place_of(number: u8, from: u8, others: usize) -> usize
+    requires other { from ≢ number }
+    requires seat { (from ≤ others) × (number ≤ others) }
+    ensures place { result ≡ place number from }
+    ensures below { result < others }
+{
+    if from < number {
+        from as usize
+    } else {
+        from as usize - 1
+    }
+}

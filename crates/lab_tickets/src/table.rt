@@ -1,0 +1,58 @@
+//! All seats, made together.
+ghost use Rattle.std.specs.Prelude.{◌≡◌, ℕ, ◌<◌, ◌≤◌, ◌-◌, map, IfOk, vec_len};
+ghost use Rattle.lab_tickets.specs.Deques.{tally_of, source};
+ghost use Rattle.lab_tickets.specs.TicketView.{fresh, blanks, without, deque_of, seat_at, with_joined};
+
+use crate::deques::OtherDeque;
+use crate::seat::TicketSeat;
+use std::alloc::{AllocError, Global};
+
+/// The deques of all seats but the one of this number.
+fn others_of(
+    alloc: Global,
+    seats: &Vec<TicketSeat>,
+    number: usize,
+) -> Result<Vec<OtherDeque>, AllocError>
+    requires { number < vec_len seats.now }
+    ensures tallies { IfOk result (λ v. map tally_of v.items ≡ blanks (vec_len seats.now - 1)) }
+    ensures sources { IfOk result (λ v. map source v.items ≡
+        without number (map deque_of seats.now.items)) }
+{
+    let mut others = Vec::new(alloc);
+    for j in 0..seats.len() {
+        if j != number {
+            let other = seats[j].other()?;
+            others.push(other)?;
+        }
+    }
+    Ok(others)
+}
+
+/// Gives a seat its number, and the deques of the others.
+fn seat_among(alloc: Global, seats: &mut Vec<TicketSeat>, number: u8) -> Result<(), AllocError>
+    requires number { number < vec_len seats.old }
+    requires seats { vec_len seats.old ≤ 32 }
+    ensures { IfOk result (λ _. seats.new.items ≡ with_joined number seats.old.items) }
+{
+    let others = others_of(alloc, seats, number as usize)?;
+    let seat = &mut seats[number as usize];
+    seat.join(number, others);
+    Ok(())
+}
+
+/// So many seats, each with a deque of its own, which steal from the deques of the others.
+pub fn tickets(alloc: Global, n: u8) -> Result<Vec<TicketSeat>, AllocError>
+    requires { (0 < n) × (n ≤ 32) }
+    ensures count { IfOk result (λ v. vec_len v ≡ n) }
+    ensures fresh { IfOk result (λ v. (k : ℕ) → k < n → seat_at v.items k ≡
+        fresh (map deque_of v.items) k) }
+{
+    let mut seats = Vec::new(alloc);
+    for number in 0..n {
+        seats.push(TicketSeat::alone(alloc)?)?;
+    }
+    for k in 0..n {
+        seat_among(alloc, &mut seats, k)?;
+    }
+    Ok(seats)
+}

@@ -10,5 +10,6 @@ pub mod IndexLemmas
 pub mod SplitLemmas
 pub mod CountLemmas
 pub mod SumLemmas
+pub mod VisitedLemmas
 pub mod RiseLemmas
 pub mod ForetellLemmas

@@ -266,11 +266,11 @@ joined_levels p t n i e = each t.first t.stretches i.joins
     each s (x ∷ xs) j (suc k) d l = each x.to xs j.3 k d (omega arith)
 
 module _ (ts : List TileValue) (i : ℕ) (t : TileValue) (l : i < length ts) (e : t ≡ get_or ts i t) where
-  count_more : posted_count (take (i + 1) ts) ≡ posted_count (take i ts) + length t.stretches
+  pub count_more : posted_count (take (i + 1) ts) ≡ posted_count (take i ts) + length t.stretches
   count_more = sum_by_more (λ (t : TileValue). length t.stretches) ts i t l
       ∙ ap (λ (u : TileValue). posted_count (take i ts) + length u.stretches) (sym e)
 
-  count_within : posted_count (take i ts) + length t.stretches ≤ posted_count ts
+  pub count_within : posted_count (take i ts) + length t.stretches ≤ posted_count ts
   count_within = let a = sum_by_more_le (λ (t : TileValue). length t.stretches) ts i t l in
       let b = ap (λ (u : TileValue). length u.stretches) e in omega arith
 

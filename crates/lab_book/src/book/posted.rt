@@ -1,5 +1,5 @@
 //! What was posted of a book's branch.
-ghost use Rattle.std.specs.Prelude.{◌≡◌, ◌<◌, ◌^◌, ◌↔◌, IsTrue, IfOk};
+ghost use Rattle.std.specs.Prelude.{◌≡◌, ◌<◌, ◌^◌, ◌↔◌, length, IsTrue, IfOk};
 ghost use Rattle.x_steps.specs.Levels.{trimmed_levels};
 ghost use Rattle.x_steps.specs.Order.{PathsRise};
 ghost use Rattle.x_steps.specs.Run.{steps_between, visits_between};
@@ -43,6 +43,21 @@ impl<'p> Book<'p> {
         ensures { posted_count self.now.tiles < 2 ^ 64 }
     {
         let _calls = self.history.len();
+    }
+
+    /// How many paths the posted stretches visit, with no list of them: where all tiles are closed, the run visits so many from the
+    /// first mark to the branch's end.
+    pub fn visited(&self) -> u128
+        ensures visited { result ≡ length (posted_visits self.now.tiles) }
+        ensures whole { AllClosed self.now.tiles →
+            result ≡ length (visits_between self.now.problem self.now.first (end_of self.now.branch.hi)) }
+    {
+        self.count_calls();
+        let mut visited: u128 = 0;
+        for tile in self.tiles.list() {
+            visited += tile.visited();
+        }
+        visited
     }
 
     /// How many steps the posted stretches have: where all tiles are closed, the run has so many from the first mark to the branch's

@@ -1,13 +1,25 @@
-//! What the stretches of a tile count: their steps, and their X2 states at each level.
+//! What the stretches of a tile count: their visits, their steps, and their X2 states at each level.
 ghost use Rattle.std.specs.Prelude.{◌≡◌, ◌<◌, ◌≤◌, ◌+◌, ◌*◌, ◌^◌, ℕ, All, length, slice_index};
 ghost use Rattle.x_branches.specs.Refusals.{most_steps};
 ghost use Rattle.x_branches.specs.Stretch.{StretchValue};
-ghost use Rattle.lab_book.specs.Posted.{stretch_steps, stretch_level};
+ghost use Rattle.lab_book.specs.Posted.{stretch_visits, stretch_steps, stretch_level};
 
 use crate::tile::Tile;
 use crate::totals::add_counts;
 
 impl<'p> Tile<'p> {
+    /// How many paths its stretches visit.
+    pub(crate) fn visited(&self) -> u128
+        ensures visited { result ≡ length (stretch_visits self.now.stretches) }
+        ensures small { result ≤ 18446744073709551615 * length self.now.stretches }
+    {
+        let mut visited: u128 = 0;
+        for stretch in self.stretches() {
+            visited += stretch.visits().len() as u128;
+        }
+        visited
+    }
+
     /// How many steps its stretches have.
     pub(crate) fn steps(&self) -> u128
         ensures steps { result ≡ stretch_steps self.now.stretches }

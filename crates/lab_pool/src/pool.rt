@@ -1,6 +1,7 @@
 //! Workers over a desk.
-ghost use Rattle.std.specs.Prelude.{◌≡◌, ◌<◌, ◌≤◌, ◌+◌, [], IfOk, IfErr, OnOk, IfSome, IsTrue, vec_len, length, take, filter};
-ghost use Rattle.lab_book.specs.Book.{leased_in};
+ghost use Rattle.std.specs.Prelude.{◌≡◌, ◌<◌, ◌≤◌, ◌+◌, [], None, IfOk, IfErr, OnOk, IfSome, IsTrue, vec_len, length, take, filter};
+ghost use Rattle.x_steps.specs.StateValue.{start};
+ghost use Rattle.lab_book.specs.Book.{leased_in, new_book};
 ghost use Rattle.lab_book.specs.Posted.{AllClosed};
 ghost use Rattle.lab_pool.specs.Pool.{GoesOn, GivenBack, OnlyHeld, is_held_tile, is_open_tile};
 
@@ -222,7 +223,7 @@ pub fn run_pool_on<'p, R: Threads + Wait + Sync, G: Gate>(
     run_at::<Brand, R, G>(rt, alloc, Blank::new(workers as u64), book, workers as u8, gate)
 }
 
-/// Searches a problem with so many workers.
+/// Searches the whole run of a problem with so many workers.
 pub fn run_pool<'p, R: Threads + Wait + Sync, G: Gate>(
     rt: &R,
     alloc: Global,
@@ -231,6 +232,8 @@ pub fn run_pool<'p, R: Threads + Wait + Sync, G: Gate>(
     gate: &G,
 ) -> Result<Book<'p>, Refused<PoolFault, Option<Book<'p>>>>
     ensures problem { IfOk result (λ b. b.problem ≡ problem.now) }
+    ensures on { IfOk result (λ b.
+        GoesOn (new_book problem.now (record { lo = None; hi = None }) start) b) }
     ensures finished { IfOk result (λ b. AllClosed b.tiles) }
 {
     if workers == 0 || workers > 32 {

@@ -84,7 +84,7 @@ module _ (b : BookValue) (x : WorkerValue) (tiling : IsTiling b.problem b.branch
         by false e = refl
         by true e = absurd (mark_not_end ahead (h.tile.tile.mark ∙ same_state_is (mark_of (own b x tiling h)) (tile_end (own b x tiling h)) e ∙ own_end))
 
-    refused_is : outcome b x.grant.worker (call.Close x.grant) ≡ refused b.tiles NotAtEnd
+    pub refused_is : outcome b x.grant.worker (call.Close x.grant) ≡ refused b.tiles NotAtEnd
     unfolding outcome
     refused_is =
         ap (made_at b.tiles (settled b book.closed)) (found_own b x tiling h end_fault)

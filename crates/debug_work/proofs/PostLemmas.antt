@@ -24,14 +24,14 @@ use Rattle.debug_work.specs.Walking as walking
 use Rattle.debug_work.specs.Walking.{work, post_call}
 
 module _ (b : BookValue) (x : WorkerValue) (tiling : IsTiling b.problem b.branch b.first b.tiles) (h : HoldsTile b x) (k : IsRunner x.runner) where
-  abbrev own : TileValue
+  abbrev pub own : TileValue
   own = tile_at b.tiles h.tile.place
 
   own_is_tile : IsTile b.problem own
   own_is_tile = tile_in b.problem b.branch.lo b.first b.tiles b.branch.hi h.tile.place tiling.tiles h.tile.within
 
   -- its position doesn't come after its tile's end
-  within : comes_before b.problem (tile_end own) x.runner.position ≡ false
+  pub within : comes_before b.problem (tile_end own) x.runner.position ≡ false
   within = by (comes_before b.problem (tile_end own) x.runner.position) refl where
     end_fits : Fits b.problem (tile_end own)
     end_fits = reached_fits b.problem (mark_of own) (tile_end own) _ own_is_tile.within.fits own_is_tile.within.reaches
@@ -52,7 +52,7 @@ module _ (b : BookValue) (x : WorkerValue) (tiling : IsTiling b.problem b.branch
   no_fault : stretch_fault b.problem x.runner.mark x.runner.position true own ≡ None
   no_fault = rw (is_same_state x.runner.mark (mark_of own) h.tile.tile.mark, within) refl
 
-  granted : outcome b x.grant.worker (post_call x) ≡ posted b x.runner.mark x.runner.position h.tile.place
+  pub granted : outcome b x.grant.worker (post_call x) ≡ posted b x.runner.mark x.runner.position h.tile.place
   unfolding outcome
   granted =
       ap (made_at b.tiles (posted b x.runner.mark x.runner.position)) (found_own b x tiling h (stretch_fault b.problem x.runner.mark x.runner.position true))

@@ -37,12 +37,12 @@ moved_below : (i k : ℕ) → k ≤ i → moved_up i k ≡ k
 moved_below i k l = let e = le-ltb i k l in rw e refl
 
 -- each place is the new one's, or where another tile has moved
-record Moved (i j n : ℕ) : Type 0 where
+pub record Moved (i j n : ℕ) : Type 0 where
   pub from : ℕ
   pub within : from < n
   pub to : j ≡ moved_up i from
 
-moved_from : (i j n : ℕ) → i < n → j < n + 1 → (j ≡ i + 1) ⊎ Moved i j n
+pub moved_from : (i j n : ℕ) → i < n → j < n + 1 → (j ≡ i + 1) ⊎ Moved i j n
 moved_from i j n l m = step (cases_lt i j) (cases_lt (i + 1) j)
   where
     step : (i < j) ⊎ (j ≤ i) → (i + 1 < j) ⊎ (j ≤ i + 1) → (j ≡ i + 1) ⊎ Moved i j n
@@ -63,12 +63,12 @@ moved_within i k n l = step (cases_lt i k)
     step (inr b) = let e = moved_below i k b in omega arith
 
 module _ (ts : List TileValue) (i : ℕ) (h r : TileValue) (l : i < length ts) (same : h.id ≡ (tile_at ts i).id) where
-  long : length (with_two ts i h r) ≡ length ts + 1
+  pub long : length (with_two ts i h r) ≡ length ts + 1
   long =
       let m = length-set ts i h in
       let n = length-insert (set ts i h) (i + 1) r (omega arith) in omega arith
 
-  at_new : tile_at (with_two ts i h r) (i + 1) ≡ r
+  pub at_new : tile_at (with_two ts i h r) (i + 1) ≡ r
   at_new = let m = length-set ts i h in get_or-insert_at (set ts i h) (i + 1) r no_tile (omega arith)
 
   moved_read : (k : ℕ) → tile_at (with_two ts i h r) (moved_up i k) ≡ tile_at (set ts i h) k
@@ -80,7 +80,7 @@ module _ (ts : List TileValue) (i : ℕ) (h r : TileValue) (l : i < length ts) (
       step (inr b) = let m = length-set ts i h in
           rw (moved_below i k b) (get_or-insert_below (set ts i h) (i + 1) r no_tile k (omega arith) (omega arith))
 
-  moved_id : (k : ℕ) → (tile_at (with_two ts i h r) (moved_up i k)).id ≡ (tile_at ts k).id
+  pub moved_id : (k : ℕ) → (tile_at (with_two ts i h r) (moved_up i k)).id ≡ (tile_at ts k).id
   moved_id k = ap (λ (t : TileValue). t.id) (moved_read k) ∙ ids_set ts i h l same k
 
   module _ (places : List ℕ) (a : ArePlaces places ts) (new : r.id ≡ length ts) where

@@ -104,7 +104,7 @@ module _ (p : ProblemValue) (t : TileValue) (path : List ℕ) (id : ℕ) (i : Is
 -- ---- the tiling
 
 -- a tile may be replaced by two that stand for it
-tiles_split : (p : ProblemValue) (lo : Option CutPath) (first : StateValue) (ts : List TileValue) (hi : Option CutPath) (i id : ℕ)
+pub tiles_split : (p : ProblemValue) (lo : Option CutPath) (first : StateValue) (ts : List TileValue) (hi : Option CutPath) (i id : ℕ)
     (cut : CutPath) → AreTiles p lo first ts hi → i < length ts
     → IsTile p (head_tile (tile_at ts i) cut) → IsTile p (tail_tile id (tile_at ts i) cut)
     → AreTiles p lo first (take i ts ++ split_tiles (tile_at ts i) id cut ++ drop (suc i) ts) hi

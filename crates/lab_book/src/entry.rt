@@ -186,9 +186,7 @@ impl Entry {
     pub fn same(&self, other: &Entry) -> bool
         ensures { IsTrue result ↔ (self.now ≡ other.now) }
     {
-        self.worker == other.worker
-            && self.call.same(&other.call)
-            && self.reply.same(&other.reply)
+        self.worker == other.worker && self.call.same(&other.call) && self.reply.same(&other.reply)
     }
 
     /// Who called.

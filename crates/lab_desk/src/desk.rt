@@ -28,8 +28,11 @@ use x_steps::{Refused, State};
 /// first mark.
 pub trait Desking: Ledger {
     ghost opening: { List Entry };
+
     ghost whole: { ProblemValue };
+
     ghost part: { Branch };
+
     ghost begin: { StateValue };
 }
 
@@ -38,8 +41,11 @@ impl Desking for Brand {
     ghost use Rattle.x_steps.specs.StateValue.{start};
 
     ghost opening = { [] };
+
     ghost whole = { record { names = []; primary = 0; options = [] } };
+
     ghost part = { record { lo = None; hi = None } };
+
     ghost begin = { start };
 }
 
@@ -185,10 +191,10 @@ impl<'p, L: Desking> Desk<'p, L> {
         requires { lease.now.worker ≡ seat.old.number }
         ensures noted { IfOk result (λ r.
             Notes seat.old.notes seat.new.notes seat.old.number
-                (post_of L.whole lease.now stretch.entry) (posted_reply r)) }
+            (post_of L.whole lease.now stretch.entry) (posted_reply r)) }
         ensures refused { IfErr result (λ r.
             NotesRefusal seat.old.notes seat.new.notes seat.old.number
-                (post_of L.whole lease.now stretch.entry) r.fault) }
+            (post_of L.whole lease.now stretch.entry) r.fault) }
         ensures given_back { IfErr result (λ r. r.given ≡ stretch.entry) }
         ensures number { seat.new.number ≡ seat.old.number }
     {
@@ -208,10 +214,10 @@ impl<'p, L: Desking> Desk<'p, L> {
         requires { lease.now.worker ≡ seat.old.number }
         ensures noted { IfOk result (λ id.
             Notes seat.old.notes seat.new.notes seat.old.number
-                (split_of L.whole lease.now cut.entry) (replies.Split id)) }
+            (split_of L.whole lease.now cut.entry) (replies.Split id)) }
         ensures refused { IfErr result (λ r.
             NotesRefusal seat.old.notes seat.new.notes seat.old.number
-                (split_of L.whole lease.now cut.entry) r.fault) }
+            (split_of L.whole lease.now cut.entry) r.fault) }
         ensures given_back { IfErr result (λ r. r.given ≡ cut.entry) }
         ensures number { seat.new.number ≡ seat.old.number }
     {
@@ -251,10 +257,10 @@ impl<'p, L: Desking> Desk<'p, L> {
         requires { lease.worker ≡ seat.old.number }
         ensures noted { OnOk result
             (Notes seat.old.notes seat.new.notes seat.old.number
-                (calls.Abandon lease) replies.Done) }
+            (calls.Abandon lease) replies.Done) }
         ensures refused { IfErr result (λ r.
             NotesRefusal seat.old.notes seat.new.notes seat.old.number
-                (calls.Abandon lease) r.fault) }
+            (calls.Abandon lease) r.fault) }
         ensures given_back { IfErr result (λ r. r.given ≡ lease) }
         ensures number { seat.new.number ≡ seat.old.number }
     {
@@ -275,7 +281,7 @@ impl<'p, L: Desking> Desk<'p, L> {
             (Notes seat.old.notes seat.new.notes seat.old.number (calls.Close lease) replies.Done) }
         ensures refused { IfErr result (λ r.
             NotesRefusal seat.old.notes seat.new.notes seat.old.number
-                (calls.Close lease) r.fault) }
+            (calls.Close lease) r.fault) }
         ensures given_back { IfErr result (λ r. r.given ≡ lease) }
         ensures number { seat.new.number ≡ seat.old.number }
     {
@@ -293,7 +299,7 @@ impl<'p, L: Desking> Desk<'p, L> {
     ) -> Result<Leased<'p>, BookFault>
         ensures noted { IfOk result (λ r.
             Notes seat.old.notes seat.new.notes seat.old.number
-                (calls.TakeHeld id) (leased_reply r)) }
+            (calls.TakeHeld id) (leased_reply r)) }
         ensures refused { IfErr result (λ f.
             NotesRefusal seat.old.notes seat.new.notes seat.old.number (calls.TakeHeld id) f) }
         ensures can_start { IfOk result (λ r. CanStart L.whole r.branch (state_value r.mark)) }
@@ -312,7 +318,7 @@ impl<'p, L: Desking> Desk<'p, L> {
     ) -> Result<(), BookFault>
         ensures noted { OnOk result
             (Notes seat.old.notes seat.new.notes seat.old.number
-                (calls.RequestStop id) replies.Done) }
+            (calls.RequestStop id) replies.Done) }
         ensures refused { IfErr result (λ f.
             NotesRefusal seat.old.notes seat.new.notes seat.old.number (calls.RequestStop id) f) }
         ensures number { seat.new.number ≡ seat.old.number }
@@ -330,10 +336,10 @@ impl<'p, L: Desking> Desk<'p, L> {
     ) -> Result<(), BookFault>
         ensures noted { OnOk result
             (Notes seat.old.notes seat.new.notes seat.old.number
-                (calls.PutBack id (state_value state.now)) replies.Done) }
+            (calls.PutBack id (state_value state.now)) replies.Done) }
         ensures refused { IfErr result (λ f.
             NotesRefusal seat.old.notes seat.new.notes seat.old.number
-                (calls.PutBack id (state_value state.now)) f) }
+            (calls.PutBack id (state_value state.now)) f) }
         ensures number { seat.new.number ≡ seat.old.number }
     {
         self.lock.lock(rt).put_back(seat, id, state)
@@ -349,10 +355,10 @@ impl<'p, L: Desking> Desk<'p, L> {
         requires worker { lease.now.worker ≡ seat.old.number }
         ensures noted { IfOk result (λ x.
             Notes seat.old.notes seat.new.notes seat.old.number
-                (calls.Retract lease.now) (replies.Retracted x.from x.to)) }
+            (calls.Retract lease.now) (replies.Retracted x.from x.to)) }
         ensures refused { IfErr result (λ f.
             NotesRefusal seat.old.notes seat.new.notes seat.old.number
-                (calls.Retract lease.now) f) }
+            (calls.Retract lease.now) f) }
         ensures number { seat.new.number ≡ seat.old.number }
     {
         self.lock.lock(rt).retract(seat, lease)

@@ -5,8 +5,8 @@
 mod desk;
 mod finishing;
 mod locked;
-mod sheet;
 mod seat;
+mod sheet;
 
 pub use desk::{Desk, Desking};
 pub use seat::{Noted, Seat};

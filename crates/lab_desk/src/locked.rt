@@ -11,8 +11,8 @@ ghost use Rattle.lab_book.specs.Calls.{leased_reply, any_reply, posted_reply, po
 ghost use Rattle.lab_desk.specs.Record.{noted, Notes, NotesRefusal};
 
 use crate::desk::Desking;
-use crate::sheet::Sheet;
 use crate::seat::{Noted, Seat};
+use crate::sheet::Sheet;
 use lab_book::{Book, BookFault, Entry, Lease, Leased, Posted};
 use std::alloc::AllocError;
 use std::sync::ledger;
@@ -178,10 +178,10 @@ impl<'p, L: Desking> Locked<'p, L> {
         requires same { same ≡ is_same stretch.problem L.whole }
         ensures noted { IfOk result (λ r.
             Notes seat.old.notes seat.new.notes seat.old.number
-                (post_of L.whole lease.now stretch.entry) (posted_reply r)) }
+            (post_of L.whole lease.now stretch.entry) (posted_reply r)) }
         ensures refused { IfErr result (λ r.
             NotesRefusal seat.old.notes seat.new.notes seat.old.number
-                (post_of L.whole lease.now stretch.entry) r.fault) }
+            (post_of L.whole lease.now stretch.entry) r.fault) }
         ensures given_back { IfErr result (λ r. r.given ≡ stretch.entry) }
         ensures number { seat.new.number ≡ seat.old.number }
     {
@@ -222,10 +222,10 @@ impl<'p, L: Desking> Locked<'p, L> {
         requires same { same ≡ is_same cut.problem L.whole }
         ensures noted { IfOk result (λ id.
             Notes seat.old.notes seat.new.notes seat.old.number
-                (split_of L.whole lease.now cut.entry) (replies.Split id)) }
+            (split_of L.whole lease.now cut.entry) (replies.Split id)) }
         ensures refused { IfErr result (λ r.
             NotesRefusal seat.old.notes seat.new.notes seat.old.number
-                (split_of L.whole lease.now cut.entry) r.fault) }
+            (split_of L.whole lease.now cut.entry) r.fault) }
         ensures given_back { IfErr result (λ r. r.given ≡ cut.entry) }
         ensures number { seat.new.number ≡ seat.old.number }
     {
@@ -302,10 +302,10 @@ impl<'p, L: Desking> Locked<'p, L> {
         requires worker { lease.worker ≡ seat.old.number }
         ensures noted { OnOk result
             (Notes seat.old.notes seat.new.notes seat.old.number
-                (calls.Abandon lease) replies.Done) }
+            (calls.Abandon lease) replies.Done) }
         ensures refused { IfErr result (λ r.
             NotesRefusal seat.old.notes seat.new.notes seat.old.number
-                (calls.Abandon lease) r.fault) }
+            (calls.Abandon lease) r.fault) }
         ensures given_back { IfErr result (λ r. r.given ≡ lease) }
         ensures number { seat.new.number ≡ seat.old.number }
     {
@@ -345,7 +345,7 @@ impl<'p, L: Desking> Locked<'p, L> {
             (Notes seat.old.notes seat.new.notes seat.old.number (calls.Close lease) replies.Done) }
         ensures refused { IfErr result (λ r.
             NotesRefusal seat.old.notes seat.new.notes seat.old.number
-                (calls.Close lease) r.fault) }
+            (calls.Close lease) r.fault) }
         ensures given_back { IfErr result (λ r. r.given ≡ lease) }
         ensures number { seat.new.number ≡ seat.old.number }
     {
@@ -379,7 +379,7 @@ impl<'p, L: Desking> Locked<'p, L> {
     pub(crate) fn take_held(&mut self, seat: &mut Seat<L>, id: u64) -> Result<Leased<'p>, BookFault>
         ensures noted { IfOk result (λ r.
             Notes seat.old.notes seat.new.notes seat.old.number
-                (calls.TakeHeld id) (leased_reply r)) }
+            (calls.TakeHeld id) (leased_reply r)) }
         ensures refused { IfErr result (λ f.
             NotesRefusal seat.old.notes seat.new.notes seat.old.number (calls.TakeHeld id) f) }
         ensures can_start { IfOk result (λ r. CanStart L.whole r.branch (state_value r.mark)) }
@@ -419,7 +419,7 @@ impl<'p, L: Desking> Locked<'p, L> {
     pub(crate) fn request_stop(&mut self, seat: &mut Seat<L>, id: u64) -> Result<(), BookFault>
         ensures noted { OnOk result
             (Notes seat.old.notes seat.new.notes seat.old.number
-                (calls.RequestStop id) replies.Done) }
+            (calls.RequestStop id) replies.Done) }
         ensures refused { IfErr result (λ f.
             NotesRefusal seat.old.notes seat.new.notes seat.old.number (calls.RequestStop id) f) }
         ensures number { seat.new.number ≡ seat.old.number }
@@ -458,10 +458,10 @@ impl<'p, L: Desking> Locked<'p, L> {
     ) -> Result<(), BookFault>
         ensures noted { OnOk result
             (Notes seat.old.notes seat.new.notes seat.old.number
-                (calls.PutBack id (state_value state.now)) replies.Done) }
+            (calls.PutBack id (state_value state.now)) replies.Done) }
         ensures refused { IfErr result (λ f.
             NotesRefusal seat.old.notes seat.new.notes seat.old.number
-                (calls.PutBack id (state_value state.now)) f) }
+            (calls.PutBack id (state_value state.now)) f) }
         ensures number { seat.new.number ≡ seat.old.number }
     {
         let Locked { book, count } = self;
@@ -498,10 +498,10 @@ impl<'p, L: Desking> Locked<'p, L> {
         requires worker { lease.now.worker ≡ seat.old.number }
         ensures noted { IfOk result (λ x.
             Notes seat.old.notes seat.new.notes seat.old.number
-                (calls.Retract lease.now) (replies.Retracted x.from x.to)) }
+            (calls.Retract lease.now) (replies.Retracted x.from x.to)) }
         ensures refused { IfErr result (λ f.
             NotesRefusal seat.old.notes seat.new.notes seat.old.number
-                (calls.Retract lease.now) f) }
+            (calls.Retract lease.now) f) }
         ensures number { seat.new.number ≡ seat.old.number }
     {
         let Locked { book, count } = self;

@@ -12,8 +12,7 @@ use crate::worker::work;
 use cover_problem::Problem;
 use lab_book::{Book, Tile};
 use lab_desk::{Desk, Desking, Seat};
-use lab_tickets::TicketSeat;
-use lab_tickets::tickets;
+use lab_tickets::{TicketSeat, tickets};
 use std::alloc::Global;
 use std::marker::Brand;
 use std::sync::Wait;
@@ -220,7 +219,14 @@ pub fn run_pool_on<'p, R: Threads + Wait + Sync, G: Gate>(
             given: Some(book),
         });
     }
-    run_at::<Brand, R, G>(rt, alloc, Blank::new(workers as u64), book, workers as u8, gate)
+    run_at::<Brand, R, G>(
+        rt,
+        alloc,
+        Blank::new(workers as u64),
+        book,
+        workers as u8,
+        gate,
+    )
 }
 
 /// Searches the whole run of a problem with so many workers.

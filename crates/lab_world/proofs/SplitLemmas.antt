@@ -28,7 +28,7 @@ use Rattle.lab_world.proofs.OwnLemmas.{found_own, own, own_is_tile, split_tile}
 
 module _ (b : BookValue) (x : WorkerValue) (tiling : IsTiling b.problem b.branch b.first b.tiles) (h : HoldsTile b x)
     (run : IsRunner x.runner) (level o : ℕ) (untried : has (untried_in x.runner level) o ≡ true) where
-  abbrev path : List ℕ
+  abbrev pub path : List ℕ
   path = with_choice x.runner.position level o
 
   here : Fits x.runner.problem x.runner.position
@@ -40,7 +40,7 @@ module _ (b : BookValue) (x : WorkerValue) (tiling : IsTiling b.problem b.branch
       let tile = own_is_tile b x tiling h in
       rw (h.problem, h.tile.tile.branch) (end_fits b.problem (mark_of t) (tile_end t) tile.within)
 
-  cut_is : IsUntried x.runner.problem x.runner.position (end_of x.runner.branch.hi) path
+  pub cut_is : IsUntried x.runner.problem x.runner.position (end_of x.runner.branch.hi) path
   cut_is = untried_is x.runner.problem x.runner.position (end_of x.runner.branch.hi) here last level o untried
 
   cut_fit : Fits x.runner.problem (cut_state path)
@@ -64,7 +64,7 @@ module _ (b : BookValue) (x : WorkerValue) (tiling : IsTiling b.problem b.branch
   -- ---- the book's answer
 
   -- nothing stands against the cut
-  fine : cut_fault b.problem path true (own b x tiling h) ≡ None
+  pub fine : cut_fault b.problem path true (own b x tiling h) ≡ None
   fine =
       let a : comes_before b.problem (mark_of (own b x tiling h)) (cut_state path)
       ≡ true = rw (← h.problem, ← h.tile.tile.mark) after_mark in
@@ -72,7 +72,7 @@ module _ (b : BookValue) (x : WorkerValue) (tiling : IsTiling b.problem b.branch
       ≡ true = rw (← h.problem, ← h.tile.tile.branch) before_end in
       rw (a, e) refl
 
-  split_is : (w : ℕ) → outcome b w (split_call x path) ≡ split b path h.tile.place
+  pub split_is : (w : ℕ) → outcome b w (split_call x path) ≡ split b path h.tile.place
   unfolding outcome
   split_is w = ap (made_at b.tiles (split b path)) (found_own b x tiling h (cut_fault b.problem path true) ∙ ap (unless h.tile.place) fine)
 

@@ -95,7 +95,7 @@ module _ (p : ProblemValue) (end s : StateValue) (level c : ℕ) (list : List �
       let d = read_drop (choices s) level c here in
       let first = first_above c o list e in
       let member : has (remaining_above p (take level (choices s)) c) o ≡ true =
-          subst (λ xs. has xs o ≡ true) (sym first.1 ∙ left ∙ ap (left_after p (take level (choices s))) d.1) (has_here o first.0) in
+      subst (λ xs. has xs o ≡ true) (sym first.1 ∙ left ∙ ap (left_after p (take level (choices s))) d.1) (has_here o first.0) in
       let one = later_one p s (take level (choices s)) c o (chosen_is p s level c d.0 f d.1) member in
       rw (cut_is (take level (choices s)) o) at (cut_fits p (take level (choices s) ++ o ∷ []) one.cut)
 

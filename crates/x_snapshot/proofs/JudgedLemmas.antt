@@ -133,7 +133,7 @@ is_own p common.None = tt
 is_own p (Some path) = refl
 
 -- and these are within the branch
-inside_decides : (v : SnapshotValue) → IsOnRun v.problem v.lo v.hi v.state → (is_inside v ≡ true) ↔ IsInside v.problem v.lo v.hi v.state
+pub inside_decides : (v : SnapshotValue) → IsOnRun v.problem v.lo v.hi v.state → (is_inside v ≡ true) ↔ IsInside v.problem v.lo v.hi v.state
 unfolding is_inside
 inside_decides v on =
     let p = v.problem in

@@ -42,7 +42,7 @@ returns-in_default g c =
     let l = at_level p s c.args.level c.args.choice c.self.invariant.sound (position_fits _ _ _ _ c.self.invariant) (rw (← c.self.view_is) at c.requires.choice) in
     let list = list_of p (covered_in p s) (item_after p (take c.args.level (choices s))) in
     let next : None ≡ above c.args.choice list = rw (c.table.ensures.same_problem, c.table.ensures.covered, c.requires.covered, c.covered.ensures, ← c.self.view_is, l.place) at
-        c.in_default.ensures in
+    c.in_default.ensures in
     rw (← c.self.view_is) (none_left_above p end s c.args.level c.args.choice list l.left next)
 
 pub front-requires : goal.front-requires
@@ -56,7 +56,7 @@ returns-then-is_cut_inside g c =
     let l = at_level p s c.args.level c.args.choice c.self.invariant.sound (position_fits _ _ _ _ c.self.invariant) (rw (← c.self.view_is) at c.requires.choice) in
     let list = list_of p (covered_in p s) (item_after p (take c.args.level (choices s))) in
     let next : Some c.in-Some.option ≡ above c.args.choice list = rw (c.table.ensures.same_problem, c.table.ensures.covered, c.requires.covered, c.covered.ensures, ← c.self.view_is, l.place) at
-        c.in-Some.ensures in
+    c.in-Some.ensures in
     let fits = first_fits p end s c.args.level c.args.choice list l.left c.in-Some.option (position_fits _ _ _ _ c.self.invariant) (rw (← c.self.view_is) at c.requires.choice) next in
     let here : Fits p (at X5 c.front.result.now (At c.in-Some.option)) = rw (c.front.ensures, ← c.self.view_is) fits in
     let test = rw (c.front.ensures, ← c.self.view_is) at (c.is_cut_inside.ensures p c.self.invariant.inside.branch.high here) in
@@ -70,9 +70,9 @@ returns-else-is_cut_inside g c =
     let l = at_level p s c.args.level c.args.choice c.self.invariant.sound (position_fits _ _ _ _ c.self.invariant) (rw (← c.self.view_is) at c.requires.choice) in
     let list = list_of p (covered_in p s) (item_after p (take c.args.level (choices s))) in
     let next : Some c.in-Some.option ≡ above c.args.choice list = rw (c.table.ensures.same_problem, c.table.ensures.covered, c.requires.covered, c.covered.ensures, ← c.self.view_is, l.place) at
-        c.in-Some.ensures in
+    c.in-Some.ensures in
     let fits = first_fits p end s c.args.level c.args.choice list l.left c.in-Some.option (position_fits _ _ _ _ c.self.invariant) (rw (← c.self.view_is) at c.requires.choice) next in
     let here : Fits p (at X5 c.front.result.now (At c.in-Some.option)) = rw (c.front.ensures, ← c.self.view_is) fits in
     let test = rw (c.front.ensures, ← c.self.view_is) at (c.is_cut_inside.ensures p c.self.invariant.inside.branch.high here) in
     rw (← c.self.view_is) (none_inside p end s c.args.level c.args.choice list l.left 1 c.in-Some.option (position_fits _ _ _ _ c.self.invariant)
-        c.self.invariant.end_fits (list_rises _ _ _) (rw (← c.self.view_is) at c.requires.choice) next (sym test ∙ c.if-is_cut_inside.false))
+    c.self.invariant.end_fits (list_rises _ _ _) (rw (← c.self.view_is) at c.requires.choice) next (sym test ∙ c.if-is_cut_inside.false))

@@ -38,7 +38,7 @@ seeking-init g c =
     let hi = c.self.inside.branch.hi in
     let path : c.deref.result.now ≡ s.path = c.deref.ensures.value ∙ ap (λ (s : StateValue). s.path) c.state-state.ensures.state in
     let front : c.split_at.result.0.now ≡ take c.shared-parted.result s.path =
-        c.split_at.ensures.front ∙ ap (take c.shared-parted.result) (c.deref-2.ensures.value ∙ ap (λ (s : StateValue). s.path) c.state-state.ensures.state) in
+    c.split_at.ensures.front ∙ ap (take c.shared-parted.result) (c.deref-2.ensures.value ∙ ap (λ (s : StateValue). s.path) c.state-state.ensures.state) in
     let shared : IsShared s.path (end_choices hi) c.shared-parted.result = rw (path, c.end_choices.ensures) at c.shared-parted.ensures in
     let count = rw (c.problem-problem.ensures, front) at c.covered_count-covered.ensures in
     rw (← c.self.view_is) (sought_begin p s (position_fits _ _ _ _ c.self.invariant) hi c.shared-parted.result c.covered_count-covered.result
@@ -53,7 +53,7 @@ option-requires-clause-some g c =
     let level : c.seeking.level < length s.path = omega (arith, c.seeking-test.true) in
     let path : c.state-state.result.now.path.items ≡ s.path = ap (λ (s : StateValue). s.path) c.state-state.ensures.state in
     let choice : c.index-choice.result.now ≡ get_or s.path c.seeking.level 0 =
-        read_at s.path c.seeking.level c.index-choice.result.now level (c.index-choice.ensures ∙ ap (λ xs. get_or xs c.seeking.level c.index-choice.result.now) path) in
+    read_at s.path c.seeking.level c.index-choice.result.now level (c.index-choice.ensures ∙ ap (λ xs. get_or xs c.seeking.level c.index-choice.result.now) path) in
     let w = choice_in p s.path c.seeking.level (fits_valid p s.label s.path s.cursor fits) level in
     rw choice w.some
 
@@ -66,7 +66,7 @@ option-requires-clause-within g c =
     let level : c.seeking.level < length s.path = omega (arith, c.seeking-test.true) in
     let path : c.state-state.result.now.path.items ≡ s.path = ap (λ (s : StateValue). s.path) c.state-state.ensures.state in
     let choice : c.index-choice.result.now ≡ get_or s.path c.seeking.level 0 =
-        read_at s.path c.seeking.level c.index-choice.result.now level (c.index-choice.ensures ∙ ap (λ xs. get_or xs c.seeking.level c.index-choice.result.now) path) in
+    read_at s.path c.seeking.level c.index-choice.result.now level (c.index-choice.ensures ∙ ap (λ xs. get_or xs c.seeking.level c.index-choice.result.now) path) in
     let w = choice_in p s.path c.seeking.level (fits_valid p s.label s.path s.cursor fits) level in
     rw (choice, c.problem-problem.ensures) w.within
 
@@ -79,12 +79,12 @@ seeking-preserved g c =
     let level : c.seeking.level < length s.path = omega (arith, c.seeking-test.true) in
     let path : c.state-state.result.now.path.items ≡ s.path = ap (λ (s : StateValue). s.path) c.state-state.ensures.state in
     let choice : c.index-choice.result.now ≡ get_or s.path c.seeking.level 0 =
-        read_at s.path c.seeking.level c.index-choice.result.now level (c.index-choice.ensures ∙ ap (λ xs. get_or xs c.seeking.level c.index-choice.result.now) path) in
+    read_at s.path c.seeking.level c.index-choice.result.now level (c.index-choice.ensures ∙ ap (λ xs. get_or xs c.seeking.level c.index-choice.result.now) path) in
     let end = end_of c.self.inside.branch.hi in
     let sought : IsSought p end s c.seeking.level c.seeking.covered = rw (← c.self.view_is) at c.seeking.invariant in
     let none = rw (← c.self.view_is) at (sym c.in_default.is ∙ c.first_at.ensures) in
     let more : length c.option.result.now ≡ length (option_at p (get_or s.path c.seeking.level 0)) =
-        ap (length {A = ℕ}) (rw (c.problem-problem.ensures, choice) at c.option.ensures) in
+    ap (length {A = ℕ}) (rw (c.problem-problem.ensures, choice) at c.option.ensures) in
     rw (← c.self.view_is) (sought_more p s fits end c.seeking.level c.seeking.covered sought (length c.option.result.now) level none more)
 
 pub overflow_add-covered : goal.overflow_add-covered
@@ -96,11 +96,11 @@ overflow_add-covered g c =
     let level : c.seeking.level < length s.path = omega (arith, c.seeking-test.true) in
     let path : c.state-state.result.now.path.items ≡ s.path = ap (λ (s : StateValue). s.path) c.state-state.ensures.state in
     let choice : c.index-choice.result.now ≡ get_or s.path c.seeking.level 0 =
-        read_at s.path c.seeking.level c.index-choice.result.now level (c.index-choice.ensures ∙ ap (λ xs. get_or xs c.seeking.level c.index-choice.result.now) path) in
+    read_at s.path c.seeking.level c.index-choice.result.now level (c.index-choice.ensures ∙ ap (λ xs. get_or xs c.seeking.level c.index-choice.result.now) path) in
     let end = end_of c.self.inside.branch.hi in
     let sought : IsSought p end s c.seeking.level c.seeking.covered = rw (← c.self.view_is) at c.seeking.invariant in
     let more : length c.option.result.now ≡ length (option_at p (get_or s.path c.seeking.level 0)) =
-        ap (length {A = ℕ}) (rw (c.problem-problem.ensures, choice) at c.option.ensures) in
+    ap (length {A = ℕ}) (rw (c.problem-problem.ensures, choice) at c.option.ensures) in
     let now = covered_more p s.path c.seeking.level (fits_valid p s.label s.path s.cursor fits) level in
     let most = covered_within p s (c.seeking.level + 1) fits in
     let count = sought.count in
@@ -117,7 +117,7 @@ returns-in_default-choice_at-clause-none g c none =
     let sought : IsSought p end s c.seeking.level c.seeking.covered = rw (← c.self.view_is) at c.seeking.invariant in
     let last : c.len-last.result ≡ c.seeking.level = omega (arith, c.seeking-test.false, c.seeking.auto.level-end) in
     let here : None ≡ slice_get (choices s) c.seeking.level = sym c.in_default-choice_at.is ∙ c.choice_at.ensures
-        ∙ ap (λ (s : StateValue). slice_get (choices s) c.len-last.result) c.state-state.ensures.state ∙ ap (slice_get (choices s)) last in
+    ∙ ap (λ (s : StateValue). slice_get (choices s) c.len-last.result) c.state-state.ensures.state ∙ ap (slice_get (choices s)) last in
     rw (← c.self.view_is) (none_without_choice p s fits end c.seeking.level c.seeking.covered sought here)
 
 pub returns-in-None-clause-none : goal.returns-in-None-clause-none

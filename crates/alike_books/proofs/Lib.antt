@@ -1,0 +1,11 @@
+pub mod FilterLemmas
+pub mod SeenLemmas
+pub mod StatusLemmas
+pub mod CountLemmas
+pub mod ToldLemmas
+pub mod PlaceLemmas
+pub mod CallLemmas
+pub mod SplitLemmas
+pub mod SearchedLemmas
+pub mod PoolCallLemmas
+pub mod AlikeExamples

@@ -1,0 +1,68 @@
+-- Two tiles in the place of one, as a split leaves them: in a tiling.
+use Rattle.std.proofs.Common.{◌≡◌, Option, Some, ℕ, zero, suc, ◌+◌, ◌<◌, ◌⊎◌, inl, inr, List, [], ◌∷◌, ◌++◌, length, take, drop, refl}
+use Rattle.std.proofs.Common.{sym, ap, ◌∙◌, subst, arith}
+use Rattle.cover_problem.specs.Problem.{ProblemValue}
+use Rattle.x_steps.specs.StateValue.{StateValue}
+use Rattle.x_branches.specs.declared.branch.Branch.{Branch}
+use Rattle.x_branches.specs.Cut.{CutPath, cut_state}
+use Rattle.lab_book.specs.Tile.{TileValue, IsTile}
+use Rattle.lab_book.specs.Tiling.{AreTiles, AreNumbered, IsTiling, tile_at}
+use Rattle.lab_book.specs.Book.{head_tile, tail_tile, split_tiles}
+use Rattle.lab_book.specs.Index.{moved_up}
+use Rattle.lab_book.proofs.InsertLemmas.{with_two, two_parts, Moved, moved_from, long, at_new, moved_id}
+use Rattle.lab_book.proofs.SplitLemmas.{tiles_split}
+
+-- the new tile's id is the number of those before
+numbered_two : (ts : List TileValue) (i : ℕ) (h r : TileValue) → i < length ts → h.id ≡ (tile_at ts i).id → r.id ≡ length ts
+    → AreNumbered ts → AreNumbered (with_two ts i h r)
+numbered_two ts i h r l same new n =
+    let m = long ts i h r l same in
+    record {
+      below = λ j b. below j (moved_from i j (length ts) l (omega arith));
+      once = λ j k b c e. once j k (moved_from i j (length ts) l (omega arith)) (moved_from i k (length ts) l (omega arith)) e;
+    }
+  where
+    fresh : (j : ℕ) → j ≡ i + 1 → (tile_at (with_two ts i h r) j).id ≡ length ts
+    fresh j e = ap (λ (k : ℕ). (tile_at (with_two ts i h r) k).id) e ∙ ap (λ (t : TileValue). t.id) (at_new ts i h r l same) ∙ new
+
+    old : (j : ℕ) (m : Moved i j (length ts)) → (tile_at (with_two ts i h r) j).id ≡ (tile_at ts m.from).id
+    old j m = ap (λ (k : ℕ). (tile_at (with_two ts i h r) k).id) m.to ∙ moved_id ts i h r l same m.from
+
+    below : (j : ℕ) → (j ≡ i + 1) ⊎ Moved i j (length ts) → (tile_at (with_two ts i h r) j).id < length (with_two ts i h r)
+    below j (inl e) = let m = long ts i h r l same in let a = fresh j e in omega arith
+    below j (inr d) = let m = long ts i h r l same in let a = old j d in let b = n.below d.from d.within in omega arith
+
+    once : (j k : ℕ) → (j ≡ i + 1) ⊎ Moved i j (length ts) → (k ≡ i + 1) ⊎ Moved i k (length ts)
+        → (tile_at (with_two ts i h r) j).id ≡ (tile_at (with_two ts i h r) k).id → j ≡ k
+    once j k (inl a) (inl b) e = omega arith
+    once j k (inl a) (inr b) e = let c = fresh j a in let d = old k b in let f = n.below b.from b.within in absurd (omega arith)
+    once j k (inr a) (inl b) e = let c = fresh k b in let d = old j a in let f = n.below a.from a.within in absurd (omega arith)
+    once j k (inr a) (inr b) e =
+        let f = n.once a.from b.from a.within b.within (sym (old j a) ∙ e ∙ old k b) in
+        a.to ∙ ap (moved_up i) f ∙ sym b.to
+
+-- a tile may be replaced by two that stand for it, the second with the next id
+pub split_tiling : (p : ProblemValue) (b : Branch) (first : StateValue) (ts : List TileValue) (i : ℕ) (c : CutPath) → IsTiling p b first ts
+    → i < length ts → IsTile p (head_tile (tile_at ts i) c) → IsTile p (tail_tile (length ts) (tile_at ts i) c)
+    → IsTiling p b first (take i ts ++ split_tiles (tile_at ts i) (length ts) c ++ drop (i + 1) ts)
+split_tiling p b first ts i c t l head tail =
+    let n : i + 1 ≡ suc i = omega arith in
+    let tiles : AreTiles p b.lo first (take i ts ++ split_tiles (tile_at ts i) (length ts) c ++ drop (i + 1) ts) b.hi =
+    rw n (tiles_split p b.lo first ts b.hi i (length ts) c t.tiles l head tail) in
+    record {
+      tiles = tiles;
+      numbered = subst AreNumbered (two_parts ts i (head_tile (tile_at ts i) c) (tail_tile (length ts) (tile_at ts i) c) l)
+          (numbered_two ts i (head_tile (tile_at ts i) c) (tail_tile (length ts) (tile_at ts i) c) l refl refl t.numbered);
+    }
+
+-- and where two stand in the place of one, both are tiles
+pub both_tiles : (p : ProblemValue) (lo : Option CutPath) (first : StateValue) (ts : List TileValue) (hi : Option CutPath) (i : ℕ)
+    (h r : TileValue) → i < length ts → AreTiles p lo first (take i ts ++ (h ∷ r ∷ []) ++ drop (suc i) ts) hi → IsTile p h × IsTile p r
+both_tiles p lo first [] hi i h r l a = absurd (omega arith)
+both_tiles p lo first (t ∷ []) hi zero h r l a = (a.2, a.5.2)
+both_tiles p lo first (t ∷ u ∷ ts) hi zero h r l a = (a.2, a.5.2)
+both_tiles p lo first (t ∷ []) hi (suc i) h r l a = absurd (omega arith)
+both_tiles p lo first (t ∷ u ∷ ts) hi (suc zero) h r l a =
+    both_tiles p (Some a.3) (cut_state a.3.path) (u ∷ ts) hi zero h r (omega arith) a.5
+both_tiles p lo first (t ∷ u ∷ ts) hi (suc (suc i)) h r l a =
+    both_tiles p (Some a.3) (cut_state a.3.path) (u ∷ ts) hi (suc i) h r (omega arith) a.5

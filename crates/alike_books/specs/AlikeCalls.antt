@@ -1,0 +1,62 @@
+-- What a call does to alike books, at the places of the same open tile.
+--
+-- Example: in the two books of AlikeBooks.antt the second tile of the one and the third of the other are the tile behind the cut 4, so
+-- their places, 1 and 2, correspond, and the leases of both workers name it. proofs/AlikeExamples.antt computes it.
+use Rattle.std.specs.Prelude.{ℕ, suc, ◌≡◌, ◌<◌, false, List, length, take, drop}
+use Rattle.lab_book.specs.declared.lease.Grant.{Grant}
+use Rattle.lab_book.specs.declared.entry.Call.{Call}
+use Rattle.lab_book.specs.declared.entry.Call.TheVariants as call
+use Rattle.lab_book.specs.declared.entry.Reply.{Reply}
+use Rattle.lab_book.specs.declared.entry.Reply.TheVariants as reply
+use Rattle.lab_book.specs.Tile.{TileValue, is_closed, is_lease}
+use Rattle.lab_book.specs.Tiling.{tile_at, IsTiling}
+use Rattle.lab_book.specs.Book.{BookValue, Outcome}
+use Rattle.alike_books.specs.AlikeBooks.{anonymous_tile, open_part}
+
+-- place i of some tiles and place j of others correspond: the same open tile stands there, but for its id and its lease, and so do the
+-- open tiles before it and behind it
+pub record Correspond (ts : List TileValue) (i : ℕ) (us : List TileValue) (j : ℕ) : Type 0 where
+  pub within : i < length ts
+  pub also_within : j < length us
+  pub not_closed : is_closed (tile_at ts i).status ≡ false
+  pub tile : anonymous_tile (tile_at ts i) ≡ anonymous_tile (tile_at us j)
+  pub before : open_part (take i ts) ≡ open_part (take j us)
+  pub behind : open_part (drop (suc i) ts) ≡ open_part (drop (suc j) us)
+
+-- leases g and h name the same open tile of two books, which stands at i in the one and at j in the other: each has the tile's id
+-- there, and either both are the current lease, or neither
+pub record NameSameTile (a : BookValue) (i : ℕ) (g : Grant) (b : BookValue) (j : ℕ) (h : Grant)
+    : Type 0 where
+  pub places : Correspond a.tiles i b.tiles j
+  pub id : g.id ≡ (tile_at a.tiles i).id
+  pub also_id : h.id ≡ (tile_at b.tiles j).id
+  pub current : is_lease (tile_at a.tiles i).status g ≡ is_lease (tile_at b.tiles j).status h
+
+-- a call, with this lease or its id in place of its own
+abbrev pub addressed : Grant → Call → Call
+addressed g (call.Lease id) = call.Lease g.id
+addressed g call.LeaseAny = call.LeaseAny
+addressed g (call.TakeHeld id) = call.TakeHeld g.id
+addressed g (call.Post h from to same) = call.Post g from to same
+addressed g (call.Split h path same) = call.Split g path same
+addressed g (call.Retract h) = call.Retract g
+addressed g (call.Park h) = call.Park g
+addressed g (call.Abandon h) = call.Abandon g
+addressed g (call.Close h) = call.Close g
+addressed g (call.PutBack id mark) = call.PutBack g.id mark
+addressed g (call.RequestStop id) = call.RequestStop g.id
+
+-- a book's reply without ids and leases
+abbrev pub anonymous_reply : Reply → Reply
+anonymous_reply (reply.Leased g lo hi mark n) =
+    reply.Leased (record { id = 0; worker = 0; index = 0 }) lo hi mark n
+anonymous_reply (reply.Split id) = reply.Split 0
+anonymous_reply r = r
+
+-- the outcomes of two calls, one of book a and one of book b: the same open part, and the same reply but for ids and leases; and the
+-- one book's tiles are a tiling where the other's are
+pub record AreAlikeOutcomes (a b : BookValue) (o q : Outcome) : Type 0 where
+  pub tiles : open_part o.tiles ≡ open_part q.tiles
+  pub reply : anonymous_reply o.reply ≡ anonymous_reply q.reply
+  pub tiling : IsTiling a.problem a.branch a.first o.tiles →
+      IsTiling b.problem b.branch b.first q.tiles

@@ -1,0 +1,3 @@
+pub mod AlikeBooks
+pub mod AlikeCalls
+pub mod Searched

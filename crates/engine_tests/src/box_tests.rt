@@ -176,7 +176,7 @@ fn packings_of_a_box_are_listed(rt: HostRuntime) -> Result<(), Fail> {
     ];
     for (pieces, size, lines, end) in rows {
         let text = text_of(rt.alloc(), size, pieces)?;
-        let done = cover(&rt, text.as_bytes());
+        let done = cover(&rt, rt.alloc(), text.as_bytes());
         assert_eq!(rt; done.status, 0);
         assert!(rt; ends_with(&done.output, lines, end));
         assert!(rt; done.faults.is_empty());

@@ -3,7 +3,7 @@
 use crate::puzzle_tests::{DOMINOES, OPTIONAL, SOMA, STRIP, ends_so};
 use lab_engine::Job;
 
-const FIVE_DOMINOES: &str =
+pub const FIVE_DOMINOES: &str =
     "box 5 2 1\npiece A 000 100\npiece B 000 100\npiece C 000 100\npiece D 000 100\npiece E 000 100\n";
 
 // A piece and its mirror image, one of which fills the corner 000 of a cube of eight cells.
@@ -51,7 +51,15 @@ fn classes_are_counted(rt: HostRuntime) {
     ];
     for (text, written) in rows {
         assert!(rt;
-            ends_so(&rt, Job::Classes, text, 0, written, ""),
+            ends_so(
+                &rt,
+                rt.alloc(),
+                Job::Classes { workers: 1 },
+                text,
+                0,
+                written,
+                ""
+            ),
             "for {text}"
         );
     }
@@ -73,7 +81,15 @@ fn known_puzzles_have_their_classes(rt: HostRuntime) {
     ];
     for (text, written) in rows {
         assert!(rt;
-            ends_so(&rt, Job::Classes, text, 0, written, ""),
+            ends_so(
+                &rt,
+                rt.alloc(),
+                Job::Classes { workers: 1 },
+                text,
+                0,
+                written,
+                ""
+            ),
             "for {text}"
         );
     }

@@ -4,11 +4,14 @@ use crate::puzzle_tests::ends_so;
 use byte_streams::Watched;
 use drawn_problems::SMALL;
 use lab_engine::{Job, run};
+use lab_pool::NoGate;
 use std::alloc::{AllocError, Global};
 use std::io::{self, ErrorKind, Read, Write};
+use std::sync::Wait;
 use std::test::Fail;
+use std::thread::Threads;
 
-const SMALL_OUTPUT: &str = "visit 4 5 1\nvisits 1\nsteps 43\nlevels 1 2 2 1\n";
+pub const SMALL_OUTPUT: &str = "visit 4 5 1\nvisits 1\nsteps 43\nlevels 1 2 2 1\n";
 
 /// What `cover` does with a text: its status, its output, and the line of its refusal.
 #[derive(Drop)]
@@ -19,26 +22,28 @@ pub struct Done {
 }
 
 /// The status of `cover` on what this reader reads.
-fn status_of<R: Read + Drop, W: Write + Drop>(
-    rt: &HostRuntime,
-    reader: R,
-    writer: W,
+fn status_of<R: Threads + Wait + Sync, I: Read + Drop, O: Write + Drop>(
+    rt: &R,
+    alloc: Global,
+    reader: I,
+    writer: O,
     faults: &mut Vec<u8>,
 ) -> u8 {
     run(
         rt,
-        rt.alloc(),
-        Job::Cover,
+        alloc,
+        Job::Cover { workers: 1 },
+        &NoGate,
         &mut Watched::reader(reader),
         &mut Watched::writer(writer),
         &mut Watched::writer(faults),
     )
 }
 
-pub fn cover(rt: &HostRuntime, text: &[u8]) -> Done {
-    let mut output = Vec::new(rt.alloc());
-    let mut faults = Vec::new(rt.alloc());
-    let status = status_of(rt, text, &mut output, &mut faults);
+pub fn cover<R: Threads + Wait + Sync>(rt: &R, alloc: Global, text: &[u8]) -> Done {
+    let mut output = Vec::new(alloc);
+    let mut faults = Vec::new(alloc);
+    let status = status_of(rt, alloc, text, &mut output, &mut faults);
     Done {
         status,
         output,
@@ -61,7 +66,18 @@ fn covers_are_listed(rt: HostRuntime) {
         ),
     ];
     for (text, output) in rows {
-        assert!(rt; ends_so(&rt, Job::Cover, text, 0, output, ""), "for {text}");
+        assert!(rt;
+            ends_so(
+                &rt,
+                rt.alloc(),
+                Job::Cover { workers: 1 },
+                text,
+                0,
+                output,
+                ""
+            ),
+            "for {text}"
+        );
     }
 }
 
@@ -81,12 +97,23 @@ fn texts_are_refused(rt: HostRuntime) {
         ("option", "refused cover 7 BadLine line 1\n"),
     ];
     for (text, line) in rows {
-        assert!(rt; ends_so(&rt, Job::Cover, text, 3, "", line), "for {text}");
+        assert!(rt;
+            ends_so(
+                &rt,
+                rt.alloc(),
+                Job::Cover { workers: 1 },
+                text,
+                3,
+                "",
+                line
+            ),
+            "for {text}"
+        );
     }
 }
 
 /// `items a` and so many lines `option a`.
-fn equal_options(alloc: Global, count: usize) -> Result<Vec<u8>, AllocError> {
+pub fn equal_options(alloc: Global, count: usize) -> Result<Vec<u8>, AllocError> {
     let mut text = Vec::from_slice(alloc, b"items a\n")?;
     for _ in 0..count {
         text.extend_from_slice(b"option a\n")?;
@@ -100,9 +127,9 @@ pub fn ends_with(text: &[u8], lines: usize, end: &[u8]) -> bool {
 }
 
 #[test]
-fn equal_options_take_linear_time(rt: HostRuntime) -> Result<(), Fail> {
+pub fn equal_options_take_linear_time(rt: HostRuntime) -> Result<(), Fail> {
     let text = equal_options(rt.alloc(), 70_000)?;
-    let found = cover(&rt, &text);
+    let found = cover(&rt, rt.alloc(), &text);
     assert!(rt; found.status == 0);
     assert!(rt;
         ends_with(
@@ -112,7 +139,7 @@ fn equal_options_take_linear_time(rt: HostRuntime) -> Result<(), Fail> {
         )
     );
     let text = equal_options(rt.alloc(), 262_144)?;
-    let refused = cover(&rt, &text);
+    let refused = cover(&rt, rt.alloc(), &text);
     assert!(rt; refused.status == 3);
     assert!(rt; refused.faults.as_slice() == b"refused cover 5 TooLarge line 262145\n".as_slice());
     Ok(())
@@ -158,7 +185,7 @@ fn a_broken_reader_is_told(rt: HostRuntime) {
     let mut output: Vec<u8> = Vec::new(rt.alloc());
     let mut faults: Vec<u8> = Vec::new(rt.alloc());
     let reader = Breaks(SMALL.as_bytes());
-    assert!(rt; status_of(&rt, reader, &mut output, &mut faults) == 5);
+    assert!(rt; status_of(&rt, rt.alloc(), reader, &mut output, &mut faults) == 5);
     assert!(rt; faults.as_slice() == b"refused input\n".as_slice());
     assert!(rt; output.is_empty());
 }
@@ -171,7 +198,7 @@ fn a_broken_writer_is_told(rt: HostRuntime) {
             left,
             taken: Vec::new(rt.alloc()),
         };
-        let status = status_of(&rt, SMALL.as_bytes(), &mut writer, &mut faults);
+        let status = status_of(&rt, rt.alloc(), SMALL.as_bytes(), &mut writer, &mut faults);
         let whole = left == SMALL_OUTPUT.len();
         let line: &[u8] = if whole { b"" } else { b"refused output\n" };
         assert!(rt; status == if whole { 0 } else { 5 });

@@ -71,7 +71,15 @@ fn commands_are_answered(rt: HostRuntime) -> Result<(), Fail> {
     for (commands, written) in rows {
         let text = with_commands(rt.alloc(), commands)?;
         assert!(rt;
-            ends_so(&rt, Job::DebugCover, text.as_str(), 0, written, ""),
+            ends_so(
+                &rt,
+                rt.alloc(),
+                Job::DebugCover,
+                text.as_str(),
+                0,
+                written,
+                ""
+            ),
             "for {commands}"
         );
     }
@@ -80,7 +88,17 @@ fn commands_are_answered(rt: HostRuntime) -> Result<(), Fail> {
 
 #[test]
 fn no_command_is_answered_by_nothing(rt: HostRuntime) {
-    assert!(rt; ends_so(&rt, Job::DebugCover, "items a\noption a\n", 0, "", ""));
+    assert!(rt;
+        ends_so(
+            &rt,
+            rt.alloc(),
+            Job::DebugCover,
+            "items a\noption a\n",
+            0,
+            "",
+            ""
+        )
+    );
 }
 
 #[test]
@@ -88,6 +106,7 @@ fn a_refused_problem_takes_no_command(rt: HostRuntime) {
     assert!(rt;
         ends_so(
             &rt,
+            rt.alloc(),
             Job::DebugCover,
             "items a\noption z\n%%\nstep\n",
             3,
@@ -98,6 +117,7 @@ fn a_refused_problem_takes_no_command(rt: HostRuntime) {
     assert!(rt;
         ends_so(
             &rt,
+            rt.alloc(),
             Job::DebugPuzzle,
             "piece A 000\n%%\nbox 1 1 1\n",
             3,
@@ -108,6 +128,7 @@ fn a_refused_problem_takes_no_command(rt: HostRuntime) {
     assert!(rt;
         ends_so(
             &rt,
+            rt.alloc(),
             Job::DebugPuzzle,
             "piece A 000\nbox 1 1 1\n%%\nrun\n",
             0,

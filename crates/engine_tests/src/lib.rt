@@ -10,4 +10,8 @@ mod cover_tests;
 #[cfg(test)]
 mod debug_tests;
 #[cfg(test)]
+mod line_tests;
+#[cfg(test)]
 mod puzzle_tests;
+#[cfg(test)]
+mod worker_tests;

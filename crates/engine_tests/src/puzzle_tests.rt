@@ -2,6 +2,10 @@
 
 use byte_streams::Watched;
 use lab_engine::{Job, run};
+use lab_pool::NoGate;
+use std::alloc::Global;
+use std::sync::Wait;
+use std::thread::Threads;
 
 pub const DOMINOES: &str = "piece A 000 100\npiece B 000 100\nbox 2 2 1\n";
 
@@ -14,20 +18,22 @@ pub const SOMA: &str =
      piece A 000 100 010 011\npiece B 000 100 010 101\npiece P 000 100 010 001\nbox 3 3 3\n";
 
 /// Whether the job on a text ends with this status, writes this text, and tells this line.
-pub fn ends_so(
-    rt: &HostRuntime,
+pub fn ends_so<R: Threads + Wait + Sync>(
+    rt: &R,
+    alloc: Global,
     job: Job,
     text: &str,
     status: u8,
     written: &str,
     line: &str,
 ) -> bool {
-    let mut output = Vec::new(rt.alloc());
-    let mut faults = Vec::new(rt.alloc());
+    let mut output = Vec::new(alloc);
+    let mut faults = Vec::new(alloc);
     let ended = run(
         rt,
-        rt.alloc(),
+        alloc,
         job,
+        &NoGate,
         &mut Watched::reader(text.as_bytes()),
         &mut Watched::writer(&mut output),
         &mut Watched::writer(&mut faults),
@@ -54,7 +60,15 @@ fn packings_are_shown(rt: HostRuntime) {
     ];
     for (text, written) in rows {
         assert!(rt;
-            ends_so(&rt, Job::Solve, text, 0, written, ""),
+            ends_so(
+                &rt,
+                rt.alloc(),
+                Job::Solve { workers: 1 },
+                text,
+                0,
+                written,
+                ""
+            ),
             "for {text}"
         );
     }
@@ -78,7 +92,15 @@ fn packings_are_counted(rt: HostRuntime) {
     ];
     for (text, written) in rows {
         assert!(rt;
-            ends_so(&rt, Job::Count, text, 0, written, ""),
+            ends_so(
+                &rt,
+                rt.alloc(),
+                Job::Count { workers: 1 },
+                text,
+                0,
+                written,
+                ""
+            ),
             "for {text}"
         );
     }
@@ -99,7 +121,7 @@ fn options_are_written(rt: HostRuntime) {
     ];
     for (text, written) in rows {
         assert!(rt;
-            ends_so(&rt, Job::Options, text, 0, written, ""),
+            ends_so(&rt, rt.alloc(), Job::Options, text, 0, written, ""),
             "for {text}"
         );
     }
@@ -119,8 +141,16 @@ fn puzzles_are_refused(rt: HostRuntime) {
         ("box 32 32 5\n", "refused puzzle 8 TooLarge line 1\n"),
     ];
     for (text, line) in rows {
-        for job in [Job::Solve, Job::Count, Job::Classes, Job::Options] {
-            assert!(rt; ends_so(&rt, job, text, 3, "", line), "for {text}");
+        for job in [
+            Job::Solve { workers: 1 },
+            Job::Count { workers: 1 },
+            Job::Classes { workers: 1 },
+            Job::Options,
+        ] {
+            assert!(rt;
+                ends_so(&rt, rt.alloc(), job, text, 3, "", line),
+                "for {text}"
+            );
         }
     }
 }
@@ -141,17 +171,28 @@ fn many_dominoes(rt: &HostRuntime) -> Option<String> {
 fn too_many_placements_are_refused(rt: HostRuntime) {
     let text = many_dominoes(&rt).expect(&rt, "memory");
     let line = "refused place 1 TooManyOptions\n";
-    assert!(rt; ends_so(&rt, Job::Count, text.as_str(), 3, "", line));
+    assert!(rt;
+        ends_so(
+            &rt,
+            rt.alloc(),
+            Job::Count { workers: 1 },
+            text.as_str(),
+            3,
+            "",
+            line
+        )
+    );
 }
 
 /// How many packings `count` tells of a puzzle and of how many options.
-fn counted(rt: &HostRuntime, text: &str, first: &str) -> bool {
-    let mut output = Vec::new(rt.alloc());
-    let mut faults = Vec::new(rt.alloc());
+fn counted<R: Threads + Wait + Sync>(rt: &R, alloc: Global, text: &str, first: &str) -> bool {
+    let mut output = Vec::new(alloc);
+    let mut faults = Vec::new(alloc);
     let ended = run(
         rt,
-        rt.alloc(),
-        Job::Count,
+        alloc,
+        Job::Count { workers: 1 },
+        &NoGate,
         &mut Watched::reader(text.as_bytes()),
         &mut Watched::writer(&mut output),
         &mut Watched::writer(&mut faults),
@@ -161,5 +202,5 @@ fn counted(rt: &HostRuntime, text: &str, first: &str) -> bool {
 
 #[test]
 fn the_soma_cube_has_its_packings(rt: HostRuntime) {
-    assert!(rt; counted(&rt, SOMA, "packings 11520\noptions 688\n"));
+    assert!(rt; counted(&rt, rt.alloc(), SOMA, "packings 11520\noptions 688\n"));
 }

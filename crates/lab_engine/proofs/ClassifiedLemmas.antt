@@ -5,8 +5,8 @@ use Rattle.cover_problem.specs.Problem.{ProblemValue}
 use Rattle.poly_texts.specs.Puzzle.{PuzzleValue}
 use Rattle.poly_place.specs.declared.alike.Group.TheVariants.{Rotations, Symmetries}
 use Rattle.poly_place.specs.Packings.{packing_problem}
-use Rattle.lab_engine.specs.Account.{Account, account_of}
-use Rattle.lab_engine.specs.Output.{whole_account}
+use Rattle.lab_engine.specs.Account.{ReportValue, account_of}
+use Rattle.lab_engine.specs.Output.{whole_report}
 use Rattle.lab_engine.specs.Packed.{count_text, count_output}
 use Rattle.lab_engine.specs.Classified.{packings_of, classes_of, class_lines, classes_output}
 
@@ -19,16 +19,16 @@ class_lines_added start mid r s n m first e f =
     ∙ ap₂ (λ (a b : ℕ). start ++ text_of (class_lines a b)) e f
 
 -- a search that keeps its visits counts as one that doesn't
-same_counts : (p : PuzzleValue) (q : ProblemValue) → count_text p (whole_account true q) ≡ count_text p (whole_account false q)
+same_counts : (p : PuzzleValue) (q : ProblemValue) → count_text p (whole_report true q) ≡ count_text p (whole_report false q)
 unfolding account_of
 same_counts p q = refl
 
-pub classes_text : (p : PuzzleValue) (q : ProblemValue) (a : Account) (visits : List (List ℕ)) (before after : List ℕ) → a ≡ whole_account true q → q ≡ packing_problem p → visits ≡ a.visits
-    → before ≡ count_text p a → after ≡ before ++ text_of (class_lines (classes_of Rotations (packings_of p visits)) (classes_of Symmetries (packings_of p visits))) → after ≡ classes_output p
+pub classes_text : (p : PuzzleValue) (q : ProblemValue) (r : ReportValue) (visits : List (List ℕ)) (before after : List ℕ) → r ≡ whole_report true q → q ≡ packing_problem p → visits ≡ r.visits
+    → before ≡ count_text p r → after ≡ before ++ text_of (class_lines (classes_of Rotations (packings_of p visits)) (classes_of Symmetries (packings_of p visits))) → after ≡ classes_output p
 unfolding classes_output count_output
-classes_text p q a visits before after account problem kept count push =
-    let whole : a ≡ whole_account true (packing_problem p) = account ∙ ap (whole_account true) problem in
+classes_text p q r visits before after report problem kept count push =
+    let whole : r ≡ whole_report true (packing_problem p) = report ∙ ap (whole_report true) problem in
     push
     ∙ ap₂ (λ (ks : List ℕ) (vs : List (List ℕ)). ks ++ text_of (class_lines (classes_of Rotations (packings_of p vs)) (classes_of Symmetries (packings_of p vs))))
     (count ∙ ap (count_text p) whole ∙ same_counts p (packing_problem p))
-    (kept ∙ ap (λ (b : Account). b.visits) whole)
+    (kept ∙ ap (λ (b : ReportValue). b.visits) whole)

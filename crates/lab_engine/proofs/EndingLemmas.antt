@@ -7,10 +7,11 @@ use Rattle.std.proofs.lemmas.Option.{IfSome_then}
 use Rattle.std.specs.Io.KnownBytes.{Appends}
 use Rattle.std.proofs.KnownBytes.{Appends-kept, Appends-nil}
 use Rattle.byte_streams.specs.Stream.{Stream, IsSound, HasFailed, Stays, TakesAll, TakesPart, Takes}
+use Rattle.lab_pool.specs.declared.fault.PoolFault.{PoolFault}
 use Rattle.lab_engine.specs.declared.job.Job.{Job}
 use Rattle.lab_engine.specs.declared.engine.Ending.{Ending}
-use Rattle.lab_engine.specs.declared.engine.Ending.TheVariants.{Written, Refused, OutOfMemory, Unread, Unwritten}
-use Rattle.lab_engine.specs.Outcome.{outcome, to_write, no_memory, bad_reader, bad_writer}
+use Rattle.lab_engine.specs.declared.engine.Ending.TheVariants.{Written, Refused, OutOfMemory, Pool, Unread, Unwritten}
+use Rattle.lab_engine.specs.Outcome.{outcome, to_write, no_memory, pool_refusal, bad_reader, bad_writer}
 use Rattle.lab_engine.specs.Listing.{IsListed}
 use Rattle.lab_engine.specs.Ending.{IsOutcomeOf, IsUnread, IsEnd, IsTold, status_of}
 use Rattle.lab_engine.proofs.ListingLemmas.{outcome_lists}
@@ -42,6 +43,7 @@ pub status_known : (e : Ending) → Contains (0 ∷ 3 ∷ 4 ∷ 5 ∷ []) (statu
 status_known Written = (0, omega arith, refl)
 status_known (Refused line) = (1, omega arith, refl)
 status_known OutOfMemory = (2, omega arith, refl)
+status_known (Pool fault) = (2, omega arith, refl)
 status_known _ = (3, omega arith, refl)
 
 module _ (job : Job) (r r' w w' f f' : Stream) where
@@ -60,13 +62,15 @@ module _ (job : Job) (r r' w w' f f' : Stream) where
   refused_is (Refused line) h t s = (line.items, h.1, t)
   refused_is _ h t s = absurd (omega arith)
 
-  pub memory_is : (e : Ending) → IsTold e f f' → status_of e ≡ 4 → Takes f f' no_memory
-  memory_is OutOfMemory t s = t
+  pub memory_is : (e : Ending) → IsTold e f f' → status_of e ≡ 4 → Takes f f' no_memory ⊎ ((fault : PoolFault) × Takes f f' (pool_refusal fault))
+  memory_is OutOfMemory t s = inl t
+  memory_is (Pool fault) t s = inr (fault, t)
   memory_is _ t s = absurd (omega arith)
 
   pub unwritten_is : (e : Ending) → IsEnd job r r' w w' e → Contains (3 ∷ 4 ∷ []) (status_of e) → Stays w w'
   unwritten_is (Refused line) h s = h.2
   unwritten_is OutOfMemory h s = h.1
+  unwritten_is (Pool fault) h s = h.1
   unwritten_is Unread h s = h.1
   unwritten_is _ h s = absurd (grind (arith, common_steps))
 
@@ -84,6 +88,7 @@ module _ (job : Job) (r r' w w' f f' : Stream) where
   writer_is Written h s = h.1.2.1
   writer_is (Refused line) h s = h.2.1
   writer_is OutOfMemory h s = h.1.1
+  writer_is (Pool fault) h s = h.1.1
   writer_is Unread h s = h.1.1
   writer_is Unwritten h s = absurd (s refl)
 
@@ -91,6 +96,7 @@ module _ (job : Job) (r r' w w' f f' : Stream) where
   limit_is Written h = within job r (Ok h.1.0) _ h.1.1
   limit_is (Refused line) h = within job r (Err line.items) _ h.1
   limit_is OutOfMemory h = always r.bytes (λ bytes past. (0, omega arith, refl))
+  limit_is (Pool fault) h = always r.bytes (λ bytes past. (0, omega arith, refl))
   limit_is _ h = always r.bytes (λ bytes past. (1, omega arith, refl))
 
   pub beginning_is : (e : Ending) → IsEnd job r r' w w' e → IfSome r.bytes (λ bytes. Beginning w w' (outcome job bytes))

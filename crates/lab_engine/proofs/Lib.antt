@@ -1,4 +1,4 @@
-mod AccountLemmas
+pub mod AccountLemmas
 mod SearchLemmas
 pub mod ClassifiedLemmas
 mod ListingLemmas

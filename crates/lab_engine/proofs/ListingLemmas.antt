@@ -22,12 +22,11 @@ use Rattle.x_steps.specs.Order.{IsIn}
 use Rattle.x_steps.specs.Covers.{AreCovers}
 use Rattle.x_steps.specs.StateValue.{start, done}
 use Rattle.x_steps.specs.Run.{visits_between}
-use Rattle.x_steps.specs.Levels.{without_last_zeros}
 use Rattle.x_steps.proofs.VisitLemmas.{visits_rise, visits_are_covers}
 use Rattle.lab_engine.specs.declared.job.Job.{Job}
 use Rattle.lab_engine.specs.declared.job.Job.TheVariants as jobs
-use Rattle.lab_engine.specs.Account.{Account, account_of}
-use Rattle.lab_engine.specs.Output.{cover_output, whole_account}
+use Rattle.lab_engine.specs.Account.{ReportValue, account_of}
+use Rattle.lab_engine.specs.Output.{cover_output, whole_report}
 use Rattle.lab_engine.specs.Packed.{solve_output, count_output, options_output}
 use Rattle.lab_engine.specs.Classified.{packings_of, classes_of, classes_output}
 use Rattle.lab_debug.specs.Input.{problem_text, command_lines}
@@ -42,8 +41,8 @@ lists : (p : ProblemValue) → IsProblem p → ListsCovers p (cover_output p)
 unfolding cover_output account_of visits_between
 lists p sound = record {
   paths = visits_between p start done;
-  steps = (whole_account true p).steps;
-  levels = without_last_zeros (whole_account true p).entered;
+  steps = (whole_report true p).steps;
+  levels = (whole_report true p).levels;
   lines = refl;
   rise = visits_rise p;
   covers = visits_are_covers p sound;
@@ -56,7 +55,7 @@ listed Listed output tells (Ok p) text sound e = let same : output p ≡ text = 
 listed Listed output tells (Err f) text sound e = absurd (cc)
 
 -- the visits of a problem are exact covers
-visits_covers : (p : ProblemValue) → IsProblem p → AreExactCovers p (whole_account true p).visits
+visits_covers : (p : ProblemValue) → IsProblem p → AreExactCovers p (whole_report true p).visits
 unfolding account_of visits_between
 visits_covers p sound k lt = (visits_are_covers p sound).sound (get_or (visits_between p start done) k []) (path_in (visits_between p start done) k lt)
   where
@@ -66,8 +65,8 @@ visits_covers p sound k lt = (visits_are_covers p sound).sound (get_or (visits_b
     path_in (x ∷ xs) (suc i) h = inr (path_in xs i (omega (arith, h)))
 
 -- the same, of the visits that a report of a puzzle's problem keeps
-pub report_covers : (p : PuzzleValue) (q : ProblemValue) (a : Account) (visits : List (List ℕ)) → q ≡ packing_problem p → IsProblem q → a ≡ whole_account true q → visits ≡ a.visits → AreExactCovers (packing_problem p) visits
-report_covers p q a visits e sound account kept = subst (λ vs. AreExactCovers (packing_problem p) vs) (sym (kept ∙ ap (λ b. b.visits) (account ∙ ap (whole_account true) e))) (visits_covers (packing_problem p) (subst IsProblem e sound))
+pub report_covers : (p : PuzzleValue) (q : ProblemValue) (r : ReportValue) (visits : List (List ℕ)) → q ≡ packing_problem p → IsProblem q → r ≡ whole_report true q → visits ≡ r.visits → AreExactCovers (packing_problem p) visits
+report_covers p q r visits e sound report kept = subst (λ vs. AreExactCovers (packing_problem p) vs) (sym (kept ∙ ap (λ b. b.visits) (report ∙ ap (whole_report true) e))) (visits_covers (packing_problem p) (subst IsProblem e sound))
 
 -- ---- packings
 
@@ -117,8 +116,8 @@ counts : (p : PuzzleValue) → IsPuzzle p → is_small (packing_problem p) ≡ t
 unfolding count_output account_of visits_between
 counts p z small = record {
   paths = visits_between (packing_problem p) start done;
-  steps = (whole_account false (packing_problem p)).steps;
-  levels = without_last_zeros (whole_account false (packing_problem p)).entered;
+  steps = (whole_report false (packing_problem p)).steps;
+  levels = (whole_report false (packing_problem p)).levels;
   lines = refl;
   packings = packing_paths p z small;
 }
@@ -129,8 +128,8 @@ classified p z small =
     let paths = visits_between (packing_problem p) start done in
     record {
       paths = paths;
-      steps = (whole_account false (packing_problem p)).steps;
-      levels = without_last_zeros (whole_account false (packing_problem p)).entered;
+      steps = (whole_report false (packing_problem p)).steps;
+      levels = (whole_report false (packing_problem p)).levels;
       rotations = classes_of Rotations (packings_of p paths);
       symmetries = classes_of Symmetries (packings_of p paths);
       lines = refl;
@@ -164,10 +163,10 @@ puzzle_read input p h = puzzle_is input p (texts.read_is_text input p h)
 
 pub outcome_lists : (job : Job) (input text : List ℕ) → outcome job input ≡ Ok text → IsListed job input text
 unfolding outcome
-outcome_lists jobs.Cover input text e = listed ListsCovers cover_output lists (problem_of input) text (problem_read input) e
-outcome_lists jobs.Solve input text e = packed ListsPackings solve_output shows (puzzle_of input) text (puzzle_read input) e
-outcome_lists jobs.Count input text e = packed CountsPackings count_output counts (puzzle_of input) text (puzzle_read input) e
-outcome_lists jobs.Classes input text e = packed CountsClasses classes_output classified (puzzle_of input) text (puzzle_read input) e
+outcome_lists (jobs.Cover workers) input text e = listed ListsCovers cover_output lists (problem_of input) text (problem_read input) e
+outcome_lists (jobs.Solve workers) input text e = packed ListsPackings solve_output shows (puzzle_of input) text (puzzle_read input) e
+outcome_lists (jobs.Count workers) input text e = packed CountsPackings count_output counts (puzzle_of input) text (puzzle_read input) e
+outcome_lists (jobs.Classes workers) input text e = packed CountsClasses classes_output classified (puzzle_of input) text (puzzle_read input) e
 outcome_lists jobs.Options input text e = packed (λ p t. t ≡ written (packing_problem p)) options_output (λ p z s. options_are p) (puzzle_of input) text (puzzle_read input) e
 outcome_lists jobs.DebugPuzzle input text e =
     let lines = command_lines input in

@@ -12,7 +12,7 @@ use Rattle.x_steps.specs.Steps.{next}
 use Rattle.x_steps.specs.Run.{states, after, ReachesIn}
 use Rattle.x_steps.proofs.RunLemmas.{start_fits, steps_between_is}
 use Rattle.cover_problem.specs.declared.fault.Fault.TheVariants.{UnknownItem}
-use Rattle.lab_engine.specs.Account.{account_of}
+use Rattle.lab_engine.specs.Account.{account_of, report_of}
 use Rattle.lab_engine.specs.Outcome.{covers_of}
 use Rattle.lab_engine.specs.Output.{cover_output, report_text}
 use Rattle.x_steps.specs.Levels.{without_last_zeros}
@@ -54,7 +54,7 @@ unfolding all_go_on goes_on next covered_by taken choice active remaining
 reaches_done = record { ends = refl; goes_on = λ i. each_goes_on 43 i refl }
 
 -- the report's very text for the small problem
-small_report : report_text (account_of true small (states small 43 start)) ≡ codes "visit 4 5 1" ++ 10 ∷ codes "visits 1" ++ 10 ∷ codes "steps 43" ++ 10 ∷ codes "levels 1 2 2 1" ++ 10 ∷ []
+small_report : report_text (report_of (account_of true small (states small 43 start))) ≡ codes "visit 4 5 1" ++ 10 ∷ codes "visits 1" ++ 10 ∷ codes "steps 43" ++ 10 ∷ codes "levels 1 2 2 1" ++ 10 ∷ []
 unfolding account_of without_last_zeros digits next covered_by taken choice active remaining
 small_report = refl
 

@@ -19,7 +19,7 @@ use Rattle.poly_place.specs.Chosen.{packing_value}
 use Rattle.poly_place.specs.Layers.{layers}
 use Rattle.poly_place.proofs.DominoExamples.{dominoes, boxed, boxed_dominoes, paths, on_the_left, above, below, on_the_right}
 use Rattle.poly_place.proofs.DominoExamples.{one_by_rotations, one_by_symmetries}
-use Rattle.lab_engine.specs.Account.{Account, kept, account_of}
+use Rattle.lab_engine.specs.Account.{Account, kept, account_of, report_of}
 use Rattle.lab_engine.specs.Output.{whole_account, tally_lines}
 use Rattle.lab_engine.specs.Packed.{packing_text, packings_from, number_line, count_text, count_output, solve_output}
 use Rattle.lab_engine.specs.Classified.{packings_of, classes_of, class_lines, classes_output}
@@ -93,13 +93,13 @@ abbrev with_options : ProblemValue → List ℕ
 with_options q =
     text_of (number_line 4 ∷ (codes "options" ∷ decimal (length q.options) ∷ []) ∷ tally_lines 55 (1 ∷ 4 ∷ 4 ∷ []))
 
-its_counts : count_text dominoes (counted false) ≡ counts_text
+its_counts : count_text dominoes (report_of (counted false)) ≡ counts_text
 unfolding digits without_last_zeros
 its_counts = ap with_options boxed_dominoes
 
 its_count : count_output dominoes ≡ counts_text
 unfolding count_output
-its_count = ap (count_text dominoes) (its_account false) ∙ its_counts
+its_count = ap (λ (a : Account). count_text dominoes (report_of a)) (its_account false) ∙ its_counts
 
 -- *`count --classes`*
 

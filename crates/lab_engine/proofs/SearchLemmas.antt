@@ -1,4 +1,4 @@
--- The loop of a search: the report and the counts are those of the states from X1 up to where the machine stands.
+-- The loop of a search: the tally and the counts are those of the states from X1 up to where the machine stands.
 use Rattle.std.proofs.Common.{◌≡◌, ℕ, zero, suc, ◌+◌, ◌-◌, ◌<◌, ◌≤◌, ◌^◌, ◌⊎◌, Bool, ◌&&◌, cond, List, [], ◌∷◌, ◌++◌, length, map, replicate, slice_index, refl, sym, ap, ◌∙◌, arith, subst, inl, inr, le_refl, length-append, if◌then◌else◌}
 use Rattle.std.proofs.lemmas.List.{length-map, get_or-replicate, length-replicate}
 use Rattle.std.proofs.lemmas.Grind.{same_number_lists}
@@ -23,7 +23,7 @@ use Rattle.lab_engine.specs.Account.{Account, account_of, with_walk, empty_accou
 use Rattle.lab_engine.specs.Output.{whole_account}
 use Rattle.lab_engine.proofs.AccountLemmas.{none_kept, kept_more, visited_more, same_accounts}
 
--- the report with the counts beside it is the account of these states
+-- the tally with the counts beside it is the account of these states
 pub record Tells (keeps : Bool) (p : ProblemValue) (ss : List StateValue) (a : Account) (counts : List ℕ) : Type 0 where
   pub visits_are : a.visits ≡ kept keeps (visits p ss)
   pub visited_is : a.visited ≡ length (visits p ss)
@@ -110,7 +110,7 @@ module _ (keeps : Bool) (p : ProblemValue) (ss : List StateValue) (a : Account) 
 
 -- ---- the loop
 
--- the machine searches p and stands on its run, and the report tells of the states before it
+-- the machine searches p and stands on its run, and the tally tells of the states before it
 pub record Searches (keeps : Bool) (p : ProblemValue) (m : Position) (a : Account) (counts : List ℕ) (room : ℕ) : Type 0 where
   pub sound : IsProblem p
   pub same : m.problem ≡ p
@@ -176,13 +176,13 @@ module _ (keeps : Bool) (p : ProblemValue) (m new : Position) (a : Account) (cou
       let top = done_last p new.state (reached_fits p m.state new.state n s.fits here) in
       let same_rank = ap (rank p) here.ends in omega arith
 
--- the counts go into the report, and others begin
+-- the counts go into the tally, and others begin
 pub searches_anew : (keeps : Bool) (p : ProblemValue) (m : Position) (a b : Account) (counts zeros : List ℕ) (room : ℕ) → Searches keeps p m a counts room → b ≡ record a { entered = b.entered } → AreSums a.entered counts b.entered
     → zeros ≡ replicate (length p.names + 1) 0 → (more : ℕ) → more < 2 ^ 32 → Searches keeps p m b zeros more
 searches_anew keeps p m a b counts zeros room s others sums z more l =
     searches_from keeps p m b zeros more s.sound s.same s.fits (tells_whole keeps p (states_between p start m.state) a counts s.tells b others sums) z l
 
--- once the machine is at Done, the report with the last counts is that of the whole run
+-- once the machine is at Done, the tally with the last counts is that of the whole run
 pub searches_end : (keeps : Bool) (p : ProblemValue) (m : Position) (a b : Account) (counts : List ℕ) (room : ℕ) → Searches keeps p m a counts room → m.state.label ≡ Done
     → b ≡ record a { entered = b.entered } → AreSums a.entered counts b.entered → b ≡ whole_account keeps p
 searches_end keeps p m a b counts room s e others sums =

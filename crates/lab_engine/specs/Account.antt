@@ -6,6 +6,7 @@ use Rattle.x_steps.specs.declared.event.Event.{Event}
 use Rattle.x_steps.specs.StateValue.{StateValue}
 use Rattle.x_steps.specs.Run.{visits, level_count}
 use Rattle.x_steps.specs.Walk.{is_visited}
+use Rattle.x_steps.specs.Levels.{without_last_zeros}
 
 -- the visits that are kept, the number of visits and of steps, and the number of X2 states at each level from 0 on
 pub record Account : Type 0 where
@@ -13,6 +14,17 @@ pub record Account : Type 0 where
   pub visited : ℕ
   pub steps : ℕ
   pub entered : List ℕ
+
+-- what is reported of an account: the same, with the levels up to the last that has a state
+pub record ReportValue : Type 0 where
+  pub visits : List (List ℕ)
+  pub visited : ℕ
+  pub steps : ℕ
+  pub levels : List ℕ
+
+-- the report of an account
+abbrev pub report_of : Account → ReportValue
+report_of a = record { visits = a.visits; visited = a.visited; steps = a.steps; levels = without_last_zeros a.entered }
 
 -- these paths, or none where they are not kept
 abbrev pub kept : Bool → List (List ℕ) → List (List ℕ)

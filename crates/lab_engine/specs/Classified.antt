@@ -10,7 +10,7 @@ use Rattle.poly_place.specs.Chosen.{PackingValue, packing_value}
 use Rattle.poly_place.specs.declared.alike.Group.{Group}
 use Rattle.poly_place.specs.declared.alike.Group.TheVariants.{Rotations, Symmetries}
 use Rattle.poly_place.specs.ClassCount.{are_alike, class_count}
-use Rattle.lab_engine.specs.Output.{whole_account}
+use Rattle.lab_engine.specs.Output.{whole_report}
 use Rattle.lab_engine.specs.Packed.{count_output}
 
 -- the packings of these paths
@@ -28,5 +28,5 @@ class_lines rotations symmetries = (codes "rotations" ∷ decimal rotations ∷ 
 -- what `count --classes` writes: what `count` does, and then the lines of the classes of all packings
 unfoldable pub classes_output : PuzzleValue → List ℕ
 classes_output p =
-    let ps = packings_of p (whole_account true (packing_problem p)).visits in
+    let ps = packings_of p (whole_report true (packing_problem p)).visits in
     count_output p ++ text_of (class_lines (classes_of Rotations ps) (classes_of Symmetries ps))

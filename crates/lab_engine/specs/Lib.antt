@@ -1,3 +1,4 @@
+pub mod Workers
 pub mod Account
 pub mod Output
 pub mod Packed

@@ -20,6 +20,8 @@ use Rattle.poly_texts.specs.Faults as puzzle_faults
 use Rattle.poly_texts.specs.Puzzle.{PuzzleValue}
 use Rattle.poly_texts.specs.Reading.{puzzle_of}
 use Rattle.poly_place.specs.Packings.{packing_problem}
+use Rattle.lab_pool.specs.declared.fault.PoolFault.{PoolFault}
+use Rattle.lab_pool.specs.Faults as pool_faults
 use Rattle.lab_engine.specs.Output.{cover_output}
 use Rattle.lab_engine.specs.Packed.{solve_output, count_output, options_output}
 use Rattle.lab_engine.specs.Classified.{classes_output}
@@ -69,12 +71,12 @@ output_of puzzle_jobs.Classes lines = classes_output
 output_of puzzle_jobs.Options lines = options_output
 output_of puzzle_jobs.Debug lines = puzzle_replies lines
 
--- what a job writes for an input, or the line that refuses it
+-- what a job writes for an input, or the line that refuses it: the same, by however many workers it is done
 unfoldable pub outcome : Job → List ℕ → Result (List ℕ) (List ℕ)
-outcome jobs.Cover text = covers_of cover_output (problem_of text)
-outcome jobs.Solve text = packed_of solve_output (puzzle_of text)
-outcome jobs.Count text = packed_of count_output (puzzle_of text)
-outcome jobs.Classes text = packed_of classes_output (puzzle_of text)
+outcome (jobs.Cover workers) text = covers_of cover_output (problem_of text)
+outcome (jobs.Solve workers) text = packed_of solve_output (puzzle_of text)
+outcome (jobs.Count workers) text = packed_of count_output (puzzle_of text)
+outcome (jobs.Classes workers) text = packed_of classes_output (puzzle_of text)
 outcome jobs.Options text = packed_of options_output (puzzle_of text)
 outcome jobs.DebugPuzzle text = packed_of (puzzle_replies (command_lines text)) (puzzle_of (problem_text text))
 outcome jobs.DebugCover text = covers_of (debug_output (command_lines text)) (problem_of (problem_text text))
@@ -84,9 +86,13 @@ abbrev pub to_write : Result (List ℕ) (List ℕ) → List ℕ
 to_write (Ok text) = text
 to_write (Err line) = []
 
--- the lines of what is no fault of the input's text
+-- the line that is told where memory ran out
 abbrev pub no_memory : List ℕ
 no_memory = line_text (codes "refused" ∷ codes "memory" ∷ [])
+
+-- the line that is told where workers did not finish
+abbrev pub pool_refusal : PoolFault → List ℕ
+pool_refusal fault = line_text (codes "refused" ∷ codes "pool" ∷ decimal (pool_faults.number_of fault) ∷ pool_faults.name_of fault ∷ [])
 
 -- the line that is told where the input isn't read: a read failed, or the input goes on past its limit
 abbrev pub bad_reader : List ℕ

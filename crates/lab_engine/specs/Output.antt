@@ -6,9 +6,8 @@ use Rattle.text_lines.specs.Writing.{text_of}
 use Rattle.cover_problem.specs.Problem.{ProblemValue}
 use Rattle.x_steps.specs.StateValue.{start, done}
 use Rattle.x_steps.specs.Run.{states_between}
-use Rattle.x_steps.specs.Levels.{without_last_zeros}
 use Rattle.debug_texts.specs.Replies.{visit_words}
-use Rattle.lab_engine.specs.Account.{Account, account_of}
+use Rattle.lab_engine.specs.Account.{Account, ReportValue, account_of, report_of}
 
 -- the lines of the steps and the levels
 abbrev pub tally_lines : ℕ → List ℕ → List (List (List ℕ))
@@ -18,14 +17,18 @@ tally_lines steps levels = (codes "steps" ∷ decimal steps ∷ []) ∷ (codes "
 abbrev pub total_lines : ℕ → ℕ → List ℕ → List (List (List ℕ))
 total_lines visited steps levels = (codes "visits" ∷ decimal visited ∷ []) ∷ tally_lines steps levels
 
--- what is written of an account that keeps its visits
-abbrev pub report_text : Account → List ℕ
-report_text a = text_of (map visit_words a.visits) ++ text_of (total_lines a.visited a.steps (without_last_zeros a.entered))
+-- what is written of a report that keeps its visits
+abbrev pub report_text : ReportValue → List ℕ
+report_text r = text_of (map visit_words r.visits) ++ text_of (total_lines r.visited r.steps r.levels)
 
 -- the account of a problem's whole run, from X1 to Done
 abbrev pub whole_account : Bool → ProblemValue → Account
 whole_account keeps p = account_of keeps p (states_between p start done)
 
--- what `cover` writes of a problem: the account of its whole run, from X1 to Done
+-- and its report
+abbrev pub whole_report : Bool → ProblemValue → ReportValue
+whole_report keeps p = report_of (whole_account keeps p)
+
+-- what `cover` writes of a problem: the report of its whole run
 unfoldable pub cover_output : ProblemValue → List ℕ
-cover_output p = report_text (whole_account true p)
+cover_output p = report_text (whole_report true p)

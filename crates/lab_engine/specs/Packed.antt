@@ -9,9 +9,8 @@ use Rattle.cover_problem.specs.Grammar.{written}
 use Rattle.poly_place.specs.Packings.{packing_problem}
 use Rattle.poly_place.specs.Chosen.{packing_value}
 use Rattle.poly_place.specs.Layers.{layers}
-use Rattle.x_steps.specs.Levels.{without_last_zeros}
-use Rattle.lab_engine.specs.Account.{Account}
-use Rattle.lab_engine.specs.Output.{whole_account, tally_lines}
+use Rattle.lab_engine.specs.Account.{ReportValue}
+use Rattle.lab_engine.specs.Output.{whole_report, tally_lines}
 
 -- the packing of a path, with its number and its layers
 abbrev pub packing_text : PuzzleValue → ℕ → List ℕ → List ℕ
@@ -33,20 +32,20 @@ options_line p = codes "options" ∷ decimal (length (packing_problem p).options
 -- what `solve` writes: the packings in path order, and their number
 unfoldable pub solve_output : PuzzleValue → List ℕ
 solve_output p =
-    let a = whole_account true (packing_problem p) in
-    packings_from p 1 a.visits ++ line_text (number_line a.visited)
+    let r = whole_report true (packing_problem p) in
+    packings_from p 1 r.visits ++ line_text (number_line r.visited)
 
 -- the lines of the number of packings and of options, and of the steps and the levels
 abbrev pub count_lines : PuzzleValue → ℕ → ℕ → List ℕ → List (List (List ℕ))
 count_lines p packings steps levels = number_line packings ∷ options_line p ∷ tally_lines steps levels
 
--- these lines, of the account of a search
-abbrev pub count_text : PuzzleValue → Account → List ℕ
-count_text p a = text_of (count_lines p a.visited a.steps (without_last_zeros a.entered))
+-- these lines, of the report of a search
+abbrev pub count_text : PuzzleValue → ReportValue → List ℕ
+count_text p r = text_of (count_lines p r.visited r.steps r.levels)
 
 -- what `count` writes: the number of packings and of options, and the steps and the levels of the search
 unfoldable pub count_output : PuzzleValue → List ℕ
-count_output p = count_text p (whole_account false (packing_problem p))
+count_output p = count_text p (whole_report false (packing_problem p))
 
 -- what `options` writes: the problem whose exact covers are the packings
 unfoldable pub options_output : PuzzleValue → List ℕ

@@ -1,5 +1,5 @@
 //! What a job writes for an input.
-ghost use Rattle.std.specs.Prelude.{◌≡◌, IfOk, List, ℕ, codes, Result};
+ghost use Rattle.std.specs.Prelude.{◌≡◌, IfOk, List, [], ℕ, codes, Result};
 ghost use Rattle.text_lines.specs.Answers.{GivesAt};
 ghost use Rattle.text_lines.specs.Writing.{line_text};
 ghost use Rattle.cover_problem.specs.declared.fault.Fault.{Fault};
@@ -17,13 +17,18 @@ ghost use Rattle.lab_engine.specs.Outcome.{refusal_words, place_refusal, covers_
 use crate::classes::count_classes;
 use crate::cover::covers;
 use crate::debugging::debug;
+use crate::fault::JobFault;
 use crate::job::Job;
 use crate::packed::{count, options, solve};
+use crate::workers::Workers;
 use cover_problem::{CoverFault, Problem, Table, read_cover};
 use lab_debug::split_input;
+use lab_pool::Gate;
 use poly_place::{Compiled, PlaceFault, compile};
 use poly_texts::{Puzzle, PuzzleFault, read_puzzle};
 use std::alloc::{AllocError, Global};
+use std::sync::Wait;
+use std::thread::Threads;
 use text_lines::{write_number, write_word};
 
 /// The text to write, or the line that refuses the input.
@@ -36,22 +41,45 @@ pub enum Answer {
 /// What the job writes for an input. The bytes of an input that is all one text are let go before anything is searched; those
 /// of a text with commands are kept, since the commands stand in them.
 #[tactic(auto, unfolding(crate::specs::Outcome::outcome))]
-pub fn answer_to<T: Table>(alloc: Global, job: Job, input: Vec<u8>) -> Result<Answer, AllocError>
+pub fn answer_to<T: Table, R: Threads + Wait + Sync, G: Gate>(
+    alloc: Global,
+    job: Job,
+    workers: &Workers<'_, R, G>,
+    input: Vec<u8>,
+) -> Result<Answer, JobFault>
     ensures { IfOk result (λ answer. outcome_of answer ≡ outcome job input.items) }
 {
     match job {
-        Job::Cover => cover_answer::<T>(alloc, CoverJob::List, problem_in(alloc, input), &[]),
-        Job::Solve => puzzle_answer::<T>(alloc, PuzzleJob::Solve, puzzle_in(alloc, input), &[]),
-        Job::Count => puzzle_answer::<T>(alloc, PuzzleJob::Count, puzzle_in(alloc, input), &[]),
-        Job::Classes => puzzle_answer::<T>(alloc, PuzzleJob::Classes, puzzle_in(alloc, input), &[]),
-        Job::Options => puzzle_answer::<T>(alloc, PuzzleJob::Options, puzzle_in(alloc, input), &[]),
+        Job::Cover { .. } => cover_answer::<T, R, G>(
+            alloc,
+            workers,
+            CoverJob::List,
+            problem_in(alloc, input),
+            &[],
+        ),
+        Job::Solve { .. } => plain_puzzle::<T, R, G>(alloc, workers, PuzzleJob::Solve, input),
+        Job::Count { .. } => plain_puzzle::<T, R, G>(alloc, workers, PuzzleJob::Count, input),
+        Job::Classes { .. } => plain_puzzle::<T, R, G>(alloc, workers, PuzzleJob::Classes, input),
+        Job::Options => plain_puzzle::<T, R, G>(alloc, workers, PuzzleJob::Options, input),
         Job::DebugPuzzle => {
             let (text, commands) = split_input(&input);
-            puzzle_answer::<T>(alloc, PuzzleJob::Debug, read_puzzle(alloc, text), commands)
+            puzzle_answer::<T, R, G>(
+                alloc,
+                workers,
+                PuzzleJob::Debug,
+                read_puzzle(alloc, text),
+                commands,
+            )
         }
         Job::DebugCover => {
             let (text, commands) = split_input(&input);
-            cover_answer::<T>(alloc, CoverJob::Debug, read_cover(alloc, text), commands)
+            cover_answer::<T, R, G>(
+                alloc,
+                workers,
+                CoverJob::Debug,
+                read_cover(alloc, text),
+                commands,
+            )
         }
     }
 }
@@ -78,38 +106,54 @@ pub enum CoverJob {
 }
 
 /// What the job writes of the problem that was found in a text, or the refusal of the text.
-fn cover_answer<T: Table>(
+fn cover_answer<T: Table, R: Threads + Wait + Sync, G: Gate>(
     alloc: Global,
+    workers: &Workers<'_, R, G>,
     job: CoverJob,
     found: Result<Problem, CoverFault>,
     commands: &[u8],
-) -> Result<Answer, AllocError>
+) -> Result<Answer, JobFault>
     ensures { (read : Result ProblemValue (Fault × ℕ)) → GivesAt (λ p. p) found read →
         IfOk result (λ answer. outcome_of answer ≡ covers_of (listing_of job (raw_lines commands.now)) read) }
 {
     match found {
-        Ok(problem) => Ok(Answer::Text(cover_text::<T>(alloc, job, &problem, commands)?)),
+        Ok(problem) => Ok(Answer::Text(cover_text::<T, R, G>(
+            alloc, workers, job, &problem, commands,
+        )?)),
         Err(CoverFault::Fault { fault, line }) => {
             let (number, name) = (fault.number(), fault.name());
             Ok(Answer::Refused(refusal(alloc, "cover", number, name, line)?))
         }
-        Err(CoverFault::OutOfMemory) => Err(AllocError),
+        Err(CoverFault::OutOfMemory) => Err(JobFault::OutOfMemory),
     }
 }
 
 /// What the job writes of a problem.
-fn cover_text<T: Table>(
+fn cover_text<T: Table, R: Threads + Wait + Sync, G: Gate>(
     alloc: Global,
+    workers: &Workers<'_, R, G>,
     job: CoverJob,
     problem: &Problem,
     commands: &[u8],
-) -> Result<Vec<u8>, AllocError>
+) -> Result<Vec<u8>, JobFault>
     ensures { IfOk result (λ text. text.items ≡ listing_of job (raw_lines commands.now) problem.now) }
 {
     match job {
-        CoverJob::List => covers::<T>(alloc, problem),
-        CoverJob::Debug => debug::<T>(alloc, problem, commands),
+        CoverJob::List => covers::<T, R, G>(alloc, workers, problem),
+        CoverJob::Debug => Ok(debug::<T>(alloc, problem, commands)?),
     }
+}
+
+/// What the job writes for a text that is a puzzle and nothing else.
+fn plain_puzzle<T: Table, R: Threads + Wait + Sync, G: Gate>(
+    alloc: Global,
+    workers: &Workers<'_, R, G>,
+    job: PuzzleJob,
+    text: Vec<u8>,
+) -> Result<Answer, JobFault>
+    ensures { IfOk result (λ answer. outcome_of answer ≡ packed_of (output_of job (raw_lines [])) (puzzle_of text.items)) }
+{
+    puzzle_answer::<T, R, G>(alloc, workers, job, puzzle_in(alloc, text), &[])
 }
 
 /// What is asked of a puzzle.
@@ -123,60 +167,65 @@ pub enum PuzzleJob {
 }
 
 /// What the job writes of the puzzle that was found in a text, or the refusal of the text or of the puzzle.
-fn puzzle_answer<T: Table>(
+fn puzzle_answer<T: Table, R: Threads + Wait + Sync, G: Gate>(
     alloc: Global,
+    workers: &Workers<'_, R, G>,
     job: PuzzleJob,
     found: Result<Puzzle, PuzzleFault>,
     commands: &[u8],
-) -> Result<Answer, AllocError>
+) -> Result<Answer, JobFault>
     ensures { (read : Result PuzzleValue (puzzle.Fault × ℕ)) → GivesAt (λ p. p) found read →
         IfOk result (λ answer. outcome_of answer ≡ packed_of (output_of job (raw_lines commands.now)) read) }
 {
     match found {
-        Ok(puzzle) => packed_answer::<T>(alloc, job, &puzzle, commands),
+        Ok(puzzle) => packed_answer::<T, R, G>(alloc, workers, job, &puzzle, commands),
         Err(PuzzleFault::Fault { fault, line }) => {
             let (number, name) = (fault.number(), fault.name());
             Ok(Answer::Refused(refusal(alloc, "puzzle", number, name, line)?))
         }
-        Err(PuzzleFault::OutOfMemory) => Err(AllocError),
+        Err(PuzzleFault::OutOfMemory) => Err(JobFault::OutOfMemory),
     }
 }
 
 /// What the job writes of a puzzle, or its refusal.
-fn packed_answer<T: Table>(
+fn packed_answer<T: Table, R: Threads + Wait + Sync, G: Gate>(
     alloc: Global,
+    workers: &Workers<'_, R, G>,
     job: PuzzleJob,
     puzzle: &Puzzle,
     commands: &[u8],
-) -> Result<Answer, AllocError>
+) -> Result<Answer, JobFault>
     ensures { (given : PuzzleValue) → given ≡ puzzle.now →
         IfOk result (λ answer. outcome_of answer ≡ packed_of (output_of job (raw_lines commands.now)) (Ok given)) }
 {
     match compile(alloc, puzzle) {
-        Ok(compiled) => Ok(Answer::Text(packed_text::<T>(alloc, job, &compiled, commands)?)),
+        Ok(compiled) => Ok(Answer::Text(packed_text::<T, R, G>(
+            alloc, workers, job, &compiled, commands,
+        )?)),
         Err(PlaceFault::TooManyOptions) => {
             let line = Vec::from_slice(alloc, b"refused place 1 TooManyOptions\n")?;
             Ok(Answer::Refused(line))
         }
-        Err(PlaceFault::OutOfMemory) => Err(AllocError),
+        Err(PlaceFault::OutOfMemory) => Err(JobFault::OutOfMemory),
     }
 }
 
 /// What the job writes of a puzzle whose problem is within the limits.
-fn packed_text<T: Table>(
+fn packed_text<T: Table, R: Threads + Wait + Sync, G: Gate>(
     alloc: Global,
+    workers: &Workers<'_, R, G>,
     job: PuzzleJob,
     compiled: &Compiled<'_>,
     commands: &[u8],
-) -> Result<Vec<u8>, AllocError>
+) -> Result<Vec<u8>, JobFault>
     ensures { IfOk result (λ text. text.items ≡ output_of job (raw_lines commands.now) compiled.now) }
 {
     match job {
-        PuzzleJob::Solve => solve::<T>(alloc, compiled),
-        PuzzleJob::Count => count::<T>(alloc, compiled),
-        PuzzleJob::Classes => count_classes::<T>(alloc, compiled),
-        PuzzleJob::Options => options(alloc, compiled),
-        PuzzleJob::Debug => debug::<T>(alloc, compiled.problem(), commands),
+        PuzzleJob::Solve => solve::<T, R, G>(alloc, workers, compiled),
+        PuzzleJob::Count => count::<T, R, G>(alloc, workers, compiled),
+        PuzzleJob::Classes => count_classes::<T, R, G>(alloc, workers, compiled),
+        PuzzleJob::Options => Ok(options(alloc, compiled)?),
+        PuzzleJob::Debug => Ok(debug::<T>(alloc, compiled.problem(), commands)?),
     }
 }
 

@@ -6,22 +6,28 @@ ghost use Rattle.poly_place.specs.Packings.{packing_problem};
 ghost use Rattle.lab_engine.specs.Classified.{packings_of, classes_of, class_lines, classes_output};
 ghost use Rattle.lab_engine.specs.Listing.{AreExactCovers};
 
+use crate::fault::JobFault;
 use crate::packed::count_text;
 use crate::search::search;
+use crate::workers::Workers;
 use cover_problem::{Lists, Table};
+use lab_pool::Gate;
 use poly_place::{Compiled, Group, Packing, classes, packing_of};
 use std::alloc::{AllocError, Global};
+use std::sync::Wait;
+use std::thread::Threads;
 use text_lines::write_number_line;
 
 /// What `count` writes, and then how many classes the packings make, by the rotations and by all symmetries of the region.
 #[tactic(auto, unfolding(crate::specs::Classified::classes_output))]
-pub fn count_classes<T: Table>(
+pub fn count_classes<T: Table, R: Threads + Wait + Sync, G: Gate>(
     alloc: Global,
+    workers: &Workers<'_, R, G>,
     compiled: &Compiled<'_>,
-) -> Result<Vec<u8>, AllocError>
+) -> Result<Vec<u8>, JobFault>
     ensures { IfOk result (λ text. text.items ≡ classes_output compiled.now) }
 {
-    let report = search::<T>(alloc, compiled.problem(), true)?;
+    let report = search::<T, R, G>(alloc, workers, compiled.problem(), true)?;
     let mut text = count_text(alloc, compiled, &report)?;
     push_classes(alloc, &mut text, compiled, report.visits())?;
     Ok(text)

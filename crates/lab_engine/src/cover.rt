@@ -2,21 +2,30 @@
 ghost use Rattle.std.specs.Prelude.{◌≡◌, IfOk};
 ghost use Rattle.lab_engine.specs.Output.{cover_output};
 
+use crate::fault::JobFault;
 use crate::search::search;
+use crate::workers::Workers;
 use cover_problem::{Problem, Table};
 use debug_texts::write_visits;
-use std::alloc::{AllocError, Global};
+use lab_pool::Gate;
+use std::alloc::Global;
+use std::sync::Wait;
+use std::thread::Threads;
 use text_lines::write_number_line;
 
 /// The exact covers of the problem in path order, and then their number, the steps and the levels.
 #[tactic(auto, unfolding(crate::specs::Output::cover_output))]
-pub fn covers<T: Table>(alloc: Global, problem: &Problem) -> Result<Vec<u8>, AllocError>
+pub fn covers<T: Table, R: Threads + Wait + Sync, G: Gate>(
+    alloc: Global,
+    workers: &Workers<'_, R, G>,
+    problem: &Problem,
+) -> Result<Vec<u8>, JobFault>
     ensures { IfOk result (λ text. text.items ≡ cover_output problem.now) }
 {
-    let report = search::<T>(alloc, problem, true)?;
+    let report = search::<T, R, G>(alloc, workers, problem, true)?;
     let mut text = Vec::new(alloc);
     write_visits(&mut text, report.visits())?;
     write_number_line(&mut text, "visits", report.visited())?;
-    report.push_steps(alloc, &mut text)?;
+    report.push_steps(&mut text)?;
     Ok(text)
 }

@@ -7,10 +7,13 @@ mod count;
 mod cover;
 mod debugging;
 mod engine;
+mod fault;
 mod job;
 mod packed;
 mod report;
 mod search;
+mod tally;
+mod workers;
 
 pub use engine::run;
 pub use job::Job;

@@ -7,19 +7,28 @@ ghost use Rattle.poly_place.specs.Packings.{packing_problem};
 ghost use Rattle.lab_engine.specs.Packed.{solve_output, count_output, count_text, options_output, packing_text, packings_from, number_line};
 ghost use Rattle.lab_engine.specs.Listing.{AreExactCovers};
 
+use crate::fault::JobFault;
 use crate::report::Report;
 use crate::search::search;
+use crate::workers::Workers;
 use cover_problem::{Lists, Table, write_cover};
+use lab_pool::Gate;
 use poly_place::{Compiled, layers, packing_of};
 use std::alloc::{AllocError, Global};
+use std::sync::Wait;
+use std::thread::Threads;
 use text_lines::write_number_line;
 
 /// The packings of the puzzle in path order, each with its layers, and then their number.
 #[tactic(auto, unfolding(crate::specs::Packed::solve_output))]
-pub fn solve<T: Table>(alloc: Global, compiled: &Compiled<'_>) -> Result<Vec<u8>, AllocError>
+pub fn solve<T: Table, R: Threads + Wait + Sync, G: Gate>(
+    alloc: Global,
+    workers: &Workers<'_, R, G>,
+    compiled: &Compiled<'_>,
+) -> Result<Vec<u8>, JobFault>
     ensures { IfOk result (λ text. text.items ≡ solve_output compiled.now) }
 {
-    let report = search::<T>(alloc, compiled.problem(), true)?;
+    let report = search::<T, R, G>(alloc, workers, compiled.problem(), true)?;
     let mut text = Vec::new(alloc);
     push_packings(alloc, &mut text, compiled, report.visits())?;
     write_number_line(&mut text, "packings", report.visited())?;
@@ -28,11 +37,15 @@ pub fn solve<T: Table>(alloc: Global, compiled: &Compiled<'_>) -> Result<Vec<u8>
 
 /// The number of packings and of options, and the steps and the levels of the search.
 #[tactic(auto, unfolding(crate::specs::Packed::count_output))]
-pub fn count<T: Table>(alloc: Global, compiled: &Compiled<'_>) -> Result<Vec<u8>, AllocError>
+pub fn count<T: Table, R: Threads + Wait + Sync, G: Gate>(
+    alloc: Global,
+    workers: &Workers<'_, R, G>,
+    compiled: &Compiled<'_>,
+) -> Result<Vec<u8>, JobFault>
     ensures { IfOk result (λ text. text.items ≡ count_output compiled.now) }
 {
-    let report = search::<T>(alloc, compiled.problem(), false)?;
-    count_text(alloc, compiled, &report)
+    let report = search::<T, R, G>(alloc, workers, compiled.problem(), false)?;
+    Ok(count_text(alloc, compiled, &report)?)
 }
 
 /// The number of packings and of options, and the steps and the levels, of the report of a search.
@@ -47,7 +60,7 @@ pub fn count_text(
     let mut text = Vec::new(alloc);
     write_number_line(&mut text, "packings", report.visited())?;
     write_number_line(&mut text, "options", u128::from(options))?;
-    report.push_steps(alloc, &mut text)?;
+    report.push_steps(&mut text)?;
     Ok(text)
 }
 

@@ -1,102 +1,70 @@
-//! The report of a search, gathered walk by walk.
-ghost use Rattle.std.specs.Prelude.{◌≡◌, ◌++◌, length, replicate, IfOk, OnOk};
+//! The report of a whole search.
+ghost use Rattle.std.specs.Prelude.{◌≡◌, ◌++◌, None, IfOk, OnOk};
 ghost use Rattle.text_lines.specs.Writing.{text_of};
-ghost use Rattle.lab_engine.specs.Account.{AreSums, with_walk, empty_account, kept_with, visits_with};
-ghost use Rattle.lab_engine.specs.Output.{tally_lines};
-ghost use Rattle.x_steps.specs.Levels.{without_last_zeros};
+ghost use Rattle.x_steps.specs.Run.{visits_between};
+ghost use Rattle.x_steps.specs.StateValue.{start};
+ghost use Rattle.x_branches.specs.Branch.{end_of};
+ghost use Rattle.lab_book.specs.Posted.{AllClosed};
+ghost use Rattle.lab_engine.specs.Account.{kept};
+ghost use Rattle.lab_engine.specs.Output.{tally_lines, whole_report};
 
-use crate::count::Count;
 use cover_problem::Lists;
+use lab_book::Book;
 use std::alloc::{AllocError, Global};
 use std::marker::Model;
 use text_lines::{write_number_line, write_numbers_line};
-use x_steps::{Event, Walk, drop_last_zeros};
 
-/// The visits that are kept, and the numbers of visits, of steps, and of X2 states at each level.
+/// The visits in path order, where they are kept, how many visits and steps there were, and how many X2 states at each level from 0
+/// on, up to the last that has one.
 #[derive(Drop)]
 pub struct Report {
-    visits: Lists,
-    visited: Count,
-    steps: Count,
-    entered: Vec<Count>,
+    pub(crate) visits: Lists,
+    pub(crate) visited: u128,
+    pub(crate) steps: u128,
+    pub(crate) levels: Vec<u128>,
 }
 
 impl Model for Report {
-    ghost use Rattle.lab_engine.specs.Account.{Account};
+    ghost use Rattle.lab_engine.specs.Account.{ReportValue};
 
-    ghost Value = { Account };
+    ghost Value = { ReportValue };
 
     ghost view = { λ r. record {
       visits = r.visits;
       visited = r.visited;
       steps = r.steps;
-      entered = r.entered.items;
+      levels = r.levels.items;
     } };
 }
 
-/// So many counts of nothing.
-fn no_counts(alloc: Global, count: usize) -> Result<Vec<Count>, AllocError>
-    ensures { IfOk result (λ counts. counts.items ≡ replicate count 0) }
+/// The visits of a book, or none where they are not kept.
+fn visits_of(alloc: Global, book: &Book<'_>, keeps: bool) -> Result<Lists, AllocError>
+    ensures { IfOk result (λ paths. AllClosed book.now.tiles →
+        paths ≡ kept keeps (visits_between book.now.problem book.now.first (end_of book.now.branch.hi))) }
 {
-    let mut counts = Vec::with_capacity(alloc, count)?;
-    for _ in 0..count {
-        counts.push(Count::new(alloc))?;
+    if keeps {
+        book.visits()
+    } else {
+        Ok(Lists::new(alloc))
     }
-    Ok(counts)
-}
-
-/// Adds to each total its count.
-fn add_each(totals: &mut [Count], counts: &[u32]) -> Result<(), AllocError>
-    requires { length counts.now ≡ length totals.old }
-    ensures { OnOk result (AreSums totals.old counts.now totals.new) }
-{
-    for (level, count) in counts.iter().enumerate() {
-        totals[level].add(*count)?;
-    }
-    Ok(())
-}
-
-/// The counts as numbers.
-fn totals_of(alloc: Global, counts: &[Count]) -> Result<Vec<u128>, AllocError>
-    ensures { IfOk result (λ totals. totals.items ≡ counts.now) }
-{
-    let mut totals = Vec::with_capacity(alloc, counts.len())?;
-    for count in counts {
-        totals.push(count.total())?;
-    }
-    Ok(totals)
 }
 
 impl Report {
-    /// The report of no step, for a problem of so many items.
-    pub fn new(alloc: Global, items: u32) -> Result<Report, AllocError>
-        ensures { IfOk result (λ report. report ≡ empty_account items) }
+    /// The report of a finished book of a whole run.
+    pub fn of_book(alloc: Global, book: &Book<'_>, keeps: bool) -> Result<Report, AllocError>
+        requires finished { AllClosed book.now.tiles }
+        requires first { book.now.first ≡ start }
+        requires branch { book.now.branch ≡ record { lo = None; hi = None } }
+        ensures { IfOk result (λ report. report ≡ whole_report keeps book.now.problem) }
     {
-        let entered = no_counts(alloc, items as usize + 1)?;
+        let visits = visits_of(alloc, book, keeps)?;
+        let levels = book.levels()?;
         Ok(Report {
-            visits: Lists::new(alloc),
-            visited: Count::new(alloc),
-            steps: Count::new(alloc),
-            entered,
+            visits,
+            visited: book.visited(),
+            steps: book.steps(),
+            levels,
         })
-    }
-
-    /// Notes a walk: its steps, and its visit, if it came to one; the path there is kept where visits are kept.
-    pub fn note(&mut self, keeps: bool, walk: Walk, path: &[u32]) -> Result<(), AllocError>
-        ensures { OnOk result (self.new ≡ with_walk keeps self.old walk.steps walk.event path.now) }
-    {
-        self.steps.add(walk.steps)?;
-        note_visit(&mut self.visited, walk.event)?;
-        keep_visit(&mut self.visits, keeps, walk.event, path)
-    }
-
-    /// Adds counts of X2 states, one for each level.
-    pub fn add_counts(&mut self, counts: &[u32]) -> Result<(), AllocError>
-        requires { length counts.now ≡ length self.old.entered }
-        ensures others { OnOk result (self.new ≡ record self.old { entered = self.new.entered }) }
-        ensures sums { OnOk result (AreSums self.old.entered counts.now self.new.entered) }
-    {
-        add_each(&mut self.entered, counts)
     }
 
     /// The visits that are kept.
@@ -110,37 +78,15 @@ impl Report {
     pub fn visited(&self) -> u128
         ensures { result ≡ self.now.visited }
     {
-        self.visited.total()
+        self.visited
     }
 
     /// Adds the lines of the steps and of the levels.
-    pub fn push_steps(&self, alloc: Global, text: &mut Vec<u8>) -> Result<(), AllocError>
+    pub fn push_steps(&self, text: &mut Vec<u8>) -> Result<(), AllocError>
         ensures { OnOk result (text.new.items ≡ text.old.items
-            ++ text_of (tally_lines self.now.steps (without_last_zeros self.now.entered))) }
+            ++ text_of (tally_lines self.now.steps self.now.levels)) }
     {
-        let mut entered = totals_of(alloc, &self.entered)?;
-        drop_last_zeros(&mut entered);
-        write_number_line(text, "steps", self.steps.total())?;
-        write_numbers_line(text, "levels", &entered)
-    }
-}
-
-/// Counts a visit, if the walk came to one.
-fn note_visit(visited: &mut Count, event: Event) -> Result<(), AllocError>
-    ensures { OnOk result (visited.new ≡ visits_with visited.old event) }
-{
-    match event {
-        Event::Visited => visited.add(1),
-        _ => Ok(()),
-    }
-}
-
-/// Keeps a visit, if the walk came to one and visits are kept.
-fn keep_visit(visits: &mut Lists, keeps: bool, event: Event, path: &[u32]) -> Result<(), AllocError>
-    ensures { OnOk result (visits.new ≡ kept_with keeps visits.old event path.now) }
-{
-    match event {
-        Event::Visited if keeps => visits.push(path),
-        _ => Ok(()),
+        write_number_line(text, "steps", self.steps)?;
+        write_numbers_line(text, "levels", &self.levels)
     }
 }

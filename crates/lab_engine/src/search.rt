@@ -1,37 +1,86 @@
 //! The whole run of a problem, and its report.
 ghost use Rattle.std.specs.Prelude.{◌≡◌, IfOk};
 ghost use Rattle.cover_problem.specs.Problem.{IsProblem};
-ghost use Rattle.lab_engine.specs.Output.{whole_account};
+ghost use Rattle.lab_engine.specs.Output.{whole_report};
 
+use crate::fault::JobFault;
 use crate::report::Report;
+use crate::tally::Tally;
+use crate::workers::Workers;
 use cover_problem::{Problem, Table};
+use lab_pool::{Gate, run_pool};
 use std::alloc::{AllocError, Global};
+use std::sync::Wait;
+use std::thread::Threads;
 use x_steps::{Machine, no_counts};
 
-/// Takes the run of the problem from X1 to Done, and reports it: the totals, and the visits in path order where they are kept.
-pub fn search<T: Table>(alloc: Global, problem: &Problem, keeps: bool) -> Result<Report, AllocError>
-    ensures account { IfOk result (λ report. report ≡ whole_account keeps problem.now) }
+/// Takes the run of the problem from X1 to Done, and reports it: the totals, and the visits in path order where they are kept. One
+/// worker searches by itself, and its memory doesn't grow with the run; more share a book.
+pub fn search<T: Table, R: Threads + Wait + Sync, G: Gate>(
+    alloc: Global,
+    workers: &Workers<'_, R, G>,
+    problem: &Problem,
+    keeps: bool,
+) -> Result<Report, JobFault>
+    ensures report { IfOk result (λ report. report ≡ whole_report keeps problem.now) }
     ensures problem { IsProblem problem.now }
+{
+    is_problem(problem);
+    match workers.count {
+        1 => Ok(search_alone::<T>(alloc, problem, keeps)?),
+        _ => search_together(alloc, workers, problem, keeps),
+    }
+}
+
+/// What a problem is known to be.
+fn is_problem(problem: &Problem)
+    ensures { IsProblem problem.now }
+{
+    let _items = problem.items();
+}
+
+/// The report of one worker, who takes a machine through the run.
+fn search_alone<T: Table>(
+    alloc: Global,
+    problem: &Problem,
+    keeps: bool,
+) -> Result<Report, AllocError>
+    ensures { IfOk result (λ report. report ≡ whole_report keeps problem.now) }
 {
     let items = problem.items();
     let table = T::new(alloc, problem)?;
     let Ok(mut machine) = Machine::new(alloc, problem, table) else {
         return Err(AllocError);
     };
-    let mut report = Report::new(alloc, items)?;
+    let mut tally = Tally::new(alloc, items)?;
     let mut counts = no_counts(alloc, items)?;
     let mut room = u32::MAX;
     loop {
         let Ok(walk) = machine.walk(room, &[], &mut counts) else {
-            report.add_counts(&counts)?;
-            return Ok(report);
+            tally.add_counts(&counts)?;
+            return tally.report(alloc);
         };
-        report.note(keeps, walk, &machine.state().path)?;
+        tally.note(keeps, walk, &machine.state().path)?;
         room -= walk.steps;
         if room == 0 {
-            report.add_counts(&counts)?;
+            tally.add_counts(&counts)?;
             counts = no_counts(alloc, items)?;
             room = u32::MAX;
         }
+    }
+}
+
+/// The report of workers who share a book of the run.
+fn search_together<R: Threads + Wait + Sync, G: Gate>(
+    alloc: Global,
+    workers: &Workers<'_, R, G>,
+    problem: &Problem,
+    keeps: bool,
+) -> Result<Report, JobFault>
+    ensures { IfOk result (λ report. report ≡ whole_report keeps problem.now) }
+{
+    match run_pool(workers.rt, alloc, problem, workers.count, workers.gate) {
+        Ok(book) => Ok(Report::of_book(alloc, &book, keeps)?),
+        Err(refused) => Err(JobFault::Pool(refused.fault)),
     }
 }

@@ -1,14 +1,13 @@
 //! Polylab: every way to pack a region with polycubes, by exact cover.
 #![tactic(auto)]
 
-ghost use Rattle.std.specs.Prelude.{◌≡◌, [], ◌∷◌, Contains, IfErr};
-ghost use Rattle.polylab.specs.Line.{status_of};
-
-mod line;
+ghost use Rattle.std.specs.Prelude.{◌≡◌};
+ghost use Rattle.lab_line.specs.Line.{status_of};
 
 use byte_streams::Watched;
-use lab_engine::{Job, run};
-use line::{LineFault, parse_line};
+use lab_engine::Job;
+use lab_line::{LineFault, parse_line, status};
+use lab_pool::NoGate;
 use std::alloc::Global;
 use std::env;
 use std::io::{self, ErrorKind};
@@ -24,7 +23,9 @@ fn words(rt: &HostRuntime) -> io::Result<Vec<String>> {
 }
 
 /// Why the words of the command line could not be had: there is no memory for them, or they are no text.
-fn no_words(alloc: Global, error: &io::Error) -> LineFault {
+fn no_words(alloc: Global, error: &io::Error) -> LineFault
+    ensures no_help { status_of result ≡ 0 → ⊥ }
+{
     if error.kind() == ErrorKind::OutOfMemory {
         return LineFault::OutOfMemory;
     }
@@ -54,39 +55,15 @@ fn asked(rt: &HostRuntime) -> Result<Job, LineFault> {
     }
 }
 
-/// Tells why there is no job. That telling fails changes nothing.
-fn tell(rt: &HostRuntime, fault: &LineFault) {
-    let _ = match fault {
-        LineFault::Help(text) => rt.print(text.as_str()),
-        LineFault::Usage(text) => rt.eprint(text.as_str()),
-        LineFault::OutOfMemory => rt.eprint("refused memory\n"),
-    };
-}
-
-/// Does the job, or tells why there is none, and answers the exit status.
-fn status(rt: &HostRuntime, asked: Result<Job, LineFault>) -> u8
-    ensures known { Contains (0 ∷ 2 ∷ 3 ∷ 4 ∷ 5 ∷ []) result }
-    ensures refused { IfErr asked (λ fault. result ≡ status_of fault) }
-{
-    match asked {
-        Ok(job) => run(
-            rt,
-            rt.alloc(),
-            job,
-            &mut Watched::reader(rt.stdin()),
-            &mut Watched::writer(rt.stdout()),
-            &mut Watched::writer(rt.stderr()),
-        ),
-        Err(fault) => {
-            tell(rt, &fault);
-            fault.status()
-        }
-    }
-}
-
 fn main(rt: HostRuntime) -> ExitCode {
-    ExitCode::from(status(&rt, asked(&rt)))
+    let status = status(
+        &rt,
+        rt.alloc(),
+        asked(&rt),
+        &NoGate,
+        &mut Watched::reader(rt.stdin()),
+        &mut Watched::writer(rt.stdout()),
+        &mut Watched::writer(rt.stderr()),
+    );
+    ExitCode::from(status)
 }
-
-#[cfg(test)]
-mod tests;

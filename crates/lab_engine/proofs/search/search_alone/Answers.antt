@@ -1,25 +1,27 @@
-use Rattle.std.proofs.Common.{◌≡◌, ◌+◌, ◌-◌, length, replicate, sym, ap, ◌∙◌, refl, subst, arith}
+use Rattle.std.proofs.Common.{◌≡◌, ◌+◌, ◌-◌, IfOk, length, replicate, sym, ap, ◌∙◌, refl, subst, arith}
 use Rattle.x_steps.specs.Run.{states}
 use Rattle.x_steps.specs.Walk.{AreCounted}
-use Rattle.lab_engine.specs.Account.{AreSums, empty_account}
+use Rattle.lab_engine.specs.Account.{Account, AreSums, empty_account, report_of}
 use Rattle.lab_engine.proofs.SearchLemmas.{Searches, searches_begin, searches_on, searches_nearer, searches_anew, searches_end}
 use Rattle.x_steps.proofs.WalkLemmas.{lent_whole}
-use Rattle.lab_engine.proofs.search.search.Goals as goal
+use Rattle.lab_engine.proofs.search.search_alone.Goals as goal
 
 pub loop-walk-init : goal.loop-walk-init
 loop-walk-init g c = (
-  searches_begin _ _ _ _ _ _ c.items-items.ensures.problem c.in-Ok.ensures.at_first (c.in_ok-report.ensures ∙ ap empty_account c.items-items.ensures.count)
+  searches_begin _ _ _ _ _ _ c.items-items.ensures.problem c.in-Ok.ensures.at_first (c.in_ok-tally.ensures ∙ ap empty_account c.items-items.ensures.count)
       (c.in_ok-counts.ensures ∙ ap (λ n. replicate (n + 1) 0) c.items-items.ensures.count) (omega arith),
   omega arith,
 )
 
-pub returns-in_default-walk-clause-account : goal.returns-in_default-walk-clause-account
-returns-in_default-walk-clause-account g c =
+pub returns-in_default-walk : goal.returns-in_default-walk
+returns-in_default-walk g c =
     let s = c.loop-walk.invariant in
     let kept = c.in_default-walk.ensures.refused.2 ∙ c.deref_mut.ensures.value in
     let size : c.loop-walk.counts.len ≡ length c.loop-walk.counts.items = sym c.deref_mut.ensures.len ∙ ap length c.deref_mut.ensures.value in
     let row = c.deref.ensures.value ∙ lent_whole _ _ _ (ap length kept) size ∙ kept in
-    searches_end _ _ _ _ _ _ _ s.0 (c.in_default-walk.ensures.over.0 refl) c.in_ok-add_counts.ensures.others (subst (λ l. AreSums c.loop-walk.report.entered l c.add_counts.new.self.entered) row c.in_ok-add_counts.ensures.sums)
+    let whole = searches_end _ _ _ _ c.add_counts.new.self _ _ s.0 (c.in_default-walk.ensures.over.0 refl) c.in_ok-add_counts.ensures.others
+    (subst (λ l. AreSums c.loop-walk.tally.entered l c.add_counts.new.self.entered) row c.in_ok-add_counts.ensures.sums) in
+    subst (λ (a : Account). IfOk c.report.result (λ r. r ≡ report_of a)) whole c.report.ensures
 
 pub loop-walk-smaller : goal.loop-walk-smaller
 loop-walk-smaller g c =

@@ -1,10 +1,11 @@
 //! The command line: which job the words ask for.
 
-ghost use Rattle.std.specs.Prelude.{◌≡◌};
-ghost use Rattle.polylab.specs.Line.{status_of};
+ghost use Rattle.std.specs.Prelude.{◌≡◌, ◌≤◌, IfOk};
+ghost use Rattle.lab_engine.specs.Workers.{workers_of};
+ghost use Rattle.lab_line.specs.Line.{status_of};
 
 use clap::error::ErrorKind;
-use clap::{Arg, ArgAction, ArgMatches, Command, Error};
+use clap::{Arg, ArgAction, ArgMatches, Command, Error, value_parser};
 use lab_engine::Job;
 use std::alloc::{AllocError, Global};
 
@@ -41,10 +42,10 @@ Exit statuses:
   0  done
   2  the command line was refused
   3  the input was refused; one line on standard error tells why
-  4  there was not enough memory
+  4  there was not enough memory, or workers did not finish their search
   5  reading or writing failed";
 
-const COVER_USAGE: &str = "polylab cover < COVER-TEXT";
+const COVER_USAGE: &str = "polylab cover [--workers N] < COVER-TEXT";
 
 const COVER: &str = "Lists the exact covers of a cover text.";
 
@@ -72,10 +73,12 @@ Each `visit` line is an exact cover, as option numbers from 1 in the order in
 which the search took them; then come the number of covers, the number of steps
 of Algorithm X, and how many paths of 0, 1, 2, .. choices it met.
 
-Exit statuses: 0 done, 2 command line refused, 3 text refused, 4 no memory,
-5 reading or writing failed.";
+With --workers N, N threads share the search; what is printed is the same.
 
-const SOLVE_USAGE: &str = "polylab solve < PUZZLE";
+Exit statuses: 0 done, 2 command line refused, 3 text refused, 4 no memory or
+workers not done, 5 reading or writing failed.";
+
+const SOLVE_USAGE: &str = "polylab solve [--workers N] < PUZZLE";
 
 const SOLVE: &str = "Shows every packing of a puzzle, in layers of text.";
 
@@ -98,11 +101,13 @@ Example, saved as dominoes.puzzle:
 A packing has a line for each y, in it a block for each z, and in that a letter
 for each x: the piece there, `_` for an empty cell, `.` outside the region.
 
-A refusal is one line on standard error: `refused puzzle 6 EmptyRegion line 0`.
-Exit statuses: 0 done, 2 command line refused, 3 text refused, 4 no memory,
-5 reading or writing failed.";
+With --workers N, N threads share the search; what is printed is the same.
 
-const COUNT_USAGE: &str = "polylab count [--classes] < PUZZLE";
+A refusal is one line on standard error: `refused puzzle 6 EmptyRegion line 0`.
+Exit statuses: 0 done, 2 command line refused, 3 text refused, 4 no memory or
+workers not done, 5 reading or writing failed.";
+
+const COUNT_USAGE: &str = "polylab count [--workers N] [--classes] < PUZZLE";
 
 const COUNT: &str = "Counts the packings of a puzzle.";
 
@@ -122,10 +127,16 @@ many packings are left where those count as one that a rotation of the region,
 or a rotation or reflection, carries onto one another, whatever the names of
 the pieces. All packings are then kept in memory until the end.
 
-Exit statuses: 0 done, 2 command line refused, 3 text refused, 4 no memory,
-5 reading or writing failed.";
+With --workers N, N threads share the search; what is printed is the same. They
+keep what they posted until the end, about 3 GB for 10^10 steps; one worker
+keeps nothing.
+
+Exit statuses: 0 done, 2 command line refused, 3 text refused, 4 no memory or
+workers not done, 5 reading or writing failed.";
 
 const CLASSES: &str = "Also counts the packings up to rotations, and up to all symmetries";
+
+const WORKERS: &str = "How many threads share the search, 1 to 32";
 
 const OPTIONS_USAGE: &str = "polylab options < PUZZLE";
 
@@ -190,6 +201,16 @@ fn job<'a>(
         .after_help(text)
 }
 
+/// The option that says how many workers search.
+fn workers<'a>(alloc: Global) -> Arg<'a> {
+    Arg::new(alloc, "workers")
+        .long("workers")
+        .value_name("N")
+        .value_parser(value_parser!(u32).range(1..=32))
+        .default_value("1")
+        .help(WORKERS)
+}
+
 /// The word that asks for classes.
 fn classes<'a>(alloc: Global) -> Arg<'a> {
     Arg::new(alloc, "classes")
@@ -208,7 +229,11 @@ fn of_cover<'a>(alloc: Global) -> Arg<'a> {
 
 /// The command line that the program takes.
 fn command<'a>(alloc: Global) -> Result<Command<'a>, AllocError> {
-    let count = job(alloc, "count", COUNT_USAGE, COUNT, COUNT_TEXT).arg(classes(alloc))?;
+    let cover = job(alloc, "cover", COVER_USAGE, COVER, COVER_TEXT).arg(workers(alloc))?;
+    let solve = job(alloc, "solve", SOLVE_USAGE, SOLVE, SOLVE_TEXT).arg(workers(alloc))?;
+    let count = job(alloc, "count", COUNT_USAGE, COUNT, COUNT_TEXT)
+        .arg(workers(alloc))?
+        .arg(classes(alloc))?;
     let debug = job(alloc, "debug", DEBUG_USAGE, DEBUG, DEBUG_TEXT).arg(of_cover(alloc))?;
     Command::new(alloc, "polylab")
         .about(ABOUT)
@@ -217,23 +242,40 @@ fn command<'a>(alloc: Global) -> Result<Command<'a>, AllocError> {
         .no_binary_name(true)
         .subcommand_required(true)
         .arg_required_else_help(true)
-        .subcommand(job(alloc, "cover", COVER_USAGE, COVER, COVER_TEXT))?
-        .subcommand(job(alloc, "solve", SOLVE_USAGE, SOLVE, SOLVE_TEXT))?
+        .subcommand(cover)?
+        .subcommand(solve)?
         .subcommand(count)?
         .subcommand(job(alloc, "options", OPTIONS_USAGE, OPTIONS, OPTIONS_TEXT))?
         .subcommand(debug)
 }
 
+/// How many workers the words of a job ask for. That it is 1 to 32, and 1 where it isn't said, is `clap`'s to see; its answer is
+/// looked at once more.
+fn workers_in(words: &ArgMatches<'_>) -> u32
+    ensures { (1 ≤ result) × (result ≤ 32) }
+{
+    match words.get_one::<u32>("workers") {
+        Some(workers) if workers >= 1 && workers <= 32 => workers,
+        _ => 1,
+    }
+}
+
 /// The job that the words ask for.
-fn job_of(matches: &ArgMatches<'_>) -> Job {
-    match matches.subcommand() {
-        Some(("solve", _)) => Job::Solve,
-        Some(("count", words)) if words.get_flag("classes") => Job::Classes,
-        Some(("count", _)) => Job::Count,
-        Some(("options", _)) => Job::Options,
-        Some(("debug", words)) if words.get_flag("cover") => Job::DebugCover,
-        Some(("debug", _)) => Job::DebugPuzzle,
-        _ => Job::Cover,
+fn job_of(matches: &ArgMatches<'_>) -> Job
+    ensures { (1 ≤ workers_of result) × (workers_of result ≤ 32) }
+{
+    let Some((name, words)) = matches.subcommand() else {
+        return Job::Cover { workers: 1 };
+    };
+    let workers = workers_in(words);
+    match name {
+        "solve" => Job::Solve { workers },
+        "count" if words.get_flag("classes") => Job::Classes { workers },
+        "count" => Job::Count { workers },
+        "options" => Job::Options,
+        "debug" if words.get_flag("cover") => Job::DebugCover,
+        "debug" => Job::DebugPuzzle,
+        _ => Job::Cover { workers },
     }
 }
 
@@ -250,7 +292,9 @@ fn refused(alloc: Global, error: &Error) -> LineFault {
 }
 
 /// Reads the words of a command line, without the program's name.
-pub fn parse_line(alloc: Global, words: &[&str]) -> Result<Job, LineFault> {
+pub fn parse_line(alloc: Global, words: &[&str]) -> Result<Job, LineFault>
+    ensures { IfOk result (λ job. (1 ≤ workers_of job) × (workers_of job ≤ 32)) }
+{
     let Ok(command) = command(alloc) else {
         return Err(LineFault::OutOfMemory);
     };

@@ -1,5 +1,5 @@
 use Rattle.std.proofs.Common.{◌≡◌, ◌+◌, ◌<◌, ◌≤◌, ℕ, length, slice_index}
-use Rattle.lab_engine.proofs.report.add_each.Given as goal
+use Rattle.lab_engine.proofs.tally.add_each.Given as goal
 
 -- the totals below the level have their counts, and those from it on are as they were
 abbrev pub invariant-loop-level : goal.invariant-loop-level

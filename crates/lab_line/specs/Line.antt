@@ -1,0 +1,18 @@
+-- The command line.
+use Rattle.std.specs.Prelude.{ℕ, string_bytes}
+use Rattle.byte_streams.specs.Stream.{Stream, Stays, Takes}
+use Rattle.lab_engine.specs.Outcome.{no_memory}
+use Rattle.lab_line.specs.declared.line.LineFault.{LineFault}
+use Rattle.lab_line.specs.declared.line.LineFault.TheVariants.{Help, Usage, OutOfMemory}
+
+-- the exit status where the words of the command line name no job
+abbrev pub status_of : LineFault → ℕ
+status_of (Help text) = 0
+status_of (Usage text) = 2
+status_of OutOfMemory = 4
+
+-- what is told then: the writer takes a text of help, the faults take all else
+abbrev pub IsTold : LineFault → Stream → Stream → Stream → Stream → Type 0
+IsTold (Help text) w w' f f' = Takes w w' (string_bytes text) × Stays f f'
+IsTold (Usage text) w w' f f' = Stays w w' × Takes f f' (string_bytes text)
+IsTold OutOfMemory w w' f f' = Stays w w' × Takes f f' no_memory

@@ -1,0 +1,59 @@
+//! The exit status of the program.
+ghost use Rattle.std.specs.Prelude.{[], ◌∷◌, IfOk, IfErr, Contains, ◌≡◌};
+ghost use Rattle.byte_streams.specs.Stream.{Takes, Stays};
+ghost use Rattle.lab_engine.specs.Ending.{IsRun};
+ghost use Rattle.lab_line.specs.Line.{IsTold, status_of};
+
+use crate::line::LineFault;
+use byte_streams::{Sink, Source, write_whole};
+use lab_engine::{Job, run};
+use lab_pool::Gate;
+use std::alloc::Global;
+use std::sync::Wait;
+use std::thread::Threads;
+
+/// Writes a text. That this fails changes nothing.
+fn write<S: Sink>(sink: &mut S, text: &[u8])
+    ensures { Takes (S.stream sink.old) (S.stream sink.new) text.now }
+{
+    let _ = write_whole(sink, text);
+}
+
+/// Tells why there is no job: a text of help goes to the writer, all else to the faults.
+fn tell<O: Sink, F: Sink>(fault: &LineFault, writer: &mut O, faults: &mut F)
+    ensures { IsTold fault.now (O.stream writer.old) (O.stream writer.new)
+        (F.stream faults.old) (F.stream faults.new) }
+{
+    match fault {
+        LineFault::Help(text) => write(writer, text.as_bytes()),
+        LineFault::Usage(text) => write(faults, text.as_bytes()),
+        LineFault::OutOfMemory => write(faults, b"refused memory\n"),
+    }
+}
+
+/// Does the job that was asked for, or tells why there is none, and answers the exit status: 0, 2, 3, 4 or 5.
+pub fn status<R: Threads + Wait + Sync, G: Gate, I: Source, O: Sink, F: Sink>(
+    rt: &R,
+    alloc: Global,
+    asked: Result<Job, LineFault>,
+    gate: &G,
+    reader: &mut I,
+    writer: &mut O,
+    faults: &mut F,
+) -> u8
+    ensures known { Contains (0 ∷ 2 ∷ 3 ∷ 4 ∷ 5 ∷ []) result }
+    ensures ran { IfOk asked (λ job. IsRun job (I.stream reader.old) (I.stream reader.new)
+        (O.stream writer.old) (O.stream writer.new) (F.stream faults.old) (F.stream faults.new) result) }
+    ensures refused { IfErr asked (λ fault. result ≡ status_of fault) }
+    ensures told { IfErr asked (λ fault. IsTold fault (O.stream writer.old) (O.stream writer.new)
+        (F.stream faults.old) (F.stream faults.new)) }
+    ensures unread { IfErr asked (λ _. I.stream reader.new ≡ I.stream reader.old) }
+{
+    match asked {
+        Ok(job) => run(rt, alloc, job, gate, reader, writer, faults),
+        Err(fault) => {
+            tell(&fault, writer, faults);
+            fault.status()
+        }
+    }
+}

@@ -1,0 +1,8 @@
+//! The command line: which job its words ask for, and the doing of it.
+#![tactic(auto)]
+
+mod exit;
+mod line;
+
+pub use exit::status;
+pub use line::{LineFault, parse_line};

@@ -1,5 +1,19 @@
-//! Tests of `lab_pool`, and through it of `lab_desk`: workers on threads search one problem.
+//! Tests of `lab_desk` and `lab_pool`: two seats at a desk, and workers on threads.
 #![tactic(auto)]
 
 #[cfg(test)]
+mod begun_tests;
+#[cfg(test)]
+mod books;
+#[cfg(test)]
+mod desk_tests;
+#[cfg(test)]
+mod desks;
+#[cfg(test)]
+mod gate_tests;
+#[cfg(test)]
+mod held_tests;
+#[cfg(test)]
 mod pool_tests;
+#[cfg(test)]
+mod searches;

@@ -1,5 +1,6 @@
 //! Workers on threads, of several numbers, over the small problem.
 
+use crate::books::is_done;
 use cover_problem::{Problem, read_cover};
 use drawn_problems::SMALL;
 use lab_book::Book;
@@ -37,13 +38,7 @@ fn refusal_of<R: Threads + Wait + Sync>(
 
 /// Whether a book tells the one cover of the small problem, its steps and its levels.
 fn is_small_done(book: &Book<'_>) -> Result<bool, AllocError> {
-    let visits = book.visits()?;
-    let levels = book.levels()?;
-    Ok(book.finished()
-        && visits.len() == 1
-        && visits.list(0) == [4, 5, 1].as_slice()
-        && book.steps() == 43
-        && levels.as_slice() == [1, 2, 2, 1].as_slice())
+    Ok(is_done(book, 43)? && book.levels()?.as_slice() == [1, 2, 2, 1].as_slice())
 }
 
 /// Whether so many workers find the one cover of the small problem.

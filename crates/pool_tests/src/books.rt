@@ -1,0 +1,138 @@
+//! Books of the small problem that were called by hand, and what a finished one tells.
+ghost use Rattle.std.specs.Prelude.{◌≤◌};
+
+use crate::searches::{Search, begin};
+use cover_problem::Problem;
+use lab_book::Book;
+use std::alloc::{AllocError, Global};
+use x_branches::Branch;
+use x_steps::{Cursor, Label, State};
+
+/// Whether a book is finished with so many steps and the one cover of the small problem.
+pub fn is_done(book: &Book<'_>, steps: u128) -> Result<bool, AllocError> {
+    let visits = book.visits()?;
+    Ok(
+        book.finished()
+            && book.steps() == steps
+            && visits.len() == 1
+            && visits.list(0) == [4, 5, 1].as_slice(),
+    )
+}
+
+/// Whether a book is finished with so many steps, and the cover; none is not.
+pub fn is_some_done(book: &Option<Book<'_>>, steps: u128) -> Result<bool, AllocError> {
+    match book {
+        Some(book) => is_done(book, steps),
+        None => Ok(false),
+    }
+}
+
+/// Whether a book's history begins with the history of another.
+pub fn begins_with(book: &Book<'_>, old: &Book<'_>) -> bool {
+    let entries = book.history();
+    let mut right = entries.len() >= old.history().len();
+    for (one, other) in entries.iter().zip(old.history().iter()) {
+        right = right && one.same(other);
+    }
+    right
+}
+
+/// A worker's search of a tile of a book.
+pub fn lease_in<'p>(alloc: Global, book: &mut Book<'p>, worker: u8, id: u64) -> Option<Search<'p>>
+    requires { worker ≤ 31 }
+{
+    let problem = book.problem();
+    let Ok(leased) = book.lease(worker, id) else {
+        return None;
+    };
+    begin(alloc, problem, leased)
+}
+
+/// Whether a worker posts so many steps of a tile, and parks it.
+fn posts_and_parks(alloc: Global, book: &mut Book<'_>, worker: u8, id: u64, steps: u32) -> bool
+    requires { worker ≤ 31 }
+{
+    let Some(mut search) = lease_in(alloc, book, worker, id) else {
+        return false;
+    };
+    let posted = search.post_to(book, steps).is_some();
+    search.park_in(book) && posted
+}
+
+/// The book of the whole run in which worker 5 posted 30 steps: three entries.
+pub fn begun<'p>(alloc: Global, problem: &'p Problem) -> Option<Book<'p>> {
+    let Ok(mut book) = Book::new(alloc, problem) else {
+        return None;
+    };
+    if posts_and_parks(alloc, &mut book, 5, 0, 30) {
+        return Some(book);
+    }
+    None
+}
+
+/// Whether a worker posts so many steps of a tile, and closes it.
+pub fn posts_and_closes(alloc: Global, book: &mut Book<'_>, worker: u8, id: u64, steps: u32) -> bool
+    requires { worker ≤ 31 }
+{
+    let Some(mut search) = lease_in(alloc, book, worker, id) else {
+        return false;
+    };
+    let posted = search.post_to(book, steps).is_some();
+    search.close_in(book) && posted
+}
+
+/// Whether worker 5 posts five steps of the whole run, which it splits at the cut 4, and parks on demand: its tile is then held,
+/// and the other one waits.
+fn holds_first(alloc: Global, book: &mut Book<'_>) -> bool {
+    let Some(mut search) = lease_in(alloc, book, 5, 0) else {
+        return false;
+    };
+    let parted = search.split_in(book, 5, 4) == Some(1);
+    let posted = search.post_to(book, 0).is_some();
+    let asked = book.request_stop(6, 0).is_ok();
+    search.park_in(book) && parted && posted && asked
+}
+
+/// The book whose tile before the cut 4 is held after five steps, and whose other tile waits.
+pub fn held_before<'p>(alloc: Global, problem: &'p Problem) -> Option<Book<'p>> {
+    let Ok(mut book) = Book::new(alloc, problem) else {
+        return None;
+    };
+    if holds_first(alloc, &mut book) {
+        return Some(book);
+    }
+    None
+}
+
+/// The same book, whose other tile is closed after its 23 steps.
+pub fn held_alone<'p>(alloc: Global, problem: &'p Problem) -> Option<Book<'p>> {
+    let mut book = held_before(alloc, problem)?;
+    if posts_and_closes(alloc, &mut book, 6, 1, 23) {
+        return Some(book);
+    }
+    None
+}
+
+/// The book of the run from the cut 4 on: 23 steps.
+pub fn from_the_cut<'p>(alloc: Global, problem: &'p Problem) -> Option<Book<'p>> {
+    let state = State {
+        label: Label::X5,
+        path: Vec::new(alloc),
+        cursor: Cursor::At(4),
+    };
+    match Book::resumed(alloc, problem, Branch { lo: None, hi: None }, state) {
+        Ok(book) => Some(book),
+        Err(_) => None,
+    }
+}
+
+/// The book whose only tile is held at its first mark.
+pub fn all_held<'p>(alloc: Global, problem: &'p Problem) -> Option<Book<'p>> {
+    let Ok(mut book) = Book::new(alloc, problem) else {
+        return None;
+    };
+    if book.request_stop(5, 0).is_ok() {
+        return Some(book);
+    }
+    None
+}

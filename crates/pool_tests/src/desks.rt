@@ -1,0 +1,302 @@
+//! A desk with two seats over a book of the small problem: how its seats work, and how it is finished.
+ghost use Rattle.std.specs.Prelude.{◌≡◌, IfSome};
+
+use crate::searches::{Search, begin};
+use lab_book::{Book, Leased, Posted};
+use lab_desk::{Desk, Desking, Seat};
+use std::alloc::Global;
+use std::marker::Brand;
+use std::sync::Wait;
+use std::sync::ledger::{Blank, Ledger};
+
+/// What the two seats do.
+#[derive(Clone, Copy)]
+pub enum Work {
+    /// The first leases the whole run and splits it at the cut 4; the second searches the new tile.
+    Share,
+    /// The second searches the last 13 steps.
+    GoOn,
+    /// The second stops the first after five steps, and searches the rest.
+    Stop,
+}
+
+/// How the seats are handed in.
+#[derive(Clone, Copy)]
+pub enum Way {
+    /// All of them, in order.
+    All,
+    /// First without the second, which has notes, and then all.
+    OneShort,
+    /// First the second before the first, and then in order.
+    Turned,
+}
+
+/// A seat's search of a tile.
+fn lease<'p, L: Desking, R: Wait>(
+    rt: &R,
+    alloc: Global,
+    desk: &Desk<'p, L>,
+    seat: &mut Seat<L>,
+    id: u64,
+) -> Option<Search<'p>>
+    ensures worker { IfSome result (λ s. s.lease.worker ≡ seat.old.number) }
+    ensures number { seat.new.number ≡ seat.old.number }
+{
+    match desk.lease(rt, seat, id) {
+        Ok(leased) => begin(alloc, desk.problem(), leased),
+        Err(_) => None,
+    }
+}
+
+/// A seat's search of a held tile.
+fn take_held<'p, L: Desking, R: Wait>(
+    rt: &R,
+    alloc: Global,
+    desk: &Desk<'p, L>,
+    seat: &mut Seat<L>,
+    id: u64,
+) -> Option<Search<'p>>
+    ensures worker { IfSome result (λ s. s.lease.worker ≡ seat.old.number) }
+    ensures number { seat.new.number ≡ seat.old.number }
+{
+    match desk.take_held(rt, seat, id) {
+        Ok(leased) => begin(alloc, desk.problem(), leased),
+        Err(_) => None,
+    }
+}
+
+/// Whether so many steps end a search: they are posted with no demand to stop, and the tile is closed.
+fn ends<'p, L: Desking, R: Wait>(
+    rt: &R,
+    desk: &Desk<'p, L>,
+    seat: &mut Seat<L>,
+    search: Option<Search<'p>>,
+    steps: u32,
+) -> bool
+    requires { IfSome search (λ s. s.lease.worker ≡ seat.old.number) }
+{
+    let Some(mut search) = search else {
+        return false;
+    };
+    let posted = search.post(rt, desk, seat, steps)
+        == Some(Posted {
+            stop: false,
+            waiting: 0,
+        });
+    search.close(rt, desk, seat) && posted
+}
+
+/// Two seats share the run at the cut 4: 20 steps before it, and 23 after it.
+fn share<'p, L: Desking, R: Wait>(
+    rt: &R,
+    alloc: Global,
+    desk: &Desk<'p, L>,
+    first: &mut Seat<L>,
+    second: &mut Seat<L>,
+) -> bool {
+    let Some(mut search) = lease(rt, alloc, desk, first, 0) else {
+        return false;
+    };
+    let parted = search.split(rt, desk, first, 5, 4) == Some(1);
+    let other = lease(rt, alloc, desk, second, 1);
+    let ended = ends(rt, desk, second, other, 23);
+    let posted = search.post(rt, desk, first, 15).is_some();
+    search.close(rt, desk, first) && parted && ended && posted
+}
+
+/// Lets a lease go.
+fn let_go(leased: Leased<'_>) {
+    let Leased {
+        lease,
+        branch: _,
+        mark: _,
+        waiting: _,
+    } = leased;
+    lease.discard();
+}
+
+/// Whether no tile can be leased: by its id the first one is refused as number 2, and none waits.
+fn none_waits<L: Desking, R: Wait>(rt: &R, desk: &Desk<'_, L>, seat: &mut Seat<L>) -> bool {
+    let refused = match desk.lease(rt, seat, 0) {
+        Ok(leased) => {
+            let_go(leased);
+            false
+        }
+        Err(fault) => fault.number() == Some(2),
+    };
+    match desk.lease_next(rt, seat) {
+        Ok(Some(leased)) => {
+            let_go(leased);
+            false
+        }
+        Ok(None) => refused,
+        Err(_) => false,
+    }
+}
+
+/// Whether the first seat, asked by the second, stops after five steps and parks its tile.
+fn stops<L: Desking, R: Wait>(
+    rt: &R,
+    alloc: Global,
+    desk: &Desk<'_, L>,
+    first: &mut Seat<L>,
+    second: &mut Seat<L>,
+) -> bool {
+    let Some(mut search) = lease(rt, alloc, desk, first, 0) else {
+        return false;
+    };
+    let asked = desk.request_stop(rt, second, 0).is_ok();
+    let posted = search.post(rt, desk, first, 5)
+        == Some(Posted {
+            stop: true,
+            waiting: 0,
+        });
+    search.park(rt, desk, first) && asked && posted
+}
+
+/// Whether the two seats do what they have to.
+fn act<'p, L: Desking, R: Wait>(
+    rt: &R,
+    alloc: Global,
+    desk: &Desk<'p, L>,
+    first: &mut Seat<L>,
+    second: &mut Seat<L>,
+    todo: Work,
+) -> bool {
+    match todo {
+        Work::Share => share(rt, alloc, desk, first, second),
+        Work::GoOn => {
+            let search = lease(rt, alloc, desk, second, 0);
+            ends(rt, desk, second, search, 13)
+        }
+        Work::Stop => {
+            let stopped = stops(rt, alloc, desk, first, second) && none_waits(rt, desk, second);
+            let search = take_held(rt, alloc, desk, second, 0);
+            ends(rt, desk, second, search, 38) && stopped
+        }
+    }
+}
+
+/// The two seats of a desk.
+fn two<L: Ledger>(seats: Vec<Seat<L>>) -> Option<(Seat<L>, Seat<L>)> {
+    let mut seats = seats;
+    let second = seats.pop()?;
+    let first = seats.pop()?;
+    Some((first, second))
+}
+
+/// The one seat after the other.
+fn row<L: Ledger>(alloc: Global, one: Seat<L>, other: Option<Seat<L>>) -> Option<Vec<Seat<L>>> {
+    let mut seats = Vec::new(alloc);
+    if seats.push(one).is_err() {
+        return None;
+    }
+    if let Some(other) = other {
+        if seats.push(other).is_err() {
+            return None;
+        }
+    }
+    Some(seats)
+}
+
+/// The numbers of seats.
+fn numbers<L: Ledger>(alloc: Global, seats: &[Seat<L>]) -> Option<Vec<u8>> {
+    let mut numbers = Vec::new(alloc);
+    for seat in seats.iter() {
+        if numbers.push(seat.number()).is_err() {
+            return None;
+        }
+    }
+    Some(numbers)
+}
+
+/// What comes back of a desk that isn't finished by these seats, for the reason number 10: the desk of two seats, and these seats.
+fn refused<'p, L: Desking>(
+    alloc: Global,
+    desk: Desk<'p, L>,
+    seats: Vec<Seat<L>>,
+) -> Option<(Desk<'p, L>, Vec<Seat<L>>)> {
+    let before = numbers(alloc, &seats)?;
+    let Err(refused) = desk.finish(seats) else {
+        return None;
+    };
+    let (desk, seats) = refused.given;
+    let after = numbers(alloc, &seats)?;
+    if refused.fault.number() == Some(10) && desk.seats() == 2 && before == after {
+        return Some((desk, seats));
+    }
+    None
+}
+
+/// The book of a desk that these seats finish.
+fn finished<'p, L: Desking>(
+    alloc: Global,
+    desk: Desk<'p, L>,
+    first: Seat<L>,
+    second: Seat<L>,
+) -> Option<Book<'p>> {
+    let seats = row(alloc, first, Some(second))?;
+    match desk.finish(seats) {
+        Ok(book) => Some(book),
+        Err(_) => None,
+    }
+}
+
+/// The book of a desk, once its seats are handed in so.
+fn finished_so<'p, L: Desking>(
+    alloc: Global,
+    desk: Desk<'p, L>,
+    first: Seat<L>,
+    second: Seat<L>,
+    way: Way,
+) -> Option<Book<'p>> {
+    match way {
+        Way::All => finished(alloc, desk, first, second),
+        Way::OneShort => {
+            let (desk, mut seats) = refused(alloc, desk, row(alloc, first, None)?)?;
+            finished(alloc, desk, seats.pop()?, second)
+        }
+        Way::Turned => {
+            let (desk, seats) = refused(alloc, desk, row(alloc, second, Some(first))?)?;
+            let (second, first) = two(seats)?;
+            finished(alloc, desk, first, second)
+        }
+    }
+}
+
+/// The book that two seats of a desk of this ledger finish; None where a call isn't answered as it should be.
+fn at_desk_of<'p, L: Desking, R: Wait>(
+    rt: &R,
+    alloc: Global,
+    blank: Blank,
+    book: Book<'p>,
+    todo: Work,
+    way: Way,
+) -> Option<Book<'p>>
+    requires name { blank.name ≡ L.name }
+    requires parts { (blank.parts ≡ L.parts) × (blank.parts ≡ 2) }
+    requires opening { book.history ≡ L.opening }
+    requires whole { book.problem ≡ L.whole }
+    requires part { book.branch ≡ L.part }
+    requires begin { book.first ≡ L.begin }
+{
+    let Ok((desk, seats)) = Desk::<L>::new(alloc, blank, book, 2) else {
+        return None;
+    };
+    let (mut first, mut second) = two(seats)?;
+    if !act(rt, alloc, &desk, &mut first, &mut second, todo) {
+        return None;
+    }
+    finished_so(alloc, desk, first, second, way)
+}
+
+/// The book that two seats of a desk finish; None where a call isn't answered as it should be.
+pub fn at_desk<'p, R: Wait>(
+    rt: &R,
+    alloc: Global,
+    book: Book<'p>,
+    todo: Work,
+    way: Way,
+) -> Option<Book<'p>> {
+    at_desk_of::<Brand, R>(rt, alloc, Blank::new(2), book, todo, way)
+}

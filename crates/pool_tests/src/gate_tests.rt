@@ -1,0 +1,143 @@
+//! A gate that holds a worker until the other one stole a ticket.
+
+use cover_problem::{Problem, read_cover};
+use lab_book::Book;
+use lab_pool::{Gate, GateCall, run_pool};
+use std::alloc::{AllocError, Global};
+use std::sync::Wait;
+use std::sync::atomic::{AtomicBool, AtomicU64, Ordering};
+use std::test::Fail;
+use std::thread;
+use std::thread::Threads;
+
+/// How often a worker that is held looks at most.
+const TURNS: u64 = 100_000_000;
+
+/// Holds the first post of the worker whose lease was answered first, until a ticket was stolen.
+#[derive(Drop)]
+struct UntilStolen {
+    /// One more than the number of the worker whose lease was answered first.
+    first: AtomicU64,
+    is_held: AtomicBool,
+    is_stolen: AtomicBool,
+    is_out: AtomicBool,
+}
+
+impl UntilStolen {
+    fn new() -> UntilStolen {
+        UntilStolen {
+            first: AtomicU64::new(0),
+            is_held: AtomicBool::new(false),
+            is_stolen: AtomicBool::new(false),
+            is_out: AtomicBool::new(false),
+        }
+    }
+
+    /// Waits until a ticket was stolen, or the turns run out.
+    fn hold(&self) {
+        for _ in 0..TURNS {
+            if self.is_stolen.load(Ordering::SeqCst) {
+                return;
+            }
+            thread::yield_now();
+        }
+        self.is_out.store(true, Ordering::SeqCst);
+    }
+
+    /// Notes the first lease that is answered.
+    fn note(&self, worker: u8) {
+        let number = worker as u64 + 1;
+        let _noted = self
+            .first
+            .compare_exchange(0, number, Ordering::SeqCst, Ordering::SeqCst);
+    }
+
+    /// Whether it is the first post of the worker to hold.
+    fn is_first(&self, worker: u8) -> bool {
+        self.first.load(Ordering::SeqCst) == worker as u64 + 1
+            && !self.is_held.swap(true, Ordering::SeqCst)
+    }
+
+    /// Whether a worker was held, and let go by a stolen ticket.
+    fn is_right(&self) -> bool {
+        self.is_held.load(Ordering::SeqCst)
+            && self.is_stolen.load(Ordering::SeqCst)
+            && !self.is_out.load(Ordering::SeqCst)
+    }
+}
+
+impl Gate for UntilStolen {
+    fn before(&self, worker: u8, call: GateCall) {
+        if call == GateCall::Post && self.is_first(worker) {
+            self.hold();
+        }
+    }
+
+    fn after(&self, worker: u8, call: GateCall) {
+        match call {
+            GateCall::Lease => self.note(worker),
+            GateCall::Steal => self.is_stolen.store(true, Ordering::SeqCst),
+            _ => (),
+        }
+    }
+}
+
+const PIECES: [&str; 5] = ["A", "B", "C", "D", "E"];
+
+/// The places of a domino in the box 5 2 1, in the order of their cells.
+const PLACES: [&str; 13] = [
+    " 000 010", " 000 100", " 010 110", " 100 110", " 100 200", " 110 210", " 200 210", " 200 300",
+    " 210 310", " 300 310", " 300 400", " 310 410", " 400 410",
+];
+
+/// Adds the options of a piece.
+fn add_options(text: &mut String, piece: &str) -> Result<(), AllocError> {
+    for place in PLACES {
+        text.push_str("\noption ")?;
+        text.push_str(piece)?;
+        text.push_str(place)?;
+    }
+    Ok(())
+}
+
+/// Five dominoes in the box 5 2 1: eight ways to lay them, 120 ways to name them.
+fn dominoes(alloc: Global) -> Result<String, AllocError> {
+    let mut text = String::new(alloc);
+    text.push_str("items A B C D E 000 010 100 110 200 210 300 310 400 410")?;
+    for piece in PIECES {
+        add_options(&mut text, piece)?;
+    }
+    Ok(text)
+}
+
+/// The book that two workers finish under a gate.
+fn finished_under<'p, R: Threads + Wait + Sync, G: Gate>(
+    rt: &R,
+    alloc: Global,
+    problem: &'p Problem,
+    gate: &G,
+) -> Option<Book<'p>> {
+    match run_pool(rt, alloc, problem, 2, gate) {
+        Ok(book) => Some(book),
+        Err(_) => None,
+    }
+}
+
+/// How many visits and steps a book has; none where there is no book.
+fn visits_and_steps(book: &Option<Book<'_>>) -> (u128, u128) {
+    match book {
+        Some(book) => (book.visited(), book.steps()),
+        None => (0, 0),
+    }
+}
+
+#[test]
+fn a_ticket_is_stolen(rt: HostRuntime) -> Result<(), Fail> {
+    let text = dominoes(rt.alloc())?;
+    let problem = read_cover(rt.alloc(), text.as_bytes())?;
+    let gate = UntilStolen::new();
+    let book = finished_under(&rt, rt.alloc(), &problem, &gate);
+    assert!(rt; gate.is_right());
+    assert!(rt; visits_and_steps(&book) == (960, 14_487));
+    Ok(())
+}

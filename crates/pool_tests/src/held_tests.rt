@@ -1,0 +1,82 @@
+//! Two workers on threads over books with a held tile, which they leave.
+
+use crate::books::{all_held, held_alone, held_before};
+use cover_problem::read_cover;
+use drawn_problems::SMALL;
+use lab_book::{Book, Status, Tile};
+use lab_pool::{NoGate, run_pool_on};
+use std::alloc::Global;
+use std::sync::Wait;
+use std::test::Fail;
+use std::thread::Threads;
+
+/// The number of the refusal of two workers, and the book that comes back with it.
+fn refused_on<'p, R: Threads + Wait + Sync>(
+    rt: &R,
+    alloc: Global,
+    book: Book<'p>,
+) -> Option<(u8, Book<'p>)> {
+    if book.leased() > 0 {
+        return None;
+    }
+    match run_pool_on(rt, alloc, book, 2, &NoGate) {
+        Ok(_) => None,
+        Err(refused) => Some((refused.fault.number(), refused.given?)),
+    }
+}
+
+/// A copy of a book's first tile.
+fn first_tile<'p>(book: &Book<'p>) -> Option<Tile<'p>> {
+    match book.tiles().first()?.copy() {
+        Ok(tile) => Some(tile),
+        Err(_) => None,
+    }
+}
+
+/// Whether the first tile of a book is held as it was, each other tile is closed, and so many steps were posted.
+fn is_left(book: &Book<'_>, was: &Tile<'_>, steps: u128) -> bool {
+    let Some((first, others)) = book.tiles().split_first() else {
+        return false;
+    };
+    first.status() == Status::Held
+        && first.same(was)
+        && others.iter().all(|tile| tile.status() == Status::Closed)
+        && book.steps() == steps
+}
+
+/// Whether two workers refuse a book with the number 3, and leave its first tile as it was.
+fn leaves_held<R: Threads + Wait + Sync>(
+    rt: &R,
+    alloc: Global,
+    book: Option<Book<'_>>,
+    steps: u128,
+) -> Option<bool> {
+    let book = book?;
+    let was = first_tile(&book)?;
+    let (number, book) = refused_on(rt, alloc, book)?;
+    Some(number == 3 && book.leased() == 0 && is_left(&book, &was, steps))
+}
+
+#[test]
+fn a_held_tile_is_left(rt: HostRuntime) -> Result<(), Fail> {
+    let problem = read_cover(rt.alloc(), SMALL.as_bytes())?;
+    let book = held_alone(rt.alloc(), &problem);
+    assert!(rt; leaves_held(&rt, rt.alloc(), book, 28) == Some(true));
+    Ok(())
+}
+
+#[test]
+fn a_tile_beside_a_held_one_is_closed(rt: HostRuntime) -> Result<(), Fail> {
+    let problem = read_cover(rt.alloc(), SMALL.as_bytes())?;
+    let book = held_before(rt.alloc(), &problem);
+    assert!(rt; leaves_held(&rt, rt.alloc(), book, 28) == Some(true));
+    Ok(())
+}
+
+#[test]
+fn the_only_tile_is_held(rt: HostRuntime) -> Result<(), Fail> {
+    let problem = read_cover(rt.alloc(), SMALL.as_bytes())?;
+    let book = all_held(rt.alloc(), &problem);
+    assert!(rt; leaves_held(&rt, rt.alloc(), book, 0) == Some(true));
+    Ok(())
+}

@@ -1,0 +1,191 @@
+//! Searches of a leased tile, by calls of a desk or of a book.
+ghost use Rattle.std.specs.Prelude.{◌≡◌, IfSome};
+
+use cover_problem::{PlainTable, Problem, Table};
+use lab_book::{Book, BookFault, Lease, Leased, Posted};
+use lab_desk::{Desk, Desking, Seat};
+use std::alloc::Global;
+use std::sync::Wait;
+use x_branches::{Branch, Cut, Runner, Stretch};
+use x_steps::{Refused, State};
+
+/// A lease, with a runner over its tile.
+pub struct Search<'p> {
+    pub lease: Lease,
+    pub runner: Runner<'p, PlainTable>,
+}
+
+/// A runner of a branch that goes on from a state.
+fn runner_of<'p>(
+    alloc: Global,
+    problem: &'p Problem,
+    branch: Branch<'p>,
+    state: &State,
+) -> Option<Runner<'p, PlainTable>> {
+    let Ok(table) = PlainTable::new(alloc, problem) else {
+        return None;
+    };
+    match Runner::new(alloc, problem, table, branch, state) {
+        Ok(runner) => Some(runner),
+        Err(_) => None,
+    }
+}
+
+/// Begins where a lease says; if that fails, the lease is let go.
+pub fn begin<'p>(alloc: Global, problem: &'p Problem, leased: Leased<'p>) -> Option<Search<'p>>
+    ensures { IfSome result (λ s. s.lease ≡ leased.entry.lease) }
+{
+    let Leased {
+        lease,
+        branch,
+        mark,
+        waiting: _,
+    } = leased;
+    match runner_of(alloc, problem, branch, &mark) {
+        Some(runner) => Some(Search { lease, runner }),
+        None => {
+            lease.discard();
+            None
+        }
+    }
+}
+
+/// Takes so many steps, as far as there are any.
+fn advance(runner: &mut Runner<'_, PlainTable>, steps: u32) {
+    for _ in 0..steps {
+        if runner.advance().is_err() {
+            break;
+        }
+    }
+}
+
+/// Takes so many steps, and hands out all that is unposted.
+fn walked<'p>(runner: &mut Runner<'p, PlainTable>, steps: u32) -> Option<Stretch<'p>> {
+    advance(runner, steps);
+    match runner.take_stretch() {
+        Ok(stretch) => Some(stretch),
+        Err(_) => None,
+    }
+}
+
+/// The cut at an option of the first level, and a copy, after so many steps.
+fn cut_twice<'p>(
+    runner: &mut Runner<'p, PlainTable>,
+    steps: u32,
+    option: u32,
+) -> Option<(Cut<'p>, Cut<'p>)> {
+    advance(runner, steps);
+    let Ok(cut) = runner.cut(0, option) else {
+        return None;
+    };
+    match cut.copy() {
+        Ok(copy) => Some((cut, copy)),
+        Err(_) => None,
+    }
+}
+
+/// Whether a lease was ended; else it is let go.
+fn is_ended(answer: Result<(), Refused<BookFault, Lease>>) -> bool {
+    match answer {
+        Ok(()) => true,
+        Err(refused) => {
+            refused.given.discard();
+            false
+        }
+    }
+}
+
+impl<'p> Search<'p> {
+    /// Posts to a desk after so many steps.
+    pub fn post<L: Desking, R: Wait>(
+        &mut self,
+        rt: &R,
+        desk: &Desk<'p, L>,
+        seat: &mut Seat<L>,
+        steps: u32,
+    ) -> Option<Posted>
+        requires { self.old.lease.worker ≡ seat.old.number }
+        ensures lease { self.new.lease ≡ self.old.lease }
+        ensures number { seat.new.number ≡ seat.old.number }
+    {
+        let stretch = walked(&mut self.runner, steps)?;
+        match desk.post(rt, seat, &self.lease, stretch) {
+            Ok(posted) => Some(posted),
+            Err(_) => None,
+        }
+    }
+
+    /// Splits at a desk after so many steps, at an option of the first level.
+    pub fn split<L: Desking, R: Wait>(
+        &mut self,
+        rt: &R,
+        desk: &Desk<'p, L>,
+        seat: &mut Seat<L>,
+        steps: u32,
+        option: u32,
+    ) -> Option<u64>
+        requires { self.old.lease.worker ≡ seat.old.number }
+        ensures lease { self.new.lease ≡ self.old.lease }
+        ensures number { seat.new.number ≡ seat.old.number }
+    {
+        let (cut, copy) = cut_twice(&mut self.runner, steps, option)?;
+        let Ok(id) = desk.split(rt, seat, &self.lease, cut) else {
+            return None;
+        };
+        match self.runner.shorten(copy) {
+            Ok(()) => Some(id),
+            Err(_) => None,
+        }
+    }
+
+    /// Closes the tile at a desk; if that is refused, the lease is let go.
+    pub fn close<L: Desking, R: Wait>(self, rt: &R, desk: &Desk<'p, L>, seat: &mut Seat<L>) -> bool
+        requires { self.lease.worker ≡ seat.old.number }
+        ensures number { seat.new.number ≡ seat.old.number }
+    {
+        let Search { lease, runner: _ } = self;
+        is_ended(desk.close(rt, seat, lease))
+    }
+
+    /// Parks the tile at a desk; if that is refused, the lease is let go.
+    pub fn park<L: Desking, R: Wait>(self, rt: &R, desk: &Desk<'p, L>, seat: &mut Seat<L>) -> bool
+        requires { self.lease.worker ≡ seat.old.number }
+        ensures number { seat.new.number ≡ seat.old.number }
+    {
+        let Search { lease, runner: _ } = self;
+        is_ended(desk.park(rt, seat, lease))
+    }
+
+    /// Posts to a book after so many steps.
+    pub fn post_to(&mut self, book: &mut Book<'p>, steps: u32) -> Option<Posted> {
+        let stretch = walked(&mut self.runner, steps)?;
+        match book.post(&self.lease, stretch) {
+            Ok(posted) => Some(posted),
+            Err(_) => None,
+        }
+    }
+
+    /// Splits in a book after so many steps, at an option of the first level.
+    pub fn split_in(&mut self, book: &mut Book<'p>, steps: u32, option: u32) -> Option<u64> {
+        let (cut, copy) = cut_twice(&mut self.runner, steps, option)?;
+        let Ok(id) = book.split(&self.lease, cut) else {
+            return None;
+        };
+        match self.runner.shorten(copy) {
+            Ok(()) => Some(id),
+            Err(_) => None,
+        }
+    }
+
+    /// Closes the tile in a book; if that is refused, the lease is let go.
+    pub fn close_in(self, book: &mut Book<'p>) -> bool {
+        let Search { lease, runner: _ } = self;
+        is_ended(book.close(lease))
+    }
+
+    /// Parks the tile in a book; if that is refused, the lease is let go.
+    pub fn park_in(self, book: &mut Book<'p>) -> bool {
+        let Search { lease, runner: _ } = self;
+        is_ended(book.park(lease))
+    }
+}

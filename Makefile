@@ -4,12 +4,14 @@ PREFIX = /usr/local
 # The puzzles and cover texts of examples/ that take seconds; the others take up to some minutes each.
 QUICK = two-dominoes optional soma-cube soma-without-centre tetracubes-2x2x8 tetracubes-2x4x4 pentominoes-20x3 \
 	pentominoes-scott five-pentominoes-5x5 slothouber-graatsma solid-pentominoes-2x3x10
+# Puzzles and cover texts that are also searched by workers.
+SHARED = puzzles/two-dominoes puzzles/soma-cube puzzles/pentominoes-20x3 covers/small covers/langford-10 covers/domino-8x6
 QUICK_COVERS = small secondary soma-cube pent-20x3 langford-10 permutations-09 domino-8x6 queens-8 latin-4 sudoku
 LONG = pentominoes-15x4 pentominoes-12x5 pentominoes-10x6 pentominoes-8x8-without-corners dudeney \
 	solid-pentominoes-2x5x6 solid-pentominoes-3x4x5
 LONG_COVERS = pent-10x6 langford-12
 
-.PHONY: all build ci wrong-bodies bench gallery gallery-long check-docs check-edits check-ownership check-tools check-words check-statuses install
+.PHONY: all build ci layout wrong-bodies bench gallery gallery-long check-docs check-edits check-ownership check-tools check-words check-statuses install
 
 all: check-edits check-ownership build gallery check-tools check-docs check-words check-statuses
 
@@ -20,6 +22,10 @@ build:
 # The gate: every proof from nothing, the wrong bodies that turn the theorem's sentences, tests, the program.
 ci:
 	rt ci
+
+# Lays out each crate's files as the formatter does, which takes half a minute: the gate refuses a crate whose files aren't.
+layout:
+	@for crate in crates/*; do (cd "$$crate" && rt fmt) || exit 1; done
 
 # The other wrong bodies, many in one check; CRATES="NAME .." tries those of some crates alone. Some 50 minutes of one processor.
 wrong-bodies:
@@ -32,6 +38,8 @@ bench: build
 # The examples with known counts: what is printed has to be what stands beside each, in NAME.expect.
 gallery: build
 	@tools/gallery $(QUICK:%=puzzles/%) $(QUICK_COVERS:%=covers/%)
+	@WORKERS=2 tools/gallery $(SHARED)
+	@WORKERS=8 tools/gallery $(SHARED)
 
 gallery-long: build
 	@tools/gallery $(LONG:%=puzzles/%) $(LONG_COVERS:%=covers/%)

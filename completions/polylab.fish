@@ -5,6 +5,7 @@ complete -c polylab -n __fish_use_subcommand -a options -d 'write the cover text
 complete -c polylab -n __fish_use_subcommand -a cover -d 'list the exact covers of a cover text'
 complete -c polylab -n __fish_use_subcommand -a debug -d 'take a search step by step'
 complete -c polylab -n __fish_use_subcommand -a help -d 'tell what a job reads and writes'
+complete -c polylab -n '__fish_seen_subcommand_from solve count cover' -l workers -x -d 'threads that share the search, 1 to 32'
 complete -c polylab -n '__fish_seen_subcommand_from count' -l classes -d 'count up to rotations and symmetries too'
 complete -c polylab -n '__fish_seen_subcommand_from debug' -l cover -d 'the problem is a cover text'
 complete -c polylab -n __fish_use_subcommand -l version -d 'tell the version'

@@ -13,7 +13,8 @@ use std::thread::Threads;
 /// How often a worker that is held looks at most.
 const TURNS: u64 = 100_000_000;
 
-/// Holds the first post of the worker whose lease was answered first, until a ticket was stolen.
+/// Holds the first post of the worker whose lease was answered first, until a ticket was stolen. The other
+/// one doesn't post before that: it would else end all its tiles while the ticket isn't pushed yet.
 #[derive(Drop)]
 struct UntilStolen {
     /// One more than the number of the worker whose lease was answered first.
@@ -33,10 +34,10 @@ impl UntilStolen {
         }
     }
 
-    /// Waits until a ticket was stolen, or the turns run out.
-    fn hold(&self) {
+    /// Waits until this is so, or the turns run out.
+    fn hold(&self, flag: &AtomicBool) {
         for _ in 0..TURNS {
-            if self.is_stolen.load(Ordering::SeqCst) {
+            if flag.load(Ordering::SeqCst) {
                 return;
             }
             thread::yield_now();
@@ -52,10 +53,13 @@ impl UntilStolen {
             .compare_exchange(0, number, Ordering::SeqCst, Ordering::SeqCst);
     }
 
-    /// Whether it is the first post of the worker to hold.
-    fn is_first(&self, worker: u8) -> bool {
-        self.first.load(Ordering::SeqCst) == worker as u64 + 1
-            && !self.is_held.swap(true, Ordering::SeqCst)
+    /// Holds a worker before a post.
+    fn hold_post(&self, worker: u8) {
+        if self.first.load(Ordering::SeqCst) != worker as u64 + 1 {
+            self.hold(&self.is_held);
+        } else if !self.is_held.swap(true, Ordering::SeqCst) {
+            self.hold(&self.is_stolen);
+        }
     }
 
     /// Whether a worker was held, and let go by a stolen ticket.
@@ -68,8 +72,8 @@ impl UntilStolen {
 
 impl Gate for UntilStolen {
     fn before(&self, worker: u8, call: GateCall) {
-        if call == GateCall::Post && self.is_first(worker) {
-            self.hold();
+        if call == GateCall::Post {
+            self.hold_post(worker);
         }
     }
 

@@ -1,10 +1,11 @@
 pub mod Entries
+pub mod Fresh
 pub mod Hiding
 pub mod Layout
-pub mod Fresh
+pub mod Ownership
+pub mod Ring
+pub mod Row
+pub mod Safety
+pub mod Slots
 pub mod StandsFor
 pub mod Table
-pub mod Safety
-pub mod Ring
-pub mod Slots
-pub mod Ownership

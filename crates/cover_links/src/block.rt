@@ -8,28 +8,67 @@ use crate::raw::{Allocation, Base, Slots, allocate, deallocate};
 use std::alloc::{AllocError, Allocator, Global};
 use std::marker::Model;
 
+/// The entries of a block, apart from where they begin. Who goes through many of them keeps that address by value: a compiler
+/// would load it again from the block after each entry that is written.
+pub(crate) struct Row {
+    len: usize,
+    slots: Slots,
+}
+
+impl Model for Row {
+    ghost use Rattle.std.specs.Prelude.{◌≡◌, length};
+    ghost use Rattle.cover_links.specs.Slots.{values, IsFull};
+    ghost use Rattle.cover_links.specs.Row.{RowValue, place};
+
+    ghost Value = { RowValue };
+
+    ghost view = { λ r. record { place = place r.slots.at r.len; entries = values r.slots.slots } };
+
+    ghost invariant = { λ r. (length r.slots.slots ≡ r.len) × IsFull r.slots.slots };
+}
+
+impl Row {
+    /// The entry at an index, by where the row begins.
+    #[inline(always)]
+    pub fn read(&self, base: Base, index: u32) -> Entry
+        requires place { base.ptr ≡ self.now.place.at }
+        requires within { index < length self.now.entries }
+        ensures { result ≡ entry_at self.now.entries index }
+    {
+        *self.slots.get(base, index as usize)
+    }
+
+    /// Puts an entry at an index, by where the row begins.
+    #[inline(always)]
+    pub fn write(&mut self, base: Base, index: u32, entry: Entry)
+        requires place { base.ptr ≡ self.old.place.at }
+        requires within { index < length self.old.entries }
+        ensures place { self.new.place ≡ self.old.place }
+        ensures entries { self.new.entries ≡ slice_set self.old.entries index entry }
+    {
+        self.slots.put(base, index as usize, entry)
+    }
+}
+
 /// A block of entries, each read and written by its index. Its parts are not `Drop`, so that none of them can be let go: a block
 /// that is dropped goes back to its allocator.
 pub struct Block<A: Allocator = Global> {
-    base: Base,
-    len: usize,
-    slots: Slots,
+    pub(crate) base: Base,
+    pub(crate) row: Row,
     allocation: Allocation<A>,
     alloc: A,
 }
 
 impl<A: Allocator> Model for Block<A> {
-    ghost use Rattle.std.specs.Prelude.{◌≡◌, List, length};
+    ghost use Rattle.std.specs.Prelude.{◌≡◌, List};
     ghost use Rattle.cover_links.specs.declared.entry.Entry.{Entry};
-    ghost use Rattle.cover_links.specs.Slots.{values, IsFull};
 
     ghost Value = { List Entry };
 
-    ghost view = { λ a. values a.slots.slots };
+    ghost view = { λ a. a.row.entries };
 
-    ghost invariant = { λ a. (a.slots.at ≡ a.base.ptr) × (length a.slots.slots ≡ a.len)
-        × (a.allocation.at ≡ a.base.ptr) × (a.allocation.len ≡ a.len) × (a.allocation.alloc ≡ a.alloc)
-        × IsFull a.slots.slots };
+    ghost invariant = { λ a. (a.row.place.at ≡ a.base.ptr) × (a.allocation.at ≡ a.base.ptr)
+        × (a.allocation.len ≡ a.row.place.len) × (a.allocation.alloc ≡ a.alloc) };
 }
 
 impl<A: Allocator> Block<A> {
@@ -44,8 +83,7 @@ impl<A: Allocator> Block<A> {
         }
         Ok(Block {
             base,
-            len,
-            slots,
+            row: Row { len, slots },
             allocation,
             alloc,
         })
@@ -57,7 +95,7 @@ impl<A: Allocator> Block<A> {
         requires { index < length self.now }
         ensures { result ≡ entry_at self.now index }
     {
-        *self.slots.get(self.base, index as usize)
+        self.row.read(self.base, index)
     }
 
     /// Puts an entry at an index.
@@ -66,7 +104,7 @@ impl<A: Allocator> Block<A> {
         requires { index < length self.old }
         ensures { self.new ≡ slice_set self.old index entry }
     {
-        self.slots.put(self.base, index as usize, entry)
+        self.row.write(self.base, index, entry)
     }
 }
 
@@ -74,11 +112,11 @@ impl<A: Allocator> Drop for Block<A> {
     fn drop(self) {
         let Block {
             base,
-            len,
-            slots,
+            row,
             allocation,
             alloc,
         } = self;
+        let Row { len, slots } = row;
         deallocate(&alloc, base, len, slots, allocation);
     }
 }

@@ -7,7 +7,7 @@ ghost use Rattle.cover_links.specs.Safety.{CanAppendNode, CanAppendOption};
 
 use crate::block::Block;
 use crate::entry::Entry;
-use crate::hiding::unhide_node;
+use crate::hiding::append_to_list;
 use cover_problem::Problem;
 use std::alloc::{AllocError, Global};
 
@@ -89,7 +89,7 @@ fn append_node(block: &mut Block, index: u32, item: u32, start: u32, end: u32)
             right: (end - index) as u16,
         },
     );
-    unhide_node(block, index);
+    append_to_list(block, index);
 }
 
 /// Appends the nodes of an option and the spacer past them, to which the spacer before them leads.

@@ -5,72 +5,84 @@ ghost use Rattle.cover_links.specs.Entries.{unlinked, relinked, item_unlinked, i
 ghost use Rattle.cover_links.specs.Hiding.{node_hidden, node_unhidden, hidden, unhidden, item_covered, item_uncovered};
 ghost use Rattle.cover_links.specs.Safety.{IsInside, IsItemInside, CanHideNode, CanUnhideNode, CanHide, CanUnhide, CanCoverItem, CanUncoverItem};
 
-use crate::block::Block;
+use crate::block::{Block, Row};
 use crate::entry::Entry;
+use crate::raw::Base;
 
 /// Lets an entry's neighbours in its vertical list name each other.
 #[inline(always)]
-fn unlink(block: &mut Block, index: u32)
-    requires { IsInside block.old index }
-    ensures { block.new ≡ unlinked block.old index }
+fn unlink(row: &mut Row, base: Base, index: u32)
+    requires place { base.ptr ≡ row.old.place.at }
+    requires can { IsInside row.old.entries index }
+    ensures place { row.new.place ≡ row.old.place }
+    ensures entries { row.new.entries ≡ unlinked row.old.entries index }
 {
-    let Entry { up, down, .. } = block.read(index);
-    let above = block.read(up);
-    block.write(up, Entry { down, ..above });
-    let below = block.read(down);
-    block.write(down, Entry { up, ..below });
+    let Entry { up, down, .. } = row.read(base, index);
+    let above = row.read(base, up);
+    row.write(base, up, Entry { down, ..above });
+    let below = row.read(base, down);
+    row.write(base, down, Entry { up, ..below });
 }
 
 /// Lets them name the entry again.
 #[inline(always)]
-fn relink(block: &mut Block, index: u32)
-    requires { IsInside block.old index }
-    ensures { block.new ≡ relinked block.old index }
+fn relink(row: &mut Row, base: Base, index: u32)
+    requires place { base.ptr ≡ row.old.place.at }
+    requires can { IsInside row.old.entries index }
+    ensures place { row.new.place ≡ row.old.place }
+    ensures entries { row.new.entries ≡ relinked row.old.entries index }
 {
-    let Entry { up, down, .. } = block.read(index);
-    let above = block.read(up);
-    block.write(
+    let Entry { up, down, .. } = row.read(base, index);
+    let above = row.read(base, up);
+    row.write(
+        base,
         up,
         Entry {
             down: index,
             ..above
         },
     );
-    let below = block.read(down);
-    block.write(down, Entry { up: index, ..below });
+    let below = row.read(base, down);
+    row.write(base, down, Entry { up: index, ..below });
 }
 
 /// Lets an item's neighbours in the row of active items name each other.
 #[inline(always)]
-fn unlink_item(block: &mut Block, item: u32)
-    requires { IsItemInside block.old item }
-    ensures { block.new ≡ item_unlinked block.old item }
+fn unlink_item(row: &mut Row, base: Base, item: u32)
+    requires place { base.ptr ≡ row.old.place.at }
+    requires can { IsItemInside row.old.entries item }
+    ensures place { row.new.place ≡ row.old.place }
+    ensures entries { row.new.entries ≡ item_unlinked row.old.entries item }
 {
-    let Entry { left, right, .. } = block.read(item);
-    let before = block.read(left as u32);
-    block.write(left as u32, Entry { right, ..before });
-    let after = block.read(right as u32);
-    block.write(right as u32, Entry { left, ..after });
+    let Entry { left, right, .. } = row.read(base, item);
+    let before = row.read(base, left as u32);
+    row.write(base, left as u32, Entry { right, ..before });
+    let after = row.read(base, right as u32);
+    row.write(base, right as u32, Entry { left, ..after });
 }
 
 /// Lets them name the item again.
 #[inline(always)]
-fn relink_item(block: &mut Block, item: u32)
-    requires inside { IsItemInside block.old item }
+fn relink_item(row: &mut Row, base: Base, item: u32)
+    requires place { base.ptr ≡ row.old.place.at }
+    requires inside { IsItemInside row.old.entries item }
     requires small { item < 2 ^ 16 }
-    ensures { block.new ≡ item_relinked block.old item }
+    ensures place { row.new.place ≡ row.old.place }
+    ensures entries { row.new.entries ≡ item_relinked row.old.entries item }
 {
-    let Entry { left, right, .. } = block.read(item);
-    let before = block.read(left as u32);
-    block.write(
+    let Entry { left, right, .. } = row.read(base, item);
+    let before = row.read(base, left as u32);
+    row.write(
+        base,
         left as u32,
         Entry {
             right: item as u16,
             ..before
         },
     );
-    let after = block.read(right as u32);
-    block.write(
+    let after = row.read(base, right as u32);
+    row.write(
+        base,
         right as u32,
         Entry {
             left: item as u16,
@@ -81,14 +93,17 @@ fn relink_item(block: &mut Block, item: u32)
 
 /// Takes a node out of its list, which is one shorter.
 #[inline(always)]
-fn hide_node(block: &mut Block, index: u32)
-    requires { CanHideNode block.old index }
-    ensures { block.new ≡ node_hidden block.old index }
+fn hide_node(row: &mut Row, base: Base, index: u32)
+    requires place { base.ptr ≡ row.old.place.at }
+    requires can { CanHideNode row.old.entries index }
+    ensures place { row.new.place ≡ row.old.place }
+    ensures entries { row.new.entries ≡ node_hidden row.old.entries index }
 {
-    let item = block.read(index).top;
-    unlink(block, index);
-    let head = block.read(item);
-    block.write(
+    let item = row.read(base, index).top;
+    unlink(row, base, index);
+    let head = row.read(base, item);
+    row.write(
+        base,
         item,
         Entry {
             top: head.top - 1,
@@ -99,20 +114,23 @@ fn hide_node(block: &mut Block, index: u32)
 
 /// Puts a node back into its list.
 #[inline(always)]
-pub(crate) fn unhide_node(block: &mut Block, index: u32)
-    requires { CanUnhideNode block.old index }
-    ensures { block.new ≡ node_unhidden block.old index }
+fn unhide_node(row: &mut Row, base: Base, index: u32)
+    requires place { base.ptr ≡ row.old.place.at }
+    requires can { CanUnhideNode row.old.entries index }
+    ensures place { row.new.place ≡ row.old.place }
+    ensures entries { row.new.entries ≡ node_unhidden row.old.entries index }
 {
-    let item = block.read(index).top;
-    let head = block.read(item);
-    block.write(
+    let item = row.read(base, index).top;
+    let head = row.read(base, item);
+    row.write(
+        base,
         item,
         Entry {
             top: head.top + 1,
             ..head
         },
     );
-    relink(block, index);
+    relink(row, base, index);
 }
 
 /// The place after one in an option, whose nodes stand from `start` up to `end`: after the last comes the first.
@@ -137,33 +155,69 @@ fn place_before(place: u32, start: u32, end: u32) -> u32
 /// Hides the other nodes of a node's option: those after it, then those before it. One loop goes round the option, so that its
 /// number of turns is the option's length less one, which the processor foresees.
 #[inline(always)]
-fn hide(block: &mut Block, index: u32)
-    requires { CanHide block.old index }
-    ensures { block.new ≡ hidden block.old index }
+fn hide(row: &mut Row, base: Base, index: u32)
+    requires place { base.ptr ≡ row.old.place.at }
+    requires can { CanHide row.old.entries index }
+    ensures place { row.new.place ≡ row.old.place }
+    ensures entries { row.new.entries ≡ hidden row.old.entries index }
 {
-    let Entry { left, right, .. } = block.read(index);
+    let Entry { left, right, .. } = row.read(base, index);
     let start = index - left as u32;
     let end = index + right as u32;
     let mut node = place_after(index, start, end);
     while node != index {
-        hide_node(block, node);
+        hide_node(row, base, node);
         node = place_after(node, start, end);
     }
 }
 
 /// Puts them back, in the reverse order.
 #[inline(always)]
-fn unhide(block: &mut Block, index: u32)
-    requires { CanUnhide block.old index }
-    ensures { block.new ≡ unhidden block.old index }
+fn unhide(row: &mut Row, base: Base, index: u32)
+    requires place { base.ptr ≡ row.old.place.at }
+    requires can { CanUnhide row.old.entries index }
+    ensures place { row.new.place ≡ row.old.place }
+    ensures entries { row.new.entries ≡ unhidden row.old.entries index }
 {
-    let Entry { left, right, .. } = block.read(index);
+    let Entry { left, right, .. } = row.read(base, index);
     let start = index - left as u32;
     let end = index + right as u32;
     let mut node = place_before(index, start, end);
     while node != index {
-        unhide_node(block, node);
+        unhide_node(row, base, node);
         node = place_before(node, start, end);
+    }
+}
+
+/// Hides the options of an item's list, and takes it out of the row of active items.
+fn cover_in(row: &mut Row, base: Base, item: u32)
+    requires place { base.ptr ≡ row.old.place.at }
+    requires can { CanCoverItem row.old.entries item }
+    ensures place { row.new.place ≡ row.old.place }
+    ensures entries { row.new.entries ≡ item_covered row.old.entries item }
+{
+    let head = row.read(base, item);
+    let mut node = head.down;
+    for _turn in 0..head.top {
+        hide(row, base, node);
+        node = row.read(base, node).down;
+    }
+    unlink_item(row, base, item);
+}
+
+/// Undoes that for the item that was covered last.
+fn uncover_in(row: &mut Row, base: Base, item: u32)
+    requires place { base.ptr ≡ row.old.place.at }
+    requires can { CanUncoverItem row.old.entries item }
+    ensures place { row.new.place ≡ row.old.place }
+    ensures entries { row.new.entries ≡ item_uncovered row.old.entries item }
+{
+    relink_item(row, base, item);
+    let head = row.read(base, item);
+    let mut node = head.up;
+    for _turn in 0..head.top {
+        unhide(row, base, node);
+        node = row.read(base, node).up;
     }
 }
 
@@ -172,13 +226,8 @@ pub(crate) fn cover_item(block: &mut Block, item: u32)
     requires { CanCoverItem block.old item }
     ensures { block.new ≡ item_covered block.old item }
 {
-    let head = block.read(item);
-    let mut node = head.down;
-    for _turn in 0..head.top {
-        hide(block, node);
-        node = block.read(node).down;
-    }
-    unlink_item(block, item);
+    let Block { base, row, .. } = block;
+    cover_in(row, *base, item);
 }
 
 /// Uncovers the item that was covered last.
@@ -186,11 +235,15 @@ pub(crate) fn uncover_item(block: &mut Block, item: u32)
     requires { CanUncoverItem block.old item }
     ensures { block.new ≡ item_uncovered block.old item }
 {
-    relink_item(block, item);
-    let head = block.read(item);
-    let mut node = head.up;
-    for _turn in 0..head.top {
-        unhide(block, node);
-        node = block.read(node).up;
-    }
+    let Block { base, row, .. } = block;
+    uncover_in(row, *base, item);
+}
+
+/// Puts a node of a block into its list.
+pub(crate) fn append_to_list(block: &mut Block, index: u32)
+    requires { CanUnhideNode block.old index }
+    ensures { block.new ≡ node_unhidden block.old index }
+{
+    let Block { base, row, .. } = block;
+    unhide_node(row, *base, index);
 }

@@ -1,5 +1,5 @@
 -- Desks, and what the notes of their seats say of a history.
-use Rattle.std.specs.Prelude.{◌≡◌, ℕ, nat_lt, Bool, List, [], slice_get, Some}
+use Rattle.std.specs.Prelude.{◌≡◌, ◌<◌, ◌==◌, ℕ, nat_lt, Bool, List, [], slice_get, count_by, Some}
 use Rattle.std.specs.List.{list_all}
 use Rattle.lab_book.specs.declared.entry.Entry.{Entry}
 use Rattle.lab_desk.specs.Record.{SeatValue, notes_of}
@@ -8,13 +8,21 @@ use Rattle.lab_desk.specs.Record.{SeatValue, notes_of}
 pub record DeskValue : Type 0 where
   pub seats : ℕ
 
--- the seat of a number, whose notes are the entries of that worker, from an index on
-abbrev pub seat_of : ℕ → ℕ → List Entry → SeatValue
-seat_of number from entries = record { number = number; notes = notes_of number from entries }
+-- seats as a desk makes them: each has its place's number, and no note
+abbrev pub AreNewSeats : List SeatValue → Type 0
+AreNewSeats seats = (k : ℕ) (s : SeatValue) → slice_get seats k ≡ Some s → s ≡ record { number = k; notes = [] }
 
--- each seat has its place's number, and its notes are that worker's entries, from an index on
-abbrev pub AreSeats : ℕ → List Entry → List SeatValue → Type 0
-AreSeats from entries seats = (k : ℕ) (s : SeatValue) → slice_get seats k ≡ Some s → s ≡ seat_of k from entries
+-- how many of these seats have a number
+abbrev pub seats_of : ℕ → List SeatValue → ℕ
+seats_of number seats = count_by (λ (s : SeatValue). s.number == number) seats
+
+-- each number below n is that of just one seat
+abbrev pub HaveAllNumbers : ℕ → List SeatValue → Type 0
+HaveAllNumbers n seats = (k : ℕ) → k < n → seats_of k seats ≡ 1
+
+-- the notes of each seat are the entries of its number, from an index on
+abbrev pub AreRecords : ℕ → List Entry → List SeatValue → Type 0
+AreRecords from entries seats = (i : ℕ) (s : SeatValue) → slice_get seats i ≡ Some s → s.notes ≡ notes_of s.number from entries
 
 -- whether each entry is of a worker below n
 abbrev pub are_of_workers : ℕ → List Entry → Bool

@@ -10,7 +10,7 @@ ghost use Rattle.lab_book.specs.declared.entry.Call.TheVariants as calls;
 ghost use Rattle.lab_book.specs.declared.entry.Reply.TheVariants as replies;
 ghost use Rattle.lab_book.specs.Calls.{leased_reply, any_reply, posted_reply, post_of, split_of};
 ghost use Rattle.lab_desk.specs.Record.{Notes, NotesRefusal};
-ghost use Rattle.lab_desk.specs.Seats.{AreSeats, are_of_workers};
+ghost use Rattle.lab_desk.specs.Seats.{AreNewSeats, HaveAllNumbers, AreRecords, are_of_workers};
 
 use crate::finishing::tell_all;
 use crate::locked::Locked;
@@ -78,7 +78,7 @@ fn seat_all<L: Ledger>(alloc: Global, seats: &mut Vec<Seat<L>>, rest: Share<L>, 
     requires parts { (rest.parts ≡ n) × (rest.amount ≡ 0) }
     requires few { n ≤ 32 }
     ensures len { vec_len seats.new ≡ n }
-    ensures seats { AreSeats 0 [] seats.new.items }
+    ensures seats { AreNewSeats seats.new.items }
 {
     let mut rest = rest;
     'seating: for k in 0..n {
@@ -105,7 +105,7 @@ impl<'p, L: Desking> Desk<'p, L> {
         requires begin { book.first ≡ L.begin }
         ensures desk { IfOk result (λ r. r.0 ≡ record { seats = n }) }
         ensures number { IfOk result (λ r. vec_len r.1 ≡ n) }
-        ensures seats { IfOk result (λ r. AreSeats 0 [] r.1.items) }
+        ensures seats { IfOk result (λ r. AreNewSeats r.1.items) }
         ensures blank_back { IfErr result (λ r. r.0 ≡ blank) }
         ensures book_back { IfErr result (λ r. r.1 ≡ book.entry) }
     {
@@ -364,9 +364,9 @@ impl<'p, L: Desking> Desk<'p, L> {
         self.lock.lock(rt).retract(seat, lease)
     }
 
-    /// Takes the desk apart, without memory: the book comes out where all its seats are there and
-    /// their notes are the entries that the book gained, each by its own worker. Else both
-    /// come back.
+    /// Takes the desk apart, without memory: the book comes out where all its seats are there, in
+    /// any order, and their notes are the entries that the book gained, each by its own worker.
+    /// Else both come back.
     pub fn finish(
         self,
         seats: Vec<Seat<L>>,
@@ -376,8 +376,9 @@ impl<'p, L: Desking> Desk<'p, L> {
         ensures first { IfOk result (λ b. b.first ≡ L.begin) }
         ensures begins { IfOk result (λ b. take (length L.opening) b.history ≡ L.opening) }
         ensures number { OnOk result (vec_len seats ≡ self.entry.seats) }
+        ensures all_there { OnOk result (HaveAllNumbers self.entry.seats seats.items) }
         ensures notes { IfOk result (λ b.
-            AreSeats (length L.opening) (drop (length L.opening) b.history) seats.items) }
+            AreRecords (length L.opening) (drop (length L.opening) b.history) seats.items) }
         ensures workers { IfOk result (λ b.
             are_of_workers self.entry.seats (drop (length L.opening) b.history) ≡ true) }
         ensures refused { IfErr result (λ r. r.fault ≡ BookFault.SeatMismatch) }

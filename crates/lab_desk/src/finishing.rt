@@ -1,20 +1,38 @@
 //! The notes of the seats are compared with the history.
 ghost use Rattle.std.specs.Prelude.{◌≡◌, ◌≤◌, length, drop, vec_len, true, IsTrue};
-ghost use Rattle.lab_desk.specs.Seats.{AreSeats, are_of_workers};
+ghost use Rattle.lab_desk.specs.Seats.{seats_of, HaveAllNumbers, AreRecords, are_of_workers};
 
 use crate::seat::Seat;
 use lab_book::Entry;
 use std::sync::ledger::Ledger;
 
-/// Whether the seats have the numbers from 0 on, and the notes of each are its entries from an
-/// index on; false tells nothing.
-fn are_seats<L: Ledger>(seats: &[Seat<L>], from: usize, history: &[Entry]) -> bool
+/// How many of the seats have a number.
+fn seats_of<L: Ledger>(seats: &[Seat<L>], number: u8) -> usize
+    ensures { result ≡ seats_of number seats.now }
+{
+    seats.iter().filter(|seat| seat.number == number).count()
+}
+
+/// Whether each number below this one is that of just one seat; false tells nothing.
+fn have_all_numbers<L: Ledger>(seats: &[Seat<L>], number: u8) -> bool
+    ensures { IsTrue result → HaveAllNumbers number seats.now }
+{
+    'counting: for k in 0..number {
+        if seats_of(seats, k) != 1 {
+            return false;
+        }
+    }
+    true
+}
+
+/// Whether the notes of each seat are the entries of its number, from an index on; false tells
+/// nothing.
+fn are_records<L: Ledger>(seats: &[Seat<L>], from: usize, history: &[Entry]) -> bool
     requires within { from ≤ length history.now }
-    requires few { length seats.now ≤ 32 }
-    ensures { IsTrue result → AreSeats from (drop from history.now) seats.now }
+    ensures { IsTrue result → AreRecords from (drop from history.now) seats.now }
 {
     'comparing: for k in 0..seats.len() {
-        if !seats[k].stands(k as u8, from, history) {
+        if !seats[k].tells(from, history) {
             return false;
         }
     }
@@ -34,16 +52,18 @@ fn are_of_workers(number: u8, from: usize, history: &[Entry]) -> bool
     true
 }
 
-/// Whether the notes of these seats are all entries from an index on; false tells nothing.
+/// Whether the seats have all numbers below theirs, in any order, and their notes are all entries
+/// from an index on; false tells nothing.
 pub(crate) fn tell_all<L: Ledger>(seats: &[Seat<L>], from: usize, history: &[Entry]) -> bool
     requires within { from ≤ length history.now }
     requires few { length seats.now ≤ 32 }
-    ensures seats { IsTrue result → AreSeats from (drop from history.now) seats.now }
+    ensures numbers { IsTrue result → HaveAllNumbers (length seats.now) seats.now }
+    ensures records { IsTrue result → AreRecords from (drop from history.now) seats.now }
     ensures workers { IsTrue result →
         are_of_workers (length seats.now) (drop from history.now) ≡ true }
 {
-    if !are_seats(seats, from, history) {
-        return false;
-    }
-    are_of_workers(seats.len() as u8, from, history)
+    let number = seats.len() as u8;
+    have_all_numbers(seats, number)
+        && are_records(seats, from, history)
+        && are_of_workers(number, from, history)
 }

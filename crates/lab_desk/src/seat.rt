@@ -88,15 +88,12 @@ impl<L: Ledger> Seat<L> {
         self.number
     }
 
-    /// Whether it has this number, and its notes are its entries from an index on; false tells
-    /// nothing.
-    pub(crate) fn stands(&self, number: u8, from: usize, history: &[Entry]) -> bool
+    /// Whether its notes are the entries of its number, from an index on; false tells nothing.
+    pub(crate) fn tells(&self, from: usize, history: &[Entry]) -> bool
         requires { from ≤ length history.now }
-        ensures { IsTrue result → self.now ≡ record {
-          number = number;
-          notes = notes_of number from (drop from history.now);
-        } }
+        ensures { IsTrue result →
+            self.now.notes ≡ notes_of self.now.number from (drop from history.now) }
     {
-        self.number == number && is_record(self.notes.list(), number, from, history)
+        is_record(self.notes.list(), self.number, from, history)
     }
 }

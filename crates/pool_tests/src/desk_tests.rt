@@ -42,7 +42,7 @@ fn a_seat_is_missing(rt: HostRuntime) -> Result<(), Fail> {
 }
 
 #[test]
-fn seats_are_handed_in_by_number(rt: HostRuntime) -> Result<(), Fail> {
+fn seats_are_handed_in_in_any_order(rt: HostRuntime) -> Result<(), Fail> {
     let problem = read_cover(rt.alloc(), SMALL.as_bytes())?;
     let done = finish_the_small(&rt, rt.alloc(), &problem, Work::Share, Way::Turned, 7)?;
     assert!(rt; done);

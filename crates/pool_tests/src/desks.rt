@@ -27,7 +27,7 @@ pub enum Way {
     All,
     /// First without the second, which has notes, and then all.
     OneShort,
-    /// First the second before the first, and then in order.
+    /// All of them, the second before the first.
     Turned,
 }
 
@@ -232,10 +232,10 @@ fn refused<'p, L: Desking>(
 fn finished<'p, L: Desking>(
     alloc: Global,
     desk: Desk<'p, L>,
-    first: Seat<L>,
-    second: Seat<L>,
+    one: Seat<L>,
+    other: Seat<L>,
 ) -> Option<Book<'p>> {
-    let seats = row(alloc, first, Some(second))?;
+    let seats = row(alloc, one, Some(other))?;
     match desk.finish(seats) {
         Ok(book) => Some(book),
         Err(_) => None,
@@ -256,11 +256,7 @@ fn finished_so<'p, L: Desking>(
             let (desk, mut seats) = refused(alloc, desk, row(alloc, first, None)?)?;
             finished(alloc, desk, seats.pop()?, second)
         }
-        Way::Turned => {
-            let (desk, seats) = refused(alloc, desk, row(alloc, second, Some(first))?)?;
-            let (second, first) = two(seats)?;
-            finished(alloc, desk, first, second)
-        }
+        Way::Turned => finished(alloc, desk, second, first),
     }
 }
 

@@ -5,9 +5,9 @@ use Rattle.cover_links.specs.Hiding.{node_hidden}
 use Rattle.cover_links.proofs.EntryLemmas.{written}
 use Rattle.cover_links.proofs.hiding.hide_node.Goals as goal
 
-pub returns : goal.returns
+pub returns-clause-entries : goal.returns-clause-entries
 unfolding node_hidden
-returns c =
-    let es = c.args.block.now in let q = c.args.index in let node : Entry = c.read-item.result in
-    written one_less c.unlink.new.block c.write.new.self node.top c.read-head.result c.write.ensures c.read-head.ensures
-    ∙ ap (λ fs. changed one_less fs node.top) c.unlink.ensures ∙ ap (λ (k : Entry). changed one_less (unlinked es q) k.top) c.read-item.ensures
+returns-clause-entries c =
+    let es = c.args.row.now.entries in let q = c.args.index in let node : Entry = c.read-item.result in
+    written one_less c.unlink.new.row.entries c.write.new.self.entries node.top c.read-head.result c.write.ensures.entries c.read-head.ensures
+    ∙ ap (λ fs. changed one_less fs node.top) c.unlink.ensures.entries ∙ ap (λ (k : Entry). changed one_less (unlinked es q) k.top) c.read-item.ensures

@@ -1,13 +1,16 @@
-use Rattle.std.proofs.Common.{◌+◌, ◌-◌, ap}
+use Rattle.std.proofs.Common.{◌+◌, ◌-◌, ◌∙◌, ap}
 use Rattle.cover_links.specs.declared.entry.Entry.{Entry}
 use Rattle.cover_links.proofs.TurnLemmas.{shows_can, shows_on, shows_end}
 use Rattle.cover_links.proofs.hiding.unhide.Goals as goal
 
-pub unhide_node-requires : goal.unhide_node-requires
-unhide_node-requires c = shows_can _ _ _ _ _ _ c.loop-node-test.true c.requires (ap (λ (e : Entry). c.args.index - e.left) c.read-left.ensures) (ap (λ (e : Entry). c.args.index + e.right) c.read-left.ensures) c.loop-node.invariant
+pub unhide_node-requires-clause-can : goal.unhide_node-requires-clause-can
+unhide_node-requires-clause-can c = shows_can _ _ _ _ _ _ c.loop-node-test.true c.requires.can (ap (λ (e : Entry). c.args.index - e.left) c.read-left.ensures) (ap (λ (e : Entry). c.args.index + e.right) c.read-left.ensures) c.loop-node.invariant.turns
 
 pub loop-node-preserved : goal.loop-node-preserved
-loop-node-preserved c = shows_on _ _ _ _ _ _ c.loop-node-test.true _ _ c.unhide_node.ensures c.place_before-node-in-loop-node.ensures c.loop-node.invariant
+loop-node-preserved c = record {
+  place = c.unhide_node.ensures.place ∙ c.loop-node.invariant.place;
+  turns = shows_on _ _ _ _ _ _ c.loop-node-test.true _ _ c.unhide_node.ensures.entries c.place_before-node-in-loop-node.ensures c.loop-node.invariant.turns;
+}
 
-pub returns : goal.returns
-returns c = shows_end _ _ _ _ _ _ c.loop-node-test.false (ap (λ (e : Entry). c.args.index - e.left) c.read-left.ensures) (ap (λ (e : Entry). c.args.index + e.right) c.read-left.ensures) c.loop-node.invariant
+pub returns-clause-entries : goal.returns-clause-entries
+returns-clause-entries c = shows_end _ _ _ _ _ _ c.loop-node-test.false (ap (λ (e : Entry). c.args.index - e.left) c.read-left.ensures) (ap (λ (e : Entry). c.args.index + e.right) c.read-left.ensures) c.loop-node.invariant.turns

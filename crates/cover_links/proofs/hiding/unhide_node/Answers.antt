@@ -6,15 +6,15 @@ use Rattle.cover_links.specs.Safety.{IsInside}
 use Rattle.cover_links.proofs.EntryLemmas.{written}
 use Rattle.cover_links.proofs.hiding.unhide_node.Goals as goal
 
-pub relink-requires : goal.relink-requires
-relink-requires c =
-    let es = c.args.block.now in let node : Entry = c.read-item.result in
-    let w = written one_more es c.write.new.self node.top c.read-head.result c.write.ensures c.read-head.ensures ∙ ap (λ (k : Entry). changed one_more es k.top) c.read-item.ensures in
-    subst (λ fs. IsInside fs c.args.index) (sym w) c.requires.inside
+pub relink-requires-clause-can : goal.relink-requires-clause-can
+relink-requires-clause-can c =
+    let es = c.args.row.now.entries in let node : Entry = c.read-item.result in
+    let w = written one_more es c.write.new.self.entries node.top c.read-head.result c.write.ensures.entries c.read-head.ensures ∙ ap (λ (k : Entry). changed one_more es k.top) c.read-item.ensures in
+    subst (λ fs. IsInside fs c.args.index) (sym w) c.requires.can.inside
 
-pub returns : goal.returns
+pub returns-clause-entries : goal.returns-clause-entries
 unfolding node_unhidden
-returns c =
-    let es = c.args.block.now in let node : Entry = c.read-item.result in
-    let w = written one_more es c.write.new.self node.top c.read-head.result c.write.ensures c.read-head.ensures ∙ ap (λ (k : Entry). changed one_more es k.top) c.read-item.ensures in
-    c.relink.ensures ∙ ap (λ fs. relinked fs c.args.index) w
+returns-clause-entries c =
+    let es = c.args.row.now.entries in let node : Entry = c.read-item.result in
+    let w = written one_more es c.write.new.self.entries node.top c.read-head.result c.write.ensures.entries c.read-head.ensures ∙ ap (λ (k : Entry). changed one_more es k.top) c.read-item.ensures in
+    c.relink.ensures.entries ∙ ap (λ fs. relinked fs c.args.index) w

@@ -4,11 +4,11 @@ use Rattle.cover_links.specs.Entries.{changed, to_right, to_left, item_unlinked}
 use Rattle.cover_links.proofs.EntryLemmas.{written}
 use Rattle.cover_links.proofs.hiding.unlink_item.Goals as goal
 
-pub returns : goal.returns
+pub returns-clause-entries : goal.returns-clause-entries
 unfolding item_unlinked
-returns c =
-    let es = c.args.block.now in let node : Entry = c.read-left.result in
-    let one = written (to_right node.right) es c.write.new.self node.left c.read-before.result c.write.ensures c.read-before.ensures in
-    let two = written (to_left node.left) c.write.new.self c.write-2.new.self node.right c.read-after.result c.write-2.ensures c.read-after.ensures in
+returns-clause-entries c =
+    let es = c.args.row.now.entries in let node : Entry = c.read-left.result in
+    let one = written (to_right node.right) es c.write.new.self.entries node.left c.read-before.result c.write.ensures.entries c.read-before.ensures in
+    let two = written (to_left node.left) c.write.new.self.entries c.write-2.new.self.entries node.right c.read-after.result c.write-2.ensures.entries c.read-after.ensures in
     two ∙ ap (λ fs. changed (to_left node.left) fs node.right) one
     ∙ ap (λ (k : Entry). changed (to_left k.left) (changed (to_right k.right) es k.left) k.right) c.read-left.ensures

@@ -30,11 +30,11 @@ all_filled i n e cs h same = let none : n - i ≡ 0 = omega arith in h ∙ ap (�
 
 pub invariant_of-result : goal.invariant_of-result
 invariant_of-result g c =
-    let i = c.loop-index.index in let s = c.loop-index.invariant in let n = c.args.len in let e = c.args.blank in let r = c.in_ok-base.ensures in
+    let i = c.loop-index.index in let s = c.loop-index.invariant in let n = c.args.len in let e = c.args.blank in
     let same : i ≡ n = omega (arith, c.loop-index-test.false, c.loop-index.auto.index-end) in
     let all = all_filled i n e c.loop-index.slots.slots s.places same in
     let none : n + 0 ≡ n = omega arith in
-    (s.begin, ap length all ∙ filled_length n 0 e ∙ none, r.2, r.3, r.4, subst IsFull (sym all) (filled_full n e))
+    (ap length all ∙ filled_length n 0 e ∙ none, subst IsFull (sym all) (filled_full n e))
 
 pub returns : goal.returns
 returns g c =

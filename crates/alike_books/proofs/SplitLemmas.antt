@@ -8,38 +8,8 @@ use Rattle.x_branches.specs.Cut.{CutPath, cut_state}
 use Rattle.lab_book.specs.Tile.{TileValue, IsTile}
 use Rattle.lab_book.specs.Tiling.{AreTiles, AreNumbered, IsTiling, tile_at}
 use Rattle.lab_book.specs.Book.{head_tile, tail_tile, split_tiles}
-use Rattle.lab_book.specs.Index.{moved_up}
-use Rattle.lab_book.proofs.InsertLemmas.{with_two, two_parts, Moved, moved_from, long, at_new, moved_id}
+use Rattle.lab_book.proofs.InsertLemmas.{two_parts, numbered_two}
 use Rattle.lab_book.proofs.SplitLemmas.{tiles_split}
-
--- the new tile's id is the number of those before
-numbered_two : (ts : List TileValue) (i : ℕ) (h r : TileValue) → i < length ts → h.id ≡ (tile_at ts i).id → r.id ≡ length ts
-    → AreNumbered ts → AreNumbered (with_two ts i h r)
-numbered_two ts i h r l same new n =
-    let m = long ts i h r l same in
-    record {
-      below = λ j b. below j (moved_from i j (length ts) l (omega arith));
-      once = λ j k b c e. once j k (moved_from i j (length ts) l (omega arith)) (moved_from i k (length ts) l (omega arith)) e;
-    }
-  where
-    fresh : (j : ℕ) → j ≡ i + 1 → (tile_at (with_two ts i h r) j).id ≡ length ts
-    fresh j e = ap (λ (k : ℕ). (tile_at (with_two ts i h r) k).id) e ∙ ap (λ (t : TileValue). t.id) (at_new ts i h r l same) ∙ new
-
-    old : (j : ℕ) (m : Moved i j (length ts)) → (tile_at (with_two ts i h r) j).id ≡ (tile_at ts m.from).id
-    old j m = ap (λ (k : ℕ). (tile_at (with_two ts i h r) k).id) m.to ∙ moved_id ts i h r l same m.from
-
-    below : (j : ℕ) → (j ≡ i + 1) ⊎ Moved i j (length ts) → (tile_at (with_two ts i h r) j).id < length (with_two ts i h r)
-    below j (inl e) = let m = long ts i h r l same in let a = fresh j e in omega arith
-    below j (inr d) = let m = long ts i h r l same in let a = old j d in let b = n.below d.from d.within in omega arith
-
-    once : (j k : ℕ) → (j ≡ i + 1) ⊎ Moved i j (length ts) → (k ≡ i + 1) ⊎ Moved i k (length ts)
-        → (tile_at (with_two ts i h r) j).id ≡ (tile_at (with_two ts i h r) k).id → j ≡ k
-    once j k (inl a) (inl b) e = omega arith
-    once j k (inl a) (inr b) e = let c = fresh j a in let d = old k b in let f = n.below b.from b.within in absurd (omega arith)
-    once j k (inr a) (inl b) e = let c = fresh k b in let d = old j a in let f = n.below a.from a.within in absurd (omega arith)
-    once j k (inr a) (inr b) e =
-        let f = n.once a.from b.from a.within b.within (sym (old j a) ∙ e ∙ old k b) in
-        a.to ∙ ap (moved_up i) f ∙ sym b.to
 
 -- a tile may be replaced by two that stand for it, the second with the next id
 pub split_tiling : (p : ProblemValue) (b : Branch) (first : StateValue) (ts : List TileValue) (i : ℕ) (c : CutPath) → IsTiling p b first ts

@@ -1,6 +1,6 @@
 -- The entry that a call would add, once its place is found or it is refused.
-use Rattle.std.proofs.Common.{◌≡◌, ℕ, ◌+◌, ◌<◌, ◌⊎◌, Bool, true, false, cond, Option, Some, None, Result, Ok, Err, List}
-use Rattle.std.proofs.Common.{length, refl, sym, ap, ◌∙◌, inl, inr, arith}
+use Rattle.std.proofs.Common.{◌≡◌, ℕ, ◌+◌, ◌<◌, ◌⊎◌, Bool, cond, Option, Result, Ok, Err, List}
+use Rattle.std.proofs.Common.{length, sym, ap, ◌∙◌, inl, inr, arith}
 use Rattle.std.proofs.Math.ListN.{set}
 use Rattle.std.proofs.lemmas.List.Sums.{sum_by-set}
 use Rattle.cover_problem.specs.Problem.{is_same}

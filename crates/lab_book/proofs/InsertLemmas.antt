@@ -1,17 +1,17 @@
 -- One more tile in a list of tiles: where each tile stands then, and what is kept beside them.
-use Rattle.std.proofs.Common.{◌≡◌, ℕ, zero, suc, ◌+◌, ◌-◌, ◌<◌, ◌≤◌, ◌⊎◌, Bool, cond, List, [], ◌∷◌, ◌++◌, length, map, take, drop, get_or}
-use Rattle.std.proofs.Common.{refl, sym, ap, ◌∙◌, inl, inr, arith, lt-ltb, length-append}
-use Rattle.std.specs.Prelude.{slice_index, count_by}
+use Rattle.std.proofs.Common.{◌≡◌, ℕ, zero, suc, ◌+◌, ◌-◌, ◌<◌, ◌≤◌, ◌==◌, ◌⊎◌, Bool, true, false, cond, List, [], ◌∷◌, ◌++◌, length, take}
+use Rattle.std.proofs.Common.{drop, refl, sym, ap, ◌∙◌, inl, inr, arith, lt-ltb, length-append}
+use Rattle.std.specs.Prelude.{slice_index, count_by, nat_lt, if◌then◌else◌}
 use Rattle.std.specs.List.{insert}
 use Rattle.std.proofs.Math.ListN.{set}
 use Rattle.std.proofs.lemmas.Bool.{cases_lt, le-ltb}
-use Rattle.std.proofs.lemmas.List.{length-set, length-map, length-take-le, length-drop, get_or-map, get_or_default, get_or_append_left}
-use Rattle.std.proofs.lemmas.List.{get_or-append_right}
-use Rattle.std.proofs.lemmas.List.Edits.{length-insert, get_or-insert_below, get_or-insert_at, get_or-insert_above, map_over_more}
+use Rattle.std.proofs.lemmas.Bool.Decides.{eqb_tells}
+use Rattle.std.proofs.lemmas.List.{length-set, get_or_append_left, get_or-append_right, get_or-set_same, get_or-set_other}
+use Rattle.std.proofs.lemmas.List.Edits.{length-insert, get_or-insert_below, get_or-insert_at, get_or-insert_above}
 use Rattle.std.proofs.lemmas.List.Sums.{sum_by-set, sum_by-insert}
-use Rattle.lab_book.specs.Tile.{TileValue}
-use Rattle.lab_book.specs.Tiling.{no_tile, tile_at}
-use Rattle.lab_book.specs.Index.{ArePlaces, moved_up}
+use Rattle.lab_book.specs.Tile.{TileValue, is_waiting}
+use Rattle.lab_book.specs.Tiling.{AreNumbered, no_tile, tile_at}
+use Rattle.lab_book.specs.Index.{AreLeast, WaitFrom}
 use Rattle.lab_book.proofs.TilingLemmas.{ids_set}
 
 -- a tile is put behind one that was changed
@@ -29,6 +29,10 @@ two_parts ts i h r l = let k : i + 1 ≡ suc i = omega arith in rw k (each ts i 
     each (t ∷ ts) (suc i) l = ap (λ us. t ∷ us) (each ts i (omega arith))
 
 -- ---- places
+
+-- where a tile stands once one more stands behind the place i
+abbrev pub moved_up : ℕ → ℕ → ℕ
+moved_up i place = if nat_lt i place then place + 1 else place
 
 moved_above : (i k : ℕ) → i < k → moved_up i k ≡ k + 1
 moved_above i k l = let e = lt-ltb i k l in rw e refl
@@ -55,10 +59,10 @@ moved_from i j n l m = step (cases_lt i j) (cases_lt (i + 1) j)
           omega arith;
     })
 
-moved_within : (i k n : ℕ) → k < n → moved_up i k < n + 1
-moved_within i k n l = step (cases_lt i k)
+moved_on : (i k : ℕ) → k ≤ moved_up i k
+moved_on i k = step (cases_lt i k)
   where
-    step : (i < k) ⊎ (k ≤ i) → moved_up i k < n + 1
+    step : (i < k) ⊎ (k ≤ i) → k ≤ moved_up i k
     step (inl a) = let e = moved_above i k a in omega arith
     step (inr b) = let e = moved_below i k b in omega arith
 
@@ -83,49 +87,72 @@ module _ (ts : List TileValue) (i : ℕ) (h r : TileValue) (l : i < length ts) (
   pub moved_id : (k : ℕ) → (tile_at (with_two ts i h r) (moved_up i k)).id ≡ (tile_at ts k).id
   moved_id k = ap (λ (t : TileValue). t.id) (moved_read k) ∙ ids_set ts i h l same k
 
-  module _ (places : List ℕ) (a : ArePlaces places ts) (new : r.id ≡ length ts) where
-    place_moved : (id : ℕ) → id < length ts → slice_index (map (moved_up i) places ++ (i + 1) ∷ []) id ≡ moved_up i (slice_index places id)
-    place_moved id m =
-        let n = a.long in
-        let k = length-map places (moved_up i) in
-        get_or_append_left (map (moved_up i) places) ((i + 1) ∷ []) 0 id (omega arith) ∙ get_or-map (moved_up i) places id 0 0 (omega arith)
+  -- the new tile's id is the number of those before
+  module _ (new : r.id ≡ length ts) (n : AreNumbered ts) where
+    fresh : (j : ℕ) → j ≡ i + 1 → (tile_at (with_two ts i h r) j).id ≡ length ts
+    fresh j e = ap (λ (k : ℕ). (tile_at (with_two ts i h r) k).id) e ∙ ap (λ (t : TileValue). t.id) at_new ∙ new
 
-    place_new : slice_index (map (moved_up i) places ++ (i + 1) ∷ []) (length ts) ≡ i + 1
-    place_new =
-        let n = a.long in
-        let k = length-map places (moved_up i) in
-        let e = get_or-append_right (map (moved_up i) places) ((i + 1) ∷ []) (length ts) (length ts) 0 (omega arith) (omega arith) in
-        let z : length ts - length ts ≡ 0 = omega arith in e ∙ rw z refl
+    old : (j : ℕ) (m : Moved i j (length ts)) → (tile_at (with_two ts i h r) j).id ≡ (tile_at ts m.from).id
+    old j m = ap (λ (k : ℕ). (tile_at (with_two ts i h r) k).id) m.to ∙ moved_id m.from
 
-    pub places_two : ArePlaces (map (moved_up i) places ++ (i + 1) ∷ []) (with_two ts i h r)
-    places_two = record {
-      long = let n = a.long in let k = length-map places (moved_up i) in let m = length-append (map (moved_up i) places) ((i + 1) ∷ []) in
-          let o = long in omega arith;
-      ids = λ j m. id_at j (moved_from i j (length ts) l (let n = long in omega arith));
-      tiles = λ id m. tile_of id (cases_lt id (length ts)) (let n = long in omega arith);
+    pub numbered_two : AreNumbered (with_two ts i h r)
+    numbered_two =
+        let m = long in
+        record {
+          below = λ j b. below j (moved_from i j (length ts) l (omega arith));
+          once = λ j k b c e. once j k (moved_from i j (length ts) l (omega arith)) (moved_from i k (length ts) l (omega arith)) e;
+        }
+      where
+        below : (j : ℕ) → (j ≡ i + 1) ⊎ Moved i j (length ts) → (tile_at (with_two ts i h r) j).id < length (with_two ts i h r)
+        below j (inl e) = let m = long in let a = fresh j e in omega arith
+        below j (inr d) = let m = long in let a = old j d in let b = n.below d.from d.within in omega arith
+
+        once : (j k : ℕ) → (j ≡ i + 1) ⊎ Moved i j (length ts) → (k ≡ i + 1) ⊎ Moved i k (length ts)
+            → (tile_at (with_two ts i h r) j).id ≡ (tile_at (with_two ts i h r) k).id → j ≡ k
+        once j k (inl a) (inl b) e = omega arith
+        once j k (inl a) (inr b) e = let c = fresh j a in let d = old k b in let f = n.below b.from b.within in absurd (omega arith)
+        once j k (inr a) (inl b) e = let c = fresh k b in let d = old j a in let f = n.below a.from a.within in absurd (omega arith)
+        once j k (inr a) (inr b) e =
+            let f = n.once a.from b.from a.within b.within (sym (old j a) ∙ e ∙ old k b) in
+            a.to ∙ ap (moved_up i) f ∙ sym b.to
+
+    -- and it is looked for from its place on
+    pub least_two : (places : List ℕ) → AreLeast places ts → AreLeast (places ++ (i + 1) ∷ []) (with_two ts i h r)
+    least_two places a = record {
+      long = let n = a.long in let m = length-append places ((i + 1) ∷ []) in let o = long in omega arith;
+      least = λ j m. least j (moved_from i j (length ts) l (let n = long in omega arith));
     }
       where
-        id_at : (j : ℕ) → (j ≡ i + 1) ⊎ Moved i j (length ts)
-            → ((tile_at (with_two ts i h r) j).id < length (with_two ts i h r))
-            × (slice_index (map (moved_up i) places ++ (i + 1) ∷ []) (tile_at (with_two ts i h r) j).id ≡ j)
-        id_at j (inl e) =
-            let id = ap (λ (t : TileValue). t.id) at_new ∙ new in
-            rw (e, id) (let n = long in omega arith, place_new)
-        id_at j (inr m) =
-            let id = moved_id m.from in
-            let old = a.ids m.from m.within in
-            rw (m.to, id) (let n = long in omega (arith, old.0), place_moved (tile_at ts m.from).id old.0 ∙ ap (moved_up i) old.1)
+        least : (j : ℕ) → (j ≡ i + 1) ⊎ Moved i j (length ts)
+            → slice_index (places ++ (i + 1) ∷ []) (tile_at (with_two ts i h r) j).id ≤ j
+        least j (inl e) =
+            let m = a.long in
+            let f = get_or-append_right places ((i + 1) ∷ []) (length ts) (length ts) 0 (omega arith) (omega arith) in
+            let z : length ts - length ts ≡ 0 = omega arith in
+            rw (fresh j e, f, z) (omega arith)
+        least j (inr d) =
+            let m = a.long in
+            let b = n.below d.from d.within in
+            let f = get_or_append_left places ((i + 1) ∷ []) 0 (tile_at ts d.from).id (omega arith) in
+            let g = a.least d.from d.within in
+            let o = moved_on i d.from in
+            let p = d.to in
+            rw (old j d, f) (omega arith)
 
-        tile_of : (id : ℕ) → (id < length ts) ⊎ (length ts ≤ id) → id < length ts + 1
-            → (slice_index (map (moved_up i) places ++ (i + 1) ∷ []) id < length (with_two ts i h r))
-            × ((tile_at (with_two ts i h r) (slice_index (map (moved_up i) places ++ (i + 1) ∷ []) id)).id ≡ id)
-        tile_of id (inl m) b =
-            let old = a.tiles id m in
-            let in_range = moved_within i (slice_index places id) (length ts) old.0 in
-            rw (place_moved id m, long) (in_range, moved_id (slice_index places id) ∙ old.1)
-        tile_of id (inr m) b =
-            let e : id ≡ length ts = omega arith in
-            rw (e, place_new, long) (omega arith, ap (λ (t : TileValue). t.id) at_new ∙ new)
+  -- no tile before a place waits: the tiles up to the one that is parted stand where they stood
+  pub waits_two : (from to : ℕ) → is_waiting h.status ≡ is_waiting (tile_at ts i).status → WaitFrom from ts → to ≤ from → to ≤ i + 1
+      → WaitFrom to (with_two ts i h r)
+  waits_two from to s w a b j m c =
+      let n = length-set ts i h in
+      ap (λ (t : TileValue). is_waiting t.status) (get_or-insert_below (set ts i h) (i + 1) r no_tile j (omega arith) (omega arith))
+      ∙ waits_at j (eqb_tells j i) (w j (omega arith) (omega arith))
+    where
+      waits_at : (j : ℕ) → (((j == i) ≡ true) × (j ≡ i)) ⊎ (((j == i) ≡ false) × (j ≡ i → ⊥)) → is_waiting (tile_at ts j).status ≡ false
+          → is_waiting (tile_at (set ts i h) j).status ≡ false
+      waits_at j (inl e) x =
+          rw e.1 (ap (λ (t : TileValue). is_waiting t.status) (get_or-set_same ts i h no_tile l) ∙ s
+          ∙ ap (λ (k : ℕ). is_waiting (tile_at ts k).status) (sym e.1) ∙ x)
+      waits_at j (inr e) x = ap (λ (t : TileValue). is_waiting t.status) (get_or-set_other ts i j h no_tile e.1) ∙ x
 
 -- ---- how many tiles pass a test
 
@@ -135,17 +162,3 @@ count_two f ts i h r l e =
     let a = sum_by-insert (λ (t : TileValue). cond (f t) 1 0) (set ts i h) (i + 1) r in
     let b = sum_by-set (λ (t : TileValue). cond (f t) 1 0) ts i h no_tile l in
     let c : cond {A = ℕ} (f h) 1 0 ≡ cond {A = ℕ} (f (tile_at ts i)) 1 0 = ap {B = ℕ} (λ b. cond b 1 0) e in omega arith
-
--- ---- places that go up one by one
-
-pub moved_more : (xs ys : List ℕ) (i at : ℕ) → at < length xs → ys ≡ map (moved_up i) (take at xs) ++ drop at xs
-    → set ys at (moved_up i (get_or ys at 0)) ≡ map (moved_up i) (take (at + 1) xs) ++ drop (at + 1) xs
-moved_more xs ys i at l e = map_over_more (moved_up i) xs ys at (get_or ys at 0) l e (get_or_default ys at 0 (get_or ys at 0) within)
-  where
-    within : at < length ys
-    within =
-        let n = ap (length {A = ℕ}) e in
-        let m = length-append (map (moved_up i) (take at xs)) (drop at xs) in
-        let o = length-map (take at xs) (moved_up i) in
-        let t = length-take-le at xs (omega arith) in
-        let d = length-drop at xs in omega arith

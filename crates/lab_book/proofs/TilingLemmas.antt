@@ -48,7 +48,7 @@ ids_set ts i u l e j = step (eqb_tells j i)
     step (inl h) = rw h.1 (ap (λ (t : TileValue). t.id) (get_or-set_same ts i u no_tile l) ∙ e)
     step (inr h) = ap (λ (t : TileValue). t.id) (get_or-set_other ts i j u no_tile h.1)
 
-numbered_set : (ts : List TileValue) (i : ℕ) (u : TileValue) → AreNumbered ts → i < length ts → u.id ≡ (tile_at ts i).id
+pub numbered_set : (ts : List TileValue) (i : ℕ) (u : TileValue) → AreNumbered ts → i < length ts → u.id ≡ (tile_at ts i).id
     → AreNumbered (set ts i u)
 numbered_set ts i u n l e =
     let long = length-set ts i u in

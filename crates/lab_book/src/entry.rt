@@ -1,5 +1,6 @@
 //! The entries of a history: who called what, and what was answered.
 ghost use Rattle.std.specs.Prelude.{◌≡◌, ◌↔◌, IsTrue};
+ghost use Rattle.lab_book.specs.declared.entry.Call.TheVariants as calls;
 
 use crate::fault::BookFault;
 use crate::lease::Grant;
@@ -67,6 +68,48 @@ pub struct Entry {
 }
 
 impl Call {
+    /// Whether it is this post.
+    fn is_post(&self, lease: Grant, from: &Mark, to: &Mark, same: bool) -> bool
+        ensures { IsTrue result ↔ (self.now ≡ calls.Post lease from.now to.now same) }
+    {
+        match self {
+            Call::Post {
+                lease: my_lease,
+                from: my_from,
+                to: my_to,
+                same: my_same,
+            } => { *my_lease == lease && *my_same == same && my_from.same(from) && my_to.same(to) }
+            _ => false,
+        }
+    }
+
+    /// Whether it is this split.
+    fn is_split(&self, lease: Grant, path: &Path, same: bool) -> bool
+        ensures { IsTrue result ↔ (self.now ≡ calls.Split lease path.now same) }
+    {
+        match self {
+            Call::Split {
+                lease: my_lease,
+                path: my_path,
+                same: my_same,
+            } => *my_lease == lease && *my_same == same && my_path.same(path),
+            _ => false,
+        }
+    }
+
+    /// Whether it is this way back to a state.
+    fn is_put_back(&self, id: u64, state: &Mark) -> bool
+        ensures { IsTrue result ↔ (self.now ≡ calls.PutBack id state.now) }
+    {
+        match self {
+            Call::PutBack {
+                id: my_id,
+                state: my_state,
+            } => *my_id == id && my_state.same(state),
+            _ => false,
+        }
+    }
+
     /// Whether it is the same call.
     pub fn same(&self, other: &Call) -> bool
         ensures { IsTrue result ↔ (self.now ≡ other.now) }
@@ -82,37 +125,14 @@ impl Call {
                     to,
                     same,
                 },
-                Call::Post {
-                    lease: other_lease,
-                    from: other_from,
-                    to: other_to,
-                    same: other_same,
-                },
-            ) => {
-                lease == other_lease
-                    && same == other_same
-                    && from.same(other_from)
-                    && to.same(other_to)
-            }
-            (
-                Call::Split { lease, path, same },
-                Call::Split {
-                    lease: other_lease,
-                    path: other_path,
-                    same: other_same,
-                },
-            ) => lease == other_lease && same == other_same && path.same(other_path),
+                other,
+            ) => other.is_post(*lease, from, to, *same),
+            (Call::Split { lease, path, same }, other) => other.is_split(*lease, path, *same),
             (Call::Retract(one), Call::Retract(other)) => one == other,
             (Call::Park(one), Call::Park(other)) => one == other,
             (Call::Abandon(one), Call::Abandon(other)) => one == other,
             (Call::Close(one), Call::Close(other)) => one == other,
-            (
-                Call::PutBack { id, state },
-                Call::PutBack {
-                    id: other_id,
-                    state: other_state,
-                },
-            ) => id == other_id && state.same(other_state),
+            (Call::PutBack { id, state }, other) => other.is_put_back(*id, state),
             (Call::RequestStop(one), Call::RequestStop(other)) => one == other,
             _ => false,
         }

@@ -1,10 +1,11 @@
 //! The tiles of a book in order, with what is kept beside them so that no call has to go over all.
-ghost use Rattle.std.specs.Prelude.{◌≡◌, ◌⊎◌, ◌≤◌, ◌<◌, ◌+◌, ◌-◌, ◌^◌, true, false, not, Some, take, cond, [], ◌∷◌, length, slice_set};
+ghost use Rattle.std.specs.Prelude.{ℕ, ◌≡◌, ◌⊎◌, ◌≤◌, ◌<◌, ◌+◌, ◌-◌, ◌^◌, true, false, not, Some, take, cond, [], ◌∷◌, length, slice_set};
 ghost use Rattle.std.specs.Prelude.{Option, None, IsOk, IfSome, OnOk, OnErr, IfErr, IfOk};
 ghost use Rattle.lab_book.specs.Tile.{TileValue, is_leased, is_waiting, is_held, is_closed, mark_of};
 ghost use Rattle.lab_book.specs.Tiling.{tile_at, AreNumbered};
 ghost use Rattle.lab_book.specs.Book.{tile_place, first_waiting, waiting_in, leased_in, found, status_fault, lease_fault, posted_tile};
 ghost use Rattle.lab_book.specs.Book.{retracted_tile, last_of};
+ghost use Rattle.lab_book.specs.Index.{WaitFrom};
 ghost use Rattle.lab_book.specs.Calls.{Judged, is_current};
 
 mod splitting;
@@ -18,11 +19,14 @@ use std::alloc::{AllocError, Global};
 use std::marker::Model;
 use x_branches::Stretch;
 
-/// The tiles in order, the place of each id, and how many tiles wait and are leased.
+/// The tiles in order, where the tile of each id and the first that waits are looked for, and how many wait and are leased.
 #[derive(Drop)]
 pub(crate) struct Tiles<'p> {
     list: Vec<Tile<'p>>,
+    /// For each id a place before which its tile doesn't stand: tiles only move up, so a split changes no other's.
     places: Vec<usize>,
+    /// No tile before this place waits.
+    from: usize,
     waiting: usize,
     leased: usize,
 }
@@ -36,7 +40,7 @@ impl<'p> Model for Tiles<'p> {
 
     ghost view = { λ t. t.list.items };
 
-    ghost invariant = { λ t. KeepsTiles t.list.items t.places.items t.waiting t.leased };
+    ghost invariant = { λ t. KeepsTiles t.list.items t.places.items t.from t.waiting t.leased };
 }
 
 /// How many pass a test, where one that did or didn't now does or doesn't.
@@ -52,6 +56,21 @@ fn recounted(count: usize, did: bool, does: bool) -> usize
     }
 }
 
+/// Before which place no tile waits, where none did before `from`, and one at a place now does or doesn't.
+fn waits_from(from: usize, place: usize, waits: bool) -> usize
+    requires { place < 2 ^ 64 - 1 }
+    ensures passed { (k : ℕ) → k < result → (k < from) ⊎ ((k ≡ place) × (waits ≡ false)) }
+    ensures waits { waits ≡ true → result ≤ place }
+{
+    if waits {
+        from.min(place)
+    } else if place == from {
+        from + 1
+    } else {
+        from
+    }
+}
+
 /// The refusal of a lease that isn't a tile's current one.
 pub(crate) fn stale(tile: &Tile<'_>) -> BookFault
     ensures { (result ≡ BookFault.OutOfMemory) ⊎ (result ≡ BookFault.StaleLease (mark_of tile.now)) }
@@ -60,6 +79,34 @@ pub(crate) fn stale(tile: &Tile<'_>) -> BookFault
         Ok(mark) => BookFault::StaleLease(mark),
         Err(_) => BookFault::OutOfMemory,
     }
+}
+
+/// The place of the tile with an id, which stands at no place before `start`.
+fn find(list: &[Tile<'_>], id: u64, start: usize) -> Option<usize>
+    requires { (k : ℕ) → k < length list.now → k < start → (tile_at list.now k).id ≡ id → ⊥ }
+    ensures place { result ≡ tile_place id list.now }
+    ensures within { IfSome result (λ i. i < length list.now) }
+{
+    'finding: for place in start..list.len() {
+        if list[place].id() == id {
+            return Some(place);
+        }
+    }
+    None
+}
+
+/// The place of the first tile that waits; none does before `start`.
+fn find_waiting(list: &[Tile<'_>], start: usize) -> Option<usize>
+    requires { WaitFrom start list.now }
+    ensures place { result ≡ first_waiting list.now }
+    ensures within { IfSome result (λ i. i < length list.now) }
+{
+    'finding: for place in start..list.len() {
+        if list[place].status().is_waiting() {
+            return Some(place);
+        }
+    }
+    None
 }
 
 impl<'p> Tiles<'p> {
@@ -76,6 +123,7 @@ impl<'p> Tiles<'p> {
         Ok(Tiles {
             list,
             places,
+            from: 0,
             waiting: 1,
             leased: 0,
         })
@@ -116,9 +164,9 @@ impl<'p> Tiles<'p> {
         ensures place { result ≡ tile_place id self.now }
         ensures within { IfSome result (λ i. i < length self.now) }
     {
-        let id = id as usize;
-        if id < self.places.len() {
-            Some(self.places[id])
+        let number = id as usize;
+        if number < self.places.len() {
+            find(&self.list, id, self.places[number])
         } else {
             None
         }
@@ -174,7 +222,30 @@ impl<'p> Tiles<'p> {
         ensures place { result ≡ first_waiting self.now }
         ensures within { IfSome result (λ i. i < length self.now) }
     {
-        self.list.iter().position(|tile| tile.status().is_waiting())
+        if self.waiting == 0 {
+            return None;
+        }
+        find_waiting(&self.list, self.from)
+    }
+
+    /// The same, and those before it aren't looked at any more.
+    pub fn next_waiting(&mut self) -> Option<usize>
+        ensures place { result ≡ first_waiting self.old }
+        ensures within { IfSome result (λ i. i < length self.old) }
+        ensures unchanged { self.new ≡ self.old }
+    {
+        let i = self.first_waiting()?;
+        self.from = i;
+        Some(i)
+    }
+
+    /// The tile at a place isn't looked for before it any more.
+    fn keep_place(&mut self, i: usize)
+        requires { i < length self.old }
+        ensures { self.new ≡ self.old }
+    {
+        let id = self.list[i].id() as usize;
+        self.places[id] = i;
     }
 
     /// The tile at a place.
@@ -207,9 +278,11 @@ impl<'p> Tiles<'p> {
         requires { i < length self.old }
         ensures { self.new ≡ slice_set self.old i (record (tile_at self.old i) { status = status; stop = stop }) }
     {
+        self.keep_place(i);
         let old = self.list[i].status();
         self.waiting = recounted(self.waiting, old.is_waiting(), status.is_waiting());
         self.leased = recounted(self.leased, old.is_leased(), status.is_leased());
+        self.from = waits_from(self.from, i, status.is_waiting());
         self.list[i].settle(status, stop);
     }
 
@@ -220,6 +293,7 @@ impl<'p> Tiles<'p> {
         ensures unchanged { OnErr result (self.new ≡ self.old) }
         ensures given_back { IfErr result (λ s. s ≡ stretch.entry) }
     {
+        self.keep_place(i);
         self.list[i].add(stretch)
     }
 
@@ -230,6 +304,7 @@ impl<'p> Tiles<'p> {
         ensures tiles { self.new ≡ slice_set self.old i (retracted_tile (tile_at self.old i)) }
         ensures stretch { last_of (tile_at self.old i).stretches ≡ Some result }
     {
+        self.keep_place(i);
         self.list[i].retract()
     }
 
@@ -240,6 +315,7 @@ impl<'p> Tiles<'p> {
         ensures { self.new ≡ slice_set self.old i
             (record (tile_at self.old i) { stretches = take count (tile_at self.old i).stretches }) }
     {
+        self.keep_place(i);
         self.list[i].put_back(count);
     }
 }

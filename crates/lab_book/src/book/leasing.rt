@@ -138,7 +138,7 @@ impl<'p> Book<'p> {
         ensures worker { IfOk result (λ r. IfSome r (λ l. l.lease.worker ≡ w)) }
         ensures unchanged { OnErr result (self.new ≡ self.old) }
     {
-        let Some(i) = self.tiles.first_waiting() else {
+        let Some(i) = self.tiles.next_waiting() else {
             self.history.keep(1)?;
             self.history.add(Entry {
                 worker: w,

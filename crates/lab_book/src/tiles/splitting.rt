@@ -1,31 +1,12 @@
 //! One more tile stands among the others.
-ghost use Rattle.std.specs.Prelude.{◌≡◌, ◌<◌, ◌+◌, ◌-◌, ◌^◌, ◌++◌, All, length, map, take, drop, IfOk, OnOk, OnErr, IfErr};
+ghost use Rattle.std.specs.Prelude.{◌≡◌, ◌<◌, ◌+◌, ◌++◌, length, take, drop, IfOk, OnOk, OnErr, IfErr};
 ghost use Rattle.x_branches.specs.Cut.{cut_state};
 ghost use Rattle.lab_book.specs.Tiling.{tile_at, AreNumbered};
 ghost use Rattle.lab_book.specs.Book.{split_tiles};
-ghost use Rattle.lab_book.specs.Index.{moved_up};
 
 use crate::tile::CutCopies;
 use crate::tiles::Tiles;
 use x_branches::Cut;
-
-/// Where a tile stands once one more stands behind a place.
-fn moved_up(i: usize, place: usize) -> usize
-    requires { place < 2 ^ 64 - 1 }
-    ensures { result ≡ moved_up i place }
-{
-    if i < place { place + 1 } else { place }
-}
-
-/// Each place behind one goes up by one.
-fn move_up(places: &mut [usize], i: usize)
-    requires { All (λ place. place < 2 ^ 64 - 1) places.old }
-    ensures { places.new ≡ map (moved_up i) places.old }
-{
-    for place in places.iter_mut() {
-        *place = moved_up(i, *place);
-    }
-}
 
 impl<'p> Tiles<'p> {
     /// Ends the tile at a place at a cut; behind it stands a tile that goes on from there and waits, whose id comes back: the
@@ -42,6 +23,7 @@ impl<'p> Tiles<'p> {
         ensures unchanged { OnErr result (self.new ≡ self.old) }
         ensures given_back { IfErr result (λ c. c ≡ cut.entry) }
     {
+        self.keep_place(i);
         if self.list.reserve(1).is_err() {
             return Err(cut);
         }
@@ -53,8 +35,8 @@ impl<'p> Tiles<'p> {
         let Ok(()) = self.list.insert(i + 1, tail) else {
             unreachable!()
         };
-        move_up(&mut self.places, i);
         self.places.push_reserved(i + 1);
+        self.from = self.from.min(i + 1);
         self.waiting += 1;
         Ok(id as u64)
     }

@@ -1,4 +1,4 @@
-use Rattle.std.proofs.Common.{◌≡◌, refl, ap, ◌∙◌, sym, inr}
+use Rattle.std.proofs.Common.{refl, ap, ◌∙◌, sym, inr}
 use Rattle.x_steps.specs.StateValue.{StateValue}
 use Rattle.lab_book.specs.declared.entry.Call.TheVariants as calls
 use Rattle.lab_book.specs.Calls.{next_entry}

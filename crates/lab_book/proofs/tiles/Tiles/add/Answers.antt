@@ -17,7 +17,7 @@ same_status (Err b) t u x f g = ap (λ (t : TileValue). t.status) g
 
 pub invariant_of-self : goal.invariant_of-self
 invariant_of-self c =
-    let within = rw (← c.self.view_is) at c.requires in
-    keeps_same _ _ _ _ _ c.index_mut.result.now _ c.self.invariant within c.index_mut.ensures.value
+    let within = rw (← c.keep_place.ensures, ← c.self.view_is) at c.requires in
+    keeps_same _ _ _ _ _ _ c.index_mut.result.now _ c.self.invariant within c.index_mut.ensures.value
     (same_id c.add.result _ _ _ c.add.ensures.added c.add.ensures.unchanged)
     (same_status c.add.result _ _ _ c.add.ensures.added c.add.ensures.unchanged)

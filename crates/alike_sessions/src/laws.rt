@@ -8,7 +8,8 @@ ghost use Rattle.x_debug.specs.Session.{SessionValue, session_on, fresh_session}
 ghost use Rattle.x_debug.specs.Commands.{answer, answer_line};
 ghost use Rattle.x_debug.specs.Loading.{load_answer};
 ghost use Rattle.alike_books.specs.Searched.{searched, IsSearched};
-ghost use Rattle.alike_sessions.specs.AlikeSessions.{IsSoundSession, AreSoundAlike, AreAlikeAnswers};
+ghost use Rattle.alike_sessions.specs.AlikeSessions.{IsSoundSession, AreSoundAlike};
+ghost use Rattle.alike_sessions.specs.AlikeSessions.{AreAlikeAnswers};
 
 /// A new session of any problem is sound, and so is each session that a command, a line or a text that is loaded leaves of a sound
 /// one. A sound session is alike to itself.

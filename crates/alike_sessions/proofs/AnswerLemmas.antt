@@ -1,7 +1,7 @@
 -- Sound sessions that are alike answer each command, each line and each text that is loaded with the same text, and stay alike.
 use Rattle.std.proofs.Common.{◌≡◌, ℕ, ◌≤◌, ◌&&◌, not, Bool, true, false, cond, Option, Some, None, Result, Ok, Err, List, [], ◌∷◌, map}
 use Rattle.std.proofs.Common.{length, refl, sym, ap, ap₂, ◌∙◌, subst}
-use Rattle.std.proofs.lemmas.Bool.{false≢true, and_parts}
+use Rattle.std.proofs.lemmas.Bool.{and_parts, not-true}
 use Rattle.text_lines.specs.Writing.{text_of}
 use Rattle.cover_problem.specs.Problem.{ProblemValue, is_same}
 use Rattle.x_steps.specs.StateValue.{StateValue}
@@ -83,11 +83,7 @@ begun_seen : (lo : Option (List ℕ)) (t : TileValue) → is_begun_at lo (anonym
 begun_seen lo t = ap (λ (b : Bool). not b && same_cut (path_of t.branch.lo) lo) (closed_seen t.status)
 
 begun_open : (lo : Option (List ℕ)) (t : TileValue) → is_begun_at lo t ≡ true → is_closed t.status ≡ false
-begun_open lo t e = by (is_closed t.status) (and_parts (not (is_closed t.status)) (same_cut (path_of t.branch.lo) lo) e).0
-  where
-    by : (b : Bool) → not b ≡ true → b ≡ false
-    by false h = refl
-    by true h = absurd (false≢true h)
+begun_open lo t e = not-true _ (and_parts (not (is_closed t.status)) (same_cut (path_of t.branch.lo) lo) e).0
 
 place_meet : (lo : Option (List ℕ)) (a b : BookValue) → AreAlikeBooks a b → Meet a.tiles b.tiles (place_at lo a.tiles) (place_at lo b.tiles)
 place_meet lo a b k = first_meet (is_begun_at lo) (begun_seen lo) (begun_open lo) a.tiles b.tiles k.tiles

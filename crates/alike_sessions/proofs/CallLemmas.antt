@@ -2,7 +2,7 @@
 use Rattle.std.proofs.Common.{◌≡◌, ℕ, suc, ◌-◌, ◌<◌, Bool, true, false, cond, not, Option, Some, None, Result, Ok, Err, List, [], ◌∷◌}
 use Rattle.std.proofs.Common.{length, take, refl, sym, ap, ◌∙◌, subst, is_some, unwrap_or}
 use Rattle.std.proofs.Math.ListN.{set}
-use Rattle.std.proofs.lemmas.Bool.{false≢true}
+use Rattle.std.proofs.lemmas.Bool.{false≢true, not-true}
 use Rattle.std.proofs.lemmas.List.Quantifiers.{position-Some}
 use Rattle.cover_problem.specs.Problem.{ProblemValue}
 use Rattle.x_steps.specs.StateValue.{StateValue}
@@ -26,33 +26,17 @@ use Rattle.lab_book.specs.Book.{status_fault, lease_fault, stretch_fault, cut_fa
 use Rattle.lab_book.proofs.TileLemmas.{settled_is_tile, part_is_tile, posted_is_tile, same_state_is}
 use Rattle.lab_book.proofs.TilingLemmas.{tile_in, tiling_set}
 use Rattle.lab_book.proofs.SplitLemmas.{head_is_tile, tail_is_tile}
-use Rattle.lab_book.proofs.StepLemmas.{asked_is_tile}
+use Rattle.lab_book.proofs.StepLemmas.{asked_is_tile, free_open, leased_open}
 use Rattle.lab_world.proofs.HoldLemmas.{found_ok, passed}
 use Rattle.alike_books.proofs.SplitLemmas.{split_tiling}
 
 -- ---- how a tile stands
-
-free_open : (s : Status) → is_free s ≡ true → is_closed s ≡ false
-free_open status.Waiting e = refl
-free_open status.Held e = refl
-free_open (status.Leased w i) e = refl
-free_open status.Closed e = absurd (false≢true e)
 
 lease_leased : (s : Status) (g : Grant) → is_lease s g ≡ true → is_leased s ≡ true
 lease_leased status.Waiting g e = absurd (false≢true e)
 lease_leased status.Held g e = absurd (false≢true e)
 lease_leased (status.Leased w i) g e = refl
 lease_leased status.Closed g e = absurd (false≢true e)
-
-leased_open : (s : Status) → is_leased s ≡ true → is_closed s ≡ false
-leased_open status.Waiting e = refl
-leased_open status.Held e = refl
-leased_open (status.Leased w i) e = refl
-leased_open status.Closed e = absurd (false≢true e)
-
-not_true : (b : Bool) → not b ≡ true → b ≡ false
-not_true true e = absurd (false≢true e)
-not_true false e = refl
 
 -- stretches up to a mark are the first ones
 to_take : (s m : StateValue) (xs ys : List StretchValue) → stretches_to s m xs ≡ Some ys → (n : ℕ) × (ys ≡ take n xs)
@@ -144,7 +128,7 @@ module _ (b : BookValue) (tiling : IsTiling b.problem b.branch b.first b.tiles) 
       let v = passed (not (comes_before b.problem (tile_end t) to)) BeyondEnd None r.1 in
       let x : StretchValue = record { problem = b.problem; from = from; to = to } in
       put_keeps i (posted_tile t x) l refl refl refl
-      (λ k. posted_is_tile b.problem t x k leased refl s (same_state_is from (mark_of t) r.0) (not_true _ v.0))
+      (λ k. posted_is_tile b.problem t x k leased refl s (same_state_is from (mark_of t) r.0) (not-true _ v.0))
 
   cut_keeps : (path : List ℕ) (same : Bool) (i : ℕ) → IsCut b.problem path → i < length b.tiles
       → is_leased (tile_at b.tiles i).status ≡ true → cut_fault b.problem path same (tile_at b.tiles i) ≡ None
@@ -197,4 +181,4 @@ module _ (b : BookValue) (tiling : IsTiling b.problem b.branch b.first b.tiles) 
       made_keeps (settled b asked_to_stop) id (λ (t : TileValue). status_fault (not (is_closed t.status)) t) (λ i l n.
       let t = tile_at b.tiles i in
       put_keeps i (asked_to_stop t) l refl refl refl
-      (λ k. asked_is_tile b.problem t (asked_status t.status) refl (not_true _ (passed (not (is_closed t.status)) NotWaiting None n).0) k))
+      (λ k. asked_is_tile b.problem t (asked_status t.status) refl (not-true _ (passed (not (is_closed t.status)) NotWaiting None n).0) k))

@@ -2,7 +2,7 @@
 -- last stretch is taken out.
 use Rattle.std.proofs.Common.{◌≡◌, ℕ, zero, suc, ◌+◌, ◌-◌, ◌<◌, ◌≤◌, ◌==◌, ◌⊎◌, inl, inr, nat_lt, Bool, true, false, cond, Option}
 use Rattle.std.proofs.Common.{Some, None}
-use Rattle.std.proofs.Common.{Result, List, [], ◌∷◌, refl, sym, ap, ap₂, ◌∙◌, subst, arith, eq-eqb, eqb-true}
+use Rattle.std.proofs.Common.{Result, List, [], ◌∷◌, refl, sym, ap, ◌∙◌, subst, arith, eq-eqb, eqb-true}
 use Rattle.std.proofs.lemmas.Bool.{cases_lt, false≢true}
 use Rattle.cover_problem.specs.Lists.{has}
 use Rattle.cover_problem.specs.Problem.{ProblemValue}
@@ -13,8 +13,8 @@ use Rattle.x_steps.specs.Run.{after, steps_between, ReachesIn}
 use Rattle.x_steps.specs.Rank.{rank}
 use Rattle.x_steps.proofs.Neighbours.{fits_next}
 use Rattle.x_steps.proofs.RankLemmas.{rank_next}
-use Rattle.x_steps.proofs.RunLemmas.{after_add, after_fits, leads_push}
-use Rattle.x_steps.proofs.BetweenLemmas.{steps_between_next, steps_between_self}
+use Rattle.x_steps.proofs.RunLemmas.{after_add, after_fits}
+use Rattle.x_steps.proofs.BetweenLemmas.{steps_between_self}
 use Rattle.x_steps.proofs.StretchLemmas.{reached_fits, reached_rank, steps_between_none}
 use Rattle.x_branches.specs.declared.branch.Branch.{Branch}
 use Rattle.x_branches.specs.declared.fault.RunnerFault.TheVariants.{NotAtMark}
@@ -48,7 +48,7 @@ use Rattle.debug_work.specs.Parting.{answered, no_cut, parted, parted_line, spli
 use Rattle.debug_work.proofs.CloseLemmas.{refused_is}
 use Rattle.debug_work.proofs.PostLemmas.{granted}
 use Rattle.debug_work.proofs.ForwardLemmas.{can_walk, ahead_is}
-use Rattle.debug_work.proofs.WalkLemmas.{on_problem, on_branch, on_position}
+use Rattle.debug_work.proofs.WalkLemmas.{room_worker, on_problem, on_branch, on_position}
 use Rattle.debug_work.proofs.RetractLemmas.{to_here}
 use Rattle.alike_sessions.proofs.CallLemmas.{call_keeps}
 
@@ -139,31 +139,35 @@ module _ (u : AtWork) (s : IsSoundWork u) where
     runner = k;
   }
 
+  -- it may stand wherever the mark doesn't come later, nor the end earlier
+  mark_up : rank run.problem run.mark ≤ rank run.problem run.position
+  mark_up = reached_rank run.problem run.mark run.position _ s.runner.stretch.fits s.runner.stretch.reaches
+
+  start_up : rank run.problem (first_of run.branch.lo) ≤ rank run.problem run.mark
+  start_up = not_before run.problem run.mark (first_of run.branch.lo) s.runner.stretch.fits start_fits s.runner.mark_in.begun
+
+  placed_runner : (t : StateValue) → Fits run.problem t → rank run.problem run.mark ≤ rank run.problem t
+      → rank run.problem t ≤ rank run.problem (end_of run.branch.hi) → IsRunner (record run { position = t })
+  placed_runner t f up down =
+      let low = start_up in
+      record {
+        branch = s.runner.branch;
+        stretch = stretch_by run.problem run.mark t s.runner.stretch.fits f up;
+        mark_in = s.runner.mark_in;
+        position_in = record {
+          begun = before_not run.problem t (first_of run.branch.lo) f (omega arith);
+          not_past = before_not run.problem (end_of run.branch.hi) t last_fits down;
+        };
+      }
+
   -- one step on, where it isn't at the end
   next_runner : 0 < steps_ahead run → IsRunner (record run { position = next run.problem run.position })
   next_runner some =
-      let fits = here_fits in
-      let up = before_end in
-      let on = before_goes_on run.problem run.position (end_of run.branch.hi) fits last_fits up in
-      let f = fits_next run.problem run.position fits in
-      let a = rank_next run.problem run.position fits on in
-      let b = not_before run.problem run.position (first_of run.branch.lo) fits start_fits s.runner.position_in.begun in
-      let c = next_before run.problem run.position (end_of run.branch.hi) fits last_fits up in
-      let m = reached_rank run.problem run.mark run.position _ s.runner.stretch.fits s.runner.stretch.reaches in
-      let d = steps_between_next run.problem run.mark run.position s.runner.stretch.fits fits m on in
-      record {
-        branch = s.runner.branch;
-        stretch = record {
-          fits = s.runner.stretch.fits;
-          reaches = subst (ReachesIn run.problem run.mark (next run.problem run.position)) (sym d)
-              (leads_push run.problem run.mark run.position _ s.runner.stretch.reaches on);
-        };
-        mark_in = s.runner.mark_in;
-        position_in = record {
-          begun = before_not run.problem (next run.problem run.position) (first_of run.branch.lo) f (omega arith);
-          not_past = before_not run.problem (end_of run.branch.hi) (next run.problem run.position) last_fits c;
-        };
-      }
+      let on = before_goes_on run.problem run.position (end_of run.branch.hi) here_fits last_fits before_end in
+      let one = rank_next run.problem run.position here_fits on in
+      let up = mark_up in
+      placed_runner (next run.problem run.position) (fits_next run.problem run.position here_fits) (omega arith)
+      (next_before run.problem run.position (end_of run.branch.hi) here_fits last_fits before_end)
     where
       before_end : rank run.problem run.position < rank run.problem (end_of run.branch.hi)
       before_end = by (cases_lt (rank run.problem run.position) (rank run.problem (end_of run.branch.hi)))
@@ -177,24 +181,14 @@ module _ (u : AtWork) (s : IsSoundWork u) where
   -- so many steps after the mark, no more than there are
   back_runner : (n : ℕ) → n ≤ unposted_steps run → IsRunner (record run { position = after run.problem n run.mark })
   back_runner n l =
-      let t = after run.problem n run.mark in
       let k = s.runner in
+      let t = after run.problem n run.mark in
       let fits = after_fits run.problem n run.mark k.stretch.fits in
       let way : ReachesIn run.problem run.mark t n = record { ends = refl; goes_on = λ i m. k.stretch.reaches.goes_on i (omega arith) } in
       let rest : ReachesIn run.problem t run.position (unposted_steps run - n) = record { ends = ends; goes_on = on } in
-      let up = reached_rank run.problem run.mark t n k.stretch.fits way in
       let down = reached_rank run.problem t run.position (unposted_steps run - n) fits rest in
-      let low = not_before run.problem run.mark (first_of run.branch.lo) k.stretch.fits start_fits k.mark_in.begun in
       let high = not_before run.problem (end_of run.branch.hi) run.position last_fits here_fits k.position_in.not_past in
-      record {
-        branch = k.branch;
-        stretch = stretch_by run.problem run.mark t k.stretch.fits fits (omega arith);
-        mark_in = k.mark_in;
-        position_in = record {
-          begun = before_not run.problem t (first_of run.branch.lo) fits (omega arith);
-          not_past = before_not run.problem (end_of run.branch.hi) t last_fits (omega arith);
-        };
-      }
+      placed_runner t fits (reached_rank run.problem run.mark t n k.stretch.fits way) (omega arith)
     where
       whole : (unposted_steps run - n) + n ≡ unposted_steps run
       whole = omega arith
@@ -218,8 +212,8 @@ module _ (u : AtWork) (s : IsSoundWork u) where
       → IsRunner (record run { branch = record { lo = run.branch.lo; hi = Some cut } })
   ended_runner cut same fits up =
       let k = s.runner in
-      let low = not_before run.problem run.mark (first_of run.branch.lo) k.stretch.fits start_fits k.mark_in.begun in
-      let mark = reached_rank run.problem run.mark run.position _ k.stretch.fits k.stretch.reaches in
+      let low = start_up in
+      let mark = mark_up in
       record {
         branch = record {
           low = k.branch.low;
@@ -262,33 +256,18 @@ module _ (u : AtWork) (s : IsSoundWork u) where
 
 -- ---- steps on
 
--- room is made where the search stands
-pub record IsThere (r q : RunnerValue) : Type 0 where
-  pub problem : q.problem ≡ r.problem
-  pub branch : q.branch ≡ r.branch
-  pub position : q.position ≡ r.position
-
-pub room_there : (u : AtWork) → IsThere u.worker.runner (with_room u).worker.runner
-unfolding posted
-room_there u = by (unposted_steps u.worker.runner == most_steps)
-  where
-    by : (b : Bool) → IsThere u.worker.runner (cond b (posted u) u).worker.runner
-    by true = record { problem = refl; branch = refl; position = refl }
-    by false = record { problem = refl; branch = refl; position = refl }
-
-pub stepped_sound : (u : AtWork) → IsSoundWork u → 0 < steps_ahead u.worker.runner → IsSoundWork (stepped u)
+stepped_sound : (u : AtWork) → IsSoundWork u → 0 < steps_ahead u.worker.runner → IsSoundWork (stepped u)
 unfolding stepped
 stepped_sound u s some =
     let q = room_sound u s in
-    let t = room_there u in
-    let ahead : steps_ahead u.worker.runner ≡ steps_ahead (with_room u).worker.runner =
-    (λ j. steps_between (sym t.problem j) (sym t.position j) (end_of (sym t.branch j).hi)) in
-    let k = next_runner (with_room u) q (omega arith) in
-    let here : next (with_room u).worker.runner.problem (with_room u).worker.runner.position
+    let ahead : steps_ahead (with_room u).worker.runner ≡ steps_ahead u.worker.runner =
+    ap (λ (x : WorkerValue). steps_ahead x.runner) (room_worker u) in
+    let there : next (with_room u).worker.runner.problem (with_room u).worker.runner.position
     ≡ next u.worker.runner.problem u.worker.runner.position =
-    ap₂ next t.problem t.position in
+    ap (λ (x : WorkerValue). next x.runner.problem x.runner.position) (room_worker u) in
     moved_sound (with_room u) q (next u.worker.runner.problem u.worker.runner.position)
-    (subst (λ (x : StateValue). IsRunner (record (with_room u).worker.runner { position = x })) here k)
+    (subst (λ (x : StateValue). IsRunner (record (with_room u).worker.runner { position = x })) there
+    (next_runner (with_room u) q (omega arith)))
 
 pub forward_sound : (u : AtWork) → IsSoundWork u → (n : ℕ) → n ≤ steps_ahead u.worker.runner → IsSoundWork (forward n u)
 forward_sound u s zero l = s

@@ -11,7 +11,7 @@ LONG = pentominoes-15x4 pentominoes-12x5 pentominoes-10x6 pentominoes-8x8-withou
 	solid-pentominoes-2x5x6 solid-pentominoes-3x4x5
 LONG_COVERS = pent-10x6 langford-12
 
-.PHONY: all build ci layout wrong-bodies bench gallery gallery-long check-docs check-edits check-ownership check-tools check-words check-statuses install
+.PHONY: all build ci layout wrong-bodies bench gallery gallery-long check-docs check-edits check-ownership check-tools check-words check-statuses check-growths install
 
 all: check-edits check-ownership build gallery check-tools check-docs check-words check-statuses
 
@@ -63,6 +63,10 @@ check-tools: build
 # The man page and the completions name the jobs and options that the program's help names.
 check-words: build
 	@tools/check_words
+
+# Two workers with each growth refused in turn: they end. Some minutes.
+check-growths: build
+	@tools/check_growths
 
 # Each exit status, by a run of the program itself.
 check-statuses: build

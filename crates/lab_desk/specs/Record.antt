@@ -1,5 +1,5 @@
 -- What a seat notes of its calls.
-use Rattle.std.specs.Prelude.{◌≡◌, ℕ, ◌+◌, ◌==◌, ◌⊎◌, Bool, List, [], ◌∷◌, ◌++◌, cond}
+use Rattle.std.specs.Prelude.{◌≡◌, ℕ, ◌+◌, ◌==◌, ◌⊎◌, List, [], ◌∷◌, ◌++◌, cond}
 use Rattle.lab_book.specs.declared.entry.Call.{Call}
 use Rattle.lab_book.specs.declared.entry.Reply.{Reply}
 use Rattle.lab_book.specs.declared.entry.Reply.TheVariants as reply
@@ -12,10 +12,12 @@ use Rattle.lab_desk.specs.declared.seat.Noted.{Noted}
 abbrev pub noted : ℕ → Entry → Noted
 noted i e = record { index = i; entry = e }
 
--- a seat: its number, and the notes of the calls made there
+-- a seat: its number, the notes of the calls made there, and for how many more room is kept: one for each lease that the seat
+-- was given and has not ended
 pub record SeatValue : Type 0 where
   pub number : ℕ
   pub notes : List Noted
+  pub kept : ℕ
 
 -- notes, and for how many more room is kept
 pub record SheetValue : Type 0 where

@@ -8,9 +8,9 @@ use Rattle.lab_desk.specs.Record.{SeatValue, notes_of}
 pub record DeskValue : Type 0 where
   pub seats : ℕ
 
--- seats as a desk makes them: each has its place's number, and no note
+-- seats as a desk makes them: each has its place's number, no note, and no room kept
 abbrev pub AreNewSeats : List SeatValue → Type 0
-AreNewSeats seats = (k : ℕ) (s : SeatValue) → slice_get seats k ≡ Some s → s ≡ record { number = k; notes = [] }
+AreNewSeats seats = (k : ℕ) (s : SeatValue) → slice_get seats k ≡ Some s → s ≡ record { number = k; notes = []; kept = 0 }
 
 -- how many of these seats have a number
 abbrev pub seats_of : ℕ → List SeatValue → ℕ

@@ -1,5 +1,5 @@
 //! A desk: a book under one lock, which each worker calls from a seat of its own.
-ghost use Rattle.std.specs.Prelude.{◌≡◌, ◌<◌, ◌≤◌, ◌+◌, [], ◌∷◌, ◌++◌, IfOk, IfErr, OnErr, OnOk, IfSome, vec_len, vec_capacity, length, drop, take, true, List};
+ghost use Rattle.std.specs.Prelude.{◌≡◌, ◌<◌, ◌≤◌, ◌+◌, ◌-◌, [], ◌∷◌, ◌++◌, IfOk, IfErr, OnErr, OnOk, IfSome, MatchOption, vec_len, vec_capacity, length, drop, take, true, List};
 ghost use Rattle.cover_problem.specs.Problem.{ProblemValue, is_same};
 ghost use Rattle.x_steps.specs.StateValue.{StateValue};
 ghost use Rattle.x_steps.specs.StateView.{state_value};
@@ -154,6 +154,8 @@ impl<'p, L: Desking> Desk<'p, L> {
             NotesRefusal seat.old.notes seat.new.notes seat.old.number (calls.Lease id) f) }
         ensures can_start { IfOk result (λ r. CanStart L.whole r.branch (state_value r.mark)) }
         ensures worker { IfOk result (λ r. r.lease.worker ≡ seat.old.number) }
+        ensures room { OnOk result (seat.new.kept ≡ seat.old.kept + 1) }
+        ensures room_stays { OnErr result (seat.new.kept ≡ seat.old.kept) }
         ensures number { seat.new.number ≡ seat.old.number }
     {
         self.lock.lock(rt).lease(seat, id)
@@ -172,6 +174,9 @@ impl<'p, L: Desking> Desk<'p, L> {
         ensures can_start { IfOk result
             (λ r. IfSome r (λ l. CanStart L.whole l.branch (state_value l.mark))) }
         ensures worker { IfOk result (λ r. IfSome r (λ l. l.lease.worker ≡ seat.old.number)) }
+        ensures room { IfOk result (λ r. MatchOption r (seat.new.kept ≡ seat.old.kept)
+            (λ _. seat.new.kept ≡ seat.old.kept + 1)) }
+        ensures room_stays { OnErr result (seat.new.kept ≡ seat.old.kept) }
         ensures number { seat.new.number ≡ seat.old.number }
     {
         let mut locked = self.changed.wait_while(rt, self.lock.lock(rt), |locked| {
@@ -196,6 +201,7 @@ impl<'p, L: Desking> Desk<'p, L> {
             NotesRefusal seat.old.notes seat.new.notes seat.old.number
             (post_of L.whole lease.now stretch.entry) r.fault) }
         ensures given_back { IfErr result (λ r. r.given ≡ stretch.entry) }
+        ensures room { seat.new.kept ≡ seat.old.kept }
         ensures number { seat.new.number ≡ seat.old.number }
     {
         let same = stretch.problem().same(self.problem);
@@ -219,6 +225,7 @@ impl<'p, L: Desking> Desk<'p, L> {
             NotesRefusal seat.old.notes seat.new.notes seat.old.number
             (split_of L.whole lease.now cut.entry) r.fault) }
         ensures given_back { IfErr result (λ r. r.given ≡ cut.entry) }
+        ensures room { seat.new.kept ≡ seat.old.kept }
         ensures number { seat.new.number ≡ seat.old.number }
     {
         let same = cut.problem().same(self.problem);
@@ -240,6 +247,8 @@ impl<'p, L: Desking> Desk<'p, L> {
         ensures refused { IfErr result (λ r.
             NotesRefusal seat.old.notes seat.new.notes seat.old.number (calls.Park lease) r.fault) }
         ensures given_back { IfErr result (λ r. r.given ≡ lease) }
+        ensures room { OnOk result (seat.new.kept ≡ seat.old.kept - 1) }
+        ensures room_stays { OnErr result (seat.new.kept ≡ seat.old.kept) }
         ensures number { seat.new.number ≡ seat.old.number }
     {
         let done = self.lock.lock(rt).park(seat, lease);
@@ -262,6 +271,8 @@ impl<'p, L: Desking> Desk<'p, L> {
             NotesRefusal seat.old.notes seat.new.notes seat.old.number
             (calls.Abandon lease) r.fault) }
         ensures given_back { IfErr result (λ r. r.given ≡ lease) }
+        ensures room { OnOk result (seat.new.kept ≡ seat.old.kept - 1) }
+        ensures room_stays { OnErr result (seat.new.kept ≡ seat.old.kept) }
         ensures number { seat.new.number ≡ seat.old.number }
     {
         let done = self.lock.lock(rt).abandon(seat, lease);
@@ -283,6 +294,8 @@ impl<'p, L: Desking> Desk<'p, L> {
             NotesRefusal seat.old.notes seat.new.notes seat.old.number
             (calls.Close lease) r.fault) }
         ensures given_back { IfErr result (λ r. r.given ≡ lease) }
+        ensures room { OnOk result (seat.new.kept ≡ seat.old.kept - 1) }
+        ensures room_stays { OnErr result (seat.new.kept ≡ seat.old.kept) }
         ensures number { seat.new.number ≡ seat.old.number }
     {
         let done = self.lock.lock(rt).close(seat, lease);
@@ -304,6 +317,8 @@ impl<'p, L: Desking> Desk<'p, L> {
             NotesRefusal seat.old.notes seat.new.notes seat.old.number (calls.TakeHeld id) f) }
         ensures can_start { IfOk result (λ r. CanStart L.whole r.branch (state_value r.mark)) }
         ensures worker { IfOk result (λ r. r.lease.worker ≡ seat.old.number) }
+        ensures room { OnOk result (seat.new.kept ≡ seat.old.kept + 1) }
+        ensures room_stays { OnErr result (seat.new.kept ≡ seat.old.kept) }
         ensures number { seat.new.number ≡ seat.old.number }
     {
         self.lock.lock(rt).take_held(seat, id)
@@ -321,6 +336,7 @@ impl<'p, L: Desking> Desk<'p, L> {
             (calls.RequestStop id) replies.Done) }
         ensures refused { IfErr result (λ f.
             NotesRefusal seat.old.notes seat.new.notes seat.old.number (calls.RequestStop id) f) }
+        ensures room { seat.new.kept ≡ seat.old.kept }
         ensures number { seat.new.number ≡ seat.old.number }
     {
         self.lock.lock(rt).request_stop(seat, id)
@@ -340,6 +356,7 @@ impl<'p, L: Desking> Desk<'p, L> {
         ensures refused { IfErr result (λ f.
             NotesRefusal seat.old.notes seat.new.notes seat.old.number
             (calls.PutBack id (state_value state.now)) f) }
+        ensures room { seat.new.kept ≡ seat.old.kept }
         ensures number { seat.new.number ≡ seat.old.number }
     {
         self.lock.lock(rt).put_back(seat, id, state)
@@ -359,6 +376,7 @@ impl<'p, L: Desking> Desk<'p, L> {
         ensures refused { IfErr result (λ f.
             NotesRefusal seat.old.notes seat.new.notes seat.old.number
             (calls.Retract lease.now) f) }
+        ensures room { seat.new.kept ≡ seat.old.kept }
         ensures number { seat.new.number ≡ seat.old.number }
     {
         self.lock.lock(rt).retract(seat, lease)

@@ -1,7 +1,7 @@
 //! What lies under a desk's lock: each call of the book is counted, and noted at the seat that made
 //! it.
-ghost use Rattle.std.specs.Prelude.{◌≡◌, ◌≤◌, ◌<◌, ◌+◌, ◌↔◌, ◌++◌, ◌∷◌, ◌^◌, [], length, take, vec_len, vec_capacity, IsTrue};
-ghost use Rattle.std.specs.Prelude.{IfOk, IfErr, OnErr, OnOk, IfSome};
+ghost use Rattle.std.specs.Prelude.{◌≡◌, ◌≤◌, ◌<◌, ◌+◌, ◌-◌, ◌↔◌, ◌++◌, ◌∷◌, ◌^◌, [], length, take, vec_len, vec_capacity, IsTrue};
+ghost use Rattle.std.specs.Prelude.{IfOk, IfErr, OnErr, OnOk, IfSome, MatchOption};
 ghost use Rattle.cover_problem.specs.Problem.{is_same};
 ghost use Rattle.x_steps.specs.StateView.{state_value};
 ghost use Rattle.x_branches.specs.Refusals.{CanStart};
@@ -13,7 +13,7 @@ ghost use Rattle.lab_desk.specs.Record.{noted, Notes, NotesRefusal};
 use crate::desk::Desking;
 use crate::seat::{Noted, Seat};
 use crate::sheet::Sheet;
-use lab_book::{Book, BookFault, Entry, Lease, Leased, Posted};
+use lab_book::{Book, BookFault, Entry, Lease, Leased, Posted, Reply};
 use std::alloc::AllocError;
 use std::sync::ledger;
 use std::sync::ledger::{Ledger, Share};
@@ -67,6 +67,7 @@ fn note<L: Ledger>(
     ensures count { count.new.total ≡ count.old.total + 1 }
     ensures share { share.new.amount ≡ share.old.amount + 1 }
     ensures parts { share.new.parts ≡ share.old.parts }
+    ensures room { notes.new.kept ≡ notes.old.kept - 1 }
 {
     notes.add(Noted { index, entry });
     count.add(share, 1);
@@ -93,11 +94,30 @@ fn note_refusal<L: Ledger>(
     ensures count_kept { fault.now ≡ BookFault.OutOfMemory → count.new.total ≡ count.old.total }
     ensures share_kept { fault.now ≡ BookFault.OutOfMemory → share.new.amount ≡ share.old.amount }
     ensures parts { share.new.parts ≡ share.old.parts }
+    ensures room { notes.new.kept ≡ notes.old.kept - 1 }
 {
     if is_memory(fault) {
         notes.give_up();
     } else {
         note(notes, count, share, index, entry);
+    }
+}
+
+/// Keeps room for the entry of a call that gives a lease up. One that ends its lease has the room
+/// that was kept with it; one that will be refused gets room of its own, since what is kept is for
+/// the leases of the seat that are not ended.
+fn keep_for_end(notes: &mut Sheet, entry: &Entry) -> Result<(), AllocError>
+    ensures list { notes.new.list ≡ notes.old.list }
+    ensures some { OnOk result (0 < notes.new.kept) }
+    ensures ends { entry.now.reply ≡ replies.Done →
+        OnOk result (notes.new.kept - 1 ≡ notes.old.kept - 1) }
+    ensures refused { (f : BookFault) → entry.now.reply ≡ replies.Refused f →
+        OnOk result (notes.new.kept ≡ notes.old.kept + 1) }
+    ensures unchanged { OnErr result (notes.new ≡ notes.old) }
+{
+    match entry.reply() {
+        Reply::Refused(_) => notes.keep(1),
+        _ => notes.keep_one(),
     }
 }
 
@@ -110,6 +130,8 @@ impl<'p, L: Desking> Locked<'p, L> {
             NotesRefusal seat.old.notes seat.new.notes seat.old.number (calls.Lease id) f) }
         ensures can_start { IfOk result (λ r. CanStart L.whole r.branch (state_value r.mark)) }
         ensures worker { IfOk result (λ r. r.lease.worker ≡ seat.old.number) }
+        ensures room { OnOk result (seat.new.kept ≡ seat.old.kept + 1) }
+        ensures room_stays { OnErr result (seat.new.kept ≡ seat.old.kept) }
         ensures number { seat.new.number ≡ seat.old.number }
     {
         let Locked { book, count } = self;
@@ -122,10 +144,7 @@ impl<'p, L: Desking> Locked<'p, L> {
         let Ok(entry) = book.foretell_lease(*number, id) else {
             return Err(BookFault::OutOfMemory);
         };
-        if notes.keep().is_err() {
-            return Err(BookFault::OutOfMemory);
-        }
-        if notes.keep().is_err() {
+        if notes.keep(2).is_err() {
             return Err(BookFault::OutOfMemory);
         }
         match book.lease(*number, id) {
@@ -149,6 +168,9 @@ impl<'p, L: Desking> Locked<'p, L> {
         ensures can_start { IfOk result
             (λ r. IfSome r (λ l. CanStart L.whole l.branch (state_value l.mark))) }
         ensures worker { IfOk result (λ r. IfSome r (λ l. l.lease.worker ≡ seat.old.number)) }
+        ensures room { IfOk result (λ r. MatchOption r (seat.new.kept ≡ seat.old.kept)
+            (λ _. seat.new.kept ≡ seat.old.kept + 1)) }
+        ensures room_stays { OnErr result (seat.new.kept ≡ seat.old.kept) }
         ensures number { seat.new.number ≡ seat.old.number }
     {
         let Locked { book, count } = self;
@@ -159,10 +181,16 @@ impl<'p, L: Desking> Locked<'p, L> {
         } = seat;
         let index = book.history().len() as u64;
         let entry = book.foretell_lease_any(*number)?;
-        notes.keep()?;
-        notes.keep()?;
-        let leased = book.lease_any(*number)?;
+        notes.keep(2)?;
+        let Ok(leased) = book.lease_any(*number) else {
+            notes.give_up();
+            notes.give_up();
+            return Err(AllocError);
+        };
         note(notes, count, share, index, entry);
+        if leased.is_none() {
+            notes.give_up();
+        }
         Ok(leased)
     }
 
@@ -183,6 +211,7 @@ impl<'p, L: Desking> Locked<'p, L> {
             NotesRefusal seat.old.notes seat.new.notes seat.old.number
             (post_of L.whole lease.now stretch.entry) r.fault) }
         ensures given_back { IfErr result (λ r. r.given ≡ stretch.entry) }
+        ensures room { seat.new.kept ≡ seat.old.kept }
         ensures number { seat.new.number ≡ seat.old.number }
     {
         let Locked { book, count } = self;
@@ -195,7 +224,7 @@ impl<'p, L: Desking> Locked<'p, L> {
         let Ok(entry) = book.foretell_post(lease, &stretch, same) else {
             return Err(out_of_memory(stretch));
         };
-        if notes.keep().is_err() {
+        if notes.keep(1).is_err() {
             return Err(out_of_memory(stretch));
         }
         match book.post_compared(lease, stretch, same) {
@@ -227,6 +256,7 @@ impl<'p, L: Desking> Locked<'p, L> {
             NotesRefusal seat.old.notes seat.new.notes seat.old.number
             (split_of L.whole lease.now cut.entry) r.fault) }
         ensures given_back { IfErr result (λ r. r.given ≡ cut.entry) }
+        ensures room { seat.new.kept ≡ seat.old.kept }
         ensures number { seat.new.number ≡ seat.old.number }
     {
         let Locked { book, count } = self;
@@ -239,7 +269,7 @@ impl<'p, L: Desking> Locked<'p, L> {
         let Ok(entry) = book.foretell_split(lease, &cut, same) else {
             return Err(out_of_memory(cut));
         };
-        if notes.keep().is_err() {
+        if notes.keep(1).is_err() {
             return Err(out_of_memory(cut));
         }
         match book.split_compared(lease, cut, same) {
@@ -266,6 +296,8 @@ impl<'p, L: Desking> Locked<'p, L> {
         ensures refused { IfErr result (λ r.
             NotesRefusal seat.old.notes seat.new.notes seat.old.number (calls.Park lease) r.fault) }
         ensures given_back { IfErr result (λ r. r.given ≡ lease) }
+        ensures room { OnOk result (seat.new.kept ≡ seat.old.kept - 1) }
+        ensures room_stays { OnErr result (seat.new.kept ≡ seat.old.kept) }
         ensures number { seat.new.number ≡ seat.old.number }
     {
         let Locked { book, count } = self;
@@ -278,7 +310,7 @@ impl<'p, L: Desking> Locked<'p, L> {
         let Ok(entry) = book.foretell_park(&lease) else {
             return Err(out_of_memory(lease));
         };
-        if notes.keep_one().is_err() {
+        if keep_for_end(notes, &entry).is_err() {
             return Err(out_of_memory(lease));
         }
         match book.park(lease) {
@@ -307,6 +339,8 @@ impl<'p, L: Desking> Locked<'p, L> {
             NotesRefusal seat.old.notes seat.new.notes seat.old.number
             (calls.Abandon lease) r.fault) }
         ensures given_back { IfErr result (λ r. r.given ≡ lease) }
+        ensures room { OnOk result (seat.new.kept ≡ seat.old.kept - 1) }
+        ensures room_stays { OnErr result (seat.new.kept ≡ seat.old.kept) }
         ensures number { seat.new.number ≡ seat.old.number }
     {
         let Locked { book, count } = self;
@@ -319,7 +353,7 @@ impl<'p, L: Desking> Locked<'p, L> {
         let Ok(entry) = book.foretell_abandon(&lease) else {
             return Err(out_of_memory(lease));
         };
-        if notes.keep_one().is_err() {
+        if keep_for_end(notes, &entry).is_err() {
             return Err(out_of_memory(lease));
         }
         match book.abandon(lease) {
@@ -347,6 +381,8 @@ impl<'p, L: Desking> Locked<'p, L> {
             NotesRefusal seat.old.notes seat.new.notes seat.old.number
             (calls.Close lease) r.fault) }
         ensures given_back { IfErr result (λ r. r.given ≡ lease) }
+        ensures room { OnOk result (seat.new.kept ≡ seat.old.kept - 1) }
+        ensures room_stays { OnErr result (seat.new.kept ≡ seat.old.kept) }
         ensures number { seat.new.number ≡ seat.old.number }
     {
         let Locked { book, count } = self;
@@ -359,7 +395,7 @@ impl<'p, L: Desking> Locked<'p, L> {
         let Ok(entry) = book.foretell_close(&lease) else {
             return Err(out_of_memory(lease));
         };
-        if notes.keep().is_err() {
+        if notes.keep(1).is_err() {
             return Err(out_of_memory(lease));
         }
         match book.close(lease) {
@@ -384,6 +420,8 @@ impl<'p, L: Desking> Locked<'p, L> {
             NotesRefusal seat.old.notes seat.new.notes seat.old.number (calls.TakeHeld id) f) }
         ensures can_start { IfOk result (λ r. CanStart L.whole r.branch (state_value r.mark)) }
         ensures worker { IfOk result (λ r. r.lease.worker ≡ seat.old.number) }
+        ensures room { OnOk result (seat.new.kept ≡ seat.old.kept + 1) }
+        ensures room_stays { OnErr result (seat.new.kept ≡ seat.old.kept) }
         ensures number { seat.new.number ≡ seat.old.number }
     {
         let Locked { book, count } = self;
@@ -396,10 +434,7 @@ impl<'p, L: Desking> Locked<'p, L> {
         let Ok(entry) = book.foretell_take_held(*number, id) else {
             return Err(BookFault::OutOfMemory);
         };
-        if notes.keep().is_err() {
-            return Err(BookFault::OutOfMemory);
-        }
-        if notes.keep().is_err() {
+        if notes.keep(2).is_err() {
             return Err(BookFault::OutOfMemory);
         }
         match book.take_held(*number, id) {
@@ -422,6 +457,7 @@ impl<'p, L: Desking> Locked<'p, L> {
             (calls.RequestStop id) replies.Done) }
         ensures refused { IfErr result (λ f.
             NotesRefusal seat.old.notes seat.new.notes seat.old.number (calls.RequestStop id) f) }
+        ensures room { seat.new.kept ≡ seat.old.kept }
         ensures number { seat.new.number ≡ seat.old.number }
     {
         let Locked { book, count } = self;
@@ -434,7 +470,7 @@ impl<'p, L: Desking> Locked<'p, L> {
         let Ok(entry) = book.foretell_request_stop(*number, id) else {
             return Err(BookFault::OutOfMemory);
         };
-        if notes.keep().is_err() {
+        if notes.keep(1).is_err() {
             return Err(BookFault::OutOfMemory);
         }
         match book.request_stop(*number, id) {
@@ -462,6 +498,7 @@ impl<'p, L: Desking> Locked<'p, L> {
         ensures refused { IfErr result (λ f.
             NotesRefusal seat.old.notes seat.new.notes seat.old.number
             (calls.PutBack id (state_value state.now)) f) }
+        ensures room { seat.new.kept ≡ seat.old.kept }
         ensures number { seat.new.number ≡ seat.old.number }
     {
         let Locked { book, count } = self;
@@ -474,7 +511,7 @@ impl<'p, L: Desking> Locked<'p, L> {
         let Ok(entry) = book.foretell_put_back(*number, id, state) else {
             return Err(BookFault::OutOfMemory);
         };
-        if notes.keep().is_err() {
+        if notes.keep(1).is_err() {
             return Err(BookFault::OutOfMemory);
         }
         match book.put_back(*number, id, state) {
@@ -502,6 +539,7 @@ impl<'p, L: Desking> Locked<'p, L> {
         ensures refused { IfErr result (λ f.
             NotesRefusal seat.old.notes seat.new.notes seat.old.number
             (calls.Retract lease.now) f) }
+        ensures room { seat.new.kept ≡ seat.old.kept }
         ensures number { seat.new.number ≡ seat.old.number }
     {
         let Locked { book, count } = self;
@@ -514,7 +552,7 @@ impl<'p, L: Desking> Locked<'p, L> {
         let Ok(entry) = book.foretell_retract(lease) else {
             return Err(BookFault::OutOfMemory);
         };
-        if notes.keep().is_err() {
+        if notes.keep(1).is_err() {
             return Err(BookFault::OutOfMemory);
         }
         match book.retract(lease) {

@@ -25,7 +25,7 @@ impl Noted {
 }
 
 /// A seat: its number, its notes, and its share of the desk's ledger, which counts the notes.
-/// Contracts see number and notes.
+/// Contracts see number and notes, and how many leases have room for the note of their end.
 #[derive(Drop)]
 pub struct Seat<L: Ledger> {
     pub(crate) number: u8,
@@ -41,7 +41,7 @@ impl<L: Ledger> Model for Seat<L> {
 
     ghost Value = { SeatValue };
 
-    ghost view = { λ s. record { number = s.number; notes = s.notes.list } };
+    ghost view = { λ s. record { number = s.number; notes = s.notes.list; kept = s.notes.kept } };
 }
 
 /// Whether these are the entries of a worker, with their indexes, from an index on; false tells
@@ -71,7 +71,7 @@ impl<L: Ledger> Seat<L> {
     pub(crate) fn new(alloc: Global, number: u8, share: Share<L>) -> Seat<L>
         requires share { (share.parts ≡ 1) × (share.amount ≡ 0) }
         requires few { number ≤ 31 }
-        ensures { result ≡ record { number = number; notes = [] } }
+        ensures { result ≡ record { number = number; notes = []; kept = 0 } }
     {
         Seat {
             number,

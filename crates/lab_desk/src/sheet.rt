@@ -41,13 +41,14 @@ impl Sheet {
         &self.list
     }
 
-    /// Keeps room for one note more. Where memory runs out, nothing changes.
-    pub fn keep(&mut self) -> Result<(), AllocError>
-        ensures kept { OnOk result (self.new ≡ record self.old { kept = self.old.kept + 1 }) }
+    /// Keeps room for so many notes more. Where memory runs out, nothing changes.
+    pub fn keep(&mut self, count: usize) -> Result<(), AllocError>
+        requires { count ≤ 2 }
+        ensures kept { OnOk result (self.new ≡ record self.old { kept = self.old.kept + count }) }
         ensures unchanged { OnErr result (self.new ≡ self.old) }
     {
-        self.list.reserve(self.kept + 1)?;
-        self.kept += 1;
+        self.list.reserve(self.kept + count)?;
+        self.kept += count;
         Ok(())
     }
 
@@ -55,12 +56,13 @@ impl Sheet {
     pub fn keep_one(&mut self) -> Result<(), AllocError>
         ensures list { self.new.list ≡ self.old.list }
         ensures some { OnOk result (0 < self.new.kept) }
+        ensures one { OnOk result (self.new.kept - 1 ≡ self.old.kept - 1) }
         ensures unchanged { OnErr result (self.new ≡ self.old) }
     {
         if self.kept > 0 {
             return Ok(());
         }
-        self.keep()
+        self.keep(1)
     }
 
     /// Gives the room for one note up, if some is kept.

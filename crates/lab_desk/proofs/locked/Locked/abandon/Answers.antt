@@ -1,5 +1,7 @@
-use Rattle.std.proofs.Common.{rules, ◌≡◌, ◌++◌, ◌∷◌, []}
-use Rattle.lab_desk.proofs.Refusals.{told}
+use Rattle.std.proofs.Common.{rules, ◌≡◌}
+use Rattle.std.specs.Prelude.{false, is_err}
+use Rattle.lab_book.specs.declared.entry.Call.TheVariants as calls
+use Rattle.lab_desk.proofs.Refusals.{told, room_stays, abandon_is}
 use Rattle.lab_desk.proofs.locked.Locked.abandon.Goals as goal
 use Rattle.lab_desk.proofs.locked.Locked.abandon.Goals.{in-Ok-abandon, in-Err}
 
@@ -7,4 +9,12 @@ pub returns-clause-noted : goal.returns-clause-noted
 returns-clause-noted g c = elim c.match-abandon.branch [
   | in-Ok-abandon w ↦ rw (w.result-is, w.seat-inside-is, ← c.requires.worker, ← c.seat.view_is) (told _ _ _ _ _ _ _ _ _ _ c.in-Ok.ensures w.in-Ok-abandon.ensures.made (search rules) w.note.ensures.notes)
   | in-Err w ↦ rw w.result-is tt
+]
+
+pub returns-clause-room_stays : goal.returns-clause-room_stays
+returns-clause-room_stays g c = elim c.match-abandon.branch [
+  | in-Ok-abandon w ↦ rw w.result-is tt
+  | in-Err w ↦ rw (w.result-is, w.seat-inside-is, ← c.seat.view_is)
+      (let ok : is_err c.keep_for_end.result ≡ false = cc in
+      room_stays c.args.self.now.book c.args.lease (calls.Abandon c.args.lease) _ _ _ _ _ (abandon_is _ _) c.in-Ok.ensures (λ e. let never = w.in-Err.ensures.current e in cc) c.keep_for_end.ensures.refused ok w.note_refusal.ensures.room)
 ]

@@ -1,4 +1,4 @@
-use Rattle.std.proofs.Common.{rules, ◌≡◌, ◌++◌, ◌∷◌, [], ap, ◌∙◌}
+use Rattle.std.proofs.Common.{rules, ap, ◌∙◌}
 use Rattle.lab_desk.specs.Record.{SheetValue}
 use Rattle.lab_desk.proofs.Refusals.{told}
 use Rattle.lab_desk.proofs.locked.Locked.close.Goals as goal

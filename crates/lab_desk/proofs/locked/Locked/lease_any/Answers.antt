@@ -1,7 +1,12 @@
-use Rattle.std.proofs.Common.{rules, ◌≡◌, ◌++◌, ◌∷◌, []}
+use Rattle.std.proofs.Common.{rules, ap, ◌∙◌}
+use Rattle.lab_desk.specs.Record.{SheetValue}
 use Rattle.lab_desk.proofs.Refusals.{told}
 use Rattle.lab_desk.proofs.locked.Locked.lease_any.Goals as goal
+use Rattle.lab_desk.proofs.locked.Locked.lease_any.Goals.{then-is_none, else-is_none}
 
 pub returns-clause-noted : goal.returns-clause-noted
-returns-clause-noted g c =
-    rw (← c.seat.view_is) (told _ _ _ _ _ _ _ _ _ _ c.in_ok-entry.ensures c.in_ok-leased.ensures.made (search rules) c.note.ensures.notes)
+returns-clause-noted g c = elim c.if-is_none.branch [
+  | then-is_none w ↦ rw (w.seat-inside-is, ← c.seat.view_is) (told _ _ _ _ _ _ _ _ _ _ c.in_ok-entry.ensures c.in-Ok.ensures.made (search rules)
+      (ap (λ (s : SheetValue). s.list) w.give_up-then-is_none.ensures ∙ c.note.ensures.notes))
+  | else-is_none w ↦ rw (w.seat-inside-is, ← c.seat.view_is) (told _ _ _ _ _ _ _ _ _ _ c.in_ok-entry.ensures c.in-Ok.ensures.made (search rules) c.note.ensures.notes)
+]

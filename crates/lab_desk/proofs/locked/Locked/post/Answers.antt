@@ -1,4 +1,4 @@
-use Rattle.std.proofs.Common.{rules, ◌≡◌, ◌++◌, ◌∷◌, [], length, arith}
+use Rattle.std.proofs.Common.{rules}
 use Rattle.lab_desk.proofs.Refusals.{counts, opens, told}
 use Rattle.lab_desk.proofs.locked.Locked.post.Goals as goal
 use Rattle.lab_desk.proofs.locked.Locked.post.Goals.{in-Ok-post_compared, in-Err}

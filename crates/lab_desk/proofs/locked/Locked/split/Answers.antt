@@ -1,4 +1,4 @@
-use Rattle.std.proofs.Common.{rules, ◌≡◌, ◌++◌, ◌∷◌, []}
+use Rattle.std.proofs.Common.{rules}
 use Rattle.lab_desk.proofs.Refusals.{told}
 use Rattle.lab_desk.proofs.locked.Locked.split.Goals as goal
 use Rattle.lab_desk.proofs.locked.Locked.split.Goals.{in-Ok-split_compared, in-Err}

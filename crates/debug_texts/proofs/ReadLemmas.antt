@@ -1,7 +1,7 @@
 -- What the reader's loops find.
 use Rattle.std.proofs.Common.{◌≡◌, ℕ, ◌+◌, ◌-◌, ◌<◌, Bool, true, false, not, cond, List, [], ◌∷◌, ◌++◌, length, take, drop, Option, Some, None, refl, sym, ◌∙◌, ap, arith, one-add, append_assoc, append-nil}
 use Rattle.std.proofs.Math.Seq.{take-length}
-use Rattle.std.specs.Prelude.{option_map}
+use Rattle.std.specs.Prelude.{is_some, option_map}
 use Rattle.std.specs.List.{onto_first, slice_split, position_or_len}
 use Rattle.debug_texts.specs.Reading.{number_in, numbers_from, is_comma}
 
@@ -29,6 +29,28 @@ module _ (old : List ℕ) (words : List (List ℕ)) (all : Option (List ℕ)) (s
   pub numbers_end : words ≡ [] → all ≡ Some old
   unfolding numbers_from
   numbers_end e = sym so_far ∙ rw e (rw append-nil refl)
+
+-- *a loop with words to go, where `all` tells whether all words are numbers*
+
+module _ (words : List (List ℕ)) (all : Bool) (so_far : is_some (numbers_from words) ≡ all) where
+  -- one number more
+  pub number_goes : (word : List ℕ) (more : List (List ℕ)) (n : ℕ) → words ≡ word ∷ more → number_in word ≡ Some n → is_some (numbers_from more) ≡ all
+  unfolding numbers_from
+  number_goes word more n e is = same (numbers_from more) ∙ rw (e, is) at so_far
+    where
+      same : (rest : Option (List ℕ)) → is_some rest ≡ is_some (option_map (λ ns. n ∷ ns) rest)
+      same None = refl
+      same (Some ns) = refl
+
+  -- a word that is none
+  pub number_stops : (word : List ℕ) (more : List (List ℕ)) → words ≡ word ∷ more → number_in word ≡ None → all ≡ false
+  unfolding numbers_from
+  number_stops word more e none = sym so_far ∙ rw (e, none) refl
+
+  -- no more words
+  pub number_ends : words ≡ [] → all ≡ true
+  unfolding numbers_from
+  number_ends e = sym so_far ∙ rw e refl
 
 -- *what stands between commas*
 

@@ -5,8 +5,8 @@
 --
 -- Example: `split 0 4` asks to split at level 0 and option 4; `split 0`, `split 0 04` and `# split` are no commands.
 -- proofs/ReadingExamples.antt computes it.
-use Rattle.std.specs.Prelude.{ℕ, ◌≡◌, ◌==◌, nat_le, Bool, ◌&&◌, if◌then◌else◌, List, [], ◌∷◌, codes, Option, Some, option_map}
-use Rattle.std.specs.Prelude.{option_and_then}
+use Rattle.std.specs.Prelude.{ℕ, ◌≡◌, ◌==◌, nat_le, Bool, true, ◌&&◌, if◌then◌else◌, List, [], ◌∷◌, codes, Option, Some, option_map}
+use Rattle.std.specs.Prelude.{is_some, option_and_then}
 use Rattle.std.specs.Prelude as prelude
 use Rattle.std.specs.List.{slice_split}
 use Rattle.std.specs.Result.{result_ok}
@@ -141,11 +141,11 @@ command_from p (key ∷ words) = if is_empty words then lone_command key else lo
 abbrev pub command_of : ProblemValue → List ℕ → Option CommandValue
 command_of p line = command_from p (words_of (without_return line))
 
--- the line is no command, unless memory ran out
+-- the line is no command; or it is one, and memory ran out
 abbrev pub IsNoCommand : ProblemValue → List ℕ → Refusal DebugFault → Type 0
 IsNoCommand p line (refusals.Fault BadCommand) = command_of p line ≡ prelude.None
 IsNoCommand p line (refusals.Fault _) = ⊥
-IsNoCommand p line refusals.OutOfMemory = Unit {0}
+IsNoCommand p line refusals.OutOfMemory = is_some (command_of p line) ≡ true
 
 -- *the engine's own commands*
 

@@ -105,8 +105,9 @@ fn is_cut(cut: &Option<Cut<'_>>)
 }
 
 impl<'p> Book<'p> {
-    /// The book of a branch whose one tile waits at a state.
-    fn new_book(
+    /// The book of a branch that goes on from a state in it, where a search is known to be able to start: one tile, which waits
+    /// there. No path is walked.
+    pub fn started(
         alloc: Global,
         problem: &'p Problem,
         branch: &Branch<'p>,
@@ -141,7 +142,7 @@ impl<'p> Book<'p> {
             path: Vec::new(alloc),
             cursor: Cursor::None,
         };
-        Book::new_book(alloc, problem, &branch, &state)
+        Book::started(alloc, problem, &branch, &state)
     }
 
     /// The book of a branch that goes on from a state in it: one tile, which waits there. Refused as a runner is that starts
@@ -164,7 +165,7 @@ impl<'p> Book<'p> {
                 given: (branch, state),
             });
         }
-        let Ok(book) = Book::new_book(alloc, problem, &branch, &state) else {
+        let Ok(book) = Book::started(alloc, problem, &branch, &state) else {
             return Err(Refused {
                 fault: StartFault::Runner(RunnerFault::OutOfMemory),
                 given: (branch, state),

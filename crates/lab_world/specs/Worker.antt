@@ -18,7 +18,7 @@ use Rattle.lab_book.specs.declared.entry.Reply.{Reply}
 use Rattle.lab_book.specs.declared.entry.Reply.TheVariants as reply
 use Rattle.lab_book.specs.Tile.{TileValue, mark_of, is_waiting, is_held}
 use Rattle.lab_book.specs.Tiling.{tile_at}
-use Rattle.lab_book.specs.Book.{BookValue, outcome, book_step, found, status_fault}
+use Rattle.lab_book.specs.Book.{BookValue, outcome, book_step, found, status_fault, first_waiting}
 use Rattle.lab_book.specs.declared.entry.Call.{Call}
 use Rattle.lab_book.specs.declared.entry.Call.TheVariants as call
 use Rattle.lab_book.specs.Calls.{Refuses}
@@ -91,6 +91,12 @@ split_at x level o g = call.Split g (with_choice x.runner.position level o) true
 -- a runner that stands at its mark
 abbrev pub runner_at : ProblemValue → Branch → StateValue → RunnerValue
 runner_at p b mark = record { problem = p; branch = b; mark = mark; position = mark }
+
+-- a runner that stands at the mark of the first tile that waits
+pub record StandsAtFirst (b : BookValue) (r : RunnerValue) : Type 0 where
+  pub place : ℕ
+  pub first : first_waiting b.tiles ≡ Some place
+  pub runner : r ≡ runner_at b.problem (tile_at b.tiles place).branch (mark_of (tile_at b.tiles place))
 
 -- a problem's cut, by its choices
 abbrev pub cut_of : ProblemValue → Option (List ℕ) → Option CutPath

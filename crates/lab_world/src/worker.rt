@@ -3,6 +3,7 @@ ghost use Rattle.std.specs.Prelude.{◌≡◌, ◌≤◌, ◌<◌, length, is_er
 ghost use Rattle.x_steps.specs.StateView.{state_value};
 ghost use Rattle.x_steps.specs.Steps.{next, event_of};
 ghost use Rattle.x_steps.specs.Before.{prev};
+ghost use Rattle.x_branches.specs.Runner.{IsRunner};
 ghost use Rattle.x_branches.specs.Refusals.{CanAdvance, AdvanceRefused};
 ghost use Rattle.lab_book.specs.Book.{BookValue};
 ghost use Rattle.lab_world.specs.Worker.{HoldsTile, moved_to};
@@ -18,7 +19,7 @@ use lab_book::{Grant, Lease};
 pub(crate) use leasing::Wanted;
 use std::marker::Model;
 use x_branches::{Runner, RunnerFault};
-use x_steps::Event;
+use x_steps::{Event, State};
 
 /// The lease of a tile and the runner that searches there. A worker that is let go discards its lease: the tile stays leased.
 pub struct Worker<'p, T: Table> {
@@ -54,6 +55,14 @@ impl<'p, T: Table> Worker<'p, T> {
         ensures { result.now ≡ self.now.runner }
     {
         &self.runner
+    }
+
+    /// Where it stands: in its branch or at its end, at its mark or after it.
+    pub fn state(&self) -> &State
+        ensures state { state_value result.now ≡ self.now.runner.position }
+        ensures runner { IsRunner self.now.runner }
+    {
+        self.runner.state()
     }
 
     /// Takes one step, as its runner does.

@@ -1,7 +1,10 @@
 //! Worlds: a book, and for each worker nothing or its lease with its runner.
-ghost use Rattle.std.specs.Prelude.{◌≡◌, ◌≤◌, ◌<◌, ℕ, All, None, length, take, replicate, option_map, vec_len, IfOk, IfErr, OnOk, OnErr};
+ghost use Rattle.std.specs.Prelude.{◌≡◌, ◌≤◌, ◌<◌, ℕ, All, None, length, take, replicate, option_map, vec_len, is_some};
+ghost use Rattle.std.specs.Prelude.{IfOk, IfErr, IfSome, OnOk, OnErr};
 ghost use Rattle.x_steps.specs.StateView.{state_value};
 ghost use Rattle.x_steps.specs.StateValue.{start};
+ghost use Rattle.x_steps.specs.Steps.{covered_in};
+ghost use Rattle.x_branches.specs.Runner.{IsRunner};
 ghost use Rattle.lab_book.specs.Book.{new_book, leased_in};
 ghost use Rattle.lab_world.specs.World.{WorldValue, world_step, played, world_replies, worker_at, fresh, IsSeat, state_of};
 
@@ -92,13 +95,28 @@ impl<'p, T: Table> World<'p, T> {
         self.workers.len() as u8
     }
 
-    /// Where a worker stands; None where it has no tile.
+    /// Where a worker stands, which is in its branch or at its end, at its mark or after it; None where it has no tile.
     pub fn state(&self, w: u8) -> Option<&State>
         requires { w < length self.now.workers }
-        ensures { option_map (λ s. state_value s.now) result ≡ state_of self.now w }
+        ensures state { option_map (λ s. state_value s.now) result ≡ state_of self.now w }
+        ensures runner { IfSome (worker_at self.now.workers w) (λ x. IsRunner x.runner) }
     {
         match &self.workers[w as usize] {
-            Some(worker) => Some(worker.runner().state()),
+            Some(worker) => Some(worker.state()),
+            None => None,
+        }
+    }
+
+    /// A worker's table, which stands for the items covered where it stands; None where it has no tile.
+    pub fn table(&self, w: u8) -> Option<&T>
+        requires { w < length self.now.workers }
+        ensures has { is_some result ≡ is_some (worker_at self.now.workers w) }
+        ensures same_problem { IfSome result (λ t. T.problem_value t.now ≡ self.now.book.problem) }
+        ensures covered { IfSome result (λ t. IfSome (worker_at self.now.workers w) (λ x.
+            T.covered_list t.now ≡ covered_in x.runner.problem x.runner.position)) }
+    {
+        match &self.workers[w as usize] {
+            Some(worker) => Some(worker.runner().table()),
             None => None,
         }
     }

@@ -1,6 +1,7 @@
 -- Whether a text says a snapshot, as tests: each decides what it stands for.
-use Rattle.std.proofs.Common.{◌≡◌, ◌↔◌, ◌⊎◌, ◌<◌, ◌&&◌, ℕ, Bool, not, true, false, nat_lt, inl, inr, List, [], ◌∷◌, length, Option, Some, option_map, Ok, Err, refl, sym, ap, ◌∙◌, true≢false}
+use Rattle.std.proofs.Common.{◌≡◌, ◌↔◌, ◌⊎◌, ◌<◌, ◌&&◌, ℕ, Bool, not, true, false, nat_lt, inl, inr, List, [], ◌∷◌, length, Option, Some, option_map, Result, Ok, Err, OnOk, refl, sym, ap, subst, ◌∙◌, true≢false}
 use Rattle.std.proofs.Common as common
+use Rattle.std.specs.Prelude.{IfErr}
 use Rattle.cover_problem.specs.Problem.{ProblemValue}
 use Rattle.cover_problem.specs.Path.{IsChoice, IsValidFrom, IsValid, taken}
 use Rattle.x_steps.specs.declared.state.Label.{Label}
@@ -20,7 +21,7 @@ use Rattle.x_snapshot.specs.Snapshot.{SnapshotValue, IsSnapshot, IsCutIfAny, IsO
 use Rattle.x_snapshot.specs.Refusals.{IsPositionRefused}
 use Rattle.x_snapshot.specs.Reading.{parts_of}
 use Rattle.x_snapshot.specs.ReadRefusals.{IsReadRefused, IsFaultOfText}
-use Rattle.x_snapshot.specs.Judged.{is_choice, is_valid_from, is_valid, is_none, is_fit, is_fit_at, is_cut_if_any, is_on_run, is_inside, judged, snapshot_of}
+use Rattle.x_snapshot.specs.Judged.{is_choice, is_valid_from, is_valid, is_none, is_fit, is_fit_at, is_cut_if_any, is_on_run, is_inside, judged_parts, judged, snapshot_of}
 
 -- a test is true where two hold, and only there
 both : {A B : Type 0} {a b : Bool} → (a ≡ true ↔ A) → (b ≡ true ↔ B) → ((a && b) ≡ true) ↔ (A × B)
@@ -154,7 +155,7 @@ pub read_judged : (text : List ℕ) (v : SnapshotValue) → parts_of text ≡ Ok
 read_judged text v e s = rw (e, (on_run_decides v).1 s.on_run, (inside_decides v s.on_run).1 s.inside) refl
 
 -- what is said may be on no run, or outside the branch
-position_refused : (v : SnapshotValue) (f : SnapshotFault) → IsPositionRefused v.problem v.lo v.hi v.state f → (f ≡ OutOfMemory → ⊥) → judged (Ok v) ≡ Err f
+pub position_refused : (v : SnapshotValue) (f : SnapshotFault) → IsPositionRefused v.problem v.lo v.hi v.state f → (f ≡ OutOfMemory → ⊥) → judged (Ok v) ≡ Err f
 position_refused v NotOnRun r n = rw (neither (is_on_run v) (on_run_decides v) r) refl
 position_refused v OutsideBranch r n = rw ((on_run_decides v).1 r.0, neither (is_inside v) (inside_decides v r.0) r.1) refl
 position_refused v OutOfMemory r n = absurd (n refl)
@@ -166,6 +167,25 @@ position_refused v Truncated r n = absurd r
 position_refused v TrailingBytes r n = absurd r
 position_refused v Spelling r n = absurd r
 position_refused v BadBreak r n = absurd r
+
+-- the same of a call that judges on a problem which is the same
+module _ {X : Type 0} (r : Result X SnapshotFault) (p : ProblemValue) (v : SnapshotValue) (same : p ≡ v.problem) where
+  pub judged_sound : OnOk r (IsOnRun p v.lo v.hi v.state) → OnOk r (IsInside p v.lo v.hi v.state) → OnOk r (judged_parts v ≡ Ok v)
+  judged_sound = by r
+    where
+      by : (r : Result X SnapshotFault) → OnOk r (IsOnRun p v.lo v.hi v.state) → OnOk r (IsInside p v.lo v.hi v.state) → OnOk r (judged_parts v ≡ Ok v)
+      by (Ok x) on within =
+          let there : IsOnRun v.problem v.lo v.hi v.state = subst (λ (q : ProblemValue). IsOnRun q v.lo v.hi v.state) same on in
+          let inside : IsInside v.problem v.lo v.hi v.state = subst (λ (q : ProblemValue). IsInside q v.lo v.hi v.state) same within in
+          rw ((on_run_decides v).1 there, (inside_decides v there).1 inside) refl
+      by (Err e) on within = tt
+
+  pub judged_fault : IfErr r (λ f. IsPositionRefused p v.lo v.hi v.state f) → IfErr r (λ f. (f ≡ OutOfMemory → ⊥) → judged_parts v ≡ Err f)
+  judged_fault = by r
+    where
+      by : (r : Result X SnapshotFault) → IfErr r (λ f. IsPositionRefused p v.lo v.hi v.state f) → IfErr r (λ f. (f ≡ OutOfMemory → ⊥) → judged_parts v ≡ Err f)
+      by (Ok x) h = tt
+      by (Err f) h = position_refused v f (subst (λ (q : ProblemValue). IsPositionRefused q v.lo v.hi v.state f) same h)
 
 of_text : (text : List ℕ) (f : SnapshotFault) → IsFaultOfText text f → (f ≡ OutOfMemory → ⊥) → snapshot_of text ≡ Err f
 of_text text f (inl e) n = rw e refl

@@ -1,6 +1,7 @@
 pub mod PositionLemmas
 pub mod BreakLemmas
 pub mod WriterLemmas
+pub mod ChoiceLemmas
 pub mod ReadLemmas
 pub mod BackLemmas
 pub mod ProblemBack

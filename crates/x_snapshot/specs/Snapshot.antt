@@ -12,7 +12,7 @@ use Rattle.x_steps.specs.StateView.{state_value}
 use Rattle.x_steps.specs.Steps.{Fits}
 use Rattle.x_branches.specs.declared.branch.Branch.{Branch}
 use Rattle.x_branches.specs.Cut.{CutPath, IsCut}
-use Rattle.x_branches.specs.Runner.{IsBranch, IsWithin}
+use Rattle.x_branches.specs.Runner.{RunnerValue, IsBranch, IsWithin}
 use Rattle.x_snapshot.specs.declared.breakpoint.Break.{Break}
 use Rattle.x_snapshot.specs.Breaks.{are_breaks}
 
@@ -48,6 +48,10 @@ path_in p path = record { problem = p; path = path }
 -- the branch between two cuts of a problem's run
 abbrev pub branch_between : ProblemValue → Option (List ℕ) → Option (List ℕ) → Branch
 branch_between p lo hi = record { lo = option_map (path_in p) lo; hi = option_map (path_in p) hi }
+
+-- the runner of a branch that stands at a state, which is its mark too
+abbrev pub started : ProblemValue → Branch → StateValue → RunnerValue
+started p b s = record { problem = p; branch = b; mark = s; position = s }
 
 -- the cuts, if there are any, and the state are on the problem's run
 pub record IsOnRun (p : ProblemValue) (lo hi : Option (List ℕ)) (s : StateValue) : Type 0 where

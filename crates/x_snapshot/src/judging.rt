@@ -3,6 +3,7 @@ ghost use Rattle.std.specs.Prelude.{◌≡◌, [], option_map, IfOk, IfErr, OnOk
 ghost use Rattle.x_steps.specs.StateView.{state_value};
 ghost use Rattle.x_branches.specs.Refusals.{CanStart};
 ghost use Rattle.x_snapshot.specs.Snapshot.{IsCutIfAny, IsOnRun, IsInside, IsSnapshot, choices_of, path_in, parts_value};
+ghost use Rattle.x_snapshot.specs.Snapshot.{branch_between, started};
 ghost use Rattle.x_snapshot.specs.Refusals.{cut_fault_of, start_fault_of, IsCutRefused, IsStartRefused, IsPositionRefused, IsRefused};
 
 use crate::breakpoint::{Break, check_breaks};
@@ -60,27 +61,50 @@ fn cut_of<'p, T: Table>(
     }
 }
 
-/// Whether a search can stand at a state of a branch.
-fn check_state<'p, T: Table>(
+/// The runner of a branch at a state.
+fn start_at<'p, T: Table>(
     alloc: Global,
     problem: &'p Problem,
     table: T,
     branch: Branch<'p>,
     state: &State,
-) -> Result<(), SnapshotFault>
+) -> Result<Runner<'p, T>, SnapshotFault>
     requires same_problem { T.problem_value table ≡ problem.now }
     requires covered { T.covered_list table ≡ [] }
+    ensures runner { IfOk result (λ r. r ≡ started problem.now branch.entry (state_value state.now)) }
     ensures can { OnOk result (CanStart problem.now branch.entry (state_value state.now)) }
     ensures refused { IfErr result (λ fault. IsStartRefused problem.now branch.entry (state_value state.now) fault) }
 {
     match Runner::new(alloc, problem, table, branch, state) {
-        Ok(_) => Ok(()),
+        Ok(runner) => Ok(runner),
         Err(refused) => Err(start_fault(refused.fault)),
     }
 }
 
+/// The runner at a state of the branch between two cuts, where cuts and state are on the run, and the state within the branch.
+/// Each of the three paths is walked once.
+pub fn runner_at<'p, T: Table>(
+    alloc: Global,
+    problem: &'p Problem,
+    lo: &Option<Vec<u32>>,
+    hi: &Option<Vec<u32>>,
+    state: &State,
+) -> Result<Runner<'p, T>, SnapshotFault>
+    ensures runner { IfOk result (λ r. r
+        ≡ started problem.now (branch_between problem.now (choices_of lo.now) (choices_of hi.now)) (state_value state.now)) }
+    ensures on_run { OnOk result (IsOnRun problem.now (choices_of lo.now) (choices_of hi.now) (state_value state.now)) }
+    ensures inside { OnOk result (IsInside problem.now (choices_of lo.now) (choices_of hi.now) (state_value state.now)) }
+    ensures refused { IfErr result (λ fault.
+        IsPositionRefused problem.now (choices_of lo.now) (choices_of hi.now) (state_value state.now) fault) }
+{
+    let table = T::new(alloc, problem)?;
+    let (table, lo) = cut_of(alloc, problem, table, lo)?;
+    let (table, hi) = cut_of(alloc, problem, table, hi)?;
+    start_at(alloc, problem, table, Branch { lo, hi }, state)
+}
+
 /// Whether cuts and a state are on the run, and the state within the branch between them.
-fn check_position(
+pub fn check_position(
     alloc: Global,
     problem: &Problem,
     lo: &Option<Vec<u32>>,
@@ -92,10 +116,10 @@ fn check_position(
     ensures refused { IfErr result (λ fault.
         IsPositionRefused problem.now (choices_of lo.now) (choices_of hi.now) (state_value state.now) fault) }
 {
-    let table = LinkTable::new(alloc, problem)?;
-    let (table, lo) = cut_of(alloc, problem, table, lo)?;
-    let (table, hi) = cut_of(alloc, problem, table, hi)?;
-    check_state(alloc, problem, table, Branch { lo, hi }, state)
+    match runner_at::<LinkTable>(alloc, problem, lo, hi, state) {
+        Ok(_) => Ok(()),
+        Err(fault) => Err(fault),
+    }
 }
 
 /// Whether these make a snapshot.

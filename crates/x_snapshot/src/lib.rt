@@ -2,6 +2,7 @@
 #![tactic(auto)]
 
 mod breakpoint;
+mod draft;
 mod fault;
 mod judging;
 pub mod laws;
@@ -10,7 +11,8 @@ mod snapshot;
 mod writing;
 
 pub use breakpoint::Break;
+pub use draft::{Draft, read_draft};
 pub use fault::SnapshotFault;
-pub use reading::{break_from, only_word, option_number, read_snapshot, state_from};
+pub use reading::{break_from, is_state, only_word, option_number, read_snapshot, state_from};
 pub use snapshot::{Snapshot, SnapshotParts};
 pub use writing::{write_break, write_cut, write_snapshot, write_state};

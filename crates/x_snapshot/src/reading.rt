@@ -24,7 +24,7 @@ use cover_problem::Problem;
 pub use lines::{only_word, option_number};
 use lines::{are_digits, keyed};
 use position::position_in;
-pub use position::state_from;
+pub use position::{is_state, state_from};
 use problem::problem_in;
 use std::alloc::Global;
 use text_lines::{Refusal, has_words};
@@ -126,7 +126,7 @@ fn parts_after(alloc: Global, version: u8, problem: &Problem, text: &[u8]) -> Fo
 
 /// What a text says. Whether it is on the run is not judged.
 #[tactic(auto, unfolding(crate::specs::Reading::parts_of))]
-fn read_parts(alloc: Global, text: &[u8]) -> Found<SnapshotParts>
+pub fn read_parts(alloc: Global, text: &[u8]) -> Found<SnapshotParts>
     ensures { Gives (λ v. parts_value v.0 v.1 v.2 v.3 v.4.items) result (parts_of text.now) }
 {
     let (version, rest) = version_in(text)?;
@@ -136,7 +136,7 @@ fn read_parts(alloc: Global, text: &[u8]) -> Found<SnapshotParts>
 }
 
 /// A refusal as a fault.
-fn fault_from(refusal: Refusal<SnapshotFault>) -> SnapshotFault
+pub fn fault_from(refusal: Refusal<SnapshotFault>) -> SnapshotFault
     ensures { result ≡ fault_from refusal }
 {
     match refusal {

@@ -1,5 +1,5 @@
 //! Numbers and cuts of a command line.
-ghost use Rattle.std.specs.Prelude.{◌≡◌, ◌≤◌, ◌∷◌, length, option_map, option_copied, IfOk};
+ghost use Rattle.std.specs.Prelude.{◌≡◌, ◌≤◌, ◌∷◌, true, length, is_some, option_map, option_copied, IfOk, OnErr};
 ghost use Rattle.std.specs.List.{slice_split, position_or_len};
 ghost use Rattle.std.specs.Str.{bytes_eq};
 ghost use Rattle.text_lines.specs.Lines.{words_of};
@@ -53,10 +53,28 @@ pub fn pair_from(words: &[u8]) -> Option<(u32, u32)>
     Some((one, two))
 }
 
+/// Whether words are numbers.
+fn are_numbers(words: &[u8]) -> bool
+    ensures { result ≡ is_some (spec.numbers_from (words_of words.now)) }
+{
+    let mut rest = words;
+    while let Some((word, after)) = split_word(rest) {
+        let Some(_) = number_in(word) else {
+            return false;
+        };
+        rest = after;
+    }
+    true
+}
+
 /// The numbers that words are.
 fn numbers_from(alloc: Global, words: &[u8]) -> Found<Vec<u32>>
-    ensures { IfOk result (λ numbers. choices_of numbers ≡ spec.numbers_from (words_of words.now)) }
+    ensures said { IfOk result (λ numbers. choices_of numbers ≡ spec.numbers_from (words_of words.now)) }
+    ensures memory { OnErr result (is_some (spec.numbers_from (words_of words.now)) ≡ true) }
 {
+    if !are_numbers(words) {
+        return Ok(None);
+    }
     let mut numbers = Vec::new(alloc);
     let mut rest = words;
     while let Some((word, after)) = split_word(rest) {
@@ -72,7 +90,8 @@ fn numbers_from(alloc: Global, words: &[u8]) -> Found<Vec<u32>>
 /// The cut of these words: `start` for none, or its choices.
 #[tactic(auto, unfolding(crate::specs::Reading::cut_from))]
 pub fn cut_from(alloc: Global, words: &[u8]) -> Found<Option<Vec<u32>>>
-    ensures { IfOk result (λ cut. option_map choices_of cut ≡ spec.cut_from (words_of words.now)) }
+    ensures said { IfOk result (λ cut. option_map choices_of cut ≡ spec.cut_from (words_of words.now)) }
+    ensures memory { OnErr result (is_some (spec.cut_from (words_of words.now)) ≡ true) }
 {
     let Some((word, rest)) = split_word(words) else {
         return Ok(None);
@@ -105,10 +124,29 @@ fn split_part(word: &[u8]) -> (&[u8], Option<&[u8]>)
     }
 }
 
+/// Whether numbers stand between the commas of a word.
+fn are_joined(word: &[u8]) -> bool
+    ensures { result ≡ is_some (spec.numbers_from (slice_split is_comma word.now)) }
+{
+    let mut rest = Some(word);
+    while let Some(text) = rest {
+        let (part, after) = split_part(text);
+        let Some(_) = number_in(part) else {
+            return false;
+        };
+        rest = after;
+    }
+    true
+}
+
 /// The numbers that stand between the commas of a word.
 fn joined_numbers(alloc: Global, word: &[u8]) -> Found<Vec<u32>>
-    ensures { IfOk result (λ numbers. choices_of numbers ≡ spec.numbers_from (slice_split is_comma word.now)) }
+    ensures said { IfOk result (λ numbers. choices_of numbers ≡ spec.numbers_from (slice_split is_comma word.now)) }
+    ensures memory { OnErr result (is_some (spec.numbers_from (slice_split is_comma word.now)) ≡ true) }
 {
+    if !are_joined(word) {
+        return Ok(None);
+    }
     let mut numbers = Vec::new(alloc);
     let mut rest = Some(word);
     while let Some(text) = rest {
@@ -125,7 +163,8 @@ fn joined_numbers(alloc: Global, word: &[u8]) -> Found<Vec<u32>>
 /// The cut of a word: `start` for none, or its choices with commas between them.
 #[tactic(auto, unfolding(crate::specs::Reading::joined_cut))]
 pub fn joined_cut(alloc: Global, word: &[u8]) -> Found<Option<Vec<u32>>>
-    ensures { IfOk result (λ cut. option_map choices_of cut ≡ spec.joined_cut word.now) }
+    ensures said { IfOk result (λ cut. option_map choices_of cut ≡ spec.joined_cut word.now) }
+    ensures memory { OnErr result (is_some (spec.joined_cut word.now) ≡ true) }
 {
     if is_word(word, b"start") {
         return Ok(Some(None));

@@ -5,7 +5,7 @@ ghost use Rattle.lab_book.specs.Tiling.{tile_at, IsTiling};
 ghost use Rattle.lab_book.specs.Book.{book_step, first_waiting};
 ghost use Rattle.lab_book.specs.Calls.{Made, Refuses, leased_reply};
 ghost use Rattle.lab_book.specs.declared.entry.Call.TheVariants as calls;
-ghost use Rattle.lab_world.specs.Worker.{HoldsTile, runner_at, leased_by, is_wanted, wanted_place, lease_call};
+ghost use Rattle.lab_world.specs.Worker.{HoldsTile, StandsAtFirst, runner_at, leased_by, is_wanted, wanted_place, lease_call};
 
 use crate::worker::Worker;
 use cover_problem::Table;
@@ -231,12 +231,31 @@ impl<'p, T: Table> Worker<'p, T> {
             return Ok(None);
         };
         let runner = runner_of(alloc, book, place)?;
+        let worker = Worker::lease_with(book, w, runner)?;
+        Ok(Some(worker))
+    }
+
+    /// Leases the first tile that waits, by a runner that stands at its mark: no table is made, and no path is walked. Out of memory,
+    /// the book is as it was.
+    pub fn lease_with(
+        book: &mut Book<'p>,
+        w: u8,
+        runner: Runner<'p, T>,
+    ) -> Result<Worker<'p, T>, AllocError>
+        requires small { w ≤ 31 }
+        requires first { StandsAtFirst book.old runner }
+        ensures book { OnOk result (book.new ≡ book_step book.old w calls.LeaseAny) }
+        ensures worker { IfOk result (λ x. Some x ≡ leased_by book.old w calls.LeaseAny) }
+        ensures holds { IfOk result (λ x. HoldsTile book.new x) }
+        ensures unchanged { OnErr result (book.new ≡ book.old) }
+    {
+        let _tiles = book.tiles();
         let Some(leased) = book.lease_any(w)? else {
             unreachable!()
         };
-        Ok(Some(Worker {
+        Ok(Worker {
             lease: lease_of(leased),
             runner,
-        }))
+        })
     }
 }

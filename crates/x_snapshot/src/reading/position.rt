@@ -1,5 +1,5 @@
 //! The branch and the state of a snapshot's text.
-ghost use Rattle.std.specs.Prelude.{◌≡◌, [], codes};
+ghost use Rattle.std.specs.Prelude.{◌≡◌, [], codes, is_ok};
 ghost use Rattle.text_lines.specs.Lines.{words_of};
 ghost use Rattle.text_lines.specs.Answers.{Gives};
 ghost use Rattle.x_steps.specs.StateView.{state_value};
@@ -41,6 +41,20 @@ fn choices(alloc: Global, words: &[u8]) -> Found<Vec<u32>>
         rest = after;
     }
     Ok(path)
+}
+
+/// Whether these words are choices.
+fn are_choices(words: &[u8]) -> bool
+    ensures { result ≡ is_ok (choices_from (words_of words.now)) }
+{
+    let mut rest = words;
+    while let Some((word, after)) = split_word(rest) {
+        let Some(_) = option_number(MOST, word) else {
+            return false;
+        };
+        rest = after;
+    }
+    true
 }
 
 /// The cut of these words: a word for none, or its choices.
@@ -110,6 +124,20 @@ fn step_from(label: &[u8], cursor: &[u8]) -> Option<(Label, Cursor)>
     let label = label_from(label)?;
     let cursor = cursor_from(cursor)?;
     Some((label, cursor))
+}
+
+/// Whether these words are a state.
+#[tactic(auto, unfolding(crate::specs::Reading::state_from))]
+pub fn is_state(words: &[u8]) -> bool
+    ensures { result ≡ is_ok (spec.state_from (words_of words.now)) }
+{
+    let Some((label, words)) = split_word(words) else {
+        return false;
+    };
+    let Some((cursor, words)) = split_word(words) else {
+        return false;
+    };
+    step_from(label, cursor).is_some() && are_choices(words)
 }
 
 /// The state of these words: its label, its cursor and its choices.

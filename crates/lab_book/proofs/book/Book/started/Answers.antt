@@ -2,7 +2,7 @@ use Rattle.std.proofs.Common.{[], ◌∷◌, ap, ap₂, ◌∙◌}
 use Rattle.lab_book.specs.Tile.{TileValue}
 use Rattle.lab_book.specs.Book.{whole_tile}
 use Rattle.lab_book.proofs.StepLemmas.{opened_keeps}
-use Rattle.lab_book.proofs.book.Book.new_book.Goals as goal
+use Rattle.lab_book.proofs.book.Book.started.Goals as goal
 
 pub invariant_of-result : goal.invariant_of-result
 invariant_of-result c =

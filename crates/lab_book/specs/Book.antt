@@ -181,6 +181,17 @@ tail_tile id t cut = record {
   stretches = [];
 }
 
+-- the tile that a split at a cut takes, as it is made before: it ends where the split one will
+abbrev pub ended_tile : CutPath → TileValue
+ended_tile cut = record {
+  id = 0;
+  branch = record { lo = None; hi = Some cut };
+  status = status.Waiting;
+  stop = false;
+  first = cut_state cut.path;
+  stretches = [];
+}
+
 -- both tiles that tile t becomes: up to the cut, and from there on with the new id
 abbrev pub split_tiles : TileValue → ℕ → CutPath → List TileValue
 split_tiles t id cut = head_tile t cut ∷ tail_tile id t cut ∷ []

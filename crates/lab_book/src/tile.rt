@@ -13,15 +13,14 @@ mod totals;
 use crate::mark::Mark;
 use crate::status::Status;
 use cover_problem::Lists;
-pub(crate) use parting::CutCopies;
 use std::alloc::{AllocError, Global};
 use std::marker::Model;
 use x_branches::{Branch, Cut, Stretch};
 use x_steps::{Cursor, Label, State};
 
-/// A branch of the run, how it stands, where its search began, and the stretches that were posted of it.
+/// The parts of a tile.
 #[derive(Drop)]
-pub struct Tile<'p> {
+struct Parts<'p> {
     id: u64,
     branch: Branch<'p>,
     /// The state that ends the branch.
@@ -32,6 +31,14 @@ pub struct Tile<'p> {
     stretches: Vec<Stretch<'p>>,
 }
 
+/// A branch of the run, how it stands, where its search began, and the stretches that were posted of it.
+///
+/// Its parts stand apart, so that tiles in a list make room for one among them by a move of eight bytes each.
+#[derive(Drop)]
+pub struct Tile<'p> {
+    parts: Box<Parts<'p>>,
+}
+
 impl<'p> Model for Tile<'p> {
     ghost use Rattle.std.specs.Prelude.{◌≡◌};
     ghost use Rattle.x_branches.specs.Branch.{end_of};
@@ -40,15 +47,15 @@ impl<'p> Model for Tile<'p> {
     ghost Value = { TileValue };
 
     ghost view = { λ t. record {
-      id = t.id;
-      branch = t.branch;
-      status = t.status;
-      stop = t.stop;
-      first = t.first;
-      stretches = t.stretches.items;
+      id = t.parts.value.id;
+      branch = t.parts.value.branch;
+      status = t.parts.value.status;
+      stop = t.parts.value.stop;
+      first = t.parts.value.first;
+      stretches = t.parts.value.stretches.items;
     } };
 
-    ghost invariant = { λ t. t.end ≡ end_of t.branch.hi };
+    ghost invariant = { λ t. t.parts.value.end ≡ end_of t.parts.value.branch.hi };
 }
 
 /// The state that ends a branch: that of its high cut, or Done.
@@ -112,16 +119,32 @@ fn are_same(stretches: &[Stretch<'_>], others: &[Stretch<'_>]) -> bool
 }
 
 impl<'p> Tile<'p> {
+    /// The tile of these parts.
+    fn of(alloc: Global, parts: Parts<'p>) -> Result<Tile<'p>, AllocError>
+        requires { parts.end ≡ end_of parts.branch.hi }
+        ensures { IfOk result (λ tile. tile ≡ record {
+          id = parts.entry.id;
+          branch = parts.entry.branch;
+          status = parts.entry.status;
+          stop = parts.entry.stop;
+          first = parts.entry.first;
+          stretches = parts.entry.stretches.items;
+        }) }
+    {
+        let parts = Box::new(alloc, parts)?;
+        Ok(Tile { parts })
+    }
+
     /// Whether it is the same tile; false tells nothing.
     pub fn same(&self, other: &Tile<'_>) -> bool
         ensures { IsTrue result → self.now ≡ other.now }
     {
-        self.id == other.id
-            && self.status == other.status
-            && self.stop == other.stop
-            && self.branch.same(&other.branch)
-            && self.first.same(&other.first)
-            && are_same(&self.stretches, &other.stretches)
+        self.id() == other.id()
+            && self.status() == other.status()
+            && self.stop() == other.stop()
+            && self.branch().same(other.branch())
+            && self.parts.first.same(&other.parts.first)
+            && are_same(self.stretches(), other.stretches())
     }
 
     /// The one tile of a new book: it waits at its first mark.
@@ -133,80 +156,83 @@ impl<'p> Tile<'p> {
         ensures { IfOk result (λ tile. tile ≡ whole_tile branch.entry first) }
     {
         let end = end_state(alloc, &branch.hi)?;
-        Ok(Tile {
-            id: 0,
-            branch,
-            end,
-            status: Status::Waiting,
-            stop: false,
-            first,
-            stretches: Vec::new(alloc),
-        })
+        Tile::of(
+            alloc,
+            Parts {
+                id: 0,
+                branch,
+                end,
+                status: Status::Waiting,
+                stop: false,
+                first,
+                stretches: Vec::new(alloc),
+            },
+        )
     }
 
     /// Its id.
     pub fn id(&self) -> u64
         ensures { result ≡ self.now.id }
     {
-        self.id
+        self.parts.id
     }
 
     /// Its branch.
     pub fn branch(&self) -> &Branch<'p>
         ensures { result.now ≡ self.now.branch }
     {
-        &self.branch
+        &self.parts.branch
     }
 
     /// The cut where it begins, or None at X1.
     pub fn lo(&self) -> &Option<Cut<'p>>
         ensures { result.now ≡ self.now.branch.lo }
     {
-        &self.branch.lo
+        &self.parts.branch.lo
     }
 
     /// The cut where it ends, or None at Done.
     pub fn hi(&self) -> &Option<Cut<'p>>
         ensures { result.now ≡ self.now.branch.hi }
     {
-        &self.branch.hi
+        &self.parts.branch.hi
     }
 
     /// How it stands.
     pub fn status(&self) -> Status
         ensures { result ≡ self.now.status }
     {
-        self.status
+        self.parts.status
     }
 
     /// Whether its worker is asked to stop.
     pub fn stop(&self) -> bool
         ensures { result ≡ self.now.stop }
     {
-        self.stop
+        self.parts.stop
     }
 
     /// Where its search began.
     pub fn first_mark(&self) -> &State
         ensures { state_value result.now ≡ self.now.first }
     {
-        self.first.state()
+        self.parts.first.state()
     }
 
     /// The stretches that were posted, in order.
     pub fn stretches(&self) -> &[Stretch<'p>]
         ensures { result.now ≡ self.now.stretches }
     {
-        &self.stretches
+        &self.parts.stretches
     }
 
     /// Where the posted stretches end.
     pub fn mark(&self) -> &State
         ensures { state_value result.now ≡ mark_of self.now }
     {
-        match self.stretches.last() {
+        match self.parts.stretches.last() {
             Some(stretch) => stretch.to(),
-            None => self.first.state(),
+            None => self.parts.first.state(),
         }
     }
 
@@ -214,15 +240,16 @@ impl<'p> Tile<'p> {
     pub(crate) fn end(&self) -> &State
         ensures { state_value result.now ≡ tile_end self.now }
     {
-        self.end.state()
+        self.parts.end.state()
     }
 
     /// Stands so from now on.
     pub(crate) fn settle(&mut self, status: Status, stop: bool)
         ensures { self.new ≡ record self.old { status = status; stop = stop } }
     {
-        self.status = status;
-        self.stop = stop;
+        let parts = &mut *self.parts;
+        parts.status = status;
+        parts.stop = stop;
     }
 
     /// Adds a stretch; where memory runs out, nothing changes and it comes back.
@@ -231,10 +258,11 @@ impl<'p> Tile<'p> {
         ensures unchanged { OnErr result (self.new ≡ self.old) }
         ensures given_back { IfErr result (λ s. s ≡ stretch.entry) }
     {
-        if self.stretches.reserve(1).is_err() {
+        let stretches = &mut self.parts.stretches;
+        if stretches.reserve(1).is_err() {
             return Err(stretch);
         }
-        self.stretches.push_reserved(stretch);
+        stretches.push_reserved(stretch);
         Ok(())
     }
 
@@ -244,7 +272,7 @@ impl<'p> Tile<'p> {
         ensures tile { self.new ≡ retracted_tile self.old }
         ensures stretch { last_of self.old.stretches ≡ Some result }
     {
-        let Some(stretch) = self.stretches.pop() else {
+        let Some(stretch) = self.parts.stretches.pop() else {
             unreachable!()
         };
         stretch
@@ -255,7 +283,7 @@ impl<'p> Tile<'p> {
         requires { count ≤ length self.old.stretches }
         ensures { self.new ≡ record self.old { stretches = take count self.old.stretches } }
     {
-        self.stretches.truncate(count);
+        self.parts.stretches.truncate(count);
     }
 
     /// How many stretches come before the first of its marks that is this state.
@@ -264,7 +292,7 @@ impl<'p> Tile<'p> {
             stretches_to (state_value state.now) self.now.first self.now.stretches }
         ensures within { IfSome result (λ n. n ≤ length self.now.stretches) }
     {
-        mark_place(state, self.first.state(), &self.stretches)
+        mark_place(state, self.first_mark(), self.stretches())
     }
 
     /// Adds the paths that its stretches visit; where memory runs out, some may be there.

@@ -19,7 +19,7 @@ use crate::entry::{Call, Entry, Reply};
 use crate::fault::BookFault;
 use crate::lease::{Grant, Lease};
 use crate::mark::{Mark, Path};
-use crate::tile::CutCopies;
+use crate::tile::Tile;
 use std::alloc::{AllocError, Global};
 use x_branches::{Cut, Stretch};
 use x_steps::State;
@@ -148,8 +148,8 @@ impl<'p> Book<'p> {
             path: Path::of(alloc, cut)?,
             same,
         };
-        let copies = CutCopies::of(alloc, cut)?;
-        match self.split_place(lease, cut, copies.state(), same) {
+        let tail = Tile::ended(alloc, cut)?;
+        match self.split_place(lease, cut, tail.end(), same) {
             Ok(_) => Ok(Entry {
                 worker: lease.worker,
                 call,

@@ -7,7 +7,7 @@ ghost use Rattle.lab_book.specs.declared.entry.Call.TheVariants as calls;
 ghost use Rattle.lab_book.specs.declared.entry.Reply.TheVariants as replies;
 ghost use Rattle.lab_book.specs.Tile.{is_leased};
 ghost use Rattle.lab_book.specs.Tiling.{tile_at};
-ghost use Rattle.lab_book.specs.Book.{outcome, split, found, lease_fault, cut_fault};
+ghost use Rattle.lab_book.specs.Book.{outcome, split, ended_tile, found, lease_fault, cut_fault};
 ghost use Rattle.lab_book.specs.Calls.{Made, Splits, SplitRefused, Judged, Doubted};
 
 use crate::book::{Book, out_of_memory};
@@ -15,27 +15,25 @@ use crate::entry::{Call, Entry, Reply};
 use crate::fault::BookFault;
 use crate::lease::{Grant, Lease};
 use crate::mark::Path;
-use crate::tile::CutCopies;
+use crate::tile::Tile;
 use std::alloc::{AllocError, Global};
 use std::cmp::Ordering;
 use x_branches::{Cut, run_order};
 use x_steps::{Refused, State};
 
-/// A split, as the history keeps it, and what is copied of its cut.
+/// A split, as the history keeps it, and the tile that it takes.
 fn copied<'p>(
     alloc: Global,
     lease: Grant,
     cut: &Cut<'p>,
     same: bool,
-) -> Result<(Call, CutCopies<'p>), AllocError>
+) -> Result<(Call, Tile<'p>), AllocError>
     ensures call { IfOk result (λ c. c.0 ≡ calls.Split lease cut.now.path same) }
-    ensures hi { IfOk result (λ c. c.1.hi ≡ cut.now) }
-    ensures end { IfOk result (λ c. c.1.end ≡ cut_state cut.now.path) }
-    ensures first { IfOk result (λ c. c.1.first ≡ cut_state cut.now.path) }
+    ensures tail { IfOk result (λ c. c.1 ≡ ended_tile cut.now) }
 {
     let path = Path::of(alloc, cut)?;
-    let copies = CutCopies::of(alloc, cut)?;
-    Ok((Call::Split { lease, path, same }, copies))
+    let tail = Tile::ended(alloc, cut)?;
+    Ok((Call::Split { lease, path, same }, tail))
 }
 
 impl<'p> Book<'p> {
@@ -93,15 +91,13 @@ impl<'p> Book<'p> {
         i: usize,
         call: Call,
         cut: Cut<'p>,
-        copies: CutCopies<'p>,
+        tail: Tile<'p>,
     ) -> Result<u64, Cut<'p>>
         requires within { i < length self.old.tiles }
         requires leased { is_leased (tile_at self.old.tiles i).status ≡ true }
         requires same { cut.problem ≡ self.old.problem }
         requires fine { cut_fault self.old.problem cut.path true (tile_at self.old.tiles i) ≡ None }
-        requires hi { copies.hi ≡ cut }
-        requires end { copies.end ≡ cut_state cut.path }
-        requires first { copies.first ≡ cut_state cut.path }
+        requires tail { tail ≡ ended_tile cut }
         requires outcome { outcome self.old w call ≡ split self.old cut.path i }
         ensures made { IfOk result (λ id. Made self.old self.new w call (replies.Split id)) }
         ensures unchanged { OnErr result (self.new ≡ self.old) }
@@ -111,7 +107,7 @@ impl<'p> Book<'p> {
         let Ok(()) = self.history.keep(1) else {
             return Err(cut);
         };
-        let id = match self.tiles.split(i, cut, copies) {
+        let id = match self.tiles.split(i, cut, tail) {
             Ok(id) => id,
             Err(cut) => {
                 self.history.give_up();
@@ -141,14 +137,14 @@ impl<'p> Book<'p> {
     {
         let lease = lease.grant();
         let alloc = *self.first.state().path.allocator();
-        let Ok((call, copies)) = copied(alloc, lease, &cut, same) else {
+        let Ok((call, tail)) = copied(alloc, lease, &cut, same) else {
             return Err(out_of_memory(cut));
         };
-        let i = match self.split_place(lease, &cut, copies.state(), same) {
+        let i = match self.split_place(lease, &cut, tail.end(), same) {
             Ok(i) => i,
             Err(fault) => return Err(self.hand_back(lease.worker, call, fault, cut)),
         };
-        match self.commit_split(lease.worker, i, call, cut, copies) {
+        match self.commit_split(lease.worker, i, call, cut, tail) {
             Ok(id) => Ok(id),
             Err(cut) => Err(out_of_memory(cut)),
         }

@@ -1,45 +1,12 @@
 //! A tile is parted at a cut, or copied.
 ghost use Rattle.std.specs.Prelude.{◌≡◌, IfOk, take};
-ghost use Rattle.x_steps.specs.StateView.{state_value};
-ghost use Rattle.x_branches.specs.Cut.{cut_state};
-ghost use Rattle.lab_book.specs.Book.{head_tile, tail_tile};
+ghost use Rattle.lab_book.specs.Book.{ended_tile, head_tile, tail_tile};
 
-use crate::mark::Mark;
 use crate::status::Status;
-use crate::tile::{Tile, cut_state};
+use crate::tile::{Parts, Tile, cut_state};
 use std::alloc::{AllocError, Global};
 use std::mem;
 use x_branches::{Branch, Cut, Stretch};
-use x_steps::State;
-
-/// What is copied of a cut where a tile is parted: the tile's end, the end's state, and the first mark of the tile behind it.
-#[derive(Drop)]
-pub(crate) struct CutCopies<'p> {
-    hi: Cut<'p>,
-    end: Mark,
-    first: Mark,
-}
-
-impl<'p> CutCopies<'p> {
-    /// What is copied of a cut.
-    pub(crate) fn of(alloc: Global, cut: &Cut<'p>) -> Result<CutCopies<'p>, AllocError>
-        ensures hi { IfOk result (λ copies. copies.hi ≡ cut.now) }
-        ensures end { IfOk result (λ copies. copies.end ≡ cut_state cut.now.path) }
-        ensures first { IfOk result (λ copies. copies.first ≡ cut_state cut.now.path) }
-    {
-        let hi = cut.copy()?;
-        let end = cut_state(alloc, cut)?;
-        let first = cut_state(alloc, cut)?;
-        Ok(CutCopies { hi, end, first })
-    }
-
-    /// The cut's state.
-    pub(crate) fn state(&self) -> &State
-        ensures { state_value result.now ≡ self.now.end }
-    {
-        self.end.state()
-    }
-}
 
 /// Copies of stretches.
 fn copied<'p>(alloc: Global, stretches: &[Stretch<'p>]) -> Result<Vec<Stretch<'p>>, AllocError>
@@ -53,44 +20,65 @@ fn copied<'p>(alloc: Global, stretches: &[Stretch<'p>]) -> Result<Vec<Stretch<'p
 }
 
 impl<'p> Tile<'p> {
+    /// The tile that a split at a cut takes, made before anything changes: its end is the one that the split tile gets.
+    pub(crate) fn ended(alloc: Global, cut: &Cut<'p>) -> Result<Tile<'p>, AllocError>
+        ensures { IfOk result (λ tile. tile ≡ ended_tile cut.now) }
+    {
+        let hi = cut.copy()?;
+        let end = cut_state(alloc, cut)?;
+        let first = cut_state(alloc, cut)?;
+        Tile::of(
+            alloc,
+            Parts {
+                id: 0,
+                branch: Branch {
+                    lo: None,
+                    hi: Some(hi),
+                },
+                end,
+                status: Status::Waiting,
+                stop: false,
+                first,
+                stretches: Vec::new(alloc),
+            },
+        )
+    }
+
     /// Ends at a cut from now on; the tile that goes on from there comes out, and waits.
-    pub(crate) fn part(&mut self, id: u64, cut: Cut<'p>, copies: CutCopies<'p>) -> Tile<'p>
-        requires hi { copies.hi ≡ cut }
-        requires end { copies.end ≡ cut_state cut.path }
-        requires first { copies.first ≡ cut_state cut.path }
+    pub(crate) fn part(&mut self, id: u64, cut: Cut<'p>, mut tail: Tile<'p>) -> Tile<'p>
+        requires { tail ≡ ended_tile cut }
         ensures head { self.new ≡ head_tile self.old cut.entry }
         ensures tail { result ≡ tail_tile id self.old cut.entry }
     {
-        let CutCopies { hi, end, first } = copies;
-        let hi = mem::replace(&mut self.branch.hi, Some(hi));
-        let end = mem::replace(&mut self.end, end);
-        Tile {
-            id,
-            branch: Branch { lo: Some(cut), hi },
-            end,
-            status: Status::Waiting,
-            stop: false,
-            first,
-            stretches: Vec::new(*self.stretches.allocator()),
-        }
+        let head = &mut *self.parts;
+        let rest = &mut *tail.parts;
+        mem::swap(&mut head.branch.hi, &mut rest.branch.hi);
+        mem::swap(&mut head.end, &mut rest.end);
+        rest.branch.lo = Some(cut);
+        rest.id = id;
+        tail
     }
 
     /// The same tile, in memory of its own.
     pub fn copy(&self) -> Result<Tile<'p>, AllocError>
         ensures { IfOk result (λ tile. tile ≡ self.now) }
     {
-        let branch = self.branch.copy()?;
-        let end = self.end.copy()?;
-        let first = self.first.copy()?;
-        let stretches = copied(*self.stretches.allocator(), &self.stretches)?;
-        Ok(Tile {
-            id: self.id,
-            branch,
-            end,
-            status: self.status,
-            stop: self.stop,
-            first,
-            stretches,
-        })
+        let alloc = *self.parts.stretches.allocator();
+        let branch = self.branch().copy()?;
+        let end = self.parts.end.copy()?;
+        let first = self.parts.first.copy()?;
+        let stretches = copied(alloc, self.stretches())?;
+        Tile::of(
+            alloc,
+            Parts {
+                id: self.id(),
+                branch,
+                end,
+                status: self.status(),
+                stop: self.stop(),
+                first,
+                stretches,
+            },
+        )
     }
 }

@@ -1,21 +1,18 @@
 //! One more tile stands among the others.
 ghost use Rattle.std.specs.Prelude.{◌≡◌, ◌<◌, ◌+◌, ◌++◌, length, take, drop, IfOk, OnOk, OnErr, IfErr};
-ghost use Rattle.x_branches.specs.Cut.{cut_state};
 ghost use Rattle.lab_book.specs.Tiling.{tile_at, AreNumbered};
-ghost use Rattle.lab_book.specs.Book.{split_tiles};
+ghost use Rattle.lab_book.specs.Book.{ended_tile, split_tiles};
 
-use crate::tile::CutCopies;
+use crate::tile::Tile;
 use crate::tiles::Tiles;
 use x_branches::Cut;
 
 impl<'p> Tiles<'p> {
     /// Ends the tile at a place at a cut; behind it stands a tile that goes on from there and waits, whose id comes back: the
     /// number of tiles before. Where memory runs out, nothing changes and the cut comes back.
-    pub fn split(&mut self, i: usize, cut: Cut<'p>, copies: CutCopies<'p>) -> Result<u64, Cut<'p>>
+    pub fn split(&mut self, i: usize, cut: Cut<'p>, tail: Tile<'p>) -> Result<u64, Cut<'p>>
         requires within { i < length self.old }
-        requires hi { copies.hi ≡ cut }
-        requires end { copies.end ≡ cut_state cut.path }
-        requires first { copies.first ≡ cut_state cut.path }
+        requires tail { tail ≡ ended_tile cut }
         ensures tiles { OnOk result (self.new ≡ take i self.old ++ split_tiles (tile_at self.old i) (length self.old) cut.entry
             ++ drop (i + 1) self.old) }
         ensures numbered { OnOk result (AreNumbered self.new) }
@@ -31,7 +28,7 @@ impl<'p> Tiles<'p> {
             return Err(cut);
         }
         let id = self.list.len();
-        let tail = self.list[i].part(id as u64, cut, copies);
+        let tail = self.list[i].part(id as u64, cut, tail);
         let Ok(()) = self.list.insert(i + 1, tail) else {
             unreachable!()
         };

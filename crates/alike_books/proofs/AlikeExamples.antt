@@ -16,7 +16,7 @@ use Rattle.alike_books.specs.AlikeCalls.{Correspond, NameSameTile}
 use Rattle.alike_books.specs.Searched.{searched, IsSearched}
 
 -- the cut at an option of the item a
-cut : ℕ → Option CutPath
+pub cut : ℕ → Option CutPath
 cut o = Some (record { problem = small; path = o ∷ [] })
 
 -- a closed tile between two cuts, posted in one stretch
@@ -46,11 +46,11 @@ abbrev book_of : List TileValue → BookValue
 book_of ts = record { problem = small; branch = record { lo = None; hi = None }; first = start; tiles = ts; history = [] }
 
 -- one closed tile up to the cut 4, and a tile behind it
-abbrev in_two : Status → BookValue
+abbrev pub in_two : Status → BookValue
 in_two status = book_of (closed_tile 0 None (cut 4) ∷ last_tile 1 status ∷ [])
 
 -- two closed tiles that meet at the cut 2, and a tile behind them
-abbrev in_three : Status → BookValue
+abbrev pub in_three : Status → BookValue
 in_three status = book_of (closed_tile 0 None (cut 2) ∷ closed_tile 1 (cut 2) (cut 4) ∷ last_tile 2 status ∷ [])
 
 -- the tile behind the cut 4 is leased, by one worker in the one book, and by another in the other

@@ -1,0 +1,7 @@
+pub mod CallLemmas
+pub mod WorkLemmas
+pub mod SoundLemmas
+pub mod AlikeLemmas
+pub mod AnswerLemmas
+pub mod PooledLemmas
+pub mod SessionExamples

@@ -1,0 +1,43 @@
+-- The example of specs/AlikeSessions.antt, computed on the two books of alike_books/proofs/AlikeExamples.antt: the tile behind the cut 4 is
+-- open in both, and one closed tile goes up to there in the one, two in the other.
+use Rattle.std.proofs.Common.{◌≡◌, Some, None, [], ◌∷◌, refl}
+use Rattle.cover_problem.proofs.CoverExamples.{small}
+use Rattle.x_branches.specs.Branch.{first_of}
+use Rattle.x_snapshot.specs.declared.breakpoint.Break.TheVariants.{Visit}
+use Rattle.lab_book.specs.declared.status.Status.TheVariants.{Leased}
+use Rattle.lab_book.specs.declared.lease.Grant.{Grant}
+use Rattle.lab_book.specs.Book.{BookValue}
+use Rattle.lab_world.specs.Worker.{runner_at}
+use Rattle.x_debug.specs.Session.{SessionValue, session_on}
+use Rattle.x_debug.specs.Commands.{answer_branches, answer_show}
+use Rattle.alike_books.proofs.AlikeExamples.{cut, in_two, in_three}
+use Rattle.alike_sessions.specs.AlikeSessions.{AreAlikeSessions}
+
+-- worker 0 stands at the mark of the tile behind the cut 4, and visits are a breakpoint
+abbrev session_of : BookValue → Grant → SessionValue
+session_of b lease = record {
+  book = b;
+  worker = Some (record { grant = lease; runner = runner_at small (record { lo = cut 4; hi = None }) (first_of (cut 4)) });
+  breaks = Visit ∷ [];
+}
+
+-- by the id 1 in the one book, by the id 2 in the other
+abbrev one : SessionValue
+one = session_of (in_two (Leased 0 3)) (record { id = 1; worker = 0; index = 3 })
+
+abbrev other : SessionValue
+other = session_of (in_three (Leased 0 7)) (record { id = 2; worker = 0; index = 7 })
+
+are_alike : AreAlikeSessions one other
+are_alike = record { book = record { problem = refl; branch = refl; first = refl; tiles = refl }; runner = refl; breaks = refl }
+
+-- they tell the same of the open branch, and of the branches that are not closed
+same_show : (answer_show one).text ≡ (answer_show other).text
+same_show = refl
+
+same_branches : (answer_branches one).text ≡ (answer_branches other).text
+same_branches = refl
+
+-- a session without an open branch is alike to neither
+not_alike : ¬ AreAlikeSessions one (session_on (in_two (Leased 0 3)))
+not_alike k = let e = k.runner in absurd (cc)

@@ -1,0 +1,45 @@
+-- Sessions that are alike: their books are, their open branches stand at the same state with the same mark, and they have the same
+-- breakpoints. The closed tiles of their books, ids, leases and histories may differ, and no answer tells of them.
+--
+-- Example: a session whose branch is open behind the cut 4 of the small problem, in a book with one closed tile up to there, is alike
+-- to one in a book with two. proofs/SessionExamples.antt computes it.
+use Rattle.std.specs.Prelude.{◌≡◌, Option, Some, None, option_map}
+use Rattle.x_branches.specs.Runner.{RunnerValue, IsRunner}
+use Rattle.lab_book.specs.Tiling.{IsTiling}
+use Rattle.lab_world.specs.Worker.{WorkerValue}
+use Rattle.lab_world.specs.World.{IsSeat}
+use Rattle.x_debug.specs.Session.{SessionValue}
+use Rattle.x_debug.specs.Commands.{Answer}
+use Rattle.alike_books.specs.AlikeBooks.{AreAlikeBooks}
+
+-- the runner of the open branch, if there is one: a worker without its lease
+abbrev pub runner_of : Option WorkerValue → Option RunnerValue
+runner_of w = option_map (λ (x : WorkerValue). x.runner) w
+
+-- sessions that are alike
+pub record AreAlikeSessions (a b : SessionValue) : Type 0 where
+  pub book : AreAlikeBooks a.book b.book
+  pub runner : runner_of a.worker ≡ runner_of b.worker
+  pub breaks : a.breaks ≡ b.breaks
+
+-- where a branch is open, its mark and its position are in the branch, and the position doesn't come before the mark
+abbrev pub HasRunner : Option WorkerValue → Type 0
+HasRunner None = Unit {0}
+HasRunner (Some w) = IsRunner w.runner
+
+-- a sound session: its book's tiles are a tiling, an open branch is leased to worker 0, which holds the tile, and has a runner
+pub record IsSoundSession (s : SessionValue) : Type 0 where
+  pub tiling : IsTiling s.book.problem s.book.branch s.book.first s.book.tiles
+  pub seat : IsSeat s.book 0 s.worker
+  pub runner : HasRunner s.worker
+
+-- two sound sessions that are alike
+pub record AreSoundAlike (a b : SessionValue) : Type 0 where
+  pub sound : IsSoundSession a
+  pub also_sound : IsSoundSession b
+  pub alike : AreAlikeSessions a b
+
+-- the same text is answered, and the sessions that are left are sound and alike
+pub record AreAlikeAnswers (a b : Answer) : Type 0 where
+  pub text : a.text ≡ b.text
+  pub sessions : AreSoundAlike a.session b.session

@@ -178,7 +178,7 @@ none_stopped (t ∷ ts) n =
     left_out stopped t ts (ap (λ (b : Bool). b && t.stop) m.0) ∙ none_stopped ts m.1
 
 -- where none waits or is leased, the open ones are the held ones
-open_held : (ts : List TileValue) → waiting_in ts ≡ 0 → leased_in ts ≡ 0 → open_tiles ts ≡ held_tiles ts
+pub open_held : (ts : List TileValue) → waiting_in ts ≡ 0 → leased_in ts ≡ 0 → open_tiles ts ≡ held_tiles ts
 open_held [] w n = refl
 open_held (t ∷ ts) w n =
     let v = count_none (λ (u : TileValue). is_waiting u.status) t ts w in

@@ -3,11 +3,13 @@ use Rattle.std.proofs.Common.{◌≡◌, ℕ, zero, suc, Bool, true, false, cond
 use Rattle.std.proofs.Common.{refl, sym, ap, ◌∙◌}
 use Rattle.std.proofs.Common.{subst, arith}
 use Rattle.std.proofs.lemmas.List.{length-map}
+use Rattle.std.proofs.lemmas.List.Elements.{All-nil, All-cons}
 use Rattle.cover_problem.specs.Problem.{ProblemValue}
 use Rattle.x_steps.specs.StateValue.{StateValue}
 use Rattle.x_branches.specs.Cut.{CutPath, cut_state}
 use Rattle.x_branches.specs.Stretch.{StretchValue, IsStretch}
 use Rattle.lab_book.specs.declared.status.Status.{Status}
+use Rattle.lab_book.specs.declared.status.Status.TheVariants.{Waiting, Held, Leased, Closed}
 use Rattle.lab_book.specs.Tile.{TileValue, IsTile, Join, led_to, is_closed, is_waiting, is_held, is_leased, mark_of, tile_end}
 use Rattle.lab_book.specs.Tiling.{AreTiles, IsTiling, tile_at}
 use Rattle.lab_book.specs.Book.{BookValue, leased_in, posted_tile, closed}
@@ -72,10 +74,22 @@ pool_alike a b new k n s = record {
 
 -- ---- a finished book
 
-none_open : (ts : List TileValue) → AllClosed ts → open_tiles ts ≡ []
+pub none_open : (ts : List TileValue) → AllClosed ts → open_tiles ts ≡ []
 none_open [] a = refl
 none_open (t ∷ ts) a =
     left_out is_open_tile t ts (ap (λ (s : Status). not (is_closed s)) (first_closed t ts a)) ∙ none_open ts (rest_closed t ts a)
+
+-- and where none is open, all are closed
+pub all_closed : (ts : List TileValue) → open_tiles ts ≡ [] → AllClosed ts
+all_closed [] n = All-nil (λ (t : TileValue). t.status ≡ Closed)
+all_closed (t ∷ ts) n = by t.status refl n (all_closed ts)
+  where
+    by : (s : Status) → t.status ≡ s → cond (not (is_closed s)) (t ∷ open_tiles ts) (open_tiles ts) ≡ [] → (open_tiles ts ≡ [] → AllClosed ts)
+        → AllClosed (t ∷ ts)
+    by Waiting e m r = absurd (cc)
+    by Held e m r = absurd (cc)
+    by (Leased w i) e m r = absurd (cc)
+    by Closed e m r = All-cons (λ (u : TileValue). u.status ≡ Closed) t ts e (r m)
 
 -- where no tile was held
 pub finished_is_searched : (old new : BookValue) → new.problem ≡ old.problem → new.branch ≡ old.branch → new.first ≡ old.first

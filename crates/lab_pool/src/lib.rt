@@ -3,7 +3,7 @@
 
 mod fault;
 mod gate;
-mod held;
+mod judging;
 mod pool;
 mod search;
 mod worker;

@@ -1,16 +1,18 @@
 //! Workers over a desk.
-ghost use Rattle.std.specs.Prelude.{◌≡◌, ◌<◌, ◌≤◌, ◌+◌, [], None, IfOk, IfErr, OnOk, IfSome, IsTrue, vec_len, length, take, filter};
+ghost use Rattle.std.specs.Prelude.{◌≡◌, ◌<◌, ◌≤◌, ◌↔◌, ◌⊎◌, [], None, IfOk, IfErr, OnOk, IfSome, length, take};
 ghost use Rattle.x_steps.specs.StateValue.{start};
-ghost use Rattle.lab_book.specs.Book.{leased_in, new_book};
+ghost use Rattle.lab_book.specs.Book.{waiting_in, leased_in, new_book};
 ghost use Rattle.lab_book.specs.Posted.{AllClosed};
-ghost use Rattle.lab_pool.specs.Pool.{GoesOn, GivenBack, OnlyHeld, is_held_tile, is_open_tile};
+ghost use Rattle.alike_books.specs.AlikeBooks.{held_tiles};
+ghost use Rattle.alike_books.specs.Searched.{IsSearched};
+ghost use Rattle.lab_pool.specs.Pool.{GoesOn, GivenBack, OnlyHeld};
 
 use crate::fault::PoolFault;
 use crate::gate::Gate;
-use crate::held::{are_open, held_tiles};
+use crate::judging::{answer, mismatch, refuse, settle};
 use crate::worker::work;
 use cover_problem::Problem;
-use lab_book::{Book, Tile};
+use lab_book::Book;
 use lab_desk::{Desk, Desking, Seat};
 use lab_tickets::{TicketSeat, tickets};
 use std::alloc::Global;
@@ -81,58 +83,6 @@ fn run_seats<L: Desking + Send + Sync, R: Threads + Wait + Sync, G: Gate>(
     })
 }
 
-/// What is answered of a book, by the tiles that were held, and by what went wrong.
-fn answer<'p>(
-    book: Book<'p>,
-    held: &[Tile<'p>],
-    memory: bool,
-    refused: bool,
-) -> Result<Book<'p>, Refused<PoolFault, Option<Book<'p>>>>
-    ensures book { IfOk result (λ b. b ≡ book.entry) }
-    ensures finished { IfOk result (λ b. AllClosed b.tiles) }
-    ensures none_held { OnOk result (held.now ≡ []) }
-    ensures book_back { IfErr result (λ r. IfSome r.given (λ b. b ≡ book.entry)) }
-    ensures free { IfErr result (λ r. IfSome r.given (λ b. leased_in b.tiles ≡ 0)) }
-    ensures held { IfErr result (λ r. r.fault ≡ PoolFault.Held →
-        IfSome r.given (λ b. filter is_open_tile b.tiles ≡ held.now)) }
-{
-    let mismatch = Refused {
-        fault: PoolFault::Mismatch,
-        given: None,
-    };
-    if book.leased() > 0 {
-        return Err(mismatch);
-    }
-    if book.finished() {
-        if held.is_empty() {
-            return Ok(book);
-        }
-        return Err(mismatch);
-    }
-    if are_open(book.tiles(), held) {
-        return Err(Refused {
-            fault: PoolFault::Held,
-            given: Some(book),
-        });
-    }
-    if book.waiting() == 0 {
-        return Err(mismatch);
-    }
-    if memory {
-        return Err(Refused {
-            fault: PoolFault::OutOfMemory,
-            given: Some(book),
-        });
-    }
-    if refused {
-        return Err(Refused {
-            fault: PoolFault::NoThread,
-            given: Some(book),
-        });
-    }
-    Err(mismatch)
-}
-
 /// Finishes a book by a desk of this ledger.
 fn run_at<'p, L: Desking + Send + Sync, R: Threads + Wait + Sync, G: Gate>(
     rt: &R,
@@ -150,33 +100,29 @@ fn run_at<'p, L: Desking + Send + Sync, R: Threads + Wait + Sync, G: Gate>(
     requires part { book.branch ≡ L.part }
     requires begin { book.first ≡ L.begin }
     requires free { leased_in book.tiles ≡ 0 }
+    requires waits { 0 < waiting_in book.tiles }
     ensures on { IfOk result (λ b. GoesOn book.entry b) }
     ensures finished { IfOk result (λ b. AllClosed b.tiles) }
-    ensures none_held { OnOk result (filter is_held_tile book.entry.tiles ≡ []) }
+    ensures searched { IfOk result (λ b. IsSearched book.entry b) }
     ensures given_back { IfErr result (λ r. IfSome r.given (λ b. GivenBack book.entry b)) }
+    ensures none_back { IfErr result (λ r. r.given ≡ None ↔ (r.fault ≡ PoolFault.Mismatch)) }
+    ensures workers { IfErr result (λ r. r.fault ≡ PoolFault.BadWorkerCount → ⊥) }
     ensures held { IfErr result (λ r. r.fault ≡ PoolFault.Held →
-        IfSome r.given (λ b. OnlyHeld book.entry b)) }
+        IfSome r.given (λ b. IsSearched book.entry b)) }
+    ensures some_held { IfErr result (λ r. r.fault ≡ PoolFault.Held →
+        held_tiles book.entry.tiles ≡ [] → ⊥) }
+    ensures memory { IfErr result (λ r. r.fault ≡ PoolFault.OutOfMemory →
+        IfSome r.given (λ b. 0 < waiting_in b.tiles)) }
+    ensures threads { IfErr result (λ r. r.fault ≡ PoolFault.NoThread →
+        IfSome r.given (λ b. 0 < waiting_in b.tiles)) }
 {
-    let Ok(held) = held_tiles(alloc, book.tiles()) else {
-        return Err(Refused {
-            fault: PoolFault::OutOfMemory,
-            given: Some(book),
-        });
-    };
+    let from = book.history().len();
     let Ok(mut lanes) = tickets(alloc, workers) else {
-        return Err(Refused {
-            fault: PoolFault::OutOfMemory,
-            given: Some(book),
-        });
+        return Err(refuse(PoolFault::OutOfMemory, book));
     };
     let (desk, mut seats) = match Desk::<L>::new(alloc, blank, book, workers) {
         Ok(made) => made,
-        Err((_, book)) => {
-            return Err(Refused {
-                fault: PoolFault::OutOfMemory,
-                given: Some(book),
-            });
-        }
+        Err((_, book)) => return Err(refuse(PoolFault::OutOfMemory, book)),
     };
     let memory = AtomicBool::new(false);
     let refused = run_seats(
@@ -189,15 +135,14 @@ fn run_at<'p, L: Desking + Send + Sync, R: Threads + Wait + Sync, G: Gate>(
         lanes.as_mut_slice(),
     );
     let Ok(book) = desk.finish(seats) else {
-        return Err(Refused {
-            fault: PoolFault::Mismatch,
-            given: None,
-        });
+        return Err(mismatch());
     };
-    answer(book, &held, memory.load(Ordering::SeqCst), refused)
+    let _history = book.history();
+    answer(book, from, memory.load(Ordering::SeqCst), refused)
 }
 
-/// Finishes a book with so many workers. The first runs here: one worker starts no thread.
+/// Finishes a book with so many workers. The first runs here: one worker starts no thread. Tiles
+/// that are held are left as they are, and all others are closed; where none waits, no worker runs.
 pub fn run_pool_on<'p, R: Threads + Wait + Sync, G: Gate>(
     rt: &R,
     alloc: Global,
@@ -206,18 +151,31 @@ pub fn run_pool_on<'p, R: Threads + Wait + Sync, G: Gate>(
     gate: &G,
 ) -> Result<Book<'p>, Refused<PoolFault, Option<Book<'p>>>>
     requires free { leased_in book.tiles ≡ 0 }
+    ensures workers { OnOk result ((0 < workers) × (workers ≤ 32)) }
     ensures on { IfOk result (λ b. GoesOn book.entry b) }
     ensures finished { IfOk result (λ b. AllClosed b.tiles) }
-    ensures none_held { OnOk result (filter is_held_tile book.entry.tiles ≡ []) }
+    ensures none_held { OnOk result (held_tiles book.entry.tiles ≡ []) }
+    ensures searched { IfOk result (λ b. IsSearched book.entry b) }
+    ensures bad_workers { IfErr result (λ r. r.fault ≡ PoolFault.BadWorkerCount ↔
+        ((workers ≡ 0) ⊎ (32 < workers))) }
     ensures given_back { IfErr result (λ r. IfSome r.given (λ b. GivenBack book.entry b)) }
+    ensures none_back { IfErr result (λ r. r.given ≡ None ↔ (r.fault ≡ PoolFault.Mismatch)) }
     ensures held { IfErr result (λ r. r.fault ≡ PoolFault.Held →
         IfSome r.given (λ b. OnlyHeld book.entry b)) }
+    ensures held_searched { IfErr result (λ r. r.fault ≡ PoolFault.Held →
+        IfSome r.given (λ b. IsSearched book.entry b)) }
+    ensures some_held { IfErr result (λ r. r.fault ≡ PoolFault.Held →
+        held_tiles book.entry.tiles ≡ [] → ⊥) }
+    ensures memory { IfErr result (λ r. r.fault ≡ PoolFault.OutOfMemory →
+        IfSome r.given (λ b. 0 < waiting_in b.tiles)) }
+    ensures threads { IfErr result (λ r. r.fault ≡ PoolFault.NoThread →
+        IfSome r.given (λ b. 0 < waiting_in b.tiles)) }
 {
     if workers == 0 || workers > 32 {
-        return Err(Refused {
-            fault: PoolFault::BadWorkerCount,
-            given: Some(book),
-        });
+        return Err(refuse(PoolFault::BadWorkerCount, book));
+    }
+    if book.waiting() == 0 {
+        return settle(book);
     }
     run_at::<Brand, R, G>(
         rt,

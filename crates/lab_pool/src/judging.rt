@@ -1,0 +1,117 @@
+//! What is answered of a book, once its workers are through with it.
+ghost use Rattle.std.specs.Prelude.{◌≡◌, ◌<◌, ◌≤◌, ◌↔◌, [], Some, None, IfOk, IfErr, OnOk, IfSome, IsTrue, length, drop};
+ghost use Rattle.lab_book.specs.Book.{waiting_in, leased_in};
+ghost use Rattle.lab_book.specs.Posted.{AllClosed};
+ghost use Rattle.alike_books.specs.AlikeBooks.{held_tiles};
+ghost use Rattle.alike_books.specs.Searched as spec;
+ghost use Rattle.alike_books.specs.Searched.{ArePoolCalls, IsSearched};
+ghost use Rattle.lab_pool.specs.Pool.{GivenBack, OnlyHeld, IsDone};
+
+use crate::fault::PoolFault;
+use lab_book::{Book, Call, Entry};
+use x_steps::Refused;
+
+/// Why a pool didn't finish its book, with the book.
+pub(crate) fn refuse<'p>(fault: PoolFault, book: Book<'p>) -> Refused<PoolFault, Option<Book<'p>>>
+    ensures fault { result.fault ≡ fault }
+    ensures given { result.given ≡ Some book.entry }
+{
+    Refused {
+        fault,
+        given: Some(book),
+    }
+}
+
+/// Why it didn't, where the book tells something else than the workers did: no book comes back.
+pub(crate) fn mismatch<'p>() -> Refused<PoolFault, Option<Book<'p>>>
+    ensures fault { result.fault ≡ PoolFault.Mismatch }
+    ensures given { result.given ≡ None }
+{
+    Refused {
+        fault: PoolFault::Mismatch,
+        given: None,
+    }
+}
+
+/// Whether a pool makes such calls: it takes no held tile, puts none back, and asks none to stop.
+fn is_pool_call(call: &Call) -> bool
+    ensures { result ≡ spec.is_pool_call call.now }
+{
+    match call {
+        Call::TakeHeld(_) => false,
+        Call::PutBack { .. } => false,
+        Call::RequestStop(_) => false,
+        _ => true,
+    }
+}
+
+/// Whether all entries are of such calls.
+fn are_pool_calls(entries: &[Entry]) -> bool
+    ensures { IsTrue result ↔ ArePoolCalls entries.now }
+{
+    entries.iter().all(|entry| is_pool_call(entry.call()))
+}
+
+/// What is answered of a book without a tile that waits or is leased: it is finished, or held tiles
+/// are left.
+pub(crate) fn settle<'p>(book: Book<'p>) -> Result<Book<'p>, Refused<PoolFault, Option<Book<'p>>>>
+    requires none_waits { waiting_in book.tiles ≡ 0 }
+    requires none_leased { leased_in book.tiles ≡ 0 }
+    ensures book { IfOk result (λ b. b ≡ book.entry) }
+    ensures finished { IfOk result (λ b. AllClosed b.tiles) }
+    ensures none_held { OnOk result (held_tiles book.entry.tiles ≡ []) }
+    ensures searched { IfOk result (λ b. IsSearched book.entry b) }
+    ensures fault { IfErr result (λ r. r.fault ≡ PoolFault.Held) }
+    ensures given { IfErr result (λ r. r.given ≡ Some book.entry) }
+    ensures given_back { IfErr result (λ r. IfSome r.given (λ b. GivenBack book.entry b)) }
+    ensures held { IfErr result (λ r. r.fault ≡ PoolFault.Held →
+        IfSome r.given (λ b. OnlyHeld book.entry b)) }
+    ensures held_searched { IfErr result (λ r. r.fault ≡ PoolFault.Held →
+        IfSome r.given (λ b. IsSearched book.entry b)) }
+    ensures some_held { IfErr result (λ r. r.fault ≡ PoolFault.Held →
+        held_tiles book.entry.tiles ≡ [] → ⊥) }
+    ensures open { IfErr result (λ r. AllClosed book.entry.tiles → ⊥) }
+{
+    if book.finished() {
+        return Ok(book);
+    }
+    Err(refuse(PoolFault::Held, book))
+}
+
+/// What is answered of a book whose workers made the calls from an entry on, by what went wrong.
+pub(crate) fn answer<'p>(
+    book: Book<'p>,
+    from: usize,
+    memory: bool,
+    refused: bool,
+) -> Result<Book<'p>, Refused<PoolFault, Option<Book<'p>>>>
+    requires begun { from ≤ length book.history }
+    ensures book { IfOk result (λ b. b ≡ book.entry) }
+    ensures finished { IfOk result (λ b. AllClosed b.tiles) }
+    ensures done { OnOk result (IsDone from book.entry) }
+    ensures workers { IfErr result (λ r. r.fault ≡ PoolFault.BadWorkerCount → ⊥) }
+    ensures book_back { IfErr result (λ r. (r.fault ≡ PoolFault.Mismatch → ⊥) →
+        r.given ≡ Some book.entry) }
+    ensures none_back { IfErr result (λ r. r.fault ≡ PoolFault.Mismatch → r.given ≡ None) }
+    ensures free { IfErr result (λ r. IfSome r.given (λ b. leased_in b.tiles ≡ 0)) }
+    ensures held { IfErr result (λ r. r.fault ≡ PoolFault.Held → IsDone from book.entry) }
+    ensures open { IfErr result (λ r. r.fault ≡ PoolFault.Held → AllClosed book.entry.tiles → ⊥) }
+    ensures memory { IfErr result (λ r. r.fault ≡ PoolFault.OutOfMemory →
+        0 < waiting_in book.entry.tiles) }
+    ensures threads { IfErr result (λ r. r.fault ≡ PoolFault.NoThread →
+        0 < waiting_in book.entry.tiles) }
+{
+    if book.leased() > 0 || !are_pool_calls(&book.history()[from..]) {
+        return Err(mismatch());
+    }
+    if book.waiting() == 0 {
+        return settle(book);
+    }
+    if memory {
+        return Err(refuse(PoolFault::OutOfMemory, book));
+    }
+    if refused {
+        return Err(refuse(PoolFault::NoThread, book));
+    }
+    Err(mismatch())
+}

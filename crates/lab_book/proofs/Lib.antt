@@ -13,3 +13,4 @@ pub mod SumLemmas
 pub mod VisitedLemmas
 pub mod RiseLemmas
 pub mod ForetellLemmas
+pub mod CodeLemmas

@@ -6,3 +6,4 @@ pub mod Book
 pub mod Calls
 pub mod Index
 pub mod Posted
+pub mod EntryCode

@@ -1,10 +1,14 @@
 //! The entries of a history: who called what, and what was answered.
-ghost use Rattle.std.specs.Prelude.{◌≡◌, ◌↔◌, IsTrue};
+ghost use Rattle.std.specs.Prelude.{◌≡◌, ◌↔◌, ◌++◌, IsTrue, OnOk};
+ghost use Rattle.lab_book.specs.EntryCode.{entry_code, entry_of};
 ghost use Rattle.lab_book.specs.declared.entry.Call.TheVariants as calls;
 
+use crate::code::put_entry;
 use crate::fault::BookFault;
 use crate::lease::Grant;
 use crate::mark::{Mark, Path};
+use packed_rows::Row;
+use std::alloc::AllocError;
 
 /// A call, as the history keeps it: a stretch by its two states, a cut by its choices, each with whether its problem is the
 /// book's, and a lease by its parts.
@@ -207,6 +211,15 @@ impl Entry {
         ensures { IsTrue result ↔ (self.now ≡ other.now) }
     {
         self.worker == other.worker && self.call.same(&other.call) && self.reply.same(&other.reply)
+    }
+
+    /// Adds its numbers to a row, from which the entry can be told again. Where memory runs out,
+    /// some of them may be there.
+    pub fn put(&self, row: &mut Row) -> Result<(), AllocError>
+        ensures code { OnOk result (row.new ≡ row.old ++ entry_code self.now) }
+        ensures reads { OnOk result (entry_of (entry_code self.now) ≡ self.now) }
+    {
+        put_entry(row, self)
     }
 
     /// Who called.

@@ -3,6 +3,7 @@
 #![tactic(auto)]
 
 mod book;
+mod code;
 mod entry;
 mod fault;
 mod history;

@@ -1,5 +1,6 @@
 -- What a seat notes of its calls.
-use Rattle.std.specs.Prelude.{◌≡◌, ℕ, ◌+◌, ◌==◌, ◌⊎◌, List, [], ◌∷◌, ◌++◌, cond}
+use Rattle.std.specs.Prelude.{◌≡◌, ℕ, ◌+◌, ◌==◌, ◌⊎◌, List, [], ◌∷◌, ◌++◌, cond, drop, slice_index}
+use Rattle.lab_book.specs.EntryCode.{entry_of}
 use Rattle.lab_book.specs.declared.entry.Call.{Call}
 use Rattle.lab_book.specs.declared.entry.Reply.{Reply}
 use Rattle.lab_book.specs.declared.entry.Reply.TheVariants as reply
@@ -11,6 +12,10 @@ use Rattle.lab_desk.specs.declared.seat.Noted.{Noted}
 -- a note of the entry with an index
 abbrev pub noted : ℕ → Entry → Noted
 noted i e = record { index = i; entry = e }
+
+-- the note that a row of numbers tells: its first number is the index, the others tell the entry
+abbrev pub note_of : List ℕ → Noted
+note_of ns = noted (slice_index ns 0) (entry_of (drop 1 ns))
 
 -- a seat: its number, the notes of the calls made there, and for how many more room is kept: one for each lease that the seat
 -- was given and has not ended

@@ -17,6 +17,7 @@ use crate::locked::Locked;
 use crate::seat::Seat;
 use cover_problem::Problem;
 use lab_book::{Book, BookFault, Lease, Leased, Posted};
+use packed_rows::Row;
 use std::alloc::{AllocError, Global};
 use std::marker::{Brand, Model};
 use std::sync::ledger::{Blank, Ledger, Share};
@@ -116,7 +117,11 @@ impl<'p, L: Desking> Desk<'p, L> {
         let from = book.history().len();
         let (count, rest) = blank.open::<L>();
         seat_all(alloc, &mut seats, rest, n);
-        let lock = Mutex::new(Locked { book, count });
+        let lock = Mutex::new(Locked {
+            book,
+            count,
+            row: Row::new(alloc),
+        });
         let desk = Desk {
             lock,
             changed: Condvar::new(),
@@ -410,11 +415,15 @@ impl<'p, L: Desking> Desk<'p, L> {
             from,
             seats: n,
         } = self;
-        let locked = lock.into_inner();
-        if seats.len() == n as usize && tell_all(&seats, from, locked.book.history()) {
-            let Locked { book, count: _ } = locked;
+        let Locked {
+            book,
+            count,
+            mut row,
+        } = lock.into_inner();
+        if seats.len() == n as usize && tell_all(&seats, &mut row, from, book.history()) {
             return Ok(book);
         }
+        let locked = Locked { book, count, row };
         let desk = Desk {
             lock: Mutex::new(locked),
             changed,

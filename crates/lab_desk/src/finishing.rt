@@ -4,6 +4,7 @@ ghost use Rattle.lab_desk.specs.Seats.{seats_of, HaveAllNumbers, AreRecords, are
 
 use crate::seat::Seat;
 use lab_book::Entry;
+use packed_rows::Row;
 use std::sync::ledger::Ledger;
 
 /// How many of the seats have a number.
@@ -27,12 +28,12 @@ fn have_all_numbers<L: Ledger>(seats: &[Seat<L>], number: u8) -> bool
 
 /// Whether the notes of each seat are the entries of its number, from an index on; false tells
 /// nothing.
-fn are_records<L: Ledger>(seats: &[Seat<L>], from: usize, history: &[Entry]) -> bool
+fn are_records<L: Ledger>(seats: &[Seat<L>], row: &mut Row, from: usize, history: &[Entry]) -> bool
     requires within { from ≤ length history.now }
     ensures { IsTrue result → AreRecords from (drop from history.now) seats.now }
 {
     'comparing: for k in 0..seats.len() {
-        if !seats[k].tells(from, history) {
+        if !seats[k].tells(row, from, history) {
             return false;
         }
     }
@@ -53,8 +54,14 @@ fn are_of_workers(number: u8, from: usize, history: &[Entry]) -> bool
 }
 
 /// Whether the seats have all numbers below theirs, in any order, and their notes are all entries
-/// from an index on; false tells nothing.
-pub(crate) fn tell_all<L: Ledger>(seats: &[Seat<L>], from: usize, history: &[Entry]) -> bool
+/// from an index on; false tells nothing. The notes are compared by the scratch row by which they
+/// were packed, so that no memory is needed where they are the same.
+pub(crate) fn tell_all<L: Ledger>(
+    seats: &[Seat<L>],
+    row: &mut Row,
+    from: usize,
+    history: &[Entry],
+) -> bool
     requires within { from ≤ length history.now }
     requires few { length seats.now ≤ 32 }
     ensures numbers { IsTrue result → HaveAllNumbers (length seats.now) seats.now }
@@ -64,6 +71,6 @@ pub(crate) fn tell_all<L: Ledger>(seats: &[Seat<L>], from: usize, history: &[Ent
 {
     let number = seats.len() as u8;
     have_all_numbers(seats, number)
-        && are_records(seats, from, history)
+        && are_records(seats, row, from, history)
         && are_of_workers(number, from, history)
 }

@@ -14,17 +14,20 @@ use crate::desk::Desking;
 use crate::seat::{Noted, Seat};
 use crate::sheet::Sheet;
 use lab_book::{Book, BookFault, Entry, Lease, Leased, Posted, Reply};
+use packed_rows::Row;
 use std::alloc::AllocError;
 use std::sync::ledger;
 use std::sync::ledger::{Ledger, Share};
 use x_branches::{Cut, Stretch};
 use x_steps::{Refused, State};
 
-/// A book, and the ledger's count of the entries that were made at the desk.
+/// A book, the ledger's count of the entries that were made at the desk, and the scratch row by
+/// which the seats' notes are packed.
 #[derive(Drop)]
 pub(crate) struct Locked<'p, L: Desking> {
     pub(crate) book: Book<'p>,
     pub(crate) count: ledger::Book<L>,
+    pub(crate) row: Row,
     ghost counted: { length book.history ≡ length L.opening + count.total },
     ghost same: { book.problem ≡ L.whole },
     ghost branch: { book.branch ≡ L.part },
@@ -55,6 +58,7 @@ fn is_memory(fault: &BookFault) -> bool
 
 /// Notes and counts an entry.
 fn note<L: Ledger>(
+    row: &mut Row,
     notes: &mut Sheet,
     count: &mut ledger::Book<L>,
     share: &mut Share<L>,
@@ -69,12 +73,13 @@ fn note<L: Ledger>(
     ensures parts { share.new.parts ≡ share.old.parts }
     ensures room { notes.new.kept ≡ notes.old.kept - 1 }
 {
-    notes.add(Noted { index, entry });
+    notes.add(row, Noted { index, entry });
     count.add(share, 1);
 }
 
 /// Notes and counts a refusal; out of memory, it stands nowhere.
 fn note_refusal<L: Ledger>(
+    row: &mut Row,
     notes: &mut Sheet,
     count: &mut ledger::Book<L>,
     share: &mut Share<L>,
@@ -99,7 +104,7 @@ fn note_refusal<L: Ledger>(
     if is_memory(fault) {
         notes.give_up();
     } else {
-        note(notes, count, share, index, entry);
+        note(row, notes, count, share, index, entry);
     }
 }
 
@@ -134,7 +139,7 @@ impl<'p, L: Desking> Locked<'p, L> {
         ensures room_stays { OnErr result (seat.new.kept ≡ seat.old.kept) }
         ensures number { seat.new.number ≡ seat.old.number }
     {
-        let Locked { book, count } = self;
+        let Locked { book, count, row } = self;
         let Seat {
             number,
             notes,
@@ -149,11 +154,11 @@ impl<'p, L: Desking> Locked<'p, L> {
         }
         match book.lease(*number, id) {
             Ok(leased) => {
-                note(notes, count, share, index, entry);
+                note(row, notes, count, share, index, entry);
                 Ok(leased)
             }
             Err(fault) => {
-                note_refusal(notes, count, share, index, entry, &fault);
+                note_refusal(row, notes, count, share, index, entry, &fault);
                 notes.give_up();
                 Err(fault)
             }
@@ -173,7 +178,7 @@ impl<'p, L: Desking> Locked<'p, L> {
         ensures room_stays { OnErr result (seat.new.kept ≡ seat.old.kept) }
         ensures number { seat.new.number ≡ seat.old.number }
     {
-        let Locked { book, count } = self;
+        let Locked { book, count, row } = self;
         let Seat {
             number,
             notes,
@@ -187,7 +192,7 @@ impl<'p, L: Desking> Locked<'p, L> {
             notes.give_up();
             return Err(AllocError);
         };
-        note(notes, count, share, index, entry);
+        note(row, notes, count, share, index, entry);
         if leased.is_none() {
             notes.give_up();
         }
@@ -214,7 +219,7 @@ impl<'p, L: Desking> Locked<'p, L> {
         ensures room { seat.new.kept ≡ seat.old.kept }
         ensures number { seat.new.number ≡ seat.old.number }
     {
-        let Locked { book, count } = self;
+        let Locked { book, count, row } = self;
         let Seat {
             number: _,
             notes,
@@ -229,11 +234,11 @@ impl<'p, L: Desking> Locked<'p, L> {
         }
         match book.post_compared(lease, stretch, same) {
             Ok(posted) => {
-                note(notes, count, share, index, entry);
+                note(row, notes, count, share, index, entry);
                 Ok(posted)
             }
             Err(refused) => {
-                note_refusal(notes, count, share, index, entry, &refused.fault);
+                note_refusal(row, notes, count, share, index, entry, &refused.fault);
                 Err(refused)
             }
         }
@@ -259,7 +264,7 @@ impl<'p, L: Desking> Locked<'p, L> {
         ensures room { seat.new.kept ≡ seat.old.kept }
         ensures number { seat.new.number ≡ seat.old.number }
     {
-        let Locked { book, count } = self;
+        let Locked { book, count, row } = self;
         let Seat {
             number: _,
             notes,
@@ -274,11 +279,11 @@ impl<'p, L: Desking> Locked<'p, L> {
         }
         match book.split_compared(lease, cut, same) {
             Ok(id) => {
-                note(notes, count, share, index, entry);
+                note(row, notes, count, share, index, entry);
                 Ok(id)
             }
             Err(refused) => {
-                note_refusal(notes, count, share, index, entry, &refused.fault);
+                note_refusal(row, notes, count, share, index, entry, &refused.fault);
                 Err(refused)
             }
         }
@@ -300,7 +305,7 @@ impl<'p, L: Desking> Locked<'p, L> {
         ensures room_stays { OnErr result (seat.new.kept ≡ seat.old.kept) }
         ensures number { seat.new.number ≡ seat.old.number }
     {
-        let Locked { book, count } = self;
+        let Locked { book, count, row } = self;
         let Seat {
             number: _,
             notes,
@@ -315,11 +320,11 @@ impl<'p, L: Desking> Locked<'p, L> {
         }
         match book.park(lease) {
             Ok(()) => {
-                note(notes, count, share, index, entry);
+                note(row, notes, count, share, index, entry);
                 Ok(())
             }
             Err(refused) => {
-                note_refusal(notes, count, share, index, entry, &refused.fault);
+                note_refusal(row, notes, count, share, index, entry, &refused.fault);
                 Err(refused)
             }
         }
@@ -343,7 +348,7 @@ impl<'p, L: Desking> Locked<'p, L> {
         ensures room_stays { OnErr result (seat.new.kept ≡ seat.old.kept) }
         ensures number { seat.new.number ≡ seat.old.number }
     {
-        let Locked { book, count } = self;
+        let Locked { book, count, row } = self;
         let Seat {
             number: _,
             notes,
@@ -358,11 +363,11 @@ impl<'p, L: Desking> Locked<'p, L> {
         }
         match book.abandon(lease) {
             Ok(()) => {
-                note(notes, count, share, index, entry);
+                note(row, notes, count, share, index, entry);
                 Ok(())
             }
             Err(refused) => {
-                note_refusal(notes, count, share, index, entry, &refused.fault);
+                note_refusal(row, notes, count, share, index, entry, &refused.fault);
                 Err(refused)
             }
         }
@@ -385,7 +390,7 @@ impl<'p, L: Desking> Locked<'p, L> {
         ensures room_stays { OnErr result (seat.new.kept ≡ seat.old.kept) }
         ensures number { seat.new.number ≡ seat.old.number }
     {
-        let Locked { book, count } = self;
+        let Locked { book, count, row } = self;
         let Seat {
             number: _,
             notes,
@@ -400,12 +405,12 @@ impl<'p, L: Desking> Locked<'p, L> {
         }
         match book.close(lease) {
             Ok(()) => {
-                note(notes, count, share, index, entry);
+                note(row, notes, count, share, index, entry);
                 notes.give_up();
                 Ok(())
             }
             Err(refused) => {
-                note_refusal(notes, count, share, index, entry, &refused.fault);
+                note_refusal(row, notes, count, share, index, entry, &refused.fault);
                 Err(refused)
             }
         }
@@ -424,7 +429,7 @@ impl<'p, L: Desking> Locked<'p, L> {
         ensures room_stays { OnErr result (seat.new.kept ≡ seat.old.kept) }
         ensures number { seat.new.number ≡ seat.old.number }
     {
-        let Locked { book, count } = self;
+        let Locked { book, count, row } = self;
         let Seat {
             number,
             notes,
@@ -439,11 +444,11 @@ impl<'p, L: Desking> Locked<'p, L> {
         }
         match book.take_held(*number, id) {
             Ok(leased) => {
-                note(notes, count, share, index, entry);
+                note(row, notes, count, share, index, entry);
                 Ok(leased)
             }
             Err(fault) => {
-                note_refusal(notes, count, share, index, entry, &fault);
+                note_refusal(row, notes, count, share, index, entry, &fault);
                 notes.give_up();
                 Err(fault)
             }
@@ -460,7 +465,7 @@ impl<'p, L: Desking> Locked<'p, L> {
         ensures room { seat.new.kept ≡ seat.old.kept }
         ensures number { seat.new.number ≡ seat.old.number }
     {
-        let Locked { book, count } = self;
+        let Locked { book, count, row } = self;
         let Seat {
             number,
             notes,
@@ -475,11 +480,11 @@ impl<'p, L: Desking> Locked<'p, L> {
         }
         match book.request_stop(*number, id) {
             Ok(()) => {
-                note(notes, count, share, index, entry);
+                note(row, notes, count, share, index, entry);
                 Ok(())
             }
             Err(fault) => {
-                note_refusal(notes, count, share, index, entry, &fault);
+                note_refusal(row, notes, count, share, index, entry, &fault);
                 Err(fault)
             }
         }
@@ -501,7 +506,7 @@ impl<'p, L: Desking> Locked<'p, L> {
         ensures room { seat.new.kept ≡ seat.old.kept }
         ensures number { seat.new.number ≡ seat.old.number }
     {
-        let Locked { book, count } = self;
+        let Locked { book, count, row } = self;
         let Seat {
             number,
             notes,
@@ -516,11 +521,11 @@ impl<'p, L: Desking> Locked<'p, L> {
         }
         match book.put_back(*number, id, state) {
             Ok(()) => {
-                note(notes, count, share, index, entry);
+                note(row, notes, count, share, index, entry);
                 Ok(())
             }
             Err(fault) => {
-                note_refusal(notes, count, share, index, entry, &fault);
+                note_refusal(row, notes, count, share, index, entry, &fault);
                 Err(fault)
             }
         }
@@ -542,7 +547,7 @@ impl<'p, L: Desking> Locked<'p, L> {
         ensures room { seat.new.kept ≡ seat.old.kept }
         ensures number { seat.new.number ≡ seat.old.number }
     {
-        let Locked { book, count } = self;
+        let Locked { book, count, row } = self;
         let Seat {
             number: _,
             notes,
@@ -557,11 +562,11 @@ impl<'p, L: Desking> Locked<'p, L> {
         }
         match book.retract(lease) {
             Ok(stretch) => {
-                note(notes, count, share, index, entry);
+                note(row, notes, count, share, index, entry);
                 Ok(stretch)
             }
             Err(fault) => {
-                note_refusal(notes, count, share, index, entry, &fault);
+                note_refusal(row, notes, count, share, index, entry, &fault);
                 Err(fault)
             }
         }

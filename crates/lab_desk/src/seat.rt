@@ -4,6 +4,7 @@ ghost use Rattle.lab_desk.specs.Record.{noted, notes_of};
 
 use crate::sheet::Sheet;
 use lab_book::Entry;
+use packed_rows::Row;
 use std::alloc::Global;
 use std::marker::Model;
 use std::sync::ledger::{Ledger, Share};
@@ -17,7 +18,7 @@ pub struct Noted {
 
 impl Noted {
     /// Whether it is a note of this entry; false tells nothing.
-    fn is(&self, index: u64, entry: &Entry) -> bool
+    pub(crate) fn is(&self, index: u64, entry: &Entry) -> bool
         ensures { IsTrue result → self.now ≡ noted index entry.now }
     {
         self.index == index && self.entry.same(entry)
@@ -45,10 +46,10 @@ impl<L: Ledger> Model for Seat<L> {
 }
 
 /// Whether these are the entries of a worker, with their indexes, from an index on; false tells
-/// nothing.
-fn is_record(notes: &[Noted], number: u8, from: usize, history: &[Entry]) -> bool
+/// nothing. The notes are compared by a scratch row.
+fn is_record(notes: &Sheet, row: &mut Row, number: u8, from: usize, history: &[Entry]) -> bool
     requires { from ≤ length history.now }
-    ensures { IsTrue result → notes.now ≡ notes_of number from (drop from history.now) }
+    ensures { IsTrue result → notes.now.list ≡ notes_of number from (drop from history.now) }
 {
     let mut next = 0;
     'comparing: for i in from..history.len() {
@@ -57,7 +58,7 @@ fn is_record(notes: &[Noted], number: u8, from: usize, history: &[Entry]) -> boo
             if next >= notes.len() {
                 return false;
             }
-            if !notes[next].is(i as u64, entry) {
+            if !notes.tells(row, next, i as u64, entry) {
                 return false;
             }
             next += 1;
@@ -89,11 +90,11 @@ impl<L: Ledger> Seat<L> {
     }
 
     /// Whether its notes are the entries of its number, from an index on; false tells nothing.
-    pub(crate) fn tells(&self, from: usize, history: &[Entry]) -> bool
+    pub(crate) fn tells(&self, row: &mut Row, from: usize, history: &[Entry]) -> bool
         requires { from ≤ length history.now }
         ensures { IsTrue result →
             self.now.notes ≡ notes_of self.now.number from (drop from history.now) }
     {
-        is_record(self.notes.list(), self.number, from, history)
+        is_record(&self.notes, row, self.number, from, history)
     }
 }

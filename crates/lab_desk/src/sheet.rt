@@ -1,26 +1,85 @@
 //! Notes, with room kept for notes to come.
-ghost use Rattle.std.specs.Prelude.{◌≡◌, ◌≤◌, ◌<◌, ◌+◌, ◌-◌, ◌++◌, ◌∷◌, [], OnOk, OnErr};
+ghost use Rattle.std.specs.Prelude.{◌≡◌, ◌≤◌, ◌<◌, ◌+◌, ◌-◌, ◌++◌, ◌∷◌, [], length, map, slice_get, Some};
+ghost use Rattle.std.specs.Prelude.{vec_len, vec_capacity, OnOk, OnErr, IsTrue};
+ghost use Rattle.lab_desk.specs.Record.{noted, note_of};
 
 use crate::seat::Noted;
+use lab_book::Entry;
+use packed_rows::{Row, Rows};
 use std::alloc::{AllocError, Global};
 use std::marker::Model;
 
-/// Notes, with room for as many more as `kept` says: these can be added without memory.
+/// Notes, with room for as many more as `kept` says: these can be added without memory. A note is
+/// packed into a row of numbers as soon as there is memory for that; `last` are those that are not.
 #[derive(Drop)]
 pub(crate) struct Sheet {
-    list: Vec<Noted>,
+    rows: Rows,
+    last: Vec<Noted>,
     kept: usize,
 }
 
 impl Model for Sheet {
-    ghost use Rattle.std.specs.Prelude.{◌+◌, ◌≤◌, vec_len, vec_capacity};
-    ghost use Rattle.lab_desk.specs.Record.{SheetValue};
+    ghost use Rattle.std.specs.Prelude.{◌+◌, ◌≤◌, ◌++◌, map, vec_len, vec_capacity};
+    ghost use Rattle.lab_desk.specs.Record.{SheetValue, note_of};
 
     ghost Value = { SheetValue };
 
-    ghost view = { λ n. record { list = n.list.items; kept = n.kept } };
+    ghost view = { λ n. record { list = map note_of n.rows.rows ++ n.last.items; kept = n.kept } };
 
-    ghost invariant = { λ n. vec_len n.list + n.kept ≤ vec_capacity n.list };
+    ghost invariant = { λ n. vec_len n.last + n.kept ≤ vec_capacity n.last };
+}
+
+/// Writes the numbers of a note into a scratch row, and nothing else.
+fn write(row: &mut Row, index: u64, entry: &Entry) -> Result<(), AllocError>
+    ensures { OnOk result (note_of row.new ≡ noted index entry.now) }
+{
+    row.clear();
+    row.put(index)?;
+    entry.put(row)?;
+    Ok(())
+}
+
+/// Whether the row at a place tells the note of this entry; false tells nothing.
+fn is_packed(rows: &Rows, row: &mut Row, place: usize, index: u64, entry: &Entry) -> bool
+    requires { place < length rows.now.rows }
+    ensures { IsTrue result →
+        slice_get (map note_of rows.now.rows) place ≡ Some (noted index entry.now) }
+{
+    if write(row, index, entry).is_err() {
+        return false;
+    }
+    rows.row(place).same(&row.reader())
+}
+
+/// Packs the first of the last notes. The scratch row has room then for each note that was packed
+/// by it.
+fn pack_first(rows: &mut Rows, row: &mut Row, last: &mut Vec<Noted>) -> Result<(), AllocError>
+    requires { 0 < vec_len last.old }
+    ensures all { map note_of rows.new.rows ++ last.new.items ≡
+        map note_of rows.old.rows ++ last.old.items }
+    ensures fewer { OnOk result (vec_len last.new + 1 ≡ vec_len last.old) }
+    ensures unchanged { OnErr result (vec_len last.new ≡ vec_len last.old) }
+    ensures capacity { vec_capacity last.old ≤ vec_capacity last.new }
+{
+    let first = &last[0];
+    write(row, first.index, &first.entry)?;
+    rows.push(row)?;
+    let _note = last.remove(0);
+    Ok(())
+}
+
+/// Packs the last notes, as far as there is memory.
+fn pack(rows: &mut Rows, row: &mut Row, last: &mut Vec<Noted>)
+    ensures all { map note_of rows.new.rows ++ last.new.items ≡
+        map note_of rows.old.rows ++ last.old.items }
+    ensures fewer { vec_len last.new ≤ vec_len last.old }
+    ensures capacity { vec_capacity last.old ≤ vec_capacity last.new }
+{
+    'packing: while !last.is_empty() {
+        if pack_first(rows, row, last).is_err() {
+            return;
+        }
+    }
 }
 
 impl Sheet {
@@ -29,16 +88,30 @@ impl Sheet {
         ensures { result ≡ record { list = []; kept = 0 } }
     {
         Sheet {
-            list: Vec::new(alloc),
+            rows: Rows::new(alloc),
+            last: Vec::new(alloc),
             kept: 0,
         }
     }
 
-    /// The notes.
-    pub fn list(&self) -> &[Noted]
-        ensures { result.now ≡ self.now.list }
+    /// How many notes there are.
+    pub fn len(&self) -> usize
+        ensures { result ≡ length self.now.list }
     {
-        &self.list
+        self.rows.len() + self.last.len()
+    }
+
+    /// Whether the note at a place is of this entry; false tells nothing. The scratch row by which
+    /// a note was packed has room for the same entry, so that one is told again without memory.
+    pub fn tells(&self, row: &mut Row, place: usize, index: u64, entry: &Entry) -> bool
+        requires { place < length self.now.list }
+        ensures { IsTrue result → slice_get self.now.list place ≡ Some (noted index entry.now) }
+    {
+        let count = self.rows.len();
+        if place >= count {
+            return self.last[place - count].is(index, entry);
+        }
+        is_packed(&self.rows, row, place, index, entry)
     }
 
     /// Keeps room for so many notes more. Where memory runs out, nothing changes.
@@ -47,7 +120,7 @@ impl Sheet {
         ensures kept { OnOk result (self.new ≡ record self.old { kept = self.old.kept + count }) }
         ensures unchanged { OnErr result (self.new ≡ self.old) }
     {
-        self.list.reserve(self.kept + count)?;
+        self.last.reserve(self.kept + count)?;
         self.kept += count;
         Ok(())
     }
@@ -74,15 +147,16 @@ impl Sheet {
         }
     }
 
-    /// Adds a note where room was kept for it.
-    pub fn add(&mut self, note: Noted)
+    /// Adds a note where room was kept for it, and packs it by a scratch row.
+    pub fn add(&mut self, row: &mut Row, note: Noted)
         requires { 0 < self.old.kept }
         ensures { self.new ≡ record {
           list = self.old.list ++ note ∷ [];
           kept = self.old.kept - 1;
         } }
     {
-        self.list.push_reserved(note);
+        self.last.push_reserved(note);
         self.kept -= 1;
+        pack(&mut self.rows, row, &mut self.last);
     }
 }

@@ -1,0 +1,11 @@
+use Rattle.std.proofs.Common.{◌≡◌, ◌++◌, ◌∷◌, [], ◌∙◌, ap, sym, subst, refl, length, append_assoc, arith}
+use Rattle.lab_book.specs.EntryCode.{ReadsPath, cut_code}
+use Rattle.lab_book.proofs.CodeLemmas.{always, on_ok, reads_none, reads_some}
+use Rattle.lab_book.proofs.code.writing.put_cut.Goals as goal
+
+pub returns-in-None-clause-code : goal.returns-in-None-clause-code
+unfolding cut_code
+returns-in-None-clause-code c = rw c.in-None.is c.put.ensures.added
+
+pub returns-in-None-clause-reads : goal.returns-in-None-clause-reads
+returns-in-None-clause-reads c = rw c.in-None.is (always _ reads_none)

@@ -1,0 +1,11 @@
+use Rattle.std.proofs.Common.{◌≡◌, ◌++◌, ◌∷◌, [], ◌∙◌, ap, sym, subst, refl, length, append_assoc, arith}
+use Rattle.lab_book.specs.EntryCode.{ReadsState, call_code}
+use Rattle.lab_book.proofs.CodeLemmas.{reads_put_back}
+use Rattle.lab_book.proofs.code.writing.put_put_back.Goals as goal
+
+pub returns-clause-code : goal.returns-clause-code
+unfolding call_code
+returns-clause-code c = rw (c.in_ok-put_state.ensures.code, c.in_ok-put-2.ensures.added, c.in_ok-put.ensures.added, c.state.ensures) (simp append_assoc)
+
+pub returns-clause-reads : goal.returns-clause-reads
+returns-clause-reads c = reads_put_back _ _ (subst ReadsState c.state.ensures c.in_ok-put_state.ensures.reads)

@@ -1,0 +1,11 @@
+use Rattle.std.proofs.Common.{◌≡◌, ◌++◌, subst, append_assoc}
+use Rattle.lab_book.specs.EntryCode.{fault_code, ReadsState}
+use Rattle.lab_book.proofs.CodeLemmas.{reads_stale}
+use Rattle.lab_book.proofs.code.writing.put_stale.Goals as goal
+
+pub returns-clause-code : goal.returns-clause-code
+unfolding fault_code
+returns-clause-code c = rw (c.in_ok-put_state.ensures.code, c.in_ok-put.ensures.added, c.state.ensures) (simp append_assoc)
+
+pub returns-clause-reads : goal.returns-clause-reads
+returns-clause-reads c = reads_stale _ (subst ReadsState c.state.ensures c.in_ok-put_state.ensures.reads)

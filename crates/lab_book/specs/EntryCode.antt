@@ -1,0 +1,218 @@
+-- Entries as rows of numbers, and back.
+use Rattle.std.specs.Prelude.{ℕ, ◌≡◌, ◌%◌, ◌==◌, Bool, true, false, not, Option, List, [], ◌∷◌, ◌++◌, length, take, drop, map, slice_index, if◌then◌else◌}
+use Rattle.std.specs.Prelude as prelude
+use Rattle.x_steps.specs.declared.state.Label.{Label}
+use Rattle.x_steps.specs.declared.state.Label.TheVariants.{X1, X2, X3, X4, X5, X6, X7, X8, Done}
+use Rattle.x_steps.specs.declared.state.Cursor.{Cursor}
+use Rattle.x_steps.specs.declared.state.Cursor.TheVariants as cursor
+use Rattle.x_steps.specs.StateValue.{StateValue}
+use Rattle.lab_book.specs.States.{label_number}
+use Rattle.lab_book.specs.declared.lease.Grant.{Grant}
+use Rattle.lab_book.specs.declared.fault.BookFault.{BookFault}
+use Rattle.lab_book.specs.declared.fault.BookFault.TheVariants.{UnknownBranch, NotWaiting, StaleLease, ForeignProblem, NotAfterMark}
+use Rattle.lab_book.specs.declared.fault.BookFault.TheVariants.{BeyondEnd, NotAMark, NotAtEnd, NothingToRetract, SeatMismatch, OutOfMemory}
+use Rattle.lab_book.specs.declared.entry.Call.{Call}
+use Rattle.lab_book.specs.declared.entry.Call.TheVariants as call
+use Rattle.lab_book.specs.declared.entry.Reply.{Reply}
+use Rattle.lab_book.specs.declared.entry.Reply.TheVariants as reply
+use Rattle.lab_book.specs.declared.entry.Entry.{Entry}
+
+-- ---- numbers
+
+-- a choice is a number of 32 bits, and a worker's one of 8
+abbrev pub choice_of : ℕ → ℕ
+choice_of n = n % 4294967296
+
+abbrev pub worker_of : ℕ → ℕ
+worker_of n = n % 256
+
+abbrev pub bool_code : Bool → ℕ
+bool_code true = 1
+bool_code false = 0
+
+abbrev pub bool_of : ℕ → Bool
+bool_of n = not (n == 0)
+
+abbrev pub label_of : ℕ → Label
+label_of n =
+    if n == 1 then X1 else (if n == 2 then X2 else (if n == 3 then X3 else (if n == 4 then X4 else
+    (if n == 5 then X5 else (if n == 6 then X6 else (if n == 7 then X7 else (if n == 8 then X8 else Done)))))))
+
+abbrev pub cursor_kind : Cursor → ℕ
+cursor_kind cursor.None = 0
+cursor_kind (cursor.At o) = 1
+cursor_kind cursor.Past = 2
+
+abbrev pub cursor_choice : Cursor → ℕ
+cursor_choice (cursor.At o) = o
+cursor_choice k = 0
+
+abbrev pub cursor_of : ℕ → ℕ → Cursor
+cursor_of kind n = if kind == 0 then cursor.None else (if kind == 1 then cursor.At (choice_of n) else cursor.Past)
+
+-- ---- lists of choices, and states
+
+-- what comes after the first number
+abbrev pub later : List ℕ → List ℕ
+later ns = drop 1 ns
+
+unfoldable pub path_code : List ℕ → List ℕ
+path_code path = length path ∷ path
+
+unfoldable pub path_of : List ℕ → List ℕ
+path_of ns = map choice_of (take (slice_index ns 0) (later ns))
+
+unfoldable pub path_rest : List ℕ → List ℕ
+path_rest ns = drop (slice_index ns 0) (later ns)
+
+unfoldable pub cut_code : Option (List ℕ) → List ℕ
+cut_code prelude.None = 0 ∷ []
+cut_code (prelude.Some path) = 1 ∷ path_code path
+
+unfoldable pub cut_of : List ℕ → Option (List ℕ)
+cut_of ns = if slice_index ns 0 == 0 then prelude.None else prelude.Some (path_of (later ns))
+
+unfoldable pub cut_rest : List ℕ → List ℕ
+cut_rest ns = if slice_index ns 0 == 0 then later ns else path_rest (later ns)
+
+unfoldable pub state_code : StateValue → List ℕ
+state_code s = label_number s.label ∷ cursor_kind s.cursor ∷ cursor_choice s.cursor ∷ path_code s.path
+
+unfoldable pub state_of : List ℕ → StateValue
+state_of ns = record {
+  label = label_of (slice_index ns 0);
+  path = path_of (later (later (later ns)));
+  cursor = cursor_of (slice_index (later ns) 0) (slice_index (later (later ns)) 0);
+}
+
+unfoldable pub state_rest : List ℕ → List ℕ
+state_rest ns = path_rest (later (later (later ns)))
+
+-- ---- leases and faults
+
+unfoldable pub grant_code : Grant → List ℕ
+grant_code g = g.id ∷ g.worker ∷ g.index ∷ []
+
+unfoldable pub grant_of : List ℕ → Grant
+grant_of ns = record { id = slice_index ns 0; worker = worker_of (slice_index (later ns) 0); index = slice_index (later (later ns)) 0 }
+
+abbrev pub grant_rest : List ℕ → List ℕ
+grant_rest ns = later (later (later ns))
+
+unfoldable pub fault_code : BookFault → List ℕ
+fault_code UnknownBranch = 1 ∷ []
+fault_code NotWaiting = 2 ∷ []
+fault_code (StaleLease mark) = 3 ∷ state_code mark
+fault_code ForeignProblem = 4 ∷ []
+fault_code NotAfterMark = 5 ∷ []
+fault_code BeyondEnd = 6 ∷ []
+fault_code NotAMark = 7 ∷ []
+fault_code NotAtEnd = 8 ∷ []
+fault_code NothingToRetract = 9 ∷ []
+fault_code SeatMismatch = 10 ∷ []
+fault_code OutOfMemory = 11 ∷ []
+
+abbrev pub fault_with : ℕ → List ℕ → BookFault
+fault_with n ns =
+    if n == 1 then UnknownBranch else (if n == 2 then NotWaiting else (if n == 3 then StaleLease (state_of ns) else
+    (if n == 4 then ForeignProblem else (if n == 5 then NotAfterMark else (if n == 6 then BeyondEnd else
+    (if n == 7 then NotAMark else (if n == 8 then NotAtEnd else (if n == 9 then NothingToRetract else
+    (if n == 10 then SeatMismatch else OutOfMemory)))))))))
+
+unfoldable pub fault_of : List ℕ → BookFault
+fault_of ns = fault_with (slice_index ns 0) (later ns)
+
+-- ---- calls
+
+unfoldable pub call_code : Call → List ℕ
+call_code (call.Lease id) = 0 ∷ id ∷ []
+call_code call.LeaseAny = 1 ∷ []
+call_code (call.TakeHeld id) = 2 ∷ id ∷ []
+call_code (call.Post g from to same) = 3 ∷ bool_code same ∷ grant_code g ++ (state_code from ++ state_code to)
+call_code (call.Split g path same) = 4 ∷ bool_code same ∷ grant_code g ++ path_code path
+call_code (call.Retract g) = 5 ∷ grant_code g
+call_code (call.Park g) = 6 ∷ grant_code g
+call_code (call.Abandon g) = 7 ∷ grant_code g
+call_code (call.Close g) = 8 ∷ grant_code g
+call_code (call.PutBack id s) = 9 ∷ id ∷ state_code s
+call_code (call.RequestStop id) = 10 ∷ id ∷ []
+
+abbrev pub post_read : List ℕ → Call
+post_read ns = call.Post (grant_of (later ns)) (state_of (grant_rest (later ns))) (state_of (state_rest (grant_rest (later ns)))) (bool_of (slice_index ns 0))
+
+abbrev pub split_read : List ℕ → Call
+split_read ns = call.Split (grant_of (later ns)) (path_of (grant_rest (later ns))) (bool_of (slice_index ns 0))
+
+abbrev pub call_with : ℕ → List ℕ → Call
+call_with n ns =
+    if n == 0 then call.Lease (slice_index ns 0) else (if n == 1 then call.LeaseAny else (if n == 2 then call.TakeHeld (slice_index ns 0) else
+    (if n == 3 then post_read ns else (if n == 4 then split_read ns else (if n == 5 then call.Retract (grant_of ns) else
+    (if n == 6 then call.Park (grant_of ns) else (if n == 7 then call.Abandon (grant_of ns) else (if n == 8 then call.Close (grant_of ns) else
+    (if n == 9 then call.PutBack (slice_index ns 0) (state_of (later ns)) else call.RequestStop (slice_index ns 0))))))))))
+
+abbrev pub call_rest_with : ℕ → List ℕ → List ℕ
+call_rest_with n ns =
+    if n == 0 then later ns else (if n == 1 then ns else (if n == 2 then later ns else
+    (if n == 3 then state_rest (state_rest (grant_rest (later ns))) else (if n == 4 then path_rest (grant_rest (later ns)) else (if n == 5 then grant_rest ns else
+    (if n == 6 then grant_rest ns else (if n == 7 then grant_rest ns else (if n == 8 then grant_rest ns else
+    (if n == 9 then state_rest (later ns) else later ns)))))))))
+
+unfoldable pub call_of : List ℕ → Call
+call_of ns = call_with (slice_index ns 0) (later ns)
+
+unfoldable pub call_rest : List ℕ → List ℕ
+call_rest ns = call_rest_with (slice_index ns 0) (later ns)
+
+-- ---- replies
+
+unfoldable pub reply_code : Reply → List ℕ
+reply_code (reply.Leased g lo hi mark waiting) = 0 ∷ waiting ∷ grant_code g ++ (cut_code lo ++ (cut_code hi ++ state_code mark))
+reply_code reply.NoneWaits = 1 ∷ []
+reply_code (reply.Posted stop waiting) = 2 ∷ bool_code stop ∷ waiting ∷ []
+reply_code (reply.Split id) = 3 ∷ id ∷ []
+reply_code (reply.Retracted from to) = 4 ∷ state_code from ++ state_code to
+reply_code reply.Done = 5 ∷ []
+reply_code (reply.Refused f) = 6 ∷ fault_code f
+
+abbrev pub leased_read : List ℕ → Reply
+leased_read ns = reply.Leased (grant_of (later ns)) (cut_of (grant_rest (later ns))) (cut_of (cut_rest (grant_rest (later ns)))) (state_of (cut_rest (cut_rest (grant_rest (later ns))))) (slice_index ns 0)
+
+abbrev pub reply_with : ℕ → List ℕ → Reply
+reply_with n ns =
+    if n == 0 then leased_read ns else (if n == 1 then reply.NoneWaits else
+    (if n == 2 then reply.Posted (bool_of (slice_index ns 0)) (slice_index (later ns) 0) else (if n == 3 then reply.Split (slice_index ns 0) else
+    (if n == 4 then reply.Retracted (state_of ns) (state_of (state_rest ns)) else (if n == 5 then reply.Done else reply.Refused (fault_of ns))))))
+
+unfoldable pub reply_of : List ℕ → Reply
+reply_of ns = reply_with (slice_index ns 0) (later ns)
+
+-- ---- entries
+
+unfoldable pub entry_code : Entry → List ℕ
+entry_code e = e.worker ∷ call_code e.call ++ reply_code e.reply
+
+unfoldable pub entry_of : List ℕ → Entry
+entry_of ns = record { worker = worker_of (slice_index ns 0); call = call_of (later ns); reply = reply_of (call_rest (later ns)) }
+
+-- ---- what is read back as it was
+
+abbrev pub ReadsPath : List ℕ → Type 0
+ReadsPath path = (rest : List ℕ) → (path_of (path_code path ++ rest) ≡ path) × (path_rest (path_code path ++ rest) ≡ rest)
+
+abbrev pub ReadsState : StateValue → Type 0
+ReadsState s = (rest : List ℕ) → (state_of (state_code s ++ rest) ≡ s) × (state_rest (state_code s ++ rest) ≡ rest)
+
+abbrev pub ReadsCut : Option (List ℕ) → Type 0
+ReadsCut cut = (rest : List ℕ) → (cut_of (cut_code cut ++ rest) ≡ cut) × (cut_rest (cut_code cut ++ rest) ≡ rest)
+
+abbrev pub ReadsGrant : Grant → Type 0
+ReadsGrant g = (rest : List ℕ) → grant_of (grant_code g ++ rest) ≡ g
+
+abbrev pub ReadsCall : Call → Type 0
+ReadsCall c = (rest : List ℕ) → (call_of (call_code c ++ rest) ≡ c) × (call_rest (call_code c ++ rest) ≡ rest)
+
+abbrev pub ReadsReply : Reply → Type 0
+ReadsReply r = reply_of (reply_code r) ≡ r
+
+abbrev pub ReadsFault : BookFault → Type 0
+ReadsFault f = fault_of (fault_code f) ≡ f

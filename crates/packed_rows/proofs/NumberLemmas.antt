@@ -1,0 +1,147 @@
+-- Numbers are read back from their bytes.
+use Rattle.std.proofs.Common.{◌≡◌, ℕ, zero, suc, ◌+◌, ◌-◌, ◌*◌, ◌/◌, ◌%◌, ◌^◌, ◌<◌, ◌≤◌, List, [], ◌∷◌, ◌++◌, length, refl, sym, ap, ◌∙◌, subst, arith, length-append, append_assoc, pow-suc, drop, get_or, ◌⊎◌, inl, inr}
+use Rattle.std.proofs.lemmas.Bool.{cases_lt}
+use Rattle.std.proofs.lemmas.List.{append-nil, drop_more, drop_all}
+use Rattle.std.proofs.lemmas.Bool.Decides.{nat_tests}
+use Rattle.packed_rows.specs.Numbers.{front, bytes_of, most_before, numbers_at, numbers_of, IsWhole, IsRow}
+
+-- the three ways in which a byte is read
+pub at_last : (high b : ℕ) (bs : List ℕ) → high < most_before → b < 128 → numbers_at high (b ∷ bs) ≡ (high * 128 + b) ∷ numbers_at 0 bs
+unfolding numbers_at
+at_last high b bs h l = grind (arith, nat_tests)
+
+pub at_more : (high b : ℕ) (bs : List ℕ) → high < most_before → 128 ≤ b → numbers_at high (b ∷ bs) ≡ numbers_at (high * 128 + (b - 128)) bs
+unfolding numbers_at
+at_more high b bs h l = grind (arith, nat_tests)
+
+pub at_full : (high b : ℕ) (bs : List ℕ) → most_before ≤ high → numbers_at high (b ∷ bs) ≡ []
+unfolding numbers_at
+at_full high b bs h = grind (arith, nat_tests)
+
+pub at_none : (high : ℕ) → numbers_at high [] ≡ []
+unfolding numbers_at
+at_none high = refl
+
+-- the bytes before a number's last one
+pub front_none : (k : ℕ) → front k 0 ≡ []
+unfolding front
+front_none zero = refl
+front_none (suc k) = refl
+
+pub front_more : (k n : ℕ) → 0 < n → front (suc k) n ≡ front k (n / 128) ++ (n % 128 + 128) ∷ []
+unfolding front
+front_more k n h = grind (arith, nat_tests)
+
+front_long : (k n : ℕ) → length (front k n) ≤ k
+unfolding front
+front_long zero n = omega arith
+front_long (suc k) n =
+    elim (cases_lt 0 n) [
+      | inl l ↦ let e = ap length (front_more k n l) in let m = length-append (front k (n / 128)) ((n % 128 + 128) ∷ []) in
+          omega (arith, front_long k (n / 128), e, m)
+      | inr l ↦ let z : n ≡ 0 = omega arith in rw z (omega arith)
+    ]
+
+reads_front : (k n : ℕ) (bs : List ℕ) → n < 128 ^ k → n < most_before → numbers_at 0 (front k n ++ bs) ≡ numbers_at n bs
+reads_front zero n bs h m = let z : n ≡ 0 = omega arith in rw (z, front_none) refl
+reads_front (suc k) n bs h m =
+    elim (cases_lt 0 n) [
+      | inl l ↦ let q : n / 128 < 128 ^ k = omega (arith, pow-suc 128 k) in
+          let e : n / 128 * 128 + (n % 128 + 128 - 128) ≡ n = omega arith in
+          rw (front_more k n l, append_assoc)
+          (reads_front k (n / 128) ((n % 128 + 128) ∷ bs) q (omega arith) ∙ at_more (n / 128) (n % 128 + 128) bs (omega arith) (omega arith)
+          ∙ ap (λ x. numbers_at x bs) e)
+      | inr l ↦ let z : n ≡ 0 = omega arith in rw (z, front_none) refl
+    ]
+
+-- what is read of a number and what comes after it
+pub reads_number : (n : ℕ) (bs : List ℕ) → n < 2 ^ 64 → numbers_of (bytes_of n ++ bs) ≡ n ∷ numbers_of bs
+unfolding bytes_of numbers_of
+reads_number n bs h =
+    let e : n / 128 * 128 + n % 128 ≡ n = omega arith in
+    rw append_assoc (reads_front 9 (n / 128) (n % 128 ∷ bs) (omega arith) (omega arith)
+    ∙ at_last (n / 128) (n % 128) bs (omega arith) (omega arith) ∙ ap (λ x. x ∷ numbers_at 0 bs) e)
+
+pub none : numbers_of [] ≡ []
+unfolding numbers_of
+none = at_none 0
+
+pub whole_none : IsRow []
+unfolding numbers_of
+whole_none = record { whole = λ cs. rw at_none refl; short = omega arith }
+
+pub reads_alone : (n : ℕ) → n < 2 ^ 64 → numbers_of (bytes_of n) ≡ n ∷ []
+reads_alone n h = ap numbers_of (sym (append-nil (bytes_of n))) ∙ reads_number n [] h ∙ ap (λ ns. n ∷ ns) none
+
+pub reads_put : (bs : List ℕ) (n : ℕ) → IsWhole bs → n < 2 ^ 64 → numbers_of (bs ++ bytes_of n) ≡ numbers_of bs ++ n ∷ []
+reads_put bs n w h = w (bytes_of n) ∙ ap (λ ns. numbers_of bs ++ ns) (reads_alone n h)
+
+bytes_long : (n : ℕ) → length (bytes_of n) ≤ 10
+unfolding bytes_of
+bytes_long n = omega (arith, length-append (front 9 (n / 128)) (n % 128 ∷ []), front_long 9 (n / 128))
+
+pub whole_put : (bs : List ℕ) (n : ℕ) → IsRow bs → n < 2 ^ 64 → IsRow (bs ++ bytes_of n)
+whole_put bs n w h =
+    let more = reads_put bs n w.whole h in let e = ap length more in
+    let m = length-append (numbers_of bs) (n ∷ []) in let l = length-append bs (bytes_of n) in let s = bytes_long n in
+    record {
+      whole = λ cs. ap numbers_of (append_assoc bs (bytes_of n) cs) ∙ w.whole (bytes_of n ++ cs)
+          ∙ ap (λ ns. numbers_of bs ++ ns) (reads_number n cs h) ∙ sym (append_assoc (numbers_of bs) (n ∷ []) (numbers_of cs))
+          ∙ ap (λ ns. ns ++ numbers_of cs) (sym more);
+      short = let q = w.short in omega (arith, e, m, l, s);
+    }
+
+-- ---- steps of a reader, which has read `high` of a number, and stands at place i
+
+pub step_last : (high i : ℕ) (bs : List ℕ) → i < length bs → high < most_before → get_or bs i 0 < 128
+    → numbers_at high (drop i bs) ≡ (high * 128 + get_or bs i 0) ∷ numbers_of (drop (i + 1) bs)
+unfolding numbers_of
+step_last high i bs l h m = ap (numbers_at high) (drop_more bs i 0 l) ∙ at_last high (get_or bs i 0) (drop (i + 1) bs) h m
+
+pub step_more : (high i : ℕ) (bs : List ℕ) → i < length bs → high < most_before → 128 ≤ get_or bs i 0
+    → numbers_at high (drop i bs) ≡ numbers_at (high * 128 + (get_or bs i 0 - 128)) (drop (i + 1) bs)
+step_more high i bs l h m = ap (numbers_at high) (drop_more bs i 0 l) ∙ at_more high (get_or bs i 0) (drop (i + 1) bs) h m
+
+pub step_full : (high i : ℕ) (bs : List ℕ) → i < length bs → most_before ≤ high → numbers_at high (drop i bs) ≡ []
+step_full high i bs l h = ap (numbers_at high) (drop_more bs i 0 l) ∙ at_full high (get_or bs i 0) (drop (i + 1) bs) h
+
+pub step_none : (high i : ℕ) (bs : List ℕ) → length bs ≤ i → numbers_at high (drop i bs) ≡ []
+step_none high i bs l = ap (numbers_at high) (drop_all i bs l) ∙ at_none high
+
+pub begins : (bs : List ℕ) → numbers_at 0 bs ≡ numbers_of bs
+unfolding numbers_of
+begins bs = refl
+
+-- ---- a number is put
+
+pub more_left : (most n : ℕ) → n < 128 ^ most → 0 < n → (0 < most) × (n / 128 < 128 ^ (most - 1))
+more_left zero n h p = absurd (omega arith)
+more_left (suc k) n h p = let e : suc k - 1 ≡ k = omega arith in (omega arith, rw e (omega (arith, pow-suc 128 k)))
+
+pub put_more : (j most n : ℕ) (old mid new : List ℕ) → suc j ≡ most → 0 < n → mid ≡ old ++ front j (n / 128)
+    → new ≡ mid ++ (n % 128 + 128) ∷ [] → new ≡ old ++ front most n
+put_more j most n old mid new m p e f =
+    f ∙ ap (λ xs. xs ++ (n % 128 + 128) ∷ []) e ∙ append_assoc old (front j (n / 128)) ((n % 128 + 128) ∷ [])
+    ∙ ap (λ xs. old ++ xs) (sym (front_more j n p)) ∙ ap (λ k. old ++ front k n) m
+
+pub put_last : (n : ℕ) (old mid new : List ℕ) → mid ≡ old ++ front 9 (n / 128) → new ≡ mid ++ n % 128 ∷ [] → new ≡ old ++ bytes_of n
+unfolding bytes_of
+put_last n old mid new e f =
+    f ∙ ap (λ xs. xs ++ n % 128 ∷ []) e ∙ append_assoc old (front 9 (n / 128)) (n % 128 ∷ [])
+
+-- ---- a row has no more numbers than bytes
+
+few_at : (high : ℕ) (bs : List ℕ) → length (numbers_at high bs) ≤ length bs
+few_at high [] = let e = at_none high in omega (arith, ap length e)
+few_at high (b ∷ bs) =
+    elim (cases_lt high most_before) [
+      | inl h ↦ elim (cases_lt b 128) [
+        | inl l ↦ omega (arith, few_at 0 bs, ap length (at_last high b bs h l))
+        | inr l ↦ omega (arith, few_at (high * 128 + (b - 128)) bs, ap length (at_more high b bs h l))
+      ]
+      | inr h ↦ omega (arith, ap length (at_full high b bs h))
+    ]
+
+pub few : (bs : List ℕ) → length (numbers_of bs) ≤ length bs
+unfolding numbers_of
+few bs = few_at 0 bs

@@ -1,0 +1,12 @@
+//! Rows of numbers, each number in as few bytes as it needs.
+#![tactic(auto)]
+
+mod reader;
+mod row;
+#[cfg(test)]
+mod row_tests;
+mod rows;
+
+pub use reader::Reader;
+pub use row::Row;
+pub use rows::Rows;

@@ -1,0 +1,106 @@
+//! Rows are read as they were written, in as many bytes as their numbers have groups of seven bits.
+
+ghost use Rattle.std.specs.Prelude.{◌≡◌, ◌∷◌, [], ◌+◌, length, IfOk, OnOk};
+
+use crate::{Reader, Row, Rows};
+use std::alloc::{AllocError, Global};
+use std::process::Abort;
+
+/// Numbers, and how many groups of seven bits each has.
+static SIZES: [(u64, usize); 10] = [
+    (0, 1),
+    (127, 1),
+    (128, 2),
+    (16383, 2),
+    (16384, 3),
+    (2097151, 3),
+    (2097152, 4),
+    (4294967295, 5),
+    (9223372036854775807, 9),
+    (18446744073709551615, 10),
+];
+
+/// A row of two numbers.
+fn row_of(alloc: Global, first: u64, second: u64) -> Result<Row, AllocError>
+    ensures { IfOk result (λ row. row ≡ first ∷ second ∷ []) }
+{
+    let mut row = Row::new(alloc);
+    row.put(first)?;
+    row.put(second)?;
+    Ok(row)
+}
+
+/// Each number takes its bytes and a 1 beside it one, and both are read back; after them there is none.
+fn assert_sizes(rt: &impl Abort, alloc: Global) -> Result<(), AllocError> {
+    for (number, size) in &SIZES {
+        let row = row_of(alloc, *number, 1)?;
+        assert!(rt; row.size() == *size + 1);
+        let mut reader = row.reader();
+        assert!(rt; reader.next() == Some(*number));
+        assert!(rt; reader.number() == 1);
+        assert!(rt; reader.next() == None);
+        assert!(rt; reader.number() == 0);
+    }
+    Ok(())
+}
+
+#[test]
+fn a_number_takes_a_byte_for_seven_bits(rt: HostRuntime) -> Result<(), AllocError> {
+    assert_sizes(&rt, rt.alloc())
+}
+
+/// A row and its copy tell the same, and once one is cleared they don't.
+fn assert_copies(rt: &impl Abort, row: &mut Row) -> Result<(), AllocError> {
+    let copy = row.copy()?;
+    assert!(rt; copy.reader().same(&row.reader()));
+    row.clear();
+    assert!(rt; row.size() == 0);
+    assert!(rt; !copy.reader().same(&row.reader()));
+    Ok(())
+}
+
+#[test]
+fn a_copy_stays_when_a_row_is_cleared(rt: HostRuntime) -> Result<(), AllocError> {
+    let mut row = row_of(rt.alloc(), 300, 70000)?;
+    assert_copies(&rt, &mut row)
+}
+
+/// Two rows, of a row's two numbers with two more and with one.
+fn add_two(row: &Row, rows: &mut Rows) -> Result<(), AllocError>
+    requires { row.now ≡ 300 ∷ 70000 ∷ [] }
+    ensures { OnOk result (length rows.new.rows ≡ length rows.old.rows + 2) }
+{
+    rows.keep(1, 4)?;
+    rows.add(row, &[1, 2]);
+    rows.add_kept(row, &[3]);
+    Ok(())
+}
+
+/// What the next three numbers of a row are.
+fn next_three(reader: &mut Reader<'_>) -> (u64, u64, u64) {
+    let first = reader.number();
+    let second = reader.number();
+    (first, second, reader.number())
+}
+
+/// The two rows are read back, each from its own first number on.
+fn assert_two(rt: &impl Abort, rows: &Rows)
+    requires { length rows.now.rows ≡ 2 }
+{
+    let mut first = rows.row(0);
+    assert!(rt; next_three(&mut first) == (300, 70000, 1));
+    assert!(rt; next_three(&mut first) == (2, 0, 0));
+    let mut second = rows.row(1);
+    assert!(rt; next_three(&mut second) == (300, 70000, 3));
+    assert!(rt; second.next() == None);
+}
+
+#[test]
+fn rows_are_read_apart(rt: HostRuntime) -> Result<(), AllocError> {
+    let row = row_of(rt.alloc(), 300, 70000)?;
+    let mut rows = Rows::new(rt.alloc());
+    add_two(&row, &mut rows)?;
+    rows.give_up();
+    assert_two(&rt, &rows);
+    Ok(())
+}

@@ -49,7 +49,10 @@ fn cut_of(line: &[u8]) -> &[u8] {
     let Some(rest) = line.strip_prefix(b"branch ") else {
         return b"start";
     };
-    let end = rest.windows(4).position(|four| four == b" to ".as_slice()).unwrap_or(0);
+    let end = rest
+        .windows(4)
+        .position(|four| four == b" to ".as_slice())
+        .unwrap_or(0);
     let (cut, _) = rest.split_at(end.min(rest.len()));
     cut
 }
@@ -165,7 +168,10 @@ impl Script {
             2 => self.ask(session, &line_of(alloc, b"back ", number.as_bytes())?),
             3 | 4 => self.ask(session, &line_of(alloc, b"split 0 ", number.as_bytes())?),
             5 => self.ask(session, &line_of(alloc, b"split 1 ", number.as_bytes())?),
-            6 => self.ask(session, &line_of(alloc, b"break option ", number.as_bytes())?),
+            6 => self.ask(
+                session,
+                &line_of(alloc, b"break option ", number.as_bytes())?,
+            ),
             7 => self.ask(session, b"run"),
             8 => self.ask(session, b"close"),
             9 => self.ask(session, b"retract"),
@@ -243,7 +249,10 @@ fn pools_answer_as_a_search_by_hand(rt: HostRuntime) -> Result<(), Fail> {
         let problem = read_cover(rt.alloc(), text.as_bytes())?;
         for pool in POOLS.iter() {
             let script = drawn_script(rt.alloc(), &problem, seed, pool.as_bytes())?;
-            assert!(rt; is_as_by_hand(&rt, rt.alloc(), &problem, &script)?, "for {text}");
+            assert!(rt;
+                is_as_by_hand(&rt, rt.alloc(), &problem, &script)?,
+                "for {text}"
+            );
         }
     }
     Ok(())

@@ -105,7 +105,8 @@ fn a_held_branch_is_left_by_pools(rt: HostRuntime) -> Result<(), Fail> {
     for (first, last) in HELD.iter() {
         let text = format!(in rt.alloc();
             "{SMALL}\n%%\nstep 5\nsplit 0 4\npark\nhold 4\npool {first}\nsteps\nlevels\nopen 4\n\
-             park\npool {last}\nsteps\nvisits\n")?;
+             park\npool {last}\nsteps\nvisits\n"
+        )?;
         let answers = answered(&rt, rt.alloc(), text.as_str())?;
         assert!(rt; answers.as_slice() == HELD_ANSWERS.as_bytes());
     }

@@ -217,3 +217,14 @@ fn one_worker_posts_while_another_is_held(rt: HostRuntime) {
     assert!(rt; gate.answered.load(Ordering::SeqCst));
     assert!(rt; !gate.ran_out.load(Ordering::SeqCst));
 }
+
+#[test]
+fn workers_of_a_command_overlap(rt: HostRuntime) -> Result<(), Fail> {
+    let gate = new_gate();
+    let text = format!(in rt.alloc(); "{SOMA}\n%%\npark\npool 2\nsteps\n")?;
+    let (ended, output) = written(&rt, rt.alloc(), &gate, Job::DebugPuzzle, text.as_bytes());
+    assert!(rt; ended == 0 && output.as_slice() == b"parked\npooled\nsteps 1991327\n".as_slice());
+    assert!(rt; gate.answered.load(Ordering::SeqCst));
+    assert!(rt; !gate.ran_out.load(Ordering::SeqCst));
+    Ok(())
+}

@@ -3,5 +3,7 @@ mod FirstLemmas
 mod TakingLemmas
 mod SearchingLemmas
 mod InputExamples
+mod PoolLemmas
+mod AlikeLemmas
 mod ReplyLemmas
 mod ReplyExamples

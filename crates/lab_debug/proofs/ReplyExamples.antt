@@ -3,7 +3,7 @@ use Rattle.std.proofs.Common.{◌≡◌, List, ℕ, [], ◌∷◌, ◌++◌, cod
 use Rattle.std.specs.List.{concat}
 use Rattle.debug_texts.specs.Reading.{command_from, engine_from}
 use Rattle.x_debug.specs.Session.{SessionValue}
-use Rattle.x_debug.specs.Commands.{Answer, answer, answer_show}
+use Rattle.x_debug.specs.Commands.{answer, answer_show}
 use Rattle.x_debug.specs.Loading.{load_answer}
 use Rattle.lab_debug.specs.Replies.{exchange, debug_replies}
 

@@ -1,6 +1,7 @@
 -- Replies, line by line.
 use Rattle.std.proofs.Common.{◌≡◌, ℕ, zero, suc, List, [], ◌∷◌, ◌++◌, drop, Option, Some, None, option_map, unwrap_or, refl, sym, ◌∙◌, ap, length, append_assoc, append-nil, arith}
 use Rattle.x_debug.specs.Session.{SessionValue}
+use Rattle.alike_sessions.specs.AlikeSessions.{AreSoundAlike}
 use Rattle.lab_debug.specs.Input.{raw_lines}
 use Rattle.lab_debug.specs.Replies.{exchange, debug_replies}
 
@@ -39,10 +40,10 @@ module _ (s t : SessionValue) (said text whole rest line after : List ℕ) (line
       ∙ sym (one s line (raw_lines after)) ∙ ap (debug_replies s 0) (sym lines))
       ∙ so_far
 
-  pub replies_go : (left : List ℕ) → Some (raw_lines left) ≡ option_map (λ n. drop n (raw_lines after)) (exchange s line (raw_lines after)).taken → text ++ debug_replies t 0 (raw_lines left) ≡ whole
+  replies_go : (left : List ℕ) → Some (raw_lines left) ≡ option_map (λ n. drop n (raw_lines after)) (exchange s line (raw_lines after)).taken → text ++ debug_replies t 0 (raw_lines left) ≡ whole
   replies_go left e = said_of _ (goes_on t (raw_lines after) (raw_lines left) _ e)
 
-  pub replies_end : None ≡ option_map (λ n. drop n (raw_lines after)) (exchange s line (raw_lines after)).taken → text ≡ whole
+  replies_end : None ≡ option_map (λ n. drop n (raw_lines after)) (exchange s line (raw_lines after)).taken → text ≡ whole
   replies_end e = sym (append-nil text) ∙ said_of [] (ends t (raw_lines after) _ e)
 
 -- no line is left
@@ -51,5 +52,42 @@ unfolding debug_replies
 none_left s [] e = refl
 none_left s (b ∷ bs) e = absurd (omega arith)
 
-pub replies_done : (s : SessionValue) (said whole rest : List ℕ) → said ++ debug_replies s 0 (raw_lines rest) ≡ whole → length rest ≡ 0 → said ≡ whole
+replies_done : (s : SessionValue) (said whole rest : List ℕ) → said ++ debug_replies s 0 (raw_lines rest) ≡ whole → length rest ≡ 0 → said ≡ whole
 replies_done s said whole rest h e = sym (append-nil said) ∙ ap (λ l. said ++ l) (sym (none_left s rest e)) ∙ h
+
+-- ---- what a session says for another one, which is alike
+
+-- what is said, and what the other one answers to the lines that are left, is the whole
+pub record IsAnswering (whole : List ℕ) (s : SessionValue) (said rest : List ℕ) : Type 0 where
+  pub other : SessionValue
+  pub alike : AreSoundAlike s other
+  pub so_far : said ++ debug_replies other 0 (raw_lines rest) ≡ whole
+
+pub answering_begins : (s f : SessionValue) (said rest : List ℕ) → AreSoundAlike s f
+    → IsAnswering (said ++ debug_replies f 0 (raw_lines rest)) s said rest
+answering_begins s f said rest k = record { other = f; alike = k; so_far = refl }
+
+-- one line more
+module _ (whole : List ℕ) (s t : SessionValue) (said text rest line after : List ℕ) (i : IsAnswering whole s said rest)
+    (lines : raw_lines rest ≡ line ∷ raw_lines after)
+    (answered : (f : SessionValue) → AreSoundAlike s f → text ≡ said ++ (exchange f line (raw_lines after)).text) where
+  pub answering_goes : (left : List ℕ)
+      → ((f : SessionValue) → AreSoundAlike s f → AreSoundAlike t (exchange f line (raw_lines after)).session)
+      → ((f : SessionValue) → Some (raw_lines left) ≡ option_map (λ n. drop n (raw_lines after)) (exchange f line (raw_lines after)).taken)
+      → IsAnswering whole t text left
+  answering_goes left alike taken = record {
+    other = (exchange i.other line (raw_lines after)).session;
+    alike = alike i.other i.alike;
+    so_far = replies_go i.other (exchange i.other line (raw_lines after)).session said text whole rest line after lines i.so_far
+        (answered i.other i.alike) refl left (taken i.other);
+  }
+
+  pub answering_ends
+      : ((f : SessionValue) → None ≡ option_map (λ n. drop n (raw_lines after)) (exchange f line (raw_lines after)).taken) → text ≡ whole
+  answering_ends taken =
+      replies_end i.other (exchange i.other line (raw_lines after)).session said text whole rest line after lines i.so_far
+      (answered i.other i.alike) refl (taken i.other)
+
+-- no line is left
+pub answering_done : (whole : List ℕ) (s : SessionValue) (said rest : List ℕ) → IsAnswering whole s said rest → length rest ≡ 0 → said ≡ whole
+answering_done whole s said rest i e = replies_done i.other said whole rest i.so_far e

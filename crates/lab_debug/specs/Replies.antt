@@ -1,7 +1,7 @@
 -- What command lines are answered, one after the other.
 --
 -- A line asks the engine or the session. `load` takes the lines that follow, so many as it says or as there are, and they are no
--- commands; `quit` ends the commands. `pool` isn't here yet, and is refused as no command is.
+-- commands; `quit` ends the commands; `pool` has all waiting tiles searched, by however many workers.
 --
 -- Example: after `load 1` and one line more, `show` is answered; after `quit` nothing is.
 -- proofs/ReplyExamples.antt computes it.
@@ -9,13 +9,12 @@ use Rattle.std.specs.Prelude.{ℕ, zero, suc, ◌++◌, List, [], ◌∷◌, tak
 use Rattle.std.specs.List.{concat}
 use Rattle.debug_texts.specs.declared.engine.EngineCommand.{EngineCommand}
 use Rattle.debug_texts.specs.declared.engine.EngineCommand.TheVariants as engine
-use Rattle.debug_texts.specs.declared.fault.DebugFault.TheVariants.{BadCommand}
 use Rattle.debug_texts.specs.Reading.{engine_command_of}
-use Rattle.debug_views.specs.Lines.{debug_refusal}
 use Rattle.x_debug.specs.Session.{SessionValue}
 use Rattle.x_debug.specs.Commands.{Answer, answer_line}
-use Rattle.x_debug.specs.Loading.{answers, load_answer}
+use Rattle.x_debug.specs.Loading.{load_answer}
 use Rattle.lab_debug.specs.Input.{without_newline}
+use Rattle.lab_debug.specs.Pooling.{answer_pool}
 
 -- what a line is answered, the session that is left, and how many of the lines after it are taken with it; None where it ends the
 -- commands
@@ -32,7 +31,7 @@ exchange_with a n = record { text = a.text; session = a.session; taken = Some n 
 abbrev pub exchange_by : SessionValue → List ℕ → List (List ℕ) → Option EngineCommand → Exchange
 exchange_by s line after None = exchange_with (answer_line s line) 0
 exchange_by s line after (Some (engine.Load n)) = exchange_with (load_answer s (concat (take n after))) n
-exchange_by s line after (Some (engine.Pool n)) = exchange_with (answers (debug_refusal BadCommand) s) 0
+exchange_by s line after (Some (engine.Pool n)) = exchange_with (answer_pool s) 0
 exchange_by s line after (Some engine.Quit) = record { text = []; session = s; taken = None }
 
 -- what a raw line is answered, with these lines after it: it is the engine's own command, or else one line of session s

@@ -2,7 +2,11 @@
 #![tactic(auto)]
 
 mod answering;
+mod fault;
 mod input;
+pub mod laws;
+mod pooling;
 
 pub use answering::replies;
+pub use fault::RepliesFault;
 pub use input::{raw_line, split_input, take_lines, without_newline};

@@ -3,7 +3,16 @@ use Rattle.std.specs.Prelude.{ℕ, List}
 use Rattle.cover_problem.specs.Problem.{ProblemValue}
 use Rattle.x_debug.specs.Session.{fresh_session}
 use Rattle.lab_debug.specs.Replies.{debug_replies}
+use Rattle.lab_debug.specs.declared.fault.RepliesFault.{RepliesFault}
+use Rattle.lab_debug.specs.declared.fault.RepliesFault.TheVariants as replies
+use Rattle.lab_engine.specs.declared.fault.JobFault.{JobFault}
+use Rattle.lab_engine.specs.declared.fault.JobFault.TheVariants as jobs
 
 -- the replies to these command lines, in a session that is at the start of a problem's run
 unfoldable pub debug_output : List (List ℕ) → ProblemValue → List ℕ
 debug_output lines p = debug_replies (fresh_session p) 0 lines
+
+-- why the job can't be done, where not all commands were answered
+abbrev pub job_fault : RepliesFault → JobFault
+job_fault replies.OutOfMemory = jobs.OutOfMemory
+job_fault (replies.Pool fault) = jobs.Pool fault

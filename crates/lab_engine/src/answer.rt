@@ -140,7 +140,7 @@ fn cover_text<T: Table, R: Threads + Wait + Sync, G: Gate>(
 {
     match job {
         CoverJob::List => covers::<T, R, G>(alloc, workers, problem),
-        CoverJob::Debug => Ok(debug::<T>(alloc, problem, commands)?),
+        CoverJob::Debug => debug::<T, R, G>(alloc, workers, problem, commands),
     }
 }
 
@@ -225,7 +225,7 @@ fn packed_text<T: Table, R: Threads + Wait + Sync, G: Gate>(
         PuzzleJob::Count => count::<T, R, G>(alloc, workers, compiled),
         PuzzleJob::Classes => count_classes::<T, R, G>(alloc, workers, compiled),
         PuzzleJob::Options => Ok(options(alloc, compiled)?),
-        PuzzleJob::Debug => Ok(debug::<T>(alloc, compiled.problem(), commands)?),
+        PuzzleJob::Debug => debug::<T, R, G>(alloc, workers, compiled.problem(), commands),
     }
 }
 

@@ -3,18 +3,25 @@ ghost use Rattle.std.specs.Prelude.{◌≡◌, IfOk};
 ghost use Rattle.lab_debug.specs.Input.{raw_lines};
 ghost use Rattle.lab_engine.specs.Debugged.{debug_output};
 
+use crate::fault::JobFault;
+use crate::workers::Workers;
 use cover_problem::{Problem, Table};
 use lab_debug::replies;
-use std::alloc::{AllocError, Global};
+use lab_pool::Gate;
+use std::alloc::Global;
+use std::sync::Wait;
+use std::thread::Threads;
 
-/// What commands over a problem are answered, from the start of its run on.
+/// What commands over a problem are answered, from the start of its run on. A `pool` names its own
+/// number of workers.
 #[tactic(auto, unfolding(crate::specs::Debugged::debug_output))]
-pub fn debug<T: Table>(
+pub fn debug<T: Table, R: Threads + Wait + Sync, G: Gate>(
     alloc: Global,
+    workers: &Workers<'_, R, G>,
     problem: &Problem,
     commands: &[u8],
-) -> Result<Vec<u8>, AllocError>
+) -> Result<Vec<u8>, JobFault>
     ensures { IfOk result (λ text. text.items ≡ debug_output (raw_lines commands.now) problem.now) }
 {
-    replies::<T>(alloc, problem, commands)
+    Ok(replies::<T, R, G>(workers.rt, alloc, problem, commands, workers.gate)?)
 }

@@ -3,6 +3,7 @@ ghost use Rattle.std.specs.Prelude.{◌≡◌};
 ghost use Rattle.lab_engine.specs.declared.fault.JobFault.TheVariants as faults;
 ghost use Rattle.lab_engine.specs.Outcome.{pool_refusal};
 
+use lab_debug::RepliesFault;
 use lab_pool::PoolFault;
 use std::alloc::AllocError;
 
@@ -20,6 +21,19 @@ impl From<AllocError> for JobFault {
 
     fn from(_e: AllocError) -> JobFault {
         JobFault::OutOfMemory
+    }
+}
+
+impl From<RepliesFault> for JobFault {
+    ghost use Rattle.lab_engine.specs.Debugged.{job_fault};
+
+    ghost from_gives = { λ fault e. e ≡ job_fault fault };
+
+    fn from(fault: RepliesFault) -> JobFault {
+        match fault {
+            RepliesFault::OutOfMemory => JobFault::OutOfMemory,
+            RepliesFault::Pool(fault) => JobFault::Pool(fault),
+        }
     }
 }
 

@@ -176,14 +176,15 @@ up to a line `%%`, and then a command from each line:
   hold LO          asks the branch that begins at LO to stop
   putback LO STATE takes what it has posted after a state back
   visits           the visits that were posted; steps, levels: how many
+  pool N           N workers, 1 to 32, search all branches that wait
   load K           goes on at the snapshot in the next K lines
   quit             ends
 
 Each reply is one or more lines. What can't be done is refused in one line, as
 `refused debug 1 BadCommand`, and changes nothing. docs/DEBUGGER.md teaches it.
 
-Exit statuses: 0 done, 2 command line refused, 3 text refused, 4 no memory,
-5 reading or writing failed.";
+Exit statuses: 0 done, 2 command line refused, 3 text refused, 4 no memory or
+workers of `pool` not done, 5 reading or writing failed.";
 
 const OF_COVER: &str = "The problem is a cover text";
 

@@ -15,7 +15,7 @@ type Plain<'p> = Session<'p, PlainTable>;
 
 /// The text of a problem of five items, of which three to five are primary, with five to fifteen options of few
 /// of them.
-fn drawn_text(alloc: Global, seed: &mut u64) -> Result<String, AllocError> {
+pub fn drawn_text(alloc: Global, seed: &mut u64) -> Result<String, AllocError> {
     let primary = draw(seed) % 3 + 3;
     let options = drawn_narrow_options(alloc, 5, 11, seed)?;
     text_of(alloc, 5, primary, &options)

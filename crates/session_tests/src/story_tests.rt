@@ -1,12 +1,16 @@
 //! Sessions as texts: what is read, and what is answered.
 
 use cover_problem::{PlainTable, read_cover};
+use drawn_problems::SMALL;
 use lab_debug::{replies, split_input};
+use lab_pool::NoGate;
 use std::alloc::Global;
+use std::sync::Wait;
 use std::test::Fail;
+use std::thread::Threads;
 
 /// A text of a problem and commands, and what is answered.
-static STORIES: [(&str, &str); 9] = [
+static STORIES: [(&str, &str); 11] = [
     (
         "items a b c d e f g\noption c e\noption a d g\noption b c f\noption a d f\noption b g\n\
          option d e g\n%%\nstep 12\nshow\nback 12\nback\n",
@@ -46,17 +50,43 @@ static STORIES: [(&str, &str); 9] = [
     ),
     (
         "items a\noption a\n%%\npool 2\nstep 2\n",
-        "refused debug 1 BadCommand\nmoved 2\nat X3 -\n",
+        "refused debug 4 AlreadyOpen\nmoved 2\nat X3 -\n",
+    ),
+    (
+        "items a\noption a\n%%\npark\npool\npool 0\npool 33\npool x\npool 1 2\nsteps\n",
+        "parked\nrefused debug 1 BadCommand\nrefused debug 1 BadCommand\nrefused debug 1 BadCommand\n\
+         refused debug 1 BadCommand\nrefused debug 1 BadCommand\nsteps 0\n",
+    ),
+    (
+        "items a b c d e f g\noption c e\noption a d g\noption b c f\noption a d f\noption b g\n\
+         option d e g\n%%\nload 13\npolysnap 1\nproblem 7\nitems a b c d e f g\noption c e\n\
+         option a d g\noption b c f\noption a d f\noption b g\noption d e g\nfrom 4\nto end\n\
+         state X2 - 4 5 1\nend\npark\npool 2\nvisits\nsteps\n",
+        "at X2 - 4 5 1\nparked\npooled\nvisit 4 5 1\nvisits 1\nsteps 14\n",
     ),
 ];
 
+/// The small problem, of which one of two branches is held while workers search the other, and is then searched too; so with two
+/// numbers of workers.
+static HELD: [(&str, &str); 3] = [("1", "2"), ("2", "1"), ("8", "8")];
+
+/// What is answered with each of them.
+const HELD_ANSWERS: &str =
+    "moved 5\nat X2 - 2\nbranch 4 to end waiting\nparked\nbranch 4 to end held\nrefused pool 3 Held\nsteps 20\n\
+     levels 1 1 1\nat X5 4\nparked\npooled\nsteps 43\nvisit 4 5 1\nvisits 1\n";
+
+/// What commands after the mark of a text are answered.
+fn answered<R: Threads + Wait + Sync>(rt: &R, alloc: Global, text: &str) -> Result<Vec<u8>, Fail> {
+    let (text, commands) = split_input(text.as_bytes());
+    let problem = read_cover(alloc, text)?;
+    let answers = replies::<PlainTable, R, NoGate>(rt, alloc, &problem, commands, &NoGate)?;
+    Ok(answers)
+}
+
 /// The place of the first text that is answered otherwise.
-fn differs(alloc: Global) -> Result<Option<usize>, Fail> {
+fn differs<R: Threads + Wait + Sync>(rt: &R, alloc: Global) -> Result<Option<usize>, Fail> {
     for (at, row) in STORIES.iter().enumerate() {
-        let (text, commands) = split_input(row.0.as_bytes());
-        let problem = read_cover(alloc, text)?;
-        let answers = replies::<PlainTable>(alloc, &problem, commands)?;
-        if answers.as_slice() != row.1.as_bytes() {
+        if answered(rt, alloc, row.0)?.as_slice() != row.1.as_bytes() {
             return Ok(Some(at));
         }
     }
@@ -65,7 +95,19 @@ fn differs(alloc: Global) -> Result<Option<usize>, Fail> {
 
 #[test]
 fn texts_are_answered(rt: HostRuntime) -> Result<(), Fail> {
-    let wrong = differs(rt.alloc())?;
+    let wrong = differs(&rt, rt.alloc())?;
     assert!(rt; wrong == None);
+    Ok(())
+}
+
+#[test]
+fn a_held_branch_is_left_by_pools(rt: HostRuntime) -> Result<(), Fail> {
+    for (first, last) in HELD.iter() {
+        let text = format!(in rt.alloc();
+            "{SMALL}\n%%\nstep 5\nsplit 0 4\npark\nhold 4\npool {first}\nsteps\nlevels\nopen 4\n\
+             park\npool {last}\nsteps\nvisits\n")?;
+        let answers = answered(&rt, rt.alloc(), text.as_str())?;
+        assert!(rt; answers.as_slice() == HELD_ANSWERS.as_bytes());
+    }
     Ok(())
 }

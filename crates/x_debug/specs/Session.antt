@@ -1,5 +1,5 @@
 -- A session: a book, the worker that has one of its tiles open or none, and the breakpoints in the order in which they were set.
-use Rattle.std.specs.Prelude.{ℕ, ◌≡◌, true, List, [], Option, None}
+use Rattle.std.specs.Prelude.{◌≡◌, true, List, [], Option, None}
 use Rattle.std.specs.List.{list_all}
 use Rattle.cover_problem.specs.Problem.{ProblemValue}
 use Rattle.x_steps.specs.StateValue.{start}

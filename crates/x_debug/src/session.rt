@@ -1,5 +1,7 @@
 //! Sessions.
-ghost use Rattle.std.specs.Prelude.{◌≡◌, None, is_some, true, IfOk, IfErr, OnOk, OnErr};
+ghost use Rattle.std.specs.Prelude.{◌≡◌, None, is_some, true, option_map, IfOk, IfErr, IfSome, OnOk, OnErr};
+ghost use Rattle.x_steps.specs.StateView.{state_value};
+ghost use Rattle.x_branches.specs.Runner.{IsRunner};
 ghost use Rattle.lab_world.specs.World.{IsSeat};
 ghost use Rattle.x_debug.specs.Session.{session_on, fresh_session};
 
@@ -20,6 +22,7 @@ use lab_world::Worker;
 use std::alloc::{AllocError, Global};
 use std::marker::Model;
 use x_snapshot::Break;
+use x_steps::State;
 
 /// A book, the worker that has one of its tiles open or none, and the breakpoints in the order in which they were set.
 #[derive(Drop)]
@@ -90,6 +93,17 @@ impl<'p, T: Table> Session<'p, T> {
         ensures seat { IsSeat self.now.book 0 self.now.worker }
     {
         &self.book
+    }
+
+    /// Where it stands in the branch that is open: in that branch or at its end, at its mark or after it; None where none is open.
+    pub fn state(&self) -> Option<&State>
+        ensures state { option_map (λ s. state_value s.now) result ≡ option_map (λ w. w.runner.position) self.now.worker }
+        ensures runner { IfSome self.now.worker (λ w. IsRunner w.runner) }
+    {
+        match &self.worker {
+            Some(worker) => Some(worker.runner().state()),
+            None => None,
+        }
     }
 
     /// Its breakpoints, in the order in which they were set.

@@ -1,12 +1,10 @@
 //! A session goes on from a snapshot.
-ghost use Rattle.std.specs.Prelude.{◌≡◌, ◌++◌, [], true, Ok, option_copied, option_map, IfOk, OnOk, OnErr};
+ghost use Rattle.std.specs.Prelude.{◌≡◌, ◌++◌, ◌↔◌, true, false, Some, IsTrue, IfOk, OnOk, OnErr};
 ghost use Rattle.std.specs.List.{list_all};
-ghost use Rattle.cover_problem.specs.Problem.{ProblemValue};
-ghost use Rattle.x_branches.specs.Refusals.{CanStart, StartRefused};
-ghost use Rattle.x_branches.specs.declared.branch.Branch.{Branch};
-ghost use Rattle.x_steps.specs.StateValue.{StateValue};
+ghost use Rattle.cover_problem.specs.Problem.{is_same};
 ghost use Rattle.x_snapshot.specs.Breaks.{is_break};
-ghost use Rattle.x_snapshot.specs.Snapshot.{IsCutIfAny, branch_between, path_in};
+ghost use Rattle.x_snapshot.specs.Snapshot.{branch_between, started};
+ghost use Rattle.x_snapshot.specs.Judged.{judged_parts};
 ghost use Rattle.lab_book.specs.Book.{new_book};
 ghost use Rattle.lab_world.specs.World.{IsSeat};
 ghost use Rattle.debug_work.specs.Desk.{desk};
@@ -20,97 +18,50 @@ use indexmap::IndexSet;
 use lab_book::{Book, BookFault};
 use lab_world::Worker;
 use std::alloc::{AllocError, Global};
-use x_branches::{Branch, Cut, CutFault, RunnerFault, StartFault};
-use x_snapshot::{Break, Snapshot, read_snapshot};
-use x_steps::{AtFault, Refused};
+use x_branches::Runner;
+use x_snapshot::{Break, Draft, read_draft};
 
-/// The breakpoints of a snapshot, as a set.
-fn set_of(alloc: Global, snapshot: &Snapshot) -> Result<IndexSet<Break>, AllocError>
-    ensures { IfOk result (λ set. set.keys ≡ snapshot.now.breaks) }
+/// The breakpoints of a text, as a set.
+fn set_of(alloc: Global, draft: &Draft) -> Result<IndexSet<Break>, AllocError>
+    ensures { IfOk result (λ set. set.keys ≡ draft.now.breaks) }
 {
-    // A snapshot tells with its problem that none of them comes twice.
-    let _problem = snapshot.problem();
+    // A draft tells with its problem that none of them comes twice.
+    let _problem = draft.problem();
     let mut set = IndexSet::new(alloc);
-    for breakpoint in snapshot.breaks() {
+    for breakpoint in draft.breaks() {
         set.insert(*breakpoint)?;
     }
     Ok(set)
 }
 
-/// The cut with these choices, if there is one, by a table of the problem with nothing covered, which comes back so.
-fn cut_of<'p, T: Table>(
+/// A book of a runner's branch, whose first mark is where the runner stands.
+fn book_at<'p, T: Table>(
     alloc: Global,
     problem: &'p Problem,
-    table: T,
-    path: Option<&[u32]>,
-) -> Result<(T, Option<Cut<'p>>), AllocError>
-    requires same_problem { T.problem_value table ≡ problem.now }
-    requires covered { T.covered_list table ≡ [] }
-    requires cut { IsCutIfAny problem.now (option_copied path) }
-    ensures made { IfOk result (λ r. r.1 ≡ option_map (path_in problem.now) (option_copied path.entry)) }
-    ensures same_problem_back { IfOk result (λ r. T.problem_value r.0 ≡ problem.now) }
-    ensures covered_back { IfOk result (λ r. T.covered_list r.0 ≡ []) }
-{
-    let Some(path) = path else {
-        return Ok((table, None));
-    };
-    let path = path.to_vec(alloc)?;
-    let (table, cut) = Cut::with_table(alloc, problem, table, path);
-    let Refused { fault, given: _ } = match cut {
-        Ok(cut) => return Ok((table, Some(cut))),
-        Err(refused) => refused,
-    };
-    match fault {
-        CutFault::OutOfMemory => Err(AllocError),
-        CutFault::NotUntried => unreachable!(),
-    }
-}
-
-/// A search that can start isn't refused but for memory.
-fn memory_ran_out(fault: StartFault) -> AllocError
-    requires { (p : ProblemValue) × (b : Branch) × (s : StateValue) × CanStart p b s × StartRefused p b s fault }
-{
-    match fault {
-        StartFault::Steps(AtFault::OutOfMemory) => AllocError,
-        StartFault::Runner(RunnerFault::OutOfMemory) => AllocError,
-        _ => unreachable!(),
-    }
-}
-
-/// A book of the branch of a snapshot of this problem, with the snapshot's state as its first mark.
-fn book_of<'p, T: Table>(
-    alloc: Global,
-    problem: &'p Problem,
-    snapshot: &Snapshot,
+    runner: &Runner<'p, T>,
 ) -> Result<Book<'p>, AllocError>
-    requires { snapshot.now.problem ≡ problem.now }
-    ensures { IfOk result (λ book. book
-        ≡ new_book problem.now (branch_between problem.now snapshot.now.lo snapshot.now.hi) snapshot.now.state) }
+    requires { runner.now.problem ≡ problem.now }
+    ensures { IfOk result (λ book. book ≡ new_book problem.now runner.now.branch runner.now.position) }
 {
-    let _problem = snapshot.problem();
-    let table = T::new(alloc, problem)?;
-    let (table, lo) = cut_of(alloc, problem, table, snapshot.lo())?;
-    let (_, hi) = cut_of(alloc, problem, table, snapshot.hi())?;
-    let state = snapshot.state().copy()?;
-    match Book::resumed(alloc, problem, Branch { lo, hi }, state) {
-        Ok(book) => Ok(book),
-        Err(refused) => Err(memory_ran_out(refused.fault)),
-    }
+    let state = runner.state();
+    Book::started(alloc, problem, runner.branch(), state)
 }
 
-/// A book of the branch of a snapshot of this problem, and the worker that leases its tile.
+/// A book of the branch that a text says, and the worker that leases its tile, by the runner that stands where the text says.
 fn desk_of<'p, T: Table>(
     alloc: Global,
     problem: &'p Problem,
-    snapshot: &Snapshot,
-) -> Result<(Book<'p>, Option<Worker<'p, T>>), AllocError>
-    requires { snapshot.now.problem ≡ problem.now }
-    ensures made { IfOk result (λ r. desk r.0 r.1 ≡ resumed snapshot.now) }
-    ensures seat { IfOk result (λ r. IsSeat r.0 0 r.1) }
+    draft: &Draft,
+    runner: Runner<'p, T>,
+) -> Result<(Book<'p>, Worker<'p, T>), AllocError>
+    requires same { draft.now.problem ≡ problem.now }
+    requires runner { runner ≡ started problem.now (branch_between problem.now draft.now.lo draft.now.hi) draft.now.state }
+    ensures made { IfOk result (λ r. desk r.0 (Some r.1) ≡ resumed draft.now) }
+    ensures seat { IfOk result (λ r. IsSeat r.0 0 (Some r.1)) }
 {
-    let mut book = book_of::<T>(alloc, problem, snapshot)?;
+    let mut book = book_at(alloc, problem, &runner)?;
     let _tiles = book.tiles();
-    let worker = Worker::lease_any(alloc, &mut book, 0)?;
+    let worker = Worker::lease_with(&mut book, 0, runner)?;
     Ok((book, worker))
 }
 
@@ -135,36 +86,68 @@ impl<'p, T: Table> Session<'p, T> {
         }
     }
 
-    /// Goes on from a snapshot of its problem. Out of memory, nothing has changed.
-    fn resume(&mut self, alloc: Global, snapshot: &Snapshot) -> Result<(), AllocError>
-        requires { snapshot.now.problem ≡ self.old.book.problem }
-        ensures made { OnOk result (self.new ≡ loaded self.old snapshot.now) }
+    /// Goes on where a text of its problem says, with the runner that stands there. Out of memory, nothing has changed.
+    fn resume(
+        &mut self,
+        alloc: Global,
+        draft: &Draft,
+        runner: Runner<'p, T>,
+    ) -> Result<(), AllocError>
+        requires same { draft.now.problem ≡ self.old.book.problem }
+        requires runner { runner ≡ started self.old.book.problem
+            (branch_between self.old.book.problem draft.now.lo draft.now.hi) draft.now.state }
+        ensures made { OnOk result (self.new ≡ loaded self.old draft.now) }
         ensures unchanged { OnErr result (self.new ≡ self.old) }
     {
-        let _problem = snapshot.problem();
-        let breaks = set_of(alloc, snapshot)?;
-        let (book, worker) = desk_of(alloc, self.book.problem(), snapshot)?;
-        self.sit_down(book, worker);
+        let _problem = draft.problem();
+        let breaks = set_of(alloc, draft)?;
+        let (book, worker) = desk_of(alloc, self.book.problem(), draft, runner)?;
+        self.sit_down(book, Some(worker));
         self.take_breaks(breaks);
         Ok(())
     }
 
-    /// Goes on from a snapshot, where it is one of its problem, and writes where it stands.
-    fn go_on(
-        &mut self,
-        alloc: Global,
-        snapshot: &Snapshot,
-        text: &mut Vec<u8>,
-    ) -> Result<(), AllocError>
-        ensures reply { OnOk result (text.new.items ≡ text.old.items ++ (load_by self.old (Ok snapshot.now)).text) }
-        ensures session { OnOk result (self.new ≡ (load_by self.old (Ok snapshot.now)).session) }
+    /// Goes on where a text of its problem says, if that is a snapshot, and writes where it stands. The runner that judges the text
+    /// is the one that goes on.
+    fn go_on(&mut self, alloc: Global, draft: &Draft, text: &mut Vec<u8>) -> Result<(), AllocError>
+        requires same { draft.now.problem ≡ self.old.book.problem }
+        requires test { is_same draft.now.problem self.old.book.problem ≡ true }
+        ensures reply { OnOk result (text.new.items ≡ text.old.items ++ (load_by self.old (judged_parts draft.now)).text) }
+        ensures session { OnOk result (self.new ≡ (load_by self.old (judged_parts draft.now)).session) }
         ensures unchanged { OnErr result (self.new ≡ self.old) }
     {
-        if !snapshot.problem().same(self.book.problem()) {
-            return write_book_fault(text, &BookFault::ForeignProblem);
+        match draft.runner(alloc, self.book.problem()) {
+            Ok(runner) => {
+                write_at(text, draft.state())?;
+                self.resume(alloc, draft, runner)
+            }
+            Err(fault) => write_snapshot_fault(text, fault),
         }
-        write_at(text, snapshot.state())?;
-        self.resume(alloc, snapshot)
+    }
+
+    /// Refuses what a text of another problem says: where that is a snapshot, for its problem.
+    fn refuse_foreign(
+        &self,
+        alloc: Global,
+        draft: &Draft,
+        text: &mut Vec<u8>,
+    ) -> Result<(), AllocError>
+        requires { is_same draft.now.problem self.now.book.problem ≡ false }
+        ensures reply { OnOk result (text.new.items ≡ text.old.items ++ (load_by self.now (judged_parts draft.now)).text) }
+        ensures session { OnOk result (self.now ≡ (load_by self.now (judged_parts draft.now)).session) }
+    {
+        match draft.check(alloc) {
+            Ok(()) => write_book_fault(text, &BookFault::ForeignProblem),
+            Err(fault) => write_snapshot_fault(text, fault),
+        }
+    }
+
+    /// Whether what a text says is of its problem.
+    fn is_own(&self, draft: &Draft) -> bool
+        ensures test { result ≡ is_same draft.now.problem self.now.book.problem }
+        ensures equal { IsTrue result ↔ (draft.now.problem ≡ self.now.book.problem) }
+    {
+        draft.problem().same(self.book.problem())
     }
 
     /// Reads a snapshot and goes on from it, and writes what is answered.
@@ -178,10 +161,14 @@ impl<'p, T: Table> Session<'p, T> {
         ensures session { OnOk result (self.new ≡ (load_answer self.old bytes.now).session) }
         ensures unchanged { OnErr result (self.new ≡ self.old) }
     {
-        match read_snapshot(alloc, bytes) {
-            Ok(snapshot) => self.go_on(alloc, &snapshot, text),
-            Err(fault) => write_snapshot_fault(text, fault),
+        let draft = match read_draft(alloc, bytes) {
+            Ok(draft) => draft,
+            Err(fault) => return write_snapshot_fault(text, fault),
+        };
+        if !self.is_own(&draft) {
+            return self.refuse_foreign(alloc, &draft, text);
         }
+        self.go_on(alloc, &draft, text)
     }
 
     /// Loads a snapshot: the session goes on where it was saved, with its branch open in a new book, and with its breakpoints,

@@ -1,5 +1,9 @@
-# What there is to do here. Only build, ci and what follows from them need rt, the command of the Rattle toolchain.
+# What there is to do here: `make help` lists it. Only build, ci and what follows from them need rt, the command of the Rattle toolchain.
 PREFIX = /usr/local
+ZSH_FUNCTIONS = $(PREFIX)/share/zsh/site-functions
+# The scripts that are installed; the others are for this checkout.
+TOOLS = check_packings count_packings draw_packings explain one_of_each page session unique puzzles.py
+SHARE = $(DESTDIR)$(PREFIX)/share
 
 # The puzzles and cover texts of examples/ that take seconds; the others take up to some minutes each.
 QUICK = two-dominoes optional soma-cube soma-without-centre tetracubes-2x2x8 tetracubes-2x4x4 pentominoes-20x3 \
@@ -11,9 +15,16 @@ LONG = pentominoes-15x4 pentominoes-12x5 pentominoes-10x6 pentominoes-8x8-withou
 	solid-pentominoes-2x5x6 solid-pentominoes-3x4x5
 LONG_COVERS = pent-10x6 langford-12
 
-.PHONY: all build ci layout wrong-bodies bench gallery gallery-long check-docs check-edits check-ownership check-tools check-words check-statuses check-growths install
+.PHONY: all help build ci layout wrong-bodies bench gallery gallery-long check-docs check-edits check-ownership check-tools check-page \
+	check-completions check-words check-statuses check-growths install uninstall dist
 
-all: check-edits check-ownership build gallery check-tools check-docs check-words check-statuses
+# The program, the quick examples, and all checks of documents and scripts.
+all: check-edits check-ownership build gallery check-tools check-docs check-words check-completions check-page check-statuses
+
+# What there is to do, each with the first line that stands above it here.
+help:
+	@awk '/^# / { if (!said) said = substr($$0, 3); next } /^[a-z-]+:/ { name = $$1; sub(/:.*/, "", name); \
+		if (said) printf "%-18s %s\n", name, said } { said = "" }' Makefile
 
 # Proves and builds the program where anything changed.
 build:
@@ -72,7 +83,34 @@ check-growths: build
 check-statuses: build
 	@tools/check_statuses
 
+# Pages made of packings and of a session are opened in headless Chromium, where there is one, and show what they should.
+check-page: build
+	@tools/check_page
+
+# bash, fish and zsh, where they are installed, are asked which words they offer.
+check-completions:
+	@tools/check_completions
+
+# Puts the program, man page, completions, examples, documents and scripts below PREFIX.
 install: build
-	mkdir -p "$(DESTDIR)$(PREFIX)/bin" "$(DESTDIR)$(PREFIX)/share/man/man1"
+	mkdir -p "$(DESTDIR)$(PREFIX)/bin" "$(SHARE)/man/man1" "$(SHARE)/bash-completion/completions" "$(DESTDIR)$(ZSH_FUNCTIONS)" \
+		"$(SHARE)/fish/vendor_completions.d" "$(SHARE)/doc/polylab/docs" "$(SHARE)/polylab/tools"
 	cp crates/polylab/out/polylab "$(DESTDIR)$(PREFIX)/bin/polylab"
-	cp docs/polylab.1 "$(DESTDIR)$(PREFIX)/share/man/man1/polylab.1"
+	cp docs/polylab.1 "$(SHARE)/man/man1/polylab.1"
+	cp completions/polylab.bash "$(SHARE)/bash-completion/completions/polylab"
+	cp completions/_polylab "$(DESTDIR)$(ZSH_FUNCTIONS)/_polylab"
+	cp completions/polylab.fish "$(SHARE)/fish/vendor_completions.d/polylab.fish"
+	cp README.md CHANGELOG.md CITATION.cff "$(SHARE)/doc/polylab"
+	cp docs/*.md docs/*.svg "$(SHARE)/doc/polylab/docs"
+	cp -R examples "$(SHARE)/doc/polylab"
+	for tool in $(TOOLS); do cp "tools/$$tool" "$(SHARE)/polylab/tools" || exit 1; done
+
+# Takes away what install put below PREFIX.
+uninstall:
+	rm -f "$(DESTDIR)$(PREFIX)/bin/polylab" "$(SHARE)/man/man1/polylab.1" "$(SHARE)/bash-completion/completions/polylab" \
+		"$(DESTDIR)$(ZSH_FUNCTIONS)/_polylab" "$(SHARE)/fish/vendor_completions.d/polylab.fish"
+	rm -rf "$(SHARE)/doc/polylab" "$(SHARE)/polylab"
+
+# A tar file and a Debian package with checksums, in dist/, of a checkout without changes; each names what it was proved from.
+dist: build
+	@tools/make_dist

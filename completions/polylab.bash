@@ -1,13 +1,32 @@
 # Words of polylab for bash: source this file, or put it where bash-completion finds it.
 _polylab() {
     local word=${COMP_WORDS[COMP_CWORD]}
-    local choices='solve count options cover debug help --help --version'
-    case ${COMP_WORDS[1]} in
-        count) [ "$COMP_CWORD" -gt 1 ] && choices='--workers --classes --help' ;;
-        debug) [ "$COMP_CWORD" -gt 1 ] && choices='--cover --help' ;;
-        solve | cover) [ "$COMP_CWORD" -gt 1 ] && choices='--workers --help' ;;
-        options) [ "$COMP_CWORD" -gt 1 ] && choices='--help' ;;
-    esac
+    local jobs='solve count options cover debug'
+    local choices= given k
+    if [ "$COMP_CWORD" -eq 1 ]; then
+        choices="$jobs help --help --version"
+    else
+        case ${COMP_WORDS[1]} in
+            count) choices='--workers --classes --help' ;;
+            debug) choices='--cover --help' ;;
+            solve | cover) choices='--workers --help' ;;
+            options) choices='--help' ;;
+            help) [ "$COMP_CWORD" -eq 2 ] && choices=$jobs ;;
+        esac
+        case ${COMP_WORDS[COMP_CWORD - 1]} in
+            --workers | '<' | '>') choices= ;;
+        esac
+        # An option that stands there already is not said again, and after --help nothing is.
+        for ((k = 1; k < ${#COMP_WORDS[@]}; k++)); do
+            [ "$k" -eq "$COMP_CWORD" ] && continue
+            given=${COMP_WORDS[k]}
+            case $given in
+                --help) choices= ;;
+                --*) choices=" $choices " && choices=${choices// $given / } ;;
+            esac
+        done
+    fi
     mapfile -t COMPREPLY < <(compgen -W "$choices" -- "$word")
 }
+# Where none of these words fits, as after <, bash names files.
 complete -o default -F _polylab polylab

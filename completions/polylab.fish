@@ -1,12 +1,17 @@
 # Words of polylab for fish: put this file into the folder completions of fish's configuration.
-complete -c polylab -n __fish_use_subcommand -a solve -d 'show every packing of a puzzle'
-complete -c polylab -n __fish_use_subcommand -a count -d 'count the packings of a puzzle'
-complete -c polylab -n __fish_use_subcommand -a options -d 'write the cover text of a puzzle'
-complete -c polylab -n __fish_use_subcommand -a cover -d 'list the exact covers of a cover text'
-complete -c polylab -n __fish_use_subcommand -a debug -d 'take a search step by step'
-complete -c polylab -n __fish_use_subcommand -a help -d 'tell what a job reads and writes'
+# No files among words: the program reads standard input, and fish names files after < itself.
+complete -c polylab -f
+set -l jobs solve count options cover debug
+set -l first "not __fish_seen_subcommand_from $jobs help"
+complete -c polylab -n $first -a solve -d 'show every packing of a puzzle'
+complete -c polylab -n $first -a count -d 'count the packings of a puzzle'
+complete -c polylab -n $first -a options -d 'write the cover text of a puzzle'
+complete -c polylab -n $first -a cover -d 'list the exact covers of a cover text'
+complete -c polylab -n $first -a debug -d 'take a search step by step'
+complete -c polylab -n $first -a help -d 'tell what a job reads and writes'
+complete -c polylab -n "__fish_seen_subcommand_from help; and not __fish_seen_subcommand_from $jobs" -a "$jobs"
 complete -c polylab -n '__fish_seen_subcommand_from solve count cover' -l workers -x -d 'threads that share the search, 1 to 32'
 complete -c polylab -n '__fish_seen_subcommand_from count' -l classes -d 'count up to rotations and symmetries too'
 complete -c polylab -n '__fish_seen_subcommand_from debug' -l cover -d 'the problem is a cover text'
-complete -c polylab -n __fish_use_subcommand -l version -d 'tell the version'
-complete -c polylab -l help -d 'tell what goes in and comes out'
+complete -c polylab -n $first -l version -d 'tell the version'
+complete -c polylab -n 'not __fish_seen_subcommand_from help; and not __fish_contains_opt help' -l help -d 'tell what goes in and comes out'

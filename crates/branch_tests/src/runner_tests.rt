@@ -4,7 +4,7 @@ use cover_problem::{PlainTable, Problem, Table};
 use std::alloc::Global;
 use std::process::Abort;
 use std::test::Fail;
-use x_branches::{Runner, RunnerFault, Stretch};
+use x_branches::{KeptStretch, Runner, RunnerFault, Stretch};
 use x_steps::{Cursor, Event, Label, State, Walk};
 
 /// What is asked of a runner, and what it has to tell.
@@ -27,7 +27,8 @@ enum Row {
     Shortens(usize, u32),
     /// The stretch that is taken out is joined again, with all its steps.
     Rejoins,
-    /// The stretch that is taken out, and its copy, have so many steps, these visits, and so many X2 states at each level.
+    /// The stretch that is taken out, its copy, and what is kept of it have so many steps, these visits, and so many X2 states
+    /// at each level.
     HandsOut(u32, &'static [&'static [u32]], &'static [u32]),
 }
 
@@ -134,6 +135,30 @@ fn is_copied(
     )
 }
 
+/// Whether what is kept of a stretch tells its ends and steps, and is the stretch again when it is opened; so is its copy.
+fn is_kept(
+    stretch: &Stretch<'_>,
+    steps: u32,
+    visits: &[&[u32]],
+    levels: &[u32],
+) -> Result<bool, Fail> {
+    let alloc = *stretch.from().path.allocator();
+    let Ok(kept) = KeptStretch::of(stretch.copy()?) else {
+        return Err(Fail::from("no memory"));
+    };
+    let from = kept.from(alloc)?;
+    let to = kept.to(alloc)?;
+    let copy = kept.copy()?;
+    let opened = copy.open(alloc)?;
+    let told = from.same(stretch.from()) && to.same(stretch.to()) && kept.steps() == steps;
+    let counted = kept.visits().len() == visits.len() && kept.same(&copy);
+    Ok(
+        told && counted
+            && has_ends_of(&opened, stretch)
+            && is_stretch(&opened, steps, visits, levels),
+    )
+}
+
 fn hands_out<T: Table>(
     runner: &mut Runner<'_, T>,
     steps: u32,
@@ -141,7 +166,8 @@ fn hands_out<T: Table>(
     levels: &[u32],
 ) -> Result<bool, Fail> {
     let stretch = runner.take_stretch()?;
-    is_copied(&stretch, steps, visits, levels)
+    let kept = is_kept(&stretch, steps, visits, levels)?;
+    Ok(is_copied(&stretch, steps, visits, levels)? && kept)
 }
 
 /// Whether a runner tells what it has to, row by row.

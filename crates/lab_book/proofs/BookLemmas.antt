@@ -65,6 +65,13 @@ pub judged_err : (b : BookValue) (w : ℕ) (c : Call) (change : ℕ → Outcome)
 judged_err b w c change r s f o (inl a) e = inl (cc)
 judged_err b w c change r s f o (inr a) e = inr (o ∙ ap (made_at b.tiles change) (sym a ∙ e))
 
+-- the same of a fault that is judged by itself
+pub judged_fault : (b : BookValue) (w : ℕ) (c : Call) (change : ℕ → Outcome) (s : Result ℕ BookFault) (f : BookFault)
+    → outcome b w c ≡ made_at b.tiles change s → (f ≡ OutOfMemory) ⊎ (s ≡ Err f)
+    → (f ≡ OutOfMemory) ⊎ (outcome b w c ≡ refused b.tiles f)
+judged_fault b w c change s f o (inl a) = inl a
+judged_fault b w c change s f o (inr a) = inr (o ∙ ap (made_at b.tiles change) a)
+
 -- what is found and then passes further checks of the tile
 pub found_more : (ts : List TileValue) (g : Grant) (more : TileValue → Option BookFault) (i : ℕ)
     → found ts g.id (λ t. lease_fault g t None) ≡ Ok i → found ts g.id (λ t. lease_fault g t (more t)) ≡ unless i (more (tile_at ts i))

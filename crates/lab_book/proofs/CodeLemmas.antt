@@ -1,66 +1,25 @@
 -- Entries are read back from their numbers.
-use Rattle.std.proofs.Common.{◌≡◌, ℕ, zero, suc, ◌-◌, ◌%◌, ◌<◌, ◌≤◌, Bool, true, false, Option, List, [], ◌∷◌, ◌++◌, length, take, drop, map, get_or, refl, sym, ap, ◌∙◌, arith, append_assoc, Result, Ok, Err, OnOk}
+use Rattle.std.proofs.Common.{◌≡◌, ℕ, ◌<◌, Bool, true, false, Option, List, [], ◌++◌, refl, sym, ap, ◌∙◌, arith, append_assoc, Result, Ok, Err, OnOk}
 use Rattle.std.specs.Prelude as prelude
 use Rattle.std.proofs.lemmas.List.{append-nil}
-use Rattle.std.proofs.lemmas.Bool.Decides.{nat_tests}
-use Rattle.std.proofs.Math.Seq.{take-append_seam, drop-append_seam}
-use Rattle.x_steps.specs.declared.state.Label.{Label}
-use Rattle.x_steps.specs.declared.state.Label.TheVariants.{X1, X2, X3, X4, X5, X6, X7, X8, Done}
-use Rattle.x_steps.specs.declared.state.Cursor.{Cursor}
-use Rattle.x_steps.specs.declared.state.Cursor.TheVariants as cursor
 use Rattle.x_steps.specs.StateValue.{StateValue}
-use Rattle.lab_book.specs.States.{label_number}
+use Rattle.packed_states.specs.StateCode.{path_code, state_code, state_of, state_rest, ReadsPath, ReadsState}
 use Rattle.lab_book.specs.declared.lease.Grant.{Grant}
 use Rattle.lab_book.specs.declared.fault.BookFault.{BookFault}
 use Rattle.lab_book.specs.declared.fault.BookFault.TheVariants.{StaleLease}
-use Rattle.lab_book.specs.declared.entry.Call.{Call}
 use Rattle.lab_book.specs.declared.entry.Call.TheVariants as call
-use Rattle.lab_book.specs.declared.entry.Reply.{Reply}
 use Rattle.lab_book.specs.declared.entry.Reply.TheVariants as reply
 use Rattle.lab_book.specs.declared.entry.Entry.{Entry}
-use Rattle.lab_book.specs.EntryCode.{later, choice_of, worker_of, bool_code, bool_of, label_of, cursor_kind, cursor_choice, cursor_of, path_code, path_of, path_rest, cut_code, cut_of, cut_rest}
-use Rattle.lab_book.specs.EntryCode.{state_code, state_of, state_rest, grant_code, grant_of, fault_code, fault_of, call_code, call_of, call_rest, reply_code, reply_of, entry_code, entry_of}
-use Rattle.lab_book.specs.EntryCode.{ReadsPath, ReadsState, ReadsCut, ReadsGrant, ReadsCall, ReadsReply, ReadsFault}
-
-pub choice_small : (n : ℕ) → n < 4294967296 → choice_of n ≡ n
-choice_small n h = omega arith
+use Rattle.lab_book.specs.EntryCode.{worker_of, bool_code, bool_of, cut_code, cut_of, cut_rest}
+use Rattle.lab_book.specs.EntryCode.{grant_code, grant_of, fault_code, fault_of, call_code, call_of, call_rest, reply_code, reply_of, entry_code, entry_of}
+use Rattle.lab_book.specs.EntryCode.{ReadsCut, ReadsGrant, ReadsCall, ReadsReply, ReadsFault}
 
 pub worker_small : (n : ℕ) → n < 256 → worker_of n ≡ n
 worker_small n h = omega arith
 
-choices_small : (ns : List ℕ) → ((k : ℕ) → k < length ns → get_or ns k 0 < 4294967296) → map choice_of ns ≡ ns
-choices_small [] h = refl
-choices_small (n ∷ ns) h = (λ j. choice_small n (h 0 (omega arith)) j ∷ choices_small ns (λ k l. h (suc k) (omega arith)) j)
-
 bool_back : (b : Bool) → bool_of (bool_code b) ≡ b
 bool_back true = refl
 bool_back false = refl
-
-label_back : (l : Label) → label_of (label_number l) ≡ l
-label_back X1 = refl
-label_back X2 = refl
-label_back X3 = refl
-label_back X4 = refl
-label_back X5 = refl
-label_back X6 = refl
-label_back X7 = refl
-label_back X8 = refl
-label_back Done = refl
-
--- a cursor's option has 32 bits
-cursor_back : (k : Cursor) → cursor_choice k < 4294967296 → cursor_of (cursor_kind k) (cursor_choice k) ≡ k
-cursor_back cursor.None h = refl
-cursor_back (cursor.At o) h = ap cursor.At (choice_small o h)
-cursor_back cursor.Past h = refl
-
-pub reads_path : (path : List ℕ) → ((k : ℕ) → k < length path → get_or path k 0 < 4294967296) → ReadsPath path
-unfolding path_code path_of path_rest
-reads_path path h = λ rest. (ap (map choice_of) (take-append_seam path rest) ∙ choices_small path h, drop-append_seam path rest)
-
-pub reads_state : (s : StateValue) → cursor_choice s.cursor < 4294967296 → ReadsPath s.path → ReadsState s
-unfolding state_code state_of state_rest
-reads_state s h r = λ rest. let p = r rest in
-    ((λ j. record { label = label_back s.label j; path = p.0 j; cursor = cursor_back s.cursor h j }), p.1)
 
 pub reads_none : ReadsCut prelude.None
 unfolding cut_code cut_of cut_rest

@@ -20,7 +20,7 @@ use Rattle.lab_book.specs.Tiling.{no_tile, tile_at}
 use Rattle.lab_book.specs.Book.{BookValue, Outcome, outcome, made_at, refused, lent, lent_tile, posted, posted_tile, split, path_of, waiting_in}
 use Rattle.lab_book.specs.Book.{found, lease_fault, cut_fault, stretch_fault}
 use Rattle.lab_book.specs.Calls.{Judged, next_entry, split_of, post_of}
-use Rattle.lab_book.proofs.BookLemmas.{judged_err}
+use Rattle.lab_book.proofs.BookLemmas.{judged_err, judged_fault}
 use Rattle.lab_book.proofs.CallLemmas.{call_made, split_is, post_is}
 
 abbrev pub entry : ℕ → Call → Reply → Entry
@@ -35,6 +35,14 @@ module _ (b : BookValue) (w : ℕ) (c : Call) (a : Reply) where
   pub foretold_refused : (change : ℕ → Outcome) (r s : Result ℕ BookFault) (f : BookFault) → outcome b w c ≡ made_at b.tiles change s
       → Judged r s → r ≡ Err f → (f ≡ OutOfMemory → ⊥) → a ≡ reply.Refused f → entry w c a ≡ next_entry b w c
   foretold_refused change r s f o j e other h = by (judged_err b w c change r s f o j e)
+    where
+      by : (f ≡ OutOfMemory) ⊎ (outcome b w c ≡ refused b.tiles f) → entry w c a ≡ next_entry b w c
+      by (inl m) = absurd (other m)
+      by (inr is) = foretold (refused b.tiles f) is h
+
+  pub foretold_fault : (change : ℕ → Outcome) (s : Result ℕ BookFault) (f : BookFault) → outcome b w c ≡ made_at b.tiles change s
+      → (f ≡ OutOfMemory) ⊎ (s ≡ Err f) → (f ≡ OutOfMemory → ⊥) → a ≡ reply.Refused f → entry w c a ≡ next_entry b w c
+  foretold_fault change s f o j other h = by (judged_fault b w c change s f o j)
     where
       by : (f ≡ OutOfMemory) ⊎ (outcome b w c ≡ refused b.tiles f) → entry w c a ≡ next_entry b w c
       by (inl m) = absurd (other m)

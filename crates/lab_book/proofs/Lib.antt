@@ -14,3 +14,5 @@ pub mod VisitedLemmas
 pub mod RiseLemmas
 pub mod ForetellLemmas
 pub mod CodeLemmas
+pub mod ReadingLemmas
+pub mod PlaceLemmas

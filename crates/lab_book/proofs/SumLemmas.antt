@@ -1,6 +1,6 @@
 -- What the posted stretches count, tile by tile: where all tiles are closed, what is counted from the first mark to the end.
 use Rattle.std.proofs.Common.{◌≡◌, ℕ, zero, suc, ◌+◌, ◌*◌, ◌^◌, ◌<◌, ◌≤◌, ◌⊎◌, ◌==◌, true, false, Option, List, [], ◌∷◌, ◌++◌, length}
-use Rattle.std.proofs.Common.{map, take, get_or, replicate, refl, sym, ap, ap₂, ◌∙◌, inl, inr, arith}
+use Rattle.std.proofs.Common.{drop, map, take, get_or, replicate, refl, sym, ap, ap₂, ◌∙◌, inl, inr, arith}
 use Rattle.std.specs.Prelude.{All}
 use Rattle.std.specs.List.{sum_by}
 use Rattle.std.proofs.Math.ListN.{set}
@@ -19,6 +19,7 @@ use Rattle.cover_problem.proofs.NumberLemmas.{length-numbers}
 use Rattle.x_steps.proofs.BetweenLemmas.{steps_between_self, steps_between_join, states_between_self, level_count_between, levels_at}
 use Rattle.x_steps.proofs.BetweenLemmas.{counts_at}
 use Rattle.x_steps.proofs.ZeroLemmas.{zeros_cut}
+use Rattle.packed_states.specs.StateCode.{choice_of}
 use Rattle.x_branches.specs.declared.branch.Branch.{Branch}
 use Rattle.x_branches.specs.Branch.{end_of}
 use Rattle.x_branches.specs.Cut.{CutPath}
@@ -141,6 +142,40 @@ added_more old counts new i a l m s = record {
         → get_or (set new i (get_or new i 0 + get_or counts i 0)) level 0 ≤ get_or old level 0 + 4294967295
     small_at level (inl e) = rw e.1 (let h = here in omega arith)
     small_at level (inr e) = rw (there level e.1) (a.small level)
+
+-- a count that is read after so many others
+read_at : (counts : List ℕ) (i n : ℕ) (rest : List ℕ) → drop i counts ≡ n ∷ rest
+    → (i < length counts) × (get_or (map choice_of counts) i 0 ≡ choice_of n)
+read_at [] zero n rest e = absurd (cc)
+read_at [] (suc i) n rest e = absurd (cc)
+read_at (m ∷ counts) zero n rest e = (omega arith, let h : m ≡ n = cc in ap choice_of h)
+read_at (m ∷ counts) (suc i) n rest e = let r = read_at counts i n rest e in (let l = r.0 in omega arith, r.1)
+
+pub read_on : (counts : List ℕ) (i n : ℕ) (rest : List ℕ) → drop i counts ≡ n ∷ rest → rest ≡ drop (i + 1) counts
+read_on counts i n rest e = let k : i + 1 ≡ suc i = omega arith in rw k (each counts i e)
+  where
+    each : (counts : List ℕ) (i : ℕ) → drop i counts ≡ n ∷ rest → rest ≡ drop (suc i) counts
+    each [] zero e = absurd (cc)
+    each [] (suc i) e = absurd (cc)
+    each (m ∷ counts) zero e = cc
+    each (m ∷ counts) (suc i) e = each counts i e
+
+-- all are read where none is left
+pub read_whole : (counts : List ℕ) (i : ℕ) → drop i counts ≡ [] → take i (map choice_of counts) ≡ map choice_of counts
+read_whole [] zero e = refl
+read_whole [] (suc i) e = refl
+read_whole (m ∷ counts) zero e = absurd (cc)
+read_whole (m ∷ counts) (suc i) e = ap (λ ns. choice_of m ∷ ns) (read_whole counts i e)
+
+pub added_next : (old counts new : List ℕ) (i n : ℕ) (rest : List ℕ) → drop i counts ≡ n ∷ rest
+    → AreAdded old (take i (map choice_of counts)) new → length counts ≤ length old
+    → AreAdded old (take (i + 1) (map choice_of counts)) (set new i (get_or new i 0 + choice_of n))
+added_next old counts new i n rest e a l =
+    let r = read_at counts i n rest e in
+    let m = length-map counts choice_of in
+    let w = r.0 in
+    let small : choice_of n ≤ 4294967295 = omega arith in
+    rw (← r.1) (added_more old (map choice_of counts) new i a (omega arith) (omega arith) (rw r.1 small))
 
 zero_at : (n k : ℕ) → get_or (replicate {A = ℕ} n 0) k 0 ≡ 0
 zero_at zero k = refl

@@ -17,14 +17,16 @@ use Rattle.x_steps.specs.Steps.{Fits}
 use Rattle.x_steps.specs.Rank.{rank}
 use Rattle.x_steps.proofs.RunLemmas.{leads_to}
 use Rattle.x_steps.proofs.StretchLemmas.{reached_fits, reached_rank}
+use Rattle.x_branches.specs.declared.branch.Branch.{Branch}
 use Rattle.x_branches.specs.Branch.{first_of}
 use Rattle.x_branches.specs.RunOrder.{ComesBefore, comes_before}
 use Rattle.x_branches.specs.Stretch.{StretchValue, IsStretch}
 use Rattle.x_branches.specs.Refusals.{CanStart}
 use Rattle.x_branches.proofs.CutLemmas.{test_is_order}
 use Rattle.x_branches.proofs.RunnerLemmas.{not_before, before_not}
-use Rattle.lab_book.specs.States.{label_number, cursor_number, same_state}
-use Rattle.lab_book.specs.Tile.{TileValue, led_to, mark_of, tile_end, Join, Stands, IsTile, is_leased, is_closed}
+use Rattle.packed_states.specs.StateCode.{label_number}
+use Rattle.lab_book.specs.States.{cursor_number, same_state}
+use Rattle.lab_book.specs.Tile.{TileValue, KeepsTile, led_to, mark_of, tile_end, Join, Stands, IsTile, is_leased, is_closed}
 use Rattle.lab_book.specs.Book.{last_of, stretches_to}
 use Rattle.lab_book.specs.declared.status.Status.{Status}
 use Rattle.lab_book.specs.declared.status.Status.TheVariants.{Waiting, Held, Leased, Closed}
@@ -57,6 +59,14 @@ mark_none s (x ∷ xs) e = absurd (some (x ∷ xs) (length (x ∷ xs) - 1) (omeg
 pub mark_push : (s : StateValue) (xs : List StretchValue) (x : StretchValue) → led_to s (xs ++ x ∷ []) ≡ x.to
 mark_push s [] x = refl
 mark_push s (y ∷ ys) x = mark_push y.to ys x
+
+-- what is kept beside a tile, where a stretch was posted
+pub keeps_posted : (b : Branch) (first end mark old : StateValue) (xs ys : List StretchValue) (x : StretchValue)
+    → KeepsTile b first xs end old → ys ≡ xs ++ x ∷ [] → mark ≡ x.to → KeepsTile b first ys end mark
+keeps_posted b first end mark old xs ys x k e f = record {
+  end_is = k.end_is;
+  mark_is = f ∙ sym (mark_push first xs x) ∙ ap (led_to first) (sym e);
+}
 
 -- ---- the test of two states
 
@@ -216,6 +226,16 @@ last_read [] x e = absurd (cc)
 last_read (y ∷ ys) x e =
     let h : length (y ∷ ys) - 1 ≡ length ys = omega arith in
     last_at (y ∷ ys) x (length ys) refl (sym (subst (λ n. Some x ≡ slice_get (y ∷ ys) n) h e))
+
+pub last_place : (xs : List StretchValue) (x : StretchValue) → 0 < length xs → x ≡ get_or xs (length xs - 1) x → last_of xs ≡ Some x
+last_place xs x l e = by xs (length xs - 1) (omega arith) e
+  where
+    by : (ys : List StretchValue) (n : ℕ) → suc n ≡ length ys → x ≡ get_or ys n x → last_of ys ≡ Some x
+    by [] n l e = absurd (omega arith)
+    by (y ∷ []) zero l e = ap Some (sym e)
+    by (y ∷ []) (suc n) l e = absurd (omega arith)
+    by (y ∷ z ∷ zs) zero l e = absurd (omega arith)
+    by (y ∷ z ∷ zs) (suc n) l e = rw (by (z ∷ zs) n (omega arith) e) refl
 
 -- the last of stretches that join is the problem's
 pub last_problem : (p : ProblemValue) (s : StateValue) (xs : List StretchValue) (x : StretchValue) → Join p s xs → last_of xs ≡ Some x

@@ -1,12 +1,7 @@
 -- Entries as rows of numbers, and back.
-use Rattle.std.specs.Prelude.{ℕ, ◌≡◌, ◌%◌, ◌==◌, Bool, true, false, not, Option, List, [], ◌∷◌, ◌++◌, length, take, drop, map, slice_index, if◌then◌else◌}
+use Rattle.std.specs.Prelude.{ℕ, ◌≡◌, ◌%◌, ◌==◌, Bool, true, false, not, Option, List, [], ◌∷◌, ◌++◌, slice_index, if◌then◌else◌}
 use Rattle.std.specs.Prelude as prelude
-use Rattle.x_steps.specs.declared.state.Label.{Label}
-use Rattle.x_steps.specs.declared.state.Label.TheVariants.{X1, X2, X3, X4, X5, X6, X7, X8, Done}
-use Rattle.x_steps.specs.declared.state.Cursor.{Cursor}
-use Rattle.x_steps.specs.declared.state.Cursor.TheVariants as cursor
-use Rattle.x_steps.specs.StateValue.{StateValue}
-use Rattle.lab_book.specs.States.{label_number}
+use Rattle.packed_states.specs.StateCode.{later, path_code, path_of, path_rest, state_code, state_of, state_rest}
 use Rattle.lab_book.specs.declared.lease.Grant.{Grant}
 use Rattle.lab_book.specs.declared.fault.BookFault.{BookFault}
 use Rattle.lab_book.specs.declared.fault.BookFault.TheVariants.{UnknownBranch, NotWaiting, StaleLease, ForeignProblem, NotAfterMark}
@@ -19,10 +14,7 @@ use Rattle.lab_book.specs.declared.entry.Entry.{Entry}
 
 -- ---- numbers
 
--- a choice is a number of 32 bits, and a worker's one of 8
-abbrev pub choice_of : ℕ → ℕ
-choice_of n = n % 4294967296
-
+-- a worker's number has 8 bits
 abbrev pub worker_of : ℕ → ℕ
 worker_of n = n % 256
 
@@ -33,37 +25,7 @@ bool_code false = 0
 abbrev pub bool_of : ℕ → Bool
 bool_of n = not (n == 0)
 
-abbrev pub label_of : ℕ → Label
-label_of n =
-    if n == 1 then X1 else (if n == 2 then X2 else (if n == 3 then X3 else (if n == 4 then X4 else
-    (if n == 5 then X5 else (if n == 6 then X6 else (if n == 7 then X7 else (if n == 8 then X8 else Done)))))))
-
-abbrev pub cursor_kind : Cursor → ℕ
-cursor_kind cursor.None = 0
-cursor_kind (cursor.At o) = 1
-cursor_kind cursor.Past = 2
-
-abbrev pub cursor_choice : Cursor → ℕ
-cursor_choice (cursor.At o) = o
-cursor_choice k = 0
-
-abbrev pub cursor_of : ℕ → ℕ → Cursor
-cursor_of kind n = if kind == 0 then cursor.None else (if kind == 1 then cursor.At (choice_of n) else cursor.Past)
-
--- ---- lists of choices, and states
-
--- what comes after the first number
-abbrev pub later : List ℕ → List ℕ
-later ns = drop 1 ns
-
-unfoldable pub path_code : List ℕ → List ℕ
-path_code path = length path ∷ path
-
-unfoldable pub path_of : List ℕ → List ℕ
-path_of ns = map choice_of (take (slice_index ns 0) (later ns))
-
-unfoldable pub path_rest : List ℕ → List ℕ
-path_rest ns = drop (slice_index ns 0) (later ns)
+-- ---- cuts
 
 unfoldable pub cut_code : Option (List ℕ) → List ℕ
 cut_code prelude.None = 0 ∷ []
@@ -74,19 +36,6 @@ cut_of ns = if slice_index ns 0 == 0 then prelude.None else prelude.Some (path_o
 
 unfoldable pub cut_rest : List ℕ → List ℕ
 cut_rest ns = if slice_index ns 0 == 0 then later ns else path_rest (later ns)
-
-unfoldable pub state_code : StateValue → List ℕ
-state_code s = label_number s.label ∷ cursor_kind s.cursor ∷ cursor_choice s.cursor ∷ path_code s.path
-
-unfoldable pub state_of : List ℕ → StateValue
-state_of ns = record {
-  label = label_of (slice_index ns 0);
-  path = path_of (later (later (later ns)));
-  cursor = cursor_of (slice_index (later ns) 0) (slice_index (later (later ns)) 0);
-}
-
-unfoldable pub state_rest : List ℕ → List ℕ
-state_rest ns = path_rest (later (later (later ns)))
 
 -- ---- leases and faults
 
@@ -195,12 +144,6 @@ unfoldable pub entry_of : List ℕ → Entry
 entry_of ns = record { worker = worker_of (slice_index ns 0); call = call_of (later ns); reply = reply_of (call_rest (later ns)) }
 
 -- ---- what is read back as it was
-
-abbrev pub ReadsPath : List ℕ → Type 0
-ReadsPath path = (rest : List ℕ) → (path_of (path_code path ++ rest) ≡ path) × (path_rest (path_code path ++ rest) ≡ rest)
-
-abbrev pub ReadsState : StateValue → Type 0
-ReadsState s = (rest : List ℕ) → (state_of (state_code s ++ rest) ≡ s) × (state_rest (state_code s ++ rest) ≡ rest)
 
 abbrev pub ReadsCut : Option (List ℕ) → Type 0
 ReadsCut cut = (rest : List ℕ) → (cut_of (cut_code cut ++ rest) ≡ cut) × (cut_rest (cut_code cut ++ rest) ≡ rest)

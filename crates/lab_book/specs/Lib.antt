@@ -7,3 +7,4 @@ pub mod Calls
 pub mod Index
 pub mod Posted
 pub mod EntryCode
+pub mod Kinds

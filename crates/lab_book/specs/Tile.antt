@@ -74,6 +74,11 @@ mark_of t = led_to t.first t.stretches
 abbrev pub tile_end : TileValue → StateValue
 tile_end t = end_of t.branch.hi
 
+-- what is kept beside a branch and what was posted of it: the state that ends it, and where the stretches lead
+pub record KeepsTile (branch : Branch) (first : StateValue) (stretches : List StretchValue) (end mark : StateValue) : Type 0 where
+  pub end_is : end ≡ end_of branch.hi
+  pub mark_is : mark ≡ led_to first stretches
+
 -- stretches of a problem's run that join, from a state on
 abbrev pub Join : ProblemValue → StateValue → List StretchValue → Type 0
 Join p s [] = Unit {0}

@@ -16,6 +16,7 @@ mod posting;
 mod splitting;
 mod taking_back;
 
+use crate::entries::Entries;
 use crate::entry::{Call, Entry, Reply};
 use crate::fault::BookFault;
 use crate::history::History;
@@ -225,8 +226,8 @@ impl<'p> Book<'p> {
     }
 
     /// The entries of all calls in order: the book is their replay, with each reply.
-    pub fn history(&self) -> &[Entry]
-        ensures history { result.now ≡ self.now.history }
+    pub fn history(&self) -> Entries<'_>
+        ensures history { result ≡ self.now.history }
         ensures replay { replayed (new_book self.now.problem self.now.branch self.now.first) self.now.history ≡ self.now }
     {
         self.history.entries()

@@ -1,14 +1,16 @@
 //! The entries of a history: who called what, and what was answered.
-ghost use Rattle.std.specs.Prelude.{◌≡◌, ◌↔◌, ◌++◌, IsTrue, OnOk};
+ghost use Rattle.std.specs.Prelude.{◌≡◌, ◌↔◌, ◌++◌, IsTrue, IfOk, OnOk};
 ghost use Rattle.lab_book.specs.EntryCode.{entry_code, entry_of};
+ghost use Rattle.lab_book.specs.Kinds.{kind_of};
 ghost use Rattle.lab_book.specs.declared.entry.Call.TheVariants as calls;
 
-use crate::code::put_entry;
+use crate::code::{put_entry, read_entry};
 use crate::fault::BookFault;
+use crate::kind::CallKind;
 use crate::lease::Grant;
 use crate::mark::{Mark, Path};
 use packed_rows::Row;
-use std::alloc::AllocError;
+use std::alloc::{AllocError, Global};
 
 /// A call, as the history keeps it: a stretch by its two states, a cut by its choices, each with whether its problem is the
 /// book's, and a lease by its parts.
@@ -141,6 +143,25 @@ impl Call {
             _ => false,
         }
     }
+
+    /// What kind of call it is.
+    pub fn kind(&self) -> CallKind
+        ensures { result ≡ kind_of self.now }
+    {
+        match self {
+            Call::Lease(_) => CallKind::Lease,
+            Call::LeaseAny => CallKind::LeaseAny,
+            Call::TakeHeld(_) => CallKind::TakeHeld,
+            Call::Post { .. } => CallKind::Post,
+            Call::Split { .. } => CallKind::Split,
+            Call::Retract(_) => CallKind::Retract,
+            Call::Park(_) => CallKind::Park,
+            Call::Abandon(_) => CallKind::Abandon,
+            Call::Close(_) => CallKind::Close,
+            Call::PutBack { .. } => CallKind::PutBack,
+            Call::RequestStop(_) => CallKind::RequestStop,
+        }
+    }
 }
 
 /// Whether two paths, if there are, are the same.
@@ -220,6 +241,25 @@ impl Entry {
         ensures reads { OnOk result (entry_of (entry_code self.now) ≡ self.now) }
     {
         put_entry(row, self)
+    }
+
+    /// Writes its numbers into a scratch row, and nothing else.
+    pub(crate) fn write(&self, row: &mut Row) -> Result<(), AllocError>
+        ensures { OnOk result (entry_of row.new ≡ self.now) }
+    {
+        row.clear();
+        self.put(row)?;
+        Ok(())
+    }
+
+    /// A copy, made of its numbers.
+    pub(crate) fn copy(&self, alloc: Global) -> Result<Entry, AllocError>
+        ensures { IfOk result (λ entry. entry ≡ self.now) }
+    {
+        let mut row = Row::new(alloc);
+        self.write(&mut row)?;
+        let entry = read_entry(alloc, &mut row.reader())?;
+        Ok(entry)
     }
 
     /// Who called.

@@ -1,26 +1,61 @@
 //! A history with room kept for entries to come.
-ghost use Rattle.std.specs.Prelude.{◌≡◌, ◌≤◌, ◌<◌, ◌+◌, ◌-◌, ◌++◌, ◌∷◌, [], length, OnOk, OnErr};
+ghost use Rattle.std.specs.Prelude.{◌≡◌, ◌≤◌, ◌<◌, ◌+◌, ◌-◌, ◌++◌, ◌∷◌, [], length, map, vec_len, vec_capacity, OnOk, OnErr};
+ghost use Rattle.lab_book.specs.EntryCode.{entry_of};
 
+use crate::entries::Entries;
 use crate::entry::Entry;
+use packed_rows::{Row, Rows};
 use std::alloc::{AllocError, Global};
 use std::marker::Model;
 
-/// Entries, with room for as many more as `kept` says: these can be added without memory.
+/// Entries, with room for as many more as `kept` says: these can be added without memory. An entry is packed into a row of
+/// numbers as soon as there is memory for that; `last` are those that are not.
 #[derive(Drop)]
 pub(crate) struct History {
-    entries: Vec<Entry>,
+    rows: Rows,
+    /// The entry that is packed.
+    row: Row,
+    last: Vec<Entry>,
     kept: usize,
 }
 
 impl Model for History {
-    ghost use Rattle.std.specs.Prelude.{◌+◌, ◌≤◌, vec_len, vec_capacity};
+    ghost use Rattle.std.specs.Prelude.{◌+◌, ◌≤◌, ◌++◌, map, vec_len, vec_capacity};
     ghost use Rattle.lab_book.specs.Book.{HistoryValue};
+    ghost use Rattle.lab_book.specs.EntryCode.{entry_of};
 
     ghost Value = { HistoryValue };
 
-    ghost view = { λ h. record { entries = h.entries.items; kept = h.kept } };
+    ghost view = { λ h. record { entries = map entry_of h.rows.rows ++ h.last.items; kept = h.kept } };
 
-    ghost invariant = { λ h. vec_len h.entries + h.kept ≤ vec_capacity h.entries };
+    ghost invariant = { λ h. vec_len h.last + h.kept ≤ vec_capacity h.last };
+}
+
+/// Packs the first of the last entries.
+fn pack_first(rows: &mut Rows, row: &mut Row, last: &mut Vec<Entry>) -> Result<(), AllocError>
+    requires { 0 < vec_len last.old }
+    ensures all { map entry_of rows.new.rows ++ last.new.items ≡ map entry_of rows.old.rows ++ last.old.items }
+    ensures fewer { OnOk result (vec_len last.new + 1 ≡ vec_len last.old) }
+    ensures unchanged { OnErr result (vec_len last.new ≡ vec_len last.old) }
+    ensures capacity { vec_capacity last.old ≤ vec_capacity last.new }
+{
+    last[0].write(row)?;
+    rows.push(row)?;
+    let _entry = last.remove(0);
+    Ok(())
+}
+
+/// Packs the last entries, as far as there is memory.
+fn pack(rows: &mut Rows, row: &mut Row, last: &mut Vec<Entry>)
+    ensures all { map entry_of rows.new.rows ++ last.new.items ≡ map entry_of rows.old.rows ++ last.old.items }
+    ensures fewer { vec_len last.new ≤ vec_len last.old }
+    ensures capacity { vec_capacity last.old ≤ vec_capacity last.new }
+{
+    'packing: while !last.is_empty() {
+        if pack_first(rows, row, last).is_err() {
+            return;
+        }
+    }
 }
 
 impl History {
@@ -29,23 +64,25 @@ impl History {
         ensures { result ≡ record { entries = []; kept = 0 } }
     {
         History {
-            entries: Vec::new(alloc),
+            rows: Rows::new(alloc),
+            row: Row::new(alloc),
+            last: Vec::new(alloc),
             kept: 0,
         }
     }
 
     /// The entries.
-    pub fn entries(&self) -> &[Entry]
-        ensures { result.now ≡ self.now.entries }
+    pub fn entries(&self) -> Entries<'_>
+        ensures { result ≡ self.now.entries }
     {
-        &self.entries
+        Entries::of(&self.rows, &self.last)
     }
 
     /// How many entries there are.
     pub fn len(&self) -> u64
         ensures { result ≡ length self.now.entries }
     {
-        self.entries.len() as u64
+        (self.rows.len() + self.last.len()) as u64
     }
 
     /// Keeps room for so many entries more. Where memory runs out, nothing changes.
@@ -54,7 +91,7 @@ impl History {
         ensures kept { OnOk result (self.new ≡ record self.old { kept = self.old.kept + count }) }
         ensures unchanged { OnErr result (self.new ≡ self.old) }
     {
-        self.entries.reserve(self.kept + count)?;
+        self.last.reserve(self.kept + count)?;
         self.kept += count;
         Ok(())
     }
@@ -67,12 +104,13 @@ impl History {
         self.kept -= 1;
     }
 
-    /// Adds an entry where room was kept for it.
+    /// Adds an entry where room was kept for it, and packs it.
     pub fn add(&mut self, entry: Entry)
         requires { 0 < self.old.kept }
         ensures { self.new ≡ record { entries = self.old.entries ++ entry ∷ []; kept = self.old.kept - 1 } }
     {
-        self.entries.push_reserved(entry);
+        self.last.push_reserved(entry);
         self.kept -= 1;
+        pack(&mut self.rows, &mut self.row, &mut self.last);
     }
 }

@@ -4,9 +4,11 @@
 
 mod book;
 mod code;
+mod entries;
 mod entry;
 mod fault;
 mod history;
+mod kind;
 mod lease;
 mod mark;
 mod status;
@@ -15,8 +17,10 @@ mod tiles;
 mod totals;
 
 pub use book::Book;
+pub use entries::Entries;
 pub use entry::{Call, Entry, Reply};
 pub use fault::BookFault;
+pub use kind::CallKind;
 pub use lease::{Grant, Lease, Leased, Posted};
 pub use mark::{Mark, Path};
 pub use status::Status;

@@ -83,6 +83,13 @@ impl Path {
         Ok(Path { choices })
     }
 
+    /// Choices themselves.
+    pub(crate) fn from(choices: Vec<u32>) -> Path
+        ensures { result ≡ choices.items }
+    {
+        Path { choices }
+    }
+
     /// Whether they are the same choices.
     pub fn same(&self, other: &Path) -> bool
         ensures { IsTrue result ↔ (self.now ≡ other.now) }

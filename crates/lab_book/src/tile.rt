@@ -3,7 +3,7 @@ ghost use Rattle.std.specs.Prelude.{◌≡◌, ◌<◌, ◌≤◌, ◌++◌, ◌
 ghost use Rattle.x_steps.specs.StateView.{state_value};
 ghost use Rattle.x_branches.specs.Branch.{end_of};
 ghost use Rattle.x_branches.specs.Cut.{cut_state};
-ghost use Rattle.lab_book.specs.Tile.{mark_of, tile_end};
+ghost use Rattle.lab_book.specs.Tile.{led_to, mark_of, tile_end};
 ghost use Rattle.lab_book.specs.Posted.{stretch_visits};
 ghost use Rattle.lab_book.specs.Book.{whole_tile, posted_tile, retracted_tile, last_of, stretches_to};
 
@@ -15,7 +15,7 @@ use crate::status::Status;
 use cover_problem::Lists;
 use std::alloc::{AllocError, Global};
 use std::marker::Model;
-use x_branches::{Branch, Cut, Stretch};
+use x_branches::{Branch, Cut, KeptStretch, Stretch};
 use x_steps::{Cursor, Label, State};
 
 /// The parts of a tile.
@@ -28,7 +28,9 @@ struct Parts<'p> {
     status: Status,
     stop: bool,
     first: Mark,
-    stretches: Vec<Stretch<'p>>,
+    stretches: Vec<KeptStretch<'p>>,
+    /// Where the stretches end.
+    mark: Mark,
 }
 
 /// A branch of the run, how it stands, where its search began, and the stretches that were posted of it.
@@ -40,9 +42,7 @@ pub struct Tile<'p> {
 }
 
 impl<'p> Model for Tile<'p> {
-    ghost use Rattle.std.specs.Prelude.{◌≡◌};
-    ghost use Rattle.x_branches.specs.Branch.{end_of};
-    ghost use Rattle.lab_book.specs.Tile.{TileValue};
+    ghost use Rattle.lab_book.specs.Tile.{TileValue, KeepsTile};
 
     ghost Value = { TileValue };
 
@@ -55,7 +55,8 @@ impl<'p> Model for Tile<'p> {
       stretches = t.parts.value.stretches.items;
     } };
 
-    ghost invariant = { λ t. t.parts.value.end ≡ end_of t.parts.value.branch.hi };
+    ghost invariant = { λ t. KeepsTile t.parts.value.branch t.parts.value.first t.parts.value.stretches.items
+        t.parts.value.end t.parts.value.mark };
 }
 
 /// The state that ends a branch: that of its high cut, or Done.
@@ -87,24 +88,30 @@ fn cut_state(alloc: Global, cut: &Cut<'_>) -> Result<Mark, AllocError>
 }
 
 /// How many stretches come before the first mark that is a state: the marks are the first one and the ends of the stretches.
-fn mark_place(state: &State, first: &State, stretches: &[Stretch<'_>]) -> Option<usize>
-    ensures place { option_map (λ n. take n stretches.now) result ≡
-        stretches_to (state_value state.now) (state_value first.now) stretches.now }
-    ensures within { IfSome result (λ n. n ≤ length stretches.now) }
+fn mark_place(
+    alloc: Global,
+    state: &State,
+    first: &State,
+    stretches: &[KeptStretch<'_>],
+) -> Result<Option<usize>, AllocError>
+    ensures place { IfOk result (λ place. option_map (λ n. take n stretches.now) place ≡
+        stretches_to (state_value state.now) (state_value first.now) stretches.now) }
+    ensures within { IfOk result (λ place. IfSome place (λ n. n ≤ length stretches.now)) }
 {
     if state.same(first) {
-        return Some(0);
+        return Ok(Some(0));
     }
     for (place, stretch) in stretches.iter().enumerate() {
-        if state.same(stretch.to()) {
-            return Some(place + 1);
+        let mark = stretch.to(alloc)?;
+        if state.same(&mark) {
+            return Ok(Some(place + 1));
         }
     }
-    None
+    Ok(None)
 }
 
-/// Whether these are the same stretches.
-fn are_same(stretches: &[Stretch<'_>], others: &[Stretch<'_>]) -> bool
+/// Whether these are the same stretches; false tells nothing.
+fn are_same(stretches: &[KeptStretch<'_>], others: &[KeptStretch<'_>]) -> bool
     ensures { IsTrue result → stretches.now ≡ others.now }
 {
     if stretches.len() != others.len() {
@@ -121,7 +128,8 @@ fn are_same(stretches: &[Stretch<'_>], others: &[Stretch<'_>]) -> bool
 impl<'p> Tile<'p> {
     /// The tile of these parts.
     fn of(alloc: Global, parts: Parts<'p>) -> Result<Tile<'p>, AllocError>
-        requires { parts.end ≡ end_of parts.branch.hi }
+        requires end { parts.end ≡ end_of parts.branch.hi }
+        requires mark { parts.mark ≡ led_to parts.first parts.stretches.items }
         ensures { IfOk result (λ tile. tile ≡ record {
           id = parts.entry.id;
           branch = parts.entry.branch;
@@ -156,6 +164,7 @@ impl<'p> Tile<'p> {
         ensures { IfOk result (λ tile. tile ≡ whole_tile branch.entry first) }
     {
         let end = end_state(alloc, &branch.hi)?;
+        let mark = first.copy()?;
         Tile::of(
             alloc,
             Parts {
@@ -166,6 +175,7 @@ impl<'p> Tile<'p> {
                 stop: false,
                 first,
                 stretches: Vec::new(alloc),
+                mark,
             },
         )
     }
@@ -220,7 +230,7 @@ impl<'p> Tile<'p> {
     }
 
     /// The stretches that were posted, in order.
-    pub fn stretches(&self) -> &[Stretch<'p>]
+    pub fn stretches(&self) -> &[KeptStretch<'p>]
         ensures { result.now ≡ self.now.stretches }
     {
         &self.parts.stretches
@@ -230,10 +240,7 @@ impl<'p> Tile<'p> {
     pub fn mark(&self) -> &State
         ensures { state_value result.now ≡ mark_of self.now }
     {
-        match self.parts.stretches.last() {
-            Some(stretch) => stretch.to(),
-            None => self.parts.first.state(),
-        }
+        self.parts.mark.state()
     }
 
     /// The state that ends it.
@@ -258,41 +265,74 @@ impl<'p> Tile<'p> {
         ensures unchanged { OnErr result (self.new ≡ self.old) }
         ensures given_back { IfErr result (λ s. s ≡ stretch.entry) }
     {
-        let stretches = &mut self.parts.stretches;
-        if stretches.reserve(1).is_err() {
+        let Ok(mark) = Mark::of(stretch.to()) else {
+            return Err(stretch);
+        };
+        let parts = &mut *self.parts;
+        if parts.stretches.reserve(1).is_err() {
             return Err(stretch);
         }
-        stretches.push_reserved(stretch);
+        let stretch = KeptStretch::of(stretch)?;
+        parts.stretches.push_reserved(stretch);
+        parts.mark = mark;
         Ok(())
     }
 
-    /// Takes the last stretch out.
-    pub(crate) fn retract(&mut self) -> Stretch<'p>
-        requires { 0 < length self.old.stretches }
-        ensures tile { self.new ≡ retracted_tile self.old }
-        ensures stretch { last_of self.old.stretches ≡ Some result }
+    /// Where so many of its first stretches lead.
+    pub(crate) fn mark_after(&self, count: usize) -> Result<Mark, AllocError>
+        requires { count ≤ length self.now.stretches }
+        ensures { IfOk result (λ mark. mark ≡ led_to self.now.first (take count self.now.stretches)) }
     {
-        let Some(stretch) = self.parts.stretches.pop() else {
-            unreachable!()
-        };
-        stretch
+        if count == 0 {
+            return self.parts.first.copy();
+        }
+        let alloc = *self.parts.stretches.allocator();
+        let mark = self.stretches()[count - 1].to(alloc)?;
+        Ok(Mark::from(mark))
     }
 
-    /// Keeps the first stretches alone.
-    pub(crate) fn put_back(&mut self, count: usize)
-        requires { count ≤ length self.old.stretches }
+    /// Its last stretch, and the mark that it has without it.
+    pub(crate) fn last(&self) -> Result<(Stretch<'p>, Mark), AllocError>
+        requires { 0 < length self.now.stretches }
+        ensures stretch { IfOk result (λ last. last_of self.now.stretches ≡ Some last.0) }
+        ensures mark { IfOk result (λ last. last.1 ≡ mark_of (retracted_tile self.now)) }
+    {
+        let alloc = *self.parts.stretches.allocator();
+        let count = self.stretches().len() - 1;
+        let stretch = self.stretches()[count].open(alloc)?;
+        let mark = self.mark_after(count)?;
+        Ok((stretch, mark))
+    }
+
+    /// Takes the last stretch out: its mark is this one then.
+    pub(crate) fn retract(&mut self, mark: Mark)
+        requires some { 0 < length self.old.stretches }
+        requires mark { mark ≡ mark_of (retracted_tile self.old) }
+        ensures { self.new ≡ retracted_tile self.old }
+    {
+        let count = self.stretches().len() - 1;
+        self.put_back(count, mark);
+    }
+
+    /// Keeps the first stretches alone: its mark is this one then.
+    pub(crate) fn put_back(&mut self, count: usize, mark: Mark)
+        requires some { count ≤ length self.old.stretches }
+        requires mark { mark ≡ led_to self.old.first (take count self.old.stretches) }
         ensures { self.new ≡ record self.old { stretches = take count self.old.stretches } }
     {
-        self.parts.stretches.truncate(count);
+        let parts = &mut *self.parts;
+        parts.stretches.truncate(count);
+        parts.mark = mark;
     }
 
     /// How many stretches come before the first of its marks that is this state.
-    pub(crate) fn mark_place(&self, state: &State) -> Option<usize>
-        ensures place { option_map (λ n. take n self.now.stretches) result ≡
-            stretches_to (state_value state.now) self.now.first self.now.stretches }
-        ensures within { IfSome result (λ n. n ≤ length self.now.stretches) }
+    pub(crate) fn mark_place(&self, state: &State) -> Result<Option<usize>, AllocError>
+        ensures place { IfOk result (λ place. option_map (λ n. take n self.now.stretches) place ≡
+            stretches_to (state_value state.now) self.now.first self.now.stretches) }
+        ensures within { IfOk result (λ place. IfSome place (λ n. n ≤ length self.now.stretches)) }
     {
-        mark_place(state, self.first_mark(), self.stretches())
+        let alloc = *self.parts.stretches.allocator();
+        mark_place(alloc, state, self.first_mark(), self.stretches())
     }
 
     /// Adds the paths that its stretches visit; where memory runs out, some may be there.

@@ -1,10 +1,10 @@
 //! The tiles of a book in order, with what is kept beside them so that no call has to go over all.
 ghost use Rattle.std.specs.Prelude.{ℕ, ◌≡◌, ◌⊎◌, ◌≤◌, ◌<◌, ◌+◌, ◌-◌, ◌^◌, true, false, not, Some, take, cond, [], ◌∷◌, length, slice_set};
 ghost use Rattle.std.specs.Prelude.{Option, None, IsOk, IfSome, OnOk, OnErr, IfErr, IfOk};
-ghost use Rattle.lab_book.specs.Tile.{TileValue, is_leased, is_waiting, is_held, is_closed, mark_of};
+ghost use Rattle.lab_book.specs.Tile.{TileValue, is_leased, is_waiting, is_held, is_closed, led_to, mark_of};
 ghost use Rattle.lab_book.specs.Tiling.{tile_at, AreNumbered};
 ghost use Rattle.lab_book.specs.Book.{tile_place, first_waiting, waiting_in, leased_in, found, status_fault, lease_fault, posted_tile};
-ghost use Rattle.lab_book.specs.Book.{retracted_tile, last_of};
+ghost use Rattle.lab_book.specs.Book.{retracted_tile};
 ghost use Rattle.lab_book.specs.Index.{WaitFrom};
 ghost use Rattle.lab_book.specs.Calls.{Judged, is_current};
 
@@ -297,25 +297,27 @@ impl<'p> Tiles<'p> {
         self.list[i].add(stretch)
     }
 
-    /// Takes the last stretch of the tile at a place out.
-    pub fn retract(&mut self, i: usize) -> Stretch<'p>
+    /// Takes the last stretch of the tile at a place out: its mark is this one then.
+    pub fn retract(&mut self, i: usize, mark: Mark)
         requires within { i < length self.old }
         requires some { 0 < length (tile_at self.old i).stretches }
-        ensures tiles { self.new ≡ slice_set self.old i (retracted_tile (tile_at self.old i)) }
-        ensures stretch { last_of (tile_at self.old i).stretches ≡ Some result }
+        requires mark { mark ≡ mark_of (retracted_tile (tile_at self.old i)) }
+        ensures { self.new ≡ slice_set self.old i (retracted_tile (tile_at self.old i)) }
     {
         self.keep_place(i);
-        self.list[i].retract()
+        self.list[i].retract(mark);
     }
 
-    /// Keeps the first stretches of the tile at a place alone.
-    pub fn put_back(&mut self, i: usize, count: usize)
+    /// Keeps the first stretches of the tile at a place alone: its mark is this one then.
+    pub fn put_back(&mut self, i: usize, count: usize, mark: Mark)
         requires within { i < length self.old }
         requires some { count ≤ length (tile_at self.old i).stretches }
+        requires mark { mark ≡ led_to (tile_at self.old i).first
+            (take count (tile_at self.old i).stretches) }
         ensures { self.new ≡ slice_set self.old i
             (record (tile_at self.old i) { stretches = take count (tile_at self.old i).stretches }) }
     {
         self.keep_place(i);
-        self.list[i].put_back(count);
+        self.list[i].put_back(count, mark);
     }
 }

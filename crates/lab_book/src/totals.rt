@@ -1,7 +1,10 @@
 //! Totals for each level.
-ghost use Rattle.std.specs.Prelude.{◌≡◌, ◌<◌, ◌≤◌, ◌+◌, ◌^◌, ℕ, IfOk, length, replicate, slice_index};
+ghost use Rattle.std.specs.Prelude.{◌≡◌, ◌<◌, ◌≤◌, ◌+◌, ◌^◌, ℕ, IfOk, length, map, replicate, slice_index};
+ghost use Rattle.packed_states.specs.StateCode.{choice_of};
 ghost use Rattle.x_branches.specs.Refusals.{most_steps};
 
+use packed_rows::Reader;
+use packed_states::choice;
 use std::alloc::{AllocError, Global};
 
 /// A total of nothing for each level that a problem of so many items has.
@@ -12,14 +15,18 @@ pub(crate) fn no_totals(alloc: Global, items: u32) -> Result<Vec<u128>, AllocErr
 }
 
 /// Adds to each total its count, as far as there are counts.
-pub(crate) fn add_counts(totals: &mut [u128], counts: &[u32])
-    requires levels { length counts.now ≤ length totals.old }
+pub(crate) fn add_counts(totals: &mut [u128], counts: Reader<'_>)
+    requires levels { length counts ≤ length totals.old }
     requires room { (level : ℕ) → level < length totals.old → slice_index totals.old level + most_steps < 2 ^ 128 }
     ensures levels { length totals.new ≡ length totals.old }
-    ensures sums { (level : ℕ) → slice_index totals.new level ≡ slice_index totals.old level + slice_index counts.now level }
+    ensures sums { (level : ℕ) → slice_index totals.new level ≡
+        slice_index totals.old level + slice_index (map choice_of counts.entry) level }
     ensures small { (level : ℕ) → slice_index totals.new level ≤ slice_index totals.old level + most_steps }
 {
-    for (level, count) in counts.iter().enumerate() {
-        totals[level] += *count as u128;
+    let mut counts = counts;
+    let mut level = 0;
+    'adding: while let Some(count) = counts.next() {
+        totals[level] += choice(count) as u128;
+        level += 1;
     }
 }

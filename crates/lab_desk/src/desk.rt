@@ -420,7 +420,7 @@ impl<'p, L: Desking> Desk<'p, L> {
             count,
             mut row,
         } = lock.into_inner();
-        if seats.len() == n as usize && tell_all(&seats, &mut row, from, book.history()) {
+        if seats.len() == n as usize && tell_all(&seats, &mut row, from, &book.history()) {
             return Ok(book);
         }
         let locked = Locked { book, count, row };

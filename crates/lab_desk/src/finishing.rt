@@ -3,7 +3,7 @@ ghost use Rattle.std.specs.Prelude.{◌≡◌, ◌≤◌, length, drop, vec_len,
 ghost use Rattle.lab_desk.specs.Seats.{seats_of, HaveAllNumbers, AreRecords, are_of_workers};
 
 use crate::seat::Seat;
-use lab_book::Entry;
+use lab_book::Entries;
 use packed_rows::Row;
 use std::sync::ledger::Ledger;
 
@@ -28,7 +28,12 @@ fn have_all_numbers<L: Ledger>(seats: &[Seat<L>], number: u8) -> bool
 
 /// Whether the notes of each seat are the entries of its number, from an index on; false tells
 /// nothing.
-fn are_records<L: Ledger>(seats: &[Seat<L>], row: &mut Row, from: usize, history: &[Entry]) -> bool
+fn are_records<L: Ledger>(
+    seats: &[Seat<L>],
+    row: &mut Row,
+    from: usize,
+    history: &Entries<'_>,
+) -> bool
     requires within { from ≤ length history.now }
     ensures { IsTrue result → AreRecords from (drop from history.now) seats.now }
 {
@@ -41,12 +46,12 @@ fn are_records<L: Ledger>(seats: &[Seat<L>], row: &mut Row, from: usize, history
 }
 
 /// Whether the entries from an index on are of workers below a number.
-fn are_of_workers(number: u8, from: usize, history: &[Entry]) -> bool
+fn are_of_workers(number: u8, from: usize, history: &Entries<'_>) -> bool
     requires { from ≤ length history.now }
     ensures { IsTrue result → are_of_workers number (drop from history.now) ≡ true }
 {
     'asking: for i in from..history.len() {
-        if history[i].worker() >= number {
+        if history.worker(i) >= number {
             return false;
         }
     }
@@ -60,7 +65,7 @@ pub(crate) fn tell_all<L: Ledger>(
     seats: &[Seat<L>],
     row: &mut Row,
     from: usize,
-    history: &[Entry],
+    history: &Entries<'_>,
 ) -> bool
     requires within { from ≤ length history.now }
     requires few { length seats.now ≤ 32 }

@@ -110,8 +110,14 @@ fn note_refusal<L: Ledger>(
 
 /// Keeps room for the entry of a call that gives a lease up. One that ends its lease has the room
 /// that was kept with it; one that will be refused gets room of its own, since what is kept is for
-/// the leases of the seat that are not ended.
-fn keep_for_end(notes: &mut Sheet, entry: &Entry) -> Result<(), AllocError>
+/// the leases of the seat that are not ended. The first needs no memory, in the scratch row either:
+/// the entry of the lease was written there, and takes as much.
+fn keep_for_end(
+    notes: &mut Sheet,
+    row: &mut Row,
+    index: u64,
+    entry: &Entry,
+) -> Result<(), AllocError>
     ensures list { notes.new.list ≡ notes.old.list }
     ensures some { OnOk result (0 < notes.new.kept) }
     ensures ends { entry.now.reply ≡ replies.Done →
@@ -121,7 +127,7 @@ fn keep_for_end(notes: &mut Sheet, entry: &Entry) -> Result<(), AllocError>
     ensures unchanged { OnErr result (notes.new ≡ notes.old) }
 {
     match entry.reply() {
-        Reply::Refused(_) => notes.keep(1),
+        Reply::Refused(_) => notes.keep(1, row, index, entry),
         _ => notes.keep_one(),
     }
 }
@@ -149,7 +155,7 @@ impl<'p, L: Desking> Locked<'p, L> {
         let Ok(entry) = book.foretell_lease(*number, id) else {
             return Err(BookFault::OutOfMemory);
         };
-        if notes.keep(2).is_err() {
+        if notes.keep(2, row, index, &entry).is_err() {
             return Err(BookFault::OutOfMemory);
         }
         match book.lease(*number, id) {
@@ -186,7 +192,7 @@ impl<'p, L: Desking> Locked<'p, L> {
         } = seat;
         let index = book.history().len() as u64;
         let entry = book.foretell_lease_any(*number)?;
-        notes.keep(2)?;
+        notes.keep(2, row, index, &entry)?;
         let Ok(leased) = book.lease_any(*number) else {
             notes.give_up();
             notes.give_up();
@@ -229,7 +235,7 @@ impl<'p, L: Desking> Locked<'p, L> {
         let Ok(entry) = book.foretell_post(lease, &stretch, same) else {
             return Err(out_of_memory(stretch));
         };
-        if notes.keep(1).is_err() {
+        if notes.keep(1, row, index, &entry).is_err() {
             return Err(out_of_memory(stretch));
         }
         match book.post_compared(lease, stretch, same) {
@@ -274,7 +280,7 @@ impl<'p, L: Desking> Locked<'p, L> {
         let Ok(entry) = book.foretell_split(lease, &cut, same) else {
             return Err(out_of_memory(cut));
         };
-        if notes.keep(1).is_err() {
+        if notes.keep(1, row, index, &entry).is_err() {
             return Err(out_of_memory(cut));
         }
         match book.split_compared(lease, cut, same) {
@@ -315,7 +321,7 @@ impl<'p, L: Desking> Locked<'p, L> {
         let Ok(entry) = book.foretell_park(&lease) else {
             return Err(out_of_memory(lease));
         };
-        if keep_for_end(notes, &entry).is_err() {
+        if keep_for_end(notes, row, index, &entry).is_err() {
             return Err(out_of_memory(lease));
         }
         match book.park(lease) {
@@ -358,7 +364,7 @@ impl<'p, L: Desking> Locked<'p, L> {
         let Ok(entry) = book.foretell_abandon(&lease) else {
             return Err(out_of_memory(lease));
         };
-        if keep_for_end(notes, &entry).is_err() {
+        if keep_for_end(notes, row, index, &entry).is_err() {
             return Err(out_of_memory(lease));
         }
         match book.abandon(lease) {
@@ -400,7 +406,7 @@ impl<'p, L: Desking> Locked<'p, L> {
         let Ok(entry) = book.foretell_close(&lease) else {
             return Err(out_of_memory(lease));
         };
-        if notes.keep(1).is_err() {
+        if notes.keep(1, row, index, &entry).is_err() {
             return Err(out_of_memory(lease));
         }
         match book.close(lease) {
@@ -439,7 +445,7 @@ impl<'p, L: Desking> Locked<'p, L> {
         let Ok(entry) = book.foretell_take_held(*number, id) else {
             return Err(BookFault::OutOfMemory);
         };
-        if notes.keep(2).is_err() {
+        if notes.keep(2, row, index, &entry).is_err() {
             return Err(BookFault::OutOfMemory);
         }
         match book.take_held(*number, id) {
@@ -475,7 +481,7 @@ impl<'p, L: Desking> Locked<'p, L> {
         let Ok(entry) = book.foretell_request_stop(*number, id) else {
             return Err(BookFault::OutOfMemory);
         };
-        if notes.keep(1).is_err() {
+        if notes.keep(1, row, index, &entry).is_err() {
             return Err(BookFault::OutOfMemory);
         }
         match book.request_stop(*number, id) {
@@ -516,7 +522,7 @@ impl<'p, L: Desking> Locked<'p, L> {
         let Ok(entry) = book.foretell_put_back(*number, id, state) else {
             return Err(BookFault::OutOfMemory);
         };
-        if notes.keep(1).is_err() {
+        if notes.keep(1, row, index, &entry).is_err() {
             return Err(BookFault::OutOfMemory);
         }
         match book.put_back(*number, id, state) {
@@ -557,7 +563,7 @@ impl<'p, L: Desking> Locked<'p, L> {
         let Ok(entry) = book.foretell_retract(lease) else {
             return Err(BookFault::OutOfMemory);
         };
-        if notes.keep(1).is_err() {
+        if notes.keep(1, row, index, &entry).is_err() {
             return Err(BookFault::OutOfMemory);
         }
         match book.retract(lease) {

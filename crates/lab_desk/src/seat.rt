@@ -3,7 +3,7 @@ ghost use Rattle.std.specs.Prelude.{◌≡◌, ◌≤◌, ◌↔◌, [], true, l
 ghost use Rattle.lab_desk.specs.Record.{noted, notes_of};
 
 use crate::sheet::Sheet;
-use lab_book::Entry;
+use lab_book::{Entries, Entry};
 use packed_rows::Row;
 use std::alloc::Global;
 use std::marker::Model;
@@ -14,15 +14,6 @@ use std::sync::ledger::{Ledger, Share};
 pub struct Noted {
     pub index: u64,
     pub entry: Entry,
-}
-
-impl Noted {
-    /// Whether it is a note of this entry; false tells nothing.
-    pub(crate) fn is(&self, index: u64, entry: &Entry) -> bool
-        ensures { IsTrue result → self.now ≡ noted index entry.now }
-    {
-        self.index == index && self.entry.same(entry)
-    }
 }
 
 /// A seat: its number, its notes, and its share of the desk's ledger, which counts the notes.
@@ -47,18 +38,17 @@ impl<L: Ledger> Model for Seat<L> {
 
 /// Whether these are the entries of a worker, with their indexes, from an index on; false tells
 /// nothing. The notes are compared by a scratch row.
-fn is_record(notes: &Sheet, row: &mut Row, number: u8, from: usize, history: &[Entry]) -> bool
+fn is_record(notes: &Sheet, row: &mut Row, number: u8, from: usize, history: &Entries<'_>) -> bool
     requires { from ≤ length history.now }
     ensures { IsTrue result → notes.now.list ≡ notes_of number from (drop from history.now) }
 {
     let mut next = 0;
     'comparing: for i in from..history.len() {
-        let entry = &history[i];
-        if entry.worker() == number {
+        if history.worker(i) == number {
             if next >= notes.len() {
                 return false;
             }
-            if !notes.tells(row, next, i as u64, entry) {
+            if !notes.tells(row, next, history, i) {
                 return false;
             }
             next += 1;
@@ -90,7 +80,7 @@ impl<L: Ledger> Seat<L> {
     }
 
     /// Whether its notes are the entries of its number, from an index on; false tells nothing.
-    pub(crate) fn tells(&self, row: &mut Row, from: usize, history: &[Entry]) -> bool
+    pub(crate) fn tells(&self, row: &mut Row, from: usize, history: &Entries<'_>) -> bool
         requires { from ≤ length history.now }
         ensures { IsTrue result →
             self.now.notes ≡ notes_of self.now.number from (drop from history.now) }

@@ -1,10 +1,10 @@
 //! Notes, with room kept for notes to come.
-ghost use Rattle.std.specs.Prelude.{◌≡◌, ◌≤◌, ◌<◌, ◌+◌, ◌-◌, ◌++◌, ◌∷◌, [], length, map, slice_get, Some};
+ghost use Rattle.std.specs.Prelude.{◌≡◌, ◌≤◌, ◌<◌, ◌+◌, ◌-◌, ◌++◌, ◌∷◌, [], length, map, slice_get, option_map};
 ghost use Rattle.std.specs.Prelude.{vec_len, vec_capacity, OnOk, OnErr, IsTrue};
 ghost use Rattle.lab_desk.specs.Record.{noted, note_of};
 
 use crate::seat::Noted;
-use lab_book::Entry;
+use lab_book::{Entries, Entry};
 use packed_rows::{Row, Rows};
 use std::alloc::{AllocError, Global};
 use std::marker::Model;
@@ -37,18 +37,6 @@ fn write(row: &mut Row, index: u64, entry: &Entry) -> Result<(), AllocError>
     row.put(index)?;
     entry.put(row)?;
     Ok(())
-}
-
-/// Whether the row at a place tells the note of this entry; false tells nothing.
-fn is_packed(rows: &Rows, row: &mut Row, place: usize, index: u64, entry: &Entry) -> bool
-    requires { place < length rows.now.rows }
-    ensures { IsTrue result →
-        slice_get (map note_of rows.now.rows) place ≡ Some (noted index entry.now) }
-{
-    if write(row, index, entry).is_err() {
-        return false;
-    }
-    rows.row(place).same(&row.reader())
 }
 
 /// Packs the first of the last notes. The scratch row has room then for each note that was packed
@@ -101,21 +89,25 @@ impl Sheet {
         self.rows.len() + self.last.len()
     }
 
-    /// Whether the note at a place is of this entry; false tells nothing. The scratch row by which
-    /// a note was packed has room for the same entry, so that one is told again without memory.
-    pub fn tells(&self, row: &mut Row, place: usize, index: u64, entry: &Entry) -> bool
-        requires { place < length self.now.list }
-        ensures { IsTrue result → slice_get self.now.list place ≡ Some (noted index entry.now) }
+    /// Whether the note at a place is of the entry with an index; false tells nothing. No memory is
+    /// needed where they are the same and room for the note was kept by this scratch row.
+    pub fn tells(&self, row: &mut Row, place: usize, history: &Entries<'_>, index: usize) -> bool
+        requires place { place < length self.now.list }
+        requires index { index < length history.now }
+        ensures { IsTrue result → slice_get self.now.list place ≡
+            option_map (noted index) (slice_get history.now index) }
     {
         let count = self.rows.len();
         if place >= count {
-            return self.last[place - count].is(index, entry);
+            let note = &self.last[place - count];
+            return note.index == index as u64 && history.is(index, &note.entry, row);
         }
-        is_packed(&self.rows, row, place, index, entry)
+        let mut numbers = self.rows.row(place);
+        numbers.number() == index as u64 && history.is_told(index, &numbers, row)
     }
 
-    /// Keeps room for so many notes more. Where memory runs out, nothing changes.
-    pub fn keep(&mut self, count: usize) -> Result<(), AllocError>
+    /// Keeps room for so many notes more.
+    fn reserve(&mut self, count: usize) -> Result<(), AllocError>
         requires { count ≤ 2 }
         ensures kept { OnOk result (self.new ≡ record self.old { kept = self.old.kept + count }) }
         ensures unchanged { OnErr result (self.new ≡ self.old) }
@@ -123,6 +115,24 @@ impl Sheet {
         self.last.reserve(self.kept + count)?;
         self.kept += count;
         Ok(())
+    }
+
+    /// Keeps room for so many notes more, of which one will be this: it is written into the scratch
+    /// row, so that the row has room for it when the notes are compared with the history. Where
+    /// memory runs out, nothing changes.
+    pub fn keep(
+        &mut self,
+        count: usize,
+        row: &mut Row,
+        index: u64,
+        entry: &Entry,
+    ) -> Result<(), AllocError>
+        requires { count ≤ 2 }
+        ensures kept { OnOk result (self.new ≡ record self.old { kept = self.old.kept + count }) }
+        ensures unchanged { OnErr result (self.new ≡ self.old) }
+    {
+        write(row, index, entry)?;
+        self.reserve(count)
     }
 
     /// Keeps room for one note, where none is kept.
@@ -135,7 +145,7 @@ impl Sheet {
         if self.kept > 0 {
             return Ok(());
         }
-        self.keep(1)
+        self.reserve(1)
     }
 
     /// Gives the room for one note up, if some is kept.

@@ -1,5 +1,5 @@
 -- What a pool is done with is searched: that follows from the book's replay.
-use Rattle.std.proofs.Common.{◌≡◌, List, [], ◌∷◌, ◌++◌, length, take, drop, refl, sym, ap, ◌∙◌, subst, arith, Option, Some, Result, Ok, Err, IfOk, IfErr, OnOk, IfSome}
+use Rattle.std.proofs.Common.{ℕ, ◌≡◌, List, [], ◌∷◌, ◌++◌, length, take, drop, refl, sym, ap, ◌∙◌, subst, arith, Option, Some, Result, Ok, Err, IfOk, IfErr, OnOk, IfSome}
 use Rattle.std.proofs.Common.{Bool, true, false, IsTrue, ◌↔◌}
 use Rattle.std.proofs.lemmas.Bool.{false≢true}
 use Rattle.std.proofs.lemmas.List.{take-append-drop, take_all}
@@ -66,6 +66,10 @@ still_searched b w l = record { problem = refl; branch = refl; first = refl; til
 pub still_on : (b : BookValue) → GoesOn b b
 still_on b = record { problem = refl; branch = refl; first = refl; history = take_all (length b.history) b.history (omega arith) }
 
+pub same_on : {E : Type 0} (old : BookValue) (r : Result BookValue E) → IfOk r (λ b. b ≡ old) → IfOk r (λ b. GoesOn old b)
+same_on old (Ok b) e = subst (GoesOn old) (sym e) (still_on old)
+same_on old (Err x) e = tt
+
 module _ (old new : BookValue) (s : IsSearched old new) where
   -- a finished one tells that no tile was held
   pub none_was_held : AllClosed new.tiles → held_tiles old.tiles ≡ []
@@ -90,23 +94,23 @@ denied test e d p = false≢true (sym e ∙ d.1 p)
 
 -- ---- what is answered of the book that the workers left
 
-module _ (old mid : BookValue) (opening : List Entry) (opened : old.history ≡ opening) (entries : List Entry) (same : entries ≡ old.history) (problem : mid.problem ≡ old.problem)
+module _ (old mid : BookValue) (opening : List Entry) (opened : old.history ≡ opening) (from : ℕ) (same : from ≡ length old.history) (problem : mid.problem ≡ old.problem)
     (branch : mid.branch ≡ old.branch) (first : mid.first ≡ old.first) (begins : take (length opening) mid.history ≡ opening)
     (was : IsReplay old) (is : IsReplay mid) (free : leased_in old.tiles ≡ 0) where
   on_opening : take (length old.history) mid.history ≡ old.history
   on_opening = subst (λ (es : List Entry). take (length es) mid.history ≡ es) (sym opened) begins
 
-  searched_where : IsDone (length entries) mid → IsSearched old mid
+  searched_where : IsDone from mid → IsSearched old mid
   searched_where d = done_searched old mid (record { problem = problem; branch = branch; first = first; history = on_opening }) was is free
-      (subst (λ (es : List Entry). IsDone (length es) mid) same d)
+      (subst (λ n. IsDone n mid) same d)
 
-  pub ok_searched : {E : Type 0} (r : Result BookValue E) → IfOk r (λ b. b ≡ mid) → OnOk r (IsDone (length entries) mid)
+  pub ok_searched : {E : Type 0} (r : Result BookValue E) → IfOk r (λ b. b ≡ mid) → OnOk r (IsDone from mid)
       → IfOk r (λ b. IsSearched old b)
   ok_searched (Ok b) e d = subst (IsSearched old) (sym e) (searched_where d)
   ok_searched (Err x) e d = tt
 
   pub held_searched : (r : Result BookValue (Refused PoolFault (Option BookValue)))
-      → IfErr r (λ x. (x.fault ≡ Mismatch → ⊥) → x.given ≡ Some mid) → IfErr r (λ x. x.fault ≡ Held → IsDone (length entries) mid)
+      → IfErr r (λ x. (x.fault ≡ Mismatch → ⊥) → x.given ≡ Some mid) → IfErr r (λ x. x.fault ≡ Held → IsDone from mid)
       → IfErr r (λ x. x.fault ≡ Held → IfSome x.given (λ b. IsSearched old b))
   held_searched (Ok b) g h = tt
   held_searched (Err x) g h = λ e.
@@ -117,7 +121,7 @@ module _ (old mid : BookValue) (opening : List Entry) (opened : old.history ≡ 
       different e m = cc
 
   pub some_was_held : (r : Result BookValue (Refused PoolFault (Option BookValue)))
-      → IfErr r (λ x. x.fault ≡ Held → IsDone (length entries) mid) → IfErr r (λ x. x.fault ≡ Held → AllClosed mid.tiles → ⊥)
+      → IfErr r (λ x. x.fault ≡ Held → IsDone from mid) → IfErr r (λ x. x.fault ≡ Held → AllClosed mid.tiles → ⊥)
       → IfErr r (λ x. x.fault ≡ Held → held_tiles old.tiles ≡ [] → ⊥)
   some_was_held (Ok b) h o = tt
   some_was_held (Err x) h o = λ e n. o e (else_finished old mid (searched_where (h e)) n)

@@ -1,5 +1,7 @@
 //! What is answered of a book, once its workers are through with it.
 ghost use Rattle.std.specs.Prelude.{◌≡◌, ◌<◌, ◌≤◌, ◌↔◌, [], Some, None, IfOk, IfErr, OnOk, IfSome, IsTrue, length, drop};
+ghost use Rattle.lab_book.specs.declared.entry.Call.{Call};
+ghost use Rattle.lab_book.specs.Kinds.{kind_of};
 ghost use Rattle.lab_book.specs.Book.{waiting_in, leased_in};
 ghost use Rattle.lab_book.specs.Posted.{AllClosed};
 ghost use Rattle.alike_books.specs.AlikeBooks.{held_tiles};
@@ -8,7 +10,7 @@ ghost use Rattle.alike_books.specs.Searched.{ArePoolCalls, IsSearched};
 ghost use Rattle.lab_pool.specs.Pool.{GivenBack, OnlyHeld, IsDone};
 
 use crate::fault::PoolFault;
-use lab_book::{Book, Call, Entry};
+use lab_book::{Book, CallKind, Entries};
 use x_steps::Refused;
 
 /// Why a pool didn't finish its book, with the book.
@@ -34,22 +36,28 @@ pub(crate) fn mismatch<'p>() -> Refused<PoolFault, Option<Book<'p>>>
 }
 
 /// Whether a pool makes such calls: it takes no held tile, puts none back, and asks none to stop.
-fn is_pool_call(call: &Call) -> bool
-    ensures { result ≡ spec.is_pool_call call.now }
+fn is_pool_call(kind: CallKind) -> bool
+    ensures { (c : Call) → kind ≡ kind_of c → result ≡ spec.is_pool_call c }
 {
-    match call {
-        Call::TakeHeld(_) => false,
-        Call::PutBack { .. } => false,
-        Call::RequestStop(_) => false,
+    match kind {
+        CallKind::TakeHeld => false,
+        CallKind::PutBack => false,
+        CallKind::RequestStop => false,
         _ => true,
     }
 }
 
-/// Whether all entries are of such calls.
-fn are_pool_calls(entries: &[Entry]) -> bool
-    ensures { IsTrue result ↔ ArePoolCalls entries.now }
+/// Whether all entries from a place on are of such calls.
+fn are_pool_calls(history: &Entries<'_>, from: usize) -> bool
+    requires { from ≤ length history.now }
+    ensures { IsTrue result ↔ ArePoolCalls (drop from history.now) }
 {
-    entries.iter().all(|entry| is_pool_call(entry.call()))
+    'asking: for place in from..history.len() {
+        if !is_pool_call(history.kind(place)) {
+            return false;
+        }
+    }
+    true
 }
 
 /// What is answered of a book without a tile that waits or is leased: it is finished, or held tiles
@@ -101,7 +109,7 @@ pub(crate) fn answer<'p>(
     ensures threads { IfErr result (λ r. r.fault ≡ PoolFault.NoThread →
         0 < waiting_in book.entry.tiles) }
 {
-    if book.leased() > 0 || !are_pool_calls(&book.history()[from..]) {
+    if book.leased() > 0 || !are_pool_calls(&book.history(), from) {
         return Err(mismatch());
     }
     if book.waiting() == 0 {

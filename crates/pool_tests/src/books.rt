@@ -1,9 +1,9 @@
 //! Books of the small problem that were called by hand, and what a finished one tells.
-ghost use Rattle.std.specs.Prelude.{◌≤◌};
+ghost use Rattle.std.specs.Prelude.{◌≤◌, ◌<◌, length};
 
 use crate::searches::{Search, begin};
 use cover_problem::Problem;
-use lab_book::Book;
+use lab_book::{Book, Entries};
 use std::alloc::{AllocError, Global};
 use x_branches::Branch;
 use x_steps::{Cursor, Label, State};
@@ -27,14 +27,30 @@ pub fn is_some_done(book: &Option<Book<'_>>, steps: u128) -> Result<bool, AllocE
     }
 }
 
+/// Whether the entries of two histories at a place are the same.
+fn are_same_at(one: &Entries<'_>, other: &Entries<'_>, place: usize) -> bool
+    requires one { place < length one.now }
+    requires other { place < length other.now }
+{
+    match (one.entry(place), other.entry(place)) {
+        (Ok(one), Ok(other)) => one.same(&other),
+        _ => false,
+    }
+}
+
 /// Whether a book's history begins with the history of another.
 pub fn begins_with(book: &Book<'_>, old: &Book<'_>) -> bool {
     let entries = book.history();
-    let mut right = entries.len() >= old.history().len();
-    for (one, other) in entries.iter().zip(old.history().iter()) {
-        right = right && one.same(other);
+    let first = old.history();
+    if entries.len() < first.len() {
+        return false;
     }
-    right
+    for place in 0..first.len() {
+        if !are_same_at(&entries, &first, place) {
+            return false;
+        }
+    }
+    true
 }
 
 /// A worker's search of a tile of a book.

@@ -1,6 +1,7 @@
 //! Books of the small problem: what each call answers, and what a refused one leaves.
 
 mod acts;
+mod entry_tests;
 mod finishing;
 mod new_tests;
 mod resumed_tests;

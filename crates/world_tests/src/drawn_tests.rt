@@ -105,35 +105,37 @@ fn is_at(state: &State, path: &[u32], label: Label) -> bool {
 }
 
 /// Whether a tile's stretches join, from its first mark to its mark.
-fn are_joined(tile: &Tile<'_>) -> bool {
-    let mut end = tile.first_mark();
+fn are_joined(alloc: Global, tile: &Tile<'_>) -> Result<bool, AllocError> {
+    let mut end = tile.first_mark().copy()?;
     for stretch in tile.stretches() {
-        if !stretch.from().same(end) {
-            return false;
+        let from = stretch.from(alloc)?;
+        if !from.same(&end) {
+            return Ok(false);
         }
-        end = stretch.to();
+        end = stretch.to(alloc)?;
     }
-    tile.mark().same(end)
+    Ok(tile.mark().same(&end))
 }
 
 /// Whether a tile begins at its low cut, and is posted up to its high one if it is closed.
-fn is_tile(tile: &Tile<'_>) -> bool {
+fn is_tile(alloc: Global, tile: &Tile<'_>) -> Result<bool, AllocError> {
     if tile.status() == Status::Closed && !is_at(tile.mark(), path_of(tile.hi()), Label::Done) {
-        return false;
+        return Ok(false);
     }
-    is_at(tile.first_mark(), path_of(tile.lo()), Label::X1) && are_joined(tile)
+    Ok(is_at(tile.first_mark(), path_of(tile.lo()), Label::X1) && are_joined(alloc, tile)?)
 }
 
 /// Whether tiles part the whole run: each begins at the cut where the one before it ends.
-fn are_tiles(tiles: &[Tile<'_>]) -> bool {
+fn are_tiles(alloc: Global, tiles: &[Tile<'_>]) -> Result<bool, AllocError> {
     let mut cut: &[u32] = &[];
     for (place, tile) in tiles.iter().enumerate() {
-        if path_of(tile.lo()) != cut || (cut.is_empty() && place > 0) || !is_tile(tile) {
-            return false;
+        let begins = path_of(tile.lo()) == cut && (place == 0 || !cut.is_empty());
+        if !begins || !is_tile(alloc, tile)? {
+            return Ok(false);
         }
         cut = path_of(tile.hi());
     }
-    cut.is_empty()
+    Ok(cut.is_empty())
 }
 
 /// The run by single steps: how many, and its visits with a 0 after each.
@@ -171,7 +173,7 @@ fn is_run(alloc: Global, book: &Book<'_>) -> Result<bool, Fail> {
 fn goes_on(alloc: Global, world: &mut World<'_, PlainTable>, seed: &mut u64) -> Result<bool, Fail> {
     let events = drawn_events(alloc, seed)?;
     let _replies = play(world, &events)?;
-    Ok(are_tiles(world.book().tiles()))
+    Ok(are_tiles(alloc, world.book().tiles())?)
 }
 
 /// Whether what is posted in the end is the run; and how many tiles there are.

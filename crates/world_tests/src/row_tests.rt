@@ -3,7 +3,7 @@
 use crate::setting::{Do, add, play, visits_of};
 use cover_problem::{PlainTable, Problem, read_cover};
 use drawn_problems::SMALL;
-use lab_book::{Book, Reply, Tile};
+use lab_book::{Book, Entry, Reply, Tile};
 use lab_world::{World, WorldReply};
 use std::alloc::{AllocError, Global};
 use std::test::Fail;
@@ -19,14 +19,24 @@ fn are_all(replies: &[WorldReply], times: u32, right: WorldReply) -> bool {
     replies.len() == times as usize && replies.iter().all(|reply| *reply == right)
 }
 
-/// The number of the refusal that a book's last entry has; 0 where it has another answer.
+/// The number of an entry's refusal; 0 where it has another answer.
+fn refusal_of(entry: &Entry) -> Option<u8> {
+    match entry.reply() {
+        Reply::Refused(fault) => fault.number(),
+        _ => Some(0),
+    }
+}
+
+/// The same of a book's last entry.
 fn last_number(book: &Book<'_>) -> Option<u8> {
-    match book.history().last() {
-        Some(entry) => match entry.reply() {
-            Reply::Refused(fault) => fault.number(),
-            _ => Some(0),
-        },
-        None => None,
+    let history = book.history();
+    let count = history.len();
+    if count == 0 {
+        return None;
+    }
+    match history.entry(count - 1) {
+        Ok(entry) => refusal_of(&entry),
+        Err(_) => None,
     }
 }
 
@@ -109,10 +119,11 @@ struct Tally {
 }
 
 /// Adds the stretches of a tile.
-fn add_parts(parts: &mut Vec<u32>, tile: &Tile<'_>) -> Result<(), AllocError> {
+fn add_parts(alloc: Global, parts: &mut Vec<u32>, tile: &Tile<'_>) -> Result<(), AllocError> {
     for stretch in tile.stretches() {
         parts.push(stretch.steps())?;
-        parts.extend_from_slice(stretch.levels())?;
+        let opened = stretch.open(alloc)?;
+        parts.extend_from_slice(opened.levels())?;
     }
     Ok(())
 }
@@ -121,7 +132,7 @@ fn add_parts(parts: &mut Vec<u32>, tile: &Tile<'_>) -> Result<(), AllocError> {
 fn parts_of(alloc: Global, book: &Book<'_>) -> Result<Vec<u32>, AllocError> {
     let mut parts = Vec::new(alloc);
     for tile in book.tiles() {
-        add_parts(&mut parts, tile)?;
+        add_parts(alloc, &mut parts, tile)?;
     }
     Ok(parts)
 }

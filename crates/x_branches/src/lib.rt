@@ -4,6 +4,7 @@
 mod branch;
 mod cut;
 mod fault;
+mod kept;
 pub mod laws;
 mod order;
 mod position;
@@ -13,6 +14,7 @@ mod stretch;
 pub use branch::Branch;
 pub use cut::Cut;
 pub use fault::{CutFault, RunnerFault, StartFault};
+pub use kept::KeptStretch;
 pub use order::run_order;
 pub use runner::Runner;
 pub use stretch::Stretch;

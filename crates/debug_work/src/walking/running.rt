@@ -46,7 +46,7 @@ fn walk_to_break<'p, T: Table>(
         let _state = worker.runner().state();
         step_on(book, worker, text)?;
         // Each full stretch is an entry of the history, and there are fewer than 2^64 of them: no sum can be too large.
-        let _entries = book.history();
+        let _entries = book.history().len();
         moved += 1;
         let met = first_met(breaks, worker.runner())?;
         if met.is_some() {

@@ -291,10 +291,8 @@ impl<'p> Book<'p> {
                 reply: refused_reply(fault)?,
             }),
         };
-        let Some(last) = self.tiles.tile(i).stretches().last() else {
-            unreachable!()
-        };
-        let (from, to) = ends_of(last)?;
+        let (stretch, _) = self.tiles.tile(i).last()?;
+        let (from, to) = ends_of(&stretch)?;
         Ok(Entry {
             worker: lease.worker,
             call,

@@ -1,5 +1,5 @@
 //! Tiles are asked to stop, and what was posted is taken out again.
-ghost use Rattle.std.specs.Prelude.{◌≡◌, ◌≤◌, ◌<◌, true, Ok, Err, IfOk, IfErr, OnOk, length};
+ghost use Rattle.std.specs.Prelude.{◌≡◌, ◌⊎◌, ◌≤◌, ◌<◌, true, Ok, Err, IfOk, IfErr, OnOk, length};
 ghost use Rattle.x_steps.specs.StateView.{state_value};
 ghost use Rattle.lab_book.specs.declared.entry.Call.TheVariants as calls;
 ghost use Rattle.lab_book.specs.declared.entry.Reply.TheVariants as replies;
@@ -83,16 +83,16 @@ impl<'p> Book<'p> {
             Ok(i) => i,
             Err(fault) => return Err(self.refuse(lease.worker, Call::Retract(lease), fault)),
         };
-        let Some(last) = self.tiles.tile(i).stretches().last() else {
-            unreachable!()
+        let Ok((stretch, mark)) = self.tiles.tile(i).last() else {
+            return Err(BookFault::OutOfMemory);
         };
-        let Ok((from, to)) = ends_of(last) else {
+        let Ok((from, to)) = ends_of(&stretch) else {
             return Err(BookFault::OutOfMemory);
         };
         let Ok(()) = self.history.keep(1) else {
             return Err(BookFault::OutOfMemory);
         };
-        let stretch = self.tiles.retract(i);
+        self.tiles.retract(i, mark);
         self.history.add(Entry {
             worker: lease.worker,
             call: Call::Retract(lease),
@@ -107,7 +107,8 @@ impl<'p> Book<'p> {
         ensures within { IfOk result (λ x. x.0 < length self.now.tiles) }
         ensures free { IfOk result (λ x. is_free (tile_at self.now.tiles x.0).status ≡ true) }
         ensures kept { IfOk result (λ x. GoesBack (tile_at self.now.tiles x.0) (state_value state.now) x.1) }
-        ensures refused { IfErr result (λ f. found self.now.tiles id (mark_fault (state_value state.now)) ≡ Err f) }
+        ensures refused { IfErr result (λ f. (f ≡ BookFault.OutOfMemory) ⊎
+            (found self.now.tiles id (mark_fault (state_value state.now)) ≡ Err f)) }
     {
         let Some(i) = self.tiles.place(id) else {
             return Err(BookFault::UnknownBranch);
@@ -117,8 +118,9 @@ impl<'p> Book<'p> {
             return Err(BookFault::NotWaiting);
         }
         match tile.mark_place(state) {
-            Some(count) => Ok((i, count)),
-            None => Err(BookFault::NotAMark),
+            Ok(Some(count)) => Ok((i, count)),
+            Ok(None) => Err(BookFault::NotAMark),
+            Err(_) => Err(BookFault::OutOfMemory),
         }
     }
 
@@ -129,18 +131,21 @@ impl<'p> Book<'p> {
         ensures made { OnOk result (Made self.old self.new w (calls.PutBack id (state_value state.now)) replies.Done) }
         ensures refused { IfErr result (λ f. Refuses self.old self.new w (calls.PutBack id (state_value state.now)) f) }
     {
-        let Ok(mark) = Mark::of(state) else {
+        let Ok(copy) = Mark::of(state) else {
             return Err(BookFault::OutOfMemory);
         };
-        let call = Call::PutBack { id, state: mark };
+        let call = Call::PutBack { id, state: copy };
         let (i, count) = match self.mark_place(id, state) {
             Ok(found) => found,
             Err(fault) => return Err(self.refuse(w, call, fault)),
         };
+        let Ok(mark) = self.tiles.tile(i).mark_after(count) else {
+            return Err(BookFault::OutOfMemory);
+        };
         let Ok(()) = self.history.keep(1) else {
             return Err(BookFault::OutOfMemory);
         };
-        self.tiles.put_back(i, count);
+        self.tiles.put_back(i, count, mark);
         self.history.add(Entry {
             worker: w,
             call,

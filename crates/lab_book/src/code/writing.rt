@@ -1,80 +1,17 @@
 //! The numbers of an entry.
 ghost use Rattle.std.specs.Prelude.{◌≡◌, ◌++◌, ◌∷◌, ◌<◌, [], Some, OnOk};
 ghost use Rattle.x_steps.specs.StateView.{state_value};
-ghost use Rattle.lab_book.specs.States.{label_number};
-ghost use Rattle.lab_book.specs.EntryCode.{path_code, cut_code, state_code, grant_code, fault_code, call_code, reply_code, entry_code, entry_of};
-ghost use Rattle.lab_book.specs.EntryCode.{bool_code, cursor_kind, cursor_choice, ReadsPath, ReadsState, ReadsCut, ReadsGrant, ReadsCall, ReadsReply, ReadsFault};
+ghost use Rattle.packed_states.specs.StateCode.{path_code, state_code};
+ghost use Rattle.lab_book.specs.EntryCode.{cut_code, grant_code, fault_code, call_code, reply_code, entry_code, entry_of};
+ghost use Rattle.lab_book.specs.EntryCode.{bool_code, ReadsCut, ReadsGrant, ReadsCall, ReadsReply, ReadsFault};
 
 use crate::entry::{Call, Entry, Reply};
 use crate::fault::BookFault;
 use crate::lease::Grant;
 use crate::mark::{Mark, Path};
 use packed_rows::Row;
+use packed_states::{put_path, put_state};
 use std::alloc::AllocError;
-use x_steps::{Cursor, Label, State};
-
-/// Adds a list of choices.
-fn put_path(row: &mut Row, path: &[u32]) -> Result<(), AllocError>
-    ensures code { OnOk result (row.new ≡ row.old ++ path_code path.now) }
-    ensures reads { OnOk result (ReadsPath path.now) }
-{
-    row.put(path.len() as u64)?;
-    'putting: for choice in path {
-        row.put(*choice as u64)?;
-    }
-    Ok(())
-}
-
-/// The number of a step.
-fn label_number(label: Label) -> u64
-    ensures { result ≡ label_number label }
-{
-    match label {
-        Label::X1 => 1,
-        Label::X2 => 2,
-        Label::X3 => 3,
-        Label::X4 => 4,
-        Label::X5 => 5,
-        Label::X6 => 6,
-        Label::X7 => 7,
-        Label::X8 => 8,
-        Label::Done => 9,
-    }
-}
-
-/// What kind of cursor it is.
-fn cursor_kind(cursor: Cursor) -> u64
-    ensures { result ≡ cursor_kind cursor }
-{
-    match cursor {
-        Cursor::None => 0,
-        Cursor::At(_) => 1,
-        Cursor::Past => 2,
-    }
-}
-
-/// The option that a cursor is at.
-fn cursor_choice(cursor: Cursor) -> u32
-    ensures { result ≡ cursor_choice cursor }
-{
-    match cursor {
-        Cursor::At(option) => option,
-        _ => 0,
-    }
-}
-
-/// Adds a state.
-fn put_state(row: &mut Row, state: &State) -> Result<(), AllocError>
-    ensures code { OnOk result (row.new ≡ row.old ++ state_code (state_value state.now)) }
-    ensures reads { OnOk result (ReadsState (state_value state.now)) }
-{
-    row.put(label_number(state.label))?;
-    row.put(cursor_kind(state.cursor))?;
-    let choice = cursor_choice(state.cursor);
-    row.put(choice as u64)?;
-    put_path(row, &state.path)?;
-    Ok(())
-}
 
 /// Adds the choices of a cut.
 fn put_some(row: &mut Row, path: &Path) -> Result<(), AllocError>

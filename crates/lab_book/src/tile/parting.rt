@@ -6,10 +6,13 @@ use crate::status::Status;
 use crate::tile::{Parts, Tile, cut_state};
 use std::alloc::{AllocError, Global};
 use std::mem;
-use x_branches::{Branch, Cut, Stretch};
+use x_branches::{Branch, Cut, KeptStretch};
 
 /// Copies of stretches.
-fn copied<'p>(alloc: Global, stretches: &[Stretch<'p>]) -> Result<Vec<Stretch<'p>>, AllocError>
+fn copied<'p>(
+    alloc: Global,
+    stretches: &[KeptStretch<'p>],
+) -> Result<Vec<KeptStretch<'p>>, AllocError>
     ensures { IfOk result (λ copies. copies.items ≡ stretches.now) }
 {
     let mut copies = Vec::with_capacity(alloc, stretches.len())?;
@@ -27,6 +30,7 @@ impl<'p> Tile<'p> {
         let hi = cut.copy()?;
         let end = cut_state(alloc, cut)?;
         let first = cut_state(alloc, cut)?;
+        let mark = cut_state(alloc, cut)?;
         Tile::of(
             alloc,
             Parts {
@@ -40,6 +44,7 @@ impl<'p> Tile<'p> {
                 stop: false,
                 first,
                 stretches: Vec::new(alloc),
+                mark,
             },
         )
     }
@@ -68,6 +73,7 @@ impl<'p> Tile<'p> {
         let end = self.parts.end.copy()?;
         let first = self.parts.first.copy()?;
         let stretches = copied(alloc, self.stretches())?;
+        let mark = self.parts.mark.copy()?;
         Tile::of(
             alloc,
             Parts {
@@ -78,6 +84,7 @@ impl<'p> Tile<'p> {
                 stop: self.stop(),
                 first,
                 stretches,
+                mark,
             },
         )
     }

@@ -19,7 +19,7 @@ returns-then-same-2-clause-place c =
     let s = state_value c.args.state.now in
     let m = state_value c.args.first.now in
     let x = c.index-stretches-place.result in
-    let here = rw c.to.ensures at (tested c.same-in-loop-place.result s (state_value c.to.result.now) c.same-in-loop-place.ensures
+    let here = rw c.in_ok-mark.ensures at (tested c.same-in-loop-place.result s (state_value c.in_ok-mark.mark) c.same-in-loop-place.ensures
     ∙ c.if-same-2.true) in
     sym (mark_found s m c.args.stretches.now (c.loop-place.place + 1) (omega arith) (λ k l. c.loop-place.invariant k (omega arith))
     (rw (led_more m c.args.stretches.now c.loop-place.place x c.loop-place-test.true c.index-stretches-place.is) here))
@@ -28,7 +28,7 @@ pub loop-place-preserved : goal.loop-place-preserved
 loop-place-preserved c =
     let s = state_value c.args.state.now in
     let m = state_value c.args.first.now in
-    let other = rw c.to.ensures at (tested c.same-in-loop-place.result s (state_value c.to.result.now) c.same-in-loop-place.ensures
+    let other = rw c.in_ok-mark.ensures at (tested c.same-in-loop-place.result s (state_value c.in_ok-mark.mark) c.same-in-loop-place.ensures
     ∙ c.if-same-2.false) in
     missed_more s m c.args.stretches.now c.loop-place.place c.index-stretches-place.result c.loop-place-test.true c.index-stretches-place.is
     other c.loop-place.invariant

@@ -1,6 +1,13 @@
-use Rattle.std.proofs.Common.{take}
+use Rattle.std.proofs.Common.{◌≡◌, drop, length, map, take}
+use Rattle.packed_states.specs.StateCode.{choice_of}
 use Rattle.lab_book.proofs.SumLemmas.{AreAdded}
 use Rattle.lab_book.proofs.totals.add_counts.Given as goal
 
-abbrev pub invariant-loop-level : goal.invariant-loop-level
-invariant-loop-level l = AreAdded l.fn.totals (take l.level l.counts) l.totals
+abbrev pub invariant-adding : goal.invariant-adding
+invariant-adding l = record {
+  added : AreAdded l.fn.totals (take l.level (map choice_of l.fn.counts)) l.totals;
+  left : l.counts ≡ drop l.level l.fn.counts;
+}
+
+abbrev pub decreases-adding : goal.decreases-adding
+decreases-adding l = length l.counts

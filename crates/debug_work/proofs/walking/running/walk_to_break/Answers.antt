@@ -43,7 +43,8 @@ returns-in_err-step_on-clause-left g c =
 
 pub overflow_add-moved : goal.overflow_add-moved
 overflow_add-moved g c =
-    let entries = subst (λ (es : List Entry). length es < 2 ^ 64) c.history-entries.ensures.history c.history-entries.type_inv.0 in
+    let read : length c.history.result < 2 ^ 64 = omega (arith, c.len-entries.type_inv, c.len-entries.ensures) in
+    let entries = subst (λ (es : List Entry). length es < 2 ^ 64) c.history.ensures.history read in
     let few_steps = few _ _ _ _ _ _ c.loop-worker.invariant _ _ (next g (goal.at.overflow_add-moved g c).In_ok-step_on) entries in
     omega arith
 

@@ -1,13 +1,12 @@
-use Rattle.std.proofs.Common.{refl, ap, ap₂, ◌∙◌}
-use Rattle.x_branches.specs.Stretch.{StretchValue}
+use Rattle.std.proofs.Common.{refl, ap₂}
 use Rattle.lab_book.specs.declared.entry.Reply.TheVariants as replies
 use Rattle.lab_book.specs.Tiling.{tile_at}
 use Rattle.lab_book.specs.Book.{BookValue, retracted_tile}
-use Rattle.lab_book.proofs.TileLemmas.{last_read, part_is_tile}
+use Rattle.lab_book.proofs.TileLemmas.{part_is_tile}
 use Rattle.lab_book.proofs.BookLemmas.{judged_err}
 use Rattle.lab_book.proofs.CallLemmas.{call_made, retract_is}
 use Rattle.lab_book.proofs.StepLemmas.{with_history}
-use Rattle.lab_book.proofs.StepLemmas.{change_keeps, change_made, retracted_reply, retracted_problem, same_last, leased_open, told_same}
+use Rattle.lab_book.proofs.StepLemmas.{change_keeps, change_made, retracted_reply, retracted_problem, leased_open, told_same}
 use Rattle.lab_book.proofs.book.Book.retract.Goals as goal
 
 pub refuse-requires : goal.refuse-requires
@@ -20,36 +19,32 @@ before c =
 
 pub invariant_of-self-2 : goal.invariant_of-self-2
 invariant_of-self-2 c =
-    let read = rw (c.stretches.ensures, c.tile.ensures) at c.in-Some.ensures.value in
-    let last = last_read (tile_at c.self.inside.tiles c.in-Ok.i).stretches c.in-Some.last.now read in
+    let last = rw c.tile.ensures at c.in-Ok-last.ensures.stretch in
     let within = rw (← c.self.view_is) at c.in-Ok.ensures.within in
     let place = rw (← c.self.view_is) at c.retract_place.ensures.place in
     let leased = rw (← c.self.view_is) at c.in-Ok.ensures.leased in
     change_keeps _ _ _ _ _ _ _ c.self.invariant _ _ c.in-Ok.i within (retracted_tile (tile_at c.self.inside.tiles c.in-Ok.i))
     (replies.Retracted c.in-Ok-ends_of.from c.in-Ok-ends_of.to) _ _
     (call_made _ _ _ _ _ _ _ (retract_is (before c) _ c.grant-lease.result) place c.in-Ok.is)
-    (retracted_reply (before c) c.in-Ok.i c.in-Some.last.now _ _ last c.in-Ok-ends_of.ensures.from c.in-Ok-ends_of.ensures.to)
-    refl c.retract-stretch.ensures.tiles refl refl refl refl
+    (retracted_reply (before c) c.in-Ok.i c.in-Ok-last.stretch _ _ last c.in-Ok-ends_of.ensures.from c.in-Ok-ends_of.ensures.to)
+    refl c.retract.ensures refl refl refl refl
     (λ h. part_is_tile _ _ _ h (leased_open _ leased)) c.in-Ok-keep.ensures.kept c.add.ensures
 
 pub returns-clause-made : goal.returns-clause-made
 returns-clause-made c =
-    let read = rw (c.stretches.ensures, c.tile.ensures) at c.in-Some.ensures.value in
-    let last = last_read (tile_at c.self.inside.tiles c.in-Ok.i).stretches c.in-Some.last.now read in
+    let last = rw c.tile.ensures at c.in-Ok-last.ensures.stretch in
     let within = rw (← c.self.view_is) at c.in-Ok.ensures.within in
     let place = rw (← c.self.view_is) at c.retract_place.ensures.place in
-    let same = same_last (tile_at c.self.inside.tiles c.in-Ok.i)
-    c.in-Some.last.now c.retract-stretch.result last c.retract-stretch.ensures.stretch in
-    let told = ap₂ replies.Retracted (c.in-Ok-ends_of.ensures.from ∙ ap (λ (x : StretchValue). x.from) same)
-    (c.in-Ok-ends_of.ensures.to ∙ ap (λ (x : StretchValue). x.to) same) in
     let made = change_made _ _ _ _ _ _ _ c.self.invariant _ _ c.in-Ok.i within (retracted_tile (tile_at c.self.inside.tiles c.in-Ok.i))
     (replies.Retracted c.in-Ok-ends_of.from c.in-Ok-ends_of.to) _ _
     (call_made _ _ _ _ _ _ _ (retract_is (before c) _ c.grant-lease.result) place c.in-Ok.is)
-    (retracted_reply (before c) c.in-Ok.i c.in-Some.last.now _ _ last c.in-Ok-ends_of.ensures.from c.in-Ok-ends_of.ensures.to)
-    refl c.retract-stretch.ensures.tiles c.in-Ok-keep.ensures.kept c.add.ensures in
-    rw (← c.self.view_is, ← c.grant-lease.ensures) (told_same _ _ _ _ _ _ made told)
+    (retracted_reply (before c) c.in-Ok.i c.in-Ok-last.stretch _ _ last c.in-Ok-ends_of.ensures.from c.in-Ok-ends_of.ensures.to)
+    refl c.retract.ensures c.in-Ok-keep.ensures.kept c.add.ensures in
+    rw (← c.self.view_is, ← c.grant-lease.ensures) (told_same _ _ _ _ _ _ made
+    (ap₂ replies.Retracted c.in-Ok-ends_of.ensures.from c.in-Ok-ends_of.ensures.to))
 
 pub returns-clause-problem : goal.returns-clause-problem
 returns-clause-problem c =
     let within = rw (← c.self.view_is) at c.in-Ok.ensures.within in
-    rw (← c.self.view_is) (retracted_problem _ _ _ _ _ _ c.self.invariant.sound.tiling within c.retract-stretch.ensures.stretch)
+    let last = rw c.tile.ensures at c.in-Ok-last.ensures.stretch in
+    rw (← c.self.view_is) (retracted_problem _ _ _ _ _ _ c.self.invariant.sound.tiling within last)

@@ -1,4 +1,3 @@
-use Rattle.std.proofs.Common.{◌≡◌, ◌++◌, ◌∷◌, [], ◌∙◌, ap, sym, subst, refl, length, append_assoc, arith}
 use Rattle.lab_book.specs.EntryCode.{call_code}
 use Rattle.lab_book.proofs.CodeLemmas.{always, on_ok, reads_lease, reads_lease_any, reads_take_held, reads_request_stop, reads_retract, reads_park, reads_abandon, reads_close}
 use Rattle.lab_book.proofs.code.writing.put_call.Goals as goal

@@ -1,6 +1,5 @@
-use Rattle.std.proofs.Common.{◌≡◌, ◌++◌, ◌∷◌, [], ◌∙◌, ap, sym, subst, refl, length, append_assoc, arith}
-use Rattle.lab_book.specs.EntryCode.{ReadsPath, cut_code}
-use Rattle.lab_book.proofs.CodeLemmas.{always, on_ok, reads_none, reads_some}
+use Rattle.lab_book.specs.EntryCode.{cut_code}
+use Rattle.lab_book.proofs.CodeLemmas.{always, reads_none}
 use Rattle.lab_book.proofs.code.writing.put_cut.Goals as goal
 
 pub returns-in-None-clause-code : goal.returns-in-None-clause-code

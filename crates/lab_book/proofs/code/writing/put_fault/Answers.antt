@@ -1,6 +1,6 @@
-use Rattle.std.proofs.Common.{◌≡◌, ◌++◌, ◌∷◌, [], ◌∙◌, ap, sym, subst, refl, length, append_assoc, arith}
-use Rattle.lab_book.specs.EntryCode.{ReadsState, fault_code, fault_of}
-use Rattle.lab_book.proofs.CodeLemmas.{always, on_ok, reads_stale}
+use Rattle.std.proofs.Common.{refl}
+use Rattle.lab_book.specs.EntryCode.{fault_code, fault_of}
+use Rattle.lab_book.proofs.CodeLemmas.{always}
 use Rattle.lab_book.proofs.code.writing.put_fault.Goals as goal
 
 pub returns-in-UnknownBranch-clause-code : goal.returns-in-UnknownBranch-clause-code

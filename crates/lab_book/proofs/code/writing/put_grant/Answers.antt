@@ -1,4 +1,4 @@
-use Rattle.std.proofs.Common.{◌≡◌, ◌++◌, ◌∷◌, [], ◌∙◌, ap, sym, subst, refl, length, append_assoc, arith}
+use Rattle.std.proofs.Common.{append_assoc}
 use Rattle.lab_book.specs.EntryCode.{grant_code}
 use Rattle.lab_book.proofs.CodeLemmas.{reads_grant}
 use Rattle.lab_book.proofs.code.writing.put_grant.Goals as goal

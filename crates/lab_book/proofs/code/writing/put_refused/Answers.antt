@@ -1,4 +1,4 @@
-use Rattle.std.proofs.Common.{◌≡◌, ◌++◌, ◌∷◌, [], ◌∙◌, ap, sym, subst, refl, length, append_assoc, arith}
+use Rattle.std.proofs.Common.{append_assoc}
 use Rattle.lab_book.specs.EntryCode.{reply_code}
 use Rattle.lab_book.proofs.CodeLemmas.{reads_refused}
 use Rattle.lab_book.proofs.code.writing.put_refused.Goals as goal

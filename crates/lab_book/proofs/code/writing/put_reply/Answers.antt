@@ -1,4 +1,4 @@
-use Rattle.std.proofs.Common.{◌≡◌, ◌++◌, ◌∷◌, [], ◌∙◌, ap, sym, subst, refl, length, append_assoc, arith}
+use Rattle.std.proofs.Common.{refl}
 use Rattle.lab_book.specs.EntryCode.{reply_code, reply_of}
 use Rattle.lab_book.proofs.CodeLemmas.{always}
 use Rattle.lab_book.proofs.code.writing.put_reply.Goals as goal

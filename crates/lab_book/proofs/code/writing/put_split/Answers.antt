@@ -1,5 +1,6 @@
-use Rattle.std.proofs.Common.{◌≡◌, ◌++◌, ◌∷◌, [], ◌∙◌, ap, sym, subst, refl, length, append_assoc, arith}
-use Rattle.lab_book.specs.EntryCode.{ReadsPath, call_code}
+use Rattle.std.proofs.Common.{subst, append_assoc}
+use Rattle.packed_states.specs.StateCode.{ReadsPath}
+use Rattle.lab_book.specs.EntryCode.{call_code}
 use Rattle.lab_book.proofs.CodeLemmas.{reads_split}
 use Rattle.lab_book.proofs.code.writing.put_split.Goals as goal
 

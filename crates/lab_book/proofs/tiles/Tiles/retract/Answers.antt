@@ -7,4 +7,4 @@ pub invariant_of-self : goal.invariant_of-self
 invariant_of-self c =
     let within = rw (← c.keep_place.ensures, ← c.self.view_is) at c.requires.within in
     keeps_same _ _ _ _ _ _ c.index_mut.result.now _ c.self.invariant within c.index_mut.ensures.value
-    (ap (λ (t : TileValue). t.id) c.retract.ensures.tile) (ap (λ (t : TileValue). t.status) c.retract.ensures.tile)
+    (ap (λ (t : TileValue). t.id) c.retract.ensures) (ap (λ (t : TileValue). t.status) c.retract.ensures)

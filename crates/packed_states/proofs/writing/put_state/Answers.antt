@@ -1,7 +1,7 @@
-use Rattle.std.proofs.Common.{◌≡◌, ◌++◌, ◌∷◌, [], ◌∙◌, ap, sym, subst, refl, length, append_assoc, arith}
-use Rattle.lab_book.specs.EntryCode.{state_code, ReadsPath}
-use Rattle.lab_book.proofs.CodeLemmas.{reads_state}
-use Rattle.lab_book.proofs.code.writing.put_state.Goals as goal
+use Rattle.std.proofs.Common.{◌≡◌, ◌++◌, ◌∷◌, subst, append_assoc, arith}
+use Rattle.packed_states.specs.StateCode.{state_code, ReadsPath}
+use Rattle.packed_states.proofs.StateLemmas.{reads_state}
+use Rattle.packed_states.proofs.writing.put_state.Goals as goal
 
 pub returns-clause-code : goal.returns-clause-code
 unfolding state_code

@@ -1,0 +1,111 @@
+//! The entries of a history, to be read.
+ghost use Rattle.std.specs.Prelude.{◌≡◌, ◌<◌, ◌++◌, length, map, slice_get, Some, IsTrue, IfOk, IfSome};
+ghost use Rattle.lab_book.specs.EntryCode.{entry_of};
+ghost use Rattle.lab_book.specs.Kinds.{kind_of};
+ghost use Rattle.lab_book.specs.declared.entry.Entry.{Entry};
+
+use crate::code::{read_entry, read_kind, read_worker};
+use crate::entry::Entry;
+use crate::kind::CallKind;
+use packed_rows::{Reader, Row, Rows};
+use std::alloc::AllocError;
+use std::marker::Model;
+
+/// The entries of a history in order. Most of them are packed, and such an entry is made again where it is asked for; who called
+/// and the kind of the call are told without that.
+#[derive(Drop)]
+pub struct Entries<'a> {
+    rows: &'a Rows,
+    last: &'a Vec<Entry>,
+}
+
+impl<'a> Model for Entries<'a> {
+    ghost use Rattle.std.specs.Prelude.{◌++◌, List, map};
+    ghost use Rattle.lab_book.specs.EntryCode.{entry_of};
+    ghost use Rattle.lab_book.specs.declared.entry.Entry.{Entry};
+
+    ghost Value = { List Entry };
+
+    ghost view = { λ e. map entry_of e.rows.now.rows ++ e.last.now.items };
+}
+
+impl<'a> Entries<'a> {
+    /// Those that are packed, and then the last ones.
+    pub(crate) fn of(rows: &'a Rows, last: &'a Vec<Entry>) -> Entries<'a>
+        ensures { result ≡ map entry_of rows.now.rows ++ last.now.items }
+    {
+        Entries { rows, last }
+    }
+
+    /// How many there are.
+    pub fn len(&self) -> usize
+        ensures { result ≡ length self.now }
+    {
+        self.rows.len() + self.last.len()
+    }
+
+    /// The entry at a place, made again.
+    pub fn entry(&self, place: usize) -> Result<Entry, AllocError>
+        requires { place < length self.now }
+        ensures { IfOk result (λ entry. slice_get self.now place ≡ Some entry) }
+    {
+        let alloc = *self.last.allocator();
+        let count = self.rows.len();
+        if place >= count {
+            return self.last[place - count].copy(alloc);
+        }
+        let entry = read_entry(alloc, &mut self.rows.row(place))?;
+        Ok(entry)
+    }
+
+    /// Who called at a place.
+    pub fn worker(&self, place: usize) -> u8
+        requires { place < length self.now }
+        ensures { IfSome (slice_get self.now place) (λ e. result ≡ e.worker) }
+    {
+        let count = self.rows.len();
+        if place >= count {
+            return self.last[place - count].worker();
+        }
+        read_worker(&mut self.rows.row(place))
+    }
+
+    /// What kind of call the entry at a place is of.
+    pub fn kind(&self, place: usize) -> CallKind
+        requires { place < length self.now }
+        ensures { IfSome (slice_get self.now place) (λ e. result ≡ kind_of e.call) }
+    {
+        let count = self.rows.len();
+        if place >= count {
+            return self.last[place - count].call().kind();
+        }
+        read_kind(&mut self.rows.row(place))
+    }
+
+    /// Whether the entry at a place is this one; false tells nothing. A packed one is compared by a scratch row, without memory
+    /// where this entry was written into that row before.
+    pub fn is(&self, place: usize, entry: &Entry, row: &mut Row) -> bool
+        requires { place < length self.now }
+        ensures { IsTrue result → slice_get self.now place ≡ Some entry.now }
+    {
+        let count = self.rows.len();
+        if place >= count {
+            return self.last[place - count].same(entry);
+        }
+        entry.write(row).is_ok() && self.rows.row(place).same(&row.reader())
+    }
+
+    /// Whether the entry at a place is the one that these numbers tell; false tells nothing. One that isn't packed is compared
+    /// by a scratch row, without memory where that entry was written into it before.
+    pub fn is_told(&self, place: usize, numbers: &Reader<'_>, row: &mut Row) -> bool
+        requires { place < length self.now }
+        ensures { IsTrue result → slice_get self.now place ≡ Some (entry_of numbers.now) }
+    {
+        let count = self.rows.len();
+        if place >= count {
+            let entry = &self.last[place - count];
+            return entry.write(row).is_ok() && row.reader().same(numbers);
+        }
+        self.rows.row(place).same(numbers)
+    }
+}

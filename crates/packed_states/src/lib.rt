@@ -1,0 +1,10 @@
+//! States of a search as numbers of a row, and back.
+#![tactic(auto)]
+
+mod reading;
+#[cfg(test)]
+mod state_tests;
+mod writing;
+
+pub use reading::{choice, read_all, read_path, read_state, skip_state};
+pub use writing::{put_choices, put_path, put_state};

@@ -1,0 +1,131 @@
+//! States made of their numbers.
+ghost use Rattle.std.specs.Prelude.{◌≡◌, ◌++◌, take, drop, map, IfOk, OnOk};
+ghost use Rattle.x_steps.specs.StateView.{state_value};
+ghost use Rattle.packed_states.specs.StateCode.{choice_of, label_of, cursor_of};
+ghost use Rattle.packed_states.specs.StateCode.{path_of, path_rest, state_of, state_rest};
+
+use packed_rows::Reader;
+use std::alloc::{AllocError, Global};
+use x_steps::{Cursor, Label, State};
+
+/// A choice, of its number.
+pub fn choice(n: u64) -> u32
+    ensures { result ≡ choice_of n }
+{
+    (n % 4_294_967_296) as u32
+}
+
+/// The step of a number.
+fn label(n: u64) -> Label
+    ensures { result ≡ label_of n }
+{
+    match n {
+        1 => Label::X1,
+        2 => Label::X2,
+        3 => Label::X3,
+        4 => Label::X4,
+        5 => Label::X5,
+        6 => Label::X6,
+        7 => Label::X7,
+        8 => Label::X8,
+        _ => Label::Done,
+    }
+}
+
+/// A cursor of this kind.
+fn cursor(kind: u64, n: u64) -> Cursor
+    ensures { result ≡ cursor_of kind n }
+{
+    match kind {
+        0 => Cursor::None,
+        1 => Cursor::At(choice(n)),
+        _ => Cursor::Past,
+    }
+}
+
+/// Reads so many choices, or as many as there are.
+fn read_choices(reader: &mut Reader<'_>, path: &mut Vec<u32>, count: u64) -> Result<(), AllocError>
+    ensures choices { OnOk result
+        (path.new.items ≡ path.old.items ++ map choice_of (take count reader.old)) }
+    ensures rest { OnOk result (reader.new ≡ drop count reader.old) }
+{
+    let mut left = count;
+    'reading: while left > 0 {
+        let Some(n) = reader.next() else {
+            return Ok(());
+        };
+        path.push(choice(n))?;
+        left -= 1;
+    }
+    Ok(())
+}
+
+/// Reads all choices that are left.
+pub fn read_all(alloc: Global, reader: &mut Reader<'_>) -> Result<Vec<u32>, AllocError>
+    ensures { IfOk result (λ choices. choices.items ≡ map choice_of reader.old) }
+{
+    let mut choices = Vec::new(alloc);
+    'reading: while let Some(n) = reader.next() {
+        choices.push(choice(n))?;
+    }
+    Ok(choices)
+}
+
+/// Reads a list of choices.
+pub fn read_path(alloc: Global, reader: &mut Reader<'_>) -> Result<Vec<u32>, AllocError>
+    ensures path { IfOk result (λ path. path.items ≡ path_of reader.old) }
+    ensures rest { OnOk result (reader.new ≡ path_rest reader.old) }
+{
+    let count = reader.number();
+    let mut path = Vec::new(alloc);
+    read_choices(reader, &mut path, count)?;
+    Ok(path)
+}
+
+/// Reads a state.
+pub fn read_state(alloc: Global, reader: &mut Reader<'_>) -> Result<State, AllocError>
+    ensures state { IfOk result (λ state. state_value state ≡ state_of reader.old) }
+    ensures rest { OnOk result (reader.new ≡ state_rest reader.old) }
+{
+    let label = label(reader.number());
+    let kind = reader.number();
+    let option = reader.number();
+    let cursor = cursor(kind, option);
+    let path = read_path(alloc, reader)?;
+    Ok(State {
+        label,
+        path,
+        cursor,
+    })
+}
+
+/// Reads over so many numbers, or over as many as there are.
+fn skip(reader: &mut Reader<'_>, count: u64)
+    ensures { reader.new ≡ drop count reader.old }
+{
+    let mut left = count;
+    'skipping: while left > 0 {
+        if reader.next().is_none() {
+            return;
+        }
+        left -= 1;
+    }
+}
+
+/// Reads over a list of choices.
+fn skip_path(reader: &mut Reader<'_>)
+    ensures { reader.new ≡ path_rest reader.old }
+{
+    let count = reader.number();
+    skip(reader, count);
+}
+
+/// Reads over a state, without memory.
+pub fn skip_state(reader: &mut Reader<'_>)
+    ensures { reader.new ≡ state_rest reader.old }
+{
+    let _label = reader.number();
+    let _kind = reader.number();
+    let _option = reader.number();
+    skip_path(reader);
+}

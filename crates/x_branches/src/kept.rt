@@ -1,0 +1,160 @@
+//! Stretches in few bytes, as one keeps them who has many.
+ghost use Rattle.std.specs.Prelude.{◌≡◌, IfOk, IfErr, IsTrue, map};
+ghost use Rattle.x_steps.specs.StateView.{state_value};
+ghost use Rattle.x_steps.specs.Run.{steps_between, visits_between};
+ghost use Rattle.x_steps.specs.Levels.{trimmed_levels};
+ghost use Rattle.packed_states.specs.StateCode.{choice_of, state_of, state_rest};
+ghost use Rattle.x_branches.specs.Stretch.{kept_levels};
+
+use crate::stretch::Stretch;
+use cover_problem::{Lists, Problem};
+use packed_rows::{Reader, Row};
+use packed_states::{put_choices, put_state, read_all, read_state, skip_state};
+use std::alloc::{AllocError, Global};
+use std::marker::Model;
+use x_steps::State;
+
+/// A stretch whose states and counts are numbers of a row: some hundred bytes in place of three hundred and sixty.
+#[derive(Drop)]
+pub struct KeptStretch<'p> {
+    problem: &'p Problem,
+    steps: u32,
+    visits: Lists,
+    /// Its first state, the one that it leads to, and how many X2 states there are at each level.
+    row: Row,
+}
+
+impl<'p> Model for KeptStretch<'p> {
+    ghost use Rattle.x_branches.specs.Stretch.{StretchValue, KeepsRow, kept_value};
+
+    ghost Value = { StretchValue };
+
+    ghost view = { λ s. kept_value s.problem.now s.row };
+
+    ghost invariant = { λ s. KeepsRow s.problem.now s.row s.steps s.visits };
+}
+
+/// A stretch's states and counts as a row, in memory of just its size.
+fn packed(stretch: &Stretch<'_>) -> Result<Row, AllocError>
+    ensures from { IfOk result (λ row. state_of row ≡ stretch.now.from) }
+    ensures to { IfOk result (λ row. state_of (state_rest row) ≡ stretch.now.to) }
+    ensures levels { IfOk result (λ row. kept_levels row ≡
+        trimmed_levels stretch.now.problem stretch.now.from stretch.now.to) }
+{
+    let levels = stretch.levels();
+    let mut row = Row::new(*stretch.levels.allocator());
+    put_state(&mut row, stretch.from())?;
+    put_state(&mut row, stretch.to())?;
+    put_choices(&mut row, levels)?;
+    let packed = row.copy()?;
+    Ok(packed)
+}
+
+impl<'p> KeptStretch<'p> {
+    /// Keeps a stretch. Where memory runs out, it comes back.
+    pub fn of(stretch: Stretch<'p>) -> Result<KeptStretch<'p>, Stretch<'p>>
+        ensures kept { IfOk result (λ kept. kept ≡ stretch.entry) }
+        ensures given_back { IfErr result (λ s. s ≡ stretch.entry) }
+    {
+        let Ok(row) = packed(&stretch) else {
+            return Err(stretch);
+        };
+        Ok(KeptStretch {
+            problem: stretch.problem,
+            steps: stretch.steps,
+            visits: stretch.visits,
+            row,
+        })
+    }
+
+    /// The stretch that is kept.
+    pub fn open(&self, alloc: Global) -> Result<Stretch<'p>, AllocError>
+        ensures { IfOk result (λ stretch. stretch ≡ self.now) }
+    {
+        let mut reader = self.row.reader();
+        let from = read_state(alloc, &mut reader)?;
+        let to = read_state(alloc, &mut reader)?;
+        let levels = read_all(alloc, &mut reader)?;
+        let visits = self.visits.copy()?;
+        Ok(Stretch {
+            problem: self.problem,
+            from,
+            to,
+            steps: self.steps,
+            visits,
+            levels,
+        })
+    }
+
+    /// The problem whose run it is part of.
+    pub fn problem(&self) -> &'p Problem
+        ensures { result.now ≡ self.now.problem }
+    {
+        self.problem
+    }
+
+    /// Its first state.
+    pub fn from(&self, alloc: Global) -> Result<State, AllocError>
+        ensures { IfOk result (λ state. state_value state ≡ self.now.from) }
+    {
+        let mut reader = self.row.reader();
+        let from = read_state(alloc, &mut reader)?;
+        Ok(from)
+    }
+
+    /// The state that it leads to, which isn't in it.
+    pub fn to(&self, alloc: Global) -> Result<State, AllocError>
+        ensures { IfOk result (λ state. state_value state ≡ self.now.to) }
+    {
+        let mut reader = self.row.reader();
+        skip_state(&mut reader);
+        let to = read_state(alloc, &mut reader)?;
+        Ok(to)
+    }
+
+    /// How many steps it has.
+    pub fn steps(&self) -> u32
+        ensures { result ≡ steps_between self.now.problem self.now.from self.now.to }
+    {
+        self.steps
+    }
+
+    /// The paths that it visits.
+    pub fn visits(&self) -> &Lists
+        ensures { result.now ≡ visits_between self.now.problem self.now.from self.now.to }
+    {
+        &self.visits
+    }
+
+    /// How many X2 states it has at each level, up to the last level that has one, to be read.
+    pub fn levels(&self) -> Reader<'_>
+        ensures { map choice_of result ≡
+            trimmed_levels self.now.problem self.now.from self.now.to }
+    {
+        let mut reader = self.row.reader();
+        skip_state(&mut reader);
+        skip_state(&mut reader);
+        reader
+    }
+
+    /// Whether it is the same stretch of the same problem; false tells nothing.
+    pub fn same(&self, other: &KeptStretch<'_>) -> bool
+        ensures { IsTrue result → self.now ≡ other.now }
+    {
+        self.problem.same(other.problem) && self.row.reader().same(&other.row.reader())
+    }
+
+    /// The same stretch, in memory of its own.
+    pub fn copy(&self) -> Result<KeptStretch<'p>, AllocError>
+        ensures { IfOk result (λ kept. kept ≡ self.now) }
+    {
+        let visits = self.visits.copy()?;
+        let row = self.row.copy()?;
+        Ok(KeptStretch {
+            problem: self.problem,
+            steps: self.steps,
+            visits,
+            row,
+        })
+    }
+}

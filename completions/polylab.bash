@@ -1,7 +1,7 @@
 # Words of polylab for bash: source this file, or put it where bash-completion finds it.
 _polylab() {
     local word=${COMP_WORDS[COMP_CWORD]}
-    local jobs='solve count options cover debug'
+    local jobs='solve count options cover debug resume'
     local choices= given k
     if [ "$COMP_CWORD" -eq 1 ]; then
         choices="$jobs help --help --version"
@@ -9,12 +9,13 @@ _polylab() {
         case ${COMP_WORDS[1]} in
             count) choices='--workers --classes --help' ;;
             debug) choices='--cover --help' ;;
+            resume) choices='--steps --list --help' ;;
             solve | cover) choices='--workers --help' ;;
             options) choices='--help' ;;
             help) [ "$COMP_CWORD" -eq 2 ] && choices=$jobs ;;
         esac
         case ${COMP_WORDS[COMP_CWORD - 1]} in
-            --workers | '<' | '>') choices= ;;
+            --workers | --steps | '<' | '>') choices= ;;
         esac
         # An option that stands there already is not said again, and after --help nothing is.
         for ((k = 1; k < ${#COMP_WORDS[@]}; k++)); do

@@ -1,17 +1,20 @@
 # Words of polylab for fish: put this file into the folder completions of fish's configuration.
 # No files among words: the program reads standard input, and fish names files after < itself.
 complete -c polylab -f
-set -l jobs solve count options cover debug
+set -l jobs solve count options cover debug resume
 set -l first "not __fish_seen_subcommand_from $jobs help"
 complete -c polylab -n $first -a solve -d 'show every packing of a puzzle'
 complete -c polylab -n $first -a count -d 'count the packings of a puzzle'
 complete -c polylab -n $first -a options -d 'write the cover text of a puzzle'
 complete -c polylab -n $first -a cover -d 'list the exact covers of a cover text'
 complete -c polylab -n $first -a debug -d 'take a search step by step'
+complete -c polylab -n $first -a resume -d 'count a branch of a search from a snapshot on'
 complete -c polylab -n $first -a help -d 'tell what a job reads and writes'
 complete -c polylab -n "__fish_seen_subcommand_from help; and not __fish_seen_subcommand_from $jobs" -a "$jobs"
 complete -c polylab -n '__fish_seen_subcommand_from solve count cover' -l workers -x -d 'threads that share the search, 1 to 32'
 complete -c polylab -n '__fish_seen_subcommand_from count' -l classes -d 'count up to rotations and symmetries too'
 complete -c polylab -n '__fish_seen_subcommand_from debug' -l cover -d 'the problem is a cover text'
+complete -c polylab -n '__fish_seen_subcommand_from resume' -l steps -x -d 'steps to take at most'
+complete -c polylab -n '__fish_seen_subcommand_from resume' -l list -d 'list the visits too'
 complete -c polylab -n $first -l version -d 'tell the version'
 complete -c polylab -n 'not __fish_seen_subcommand_from help; and not __fish_contains_opt help' -l help -d 'tell what goes in and comes out'

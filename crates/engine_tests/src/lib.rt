@@ -14,4 +14,6 @@ mod line_tests;
 #[cfg(test)]
 mod puzzle_tests;
 #[cfg(test)]
+mod resume_tests;
+#[cfg(test)]
 mod worker_tests;

@@ -40,7 +40,7 @@ fn words_end_with<R: Threads + Wait + Sync>(
 
 #[test]
 fn the_job_is_read(rt: HostRuntime) {
-    let rows: [(&[&str], Job); 11] = [
+    let rows: [(&[&str], Job); 14] = [
         (&["cover"], Job::Cover { workers: 1 }),
         (&["cover", "--workers", "2"], Job::Cover { workers: 2 }),
         (&["solve"], Job::Solve { workers: 1 }),
@@ -55,6 +55,27 @@ fn the_job_is_read(rt: HostRuntime) {
         (&["options"], Job::Options),
         (&["debug"], Job::DebugPuzzle),
         (&["debug", "--cover"], Job::DebugCover),
+        (
+            &["resume"],
+            Job::Resume {
+                steps: None,
+                list: false,
+            },
+        ),
+        (
+            &["resume", "--list", "--steps", "1"],
+            Job::Resume {
+                steps: Some(1),
+                list: true,
+            },
+        ),
+        (
+            &["resume", "--steps=18446744073709551615"],
+            Job::Resume {
+                steps: Some(u64::MAX),
+                list: false,
+            },
+        ),
     ];
     for (words, job) in rows {
         assert!(rt; matches!(parse_line(rt.alloc(), words), Ok(read) if read == job));
@@ -63,11 +84,12 @@ fn the_job_is_read(rt: HostRuntime) {
 
 #[test]
 fn help_is_given(rt: HostRuntime) {
-    let rows: [&[&str]; 5] = [
+    let rows: [&[&str]; 6] = [
         &["--help"],
         &["cover", "--help"],
         &["count", "--help"],
         &["debug", "--help"],
+        &["resume", "--help"],
         &["--version"],
     ];
     for words in rows {
@@ -77,7 +99,7 @@ fn help_is_given(rt: HostRuntime) {
 
 #[test]
 fn other_words_are_refused(rt: HostRuntime) {
-    let rows: [&[&str]; 14] = [
+    let rows: [&[&str]; 21] = [
         &[],
         &["covers"],
         &["cover", "--workers", "0"],
@@ -92,6 +114,13 @@ fn other_words_are_refused(rt: HostRuntime) {
         &["--classes", "count"],
         &["debug", "--classes"],
         &["debug", "--cover", "2"],
+        &["resume", "--steps", "0"],
+        &["resume", "--steps", "x"],
+        &["resume", "--steps", "-1"],
+        &["resume", "--steps", "18446744073709551616"],
+        &["resume", "--steps"],
+        &["resume", "--list", "1"],
+        &["resume", "--workers", "2"],
     ];
     for words in rows {
         assert!(rt; words_end_with(&rt, rt.alloc(), words) == (2, false, true));

@@ -188,7 +188,17 @@ fn is_post_by(entry: &Entry, worker: u8) -> bool {
 
 /// Whether a worker has posted a stretch that has a step.
 fn has_posted(book: &Book<'_>, worker: u8) -> bool {
-    book.history().iter().any(|entry| is_post_by(entry, worker))
+    let history = book.history();
+    for place in 0..history.len() {
+        let is_post = match history.entry(place) {
+            Ok(entry) => is_post_by(&entry, worker),
+            Err(_) => false,
+        };
+        if is_post {
+            return true;
+        }
+    }
+    false
 }
 
 #[test]

@@ -1,5 +1,9 @@
 pub mod AccountLemmas
+pub mod StopLemmas
 mod SearchLemmas
+pub mod ResumeLemmas
+mod ToldLemmas
+pub mod JoinedLemmas
 pub mod ClassifiedLemmas
 mod ListingLemmas
 mod EndingLemmas

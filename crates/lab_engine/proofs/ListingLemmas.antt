@@ -23,10 +23,12 @@ use Rattle.x_steps.specs.Covers.{AreCovers}
 use Rattle.x_steps.specs.StateValue.{start, done}
 use Rattle.x_steps.specs.Run.{visits_between}
 use Rattle.x_steps.proofs.VisitLemmas.{visits_rise, visits_are_covers}
+use Rattle.x_snapshot.specs.Judged.{snapshot_of}
 use Rattle.lab_engine.specs.declared.job.Job.{Job}
 use Rattle.lab_engine.specs.declared.job.Job.TheVariants as jobs
 use Rattle.lab_engine.specs.Account.{ReportValue, account_of}
 use Rattle.lab_engine.specs.Output.{cover_output, whole_report}
+use Rattle.lab_engine.proofs.ToldLemmas.{resumed, snapshot_read}
 use Rattle.lab_engine.specs.Packed.{solve_output, count_output, options_output}
 use Rattle.lab_engine.specs.Classified.{packings_of, classes_of, classes_output}
 use Rattle.lab_debug.specs.Input.{problem_text, command_lines}
@@ -174,3 +176,4 @@ outcome_lists jobs.DebugPuzzle input text e =
 outcome_lists jobs.DebugCover input text e =
     let lines = command_lines input in
     listed (λ p t. t ≡ debug_output lines p) (debug_output lines) (λ p s. refl) (problem_of (problem_text input)) text (problem_read (problem_text input)) e
+outcome_lists (jobs.Resume steps list) input text e = resumed steps list (snapshot_of input) text (snapshot_read input) e

@@ -1,21 +1,24 @@
--- The examples of specs/Output.antt and specs/Outcome.antt, computed.
-use Rattle.std.proofs.Common.{◌≡◌, ℕ, zero, suc, ◌<◌, ◌≤◌, inl, inr, Bool, true, false, ◌&&◌, [], ◌∷◌, ◌++◌, Err, codes, refl, sym, ap, ◌∙◌, arith}
+-- The examples of specs/Output.antt, specs/Outcome.antt, specs/Resumed.antt and specs/Joined.antt, computed.
+use Rattle.std.proofs.Common.{◌≡◌, ℕ, zero, suc, ◌<◌, ◌≤◌, inl, inr, Bool, true, false, ◌&&◌, [], ◌∷◌, ◌++◌, map, Err, codes, refl, sym, ap, ◌∙◌, arith}
 use Rattle.std.proofs.Math.Nat.{eq-or-lt_of_le}
 use Rattle.std.specs.Fmt.{digits}
 use Rattle.cover_problem.specs.Covering.{active, remaining, choice}
 use Rattle.cover_problem.specs.Path.{taken, covered_by}
 use Rattle.cover_problem.proofs.CoverExamples.{small}
 use Rattle.x_steps.specs.declared.state.Label.{Label}
-use Rattle.x_steps.specs.declared.state.Label.TheVariants.{Done}
-use Rattle.x_steps.specs.StateValue.{start, done}
+use Rattle.cover_problem.specs.Lists.{numbers}
+use Rattle.x_steps.specs.declared.state.Label.TheVariants.{X8, Done}
+use Rattle.x_steps.specs.declared.state.Cursor.TheVariants as cursor
+use Rattle.x_steps.specs.StateValue.{at, start, done}
 use Rattle.x_steps.specs.Steps.{next}
-use Rattle.x_steps.specs.Run.{states, after, ReachesIn}
+use Rattle.x_steps.specs.Run.{states, after, level_count, ReachesIn}
 use Rattle.x_steps.proofs.RunLemmas.{start_fits, steps_between_is}
 use Rattle.cover_problem.specs.declared.fault.Fault.TheVariants.{UnknownItem}
 use Rattle.lab_engine.specs.Account.{account_of, report_of}
 use Rattle.lab_engine.specs.Outcome.{covers_of}
 use Rattle.lab_engine.specs.Output.{cover_output, report_text}
 use Rattle.x_steps.specs.Levels.{without_last_zeros}
+use Rattle.lab_engine.specs.Joined.{levels_added}
 
 -- whether a state isn't the last
 goes_on : Label → Bool
@@ -70,3 +73,24 @@ unknown_refused = refl
 zeros_cut : without_last_zeros (1 ∷ 0 ∷ 2 ∷ 0 ∷ 0 ∷ []) ≡ 1 ∷ 0 ∷ 2 ∷ []
 unfolding without_last_zeros
 zeros_cut = refl
+
+-- the first 30 steps, without the visit's line, and the state after them
+thirty_told : report_text (report_of (account_of false small (states small 30 start))) ≡ codes "visits 1" ++ 10 ∷ codes "steps 30" ++ 10 ∷ codes "levels 1 2 2 1" ++ 10 ∷ []
+unfolding account_of without_last_zeros digits next covered_by taken choice active remaining
+thirty_told = refl
+
+after_thirty : after small 30 start ≡ at X8 (4 ∷ 5 ∷ 1 ∷ []) cursor.None
+unfolding next covered_by taken choice active remaining
+after_thirty = refl
+
+-- the levels of slices of 20 steps
+first_twenty : without_last_zeros (map (level_count (states small 20 start)) (numbers 8 0)) ≡ 1 ∷ 1 ∷ 1 ∷ []
+unfolding without_last_zeros next covered_by taken choice active remaining
+first_twenty = refl
+
+next_twenty : without_last_zeros (map (level_count (states small 20 (after small 20 start))) (numbers 8 0)) ≡ 0 ∷ 1 ∷ 1 ∷ 1 ∷ []
+unfolding without_last_zeros next covered_by taken choice active remaining
+next_twenty = refl
+
+twenties_added : levels_added (1 ∷ 1 ∷ 1 ∷ []) (levels_added (0 ∷ 1 ∷ 1 ∷ 1 ∷ []) []) ≡ 1 ∷ 2 ∷ 2 ∷ 1 ∷ []
+twenties_added = refl

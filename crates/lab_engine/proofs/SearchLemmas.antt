@@ -1,5 +1,6 @@
--- The loop of a search: the tally and the counts are those of the states from X1 up to where the machine stands.
-use Rattle.std.proofs.Common.{◌≡◌, ℕ, zero, suc, ◌+◌, ◌-◌, ◌<◌, ◌≤◌, ◌^◌, ◌⊎◌, Bool, ◌&&◌, cond, List, [], ◌∷◌, ◌++◌, length, map, replicate, slice_index, refl, sym, ap, ◌∙◌, arith, subst, inl, inr, le_refl, length-append, if◌then◌else◌}
+-- The loop of a search: the tally and the counts are those of the states from where it began up to where the machine stands.
+use Rattle.std.proofs.Common.{◌≡◌, ℕ, zero, suc, ◌+◌, ◌-◌, ◌<◌, ◌≤◌, ◌^◌, ◌⊎◌, Bool, ◌&&◌, cond, List, [], ◌∷◌, ◌++◌, length, map, replicate, slice_index, refl, sym, ap, ◌∙◌, arith, subst, inl, inr, le_refl, length-append, if◌then◌else◌, Option, Some, option_map}
+use Rattle.std.specs.Option.{ForSome}
 use Rattle.std.proofs.lemmas.List.{length-map, get_or-replicate, length-replicate}
 use Rattle.std.proofs.lemmas.Grind.{same_number_lists}
 use Rattle.cover_problem.specs.Lists.{numbers}
@@ -7,21 +8,23 @@ use Rattle.cover_problem.specs.Problem.{ProblemValue, IsProblem}
 use Rattle.cover_problem.proofs.NumberLemmas.{length-numbers}
 use Rattle.x_steps.specs.declared.state.Label.TheVariants.{Done}
 use Rattle.x_steps.specs.declared.event.Event.{Event}
-use Rattle.x_steps.specs.declared.event.Event.TheVariants.{Moved}
-use Rattle.x_steps.specs.StateValue.{StateValue, start, done}
+use Rattle.x_steps.specs.StateValue.{StateValue, done}
 use Rattle.x_steps.specs.Steps.{Fits}
-use Rattle.x_steps.specs.Run.{after, states, visits, level_count, states_between, ReachesIn}
+use Rattle.x_steps.specs.Run.{after, states, visits, level_count, steps_between, states_between, ReachesIn}
 use Rattle.x_steps.specs.Rank.{rank}
 use Rattle.x_steps.specs.Machine.{Position}
-use Rattle.x_steps.specs.Walk.{last_event, is_visited, OnlyMoves, IsAtCut, AreCounted, HasRoom}
-use Rattle.x_steps.proofs.BetweenLemmas.{states_between_self, states_between_join, length-states, counts_at, visits_join, level_count_join}
+use Rattle.x_steps.specs.Walk.{last_event, is_visited, OnlyMoves, IsAtCut, AreCounted, HasRoom, IsWalk}
+use Rattle.x_steps.proofs.BetweenLemmas.{states_between_self, states_between_join, steps_between_self, steps_between_join, length-states, counts_at, visits_join, level_count_join}
 use Rattle.x_steps.proofs.StretchLemmas.{reached_fits, reached_rank}
-use Rattle.x_steps.proofs.RunLemmas.{start_fits, start_first, end_is, done_last, rises_between, steps_between_is}
+use Rattle.x_steps.proofs.RunLemmas.{end_is, done_last, leads_to, rank_once, rises_between, steps_between_is}
 use Rattle.x_steps.proofs.WalkLemmas.{zeros_room, room_left}
 use Rattle.x_steps.proofs.VisitedLemmas.{walk_shows}
+use Rattle.x_branches.specs.RunOrder.{ComesBefore}
+use Rattle.x_branches.proofs.RunnerLemmas.{not_before}
 use Rattle.lab_engine.specs.Account.{Account, account_of, with_walk, empty_account, AreSums, kept}
-use Rattle.lab_engine.specs.Output.{whole_account}
+use Rattle.lab_engine.specs.Stretch.{end_at, steps_taken}
 use Rattle.lab_engine.proofs.AccountLemmas.{none_kept, kept_more, visited_more, same_accounts}
+use Rattle.lab_engine.proofs.StopLemmas.{IsLeft, all_left, left_more, taken_whole, taken_all, cut_ends, walk_not_past}
 
 -- the tally with the counts beside it is the account of these states
 pub record Tells (keeps : Bool) (p : ProblemValue) (ss : List StateValue) (a : Account) (counts : List ℕ) : Type 0 where
@@ -110,81 +113,145 @@ module _ (keeps : Bool) (p : ProblemValue) (ss : List StateValue) (a : Account) 
 
 -- ---- the loop
 
--- the machine searches p and stands on its run, and the tally tells of the states before it
-pub record Searches (keeps : Bool) (p : ProblemValue) (m : Position) (a : Account) (counts : List ℕ) (room : ℕ) : Type 0 where
+-- the machine searches p, between where it began and the branch's end, and the tally tells of the states since then
+pub record Searches (keeps : Bool) (p : ProblemValue) (from : StateValue) (end : List ℕ) (most : Option ℕ) (m : Position) (a : Account) (counts : List ℕ) (room : ℕ) (left : Option ℕ) : Type 0 where
   pub sound : IsProblem p
   pub same : m.problem ≡ p
+  pub from_fits : Fits p from
+  pub end_fits : Fits p (end_at end)
   pub fits : Fits p m.state
-  pub tells : Tells keeps p (states_between p start m.state) a counts
+  pub begun : rank p from ≤ rank p m.state
+  pub not_past : rank p m.state ≤ rank p (end_at end)
+  pub tells : Tells keeps p (states_between p from m.state) a counts
   pub fitting : HasRoom room counts
+  pub left_is : IsLeft most left (steps_between p from m.state)
 
-searches_from : (keeps : Bool) (p : ProblemValue) (m : Position) (a : Account) (zeros : List ℕ) (room : ℕ) → IsProblem p → m.problem ≡ p → Fits p m.state → a ≡ account_of keeps p (states_between p start m.state)
-    → zeros ≡ replicate (length p.names + 1) 0 → room < 2 ^ 32 → Searches keeps p m a zeros room
-searches_from keeps p m a zeros room sound same fits e z l = record {
-  sound = sound;
-  same = same;
-  fits = fits;
-  tells = tells_all keeps p (states_between p start m.state) a zeros e z;
-  fitting = subst (HasRoom room) (sym z) (zeros_room (length p.names + 1) room l);
-}
+pub searches_begin : (keeps : Bool) (end : List ℕ) (most : Option ℕ) (m : Position) (a : Account) (counts : List ℕ) (n room : ℕ) → IsProblem m.problem → Fits m.problem m.state → Fits m.problem (end_at end)
+    → (ComesBefore m.problem (end_at end) m.state → ⊥) → n ≡ length m.problem.names → a ≡ empty_account n → counts ≡ replicate (n + 1) 0 → room < 2 ^ 32 → Searches keeps m.problem m.state end most m a counts room most
+searches_begin keeps end most m a counts n room sound fits end_fits not_past size e z l =
+    let p = m.problem in
+    let zeros : counts ≡ replicate (length p.names + 1) 0 = z ∙ ap (λ k. replicate (k + 1) 0) size in
+    let none : states_between p m.state m.state ≡ [] = states_between_self p m.state fits in
+    record {
+      sound = sound;
+      same = refl;
+      from_fits = fits;
+      end_fits = end_fits;
+      fits = fits;
+      begun = le_refl (rank p m.state);
+      not_past = not_before p (end_at end) m.state end_fits fits not_past;
+      tells = tells_all keeps p (states_between p m.state m.state) a counts (e ∙ ap empty_account size ∙ none_told keeps p ∙ ap (account_of keeps p) (sym none)) zeros;
+      fitting = subst (HasRoom room) (sym zeros) (zeros_room (length p.names + 1) room l);
+      left_is = subst (IsLeft most most) (sym (steps_between_self p m.state fits)) (all_left most);
+    }
 
-pub searches_begin : (keeps : Bool) (p : ProblemValue) (m : Position) (a : Account) (counts : List ℕ) (room : ℕ) → IsProblem p → m ≡ record { problem = p; state = start } → a ≡ empty_account (length p.names)
-    → counts ≡ replicate (length p.names + 1) 0 → room < 2 ^ 32 → Searches keeps p m a counts room
-searches_begin keeps p m a counts room sound e n z l =
-    let here : m.state ≡ start = ap (λ v. v.state) e in
-    let none : states_between p start m.state ≡ [] = ap (states_between p start) here ∙ states_between_self p start (start_fits p) in
-    searches_from keeps p m a counts room sound (ap (λ v. v.problem) e) (subst (Fits p) (sym here) (start_fits p)) (n ∙ none_told keeps p ∙ ap (account_of keeps p) (sym none)) z l
-
-module _ (keeps : Bool) (p : ProblemValue) (m new : Position) (a : Account) (counts : List ℕ) (room : ℕ) (s : Searches keeps p m a counts room)
-    (n : ℕ) (reaches : ReachesIn m.problem m.state new.state n) where
+module _ (keeps : Bool) (p : ProblemValue) (from : StateValue) (end : List ℕ) (most : Option ℕ) (m new : Position) (a : Account) (counts later : List ℕ) (room n : ℕ) (left : Option ℕ) (event : Event)
+    (s : Searches keeps p from end most m a counts room left) (walk : IsWalk m.problem m.state new.state counts later n event) where
   here : ReachesIn p m.state new.state n
-  here = subst (λ q. ReachesIn q m.state new.state n) s.same reaches
+  here = subst (λ q. ReachesIn q m.state new.state n) s.same walk.reaches
 
-  passed : states_between p start new.state ≡ states_between p start m.state ++ states p n m.state
-  passed =
-      let f = reached_fits p m.state new.state n s.fits here in
-      states_between_join p start m.state new.state (start_fits p) s.fits f (start_first p m.state s.fits) (reached_rank p m.state new.state n s.fits here)
-      ∙ ap (λ k. states_between p start m.state ++ states p k m.state) (steps_between_is p m.state new.state n s.fits here)
+  new_fits : Fits p new.state
+  new_fits = reached_fits p m.state new.state n s.fits here
 
-  pub searches_on : (event : Event) (path : List ℕ) (more : Account) (after_counts : List ℕ) → new.problem ≡ m.problem → n ≤ room → OnlyMoves m.problem n m.state → event ≡ last_event m.problem n m.state
-      → AreCounted counts after_counts (states m.problem n m.state) → path ≡ new.state.path → more ≡ with_walk keeps a n event path → Searches keeps p new more after_counts (room - n)
-  searches_on event path more after_counts same within moves e counted q w =
-      let here_counted : AreCounted counts after_counts (states p n m.state) = subst (λ r. AreCounted counts after_counts (states r n m.state)) s.same counted in
+  up : rank p m.state ≤ rank p new.state
+  up = reached_rank p m.state new.state n s.fits here
+
+  taken : steps_between p m.state new.state ≡ n
+  taken = steps_between_is p m.state new.state n s.fits here
+
+  passed : states_between p from new.state ≡ states_between p from m.state ++ states p n m.state
+  passed = states_between_join p from m.state new.state s.from_fits s.fits new_fits s.begun up ∙ ap (λ k. states_between p from m.state ++ states p k m.state) taken
+
+  steps_on : steps_between p from new.state ≡ n + steps_between p from m.state
+  steps_on = steps_between_join p from m.state new.state s.from_fits s.fits new_fits s.begun up ∙ ap (λ k. k + steps_between p from m.state) taken
+
+  pub searches_on : (path : List ℕ) (more : Account) (rest : Option ℕ) → new.problem ≡ m.problem → n ≤ room → ForSome left (λ l. n ≤ l) → ((i : ℕ) → i < n → IsAtCut (after m.problem i m.state) end → ⊥)
+      → path ≡ new.state.path → more ≡ with_walk keeps a n event path → rest ≡ option_map (λ l. l - n) left → Searches keeps p from end most new more later (room - n) rest
+  searches_on path more rest same within fitting before q w less =
+      let counted : AreCounted counts later (states p n m.state) = subst (λ r. AreCounted counts later (states r n m.state)) s.same walk.counted in
+      let not_cut : (i : ℕ) → i < n → IsAtCut (after p i m.state) end → ⊥ = subst (λ r. (i : ℕ) → i < n → IsAtCut (after r i m.state) end → ⊥) s.same before in
       record {
         sound = s.sound;
         same = same ∙ s.same;
-        fits = reached_fits p m.state new.state n s.fits here;
-        tells = subst (λ ss. Tells keeps p ss more after_counts) (sym passed) (tells_more keeps p (states_between p start m.state) a counts s.tells n m.state event path more after_counts
-            (subst (λ r. OnlyMoves r n m.state) s.same moves) (e ∙ ap (λ r. last_event r n m.state) s.same) (q ∙ ap (λ t. t.path) (sym here.ends)) here_counted w);
-        fitting = room_left p m.state counts after_counts room n here_counted within s.fitting;
+        from_fits = s.from_fits;
+        end_fits = s.end_fits;
+        fits = new_fits;
+        begun = (let b = s.begun in let u = up in omega arith);
+        not_past = walk_not_past p m.state new.state end n s.fits s.end_fits s.not_past here not_cut;
+        tells = subst (λ ss. Tells keeps p ss more later) (sym passed) (tells_more keeps p (states_between p from m.state) a counts s.tells n m.state event path more later
+            (subst (λ r. OnlyMoves r n m.state) s.same walk.moves) (walk.tells ∙ ap (λ r. last_event r n m.state) s.same) (q ∙ ap (λ t. t.path) (sym here.ends)) counted w);
+        fitting = room_left p m.state counts later room n counted within s.fitting;
+        left_is = subst (IsLeft most rest) (sym steps_on) (subst (λ o. IsLeft most o (n + steps_between p from m.state)) (sym less) (left_more most left (steps_between p from m.state) n s.left_is fitting));
       }
 
-  -- a walk takes a step
-  walks_some : (event : Event) → 0 < room → event ≡ last_event m.problem n m.state → (n ≡ room) ⊎ ((event ≡ Moved → ⊥) ⊎ IsAtCut new.state []) → 0 < n
-  walks_some event some e (inl h) = omega arith
-  walks_some event some e (inr (inl h)) = by_count n e
-    where
-      by_count : (k : ℕ) → event ≡ last_event m.problem k m.state → 0 < k
-      by_count zero t = absurd (h t)
-      by_count (suc k) t = omega arith
-  walks_some event some e (inr (inr h)) = let none = ap (length {A = ℕ}) h.path in let l = length-append new.state.path (h.option ∷ []) in absurd (omega arith)
-
-  pub searches_nearer : (event : Event) → 0 < room → event ≡ last_event m.problem n m.state → (n ≡ room) ⊎ ((event ≡ Moved → ⊥) ⊎ IsAtCut new.state []) → rank p done - rank p new.state < rank p done - rank p m.state
-  searches_nearer event room_left e stops =
-      let some = walks_some event room_left e stops in
-      let up = rises_between p n m.state s.fits here.goes_on 0 n some (le_refl n) in
-      let top = done_last p new.state (reached_fits p m.state new.state n s.fits here) in
+  pub searches_nearer : 0 < n → rank p done - rank p new.state < rank p done - rank p m.state
+  searches_nearer some =
+      let rises = rises_between p n m.state s.fits here.goes_on 0 n some (le_refl n) in
+      let top = done_last p new.state new_fits in
       let same_rank = ap (rank p) here.ends in omega arith
 
--- the counts go into the tally, and others begin
-pub searches_anew : (keeps : Bool) (p : ProblemValue) (m : Position) (a b : Account) (counts zeros : List ℕ) (room : ℕ) → Searches keeps p m a counts room → b ≡ record a { entered = b.entered } → AreSums a.entered counts b.entered
-    → zeros ≡ replicate (length p.names + 1) 0 → (more : ℕ) → more < 2 ^ 32 → Searches keeps p m b zeros more
-searches_anew keeps p m a b counts zeros room s others sums z more l =
-    searches_from keeps p m b zeros more s.sound s.same s.fits (tells_whole keeps p (states_between p start m.state) a counts s.tells b others sums) z l
+  -- *the last walk, which took no step*
 
--- once the machine is at Done, the tally with the last counts is that of the whole run
-pub searches_end : (keeps : Bool) (p : ProblemValue) (m : Position) (a b : Account) (counts : List ℕ) (room : ℕ) → Searches keeps p m a counts room → m.state.label ≡ Done
-    → b ≡ record a { entered = b.entered } → AreSums a.entered counts b.entered → b ≡ whole_account keeps p
-searches_end keeps p m a b counts room s e others sums =
-    let here : m.state ≡ done = end_is p m.state s.fits e in
-    tells_whole keeps p (states_between p start m.state) a counts s.tells b others sums ∙ ap (λ t. account_of keeps p (states_between p start t)) here
+  module _ (none : n ≡ 0) where
+    stays : new.state ≡ m.state
+    stays = sym (subst (λ k. ReachesIn p m.state new.state k) none here).ends
+
+    uncounted : later ≡ counts
+    uncounted =
+        let counted : AreCounted counts later [] = subst (λ k. AreCounted counts later (states m.problem k m.state)) none walk.counted in
+        same_number_lists later counts counted.levels (λ level h. let size = counted.levels in let each = counted.each level (omega arith) in let zero : level_count [] level ≡ 0 = refl in omega arith)
+
+    -- the tally with the last counts is that of the stretch
+    pub searches_end : (b : Account) → b ≡ record a { entered = b.entered } → AreSums a.entered later b.entered → b ≡ account_of keeps p (states_between p from new.state)
+    searches_end b others sums =
+        tells_whole keeps p (states_between p from m.state) a counts s.tells b others (subst (λ l. AreSums a.entered l b.entered) uncounted sums)
+        ∙ ap (λ t. account_of keeps p (states_between p from t)) (sym stays)
+
+    -- and the machine stands where the stretch stops
+    pub searches_stop : (pace : ℕ) → (pace ≡ 0 → (room ≡ 0) ⊎ (left ≡ Some 0)) → 0 < room → (pace ≡ 0) ⊎ (IsAtCut new.state end ⊎ (new.state.label ≡ Done))
+        → new.state ≡ after p (steps_taken most (steps_between p from (end_at end))) from
+    searches_stop pace kept some stops =
+        stays ∙ sym (leads_to p from m.state s.from_fits s.fits s.begun).ends ∙ ap (λ k. after p k from) (as_many stops)
+      where
+        at_end : new.state ≡ end_at end → steps_between p from m.state ≡ steps_taken most (steps_between p from (end_at end))
+        at_end e = taken_whole most left (steps_between p from m.state) s.left_is ∙ ap (λ t. steps_taken most (steps_between p from t)) (sym stays ∙ e)
+
+        ahead : steps_between p from (end_at end) ≡ steps_between p m.state (end_at end) + steps_between p from m.state
+        ahead = steps_between_join p from m.state (end_at end) s.from_fits s.fits s.end_fits s.begun s.not_past
+
+        used_up : (room ≡ 0) ⊎ (left ≡ Some 0) → steps_between p from m.state ≡ steps_taken most (steps_between p from (end_at end))
+        used_up (inl z) = absurd (omega arith)
+        used_up (inr z) = taken_all most left (steps_between p from m.state) (steps_between p from (end_at end)) s.left_is z (let j = ahead in omega arith)
+
+        over : new.state.label ≡ Done → new.state ≡ end_at end
+        over d =
+            let last : new.state ≡ done = end_is p new.state new_fits d in
+            let top = done_last p (end_at end) s.end_fits in
+            let low = s.not_past in
+            let same : rank p new.state ≡ rank p m.state = ap (rank p) stays in
+            let high : rank p new.state ≡ rank p done = ap (rank p) last in
+            rank_once p new.state (end_at end) new_fits s.end_fits (omega arith)
+
+        as_many : (pace ≡ 0) ⊎ (IsAtCut new.state end ⊎ (new.state.label ≡ Done)) → steps_between p from m.state ≡ steps_taken most (steps_between p from (end_at end))
+        as_many (inl z) = used_up (kept z)
+        as_many (inr (inl c)) = at_end (cut_ends p end new.state c)
+        as_many (inr (inr d)) = at_end (over d)
+
+-- the counts go into the tally, and others begin
+pub searches_anew : (keeps : Bool) (p : ProblemValue) (from : StateValue) (end : List ℕ) (most : Option ℕ) (m : Position) (a b : Account) (counts zeros : List ℕ) (n room more : ℕ) (left : Option ℕ) → Searches keeps p from end most m a counts room left
+    → b ≡ record a { entered = b.entered } → AreSums a.entered counts b.entered → n ≡ length p.names → zeros ≡ replicate (n + 1) 0 → more < 2 ^ 32 → Searches keeps p from end most m b zeros more left
+searches_anew keeps p from end most m a b counts zeros n room more left s others sums size z l =
+    let whole = tells_whole keeps p (states_between p from m.state) a counts s.tells b others sums in
+    let zeros_are : zeros ≡ replicate (length p.names + 1) 0 = z ∙ ap (λ k. replicate (k + 1) 0) size in
+    record {
+      sound = s.sound;
+      same = s.same;
+      from_fits = s.from_fits;
+      end_fits = s.end_fits;
+      fits = s.fits;
+      begun = s.begun;
+      not_past = s.not_past;
+      tells = tells_all keeps p (states_between p from m.state) b zeros whole zeros_are;
+      fitting = subst (HasRoom more) (sym zeros_are) (zeros_room (length p.names + 1) more l);
+      left_is = s.left_is;
+    }

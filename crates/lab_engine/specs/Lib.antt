@@ -1,9 +1,12 @@
 pub mod Workers
 pub mod Account
 pub mod Output
+pub mod Stretch
 pub mod Packed
 pub mod Classified
 pub mod Debugged
+pub mod Resumed
+pub mod Joined
 pub mod Outcome
 pub mod Listing
 pub mod Ending

@@ -1,5 +1,5 @@
 -- What the output lists: of `cover` the exact covers of the problem, of `solve` the packings of the puzzle, each once, in path order.
-use Rattle.std.specs.Prelude.{ℕ, ◌≡◌, Bool, List, [], ◌++◌, length, map, slice_index_or, EachIndex, Ok}
+use Rattle.std.specs.Prelude.{ℕ, ◌≡◌, ◌⊎◌, Bool, Option, Some, List, [], ◌++◌, length, map, slice_index_or, EachIndex, Ok}
 use Rattle.text_lines.specs.Writing.{line_text, text_of}
 use Rattle.cover_problem.specs.Lists.{has}
 use Rattle.cover_problem.specs.Problem.{ProblemValue}
@@ -14,6 +14,15 @@ use Rattle.poly_place.specs.declared.alike.Group.TheVariants.{Rotations, Symmetr
 use Rattle.poly_place.specs.Classes.{AreAlike, IsClassCount}
 use Rattle.x_steps.specs.Order.{IsIn, PathsRise}
 use Rattle.x_steps.specs.Covers.{AreCovers}
+use Rattle.x_steps.specs.StateValue.{StateValue, start, done}
+use Rattle.x_steps.specs.Run.{ReachesIn, steps_between, visits_between}
+use Rattle.x_steps.specs.Levels.{trimmed_levels}
+use Rattle.x_branches.specs.RunOrder.{ComesBefore}
+use Rattle.x_snapshot.specs.Snapshot.{SnapshotValue, IsSnapshot}
+use Rattle.x_snapshot.specs.Writing.{snapshot_text}
+use Rattle.x_snapshot.specs.Judged.{snapshot_of}
+use Rattle.lab_engine.specs.Account.{kept}
+use Rattle.lab_engine.specs.Resumed.{branch_end, at_state, end_line, rest_text}
 use Rattle.lab_engine.specs.declared.job.Job.{Job}
 use Rattle.lab_engine.specs.declared.job.Job.TheVariants as jobs
 use Rattle.debug_texts.specs.Replies.{visit_words}
@@ -73,7 +82,25 @@ pub record CountsClasses (p : PuzzleValue) (text : List ℕ) : Type 0 where
   pub by_rotations : IsClassCount (AreAlike Rotations) (packings_of p paths) rotations
   pub by_symmetries : IsClassCount (AreAlike Symmetries) (packings_of p paths) symmetries
 
--- what is written is what the job is to tell of the input's problem or puzzle, or what the input's commands are answered
+-- the text tells of the stretch of a run from a snapshot's state on: it stops at the end of the snapshot's branch, or as many steps on as
+-- were asked for, and never past that end. The visits that are listed, if they are, and counted are those of the run between the two
+-- states, no other and none twice; so are the steps and the levels. Where it stops there is a snapshot of the same problem and branch
+-- again, and that is written, but at the end
+pub record TellsStretch (most : Option ℕ) (lists : Bool) (v : SnapshotValue) (text : List ℕ) : Type 0 where
+  pub stop : StateValue
+  pub reached : ReachesIn v.problem v.state stop (steps_between v.problem v.state stop)
+  pub not_past : ComesBefore v.problem (branch_end v) stop → ⊥
+  pub stops : (stop ≡ branch_end v) ⊎ (most ≡ Some (steps_between v.problem v.state stop))
+  pub lines : text ≡ (text_of (map visit_words (kept lists (visits_between v.problem v.state stop)))
+      ++ text_of (total_lines (length (visits_between v.problem v.state stop)) (steps_between v.problem v.state stop)
+      (trimmed_levels v.problem v.state stop))) ++ rest_text v stop
+  pub part : visits_between v.problem start done ≡
+      visits_between v.problem start v.state ++ visits_between v.problem v.state stop ++ visits_between v.problem stop done
+  pub goes_on : IsSnapshot (at_state v stop)
+  pub ended : stop ≡ branch_end v → rest_text v stop ≡ end_line
+  pub unended : (stop ≡ branch_end v → ⊥) → rest_text v stop ≡ snapshot_text (at_state v stop)
+
+-- what is written is what the job is to tell of the input's problem, puzzle or snapshot, or what the input's commands are answered
 abbrev pub IsListed : Job → List ℕ → List ℕ → Type 0
 IsListed (jobs.Cover workers) input text = (p : ProblemValue) × (problem_of input ≡ Ok p) × ListsCovers p text
 IsListed (jobs.Solve workers) input text = (p : PuzzleValue) × (puzzle_of input ≡ Ok p) × ListsPackings p text
@@ -84,3 +111,4 @@ IsListed jobs.DebugPuzzle input text = (p : PuzzleValue) × (puzzle_of (problem_
     × (text ≡ debug_output (command_lines input) (packing_problem p))
 IsListed jobs.DebugCover input text = (p : ProblemValue) × (problem_of (problem_text input) ≡ Ok p)
     × (text ≡ debug_output (command_lines input) p)
+IsListed (jobs.Resume steps list) input text = (v : SnapshotValue) × (snapshot_of input ≡ Ok v) × IsSnapshot v × TellsStretch steps list v text

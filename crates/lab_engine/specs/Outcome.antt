@@ -1,7 +1,7 @@
 -- What the program does with an input: what it writes, or the line that refuses it.
 --
 -- Example: `items a`, `option z` is refused by `refused cover 3 UnknownItem line 2` (proofs/OutputExamples.antt).
-use Rattle.std.specs.Prelude.{ℕ, List, [], ◌∷◌, Result, Ok, Err, if◌then◌else◌, decimal, codes}
+use Rattle.std.specs.Prelude.{ℕ, List, [], ◌∷◌, Result, Ok, Err, if◌then◌else◌, decimal, codes, unwrap_or}
 use Rattle.text_lines.specs.Writing.{line_text}
 use Rattle.cover_problem.specs.declared.fault.Fault.{Fault}
 use Rattle.cover_problem.specs.Faults.{number_of, name_of}
@@ -27,6 +27,11 @@ use Rattle.lab_engine.specs.Packed.{solve_output, count_output, options_output}
 use Rattle.lab_engine.specs.Classified.{classes_output}
 use Rattle.lab_debug.specs.Input.{problem_text, command_lines}
 use Rattle.lab_engine.specs.Debugged.{debug_output}
+use Rattle.x_snapshot.specs.declared.fault.SnapshotFault.{SnapshotFault}
+use Rattle.x_snapshot.specs.Faults as snapshot_faults
+use Rattle.x_snapshot.specs.Snapshot.{SnapshotValue}
+use Rattle.x_snapshot.specs.Judged.{snapshot_of}
+use Rattle.lab_engine.specs.Resumed.{resume_output}
 
 -- the words of a refused text: what it was to be, the fault's number, its name, and the number of its line
 abbrev pub refusal_words : List ℕ → ℕ → List ℕ → ℕ → List (List ℕ)
@@ -44,6 +49,11 @@ puzzle_refusal fault line = line_text (refusal_words (codes "puzzle") (puzzle_fa
 abbrev pub place_refusal : List ℕ
 place_refusal = line_text (codes "refused" ∷ codes "place" ∷ codes "1" ∷ codes "TooManyOptions" ∷ [])
 
+-- the line that refuses a text that is no snapshot; it names no line
+abbrev pub snapshot_refusal : SnapshotFault → List ℕ
+snapshot_refusal fault = line_text (codes "refused" ∷ codes "snapshot" ∷ decimal (unwrap_or (snapshot_faults.number_of fault) 0)
+    ∷ snapshot_faults.name_of fault ∷ [])
+
 -- what is written of a problem, or the refusal of a text
 abbrev pub covers_of : (ProblemValue → List ℕ) → Result ProblemValue (Fault × ℕ) → Result (List ℕ) (List ℕ)
 covers_of output (Ok p) = Ok (output p)
@@ -53,6 +63,11 @@ covers_of output (Err f) = Err (cover_refusal f.0 f.1)
 abbrev pub packed_of : (PuzzleValue → List ℕ) → Result PuzzleValue (puzzle.Fault × ℕ) → Result (List ℕ) (List ℕ)
 packed_of output (Ok p) = if is_small (packing_problem p) then Ok (output p) else Err place_refusal
 packed_of output (Err f) = Err (puzzle_refusal f.0 f.1)
+
+-- what is written of a snapshot, or the refusal of a text that is none
+abbrev pub resumed_of : (SnapshotValue → List ℕ) → Result SnapshotValue SnapshotFault → Result (List ℕ) (List ℕ)
+resumed_of output (Ok v) = Ok (output v)
+resumed_of output (Err fault) = Err (snapshot_refusal fault)
 
 -- what commands are answered over the problem of a puzzle
 abbrev pub puzzle_replies : List (List ℕ) → PuzzleValue → List ℕ
@@ -80,6 +95,7 @@ outcome (jobs.Classes workers) text = packed_of classes_output (puzzle_of text)
 outcome jobs.Options text = packed_of options_output (puzzle_of text)
 outcome jobs.DebugPuzzle text = packed_of (puzzle_replies (command_lines text)) (puzzle_of (problem_text text))
 outcome jobs.DebugCover text = covers_of (debug_output (command_lines text)) (problem_of (problem_text text))
+outcome (jobs.Resume steps list) text = resumed_of (resume_output steps list) (snapshot_of text)
 
 -- what is to be written: the text, or nothing where the input is refused
 abbrev pub to_write : Result (List ℕ) (List ℕ) → List ℕ

@@ -1,5 +1,5 @@
 //! What a job writes for an input.
-ghost use Rattle.std.specs.Prelude.{◌≡◌, IfOk, List, [], ℕ, codes, Result};
+ghost use Rattle.std.specs.Prelude.{◌≡◌, IfOk, IfErr, Ok, Err, List, [], ℕ, codes, Result};
 ghost use Rattle.text_lines.specs.Answers.{GivesAt};
 ghost use Rattle.text_lines.specs.Writing.{line_text};
 ghost use Rattle.cover_problem.specs.declared.fault.Fault.{Fault};
@@ -12,7 +12,9 @@ ghost use Rattle.poly_place.specs.Packings.{packing_problem};
 ghost use Rattle.lab_engine.specs.Packed.{solve_output, count_output, options_output};
 ghost use Rattle.lab_engine.specs.Classified.{classes_output};
 ghost use Rattle.lab_debug.specs.Input.{raw_lines};
-ghost use Rattle.lab_engine.specs.Outcome.{refusal_words, place_refusal, covers_of, packed_of, outcome, outcome_of, listing_of, output_of};
+ghost use Rattle.x_snapshot.specs.Judged.{snapshot_of};
+ghost use Rattle.lab_engine.specs.Resumed.{resume_output};
+ghost use Rattle.lab_engine.specs.Outcome.{refusal_words, place_refusal, covers_of, packed_of, resumed_of, outcome, outcome_of, listing_of, output_of};
 
 use crate::classes::count_classes;
 use crate::cover::covers;
@@ -20,8 +22,10 @@ use crate::debugging::debug;
 use crate::fault::JobFault;
 use crate::job::Job;
 use crate::packed::{count, options, solve};
+use crate::resuming::resume;
 use crate::workers::Workers;
 use cover_problem::{CoverFault, Problem, Table, read_cover};
+use debug_texts::write_snapshot_fault;
 use lab_debug::split_input;
 use lab_pool::Gate;
 use poly_place::{Compiled, PlaceFault, compile};
@@ -30,6 +34,7 @@ use std::alloc::{AllocError, Global};
 use std::sync::Wait;
 use std::thread::Threads;
 use text_lines::{write_number, write_word};
+use x_snapshot::{Snapshot, SnapshotFault, read_snapshot};
 
 /// The text to write, or the line that refuses the input.
 #[derive(Drop)]
@@ -81,6 +86,7 @@ pub fn answer_to<T: Table, R: Threads + Wait + Sync, G: Gate>(
                 commands,
             )
         }
+        Job::Resume { steps, list } => resume_answer::<T>(alloc, steps, list, input),
     }
 }
 
@@ -96,6 +102,35 @@ fn puzzle_in(alloc: Global, text: Vec<u8>) -> Result<Puzzle, PuzzleFault>
     ensures { GivesAt (λ p. p) result (puzzle_of text.items) }
 {
     read_puzzle(alloc, &text)
+}
+
+/// The snapshot of a text, which is let go.
+fn snapshot_in(alloc: Global, text: Vec<u8>) -> Result<Snapshot, SnapshotFault>
+    ensures snapshot { IfOk result (λ s. snapshot_of text.items ≡ Ok s) }
+    ensures fault { IfErr result (λ f. (f ≡ SnapshotFault.OutOfMemory → ⊥) →
+        snapshot_of text.items ≡ Err f) }
+{
+    read_snapshot(alloc, &text)
+}
+
+/// What `resume` writes of the snapshot that a text is, or the refusal of the text.
+fn resume_answer<T: Table>(
+    alloc: Global,
+    steps: Option<u64>,
+    list: bool,
+    text: Vec<u8>,
+) -> Result<Answer, JobFault>
+    ensures { IfOk result (λ answer. outcome_of answer
+        ≡ resumed_of (resume_output steps list) (snapshot_of text.items)) }
+{
+    match snapshot_in(alloc, text) {
+        Ok(snapshot) => Ok(Answer::Text(resume::<T>(alloc, steps, list, &snapshot)?)),
+        Err(fault) => {
+            let mut line = Vec::new(alloc);
+            write_snapshot_fault(&mut line, fault)?;
+            Ok(Answer::Refused(line))
+        }
+    }
 }
 
 /// What is asked of a cover text.

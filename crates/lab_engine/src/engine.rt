@@ -96,8 +96,9 @@ fn work<R: Threads + Wait + Sync, G: Gate, I: Source, O: Sink>(
 ///
 /// What is written at status 0 is a function of the job and of the bytes read (`outcome`), and it lists exactly the
 /// exact covers of the input's problem, or the packings of its puzzle, each once, in path order, or tells how many
-/// these are. It is the same for every number of workers and every gate; a gate sees the acts of workers who share a
-/// search. At 3 and 4 nothing is written. `IsRun` of `specs/Ending.antt` says all this, fact by fact.
+/// these are, or what the search of its snapshot comes to from there on. It is the same for every number of workers
+/// and every gate; a gate sees the acts of workers who share a search. At 3 and 4 nothing is written. `IsRun` of
+/// `specs/Ending.antt` says all this, fact by fact.
 pub fn run<R: Threads + Wait + Sync, G: Gate, I: Source, O: Sink, F: Sink>(
     rt: &R,
     alloc: Global,

@@ -19,6 +19,8 @@ pub enum Job {
     DebugPuzzle,
     /// Take the search of a cover text by commands, which follow it.
     DebugCover,
+    /// Go on from a snapshot, up to its branch's end, or so many steps on where that comes first; list the visits or count them.
+    Resume { steps: Option<u64>, list: bool },
 }
 
 impl Job {
@@ -31,7 +33,7 @@ impl Job {
             | Job::Solve { workers }
             | Job::Count { workers }
             | Job::Classes { workers } => workers,
-            Job::Options | Job::DebugPuzzle | Job::DebugCover => 1,
+            Job::Options | Job::DebugPuzzle | Job::DebugCover | Job::Resume { .. } => 1,
         }
     }
 }

@@ -9,9 +9,12 @@ mod debugging;
 mod engine;
 mod fault;
 mod job;
+pub mod laws;
 mod packed;
 mod report;
+mod resuming;
 mod search;
+mod stretch;
 mod tally;
 mod workers;
 

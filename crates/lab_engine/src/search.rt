@@ -5,14 +5,14 @@ ghost use Rattle.lab_engine.specs.Output.{whole_report};
 
 use crate::fault::JobFault;
 use crate::report::Report;
-use crate::tally::Tally;
+use crate::stretch::search_on;
 use crate::workers::Workers;
 use cover_problem::{Problem, Table};
 use lab_pool::{Gate, run_pool};
 use std::alloc::{AllocError, Global};
 use std::sync::Wait;
 use std::thread::Threads;
-use x_steps::{Machine, no_counts};
+use x_steps::Machine;
 
 /// Takes the run of the problem from X1 to Done, and reports it: the totals, and the visits in path order where they are kept. One
 /// worker searches by itself, and its memory doesn't grow with the run; more share a book.
@@ -47,27 +47,12 @@ fn search_alone<T: Table>(
 ) -> Result<Report, AllocError>
     ensures { IfOk result (λ report. report ≡ whole_report keeps problem.now) }
 {
-    let items = problem.items();
     let table = T::new(alloc, problem)?;
-    let Ok(mut machine) = Machine::new(alloc, problem, table) else {
+    let Ok(machine) = Machine::new(alloc, problem, table) else {
         return Err(AllocError);
     };
-    let mut tally = Tally::new(alloc, items)?;
-    let mut counts = no_counts(alloc, items)?;
-    let mut room = u32::MAX;
-    loop {
-        let Ok(walk) = machine.walk(room, &[], &mut counts) else {
-            tally.add_counts(&counts)?;
-            return tally.report(alloc);
-        };
-        tally.note(keeps, walk, &machine.state().path)?;
-        room -= walk.steps;
-        if room == 0 {
-            tally.add_counts(&counts)?;
-            counts = no_counts(alloc, items)?;
-            room = u32::MAX;
-        }
-    }
+    let (report, _) = search_on(alloc, machine, &[], None, keeps)?;
+    Ok(report)
 }
 
 /// The report of workers who share a book of the run.

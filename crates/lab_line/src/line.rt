@@ -186,6 +186,45 @@ Each reply is one or more lines. What can't be done is refused in one line, as
 Exit statuses: 0 done, 2 command line refused, 3 text refused, 4 no memory or
 workers of `pool` not done, 5 reading or writing failed.";
 
+const RESUME_USAGE: &str = "polylab resume [--steps N] [--list] < SNAPSHOT";
+
+const RESUME: &str = "Counts a branch of a search from a snapshot on, in slices if you like.";
+
+const RESUME_TEXT: &str = "\
+It reads a snapshot, which `save` of `debug` prints (without the line before it,
+that tells the number of its lines), and takes the search from there on, up to
+the end of the snapshot's branch. It prints the number of visits, the number of
+steps of Algorithm X, and how many paths of 0, 1, 2, .. choices it met, all on
+the way, and then the line `end`.
+
+With --steps N, N from 1 on, it stops after N steps, if the branch's end doesn't
+come first. In place of `end` stands then the snapshot of where it stopped, the
+next input: from the line `polysnap` on to the end. What such slices print adds
+up to what one run prints, and so does what branches print that join.
+
+Example: of the snapshot at the start of small.cover (see `cover --help`),
+`polylab resume --steps 40` prints
+  visits 1
+  steps 40
+  levels 1 2 2 1
+  polysnap 1
+and the rest of the snapshot there, of which `polylab resume` prints
+  visits 0
+  steps 3
+  levels
+  end
+
+With --list a line `visit` comes first for each visit, as `cover` prints it;
+without it no visit is kept.
+
+A refusal is one line on standard error: `refused snapshot 5 NotOnRun`.
+Exit statuses: 0 done, 2 command line refused, 3 text refused, 4 no memory,
+5 reading or writing failed.";
+
+const STEPS: &str = "How many steps to take at most, 1 to 18446744073709551615";
+
+const LIST: &str = "Also lists the visits";
+
 const OF_COVER: &str = "The problem is a cover text";
 
 /// A subcommand with its usage and its help.
@@ -228,6 +267,23 @@ fn of_cover<'a>(alloc: Global) -> Arg<'a> {
         .help(OF_COVER)
 }
 
+/// The option that says how many steps are taken at most.
+fn steps<'a>(alloc: Global) -> Arg<'a> {
+    Arg::new(alloc, "steps")
+        .long("steps")
+        .value_name("N")
+        .value_parser(value_parser!(u64).range(1..))
+        .help(STEPS)
+}
+
+/// The word that asks for the visits.
+fn list<'a>(alloc: Global) -> Arg<'a> {
+    Arg::new(alloc, "list")
+        .long("list")
+        .action(ArgAction::SetTrue)
+        .help(LIST)
+}
+
 /// The command line that the program takes.
 fn command<'a>(alloc: Global) -> Result<Command<'a>, AllocError> {
     let cover = job(alloc, "cover", COVER_USAGE, COVER, COVER_TEXT).arg(workers(alloc))?;
@@ -236,6 +292,9 @@ fn command<'a>(alloc: Global) -> Result<Command<'a>, AllocError> {
         .arg(workers(alloc))?
         .arg(classes(alloc))?;
     let debug = job(alloc, "debug", DEBUG_USAGE, DEBUG, DEBUG_TEXT).arg(of_cover(alloc))?;
+    let resume = job(alloc, "resume", RESUME_USAGE, RESUME, RESUME_TEXT)
+        .arg(steps(alloc))?
+        .arg(list(alloc))?;
     Command::new(alloc, "polylab")
         .about(ABOUT)
         .after_help(STATUSES)
@@ -247,7 +306,8 @@ fn command<'a>(alloc: Global) -> Result<Command<'a>, AllocError> {
         .subcommand(solve)?
         .subcommand(count)?
         .subcommand(job(alloc, "options", OPTIONS_USAGE, OPTIONS, OPTIONS_TEXT))?
-        .subcommand(debug)
+        .subcommand(debug)?
+        .subcommand(resume)
 }
 
 /// How many workers the words of a job ask for. That it is 1 to 32, and 1 where it isn't said, is `clap`'s to see; its answer is
@@ -276,6 +336,10 @@ fn job_of(matches: &ArgMatches<'_>) -> Job
         "options" => Job::Options,
         "debug" if words.get_flag("cover") => Job::DebugCover,
         "debug" => Job::DebugPuzzle,
+        "resume" => Job::Resume {
+            steps: words.get_one::<u64>("steps"),
+            list: words.get_flag("list"),
+        },
         _ => Job::Cover { workers },
     }
 }

@@ -1,0 +1,195 @@
+"""Snapshots and answers of `polylab resume` for the scripts of this folder. Plain Python, NOT PROVED. It trusts the program for what a
+snapshot means: here is only looked at how it is spelled, where its branch begins and ends, and that numbers fit each other."""
+
+import hashlib
+import os
+import re
+import subprocess
+import sys
+
+TOP = os.path.dirname(os.path.dirname(os.path.realpath(__file__)))
+OWN = os.path.join(TOP, "polylab")
+PROGRAM = os.environ.get("POLYLAB", OWN if os.path.isfile(OWN) else "polylab")
+NUMBER = re.compile("0|[1-9][0-9]*")
+
+
+class Spoilt(Exception):
+    """Why a text is no snapshot, or no answer."""
+
+
+def stop(what):
+    """Ends the script with a sentence and status 1."""
+    sys.exit("%s: %s" % (os.path.basename(sys.argv[0]), what))
+
+
+def ask(words, text):
+    """What the program writes of a text; its refusal ends the script. A character stands for each byte."""
+    ran = subprocess.run([PROGRAM, *words], input=text.encode("latin-1"), stdout=subprocess.PIPE, stderr=subprocess.PIPE, check=False)
+    if ran.returncode:
+        said = ran.stderr.decode("latin-1").strip()
+        stop("`polylab %s` ended with status %d%s" % (" ".join(words), ran.returncode, ": " + said if said else ""))
+    return ran.stdout.decode("latin-1")
+
+
+def problem_text(text):
+    """A puzzle or cover text, as the debugger takes it before the line `%%`, which may not stand in it."""
+    if any(line.rstrip("\r") == "%%" for line in text.split("\n")):
+        stop("the text has a line %%, where the commands of the debugger would begin")
+    return text if text.endswith("\n") else text + "\n"
+
+
+def checksum(text):
+    return hashlib.sha256(text.encode("latin-1")).hexdigest()
+
+
+def number(word):
+    """The number that a word spells as the program does."""
+    if not NUMBER.fullmatch(word):
+        raise Spoilt("`%s` is no number" % word[:40])
+    return int(word)
+
+
+def numbers(words):
+    return [number(word) for word in words]
+
+
+def cut(words, bare):
+    """The choices of a cut; None where a word says that it is the run's start or end."""
+    return None if words == [bare] else tuple(numbers(words))
+
+
+class Snapshot:
+    """A snapshot text: its problem's lines, the choices where its branch begins (None at the start) and ends (None at the end), and the
+    words of its state."""
+
+    def __init__(self, text):
+        self.text = text
+        lines = text.split("\n")
+        if lines.pop() != "" or len(lines) < 2:
+            raise Spoilt("it is cut short")
+        if lines[0] not in ("polysnap 1", "polysnap 2"):
+            raise Spoilt("its first line is no `polysnap 1`, nor `polysnap 2`")
+        self.at = 1
+        self.problem = self.many(lines, "problem")
+        self.lo = cut(self.words(lines, "from"), "start")
+        self.hi = cut(self.words(lines, "to"), "end")
+        self.state = self.words(lines, "state")
+        if lines[0] == "polysnap 2":
+            self.many(lines, "breaks")
+        self.words(lines, "end")
+        if self.at != len(lines):
+            raise Spoilt("something follows its line `end`")
+        self.options = sum(line.startswith("option ") for line in self.problem)
+
+    def words(self, lines, first):
+        """The words of the next line after its first one."""
+        if self.at >= len(lines):
+            raise Spoilt("it is cut short")
+        words = lines[self.at].split(" ")
+        if words[0] != first:
+            raise Spoilt("its line %d is no line `%s`" % (self.at + 1, first))
+        self.at += 1
+        return words[1:]
+
+    def many(self, lines, first):
+        """The lines whose number the next line tells."""
+        words = self.words(lines, first)
+        count = number(words[0] if words else "")
+        self.at += count
+        if self.at > len(lines):
+            raise Spoilt("it is cut short")
+        return lines[self.at - count : self.at]
+
+    def problem_lines(self):
+        return "".join(line + "\n" for line in self.problem)
+
+    def is_at_start(self):
+        """Whether its state is the one where its branch begins."""
+        if self.lo is None:
+            return self.state == ["X1", "-"]
+        return self.state == [str(word) for word in ("X5", self.lo[-1], *self.lo[:-1])]
+
+
+class Answer:
+    """What `resume` printed: the visits, steps and levels of a stretch, and the text of the snapshot that ends it, or None."""
+
+    def __init__(self, text):
+        lines = text.split("\n")
+        if lines.pop() != "":
+            raise Spoilt("it is cut short")
+        listed = 0
+        while lines[listed : listed + 1] and lines[listed].startswith("visit "):
+            listed += 1
+        if len(lines) < listed + 4:
+            raise Spoilt("it is cut short")
+        rows = [line.split() for line in lines[listed : listed + 3]]
+        if [row[:1] for row in rows] != [["visits"], ["steps"], ["levels"]] or len(rows[0]) != 2 or len(rows[1]) != 2:
+            raise Spoilt("its lines aren't `visits`, `steps` and `levels`")
+        self.visits, self.steps, self.levels = number(rows[0][1]), number(rows[1][1]), numbers(rows[2][1:])
+        if listed not in (0, self.visits):
+            raise Spoilt("it lists %d visits, and counts %d" % (listed, self.visits))
+        rest = lines[listed + 3 :]
+        self.rest = None if rest == ["end"] else "".join(line + "\n" for line in rest)
+
+
+class Sums:
+    """Visits, steps and levels of stretches, added up."""
+
+    def __init__(self):
+        self.visits, self.steps, self.levels = 0, 0, []
+
+    def add(self, answer):
+        self.visits += answer.visits
+        self.steps += answer.steps
+        self.levels += [0] * (len(answer.levels) - len(self.levels))
+        for level, paths in enumerate(answer.levels):
+            self.levels[level] += paths
+
+    def fit(self, lo=None, hi=None):
+        """Whether the steps are those that a branch from cut lo to cut hi has with so many visits and paths.
+
+        Algorithm X takes the steps X2, X3, X4, X7, X8 and X5 `past` for each path that is no visit, X2 and X8 for each visit, X5 and X6
+        for each option taken, and X1. So a whole run has 8 steps for each path, less 4 for each visit, less 1. At a cut of N choices
+        4 N of these are still to come, as the paths up to there are begun and not left."""
+        ahead = 0 if lo is None else 4 * len(lo)
+        behind = 1 if hi is None else 4 * len(hi)
+        return self.steps == 8 * sum(self.levels) - 4 * self.visits + ahead - behind
+
+    def lines(self, job, options):
+        """The lines of `count`, or those of `cover` without its visits."""
+        first = ["packings %d" % self.visits, "options %d" % options] if job == "count" else ["visits %d" % self.visits]
+        return [*first, "steps %d" % self.steps, " ".join(["levels", *map(str, self.levels)])]
+
+
+def snapshot_of(text, what):
+    """A snapshot text, or the script ends with a sentence about it."""
+    try:
+        return Snapshot(text)
+    except Spoilt as spoilt:
+        return stop("%s is no snapshot: %s" % (what, spoilt))
+
+
+def answer_of(text, what):
+    """The same of an answer."""
+    try:
+        return Answer(text)
+    except Spoilt as spoilt:
+        return stop("%s is no answer: %s" % (what, spoilt))
+
+
+def saved(replies, at):
+    """The text of a snapshot in replies of the debugger, from the line `snapshot K` at that place on."""
+    words = replies[at].split() if at < len(replies) else []
+    if len(words) != 2 or words[0] != "snapshot":
+        stop("the debugger saved nothing: %s" % (replies[at] if at < len(replies) else "no reply"))
+    return "".join(line + "\n" for line in replies[at + 1 : at + 1 + int(words[1])])
+
+
+def write_whole(path, text):
+    """Writes a file whole: to a name beside it first, which is then renamed."""
+    new = path + ".new"
+    with open(new, "w", encoding="latin-1", newline="") as file:
+        file.write(text)
+        file.flush()
+        os.fsync(file.fileno())
+    os.replace(new, path)

@@ -2,7 +2,8 @@
 PREFIX = /usr/local
 ZSH_FUNCTIONS = $(PREFIX)/share/zsh/site-functions
 # The scripts that are installed; the others are for this checkout.
-TOOLS = check_packings count_packings draw_packings explain one_of_each page session unique puzzles.py
+TOOLS = answer check_packings count_packings draw_packings explain join one_of_each page parts session slices slurm_array unique \
+	puzzles.py snapshots.py
 SHARE = $(DESTDIR)$(PREFIX)/share
 
 # The puzzles and cover texts of examples/ that take seconds; the others take up to some minutes each.
@@ -15,11 +16,14 @@ LONG = pentominoes-15x4 pentominoes-12x5 pentominoes-10x6 pentominoes-8x8-withou
 	solid-pentominoes-2x5x6 solid-pentominoes-3x4x5
 LONG_COVERS = pent-10x6 langford-12
 
-.PHONY: all help build ci layout wrong-bodies bench gallery gallery-long check-docs check-edits check-ownership check-tools check-page \
-	check-completions check-words check-statuses check-growths install uninstall dist
+.PHONY: all quick help build ci layout wrong-bodies bench gallery gallery-long check-docs check-edits check-ownership check-tools check-parts check-page \
+	check-completions check-words check-statuses check-memory check-memory-all install uninstall dist
 
-# The program, the quick examples, and all checks of documents and scripts.
-all: check-edits check-ownership build gallery check-tools check-docs check-words check-completions check-page check-statuses
+# The program, the quick examples, all checks of documents and scripts, and a sample of growths that are refused.
+all: check-edits check-ownership build gallery check-tools check-parts check-docs check-words check-completions check-page check-statuses check-memory
+
+# The checks that take a minute, once the program is built: a landing has to pass them after the gate.
+quick: check-ownership build gallery check-docs check-words check-statuses check-memory
 
 # What there is to do, each with the first line that stands above it here.
 help:
@@ -71,13 +75,21 @@ check-ownership:
 check-tools: build
 	@tools/check_tools
 
+# Counts in parts and in slices, with a part killed and run again and an interrupt; spoilt folders of parts are refused.
+check-parts: build
+	@tools/check_parts
+
 # The man page and the completions name the jobs and options that the program's help names.
 check-words: build
 	@tools/check_words
 
-# Two workers with each growth refused in turn: they end. Some minutes.
-check-growths: build
-	@tools/check_growths
+# Growths of memory refused to the program one by one, a sample of them: each run answers whole, or ends with status 4. A minute.
+check-memory: build
+	@tools/refuse
+
+# Each growth of each job, refused by itself and with all after it. Some minutes.
+check-memory-all: build
+	@tools/refuse --all
 
 # Each exit status, by a run of the program itself.
 check-statuses: build

@@ -158,6 +158,11 @@ fn text_of(alloc: Global, size: Cell, pieces: &str) -> Result<String, AllocError
     Ok(text)
 }
 
+/// The cover text of the Soma cube.
+pub fn soma(alloc: Global) -> Result<String, AllocError> {
+    text_of(alloc, (3, 3, 3), SOMA)
+}
+
 #[test]
 fn packings_of_a_box_are_listed(rt: HostRuntime) -> Result<(), Fail> {
     let rows: [(&str, Cell, usize, &[u8]); 2] = [

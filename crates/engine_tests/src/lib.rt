@@ -10,6 +10,8 @@ mod cover_tests;
 #[cfg(test)]
 mod debug_tests;
 #[cfg(test)]
+mod joining_tests;
+#[cfg(test)]
 mod line_tests;
 #[cfg(test)]
 mod puzzle_tests;

@@ -100,7 +100,7 @@ fn push_zeros(text: &mut String, zeros: usize) -> Result<(), AllocError> {
     Ok(())
 }
 
-/// Adds the counts of the levels between, up to the last that has a state.
+/// Adds the counts of the levels between, up to the last that has a state; that of level 0 at least.
 fn push_levels(text: &mut String, from: usize, to: usize) -> Result<(), AllocError> {
     let mut zeros = 0usize;
     text.push_str("levels")?;
@@ -113,6 +113,9 @@ fn push_levels(text: &mut String, from: usize, to: usize) -> Result<(), AllocErr
             write!(text, " {count}")?;
             zeros = 0;
         }
+    }
+    if zeros == 4 {
+        text.push_str(" 0")?;
     }
     text.push_str("\n")
 }

@@ -1,7 +1,7 @@
 -- Stretches that join, and what their reports add up to.
 --
--- Example: the small problem's run in slices of 20 steps: `levels 1 1 1`, `levels 0 1 1 1` and `levels` add up to `levels 1 2 2 1`
--- (proofs/OutputExamples.antt computes it).
+-- Example: the small problem's run in slices of 20 steps: the levels 1 1 1, then 0 1 1 1, and none in the last three steps, add up to
+-- 1 2 2 1 (proofs/OutputExamples.antt computes it).
 use Rattle.std.specs.Prelude.{ℕ, ◌+◌, ◌≡◌, Bool, Option, List, [], ◌∷◌, ◌++◌}
 use Rattle.cover_problem.specs.Problem.{ProblemValue}
 use Rattle.x_steps.specs.StateValue.{StateValue}

@@ -6,12 +6,12 @@ use Rattle.text_lines.specs.Writing.{text_of}
 use Rattle.cover_problem.specs.Problem.{ProblemValue}
 use Rattle.x_steps.specs.StateValue.{start, done}
 use Rattle.x_steps.specs.Run.{states_between}
-use Rattle.debug_texts.specs.Replies.{visit_words}
+use Rattle.debug_texts.specs.Replies.{visit_words, levels_words}
 use Rattle.lab_engine.specs.Account.{Account, ReportValue, account_of, report_of}
 
--- the lines of the steps and the levels
+-- the lines of the steps and the levels, of level 0 at least
 abbrev pub tally_lines : ℕ → List ℕ → List (List (List ℕ))
-tally_lines steps levels = (codes "steps" ∷ decimal steps ∷ []) ∷ (codes "levels" ∷ map decimal levels) ∷ []
+tally_lines steps levels = (codes "steps" ∷ decimal steps ∷ []) ∷ levels_words levels ∷ []
 
 -- the lines after the visits: how many visits and steps, and the levels
 abbrev pub total_lines : ℕ → ℕ → List ℕ → List (List (List ℕ))

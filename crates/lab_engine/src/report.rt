@@ -9,10 +9,11 @@ ghost use Rattle.lab_engine.specs.Account.{kept};
 ghost use Rattle.lab_engine.specs.Output.{tally_lines, whole_report};
 
 use cover_problem::Lists;
+use debug_texts::write_levels;
 use lab_book::Book;
 use std::alloc::{AllocError, Global};
 use std::marker::Model;
-use text_lines::{write_number_line, write_numbers_line};
+use text_lines::write_number_line;
 
 /// The visits in path order, where they are kept, how many visits and steps there were, and how many X2 states at each level from 0
 /// on, up to the last that has one.
@@ -81,12 +82,12 @@ impl Report {
         self.visited
     }
 
-    /// Adds the lines of the steps and of the levels.
+    /// Adds the lines of the steps and of the levels, of level 0 at least.
     pub fn push_steps(&self, text: &mut Vec<u8>) -> Result<(), AllocError>
         ensures { OnOk result (text.new.items ≡ text.old.items
             ++ text_of (tally_lines self.now.steps self.now.levels)) }
     {
         write_number_line(text, "steps", self.steps)?;
-        write_numbers_line(text, "levels", &self.levels)
+        write_levels(text, &self.levels)
     }
 }

@@ -151,7 +151,7 @@ fn is_kept(
     let copy = kept.copy()?;
     let opened = copy.open(alloc)?;
     let told = from.same(stretch.from()) && to.same(stretch.to()) && kept.steps() == steps;
-    let counted = kept.visits().len() == visits.len() && kept.same(&copy);
+    let counted = kept.visited() == visits.len() as u64 && kept.same(&copy);
     Ok(
         told && counted
             && has_ends_of(&opened, stretch)

@@ -339,8 +339,9 @@ impl<'p> Tile<'p> {
     pub(crate) fn add_visits(&self, visits: &mut Lists) -> Result<(), AllocError>
         ensures { OnOk result (visits.new ≡ visits.old ++ stretch_visits self.now.stretches) }
     {
+        let alloc = *self.parts.stretches.allocator();
         for stretch in self.stretches() {
-            visits.append(stretch.visits())?;
+            stretch.add_visits(alloc, visits)?;
         }
         Ok(())
     }

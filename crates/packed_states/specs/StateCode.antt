@@ -1,5 +1,6 @@
 -- States as numbers of a row, and back. What a row tells is read in whole: a number too many is a choice too many, one that is missing is 0.
-use Rattle.std.specs.Prelude.{ℕ, ◌≡◌, ◌%◌, ◌==◌, List, ◌∷◌, ◌++◌, length, take, drop, map, slice_index, if◌then◌else◌}
+use Rattle.std.specs.Prelude.{ℕ, zero, suc, ◌≡◌, ◌%◌, ◌==◌, List, [], ◌∷◌, ◌++◌, length, take, drop, map, slice_index, if◌then◌else◌}
+use Rattle.std.specs.List.{flat_map}
 use Rattle.x_steps.specs.declared.state.Label.{Label}
 use Rattle.x_steps.specs.declared.state.Label.TheVariants.{X1, X2, X3, X4, X5, X6, X7, X8, Done}
 use Rattle.x_steps.specs.declared.state.Cursor.{Cursor}
@@ -69,6 +70,29 @@ state_of ns = record {
 unfoldable pub state_rest : List ℕ → List ℕ
 state_rest ns = path_rest (later (later (later ns)))
 
+-- ---- lists of lists of choices: how many there are, and then each
+
+unfoldable pub paths_code : List (List ℕ) → List ℕ
+paths_code paths = length paths ∷ flat_map path_code paths
+
+-- so many lists, or as many as there are
+unfoldable pub paths_at : ℕ → List ℕ → List (List ℕ)
+paths_at zero ns = []
+paths_at (suc count) [] = []
+paths_at (suc count) (n ∷ ns) = path_of (n ∷ ns) ∷ paths_at count (path_rest (n ∷ ns))
+
+-- what comes after them
+unfoldable pub after_paths : ℕ → List ℕ → List ℕ
+after_paths zero ns = ns
+after_paths (suc count) [] = []
+after_paths (suc count) (n ∷ ns) = after_paths count (path_rest (n ∷ ns))
+
+unfoldable pub paths_of : List ℕ → List (List ℕ)
+paths_of ns = paths_at (slice_index ns 0) (later ns)
+
+unfoldable pub paths_rest : List ℕ → List ℕ
+paths_rest ns = after_paths (slice_index ns 0) (later ns)
+
 -- ---- what is read back as it was
 
 abbrev pub ReadsPath : List ℕ → Type 0
@@ -76,3 +100,6 @@ ReadsPath path = (rest : List ℕ) → (path_of (path_code path ++ rest) ≡ pat
 
 abbrev pub ReadsState : StateValue → Type 0
 ReadsState s = (rest : List ℕ) → (state_of (state_code s ++ rest) ≡ s) × (state_rest (state_code s ++ rest) ≡ rest)
+
+abbrev pub ReadsPaths : List (List ℕ) → Type 0
+ReadsPaths paths = (rest : List ℕ) → (paths_of (paths_code paths ++ rest) ≡ paths) × (paths_rest (paths_code paths ++ rest) ≡ rest)

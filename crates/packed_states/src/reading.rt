@@ -1,9 +1,10 @@
 //! States made of their numbers.
-ghost use Rattle.std.specs.Prelude.{◌≡◌, ◌++◌, take, drop, map, IfOk, OnOk};
+ghost use Rattle.std.specs.Prelude.{◌≡◌, ◌++◌, length, take, drop, map, IfOk, OnOk};
 ghost use Rattle.x_steps.specs.StateView.{state_value};
 ghost use Rattle.packed_states.specs.StateCode.{choice_of, label_of, cursor_of};
-ghost use Rattle.packed_states.specs.StateCode.{path_of, path_rest, state_of, state_rest};
+ghost use Rattle.packed_states.specs.StateCode.{path_of, path_rest, paths_of, paths_rest, state_of, state_rest};
 
+use cover_problem::Lists;
 use packed_rows::Reader;
 use std::alloc::{AllocError, Global};
 use x_steps::{Cursor, Label, State};
@@ -82,6 +83,28 @@ pub fn read_path(alloc: Global, reader: &mut Reader<'_>) -> Result<Vec<u32>, All
     Ok(path)
 }
 
+/// Reads lists of choices, and adds them to lists. Where memory runs out, some may be there.
+pub fn read_paths(
+    alloc: Global,
+    reader: &mut Reader<'_>,
+    paths: &mut Lists,
+) -> Result<(), AllocError>
+    ensures paths { OnOk result (paths.new ≡ paths.old ++ paths_of reader.old) }
+    ensures rest { OnOk result (reader.new ≡ paths_rest reader.old) }
+{
+    let mut left = reader.number();
+    'reading: while left > 0 {
+        let Some(size) = reader.next() else {
+            return Ok(());
+        };
+        let mut path = Vec::new(alloc);
+        read_choices(reader, &mut path, size)?;
+        paths.push(&path)?;
+        left -= 1;
+    }
+    Ok(())
+}
+
 /// Reads a state.
 pub fn read_state(alloc: Global, reader: &mut Reader<'_>) -> Result<State, AllocError>
     ensures state { IfOk result (λ state. state_value state ≡ state_of reader.old) }
@@ -128,4 +151,21 @@ pub fn skip_state(reader: &mut Reader<'_>)
     let _kind = reader.number();
     let _option = reader.number();
     skip_path(reader);
+}
+
+/// Reads over lists of choices, without memory; how many there are.
+pub fn skip_paths(reader: &mut Reader<'_>) -> u64
+    ensures count { result ≡ length (paths_of reader.old) }
+    ensures rest { reader.new ≡ paths_rest reader.old }
+{
+    let told = reader.number();
+    let mut left = told;
+    'skipping: while left > 0 {
+        let Some(size) = reader.next() else {
+            return told - left;
+        };
+        skip(reader, size);
+        left -= 1;
+    }
+    told
 }

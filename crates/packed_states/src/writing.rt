@@ -2,8 +2,9 @@
 ghost use Rattle.std.specs.Prelude.{◌≡◌, ◌++◌, OnOk, map};
 ghost use Rattle.x_steps.specs.StateView.{state_value};
 ghost use Rattle.packed_states.specs.StateCode.{label_number, cursor_kind, cursor_choice, choice_of};
-ghost use Rattle.packed_states.specs.StateCode.{path_code, state_code, ReadsPath, ReadsState};
+ghost use Rattle.packed_states.specs.StateCode.{path_code, paths_code, state_code, ReadsPath, ReadsPaths, ReadsState};
 
+use cover_problem::Lists;
 use packed_rows::Row;
 use std::alloc::AllocError;
 use x_steps::{Cursor, Label, State};
@@ -26,6 +27,18 @@ pub fn put_path(row: &mut Row, path: &[u32]) -> Result<(), AllocError>
 {
     row.put(path.len() as u64)?;
     put_choices(row, path)?;
+    Ok(())
+}
+
+/// Adds lists of choices, with their number before them. Where memory runs out, some numbers may be there.
+pub fn put_paths(row: &mut Row, paths: &Lists) -> Result<(), AllocError>
+    ensures code { OnOk result (row.new ≡ row.old ++ paths_code paths.now) }
+    ensures reads { OnOk result (ReadsPaths paths.now) }
+{
+    row.put(paths.len() as u64)?;
+    for place in 0..paths.len() {
+        put_path(row, paths.list(place))?;
+    }
     Ok(())
 }
 

@@ -5,7 +5,7 @@ use Rattle.x_steps.specs.StateValue.{StateValue}
 use Rattle.x_steps.specs.Steps.{Fits}
 use Rattle.x_steps.specs.Run.{ReachesIn, steps_between, visits_between}
 use Rattle.x_steps.specs.Levels.{trimmed_levels}
-use Rattle.packed_states.specs.StateCode.{choice_of, state_of, state_rest}
+use Rattle.packed_states.specs.StateCode.{choice_of, state_of, state_rest, paths_of, paths_rest}
 
 -- a problem, and two states of its run: what lies between them is a function of these
 pub record StretchValue : Type 0 where
@@ -25,18 +25,23 @@ pub record KeepsStretch (p : ProblemValue) (s t : StateValue) (steps : ℕ) (vis
   pub visits_are : visits ≡ visits_between p s t
   pub levels_are : levels ≡ trimmed_levels p s t
 
--- ---- a stretch as a row of numbers: its first state, the one that it leads to, and then how many X2 states there are at each level
+-- ---- a stretch as a row of numbers: its first state, the one that it leads to, its visits, and then how many X2 states there are at
+-- each level
 
 -- the stretch that a row tells, of a problem
 abbrev pub kept_value : ProblemValue → List ℕ → StretchValue
 kept_value p ns = record { problem = p; from = state_of ns; to = state_of (state_rest ns) }
 
--- the counts that a row tells
-abbrev pub kept_levels : List ℕ → List ℕ
-kept_levels ns = map choice_of (state_rest (state_rest ns))
+-- the visits that a row tells
+abbrev pub kept_visits : List ℕ → List (List ℕ)
+kept_visits ns = paths_of (state_rest (state_rest ns))
 
--- a row with the steps and visits of the stretch that it tells
-abbrev pub KeepsRow : ProblemValue → List ℕ → ℕ → List (List ℕ) → Type 0
-KeepsRow p ns steps visits =
+-- and the counts
+abbrev pub kept_levels : List ℕ → List ℕ
+kept_levels ns = map choice_of (paths_rest (state_rest (state_rest ns)))
+
+-- a row with the steps of the stretch that it tells
+abbrev pub KeepsRow : ProblemValue → List ℕ → ℕ → Type 0
+KeepsRow p ns steps =
     let x = kept_value p ns in
-    KeepsStretch p x.from x.to steps visits (kept_levels ns)
+    KeepsStretch p x.from x.to steps (kept_visits ns) (kept_levels ns)

@@ -1,26 +1,27 @@
 //! Stretches in few bytes, as one keeps them who has many.
-ghost use Rattle.std.specs.Prelude.{◌≡◌, IfOk, IfErr, IsTrue, map};
+ghost use Rattle.std.specs.Prelude.{◌≡◌, ◌++◌, IfOk, IfErr, OnOk, IsTrue, length, map};
 ghost use Rattle.x_steps.specs.StateView.{state_value};
 ghost use Rattle.x_steps.specs.Run.{steps_between, visits_between};
 ghost use Rattle.x_steps.specs.Levels.{trimmed_levels};
 ghost use Rattle.packed_states.specs.StateCode.{choice_of, state_of, state_rest};
-ghost use Rattle.x_branches.specs.Stretch.{kept_levels};
+ghost use Rattle.x_branches.specs.Stretch.{kept_levels, kept_visits};
 
 use crate::stretch::Stretch;
 use cover_problem::{Lists, Problem};
 use packed_rows::{Reader, Row};
-use packed_states::{put_choices, put_state, read_all, read_state, skip_state};
+use packed_states::{
+    put_choices, put_paths, put_state, read_all, read_paths, read_state, skip_paths, skip_state,
+};
 use std::alloc::{AllocError, Global};
 use std::marker::Model;
 use x_steps::State;
 
-/// A stretch whose states and counts are numbers of a row: some hundred bytes in place of three hundred and sixty.
+/// A stretch whose states, visits and counts are numbers of a row: some hundred bytes in place of three hundred and sixty.
 #[derive(Drop)]
 pub struct KeptStretch<'p> {
     problem: &'p Problem,
     steps: u32,
-    visits: Lists,
-    /// Its first state, the one that it leads to, and how many X2 states there are at each level.
+    /// Its first state, the one that it leads to, its visits, and how many X2 states there are at each level.
     row: Row,
 }
 
@@ -31,23 +32,37 @@ impl<'p> Model for KeptStretch<'p> {
 
     ghost view = { λ s. kept_value s.problem.now s.row };
 
-    ghost invariant = { λ s. KeepsRow s.problem.now s.row s.steps s.visits };
+    ghost invariant = { λ s. KeepsRow s.problem.now s.row s.steps };
 }
 
-/// A stretch's states and counts as a row, in memory of just its size.
+/// A stretch's states, visits and counts as a row, in memory of just its size.
 fn packed(stretch: &Stretch<'_>) -> Result<Row, AllocError>
     ensures from { IfOk result (λ row. state_of row ≡ stretch.now.from) }
     ensures to { IfOk result (λ row. state_of (state_rest row) ≡ stretch.now.to) }
+    ensures visits { IfOk result (λ row. kept_visits row ≡
+        visits_between stretch.now.problem stretch.now.from stretch.now.to) }
     ensures levels { IfOk result (λ row. kept_levels row ≡
         trimmed_levels stretch.now.problem stretch.now.from stretch.now.to) }
 {
+    let visits = stretch.visits();
     let levels = stretch.levels();
     let mut row = Row::new(*stretch.levels.allocator());
     put_state(&mut row, stretch.from())?;
     put_state(&mut row, stretch.to())?;
+    put_paths(&mut row, visits)?;
     put_choices(&mut row, levels)?;
     let packed = row.copy()?;
     Ok(packed)
+}
+
+/// A row's numbers from the visits on.
+fn after_states(row: &Row) -> Reader<'_>
+    ensures { result ≡ state_rest (state_rest row.now) }
+{
+    let mut reader = row.reader();
+    skip_state(&mut reader);
+    skip_state(&mut reader);
+    reader
 }
 
 impl<'p> KeptStretch<'p> {
@@ -62,7 +77,6 @@ impl<'p> KeptStretch<'p> {
         Ok(KeptStretch {
             problem: stretch.problem,
             steps: stretch.steps,
-            visits: stretch.visits,
             row,
         })
     }
@@ -74,8 +88,9 @@ impl<'p> KeptStretch<'p> {
         let mut reader = self.row.reader();
         let from = read_state(alloc, &mut reader)?;
         let to = read_state(alloc, &mut reader)?;
+        let mut visits = Lists::new(alloc);
+        read_paths(alloc, &mut reader, &mut visits)?;
         let levels = read_all(alloc, &mut reader)?;
-        let visits = self.visits.copy()?;
         Ok(Stretch {
             problem: self.problem,
             from,
@@ -119,11 +134,19 @@ impl<'p> KeptStretch<'p> {
         self.steps
     }
 
-    /// The paths that it visits.
-    pub fn visits(&self) -> &Lists
-        ensures { result.now ≡ visits_between self.now.problem self.now.from self.now.to }
+    /// How many paths it visits.
+    pub fn visited(&self) -> u64
+        ensures { result ≡ length (visits_between self.now.problem self.now.from self.now.to) }
     {
-        &self.visits
+        skip_paths(&mut after_states(&self.row))
+    }
+
+    /// Adds the paths that it visits; where memory runs out, some may be there.
+    pub fn add_visits(&self, alloc: Global, visits: &mut Lists) -> Result<(), AllocError>
+        ensures { OnOk result (visits.new ≡ visits.old
+            ++ visits_between self.now.problem self.now.from self.now.to) }
+    {
+        read_paths(alloc, &mut after_states(&self.row), visits)
     }
 
     /// How many X2 states it has at each level, up to the last level that has one, to be read.
@@ -131,9 +154,8 @@ impl<'p> KeptStretch<'p> {
         ensures { map choice_of result ≡
             trimmed_levels self.now.problem self.now.from self.now.to }
     {
-        let mut reader = self.row.reader();
-        skip_state(&mut reader);
-        skip_state(&mut reader);
+        let mut reader = after_states(&self.row);
+        let _visited = skip_paths(&mut reader);
         reader
     }
 
@@ -148,12 +170,10 @@ impl<'p> KeptStretch<'p> {
     pub fn copy(&self) -> Result<KeptStretch<'p>, AllocError>
         ensures { IfOk result (λ kept. kept ≡ self.now) }
     {
-        let visits = self.visits.copy()?;
         let row = self.row.copy()?;
         Ok(KeptStretch {
             problem: self.problem,
             steps: self.steps,
-            visits,
             row,
         })
     }

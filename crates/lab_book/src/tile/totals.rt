@@ -15,7 +15,7 @@ impl<'p> Tile<'p> {
     {
         let mut visited: u128 = 0;
         for stretch in self.stretches() {
-            visited += stretch.visits().len() as u128;
+            visited += stretch.visited() as u128;
         }
         visited
     }

@@ -1,4 +1,4 @@
-use Rattle.std.proofs.Common.{◌≡◌, refl}
+use Rattle.std.proofs.Common.{refl}
 use Rattle.packed_states.specs.StateCode.{path_of, path_rest}
 use Rattle.packed_states.proofs.reading.read_path.Goals as goal
 

@@ -1,4 +1,4 @@
-use Rattle.std.proofs.Common.{◌≡◌, refl}
+use Rattle.std.proofs.Common.{refl}
 use Rattle.packed_states.specs.StateCode.{state_rest}
 use Rattle.packed_states.proofs.reading.skip_state.Goals as goal
 

@@ -1,4 +1,4 @@
-use Rattle.std.proofs.Common.{◌≡◌, ◌++◌, ◌∷◌, append_assoc}
+use Rattle.std.proofs.Common.{append_assoc}
 use Rattle.packed_states.specs.StateCode.{path_code}
 use Rattle.packed_states.proofs.StateLemmas.{reads_path}
 use Rattle.packed_states.proofs.writing.put_path.Goals as goal

@@ -1,4 +1,4 @@
-use Rattle.std.proofs.Common.{◌≡◌, ◌++◌, ◌∷◌, subst, append_assoc, arith}
+use Rattle.std.proofs.Common.{subst, append_assoc, arith}
 use Rattle.packed_states.specs.StateCode.{state_code, ReadsPath}
 use Rattle.packed_states.proofs.StateLemmas.{reads_state}
 use Rattle.packed_states.proofs.writing.put_state.Goals as goal

@@ -1,5 +1,4 @@
-use Rattle.std.proofs.Common.{◌≡◌, Bool, true, false, Some, None, sym, ◌∙◌, take, arith}
-use Rattle.std.specs.List.{slice_get}
+use Rattle.std.proofs.Common.{◌≡◌, Some, None, sym, ◌∙◌, take, arith}
 use Rattle.std.proofs.lemmas.Option.{slice_get_within}
 use Rattle.cover_problem.proofs.RemainingLemmas.{list_rises}
 use Rattle.x_steps.specs.declared.state.Label.TheVariants.{X5}
@@ -7,7 +6,6 @@ use Rattle.x_steps.specs.declared.state.Cursor.TheVariants.{At}
 use Rattle.x_steps.specs.StateValue.{at}
 use Rattle.x_steps.specs.Steps.{Fits, item_after, covered_in}
 use Rattle.x_branches.specs.Branch.{end_of}
-use Rattle.x_branches.specs.Untried.{is_before_end}
 use Rattle.x_branches.specs.Cut.{choices}
 use Rattle.cover_problem.specs.Covering.{list_of}
 use Rattle.cover_problem.specs.Lists.{above}

@@ -1,9 +1,7 @@
-use Rattle.std.proofs.Common.{◌≡◌, ◌+◌, ◌<◌, ◌≤◌, ℕ, List, Some, None, length, take, get_or, sym, ap, ◌∙◌, arith}
+use Rattle.std.proofs.Common.{◌≡◌, ◌+◌, ◌<◌, ℕ, None, length, take, get_or, sym, ap, ◌∙◌, arith}
 use Rattle.std.specs.List.{slice_get}
-use Rattle.cover_problem.specs.Path.{covered_by}
 use Rattle.cover_problem.specs.Problem.{option_at}
 use Rattle.x_steps.specs.StateValue.{StateValue}
-use Rattle.x_steps.specs.Steps.{covered_in}
 use Rattle.x_steps.proofs.OrderLemmas.{fits_valid}
 use Rattle.x_branches.specs.Branch.{end_of}
 use Rattle.x_branches.specs.Cut.{choices}
@@ -13,7 +11,7 @@ use Rattle.x_branches.specs.Walk.{end_choices}
 use Rattle.x_branches.proofs.StageLemmas.{choice_in}
 use Rattle.x_branches.proofs.RunnerLemmas.{position_fits}
 use Rattle.x_branches.proofs.UntriedLemmas.{covered_within, covered_more}
-use Rattle.x_branches.proofs.FirstLemmas.{IsSought, read_at, valid_front, path_choice, sought_begin, sought_more, none_without_choice, none_at_cursor}
+use Rattle.x_branches.proofs.FirstLemmas.{IsSought, read_at, valid_front, sought_begin, sought_more, none_without_choice, none_at_cursor}
 use Rattle.x_branches.proofs.runner.Runner.first_untried.Goals as goal
 
 pub covered_count-covered-requires-clause-valid : goal.covered_count-covered-requires-clause-valid

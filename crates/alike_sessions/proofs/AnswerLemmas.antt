@@ -1,7 +1,6 @@
 -- Sound sessions that are alike answer each command, each line and each text that is loaded with the same text, and stay alike.
-use Rattle.std.proofs.Common.{◌≡◌, ℕ, ◌≤◌, ◌&&◌, not, Bool, true, false, cond, Option, Some, None, Result, Ok, Err, List, [], ◌∷◌, map}
-use Rattle.std.proofs.Common.{length, refl, sym, ap, ap₂, ◌∙◌, subst}
-use Rattle.std.proofs.lemmas.Bool.{and_parts, not-true}
+use Rattle.std.proofs.Common.{◌≡◌, ℕ, ◌≤◌, Bool, true, false, cond, Option, Some, None, Result, Ok, Err, List, [], ◌∷◌, map}
+use Rattle.std.proofs.Common.{length, refl, sym, ap, ◌∙◌, subst}
 use Rattle.text_lines.specs.Writing.{text_of}
 use Rattle.cover_problem.specs.Problem.{ProblemValue, is_same}
 use Rattle.x_steps.specs.StateValue.{StateValue}
@@ -10,30 +9,25 @@ use Rattle.x_snapshot.specs.declared.breakpoint.Break.{Break}
 use Rattle.x_snapshot.specs.declared.fault.SnapshotFault.{SnapshotFault}
 use Rattle.x_snapshot.specs.Snapshot.{SnapshotValue}
 use Rattle.x_snapshot.specs.Judged.{snapshot_of}
-use Rattle.lab_book.specs.declared.status.Status.{Status}
-use Rattle.lab_book.specs.declared.status.Status.TheVariants as status
 use Rattle.lab_book.specs.declared.lease.Grant.{Grant}
 use Rattle.lab_book.specs.declared.fault.BookFault.TheVariants.{ForeignProblem}
 use Rattle.lab_book.specs.declared.entry.Call.{Call}
 use Rattle.lab_book.specs.declared.entry.Call.TheVariants as call
-use Rattle.lab_book.specs.declared.entry.Reply.{Reply}
-use Rattle.lab_book.specs.declared.entry.Reply.TheVariants as reply
-use Rattle.lab_book.specs.Tile.{TileValue, is_closed, is_held, is_leased, is_lease}
+use Rattle.lab_book.specs.Tile.{TileValue, is_held}
 use Rattle.lab_book.specs.Tiling.{tile_at}
-use Rattle.lab_book.specs.Book.{BookValue, outcome, book_step, path_of}
+use Rattle.lab_book.specs.Book.{outcome, book_step}
 use Rattle.lab_world.specs.Worker.{WorkerValue, lent_worker, moved_to}
-use Rattle.lab_world.proofs.HoldLemmas.{own_lease}
 use Rattle.debug_texts.specs.Command.{CommandValue}
 use Rattle.debug_texts.specs.Command as command
 use Rattle.debug_texts.specs.Reading.{command_of}
-use Rattle.debug_texts.specs.Replies.{standing_words, levels_words}
+use Rattle.debug_texts.specs.Replies.{levels_words}
 use Rattle.debug_texts.specs.declared.words.Counted.TheVariants as counts
 use Rattle.debug_texts.specs.declared.words.Plain.TheVariants.{NothingUntried, NoBranches}
 use Rattle.debug_texts.specs.declared.fault.DebugFault.TheVariants.{BadCommand, NoBranch, AlreadyOpen}
 use Rattle.debug_views.specs.Breakpoints.{with_break}
 use Rattle.debug_views.specs.Lines.{plain, counted, set, state_line, debug_refusal, book_refusal, snapshot_refusal}
 use Rattle.debug_views.specs.Showing.{show_lines, all_untried, or_none}
-use Rattle.debug_views.specs.Tiles.{standing_of, tile_line, visits_lines, same_cut, is_begun_at, place_at, refusal_or}
+use Rattle.debug_views.specs.Tiles.{tile_line, visits_lines, place_at, refusal_or}
 use Rattle.debug_views.specs.Tiles.{answer_of_tile, hold, put_back}
 use Rattle.debug_work.specs.Desk.{DeskAnswer}
 use Rattle.debug_work.specs.Walking.{AtWork, work, forward, steps_ahead, step_count, step_lines, run_count, run_lines, back_count}
@@ -47,121 +41,18 @@ use Rattle.x_debug.specs.Commands.{answer_line, answer_show, answer_untried, ans
 use Rattle.x_debug.specs.Commands.{answer_set, answer_clear, answer_step, answer_run, answer_back, answer_park, answer_save, answer_close}
 use Rattle.x_debug.specs.Commands.{answer_split, answer_retract, answer_hold, answer_put_back, answer_enter}
 use Rattle.x_debug.specs.Loading.{answers, load_by, load_answer, loaded, breaks_of}
-use Rattle.alike_books.specs.AlikeBooks.{AreAlikeBooks, anonymous_status, anonymous_tile, open_tiles}
-use Rattle.alike_books.specs.AlikeCalls.{Correspond, NameSameTile, addressed, anonymous_reply, AreAlikeOutcomes}
-use Rattle.alike_books.proofs.StatusLemmas.{closed_seen, held_seen, leased_seen}
+use Rattle.alike_books.specs.AlikeBooks.{open_tiles}
+use Rattle.alike_books.specs.AlikeCalls.{Correspond, addressed, AreAlikeOutcomes}
+use Rattle.alike_books.proofs.StatusLemmas.{held_seen}
 use Rattle.alike_books.proofs.ToldLemmas.{visits_alike, steps_alike, levels_alike}
-use Rattle.alike_books.proofs.PlaceLemmas.{Meet, first_meet}
+use Rattle.alike_books.proofs.PlaceLemmas.{Meet}
 use Rattle.alike_books.proofs.CallLemmas.{call_alike}
 use Rattle.alike_sessions.specs.AlikeSessions.{runner_of, AreAlikeSessions, AreSoundAlike, AreAlikeAnswers}
 use Rattle.alike_sessions.proofs.WorkLemmas.{IsSoundWork}
 use Rattle.alike_sessions.proofs.SoundLemmas.{run_within, work_of, answer_sound, line_sound, load_sound}
 use Rattle.alike_sessions.proofs.AlikeLemmas.{AreAlikeWorks, AreAlikeWorkAnswers, AreAlikeDeskAnswers, step_alike, forward_alike}
 use Rattle.alike_sessions.proofs.AlikeLemmas.{retract_alike, split_alike, save_alike, park_alike, close_alike}
-
--- ---- the lines of tiles
-
-standing_seen : (s : Status) → standing_of (anonymous_status s) ≡ standing_of s
-standing_seen status.Waiting = refl
-standing_seen status.Held = refl
-standing_seen (status.Leased w i) = refl
-standing_seen status.Closed = refl
-
-line_seen : (t : TileValue) → tile_line (anonymous_tile t) ≡ tile_line t
-line_seen t = ap (standing_words (path_of t.branch.lo) (path_of t.branch.hi)) (standing_seen t.status)
-
-lines_seen : (ts : List TileValue) → map tile_line (map anonymous_tile ts) ≡ map tile_line ts
-lines_seen [] = refl
-lines_seen (t ∷ ts) = ap₂ (λ (l : List (List ℕ)) (ls : List (List (List ℕ))). l ∷ ls) (line_seen t) (lines_seen ts)
-
-same_line : (t u : TileValue) → anonymous_tile t ≡ anonymous_tile u → tile_line t ≡ tile_line u
-same_line t u e = sym (line_seen t) ∙ ap tile_line e ∙ line_seen u
-
--- ---- the tile that a cut names
-
-begun_seen : (lo : Option (List ℕ)) (t : TileValue) → is_begun_at lo (anonymous_tile t) ≡ is_begun_at lo t
-begun_seen lo t = ap (λ (b : Bool). not b && same_cut (path_of t.branch.lo) lo) (closed_seen t.status)
-
-begun_open : (lo : Option (List ℕ)) (t : TileValue) → is_begun_at lo t ≡ true → is_closed t.status ≡ false
-begun_open lo t e = not-true _ (and_parts (not (is_closed t.status)) (same_cut (path_of t.branch.lo) lo) e).0
-
-place_meet : (lo : Option (List ℕ)) (a b : BookValue) → AreAlikeBooks a b → Meet a.tiles b.tiles (place_at lo a.tiles) (place_at lo b.tiles)
-place_meet lo a b k = first_meet (is_begun_at lo) (begun_seen lo) (begun_open lo) a.tiles b.tiles k.tiles
-
--- ---- a tile is named by its id
-
-leaser : Status → ℕ
-leaser (status.Leased w i) = w
-leaser s = 0
-
-leased_at : Status → ℕ
-leased_at (status.Leased w i) = i
-leased_at s = 0
-
--- its current lease, if it is leased
-abbrev naming : TileValue → Grant
-naming t = record { id = t.id; worker = leaser t.status; index = leased_at t.status }
-
-is_named : (t : TileValue) → is_lease t.status (naming t) ≡ is_leased t.status
-unfolding leaser leased_at
-is_named t = by t.status
-  where
-    by : (s : Status) → is_lease s (record { id = t.id; worker = leaser s; index = leased_at s }) ≡ is_leased s
-    by status.Waiting = refl
-    by status.Held = refl
-    by (status.Leased w i) = own_lease (status.Leased w i) (record { id = t.id; worker = w; index = i }) refl
-    by status.Closed = refl
-
-names_same : (a b : BookValue) (i j : ℕ) → Correspond a.tiles i b.tiles j
-    → NameSameTile a i (naming (tile_at a.tiles i)) b j (naming (tile_at b.tiles j))
-names_same a b i j p = record {
-  places = p;
-  id = refl;
-  also_id = refl;
-  current =
-      is_named (tile_at a.tiles i)
-      ∙ sym (leased_seen (tile_at a.tiles i).status)
-      ∙ ap (λ (t : TileValue). is_leased t.status) p.tile
-      ∙ leased_seen (tile_at b.tiles j).status
-      ∙ sym (is_named (tile_at b.tiles j));
-}
-
--- ---- what is read of a reply
-
-refusal_seen : (l : List (List (List ℕ))) (x : Reply) → refusal_or l x ≡ refusal_or l (anonymous_reply x)
-refusal_seen l (reply.Leased g lo hi mark n) = refl
-refusal_seen l reply.NoneWaits = refl
-refusal_seen l (reply.Posted stop n) = refl
-refusal_seen l (reply.Split id) = refl
-refusal_seen l (reply.Retracted from to) = refl
-refusal_seen l reply.Done = refl
-refusal_seen l (reply.Refused e) = refl
-
-same_refusal : (l m : List (List (List ℕ))) (x y : Reply) → l ≡ m → anonymous_reply x ≡ anonymous_reply y
-    → refusal_or l x ≡ refusal_or m y
-same_refusal l m x y e f = refusal_seen l x ∙ ap₂ refusal_or e f ∙ sym (refusal_seen m y)
-
-runner_seen : (p : ProblemValue) (x : Reply) → runner_of (lent_worker p x) ≡ runner_of (lent_worker p (anonymous_reply x))
-runner_seen p (reply.Leased g lo hi mark n) = refl
-runner_seen p reply.NoneWaits = refl
-runner_seen p (reply.Posted stop n) = refl
-runner_seen p (reply.Split id) = refl
-runner_seen p (reply.Retracted from to) = refl
-runner_seen p reply.Done = refl
-runner_seen p (reply.Refused e) = refl
-
--- ---- whether a branch is open
-
-both_open : (x y : Option WorkerValue) → runner_of x ≡ runner_of y → (P : Option WorkerValue → Option WorkerValue → Type 0) → P None None
-    → ((v w : WorkerValue) → x ≡ Some v → y ≡ Some w → v.runner ≡ w.runner → P (Some v) (Some w)) → P x y
-both_open None None e P none some = none
-both_open None (Some w) e P none some = absurd (cc)
-both_open (Some v) None e P none some = absurd (cc)
-both_open (Some v) (Some w) e P none some = some v w refl refl (cc)
-
-stand_alike : (x y : Option WorkerValue) → runner_of x ≡ runner_of y → stand_lines x ≡ stand_lines y
-stand_alike x y e =
-    both_open x y e (λ x y. stand_lines x ≡ stand_lines y) refl (λ v w a b g. ap (λ (q : RunnerValue). state_line q.position ∷ []) g)
+use Rattle.alike_sessions.proofs.TileLemmas.{lines_seen, same_line, place_meet, naming, names_same, same_refusal, runner_seen, both_open, stand_alike}
 
 -- the same text, and alike sessions that are left
 record Agree (x y : Answer) : Type 0 where

@@ -132,6 +132,20 @@ static SECOND_FAULTS: [(&[u8], SnapshotFault); 18] = [
     (b"breaks 1\nbreak item a\nend\n", SnapshotFault::NotOnRun),
 ];
 
+/// Changes of the small problem's snapshot: what stands there, what stands there then, and the first fault.
+static CHANGES: [(&str, &str, SnapshotFault); 5] = [
+    // option 5 doesn't have the item that is chosen first
+    ("state X2 - 4 5 1", "state X2 - 5", SnapshotFault::NotOnRun),
+    ("1\nend\n", "1\nend", SnapshotFault::Truncated),
+    ("1\nend\n", "1\nend\n\n", SnapshotFault::TrailingBytes),
+    ("polysnap 1", "polysnap 3", SnapshotFault::BadVersion),
+    (
+        "state X2 - 4 5 1",
+        "state X2 - 2",
+        SnapshotFault::OutsideBranch,
+    ),
+];
+
 /// Texts that are read.
 static READ: [&[u8]; 5] = [
     FROM_FOUR,
@@ -165,6 +179,22 @@ fn ends_in_fault(alloc: Global, front: &[u8], back: &[u8], fault: SnapshotFault)
 fn wrong_end(alloc: Global, front: &[u8], rows: &[(&[u8], SnapshotFault)]) -> Option<usize> {
     rows.iter()
         .position(|(back, fault)| !ends_in_fault(alloc, front, back, *fault))
+}
+
+/// Whether a text, in which something else stands at one place, has the fault.
+fn changes_to_fault(alloc: Global, text: &str, old: &str, new: &str, fault: SnapshotFault) -> bool {
+    let Some((front, back)) = text.split_once(old) else {
+        return false;
+    };
+    match joined(alloc, front.as_bytes(), new.as_bytes()) {
+        Ok(changed) => ends_in_fault(alloc, &changed, back.as_bytes(), fault),
+        Err(_) => false,
+    }
+}
+
+/// The place of the first of these changes of a text with another fault.
+fn wrong_part(alloc: Global, text: &str, rows: &[(&str, &str, SnapshotFault)]) -> Option<usize> {
+    rows.iter().position(|(old, new, fault)| !changes_to_fault(alloc, text, old, new, *fault))
 }
 
 /// Whether a snapshot is written as this text.
@@ -209,6 +239,12 @@ fn the_first_fault_of_a_text_is_told(rt: HostRuntime) {
     assert!(rt; wrong_end(alloc, b"", &FAULTS).is_none());
     assert!(rt; wrong_end(alloc, FIRST, &FIRST_FAULTS).is_none());
     assert!(rt; wrong_end(alloc, SECOND, &SECOND_FAULTS).is_none());
+}
+
+#[test]
+fn the_fault_of_a_changed_part_is_told(rt: HostRuntime) {
+    let text = str::from_utf8(FROM_FOUR).unwrap_or("");
+    assert!(rt; wrong_part(rt.alloc(), text, &CHANGES).is_none());
 }
 
 #[test]

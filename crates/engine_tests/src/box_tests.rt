@@ -1,6 +1,9 @@
 //! Pieces in boxes through `run`, with the counts that two other programs print.
 
+use crate::class_tests::PENTOMINOES as PENTOMINO_PUZZLE;
 use crate::cover_tests::{cover, ends_with};
+use crate::puzzle_tests::{SOMA as SOMA_PUZZLE, ends_so};
+use lab_engine::Job;
 use std::alloc::{AllocError, Global};
 use std::fmt::Write;
 use std::test::Fail;
@@ -116,12 +119,21 @@ fn placements(alloc: Global, grid: &[(Cell, u64)], piece: &str) -> Result<Vec<u6
     Ok(found)
 }
 
-/// The name of a cell: its coordinates as the digits of a number.
-fn cell_number(cell: &Cell) -> u32 {
+/// Appends the symbol of a coordinate.
+fn push_symbol(text: &mut String, coordinate: u32) -> Result<(), AllocError> {
+    match b"0123456789abcdefghijklmnopqrstuv".get(coordinate as usize) {
+        Some(symbol) => text.push(*symbol as char),
+        None => Ok(()),
+    }
+}
+
+/// Appends a cell, by the symbols of its coordinates.
+fn push_cell(text: &mut String, cell: &Cell) -> Result<(), AllocError> {
     let (x, y, z) = *cell;
-    x.wrapping_mul(100)
-        .wrapping_add(y.wrapping_mul(10))
-        .wrapping_add(z)
+    text.push_str(" ")?;
+    push_symbol(text, x)?;
+    push_symbol(text, y)?;
+    push_symbol(text, z)
 }
 
 /// Whether a cell's bit is one of these.
@@ -133,7 +145,7 @@ fn has(bits: u64, bit: u64) -> bool {
 fn push_cells(text: &mut String, grid: &[(Cell, u64)], bits: u64) -> Result<(), AllocError> {
     for (cell, bit) in grid {
         if has(bits, *bit) {
-            write!(text, " {}", cell_number(cell))?;
+            push_cell(text, cell)?;
         }
     }
     Ok(())
@@ -185,6 +197,61 @@ fn packings_of_a_box_are_listed(rt: HostRuntime) -> Result<(), Fail> {
         assert_eq!(rt; done.status, 0);
         assert!(rt; ends_with(&done.output, lines, end));
         assert!(rt; done.faults.is_empty());
+    }
+    Ok(())
+}
+
+/// Puzzles of boxes, with their pieces and sizes as they stand here, and how many options each piece has.
+static BOXES: [(&str, &str, Cell, &[usize]); 2] = [
+    (
+        SOMA_PUZZLE,
+        SOMA,
+        (3, 3, 3),
+        &[144, 144, 72, 72, 96, 96, 64],
+    ),
+    (
+        PENTOMINO_PUZZLE,
+        PENTOMINOES,
+        (20, 3, 1),
+        &[144, 48, 136, 136, 220, 72, 110, 72, 72, 18, 136, 72],
+    ),
+];
+
+/// Whether a line is an option of a piece.
+fn is_option_of(line: &str, piece: &str) -> bool {
+    let mut words = line.split(' ');
+    let key = words.next().unwrap_or("");
+    let name = words.next().unwrap_or("");
+    key == "option" && name == name_of(piece)
+}
+
+/// How many options of a piece a cover text has.
+fn count_options(text: &str, piece: &str) -> usize {
+    let mut count = 0usize;
+    for line in text.lines() {
+        if is_option_of(line, piece) {
+            count = count.saturating_add(1);
+        }
+    }
+    count
+}
+
+/// Whether each piece has so many options in a cover text.
+fn are_counted(text: &str, pieces: &str, counts: &[usize]) -> bool {
+    for (piece, count) in pieces.lines().zip(counts) {
+        if count_options(text, piece) != *count {
+            return false;
+        }
+    }
+    true
+}
+
+#[test]
+fn options_of_a_box_are_written(rt: HostRuntime) -> Result<(), Fail> {
+    for (puzzle, pieces, size, counts) in BOXES {
+        let text = text_of(rt.alloc(), size, pieces)?;
+        assert!(rt; are_counted(&text, pieces, counts));
+        assert!(rt; ends_so(&rt, rt.alloc(), Job::Options, puzzle, 0, &text, ""));
     }
     Ok(())
 }

@@ -11,7 +11,7 @@ const MIRROR_PAIR: &str =
     "cells 000\nmaybe cells 001 010 011 100 101 110 111\nmaybe piece A 000 100 010 011\n\
      maybe piece B 000 010 100 101\n";
 
-const PENTOMINOES: &str =
+pub const PENTOMINOES: &str =
     "piece F 100 200 010 110 120\npiece I 000 100 200 300 400\npiece L 000 100 200 300 010\n\
      piece N 000 100 110 210 310\npiece P 000 100 010 110 020\npiece T 000 100 200 110 120\n\
      piece U 000 200 010 110 210\npiece V 000 010 020 120 220\npiece W 000 010 110 120 220\n\

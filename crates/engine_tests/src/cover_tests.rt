@@ -112,6 +112,27 @@ fn texts_are_refused(rt: HostRuntime) {
     }
 }
 
+/// Texts with a byte that isn't plain, each with the status and what is written and told of it.
+static ODD_BYTES: [(&[u8], u8, &[u8], &[u8]); 2] = [
+    (
+        b"items a\n\xff",
+        3,
+        b"",
+        b"refused cover 7 BadLine line 2\n",
+    ),
+    (b"items a\n#\xff", 0, b"visits 0\nsteps 7\nlevels 1\n", b""),
+];
+
+#[test]
+fn odd_bytes_stand_in_comments_alone(rt: HostRuntime) {
+    for (text, status, output, faults) in ODD_BYTES {
+        let done = cover(&rt, rt.alloc(), text);
+        assert!(rt; done.status == status);
+        assert!(rt; done.output.as_slice() == output);
+        assert!(rt; done.faults.as_slice() == faults);
+    }
+}
+
 /// `items a` and so many lines `option a`.
 pub fn equal_options(alloc: Global, count: usize) -> Result<Vec<u8>, AllocError> {
     let mut text = Vec::from_slice(alloc, b"items a\n")?;
@@ -180,14 +201,42 @@ impl Write for Takes {
     }
 }
 
+/// A reader that gives its bytes again and again, without end.
+#[derive(Drop)]
+struct Repeats<'a>(&'a [u8]);
+
+impl Read for Repeats<'_> {
+    fn read(&mut self, buf: &mut [u8]) -> io::Result<usize> {
+        let mut bytes = self.0;
+        bytes.read(buf)
+    }
+}
+
+/// Whether the input of a reader is refused, and nothing is written.
+fn refuses_input<R: Threads + Wait + Sync, I: Read + Drop>(
+    rt: &R,
+    alloc: Global,
+    reader: I,
+) -> bool {
+    let mut output: Vec<u8> = Vec::new(alloc);
+    let mut faults: Vec<u8> = Vec::new(alloc);
+    let status = status_of(rt, alloc, reader, &mut output, &mut faults);
+    status == 5 && output.is_empty() && faults.as_slice() == b"refused input\n".as_slice()
+}
+
 #[test]
 fn a_broken_reader_is_told(rt: HostRuntime) {
-    let mut output: Vec<u8> = Vec::new(rt.alloc());
-    let mut faults: Vec<u8> = Vec::new(rt.alloc());
-    let reader = Breaks(SMALL.as_bytes());
-    assert!(rt; status_of(&rt, rt.alloc(), reader, &mut output, &mut faults) == 5);
-    assert!(rt; faults.as_slice() == b"refused input\n".as_slice());
-    assert!(rt; output.is_empty());
+    for len in 0..=SMALL.len() {
+        let reader = Breaks(&SMALL.as_bytes()[..len]);
+        assert!(rt; refuses_input(&rt, rt.alloc(), reader), "after {len}");
+    }
+}
+
+#[test]
+fn a_comment_without_end_is_refused(rt: HostRuntime) -> Result<(), Fail> {
+    let hashes = vec![in rt.alloc(); b'#'; 65_536]?;
+    assert!(rt; refuses_input(&rt, rt.alloc(), Repeats(hashes.as_slice())));
+    Ok(())
 }
 
 #[test]

@@ -5,6 +5,7 @@ use lab_engine::{Job, run};
 use lab_pool::NoGate;
 use std::alloc::Global;
 use std::sync::Wait;
+use std::test::Fail;
 use std::thread::Threads;
 
 pub const DOMINOES: &str = "piece A 000 100\npiece B 000 100\nbox 2 2 1\n";
@@ -106,20 +107,26 @@ fn packings_are_counted(rt: HostRuntime) {
     }
 }
 
+/// Puzzles, each with the cover text that is written of it.
+static OPTIONS: [(&str, &str); 3] = [
+    (
+        DOMINOES,
+        "items A B 000 010 100 110\noption A 000 010\noption A 000 100\noption A 010 110\n\
+         option A 100 110\noption B 000 010\noption B 000 100\noption B 010 110\noption B 100 110\n",
+    ),
+    (
+        STRIP,
+        "items A 000 100\nmaybe 200\noption A 000 100\noption A 100 200\n",
+    ),
+    (
+        OPTIONAL,
+        "items A 000 100\nmaybe B 200\noption A 000 100\noption A 100 200\noption B 000\noption B 100\n",
+    ),
+];
+
 #[test]
 fn options_are_written(rt: HostRuntime) {
-    let rows = [
-        (
-            DOMINOES,
-            "items A B 000 010 100 110\noption A 000 010\noption A 000 100\noption A 010 110\n\
-             option A 100 110\noption B 000 010\noption B 000 100\noption B 010 110\noption B 100 110\n",
-        ),
-        (
-            STRIP,
-            "items A 000 100\nmaybe 200\noption A 000 100\noption A 100 200\n",
-        ),
-    ];
-    for (text, written) in rows {
+    for (text, written) in &OPTIONS {
         assert!(rt;
             ends_so(&rt, rt.alloc(), Job::Options, text, 0, written, ""),
             "for {text}"
@@ -127,20 +134,26 @@ fn options_are_written(rt: HostRuntime) {
     }
 }
 
+/// Texts of puzzles, each with the line that refuses it.
+static REFUSED: [(&str, &str); 7] = [
+    (
+        "piece V 000 100 100\n",
+        "refused puzzle 3 RepeatedCell line 1\n",
+    ),
+    ("", "refused puzzle 6 EmptyRegion line 0\n"),
+    ("box 1 1 1\n", "refused puzzle 7 NoPiece line 0\n"),
+    ("box 33 1 1\n", "refused puzzle 8 TooLarge line 1\n"),
+    ("box 32 32 4\n", "refused puzzle 7 NoPiece line 0\n"),
+    ("box 32 32 5\n", "refused puzzle 8 TooLarge line 1\n"),
+    (
+        "maybe cells 000\nmaybe piece A 000\n",
+        "refused puzzle 9 NothingRequired line 0\n",
+    ),
+];
+
 #[test]
 fn puzzles_are_refused(rt: HostRuntime) {
-    let rows = [
-        (
-            "piece V 000 100 100\n",
-            "refused puzzle 3 RepeatedCell line 1\n",
-        ),
-        ("", "refused puzzle 6 EmptyRegion line 0\n"),
-        ("box 1 1 1\n", "refused puzzle 7 NoPiece line 0\n"),
-        ("box 33 1 1\n", "refused puzzle 8 TooLarge line 1\n"),
-        ("box 32 32 4\n", "refused puzzle 7 NoPiece line 0\n"),
-        ("box 32 32 5\n", "refused puzzle 8 TooLarge line 1\n"),
-    ];
-    for (text, line) in rows {
+    for (text, line) in &REFUSED {
         for job in [
             Job::Solve { workers: 1 },
             Job::Count { workers: 1 },
@@ -203,4 +216,22 @@ fn counted<R: Threads + Wait + Sync>(rt: &R, alloc: Global, text: &str, first: &
 #[test]
 fn the_soma_cube_has_its_packings(rt: HostRuntime) {
     assert!(rt; counted(&rt, rt.alloc(), SOMA, "packings 11520\noptions 688\n"));
+}
+
+#[test]
+fn the_soma_cube_without_its_middle_has_no_packing(rt: HostRuntime) -> Result<(), Fail> {
+    let text = format!(in rt.alloc(); "{SOMA}cut 111\n")?;
+    let counts = "packings 0\noptions 452\nsteps 377839\nlevels 1 32 544 3816 13552 21522 7763\n";
+    assert!(rt;
+        ends_so(
+            &rt,
+            rt.alloc(),
+            Job::Count { workers: 1 },
+            &text,
+            0,
+            counts,
+            ""
+        )
+    );
+    Ok(())
 }

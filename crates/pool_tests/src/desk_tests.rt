@@ -1,10 +1,10 @@
 //! Two seats at a desk, whose calls are made by hand.
 
-use crate::books::{begins_with, begun, is_done, is_some_done};
+use crate::books::{begins_with, begun, held_before, is_done, is_some_done};
 use crate::desks::{Way, Work, at_desk};
 use cover_problem::{Problem, read_cover};
 use drawn_problems::SMALL;
-use lab_book::Book;
+use lab_book::{Book, Tile};
 use std::alloc::{AllocError, Global};
 use std::sync::Wait;
 use std::test::Fail;
@@ -38,6 +38,53 @@ fn a_seat_is_missing(rt: HostRuntime) -> Result<(), Fail> {
     let problem = read_cover(rt.alloc(), SMALL.as_bytes())?;
     let done = finish_the_small(&rt, rt.alloc(), &problem, Work::Share, Way::OneShort, 7)?;
     assert!(rt; done);
+    Ok(())
+}
+
+/// Copies of a book's tiles.
+fn tiles_of<'p>(alloc: Global, book: &Book<'p>) -> Result<Vec<Tile<'p>>, AllocError> {
+    let mut tiles = Vec::new(alloc);
+    for tile in book.tiles() {
+        tiles.push(tile.copy()?)?;
+    }
+    Ok(tiles)
+}
+
+/// Whether a book's tiles are these.
+fn has_tiles(book: &Book<'_>, tiles: &[Tile<'_>]) -> bool {
+    if book.tiles().len() != tiles.len() {
+        return false;
+    }
+    for (tile, other) in book.tiles().iter().zip(tiles) {
+        if !tile.same(other) || !tile.mark().same(other.mark()) {
+            return false;
+        }
+    }
+    true
+}
+
+/// Whether a desk where nothing is called, and that isn't finished by one seat of the two, leaves the tiles of a book as they were.
+fn leaves_tiles<R: Wait>(
+    rt: &R,
+    alloc: Global,
+    book: Option<Book<'_>>,
+) -> Result<bool, AllocError> {
+    let Some(book) = book else {
+        return Ok(false);
+    };
+    let before = tiles_of(alloc, &book)?;
+    match at_desk(rt, alloc, book, Work::Nothing, Way::OneShort) {
+        Some(book) => Ok(has_tiles(&book, &before)),
+        None => Ok(false),
+    }
+}
+
+#[test]
+fn a_missing_seat_changes_no_tile(rt: HostRuntime) -> Result<(), Fail> {
+    let problem = read_cover(rt.alloc(), SMALL.as_bytes())?;
+    let book = held_before(rt.alloc(), &problem);
+    let left = leaves_tiles(&rt, rt.alloc(), book)?;
+    assert!(rt; left);
     Ok(())
 }
 

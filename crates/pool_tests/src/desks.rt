@@ -18,6 +18,8 @@ pub enum Work {
     GoOn,
     /// The second stops the first after five steps, and searches the rest.
     Stop,
+    /// Neither calls.
+    Nothing,
 }
 
 /// How the seats are handed in.
@@ -174,6 +176,7 @@ fn act<'p, L: Desking, R: Wait>(
             let search = take_held(rt, alloc, desk, second, 0);
             ends(rt, desk, second, search, 38) && stopped
         }
+        Work::Nothing => true,
     }
 }
 

@@ -1,6 +1,6 @@
 //! Cover texts, with answers that were worked out by hand.
 
-use crate::setting::many_options;
+use crate::setting::{SMALL, many_options};
 use cover_problem::{CoverFault, Fault, Problem, read_cover, write_cover};
 use std::alloc::{AllocError, Global};
 use std::test::Fail;
@@ -47,12 +47,13 @@ static READ: [&[u8]; 3] = [
 ];
 
 /// Texts, each with the text that is written of its problem.
-static WRITTEN: [(&[u8], &[u8]); 2] = [
+static WRITTEN: [(&[u8], &[u8]); 3] = [
     (
         b"# small\n\nitems a b # two\r\n\tmaybe  c\n \noption c a\noption b c#\xff\noption b",
         b"items a b\nmaybe c\noption c a\noption b c\noption b\n",
     ),
     (b"items Abc_0129", b"items Abc_0129\n"),
+    (SMALL, SMALL),
 ];
 
 /// The fault of a text, where it has one.

@@ -16,6 +16,9 @@ const WITH_BREAKS: &str =
     "polysnap 2\nproblem 7\nitems a b c d e f g\noption c e\noption a d g\noption b c f\noption a d f\n\
      option b g\noption d e g\nfrom 4\nto end\nstate X2 - 4 5 1\nbreaks 1\nbreak level 3\nend\n";
 
+/// What is shown there.
+const SHOWN: &str = "at X2 - 4 5 1\nbranch 4 to end\ncovered a d f b g c e\n";
+
 /// Where a session begins anew in the rows below, and where it goes on with its book alone, if no branch is
 /// open.
 const NEW: &str = "new";
@@ -40,7 +43,7 @@ static BREAK_ROWS: [Row; 7] = [
 ];
 
 /// Lines and snapshots, each with what is answered.
-static ROWS: [Row; 97] = [
+static ROWS: [Row; 102] = [
     (NEW, ""),
     // To where nothing is left to try below an option, and back to the start.
     ("step 12", "moved 12\nat X5 past 2 3\n"),
@@ -125,12 +128,17 @@ static ROWS: [Row; 97] = [
     (NEW, ""),
     // And with it.
     (TO_BREAK, ""),
+    ("show", SHOWN),
     (
         "save breaks",
         "snapshot 15\npolysnap 2\nproblem 7\nitems a b c d e f g\noption c e\noption a d g\noption b c f\n\
          option a d f\noption b g\noption d e g\nfrom 4\nto end\nstate X2 - 4 5 1\nbreaks 1\nbreak level 3\n\
          end\n",
     ),
+    (NEW, ""),
+    (WITH_BREAKS, "at X2 - 4 5 1\n"),
+    ("show", SHOWN),
+    ("clear", "cleared 1\n"),
     (NEW, ""),
     ("break visit", "set visit\n"),
     (SNAPSHOT, "at X2 - 4 5 1\n"),

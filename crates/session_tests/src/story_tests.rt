@@ -10,7 +10,7 @@ use std::test::Fail;
 use std::thread::Threads;
 
 /// A text of a problem and commands, and what is answered.
-static STORIES: [(&str, &str); 11] = [
+static STORIES: [(&str, &str); 13] = [
     (
         "items a b c d e f g\noption c e\noption a d g\noption b c f\noption a d f\noption b g\n\
          option d e g\n%%\nstep 12\nshow\nback 12\nback\n",
@@ -63,6 +63,24 @@ static STORIES: [(&str, &str); 11] = [
          option a d g\noption b c f\noption a d f\noption b g\noption d e g\nfrom 4\nto end\n\
          state X2 - 4 5 1\nend\npark\npool 2\nvisits\nsteps\n",
         "at X2 - 4 5 1\nparked\npooled\nvisit 4 5 1\nvisits 1\nsteps 14\n",
+    ),
+    // Secondary items are shown until they are covered.
+    (
+        "items a b\nmaybe c\noption a c\noption b c\noption a\noption b\n%%\nstep\nshow\nstep 4\nshow\n\
+         step 12\nshow\n",
+        "moved 1\nat X2 -\nat X2 -\nbranch start to end\ncovered -\nactive a 2 1 3\nactive b 2 2 4\n\
+         second c 2 1 2\nmoved 4\nat X2 - 1\nat X2 - 1\nbranch start to end\ncovered a c\nactive b 1 4\n\
+         visit 1 4\nmoved 12\nat X2 - 3\nat X2 - 3\nbranch start to end\ncovered a\nactive b 2 2 4\n\
+         second c 1 2\n",
+    ),
+    (
+        "items A 000 100\nmaybe B 200\noption A 000 100\noption A 100 200\noption B 000\noption B 100\n%%\n\
+         show\nstep 5\nshow\nstep 4\nshow\nrun\nclose\nsteps\n",
+        "at X1 -\nbranch start to end\ncovered -\nactive A 2 1 2\nactive 000 2 1 3\nactive 100 3 1 2 4\n\
+         second B 2 3 4\nsecond 200 1 2\nmoved 5\nat X2 - 1\nat X2 - 1\nbranch start to end\n\
+         covered A 000 100\nsecond B 0\nsecond 200 0\nvisit 1\nmoved 4\nat X2 - 2\nat X2 - 2\n\
+         branch start to end\ncovered A 100 200\nactive 000 1 3\nsecond B 1 3\nvisit 2 3\nmoved 14\n\
+         at Done -\nend\nclosed\nsteps 23\n",
     ),
 ];
 

@@ -3,11 +3,13 @@ ghost use Rattle.std.specs.Prelude.{◌≡◌, ◌<◌, ◌≤◌, length, [], �
 ghost use Rattle.cover_problem.specs.Problem.{size_of};
 
 use cover_links::{Block, Entry, LinkTable};
-use cover_problem::{Table, read_cover};
+use cover_problem::{Problem, Table, read_cover};
 use drawn_problems::SMALL;
 use linked_list_allocator::LocalHeap;
-use std::alloc::{AllocError, Allocator};
+use std::alloc::{AllocError, Allocator, Global};
+use std::process::Abort;
 use std::test::Fail;
+use x_steps::{Label, Machine};
 
 /// The entries 1 to 30: an item's length, a node's item, or a spacer's option negated, and the links up and down.
 /// (TAOCP volume 4B, section 7.2.2.1, table 1, with the spacers' links.)
@@ -124,6 +126,50 @@ fn uncovering_gives_the_table_of_nodes_back(rt: HostRuntime) -> Result<(), Fail>
     uncover_three(&mut table, 1, 4, 7);
     assert!(rt; is_small_block(&table));
     Ok(())
+}
+
+/// Tells a table of nodes that isn't the small problem's.
+fn assert_small_block(rt: &impl Abort, table: &LinkTable) {
+    assert!(rt; table.entries() == 31);
+    assert!(rt; is_small_block(table));
+}
+
+/// How many steps a machine takes to its end.
+fn count_steps<T: Table>(machine: &mut Machine<'_, T>) -> u32 {
+    let mut steps: u32 = 0;
+    for _ in 0..100_000 {
+        if machine.step().is_err() {
+            break;
+        }
+        steps = steps.wrapping_add(1);
+    }
+    steps
+}
+
+/// Tells a walk to the end that doesn't begin and end with the small problem's table of nodes.
+fn assert_walked(rt: &impl Abort, machine: &mut Machine<'_, LinkTable>) {
+    assert_small_block(rt, machine.table());
+    assert!(rt; count_steps(machine) == 43);
+    assert!(rt; machine.state().label == Label::Done);
+    assert_small_block(rt, machine.table());
+}
+
+/// The same of a new machine.
+fn assert_walks(rt: &impl Abort, alloc: Global, problem: &Problem) -> Result<(), Fail> {
+    let table = LinkTable::new(alloc, problem)?;
+    match Machine::new(alloc, problem, table) {
+        Ok(mut machine) => {
+            assert_walked(rt, &mut machine);
+            Ok(())
+        }
+        Err(_) => Err(Fail::from("no machine")),
+    }
+}
+
+#[test]
+fn the_end_of_a_run_has_the_table_of_nodes_again(rt: HostRuntime) -> Result<(), Fail> {
+    let problem = read_cover(rt.alloc(), SMALL.as_bytes())?;
+    assert_walks(&rt, rt.alloc(), &problem)
 }
 
 #[test]

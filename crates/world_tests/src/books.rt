@@ -5,4 +5,5 @@ mod entry_tests;
 mod finishing;
 mod new_tests;
 mod resumed_tests;
-mod setting;
+mod search_tests;
+pub mod setting;

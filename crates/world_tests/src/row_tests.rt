@@ -1,14 +1,16 @@
 //! Worlds of the small problem, row by row.
 
+use crate::books::setting::{cut_of, state_at, value_of};
 use crate::setting::{Do, add, play, visits_of};
-use cover_problem::{PlainTable, Problem, read_cover};
+use cover_links::LinkTable;
+use cover_problem::{PlainTable, Problem, Table, read_cover};
 use drawn_problems::SMALL;
 use lab_book::{Book, Entry, Reply, Tile};
 use lab_world::{World, WorldReply};
 use std::alloc::{AllocError, Global};
 use std::test::Fail;
-use x_branches::RunnerFault;
-use x_steps::{Event, Label};
+use x_branches::{Branch, RunnerFault};
+use x_steps::{Cursor, Event, Label};
 
 /// What a worker does, how often, and what it is answered each time; the number of the book's refusal, or 0;
 /// and how many steps are posted then.
@@ -54,7 +56,7 @@ fn is_noted(book: &Book<'_>, entries: usize, reply: WorldReply, number: u8) -> b
 }
 
 /// Whether a row holds.
-fn holds(alloc: Global, world: &mut World<'_, PlainTable>, row: Row) -> Result<bool, Fail> {
+fn holds<T: Table>(alloc: Global, world: &mut World<'_, T>, row: Row) -> Result<bool, Fail> {
     let (worker, todo, times, reply, number, steps) = row;
     let entries = world.book().history().len();
     let mut events = Vec::new(alloc);
@@ -69,9 +71,9 @@ fn holds(alloc: Global, world: &mut World<'_, PlainTable>, row: Row) -> Result<b
 }
 
 /// How many rows hold, up to the first that doesn't.
-fn count_holding(
+fn count_holding<T: Table>(
     alloc: Global,
-    world: &mut World<'_, PlainTable>,
+    world: &mut World<'_, T>,
     rows: &[Row],
 ) -> Result<usize, Fail> {
     for (place, row) in rows.iter().enumerate() {
@@ -83,58 +85,88 @@ fn count_holding(
 }
 
 /// How many rows hold, and what is posted then.
-fn rows_and_tally(
+fn rows_and_tally<T: Table>(
     alloc: Global,
-    world: &mut World<'_, PlainTable>,
+    world: &mut World<'_, T>,
     rows: &[Row],
 ) -> Result<(usize, Tally), Fail> {
     let count = count_holding(alloc, world, rows)?;
     Ok((count, tally_of(alloc, world.book())?))
 }
 
-/// The same in a new world with two workers.
-fn rows_and_tally_anew(
+/// The same in a new world with two workers, over tables of a kind.
+fn rows_and_tally_anew<T: Table>(
     alloc: Global,
     problem: &Problem,
     rows: &[Row],
 ) -> Result<(usize, Tally), Fail> {
-    let mut world = World::new(alloc, problem, 2)?;
+    let mut world = World::<T>::new(alloc, problem, 2)?;
     rows_and_tally(alloc, &mut world, rows)
 }
 
 /// The same of the small problem.
-fn rows_and_tally_of_small(alloc: Global, rows: &[Row]) -> Result<(usize, Tally), Fail> {
+fn rows_and_tally_of_small<T: Table>(alloc: Global, rows: &[Row]) -> Result<(usize, Tally), Fail> {
     let problem = read_cover(alloc, SMALL.as_bytes())?;
-    rows_and_tally_anew(alloc, &problem, rows)
+    rows_and_tally_anew::<T>(alloc, &problem, rows)
 }
 
-/// What was posted to a book: its visits with a 0 after each, how many X2 states at each level, each stretch
-/// by its steps and its levels, and whether all tiles are closed.
+/// How many rows of the small problem hold, over plain tables.
+fn count_of_small(alloc: Global, rows: &[Row]) -> Result<usize, Fail> {
+    let (count, _tally) = rows_and_tally_of_small::<PlainTable>(alloc, rows)?;
+    Ok(count)
+}
+
+/// What was posted to a book: its visits with a 0 after each, how many X2 states at each level, each tile by its id and each of its
+/// stretches by its steps, how many it visits, and its levels; the ids that splits answered; and whether all tiles are closed.
 #[derive(Drop)]
 struct Tally {
     visits: Vec<u32>,
     levels: Vec<u128>,
-    parts: Vec<u32>,
+    parts: Vec<u64>,
+    splits: Vec<u64>,
     all: bool,
 }
 
-/// Adds the stretches of a tile.
-fn add_parts(alloc: Global, parts: &mut Vec<u32>, tile: &Tile<'_>) -> Result<(), AllocError> {
-    for stretch in tile.stretches() {
-        parts.push(stretch.steps())?;
-        let opened = stretch.open(alloc)?;
-        parts.extend_from_slice(opened.levels())?;
+/// Adds how many X2 states there are at each level.
+fn add_levels(parts: &mut Vec<u64>, levels: &[u32]) -> Result<(), AllocError> {
+    for count in levels {
+        parts.push(*count as u64)?;
     }
     Ok(())
 }
 
-/// The stretches of a book, tile by tile.
-fn parts_of(alloc: Global, book: &Book<'_>) -> Result<Vec<u32>, AllocError> {
+/// Adds a tile with its stretches.
+fn add_parts(alloc: Global, parts: &mut Vec<u64>, tile: &Tile<'_>) -> Result<(), AllocError> {
+    parts.push(tile.id())?;
+    for stretch in tile.stretches() {
+        parts.push(stretch.steps() as u64)?;
+        parts.push(stretch.visited())?;
+        let opened = stretch.open(alloc)?;
+        add_levels(parts, opened.levels())?;
+    }
+    Ok(())
+}
+
+/// The tiles of a book with their stretches.
+fn parts_of(alloc: Global, book: &Book<'_>) -> Result<Vec<u64>, AllocError> {
     let mut parts = Vec::new(alloc);
     for tile in book.tiles() {
         add_parts(alloc, &mut parts, tile)?;
     }
     Ok(parts)
+}
+
+/// The ids that a book's splits answered.
+fn splits_of(alloc: Global, book: &Book<'_>) -> Result<Vec<u64>, AllocError> {
+    let history = book.history();
+    let mut ids = Vec::new(alloc);
+    for place in 0..history.len() {
+        let entry = history.entry(place)?;
+        if let Reply::Split(id) = entry.reply() {
+            ids.push(*id)?;
+        }
+    }
+    Ok(ids)
 }
 
 /// What was posted to a book.
@@ -143,6 +175,7 @@ fn tally_of(alloc: Global, book: &Book<'_>) -> Result<Tally, AllocError> {
         visits: visits_of(alloc, book)?,
         levels: book.levels()?,
         parts: parts_of(alloc, book)?,
+        splits: splits_of(alloc, book)?,
         all: book.finished(),
     })
 }
@@ -154,28 +187,20 @@ const VISITED: WorldReply = WorldReply::Event(Event::Visited);
 const FINISHED: WorldReply = WorldReply::Event(Event::Finished);
 
 /// Two workers share the run at the cut 4.
-static SHARED: [Row; 14] = [
+static SHARED: [Row; 13] = [
     (0, Do::LeaseAny, 1, WorldReply::Book(0), 0, 0),
     (0, Do::Step, 5, MOVED, 0, 0),
     (0, Do::Split(0, 4), 1, WorldReply::Book(1), 0, 0),
     (1, Do::LeaseAny, 1, WorldReply::Book(2), 0, 0),
-    (0, Do::Step, 15, MOVED, 0, 0),
-    (
-        0,
-        Do::Step,
-        1,
-        WorldReply::Runner(RunnerFault::AtBranchEnd),
-        0,
-        0,
-    ),
     (1, Do::Step, 9, MOVED, 0, 0),
     (1, Do::Step, 1, VISITED, 0, 0),
     (1, Do::Step, 12, MOVED, 0, 0),
     (1, Do::Step, 1, FINISHED, 0, 0),
     (1, Do::Post, 1, WorldReply::Book(3), 0, 23),
-    (0, Do::Post, 1, WorldReply::Book(4), 0, 43),
-    (0, Do::Close, 1, WorldReply::Book(5), 0, 43),
-    (1, Do::Close, 1, WorldReply::Book(6), 0, 43),
+    (1, Do::Close, 1, WorldReply::Book(4), 0, 23),
+    (0, Do::Step, 15, MOVED, 0, 23),
+    (0, Do::Post, 1, WorldReply::Book(5), 0, 43),
+    (0, Do::Close, 1, WorldReply::Book(6), 0, 43),
 ];
 
 impl Tally {
@@ -184,14 +209,72 @@ impl Tally {
         self.all
             && self.visits.as_slice() == [4, 5, 1, 0].as_slice()
             && self.levels.as_slice() == [1, 2, 2, 1].as_slice()
-            && self.parts.as_slice() == [20, 1, 1, 1, 23, 0, 1, 1, 1].as_slice()
+            && self.parts.as_slice() == [0, 20, 0, 1, 1, 1, 1, 23, 1, 0, 1, 1, 1].as_slice()
+            && self.splits.as_slice() == [1].as_slice()
     }
+
+    /// Whether the last 14 steps are posted, with the visit.
+    fn is_rest(&self) -> bool {
+        self.all
+            && self.visits.as_slice() == [4, 5, 1, 0].as_slice()
+            && self.levels.as_slice() == [0, 0, 0, 1].as_slice()
+            && self.parts.as_slice() == [0, 14, 1, 0, 0, 0, 1].as_slice()
+            && self.splits.is_empty()
+    }
+}
+
+/// Whether two workers share the run so, over tables of a kind.
+fn is_shared_over<T: Table>(alloc: Global) -> Result<bool, Fail> {
+    let (count, tally) = rows_and_tally_of_small::<T>(alloc, &SHARED)?;
+    Ok(count == 13 && tally.is_shared())
 }
 
 #[test]
 fn two_workers_share_the_run(rt: HostRuntime) -> Result<(), Fail> {
-    let (count, tally) = rows_and_tally_of_small(rt.alloc(), &SHARED)?;
-    assert!(rt; count == 14 && tally.is_shared());
+    assert!(rt; is_shared_over::<PlainTable>(rt.alloc())?);
+    assert!(rt; is_shared_over::<LinkTable>(rt.alloc())?);
+    Ok(())
+}
+
+/// A worker goes on from the visit to the end.
+static FROM_THE_VISIT: [Row; 6] = [
+    (0, Do::LeaseAny, 1, WorldReply::Book(0), 0, 0),
+    (0, Do::Step, 1, VISITED, 0, 0),
+    (0, Do::Step, 12, MOVED, 0, 0),
+    (0, Do::Step, 1, FINISHED, 0, 0),
+    (0, Do::Post, 1, WorldReply::Book(1), 0, 14),
+    (0, Do::Close, 1, WorldReply::Book(2), 0, 14),
+];
+
+/// The book of the branch from the cut 4 to the end, at X2 below 4 5 1.
+fn resumed<'p>(alloc: Global, problem: &'p Problem) -> Result<Book<'p>, Fail> {
+    let lo = Some(cut_of(alloc, problem, &[4])?);
+    let state = state_at(alloc, Label::X2, &[4, 5, 1], Cursor::None)?;
+    value_of(Book::resumed(alloc, problem, Branch { lo, hi: None }, state))
+}
+
+/// How many rows hold in a world with one worker on a book, and what is posted then.
+fn rows_and_tally_on(alloc: Global, book: Book<'_>, rows: &[Row]) -> Result<(usize, Tally), Fail> {
+    if book.leased() > 0 {
+        return Err(Fail::from("a tile is leased"));
+    }
+    match World::<PlainTable>::on_book(alloc, book, 1) {
+        Ok(mut world) => rows_and_tally(alloc, &mut world, rows),
+        Err(_) => Err(Fail::from("no world")),
+    }
+}
+
+/// Whether a worker takes the rest of the run in a world on the book that goes on at the visit.
+fn takes_the_rest(alloc: Global, problem: &Problem) -> Result<bool, Fail> {
+    let book = resumed(alloc, problem)?;
+    let (count, tally) = rows_and_tally_on(alloc, book, &FROM_THE_VISIT)?;
+    Ok(count == 6 && tally.is_rest())
+}
+
+#[test]
+fn a_world_goes_on_with_a_book(rt: HostRuntime) -> Result<(), Fail> {
+    let problem = read_cover(rt.alloc(), SMALL.as_bytes())?;
+    assert!(rt; takes_the_rest(rt.alloc(), &problem)?);
     Ok(())
 }
 
@@ -282,7 +365,7 @@ static BACK: [Row; 21] = [
 ];
 
 /// A tile is put back, and stopped.
-static STOPPED: [Row; 17] = [
+static STOPPED: [Row; 19] = [
     (0, Do::LeaseAny, 1, WorldReply::Book(0), 0, 0),
     (0, Do::Step, 29, MOVED, 0, 0),
     (0, Do::Step, 1, VISITED, 0, 0),
@@ -307,22 +390,31 @@ static STOPPED: [Row; 17] = [
         0,
         0,
     ),
+    (1, Do::Step, 15, MOVED, 0, 0),
+    (
+        1,
+        Do::Step,
+        1,
+        WorldReply::Runner(RunnerFault::AtBranchEnd),
+        0,
+        0,
+    ),
 ];
 
 #[test]
 fn a_worker_without_a_tile_is_idle(rt: HostRuntime) -> Result<(), Fail> {
-    assert!(rt; rows_and_tally_of_small(rt.alloc(), &WITHOUT)?.0 == 18);
+    assert!(rt; count_of_small(rt.alloc(), &WITHOUT)? == 18);
     Ok(())
 }
 
 #[test]
 fn what_was_walked_is_taken_back(rt: HostRuntime) -> Result<(), Fail> {
-    assert!(rt; rows_and_tally_of_small(rt.alloc(), &BACK)?.0 == 21);
+    assert!(rt; count_of_small(rt.alloc(), &BACK)? == 21);
     Ok(())
 }
 
 #[test]
 fn a_tile_is_put_back_and_stopped(rt: HostRuntime) -> Result<(), Fail> {
-    assert!(rt; rows_and_tally_of_small(rt.alloc(), &STOPPED)?.0 == 17);
+    assert!(rt; count_of_small(rt.alloc(), &STOPPED)? == 19);
     Ok(())
 }

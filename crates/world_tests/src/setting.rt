@@ -1,7 +1,7 @@
 //! What workers do, the replies of a world, and the visits of a book.
 ghost use Rattle.std.specs.Prelude.{◌<◌, ◌↔◌, All, IsTrue};
 
-use cover_problem::{Lists, PlainTable};
+use cover_problem::{Lists, Table};
 use lab_book::Book;
 use lab_world::{Act, World, WorldEvent, WorldReply};
 use std::alloc::{AllocError, Global};
@@ -86,8 +86,8 @@ fn value_of<V: Drop, F: Drop>(made: Result<V, F>) -> Result<V, Fail> {
 }
 
 /// The replies to events of workers that there are.
-pub fn play(
-    world: &mut World<'_, PlainTable>,
+pub fn play<T: Table>(
+    world: &mut World<'_, T>,
     events: &[WorldEvent],
 ) -> Result<Vec<WorldReply>, Fail> {
     if !have_workers(events, world.workers()) {

@@ -67,7 +67,7 @@ fn lease_of(answer: Result<Leased<'_>, BookFault>) -> Result<Lease, BookFault> {
 }
 
 /// A lease that has to be given.
-fn given_lease(answer: Result<Leased<'_>, BookFault>) -> Result<Lease, Fail> {
+pub fn given_lease(answer: Result<Leased<'_>, BookFault>) -> Result<Lease, Fail> {
     match lease_of(answer) {
         Ok(lease) => Ok(lease),
         Err(_) => Err(Fail::from("no lease")),
@@ -114,7 +114,7 @@ fn leased(answer: Result<Leased<'_>, BookFault>) -> Option<u8> {
 }
 
 /// The number of a refusal that gives a lease back, or 0.
-fn ended(answer: Result<(), Refused<BookFault, Lease>>) -> Option<u8> {
+pub fn ended(answer: Result<(), Refused<BookFault, Lease>>) -> Option<u8> {
     match answer {
         Ok(()) => Some(0),
         Err(Refused { fault, given }) => {

@@ -2,21 +2,55 @@
 
 use crate::books::acts::{Act, make};
 use cover_problem::Problem;
-use lab_book::{Book, Status};
-use std::alloc::Global;
+use lab_book::{Book, Tile};
+use std::alloc::{AllocError, Global};
 use std::test::Fail;
+use x_branches::KeptStretch;
 
-/// Each tile: its id, how it stands, and how many steps were posted of it.
-fn look(alloc: Global, book: &Book<'_>) -> Result<Vec<(u64, Status, u128)>, Fail> {
-    let mut found = Vec::new(alloc);
+/// Copies of a book's tiles.
+pub fn tiles_of<'p>(alloc: Global, book: &Book<'p>) -> Result<Vec<Tile<'p>>, AllocError> {
+    let mut tiles = Vec::new(alloc);
     for tile in book.tiles() {
-        let mut steps: u128 = 0;
-        for stretch in tile.stretches() {
-            steps = steps.wrapping_add(stretch.steps() as u128);
-        }
-        found.push((tile.id(), tile.status(), steps))?;
+        tiles.push(tile.copy()?)?;
     }
-    Ok(found)
+    Ok(tiles)
+}
+
+/// Whether these are the same stretches.
+fn are_stretches(stretches: &[KeptStretch<'_>], others: &[KeptStretch<'_>]) -> bool {
+    if stretches.len() != others.len() {
+        return false;
+    }
+    for (stretch, other) in stretches.iter().zip(others) {
+        if !stretch.same(other) {
+            return false;
+        }
+    }
+    true
+}
+
+/// Whether a tile is another one, part by part.
+fn is_tile(tile: &Tile<'_>, other: &Tile<'_>) -> bool {
+    tile.id() == other.id()
+        && tile.branch().same(other.branch())
+        && tile.status() == other.status()
+        && tile.stop() == other.stop()
+        && tile.first_mark().same(other.first_mark())
+        && are_stretches(tile.stretches(), other.stretches())
+        && tile.mark().same(other.mark())
+}
+
+/// Whether a book's tiles are these.
+pub fn has_tiles(book: &Book<'_>, tiles: &[Tile<'_>]) -> bool {
+    if book.tiles().len() != tiles.len() {
+        return false;
+    }
+    for (tile, other) in book.tiles().iter().zip(tiles) {
+        if !is_tile(tile, other) {
+            return false;
+        }
+    }
+    true
 }
 
 /// Whether each call answers so; a refused one leaves the tiles as they were, and each adds an entry.
@@ -28,11 +62,11 @@ fn answers<'p>(
     rows: &[(Act, u8)],
 ) -> Result<bool, Fail> {
     for (place, (act, number)) in rows.iter().enumerate() {
-        let before = look(alloc, book)?;
+        let before = tiles_of(alloc, book)?;
         if make(alloc, problem, other, book, *act)? != Some(*number) {
             return Ok(false);
         }
-        if *number != 0 && look(alloc, book)? != before {
+        if *number != 0 && !has_tiles(book, &before) {
             return Ok(false);
         }
         if book.history().len() != place + 1 {

@@ -26,10 +26,10 @@ fn finishes_new<'p>(
     finishes(alloc, problem, other, &mut book, rows, ALL)
 }
 
-/// Whether the calls on a book of the small problem's run finish it.
-fn finishes_small(alloc: Global, rows: &[(Act, u8)]) -> Result<bool, Fail> {
+/// Whether the calls on a book of the small problem's run, with another problem beside it, finish it.
+fn finishes_small(alloc: Global, other: &[u8], rows: &[(Act, u8)]) -> Result<bool, Fail> {
     let problem = read_cover(alloc, SMALL)?;
-    let other = read_cover(alloc, OTHER)?;
+    let other = read_cover(alloc, other)?;
     finishes_new(alloc, &problem, &other, rows)
 }
 
@@ -56,7 +56,7 @@ const WHOLE: [(Act, u8); 17] = [
 
 #[test]
 fn the_run_is_posted_and_closed(rt: HostRuntime) -> Result<(), Fail> {
-    assert!(rt; finishes_small(rt.alloc(), &WHOLE)?);
+    assert!(rt; finishes_small(rt.alloc(), OTHER, &WHOLE)?);
     Ok(())
 }
 
@@ -90,7 +90,7 @@ const STOPPED: [(Act, u8); 24] = [
 
 #[test]
 fn a_tile_is_stopped_and_put_back(rt: HostRuntime) -> Result<(), Fail> {
-    assert!(rt; finishes_small(rt.alloc(), &STOPPED)?);
+    assert!(rt; finishes_small(rt.alloc(), OTHER, &STOPPED)?);
     Ok(())
 }
 
@@ -114,6 +114,23 @@ const PARTED: [(Act, u8); 14] = [
 
 #[test]
 fn a_tile_is_split(rt: HostRuntime) -> Result<(), Fail> {
-    assert!(rt; finishes_small(rt.alloc(), &PARTED)?);
+    assert!(rt; finishes_small(rt.alloc(), OTHER, &PARTED)?);
+    Ok(())
+}
+
+/// A problem of one item and no option: its run has 7 steps.
+const ALONE: &[u8] = b"items a";
+
+/// That run is posted before the right one.
+const FOREIGN: [(Act, u8); 4] = [
+    (Act::LeaseAny(0), 0),
+    (Act::PostForeign((0, 0, 0), 0, 7), 4),
+    (Act::Post((0, 0, 0), 0, 43), 0),
+    (Act::Close((0, 0, 0)), 0),
+];
+
+#[test]
+fn the_run_of_another_problem_is_foreign(rt: HostRuntime) -> Result<(), Fail> {
+    assert!(rt; finishes_small(rt.alloc(), ALONE, &FOREIGN)?);
     Ok(())
 }

@@ -24,7 +24,7 @@ pub fn state_at(alloc: Global, label: Label, path: &[u32], cursor: Cursor) -> Re
 }
 
 /// What was made, or that it was refused.
-fn value_of<V: Drop, F: Drop, G: Drop>(made: Result<V, Refused<F, G>>) -> Result<V, Fail> {
+pub fn value_of<V: Drop, F: Drop, G: Drop>(made: Result<V, Refused<F, G>>) -> Result<V, Fail> {
     match made {
         Ok(value) => Ok(value),
         Err(_) => Err(Fail::from("refused")),

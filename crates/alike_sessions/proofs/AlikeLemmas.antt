@@ -24,15 +24,15 @@ use Rattle.lab_book.specs.Tiling.{tile_at}
 use Rattle.lab_book.specs.Book.{BookValue, outcome, book_step, path_of}
 use Rattle.lab_world.specs.Worker.{cut_at}
 use Rattle.lab_world.proofs.HoldLemmas.{own_lease}
-use Rattle.debug_texts.specs.Replies.{saved_text}
-use Rattle.debug_texts.specs.declared.words.Plain.TheVariants.{Closed}
-use Rattle.debug_texts.specs.declared.words.Counted.TheVariants as counts
+use Rattle.debug_language.specs.Replies.{saved_text}
+use Rattle.debug_language.specs.declared.words.Plain.TheVariants.{Closed}
+use Rattle.debug_language.specs.declared.words.Counted.TheVariants as counts
 use Rattle.debug_views.specs.Lines.{plain, counted, state_line, book_refusal, runner_refusal}
-use Rattle.debug_work.specs.Desk.{DeskAnswer, desk}
-use Rattle.debug_work.specs.Walking.{AtWork, unposted_steps, steps_ahead, post_call, posted, posted_if_any, with_room, stepped, forward}
-use Rattle.debug_work.specs.Giving.{parked, park, save, closed, not_closed, close}
-use Rattle.debug_work.specs.Parting.{WorkAnswer, answered, no_cut, parted, parted_line, split, book_asked, retracted_by, retract}
-use Rattle.debug_work.proofs.GiveLemmas.{rest_grant}
+use Rattle.debug_acts.specs.Desk.{DeskAnswer, desk}
+use Rattle.debug_acts.specs.Walking.{AtWork, unposted_steps, steps_ahead, post_call, posted, posted_if_any, with_room, stepped, forward}
+use Rattle.debug_acts.specs.Giving.{parked, park, save, closed, not_closed, close}
+use Rattle.debug_acts.specs.Parting.{WorkAnswer, answered, no_cut, parted, parted_line, split, book_asked, retracted_by, retract}
+use Rattle.debug_acts.proofs.GiveLemmas.{rest_grant}
 use Rattle.alike_books.specs.AlikeBooks.{AreAlikeBooks}
 use Rattle.alike_books.specs.AlikeCalls.{Correspond, NameSameTile, addressed, anonymous_reply, AreAlikeOutcomes}
 use Rattle.alike_books.proofs.PlaceLemmas.{cut_corresponds}

@@ -17,24 +17,24 @@ use Rattle.lab_book.specs.Tile.{TileValue, is_held}
 use Rattle.lab_book.specs.Tiling.{tile_at}
 use Rattle.lab_book.specs.Book.{outcome, book_step}
 use Rattle.lab_world.specs.Worker.{WorkerValue, lent_worker, moved_to}
-use Rattle.debug_texts.specs.Command.{CommandValue}
-use Rattle.debug_texts.specs.Command as command
-use Rattle.debug_texts.specs.Reading.{command_of}
-use Rattle.debug_texts.specs.Replies.{levels_words}
-use Rattle.debug_texts.specs.declared.words.Counted.TheVariants as counts
-use Rattle.debug_texts.specs.declared.words.Plain.TheVariants.{NothingUntried, NoBranches}
-use Rattle.debug_texts.specs.declared.fault.DebugFault.TheVariants.{BadCommand, NoBranch, AlreadyOpen}
+use Rattle.debug_language.specs.Command.{CommandValue}
+use Rattle.debug_language.specs.Command as command
+use Rattle.debug_language.specs.Reading.{command_of}
+use Rattle.debug_language.specs.Replies.{levels_words}
+use Rattle.debug_language.specs.declared.words.Counted.TheVariants as counts
+use Rattle.debug_language.specs.declared.words.Plain.TheVariants.{NothingUntried, NoBranches}
+use Rattle.debug_language.specs.declared.fault.DebugFault.TheVariants.{BadCommand, NoBranch, AlreadyOpen}
 use Rattle.debug_views.specs.Breakpoints.{with_break}
 use Rattle.debug_views.specs.Lines.{plain, counted, set, state_line, debug_refusal, book_refusal, snapshot_refusal}
 use Rattle.debug_views.specs.Showing.{show_lines, all_untried, or_none}
 use Rattle.debug_views.specs.Tiles.{tile_line, visits_lines, place_at, refusal_or}
 use Rattle.debug_views.specs.Tiles.{answer_of_tile, hold, put_back}
-use Rattle.debug_work.specs.Desk.{DeskAnswer}
-use Rattle.debug_work.specs.Walking.{AtWork, work, forward, steps_ahead, step_count, step_lines, run_count, run_lines, back_count}
-use Rattle.debug_work.specs.Walking.{back_lines, state_back}
-use Rattle.debug_work.specs.Entering.{enter_call, stand_lines, entered_at, enter}
-use Rattle.debug_work.specs.Parting.{WorkAnswer}
-use Rattle.debug_work.proofs.WalkedLemmas.{least_within}
+use Rattle.debug_acts.specs.Desk.{DeskAnswer}
+use Rattle.debug_acts.specs.Walking.{AtWork, work, forward, steps_ahead, step_count, step_lines, run_count, run_lines, back_count}
+use Rattle.debug_acts.specs.Walking.{back_lines, state_back}
+use Rattle.debug_acts.specs.Entering.{enter_call, stand_lines, entered_at, enter}
+use Rattle.debug_acts.specs.Parting.{WorkAnswer}
+use Rattle.debug_acts.proofs.WalkedLemmas.{least_within}
 use Rattle.x_debug.specs.Session.{SessionValue}
 use Rattle.x_debug.specs.Commands.{Answer, says, with_breaks, if_open, if_none_open, on_work, on_desk, on_book, answer, answer_if}
 use Rattle.x_debug.specs.Commands.{answer_line, answer_show, answer_untried, answer_branches, answer_visits, answer_steps, answer_levels}

@@ -36,19 +36,19 @@ use Rattle.lab_world.proofs.OtherLemmas.{put_back_leaves, stop_leaves}
 use Rattle.lab_world.proofs.OwnLemmas.{own, own_is_tile}
 use Rattle.lab_world.proofs.TurnLemmas.{lease_any_seat, turn_keeps}
 use Rattle.text_lines.specs.Writing.{line_text}
-use Rattle.debug_texts.specs.Command.{CommandValue}
-use Rattle.debug_texts.specs.Command as command
-use Rattle.debug_texts.specs.Reading.{command_of}
-use Rattle.debug_texts.specs.declared.words.Plain.TheVariants.{Closed}
+use Rattle.debug_language.specs.Command.{CommandValue}
+use Rattle.debug_language.specs.Command as command
+use Rattle.debug_language.specs.Reading.{command_of}
+use Rattle.debug_language.specs.declared.words.Plain.TheVariants.{Closed}
 use Rattle.debug_views.specs.Breakpoints.{meets_one, steps_to_break}
 use Rattle.debug_views.specs.Lines.{plain, state_line, book_refusal}
 use Rattle.debug_views.specs.Tiles.{answer_of_tile, hold, put_back, place_at}
-use Rattle.debug_work.specs.Desk.{desk}
-use Rattle.debug_work.specs.Walking.{AtWork, work, steps_ahead, step_count, run_count}
-use Rattle.debug_work.specs.Walking.{back_count}
-use Rattle.debug_work.specs.Giving.{closed, not_closed}
-use Rattle.debug_work.specs.Entering.{entered_at, enter, lent_by}
-use Rattle.debug_work.proofs.WalkedLemmas.{least_within}
+use Rattle.debug_acts.specs.Desk.{desk}
+use Rattle.debug_acts.specs.Walking.{AtWork, work, steps_ahead, step_count, run_count}
+use Rattle.debug_acts.specs.Walking.{back_count}
+use Rattle.debug_acts.specs.Giving.{closed, not_closed}
+use Rattle.debug_acts.specs.Entering.{entered_at, enter, lent_by}
+use Rattle.debug_acts.proofs.WalkedLemmas.{least_within}
 use Rattle.x_debug.specs.Session.{SessionValue, fresh_session, session_on, entered}
 use Rattle.x_debug.specs.Commands.{Answer, if_open, if_none_open, on_work, on_desk, on_book, answer, answer_if, answer_line, answer_step}
 use Rattle.x_debug.specs.Commands.{answer_run, answer_back, answer_park, answer_save, answer_close, answer_split, answer_retract}

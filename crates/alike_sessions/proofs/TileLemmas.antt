@@ -14,10 +14,10 @@ use Rattle.lab_book.specs.Tiling.{tile_at}
 use Rattle.lab_book.specs.Book.{BookValue, path_of}
 use Rattle.lab_world.specs.Worker.{WorkerValue, lent_worker}
 use Rattle.lab_world.proofs.HoldLemmas.{own_lease}
-use Rattle.debug_texts.specs.Replies.{standing_words}
+use Rattle.debug_language.specs.Replies.{standing_words}
 use Rattle.debug_views.specs.Lines.{state_line}
 use Rattle.debug_views.specs.Tiles.{standing_of, tile_line, same_cut, is_begun_at, place_at, refusal_or}
-use Rattle.debug_work.specs.Entering.{stand_lines}
+use Rattle.debug_acts.specs.Entering.{stand_lines}
 use Rattle.alike_books.specs.AlikeBooks.{AreAlikeBooks, anonymous_status, anonymous_tile}
 use Rattle.alike_books.specs.AlikeCalls.{Correspond, NameSameTile, anonymous_reply}
 use Rattle.alike_books.proofs.StatusLemmas.{closed_seen, leased_seen}

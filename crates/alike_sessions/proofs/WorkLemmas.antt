@@ -41,15 +41,15 @@ use Rattle.lab_world.specs.Worker.{shortened, cut_at}
 use Rattle.lab_world.proofs.HoldLemmas.{passed}
 use Rattle.lab_world.proofs.OwnLemmas.{Has, own, own_is_tile, found_own, last_own, some_is, post_has, retract_has, split_has}
 use Rattle.lab_world.proofs.SplitLemmas.{cut_is, split_is}
-use Rattle.debug_work.specs.Walking.{AtWork, work, unposted_steps, steps_ahead, post_call, posted, posted_if_any, with_room, stepped}
-use Rattle.debug_work.specs.Walking.{forward, state_on}
-use Rattle.debug_work.specs.Giving.{parked, closed, not_closed}
-use Rattle.debug_work.specs.Parting.{answered, no_cut, parted, parted_line, split, book_asked, retracted_by, retract}
-use Rattle.debug_work.proofs.CloseLemmas.{refused_is}
-use Rattle.debug_work.proofs.PostLemmas.{granted}
-use Rattle.debug_work.proofs.ForwardLemmas.{can_walk, ahead_is}
-use Rattle.debug_work.proofs.WalkLemmas.{room_worker, on_problem, on_branch, on_position}
-use Rattle.debug_work.proofs.RetractLemmas.{to_here}
+use Rattle.debug_acts.specs.Walking.{AtWork, work, unposted_steps, steps_ahead, post_call, posted, posted_if_any, with_room, stepped}
+use Rattle.debug_acts.specs.Walking.{forward, state_on}
+use Rattle.debug_acts.specs.Giving.{parked, closed, not_closed}
+use Rattle.debug_acts.specs.Parting.{answered, no_cut, parted, parted_line, split, book_asked, retracted_by, retract}
+use Rattle.debug_acts.proofs.CloseLemmas.{refused_is}
+use Rattle.debug_acts.proofs.PostLemmas.{granted}
+use Rattle.debug_acts.proofs.ForwardLemmas.{can_walk, ahead_is}
+use Rattle.debug_acts.proofs.WalkLemmas.{room_worker, on_problem, on_branch, on_position}
+use Rattle.debug_acts.proofs.RetractLemmas.{to_here}
 use Rattle.alike_sessions.proofs.CallLemmas.{call_keeps}
 
 -- a book and worker 0, which holds one of its tiles and has a runner

@@ -3,7 +3,7 @@ ghost use Rattle.std.specs.Prelude.{ℕ, ◌≡◌, List};
 ghost use Rattle.cover_problem.specs.Problem.{ProblemValue};
 ghost use Rattle.lab_book.specs.Tiling.{IsTiling};
 ghost use Rattle.lab_book.specs.Book.{BookValue, leased_in};
-ghost use Rattle.debug_texts.specs.Command.{CommandValue};
+ghost use Rattle.debug_language.specs.Command.{CommandValue};
 ghost use Rattle.x_debug.specs.Session.{SessionValue, session_on, fresh_session};
 ghost use Rattle.x_debug.specs.Commands.{answer, answer_line};
 ghost use Rattle.x_debug.specs.Loading.{load_answer};

@@ -26,7 +26,7 @@ use Rattle.x_steps.proofs.OrderLemmas.{fits_valid}
 use Rattle.x_steps.proofs.StretchLemmas.{reached_fits}
 use Rattle.x_branches.specs.Runner.{RunnerValue, IsRunner}
 use Rattle.x_snapshot.proofs.BreakBack.{numbered}
-use Rattle.debug_texts.specs.Replies.{are_of_items}
+use Rattle.debug_language.specs.Replies.{are_of_items}
 
 -- rows of such items
 rows_all : (n : ℕ) (f : ℕ → List ℕ) (xs : List ℕ) → list_all (is_item n) xs ≡ true → list_all (λ (row : ℕ × List ℕ). is_item n row.0) (map (λ i. (i, f i)) xs) ≡ true

@@ -6,7 +6,7 @@ use Rattle.text_lines.specs.Writing.{line_text, text_of}
 use Rattle.cover_problem.specs.Lists.{numbers}
 use Rattle.cover_problem.proofs.NumberLemmas.{numbers_push}
 use Rattle.x_branches.specs.Runner.{RunnerValue}
-use Rattle.debug_texts.specs.Replies.{untried_words}
+use Rattle.debug_language.specs.Replies.{untried_words}
 use Rattle.debug_views.specs.Lines.{state_line}
 use Rattle.debug_views.specs.Showing.{runner_branch, runner_covered, runner_chosen, runner_active, runner_second, show_lines, level_lines, untried_at}
 

@@ -9,12 +9,12 @@ use Rattle.x_snapshot.specs.Faults as snapshot
 use Rattle.x_snapshot.specs.Writing.{state_words, point_words}
 use Rattle.lab_book.specs.declared.fault.BookFault.{BookFault}
 use Rattle.lab_book.specs.Faults as book
-use Rattle.debug_texts.specs.declared.fault.DebugFault.{DebugFault}
-use Rattle.debug_texts.specs.Faults as debug
-use Rattle.debug_texts.specs.declared.words.Plain.{Plain}
-use Rattle.debug_texts.specs.declared.words.Counted.{Counted}
-use Rattle.debug_texts.specs.declared.words.Layer.TheVariants as layer
-use Rattle.debug_texts.specs.Replies.{plain_word, counted_word, refused_words}
+use Rattle.debug_language.specs.declared.fault.DebugFault.{DebugFault}
+use Rattle.debug_language.specs.Faults as debug
+use Rattle.debug_language.specs.declared.words.Plain.{Plain}
+use Rattle.debug_language.specs.declared.words.Counted.{Counted}
+use Rattle.debug_language.specs.declared.words.Layer.TheVariants as layer
+use Rattle.debug_language.specs.Replies.{plain_word, counted_word, refused_words}
 
 -- a line that is always the same
 abbrev pub plain : Plain → List (List ℕ)

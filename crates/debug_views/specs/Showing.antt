@@ -7,8 +7,8 @@ use Rattle.x_steps.specs.Machine.{remaining_in, second_in, chosen_in}
 use Rattle.x_branches.specs.Runner.{RunnerValue}
 use Rattle.x_branches.specs.Refusals.{untried_in}
 use Rattle.lab_book.specs.Book.{path_of}
-use Rattle.debug_texts.specs.declared.words.Listed.TheVariants.{Chosen, Active, Second}
-use Rattle.debug_texts.specs.Replies.{branch_words, covered_words, list_words, untried_words}
+use Rattle.debug_language.specs.declared.words.Listed.TheVariants.{Chosen, Active, Second}
+use Rattle.debug_language.specs.Replies.{branch_words, covered_words, list_words, untried_words}
 use Rattle.debug_views.specs.Lines.{state_line}
 
 -- the line of the chosen item, where there is one

@@ -15,10 +15,10 @@ use Rattle.lab_book.specs.declared.entry.Reply.TheVariants as replies
 use Rattle.lab_book.specs.Tile.{TileValue, is_closed}
 use Rattle.lab_book.specs.Tiling.{tile_at}
 use Rattle.lab_book.specs.Book.{BookValue, outcome, book_step, path_of}
-use Rattle.debug_texts.specs.declared.words.Counted.TheVariants as counts
-use Rattle.debug_texts.specs.declared.words.Standing.{Standing}
-use Rattle.debug_texts.specs.declared.words.Standing.TheVariants as standing
-use Rattle.debug_texts.specs.Replies.{standing_words, visit_words}
+use Rattle.debug_language.specs.declared.words.Counted.TheVariants as counts
+use Rattle.debug_language.specs.declared.words.Standing.{Standing}
+use Rattle.debug_language.specs.declared.words.Standing.TheVariants as standing
+use Rattle.debug_language.specs.Replies.{standing_words, visit_words}
 use Rattle.debug_views.specs.Lines.{counted, book_refusal}
 
 -- ---- how they are shown

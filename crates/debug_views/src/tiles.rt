@@ -12,7 +12,7 @@ ghost use Rattle.debug_views.specs.Showing.{or_none};
 ghost use Rattle.debug_views.specs.Tiles.{is_begun_at, place_at, standing_of, tile_line, open_lines, visits_lines, tile_call, answer_of_cut, hold, put_back};
 
 use crate::showing::choices;
-use debug_texts::{
+use debug_language::{
     Counted, Layer, Plain, Standing, write_counted, write_plain, write_refused, write_standing,
     write_visits,
 };

@@ -1,7 +1,7 @@
 -- The command line.
 use Rattle.std.specs.Prelude.{ℕ, string_bytes}
 use Rattle.byte_streams.specs.Stream.{Stream, Stays, Takes}
-use Rattle.lab_engine.specs.Outcome.{no_memory}
+use Rattle.polylab_engine.specs.Outcome.{no_memory}
 use Rattle.lab_line.specs.declared.line.LineFault.{LineFault}
 use Rattle.lab_line.specs.declared.line.LineFault.TheVariants.{Help, Usage, OutOfMemory}
 

@@ -1,13 +1,13 @@
 //! The exit status of the program.
 ghost use Rattle.std.specs.Prelude.{[], ◌∷◌, IfOk, IfErr, Contains, ◌≡◌};
 ghost use Rattle.byte_streams.specs.Stream.{Takes, Stays};
-ghost use Rattle.lab_engine.specs.Ending.{IsRun};
+ghost use Rattle.polylab_engine.specs.Ending.{IsRun};
 ghost use Rattle.lab_line.specs.Line.{IsTold, status_of};
 
 use crate::line::LineFault;
 use byte_streams::{Sink, Source, write_whole};
-use lab_engine::{Job, run};
 use lab_pool::Gate;
+use polylab_engine::{Job, run};
 use std::alloc::Global;
 use std::sync::Wait;
 use std::thread::Threads;

@@ -1,12 +1,12 @@
 //! The command line: which job the words ask for.
 
 ghost use Rattle.std.specs.Prelude.{◌≡◌, ◌≤◌, IfOk};
-ghost use Rattle.lab_engine.specs.Workers.{workers_of};
+ghost use Rattle.polylab_engine.specs.Workers.{workers_of};
 ghost use Rattle.lab_line.specs.Line.{status_of};
 
 use clap::error::ErrorKind;
 use clap::{Arg, ArgAction, ArgMatches, Command, Error, value_parser};
-use lab_engine::Job;
+use polylab_engine::Job;
 use std::alloc::{AllocError, Global};
 
 /// Why the words name no job. The texts are `clap`'s.

@@ -5,9 +5,9 @@ ghost use Rattle.std.specs.Prelude.{◌≡◌};
 ghost use Rattle.lab_line.specs.Line.{status_of};
 
 use byte_streams::Watched;
-use lab_engine::Job;
 use lab_line::{LineFault, parse_line, status};
 use lab_pool::NoGate;
+use polylab_engine::Job;
 use std::alloc::Global;
 use std::env;
 use std::io::{self, ErrorKind};

@@ -15,9 +15,9 @@ use Rattle.x_snapshot.specs.declared.reading.breaks.Kind.TheVariants as kinds
 use Rattle.x_snapshot.specs.Breaks.{is_break}
 use Rattle.x_snapshot.specs.Reading.{only, positive, option_number, kind_from, break_of, lone_break, break_from, state_from}
 use Rattle.x_snapshot.proofs.BackLemmas.{some_is, none_some, and_then_is, map_is}
-use Rattle.debug_texts.specs.Command.{CommandValue}
-use Rattle.debug_texts.specs.Command as command
-use Rattle.debug_texts.specs.Reading.{count_from, cut_from, save_word, save_from, put_back_from, joined_cut, plain_command, long_command, lone_command, search_command, command_from, command_of, pair_from}
+use Rattle.debug_language.specs.Command.{CommandValue}
+use Rattle.debug_language.specs.Command as command
+use Rattle.debug_language.specs.Reading.{count_from, cut_from, save_word, save_from, put_back_from, joined_cut, plain_command, long_command, lone_command, search_command, command_from, command_of, pair_from}
 use Rattle.x_debug.specs.Commands.{is_command}
 
 -- ---- a breakpoint that was read

@@ -24,10 +24,10 @@ use Rattle.lab_book.specs.Book.{BookValue, new_book, outcome, book_step}
 use Rattle.lab_world.specs.Worker.{WorkerValue, StandsAtFirst, lent_worker}
 use Rattle.lab_world.specs.World.{IsSeat}
 use Rattle.lab_world.proofs.TurnLemmas.{lease_any_seat}
-use Rattle.debug_texts.specs.declared.words.Layer.TheVariants as layer
-use Rattle.debug_texts.specs.Replies.{refused_words}
+use Rattle.debug_language.specs.declared.words.Layer.TheVariants as layer
+use Rattle.debug_language.specs.Replies.{refused_words}
 use Rattle.debug_views.specs.Lines.{state_line, book_refusal, snapshot_refusal}
-use Rattle.debug_work.specs.Desk.{Desk, desk}
+use Rattle.debug_acts.specs.Desk.{Desk, desk}
 use Rattle.x_debug.specs.Session.{SessionValue, entered}
 use Rattle.x_debug.specs.Loading.{resumed, with_some, seated, loaded}
 use Rattle.x_debug.specs.Commands.{Answer}

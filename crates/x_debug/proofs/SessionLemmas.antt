@@ -22,18 +22,18 @@ use Rattle.lab_world.specs.Worker.{WorkerValue, HasTile, HoldsTile, lent_worker,
 use Rattle.lab_world.specs.World.{IsSeat}
 use Rattle.lab_world.proofs.OtherLemmas.{put_back_leaves, stop_leaves}
 use Rattle.lab_world.proofs.TurnLemmas.{lease_any_seat}
-use Rattle.debug_texts.specs.declared.words.Plain.TheVariants.{Closed}
+use Rattle.debug_language.specs.declared.words.Plain.TheVariants.{Closed}
 use Rattle.debug_views.specs.Lines.{plain, book_refusal, runner_refusal}
-use Rattle.debug_work.specs.Desk.{Desk, DeskAnswer, desk}
+use Rattle.debug_acts.specs.Desk.{Desk, DeskAnswer, desk}
 use Rattle.x_debug.specs.Session.{SessionValue, IsSession, fresh_session}
 use Rattle.debug_views.specs.Tiles.{answer_of_tile, hold, put_back, place_at}
-use Rattle.debug_work.specs.Entering.{enter}
-use Rattle.debug_work.specs.Walking.{AtWork, work, posted, posted_if_any, with_room, stepped, forward, unposted_steps, steps_ahead, IsPartWay, IsPartBack}
-use Rattle.debug_work.specs.Giving.{parked, close, closed, not_closed, IsNotGiven}
-use Rattle.debug_work.specs.Parting.{WorkAnswer, answered, retract, retracted_by, split, parted, parted_line, no_cut}
+use Rattle.debug_acts.specs.Entering.{enter}
+use Rattle.debug_acts.specs.Walking.{AtWork, work, posted, posted_if_any, with_room, stepped, forward, unposted_steps, steps_ahead, IsPartWay, IsPartBack}
+use Rattle.debug_acts.specs.Giving.{parked, close, closed, not_closed, IsNotGiven}
+use Rattle.debug_acts.specs.Parting.{WorkAnswer, answered, retract, retracted_by, split, parted, parted_line, no_cut}
 use Rattle.x_debug.specs.Commands.{working, LeftAtWork, LeftOrDone, LeftPartBack}
-use Rattle.debug_work.proofs.EnterLemmas.{enter_problem}
-use Rattle.debug_work.proofs.GiveLemmas.{rest_grant}
+use Rattle.debug_acts.proofs.EnterLemmas.{enter_problem}
+use Rattle.debug_acts.proofs.GiveLemmas.{rest_grant}
 
 -- a session whose book and worker are others
 pub changed_session : (v : SessionValue) (b : BookValue) (x : Option WorkerValue) → IsSession v → b.problem ≡ v.book.problem → IsSeat b 0 x → IsSession (record { book = b; worker = x; breaks = v.breaks })

@@ -8,23 +8,23 @@ use Rattle.x_snapshot.specs.declared.breakpoint.Break.{Break}
 use Rattle.x_snapshot.specs.Breaks.{is_break}
 use Rattle.lab_book.specs.Posted.{posted_visits, posted_steps, posted_levels}
 use Rattle.lab_world.specs.Worker.{WorkerValue, moved_to}
-use Rattle.debug_texts.specs.declared.fault.DebugFault.TheVariants.{BadCommand, AlreadyOpen, NoBranch}
-use Rattle.debug_texts.specs.declared.words.Plain.TheVariants.{NothingUntried, NoBranches}
-use Rattle.debug_texts.specs.declared.words.Counted.TheVariants as counts
-use Rattle.debug_texts.specs.Replies.{levels_words}
-use Rattle.debug_texts.specs.Command.{CommandValue}
-use Rattle.debug_texts.specs.Command as command
-use Rattle.debug_texts.specs.Reading.{command_of}
+use Rattle.debug_language.specs.declared.fault.DebugFault.TheVariants.{BadCommand, AlreadyOpen, NoBranch}
+use Rattle.debug_language.specs.declared.words.Plain.TheVariants.{NothingUntried, NoBranches}
+use Rattle.debug_language.specs.declared.words.Counted.TheVariants as counts
+use Rattle.debug_language.specs.Replies.{levels_words}
+use Rattle.debug_language.specs.Command.{CommandValue}
+use Rattle.debug_language.specs.Command as command
+use Rattle.debug_language.specs.Reading.{command_of}
 use Rattle.debug_views.specs.Breakpoints.{with_break}
 use Rattle.debug_views.specs.Lines.{plain, counted, set, debug_refusal}
-use Rattle.debug_work.specs.Desk.{DeskAnswer}
+use Rattle.debug_acts.specs.Desk.{DeskAnswer}
 use Rattle.x_debug.specs.Session.{SessionValue}
 use Rattle.debug_views.specs.Showing.{show_lines, all_untried, or_none}
 use Rattle.debug_views.specs.Tiles.{BookAnswer, open_lines, visits_lines, hold, put_back}
-use Rattle.debug_work.specs.Walking.{AtWork, work, forward, IsPartWay, IsPartBack, step_count, step_lines, run_count, run_lines, back_count, back_lines, state_back}
-use Rattle.debug_work.specs.Entering.{enter}
-use Rattle.debug_work.specs.Giving.{park, save, close, IsNotGiven}
-use Rattle.debug_work.specs.Parting.{split, retract}
+use Rattle.debug_acts.specs.Walking.{AtWork, work, forward, IsPartWay, IsPartBack, step_count, step_lines, run_count, run_lines, back_count, back_lines, state_back}
+use Rattle.debug_acts.specs.Entering.{enter}
+use Rattle.debug_acts.specs.Giving.{park, save, close, IsNotGiven}
+use Rattle.debug_acts.specs.Parting.{split, retract}
 
 -- a text that is answered, and the session that is left
 pub record Answer : Type 0 where

@@ -9,7 +9,7 @@ use Rattle.x_snapshot.specs.Snapshot.{SnapshotValue, branch_between}
 use Rattle.x_snapshot.specs.Judged.{snapshot_of}
 use Rattle.lab_book.specs.declared.fault.BookFault.TheVariants.{ForeignProblem}
 use Rattle.lab_book.specs.Book.{new_book}
-use Rattle.debug_work.specs.Desk.{Desk}
+use Rattle.debug_acts.specs.Desk.{Desk}
 use Rattle.debug_views.specs.Lines.{state_line, book_refusal, snapshot_refusal}
 use Rattle.x_debug.specs.Session.{SessionValue, entered}
 use Rattle.x_debug.specs.Commands.{Answer}

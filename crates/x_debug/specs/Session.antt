@@ -9,7 +9,7 @@ use Rattle.lab_book.specs.Book.{BookValue, new_book, outcome, book_step}
 use Rattle.lab_book.specs.declared.entry.Call.TheVariants as call
 use Rattle.lab_world.specs.Worker.{WorkerValue, lent_worker}
 use Rattle.lab_world.specs.World.{IsSeat}
-use Rattle.debug_work.specs.Desk.{Desk, desk}
+use Rattle.debug_acts.specs.Desk.{Desk, desk}
 
 -- what a session has: a book, the worker whose branch is open or none, and the breakpoints in the order in which they were set
 pub record SessionValue : Type 0 where

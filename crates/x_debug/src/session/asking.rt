@@ -5,9 +5,9 @@ ghost use Rattle.x_debug.specs.Commands.{answer_hold, answer_put_back, answer_en
 
 use crate::session::Session;
 use cover_problem::Table;
-use debug_texts::{DebugFault, write_debug_fault};
+use debug_acts::enter;
+use debug_language::{DebugFault, write_debug_fault};
 use debug_views::{hold, put_back};
-use debug_work::enter;
 use std::alloc::{AllocError, Global};
 use x_steps::State;
 

@@ -5,7 +5,7 @@ ghost use Rattle.x_debug.specs.Commands.{answer_set, answer_clear};
 
 use crate::session::Session;
 use cover_problem::Table;
-use debug_texts::{Counted, write_counted, write_set};
+use debug_language::{Counted, write_counted, write_set};
 use std::alloc::AllocError;
 use x_snapshot::Break;
 

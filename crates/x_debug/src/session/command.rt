@@ -1,12 +1,12 @@
 //! What a session answers to a line.
 ghost use Rattle.std.specs.Prelude.{◌≡◌, ◌++◌, ◌⊎◌, true, option_copied, IfOk, OnOk, OnErr};
 ghost use Rattle.x_snapshot.specs.Snapshot.{choices_of};
-ghost use Rattle.debug_texts.specs.Command.{command_value};
+ghost use Rattle.debug_language.specs.Command.{command_value};
 ghost use Rattle.x_debug.specs.Commands.{answer, answer_line, is_command, LeftBy, IsLeft};
 
 use crate::session::Session;
 use cover_problem::Table;
-use debug_texts::{Command, read_command, write_debug_fault};
+use debug_language::{Command, read_command, write_debug_fault};
 use std::alloc::{AllocError, Global};
 use text_lines::Refusal;
 

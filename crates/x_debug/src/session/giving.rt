@@ -5,8 +5,8 @@ ghost use Rattle.x_debug.specs.Commands.{answer_park, answer_close, answer_save,
 
 use crate::session::Session;
 use cover_problem::Table;
-use debug_texts::{DebugFault, write_debug_fault};
-use debug_work::{close, park, save};
+use debug_acts::{close, park, save};
+use debug_language::{DebugFault, write_debug_fault};
 use std::alloc::{AllocError, Global};
 use x_snapshot::Break;
 

@@ -7,12 +7,12 @@ ghost use Rattle.x_snapshot.specs.Snapshot.{branch_between, started};
 ghost use Rattle.x_snapshot.specs.Judged.{judged_parts};
 ghost use Rattle.lab_book.specs.Book.{new_book};
 ghost use Rattle.lab_world.specs.World.{IsSeat};
-ghost use Rattle.debug_work.specs.Desk.{desk};
+ghost use Rattle.debug_acts.specs.Desk.{desk};
 ghost use Rattle.x_debug.specs.Loading.{resumed, with_some, seated, loaded, load_by, load_answer};
 
 use crate::session::{Reply, Session};
 use cover_problem::{Problem, Table};
-use debug_texts::{write_at, write_snapshot_fault};
+use debug_language::{write_at, write_snapshot_fault};
 use debug_views::write_book_fault;
 use indexmap::IndexSet;
 use lab_book::{Book, BookFault};

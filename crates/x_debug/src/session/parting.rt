@@ -1,12 +1,12 @@
 //! The branch that is open is parted, and its last posted stretch is walked again.
 ghost use Rattle.std.specs.Prelude.{◌≡◌, ◌++◌, OnOk, OnErr};
-ghost use Rattle.debug_work.specs.Parting.{retract, split};
+ghost use Rattle.debug_acts.specs.Parting.{retract, split};
 ghost use Rattle.x_debug.specs.Commands.{answer_retract, answer_split, LeftOrDone};
 
 use crate::session::Session;
 use cover_problem::Table;
-use debug_texts::{DebugFault, write_debug_fault};
-use debug_work::{retract, split};
+use debug_acts::{retract, split};
+use debug_language::{DebugFault, write_debug_fault};
 use std::alloc::AllocError;
 
 impl<'p, T: Table> Session<'p, T> {

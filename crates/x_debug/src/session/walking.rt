@@ -1,12 +1,12 @@
 //! Steps on the branch that is open.
 ghost use Rattle.std.specs.Prelude.{◌≡◌, ◌<◌, ◌++◌, OnOk, OnErr};
-ghost use Rattle.debug_work.specs.Walking.{step_count, run_count, back_count};
+ghost use Rattle.debug_acts.specs.Walking.{step_count, run_count, back_count};
 ghost use Rattle.x_debug.specs.Commands.{answer_step, answer_run, answer_back, LeftPartWay, LeftPartBack};
 
 use crate::session::Session;
 use cover_problem::Table;
-use debug_texts::{DebugFault, write_debug_fault};
-use debug_work::{back, run, step};
+use debug_acts::{back, run, step};
+use debug_language::{DebugFault, write_debug_fault};
 use std::alloc::AllocError;
 
 impl<'p, T: Table> Session<'p, T> {

@@ -1,4 +1,4 @@
-use Rattle.debug_texts.specs.Command.{command_value}
+use Rattle.debug_language.specs.Command.{command_value}
 use Rattle.x_debug.proofs.CommandLemmas.{command_is}
 use Rattle.x_debug.proofs.session.Session.command.Goals as goal
 

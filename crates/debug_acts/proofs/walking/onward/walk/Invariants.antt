@@ -1,0 +1,7 @@
+use Rattle.debug_acts.specs.Walking.{work}
+use Rattle.debug_acts.proofs.WalkedLemmas.{Walked}
+use Rattle.debug_acts.proofs.walking.onward.walk.Given as goal
+
+-- so many steps were taken
+abbrev pub invariant-loop-taken : goal.invariant-loop-taken
+invariant-loop-taken g l = Walked (work l.fn.book l.fn.worker) l.taken (work l.book l.worker) l.fn.text.items l.text.items

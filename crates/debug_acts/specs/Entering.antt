@@ -1,0 +1,40 @@
+-- A branch of the book is opened.
+use Rattle.std.specs.Prelude.{ℕ, List, [], ◌∷◌, Option, Some, None, if◌then◌else◌}
+use Rattle.text_lines.specs.Writing.{line_text, text_of}
+use Rattle.lab_book.specs.declared.fault.BookFault.TheVariants.{UnknownBranch}
+use Rattle.lab_book.specs.declared.entry.Call.{Call}
+use Rattle.lab_book.specs.declared.entry.Call.TheVariants as call
+use Rattle.lab_book.specs.Tile.{TileValue, is_held}
+use Rattle.lab_book.specs.Tiling.{tile_at}
+use Rattle.lab_book.specs.Book.{BookValue, outcome, book_step}
+use Rattle.lab_world.specs.Worker.{WorkerValue, lent_worker}
+use Rattle.debug_views.specs.Lines.{state_line, book_refusal}
+use Rattle.debug_acts.specs.Desk.{Desk, DeskAnswer, desk}
+use Rattle.debug_views.specs.Tiles.{place_at, refusal_or}
+
+-- a held tile is taken, any other is leased
+abbrev pub enter_call : TileValue → Call
+enter_call t = if is_held t.status then call.TakeHeld t.id else call.Lease t.id
+
+-- where a worker stands that has a tile now
+abbrev pub stand_lines : Option WorkerValue → List (List (List ℕ))
+stand_lines (Some w) = state_line w.runner.position ∷ []
+stand_lines None = []
+
+-- worker 0 makes a call that leases, and stands where its tile's mark is; or the book's refusal
+abbrev pub lent_by : BookValue → Call → DeskAnswer
+lent_by b c =
+    let r = (outcome b 0 c).reply in
+    record {
+      text = text_of (refusal_or (stand_lines (lent_worker b.problem r)) r);
+      desk = desk (book_step b 0 c) (lent_worker b.problem r);
+    }
+
+-- the tile at a place is entered; where there is none it is refused, and the book isn't called
+abbrev pub entered_at : BookValue → Option ℕ → DeskAnswer
+entered_at b None = record { text = line_text (book_refusal UnknownBranch); desk = desk b None }
+entered_at b (Some i) = lent_by b (enter_call (tile_at b.tiles i))
+
+-- the tile that begins at a cut, and isn't closed
+unfoldable pub enter : BookValue → Option (List ℕ) → DeskAnswer
+enter b lo = entered_at b (place_at lo b.tiles)

@@ -1,0 +1,50 @@
+-- A branch is given up: parked, saved, or closed.
+use Rattle.std.specs.Prelude.{◌==◌, ◌⊎◌, ◌≡◌, List, Some, None, if◌then◌else◌}
+use Rattle.text_lines.specs.Writing.{line_text}
+use Rattle.x_snapshot.specs.declared.breakpoint.Break.{Break}
+use Rattle.x_snapshot.specs.Snapshot.{SnapshotValue, snapshot_with}
+use Rattle.x_snapshot.specs.Writing.{snapshot_text}
+use Rattle.lab_book.specs.declared.fault.BookFault.TheVariants.{NotAtEnd}
+use Rattle.lab_book.specs.declared.entry.Call.TheVariants as call
+use Rattle.lab_book.specs.Book.{BookValue, book_step, path_of}
+use Rattle.lab_world.specs.Worker.{WorkerValue}
+use Rattle.debug_language.specs.declared.words.Plain.TheVariants.{Parked, Closed}
+use Rattle.debug_language.specs.Replies.{saved_text}
+use Rattle.debug_views.specs.Lines.{plain, book_refusal}
+use Rattle.debug_acts.specs.Desk.{DeskAnswer, desk}
+use Rattle.debug_acts.specs.Walking.{AtWork, posted_if_any, steps_ahead}
+
+-- what isn't posted is posted, and the tile is given up
+unfoldable pub parked : AtWork → BookValue
+parked a = book_step (posted_if_any a).book a.worker.grant.worker (call.Park a.worker.grant)
+
+-- `park`
+abbrev pub park : AtWork → DeskAnswer
+park a = record { text = line_text (plain Parked); desk = desk (parked a) None }
+
+-- where the search stands, as a snapshot
+abbrev pub snapshot_of_worker : WorkerValue → List Break → SnapshotValue
+snapshot_of_worker w breaks = snapshot_with w.runner.problem (path_of w.runner.branch.lo) (path_of w.runner.branch.hi) w.runner.position breaks
+
+-- `save`, with these breakpoints
+abbrev pub save : AtWork → List Break → DeskAnswer
+save a breaks = record { text = saved_text (snapshot_text (snapshot_of_worker a.worker breaks)); desk = desk (parked a) None }
+
+-- what isn't posted is posted, and the tile is closed
+unfoldable pub closed : AtWork → BookValue
+closed a = book_step (posted_if_any a).book a.worker.grant.worker (call.Close a.worker.grant)
+
+-- the book is asked to close a tile, and refuses it
+unfoldable pub not_closed : AtWork → BookValue
+not_closed a = book_step a.book a.worker.grant.worker (call.Close a.worker.grant)
+
+-- `close`: at the branch's end it is posted and closed; before it the book refuses, and the branch stays open
+abbrev pub close : AtWork → DeskAnswer
+close a =
+    if steps_ahead a.worker.runner == 0
+    then record { text = line_text (plain Closed); desk = desk (closed a) None }
+    else record { text = line_text (book_refusal NotAtEnd); desk = desk (not_closed a) (Some a.worker) }
+
+-- where a branch is left that couldn't be given up, out of memory: as it was, or with what wasn't posted posted
+abbrev pub IsNotGiven : AtWork → AtWork → Type 0
+IsNotGiven a b = (b ≡ a) ⊎ (b ≡ posted_if_any a)

@@ -1,0 +1,143 @@
+-- Steps of a session, onward and back.
+use Rattle.std.specs.Prelude.{ℕ, zero, suc, ◌≤◌, ◌≡◌, ◌⊎◌, ◌-◌, ◌==◌, nat_lt, true, if◌then◌else◌, List, [], ◌∷◌, ◌++◌, map, Option, Some, None}
+use Rattle.cover_problem.specs.Problem.{ProblemValue}
+use Rattle.x_steps.specs.StateValue.{StateValue}
+use Rattle.x_steps.specs.Steps.{next}
+use Rattle.x_steps.specs.Run.{after, steps_between, visits_between}
+use Rattle.x_branches.specs.Branch.{end_of}
+use Rattle.x_branches.specs.Runner.{RunnerValue}
+use Rattle.x_branches.specs.Refusals.{most_steps}
+use Rattle.x_snapshot.specs.declared.breakpoint.Break.{Break}
+use Rattle.lab_book.specs.declared.entry.Call.{Call}
+use Rattle.lab_book.specs.declared.entry.Call.TheVariants as call
+use Rattle.lab_book.specs.Book.{BookValue, book_step}
+use Rattle.lab_world.specs.Worker.{WorkerValue, moved_to, marked_at}
+use Rattle.debug_language.specs.declared.fault.DebugFault.TheVariants.{AtEnd, AtStart}
+use Rattle.debug_language.specs.declared.words.Plain.TheVariants.{End}
+use Rattle.debug_language.specs.declared.words.Counted.TheVariants.{Moved}
+use Rattle.debug_language.specs.Replies.{visit_words}
+use Rattle.debug_views.specs.Breakpoints.{first_met, steps_to_break}
+use Rattle.debug_views.specs.Lines.{plain, counted, state_line, met, debug_refusal}
+
+-- a book, and a worker that holds one of its tiles
+pub record AtWork : Type 0 where
+  pub book : BookValue
+  pub worker : WorkerValue
+
+-- this book and this worker, as one value
+abbrev pub work : BookValue → WorkerValue → AtWork
+work b w = record { book = b; worker = w }
+
+-- how many steps of a runner are not posted, and how many lie before it
+abbrev pub unposted_steps : RunnerValue → ℕ
+unposted_steps r = steps_between r.problem r.mark r.position
+
+-- how many steps lead from a runner on to the end of its branch
+abbrev pub steps_ahead : RunnerValue → ℕ
+steps_ahead r = steps_between r.problem r.position (end_of r.branch.hi)
+
+-- what isn't posted is posted
+abbrev pub post_call : WorkerValue → Call
+post_call w = call.Post w.grant w.runner.mark w.runner.position true
+
+-- the book once the worker's stretch that isn't posted is posted, and the worker, whose mark is now where its search stands
+unfoldable pub posted : AtWork → AtWork
+posted a = work (book_step a.book a.worker.grant.worker (post_call a.worker)) (marked_at a.worker a.worker.runner.position)
+
+-- the same, where there is something
+abbrev pub posted_if_any : AtWork → AtWork
+posted_if_any a = if nat_lt 0 (unposted_steps a.worker.runner) then posted a else a
+
+-- a stretch that has as many steps as can be counted is posted before the search goes on
+abbrev pub with_room : AtWork → AtWork
+with_room a = if unposted_steps a.worker.runner == most_steps then posted a else a
+
+-- one step onward
+unfoldable pub stepped : AtWork → AtWork
+stepped a = work (with_room a).book (moved_to (with_room a).worker (next a.worker.runner.problem a.worker.runner.position))
+
+-- and many
+abbrev pub forward : ℕ → AtWork → AtWork
+forward zero a = a
+forward (suc n) a = stepped (forward n a)
+
+-- where it is left when memory runs out: after some of the steps, and before the next one perhaps with its stretch posted
+pub record IsPartWay (a b : AtWork) (most : ℕ) : Type 0 where
+  pub steps : ℕ
+  pub within : steps ≤ most
+  pub left : (b ≡ forward steps a) ⊎ (b ≡ with_room (forward steps a))
+
+-- the lines of the visits between two states
+abbrev pub visit_lines : ProblemValue → StateValue → StateValue → List (List (List ℕ))
+visit_lines p s t = map visit_words (visits_between p s t)
+
+-- how many steps there were, and where the search stands
+abbrev pub moved_lines : ℕ → StateValue → List (List (List ℕ))
+moved_lines n s = counted Moved n ∷ state_line s ∷ []
+
+-- a runner so many steps on
+abbrev pub state_on : RunnerValue → ℕ → StateValue
+state_on r n = after r.problem n r.position
+
+-- after so many steps: the visits, how many steps there were, and where the search stands
+abbrev pub walk_lines : RunnerValue → ℕ → List (List (List ℕ))
+walk_lines r n = visit_lines r.problem r.position (state_on r n) ++ moved_lines n (state_on r n)
+
+-- the smaller one of two numbers
+abbrev pub smaller_of : ℕ → ℕ → ℕ
+smaller_of m n = if nat_lt m n then m else n
+
+-- ---- `step`: on by so many steps, or to the end; refused at the end
+
+-- how many steps `step` takes of n that are asked for: no more than lead to the end of the branch
+abbrev pub step_count : RunnerValue → ℕ → ℕ
+step_count r n = smaller_of n (steps_ahead r)
+
+-- one line more at the end
+abbrev pub end_lines : RunnerValue → ℕ → List (List (List ℕ))
+end_lines r n = if n == steps_ahead r then plain End ∷ [] else []
+
+-- what `step` answers where n steps are asked for
+abbrev pub step_lines : RunnerValue → ℕ → List (List (List ℕ))
+step_lines r n =
+    if steps_ahead r == 0 then debug_refusal AtEnd ∷ [] else
+    walk_lines r (step_count r n) ++ end_lines r (step_count r n)
+
+-- ---- `run`: on to the first state that meets a breakpoint, or to the end; refused at the end
+
+-- how many steps `run` takes: on to the first state that meets one of these breakpoints, or to the end of the branch; 0 at the end
+abbrev pub run_count : List Break → RunnerValue → ℕ
+run_count breaks r = if steps_ahead r == 0 then 0 else steps_to_break r.problem breaks r.position (end_of r.branch.hi)
+
+-- the breakpoint that was met, or else the end
+abbrev pub stop_line : List (List ℕ) → Option Break → List (List ℕ)
+stop_line names (Some b) = met names b
+stop_line names None = plain End
+
+-- what `run` answers with these breakpoints: the walk, and why it stopped
+abbrev pub run_lines : List Break → RunnerValue → List (List (List ℕ))
+run_lines breaks r =
+    if steps_ahead r == 0 then debug_refusal AtEnd ∷ [] else
+    walk_lines r (run_count breaks r) ++ stop_line r.problem.names (first_met r.problem breaks (state_on r (run_count breaks r))) ∷ []
+
+-- ---- `back`: back by so many steps, or to the mark; refused at the mark
+
+-- how many steps `back` takes of n that are asked for: no more than lead back to the mark
+abbrev pub back_count : RunnerValue → ℕ → ℕ
+back_count r n = smaller_of n (unposted_steps r)
+
+-- the state n steps before the one where runner r stands, back to its mark at most
+abbrev pub state_back : RunnerValue → ℕ → StateValue
+state_back r n = after r.problem (unposted_steps r - n) r.mark
+
+-- what `back` answers where n steps are asked for
+abbrev pub back_lines : RunnerValue → ℕ → List (List (List ℕ))
+back_lines r n =
+    if unposted_steps r == 0 then debug_refusal AtStart ∷ [] else
+    moved_lines (back_count r n) (state_back r (back_count r n))
+
+-- where it is left when memory runs out: so many steps back, all of them at most
+pub record IsPartBack (a b : WorkerValue) (most : ℕ) : Type 0 where
+  pub steps : ℕ
+  pub within : steps ≤ most
+  pub left : b ≡ moved_to a (state_back a.runner steps)

@@ -1,0 +1,93 @@
+//! A branch of the book is opened.
+ghost use Rattle.std.specs.Prelude.{◌≡◌, ◌<◌, ◌++◌, ◌⊎◌, None, Some, length, option_copied, IfOk, IfErr, OnOk, OnErr};
+ghost use Rattle.lab_book.specs.Tile.{is_held};
+ghost use Rattle.lab_book.specs.Tiling.{tile_at};
+ghost use Rattle.lab_book.specs.Book.{outcome, book_step};
+ghost use Rattle.lab_book.specs.Calls.{Refuses};
+ghost use Rattle.lab_world.specs.Worker.{HoldsTile, lent_worker};
+ghost use Rattle.lab_world.specs.World.{IsSeat};
+ghost use Rattle.debug_acts.specs.Desk.{desk};
+ghost use Rattle.debug_acts.specs.Entering.{enter_call, lent_by, enter};
+
+use cover_problem::Table;
+use debug_language::write_at;
+use debug_views::{place_at, write_book_fault};
+use lab_book::{Book, BookFault, Status};
+use lab_world::Worker;
+use std::alloc::{AllocError, Global};
+
+/// Whether a tile is held.
+fn is_held(status: Status) -> bool
+    ensures { result ≡ is_held status }
+{
+    match status {
+        Status::Held => true,
+        _ => false,
+    }
+}
+
+/// Worker 0 leases the tile at a place: a held one is taken.
+fn lend<'p, T: Table>(
+    alloc: Global,
+    book: &mut Book<'p>,
+    place: usize,
+) -> Result<Worker<'p, T>, BookFault>
+    requires { place < length book.old.tiles }
+    ensures book { OnOk result (book.new ≡ book_step book.old 0 (enter_call (tile_at book.old.tiles place))) }
+    ensures worker { IfOk result (λ x. Some x ≡
+        lent_worker book.old.problem (outcome book.old 0 (enter_call (tile_at book.old.tiles place))).reply) }
+    ensures refused { IfErr result (λ f. Refuses book.old book.new 0 (enter_call (tile_at book.old.tiles place)) f) }
+{
+    let tile = &book.tiles()[place];
+    let id = tile.id();
+    if is_held(tile.status()) {
+        Worker::take_held(alloc, book, 0, id)
+    } else {
+        Worker::lease(alloc, book, 0, id)
+    }
+}
+
+/// The tile at a place is opened. Its line is written before it is leased, so that no lease is lost when memory runs out.
+fn enter_at<'p, T: Table>(
+    alloc: Global,
+    book: &mut Book<'p>,
+    place: usize,
+    text: &mut Vec<u8>,
+) -> Result<Option<Worker<'p, T>>, AllocError>
+    requires { place < length book.old.tiles }
+    ensures made { IfOk result (λ worker. desk book.new worker ≡ (lent_by book.old (enter_call (tile_at book.old.tiles place))).desk) }
+    ensures text { OnOk result (text.new.items ≡ text.old.items ++ (lent_by book.old (enter_call (tile_at book.old.tiles place))).text) }
+    ensures left { OnErr result ((book.new ≡ book.old)
+        ⊎ (desk book.new None ≡ (lent_by book.old (enter_call (tile_at book.old.tiles place))).desk)) }
+    ensures seat { IfOk result (IsSeat book.new 0) }
+{
+    let written = text.len();
+    write_at(text, book.tiles()[place].mark())?;
+    let fault = match lend(alloc, book, place) {
+        Ok(worker) => return Ok(Some(worker)),
+        Err(fault) => fault,
+    };
+    text.truncate(written);
+    write_book_fault(text, &fault)?;
+    Ok(None)
+}
+
+/// `open`: leases the tile that begins at a cut, and isn't closed, to worker 0, which stands at the tile's mark. Refused where there
+/// is none, and as the book refuses it. Out of memory, no tile is leased.
+pub fn enter<'p, T: Table>(
+    alloc: Global,
+    book: &mut Book<'p>,
+    lo: Option<&[u32]>,
+    text: &mut Vec<u8>,
+) -> Result<Option<Worker<'p, T>>, AllocError>
+    ensures made { IfOk result (λ worker. desk book.new worker ≡ (enter book.old (option_copied lo.entry)).desk) }
+    ensures text { OnOk result (text.new.items ≡ text.old.items ++ (enter book.old (option_copied lo.entry)).text) }
+    ensures left { OnErr result ((book.new ≡ book.old) ⊎ (desk book.new None ≡ (enter book.old (option_copied lo.entry)).desk)) }
+    ensures seat { IfOk result (IsSeat book.new 0) }
+{
+    let Some(place) = place_at(book, lo) else {
+        write_book_fault(text, &BookFault::UnknownBranch)?;
+        return Ok(None);
+    };
+    enter_at(alloc, book, place, text)
+}

@@ -1,0 +1,48 @@
+//! So many steps back.
+ghost use Rattle.std.specs.Prelude.{◌≡◌, ◌<◌, ◌++◌, OnOk, OnErr};
+ghost use Rattle.text_lines.specs.Writing.{text_of};
+ghost use Rattle.lab_book.specs.Book.{BookValue};
+ghost use Rattle.lab_world.specs.Worker.{HoldsTile, moved_to};
+ghost use Rattle.debug_acts.specs.Walking.{IsPartBack, state_back, back_count, back_lines};
+
+use crate::walking::write_moved;
+use cover_problem::Table;
+use debug_language::{DebugFault, write_debug_fault};
+use lab_world::Worker;
+use std::alloc::AllocError;
+
+/// Goes up to so many steps back, to its mark at most. How many these were.
+fn go_back<T: Table>(worker: &mut Worker<'_, T>, most: u32) -> u32
+    ensures count { result ≡ back_count worker.old.runner most }
+    ensures made { worker.new ≡ moved_to worker.old (state_back worker.old.runner (back_count worker.old.runner most)) }
+    ensures holds { (b : BookValue) → HoldsTile b worker.old → HoldsTile b worker.new }
+{
+    let _state = worker.runner().state();
+    for gone in 0..most {
+        let Ok(()) = worker.back() else {
+            return gone;
+        };
+    }
+    most
+}
+
+/// `back`: up to so many steps of a worker back, to its mark at most; refused there. Out of memory it has gone some of them.
+pub fn back<T: Table>(
+    worker: &mut Worker<'_, T>,
+    most: u32,
+    text: &mut Vec<u8>,
+) -> Result<(), AllocError>
+    requires some { 0 < most }
+    ensures made { OnOk result (worker.new
+        ≡ moved_to worker.old (state_back worker.old.runner (back_count worker.old.runner most))) }
+    ensures text { OnOk result (text.new.items ≡ text.old.items ++ text_of (back_lines worker.old.runner most)) }
+    ensures left { OnErr result (IsPartBack worker.old worker.new (back_count worker.old.runner most)) }
+    ensures holds { (b : BookValue) → HoldsTile b worker.old → HoldsTile b worker.new }
+{
+    let _state = worker.runner().state();
+    if worker.runner().unposted() == 0 {
+        return write_debug_fault(text, DebugFault::AtStart);
+    }
+    let moved = go_back(worker, most);
+    write_moved(text, moved as u128, worker)
+}

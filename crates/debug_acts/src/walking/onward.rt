@@ -1,0 +1,70 @@
+//! So many steps onward.
+ghost use Rattle.std.specs.Prelude.{◌≡◌, ◌<◌, ◌++◌, IfOk, OnOk, OnErr};
+ghost use Rattle.text_lines.specs.Writing.{text_of};
+ghost use Rattle.lab_world.specs.Worker.{HoldsTile};
+ghost use Rattle.debug_acts.specs.Walking.{work, forward, IsPartWay, state_on, visit_lines, step_count, step_lines};
+
+use crate::walking::{step_on, write_moved};
+use cover_problem::Table;
+use debug_language::{DebugFault, Plain, write_debug_fault, write_plain};
+use lab_book::Book;
+use lab_world::Worker;
+use std::alloc::AllocError;
+
+/// Goes up to so many steps on, to its branch's end at most, and writes the visits. How many steps these were.
+fn walk<'p, T: Table>(
+    book: &mut Book<'p>,
+    worker: &mut Worker<'p, T>,
+    most: u32,
+    text: &mut Vec<u8>,
+) -> Result<u32, AllocError>
+    requires holds { HoldsTile book.old worker.old }
+    ensures count { IfOk result (λ count. count ≡ step_count worker.old.runner most) }
+    ensures made { OnOk result (work book.new worker.new
+        ≡ forward (step_count worker.old.runner most) (work book.old worker.old)) }
+    ensures text { OnOk result (text.new.items ≡ text.old.items ++ text_of (visit_lines worker.old.runner.problem
+        worker.old.runner.position (state_on worker.old.runner (step_count worker.old.runner most)))) }
+    ensures left { OnErr result (IsPartWay (work book.old worker.old) (work book.new worker.new)
+        (step_count worker.old.runner most)) }
+    ensures holds_on { HoldsTile book.new worker.new }
+{
+    // What is true of a book and of a runner is told by these.
+    let _tiles = book.tiles();
+    let _state = worker.runner().state();
+    for taken in 0..most {
+        if worker.runner().is_at_end() {
+            return Ok(taken);
+        }
+        step_on(book, worker, text)?;
+    }
+    Ok(most)
+}
+
+/// `step`: up to so many steps of a worker, to its branch's end at most; refused there. Out of memory it has gone some of them.
+pub fn step<'p, T: Table>(
+    book: &mut Book<'p>,
+    worker: &mut Worker<'p, T>,
+    most: u32,
+    text: &mut Vec<u8>,
+) -> Result<(), AllocError>
+    requires holds { HoldsTile book.old worker.old }
+    requires some { 0 < most }
+    ensures made { OnOk result (work book.new worker.new
+        ≡ forward (step_count worker.old.runner most) (work book.old worker.old)) }
+    ensures text { OnOk result (text.new.items ≡ text.old.items ++ text_of (step_lines worker.old.runner most)) }
+    ensures left { OnErr result (IsPartWay (work book.old worker.old) (work book.new worker.new)
+        (step_count worker.old.runner most)) }
+    ensures holds_on { HoldsTile book.new worker.new }
+{
+    let _tiles = book.tiles();
+    let _state = worker.runner().state();
+    if worker.runner().is_at_end() {
+        return write_debug_fault(text, DebugFault::AtEnd);
+    }
+    let moved = walk(book, worker, most, text)?;
+    write_moved(text, moved as u128, worker)?;
+    if worker.runner().is_at_end() {
+        return write_plain(text, Plain::End);
+    }
+    Ok(())
+}

@@ -1,0 +1,74 @@
+//! The commands that are done by the engine, and not by a search.
+ghost use Rattle.std.specs.Prelude.{◌≡◌};
+ghost use Rattle.text_lines.specs.Lines.{words_of};
+ghost use Rattle.debug_language.specs.Reading as spec;
+ghost use Rattle.debug_language.specs.Reading.{engine_command_of};
+
+use crate::reading::{count_from, number_from};
+use text_lines::{has_words, split_word, without_return};
+
+/// The most workers that a search can have.
+const MOST_WORKERS: u32 = 32;
+
+/// What a command line asks of the engine.
+#[derive(Clone, Copy, Debug, PartialEq, Eq)]
+pub enum EngineCommand {
+    /// A search from the snapshot in so many lines that follow.
+    Load(u32),
+    /// A search by so many workers, 1 to 32.
+    Pool(u32),
+    /// The end of all commands.
+    Quit,
+}
+
+/// The snapshot to read, as the words say.
+fn load_from(words: &[u8]) -> Option<EngineCommand>
+    ensures { result ≡ spec.load_from (words_of words.now) }
+{
+    let lines = number_from(words)?;
+    Some(EngineCommand::Load(lines))
+}
+
+/// The workers to search, as the words say.
+fn pool_from(words: &[u8]) -> Option<EngineCommand>
+    ensures { result ≡ spec.pool_from (words_of words.now) }
+{
+    let workers = count_from(words)?;
+    if workers <= MOST_WORKERS {
+        Some(EngineCommand::Pool(workers))
+    } else {
+        None
+    }
+}
+
+/// The end, where no word follows.
+fn quit_from(words: &[u8]) -> Option<EngineCommand>
+    ensures { result ≡ spec.quit_from (words_of words.now) }
+{
+    if has_words(words) {
+        None
+    } else {
+        Some(EngineCommand::Quit)
+    }
+}
+
+/// The engine's command of these words.
+#[tactic(auto, unfolding(crate::specs::Reading::engine_from))]
+fn engine_from(words: &[u8]) -> Option<EngineCommand>
+    ensures { result ≡ spec.engine_from (words_of words.now) }
+{
+    let (key, rest) = split_word(words)?;
+    match key {
+        b"load" => load_from(rest),
+        b"pool" => pool_from(rest),
+        b"quit" => quit_from(rest),
+        _ => None,
+    }
+}
+
+/// Reads a command line: the engine's command that it is, or None. None of these is a command of a search.
+pub fn read_engine_command(line: &[u8]) -> Option<EngineCommand>
+    ensures { result ≡ engine_command_of line.now }
+{
+    engine_from(without_return(line))
+}

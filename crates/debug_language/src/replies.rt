@@ -1,0 +1,70 @@
+//! The lines of replies.
+ghost use Rattle.std.specs.Prelude.{◌≡◌, ◌++◌, ◌∷◌, [], true, map, decimal, codes, OnOk};
+ghost use Rattle.text_lines.specs.Writing.{line_text, text_of};
+ghost use Rattle.x_steps.specs.StateView.{state_value};
+ghost use Rattle.x_snapshot.specs.Breaks.{is_break};
+ghost use Rattle.x_snapshot.specs.Writing.{state_words, point_words};
+ghost use Rattle.debug_language.specs.Replies.{plain_word, counted_word, visit_words};
+
+use crate::words::{Counted, Plain};
+use cover_problem::{Lists, Problem};
+use std::alloc::AllocError;
+use text_lines::{write_number_line, write_numbers_line};
+use x_snapshot::{Break, write_break, write_state};
+use x_steps::State;
+
+/// Writes a line that is always the same.
+pub fn write_plain(text: &mut Vec<u8>, plain: Plain) -> Result<(), AllocError>
+    ensures { OnOk result (text.new.items ≡ text.old.items ++ line_text (plain_word plain ∷ [])) }
+{
+    text.extend_from_slice(plain.word().as_bytes())?;
+    text.push(b'\n')?;
+    Ok(())
+}
+
+/// Writes the line of a count.
+pub fn write_counted(text: &mut Vec<u8>, counted: Counted, count: u128) -> Result<(), AllocError>
+    ensures { OnOk result (text.new.items ≡ text.old.items ++ line_text (counted_word counted ∷ decimal count ∷ [])) }
+{
+    write_number_line(text, counted.word(), count)
+}
+
+/// Writes where the search stands: its label, its cursor and its choices.
+pub fn write_at(text: &mut Vec<u8>, state: &State) -> Result<(), AllocError>
+    ensures { OnOk result (text.new.items ≡ text.old.items ++ line_text (codes "at" ∷ state_words (state_value state.now))) }
+{
+    write_state(text, "at", state)
+}
+
+/// Writes a visit: its choices.
+pub fn write_visit(text: &mut Vec<u8>, path: &[u32]) -> Result<(), AllocError>
+    ensures { OnOk result (text.new.items ≡ text.old.items ++ line_text (visit_words path.now)) }
+{
+    write_numbers_line(text, "visit", path)
+}
+
+/// Writes visits, a line for each.
+pub fn write_visits(text: &mut Vec<u8>, visits: &Lists) -> Result<(), AllocError>
+    ensures { OnOk result (text.new.items ≡ text.old.items ++ text_of (map visit_words visits.now)) }
+{
+    for place in 0..visits.len() {
+        write_visit(text, visits.list(place))?;
+    }
+    Ok(())
+}
+
+/// Writes a breakpoint that was set.
+pub fn write_set(text: &mut Vec<u8>, problem: &Problem, breakpoint: Break) -> Result<(), AllocError>
+    requires { is_break problem.now breakpoint ≡ true }
+    ensures { OnOk result (text.new.items ≡ text.old.items ++ line_text (codes "set" ∷ point_words problem.now.names breakpoint)) }
+{
+    write_break(text, "set", problem, breakpoint)
+}
+
+/// Writes the breakpoint that was met.
+pub fn write_met(text: &mut Vec<u8>, problem: &Problem, breakpoint: Break) -> Result<(), AllocError>
+    requires { is_break problem.now breakpoint ≡ true }
+    ensures { OnOk result (text.new.items ≡ text.old.items ++ line_text (codes "break" ∷ point_words problem.now.names breakpoint)) }
+{
+    write_break(text, "break", problem, breakpoint)
+}

@@ -1,0 +1,159 @@
+//! The lines that show branches, items and levels.
+ghost use Rattle.std.specs.Prelude.{◌≡◌, ◌<◌, ◌≤◌, ◌++◌, ◌∷◌, [], true, map, codes, length, count_by, option_copied, OnOk};
+ghost use Rattle.std.specs.List.{list_all};
+ghost use Rattle.text_lines.specs.Lines.{is_newline};
+ghost use Rattle.text_lines.specs.Writing.{spaced, words_after, line_text, text_of};
+ghost use Rattle.cover_problem.specs.Problem.{is_item, name_at};
+ghost use Rattle.x_steps.specs.StateView.{row_values};
+ghost use Rattle.debug_language.specs.Replies.{branch_words, standing_words, untried_words, covered_words, listed_word, list_words};
+ghost use Rattle.debug_language.specs.Replies.{levels_words, saved_text, are_of_items};
+
+use crate::replies::write_counted;
+use crate::words::{Counted, Listed, Standing};
+use cover_problem::Problem;
+use std::alloc::AllocError;
+use text_lines::{write_number, write_numbers, write_word};
+use x_snapshot::write_cut;
+
+/// Writes a branch without the end of its line.
+fn write_cuts(text: &mut Vec<u8>, lo: Option<&[u32]>, hi: Option<&[u32]>) -> Result<(), AllocError>
+    ensures { OnOk result (text.new.items ≡ text.old.items ++ spaced (branch_words (option_copied lo.entry) (option_copied hi.entry))) }
+{
+    text.extend_from_slice(b"branch")?;
+    write_cut(text, "start", lo)?;
+    write_word(text, "to")?;
+    write_cut(text, "end", hi)?;
+    Ok(())
+}
+
+/// Writes a branch: the choices of its cuts, None for the start and the end of the run.
+pub fn write_branch(
+    text: &mut Vec<u8>,
+    lo: Option<&[u32]>,
+    hi: Option<&[u32]>,
+) -> Result<(), AllocError>
+    ensures { OnOk result (text.new.items ≡ text.old.items
+        ++ line_text (branch_words (option_copied lo.entry) (option_copied hi.entry))) }
+{
+    write_cuts(text, lo, hi)?;
+    text.push(b'\n')?;
+    Ok(())
+}
+
+/// Writes a branch, and how it stands.
+pub fn write_standing(
+    text: &mut Vec<u8>,
+    lo: Option<&[u32]>,
+    hi: Option<&[u32]>,
+    standing: Standing,
+) -> Result<(), AllocError>
+    ensures { OnOk result (text.new.items ≡ text.old.items
+        ++ line_text (standing_words (option_copied lo.entry) (option_copied hi.entry) standing)) }
+{
+    write_cuts(text, lo, hi)?;
+    write_word(text, standing.word())?;
+    text.push(b'\n')?;
+    Ok(())
+}
+
+/// Writes the options of a level that can be cut off.
+pub fn write_untried(text: &mut Vec<u8>, level: usize, options: &[u32]) -> Result<(), AllocError>
+    ensures { OnOk result (text.new.items ≡ text.old.items ++ line_text (untried_words level options.now)) }
+{
+    text.extend_from_slice(b"untried")?;
+    write_number(text, level)?;
+    write_numbers(text, options)?;
+    text.push(b'\n')?;
+    Ok(())
+}
+
+/// Writes the names of items, each after a word.
+fn write_names(text: &mut Vec<u8>, problem: &Problem, items: &[u32]) -> Result<(), AllocError>
+    requires { list_all (is_item (length problem.now.names)) items.now ≡ true }
+    ensures { OnOk result (text.new.items ≡ text.old.items ++ words_after (map (name_at problem.now.names) items.now)) }
+{
+    for item in items {
+        write_word(text, problem.name(*item))?;
+    }
+    Ok(())
+}
+
+/// Writes the covered items by their names.
+pub fn write_covered(text: &mut Vec<u8>, problem: &Problem, items: &[u32]) -> Result<(), AllocError>
+    requires { list_all (is_item (length problem.now.names)) items.now ≡ true }
+    ensures { OnOk result (text.new.items ≡ text.old.items ++ line_text (covered_words problem.now.names items.now)) }
+{
+    if items.is_empty() {
+        return text.extend_from_slice(b"covered -\n");
+    }
+    text.extend_from_slice(b"covered")?;
+    write_names(text, problem, items)?;
+    text.push(b'\n')?;
+    Ok(())
+}
+
+/// Writes an item by its name, how many options its list has, and these.
+pub fn write_list(
+    text: &mut Vec<u8>,
+    problem: &Problem,
+    listed: Listed,
+    item: u32,
+    options: &[u32],
+) -> Result<(), AllocError>
+    requires some { 0 < item }
+    requires within { item ≤ length problem.now.names }
+    ensures { OnOk result (text.new.items ≡ text.old.items
+        ++ line_text (list_words problem.now.names listed (item, options.now))) }
+{
+    text.extend_from_slice(listed.word().as_bytes())?;
+    write_word(text, problem.name(item))?;
+    write_number(text, options.len())?;
+    write_numbers(text, options)?;
+    text.push(b'\n')?;
+    Ok(())
+}
+
+/// Writes items with their options, a line for each.
+pub fn write_lists(
+    text: &mut Vec<u8>,
+    problem: &Problem,
+    listed: Listed,
+    rows: &[(u32, Vec<u32>)],
+) -> Result<(), AllocError>
+    requires { are_of_items problem.now (row_values rows.now) ≡ true }
+    ensures { OnOk result (text.new.items ≡ text.old.items
+        ++ text_of (map (list_words problem.now.names listed) (row_values rows.now))) }
+{
+    for row in rows {
+        write_list(text, problem, listed, row.0, &row.1)?;
+    }
+    Ok(())
+}
+
+/// Writes the counts of the levels from 0 on, that of level 0 at least.
+pub fn write_levels(text: &mut Vec<u8>, counts: &[u128]) -> Result<(), AllocError>
+    ensures { OnOk result (text.new.items ≡ text.old.items ++ line_text (levels_words counts.now)) }
+{
+    if counts.is_empty() {
+        return text.extend_from_slice(b"levels 0\n");
+    }
+    text.extend_from_slice(b"levels")?;
+    write_numbers(text, counts)?;
+    text.push(b'\n')?;
+    Ok(())
+}
+
+/// How many newlines a text has.
+fn newlines(text: &[u8]) -> usize
+    ensures { result ≡ count_by is_newline text.now }
+{
+    text.iter().filter(|byte| **byte == b'\n').count()
+}
+
+/// Writes the text of a snapshot after the number of its lines.
+pub fn write_saved(text: &mut Vec<u8>, snapshot: &[u8]) -> Result<(), AllocError>
+    ensures { OnOk result (text.new.items ≡ text.old.items ++ saved_text snapshot.now) }
+{
+    write_counted(text, Counted::Snapshot, newlines(snapshot) as u128)?;
+    text.extend_from_slice(snapshot)
+}

@@ -1,0 +1,47 @@
+-- What command lines are answered, one after the other.
+--
+-- A line asks the engine or the session. `load` takes the lines that follow, so many as it says or as there are, and they are no
+-- commands; `quit` ends the commands; `pool` has all waiting tiles searched, by however many workers.
+--
+-- Example: after `load 1` and one line more, `show` is answered; after `quit` nothing is.
+-- proofs/ReplyExamples.antt computes it.
+use Rattle.std.specs.Prelude.{ℕ, zero, suc, ◌++◌, List, [], ◌∷◌, take, Option, Some, None, option_map, unwrap_or}
+use Rattle.std.specs.List.{concat}
+use Rattle.debug_language.specs.declared.engine.EngineCommand.{EngineCommand}
+use Rattle.debug_language.specs.declared.engine.EngineCommand.TheVariants as engine
+use Rattle.debug_language.specs.Reading.{engine_command_of}
+use Rattle.x_debug.specs.Session.{SessionValue}
+use Rattle.x_debug.specs.Commands.{Answer, answer_line}
+use Rattle.x_debug.specs.Loading.{load_answer}
+use Rattle.debug_script.specs.Input.{without_newline}
+use Rattle.debug_script.specs.Pooling.{answer_pool}
+
+-- what a line is answered, the session that is left, and how many of the lines after it are taken with it; None where it ends the
+-- commands
+pub record Exchange : Type 0 where
+  pub text : List ℕ
+  pub session : SessionValue
+  pub taken : Option ℕ
+
+-- an answer, by which so many lines are taken
+abbrev pub exchange_with : Answer → ℕ → Exchange
+exchange_with a n = record { text = a.text; session = a.session; taken = Some n }
+
+-- a line that asks this of the engine, or else something of the session, before these lines
+abbrev pub exchange_by : SessionValue → List ℕ → List (List ℕ) → Option EngineCommand → Exchange
+exchange_by s line after None = exchange_with (answer_line s line) 0
+exchange_by s line after (Some (engine.Load n)) = exchange_with (load_answer s (concat (take n after))) n
+exchange_by s line after (Some (engine.Pool n)) = exchange_with (answer_pool s) 0
+exchange_by s line after (Some engine.Quit) = record { text = []; session = s; taken = None }
+
+-- what a raw line is answered, with these lines after it: it is the engine's own command, or else one line of session s
+unfoldable pub exchange : SessionValue → List ℕ → List (List ℕ) → Exchange
+exchange s raw after = exchange_by s (without_newline raw) after (engine_command_of (without_newline raw))
+
+-- the answers to raw lines, of which so many are taken already
+unfoldable pub debug_replies : SessionValue → ℕ → List (List ℕ) → List ℕ
+debug_replies s n [] = []
+debug_replies s (suc n) (line ∷ after) = debug_replies s n after
+debug_replies s zero (line ∷ after) =
+    let t = exchange s line after in
+    t.text ++ unwrap_or (option_map (λ n. debug_replies t.session n after) t.taken) []

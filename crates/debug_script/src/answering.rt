@@ -1,0 +1,109 @@
+//! What a session of a problem answers to command lines.
+ghost use Rattle.std.specs.Prelude.{◌≡◌, ◌≤◌, ◌++◌, length, drop, option_map, IfOk, IfSome, OnOk};
+ghost use Rattle.alike_sessions.specs.AlikeSessions.{AreSoundAlike};
+ghost use Rattle.x_debug.specs.Session.{SessionValue, fresh_session};
+ghost use Rattle.debug_script.specs.Input.{raw_lines};
+ghost use Rattle.debug_script.specs.Replies as spec;
+ghost use Rattle.debug_script.specs.Replies.{debug_replies};
+
+use crate::fault::RepliesFault;
+use crate::input::{raw_line, take_lines, without_newline};
+use crate::pooling::pool;
+use cover_problem::{Problem, Table};
+use debug_language::{EngineCommand, read_engine_command};
+use lab_pool::Gate;
+use std::alloc::{AllocError, Global};
+use std::sync::Wait;
+use std::thread::Threads;
+use x_debug::Session;
+
+/// Writes an answer after those before it.
+pub(crate) fn append(text: &mut Vec<u8>, answer: &[u8]) -> Result<(), AllocError>
+    ensures { OnOk result (text.new.items ≡ text.old.items ++ answer.now) }
+{
+    text.extend_from_slice(answer)
+}
+
+/// Answers a line, and tells what is left of what stands after it; None where the commands end. What is answered is the same for
+/// each sound session that is alike.
+fn exchange<'p, 'a, T: Table, R: Threads + Wait + Sync, G: Gate>(
+    rt: &R,
+    alloc: Global,
+    session: Session<'p, T>,
+    raw: &[u8],
+    after: &'a [u8],
+    gate: &G,
+    text: &mut Vec<u8>,
+) -> Result<(Session<'p, T>, Option<&'a [u8]>), RepliesFault>
+    ensures text { OnOk result ((f : SessionValue) → AreSoundAlike session.entry f →
+        text.new.items ≡ text.old.items ++ (spec.exchange f raw.now (raw_lines after.now)).text) }
+    ensures session { IfOk result (λ r. (f : SessionValue) → AreSoundAlike session.entry f →
+        AreSoundAlike r.0 (spec.exchange f raw.now (raw_lines after.now)).session) }
+    ensures left { IfOk result (λ r. (f : SessionValue) → option_map (λ rest. raw_lines rest.now) r.1
+        ≡ option_map (λ n. drop n (raw_lines after.now)) (spec.exchange f raw.now (raw_lines after.now)).taken) }
+    ensures no_longer { IfOk result (λ r. IfSome r.1 (λ rest. length rest.now ≤ length after.now)) }
+{
+    let mut session = session;
+    let line = without_newline(raw);
+    match read_engine_command(line) {
+        None => {
+            let reply = session.command(line)?;
+            append(text, reply.text.as_slice())?;
+            Ok((session, Some(after)))
+        }
+        Some(EngineCommand::Load(lines)) => {
+            let (snapshot, rest) = take_lines(after, lines);
+            let loaded = session.load(snapshot)?;
+            append(text, loaded.text.as_slice())?;
+            Ok((session, Some(rest)))
+        }
+        Some(EngineCommand::Pool(workers)) => {
+            let session = pool(rt, alloc, session, workers, gate, text)?;
+            Ok((session, Some(after)))
+        }
+        Some(EngineCommand::Quit) => Ok((session, None)),
+    }
+}
+
+/// Answers command lines, up to `quit` or the last, as each sound session does that is alike.
+fn answer_lines<T: Table, R: Threads + Wait + Sync, G: Gate>(
+    rt: &R,
+    alloc: Global,
+    session: Session<'_, T>,
+    commands: &[u8],
+    gate: &G,
+    text: &mut Vec<u8>,
+) -> Result<(), RepliesFault>
+    ensures { OnOk result ((f : SessionValue) → AreSoundAlike session.entry f →
+        text.new.items ≡ text.old.items ++ debug_replies f 0 (raw_lines commands.now)) }
+{
+    let mut session = session;
+    let mut rest = commands;
+    while !rest.is_empty() {
+        let (raw, after) = raw_line(rest);
+        let (left, further) = exchange(rt, alloc, session, raw, after, gate, text)?;
+        let Some(further) = further else {
+            return Ok(());
+        };
+        session = left;
+        rest = further;
+    }
+    Ok(())
+}
+
+/// What a new session of the problem answers to command lines, up to `quit` or the last. A command that is refused is told in the
+/// text; a `pool` whose workers don't finish ends all.
+pub fn replies<T: Table, R: Threads + Wait + Sync, G: Gate>(
+    rt: &R,
+    alloc: Global,
+    problem: &Problem,
+    commands: &[u8],
+    gate: &G,
+) -> Result<Vec<u8>, RepliesFault>
+    ensures { IfOk result (λ text. text.items ≡ debug_replies (fresh_session problem.now) 0 (raw_lines commands.now)) }
+{
+    let session = Session::<T>::new(alloc, problem)?;
+    let mut text = Vec::new(alloc);
+    answer_lines(rt, alloc, session, commands, gate, &mut text)?;
+    Ok(text)
+}

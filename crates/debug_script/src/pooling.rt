@@ -1,0 +1,98 @@
+//! A session's book is searched by workers on threads.
+ghost use Rattle.std.specs.Prelude.{◌≡◌, ◌++◌, OnOk, IfOk, IfErr};
+ghost use Rattle.text_lines.specs.Writing.{line_text};
+ghost use Rattle.lab_book.specs.Book.{leased_in};
+ghost use Rattle.lab_book.specs.Tiling.{IsTiling};
+ghost use Rattle.alike_books.specs.Searched.{IsSearched};
+ghost use Rattle.alike_sessions.specs.AlikeSessions.{AreSoundAlike};
+ghost use Rattle.debug_views.specs.Lines.{debug_refusal};
+ghost use Rattle.x_debug.specs.Session.{SessionValue, session_on};
+ghost use Rattle.debug_script.specs.Pooling.{none_held, pool_words, answer_pool};
+
+use crate::answering::append;
+use crate::fault::RepliesFault;
+use cover_problem::Table;
+use debug_language::{DebugFault, write_debug_fault};
+use lab_book::Book;
+use lab_pool::{Gate, PoolFault, run_pool_on};
+use std::alloc::{AllocError, Global};
+use std::sync::Wait;
+use std::thread::Threads;
+use x_debug::Session;
+use x_steps::Refused;
+
+/// The line that answers a pool: all tiles are closed, or held ones are left.
+fn pool_line(all: bool) -> &'static [u8]
+    ensures { result.now ≡ line_text (pool_words all) }
+{
+    if all {
+        b"pooled\n"
+    } else {
+        b"refused pool 3 Held\n"
+    }
+}
+
+/// Writes that a branch is open.
+fn refuse_open(text: &mut Vec<u8>) -> Result<(), AllocError>
+    ensures { OnOk result (text.new.items ≡ text.old.items ++ line_text (debug_refusal DebugFault.AlreadyOpen)) }
+{
+    write_debug_fault(text, DebugFault::AlreadyOpen)
+}
+
+/// The book that so many workers leave, and whether all its tiles are closed, or held ones are left.
+fn search<'p, R: Threads + Wait + Sync, G: Gate>(
+    rt: &R,
+    alloc: Global,
+    book: Book<'p>,
+    workers: u32,
+    gate: &G,
+) -> Result<(Book<'p>, bool), RepliesFault>
+    requires free { leased_in book.tiles ≡ 0 }
+    ensures searched { IfOk result (λ r. IsSearched book.entry r.0) }
+    ensures tiling { IfOk result (λ r. IsTiling r.0.problem r.0.branch r.0.first r.0.tiles) }
+    ensures all { IfOk result (λ r. r.1 ≡ none_held book.entry) }
+{
+    match run_pool_on(rt, alloc, book, workers, gate) {
+        Ok(book) => {
+            let _tiles = book.tiles();
+            Ok((book, true))
+        }
+        Err(
+            Refused {
+                fault: PoolFault::Held,
+                given: Some(book),
+            },
+        ) => {
+            let _tiles = book.tiles();
+            Ok((book, false))
+        }
+        Err(refused) => Err(RepliesFault::Pool(refused.fault)),
+    }
+}
+
+/// Answers `pool`: the waiting tiles of the session's book are searched by so many workers, unless a
+/// tile is leased. No branch is open then, and no breakpoint is left.
+pub(crate) fn pool<'p, T: Table, R: Threads + Wait + Sync, G: Gate>(
+    rt: &R,
+    alloc: Global,
+    session: Session<'p, T>,
+    workers: u32,
+    gate: &G,
+    text: &mut Vec<u8>,
+) -> Result<Session<'p, T>, RepliesFault>
+    ensures text { OnOk result ((f : SessionValue) → AreSoundAlike session.entry f →
+        text.new.items ≡ text.old.items ++ (answer_pool f).text) }
+    ensures session { IfOk result (λ s. (f : SessionValue) → AreSoundAlike session.entry f →
+        AreSoundAlike s (answer_pool f).session) }
+{
+    if session.book().leased() > 0 {
+        refuse_open(text)?;
+        return Ok(session);
+    }
+    let Ok(book) = session.into_book() else {
+        unreachable!();
+    };
+    let (book, all) = search(rt, alloc, book, workers, gate)?;
+    append(text, pool_line(all))?;
+    Ok(Session::on_book(alloc, book))
+}

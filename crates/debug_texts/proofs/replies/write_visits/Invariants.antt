@@ -1,8 +1,0 @@
-use Rattle.std.proofs.Common.{◌≡◌, ◌++◌, map, take}
-use Rattle.text_lines.specs.Writing.{text_of}
-use Rattle.debug_texts.specs.Replies.{visit_words}
-use Rattle.debug_texts.proofs.replies.write_visits.Given as goal
-
--- the lines of the visits so far are written
-abbrev pub invariant-loop-place : goal.invariant-loop-place
-invariant-loop-place l = l.text.items ≡ l.fn.text.items ++ text_of (map visit_words (take l.place l.visits))

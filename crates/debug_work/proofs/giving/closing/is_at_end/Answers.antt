@@ -1,8 +1,0 @@
-use Rattle.std.proofs.Common.{subst}
-use Rattle.x_branches.specs.Runner.{IsRunner}
-use Rattle.debug_work.proofs.CloseLemmas.{none_ahead}
-use Rattle.debug_work.proofs.giving.closing.is_at_end.Goals as goal
-
-pub returns-clause-none_ahead : goal.returns-clause-none_ahead
-returns-clause-none_ahead g c =
-    none_ahead c.args.book.now c.args.worker.now c.tiles-tiles.ensures.tiling c.requires (subst IsRunner c.runner-runner.ensures c.state-state.ensures.runner) c.is_at_end.result (rw c.runner-runner.ensures at c.is_at_end.ensures)

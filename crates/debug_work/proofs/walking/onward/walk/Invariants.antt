@@ -1,7 +1,0 @@
-use Rattle.debug_work.specs.Walking.{work}
-use Rattle.debug_work.proofs.WalkedLemmas.{Walked}
-use Rattle.debug_work.proofs.walking.onward.walk.Given as goal
-
--- so many steps were taken
-abbrev pub invariant-loop-taken : goal.invariant-loop-taken
-invariant-loop-taken g l = Walked (work l.fn.book l.fn.worker) l.taken (work l.book l.worker) l.fn.text.items l.text.items

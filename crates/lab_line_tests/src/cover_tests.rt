@@ -1,0 +1,257 @@
+//! Whole inputs through `run`, with outputs that were worked out by hand or printed by other programs.
+
+use crate::poly_place_tests::ends_so;
+use byte_streams::Watched;
+use drawn_problems::SMALL;
+use lab_pool::NoGate;
+use polylab_engine::{Job, run};
+use std::alloc::{AllocError, Global};
+use std::io::{self, ErrorKind, Read, Write};
+use std::sync::Wait;
+use std::test::Fail;
+use std::thread::Threads;
+
+pub const SMALL_OUTPUT: &str = "visit 4 5 1\nvisits 1\nsteps 43\nlevels 1 2 2 1\n";
+
+/// What `cover` does with a text: its status, its output, and the line of its refusal.
+#[derive(Drop)]
+pub struct Done {
+    pub status: u8,
+    pub output: Vec<u8>,
+    pub faults: Vec<u8>,
+}
+
+/// The status of `cover` on what this reader reads.
+fn status_of<R: Threads + Wait + Sync, I: Read + Drop, O: Write + Drop>(
+    rt: &R,
+    alloc: Global,
+    reader: I,
+    writer: O,
+    faults: &mut Vec<u8>,
+) -> u8 {
+    run(
+        rt,
+        alloc,
+        Job::Cover { workers: 1 },
+        &NoGate,
+        &mut Watched::reader(reader),
+        &mut Watched::writer(writer),
+        &mut Watched::writer(faults),
+    )
+}
+
+pub fn cover<R: Threads + Wait + Sync>(rt: &R, alloc: Global, text: &[u8]) -> Done {
+    let mut output = Vec::new(alloc);
+    let mut faults = Vec::new(alloc);
+    let status = status_of(rt, alloc, text, &mut output, &mut faults);
+    Done {
+        status,
+        output,
+        faults,
+    }
+}
+
+#[test]
+fn covers_are_listed(rt: HostRuntime) {
+    let rows = [
+        (SMALL, SMALL_OUTPUT),
+        ("items a", "visits 0\nsteps 7\nlevels 1\n"),
+        (
+            "items a\noption a\noption a\n",
+            "visit 1\nvisit 2\nvisits 2\nsteps 15\nlevels 1 2\n",
+        ),
+        (
+            "items a b\nmaybe c\noption a c\noption b c\noption a\noption b\n",
+            "visit 1 4\nvisit 3 2\nvisit 3 4\nvisits 3\nsteps 35\nlevels 1 2 3\n",
+        ),
+    ];
+    for (text, output) in rows {
+        assert!(rt;
+            ends_so(
+                &rt,
+                rt.alloc(),
+                Job::Cover { workers: 1 },
+                text,
+                0,
+                output,
+                ""
+            ),
+            "for {text}"
+        );
+    }
+}
+
+#[test]
+fn texts_are_refused(rt: HostRuntime) {
+    let rows = [
+        (
+            "items a\noption a a",
+            "refused cover 4 ItemTwiceInOption line 2\n",
+        ),
+        ("items a\noption z", "refused cover 3 UnknownItem line 2\n"),
+        ("", "refused cover 6 NoItemLine line 0\n"),
+        ("items a-", "refused cover 1 BadName line 1\n"),
+        ("items a b a", "refused cover 2 RepeatedItem line 1\n"),
+        ("items a\nitem b", "refused cover 7 BadLine line 2\n"),
+        ("option -", "refused cover 6 NoItemLine line 1\n"),
+        ("option", "refused cover 7 BadLine line 1\n"),
+    ];
+    for (text, line) in rows {
+        assert!(rt;
+            ends_so(
+                &rt,
+                rt.alloc(),
+                Job::Cover { workers: 1 },
+                text,
+                3,
+                "",
+                line
+            ),
+            "for {text}"
+        );
+    }
+}
+
+/// Texts with a byte that isn't plain, each with the status and what is written and told of it.
+static ODD_BYTES: [(&[u8], u8, &[u8], &[u8]); 2] = [
+    (
+        b"items a\n\xff",
+        3,
+        b"",
+        b"refused cover 7 BadLine line 2\n",
+    ),
+    (b"items a\n#\xff", 0, b"visits 0\nsteps 7\nlevels 1\n", b""),
+];
+
+#[test]
+fn odd_bytes_stand_in_comments_alone(rt: HostRuntime) {
+    for (text, status, output, faults) in ODD_BYTES {
+        let done = cover(&rt, rt.alloc(), text);
+        assert!(rt; done.status == status);
+        assert!(rt; done.output.as_slice() == output);
+        assert!(rt; done.faults.as_slice() == faults);
+    }
+}
+
+/// `items a` and so many lines `option a`.
+pub fn equal_options(alloc: Global, count: usize) -> Result<Vec<u8>, AllocError> {
+    let mut text = Vec::from_slice(alloc, b"items a\n")?;
+    for _ in 0..count {
+        text.extend_from_slice(b"option a\n")?;
+    }
+    Ok(text)
+}
+
+/// How many lines a text has, and whether it ends with these.
+pub fn ends_with(text: &[u8], lines: usize, end: &[u8]) -> bool {
+    text.iter().filter(|byte| **byte == b'\n').count() == lines && text.ends_with(end)
+}
+
+#[test]
+pub fn equal_options_take_linear_time(rt: HostRuntime) -> Result<(), Fail> {
+    let text = equal_options(rt.alloc(), 70_000)?;
+    let found = cover(&rt, rt.alloc(), &text);
+    assert!(rt; found.status == 0);
+    assert!(rt;
+        ends_with(
+            &found.output,
+            70_003,
+            b"visit 70000\nvisits 70000\nsteps 280007\nlevels 1 70000\n"
+        )
+    );
+    let text = equal_options(rt.alloc(), 262_144)?;
+    let refused = cover(&rt, rt.alloc(), &text);
+    assert!(rt; refused.status == 3);
+    assert!(rt; refused.faults.as_slice() == b"refused cover 5 TooLarge line 262145\n".as_slice());
+    Ok(())
+}
+
+/// A reader that fails after its bytes.
+#[derive(Drop)]
+struct Breaks<'a>(&'a [u8]);
+
+impl Read for Breaks<'_> {
+    fn read(&mut self, buf: &mut [u8]) -> io::Result<usize> {
+        if self.0.is_empty() {
+            return Err(io::Error::from(ErrorKind::Other));
+        }
+        self.0.read(buf)
+    }
+}
+
+/// A writer that takes a byte a call, so many times.
+#[derive(Drop)]
+struct Takes {
+    left: usize,
+    taken: Vec<u8>,
+}
+
+impl Write for Takes {
+    fn write(&mut self, buf: &[u8]) -> io::Result<usize> {
+        if self.left == 0 || buf.is_empty() {
+            return Err(io::Error::from(ErrorKind::Other));
+        }
+        self.left -= 1;
+        self.taken.extend_from_slice(&buf[..1])?;
+        Ok(1)
+    }
+
+    fn flush(&mut self) -> io::Result<()> {
+        Ok(())
+    }
+}
+
+/// A reader that gives its bytes again and again, without end.
+#[derive(Drop)]
+struct Repeats<'a>(&'a [u8]);
+
+impl Read for Repeats<'_> {
+    fn read(&mut self, buf: &mut [u8]) -> io::Result<usize> {
+        let mut bytes = self.0;
+        bytes.read(buf)
+    }
+}
+
+/// Whether the input of a reader is refused, and nothing is written.
+fn refuses_input<R: Threads + Wait + Sync, I: Read + Drop>(
+    rt: &R,
+    alloc: Global,
+    reader: I,
+) -> bool {
+    let mut output: Vec<u8> = Vec::new(alloc);
+    let mut faults: Vec<u8> = Vec::new(alloc);
+    let status = status_of(rt, alloc, reader, &mut output, &mut faults);
+    status == 5 && output.is_empty() && faults.as_slice() == b"refused input\n".as_slice()
+}
+
+#[test]
+fn a_broken_reader_is_told(rt: HostRuntime) {
+    for len in 0..=SMALL.len() {
+        let reader = Breaks(&SMALL.as_bytes()[..len]);
+        assert!(rt; refuses_input(&rt, rt.alloc(), reader), "after {len}");
+    }
+}
+
+#[test]
+fn a_comment_without_end_is_refused(rt: HostRuntime) -> Result<(), Fail> {
+    let hashes = vec![in rt.alloc(); b'#'; 65_536]?;
+    assert!(rt; refuses_input(&rt, rt.alloc(), Repeats(hashes.as_slice())));
+    Ok(())
+}
+
+#[test]
+fn a_broken_writer_is_told(rt: HostRuntime) {
+    for left in 0..SMALL_OUTPUT.len() + 1 {
+        let mut faults: Vec<u8> = Vec::new(rt.alloc());
+        let mut writer = Takes {
+            left,
+            taken: Vec::new(rt.alloc()),
+        };
+        let status = status_of(&rt, rt.alloc(), SMALL.as_bytes(), &mut writer, &mut faults);
+        let whole = left == SMALL_OUTPUT.len();
+        let line: &[u8] = if whole { b"" } else { b"refused output\n" };
+        assert!(rt; status == if whole { 0 } else { 5 });
+        assert!(rt; writer.taken.as_slice() == &SMALL_OUTPUT.as_bytes()[..left]);
+        assert!(rt; faults.as_slice() == line);
+    }
+}

@@ -1,0 +1,237 @@
+//! Puzzles from their text to the output: rows that were worked by hand, and counts from the literature.
+
+use byte_streams::Watched;
+use lab_pool::NoGate;
+use polylab_engine::{Job, run};
+use std::alloc::Global;
+use std::sync::Wait;
+use std::test::Fail;
+use std::thread::Threads;
+
+pub const DOMINOES: &str = "piece A 000 100\npiece B 000 100\nbox 2 2 1\n";
+
+pub const STRIP: &str = "cells 000 100\nmaybe cells 200\npiece A 000 100\n";
+
+pub const OPTIONAL: &str = "cells 000 100\nmaybe cells 200\npiece A 000 100\nmaybe piece B 000\n";
+
+pub const SOMA: &str =
+    "piece V 000 100 010\npiece L 000 100 200 010\npiece T 000 100 200 110\npiece Z 000 100 110 210\n\
+     piece A 000 100 010 011\npiece B 000 100 010 101\npiece P 000 100 010 001\nbox 3 3 3\n";
+
+/// Whether the job on a text ends with this status, writes this text, and tells this line.
+pub fn ends_so<R: Threads + Wait + Sync>(
+    rt: &R,
+    alloc: Global,
+    job: Job,
+    text: &str,
+    status: u8,
+    written: &str,
+    line: &str,
+) -> bool {
+    let mut output = Vec::new(alloc);
+    let mut faults = Vec::new(alloc);
+    let ended = run(
+        rt,
+        alloc,
+        job,
+        &NoGate,
+        &mut Watched::reader(text.as_bytes()),
+        &mut Watched::writer(&mut output),
+        &mut Watched::writer(&mut faults),
+    );
+    ended == status
+        && output.as_slice() == written.as_bytes()
+        && faults.as_slice() == line.as_bytes()
+}
+
+#[test]
+fn packings_are_shown(rt: HostRuntime) {
+    let rows = [
+        (
+            DOMINOES,
+            "packing 1\nAB\nAB\npacking 2\nAA\nBB\npacking 3\nBB\nAA\npacking 4\nBA\nBA\npackings 4\n",
+        ),
+        ("box 1 1 1\npiece A 000 100\n", "packings 0\n"),
+        (
+            "cells 000 100 010 101\npiece A 000 100 010 011\n",
+            "packings 0\n",
+        ),
+        (STRIP, "packing 1\nAA_\npackings 1\n"),
+        (OPTIONAL, "packing 1\nAA_\npacking 2\nBAA\npackings 2\n"),
+    ];
+    for (text, written) in rows {
+        assert!(rt;
+            ends_so(
+                &rt,
+                rt.alloc(),
+                Job::Solve { workers: 1 },
+                text,
+                0,
+                written,
+                ""
+            ),
+            "for {text}"
+        );
+    }
+}
+
+#[test]
+fn packings_are_counted(rt: HostRuntime) {
+    let rows = [
+        (DOMINOES, "packings 4\noptions 8\nsteps 55\nlevels 1 4 4\n"),
+        (
+            "box 1 1 1\npiece A 000 100\n",
+            "packings 0\noptions 0\nsteps 7\nlevels 1\n",
+        ),
+        (STRIP, "packings 1\noptions 2\nsteps 11\nlevels 1 1\n"),
+        (OPTIONAL, "packings 2\noptions 4\nsteps 23\nlevels 1 2 1\n"),
+        (
+            "box 5 2 1\npiece A 000 100\npiece B 000 100\npiece C 000 100\npiece D 000 100\n\
+             piece E 000 100\n",
+            "packings 960\noptions 65\nsteps 14487\nlevels 1 10 60 300 960 960\n",
+        ),
+    ];
+    for (text, written) in rows {
+        assert!(rt;
+            ends_so(
+                &rt,
+                rt.alloc(),
+                Job::Count { workers: 1 },
+                text,
+                0,
+                written,
+                ""
+            ),
+            "for {text}"
+        );
+    }
+}
+
+/// Puzzles, each with the cover text that is written of it.
+static OPTIONS: [(&str, &str); 3] = [
+    (
+        DOMINOES,
+        "items A B 000 010 100 110\noption A 000 010\noption A 000 100\noption A 010 110\n\
+         option A 100 110\noption B 000 010\noption B 000 100\noption B 010 110\noption B 100 110\n",
+    ),
+    (
+        STRIP,
+        "items A 000 100\nmaybe 200\noption A 000 100\noption A 100 200\n",
+    ),
+    (
+        OPTIONAL,
+        "items A 000 100\nmaybe B 200\noption A 000 100\noption A 100 200\noption B 000\noption B 100\n",
+    ),
+];
+
+#[test]
+fn options_are_written(rt: HostRuntime) {
+    for (text, written) in &OPTIONS {
+        assert!(rt;
+            ends_so(&rt, rt.alloc(), Job::Options, text, 0, written, ""),
+            "for {text}"
+        );
+    }
+}
+
+/// Texts of puzzles, each with the line that refuses it.
+static REFUSED: [(&str, &str); 7] = [
+    (
+        "piece V 000 100 100\n",
+        "refused puzzle 3 RepeatedCell line 1\n",
+    ),
+    ("", "refused puzzle 6 EmptyRegion line 0\n"),
+    ("box 1 1 1\n", "refused puzzle 7 NoPiece line 0\n"),
+    ("box 33 1 1\n", "refused puzzle 8 TooLarge line 1\n"),
+    ("box 32 32 4\n", "refused puzzle 7 NoPiece line 0\n"),
+    ("box 32 32 5\n", "refused puzzle 8 TooLarge line 1\n"),
+    (
+        "maybe cells 000\nmaybe piece A 000\n",
+        "refused puzzle 9 NothingRequired line 0\n",
+    ),
+];
+
+#[test]
+fn puzzles_are_refused(rt: HostRuntime) {
+    for (text, line) in &REFUSED {
+        for job in [
+            Job::Solve { workers: 1 },
+            Job::Count { workers: 1 },
+            Job::Classes { workers: 1 },
+            Job::Options,
+        ] {
+            assert!(rt;
+                ends_so(&rt, rt.alloc(), job, text, 3, "", line),
+                "for {text}"
+            );
+        }
+    }
+}
+
+/// Sixty-two dominoes, a piece for each letter and digit.
+fn many_dominoes(rt: &HostRuntime) -> Option<String> {
+    let mut text = String::new(rt.alloc());
+    for symbol in (b'0'..b':').chain(b'A'..b'[').chain(b'a'..b'{') {
+        text.push_str("piece ").ok()?;
+        text.push(symbol as char).ok()?;
+        text.push_str(" 000 100\n").ok()?;
+    }
+    text.push_str("box 32 32 4\n").ok()?;
+    Some(text)
+}
+
+#[test]
+fn too_many_placements_are_refused(rt: HostRuntime) {
+    let text = many_dominoes(&rt).expect(&rt, "memory");
+    let line = "refused place 1 TooManyOptions\n";
+    assert!(rt;
+        ends_so(
+            &rt,
+            rt.alloc(),
+            Job::Count { workers: 1 },
+            text.as_str(),
+            3,
+            "",
+            line
+        )
+    );
+}
+
+/// How many packings `count` tells of a puzzle and of how many options.
+fn counted<R: Threads + Wait + Sync>(rt: &R, alloc: Global, text: &str, first: &str) -> bool {
+    let mut output = Vec::new(alloc);
+    let mut faults = Vec::new(alloc);
+    let ended = run(
+        rt,
+        alloc,
+        Job::Count { workers: 1 },
+        &NoGate,
+        &mut Watched::reader(text.as_bytes()),
+        &mut Watched::writer(&mut output),
+        &mut Watched::writer(&mut faults),
+    );
+    ended == 0 && output.starts_with(first.as_bytes())
+}
+
+#[test]
+fn the_soma_cube_has_its_packings(rt: HostRuntime) {
+    assert!(rt; counted(&rt, rt.alloc(), SOMA, "packings 11520\noptions 688\n"));
+}
+
+#[test]
+fn the_soma_cube_without_its_middle_has_no_packing(rt: HostRuntime) -> Result<(), Fail> {
+    let text = format!(in rt.alloc(); "{SOMA}cut 111\n")?;
+    let counts = "packings 0\noptions 452\nsteps 377839\nlevels 1 32 544 3816 13552 21522 7763\n";
+    assert!(rt;
+        ends_so(
+            &rt,
+            rt.alloc(),
+            Job::Count { workers: 1 },
+            &text,
+            0,
+            counts,
+            ""
+        )
+    );
+    Ok(())
+}

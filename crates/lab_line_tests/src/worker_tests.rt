@@ -1,0 +1,240 @@
+//! Searches that workers share, through `run`: the same bytes for every number of workers, and workers who are at work at the same
+//! time.
+
+use crate::class_tests::FIVE_DOMINOES;
+use crate::cover_tests::{SMALL_OUTPUT, ends_with, equal_options};
+use crate::poly_place_tests::{SOMA, ends_so};
+use byte_streams::Watched;
+use cover_problem::Problem;
+use drawn_problems::SMALL;
+use lab_book::{Book, Call, Entry};
+use lab_pool::{Gate, GateCall, NoGate, run_pool};
+use poly_place::compile;
+use poly_texts::read_puzzle;
+use polylab_engine::{Job, run};
+use std::alloc::Global;
+use std::sync::Wait;
+use std::sync::atomic::{AtomicBool, AtomicU8, Ordering};
+use std::test::Fail;
+use std::thread;
+use std::thread::Threads;
+
+/// What a job writes of a text, and its exit status.
+fn written<R: Threads + Wait + Sync, G: Gate>(
+    rt: &R,
+    alloc: Global,
+    gate: &G,
+    job: Job,
+    text: &[u8],
+) -> (u8, Vec<u8>) {
+    let mut output = Vec::new(alloc);
+    let mut faults = Vec::new(alloc);
+    let ended = run(
+        rt,
+        alloc,
+        job,
+        gate,
+        &mut Watched::reader(text),
+        &mut Watched::writer(&mut output),
+        &mut Watched::writer(&mut faults),
+    );
+    (ended, output)
+}
+
+/// Whether two jobs are done, and write the same of a text.
+fn write_the_same<R: Threads + Wait + Sync>(
+    rt: &R,
+    alloc: Global,
+    one: Job,
+    other: Job,
+    text: &str,
+) -> bool {
+    let (ended, output) = written(rt, alloc, &NoGate, one, text.as_bytes());
+    let (other_ended, other_output) = written(rt, alloc, &NoGate, other, text.as_bytes());
+    ended == 0 && other_ended == 0 && output.as_slice() == other_output.as_slice()
+}
+
+#[test]
+fn covers_are_listed_by_any_number_of_workers(rt: HostRuntime) {
+    for workers in [1, 2, 8, 32] {
+        let job = Job::Cover { workers };
+        assert!(rt; ends_so(&rt, rt.alloc(), job, SMALL, 0, SMALL_OUTPUT, ""));
+    }
+}
+
+#[test]
+fn packings_are_counted_by_any_number_of_workers(rt: HostRuntime) {
+    let counts = "packings 960\noptions 65\nsteps 14487\nlevels 1 10 60 300 960 960\n";
+    for workers in [1, 2, 8, 32] {
+        let job = Job::Count { workers };
+        assert!(rt; ends_so(&rt, rt.alloc(), job, FIVE_DOMINOES, 0, counts, ""));
+    }
+}
+
+#[test]
+fn classes_are_counted_by_any_number_of_workers(rt: HostRuntime) {
+    let counts = "packings 11520\noptions 688\nsteps 1991327\n\
+                  levels 1 55 1089 10633 48900 110149 72329 11520\nrotations 480\nsymmetries 240\n";
+    for workers in [2, 8, 32] {
+        let job = Job::Classes { workers };
+        assert!(rt; ends_so(&rt, rt.alloc(), job, SOMA, 0, counts, ""));
+    }
+}
+
+#[test]
+fn packings_are_shown_by_any_number_of_workers(rt: HostRuntime) {
+    for workers in [2, 8, 32] {
+        let (one, more) = (Job::Solve { workers: 1 }, Job::Solve { workers });
+        assert!(rt; write_the_same(&rt, rt.alloc(), one, more, FIVE_DOMINOES));
+        assert!(rt; write_the_same(&rt, rt.alloc(), one, more, SOMA));
+    }
+}
+
+#[test]
+fn equal_options_are_listed_by_two_workers(rt: HostRuntime) -> Result<(), Fail> {
+    let text = equal_options(rt.alloc(), 70_000)?;
+    let (ended, output) = written(&rt, rt.alloc(), &NoGate, Job::Cover { workers: 2 }, &text);
+    assert!(rt; ended == 0);
+    assert!(rt;
+        ends_with(
+            &output,
+            70_003,
+            b"visit 70000\nvisits 70000\nsteps 280007\nlevels 1 70000\n"
+        )
+    );
+    Ok(())
+}
+
+#[test]
+fn other_numbers_of_workers_are_refused(rt: HostRuntime) {
+    for workers in [0, 33] {
+        let job = Job::Count { workers };
+        let line = "refused pool 1 BadWorkerCount\n";
+        assert!(rt; ends_so(&rt, rt.alloc(), job, FIVE_DOMINOES, 4, "", line));
+    }
+}
+
+/// No worker has this number.
+const NOBODY: u8 = 255;
+
+/// The most turns that a post is held.
+const TURNS: u64 = 100_000_000;
+
+/// Holds the first post until a post of another worker was answered.
+#[derive(Drop)]
+struct HoldsThePost {
+    holder: AtomicU8,
+    answered: AtomicBool,
+    ran_out: AtomicBool,
+}
+
+impl Gate for HoldsThePost {
+    fn before(&self, worker: u8, call: GateCall) {
+        if call != GateCall::Post {
+            return;
+        }
+        if self
+            .holder
+            .compare_exchange(NOBODY, worker, Ordering::SeqCst, Ordering::SeqCst)
+            .is_err()
+        {
+            return;
+        }
+        for _ in 0..TURNS {
+            if self.answered.load(Ordering::SeqCst) {
+                return;
+            }
+            thread::yield_now();
+        }
+        self.ran_out.store(true, Ordering::SeqCst);
+    }
+
+    fn after(&self, worker: u8, call: GateCall) {
+        if call == GateCall::Post && self.holder.load(Ordering::SeqCst) != worker {
+            self.answered.store(true, Ordering::SeqCst);
+        }
+    }
+}
+
+/// A gate that no worker has passed.
+fn new_gate() -> HoldsThePost {
+    HoldsThePost {
+        holder: AtomicU8::new(NOBODY),
+        answered: AtomicBool::new(false),
+        ran_out: AtomicBool::new(false),
+    }
+}
+
+/// The book that two workers finish through a gate; None where they are refused.
+fn finished_by_two<'p, R: Threads + Wait + Sync, G: Gate>(
+    rt: &R,
+    alloc: Global,
+    gate: &G,
+    problem: &'p Problem,
+) -> Option<Book<'p>> {
+    match run_pool(rt, alloc, problem, 2, gate) {
+        Ok(book) => Some(book),
+        Err(_) => None,
+    }
+}
+
+/// Whether an entry is the post of a worker of a stretch that has a step.
+fn is_post_by(entry: &Entry, worker: u8) -> bool {
+    match &entry.call {
+        Call::Post { from, to, .. } => entry.worker == worker && !from.same(to),
+        _ => false,
+    }
+}
+
+/// Whether a worker has posted a stretch that has a step.
+fn has_posted(book: &Book<'_>, worker: u8) -> bool {
+    let history = book.history();
+    for place in 0..history.len() {
+        let is_post = match history.entry(place) {
+            Ok(entry) => is_post_by(&entry, worker),
+            Err(_) => false,
+        };
+        if is_post {
+            return true;
+        }
+    }
+    false
+}
+
+#[test]
+fn each_of_two_workers_posts(rt: HostRuntime) -> Result<(), Fail> {
+    let gate = new_gate();
+    let puzzle = read_puzzle(rt.alloc(), SOMA.as_bytes())?;
+    let compiled = compile(rt.alloc(), &puzzle)?;
+    let book = finished_by_two(&rt, rt.alloc(), &gate, compiled.problem()).expect(&rt, "a book");
+    assert!(rt; !gate.ran_out.load(Ordering::SeqCst));
+    assert!(rt; book.visited() == 11_520 && book.steps() == 1_991_327);
+    assert!(rt; has_posted(&book, 0) && has_posted(&book, 1));
+    Ok(())
+}
+
+#[test]
+fn one_worker_posts_while_another_is_held(rt: HostRuntime) {
+    let gate = new_gate();
+    let (ended, output) = written(
+        &rt,
+        rt.alloc(),
+        &gate,
+        Job::Count { workers: 2 },
+        SOMA.as_bytes(),
+    );
+    assert!(rt; ended == 0 && output.starts_with(b"packings 11520\n"));
+    assert!(rt; gate.answered.load(Ordering::SeqCst));
+    assert!(rt; !gate.ran_out.load(Ordering::SeqCst));
+}
+
+#[test]
+fn workers_of_a_command_overlap(rt: HostRuntime) -> Result<(), Fail> {
+    let gate = new_gate();
+    let text = format!(in rt.alloc(); "{SOMA}\n%%\npark\npool 2\nsteps\n")?;
+    let (ended, output) = written(&rt, rt.alloc(), &gate, Job::DebugPuzzle, text.as_bytes());
+    assert!(rt; ended == 0 && output.as_slice() == b"parked\npooled\nsteps 1991327\n".as_slice());
+    assert!(rt; gate.answered.load(Ordering::SeqCst));
+    assert!(rt; !gate.ran_out.load(Ordering::SeqCst));
+    Ok(())
+}

@@ -1,0 +1,77 @@
+-- What is written of a snapshot tells of the stretch from its state on.
+use Rattle.std.proofs.Common.{◌≡◌, ℕ, Bool, true, false, Option, List, ◌++◌, length, cond, Result, Ok, Err, refl, sym, ap, subst}
+use Rattle.cover_problem.specs.Problem.{IsProblem}
+use Rattle.x_steps.specs.Run.{steps_between, visits_between, ReachesIn}
+use Rattle.x_steps.specs.Levels.{trimmed_levels}
+use Rattle.x_steps.proofs.StretchLemmas.{visits_of_run}
+use Rattle.x_snapshot.specs.declared.fault.SnapshotFault.{SnapshotFault}
+use Rattle.x_snapshot.specs.declared.fault.SnapshotFault.TheVariants.{NotOnRun, OutsideBranch}
+use Rattle.x_snapshot.specs.Breaks.{are_breaks}
+use Rattle.x_snapshot.specs.Snapshot.{SnapshotValue, IsOnRun, IsSnapshot}
+use Rattle.x_snapshot.specs.Reading.{parts_of}
+use Rattle.x_snapshot.specs.Judged.{is_on_run, is_inside, judged_parts, judged, snapshot_of}
+use Rattle.x_snapshot.proofs.WholeBack.{parts_back}
+use Rattle.x_snapshot.proofs.JudgedLemmas.{on_run_decides, inside_decides}
+use Rattle.polylab_engine.specs.Account.{ReportValue, kept}
+use Rattle.polylab_engine.specs.Output.{report_text}
+use Rattle.polylab_engine.specs.Stretch.{steps_taken}
+use Rattle.polylab_engine.specs.Resumed.{branch_end, stop_of, rest_text, resume_output}
+use Rattle.polylab_engine.specs.Outcome.{resumed_of}
+use Rattle.polylab_engine.specs.Listing.{TellsStretch}
+use Rattle.polylab_engine.proofs.AccountLemmas.{report_of_stretch}
+use Rattle.polylab_engine.proofs.ResumeLemmas.{reached, steps_are, not_past, stops, stop_is_snapshot, rest_ended, rest_goes_on}
+
+-- what is written of a snapshot tells of the stretch from its state on
+tells_stretch : (most : Option ℕ) (lists : Bool) (v : SnapshotValue) → IsSnapshot v → TellsStretch most lists v (resume_output most lists v)
+unfolding resume_output
+tells_stretch most lists v s =
+    let p = v.problem in
+    let stop = stop_of most v in
+    let r : ReportValue = record {
+      visits = kept lists (visits_between p v.state stop);
+      visited = length (visits_between p v.state stop);
+      steps = steps_between p v.state stop;
+      levels = trimmed_levels p v.state stop;
+    } in
+    let there = stop_is_snapshot most v s in
+    record {
+      stop = stop;
+      reached = subst (ReachesIn p v.state stop) (sym (steps_are most v s)) (reached most v s);
+      not_past = not_past most v s;
+      stops = stops most v s;
+      lines = ap (λ (q : ReportValue). report_text q ++ rest_text v stop) (sym (report_of_stretch lists p v.state stop r refl refl refl refl));
+      part = visits_of_run p v.state stop (steps_taken most (steps_between p v.state (branch_end v))) s.on_run.fits (reached most v s);
+      goes_on = there;
+      ended = rest_ended v stop there;
+      unended = rest_goes_on v stop there;
+    }
+
+-- what is written of a snapshot that was read
+pub resumed : (most : Option ℕ) (lists : Bool) (read : Result SnapshotValue SnapshotFault) (text : List ℕ) → ((v : SnapshotValue) → read ≡ Ok v → IsSnapshot v)
+    → resumed_of (resume_output most lists) read ≡ Ok text → (v : SnapshotValue) × (read ≡ Ok v) × IsSnapshot v × TellsStretch most lists v text
+resumed most lists (Ok v) text sound e =
+    let same : resume_output most lists v ≡ text = cc in
+    (v, refl, sound v refl, subst (TellsStretch most lists v) same (tells_stretch most lists v (sound v refl)))
+resumed most lists (Err f) text sound e = absurd (cc)
+
+-- what is judged to be a snapshot is one
+judged_is : (v w : SnapshotValue) → IsProblem v.problem → are_breaks v.problem v.breaks ≡ true → judged_parts v ≡ Ok w → (v ≡ w) × IsSnapshot v
+judged_is v w sound breaks e = by (is_on_run v) refl e
+  where
+    inner : (b : Bool) → is_inside v ≡ b → IsOnRun v.problem v.lo v.hi v.state → cond b (Ok v) (Err OutsideBranch) ≡ Ok w → (v ≡ w) × IsSnapshot v
+    inner true t on h = (cc, record { problem = sound; breaks = breaks; on_run = on; inside = (inside_decides v on).0 t })
+    inner false t on h = absurd (cc)
+
+    by : (b : Bool) → is_on_run v ≡ b → cond b (cond (is_inside v) (Ok v) (Err OutsideBranch)) (Err NotOnRun) ≡ Ok w → (v ≡ w) × IsSnapshot v
+    by true t h = inner (is_inside v) refl ((on_run_decides v).0 t) h
+    by false t h = absurd (cc)
+
+pub snapshot_read : (input : List ℕ) (v : SnapshotValue) → snapshot_of input ≡ Ok v → IsSnapshot v
+snapshot_read input v e = by (parts_of input) refl e
+  where
+    by : (read : Result SnapshotValue SnapshotFault) → parts_of input ≡ read → judged read ≡ Ok v → IsSnapshot v
+    by (Ok w) r h =
+        let said = parts_back input w r in
+        let j = judged_is w v said.problem said.breaks h in
+        subst IsSnapshot j.0 j.1
+    by (Err f) r h = absurd (cc)

@@ -1,0 +1,13 @@
+use Rattle.polylab_engine.proofs.ListingLemmas.{report_covers}
+use Rattle.polylab_engine.proofs.ClassifiedLemmas.{classes_text}
+use Rattle.polylab_engine.proofs.classes.count_classes.Goals as goal
+
+pub push_classes-requires : goal.push_classes-requires
+push_classes-requires g c =
+    let report = c.in_ok-report.ensures in
+    report_covers c.args.compiled.now _ _ _ c.problem.ensures report.problem report.report c.visits.ensures
+
+pub returns : goal.returns
+returns g c =
+    classes_text c.args.compiled.now c.problem.result.now c.in_ok-report.report c.visits.result.now _ _ c.in_ok-report.ensures.report c.problem.ensures c.visits.ensures c.in_ok-text.ensures
+    c.in_ok-push_classes.ensures

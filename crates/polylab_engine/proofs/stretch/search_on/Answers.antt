@@ -1,0 +1,81 @@
+use Rattle.std.proofs.Common.{◌≡◌, ◌-◌, length, sym, ap, ◌∙◌, subst, arith}
+use Rattle.cover_problem.specs.Problem.{ProblemValue, IsProblem}
+use Rattle.x_steps.specs.StateValue.{StateValue}
+use Rattle.x_steps.specs.Steps.{Fits}
+use Rattle.x_steps.specs.Run.{states_between}
+use Rattle.x_steps.specs.Machine.{Position}
+use Rattle.x_steps.specs.Walk.{IsWalk}
+use Rattle.x_steps.proofs.WalkLemmas.{lent_whole}
+use Rattle.polylab_engine.specs.Account.{AreSums, account_of, report_of}
+use Rattle.polylab_engine.proofs.StopLemmas.{pace_left}
+use Rattle.polylab_engine.proofs.SearchLemmas.{Searches, searches_begin, searches_on, searches_nearer, searches_anew, searches_end, searches_stop}
+use Rattle.polylab_engine.proofs.stretch.search_on.Goals as goal
+
+pub loop-left-init : goal.loop-left-init
+loop-left-init g c = (
+  searches_begin _ _ _ _ _ _ _ _ (subst (λ (m : Position). IsProblem m.problem) c.machine.view_is c.machine.invariant.sound)
+      (subst (λ (m : Position). Fits m.problem m.state) c.machine.view_is c.machine.invariant.fit) c.requires.end c.requires.not_past
+      (c.items-items.ensures.count ∙ ap (λ (q : ProblemValue). length q.names) c.problem.ensures) c.in_ok-tally.ensures c.in_ok-counts.ensures (omega arith),
+  omega arith,
+)
+
+pub returns-then-walk-eq0-clause-stop : goal.returns-then-walk-eq0-clause-stop
+returns-then-walk-eq0-clause-stop g c =
+    let t = c.if-walk-eq0.true in
+    let none : c.walk_on-walk.result.steps ≡ 0 = omega arith in
+    let walk = subst (λ l. IsWalk c.loop-left.machine.problem c.loop-left.machine.state c.walk_on-walk.new.machine.state l c.walk_on-walk.new.counts c.walk_on-walk.result.steps c.walk_on-walk.result.event) c.deref_mut.ensures.value c.walk_on-walk.ensures.walk in
+    c.in_ok-stop.ensures ∙ c.state.ensures.state
+    ∙ searches_stop _ _ _ _ _ _ c.walk_on-walk.new.machine _ _ _ _ _ _ _ c.loop-left.invariant.0 walk none c.pace_of.result c.pace_of.ensures.none c.loop-left.invariant.1 (c.walk_on-walk.ensures.none none)
+
+pub returns-then-walk-eq0-clause-report : goal.returns-then-walk-eq0-clause-report
+returns-then-walk-eq0-clause-report g c =
+    let t = c.if-walk-eq0.true in
+    let none : c.walk_on-walk.result.steps ≡ 0 = omega arith in
+    let walk = subst (λ l. IsWalk c.loop-left.machine.problem c.loop-left.machine.state c.walk_on-walk.new.machine.state l c.walk_on-walk.new.counts c.walk_on-walk.result.steps c.walk_on-walk.result.event) c.deref_mut.ensures.value c.walk_on-walk.ensures.walk in
+    let size : c.loop-left.counts.len ≡ length c.loop-left.counts.items = sym c.deref_mut.ensures.len ∙ ap length c.deref_mut.ensures.value in
+    let row = c.deref.ensures.value ∙ lent_whole _ _ _ walk.counted.levels size in
+    let sums = subst (λ l. AreSums c.loop-left.tally.entered l c.add_counts.new.self.entered) row c.in_ok-add_counts.ensures.sums in
+    let whole = searches_end _ _ _ _ _ _ c.walk_on-walk.new.machine _ _ _ _ _ _ _ c.loop-left.invariant.0 walk none c.add_counts.new.self c.in_ok-add_counts.ensures.others sums in
+    c.in_ok-report.ensures ∙ ap report_of whole
+    ∙ ap (λ (s : StateValue). report_of (account_of c.args.keeps c.args.machine.problem (states_between c.args.machine.problem c.args.machine.state s))) (sym (c.in_ok-stop.ensures ∙ c.state.ensures.state))
+
+pub loop-left-smaller : goal.loop-left-smaller
+loop-left-smaller g c =
+    let f = c.if-walk-eq0.false in
+    let walk = subst (λ l. IsWalk c.loop-left.machine.problem c.loop-left.machine.state c.walk_on-walk.new.machine.state l c.walk_on-walk.new.counts c.walk_on-walk.result.steps c.walk_on-walk.result.event) c.deref_mut.ensures.value c.walk_on-walk.ensures.walk in
+    searches_nearer _ _ _ _ _ _ c.walk_on-walk.new.machine _ _ _ _ _ _ _ c.loop-left.invariant.0 walk (omega arith)
+
+pub loop-left-smaller-then-room-eq0 : goal.loop-left-smaller-then-room-eq0
+loop-left-smaller-then-room-eq0 g c =
+    let f = c.if-walk-eq0.false in
+    let walk = subst (λ l. IsWalk c.loop-left.machine.problem c.loop-left.machine.state c.walk_on-walk.new.machine.state l c.walk_on-walk.new.counts c.walk_on-walk.result.steps c.walk_on-walk.result.event) c.deref_mut.ensures.value c.walk_on-walk.ensures.walk in
+    searches_nearer _ _ _ _ _ _ c.walk_on-walk.new.machine _ _ _ _ _ _ _ c.loop-left.invariant.0 walk (omega arith)
+
+pub loop-left-preserved : goal.loop-left-preserved
+loop-left-preserved g c =
+    let walk = subst (λ l. IsWalk c.loop-left.machine.problem c.loop-left.machine.state c.walk_on-walk.new.machine.state l c.walk_on-walk.new.counts c.walk_on-walk.result.steps c.walk_on-walk.result.event) c.deref_mut.ensures.value c.walk_on-walk.ensures.walk in
+    let size : c.loop-left.counts.len ≡ length c.loop-left.counts.items = sym c.deref_mut.ensures.len ∙ ap length c.deref_mut.ensures.value in
+    let pace = c.pace_of.ensures.room in
+    let within = c.walk_on-walk.ensures.within in
+    let path = c.deref-in-loop-left.ensures.value ∙ ap (λ (s : StateValue). s.path) c.state-in-loop-left.ensures.state in
+    let on = searches_on _ _ _ _ _ _ c.walk_on-walk.new.machine _ _ _ _ _ _ _ c.loop-left.invariant.0 walk _ _ _ c.walk_on-walk.ensures.problem (omega arith)
+    (pace_left c.loop-left.left c.pace_of.result _ c.pace_of.ensures.left within) c.walk_on-walk.ensures.before path c.in_ok-note.ensures c.left_after-left.ensures in (
+      subst (λ l. Searches c.args.keeps c.args.machine.problem c.args.machine.state c.args.end.now c.args.most c.walk_on-walk.new.machine c.note.new.self l (c.loop-left.room - c.walk_on-walk.result.steps) c.left_after-left.result) (sym (lent_whole _ _ _ walk.counted.levels size)) on,
+      omega arith,
+    )
+
+pub loop-left-preserved-then-room-eq0 : goal.loop-left-preserved-then-room-eq0
+loop-left-preserved-then-room-eq0 g c =
+    let walk = subst (λ l. IsWalk c.loop-left.machine.problem c.loop-left.machine.state c.walk_on-walk.new.machine.state l c.walk_on-walk.new.counts c.walk_on-walk.result.steps c.walk_on-walk.result.event) c.deref_mut.ensures.value c.walk_on-walk.ensures.walk in
+    let size : c.loop-left.counts.len ≡ length c.loop-left.counts.items = sym c.deref_mut.ensures.len ∙ ap length c.deref_mut.ensures.value in
+    let pace = c.pace_of.ensures.room in
+    let within = c.walk_on-walk.ensures.within in
+    let path = c.deref-in-loop-left.ensures.value ∙ ap (λ (s : StateValue). s.path) c.state-in-loop-left.ensures.state in
+    let on = searches_on _ _ _ _ _ _ c.walk_on-walk.new.machine _ _ _ _ _ _ _ c.loop-left.invariant.0 walk _ _ _ c.walk_on-walk.ensures.problem (omega arith)
+    (pace_left c.loop-left.left c.pace_of.result _ c.pace_of.ensures.left within) c.walk_on-walk.ensures.before path c.in_ok-note.ensures c.left_after-left.ensures in
+    let row = c.deref-then-room-eq0.ensures.value ∙ lent_whole _ _ _ walk.counted.levels size in
+    let sums = subst (λ l. AreSums c.note.new.self.entered l c.add_counts-then-room-eq0.new.self.entered) row c.in_ok-add_counts-2.ensures.sums in (
+      searches_anew _ _ _ _ _ _ _ _ _ _ _ _ 4294967295 _ on c.in_ok-add_counts-2.ensures.others sums
+          (c.items-items.ensures.count ∙ ap (λ (q : ProblemValue). length q.names) c.problem.ensures) c.in_ok-counts-2.ensures (omega arith),
+      omega arith,
+    )

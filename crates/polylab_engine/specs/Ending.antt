@@ -1,0 +1,63 @@
+-- How a run ends: what is true then, the line that tells it, and its exit status.
+use Rattle.std.specs.Prelude.{ℕ, ◌≡◌, ◌<◌, ◌≤◌, ◌⊎◌, List, [], ◌∷◌, Result, Ok, Err, IfSome, Contains, length, take}
+use Rattle.std.specs.Io.KnownBytes.{Appends}
+use Rattle.byte_streams.specs.Stream.{Stream, IsSound, HasFailed, Stays, TakesAll, TakesPart, Takes}
+use Rattle.byte_streams.specs.Input.{GoesPastLimit, most_input}
+use Rattle.lab_pool.specs.declared.fault.PoolFault.{PoolFault}
+use Rattle.polylab_engine.specs.declared.job.Job.{Job}
+use Rattle.polylab_engine.specs.declared.engine.Ending.{Ending}
+use Rattle.polylab_engine.specs.declared.engine.Ending.TheVariants.{Written, Refused, OutOfMemory, Pool, Unread, Unwritten}
+use Rattle.polylab_engine.specs.Outcome.{outcome, to_write, no_memory, pool_refusal, bad_reader, bad_writer}
+use Rattle.polylab_engine.specs.Listing.{IsListed}
+
+-- the input, where it is known, is within the limit, and this is what the job does with it
+abbrev pub IsOutcomeOf : Job → Stream → Result (List ℕ) (List ℕ) → Type 0
+IsOutcomeOf job input given = IfSome input.bytes (λ bytes. (length bytes ≤ most_input) × (outcome job bytes ≡ given))
+
+-- the input was not read: the reader failed, or its bytes go on past the limit
+abbrev pub IsUnread : Stream → Stream → Type 0
+IsUnread old new = HasFailed new ⊎ (GoesPastLimit old × IsSound old new)
+
+-- what is true of the reader and the writer, before and after, where a run ends so
+abbrev pub IsEnd : Job → Stream → Stream → Stream → Stream → Ending → Type 0
+IsEnd job r r' w w' Written = IsSound r r' × ((text : List ℕ) × IsOutcomeOf job r (Ok text) × TakesAll w w' text)
+IsEnd job r r' w w' (Refused line) = IsSound r r' × IsOutcomeOf job r (Err line.items) × Stays w w'
+IsEnd job r r' w w' OutOfMemory = IsSound r r' × Stays w w'
+IsEnd job r r' w w' (Pool fault) = IsSound r r' × Stays w w'
+IsEnd job r r' w w' Unread = IsUnread r r' × Stays w w'
+IsEnd job r r' w w' Unwritten = IsSound r r' × ((text : List ℕ) × IsOutcomeOf job r (Ok text) × TakesPart w w' text)
+
+-- what is told where a run ends so
+abbrev pub IsTold : Ending → Stream → Stream → Type 0
+IsTold Written old new = Stays old new
+IsTold (Refused line) old new = Takes old new line.items
+IsTold OutOfMemory old new = Takes old new no_memory
+IsTold (Pool fault) old new = Takes old new (pool_refusal fault)
+IsTold Unread old new = Takes old new bad_reader
+IsTold Unwritten old new = Takes old new bad_writer
+
+-- the exit status of a run that ends so
+abbrev pub status_of : Ending → ℕ
+status_of Written = 0
+status_of (Refused line) = 3
+status_of OutOfMemory = 4
+status_of (Pool fault) = 4
+status_of Unread = 5
+status_of Unwritten = 5
+
+-- what a run of a job leaves of the reader, the writer and the faults, and the status that it answers. At 0 what was written is the
+-- outcome of the job on the bytes read, and lists what the job is to tell; at 3 the faults take the line that refuses the input, at 4
+-- and 5 the line of what went wrong; whatever the status, what was written is a beginning of what is to be written
+pub record IsRun (job : Job) (r r' w w' f f' : Stream) (status : ℕ) : Type 0 where
+  pub statuses : Contains (0 ∷ 3 ∷ 4 ∷ 5 ∷ []) status
+  pub done : status ≡ 0 → (text : List ℕ) × IsOutcomeOf job r (Ok text) × TakesAll w w' text
+  pub covers : status ≡ 0 → (text : List ℕ) × IfSome r.bytes (λ bytes. IsListed job bytes text) × TakesAll w w' text
+  pub quiet : status ≡ 0 → Stays f f'
+  pub refused : status ≡ 3 → (line : List ℕ) × IsOutcomeOf job r (Err line) × Takes f f' line
+  pub memory : status ≡ 4 → Takes f f' no_memory ⊎ ((fault : PoolFault) × Takes f f' (pool_refusal fault))
+  pub unwritten : Contains (3 ∷ 4 ∷ []) status → Stays w w'
+  pub failed : status ≡ 5 → (IsUnread r r' × Stays w w' × Takes f f' bad_reader) ⊎ (IsSound r r' × HasFailed w' × Takes f f' bad_writer)
+  pub reader_told : (status ≡ 5 → ⊥) → IsSound r r'
+  pub writer_told : (status ≡ 5 → ⊥) → IsSound w w'
+  pub limit : IfSome r.bytes (λ bytes. 134217728 < length bytes → Contains (4 ∷ 5 ∷ []) status)
+  pub beginning : IfSome r.bytes (λ bytes. (n : ℕ) × Appends w.bytes w'.bytes (take n (to_write (outcome job bytes))))

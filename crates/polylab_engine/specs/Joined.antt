@@ -1,0 +1,64 @@
+-- Stretches that join, and what their reports add up to.
+--
+-- Example: the small problem's run in slices of 20 steps: the levels 1 1 1, then 0 1 1 1, and none in the last three steps, add up to
+-- 1 2 2 1 (proofs/OutputExamples.antt computes it).
+use Rattle.std.specs.Prelude.{ℕ, ◌+◌, ◌≡◌, Bool, Option, List, [], ◌∷◌, ◌++◌}
+use Rattle.cover_problem.specs.Problem.{ProblemValue}
+use Rattle.x_steps.specs.StateValue.{StateValue}
+use Rattle.x_snapshot.specs.Snapshot.{SnapshotValue, IsSnapshot}
+use Rattle.polylab_engine.specs.Account.{ReportValue}
+use Rattle.polylab_engine.specs.Stretch.{stretch_report}
+use Rattle.polylab_engine.specs.Resumed.{branch_end, stop_of, at_state}
+
+-- the counts of levels, added level by level
+abbrev pub levels_added : List ℕ → List ℕ → List ℕ
+levels_added [] ys = ys
+levels_added (x ∷ xs) [] = x ∷ xs
+levels_added (x ∷ xs) (y ∷ ys) = (x + y) ∷ levels_added xs ys
+
+-- two reports as one: the visits of one and then of the other, and the numbers added
+abbrev pub added : ReportValue → ReportValue → ReportValue
+added r q = record {
+  visits = r.visits ++ q.visits;
+  visited = r.visited + q.visited;
+  steps = r.steps + q.steps;
+  levels = levels_added r.levels q.levels;
+}
+
+-- the report of no step
+abbrev pub nothing_told : ReportValue
+nothing_told = record { visits = []; visited = 0; steps = 0; levels = [] }
+
+-- all of these reports as one, in order
+abbrev pub sum_of : List ReportValue → ReportValue
+sum_of [] = nothing_told
+sum_of (r ∷ rs) = added r (sum_of rs)
+
+-- the snapshot where a slice stops
+abbrev pub after_slice : Option ℕ → SnapshotValue → SnapshotValue
+after_slice most v = at_state v (stop_of most v)
+
+-- the report of a slice
+abbrev pub slice_report : Bool → Option ℕ → SnapshotValue → ReportValue
+slice_report keeps most v = stretch_report keeps v.problem v.state (stop_of most v)
+
+-- where slices lead, of so many steps at most: each begins where the one before stopped
+abbrev pub sliced : SnapshotValue → List (Option ℕ) → SnapshotValue
+sliced v [] = v
+sliced v (most ∷ rest) = sliced (after_slice most v) rest
+
+-- and the report of each of them
+abbrev pub slice_reports : Bool → SnapshotValue → List (Option ℕ) → List ReportValue
+slice_reports keeps v [] = []
+slice_reports keeps v (most ∷ rest) = slice_report keeps most v ∷ slice_reports keeps (after_slice most v) rest
+
+-- branches of one problem's run that join from s to t: the first is at s, each later one is where the one before ends, and the last
+-- one ends at t
+abbrev pub Join : ProblemValue → StateValue → List SnapshotValue → StateValue → Type 0
+Join p s [] t = s ≡ t
+Join p s (v ∷ vs) t = IsSnapshot v × (v.problem ≡ p) × (v.state ≡ s) × Join p (branch_end v) vs t
+
+-- the report of each of them, from its state up to its branch's end
+abbrev pub part_reports : Bool → List SnapshotValue → List ReportValue
+part_reports keeps [] = []
+part_reports keeps (v ∷ vs) = stretch_report keeps v.problem v.state (branch_end v) ∷ part_reports keeps vs

@@ -1,0 +1,124 @@
+-- What the program does with an input: what it writes, or the line that refuses it.
+--
+-- Example: `items a`, `option z` is refused by `refused cover 3 UnknownItem line 2` (proofs/OutputExamples.antt).
+use Rattle.std.specs.Prelude.{ℕ, List, [], ◌∷◌, Result, Ok, Err, if◌then◌else◌, decimal, codes, unwrap_or}
+use Rattle.text_lines.specs.Writing.{line_text}
+use Rattle.cover_problem.specs.declared.fault.Fault.{Fault}
+use Rattle.cover_problem.specs.Faults.{number_of, name_of}
+use Rattle.cover_problem.specs.Problem.{ProblemValue, is_small}
+use Rattle.cover_problem.specs.Reading.{problem_of}
+use Rattle.polylab_engine.specs.declared.job.Job.{Job}
+use Rattle.polylab_engine.specs.declared.job.Job.TheVariants as jobs
+use Rattle.polylab_engine.specs.declared.answer.CoverJob.{CoverJob}
+use Rattle.polylab_engine.specs.declared.answer.CoverJob.TheVariants as cover_jobs
+use Rattle.polylab_engine.specs.declared.answer.PuzzleJob.{PuzzleJob}
+use Rattle.polylab_engine.specs.declared.answer.PuzzleJob.TheVariants as puzzle_jobs
+use Rattle.polylab_engine.specs.declared.answer.Answer.{Answer}
+use Rattle.polylab_engine.specs.declared.answer.Answer.TheVariants.{Text, Refused}
+use Rattle.poly_texts.specs.declared.fault.Fault as puzzle
+use Rattle.poly_texts.specs.Faults as puzzle_faults
+use Rattle.poly_texts.specs.Puzzle.{PuzzleValue}
+use Rattle.poly_texts.specs.Reading.{puzzle_of}
+use Rattle.poly_place.specs.Packings.{packing_problem}
+use Rattle.lab_pool.specs.declared.fault.PoolFault.{PoolFault}
+use Rattle.lab_pool.specs.Faults as pool_faults
+use Rattle.polylab_engine.specs.Output.{cover_output}
+use Rattle.polylab_engine.specs.Packed.{solve_output, count_output, options_output}
+use Rattle.polylab_engine.specs.Classified.{classes_output}
+use Rattle.debug_script.specs.Input.{problem_text, command_lines}
+use Rattle.polylab_engine.specs.Debugged.{debug_output}
+use Rattle.x_snapshot.specs.declared.fault.SnapshotFault.{SnapshotFault}
+use Rattle.x_snapshot.specs.Faults as snapshot_faults
+use Rattle.x_snapshot.specs.Snapshot.{SnapshotValue}
+use Rattle.x_snapshot.specs.Judged.{snapshot_of}
+use Rattle.polylab_engine.specs.Resumed.{resume_output}
+
+-- the words of a refused text: what it was to be, the fault's number, its name, and the number of its line
+abbrev pub refusal_words : List ℕ → ℕ → List ℕ → ℕ → List (List ℕ)
+refusal_words text number name line = codes "refused" ∷ text ∷ decimal number ∷ name ∷ codes "line" ∷ decimal line ∷ []
+
+-- the line that refuses a cover text
+abbrev pub cover_refusal : Fault → ℕ → List ℕ
+cover_refusal fault line = line_text (refusal_words (codes "cover") (number_of fault) (name_of fault) line)
+
+-- the line that refuses a puzzle text
+abbrev pub puzzle_refusal : puzzle.Fault → ℕ → List ℕ
+puzzle_refusal fault line = line_text (refusal_words (codes "puzzle") (puzzle_faults.number_of fault) (puzzle_faults.name_of fault) line)
+
+-- the line that refuses a puzzle with too many options
+abbrev pub place_refusal : List ℕ
+place_refusal = line_text (codes "refused" ∷ codes "place" ∷ codes "1" ∷ codes "TooManyOptions" ∷ [])
+
+-- the line that refuses a text that is no snapshot; it names no line
+abbrev pub snapshot_refusal : SnapshotFault → List ℕ
+snapshot_refusal fault = line_text (codes "refused" ∷ codes "snapshot" ∷ decimal (unwrap_or (snapshot_faults.number_of fault) 0)
+    ∷ snapshot_faults.name_of fault ∷ [])
+
+-- what is written of a problem, or the refusal of a text
+abbrev pub covers_of : (ProblemValue → List ℕ) → Result ProblemValue (Fault × ℕ) → Result (List ℕ) (List ℕ)
+covers_of output (Ok p) = Ok (output p)
+covers_of output (Err f) = Err (cover_refusal f.0 f.1)
+
+-- what is written of a puzzle whose problem is within the limits, or the refusal of a text or of a puzzle
+abbrev pub packed_of : (PuzzleValue → List ℕ) → Result PuzzleValue (puzzle.Fault × ℕ) → Result (List ℕ) (List ℕ)
+packed_of output (Ok p) = if is_small (packing_problem p) then Ok (output p) else Err place_refusal
+packed_of output (Err f) = Err (puzzle_refusal f.0 f.1)
+
+-- what is written of a snapshot, or the refusal of a text that is none
+abbrev pub resumed_of : (SnapshotValue → List ℕ) → Result SnapshotValue SnapshotFault → Result (List ℕ) (List ℕ)
+resumed_of output (Ok v) = Ok (output v)
+resumed_of output (Err fault) = Err (snapshot_refusal fault)
+
+-- what commands are answered over the problem of a puzzle
+abbrev pub puzzle_replies : List (List ℕ) → PuzzleValue → List ℕ
+puzzle_replies lines p = debug_output lines (packing_problem p)
+
+-- what a job writes of a problem; the debugger answers these command lines
+abbrev pub listing_of : CoverJob → List (List ℕ) → ProblemValue → List ℕ
+listing_of cover_jobs.List lines = cover_output
+listing_of cover_jobs.Debug lines = debug_output lines
+
+-- what a job writes of a puzzle
+abbrev pub output_of : PuzzleJob → List (List ℕ) → PuzzleValue → List ℕ
+output_of puzzle_jobs.Solve lines = solve_output
+output_of puzzle_jobs.Count lines = count_output
+output_of puzzle_jobs.Classes lines = classes_output
+output_of puzzle_jobs.Options lines = options_output
+output_of puzzle_jobs.Debug lines = puzzle_replies lines
+
+-- what a job writes for an input, or the line that refuses it: the same, by however many workers it is done
+unfoldable pub outcome : Job → List ℕ → Result (List ℕ) (List ℕ)
+outcome (jobs.Cover workers) text = covers_of cover_output (problem_of text)
+outcome (jobs.Solve workers) text = packed_of solve_output (puzzle_of text)
+outcome (jobs.Count workers) text = packed_of count_output (puzzle_of text)
+outcome (jobs.Classes workers) text = packed_of classes_output (puzzle_of text)
+outcome jobs.Options text = packed_of options_output (puzzle_of text)
+outcome jobs.DebugPuzzle text = packed_of (puzzle_replies (command_lines text)) (puzzle_of (problem_text text))
+outcome jobs.DebugCover text = covers_of (debug_output (command_lines text)) (problem_of (problem_text text))
+outcome (jobs.Resume steps list) text = resumed_of (resume_output steps list) (snapshot_of text)
+
+-- what is to be written: the text, or nothing where the input is refused
+abbrev pub to_write : Result (List ℕ) (List ℕ) → List ℕ
+to_write (Ok text) = text
+to_write (Err line) = []
+
+-- the line that is told where memory ran out
+abbrev pub no_memory : List ℕ
+no_memory = line_text (codes "refused" ∷ codes "memory" ∷ [])
+
+-- the line that is told where workers did not finish
+abbrev pub pool_refusal : PoolFault → List ℕ
+pool_refusal fault = line_text (codes "refused" ∷ codes "pool" ∷ decimal (pool_faults.number_of fault) ∷ pool_faults.name_of fault ∷ [])
+
+-- the line that is told where the input isn't read: a read failed, or the input goes on past its limit
+abbrev pub bad_reader : List ℕ
+bad_reader = line_text (codes "refused" ∷ codes "input" ∷ [])
+
+-- the line that is told where a write of the output failed
+abbrev pub bad_writer : List ℕ
+bad_writer = line_text (codes "refused" ∷ codes "output" ∷ [])
+
+-- an answer's bytes
+abbrev pub outcome_of : Answer → Result (List ℕ) (List ℕ)
+outcome_of (Text text) = Ok text.items
+outcome_of (Refused line) = Err line.items

@@ -1,0 +1,40 @@
+-- What `resume` writes of a snapshot: what is reported of the stretch from its state on, and then `end`, or the snapshot where the
+-- stretch stops, which is the next input.
+--
+-- Example: of the small problem, from X1 on and with 30 steps asked for, it writes `visits 1`, `steps 30`, `levels 1 2 2 1`, and the
+-- snapshot at X8 after the choices 4 5 1 (proofs/OutputExamples.antt computes the lines and the state).
+use Rattle.std.specs.Prelude.{ℕ, Bool, Option, List, [], ◌∷◌, ◌++◌, if◌then◌else◌, codes}
+use Rattle.text_lines.specs.Writing.{line_text}
+use Rattle.x_steps.specs.StateValue.{StateValue}
+use Rattle.x_steps.specs.Run.{after, steps_between}
+use Rattle.x_branches.specs.Branch.{end_of}
+use Rattle.x_branches.specs.RunOrder.{comes_before}
+use Rattle.x_snapshot.specs.Snapshot.{SnapshotValue, branch_between}
+use Rattle.x_snapshot.specs.Writing.{snapshot_text}
+use Rattle.polylab_engine.specs.Output.{report_text}
+use Rattle.polylab_engine.specs.Stretch.{steps_taken, stretch_report}
+
+-- the state that ends a snapshot's branch
+abbrev pub branch_end : SnapshotValue → StateValue
+branch_end v = end_of (branch_between v.problem v.lo v.hi).hi
+
+-- where a stretch from a snapshot's state on stops: at its branch's end, or as many steps on as are asked for, where that comes first
+abbrev pub stop_of : Option ℕ → SnapshotValue → StateValue
+stop_of most v = after v.problem (steps_taken most (steps_between v.problem v.state (branch_end v))) v.state
+
+-- the same snapshot at another state
+abbrev pub at_state : SnapshotValue → StateValue → SnapshotValue
+at_state v t = record v { state = t }
+
+-- the line that tells that the branch ended
+abbrev pub end_line : List ℕ
+end_line = line_text (codes "end" ∷ [])
+
+-- what stands last where a stretch stops at t: the snapshot there, or that the branch ended
+abbrev pub rest_text : SnapshotValue → StateValue → List ℕ
+rest_text v t = if comes_before v.problem t (branch_end v) then snapshot_text (at_state v t) else end_line
+
+-- what `resume` writes of a snapshot, with so many steps asked for, and with the visits or without them
+unfoldable pub resume_output : Option ℕ → Bool → SnapshotValue → List ℕ
+resume_output most lists v =
+    report_text (stretch_report lists v.problem v.state (stop_of most v)) ++ rest_text v (stop_of most v)

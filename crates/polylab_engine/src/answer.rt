@@ -1,0 +1,285 @@
+//! What a job writes for an input.
+ghost use Rattle.std.specs.Prelude.{◌≡◌, IfOk, IfErr, Ok, Err, List, [], ℕ, codes, Result};
+ghost use Rattle.text_lines.specs.Answers.{GivesAt};
+ghost use Rattle.text_lines.specs.Writing.{line_text};
+ghost use Rattle.cover_problem.specs.declared.fault.Fault.{Fault};
+ghost use Rattle.poly_texts.specs.declared.fault.Fault as puzzle;
+ghost use Rattle.cover_problem.specs.Reading.{problem_of};
+ghost use Rattle.cover_problem.specs.Problem.{ProblemValue, is_small};
+ghost use Rattle.poly_texts.specs.Puzzle.{PuzzleValue};
+ghost use Rattle.poly_texts.specs.Reading.{puzzle_of};
+ghost use Rattle.poly_place.specs.Packings.{packing_problem};
+ghost use Rattle.polylab_engine.specs.Packed.{solve_output, count_output, options_output};
+ghost use Rattle.polylab_engine.specs.Classified.{classes_output};
+ghost use Rattle.debug_script.specs.Input.{raw_lines};
+ghost use Rattle.x_snapshot.specs.Judged.{snapshot_of};
+ghost use Rattle.polylab_engine.specs.Resumed.{resume_output};
+ghost use Rattle.polylab_engine.specs.Outcome.{refusal_words, place_refusal, covers_of, packed_of, resumed_of, outcome, outcome_of, listing_of, output_of};
+
+use crate::classes::count_classes;
+use crate::cover::covers;
+use crate::debugging::debug;
+use crate::fault::JobFault;
+use crate::job::Job;
+use crate::packed::{count, options, solve};
+use crate::resuming::resume;
+use crate::workers::Workers;
+use cover_problem::{CoverFault, Problem, Table, read_cover};
+use debug_language::write_snapshot_fault;
+use debug_script::split_input;
+use lab_pool::Gate;
+use poly_place::{Compiled, PlaceFault, compile};
+use poly_texts::{Puzzle, PuzzleFault, read_puzzle};
+use std::alloc::{AllocError, Global};
+use std::sync::Wait;
+use std::thread::Threads;
+use text_lines::{write_number, write_word};
+use x_snapshot::{Snapshot, SnapshotFault, read_snapshot};
+
+/// The text to write, or the line that refuses the input.
+#[derive(Drop)]
+pub enum Answer {
+    Text(Vec<u8>),
+    Refused(Vec<u8>),
+}
+
+/// What the job writes for an input. The bytes of an input that is all one text are let go before anything is searched; those
+/// of a text with commands are kept, since the commands stand in them.
+#[tactic(auto, unfolding(crate::specs::Outcome::outcome))]
+pub fn answer_to<T: Table, R: Threads + Wait + Sync, G: Gate>(
+    alloc: Global,
+    job: Job,
+    workers: &Workers<'_, R, G>,
+    input: Vec<u8>,
+) -> Result<Answer, JobFault>
+    ensures { IfOk result (λ answer. outcome_of answer ≡ outcome job input.items) }
+{
+    match job {
+        Job::Cover { .. } => cover_answer::<T, R, G>(
+            alloc,
+            workers,
+            CoverJob::List,
+            problem_in(alloc, input),
+            &[],
+        ),
+        Job::Solve { .. } => plain_puzzle::<T, R, G>(alloc, workers, PuzzleJob::Solve, input),
+        Job::Count { .. } => plain_puzzle::<T, R, G>(alloc, workers, PuzzleJob::Count, input),
+        Job::Classes { .. } => plain_puzzle::<T, R, G>(alloc, workers, PuzzleJob::Classes, input),
+        Job::Options => plain_puzzle::<T, R, G>(alloc, workers, PuzzleJob::Options, input),
+        Job::DebugPuzzle => {
+            let (text, commands) = split_input(&input);
+            puzzle_answer::<T, R, G>(
+                alloc,
+                workers,
+                PuzzleJob::Debug,
+                read_puzzle(alloc, text),
+                commands,
+            )
+        }
+        Job::DebugCover => {
+            let (text, commands) = split_input(&input);
+            cover_answer::<T, R, G>(
+                alloc,
+                workers,
+                CoverJob::Debug,
+                read_cover(alloc, text),
+                commands,
+            )
+        }
+        Job::Resume { steps, list } => resume_answer::<T>(alloc, steps, list, input),
+    }
+}
+
+/// The problem of a text, which is let go.
+fn problem_in(alloc: Global, text: Vec<u8>) -> Result<Problem, CoverFault>
+    ensures { GivesAt (λ p. p) result (problem_of text.items) }
+{
+    read_cover(alloc, &text)
+}
+
+/// The puzzle of a text, which is let go.
+fn puzzle_in(alloc: Global, text: Vec<u8>) -> Result<Puzzle, PuzzleFault>
+    ensures { GivesAt (λ p. p) result (puzzle_of text.items) }
+{
+    read_puzzle(alloc, &text)
+}
+
+/// The snapshot of a text, which is let go.
+fn snapshot_in(alloc: Global, text: Vec<u8>) -> Result<Snapshot, SnapshotFault>
+    ensures snapshot { IfOk result (λ s. snapshot_of text.items ≡ Ok s) }
+    ensures fault { IfErr result (λ f. (f ≡ SnapshotFault.OutOfMemory → ⊥) →
+        snapshot_of text.items ≡ Err f) }
+{
+    read_snapshot(alloc, &text)
+}
+
+/// What `resume` writes of the snapshot that a text is, or the refusal of the text.
+fn resume_answer<T: Table>(
+    alloc: Global,
+    steps: Option<u64>,
+    list: bool,
+    text: Vec<u8>,
+) -> Result<Answer, JobFault>
+    ensures { IfOk result (λ answer. outcome_of answer
+        ≡ resumed_of (resume_output steps list) (snapshot_of text.items)) }
+{
+    match snapshot_in(alloc, text) {
+        Ok(snapshot) => Ok(Answer::Text(resume::<T>(alloc, steps, list, &snapshot)?)),
+        Err(fault) => {
+            let mut line = Vec::new(alloc);
+            write_snapshot_fault(&mut line, fault)?;
+            Ok(Answer::Refused(line))
+        }
+    }
+}
+
+/// What is asked of a cover text.
+#[derive(Clone, Copy)]
+pub enum CoverJob {
+    List,
+    Debug,
+}
+
+/// What the job writes of the problem that was found in a text, or the refusal of the text.
+fn cover_answer<T: Table, R: Threads + Wait + Sync, G: Gate>(
+    alloc: Global,
+    workers: &Workers<'_, R, G>,
+    job: CoverJob,
+    found: Result<Problem, CoverFault>,
+    commands: &[u8],
+) -> Result<Answer, JobFault>
+    ensures { (read : Result ProblemValue (Fault × ℕ)) → GivesAt (λ p. p) found read →
+        IfOk result (λ answer. outcome_of answer ≡ covers_of (listing_of job (raw_lines commands.now)) read) }
+{
+    match found {
+        Ok(problem) => Ok(Answer::Text(cover_text::<T, R, G>(
+            alloc, workers, job, &problem, commands,
+        )?)),
+        Err(CoverFault::Fault { fault, line }) => {
+            let (number, name) = (fault.number(), fault.name());
+            Ok(Answer::Refused(refusal(alloc, "cover", number, name, line)?))
+        }
+        Err(CoverFault::OutOfMemory) => Err(JobFault::OutOfMemory),
+    }
+}
+
+/// What the job writes of a problem.
+fn cover_text<T: Table, R: Threads + Wait + Sync, G: Gate>(
+    alloc: Global,
+    workers: &Workers<'_, R, G>,
+    job: CoverJob,
+    problem: &Problem,
+    commands: &[u8],
+) -> Result<Vec<u8>, JobFault>
+    ensures { IfOk result (λ text. text.items ≡ listing_of job (raw_lines commands.now) problem.now) }
+{
+    match job {
+        CoverJob::List => covers::<T, R, G>(alloc, workers, problem),
+        CoverJob::Debug => debug::<T, R, G>(alloc, workers, problem, commands),
+    }
+}
+
+/// What the job writes for a text that is a puzzle and nothing else.
+fn plain_puzzle<T: Table, R: Threads + Wait + Sync, G: Gate>(
+    alloc: Global,
+    workers: &Workers<'_, R, G>,
+    job: PuzzleJob,
+    text: Vec<u8>,
+) -> Result<Answer, JobFault>
+    ensures { IfOk result (λ answer. outcome_of answer ≡ packed_of (output_of job (raw_lines [])) (puzzle_of text.items)) }
+{
+    puzzle_answer::<T, R, G>(alloc, workers, job, puzzle_in(alloc, text), &[])
+}
+
+/// What is asked of a puzzle.
+#[derive(Clone, Copy)]
+pub enum PuzzleJob {
+    Solve,
+    Count,
+    Classes,
+    Options,
+    Debug,
+}
+
+/// What the job writes of the puzzle that was found in a text, or the refusal of the text or of the puzzle.
+fn puzzle_answer<T: Table, R: Threads + Wait + Sync, G: Gate>(
+    alloc: Global,
+    workers: &Workers<'_, R, G>,
+    job: PuzzleJob,
+    found: Result<Puzzle, PuzzleFault>,
+    commands: &[u8],
+) -> Result<Answer, JobFault>
+    ensures { (read : Result PuzzleValue (puzzle.Fault × ℕ)) → GivesAt (λ p. p) found read →
+        IfOk result (λ answer. outcome_of answer ≡ packed_of (output_of job (raw_lines commands.now)) read) }
+{
+    match found {
+        Ok(puzzle) => packed_answer::<T, R, G>(alloc, workers, job, &puzzle, commands),
+        Err(PuzzleFault::Fault { fault, line }) => {
+            let (number, name) = (fault.number(), fault.name());
+            Ok(Answer::Refused(refusal(alloc, "puzzle", number, name, line)?))
+        }
+        Err(PuzzleFault::OutOfMemory) => Err(JobFault::OutOfMemory),
+    }
+}
+
+/// What the job writes of a puzzle, or its refusal.
+fn packed_answer<T: Table, R: Threads + Wait + Sync, G: Gate>(
+    alloc: Global,
+    workers: &Workers<'_, R, G>,
+    job: PuzzleJob,
+    puzzle: &Puzzle,
+    commands: &[u8],
+) -> Result<Answer, JobFault>
+    ensures { (given : PuzzleValue) → given ≡ puzzle.now →
+        IfOk result (λ answer. outcome_of answer ≡ packed_of (output_of job (raw_lines commands.now)) (Ok given)) }
+{
+    match compile(alloc, puzzle) {
+        Ok(compiled) => Ok(Answer::Text(packed_text::<T, R, G>(
+            alloc, workers, job, &compiled, commands,
+        )?)),
+        Err(PlaceFault::TooManyOptions) => {
+            let line = Vec::from_slice(alloc, b"refused place 1 TooManyOptions\n")?;
+            Ok(Answer::Refused(line))
+        }
+        Err(PlaceFault::OutOfMemory) => Err(JobFault::OutOfMemory),
+    }
+}
+
+/// What the job writes of a puzzle whose problem is within the limits.
+fn packed_text<T: Table, R: Threads + Wait + Sync, G: Gate>(
+    alloc: Global,
+    workers: &Workers<'_, R, G>,
+    job: PuzzleJob,
+    compiled: &Compiled<'_>,
+    commands: &[u8],
+) -> Result<Vec<u8>, JobFault>
+    ensures { IfOk result (λ text. text.items ≡ output_of job (raw_lines commands.now) compiled.now) }
+{
+    match job {
+        PuzzleJob::Solve => solve::<T, R, G>(alloc, workers, compiled),
+        PuzzleJob::Count => count::<T, R, G>(alloc, workers, compiled),
+        PuzzleJob::Classes => count_classes::<T, R, G>(alloc, workers, compiled),
+        PuzzleJob::Options => Ok(options(alloc, compiled)?),
+        PuzzleJob::Debug => debug::<T, R, G>(alloc, workers, compiled.problem(), commands),
+    }
+}
+
+/// The line that refuses a text.
+fn refusal(
+    alloc: Global,
+    text: &str,
+    number: u8,
+    name: &str,
+    line: u64,
+) -> Result<Vec<u8>, AllocError>
+    ensures { IfOk result (λ bytes. bytes.items ≡ line_text (refusal_words text.now number name.now line)) }
+{
+    let mut bytes = Vec::from_slice(alloc, b"refused")?;
+    write_word(&mut bytes, text)?;
+    write_number(&mut bytes, number)?;
+    write_word(&mut bytes, name)?;
+    write_word(&mut bytes, "line")?;
+    write_number(&mut bytes, line)?;
+    bytes.push(b'\n')?;
+    Ok(bytes)
+}

@@ -1,0 +1,69 @@
+//! What `count --classes` writes.
+ghost use Rattle.std.specs.Prelude.{◌≡◌, ◌++◌, IfOk, OnOk};
+ghost use Rattle.text_lines.specs.Writing.{text_of};
+ghost use Rattle.poly_place.specs.declared.alike.Group.TheVariants.{Rotations, Symmetries};
+ghost use Rattle.poly_place.specs.Packings.{packing_problem};
+ghost use Rattle.polylab_engine.specs.Classified.{packings_of, classes_of, class_lines, classes_output};
+ghost use Rattle.polylab_engine.specs.Listing.{AreExactCovers};
+
+use crate::fault::JobFault;
+use crate::packed::count_text;
+use crate::search::search;
+use crate::workers::Workers;
+use cover_problem::{Lists, Table};
+use lab_pool::Gate;
+use poly_place::{Compiled, Group, Packing, classes, packing_of};
+use std::alloc::{AllocError, Global};
+use std::sync::Wait;
+use std::thread::Threads;
+use text_lines::write_number_line;
+
+/// What `count` writes, and then how many classes the packings make, by the rotations and by all symmetries of the region.
+#[tactic(auto, unfolding(crate::specs::Classified::classes_output))]
+pub fn count_classes<T: Table, R: Threads + Wait + Sync, G: Gate>(
+    alloc: Global,
+    workers: &Workers<'_, R, G>,
+    compiled: &Compiled<'_>,
+) -> Result<Vec<u8>, JobFault>
+    ensures { IfOk result (λ text. text.items ≡ classes_output compiled.now) }
+{
+    let report = search::<T, R, G>(alloc, workers, compiled.problem(), true)?;
+    let mut text = count_text(alloc, compiled, &report)?;
+    push_classes(alloc, &mut text, compiled, report.visits())?;
+    Ok(text)
+}
+
+/// Adds the lines of the classes of the packings for which these exact covers stand.
+fn push_classes(
+    alloc: Global,
+    text: &mut Vec<u8>,
+    compiled: &Compiled<'_>,
+    visits: &Lists,
+) -> Result<(), AllocError>
+    requires { AreExactCovers (packing_problem compiled.now) visits.now }
+    ensures { OnOk result (text.new.items ≡ text.old.items ++ text_of (class_lines
+        (classes_of Rotations (packings_of compiled.now visits.now))
+        (classes_of Symmetries (packings_of compiled.now visits.now)))) }
+{
+    let packings = packings_of(alloc, compiled, visits)?;
+    let rotations = classes(alloc, packings.as_slice(), Group::Rotations)?;
+    let symmetries = classes(alloc, packings.as_slice(), Group::Symmetries)?;
+    write_number_line(text, "rotations", u128::from(rotations))?;
+    write_number_line(text, "symmetries", u128::from(symmetries))
+}
+
+/// The packings for which these exact covers stand.
+fn packings_of<'p>(
+    alloc: Global,
+    compiled: &Compiled<'p>,
+    visits: &Lists,
+) -> Result<Vec<Packing<'p>>, AllocError>
+    requires { AreExactCovers (packing_problem compiled.now) visits.now }
+    ensures { IfOk result (λ packings. packings.items ≡ packings_of compiled.now visits.now) }
+{
+    let mut packings = Vec::with_capacity(alloc, visits.len())?;
+    for k in 0..visits.len() {
+        packings.push(packing_of(alloc, compiled, visits.list(k))?)?;
+    }
+    Ok(packings)
+}

@@ -1,0 +1,27 @@
+//! A search that is taken by commands.
+ghost use Rattle.std.specs.Prelude.{◌≡◌, IfOk};
+ghost use Rattle.debug_script.specs.Input.{raw_lines};
+ghost use Rattle.polylab_engine.specs.Debugged.{debug_output};
+
+use crate::fault::JobFault;
+use crate::workers::Workers;
+use cover_problem::{Problem, Table};
+use debug_script::replies;
+use lab_pool::Gate;
+use std::alloc::Global;
+use std::sync::Wait;
+use std::thread::Threads;
+
+/// What commands over a problem are answered, from the start of its run on. A `pool` names its own
+/// number of workers.
+#[tactic(auto, unfolding(crate::specs::Debugged::debug_output))]
+pub fn debug<T: Table, R: Threads + Wait + Sync, G: Gate>(
+    alloc: Global,
+    workers: &Workers<'_, R, G>,
+    problem: &Problem,
+    commands: &[u8],
+) -> Result<Vec<u8>, JobFault>
+    ensures { IfOk result (λ text. text.items ≡ debug_output (raw_lines commands.now) problem.now) }
+{
+    Ok(replies::<T, R, G>(workers.rt, alloc, problem, commands, workers.gate)?)
+}

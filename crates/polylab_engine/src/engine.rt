@@ -1,0 +1,122 @@
+//! From the input's bytes to the output's.
+ghost use Rattle.std.specs.Prelude.{◌≡◌};
+ghost use Rattle.byte_streams.specs.Stream.{Takes};
+ghost use Rattle.polylab_engine.specs.Ending.{IsEnd, IsTold, IsRun, status_of};
+
+use crate::answer::{Answer, answer_to};
+use crate::fault::{JobFault, pool_line};
+use crate::job::Job;
+use crate::workers::Workers;
+use byte_streams::{InputFault, Sink, Source, read_whole, write_whole};
+use cover_links::LinkTable;
+use lab_pool::{Gate, PoolFault};
+use std::alloc::Global;
+use std::sync::Wait;
+use std::thread::Threads;
+
+/// How a run ended.
+#[derive(Drop)]
+pub enum Ending {
+    /// All was written.
+    Written,
+    /// The input was refused by this line.
+    Refused(Vec<u8>),
+    /// There was not enough memory.
+    OutOfMemory,
+    /// The workers did not finish.
+    Pool(PoolFault),
+    /// The reader failed, or its input goes on past the limit.
+    Unread,
+    /// The writer failed.
+    Unwritten,
+}
+
+/// The exit status of a run that ended so.
+fn status(ending: &Ending) -> u8
+    ensures { result ≡ status_of ending.now }
+{
+    match ending {
+        Ending::Written => 0,
+        Ending::Refused(_) => 3,
+        Ending::OutOfMemory | Ending::Pool(_) => 4,
+        Ending::Unread | Ending::Unwritten => 5,
+    }
+}
+
+/// Writes a line. That this fails changes nothing.
+fn tell<F: Sink>(faults: &mut F, line: &[u8])
+    ensures { Takes (F.stream faults.old) (F.stream faults.new) line.now }
+{
+    let _ = write_whole(faults, line);
+}
+
+/// Tells how the run ended.
+fn tell_ending<F: Sink>(faults: &mut F, ending: &Ending)
+    ensures { IsTold ending.now (F.stream faults.old) (F.stream faults.new) }
+{
+    match ending {
+        Ending::Written => {}
+        Ending::Refused(line) => tell(faults, line),
+        Ending::OutOfMemory => tell(faults, b"refused memory\n"),
+        Ending::Pool(fault) => tell(faults, pool_line(*fault)),
+        Ending::Unread => tell(faults, b"refused input\n"),
+        Ending::Unwritten => tell(faults, b"refused output\n"),
+    }
+}
+
+/// Reads the whole input, does the job, and writes the whole output.
+fn work<R: Threads + Wait + Sync, G: Gate, I: Source, O: Sink>(
+    alloc: Global,
+    job: Job,
+    workers: &Workers<'_, R, G>,
+    reader: &mut I,
+    writer: &mut O,
+) -> Ending
+    ensures { IsEnd job (I.stream reader.old) (I.stream reader.new)
+        (O.stream writer.old) (O.stream writer.new) result }
+{
+    let bytes = match read_whole(alloc, reader) {
+        Ok(bytes) => bytes,
+        Err(InputFault::OutOfMemory) => return Ending::OutOfMemory,
+        Err(_) => return Ending::Unread,
+    };
+    match answer_to::<LinkTable, R, G>(alloc, job, workers, bytes) {
+        Ok(Answer::Text(text)) => match write_whole(writer, &text) {
+            Ok(()) => Ending::Written,
+            Err(_) => Ending::Unwritten,
+        },
+        Ok(Answer::Refused(line)) => Ending::Refused(line),
+        Err(JobFault::OutOfMemory) => Ending::OutOfMemory,
+        Err(JobFault::Pool(fault)) => Ending::Pool(fault),
+    }
+}
+
+/// Reads the whole input, does the job, writes the whole output, and answers the exit status: 0, 3, 4 or 5. One line
+/// goes to `faults` where it isn't 0; the line is whole unless `faults` failed.
+///
+/// What is written at status 0 is a function of the job and of the bytes read (`outcome`), and it lists exactly the
+/// exact covers of the input's problem, or the packings of its puzzle, each once, in path order, or tells how many
+/// these are, or what the search of its snapshot comes to from there on. It is the same for every number of workers
+/// and every gate; a gate sees the acts of workers who share a search. At 3 and 4 nothing is written. `IsRun` of
+/// `specs/Ending.antt` says all this, fact by fact.
+pub fn run<R: Threads + Wait + Sync, G: Gate, I: Source, O: Sink, F: Sink>(
+    rt: &R,
+    alloc: Global,
+    job: Job,
+    gate: &G,
+    reader: &mut I,
+    writer: &mut O,
+    faults: &mut F,
+) -> u8
+    ensures { IsRun job (I.stream reader.old) (I.stream reader.new) (O.stream writer.old) (O.stream writer.new)
+        (F.stream faults.old) (F.stream faults.new) result }
+{
+    let workers = Workers {
+        rt,
+        gate,
+        count: job.workers(),
+    };
+    let ending = work(alloc, job, &workers, reader, writer);
+    tell_ending(faults, &ending);
+    status(&ending)
+}

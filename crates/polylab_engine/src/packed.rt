@@ -1,0 +1,106 @@
+//! What `solve`, `count` and `options` write.
+ghost use Rattle.std.specs.Prelude.{◌≡◌, ◌<◌, ◌++◌, ◌∷◌, [], ℕ, List, length, IfOk, OnOk, decimal};
+ghost use Rattle.text_lines.specs.Writing.{line_text};
+ghost use Rattle.cover_problem.specs.Lists.{has};
+ghost use Rattle.cover_problem.specs.ExactCover.{IsExactCover};
+ghost use Rattle.poly_place.specs.Packings.{packing_problem};
+ghost use Rattle.polylab_engine.specs.Packed.{solve_output, count_output, count_text, options_output, packing_text, packings_from, number_line};
+ghost use Rattle.polylab_engine.specs.Listing.{AreExactCovers};
+
+use crate::fault::JobFault;
+use crate::report::Report;
+use crate::search::search;
+use crate::workers::Workers;
+use cover_problem::{Lists, Table, write_cover};
+use lab_pool::Gate;
+use poly_place::{Compiled, layers, packing_of};
+use std::alloc::{AllocError, Global};
+use std::sync::Wait;
+use std::thread::Threads;
+use text_lines::write_number_line;
+
+/// The packings of the puzzle in path order, each with its layers, and then their number.
+#[tactic(auto, unfolding(crate::specs::Packed::solve_output))]
+pub fn solve<T: Table, R: Threads + Wait + Sync, G: Gate>(
+    alloc: Global,
+    workers: &Workers<'_, R, G>,
+    compiled: &Compiled<'_>,
+) -> Result<Vec<u8>, JobFault>
+    ensures { IfOk result (λ text. text.items ≡ solve_output compiled.now) }
+{
+    let report = search::<T, R, G>(alloc, workers, compiled.problem(), true)?;
+    let mut text = Vec::new(alloc);
+    push_packings(alloc, &mut text, compiled, report.visits())?;
+    write_number_line(&mut text, "packings", report.visited())?;
+    Ok(text)
+}
+
+/// The number of packings and of options, and the steps and the levels of the search.
+#[tactic(auto, unfolding(crate::specs::Packed::count_output))]
+pub fn count<T: Table, R: Threads + Wait + Sync, G: Gate>(
+    alloc: Global,
+    workers: &Workers<'_, R, G>,
+    compiled: &Compiled<'_>,
+) -> Result<Vec<u8>, JobFault>
+    ensures { IfOk result (λ text. text.items ≡ count_output compiled.now) }
+{
+    let report = search::<T, R, G>(alloc, workers, compiled.problem(), false)?;
+    Ok(count_text(alloc, compiled, &report)?)
+}
+
+/// The number of packings and of options, and the steps and the levels, of the report of a search.
+pub fn count_text(
+    alloc: Global,
+    compiled: &Compiled<'_>,
+    report: &Report,
+) -> Result<Vec<u8>, AllocError>
+    ensures { IfOk result (λ text. text.items ≡ count_text compiled.now report.now) }
+{
+    let options = compiled.problem().options();
+    let mut text = Vec::new(alloc);
+    write_number_line(&mut text, "packings", report.visited())?;
+    write_number_line(&mut text, "options", u128::from(options))?;
+    report.push_steps(&mut text)?;
+    Ok(text)
+}
+
+/// The cover text whose exact covers are the packings.
+#[tactic(auto, unfolding(crate::specs::Packed::options_output))]
+pub fn options(alloc: Global, compiled: &Compiled<'_>) -> Result<Vec<u8>, AllocError>
+    ensures { IfOk result (λ text. text.items ≡ options_output compiled.now) }
+{
+    write_cover(alloc, compiled.problem())
+}
+
+/// Adds the packings for which these exact covers stand, numbered from 1.
+fn push_packings(
+    alloc: Global,
+    text: &mut Vec<u8>,
+    compiled: &Compiled<'_>,
+    visits: &Lists,
+) -> Result<(), AllocError>
+    requires { AreExactCovers (packing_problem compiled.now) visits.now }
+    ensures { OnOk result (text.new.items ≡ text.old.items ++ packings_from compiled.now 1 visits.now) }
+{
+    for k in 0..visits.len() {
+        push_packing(alloc, text, compiled, k as u128 + 1, visits.list(k))?;
+    }
+    Ok(())
+}
+
+/// Adds a packing: a line with its number, and its layers.
+fn push_packing(
+    alloc: Global,
+    text: &mut Vec<u8>,
+    compiled: &Compiled<'_>,
+    number: u128,
+    path: &[u32],
+) -> Result<(), AllocError>
+    requires { IsExactCover (packing_problem compiled.now) (has path.now) }
+    ensures { OnOk result (text.new.items ≡ text.old.items ++ packing_text compiled.now number path.now) }
+{
+    write_number_line(text, "packing", number)?;
+    let packing = packing_of(alloc, compiled, path)?;
+    let shown = layers(alloc, &packing)?;
+    text.extend_from_slice(shown.as_bytes())
+}

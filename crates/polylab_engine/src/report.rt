@@ -1,0 +1,93 @@
+//! The report of a whole search.
+ghost use Rattle.std.specs.Prelude.{◌≡◌, ◌++◌, None, IfOk, OnOk};
+ghost use Rattle.text_lines.specs.Writing.{text_of};
+ghost use Rattle.x_steps.specs.Run.{visits_between};
+ghost use Rattle.x_steps.specs.StateValue.{start};
+ghost use Rattle.x_branches.specs.Branch.{end_of};
+ghost use Rattle.lab_book.specs.Posted.{AllClosed};
+ghost use Rattle.polylab_engine.specs.Account.{kept};
+ghost use Rattle.polylab_engine.specs.Output.{tally_lines, whole_report};
+
+use cover_problem::Lists;
+use debug_language::write_levels;
+use lab_book::Book;
+use std::alloc::{AllocError, Global};
+use std::marker::Model;
+use text_lines::write_number_line;
+
+/// The visits in path order, where they are kept, how many visits and steps there were, and how many X2 states at each level from 0
+/// on, up to the last that has one.
+#[derive(Drop)]
+pub struct Report {
+    pub(crate) visits: Lists,
+    pub(crate) visited: u128,
+    pub(crate) steps: u128,
+    pub(crate) levels: Vec<u128>,
+}
+
+impl Model for Report {
+    ghost use Rattle.polylab_engine.specs.Account.{ReportValue};
+
+    ghost Value = { ReportValue };
+
+    ghost view = { λ r. record {
+      visits = r.visits;
+      visited = r.visited;
+      steps = r.steps;
+      levels = r.levels.items;
+    } };
+}
+
+/// The visits of a book, or none where they are not kept.
+fn visits_of(alloc: Global, book: &Book<'_>, keeps: bool) -> Result<Lists, AllocError>
+    ensures { IfOk result (λ paths. AllClosed book.now.tiles →
+        paths ≡ kept keeps (visits_between book.now.problem book.now.first (end_of book.now.branch.hi))) }
+{
+    if keeps {
+        book.visits()
+    } else {
+        Ok(Lists::new(alloc))
+    }
+}
+
+impl Report {
+    /// The report of a finished book of a whole run.
+    pub fn of_book(alloc: Global, book: &Book<'_>, keeps: bool) -> Result<Report, AllocError>
+        requires finished { AllClosed book.now.tiles }
+        requires first { book.now.first ≡ start }
+        requires branch { book.now.branch ≡ record { lo = None; hi = None } }
+        ensures { IfOk result (λ report. report ≡ whole_report keeps book.now.problem) }
+    {
+        let visits = visits_of(alloc, book, keeps)?;
+        let levels = book.levels()?;
+        Ok(Report {
+            visits,
+            visited: book.visited(),
+            steps: book.steps(),
+            levels,
+        })
+    }
+
+    /// The visits that are kept.
+    pub fn visits(&self) -> &Lists
+        ensures { result.now ≡ self.now.visits }
+    {
+        &self.visits
+    }
+
+    /// How many visits there were.
+    pub fn visited(&self) -> u128
+        ensures { result ≡ self.now.visited }
+    {
+        self.visited
+    }
+
+    /// Adds the lines of the steps and of the levels, of level 0 at least.
+    pub fn push_steps(&self, text: &mut Vec<u8>) -> Result<(), AllocError>
+        ensures { OnOk result (text.new.items ≡ text.old.items
+            ++ text_of (tally_lines self.now.steps self.now.levels)) }
+    {
+        write_number_line(text, "steps", self.steps)?;
+        write_levels(text, &self.levels)
+    }
+}

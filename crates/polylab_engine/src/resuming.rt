@@ -1,0 +1,155 @@
+//! A search goes on from a snapshot.
+ghost use Rattle.std.specs.Prelude.{◌≡◌, ◌↔◌, IfOk, IsTrue};
+ghost use Rattle.x_steps.specs.StateValue.{at, done};
+ghost use Rattle.x_steps.specs.StateView.{state_value};
+ghost use Rattle.x_snapshot.specs.Snapshot.{IsSnapshot, choices_of};
+ghost use Rattle.polylab_engine.specs.Stretch.{end_at, stretch_report};
+ghost use Rattle.polylab_engine.specs.Resumed.{branch_end, resume_output, stop_of, at_state, rest_text};
+
+use crate::cover::report_text;
+use crate::report::Report;
+use crate::stretch::search_on;
+use cover_problem::Table;
+use std::alloc::{AllocError, Global};
+use x_snapshot::{Snapshot, SnapshotFault, write_snapshot};
+use x_steps::{AtFault, Cursor, Label, Machine, State};
+
+/// What `resume` writes of a snapshot: the report of the stretch from its state on, with the visits or without them, up to the end of
+/// its branch, or as many steps on as are asked for, where that comes first; and then that it ended, or the snapshot there.
+#[tactic(auto, unfolding(crate::specs::Resumed::resume_output))]
+pub fn resume<T: Table>(
+    alloc: Global,
+    most: Option<u64>,
+    lists: bool,
+    snapshot: &Snapshot,
+) -> Result<Vec<u8>, AllocError>
+    ensures { IfOk result (λ text. text.items ≡ resume_output most lists snapshot.now) }
+{
+    let _problem = snapshot.problem();
+    let (report, stop) = stretch_of::<T>(alloc, most, lists, snapshot)?;
+    let mut text = report_text(alloc, &report)?;
+    let rest = rest_of(alloc, snapshot, stop)?;
+    text.extend_from_slice(&rest)?;
+    Ok(text)
+}
+
+/// The choices of the cut where a snapshot's branch ends; none where it ends with the run.
+fn end_choices(snapshot: &Snapshot) -> &[u32]
+    ensures { end_at result.now ≡ branch_end snapshot.now }
+{
+    // A snapshot tells with its problem what it is.
+    let _problem = snapshot.problem();
+    match snapshot.hi() {
+        Some(path) => path,
+        None => &[],
+    }
+}
+
+/// A machine of a snapshot's problem, at its state.
+fn machine_at<'p, T: Table>(
+    alloc: Global,
+    snapshot: &'p Snapshot,
+) -> Result<Machine<'p, T>, AllocError>
+    ensures { IfOk result (λ m.
+        m ≡ record { problem = snapshot.now.problem; state = snapshot.now.state }) }
+{
+    let problem = snapshot.problem();
+    let table = T::new(alloc, problem)?;
+    match Machine::at(alloc, problem, table, snapshot.state()) {
+        Ok(machine) => Ok(machine),
+        Err(refused) => match refused.fault {
+            AtFault::OutOfMemory => Err(AllocError),
+            AtFault::NotAState => unreachable!(),
+        },
+    }
+}
+
+/// The report of the stretch from a snapshot's state on, and the state where it stops.
+fn stretch_of<T: Table>(
+    alloc: Global,
+    most: Option<u64>,
+    lists: bool,
+    snapshot: &Snapshot,
+) -> Result<(Report, State), AllocError>
+    ensures stop { IfOk result (λ r. state_value r.1 ≡ stop_of most snapshot.now) }
+    ensures report { IfOk result (λ r.
+        r.0 ≡ stretch_report lists snapshot.now.problem snapshot.now.state (state_value r.1)) }
+{
+    let _problem = snapshot.problem();
+    let machine = machine_at::<T>(alloc, snapshot)?;
+    search_on(alloc, machine, end_choices(snapshot), most, lists)
+}
+
+/// Whether a state is X5 at an option, after these choices.
+fn is_cut(state: &State, front: &[u32], option: u32) -> bool
+    ensures { IsTrue result ↔ (state_value state.now ≡ at Label.X5 front.now (Cursor.At option)) }
+{
+    state.label == Label::X5 && state.cursor == Cursor::At(option) && state.path.as_slice() == front
+}
+
+/// Whether a state is Done.
+fn is_done(state: &State) -> bool
+    ensures { IsTrue result ↔ (state_value state.now ≡ done) }
+{
+    state.label == Label::Done && state.cursor == Cursor::None && state.path.is_empty()
+}
+
+/// Whether a state is that of the cut of these choices, or Done where there are none.
+fn is_end(state: &State, end: &[u32]) -> bool
+    ensures { IsTrue result ↔ (state_value state.now ≡ end_at end.now) }
+{
+    match end.split_last() {
+        Some((last, front)) => is_cut(state, front, *last),
+        None => is_done(state),
+    }
+}
+
+/// The choices of the cut where a snapshot's branch begins, in memory of their own.
+fn low_of(alloc: Global, snapshot: &Snapshot) -> Result<Option<Vec<u32>>, AllocError>
+    ensures { IfOk result (λ path. choices_of path ≡ snapshot.now.lo) }
+{
+    match snapshot.lo() {
+        Some(path) => Ok(Some(Vec::from_slice(alloc, path)?)),
+        None => Ok(None),
+    }
+}
+
+/// The choices of the cut where it ends.
+fn high_of(alloc: Global, snapshot: &Snapshot) -> Result<Option<Vec<u32>>, AllocError>
+    ensures { IfOk result (λ path. choices_of path ≡ snapshot.now.hi) }
+{
+    match snapshot.hi() {
+        Some(path) => Ok(Some(Vec::from_slice(alloc, path)?)),
+        None => Ok(None),
+    }
+}
+
+/// The same snapshot at another state of its branch.
+fn moved(alloc: Global, snapshot: &Snapshot, state: State) -> Result<Snapshot, AllocError>
+    requires { IsSnapshot (at_state snapshot.now (state_value state)) }
+    ensures { IfOk result (λ s. s ≡ at_state snapshot.now (state_value state)) }
+{
+    let problem = snapshot.problem().copy()?;
+    let lo = low_of(alloc, snapshot)?;
+    let hi = high_of(alloc, snapshot)?;
+    let breaks = Vec::from_slice(alloc, snapshot.breaks())?;
+    match Snapshot::new(alloc, problem, lo, hi, state, breaks) {
+        Ok(snapshot) => Ok(snapshot),
+        Err(refused) => match refused.fault {
+            SnapshotFault::OutOfMemory => Err(AllocError),
+            _ => unreachable!(),
+        },
+    }
+}
+
+/// What stands last where a stretch stops at a state: the line `end` where the branch ends there, or the snapshot at that state.
+fn rest_of(alloc: Global, snapshot: &Snapshot, state: State) -> Result<Vec<u8>, AllocError>
+    requires { IsSnapshot (at_state snapshot.now (state_value state)) }
+    ensures { IfOk result (λ rest. rest.items ≡ rest_text snapshot.now (state_value state)) }
+{
+    if is_end(&state, end_choices(snapshot)) {
+        return Vec::from_slice(alloc, b"end\n");
+    }
+    let there = moved(alloc, snapshot, state)?;
+    write_snapshot(alloc, &there)
+}

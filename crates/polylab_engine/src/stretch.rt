@@ -1,0 +1,109 @@
+//! A stretch of a run: a machine is taken on, and what it passes is counted.
+ghost use Rattle.std.specs.Prelude.{◌≡◌, ◌<◌, ◌≤◌, ◌-◌, ◌+◌, ◌⊎◌, ℕ, Some, length, option_map, IfOk, IfSome};
+ghost use Rattle.std.specs.Option.{ForSome};
+ghost use Rattle.x_steps.specs.StateView.{state_value};
+ghost use Rattle.x_steps.specs.Steps.{Fits};
+ghost use Rattle.x_steps.specs.Run.{after, steps_between};
+ghost use Rattle.x_steps.specs.Walk.{IsAtCut, IsWalk, HasRoom};
+ghost use Rattle.x_branches.specs.RunOrder.{ComesBefore};
+ghost use Rattle.polylab_engine.specs.Stretch.{end_at, steps_taken, stretch_report};
+
+use crate::report::Report;
+use crate::tally::Tally;
+use cover_problem::Table;
+use std::alloc::{AllocError, Global};
+use x_steps::{Event, Label, Machine, State, Walk, no_counts};
+
+/// How many steps the next walk may take: as many as there is room for, and no more than are left.
+fn pace_of(room: u32, left: Option<u64>) -> u32
+    ensures room { result ≤ room }
+    ensures left { IfSome left (λ steps. result ≤ steps) }
+    ensures none { result ≡ 0 → (room ≡ 0) ⊎ (left ≡ Some 0) }
+{
+    match left {
+        Some(steps) if steps < room as u64 => steps as u32,
+        _ => room,
+    }
+}
+
+/// How many steps are left after some.
+fn left_after(left: Option<u64>, taken: u32) -> Option<u64>
+    requires { ForSome left (λ steps. taken ≤ steps) }
+    ensures { result ≡ option_map (λ steps. steps - taken) left }
+{
+    match left {
+        Some(steps) => Some(steps - taken as u64),
+        None => None,
+    }
+}
+
+/// Walks on, as a machine does, and not at Done: a walk of no step stands there, or at the cut of the choices `end`, or was to
+/// take none.
+fn walk_on<T: Table>(
+    machine: &mut Machine<'_, T>,
+    most: u32,
+    end: &[u32],
+    counts: &mut [u32],
+) -> Walk
+    requires levels { length counts.old ≡ length machine.old.problem.names + 1 }
+    requires room { HasRoom most counts.old }
+    ensures problem { machine.new.problem ≡ machine.old.problem }
+    ensures walk { IsWalk machine.old.problem machine.old.state machine.new.state
+        counts.old counts.new result.steps result.event }
+    ensures within { result.steps ≤ most }
+    ensures before { (i : ℕ) → i < result.steps →
+        IsAtCut (after machine.old.problem i machine.old.state) end.now → ⊥ }
+    ensures none { result.steps ≡ 0 →
+        (most ≡ 0) ⊎ (IsAtCut machine.new.state end.now ⊎ (machine.new.state.label ≡ Label.Done)) }
+{
+    match machine.walk(most, end, counts) {
+        Ok(walk) => walk,
+        Err(_) => Walk {
+            steps: 0,
+            event: Event::Moved,
+        },
+    }
+}
+
+/// Takes a machine on, up to the end of a branch, which is the cut of these choices, or Done where there are none; or as many steps
+/// as are asked for, where these come first. Answers the report of the stretch, which keeps the visits or not, and the state where
+/// it stops. Memory doesn't grow with the stretch, but for visits that are kept.
+pub fn search_on<T: Table>(
+    alloc: Global,
+    machine: Machine<'_, T>,
+    end: &[u32],
+    most: Option<u64>,
+    keeps: bool,
+) -> Result<(Report, State), AllocError>
+    requires end { Fits machine.problem (end_at end.now) }
+    requires not_past { ComesBefore machine.problem (end_at end.now) machine.state → ⊥ }
+    ensures stop { IfOk result (λ r. state_value r.1 ≡ after machine.entry.problem
+        (steps_taken most
+        (steps_between machine.entry.problem machine.entry.state (end_at end.now)))
+        machine.entry.state) }
+    ensures report { IfOk result (λ r.
+        r.0 ≡ stretch_report keeps machine.entry.problem machine.entry.state (state_value r.1)) }
+{
+    let items = machine.problem().items();
+    let mut machine = machine;
+    let mut tally = Tally::new(alloc, items)?;
+    let mut counts = no_counts(alloc, items)?;
+    let mut room = u32::MAX;
+    let mut left = most;
+    loop {
+        let walk = walk_on(&mut machine, pace_of(room, left), end, &mut counts);
+        if walk.steps == 0 {
+            tally.add_counts(&counts)?;
+            let stop = machine.state().copy()?;
+            return Ok((tally.report(alloc)?, stop));
+        }
+        tally.note(keeps, walk, &machine.state().path)?;
+        left = left_after(left, walk.steps);
+        room -= walk.steps;
+        if room == 0 {
+            tally.add_counts(&counts)?;
+            counts = no_counts(alloc, items)?;
+            room = u32::MAX;
+        }
+    }
+}

@@ -1,0 +1,132 @@
+//! What a search comes to, counted walk by walk.
+ghost use Rattle.std.specs.Prelude.{◌≡◌, length, replicate, IfOk, OnOk};
+ghost use Rattle.polylab_engine.specs.Account.{AreSums, with_walk, empty_account, kept_with, visits_with, report_of};
+
+use crate::count::Count;
+use crate::report::Report;
+use cover_problem::Lists;
+use std::alloc::{AllocError, Global};
+use std::marker::Model;
+use x_steps::{Event, Walk, drop_last_zeros};
+
+/// The visits that are kept, and the numbers of visits, of steps, and of X2 states at each level.
+#[derive(Drop)]
+pub struct Tally {
+    visits: Lists,
+    visited: Count,
+    steps: Count,
+    entered: Vec<Count>,
+}
+
+impl Model for Tally {
+    ghost use Rattle.polylab_engine.specs.Account.{Account};
+
+    ghost Value = { Account };
+
+    ghost view = { λ r. record {
+      visits = r.visits;
+      visited = r.visited;
+      steps = r.steps;
+      entered = r.entered.items;
+    } };
+}
+
+/// So many counts of nothing.
+fn no_counts(alloc: Global, count: usize) -> Result<Vec<Count>, AllocError>
+    ensures { IfOk result (λ counts. counts.items ≡ replicate count 0) }
+{
+    let mut counts = Vec::with_capacity(alloc, count)?;
+    for _ in 0..count {
+        counts.push(Count::new(alloc))?;
+    }
+    Ok(counts)
+}
+
+/// Adds to each total its count.
+fn add_each(totals: &mut [Count], counts: &[u32]) -> Result<(), AllocError>
+    requires { length counts.now ≡ length totals.old }
+    ensures { OnOk result (AreSums totals.old counts.now totals.new) }
+{
+    for (level, count) in counts.iter().enumerate() {
+        totals[level].add(*count)?;
+    }
+    Ok(())
+}
+
+/// The counts as numbers.
+fn totals_of(alloc: Global, counts: &[Count]) -> Result<Vec<u128>, AllocError>
+    ensures { IfOk result (λ totals. totals.items ≡ counts.now) }
+{
+    let mut totals = Vec::with_capacity(alloc, counts.len())?;
+    for count in counts {
+        totals.push(count.total())?;
+    }
+    Ok(totals)
+}
+
+impl Tally {
+    /// The tally of no step, for a problem of so many items.
+    pub fn new(alloc: Global, items: u32) -> Result<Tally, AllocError>
+        ensures { IfOk result (λ tally. tally ≡ empty_account items) }
+    {
+        let entered = no_counts(alloc, items as usize + 1)?;
+        Ok(Tally {
+            visits: Lists::new(alloc),
+            visited: Count::new(alloc),
+            steps: Count::new(alloc),
+            entered,
+        })
+    }
+
+    /// Notes a walk: its steps, and its visit, if it came to one; the path there is kept where visits are kept.
+    pub fn note(&mut self, keeps: bool, walk: Walk, path: &[u32]) -> Result<(), AllocError>
+        ensures { OnOk result (self.new ≡ with_walk keeps self.old walk.steps walk.event path.now) }
+    {
+        self.steps.add(walk.steps)?;
+        note_visit(&mut self.visited, walk.event)?;
+        keep_visit(&mut self.visits, keeps, walk.event, path)
+    }
+
+    /// Adds counts of X2 states, one for each level.
+    pub fn add_counts(&mut self, counts: &[u32]) -> Result<(), AllocError>
+        requires { length counts.now ≡ length self.old.entered }
+        ensures others { OnOk result (self.new ≡ record self.old { entered = self.new.entered }) }
+        ensures sums { OnOk result (AreSums self.old.entered counts.now self.new.entered) }
+    {
+        add_each(&mut self.entered, counts)
+    }
+
+    /// The report of what was counted.
+    pub fn report(self, alloc: Global) -> Result<Report, AllocError>
+        ensures { IfOk result (λ report. report ≡ report_of self) }
+    {
+        let mut levels = totals_of(alloc, &self.entered)?;
+        drop_last_zeros(&mut levels);
+        Ok(Report {
+            visits: self.visits,
+            visited: self.visited.total(),
+            steps: self.steps.total(),
+            levels,
+        })
+    }
+}
+
+/// Counts a visit, if the walk came to one.
+fn note_visit(visited: &mut Count, event: Event) -> Result<(), AllocError>
+    ensures { OnOk result (visited.new ≡ visits_with visited.old event) }
+{
+    match event {
+        Event::Visited => visited.add(1),
+        _ => Ok(()),
+    }
+}
+
+/// Keeps a visit, if the walk came to one and visits are kept.
+fn keep_visit(visits: &mut Lists, keeps: bool, event: Event, path: &[u32]) -> Result<(), AllocError>
+    ensures { OnOk result (visits.new ≡ kept_with keeps visits.old event path.now) }
+{
+    match event {
+        Event::Visited if keeps => visits.push(path),
+        _ => Ok(()),
+    }
+}

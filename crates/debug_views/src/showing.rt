@@ -1,10 +1,10 @@
 //! What is shown of where the search stands, and of what is untried.
-ghost use Rattle.std.specs.Prelude.{◌≡◌, ◌++◌, length, option_copied, OnOk};
+ghost use Rattle.std.specs.Prelude.{◌≡◌, ◌++◌, option_copied, OnOk};
 ghost use Rattle.text_lines.specs.Writing.{line_text, text_of};
 ghost use Rattle.lab_book.specs.Book.{path_of};
 ghost use Rattle.debug_views.specs.Lines.{state_line, plain};
 ghost use Rattle.debug_views.specs.Showing.{runner_branch, runner_covered, runner_chosen, runner_active, runner_second};
-ghost use Rattle.debug_views.specs.Showing.{show_lines, untried_at, all_untried, or_none};
+ghost use Rattle.debug_views.specs.Showing.{show_lines, level_lines, all_untried, or_none};
 
 use cover_problem::{Problem, Table};
 use debug_language::{
@@ -100,36 +100,24 @@ pub fn show<T: Table>(
     write_left(text, problem, runner)
 }
 
-/// Writes the options that are untried at a level of a runner, where there are some.
+/// Writes the options that are untried at a level, where there are some.
 #[tactic(auto, using(crate::proofs::LineLemmas::level_none, crate::proofs::LineLemmas::level_some))]
-fn write_level<T: Table>(
-    text: &mut Vec<u8>,
-    runner: &Runner<'_, T>,
-    level: usize,
-) -> Result<(), AllocError>
-    ensures { OnOk result (text.new.items ≡ text.old.items ++ text_of (untried_at runner.now level)) }
+fn write_level(text: &mut Vec<u8>, level: usize, options: &[u32]) -> Result<(), AllocError>
+    ensures { OnOk result (text.new.items ≡ text.old.items ++ text_of (level_lines level options.now)) }
 {
-    let options = runner.untried(level)?;
     if options.is_empty() {
         return Ok(());
     }
-    write_untried(text, level, &options)
-}
-
-/// The level of a runner's cursor, which comes after those of its path.
-fn last_level<T: Table>(runner: &Runner<'_, T>) -> usize
-    ensures { result ≡ length runner.now.position.path }
-{
-    runner.state().path.len()
+    write_untried(text, level, options)
 }
 
 /// Writes the levels of a runner where something is untried.
-#[tactic(auto, using(crate::proofs::LineLemmas::levels_more, std::proofs::lemmas::Grind::common_steps))]
 fn write_levels<T: Table>(text: &mut Vec<u8>, runner: &Runner<'_, T>) -> Result<(), AllocError>
     ensures { OnOk result (text.new.items ≡ text.old.items ++ text_of (all_untried runner.now)) }
 {
-    for level in 0..=last_level(runner) {
-        write_level(text, runner, level)?;
+    let levels = runner.untried_by_level()?;
+    for level in 0..levels.len() {
+        write_level(text, level, levels.list(level))?;
     }
     Ok(())
 }

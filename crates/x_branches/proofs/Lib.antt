@@ -9,3 +9,4 @@ pub mod UntriedLemmas
 pub mod PostingLemmas
 pub mod WalkedLemmas
 pub mod FirstLemmas
+pub mod LevelLemmas

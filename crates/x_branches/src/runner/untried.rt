@@ -1,8 +1,9 @@
 //! What a runner leaves untried in its branch, and where its branch can be cut.
-ghost use Rattle.std.specs.Prelude.{All, ◌≡◌, ◌<◌, ◌≤◌, ◌↔◌, ◌++◌, ◌∷◌, [], ℕ, List, length, take, filter, nat_lt, true, Some, None, IfSome, IsTrue};
+ghost use Rattle.std.specs.Prelude.{All, ◌≡◌, ◌<◌, ◌≤◌, ◌+◌, ◌↔◌, ◌++◌, ◌∷◌, [], ℕ, List, length, map, take, filter, nat_lt, true, Some, None};
+ghost use Rattle.std.specs.Prelude.{IfSome, IsTrue};
 ghost use Rattle.std.specs.Prelude.{IfOk, IfErr, OnOk, OnErr};
 ghost use Rattle.std.specs.List.{slice_get};
-ghost use Rattle.cover_problem.specs.Lists.{has};
+ghost use Rattle.cover_problem.specs.Lists.{has, numbers};
 ghost use Rattle.cover_problem.specs.Problem.{ProblemValue};
 ghost use Rattle.cover_problem.specs.Covering.{list_of};
 ghost use Rattle.cover_problem.specs.Path.{IsValid, covered_by};
@@ -21,7 +22,7 @@ use crate::fault::RunnerFault;
 use crate::order::{is_before, shared};
 use crate::position::Position;
 use crate::runner::Runner;
-use cover_problem::{Problem, Table};
+use cover_problem::{Lists, Problem, Table};
 use std::alloc::{AllocError, Global};
 use x_steps::{Cursor, Label, Refused, State};
 
@@ -114,16 +115,31 @@ impl<'p, T: Table> Runner<'p, T> {
         let Some(choice) = choice_at(state, level) else {
             return Ok(Vec::new(alloc));
         };
-        options_above(alloc, self.machine.table(), self.item_at(level), choice)
+        self.left_behind(level, choice, self.covered_before(level))
     }
 
-    /// The item that was chosen at a level where there is a choice. It is covered behind what the choices before it cover.
-    fn item_at(&self, level: usize) -> u32
+    /// How many items the choices before a level cover where there is a choice.
+    fn covered_before(&self, level: usize) -> usize
         requires { level < length (choices self.now.position) }
-        ensures { result ≡ item_after self.now.problem (take level (choices self.now.position)) }
+        ensures { result ≡ length (covered_by self.now.problem (take level (choices self.now.position))) }
     {
-        let covered = self.machine.covered();
-        covered[covered_count(self.machine.problem(), self.front(level), covered)]
+        covered_count(
+            self.machine.problem(),
+            self.front(level),
+            self.machine.covered(),
+        )
+    }
+
+    /// The options left above the choice at a level. The choice is given, and how many items the choices before it cover: the item
+    /// that was chosen there is covered behind these.
+    fn left_behind(&self, level: usize, choice: u32, covered: usize) -> Result<Vec<u32>, AllocError>
+        requires choice { Some choice ≡ slice_get (choices self.now.position) level }
+        requires covered { covered ≡ length (covered_by self.now.problem (take level (choices self.now.position))) }
+        ensures { IfOk result (λ options. options.items ≡ left_above self.now.problem level self.now.position) }
+    {
+        let alloc = *self.machine.state().path.allocator();
+        let item = self.machine.covered()[covered];
+        options_above(alloc, self.machine.table(), item, choice)
     }
 
     /// The choices before a level where there is one.
@@ -154,6 +170,28 @@ impl<'p, T: Table> Runner<'p, T> {
     {
         let above = self.left_above(level)?;
         self.before_end(level, &above)
+    }
+
+    /// The same for each level of the path, and then the one of the cursor. It goes once through the choices, where as many calls of
+    /// `untried` would go through those before each level again.
+    pub fn untried_by_level(&self) -> Result<Lists, AllocError>
+        ensures { IfOk result (λ lists. lists ≡ map (untried_in self.now) (numbers (length self.now.position.path + 1) 0)) }
+    {
+        let problem = self.machine.problem();
+        let state = self.machine.state();
+        let last = state.path.len();
+        let mut lists = Lists::new(*state.path.allocator());
+        let mut covered = 0;
+        'listing: for level in 0..last {
+            let choice = state.path[level];
+            let above = self.left_behind(level, choice, covered)?;
+            let untried = self.before_end(level, &above)?;
+            lists.push(&untried)?;
+            covered += problem.option(choice).len();
+        }
+        let untried = self.untried(last)?;
+        lists.push(&untried)?;
+        Ok(lists)
     }
 
     /// The first option that is untried at a level; None where nothing is. The choice there is given, and how many items the choices

@@ -3,7 +3,7 @@ use Rattle.std.specs.List.{slice_get}
 use Rattle.std.proofs.lemmas.Option.{slice_get_within}
 use Rattle.x_steps.specs.StateValue.{StateValue}
 use Rattle.x_branches.specs.Cut.{choices}
-use Rattle.x_branches.proofs.UntriedLemmas.{at_level, none_left}
+use Rattle.x_branches.proofs.UntriedLemmas.{none_left}
 use Rattle.x_branches.proofs.runner.Runner.left_above.Goals as goal
 
 pub returns-in_default : goal.returns-in_default
@@ -11,20 +11,12 @@ returns-in_default g c =
     let here = c.in_default.ensures ∙ ap (λ (s : StateValue). slice_get (choices s) c.args.level) c.state-state.ensures.state in
     rw (c.new.ensures.items, ← c.self.view_is) (none_left c.self.inside.machine.problem c.self.inside.machine.state c.args.level here)
 
-pub item_at-requires : goal.item_at-requires
-item_at-requires g c =
+pub covered_before-requires : goal.covered_before-requires
+covered_before-requires g c =
     let here = c.in-Some.ensures ∙ ap (λ (s : StateValue). slice_get (choices s) c.args.level) c.state-state.ensures.state in
     rw (← c.self.view_is) (slice_get_within _ _ _ (sym here))
 
-pub options_above-requires : goal.options_above-requires
-options_above-requires g c =
+pub left_behind-requires-clause-choice : goal.left_behind-requires-clause-choice
+left_behind-requires-clause-choice g c =
     let here = c.in-Some.ensures ∙ ap (λ (s : StateValue). slice_get (choices s) c.args.level) c.state-state.ensures.state in
-    let l = at_level _ _ _ _ c.self.invariant.sound c.state-state.ensures.fits here in
-    rw (c.table.ensures.same_problem, c.table.ensures.covered, c.item_at.ensures, ← c.self.view_is) l.member
-
-pub returns : goal.returns
-returns g c =
-    let here = c.in-Some.ensures ∙ ap (λ (s : StateValue). slice_get (choices s) c.args.level) c.state-state.ensures.state in
-    let l = at_level _ _ _ _ c.self.invariant.sound c.state-state.ensures.fits here in
-    let listed = rw (c.table.ensures.same_problem, c.table.ensures.covered, c.item_at.ensures, ← c.self.view_is) at c.options_above.ensures in
-    rw (← c.self.view_is, ← l.left) listed
+    rw (← c.self.view_is) here

@@ -199,7 +199,7 @@ path_choice s n l =
     let e = length-append s.path (cursor_option s.cursor) in
     sym (slice_get-get_or (choices s) n 0 (omega arith) ∙ ap Some (get_or_append_left s.path (cursor_option s.cursor) 0 n l))
 
-path_front : (s : StateValue) (n : ℕ) → n ≤ length s.path → take n (choices s) ≡ take n s.path
+pub path_front : (s : StateValue) (n : ℕ) → n ≤ length s.path → take n (choices s) ≡ take n s.path
 path_front s n l = take-append-le n s.path (cursor_option s.cursor) l
 
 -- those of a branch's end

@@ -115,30 +115,25 @@ impl<'p, T: Table> Runner<'p, T> {
         let Some(choice) = choice_at(state, level) else {
             return Ok(Vec::new(alloc));
         };
-        self.left_behind(level, choice, self.covered_before(level))
+        self.left_behind(level, choice, self.item_at(level))
     }
 
-    /// How many items the choices before a level cover where there is a choice.
-    fn covered_before(&self, level: usize) -> usize
+    /// The item that was chosen at a level where there is a choice. It is covered behind what the choices before it cover.
+    fn item_at(&self, level: usize) -> u32
         requires { level < length (choices self.now.position) }
-        ensures { result ≡ length (covered_by self.now.problem (take level (choices self.now.position))) }
+        ensures { result ≡ item_after self.now.problem (take level (choices self.now.position)) }
     {
-        covered_count(
-            self.machine.problem(),
-            self.front(level),
-            self.machine.covered(),
-        )
+        let covered = self.machine.covered();
+        covered[covered_count(self.machine.problem(), self.front(level), covered)]
     }
 
-    /// The options left above the choice at a level. The choice is given, and how many items the choices before it cover: the item
-    /// that was chosen there is covered behind these.
-    fn left_behind(&self, level: usize, choice: u32, covered: usize) -> Result<Vec<u32>, AllocError>
+    /// The options left above the choice at a level. That choice is given, and the item that was chosen there.
+    fn left_behind(&self, level: usize, choice: u32, item: u32) -> Result<Vec<u32>, AllocError>
         requires choice { Some choice ≡ slice_get (choices self.now.position) level }
-        requires covered { covered ≡ length (covered_by self.now.problem (take level (choices self.now.position))) }
+        requires item { item ≡ item_after self.now.problem (take level (choices self.now.position)) }
         ensures { IfOk result (λ options. options.items ≡ left_above self.now.problem level self.now.position) }
     {
         let alloc = *self.machine.state().path.allocator();
-        let item = self.machine.covered()[covered];
         options_above(alloc, self.machine.table(), item, choice)
     }
 
@@ -179,17 +174,17 @@ impl<'p, T: Table> Runner<'p, T> {
     {
         let problem = self.machine.problem();
         let state = self.machine.state();
-        let last = state.path.len();
+        let path = state.path.as_slice();
+        let covered = self.machine.covered();
         let mut lists = Lists::new(*state.path.allocator());
-        let mut covered = 0;
-        'listing: for level in 0..last {
-            let choice = state.path[level];
-            let above = self.left_behind(level, choice, covered)?;
+        let mut count = 0;
+        'listing: for level in 0..path.len() {
+            let above = self.left_behind(level, path[level], covered[count])?;
             let untried = self.before_end(level, &above)?;
             lists.push(&untried)?;
-            covered += problem.option(choice).len();
+            count += problem.option(path[level]).len();
         }
-        let untried = self.untried(last)?;
+        let untried = self.untried(path.len())?;
         lists.push(&untried)?;
         Ok(lists)
     }

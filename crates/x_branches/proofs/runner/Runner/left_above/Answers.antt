@@ -11,8 +11,8 @@ returns-in_default g c =
     let here = c.in_default.ensures ∙ ap (λ (s : StateValue). slice_get (choices s) c.args.level) c.state-state.ensures.state in
     rw (c.new.ensures.items, ← c.self.view_is) (none_left c.self.inside.machine.problem c.self.inside.machine.state c.args.level here)
 
-pub covered_before-requires : goal.covered_before-requires
-covered_before-requires g c =
+pub item_at-requires : goal.item_at-requires
+item_at-requires g c =
     let here = c.in-Some.ensures ∙ ap (λ (s : StateValue). slice_get (choices s) c.args.level) c.state-state.ensures.state in
     rw (← c.self.view_is) (slice_get_within _ _ _ (sym here))
 

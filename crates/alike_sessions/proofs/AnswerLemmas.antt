@@ -5,7 +5,7 @@ use Rattle.text_lines.specs.Writing.{text_of}
 use Rattle.cover_problem.specs.Problem.{ProblemValue, is_same}
 use Rattle.x_steps.specs.StateValue.{StateValue}
 use Rattle.x_branches.specs.Runner.{RunnerValue}
-use Rattle.x_snapshot.specs.declared.breakpoint.Break.{Break}
+use Rattle.x_texts.specs.declared.breakpoint.Break.{Break}
 use Rattle.x_snapshot.specs.declared.fault.SnapshotFault.{SnapshotFault}
 use Rattle.x_snapshot.specs.Snapshot.{SnapshotValue}
 use Rattle.x_snapshot.specs.Judged.{snapshot_of}
@@ -20,7 +20,7 @@ use Rattle.lab_world.specs.Worker.{WorkerValue, lent_worker, moved_to}
 use Rattle.debug_language.specs.Command.{CommandValue}
 use Rattle.debug_language.specs.Command as command
 use Rattle.debug_language.specs.Reading.{command_of}
-use Rattle.debug_language.specs.Replies.{levels_words}
+use Rattle.x_texts.specs.Words.{levels_words}
 use Rattle.debug_language.specs.declared.words.Counted.TheVariants as counts
 use Rattle.debug_language.specs.declared.words.Plain.TheVariants.{NothingUntried, NoBranches}
 use Rattle.debug_language.specs.declared.fault.DebugFault.TheVariants.{BadCommand, NoBranch, AlreadyOpen}

@@ -3,7 +3,7 @@
 use Rattle.std.proofs.Common.{◌≡◌, Some, None, [], ◌∷◌, refl}
 use Rattle.cover_problem.proofs.CoverExamples.{small}
 use Rattle.x_branches.specs.Branch.{first_of}
-use Rattle.x_snapshot.specs.declared.breakpoint.Break.TheVariants.{Visit}
+use Rattle.x_texts.specs.declared.breakpoint.Break.TheVariants.{Visit}
 use Rattle.lab_book.specs.declared.status.Status.TheVariants.{Leased}
 use Rattle.lab_book.specs.declared.lease.Grant.{Grant}
 use Rattle.lab_book.specs.Book.{BookValue}

@@ -12,7 +12,7 @@ use Rattle.x_branches.specs.declared.branch.Branch.{Branch}
 use Rattle.x_branches.specs.Cut.{CutPath, IsCut}
 use Rattle.x_branches.specs.Stretch.{IsStretch}
 use Rattle.x_branches.specs.Runner.{RunnerValue, IsRunner, IsBranch}
-use Rattle.x_snapshot.specs.declared.breakpoint.Break.{Break}
+use Rattle.x_texts.specs.declared.breakpoint.Break.{Break}
 use Rattle.x_snapshot.specs.declared.fault.SnapshotFault.{SnapshotFault}
 use Rattle.x_snapshot.specs.declared.fault.SnapshotFault.TheVariants.{NotOnRun, OutsideBranch}
 use Rattle.x_snapshot.specs.Snapshot.{SnapshotValue, branch_between, path_in, IsCutIfAny}

@@ -13,8 +13,8 @@ use Rattle.lab_book.specs.Book.{BookValue}
 use Rattle.lab_world.specs.Worker.{WorkerValue, HoldsTile}
 use Rattle.debug_language.specs.declared.fault.DebugFault.TheVariants.{AtEnd}
 use Rattle.debug_language.specs.declared.words.Plain.TheVariants.{End}
-use Rattle.x_snapshot.specs.declared.breakpoint.Break.{Break}
-use Rattle.x_snapshot.specs.Breaks.{is_break}
+use Rattle.x_texts.specs.declared.breakpoint.Break.{Break}
+use Rattle.x_texts.specs.Breaks.{is_break}
 use Rattle.debug_views.specs.Breakpoints.{meets, first_met}
 use Rattle.debug_views.specs.Lines.{plain, debug_refusal}
 use Rattle.debug_acts.specs.Walking.{AtWork, work, forward, IsPartWay, steps_ahead, state_on, visit_lines, moved_lines, walk_lines, step_count, end_lines, step_lines, run_count, run_lines, stop_line}

@@ -19,7 +19,7 @@ use Rattle.lab_book.specs.Tiling.{IsTiling, tile_at}
 use Rattle.lab_book.specs.Book.{BookValue}
 use Rattle.lab_book.proofs.TilingLemmas.{tile_in}
 use Rattle.lab_world.specs.Worker.{WorkerValue, HoldsTile}
-use Rattle.debug_language.specs.Replies.{visit_words}
+use Rattle.x_texts.specs.Words.{visit_words}
 use Rattle.debug_acts.specs.Walking.{steps_ahead, state_on, visit_lines}
 use Rattle.debug_views.proofs.LineLemmas.{more_lines}
 

@@ -18,9 +18,9 @@ use Rattle.x_steps.proofs.StretchLemmas.{reached_fits, reached_rank}
 use Rattle.x_branches.specs.Branch.{end_of}
 use Rattle.x_branches.specs.Refusals.{most_steps}
 use Rattle.x_branches.specs.Runner.{RunnerValue, IsRunner, visit_of}
-use Rattle.x_snapshot.specs.declared.breakpoint.Break.{Break}
+use Rattle.x_texts.specs.declared.breakpoint.Break.{Break}
 use Rattle.text_lines.specs.Writing.{text_of}
-use Rattle.debug_language.specs.Replies.{visit_words}
+use Rattle.x_texts.specs.Words.{visit_words}
 use Rattle.lab_world.specs.Worker.{HoldsTile, moved_to}
 use Rattle.debug_views.specs.Breakpoints.{first_met, meets_one, steps_to_break}
 use Rattle.debug_acts.proofs.WalkedLemmas.{Walked, none_walked, walked_on, part_way, ended, not_ended, left, position, same_problem}

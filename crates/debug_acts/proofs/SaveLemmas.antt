@@ -6,10 +6,10 @@ use Rattle.x_steps.proofs.StretchLemmas.{reached_fits}
 use Rattle.x_branches.specs.declared.branch.Branch.{Branch}
 use Rattle.x_branches.specs.Runner.{RunnerValue, IsRunner, IsBranch, IsWithin, IsOf}
 use Rattle.x_branches.specs.Cut.{CutPath}
-use Rattle.x_snapshot.specs.declared.breakpoint.Break.{Break}
+use Rattle.x_texts.specs.declared.breakpoint.Break.{Break}
 use Rattle.x_snapshot.specs.declared.fault.SnapshotFault.{SnapshotFault}
 use Rattle.x_snapshot.specs.declared.fault.SnapshotFault.TheVariants.{BadHeader, BadVersion, BadProblem, BadState, NotOnRun, OutsideBranch, Truncated, TrailingBytes, Spelling, BadBreak, OutOfMemory}
-use Rattle.x_snapshot.specs.Breaks.{are_breaks}
+use Rattle.x_texts.specs.Breaks.{are_breaks}
 use Rattle.x_snapshot.specs.Snapshot.{snapshot_with, branch_between, IsCutIfAny, IsOnRun, IsInside}
 use Rattle.x_snapshot.specs.Refusals.{IsRefused}
 use Rattle.lab_book.specs.Book.{path_of}

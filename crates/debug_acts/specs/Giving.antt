@@ -1,7 +1,7 @@
 -- A branch is given up: parked, saved, or closed.
 use Rattle.std.specs.Prelude.{◌==◌, ◌⊎◌, ◌≡◌, List, Some, None, if◌then◌else◌}
 use Rattle.text_lines.specs.Writing.{line_text}
-use Rattle.x_snapshot.specs.declared.breakpoint.Break.{Break}
+use Rattle.x_texts.specs.declared.breakpoint.Break.{Break}
 use Rattle.x_snapshot.specs.Snapshot.{SnapshotValue, snapshot_with}
 use Rattle.x_snapshot.specs.Writing.{snapshot_text}
 use Rattle.lab_book.specs.declared.fault.BookFault.TheVariants.{NotAtEnd}

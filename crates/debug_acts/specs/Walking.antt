@@ -7,7 +7,7 @@ use Rattle.x_steps.specs.Run.{after, steps_between, visits_between}
 use Rattle.x_branches.specs.Branch.{end_of}
 use Rattle.x_branches.specs.Runner.{RunnerValue}
 use Rattle.x_branches.specs.Refusals.{most_steps}
-use Rattle.x_snapshot.specs.declared.breakpoint.Break.{Break}
+use Rattle.x_texts.specs.declared.breakpoint.Break.{Break}
 use Rattle.lab_book.specs.declared.entry.Call.{Call}
 use Rattle.lab_book.specs.declared.entry.Call.TheVariants as call
 use Rattle.lab_book.specs.Book.{BookValue, book_step}
@@ -15,7 +15,7 @@ use Rattle.lab_world.specs.Worker.{WorkerValue, moved_to, marked_at}
 use Rattle.debug_language.specs.declared.fault.DebugFault.TheVariants.{AtEnd, AtStart}
 use Rattle.debug_language.specs.declared.words.Plain.TheVariants.{End}
 use Rattle.debug_language.specs.declared.words.Counted.TheVariants.{Moved}
-use Rattle.debug_language.specs.Replies.{visit_words}
+use Rattle.x_texts.specs.Words.{visit_words}
 use Rattle.debug_views.specs.Breakpoints.{first_met, steps_to_break}
 use Rattle.debug_views.specs.Lines.{plain, counted, state_line, met, debug_refusal}
 

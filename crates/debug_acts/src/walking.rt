@@ -1,7 +1,7 @@
 //! Steps onward and back.
 ghost use Rattle.std.specs.Prelude.{◌≡◌, ◌<◌, ◌++◌, ◌⊎◌, map, OnOk, OnErr};
 ghost use Rattle.x_branches.specs.Runner.{visit_of};
-ghost use Rattle.debug_language.specs.Replies.{visit_words};
+ghost use Rattle.x_texts.specs.Words.{visit_words};
 ghost use Rattle.text_lines.specs.Writing.{text_of};
 ghost use Rattle.lab_world.specs.Worker.{HoldsTile};
 ghost use Rattle.debug_acts.specs.Walking.{work, with_room, stepped, moved_lines, steps_ahead};
@@ -13,7 +13,8 @@ mod running;
 use crate::posting::make_room;
 pub use backward::back;
 use cover_problem::Table;
-use debug_language::{Counted, write_at, write_counted, write_visit};
+use debug_language::{Counted, write_at, write_counted};
+use x_texts::write_visit;
 use lab_book::Book;
 use lab_world::Worker;
 pub use onward::step;

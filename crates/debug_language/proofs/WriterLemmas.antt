@@ -8,7 +8,7 @@ use Rattle.text_lines.specs.Writing.{spaced, words_after, line_text}
 use Rattle.text_lines.proofs.WritingLemmas.{joined, line_written}
 use Rattle.cover_problem.specs.Problem.{is_item, name_at}
 use Rattle.cover_problem.proofs.BoundLemmas.{item_bounds}
-use Rattle.debug_language.specs.Replies.{covered_words, levels_words}
+use Rattle.debug_language.specs.Replies.{covered_words}
 
 -- *lists that may be empty*
 
@@ -19,14 +19,6 @@ covered_none names (item ∷ items) h = absurd (omega arith)
 pub covered_some : (names : List (List ℕ)) (items : List ℕ) → 0 < length items → covered_words names items ≡ codes "covered" ∷ map (name_at names) items
 covered_some names [] h = absurd (omega arith)
 covered_some names (item ∷ items) h = refl
-
-pub levels_none : (counts : List ℕ) → length counts ≡ 0 → levels_words counts ≡ codes "levels" ∷ codes "0" ∷ []
-levels_none [] h = refl
-levels_none (count ∷ counts) h = absurd (omega arith)
-
-pub levels_some : (counts : List ℕ) → 0 < length counts → levels_words counts ≡ codes "levels" ∷ map decimal counts
-levels_some [] h = absurd (omega arith)
-levels_some (count ∷ counts) h = refl
 
 -- *a word before others*
 

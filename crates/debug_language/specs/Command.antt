@@ -2,7 +2,7 @@
 use Rattle.std.specs.Prelude.{ℕ, List, Option}
 use Rattle.x_steps.specs.StateValue.{StateValue}
 use Rattle.x_steps.specs.StateView.{state_value}
-use Rattle.x_snapshot.specs.declared.breakpoint.Break.{Break}
+use Rattle.x_texts.specs.declared.breakpoint.Break.{Break}
 use Rattle.x_snapshot.specs.Snapshot.{choices_of}
 use Rattle.debug_language.specs.declared.command.Command as declared
 use Rattle.debug_language.specs.declared.command.Command.TheVariants as commands

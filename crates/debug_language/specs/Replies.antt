@@ -7,7 +7,7 @@ use Rattle.std.specs.List.{list_all}
 use Rattle.text_lines.specs.Lines.{is_newline}
 use Rattle.text_lines.specs.Writing.{line_text}
 use Rattle.cover_problem.specs.Problem.{ProblemValue, is_item, name_at}
-use Rattle.x_snapshot.specs.Writing.{cut_words}
+use Rattle.x_texts.specs.Words.{cut_words}
 use Rattle.debug_language.specs.declared.words.Plain.{Plain}
 use Rattle.debug_language.specs.declared.words.Plain.TheVariants.{End, Parked, Closed, NothingUntried, NoBranches}
 use Rattle.debug_language.specs.declared.words.Counted.{Counted}
@@ -59,10 +59,6 @@ layer_word layer.Snapshot = codes "snapshot"
 
 -- *lines*
 
--- a visit: its choices
-abbrev pub visit_words : List ℕ → List (List ℕ)
-visit_words path = codes "visit" ∷ map decimal path
-
 -- a branch between two cuts
 abbrev pub branch_words : Option (List ℕ) → Option (List ℕ) → List (List ℕ)
 branch_words lo hi = codes "branch" ∷ cut_words (codes "start") lo ++ codes "to" ∷ cut_words (codes "end") hi
@@ -87,11 +83,6 @@ list_words names listed row = listed_word listed ∷ name_at names row.0 ∷ dec
 -- whether each row is one of an item of the problem
 abbrev pub are_of_items : ProblemValue → List (ℕ × List ℕ) → Bool
 are_of_items p rows = list_all (λ row. is_item (length p.names) row.0) rows
-
--- the counts of levels, level 0 at least
-abbrev pub levels_words : List ℕ → List (List ℕ)
-levels_words [] = codes "levels" ∷ codes "0" ∷ []
-levels_words (count ∷ counts) = codes "levels" ∷ map decimal (count ∷ counts)
 
 -- a refusal: its layer, its number and its name
 abbrev pub refused_words : Layer → ℕ → List ℕ → List (List ℕ)

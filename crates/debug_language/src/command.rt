@@ -1,6 +1,6 @@
 //! The commands of the debugger.
 
-use x_snapshot::Break;
+use x_texts::Break;
 use x_steps::State;
 
 /// What a command line asks of the debugger. A cut is given by its choices, and None is the start of the run.

@@ -16,11 +16,9 @@ pub use engine::{EngineCommand, read_engine_command};
 pub use fault::DebugFault;
 pub use reading::read_command;
 pub use refusing::{write_debug_fault, write_refused, write_runner_fault, write_snapshot_fault};
-pub use replies::{
-    write_at, write_counted, write_met, write_plain, write_set, write_visit, write_visits,
-};
+pub use replies::{write_at, write_counted, write_met, write_plain, write_set};
 pub use showing::{
-    write_branch, write_covered, write_levels, write_list, write_lists, write_saved,
-    write_standing, write_untried,
+    write_branch, write_covered, write_list, write_lists, write_saved, write_standing,
+    write_untried,
 };
 pub use words::{Counted, Layer, Listed, Plain, Standing};

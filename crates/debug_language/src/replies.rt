@@ -1,16 +1,16 @@
 //! The lines of replies.
-ghost use Rattle.std.specs.Prelude.{◌≡◌, ◌++◌, ◌∷◌, [], true, map, decimal, codes, OnOk};
-ghost use Rattle.text_lines.specs.Writing.{line_text, text_of};
+ghost use Rattle.std.specs.Prelude.{◌≡◌, ◌++◌, ◌∷◌, [], true, decimal, codes, OnOk};
+ghost use Rattle.text_lines.specs.Writing.{line_text};
 ghost use Rattle.x_steps.specs.StateView.{state_value};
-ghost use Rattle.x_snapshot.specs.Breaks.{is_break};
-ghost use Rattle.x_snapshot.specs.Writing.{state_words, point_words};
-ghost use Rattle.debug_language.specs.Replies.{plain_word, counted_word, visit_words};
+ghost use Rattle.x_texts.specs.Breaks.{is_break};
+ghost use Rattle.x_texts.specs.Words.{state_words, point_words};
+ghost use Rattle.debug_language.specs.Replies.{plain_word, counted_word};
 
 use crate::words::{Counted, Plain};
-use cover_problem::{Lists, Problem};
+use cover_problem::Problem;
 use std::alloc::AllocError;
-use text_lines::{write_number_line, write_numbers_line};
-use x_snapshot::{Break, write_break, write_state};
+use text_lines::write_number_line;
+use x_texts::{Break, write_break, write_state};
 use x_steps::State;
 
 /// Writes a line that is always the same.
@@ -34,23 +34,6 @@ pub fn write_at(text: &mut Vec<u8>, state: &State) -> Result<(), AllocError>
     ensures { OnOk result (text.new.items ≡ text.old.items ++ line_text (codes "at" ∷ state_words (state_value state.now))) }
 {
     write_state(text, "at", state)
-}
-
-/// Writes a visit: its choices.
-pub fn write_visit(text: &mut Vec<u8>, path: &[u32]) -> Result<(), AllocError>
-    ensures { OnOk result (text.new.items ≡ text.old.items ++ line_text (visit_words path.now)) }
-{
-    write_numbers_line(text, "visit", path)
-}
-
-/// Writes visits, a line for each.
-pub fn write_visits(text: &mut Vec<u8>, visits: &Lists) -> Result<(), AllocError>
-    ensures { OnOk result (text.new.items ≡ text.old.items ++ text_of (map visit_words visits.now)) }
-{
-    for place in 0..visits.len() {
-        write_visit(text, visits.list(place))?;
-    }
-    Ok(())
 }
 
 /// Writes a breakpoint that was set.

@@ -6,14 +6,14 @@ ghost use Rattle.text_lines.specs.Writing.{spaced, words_after, line_text, text_
 ghost use Rattle.cover_problem.specs.Problem.{is_item, name_at};
 ghost use Rattle.x_steps.specs.StateView.{row_values};
 ghost use Rattle.debug_language.specs.Replies.{branch_words, standing_words, untried_words, covered_words, listed_word, list_words};
-ghost use Rattle.debug_language.specs.Replies.{levels_words, saved_text, are_of_items};
+ghost use Rattle.debug_language.specs.Replies.{saved_text, are_of_items};
 
 use crate::replies::write_counted;
 use crate::words::{Counted, Listed, Standing};
 use cover_problem::Problem;
 use std::alloc::AllocError;
 use text_lines::{write_number, write_numbers, write_word};
-use x_snapshot::write_cut;
+use x_texts::write_cut;
 
 /// Writes a branch without the end of its line.
 fn write_cuts(text: &mut Vec<u8>, lo: Option<&[u32]>, hi: Option<&[u32]>) -> Result<(), AllocError>
@@ -127,19 +127,6 @@ pub fn write_lists(
     for row in rows {
         write_list(text, problem, listed, row.0, &row.1)?;
     }
-    Ok(())
-}
-
-/// Writes the counts of the levels from 0 on, that of level 0 at least.
-pub fn write_levels(text: &mut Vec<u8>, counts: &[u128]) -> Result<(), AllocError>
-    ensures { OnOk result (text.new.items ≡ text.old.items ++ line_text (levels_words counts.now)) }
-{
-    if counts.is_empty() {
-        return text.extend_from_slice(b"levels 0\n");
-    }
-    text.extend_from_slice(b"levels")?;
-    write_numbers(text, counts)?;
-    text.push(b'\n')?;
     Ok(())
 }
 

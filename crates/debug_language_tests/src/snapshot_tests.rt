@@ -5,7 +5,8 @@ use drawn_problems::{SMALL, state_of};
 use std::alloc::{AllocError, Global};
 use std::process::Abort;
 use std::test::Fail;
-use x_snapshot::{Break, Snapshot, SnapshotFault, write_snapshot};
+use x_texts::Break;
+use x_snapshot::{Snapshot, SnapshotFault, write_snapshot};
 use x_steps::{Cursor, Label, State};
 
 /// A problem with a secondary item.

@@ -11,10 +11,10 @@ use Rattle.x_steps.specs.declared.state.Cursor.TheVariants as cursor
 use Rattle.x_steps.specs.StateValue.{StateValue}
 use Rattle.x_steps.specs.Steps.{Fits, is_visit, item_after}
 use Rattle.x_steps.specs.Machine.{chosen_in, chosen_item}
-use Rattle.x_snapshot.specs.declared.breakpoint.Break.{Break}
-use Rattle.x_snapshot.specs.declared.breakpoint.Break.TheVariants as at
-use Rattle.x_snapshot.specs.contracts.breakpoint.BreakPartialEq.TheImpl.{eq-value}
-use Rattle.x_snapshot.specs.Breaks.{is_same}
+use Rattle.x_texts.specs.declared.breakpoint.Break.{Break}
+use Rattle.x_texts.specs.declared.breakpoint.Break.TheVariants as at
+use Rattle.x_texts.specs.contracts.breakpoint.BreakPartialEq.TheImpl.{eq-value}
+use Rattle.x_texts.specs.Breaks.{is_same}
 use Rattle.x_branches.specs.Runner.{RunnerValue, IsRunner}
 use Rattle.x_branches.proofs.RunnerLemmas.{level_within}
 use Rattle.x_steps.proofs.StretchLemmas.{reached_fits}

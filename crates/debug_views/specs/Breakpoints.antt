@@ -9,9 +9,9 @@ use Rattle.x_steps.specs.declared.state.Cursor.TheVariants.{At}
 use Rattle.x_steps.specs.StateValue.{StateValue}
 use Rattle.x_steps.specs.Steps.{next, is_level, is_visit, item_after}
 use Rattle.x_steps.specs.Run.{states, steps_between}
-use Rattle.x_snapshot.specs.declared.breakpoint.Break.{Break}
-use Rattle.x_snapshot.specs.declared.breakpoint.Break.TheVariants as at
-use Rattle.x_snapshot.specs.Breaks.{is_same}
+use Rattle.x_texts.specs.declared.breakpoint.Break.{Break}
+use Rattle.x_texts.specs.declared.breakpoint.Break.TheVariants as at
+use Rattle.x_texts.specs.Breaks.{is_same}
 
 -- whether a step is about to try this option
 abbrev pub tries : Label → Cursor → ℕ → Bool

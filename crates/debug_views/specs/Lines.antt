@@ -3,10 +3,10 @@ use Rattle.std.specs.Prelude.{ℕ, List, [], ◌∷◌, decimal, codes, unwrap_o
 use Rattle.x_steps.specs.StateValue.{StateValue}
 use Rattle.x_branches.specs.declared.fault.RunnerFault.{RunnerFault}
 use Rattle.x_branches.specs.Faults as runner
-use Rattle.x_snapshot.specs.declared.breakpoint.Break.{Break}
+use Rattle.x_texts.specs.declared.breakpoint.Break.{Break}
 use Rattle.x_snapshot.specs.declared.fault.SnapshotFault.{SnapshotFault}
 use Rattle.x_snapshot.specs.Faults as snapshot
-use Rattle.x_snapshot.specs.Writing.{state_words, point_words}
+use Rattle.x_texts.specs.Words.{state_words, point_words}
 use Rattle.lab_book.specs.declared.fault.BookFault.{BookFault}
 use Rattle.lab_book.specs.Faults as book
 use Rattle.debug_language.specs.declared.fault.DebugFault.{DebugFault}

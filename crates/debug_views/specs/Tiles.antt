@@ -18,7 +18,8 @@ use Rattle.lab_book.specs.Book.{BookValue, outcome, book_step, path_of}
 use Rattle.debug_language.specs.declared.words.Counted.TheVariants as counts
 use Rattle.debug_language.specs.declared.words.Standing.{Standing}
 use Rattle.debug_language.specs.declared.words.Standing.TheVariants as standing
-use Rattle.debug_language.specs.Replies.{standing_words, visit_words}
+use Rattle.debug_language.specs.Replies.{standing_words}
+use Rattle.x_texts.specs.Words.{visit_words}
 use Rattle.debug_views.specs.Lines.{counted, book_refusal}
 
 -- ---- how they are shown

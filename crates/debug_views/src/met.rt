@@ -1,14 +1,14 @@
 //! Which breakpoint a state meets.
 ghost use Rattle.std.specs.Prelude.{◌≡◌, ◌||◌, IfOk};
 ghost use Rattle.std.specs.List.{find, list_any};
-ghost use Rattle.x_snapshot.specs.Breaks.{is_same};
+ghost use Rattle.x_texts.specs.Breaks.{is_same};
 ghost use Rattle.debug_views.specs.Breakpoints.{first_met, is_item_break};
 
 use cover_problem::Table;
 use indexmap::IndexSet;
 use std::alloc::AllocError;
 use x_branches::Runner;
-use x_snapshot::Break;
+use x_texts::Break;
 use x_steps::{Cursor, Label};
 
 /// A breakpoint, if it was set.

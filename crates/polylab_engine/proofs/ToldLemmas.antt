@@ -6,7 +6,7 @@ use Rattle.x_steps.specs.Levels.{trimmed_levels}
 use Rattle.x_steps.proofs.StretchLemmas.{visits_of_run}
 use Rattle.x_snapshot.specs.declared.fault.SnapshotFault.{SnapshotFault}
 use Rattle.x_snapshot.specs.declared.fault.SnapshotFault.TheVariants.{NotOnRun, OutsideBranch}
-use Rattle.x_snapshot.specs.Breaks.{are_breaks}
+use Rattle.x_texts.specs.Breaks.{are_breaks}
 use Rattle.x_snapshot.specs.Snapshot.{SnapshotValue, IsOnRun, IsSnapshot}
 use Rattle.x_snapshot.specs.Reading.{parts_of}
 use Rattle.x_snapshot.specs.Judged.{is_on_run, is_inside, judged_parts, judged, snapshot_of}

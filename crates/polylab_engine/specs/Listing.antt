@@ -25,7 +25,7 @@ use Rattle.polylab_engine.specs.Account.{kept}
 use Rattle.polylab_engine.specs.Resumed.{branch_end, at_state, end_line, rest_text}
 use Rattle.polylab_engine.specs.declared.job.Job.{Job}
 use Rattle.polylab_engine.specs.declared.job.Job.TheVariants as jobs
-use Rattle.debug_language.specs.Replies.{visit_words}
+use Rattle.x_texts.specs.Words.{visit_words}
 use Rattle.polylab_engine.specs.Output.{total_lines}
 use Rattle.polylab_engine.specs.Packed.{packings_from, number_line, count_lines}
 use Rattle.polylab_engine.specs.Classified.{packings_of, class_lines}

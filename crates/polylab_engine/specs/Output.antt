@@ -6,7 +6,7 @@ use Rattle.text_lines.specs.Writing.{text_of}
 use Rattle.cover_problem.specs.Problem.{ProblemValue}
 use Rattle.x_steps.specs.StateValue.{start, done}
 use Rattle.x_steps.specs.Run.{states_between}
-use Rattle.debug_language.specs.Replies.{visit_words, levels_words}
+use Rattle.x_texts.specs.Words.{visit_words, levels_words}
 use Rattle.polylab_engine.specs.Account.{Account, ReportValue, account_of, report_of}
 
 -- the lines of the steps and the levels, of level 0 at least

@@ -7,7 +7,7 @@ use crate::report::Report;
 use crate::search::search;
 use crate::workers::Workers;
 use cover_problem::{Problem, Table};
-use debug_language::write_visits;
+use x_texts::write_visits;
 use lab_pool::Gate;
 use std::alloc::{AllocError, Global};
 use std::sync::Wait;

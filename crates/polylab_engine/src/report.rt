@@ -9,7 +9,7 @@ ghost use Rattle.polylab_engine.specs.Account.{kept};
 ghost use Rattle.polylab_engine.specs.Output.{tally_lines, whole_report};
 
 use cover_problem::Lists;
-use debug_language::write_levels;
+use x_texts::write_levels;
 use lab_book::Book;
 use std::alloc::{AllocError, Global};
 use std::marker::Model;

@@ -4,9 +4,9 @@ use Rattle.std.specs.List.{list_any, list_all, IsDistinct, AllByRecursion}
 use Rattle.std.proofs.lemmas.Bool.{and_from, not_from_false}
 use Rattle.std.proofs.lemmas.Map.Keys.{IsDistinct-head, IsDistinct-tail}
 use Rattle.cover_problem.specs.Problem.{ProblemValue}
-use Rattle.x_snapshot.specs.declared.breakpoint.Break.{Break}
-use Rattle.x_snapshot.specs.contracts.breakpoint.BreakPartialEq.TheImpl.{eq-value}
-use Rattle.x_snapshot.specs.Breaks.{is_break, is_same, are_new, are_breaks}
+use Rattle.x_texts.specs.declared.breakpoint.Break.{Break}
+use Rattle.x_texts.specs.contracts.breakpoint.BreakPartialEq.TheImpl.{eq-value}
+use Rattle.x_texts.specs.Breaks.{is_break, is_same, are_new, are_breaks}
 use Rattle.x_snapshot.proofs.BreakLemmas.{eq_is, taken_again, keys_taken}
 
 none_same : (b : Break) (bs : List Break) → AllByRecursion (λ (c : Break). eq-value.it b c ≡ false) bs → list_any (is_same b) bs ≡ false

@@ -8,11 +8,11 @@ use Rattle.text_lines.specs.Lines.{words_of, without_return}
 use Rattle.text_lines.specs.Numbers.{number_of, is_decimal, value_after}
 use Rattle.text_lines.proofs.ResultLemmas.{chosen}
 use Rattle.cover_problem.specs.Problem.{ProblemValue, is_item, item_named}
-use Rattle.x_snapshot.specs.declared.breakpoint.Break.{Break}
-use Rattle.x_snapshot.specs.declared.breakpoint.Break.TheVariants as breakpoints
+use Rattle.x_texts.specs.declared.breakpoint.Break.{Break}
+use Rattle.x_texts.specs.declared.breakpoint.Break.TheVariants as breakpoints
 use Rattle.x_snapshot.specs.declared.reading.breaks.Kind.{Kind}
 use Rattle.x_snapshot.specs.declared.reading.breaks.Kind.TheVariants as kinds
-use Rattle.x_snapshot.specs.Breaks.{is_break}
+use Rattle.x_texts.specs.Breaks.{is_break}
 use Rattle.x_snapshot.specs.Reading.{only, positive, option_number, kind_from, break_of, lone_break, break_from, state_from}
 use Rattle.x_snapshot.proofs.BackLemmas.{some_is, none_some, and_then_is, map_is}
 use Rattle.debug_language.specs.Command.{CommandValue}

@@ -9,11 +9,11 @@ use Rattle.x_steps.proofs.StretchLemmas.{reached_fits}
 use Rattle.x_branches.specs.declared.branch.Branch.{Branch}
 use Rattle.x_branches.specs.Runner.{RunnerValue, IsRunner}
 use Rattle.x_branches.specs.Refusals.{CanStart}
-use Rattle.x_snapshot.specs.declared.breakpoint.Break.{Break}
+use Rattle.x_texts.specs.declared.breakpoint.Break.{Break}
 use Rattle.x_snapshot.specs.declared.fault.SnapshotFault.{SnapshotFault}
 use Rattle.x_snapshot.specs.declared.fault.SnapshotFault.TheVariants as snapshot
 use Rattle.x_snapshot.specs.Faults.{number_of, name_of}
-use Rattle.x_snapshot.specs.Breaks.{is_break, are_new, are_breaks}
+use Rattle.x_texts.specs.Breaks.{is_break, are_new, are_breaks}
 use Rattle.x_snapshot.specs.Snapshot.{SnapshotValue, branch_between, started}
 use Rattle.x_snapshot.specs.Judged.{judged_parts, judged, snapshot_of}
 use Rattle.x_snapshot.specs.Reading.{parts_of}

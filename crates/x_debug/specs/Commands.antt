@@ -4,14 +4,14 @@ use Rattle.text_lines.specs.Writing.{text_of}
 use Rattle.cover_problem.specs.Problem.{ProblemValue}
 use Rattle.x_steps.specs.StateValue.{StateValue}
 use Rattle.x_branches.specs.Runner.{RunnerValue}
-use Rattle.x_snapshot.specs.declared.breakpoint.Break.{Break}
-use Rattle.x_snapshot.specs.Breaks.{is_break}
+use Rattle.x_texts.specs.declared.breakpoint.Break.{Break}
+use Rattle.x_texts.specs.Breaks.{is_break}
 use Rattle.lab_book.specs.Posted.{posted_visits, posted_steps, posted_levels}
 use Rattle.lab_world.specs.Worker.{WorkerValue, moved_to}
 use Rattle.debug_language.specs.declared.fault.DebugFault.TheVariants.{BadCommand, AlreadyOpen, NoBranch}
 use Rattle.debug_language.specs.declared.words.Plain.TheVariants.{NothingUntried, NoBranches}
 use Rattle.debug_language.specs.declared.words.Counted.TheVariants as counts
-use Rattle.debug_language.specs.Replies.{levels_words}
+use Rattle.x_texts.specs.Words.{levels_words}
 use Rattle.debug_language.specs.Command.{CommandValue}
 use Rattle.debug_language.specs.Command as command
 use Rattle.debug_language.specs.Reading.{command_of}

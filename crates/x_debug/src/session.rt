@@ -21,7 +21,7 @@ use lab_book::Book;
 use lab_world::Worker;
 use std::alloc::{AllocError, Global};
 use std::marker::Model;
-use x_snapshot::Break;
+use x_texts::Break;
 use x_steps::State;
 
 /// A book, the worker that has one of its tiles open or none, and the breakpoints in the order in which they were set.

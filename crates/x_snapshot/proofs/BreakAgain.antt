@@ -15,12 +15,13 @@ use Rattle.cover_problem.proofs.AgainLemmas.{item_found}
 use Rattle.cover_problem.proofs.WrittenLemmas.{item_is_word}
 use Rattle.cover_problem.proofs.CoveredLemmas.{covered_most}
 use Rattle.cover_problem.proofs.NumberLemmas.{length-numbers}
-use Rattle.x_snapshot.specs.declared.breakpoint.Break.{Break}
-use Rattle.x_snapshot.specs.declared.breakpoint.Break.TheVariants as breakpoints
+use Rattle.x_texts.specs.declared.breakpoint.Break.{Break}
+use Rattle.x_texts.specs.declared.breakpoint.Break.TheVariants as breakpoints
 use Rattle.x_snapshot.specs.declared.fault.SnapshotFault.{SnapshotFault}
 use Rattle.x_snapshot.specs.declared.fault.SnapshotFault.TheVariants.{BadBreak}
-use Rattle.x_snapshot.specs.Breaks.{is_break, is_same, are_new}
-use Rattle.x_snapshot.specs.Writing.{break_words, break_lines}
+use Rattle.x_texts.specs.Breaks.{is_break, is_same, are_new}
+use Rattle.x_texts.specs.Words.{break_words}
+use Rattle.x_snapshot.specs.Writing.{break_lines}
 use Rattle.x_snapshot.specs.Reading.{keyed_line, count_from, break_from, break_of_words, add_break, next_break, repeated, breaks_from, most_breaks, breaks_in}
 use Rattle.x_snapshot.proofs.BreakLemmas.{not_new}
 use Rattle.x_snapshot.proofs.LineAgain.{keyed_line_again, number_word, count_again, option_again}

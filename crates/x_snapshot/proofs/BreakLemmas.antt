@@ -5,11 +5,11 @@ use Rattle.std.specs.Cmp.{nat_eq_equiv}
 use Rattle.std.proofs.lemmas.Bool.{and_parts, and_from, or_parts, or_from, or_right, not-true, not_from_false}
 use Rattle.std.proofs.lemmas.List.{take_more, take-append-drop}
 use Rattle.std.proofs.lemmas.List.Folds.{list_any-append}
-use Rattle.x_snapshot.specs.declared.breakpoint.Break.{Break}
-use Rattle.x_snapshot.specs.declared.breakpoint.Break.TheVariants as at
-use Rattle.x_snapshot.specs.contracts.breakpoint.BreakPartialEq.TheImpl.{eq-value}
+use Rattle.x_texts.specs.declared.breakpoint.Break.{Break}
+use Rattle.x_texts.specs.declared.breakpoint.Break.TheVariants as at
+use Rattle.x_texts.specs.contracts.breakpoint.BreakPartialEq.TheImpl.{eq-value}
 use Rattle.cover_problem.specs.Problem.{ProblemValue}
-use Rattle.x_snapshot.specs.Breaks.{is_break, is_same, are_new, are_breaks}
+use Rattle.x_texts.specs.Breaks.{is_break, is_same, are_new, are_breaks}
 
 pub same_sym : (a b : Break) → is_same a b ≡ is_same b a
 same_sym (at.Level m) (at.Level n) = nat_eq_equiv.symm m n

@@ -1,9 +1,8 @@
--- The examples of specs/Breaks.antt, specs/Snapshot.antt and specs/Reading.antt.
-use Rattle.std.proofs.Common.{◌≡◌, [], ◌∷◌, ◌++◌, true, false, codes, Some, Err, refl, lit<, lit≤, arith}
+-- The examples of specs/Snapshot.antt and specs/Reading.antt.
+use Rattle.std.proofs.Common.{◌≡◌, [], ◌∷◌, ◌++◌, codes, Some, Err, refl, lit<, lit≤, arith}
 use Rattle.std.proofs.Common as common
 use Rattle.cover_problem.specs.Covering.{active, remaining, choice}
 use Rattle.cover_problem.specs.Path.{taken, covered_by}
-use Rattle.cover_problem.specs.Problem.{ProblemValue}
 use Rattle.cover_problem.proofs.CoverExamples.{small}
 use Rattle.x_steps.specs.declared.state.Label.TheVariants.{X2}
 use Rattle.x_steps.specs.declared.state.Cursor.TheVariants as cursor
@@ -14,38 +13,11 @@ use Rattle.x_branches.specs.Cut.{cut_state}
 use Rattle.x_branches.proofs.CutLemmas.{cut_fits}
 use Rattle.x_branches.proofs.StageLemmas.{rank_comes}
 use Rattle.x_branches.proofs.RunnerLemmas.{before_not}
-use Rattle.x_snapshot.specs.declared.breakpoint.Break.TheVariants as breakpoints
 use Rattle.x_snapshot.specs.declared.fault.SnapshotFault.TheVariants.{Truncated, BadHeader, BadVersion}
-use Rattle.x_snapshot.specs.Breaks.{is_break, are_new}
 use Rattle.x_snapshot.specs.Snapshot.{SnapshotValue, snapshot_with, IsOnRun, IsInside, IsSnapshot}
 use Rattle.x_snapshot.specs.Judged.{is_on_run}
 use Rattle.x_snapshot.proofs.JudgedLemmas.{on_run_decides}
 use Rattle.x_snapshot.specs.Reading.{first_line, line_words, after_key, keyed, keyed_line, header, parts_of}
-
--- one item, and two options of it
-abbrev two : ProblemValue
-two = record { names = codes "a" ∷ []; primary = 1; options = (1 ∷ []) ∷ (1 ∷ []) ∷ [] }
-
-level_1 : is_break two (breakpoints.Level 1) ≡ true
-level_1 = refl
-
-level_2 : is_break two (breakpoints.Level 2) ≡ false
-level_2 = refl
-
-option_2 : is_break two (breakpoints.Option 2) ≡ true
-option_2 = refl
-
-option_0 : is_break two (breakpoints.Option 0) ≡ false
-option_0 = refl
-
-item_1 : is_break two (breakpoints.Item 1) ≡ true
-item_1 = refl
-
-item_2 : is_break two (breakpoints.Item 2) ≡ false
-item_2 = refl
-
-visits_are_same : are_new (breakpoints.Visit ∷ breakpoints.Level 1 ∷ breakpoints.Visit ∷ []) ≡ false
-visits_are_same = refl
 
 -- from the cut 4 to the end, X2 after the choices 4 5 1
 abbrev from_four : SnapshotValue

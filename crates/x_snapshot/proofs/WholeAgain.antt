@@ -20,13 +20,14 @@ use Rattle.x_steps.specs.declared.state.Cursor.{Cursor}
 use Rattle.x_steps.specs.declared.state.Cursor.TheVariants as cursors
 use Rattle.x_steps.specs.Steps.{FitsAt, Fits}
 use Rattle.x_steps.proofs.OrderLemmas.{fits_valid}
-use Rattle.x_snapshot.specs.declared.breakpoint.Break.{Break}
+use Rattle.x_texts.specs.declared.breakpoint.Break.{Break}
 use Rattle.x_snapshot.specs.declared.fault.SnapshotFault.{SnapshotFault}
 use Rattle.x_snapshot.specs.declared.fault.SnapshotFault.TheVariants.{BadHeader, BadVersion, BadProblem, BadState, NotOnRun, OutsideBranch, Truncated, TrailingBytes, Spelling, BadBreak, OutOfMemory}
-use Rattle.x_snapshot.specs.Breaks.{is_break, are_new}
+use Rattle.x_texts.specs.Breaks.{is_break, are_new}
 use Rattle.x_snapshot.specs.Snapshot.{SnapshotValue, snapshot_with, IsCutIfAny, IsSnapshot}
 use Rattle.x_snapshot.specs.Refusals.{IsRefused}
-use Rattle.x_snapshot.specs.Writing.{needs_second, version_of, cut_words, state_words, break_lines, lines_of_breaks, snapshot_text}
+use Rattle.x_snapshot.specs.Writing.{needs_second, version_of, break_lines, lines_of_breaks, snapshot_text}
+use Rattle.x_texts.specs.Words.{cut_words, state_words}
 use Rattle.x_snapshot.specs.Reading.{keyed_line, header, cut_from, state_from, end_from, problem_in, position_in, breaks_in, breaks_of_version, whole, ended, parts_after, parts_of}
 use Rattle.x_snapshot.specs.ReadRefusals.{fault_from}
 use Rattle.x_snapshot.proofs.BackLemmas.{some_is, none_some}

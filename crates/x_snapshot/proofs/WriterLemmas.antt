@@ -6,9 +6,10 @@ use Rattle.text_lines.proofs.WritingLemmas.{line_ends}
 use Rattle.cover_problem.specs.Problem.{ProblemValue}
 use Rattle.cover_problem.specs.Grammar.{maybe_words, option_words, word_lines, written}
 use Rattle.x_steps.specs.StateValue.{StateValue}
-use Rattle.x_snapshot.specs.declared.breakpoint.Break.{Break}
+use Rattle.x_texts.specs.declared.breakpoint.Break.{Break}
 use Rattle.x_snapshot.specs.Snapshot.{SnapshotValue}
-use Rattle.x_snapshot.specs.Writing.{version_of, cut_words, state_words, lines_of_breaks, snapshot_text}
+use Rattle.x_snapshot.specs.Writing.{version_of, lines_of_breaks, snapshot_text}
+use Rattle.x_texts.specs.Words.{cut_words, state_words}
 
 -- *how many lines a problem has*
 
@@ -24,14 +25,6 @@ pub lines_counted : (p : ProblemValue) (maybe options : ℕ) → length (maybe_w
 lines_counted p maybe options e f =
     let g : length (maybe_words (drop p.primary p.names) ++ map (option_words p.names) p.options) ≡ maybe + options = simp (length-append, length-map, e, f) in
     omega arith
-
--- *lines*
-
--- a key and a state
-pub state_written : (old key label cursor one two three four new : List ℕ) (words : List (List ℕ)) → one ≡ old ++ key → two ≡ one ++ 32 ∷ label → three ≡ two ++ 32 ∷ cursor → four ≡ three ++ words_after words → new ≡ four ++ 10 ∷ [] → new ≡ old ++ line_text (key ∷ label ∷ cursor ∷ words)
-state_written old key label cursor one two three four new words a b c d e =
-    let all : four ≡ (old ++ key) ++ words_after (label ∷ cursor ∷ words) = rw (d, c, b, a) (simp append_assoc) in
-    e ∙ line_ends four old key (label ∷ cursor ∷ words) all
 
 -- *the whole*
 

@@ -1,4 +1,3 @@
-pub mod Breaks
 pub mod Snapshot
 pub mod Faults
 pub mod Refusals

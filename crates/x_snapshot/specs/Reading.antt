@@ -24,14 +24,14 @@ use Rattle.x_steps.specs.declared.state.Label.TheVariants.{X1, X2, X3, X4, X5, X
 use Rattle.x_steps.specs.declared.state.Cursor.{Cursor}
 use Rattle.x_steps.specs.declared.state.Cursor.TheVariants as cursors
 use Rattle.x_steps.specs.StateValue.{StateValue, at}
-use Rattle.x_snapshot.specs.declared.breakpoint.Break.{Break}
-use Rattle.x_snapshot.specs.declared.breakpoint.Break.TheVariants as breakpoints
+use Rattle.x_texts.specs.declared.breakpoint.Break.{Break}
+use Rattle.x_texts.specs.declared.breakpoint.Break.TheVariants as breakpoints
 use Rattle.x_snapshot.specs.declared.reading.breaks.Kind.{Kind}
 use Rattle.x_snapshot.specs.declared.reading.breaks.Kind.TheVariants as kinds
 use Rattle.x_snapshot.specs.declared.fault.SnapshotFault.{SnapshotFault}
 use Rattle.x_snapshot.specs.declared.fault.SnapshotFault.TheVariants.{BadHeader, BadVersion, BadProblem, BadState, Truncated}
 use Rattle.x_snapshot.specs.declared.fault.SnapshotFault.TheVariants.{TrailingBytes, Spelling, BadBreak}
-use Rattle.x_snapshot.specs.Breaks.{is_same}
+use Rattle.x_texts.specs.Breaks.{is_same}
 use Rattle.x_snapshot.specs.Snapshot.{SnapshotValue, snapshot_with}
 use Rattle.x_snapshot.specs.Writing.{needs_second}
 

@@ -11,10 +11,10 @@ use Rattle.x_branches.specs.declared.fault.StartFault.{StartFault}
 use Rattle.x_branches.specs.declared.fault.StartFault.TheVariants as starts
 use Rattle.x_branches.specs.declared.fault.RunnerFault.TheVariants as runners
 use Rattle.x_branches.specs.Refusals.{CanStart}
-use Rattle.x_snapshot.specs.declared.breakpoint.Break.{Break}
+use Rattle.x_texts.specs.declared.breakpoint.Break.{Break}
 use Rattle.x_snapshot.specs.declared.fault.SnapshotFault.{SnapshotFault}
 use Rattle.x_snapshot.specs.declared.fault.SnapshotFault.TheVariants.{NotOnRun, OutsideBranch, BadBreak, OutOfMemory}
-use Rattle.x_snapshot.specs.Breaks.{are_breaks}
+use Rattle.x_texts.specs.Breaks.{are_breaks}
 use Rattle.x_snapshot.specs.Snapshot.{SnapshotValue, IsCutIfAny, IsOnRun, IsInside}
 
 -- why a path is no cut, and a state none of a branch, as faults of a snapshot

@@ -13,8 +13,8 @@ use Rattle.x_steps.specs.Steps.{Fits}
 use Rattle.x_branches.specs.declared.branch.Branch.{Branch}
 use Rattle.x_branches.specs.Cut.{CutPath, IsCut}
 use Rattle.x_branches.specs.Runner.{RunnerValue, IsBranch, IsWithin}
-use Rattle.x_snapshot.specs.declared.breakpoint.Break.{Break}
-use Rattle.x_snapshot.specs.Breaks.{are_breaks}
+use Rattle.x_texts.specs.declared.breakpoint.Break.{Break}
+use Rattle.x_texts.specs.Breaks.{are_breaks}
 
 -- a problem, the paths of the cuts between which the branch lies (none: the start, the end), a state, and breakpoints
 pub record SnapshotValue : Type 0 where

@@ -22,8 +22,8 @@ use Rattle.x_steps.specs.declared.state.Label.TheVariants.{X1, X2, X3, X4, X5, X
 use Rattle.x_steps.specs.declared.state.Cursor.{Cursor}
 use Rattle.x_steps.specs.declared.state.Cursor.TheVariants as cursor
 use Rattle.x_steps.specs.StateValue.{StateValue}
-use Rattle.x_snapshot.specs.declared.breakpoint.Break.{Break}
-use Rattle.x_snapshot.specs.declared.breakpoint.Break.TheVariants as at
+use Rattle.x_texts.specs.declared.breakpoint.Break.{Break}
+use Rattle.x_texts.specs.declared.breakpoint.Break.TheVariants as at
 use Rattle.x_snapshot.specs.Snapshot.{SnapshotValue}
 
 -- whether the second version is needed: there are secondary items, or breakpoints
@@ -39,44 +39,6 @@ abbrev pub head_lines : SnapshotValue → List (List (List ℕ))
 head_lines v =
     (codes "polysnap" ∷ decimal (version_of v.problem v.breaks) ∷ [])
     ∷ (codes "problem" ∷ decimal (length (word_lines v.problem)) ∷ []) ∷ []
-
--- the choices of a cut, or the word for none
-abbrev pub cut_words : List ℕ → Option (List ℕ) → List (List ℕ)
-cut_words none prelude.None = none ∷ []
-cut_words none (Some path) = map decimal path
-
--- the step about to be done
-abbrev pub label_word : Label → List ℕ
-label_word X1 = codes "X1"
-label_word X2 = codes "X2"
-label_word X3 = codes "X3"
-label_word X4 = codes "X4"
-label_word X5 = codes "X5"
-label_word X6 = codes "X6"
-label_word X7 = codes "X7"
-label_word X8 = codes "X8"
-label_word Done = codes "Done"
-
--- the option that a step is at
-abbrev pub cursor_word : Cursor → List ℕ
-cursor_word cursor.None = codes "-"
-cursor_word (cursor.At o) = decimal o
-cursor_word cursor.Past = codes "past"
-
--- label, cursor and choices
-abbrev pub state_words : StateValue → List (List ℕ)
-state_words s = label_word s.label ∷ cursor_word s.cursor ∷ map decimal s.path
-
--- what a breakpoint is at, over items with these names
-abbrev pub point_words : List (List ℕ) → Break → List (List ℕ)
-point_words names (at.Level n) = codes "level" ∷ decimal n ∷ []
-point_words names (at.Option k) = codes "option" ∷ decimal k ∷ []
-point_words names (at.Item i) = codes "item" ∷ name_at names i ∷ []
-point_words names at.Visit = codes "visit" ∷ []
-
--- a breakpoint's line
-abbrev pub break_words : List (List ℕ) → Break → List (List ℕ)
-break_words names b = codes "break" ∷ point_words names b
 
 -- the number of breakpoints, and each of them
 abbrev pub break_lines : ProblemValue → List Break → List (List (List ℕ))

@@ -1,25 +1,16 @@
-//! Breakpoints: where a search that is run by hand stops.
+//! Which breakpoints a snapshot can have.
 ghost use Rattle.std.specs.Prelude.{◌≡◌, true, OnOk, IfErr};
 ghost use Rattle.std.specs.List.{list_all};
 ghost use Rattle.cover_problem.specs.Problem.{is_item};
-ghost use Rattle.x_snapshot.specs.Breaks as spec;
-ghost use Rattle.x_snapshot.specs.Breaks.{are_breaks};
+ghost use Rattle.x_texts.specs.Breaks as spec;
+ghost use Rattle.x_texts.specs.Breaks.{are_breaks};
 ghost use Rattle.x_snapshot.specs.Refusals.{IsBreakRefused};
 
 use crate::fault::SnapshotFault;
 use cover_problem::Problem;
 use indexmap::IndexSet;
 use std::alloc::Global;
-
-/// Where a search stops: at X2 with so many choices; at X5 with this option; at X4 where this item is chosen, by its number;
-/// or at a visit.
-#[derive(Clone, Copy, Debug, PartialEq, Eq, Hash)]
-pub enum Break {
-    Level(u32),
-    Option(u32),
-    Item(u32),
-    Visit,
-}
+use x_texts::Break;
 
 /// Whether a number is one of so many, counted from 1.
 fn is_one_of(number: u32, count: u32) -> bool

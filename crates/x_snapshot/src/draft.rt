@@ -1,7 +1,7 @@
 //! What a text says of a snapshot, before it is judged.
 ghost use Rattle.std.specs.Prelude.{◌≡◌, true, Ok, Err, IfOk, IfErr, OnOk};
 ghost use Rattle.x_steps.specs.StateView.{state_value};
-ghost use Rattle.x_snapshot.specs.Breaks.{are_breaks};
+ghost use Rattle.x_texts.specs.Breaks.{are_breaks};
 ghost use Rattle.x_snapshot.specs.Snapshot.{branch_between, started};
 ghost use Rattle.x_snapshot.specs.Judged.{judged_parts};
 ghost use Rattle.x_snapshot.specs.Reading.{parts_of};
@@ -29,7 +29,7 @@ pub struct Draft {
 impl Model for Draft {
     ghost use Rattle.std.specs.Prelude.{◌≡◌, true};
     ghost use Rattle.x_snapshot.specs.Snapshot.{SnapshotValue, parts_value};
-    ghost use Rattle.x_snapshot.specs.Breaks.{are_breaks};
+    ghost use Rattle.x_texts.specs.Breaks.{are_breaks};
 
     ghost Value = { SnapshotValue };
 

@@ -1,7 +1,7 @@
 //! Laws of snapshots' texts, over the definitions alone: each is a function that does nothing, whose contract is the law.
 ghost use Rattle.std.specs.Prelude.{ℕ, ◌≡◌, true, List, Ok};
 ghost use Rattle.cover_problem.specs.Problem.{IsProblem};
-ghost use Rattle.x_snapshot.specs.Breaks.{are_breaks};
+ghost use Rattle.x_texts.specs.Breaks.{are_breaks};
 ghost use Rattle.x_snapshot.specs.Snapshot.{SnapshotValue, IsSnapshot};
 ghost use Rattle.x_snapshot.specs.Writing.{snapshot_text};
 ghost use Rattle.x_snapshot.specs.Reading.{parts_of};

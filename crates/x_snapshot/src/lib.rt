@@ -10,9 +10,8 @@ mod reading;
 mod snapshot;
 mod writing;
 
-pub use breakpoint::Break;
 pub use draft::{Draft, read_draft};
 pub use fault::SnapshotFault;
 pub use reading::{break_from, is_state, only_word, option_number, read_snapshot, state_from};
 pub use snapshot::{Snapshot, SnapshotParts};
-pub use writing::{write_break, write_cut, write_snapshot, write_state};
+pub use writing::write_snapshot;

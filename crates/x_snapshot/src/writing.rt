@@ -1,29 +1,18 @@
 //! The writer of snapshots.
-ghost use Rattle.std.specs.Prelude.{◌≡◌, ◌++◌, ◌∷◌, [], true, map, length, decimal, codes, option_copied, OnOk, IfOk};
+ghost use Rattle.std.specs.Prelude.{◌≡◌, ◌++◌, ◌∷◌, true, map, length, codes, option_copied, OnOk, IfOk};
 ghost use Rattle.std.specs.List.{list_all};
-ghost use Rattle.text_lines.specs.Writing.{words_after, line_text, text_of};
+ghost use Rattle.text_lines.specs.Writing.{line_text, text_of};
 ghost use Rattle.cover_problem.specs.Grammar.{word_lines};
-ghost use Rattle.x_steps.specs.StateView.{state_value};
-ghost use Rattle.x_snapshot.specs.Breaks.{is_break};
+ghost use Rattle.x_texts.specs.Breaks.{is_break};
 ghost use Rattle.x_snapshot.specs.Writing as spec;
-ghost use Rattle.x_snapshot.specs.Writing.{cut_words, state_words, point_words, break_words, lines_of_breaks, snapshot_text};
+ghost use Rattle.x_texts.specs.Words.{cut_words, break_words};
+ghost use Rattle.x_snapshot.specs.Writing.{lines_of_breaks, snapshot_text};
 
-use crate::breakpoint::Break;
 use crate::snapshot::Snapshot;
 use cover_problem::{Problem, write_cover};
 use std::alloc::{AllocError, Global};
-use text_lines::{write_number, write_number_line, write_numbers, write_word};
-use x_steps::{Cursor, Label, State};
-
-/// Writes the choices of a cut after a word, or the word for none.
-pub fn write_cut(text: &mut Vec<u8>, none: &str, path: Option<&[u32]>) -> Result<(), AllocError>
-    ensures { OnOk result (text.new.items ≡ text.old.items ++ words_after (cut_words none.now (option_copied path.entry))) }
-{
-    match path {
-        Some(path) => write_numbers(text, path),
-        None => write_word(text, none),
-    }
-}
+use text_lines::write_number_line;
+use x_texts::{Break, write_break, write_cut, write_state};
 
 /// Writes a line of a word and a cut: its choices, or the word for none.
 fn write_cut_line(
@@ -53,86 +42,6 @@ fn write_to(text: &mut Vec<u8>, snapshot: &Snapshot) -> Result<(), AllocError>
     ensures { OnOk result (text.new.items ≡ text.old.items ++ line_text (codes "to" ∷ cut_words (codes "end") snapshot.now.hi)) }
 {
     write_cut_line(text, "to", "end", snapshot.hi())
-}
-
-/// The word of a label.
-fn label_word(label: Label) -> &'static str
-    ensures { result.now ≡ spec.label_word label }
-{
-    match label {
-        Label::X1 => "X1",
-        Label::X2 => "X2",
-        Label::X3 => "X3",
-        Label::X4 => "X4",
-        Label::X5 => "X5",
-        Label::X6 => "X6",
-        Label::X7 => "X7",
-        Label::X8 => "X8",
-        Label::Done => "Done",
-    }
-}
-
-/// Writes a cursor after a word.
-fn write_cursor(text: &mut Vec<u8>, cursor: Cursor) -> Result<(), AllocError>
-    ensures { OnOk result (text.new.items ≡ text.old.items ++ 32 ∷ spec.cursor_word cursor) }
-{
-    match cursor {
-        Cursor::None => write_word(text, "-"),
-        Cursor::At(option) => write_number(text, option),
-        Cursor::Past => write_word(text, "past"),
-    }
-}
-
-/// Writes a line of a word and a state: its label, its cursor and its choices.
-pub fn write_state(text: &mut Vec<u8>, key: &str, state: &State) -> Result<(), AllocError>
-    ensures { OnOk result (text.new.items ≡ text.old.items ++ line_text (key.now ∷ state_words (state_value state.now))) }
-{
-    text.extend_from_slice(key.as_bytes())?;
-    write_word(text, label_word(state.label))?;
-    write_cursor(text, state.cursor)?;
-    write_numbers(text, &state.path)?;
-    text.push(b'\n')?;
-    Ok(())
-}
-
-/// Writes a kind of breakpoints and a number after a word.
-fn write_kind(text: &mut Vec<u8>, kind: &str, number: u32) -> Result<(), AllocError>
-    ensures { OnOk result (text.new.items ≡ text.old.items ++ words_after (kind.now ∷ decimal number ∷ [])) }
-{
-    write_word(text, kind)?;
-    write_number(text, number)
-}
-
-/// Writes what a breakpoint is at after a word.
-fn write_point(text: &mut Vec<u8>, problem: &Problem, breakpoint: Break) -> Result<(), AllocError>
-    requires { is_break problem.now breakpoint ≡ true }
-    ensures { OnOk result (text.new.items ≡ text.old.items ++ words_after (point_words problem.now.names breakpoint)) }
-{
-    match breakpoint {
-        Break::Level(level) => write_kind(text, "level", level),
-        Break::Option(option) => write_kind(text, "option", option),
-        Break::Item(item) => {
-            write_word(text, "item")?;
-            write_word(text, problem.name(item))
-        }
-        Break::Visit => write_word(text, "visit"),
-    }
-}
-
-/// Writes a line of a word and what a breakpoint is at.
-pub fn write_break(
-    text: &mut Vec<u8>,
-    key: &str,
-    problem: &Problem,
-    breakpoint: Break,
-) -> Result<(), AllocError>
-    requires { is_break problem.now breakpoint ≡ true }
-    ensures { OnOk result (text.new.items ≡ text.old.items ++ line_text (key.now ∷ point_words problem.now.names breakpoint)) }
-{
-    text.extend_from_slice(key.as_bytes())?;
-    write_point(text, problem, breakpoint)?;
-    text.push(b'\n')?;
-    Ok(())
 }
 
 /// Writes the lines of breakpoints.

@@ -2,7 +2,7 @@
 ghost use Rattle.std.specs.Prelude.{◌≡◌, ◌++◌, true, IfOk, IfErr, OnOk};
 ghost use Rattle.cover_problem.specs.Problem.{ProblemValue};
 ghost use Rattle.x_branches.specs.Runner.{IsOf};
-ghost use Rattle.x_snapshot.specs.Breaks.{are_breaks};
+ghost use Rattle.x_texts.specs.Breaks.{are_breaks};
 ghost use Rattle.x_snapshot.specs.Snapshot.{choices_of, IsCutIfAny};
 ghost use Rattle.x_snapshot.specs.Writing.{snapshot_text};
 ghost use Rattle.lab_book.specs.Book.{path_of};
@@ -18,7 +18,8 @@ use lab_book::Book;
 use lab_world::Worker;
 use std::alloc::{AllocError, Global};
 use x_branches::Cut;
-use x_snapshot::{Break, Snapshot, SnapshotFault, write_snapshot};
+use x_texts::Break;
+use x_snapshot::{Snapshot, SnapshotFault, write_snapshot};
 use x_steps::Refused;
 
 /// The choices of a cut, if there is one, in memory of their own.

@@ -2,7 +2,7 @@
 ghost use Rattle.std.specs.Prelude.{◌≡◌, ◌<◌, ◌++◌, true, IfSome, IfOk, OnOk, OnErr};
 ghost use Rattle.std.specs.List.{list_all};
 ghost use Rattle.text_lines.specs.Writing.{line_text, text_of};
-ghost use Rattle.x_snapshot.specs.Breaks.{is_break};
+ghost use Rattle.x_texts.specs.Breaks.{is_break};
 ghost use Rattle.lab_world.specs.Worker.{HoldsTile};
 ghost use Rattle.debug_views.specs.Breakpoints as breakpoints;
 ghost use Rattle.debug_acts.specs.Walking.{work, forward, IsPartWay, state_on, visit_lines, run_count, run_lines, stop_line, steps_ahead};
@@ -15,7 +15,7 @@ use indexmap::IndexSet;
 use lab_book::Book;
 use lab_world::Worker;
 use std::alloc::AllocError;
-use x_snapshot::Break;
+use x_texts::Break;
 
 /// Goes on to the first state that meets a breakpoint, or to its branch's end, and writes the visits. How many steps these were,
 /// and the breakpoint that is met there.

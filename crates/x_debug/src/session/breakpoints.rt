@@ -1,13 +1,13 @@
 //! The breakpoints of a session.
 ghost use Rattle.std.specs.Prelude.{◌≡◌, ◌++◌, true, OnOk, OnErr};
-ghost use Rattle.x_snapshot.specs.Breaks.{is_break};
+ghost use Rattle.x_texts.specs.Breaks.{is_break};
 ghost use Rattle.x_debug.specs.Commands.{answer_set, answer_clear};
 
 use crate::session::Session;
 use cover_problem::Table;
 use debug_language::{Counted, write_counted, write_set};
 use std::alloc::AllocError;
-use x_snapshot::Break;
+use x_texts::Break;
 
 impl<'p, T: Table> Session<'p, T> {
     /// `break`: sets a breakpoint. Out of memory, nothing has changed.

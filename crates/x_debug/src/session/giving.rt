@@ -1,6 +1,6 @@
 //! The branch that is open is given up.
 ghost use Rattle.std.specs.Prelude.{◌≡◌, ◌++◌, ◌⊎◌, [], true, OnOk, OnErr};
-ghost use Rattle.x_snapshot.specs.Breaks.{are_breaks};
+ghost use Rattle.x_texts.specs.Breaks.{are_breaks};
 ghost use Rattle.x_debug.specs.Commands.{answer_park, answer_close, answer_save, LeftNotGiven};
 
 use crate::session::Session;
@@ -8,7 +8,7 @@ use cover_problem::Table;
 use debug_acts::{close, park, save};
 use debug_language::{DebugFault, write_debug_fault};
 use std::alloc::{AllocError, Global};
-use x_snapshot::Break;
+use x_texts::Break;
 
 impl<'p, T: Table> Session<'p, T> {
     /// `park`.

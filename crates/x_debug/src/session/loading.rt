@@ -2,7 +2,7 @@
 ghost use Rattle.std.specs.Prelude.{◌≡◌, ◌++◌, ◌↔◌, true, false, Some, IsTrue, IfOk, OnOk, OnErr};
 ghost use Rattle.std.specs.List.{list_all};
 ghost use Rattle.cover_problem.specs.Problem.{is_same};
-ghost use Rattle.x_snapshot.specs.Breaks.{is_break};
+ghost use Rattle.x_texts.specs.Breaks.{is_break};
 ghost use Rattle.x_snapshot.specs.Snapshot.{branch_between, started};
 ghost use Rattle.x_snapshot.specs.Judged.{judged_parts};
 ghost use Rattle.lab_book.specs.Book.{new_book};
@@ -19,7 +19,8 @@ use lab_book::{Book, BookFault};
 use lab_world::Worker;
 use std::alloc::{AllocError, Global};
 use x_branches::Runner;
-use x_snapshot::{Break, Draft, read_draft};
+use x_texts::Break;
+use x_snapshot::{Draft, read_draft};
 
 /// The breakpoints of a text, as a set.
 fn set_of(alloc: Global, draft: &Draft) -> Result<IndexSet<Break>, AllocError>

@@ -3,7 +3,7 @@ ghost use Rattle.std.specs.Prelude.{◌≡◌, [], codes};
 ghost use Rattle.text_lines.specs.Lines.{words_of};
 ghost use Rattle.text_lines.specs.Answers.{Gives};
 ghost use Rattle.cover_problem.specs.Problem.{item_named};
-ghost use Rattle.x_snapshot.specs.declared.breakpoint.Break.{Break};
+ghost use Rattle.x_texts.specs.declared.breakpoint.Break.{Break};
 ghost use Rattle.x_snapshot.specs.Reading as spec;
 ghost use Rattle.x_snapshot.specs.Reading.{keyed_line, found_or, most_breaks};
 

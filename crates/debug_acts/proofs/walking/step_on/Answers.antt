@@ -1,6 +1,6 @@
 use Rattle.std.proofs.Common.{ℕ, List, ◌++◌, ◌∙◌, ap, map}
 use Rattle.text_lines.specs.Writing.{text_of}
-use Rattle.debug_language.specs.Replies.{visit_words}
+use Rattle.x_texts.specs.Words.{visit_words}
 use Rattle.debug_acts.specs.Walking.{work}
 use Rattle.debug_acts.proofs.WalkLemmas.{step_made, same_visit}
 use Rattle.debug_acts.proofs.walking.step_on.Goals as goal

@@ -1,6 +1,6 @@
 use Rattle.std.proofs.Common.{codes}
 use Rattle.std.specs.Prelude.{option_copied}
-use Rattle.x_snapshot.specs.Writing.{cut_words}
+use Rattle.x_texts.specs.Words.{cut_words}
 use Rattle.debug_language.proofs.WriterLemmas.{cuts_written}
 use Rattle.debug_language.proofs.showing.write_cuts.Goals as goal
 

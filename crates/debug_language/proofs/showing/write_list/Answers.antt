@@ -1,6 +1,6 @@
 use Rattle.std.proofs.Common.{length, map, decimal}
 use Rattle.cover_problem.specs.Problem.{name_at}
-use Rattle.x_snapshot.proofs.WriterLemmas.{state_written}
+use Rattle.x_texts.proofs.WordLemmas.{state_written}
 use Rattle.debug_language.specs.Replies.{listed_word}
 use Rattle.debug_language.proofs.showing.write_list.Goals as goal
 

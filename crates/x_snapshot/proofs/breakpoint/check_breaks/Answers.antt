@@ -1,6 +1,6 @@
 use Rattle.std.proofs.Common.{sym, ◌∙◌}
 use Rattle.std.proofs.lemmas.Bool.{not-false, not-true}
-use Rattle.x_snapshot.specs.declared.breakpoint.Break.TheVariants as at
+use Rattle.x_texts.specs.declared.breakpoint.Break.TheVariants as at
 use Rattle.x_snapshot.proofs.BreakLemmas.{taken_again, keys_taken, still_new}
 use Rattle.x_snapshot.proofs.breakpoint.check_breaks.Goals as goal
 

@@ -1,5 +1,5 @@
 use Rattle.std.proofs.Common.{◌≡◌, true, take}
-use Rattle.x_snapshot.specs.Breaks.{are_new}
+use Rattle.x_texts.specs.Breaks.{are_new}
 use Rattle.x_snapshot.proofs.breakpoint.check_breaks.Given as goal
 
 abbrev pub invariant-loop-breakpoint : goal.invariant-loop-breakpoint

@@ -1,5 +1,5 @@
 use Rattle.std.specs.Prelude.{option_copied}
-use Rattle.x_snapshot.specs.Writing.{cut_words}
+use Rattle.x_texts.specs.Words.{cut_words}
 use Rattle.text_lines.proofs.WritingLemmas.{line_written}
 use Rattle.x_snapshot.proofs.writing.write_cut_line.Goals as goal
 

@@ -1,6 +1,6 @@
 use Rattle.std.proofs.Common.{◌≡◌, ◌++◌, map, take}
 use Rattle.text_lines.specs.Writing.{text_of}
-use Rattle.x_snapshot.specs.Writing.{break_words}
+use Rattle.x_texts.specs.Words.{break_words}
 use Rattle.x_snapshot.proofs.writing.write_each_break.Given as goal
 
 abbrev pub invariant-loop-breakpoint : goal.invariant-loop-breakpoint

@@ -1,5 +1,5 @@
 use Rattle.std.proofs.Common.{◌≡◌, true, rules, arith}
-use Rattle.x_snapshot.specs.Breaks.{are_breaks}
+use Rattle.x_texts.specs.Breaks.{are_breaks}
 use Rattle.x_debug.proofs.BreakLemmas.{set_is_breaks}
 use Rattle.x_debug.proofs.session.Session.obey_save_breaks.Goals as goal
 

@@ -1,6 +1,6 @@
 use Rattle.std.proofs.Common.{◌≡◌, true, sym, subst}
 use Rattle.std.specs.List.{list_all}
-use Rattle.x_snapshot.specs.Breaks.{is_break}
+use Rattle.x_texts.specs.Breaks.{is_break}
 use Rattle.x_debug.specs.Session.{SessionValue}
 use Rattle.x_debug.proofs.session.Session.take_breaks.Goals as goal
 

@@ -1,4 +1,4 @@
-use Rattle.x_snapshot.specs.declared.breakpoint.Break.TheVariants as at
+use Rattle.x_texts.specs.declared.breakpoint.Break.TheVariants as at
 use Rattle.x_debug.proofs.BreakLemmas.{set_one_more}
 use Rattle.x_debug.proofs.session.loading.set_of.Goals as goal
 

@@ -1,7 +1,7 @@
 use Rattle.std.proofs.Common.{◌≡◌, ◌++◌, map, take}
 use Rattle.text_lines.specs.Writing.{text_of}
-use Rattle.debug_language.specs.Replies.{visit_words}
-use Rattle.debug_language.proofs.replies.write_visits.Given as goal
+use Rattle.x_texts.specs.Words.{visit_words}
+use Rattle.x_texts.proofs.line.write_visits.Given as goal
 
 -- the lines of the visits so far are written
 abbrev pub invariant-loop-place : goal.invariant-loop-place

@@ -1,7 +1,7 @@
 use Rattle.std.proofs.Common.{map, decimal}
-use Rattle.x_snapshot.specs.Writing.{label_word, cursor_word}
-use Rattle.x_snapshot.proofs.WriterLemmas.{state_written}
-use Rattle.x_snapshot.proofs.writing.write_state.Goals as goal
+use Rattle.x_texts.specs.Words.{label_word, cursor_word}
+use Rattle.x_texts.proofs.WordLemmas.{state_written}
+use Rattle.x_texts.proofs.line.write_state.Goals as goal
 
 pub returns : goal.returns
 returns c =

@@ -1,7 +1,7 @@
 use Rattle.std.proofs.Common.{codes, map, decimal, arith}
 use Rattle.text_lines.proofs.WritingLemmas.{line_written}
-use Rattle.debug_language.proofs.WriterLemmas.{levels_some}
-use Rattle.debug_language.proofs.showing.write_levels.Goals as goal
+use Rattle.x_texts.proofs.WordLemmas.{levels_some}
+use Rattle.x_texts.proofs.line.write_levels.Goals as goal
 
 pub returns : goal.returns
 returns c =

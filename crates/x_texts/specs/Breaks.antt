@@ -1,12 +1,12 @@
 -- Where a search that is run by hand stops: at a level, at an option, at the choice of an item, at a visit.
 --
 -- Example: over a problem of one item and two options, `level 1`, `option 2`, `item 1` and `visit` are breakpoints; `level 2`,
--- `option 0` and `item 2` are none. proofs/SnapshotExamples.antt computes it.
+-- `option 0` and `item 2` are none. proofs/WordExamples.antt computes it.
 use Rattle.std.specs.Prelude.{◌==◌, nat_le, Bool, true, false, not, ◌&&◌, List, [], ◌∷◌, length}
 use Rattle.std.specs.List.{list_any, list_all}
 use Rattle.cover_problem.specs.Problem.{ProblemValue, is_item}
-use Rattle.x_snapshot.specs.declared.breakpoint.Break.{Break}
-use Rattle.x_snapshot.specs.declared.breakpoint.Break.TheVariants as at
+use Rattle.x_texts.specs.declared.breakpoint.Break.{Break}
+use Rattle.x_texts.specs.declared.breakpoint.Break.TheVariants as at
 
 -- whether it can be met in a search of the problem: a level of its run, an option of it, an item of it
 abbrev pub is_break : ProblemValue → Break → Bool

@@ -1,0 +1,71 @@
+//! Lines of states, breakpoints, visits and levels.
+ghost use Rattle.std.specs.Prelude.{◌≡◌, ◌++◌, ◌∷◌, true, map, OnOk};
+ghost use Rattle.text_lines.specs.Writing.{line_text, text_of};
+ghost use Rattle.x_steps.specs.StateView.{state_value};
+ghost use Rattle.x_texts.specs.Breaks.{is_break};
+ghost use Rattle.x_texts.specs.Words.{state_words, point_words, visit_words, levels_words};
+
+use crate::breakpoint::Break;
+use crate::word::{label_word, write_cursor, write_point};
+use cover_problem::{Lists, Problem};
+use std::alloc::AllocError;
+use text_lines::{write_numbers, write_numbers_line, write_word};
+use x_steps::State;
+
+/// Writes a line of a word and a state: its label, its cursor and its choices.
+pub fn write_state(text: &mut Vec<u8>, key: &str, state: &State) -> Result<(), AllocError>
+    ensures { OnOk result (text.new.items ≡ text.old.items ++ line_text (key.now ∷ state_words (state_value state.now))) }
+{
+    text.extend_from_slice(key.as_bytes())?;
+    write_word(text, label_word(state.label))?;
+    write_cursor(text, state.cursor)?;
+    write_numbers(text, &state.path)?;
+    text.push(b'\n')?;
+    Ok(())
+}
+
+/// Writes a line of a word and what a breakpoint is at.
+pub fn write_break(
+    text: &mut Vec<u8>,
+    key: &str,
+    problem: &Problem,
+    breakpoint: Break,
+) -> Result<(), AllocError>
+    requires { is_break problem.now breakpoint ≡ true }
+    ensures { OnOk result (text.new.items ≡ text.old.items ++ line_text (key.now ∷ point_words problem.now.names breakpoint)) }
+{
+    text.extend_from_slice(key.as_bytes())?;
+    write_point(text, problem, breakpoint)?;
+    text.push(b'\n')?;
+    Ok(())
+}
+
+/// Writes a visit: its choices.
+pub fn write_visit(text: &mut Vec<u8>, path: &[u32]) -> Result<(), AllocError>
+    ensures { OnOk result (text.new.items ≡ text.old.items ++ line_text (visit_words path.now)) }
+{
+    write_numbers_line(text, "visit", path)
+}
+
+/// Writes visits, a line for each.
+pub fn write_visits(text: &mut Vec<u8>, visits: &Lists) -> Result<(), AllocError>
+    ensures { OnOk result (text.new.items ≡ text.old.items ++ text_of (map visit_words visits.now)) }
+{
+    for place in 0..visits.len() {
+        write_visit(text, visits.list(place))?;
+    }
+    Ok(())
+}
+
+/// Writes the counts of the levels from 0 on, that of level 0 at least.
+pub fn write_levels(text: &mut Vec<u8>, counts: &[u128]) -> Result<(), AllocError>
+    ensures { OnOk result (text.new.items ≡ text.old.items ++ line_text (levels_words counts.now)) }
+{
+    if counts.is_empty() {
+        return text.extend_from_slice(b"levels 0\n");
+    }
+    text.extend_from_slice(b"levels")?;
+    write_numbers(text, counts)?;
+    text.push(b'\n')?;
+    Ok(())
+}

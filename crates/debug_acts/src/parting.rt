@@ -9,7 +9,9 @@ ghost use Rattle.debug_views.specs.Lines.{state_line, counted};
 ghost use Rattle.debug_acts.specs.Parting.{retract, split};
 
 use cover_problem::Table;
-use debug_language::{Counted, Standing, write_at, write_counted, write_runner_fault, write_standing};
+use debug_language::{
+    Counted, Standing, write_at, write_counted, write_runner_fault, write_standing,
+};
 use debug_views::{choices, write_book_fault};
 use lab_book::Book;
 use lab_world::{Worker, WorkerFault};

@@ -14,12 +14,12 @@ use crate::posting::make_room;
 pub use backward::back;
 use cover_problem::Table;
 use debug_language::{Counted, write_at, write_counted};
-use x_texts::write_visit;
 use lab_book::Book;
 use lab_world::Worker;
 pub use onward::step;
 pub use running::run;
 use std::alloc::AllocError;
+use x_texts::write_visit;
 
 /// Writes the visit of the next step, if it is one.
 fn note_visit<T: Table>(text: &mut Vec<u8>, worker: &Worker<'_, T>) -> Result<(), AllocError>

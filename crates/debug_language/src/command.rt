@@ -1,7 +1,7 @@
 //! The commands of the debugger.
 
-use x_texts::Break;
 use x_steps::State;
+use x_texts::Break;
 
 /// What a command line asks of the debugger. A cut is given by its choices, and None is the start of the run.
 #[derive(Debug, Drop)]

@@ -10,8 +10,8 @@ use crate::words::{Counted, Plain};
 use cover_problem::Problem;
 use std::alloc::AllocError;
 use text_lines::write_number_line;
-use x_texts::{Break, write_break, write_state};
 use x_steps::State;
+use x_texts::{Break, write_break, write_state};
 
 /// Writes a line that is always the same.
 pub fn write_plain(text: &mut Vec<u8>, plain: Plain) -> Result<(), AllocError>

@@ -2,14 +2,18 @@
 ghost use Rattle.std.specs.Prelude.{◌≤◌, length};
 
 use cover_problem::{Lists, Problem, read_cover};
-use debug_language::{Counted, DebugFault, Layer, Listed, Plain, Standing, write_at, write_branch, write_counted, write_covered, write_debug_fault, write_list, write_lists, write_met, write_plain, write_refused, write_runner_fault, write_saved, write_set, write_snapshot_fault, write_standing, write_untried};
-use x_texts::{write_levels, write_visit, write_visits};
+use debug_language::{
+    Counted, DebugFault, Layer, Listed, Plain, Standing, write_at, write_branch, write_counted,
+    write_covered, write_debug_fault, write_list, write_lists, write_met, write_plain,
+    write_refused, write_runner_fault, write_saved, write_set, write_snapshot_fault,
+    write_standing, write_untried,
+};
 use drawn_problems::SMALL;
 use std::alloc::{AllocError, Global};
 use x_branches::RunnerFault;
-use x_texts::Break;
 use x_snapshot::SnapshotFault;
 use x_steps::{Cursor, Label, State};
+use x_texts::{Break, write_levels, write_visit, write_visits};
 
 /// A reply that names no item.
 enum Reply {

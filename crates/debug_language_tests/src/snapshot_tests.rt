@@ -5,9 +5,9 @@ use drawn_problems::{SMALL, state_of};
 use std::alloc::{AllocError, Global};
 use std::process::Abort;
 use std::test::Fail;
-use x_texts::Break;
 use x_snapshot::{Snapshot, SnapshotFault, write_snapshot};
 use x_steps::{Cursor, Label, State};
+use x_texts::Break;
 
 /// A problem with a secondary item.
 const SECONDARY: &str = "items a\nmaybe b\noption a b\noption a";

@@ -8,8 +8,8 @@ use cover_problem::Table;
 use indexmap::IndexSet;
 use std::alloc::AllocError;
 use x_branches::Runner;
-use x_texts::Break;
 use x_steps::{Cursor, Label};
+use x_texts::Break;
 
 /// A breakpoint, if it was set.
 fn if_set(breaks: &IndexSet<Break>, breakpoint: Break) -> Option<Break>

@@ -7,7 +7,10 @@ ghost use Rattle.debug_views.specs.Showing.{runner_branch, runner_covered, runne
 ghost use Rattle.debug_views.specs.Showing.{show_lines, level_lines, all_untried, or_none};
 
 use cover_problem::{Problem, Table};
-use debug_language::{Listed, Plain, write_at, write_branch, write_covered, write_list, write_lists, write_plain, write_untried};
+use debug_language::{
+    Listed, Plain, write_at, write_branch, write_covered, write_list, write_lists, write_plain,
+    write_untried,
+};
 use std::alloc::AllocError;
 use x_branches::{Cut, Runner};
 

@@ -12,11 +12,13 @@ ghost use Rattle.debug_views.specs.Showing.{or_none};
 ghost use Rattle.debug_views.specs.Tiles.{is_begun_at, place_at, standing_of, tile_line, open_lines, visits_lines, tile_call, answer_of_cut, hold, put_back};
 
 use crate::showing::choices;
-use debug_language::{Counted, Layer, Plain, Standing, write_counted, write_plain, write_refused, write_standing};
-use x_texts::write_visits;
+use debug_language::{
+    Counted, Layer, Plain, Standing, write_counted, write_plain, write_refused, write_standing,
+};
 use lab_book::{Book, BookFault, Status, Tile};
 use std::alloc::AllocError;
 use x_steps::State;
+use x_texts::write_visits;
 
 /// Whether a tile is closed.
 fn is_closed(status: Status) -> bool

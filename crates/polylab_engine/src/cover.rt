@@ -7,12 +7,12 @@ use crate::report::Report;
 use crate::search::search;
 use crate::workers::Workers;
 use cover_problem::{Problem, Table};
-use x_texts::write_visits;
 use lab_pool::Gate;
 use std::alloc::{AllocError, Global};
 use std::sync::Wait;
 use std::thread::Threads;
 use text_lines::write_number_line;
+use x_texts::write_visits;
 
 /// The exact covers of the problem in path order, and then their number, the steps and the levels.
 #[tactic(auto, unfolding(crate::specs::Output::cover_output))]

@@ -9,11 +9,11 @@ ghost use Rattle.polylab_engine.specs.Account.{kept};
 ghost use Rattle.polylab_engine.specs.Output.{tally_lines, whole_report};
 
 use cover_problem::Lists;
-use x_texts::write_levels;
 use lab_book::Book;
 use std::alloc::{AllocError, Global};
 use std::marker::Model;
 use text_lines::write_number_line;
+use x_texts::write_levels;
 
 /// The visits in path order, where they are kept, how many visits and steps there were, and how many X2 states at each level from 0
 /// on, up to the last that has one.

@@ -21,8 +21,8 @@ use lab_book::Book;
 use lab_world::Worker;
 use std::alloc::{AllocError, Global};
 use std::marker::Model;
-use x_texts::Break;
 use x_steps::State;
+use x_texts::Break;
 
 /// A book, the worker that has one of its tiles open or none, and the breakpoints in the order in which they were set.
 #[derive(Drop)]

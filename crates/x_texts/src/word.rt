@@ -58,7 +58,11 @@ fn write_kind(text: &mut Vec<u8>, kind: &str, number: u32) -> Result<(), AllocEr
 }
 
 /// Writes what a breakpoint is at after a word.
-pub(crate) fn write_point(text: &mut Vec<u8>, problem: &Problem, breakpoint: Break) -> Result<(), AllocError>
+pub(crate) fn write_point(
+    text: &mut Vec<u8>,
+    problem: &Problem,
+    breakpoint: Break,
+) -> Result<(), AllocError>
     requires { is_break problem.now breakpoint ≡ true }
     ensures { OnOk result (text.new.items ≡ text.old.items ++ words_after (point_words problem.now.names breakpoint)) }
 {

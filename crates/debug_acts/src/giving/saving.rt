@@ -18,9 +18,9 @@ use lab_book::Book;
 use lab_world::Worker;
 use std::alloc::{AllocError, Global};
 use x_branches::Cut;
-use x_texts::Break;
 use x_snapshot::{Snapshot, SnapshotFault, write_snapshot};
 use x_steps::Refused;
+use x_texts::Break;
 
 /// The choices of a cut, if there is one, in memory of their own.
 fn path_of(alloc: Global, cut: &Option<Cut<'_>>) -> Result<Option<Vec<u32>>, AllocError>

@@ -19,8 +19,8 @@ use lab_book::{Book, BookFault};
 use lab_world::Worker;
 use std::alloc::{AllocError, Global};
 use x_branches::Runner;
-use x_texts::Break;
 use x_snapshot::{Draft, read_draft};
+use x_texts::Break;
 
 /// The breakpoints of a text, as a set.
 fn set_of(alloc: Global, draft: &Draft) -> Result<IndexSet<Break>, AllocError>

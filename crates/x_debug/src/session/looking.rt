@@ -5,9 +5,9 @@ ghost use Rattle.x_debug.specs.Commands.{answer_show, answer_untried, answer_bra
 use crate::session::Session;
 use cover_problem::Table;
 use debug_language::{Counted, DebugFault, write_counted, write_debug_fault};
-use x_texts::write_levels;
 use debug_views::{branches, show, untried, write_posted};
 use std::alloc::AllocError;
+use x_texts::write_levels;
 
 impl<'p, T: Table> Session<'p, T> {
     /// `show`.

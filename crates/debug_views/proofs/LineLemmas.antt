@@ -1,11 +1,14 @@
 -- How lines are written one after the other.
-use Rattle.std.proofs.Common.{◌≡◌, ℕ, suc, ◌+◌, ◌<◌, Result, Ok, Err, OnOk, List, [], ◌∷◌, ◌++◌, length, refl, sym, ◌∙◌, ap, arith, append_assoc, append-nil}
+use Rattle.std.proofs.Common.{◌≡◌, ℕ, suc, ◌+◌, ◌<◌, Result, Ok, Err, OnOk, List, [], ◌∷◌, ◌++◌, length, map, get_or, refl, sym, ◌∙◌, ap, arith}
+use Rattle.std.proofs.Common.{append_assoc, append-nil}
 use Rattle.std.specs.List.{flat_map}
+use Rattle.std.proofs.lemmas.List.{length-map}
 use Rattle.std.proofs.lemmas.Grind.{flat_map-append}
 use Rattle.text_lines.specs.Writing.{line_text, text_of}
 use Rattle.cover_problem.specs.Lists.{numbers}
-use Rattle.cover_problem.proofs.NumberLemmas.{numbers_push}
+use Rattle.cover_problem.proofs.NumberLemmas.{length-numbers, number_at, numbers_push}
 use Rattle.x_branches.specs.Runner.{RunnerValue}
+use Rattle.x_branches.specs.Refusals.{untried_in}
 use Rattle.debug_language.specs.Replies.{untried_words}
 use Rattle.debug_views.specs.Lines.{state_line}
 use Rattle.debug_views.specs.Showing.{runner_branch, runner_covered, runner_chosen, runner_active, runner_second, show_lines, level_lines, untried_at}
@@ -51,6 +54,17 @@ levels_more r level =
     let l : levels_to r (level + 1) ≡ levels_to r level ++ untried_at r level =
     ap (flat_map (untried_at r)) n ∙ flat_map-append (untried_at r) (numbers level 0) (level ∷ []) ∙ ap (λ ls. levels_to r level ++ ls) (append-nil (untried_at r level)) in
     ap text_of l ∙ more_lines (levels_to r level) (untried_at r level)
+
+-- the line of what is listed for a level
+pub level_listed : (r : RunnerValue) (levels : List (List ℕ)) (options : List ℕ) (level : ℕ)
+    → levels ≡ map (untried_in r) (numbers (length r.position.path + 1) 0) → level < length levels → options ≡ get_or levels level []
+    → level_lines level options ≡ untried_at r level
+level_listed r levels options level e l o =
+    let n : length levels ≡ length r.position.path + 1 =
+    ap (length {A = List ℕ}) e ∙ length-map (untried_in r) (numbers (length r.position.path + 1) 0) ∙ length-numbers (length r.position.path + 1) 0 in
+    let z : 0 + level ≡ level = omega arith in
+    ap (level_lines level) (o ∙ ap (λ ls. get_or ls level []) e ∙ number_at (untried_in r) (length r.position.path + 1) 0 level [] (omega arith)
+    ∙ ap (untried_in r) z)
 
 -- nothing, or the one line of a level
 pub level_none : (level : ℕ) (options : List ℕ) → length options ≡ 0 → text_of (level_lines level options) ≡ []

@@ -1,7 +1,7 @@
 //! The exit status of the program.
 ghost use Rattle.std.specs.Prelude.{[], ◌∷◌, IfOk, IfErr, Contains, ◌≡◌};
 ghost use Rattle.byte_streams.specs.Stream.{Takes, Stays};
-ghost use Rattle.polylab_engine.specs.Ending.{IsRun};
+ghost use Rattle.polylab_engine.specs.Ending.{IsProgramRun};
 ghost use Rattle.lab_line.specs.Line.{IsTold, status_of};
 
 use crate::line::LineFault;
@@ -42,7 +42,7 @@ pub fn status<R: Threads + Wait + Sync, G: Gate, I: Source, O: Sink, F: Sink>(
     faults: &mut F,
 ) -> u8
     ensures known { Contains (0 ∷ 2 ∷ 3 ∷ 4 ∷ 5 ∷ []) result }
-    ensures ran { IfOk asked (λ job. IsRun job (I.stream reader.old) (I.stream reader.new)
+    ensures ran { IfOk asked (λ job. IsProgramRun job (I.stream reader.old) (I.stream reader.new)
         (O.stream writer.old) (O.stream writer.new) (F.stream faults.old) (F.stream faults.new) result) }
     ensures refused { IfErr asked (λ fault. result ≡ status_of fault) }
     ensures told { IfErr asked (λ fault. IsTold fault (O.stream writer.old) (O.stream writer.new)

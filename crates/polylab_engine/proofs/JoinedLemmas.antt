@@ -18,7 +18,7 @@ use Rattle.x_snapshot.proofs.JudgedLemmas.{read_judged}
 use Rattle.polylab_engine.specs.Account.{account_of, report_of, kept}
 use Rattle.polylab_engine.specs.Stretch.{stretch_report}
 use Rattle.polylab_engine.specs.Resumed.{branch_end, stop_of}
-use Rattle.polylab_engine.specs.Joined.{levels_added, added, nothing_told, sum_of, after_slice, sliced, slice_reports, Join, part_reports}
+use Rattle.polylab_engine.specs.Joined.{levels_added, report_sum, nothing_told, sum_of, after_slice, sliced, slice_reports, AreJoined, part_reports}
 use Rattle.polylab_engine.proofs.AccountLemmas.{same_reports, none_kept}
 use Rattle.polylab_engine.proofs.ResumeLemmas.{end_fits, up, stop_fits, stop_up, stop_is_snapshot}
 
@@ -73,7 +73,7 @@ kept_join : (keeps : Bool) (xs ys : List (List ℕ)) → kept keeps xs ++ kept k
 kept_join true xs ys = refl
 kept_join false xs ys = refl
 
-account_join : (keeps : Bool) (p : ProblemValue) (ss ts : List StateValue) → added (report_of (account_of keeps p ss)) (report_of (account_of keeps p ts)) ≡ report_of (account_of keeps p (ss ++ ts))
+account_join : (keeps : Bool) (p : ProblemValue) (ss ts : List StateValue) → report_sum (report_of (account_of keeps p ss)) (report_of (account_of keeps p ts)) ≡ report_of (account_of keeps p (ss ++ ts))
 unfolding account_of
 account_join keeps p ss ts =
     same_reports _ _
@@ -90,7 +90,7 @@ report_self : (keeps : Bool) (p : ProblemValue) (s : StateValue) → Fits p s �
 report_self keeps p s f = none_told keeps p ∙ ap (λ ss. report_of (account_of keeps p ss)) (sym (states_between_self p s f))
 
 report_join : (keeps : Bool) (p : ProblemValue) (s t u : StateValue) → Fits p s → Fits p t → Fits p u → rank p s ≤ rank p t → rank p t ≤ rank p u
-    → added (stretch_report keeps p s t) (stretch_report keeps p t u) ≡ stretch_report keeps p s u
+    → report_sum (stretch_report keeps p s t) (stretch_report keeps p t u) ≡ stretch_report keeps p s u
 report_join keeps p s t u f g h a b =
     account_join keeps p (states_between p s t) (states_between p t u)
     ∙ ap (λ ss. report_of (account_of keeps p ss)) (sym (states_between_join p s t u f g h a b))
@@ -117,7 +117,7 @@ slices_join keeps v s [] = report_self keeps v.problem v.state s.on_run.fits
 slices_join keeps v s (most ∷ rest) =
     let next = stop_is_snapshot most v s in
     let i = later (after_slice most v) next rest in
-    ap (added (stretch_report keeps v.problem v.state (stop_of most v))) (slices_join keeps (after_slice most v) next rest)
+    ap (report_sum (stretch_report keeps v.problem v.state (stop_of most v))) (slices_join keeps (after_slice most v) next rest)
     ∙ report_join keeps v.problem v.state (stop_of most v) (sliced v (most ∷ rest)).state s.on_run.fits (stop_fits most v s) i.fits (stop_up most v s) i.later
 
 -- what a slice writes last is read as where it stopped
@@ -129,7 +129,7 @@ slice_goes_on most v s =
 -- ---- parts
 
 -- of branches that join the end is no earlier than the beginning
-joined_up : (p : ProblemValue) (s t : StateValue) (vs : List SnapshotValue) → Fits p s → Join p s vs t → Fits p t × (rank p s ≤ rank p t)
+joined_up : (p : ProblemValue) (s t : StateValue) (vs : List SnapshotValue) → Fits p s → AreJoined p s vs t → Fits p t × (rank p s ≤ rank p t)
 joined_up p s t [] f e = (subst (Fits p) e f, (let r = ap (rank p) e in omega arith))
 joined_up p s t (v ∷ vs) f j =
     let there : Fits p (branch_end v) = subst (λ (q : ProblemValue). Fits q (branch_end v)) j.1 (end_fits v j.0) in
@@ -139,7 +139,7 @@ joined_up p s t (v ∷ vs) f j =
     let high = on.1 in
     (on.0, omega arith)
 
-pub parts_join : (keeps : Bool) (p : ProblemValue) (s t : StateValue) (vs : List SnapshotValue) → Fits p s → Join p s vs t → sum_of (part_reports keeps vs) ≡ stretch_report keeps p s t
+pub parts_join : (keeps : Bool) (p : ProblemValue) (s t : StateValue) (vs : List SnapshotValue) → Fits p s → AreJoined p s vs t → sum_of (part_reports keeps vs) ≡ stretch_report keeps p s t
 parts_join keeps p s t [] f e = report_self keeps p s f ∙ ap (stretch_report keeps p s) e
 parts_join keeps p s t (v ∷ vs) f j =
     let there : Fits p (branch_end v) = subst (λ (q : ProblemValue). Fits q (branch_end v)) j.1 (end_fits v j.0) in
@@ -148,5 +148,5 @@ parts_join keeps p s t (v ∷ vs) f j =
     let same : rank p v.state ≡ rank p s = ap (rank p) j.2 in
     let first : stretch_report keeps v.problem v.state (branch_end v) ≡ stretch_report keeps p s (branch_end v) =
     ap₂ (λ (q : ProblemValue) (u : StateValue). stretch_report keeps q u (branch_end v)) j.1 j.2 in
-    ap₂ added first (parts_join keeps p (branch_end v) t vs there j.3)
+    ap₂ report_sum first (parts_join keeps p (branch_end v) t vs there j.3)
     ∙ report_join keeps p s (branch_end v) t f there on.0 (omega arith) on.1

@@ -27,7 +27,7 @@ use Rattle.x_snapshot.specs.Writing.{snapshot_text}
 use Rattle.polylab_engine.specs.Account.{ReportValue}
 use Rattle.polylab_engine.specs.Output.{report_text}
 use Rattle.polylab_engine.specs.Stretch.{end_at, steps_taken, stretch_report}
-use Rattle.polylab_engine.specs.Resumed.{branch_end, stop_of, at_state, end_line, rest_text, resume_output}
+use Rattle.polylab_engine.specs.Resumed.{branch_end, stop_of, at_state, end_text, rest_text, resume_output}
 use Rattle.polylab_engine.proofs.StopLemmas.{taken_within, taken_or}
 
 -- ---- the end of a branch
@@ -152,7 +152,7 @@ module _ (most : Option ℕ) (v : SnapshotValue) (s : IsSnapshot v) where
 -- ---- what stands last
 
 module _ (v : SnapshotValue) (t : StateValue) (s : IsSnapshot (at_state v t)) where
-  pub rest_ended : t ≡ branch_end v → rest_text v t ≡ end_line
+  pub rest_ended : t ≡ branch_end v → rest_text v t ≡ end_text
   unfolding comes_before
   rest_ended e =
       let none : steps_between v.problem t (branch_end v) ≡ 0 = ap (λ u. steps_between v.problem u (branch_end v)) e ∙ steps_between_self v.problem (branch_end v) (end_fits (at_state v t) s) in

@@ -48,7 +48,7 @@ status_of Unwritten = 5
 -- what a run of a job leaves of the reader, the writer and the faults, and the status that it answers. At 0 what was written is the
 -- outcome of the job on the bytes read, and lists what the job is to tell; at 3 the faults take the line that refuses the input, at 4
 -- and 5 the line of what went wrong; whatever the status, what was written is a beginning of what is to be written
-pub record IsRun (job : Job) (r r' w w' f f' : Stream) (status : ℕ) : Type 0 where
+pub record IsProgramRun (job : Job) (r r' w w' f f' : Stream) (status : ℕ) : Type 0 where
   pub statuses : Contains (0 ∷ 3 ∷ 4 ∷ 5 ∷ []) status
   pub done : status ≡ 0 → (text : List ℕ) × IsOutcomeOf job r (Ok text) × TakesAll w w' text
   pub covers : status ≡ 0 → (text : List ℕ) × IfSome r.bytes (λ bytes. IsListed job bytes text) × TakesAll w w' text

@@ -17,8 +17,8 @@ levels_added (x ∷ xs) [] = x ∷ xs
 levels_added (x ∷ xs) (y ∷ ys) = (x + y) ∷ levels_added xs ys
 
 -- two reports as one: the visits of one and then of the other, and the numbers added
-abbrev pub added : ReportValue → ReportValue → ReportValue
-added r q = record {
+abbrev pub report_sum : ReportValue → ReportValue → ReportValue
+report_sum r q = record {
   visits = r.visits ++ q.visits;
   visited = r.visited + q.visited;
   steps = r.steps + q.steps;
@@ -32,7 +32,7 @@ nothing_told = record { visits = []; visited = 0; steps = 0; levels = [] }
 -- all of these reports as one, in order
 abbrev pub sum_of : List ReportValue → ReportValue
 sum_of [] = nothing_told
-sum_of (r ∷ rs) = added r (sum_of rs)
+sum_of (r ∷ rs) = report_sum r (sum_of rs)
 
 -- the snapshot where a slice stops
 abbrev pub after_slice : Option ℕ → SnapshotValue → SnapshotValue
@@ -54,9 +54,9 @@ slice_reports keeps v (most ∷ rest) = slice_report keeps most v ∷ slice_repo
 
 -- branches of one problem's run that join from s to t: the first is at s, each later one is where the one before ends, and the last
 -- one ends at t
-abbrev pub Join : ProblemValue → StateValue → List SnapshotValue → StateValue → Type 0
-Join p s [] t = s ≡ t
-Join p s (v ∷ vs) t = IsSnapshot v × (v.problem ≡ p) × (v.state ≡ s) × Join p (branch_end v) vs t
+abbrev pub AreJoined : ProblemValue → StateValue → List SnapshotValue → StateValue → Type 0
+AreJoined p s [] t = s ≡ t
+AreJoined p s (v ∷ vs) t = IsSnapshot v × (v.problem ≡ p) × (v.state ≡ s) × AreJoined p (branch_end v) vs t
 
 -- the report of each of them, from its state up to its branch's end
 abbrev pub part_reports : Bool → List SnapshotValue → List ReportValue

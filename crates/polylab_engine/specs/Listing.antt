@@ -22,7 +22,7 @@ use Rattle.x_snapshot.specs.Snapshot.{SnapshotValue, IsSnapshot}
 use Rattle.x_snapshot.specs.Writing.{snapshot_text}
 use Rattle.x_snapshot.specs.Judged.{snapshot_of}
 use Rattle.polylab_engine.specs.Account.{kept}
-use Rattle.polylab_engine.specs.Resumed.{branch_end, at_state, end_line, rest_text}
+use Rattle.polylab_engine.specs.Resumed.{branch_end, at_state, end_text, rest_text}
 use Rattle.polylab_engine.specs.declared.job.Job.{Job}
 use Rattle.polylab_engine.specs.declared.job.Job.TheVariants as jobs
 use Rattle.x_texts.specs.Words.{visit_words}
@@ -97,7 +97,7 @@ pub record TellsStretch (most : Option ℕ) (lists : Bool) (v : SnapshotValue) (
   pub part : visits_between v.problem start done ≡
       visits_between v.problem start v.state ++ visits_between v.problem v.state stop ++ visits_between v.problem stop done
   pub goes_on : IsSnapshot (at_state v stop)
-  pub ended : stop ≡ branch_end v → rest_text v stop ≡ end_line
+  pub ended : stop ≡ branch_end v → rest_text v stop ≡ end_text
   pub unended : (stop ≡ branch_end v → ⊥) → rest_text v stop ≡ snapshot_text (at_state v stop)
 
 -- what is written is what the job is to tell of the input's problem, puzzle or snapshot, or what the input's commands are answered

@@ -27,12 +27,12 @@ abbrev pub at_state : SnapshotValue → StateValue → SnapshotValue
 at_state v t = record v { state = t }
 
 -- the line that tells that the branch ended
-abbrev pub end_line : List ℕ
-end_line = line_text (codes "end" ∷ [])
+abbrev pub end_text : List ℕ
+end_text = line_text (codes "end" ∷ [])
 
 -- what stands last where a stretch stops at t: the snapshot there, or that the branch ended
 abbrev pub rest_text : SnapshotValue → StateValue → List ℕ
-rest_text v t = if comes_before v.problem t (branch_end v) then snapshot_text (at_state v t) else end_line
+rest_text v t = if comes_before v.problem t (branch_end v) then snapshot_text (at_state v t) else end_text
 
 -- what `resume` writes of a snapshot, with so many steps asked for, and with the visits or without them
 unfoldable pub resume_output : Option ℕ → Bool → SnapshotValue → List ℕ

@@ -1,7 +1,7 @@
 //! From the input's bytes to the output's.
 ghost use Rattle.std.specs.Prelude.{◌≡◌};
 ghost use Rattle.byte_streams.specs.Stream.{Takes};
-ghost use Rattle.polylab_engine.specs.Ending.{IsEnd, IsTold, IsRun, status_of};
+ghost use Rattle.polylab_engine.specs.Ending.{IsEnd, IsTold, IsProgramRun, status_of};
 
 use crate::answer::{Answer, answer_to};
 use crate::fault::{JobFault, pool_line};
@@ -97,7 +97,7 @@ fn work<R: Threads + Wait + Sync, G: Gate, I: Source, O: Sink>(
 /// What is written at status 0 is a function of the job and of the bytes read (`outcome`), and it lists exactly the
 /// exact covers of the input's problem, or the packings of its puzzle, each once, in path order, or tells how many
 /// these are, or what the search of its snapshot comes to from there on. It is the same for every number of workers
-/// and every gate; a gate sees the acts of workers who share a search. At 3 and 4 nothing is written. `IsRun` of
+/// and every gate; a gate sees the acts of workers who share a search. At 3 and 4 nothing is written. `IsProgramRun` of
 /// `specs/Ending.antt` says all this, fact by fact.
 pub fn run<R: Threads + Wait + Sync, G: Gate, I: Source, O: Sink, F: Sink>(
     rt: &R,
@@ -108,7 +108,7 @@ pub fn run<R: Threads + Wait + Sync, G: Gate, I: Source, O: Sink, F: Sink>(
     writer: &mut O,
     faults: &mut F,
 ) -> u8
-    ensures { IsRun job (I.stream reader.old) (I.stream reader.new) (O.stream writer.old) (O.stream writer.new)
+    ensures { IsProgramRun job (I.stream reader.old) (I.stream reader.new) (O.stream writer.old) (O.stream writer.new)
         (F.stream faults.old) (F.stream faults.new) result }
 {
     let workers = Workers {

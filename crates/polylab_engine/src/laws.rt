@@ -9,7 +9,7 @@ ghost use Rattle.x_snapshot.specs.Judged.{snapshot_of};
 ghost use Rattle.polylab_engine.specs.Output.{whole_report};
 ghost use Rattle.polylab_engine.specs.Stretch.{stretch_report};
 ghost use Rattle.polylab_engine.specs.Resumed.{branch_end};
-ghost use Rattle.polylab_engine.specs.Joined.{sum_of, after_slice, sliced, slice_reports, Join, part_reports};
+ghost use Rattle.polylab_engine.specs.Joined.{sum_of, after_slice, sliced, slice_reports, AreJoined, part_reports};
 
 /// A run that is cut in slices, each of which begins where the one before wrote its snapshot: the visits of the slices in order are the
 /// visits of the stretch from the first one's state to where the last one stopped, and the numbers of visits, steps and levels add up
@@ -34,8 +34,8 @@ pub fn slices_join()
 /// whole run, which `cover` reports.
 pub fn parts_join()
     ensures sum { (keeps : Bool) (p : ProblemValue) (s t : StateValue) →
-        (parts : List SnapshotValue) → Fits p s → Join p s parts t →
+        (parts : List SnapshotValue) → Fits p s → AreJoined p s parts t →
         sum_of (part_reports keeps parts) ≡ stretch_report keeps p s t }
     ensures whole { (keeps : Bool) (p : ProblemValue) (parts : List SnapshotValue) →
-        Join p start parts done → sum_of (part_reports keeps parts) ≡ whole_report keeps p }
+        AreJoined p start parts done → sum_of (part_reports keeps parts) ≡ whole_report keeps p }
 {}

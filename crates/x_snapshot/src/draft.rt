@@ -6,7 +6,6 @@ ghost use Rattle.x_snapshot.specs.Snapshot.{branch_between, started};
 ghost use Rattle.x_snapshot.specs.Judged.{judged_parts};
 ghost use Rattle.x_snapshot.specs.Reading.{parts_of};
 
-use crate::breakpoint::Break;
 use crate::fault::SnapshotFault;
 use crate::judging::{check_position, runner_at};
 use crate::reading::{fault_from, read_parts};
@@ -15,6 +14,7 @@ use std::alloc::Global;
 use std::marker::Model;
 use x_branches::Runner;
 use x_steps::State;
+use x_texts::Break;
 
 /// The parts that a text says. Its breakpoints can be met; whether its cuts and its state are on the run isn't judged.
 #[derive(Drop)]

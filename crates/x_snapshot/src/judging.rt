@@ -6,13 +6,14 @@ ghost use Rattle.x_snapshot.specs.Snapshot.{IsCutIfAny, IsOnRun, IsInside, IsSna
 ghost use Rattle.x_snapshot.specs.Snapshot.{branch_between, started};
 ghost use Rattle.x_snapshot.specs.Refusals.{cut_fault_of, start_fault_of, IsCutRefused, IsStartRefused, IsPositionRefused, IsRefused};
 
-use crate::breakpoint::{Break, check_breaks};
+use crate::breakpoint::check_breaks;
 use crate::fault::SnapshotFault;
 use cover_links::LinkTable;
 use cover_problem::{Problem, Table};
 use std::alloc::Global;
 use x_branches::{Branch, Cut, CutFault, Runner, RunnerFault, StartFault};
 use x_steps::{AtFault, State};
+use x_texts::Break;
 
 /// Why there is no cut.
 fn cut_fault(fault: CutFault) -> SnapshotFault

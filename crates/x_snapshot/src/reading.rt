@@ -14,7 +14,6 @@ mod lines;
 mod position;
 mod problem;
 
-use crate::breakpoint::Break;
 use crate::fault::SnapshotFault;
 use crate::snapshot::{PartsAfter, Snapshot, SnapshotParts};
 use crate::writing::needs_second;
@@ -28,6 +27,7 @@ pub use position::{is_state, state_from};
 use problem::problem_in;
 use std::alloc::Global;
 use text_lines::{Refusal, has_words};
+use x_texts::Break;
 
 /// What a part of a text says, or why it is refused.
 pub type Found<T> = Result<T, Refusal<SnapshotFault>>;

@@ -4,13 +4,13 @@ ghost use Rattle.x_steps.specs.StateView.{state_value};
 ghost use Rattle.x_snapshot.specs.Snapshot.{IsSnapshot, parts_value};
 ghost use Rattle.x_snapshot.specs.Refusals.{IsRefused};
 
-use crate::breakpoint::Break;
 use crate::fault::SnapshotFault;
 use crate::judging::check_parts;
 use cover_problem::Problem;
 use std::alloc::Global;
 use std::marker::Model;
 use x_steps::{Refused, State};
+use x_texts::Break;
 
 /// The parts of a snapshot: its problem, the paths of its low and its high cut, its state, and its breakpoints.
 pub type SnapshotParts = (

@@ -7,7 +7,6 @@ ghost use Rattle.x_texts.specs.declared.breakpoint.Break.{Break};
 ghost use Rattle.x_snapshot.specs.Reading as spec;
 ghost use Rattle.x_snapshot.specs.Reading.{keyed_line, found_or, most_breaks};
 
-use crate::breakpoint::Break;
 use crate::fault::SnapshotFault;
 use crate::reading::Found;
 use crate::reading::lines::{count_from, keyed, option_number};
@@ -15,6 +14,7 @@ use cover_problem::Problem;
 use indexmap::IndexSet;
 use std::alloc::Global;
 use text_lines::{Refusal, has_words, number, split_word};
+use x_texts::Break;
 
 /// The greatest number of nine digits.
 const MOST_BREAKS: u32 = 999_999_999;

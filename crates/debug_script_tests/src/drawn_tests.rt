@@ -2,7 +2,7 @@
 //! shown; and a search that is parted, saved and loaded at drawn positions has in the end the visits of one that
 //! runs through.
 
-use crate::debug_script_tests::answer;
+use crate::session_tests::answer;
 use cover_problem::{PlainTable, Problem, read_cover};
 use drawn_problems::{draw, drawn_narrow_options, text_of};
 use std::alloc::{AllocError, Global};

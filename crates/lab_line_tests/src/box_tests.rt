@@ -2,7 +2,7 @@
 
 use crate::class_tests::PENTOMINOES as PENTOMINO_PUZZLE;
 use crate::cover_tests::{cover, ends_with};
-use crate::poly_place_tests::{SOMA as SOMA_PUZZLE, ends_so};
+use crate::puzzle_tests::{SOMA as SOMA_PUZZLE, ends_so};
 use polylab_engine::Job;
 use std::alloc::{AllocError, Global};
 use std::fmt::Write;

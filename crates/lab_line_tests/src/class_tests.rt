@@ -1,6 +1,6 @@
 //! Classes of packings, from a puzzle's text to the output: worked by hand, and counts from the literature.
 
-use crate::poly_place_tests::{DOMINOES, OPTIONAL, SOMA, STRIP, ends_so};
+use crate::puzzle_tests::{DOMINOES, OPTIONAL, SOMA, STRIP, ends_so};
 use polylab_engine::Job;
 
 pub const FIVE_DOMINOES: &str =

@@ -1,6 +1,6 @@
 //! Whole inputs through `run`, with outputs that were worked out by hand or printed by other programs.
 
-use crate::poly_place_tests::ends_so;
+use crate::puzzle_tests::ends_so;
 use byte_streams::Watched;
 use drawn_problems::SMALL;
 use lab_pool::NoGate;

@@ -1,6 +1,6 @@
 //! Searches that are taken by commands, from the input to the output: rows that were worked by hand.
 
-use crate::poly_place_tests::ends_so;
+use crate::puzzle_tests::ends_so;
 use drawn_problems::SMALL;
 use polylab_engine::Job;
 use std::alloc::{AllocError, Global};

@@ -1,6 +1,6 @@
 //! Searches that go on from snapshots. The small problem's run was worked by hand.
 
-use crate::poly_place_tests::ends_so;
+use crate::puzzle_tests::ends_so;
 use drawn_problems::SMALL;
 use polylab_engine::Job;
 use std::alloc::{AllocError, Global};

@@ -3,7 +3,7 @@
 
 use crate::class_tests::FIVE_DOMINOES;
 use crate::cover_tests::{SMALL_OUTPUT, ends_with, equal_options};
-use crate::poly_place_tests::{SOMA, ends_so};
+use crate::puzzle_tests::{SOMA, ends_so};
 use byte_streams::Watched;
 use cover_problem::Problem;
 use drawn_problems::SMALL;

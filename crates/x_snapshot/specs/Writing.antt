@@ -12,18 +12,11 @@
 --
 -- In version 2 the breakpoints stand between `state` and `end`: a line with their number, and a line for each.
 use Rattle.std.specs.Prelude.{ℕ, ◌+◌, Bool, ◌||◌, nat_lt, if◌then◌else◌, List, [], ◌∷◌, ◌++◌, length, map, decimal, codes}
-use Rattle.std.specs.Prelude.{Option, Some}
-use Rattle.std.specs.Prelude as prelude
 use Rattle.text_lines.specs.Writing.{text_of}
-use Rattle.cover_problem.specs.Problem.{ProblemValue, name_at}
+use Rattle.cover_problem.specs.Problem.{ProblemValue}
 use Rattle.cover_problem.specs.Grammar.{word_lines, written}
-use Rattle.x_steps.specs.declared.state.Label.{Label}
-use Rattle.x_steps.specs.declared.state.Label.TheVariants.{X1, X2, X3, X4, X5, X6, X7, X8, Done}
-use Rattle.x_steps.specs.declared.state.Cursor.{Cursor}
-use Rattle.x_steps.specs.declared.state.Cursor.TheVariants as cursor
-use Rattle.x_steps.specs.StateValue.{StateValue}
 use Rattle.x_texts.specs.declared.breakpoint.Break.{Break}
-use Rattle.x_texts.specs.declared.breakpoint.Break.TheVariants as at
+use Rattle.x_texts.specs.Words.{cut_words, state_words, break_words}
 use Rattle.x_snapshot.specs.Snapshot.{SnapshotValue}
 
 -- whether the second version is needed: there are secondary items, or breakpoints

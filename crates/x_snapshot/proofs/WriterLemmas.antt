@@ -1,8 +1,7 @@
 -- How the writer's steps make the text of a snapshot.
 use Rattle.std.proofs.Common.{◌≡◌, ℕ, ◌+◌, ◌<◌, List, [], ◌∷◌, ◌++◌, length, drop, map, refl, ◌∙◌, ap, arith, decimal, codes, length-append, append_assoc, append-nil}
 use Rattle.std.proofs.lemmas.List.{length-map}
-use Rattle.text_lines.specs.Writing.{words_after, line_text, text_of}
-use Rattle.text_lines.proofs.WritingLemmas.{line_ends}
+use Rattle.text_lines.specs.Writing.{line_text, text_of}
 use Rattle.cover_problem.specs.Problem.{ProblemValue}
 use Rattle.cover_problem.specs.Grammar.{maybe_words, option_words, word_lines, written}
 use Rattle.x_steps.specs.StateValue.{StateValue}

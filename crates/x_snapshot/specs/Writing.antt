@@ -11,7 +11,7 @@
 --     end
 --
 -- In version 2 the breakpoints stand between `state` and `end`: a line with their number, and a line for each.
-use Rattle.std.specs.Prelude.{ℕ, ◌+◌, Bool, ◌||◌, nat_lt, if◌then◌else◌, List, [], ◌∷◌, ◌++◌, length, map, decimal, codes}
+use Rattle.std.specs.Prelude.{ℕ, Bool, ◌||◌, nat_lt, if◌then◌else◌, List, [], ◌∷◌, ◌++◌, length, map, decimal, codes}
 use Rattle.text_lines.specs.Writing.{text_of}
 use Rattle.cover_problem.specs.Problem.{ProblemValue}
 use Rattle.cover_problem.specs.Grammar.{word_lines, written}

@@ -1,4 +1,4 @@
-use Rattle.std.proofs.Common.{[], sym}
+use Rattle.std.proofs.Common.{sym}
 use Rattle.std.specs.Prelude.{is_ok}
 use Rattle.text_lines.specs.Lines.{words_of}
 use Rattle.x_snapshot.specs.Reading.{choices_from}

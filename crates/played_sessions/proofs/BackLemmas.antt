@@ -1,6 +1,5 @@
 -- A branch at work steps back, as worker 0 does.
-use Rattle.std.proofs.Common.{◌≡◌, ℕ, zero, suc, ◌≤◌, ◌<◌, Bool, true, false, Some, List, [], ◌∷◌, ◌++◌, replicate, refl, sym, ap, ◌∙◌, subst, arith}
-use Rattle.x_steps.specs.Before.{prev}
+use Rattle.std.proofs.Common.{◌≡◌, ℕ, zero, suc, ◌≤◌, ◌<◌, Bool, true, false, Some, List, [], ◌∷◌, ◌++◌, replicate, refl, sym, ap, subst, arith}
 use Rattle.x_branches.specs.Runner.{IsRunner}
 use Rattle.lab_book.specs.States.{same_state}
 use Rattle.lab_book.specs.Book.{BookValue}

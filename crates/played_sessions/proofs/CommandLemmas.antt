@@ -1,32 +1,28 @@
 -- What each command, each line and each text that is loaded leaves is what worker 0's acts make of the session's world.
-use Rattle.std.proofs.Common.{◌≡◌, ℕ, zero, suc, ◌==◌, Bool, true, false, cond, Option, Some, None, option_map, Result, Ok, Err, List, [], ◌∷◌}
+use Rattle.std.proofs.Common.{◌≡◌, ℕ, zero, suc, Bool, true, false, cond, Option, Some, None, option_map, Result, Ok, Err, List, [], ◌∷◌}
 use Rattle.std.proofs.Common.{◌<◌, refl, sym, ap, subst, arith}
-use Rattle.text_lines.specs.Writing.{line_text}
 use Rattle.cover_problem.specs.Problem.{ProblemValue, is_same}
 use Rattle.x_steps.specs.StateView.{state_value}
 use Rattle.x_snapshot.specs.declared.fault.SnapshotFault.{SnapshotFault}
 use Rattle.x_snapshot.specs.Snapshot.{SnapshotValue, choices_of}
 use Rattle.x_snapshot.specs.Judged.{snapshot_of}
-use Rattle.lab_book.specs.declared.fault.BookFault.TheVariants.{NotAtEnd, ForeignProblem}
+use Rattle.lab_book.specs.declared.fault.BookFault.TheVariants.{ForeignProblem}
 use Rattle.lab_book.specs.declared.entry.Call.{Call}
 use Rattle.lab_book.specs.declared.entry.Call.TheVariants as call
 use Rattle.lab_book.specs.Tile.{TileValue, is_held}
 use Rattle.lab_book.specs.Tiling.{tile_at}
 use Rattle.lab_book.specs.Book.{BookValue, book_step}
 use Rattle.lab_world.specs.declared.event.Act.{Act}
-use Rattle.lab_world.specs.declared.event.Act.TheVariants.{Back, Lease, LeaseAny, TakeHeld, Park, PutBack, RequestStop, Split, Retract}
+use Rattle.lab_world.specs.declared.event.Act.TheVariants.{Back, Lease, TakeHeld, Park, PutBack, RequestStop, Split, Retract}
 use Rattle.lab_world.specs.Worker.{WorkerValue}
-use Rattle.lab_world.specs.World.{WorldValue, IsWorld, IsSeat, turn, played, worker_at}
+use Rattle.lab_world.specs.World.{IsWorld, IsSeat, turn, worker_at}
 use Rattle.debug_language.specs.declared.command.Command.{Command}
 use Rattle.debug_language.specs.declared.command.Command.TheVariants as commands
-use Rattle.debug_language.specs.declared.words.Plain.TheVariants.{Closed}
 use Rattle.debug_language.specs.Command.{CommandValue, command_value}
-use Rattle.debug_language.specs.Reading.{command_of}
-use Rattle.debug_views.specs.Lines.{plain, state_line, book_refusal}
+use Rattle.debug_views.specs.Lines.{state_line, book_refusal}
 use Rattle.debug_views.specs.Tiles.{answer_of_tile, hold, put_back, place_at}
 use Rattle.debug_acts.specs.Desk.{desk}
 use Rattle.debug_acts.specs.Walking.{work, steps_ahead, step_count, run_count, back_count, unposted_steps}
-use Rattle.debug_acts.specs.Giving.{closed, not_closed}
 use Rattle.debug_acts.specs.Entering.{entered_at, enter, lent_by}
 use Rattle.debug_acts.proofs.WalkedLemmas.{least_within}
 use Rattle.x_debug.specs.Session.{SessionValue, fresh_session, entered}
@@ -35,10 +31,10 @@ use Rattle.x_debug.specs.Loading.{answers, load_by, load_answer, loaded}
 use Rattle.alike_sessions.specs.AlikeSessions.{IsSoundSession}
 use Rattle.alike_sessions.proofs.WorkLemmas.{IsSoundWork}
 use Rattle.alike_sessions.proofs.SoundLemmas.{work_of, run_within, line_sound}
-use Rattle.played_sessions.specs.PlayedSessions.{seated_at, world_of, events, rest_acts, walk_acts, close_acts, if_working, if_idle}
+use Rattle.played_sessions.specs.PlayedSessions.{seated_at, world_of, if_working, if_idle}
 use Rattle.played_sessions.specs.PlayedSessions.{enter_act, place_acts, acts_of, IsRead, line_acts, after_lines, AreRead, all_acts}
 use Rattle.played_sessions.specs.PlayedSessions.{entered_world, whole_book, snapshot_book, loaded_world}
-use Rattle.played_sessions.proofs.PlayLemmas.{Leads, one_act, then_acts}
+use Rattle.played_sessions.proofs.PlayLemmas.{Leads, then_acts}
 use Rattle.played_sessions.proofs.WalkLemmas.{forward_leads}
 use Rattle.played_sessions.proofs.BackLemmas.{back_leads}
 use Rattle.played_sessions.proofs.PartLemmas.{split_leads, retract_leads}

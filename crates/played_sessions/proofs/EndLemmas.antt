@@ -1,5 +1,5 @@
 -- A branch at work is parked or closed, as worker 0 does.
-use Rattle.std.proofs.Common.{◌≡◌, ℕ, ◌==◌, nat_lt, Bool, true, false, cond, Some, None, List, [], ◌∷◌, ◌++◌, refl, sym, ap, ◌∙◌, arith}
+use Rattle.std.proofs.Common.{◌≡◌, ℕ, ◌==◌, nat_lt, Bool, true, false, cond, Some, None, [], ◌∷◌, ◌++◌, refl, sym, ap, ◌∙◌, arith}
 use Rattle.std.proofs.Common.{eqb-true, ltb-false}
 use Rattle.std.proofs.lemmas.Bool.{false≢true}
 use Rattle.text_lines.specs.Writing.{line_text}

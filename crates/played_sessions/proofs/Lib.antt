@@ -4,3 +4,4 @@ pub mod BackLemmas
 pub mod PartLemmas
 pub mod EndLemmas
 pub mod CommandLemmas
+pub mod PlayedExamples

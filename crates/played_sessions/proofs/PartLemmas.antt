@@ -1,12 +1,12 @@
 -- A branch at work is parted, or its last stretch is taken out, as worker 0 does.
-use Rattle.std.proofs.Common.{◌≡◌, ℕ, ◌==◌, Bool, true, false, cond, Some, Result, Ok, Err, List, [], ◌∷◌, refl, ap}
+use Rattle.std.proofs.Common.{◌≡◌, ℕ, ◌==◌, Bool, true, false, cond, Some, Result, Ok, Err, [], ◌∷◌, refl, ap}
 use Rattle.cover_problem.specs.Lists.{has}
 use Rattle.x_branches.specs.declared.fault.RunnerFault.TheVariants.{NotAtMark}
 use Rattle.x_branches.specs.Refusals.{untried_in}
 use Rattle.x_branches.specs.Untried.{with_choice}
 use Rattle.lab_book.specs.declared.fault.BookFault.{BookFault}
 use Rattle.lab_book.specs.declared.entry.Call.TheVariants as call
-use Rattle.lab_book.specs.Book.{Outcome, outcome, book_step, found, made_at, retracted, lease_fault, retract_fault}
+use Rattle.lab_book.specs.Book.{Outcome, outcome, found, made_at, retracted, lease_fault, retract_fault}
 use Rattle.lab_world.specs.declared.event.Act.TheVariants.{Split, Retract}
 use Rattle.lab_world.specs.declared.event.WorldReply.TheVariants as world
 use Rattle.lab_world.specs.Worker.{WorkerValue, cut_at, split_call, after_split, after_retract}

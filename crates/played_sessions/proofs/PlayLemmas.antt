@@ -1,5 +1,5 @@
 -- Acts of worker 0, one after another, in a world of one worker.
-use Rattle.std.proofs.Common.{◌≡◌, Option, Some, List, [], ◌∷◌, ◌++◌, map, refl, ap, ap₂, ◌∙◌}
+use Rattle.std.proofs.Common.{◌≡◌, Option, Some, List, [], ◌∷◌, ◌++◌, refl, ap, ap₂, ◌∙◌}
 use Rattle.std.proofs.lemmas.List.{map-append}
 use Rattle.lab_book.specs.Book.{BookValue}
 use Rattle.lab_world.specs.declared.event.Act.{Act}

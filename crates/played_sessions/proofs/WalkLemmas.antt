@@ -1,7 +1,6 @@
 -- A branch at work posts and steps on, as worker 0 does.
-use Rattle.std.proofs.Common.{◌≡◌, ℕ, zero, suc, ◌≤◌, ◌<◌, ◌==◌, nat_lt, Bool, true, false, cond, Some, List, [], ◌∷◌, refl, sym, ap, ◌∙◌}
-use Rattle.std.proofs.Common.{subst, arith}
-use Rattle.cover_problem.specs.Problem.{is_same}
+use Rattle.std.proofs.Common.{◌≡◌, ℕ, zero, suc, ◌≤◌, ◌<◌, ◌==◌, nat_lt, Bool, true, false, cond, Some, List, [], ◌∷◌, ◌++◌, refl, sym, ap}
+use Rattle.std.proofs.Common.{◌∙◌, subst, arith}
 use Rattle.cover_problem.proofs.ProblemLemmas.{is_same_decides}
 use Rattle.x_steps.specs.Steps.{next}
 use Rattle.x_steps.specs.Run.{steps_between}
@@ -14,16 +13,16 @@ use Rattle.lab_book.specs.States.{same_state}
 use Rattle.lab_book.specs.Book.{Outcome, outcome, book_step}
 use Rattle.lab_book.specs.Calls.{post_of}
 use Rattle.lab_book.proofs.TileLemmas.{same_state_is}
+use Rattle.lab_world.specs.declared.event.Act.{Act}
 use Rattle.lab_world.specs.declared.event.Act.TheVariants.{Step, Post}
 use Rattle.lab_world.specs.Worker.{WorkerValue, unposted, unposted_steps, moved_to, after_post}
-use Rattle.lab_world.specs.World as world
-use Rattle.lab_world.specs.World.{Turn, turn}
+use Rattle.lab_world.specs.World.{WorldValue, turn, worker_at, played}
 use Rattle.debug_acts.specs.Walking.{AtWork, work, steps_ahead, state_on, post_call, posted, posted_if_any, stepped, forward}
 use Rattle.debug_acts.proofs.PostLemmas.{granted}
 use Rattle.debug_acts.proofs.ForwardLemmas.{can_walk, ahead_is}
 use Rattle.debug_acts.proofs.WalkLemmas.{on_problem, on_branch, on_position}
 use Rattle.alike_sessions.proofs.WorkLemmas.{IsSoundWork, here_fits, room_sound, forward_sound}
-use Rattle.played_sessions.specs.PlayedSessions.{rest_acts, step_acts, walk_acts}
+use Rattle.played_sessions.specs.PlayedSessions.{seated_at, events, rest_acts, step_acts, if_working, walk_acts}
 use Rattle.played_sessions.proofs.PlayLemmas.{LeadsTo, one_act, then_acts}
 
 module _ (u : AtWork) (s : IsSoundWork u) where
@@ -90,14 +89,20 @@ stepped_leads u s some = by (unposted_steps u.worker == most_steps) refl
 
 -- ---- many steps
 
-pub forward_leads : (u : AtWork) → IsSoundWork u → (n : ℕ) → n ≤ steps_ahead u.worker.runner → LeadsTo u (walk_acts n u) (forward n u)
+pub forward_leads : (u : AtWork) → IsSoundWork u → (n : ℕ) → n ≤ steps_ahead u.worker.runner
+    → LeadsTo u (walk_acts n (seated_at u.book (Some u.worker))) (forward n u)
 forward_leads u s zero l = refl
 forward_leads u s (suc n) l =
     let r = u.worker.runner in
+    let before = walk_acts n (seated_at u.book (Some u.worker)) in
+    let led : LeadsTo u before (forward n u) = forward_leads u s n (omega arith) in
     let can = can_walk u.book u.worker s.tiling s.holds s.runner in
     let ahead : steps_ahead (forward n u).worker.runner ≡ steps_between r.problem (state_on r n) (end_of r.branch.hi) =
     (λ j. steps_between (on_problem n u j) (on_position n u j) (end_of (on_branch n u j).hi)) in
     let rest = ahead_is r can n (omega arith) in
-    then_acts u.book (forward n u).book (forward (suc n) u).book (Some u.worker) (Some (forward n u).worker)
-    (Some (forward (suc n) u).worker) (walk_acts n u) (step_acts (forward n u).worker) (forward_leads u s n (omega arith))
-    (stepped_leads (forward n u) (forward_sound u s n (omega arith)) (omega arith))
+    let one = stepped_leads (forward n u) (forward_sound u s n (omega arith)) (omega arith) in
+    let here : if_working (worker_at (played (seated_at u.book (Some u.worker)) (events before)).workers 0) step_acts
+    ≡ step_acts (forward n u).worker = ap (λ (v : WorldValue). if_working (worker_at v.workers 0) step_acts) led in
+    subst (λ (acts : List Act). LeadsTo u (before ++ acts) (forward (suc n) u)) (sym here)
+    (then_acts u.book (forward n u).book (forward (suc n) u).book (Some u.worker) (Some (forward n u).worker)
+    (Some (forward (suc n) u).worker) before (step_acts (forward n u).worker) led one)

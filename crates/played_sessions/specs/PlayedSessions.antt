@@ -1,8 +1,9 @@
 -- Sessions as worlds: a session of the debugger is a world of one worker, worker 0. Each command is a list of that worker's acts, and
 -- what a session is left as by the words of its own (`forward`, `parked` ..) is what `played` makes of its world by them.
 --
--- Example: a new session of the small problem is the world whose worker leased the first tile that waits; `step 2` is two steps there,
--- and `park` after that a post and a park. proofs/PlayedExamples.antt computes it.
+-- Example: a new session of the small problem is the world whose worker leased tile 0, the first that waits. There `step 2` is two steps,
+-- `park` a park alone, since nothing is unposted, `hold start` a call that asks tile 0 to stop, and `open start` no act, since a branch is
+-- open. proofs/PlayedExamples.antt computes it.
 use Rattle.std.specs.Prelude.{ℕ, zero, suc, ◌≡◌, ◌==◌, nat_lt, Option, Some, None, option_map, Result, Ok, Err, List, [], ◌∷◌, ◌++◌}
 use Rattle.std.specs.Prelude.{map, replicate, if◌then◌else◌}
 use Rattle.cover_problem.specs.Problem.{ProblemValue, is_same}
@@ -18,13 +19,13 @@ use Rattle.lab_world.specs.declared.event.Act.TheVariants.{Step, Back, Lease, Le
 use Rattle.lab_world.specs.declared.event.Act.TheVariants.{RequestStop}
 use Rattle.lab_world.specs.declared.event.WorldEvent.{WorldEvent}
 use Rattle.lab_world.specs.Worker.{WorkerValue, unposted_steps}
-use Rattle.lab_world.specs.World.{WorldValue, played, fresh}
+use Rattle.lab_world.specs.World.{WorldValue, worker_at, played, fresh}
 use Rattle.debug_language.specs.declared.command.Command.{Command}
 use Rattle.debug_language.specs.declared.command.Command.TheVariants as commands
 use Rattle.debug_language.specs.Command.{command_value}
 use Rattle.debug_language.specs.Reading.{command_of}
 use Rattle.debug_views.specs.Tiles.{place_at}
-use Rattle.debug_acts.specs.Walking.{AtWork, work, forward, steps_ahead, step_count, run_count, back_count}
+use Rattle.debug_acts.specs.Walking.{steps_ahead, step_count, run_count, back_count}
 use Rattle.x_debug.specs.Session.{SessionValue}
 use Rattle.x_debug.specs.Commands.{answer_if, answer_line}
 
@@ -56,11 +57,6 @@ rest_acts w = if nat_lt 0 (unposted_steps w) then Post ∷ [] else []
 abbrev pub step_acts : WorkerValue → List Act
 step_acts w = if unposted_steps w == most_steps then Post ∷ Step ∷ [] else Step ∷ []
 
--- so many steps
-abbrev pub walk_acts : ℕ → AtWork → List Act
-walk_acts zero a = []
-walk_acts (suc n) a = walk_acts n a ++ step_acts (forward n a).worker
-
 -- the tile is closed: at the branch's end what isn't posted is posted first, and before the end the book refuses it
 abbrev pub close_acts : WorkerValue → List Act
 close_acts w = if steps_ahead w.runner == 0 then rest_acts w ++ Close ∷ [] else Close ∷ []
@@ -70,7 +66,12 @@ abbrev pub if_working : Option WorkerValue → (WorkerValue → List Act) → Li
 if_working None f = []
 if_working (Some w) f = f w
 
--- and what is done where none is open
+-- so many steps, each from where those before it led
+abbrev pub walk_acts : ℕ → WorldValue → List Act
+walk_acts zero v = []
+walk_acts (suc n) v = walk_acts n v ++ if_working (worker_at (played v (events (walk_acts n v))).workers 0) step_acts
+
+-- what is done where none is open
 abbrev pub if_idle : Option WorkerValue → List Act → List Act
 if_idle None acts = acts
 if_idle (Some w) acts = []
@@ -94,8 +95,8 @@ tile_acts b lo make = place_acts b.tiles make (place_at lo b.tiles)
 
 -- what worker 0 does when session s is given a command; what is shown and what is set are no acts
 unfoldable pub acts_of : SessionValue → Command → List Act
-acts_of s (commands.Step n) = if_working s.worker (λ w. walk_acts (step_count w.runner n) (work s.book w))
-acts_of s commands.Run = if_working s.worker (λ w. walk_acts (run_count s.breaks w.runner) (work s.book w))
+acts_of s (commands.Step n) = if_working s.worker (λ w. walk_acts (step_count w.runner n) (seated_at s.book (Some w)))
+acts_of s commands.Run = if_working s.worker (λ w. walk_acts (run_count s.breaks w.runner) (seated_at s.book (Some w)))
 acts_of s (commands.Back n) = if_working s.worker (λ w. replicate (back_count w.runner n) Back)
 acts_of s (commands.Split level option) = if_working s.worker (λ w. Split level option ∷ [])
 acts_of s commands.Park = if_working s.worker (λ w. rest_acts w ++ Park ∷ [])

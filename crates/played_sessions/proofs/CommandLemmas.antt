@@ -13,7 +13,7 @@ use Rattle.lab_book.specs.Tile.{TileValue, is_held}
 use Rattle.lab_book.specs.Tiling.{tile_at}
 use Rattle.lab_book.specs.Book.{BookValue, book_step}
 use Rattle.lab_world.specs.declared.event.Act.{Act}
-use Rattle.lab_world.specs.declared.event.Act.TheVariants.{Back, Lease, TakeHeld, Park, PutBack, RequestStop, Split, Retract}
+use Rattle.lab_world.specs.declared.event.Act.TheVariants.{Lease, TakeHeld, PutBack, RequestStop}
 use Rattle.lab_world.specs.Worker.{WorkerValue}
 use Rattle.lab_world.specs.World.{IsWorld, IsSeat, turn, worker_at}
 use Rattle.debug_language.specs.declared.command.Command.{Command}
@@ -21,7 +21,6 @@ use Rattle.debug_language.specs.declared.command.Command.TheVariants as commands
 use Rattle.debug_language.specs.Command.{CommandValue, command_value}
 use Rattle.debug_views.specs.Lines.{state_line, book_refusal}
 use Rattle.debug_views.specs.Tiles.{answer_of_tile, hold, put_back, place_at}
-use Rattle.debug_acts.specs.Desk.{desk}
 use Rattle.debug_acts.specs.Walking.{work, steps_ahead, step_count, run_count, back_count, unposted_steps}
 use Rattle.debug_acts.specs.Entering.{entered_at, enter, lent_by}
 use Rattle.debug_acts.proofs.WalkedLemmas.{least_within}

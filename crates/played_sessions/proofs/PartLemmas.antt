@@ -13,7 +13,7 @@ use Rattle.lab_world.specs.Worker.{WorkerValue, cut_at, split_call, after_split,
 use Rattle.lab_world.specs.World.{Turn, turn, stays, called, cut_refusal}
 use Rattle.lab_world.proofs.SplitLemmas.{split_is}
 use Rattle.debug_views.specs.Lines.{runner_refusal}
-use Rattle.debug_acts.specs.Walking.{AtWork, work, unposted_steps}
+use Rattle.debug_acts.specs.Walking.{AtWork, unposted_steps}
 use Rattle.debug_acts.specs.Parting.{WorkAnswer, answered, no_cut, parted, parted_line, split, book_asked, retracted_by, retract}
 use Rattle.alike_sessions.proofs.WorkLemmas.{IsSoundWork, asked_reply}
 use Rattle.played_sessions.specs.PlayedSessions.{seated_at}

@@ -1,8 +1,11 @@
 -- The example of specs/PlayedSessions.antt, computed on the small problem: a new session, whose worker has tile 0 open at its start.
-use Rattle.std.proofs.Common.{◌≡◌, ℕ, zero, suc, ◌<◌, ◌==◌, nat_lt, cond, Some, None, List, [], ◌∷◌, ◌++◌, refl, ap, ap₂, ◌∙◌, arith, codes}
+use Rattle.std.proofs.Common.{◌≡◌, ℕ, zero, suc, ◌<◌, ◌==◌, nat_lt, cond, Some, None, [], ◌∷◌, ◌++◌, refl, ap, ◌∙◌, arith, codes}
+use Rattle.cover_problem.specs.Covering.{active}
+use Rattle.cover_problem.specs.Path.{covered_by}
 use Rattle.cover_problem.proofs.CoverExamples.{small}
-use Rattle.x_steps.specs.declared.state.Label.TheVariants.{Done}
-use Rattle.x_steps.specs.StateValue.{start, done}
+use Rattle.x_steps.specs.declared.state.Label.TheVariants.{X3, Done}
+use Rattle.x_steps.specs.declared.state.Cursor.TheVariants as cursor
+use Rattle.x_steps.specs.StateValue.{at, start}
 use Rattle.x_steps.specs.Steps.{next}
 use Rattle.x_steps.specs.Run.{after, steps_between}
 use Rattle.x_steps.proofs.RunLemmas.{start_fits, steps_between_is}
@@ -11,16 +14,14 @@ use Rattle.x_steps.proofs.StepExamples.{forty_three_steps}
 use Rattle.x_branches.specs.Refusals.{most_steps}
 use Rattle.lab_book.specs.Book.{outcome}
 use Rattle.lab_book.specs.States.{same_state}
-use Rattle.lab_world.specs.declared.event.Act.{Act}
 use Rattle.lab_world.specs.declared.event.Act.TheVariants.{Step, Post, Park, RequestStop}
 use Rattle.lab_world.specs.Worker.{WorkerValue, runner_at, moved_to}
-use Rattle.lab_world.specs.World.{turn}
+use Rattle.lab_world.specs.World.{turn, played, state_of}
 use Rattle.debug_language.specs.declared.command.Command.TheVariants as commands
 use Rattle.debug_language.specs.Reading.{command_from, long_command, plain_command}
 use Rattle.debug_acts.specs.Walking.{smaller_of}
 use Rattle.x_debug.specs.Session.{fresh_session}
-use Rattle.played_sessions.specs.PlayedSessions.{seated_at, step_acts, walk_acts, acts_of, IsRead}
-use Rattle.played_sessions.proofs.PlayLemmas.{Leads}
+use Rattle.played_sessions.specs.PlayedSessions.{world_of, events, seated_at, step_acts, walk_acts, acts_of, IsRead}
 
 -- the worker that has tile 0
 abbrev opened : WorkerValue
@@ -74,3 +75,8 @@ unfolding acts_of outcome turn same_state
 two_steps =
     let v = seated_at (fresh_session small).book (Some opened) in
     ap (λ (n : ℕ). walk_acts (smaller_of 2 n) v) forty_three_steps ∙ rw (one_act, nothing_unposted, one_unposted) refl
+
+-- and they lead to X3, with no choice made
+stands_at : state_of (played (world_of (fresh_session small)) (events (Step ∷ Step ∷ []))) 0 ≡ Some (at X3 [] cursor.None)
+unfolding outcome turn same_state next covered_by active
+stands_at = rw (nothing_unposted, one_unposted) refl

@@ -1,5 +1,6 @@
 -- A branch at work steps back, as worker 0 does.
-use Rattle.std.proofs.Common.{◌≡◌, ℕ, zero, suc, ◌≤◌, ◌<◌, Bool, true, false, Some, List, [], ◌∷◌, ◌++◌, replicate, refl, sym, ap, subst, arith}
+use Rattle.std.proofs.Common.{◌≡◌, ℕ, zero, suc, ◌≤◌, ◌<◌, Bool, true, false, Some, List, [], ◌∷◌, ◌++◌}
+use Rattle.std.proofs.Common.{replicate, refl, sym, ap, subst, arith}
 use Rattle.x_branches.specs.Runner.{IsRunner}
 use Rattle.lab_book.specs.States.{same_state}
 use Rattle.lab_book.specs.Book.{BookValue}
@@ -27,7 +28,9 @@ module _ (b : BookValue) (x : WorkerValue) (k : IsRunner x.runner) where
     where
       by : (v : Bool) → same_state (state_back x.runner n) x.runner.mark ≡ v → v ≡ false
       by false e = refl
-      by true e = let all = all_back x.runner k n (omega arith) (same_state_is (state_back x.runner n) x.runner.mark e) in absurd (omega arith)
+      by true e =
+          let all = all_back x.runner k n (omega arith) (same_state_is (state_back x.runner n) x.runner.mark e) in
+          absurd (omega arith)
 
   one_back : (n : ℕ) → n < unposted_steps x.runner → Leads b (Some (stood n)) (Back ∷ []) b (Some (stood (suc n)))
   unfolding turn

@@ -1,6 +1,6 @@
 -- What each command, each line and each text that is loaded leaves is what worker 0's acts make of the session's world.
 use Rattle.std.proofs.Common.{◌≡◌, ℕ, zero, suc, Bool, true, false, cond, Option, Some, None, option_map, Result, Ok, Err, List, [], ◌∷◌}
-use Rattle.std.proofs.Common.{◌<◌, refl, sym, ap, subst, arith}
+use Rattle.std.proofs.Common.{◌<◌, refl, sym, ap, ◌∙◌, subst, arith}
 use Rattle.cover_problem.specs.Problem.{ProblemValue, is_same}
 use Rattle.x_steps.specs.StateView.{state_value}
 use Rattle.x_snapshot.specs.declared.fault.SnapshotFault.{SnapshotFault}
@@ -13,9 +13,9 @@ use Rattle.lab_book.specs.Tile.{TileValue, is_held}
 use Rattle.lab_book.specs.Tiling.{tile_at}
 use Rattle.lab_book.specs.Book.{BookValue, book_step}
 use Rattle.lab_world.specs.declared.event.Act.{Act}
-use Rattle.lab_world.specs.declared.event.Act.TheVariants.{Lease, TakeHeld, PutBack, RequestStop}
+use Rattle.lab_world.specs.declared.event.Act.TheVariants.{Lease, LeaseAny, TakeHeld, PutBack, RequestStop}
 use Rattle.lab_world.specs.Worker.{WorkerValue}
-use Rattle.lab_world.specs.World.{IsWorld, IsSeat, turn, worker_at}
+use Rattle.lab_world.specs.World.{WorldValue, IsWorld, IsSeat, turn, worker_at, played, fresh}
 use Rattle.debug_language.specs.declared.command.Command.{Command}
 use Rattle.debug_language.specs.declared.command.Command.TheVariants as commands
 use Rattle.debug_language.specs.Command.{CommandValue, command_value}
@@ -29,8 +29,8 @@ use Rattle.x_debug.specs.Commands.{Answer, says, if_open, if_none_open, on_desk,
 use Rattle.x_debug.specs.Loading.{answers, load_by, load_answer, loaded}
 use Rattle.alike_sessions.specs.AlikeSessions.{IsSoundSession}
 use Rattle.alike_sessions.proofs.WorkLemmas.{IsSoundWork}
-use Rattle.alike_sessions.proofs.SoundLemmas.{work_of, run_within, line_sound}
-use Rattle.played_sessions.specs.PlayedSessions.{seated_at, world_of, if_working, if_idle}
+use Rattle.alike_sessions.proofs.SoundLemmas.{work_of, run_within, line_sound, fresh_sound}
+use Rattle.played_sessions.specs.PlayedSessions.{seated_at, world_of, events, if_working, if_idle}
 use Rattle.played_sessions.specs.PlayedSessions.{enter_act, place_acts, acts_of, IsRead, line_acts, after_lines, AreRead, all_acts}
 use Rattle.played_sessions.specs.PlayedSessions.{entered_world, whole_book, snapshot_book, loaded_world}
 use Rattle.played_sessions.proofs.PlayLemmas.{Leads, then_acts}
@@ -100,8 +100,10 @@ module _ (s : SessionValue) (h : IsSoundSession s) where
   pub gives : (c : Command) → Gives s (acts_of s c) (answer s (command_value c)).session
   unfolding answer acts_of hold put_back turn
   gives commands.Nothing = refl
-  gives (commands.Step n) = open_gives _ _ (λ w p. forward_leads (work s.book w) p (step_count w.runner n) (least_within n (steps_ahead w.runner)))
-  gives commands.Run = open_gives _ _ (λ w p. forward_leads (work s.book w) p (run_count s.breaks w.runner) (run_within s.breaks w.runner))
+  gives (commands.Step n) =
+      open_gives _ _ (λ w p. forward_leads (work s.book w) p (step_count w.runner n) (least_within n (steps_ahead w.runner)))
+  gives commands.Run =
+      open_gives _ _ (λ w p. forward_leads (work s.book w) p (run_count s.breaks w.runner) (run_within s.breaks w.runner))
   gives (commands.Back n) =
       open_gives _ _ (λ w p. back_leads s.book w p.runner (back_count w.runner n) (least_within n (unposted_steps w.runner)))
   gives (commands.Break b) = refl
@@ -157,6 +159,14 @@ entered_gives b = refl
 
 pub fresh_gives : (p : ProblemValue) → world_of (fresh_session p) ≡ entered_world (whole_book p)
 fresh_gives p = entered_gives (whole_book p)
+
+-- the whole of a session, from its start
+pub whole_gives : (p : ProblemValue) (lines : List (List ℕ)) (cs : List (Option Command)) → AreRead (fresh_session p) lines cs
+    → world_of (after_lines (fresh_session p) lines)
+    ≡ played (fresh (whole_book p) 1) (events (LeaseAny ∷ all_acts (fresh_session p) cs))
+whole_gives p lines cs r =
+    sym (lines_give (fresh_session p) (fresh_sound p) lines cs r)
+    ∙ ap (λ (v : WorldValue). played v (events (all_acts (fresh_session p) cs))) (fresh_gives p)
 
 pub load_gives : (s : SessionValue) (bytes : List ℕ) → world_of (load_answer s bytes).session ≡ loaded_world s (snapshot_of bytes)
 unfolding load_answer

@@ -128,6 +128,7 @@ module _ (u : AtWork) (s : IsSoundWork u) where
   closing_leads = by (steps_ahead u.worker.runner == 0) refl
     where
       by : (b : Bool) → (steps_ahead u.worker.runner == 0) ≡ b
-          → Leads u.book (Some u.worker) (cond b (rest_acts u.worker ++ Close ∷ []) (Close ∷ [])) (closing b).desk.book (closing b).desk.worker
+          → Leads u.book (Some u.worker) (cond b (rest_acts u.worker ++ Close ∷ []) (Close ∷ [])) (closing b).desk.book
+          (closing b).desk.worker
       by true e = closed_leads (eqb-true (steps_ahead u.worker.runner) 0 e)
       by false e = not_closed_leads u s (not_at_end u s e)

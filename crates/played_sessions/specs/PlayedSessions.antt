@@ -15,8 +15,8 @@ use Rattle.lab_book.specs.Tile.{TileValue, is_held}
 use Rattle.lab_book.specs.Tiling.{tile_at}
 use Rattle.lab_book.specs.Book.{BookValue, new_book}
 use Rattle.lab_world.specs.declared.event.Act.{Act}
-use Rattle.lab_world.specs.declared.event.Act.TheVariants.{Step, Back, Lease, LeaseAny, TakeHeld, Post, Split, Retract, Park, Close, PutBack}
-use Rattle.lab_world.specs.declared.event.Act.TheVariants.{RequestStop}
+use Rattle.lab_world.specs.declared.event.Act.TheVariants.{Step, Back, Lease, LeaseAny, TakeHeld, Post, Split, Retract, Park, Close}
+use Rattle.lab_world.specs.declared.event.Act.TheVariants.{PutBack, RequestStop}
 use Rattle.lab_world.specs.declared.event.WorldEvent.{WorldEvent}
 use Rattle.lab_world.specs.Worker.{WorkerValue, unposted_steps}
 use Rattle.lab_world.specs.World.{WorldValue, worker_at, played, fresh}

@@ -1,5 +1,5 @@
 use Rattle.std.proofs.Common.{sym}
-use Rattle.played_sessions.proofs.CommandLemmas.{gives, line_gives, lines_give, fresh_gives, load_gives, sound_world}
+use Rattle.played_sessions.proofs.CommandLemmas.{gives, line_gives, lines_give, fresh_gives, whole_gives, load_gives, sound_world}
 use Rattle.played_sessions.proofs.laws.session_is_played.Goals as goal
 
 pub returns-clause-command : goal.returns-clause-command
@@ -13,6 +13,9 @@ returns-clause-session c = λ s lines cs h r. sym (lines_give s h lines cs r)
 
 pub returns-clause-fresh : goal.returns-clause-fresh
 returns-clause-fresh c = fresh_gives
+
+pub returns-clause-whole : goal.returns-clause-whole
+returns-clause-whole c = whole_gives
 
 pub returns-clause-load : goal.returns-clause-load
 returns-clause-load c = load_gives

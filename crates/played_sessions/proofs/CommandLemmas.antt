@@ -30,8 +30,8 @@ use Rattle.x_debug.specs.Loading.{answers, load_by, load_answer, loaded}
 use Rattle.alike_sessions.specs.AlikeSessions.{IsSoundSession}
 use Rattle.alike_sessions.proofs.WorkLemmas.{IsSoundWork}
 use Rattle.alike_sessions.proofs.SoundLemmas.{work_of, run_within, line_sound, fresh_sound}
-use Rattle.played_sessions.specs.PlayedSessions.{seated_at, world_of, events, if_working, if_idle}
-use Rattle.played_sessions.specs.PlayedSessions.{enter_act, place_acts, acts_of, IsRead, line_acts, after_lines, AreRead, all_acts}
+use Rattle.played_sessions.specs.PlayedSessions.{seated_at, world_of, events, if_at_work, if_idle}
+use Rattle.played_sessions.specs.PlayedSessions.{enter_act, place_acts, acts_of, IsRead, line_acts, left_by_lines, AreRead, all_acts}
 use Rattle.played_sessions.specs.PlayedSessions.{entered_world, whole_book, snapshot_book, loaded_world}
 use Rattle.played_sessions.proofs.PlayLemmas.{Leads, then_acts}
 use Rattle.played_sessions.proofs.WalkLemmas.{forward_leads}
@@ -50,11 +50,11 @@ module _ (s : SessionValue) (h : IsSoundSession s) where
   open_gives : (f : WorkerValue → Answer) (g : WorkerValue → List Act)
       → ((w : WorkerValue) → IsSoundWork (work s.book w)
       → Leads s.book (Some w) (g w) (f w).session.book (f w).session.worker)
-      → Gives s (if_working s.worker g) (if_open s s.worker f).session
+      → Gives s (if_at_work s.worker g) (if_open s s.worker f).session
   open_gives f g some = by s.worker refl
     where
       by : (x : Option WorkerValue) → s.worker ≡ x
-          → Leads s.book x (if_working x g) (if_open s x f).session.book (if_open s x f).session.worker
+          → Leads s.book x (if_at_work x g) (if_open s x f).session.book (if_open s x f).session.worker
       by None e = ap (seated_at s.book) (sym e)
       by (Some w) e = some w (work_of s h w e)
 
@@ -138,11 +138,11 @@ module _ (s : SessionValue) (h : IsSoundSession s) where
 
 -- and many
 pub lines_give : (s : SessionValue) → IsSoundSession s → (lines : List (List ℕ)) (cs : List (Option Command)) → AreRead s lines cs
-    → Gives s (all_acts s cs) (after_lines s lines)
+    → Gives s (all_acts s cs) (left_by_lines s lines)
 lines_give s h [] [] r = refl
 lines_give s h (line ∷ lines) (c ∷ cs) r =
     let new = (answer_line s line).session in
-    let last = after_lines new lines in
+    let last = left_by_lines new lines in
     let same : all_acts new cs ≡ all_acts (answer_if s (option_map command_value c)).session cs =
     ap (λ (o : Option CommandValue). all_acts (answer_if s o).session cs) r.0 in
     let more = subst (λ (acts : List Act). Gives new acts last) same (lines_give new (line_sound s h line) lines cs r.1) in
@@ -162,7 +162,7 @@ fresh_gives p = entered_gives (whole_book p)
 
 -- the whole of a session, from its start
 pub whole_gives : (p : ProblemValue) (lines : List (List ℕ)) (cs : List (Option Command)) → AreRead (fresh_session p) lines cs
-    → world_of (after_lines (fresh_session p) lines)
+    → world_of (left_by_lines (fresh_session p) lines)
     ≡ played (fresh (whole_book p) 1) (events (LeaseAny ∷ all_acts (fresh_session p) cs))
 whole_gives p lines cs r =
     sym (lines_give (fresh_session p) (fresh_sound p) lines cs r)

@@ -7,7 +7,7 @@ use Rattle.lab_world.specs.declared.event.WorldEvent.{WorldEvent}
 use Rattle.lab_world.specs.Worker.{WorkerValue}
 use Rattle.lab_world.specs.World.{WorldValue, turn, world_step, played}
 use Rattle.debug_acts.specs.Walking.{AtWork}
-use Rattle.played_sessions.specs.PlayedSessions.{seated_at, event_of, events}
+use Rattle.played_sessions.specs.PlayedSessions.{seated_at, own_event, events}
 
 -- the fold of two lists of events
 played_append : (v : WorldValue) (xs ys : List WorldEvent) → played v (xs ++ ys) ≡ played (played v xs) ys
@@ -31,5 +31,5 @@ one_act b c x y a e d = ap₂ seated_at e d
 pub then_acts : (b c d : BookValue) (x y z : Option WorkerValue) (xs ys : List Act) → Leads b x xs c y → Leads c y ys d z
     → Leads b x (xs ++ ys) d z
 then_acts b c d x y z xs ys p q =
-    ap (played (seated_at b x)) (map-append event_of xs ys) ∙ played_append (seated_at b x) (events xs) (events ys)
+    ap (played (seated_at b x)) (map-append own_event xs ys) ∙ played_append (seated_at b x) (events xs) (events ys)
     ∙ ap (λ (v : WorldValue). played v (events ys)) p ∙ q

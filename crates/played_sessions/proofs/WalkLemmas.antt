@@ -22,7 +22,7 @@ use Rattle.debug_acts.proofs.PostLemmas.{granted}
 use Rattle.debug_acts.proofs.ForwardLemmas.{can_walk, ahead_is}
 use Rattle.debug_acts.proofs.WalkLemmas.{on_problem, on_branch, on_position}
 use Rattle.alike_sessions.proofs.WorkLemmas.{IsSoundWork, here_fits, room_sound, forward_sound}
-use Rattle.played_sessions.specs.PlayedSessions.{seated_at, events, rest_acts, step_acts, if_working, walk_acts}
+use Rattle.played_sessions.specs.PlayedSessions.{seated_at, events, rest_acts, step_acts, if_at_work, walk_acts}
 use Rattle.played_sessions.proofs.PlayLemmas.{LeadsTo, one_act, then_acts}
 
 module _ (u : AtWork) (s : IsSoundWork u) where
@@ -101,8 +101,8 @@ forward_leads u s (suc n) l =
     (λ j. steps_between (on_problem n u j) (on_position n u j) (end_of (on_branch n u j).hi)) in
     let rest = ahead_is r can n (omega arith) in
     let one = stepped_leads (forward n u) (forward_sound u s n (omega arith)) (omega arith) in
-    let here : if_working (worker_at (played (seated_at u.book (Some u.worker)) (events before)).workers 0) step_acts
-    ≡ step_acts (forward n u).worker = ap (λ (v : WorldValue). if_working (worker_at v.workers 0) step_acts) led in
+    let here : if_at_work (worker_at (played (seated_at u.book (Some u.worker)) (events before)).workers 0) step_acts
+    ≡ step_acts (forward n u).worker = ap (λ (v : WorldValue). if_at_work (worker_at v.workers 0) step_acts) led in
     subst (λ (acts : List Act). LeadsTo u (before ++ acts) (forward (suc n) u)) (sym here)
     (then_acts u.book (forward n u).book (forward (suc n) u).book (Some u.worker) (Some (forward n u).worker)
     (Some (forward (suc n) u).worker) before (step_acts (forward n u).worker) led one)

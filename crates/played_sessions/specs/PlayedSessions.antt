@@ -40,12 +40,12 @@ abbrev pub world_of : SessionValue → WorldValue
 world_of s = seated_at s.book s.worker
 
 -- worker 0 does this
-abbrev pub event_of : Act → WorldEvent
-event_of a = record { worker = 0; act = a }
+abbrev pub own_event : Act → WorldEvent
+own_event a = record { worker = 0; act = a }
 
 -- worker 0 does these, one after another
 abbrev pub events : List Act → List WorldEvent
-events acts = map event_of acts
+events acts = map own_event acts
 
 -- ---- acts of a branch that is open
 
@@ -62,14 +62,14 @@ abbrev pub close_acts : WorkerValue → List Act
 close_acts w = if steps_ahead w.runner == 0 then rest_acts w ++ Close ∷ [] else Close ∷ []
 
 -- what the worker does whose branch is open, and nothing where none is
-abbrev pub if_working : Option WorkerValue → (WorkerValue → List Act) → List Act
-if_working None f = []
-if_working (Some w) f = f w
+abbrev pub if_at_work : Option WorkerValue → (WorkerValue → List Act) → List Act
+if_at_work None f = []
+if_at_work (Some w) f = f w
 
 -- so many steps, each from where those before it led
 abbrev pub walk_acts : ℕ → WorldValue → List Act
 walk_acts zero v = []
-walk_acts (suc n) v = walk_acts n v ++ if_working (worker_at (played v (events (walk_acts n v))).workers 0) step_acts
+walk_acts (suc n) v = walk_acts n v ++ if_at_work (worker_at (played v (events (walk_acts n v))).workers 0) step_acts
 
 -- what is done where none is open
 abbrev pub if_idle : Option WorkerValue → List Act → List Act
@@ -95,16 +95,16 @@ tile_acts b lo make = place_acts b.tiles make (place_at lo b.tiles)
 
 -- what worker 0 does when session s is given a command; what is shown and what is set are no acts
 unfoldable pub acts_of : SessionValue → Command → List Act
-acts_of s (commands.Step n) = if_working s.worker (λ w. walk_acts (step_count w.runner n) (seated_at s.book (Some w)))
-acts_of s commands.Run = if_working s.worker (λ w. walk_acts (run_count s.breaks w.runner) (seated_at s.book (Some w)))
-acts_of s (commands.Back n) = if_working s.worker (λ w. replicate (back_count w.runner n) Back)
-acts_of s (commands.Split level option) = if_working s.worker (λ w. Split level option ∷ [])
-acts_of s commands.Park = if_working s.worker (λ w. rest_acts w ++ Park ∷ [])
-acts_of s commands.Save = if_working s.worker (λ w. rest_acts w ++ Park ∷ [])
-acts_of s commands.SaveBreaks = if_working s.worker (λ w. rest_acts w ++ Park ∷ [])
-acts_of s commands.Close = if_working s.worker close_acts
+acts_of s (commands.Step n) = if_at_work s.worker (λ w. walk_acts (step_count w.runner n) (seated_at s.book (Some w)))
+acts_of s commands.Run = if_at_work s.worker (λ w. walk_acts (run_count s.breaks w.runner) (seated_at s.book (Some w)))
+acts_of s (commands.Back n) = if_at_work s.worker (λ w. replicate (back_count w.runner n) Back)
+acts_of s (commands.Split level option) = if_at_work s.worker (λ w. Split level option ∷ [])
+acts_of s commands.Park = if_at_work s.worker (λ w. rest_acts w ++ Park ∷ [])
+acts_of s commands.Save = if_at_work s.worker (λ w. rest_acts w ++ Park ∷ [])
+acts_of s commands.SaveBreaks = if_at_work s.worker (λ w. rest_acts w ++ Park ∷ [])
+acts_of s commands.Close = if_at_work s.worker close_acts
 acts_of s (commands.Enter lo) = if_idle s.worker (tile_acts s.book (choices_of lo) enter_act)
-acts_of s commands.Retract = if_working s.worker (λ w. Retract ∷ [])
+acts_of s commands.Retract = if_at_work s.worker (λ w. Retract ∷ [])
 acts_of s (commands.Hold lo) = tile_acts s.book (choices_of lo) (λ t. RequestStop t.id)
 acts_of s (commands.PutBack lo state) = tile_acts s.book (choices_of lo) (λ t. PutBack t.id state)
 acts_of s _ = []
@@ -121,9 +121,9 @@ line_acts s None = []
 line_acts s (Some c) = acts_of s c
 
 -- the session that lines leave, one after another
-abbrev pub after_lines : SessionValue → List (List ℕ) → SessionValue
-after_lines s [] = s
-after_lines s (line ∷ lines) = after_lines (answer_line s line).session lines
+abbrev pub left_by_lines : SessionValue → List (List ℕ) → SessionValue
+left_by_lines s [] = s
+left_by_lines s (line ∷ lines) = left_by_lines (answer_line s line).session lines
 
 -- each is read as the command in its place, or as none, by the session that the lines before it left
 abbrev pub AreRead : SessionValue → List (List ℕ) → List (Option Command) → Type 0

@@ -11,7 +11,7 @@ ghost use Rattle.x_debug.specs.Commands.{answer, answer_line};
 ghost use Rattle.x_debug.specs.Loading.{load_answer};
 ghost use Rattle.alike_sessions.specs.AlikeSessions.{IsSoundSession};
 ghost use Rattle.played_sessions.specs.PlayedSessions.{world_of, events, acts_of, IsRead, line_acts};
-ghost use Rattle.played_sessions.specs.PlayedSessions.{after_lines, AreRead, all_acts};
+ghost use Rattle.played_sessions.specs.PlayedSessions.{left_by_lines, AreRead, all_acts};
 ghost use Rattle.played_sessions.specs.PlayedSessions.{entered_world, whole_book, loaded_world};
 
 /// A session is a world of one worker: what each command, each line and each text that is loaded leaves of it is what the worker's acts
@@ -24,10 +24,10 @@ pub fn session_is_played()
         world_of (answer_line s line).session ≡ played (world_of s) (events (line_acts s c)) }
     ensures session { (s : SessionValue) (lines : List (List ℕ)) (cs : List (Option Command)) →
         IsSoundSession s → AreRead s lines cs →
-        world_of (after_lines s lines) ≡ played (world_of s) (events (all_acts s cs)) }
+        world_of (left_by_lines s lines) ≡ played (world_of s) (events (all_acts s cs)) }
     ensures fresh { (p : ProblemValue) → world_of (fresh_session p) ≡ entered_world (whole_book p) }
     ensures whole { (p : ProblemValue) (lines : List (List ℕ)) (cs : List (Option Command)) →
-        AreRead (fresh_session p) lines cs → world_of (after_lines (fresh_session p) lines) ≡
+        AreRead (fresh_session p) lines cs → world_of (left_by_lines (fresh_session p) lines) ≡
         played (fresh (whole_book p) 1) (events (LeaseAny ∷ all_acts (fresh_session p) cs)) }
     ensures load { (s : SessionValue) (bytes : List ℕ) →
         world_of (load_answer s bytes).session ≡ loaded_world s (snapshot_of bytes) }

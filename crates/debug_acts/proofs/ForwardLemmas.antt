@@ -3,13 +3,14 @@ use Rattle.std.proofs.Common.{◌≡◌, ℕ, suc, ◌+◌, ◌-◌, ◌<◌, �
 use Rattle.std.proofs.lemmas.Bool.{cases_lt}
 use Rattle.std.proofs.lemmas.List.{map-append}
 use Rattle.text_lines.specs.Writing.{text_of}
+use Rattle.cover_problem.specs.Problem.{ProblemValue}
 use Rattle.x_steps.specs.declared.state.Label.TheVariants.{Done}
 use Rattle.x_steps.specs.StateValue.{StateValue}
 use Rattle.x_steps.specs.Steps.{Fits}
 use Rattle.x_steps.specs.Run.{after, steps_between, visits_between, ReachesIn}
 use Rattle.x_steps.specs.Rank.{rank}
 use Rattle.x_steps.proofs.RunLemmas.{after_fits, after_add, leads_to, steps_between_is}
-use Rattle.x_steps.proofs.BetweenLemmas.{steps_between_self, visits_between_self, visits_between_next}
+use Rattle.x_steps.proofs.BetweenLemmas.{steps_between_self, visits_between_self, visits_between_next, visits_between_join}
 use Rattle.x_steps.proofs.StretchLemmas.{reached_fits, reached_rank}
 use Rattle.x_branches.specs.Branch.{end_of}
 use Rattle.x_branches.specs.Runner.{RunnerValue, IsRunner, visit_of}
@@ -48,8 +49,12 @@ can_walk b x tiling h k = record { fits = fits; end_fits = end_fits; up = not_be
     fits : Fits x.runner.problem x.runner.position
     fits = reached_fits x.runner.problem x.runner.mark x.runner.position _ k.stretch.fits k.stretch.reaches
 
+-- n steps, and then m
+on_more : (p : ProblemValue) (m n : ℕ) (s : StateValue) → after p m (after p n s) ≡ after p (n + m) s
+on_more p m n s = let e : m + n ≡ n + m = omega arith in after_add p m n s ∙ ap (λ k. after p k s) e
+
 module _ (r : RunnerValue) (k : CanWalk r) where
-  to_end : ReachesIn r.problem r.position (end_of r.branch.hi) (steps_ahead r)
+  pub to_end : ReachesIn r.problem r.position (end_of r.branch.hi) (steps_ahead r)
   to_end = leads_to r.problem r.position (end_of r.branch.hi) k.fits k.end_fits k.up
 
   pub on_fits : (n : ℕ) → Fits r.problem (state_on r n)
@@ -100,3 +105,21 @@ module _ (r : RunnerValue) (k : CanWalk r) where
       let more = visits_between_next r.problem r.position (state_on r n) k.fits (on_fits n) up (on_goes_on n l) in
       ap text_of (ap (map visit_words) more ∙ map-append visit_words (visits_between r.problem r.position (state_on r n)) (visit_of r.problem (state_on r n)))
       ∙ more_lines (visit_lines r.problem r.position (state_on r n)) (map visit_words (visit_of r.problem (state_on r n)))
+
+  -- so many steps from where n were gone
+  on_from : (n m : ℕ) → n + m ≤ steps_ahead r → ReachesIn r.problem (state_on r n) (state_on r (n + m)) m
+  on_from n m l = record {
+    ends = on_more r.problem m n r.position;
+    goes_on = λ i j e. to_end.goes_on (n + i) (omega arith) (ap (λ (s : StateValue). s.label) (sym (on_more r.problem i n r.position)) ∙ e);
+  }
+
+  -- the visits of some steps, and then of others
+  pub lines_join : (n m : ℕ) → n + m ≤ steps_ahead r → text_of (visit_lines r.problem r.position (state_on r (n + m)))
+      ≡ text_of (visit_lines r.problem r.position (state_on r n)) ++ text_of (visit_lines r.problem (state_on r n) (after r.problem m (state_on r n)))
+  lines_join n m l =
+      let first = reached_rank r.problem r.position (state_on r n) n k.fits (record { ends = refl; goes_on = λ i j. to_end.goes_on i (omega arith) }) in
+      let further = reached_rank r.problem (state_on r n) (state_on r (n + m)) m (on_fits n) (on_from n m l) in
+      let more = visits_between_join r.problem r.position (state_on r n) (state_on r (n + m)) k.fits (on_fits n) (on_fits (n + m)) first further in
+      ap text_of (ap (map visit_words) more ∙ map-append visit_words (visits_between r.problem r.position (state_on r n)) (visits_between r.problem (state_on r n) (state_on r (n + m))))
+      ∙ more_lines (visit_lines r.problem r.position (state_on r n)) (visit_lines r.problem (state_on r n) (state_on r (n + m)))
+      ∙ ap (λ s. text_of (visit_lines r.problem r.position (state_on r n)) ++ text_of (visit_lines r.problem (state_on r n) s)) (sym (on_more r.problem m n r.position))

@@ -5,6 +5,7 @@ pub mod GiveLemmas
 pub mod SaveLemmas
 pub mod ForwardLemmas
 pub mod WalkedLemmas
+pub mod FarLemmas
 pub mod AnswerLemmas
 pub mod RunLemmas
 pub mod BackLemmas

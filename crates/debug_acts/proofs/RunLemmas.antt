@@ -10,14 +10,15 @@ use Rattle.cover_problem.specs.Problem.{ProblemValue}
 use Rattle.x_steps.specs.declared.state.Label.TheVariants.{Done}
 use Rattle.x_steps.specs.StateValue.{StateValue}
 use Rattle.x_steps.specs.Steps.{Fits, next}
-use Rattle.x_steps.specs.Run.{after, states, steps_between}
+use Rattle.x_steps.specs.Run.{after, states, steps_between, ReachesIn}
 use Rattle.x_steps.specs.Rank.{rank}
-use Rattle.x_steps.proofs.RunLemmas.{after_shift}
+use Rattle.x_steps.proofs.RunLemmas.{after_shift, leads_none, leads_push}
 use Rattle.x_steps.proofs.BetweenLemmas.{length-states, steps_between_self, steps_between_next}
 use Rattle.x_steps.proofs.StretchLemmas.{reached_fits, reached_rank}
 use Rattle.x_branches.specs.Branch.{end_of}
 use Rattle.x_branches.specs.Refusals.{most_steps}
 use Rattle.x_branches.specs.Runner.{RunnerValue, IsRunner, visit_of}
+use Rattle.x_branches.specs.Stretch.{IsStretch}
 use Rattle.x_texts.specs.declared.breakpoint.Break.{Break}
 use Rattle.text_lines.specs.Writing.{text_of}
 use Rattle.x_texts.specs.Words.{visit_words}
@@ -25,7 +26,8 @@ use Rattle.lab_world.specs.Worker.{HoldsTile, moved_to}
 use Rattle.debug_views.specs.Breakpoints.{first_met, meets_one, steps_to_break}
 use Rattle.debug_acts.proofs.WalkedLemmas.{Walked, none_walked, walked_on, part_way, ended, not_ended, left, position, same_problem}
 use Rattle.debug_acts.proofs.ForwardLemmas.{CanWalk, on_goes_on}
-use Rattle.debug_acts.specs.Walking.{AtWork, IsPartWay, work, posted, with_room, stepped, unposted_steps, steps_ahead, state_on, run_count}
+use Rattle.debug_acts.specs.Walking.{AtWork, IsPartWay, work, posted, with_room, stepped, forward, unposted_steps, steps_ahead, state_on, visit_lines, run_count}
+use Rattle.debug_acts.proofs.WalkLemmas.{on_position}
 
 -- ---- what is met
 
@@ -123,9 +125,9 @@ module _ (r : RunnerValue) (breaks : List Break) where
 abbrev pub spent : AtWork → ℕ
 spent a = most_steps * length a.book.history + unposted_steps a.worker.runner
 
-module _ (a : AtWork) (k : IsRunner a.worker.runner) (goes_on : a.worker.runner.position.label ≡ Done → ⊥) (small : unposted_steps a.worker.runner ≤ most_steps) where
+module _ (a : AtWork) (k : IsStretch a.worker.runner.problem a.worker.runner.mark a.worker.runner.position) (goes_on : a.worker.runner.position.label ≡ Done → ⊥) (small : unposted_steps a.worker.runner ≤ most_steps) where
   here_fits : Fits a.worker.runner.problem a.worker.runner.position
-  here_fits = reached_fits a.worker.runner.problem a.worker.runner.mark a.worker.runner.position _ k.stretch.fits k.stretch.reaches
+  here_fits = reached_fits a.worker.runner.problem a.worker.runner.mark a.worker.runner.position _ k.fits k.reaches
 
   -- the next step from a book and a worker
   abbrev forth : AtWork → AtWork
@@ -140,8 +142,8 @@ module _ (a : AtWork) (k : IsRunner a.worker.runner) (goes_on : a.worker.runner.
   -- one more of a stretch
   next_step : steps_between a.worker.runner.problem a.worker.runner.mark (next a.worker.runner.problem a.worker.runner.position) ≡ suc (unposted_steps a.worker.runner)
   next_step =
-      steps_between_next a.worker.runner.problem a.worker.runner.mark a.worker.runner.position k.stretch.fits here_fits
-      (reached_rank a.worker.runner.problem a.worker.runner.mark a.worker.runner.position _ k.stretch.fits k.stretch.reaches) goes_on
+      steps_between_next a.worker.runner.problem a.worker.runner.mark a.worker.runner.position k.fits here_fits
+      (reached_rank a.worker.runner.problem a.worker.runner.mark a.worker.runner.position _ k.fits k.reaches) goes_on
 
   posted_entries : length (posted a).book.history ≡ length a.book.history + 1
   unfolding posted
@@ -175,6 +177,90 @@ module _ (a : AtWork) (k : IsRunner a.worker.runner) (goes_on : a.worker.runner.
           → OneMore (forth (with_room a))
       by (inl t) = let e : with_room a ≡ posted a = rw t.0 refl in subst (λ v. OneMore (forth v)) (sym e) (full t.1)
       by (inr t) = let e : with_room a ≡ a = rw t.0 refl in subst (λ v. OneMore (forth v)) (sym e) (not_full t.1)
+
+  -- the part from the mark to the position is a stretch again
+  abbrev IsOn : AtWork → Type 0
+  IsOn v = IsStretch v.worker.runner.problem v.worker.runner.mark v.worker.runner.position
+
+  full_on : IsOn (forth (posted a))
+  unfolding posted
+  full_on = record {
+    fits = here_fits;
+    reaches = subst (ReachesIn a.worker.runner.problem a.worker.runner.position (next a.worker.runner.problem a.worker.runner.position)) (sym first_step)
+        (leads_push a.worker.runner.problem a.worker.runner.position a.worker.runner.position 0 (leads_none a.worker.runner.problem a.worker.runner.position) goes_on);
+  }
+
+  not_full_on : IsOn (forth a)
+  not_full_on = record {
+    fits = k.fits;
+    reaches = subst (ReachesIn a.worker.runner.problem a.worker.runner.mark (next a.worker.runner.problem a.worker.runner.position)) (sym next_step)
+        (leads_push a.worker.runner.problem a.worker.runner.mark a.worker.runner.position (unposted_steps a.worker.runner) k.reaches goes_on);
+  }
+
+  pub stretch_on : IsOn (stepped a)
+  unfolding stepped
+  stretch_on = by (unposted_steps a.worker.runner == most_steps)
+    where
+      by : (v : Bool) → IsOn (forth (cond v (posted a) a))
+      by true = full_on
+      by false = not_full_on
+
+-- n steps are spent
+pub record AreSpent (a : AtWork) (n : ℕ) (b : AtWork) : Type 0 where
+  pub counted : spent b ≡ n + spent a
+  pub small : unposted_steps b.worker.runner ≤ most_steps
+  pub stretch : IsStretch b.worker.runner.problem b.worker.runner.mark b.worker.runner.position
+
+module _ (a : AtWork) (can : CanWalk a.worker.runner) (k : IsStretch a.worker.runner.problem a.worker.runner.mark a.worker.runner.position)
+    (small : unposted_steps a.worker.runner ≤ most_steps) where
+  many_spent : (n : ℕ) → n ≤ steps_ahead a.worker.runner → AreSpent a n (forward n a)
+  many_spent zero l = record { counted = omega arith; small = small; stretch = k }
+  many_spent (suc n) l =
+      let s = many_spent n (omega arith) in
+      let go : (forward n a).worker.runner.position.label ≡ Done → ⊥ = λ d. on_goes_on a.worker.runner can n (omega arith) (ap (λ (s : StateValue). s.label) (sym (on_position n a)) ∙ d) in
+      let one = one_spent (forward n a) s.stretch go s.small in
+      let p = one.0 in
+      let q = s.counted in
+      record { counted = omega arith; small = one.1; stretch = stretch_on (forward n a) s.stretch go s.small }
+
+  -- there are fewer of them than a u128 can count
+  pub few_walked : (n : ℕ) (c : AtWork) (old more : List ℕ) → Walked a n c old more → length c.book.history < 2 ^ 64 → n < 2 ^ 128
+  few_walked n c old more w l =
+      let s = many_spent n w.within in
+      let p : spent c ≡ n + spent a = ap spent w.made ∙ s.counted in
+      let q = ap (λ (v : AtWork). unposted_steps v.worker.runner) w.made in
+      let r = s.small in
+      omega arith
+
+-- what a u32 counts is no more than a stretch can have
+pub small_count : (n steps : ℕ) → n < most_steps + 1 → n ≡ steps → steps ≤ most_steps
+small_count n steps l e = omega arith
+
+-- ---- no breakpoint
+
+-- where none is set, a run goes to the end, and none is met there
+pub run_count_none : (breaks : List Break) (r : RunnerValue) → length breaks ≡ 0 → 0 < steps_ahead r → steps_ahead r ≡ run_count breaks r
+run_count_none [] r e some =
+    let last : steps_ahead r ≡ suc (steps_ahead r - 1) = omega arith in
+    last ∙ stops_at r [] (steps_ahead r - 1) (omega arith) (λ i a b. refl) (λ l. absurd (omega arith))
+run_count_none (b ∷ bs) r e some = absurd (omega arith)
+
+pub none_is_met : (breaks : List Break) (p : ProblemValue) (s : StateValue) → length breaks ≡ 0 → None ≡ first_met p breaks s
+none_is_met [] p s e = refl
+none_is_met (b ∷ bs) p s e = absurd (omega arith)
+
+pub end_made : (breaks : List Break) (a b : AtWork) → length breaks ≡ 0 → 0 < steps_ahead a.worker.runner → b ≡ forward (steps_ahead a.worker.runner) a
+    → b ≡ forward (run_count breaks a.worker.runner) a
+end_made breaks a b e some h = h ∙ ap (λ n. forward n a) (run_count_none breaks a.worker.runner e some)
+
+pub end_text : (breaks : List Break) (r : RunnerValue) (old new : List ℕ) → length breaks ≡ 0 → 0 < steps_ahead r
+    → new ≡ old ++ text_of (visit_lines r.problem r.position (state_on r (steps_ahead r)))
+    → new ≡ old ++ text_of (visit_lines r.problem r.position (state_on r (run_count breaks r)))
+end_text breaks r old new e some h = h ∙ ap (λ n. old ++ text_of (visit_lines r.problem r.position (state_on r n))) (run_count_none breaks r e some)
+
+pub end_left : (breaks : List Break) (a b : AtWork) → length breaks ≡ 0 → 0 < steps_ahead a.worker.runner → IsPartWay a b (steps_ahead a.worker.runner)
+    → IsPartWay a b (run_count breaks a.worker.runner)
+end_left breaks a b e some h = subst (IsPartWay a b) (run_count_none breaks a.worker.runner e some) h
 
 -- ---- the loop
 
@@ -237,7 +323,7 @@ module _ (a : AtWork) (breaks : List Break) (n : ℕ) (b : AtWork) (old new : Li
 
     step_spent : (spent c ≡ suc (spent b)) × (unposted_steps c.worker.runner ≤ most_steps)
     step_spent = subst (λ v. (spent v ≡ suc (spent b)) × (unposted_steps v.worker.runner ≤ most_steps)) (sym x.made)
-        (one_spent b x.runner (λ d. on_goes_on a.worker.runner w.walked.can n (not_ended a n b old new w.walked x.goes) (ap (λ (s : StateValue). s.label) (sym (position a n b old new w.walked)) ∙ d)) w.small)
+        (one_spent b x.runner.stretch (λ d. on_goes_on a.worker.runner w.walked.can n (not_ended a n b old new w.walked x.goes) (ap (λ (s : StateValue). s.label) (sym (position a n b old new w.walked)) ∙ d)) w.small)
 
     -- there are fewer steps than a u128 can count
     pub few : length c.book.history < 2 ^ 64 → n + 1 < 2 ^ 128

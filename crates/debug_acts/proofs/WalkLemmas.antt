@@ -1,5 +1,6 @@
 -- Steps onward: what they leave of a book and a worker.
-use Rattle.std.proofs.Common.{◌≡◌, ◌==◌, ℕ, zero, suc, Bool, true, false, cond, refl, ◌∙◌, ap, ap₂}
+use Rattle.std.proofs.Common.{◌≡◌, ◌==◌, ℕ, zero, suc, ◌+◌, Bool, true, false, cond, refl, ◌∙◌, ap, ap₂, arith, zero-add, suc-add}
+use Rattle.std.proofs.lemmas.Bool.{ne_eqb}
 use Rattle.x_steps.specs.Steps.{next}
 use Rattle.x_branches.specs.Runner.{visit_of}
 use Rattle.x_branches.specs.Refusals.{most_steps}
@@ -43,7 +44,23 @@ module _ (a : AtWork) where
   unfolding stepped
   step_position = refl
 
+  -- where there is room, nothing is posted
+  pub step_within : (unposted_steps a.worker.runner ≡ most_steps → ⊥)
+      → stepped a ≡ work a.book (moved_to a.worker (next a.worker.runner.problem a.worker.runner.position))
+  unfolding stepped
+  step_within h =
+      let e : with_room a ≡ a = rw (ne_eqb (unposted_steps a.worker.runner) most_steps h) refl in
+      ap (λ (v : AtWork). work v.book (moved_to v.worker (next a.worker.runner.problem a.worker.runner.position))) e
+
 -- ---- many steps
+
+forward_sum : (m n : ℕ) (a : AtWork) → forward m (forward n a) ≡ forward (m + n) a
+forward_sum zero n a = rw zero-add refl
+forward_sum (suc m) n a = rw suc-add (ap stepped (forward_sum m n a))
+
+-- n steps, and then m
+pub forward_more : (m n : ℕ) (a : AtWork) → forward m (forward n a) ≡ forward (n + m) a
+forward_more m n a = let e : m + n ≡ n + m = omega arith in forward_sum m n a ∙ ap (λ k. forward k a) e
 
 pub on_problem : (n : ℕ) (a : AtWork) → (forward n a).worker.runner.problem ≡ a.worker.runner.problem
 on_problem zero a = refl

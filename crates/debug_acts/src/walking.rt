@@ -1,10 +1,12 @@
 //! Steps onward and back.
-ghost use Rattle.std.specs.Prelude.{◌≡◌, ◌<◌, ◌++◌, ◌⊎◌, map, OnOk, OnErr};
+ghost use Rattle.std.specs.Prelude.{◌≡◌, ◌<◌, ◌≤◌, ◌++◌, ◌⊎◌, map, IfOk, OnOk, OnErr};
+ghost use Rattle.x_steps.specs.Walk.{visit_told};
 ghost use Rattle.x_branches.specs.Runner.{visit_of};
 ghost use Rattle.x_texts.specs.Words.{visit_words};
 ghost use Rattle.text_lines.specs.Writing.{text_of};
 ghost use Rattle.lab_world.specs.Worker.{HoldsTile};
-ghost use Rattle.debug_acts.specs.Walking.{work, with_room, stepped, moved_lines, steps_ahead};
+ghost use Rattle.debug_acts.specs.Walking.{work, with_room, stepped, forward, IsPartWay, state_on, visit_lines, moved_lines};
+ghost use Rattle.debug_acts.specs.Walking.{steps_ahead, step_count};
 
 mod backward;
 mod onward;
@@ -19,6 +21,7 @@ use lab_world::Worker;
 pub use onward::step;
 pub use running::run;
 use std::alloc::AllocError;
+use x_steps::Event;
 use x_texts::write_visit;
 
 /// Writes the visit of the next step, if it is one.
@@ -53,6 +56,51 @@ pub fn step_on<'p, T: Table>(
         Ok(_) => Ok(()),
         Err(_) => Err(AllocError),
     }
+}
+
+/// Writes the visit that a walk came to, if it did: the path is the same after the visit's step as before it.
+fn note_visited<T: Table>(
+    text: &mut Vec<u8>,
+    event: Event,
+    worker: &Worker<'_, T>,
+) -> Result<(), AllocError>
+    ensures { OnOk result (text.new.items ≡ text.old.items
+        ++ text_of (map visit_words (visit_told event worker.now.runner.position.path))) }
+{
+    match event {
+        Event::Visited => write_visit(text, &worker.runner().state().path),
+        _ => Ok(()),
+    }
+}
+
+/// Walks up to so many steps on, no further than to the next visit, and to its branch's end at most, and writes the visit. How many
+/// steps these were.
+pub(crate) fn walk_on<'p, T: Table>(
+    book: &mut Book<'p>,
+    worker: &mut Worker<'p, T>,
+    most: u32,
+    text: &mut Vec<u8>,
+) -> Result<u32, AllocError>
+    requires holds { HoldsTile book.old worker.old }
+    requires ahead { 0 < steps_ahead worker.old.runner }
+    requires some { 0 < most }
+    ensures some { IfOk result (λ steps. 0 < steps) }
+    ensures within { IfOk result (λ steps. steps ≤ step_count worker.old.runner most) }
+    ensures made { IfOk result (λ steps. work book.new worker.new ≡ forward steps (work book.old worker.old)) }
+    ensures text { IfOk result (λ steps. text.new.items ≡ text.old.items
+        ++ text_of (visit_lines worker.old.runner.problem worker.old.runner.position (state_on worker.old.runner steps))) }
+    ensures left { OnErr result (IsPartWay (work book.old worker.old) (work book.new worker.new)
+        (step_count worker.old.runner most)) }
+    ensures holds_on { HoldsTile book.new worker.new }
+{
+    let _tiles = book.tiles();
+    let _state = worker.runner().state();
+    make_room(book, worker)?;
+    let Ok(walk) = worker.walk(most) else {
+        return Err(AllocError);
+    };
+    note_visited(text, walk.event, worker)?;
+    Ok(walk.steps)
 }
 
 /// Writes how many steps there were, and where the search stands.

@@ -1,10 +1,13 @@
 //! Workers: a lease with the runner that searches its tile.
-ghost use Rattle.std.specs.Prelude.{◌≡◌, ◌≤◌, ◌<◌, length, is_err, Err, IsTrue, IfOk, IfErr, IfSome, OnOk, OnErr};
+ghost use Rattle.std.specs.Prelude.{◌≡◌, ◌≤◌, ◌<◌, ◌⊎◌, length, is_err, Err, IsTrue, IfOk, IfErr, IfSome, OnOk, OnErr};
 ghost use Rattle.x_steps.specs.StateView.{state_value};
 ghost use Rattle.x_steps.specs.Steps.{next, event_of};
 ghost use Rattle.x_steps.specs.Before.{prev};
+ghost use Rattle.x_steps.specs.Run.{after};
+ghost use Rattle.x_steps.specs.Walk.{last_event, OnlyMoves};
 ghost use Rattle.x_branches.specs.Runner.{IsRunner};
 ghost use Rattle.x_branches.specs.Refusals.{CanAdvance, AdvanceRefused};
+ghost use Rattle.x_branches.specs.Walk.{CanAdvanceBy, HasToStop};
 ghost use Rattle.lab_book.specs.Book.{BookValue};
 ghost use Rattle.lab_world.specs.Worker.{HoldsTile, moved_to};
 
@@ -19,7 +22,7 @@ use lab_book::{Grant, Lease};
 pub(crate) use leasing::Wanted;
 use std::marker::Model;
 use x_branches::{Runner, RunnerFault};
-use x_steps::{Event, State};
+use x_steps::{Event, State, Walk};
 
 /// The lease of a tile and the runner that searches there. A worker that is let go discards its lease: the tile stays leased.
 pub struct Worker<'p, T: Table> {
@@ -75,6 +78,26 @@ impl<'p, T: Table> Worker<'p, T> {
         ensures holds { (b : BookValue) → HoldsTile b self.old → HoldsTile b self.new }
     {
         self.runner.advance()
+    }
+
+    /// Takes steps as `step` does, one after the other, and stops where its runner does: once `most` are taken, where the last one
+    /// came to a visit or to the end of the run, or where the next one would be refused. Refused where the first one is, which
+    /// changes nothing.
+    pub fn walk(&mut self, most: u32) -> Result<Walk, RunnerFault>
+        ensures state { IfOk result (λ w. self.new
+            ≡ moved_to self.old (after self.old.runner.problem w.steps self.old.runner.position)) }
+        ensures each_step { IfOk result (λ w. CanAdvanceBy self.old.runner w.steps) }
+        ensures event { IfOk result (λ w. w.event ≡ last_event self.old.runner.problem w.steps self.old.runner.position) }
+        ensures moves { IfOk result (λ w. OnlyMoves self.old.runner.problem w.steps self.old.runner.position) }
+        ensures within { IfOk result (λ w. w.steps ≤ most) }
+        ensures some { IfOk result (λ w. 0 < most → 0 < w.steps) }
+        ensures stops { IfOk result (λ w. (w.steps ≡ most) ⊎ HasToStop self.new.runner w.event) }
+        ensures can { OnOk result (CanAdvance self.old.runner) }
+        ensures refused { IfErr result (AdvanceRefused self.old.runner) }
+        ensures unchanged { OnErr result (self.new ≡ self.old) }
+        ensures holds { (b : BookValue) → HoldsTile b self.old → HoldsTile b self.new }
+    {
+        self.runner.walk(most)
     }
 
     /// Takes the last step back that isn't posted, as its runner does.

@@ -4,7 +4,7 @@ ghost use Rattle.text_lines.specs.Writing.{text_of};
 ghost use Rattle.lab_world.specs.Worker.{HoldsTile};
 ghost use Rattle.debug_acts.specs.Walking.{work, forward, IsPartWay, state_on, visit_lines, step_count, step_lines};
 
-use crate::walking::{step_on, write_moved};
+use crate::walking::{walk_on, write_moved};
 use cover_problem::Table;
 use debug_language::{DebugFault, Plain, write_debug_fault, write_plain};
 use lab_book::Book;
@@ -31,11 +31,13 @@ fn walk<'p, T: Table>(
     // What is true of a book and of a runner is told by these.
     let _tiles = book.tiles();
     let _state = worker.runner().state();
-    for taken in 0..most {
+    let mut taken = 0;
+    while taken < most {
         if worker.runner().is_at_end() {
             return Ok(taken);
         }
-        step_on(book, worker, text)?;
+        let steps = walk_on(book, worker, most - taken, text)?;
+        taken += steps;
     }
     Ok(most)
 }

@@ -7,7 +7,7 @@ ghost use Rattle.lab_world.specs.Worker.{HoldsTile};
 ghost use Rattle.debug_views.specs.Breakpoints as breakpoints;
 ghost use Rattle.debug_acts.specs.Walking.{work, forward, IsPartWay, state_on, visit_lines, run_count, run_lines, stop_line, steps_ahead};
 
-use crate::walking::{step_on, write_moved};
+use crate::walking::{step_on, walk_on, write_moved};
 use cover_problem::Table;
 use debug_language::{DebugFault, Plain, write_debug_fault, write_met, write_plain};
 use debug_views::first_met;
@@ -17,7 +17,35 @@ use lab_world::Worker;
 use std::alloc::AllocError;
 use x_texts::Break;
 
-/// Goes on to the first state that meets a breakpoint, or to its branch's end, and writes the visits. How many steps these were,
+/// Goes on to its branch's end, visit by visit, and writes the visits. How many steps these were.
+fn walk_to_end<'p, T: Table>(
+    book: &mut Book<'p>,
+    worker: &mut Worker<'p, T>,
+    text: &mut Vec<u8>,
+) -> Result<u128, AllocError>
+    requires holds { HoldsTile book.old worker.old }
+    ensures count { IfOk result (λ count. count ≡ steps_ahead worker.old.runner) }
+    ensures made { OnOk result (work book.new worker.new ≡ forward (steps_ahead worker.old.runner) (work book.old worker.old)) }
+    ensures text { OnOk result (text.new.items ≡ text.old.items ++ text_of (visit_lines worker.old.runner.problem
+        worker.old.runner.position (state_on worker.old.runner (steps_ahead worker.old.runner)))) }
+    ensures left { OnErr result (IsPartWay (work book.old worker.old) (work book.new worker.new)
+        (steps_ahead worker.old.runner)) }
+    ensures holds_on { HoldsTile book.new worker.new }
+{
+    let _tiles = book.tiles();
+    let _state = worker.runner().state();
+    let _unposted = worker.runner().unposted();
+    let mut moved = 0;
+    while !worker.runner().is_at_end() {
+        let steps = walk_on(book, worker, u32::MAX, text)?;
+        // Each full stretch is an entry of the history, and there are fewer than 2^64 of them: no sum can be too large.
+        let _entries = book.history().len();
+        moved += steps as u128;
+    }
+    Ok(moved)
+}
+
+/// Goes on step by step to the first state that meets a breakpoint, or to its branch's end, and writes the visits. How many steps these were,
 /// and the breakpoint that is met there.
 fn walk_to_break<'p, T: Table>(
     book: &mut Book<'p>,
@@ -56,6 +84,33 @@ fn walk_to_break<'p, T: Table>(
     Ok((moved, None))
 }
 
+/// The same: where no breakpoint is set, no state has to be looked at on the way.
+fn walk_to_stop<'p, T: Table>(
+    book: &mut Book<'p>,
+    worker: &mut Worker<'p, T>,
+    breaks: &IndexSet<Break>,
+    text: &mut Vec<u8>,
+) -> Result<(u128, Option<Break>), AllocError>
+    requires holds { HoldsTile book.old worker.old }
+    requires ahead { 0 < steps_ahead worker.old.runner }
+    ensures count { IfOk result (λ r. r.0 ≡ run_count breaks.now.keys worker.old.runner) }
+    ensures met { IfOk result (λ r. r.1 ≡ breakpoints.first_met worker.old.runner.problem breaks.now.keys
+        (state_on worker.old.runner (run_count breaks.now.keys worker.old.runner))) }
+    ensures made { OnOk result (work book.new worker.new
+        ≡ forward (run_count breaks.now.keys worker.old.runner) (work book.old worker.old)) }
+    ensures text { OnOk result (text.new.items ≡ text.old.items ++ text_of (visit_lines worker.old.runner.problem
+        worker.old.runner.position (state_on worker.old.runner (run_count breaks.now.keys worker.old.runner)))) }
+    ensures left { OnErr result (IsPartWay (work book.old worker.old) (work book.new worker.new)
+        (run_count breaks.now.keys worker.old.runner)) }
+    ensures holds_on { HoldsTile book.new worker.new }
+{
+    if breaks.is_empty() {
+        let moved = walk_to_end(book, worker, text)?;
+        return Ok((moved, None));
+    }
+    walk_to_break(book, worker, breaks, text)
+}
+
 /// Writes where a run stopped: at a breakpoint, or else at the end.
 fn write_stop(text: &mut Vec<u8>, book: &Book<'_>, stop: Option<Break>) -> Result<(), AllocError>
     requires { IfSome stop (λ b. is_break book.now.problem b ≡ true) }
@@ -89,7 +144,7 @@ pub fn run<'p, T: Table>(
     if worker.runner().is_at_end() {
         return write_debug_fault(text, DebugFault::AtEnd);
     }
-    let (moved, met) = walk_to_break(book, worker, breaks, text)?;
+    let (moved, met) = walk_to_stop(book, worker, breaks, text)?;
     write_moved(text, moved, worker)?;
     write_stop(text, book, met)
 }

@@ -30,8 +30,8 @@ returns-then-is_at_end-clause-text g c =
 pub returns-then-is_at_end-clause-left : goal.returns-then-is_at_end-clause-left
 returns-then-is_at_end-clause-left g c = on_err c.write_debug_fault.result (none_gone (work c.args.book.now c.args.worker.now) _)
 
-pub walk_to_break-requires-clause-ahead : goal.walk_to_break-requires-clause-ahead
-walk_to_break-requires-clause-ahead g c =
+pub walk_to_stop-requires-clause-ahead : goal.walk_to_stop-requires-clause-ahead
+walk_to_stop-requires-clause-ahead g c =
     some_ahead c.args.worker.now.runner
     (can_walk c.args.book.now c.args.worker.now c.tiles-tiles.ensures.tiling c.requires.holds (subst IsRunner c.runner.ensures c.state-state.ensures.runner))
     (λ e. false≢true (c.if-is_at_end.ensures.1 (read_end _ _ (sym c.runner-2.ensures) e)))
@@ -40,8 +40,8 @@ pub write_stop-requires : goal.write_stop-requires
 write_stop-requires g c =
     met_is_break c.args.book.now c.args.worker.now
     (can_walk c.args.book.now c.args.worker.now c.tiles-tiles.ensures.tiling c.requires.holds (subst IsRunner c.runner.ensures c.state-state.ensures.runner)) c.args.breaks.now.keys
-    c.walk_to_break.new.book.problem c.args.book.now.problem
-    (same_book_problem _ (work c.args.book.now c.args.worker.now) (work c.walk_to_break.new.book c.walk_to_break.new.worker) c.in_ok-moved.ensures.made c.in_ok-moved.ensures.holds_on
+    c.walk_to_stop.new.book.problem c.args.book.now.problem
+    (same_book_problem _ (work c.args.book.now c.args.worker.now) (work c.walk_to_stop.new.book c.walk_to_stop.new.worker) c.in_ok-moved.ensures.made c.in_ok-moved.ensures.holds_on
     ∙ c.requires.holds.problem)
     c.requires.breaks _ c.in_ok-moved.met c.in_ok-moved.ensures.met
 
@@ -50,13 +50,13 @@ returns-clause-text g c =
     let lines = run_lines_are c.args.book.now c.args.worker.now
     (can_walk c.args.book.now c.args.worker.now c.tiles-tiles.ensures.tiling c.requires.holds (subst IsRunner c.runner.ensures c.state-state.ensures.runner)) c.args.breaks.now.keys
     (λ e. false≢true (c.if-is_at_end.ensures.1 (read_end _ _ (sym c.runner-2.ensures) e)))
-    c.walk_to_break.new.book.problem
-    (same_book_problem _ (work c.args.book.now c.args.worker.now) (work c.walk_to_break.new.book c.walk_to_break.new.worker) c.in_ok-moved.ensures.made c.in_ok-moved.ensures.holds_on)
+    c.walk_to_stop.new.book.problem
+    (same_book_problem _ (work c.args.book.now c.args.worker.now) (work c.walk_to_stop.new.book c.walk_to_stop.new.worker) c.in_ok-moved.ensures.made c.in_ok-moved.ensures.holds_on)
     c.in_ok-moved.met c.in_ok-moved.ensures.met in
-    let walked = walk_text c.args.worker.now.runner _ c.in_ok-moved.moved c.walk_to_break.new.worker.runner.position c.args.text.now.items c.walk_to_break.new.text.items c.write_moved.new.text.items
-    c.in_ok-moved.ensures.count (stands_at _ (work c.args.book.now c.args.worker.now) (work c.walk_to_break.new.book c.walk_to_break.new.worker) c.in_ok-moved.ensures.made)
+    let walked = walk_text c.args.worker.now.runner _ c.in_ok-moved.moved c.walk_to_stop.new.worker.runner.position c.args.text.now.items c.walk_to_stop.new.text.items c.write_moved.new.text.items
+    c.in_ok-moved.ensures.count (stands_at _ (work c.args.book.now c.args.worker.now) (work c.walk_to_stop.new.book c.walk_to_stop.new.worker) c.in_ok-moved.ensures.made)
     c.in_ok-moved.ensures.text c.in_ok-write_moved.ensures in
     when_ok c.write_stop.result
-    (λ e. line_more _ (stop_line c.walk_to_break.new.book.problem.names c.in_ok-moved.met) c.args.text.now.items c.write_moved.new.text.items c.write_stop.new.text.items walked e
+    (λ e. line_more _ (stop_line c.walk_to_stop.new.book.problem.names c.in_ok-moved.met) c.args.text.now.items c.write_moved.new.text.items c.write_stop.new.text.items walked e
     ∙ ap (λ ls. c.args.text.now.items ++ text_of ls) (sym lines))
     c.write_stop.ensures

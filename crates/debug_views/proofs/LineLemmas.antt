@@ -61,7 +61,7 @@ pub level_listed : (r : RunnerValue) (levels : List (List ℕ)) (options : List 
     → level_lines level options ≡ untried_at r level
 level_listed r levels options level e l o =
     let n : length levels ≡ length r.position.path + 1 =
-    ap (length {A = List ℕ}) e ∙ length-map (untried_in r) (numbers (length r.position.path + 1) 0) ∙ length-numbers (length r.position.path + 1) 0 in
+    ap (length {A = List ℕ}) e ∙ length-map (numbers (length r.position.path + 1) 0) (untried_in r) ∙ length-numbers (length r.position.path + 1) 0 in
     let z : 0 + level ≡ level = omega arith in
     ap (level_lines level) (o ∙ ap (λ ls. get_or ls level []) e ∙ number_at (untried_in r) (length r.position.path + 1) 0 level [] (omega arith)
     ∙ ap (untried_in r) z)

@@ -87,13 +87,16 @@ check-names:
 check-words: build
 	@tools/check_words
 
-# Growths of memory refused to the program one by one, a sample of them: each run answers whole, or ends with status 4. A minute.
+# Growths of memory refused to the program one by one, a sample of them: each run answers whole, or ends with status 4. A minute. And each
+# growth of single calls of the libraries, by the tests that the gate built: a refused call changes nothing, and is then made again.
 check-memory: build
 	@tools/refuse
+	@tools/check_memory
 
 # Each growth of each job, refused by itself and with all after it. Some minutes.
 check-memory-all: build
 	@tools/refuse --all
+	@tools/check_memory
 
 # Each exit status, by a run of the program itself.
 check-statuses: build

@@ -7,6 +7,8 @@ mod cut_tests;
 #[cfg(test)]
 mod drawn_tests;
 #[cfg(test)]
+mod memory_tests;
+#[cfg(test)]
 mod order_tests;
 #[cfg(test)]
 mod refusal_tests;

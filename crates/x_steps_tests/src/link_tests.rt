@@ -47,7 +47,7 @@ const NODES: [(i64, u32, u32); 30] = [
 ];
 
 /// Whether the entries 1 to 30 are those of the small problem.
-fn is_small_block(table: &LinkTable) -> bool
+pub fn is_small_block(table: &LinkTable) -> bool
     requires { size_of table.now.problem ≡ 31 }
 {
     for (place, entry) in NODES.iter().enumerate() {
@@ -129,7 +129,7 @@ fn uncovering_gives_the_table_of_nodes_back(rt: HostRuntime) -> Result<(), Fail>
 }
 
 /// Tells a table of nodes that isn't the small problem's.
-fn assert_small_block(rt: &impl Abort, table: &LinkTable) {
+pub fn assert_small_block(rt: &impl Abort, table: &LinkTable) {
     assert!(rt; table.entries() == 31);
     assert!(rt; is_small_block(table));
 }

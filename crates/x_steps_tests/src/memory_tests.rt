@@ -1,13 +1,16 @@
 //! Tables that cover and uncover, and machines that walk, step and go back, between the making of all that they need and one growth
 //! more. `tools/check_memory` runs these tests with one growth refused, each growth in turn: behind the last that makes something
-//! comes the one at the end, so what stands between them takes none.
-ghost use Rattle.std.specs.Prelude.{◌≡◌, ◌≤◌, [], length};
+//! comes the one at the end, so what stands between them takes none. And tables and machines whose making is refused: what was handed in
+//! is as before, and the same call, made again, makes what it makes where nothing is refused.
+ghost use Rattle.std.specs.Prelude.{◌≡◌, ◌≤◌, ◌+◌, [], length, replicate, IfSome};
+ghost use Rattle.cover_problem.specs.Problem.{size_of};
 
-use crate::link_tests::{cover_three, uncover_three};
+use crate::link_tests::{assert_small_block, cover_three, is_small_block, uncover_three};
 use cover_links::LinkTable;
 use cover_problem::{PlainTable, Problem, Table, read_cover};
 use drawn_problems::SMALL;
 use std::alloc::Global;
+use std::process::Abort;
 use std::test::Fail;
 use x_steps::{Event, Machine, Walk, no_counts};
 
@@ -36,6 +39,20 @@ fn steps_back<T: Table>(machine: &mut Machine<T>) -> u32 {
 }
 
 /// Walks to the visit, steps on to the end, and steps back to the start: whether the walk was right, and how many single steps these were.
+fn walks_about<T: Table>(machine: &mut Machine<T>, counts: &mut [u32]) -> (bool, u32, u32)
+    requires { counts.old ≡ replicate (length machine.old.problem.names + 1) 0 }
+{
+    let walked = machine.walk(100, &[], counts);
+    let visit = Walk {
+        steps: 30,
+        event: Event::Visited,
+    };
+    let on = steps_on(machine);
+    let back = steps_back(machine);
+    (walked == Ok(visit), on, back)
+}
+
+/// The same of a new machine with this table.
 fn goes_about<T: Table>(
     alloc: Global,
     problem: &Problem,
@@ -46,14 +63,7 @@ fn goes_about<T: Table>(
 {
     let mut counts = no_counts(alloc, problem.items())?;
     let mut machine = Machine::new(alloc, problem, table).map_err(|_| "no memory for a machine")?;
-    let walked = machine.walk(100, &[], &mut counts);
-    let visit = Walk {
-        steps: 30,
-        event: Event::Visited,
-    };
-    let on = steps_on(&mut machine);
-    let back = steps_back(&mut machine);
-    Ok((walked == Ok(visit), on, back))
+    Ok(walks_about(&mut machine, &mut counts))
 }
 
 /// Covers and uncovers three items of a new table, and goes about with it.
@@ -93,4 +103,81 @@ fn a_plain_table_takes_no_memory(rt: HostRuntime) -> Result<(), Fail> {
     let went = covers_and_goes_about::<PlainTable>(rt.alloc(), &problem)?;
     assert!(rt; went == (true, 13, 43));
     grows(rt.alloc())
+}
+
+/// The table of links of a problem, on a second try where the first is refused. None where the second is, too, and where the problem
+/// isn't as before.
+fn table_again(alloc: Global, problem: &Problem, copy: &Problem) -> Option<LinkTable> {
+    if let Ok(table) = LinkTable::new(alloc, problem) {
+        return Some(table);
+    }
+    if !problem.same(copy) {
+        return None;
+    }
+    LinkTable::new(alloc, problem).ok()
+}
+
+/// Tells a table that isn't the small problem's, and one that isn't made.
+fn assert_made(rt: &impl Abort, table: Option<LinkTable>) {
+    assert!(rt; table.is_some());
+    if let Some(table) = table {
+        assert_small_block(rt, &table);
+    }
+}
+
+#[test]
+fn a_refused_table_is_made_again(rt: HostRuntime) -> Result<(), Fail> {
+    let problem = read_cover(rt.alloc(), SMALL.as_bytes())?;
+    let copy = problem.copy()?;
+    let _last = vec![in rt.alloc(); 0u8; 1].map_err(|_| "refused before the call")?;
+    assert_made(&rt, table_again(rt.alloc(), &problem, &copy));
+    Ok(())
+}
+
+/// Whether a table is that of the small problem, with nothing covered.
+fn is_unused(table: &LinkTable) -> bool {
+    table.entries() == 31 && is_small_block(table) && table.covered().is_empty()
+}
+
+/// The machine over a table, from the table that comes back where the first try is refused. None where the second is, too, and where
+/// the table isn't as before.
+fn machine_again<'p>(
+    alloc: Global,
+    problem: &'p Problem,
+    table: LinkTable,
+) -> Option<Machine<'p, LinkTable>>
+    requires same_problem { table.problem ≡ problem.now }
+    requires covered { table.covered ≡ [] }
+    ensures { IfSome result (λ m. m.problem ≡ problem.now) }
+{
+    let table = match Machine::new(alloc, problem, table) {
+        Ok(machine) => return Some(machine),
+        Err(table) => table,
+    };
+    if !is_unused(&table) {
+        return None;
+    }
+    Machine::new(alloc, problem, table).ok()
+}
+
+/// Whether a machine of a problem that was made goes about as one to which nothing is refused.
+fn is_made(problem: &Problem, machine: Option<Machine<LinkTable>>, counts: &mut [u32]) -> bool
+    requires machine { IfSome machine (λ m. m.problem ≡ problem.now) }
+    requires counts { counts.old ≡ replicate (length problem.now.names + 1) 0 }
+{
+    match machine {
+        Some(mut machine) => walks_about(&mut machine, counts) == (true, 13, 43),
+        None => false,
+    }
+}
+
+#[test]
+fn a_refused_machine_gives_its_table_back(rt: HostRuntime) -> Result<(), Fail> {
+    let problem = read_cover(rt.alloc(), SMALL.as_bytes())?;
+    let table = LinkTable::new(rt.alloc(), &problem)?;
+    let mut counts = no_counts(rt.alloc(), problem.items())?;
+    let _last = vec![in rt.alloc(); 0u8; 1].map_err(|_| "refused before the call")?;
+    let machine = machine_again(rt.alloc(), &problem, table);
+    assert!(rt; is_made(&problem, machine, &mut counts));
+    Ok(())
 }

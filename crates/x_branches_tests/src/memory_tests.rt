@@ -1,0 +1,233 @@
+//! Calls of a runner to which memory is refused: what was handed in comes back, the runner is as it was, and the same call, made again,
+//! is answered as where nothing is refused. `tools/check_memory` runs these tests with one growth refused, each growth in turn.
+ghost use Rattle.std.specs.Prelude.{◌≡◌, []};
+
+use crate::setting::{branch_of, small, whole};
+use cover_problem::{PlainTable, Problem, Table};
+use drawn_problems::state_of;
+use std::alloc::Global;
+use std::test::Fail;
+use x_branches::{Branch, Cut, Runner, RunnerFault, StartFault, Stretch};
+use x_steps::{AtFault, Cursor, Event, Label, State};
+
+/// A call of a runner that takes memory.
+#[derive(Clone, Copy)]
+enum Call {
+    Advance,
+    /// The cut at an option of a level.
+    Cut(usize, u32),
+    TakeStretch,
+}
+
+/// What it is answered.
+#[derive(Drop)]
+enum Answer<'p> {
+    Event(Event),
+    Cut(Cut<'p>),
+    Stretch(Stretch<'p>),
+}
+
+/// Whether two stretches are the same, part by part.
+fn are_stretches(stretch: &Stretch<'_>, other: &Stretch<'_>) -> bool {
+    stretch.same(other)
+        && stretch.steps() == other.steps()
+        && stretch.visits().same(other.visits())
+        && stretch.levels() == other.levels()
+}
+
+impl Answer<'_> {
+    /// Whether it is the same answer.
+    fn same(&self, other: &Answer<'_>) -> bool {
+        match (self, other) {
+            (Answer::Event(one), Answer::Event(other)) => one == other,
+            (Answer::Cut(one), Answer::Cut(other)) => one.same(other),
+            (Answer::Stretch(one), Answer::Stretch(other)) => are_stretches(one, other),
+            _ => false,
+        }
+    }
+}
+
+/// The stretch of a runner.
+fn take_stretch<'p>(runner: &mut Runner<'p, PlainTable>) -> Result<Stretch<'p>, RunnerFault> {
+    match runner.take_stretch() {
+        Ok(stretch) => Ok(stretch),
+        Err(_) => Err(RunnerFault::OutOfMemory),
+    }
+}
+
+/// Makes a call.
+fn make<'p>(runner: &mut Runner<'p, PlainTable>, call: Call) -> Result<Answer<'p>, RunnerFault> {
+    match call {
+        Call::Advance => Ok(Answer::Event(runner.advance()?)),
+        Call::Cut(level, option) => Ok(Answer::Cut(runner.cut(level, option)?)),
+        Call::TakeStretch => Ok(Answer::Stretch(take_stretch(runner)?)),
+    }
+}
+
+/// Whether two runners stand alike: branch, mark, state and covered items, and how many steps are unposted.
+fn stand_alike(runner: &Runner<'_, PlainTable>, other: &Runner<'_, PlainTable>) -> bool {
+    runner.branch().same(other.branch())
+        && runner.mark().same(other.mark())
+        && runner.state().same(other.state())
+        && runner.covered() == other.covered()
+        && runner.unposted() == other.unposted()
+}
+
+/// What a call is answered, on a second try where the first is refused. None where the second is, too, and where the first changed the
+/// runner.
+fn made_again<'p>(
+    runner: &mut Runner<'p, PlainTable>,
+    call: Call,
+    before: &Runner<'p, PlainTable>,
+) -> Option<Answer<'p>> {
+    match make(runner, call) {
+        Ok(answer) => Some(answer),
+        Err(fault) => {
+            if fault != RunnerFault::OutOfMemory || !stand_alike(runner, before) {
+                return None;
+            }
+            make(runner, call).ok()
+        }
+    }
+}
+
+/// A runner of the whole run, after so many steps.
+fn advanced<'p>(
+    alloc: Global,
+    problem: &'p Problem,
+    steps: u32,
+) -> Result<Runner<'p, PlainTable>, Fail> {
+    let mut runner = whole(alloc, problem)?;
+    for _ in 0..steps {
+        if runner.advance().is_err() {
+            return Err(Fail::from("no step"));
+        }
+    }
+    Ok(runner)
+}
+
+/// Whether a call of a runner is answered like that of another one, which it was like before, and they stand alike then.
+fn ends_alike<'p>(
+    alloc: Global,
+    runner: &mut Runner<'p, PlainTable>,
+    other: &mut Runner<'p, PlainTable>,
+    before: &Runner<'p, PlainTable>,
+    call: Call,
+) -> Result<bool, Fail> {
+    let Ok(wanted) = make(other, call) else {
+        return Err(Fail::from("no answer"));
+    };
+    let _last = vec![in alloc; 0u8; 1].map_err(|_| "refused before the call")?;
+    match made_again(runner, call, before) {
+        Some(answer) => Ok(answer.same(&wanted) && stand_alike(runner, other)),
+        None => Ok(false),
+    }
+}
+
+/// Whether a call after so many steps of the run is answered as where nothing is refused.
+fn is_answered_after(
+    alloc: Global,
+    problem: &Problem,
+    steps: u32,
+    call: Call,
+) -> Result<bool, Fail> {
+    let before = advanced(alloc, problem, steps)?;
+    let mut other = advanced(alloc, problem, steps)?;
+    let mut runner = advanced(alloc, problem, steps)?;
+    ends_alike(alloc, &mut runner, &mut other, &before, call)
+}
+
+#[test]
+fn a_refused_visit_is_made_again(rt: HostRuntime) -> Result<(), Fail> {
+    let problem = small(rt.alloc())?;
+    assert!(rt; is_answered_after(rt.alloc(), &problem, 29, Call::Advance)?);
+    Ok(())
+}
+
+#[test]
+fn a_refused_cut_leaves_the_runner(rt: HostRuntime) -> Result<(), Fail> {
+    let problem = small(rt.alloc())?;
+    assert!(rt; is_answered_after(rt.alloc(), &problem, 5, Call::Cut(0, 4))?);
+    Ok(())
+}
+
+#[test]
+fn a_refused_stretch_stays_with_the_runner(rt: HostRuntime) -> Result<(), Fail> {
+    let problem = small(rt.alloc())?;
+    assert!(rt; is_answered_after(rt.alloc(), &problem, 30, Call::TakeStretch)?);
+    Ok(())
+}
+
+/// Whether a start was refused for want of memory alone.
+fn is_no_memory(fault: StartFault) -> bool {
+    fault == StartFault::Steps(AtFault::OutOfMemory)
+        || fault == StartFault::Runner(RunnerFault::OutOfMemory)
+}
+
+/// The runner of a branch from a state on, from the table and the branch that come back where the first try is refused. None where the
+/// second is, too, and where they aren't as before.
+fn runner_again<'p>(
+    alloc: Global,
+    problem: &'p Problem,
+    table: PlainTable,
+    branch: Branch<'p>,
+    copy: &Branch<'p>,
+    state: &State,
+) -> Option<Runner<'p, PlainTable>>
+    requires same_problem { table.problem ≡ problem.now }
+    requires covered { table.covered ≡ [] }
+{
+    let refused = match Runner::new(alloc, problem, table, branch, state) {
+        Ok(runner) => return Some(runner),
+        Err(refused) => refused,
+    };
+    let (table, branch) = refused.given;
+    if !is_no_memory(refused.fault) || !table.covered().is_empty() || !branch.same(copy) {
+        return None;
+    }
+    match Runner::new(alloc, problem, table, branch, state) {
+        Ok(runner) => Some(runner),
+        Err(_) => None,
+    }
+}
+
+/// Whether a runner stands at a state of a branch with nothing unposted, and visits 4 5 1 after so many steps.
+fn goes_on(
+    runner: Option<Runner<'_, PlainTable>>,
+    branch: &Branch<'_>,
+    state: &State,
+    steps: u32,
+) -> bool {
+    let Some(mut runner) = runner else {
+        return false;
+    };
+    let stands = runner.branch().same(branch) && runner.state().same(state);
+    let is_marked = runner.mark().same(state) && runner.unposted() == 0;
+    for _ in 0..steps {
+        if runner.advance().is_err() {
+            return false;
+        }
+    }
+    stands
+        && is_marked
+        && runner.is_visit()
+        && runner.state().path.as_slice() == [4, 5, 1].as_slice()
+}
+
+/// Whether a runner that goes on from the cut 4 starts as where nothing is refused.
+fn starts_again(alloc: Global, problem: &Problem) -> Result<bool, Fail> {
+    let state = state_of(alloc, Label::X5, &[], Cursor::At(4))?;
+    let branch = branch_of(alloc, problem, &[4], &[])?;
+    let copy = branch.copy()?;
+    let table = PlainTable::new(alloc, problem)?;
+    let _last = vec![in alloc; 0u8; 1].map_err(|_| "refused before the call")?;
+    let runner = runner_again(alloc, problem, table, branch, &copy, &state);
+    Ok(goes_on(runner, &copy, &state, 9))
+}
+
+#[test]
+fn a_refused_runner_gives_its_table_and_its_branch_back(rt: HostRuntime) -> Result<(), Fail> {
+    let problem = small(rt.alloc())?;
+    assert!(rt; starts_again(rt.alloc(), &problem)?);
+    Ok(())
+}

@@ -1,6 +1,6 @@
 //! A desk to which memory is refused: blank and book come back, the book as it was, and the same desk is made of them then.
 //! `tools/check_memory` runs this test with one growth refused, each growth in turn.
-ghost use Rattle.std.specs.Prelude.{◌≡◌, ◌×◌};
+ghost use Rattle.std.specs.Prelude.{◌≡◌};
 
 use crate::books::{begins_with, begun};
 use crate::desk_tests::{has_tiles, tiles_of};

@@ -42,7 +42,7 @@ fn a_seat_is_missing(rt: HostRuntime) -> Result<(), Fail> {
 }
 
 /// Copies of a book's tiles.
-pub fn tiles_of<'p>(alloc: Global, book: &Book<'p>) -> Result<Vec<Tile<'p>>, AllocError> {
+fn tiles_of<'p>(alloc: Global, book: &Book<'p>) -> Result<Vec<Tile<'p>>, AllocError> {
     let mut tiles = Vec::new(alloc);
     for tile in book.tiles() {
         tiles.push(tile.copy()?)?;
@@ -51,7 +51,7 @@ pub fn tiles_of<'p>(alloc: Global, book: &Book<'p>) -> Result<Vec<Tile<'p>>, All
 }
 
 /// Whether a book's tiles are these.
-pub fn has_tiles(book: &Book<'_>, tiles: &[Tile<'_>]) -> bool {
+fn has_tiles(book: &Book<'_>, tiles: &[Tile<'_>]) -> bool {
     if book.tiles().len() != tiles.len() {
         return false;
     }

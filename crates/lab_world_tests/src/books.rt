@@ -2,8 +2,7 @@
 
 mod acts;
 mod entry_tests;
-pub mod finishing;
-mod memory_tests;
+mod finishing;
 mod new_tests;
 mod resumed_tests;
 mod search_tests;

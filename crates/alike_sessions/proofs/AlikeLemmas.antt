@@ -1,6 +1,5 @@
 -- Two branches at work on alike books, at the same state with the same mark: what they are asked for they answer alike.
-use Rattle.std.proofs.Common.{◌≡◌, ℕ, zero, suc, ◌≤◌, ◌==◌, nat_lt, Bool, true, false, cond, Some, None, List, [], ◌∷◌, refl, sym}
-use Rattle.std.proofs.Common.{ap, ◌∙◌, subst, arith}
+use Rattle.std.proofs.Common.{◌≡◌, ℕ, zero, suc, ◌≤◌, ◌==◌, nat_lt, Bool, true, false, cond, Some, None, List, [], ◌∷◌, refl, sym, ap, ◌∙◌, subst, arith}
 use Rattle.text_lines.specs.Writing.{line_text}
 use Rattle.cover_problem.specs.Lists.{has}
 use Rattle.x_steps.specs.Steps.{next}
@@ -29,9 +28,11 @@ use Rattle.debug_language.specs.declared.words.Plain.TheVariants.{Closed}
 use Rattle.debug_language.specs.declared.words.Counted.TheVariants as counts
 use Rattle.debug_views.specs.Lines.{plain, counted, state_line, book_refusal, runner_refusal}
 use Rattle.debug_acts.specs.Desk.{DeskAnswer, desk}
-use Rattle.debug_acts.specs.Walking.{AtWork, unposted_steps, steps_ahead, post_call, posted, posted_if_any, with_room, stepped, forward}
+use Rattle.debug_acts.specs.Walking.{unposted_steps, steps_ahead, post_call, posted, posted_if_any, with_room, stepped, forward}
+use Rattle.debug_acts.specs.Work.{AtWork, WorkAnswer, answered}
 use Rattle.debug_acts.specs.Giving.{parked, park, save, closed, not_closed, close}
-use Rattle.debug_acts.specs.Parting.{WorkAnswer, answered, no_cut, parted, parted_line, split, book_asked, retracted_by, retract}
+use Rattle.debug_acts.specs.Parting.{parted, parted_line, split, book_asked, retracted_by, retract}
+use Rattle.lab_world.specs.World.{cut_refusal}
 use Rattle.debug_acts.proofs.GiveLemmas.{rest_grant}
 use Rattle.alike_books.specs.AlikeBooks.{AreAlikeBooks}
 use Rattle.alike_books.specs.AlikeCalls.{Correspond, NameSameTile, addressed, anonymous_reply, AreAlikeOutcomes}
@@ -227,14 +228,14 @@ module _ (u v : AtWork) (s : IsSoundWork u) (t : IsSoundWork v) (k : AreAlikeWor
       split_by : AtWork → Bool → WorkAnswer
       split_by a b = cond b
           (answered (parted_line a.worker.runner (cut_at a.worker.runner level o) ∷ []) (parted a (cut_at a.worker.runner level o)))
-          (answered (runner_refusal (no_cut a.worker.runner level o) ∷ []) a)
+          (answered (runner_refusal (cut_refusal a.worker.runner level o) ∷ []) a)
 
       by : (b : Bool) → AreAlikeWorkAnswers (split_by u b) (split_by v b)
       by true = record {
         lines = ap (λ (r : RunnerValue). parted_line r (cut_at r level o) ∷ []) k.runner;
         work = parted_alike level o;
       }
-      by false = record { lines = ap (λ (r : RunnerValue). runner_refusal (no_cut r level o) ∷ []) k.runner; work = k }
+      by false = record { lines = ap (λ (r : RunnerValue). runner_refusal (cut_refusal r level o) ∷ []) k.runner; work = k }
 
   -- ---- the tile is given up
 

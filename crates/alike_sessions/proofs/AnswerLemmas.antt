@@ -1,6 +1,5 @@
 -- Sound sessions that are alike answer each command, each line and each text that is loaded with the same text, and stay alike.
-use Rattle.std.proofs.Common.{◌≡◌, ℕ, ◌≤◌, Bool, true, false, cond, Option, Some, None, Result, Ok, Err, List, [], ◌∷◌, map}
-use Rattle.std.proofs.Common.{length, refl, sym, ap, ◌∙◌, subst}
+use Rattle.std.proofs.Common.{◌≡◌, ℕ, ◌≤◌, Bool, true, false, cond, Option, Some, None, Result, Ok, Err, List, [], ◌∷◌, map, length, refl, sym, ap, ◌∙◌, subst}
 use Rattle.text_lines.specs.Writing.{text_of}
 use Rattle.cover_problem.specs.Problem.{ProblemValue, is_same}
 use Rattle.x_steps.specs.StateValue.{StateValue}
@@ -27,19 +26,14 @@ use Rattle.debug_language.specs.declared.fault.DebugFault.TheVariants.{BadComman
 use Rattle.debug_views.specs.Breakpoints.{with_break}
 use Rattle.debug_views.specs.Lines.{plain, counted, set, state_line, debug_refusal, book_refusal, snapshot_refusal}
 use Rattle.debug_views.specs.Showing.{show_lines, all_untried, or_none}
-use Rattle.debug_views.specs.Tiles.{tile_line, visits_lines, place_at, refusal_or}
-use Rattle.debug_views.specs.Tiles.{answer_of_tile, hold, put_back}
+use Rattle.debug_views.specs.Tiles.{tile_line, visits_lines, place_at, refusal_or, answer_of_tile, hold, put_back}
 use Rattle.debug_acts.specs.Desk.{DeskAnswer}
-use Rattle.debug_acts.specs.Walking.{AtWork, work, forward, steps_ahead, step_count, step_lines, run_count, run_lines, back_count}
-use Rattle.debug_acts.specs.Walking.{back_lines, state_back}
+use Rattle.debug_acts.specs.Walking.{forward, steps_ahead, step_count, step_lines, run_count, run_lines, back_count, back_lines, run, gone_back}
+use Rattle.debug_acts.specs.Work.{AtWork, work, WorkAnswer, answered}
 use Rattle.debug_acts.specs.Entering.{enter_call, stand_lines, entered_at, enter}
-use Rattle.debug_acts.specs.Parting.{WorkAnswer}
 use Rattle.debug_acts.proofs.WalkedLemmas.{least_within}
 use Rattle.x_debug.specs.Session.{SessionValue}
-use Rattle.x_debug.specs.Commands.{Answer, says, with_breaks, if_open, if_none_open, on_work, on_desk, on_book, answer, answer_if}
-use Rattle.x_debug.specs.Commands.{answer_line, answer_show, answer_untried, answer_branches, answer_visits, answer_steps, answer_levels}
-use Rattle.x_debug.specs.Commands.{answer_set, answer_clear, answer_step, answer_run, answer_back, answer_park, answer_save, answer_close}
-use Rattle.x_debug.specs.Commands.{answer_split, answer_retract, answer_hold, answer_put_back, answer_enter}
+use Rattle.x_debug.specs.Commands.{Answer, says, with_breaks, if_open, if_none_open, on_work, on_desk, on_book, answer, answer_if, answer_line, answer_show, answer_untried, answer_branches, answer_visits, answer_steps, answer_levels, answer_set, answer_clear, answer_step, answer_run, answer_back, answer_park, answer_save, answer_close, answer_split, answer_retract, answer_hold, answer_put_back, answer_enter}
 use Rattle.x_debug.specs.Loading.{answers, load_by, load_answer, loaded, breaks_of}
 use Rattle.alike_books.specs.AlikeBooks.{open_tiles}
 use Rattle.alike_books.specs.AlikeCalls.{Correspond, addressed, AreAlikeOutcomes}
@@ -50,8 +44,7 @@ use Rattle.alike_books.proofs.CallLemmas.{call_alike}
 use Rattle.alike_sessions.specs.AlikeSessions.{runner_of, AreAlikeSessions, AreSoundAlike, AreAlikeAnswers}
 use Rattle.alike_sessions.proofs.WorkLemmas.{IsSoundWork}
 use Rattle.alike_sessions.proofs.SoundLemmas.{run_within, work_of, answer_sound, line_sound, load_sound}
-use Rattle.alike_sessions.proofs.AlikeLemmas.{AreAlikeWorks, AreAlikeWorkAnswers, AreAlikeDeskAnswers, step_alike, forward_alike}
-use Rattle.alike_sessions.proofs.AlikeLemmas.{retract_alike, split_alike, save_alike, park_alike, close_alike}
+use Rattle.alike_sessions.proofs.AlikeLemmas.{AreAlikeWorks, AreAlikeWorkAnswers, AreAlikeDeskAnswers, step_alike, forward_alike, retract_alike, split_alike, save_alike, park_alike, close_alike}
 use Rattle.alike_sessions.proofs.TileLemmas.{lines_seen, same_line, place_meet, naming, names_same, same_refusal, runner_seen, both_open, stand_alike}
 
 -- the same text, and alike sessions that are left
@@ -72,13 +65,13 @@ module _ (a b : SessionValue) (p : AreSoundAlike a b) where
   breaks_agree bs cs l m e g = record { text = ap text_of g; session = record { book = k.book; runner = k.runner; breaks = e } }
 
   -- its branch is at work
-  work_agree : (l m : List (List (List ℕ))) (u v : AtWork) → l ≡ m → AreAlikeWorks u v → Agree (on_work a l u) (on_work b m v)
+  work_agree : (l m : List (List (List ℕ))) (u v : AtWork) → l ≡ m → AreAlikeWorks u v → Agree (on_work a (answered l u)) (on_work b (answered m v))
   work_agree l m u v e q = record {
     text = ap text_of e;
     session = record { book = q.book; runner = ap (λ (r : RunnerValue). Some r) q.runner; breaks = k.breaks };
   }
 
-  answer_agrees : (x y : WorkAnswer) → AreAlikeWorkAnswers x y → Agree (on_work a x.lines x.work) (on_work b y.lines y.work)
+  answer_agrees : (x y : WorkAnswer) → AreAlikeWorkAnswers x y → Agree (on_work a x) (on_work b y)
   answer_agrees x y q = work_agree x.lines y.lines x.work y.work q.lines q.work
 
   desk_agrees : (x y : DeskAnswer) → AreAlikeDeskAnswers x y → Agree (on_desk a x) (on_desk b y)
@@ -133,7 +126,8 @@ module _ (a b : SessionValue) (p : AreSoundAlike a b) where
   on_agrees : (v w : WorkerValue) → IsSoundWork (work a.book v) → IsSoundWork (work b.book w)
       → AreAlikeWorks (work a.book v) (work b.book w) → (count : RunnerValue → ℕ) → ((r : RunnerValue) → count r ≤ steps_ahead r)
       → (l m : List (List (List ℕ))) → l ≡ m
-      → Agree (on_work a l (forward (count v.runner) (work a.book v))) (on_work b m (forward (count w.runner) (work b.book w)))
+      → Agree (on_work a (answered l (forward (count v.runner) (work a.book v))))
+      (on_work b (answered m (forward (count w.runner) (work b.book w))))
   on_agrees v w s t q count within l m same =
       work_agree l m _ _ same
       (subst (λ (n : ℕ). AreAlikeWorks (forward (count v.runner) (work a.book v)) (forward n (work b.book w))) (ap count q.runner)
@@ -146,14 +140,13 @@ module _ (a b : SessionValue) (p : AreSoundAlike a b) where
 
   run_agrees : Agree (answer_run a) (answer_run b)
   run_agrees = open_agree _ _ (λ v w s t q.
-      subst (λ (bs : List Break). Agree (on_work a (run_lines a.breaks v.runner) (forward (run_count a.breaks v.runner) (work a.book v)))
-      (on_work b (run_lines bs w.runner) (forward (run_count bs w.runner) (work b.book w)))) k.breaks
+      subst (λ (bs : List Break). Agree (on_work a (run (work a.book v) a.breaks)) (on_work b (run (work b.book w) bs))) k.breaks
       (on_agrees v w s t q (run_count a.breaks) (run_within a.breaks) _ _ (ap (run_lines a.breaks) q.runner)))
 
   back_agrees : (n : ℕ) → Agree (answer_back a n) (answer_back b n)
   back_agrees n = open_agree _ _ (λ v w s t q.
-      work_agree (back_lines v.runner n) (back_lines w.runner n) (work a.book (moved_to v (state_back v.runner (back_count v.runner n))))
-      (work b.book (moved_to w (state_back w.runner (back_count w.runner n)))) (ap (λ (r : RunnerValue). back_lines r n) q.runner)
+      work_agree (back_lines v.runner n) (back_lines w.runner n) (work a.book (gone_back v n)) (work b.book (gone_back w n))
+      (ap (λ (r : RunnerValue). back_lines r n) q.runner)
       (record { book = q.book; runner = ap (λ (r : RunnerValue). record r { position = state_back r (back_count r n) }) q.runner }))
 
   -- ---- the branch is given up, parted, or its last stretch is taken out

@@ -1,6 +1,5 @@
 -- A new session is sound, and so is what each command, line and text leaves of a sound one.
-use Rattle.std.proofs.Common.{◌≡◌, ℕ, zero, suc, ◌+◌, ◌-◌, ◌≤◌, ◌==◌, ◌⊎◌, inl, inr, not, Bool, true, false, cond, Option, Some, None}
-use Rattle.std.proofs.Common.{Result, Ok, Err, List, [], ◌∷◌, length, refl, sym, subst, arith, option_map, IfSome}
+use Rattle.std.proofs.Common.{◌≡◌, ℕ, zero, suc, ◌+◌, ◌-◌, ◌≤◌, ◌==◌, ◌⊎◌, inl, inr, not, Bool, true, false, cond, Option, Some, None, Result, Ok, Err, List, [], ◌∷◌, length, refl, sym, subst, arith, option_map, IfSome}
 use Rattle.std.specs.List.{position_or_len}
 use Rattle.std.proofs.lemmas.Bool.Decides.{eqb_tells}
 use Rattle.cover_problem.specs.Problem.{ProblemValue, is_same}
@@ -44,20 +43,17 @@ use Rattle.debug_views.specs.Breakpoints.{meets_one, steps_to_break}
 use Rattle.debug_views.specs.Lines.{plain, state_line, book_refusal}
 use Rattle.debug_views.specs.Tiles.{answer_of_tile, hold, put_back, place_at}
 use Rattle.debug_acts.specs.Desk.{desk}
-use Rattle.debug_acts.specs.Walking.{AtWork, work, steps_ahead, step_count, run_count}
-use Rattle.debug_acts.specs.Walking.{back_count}
+use Rattle.debug_acts.specs.Walking.{steps_ahead, step_count, run_count, back_count}
+use Rattle.debug_acts.specs.Work.{AtWork, work, answered}
 use Rattle.debug_acts.specs.Giving.{closed, not_closed}
 use Rattle.debug_acts.specs.Entering.{entered_at, enter, lent_by}
 use Rattle.debug_acts.proofs.WalkedLemmas.{least_within}
 use Rattle.x_debug.specs.Session.{SessionValue, fresh_session, session_on, entered}
-use Rattle.x_debug.specs.Commands.{Answer, if_open, if_none_open, on_work, on_desk, on_book, answer, answer_if, answer_line, answer_step}
-use Rattle.x_debug.specs.Commands.{answer_run, answer_back, answer_park, answer_save, answer_close, answer_split, answer_retract}
-use Rattle.x_debug.specs.Commands.{answer_hold, answer_put_back, answer_enter}
+use Rattle.x_debug.specs.Commands.{Answer, if_open, if_none_open, on_work, on_desk, on_book, answer, answer_if, answer_line, answer_step, answer_run, answer_back, answer_park, answer_save, answer_close, answer_split, answer_retract, answer_hold, answer_put_back, answer_enter}
 use Rattle.x_debug.specs.Loading.{answers, load_by, load_answer, loaded, breaks_of}
 use Rattle.alike_sessions.specs.AlikeSessions.{HasRunner, IsSoundSession}
 use Rattle.alike_sessions.proofs.CallLemmas.{IsOfRun, call_keeps}
-use Rattle.alike_sessions.proofs.WorkLemmas.{IsSoundWork, mark_within, forward_sound, back_sound, split_sound, retract_sound, parked_tiling}
-use Rattle.alike_sessions.proofs.WorkLemmas.{closed_tiling, not_closed_sound}
+use Rattle.alike_sessions.proofs.WorkLemmas.{IsSoundWork, mark_within, forward_sound, back_sound, split_sound, retract_sound, parked_tiling, closed_tiling, not_closed_sound}
 
 -- ---- who leases a tile has a runner at its mark
 
@@ -178,7 +174,7 @@ module _ (s : SessionValue) (h : IsSoundSession s) where
       let seat = subst (IsSeat s.book 0) e h.seat in
       record { tiling = h.tiling; seat = seat.0; holds = seat.1; runner = subst HasRunner e h.runner }
 
-  work_sound : (l : List (List (List ℕ))) (u : AtWork) → IsSoundWork u → IsSoundSession (on_work s l u).session
+  work_sound : (l : List (List (List ℕ))) (u : AtWork) → IsSoundWork u → IsSoundSession (on_work s (answered l u)).session
   work_sound l u p = record { tiling = p.tiling; seat = (p.seat, p.holds); runner = p.runner }
 
   given_sound : (b : BookValue) → IsTiling b.problem b.branch b.first b.tiles

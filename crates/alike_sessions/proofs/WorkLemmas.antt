@@ -1,8 +1,6 @@
 -- A branch at work stays sound: where what isn't posted is posted, where its search steps on or back, where it is parted, and where its
 -- last stretch is taken out.
-use Rattle.std.proofs.Common.{◌≡◌, ℕ, zero, suc, ◌+◌, ◌-◌, ◌<◌, ◌≤◌, ◌==◌, ◌⊎◌, inl, inr, nat_lt, Bool, true, false, cond, Option}
-use Rattle.std.proofs.Common.{Some, None}
-use Rattle.std.proofs.Common.{Result, List, [], ◌∷◌, refl, sym, ap, ◌∙◌, subst, arith, eq-eqb, eqb-true}
+use Rattle.std.proofs.Common.{◌≡◌, ℕ, zero, suc, ◌+◌, ◌-◌, ◌<◌, ◌≤◌, ◌==◌, ◌⊎◌, inl, inr, nat_lt, Bool, true, false, cond, Option, Some, None, Result, List, [], ◌∷◌, refl, sym, ap, ◌∙◌, subst, arith, eq-eqb, eqb-true}
 use Rattle.std.proofs.lemmas.Bool.{cases_lt, false≢true}
 use Rattle.cover_problem.specs.Lists.{has}
 use Rattle.cover_problem.specs.Problem.{ProblemValue}
@@ -36,15 +34,15 @@ use Rattle.lab_book.specs.Tiling.{IsTiling}
 use Rattle.lab_book.specs.Book.{BookValue, Outcome, outcome, made_at, unless, last_of, retracted, retract_fault}
 use Rattle.lab_book.proofs.TileLemmas.{end_fits, stretch_by, tile_can_start}
 use Rattle.debug_views.specs.Lines.{runner_refusal}
-use Rattle.lab_world.specs.Worker.{WorkerValue, HasTile, HoldsTile, after_post, after_retract, after_split, marked_at, moved_to}
-use Rattle.lab_world.specs.Worker.{shortened, cut_at}
+use Rattle.lab_world.specs.Worker.{WorkerValue, HasTile, HoldsTile, after_post, after_retract, after_split, marked_at, moved_to, shortened, cut_at}
 use Rattle.lab_world.proofs.HoldLemmas.{passed}
 use Rattle.lab_world.proofs.OwnLemmas.{Has, own, own_is_tile, found_own, last_own, some_is, post_has, retract_has, split_has}
 use Rattle.lab_world.proofs.SplitLemmas.{cut_is, split_is}
-use Rattle.debug_acts.specs.Walking.{AtWork, work, unposted_steps, steps_ahead, post_call, posted, posted_if_any, with_room, stepped}
-use Rattle.debug_acts.specs.Walking.{forward, state_on}
+use Rattle.debug_acts.specs.Walking.{unposted_steps, steps_ahead, post_call, posted, posted_if_any, with_room, stepped, forward, state_on}
+use Rattle.debug_acts.specs.Work.{AtWork, work, answered}
 use Rattle.debug_acts.specs.Giving.{parked, closed, not_closed}
-use Rattle.debug_acts.specs.Parting.{answered, no_cut, parted, parted_line, split, book_asked, retracted_by, retract}
+use Rattle.debug_acts.specs.Parting.{parted, parted_line, split, book_asked, retracted_by, retract}
+use Rattle.lab_world.specs.World.{cut_refusal}
 use Rattle.debug_acts.proofs.CloseLemmas.{refused_is}
 use Rattle.debug_acts.proofs.PostLemmas.{granted}
 use Rattle.debug_acts.proofs.ForwardLemmas.{can_walk, ahead_is}
@@ -381,7 +379,7 @@ module _ (u : AtWork) (s : IsSoundWork u) where
       by : (b : Bool) → has (untried_in u.worker.runner level) o ≡ b
           → IsSoundWork (cond b
           (answered (parted_line u.worker.runner (cut_at u.worker.runner level o) ∷ []) (parted u (cut_at u.worker.runner level o)))
-          (answered (runner_refusal (no_cut u.worker.runner level o) ∷ []) u)).work
+          (answered (runner_refusal (cut_refusal u.worker.runner level o) ∷ []) u)).work
       by true e = parted_sound u s level o e
       by false e = s
 

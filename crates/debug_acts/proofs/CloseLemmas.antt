@@ -27,7 +27,8 @@ use Rattle.lab_book.specs.Calls.{Made, Refuses}
 use Rattle.lab_book.proofs.TileLemmas.{is_same_state, same_state_is}
 use Rattle.lab_world.specs.Worker.{WorkerValue, HoldsTile, HasTile}
 use Rattle.lab_world.proofs.OwnLemmas.{found_own, own, own_is_tile}
-use Rattle.debug_acts.specs.Walking.{AtWork, work, posted, posted_if_any, unposted_steps, steps_ahead}
+use Rattle.debug_acts.specs.Walking.{posted, posted_if_any, unposted_steps, steps_ahead}
+use Rattle.debug_acts.specs.Work.{AtWork, work}
 use Rattle.debug_acts.specs.Giving.{closed, not_closed}
 use Rattle.debug_views.proofs.CallLemmas.{done_not_refused}
 use Rattle.debug_acts.proofs.GiveLemmas.{rest_grant, at_mark}

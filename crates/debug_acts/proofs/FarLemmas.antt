@@ -12,7 +12,8 @@ use Rattle.x_branches.specs.Walk.{CanAdvanceBy}
 use Rattle.lab_book.specs.Book.{BookValue}
 use Rattle.lab_world.specs.Worker.{WorkerValue, moved_to, marked_at}
 use Rattle.x_texts.specs.Words.{visit_words}
-use Rattle.debug_acts.specs.Walking.{AtWork, work, with_room, stepped, forward, IsPartWay, steps_ahead, step_count, state_on, visit_lines}
+use Rattle.debug_acts.specs.Walking.{with_room, stepped, forward, IsPartWay, steps_ahead, step_count, state_on, visit_lines}
+use Rattle.debug_acts.specs.Work.{AtWork, work}
 use Rattle.debug_acts.proofs.WalkLemmas.{room_worker, step_made, step_within}
 use Rattle.debug_acts.proofs.ForwardLemmas.{CanWalk, to_end, on_goes_on}
 use Rattle.debug_acts.proofs.WalkedLemmas.{least_both}

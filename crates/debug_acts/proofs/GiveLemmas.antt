@@ -12,7 +12,8 @@ use Rattle.lab_book.specs.Book.{BookValue, Outcome, outcome, book_step, made_at,
 use Rattle.lab_book.specs.Calls.{Made, Refuses}
 use Rattle.lab_world.specs.Worker.{WorkerValue, HoldsTile}
 use Rattle.lab_world.proofs.OwnLemmas.{found_own}
-use Rattle.debug_acts.specs.Walking.{AtWork, work, posted, posted_if_any, unposted_steps}
+use Rattle.debug_acts.specs.Walking.{posted, posted_if_any, unposted_steps}
+use Rattle.debug_acts.specs.Work.{AtWork, work}
 use Rattle.debug_acts.specs.Giving.{parked, IsNotGiven}
 use Rattle.debug_views.proofs.CallLemmas.{done_not_refused}
 

@@ -21,7 +21,8 @@ use Rattle.lab_book.proofs.TilingLemmas.{tile_in}
 use Rattle.lab_world.specs.Worker.{WorkerValue, HoldsTile, unposted, marked_at}
 use Rattle.lab_world.proofs.OwnLemmas.{found_own}
 use Rattle.debug_acts.specs.Walking as walking
-use Rattle.debug_acts.specs.Walking.{work, post_call}
+use Rattle.debug_acts.specs.Walking.{post_call}
+use Rattle.debug_acts.specs.Work.{work}
 
 module _ (b : BookValue) (x : WorkerValue) (tiling : IsTiling b.problem b.branch b.first b.tiles) (h : HoldsTile b x) (k : IsRunner x.runner) where
   abbrev pub own : TileValue

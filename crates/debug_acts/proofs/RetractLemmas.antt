@@ -26,8 +26,9 @@ use Rattle.debug_language.specs.declared.words.Counted.TheVariants as counts
 use Rattle.debug_language.specs.declared.words.Layer.TheVariants as layer
 use Rattle.debug_language.specs.Replies.{refused_words}
 use Rattle.debug_views.specs.Lines.{state_line, counted, runner_refusal, book_refusal}
-use Rattle.debug_acts.specs.Walking.{work, unposted_steps}
-use Rattle.debug_acts.specs.Parting.{WorkAnswer, answered, retracted_by, retract}
+use Rattle.debug_acts.specs.Walking.{unposted_steps}
+use Rattle.debug_acts.specs.Work.{work, WorkAnswer, answered}
+use Rattle.debug_acts.specs.Parting.{retracted_by, retract}
 use Rattle.debug_acts.proofs.GiveLemmas.{at_mark}
 use Rattle.debug_views.proofs.LineLemmas.{one_line}
 

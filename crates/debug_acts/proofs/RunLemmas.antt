@@ -26,7 +26,8 @@ use Rattle.lab_world.specs.Worker.{HoldsTile, moved_to}
 use Rattle.debug_views.specs.Breakpoints.{first_met, meets_one, steps_to_break}
 use Rattle.debug_acts.proofs.WalkedLemmas.{Walked, none_walked, walked_on, part_way, ended, not_ended, left, position, same_problem}
 use Rattle.debug_acts.proofs.ForwardLemmas.{CanWalk, on_goes_on}
-use Rattle.debug_acts.specs.Walking.{AtWork, IsPartWay, work, posted, with_room, stepped, forward, unposted_steps, steps_ahead, state_on, visit_lines, run_count}
+use Rattle.debug_acts.specs.Walking.{IsPartWay, posted, with_room, stepped, forward, unposted_steps, steps_ahead, state_on, visit_lines, run_count}
+use Rattle.debug_acts.specs.Work.{AtWork, work}
 use Rattle.debug_acts.proofs.WalkLemmas.{on_position}
 
 -- ---- what is met

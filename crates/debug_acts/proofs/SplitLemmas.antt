@@ -16,8 +16,9 @@ use Rattle.lab_world.specs.Worker.{WorkerValue, shortened, cut_at, split_call}
 use Rattle.debug_language.specs.declared.words.Layer.TheVariants as layer
 use Rattle.debug_language.specs.Replies.{refused_words}
 use Rattle.debug_views.specs.Lines.{runner_refusal}
-use Rattle.debug_acts.specs.Walking.{work}
-use Rattle.debug_acts.specs.Parting.{WorkAnswer, answered, parted, parted_line, no_cut, split}
+use Rattle.debug_acts.specs.Work.{work, WorkAnswer, answered}
+use Rattle.debug_acts.specs.Parting.{parted, parted_line, split}
+use Rattle.lab_world.specs.World.{cut_refusal}
 use Rattle.debug_acts.proofs.RetractLemmas.{runner_line}
 
 module _ (b : BookValue) (x : WorkerValue) (level o : ℕ) where
@@ -33,7 +34,7 @@ module _ (b : BookValue) (x : WorkerValue) (level o : ℕ) where
 
   -- ---- it isn't
 
-  none_cut : has (untried_in x.runner level) o ≡ false → split (work b x) level o ≡ answered (runner_refusal (no_cut x.runner level o) ∷ []) (work b x)
+  none_cut : has (untried_in x.runner level) o ≡ false → split (work b x) level o ≡ answered (runner_refusal (cut_refusal x.runner level o) ∷ []) (work b x)
   none_cut e = rw e refl
 
   -- what is untried is left above the choice
@@ -48,7 +49,7 @@ module _ (b : BookValue) (x : WorkerValue) (level o : ℕ) where
           let yes_left = left.1 in cc
 
   -- the runner's fault is the one that is told
-  told : (f : RunnerFault) (n : ℕ) → CutRefused x.runner level o f → number_of f ≡ Some n → (has (untried_in x.runner level) o ≡ false) × (f ≡ no_cut x.runner level o)
+  told : (f : RunnerFault) (n : ℕ) → CutRefused x.runner level o f → number_of f ≡ Some n → (has (untried_in x.runner level) o ≡ false) × (f ≡ cut_refusal x.runner level o)
   told OutsideBranch n h e = (h.1, rw h.0 refl)
   told NothingUntried n h e = (not_left h.0, rw h.0 (ap (λ (xs : List ℕ). cond (length xs == 0) NothingUntried NotUntried) (sym h.1)))
   told NotUntried n h e = (not_left h.0, rw h.0 (by (eqb_tells (length (untried_in x.runner level)) 0)))

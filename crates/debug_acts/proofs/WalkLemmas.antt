@@ -6,7 +6,8 @@ use Rattle.x_branches.specs.Runner.{visit_of}
 use Rattle.x_branches.specs.Refusals.{most_steps}
 use Rattle.lab_book.specs.Book.{BookValue}
 use Rattle.lab_world.specs.Worker.{WorkerValue, moved_to, marked_at}
-use Rattle.debug_acts.specs.Walking.{AtWork, work, posted, with_room, stepped, forward, state_on, unposted_steps}
+use Rattle.debug_acts.specs.Walking.{posted, with_room, stepped, forward, state_on, unposted_steps}
+use Rattle.debug_acts.specs.Work.{AtWork, work}
 
 module _ (a : AtWork) where
   pub room_worker : (with_room a).worker ≡ marked_at a.worker (with_room a).worker.runner.mark

@@ -8,7 +8,8 @@ use Rattle.x_branches.specs.Branch.{end_of}
 use Rattle.x_branches.specs.Runner.{RunnerValue, visit_of}
 use Rattle.lab_world.specs.Worker.{HoldsTile}
 use Rattle.x_texts.specs.Words.{visit_words}
-use Rattle.debug_acts.specs.Walking.{AtWork, with_room, stepped, forward, IsPartWay, steps_ahead, state_on, visit_lines, smaller_of, step_count}
+use Rattle.debug_acts.specs.Walking.{with_room, stepped, forward, IsPartWay, steps_ahead, state_on, visit_lines, smaller_of, step_count}
+use Rattle.debug_acts.specs.Work.{AtWork}
 use Rattle.debug_acts.proofs.WalkLemmas.{on_problem, on_branch, on_position, forward_more}
 use Rattle.debug_acts.proofs.ForwardLemmas.{CanWalk, all_gone, not_all, ahead_is, no_lines, lines_next, lines_join}
 

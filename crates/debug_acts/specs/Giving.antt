@@ -1,5 +1,5 @@
 -- A branch is given up: parked, saved, or closed.
-use Rattle.std.specs.Prelude.{◌==◌, ◌⊎◌, ◌≡◌, List, Some, None, if◌then◌else◌}
+use Rattle.std.specs.Prelude.{◌==◌, List, Some, None, if◌then◌else◌}
 use Rattle.text_lines.specs.Writing.{line_text}
 use Rattle.x_texts.specs.declared.breakpoint.Break.{Break}
 use Rattle.x_snapshot.specs.Snapshot.{SnapshotValue, snapshot_with}
@@ -12,7 +12,9 @@ use Rattle.debug_language.specs.declared.words.Plain.TheVariants.{Parked, Closed
 use Rattle.debug_language.specs.Replies.{saved_text}
 use Rattle.debug_views.specs.Lines.{plain, book_refusal}
 use Rattle.debug_acts.specs.Desk.{DeskAnswer, desk}
-use Rattle.debug_acts.specs.Walking.{AtWork, posted_if_any, steps_ahead}
+use Rattle.debug_acts.specs.Walking.{posted_if_any, steps_ahead}
+use Rattle.debug_acts.specs.Work.{AtWork}
+use Rattle.debug_views.specs.Left.{IsEither}
 
 -- what isn't posted is posted, and the tile is given up
 unfoldable pub parked : AtWork → BookValue
@@ -47,4 +49,4 @@ close a =
 
 -- where a branch is left that couldn't be given up, out of memory: as it was, or with what wasn't posted posted
 abbrev pub IsNotGiven : AtWork → AtWork → Type 0
-IsNotGiven a b = (b ≡ a) ⊎ (b ≡ posted_if_any a)
+IsNotGiven a b = IsEither b a (posted_if_any a)

@@ -1,3 +1,4 @@
+pub mod Work
 pub mod Walking
 pub mod Desk
 pub mod Entering

@@ -1,40 +1,25 @@
 -- A branch is parted at an option that is untried, and its last posted stretch is walked again.
 use Rattle.std.specs.Prelude.{ℕ, ◌==◌, true, List, [], ◌∷◌, Some, length, if◌then◌else◌}
 use Rattle.cover_problem.specs.Lists.{has}
-use Rattle.x_branches.specs.declared.fault.RunnerFault.{RunnerFault}
-use Rattle.x_branches.specs.declared.fault.RunnerFault.TheVariants.{NothingUntried, NotUntried, OutsideBranch, NotAtMark}
+use Rattle.x_branches.specs.declared.fault.RunnerFault.TheVariants.{NotAtMark}
 use Rattle.x_branches.specs.Cut.{CutPath}
 use Rattle.x_branches.specs.Runner.{RunnerValue}
 use Rattle.x_branches.specs.Refusals.{untried_in}
-use Rattle.x_branches.specs.Untried.{left_above}
 use Rattle.lab_book.specs.declared.entry.Call.TheVariants as call
 use Rattle.lab_book.specs.declared.entry.Reply.{Reply}
 use Rattle.lab_book.specs.declared.entry.Reply.TheVariants as reply
 use Rattle.lab_book.specs.Book.{BookValue, outcome, book_step, path_of}
 use Rattle.lab_world.specs.Worker.{marked_at, shortened, cut_at}
+use Rattle.lab_world.specs.World.{cut_refusal}
 use Rattle.debug_language.specs.declared.words.Counted.TheVariants as counts
 use Rattle.debug_language.specs.declared.words.Standing.TheVariants as standing
 use Rattle.debug_language.specs.Replies.{standing_words}
 use Rattle.x_steps.specs.Run.{steps_between}
 use Rattle.debug_views.specs.Lines.{state_line, counted, runner_refusal, book_refusal}
-use Rattle.debug_acts.specs.Walking.{AtWork, work, unposted_steps}
-
--- lines that are answered, and what is left of a book and its worker
-pub record WorkAnswer : Type 0 where
-  pub lines : List (List (List ℕ))
-  pub work : AtWork
-
--- these lines, and this book with this worker
-abbrev pub answered : List (List (List ℕ)) → AtWork → WorkAnswer
-answered lines a = record { lines = lines; work = a }
+use Rattle.debug_acts.specs.Work.{AtWork, WorkAnswer, work, answered}
+use Rattle.debug_acts.specs.Walking.{unposted_steps}
 
 -- ---- `split`
-
--- why there is no cut at an option of a level: the option is past the branch's end, none is untried at the level, or this one isn't
-abbrev pub no_cut : RunnerValue → ℕ → ℕ → RunnerFault
-no_cut r level o =
-    if has (left_above r.problem level r.position) o then OutsideBranch else
-    (if length (untried_in r level) == 0 then NothingUntried else NotUntried)
 
 -- a tile is split at a cut, and its worker's branch ends there
 unfoldable pub parted : AtWork → CutPath → AtWork
@@ -50,7 +35,7 @@ abbrev pub split : AtWork → ℕ → ℕ → WorkAnswer
 split a level o =
     if has (untried_in a.worker.runner level) o
     then answered (parted_line a.worker.runner (cut_at a.worker.runner level o) ∷ []) (parted a (cut_at a.worker.runner level o))
-    else answered (runner_refusal (no_cut a.worker.runner level o) ∷ []) a
+    else answered (runner_refusal (cut_refusal a.worker.runner level o) ∷ []) a
 
 -- ---- `retract`
 

@@ -12,21 +12,13 @@ use Rattle.lab_book.specs.declared.entry.Call.{Call}
 use Rattle.lab_book.specs.declared.entry.Call.TheVariants as call
 use Rattle.lab_book.specs.Book.{BookValue, book_step}
 use Rattle.lab_world.specs.Worker.{WorkerValue, moved_to, marked_at}
+use Rattle.debug_acts.specs.Work.{AtWork, WorkAnswer, work, answered}
 use Rattle.debug_language.specs.declared.fault.DebugFault.TheVariants.{AtEnd, AtStart}
 use Rattle.debug_language.specs.declared.words.Plain.TheVariants.{End}
 use Rattle.debug_language.specs.declared.words.Counted.TheVariants.{Moved}
 use Rattle.x_texts.specs.Words.{visit_words}
 use Rattle.debug_views.specs.Breakpoints.{first_met, steps_to_break}
 use Rattle.debug_views.specs.Lines.{plain, counted, state_line, met, debug_refusal}
-
--- a book, and a worker that holds one of its tiles
-pub record AtWork : Type 0 where
-  pub book : BookValue
-  pub worker : WorkerValue
-
--- this book and this worker, as one value
-abbrev pub work : BookValue → WorkerValue → AtWork
-work b w = record { book = b; worker = w }
 
 -- how many steps of a runner are not posted, and how many lie before it
 abbrev pub unposted_steps : RunnerValue → ℕ
@@ -79,9 +71,13 @@ moved_lines n s = counted Moved n ∷ state_line s ∷ []
 abbrev pub state_on : RunnerValue → ℕ → StateValue
 state_on r n = after r.problem n r.position
 
+-- the lines of the visits of its next n steps
+abbrev pub visits_on : RunnerValue → ℕ → List (List (List ℕ))
+visits_on r n = visit_lines r.problem r.position (state_on r n)
+
 -- after so many steps: the visits, how many steps there were, and where the search stands
 abbrev pub walk_lines : RunnerValue → ℕ → List (List (List ℕ))
-walk_lines r n = visit_lines r.problem r.position (state_on r n) ++ moved_lines n (state_on r n)
+walk_lines r n = visits_on r n ++ moved_lines n (state_on r n)
 
 -- the smaller one of two numbers
 abbrev pub smaller_of : ℕ → ℕ → ℕ
@@ -103,6 +99,10 @@ step_lines r n =
     if steps_ahead r == 0 then debug_refusal AtEnd ∷ [] else
     walk_lines r (step_count r n) ++ end_lines r (step_count r n)
 
+-- `step` where n steps are asked for
+abbrev pub step : AtWork → ℕ → WorkAnswer
+step a n = answered (step_lines a.worker.runner n) (forward (step_count a.worker.runner n) a)
+
 -- ---- `run`: on to the first state that meets a breakpoint, or to the end; refused at the end
 
 -- how many steps `run` takes: on to the first state that meets one of these breakpoints, or to the end of the branch; 0 at the end
@@ -120,6 +120,10 @@ run_lines breaks r =
     if steps_ahead r == 0 then debug_refusal AtEnd ∷ [] else
     walk_lines r (run_count breaks r) ++ stop_line r.problem.names (first_met r.problem breaks (state_on r (run_count breaks r))) ∷ []
 
+-- `run` with these breakpoints
+abbrev pub run : AtWork → List Break → WorkAnswer
+run a breaks = answered (run_lines breaks a.worker.runner) (forward (run_count breaks a.worker.runner) a)
+
 -- ---- `back`: back by so many steps, or to the mark; refused at the mark
 
 -- how many steps `back` takes of n that are asked for: no more than lead back to the mark
@@ -135,6 +139,14 @@ abbrev pub back_lines : RunnerValue → ℕ → List (List (List ℕ))
 back_lines r n =
     if unposted_steps r == 0 then debug_refusal AtStart ∷ [] else
     moved_lines (back_count r n) (state_back r (back_count r n))
+
+-- a worker n steps back, or at its mark where that is nearer
+abbrev pub gone_back : WorkerValue → ℕ → WorkerValue
+gone_back w n = moved_to w (state_back w.runner (back_count w.runner n))
+
+-- `back` where n steps are asked for
+abbrev pub back : AtWork → ℕ → WorkAnswer
+back a n = answered (back_lines a.worker.runner n) (work a.book (gone_back a.worker n))
 
 -- where it is left when memory runs out: so many steps back, all of them at most
 pub record IsPartBack (a b : WorkerValue) (most : ℕ) : Type 0 where

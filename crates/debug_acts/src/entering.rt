@@ -1,5 +1,5 @@
 //! A branch of the book is opened.
-ghost use Rattle.std.specs.Prelude.{◌≡◌, ◌<◌, ◌++◌, ◌⊎◌, None, Some, length, option_copied, IfOk, IfErr, OnOk, OnErr};
+ghost use Rattle.std.specs.Prelude.{◌≡◌, ◌<◌, ◌⊎◌, None, Some, length, option_copied, IfOk, IfErr, OnOk, OnErr};
 ghost use Rattle.lab_book.specs.Tile.{is_held};
 ghost use Rattle.lab_book.specs.Tiling.{tile_at};
 ghost use Rattle.lab_book.specs.Book.{outcome, book_step};
@@ -8,6 +8,7 @@ ghost use Rattle.lab_world.specs.Worker.{HoldsTile, lent_worker};
 ghost use Rattle.lab_world.specs.World.{IsSeat};
 ghost use Rattle.debug_acts.specs.Desk.{desk};
 ghost use Rattle.debug_acts.specs.Entering.{enter_call, lent_by, enter};
+ghost use Rattle.x_texts.specs.Writes.{Writes};
 
 use cover_problem::Table;
 use debug_language::write_at;
@@ -55,8 +56,9 @@ fn enter_at<'p, T: Table>(
     text: &mut Vec<u8>,
 ) -> Result<Option<Worker<'p, T>>, AllocError>
     requires { place < length book.old.tiles }
-    ensures made { IfOk result (λ worker. desk book.new worker ≡ (lent_by book.old (enter_call (tile_at book.old.tiles place))).desk) }
-    ensures text { OnOk result (text.new.items ≡ text.old.items ++ (lent_by book.old (enter_call (tile_at book.old.tiles place))).text) }
+    ensures made { IfOk result (λ worker. desk book.new worker ≡
+        (lent_by book.old (enter_call (tile_at book.old.tiles place))).desk) }
+    ensures text { OnOk result (Writes text.old text.new (lent_by book.old (enter_call (tile_at book.old.tiles place))).text) }
     ensures left { OnErr result ((book.new ≡ book.old)
         ⊎ (desk book.new None ≡ (lent_by book.old (enter_call (tile_at book.old.tiles place))).desk)) }
     ensures seat { IfOk result (IsSeat book.new 0) }
@@ -81,7 +83,7 @@ pub fn enter<'p, T: Table>(
     text: &mut Vec<u8>,
 ) -> Result<Option<Worker<'p, T>>, AllocError>
     ensures made { IfOk result (λ worker. desk book.new worker ≡ (enter book.old (option_copied lo.entry)).desk) }
-    ensures text { OnOk result (text.new.items ≡ text.old.items ++ (enter book.old (option_copied lo.entry)).text) }
+    ensures text { OnOk result (Writes text.old text.new (enter book.old (option_copied lo.entry)).text) }
     ensures left { OnErr result ((book.new ≡ book.old) ⊎ (desk book.new None ≡ (enter book.old (option_copied lo.entry)).desk)) }
     ensures seat { IfOk result (IsSeat book.new 0) }
 {

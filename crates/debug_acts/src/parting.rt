@@ -1,12 +1,14 @@
 //! A branch is parted, and its last posted stretch is walked again.
-ghost use Rattle.std.specs.Prelude.{◌≡◌, ◌∷◌, [], ◌++◌, ◌⊎◌, OnOk, OnErr};
-ghost use Rattle.text_lines.specs.Writing.{line_text, text_of};
+ghost use Rattle.std.specs.Prelude.{◌≡◌, ◌∷◌, [], OnOk, OnErr};
 ghost use Rattle.lab_book.specs.Book.{path_of};
 ghost use Rattle.lab_world.specs.Worker.{HoldsTile};
 ghost use Rattle.debug_language.specs.Replies.{standing_words};
-ghost use Rattle.debug_acts.specs.Walking.{work, unposted_steps};
+ghost use Rattle.debug_acts.specs.Walking.{unposted_steps};
+ghost use Rattle.debug_acts.specs.Work.{work};
 ghost use Rattle.debug_views.specs.Lines.{state_line, counted};
 ghost use Rattle.debug_acts.specs.Parting.{retract, split};
+ghost use Rattle.x_texts.specs.Writes.{WritesLine, WritesLines};
+ghost use Rattle.debug_views.specs.Left.{IsEither};
 
 use cover_problem::Table;
 use debug_language::{
@@ -20,8 +22,8 @@ use x_branches::Branch;
 
 /// Writes how many steps a worker took back, which are unposted now, and where it stands.
 fn write_retracted<T: Table>(text: &mut Vec<u8>, worker: &Worker<'_, T>) -> Result<(), AllocError>
-    ensures { OnOk result (text.new.items ≡ text.old.items
-        ++ text_of (counted Counted.Retracted (unposted_steps worker.now.runner) ∷ state_line worker.now.runner.position ∷ [])) }
+    ensures { OnOk result (WritesLines text.old text.new (counted Counted.Retracted
+        (unposted_steps worker.now.runner) ∷ state_line worker.now.runner.position ∷ [])) }
 {
     write_counted(text, Counted::Retracted, worker.runner().unposted() as u128)?;
     write_at(text, worker.runner().state())
@@ -36,9 +38,9 @@ pub fn retract<'p, T: Table>(
 ) -> Result<(), AllocError>
     requires holds { HoldsTile book.old worker.old }
     ensures made { OnOk result (work book.new worker.new ≡ (retract (work book.old worker.old)).work) }
-    ensures text { OnOk result (text.new.items ≡ text.old.items ++ text_of (retract (work book.old worker.old)).lines) }
-    ensures left { OnErr result ((work book.new worker.new ≡ work book.old worker.old)
-        ⊎ (work book.new worker.new ≡ (retract (work book.old worker.old)).work)) }
+    ensures text { OnOk result (WritesLines text.old text.new (retract (work book.old worker.old)).lines) }
+    ensures left { OnErr result (IsEither (work book.new worker.new) (work book.old worker.old)
+        (retract (work book.old worker.old)).work) }
     ensures holds_on { HoldsTile book.new worker.new }
 {
     let _tiles = book.tiles();
@@ -56,8 +58,8 @@ fn write_parted<T: Table>(
     worker: &Worker<'_, T>,
     before: &Branch<'_>,
 ) -> Result<(), AllocError>
-    ensures { OnOk result (text.new.items ≡ text.old.items
-        ++ line_text (standing_words (path_of worker.now.runner.branch.hi) (path_of before.now.hi) Standing.Waiting)) }
+    ensures { OnOk result (WritesLine text.old text.new (standing_words (path_of worker.now.runner.branch.hi)
+        (path_of before.now.hi) Standing.Waiting)) }
 {
     let runner = worker.runner();
     write_standing(
@@ -79,9 +81,9 @@ pub fn split<'p, T: Table>(
 ) -> Result<(), AllocError>
     requires holds { HoldsTile book.old worker.old }
     ensures made { OnOk result (work book.new worker.new ≡ (split (work book.old worker.old) level option).work) }
-    ensures text { OnOk result (text.new.items ≡ text.old.items ++ text_of (split (work book.old worker.old) level option).lines) }
-    ensures left { OnErr result ((work book.new worker.new ≡ work book.old worker.old)
-        ⊎ (work book.new worker.new ≡ (split (work book.old worker.old) level option).work)) }
+    ensures text { OnOk result (WritesLines text.old text.new (split (work book.old worker.old) level option).lines) }
+    ensures left { OnErr result (IsEither (work book.new worker.new) (work book.old worker.old)
+        (split (work book.old worker.old) level option).work) }
     ensures holds_on { HoldsTile book.new worker.new }
 {
     let before = worker.runner().branch().copy()?;

@@ -1,7 +1,8 @@
 //! What a worker walked is posted.
 ghost use Rattle.std.specs.Prelude.{◌≡◌, ◌<◌, OnOk, OnErr};
 ghost use Rattle.lab_world.specs.Worker.{HoldsTile};
-ghost use Rattle.debug_acts.specs.Walking.{work, posted, posted_if_any, with_room};
+ghost use Rattle.debug_acts.specs.Walking.{posted, posted_if_any, with_room};
+ghost use Rattle.debug_acts.specs.Work.{work};
 
 use cover_problem::Table;
 use lab_book::Book;

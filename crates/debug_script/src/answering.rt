@@ -1,10 +1,11 @@
 //! What a session of a problem answers to command lines.
-ghost use Rattle.std.specs.Prelude.{◌≡◌, ◌≤◌, ◌++◌, length, drop, option_map, IfOk, IfSome, OnOk};
+ghost use Rattle.std.specs.Prelude.{◌≡◌, ◌≤◌, length, drop, option_map, IfOk, IfSome, OnOk};
 ghost use Rattle.alike_sessions.specs.AlikeSessions.{AreSoundAlike};
 ghost use Rattle.x_debug.specs.Session.{SessionValue, fresh_session};
 ghost use Rattle.debug_script.specs.Input.{raw_lines};
 ghost use Rattle.debug_script.specs.Replies as spec;
 ghost use Rattle.debug_script.specs.Replies.{debug_replies};
+ghost use Rattle.x_texts.specs.Writes.{Writes};
 
 use crate::fault::RepliesFault;
 use crate::input::{raw_line, take_lines, without_newline};
@@ -19,7 +20,7 @@ use x_debug::Session;
 
 /// Writes an answer after those before it.
 pub(crate) fn append(text: &mut Vec<u8>, answer: &[u8]) -> Result<(), AllocError>
-    ensures { OnOk result (text.new.items ≡ text.old.items ++ answer.now) }
+    ensures { OnOk result (Writes text.old text.new answer.now) }
 {
     text.extend_from_slice(answer)
 }
@@ -36,7 +37,7 @@ fn exchange<'p, 'a, T: Table, R: Threads + Wait + Sync, G: Gate>(
     text: &mut Vec<u8>,
 ) -> Result<(Session<'p, T>, Option<&'a [u8]>), RepliesFault>
     ensures text { OnOk result ((f : SessionValue) → AreSoundAlike session.entry f →
-        text.new.items ≡ text.old.items ++ (spec.exchange f raw.now (raw_lines after.now)).text) }
+        Writes text.old text.new (spec.exchange f raw.now (raw_lines after.now)).text) }
     ensures session { IfOk result (λ r. (f : SessionValue) → AreSoundAlike session.entry f →
         AreSoundAlike r.0 (spec.exchange f raw.now (raw_lines after.now)).session) }
     ensures left { IfOk result (λ r. (f : SessionValue) → option_map (λ rest. raw_lines rest.now) r.1
@@ -75,7 +76,7 @@ fn answer_lines<T: Table, R: Threads + Wait + Sync, G: Gate>(
     text: &mut Vec<u8>,
 ) -> Result<(), RepliesFault>
     ensures { OnOk result ((f : SessionValue) → AreSoundAlike session.entry f →
-        text.new.items ≡ text.old.items ++ debug_replies f 0 (raw_lines commands.now)) }
+        Writes text.old text.new (debug_replies f 0 (raw_lines commands.now))) }
 {
     let mut session = session;
     let mut rest = commands;

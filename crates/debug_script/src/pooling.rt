@@ -1,5 +1,5 @@
 //! A session's book is searched by workers on threads.
-ghost use Rattle.std.specs.Prelude.{◌≡◌, ◌++◌, OnOk, IfOk, IfErr};
+ghost use Rattle.std.specs.Prelude.{◌≡◌, OnOk, IfOk, IfErr};
 ghost use Rattle.text_lines.specs.Writing.{line_text};
 ghost use Rattle.lab_book.specs.Book.{leased_in};
 ghost use Rattle.lab_book.specs.Tiling.{IsTiling};
@@ -8,6 +8,7 @@ ghost use Rattle.alike_sessions.specs.AlikeSessions.{AreSoundAlike};
 ghost use Rattle.debug_views.specs.Lines.{debug_refusal};
 ghost use Rattle.x_debug.specs.Session.{SessionValue, session_on};
 ghost use Rattle.debug_script.specs.Pooling.{none_held, pool_words, answer_pool};
+ghost use Rattle.x_texts.specs.Writes.{Writes, WritesLine};
 
 use crate::answering::append;
 use crate::fault::RepliesFault;
@@ -34,7 +35,7 @@ fn pool_line(all: bool) -> &'static [u8]
 
 /// Writes that a branch is open.
 fn refuse_open(text: &mut Vec<u8>) -> Result<(), AllocError>
-    ensures { OnOk result (text.new.items ≡ text.old.items ++ line_text (debug_refusal DebugFault.AlreadyOpen)) }
+    ensures { OnOk result (WritesLine text.old text.new (debug_refusal DebugFault.AlreadyOpen)) }
 {
     write_debug_fault(text, DebugFault::AlreadyOpen)
 }
@@ -81,7 +82,7 @@ pub(crate) fn pool<'p, T: Table, R: Threads + Wait + Sync, G: Gate>(
     text: &mut Vec<u8>,
 ) -> Result<Session<'p, T>, RepliesFault>
     ensures text { OnOk result ((f : SessionValue) → AreSoundAlike session.entry f →
-        text.new.items ≡ text.old.items ++ (answer_pool f).text) }
+        Writes text.old text.new (answer_pool f).text) }
     ensures session { IfOk result (λ s. (f : SessionValue) → AreSoundAlike session.entry f →
         AreSoundAlike s (answer_pool f).session) }
 {

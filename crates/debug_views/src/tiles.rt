@@ -1,6 +1,5 @@
 //! Which tile a cut names, and how tiles are shown.
-ghost use Rattle.std.specs.Prelude.{◌≡◌, ◌<◌, ◌++◌, ◌⊎◌, length, option_copied, IfErr, OnOk, OnErr, IfSome};
-ghost use Rattle.text_lines.specs.Writing.{line_text, text_of};
+ghost use Rattle.std.specs.Prelude.{◌≡◌, ◌<◌, length, option_copied, IfErr, OnOk, OnErr, IfSome};
 ghost use Rattle.lab_book.specs.declared.entry.Reply.TheVariants as replies;
 ghost use Rattle.lab_book.specs.Tile.{is_closed};
 ghost use Rattle.lab_book.specs.Tiling.{tile_at};
@@ -10,6 +9,8 @@ ghost use Rattle.x_steps.specs.StateView.{state_value};
 ghost use Rattle.debug_views.specs.Lines.{book_refusal, plain};
 ghost use Rattle.debug_views.specs.Showing.{or_none};
 ghost use Rattle.debug_views.specs.Tiles.{is_begun_at, place_at, standing_of, tile_line, open_lines, visits_lines, tile_call, answer_of_cut, hold, put_back};
+ghost use Rattle.x_texts.specs.Writes.{WritesLine, WritesLines};
+ghost use Rattle.debug_views.specs.Left.{IsEither};
 
 use crate::showing::choices;
 use debug_language::{
@@ -58,7 +59,7 @@ fn standing_of(status: Status) -> Standing
 
 /// Writes a tile: its cuts, and how it stands.
 pub fn write_tile(text: &mut Vec<u8>, tile: &Tile<'_>) -> Result<(), AllocError>
-    ensures { OnOk result (text.new.items ≡ text.old.items ++ line_text (tile_line tile.now)) }
+    ensures { OnOk result (WritesLine text.old text.new (tile_line tile.now)) }
 {
     write_standing(
         text,
@@ -70,7 +71,7 @@ pub fn write_tile(text: &mut Vec<u8>, tile: &Tile<'_>) -> Result<(), AllocError>
 
 /// Writes the tiles that are not closed.
 fn write_open(text: &mut Vec<u8>, tiles: &[Tile<'_>]) -> Result<(), AllocError>
-    ensures { OnOk result (text.new.items ≡ text.old.items ++ text_of (open_lines tiles.now)) }
+    ensures { OnOk result (WritesLines text.old text.new (open_lines tiles.now)) }
 {
     for tile in tiles {
         if !is_closed(tile.status()) {
@@ -82,7 +83,7 @@ fn write_open(text: &mut Vec<u8>, tiles: &[Tile<'_>]) -> Result<(), AllocError>
 
 /// `branches`: the tiles that are not closed.
 pub fn branches(book: &Book<'_>, text: &mut Vec<u8>) -> Result<(), AllocError>
-    ensures { OnOk result (text.new.items ≡ text.old.items ++ text_of (or_none (plain Plain.NoBranches) (open_lines book.now.tiles))) }
+    ensures { OnOk result (WritesLines text.old text.new (or_none (plain Plain.NoBranches) (open_lines book.now.tiles))) }
 {
     let written = text.len();
     write_open(text, book.tiles())?;
@@ -94,7 +95,7 @@ pub fn branches(book: &Book<'_>, text: &mut Vec<u8>) -> Result<(), AllocError>
 
 /// `visits`: the posted visits, and how many they are.
 pub fn write_posted(book: &Book<'_>, text: &mut Vec<u8>) -> Result<(), AllocError>
-    ensures { OnOk result (text.new.items ≡ text.old.items ++ text_of (visits_lines (posted_visits book.now.tiles))) }
+    ensures { OnOk result (WritesLines text.old text.new (visits_lines (posted_visits book.now.tiles))) }
 {
     let visits = book.visits()?;
     write_visits(text, &visits)?;
@@ -103,7 +104,7 @@ pub fn write_posted(book: &Book<'_>, text: &mut Vec<u8>) -> Result<(), AllocErro
 
 /// Writes the line of a refusal by the book. Out of memory has none, and is passed on.
 pub fn write_book_fault(text: &mut Vec<u8>, fault: &BookFault) -> Result<(), AllocError>
-    ensures text { OnOk result (text.new.items ≡ text.old.items ++ line_text (book_refusal fault.now)) }
+    ensures text { OnOk result (WritesLine text.old text.new (book_refusal fault.now)) }
     ensures told { OnOk result (fault.now ≡ BookFault.OutOfMemory → ⊥) }
 {
     match fault.number() {
@@ -123,7 +124,7 @@ fn id_at(book: &Book<'_>, place: usize) -> u64
 /// Writes the tile at a place.
 fn write_tile_at(text: &mut Vec<u8>, book: &Book<'_>, place: usize) -> Result<(), AllocError>
     requires { place < length book.now.tiles }
-    ensures { OnOk result (text.new.items ≡ text.old.items ++ line_text (tile_line (tile_at book.now.tiles place))) }
+    ensures { OnOk result (WritesLine text.old text.new (tile_line (tile_at book.now.tiles place))) }
 {
     write_tile(text, &book.tiles()[place])
 }
@@ -147,10 +148,10 @@ fn ask_tile(
     text: &mut Vec<u8>,
 ) -> Result<(), AllocError>
     ensures made { OnOk result (book.new ≡ (answer_of_cut book.old (option_copied lo.entry) (option_copied state.entry)).book) }
-    ensures text { OnOk result (text.new.items ≡ text.old.items
-        ++ text_of (answer_of_cut book.old (option_copied lo.entry) (option_copied state.entry)).lines) }
-    ensures left { OnErr result ((book.new ≡ book.old)
-        ⊎ (book.new ≡ (answer_of_cut book.old (option_copied lo.entry) (option_copied state.entry)).book)) }
+    ensures text { OnOk result (WritesLines text.old text.new
+        (answer_of_cut book.old (option_copied lo.entry) (option_copied state.entry)).lines) }
+    ensures left { OnErr result (IsEither book.new book.old (answer_of_cut book.old (option_copied lo.entry)
+        (option_copied state.entry)).book) }
 {
     let Some(place) = place_at(book, lo) else {
         return write_book_fault(text, &BookFault::UnknownBranch);
@@ -166,8 +167,8 @@ fn ask_tile(
 #[tactic(auto, unfolding(crate::specs::Tiles::hold))]
 pub fn hold(book: &mut Book<'_>, lo: Option<&[u32]>, text: &mut Vec<u8>) -> Result<(), AllocError>
     ensures made { OnOk result (book.new ≡ (hold book.old (option_copied lo.entry)).book) }
-    ensures text { OnOk result (text.new.items ≡ text.old.items ++ text_of (hold book.old (option_copied lo.entry)).lines) }
-    ensures left { OnErr result ((book.new ≡ book.old) ⊎ (book.new ≡ (hold book.old (option_copied lo.entry)).book)) }
+    ensures text { OnOk result (WritesLines text.old text.new (hold book.old (option_copied lo.entry)).lines) }
+    ensures left { OnErr result (IsEither book.new book.old (hold book.old (option_copied lo.entry)).book) }
 {
     ask_tile(book, lo, None, text)
 }
@@ -182,10 +183,10 @@ pub fn put_back(
     text: &mut Vec<u8>,
 ) -> Result<(), AllocError>
     ensures made { OnOk result (book.new ≡ (put_back book.old (option_copied lo.entry) (state_value state.now)).book) }
-    ensures text { OnOk result (text.new.items ≡ text.old.items
-        ++ text_of (put_back book.old (option_copied lo.entry) (state_value state.now)).lines) }
-    ensures left { OnErr result ((book.new ≡ book.old)
-        ⊎ (book.new ≡ (put_back book.old (option_copied lo.entry) (state_value state.now)).book)) }
+    ensures text { OnOk result (WritesLines text.old text.new
+        (put_back book.old (option_copied lo.entry) (state_value state.now)).lines) }
+    ensures left { OnErr result (IsEither book.new book.old (put_back book.old (option_copied lo.entry)
+        (state_value state.now)).book) }
 {
     ask_tile(book, lo, Some(state), text)
 }

@@ -1,6 +1,5 @@
 -- What each command, each line and each text that is loaded leaves is what worker 0's acts make of the session's world.
-use Rattle.std.proofs.Common.{◌≡◌, ℕ, zero, suc, Bool, true, false, cond, Option, Some, None, option_map, Result, Ok, Err, List, [], ◌∷◌}
-use Rattle.std.proofs.Common.{◌<◌, refl, sym, ap, ◌∙◌, subst, arith}
+use Rattle.std.proofs.Common.{◌≡◌, ℕ, zero, suc, Bool, true, false, cond, Option, Some, None, option_map, Result, Ok, Err, List, [], ◌∷◌, ◌<◌, refl, sym, ap, ◌∙◌, subst, arith}
 use Rattle.cover_problem.specs.Problem.{ProblemValue, is_same}
 use Rattle.x_steps.specs.StateView.{state_value}
 use Rattle.x_snapshot.specs.declared.fault.SnapshotFault.{SnapshotFault}
@@ -21,7 +20,8 @@ use Rattle.debug_language.specs.declared.command.Command.TheVariants as commands
 use Rattle.debug_language.specs.Command.{CommandValue, command_value}
 use Rattle.debug_views.specs.Lines.{state_line, book_refusal}
 use Rattle.debug_views.specs.Tiles.{answer_of_tile, hold, put_back, place_at}
-use Rattle.debug_acts.specs.Walking.{work, steps_ahead, step_count, run_count, back_count, unposted_steps}
+use Rattle.debug_acts.specs.Walking.{steps_ahead, step_count, run_count, back_count, unposted_steps}
+use Rattle.debug_acts.specs.Work.{work}
 use Rattle.debug_acts.specs.Entering.{entered_at, enter, lent_by}
 use Rattle.debug_acts.proofs.WalkedLemmas.{least_within}
 use Rattle.x_debug.specs.Session.{SessionValue, fresh_session, entered}
@@ -30,9 +30,7 @@ use Rattle.x_debug.specs.Loading.{answers, load_by, load_answer, loaded}
 use Rattle.alike_sessions.specs.AlikeSessions.{IsSoundSession}
 use Rattle.alike_sessions.proofs.WorkLemmas.{IsSoundWork}
 use Rattle.alike_sessions.proofs.SoundLemmas.{work_of, run_within, line_sound, fresh_sound}
-use Rattle.played_sessions.specs.PlayedSessions.{seated_at, world_of, events, if_at_work, if_idle}
-use Rattle.played_sessions.specs.PlayedSessions.{enter_act, place_acts, acts_of, IsRead, line_acts, left_by_lines, AreRead, all_acts}
-use Rattle.played_sessions.specs.PlayedSessions.{entered_world, whole_book, snapshot_book, loaded_world}
+use Rattle.played_sessions.specs.PlayedSessions.{seated_at, world_of, events, if_at_work, if_idle, enter_act, place_acts, acts_of, IsRead, line_acts, left_by_lines, AreRead, all_acts, entered_world, whole_book, snapshot_book, loaded_world}
 use Rattle.played_sessions.proofs.PlayLemmas.{Leads, then_acts}
 use Rattle.played_sessions.proofs.WalkLemmas.{forward_leads}
 use Rattle.played_sessions.proofs.BackLemmas.{back_leads}

@@ -1,6 +1,5 @@
 -- A branch at work is parked or closed, as worker 0 does.
-use Rattle.std.proofs.Common.{◌≡◌, ℕ, ◌==◌, nat_lt, Bool, true, false, cond, Some, None, [], ◌∷◌, ◌++◌, refl, sym, ap, ◌∙◌, arith}
-use Rattle.std.proofs.Common.{eqb-true, ltb-false}
+use Rattle.std.proofs.Common.{◌≡◌, ℕ, ◌==◌, nat_lt, Bool, true, false, cond, Some, None, [], ◌∷◌, ◌++◌, refl, sym, ap, ◌∙◌, arith, eqb-true, ltb-false}
 use Rattle.std.proofs.lemmas.Bool.{false≢true}
 use Rattle.text_lines.specs.Writing.{line_text}
 use Rattle.x_steps.specs.Run.{after, steps_between}
@@ -22,7 +21,8 @@ use Rattle.lab_world.proofs.OwnLemmas.{own, found_own}
 use Rattle.debug_language.specs.declared.words.Plain.TheVariants.{Closed}
 use Rattle.debug_views.specs.Lines.{plain, book_refusal}
 use Rattle.debug_acts.specs.Desk.{DeskAnswer, desk}
-use Rattle.debug_acts.specs.Walking.{AtWork, unposted_steps, steps_ahead, posted, posted_if_any}
+use Rattle.debug_acts.specs.Walking.{unposted_steps, steps_ahead, posted, posted_if_any}
+use Rattle.debug_acts.specs.Work.{AtWork}
 use Rattle.debug_acts.specs.Giving.{parked, closed, not_closed, close}
 use Rattle.debug_acts.proofs.ForwardLemmas.{can_walk}
 use Rattle.debug_acts.proofs.GiveLemmas.{rest_grant, at_mark}

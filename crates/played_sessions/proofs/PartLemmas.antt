@@ -13,8 +13,9 @@ use Rattle.lab_world.specs.Worker.{WorkerValue, cut_at, split_call, after_split,
 use Rattle.lab_world.specs.World.{Turn, turn, stays, called, cut_refusal}
 use Rattle.lab_world.proofs.SplitLemmas.{split_is}
 use Rattle.debug_views.specs.Lines.{runner_refusal}
-use Rattle.debug_acts.specs.Walking.{AtWork, unposted_steps}
-use Rattle.debug_acts.specs.Parting.{WorkAnswer, answered, no_cut, parted, parted_line, split, book_asked, retracted_by, retract}
+use Rattle.debug_acts.specs.Walking.{unposted_steps}
+use Rattle.debug_acts.specs.Work.{AtWork, WorkAnswer, answered}
+use Rattle.debug_acts.specs.Parting.{parted, parted_line, split, book_asked, retracted_by, retract}
 use Rattle.alike_sessions.proofs.WorkLemmas.{IsSoundWork, asked_reply}
 use Rattle.played_sessions.specs.PlayedSessions.{seated_at}
 use Rattle.played_sessions.proofs.PlayLemmas.{LeadsTo}
@@ -50,7 +51,7 @@ module _ (u : AtWork) (s : IsSoundWork u) where
       where
         by : (b : Bool) → has (untried_in x.runner level) o ≡ b → LeaveTheSame (cond b parting not_parting)
             (cond b (answered (parted_line x.runner (cut_at x.runner level o) ∷ []) (parted u (cut_at x.runner level o)))
-            (answered (runner_refusal (no_cut x.runner level o) ∷ []) u))
+            (answered (runner_refusal (cut_refusal x.runner level o) ∷ []) u))
         by true e = parts e
         by false e = refl
 

@@ -6,7 +6,7 @@ use Rattle.lab_world.specs.declared.event.Act.{Act}
 use Rattle.lab_world.specs.declared.event.WorldEvent.{WorldEvent}
 use Rattle.lab_world.specs.Worker.{WorkerValue}
 use Rattle.lab_world.specs.World.{WorldValue, turn, world_step, played}
-use Rattle.debug_acts.specs.Walking.{AtWork}
+use Rattle.debug_acts.specs.Work.{AtWork}
 use Rattle.played_sessions.specs.PlayedSessions.{seated_at, own_event, events}
 
 -- the fold of two lists of events

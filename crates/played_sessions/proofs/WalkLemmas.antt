@@ -1,6 +1,5 @@
 -- A branch at work posts and steps on, as worker 0 does.
-use Rattle.std.proofs.Common.{◌≡◌, ℕ, zero, suc, ◌≤◌, ◌<◌, ◌==◌, nat_lt, Bool, true, false, cond, Some, List, [], ◌∷◌, ◌++◌, refl, sym, ap}
-use Rattle.std.proofs.Common.{◌∙◌, subst, arith}
+use Rattle.std.proofs.Common.{◌≡◌, ℕ, zero, suc, ◌≤◌, ◌<◌, ◌==◌, nat_lt, Bool, true, false, cond, Some, List, [], ◌∷◌, ◌++◌, refl, sym, ap, ◌∙◌, subst, arith}
 use Rattle.cover_problem.proofs.ProblemLemmas.{is_same_decides}
 use Rattle.x_steps.specs.Steps.{next}
 use Rattle.x_steps.specs.Run.{steps_between}
@@ -17,7 +16,8 @@ use Rattle.lab_world.specs.declared.event.Act.{Act}
 use Rattle.lab_world.specs.declared.event.Act.TheVariants.{Step, Post}
 use Rattle.lab_world.specs.Worker.{WorkerValue, unposted, unposted_steps, moved_to, after_post}
 use Rattle.lab_world.specs.World.{WorldValue, turn, worker_at, played}
-use Rattle.debug_acts.specs.Walking.{AtWork, work, steps_ahead, state_on, post_call, posted, posted_if_any, stepped, forward}
+use Rattle.debug_acts.specs.Walking.{steps_ahead, state_on, post_call, posted, posted_if_any, stepped, forward}
+use Rattle.debug_acts.specs.Work.{AtWork, work}
 use Rattle.debug_acts.proofs.PostLemmas.{granted}
 use Rattle.debug_acts.proofs.ForwardLemmas.{can_walk, ahead_is}
 use Rattle.debug_acts.proofs.WalkLemmas.{on_problem, on_branch, on_position}

@@ -1,10 +1,10 @@
 //! What `count --classes` writes.
-ghost use Rattle.std.specs.Prelude.{◌≡◌, ◌++◌, IfOk, OnOk};
-ghost use Rattle.text_lines.specs.Writing.{text_of};
+ghost use Rattle.std.specs.Prelude.{◌≡◌, IfOk, OnOk};
 ghost use Rattle.poly_place.specs.declared.alike.Group.TheVariants.{Rotations, Symmetries};
 ghost use Rattle.poly_place.specs.Packings.{packing_problem};
 ghost use Rattle.polylab_engine.specs.Classified.{packings_of, classes_of, class_lines, classes_output};
 ghost use Rattle.polylab_engine.specs.Listing.{AreExactCovers};
+ghost use Rattle.x_texts.specs.Writes.{WritesLines};
 
 use crate::fault::JobFault;
 use crate::packed::count_text;
@@ -41,7 +41,7 @@ fn push_classes(
     visits: &Lists,
 ) -> Result<(), AllocError>
     requires { AreExactCovers (packing_problem compiled.now) visits.now }
-    ensures { OnOk result (text.new.items ≡ text.old.items ++ text_of (class_lines
+    ensures { OnOk result (WritesLines text.old text.new (class_lines
         (classes_of Rotations (packings_of compiled.now visits.now))
         (classes_of Symmetries (packings_of compiled.now visits.now)))) }
 {

@@ -1,11 +1,11 @@
 //! What `solve`, `count` and `options` write.
-ghost use Rattle.std.specs.Prelude.{◌≡◌, ◌<◌, ◌++◌, ◌∷◌, [], ℕ, List, length, IfOk, OnOk, decimal};
-ghost use Rattle.text_lines.specs.Writing.{line_text};
+ghost use Rattle.std.specs.Prelude.{◌≡◌, ◌<◌, ◌∷◌, [], ℕ, List, length, IfOk, OnOk, decimal};
 ghost use Rattle.cover_problem.specs.Lists.{has};
 ghost use Rattle.cover_problem.specs.ExactCover.{IsExactCover};
 ghost use Rattle.poly_place.specs.Packings.{packing_problem};
 ghost use Rattle.polylab_engine.specs.Packed.{solve_output, count_output, count_text, options_output, packing_text, packings_from, number_line};
 ghost use Rattle.polylab_engine.specs.Listing.{AreExactCovers};
+ghost use Rattle.x_texts.specs.Writes.{Writes};
 
 use crate::fault::JobFault;
 use crate::report::Report;
@@ -80,7 +80,7 @@ fn push_packings(
     visits: &Lists,
 ) -> Result<(), AllocError>
     requires { AreExactCovers (packing_problem compiled.now) visits.now }
-    ensures { OnOk result (text.new.items ≡ text.old.items ++ packings_from compiled.now 1 visits.now) }
+    ensures { OnOk result (Writes text.old text.new (packings_from compiled.now 1 visits.now)) }
 {
     for k in 0..visits.len() {
         push_packing(alloc, text, compiled, k as u128 + 1, visits.list(k))?;
@@ -97,7 +97,7 @@ fn push_packing(
     path: &[u32],
 ) -> Result<(), AllocError>
     requires { IsExactCover (packing_problem compiled.now) (has path.now) }
-    ensures { OnOk result (text.new.items ≡ text.old.items ++ packing_text compiled.now number path.now) }
+    ensures { OnOk result (Writes text.old text.new (packing_text compiled.now number path.now)) }
 {
     write_number_line(text, "packing", number)?;
     let packing = packing_of(alloc, compiled, path)?;

@@ -1,12 +1,12 @@
 //! The report of a whole search.
-ghost use Rattle.std.specs.Prelude.{◌≡◌, ◌++◌, None, IfOk, OnOk};
-ghost use Rattle.text_lines.specs.Writing.{text_of};
+ghost use Rattle.std.specs.Prelude.{◌≡◌, None, IfOk, OnOk};
 ghost use Rattle.x_steps.specs.Run.{visits_between};
 ghost use Rattle.x_steps.specs.StateValue.{start};
 ghost use Rattle.x_branches.specs.Branch.{end_of};
 ghost use Rattle.lab_book.specs.Posted.{AllClosed};
 ghost use Rattle.polylab_engine.specs.Account.{kept};
 ghost use Rattle.polylab_engine.specs.Output.{tally_lines, whole_report};
+ghost use Rattle.x_texts.specs.Writes.{WritesLines};
 
 use cover_problem::Lists;
 use lab_book::Book;
@@ -84,8 +84,7 @@ impl Report {
 
     /// Adds the lines of the steps and of the levels, of level 0 at least.
     pub fn push_steps(&self, text: &mut Vec<u8>) -> Result<(), AllocError>
-        ensures { OnOk result (text.new.items ≡ text.old.items
-            ++ text_of (tally_lines self.now.steps self.now.levels)) }
+        ensures { OnOk result (WritesLines text.old text.new (tally_lines self.now.steps self.now.levels)) }
     {
         write_number_line(text, "steps", self.steps)?;
         write_levels(text, &self.levels)

@@ -19,7 +19,7 @@ use Rattle.lab_book.specs.declared.entry.Reply.TheVariants as replies
 use Rattle.lab_book.specs.Tiling.{tile_at, IsTiling}
 use Rattle.lab_book.specs.Book.{BookValue, outcome, book_step}
 use Rattle.lab_world.specs.Worker.{WorkerValue, HasTile, HoldsTile, lent_worker, moved_to, cut_at}
-use Rattle.lab_world.specs.World.{IsSeat}
+use Rattle.lab_world.specs.World.{IsSeat, cut_refusal}
 use Rattle.lab_world.proofs.OtherLemmas.{put_back_leaves, stop_leaves}
 use Rattle.lab_world.proofs.TurnLemmas.{lease_any_seat}
 use Rattle.debug_language.specs.declared.words.Plain.TheVariants.{Closed}
@@ -28,9 +28,10 @@ use Rattle.debug_acts.specs.Desk.{Desk, DeskAnswer, desk}
 use Rattle.x_debug.specs.Session.{SessionValue, IsSession, fresh_session}
 use Rattle.debug_views.specs.Tiles.{answer_of_tile, hold, put_back, place_at}
 use Rattle.debug_acts.specs.Entering.{enter}
-use Rattle.debug_acts.specs.Walking.{AtWork, work, posted, posted_if_any, with_room, stepped, forward, unposted_steps, steps_ahead, IsPartWay, IsPartBack}
+use Rattle.debug_acts.specs.Walking.{posted, posted_if_any, with_room, stepped, forward, unposted_steps, steps_ahead, IsPartWay, IsPartBack}
+use Rattle.debug_acts.specs.Work.{AtWork, work, WorkAnswer, answered}
 use Rattle.debug_acts.specs.Giving.{parked, close, closed, not_closed, IsNotGiven}
-use Rattle.debug_acts.specs.Parting.{WorkAnswer, answered, retract, retracted_by, split, parted, parted_line, no_cut}
+use Rattle.debug_acts.specs.Parting.{retract, retracted_by, split, parted, parted_line}
 use Rattle.x_debug.specs.Commands.{working, LeftAtWork, LeftOrDone, LeftPartBack}
 use Rattle.debug_acts.proofs.EnterLemmas.{enter_problem}
 use Rattle.debug_acts.proofs.GiveLemmas.{rest_grant}
@@ -249,7 +250,7 @@ module _ (a : AtWork) where
 
   module _ (level o : ℕ) where
     abbrev cut : Bool → WorkAnswer
-    cut v = cond v (answered (parted_line a.worker.runner (cut_at a.worker.runner level o) ∷ []) (parted a (cut_at a.worker.runner level o))) (answered (runner_refusal (no_cut a.worker.runner level o) ∷ []) a)
+    cut v = cond v (answered (parted_line a.worker.runner (cut_at a.worker.runner level o) ∷ []) (parted a (cut_at a.worker.runner level o))) (answered (runner_refusal (cut_refusal a.worker.runner level o) ∷ []) a)
 
     cut_kept : (v : Bool) → ((cut v).work.book.problem ≡ a.book.problem) × ((cut v).work.worker.grant ≡ a.worker.grant)
     unfolding parted

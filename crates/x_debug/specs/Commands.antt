@@ -7,7 +7,7 @@ use Rattle.x_branches.specs.Runner.{RunnerValue}
 use Rattle.x_texts.specs.declared.breakpoint.Break.{Break}
 use Rattle.x_texts.specs.Breaks.{is_break}
 use Rattle.lab_book.specs.Posted.{posted_visits, posted_steps, posted_levels}
-use Rattle.lab_world.specs.Worker.{WorkerValue, moved_to}
+use Rattle.lab_world.specs.Worker.{WorkerValue}
 use Rattle.debug_language.specs.declared.fault.DebugFault.TheVariants.{BadCommand, AlreadyOpen, NoBranch}
 use Rattle.debug_language.specs.declared.words.Plain.TheVariants.{NothingUntried, NoBranches}
 use Rattle.debug_language.specs.declared.words.Counted.TheVariants as counts
@@ -21,10 +21,12 @@ use Rattle.debug_acts.specs.Desk.{DeskAnswer}
 use Rattle.x_debug.specs.Session.{SessionValue}
 use Rattle.debug_views.specs.Showing.{show_lines, all_untried, or_none}
 use Rattle.debug_views.specs.Tiles.{BookAnswer, open_lines, visits_lines, hold, put_back}
-use Rattle.debug_acts.specs.Walking.{AtWork, work, forward, IsPartWay, IsPartBack, step_count, step_lines, run_count, run_lines, back_count, back_lines, state_back}
+use Rattle.debug_acts.specs.Walking.{IsPartWay, IsPartBack, step_count, run_count, back_count, step, run, back}
+use Rattle.debug_acts.specs.Work.{AtWork, work, WorkAnswer}
 use Rattle.debug_acts.specs.Entering.{enter}
 use Rattle.debug_acts.specs.Giving.{park, save, close, IsNotGiven}
 use Rattle.debug_acts.specs.Parting.{split, retract}
+use Rattle.debug_views.specs.Left.{IsEither}
 
 -- a text that is answered, and the session that is left
 pub record Answer : Type 0 where
@@ -62,8 +64,8 @@ abbrev pub working : SessionValue → AtWork → SessionValue
 working s a = record { book = a.book; worker = Some a.worker; breaks = s.breaks }
 
 -- its branch is at work, and these lines are answered
-abbrev pub on_work : SessionValue → List (List (List ℕ)) → AtWork → Answer
-on_work s lines a = record { text = text_of lines; session = working s a }
+abbrev pub on_work : SessionValue → WorkAnswer → Answer
+on_work s a = record { text = text_of a.lines; session = working s a.work }
 
 -- ---- what is shown
 
@@ -119,16 +121,15 @@ answer_enter s lo = if_none_open s s.worker (on_desk s (enter s.book lo))
 
 -- `step`: the search goes n steps on, or to the end of its branch where that is nearer
 abbrev pub answer_step : SessionValue → ℕ → Answer
-answer_step s n = if_open s s.worker (λ w. on_work s (step_lines w.runner n) (forward (step_count w.runner n) (work s.book w)))
+answer_step s n = if_open s s.worker (λ w. on_work s (step (work s.book w) n))
 
 -- `run`: the search goes on to the first state that meets a breakpoint, or to the end of its branch
 abbrev pub answer_run : SessionValue → Answer
-answer_run s = if_open s s.worker (λ w. on_work s (run_lines s.breaks w.runner) (forward (run_count s.breaks w.runner) (work s.book w)))
+answer_run s = if_open s s.worker (λ w. on_work s (run (work s.book w) s.breaks))
 
 -- `back`: the search goes n steps back, or to its mark where that is nearer
 abbrev pub answer_back : SessionValue → ℕ → Answer
-answer_back s n =
-    if_open s s.worker (λ w. on_work s (back_lines w.runner n) (work s.book (moved_to w (state_back w.runner (back_count w.runner n)))))
+answer_back s n = if_open s s.worker (λ w. on_work s (back (work s.book w) n))
 
 -- ---- the branch that is open is given up
 
@@ -148,11 +149,11 @@ answer_close s = if_open s s.worker (λ w. on_desk s (close (work s.book w)))
 
 -- `split`: the part of the open branch from an untried option o of a level on becomes a tile of its own, which waits
 abbrev pub answer_split : SessionValue → ℕ → ℕ → Answer
-answer_split s level o = if_open s s.worker (λ w. let a = split (work s.book w) level o in on_work s a.lines a.work)
+answer_split s level o = if_open s s.worker (λ w. on_work s (split (work s.book w) level o))
 
 -- `retract`: the stretch that was posted last is taken out of the tile, and the mark goes back to where it began
 abbrev pub answer_retract : SessionValue → Answer
-answer_retract s = if_open s s.worker (λ w. let a = retract (work s.book w) in on_work s a.lines a.work)
+answer_retract s = if_open s s.worker (λ w. on_work s (retract (work s.book w)))
 
 -- ---- each command
 
@@ -211,7 +212,7 @@ LeftNotGiven s new = LeftAtWork s s.worker IsNotGiven new
 
 -- it is as it was, or as this makes it
 abbrev pub LeftOrDone : SessionValue → (AtWork → AtWork) → SessionValue → Type 0
-LeftOrDone s done new = LeftAtWork s s.worker (λ a b. (b ≡ a) ⊎ (b ≡ done a)) new
+LeftOrDone s done new = LeftAtWork s s.worker (λ a b. IsEither b a (done a)) new
 
 -- it has gone some of so many steps on
 abbrev pub LeftPartWay : SessionValue → (RunnerValue → ℕ) → SessionValue → Type 0

@@ -1,12 +1,12 @@
 //! The writer of snapshots.
-ghost use Rattle.std.specs.Prelude.{◌≡◌, ◌++◌, ◌∷◌, true, map, length, codes, option_copied, OnOk, IfOk};
+ghost use Rattle.std.specs.Prelude.{◌≡◌, ◌∷◌, true, map, length, codes, option_copied, OnOk, IfOk};
 ghost use Rattle.std.specs.List.{list_all};
-ghost use Rattle.text_lines.specs.Writing.{line_text, text_of};
 ghost use Rattle.cover_problem.specs.Grammar.{word_lines};
 ghost use Rattle.x_texts.specs.Breaks.{is_break};
 ghost use Rattle.x_snapshot.specs.Writing as spec;
 ghost use Rattle.x_texts.specs.Words.{cut_words, break_words};
 ghost use Rattle.x_snapshot.specs.Writing.{lines_of_breaks, snapshot_text};
+ghost use Rattle.x_texts.specs.Writes.{WritesLine, WritesLines};
 
 use crate::snapshot::Snapshot;
 use cover_problem::{Problem, write_cover};
@@ -21,8 +21,7 @@ fn write_cut_line(
     none: &str,
     path: Option<&[u32]>,
 ) -> Result<(), AllocError>
-    ensures { OnOk result (text.new.items ≡ text.old.items
-        ++ line_text (key.now ∷ cut_words none.now (option_copied path.entry))) }
+    ensures { OnOk result (WritesLine text.old text.new (key.now ∷ cut_words none.now (option_copied path.entry))) }
 {
     text.extend_from_slice(key.as_bytes())?;
     write_cut(text, none, path)?;
@@ -32,14 +31,14 @@ fn write_cut_line(
 
 /// Writes the line of the low cut.
 fn write_from(text: &mut Vec<u8>, snapshot: &Snapshot) -> Result<(), AllocError>
-    ensures { OnOk result (text.new.items ≡ text.old.items ++ line_text (codes "from" ∷ cut_words (codes "start") snapshot.now.lo)) }
+    ensures { OnOk result (WritesLine text.old text.new (codes "from" ∷ cut_words (codes "start") snapshot.now.lo)) }
 {
     write_cut_line(text, "from", "start", snapshot.lo())
 }
 
 /// Writes the line of the high cut.
 fn write_to(text: &mut Vec<u8>, snapshot: &Snapshot) -> Result<(), AllocError>
-    ensures { OnOk result (text.new.items ≡ text.old.items ++ line_text (codes "to" ∷ cut_words (codes "end") snapshot.now.hi)) }
+    ensures { OnOk result (WritesLine text.old text.new (codes "to" ∷ cut_words (codes "end") snapshot.now.hi)) }
 {
     write_cut_line(text, "to", "end", snapshot.hi())
 }
@@ -51,7 +50,7 @@ fn write_each_break(
     breaks: &[Break],
 ) -> Result<(), AllocError>
     requires { list_all (is_break problem.now) breaks.now ≡ true }
-    ensures { OnOk result (text.new.items ≡ text.old.items ++ text_of (map (break_words problem.now.names) breaks.now)) }
+    ensures { OnOk result (WritesLines text.old text.new (map (break_words problem.now.names) breaks.now)) }
 {
     for breakpoint in breaks {
         write_break(text, "break", problem, *breakpoint)?;
@@ -69,7 +68,7 @@ pub fn needs_second(problem: &Problem, breaks: &[Break]) -> bool
 /// Writes the number of breakpoints and their lines, in the second version.
 fn write_breaks(text: &mut Vec<u8>, problem: &Problem, breaks: &[Break]) -> Result<(), AllocError>
     requires { list_all (is_break problem.now) breaks.now ≡ true }
-    ensures { OnOk result (text.new.items ≡ text.old.items ++ text_of (lines_of_breaks problem.now breaks.now)) }
+    ensures { OnOk result (WritesLines text.old text.new (lines_of_breaks problem.now breaks.now)) }
 {
     if !needs_second(problem, breaks) {
         return Ok(());

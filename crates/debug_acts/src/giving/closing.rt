@@ -1,10 +1,12 @@
 //! A branch is closed, or the book refuses it.
-ghost use Rattle.std.specs.Prelude.{◌≡◌, ◌==◌, ◌↔◌, ◌++◌, Some, IsTrue, IfOk, IfErr, IfSome, OnOk};
+ghost use Rattle.std.specs.Prelude.{◌≡◌, ◌==◌, ◌↔◌, Some, IsTrue, IfOk, IfErr, IfSome, OnOk};
 ghost use Rattle.x_branches.specs.Branch.{end_of};
 ghost use Rattle.lab_world.specs.Worker.{HoldsTile};
-ghost use Rattle.debug_acts.specs.Walking.{work, steps_ahead};
+ghost use Rattle.debug_acts.specs.Walking.{steps_ahead};
+ghost use Rattle.debug_acts.specs.Work.{work};
 ghost use Rattle.debug_acts.specs.Desk.{desk};
 ghost use Rattle.debug_acts.specs.Giving.{close, closed, not_closed, IsNotGiven};
+ghost use Rattle.x_texts.specs.Writes.{Writes};
 
 use crate::posting::post_rest;
 use cover_problem::Table;
@@ -91,7 +93,7 @@ pub fn close<'p, T: Table>(
 ) -> Result<Option<Worker<'p, T>>, Worker<'p, T>>
     requires holds { HoldsTile book.old worker }
     ensures made { IfOk result (λ seat. desk book.new seat ≡ (close (work book.old worker.entry)).desk) }
-    ensures text { OnOk result (text.new.items ≡ text.old.items ++ (close (work book.old worker.entry)).text) }
+    ensures text { OnOk result (Writes text.old text.new (close (work book.old worker.entry)).text) }
     ensures left { IfErr result (λ w. IsNotGiven (work book.old worker.entry) (work book.new w)) }
     ensures holds_still { IfOk result (λ seat. IfSome seat (HoldsTile book.new)) }
     ensures holds_on { IfErr result (λ w. HoldsTile book.new w) }

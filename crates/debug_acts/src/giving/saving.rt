@@ -1,5 +1,5 @@
 //! Where a search stands, as a snapshot.
-ghost use Rattle.std.specs.Prelude.{◌≡◌, ◌++◌, true, IfOk, IfErr, OnOk};
+ghost use Rattle.std.specs.Prelude.{◌≡◌, true, IfOk, IfErr, OnOk};
 ghost use Rattle.cover_problem.specs.Problem.{ProblemValue};
 ghost use Rattle.x_branches.specs.Runner.{IsOf};
 ghost use Rattle.x_texts.specs.Breaks.{are_breaks};
@@ -8,8 +8,9 @@ ghost use Rattle.x_snapshot.specs.Writing.{snapshot_text};
 ghost use Rattle.lab_book.specs.Book.{path_of};
 ghost use Rattle.lab_world.specs.Worker.{HoldsTile};
 ghost use Rattle.debug_language.specs.Replies.{saved_text};
-ghost use Rattle.debug_acts.specs.Walking.{work};
+ghost use Rattle.debug_acts.specs.Work.{work};
 ghost use Rattle.debug_acts.specs.Giving.{snapshot_of_worker, save, IsNotGiven};
+ghost use Rattle.x_texts.specs.Writes.{Writes};
 
 use crate::giving::give_up;
 use cover_problem::{Problem, Table};
@@ -72,7 +73,7 @@ fn write_position<T: Table>(
 ) -> Result<(), AllocError>
     requires same { problem.now ≡ worker.now.runner.problem }
     requires breaks { are_breaks worker.now.runner.problem breaks.items ≡ true }
-    ensures { OnOk result (text.new.items ≡ text.old.items ++ saved_text (snapshot_text (snapshot_of_worker worker.now breaks.items))) }
+    ensures { OnOk result (Writes text.old text.new (saved_text (snapshot_text (snapshot_of_worker worker.now breaks.items)))) }
 {
     let snapshot = snapshot_of_worker(alloc, problem, worker, breaks)?;
     let written = write_snapshot(alloc, &snapshot)?;
@@ -91,7 +92,7 @@ pub fn save<'p, T: Table>(
     requires holds { HoldsTile book.old worker }
     requires breaks { are_breaks worker.runner.problem breaks.items ≡ true }
     ensures made { OnOk result (book.new ≡ (save (work book.old worker.entry) breaks.items).desk.book) }
-    ensures text { OnOk result (text.new.items ≡ text.old.items ++ (save (work book.old worker.entry) breaks.items).text) }
+    ensures text { OnOk result (Writes text.old text.new (save (work book.old worker.entry) breaks.items).text) }
     ensures left { IfErr result (λ w. IsNotGiven (work book.old worker.entry) (work book.new w)) }
     ensures holds_on { IfErr result (λ w. HoldsTile book.new w) }
 {

@@ -1,9 +1,9 @@
 //! So many steps back.
-ghost use Rattle.std.specs.Prelude.{◌≡◌, ◌<◌, ◌++◌, OnOk, OnErr};
-ghost use Rattle.text_lines.specs.Writing.{text_of};
+ghost use Rattle.std.specs.Prelude.{◌≡◌, ◌<◌, OnOk, OnErr};
 ghost use Rattle.lab_book.specs.Book.{BookValue};
-ghost use Rattle.lab_world.specs.Worker.{HoldsTile, moved_to};
-ghost use Rattle.debug_acts.specs.Walking.{IsPartBack, state_back, back_count, back_lines};
+ghost use Rattle.lab_world.specs.Worker.{HoldsTile};
+ghost use Rattle.debug_acts.specs.Walking.{IsPartBack, back_count, back_lines, gone_back};
+ghost use Rattle.x_texts.specs.Writes.{WritesLines};
 
 use crate::walking::write_moved;
 use cover_problem::Table;
@@ -14,7 +14,7 @@ use std::alloc::AllocError;
 /// Goes up to so many steps back, to its mark at most. How many these were.
 fn go_back<T: Table>(worker: &mut Worker<'_, T>, most: u32) -> u32
     ensures count { result ≡ back_count worker.old.runner most }
-    ensures made { worker.new ≡ moved_to worker.old (state_back worker.old.runner (back_count worker.old.runner most)) }
+    ensures made { worker.new ≡ gone_back worker.old most }
     ensures holds { (b : BookValue) → HoldsTile b worker.old → HoldsTile b worker.new }
 {
     let _state = worker.runner().state();
@@ -33,9 +33,8 @@ pub fn back<T: Table>(
     text: &mut Vec<u8>,
 ) -> Result<(), AllocError>
     requires some { 0 < most }
-    ensures made { OnOk result (worker.new
-        ≡ moved_to worker.old (state_back worker.old.runner (back_count worker.old.runner most))) }
-    ensures text { OnOk result (text.new.items ≡ text.old.items ++ text_of (back_lines worker.old.runner most)) }
+    ensures made { OnOk result (worker.new ≡ gone_back worker.old most) }
+    ensures text { OnOk result (WritesLines text.old text.new (back_lines worker.old.runner most)) }
     ensures left { OnErr result (IsPartBack worker.old worker.new (back_count worker.old.runner most)) }
     ensures holds { (b : BookValue) → HoldsTile b worker.old → HoldsTile b worker.new }
 {

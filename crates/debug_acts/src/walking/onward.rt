@@ -1,8 +1,9 @@
 //! So many steps onward.
-ghost use Rattle.std.specs.Prelude.{◌≡◌, ◌<◌, ◌++◌, IfOk, OnOk, OnErr};
-ghost use Rattle.text_lines.specs.Writing.{text_of};
+ghost use Rattle.std.specs.Prelude.{◌≡◌, ◌<◌, IfOk, OnOk, OnErr};
 ghost use Rattle.lab_world.specs.Worker.{HoldsTile};
-ghost use Rattle.debug_acts.specs.Walking.{work, forward, IsPartWay, state_on, visit_lines, step_count, step_lines};
+ghost use Rattle.debug_acts.specs.Walking.{forward, IsPartWay, visits_on, step_count, step};
+ghost use Rattle.debug_acts.specs.Work.{work};
+ghost use Rattle.x_texts.specs.Writes.{WritesLines};
 
 use crate::walking::{walk_on, write_moved};
 use cover_problem::Table;
@@ -22,8 +23,7 @@ fn walk<'p, T: Table>(
     ensures count { IfOk result (λ count. count ≡ step_count worker.old.runner most) }
     ensures made { OnOk result (work book.new worker.new
         ≡ forward (step_count worker.old.runner most) (work book.old worker.old)) }
-    ensures text { OnOk result (text.new.items ≡ text.old.items ++ text_of (visit_lines worker.old.runner.problem
-        worker.old.runner.position (state_on worker.old.runner (step_count worker.old.runner most)))) }
+    ensures text { OnOk result (WritesLines text.old text.new (visits_on worker.old.runner (step_count worker.old.runner most))) }
     ensures left { OnErr result (IsPartWay (work book.old worker.old) (work book.new worker.new)
         (step_count worker.old.runner most)) }
     ensures holds_on { HoldsTile book.new worker.new }
@@ -51,9 +51,8 @@ pub fn step<'p, T: Table>(
 ) -> Result<(), AllocError>
     requires holds { HoldsTile book.old worker.old }
     requires some { 0 < most }
-    ensures made { OnOk result (work book.new worker.new
-        ≡ forward (step_count worker.old.runner most) (work book.old worker.old)) }
-    ensures text { OnOk result (text.new.items ≡ text.old.items ++ text_of (step_lines worker.old.runner most)) }
+    ensures made { OnOk result (work book.new worker.new ≡ (step (work book.old worker.old) most).work) }
+    ensures text { OnOk result (WritesLines text.old text.new (step (work book.old worker.old) most).lines) }
     ensures left { OnErr result (IsPartWay (work book.old worker.old) (work book.new worker.new)
         (step_count worker.old.runner most)) }
     ensures holds_on { HoldsTile book.new worker.new }

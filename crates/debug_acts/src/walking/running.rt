@@ -1,11 +1,12 @@
 //! Onward to a breakpoint.
-ghost use Rattle.std.specs.Prelude.{◌≡◌, ◌<◌, ◌++◌, true, IfSome, IfOk, OnOk, OnErr};
+ghost use Rattle.std.specs.Prelude.{◌≡◌, ◌<◌, true, IfSome, IfOk, OnOk, OnErr};
 ghost use Rattle.std.specs.List.{list_all};
-ghost use Rattle.text_lines.specs.Writing.{line_text, text_of};
 ghost use Rattle.x_texts.specs.Breaks.{is_break};
 ghost use Rattle.lab_world.specs.Worker.{HoldsTile};
 ghost use Rattle.debug_views.specs.Breakpoints as breakpoints;
-ghost use Rattle.debug_acts.specs.Walking.{work, forward, IsPartWay, state_on, visit_lines, run_count, run_lines, stop_line, steps_ahead};
+ghost use Rattle.debug_acts.specs.Walking.{forward, IsPartWay, state_on, visits_on, run_count, stop_line, steps_ahead, run};
+ghost use Rattle.debug_acts.specs.Work.{work};
+ghost use Rattle.x_texts.specs.Writes.{WritesLine, WritesLines};
 
 use crate::walking::{step_on, walk_on, write_moved};
 use cover_problem::Table;
@@ -26,8 +27,7 @@ fn walk_to_end<'p, T: Table>(
     requires holds { HoldsTile book.old worker.old }
     ensures count { IfOk result (λ count. count ≡ steps_ahead worker.old.runner) }
     ensures made { OnOk result (work book.new worker.new ≡ forward (steps_ahead worker.old.runner) (work book.old worker.old)) }
-    ensures text { OnOk result (text.new.items ≡ text.old.items ++ text_of (visit_lines worker.old.runner.problem
-        worker.old.runner.position (state_on worker.old.runner (steps_ahead worker.old.runner)))) }
+    ensures text { OnOk result (WritesLines text.old text.new (visits_on worker.old.runner (steps_ahead worker.old.runner))) }
     ensures left { OnErr result (IsPartWay (work book.old worker.old) (work book.new worker.new)
         (steps_ahead worker.old.runner)) }
     ensures holds_on { HoldsTile book.new worker.new }
@@ -60,8 +60,8 @@ fn walk_to_break<'p, T: Table>(
         (state_on worker.old.runner (run_count breaks.now.keys worker.old.runner))) }
     ensures made { OnOk result (work book.new worker.new
         ≡ forward (run_count breaks.now.keys worker.old.runner) (work book.old worker.old)) }
-    ensures text { OnOk result (text.new.items ≡ text.old.items ++ text_of (visit_lines worker.old.runner.problem
-        worker.old.runner.position (state_on worker.old.runner (run_count breaks.now.keys worker.old.runner)))) }
+    ensures text { OnOk result (WritesLines text.old text.new
+        (visits_on worker.old.runner (run_count breaks.now.keys worker.old.runner))) }
     ensures left { OnErr result (IsPartWay (work book.old worker.old) (work book.new worker.new)
         (run_count breaks.now.keys worker.old.runner)) }
     ensures holds_on { HoldsTile book.new worker.new }
@@ -98,8 +98,8 @@ fn walk_to_stop<'p, T: Table>(
         (state_on worker.old.runner (run_count breaks.now.keys worker.old.runner))) }
     ensures made { OnOk result (work book.new worker.new
         ≡ forward (run_count breaks.now.keys worker.old.runner) (work book.old worker.old)) }
-    ensures text { OnOk result (text.new.items ≡ text.old.items ++ text_of (visit_lines worker.old.runner.problem
-        worker.old.runner.position (state_on worker.old.runner (run_count breaks.now.keys worker.old.runner)))) }
+    ensures text { OnOk result (WritesLines text.old text.new
+        (visits_on worker.old.runner (run_count breaks.now.keys worker.old.runner))) }
     ensures left { OnErr result (IsPartWay (work book.old worker.old) (work book.new worker.new)
         (run_count breaks.now.keys worker.old.runner)) }
     ensures holds_on { HoldsTile book.new worker.new }
@@ -114,7 +114,7 @@ fn walk_to_stop<'p, T: Table>(
 /// Writes where a run stopped: at a breakpoint, or else at the end.
 fn write_stop(text: &mut Vec<u8>, book: &Book<'_>, stop: Option<Break>) -> Result<(), AllocError>
     requires { IfSome stop (λ b. is_break book.now.problem b ≡ true) }
-    ensures { OnOk result (text.new.items ≡ text.old.items ++ line_text (stop_line book.now.problem.names stop)) }
+    ensures { OnOk result (WritesLine text.old text.new (stop_line book.now.problem.names stop)) }
 {
     match stop {
         Some(met) => write_met(text, book.problem(), met),
@@ -132,9 +132,8 @@ pub fn run<'p, T: Table>(
 ) -> Result<(), AllocError>
     requires holds { HoldsTile book.old worker.old }
     requires breaks { list_all (is_break book.old.problem) breaks.now.keys ≡ true }
-    ensures made { OnOk result (work book.new worker.new
-        ≡ forward (run_count breaks.now.keys worker.old.runner) (work book.old worker.old)) }
-    ensures text { OnOk result (text.new.items ≡ text.old.items ++ text_of (run_lines breaks.now.keys worker.old.runner)) }
+    ensures made { OnOk result (work book.new worker.new ≡ (run (work book.old worker.old) breaks.now.keys).work) }
+    ensures text { OnOk result (WritesLines text.old text.new (run (work book.old worker.old) breaks.now.keys).lines) }
     ensures left { OnErr result (IsPartWay (work book.old worker.old) (work book.new worker.new)
         (run_count breaks.now.keys worker.old.runner)) }
     ensures holds_on { HoldsTile book.new worker.new }

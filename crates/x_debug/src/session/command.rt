@@ -1,8 +1,9 @@
 //! What a session answers to a line.
-ghost use Rattle.std.specs.Prelude.{◌≡◌, ◌++◌, ◌⊎◌, true, option_copied, IfOk, OnOk, OnErr};
+ghost use Rattle.std.specs.Prelude.{◌≡◌, ◌⊎◌, true, option_copied, IfOk, OnOk, OnErr};
 ghost use Rattle.x_snapshot.specs.Snapshot.{choices_of};
 ghost use Rattle.debug_language.specs.Command.{command_value};
 ghost use Rattle.x_debug.specs.Commands.{answer, answer_line, is_command, LeftBy, IsLeft};
+ghost use Rattle.x_texts.specs.Writes.{Writes};
 
 use crate::session::Session;
 use cover_problem::Table;
@@ -36,7 +37,7 @@ impl<'p, T: Table> Session<'p, T> {
         text: &mut Vec<u8>,
     ) -> Result<(), AllocError>
         requires { is_command self.old.book.problem (command_value command.now) ≡ true }
-        ensures reply { OnOk result (text.new.items ≡ text.old.items ++ (answer self.old (command_value command.now)).text) }
+        ensures reply { OnOk result (Writes text.old text.new (answer self.old (command_value command.now)).text) }
         ensures session { OnOk result (self.new ≡ (answer self.old (command_value command.now)).session) }
         ensures left { OnErr result ((self.new ≡ self.old) ⊎ LeftBy self.old (command_value command.now) self.new) }
     {

@@ -1,5 +1,5 @@
 //! A session goes on from a snapshot.
-ghost use Rattle.std.specs.Prelude.{◌≡◌, ◌++◌, ◌↔◌, true, false, Some, IsTrue, IfOk, OnOk, OnErr};
+ghost use Rattle.std.specs.Prelude.{◌≡◌, ◌↔◌, true, false, Some, IsTrue, IfOk, OnOk, OnErr};
 ghost use Rattle.std.specs.List.{list_all};
 ghost use Rattle.cover_problem.specs.Problem.{is_same};
 ghost use Rattle.x_texts.specs.Breaks.{is_break};
@@ -9,6 +9,7 @@ ghost use Rattle.lab_book.specs.Book.{new_book};
 ghost use Rattle.lab_world.specs.World.{IsSeat};
 ghost use Rattle.debug_acts.specs.Desk.{desk};
 ghost use Rattle.x_debug.specs.Loading.{resumed, with_some, seated, loaded, load_by, load_answer};
+ghost use Rattle.x_texts.specs.Writes.{Writes};
 
 use crate::session::{Reply, Session};
 use cover_problem::{Problem, Table};
@@ -113,7 +114,7 @@ impl<'p, T: Table> Session<'p, T> {
     fn go_on(&mut self, alloc: Global, draft: &Draft, text: &mut Vec<u8>) -> Result<(), AllocError>
         requires same { draft.now.problem ≡ self.old.book.problem }
         requires test { is_same draft.now.problem self.old.book.problem ≡ true }
-        ensures reply { OnOk result (text.new.items ≡ text.old.items ++ (load_by self.old (judged_parts draft.now)).text) }
+        ensures reply { OnOk result (Writes text.old text.new (load_by self.old (judged_parts draft.now)).text) }
         ensures session { OnOk result (self.new ≡ (load_by self.old (judged_parts draft.now)).session) }
         ensures unchanged { OnErr result (self.new ≡ self.old) }
     {
@@ -134,7 +135,7 @@ impl<'p, T: Table> Session<'p, T> {
         text: &mut Vec<u8>,
     ) -> Result<(), AllocError>
         requires { is_same draft.now.problem self.now.book.problem ≡ false }
-        ensures reply { OnOk result (text.new.items ≡ text.old.items ++ (load_by self.now (judged_parts draft.now)).text) }
+        ensures reply { OnOk result (Writes text.old text.new (load_by self.now (judged_parts draft.now)).text) }
         ensures session { OnOk result (self.now ≡ (load_by self.now (judged_parts draft.now)).session) }
     {
         match draft.check(alloc) {
@@ -158,7 +159,7 @@ impl<'p, T: Table> Session<'p, T> {
         bytes: &[u8],
         text: &mut Vec<u8>,
     ) -> Result<(), AllocError>
-        ensures reply { OnOk result (text.new.items ≡ text.old.items ++ (load_answer self.old bytes.now).text) }
+        ensures reply { OnOk result (Writes text.old text.new (load_answer self.old bytes.now).text) }
         ensures session { OnOk result (self.new ≡ (load_answer self.old bytes.now).session) }
         ensures unchanged { OnErr result (self.new ≡ self.old) }
     {

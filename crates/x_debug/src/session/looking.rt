@@ -1,6 +1,7 @@
 //! What is shown of a session.
-ghost use Rattle.std.specs.Prelude.{◌≡◌, ◌++◌, OnOk};
+ghost use Rattle.std.specs.Prelude.{OnOk};
 ghost use Rattle.x_debug.specs.Commands.{answer_show, answer_untried, answer_branches, answer_visits, answer_steps, answer_levels};
+ghost use Rattle.x_texts.specs.Writes.{Writes};
 
 use crate::session::Session;
 use cover_problem::Table;
@@ -12,7 +13,7 @@ use x_texts::write_levels;
 impl<'p, T: Table> Session<'p, T> {
     /// `show`.
     pub(super) fn obey_show(&self, text: &mut Vec<u8>) -> Result<(), AllocError>
-        ensures { OnOk result (text.new.items ≡ text.old.items ++ (answer_show self.now).text) }
+        ensures { OnOk result (Writes text.old text.new (answer_show self.now).text) }
     {
         let Some(worker) = &self.worker else {
             return write_debug_fault(text, DebugFault::NoBranch);
@@ -22,7 +23,7 @@ impl<'p, T: Table> Session<'p, T> {
 
     /// `untried`.
     pub(super) fn obey_untried(&self, text: &mut Vec<u8>) -> Result<(), AllocError>
-        ensures { OnOk result (text.new.items ≡ text.old.items ++ (answer_untried self.now).text) }
+        ensures { OnOk result (Writes text.old text.new (answer_untried self.now).text) }
     {
         let Some(worker) = &self.worker else {
             return write_debug_fault(text, DebugFault::NoBranch);
@@ -32,28 +33,28 @@ impl<'p, T: Table> Session<'p, T> {
 
     /// `branches`.
     pub(super) fn obey_branches(&self, text: &mut Vec<u8>) -> Result<(), AllocError>
-        ensures { OnOk result (text.new.items ≡ text.old.items ++ (answer_branches self.now).text) }
+        ensures { OnOk result (Writes text.old text.new (answer_branches self.now).text) }
     {
         branches(&self.book, text)
     }
 
     /// `visits`.
     pub(super) fn obey_visits(&self, text: &mut Vec<u8>) -> Result<(), AllocError>
-        ensures { OnOk result (text.new.items ≡ text.old.items ++ (answer_visits self.now).text) }
+        ensures { OnOk result (Writes text.old text.new (answer_visits self.now).text) }
     {
         write_posted(&self.book, text)
     }
 
     /// `steps`.
     pub(super) fn obey_steps(&self, text: &mut Vec<u8>) -> Result<(), AllocError>
-        ensures { OnOk result (text.new.items ≡ text.old.items ++ (answer_steps self.now).text) }
+        ensures { OnOk result (Writes text.old text.new (answer_steps self.now).text) }
     {
         write_counted(text, Counted::Steps, self.book.steps())
     }
 
     /// `levels`.
     pub(super) fn obey_levels(&self, text: &mut Vec<u8>) -> Result<(), AllocError>
-        ensures { OnOk result (text.new.items ≡ text.old.items ++ (answer_levels self.now).text) }
+        ensures { OnOk result (Writes text.old text.new (answer_levels self.now).text) }
     {
         let levels = self.book.levels()?;
         write_levels(text, &levels)

@@ -1,4 +1,4 @@
-use Rattle.debug_acts.specs.Walking.{work}
+use Rattle.debug_acts.specs.Work.{work}
 use Rattle.debug_acts.proofs.GiveLemmas.{park_made, park_kept, not_given, still_holds}
 use Rattle.debug_acts.proofs.giving.give_up.Goals as goal
 

@@ -1,7 +1,7 @@
 use Rattle.std.proofs.Common.{ℕ, List, ◌++◌, ◌∙◌, ap, map}
 use Rattle.text_lines.specs.Writing.{text_of}
 use Rattle.x_texts.specs.Words.{visit_words}
-use Rattle.debug_acts.specs.Walking.{work}
+use Rattle.debug_acts.specs.Work.{work}
 use Rattle.debug_acts.proofs.WalkLemmas.{step_made, same_visit}
 use Rattle.debug_acts.proofs.walking.step_on.Goals as goal
 

@@ -1,6 +1,6 @@
 use Rattle.std.proofs.Common.{subst, arith, ap₂, inl}
 use Rattle.x_branches.specs.Runner.{IsRunner}
-use Rattle.debug_acts.specs.Walking.{work}
+use Rattle.debug_acts.specs.Work.{work}
 use Rattle.debug_views.proofs.CallLemmas.{on_err}
 use Rattle.debug_acts.proofs.ForwardLemmas.{can_walk}
 use Rattle.debug_acts.proofs.FarLemmas.{WalkedFar, far_within, far_made, far_text, far_part}

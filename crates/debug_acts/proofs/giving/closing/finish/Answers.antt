@@ -1,6 +1,6 @@
 use Rattle.std.proofs.Common.{subst}
 use Rattle.x_branches.specs.Runner.{IsRunner}
-use Rattle.debug_acts.specs.Walking.{work}
+use Rattle.debug_acts.specs.Work.{work}
 use Rattle.debug_acts.proofs.GiveLemmas.{not_given, still_holds}
 use Rattle.debug_acts.proofs.CloseLemmas.{close_made, close_kept}
 use Rattle.debug_acts.proofs.giving.closing.finish.Goals as goal

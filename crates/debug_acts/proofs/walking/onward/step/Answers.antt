@@ -6,7 +6,7 @@ use Rattle.debug_language.specs.declared.fault.DebugFault.TheVariants.{AtEnd}
 use Rattle.debug_language.specs.declared.words.Plain.TheVariants.{End}
 use Rattle.x_snapshot.proofs.PositionLemmas.{on_ok as when_ok}
 use Rattle.debug_views.specs.Lines.{plain, debug_refusal}
-use Rattle.debug_acts.specs.Walking.{work}
+use Rattle.debug_acts.specs.Work.{work}
 use Rattle.debug_views.proofs.CallLemmas.{on_ok, on_err, answered}
 use Rattle.debug_acts.proofs.ForwardLemmas.{can_walk}
 use Rattle.debug_acts.proofs.WalkedLemmas.{read_end}

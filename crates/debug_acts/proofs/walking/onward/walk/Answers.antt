@@ -1,7 +1,8 @@
 use Rattle.std.proofs.Common.{◌-◌, subst, sym, refl, arith}
 use Rattle.std.proofs.lemmas.Bool.{false≢true}
 use Rattle.x_branches.specs.Runner.{IsRunner}
-use Rattle.debug_acts.specs.Walking.{work, steps_ahead}
+use Rattle.debug_acts.specs.Walking.{steps_ahead}
+use Rattle.debug_acts.specs.Work.{work}
 use Rattle.debug_views.proofs.CallLemmas.{on_err}
 use Rattle.debug_acts.proofs.ForwardLemmas.{can_walk}
 use Rattle.debug_acts.proofs.WalkedLemmas.{none_walked, walked_join, ahead_of, read_end, all_counted, counted_made, counted_text, counted_part, least_first}

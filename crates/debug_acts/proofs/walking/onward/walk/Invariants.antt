@@ -1,5 +1,5 @@
 use Rattle.std.specs.Prelude.{◌≤◌, ◌-◌}
-use Rattle.debug_acts.specs.Walking.{work}
+use Rattle.debug_acts.specs.Work.{work}
 use Rattle.debug_acts.proofs.WalkedLemmas.{Walked}
 use Rattle.debug_acts.proofs.walking.onward.walk.Given as goal
 

@@ -1,4 +1,5 @@
-use Rattle.debug_acts.specs.Walking.{work, steps_ahead}
+use Rattle.debug_acts.specs.Walking.{steps_ahead}
+use Rattle.debug_acts.specs.Work.{work}
 use Rattle.debug_acts.proofs.RunLemmas.{RunsOn}
 use Rattle.debug_acts.proofs.walking.running.walk_to_break.Given as goal
 

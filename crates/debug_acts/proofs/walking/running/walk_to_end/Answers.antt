@@ -2,7 +2,8 @@ use Rattle.std.proofs.Common.{◌+◌, ◌<◌, ◌^◌, List, length, subst, sy
 use Rattle.std.proofs.lemmas.Bool.{false≢true}
 use Rattle.x_branches.specs.Runner.{IsRunner}
 use Rattle.lab_book.specs.declared.entry.Entry.{Entry}
-use Rattle.debug_acts.specs.Walking.{work, unposted_steps}
+use Rattle.debug_acts.specs.Walking.{unposted_steps}
+use Rattle.debug_acts.specs.Work.{work}
 use Rattle.debug_views.proofs.CallLemmas.{on_err}
 use Rattle.debug_acts.proofs.ForwardLemmas.{can_walk}
 use Rattle.debug_acts.proofs.WalkedLemmas.{Walked, none_walked, walked_join, end_part, ended, read_end, ahead_of, counted_made, counted_text, fewer_left}

@@ -1,5 +1,5 @@
 use Rattle.std.proofs.Common.{refl, ◌∙◌}
-use Rattle.debug_acts.specs.Walking.{work}
+use Rattle.debug_acts.specs.Work.{work}
 use Rattle.debug_views.proofs.CallLemmas.{on_err}
 use Rattle.debug_acts.proofs.RunLemmas.{run_count_none, end_made, end_text, end_left}
 use Rattle.debug_acts.proofs.walking.running.walk_to_stop.Goals as goal

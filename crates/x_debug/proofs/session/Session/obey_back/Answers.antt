@@ -1,6 +1,7 @@
 use Rattle.std.proofs.Common.{subst, OnErr}
 use Rattle.x_debug.specs.Session.{SessionValue}
-use Rattle.debug_acts.specs.Walking.{AtWork, work, back_count}
+use Rattle.debug_acts.specs.Walking.{back_count}
+use Rattle.debug_acts.specs.Work.{AtWork, work}
 use Rattle.x_debug.specs.Commands.{working, LeftPartBack}
 use Rattle.x_debug.proofs.SessionLemmas.{back_left}
 use Rattle.x_debug.proofs.session.Session.obey_back.Goals as goal

@@ -1,6 +1,6 @@
 use Rattle.std.proofs.Common.{sym, subst, ◌∙◌}
 use Rattle.x_debug.specs.Session.{SessionValue}
-use Rattle.debug_acts.specs.Walking.{AtWork, work}
+use Rattle.debug_acts.specs.Work.{AtWork, work}
 use Rattle.x_debug.specs.Commands.{working, LeftNotGiven}
 use Rattle.debug_acts.specs.Giving.{IsNotGiven}
 use Rattle.x_debug.proofs.SessionLemmas.{closed_session, kept_session, left_at_work}

@@ -1,4 +1,5 @@
-use Rattle.debug_acts.specs.Walking.{work, run_count}
+use Rattle.debug_acts.specs.Walking.{run_count}
+use Rattle.debug_acts.specs.Work.{work}
 use Rattle.x_debug.proofs.SessionLemmas.{walked_session}
 use Rattle.x_debug.proofs.session.Session.obey_run.Goals as goal
 

@@ -1,6 +1,6 @@
 use Rattle.std.proofs.Common.{subst, OnErr}
 use Rattle.x_debug.specs.Session.{SessionValue}
-use Rattle.debug_acts.specs.Walking.{AtWork, work}
+use Rattle.debug_acts.specs.Work.{AtWork, work}
 use Rattle.debug_acts.specs.Parting.{split}
 use Rattle.x_debug.specs.Commands.{working, LeftOrDone}
 use Rattle.x_debug.proofs.SessionLemmas.{split_session, done_left}

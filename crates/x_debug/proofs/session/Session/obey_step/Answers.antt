@@ -1,4 +1,5 @@
-use Rattle.debug_acts.specs.Walking.{work, step_count}
+use Rattle.debug_acts.specs.Walking.{step_count}
+use Rattle.debug_acts.specs.Work.{work}
 use Rattle.x_debug.proofs.SessionLemmas.{walked_session}
 use Rattle.x_debug.proofs.session.Session.obey_step.Goals as goal
 

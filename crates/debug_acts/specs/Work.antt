@@ -1,0 +1,22 @@
+-- A book and a worker that holds one of its tiles, and what a command to that worker is answered.
+use Rattle.std.specs.Prelude.{ℕ, List}
+use Rattle.lab_book.specs.Book.{BookValue}
+use Rattle.lab_world.specs.Worker.{WorkerValue}
+
+-- a book, and a worker that holds one of its tiles
+pub record AtWork : Type 0 where
+  pub book : BookValue
+  pub worker : WorkerValue
+
+-- this book and this worker, as one value
+abbrev pub work : BookValue → WorkerValue → AtWork
+work b w = record { book = b; worker = w }
+
+-- lines that are answered, and what is left of a book and its worker
+pub record WorkAnswer : Type 0 where
+  pub lines : List (List (List ℕ))
+  pub work : AtWork
+
+-- these lines, and this book with this worker
+abbrev pub answered : List (List (List ℕ)) → AtWork → WorkAnswer
+answered lines a = record { lines = lines; work = a }

@@ -1,0 +1,16 @@
+-- What a text gains at its end: bytes, a line of words, or lines.
+use Rattle.std.specs.Prelude.{ℕ, ◌≡◌, ◌++◌, List}
+use Rattle.std.specs.Global.{Vec}
+use Rattle.text_lines.specs.Writing.{line_text, text_of}
+
+-- the text goes on with these bytes
+abbrev pub Writes : Vec ℕ → Vec ℕ → List ℕ → Type 0
+Writes old new bytes = new.items ≡ old.items ++ bytes
+
+-- it goes on with a line of these words
+abbrev pub WritesLine : Vec ℕ → Vec ℕ → List (List ℕ) → Type 0
+WritesLine old new words = Writes old new (line_text words)
+
+-- it goes on with these lines
+abbrev pub WritesLines : Vec ℕ → Vec ℕ → List (List (List ℕ)) → Type 0
+WritesLines old new lines = Writes old new (text_of lines)

@@ -2,3 +2,4 @@ pub mod MetLemmas
 pub mod ItemLemmas
 pub mod LineLemmas
 pub mod CallLemmas
+mod ViewExamples

@@ -1,4 +1,8 @@
--- Where a search that is run by hand stops.
+-- Where a search that is run by hand stops: whether a state `meets` a breakpoint, which of some it meets first, and how many steps lead to
+-- the first state that meets one (`steps_to_break`). `with_break` adds one.
+--
+-- Example: with option 4 chosen and option 5 about to be tried, `level 1` isn't met, and `option 5` is. A breakpoint that is set twice is
+-- kept once. proofs/ViewExamples.antt computes it.
 use Rattle.std.specs.Prelude.{ℕ, suc, ◌-◌, ◌==◌, Bool, true, false, ◌&&◌, List, [], ◌∷◌, ◌++◌, length, Option, if◌then◌else◌}
 use Rattle.std.specs.List.{find, list_any, position_or_len}
 use Rattle.cover_problem.specs.Problem.{ProblemValue}

@@ -1,4 +1,8 @@
--- The lines that a session answers, as words.
+-- The lines that a session answers, as words: `plain` and `counted` lines, the line of a state, those of breakpoints that are set and
+-- met, and a refusal's, by whom it is refused.
+--
+-- Example: option 4 is chosen and option 5 is about to be tried: `at X5 5 4`; an unknown branch: `refused book 1 UnknownBranch`.
+-- proofs/ViewExamples.antt computes them.
 use Rattle.std.specs.Prelude.{ℕ, List, [], ◌∷◌, decimal, codes, unwrap_or}
 use Rattle.x_steps.specs.StateValue.{StateValue}
 use Rattle.x_branches.specs.declared.fault.RunnerFault.{RunnerFault}

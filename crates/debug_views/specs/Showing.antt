@@ -1,4 +1,7 @@
--- What a session shows of where its search stands, and of what is untried.
+-- What a session shows of where its search stands (`show_lines`), and of what is untried (`all_untried`); `or_none` has a line for nothing.
+--
+-- Example: behind the cut 4 of the small problem, right after that choice, the lines `branch 4 to end` and `covered a d f` are among them.
+-- proofs/ViewExamples.antt computes these.
 use Rattle.std.specs.Prelude.{ℕ, ◌+◌, List, [], ◌∷◌, ◌++◌, length, map, Option, Some, None}
 use Rattle.std.specs.List.{flat_map}
 use Rattle.cover_problem.specs.Lists.{numbers}

@@ -1,4 +1,8 @@
--- The tiles of a session's book: which of them a cut names, how they are shown, and what is asked of one.
+-- The tiles of a session's book: how they are shown (`tile_line`, `open_lines`, `visits_lines`), which of them a cut names (`place_at`), and
+-- what the book answers where one is held or put back (`hold`, `put_back`).
+--
+-- Example: the new book of the small problem has the line `branch start to end waiting`. Once that tile is held the line ends in `held`; to
+-- hold the one at the cut 4, which there isn't, is refused. proofs/ViewExamples.antt computes it.
 use Rattle.std.specs.Prelude.{ℕ, Bool, true, false, not, ◌&&◌, List, [], ◌∷◌, ◌++◌, length, map, filter, Option, Some, None}
 use Rattle.std.specs.List.{position}
 use Rattle.std.specs.Str.{bytes_eq}

@@ -12,3 +12,4 @@ pub mod BackLemmas
 pub mod CloseLemmas
 pub mod RetractLemmas
 pub mod SplitLemmas
+mod ActExamples

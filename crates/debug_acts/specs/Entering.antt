@@ -1,4 +1,7 @@
--- A branch of the book is opened.
+-- A branch of the book is opened: what `open` answers, and the desk that is left (`enter`).
+--
+-- Example: in the new book of the small problem the branch from the start opens with the line `at X1 -`; the one from the cut 4, which
+-- there isn't, is refused. proofs/ActExamples.antt computes both.
 use Rattle.std.specs.Prelude.{ℕ, List, [], ◌∷◌, Option, Some, None, if◌then◌else◌}
 use Rattle.text_lines.specs.Writing.{line_text, text_of}
 use Rattle.lab_book.specs.declared.fault.BookFault.TheVariants.{UnknownBranch}

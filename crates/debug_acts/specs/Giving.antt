@@ -1,4 +1,6 @@
--- A branch is given up: parked, saved, or closed.
+-- A branch is given up: `park`, `save` (a snapshot first), or `close` at its end.
+--
+-- Example: `park` at the start of the small problem answers `parked`. proofs/ActExamples.antt computes it.
 use Rattle.std.specs.Prelude.{◌==◌, List, Some, None, if◌then◌else◌}
 use Rattle.text_lines.specs.Writing.{line_text}
 use Rattle.x_texts.specs.declared.breakpoint.Break.{Break}

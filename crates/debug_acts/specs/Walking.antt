@@ -1,4 +1,7 @@
--- Steps of a session, onward and back.
+-- Steps of a worker, onward and back: what isn't posted (`unposted_steps`) and what lies ahead (`steps_ahead`), posting (`posted`) and one
+-- step (`stepped`), and what `step`, `run` and `back` answer and leave, in full or where memory runs out on the way.
+--
+-- Example: at its mark a worker is refused a step back, `refused debug 3 AtStart`. proofs/ActExamples.antt computes it.
 use Rattle.std.specs.Prelude.{ℕ, zero, suc, ◌≤◌, ◌≡◌, ◌⊎◌, ◌-◌, ◌==◌, nat_lt, true, if◌then◌else◌, List, [], ◌∷◌, ◌++◌, map, Option, Some, None}
 use Rattle.cover_problem.specs.Problem.{ProblemValue}
 use Rattle.x_steps.specs.StateValue.{StateValue}

@@ -3,3 +3,4 @@ pub mod BreakLemmas
 pub mod CommandLemmas
 pub mod LoadLemmas
 pub mod OpenLemmas
+mod CommandExamples

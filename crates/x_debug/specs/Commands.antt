@@ -1,4 +1,8 @@
--- What a session answers to each command, and what it leaves.
+-- What a session answers to each command, and what it leaves (`answer`); the same of a line (`answer_line`); and what may be left of it where
+-- memory runs out (`IsLeft`).
+--
+-- Example: with no branch open, `open start` answers `at X1 -`, and `step` is refused; with one open, `open` is. A breakpoint that is set twice
+-- is kept once. proofs/CommandExamples.antt computes these.
 use Rattle.std.specs.Prelude.{ℕ, ◌≡◌, ◌⊎◌, nat_lt, Bool, true, List, [], ◌∷◌, length, Option, Some, None}
 use Rattle.text_lines.specs.Writing.{text_of}
 use Rattle.cover_problem.specs.Problem.{ProblemValue}

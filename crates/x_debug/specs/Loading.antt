@@ -1,5 +1,7 @@
 -- What a text that is loaded is answered, and what it leaves: the session on the snapshot that it is; the refusal of another problem's
 -- snapshot, or the first fault of a text that is none. Where it is refused nothing has changed.
+--
+-- Example: the text `hello` without an end is `refused snapshot 7 Truncated`. proofs/CommandExamples.antt computes it.
 use Rattle.std.specs.Prelude.{ℕ, List, [], ◌∷◌, Result, Ok, Err, if◌then◌else◌}
 use Rattle.text_lines.specs.Writing.{line_text}
 use Rattle.cover_problem.specs.Problem.{is_same}

@@ -1,4 +1,7 @@
--- A session: a book, the worker that has one of its tiles open or none, and the breakpoints in the order in which they were set.
+-- A session: a book, the worker that has one of its tiles open or none, and the breakpoints in the order in which they were set. A
+-- `fresh_session` has the whole run of a problem open, at its start.
+--
+-- Example: the fresh session of the small problem has the line `branch start to end leased`. proofs/CommandExamples.antt computes it.
 use Rattle.std.specs.Prelude.{◌≡◌, true, List, [], Option, None}
 use Rattle.std.specs.List.{list_all}
 use Rattle.cover_problem.specs.Problem.{ProblemValue}

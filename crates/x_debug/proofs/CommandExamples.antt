@@ -1,0 +1,49 @@
+-- The examples of specs/Session.antt, specs/Commands.antt and specs/Loading.antt, computed on the small problem's new session.
+use Rattle.std.proofs.Common.{◌≡◌, Some, None, [], ◌∷◌, ◌++◌, codes, refl}
+use Rattle.std.specs.Fmt.{digits}
+use Rattle.cover_problem.proofs.CoverExamples.{small}
+use Rattle.x_steps.specs.StateValue.{start}
+use Rattle.x_texts.specs.declared.breakpoint.Break.TheVariants.{Visit}
+use Rattle.x_snapshot.specs.Reading.{first_line, keyed, keyed_line, parts_of}
+use Rattle.lab_book.specs.Book.{new_book, outcome}
+use Rattle.debug_language.specs.Command as command
+use Rattle.debug_acts.specs.Entering.{enter}
+use Rattle.x_debug.specs.Session.{SessionValue, fresh_session, session_on}
+use Rattle.x_debug.specs.Commands.{answer, answer_branches, answer_set}
+use Rattle.x_debug.specs.Loading.{load_answer}
+
+-- the session of the small problem's whole run, with no branch open
+abbrev resting : SessionValue
+resting = session_on (new_book small (record { lo = None; hi = None }) start)
+
+-- ---- specs/Session.antt
+
+its_branch : (answer_branches (fresh_session small)).text ≡ codes "branch start to end leased" ++ 10 ∷ []
+unfolding outcome
+its_branch = refl
+
+waits : (answer_branches resting).text ≡ codes "branch start to end waiting" ++ 10 ∷ []
+waits = refl
+
+-- ---- specs/Commands.antt
+
+opens : (answer resting (command.Enter None)).text ≡ codes "at X1 -" ++ 10 ∷ []
+unfolding answer enter outcome
+opens = refl
+
+not_twice : (answer (fresh_session small) (command.Enter None)).text ≡ codes "refused debug 4 AlreadyOpen" ++ 10 ∷ []
+unfolding answer outcome digits
+not_twice = refl
+
+none_open : (answer resting (command.Step 1)).text ≡ codes "refused debug 5 NoBranch" ++ 10 ∷ []
+unfolding answer digits
+none_open = refl
+
+kept_once : (answer_set (answer_set resting Visit).session Visit).session.breaks ≡ Visit ∷ []
+kept_once = refl
+
+-- ---- specs/Loading.antt
+
+no_snapshot : (load_answer resting (codes "hello")).text ≡ codes "refused snapshot 7 Truncated" ++ 10 ∷ []
+unfolding load_answer parts_of keyed_line keyed first_line digits
+no_snapshot = refl

@@ -28,7 +28,7 @@ use Rattle.debug_views.specs.Lines.{plain, counted, set, state_line, debug_refus
 use Rattle.debug_views.specs.Showing.{show_lines, all_untried, or_none}
 use Rattle.debug_views.specs.Tiles.{tile_line, visits_lines, place_at, refusal_or, answer_of_tile, hold, put_back}
 use Rattle.debug_acts.specs.Desk.{DeskAnswer}
-use Rattle.debug_acts.specs.Walking.{forward, steps_ahead, step_count, step_lines, run_count, run_lines, back_count, back_lines, run, gone_back}
+use Rattle.debug_acts.specs.Walking.{forward, steps_ahead, step_count, step_lines, run_count, run_lines, back_count, back_lines, run, gone_back, state_back}
 use Rattle.debug_acts.specs.Work.{AtWork, work, WorkAnswer, answered}
 use Rattle.debug_acts.specs.Entering.{enter_call, stand_lines, entered_at, enter}
 use Rattle.debug_acts.proofs.WalkedLemmas.{least_within}

@@ -1,12 +1,14 @@
 //! Calls of a runner to which memory is refused: what was handed in comes back, the runner is as it was, and the same call, made again,
 //! is answered as where nothing is refused. `tools/check_memory` runs these tests with one growth refused, each growth in turn.
+ghost use Rattle.std.specs.Prelude.{◌≡◌, []};
 
-use crate::setting::{small, whole};
-use cover_problem::{PlainTable, Problem};
+use crate::setting::{branch_of, small, whole};
+use cover_problem::{PlainTable, Problem, Table};
+use drawn_problems::state_of;
 use std::alloc::Global;
 use std::test::Fail;
-use x_branches::{Cut, Runner, RunnerFault, Stretch};
-use x_steps::Event;
+use x_branches::{Branch, Cut, Runner, RunnerFault, StartFault, Stretch};
+use x_steps::{AtFault, Cursor, Event, Label, Refused, State};
 
 /// A call of a runner that takes memory.
 #[derive(Clone, Copy)]
@@ -153,5 +155,79 @@ fn a_refused_cut_leaves_the_runner(rt: HostRuntime) -> Result<(), Fail> {
 fn a_refused_stretch_stays_with_the_runner(rt: HostRuntime) -> Result<(), Fail> {
     let problem = small(rt.alloc())?;
     assert!(rt; is_answered_after(rt.alloc(), &problem, 30, Call::TakeStretch)?);
+    Ok(())
+}
+
+/// Whether a start was refused for want of memory alone.
+fn is_no_memory(fault: StartFault) -> bool {
+    fault == StartFault::Steps(AtFault::OutOfMemory)
+        || fault == StartFault::Runner(RunnerFault::OutOfMemory)
+}
+
+/// The runner of a branch from a state on, from the table and the branch that come back where the first try is refused. None where the
+/// second is, too, and where they aren't as before.
+fn runner_again<'p>(
+    alloc: Global,
+    problem: &'p Problem,
+    table: PlainTable,
+    branch: Branch<'p>,
+    copy: &Branch<'p>,
+    state: &State,
+) -> Option<Runner<'p, PlainTable>>
+    requires same_problem { table.problem ≡ problem.now }
+    requires covered { table.covered ≡ [] }
+{
+    let Refused { fault, given } = match Runner::new(alloc, problem, table, branch, state) {
+        Ok(runner) => return Some(runner),
+        Err(refused) => refused,
+    };
+    let (table, branch) = given;
+    if !is_no_memory(fault) || !table.covered().is_empty() || !branch.same(copy) {
+        return None;
+    }
+    match Runner::new(alloc, problem, table, branch, state) {
+        Ok(runner) => Some(runner),
+        Err(_) => None,
+    }
+}
+
+/// Whether a runner stands at a state of a branch with nothing unposted, and visits 4 5 1 after so many steps.
+fn goes_on(
+    runner: Option<Runner<'_, PlainTable>>,
+    branch: &Branch<'_>,
+    state: &State,
+    steps: u32,
+) -> bool {
+    let Some(mut runner) = runner else {
+        return false;
+    };
+    let stands = runner.branch().same(branch) && runner.state().same(state);
+    let is_marked = runner.mark().same(state) && runner.unposted() == 0;
+    for _ in 0..steps {
+        if runner.advance().is_err() {
+            return false;
+        }
+    }
+    stands
+        && is_marked
+        && runner.is_visit()
+        && runner.state().path.as_slice() == [4, 5, 1].as_slice()
+}
+
+/// Whether a runner that goes on from the cut 4 starts as where nothing is refused.
+fn starts_again(alloc: Global, problem: &Problem) -> Result<bool, Fail> {
+    let state = state_of(alloc, Label::X5, &[], Cursor::At(4))?;
+    let branch = branch_of(alloc, problem, &[4], &[])?;
+    let copy = branch.copy()?;
+    let table = PlainTable::new(alloc, problem)?;
+    let _last = vec![in alloc; 0u8; 1].map_err(|_| "refused before the call")?;
+    let runner = runner_again(alloc, problem, table, branch, &copy, &state);
+    Ok(goes_on(runner, &copy, &state, 9))
+}
+
+#[test]
+fn a_refused_runner_gives_its_table_and_its_branch_back(rt: HostRuntime) -> Result<(), Fail> {
+    let problem = small(rt.alloc())?;
+    assert!(rt; starts_again(rt.alloc(), &problem)?);
     Ok(())
 }

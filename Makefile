@@ -23,7 +23,7 @@ LONG_COVERS = pent-10x6 langford-12
 all: check-edits check-names check-ownership build gallery check-tools check-parts check-docs check-words check-completions check-page check-statuses check-memory
 
 # The checks that take a minute, once the program is built: a landing has to pass them after the gate.
-quick: check-names check-ownership build gallery check-docs check-words check-statuses check-memory
+quick: check-edits check-names check-ownership build gallery check-docs check-words check-statuses check-memory
 
 # What there is to do, each with the first line that stands above it here.
 help:

@@ -42,7 +42,7 @@ fn a_seat_is_missing(rt: HostRuntime) -> Result<(), Fail> {
 }
 
 /// Copies of a book's tiles.
-fn tiles_of<'p>(alloc: Global, book: &Book<'p>) -> Result<Vec<Tile<'p>>, AllocError> {
+pub fn tiles_of<'p>(alloc: Global, book: &Book<'p>) -> Result<Vec<Tile<'p>>, AllocError> {
     let mut tiles = Vec::new(alloc);
     for tile in book.tiles() {
         tiles.push(tile.copy()?)?;
@@ -51,7 +51,7 @@ fn tiles_of<'p>(alloc: Global, book: &Book<'p>) -> Result<Vec<Tile<'p>>, AllocEr
 }
 
 /// Whether a book's tiles are these.
-fn has_tiles(book: &Book<'_>, tiles: &[Tile<'_>]) -> bool {
+pub fn has_tiles(book: &Book<'_>, tiles: &[Tile<'_>]) -> bool {
     if book.tiles().len() != tiles.len() {
         return false;
     }

@@ -14,6 +14,8 @@ mod gate_tests;
 #[cfg(test)]
 mod held_tests;
 #[cfg(test)]
+mod memory_tests;
+#[cfg(test)]
 mod pool_tests;
 #[cfg(test)]
 mod searches;

@@ -1,0 +1,88 @@
+//! A desk to which memory is refused: blank and book come back, the book as it was, and the same desk is made of them then.
+//! `tools/check_memory` runs this test with one growth refused, each growth in turn.
+ghost use Rattle.std.specs.Prelude.{◌≡◌};
+
+use crate::books::{begins_with, begun};
+use crate::desk_tests::{has_tiles, tiles_of};
+use cover_problem::{Problem, read_cover};
+use drawn_problems::SMALL;
+use lab_book::{Book, Tile};
+use lab_desk::{Desk, Desking, Seat};
+use std::alloc::Global;
+use std::marker::Brand;
+use std::sync::ledger::Blank;
+use std::test::Fail;
+
+/// Whether a book is as another one was that had these tiles.
+fn is_as_before(book: &Book<'_>, copy: &Book<'_>, tiles: &[Tile<'_>]) -> bool {
+    has_tiles(book, tiles) && begins_with(book, copy) && begins_with(copy, book)
+}
+
+/// Whether a desk has two seats, 0 and 1.
+fn has_two<L: Desking>(desk: &Desk<'_, L>, seats: &[Seat<L>]) -> bool {
+    if desk.seats() != 2 || seats.len() != 2 {
+        return false;
+    }
+    for (place, seat) in seats.iter().enumerate() {
+        if seat.number() as usize != place {
+            return false;
+        }
+    }
+    true
+}
+
+/// Whether a desk is made.
+fn is_made<'p, L: Desking>(made: Result<(Desk<'p, L>, Vec<Seat<L>>), (Blank, Book<'p>)>) -> bool {
+    match made {
+        Ok((desk, seats)) => has_two(&desk, &seats),
+        Err(_) => false,
+    }
+}
+
+/// Whether a desk of this ledger is made of a book, on a second try where the first is refused.
+fn is_made_again<'p, L: Desking>(
+    alloc: Global,
+    blank: Blank,
+    book: Book<'p>,
+    copy: &Book<'p>,
+    tiles: &[Tile<'p>],
+) -> bool
+    requires name { blank.name ≡ L.name }
+    requires parts { (blank.parts ≡ L.parts) × (blank.parts ≡ 2) }
+    requires opening { book.history ≡ L.opening }
+    requires whole { book.problem ≡ L.whole }
+    requires part { book.branch ≡ L.part }
+    requires begin { book.first ≡ L.begin }
+{
+    let (blank, book) = match Desk::<L>::new(alloc, blank, book, 2) {
+        Ok((desk, seats)) => return has_two(&desk, &seats),
+        Err(given) => given,
+    };
+    is_as_before(&book, copy, tiles) && is_made(Desk::<L>::new(alloc, blank, book, 2))
+}
+
+/// The same of a book that has entries.
+fn is_desk_made<'p>(
+    alloc: Global,
+    book: Option<Book<'p>>,
+    copy: Option<Book<'p>>,
+) -> Result<bool, Fail> {
+    let (Some(book), Some(copy)) = (book, copy) else {
+        return Err(Fail::from("no book"));
+    };
+    let tiles = tiles_of(alloc, &copy)?;
+    let _last = vec![in alloc; 0u8; 1].map_err(|_| "refused before the call")?;
+    Ok(is_made_again::<Brand>(alloc, Blank::new(2), book, &copy, &tiles))
+}
+
+/// The same of the small problem's book in which 30 steps are posted.
+fn is_begun_desk_made(alloc: Global, problem: &Problem) -> Result<bool, Fail> {
+    is_desk_made(alloc, begun(alloc, problem), begun(alloc, problem))
+}
+
+#[test]
+fn a_refused_desk_gives_its_book_back(rt: HostRuntime) -> Result<(), Fail> {
+    let problem = read_cover(rt.alloc(), SMALL.as_bytes())?;
+    assert!(rt; is_begun_desk_made(rt.alloc(), &problem)?);
+    Ok(())
+}

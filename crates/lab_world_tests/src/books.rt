@@ -2,7 +2,8 @@
 
 mod acts;
 mod entry_tests;
-mod finishing;
+pub mod finishing;
+mod memory_tests;
 mod new_tests;
 mod resumed_tests;
 mod search_tests;

@@ -6,6 +6,8 @@ mod books;
 #[cfg(test)]
 mod drawn_tests;
 #[cfg(test)]
+mod memory_tests;
+#[cfg(test)]
 mod row_tests;
 #[cfg(test)]
 mod setting;

@@ -71,7 +71,7 @@ pub fn add(
 }
 
 /// Whether the worker of each event is one of so many.
-fn have_workers(events: &[WorldEvent], workers: u8) -> bool
+pub fn have_workers(events: &[WorldEvent], workers: u8) -> bool
     ensures { IsTrue result ↔ All (λ (e : WorldEvent). e.worker < workers) events.now }
 {
     events.iter().all(|event| event.worker < workers)

@@ -76,7 +76,7 @@ pub fn given_lease(answer: Result<Leased<'_>, BookFault>) -> Result<Lease, Fail>
 
 /// The lease of these parts, whether or not the tested book gave it: of a second book, of a problem with an item and two options, where
 /// refused calls add entries until the next one is that which the lease names.
-fn lease(alloc: Global, problem: &Problem, given: Given) -> Result<Lease, Fail> {
+pub fn lease(alloc: Global, problem: &Problem, given: Given) -> Result<Lease, Fail> {
     let (id, worker, index) = given;
     let mut book = Book::new(alloc, problem)?;
     make_tiles(alloc, problem, &mut book, id)?;

@@ -1,8 +1,9 @@
 //! What a book's calls leave, and what a finished book has.
+ghost use Rattle.std.specs.Prelude.{◌<◌, length};
 
 use crate::books::acts::{Act, make};
 use cover_problem::Problem;
-use lab_book::{Book, Tile};
+use lab_book::{Book, Entries, Tile};
 use std::alloc::{AllocError, Global};
 use std::test::Fail;
 use x_branches::KeptStretch;
@@ -51,6 +52,35 @@ pub fn has_tiles(book: &Book<'_>, tiles: &[Tile<'_>]) -> bool {
         }
     }
     true
+}
+
+/// Whether the calls of two histories at a place are the same worker's, and of the same kind.
+fn is_call(entries: &Entries<'_>, others: &Entries<'_>, place: usize) -> bool
+    requires one { place < length entries.now }
+    requires other { place < length others.now }
+{
+    entries.worker(place) == others.worker(place) && entries.kind(place) == others.kind(place)
+}
+
+/// Whether two histories have the same calls of the same workers.
+fn are_calls(entries: &Entries<'_>, others: &Entries<'_>) -> bool {
+    if entries.len() != others.len() {
+        return false;
+    }
+    for place in 0..entries.len() {
+        if !is_call(entries, others, place) {
+            return false;
+        }
+    }
+    true
+}
+
+/// Whether two books are alike: their tiles part by part, the calls of their histories, and their totals.
+pub fn are_alike(book: &Book<'_>, other: &Book<'_>) -> bool {
+    has_tiles(book, other.tiles())
+        && are_calls(&book.history(), &other.history())
+        && book.steps() == other.steps()
+        && book.visited() == other.visited()
 }
 
 /// Whether each call answers so; a refused one leaves the tiles as they were, and each adds an entry.

@@ -23,6 +23,14 @@ pub fn state_at(alloc: Global, label: Label, path: &[u32], cursor: Cursor) -> Re
     })
 }
 
+/// One growth, which is told where it is refused.
+pub fn grows(alloc: Global) -> Result<(), Fail> {
+    match vec![in alloc; 0u8; 1] {
+        Ok(_) => Ok(()),
+        Err(_) => Err(Fail::from("refused before the call")),
+    }
+}
+
 /// What was made, or that it was refused.
 pub fn value_of<V: Drop, F: Drop, G: Drop>(made: Result<V, Refused<F, G>>) -> Result<V, Fail> {
     match made {

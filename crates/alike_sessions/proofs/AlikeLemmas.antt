@@ -6,7 +6,7 @@ use Rattle.x_steps.specs.Steps.{next}
 use Rattle.x_steps.specs.Run.{steps_between}
 use Rattle.x_branches.specs.declared.branch.Branch.{Branch}
 use Rattle.x_branches.specs.declared.fault.RunnerFault.TheVariants.{NotAtMark}
-use Rattle.x_branches.specs.Runner.{RunnerValue}
+use Rattle.x_branches.specs.Runner.{RunnerValue, unposted_steps}
 use Rattle.x_branches.specs.Refusals.{most_steps, untried_in}
 use Rattle.x_branches.specs.Untried.{with_choice}
 use Rattle.x_texts.specs.declared.breakpoint.Break.{Break}
@@ -28,7 +28,7 @@ use Rattle.debug_language.specs.declared.words.Plain.TheVariants.{Closed}
 use Rattle.debug_language.specs.declared.words.Counted.TheVariants as counts
 use Rattle.debug_views.specs.Lines.{plain, counted, state_line, book_refusal, runner_refusal}
 use Rattle.debug_acts.specs.Desk.{DeskAnswer, desk}
-use Rattle.debug_acts.specs.Walking.{unposted_steps, steps_ahead, post_call, posted, posted_if_any, with_room, stepped, forward}
+use Rattle.debug_acts.specs.Walking.{steps_ahead, post_call, posted, posted_if_any, with_room, stepped, forward}
 use Rattle.debug_acts.specs.Work.{AtWork, WorkAnswer, answered}
 use Rattle.debug_acts.specs.Giving.{parked, park, save, closed, not_closed, close}
 use Rattle.debug_acts.specs.Parting.{parted, parted_line, split, book_asked, retracted_by, retract}

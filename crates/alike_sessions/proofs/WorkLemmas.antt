@@ -19,7 +19,7 @@ use Rattle.x_branches.specs.declared.fault.RunnerFault.TheVariants.{NotAtMark}
 use Rattle.x_branches.specs.Branch.{first_of, end_of}
 use Rattle.x_branches.specs.Cut.{CutPath, IsCut, cut_state}
 use Rattle.x_branches.specs.Stretch.{StretchValue, IsStretch}
-use Rattle.x_branches.specs.Runner.{RunnerValue, IsRunner, IsWithin}
+use Rattle.x_branches.specs.Runner.{RunnerValue, IsRunner, IsWithin, unposted_steps}
 use Rattle.x_branches.specs.Refusals.{most_steps, untried_in}
 use Rattle.x_branches.specs.Untried.{with_choice}
 use Rattle.x_branches.proofs.CutLemmas.{cut_fits}
@@ -38,7 +38,7 @@ use Rattle.lab_world.specs.Worker.{WorkerValue, HasTile, HoldsTile, after_post, 
 use Rattle.lab_world.proofs.HoldLemmas.{passed}
 use Rattle.lab_world.proofs.OwnLemmas.{Has, own, own_is_tile, found_own, last_own, some_is, post_has, retract_has, split_has}
 use Rattle.lab_world.proofs.SplitLemmas.{cut_is, split_is}
-use Rattle.debug_acts.specs.Walking.{unposted_steps, steps_ahead, post_call, posted, posted_if_any, with_room, stepped, forward, state_on}
+use Rattle.debug_acts.specs.Walking.{steps_ahead, post_call, posted, posted_if_any, with_room, stepped, forward, state_on}
 use Rattle.debug_acts.specs.Work.{AtWork, work, answered}
 use Rattle.debug_acts.specs.Giving.{parked, closed, not_closed}
 use Rattle.debug_acts.specs.Parting.{parted, parted_line, split, book_asked, retracted_by, retract}

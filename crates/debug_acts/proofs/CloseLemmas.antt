@@ -11,7 +11,7 @@ use Rattle.x_steps.proofs.BetweenLemmas.{steps_between_self}
 use Rattle.x_steps.proofs.StretchLemmas.{reached_fits, reached_rank}
 use Rattle.x_branches.specs.declared.branch.Branch.{Branch}
 use Rattle.x_branches.specs.Branch.{end_of}
-use Rattle.x_branches.specs.Runner.{IsRunner}
+use Rattle.x_branches.specs.Runner.{IsRunner, unposted_steps}
 use Rattle.x_branches.proofs.RunnerLemmas.{not_before}
 use Rattle.lab_book.specs.declared.fault.BookFault.{BookFault}
 use Rattle.lab_book.specs.declared.fault.BookFault.TheVariants.{NotAtEnd, OutOfMemory}
@@ -27,7 +27,7 @@ use Rattle.lab_book.specs.Calls.{Made, Refuses}
 use Rattle.lab_book.proofs.TileLemmas.{is_same_state, same_state_is}
 use Rattle.lab_world.specs.Worker.{WorkerValue, HoldsTile, HasTile}
 use Rattle.lab_world.proofs.OwnLemmas.{found_own, own, own_is_tile}
-use Rattle.debug_acts.specs.Walking.{posted, posted_if_any, unposted_steps, steps_ahead}
+use Rattle.debug_acts.specs.Walking.{posted, posted_if_any, steps_ahead}
 use Rattle.debug_acts.specs.Work.{AtWork, work}
 use Rattle.debug_acts.specs.Giving.{closed, not_closed}
 use Rattle.debug_views.proofs.CallLemmas.{done_not_refused}

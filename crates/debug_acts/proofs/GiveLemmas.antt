@@ -1,7 +1,7 @@
 -- A worker that holds its tile posts what it walked and gives the tile up: the book doesn't refuse it.
 use Rattle.std.proofs.Common.{◌≡◌, ℕ, Bool, true, false, cond, nat_lt, inl, inr, refl, sym, ap, ◌∙◌, None}
 use Rattle.x_steps.specs.Run.{after}
-use Rattle.x_branches.specs.Runner.{RunnerValue, IsRunner}
+use Rattle.x_branches.specs.Runner.{RunnerValue, IsRunner, unposted_steps}
 use Rattle.lab_book.specs.declared.fault.BookFault.{BookFault}
 use Rattle.lab_book.specs.declared.entry.Call.TheVariants as call
 use Rattle.lab_book.specs.declared.entry.Reply.TheVariants as reply
@@ -12,7 +12,7 @@ use Rattle.lab_book.specs.Book.{BookValue, Outcome, outcome, book_step, made_at,
 use Rattle.lab_book.specs.Calls.{Made, Refuses}
 use Rattle.lab_world.specs.Worker.{WorkerValue, HoldsTile}
 use Rattle.lab_world.proofs.OwnLemmas.{found_own}
-use Rattle.debug_acts.specs.Walking.{posted, posted_if_any, unposted_steps}
+use Rattle.debug_acts.specs.Walking.{posted, posted_if_any}
 use Rattle.debug_acts.specs.Work.{AtWork, work}
 use Rattle.debug_acts.specs.Giving.{parked, IsNotGiven}
 use Rattle.debug_views.proofs.CallLemmas.{done_not_refused}

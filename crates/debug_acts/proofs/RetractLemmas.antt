@@ -8,7 +8,7 @@ use Rattle.x_branches.specs.declared.fault.RunnerFault.{RunnerFault}
 use Rattle.x_branches.specs.declared.fault.RunnerFault.TheVariants.{AtBranchEnd, AtMark, NothingUntried, NotUntried, OutsideBranch, NotAtMark, StretchFull}
 use Rattle.x_branches.specs.declared.fault.RunnerFault.TheVariants as runners
 use Rattle.x_branches.specs.Faults.{number_of, name_of}
-use Rattle.x_branches.specs.Runner.{IsRunner}
+use Rattle.x_branches.specs.Runner.{IsRunner, unposted_steps}
 use Rattle.lab_book.specs.declared.fault.BookFault.{BookFault}
 use Rattle.lab_book.specs.declared.fault.BookFault.TheVariants.{OutOfMemory}
 use Rattle.lab_book.specs.declared.entry.Call.TheVariants as call
@@ -26,7 +26,6 @@ use Rattle.debug_language.specs.declared.words.Counted.TheVariants as counts
 use Rattle.debug_language.specs.declared.words.Layer.TheVariants as layer
 use Rattle.debug_language.specs.Replies.{refused_words}
 use Rattle.debug_views.specs.Lines.{state_line, counted, runner_refusal, book_refusal}
-use Rattle.debug_acts.specs.Walking.{unposted_steps}
 use Rattle.debug_acts.specs.Work.{work, WorkAnswer, answered}
 use Rattle.debug_acts.specs.Parting.{retracted_by, retract}
 use Rattle.debug_acts.proofs.GiveLemmas.{at_mark}

@@ -17,7 +17,7 @@ use Rattle.x_steps.proofs.BetweenLemmas.{length-states, steps_between_self, step
 use Rattle.x_steps.proofs.StretchLemmas.{reached_fits, reached_rank}
 use Rattle.x_branches.specs.Branch.{end_of}
 use Rattle.x_branches.specs.Refusals.{most_steps}
-use Rattle.x_branches.specs.Runner.{RunnerValue, IsRunner, visit_of}
+use Rattle.x_branches.specs.Runner.{RunnerValue, IsRunner, visit_of, unposted_steps}
 use Rattle.x_branches.specs.Stretch.{IsStretch}
 use Rattle.x_texts.specs.declared.breakpoint.Break.{Break}
 use Rattle.text_lines.specs.Writing.{text_of}
@@ -26,7 +26,7 @@ use Rattle.lab_world.specs.Worker.{HoldsTile, moved_to}
 use Rattle.debug_views.specs.Breakpoints.{first_met, meets_one, steps_to_break}
 use Rattle.debug_acts.proofs.WalkedLemmas.{Walked, none_walked, walked_on, part_way, ended, not_ended, left, position, same_problem}
 use Rattle.debug_acts.proofs.ForwardLemmas.{CanWalk, on_goes_on}
-use Rattle.debug_acts.specs.Walking.{IsPartWay, posted, with_room, stepped, forward, unposted_steps, steps_ahead, state_on, visit_lines, run_count}
+use Rattle.debug_acts.specs.Walking.{IsPartWay, posted, with_room, stepped, forward, steps_ahead, state_on, visit_lines, run_count}
 use Rattle.debug_acts.specs.Work.{AtWork, work}
 use Rattle.debug_acts.proofs.WalkLemmas.{on_position}
 

@@ -2,11 +2,11 @@
 use Rattle.std.proofs.Common.{◌≡◌, ◌==◌, ℕ, zero, suc, ◌+◌, Bool, true, false, cond, refl, ◌∙◌, ap, ap₂, arith, zero-add, suc-add}
 use Rattle.std.proofs.lemmas.Bool.{ne_eqb}
 use Rattle.x_steps.specs.Steps.{next}
-use Rattle.x_branches.specs.Runner.{visit_of}
+use Rattle.x_branches.specs.Runner.{visit_of, unposted_steps}
 use Rattle.x_branches.specs.Refusals.{most_steps}
 use Rattle.lab_book.specs.Book.{BookValue}
 use Rattle.lab_world.specs.Worker.{WorkerValue, moved_to, marked_at}
-use Rattle.debug_acts.specs.Walking.{posted, with_room, stepped, forward, state_on, unposted_steps}
+use Rattle.debug_acts.specs.Walking.{posted, with_room, stepped, forward, state_on}
 use Rattle.debug_acts.specs.Work.{AtWork, work}
 
 module _ (a : AtWork) where

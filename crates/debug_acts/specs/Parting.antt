@@ -3,7 +3,7 @@ use Rattle.std.specs.Prelude.{ℕ, ◌==◌, true, List, [], ◌∷◌, Some, le
 use Rattle.cover_problem.specs.Lists.{has}
 use Rattle.x_branches.specs.declared.fault.RunnerFault.TheVariants.{NotAtMark}
 use Rattle.x_branches.specs.Cut.{CutPath}
-use Rattle.x_branches.specs.Runner.{RunnerValue}
+use Rattle.x_branches.specs.Runner.{RunnerValue, unposted_steps}
 use Rattle.x_branches.specs.Refusals.{untried_in}
 use Rattle.lab_book.specs.declared.entry.Call.TheVariants as call
 use Rattle.lab_book.specs.declared.entry.Reply.{Reply}
@@ -17,7 +17,6 @@ use Rattle.debug_language.specs.Replies.{standing_words}
 use Rattle.x_steps.specs.Run.{steps_between}
 use Rattle.debug_views.specs.Lines.{state_line, counted, runner_refusal, book_refusal}
 use Rattle.debug_acts.specs.Work.{AtWork, WorkAnswer, work, answered}
-use Rattle.debug_acts.specs.Walking.{unposted_steps}
 
 -- ---- `split`
 

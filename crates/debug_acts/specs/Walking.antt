@@ -1,4 +1,4 @@
--- Steps of a worker, onward and back: what isn't posted (`unposted_steps`) and what lies ahead (`steps_ahead`), posting (`posted`) and one
+-- Steps of a worker, onward and back: how many lie ahead (`steps_ahead`), posting what isn't posted (`posted`) and one
 -- step (`stepped`), and what `step`, `run` and `back` answer and leave, in full or where memory runs out on the way.
 --
 -- Example: at its mark a worker is refused a step back, `refused debug 3 AtStart`. proofs/ActExamples.antt computes it.
@@ -8,7 +8,7 @@ use Rattle.x_steps.specs.StateValue.{StateValue}
 use Rattle.x_steps.specs.Steps.{next}
 use Rattle.x_steps.specs.Run.{after, steps_between, visits_between}
 use Rattle.x_branches.specs.Branch.{end_of}
-use Rattle.x_branches.specs.Runner.{RunnerValue}
+use Rattle.x_branches.specs.Runner.{RunnerValue, unposted_steps}
 use Rattle.x_branches.specs.Refusals.{most_steps}
 use Rattle.x_texts.specs.declared.breakpoint.Break.{Break}
 use Rattle.lab_book.specs.declared.entry.Call.{Call}
@@ -22,10 +22,6 @@ use Rattle.debug_language.specs.declared.words.Counted.TheVariants.{Moved}
 use Rattle.x_texts.specs.Words.{visit_words}
 use Rattle.debug_views.specs.Breakpoints.{first_met, steps_to_break}
 use Rattle.debug_views.specs.Lines.{plain, counted, state_line, met, debug_refusal}
-
--- how many steps of a runner are not posted, and how many lie before it
-abbrev pub unposted_steps : RunnerValue → ℕ
-unposted_steps r = steps_between r.problem r.mark r.position
 
 -- how many steps lead from a runner on to the end of its branch
 abbrev pub steps_ahead : RunnerValue → ℕ

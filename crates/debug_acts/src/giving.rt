@@ -28,7 +28,7 @@ fn give_up<'p, T: Table>(book: &mut Book<'p>, worker: Worker<'p, T>) -> Result<(
     let Ok(()) = post_rest(book, &mut worker) else {
         return Err(worker);
     };
-    let _tiles = book.tiles();
+    book.is_sound();
     let Refused { fault: _, given } = match worker.park(book) {
         Ok(()) => return Ok(()),
         Err(refused) => refused,

@@ -1,9 +1,9 @@
 //! A branch is parted, and its last posted stretch is walked again.
 ghost use Rattle.std.specs.Prelude.{◌≡◌, ◌∷◌, [], OnOk, OnErr};
+ghost use Rattle.x_branches.specs.Runner.{unposted_steps};
 ghost use Rattle.lab_book.specs.Book.{path_of};
 ghost use Rattle.lab_world.specs.Worker.{HoldsTile};
 ghost use Rattle.debug_language.specs.Replies.{standing_words};
-ghost use Rattle.debug_acts.specs.Walking.{unposted_steps};
 ghost use Rattle.debug_acts.specs.Work.{work};
 ghost use Rattle.debug_views.specs.Lines.{state_line, counted};
 ghost use Rattle.debug_acts.specs.Parting.{retract, split};
@@ -43,8 +43,8 @@ pub fn retract<'p, T: Table>(
         (retract (work book.old worker.old)).work) }
     ensures holds_on { HoldsTile book.new worker.new }
 {
-    let _tiles = book.tiles();
-    let _state = worker.runner().state();
+    book.is_sound();
+    worker.runner().is_sound();
     match worker.retract(book) {
         Ok(()) => write_retracted(text, worker),
         Err(WorkerFault::Runner(fault)) => write_runner_fault(text, fault),

@@ -18,8 +18,8 @@ fn post<'p, T: Table>(book: &mut Book<'p>, worker: &mut Worker<'p, T>) -> Result
     ensures worker_kept { OnErr result (worker.new ≡ worker.old) }
     ensures holds_on { HoldsTile book.new worker.new }
 {
-    let _tiles = book.tiles();
-    let _state = worker.runner().state();
+    book.is_sound();
+    worker.runner().is_sound();
     let Ok(_) = worker.post(book) else {
         return Err(AllocError);
     };

@@ -92,8 +92,8 @@ pub(crate) fn walk_on<'p, T: Table>(
         (step_count worker.old.runner most)) }
     ensures holds_on { HoldsTile book.new worker.new }
 {
-    let _tiles = book.tiles();
-    let _state = worker.runner().state();
+    book.is_sound();
+    worker.runner().is_sound();
     make_room(book, worker)?;
     let Ok(walk) = worker.walk(most) else {
         return Err(AllocError);

@@ -55,7 +55,7 @@ fn search<'p, R: Threads + Wait + Sync, G: Gate>(
 {
     match run_pool_on(rt, alloc, book, workers, gate) {
         Ok(book) => {
-            let _tiles = book.tiles();
+            book.is_sound();
             Ok((book, true))
         }
         Err(
@@ -64,7 +64,7 @@ fn search<'p, R: Threads + Wait + Sync, G: Gate>(
                 given: Some(book),
             },
         ) => {
-            let _tiles = book.tiles();
+            book.is_sound();
             Ok((book, false))
         }
         Err(refused) => Err(RepliesFault::Pool(refused.fault)),

@@ -49,7 +49,7 @@ fn write_items<T: Table>(
     ensures { OnOk result (WritesLine text.old text.new (runner_covered runner.now)) }
 {
     // A runner's state tells that what is covered are items of its problem; so it does below.
-    let _state = runner.state();
+    runner.is_sound();
     write_covered(text, problem, runner.covered())
 }
 
@@ -62,7 +62,7 @@ fn write_chosen<T: Table>(
     requires same { problem.now ≡ runner.now.problem }
     ensures { OnOk result (WritesLines text.old text.new (runner_chosen runner.now)) }
 {
-    let _state = runner.state();
+    runner.is_sound();
     let Some((item, options)) = runner.chosen()? else {
         return Ok(());
     };
@@ -78,7 +78,7 @@ fn write_left<T: Table>(
     requires same { problem.now ≡ runner.now.problem }
     ensures { OnOk result (WritesLines text.old text.new (runner_active runner.now ++ runner_second runner.now)) }
 {
-    let _state = runner.state();
+    runner.is_sound();
     write_lists(text, problem, Listed::Active, &runner.remaining()?)?;
     write_lists(text, problem, Listed::Second, &runner.second()?)
 }

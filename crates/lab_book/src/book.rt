@@ -101,7 +101,7 @@ fn is_cut(cut: &Option<Cut<'_>>)
     ensures { IfSome cut.now (λ c. IsCut c.problem c.path) }
 {
     if let Some(cut) = cut {
-        let _path = cut.path();
+        cut.is_sound();
     }
 }
 
@@ -232,6 +232,12 @@ impl<'p> Book<'p> {
     {
         self.history.entries()
     }
+
+    /// What is true of every book, for a proof that needs it: its tiles are a tiling of its branch, and it is its history's replay.
+    pub fn is_sound(&self)
+        ensures tiling { IsTiling self.now.problem self.now.branch self.now.first self.now.tiles }
+        ensures replay { replayed (new_book self.now.problem self.now.branch self.now.first) self.now.history ≡ self.now }
+    {}
 
     /// Notes a refusal in the history, unless memory ran out, or runs out here.
     fn refuse(&mut self, w: u8, call: Call, fault: BookFault) -> BookFault

@@ -137,7 +137,7 @@ fn run_at<'p, L: Desking + Send + Sync, R: Threads + Wait + Sync, G: Gate>(
     let Ok(book) = desk.finish(seats) else {
         return Err(mismatch());
     };
-    let _history = book.history();
+    book.is_sound();
     answer(book, from, memory.load(Ordering::SeqCst), refused)
 }
 

@@ -16,7 +16,7 @@ use Rattle.x_branches.specs.declared.fault.RunnerFault.{RunnerFault}
 use Rattle.x_branches.specs.declared.fault.RunnerFault.TheVariants as runner
 use Rattle.x_branches.specs.Branch.{end_of}
 use Rattle.x_branches.specs.Cut.{CutPath, choices}
-use Rattle.x_branches.specs.Runner.{RunnerValue}
+use Rattle.x_branches.specs.Runner.{RunnerValue, unposted_steps}
 use Rattle.x_branches.specs.Untried.{left_above, is_before_end, with_choice}
 use Rattle.x_branches.specs.Refusals.{untried_in, CanAdvance, AdvanceRefused, CutRefused}
 use Rattle.x_branches.proofs.UntriedLemmas.{untried_left}
@@ -38,7 +38,7 @@ use Rattle.lab_world.specs.declared.worker.ending.Ending.{Ending}
 use Rattle.lab_world.specs.declared.worker.ending.Ending.TheVariants as ending
 use Rattle.lab_world.specs.declared.worker.leasing.Wanted.{Wanted}
 use Rattle.lab_world.specs.declared.worker.leasing.Wanted.TheVariants as wanted
-use Rattle.lab_world.specs.Worker.{WorkerValue, moved_to, unposted, unposted_steps, cut_at, shortened, split_call, lease_call, end_call}
+use Rattle.lab_world.specs.Worker.{WorkerValue, moved_to, unposted, cut_at, shortened, split_call, lease_call, end_call}
 use Rattle.lab_world.specs.Worker.{lent_worker, after_post, after_split, after_retract, after_end, RetractRefused, WorkerSplitRefused}
 use Rattle.lab_world.specs.declared.event.Act.{Act}
 use Rattle.lab_world.specs.declared.fault.WorkerFault.TheVariants as worker_fault
@@ -264,7 +264,7 @@ module _ (b : BookValue) (w : ℕ) where
     end_is ending.Abandon = at_some Abandon
     end_is ending.Close = at_some Close
 
-    retract_by : (c : Bool) → (unposted_steps y == 0) ≡ c → turn b x w Retract
+    retract_by : (c : Bool) → (unposted_steps y.runner == 0) ≡ c → turn b x w Retract
         ≡ (if c then called b y.grant.worker (call.Retract y.grant) (after_retract y) else stays b (Some y)
         (reply_of.Runner runner.NotAtMark))
     unfolding turn
@@ -273,10 +273,10 @@ module _ (b : BookValue) (w : ℕ) where
         ∙ ap (λ (c : Bool). if c then called b y.grant.worker (call.Retract y.grant) (after_retract y) else stays b (Some y)
         (reply_of.Runner runner.NotAtMark)) e
 
-    pub retract_is : unposted_steps y ≡ 0 → turn b x w Retract ≡ called b y.grant.worker (call.Retract y.grant) (after_retract y)
+    pub retract_is : unposted_steps y.runner ≡ 0 → turn b x w Retract ≡ called b y.grant.worker (call.Retract y.grant) (after_retract y)
     retract_is n = retract_by true (eq-eqb _ 0 n)
 
-    retract_stays : 0 < unposted_steps y → turn b x w Retract ≡ stays b (Some y) (reply_of.Runner runner.NotAtMark)
+    retract_stays : 0 < unposted_steps y.runner → turn b x w Retract ≡ stays b (Some y) (reply_of.Runner runner.NotAtMark)
     retract_stays l = retract_by false (ne_eqb _ 0 (λ e. omega arith))
 
     module _ (level o : ℕ) where

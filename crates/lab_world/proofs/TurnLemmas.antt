@@ -14,6 +14,7 @@ use Rattle.x_steps.specs.Before.{prev}
 use Rattle.x_branches.specs.Branch.{end_of}
 use Rattle.x_branches.specs.Refusals.{most_steps, untried_in}
 use Rattle.x_branches.specs.Untried.{with_choice}
+use Rattle.x_branches.specs.Runner.{unposted_steps}
 use Rattle.lab_book.specs.declared.lease.Grant.{Grant}
 use Rattle.lab_book.specs.States.{same_state}
 use Rattle.lab_book.specs.Calls.{post_of}
@@ -31,7 +32,7 @@ use Rattle.lab_world.specs.declared.worker.ending.Ending.{Ending}
 use Rattle.lab_world.specs.declared.worker.ending.Ending.TheVariants as ending
 use Rattle.lab_world.specs.declared.worker.leasing.Wanted.{Wanted}
 use Rattle.lab_world.specs.declared.worker.leasing.Wanted.TheVariants as wanted
-use Rattle.lab_world.specs.Worker.{leased_by, WorkerValue, HasTile, moved_to, unposted, unposted_steps, split_call, is_wanted, lease_call}
+use Rattle.lab_world.specs.Worker.{leased_by, WorkerValue, HasTile, moved_to, unposted, split_call, is_wanted, lease_call}
 use Rattle.lab_world.specs.Worker.{end_call}
 use Rattle.lab_world.specs.Worker.{after_end, lent_worker}
 use Rattle.lab_world.specs.World.{WorldValue, Turn, turn, stepped, stepped_back, splitting, retracting, IsSeat, IsWorld, worker_at}
@@ -107,7 +108,7 @@ module _ (b : BookValue) (w : ℕ) (tiling : IsTiling b.problem b.branch b.first
   step_keeps : (x : WorkerValue) → IsSeat b w (Some x) → Keeps w (stepped b x)
   step_keeps x k =
       either (Keeps w) (same_state x.runner.position (end_of x.runner.branch.hi)) _ _ k
-      (either (Keeps w) (unposted_steps x == most_steps) _ _ k (moved_keeps x (next x.runner.problem x.runner.position) k))
+      (either (Keeps w) (unposted_steps x.runner == most_steps) _ _ k (moved_keeps x (next x.runner.problem x.runner.position) k))
 
   back_keeps : (x : WorkerValue) → IsSeat b w (Some x) → Keeps w (stepped_back b x)
   back_keeps x k = either (Keeps w) (same_state x.runner.position x.runner.mark) _ _ k
@@ -120,7 +121,7 @@ module _ (b : BookValue) (w : ℕ) (tiling : IsTiling b.problem b.branch b.first
 
   retract_keeps : (x : WorkerValue) → IsSeat b w (Some x) → Keeps w (retracting b x)
   retract_keeps x k =
-      either (Keeps w) (unposted_steps x == 0) _ _
+      either (Keeps w) (unposted_steps x.runner == 0) _ _
       (own_seat x x.grant.worker (call.Retract x.grant) _ k.0 (retract_has b x tiling k.1 x.grant.worker)) k
 
   split_keeps : (x : WorkerValue) (level o : ℕ) → IsSeat b w (Some x) → Keeps w (splitting b level o x)
@@ -201,7 +202,7 @@ module _ (b : BookValue) (w v : ℕ) (y : WorkerValue) (other : v ≡ w → ⊥)
   leaves None (PutBack id s) h = left w (call.PutBack id (state_value s)) (put_back_leaves b w y k.1.tile id (state_value s))
   leaves None (RequestStop id) h = left w (call.RequestStop id) (stop_leaves b w y k.1.tile id)
   leaves (Some x) Step h = either Leaves (same_state x.runner.position (end_of x.runner.branch.hi)) _ _ k
-      (either Leaves (unposted_steps x == most_steps) _ _ k k)
+      (either Leaves (unposted_steps x.runner == most_steps) _ _ k k)
   leaves (Some x) Back h = either Leaves (same_state x.runner.position x.runner.mark) _ _ k k
   leaves (Some x) (Lease id) h = k
   leaves (Some x) LeaseAny h = k
@@ -209,7 +210,7 @@ module _ (b : BookValue) (w v : ℕ) (y : WorkerValue) (other : v ≡ w → ⊥)
   leaves (Some x) Post h = left x.grant.worker (post_of b.problem x.grant (unposted x))
       (post_leaves b x.grant.worker y k.1.tile x.grant (not_own x h.0) x.runner.mark x.runner.position (is_same x.runner.problem b.problem))
   leaves (Some x) Retract h =
-      either Leaves (unposted_steps x == 0) _ _
+      either Leaves (unposted_steps x.runner == 0) _ _
       (left x.grant.worker (call.Retract x.grant) (retract_leaves b x.grant.worker y k.1.tile x.grant (not_own x h.0))) k
   leaves (Some x) (Split level o) h =
       let path = with_choice x.runner.position level o in

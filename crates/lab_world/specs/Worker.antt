@@ -5,7 +5,7 @@ use Rattle.cover_problem.specs.Problem.{ProblemValue}
 use Rattle.x_steps.specs.StateValue.{StateValue}
 use Rattle.x_branches.specs.declared.branch.Branch.{Branch}
 use Rattle.x_branches.specs.Cut.{CutPath}
-use Rattle.x_branches.specs.Runner.{RunnerValue}
+use Rattle.x_branches.specs.Runner.{RunnerValue, unposted_steps}
 use Rattle.x_branches.specs.Stretch.{StretchValue}
 use Rattle.x_branches.specs.Untried.{with_choice}
 use Rattle.x_branches.specs.Refusals.{untried_in, CutRefused}
@@ -67,10 +67,6 @@ marked_at x s = record { grant = x.grant; runner = record x.runner { mark = s } 
 -- the stretch that it has not posted
 abbrev pub unposted : WorkerValue → StretchValue
 unposted x = record { problem = x.runner.problem; from = x.runner.mark; to = x.runner.position }
-
--- and how many steps that has
-abbrev pub unposted_steps : WorkerValue → ℕ
-unposted_steps x = steps_between x.runner.problem x.runner.mark x.runner.position
 
 -- its runner's branch ends at a cut
 abbrev pub shortened : WorkerValue → CutPath → WorkerValue
@@ -171,9 +167,9 @@ after_end x r = Some x
 
 -- why a worker's stretch isn't taken back: it has unposted steps, and then the book wasn't called, or the book refused
 abbrev pub RetractRefused : BookValue → BookValue → WorkerValue → WorkerFault → Type 0
-RetractRefused old new x (Runner NotAtMark) = (0 < unposted_steps x) × (new ≡ old)
+RetractRefused old new x (Runner NotAtMark) = (0 < unposted_steps x.runner) × (new ≡ old)
 RetractRefused old new x (Runner f) = ⊥
-RetractRefused old new x (Book f) = Refuses old new x.grant.worker (call.Retract x.grant) f × (unposted_steps x ≡ 0)
+RetractRefused old new x (Book f) = Refuses old new x.grant.worker (call.Retract x.grant) f × (unposted_steps x.runner ≡ 0)
 
 -- why a worker's tile isn't split: its runner refused the cut, and then the book wasn't called, or memory ran out at a cut that is
 -- untried; the book is as it was

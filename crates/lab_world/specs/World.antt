@@ -13,7 +13,7 @@ use Rattle.x_branches.specs.declared.fault.RunnerFault.{RunnerFault}
 use Rattle.x_branches.specs.declared.fault.RunnerFault.TheVariants.{AtBranchEnd, AtMark, NothingUntried, NotUntried, OutsideBranch}
 use Rattle.x_branches.specs.declared.fault.RunnerFault.TheVariants.{NotAtMark, StretchFull}
 use Rattle.x_branches.specs.Branch.{end_of}
-use Rattle.x_branches.specs.Runner.{RunnerValue}
+use Rattle.x_branches.specs.Runner.{RunnerValue, unposted_steps}
 use Rattle.x_branches.specs.Refusals.{most_steps, untried_in}
 use Rattle.x_branches.specs.Untried.{left_above, with_choice}
 use Rattle.lab_book.specs.declared.entry.Call.{Call}
@@ -32,7 +32,7 @@ use Rattle.lab_world.specs.declared.worker.leasing.Wanted.{Wanted}
 use Rattle.lab_world.specs.declared.worker.leasing.Wanted.TheVariants as wanted
 use Rattle.lab_world.specs.declared.event.WorldReply.{WorldReply}
 use Rattle.lab_world.specs.declared.event.WorldReply.TheVariants.{Event, Runner, Book, Idle, Busy}
-use Rattle.lab_world.specs.Worker.{WorkerValue, HoldsTile, moved_to, unposted, unposted_steps, cut_at, split_call, lent_worker, after_post}
+use Rattle.lab_world.specs.Worker.{WorkerValue, HoldsTile, moved_to, unposted, cut_at, split_call, lent_worker, after_post}
 use Rattle.lab_world.specs.Worker.{after_split, after_retract, after_end}
 
 -- a world
@@ -74,7 +74,7 @@ if_working b (Some x) f = f x
 abbrev pub stepped : BookValue → WorkerValue → Turn
 stepped b x =
     if same_state x.runner.position (end_of x.runner.branch.hi) then stays b (Some x) (Runner AtBranchEnd) else
-    (if unposted_steps x == most_steps then stays b (Some x) (Runner StretchFull) else
+    (if unposted_steps x.runner == most_steps then stays b (Some x) (Runner StretchFull) else
     record {
       reply = Event (event_of x.runner.problem x.runner.position);
       book = b;
@@ -104,7 +104,7 @@ splitting b level o x =
 -- what was posted last is taken out and walked again, unless there are unposted steps
 abbrev pub retracting : BookValue → WorkerValue → Turn
 retracting b x =
-    if unposted_steps x == 0 then called b x.grant.worker (call.Retract x.grant) (after_retract x) else
+    if unposted_steps x.runner == 0 then called b x.grant.worker (call.Retract x.grant) (after_retract x) else
     stays b (Some x) (Runner NotAtMark)
 
 -- what worker w's act makes of a book and of its seat

@@ -129,8 +129,7 @@ impl<'p, T: Table> World<'p, T> {
         ensures unchanged { OnErr result (self.new ≡ self.old) }
     {
         let alloc = *self.workers.allocator();
-        let _history = self.book.history();
-        let _tiles = self.book.tiles();
+        self.book.is_sound();
         act(
             alloc,
             &mut self.book,

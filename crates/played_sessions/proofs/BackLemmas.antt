@@ -1,7 +1,7 @@
 -- A branch at work steps back, as worker 0 does.
 use Rattle.std.proofs.Common.{◌≡◌, ℕ, zero, suc, ◌≤◌, ◌<◌, Bool, true, false, Some, List, [], ◌∷◌, ◌++◌}
 use Rattle.std.proofs.Common.{replicate, refl, sym, ap, subst, arith}
-use Rattle.x_branches.specs.Runner.{IsRunner}
+use Rattle.x_branches.specs.Runner.{IsRunner, unposted_steps}
 use Rattle.lab_book.specs.States.{same_state}
 use Rattle.lab_book.specs.Book.{BookValue}
 use Rattle.lab_book.proofs.TileLemmas.{same_state_is}
@@ -9,7 +9,7 @@ use Rattle.lab_world.specs.declared.event.Act.{Act}
 use Rattle.lab_world.specs.declared.event.Act.TheVariants.{Back}
 use Rattle.lab_world.specs.Worker.{WorkerValue, moved_to}
 use Rattle.lab_world.specs.World.{turn}
-use Rattle.debug_acts.specs.Walking.{unposted_steps, state_back}
+use Rattle.debug_acts.specs.Walking.{state_back}
 use Rattle.debug_acts.proofs.BackLemmas.{none_back, back_next, all_back}
 use Rattle.played_sessions.specs.PlayedSessions.{seated_at}
 use Rattle.played_sessions.proofs.PlayLemmas.{Leads, one_act, then_acts}

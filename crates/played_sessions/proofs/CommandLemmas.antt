@@ -2,6 +2,7 @@
 use Rattle.std.proofs.Common.{◌≡◌, ℕ, zero, suc, Bool, true, false, cond, Option, Some, None, option_map, Result, Ok, Err, List, [], ◌∷◌, ◌<◌, refl, sym, ap, ◌∙◌, subst, arith}
 use Rattle.cover_problem.specs.Problem.{ProblemValue, is_same}
 use Rattle.x_steps.specs.StateView.{state_value}
+use Rattle.x_branches.specs.Runner.{unposted_steps}
 use Rattle.x_snapshot.specs.declared.fault.SnapshotFault.{SnapshotFault}
 use Rattle.x_snapshot.specs.Snapshot.{SnapshotValue, choices_of}
 use Rattle.x_snapshot.specs.Judged.{snapshot_of}
@@ -20,7 +21,7 @@ use Rattle.debug_language.specs.declared.command.Command.TheVariants as commands
 use Rattle.debug_language.specs.Command.{CommandValue, command_value}
 use Rattle.debug_views.specs.Lines.{state_line, book_refusal}
 use Rattle.debug_views.specs.Tiles.{answer_of_tile, hold, put_back, place_at}
-use Rattle.debug_acts.specs.Walking.{steps_ahead, step_count, run_count, back_count, unposted_steps}
+use Rattle.debug_acts.specs.Walking.{steps_ahead, step_count, run_count, back_count}
 use Rattle.debug_acts.specs.Work.{work}
 use Rattle.debug_acts.specs.Entering.{entered_at, enter, lent_by}
 use Rattle.debug_acts.proofs.WalkedLemmas.{least_within}

@@ -7,6 +7,7 @@ use Rattle.x_steps.proofs.RunLemmas.{leads_to}
 use Rattle.x_steps.proofs.BetweenLemmas.{steps_between_self}
 use Rattle.x_branches.specs.declared.branch.Branch.{Branch}
 use Rattle.x_branches.specs.Branch.{end_of}
+use Rattle.x_branches.specs.Runner.{unposted_steps}
 use Rattle.lab_book.specs.declared.lease.Grant.{Grant}
 use Rattle.lab_book.specs.declared.fault.BookFault.TheVariants.{NotAtEnd}
 use Rattle.lab_book.specs.declared.entry.Call.TheVariants as call
@@ -21,7 +22,7 @@ use Rattle.lab_world.proofs.OwnLemmas.{own, found_own}
 use Rattle.debug_language.specs.declared.words.Plain.TheVariants.{Closed}
 use Rattle.debug_views.specs.Lines.{plain, book_refusal}
 use Rattle.debug_acts.specs.Desk.{DeskAnswer, desk}
-use Rattle.debug_acts.specs.Walking.{unposted_steps, steps_ahead, posted, posted_if_any}
+use Rattle.debug_acts.specs.Walking.{steps_ahead, posted, posted_if_any}
 use Rattle.debug_acts.specs.Work.{AtWork}
 use Rattle.debug_acts.specs.Giving.{parked, closed, not_closed, close}
 use Rattle.debug_acts.proofs.ForwardLemmas.{can_walk}

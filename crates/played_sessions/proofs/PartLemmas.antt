@@ -4,6 +4,7 @@ use Rattle.cover_problem.specs.Lists.{has}
 use Rattle.x_branches.specs.declared.fault.RunnerFault.TheVariants.{NotAtMark}
 use Rattle.x_branches.specs.Refusals.{untried_in}
 use Rattle.x_branches.specs.Untried.{with_choice}
+use Rattle.x_branches.specs.Runner.{unposted_steps}
 use Rattle.lab_book.specs.declared.fault.BookFault.{BookFault}
 use Rattle.lab_book.specs.declared.entry.Call.TheVariants as call
 use Rattle.lab_book.specs.Book.{Outcome, outcome, found, made_at, retracted, lease_fault, retract_fault}
@@ -13,7 +14,6 @@ use Rattle.lab_world.specs.Worker.{WorkerValue, cut_at, split_call, after_split,
 use Rattle.lab_world.specs.World.{Turn, turn, stays, called, cut_refusal}
 use Rattle.lab_world.proofs.SplitLemmas.{split_is}
 use Rattle.debug_views.specs.Lines.{runner_refusal}
-use Rattle.debug_acts.specs.Walking.{unposted_steps}
 use Rattle.debug_acts.specs.Work.{AtWork, WorkAnswer, answered}
 use Rattle.debug_acts.specs.Parting.{parted, parted_line, split, book_asked, retracted_by, retract}
 use Rattle.alike_sessions.proofs.WorkLemmas.{IsSoundWork, asked_reply}

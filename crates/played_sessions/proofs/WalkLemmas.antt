@@ -6,6 +6,7 @@ use Rattle.x_steps.specs.Run.{steps_between}
 use Rattle.x_steps.proofs.BetweenLemmas.{steps_between_self}
 use Rattle.x_branches.specs.Branch.{end_of}
 use Rattle.x_branches.specs.Refusals.{most_steps}
+use Rattle.x_branches.specs.Runner.{unposted_steps}
 use Rattle.lab_book.specs.declared.entry.Call.{Call}
 use Rattle.lab_book.specs.declared.entry.Call.TheVariants as call
 use Rattle.lab_book.specs.States.{same_state}
@@ -14,7 +15,7 @@ use Rattle.lab_book.specs.Calls.{post_of}
 use Rattle.lab_book.proofs.TileLemmas.{same_state_is}
 use Rattle.lab_world.specs.declared.event.Act.{Act}
 use Rattle.lab_world.specs.declared.event.Act.TheVariants.{Step, Post}
-use Rattle.lab_world.specs.Worker.{WorkerValue, unposted, unposted_steps, moved_to, after_post}
+use Rattle.lab_world.specs.Worker.{WorkerValue, unposted, moved_to, after_post}
 use Rattle.lab_world.specs.World.{WorldValue, turn, worker_at, played}
 use Rattle.debug_acts.specs.Walking.{steps_ahead, state_on, post_call, posted, posted_if_any, stepped, forward}
 use Rattle.debug_acts.specs.Work.{AtWork, work}
@@ -42,7 +43,7 @@ module _ (u : AtWork) (s : IsSoundWork u) where
       ∙ ap (λ (o : Outcome). after_post x o.reply) (granted u.book x s.tiling s.holds s.runner))
 
   pub rest_leads : LeadsTo u (rest_acts x) (posted_if_any u)
-  rest_leads = by (nat_lt 0 (unposted_steps x))
+  rest_leads = by (nat_lt 0 (unposted_steps x.runner))
     where
       by : (b : Bool) → LeadsTo u (cond b (Post ∷ []) []) (cond b (posted u) u)
       by true = post_leads
@@ -63,7 +64,7 @@ module _ (u : AtWork) (s : IsSoundWork u) where
           absurd (omega arith)
 
   -- where there is room for it
-  step_leads : 0 < steps_ahead x.runner → (unposted_steps x == most_steps) ≡ false
+  step_leads : 0 < steps_ahead x.runner → (unposted_steps x.runner == most_steps) ≡ false
       → LeadsTo u (Step ∷ []) (work u.book (moved_to x (next x.runner.problem x.runner.position)))
   unfolding turn
   step_leads some room =
@@ -73,9 +74,9 @@ module _ (u : AtWork) (s : IsSoundWork u) where
 
 pub stepped_leads : (u : AtWork) → IsSoundWork u → 0 < steps_ahead u.worker.runner → LeadsTo u (step_acts u.worker) (stepped u)
 unfolding stepped posted
-stepped_leads u s some = by (unposted_steps u.worker == most_steps) refl
+stepped_leads u s some = by (unposted_steps u.worker.runner == most_steps) refl
   where
-    by : (b : Bool) → (unposted_steps u.worker == most_steps) ≡ b
+    by : (b : Bool) → (unposted_steps u.worker.runner == most_steps) ≡ b
         → LeadsTo u (cond b (Post ∷ Step ∷ []) (Step ∷ []))
         (work (cond b (posted u) u).book
         (moved_to (cond b (posted u) u).worker (next u.worker.runner.problem u.worker.runner.position)))

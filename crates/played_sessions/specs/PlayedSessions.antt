@@ -9,6 +9,7 @@ use Rattle.std.specs.Prelude.{map, replicate, if◌then◌else◌}
 use Rattle.cover_problem.specs.Problem.{ProblemValue, is_same}
 use Rattle.x_steps.specs.StateValue.{start}
 use Rattle.x_branches.specs.Refusals.{most_steps}
+use Rattle.x_branches.specs.Runner.{unposted_steps}
 use Rattle.x_snapshot.specs.declared.fault.SnapshotFault.{SnapshotFault}
 use Rattle.x_snapshot.specs.Snapshot.{SnapshotValue, choices_of, branch_between}
 use Rattle.lab_book.specs.Tile.{TileValue, is_held}
@@ -18,7 +19,7 @@ use Rattle.lab_world.specs.declared.event.Act.{Act}
 use Rattle.lab_world.specs.declared.event.Act.TheVariants.{Step, Back, Lease, LeaseAny, TakeHeld, Post, Split, Retract, Park, Close}
 use Rattle.lab_world.specs.declared.event.Act.TheVariants.{PutBack, RequestStop}
 use Rattle.lab_world.specs.declared.event.WorldEvent.{WorldEvent}
-use Rattle.lab_world.specs.Worker.{WorkerValue, unposted_steps}
+use Rattle.lab_world.specs.Worker.{WorkerValue}
 use Rattle.lab_world.specs.World.{WorldValue, worker_at, played, fresh}
 use Rattle.debug_language.specs.declared.command.Command.{Command}
 use Rattle.debug_language.specs.declared.command.Command.TheVariants as commands
@@ -51,11 +52,11 @@ events acts = map own_event acts
 
 -- what isn't posted is posted
 abbrev pub rest_acts : WorkerValue → List Act
-rest_acts w = if nat_lt 0 (unposted_steps w) then Post ∷ [] else []
+rest_acts w = if nat_lt 0 (unposted_steps w.runner) then Post ∷ [] else []
 
 -- a step, and before it a post where the stretch has as many steps as can be counted
 abbrev pub step_acts : WorkerValue → List Act
-step_acts w = if unposted_steps w == most_steps then Post ∷ Step ∷ [] else Step ∷ []
+step_acts w = if unposted_steps w.runner == most_steps then Post ∷ Step ∷ [] else Step ∷ []
 
 -- the tile is closed: at the branch's end what isn't posted is posted first, and before the end the book refuses it
 abbrev pub close_acts : WorkerValue → List Act

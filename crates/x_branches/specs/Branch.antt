@@ -2,6 +2,7 @@
 use Rattle.std.specs.Prelude.{ℕ, Option, Some, List}
 use Rattle.std.specs.Prelude as prelude
 use Rattle.x_steps.specs.StateValue.{StateValue, start, done}
+use Rattle.x_branches.specs.declared.branch.Branch.{Branch}
 use Rattle.x_branches.specs.Cut.{cut_state, CutPath}
 
 -- the first state of a branch: its low cut's, or X1
@@ -13,3 +14,7 @@ first_of (Some cut) = cut_state cut.path
 abbrev pub end_of : Option CutPath → StateValue
 end_of prelude.None = done
 end_of (Some cut) = cut_state cut.path
+
+-- the whole run, as a branch
+abbrev pub whole_run : Branch
+whole_run = record { lo = prelude.None; hi = prelude.None }

@@ -18,6 +18,14 @@ pub record RunnerValue : Type 0 where
   pub mark : StateValue
   pub position : StateValue
 
+-- the state that ends its branch
+abbrev pub runner_end : RunnerValue → StateValue
+runner_end r = end_of r.branch.hi
+
+-- how many of its steps are not posted
+abbrev pub unposted_steps : RunnerValue → ℕ
+unposted_steps r = steps_between r.problem r.mark r.position
+
 -- a cut, if there is one, is the problem's
 abbrev pub IsOf : ProblemValue → Option CutPath → Type 0
 IsOf p prelude.None = Unit {0}

@@ -108,6 +108,11 @@ impl<'p> Cut<'p> {
         Cut { problem, path }
     }
 
+    /// What is true of every cut, for a proof that needs it: its choices are those of a cut of its problem.
+    pub fn is_sound(&self)
+        ensures cut { IsCut self.now.problem self.now.path }
+    {}
+
     /// Its choices.
     pub fn path(&self) -> &[u32]
         ensures path { result.now ≡ self.now.path }

@@ -210,6 +210,12 @@ impl<'p, T: Table> Runner<'p, T> {
         machine.into_table()
     }
 
+    /// What is true of every runner, for a proof that needs it: mark and position are in its branch, in this order.
+    pub fn is_sound(&self)
+        ensures runner { IsRunner self.now }
+        ensures problem { IsProblem self.now.problem }
+    {}
+
     /// Where the search stands.
     pub fn state(&self) -> &State
         ensures state { state_value result.now ≡ self.now.position }

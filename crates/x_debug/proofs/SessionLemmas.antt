@@ -8,7 +8,7 @@ use Rattle.x_steps.specs.StateValue.{StateValue}
 use Rattle.x_texts.specs.declared.breakpoint.Break.{Break}
 use Rattle.x_texts.specs.Breaks.{is_break}
 use Rattle.x_branches.specs.declared.fault.RunnerFault.TheVariants.{NotAtMark}
-use Rattle.x_branches.specs.Runner.{RunnerValue}
+use Rattle.x_branches.specs.Runner.{RunnerValue, unposted_steps}
 use Rattle.x_branches.specs.Refusals.{most_steps, untried_in}
 use Rattle.lab_book.specs.declared.lease.Grant.{Grant}
 use Rattle.lab_book.specs.declared.fault.BookFault.TheVariants.{NotAtEnd}
@@ -28,7 +28,7 @@ use Rattle.debug_acts.specs.Desk.{Desk, DeskAnswer, desk}
 use Rattle.x_debug.specs.Session.{SessionValue, IsSession, fresh_session}
 use Rattle.debug_views.specs.Tiles.{answer_of_tile, hold, put_back, place_at}
 use Rattle.debug_acts.specs.Entering.{enter}
-use Rattle.debug_acts.specs.Walking.{posted, posted_if_any, with_room, stepped, forward, unposted_steps, steps_ahead, IsPartWay, IsPartBack}
+use Rattle.debug_acts.specs.Walking.{posted, posted_if_any, with_room, stepped, forward, steps_ahead, IsPartWay, IsPartBack}
 use Rattle.debug_acts.specs.Work.{AtWork, work, WorkAnswer, answered}
 use Rattle.debug_acts.specs.Giving.{parked, close, closed, not_closed, IsNotGiven}
 use Rattle.debug_acts.specs.Parting.{retract, retracted_by, split, parted, parted_line}

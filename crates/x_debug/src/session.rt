@@ -49,7 +49,7 @@ impl<'p, T: Table> Session<'p, T> {
         ensures leased { IfOk result (λ s. is_some s.worker ≡ true) }
     {
         let mut book = Book::new(alloc, problem)?;
-        let _tiles = book.tiles();
+        book.is_sound();
         let worker = Worker::lease_any(alloc, &mut book, 0)?;
         Ok(Session {
             book,

@@ -22,9 +22,9 @@ fn is_at_end<T: Table>(book: &Book<'_>, worker: &Worker<'_, T>) -> bool
     ensures end { IsTrue result ↔ (worker.now.runner.position ≡ end_of worker.now.runner.branch.hi) }
     ensures none_ahead { (steps_ahead worker.now.runner == 0) ≡ result }
 {
-    let _tiles = book.tiles();
+    book.is_sound();
     let runner = worker.runner();
-    let _state = runner.state();
+    runner.is_sound();
     runner.is_at_end()
 }
 
@@ -37,11 +37,11 @@ fn finish<'p, T: Table>(book: &mut Book<'p>, worker: Worker<'p, T>) -> Result<()
     ensures holds_on { IfErr result (λ w. HoldsTile book.new w) }
 {
     let mut worker = worker;
-    let _state = worker.runner().state();
+    worker.runner().is_sound();
     let Ok(()) = post_rest(book, &mut worker) else {
         return Err(worker);
     };
-    let _tiles = book.tiles();
+    book.is_sound();
     let Refused { fault: _, given } = match worker.close(book) {
         Ok(()) => return Ok(()),
         Err(refused) => refused,
@@ -72,8 +72,8 @@ fn ask_to_close<'p, T: Table>(
     ensures holds_still { IfOk result (λ w. HoldsTile book.new w) }
     ensures holds_on { IfErr result (λ w. HoldsTile book.new w) }
 {
-    let _tiles = book.tiles();
-    let _state = worker.runner().state();
+    book.is_sound();
+    worker.runner().is_sound();
     let Refused { fault, given } = match worker.close(book) {
         Ok(()) => unreachable!(),
         Err(refused) => refused,

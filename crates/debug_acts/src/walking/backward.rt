@@ -17,7 +17,7 @@ fn go_back<T: Table>(worker: &mut Worker<'_, T>, most: u32) -> u32
     ensures made { worker.new ≡ gone_back worker.old most }
     ensures holds { (b : BookValue) → HoldsTile b worker.old → HoldsTile b worker.new }
 {
-    let _state = worker.runner().state();
+    worker.runner().is_sound();
     for gone in 0..most {
         let Ok(()) = worker.back() else {
             return gone;
@@ -38,7 +38,7 @@ pub fn back<T: Table>(
     ensures left { OnErr result (IsPartBack worker.old worker.new (back_count worker.old.runner most)) }
     ensures holds { (b : BookValue) → HoldsTile b worker.old → HoldsTile b worker.new }
 {
-    let _state = worker.runner().state();
+    worker.runner().is_sound();
     if worker.runner().unposted() == 0 {
         return write_debug_fault(text, DebugFault::AtStart);
     }

@@ -29,8 +29,8 @@ fn walk<'p, T: Table>(
     ensures holds_on { HoldsTile book.new worker.new }
 {
     // What is true of a book and of a runner is told by these.
-    let _tiles = book.tiles();
-    let _state = worker.runner().state();
+    book.is_sound();
+    worker.runner().is_sound();
     let mut taken = 0;
     while taken < most {
         if worker.runner().is_at_end() {
@@ -57,8 +57,8 @@ pub fn step<'p, T: Table>(
         (step_count worker.old.runner most)) }
     ensures holds_on { HoldsTile book.new worker.new }
 {
-    let _tiles = book.tiles();
-    let _state = worker.runner().state();
+    book.is_sound();
+    worker.runner().is_sound();
     if worker.runner().is_at_end() {
         return write_debug_fault(text, DebugFault::AtEnd);
     }

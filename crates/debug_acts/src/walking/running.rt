@@ -32,8 +32,8 @@ fn walk_to_end<'p, T: Table>(
         (steps_ahead worker.old.runner)) }
     ensures holds_on { HoldsTile book.new worker.new }
 {
-    let _tiles = book.tiles();
-    let _state = worker.runner().state();
+    book.is_sound();
+    worker.runner().is_sound();
     let _unposted = worker.runner().unposted();
     let mut moved = 0;
     while !worker.runner().is_at_end() {
@@ -66,12 +66,12 @@ fn walk_to_break<'p, T: Table>(
         (run_count breaks.now.keys worker.old.runner)) }
     ensures holds_on { HoldsTile book.new worker.new }
 {
-    let _tiles = book.tiles();
-    let _state = worker.runner().state();
+    book.is_sound();
+    worker.runner().is_sound();
     let _unposted = worker.runner().unposted();
     let mut moved = 0;
     while !worker.runner().is_at_end() {
-        let _state = worker.runner().state();
+        worker.runner().is_sound();
         step_on(book, worker, text)?;
         // Each full stretch is an entry of the history, and there are fewer than 2^64 of them: no sum can be too large.
         let _entries = book.history().len();
@@ -138,8 +138,8 @@ pub fn run<'p, T: Table>(
         (run_count breaks.now.keys worker.old.runner)) }
     ensures holds_on { HoldsTile book.new worker.new }
 {
-    let _tiles = book.tiles();
-    let _state = worker.runner().state();
+    book.is_sound();
+    worker.runner().is_sound();
     if worker.runner().is_at_end() {
         return write_debug_fault(text, DebugFault::AtEnd);
     }

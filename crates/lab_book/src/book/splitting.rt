@@ -47,7 +47,7 @@ impl<'p> Book<'p> {
         if !same {
             return Some(BookFault::ForeignProblem);
         }
-        let _path = cut.path();
+        cut.is_sound();
         let tile = self.tiles.tile(i);
         let Ordering::Less = run_order(tile.mark(), state) else {
             return Some(BookFault::NotAfterMark);
@@ -103,7 +103,7 @@ impl<'p> Book<'p> {
         ensures unchanged { OnErr result (self.new ≡ self.old) }
         ensures given_back { IfErr result (λ c. c ≡ cut.entry) }
     {
-        let _path = cut.path();
+        cut.is_sound();
         let Ok(()) = self.history.keep(1) else {
             return Err(cut);
         };

@@ -249,7 +249,7 @@ impl<'p, T: Table> Worker<'p, T> {
         ensures holds { IfOk result (λ x. HoldsTile book.new x) }
         ensures unchanged { OnErr result (book.new ≡ book.old) }
     {
-        let _tiles = book.tiles();
+        book.is_sound();
         let Some(leased) = book.lease_any(w)? else {
             unreachable!()
         };

@@ -1,10 +1,11 @@
 //! What a worker walked is posted, and taken back.
 ghost use Rattle.std.specs.Prelude.{◌≡◌, ◌<◌, Some, IfOk, IfErr, OnOk, OnErr};
 ghost use Rattle.x_steps.specs.StateValue.{StateValue};
+ghost use Rattle.x_branches.specs.Runner.{unposted_steps};
 ghost use Rattle.lab_book.specs.Calls.{Posts, PostRefused};
 ghost use Rattle.lab_book.specs.declared.entry.Call.TheVariants as calls;
 ghost use Rattle.lab_book.specs.declared.entry.Reply.TheVariants as replies;
-ghost use Rattle.lab_world.specs.Worker.{HoldsTile, marked_at, unposted, unposted_steps, after_call, answer_to, after_retract};
+ghost use Rattle.lab_world.specs.Worker.{HoldsTile, marked_at, unposted, after_call, answer_to, after_retract};
 ghost use Rattle.lab_world.specs.Worker.{RetractRefused};
 
 use crate::fault::WorkerFault;
@@ -24,8 +25,8 @@ impl<'p, T: Table> Worker<'p, T> {
         ensures unchanged { OnErr result (self.new ≡ self.old) }
         ensures holds { HoldsTile book.old self.old → HoldsTile book.new self.new }
     {
-        let _state = self.runner.state();
-        let _tiles = book.tiles();
+        book.is_sound();
+        self.runner.is_sound();
         let Ok(stretch) = self.runner.take_stretch() else {
             return Err(BookFault::OutOfMemory);
         };
@@ -48,13 +49,13 @@ impl<'p, T: Table> Worker<'p, T> {
         ensures worker { OnOk result (Some self.new ≡ after_retract self.old (answer_to book.old self.old calls.Retract)) }
         ensures reply { OnOk result ((from : StateValue) × (to : StateValue)
             × (answer_to book.old self.old calls.Retract ≡ replies.Retracted from to)) }
-        ensures none_unposted { OnOk result (unposted_steps self.old ≡ 0) }
+        ensures none_unposted { OnOk result (unposted_steps self.old.runner ≡ 0) }
         ensures refused { IfErr result (RetractRefused book.old book.new self.old) }
         ensures unchanged { OnErr result (self.new ≡ self.old) }
         ensures holds { HoldsTile book.new self.new }
     {
-        let _state = self.runner.state();
-        let _tiles = book.tiles();
+        book.is_sound();
+        self.runner.is_sound();
         if self.runner.unposted() > 0 {
             return Err(WorkerFault::Runner(RunnerFault::NotAtMark));
         }

@@ -30,8 +30,8 @@ impl<'p, T: Table> Worker<'p, T> {
         ensures unchanged { OnErr result (self.new ≡ self.old) }
         ensures holds { HoldsTile book.new self.new }
     {
-        let _state = self.runner.state();
-        let _tiles = book.tiles();
+        book.is_sound();
+        self.runner.is_sound();
         let cut = match self.runner.cut(level, option) {
             Ok(cut) => cut,
             Err(fault) => return Err(WorkerFault::Runner(fault)),

@@ -62,7 +62,7 @@ fn desk_of<'p, T: Table>(
     ensures seat { IfOk result (λ r. IsSeat r.0 0 (Some r.1)) }
 {
     let mut book = book_at(alloc, problem, &runner)?;
-    let _tiles = book.tiles();
+    book.is_sound();
     let worker = Worker::lease_with(&mut book, 0, runner)?;
     Ok((book, worker))
 }

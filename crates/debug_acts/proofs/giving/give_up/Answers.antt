@@ -8,10 +8,10 @@ returns-in-Ok-park-clause-made g c =
 
 pub returns-clause-left : goal.returns-clause-left
 returns-clause-left g c =
-    let kept = park_kept c.post_rest.new.book c.park.new.book c.post_rest.new.worker c.tiles-tiles.ensures.tiling c.in-Ok.ensures.holds_on c.in-Err.refused.fault c.in-Err.ensures.refused in
+    let kept = park_kept c.post_rest.new.book c.park.new.book c.post_rest.new.worker c.is_sound.ensures.tiling c.in-Ok.ensures.holds_on c.in-Err.refused.fault c.in-Err.ensures.refused in
     not_given (work c.args.book.now c.args.worker) c.post_rest.new.book c.park.new.book c.post_rest.new.worker c.in-Err.refused.given c.in-Ok.ensures.made kept c.in-Err.ensures.given_back
 
 pub returns-clause-holds_on : goal.returns-clause-holds_on
 returns-clause-holds_on g c =
-    let kept = park_kept c.post_rest.new.book c.park.new.book c.post_rest.new.worker c.tiles-tiles.ensures.tiling c.in-Ok.ensures.holds_on c.in-Err.refused.fault c.in-Err.ensures.refused in
+    let kept = park_kept c.post_rest.new.book c.park.new.book c.post_rest.new.worker c.is_sound.ensures.tiling c.in-Ok.ensures.holds_on c.in-Err.refused.fault c.in-Err.ensures.refused in
     still_holds c.post_rest.new.book c.park.new.book c.post_rest.new.worker c.in-Err.refused.given c.in-Ok.ensures.holds_on kept c.in-Err.ensures.given_back

@@ -14,7 +14,7 @@ pub returns-in-Ok-clause-text : goal.returns-in-Ok-clause-text
 returns-in-Ok-clause-text g c =
     let told = c.in-Ok.ensures.reply in
     let here =
-    to_here c.args.book.now c.args.worker.now c.tiles-tiles.ensures.tiling c.requires.holds (subst IsRunner c.runner.ensures c.state-state.ensures.runner) told.0 told.1 c.in-Ok.ensures.none_unposted told.2 in
+    to_here c.args.book.now c.args.worker.now c.is_sound.ensures.tiling c.requires.holds (subst IsRunner c.runner.ensures c.is_sound-2.ensures.runner) told.0 told.1 c.in-Ok.ensures.none_unposted told.2 in
     let lines = back_lines c.args.book.now c.args.worker.now c.retract.new.book c.retract.new.self told.0 told.1 c.in-Ok.ensures.none_unposted c.in-Ok.ensures.book c.in-Ok.ensures.worker told.2 here in
     subst (λ (ls : List _). OnOk c.write_retracted.result (c.write_retracted.new.text.items ≡ c.args.text.now.items ++ text_of ls)) lines c.write_retracted.ensures
 

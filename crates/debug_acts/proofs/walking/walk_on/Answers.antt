@@ -10,7 +10,7 @@ use Rattle.debug_acts.proofs.walking.walk_on.Goals as goal
 -- the steps that were taken
 far : (g : _) (c : In-Ok g) → WalkedFar (work c.args.book.now c.args.worker.now) c.make_room.new.book c.make_room.new.worker c.walk.new.self c.in-Ok.walk.steps c.args.most c.in-Ok.walk.event
 far g c = record {
-  can = can_walk c.args.book.now c.args.worker.now c.tiles-tiles.ensures.tiling c.requires.holds (subst IsRunner c.runner.ensures c.state-state.ensures.runner);
+  can = can_walk c.args.book.now c.args.worker.now c.is_sound.ensures.tiling c.requires.holds (subst IsRunner c.runner.ensures c.is_sound-2.ensures.runner);
   room = c.in_ok-make_room.ensures.made;
   some = c.in-Ok.ensures.some c.requires.some;
   within = c.in-Ok.ensures.within;

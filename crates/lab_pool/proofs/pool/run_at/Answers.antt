@@ -7,16 +7,16 @@ pub returns-clause-searched : goal.returns-clause-searched
 returns-clause-searched g c =
     ok_searched c.args.book c.in-Ok-finish.book _ c.requires.opening c.len-from.result (c.len-from.ensures ∙ ap (length {A = Entry}) c.history.ensures.history) (c.in-Ok-finish.ensures.problem ∙ sym c.requires.whole)
     (c.in-Ok-finish.ensures.branch ∙ sym c.requires.part) (c.in-Ok-finish.ensures.first ∙ sym c.requires.begin) c.in-Ok-finish.ensures.begins
-    c.history.ensures.replay c.history-history.ensures.replay c.requires.free c.answer.result c.answer.ensures.book c.answer.ensures.done
+    c.history.ensures.replay c.is_sound.ensures.replay c.requires.free c.answer.result c.answer.ensures.book c.answer.ensures.done
 
 pub returns-clause-held : goal.returns-clause-held
 returns-clause-held g c =
     held_searched c.args.book c.in-Ok-finish.book _ c.requires.opening c.len-from.result (c.len-from.ensures ∙ ap (length {A = Entry}) c.history.ensures.history) (c.in-Ok-finish.ensures.problem ∙ sym c.requires.whole)
     (c.in-Ok-finish.ensures.branch ∙ sym c.requires.part) (c.in-Ok-finish.ensures.first ∙ sym c.requires.begin) c.in-Ok-finish.ensures.begins
-    c.history.ensures.replay c.history-history.ensures.replay c.requires.free c.answer.result c.answer.ensures.book_back c.answer.ensures.held
+    c.history.ensures.replay c.is_sound.ensures.replay c.requires.free c.answer.result c.answer.ensures.book_back c.answer.ensures.held
 
 pub returns-clause-some_held : goal.returns-clause-some_held
 returns-clause-some_held g c =
     some_was_held c.args.book c.in-Ok-finish.book _ c.requires.opening c.len-from.result (c.len-from.ensures ∙ ap (length {A = Entry}) c.history.ensures.history) (c.in-Ok-finish.ensures.problem ∙ sym c.requires.whole)
     (c.in-Ok-finish.ensures.branch ∙ sym c.requires.part) (c.in-Ok-finish.ensures.first ∙ sym c.requires.begin) c.in-Ok-finish.ensures.begins
-    c.history.ensures.replay c.history-history.ensures.replay c.requires.free c.answer.result c.answer.ensures.held c.answer.ensures.open
+    c.history.ensures.replay c.is_sound.ensures.replay c.requires.free c.answer.result c.answer.ensures.held c.answer.ensures.open

@@ -5,7 +5,7 @@ use Rattle.debug_acts.proofs.giving.closing.ask_to_close.Goals as goal
 
 pub unreachable-requires : goal.unreachable-requires
 unreachable-requires g c =
-    not_done c.args.book.now c.args.worker c.tiles-tiles.ensures.tiling c.requires.holds (subst IsRunner c.runner.ensures c.state-state.ensures.runner) c.requires.ahead c.close.new.book c.in-Ok.ensures.made
+    not_done c.args.book.now c.args.worker c.is_sound.ensures.tiling c.requires.holds (subst IsRunner c.runner.ensures c.is_sound-2.ensures.runner) c.requires.ahead c.close.new.book c.in-Ok.ensures.made
 
 pub returns-then-is_out_of_memory-clause-left : goal.returns-then-is_out_of_memory-clause-left
 returns-then-is_out_of_memory-clause-left g c =
@@ -23,5 +23,5 @@ returns-clause-made g c =
 
 pub returns-clause-holds_still : goal.returns-clause-holds_still
 returns-clause-holds_still g c =
-    refused_still c.args.book.now c.args.worker c.tiles-tiles.ensures.tiling c.requires.holds (subst IsRunner c.runner.ensures c.state-state.ensures.runner) c.requires.ahead c.close.new.book c.in-Err.refused.given c.in-Err.refused.fault
+    refused_still c.args.book.now c.args.worker c.is_sound.ensures.tiling c.requires.holds (subst IsRunner c.runner.ensures c.is_sound-2.ensures.runner) c.requires.ahead c.close.new.book c.in-Err.refused.given c.in-Err.refused.fault
     c.in-Err.ensures.refused c.in-Err.ensures.given_back

@@ -5,4 +5,4 @@ use Rattle.debug_acts.proofs.giving.closing.is_at_end.Goals as goal
 
 pub returns-clause-none_ahead : goal.returns-clause-none_ahead
 returns-clause-none_ahead g c =
-    none_ahead c.args.book.now c.args.worker.now c.tiles-tiles.ensures.tiling c.requires (subst IsRunner c.runner-runner.ensures c.state-state.ensures.runner) c.is_at_end.result (rw c.runner-runner.ensures at c.is_at_end.ensures)
+    none_ahead c.args.book.now c.args.worker.now c.is_sound.ensures.tiling c.requires (subst IsRunner c.runner-runner.ensures c.is_sound-2.ensures.runner) c.is_at_end.result (rw c.runner-runner.ensures at c.is_at_end.ensures)

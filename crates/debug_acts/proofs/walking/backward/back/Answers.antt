@@ -6,4 +6,4 @@ use Rattle.debug_acts.proofs.walking.backward.back.Goals as goal
 
 pub returns-then-unposted-eq0-clause-left : goal.returns-then-unposted-eq0-clause-left
 returns-then-unposted-eq0-clause-left g c =
-    on_err c.write_debug_fault.result (none_gone c.args.worker.now _ (subst IsRunner c.runner.ensures c.state-state.ensures.runner))
+    on_err c.write_debug_fault.result (none_gone c.args.worker.now _ (subst IsRunner c.runner.ensures c.is_sound.ensures.runner))

@@ -17,14 +17,14 @@ pub returns-then-is_at_end-clause-made : goal.returns-then-is_at_end-clause-made
 returns-then-is_at_end-clause-made g c =
     on_ok c.write_debug_fault.result
     (step_refused_made c.args.book.now c.args.worker.now
-    (can_walk c.args.book.now c.args.worker.now c.tiles-tiles.ensures.tiling c.requires.holds (subst IsRunner c.runner.ensures c.state-state.ensures.runner)) c.args.most
+    (can_walk c.args.book.now c.args.worker.now c.is_sound.ensures.tiling c.requires.holds (subst IsRunner c.runner.ensures c.is_sound-2.ensures.runner)) c.args.most
     (read_end _ _ c.runner-2.ensures (c.if-is_at_end.ensures.0 refl)))
 
 pub returns-then-is_at_end-clause-text : goal.returns-then-is_at_end-clause-text
 returns-then-is_at_end-clause-text g c =
     answered c.write_debug_fault.result c.args.text.now.items c.write_debug_fault.new.text.items (debug_refusal AtEnd) _
     (step_refused_lines c.args.book.now c.args.worker.now
-    (can_walk c.args.book.now c.args.worker.now c.tiles-tiles.ensures.tiling c.requires.holds (subst IsRunner c.runner.ensures c.state-state.ensures.runner)) c.args.most
+    (can_walk c.args.book.now c.args.worker.now c.is_sound.ensures.tiling c.requires.holds (subst IsRunner c.runner.ensures c.is_sound-2.ensures.runner)) c.args.most
     (read_end _ _ c.runner-2.ensures (c.if-is_at_end.ensures.0 refl)))
     c.write_debug_fault.ensures
 
@@ -34,7 +34,7 @@ returns-then-is_at_end-clause-left g c = on_err c.write_debug_fault.result (none
 pub returns-then-is_at_end-2-clause-text : goal.returns-then-is_at_end-2-clause-text
 returns-then-is_at_end-2-clause-text g c =
     let lines = step_to_end c.args.book.now c.args.worker.now
-    (can_walk c.args.book.now c.args.worker.now c.tiles-tiles.ensures.tiling c.requires.holds (subst IsRunner c.runner.ensures c.state-state.ensures.runner)) c.args.most
+    (can_walk c.args.book.now c.args.worker.now c.is_sound.ensures.tiling c.requires.holds (subst IsRunner c.runner.ensures c.is_sound-2.ensures.runner)) c.args.most
     (λ e. false≢true (c.if-is_at_end.ensures.1 (read_end _ _ (sym c.runner-2.ensures) e)))
     (work c.walk.new.book c.walk.new.worker) c.in_ok-moved.ensures.made
     (read_end _ _ c.runner-3.ensures (c.if-is_at_end-2.ensures.0 refl)) in
@@ -48,7 +48,7 @@ returns-then-is_at_end-2-clause-text g c =
 pub returns-clause-text : goal.returns-clause-text
 returns-clause-text g c =
     let lines = step_not_to_end c.args.book.now c.args.worker.now
-    (can_walk c.args.book.now c.args.worker.now c.tiles-tiles.ensures.tiling c.requires.holds (subst IsRunner c.runner.ensures c.state-state.ensures.runner)) c.args.most
+    (can_walk c.args.book.now c.args.worker.now c.is_sound.ensures.tiling c.requires.holds (subst IsRunner c.runner.ensures c.is_sound-2.ensures.runner)) c.args.most
     (λ e. false≢true (c.if-is_at_end.ensures.1 (read_end _ _ (sym c.runner-2.ensures) e)))
     (work c.walk.new.book c.walk.new.worker) c.in_ok-moved.ensures.made
     (λ e. false≢true (c.if-is_at_end-2.ensures.1 (read_end _ _ (sym c.runner-3.ensures) e))) in

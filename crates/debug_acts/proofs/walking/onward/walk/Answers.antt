@@ -11,7 +11,7 @@ use Rattle.debug_acts.proofs.walking.onward.walk.Goals as goal
 pub loop-taken-init : goal.loop-taken-init
 loop-taken-init g c = (
   none_walked (work c.args.book.now c.args.worker.now) c.args.text.now.items
-      (can_walk c.args.book.now c.args.worker.now c.tiles-tiles.ensures.tiling c.requires.holds (subst IsRunner c.runner.ensures c.state-state.ensures.runner)) c.requires.holds,
+      (can_walk c.args.book.now c.args.worker.now c.is_sound.ensures.tiling c.requires.holds (subst IsRunner c.runner.ensures c.is_sound-2.ensures.runner)) c.requires.holds,
   omega arith,
 )
 

@@ -17,14 +17,14 @@ pub returns-then-is_at_end-clause-made : goal.returns-then-is_at_end-clause-made
 returns-then-is_at_end-clause-made g c =
     on_ok c.write_debug_fault.result
     (run_refused_made c.args.book.now c.args.worker.now
-    (can_walk c.args.book.now c.args.worker.now c.tiles-tiles.ensures.tiling c.requires.holds (subst IsRunner c.runner.ensures c.state-state.ensures.runner)) c.args.breaks.now.keys
+    (can_walk c.args.book.now c.args.worker.now c.is_sound.ensures.tiling c.requires.holds (subst IsRunner c.runner.ensures c.is_sound-2.ensures.runner)) c.args.breaks.now.keys
     (read_end _ _ c.runner-2.ensures (c.if-is_at_end.ensures.0 refl)))
 
 pub returns-then-is_at_end-clause-text : goal.returns-then-is_at_end-clause-text
 returns-then-is_at_end-clause-text g c =
     answered c.write_debug_fault.result c.args.text.now.items c.write_debug_fault.new.text.items (debug_refusal AtEnd) _
     (run_refused_lines c.args.book.now c.args.worker.now
-    (can_walk c.args.book.now c.args.worker.now c.tiles-tiles.ensures.tiling c.requires.holds (subst IsRunner c.runner.ensures c.state-state.ensures.runner)) c.args.breaks.now.keys
+    (can_walk c.args.book.now c.args.worker.now c.is_sound.ensures.tiling c.requires.holds (subst IsRunner c.runner.ensures c.is_sound-2.ensures.runner)) c.args.breaks.now.keys
     (read_end _ _ c.runner-2.ensures (c.if-is_at_end.ensures.0 refl)))
     c.write_debug_fault.ensures
 
@@ -34,13 +34,13 @@ returns-then-is_at_end-clause-left g c = on_err c.write_debug_fault.result (none
 pub walk_to_stop-requires-clause-ahead : goal.walk_to_stop-requires-clause-ahead
 walk_to_stop-requires-clause-ahead g c =
     some_ahead c.args.worker.now.runner
-    (can_walk c.args.book.now c.args.worker.now c.tiles-tiles.ensures.tiling c.requires.holds (subst IsRunner c.runner.ensures c.state-state.ensures.runner))
+    (can_walk c.args.book.now c.args.worker.now c.is_sound.ensures.tiling c.requires.holds (subst IsRunner c.runner.ensures c.is_sound-2.ensures.runner))
     (λ e. false≢true (c.if-is_at_end.ensures.1 (read_end _ _ (sym c.runner-2.ensures) e)))
 
 pub write_stop-requires : goal.write_stop-requires
 write_stop-requires g c =
     met_is_break c.args.book.now c.args.worker.now
-    (can_walk c.args.book.now c.args.worker.now c.tiles-tiles.ensures.tiling c.requires.holds (subst IsRunner c.runner.ensures c.state-state.ensures.runner)) c.args.breaks.now.keys
+    (can_walk c.args.book.now c.args.worker.now c.is_sound.ensures.tiling c.requires.holds (subst IsRunner c.runner.ensures c.is_sound-2.ensures.runner)) c.args.breaks.now.keys
     c.walk_to_stop.new.book.problem c.args.book.now.problem
     (same_book_problem _ (work c.args.book.now c.args.worker.now) (work c.walk_to_stop.new.book c.walk_to_stop.new.worker) c.in_ok-moved.ensures.made c.in_ok-moved.ensures.holds_on
     ∙ c.requires.holds.problem)
@@ -49,7 +49,7 @@ write_stop-requires g c =
 pub returns-clause-text : goal.returns-clause-text
 returns-clause-text g c =
     let lines = run_lines_are c.args.book.now c.args.worker.now
-    (can_walk c.args.book.now c.args.worker.now c.tiles-tiles.ensures.tiling c.requires.holds (subst IsRunner c.runner.ensures c.state-state.ensures.runner)) c.args.breaks.now.keys
+    (can_walk c.args.book.now c.args.worker.now c.is_sound.ensures.tiling c.requires.holds (subst IsRunner c.runner.ensures c.is_sound-2.ensures.runner)) c.args.breaks.now.keys
     (λ e. false≢true (c.if-is_at_end.ensures.1 (read_end _ _ (sym c.runner-2.ensures) e)))
     c.walk_to_stop.new.book.problem
     (same_book_problem _ (work c.args.book.now c.args.worker.now) (work c.walk_to_stop.new.book c.walk_to_stop.new.worker) c.in_ok-moved.ensures.made c.in_ok-moved.ensures.holds_on)

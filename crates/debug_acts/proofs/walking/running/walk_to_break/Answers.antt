@@ -1,9 +1,8 @@
 use Rattle.std.proofs.Common.{◌≡◌, ◌<◌, ◌^◌, List, length, subst, sym, refl, arith, ap, ◌∙◌, add-one}
 use Rattle.std.proofs.lemmas.Bool.{false≢true}
-use Rattle.x_branches.specs.Runner.{RunnerValue, IsRunner}
+use Rattle.x_branches.specs.Runner.{RunnerValue, IsRunner, unposted_steps}
 use Rattle.lab_book.specs.declared.entry.Entry.{Entry}
 use Rattle.debug_views.specs.Breakpoints.{first_met}
-use Rattle.debug_acts.specs.Walking.{unposted_steps}
 use Rattle.debug_acts.specs.Work.{work}
 use Rattle.debug_views.proofs.CallLemmas.{on_err}
 use Rattle.debug_acts.proofs.ForwardLemmas.{can_walk}
@@ -16,7 +15,7 @@ use Rattle.debug_acts.proofs.walking.running.walk_to_break.Goals as goal
 next : (g : _) (c : In_ok-step_on g) → Steps (work c.loop-worker.book c.loop-worker.worker) (work c.step_on.new.book c.step_on.new.worker) c.loop-worker.text.items c.step_on.new.text.items
 next g c = record {
   goes = λ e. false≢true (c.loop-worker-test.ensures.1 (read_end _ _ (sym c.runner-in-loop-worker.ensures) e));
-  runner = subst IsRunner c.runner-in-loop-worker-2.ensures c.state-state-in-loop-worker.ensures.runner;
+  runner = subst IsRunner c.runner-in-loop-worker-2.ensures c.is_sound-in-loop-worker.ensures.runner;
   made = c.in_ok-step_on.ensures.made;
   text = c.in_ok-step_on.ensures.text;
   holds = c.in_ok-step_on.ensures.holds_on;
@@ -29,7 +28,7 @@ met_read g c = c.in_ok-met.ensures ∙ ap (λ (r : RunnerValue). first_met r.pro
 pub loop-worker-init : goal.loop-worker-init
 loop-worker-init g c =
     none_run (work c.args.book.now c.args.worker.now) c.args.breaks.now.keys c.args.text.now.items c.unposted-unposted.result
-    (can_walk c.args.book.now c.args.worker.now c.tiles-tiles.ensures.tiling c.requires.holds (subst IsRunner c.runner.ensures c.state-state.ensures.runner)) c.requires.holds
+    (can_walk c.args.book.now c.args.worker.now c.is_sound.ensures.tiling c.requires.holds (subst IsRunner c.runner.ensures c.is_sound-2.ensures.runner)) c.requires.holds
     c.unposted-unposted.type_inv (c.unposted-unposted.ensures ∙ ap unposted_steps c.runner-2.ensures)
 
 pub step_on-requires-clause-ahead : goal.step_on-requires-clause-ahead

@@ -1,8 +1,7 @@
 use Rattle.std.proofs.Common.{◌+◌, ◌<◌, ◌^◌, List, length, subst, sym, refl, arith, ap, ◌∙◌}
 use Rattle.std.proofs.lemmas.Bool.{false≢true}
-use Rattle.x_branches.specs.Runner.{IsRunner}
+use Rattle.x_branches.specs.Runner.{IsRunner, unposted_steps}
 use Rattle.lab_book.specs.declared.entry.Entry.{Entry}
-use Rattle.debug_acts.specs.Walking.{unposted_steps}
 use Rattle.debug_acts.specs.Work.{work}
 use Rattle.debug_views.proofs.CallLemmas.{on_err}
 use Rattle.debug_acts.proofs.ForwardLemmas.{can_walk}
@@ -20,7 +19,7 @@ next g c =
 pub loop-book-init : goal.loop-book-init
 loop-book-init g c =
     none_walked (work c.args.book.now c.args.worker.now) c.args.text.now.items
-    (can_walk c.args.book.now c.args.worker.now c.tiles-tiles.ensures.tiling c.requires.holds (subst IsRunner c.runner.ensures c.state-state.ensures.runner)) c.requires.holds
+    (can_walk c.args.book.now c.args.worker.now c.is_sound.ensures.tiling c.requires.holds (subst IsRunner c.runner.ensures c.is_sound-2.ensures.runner)) c.requires.holds
 
 pub walk_on-requires-clause-ahead : goal.walk_on-requires-clause-ahead
 walk_on-requires-clause-ahead g c =
@@ -35,8 +34,8 @@ overflow_add-moved g c =
     let read : length c.history.result < 2 ^ 64 = omega (arith, c.len-entries.type_inv, c.len-entries.ensures) in
     let entries = subst (λ (es : List Entry). length es < 2 ^ 64) c.history.ensures.history read in
     let few_steps = few_walked (work c.args.book.now c.args.worker.now)
-    (can_walk c.args.book.now c.args.worker.now c.tiles-tiles.ensures.tiling c.requires.holds (subst IsRunner c.runner.ensures c.state-state.ensures.runner))
-    (subst IsRunner c.runner.ensures c.state-state.ensures.runner).stretch
+    (can_walk c.args.book.now c.args.worker.now c.is_sound.ensures.tiling c.requires.holds (subst IsRunner c.runner.ensures c.is_sound-2.ensures.runner))
+    (subst IsRunner c.runner.ensures c.is_sound-2.ensures.runner).stretch
     (small_count c.unposted-unposted.result _ c.unposted-unposted.type_inv (c.unposted-unposted.ensures ∙ ap unposted_steps c.runner-2.ensures))
     _ _ _ _ (next g (goal.at.overflow_add-moved g c).In_ok-steps) entries in
     omega arith

@@ -7,7 +7,7 @@ returns-in_default c =
     let within = rw (← c.self.view_is) at c.requires.within in
     let same = rw (← c.self.view_is) at c.requires.same in
     let mark = marks_fit _ _ _ _ _ c.self.invariant.sound.tiling within in
-    let cut = cut_same_fits _ _ _ _ same c.if-not-same.false c.path-path.ensures.cut in
+    let cut = cut_same_fits _ _ _ _ same c.if-not-same.false c.is_sound.ensures.cut in
     rw (← c.self.view_is)
     (before_doubt _ _ _ _ _ c.if-not-same.false c.tile-tile.ensures _ _ _ c.mark.ensures c.requires.state mark cut
     (c.run_order.ensures.less _) c.in_default.not-Less)
@@ -17,7 +17,7 @@ returns-in_default-run_order c =
     let within = rw (← c.self.view_is) at c.requires.within in
     let same = rw (← c.self.view_is) at c.requires.same in
     let mark = marks_fit _ _ _ _ _ c.self.invariant.sound.tiling within in
-    let cut = cut_same_fits _ _ _ _ same c.if-not-same.false c.path-path.ensures.cut in
+    let cut = cut_same_fits _ _ _ _ same c.if-not-same.false c.is_sound.ensures.cut in
     let end = ends_fit _ _ _ _ _ c.self.invariant.sound.tiling within in
     rw (← c.self.view_is)
     (past_doubt _ _ _ _ _ c.if-not-same.false c.tile-tile.ensures _ _ _ c.mark.ensures c.requires.state mark cut
@@ -29,7 +29,7 @@ returns c =
     let within = rw (← c.self.view_is) at c.requires.within in
     let same = rw (← c.self.view_is) at c.requires.same in
     let mark = marks_fit _ _ _ _ _ c.self.invariant.sound.tiling within in
-    let cut = cut_same_fits _ _ _ _ same c.if-not-same.false c.path-path.ensures.cut in
+    let cut = cut_same_fits _ _ _ _ same c.if-not-same.false c.is_sound.ensures.cut in
     let end = ends_fit _ _ _ _ _ c.self.invariant.sound.tiling within in
     rw (← c.self.view_is)
     (between_doubt _ _ _ _ _ c.if-not-same.false c.tile-tile.ensures _ _ _ c.mark.ensures c.requires.state mark cut

@@ -10,11 +10,11 @@ unreachable-requires g c =
 pub returns-clause-worker : goal.returns-clause-worker
 returns-clause-worker g c =
     let made = rw c.in-Some.is at c.in_ok-leased.ensures.made in
-    any_worker c.args.book.now c.lease_any.new.self c.args.w c.requires.first.place c.tiles-tiles.ensures.tiling c.in-Some.leased
+    any_worker c.args.book.now c.lease_any.new.self c.args.w c.requires.first.place c.is_sound.ensures.tiling c.in-Some.leased
     c.lease_of.result c.args.runner c.lease_of.ensures c.requires.first.runner (sym c.requires.first.first) made
 
 pub returns-clause-holds : goal.returns-clause-holds
 returns-clause-holds g c =
     let made = rw c.in-Some.is at c.in_ok-leased.ensures.made in
-    any_holds c.args.book.now c.lease_any.new.self c.args.w c.requires.first.place c.tiles-tiles.ensures.tiling c.in-Some.leased
+    any_holds c.args.book.now c.lease_any.new.self c.args.w c.requires.first.place c.is_sound.ensures.tiling c.in-Some.leased
     c.lease_of.result c.args.runner c.lease_of.ensures c.requires.first.runner (sym c.requires.first.first) made

@@ -4,13 +4,13 @@ use Rattle.lab_world.proofs.worker.Worker.post.Goals as goal
 pub returns-in-Ok-post-clause-holds : goal.returns-in-Ok-post-clause-holds
 returns-in-Ok-post-clause-holds g c =
     rw (← c.self.view_is)
-    (post_done c.args.book.now c.post.new.self c.self.inside.lease c.self.inside.runner c.tiles-tiles.ensures.tiling c.take_stretch.new.self
+    (post_done c.args.book.now c.post.new.self c.self.inside.lease c.self.inside.runner c.is_sound.ensures.tiling c.take_stretch.new.self
     c.in-Ok.stretch c.in-Ok-post.posted c.in-Ok.ensures.marked c.in-Ok.ensures.stretch c.in-Ok-post.ensures.made)
 
 pub unreachable-requires : goal.unreachable-requires
 unreachable-requires g c =
     taken_reopens c.self.inside.runner c.take_stretch.new.self c.in-Ok.stretch c.in-Err.refused.given c.in_default-reopen.field-0.fault
-    c.state-state.ensures.runner c.in-Ok.ensures.marked c.in-Ok.ensures.stretch c.in-Err.ensures.given_back
+    c.is_sound-2.ensures.runner c.in-Ok.ensures.marked c.in-Ok.ensures.stretch c.in-Err.ensures.given_back
     c.in_default-reopen.ensures.refused
 
 pub returns-clause-holds : goal.returns-clause-holds
@@ -18,5 +18,5 @@ returns-clause-holds g c =
     let same = reopened_same c.self.inside.runner c.take_stretch.new.self c.reopen.new.self c.in-Ok.stretch c.in-Err.refused.given
     c.in-Ok.ensures.marked c.in-Ok.ensures.stretch c.in-Err.ensures.given_back c.in-Ok-reopen.ensures.reopened in
     rw (← c.self.view_is)
-    (post_undone c.args.book.now c.post.new.self c.self.inside.lease c.self.inside.runner c.tiles-tiles.ensures.tiling c.reopen.new.self
+    (post_undone c.args.book.now c.post.new.self c.self.inside.lease c.self.inside.runner c.is_sound.ensures.tiling c.reopen.new.self
     c.in-Ok.stretch c.in-Err.refused.fault same c.in-Ok.ensures.stretch c.in-Err.ensures.refused)

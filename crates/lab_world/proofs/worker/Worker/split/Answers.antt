@@ -8,7 +8,7 @@ pub returns-in-Err-split-clause-refused : goal.returns-in-Err-split-clause-refus
 returns-in-Err-split-clause-refused g c =
     let held = rw (← c.self.view_is) at c.requires in
     let told = split_refused c.args.book.now (record { grant = c.self.inside.lease; runner = c.self.inside.runner })
-    c.tiles-tiles.ensures.tiling held c.state-state.ensures.runner c.args.level c.args.option c.in-Ok.ensures.untried c.split.new.self
+    c.is_sound.ensures.tiling held c.is_sound-2.ensures.runner c.args.level c.args.option c.in-Ok.ensures.untried c.split.new.self
     c.in-Ok.cut c.in-Err-split.field-0.fault c.in-Ok.ensures.cut c.in-Err-split.ensures.refused in
     rw (← c.self.view_is) (c.in-Ok.ensures.untried, told.0, told.1)
 
@@ -16,7 +16,7 @@ pub returns-in-Err-split-clause-holds : goal.returns-in-Err-split-clause-holds
 returns-in-Err-split-clause-holds g c =
     let held = rw (← c.self.view_is) at c.requires in
     let told = split_refused c.args.book.now (record { grant = c.self.inside.lease; runner = c.self.inside.runner })
-    c.tiles-tiles.ensures.tiling held c.state-state.ensures.runner c.args.level c.args.option c.in-Ok.ensures.untried c.split.new.self
+    c.is_sound.ensures.tiling held c.is_sound-2.ensures.runner c.args.level c.args.option c.in-Ok.ensures.untried c.split.new.self
     c.in-Ok.cut c.in-Err-split.field-0.fault c.in-Ok.ensures.cut c.in-Err-split.ensures.refused in
     subst (λ (b : BookValue). HoldsTile b c.args.self.now) (sym told.1) c.requires
 
@@ -25,14 +25,14 @@ unreachable-requires g c =
     let held = rw (← c.self.view_is) at c.requires in
     c.in_default-shorten.ensures.outside
     (can_shorten c.args.book.now (record { grant = c.self.inside.lease; runner = c.self.inside.runner })
-    c.tiles-tiles.ensures.tiling held c.state-state.ensures.runner c.args.level c.args.option c.in-Ok.ensures.untried c.in-Ok-copy.copy
+    c.is_sound.ensures.tiling held c.is_sound-2.ensures.runner c.args.level c.args.option c.in-Ok.ensures.untried c.in-Ok-copy.copy
     c.in-Ok.cut c.in-Ok.ensures.cut c.in-Ok-copy.ensures)
 
 pub returns-clause-book : goal.returns-clause-book
 returns-clause-book g c =
     let held = rw (← c.self.view_is) at c.requires in
     let made = split_made c.args.book.now (record { grant = c.self.inside.lease; runner = c.self.inside.runner })
-    c.tiles-tiles.ensures.tiling held c.state-state.ensures.runner c.args.level c.args.option c.in-Ok.ensures.untried c.split.new.self
+    c.is_sound.ensures.tiling held c.is_sound-2.ensures.runner c.args.level c.args.option c.in-Ok.ensures.untried c.split.new.self
     c.in-Ok.cut c.in-Ok-split.id c.in-Ok.ensures.cut c.in-Ok-split.ensures.made in
     rw (← c.self.view_is) made.book
 
@@ -40,7 +40,7 @@ pub returns-clause-reply : goal.returns-clause-reply
 returns-clause-reply g c =
     let held = rw (← c.self.view_is) at c.requires in
     let made = split_made c.args.book.now (record { grant = c.self.inside.lease; runner = c.self.inside.runner })
-    c.tiles-tiles.ensures.tiling held c.state-state.ensures.runner c.args.level c.args.option c.in-Ok.ensures.untried c.split.new.self
+    c.is_sound.ensures.tiling held c.is_sound-2.ensures.runner c.args.level c.args.option c.in-Ok.ensures.untried c.split.new.self
     c.in-Ok.cut c.in-Ok-split.id c.in-Ok.ensures.cut c.in-Ok-split.ensures.made in
     rw (← c.self.view_is) (sym made.reply)
 
@@ -48,9 +48,9 @@ pub returns-clause-holds : goal.returns-clause-holds
 returns-clause-holds g c =
     let held = rw (← c.self.view_is) at c.requires in
     let made = split_made c.args.book.now (record { grant = c.self.inside.lease; runner = c.self.inside.runner })
-    c.tiles-tiles.ensures.tiling held c.state-state.ensures.runner c.args.level c.args.option c.in-Ok.ensures.untried c.split.new.self
+    c.is_sound.ensures.tiling held c.is_sound-2.ensures.runner c.args.level c.args.option c.in-Ok.ensures.untried c.split.new.self
     c.in-Ok.cut c.in-Ok-split.id c.in-Ok.ensures.cut c.in-Ok-split.ensures.made in
     split_holds c.args.book.now (record { grant = c.self.inside.lease; runner = c.self.inside.runner })
-    c.tiles-tiles.ensures.tiling held c.state-state.ensures.runner c.args.level c.args.option c.in-Ok.ensures.untried c.split.new.self
+    c.is_sound.ensures.tiling held c.is_sound-2.ensures.runner c.args.level c.args.option c.in-Ok.ensures.untried c.split.new.self
     c.in-Ok-copy.copy c.in-Ok.cut c.shorten.new.self c.in-Ok.ensures.cut c.in-Ok-copy.ensures c.in-Ok-shorten.ensures.shortened
     made.book

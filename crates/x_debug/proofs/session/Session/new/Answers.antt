@@ -7,7 +7,7 @@ use Rattle.x_debug.proofs.session.Session.new.Goals as goal
 
 pub invariant_of-result : goal.invariant_of-result
 invariant_of-result g c =
-    leased_session c.in_ok-book.book c.lease_any.new.book c.in_ok-worker.worker c.new-2.result.keys c.tiles-tiles.ensures.tiling c.in_ok-worker.ensures.book c.in_ok-worker.ensures.worker c.new-2.ensures.empty
+    leased_session c.in_ok-book.book c.lease_any.new.book c.in_ok-worker.worker c.new-2.result.keys c.is_sound.ensures.tiling c.in_ok-worker.ensures.book c.in_ok-worker.ensures.worker c.new-2.ensures.empty
 
 pub returns-clause-leased : goal.returns-clause-leased
 returns-clause-leased g c =

@@ -16,4 +16,4 @@ pub returns-clause-seat : goal.returns-clause-seat
 returns-clause-seat g c =
     desk_seat c.args.problem.now c.args.draft.now c.requires.same c.in_ok-book.book c.lease_with.new.book (Some c.in_ok-worker.worker)
     (fresh_at c.args.problem.now _ _ c.in_ok-book.book c.args.runner c.requires.runner c.in_ok-book.ensures)
-    c.in_ok-worker.ensures.book c.in_ok-worker.ensures.worker c.tiles-tiles.ensures.tiling
+    c.in_ok-worker.ensures.book c.in_ok-worker.ensures.worker c.is_sound.ensures.tiling

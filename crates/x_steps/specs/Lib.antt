@@ -1,5 +1,6 @@
 pub mod StateValue
 pub mod StateView
+pub mod Lists
 pub mod Steps
 pub mod Before
 pub mod Run
@@ -9,6 +10,7 @@ pub mod Order
 pub mod Covers
 pub mod Rank
 pub mod Machine
+pub mod Answers
 pub mod Marked
 pub mod Faults
 pub mod Resume

@@ -1,5 +1,5 @@
 -- What a machine stands for, and what it keeps.
-use Rattle.std.specs.Prelude.{ℕ, ◌+◌, ◌-◌, ◌≡◌, ◌≤◌, Bool, true, false, not, Option, Some, None, option_map, List, length, map, filter}
+use Rattle.std.specs.Prelude.{ℕ, ◌+◌, ◌-◌, ◌≡◌, ◌≤◌, nat_lt, Bool, true, false, not, Option, Some, None, option_map, List, length, map, filter}
 use Rattle.std.specs.Prelude.{if◌then◌else◌}
 use Rattle.cover_problem.specs.Lists.{has, numbers}
 use Rattle.cover_problem.specs.Problem.{ProblemValue, IsProblem}
@@ -28,6 +28,18 @@ pub record Keeps (p : ProblemValue) (s : StateValue) (table_problem : ProblemVal
 abbrev pub IsAt : Position → Label → Type 0
 IsAt m label = m.state.label ≡ label
 
+-- what is covered where the machine stands
+abbrev pub covered_items : Position → List ℕ
+covered_items m = covered_in m.problem m.state
+
+-- the state before the machine's
+abbrev pub state_before : Position → StateValue
+state_before m = prev m.problem m.state
+
+-- the item that is chosen after the machine's path
+abbrev pub item_to_choose : Position → ℕ
+item_to_choose m = item_after m.problem m.state.path
+
 -- one step of the machine, and what it tells
 pub record Goes (old new : Position) (event : Event) : Type 0 where
   pub problem : new.problem ≡ old.problem
@@ -39,6 +51,10 @@ pub record GoesBack (old new : Position) : Type 0 where
   pub problem : new.problem ≡ old.problem
   pub state : new.state ≡ prev old.problem old.state
   pub before : IsBefore old.problem new.state old.state
+
+-- whether an item is active once these are covered
+abbrev pub any_active : ProblemValue → List ℕ → Bool
+any_active p c = nat_lt 0 (length (active p c))
 
 -- the active items, each with the options left for it
 abbrev pub remaining_items : ProblemValue → List ℕ → List (ℕ × List ℕ)

@@ -1,18 +1,32 @@
 -- A machine on its way down a path.
-use Rattle.std.specs.Prelude.{◌≡◌, Bool, List, length, ℕ}
+use Rattle.std.specs.Prelude.{◌≡◌, Bool, List, [], ◌∷◌, ◌++◌, length, ℕ}
 use Rattle.cover_problem.specs.Lists.{above}
 use Rattle.cover_problem.specs.Problem.{ProblemValue}
 use Rattle.cover_problem.specs.Path.{covered_by}
+use Rattle.x_steps.specs.declared.state.Label.{Label}
 use Rattle.x_steps.specs.declared.state.Label.TheVariants.{X2, X5}
+use Rattle.x_steps.specs.declared.state.Cursor.{Cursor}
 use Rattle.x_steps.specs.declared.state.Cursor.TheVariants.{None}
 use Rattle.x_steps.specs.StateValue.{StateValue, at}
-use Rattle.x_steps.specs.Steps.{remaining_after, cursor_of}
+use Rattle.x_steps.specs.Steps.{Fits, remaining_after, cursor_of}
 use Rattle.x_steps.specs.Machine.{Position}
 use Rattle.x_steps.specs.Marked.{AreMarksOf}
 
 -- a problem with a state
 abbrev pub position : ProblemValue → StateValue → Position
 position p s = record { problem = p; state = s }
+
+-- the machine at another state of its problem
+abbrev pub standing_at : Position → StateValue → Position
+standing_at m s = position m.problem s
+
+-- the machine at this step, with its path
+abbrev pub at_step : Position → Label → Cursor → Position
+at_step m label cursor = standing_at m (at label m.state.path cursor)
+
+-- the search has this step with the machine's path
+abbrev pub HasStep : Position → Label → Cursor → Type 0
+HasStep m label cursor = Fits m.problem (at label m.state.path cursor)
 
 -- the state after the item chosen after a path is covered: at X5, at the first option left for it, or past the last
 abbrev pub opened : ProblemValue → List ℕ → StateValue
@@ -22,3 +36,7 @@ opened p path = at X5 path (cursor_of (above 0 (remaining_after p path)))
 pub record IsDown (p : ProblemValue) (path : List ℕ) (m : Position) (marks : List Bool) : Type 0 where
   pub here : m ≡ position p (at X2 path None)
   pub marked : AreMarksOf marks (length p.names) (covered_by p path)
+
+-- the machine went down by this option, which is now the path's last
+abbrev pub GoesDown : Position → ℕ → Position → List Bool → Type 0
+GoesDown old option new marks = IsDown old.problem (old.state.path ++ option ∷ []) new marks

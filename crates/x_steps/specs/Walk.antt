@@ -2,15 +2,17 @@
 --
 -- Example: in the small problem a walk from X1 takes 30 steps to the first visit, 4 5 1, and 13 more to Done (computed in
 -- proofs/WalkExamples.antt).
-use Rattle.std.specs.Prelude.{ℕ, zero, suc, ◌+◌, ◌^◌, ◌<◌, ◌≤◌, ◌≡◌, Bool, true, false, cond, List, [], ◌∷◌, ◌++◌, length, slice_index}
+use Rattle.std.specs.Prelude.{ℕ, zero, suc, ◌+◌, ◌^◌, ◌<◌, ◌≤◌, ◌≡◌, ◌≢◌, ◌⊎◌, Bool, true, false, cond, List, [], ◌∷◌, ◌++◌, length, slice_index}
 use Rattle.cover_problem.specs.Problem.{ProblemValue}
 use Rattle.x_steps.specs.declared.state.Label.TheVariants.{X5}
 use Rattle.x_steps.specs.declared.state.Cursor.TheVariants.{At}
 use Rattle.x_steps.specs.declared.event.Event.{Event}
 use Rattle.x_steps.specs.declared.event.Event.TheVariants.{Moved, Visited}
+use Rattle.x_steps.specs.declared.machine.walk.Walk.{Walk}
 use Rattle.x_steps.specs.StateValue.{StateValue}
 use Rattle.x_steps.specs.Steps.{event_of}
 use Rattle.x_steps.specs.Run.{after, states, level_count, ReachesIn}
+use Rattle.x_steps.specs.Machine.{Position}
 
 -- what the last of n steps tells; where there is none, nothing but that the search moves on
 abbrev pub last_event : ProblemValue → ℕ → StateValue → Event
@@ -59,3 +61,34 @@ pub record IsRound (p : ProblemValue) (most : ℕ) (s t : StateValue) (old new :
   pub some : 0 < n
   pub within : n ≤ most
   pub passes : (i : ℕ) → 0 < i → i < n → (after p i s).label ≡ X5 → ⊥
+
+-- ---- the same for a machine
+
+-- the first machine comes to the second in n steps
+abbrev pub Reaches : Position → Position → ℕ → Type 0
+Reaches old new n = ReachesIn old.problem old.state new.state n
+
+-- to the counts are added the X2 states that a machine leaves with its next n steps
+abbrev pub CountsPassed : Position → ℕ → List ℕ → List ℕ → Type 0
+CountsPassed m n old new = AreCounted old new (states m.problem n m.state)
+
+-- none of these states is X5 at the last of these choices, after the others
+abbrev pub PassesNoCut : Position → ℕ → List ℕ → Type 0
+PassesNoCut m n choices = (i : ℕ) → i < n → IsAtCut (after m.problem i m.state) choices → ⊥
+
+-- a walk from a state of the problem tells what the last of its steps does
+abbrev pub TellsLast : ProblemValue → StateValue → Walk → Type 0
+TellsLast p s walk = walk.event ≡ last_event p walk.steps s
+
+-- a walk of at most `most` steps up to a state is over: so many are taken, the last came to a visit or to the end of the run, or the
+-- state is X5 at the last of these choices, after the others
+abbrev pub IsOver : ℕ → StateValue → List ℕ → Walk → Type 0
+IsOver most s choices walk = (walk.steps ≡ most) ⊎ (walk.event ≢ Moved) ⊎ IsAtCut s choices
+
+-- a walk from the first machine to the second, and what was counted
+abbrev pub IsWalkOf : Position → Position → List ℕ → List ℕ → Walk → Type 0
+IsWalkOf old new counts counted walk = IsWalk old.problem old.state new.state counts counted walk.steps walk.event
+
+-- such a walk of at least one step and at most `most`, which passes no X5
+abbrev pub IsRoundOf : ℕ → Position → Position → List ℕ → List ℕ → Walk → Type 0
+IsRoundOf most old new counts counted walk = IsRound old.problem most old.state new.state counts counted walk.steps walk.event

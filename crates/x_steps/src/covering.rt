@@ -1,11 +1,13 @@
 //! Choosing an item, and covering and uncovering the items of an option.
-ghost use Rattle.std.specs.Prelude.{◌≡◌, ◌<◌, ◌≤◌, ◌+◌, ◌++◌, ◌∷◌, [], ◌==◌, nat_lt, ℕ, List, length, true};
+ghost use Rattle.std.specs.Prelude.{◌≡◌, ◌<◌, ◌≤◌, ◌+◌, ◌++◌, ◌∷◌, [], ◌==◌, ℕ, List, length, true};
 ghost use Rattle.std.specs.List.{position_or_len};
 ghost use Rattle.cover_problem.specs.Lists.{has};
 ghost use Rattle.cover_problem.specs.Problem.{IsProblem};
 ghost use Rattle.cover_problem.specs.Covering.{active, choice};
 ghost use Rattle.cover_problem.specs.Path.{others};
 ghost use Rattle.cover_problem.specs.Coverable.{CanCover};
+ghost use Rattle.x_steps.specs.Lists.{LosesLast};
+ghost use Rattle.x_steps.specs.Machine.{any_active};
 
 use cover_problem::Table;
 
@@ -33,7 +35,7 @@ pub fn choose<T: Table>(table: &T) -> u32
 /// Whether an item is active.
 #[inline(always)]
 pub fn has_active<T: Table>(table: &T) -> bool
-    ensures { result ≡ nat_lt 0 (length (active (T.problem_value table.now) (T.covered_list table.now))) }
+    ensures { result ≡ any_active (T.problem_value table.now) (T.covered_list table.now) }
 {
     table.first_item().is_some()
 }
@@ -87,10 +89,9 @@ pub fn cover_others<T: Table>(table: &mut T, option: &[u32], item: u32)
 /// Uncovers the items that were covered last, as many as told, in reverse.
 #[inline(always)]
 pub fn uncover_last<T: Table>(table: &mut T, count: usize)
-    requires { (front back : List ℕ) × (T.covered_list table.old ≡ front ++ back) × (length back ≡ count) }
+    requires { (front : List ℕ) × LosesLast (T.covered_list table.old) front count }
     ensures same_problem { T.problem_value table.new ≡ T.problem_value table.old }
-    ensures covered { (back : List ℕ) × (T.covered_list table.old ≡ T.covered_list table.new ++ back)
-        × (length back ≡ count) }
+    ensures covered { LosesLast (T.covered_list table.old) (T.covered_list table.new) count }
 {
     for _ in 0..count {
         let item = last_covered(table);

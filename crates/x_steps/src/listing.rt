@@ -1,9 +1,10 @@
 //! Which items are left, each with its options, as a table tells them.
-ghost use Rattle.std.specs.Prelude.{◌≡◌, ◌<◌, ◌≤◌, length, IfOk};
+ghost use Rattle.std.specs.Prelude.{◌≡◌, ◌<◌, ◌≤◌, length};
+ghost use Rattle.cover_problem.specs.Answers.{ReturnsItems};
 ghost use Rattle.cover_problem.specs.Problem.{IsProblem};
 ghost use Rattle.cover_problem.specs.Covering.{list_of};
-ghost use Rattle.x_steps.specs.Machine.{remaining_items, second_items};
-ghost use Rattle.x_steps.specs.StateView.{row_values};
+ghost use Rattle.x_steps.specs.Answers.{ReturnsRows, ReturnsRemaining};
+ghost use Rattle.x_steps.specs.Machine.{second_items};
 
 use crate::marks::{is_marked, marks_of};
 use cover_problem::{Problem, Table};
@@ -13,8 +14,7 @@ use std::alloc::{AllocError, Global};
 pub fn options_of<T: Table>(alloc: Global, table: &T, item: u32) -> Result<Vec<u32>, AllocError>
     requires some { 0 < item }
     requires within { item ≤ length (T.problem_value table.now).names }
-    ensures { IfOk result (λ options. options.items ≡
-        list_of (T.problem_value table.now) (T.covered_list table.now) item) }
+    ensures { ReturnsItems result (list_of (T.problem_value table.now) (T.covered_list table.now) item) }
 {
     let mut options = Vec::with_capacity(alloc, table.len(item) as usize)?;
     let mut next = table.first_option(item);
@@ -28,8 +28,7 @@ pub fn options_of<T: Table>(alloc: Global, table: &T, item: u32) -> Result<Vec<u
 /// The active items, each with the options left for it.
 pub fn active_items<T: Table>(alloc: Global, table: &T) -> Result<Vec<(u32, Vec<u32>)>, AllocError>
     requires { IsProblem (T.problem_value table.now) }
-    ensures { IfOk result (λ rows. row_values rows.items ≡
-        remaining_items (T.problem_value table.now) (T.covered_list table.now)) }
+    ensures { ReturnsRemaining result (T.problem_value table.now) (T.covered_list table.now) }
 {
     let mut rows = Vec::new(alloc);
     let mut next = table.first_item();
@@ -47,8 +46,7 @@ pub fn secondary_items<T: Table>(
     table: &T,
 ) -> Result<Vec<(u32, Vec<u32>)>, AllocError>
     requires { T.problem_value table.now ≡ problem.now }
-    ensures { IfOk result (λ rows. row_values rows.items ≡
-        second_items problem.now (T.covered_list table.now)) }
+    ensures { ReturnsRows result (second_items problem.now (T.covered_list table.now)) }
 {
     let marks = marks_of(alloc, problem.items(), table.covered())?;
     let mut rows = Vec::new(alloc);

@@ -2,10 +2,11 @@
 ghost use Rattle.std.specs.Prelude.{◌≡◌, ◌<◌, ◌≤◌, ◌++◌, ◌∷◌, ◌↔◌, [], length, vec_len, vec_capacity, if◌then◌else◌, ℕ, ◌≢◌, IfOk, IfErr};
 ghost use Rattle.std.specs.Prelude.{OnOk, IsErr};
 ghost use Rattle.cover_problem.specs.Problem.{IsProblem};
+ghost use Rattle.x_steps.specs.Answers.{RefusedUnchanged};
 ghost use Rattle.x_steps.specs.StateValue.{start};
 ghost use Rattle.x_steps.specs.StateView.{state_value};
-ghost use Rattle.x_steps.specs.Steps.{Fits, item_after, covered_in, next, event_of, cursor_of};
-ghost use Rattle.x_steps.specs.Machine.{IsAt, Goes};
+ghost use Rattle.x_steps.specs.Steps.{Fits, covered_in, next, event_of, cursor_of};
+ghost use Rattle.x_steps.specs.Machine.{IsAt, Goes, item_to_choose};
 
 mod at;
 mod back;
@@ -142,7 +143,7 @@ impl<'p, T: Table> Machine<'p, T> {
         ensures state { OnOk result (self.new.state ≡ next self.old.problem self.old.state) }
         ensures event { IfOk result (λ event. event ≡ event_of self.old.problem self.old.state) }
         ensures over { IsErr result ↔ (self.old.state.label ≡ Label.Done) }
-        ensures refused { IfErr result (λ fault. (fault ≡ StepFault.Done) × (self.new ≡ self.old)) }
+        ensures refused { RefusedUnchanged result StepFault.Done self.old self.new }
     {
         let event = match (self.state.label, self.state.cursor) {
             (Label::X1, _) => self.begin(),
@@ -204,7 +205,7 @@ impl<'p, T: Table> Machine<'p, T> {
     #[inline(always)]
     fn open_list(&mut self, item: u32) -> Event
         requires label { IsAt self.old Label.X4 }
-        requires item { item ≡ item_after self.old.problem self.old.state.path }
+        requires item { item ≡ item_to_choose self.old }
         ensures { Goes self.old self.new result }
     {
         self.table.cover(item);

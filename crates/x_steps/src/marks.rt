@@ -1,8 +1,7 @@
 //! A mark for each item, which tells without a search whether the item is on a list.
-ghost use Rattle.std.specs.Prelude.{◌≡◌, ◌<◌, ◌≤◌, ◌++◌, [], ℕ, All, List, length, true, false, not, ◌&&◌, slice_index_or, IfOk};
+ghost use Rattle.std.specs.Prelude.{◌≡◌, ◌<◌, ◌≤◌, [], All, length, true, false, slice_index_or, IfOk};
 ghost use Rattle.std.specs.List.{list_any};
-ghost use Rattle.cover_problem.specs.Lists.{has};
-ghost use Rattle.x_steps.specs.Marked.{AreMarksOf};
+ghost use Rattle.x_steps.specs.Marked.{AreMarksOf, MarksAlso};
 
 use std::alloc::{AllocError, Global};
 
@@ -26,7 +25,7 @@ pub fn marks_of(alloc: Global, items: u32, marked: &[u32]) -> Result<Vec<bool>, 
 /// Marks these items too.
 pub fn mark_all(marks: &mut [bool], items: &[u32])
     requires { All (λ i. i < length marks.old) items.now }
-    ensures { (n : ℕ) (c : List ℕ) → AreMarksOf marks.old n c → AreMarksOf marks.new n (c ++ items.now) }
+    ensures { MarksAlso marks.old marks.new items.now }
 {
     for item in items {
         marks[*item as usize] = true;

@@ -1,15 +1,15 @@
 //! A machine at a given state: its path is walked down, choice by choice, each tested before it is taken.
-ghost use Rattle.std.specs.Prelude.{◌≡◌, ◌<◌, ◌≤◌, ◌++◌, ◌∷◌, ◌&&◌, ◌↔◌, [], ℕ, All, not, true, false, length, slice_index_or, IsTrue};
-ghost use Rattle.std.specs.Prelude.{None, IfSome, OnSome, IfOk, IfErr, OnOk};
-ghost use Rattle.std.specs.List.{list_any};
+ghost use Rattle.std.specs.Prelude.{◌≡◌, ◌<◌, ◌≤◌, ◌&&◌, ◌↔◌, [], All, true, false, length, IsTrue};
+ghost use Rattle.std.specs.Prelude.{None, IfSome, OnSome, IfErr, OnOk};
+ghost use Rattle.cover_problem.specs.Answers.{Returns};
 ghost use Rattle.cover_problem.specs.Lists.{has};
-ghost use Rattle.cover_problem.specs.Path.{IsChoice, IsValid, covered_by};
-ghost use Rattle.x_steps.specs.StateValue.{at};
-ghost use Rattle.x_steps.specs.StateView.{state_value};
-ghost use Rattle.x_steps.specs.Steps.{Fits, IsOpen, item_after, covered_in};
-ghost use Rattle.x_steps.specs.Machine.{IsAt};
-ghost use Rattle.x_steps.specs.Marked.{AreMarksOf};
-ghost use Rattle.x_steps.specs.Resume.{position, opened, IsDown};
+ghost use Rattle.cover_problem.specs.Path.{IsValid};
+ghost use Rattle.x_steps.specs.Answers.{IfRefused};
+ghost use Rattle.x_steps.specs.StateView.{state_value, IsState};
+ghost use Rattle.x_steps.specs.Steps.{IsOpen};
+ghost use Rattle.x_steps.specs.Machine.{IsAt, covered_items, item_to_choose};
+ghost use Rattle.x_steps.specs.Marked.{none_marked};
+ghost use Rattle.x_steps.specs.Resume.{position, opened, standing_at, at_step, HasStep, IsDown, GoesDown};
 
 use crate::covering::{choose, has_active};
 use crate::fault::AtFault;
@@ -29,7 +29,7 @@ fn has_option(problem: &Problem, option: u32) -> bool
 /// Whether the option has the item, and none that is marked.
 fn is_free(option: &[u32], item: u32, marks: &[bool]) -> bool
     requires { All (λ i. i < length marks.now) option.now }
-    ensures { result ≡ (has option.now item && not (list_any (λ i. slice_index_or marks.now i false) option.now)) }
+    ensures { result ≡ (has option.now item && none_marked marks.now option.now) }
 {
     option.contains(&item) && !any_marked(marks, option)
 }
@@ -45,9 +45,9 @@ impl<'p, T: Table> Machine<'p, T> {
     ) -> Result<Machine<'p, T>, Refused<AtFault, T>>
         requires same_problem { T.problem_value table ≡ problem.now }
         requires covered { T.covered_list table ≡ [] }
-        ensures at { IfOk result (λ m. m ≡ record { problem = problem.now; state = state_value state.now }) }
-        ensures fits { OnOk result (Fits problem.now (state_value state.now)) }
-        ensures unfit { IfErr result (λ r. r.fault ≡ AtFault.NotAState → Fits problem.now (state_value state.now) → ⊥) }
+        ensures at { Returns result (position problem.now (state_value state.now)) }
+        ensures fits { OnOk result (IsState problem.now state.now) }
+        ensures unfit { IfRefused result AtFault.NotAState (IsState problem.now state.now → ⊥) }
         ensures same_problem_back { IfErr result (λ r. T.problem_value r.given ≡ problem.now) }
         ensures covered_back { IfErr result (λ r. T.covered_list r.given ≡ []) }
     {
@@ -83,9 +83,9 @@ impl<'p, T: Table> Machine<'p, T> {
     /// Goes to the state, if the search has it.
     fn reach(&mut self, state: &State, marks: &mut [bool]) -> bool
         requires { IsDown self.old.problem [] self.old marks.old }
-        ensures there { IsTrue result → self.new ≡ position self.old.problem (state_value state.now) }
-        ensures fits { IsTrue result → Fits self.old.problem (state_value state.now) }
-        ensures unfit { result ≡ false → Fits self.old.problem (state_value state.now) → ⊥ }
+        ensures there { IsTrue result → self.new ≡ standing_at self.old (state_value state.now) }
+        ensures fits { IsTrue result → IsState self.old.problem state.now }
+        ensures unfit { result ≡ false → IsState self.old.problem state.now → ⊥ }
         ensures problem { self.new.problem ≡ self.old.problem }
     {
         if !self.follow(&state.path, marks) {
@@ -112,8 +112,8 @@ impl<'p, T: Table> Machine<'p, T> {
     /// Takes the option, if it is left for the item that is chosen.
     fn descend(&mut self, option: u32, marks: &mut [bool]) -> bool
         requires { IsDown self.old.problem self.old.state.path self.old marks.old }
-        ensures down { IsTrue result → IsDown self.old.problem (self.old.state.path ++ option ∷ []) self.new marks.new }
-        ensures unfit { result ≡ false → Fits self.old.problem (at Label.X5 self.old.state.path (Cursor.At option)) → ⊥ }
+        ensures down { IsTrue result → GoesDown self.old option self.new marks.new }
+        ensures unfit { result ≡ false → HasStep self.old Label.X5 (Cursor.At option) → ⊥ }
         ensures problem { self.new.problem ≡ self.old.problem }
     {
         let Some(item) = self.item_for(option, marks) else {
@@ -128,9 +128,9 @@ impl<'p, T: Table> Machine<'p, T> {
     /// The item that is chosen, where the path can go on with the option: it is left for that item.
     fn item_for(&self, option: u32, marks: &[bool]) -> Option<u32>
         requires { IsDown self.now.problem self.now.state.path self.now marks.now }
-        ensures item { IfSome result (λ item. item ≡ item_after self.now.problem self.now.state.path) }
-        ensures choice { OnSome result (Fits self.now.problem (at Label.X5 self.now.state.path (Cursor.At option))) }
-        ensures none { result ≡ None → Fits self.now.problem (at Label.X5 self.now.state.path (Cursor.At option)) → ⊥ }
+        ensures item { IfSome result (λ item. item ≡ item_to_choose self.now) }
+        ensures choice { OnSome result (HasStep self.now Label.X5 (Cursor.At option)) }
+        ensures none { result ≡ None → HasStep self.now Label.X5 (Cursor.At option) → ⊥ }
     {
         if !has_option(self.problem, option) {
             return None;
@@ -149,7 +149,7 @@ impl<'p, T: Table> Machine<'p, T> {
     /// Whether the path can go on with the option.
     fn is_choice(&self, option: u32, marks: &[bool]) -> bool
         requires { IsDown self.now.problem self.now.state.path self.now marks.now }
-        ensures { IsTrue result ↔ Fits self.now.problem (at Label.X5 self.now.state.path (Cursor.At option)) }
+        ensures { IsTrue result ↔ HasStep self.now Label.X5 (Cursor.At option) }
     {
         self.item_for(option, marks).is_some()
     }
@@ -165,9 +165,9 @@ impl<'p, T: Table> Machine<'p, T> {
     /// Goes from X2 to the step, if the search stands there with this path.
     fn settle(&mut self, label: Label, cursor: Cursor, marks: &[bool]) -> bool
         requires { IsDown self.old.problem self.old.state.path self.old marks.now }
-        ensures there { IsTrue result → self.new ≡ position self.old.problem (at label self.old.state.path cursor) }
-        ensures fits { IsTrue result → Fits self.old.problem (at label self.old.state.path cursor) }
-        ensures unfit { result ≡ false → Fits self.old.problem (at label self.old.state.path cursor) → ⊥ }
+        ensures there { IsTrue result → self.new ≡ at_step self.old label cursor }
+        ensures fits { IsTrue result → HasStep self.old label cursor }
+        ensures unfit { result ≡ false → HasStep self.old label cursor → ⊥ }
         ensures problem { self.new.problem ≡ self.old.problem }
     {
         if !self.would_fit(label, cursor, marks) {
@@ -180,7 +180,7 @@ impl<'p, T: Table> Machine<'p, T> {
     /// Whether the search stands at the step with this path.
     fn would_fit(&self, label: Label, cursor: Cursor, marks: &[bool]) -> bool
         requires { IsDown self.now.problem self.now.state.path self.now marks.now }
-        ensures { IsTrue result ↔ Fits self.now.problem (at label self.now.state.path cursor) }
+        ensures { IsTrue result ↔ HasStep self.now label cursor }
     {
         match (label, cursor) {
             (Label::X1, Cursor::None) => self.state.path.is_empty(),
@@ -200,8 +200,8 @@ impl<'p, T: Table> Machine<'p, T> {
     /// Goes from X2 to a step where the search stands with this path.
     fn go_to(&mut self, label: Label, cursor: Cursor)
         requires label { IsAt self.old Label.X2 }
-        requires fits { Fits self.old.problem (at label self.old.state.path cursor) }
-        ensures { self.new ≡ position self.old.problem (at label self.old.state.path cursor) }
+        requires fits { HasStep self.old label cursor }
+        ensures { self.new ≡ at_step self.old label cursor }
     {
         match (label, cursor) {
             (Label::X5, Cursor::At(option)) => self.open_at(option),
@@ -216,8 +216,8 @@ impl<'p, T: Table> Machine<'p, T> {
     /// From X2 to X5 at an option that the path can go on with.
     fn open_at(&mut self, option: u32)
         requires label { IsAt self.old Label.X2 }
-        requires fits { Fits self.old.problem (at Label.X5 self.old.state.path (Cursor.At option)) }
-        ensures { self.new ≡ position self.old.problem (at Label.X5 self.old.state.path (Cursor.At option)) }
+        requires fits { HasStep self.old Label.X5 (Cursor.At option) }
+        ensures { self.new ≡ at_step self.old Label.X5 (Cursor.At option) }
     {
         self.open_level();
         self.turn(Label::X5, Cursor::At(option));
@@ -226,9 +226,9 @@ impl<'p, T: Table> Machine<'p, T> {
     /// The same where the item that is chosen is known.
     fn open_for(&mut self, item: u32, option: u32)
         requires label { IsAt self.old Label.X2 }
-        requires item { item ≡ item_after self.old.problem self.old.state.path }
-        requires fits { Fits self.old.problem (at Label.X5 self.old.state.path (Cursor.At option)) }
-        ensures { self.new ≡ position self.old.problem (at Label.X5 self.old.state.path (Cursor.At option)) }
+        requires item { item ≡ item_to_choose self.old }
+        requires fits { HasStep self.old Label.X5 (Cursor.At option) }
+        ensures { self.new ≡ at_step self.old Label.X5 (Cursor.At option) }
     {
         self.enter();
         self.plan();
@@ -239,8 +239,8 @@ impl<'p, T: Table> Machine<'p, T> {
     /// From X2 to X6 at an option that the path can go on with.
     fn take_at(&mut self, option: u32)
         requires label { IsAt self.old Label.X2 }
-        requires fits { Fits self.old.problem (at Label.X6 self.old.state.path (Cursor.At option)) }
-        ensures { self.new ≡ position self.old.problem (at Label.X6 self.old.state.path (Cursor.At option)) }
+        requires fits { HasStep self.old Label.X6 (Cursor.At option) }
+        ensures { self.new ≡ at_step self.old Label.X6 (Cursor.At option) }
     {
         self.open_at(option);
         self.take(option);
@@ -251,8 +251,8 @@ impl<'p, T: Table> Machine<'p, T> {
     /// From X2 to X5 past the last option.
     fn open_past(&mut self)
         requires label { IsAt self.old Label.X2 }
-        requires fits { Fits self.old.problem (at Label.X5 self.old.state.path Cursor.Past) }
-        ensures { self.new ≡ position self.old.problem (at Label.X5 self.old.state.path Cursor.Past) }
+        requires fits { HasStep self.old Label.X5 Cursor.Past }
+        ensures { self.new ≡ at_step self.old Label.X5 Cursor.Past }
     {
         self.open_level();
         self.turn(Label::X5, Cursor::Past);
@@ -261,8 +261,8 @@ impl<'p, T: Table> Machine<'p, T> {
     /// From X2 to X7.
     fn pass_all(&mut self)
         requires label { IsAt self.old Label.X2 }
-        requires fits { Fits self.old.problem (at Label.X7 self.old.state.path Cursor.None) }
-        ensures { self.new ≡ position self.old.problem (at Label.X7 self.old.state.path Cursor.None) }
+        requires fits { HasStep self.old Label.X7 Cursor.None }
+        ensures { self.new ≡ at_step self.old Label.X7 Cursor.None }
     {
         self.open_past();
         self.give_up();
@@ -272,7 +272,7 @@ impl<'p, T: Table> Machine<'p, T> {
     fn open_level(&mut self)
         requires label { IsAt self.old Label.X2 }
         requires open { IsOpen self.old.problem self.old.state.path }
-        ensures { self.new ≡ position self.old.problem (opened self.old.problem self.old.state.path) }
+        ensures { self.new ≡ standing_at self.old (opened self.old.problem self.old.state.path) }
     {
         self.enter();
         self.plan();
@@ -281,10 +281,9 @@ impl<'p, T: Table> Machine<'p, T> {
 
     /// Stands at another step, where the same items are covered.
     fn turn(&mut self, label: Label, cursor: Cursor)
-        requires fits { Fits self.old.problem (at label self.old.state.path cursor) }
-        requires same { covered_in self.old.problem (at label self.old.state.path cursor) ≡
-            covered_in self.old.problem self.old.state }
-        ensures { self.new ≡ position self.old.problem (at label self.old.state.path cursor) }
+        requires fits { HasStep self.old label cursor }
+        requires same { covered_items (at_step self.old label cursor) ≡ covered_items self.old }
+        ensures { self.new ≡ at_step self.old label cursor }
     {
         self.state.go(label, cursor);
     }

@@ -1,10 +1,11 @@
 //! The machine, backwards: each method goes from one step of the table to the step before it.
-ghost use Rattle.std.specs.Prelude.{◌≡◌, ◌≢◌, ◌↔◌, ℕ, OnOk, IfErr, IsErr};
+ghost use Rattle.std.specs.Prelude.{◌≡◌, ◌≢◌, ◌↔◌, ℕ, OnOk, IsErr};
 ghost use Rattle.cover_problem.specs.Lists.{below, last_of};
+ghost use Rattle.x_steps.specs.Answers.{RefusedUnchanged};
 ghost use Rattle.x_steps.specs.Steps.{remaining_after};
-ghost use Rattle.x_steps.specs.Before.{prev, came_from};
+ghost use Rattle.x_steps.specs.Before.{came_from};
 ghost use Rattle.x_steps.specs.Steps.{IsBefore};
-ghost use Rattle.x_steps.specs.Machine.{IsAt, GoesBack};
+ghost use Rattle.x_steps.specs.Machine.{IsAt, GoesBack, state_before};
 
 use crate::covering::{choose, cover_others, has_active, last_covered, uncover_last};
 use crate::fault::StepFault;
@@ -17,10 +18,10 @@ impl<'p, T: Table> Machine<'p, T> {
     #[inline]
     pub fn back(&mut self) -> Result<(), StepFault>
         ensures problem { self.new.problem ≡ self.old.problem }
-        ensures state { OnOk result (self.new.state ≡ prev self.old.problem self.old.state) }
+        ensures state { OnOk result (self.new.state ≡ state_before self.old) }
         ensures before { OnOk result (IsBefore self.old.problem self.new.state self.old.state) }
         ensures first { IsErr result ↔ (self.old.state.label ≡ Label.X1) }
-        ensures refused { IfErr result (λ fault. (fault ≡ StepFault.AtFirst) × (self.new ≡ self.old)) }
+        ensures refused { RefusedUnchanged result StepFault.AtFirst self.old self.new }
     {
         match (self.state.label, self.state.cursor) {
             (Label::X1, _) => return Err(StepFault::AtFirst),
@@ -111,7 +112,7 @@ impl<'p, T: Table> Machine<'p, T> {
     /// From X5 to X6 at the option before, whose other items are covered again, or to X4, where the chosen item is not covered.
     fn return_to(&mut self, before: Option<u32>)
         requires label { IsAt self.old Label.X5 }
-        requires came { prev self.old.problem self.old.state ≡ came_from self.old.state.path before }
+        requires came { state_before self.old ≡ came_from self.old.state.path before }
         ensures { GoesBack self.old self.new }
     {
         let item = last_covered(&self.table);

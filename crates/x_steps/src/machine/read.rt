@@ -1,8 +1,8 @@
 //! What a machine tells of the search: the covered items, the item that is chosen, and which items are left.
-ghost use Rattle.std.specs.Prelude.{◌≡◌, option_map, IfOk};
+ghost use Rattle.std.specs.Prelude.{◌≡◌};
+ghost use Rattle.x_steps.specs.Answers.{ReturnsRows, ReturnsRow};
 ghost use Rattle.x_steps.specs.Steps.{covered_in, is_visit};
 ghost use Rattle.x_steps.specs.Machine.{remaining_in, second_in, chosen_item, chosen_in};
-ghost use Rattle.x_steps.specs.StateView.{row_value, row_values};
 
 use crate::covering::{choose, has_active, last_covered};
 use crate::listing::{active_items, options_of, secondary_items};
@@ -21,21 +21,21 @@ impl<'p, T: Table> Machine<'p, T> {
 
     /// The active items in order, each with the options left for it.
     pub fn remaining(&self) -> Result<Vec<(u32, Vec<u32>)>, AllocError>
-        ensures { IfOk result (λ rows. row_values rows.items ≡ remaining_in self.now.problem self.now.state) }
+        ensures { ReturnsRows result (remaining_in self.now.problem self.now.state) }
     {
         active_items(*self.state.path.allocator(), &self.table)
     }
 
     /// The secondary items that are not covered, in order, each with the options left for it.
     pub fn second(&self) -> Result<Vec<(u32, Vec<u32>)>, AllocError>
-        ensures { IfOk result (λ rows. row_values rows.items ≡ second_in self.now.problem self.now.state) }
+        ensures { ReturnsRows result (second_in self.now.problem self.now.state) }
     {
         secondary_items(*self.state.path.allocator(), self.problem, &self.table)
     }
 
     /// At X4 to X7 the chosen item, with the options of its list.
     pub fn chosen(&self) -> Result<Option<(u32, Vec<u32>)>, AllocError>
-        ensures { IfOk result (λ row. option_map row_value row ≡ chosen_in self.now.problem self.now.state) }
+        ensures { ReturnsRow result (chosen_in self.now.problem self.now.state) }
     {
         let Some(item) = self.chosen_item() else {
             return Ok(None);

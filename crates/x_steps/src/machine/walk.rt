@@ -1,8 +1,7 @@
 //! Many steps at once. Here a label of the step table is a place in the code, and no choice is made where the table has none.
-ghost use Rattle.std.specs.Prelude.{◌≡◌, ◌≢◌, ◌<◌, ◌≤◌, ◌+◌, ◌^◌, ◌⊎◌, ◌↔◌, ◌∷◌, ◌++◌, [], ℕ, suc, List, length, replicate, slice_index};
+ghost use Rattle.std.specs.Prelude.{◌≡◌, ◌≢◌, ◌<◌, ◌≤◌, ◌+◌, ◌^◌, ◌↔◌, ◌∷◌, ◌++◌, [], ℕ, List, length, replicate, slice_index};
 ghost use Rattle.std.specs.Prelude.{slice_set, IfErr, IfOk, IsErr, IsTrue};
-ghost use Rattle.x_steps.specs.Run.{after, states, ReachesIn};
-ghost use Rattle.x_steps.specs.Walk.{last_event, OnlyMoves, IsAtCut, AreCounted, HasRoom, IsRound, IsWalk};
+ghost use Rattle.x_steps.specs.Walk.{OnlyMoves, IsAtCut, HasRoom, Reaches, CountsPassed, PassesNoCut, TellsLast, IsOver, IsRoundOf};
 ghost use Rattle.x_steps.specs.StateView.{state_value};
 
 use crate::event::Event;
@@ -74,14 +73,13 @@ impl<'p, T: Table> Machine<'p, T> {
         requires levels { length counts.old ≡ length self.old.problem.names + 1 }
         requires room { HasRoom most counts.old }
         ensures problem { self.new.problem ≡ self.old.problem }
-        ensures steps { IfOk result (λ w. ReachesIn self.old.problem self.old.state self.new.state w.steps) }
+        ensures steps { IfOk result (λ w. Reaches self.old self.new w.steps) }
         ensures within { IfOk result (λ w. w.steps ≤ most) }
-        ensures event { IfOk result (λ w. w.event ≡ last_event self.old.problem w.steps self.old.state) }
+        ensures event { IfOk result (λ w. TellsLast self.old.problem self.old.state w) }
         ensures moves { IfOk result (λ w. OnlyMoves self.old.problem w.steps self.old.state) }
-        ensures levels { IfOk result (λ w. AreCounted counts.old counts.new (states self.old.problem w.steps self.old.state)) }
-        ensures before { IfOk result (λ w. (i : ℕ) → i < w.steps →
-            IsAtCut (after self.old.problem i self.old.state) end.now → ⊥) }
-        ensures stops { IfOk result (λ w. (w.steps ≡ most) ⊎ (w.event ≢ Event.Moved) ⊎ IsAtCut self.new.state end.now) }
+        ensures levels { IfOk result (λ w. CountsPassed self.old w.steps counts.old counts.new) }
+        ensures before { IfOk result (λ w. PassesNoCut self.old w.steps end.now) }
+        ensures stops { IfOk result (λ w. IsOver most self.new.state end.now w) }
         ensures over { IsErr result ↔ (self.old.state.label ≡ Label.Done) }
         ensures refused { IfErr result (λ fault. (fault ≡ StepFault.Done) × (self.new ≡ self.old)
             × (counts.new ≡ counts.old)) }
@@ -111,7 +109,7 @@ impl<'p, T: Table> Machine<'p, T> {
         requires levels { length counts.old ≡ length self.old.problem.names + 1 }
         requires room { HasRoom most counts.old }
         ensures problem { self.new.problem ≡ self.old.problem }
-        ensures round { IsRound self.old.problem most self.old.state self.new.state counts.old counts.new result.steps result.event }
+        ensures round { IsRoundOf most self.old self.new counts.old counts.new result }
     {
         match (self.state.label, self.state.cursor) {
             (Label::X5, Cursor::At(option)) if most >= 4 => self.take_and_open(option, counts),
@@ -128,7 +126,7 @@ impl<'p, T: Table> Machine<'p, T> {
         requires levels { length counts.old ≡ length self.old.problem.names + 1 }
         requires room { HasRoom 4 counts.old }
         ensures problem { self.new.problem ≡ self.old.problem }
-        ensures round { IsRound self.old.problem 4 self.old.state self.new.state counts.old counts.new result.steps result.event }
+        ensures round { IsRoundOf 4 self.old self.new counts.old counts.new result }
     {
         self.take(option);
         count_level(counts, self.state.path.len());
@@ -148,8 +146,7 @@ impl<'p, T: Table> Machine<'p, T> {
         requires label { self.old.state.label ≡ Label.X5 }
         requires cursor { self.old.state.cursor ≡ Cursor.Past }
         ensures problem { self.new.problem ≡ self.old.problem }
-        ensures round { (counts : List ℕ) →
-            IsRound self.old.problem 4 self.old.state self.new.state counts counts result.steps result.event }
+        ensures round { (counts : List ℕ) → IsRoundOf 4 self.old self.new counts counts result }
     {
         self.give_up();
         self.close();
@@ -169,7 +166,7 @@ impl<'p, T: Table> Machine<'p, T> {
         requires levels { length counts.old ≡ length self.old.problem.names + 1 }
         requires room { HasRoom 1 counts.old }
         ensures problem { self.new.problem ≡ self.old.problem }
-        ensures round { IsRound self.old.problem 1 self.old.state self.new.state counts.old counts.new result.steps result.event }
+        ensures round { IsRoundOf 1 self.old self.new counts.old counts.new result }
     {
         if let Label::X2 = self.state.label {
             count_level(counts, self.state.path.len());

@@ -1,0 +1,27 @@
+-- What a call returns, and why it is refused.
+use Rattle.std.specs.Prelude.{ℕ, ◌≡◌, Option, option_map, Result, IfOk, IfErr, List}
+use Rattle.std.specs.Global.{Vec}
+use Rattle.cover_problem.specs.declared.fault.Refused.{Refused}
+use Rattle.cover_problem.specs.Problem.{ProblemValue}
+use Rattle.x_steps.specs.Machine.{remaining_items}
+use Rattle.x_steps.specs.StateView.{row_value, row_values}
+
+-- the call returns rows of these values, unless it has an error
+abbrev pub ReturnsRows : {E : Type 0} → Result (Vec (ℕ × Vec ℕ)) E → List (ℕ × List ℕ) → Type 0
+ReturnsRows result rows = IfOk result (λ v. row_values v.items ≡ rows)
+
+-- the call returns a row of this value, or none, unless it has an error
+abbrev pub ReturnsRow : {E : Type 0} → Result (Option (ℕ × Vec ℕ)) E → Option (ℕ × List ℕ) → Type 0
+ReturnsRow result row = IfOk result (λ r. option_map row_value r ≡ row)
+
+-- the call returns the active items, each with the options left for it, unless it has an error
+abbrev pub ReturnsRemaining : {E : Type 0} → Result (Vec (ℕ × Vec ℕ)) E → ProblemValue → List ℕ → Type 0
+ReturnsRemaining result p c = ReturnsRows result (remaining_items p c)
+
+-- where the call is refused with this fault, the claim is true
+abbrev pub IfRefused : {X F G : Type 0} → Result X (Refused F G) → F → Type 0 → Type 0
+IfRefused result fault claim = IfErr result (λ r. r.fault ≡ fault → claim)
+
+-- the call is refused with this fault alone, and then changes nothing
+abbrev pub RefusedUnchanged : {X F A : Type 0} → Result X F → F → A → A → Type 0
+RefusedUnchanged result fault old new = IfErr result (λ f. (f ≡ fault) × (new ≡ old))

@@ -39,7 +39,7 @@ unfolding IsValid covered_by taken choice active remaining cut_state rank
 four_before_end = rank_test small (cut_state (4 ∷ [])) done (tt, record { active = omega arith; left = refl }) refl (omega arith)
 
 -- so option 4 is untried there, in the whole run
-untried_below_two : untried small done 0 (at X2 (2 ∷ []) cursor.None) ≡ 4 ∷ []
+pub untried_below_two : untried small done 0 (at X2 (2 ∷ []) cursor.None) ≡ 4 ∷ []
 untried_below_two = ap (filter (is_before_end small done [])) above_two ∙ kept (is_before_end small done []) four_before_end
   where
     kept : (test : ℕ → Bool) → test 4 ≡ true → filter test (4 ∷ []) ≡ 4 ∷ []

@@ -1,6 +1,7 @@
 pub mod StageLemmas
 pub mod CutLemmas
 pub mod CutExamples
+pub mod RunnerExamples
 pub mod BranchLemmas
 pub mod MarkLemmas
 pub mod RunnerLemmas

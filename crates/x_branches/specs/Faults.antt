@@ -1,4 +1,7 @@
--- The numbers and names of the refusals.
+-- The numbers and names of the refusals: `number_of` and `name_of` those of a runner, `number_of_cut` those of a cut.
+--
+-- Example: `StretchFull` has the number 7; `OutOfMemory` has none. A cut's `NotUntried` has the number 4. proofs/RunnerExamples.antt
+-- computes it.
 use Rattle.std.specs.Prelude.{ℕ, Option, Some, None, List, codes}
 use Rattle.x_branches.specs.declared.fault.RunnerFault.{RunnerFault}
 use Rattle.x_branches.specs.declared.fault.RunnerFault.TheVariants.{AtBranchEnd, AtMark, NothingUntried, NotUntried, OutsideBranch}

@@ -1,4 +1,7 @@
--- Which of two states comes first on the run.
+-- Which of two states comes first on the run: `ComesBefore` says that one does, and `comes_before` is the test for it.
+--
+-- Example: in the small problem X1 comes before X3 with the empty path, two steps on, and Done doesn't come before X1.
+-- proofs/RunnerExamples.antt computes it.
 use Rattle.std.specs.Prelude.{ℕ, ◌<◌, nat_lt, Bool}
 use Rattle.cover_problem.specs.Problem.{ProblemValue}
 use Rattle.x_steps.specs.StateValue.{StateValue}

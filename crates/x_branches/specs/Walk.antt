@@ -1,4 +1,8 @@
--- Many steps of a runner at once.
+-- Many steps of a runner at once: the choices of a branch's end (`end_choices`), a runner some steps on (`advanced_by`), that it can take
+-- them (`CanAdvanceBy`), and why a walk stops before (`HasToStop`).
+--
+-- Example: in the small problem three steps lead a runner from X1 to X4 with the empty path, and a walk stops at X2 with the path 4 5 1,
+-- which is a visit. proofs/RunnerExamples.antt computes it.
 use Rattle.std.specs.Prelude.{ℕ, ◌<◌, ◌≡◌, ◌≢◌, ◌⊎◌, true, Option, Some, List, []}
 use Rattle.std.specs.Prelude as prelude
 use Rattle.x_steps.specs.declared.event.Event.{Event}

@@ -19,9 +19,19 @@ has_right_count p chosen i = if nat_le i p.primary then occurrences p chosen i =
 abbrev pub has_primary_item : ProblemValue → ℕ → Bool
 has_primary_item p k = list_any (λ i. nat_le i p.primary) (option_at p k)
 
+-- whether each number is an option's
+abbrev pub are_options : ProblemValue → List ℕ → Bool
+are_options p chosen = list_all (is_item (length p.options)) chosen
+
+-- whether each item is in as many of the options as it may be
+abbrev pub have_right_counts : ProblemValue → List ℕ → Bool
+have_right_counts p chosen = list_all (has_right_count p chosen) (numbers (length p.names) 1)
+
+-- whether each option has a primary item
+abbrev pub are_useful : ProblemValue → List ℕ → Bool
+are_useful p chosen = list_all (has_primary_item p) chosen
+
 -- whether numbers pass each test of an exact cover: they are options, each item is in as many of them as it may be, and each
 -- has a primary item
 abbrev pub is_cover : ProblemValue → List ℕ → Bool
-is_cover p chosen =
-    list_all (is_item (length p.options)) chosen && list_all (has_right_count p chosen) (numbers (length p.names) 1)
-    && list_all (has_primary_item p) chosen
+is_cover p chosen = are_options p chosen && have_right_counts p chosen && are_useful p chosen

@@ -4,9 +4,9 @@
 -- Example: in the small problem with a, d and g covered (1 4 7), the items b c e f (2 3 5 6) are active; of c the options
 -- 1 and 3 are left, of b the option 3, of e the option 1, of f the option 3; the item chosen is b.
 -- proofs/CoverExamples.antt computes it.
-use Rattle.std.specs.Prelude.{ℕ, ◌-◌, ◌==◌, nat_le, Bool, not, ◌&&◌, List, length, filter, find, unwrap_or, []}
+use Rattle.std.specs.Prelude.{ℕ, ◌-◌, ◌==◌, ◌≡◌, nat_le, Bool, true, Option, not, ◌&&◌, List, length, filter, find, unwrap_or, []}
 use Rattle.std.specs.List.{list_any, list_all, slice_index_or, before_first}
-use Rattle.cover_problem.specs.Lists.{has, numbers}
+use Rattle.cover_problem.specs.Lists.{has, numbers, above, below, last_of}
 use Rattle.cover_problem.specs.Problem.{ProblemValue}
 
 -- of the items 1 to n those that are not in c
@@ -32,6 +32,26 @@ remaining p c j = remaining_among p.options c j
 -- the options in an item's list: the list of a covered item stays as it was when the item was covered
 unfoldable pub list_of : ProblemValue → List ℕ → ℕ → List ℕ
 list_of p c j = remaining p (before_first (λ x. x == j) c) j
+
+-- the option k is in the item's list
+abbrev pub IsInList : ProblemValue → List ℕ → ℕ → ℕ → Type 0
+IsInList p c j k = has (list_of p c j) k ≡ true
+
+-- the first option of the item's list
+abbrev pub first_left : ProblemValue → List ℕ → ℕ → Option ℕ
+first_left p c j = above 0 (list_of p c j)
+
+-- the last option of the item's list
+abbrev pub last_left : ProblemValue → List ℕ → ℕ → Option ℕ
+last_left p c j = last_of (list_of p c j)
+
+-- the option after k in the item's list
+abbrev pub next_left : ProblemValue → List ℕ → ℕ → ℕ → Option ℕ
+next_left p c j k = above k (list_of p c j)
+
+-- the option before k in the item's list
+abbrev pub prev_left : ProblemValue → List ℕ → ℕ → ℕ → Option ℕ
+prev_left p c j k = below k (list_of p c j)
 
 -- whether no active item has fewer options left
 abbrev pub is_shortest : ProblemValue → List ℕ → ℕ → Bool

@@ -15,4 +15,5 @@ pub mod Faults
 pub mod Validation
 pub mod Stamps
 pub mod Reading
+pub mod Checks
 pub mod Grammar

@@ -1,5 +1,5 @@
 -- Words on lists of numbers.
-use Rattle.std.specs.Prelude.{ℕ, suc, zero, ◌≤◌, ◌==◌, nat_lt, Bool, true, not, ◌&&◌, cond, Option, Some, None, unwrap_or, List, [], ◌∷◌}
+use Rattle.std.specs.Prelude.{ℕ, suc, zero, ◌+◌, ◌-◌, ◌≤◌, ◌==◌, nat_lt, Bool, true, not, ◌&&◌, cond, Option, Some, None, unwrap_or, List, [], ◌∷◌}
 use Rattle.std.specs.Prelude.{find}
 use Rattle.std.specs.List.{list_any}
 
@@ -16,6 +16,10 @@ are_distinct (x ∷ xs) = not (has xs x) && are_distinct xs
 abbrev pub numbers : ℕ → ℕ → List ℕ
 numbers zero k = []
 numbers (suc n) k = k ∷ numbers n (suc k)
+
+-- the numbers above k, up to n
+abbrev pub numbers_above : ℕ → ℕ → List ℕ
+numbers_above k n = numbers (n - k) (k + 1)
 
 -- each is above the one before it, and the first is at least n
 abbrev pub RisesFrom : ℕ → List ℕ → Type 0

@@ -24,9 +24,13 @@ time_of never c i = if has c i then position_or_len (λ x. x == i) c else never
 abbrev pub times_of : ℕ → ℕ → List ℕ → List ℕ
 times_of never n c = map (time_of never c) (numbers n 1)
 
+-- when an item was covered, as these times tell
+abbrev pub time_in : List ℕ → ℕ → ℕ
+time_in times i = slice_index_or times (i - 1) 0
+
 -- whether none of the items of the option numbered k was covered before this time
 abbrev pub is_in : List (List ℕ) → List ℕ → ℕ → ℕ → Bool
-is_in options times limit k = not (list_any (λ i. nat_lt (slice_index_or times (i - 1) 0) limit) (slice_index_or options (k - 1) []))
+is_in options times limit k = not (list_any (λ i. nat_lt (time_in times i) limit) (slice_index_or options (k - 1) []))
 
 -- the same of a table
 unfoldable pub was_in : ℕ → TableValue → ℕ → ℕ → Bool

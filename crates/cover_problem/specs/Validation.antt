@@ -2,7 +2,7 @@
 --
 -- Example: the names a and b with the options 1 2 and 2 2 have the fault ItemTwiceInOption; with the options 1 2 and 3 2,
 -- UnknownItem; with a and a b as names, BadName, whatever the options. proofs/ValidationExamples.antt computes them.
-use Rattle.std.specs.Prelude.{ℕ, not, List, [], ◌∷◌, ◌++◌, length, Result, Ok, Err, if◌then◌else◌}
+use Rattle.std.specs.Prelude.{ℕ, ◌≡◌, false, not, List, [], ◌∷◌, ◌++◌, length, Result, Ok, Err, if◌then◌else◌}
 use Rattle.std.specs.List.{list_any}
 use Rattle.std.specs.Str.{bytes_eq}
 use Rattle.cover_problem.specs.declared.fault.Fault.{Fault}
@@ -11,6 +11,10 @@ use Rattle.cover_problem.specs.declared.fault.Fault.TheVariants.{NoItemLine, Bad
 use Rattle.cover_problem.specs.Lists.{has}
 use Rattle.cover_problem.specs.Problem.{ProblemValue, is_name, is_item, is_small}
 use Rattle.text_lines.specs.Each.{each, ◌>>=◌}
+
+-- the first `primary` of these can't be the items that have to be covered: there are none, or there are fewer
+abbrev pub LacksPrimary : {A : Type 0} → List A → ℕ → Type 0
+LacksPrimary names primary = is_item (length names) primary ≡ false
 
 -- the names with one more, which is a name and new
 unfoldable pub add_name : List (List ℕ) → List ℕ → Result (List (List ℕ)) Fault
@@ -35,6 +39,10 @@ option_from n (i ∷ is) = each (add_number n) [] (i ∷ is)
 unfoldable pub add_option : ℕ → List (List ℕ) → List ℕ → Result (List (List ℕ)) Fault
 add_option n options numbers = option_from n numbers >>= λ option. Ok (options ++ option ∷ [])
 
+-- these options over n items, or the first fault among them
+abbrev pub options_from : ℕ → List (List ℕ) → Result (List (List ℕ)) Fault
+options_from n options = each (add_option n) [] options
+
 -- the problem, where it is within the limits
 abbrev pub within : ProblemValue → Result ProblemValue Fault
 within p = if is_small p then Ok p else Err TooLarge
@@ -43,5 +51,5 @@ within p = if is_small p then Ok p else Err TooLarge
 unfoldable pub problem_from : List (List ℕ) → ℕ → List (List ℕ) → Result ProblemValue Fault
 problem_from names primary options =
     if not (is_item (length names) primary) then Err NoItemLine else
-    (each add_name [] names >>= λ these. each (add_option (length names)) [] options >>= λ those.
+    (each add_name [] names >>= λ these. options_from (length names) options >>= λ those.
     within (record { names = these; primary = primary; options = those }))

@@ -2,6 +2,7 @@
 use Rattle.std.specs.Prelude.{ℕ, List, Vec, String, map, string_bytes}
 use Rattle.std.specs.declared.alloc.Global.{Global}
 use Rattle.cover_problem.specs.Limits.{most_name_bytes}
+use Rattle.indexmap.specs.IndexSet.{IndexSet}
 use Rattle.arrayvec.specs.declared.array_string.ArrayString.{ArrayString}
 use Rattle.cover_problem.specs.Problem.{ProblemValue, problem_with}
 
@@ -13,6 +14,10 @@ items_of options = map (λ o. o.items) options
 abbrev pub bytes_of : List (ArrayString most_name_bytes) → List (List ℕ)
 bytes_of names = map (λ n. n.bytes) names
 
+-- the names in a set, in its order
+abbrev pub names_in : {S : Type 0} → IndexSet (ArrayString most_name_bytes) S → List (List ℕ)
+names_in names = bytes_of names.keys
+
 -- the bytes of each string
 abbrev pub texts_of : List (String Global) → List (List ℕ)
 texts_of strings = map string_bytes strings
@@ -20,3 +25,7 @@ texts_of strings = map string_bytes strings
 -- the problem that the code's names stand for, with these options
 abbrev pub problem_of_parts : List (ArrayString most_name_bytes) → ℕ → List (List ℕ) → ProblemValue
 problem_of_parts names primary options = problem_with (bytes_of names) primary options
+
+-- the problem that the code's strings and lists stand for
+abbrev pub problem_of_lists : List (String Global) → ℕ → List (Vec ℕ Global) → ProblemValue
+problem_of_lists names primary options = problem_with (texts_of names) primary (items_of options)

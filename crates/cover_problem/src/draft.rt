@@ -6,13 +6,14 @@ ghost use Rattle.text_lines.specs.Each.{each};
 ghost use Rattle.text_lines.specs.Answers.{Gives};
 ghost use Rattle.cover_problem.specs.Faults.{Tells};
 ghost use Rattle.cover_problem.specs.Problem as problem;
-ghost use Rattle.cover_problem.specs.Problem.{ProblemValue, IsProblem, are_within, problem_with};
+ghost use Rattle.cover_problem.specs.Problem.{ProblemValue, IsProblem, are_within};
 ghost use Rattle.cover_problem.specs.Validation as making;
 ghost use Rattle.cover_problem.specs.Validation.{add_name, with_item};
 ghost use Rattle.cover_problem.specs.Stamps.{AreStamps};
 ghost use Rattle.cover_problem.specs.Reading as reading;
-ghost use Rattle.cover_problem.specs.Reading.{item_of, add_item, nothing};
-ghost use Rattle.cover_problem.specs.Views.{bytes_of, problem_of_parts};
+ghost use Rattle.cover_problem.specs.Reading.{item_of, nothing};
+ghost use Rattle.cover_problem.specs.Views.{names_in, problem_of_parts};
+ghost use Rattle.cover_problem.specs.Checks.{TakesItem, TakesItems};
 
 use crate::fault::{Fault, ProblemFault, told};
 use crate::key::{Key, key_of};
@@ -58,8 +59,8 @@ impl Model for Draft {
 #[tactic(auto, unfolding(crate::specs::Reading::item_of))]
 fn item_named(names: &IndexSet<Name>, word: &[u8]) -> Result<u32, Fault>
     requires few { length names.now.keys ≤ MOST_ITEMS }
-    requires named { list_all problem.is_name (bytes_of names.now.keys) ≡ true }
-    ensures item { Tells (λ i. i) result (item_of (bytes_of names.now.keys) word.now) }
+    requires named { list_all problem.is_name (names_in names.now) ≡ true }
+    ensures item { Tells (λ i. i) result (item_of (names_in names.now) word.now) }
     ensures some { IfOk result (λ i. 0 < i) }
     ensures within { IfOk result (λ i. i ≤ length names.now.keys) }
 {
@@ -103,10 +104,10 @@ fn take_item(
     word: &[u8],
 ) -> Result<(), ProblemFault>
     requires few { length names.now.keys ≤ MOST_ITEMS }
-    requires named { list_all problem.is_name (bytes_of names.now.keys) ≡ true }
+    requires named { list_all problem.is_name (names_in names.now) ≡ true }
     requires each_item { length marks.old ≡ length names.now.keys }
     requires marked { AreStamps stamp option.old.items marks.old }
-    ensures item { Gives (λ _. option.new.items) result (add_item (bytes_of names.now.keys) option.old.items word.now) }
+    ensures item { TakesItem result names.now option.old.items option.new.items word.now }
     ensures marked { OnOk result (AreStamps stamp option.new.items marks.new) }
 {
     let item = item_named(names, word)?;
@@ -122,11 +123,10 @@ fn take_items(
     words: &[u8],
 ) -> Result<(), ProblemFault>
     requires few { length names.now.keys ≤ MOST_ITEMS }
-    requires named { list_all problem.is_name (bytes_of names.now.keys) ≡ true }
+    requires named { list_all problem.is_name (names_in names.now) ≡ true }
     requires each_item { length marks.old ≡ length names.now.keys }
     requires marked { AreStamps stamp option.old.items marks.old }
-    ensures items { Gives (λ _. option.new.items) result
-        (each (add_item (bytes_of names.now.keys)) option.old.items (words_of words.now)) }
+    ensures items { TakesItems result names.now option.old.items option.new.items words.now }
     ensures marked { OnOk result (AreStamps stamp option.new.items marks.new) }
 {
     let mut rest = words;
@@ -146,10 +146,10 @@ fn take_option(
     words: &[u8],
 ) -> Result<(), ProblemFault>
     requires few { length names.now.keys ≤ MOST_ITEMS }
-    requires named { list_all problem.is_name (bytes_of names.now.keys) ≡ true }
+    requires named { list_all problem.is_name (names_in names.now) ≡ true }
     requires each_item { length marks.old ≡ length names.now.keys }
     requires old { All (λ mark. mark < stamp) marks.old }
-    ensures option { Gives (λ _. taken.new.items) result (each (add_item (bytes_of names.now.keys)) [] (words_of words.now)) }
+    ensures option { TakesItems result names.now [] taken.new.items words.now }
     ensures marks { OnOk result (All (λ mark. mark ≤ stamp) marks.new) }
 {
     taken.clear();
@@ -158,7 +158,7 @@ fn take_option(
 
 /// The names with those of these words.
 fn with_names(mut names: IndexSet<Name>, words: &[u8]) -> Result<IndexSet<Name>, ProblemFault>
-    ensures { Gives (λ these. bytes_of these.keys) result (each add_name (bytes_of names.keys) (words_of words.now)) }
+    ensures { Gives names_in result (each add_name (names_in names) (words_of words.now)) }
 {
     let mut rest = words;
     while let Some((word, after)) = split_word(rest) {
@@ -185,7 +185,7 @@ fn within(
     taken: Vec<u32>,
 ) -> Result<Draft, Fault>
     requires primary { primary ≤ length names.keys }
-    requires named { list_all problem.is_name (bytes_of names.keys) ≡ true }
+    requires named { list_all problem.is_name (names_in names) ≡ true }
     requires counted { entries ≡ sum_by length options }
     requires marked { length marks.items ≡ length names.keys }
     requires old { All (λ mark. mark ≤ length options) marks.items }
@@ -207,8 +207,8 @@ fn within(
 /// A draft without options.
 fn of_names(alloc: Global, names: IndexSet<Name>, primary: usize) -> Result<Draft, ProblemFault>
     requires primary { primary ≤ length names.keys }
-    requires named { list_all problem.is_name (bytes_of names.keys) ≡ true }
-    ensures { Gives (λ d. d) result (making.within (problem_with (bytes_of names.keys) primary [])) }
+    requires named { list_all problem.is_name (names_in names) ≡ true }
+    ensures { Gives (λ d. d) result (making.within (problem_of_parts names.keys primary [])) }
 {
     let marks = vec![in alloc; 0u32; names.len()]?;
     Ok(within(names, primary, Lists::new(alloc), 0, marks, Vec::new(alloc))?)

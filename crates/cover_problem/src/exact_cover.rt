@@ -1,8 +1,8 @@
 //! Whether options are an exact cover.
 ghost use Rattle.std.specs.Prelude.{◌≡◌, ◌<◌, ◌≤◌, ◌↔◌, ◌∷◌, IsTrue, true, length, count_by, nat_le};
-ghost use Rattle.std.specs.List.{list_all, list_any};
-ghost use Rattle.cover_problem.specs.Lists.{are_distinct, has, numbers};
-ghost use Rattle.cover_problem.specs.Problem.{IsProblem, is_item, option_at};
+ghost use Rattle.std.specs.List.{list_any};
+ghost use Rattle.cover_problem.specs.Lists.{are_distinct, has};
+ghost use Rattle.cover_problem.specs.Problem.{IsProblem, option_at};
 ghost use Rattle.cover_problem.specs.ExactCover.{IsExactCover};
 ghost use Rattle.cover_problem.specs.CoverTest as cover_test;
 
@@ -10,7 +10,7 @@ use crate::problem::Problem;
 
 /// Whether each number is an option's.
 fn are_options(problem: &Problem, chosen: &[u32]) -> bool
-    ensures { result ≡ list_all (is_item (length problem.now.options)) chosen.now }
+    ensures { result ≡ cover_test.are_options problem.now chosen.now }
 {
     let most = problem.options();
     chosen.iter().all(|k| 0 < *k && *k <= most)
@@ -18,7 +18,7 @@ fn are_options(problem: &Problem, chosen: &[u32]) -> bool
 
 /// How many of the options have the item.
 fn occurrences(problem: &Problem, chosen: &[u32], item: u32) -> usize
-    requires { list_all (is_item (length problem.now.options)) chosen.now ≡ true }
+    requires { cover_test.are_options problem.now chosen.now ≡ true }
     ensures { result ≡ cover_test.occurrences problem.now chosen.now item }
 {
     let mut count = 0;
@@ -30,7 +30,7 @@ fn occurrences(problem: &Problem, chosen: &[u32], item: u32) -> usize
 
 /// Whether an item is in as many of the options as it may be: a primary item in one, another in at most one.
 fn has_right_count(problem: &Problem, chosen: &[u32], item: u32) -> bool
-    requires { list_all (is_item (length problem.now.options)) chosen.now ≡ true }
+    requires { cover_test.are_options problem.now chosen.now ≡ true }
     ensures { result ≡ cover_test.has_right_count problem.now chosen.now item }
 {
     let count = occurrences(problem, chosen, item);
@@ -43,8 +43,8 @@ fn has_right_count(problem: &Problem, chosen: &[u32], item: u32) -> bool
 
 /// Whether each item is in as many of the options as it may be.
 fn have_right_counts(problem: &Problem, chosen: &[u32]) -> bool
-    requires { list_all (is_item (length problem.now.options)) chosen.now ≡ true }
-    ensures { result ≡ list_all (cover_test.has_right_count problem.now chosen.now) (numbers (length problem.now.names) 1) }
+    requires { cover_test.are_options problem.now chosen.now ≡ true }
+    ensures { result ≡ cover_test.have_right_counts problem.now chosen.now }
 {
     for item in 1..problem.items() + 1 {
         if !has_right_count(problem, chosen, item) {
@@ -66,8 +66,8 @@ fn has_primary_item(problem: &Problem, k: u32) -> bool
 
 /// Whether each option has a primary item.
 fn are_useful(problem: &Problem, chosen: &[u32]) -> bool
-    requires { list_all (is_item (length problem.now.options)) chosen.now ≡ true }
-    ensures { result ≡ list_all (cover_test.has_primary_item problem.now) chosen.now }
+    requires { cover_test.are_options problem.now chosen.now ≡ true }
+    ensures { result ≡ cover_test.are_useful problem.now chosen.now }
 {
     for k in chosen {
         if !has_primary_item(problem, *k) {

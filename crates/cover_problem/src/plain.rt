@@ -1,9 +1,10 @@
 //! A table that copies the options and scans: the definition, run.
 ghost use Rattle.std.specs.Prelude.{◌≡◌, ◌<◌, ◌≤◌, ◌^◌, ◌+◌, ◌-◌, ◌==◌, ℕ, List, [], ◌∷◌, ◌++◌, length, filter, map, not, true, find};
 ghost use Rattle.std.specs.Prelude.{replicate, nat_lt, vec_len, IfOk, OnOk, vec_capacity};
-ghost use Rattle.std.specs.List.{All, list_all, list_any, slice_index_or, prefix_len};
-ghost use Rattle.cover_problem.specs.Lists.{last_of, numbers, RisesFrom};
+ghost use Rattle.std.specs.List.{All, list_all, list_any, prefix_len};
+ghost use Rattle.cover_problem.specs.Lists.{last_of, numbers_above, RisesFrom};
 ghost use Rattle.cover_problem.specs.Plain as plain;
+ghost use Rattle.cover_problem.specs.Plain.{IsNoted, holders_of, time_in};
 ghost use Rattle.cover_problem.specs.Problem as problem;
 ghost use Rattle.cover_problem.specs.Problem.{IsProblem};
 ghost use Rattle.cover_problem.specs.Table.{IsCoveredList};
@@ -56,7 +57,7 @@ impl Model for PlainTable {
 /// Whether one of an option's items was covered before this time.
 fn is_out(option: &[u32], times: &[u32], limit: u32) -> bool
     requires { All (λ i. (0 < i) × (i ≤ length times.now)) option.now }
-    ensures { result ≡ list_any (λ i. nat_lt (slice_index_or times.now (i - 1) 0) limit) option.now }
+    ensures { result ≡ list_any (λ i. nat_lt (time_in times.now i) limit) option.now }
 {
     option
         .iter()
@@ -118,7 +119,7 @@ fn first_uncovered(times: &[u32], after: u32, primary: u32) -> Option<u32>
     requires after { after ≤ primary }
     requires within { primary ≤ length times.now }
     requires small { primary < 2 ^ 32 - 1 }
-    ensures { result ≡ find (λ i. slice_index_or times.now (i - 1) 0 == NEVER) (numbers (primary - after) (after + 1)) }
+    ensures { result ≡ find (λ i. time_in times.now i == NEVER) (numbers_above after primary) }
 {
     for item in after + 1..primary + 1 {
         if times[(item - 1) as usize] == NEVER {
@@ -142,7 +143,7 @@ fn empty_lists(alloc: Global, count: u32) -> Result<Vec<Vec<u32>>, AllocError>
 /// Notes an option with each of its items.
 fn note(holders: &mut [Vec<u32>], option: &[u32], k: u32) -> Result<(), AllocError>
     requires { problem.is_option (length holders.old) option.now ≡ true }
-    ensures { OnOk result (plain.IsNoted k option.now (items_of holders.old) (items_of holders.new)) }
+    ensures { OnOk result (IsNoted k option.now (items_of holders.old) (items_of holders.new)) }
 {
     for item in option {
         holders[(*item - 1) as usize].push(k)?;
@@ -155,7 +156,7 @@ fn note_all(holders: &mut [Vec<u32>], options: &Lists) -> Result<(), AllocError>
     requires options { list_all (problem.is_option (length holders.old)) options.now ≡ true }
     requires empty { items_of holders.old ≡ replicate (length holders.old) [] }
     requires small { length options.now < 2 ^ 32 }
-    ensures { OnOk result (items_of holders.new ≡ plain.holders_of (length holders.old) options.now) }
+    ensures { OnOk result (items_of holders.new ≡ holders_of (length holders.old) options.now) }
 {
     for place in 0..options.len() {
         note(holders, options.list(place), place as u32 + 1)?;
@@ -167,7 +168,7 @@ fn note_all(holders: &mut [Vec<u32>], options: &Lists) -> Result<(), AllocError>
 fn holders_of(alloc: Global, count: u32, options: &Lists) -> Result<Vec<Vec<u32>>, AllocError>
     requires options { list_all (problem.is_option count) options.now ≡ true }
     requires small { length options.now < 2 ^ 32 }
-    ensures { IfOk result (λ holders. items_of holders.items ≡ plain.holders_of count options.now) }
+    ensures { IfOk result (λ holders. items_of holders.items ≡ holders_of count options.now) }
 {
     let mut holders = empty_lists(alloc, count)?;
     note_all(&mut holders, options)?;

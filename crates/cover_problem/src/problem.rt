@@ -1,14 +1,16 @@
 //! An exact cover problem.
-ghost use Rattle.std.specs.Prelude.{◌≡◌, ◌<◌, ◌≤◌, Ok, length, map, IfOk, IfErr, true, false, IsTrue, IsErrAnd, IsErrOf, ◌↔◌, bytes_eq, position};
+ghost use Rattle.std.specs.Prelude.{◌≡◌, ◌<◌, ◌≤◌, Ok, length, map, IfOk, IfErr, true, IsTrue, IsErrAnd, IsErrOf, ◌↔◌, bytes_eq, position};
 ghost use Rattle.std.specs.Cmp.Lexicographic.{pointwise};
 ghost use Rattle.std.specs.List.{list_all};
 ghost use Rattle.std.specs.String.{string_bytes};
-ghost use Rattle.cover_problem.specs.Problem.{IsProblem, problem_with, is_item, is_name, option_at, name_at, item_named, is_same};
+ghost use Rattle.cover_problem.specs.Problem.{IsProblem, is_name, option_at, name_at, item_named, is_same};
 ghost use Rattle.text_lines.specs.Answers.{Gives, IsFaultOf};
 ghost use Rattle.text_lines.specs.declared.refusal.Refusal.TheVariants as refusals;
 ghost use Rattle.cover_problem.specs.declared.fault.Fault.TheVariants.{NoItemLine};
-ghost use Rattle.cover_problem.specs.Validation.{problem_from};
-ghost use Rattle.cover_problem.specs.Views.{items_of, bytes_of, texts_of, problem_of_parts};
+ghost use Rattle.cover_problem.specs.Validation.{LacksPrimary};
+ghost use Rattle.cover_problem.specs.Views.{items_of, bytes_of, names_in, problem_of_parts, problem_of_lists};
+ghost use Rattle.cover_problem.specs.Checks.{checked_problem};
+ghost use Rattle.cover_problem.specs.Answers.{Returns};
 
 use crate::fault::{ProblemFault, Refused};
 use crate::lists::Lists;
@@ -53,7 +55,7 @@ fn are_same_options(options: &Lists, others: &Lists) -> bool
 
 /// The options in one list, flat in memory.
 fn flat(alloc: Global, options: &[Vec<u32>]) -> Result<Lists, AllocError>
-    ensures { IfOk result (λ lists. lists ≡ items_of options.now) }
+    ensures { Returns result (items_of options.now) }
 {
     let mut lists = Lists::new(alloc);
     for option in options {
@@ -64,8 +66,8 @@ fn flat(alloc: Global, options: &[Vec<u32>]) -> Result<Lists, AllocError>
 
 /// Where a name stands.
 fn place_of(names: &IndexSet<Name>, name: &str) -> Option<usize>
-    requires { list_all is_name (bytes_of names.now.keys) ≡ true }
-    ensures { result ≡ position (bytes_eq name.now) (bytes_of names.now.keys) }
+    requires { list_all is_name (names_in names.now) ≡ true }
+    ensures { result ≡ position (bytes_eq name.now) (names_in names.now) }
 {
     let key = Name::from(name).ok()?;
     names.get_index_of(&key)
@@ -78,8 +80,8 @@ fn checked(
     primary: u32,
     options: &[Vec<u32>],
 ) -> Result<Problem, ProblemFault>
-    ensures made { Gives (λ p. p) result (problem_from (texts_of names.now) primary (items_of options.now)) }
-    ensures primary { IsErrOf result (refusals.Fault NoItemLine) ↔ (is_item (length names.now) primary ≡ false) }
+    ensures made { Gives (λ p. p) result (checked_problem names.now primary options.now) }
+    ensures primary { IsErrOf result (refusals.Fault NoItemLine) ↔ LacksPrimary names.now primary }
 {
     let names = checked_names(alloc, names, primary, options)?;
     let options = flat(alloc, options)?;
@@ -100,12 +102,10 @@ impl Problem {
         primary: u32,
         options: Vec<Vec<u32>>,
     ) -> Result<Problem, Refused<ProblemFault, (Vec<String>, Vec<Vec<u32>>)>>
-        ensures made { IfOk result (λ p. problem_from (texts_of names.items) primary (items_of options.items) ≡ Ok p) }
-        ensures parts { IfOk result (λ p. p ≡ problem_with (texts_of names.items) primary (items_of options.items)) }
-        ensures refused { IfErr result (λ r. IsFaultOf r.fault
-            (problem_from (texts_of names.items) primary (items_of options.items))) }
-        ensures primary { IsErrAnd result (λ r. r.fault ≡ refusals.Fault NoItemLine) ↔
-            (is_item (length names.items) primary ≡ false) }
+        ensures made { IfOk result (λ p. checked_problem names.items primary options.items ≡ Ok p) }
+        ensures parts { Returns result (problem_of_lists names.items primary options.items) }
+        ensures refused { IfErr result (λ r. IsFaultOf r.fault (checked_problem names.items primary options.items)) }
+        ensures primary { IsErrAnd result (λ r. r.fault ≡ refusals.Fault NoItemLine) ↔ LacksPrimary names.items primary }
         ensures given { IfErr result (λ r. r.given ≡ (names, options)) }
     {
         match checked(alloc, &names, primary, &options) {
@@ -194,7 +194,7 @@ impl Problem {
 
     /// A copy.
     pub fn copy(&self) -> Result<Problem, AllocError>
-        ensures { IfOk result (λ p. p ≡ self.now) }
+        ensures { Returns result self.now }
     {
         let names = self.names.clone()?;
         let options = self.options.copy()?;

@@ -1,8 +1,8 @@
 //! What a search asks of a table.
 ghost use Rattle.std.specs.Prelude.{◌≡◌, ◌<◌, ◌≤◌, List, ◌∷◌, ◌++◌, [], ℕ, length, true, false, OnOk, IfOk};
-ghost use Rattle.cover_problem.specs.Lists.{has, above, below, last_of};
+ghost use Rattle.cover_problem.specs.Lists.{has, above};
 ghost use Rattle.cover_problem.specs.Problem.{ProblemValue, IsProblem};
-ghost use Rattle.cover_problem.specs.Covering.{active, list_of};
+ghost use Rattle.cover_problem.specs.Covering.{active, list_of, IsInList, first_left, last_left, next_left, prev_left};
 ghost use Rattle.cover_problem.specs.Table.{IsCoveredList};
 
 use crate::problem::Problem;
@@ -49,23 +49,23 @@ pub trait Table: Drop {
     fn first_option(&self, item: u32) -> Option<u32>
         requires some { 0 < item }
         requires within { item ≤ length (problem_value self.now).names }
-        ensures { result ≡ above 0 (list_of (problem_value self.now) (covered_list self.now) item) };
+        ensures { result ≡ first_left (problem_value self.now) (covered_list self.now) item };
 
     /// The last option of an item's list.
     fn last_option(&self, item: u32) -> Option<u32>
         requires some { 0 < item }
         requires within { item ≤ length (problem_value self.now).names }
-        ensures { result ≡ last_of (list_of (problem_value self.now) (covered_list self.now) item) };
+        ensures { result ≡ last_left (problem_value self.now) (covered_list self.now) item };
 
     /// The option after one of an item's list.
     fn next_option(&self, item: u32, option: u32) -> Option<u32>
-        requires { has (list_of (problem_value self.now) (covered_list self.now) item) option ≡ true }
-        ensures { result ≡ above option (list_of (problem_value self.now) (covered_list self.now) item) };
+        requires { IsInList (problem_value self.now) (covered_list self.now) item option }
+        ensures { result ≡ next_left (problem_value self.now) (covered_list self.now) item option };
 
     /// The option before one of an item's list.
     fn prev_option(&self, item: u32, option: u32) -> Option<u32>
-        requires { has (list_of (problem_value self.now) (covered_list self.now) item) option ≡ true }
-        ensures { result ≡ below option (list_of (problem_value self.now) (covered_list self.now) item) };
+        requires { IsInList (problem_value self.now) (covered_list self.now) item option }
+        ensures { result ≡ prev_left (problem_value self.now) (covered_list self.now) item option };
 
     /// Covers an item that isn't covered.
     fn cover(&mut self, item: u32)

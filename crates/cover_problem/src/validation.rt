@@ -8,9 +8,9 @@ ghost use Rattle.text_lines.specs.Each.{each};
 ghost use Rattle.text_lines.specs.Answers.{Gives};
 ghost use Rattle.cover_problem.specs.Faults.{Tells};
 ghost use Rattle.cover_problem.specs.Problem as problem;
-ghost use Rattle.cover_problem.specs.Validation as making;
-ghost use Rattle.cover_problem.specs.Validation.{add_name, add_option, option_from};
-ghost use Rattle.cover_problem.specs.Views.{items_of, bytes_of, texts_of, problem_of_parts};
+ghost use Rattle.cover_problem.specs.Validation.{add_name, option_from, options_from, LacksPrimary};
+ghost use Rattle.cover_problem.specs.Views.{items_of, names_in, texts_of};
+ghost use Rattle.cover_problem.specs.Checks.{ChecksNames, fit_limits};
 
 use crate::fault::{Fault, ProblemFault};
 use crate::limits::{MOST_ENTRIES, MOST_ITEMS, MOST_OPTIONS};
@@ -20,7 +20,7 @@ use std::alloc::Global;
 
 /// Takes a name, once.
 pub fn take_name(names: &mut IndexSet<Name>, word: &[u8]) -> Result<(), ProblemFault>
-    ensures { Gives (λ _. bytes_of names.new.keys) result (add_name (bytes_of names.old.keys) word.now) }
+    ensures { Gives (λ _. names_in names.new) result (add_name (names_in names.old) word.now) }
 {
     let name = name_of(word)?;
     if !names.insert(name)? {
@@ -31,7 +31,7 @@ pub fn take_name(names: &mut IndexSet<Name>, word: &[u8]) -> Result<(), ProblemF
 
 /// The names, each once.
 fn take_names(alloc: Global, given: &[String]) -> Result<IndexSet<Name>, ProblemFault>
-    ensures { Gives (λ names. bytes_of names.keys) result (each add_name [] (texts_of given.now)) }
+    ensures { Gives names_in result (each add_name [] (texts_of given.now)) }
 {
     let mut names = IndexSet::new(alloc);
     for name in given {
@@ -65,7 +65,7 @@ fn check_option(marks: &mut [usize], stamp: usize, numbers: &[u32]) -> Result<()
 /// Whether these are options over as many items as there are marks, which are all 0.
 fn check_each(marks: &mut [usize], options: &[Vec<u32>]) -> Result<(), Fault>
     requires { All (λ mark. mark ≤ 0) marks.old }
-    ensures { Tells (λ _. items_of options.now) result (each (add_option (length marks.old)) [] (items_of options.now)) }
+    ensures { Tells (λ _. items_of options.now) result (options_from (length marks.old) (items_of options.now)) }
 {
     for (place, option) in options.iter().enumerate() {
         check_option(marks, place + 1, option)?;
@@ -75,7 +75,7 @@ fn check_each(marks: &mut [usize], options: &[Vec<u32>]) -> Result<(), Fault>
 
 /// Whether these are options over so many items.
 fn check_options(alloc: Global, count: usize, options: &[Vec<u32>]) -> Result<(), ProblemFault>
-    ensures { Gives (λ _. items_of options.now) result (each (add_option count) [] (items_of options.now)) }
+    ensures { Gives (λ _. items_of options.now) result (options_from count (items_of options.now)) }
 {
     let mut marks = vec![in alloc; 0usize; count]?;
     Ok(check_each(&mut marks, options)?)
@@ -97,7 +97,7 @@ fn are_few(options: &[Vec<u32>], most: usize) -> bool
 
 /// Whether so many items and these options are within the limits.
 fn is_within(count: usize, options: &[Vec<u32>]) -> bool
-    ensures { result ≡ problem.are_within count (length options.now) (sum_by length (items_of options.now)) }
+    ensures { result ≡ fit_limits count options.now }
 {
     count <= MOST_ITEMS
         && options.len() <= MOST_OPTIONS
@@ -106,10 +106,8 @@ fn is_within(count: usize, options: &[Vec<u32>]) -> bool
 
 /// Whether so many items and these options are within the limits, or the fault that they aren't.
 fn check_size(count: usize, options: &[Vec<u32>]) -> Result<(), Fault>
-    ensures within { OnOk result
-        (problem.are_within count (length options.now) (sum_by length (items_of options.now)) ≡ true) }
-    ensures over { IfErr result (λ fault. (fault ≡ TooLarge)
-        × (problem.are_within count (length options.now) (sum_by length (items_of options.now)) ≡ false)) }
+    ensures within { OnOk result (fit_limits count options.now ≡ true) }
+    ensures over { IfErr result (λ f. (f ≡ TooLarge) × (fit_limits count options.now ≡ false)) }
 {
     if !is_within(count, options) {
         return Err(Fault::TooLarge);
@@ -125,8 +123,7 @@ fn checked_parts(
     options: &[Vec<u32>],
 ) -> Result<IndexSet<Name>, ProblemFault>
     requires { problem.is_item (length names.now) primary ≡ true }
-    ensures { Gives (λ these. problem_of_parts these.keys primary (items_of options.now)) result
-        (making.problem_from (texts_of names.now) primary (items_of options.now)) }
+    ensures { ChecksNames result names.now primary options.now }
 {
     let these = take_names(alloc, names)?;
     check_options(alloc, names.len(), options)?;
@@ -141,9 +138,8 @@ pub fn checked_names(
     primary: u32,
     options: &[Vec<u32>],
 ) -> Result<IndexSet<Name>, ProblemFault>
-    ensures names { Gives (λ these. problem_of_parts these.keys primary (items_of options.now)) result
-        (making.problem_from (texts_of names.now) primary (items_of options.now)) }
-    ensures primary { IsErrOf result (refusals.Fault NoItemLine) ↔ (problem.is_item (length names.now) primary ≡ false) }
+    ensures names { ChecksNames result names.now primary options.now }
+    ensures primary { IsErrOf result (refusals.Fault NoItemLine) ↔ LacksPrimary names.now primary }
 {
     if primary == 0 || primary as usize > names.len() {
         return Err(ProblemFault::Fault(Fault::NoItemLine));

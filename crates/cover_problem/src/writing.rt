@@ -1,10 +1,11 @@
 //! The writer of cover texts.
-ghost use Rattle.std.specs.Prelude.{◌≡◌, true, ◌++◌, ◌∷◌, map, length, codes, OnOk, IfOk};
+ghost use Rattle.std.specs.Prelude.{◌≡◌, true, ◌∷◌, map, length, codes};
 ghost use Rattle.std.specs.List.{list_all};
-ghost use Rattle.text_lines.specs.Writing.{line_text, text_of};
+ghost use Rattle.text_lines.specs.Writing.{text_of};
 ghost use Rattle.cover_problem.specs.Problem.{is_item, is_option};
 ghost use Rattle.cover_problem.specs.Grammar.{maybe_words, option_words, written};
 ghost use Rattle.cover_problem.specs.Views.{bytes_of};
+ghost use Rattle.cover_problem.specs.Answers.{Adds, AddsLine, ReturnsItems};
 
 use crate::lists::Lists;
 use crate::name::Name;
@@ -14,7 +15,7 @@ use text_lines::write_word;
 
 /// Writes a line of names.
 fn write_names(text: &mut Vec<u8>, key: &[u8], names: &[Name]) -> Result<(), AllocError>
-    ensures { OnOk result (text.new.items ≡ text.old.items ++ line_text (key.now ∷ bytes_of names.now)) }
+    ensures { AddsLine result text.old text.new (key.now ∷ bytes_of names.now) }
 {
     text.extend_from_slice(key)?;
     for name in names {
@@ -26,7 +27,7 @@ fn write_names(text: &mut Vec<u8>, key: &[u8], names: &[Name]) -> Result<(), All
 
 /// Writes the `maybe` line, where there are names for it.
 fn write_maybe(text: &mut Vec<u8>, names: &[Name]) -> Result<(), AllocError>
-    ensures { OnOk result (text.new.items ≡ text.old.items ++ text_of (maybe_words (bytes_of names.now))) }
+    ensures { Adds result text.old text.new (text_of (maybe_words (bytes_of names.now))) }
 {
     if names.is_empty() {
         return Ok(());
@@ -37,7 +38,7 @@ fn write_maybe(text: &mut Vec<u8>, names: &[Name]) -> Result<(), AllocError>
 /// Writes the line of an option over items with these names.
 fn write_option(text: &mut Vec<u8>, names: &[Name], option: &[u32]) -> Result<(), AllocError>
     requires { list_all (is_item (length names.now)) option.now ≡ true }
-    ensures { OnOk result (text.new.items ≡ text.old.items ++ line_text (option_words (bytes_of names.now) option.now)) }
+    ensures { AddsLine result text.old text.new (option_words (bytes_of names.now) option.now) }
 {
     text.extend_from_slice(b"option")?;
     for item in option {
@@ -50,7 +51,7 @@ fn write_option(text: &mut Vec<u8>, names: &[Name], option: &[u32]) -> Result<()
 /// Writes the lines of options over items with these names.
 fn write_options(text: &mut Vec<u8>, names: &[Name], options: &Lists) -> Result<(), AllocError>
     requires { list_all (is_option (length names.now)) options.now ≡ true }
-    ensures { OnOk result (text.new.items ≡ text.old.items ++ text_of (map (option_words (bytes_of names.now)) options.now)) }
+    ensures { Adds result text.old text.new (text_of (map (option_words (bytes_of names.now)) options.now)) }
 {
     for place in 0..options.len() {
         write_option(text, names, options.list(place))?;
@@ -61,7 +62,7 @@ fn write_options(text: &mut Vec<u8>, names: &[Name], options: &Lists) -> Result<
 /// Writes a problem as a cover text: the `items` line, the `maybe` line where there are items that may be covered, and a
 /// line for each option, with one space between two words and a newline at each end.
 pub fn write_cover(alloc: Global, problem: &Problem) -> Result<Vec<u8>, AllocError>
-    ensures { IfOk result (λ text. text.items ≡ written problem.now) }
+    ensures { ReturnsItems result (written problem.now) }
 {
     let names = problem.name_list();
     let (items, others) = names.split_at(problem.primary() as usize);

@@ -89,7 +89,7 @@ pub fn cover_others<T: Table>(table: &mut T, option: &[u32], item: u32)
 /// Uncovers the items that were covered last, as many as told, in reverse.
 #[inline(always)]
 pub fn uncover_last<T: Table>(table: &mut T, count: usize)
-    requires { (front : List ℕ) × LosesLast (T.covered_list table.old) front count }
+    requires { (front back : List ℕ) × (T.covered_list table.old ≡ front ++ back) × (length back ≡ count) }
     ensures same_problem { T.problem_value table.new ≡ T.problem_value table.old }
     ensures covered { LosesLast (T.covered_list table.old) (T.covered_list table.new) count }
 {

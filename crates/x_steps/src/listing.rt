@@ -1,9 +1,7 @@
 //! Which items are left, each with its options, as a table tells them.
 ghost use Rattle.std.specs.Prelude.{◌≡◌, ◌<◌, ◌≤◌, length};
-ghost use Rattle.cover_problem.specs.Answers.{ReturnsItems};
 ghost use Rattle.cover_problem.specs.Problem.{IsProblem};
-ghost use Rattle.cover_problem.specs.Covering.{list_of};
-ghost use Rattle.x_steps.specs.Answers.{ReturnsRows, ReturnsRemaining};
+ghost use Rattle.x_steps.specs.Answers.{ReturnsOptions, ReturnsRows, ReturnsRemaining};
 ghost use Rattle.x_steps.specs.Machine.{second_items};
 
 use crate::marks::{is_marked, marks_of};
@@ -14,7 +12,7 @@ use std::alloc::{AllocError, Global};
 pub fn options_of<T: Table>(alloc: Global, table: &T, item: u32) -> Result<Vec<u32>, AllocError>
     requires some { 0 < item }
     requires within { item ≤ length (T.problem_value table.now).names }
-    ensures { ReturnsItems result (list_of (T.problem_value table.now) (T.covered_list table.now) item) }
+    ensures { ReturnsOptions result (T.problem_value table.now) (T.covered_list table.now) item }
 {
     let mut options = Vec::with_capacity(alloc, table.len(item) as usize)?;
     let mut next = table.first_option(item);

@@ -3,11 +3,14 @@ use Rattle.std.specs.Prelude.{ℕ, ◌≡◌, ◌+◌, ◌-◌, ◌==◌, Bool, 
 use Rattle.std.specs.Prelude.{Ok, Err, List, [], ◌∷◌, ◌++◌, length, take, drop, slice_set, count_by, if◌then◌else◌}
 use Rattle.std.specs.List.{position}
 use Rattle.cover_problem.specs.Problem.{ProblemValue}
+use Rattle.x_steps.specs.declared.state.State.{State}
 use Rattle.x_steps.specs.StateValue.{StateValue}
+use Rattle.x_steps.specs.StateView.{state_value}
 use Rattle.x_branches.specs.declared.branch.Branch.{Branch}
 use Rattle.x_branches.specs.Cut.{CutPath, cut_state}
 use Rattle.x_branches.specs.RunOrder.{comes_before}
 use Rattle.x_branches.specs.Stretch.{StretchValue}
+use Rattle.lab_book.specs.declared.status.Status.{Status}
 use Rattle.lab_book.specs.declared.status.Status.TheVariants as status
 use Rattle.lab_book.specs.declared.lease.Grant.{Grant}
 use Rattle.lab_book.specs.declared.fault.BookFault.{BookFault}
@@ -120,6 +123,23 @@ retract_fault t = else_fault (is_some (last_of t.stretches)) NothingToRetract No
 abbrev pub mark_fault : StateValue → TileValue → Option BookFault
 mark_fault s t = else_fault (is_free t.status) NotWaiting (else_fault (is_some (stretches_to s t.first t.stretches)) NotAMark None)
 
+-- what stands against a post of a stretch to a tile of a book, by a lease that is the tile's
+abbrev pub post_fault : BookValue → StretchValue → Bool → TileValue → Option BookFault
+post_fault b x same t = stretch_fault b.problem x.from x.to same t
+
+-- and against a split of it at a cut
+abbrev pub split_fault : BookValue → CutPath → Bool → TileValue → Option BookFault
+split_fault b cut same t = cut_fault b.problem cut.path same t
+
+-- the place of the tile that a lease is of, or why the call is refused: no tile has its id, the lease isn't the tile's current one,
+-- or what the check says of the tile
+abbrev pub found_by : List TileValue → Grant → (TileValue → Option BookFault) → Result ℕ BookFault
+found_by ts g check = found ts g.id (λ t. lease_fault g t (check t))
+
+-- the place of the tile that goes back to a state, or why it doesn't
+abbrev pub back_place : List TileValue → ℕ → State → Result ℕ BookFault
+back_place ts id s = found ts id (mark_fault (state_value s))
+
 -- the outcome of a call that is refused with fault f: these tiles stay as they are
 abbrev pub refused : List TileValue → BookFault → Outcome
 refused ts f = record { reply = reply.Refused f; tiles = ts }
@@ -196,6 +216,10 @@ ended_tile cut = record {
 abbrev pub split_tiles : TileValue → ℕ → CutPath → List TileValue
 split_tiles t id cut = head_tile t cut ∷ tail_tile id t cut ∷ []
 
+-- tiles of which the one at a place was split at a cut: both its parts stand where it stood
+abbrev pub tiles_split : List TileValue → ℕ → CutPath → List TileValue
+tiles_split ts i cut = take i ts ++ split_tiles (tile_at ts i) (length ts) cut ++ drop (i + 1) ts
+
 -- the outcome of a split at a cut, by its choices, for the tile at i: both its parts stand where it stood, and the reply is the id
 -- of the new one
 abbrev pub split : BookValue → List ℕ → ℕ → Outcome
@@ -208,6 +232,10 @@ split b path i = record {
 -- the last stretch is taken out
 abbrev pub retracted_tile : TileValue → TileValue
 retracted_tile t = record t { stretches = take (length t.stretches - 1) t.stretches }
+
+-- so many of its first stretches are kept
+abbrev pub kept_tile : ℕ → TileValue → TileValue
+kept_tile count t = record t { stretches = take count t.stretches }
 
 -- the outcome where the last stretch of the tile at i, which has one, is taken out: the reply says from where to where it went
 abbrev pub retracted : BookValue → ℕ → Outcome
@@ -238,6 +266,18 @@ put_back s t = record t { stretches = unwrap_or (stretches_to s t.first t.stretc
 -- a tile is asked to stop
 abbrev pub asked_to_stop : TileValue → TileValue
 asked_to_stop t = record t { status = asked_status t.status; stop = true }
+
+-- a tile stands so from now on
+abbrev pub with_status : Status → TileValue → TileValue
+with_status s t = record t { status = s }
+
+-- and is asked to stop, or isn't
+abbrev pub settled_tile : Status → Bool → TileValue → TileValue
+settled_tile s stop t = record t { status = s; stop = stop }
+
+-- the outcome of a call that gives the tile of a lease up
+abbrev pub given_up : BookValue → Grant → Outcome
+given_up b g = made_at b.tiles (settled b freed) (found_by b.tiles g (λ t. None))
 
 -- what each call does, the first refusal first
 unfoldable pub outcome : BookValue → ℕ → Call → Outcome
@@ -275,6 +315,10 @@ whole_tile branch first = record { id = 0; branch = branch; status = status.Wait
 -- the book of a branch of a problem's run as it is first made, with this first mark: one tile, and no history
 abbrev pub new_book : ProblemValue → Branch → StateValue → BookValue
 new_book p branch first = record { problem = p; branch = branch; first = first; tiles = whole_tile branch first ∷ []; history = [] }
+
+-- a book as it was first made
+abbrev pub first_book : BookValue → BookValue
+first_book b = new_book b.problem b.branch b.first
 
 -- the fold of the calls of a history, from a book on
 abbrev pub replayed : BookValue → List Entry → BookValue

@@ -1,6 +1,8 @@
 -- Entries as rows of numbers, and back.
-use Rattle.std.specs.Prelude.{ℕ, ◌≡◌, ◌%◌, ◌==◌, Bool, true, false, not, Option, List, [], ◌∷◌, ◌++◌, slice_index, if◌then◌else◌}
+use Rattle.std.specs.Prelude.{ℕ, ◌≡◌, ◌%◌, ◌==◌, Bool, true, false, not, Option, List, [], ◌∷◌, ◌++◌, map, slice_index, if◌then◌else◌}
 use Rattle.std.specs.Prelude as prelude
+use Rattle.std.specs.Global.{Vec}
+use Rattle.packed_rows.specs.Rows.{RowsValue}
 use Rattle.packed_states.specs.StateCode.{later, path_code, path_of, path_rest, state_code, state_of, state_rest}
 use Rattle.lab_book.specs.declared.lease.Grant.{Grant}
 use Rattle.lab_book.specs.declared.fault.BookFault.{BookFault}
@@ -92,6 +94,9 @@ post_read ns = call.Post (grant_of (later ns)) (state_of (grant_rest (later ns))
 abbrev pub split_read : List ℕ → Call
 split_read ns = call.Split (grant_of (later ns)) (path_of (grant_rest (later ns))) (bool_of (slice_index ns 0))
 
+abbrev pub put_back_read : List ℕ → Call
+put_back_read ns = call.PutBack (slice_index ns 0) (state_of (later ns))
+
 abbrev pub call_with : ℕ → List ℕ → Call
 call_with n ns =
     if n == 0 then call.Lease (slice_index ns 0) else (if n == 1 then call.LeaseAny else (if n == 2 then call.TakeHeld (slice_index ns 0) else
@@ -126,6 +131,12 @@ reply_code (reply.Refused f) = 6 ∷ fault_code f
 abbrev pub leased_read : List ℕ → Reply
 leased_read ns = reply.Leased (grant_of (later ns)) (cut_of (grant_rest (later ns))) (cut_of (cut_rest (grant_rest (later ns)))) (state_of (cut_rest (cut_rest (grant_rest (later ns))))) (slice_index ns 0)
 
+abbrev pub posted_read : List ℕ → Reply
+posted_read ns = reply.Posted (bool_of (slice_index ns 0)) (slice_index (later ns) 0)
+
+abbrev pub retracted_read : List ℕ → Reply
+retracted_read ns = reply.Retracted (state_of ns) (state_of (state_rest ns))
+
 abbrev pub reply_with : ℕ → List ℕ → Reply
 reply_with n ns =
     if n == 0 then leased_read ns else (if n == 1 then reply.NoneWaits else
@@ -159,3 +170,9 @@ ReadsReply r = reply_of (reply_code r) ≡ r
 
 abbrev pub ReadsFault : BookFault → Type 0
 ReadsFault f = fault_of (fault_code f) ≡ f
+
+-- ---- a history's entries
+
+-- the entries of a history: those that are packed into rows, and then the last ones
+abbrev pub all_entries : RowsValue → Vec Entry → List Entry
+all_entries packed last = map entry_of packed.rows ++ last.items

@@ -1,13 +1,15 @@
 -- What was posted of a run, tile by tile.
-use Rattle.std.specs.Prelude.{ℕ, ◌+◌, ◌≡◌, List, All, length, map}
+use Rattle.std.specs.Prelude.{ℕ, ◌+◌, ◌^◌, ◌≡◌, ◌<◌, List, All, length, map, slice_index}
 use Rattle.std.specs.List.{flat_map, sum_by}
 use Rattle.cover_problem.specs.Lists.{numbers}
 use Rattle.cover_problem.specs.Problem.{ProblemValue}
-use Rattle.x_steps.specs.Levels.{without_last_zeros}
+use Rattle.x_steps.specs.Levels.{without_last_zeros, trimmed_levels}
 use Rattle.x_steps.specs.Run.{level_count, states_between, steps_between, visits_between}
+use Rattle.x_branches.specs.Branch.{end_of}
 use Rattle.x_branches.specs.Stretch.{StretchValue}
 use Rattle.lab_book.specs.declared.status.Status.TheVariants.{Closed}
 use Rattle.lab_book.specs.Tile.{TileValue}
+use Rattle.lab_book.specs.Book.{BookValue}
 
 -- the paths that stretches visit, in order
 abbrev pub stretch_visits : List StretchValue → List (List ℕ)
@@ -44,3 +46,19 @@ posted_level ts level = sum_by (λ (t : TileValue). stretch_level t.stretches le
 -- how many X2 states the stretches of a problem's tiles have at each level from 0 on, as far as there are any
 abbrev pub posted_levels : ProblemValue → List TileValue → List ℕ
 posted_levels p ts = without_last_zeros (map (posted_level ts) (numbers (length p.names + 1) 0))
+
+-- the paths that the whole run of a book visits: from its first mark to its branch's end
+abbrev pub whole_visits : BookValue → List (List ℕ)
+whole_visits b = visits_between b.problem b.first (end_of b.branch.hi)
+
+-- how many steps it has
+abbrev pub whole_steps : BookValue → ℕ
+whole_steps b = steps_between b.problem b.first (end_of b.branch.hi)
+
+-- how many X2 states it has at each level from 0 on, as far as there are any
+abbrev pub whole_levels : BookValue → List ℕ
+whole_levels b = trimmed_levels b.problem b.first (end_of b.branch.hi)
+
+-- each of the totals has room for so many more
+abbrev pub HaveRoom : List ℕ → ℕ → Type 0
+HaveRoom totals more = (level : ℕ) → level < length totals → slice_index totals level + more < 2 ^ 128

@@ -1,12 +1,14 @@
 //! Books.
-ghost use Rattle.std.specs.Prelude.{◌≡◌, ◌≤◌, ◌↔◌, ◌⊎◌, IsTrue, All, None, IfSome, IfOk, IfErr, OnOk, OnErr};
+ghost use Rattle.std.specs.Prelude.{◌≡◌, ◌≤◌, ◌↔◌, IsTrue, All, IfSome, IfErr, OnOk, OnErr};
+ghost use Rattle.cover_problem.specs.Answers.{Returns};
 ghost use Rattle.x_steps.specs.StateView.{state_value};
 ghost use Rattle.x_steps.specs.StateValue.{start};
 ghost use Rattle.x_branches.specs.Cut.{IsCut};
 ghost use Rattle.x_branches.specs.Refusals.{CanStart, StartRefused};
-ghost use Rattle.lab_book.specs.Book.{waiting_in, leased_in, IsBook, new_book, replayed, outcome, refused, tile_place};
+ghost use Rattle.x_branches.specs.Branch.{whole_run};
+ghost use Rattle.lab_book.specs.Book.{waiting_in, leased_in, IsBook, new_book, replayed, outcome, refused, tile_place, first_book};
 ghost use Rattle.lab_book.specs.Tiling.{IsTiling};
-ghost use Rattle.lab_book.specs.Calls.{Refuses};
+ghost use Rattle.lab_book.specs.Calls.{Refuses, IfRefused, OutOfMemoryOr};
 
 mod ending;
 mod foretelling;
@@ -71,7 +73,7 @@ fn check_start(
     state: &State,
 ) -> Result<(), StartFault>
     ensures can { OnOk result (CanStart problem.now branch.now (state_value state.now)) }
-    ensures refused { IfErr result (λ fault. StartRefused problem.now branch.now (state_value state.now) fault) }
+    ensures refused { IfErr result (StartRefused problem.now branch.now (state_value state.now)) }
 {
     let Ok(table) = PlainTable::new(alloc, problem) else {
         return Err(StartFault::Steps(AtFault::OutOfMemory));
@@ -115,7 +117,7 @@ impl<'p> Book<'p> {
         state: &State,
     ) -> Result<Book<'p>, AllocError>
         requires { CanStart problem.now branch.now (state_value state.now) }
-        ensures { IfOk result (λ book. book ≡ new_book problem.now branch.now (state_value state.now)) }
+        ensures { Returns result (new_book problem.now branch.now (state_value state.now)) }
     {
         is_cut(&branch.lo);
         is_cut(&branch.hi);
@@ -135,7 +137,7 @@ impl<'p> Book<'p> {
 
     /// The book of a whole run: one tile, from X1 to Done, which waits and has the id 0.
     pub fn new(alloc: Global, problem: &'p Problem) -> Result<Book<'p>, AllocError>
-        ensures { IfOk result (λ book. book ≡ new_book problem.now (record { lo = None; hi = None }) start) }
+        ensures { Returns result (new_book problem.now whole_run start) }
     {
         let branch = Branch { lo: None, hi: None };
         let state = State {
@@ -154,9 +156,9 @@ impl<'p> Book<'p> {
         branch: Branch<'p>,
         state: State,
     ) -> Result<Book<'p>, Refused<StartFault, (Branch<'p>, State)>>
-        ensures made { IfOk result (λ book. book ≡ new_book problem.now branch.entry (state_value state)) }
+        ensures made { Returns result (new_book problem.now branch.entry (state_value state)) }
         ensures can { OnOk result (CanStart problem.now branch.entry (state_value state)) }
-        ensures refused { IfErr result (λ r. StartRefused problem.now branch.entry (state_value state) r.fault) }
+        ensures refused { IfRefused result (StartRefused problem.now branch.entry (state_value state)) }
         ensures branch_back { IfErr result (λ r. r.given.0 ≡ branch.entry) }
         ensures state_back { IfErr result (λ r. r.given.1 ≡ state) }
     {
@@ -228,7 +230,7 @@ impl<'p> Book<'p> {
     /// The entries of all calls in order: the book is their replay, with each reply.
     pub fn history(&self) -> Entries<'_>
         ensures history { result ≡ self.now.history }
-        ensures replay { replayed (new_book self.now.problem self.now.branch self.now.first) self.now.history ≡ self.now }
+        ensures replay { replayed (first_book self.now) self.now.history ≡ self.now }
     {
         self.history.entries()
     }
@@ -236,12 +238,12 @@ impl<'p> Book<'p> {
     /// What is true of every book, for a proof that needs it: its tiles are a tiling of its branch, and it is its history's replay.
     pub fn is_sound(&self)
         ensures tiling { IsTiling self.now.problem self.now.branch self.now.first self.now.tiles }
-        ensures replay { replayed (new_book self.now.problem self.now.branch self.now.first) self.now.history ≡ self.now }
+        ensures replay { replayed (first_book self.now) self.now.history ≡ self.now }
     {}
 
     /// Notes a refusal in the history, unless memory ran out, or runs out here.
     fn refuse(&mut self, w: u8, call: Call, fault: BookFault) -> BookFault
-        requires { (fault ≡ BookFault.OutOfMemory) ⊎ (outcome self.old w call ≡ refused self.old.tiles fault) }
+        requires { OutOfMemoryOr fault (outcome self.old w call ≡ refused self.old.tiles fault) }
         ensures { Refuses self.old self.new w call result }
     {
         let fault = match fault {
@@ -270,7 +272,7 @@ impl<'p> Book<'p> {
         fault: BookFault,
         given: G,
     ) -> Refused<BookFault, G>
-        requires { (fault ≡ BookFault.OutOfMemory) ⊎ (outcome self.old w call ≡ refused self.old.tiles fault) }
+        requires { OutOfMemoryOr fault (outcome self.old w call ≡ refused self.old.tiles fault) }
         ensures refused { Refuses self.old self.new w call result.fault }
         ensures given_back { result.given ≡ given }
     {

@@ -1,6 +1,6 @@
 //! A history with room kept for entries to come.
 ghost use Rattle.std.specs.Prelude.{◌≡◌, ◌≤◌, ◌<◌, ◌+◌, ◌-◌, ◌++◌, ◌∷◌, [], length, map, vec_len, vec_capacity, OnOk, OnErr};
-ghost use Rattle.lab_book.specs.EntryCode.{entry_of};
+ghost use Rattle.lab_book.specs.EntryCode.{entry_of, all_entries};
 
 use crate::entries::Entries;
 use crate::entry::Entry;
@@ -34,7 +34,7 @@ impl Model for History {
 /// Packs the first of the last entries.
 fn pack_first(rows: &mut Rows, row: &mut Row, last: &mut Vec<Entry>) -> Result<(), AllocError>
     requires { 0 < vec_len last.old }
-    ensures all { map entry_of rows.new.rows ++ last.new.items ≡ map entry_of rows.old.rows ++ last.old.items }
+    ensures all { all_entries rows.new last.new ≡ all_entries rows.old last.old }
     ensures fewer { OnOk result (vec_len last.new + 1 ≡ vec_len last.old) }
     ensures unchanged { OnErr result (vec_len last.new ≡ vec_len last.old) }
     ensures capacity { vec_capacity last.old ≤ vec_capacity last.new }
@@ -47,7 +47,7 @@ fn pack_first(rows: &mut Rows, row: &mut Row, last: &mut Vec<Entry>) -> Result<(
 
 /// Packs the last entries, as far as there is memory.
 fn pack(rows: &mut Rows, row: &mut Row, last: &mut Vec<Entry>)
-    ensures all { map entry_of rows.new.rows ++ last.new.items ≡ map entry_of rows.old.rows ++ last.old.items }
+    ensures all { all_entries rows.new last.new ≡ all_entries rows.old last.old }
     ensures fewer { vec_len last.new ≤ vec_len last.old }
     ensures capacity { vec_capacity last.old ≤ vec_capacity last.new }
 {

@@ -1,11 +1,13 @@
 //! Tiles: the parts into which a book parts the run.
-ghost use Rattle.std.specs.Prelude.{◌≡◌, ◌<◌, ◌≤◌, ◌++◌, ◌∷◌, [], length, take, option_map, Some, IfSome, OnOk, IfOk, IfErr, OnErr, ◌↔◌, IsTrue};
+ghost use Rattle.std.specs.Prelude.{◌≡◌, ◌<◌, ◌≤◌, ◌++◌, ◌∷◌, [], length, Some, IfSome, OnOk, IfOk, IfErr, OnErr, ◌↔◌, IsTrue};
+ghost use Rattle.cover_problem.specs.Answers.{Returns};
 ghost use Rattle.x_steps.specs.StateView.{state_value};
 ghost use Rattle.x_branches.specs.Branch.{end_of};
 ghost use Rattle.x_branches.specs.Cut.{cut_state};
 ghost use Rattle.lab_book.specs.Tile.{led_to, mark_of, tile_end};
 ghost use Rattle.lab_book.specs.Posted.{stretch_visits};
-ghost use Rattle.lab_book.specs.Book.{whole_tile, posted_tile, retracted_tile, last_of, stretches_to};
+ghost use Rattle.lab_book.specs.Book.{whole_tile, posted_tile, retracted_tile, last_of, kept_tile};
+ghost use Rattle.lab_book.specs.Calls.{LeadTo};
 
 mod parting;
 mod totals;
@@ -94,8 +96,7 @@ fn mark_place(
     first: &State,
     stretches: &[KeptStretch<'_>],
 ) -> Result<Option<usize>, AllocError>
-    ensures place { IfOk result (λ place. option_map (λ n. take n stretches.now) place ≡
-        stretches_to (state_value state.now) (state_value first.now) stretches.now) }
+    ensures place { IfOk result (LeadTo state.now (state_value first.now) stretches.now) }
     ensures within { IfOk result (λ place. IfSome place (λ n. n ≤ length stretches.now)) }
 {
     if state.same(first) {
@@ -281,7 +282,7 @@ impl<'p> Tile<'p> {
     /// Where so many of its first stretches lead.
     pub(crate) fn mark_after(&self, count: usize) -> Result<Mark, AllocError>
         requires { count ≤ length self.now.stretches }
-        ensures { IfOk result (λ mark. mark ≡ led_to self.now.first (take count self.now.stretches)) }
+        ensures { Returns result (mark_of (kept_tile count self.now)) }
     {
         if count == 0 {
             return self.parts.first.copy();
@@ -317,8 +318,8 @@ impl<'p> Tile<'p> {
     /// Keeps the first stretches alone: its mark is this one then.
     pub(crate) fn put_back(&mut self, count: usize, mark: Mark)
         requires some { count ≤ length self.old.stretches }
-        requires mark { mark ≡ led_to self.old.first (take count self.old.stretches) }
-        ensures { self.new ≡ record self.old { stretches = take count self.old.stretches } }
+        requires mark { mark ≡ mark_of (kept_tile count self.old) }
+        ensures { self.new ≡ kept_tile count self.old }
     {
         let parts = &mut *self.parts;
         parts.stretches.truncate(count);
@@ -327,8 +328,7 @@ impl<'p> Tile<'p> {
 
     /// How many stretches come before the first of its marks that is this state.
     pub(crate) fn mark_place(&self, state: &State) -> Result<Option<usize>, AllocError>
-        ensures place { IfOk result (λ place. option_map (λ n. take n self.now.stretches) place ≡
-            stretches_to (state_value state.now) self.now.first self.now.stretches) }
+        ensures place { IfOk result (LeadTo state.now self.now.first self.now.stretches) }
         ensures within { IfOk result (λ place. IfSome place (λ n. n ≤ length self.now.stretches)) }
     {
         let alloc = *self.parts.stretches.allocator();

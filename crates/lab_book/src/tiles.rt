@@ -1,12 +1,12 @@
 //! The tiles of a book in order, with what is kept beside them so that no call has to go over all.
-ghost use Rattle.std.specs.Prelude.{ℕ, ◌≡◌, ◌⊎◌, ◌≤◌, ◌<◌, ◌+◌, ◌-◌, ◌^◌, true, false, not, Some, take, cond, [], ◌∷◌, length, slice_set};
+ghost use Rattle.std.specs.Prelude.{ℕ, ◌≡◌, ◌⊎◌, ◌≤◌, ◌<◌, ◌+◌, ◌-◌, ◌^◌, true, false, not, Some, cond, [], ◌∷◌, length, slice_set};
 ghost use Rattle.std.specs.Prelude.{Option, None, IsOk, IfSome, OnOk, OnErr, IfErr, IfOk};
-ghost use Rattle.lab_book.specs.Tile.{TileValue, is_leased, is_waiting, is_held, is_closed, led_to, mark_of};
+ghost use Rattle.lab_book.specs.Tile.{TileValue, is_leased, is_waiting, is_held, is_closed, mark_of};
 ghost use Rattle.lab_book.specs.Tiling.{tile_at, AreNumbered};
 ghost use Rattle.lab_book.specs.Book.{tile_place, first_waiting, waiting_in, leased_in, found, status_fault, lease_fault, posted_tile};
-ghost use Rattle.lab_book.specs.Book.{retracted_tile};
+ghost use Rattle.lab_book.specs.Book.{retracted_tile, settled_tile, kept_tile};
 ghost use Rattle.lab_book.specs.Index.{WaitFrom};
-ghost use Rattle.lab_book.specs.Calls.{Judged, is_current};
+ghost use Rattle.lab_book.specs.Calls.{Judged, is_current, OutOfMemoryOr};
 
 mod splitting;
 
@@ -73,7 +73,7 @@ fn waits_from(from: usize, place: usize, waits: bool) -> usize
 
 /// The refusal of a lease that isn't a tile's current one.
 pub(crate) fn stale(tile: &Tile<'_>) -> BookFault
-    ensures { (result ≡ BookFault.OutOfMemory) ⊎ (result ≡ BookFault.StaleLease (mark_of tile.now)) }
+    ensures { OutOfMemoryOr result (result ≡ BookFault.StaleLease (mark_of tile.now)) }
 {
     match Mark::of(tile.mark()) {
         Ok(mark) => BookFault::StaleLease(mark),
@@ -276,7 +276,7 @@ impl<'p> Tiles<'p> {
     /// The tile at a place stands so from now on.
     pub fn settle(&mut self, i: usize, status: Status, stop: bool)
         requires { i < length self.old }
-        ensures { self.new ≡ slice_set self.old i (record (tile_at self.old i) { status = status; stop = stop }) }
+        ensures { self.new ≡ slice_set self.old i (settled_tile status stop (tile_at self.old i)) }
     {
         self.keep_place(i);
         let old = self.list[i].status();
@@ -312,10 +312,8 @@ impl<'p> Tiles<'p> {
     pub fn put_back(&mut self, i: usize, count: usize, mark: Mark)
         requires within { i < length self.old }
         requires some { count ≤ length (tile_at self.old i).stretches }
-        requires mark { mark ≡ led_to (tile_at self.old i).first
-            (take count (tile_at self.old i).stretches) }
-        ensures { self.new ≡ slice_set self.old i
-            (record (tile_at self.old i) { stretches = take count (tile_at self.old i).stretches }) }
+        requires mark { mark ≡ mark_of (kept_tile count (tile_at self.old i)) }
+        ensures { self.new ≡ slice_set self.old i (kept_tile count (tile_at self.old i)) }
     {
         self.keep_place(i);
         self.list[i].put_back(count, mark);

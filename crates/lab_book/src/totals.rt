@@ -1,7 +1,8 @@
 //! Totals for each level.
-ghost use Rattle.std.specs.Prelude.{◌≡◌, ◌<◌, ◌≤◌, ◌+◌, ◌^◌, ℕ, IfOk, length, map, replicate, slice_index};
+ghost use Rattle.std.specs.Prelude.{◌≡◌, ◌≤◌, ◌+◌, ℕ, IfOk, length, map, replicate, slice_index};
 ghost use Rattle.packed_states.specs.StateCode.{choice_of};
 ghost use Rattle.x_branches.specs.Refusals.{most_steps};
+ghost use Rattle.lab_book.specs.Posted.{HaveRoom};
 
 use packed_rows::Reader;
 use packed_states::choice;
@@ -17,7 +18,7 @@ pub(crate) fn no_totals(alloc: Global, items: u32) -> Result<Vec<u128>, AllocErr
 /// Adds to each total its count, as far as there are counts.
 pub(crate) fn add_counts(totals: &mut [u128], counts: Reader<'_>)
     requires levels { length counts ≤ length totals.old }
-    requires room { (level : ℕ) → level < length totals.old → slice_index totals.old level + most_steps < 2 ^ 128 }
+    requires room { HaveRoom totals.old most_steps }
     ensures levels { length totals.new ≡ length totals.old }
     ensures sums { (level : ℕ) → slice_index totals.new level ≡
         slice_index totals.old level + slice_index (map choice_of counts.entry) level }

@@ -1,11 +1,11 @@
 //! Leases are given up.
-ghost use Rattle.std.specs.Prelude.{◌≡◌, ◌≤◌, ◌<◌, true, false, None, length, slice_set, IsOk, IfOk, IfErr, OnOk, OnErr};
+ghost use Rattle.std.specs.Prelude.{◌≡◌, ◌≤◌, ◌<◌, true, false, length, slice_set, IsOk, IfOk, IfErr, OnOk, OnErr};
 ghost use Rattle.lab_book.specs.declared.entry.Call.TheVariants as calls;
 ghost use Rattle.lab_book.specs.declared.entry.Reply.TheVariants as replies;
 ghost use Rattle.lab_book.specs.Tile.{is_leased, Stands};
 ghost use Rattle.lab_book.specs.Tiling.{tile_at};
-ghost use Rattle.lab_book.specs.Book.{outcome, made_at, settled, freed, found, lease_fault, end_fault};
-ghost use Rattle.lab_book.specs.Calls.{Made, Refuses, Ends, EndRefused, Judged, is_current};
+ghost use Rattle.lab_book.specs.Book.{outcome, settled, end_fault, with_status, given_up};
+ghost use Rattle.lab_book.specs.Calls.{Made, Refuses, Ends, is_current, Finds, IfRefused, RefusesEnd};
 
 use crate::book::Book;
 use crate::entry::{Call, Entry, Reply};
@@ -21,7 +21,7 @@ impl<'p> Book<'p> {
         requires leased { is_leased (tile_at self.old.tiles i).status ≡ true }
         requires ends { is_leased status ≡ false }
         requires stands { Stands status (tile_at self.old.tiles i) }
-        requires outcome { outcome self.old w call ≡ settled self.old (λ t. record t { status = status }) i }
+        requires outcome { outcome self.old w call ≡ settled self.old (with_status status) i }
         ensures { Made self.old self.new w call replies.Done }
     {
         let stop = self.tiles.tile(i).stop();
@@ -35,7 +35,7 @@ impl<'p> Book<'p> {
 
     /// The place of the tile that is closed by its lease.
     pub(crate) fn close_place(&self, lease: Grant) -> Result<usize, BookFault>
-        ensures place { Judged result (found self.now.tiles lease.id (λ t. lease_fault lease t (end_fault t))) }
+        ensures place { Finds result self.now.tiles lease end_fault }
         ensures within { IfOk result (λ i. i < length self.now.tiles) }
         ensures leased { IfOk result (λ i. is_leased (tile_at self.now.tiles i).status ≡ true) }
         ensures ended { IfOk result (λ i. Stands Status.Closed (tile_at self.now.tiles i)) }
@@ -56,7 +56,7 @@ impl<'p> Book<'p> {
     /// where its mark isn't its end (8); the lease comes back.
     pub fn close(&mut self, lease: Lease) -> Result<(), Refused<BookFault, Lease>>
         ensures made { OnOk result (Ends self.old self.new calls.Close lease) }
-        ensures refused { IfErr result (λ r. EndRefused self.old self.new calls.Close lease r.fault) }
+        ensures refused { RefusesEnd result self.old self.new calls.Close lease }
         ensures given_back { IfErr result (λ r. r.given ≡ lease) }
     {
         let grant = lease.grant();
@@ -76,11 +76,10 @@ impl<'p> Book<'p> {
 
     /// Ends a lease at its tile's mark by this call: the tile waits, or is held where a stop was asked for.
     fn give_up(&mut self, lease: Lease, call: Call) -> Result<(), Refused<BookFault, Lease>>
-        requires { outcome self.old lease.worker call ≡ made_at self.old.tiles (settled self.old freed)
-            (found self.old.tiles lease.id (λ t. lease_fault lease t None)) }
+        requires { outcome self.old lease.worker call ≡ given_up self.old lease }
         ensures made { OnOk result (Made self.old self.new lease.worker call replies.Done) }
         ensures current { is_current self.old.tiles lease ≡ true → IsOk result }
-        ensures refused { IfErr result (λ r. Refuses self.old self.new lease.worker call r.fault) }
+        ensures refused { IfRefused result (Refuses self.old self.new lease.worker call) }
         ensures given_back { IfErr result (λ r. r.given ≡ lease) }
     {
         let grant = lease.grant();
@@ -100,7 +99,7 @@ impl<'p> Book<'p> {
     pub fn abandon(&mut self, lease: Lease) -> Result<(), Refused<BookFault, Lease>>
         ensures made { OnOk result (Ends self.old self.new calls.Abandon lease) }
         ensures current { is_current self.old.tiles lease ≡ true → IsOk result }
-        ensures refused { IfErr result (λ r. EndRefused self.old self.new calls.Abandon lease r.fault) }
+        ensures refused { RefusesEnd result self.old self.new calls.Abandon lease }
         ensures given_back { IfErr result (λ r. r.given ≡ lease) }
     {
         let call = Call::Abandon(lease.grant());
@@ -112,7 +111,7 @@ impl<'p> Book<'p> {
     pub fn park(&mut self, lease: Lease) -> Result<(), Refused<BookFault, Lease>>
         ensures made { OnOk result (Ends self.old self.new calls.Park lease) }
         ensures current { is_current self.old.tiles lease ≡ true → IsOk result }
-        ensures refused { IfErr result (λ r. EndRefused self.old self.new calls.Park lease r.fault) }
+        ensures refused { RefusesEnd result self.old self.new calls.Park lease }
         ensures given_back { IfErr result (λ r. r.given ≡ lease) }
     {
         let call = Call::Park(lease.grant());

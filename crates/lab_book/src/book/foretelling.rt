@@ -1,15 +1,15 @@
 //! The entry that a call would add, before the call is made: who keeps a record of the calls has it in hand then, and nothing
 //! can fail once the entry stands.
-ghost use Rattle.std.specs.Prelude.{◌≡◌, ◌<◌, ◌≤◌, false, None, length, cond, IfOk, OnOk};
+ghost use Rattle.std.specs.Prelude.{◌≡◌, ◌<◌, ◌≤◌, false, length, cond, IfOk, OnOk};
 ghost use Rattle.cover_problem.specs.Problem.{is_same};
+ghost use Rattle.cover_problem.specs.Answers.{Returns};
 ghost use Rattle.x_branches.specs.Cut.{cut_state};
-ghost use Rattle.x_steps.specs.StateView.{state_value};
 ghost use Rattle.lab_book.specs.declared.entry.Call.TheVariants as calls;
 ghost use Rattle.lab_book.specs.declared.entry.Reply.TheVariants as replies;
 ghost use Rattle.lab_book.specs.Tile.{is_waiting, mark_of};
 ghost use Rattle.lab_book.specs.Tiling.{tile_at};
-ghost use Rattle.lab_book.specs.Book.{outcome, made_at, settled, freed, found, lease_fault, lent, posted, path_of, waiting_in};
-ghost use Rattle.lab_book.specs.Calls.{next_entry, post_of, split_of};
+ghost use Rattle.lab_book.specs.Book.{outcome, lent, posted, path_of, waiting_in, given_up};
+ghost use Rattle.lab_book.specs.Calls.{next_entry, post_entry, split_entry, entry_by, back_to};
 
 use crate::book::Book;
 use crate::book::leasing::path_of;
@@ -108,8 +108,7 @@ impl<'p> Book<'p> {
         same: bool,
     ) -> Result<Entry, AllocError>
         requires { same ≡ is_same stretch.now.problem self.now.problem }
-        ensures { IfOk result (λ e. e ≡ next_entry self.now lease.now.worker
-            (post_of self.now.problem lease.now stretch.now)) }
+        ensures { Returns result (post_entry self.now lease.now stretch.now) }
     {
         let lease = lease.grant();
         let call = post_call(lease, stretch, same)?;
@@ -138,8 +137,7 @@ impl<'p> Book<'p> {
         same: bool,
     ) -> Result<Entry, AllocError>
         requires { same ≡ is_same cut.now.problem self.now.problem }
-        ensures { IfOk result (λ e. e ≡ next_entry self.now lease.now.worker
-            (split_of self.now.problem lease.now cut.now)) }
+        ensures { Returns result (split_entry self.now lease.now cut.now) }
     {
         let lease = lease.grant();
         let alloc = *self.first.state().path.allocator();
@@ -165,8 +163,7 @@ impl<'p> Book<'p> {
 
     /// The entry that the end of a lease at the tile's mark would add, by this call.
     fn foretell_end(&self, lease: Grant, call: Call) -> Result<Entry, AllocError>
-        requires { outcome self.now lease.worker call ≡ made_at self.now.tiles (settled self.now freed)
-            (found self.now.tiles lease.id (λ t. lease_fault lease t None)) }
+        requires { outcome self.now lease.worker call ≡ given_up self.now lease }
         ensures { IfOk result (λ e. e ≡ next_entry self.now lease.worker call) }
     {
         match self.tiles.leased_place(lease) {
@@ -185,7 +182,7 @@ impl<'p> Book<'p> {
 
     /// The entry that a park would add.
     pub fn foretell_park(&self, lease: &Lease) -> Result<Entry, AllocError>
-        ensures { IfOk result (λ e. e ≡ next_entry self.now lease.now.worker (calls.Park lease.now)) }
+        ensures { Returns result (entry_by self.now lease.now calls.Park) }
     {
         let grant = lease.grant();
         self.foretell_end(grant, Call::Park(grant))
@@ -193,7 +190,7 @@ impl<'p> Book<'p> {
 
     /// The entry that an abandon would add.
     pub fn foretell_abandon(&self, lease: &Lease) -> Result<Entry, AllocError>
-        ensures { IfOk result (λ e. e ≡ next_entry self.now lease.now.worker (calls.Abandon lease.now)) }
+        ensures { Returns result (entry_by self.now lease.now calls.Abandon) }
     {
         let grant = lease.grant();
         self.foretell_end(grant, Call::Abandon(grant))
@@ -201,7 +198,7 @@ impl<'p> Book<'p> {
 
     /// The entry that a close would add.
     pub fn foretell_close(&self, lease: &Lease) -> Result<Entry, AllocError>
-        ensures { IfOk result (λ e. e ≡ next_entry self.now lease.now.worker (calls.Close lease.now)) }
+        ensures { Returns result (entry_by self.now lease.now calls.Close) }
     {
         let lease = lease.grant();
         let call = Call::Close(lease);
@@ -259,7 +256,7 @@ impl<'p> Book<'p> {
 
     /// The entry that a put back to a state would add.
     pub fn foretell_put_back(&self, w: u8, id: u64, state: &State) -> Result<Entry, AllocError>
-        ensures { IfOk result (λ e. e ≡ next_entry self.now w (calls.PutBack id (state_value state.now))) }
+        ensures { Returns result (next_entry self.now w (back_to id state.now)) }
     {
         let mark = Mark::of(state)?;
         let call = Call::PutBack { id, state: mark };
@@ -279,7 +276,7 @@ impl<'p> Book<'p> {
 
     /// The entry that a retract would add.
     pub fn foretell_retract(&self, lease: &Lease) -> Result<Entry, AllocError>
-        ensures { IfOk result (λ e. e ≡ next_entry self.now lease.now.worker (calls.Retract lease.now)) }
+        ensures { Returns result (entry_by self.now lease.now calls.Retract) }
     {
         let lease = lease.grant();
         let call = Call::Retract(lease);

@@ -1,11 +1,10 @@
 //! Leases are given.
 ghost use Rattle.std.specs.Prelude.{◌≡◌, ◌≤◌, ◌<◌, false, length, option_map, IfOk, IfErr, OnErr, IfSome};
 ghost use Rattle.x_steps.specs.StateView.{state_value};
-ghost use Rattle.x_branches.specs.Refusals.{CanStart};
 ghost use Rattle.lab_book.specs.Tile.{is_leased, mark_of};
 ghost use Rattle.lab_book.specs.Tiling.{tile_at};
 ghost use Rattle.lab_book.specs.Book.{outcome, lent, path_of, book_step};
-ghost use Rattle.lab_book.specs.Calls.{Made, Refuses, leased_reply, any_reply};
+ghost use Rattle.lab_book.specs.Calls.{Made, Refuses, any_reply, CanBeSearched, Leases};
 
 use crate::book::Book;
 use crate::entry::{Call, Entry, Reply};
@@ -67,8 +66,8 @@ impl<'p> Book<'p> {
         requires within { i < length self.old.tiles }
         requires free { is_leased (tile_at self.old.tiles i).status ≡ false }
         requires outcome { outcome self.old w call ≡ lent self.old w i }
-        ensures made { IfOk result (λ r. Made self.old self.new w call (leased_reply r)) }
-        ensures can_start { IfOk result (λ r. CanStart self.old.problem r.branch (state_value r.mark)) }
+        ensures made { IfOk result (Leases self.old self.new w call) }
+        ensures can_start { IfOk result (CanBeSearched self.old.problem) }
         ensures worker { IfOk result (λ r. r.lease.worker ≡ w) }
         ensures refused { IfErr result (λ f. (f ≡ BookFault.OutOfMemory) × (self.new ≡ self.old)) }
     {
@@ -118,8 +117,8 @@ impl<'p> Book<'p> {
     /// Leases the tile with an id, which has to wait. Refused where no tile has it (1), then where it doesn't wait (2).
     pub fn lease(&mut self, w: u8, id: u64) -> Result<Leased<'p>, BookFault>
         requires { w ≤ 31 }
-        ensures made { IfOk result (λ r. Made self.old self.new w (Call.Lease id) (leased_reply r)) }
-        ensures can_start { IfOk result (λ r. CanStart self.old.problem r.branch (state_value r.mark)) }
+        ensures made { IfOk result (Leases self.old self.new w (Call.Lease id)) }
+        ensures can_start { IfOk result (CanBeSearched self.old.problem) }
         ensures worker { IfOk result (λ r. r.lease.worker ≡ w) }
         ensures refused { IfErr result (λ f. Refuses self.old self.new w (Call.Lease id) f) }
     {
@@ -134,7 +133,7 @@ impl<'p> Book<'p> {
     pub fn lease_any(&mut self, w: u8) -> Result<Option<Leased<'p>>, AllocError>
         requires { w ≤ 31 }
         ensures made { IfOk result (λ r. Made self.old self.new w Call.LeaseAny (any_reply r)) }
-        ensures can_start { IfOk result (λ r. IfSome r (λ l. CanStart self.old.problem l.branch (state_value l.mark))) }
+        ensures can_start { IfOk result (λ r. IfSome r (CanBeSearched self.old.problem)) }
         ensures worker { IfOk result (λ r. IfSome r (λ l. l.lease.worker ≡ w)) }
         ensures unchanged { OnErr result (self.new ≡ self.old) }
     {
@@ -157,8 +156,8 @@ impl<'p> Book<'p> {
     /// where it isn't held (2).
     pub fn take_held(&mut self, w: u8, id: u64) -> Result<Leased<'p>, BookFault>
         requires { w ≤ 31 }
-        ensures made { IfOk result (λ r. Made self.old self.new w (Call.TakeHeld id) (leased_reply r)) }
-        ensures can_start { IfOk result (λ r. CanStart self.old.problem r.branch (state_value r.mark)) }
+        ensures made { IfOk result (Leases self.old self.new w (Call.TakeHeld id)) }
+        ensures can_start { IfOk result (CanBeSearched self.old.problem) }
         ensures worker { IfOk result (λ r. r.lease.worker ≡ w) }
         ensures refused { IfErr result (λ f. Refuses self.old self.new w (Call.TakeHeld id) f) }
     {

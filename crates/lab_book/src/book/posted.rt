@@ -1,10 +1,8 @@
 //! What was posted of a book's branch.
 ghost use Rattle.std.specs.Prelude.{◌≡◌, ◌<◌, ◌^◌, ◌↔◌, length, IsTrue, IfOk};
-ghost use Rattle.x_steps.specs.Levels.{trimmed_levels};
+ghost use Rattle.cover_problem.specs.Answers.{ReturnsItems};
 ghost use Rattle.x_steps.specs.Order.{PathsRise};
-ghost use Rattle.x_steps.specs.Run.{steps_between, visits_between};
-ghost use Rattle.x_branches.specs.Branch.{end_of};
-ghost use Rattle.lab_book.specs.Posted.{posted_count, posted_steps, posted_levels, posted_visits, AllClosed};
+ghost use Rattle.lab_book.specs.Posted.{posted_count, posted_steps, posted_levels, posted_visits, AllClosed, whole_visits, whole_steps, whole_levels};
 
 use crate::book::Book;
 use crate::totals::no_totals;
@@ -28,8 +26,7 @@ impl<'p> Book<'p> {
     pub fn visits(&self) -> Result<Lists, AllocError>
         ensures visits { IfOk result (λ paths. paths ≡ posted_visits self.now.tiles) }
         ensures rise { IfOk result (λ paths. PathsRise paths) }
-        ensures whole { IfOk result (λ paths. AllClosed self.now.tiles →
-            paths ≡ visits_between self.now.problem self.now.first (end_of self.now.branch.hi)) }
+        ensures whole { IfOk result (λ paths. AllClosed self.now.tiles → paths ≡ whole_visits self.now) }
     {
         let mut visits = Lists::new(*self.first.state().path.allocator());
         for tile in self.tiles.list() {
@@ -49,8 +46,7 @@ impl<'p> Book<'p> {
     /// first mark to the branch's end.
     pub fn visited(&self) -> u128
         ensures visited { result ≡ length (posted_visits self.now.tiles) }
-        ensures whole { AllClosed self.now.tiles →
-            result ≡ length (visits_between self.now.problem self.now.first (end_of self.now.branch.hi)) }
+        ensures whole { AllClosed self.now.tiles → result ≡ length (whole_visits self.now) }
     {
         self.count_calls();
         let mut visited: u128 = 0;
@@ -64,8 +60,7 @@ impl<'p> Book<'p> {
     /// end.
     pub fn steps(&self) -> u128
         ensures steps { result ≡ posted_steps self.now.tiles }
-        ensures whole { AllClosed self.now.tiles →
-            result ≡ steps_between self.now.problem self.now.first (end_of self.now.branch.hi) }
+        ensures whole { AllClosed self.now.tiles → result ≡ whole_steps self.now }
     {
         self.count_calls();
         let mut steps: u128 = 0;
@@ -78,9 +73,8 @@ impl<'p> Book<'p> {
     /// How many X2 states the posted stretches have at each level from 0 on, up to the last level that has one: where all tiles
     /// are closed, the run has so many from the first mark to the branch's end.
     pub fn levels(&self) -> Result<Vec<u128>, AllocError>
-        ensures levels { IfOk result (λ levels. levels.items ≡ posted_levels self.now.problem self.now.tiles) }
-        ensures whole { IfOk result (λ levels. AllClosed self.now.tiles →
-            levels.items ≡ trimmed_levels self.now.problem self.now.first (end_of self.now.branch.hi)) }
+        ensures levels { ReturnsItems result (posted_levels self.now.problem self.now.tiles) }
+        ensures whole { IfOk result (λ levels. AllClosed self.now.tiles → levels.items ≡ whole_levels self.now) }
     {
         self.count_calls();
         let alloc = *self.first.state().path.allocator();

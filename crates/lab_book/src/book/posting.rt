@@ -5,8 +5,8 @@ ghost use Rattle.x_steps.specs.StateView.{state_value};
 ghost use Rattle.lab_book.specs.declared.entry.Call.TheVariants as calls;
 ghost use Rattle.lab_book.specs.Tile.{is_leased};
 ghost use Rattle.lab_book.specs.Tiling.{tile_at};
-ghost use Rattle.lab_book.specs.Book.{outcome, posted, found, lease_fault, stretch_fault};
-ghost use Rattle.lab_book.specs.Calls.{Made, Posts, PostRefused, Judged, Doubted, posted_reply};
+ghost use Rattle.lab_book.specs.Book.{outcome, posted, post_fault};
+ghost use Rattle.lab_book.specs.Calls.{Made, Posts, PostRefused, Doubted, posted_reply, Finds, IfRefused};
 
 use crate::book::{Book, out_of_memory};
 use crate::entry::{Call, Entry, Reply};
@@ -38,7 +38,7 @@ impl<'p> Book<'p> {
     fn against_post(&self, i: usize, stretch: &Stretch<'_>, same: bool) -> Option<BookFault>
         requires within { i < length self.now.tiles }
         requires same { same ≡ is_same stretch.now.problem self.now.problem }
-        ensures { Doubted result (stretch_fault self.now.problem stretch.now.from stretch.now.to same (tile_at self.now.tiles i)) }
+        ensures { Doubted result (post_fault self.now stretch.now same (tile_at self.now.tiles i)) }
     {
         if !same {
             return Some(BookFault::ForeignProblem);
@@ -61,12 +61,11 @@ impl<'p> Book<'p> {
         same: bool,
     ) -> Result<usize, BookFault>
         requires { same ≡ is_same stretch.now.problem self.now.problem }
-        ensures place { Judged result (found self.now.tiles lease.id
-            (λ t. lease_fault lease t (stretch_fault self.now.problem stretch.now.from stretch.now.to same t))) }
+        ensures place { Finds result self.now.tiles lease (post_fault self.now stretch.now same) }
         ensures within { IfOk result (λ i. i < length self.now.tiles) }
         ensures leased { IfOk result (λ i. is_leased (tile_at self.now.tiles i).status ≡ true) }
         ensures fine { IfOk result (λ i.
-            stretch_fault self.now.problem stretch.now.from stretch.now.to same (tile_at self.now.tiles i) ≡ None) }
+            post_fault self.now stretch.now same (tile_at self.now.tiles i) ≡ None) }
     {
         let i = match self.tiles.leased_place(lease) {
             Ok(i) => i,
@@ -89,7 +88,7 @@ impl<'p> Book<'p> {
         requires within { i < length self.old.tiles }
         requires leased { is_leased (tile_at self.old.tiles i).status ≡ true }
         requires same { stretch.problem ≡ self.old.problem }
-        requires fine { stretch_fault self.old.problem stretch.from stretch.to true (tile_at self.old.tiles i) ≡ None }
+        requires fine { post_fault self.old stretch true (tile_at self.old.tiles i) ≡ None }
         requires outcome { outcome self.old w call ≡ posted self.old stretch.from stretch.to i }
         ensures made { IfOk result (λ r. Made self.old self.new w call (posted_reply r)) }
         ensures unchanged { OnErr result (self.new ≡ self.old) }
@@ -123,7 +122,7 @@ impl<'p> Book<'p> {
     ) -> Result<Posted, Refused<BookFault, Stretch<'p>>>
         requires { same ≡ is_same stretch.problem self.old.problem }
         ensures made { IfOk result (λ r. Posts self.old self.new lease.now stretch.entry r) }
-        ensures refused { IfErr result (λ r. PostRefused self.old self.new lease.now stretch.entry r.fault) }
+        ensures refused { IfRefused result (PostRefused self.old self.new lease.now stretch.entry) }
         ensures given_back { IfErr result (λ r. r.given ≡ stretch.entry) }
     {
         let lease = lease.grant();
@@ -149,7 +148,7 @@ impl<'p> Book<'p> {
         stretch: Stretch<'p>,
     ) -> Result<Posted, Refused<BookFault, Stretch<'p>>>
         ensures made { IfOk result (λ r. Posts self.old self.new lease.now stretch.entry r) }
-        ensures refused { IfErr result (λ r. PostRefused self.old self.new lease.now stretch.entry r.fault) }
+        ensures refused { IfRefused result (PostRefused self.old self.new lease.now stretch.entry) }
         ensures given_back { IfErr result (λ r. r.given ≡ stretch.entry) }
     {
         let same = stretch.problem().same(self.problem);

@@ -7,8 +7,8 @@ ghost use Rattle.lab_book.specs.declared.entry.Call.TheVariants as calls;
 ghost use Rattle.lab_book.specs.declared.entry.Reply.TheVariants as replies;
 ghost use Rattle.lab_book.specs.Tile.{is_leased};
 ghost use Rattle.lab_book.specs.Tiling.{tile_at};
-ghost use Rattle.lab_book.specs.Book.{outcome, split, ended_tile, found, lease_fault, cut_fault};
-ghost use Rattle.lab_book.specs.Calls.{Made, Splits, SplitRefused, Judged, Doubted};
+ghost use Rattle.lab_book.specs.Book.{outcome, split, ended_tile, split_fault};
+ghost use Rattle.lab_book.specs.Calls.{Made, Splits, SplitRefused, Doubted, Finds, IfRefused};
 
 use crate::book::{Book, out_of_memory};
 use crate::entry::{Call, Entry, Reply};
@@ -42,7 +42,7 @@ impl<'p> Book<'p> {
         requires within { i < length self.now.tiles }
         requires same { same ≡ is_same cut.now.problem self.now.problem }
         requires state { state_value state.now ≡ cut_state cut.now.path }
-        ensures { Doubted result (cut_fault self.now.problem cut.now.path same (tile_at self.now.tiles i)) }
+        ensures { Doubted result (split_fault self.now cut.now same (tile_at self.now.tiles i)) }
     {
         if !same {
             return Some(BookFault::ForeignProblem);
@@ -68,11 +68,10 @@ impl<'p> Book<'p> {
     ) -> Result<usize, BookFault>
         requires same { same ≡ is_same cut.now.problem self.now.problem }
         requires state { state_value state.now ≡ cut_state cut.now.path }
-        ensures place { Judged result (found self.now.tiles lease.id
-            (λ t. lease_fault lease t (cut_fault self.now.problem cut.now.path same t))) }
+        ensures place { Finds result self.now.tiles lease (split_fault self.now cut.now same) }
         ensures within { IfOk result (λ i. i < length self.now.tiles) }
         ensures leased { IfOk result (λ i. is_leased (tile_at self.now.tiles i).status ≡ true) }
-        ensures fine { IfOk result (λ i. cut_fault self.now.problem cut.now.path same (tile_at self.now.tiles i) ≡ None) }
+        ensures fine { IfOk result (λ i. split_fault self.now cut.now same (tile_at self.now.tiles i) ≡ None) }
     {
         let i = match self.tiles.leased_place(lease) {
             Ok(i) => i,
@@ -96,7 +95,7 @@ impl<'p> Book<'p> {
         requires within { i < length self.old.tiles }
         requires leased { is_leased (tile_at self.old.tiles i).status ≡ true }
         requires same { cut.problem ≡ self.old.problem }
-        requires fine { cut_fault self.old.problem cut.path true (tile_at self.old.tiles i) ≡ None }
+        requires fine { split_fault self.old cut true (tile_at self.old.tiles i) ≡ None }
         requires tail { tail ≡ ended_tile cut }
         requires outcome { outcome self.old w call ≡ split self.old cut.path i }
         ensures made { IfOk result (λ id. Made self.old self.new w call (replies.Split id)) }
@@ -132,7 +131,7 @@ impl<'p> Book<'p> {
     ) -> Result<u64, Refused<BookFault, Cut<'p>>>
         requires { same ≡ is_same cut.problem self.old.problem }
         ensures made { IfOk result (λ id. Splits self.old self.new lease.now cut.entry id) }
-        ensures refused { IfErr result (λ r. SplitRefused self.old self.new lease.now cut.entry r.fault) }
+        ensures refused { IfRefused result (SplitRefused self.old self.new lease.now cut.entry) }
         ensures given_back { IfErr result (λ r. r.given ≡ cut.entry) }
     {
         let lease = lease.grant();
@@ -156,7 +155,7 @@ impl<'p> Book<'p> {
     /// end (6); the cut comes back.
     pub fn split(&mut self, lease: &Lease, cut: Cut<'p>) -> Result<u64, Refused<BookFault, Cut<'p>>>
         ensures made { IfOk result (λ id. Splits self.old self.new lease.now cut.entry id) }
-        ensures refused { IfErr result (λ r. SplitRefused self.old self.new lease.now cut.entry r.fault) }
+        ensures refused { IfRefused result (SplitRefused self.old self.new lease.now cut.entry) }
         ensures given_back { IfErr result (λ r. r.given ≡ cut.entry) }
     {
         let same = cut.problem().same(self.problem);

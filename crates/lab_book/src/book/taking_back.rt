@@ -1,12 +1,11 @@
 //! Tiles are asked to stop, and what was posted is taken out again.
-ghost use Rattle.std.specs.Prelude.{◌≡◌, ◌⊎◌, ◌≤◌, ◌<◌, true, Ok, Err, IfOk, IfErr, OnOk, length};
+ghost use Rattle.std.specs.Prelude.{◌≡◌, ◌≤◌, ◌<◌, true, Ok, Err, IfOk, IfErr, OnOk, length};
 ghost use Rattle.x_steps.specs.StateView.{state_value};
-ghost use Rattle.lab_book.specs.declared.entry.Call.TheVariants as calls;
 ghost use Rattle.lab_book.specs.declared.entry.Reply.TheVariants as replies;
 ghost use Rattle.lab_book.specs.Tile.{is_leased, is_free};
 ghost use Rattle.lab_book.specs.Tiling.{tile_at};
-ghost use Rattle.lab_book.specs.Book.{found, lease_fault, retract_fault, mark_fault};
-ghost use Rattle.lab_book.specs.Calls.{Made, Refuses, Judged, GoesBack};
+ghost use Rattle.lab_book.specs.Book.{retract_fault, back_place};
+ghost use Rattle.lab_book.specs.Calls.{Made, Refuses, GoesBack, Finds, Retracts, OutOfMemoryOr, back_to};
 
 use crate::book::Book;
 use crate::entry::{Call, Entry, Reply};
@@ -54,7 +53,7 @@ impl<'p> Book<'p> {
 
     /// The place of the tile whose last stretch is taken out.
     pub(crate) fn retract_place(&self, lease: Grant) -> Result<usize, BookFault>
-        ensures place { Judged result (found self.now.tiles lease.id (λ t. lease_fault lease t (retract_fault t))) }
+        ensures place { Finds result self.now.tiles lease retract_fault }
         ensures within { IfOk result (λ i. i < length self.now.tiles) }
         ensures leased { IfOk result (λ i. is_leased (tile_at self.now.tiles i).status ≡ true) }
         ensures some { IfOk result (λ i. 0 < length (tile_at self.now.tiles i).stretches) }
@@ -73,8 +72,7 @@ impl<'p> Book<'p> {
     /// Takes the last posted stretch of the leased tile out: the tile's mark is then where it began. Refused where no tile has the
     /// lease's id (1), where the lease isn't its current one (3), and where nothing was posted (9).
     pub fn retract(&mut self, lease: &Lease) -> Result<Stretch<'p>, BookFault>
-        ensures made { IfOk result (λ x.
-            Made self.old self.new lease.now.worker (Call.Retract lease.now) (replies.Retracted x.from x.to)) }
+        ensures made { IfOk result (Retracts self.old self.new lease.now) }
         ensures problem { IfOk result (λ x. x.problem ≡ self.old.problem) }
         ensures refused { IfErr result (λ f. Refuses self.old self.new lease.now.worker (Call.Retract lease.now) f) }
     {
@@ -103,12 +101,11 @@ impl<'p> Book<'p> {
 
     /// The place of the tile that goes back to a state, and how many stretches it keeps.
     pub(crate) fn mark_place(&self, id: u64, state: &State) -> Result<(usize, usize), BookFault>
-        ensures place { IfOk result (λ x. found self.now.tiles id (mark_fault (state_value state.now)) ≡ Ok x.0) }
+        ensures place { IfOk result (λ x. back_place self.now.tiles id state.now ≡ Ok x.0) }
         ensures within { IfOk result (λ x. x.0 < length self.now.tiles) }
         ensures free { IfOk result (λ x. is_free (tile_at self.now.tiles x.0).status ≡ true) }
         ensures kept { IfOk result (λ x. GoesBack (tile_at self.now.tiles x.0) (state_value state.now) x.1) }
-        ensures refused { IfErr result (λ f. (f ≡ BookFault.OutOfMemory) ⊎
-            (found self.now.tiles id (mark_fault (state_value state.now)) ≡ Err f)) }
+        ensures refused { IfErr result (λ f. OutOfMemoryOr f (back_place self.now.tiles id state.now ≡ Err f)) }
     {
         let Some(i) = self.tiles.place(id) else {
             return Err(BookFault::UnknownBranch);
@@ -128,8 +125,8 @@ impl<'p> Book<'p> {
     /// Refused where no tile has the id (1), where it is leased or closed (2), and where the state is none of its marks (7).
     pub fn put_back(&mut self, w: u8, id: u64, state: &State) -> Result<(), BookFault>
         requires { w ≤ 31 }
-        ensures made { OnOk result (Made self.old self.new w (calls.PutBack id (state_value state.now)) replies.Done) }
-        ensures refused { IfErr result (λ f. Refuses self.old self.new w (calls.PutBack id (state_value state.now)) f) }
+        ensures made { OnOk result (Made self.old self.new w (back_to id state.now) replies.Done) }
+        ensures refused { IfErr result (Refuses self.old self.new w (back_to id state.now)) }
     {
         let Ok(copy) = Mark::of(state) else {
             return Err(BookFault::OutOfMemory);

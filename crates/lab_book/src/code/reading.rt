@@ -1,9 +1,10 @@
 //! Entries made of their numbers.
-ghost use Rattle.std.specs.Prelude.{◌≡◌, ℕ, List, slice_index, IfOk, OnOk};
+ghost use Rattle.std.specs.Prelude.{◌≡◌, ℕ, List, IfOk, OnOk};
+ghost use Rattle.cover_problem.specs.Answers.{Returns};
 ghost use Rattle.packed_states.specs.StateCode.{later, path_of, path_rest, state_of, state_rest};
-ghost use Rattle.lab_book.specs.EntryCode.{worker_of, bool_of, cut_of, cut_rest};
+ghost use Rattle.lab_book.specs.EntryCode.{worker_of, cut_of, cut_rest, retracted_read};
 ghost use Rattle.lab_book.specs.EntryCode.{grant_of, grant_rest, fault_of, fault_with, call_of, call_rest, call_with, call_rest_with};
-ghost use Rattle.lab_book.specs.EntryCode.{post_read, split_read, leased_read, reply_of, reply_with, entry_of};
+ghost use Rattle.lab_book.specs.EntryCode.{post_read, split_read, leased_read, reply_of, reply_with, entry_of, put_back_read, posted_read};
 ghost use Rattle.lab_book.specs.Kinds.{kind_of};
 
 use crate::entry::{Call, Entry, Reply};
@@ -119,7 +120,7 @@ fn read_split(alloc: Global, reader: &mut Reader<'_>) -> Result<Call, AllocError
 
 /// Reads a call that takes a tile back to a state.
 fn read_put_back(alloc: Global, reader: &mut Reader<'_>) -> Result<Call, AllocError>
-    ensures call { IfOk result (λ call. call ≡ Call.PutBack (slice_index reader.old 0) (state_of (later reader.old))) }
+    ensures call { Returns result (put_back_read reader.old) }
     ensures rest { OnOk result (reader.new ≡ state_rest (later reader.old)) }
 {
     let id = reader.number();
@@ -177,7 +178,7 @@ fn read_leased(alloc: Global, reader: &mut Reader<'_>) -> Result<Reply, AllocErr
 
 /// Reads the answer to a worker that posts.
 fn read_posted(reader: &mut Reader<'_>) -> Reply
-    ensures { result ≡ Reply.Posted (bool_of (slice_index reader.old 0)) (slice_index (later reader.old) 0) }
+    ensures { result ≡ posted_read reader.old }
 {
     let stop = reader.number() != 0;
     let waiting = reader.number();
@@ -186,7 +187,7 @@ fn read_posted(reader: &mut Reader<'_>) -> Reply
 
 /// Reads the answer to a worker that takes a stretch out again.
 fn read_retracted(alloc: Global, reader: &mut Reader<'_>) -> Result<Reply, AllocError>
-    ensures { IfOk result (λ reply. reply ≡ Reply.Retracted (state_of reader.old) (state_of (state_rest reader.old))) }
+    ensures { Returns result (retracted_read reader.old) }
 {
     let from = read_mark(alloc, reader)?;
     let to = read_mark(alloc, reader)?;

@@ -1,8 +1,8 @@
 //! What the stretches of a tile count: their visits, their steps, and their X2 states at each level.
-ghost use Rattle.std.specs.Prelude.{◌≡◌, ◌<◌, ◌≤◌, ◌+◌, ◌*◌, ◌^◌, ℕ, All, length, slice_index};
+ghost use Rattle.std.specs.Prelude.{◌≡◌, ◌<◌, ◌≤◌, ◌+◌, ◌*◌, ℕ, All, length, slice_index};
 ghost use Rattle.x_branches.specs.Refusals.{most_steps};
 ghost use Rattle.x_branches.specs.Stretch.{StretchValue};
-ghost use Rattle.lab_book.specs.Posted.{stretch_visits, stretch_steps, stretch_level};
+ghost use Rattle.lab_book.specs.Posted.{stretch_visits, stretch_steps, stretch_level, HaveRoom};
 
 use crate::tile::Tile;
 use crate::totals::add_counts;
@@ -35,8 +35,7 @@ impl<'p> Tile<'p> {
     /// Adds for each level how many X2 states its stretches have there.
     pub(crate) fn add_levels(&self, totals: &mut [u128])
         requires levels { All (λ (x : StretchValue). length x.problem.names + 1 ≡ length totals.old) self.now.stretches }
-        requires room { (level : ℕ) → level < length totals.old →
-            slice_index totals.old level + most_steps * length self.now.stretches < 2 ^ 128 }
+        requires room { HaveRoom totals.old (most_steps * length self.now.stretches) }
         ensures levels { length totals.new ≡ length totals.old }
         ensures sums { (level : ℕ) → level < length totals.old →
             slice_index totals.new level ≡ slice_index totals.old level + stretch_level self.now.stretches level }

@@ -1,7 +1,7 @@
 //! One more tile stands among the others.
-ghost use Rattle.std.specs.Prelude.{◌≡◌, ◌<◌, ◌+◌, ◌++◌, length, take, drop, IfOk, OnOk, OnErr, IfErr};
-ghost use Rattle.lab_book.specs.Tiling.{tile_at, AreNumbered};
-ghost use Rattle.lab_book.specs.Book.{ended_tile, split_tiles};
+ghost use Rattle.std.specs.Prelude.{◌≡◌, ◌<◌, length, IfOk, OnOk, OnErr, IfErr};
+ghost use Rattle.lab_book.specs.Tiling.{AreNumbered};
+ghost use Rattle.lab_book.specs.Book.{ended_tile, tiles_split};
 
 use crate::tile::Tile;
 use crate::tiles::Tiles;
@@ -13,8 +13,7 @@ impl<'p> Tiles<'p> {
     pub fn split(&mut self, i: usize, cut: Cut<'p>, tail: Tile<'p>) -> Result<u64, Cut<'p>>
         requires within { i < length self.old }
         requires tail { tail ≡ ended_tile cut }
-        ensures tiles { OnOk result (self.new ≡ take i self.old ++ split_tiles (tile_at self.old i) (length self.old) cut.entry
-            ++ drop (i + 1) self.old) }
+        ensures tiles { OnOk result (self.new ≡ tiles_split self.old i cut.entry) }
         ensures numbered { OnOk result (AreNumbered self.new) }
         ensures id { IfOk result (λ id. id ≡ length self.old) }
         ensures unchanged { OnErr result (self.new ≡ self.old) }

@@ -10,8 +10,8 @@ use Rattle.lab_book.specs.declared.entry.Reply.{Reply}
 use Rattle.lab_book.specs.declared.entry.Reply.TheVariants as reply
 use Rattle.lab_book.specs.Tile.{TileValue, is_closed, is_lease}
 use Rattle.lab_book.specs.Tiling.{tile_at, IsTiling}
-use Rattle.lab_book.specs.Book.{BookValue, Outcome}
-use Rattle.alike_books.specs.AlikeBooks.{anonymous_tile, open_part}
+use Rattle.lab_book.specs.Book.{BookValue, Outcome, outcome}
+use Rattle.alike_books.specs.AlikeBooks.{anonymous_tile, open_part, AreAlikeBooks, IsTiled}
 
 -- place i of some tiles and place j of others correspond: the same open tile stands there, but for its id and its lease, and so do the
 -- open tiles before it and behind it
@@ -22,6 +22,18 @@ pub record Correspond (ts : List TileValue) (i : ℕ) (us : List TileValue) (j :
   pub tile : anonymous_tile (tile_at ts i) ≡ anonymous_tile (tile_at us j)
   pub before : open_part (take i ts) ≡ open_part (take j us)
   pub behind : open_part (drop (suc i) ts) ≡ open_part (drop (suc j) us)
+
+-- the same open tile stands at place i of a book and at place j of another
+abbrev pub IsSameTile : BookValue → ℕ → BookValue → ℕ → Type 0
+IsSameTile a i b j = Correspond a.tiles i b.tiles j
+
+-- where an open tile stands at place i of a book, this is true
+abbrev pub IfOpen : BookValue → ℕ → Type 0 → Type 0
+IfOpen b i P = i < length b.tiles → is_closed (tile_at b.tiles i).status ≡ false → P
+
+-- the tile at place i of a book has its place in another
+abbrev pub HasPlaceIn : BookValue → ℕ → BookValue → Type 0
+HasPlaceIn a i b = (j : ℕ) × IsSameTile a i b j
 
 -- leases g and h name the same open tile of two books, which stands at i in the one and at j in the other: each has the tile's id
 -- there, and either both are the current lease, or neither
@@ -60,3 +72,8 @@ pub record AreAlikeOutcomes (a b : BookValue) (o q : Outcome) : Type 0 where
   pub reply : anonymous_reply o.reply ≡ anonymous_reply q.reply
   pub tiling : IsTiling a.problem a.branch a.first o.tiles →
       IsTiling b.problem b.branch b.first q.tiles
+
+-- where two books are alike and tiled, call c of the one, by worker v, has the same outcome as call d of the other, by worker w
+abbrev pub AnswerAlike : BookValue → ℕ → Call → BookValue → ℕ → Call → Type 0
+AnswerAlike a v c b w d =
+    IsTiled a → IsTiled b → AreAlikeBooks a b → AreAlikeOutcomes a b (outcome a v c) (outcome b w d)

@@ -43,3 +43,11 @@ pub record AreSoundAlike (a b : SessionValue) : Type 0 where
 pub record AreAlikeAnswers (a b : Answer) : Type 0 where
   pub text : a.text ≡ b.text
   pub sessions : AreSoundAlike a.session b.session
+
+-- an answer to a sound session leaves a sound one
+abbrev pub LeavesSound : SessionValue → Answer → Type 0
+LeavesSound s a = IsSoundSession s → IsSoundSession a.session
+
+-- where two sessions are sound and alike, they answer alike
+abbrev pub AgreeOn : SessionValue → SessionValue → (SessionValue → Answer) → Type 0
+AgreeOn a b f = AreSoundAlike a b → AreAlikeAnswers (f a) (f b)

@@ -1,7 +1,16 @@
 -- What a seat notes of its calls.
-use Rattle.std.specs.Prelude.{◌≡◌, ℕ, ◌+◌, ◌==◌, ◌⊎◌, List, [], ◌∷◌, ◌++◌, cond, drop, slice_index}
+use Rattle.std.specs.Prelude.{◌≡◌, ℕ, ◌+◌, ◌==◌, ◌⊎◌, List, [], ◌∷◌, ◌++◌, cond, drop, map, slice_index}
+use Rattle.std.specs.Prelude.{Option, MatchOption, Result, IfOk, IfErr, OnOk}
+use Rattle.cover_problem.specs.Problem.{ProblemValue}
+use Rattle.cover_problem.specs.declared.fault.Refused.{Refused}
+use Rattle.x_branches.specs.Cut.{CutPath}
+use Rattle.x_branches.specs.Stretch.{StretchValue}
 use Rattle.lab_book.specs.EntryCode.{entry_of}
+use Rattle.lab_book.specs.Calls.{post_of, split_of, posted_reply}
+use Rattle.lab_book.specs.declared.lease.Grant.{Grant}
+use Rattle.lab_book.specs.declared.lease.Posted.{Posted}
 use Rattle.lab_book.specs.declared.entry.Call.{Call}
+use Rattle.lab_book.specs.declared.entry.Call.TheVariants as call
 use Rattle.lab_book.specs.declared.entry.Reply.{Reply}
 use Rattle.lab_book.specs.declared.entry.Reply.TheVariants as reply
 use Rattle.lab_book.specs.declared.entry.Entry.{Entry}
@@ -16,6 +25,10 @@ noted i e = record { index = i; entry = e }
 -- the note that a row of numbers tells: its first number is the index, the others tell the entry
 abbrev pub note_of : List ℕ → Noted
 note_of ns = noted (slice_index ns 0) (entry_of (drop 1 ns))
+
+-- all notes: those that are packed into rows, and then the last ones
+abbrev pub all_notes : List (List ℕ) → List Noted → List Noted
+all_notes rows last = map note_of rows ++ last
 
 -- a seat: its number, the notes of the calls made there, and for how many more room is kept: one for each lease that the seat
 -- was given and has not ended
@@ -38,6 +51,10 @@ abbrev pub notes_of : ℕ → ℕ → List Entry → List Noted
 notes_of k i [] = []
 notes_of k i (e ∷ es) = cond (e.worker == k) (noted i e ∷ []) [] ++ notes_of k (i + 1) es
 
+-- the entries of a worker in a history, from an index on, with their indexes
+abbrev pub notes_from : ℕ → ℕ → List Entry → List Noted
+notes_from k from history = notes_of k from (drop from history)
+
 -- one call more of a worker is noted, with what it was answered
 abbrev pub Notes : List Noted → List Noted → ℕ → Call → Reply → Type 0
 Notes old new w c r = (i : ℕ) × (new ≡ old ++ noted i (entry w c r) ∷ [])
@@ -45,3 +62,52 @@ Notes old new w c r = (i : ℕ) × (new ≡ old ++ noted i (entry w c r) ∷ [])
 -- the same where it was refused; when out of memory, nothing is noted
 abbrev pub NotesRefusal : List Noted → List Noted → ℕ → Call → BookFault → Type 0
 NotesRefusal old new w c f = ((f ≡ OutOfMemory) × (new ≡ old)) ⊎ ((f ≡ OutOfMemory → ⊥) × Notes old new w c (reply.Refused f))
+
+-- a refusal has an entry in the history: any has but that memory ran out
+abbrev pub HasEntry : BookFault → Type 0
+HasEntry f = f ≡ OutOfMemory → ⊥
+
+-- ---- what is noted at a seat, by what a call returned
+
+-- a call that was answered is noted, with the reply that shows the answer
+abbrev pub NotesAnswer : {X E : Type 0} → SeatValue → SeatValue → Call → (X → Reply) → Result X E → Type 0
+NotesAnswer old new c view result = IfOk result (λ x. Notes old.notes new.notes old.number c (view x))
+
+-- a call that had nothing to answer is noted as done
+abbrev pub NotesDone : {X E : Type 0} → SeatValue → SeatValue → Call → Result X E → Type 0
+NotesDone old new c result = OnOk result (Notes old.notes new.notes old.number c reply.Done)
+
+-- a call that was refused is noted with its fault, unless memory ran out
+abbrev pub NotesFault : {X : Type 0} → SeatValue → SeatValue → Call → Result X BookFault → Type 0
+NotesFault old new c result = IfErr result (λ f. NotesRefusal old.notes new.notes old.number c f)
+
+-- the same, where what the call was given comes back with the fault
+abbrev pub NotesRefused : {X G : Type 0} → SeatValue → SeatValue → Call → Result X (Refused BookFault G) → Type 0
+NotesRefused old new c result = IfErr result (λ r. NotesRefusal old.notes new.notes old.number c r.fault)
+
+-- a post of this stretch, by this lease, to a book of this problem is noted with its answer
+abbrev pub NotesPost : {E : Type 0} → ProblemValue → SeatValue → SeatValue → Grant → StretchValue → Result Posted E → Type 0
+NotesPost p old new g x result = NotesAnswer old new (post_of p g x) posted_reply result
+
+-- where it was refused, it is noted with its fault
+abbrev pub NotesPostFault : {X G : Type 0}
+    → ProblemValue → SeatValue → SeatValue → Grant → StretchValue → Result X (Refused BookFault G) → Type 0
+NotesPostFault p old new g x result = NotesRefused old new (post_of p g x) result
+
+-- a split at this cut is noted with the new tile's id
+abbrev pub NotesSplit : {E : Type 0} → ProblemValue → SeatValue → SeatValue → Grant → CutPath → Result ℕ E → Type 0
+NotesSplit p old new g cut result = NotesAnswer old new (split_of p g cut) reply.Split result
+
+-- where it was refused, it is noted with its fault
+abbrev pub NotesSplitFault : {X G : Type 0}
+    → ProblemValue → SeatValue → SeatValue → Grant → CutPath → Result X (Refused BookFault G) → Type 0
+NotesSplitFault p old new g cut result = NotesRefused old new (split_of p g cut) result
+
+-- a stretch that was taken out again, by this lease, is noted by its ends
+abbrev pub NotesRetract : {E : Type 0} → SeatValue → SeatValue → Grant → Result StretchValue E → Type 0
+NotesRetract old new g result =
+    NotesAnswer old new (call.Retract g) (λ (x : StretchValue). reply.Retracted x.from x.to) result
+
+-- room is kept for one note more where there is such a thing, and else for as many as before
+abbrev pub KeepsRoomFor : {A : Type 0} → Option A → SeatValue → SeatValue → Type 0
+KeepsRoomFor o old new = MatchOption o (new.kept ≡ old.kept) (λ _. new.kept ≡ old.kept + 1)

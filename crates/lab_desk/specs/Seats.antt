@@ -1,5 +1,5 @@
 -- Desks, and what the notes of their seats say of a history.
-use Rattle.std.specs.Prelude.{◌≡◌, ◌<◌, ◌==◌, ℕ, nat_lt, Bool, List, [], slice_get, count_by, Some}
+use Rattle.std.specs.Prelude.{◌≡◌, ◌<◌, ◌==◌, ℕ, nat_lt, Bool, List, [], slice_get, count_by, drop, true, Some}
 use Rattle.std.specs.List.{list_all}
 use Rattle.lab_book.specs.declared.entry.Entry.{Entry}
 use Rattle.lab_desk.specs.Record.{SeatValue, notes_of}
@@ -24,6 +24,14 @@ HaveAllNumbers n seats = (k : ℕ) → k < n → seats_of k seats ≡ 1
 abbrev pub AreRecords : ℕ → List Entry → List SeatValue → Type 0
 AreRecords from entries seats = (i : ℕ) (s : SeatValue) → slice_get seats i ≡ Some s → s.notes ≡ notes_of s.number from entries
 
+-- the notes of each seat are the entries of its number in a history, from an index on
+abbrev pub AreRecordsFrom : ℕ → List Entry → List SeatValue → Type 0
+AreRecordsFrom from history seats = AreRecords from (drop from history) seats
+
 -- whether each entry is of a worker below n
 abbrev pub are_of_workers : ℕ → List Entry → Bool
 are_of_workers n entries = list_all (λ (e : Entry). nat_lt e.worker n) entries
+
+-- each entry of a history, from an index on, is of a worker below n
+abbrev pub AreOfWorkers : ℕ → ℕ → List Entry → Type 0
+AreOfWorkers from n history = are_of_workers n (drop from history) ≡ true

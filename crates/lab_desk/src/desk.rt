@@ -1,5 +1,5 @@
 //! A desk: a book under one lock, which each worker calls from a seat of its own.
-ghost use Rattle.std.specs.Prelude.{◌≡◌, ◌<◌, ◌≤◌, ◌+◌, ◌-◌, [], ◌∷◌, ◌++◌, IfOk, IfErr, OnErr, OnOk, IfSome, MatchOption, vec_len, vec_capacity, length, drop, take, true, List};
+ghost use Rattle.std.specs.Prelude.{◌≡◌, ◌<◌, ◌≤◌, ◌+◌, ◌-◌, [], ◌∷◌, ◌++◌, IfOk, IfErr, OnErr, OnOk, IfSome, vec_len, vec_capacity, length, take, List};
 ghost use Rattle.cover_problem.specs.Problem.{ProblemValue, is_same};
 ghost use Rattle.x_steps.specs.StateValue.{StateValue};
 ghost use Rattle.x_steps.specs.StateView.{state_value};
@@ -7,10 +7,9 @@ ghost use Rattle.x_branches.specs.declared.branch.Branch.{Branch};
 ghost use Rattle.x_branches.specs.Refusals.{CanStart};
 ghost use Rattle.lab_book.specs.declared.entry.Entry.{Entry};
 ghost use Rattle.lab_book.specs.declared.entry.Call.TheVariants as calls;
-ghost use Rattle.lab_book.specs.declared.entry.Reply.TheVariants as replies;
-ghost use Rattle.lab_book.specs.Calls.{leased_reply, any_reply, posted_reply, post_of, split_of};
-ghost use Rattle.lab_desk.specs.Record.{Notes, NotesRefusal};
-ghost use Rattle.lab_desk.specs.Seats.{AreNewSeats, HaveAllNumbers, AreRecords, are_of_workers};
+ghost use Rattle.lab_book.specs.Calls.{leased_reply, any_reply};
+ghost use Rattle.lab_desk.specs.Record.{NotesAnswer, NotesDone, NotesFault, NotesRefused, NotesPost, NotesPostFault, NotesSplit, NotesSplitFault, NotesRetract, KeepsRoomFor};
+ghost use Rattle.lab_desk.specs.Seats.{AreNewSeats, HaveAllNumbers, AreRecordsFrom, AreOfWorkers};
 
 use crate::finishing::tell_all;
 use crate::locked::Locked;
@@ -153,10 +152,8 @@ impl<'p, L: Desking> Desk<'p, L> {
         seat: &mut Seat<L>,
         id: u64,
     ) -> Result<Leased<'p>, BookFault>
-        ensures noted { IfOk result (λ r.
-            Notes seat.old.notes seat.new.notes seat.old.number (calls.Lease id) (leased_reply r)) }
-        ensures refused { IfErr result (λ f.
-            NotesRefusal seat.old.notes seat.new.notes seat.old.number (calls.Lease id) f) }
+        ensures noted { NotesAnswer seat.old seat.new (calls.Lease id) leased_reply result }
+        ensures refused { NotesFault seat.old seat.new (calls.Lease id) result }
         ensures can_start { IfOk result (λ r. CanStart L.whole r.branch (state_value r.mark)) }
         ensures worker { IfOk result (λ r. r.lease.worker ≡ seat.old.number) }
         ensures room { OnOk result (seat.new.kept ≡ seat.old.kept + 1) }
@@ -173,14 +170,12 @@ impl<'p, L: Desking> Desk<'p, L> {
         rt: &R,
         seat: &mut Seat<L>,
     ) -> Result<Option<Leased<'p>>, AllocError>
-        ensures noted { IfOk result (λ r.
-            Notes seat.old.notes seat.new.notes seat.old.number calls.LeaseAny (any_reply r)) }
+        ensures noted { NotesAnswer seat.old seat.new calls.LeaseAny any_reply result }
         ensures unchanged { OnErr result (seat.new.notes ≡ seat.old.notes) }
         ensures can_start { IfOk result
             (λ r. IfSome r (λ l. CanStart L.whole l.branch (state_value l.mark))) }
         ensures worker { IfOk result (λ r. IfSome r (λ l. l.lease.worker ≡ seat.old.number)) }
-        ensures room { IfOk result (λ r. MatchOption r (seat.new.kept ≡ seat.old.kept)
-            (λ _. seat.new.kept ≡ seat.old.kept + 1)) }
+        ensures room { IfOk result (λ r. KeepsRoomFor r seat.old seat.new) }
         ensures room_stays { OnErr result (seat.new.kept ≡ seat.old.kept) }
         ensures number { seat.new.number ≡ seat.old.number }
     {
@@ -199,12 +194,8 @@ impl<'p, L: Desking> Desk<'p, L> {
         stretch: Stretch<'p>,
     ) -> Result<Posted, Refused<BookFault, Stretch<'p>>>
         requires { lease.now.worker ≡ seat.old.number }
-        ensures noted { IfOk result (λ r.
-            Notes seat.old.notes seat.new.notes seat.old.number
-            (post_of L.whole lease.now stretch.entry) (posted_reply r)) }
-        ensures refused { IfErr result (λ r.
-            NotesRefusal seat.old.notes seat.new.notes seat.old.number
-            (post_of L.whole lease.now stretch.entry) r.fault) }
+        ensures noted { NotesPost L.whole seat.old seat.new lease.now stretch.entry result }
+        ensures refused { NotesPostFault L.whole seat.old seat.new lease.now stretch.entry result }
         ensures given_back { IfErr result (λ r. r.given ≡ stretch.entry) }
         ensures room { seat.new.kept ≡ seat.old.kept }
         ensures number { seat.new.number ≡ seat.old.number }
@@ -223,12 +214,8 @@ impl<'p, L: Desking> Desk<'p, L> {
         cut: Cut<'p>,
     ) -> Result<u64, Refused<BookFault, Cut<'p>>>
         requires { lease.now.worker ≡ seat.old.number }
-        ensures noted { IfOk result (λ id.
-            Notes seat.old.notes seat.new.notes seat.old.number
-            (split_of L.whole lease.now cut.entry) (replies.Split id)) }
-        ensures refused { IfErr result (λ r.
-            NotesRefusal seat.old.notes seat.new.notes seat.old.number
-            (split_of L.whole lease.now cut.entry) r.fault) }
+        ensures noted { NotesSplit L.whole seat.old seat.new lease.now cut.entry result }
+        ensures refused { NotesSplitFault L.whole seat.old seat.new lease.now cut.entry result }
         ensures given_back { IfErr result (λ r. r.given ≡ cut.entry) }
         ensures room { seat.new.kept ≡ seat.old.kept }
         ensures number { seat.new.number ≡ seat.old.number }
@@ -247,10 +234,8 @@ impl<'p, L: Desking> Desk<'p, L> {
         lease: Lease,
     ) -> Result<(), Refused<BookFault, Lease>>
         requires { lease.worker ≡ seat.old.number }
-        ensures noted { OnOk result
-            (Notes seat.old.notes seat.new.notes seat.old.number (calls.Park lease) replies.Done) }
-        ensures refused { IfErr result (λ r.
-            NotesRefusal seat.old.notes seat.new.notes seat.old.number (calls.Park lease) r.fault) }
+        ensures noted { NotesDone seat.old seat.new (calls.Park lease) result }
+        ensures refused { NotesRefused seat.old seat.new (calls.Park lease) result }
         ensures given_back { IfErr result (λ r. r.given ≡ lease) }
         ensures room { OnOk result (seat.new.kept ≡ seat.old.kept - 1) }
         ensures room_stays { OnErr result (seat.new.kept ≡ seat.old.kept) }
@@ -269,12 +254,8 @@ impl<'p, L: Desking> Desk<'p, L> {
         lease: Lease,
     ) -> Result<(), Refused<BookFault, Lease>>
         requires { lease.worker ≡ seat.old.number }
-        ensures noted { OnOk result
-            (Notes seat.old.notes seat.new.notes seat.old.number
-            (calls.Abandon lease) replies.Done) }
-        ensures refused { IfErr result (λ r.
-            NotesRefusal seat.old.notes seat.new.notes seat.old.number
-            (calls.Abandon lease) r.fault) }
+        ensures noted { NotesDone seat.old seat.new (calls.Abandon lease) result }
+        ensures refused { NotesRefused seat.old seat.new (calls.Abandon lease) result }
         ensures given_back { IfErr result (λ r. r.given ≡ lease) }
         ensures room { OnOk result (seat.new.kept ≡ seat.old.kept - 1) }
         ensures room_stays { OnErr result (seat.new.kept ≡ seat.old.kept) }
@@ -293,11 +274,8 @@ impl<'p, L: Desking> Desk<'p, L> {
         lease: Lease,
     ) -> Result<(), Refused<BookFault, Lease>>
         requires { lease.worker ≡ seat.old.number }
-        ensures noted { OnOk result
-            (Notes seat.old.notes seat.new.notes seat.old.number (calls.Close lease) replies.Done) }
-        ensures refused { IfErr result (λ r.
-            NotesRefusal seat.old.notes seat.new.notes seat.old.number
-            (calls.Close lease) r.fault) }
+        ensures noted { NotesDone seat.old seat.new (calls.Close lease) result }
+        ensures refused { NotesRefused seat.old seat.new (calls.Close lease) result }
         ensures given_back { IfErr result (λ r. r.given ≡ lease) }
         ensures room { OnOk result (seat.new.kept ≡ seat.old.kept - 1) }
         ensures room_stays { OnErr result (seat.new.kept ≡ seat.old.kept) }
@@ -315,11 +293,8 @@ impl<'p, L: Desking> Desk<'p, L> {
         seat: &mut Seat<L>,
         id: u64,
     ) -> Result<Leased<'p>, BookFault>
-        ensures noted { IfOk result (λ r.
-            Notes seat.old.notes seat.new.notes seat.old.number
-            (calls.TakeHeld id) (leased_reply r)) }
-        ensures refused { IfErr result (λ f.
-            NotesRefusal seat.old.notes seat.new.notes seat.old.number (calls.TakeHeld id) f) }
+        ensures noted { NotesAnswer seat.old seat.new (calls.TakeHeld id) leased_reply result }
+        ensures refused { NotesFault seat.old seat.new (calls.TakeHeld id) result }
         ensures can_start { IfOk result (λ r. CanStart L.whole r.branch (state_value r.mark)) }
         ensures worker { IfOk result (λ r. r.lease.worker ≡ seat.old.number) }
         ensures room { OnOk result (seat.new.kept ≡ seat.old.kept + 1) }
@@ -336,11 +311,8 @@ impl<'p, L: Desking> Desk<'p, L> {
         seat: &mut Seat<L>,
         id: u64,
     ) -> Result<(), BookFault>
-        ensures noted { OnOk result
-            (Notes seat.old.notes seat.new.notes seat.old.number
-            (calls.RequestStop id) replies.Done) }
-        ensures refused { IfErr result (λ f.
-            NotesRefusal seat.old.notes seat.new.notes seat.old.number (calls.RequestStop id) f) }
+        ensures noted { NotesDone seat.old seat.new (calls.RequestStop id) result }
+        ensures refused { NotesFault seat.old seat.new (calls.RequestStop id) result }
         ensures room { seat.new.kept ≡ seat.old.kept }
         ensures number { seat.new.number ≡ seat.old.number }
     {
@@ -355,12 +327,8 @@ impl<'p, L: Desking> Desk<'p, L> {
         id: u64,
         state: &State,
     ) -> Result<(), BookFault>
-        ensures noted { OnOk result
-            (Notes seat.old.notes seat.new.notes seat.old.number
-            (calls.PutBack id (state_value state.now)) replies.Done) }
-        ensures refused { IfErr result (λ f.
-            NotesRefusal seat.old.notes seat.new.notes seat.old.number
-            (calls.PutBack id (state_value state.now)) f) }
+        ensures noted { NotesDone seat.old seat.new (calls.PutBack id (state_value state.now)) result }
+        ensures refused { NotesFault seat.old seat.new (calls.PutBack id (state_value state.now)) result }
         ensures room { seat.new.kept ≡ seat.old.kept }
         ensures number { seat.new.number ≡ seat.old.number }
     {
@@ -375,12 +343,8 @@ impl<'p, L: Desking> Desk<'p, L> {
         lease: &Lease,
     ) -> Result<Stretch<'p>, BookFault>
         requires worker { lease.now.worker ≡ seat.old.number }
-        ensures noted { IfOk result (λ x.
-            Notes seat.old.notes seat.new.notes seat.old.number
-            (calls.Retract lease.now) (replies.Retracted x.from x.to)) }
-        ensures refused { IfErr result (λ f.
-            NotesRefusal seat.old.notes seat.new.notes seat.old.number
-            (calls.Retract lease.now) f) }
+        ensures noted { NotesRetract seat.old seat.new lease.now result }
+        ensures refused { NotesFault seat.old seat.new (calls.Retract lease.now) result }
         ensures room { seat.new.kept ≡ seat.old.kept }
         ensures number { seat.new.number ≡ seat.old.number }
     {
@@ -400,10 +364,8 @@ impl<'p, L: Desking> Desk<'p, L> {
         ensures begins { IfOk result (λ b. take (length L.opening) b.history ≡ L.opening) }
         ensures number { OnOk result (vec_len seats ≡ self.entry.seats) }
         ensures all_there { OnOk result (HaveAllNumbers self.entry.seats seats.items) }
-        ensures notes { IfOk result (λ b.
-            AreRecords (length L.opening) (drop (length L.opening) b.history) seats.items) }
-        ensures workers { IfOk result (λ b.
-            are_of_workers self.entry.seats (drop (length L.opening) b.history) ≡ true) }
+        ensures notes { IfOk result (λ b. AreRecordsFrom (length L.opening) b.history seats.items) }
+        ensures workers { IfOk result (λ b. AreOfWorkers (length L.opening) self.entry.seats b.history) }
         ensures refused { IfErr result (λ r. r.fault ≡ BookFault.SeatMismatch) }
         ensures desk_back { IfErr result (λ r. r.given.0 ≡ self.entry) }
         ensures seats_back { IfErr result (λ r. r.given.1 ≡ seats) }

@@ -1,6 +1,6 @@
 //! The notes of the seats are compared with the history.
-ghost use Rattle.std.specs.Prelude.{◌≡◌, ◌≤◌, length, drop, vec_len, true, IsTrue};
-ghost use Rattle.lab_desk.specs.Seats.{seats_of, HaveAllNumbers, AreRecords, are_of_workers};
+ghost use Rattle.std.specs.Prelude.{◌≡◌, ◌≤◌, length, vec_len, IsTrue};
+ghost use Rattle.lab_desk.specs.Seats.{seats_of, HaveAllNumbers, AreRecordsFrom, AreOfWorkers};
 
 use crate::seat::Seat;
 use lab_book::Entries;
@@ -35,7 +35,7 @@ fn are_records<L: Ledger>(
     history: &Entries<'_>,
 ) -> bool
     requires within { from ≤ length history.now }
-    ensures { IsTrue result → AreRecords from (drop from history.now) seats.now }
+    ensures { IsTrue result → AreRecordsFrom from history.now seats.now }
 {
     'comparing: for k in 0..seats.len() {
         if !seats[k].tells(row, from, history) {
@@ -48,7 +48,7 @@ fn are_records<L: Ledger>(
 /// Whether the entries from an index on are of workers below a number.
 fn are_of_workers(number: u8, from: usize, history: &Entries<'_>) -> bool
     requires { from ≤ length history.now }
-    ensures { IsTrue result → are_of_workers number (drop from history.now) ≡ true }
+    ensures { IsTrue result → AreOfWorkers from number history.now }
 {
     'asking: for i in from..history.len() {
         if history.worker(i) >= number {
@@ -70,9 +70,8 @@ pub(crate) fn tell_all<L: Ledger>(
     requires within { from ≤ length history.now }
     requires few { length seats.now ≤ 32 }
     ensures numbers { IsTrue result → HaveAllNumbers (length seats.now) seats.now }
-    ensures records { IsTrue result → AreRecords from (drop from history.now) seats.now }
-    ensures workers { IsTrue result →
-        are_of_workers (length seats.now) (drop from history.now) ≡ true }
+    ensures records { IsTrue result → AreRecordsFrom from history.now seats.now }
+    ensures workers { IsTrue result → AreOfWorkers from (length seats.now) history.now }
 {
     let number = seats.len() as u8;
     have_all_numbers(seats, number)

@@ -1,13 +1,12 @@
 //! What lies under a desk's lock: each call of the book is counted, and noted at the seat that made
 //! it.
-ghost use Rattle.std.specs.Prelude.{◌≡◌, ◌+◌, ◌-◌, length, take, IfOk, IfErr, OnErr, OnOk, IfSome, MatchOption};
+ghost use Rattle.std.specs.Prelude.{◌≡◌, ◌+◌, ◌-◌, length, take, IfOk, IfErr, OnErr, OnOk, IfSome};
 ghost use Rattle.cover_problem.specs.Problem.{is_same};
 ghost use Rattle.x_steps.specs.StateView.{state_value};
 ghost use Rattle.x_branches.specs.Refusals.{CanStart};
 ghost use Rattle.lab_book.specs.declared.entry.Call.TheVariants as calls;
-ghost use Rattle.lab_book.specs.declared.entry.Reply.TheVariants as replies;
-ghost use Rattle.lab_book.specs.Calls.{leased_reply, any_reply, posted_reply, post_of, split_of};
-ghost use Rattle.lab_desk.specs.Record.{Notes, NotesRefusal};
+ghost use Rattle.lab_book.specs.Calls.{leased_reply, any_reply};
+ghost use Rattle.lab_desk.specs.Record.{NotesAnswer, NotesDone, NotesFault, NotesRefused, NotesPost, NotesPostFault, NotesSplit, NotesSplitFault, KeepsRoomFor};
 
 mod noting;
 mod taking_back;
@@ -39,10 +38,8 @@ pub(crate) struct Locked<'p, L: Desking> {
 impl<'p, L: Desking> Locked<'p, L> {
     /// Leases the tile with an id.
     pub(crate) fn lease(&mut self, seat: &mut Seat<L>, id: u64) -> Result<Leased<'p>, BookFault>
-        ensures noted { IfOk result (λ r.
-            Notes seat.old.notes seat.new.notes seat.old.number (calls.Lease id) (leased_reply r)) }
-        ensures refused { IfErr result (λ f.
-            NotesRefusal seat.old.notes seat.new.notes seat.old.number (calls.Lease id) f) }
+        ensures noted { NotesAnswer seat.old seat.new (calls.Lease id) leased_reply result }
+        ensures refused { NotesFault seat.old seat.new (calls.Lease id) result }
         ensures can_start { IfOk result (λ r. CanStart L.whole r.branch (state_value r.mark)) }
         ensures worker { IfOk result (λ r. r.lease.worker ≡ seat.old.number) }
         ensures room { OnOk result (seat.new.kept ≡ seat.old.kept + 1) }
@@ -77,14 +74,12 @@ impl<'p, L: Desking> Locked<'p, L> {
 
     /// Leases the first tile that waits, if one does.
     pub(crate) fn lease_any(&mut self, seat: &mut Seat<L>) -> Result<Option<Leased<'p>>, AllocError>
-        ensures noted { IfOk result (λ r.
-            Notes seat.old.notes seat.new.notes seat.old.number calls.LeaseAny (any_reply r)) }
+        ensures noted { NotesAnswer seat.old seat.new calls.LeaseAny any_reply result }
         ensures unchanged { OnErr result (seat.new.notes ≡ seat.old.notes) }
         ensures can_start { IfOk result
             (λ r. IfSome r (λ l. CanStart L.whole l.branch (state_value l.mark))) }
         ensures worker { IfOk result (λ r. IfSome r (λ l. l.lease.worker ≡ seat.old.number)) }
-        ensures room { IfOk result (λ r. MatchOption r (seat.new.kept ≡ seat.old.kept)
-            (λ _. seat.new.kept ≡ seat.old.kept + 1)) }
+        ensures room { IfOk result (λ r. KeepsRoomFor r seat.old seat.new) }
         ensures room_stays { OnErr result (seat.new.kept ≡ seat.old.kept) }
         ensures number { seat.new.number ≡ seat.old.number }
     {
@@ -119,12 +114,8 @@ impl<'p, L: Desking> Locked<'p, L> {
     ) -> Result<Posted, Refused<BookFault, Stretch<'p>>>
         requires worker { lease.now.worker ≡ seat.old.number }
         requires same { same ≡ is_same stretch.problem L.whole }
-        ensures noted { IfOk result (λ r.
-            Notes seat.old.notes seat.new.notes seat.old.number
-            (post_of L.whole lease.now stretch.entry) (posted_reply r)) }
-        ensures refused { IfErr result (λ r.
-            NotesRefusal seat.old.notes seat.new.notes seat.old.number
-            (post_of L.whole lease.now stretch.entry) r.fault) }
+        ensures noted { NotesPost L.whole seat.old seat.new lease.now stretch.entry result }
+        ensures refused { NotesPostFault L.whole seat.old seat.new lease.now stretch.entry result }
         ensures given_back { IfErr result (λ r. r.given ≡ stretch.entry) }
         ensures room { seat.new.kept ≡ seat.old.kept }
         ensures number { seat.new.number ≡ seat.old.number }
@@ -164,12 +155,8 @@ impl<'p, L: Desking> Locked<'p, L> {
     ) -> Result<u64, Refused<BookFault, Cut<'p>>>
         requires worker { lease.now.worker ≡ seat.old.number }
         requires same { same ≡ is_same cut.problem L.whole }
-        ensures noted { IfOk result (λ id.
-            Notes seat.old.notes seat.new.notes seat.old.number
-            (split_of L.whole lease.now cut.entry) (replies.Split id)) }
-        ensures refused { IfErr result (λ r.
-            NotesRefusal seat.old.notes seat.new.notes seat.old.number
-            (split_of L.whole lease.now cut.entry) r.fault) }
+        ensures noted { NotesSplit L.whole seat.old seat.new lease.now cut.entry result }
+        ensures refused { NotesSplitFault L.whole seat.old seat.new lease.now cut.entry result }
         ensures given_back { IfErr result (λ r. r.given ≡ cut.entry) }
         ensures room { seat.new.kept ≡ seat.old.kept }
         ensures number { seat.new.number ≡ seat.old.number }
@@ -206,10 +193,8 @@ impl<'p, L: Desking> Locked<'p, L> {
         lease: Lease,
     ) -> Result<(), Refused<BookFault, Lease>>
         requires worker { lease.worker ≡ seat.old.number }
-        ensures noted { OnOk result
-            (Notes seat.old.notes seat.new.notes seat.old.number (calls.Park lease) replies.Done) }
-        ensures refused { IfErr result (λ r.
-            NotesRefusal seat.old.notes seat.new.notes seat.old.number (calls.Park lease) r.fault) }
+        ensures noted { NotesDone seat.old seat.new (calls.Park lease) result }
+        ensures refused { NotesRefused seat.old seat.new (calls.Park lease) result }
         ensures given_back { IfErr result (λ r. r.given ≡ lease) }
         ensures room { OnOk result (seat.new.kept ≡ seat.old.kept - 1) }
         ensures room_stays { OnErr result (seat.new.kept ≡ seat.old.kept) }
@@ -247,12 +232,8 @@ impl<'p, L: Desking> Locked<'p, L> {
         lease: Lease,
     ) -> Result<(), Refused<BookFault, Lease>>
         requires worker { lease.worker ≡ seat.old.number }
-        ensures noted { OnOk result
-            (Notes seat.old.notes seat.new.notes seat.old.number
-            (calls.Abandon lease) replies.Done) }
-        ensures refused { IfErr result (λ r.
-            NotesRefusal seat.old.notes seat.new.notes seat.old.number
-            (calls.Abandon lease) r.fault) }
+        ensures noted { NotesDone seat.old seat.new (calls.Abandon lease) result }
+        ensures refused { NotesRefused seat.old seat.new (calls.Abandon lease) result }
         ensures given_back { IfErr result (λ r. r.given ≡ lease) }
         ensures room { OnOk result (seat.new.kept ≡ seat.old.kept - 1) }
         ensures room_stays { OnErr result (seat.new.kept ≡ seat.old.kept) }
@@ -290,11 +271,8 @@ impl<'p, L: Desking> Locked<'p, L> {
         lease: Lease,
     ) -> Result<(), Refused<BookFault, Lease>>
         requires worker { lease.worker ≡ seat.old.number }
-        ensures noted { OnOk result
-            (Notes seat.old.notes seat.new.notes seat.old.number (calls.Close lease) replies.Done) }
-        ensures refused { IfErr result (λ r.
-            NotesRefusal seat.old.notes seat.new.notes seat.old.number
-            (calls.Close lease) r.fault) }
+        ensures noted { NotesDone seat.old seat.new (calls.Close lease) result }
+        ensures refused { NotesRefused seat.old seat.new (calls.Close lease) result }
         ensures given_back { IfErr result (λ r. r.given ≡ lease) }
         ensures room { OnOk result (seat.new.kept ≡ seat.old.kept - 1) }
         ensures room_stays { OnErr result (seat.new.kept ≡ seat.old.kept) }

@@ -1,6 +1,6 @@
 //! A worker's seat at a desk, with notes of its calls.
-ghost use Rattle.std.specs.Prelude.{◌≡◌, ◌≤◌, ◌↔◌, [], true, length, drop, vec_len, IsTrue};
-ghost use Rattle.lab_desk.specs.Record.{noted, notes_of};
+ghost use Rattle.std.specs.Prelude.{◌≡◌, ◌≤◌, ◌↔◌, [], true, length, vec_len, IsTrue};
+ghost use Rattle.lab_desk.specs.Record.{noted, notes_from};
 
 use crate::sheet::Sheet;
 use lab_book::{Entries, Entry};
@@ -40,7 +40,7 @@ impl<L: Ledger> Model for Seat<L> {
 /// nothing. The notes are compared by a scratch row.
 fn is_record(notes: &Sheet, row: &mut Row, number: u8, from: usize, history: &Entries<'_>) -> bool
     requires { from ≤ length history.now }
-    ensures { IsTrue result → notes.now.list ≡ notes_of number from (drop from history.now) }
+    ensures { IsTrue result → notes.now.list ≡ notes_from number from history.now }
 {
     let mut next = 0;
     'comparing: for i in from..history.len() {
@@ -82,8 +82,7 @@ impl<L: Ledger> Seat<L> {
     /// Whether its notes are the entries of its number, from an index on; false tells nothing.
     pub(crate) fn tells(&self, row: &mut Row, from: usize, history: &Entries<'_>) -> bool
         requires { from ≤ length history.now }
-        ensures { IsTrue result →
-            self.now.notes ≡ notes_of self.now.number from (drop from history.now) }
+        ensures { IsTrue result → self.now.notes ≡ notes_from self.now.number from history.now }
     {
         is_record(&self.notes, row, self.number, from, history)
     }

@@ -1,7 +1,7 @@
 //! Notes, with room kept for notes to come.
-ghost use Rattle.std.specs.Prelude.{◌≡◌, ◌≤◌, ◌<◌, ◌+◌, ◌-◌, ◌++◌, ◌∷◌, [], length, map, slice_get, option_map};
+ghost use Rattle.std.specs.Prelude.{◌≡◌, ◌≤◌, ◌<◌, ◌+◌, ◌-◌, ◌++◌, ◌∷◌, [], length, slice_get, option_map};
 ghost use Rattle.std.specs.Prelude.{vec_len, vec_capacity, OnOk, OnErr, IsTrue};
-ghost use Rattle.lab_desk.specs.Record.{noted, note_of};
+ghost use Rattle.lab_desk.specs.Record.{noted, note_of, all_notes};
 
 use crate::seat::Noted;
 use lab_book::{Entries, Entry};
@@ -43,8 +43,7 @@ fn write(row: &mut Row, index: u64, entry: &Entry) -> Result<(), AllocError>
 /// by it.
 fn pack_first(rows: &mut Rows, row: &mut Row, last: &mut Vec<Noted>) -> Result<(), AllocError>
     requires { 0 < vec_len last.old }
-    ensures all { map note_of rows.new.rows ++ last.new.items ≡
-        map note_of rows.old.rows ++ last.old.items }
+    ensures all { all_notes rows.new.rows last.new.items ≡ all_notes rows.old.rows last.old.items }
     ensures fewer { OnOk result (vec_len last.new + 1 ≡ vec_len last.old) }
     ensures unchanged { OnErr result (vec_len last.new ≡ vec_len last.old) }
     ensures capacity { vec_capacity last.old ≤ vec_capacity last.new }
@@ -58,8 +57,7 @@ fn pack_first(rows: &mut Rows, row: &mut Row, last: &mut Vec<Noted>) -> Result<(
 
 /// Packs the last notes, as far as there is memory.
 fn pack(rows: &mut Rows, row: &mut Row, last: &mut Vec<Noted>)
-    ensures all { map note_of rows.new.rows ++ last.new.items ≡
-        map note_of rows.old.rows ++ last.old.items }
+    ensures all { all_notes rows.new.rows last.new.items ≡ all_notes rows.old.rows last.old.items }
     ensures fewer { vec_len last.new ≤ vec_len last.old }
     ensures capacity { vec_capacity last.old ≤ vec_capacity last.new }
 {

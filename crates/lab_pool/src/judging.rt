@@ -7,7 +7,7 @@ ghost use Rattle.lab_book.specs.Posted.{AllClosed};
 ghost use Rattle.alike_books.specs.AlikeBooks.{held_tiles};
 ghost use Rattle.alike_books.specs.Searched as spec;
 ghost use Rattle.alike_books.specs.Searched.{ArePoolCalls, IsSearched};
-ghost use Rattle.lab_pool.specs.Pool.{GivenBack, OnlyHeld, IsDone};
+ghost use Rattle.lab_pool.specs.Pool.{GivenBack, OnlyHeld, IsDone, OnFault, IfFault};
 
 use crate::fault::PoolFault;
 use lab_book::{Book, CallKind, Entries};
@@ -72,12 +72,9 @@ pub(crate) fn settle<'p>(book: Book<'p>) -> Result<Book<'p>, Refused<PoolFault, 
     ensures fault { IfErr result (λ r. r.fault ≡ PoolFault.Held) }
     ensures given { IfErr result (λ r. r.given ≡ Some book.entry) }
     ensures given_back { IfErr result (λ r. IfSome r.given (λ b. GivenBack book.entry b)) }
-    ensures held { IfErr result (λ r. r.fault ≡ PoolFault.Held →
-        IfSome r.given (λ b. OnlyHeld book.entry b)) }
-    ensures held_searched { IfErr result (λ r. r.fault ≡ PoolFault.Held →
-        IfSome r.given (λ b. IsSearched book.entry b)) }
-    ensures some_held { IfErr result (λ r. r.fault ≡ PoolFault.Held →
-        held_tiles book.entry.tiles ≡ [] → ⊥) }
+    ensures held { IfFault result PoolFault.Held (λ b. OnlyHeld book.entry b) }
+    ensures held_searched { IfFault result PoolFault.Held (λ b. IsSearched book.entry b) }
+    ensures some_held { OnFault result PoolFault.Held (held_tiles book.entry.tiles ≡ [] → ⊥) }
     ensures open { IfErr result (λ r. AllClosed book.entry.tiles → ⊥) }
 {
     if book.finished() {
@@ -102,12 +99,10 @@ pub(crate) fn answer<'p>(
         r.given ≡ Some book.entry) }
     ensures none_back { IfErr result (λ r. r.fault ≡ PoolFault.Mismatch → r.given ≡ None) }
     ensures free { IfErr result (λ r. IfSome r.given (λ b. leased_in b.tiles ≡ 0)) }
-    ensures held { IfErr result (λ r. r.fault ≡ PoolFault.Held → IsDone from book.entry) }
-    ensures open { IfErr result (λ r. r.fault ≡ PoolFault.Held → AllClosed book.entry.tiles → ⊥) }
-    ensures memory { IfErr result (λ r. r.fault ≡ PoolFault.OutOfMemory →
-        0 < waiting_in book.entry.tiles) }
-    ensures threads { IfErr result (λ r. r.fault ≡ PoolFault.NoThread →
-        0 < waiting_in book.entry.tiles) }
+    ensures held { OnFault result PoolFault.Held (IsDone from book.entry) }
+    ensures open { OnFault result PoolFault.Held (AllClosed book.entry.tiles → ⊥) }
+    ensures memory { OnFault result PoolFault.OutOfMemory (0 < waiting_in book.entry.tiles) }
+    ensures threads { OnFault result PoolFault.NoThread (0 < waiting_in book.entry.tiles) }
 {
     if book.leased() > 0 || !are_pool_calls(&book.history(), from) {
         return Err(mismatch());

@@ -1,11 +1,12 @@
 //! Workers over a desk.
 ghost use Rattle.std.specs.Prelude.{◌≡◌, ◌<◌, ◌≤◌, ◌↔◌, ◌⊎◌, [], None, IfOk, IfErr, OnOk, IfSome, length, take};
 ghost use Rattle.x_steps.specs.StateValue.{start};
+ghost use Rattle.x_branches.specs.Branch.{whole_run};
 ghost use Rattle.lab_book.specs.Book.{waiting_in, leased_in, new_book};
 ghost use Rattle.lab_book.specs.Posted.{AllClosed};
 ghost use Rattle.alike_books.specs.AlikeBooks.{held_tiles};
 ghost use Rattle.alike_books.specs.Searched.{IsSearched};
-ghost use Rattle.lab_pool.specs.Pool.{GoesOn, GivenBack, OnlyHeld};
+ghost use Rattle.lab_pool.specs.Pool.{GoesOn, GivenBack, OnlyHeld, OnFault, IfFault};
 
 use crate::fault::PoolFault;
 use crate::gate::Gate;
@@ -107,14 +108,10 @@ fn run_at<'p, L: Desking + Send + Sync, R: Threads + Wait + Sync, G: Gate>(
     ensures given_back { IfErr result (λ r. IfSome r.given (λ b. GivenBack book.entry b)) }
     ensures none_back { IfErr result (λ r. r.given ≡ None ↔ (r.fault ≡ PoolFault.Mismatch)) }
     ensures workers { IfErr result (λ r. r.fault ≡ PoolFault.BadWorkerCount → ⊥) }
-    ensures held { IfErr result (λ r. r.fault ≡ PoolFault.Held →
-        IfSome r.given (λ b. IsSearched book.entry b)) }
-    ensures some_held { IfErr result (λ r. r.fault ≡ PoolFault.Held →
-        held_tiles book.entry.tiles ≡ [] → ⊥) }
-    ensures memory { IfErr result (λ r. r.fault ≡ PoolFault.OutOfMemory →
-        IfSome r.given (λ b. 0 < waiting_in b.tiles)) }
-    ensures threads { IfErr result (λ r. r.fault ≡ PoolFault.NoThread →
-        IfSome r.given (λ b. 0 < waiting_in b.tiles)) }
+    ensures held { IfFault result PoolFault.Held (λ b. IsSearched book.entry b) }
+    ensures some_held { OnFault result PoolFault.Held (held_tiles book.entry.tiles ≡ [] → ⊥) }
+    ensures memory { IfFault result PoolFault.OutOfMemory (λ b. 0 < waiting_in b.tiles) }
+    ensures threads { IfFault result PoolFault.NoThread (λ b. 0 < waiting_in b.tiles) }
 {
     let from = book.history().len();
     let Ok(mut lanes) = tickets(alloc, workers) else {
@@ -160,16 +157,11 @@ pub fn run_pool_on<'p, R: Threads + Wait + Sync, G: Gate>(
         ((workers ≡ 0) ⊎ (32 < workers))) }
     ensures given_back { IfErr result (λ r. IfSome r.given (λ b. GivenBack book.entry b)) }
     ensures none_back { IfErr result (λ r. r.given ≡ None ↔ (r.fault ≡ PoolFault.Mismatch)) }
-    ensures held { IfErr result (λ r. r.fault ≡ PoolFault.Held →
-        IfSome r.given (λ b. OnlyHeld book.entry b)) }
-    ensures held_searched { IfErr result (λ r. r.fault ≡ PoolFault.Held →
-        IfSome r.given (λ b. IsSearched book.entry b)) }
-    ensures some_held { IfErr result (λ r. r.fault ≡ PoolFault.Held →
-        held_tiles book.entry.tiles ≡ [] → ⊥) }
-    ensures memory { IfErr result (λ r. r.fault ≡ PoolFault.OutOfMemory →
-        IfSome r.given (λ b. 0 < waiting_in b.tiles)) }
-    ensures threads { IfErr result (λ r. r.fault ≡ PoolFault.NoThread →
-        IfSome r.given (λ b. 0 < waiting_in b.tiles)) }
+    ensures held { IfFault result PoolFault.Held (λ b. OnlyHeld book.entry b) }
+    ensures held_searched { IfFault result PoolFault.Held (λ b. IsSearched book.entry b) }
+    ensures some_held { OnFault result PoolFault.Held (held_tiles book.entry.tiles ≡ [] → ⊥) }
+    ensures memory { IfFault result PoolFault.OutOfMemory (λ b. 0 < waiting_in b.tiles) }
+    ensures threads { IfFault result PoolFault.NoThread (λ b. 0 < waiting_in b.tiles) }
 {
     if workers == 0 || workers > 32 {
         return Err(refuse(PoolFault::BadWorkerCount, book));
@@ -196,8 +188,7 @@ pub fn run_pool<'p, R: Threads + Wait + Sync, G: Gate>(
     gate: &G,
 ) -> Result<Book<'p>, Refused<PoolFault, Option<Book<'p>>>>
     ensures problem { IfOk result (λ b. b.problem ≡ problem.now) }
-    ensures on { IfOk result (λ b.
-        GoesOn (new_book problem.now (record { lo = None; hi = None }) start) b) }
+    ensures on { IfOk result (λ b. GoesOn (new_book problem.now whole_run start) b) }
     ensures finished { IfOk result (λ b. AllClosed b.tiles) }
 {
     if workers == 0 || workers > 32 {

@@ -12,6 +12,7 @@ use Rattle.x_branches.specs.Refusals.{most_steps}
 use Rattle.x_branches.specs.Runner.{unposted_steps}
 use Rattle.x_snapshot.specs.declared.fault.SnapshotFault.{SnapshotFault}
 use Rattle.x_snapshot.specs.Snapshot.{SnapshotValue, choices_of, branch_between}
+use Rattle.x_snapshot.specs.Judged.{snapshot_of}
 use Rattle.lab_book.specs.Tile.{TileValue, is_held}
 use Rattle.lab_book.specs.Tiling.{tile_at}
 use Rattle.lab_book.specs.Book.{BookValue, new_book}
@@ -28,7 +29,8 @@ use Rattle.debug_language.specs.Reading.{command_of}
 use Rattle.debug_views.specs.Tiles.{place_at}
 use Rattle.debug_acts.specs.Walking.{steps_ahead, step_count, run_count, back_count}
 use Rattle.x_debug.specs.Session.{SessionValue}
-use Rattle.x_debug.specs.Commands.{answer_if, answer_line}
+use Rattle.x_debug.specs.Commands.{Answer, answer, answer_if, answer_line}
+use Rattle.alike_sessions.specs.AlikeSessions.{IsSoundSession}
 
 -- ---- worlds of one worker
 
@@ -110,6 +112,14 @@ acts_of s (commands.Hold lo) = tile_acts s.book (choices_of lo) (λ t. RequestSt
 acts_of s (commands.PutBack lo state) = tile_acts s.book (choices_of lo) (λ t. PutBack t.id state)
 acts_of s _ = []
 
+-- what a session answers to a command
+abbrev pub answer_of : SessionValue → Command → Answer
+answer_of s c = answer s (command_value c)
+
+-- an answer to a sound session leaves it as worker 0 does by these acts
+abbrev pub Plays : SessionValue → List Act → Answer → Type 0
+Plays s acts a = IsSoundSession s → world_of a.session ≡ played (world_of s) (events acts)
+
 -- ---- lines
 
 -- a session reads a line as this command, or as none
@@ -155,3 +165,7 @@ snapshot_book v = new_book v.problem (branch_between v.problem v.lo v.hi) v.stat
 abbrev pub loaded_world : SessionValue → Result SnapshotValue SnapshotFault → WorldValue
 loaded_world s (Ok v) = if is_same v.problem s.book.problem then entered_world (snapshot_book v) else world_of s
 loaded_world s (Err f) = world_of s
+
+-- an answer to a session leaves it as this text does, once it was loaded
+abbrev pub Loads : SessionValue → List ℕ → Answer → Type 0
+Loads s bytes a = world_of a.session ≡ loaded_world s (snapshot_of bytes)

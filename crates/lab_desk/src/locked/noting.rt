@@ -1,7 +1,7 @@
 //! Noting and counting the entry of a call, or its refusal.
 ghost use Rattle.std.specs.Prelude.{◌≡◌, ◌<◌, ◌+◌, ◌-◌, ◌↔◌, ◌++◌, ◌∷◌, [], IsTrue, OnErr, OnOk};
 ghost use Rattle.lab_book.specs.declared.entry.Reply.TheVariants as replies;
-ghost use Rattle.lab_desk.specs.Record.{noted};
+ghost use Rattle.lab_desk.specs.Record.{noted, HasEntry};
 
 use crate::seat::Noted;
 use crate::sheet::Sheet;
@@ -66,12 +66,9 @@ pub(crate) fn note_refusal<L: Ledger>(
 )
     requires room { 0 < notes.old.kept }
     requires share { 0 < share.old.parts }
-    ensures notes { (fault.now ≡ BookFault.OutOfMemory → ⊥) →
-        notes.new.list ≡ notes.old.list ++ noted index entry ∷ [] }
-    ensures count { (fault.now ≡ BookFault.OutOfMemory → ⊥) →
-        count.new.total ≡ count.old.total + 1 }
-    ensures share { (fault.now ≡ BookFault.OutOfMemory → ⊥) →
-        share.new.amount ≡ share.old.amount + 1 }
+    ensures notes { HasEntry fault.now → notes.new.list ≡ notes.old.list ++ noted index entry ∷ [] }
+    ensures count { HasEntry fault.now → count.new.total ≡ count.old.total + 1 }
+    ensures share { HasEntry fault.now → share.new.amount ≡ share.old.amount + 1 }
     ensures notes_kept { fault.now ≡ BookFault.OutOfMemory → notes.new.list ≡ notes.old.list }
     ensures count_kept { fault.now ≡ BookFault.OutOfMemory → count.new.total ≡ count.old.total }
     ensures share_kept { fault.now ≡ BookFault.OutOfMemory → share.new.amount ≡ share.old.amount }

@@ -1,11 +1,10 @@
 //! Calls that take a tile up again, or take back what was posted.
-ghost use Rattle.std.specs.Prelude.{◌≡◌, ◌+◌, IfOk, IfErr, OnErr, OnOk};
+ghost use Rattle.std.specs.Prelude.{◌≡◌, ◌+◌, IfOk, OnErr, OnOk};
 ghost use Rattle.x_steps.specs.StateView.{state_value};
 ghost use Rattle.x_branches.specs.Refusals.{CanStart};
 ghost use Rattle.lab_book.specs.declared.entry.Call.TheVariants as calls;
-ghost use Rattle.lab_book.specs.declared.entry.Reply.TheVariants as replies;
 ghost use Rattle.lab_book.specs.Calls.{leased_reply};
-ghost use Rattle.lab_desk.specs.Record.{Notes, NotesRefusal};
+ghost use Rattle.lab_desk.specs.Record.{NotesAnswer, NotesDone, NotesFault, NotesRetract};
 
 use crate::desk::Desking;
 use crate::locked::Locked;
@@ -18,11 +17,8 @@ use x_steps::State;
 impl<'p, L: Desking> Locked<'p, L> {
     /// Leases the held tile with an id.
     pub(crate) fn take_held(&mut self, seat: &mut Seat<L>, id: u64) -> Result<Leased<'p>, BookFault>
-        ensures noted { IfOk result (λ r.
-            Notes seat.old.notes seat.new.notes seat.old.number
-            (calls.TakeHeld id) (leased_reply r)) }
-        ensures refused { IfErr result (λ f.
-            NotesRefusal seat.old.notes seat.new.notes seat.old.number (calls.TakeHeld id) f) }
+        ensures noted { NotesAnswer seat.old seat.new (calls.TakeHeld id) leased_reply result }
+        ensures refused { NotesFault seat.old seat.new (calls.TakeHeld id) result }
         ensures can_start { IfOk result (λ r. CanStart L.whole r.branch (state_value r.mark)) }
         ensures worker { IfOk result (λ r. r.lease.worker ≡ seat.old.number) }
         ensures room { OnOk result (seat.new.kept ≡ seat.old.kept + 1) }
@@ -57,11 +53,8 @@ impl<'p, L: Desking> Locked<'p, L> {
 
     /// Asks the worker of a tile to stop.
     pub(crate) fn request_stop(&mut self, seat: &mut Seat<L>, id: u64) -> Result<(), BookFault>
-        ensures noted { OnOk result
-            (Notes seat.old.notes seat.new.notes seat.old.number
-            (calls.RequestStop id) replies.Done) }
-        ensures refused { IfErr result (λ f.
-            NotesRefusal seat.old.notes seat.new.notes seat.old.number (calls.RequestStop id) f) }
+        ensures noted { NotesDone seat.old seat.new (calls.RequestStop id) result }
+        ensures refused { NotesFault seat.old seat.new (calls.RequestStop id) result }
         ensures room { seat.new.kept ≡ seat.old.kept }
         ensures number { seat.new.number ≡ seat.old.number }
     {
@@ -97,12 +90,8 @@ impl<'p, L: Desking> Locked<'p, L> {
         id: u64,
         state: &State,
     ) -> Result<(), BookFault>
-        ensures noted { OnOk result
-            (Notes seat.old.notes seat.new.notes seat.old.number
-            (calls.PutBack id (state_value state.now)) replies.Done) }
-        ensures refused { IfErr result (λ f.
-            NotesRefusal seat.old.notes seat.new.notes seat.old.number
-            (calls.PutBack id (state_value state.now)) f) }
+        ensures noted { NotesDone seat.old seat.new (calls.PutBack id (state_value state.now)) result }
+        ensures refused { NotesFault seat.old seat.new (calls.PutBack id (state_value state.now)) result }
         ensures room { seat.new.kept ≡ seat.old.kept }
         ensures number { seat.new.number ≡ seat.old.number }
     {
@@ -138,12 +127,8 @@ impl<'p, L: Desking> Locked<'p, L> {
         lease: &Lease,
     ) -> Result<Stretch<'p>, BookFault>
         requires worker { lease.now.worker ≡ seat.old.number }
-        ensures noted { IfOk result (λ x.
-            Notes seat.old.notes seat.new.notes seat.old.number
-            (calls.Retract lease.now) (replies.Retracted x.from x.to)) }
-        ensures refused { IfErr result (λ f.
-            NotesRefusal seat.old.notes seat.new.notes seat.old.number
-            (calls.Retract lease.now) f) }
+        ensures noted { NotesRetract seat.old seat.new lease.now result }
+        ensures refused { NotesFault seat.old seat.new (calls.Retract lease.now) result }
         ensures room { seat.new.kept ≡ seat.old.kept }
         ensures number { seat.new.number ≡ seat.old.number }
     {

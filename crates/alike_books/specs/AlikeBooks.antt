@@ -8,8 +8,7 @@ use Rattle.std.specs.Prelude.{◌≡◌, not, List, map, filter}
 use Rattle.lab_book.specs.declared.status.Status.{Status}
 use Rattle.lab_book.specs.declared.status.Status.TheVariants.{Leased}
 use Rattle.lab_book.specs.Tile.{TileValue, is_closed, is_held}
-use Rattle.lab_book.specs.Tiling.{IsTiling}
-use Rattle.lab_book.specs.Book.{BookValue}
+use Rattle.lab_book.specs.Book.{BookValue, IsTiled}
 
 -- how a tile stands, without the worker and the index of its lease
 abbrev pub anonymous_status : Status → Status
@@ -38,10 +37,6 @@ pub record AreAlikeBooks (a b : BookValue) : Type 0 where
   pub branch : a.branch ≡ b.branch
   pub first : a.first ≡ b.first
   pub tiles : open_part a.tiles ≡ open_part b.tiles
-
--- the tiles of a book are a tiling of its branch
-abbrev pub IsTiled : BookValue → Type 0
-IsTiled b = IsTiling b.problem b.branch b.first b.tiles
 
 -- where two books are alike, this is the same of both
 abbrev pub BooksAgree : {A : Type 0} → BookValue → BookValue → (BookValue → A) → Type 0

@@ -10,8 +10,8 @@ use Rattle.lab_book.specs.declared.entry.Reply.{Reply}
 use Rattle.lab_book.specs.declared.entry.Reply.TheVariants as reply
 use Rattle.lab_book.specs.Tile.{TileValue, is_closed, is_lease}
 use Rattle.lab_book.specs.Tiling.{tile_at, IsTiling}
-use Rattle.lab_book.specs.Book.{BookValue, Outcome, outcome}
-use Rattle.alike_books.specs.AlikeBooks.{anonymous_tile, open_part, AreAlikeBooks, IsTiled}
+use Rattle.lab_book.specs.Book.{BookValue, Outcome, outcome, IsTiled}
+use Rattle.alike_books.specs.AlikeBooks.{anonymous_tile, open_part, AreAlikeBooks}
 
 -- place i of some tiles and place j of others correspond: the same open tile stands there, but for its id and its lease, and so do the
 -- open tiles before it and behind it

@@ -5,9 +5,9 @@ ghost use Rattle.lab_book.specs.declared.entry.Call.{Call};
 ghost use Rattle.lab_book.specs.declared.entry.Call.TheVariants as call;
 ghost use Rattle.lab_book.specs.declared.entry.Entry.{Entry};
 ghost use Rattle.lab_book.specs.Tiling.{tile_at};
-ghost use Rattle.lab_book.specs.Book.{BookValue, outcome, waiting_in, leased_in, replayed};
+ghost use Rattle.lab_book.specs.Book.{BookValue, outcome, waiting_in, leased_in, replayed, IsTiled};
 ghost use Rattle.lab_book.specs.Posted.{posted_visits, posted_steps, posted_levels, AllClosed};
-ghost use Rattle.alike_books.specs.AlikeBooks.{AreAlikeBooks, anonymous_tile, held_tiles, IsTiled, BooksAgree, TilingsAgree};
+ghost use Rattle.alike_books.specs.AlikeBooks.{AreAlikeBooks, anonymous_tile, held_tiles, BooksAgree, TilingsAgree};
 ghost use Rattle.alike_books.specs.AlikeCalls.{NameSameTile, addressed, AreAlikeOutcomes, IsSameTile, IfOpen, HasPlaceIn, AnswerAlike};
 ghost use Rattle.alike_books.specs.Searched.{searched, IsSearched, ArePoolCalls};
 

@@ -1,12 +1,11 @@
 //! Laws of alike sessions, over the definitions alone: each is a function that does nothing, whose contract is the law.
 ghost use Rattle.std.specs.Prelude.{ℕ, ◌≡◌, List};
 ghost use Rattle.cover_problem.specs.Problem.{ProblemValue};
-ghost use Rattle.lab_book.specs.Book.{BookValue, leased_in};
+ghost use Rattle.lab_book.specs.Book.{BookValue, leased_in, IsTiled};
 ghost use Rattle.debug_language.specs.Command.{CommandValue};
 ghost use Rattle.x_debug.specs.Session.{SessionValue, session_on, fresh_session};
 ghost use Rattle.x_debug.specs.Commands.{answer, answer_line};
 ghost use Rattle.x_debug.specs.Loading.{load_answer};
-ghost use Rattle.alike_books.specs.AlikeBooks.{IsTiled};
 ghost use Rattle.alike_books.specs.Searched.{searched, IsSearched};
 ghost use Rattle.alike_sessions.specs.AlikeSessions.{IsSoundSession, AreSoundAlike, LeavesSound, AgreeOn};
 

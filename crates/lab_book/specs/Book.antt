@@ -34,6 +34,10 @@ pub record BookValue : Type 0 where
   pub tiles : List TileValue
   pub history : List Entry
 
+-- its tiles are a tiling of its branch
+abbrev pub IsTiled : BookValue → Type 0
+IsTiled b = IsTiling b.problem b.branch b.first b.tiles
+
 -- ---- what a call does
 
 -- how many tiles wait

@@ -6,8 +6,7 @@ ghost use Rattle.x_steps.specs.StateValue.{start};
 ghost use Rattle.x_branches.specs.Cut.{IsCut};
 ghost use Rattle.x_branches.specs.Refusals.{CanStart, StartRefused};
 ghost use Rattle.x_branches.specs.Branch.{whole_run};
-ghost use Rattle.lab_book.specs.Book.{waiting_in, leased_in, IsBook, new_book, replayed, outcome, refused, tile_place, first_book};
-ghost use Rattle.lab_book.specs.Tiling.{IsTiling};
+ghost use Rattle.lab_book.specs.Book.{waiting_in, leased_in, IsTiled, IsBook, new_book, replayed, outcome, refused, tile_place, first_book};
 ghost use Rattle.lab_book.specs.Calls.{Refuses, RefusedOnly, OutOfMemoryOr};
 
 mod ending;
@@ -201,7 +200,7 @@ impl<'p> Book<'p> {
     /// The tiles in order: they are a tiling of the branch.
     pub fn tiles(&self) -> &[Tile<'p>]
         ensures tiles { result.now ≡ self.now.tiles }
-        ensures tiling { IsTiling self.now.problem self.now.branch self.now.first self.now.tiles }
+        ensures tiling { IsTiled self.now }
     {
         self.tiles.list()
     }
@@ -237,7 +236,7 @@ impl<'p> Book<'p> {
 
     /// What is true of every book, for a proof that needs it: its tiles are a tiling of its branch, and it is its history's replay.
     pub fn is_sound(&self)
-        ensures tiling { IsTiling self.now.problem self.now.branch self.now.first self.now.tiles }
+        ensures tiling { IsTiled self.now }
         ensures replay { replayed (first_book self.now) self.now.history ≡ self.now }
     {}
 

@@ -1,5 +1,6 @@
 //! What is answered of a book, once its workers are through with it.
 ghost use Rattle.std.specs.Prelude.{◌≡◌, ◌<◌, ◌≤◌, ◌↔◌, [], Some, None, IfOk, IfErr, OnOk, IfSome, IsTrue, length, drop};
+ghost use Rattle.x_steps.specs.Answers.{IfRefused};
 ghost use Rattle.lab_book.specs.declared.entry.Call.{Call};
 ghost use Rattle.lab_book.specs.Kinds.{kind_of};
 ghost use Rattle.lab_book.specs.Book.{waiting_in, leased_in};
@@ -7,7 +8,7 @@ ghost use Rattle.lab_book.specs.Posted.{AllClosed};
 ghost use Rattle.alike_books.specs.AlikeBooks.{held_tiles};
 ghost use Rattle.alike_books.specs.Searched as spec;
 ghost use Rattle.alike_books.specs.Searched.{ArePoolCalls, IsSearched};
-ghost use Rattle.lab_pool.specs.Pool.{GivenBack, OnlyHeld, IsDone, OnFault, IfFault};
+ghost use Rattle.lab_pool.specs.Pool.{GivenBack, OnlyHeld, IsDone, IfFault};
 
 use crate::fault::PoolFault;
 use lab_book::{Book, CallKind, Entries};
@@ -74,7 +75,7 @@ pub(crate) fn settle<'p>(book: Book<'p>) -> Result<Book<'p>, Refused<PoolFault, 
     ensures given_back { IfErr result (λ r. IfSome r.given (λ b. GivenBack book.entry b)) }
     ensures held { IfFault result PoolFault.Held (λ b. OnlyHeld book.entry b) }
     ensures held_searched { IfFault result PoolFault.Held (λ b. IsSearched book.entry b) }
-    ensures some_held { OnFault result PoolFault.Held (held_tiles book.entry.tiles ≡ [] → ⊥) }
+    ensures some_held { IfRefused result PoolFault.Held (held_tiles book.entry.tiles ≡ [] → ⊥) }
     ensures open { IfErr result (λ r. AllClosed book.entry.tiles → ⊥) }
 {
     if book.finished() {
@@ -99,10 +100,10 @@ pub(crate) fn answer<'p>(
         r.given ≡ Some book.entry) }
     ensures none_back { IfErr result (λ r. r.fault ≡ PoolFault.Mismatch → r.given ≡ None) }
     ensures free { IfErr result (λ r. IfSome r.given (λ b. leased_in b.tiles ≡ 0)) }
-    ensures held { OnFault result PoolFault.Held (IsDone from book.entry) }
-    ensures open { OnFault result PoolFault.Held (AllClosed book.entry.tiles → ⊥) }
-    ensures memory { OnFault result PoolFault.OutOfMemory (0 < waiting_in book.entry.tiles) }
-    ensures threads { OnFault result PoolFault.NoThread (0 < waiting_in book.entry.tiles) }
+    ensures held { IfRefused result PoolFault.Held (IsDone from book.entry) }
+    ensures open { IfRefused result PoolFault.Held (AllClosed book.entry.tiles → ⊥) }
+    ensures memory { IfRefused result PoolFault.OutOfMemory (0 < waiting_in book.entry.tiles) }
+    ensures threads { IfRefused result PoolFault.NoThread (0 < waiting_in book.entry.tiles) }
 {
     if book.leased() > 0 || !are_pool_calls(&book.history(), from) {
         return Err(mismatch());

@@ -1,12 +1,13 @@
 //! Workers over a desk.
 ghost use Rattle.std.specs.Prelude.{◌≡◌, ◌<◌, ◌≤◌, ◌↔◌, ◌⊎◌, [], None, IfOk, IfErr, OnOk, IfSome, length, take};
+ghost use Rattle.x_steps.specs.Answers.{IfRefused};
 ghost use Rattle.x_steps.specs.StateValue.{start};
 ghost use Rattle.x_branches.specs.Branch.{whole_run};
 ghost use Rattle.lab_book.specs.Book.{waiting_in, leased_in, new_book};
 ghost use Rattle.lab_book.specs.Posted.{AllClosed};
 ghost use Rattle.alike_books.specs.AlikeBooks.{held_tiles};
 ghost use Rattle.alike_books.specs.Searched.{IsSearched};
-ghost use Rattle.lab_pool.specs.Pool.{GoesOn, GivenBack, OnlyHeld, OnFault, IfFault};
+ghost use Rattle.lab_pool.specs.Pool.{GoesOn, GivenBack, OnlyHeld, IfFault};
 
 use crate::fault::PoolFault;
 use crate::gate::Gate;
@@ -109,7 +110,7 @@ fn run_at<'p, L: Desking + Send + Sync, R: Threads + Wait + Sync, G: Gate>(
     ensures none_back { IfErr result (λ r. r.given ≡ None ↔ (r.fault ≡ PoolFault.Mismatch)) }
     ensures workers { IfErr result (λ r. r.fault ≡ PoolFault.BadWorkerCount → ⊥) }
     ensures held { IfFault result PoolFault.Held (λ b. IsSearched book.entry b) }
-    ensures some_held { OnFault result PoolFault.Held (held_tiles book.entry.tiles ≡ [] → ⊥) }
+    ensures some_held { IfRefused result PoolFault.Held (held_tiles book.entry.tiles ≡ [] → ⊥) }
     ensures memory { IfFault result PoolFault.OutOfMemory (λ b. 0 < waiting_in b.tiles) }
     ensures threads { IfFault result PoolFault.NoThread (λ b. 0 < waiting_in b.tiles) }
 {
@@ -159,7 +160,7 @@ pub fn run_pool_on<'p, R: Threads + Wait + Sync, G: Gate>(
     ensures none_back { IfErr result (λ r. r.given ≡ None ↔ (r.fault ≡ PoolFault.Mismatch)) }
     ensures held { IfFault result PoolFault.Held (λ b. OnlyHeld book.entry b) }
     ensures held_searched { IfFault result PoolFault.Held (λ b. IsSearched book.entry b) }
-    ensures some_held { OnFault result PoolFault.Held (held_tiles book.entry.tiles ≡ [] → ⊥) }
+    ensures some_held { IfRefused result PoolFault.Held (held_tiles book.entry.tiles ≡ [] → ⊥) }
     ensures memory { IfFault result PoolFault.OutOfMemory (λ b. 0 < waiting_in b.tiles) }
     ensures threads { IfFault result PoolFault.NoThread (λ b. 0 < waiting_in b.tiles) }
 {

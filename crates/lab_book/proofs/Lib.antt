@@ -16,3 +16,4 @@ pub mod ForetellLemmas
 pub mod CodeLemmas
 pub mod ReadingLemmas
 pub mod PlaceLemmas
+pub mod BookExamples

@@ -1,4 +1,15 @@
--- A book: the tiles of a problem's run, and the history of the calls; what each call does to it.
+-- A book: the tiles of a problem's run, and the history of the calls (`BookValue`); what each call does to it.
+--
+-- A call looks for its tile (`tile_place`, `first_waiting`, `checked`, `found`); what stands against it is told by `status_fault`,
+-- `lease_fault`, `stretch_fault`, `cut_fault`, `end_fault`, `retract_fault` and `mark_fault`; else it changes the tiles: `lent`, `posted`,
+-- `split`, `retracted`, and `settled` for `freed`, `closed`, `put_back` and `asked_to_stop`. `outcome` is what each call answers and makes
+-- of the tiles, and `book_step` the book after it. `new_book` is the first book, `replayed` a history's calls from a book on, `IsBook` what
+-- is true of every book, and `KeepsBook` what one keeps.
+--
+-- Example: worker 0 leases the one tile of the small problem's new book, from start to end, with its mark at X1, and then none waits. By
+-- that lease a post of the stretch from X1 to X3 is accepted; one that begins at X3 is refused, `StaleLease` with the mark X1, and to close
+-- the tile is refused as `NotAtEnd`. A tile 5 is an `UnknownBranch`. Split at the cut 4, the book has one leased tile and one that waits.
+-- proofs/BookExamples.antt computes it.
 use Rattle.std.specs.Prelude.{ℕ, ◌≡◌, ◌+◌, ◌-◌, ◌==◌, Bool, true, false, not, Option, Some, None, is_some, unwrap_or, option_map, Result}
 use Rattle.std.specs.Prelude.{Ok, Err, List, [], ◌∷◌, ◌++◌, length, take, drop, slice_set, count_by, if◌then◌else◌}
 use Rattle.std.specs.List.{position}

@@ -1,4 +1,10 @@
--- What a caller is told of a call.
+-- What a caller is told of a call: that the book made it (`Made`, which adds `next_entry`), or that it was refused (`Refuses`). The answers
+-- and calls as the history keeps them are `leased_reply`, `any_reply`, `posted_reply`, `post_of` and `split_of`; `Posts`, `PostRefused`,
+-- `Splits`, `SplitRefused`, `Ends` and `EndRefused` say it of these calls. `is_current` tests a lease; `Judged` and `Doubted` allow for
+-- memory that runs out; and `GoesBack` is how many stretches a tile keeps.
+--
+-- Example: the small problem's new book makes the call of worker 0 that leases any tile. The lease is then the current one of its tile, and
+-- was not before. proofs/BookExamples.antt computes it.
 use Rattle.x_steps.specs.StateValue.{StateValue}
 use Rattle.lab_book.specs.Tile.{TileValue}
 use Rattle.std.specs.Prelude.{ℕ, ◌≡◌, ◌⊎◌, Option, Some, None, Result, Err, ◌≤◌, length, take, List, Bool, is_ok, IfErr, option_map}

@@ -1,4 +1,10 @@
--- Entries as rows of numbers, and back.
+-- Entries as rows of numbers, and back: `worker_of` and the codes of truth values, of cuts (`cut_code`, `cut_of`), leases (`grant_code`,
+-- `grant_of`), faults (`fault_code`, `fault_of`), calls (`call_code`, `call_of`), replies (`reply_code`, `reply_of`) and entries
+-- (`entry_code`, `entry_of`); each with what is left of a row behind it (`cut_rest`, `grant_rest`, `call_rest`). Last that each is read
+-- back as it was.
+--
+-- Example: worker 2 parks the tile 0, by the lease of the entry 7, and that is done: 2, then 6 0 2 7 for the call, and 5 for the reply; and
+-- so it is read back. proofs/BookExamples.antt computes it.
 use Rattle.std.specs.Prelude.{ℕ, ◌≡◌, ◌%◌, ◌==◌, Bool, true, false, not, Option, List, [], ◌∷◌, ◌++◌, map, slice_index, if◌then◌else◌}
 use Rattle.std.specs.Prelude as prelude
 use Rattle.std.specs.Global.{Vec}

@@ -1,4 +1,6 @@
--- The numbers and names of the refusals.
+-- The numbers and names of the refusals: `number_of` and `name_of`.
+--
+-- Example: `StaleLease` has the number 3, whatever the mark is that it tells; `OutOfMemory` has none. proofs/BookExamples.antt computes it.
 use Rattle.std.specs.Prelude.{ℕ, Option, Some, None, List, codes}
 use Rattle.lab_book.specs.declared.fault.BookFault.{BookFault}
 use Rattle.lab_book.specs.declared.fault.BookFault.TheVariants.{UnknownBranch, NotWaiting, StaleLease, ForeignProblem, NotAfterMark}

@@ -1,4 +1,8 @@
--- What is kept beside a list of tiles, so that no call goes over all of them.
+-- What is kept beside a list of tiles, so that no call goes over all of them: places before which the tiles with an id don't stand
+-- (`AreLeast`), a place before which none waits (`WaitFrom`), and how many wait and are leased (`KeepsTiles`).
+--
+-- Example: for the small problem's book parted at the cut 4, with the ids 0 and 1, the places 0 and 0 are low enough; its first tile is
+-- leased, so that none waits before the place 1. proofs/BookExamples.antt computes it.
 use Rattle.std.specs.Prelude.{ℕ, ◌≡◌, ◌<◌, ◌≤◌, false, List, length, slice_index}
 use Rattle.lab_book.specs.Tile.{TileValue, is_waiting}
 use Rattle.lab_book.specs.Tiling.{tile_at, AreNumbered}

@@ -1,4 +1,6 @@
--- Kinds of calls.
+-- Kinds of calls: `kind_of` is what a call asks for, without its arguments.
+--
+-- Example: the call that leases the tile 3 is of the kind `Lease`. proofs/BookExamples.antt computes it.
 use Rattle.lab_book.specs.declared.entry.Call.{Call}
 use Rattle.lab_book.specs.declared.entry.Call.TheVariants as call
 use Rattle.lab_book.specs.declared.kind.CallKind.{CallKind}

@@ -1,4 +1,9 @@
--- What was posted of a run, tile by tile.
+-- What was posted of a run, tile by tile: its visits (`stretch_visits`, `posted_visits`), that all of it is (`AllClosed`), and how many
+-- stretches (`posted_count`), steps (`stretch_steps`, `posted_steps`) and X2 states at each level it has (`stretch_level`, `posted_level`,
+-- `posted_levels`).
+--
+-- Example: where only the step from X2 to X8 with the path 4 5 1 is posted of the small problem, there is one stretch, of one step, with
+-- the visit 4 5 1, and it has 0 0 0 1 X2 states at the levels 0 to 3. proofs/BookExamples.antt computes it.
 use Rattle.std.specs.Prelude.{ℕ, ◌+◌, ◌^◌, ◌≡◌, ◌<◌, List, All, length, map, slice_index}
 use Rattle.std.specs.List.{flat_map, sum_by}
 use Rattle.cover_problem.specs.Lists.{numbers}

@@ -1,4 +1,7 @@
--- Whether two states are the same, as a test.
+-- Whether two states are the same, as a test: `cursor_number` tells cursors apart, and `same_state` states.
+--
+-- Example: X5 at option 5 with the path 4 is the same as itself, and not the same as X5 past all options there. proofs/BookExamples.antt
+-- computes it.
 use Rattle.std.specs.Prelude.{ℕ, ◌+◌, ◌==◌, ◌&&◌, Bool}
 use Rattle.std.specs.Str.{bytes_eq}
 use Rattle.x_steps.specs.declared.state.Cursor.{Cursor}

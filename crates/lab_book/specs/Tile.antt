@@ -1,6 +1,10 @@
--- A tile: a branch of the run, how it stands, and what was posted of it.
+-- A tile: a branch of the run, how it stands, and what was posted of it. First how one stands (`is_waiting`, `is_held`, `is_leased`,
+-- `is_closed`, `is_free`, `is_lease`, and what becomes of that: `freed_status`, `asked_status`), then `TileValue` and its states: its marks
+-- are its first mark and the ends of its stretches, to which these lead (`led_to`); the last of them is its mark, `mark_of`; `tile_end`
+-- ends it. Last what is true of it: `KeepsTile`, `Join`, `Stands`, `IsTile`.
 --
--- Its marks are its first mark and the ends of its stretches; the last of them is its mark.
+-- Example: a tile of the small problem's whole run has the first mark X1; once the two steps to X3 are posted its mark is X3, and its end
+-- is Done. One that worker 1 leased by the entry 7 isn't leased by the entry 3. proofs/BookExamples.antt computes it.
 use Rattle.std.specs.Prelude.{ℕ, ◌≡◌, ◌==◌, ◌&&◌, Bool, true, false, List, [], ◌∷◌, if◌then◌else◌}
 use Rattle.cover_problem.specs.Problem.{ProblemValue}
 use Rattle.x_steps.specs.StateValue.{StateValue}

@@ -1,4 +1,8 @@
--- A tiling: tiles that part a branch of the run.
+-- A tiling: tiles that part a branch of the run. `AreTiles` says that they meet at cuts, `no_tile` stands where there is none, `tile_at` is
+-- the one at a place, `AreNumbered` says what their ids are, and `IsTiling` is all of it.
+--
+-- Example: the small problem's book parted at the cut 4 has the ids 0 and 1; its second tile has the first mark X5 at option 4, and at the
+-- place 2 is no tile. proofs/BookExamples.antt computes it.
 use Rattle.std.specs.Prelude.{ℕ, ◌≡◌, ◌<◌, false, Option, Some, None, List, [], ◌∷◌, length, slice_index_or}
 use Rattle.cover_problem.specs.Problem.{ProblemValue}
 use Rattle.x_steps.specs.StateValue.{StateValue, start}

@@ -1,8 +1,8 @@
--- A branch: the part of a run from one cut up to another. `first_of` and `end_of` are its first state and the one that ends it,
--- and `whole_run` is the branch without cuts.
+-- A branch: the part of a run from one cut up to another. `first_of` and `end_of` are its first state and the one that ends it, and
+-- `whole_run` is the branch without cuts.
 --
--- Example: in the small problem a branch with the low cut 4 begins at X5 at option 4 with the empty path; without a high cut it ends
--- at Done. proofs/RunnerExamples.antt computes it.
+-- Example: in the small problem a branch with the low cut 4 begins at X5 at option 4 with the empty path; without a high cut it ends at
+-- Done. proofs/RunnerExamples.antt computes it.
 use Rattle.std.specs.Prelude.{ℕ, Option, Some, List}
 use Rattle.std.specs.Prelude as prelude
 use Rattle.x_steps.specs.StateValue.{StateValue, start, done}

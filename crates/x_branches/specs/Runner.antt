@@ -1,6 +1,6 @@
 -- A runner: where it stands in a branch of a run, and from where on its steps are not posted (`RunnerValue`, `runner_end`,
--- `unposted_steps`); what is true of its cuts, its branch and its states (`IsOf`, `IsBranch`, `IsWithin`, `IsRunner`); what it keeps of
--- its steps (`KeepsRunner`); and how a state changes that: `visit_of`, `with_level`, `without_level`.
+-- `unposted_steps`); what is true of its cuts, its branch and its states (`IsOf`, `IsBranch`, `IsWithin`, `IsRunner`); what it keeps of its
+-- steps (`KeepsRunner`); and how a state changes that: `visit_of`, `with_level`, `without_level`.
 --
 -- Example: in the small problem a runner with its mark at X1 that stands at the first X3 has two steps that are not posted. X2 with the
 -- path 4 5 1 is a visit, and X2 with the path 4 counts one more at level 1: 1 1 0 becomes 1 2 0. proofs/RunnerExamples.antt computes it.

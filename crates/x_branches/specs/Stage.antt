@@ -1,9 +1,9 @@
--- Where states stand at one level of the search, with room for any option number: a device of the comparison, whose contract
--- speaks of the run alone. `many` and `IsWithin` are that room, `IsShared` is how far two paths are the same, `digit_of` is a state's
--- digit at a level, and `Shifts` says what the room changes of it.
+-- Where states stand at one level of the search, with room for any option number: a device of the comparison, whose contract speaks of the
+-- run alone. `many` and `IsWithin` are that room, `IsShared` is how far two paths are the same, `digit_of` is a state's digit at a level,
+-- and `Shifts` says what the room changes of it.
 --
--- Example: the paths 2 3 and 2 share one choice. In the small problem X5 at option 5 with the path 4 has the digits 18 and 21 at the
--- levels 0 and 1. proofs/RunnerExamples.antt computes it.
+-- Example: the paths 2 3 and 2 share one choice. In the small problem X5 at option 5 with the path 4 has the digits 18 and 21 at the levels
+-- 0 and 1. proofs/RunnerExamples.antt computes it.
 use Rattle.std.specs.Prelude.{ℕ, ◌<◌, ◌≤◌, ◌≡◌, ◌≢◌, ◌+◌, ◌*◌, ◌⊎◌, List, length, take, slice_index_or}
 use Rattle.cover_problem.specs.Problem.{ProblemValue}
 use Rattle.x_steps.specs.declared.state.Cursor.{Cursor}

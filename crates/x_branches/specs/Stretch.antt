@@ -1,8 +1,8 @@
--- A stretch: the part of a problem's run from one state up to another, without that one (`StretchValue`, `IsStretch`), what is kept of
--- it (`KeepsStretch`), and it as a row of numbers (`kept_value`, `kept_visits`, `kept_levels`, `KeepsRow`).
+-- A stretch: the part of a problem's run from one state up to another, without that one (`StretchValue`, `IsStretch`), what is kept of it
+-- (`KeepsStretch`), and it as a row of numbers (`kept_value`, `kept_visits`, `kept_levels`, `KeepsRow`).
 --
--- Example: the step from X2 to X8 with the path 4 5 1, a visit of the small problem, is the row 2 0 0 3 4 5 1, 8 0 0 3 4 5 1, then
--- 1 3 4 5 1 for one visit of three choices, and 0 0 0 1 for one X2 state at level 3. proofs/RunnerExamples.antt computes it.
+-- Example: the step from X2 to X8 with the path 4 5 1, a visit of the small problem, is the row 2 0 0 3 4 5 1, 8 0 0 3 4 5 1, then 1 3 4 5
+-- 1 for one visit of three choices, and 0 0 0 1 for one X2 state at level 3. proofs/RunnerExamples.antt computes it.
 use Rattle.std.specs.Prelude.{◌≡◌, ℕ, List, map}
 use Rattle.cover_problem.specs.Problem.{ProblemValue}
 use Rattle.x_steps.specs.StateValue.{StateValue}

@@ -7,3 +7,4 @@ pub mod PostLemmas
 pub mod SplitLemmas
 pub mod EventLemmas
 pub mod WorldLemmas
+mod WorldExamples

@@ -1,4 +1,9 @@
--- Workers: a lease of a book's tile, with the runner that searches there.
+-- Workers: a lease of a book's tile, with the runner that searches there (`WorkerValue`). When a worker has its tile (`HoldsTile`); what
+-- becomes of a worker (`moved_to`, `marked_at`, `shortened`, and `after_post` up to `after_end` by the book's answer); which tile is leased
+-- (`leased_by`, `wanted_place`); and why a call is refused (`RetractRefused`, `WorkerSplitRefused`).
+--
+-- Example: of the small problem's new book worker 0 leases the tile of the whole run, and its runner is at the start. Moved to X2, it has a
+-- stretch from X1 to X2 to post; once that is posted its mark is X2 too. proofs/WorldExamples.antt computes it.
 use Rattle.std.specs.Prelude.{ℕ, ◌≡◌, ◌<◌, Bool, true, Option, Some, None, option_map, Result, Ok, Err, List, length}
 use Rattle.cover_problem.specs.Lists.{has}
 use Rattle.cover_problem.specs.Problem.{ProblemValue}

@@ -1,6 +1,11 @@
--- A world: a book, and for each worker nothing or its lease with its runner; what each event makes of it.
+-- A world (`WorldValue`): a book, and for each worker nothing or its lease with its runner. What a worker's act makes of the book and of its
+-- seat (`turn`), what an event (`world_step`) and many (`played`) make of a world, and what is true of every world (`IsWorld`).
 --
 -- An event is one worker's: it changes the book and that worker's seat alone.
+--
+-- Example: in a world of the small problem's new book and two workers, worker 1 can't park, as it has no tile (`Idle`); then it leases the
+-- one that waits, and the answer is the book's entry 0; then it leases again, and is `Busy`. It stands at the start, and worker 0 nowhere.
+-- proofs/WorldExamples.antt computes it.
 use Rattle.std.specs.Prelude.{ℕ, ◌≡◌, ◌<◌, ◌==◌, Option, Some, None, List, [], ◌∷◌, length, option_map, replicate, slice_set}
 use Rattle.std.specs.Prelude.{slice_index_or, if◌then◌else◌}
 use Rattle.cover_problem.specs.Lists.{has}

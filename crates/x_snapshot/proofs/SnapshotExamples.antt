@@ -1,19 +1,28 @@
--- The examples of specs/Snapshot.antt and specs/Reading.antt.
-use Rattle.std.proofs.Common.{◌≡◌, [], ◌∷◌, ◌++◌, codes, Some, Err, refl, lit<, lit≤, arith}
+-- The examples of specs/Snapshot.antt, Reading.antt, Faults.antt, Refusals.antt, ReadRefusals.antt and Writing.antt.
+use Rattle.std.proofs.Common.{◌≡◌, true, false, [], ◌∷◌, ◌++◌, codes, Some, Err, inl, refl, lit<, lit≤, arith}
 use Rattle.std.proofs.Common as common
+use Rattle.std.specs.Fmt.{digits}
+use Rattle.text_lines.specs.declared.refusal.Refusal.TheVariants as refusals
+use Rattle.cover_problem.specs.Problem.{ProblemValue}
+use Rattle.cover_problem.specs.Grammar.{written}
 use Rattle.cover_problem.specs.Covering.{active, remaining, choice}
-use Rattle.cover_problem.specs.Path.{taken, covered_by}
+use Rattle.cover_problem.specs.Path.{IsValid, taken, covered_by}
 use Rattle.cover_problem.proofs.CoverExamples.{small}
-use Rattle.x_steps.specs.declared.state.Label.TheVariants.{X2}
+use Rattle.x_steps.specs.declared.state.Label.TheVariants.{X2, X5}
 use Rattle.x_steps.specs.declared.state.Cursor.TheVariants as cursor
-use Rattle.x_steps.specs.StateValue.{at, done}
+use Rattle.x_steps.specs.StateValue.{at, start, done}
 use Rattle.x_steps.specs.Rank.{rank}
 use Rattle.x_steps.proofs.RunLemmas.{done_fits}
 use Rattle.x_branches.specs.Cut.{cut_state}
 use Rattle.x_branches.proofs.CutLemmas.{cut_fits}
 use Rattle.x_branches.proofs.StageLemmas.{rank_comes}
 use Rattle.x_branches.proofs.RunnerLemmas.{before_not}
-use Rattle.x_snapshot.specs.declared.fault.SnapshotFault.TheVariants.{Truncated, BadHeader, BadVersion}
+use Rattle.x_snapshot.specs.declared.fault.SnapshotFault.TheVariants.{Truncated, BadHeader, BadVersion, NotOnRun, BadBreak, OutOfMemory}
+use Rattle.x_texts.specs.declared.breakpoint.Break.TheVariants as breakpoints
+use Rattle.x_snapshot.specs.Faults.{number_of, name_of}
+use Rattle.x_snapshot.specs.Refusals.{IsCutRefused, IsBreakRefused, IsRefused}
+use Rattle.x_snapshot.specs.ReadRefusals.{fault_from, IsReadRefused}
+use Rattle.x_snapshot.specs.Writing.{version_of, snapshot_text}
 use Rattle.x_snapshot.specs.Snapshot.{SnapshotValue, snapshot_with, IsOnRun, IsInside, IsSnapshot}
 use Rattle.x_snapshot.specs.Judged.{is_on_run}
 use Rattle.x_snapshot.proofs.JudgedLemmas.{on_run_decides}
@@ -60,3 +69,51 @@ no_header = refl
 no_version : parts_of (codes "polysnap 01" ++ 10 ∷ []) ≡ Err BadVersion
 unfolding parts_of keyed_line keyed first_line line_words after_key header
 no_version = refl
+
+-- ---- specs/Faults.antt
+
+its_number : number_of BadBreak ≡ Some 10
+its_number = refl
+
+its_name : name_of BadBreak ≡ codes "BadBreak"
+its_name = refl
+
+no_number : number_of OutOfMemory ≡ common.None
+no_number = refl
+
+-- ---- specs/Refusals.antt
+
+-- there are 7 items, so the levels are 0 to 7
+level_refused : IsRefused (snapshot_with small common.None common.None start (breakpoints.Level 8 ∷ [])) BadBreak
+level_refused = refl
+
+twice_refused : IsBreakRefused small (breakpoints.Visit ∷ breakpoints.Visit ∷ []) BadBreak
+twice_refused = refl
+
+cut_refused : IsCutRefused small (Some (3 ∷ [])) NotOnRun
+unfolding IsValid covered_by taken choice active remaining
+cut_refused cut = let none : false ≡ true = cut.valid.0.left in absurd (cc)
+
+-- ---- specs/ReadRefusals.antt
+
+text_refused : IsReadRefused (codes "hello") Truncated
+text_refused = inl cut_off
+
+memory_refused : fault_from refusals.OutOfMemory ≡ OutOfMemory
+memory_refused = refl
+
+-- ---- specs/Writing.antt
+
+-- one item, and two options of it
+abbrev two : ProblemValue
+two = record { names = codes "a" ∷ []; primary = 1; options = (1 ∷ []) ∷ (1 ∷ []) ∷ [] }
+
+its_text
+    : snapshot_text (snapshot_with two (Some (1 ∷ [])) common.None (at X5 [] (cursor.At 2)) [])
+    ≡ codes "polysnap 1" ++ 10 ∷ codes "problem 3" ++ 10 ∷ codes "items a" ++ 10 ∷ codes "option a" ++ 10 ∷ codes "option a" ++ 10
+    ∷ codes "from 1" ++ 10 ∷ codes "to end" ++ 10 ∷ codes "state X5 2" ++ 10 ∷ codes "end" ++ 10 ∷ []
+unfolding snapshot_text written digits
+its_text = refl
+
+second : version_of two (breakpoints.Visit ∷ []) ≡ 2
+second = refl

@@ -1,4 +1,6 @@
--- The numbers and names of the refusals.
+-- The number (`number_of`) and the name (`name_of`) of each refusal of a snapshot.
+--
+-- Example: `BadBreak` has the number 10 and its own name; out of memory has no number. proofs/SnapshotExamples.antt computes it.
 use Rattle.std.specs.Prelude.{ℕ, Option, Some, None, List, codes}
 use Rattle.x_snapshot.specs.declared.fault.SnapshotFault.{SnapshotFault}
 use Rattle.x_snapshot.specs.declared.fault.SnapshotFault.TheVariants.{BadHeader, BadVersion, BadProblem, BadState, NotOnRun}

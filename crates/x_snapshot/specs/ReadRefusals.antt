@@ -1,4 +1,7 @@
--- Why a text is read as no snapshot.
+-- Why a text is read as no snapshot: a refusal as a fault (`fault_from`), the first fault of a text (`IsFaultOfText`), and the same unless
+-- memory ran out (`IsReadRefused`).
+--
+-- Example: `hello` is refused as Truncated: its first line has no end. proofs/SnapshotExamples.antt shows it.
 use Rattle.std.specs.Prelude.{ℕ, ◌≡◌, ◌⊎◌, List, Ok, Err}
 use Rattle.text_lines.specs.declared.refusal.Refusal.{Refusal}
 use Rattle.text_lines.specs.declared.refusal.Refusal.TheVariants as refusals

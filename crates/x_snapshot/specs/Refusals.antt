@@ -1,4 +1,9 @@
--- Why parts make no snapshot.
+-- Why parts make no snapshot: the faults of a cut and of a runner's start as those of a snapshot (`cut_fault_of`, `start_fault_of`), what is
+-- so where breakpoints, a cut, a start or a position are refused (`IsBreakRefused` up to `IsPositionRefused`), and the first of all these
+-- faults (`IsRefused`).
+--
+-- Example: at the start of the small problem, `level 8` is refused as a BadBreak, as there are 7 items; so is `visit` twice. The path 3
+-- is refused as a cut: it is NotOnRun. proofs/SnapshotExamples.antt shows it.
 use Rattle.std.specs.Prelude.{ℕ, ◌≡◌, true, false, List, Option}
 use Rattle.cover_problem.specs.Problem.{ProblemValue}
 use Rattle.x_steps.specs.declared.fault.AtFault.TheVariants as steps

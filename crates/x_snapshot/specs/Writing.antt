@@ -11,6 +11,12 @@
 --     end
 --
 -- In version 2 the breakpoints stand between `state` and `end`: a line with their number, and a line for each.
+--
+-- `needs_second` and `version_of` choose the version; `head_lines`, `lines_of_breaks`, `position_lines` and `end_line` are the lines but the
+-- problem's, and `snapshot_text` is the whole.
+--
+-- Example: the text above is that of two equal options of one item, from the cut 1 on, where option 2 is about to be tried. With the
+-- breakpoint `visit` it would be version 2. proofs/SnapshotExamples.antt computes it.
 use Rattle.std.specs.Prelude.{ℕ, Bool, ◌||◌, nat_lt, if◌then◌else◌, List, [], ◌∷◌, ◌++◌, length, map, decimal, codes}
 use Rattle.text_lines.specs.Writing.{text_of}
 use Rattle.cover_problem.specs.Problem.{ProblemValue}

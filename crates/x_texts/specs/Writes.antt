@@ -1,4 +1,7 @@
--- What a text gains at its end: bytes, a line of words, or lines.
+-- What a text gains at its end: bytes (`Writes`), a line of words (`WritesLine`), or lines (`WritesLines`).
+--
+-- Example: a text that gains `visit 4 5` and a newline has gained the line of the visit of 4 and 5, whatever stood before.
+-- proofs/WordExamples.antt shows it.
 use Rattle.std.specs.Prelude.{ℕ, ◌≡◌, ◌++◌, List}
 use Rattle.std.specs.Global.{Vec}
 use Rattle.text_lines.specs.Writing.{line_text, text_of}

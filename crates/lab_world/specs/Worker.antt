@@ -26,8 +26,13 @@ use Rattle.lab_book.specs.Tiling.{tile_at}
 use Rattle.lab_book.specs.Book.{BookValue, outcome, book_step, found, status_fault, first_waiting}
 use Rattle.lab_book.specs.declared.entry.Call.{Call}
 use Rattle.lab_book.specs.declared.entry.Call.TheVariants as call
-use Rattle.lab_book.specs.Calls.{Refuses}
-use Rattle.x_steps.specs.Run.{steps_between}
+use Rattle.lab_book.specs.declared.lease.Posted.{Posted}
+use Rattle.lab_book.specs.Calls.{Refuses, Posts, PostRefused}
+use Rattle.x_steps.specs.declared.event.Event.{Event}
+use Rattle.x_steps.specs.Steps.{next, event_of}
+use Rattle.x_steps.specs.Before.{prev}
+use Rattle.x_steps.specs.Run.{after, steps_between}
+use Rattle.x_steps.specs.Walk.{last_event}
 use Rattle.x_branches.specs.declared.fault.RunnerFault.TheVariants.{NotAtMark}
 use Rattle.lab_world.specs.declared.worker.ending.Ending.{Ending}
 use Rattle.lab_world.specs.declared.worker.ending.Ending.TheVariants.{Park, Abandon, Close}
@@ -65,6 +70,26 @@ pub record HoldsTile (b : BookValue) (x : WorkerValue) : Type 0 where
 abbrev pub moved_to : WorkerValue → StateValue → WorkerValue
 moved_to x s = record { grant = x.grant; runner = record x.runner { position = s } }
 
+-- its runner stands a step further on
+abbrev pub moved_forward : WorkerValue → WorkerValue
+moved_forward x = moved_to x (next x.runner.problem x.runner.position)
+
+-- its runner stands so many steps further on
+abbrev pub moved_forward_by : WorkerValue → ℕ → WorkerValue
+moved_forward_by x n = moved_to x (after x.runner.problem n x.runner.position)
+
+-- its runner stands a step further back
+abbrev pub moved_backward : WorkerValue → WorkerValue
+moved_backward x = moved_to x (prev x.runner.problem x.runner.position)
+
+-- the event of the step that its runner takes next
+abbrev pub next_event : WorkerValue → Event
+next_event x = event_of x.runner.problem x.runner.position
+
+-- and of the last one of so many steps that it takes next
+abbrev pub event_after : WorkerValue → ℕ → Event
+event_after x n = last_event x.runner.problem n x.runner.position
+
 -- its mark is another
 abbrev pub marked_at : WorkerValue → StateValue → WorkerValue
 marked_at x s = record { grant = x.grant; runner = record x.runner { mark = s } }
@@ -81,6 +106,10 @@ shortened x cut = record { grant = x.grant; runner = record x.runner { branch = 
 abbrev pub cut_at : RunnerValue → ℕ → ℕ → CutPath
 cut_at r level o = record { problem = r.problem; path = with_choice r.position level o }
 
+-- a worker's runner's branch ends at the cut at an option of a level of where it stands
+abbrev pub shortened_at : WorkerValue → ℕ → ℕ → WorkerValue
+shortened_at x level o = shortened x (cut_at x.runner level o)
+
 -- the call that splits a worker's tile at a cut of its problem, by the cut's choices
 abbrev pub split_call : WorkerValue → List ℕ → Call
 split_call x path = call.Split x.grant path true
@@ -92,6 +121,10 @@ split_at x level o g = call.Split g (with_choice x.runner.position level o) true
 -- a runner that stands at its mark
 abbrev pub runner_at : ProblemValue → Branch → StateValue → RunnerValue
 runner_at p b mark = record { problem = p; branch = b; mark = mark; position = mark }
+
+-- a runner that stands at the mark of the tile at a place of a book
+abbrev pub runner_on : BookValue → ℕ → RunnerValue
+runner_on b place = runner_at b.problem (tile_at b.tiles place).branch (mark_of (tile_at b.tiles place))
 
 -- a runner that stands at the mark of the first tile that waits
 pub record StandsAtFirst (b : BookValue) (r : RunnerValue) : Type 0 where
@@ -126,6 +159,18 @@ after_call b x c = book_step b x.grant.worker (c x.grant)
 -- what book b answers worker x, that makes this call by its lease
 abbrev pub answer_to : BookValue → WorkerValue → (Grant → Call) → Reply
 answer_to b x c = (outcome b x.grant.worker (c x.grant)).reply
+
+-- what the split of worker x's tile at an option of a level makes of book b
+abbrev pub book_after_split : BookValue → WorkerValue → ℕ → ℕ → BookValue
+book_after_split b x level o = after_call b x (split_at x level o)
+
+-- a book made a post of what a worker has not posted, and answered so
+abbrev pub WorkerPosts : BookValue → BookValue → WorkerValue → Posted → Type 0
+WorkerPosts old new x r = Posts old new x.grant (unposted x) r
+
+-- a book refused it
+abbrev pub WorkerPostRefused : BookValue → BookValue → WorkerValue → BookFault → Type 0
+WorkerPostRefused old new x f = PostRefused old new x.grant (unposted x) f
 
 -- ---- which tile is leased
 
@@ -164,6 +209,10 @@ after_split x cut r = Some x
 abbrev pub after_retract : WorkerValue → Reply → Option WorkerValue
 after_retract x (reply.Retracted from to) = Some (marked_at x from)
 after_retract x r = Some x
+
+-- what becomes of worker x that retracts, by the answer of book b
+abbrev pub retracted_worker : BookValue → WorkerValue → Option WorkerValue
+retracted_worker b x = after_retract x (answer_to b x call.Retract)
 
 -- it has given its tile up, or closed it
 abbrev pub after_end : WorkerValue → Reply → Option WorkerValue

@@ -6,7 +6,7 @@
 -- Example: in a world of the small problem's new book and two workers, worker 1 can't park, as it has no tile (`Idle`); then it leases the
 -- one that waits, and the answer is the book's entry 0; then it leases again, and is `Busy`. It stands at the start, and worker 0 nowhere.
 -- proofs/WorldExamples.antt computes it.
-use Rattle.std.specs.Prelude.{ℕ, ◌≡◌, ◌<◌, ◌==◌, Option, Some, None, List, [], ◌∷◌, length, option_map, replicate, slice_set}
+use Rattle.std.specs.Prelude.{ℕ, ◌≡◌, ◌<◌, ◌==◌, Option, Some, None, Result, IfOk, List, [], ◌∷◌, length, option_map, replicate, slice_set}
 use Rattle.std.specs.Prelude.{slice_index_or, if◌then◌else◌}
 use Rattle.cover_problem.specs.Lists.{has}
 use Rattle.x_steps.specs.StateValue.{StateValue}
@@ -145,6 +145,18 @@ pub record Turned (t : Turn) (r : WorldReply) (b : BookValue) (x : Option Worker
   pub book : b ≡ t.book
   pub worker : x ≡ t.worker
 
+-- worker w's act makes this of a book and of its seat, unless memory ran out
+abbrev pub Acts : {E : Type 0} → Result WorldReply E → ℕ → Act → BookValue → BookValue → Option WorkerValue → Option WorkerValue → Type 0
+Acts result w act old new seat seat_new = IfOk result (λ r. Turned (turn old seat w act) r new seat_new)
+
+-- and so does any worker's, whichever its number
+abbrev pub AnyActs : {E : Type 0} → Result WorldReply E → Act → BookValue → BookValue → Option WorkerValue → Option WorkerValue → Type 0
+AnyActs result act old new seat seat_new = IfOk result (λ r. (w : ℕ) → Turned (turn old seat w act) r new seat_new)
+
+-- worker w's act makes this of a book, and leaves its seat as it is, whatever sits there, unless memory ran out
+abbrev pub ActsAside : {E : Type 0} → Result WorldReply E → ℕ → Act → BookValue → BookValue → Type 0
+ActsAside result w act old new = IfOk result (λ r. (x : Option WorkerValue) → Turned (turn old x w act) r new x)
+
 -- ---- worlds
 
 -- what an event makes of a world
@@ -174,6 +186,10 @@ world_replies v (e ∷ es) = (world_step v e).reply ∷ world_replies (world_ste
 abbrev pub IsSeat : BookValue → ℕ → Option WorkerValue → Type 0
 IsSeat b w None = Unit {0}
 IsSeat b w (Some x) = (x.grant.worker ≡ w) × HoldsTile b x
+
+-- each worker of a world that has a lease holds its tile
+abbrev pub EachHolds : WorldValue → Type 0
+EachHolds v = (w : ℕ) → w < length v.workers → IsSeat v.book w (worker_at v.workers w)
 
 -- what is true of every world: it has 1 to 32 workers, and each that has a lease holds its tile
 pub record IsWorld (v : WorldValue) : Type 0 where

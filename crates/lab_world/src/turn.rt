@@ -1,11 +1,10 @@
 //! What one worker's act makes of the book and of its seat.
-ghost use Rattle.std.specs.Prelude.{◌≡◌, ◌≤◌, ℕ, Option, length, IfOk, OnErr};
+ghost use Rattle.std.specs.Prelude.{◌≡◌, ◌≤◌, ℕ, length, IfOk, OnErr};
 ghost use Rattle.lab_book.specs.Book.{BookValue};
 ghost use Rattle.lab_book.specs.declared.fault.BookFault.TheVariants as faults;
 ghost use Rattle.lab_world.specs.declared.event.Act.TheVariants as acts;
 ghost use Rattle.lab_world.specs.declared.event.WorldReply.TheVariants as replies;
-ghost use Rattle.lab_world.specs.Worker.{WorkerValue};
-ghost use Rattle.lab_world.specs.World.{Turned, IsSeat, turn, lease_act, end_act};
+ghost use Rattle.lab_world.specs.World.{Turned, IsSeat, turn, lease_act, end_act, Acts, AnyActs, ActsAside};
 
 use crate::event::{Act, WorldReply};
 use crate::fault::WorkerFault;
@@ -84,7 +83,7 @@ fn lease<'p, T: Table>(
     wanted: Wanted,
 ) -> Result<WorldReply, AllocError>
     requires { w ≤ 31 }
-    ensures turned { IfOk result (λ r. Turned (turn book.old seat.old w (lease_act wanted id)) r book.new seat.new) }
+    ensures turned { Acts result w (lease_act wanted id) book.old book.new seat.old seat.new }
     ensures book { OnErr result (book.new ≡ book.old) }
     ensures unchanged { OnErr result (seat.new ≡ seat.old) }
 {
@@ -109,7 +108,7 @@ fn lease_any<'p, T: Table>(
     w: u8,
 ) -> Result<WorldReply, AllocError>
     requires { w ≤ 31 }
-    ensures turned { IfOk result (λ r. Turned (turn book.old seat.old w Act.LeaseAny) r book.new seat.new) }
+    ensures turned { Acts result w Act.LeaseAny book.old book.new seat.old seat.new }
     ensures book { OnErr result (book.new ≡ book.old) }
     ensures unchanged { OnErr result (seat.new ≡ seat.old) }
 {
@@ -126,7 +125,7 @@ fn post<'p, T: Table>(
     book: &mut Book<'p>,
     seat: &mut Option<Worker<'p, T>>,
 ) -> Result<WorldReply, AllocError>
-    ensures turned { IfOk result (λ r. (w : ℕ) → Turned (turn book.old seat.old w Act.Post) r book.new seat.new) }
+    ensures turned { AnyActs result Act.Post book.old book.new seat.old seat.new }
     ensures book { OnErr result (book.new ≡ book.old) }
     ensures unchanged { OnErr result (seat.new ≡ seat.old) }
 {
@@ -147,7 +146,7 @@ fn retract<'p, T: Table>(
     w: u8,
 ) -> Result<WorldReply, AllocError>
     requires { IsSeat book.old w seat.old }
-    ensures turned { IfOk result (λ r. Turned (turn book.old seat.old w Act.Retract) r book.new seat.new) }
+    ensures turned { Acts result w Act.Retract book.old book.new seat.old seat.new }
     ensures book { OnErr result (book.new ≡ book.old) }
     ensures unchanged { OnErr result (seat.new ≡ seat.old) }
 {
@@ -171,7 +170,7 @@ fn split<'p, T: Table>(
     option: u32,
 ) -> Result<WorldReply, AllocError>
     requires { IsSeat book.old w seat.old }
-    ensures turned { IfOk result (λ r. Turned (turn book.old seat.old w (acts.Split level option)) r book.new seat.new) }
+    ensures turned { Acts result w (acts.Split level option) book.old book.new seat.old seat.new }
     ensures book { OnErr result (book.new ≡ book.old) }
     ensures unchanged { OnErr result (seat.new ≡ seat.old) }
 {
@@ -192,7 +191,7 @@ fn end<'p, T: Table>(
     seat: &mut Option<Worker<'p, T>>,
     ending: Ending,
 ) -> Result<WorldReply, AllocError>
-    ensures turned { IfOk result (λ r. (w : ℕ) → Turned (turn book.old seat.old w (end_act ending)) r book.new seat.new) }
+    ensures turned { AnyActs result (end_act ending) book.old book.new seat.old seat.new }
     ensures book { OnErr result (book.new ≡ book.old) }
     ensures unchanged { OnErr result (seat.new ≡ seat.old) }
 {
@@ -211,7 +210,7 @@ fn end<'p, T: Table>(
 /// A tile goes back to one of its marks.
 fn put_back(book: &mut Book<'_>, w: u8, id: u64, state: &State) -> Result<WorldReply, AllocError>
     requires { w ≤ 31 }
-    ensures turned { IfOk result (λ r. (x : Option WorkerValue) → Turned (turn book.old x w (acts.PutBack id state.now)) r book.new x) }
+    ensures turned { ActsAside result w (acts.PutBack id state.now) book.old book.new }
     ensures book { OnErr result (book.new ≡ book.old) }
 {
     let index = next_index(book);
@@ -224,7 +223,7 @@ fn put_back(book: &mut Book<'_>, w: u8, id: u64, state: &State) -> Result<WorldR
 /// A tile is asked to stop.
 fn request_stop(book: &mut Book<'_>, w: u8, id: u64) -> Result<WorldReply, AllocError>
     requires { w ≤ 31 }
-    ensures turned { IfOk result (λ r. (x : Option WorkerValue) → Turned (turn book.old x w (acts.RequestStop id)) r book.new x) }
+    ensures turned { ActsAside result w (acts.RequestStop id) book.old book.new }
     ensures book { OnErr result (book.new ≡ book.old) }
 {
     let index = next_index(book);
@@ -244,7 +243,7 @@ pub(crate) fn act<'p, T: Table>(
 ) -> Result<WorldReply, AllocError>
     requires small { w ≤ 31 }
     requires seat { IsSeat book.old w seat.old }
-    ensures turned { IfOk result (λ r. Turned (turn book.old seat.old w act.now) r book.new seat.new) }
+    ensures turned { Acts result w act.now book.old book.new seat.old seat.new }
     ensures book { OnErr result (book.new ≡ book.old) }
     ensures unchanged { OnErr result (seat.new ≡ seat.old) }
 {

@@ -1,15 +1,13 @@
 //! Workers: a lease with the runner that searches its tile.
 ghost use Rattle.std.specs.Prelude.{◌≡◌, ◌≤◌, ◌<◌, ◌⊎◌, length, is_err, Err, IsTrue, IfOk, IfErr, IfSome, OnOk, OnErr};
+ghost use Rattle.cover_problem.specs.Answers.{Returns};
 ghost use Rattle.x_steps.specs.StateView.{state_value};
-ghost use Rattle.x_steps.specs.Steps.{next, event_of};
-ghost use Rattle.x_steps.specs.Before.{prev};
-ghost use Rattle.x_steps.specs.Run.{after};
-ghost use Rattle.x_steps.specs.Walk.{last_event, OnlyMoves};
+ghost use Rattle.x_steps.specs.Walk.{OnlyMoves};
 ghost use Rattle.x_branches.specs.Runner.{IsRunner};
 ghost use Rattle.x_branches.specs.Refusals.{CanAdvance, AdvanceRefused};
 ghost use Rattle.x_branches.specs.Walk.{CanAdvanceBy, HasToStop};
 ghost use Rattle.lab_book.specs.Book.{BookValue};
-ghost use Rattle.lab_world.specs.Worker.{HoldsTile, moved_to};
+ghost use Rattle.lab_world.specs.Worker.{HoldsTile, moved_forward, moved_forward_by, moved_backward, next_event, event_after};
 
 mod ending;
 mod leasing;
@@ -70,8 +68,8 @@ impl<'p, T: Table> Worker<'p, T> {
 
     /// Takes one step, as its runner does.
     pub fn step(&mut self) -> Result<Event, RunnerFault>
-        ensures state { OnOk result (self.new ≡ moved_to self.old (next self.old.runner.problem self.old.runner.position)) }
-        ensures event { IfOk result (λ event. event ≡ event_of self.old.runner.problem self.old.runner.position) }
+        ensures state { OnOk result (self.new ≡ moved_forward self.old) }
+        ensures event { Returns result (next_event self.old) }
         ensures can { OnOk result (CanAdvance self.old.runner) }
         ensures refused { IfErr result (AdvanceRefused self.old.runner) }
         ensures unchanged { OnErr result (self.new ≡ self.old) }
@@ -84,10 +82,9 @@ impl<'p, T: Table> Worker<'p, T> {
     /// came to a visit or to the end of the run, or where the next one would be refused. Refused where the first one is, which
     /// changes nothing.
     pub fn walk(&mut self, most: u32) -> Result<Walk, RunnerFault>
-        ensures state { IfOk result (λ w. self.new
-            ≡ moved_to self.old (after self.old.runner.problem w.steps self.old.runner.position)) }
+        ensures state { IfOk result (λ w. self.new ≡ moved_forward_by self.old w.steps) }
         ensures each_step { IfOk result (λ w. CanAdvanceBy self.old.runner w.steps) }
-        ensures event { IfOk result (λ w. w.event ≡ last_event self.old.runner.problem w.steps self.old.runner.position) }
+        ensures event { IfOk result (λ w. w.event ≡ event_after self.old w.steps) }
         ensures moves { IfOk result (λ w. OnlyMoves self.old.runner.problem w.steps self.old.runner.position) }
         ensures within { IfOk result (λ w. w.steps ≤ most) }
         ensures some { IfOk result (λ w. 0 < most → 0 < w.steps) }
@@ -102,7 +99,7 @@ impl<'p, T: Table> Worker<'p, T> {
 
     /// Takes the last step back that isn't posted, as its runner does.
     pub fn back(&mut self) -> Result<(), RunnerFault>
-        ensures state { OnOk result (self.new ≡ moved_to self.old (prev self.old.runner.problem self.old.runner.position)) }
+        ensures state { OnOk result (self.new ≡ moved_backward self.old) }
         ensures can { OnOk result (self.old.runner.position ≡ self.old.runner.mark → ⊥) }
         ensures refused { IfErr result (λ fault. fault ≡ RunnerFault.AtMark) }
         ensures at_mark { OnErr result (self.old.runner.position ≡ self.old.runner.mark) }

@@ -1,12 +1,14 @@
 //! Worlds: a book, and for each worker nothing or its lease with its runner.
-ghost use Rattle.std.specs.Prelude.{◌≡◌, ◌≤◌, ◌<◌, ℕ, All, None, length, take, replicate, option_map, vec_len, is_some};
+ghost use Rattle.std.specs.Prelude.{◌≡◌, ◌≤◌, ◌<◌, All, None, length, take, replicate, option_map, vec_len, is_some};
 ghost use Rattle.std.specs.Prelude.{IfOk, IfErr, IfSome, OnOk, OnErr};
+ghost use Rattle.cover_problem.specs.Answers.{Returns, ReturnsItems};
 ghost use Rattle.x_steps.specs.StateView.{state_value};
 ghost use Rattle.x_steps.specs.StateValue.{start};
 ghost use Rattle.x_steps.specs.Steps.{covered_in};
 ghost use Rattle.x_branches.specs.Runner.{IsRunner};
+ghost use Rattle.x_branches.specs.Branch.{whole_run};
 ghost use Rattle.lab_book.specs.Book.{new_book, leased_in};
-ghost use Rattle.lab_world.specs.World.{WorldValue, world_step, played, world_replies, worker_at, fresh, IsSeat, state_of};
+ghost use Rattle.lab_world.specs.World.{WorldValue, world_step, played, world_replies, worker_at, fresh, state_of, EachHolds};
 
 use crate::event::{WorldEvent, WorldReply};
 use crate::turn::act;
@@ -59,7 +61,7 @@ impl<'p, T: Table> World<'p, T> {
     pub fn new(alloc: Global, problem: &'p Problem, workers: u8) -> Result<World<'p, T>, AllocError>
         requires some { 0 < workers }
         requires few { workers ≤ 32 }
-        ensures { IfOk result (λ world. world ≡ fresh (new_book problem.now (record { lo = None; hi = None }) start) workers) }
+        ensures { Returns result (fresh (new_book problem.now whole_run start) workers) }
     {
         let book = Book::new(alloc, problem)?;
         let workers = without_tiles(alloc, workers)?;
@@ -83,7 +85,7 @@ impl<'p, T: Table> World<'p, T> {
     /// The book. Each worker that has a lease holds a tile of it: its runner searches that tile's branch, from the tile's mark on.
     pub fn book(&self) -> &Book<'p>
         ensures book { result.now ≡ self.now.book }
-        ensures holds { (w : ℕ) → w < length self.now.workers → IsSeat self.now.book w (worker_at self.now.workers w) }
+        ensures holds { EachHolds self.now }
     {
         &self.book
     }
@@ -143,7 +145,7 @@ impl<'p, T: Table> World<'p, T> {
     /// as the events before it left it, and their replies come.
     pub fn play(&mut self, events: &[WorldEvent]) -> Result<Vec<WorldReply>, PlayStopped>
         requires { All (λ (e : WorldEvent). e.worker < length self.old.workers) events.now }
-        ensures replies { IfOk result (λ replies. replies.items ≡ world_replies self.old events.now) }
+        ensures replies { ReturnsItems result (world_replies self.old events.now) }
         ensures world { OnOk result (self.new ≡ played self.old events.now) }
         ensures first_replies { IfErr result (λ stopped.
             stopped.replies.items ≡ world_replies self.old (take (vec_len stopped.replies) events.now)) }

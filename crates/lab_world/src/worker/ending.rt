@@ -1,6 +1,6 @@
 //! Workers give their tiles up.
 ghost use Rattle.std.specs.Prelude.{◌≡◌, IfErr, OnOk};
-ghost use Rattle.lab_book.specs.Calls.{Ends, EndRefused};
+ghost use Rattle.lab_book.specs.Calls.{Ends, RefusesEnd};
 ghost use Rattle.lab_book.specs.declared.entry.Call.TheVariants as calls;
 ghost use Rattle.lab_world.specs.Worker.{end_call};
 
@@ -25,7 +25,7 @@ fn end_lease(
     ending: Ending,
 ) -> Result<(), Refused<BookFault, Lease>>
     ensures made { OnOk result (Ends book.old book.new (end_call ending) lease) }
-    ensures refused { IfErr result (λ r. EndRefused book.old book.new (end_call ending) lease r.fault) }
+    ensures refused { RefusesEnd result book.old book.new (end_call ending) lease }
     ensures given_back { IfErr result (λ r. r.given ≡ lease) }
 {
     match ending {
@@ -52,7 +52,7 @@ impl<'p, T: Table> Worker<'p, T> {
         ending: Ending,
     ) -> Result<(), Refused<BookFault, Worker<'p, T>>>
         ensures made { OnOk result (Ends book.old book.new (end_call ending) self.entry.grant) }
-        ensures refused { IfErr result (λ r. EndRefused book.old book.new (end_call ending) self.entry.grant r.fault) }
+        ensures refused { RefusesEnd result book.old book.new (end_call ending) self.entry.grant }
         ensures given_back { IfErr result (λ r. r.given ≡ self.entry) }
     {
         let (lease, runner) = self.parts();
@@ -73,7 +73,7 @@ impl<'p, T: Table> Worker<'p, T> {
     /// Parks its tile: what it has not posted is lost. Refused as the book refuses it; the worker then comes back.
     pub fn park(self, book: &mut Book<'p>) -> Result<(), Refused<BookFault, Worker<'p, T>>>
         ensures made { OnOk result (Ends book.old book.new calls.Park self.entry.grant) }
-        ensures refused { IfErr result (λ r. EndRefused book.old book.new calls.Park self.entry.grant r.fault) }
+        ensures refused { RefusesEnd result book.old book.new calls.Park self.entry.grant }
         ensures given_back { IfErr result (λ r. r.given ≡ self.entry) }
     {
         self.end(book, Ending::Park)
@@ -83,7 +83,7 @@ impl<'p, T: Table> Worker<'p, T> {
     /// Refused as the book refuses it; the worker then comes back.
     pub fn abandon(self, book: &mut Book<'p>) -> Result<(), Refused<BookFault, Worker<'p, T>>>
         ensures made { OnOk result (Ends book.old book.new calls.Abandon self.entry.grant) }
-        ensures refused { IfErr result (λ r. EndRefused book.old book.new calls.Abandon self.entry.grant r.fault) }
+        ensures refused { RefusesEnd result book.old book.new calls.Abandon self.entry.grant }
         ensures given_back { IfErr result (λ r. r.given ≡ self.entry) }
     {
         self.end(book, Ending::Abandon)
@@ -92,7 +92,7 @@ impl<'p, T: Table> Worker<'p, T> {
     /// Closes its tile, which has to be posted up to its end. Refused as the book refuses it; the worker then comes back.
     pub fn close(self, book: &mut Book<'p>) -> Result<(), Refused<BookFault, Worker<'p, T>>>
         ensures made { OnOk result (Ends book.old book.new calls.Close self.entry.grant) }
-        ensures refused { IfErr result (λ r. EndRefused book.old book.new calls.Close self.entry.grant r.fault) }
+        ensures refused { RefusesEnd result book.old book.new calls.Close self.entry.grant }
         ensures given_back { IfErr result (λ r. r.given ≡ self.entry) }
     {
         self.end(book, Ending::Close)

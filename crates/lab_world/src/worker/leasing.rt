@@ -1,11 +1,12 @@
 //! Workers are made where they lease a tile.
 ghost use Rattle.std.specs.Prelude.{◌≡◌, ◌≤◌, ◌<◌, length, Some, None, Err, IsErr, IfOk, IfErr, IfSome, OnOk, OnErr};
-ghost use Rattle.lab_book.specs.Tile.{is_waiting, is_held, mark_of};
+ghost use Rattle.cover_problem.specs.Answers.{Returns};
+ghost use Rattle.lab_book.specs.Tile.{is_waiting, is_held};
 ghost use Rattle.lab_book.specs.Tiling.{tile_at, IsTiling};
 ghost use Rattle.lab_book.specs.Book.{book_step, first_waiting};
-ghost use Rattle.lab_book.specs.Calls.{Made, Refuses, leased_reply};
+ghost use Rattle.lab_book.specs.Calls.{Refuses, Leases};
 ghost use Rattle.lab_book.specs.declared.entry.Call.TheVariants as calls;
-ghost use Rattle.lab_world.specs.Worker.{HoldsTile, StandsAtFirst, runner_at, leased_by, is_wanted, wanted_place, lease_call};
+ghost use Rattle.lab_world.specs.Worker.{HoldsTile, StandsAtFirst, leased_by, is_wanted, wanted_place, lease_call, runner_on};
 
 use crate::worker::Worker;
 use cover_problem::Table;
@@ -75,7 +76,7 @@ fn wanted_place(book: &Book<'_>, wanted: Wanted, id: u64) -> Option<usize>
 /// Leases the tile with an id from the book.
 fn asked<'p>(book: &mut Book<'p>, w: u8, id: u64, wanted: Wanted) -> Result<Leased<'p>, BookFault>
     requires { w ≤ 31 }
-    ensures made { IfOk result (λ r. Made book.old book.new w (lease_call wanted id) (leased_reply r)) }
+    ensures made { IfOk result (Leases book.old book.new w (lease_call wanted id)) }
     ensures refused { IfErr result (λ f. Refuses book.old book.new w (lease_call wanted id) f) }
 {
     match wanted {
@@ -101,8 +102,7 @@ fn runner_of<'p, T: Table>(
 ) -> Result<Runner<'p, T>, AllocError>
     requires { place < length book.now.tiles }
     ensures tiling { IsTiling book.now.problem book.now.branch book.now.first book.now.tiles }
-    ensures runner { IfOk result (λ runner. runner ≡
-        runner_at book.now.problem (tile_at book.now.tiles place).branch (mark_of (tile_at book.now.tiles place))) }
+    ensures runner { Returns result (runner_on book.now place) }
 {
     let tile = &book.tiles()[place];
     let table = T::new(alloc, book.problem())?;

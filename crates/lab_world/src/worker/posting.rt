@@ -2,11 +2,10 @@
 ghost use Rattle.std.specs.Prelude.{◌≡◌, ◌<◌, Some, IfOk, IfErr, OnOk, OnErr};
 ghost use Rattle.x_steps.specs.StateValue.{StateValue};
 ghost use Rattle.x_branches.specs.Runner.{unposted_steps};
-ghost use Rattle.lab_book.specs.Calls.{Posts, PostRefused};
 ghost use Rattle.lab_book.specs.declared.entry.Call.TheVariants as calls;
 ghost use Rattle.lab_book.specs.declared.entry.Reply.TheVariants as replies;
-ghost use Rattle.lab_world.specs.Worker.{HoldsTile, marked_at, unposted, after_call, answer_to, after_retract};
-ghost use Rattle.lab_world.specs.Worker.{RetractRefused};
+ghost use Rattle.lab_world.specs.Worker.{HoldsTile, marked_at, after_call};
+ghost use Rattle.lab_world.specs.Worker.{RetractRefused, WorkerPosts, WorkerPostRefused, retracted_worker, answer_to};
 
 use crate::fault::WorkerFault;
 use crate::worker::Worker;
@@ -19,9 +18,9 @@ impl<'p, T: Table> Worker<'p, T> {
     /// Posts what it walked since its mark; its mark is then its position. Refused as the book refuses it; what it walked is then
     /// unposted as before.
     pub fn post(&mut self, book: &mut Book<'p>) -> Result<Posted, BookFault>
-        ensures made { IfOk result (λ r. Posts book.old book.new self.old.grant (unposted self.old) r) }
+        ensures made { IfOk result (WorkerPosts book.old book.new self.old) }
         ensures marked { OnOk result (self.new ≡ marked_at self.old self.old.runner.position) }
-        ensures refused { IfErr result (λ f. PostRefused book.old book.new self.old.grant (unposted self.old) f) }
+        ensures refused { IfErr result (WorkerPostRefused book.old book.new self.old) }
         ensures unchanged { OnErr result (self.new ≡ self.old) }
         ensures holds { HoldsTile book.old self.old → HoldsTile book.new self.new }
     {
@@ -46,7 +45,7 @@ impl<'p, T: Table> Worker<'p, T> {
     pub fn retract(&mut self, book: &mut Book<'p>) -> Result<(), WorkerFault>
         requires { HoldsTile book.old self.old }
         ensures book { OnOk result (book.new ≡ after_call book.old self.old calls.Retract) }
-        ensures worker { OnOk result (Some self.new ≡ after_retract self.old (answer_to book.old self.old calls.Retract)) }
+        ensures worker { OnOk result (Some self.new ≡ retracted_worker book.old self.old) }
         ensures reply { OnOk result ((from : StateValue) × (to : StateValue)
             × (answer_to book.old self.old calls.Retract ≡ replies.Retracted from to)) }
         ensures none_unposted { OnOk result (unposted_steps self.old.runner ≡ 0) }

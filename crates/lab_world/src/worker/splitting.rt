@@ -3,7 +3,7 @@ ghost use Rattle.std.specs.Prelude.{◌≡◌, true, IfOk, IfErr, OnOk, OnErr};
 ghost use Rattle.cover_problem.specs.Lists.{has};
 ghost use Rattle.x_branches.specs.Refusals.{untried_in};
 ghost use Rattle.lab_book.specs.declared.entry.Reply.TheVariants as replies;
-ghost use Rattle.lab_world.specs.Worker.{HoldsTile, cut_at, split_at, after_call, answer_to, shortened, WorkerSplitRefused};
+ghost use Rattle.lab_world.specs.Worker.{HoldsTile, split_at, WorkerSplitRefused, answer_to, book_after_split, shortened_at};
 
 use crate::fault::WorkerFault;
 use crate::worker::Worker;
@@ -23,9 +23,9 @@ impl<'p, T: Table> Worker<'p, T> {
     ) -> Result<u64, WorkerFault>
         requires { HoldsTile book.old self.old }
         ensures untried { OnOk result (has (untried_in self.old.runner level) option ≡ true) }
-        ensures book { OnOk result (book.new ≡ after_call book.old self.old (split_at self.old level option)) }
+        ensures book { OnOk result (book.new ≡ book_after_split book.old self.old level option) }
         ensures reply { IfOk result (λ id. answer_to book.old self.old (split_at self.old level option) ≡ replies.Split id) }
-        ensures worker { OnOk result (self.new ≡ shortened self.old (cut_at self.old.runner level option)) }
+        ensures worker { OnOk result (self.new ≡ shortened_at self.old level option) }
         ensures refused { IfErr result (WorkerSplitRefused book.old book.new self.old level option) }
         ensures unchanged { OnErr result (self.new ≡ self.old) }
         ensures holds { HoldsTile book.new self.new }

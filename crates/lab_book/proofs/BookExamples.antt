@@ -202,6 +202,7 @@ numbered = record { below = below; once = once }
     below zero l = omega arith
     below (suc zero) l = omega arith
     below (suc (suc i)) l = absurd (omega arith)
+
     once : (i j : ℕ) → i < 2 → j < 2 → (tile_at parted i).id ≡ (tile_at parted j).id → i ≡ j
     once zero zero l m e = refl
     once zero (suc zero) l m e = absurd (omega (arith, e))

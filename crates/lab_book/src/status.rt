@@ -1,6 +1,6 @@
 //! How a tile stands.
 ghost use Rattle.std.specs.Prelude.{◌≡◌};
-ghost use Rattle.lab_book.specs.Tile.{is_waiting, is_leased, is_closed, is_free, is_lease, freed_status, asked_status};
+ghost use Rattle.lab_book.specs.Tile.{is_waiting, is_held, is_leased, is_closed, is_free, is_lease, freed_status, asked_status};
 
 use crate::lease::Grant;
 
@@ -16,7 +16,7 @@ pub enum Status {
 
 impl Status {
     /// Whether it waits.
-    pub(crate) fn is_waiting(self) -> bool
+    pub fn is_waiting(self) -> bool
         ensures { result ≡ is_waiting self }
     {
         match self {
@@ -25,8 +25,18 @@ impl Status {
         }
     }
 
+    /// Whether it is held.
+    pub fn is_held(self) -> bool
+        ensures { result ≡ is_held self }
+    {
+        match self {
+            Status::Held => true,
+            _ => false,
+        }
+    }
+
     /// Whether it is leased.
-    pub(crate) fn is_leased(self) -> bool
+    pub fn is_leased(self) -> bool
         ensures { result ≡ is_leased self }
     {
         match self {
@@ -47,7 +57,7 @@ impl Status {
     }
 
     /// Whether it is done.
-    pub(crate) fn is_closed(self) -> bool
+    pub fn is_closed(self) -> bool
         ensures { result ≡ is_closed self }
     {
         match self {

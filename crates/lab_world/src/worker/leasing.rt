@@ -1,7 +1,6 @@
 //! Workers are made where they lease a tile.
 ghost use Rattle.std.specs.Prelude.{◌≡◌, ◌≤◌, ◌<◌, length, Some, None, Err, IsErr, IfOk, IfErr, IfSome, OnOk, OnErr};
 ghost use Rattle.cover_problem.specs.Answers.{Returns};
-ghost use Rattle.lab_book.specs.Tile.{is_waiting, is_held};
 ghost use Rattle.lab_book.specs.Tiling.{tile_at, IsTiling};
 ghost use Rattle.lab_book.specs.Book.{book_step, first_waiting};
 ghost use Rattle.lab_book.specs.Calls.{Refuses, Leases};
@@ -21,26 +20,6 @@ pub(crate) enum Wanted {
     Held,
 }
 
-/// Whether a tile waits.
-fn is_waiting(status: Status) -> bool
-    ensures { result ≡ is_waiting status }
-{
-    match status {
-        Status::Waiting => true,
-        _ => false,
-    }
-}
-
-/// Whether a tile is held.
-fn is_held(status: Status) -> bool
-    ensures { result ≡ is_held status }
-{
-    match status {
-        Status::Held => true,
-        _ => false,
-    }
-}
-
 /// How the tile at a place stands.
 fn status_at(book: &Book<'_>, place: usize) -> Status
     requires { place < length book.now.tiles }
@@ -54,8 +33,8 @@ fn is_wanted(wanted: Wanted, status: Status) -> bool
     ensures { result ≡ is_wanted wanted status }
 {
     match wanted {
-        Wanted::Waiting => is_waiting(status),
-        Wanted::Held => is_held(status),
+        Wanted::Waiting => status.is_waiting(),
+        Wanted::Held => status.is_held(),
     }
 }
 
@@ -91,7 +70,7 @@ fn first_waiting(book: &Book<'_>) -> Option<usize>
 {
     book.tiles()
         .iter()
-        .position(|tile| is_waiting(tile.status()))
+        .position(|tile| tile.status().is_waiting())
 }
 
 /// The runner of the tile at a place, at the tile's mark.

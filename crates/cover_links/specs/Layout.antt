@@ -4,7 +4,7 @@
 --
 -- Example: in the small problem the nodes of the option 2, a d g, stand at 12 13 14, and the spacer after them at 15
 -- (computed in proofs/LinkExamples.antt).
-use Rattle.std.specs.Prelude.{ℕ, zero, suc, ◌+◌, ◌==◌, List, [], ◌∷◌, length}
+use Rattle.std.specs.Prelude.{ℕ, zero, suc, ◌+◌, ◌==◌, ◌≤◌, ◌≡◌, List, [], ◌∷◌, length, slice_index}
 use Rattle.std.specs.List.{before_first}
 use Rattle.cover_problem.specs.Problem.{ProblemValue, option_at}
 
@@ -17,6 +17,10 @@ start_from a (o ∷ options) (suc k) = start_from (suc (a + length o)) options k
 -- where the options after the first k of them begin; after the last one, the number of entries
 unfoldable pub start_of : ProblemValue → ℕ → ℕ
 start_of p k = start_from (suc (suc (length p.names))) p.options k
+
+-- each option begins where these say, and the last of them is the number of entries
+abbrev pub AreStarts : ProblemValue → List ℕ → Type 0
+AreStarts p starts = (k : ℕ) → k ≤ length p.options → slice_index starts k ≡ start_of p k
 
 -- where an item stands in a list
 abbrev pub index_of : ℕ → List ℕ → ℕ

@@ -1,5 +1,6 @@
 //! One raw block of entries. A clause sees it as the list of its entries.
-ghost use Rattle.std.specs.Prelude.{◌≡◌, ◌<◌, length, replicate, slice_set, IfOk};
+ghost use Rattle.std.specs.Prelude.{◌≡◌, ◌<◌, length, replicate, slice_set};
+ghost use Rattle.cover_problem.specs.Answers.{Returns};
 ghost use Rattle.cover_links.specs.Ownership.{FitsInBlock};
 ghost use Rattle.cover_links.specs.Entries.{entry_at};
 
@@ -75,7 +76,7 @@ impl<A: Allocator> Block<A> {
     /// A block of so many entries, each the one given.
     pub fn make(alloc: A, len: usize, blank: Entry) -> Result<Block<A>, AllocError>
         requires { FitsInBlock len }
-        ensures { IfOk result (λ b. b ≡ replicate len blank) }
+        ensures { Returns result (replicate len blank) }
     {
         let (base, mut slots, allocation) = allocate(&alloc, len)?;
         for index in 0..len {

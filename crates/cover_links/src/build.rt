@@ -1,8 +1,9 @@
 //! The block of a problem with nothing covered.
-ghost use Rattle.std.specs.Prelude.{◌≡◌, ℕ, ◌<◌, ◌≤◌, ◌+◌, ◌-◌, ◌^◌, suc, length, slice_index, IfOk};
+ghost use Rattle.std.specs.Prelude.{◌≡◌, ◌<◌, ◌≤◌, ◌+◌, ◌-◌, ◌^◌, suc, length, IfOk};
+ghost use Rattle.cover_problem.specs.Answers.{Returns};
 ghost use Rattle.cover_links.specs.Fresh as list;
 ghost use Rattle.cover_links.specs.Fresh.{node_appended, option_appended, heads_written};
-ghost use Rattle.cover_links.specs.Layout.{start_of};
+ghost use Rattle.cover_links.specs.Layout.{AreStarts};
 ghost use Rattle.cover_links.specs.Safety.{CanAppendNode, CanAppendOption};
 
 use crate::block::Block;
@@ -23,8 +24,7 @@ pub(crate) const BLANK: Entry = Entry {
 /// For each option where its first node stands, and at the end where the block ends.
 pub(crate) fn starts(alloc: Global, problem: &Problem) -> Result<Vec<u32>, AllocError>
     ensures count { IfOk result (λ s. length s.items ≡ suc (length problem.now.options)) }
-    ensures each { IfOk result (λ s. (k : ℕ) → k ≤ length problem.now.options →
-        slice_index s.items k ≡ start_of problem.now k) }
+    ensures each { IfOk result (λ s. AreStarts problem.now s.items) }
 {
     let options = problem.options();
     let mut starts = Vec::with_capacity(alloc, options as usize + 1)?;
@@ -124,8 +124,8 @@ fn append_option(block: &mut Block, start: u32, option: &[u32], number: u32)
 /// The block of a problem with nothing covered, whose options start there.
 pub(crate) fn fresh(alloc: Global, problem: &Problem, starts: &[u32]) -> Result<Block, AllocError>
     requires count { length starts.now ≡ suc (length problem.now.options) }
-    requires each { (k : ℕ) → k ≤ length problem.now.options → slice_index starts.now k ≡ start_of problem.now k }
-    ensures { IfOk result (λ b. b ≡ list.fresh problem.now) }
+    requires each { AreStarts problem.now starts.now }
+    ensures { Returns result (list.fresh problem.now) }
 {
     let items = problem.items();
     let options = problem.options();

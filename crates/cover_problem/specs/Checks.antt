@@ -12,15 +12,15 @@ use Rattle.cover_problem.specs.Limits.{most_name_bytes}
 use Rattle.cover_problem.specs.Problem.{ProblemValue, are_within}
 use Rattle.cover_problem.specs.Validation.{problem_from}
 use Rattle.cover_problem.specs.Reading.{add_item}
-use Rattle.cover_problem.specs.Views.{items_of, texts_of, names_in, problem_of_parts}
+use Rattle.cover_problem.specs.Views.{items_of, texts_of, kept_names, problem_of_parts}
 
 -- the call takes the item that a word names into an option, or tells the fault
 abbrev pub TakesItem : {X S : Type 0} → Result X (Refusal Fault) → IndexSet (ArrayString most_name_bytes) S → List ℕ → List ℕ → List ℕ → Type 0
-TakesItem result names old new word = Gives (λ _. new) result (add_item (names_in names) old word)
+TakesItem result names old new word = Gives (λ _. new) result (add_item (kept_names names) old word)
 
 -- the call takes the items that the words of these bytes name into an option, or tells the first fault
 abbrev pub TakesItems : {X S : Type 0} → Result X (Refusal Fault) → IndexSet (ArrayString most_name_bytes) S → List ℕ → List ℕ → List ℕ → Type 0
-TakesItems result names old new words = Gives (λ _. new) result (each (add_item (names_in names)) old (words_of words))
+TakesItems result names old new words = Gives (λ _. new) result (each (add_item (kept_names names)) old (words_of words))
 
 -- whether so many items and these options are within the limits
 abbrev pub fit_limits : ℕ → List (Vec ℕ Global) → Bool

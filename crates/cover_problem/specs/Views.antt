@@ -14,9 +14,9 @@ items_of options = map (λ o. o.items) options
 abbrev pub bytes_of : List (ArrayString most_name_bytes) → List (List ℕ)
 bytes_of names = map (λ n. n.bytes) names
 
--- the names in a set, in its order
-abbrev pub names_in : {S : Type 0} → IndexSet (ArrayString most_name_bytes) S → List (List ℕ)
-names_in names = bytes_of names.keys
+-- the names that a set keeps, in its order
+abbrev pub kept_names : {S : Type 0} → IndexSet (ArrayString most_name_bytes) S → List (List ℕ)
+kept_names names = bytes_of names.keys
 
 -- the bytes of each string
 abbrev pub texts_of : List (String Global) → List (List ℕ)

@@ -12,7 +12,7 @@ ghost use Rattle.cover_problem.specs.Validation.{add_name, with_item};
 ghost use Rattle.cover_problem.specs.Stamps.{AreStamps};
 ghost use Rattle.cover_problem.specs.Reading as reading;
 ghost use Rattle.cover_problem.specs.Reading.{item_of, nothing};
-ghost use Rattle.cover_problem.specs.Views.{names_in, problem_of_parts};
+ghost use Rattle.cover_problem.specs.Views.{kept_names, problem_of_parts};
 ghost use Rattle.cover_problem.specs.Checks.{TakesItem, TakesItems};
 
 use crate::fault::{Fault, ProblemFault, told};
@@ -59,8 +59,8 @@ impl Model for Draft {
 #[tactic(auto, unfolding(crate::specs::Reading::item_of))]
 fn item_named(names: &IndexSet<Name>, word: &[u8]) -> Result<u32, Fault>
     requires few { length names.now.keys ≤ MOST_ITEMS }
-    requires named { list_all problem.is_name (names_in names.now) ≡ true }
-    ensures item { Tells (λ i. i) result (item_of (names_in names.now) word.now) }
+    requires named { list_all problem.is_name (kept_names names.now) ≡ true }
+    ensures item { Tells (λ i. i) result (item_of (kept_names names.now) word.now) }
     ensures some { IfOk result (λ i. 0 < i) }
     ensures within { IfOk result (λ i. i ≤ length names.now.keys) }
 {
@@ -104,7 +104,7 @@ fn take_item(
     word: &[u8],
 ) -> Result<(), ProblemFault>
     requires few { length names.now.keys ≤ MOST_ITEMS }
-    requires named { list_all problem.is_name (names_in names.now) ≡ true }
+    requires named { list_all problem.is_name (kept_names names.now) ≡ true }
     requires each_item { length marks.old ≡ length names.now.keys }
     requires marked { AreStamps stamp option.old.items marks.old }
     ensures item { TakesItem result names.now option.old.items option.new.items word.now }
@@ -123,7 +123,7 @@ fn take_items(
     words: &[u8],
 ) -> Result<(), ProblemFault>
     requires few { length names.now.keys ≤ MOST_ITEMS }
-    requires named { list_all problem.is_name (names_in names.now) ≡ true }
+    requires named { list_all problem.is_name (kept_names names.now) ≡ true }
     requires each_item { length marks.old ≡ length names.now.keys }
     requires marked { AreStamps stamp option.old.items marks.old }
     ensures items { TakesItems result names.now option.old.items option.new.items words.now }
@@ -146,7 +146,7 @@ fn take_option(
     words: &[u8],
 ) -> Result<(), ProblemFault>
     requires few { length names.now.keys ≤ MOST_ITEMS }
-    requires named { list_all problem.is_name (names_in names.now) ≡ true }
+    requires named { list_all problem.is_name (kept_names names.now) ≡ true }
     requires each_item { length marks.old ≡ length names.now.keys }
     requires old { All (λ mark. mark < stamp) marks.old }
     ensures option { TakesItems result names.now [] taken.new.items words.now }
@@ -158,7 +158,7 @@ fn take_option(
 
 /// The names with those of these words.
 fn with_names(mut names: IndexSet<Name>, words: &[u8]) -> Result<IndexSet<Name>, ProblemFault>
-    ensures { Gives names_in result (each add_name (names_in names) (words_of words.now)) }
+    ensures { Gives kept_names result (each add_name (kept_names names) (words_of words.now)) }
 {
     let mut rest = words;
     while let Some((word, after)) = split_word(rest) {
@@ -185,7 +185,7 @@ fn within(
     taken: Vec<u32>,
 ) -> Result<Draft, Fault>
     requires primary { primary ≤ length names.keys }
-    requires named { list_all problem.is_name (names_in names) ≡ true }
+    requires named { list_all problem.is_name (kept_names names) ≡ true }
     requires counted { entries ≡ sum_by length options }
     requires marked { length marks.items ≡ length names.keys }
     requires old { All (λ mark. mark ≤ length options) marks.items }
@@ -207,7 +207,7 @@ fn within(
 /// A draft without options.
 fn of_names(alloc: Global, names: IndexSet<Name>, primary: usize) -> Result<Draft, ProblemFault>
     requires primary { primary ≤ length names.keys }
-    requires named { list_all problem.is_name (names_in names) ≡ true }
+    requires named { list_all problem.is_name (kept_names names) ≡ true }
     ensures { Gives (λ d. d) result (making.within (problem_of_parts names.keys primary [])) }
 {
     let marks = vec![in alloc; 0u32; names.len()]?;

@@ -1,7 +1,8 @@
 //! Lists of numbers, flat in memory.
 ghost use Rattle.std.specs.Prelude.{◌≡◌, ◌==◌, ◌<◌, ◌≤◌, ◌++◌, ◌∷◌, ◌+◌, ◌-◌, ◌^◌, ◌↔◌, IsTrue, All, map, vec_len, vec_capacity};
-ghost use Rattle.std.specs.Prelude.{[], ℕ, List, length, take, drop, slice_index_or, IfOk, OnOk, OnErr};
+ghost use Rattle.std.specs.Prelude.{[], ℕ, List, length, take, drop, slice_index_or, OnOk, OnErr};
 ghost use Rattle.cover_problem.specs.FlatLists.{start_at};
+ghost use Rattle.cover_problem.specs.Answers.{Returns};
 
 use std::alloc::{AllocError, Global};
 use std::marker::Model;
@@ -142,7 +143,7 @@ impl Lists {
 
     /// The same lists, in memory of their own.
     pub fn copy(&self) -> Result<Lists, AllocError>
-        ensures { IfOk result (λ lists. lists ≡ self.now) }
+        ensures { Returns result self.now }
     {
         let flat = self.flat.clone()?;
         let ends = self.ends.clone()?;

@@ -8,7 +8,7 @@ ghost use Rattle.text_lines.specs.Answers.{Gives, IsFaultOf};
 ghost use Rattle.text_lines.specs.declared.refusal.Refusal.TheVariants as refusals;
 ghost use Rattle.cover_problem.specs.declared.fault.Fault.TheVariants.{NoItemLine};
 ghost use Rattle.cover_problem.specs.Validation.{LacksPrimary};
-ghost use Rattle.cover_problem.specs.Views.{items_of, bytes_of, names_in, problem_of_parts, problem_of_lists};
+ghost use Rattle.cover_problem.specs.Views.{items_of, bytes_of, kept_names, problem_of_parts, problem_of_lists};
 ghost use Rattle.cover_problem.specs.Checks.{checked_problem};
 ghost use Rattle.cover_problem.specs.Answers.{Returns};
 
@@ -66,8 +66,8 @@ fn flat(alloc: Global, options: &[Vec<u32>]) -> Result<Lists, AllocError>
 
 /// Where a name stands.
 fn place_of(names: &IndexSet<Name>, name: &str) -> Option<usize>
-    requires { list_all is_name (names_in names.now) ≡ true }
-    ensures { result ≡ position (bytes_eq name.now) (names_in names.now) }
+    requires { list_all is_name (kept_names names.now) ≡ true }
+    ensures { result ≡ position (bytes_eq name.now) (kept_names names.now) }
 {
     let key = Name::from(name).ok()?;
     names.get_index_of(&key)

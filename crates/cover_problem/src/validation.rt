@@ -9,7 +9,7 @@ ghost use Rattle.text_lines.specs.Answers.{Gives};
 ghost use Rattle.cover_problem.specs.Faults.{Tells};
 ghost use Rattle.cover_problem.specs.Problem as problem;
 ghost use Rattle.cover_problem.specs.Validation.{add_name, option_from, options_from, LacksPrimary};
-ghost use Rattle.cover_problem.specs.Views.{items_of, names_in, texts_of};
+ghost use Rattle.cover_problem.specs.Views.{items_of, kept_names, texts_of};
 ghost use Rattle.cover_problem.specs.Checks.{ChecksNames, fit_limits};
 
 use crate::fault::{Fault, ProblemFault};
@@ -20,7 +20,7 @@ use std::alloc::Global;
 
 /// Takes a name, once.
 pub fn take_name(names: &mut IndexSet<Name>, word: &[u8]) -> Result<(), ProblemFault>
-    ensures { Gives (λ _. names_in names.new) result (add_name (names_in names.old) word.now) }
+    ensures { Gives (λ _. kept_names names.new) result (add_name (kept_names names.old) word.now) }
 {
     let name = name_of(word)?;
     if !names.insert(name)? {
@@ -31,7 +31,7 @@ pub fn take_name(names: &mut IndexSet<Name>, word: &[u8]) -> Result<(), ProblemF
 
 /// The names, each once.
 fn take_names(alloc: Global, given: &[String]) -> Result<IndexSet<Name>, ProblemFault>
-    ensures { Gives names_in result (each add_name [] (texts_of given.now)) }
+    ensures { Gives kept_names result (each add_name [] (texts_of given.now)) }
 {
     let mut names = IndexSet::new(alloc);
     for name in given {

@@ -22,3 +22,7 @@ pub record KeepsRows (bytes ends : List ℕ) (bytes_len bytes_cap ends_len ends_
 -- one row more
 abbrev pub added : RowsValue → List ℕ → ℕ → ℕ → RowsValue
 added a row kept room = record { rows = a.rows ++ row ∷ []; kept = kept; room = room }
+
+-- the same rows, and room for so many more
+abbrev pub keeping : RowsValue → ℕ → ℕ → RowsValue
+keeping a kept room = record { rows = a.rows; kept = kept; room = room }

@@ -1,6 +1,7 @@
 //! One row.
 ghost use Rattle.std.specs.Prelude.{◌≡◌, ◌++◌, ◌∷◌, [], ◌<◌, ◌^◌, ◌≤◌, ◌+◌, length, vec_len, vec_capacity};
-ghost use Rattle.std.specs.Prelude.{OnOk, OnErr, IfOk};
+ghost use Rattle.std.specs.Prelude.{OnOk, OnErr};
+ghost use Rattle.cover_problem.specs.Answers.{Returns};
 ghost use Rattle.packed_rows.specs.Numbers.{front, bytes_of, numbers_of, IsRow};
 
 use crate::reader::Reader;
@@ -102,7 +103,7 @@ impl Row {
 
     /// The same row, in memory of just its size.
     pub fn copy(&self) -> Result<Row, AllocError>
-        ensures { IfOk result (λ row. row ≡ self.now) }
+        ensures { Returns result self.now }
     {
         let bytes = Vec::from_slice(*self.bytes.allocator(), &self.bytes)?;
         Ok(Row { bytes })

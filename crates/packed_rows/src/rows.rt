@@ -2,9 +2,9 @@
 ghost use Rattle.std.specs.Prelude.{◌≡◌, ◌++◌, ◌∷◌, [], ◌<◌, ◌≤◌, ◌^◌, ◌*◌, ◌+◌, ◌-◌, length, vec_len, vec_capacity, take, drop};
 ghost use Rattle.std.specs.Prelude.{OnOk, OnErr, slice_index_or};
 ghost use Rattle.std.specs.List.{flat_map};
-ghost use Rattle.packed_rows.specs.Numbers.{bytes_of};
+ghost use Rattle.packed_rows.specs.Numbers.{bytes_of, most_bytes};
 ghost use Rattle.cover_problem.specs.FlatLists.{start_at};
-ghost use Rattle.packed_rows.specs.Rows.{added};
+ghost use Rattle.packed_rows.specs.Rows.{added, keeping};
 
 use crate::reader::Reader;
 use crate::row::{Row, put};
@@ -66,11 +66,11 @@ fn put_all(bytes: &mut Vec<u8>, more: &[u64])
 
 /// Adds a row's bytes and those of more numbers, and their end.
 fn add_row(bytes: &mut Vec<u8>, ends: &mut Vec<usize>, row: &[u8], more: &[u64])
-    requires room { vec_len bytes.old + (length row.now + 10 * length more.now) ≤ vec_capacity bytes.old }
+    requires room { vec_len bytes.old + most_bytes row.now more.now ≤ vec_capacity bytes.old }
     requires end { vec_len ends.old < vec_capacity ends.old }
     ensures added { bytes.new.items ≡ bytes.old.items ++ (row.now ++ flat_map bytes_of more.now) }
     ensures ends { ends.new.items ≡ ends.old.items ++ length bytes.new.items ∷ [] }
-    ensures long { vec_len bytes.new ≤ vec_len bytes.old + (length row.now + 10 * length more.now) }
+    ensures long { vec_len bytes.new ≤ vec_len bytes.old + most_bytes row.now more.now }
     ensures count { vec_len ends.new ≡ vec_len ends.old + 1 }
     ensures capacity { vec_capacity bytes.old ≤ vec_capacity bytes.new }
     ensures ends_capacity { vec_capacity ends.new ≡ vec_capacity ends.old }
@@ -106,8 +106,7 @@ impl Rows {
     /// Keeps room for so many short rows more, and beside them for one row of so many numbers. Where memory runs out, nothing changes.
     pub fn keep(&mut self, short: usize, room: usize) -> Result<(), AllocError>
         requires { short ≤ 2 }
-        ensures kept { OnOk result (self.new ≡
-            record { rows = self.old.rows; kept = self.old.kept + short; room = room }) }
+        ensures kept { OnOk result (self.new ≡ keeping self.old (self.old.kept + short) room) }
         ensures unchanged { OnErr result (self.new ≡ self.old) }
     {
         let kept = self.kept + short;
@@ -121,7 +120,7 @@ impl Rows {
 
     /// Gives the room for one row of many numbers up.
     pub fn give_up(&mut self)
-        ensures { self.new ≡ record { rows = self.old.rows; kept = self.old.kept; room = 0 } }
+        ensures { self.new ≡ keeping self.old self.old.kept 0 }
     {
         self.room = 0;
     }

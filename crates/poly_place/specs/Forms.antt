@@ -2,7 +2,7 @@
 -- Contracts of private functions cite these words.
 --
 -- Example: the parts 2 0 2 1 have the form 1 0 1 4, since the part numbered 2 stands first at place 1 (proofs/ClassExamples.antt).
-use Rattle.std.specs.Prelude.{◌≡◌, ◌↔◌, ℕ, ◌+◌, ◌<◌, ◌==◌, true, cond, List, [], ◌∷◌, map, slice_index}
+use Rattle.std.specs.Prelude.{◌≡◌, ◌↔◌, ℕ, ◌+◌, ◌<◌, ◌==◌, Bool, true, cond, List, [], ◌∷◌, map, slice_index}
 use Rattle.std.specs.Ordering.{nat_cmp}
 use Rattle.std.specs.Cmp.Lexicographic.{slice_cmp}
 use Rattle.std.specs.declared.cmp.Ordering.{Ordering}
@@ -25,12 +25,16 @@ place_of (c ∷ cs) v = cond (is_same c v) 0 (1 + place_of cs v)
 abbrev pub carrier : List Coordinates → ℕ → List ℕ
 carrier region n = map (place_of region) (images_in region n)
 
+-- for each of these cells whether it is among the others
+abbrev pub marks_of : List Coordinates → List Coordinates → List Bool
+marks_of others cells = map (has_cell others) cells
+
 -- symmetry n of the group brings the region onto itself and optional cells onto optional cells
 pub record IsKept (group : Group) (region maybe : List Coordinates) (n : ℕ) : Type 0 where
   pub limit : n < 48
   pub member : is_member group n ≡ true
   pub symmetry : HasSymmetry n region
-  pub optional : map (has_cell maybe) (images_in region n) ≡ map (has_cell maybe) region
+  pub optional : marks_of maybe (images_in region n) ≡ marks_of maybe region
 
 -- exactly the carriers of these symmetries
 abbrev pub AreCarriers : Group → List Coordinates → List Coordinates → List (List ℕ) → Type 0
@@ -38,6 +42,14 @@ AreCarriers group region maybe carriers =
     (g : List ℕ) → IsIn g carriers ↔ ((n : ℕ) × IsKept group region maybe n × (g ≡ carrier region n))
 
 -- ---- forms
+
+-- each of these places is one of n
+abbrev pub AreBelow : ℕ → List ℕ → Type 0
+AreBelow n places = (k : ℕ) → IsIn k places → k < n
+
+-- and so is each place of these lists
+abbrev pub AllAreBelow : ℕ → List (List ℕ) → Type 0
+AllAreBelow n lists = (g : List ℕ) → IsIn g lists → AreBelow n g
 
 -- the part of each cell
 abbrev pub parts_in : List Coordinates → List ChoiceValue → List ℕ

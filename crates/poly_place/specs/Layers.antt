@@ -3,12 +3,14 @@
 --
 -- Example: the piece A at 0 0 0 and 1 0 0 in the region 0 0 0, 1 0 0, 2 0 0, whose last cell may stay empty, is the line `AA_`
 -- (proofs/LayerExamples.antt).
-use Rattle.std.specs.Prelude.{ℕ, ◌+◌, ◌-◌, ◌<◌, ◌≡◌, max, if◌then◌else◌, List, [], ◌∷◌, map, find, option_map, unwrap_or, length, slice_index}
+use Rattle.std.specs.Prelude.{ℕ, ◌+◌, ◌-◌, ◌<◌, ◌≡◌, max, if◌then◌else◌, List, [], ◌∷◌, map, find, option_map, unwrap_or, length, slice_index, String, Result}
 use Rattle.std.specs.List.{range_with_len}
+use Rattle.std.specs.declared.alloc.Global.{Global}
 use Rattle.text_lines.specs.Writing.{text_of}
 use Rattle.poly_cells.specs.Coordinates.{Coordinates, coordinates, IsInGrid}
 use Rattle.poly_cells.specs.Shapes.{corner}
 use Rattle.poly_cells.specs.CellTests.{has_cell}
+use Rattle.poly_place.specs.Answers.{AddsText}
 use Rattle.poly_place.specs.Packings.{ChoiceValue}
 use Rattle.poly_place.specs.Chosen.{PackingValue}
 use Rattle.poly_place.specs.Tables.{grid_cells, bit_index}
@@ -65,3 +67,7 @@ pub record AreSymbols (symbol : Coordinates → ℕ) (table : List ℕ) : Type 0
 -- the symbols, once these cells are shown by one
 abbrev pub painted : (Coordinates → ℕ) → List Coordinates → ℕ → Coordinates → ℕ
 painted symbol cells b v = if has_cell cells v then b else symbol v
+
+-- whatever symbols the table shows, the call adds what is shown of them to the text, unless it has an error
+abbrev pub Shows : {X E : Type 0} → Result X E → String Global → String Global → List ℕ → ((Coordinates → ℕ) → List ℕ) → Type 0
+Shows result old new table shown = (symbol : Coordinates → ℕ) → AreSymbols symbol table → AddsText result old new (shown symbol)

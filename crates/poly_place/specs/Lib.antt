@@ -1,3 +1,4 @@
+pub mod Answers
 pub mod Placements
 pub mod Tables
 pub mod Packings

@@ -12,7 +12,7 @@ use Rattle.poly_cells.specs.Sets.{IsIn}
 use Rattle.poly_cells.specs.CellTests.{is_same, has_cell}
 use Rattle.poly_cells.specs.CellWords.{cell_word}
 use Rattle.poly_texts.specs.Puzzle.{PuzzleValue, IsPuzzle, names_of, has_name}
-use Rattle.cover_problem.specs.Problem.{ProblemValue}
+use Rattle.cover_problem.specs.Problem.{ProblemValue, is_small}
 use Rattle.cover_problem.specs.ExactCover.{IsExactCover}
 use Rattle.poly_place.specs.Placements.{IsPlacement, placements}
 
@@ -113,6 +113,10 @@ packing_problem p = record {
   primary = length (needed_things p);
   options = map (option_of p) (choices p);
 }
+
+-- whether that problem is within the limits
+abbrev pub problem_fits : PuzzleValue → Bool
+problem_fits p = is_small (packing_problem p)
 
 -- ---- packings and exact covers
 

@@ -1,5 +1,7 @@
 //! Classes of packings: how many there are where those that a symmetry carries onto one another count as one.
-ghost use Rattle.std.specs.Prelude.{◌≡◌, IfOk, map, vec_items};
+ghost use Rattle.std.specs.Prelude.{◌≡◌, IfOk};
+ghost use Rattle.cover_problem.specs.Answers.{Returns};
+ghost use Rattle.poly_place.specs.Answers.{lists_of};
 ghost use Rattle.poly_place.specs.Classes.{AreAlike, HaveOneRegion, IsClassCount, is_member};
 ghost use Rattle.poly_place.specs.ClassCount.{are_alike, class_count};
 ghost use Rattle.poly_place.specs.Forms.{AreCarriers};
@@ -23,7 +25,7 @@ pub enum Group {
 /// translation that brings the region onto itself, whatever the names of the pieces.
 pub fn classes(alloc: Global, packings: &[Packing<'_>], group: Group) -> Result<u64, AllocError>
     requires { HaveOneRegion packings.now }
-    ensures value { IfOk result (λ n. n ≡ class_count (are_alike group) packings.now) }
+    ensures value { Returns result (class_count (are_alike group) packings.now) }
     ensures counts { IfOk result (λ n. IsClassCount (AreAlike group) packings.now n) }
 {
     let Some(first) = packings.first() else {
@@ -43,7 +45,7 @@ fn carriers(
     maybe: &[Cell],
     group: Group,
 ) -> Result<Vec<Vec<usize>>, AllocError>
-    ensures { IfOk result (λ gs. AreCarriers group region.now maybe.now (map vec_items gs.items)) }
+    ensures { IfOk result (λ gs. AreCarriers group region.now maybe.now (lists_of gs.items)) }
 {
     let cells = region.cells();
     let marks = marks(alloc, maybe, cells)?;

@@ -1,8 +1,9 @@
 //! What may be chosen for the pieces of a puzzle: a placement of each.
-ghost use Rattle.std.specs.Prelude.{◌≡◌, ◌||◌, ◌++◌, IfOk, OnOk, length};
+ghost use Rattle.std.specs.Prelude.{◌≡◌, ◌||◌, length};
 ghost use Rattle.std.specs.List.{list_any};
 ghost use Rattle.poly_cells.specs.Sets.{IsIn};
 ghost use Rattle.poly_texts.specs.Puzzle.{IsPuzzle, names_of};
+ghost use Rattle.cover_problem.specs.Answers.{Returns, ReturnsItems, Adds};
 ghost use Rattle.poly_place.specs.Tables.{IsTable, grid_cells, has_bit};
 ghost use Rattle.poly_place.specs.Packings.{choices, choices_of_piece};
 ghost use Rattle.poly_place.specs.Compiled.{filled_cells, needed_names};
@@ -30,7 +31,7 @@ impl Model for Choice {
 }
 
 impl Choice {
-    ghost use Rattle.std.specs.Prelude.{◌≡◌, IfOk};
+    ghost use Rattle.std.specs.Prelude.{◌≡◌};
 
     /// The piece's name.
     pub fn name(&self) -> PieceName
@@ -48,7 +49,7 @@ impl Choice {
 
     /// An equal choice.
     pub fn copy(&self) -> Result<Choice, AllocError>
-        ensures { IfOk result (λ c. c ≡ self.now) }
+        ensures { Returns result self.now }
     {
         Ok(Choice {
             name: self.name,
@@ -71,7 +72,7 @@ pub fn add_choices(
     requires needed { needed.now ≡ needed_names puzzle.now }
     requires filled { IsTable (filled_cells puzzle.now) filled.now }
     requires member { IsIn name (names_of puzzle.now.pieces) }
-    ensures { OnOk result (choices.new.items ≡ choices.old.items ++ choices_of_piece puzzle.now (name, piece.now)) }
+    ensures { Adds result choices.old choices.new (choices_of_piece puzzle.now (name, piece.now)) }
 {
     let is_needed = needed.contains(&name);
     for cells in placements(alloc, piece, puzzle.region())? {
@@ -109,7 +110,7 @@ pub fn all_choices(
 ) -> Result<Vec<Choice>, AllocError>
     requires needed { needed.now ≡ needed_names puzzle.now }
     requires filled { IsTable (filled_cells puzzle.now) filled.now }
-    ensures { IfOk result (λ cs. cs.items ≡ choices puzzle.now) }
+    ensures { ReturnsItems result (choices puzzle.now) }
 {
     let pieces = puzzle.pieces();
     let mut choices = Vec::new(alloc);

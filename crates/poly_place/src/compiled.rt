@@ -1,10 +1,10 @@
 //! The exact cover problem that stands for a puzzle.
-ghost use Rattle.std.specs.Prelude.{◌≡◌, ◌++◌, Ok, Some, None, true, false, map, length, vec_items, if◌then◌else◌};
-ghost use Rattle.std.specs.Prelude.{IfOk, IsOk, IsErrOf};
-ghost use Rattle.std.specs.String.{string_bytes};
+ghost use Rattle.std.specs.Prelude.{◌≡◌, ◌++◌, Ok, Some, None, true, false, map, length, if◌then◌else◌};
+ghost use Rattle.std.specs.Prelude.{IsOk, IsErrOf};
 ghost use Rattle.poly_texts.specs.Puzzle.{IsPuzzle};
-ghost use Rattle.cover_problem.specs.Problem.{is_small};
-ghost use Rattle.poly_place.specs.Packings.{choices, packing_problem, needed_things, option_of, thing_name, things};
+ghost use Rattle.cover_problem.specs.Answers.{Returns, ReturnsItems};
+ghost use Rattle.poly_place.specs.Answers.{ReturnsLists, ReturnsTexts};
+ghost use Rattle.poly_place.specs.Packings.{choices, packing_problem, needed_things, option_of, thing_name, things, problem_fits};
 ghost use Rattle.poly_place.specs.Compiled.{AreNumbers, filled_cells, needed_names, option_by};
 ghost use Rattle.poly_place.specs.Tables.{grid_cells};
 
@@ -100,9 +100,9 @@ fn refusal(room: bool) -> Option<PlaceFault>
 
 /// The problem that stands for the puzzle; refused exactly where it would be past the limits of a problem.
 pub fn compile<'p>(alloc: Global, puzzle: &'p Puzzle) -> Result<Compiled<'p>, PlaceFault>
-    ensures value { IfOk result (λ c. c ≡ puzzle.now) }
-    ensures accepted { IsOk result → is_small (packing_problem puzzle.now) ≡ true }
-    ensures refused { IsErrOf result PlaceFault.TooManyOptions → is_small (packing_problem puzzle.now) ≡ false }
+    ensures value { Returns result puzzle.now }
+    ensures accepted { IsOk result → problem_fits puzzle.now ≡ true }
+    ensures refused { IsErrOf result PlaceFault.TooManyOptions → problem_fits puzzle.now ≡ false }
 {
     // Reading the region tells what holds of every puzzle.
     let _region = puzzle.region();
@@ -142,8 +142,8 @@ fn problem_of(
     requires pieces { pieces.now ≡ needed_names puzzle.now }
     requires cells { cells.now ≡ filled_cells puzzle.now }
     requires list { list.now ≡ choices puzzle.now }
-    requires small { is_small (packing_problem puzzle.now) ≡ true }
-    ensures { IfOk result (λ p. p ≡ packing_problem puzzle.now) }
+    requires small { problem_fits puzzle.now ≡ true }
+    ensures { Returns result (packing_problem puzzle.now) }
 {
     let primary = (pieces.len() + cells.len()) as u32;
     let names = item_names(alloc, puzzle, pieces, cells)?;
@@ -167,7 +167,7 @@ fn item_names(
 ) -> Result<Vec<String>, AllocError>
     requires pieces { pieces.now ≡ needed_names puzzle.now }
     requires cells { cells.now ≡ filled_cells puzzle.now }
-    ensures { IfOk result (λ names. map string_bytes names.items ≡ map thing_name (things puzzle.now)) }
+    ensures { ReturnsTexts result (map thing_name (things puzzle.now)) }
 {
     let mut names = Vec::new(alloc);
     add_piece_names(alloc, &mut names, pieces)?;
@@ -191,7 +191,7 @@ fn all_options(
     requires primary { primary ≡ length (needed_things puzzle.now) }
     requires numbers { AreNumbers puzzle.now numbers.now }
     requires list { list.now ≡ choices puzzle.now }
-    ensures { IfOk result (λ options. map vec_items options.items ≡ map (option_of puzzle.now) (choices puzzle.now)) }
+    ensures { ReturnsLists result (map (option_of puzzle.now) (choices puzzle.now)) }
 {
     let mut options = Vec::with_capacity(alloc, list.len())?;
     for choice in list {
@@ -209,7 +209,7 @@ fn option_of(
     cells: &[Cell],
 ) -> Result<Vec<u32>, AllocError>
     requires { length numbers.now ≡ grid_cells }
-    ensures { IfOk result (λ option. option.items ≡ option_by numbers.now item cells.now) }
+    ensures { ReturnsItems result (option_by numbers.now item cells.now) }
 {
     let mut option = Vec::with_capacity(alloc, cells.len() + 1)?;
     option.push(item)?;

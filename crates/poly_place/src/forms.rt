@@ -1,8 +1,10 @@
 //! Forms of packings: their parts as lists of numbers, the least of which is the same for packings that are alike.
-ghost use Rattle.std.specs.Prelude.{◌≡◌, ◌≤◌, ◌<◌, ◌∷◌, ℕ, IfOk, List, length, map, vec_items};
-ghost use Rattle.poly_cells.specs.Sets.{IsIn, in_order};
+ghost use Rattle.std.specs.Prelude.{◌≡◌, ◌≤◌, ◌<◌, ◌∷◌, length, map};
+ghost use Rattle.poly_cells.specs.Sets.{in_order};
+ghost use Rattle.cover_problem.specs.Answers.{ReturnsItems};
+ghost use Rattle.poly_place.specs.Answers.{ReturnsLists, lists_of};
 ghost use Rattle.poly_place.specs.Classes.{part_at};
-ghost use Rattle.poly_place.specs.Forms.{carried, first_form, forms_cmp, key_of, least_from, parts_in, place_in};
+ghost use Rattle.poly_place.specs.Forms.{carried, first_form, forms_cmp, key_of, least_from, parts_in, place_in, AreBelow, AllAreBelow};
 
 use crate::choice::Choice;
 use crate::packing::Packing;
@@ -16,8 +18,8 @@ pub fn all_keys(
     packings: &[Packing<'_>],
     carriers: &[Vec<usize>],
 ) -> Result<Vec<Vec<usize>>, AllocError>
-    requires { (g : List ℕ) → IsIn g (map vec_items carriers.now) → (k : ℕ) → IsIn k g → k < length region.now }
-    ensures { IfOk result (λ keys. map vec_items keys.items ≡ map (key_of region.now (map vec_items carriers.now)) packings.now) }
+    requires { AllAreBelow (length region.now) (lists_of carriers.now) }
+    ensures { ReturnsLists result (map (key_of region.now (lists_of carriers.now)) packings.now) }
 {
     let mut keys = Vec::with_capacity(alloc, packings.len())?;
     for packing in packings {
@@ -29,7 +31,7 @@ pub fn all_keys(
 
 /// The part of each cell of the region.
 fn parts_in(alloc: Global, region: &[Cell], placements: &[Choice]) -> Result<Vec<usize>, AllocError>
-    ensures { IfOk result (λ parts. parts.items ≡ parts_in region.now placements.now) }
+    ensures { ReturnsItems result (parts_in region.now placements.now) }
 {
     let mut parts = Vec::with_capacity(alloc, region.len())?;
     for cell in region {
@@ -58,8 +60,8 @@ fn least_form(
     parts: &[usize],
     carriers: &[Vec<usize>],
 ) -> Result<Vec<usize>, AllocError>
-    requires { (g : List ℕ) → IsIn g (map vec_items carriers.now) → (k : ℕ) → IsIn k g → k < length parts.now }
-    ensures { IfOk result (λ form. form.items ≡ least_from parts.now (first_form parts.now) (map vec_items carriers.now)) }
+    requires { AllAreBelow (length parts.now) (lists_of carriers.now) }
+    ensures { ReturnsItems result (least_from parts.now (first_form parts.now) (lists_of carriers.now)) }
 {
     let mut best = first_form(alloc, parts)?;
     for carrier in carriers {
@@ -74,8 +76,8 @@ fn least_form(
 
 /// The numbers at these places.
 fn carried(alloc: Global, numbers: &[usize], places: &[usize]) -> Result<Vec<usize>, AllocError>
-    requires { (k : ℕ) → IsIn k places.now → k < length numbers.now }
-    ensures { IfOk result (λ there. there.items ≡ carried numbers.now places.now) }
+    requires { AreBelow (length numbers.now) places.now }
+    ensures { ReturnsItems result (carried numbers.now places.now) }
 {
     let mut there = Vec::with_capacity(alloc, places.len())?;
     for place in places {
@@ -86,7 +88,7 @@ fn carried(alloc: Global, numbers: &[usize], places: &[usize]) -> Result<Vec<usi
 
 /// For each number where it stands first, from 1 on, and 0 for 0.
 fn first_form(alloc: Global, numbers: &[usize]) -> Result<Vec<usize>, AllocError>
-    ensures { IfOk result (λ form. form.items ≡ first_form numbers.now) }
+    ensures { ReturnsItems result (first_form numbers.now) }
 {
     let mut form = Vec::with_capacity(alloc, numbers.len())?;
     for number in numbers {
@@ -122,7 +124,7 @@ fn place_in(numbers: &[usize], number: usize) -> usize
 
 /// Puts forms in order, each once.
 pub fn put_keys_in_order(keys: &mut Vec<Vec<usize>>)
-    ensures { map vec_items keys.new.items ≡ in_order forms_cmp (map vec_items keys.old.items) }
+    ensures { lists_of keys.new.items ≡ in_order forms_cmp (lists_of keys.old.items) }
 {
     keys.sort_unstable();
     keys.dedup();

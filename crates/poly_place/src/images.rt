@@ -5,9 +5,9 @@ ghost use Rattle.poly_cells.specs.Turns.{turn};
 ghost use Rattle.poly_cells.specs.Sets.{IsIn};
 ghost use Rattle.poly_cells.specs.Shapes.{IsShape, moved, moved_back};
 ghost use Rattle.poly_cells.specs.Images.{HasSymmetry};
-ghost use Rattle.poly_cells.specs.CellTests.{has_cell};
+ghost use Rattle.cover_problem.specs.Answers.{ReturnsItems};
 ghost use Rattle.poly_place.specs.ClassCount.{images_in};
-ghost use Rattle.poly_place.specs.Forms.{place_of};
+ghost use Rattle.poly_place.specs.Forms.{place_of, marks_of};
 
 use crate::set::moved_back;
 use poly_cells::{Cell, Symmetry, corner_of};
@@ -20,7 +20,7 @@ pub fn keeps_marks(
     marked: &[bool],
     images: &[Cell],
 ) -> Result<bool, AllocError>
-    ensures { IfOk result (λ kept. IsTrue kept ↔ (map (has_cell maybe.now) images.now ≡ marked.now)) }
+    ensures { IfOk result (λ kept. IsTrue kept ↔ (marks_of maybe.now images.now ≡ marked.now)) }
 {
     let marks = marks(alloc, maybe, images)?;
     Ok(marks.as_slice() == marked)
@@ -28,7 +28,7 @@ pub fn keeps_marks(
 
 /// For each of the cells whether it is among the others.
 pub fn marks(alloc: Global, others: &[Cell], cells: &[Cell]) -> Result<Vec<bool>, AllocError>
-    ensures { IfOk result (λ marks. marks.items ≡ map (has_cell others.now) cells.now) }
+    ensures { ReturnsItems result (marks_of others.now cells.now) }
 {
     let mut marks = Vec::with_capacity(alloc, cells.len())?;
     for cell in cells {
@@ -45,7 +45,7 @@ pub fn images_in(
 ) -> Result<Vec<Cell>, AllocError>
     requires shape { IsShape region.now }
     requires symmetry { HasSymmetry symmetry region.now }
-    ensures { IfOk result (λ images. images.items ≡ images_in region.now symmetry) }
+    ensures { ReturnsItems result (images_in region.now symmetry) }
 {
     let turned = all_turned(alloc, region, symmetry)?;
     let lowest = corner_of(turned.as_slice());
@@ -55,7 +55,7 @@ pub fn images_in(
 
 /// The cells turned.
 fn all_turned(alloc: Global, cells: &[Cell], symmetry: Symmetry) -> Result<Vec<Cell>, AllocError>
-    ensures { IfOk result (λ turned. turned.items ≡ map (turn symmetry) cells.now) }
+    ensures { ReturnsItems result (map (turn symmetry) cells.now) }
 {
     let mut turned = Vec::with_capacity(alloc, cells.len())?;
     for cell in cells {
@@ -67,7 +67,7 @@ fn all_turned(alloc: Global, cells: &[Cell], symmetry: Symmetry) -> Result<Vec<C
 /// The cells, each moved from `back` to `to`.
 fn all_led(alloc: Global, cells: &[Cell], back: Cell, to: Cell) -> Result<Vec<Cell>, AllocError>
     requires { (v : Coordinates) → IsIn v cells.now → IsInGrid (moved to (moved_back back v)) }
-    ensures { IfOk result (λ led. led.items ≡ map (λ v. moved to (moved_back back v)) cells.now) }
+    ensures { ReturnsItems result (map (λ v. moved to (moved_back back v)) cells.now) }
 {
     let mut led = Vec::with_capacity(alloc, cells.len())?;
     for cell in cells {
@@ -80,7 +80,7 @@ fn all_led(alloc: Global, cells: &[Cell], back: Cell, to: Cell) -> Result<Vec<Ce
 
 /// The place of each of the cells in the region.
 pub fn places_of(alloc: Global, region: &[Cell], cells: &[Cell]) -> Result<Vec<usize>, AllocError>
-    ensures { IfOk result (λ places. places.items ≡ map (place_of region.now) cells.now) }
+    ensures { ReturnsItems result (map (place_of region.now) cells.now) }
 {
     let mut places = Vec::with_capacity(alloc, cells.len())?;
     for cell in cells {

@@ -1,11 +1,12 @@
 //! The items of a puzzle's problem: the required pieces and cells, and then those that may be left out.
-ghost use Rattle.std.specs.Prelude.{◌≡◌, ◌≤◌, ◌+◌, ◌++◌, ◌∷◌, [], IfOk, OnOk, length, map};
-ghost use Rattle.std.specs.String.{string_bytes};
+ghost use Rattle.std.specs.Prelude.{◌≡◌, ◌≤◌, ◌+◌, ◌∷◌, [], IfOk, length, map};
 ghost use Rattle.poly_cells.specs.CellWords.{cell_word};
 ghost use Rattle.poly_cells.specs.CellWords as grammar;
 ghost use Rattle.poly_cells.specs.Sets.{IsIn};
 ghost use Rattle.poly_texts.specs.Puzzle.{IsPuzzle, names_of};
 ghost use Rattle.cover_problem.specs.Limits.{most_items};
+ghost use Rattle.cover_problem.specs.Answers.{ReturnsItems};
+ghost use Rattle.poly_place.specs.Answers.{AddsTexts};
 ghost use Rattle.poly_place.specs.Packings.{a_piece, item_of, needed_things, index_among};
 ghost use Rattle.poly_place.specs.Compiled.{AreNumbers, filled_cells, needed_names, numbered};
 ghost use Rattle.poly_place.specs.Tables.{grid_cells};
@@ -17,7 +18,7 @@ use std::alloc::{AllocError, Global};
 
 /// The pieces that may not be left out, in the order of the puzzle.
 pub fn needed_pieces(alloc: Global, puzzle: &Puzzle) -> Result<Vec<PieceName>, AllocError>
-    ensures { IfOk result (λ needed. needed.items ≡ needed_names puzzle.now) }
+    ensures { ReturnsItems result (needed_names puzzle.now) }
 {
     let mut needed = Vec::new(alloc);
     let optional = puzzle.maybe_pieces();
@@ -33,7 +34,7 @@ pub fn needed_pieces(alloc: Global, puzzle: &Puzzle) -> Result<Vec<PieceName>, A
 
 /// The cells of the region that may not stay empty, in order.
 pub fn needed_cells(alloc: Global, puzzle: &Puzzle) -> Result<Vec<Cell>, AllocError>
-    ensures { IfOk result (λ needed. needed.items ≡ filled_cells puzzle.now) }
+    ensures { ReturnsItems result (filled_cells puzzle.now) }
 {
     let cells = puzzle.region().cells();
     let optional = table_of(alloc, puzzle.maybe_cells())?;
@@ -124,8 +125,7 @@ pub fn add_piece_names(
     names: &mut Vec<String>,
     pieces: &[PieceName],
 ) -> Result<(), AllocError>
-    ensures { OnOk result (map string_bytes names.new.items ≡ map string_bytes names.old.items
-        ++ map (λ n. n ∷ []) pieces.now) }
+    ensures { AddsTexts result names.old names.new (map (λ n. n ∷ []) pieces.now) }
 {
     for name in pieces {
         let mut text = String::new(alloc);
@@ -141,7 +141,7 @@ pub fn add_cell_names(
     names: &mut Vec<String>,
     cells: &[Cell],
 ) -> Result<(), AllocError>
-    ensures { OnOk result (map string_bytes names.new.items ≡ map string_bytes names.old.items ++ map cell_word cells.now) }
+    ensures { AddsTexts result names.old names.new (map cell_word cells.now) }
 {
     for cell in cells {
         let mut text = String::new(alloc);

@@ -4,7 +4,9 @@ ghost use Rattle.std.specs.String.{string_bytes};
 ghost use Rattle.text_lines.specs.Writing.{line_text, text_of};
 ghost use Rattle.poly_cells.specs.Coordinates.{Coordinates};
 ghost use Rattle.poly_cells.specs.Shapes.{corner};
-ghost use Rattle.poly_place.specs.Layers.{AreSymbols, far_corner, layer_lines, layer_words, layers, painted, row_symbols, symbol_at};
+ghost use Rattle.cover_problem.specs.Answers.{ReturnsItems};
+ghost use Rattle.poly_place.specs.Answers.{AddsText};
+ghost use Rattle.poly_place.specs.Layers.{AreSymbols, far_corner, layer_lines, layer_words, layers, painted, row_symbols, symbol_at, Shows};
 ghost use Rattle.poly_place.specs.Tables.{grid_cells};
 
 use crate::packing::Packing;
@@ -37,8 +39,7 @@ pub fn layers(alloc: Global, packing: &Packing<'_>) -> Result<String, AllocError
 fn push_lines(text: &mut String, symbols: &[u8], low: Cell, high: Cell) -> Result<(), AllocError>
     requires long { length symbols.now ≡ grid_cells }
     requires ascii { (i : ℕ) → slice_index symbols.now i < 128 }
-    ensures { (f : Coordinates → ℕ) → AreSymbols f symbols.now →
-        OnOk result (string_bytes text.new ≡ string_bytes text.old ++ text_of (layer_lines f low high)) }
+    ensures { Shows result text.old text.new symbols.now (λ f. text_of (layer_lines f low high)) }
 {
     for y in low.y()..high.y() + 1 {
         push_line(text, symbols, low, high, y)?;
@@ -57,8 +58,7 @@ fn push_line(
     requires long { length symbols.now ≡ grid_cells }
     requires within { y ≤ 31 }
     requires ascii { (i : ℕ) → slice_index symbols.now i < 128 }
-    ensures { (f : Coordinates → ℕ) → AreSymbols f symbols.now →
-        OnOk result (string_bytes text.new ≡ string_bytes text.old ++ line_text (layer_words f low high y)) }
+    ensures { Shows result text.old text.new symbols.now (λ f. line_text (layer_words f low high y)) }
 {
     for z in low.z()..high.z() + 1 {
         push_gap(text, z > low.z())?;
@@ -80,8 +80,7 @@ fn push_row(
     requires y_within { y ≤ 31 }
     requires z_within { z ≤ 31 }
     requires ascii { (i : ℕ) → slice_index symbols.now i < 128 }
-    ensures { (f : Coordinates → ℕ) → AreSymbols f symbols.now →
-        OnOk result (string_bytes text.new ≡ string_bytes text.old ++ row_symbols f low high y z) }
+    ensures { Shows result text.old text.new symbols.now (λ f. row_symbols f low high y z) }
 {
     for x in low.x()..high.x() + 1 {
         push_symbol(text, symbols[bit_index(x, y, z)])?;
@@ -103,7 +102,7 @@ fn push_gap(text: &mut String, is_later: bool) -> Result<(), AllocError>
 /// Adds an ASCII byte.
 fn push_symbol(text: &mut String, symbol: u8) -> Result<(), AllocError>
     requires { symbol < 128 }
-    ensures { OnOk result (string_bytes text.new ≡ string_bytes text.old ++ symbol ∷ []) }
+    ensures { AddsText result text.old text.new (symbol ∷ []) }
 {
     text.push(symbol as char)
 }
@@ -124,7 +123,7 @@ fn symbols_of(alloc: Global, packing: &Packing<'_>) -> Result<Vec<u8>, AllocErro
 
 /// So many points.
 fn blank(alloc: Global, count: usize) -> Result<Vec<u8>, AllocError>
-    ensures { IfOk result (λ symbols. symbols.items ≡ replicate count 46) }
+    ensures { ReturnsItems result (replicate count 46) }
 {
     vec![in alloc; b'.'; count]
 }

@@ -4,6 +4,7 @@ ghost use Rattle.std.specs.Ordering.{nat_cmp};
 ghost use Rattle.poly_cells.specs.Sets.{in_order};
 ghost use Rattle.cover_problem.specs.Lists.{has};
 ghost use Rattle.cover_problem.specs.ExactCover.{IsExactCover};
+ghost use Rattle.cover_problem.specs.Answers.{Returns, ReturnsItems};
 ghost use Rattle.poly_place.specs.Packings.{IsPacking, StandsFor, packing_problem};
 ghost use Rattle.poly_place.specs.Chosen.{AreInPieceOrder, AreNumbered, choice_numbered, is_among, packing_value};
 
@@ -63,7 +64,7 @@ pub fn packing_of<'p>(
     path: &[u32],
 ) -> Result<Packing<'p>, AllocError>
     requires { IsExactCover (packing_problem compiled.now) (has path.now) }
-    ensures value { IfOk result (λ q. q ≡ packing_value compiled.now path.now) }
+    ensures value { Returns result (packing_value compiled.now path.now) }
     ensures packs { IfOk result (λ q. IsPacking compiled.now (is_among q.placements)) }
     ensures stands { IfOk result (λ q. StandsFor compiled.now (has path.now) (is_among q.placements)) }
     ensures order { IfOk result (λ q. AreInPieceOrder compiled.now q.placements) }
@@ -78,7 +79,7 @@ pub fn packing_of<'p>(
 
 /// The numbers in order, each once.
 fn in_order(alloc: Global, path: &[u32]) -> Result<Vec<u32>, AllocError>
-    ensures { IfOk result (λ numbers. numbers.items ≡ in_order nat_cmp path.now) }
+    ensures { ReturnsItems result (in_order nat_cmp path.now) }
 {
     let mut numbers = Vec::from_slice(alloc, path)?;
     numbers.sort_unstable();
@@ -89,7 +90,7 @@ fn in_order(alloc: Global, path: &[u32]) -> Result<Vec<u32>, AllocError>
 /// The choices with these numbers, from 1 on.
 fn chosen(alloc: Global, choices: &[Choice], numbers: &[u32]) -> Result<Vec<Choice>, AllocError>
     requires { AreNumbered choices.now numbers.now }
-    ensures { IfOk result (λ cs. cs.items ≡ map (choice_numbered choices.now) numbers.now) }
+    ensures { ReturnsItems result (map (choice_numbered choices.now) numbers.now) }
 {
     let mut chosen = Vec::with_capacity(alloc, numbers.len())?;
     for number in numbers {

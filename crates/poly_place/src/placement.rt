@@ -1,6 +1,8 @@
 //! The placements of a piece in a region.
-ghost use Rattle.std.specs.Prelude.{◌≡◌, ◌<◌, ◌++◌, IfOk, OnOk, length, map, slice_index, vec_items};
+ghost use Rattle.std.specs.Prelude.{◌≡◌, ◌<◌, IfOk, length, map, slice_index};
 ghost use Rattle.std.specs.List.{flat_map};
+ghost use Rattle.cover_problem.specs.Answers.{ReturnsItems};
+ghost use Rattle.poly_place.specs.Answers.{ReturnsLists, AddsLists, lists_of};
 ghost use Rattle.poly_place.specs.Placements.{ArePlacements, at_cell, at_cells, if_inside, orientations, placements};
 ghost use Rattle.poly_cells.specs.Symmetries.{rotations};
 ghost use Rattle.poly_cells.specs.Shapes.{moved};
@@ -14,7 +16,7 @@ use std::alloc::{AllocError, Global};
 /// The placements of the piece in the region: all sets of region cells that are the piece turned by a rotation and
 /// translated, each once, in the order of their lists of cells.
 pub fn placements(alloc: Global, piece: &Shape, region: &Shape) -> Result<Vec<Shape>, AllocError>
-    ensures value { IfOk result (λ sets. sets.items ≡ placements piece.now region.now) }
+    ensures value { ReturnsItems result (placements piece.now region.now) }
     ensures exactly { IfOk result (λ sets. ArePlacements piece.now region.now sets.items) }
 {
     // Reading the piece's cells tells that they are a shape, as those of the region.
@@ -29,7 +31,7 @@ pub fn placements(alloc: Global, piece: &Shape, region: &Shape) -> Result<Vec<Sh
 
 /// The turned forms of the piece, in order, each once.
 fn orientations(alloc: Global, piece: &Shape) -> Result<Vec<Vec<Cell>>, AllocError>
-    ensures { IfOk result (λ turns. map vec_items turns.items ≡ orientations piece.now) }
+    ensures { ReturnsLists result (orientations piece.now) }
 {
     let mut turns = Vec::new(alloc);
     for r in 0..24u8 {
@@ -56,8 +58,7 @@ fn all_sets(
     turns: &[Vec<Cell>],
 ) -> Result<Vec<Vec<Cell>>, AllocError>
     requires { length bits.now ≡ grid_cells }
-    ensures { IfOk result (λ sets. map vec_items sets.items ≡
-        flat_map (at_cells (has_bit bits.now) cells.now) (map vec_items turns.now)) }
+    ensures { ReturnsLists result (flat_map (at_cells (has_bit bits.now) cells.now) (lists_of turns.now)) }
 {
     let mut sets = Vec::new(alloc);
     for turned in turns {
@@ -75,8 +76,7 @@ fn add_at_cells(
     piece: &[Cell],
 ) -> Result<(), AllocError>
     requires { length bits.now ≡ grid_cells }
-    ensures { OnOk result (map vec_items sets.new.items ≡ map vec_items sets.old.items
-        ++ at_cells (has_bit bits.now) cells.now piece.now) }
+    ensures { AddsLists result sets.old sets.new (at_cells (has_bit bits.now) cells.now piece.now) }
 {
     for cell in cells {
         add_at_cell(alloc, sets, bits, piece, *cell)?;
@@ -93,8 +93,7 @@ fn add_at_cell(
     cell: Cell,
 ) -> Result<(), AllocError>
     requires { length bits.now ≡ grid_cells }
-    ensures { OnOk result (map vec_items sets.new.items ≡ map vec_items sets.old.items
-        ++ at_cell (has_bit bits.now) piece.now cell) }
+    ensures { AddsLists result sets.old sets.new (at_cell (has_bit bits.now) piece.now cell) }
 {
     let Some(first) = piece.first() else {
         return Ok(());
@@ -114,8 +113,7 @@ fn add_if_inside(
     by: Cell,
 ) -> Result<(), AllocError>
     requires { length bits.now ≡ grid_cells }
-    ensures { OnOk result (map vec_items sets.new.items ≡ map vec_items sets.old.items
-        ++ if_inside (has_bit bits.now) (map (moved by) cells.now)) }
+    ensures { AddsLists result sets.old sets.new (if_inside (has_bit bits.now) (map (moved by) cells.now)) }
 {
     if all_inside(bits, cells, by) {
         sets.push(all_moved(alloc, cells, by)?)?;

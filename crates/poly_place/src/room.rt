@@ -1,9 +1,9 @@
 //! Whether there is room for the options of a puzzle, counted before any of them is kept.
-ghost use Rattle.std.specs.Prelude.{◌≡◌, ◌≤◌, ◌+◌, IfOk, length};
-ghost use Rattle.cover_problem.specs.Problem.{is_small};
+ghost use Rattle.std.specs.Prelude.{◌≡◌, ◌≤◌, ◌+◌, length};
 ghost use Rattle.poly_texts.specs.Puzzle.{IsPuzzle};
+ghost use Rattle.cover_problem.specs.Answers.{Returns};
 ghost use Rattle.poly_place.specs.Tables.{IsTable};
-ghost use Rattle.poly_place.specs.Packings.{packing_problem, things};
+ghost use Rattle.poly_place.specs.Packings.{things, problem_fits};
 ghost use Rattle.poly_place.specs.Compiled.{entries_of, filled_cells, needed_names};
 
 use crate::choice::{Choice, add_choices};
@@ -22,7 +22,7 @@ pub fn has_room(
     requires needed { needed.now ≡ needed_names puzzle.now }
     requires filled { IsTable (filled_cells puzzle.now) filled.now }
     requires items { items ≡ length (things puzzle.now) }
-    ensures { IfOk result (λ room. room ≡ is_small (packing_problem puzzle.now)) }
+    ensures { Returns result (problem_fits puzzle.now) }
 {
     let pieces = puzzle.pieces();
     let (mut options, mut entries) = (0, items + 2);

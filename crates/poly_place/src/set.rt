@@ -1,9 +1,11 @@
 //! Sets of cells as rising lists: putting several in order, and moving one.
-ghost use Rattle.std.specs.Prelude.{◌≡◌, IfOk, List, length, map, vec_items};
+ghost use Rattle.std.specs.Prelude.{◌≡◌, List, length, map};
 ghost use Rattle.std.specs.List.{list_all};
 ghost use Rattle.poly_cells.specs.Coordinates.{Coordinates, IsInGrid, coordinates_cmp};
 ghost use Rattle.poly_cells.specs.Sets.{IsIn, in_order};
 ghost use Rattle.poly_cells.specs.Shapes.{IsShape, moved, moved_back};
+ghost use Rattle.cover_problem.specs.Answers.{ReturnsItems};
+ghost use Rattle.poly_place.specs.Answers.{lists_of};
 ghost use Rattle.poly_place.specs.Placements.{cells_cmp, is_below};
 ghost use Rattle.poly_place.specs.Tables.{grid_cells, has_bit};
 
@@ -13,7 +15,7 @@ use std::alloc::{AllocError, Global};
 
 /// Puts sets of cells in order, each once.
 pub fn put_sets_in_order(sets: &mut Vec<Vec<Cell>>)
-    ensures { map vec_items sets.new.items ≡ in_order cells_cmp (map vec_items sets.old.items) }
+    ensures { lists_of sets.new.items ≡ in_order cells_cmp (lists_of sets.old.items) }
 {
     sets.sort_unstable();
     sets.dedup();
@@ -21,8 +23,8 @@ pub fn put_sets_in_order(sets: &mut Vec<Vec<Cell>>)
 
 /// The shapes of these sets, in the same order.
 pub fn shapes_of(alloc: Global, sets: Vec<Vec<Cell>>) -> Result<Vec<Shape>, AllocError>
-    requires { (set : List Coordinates) → IsIn set (map vec_items sets.items) → IsShape set }
-    ensures { IfOk result (λ shapes. shapes.items ≡ map vec_items sets.items) }
+    requires { (set : List Coordinates) → IsIn set (lists_of sets.items) → IsShape set }
+    ensures { ReturnsItems result (lists_of sets.items) }
 {
     let mut shapes = Vec::with_capacity(alloc, sets.len())?;
     for set in sets {
@@ -71,7 +73,7 @@ pub fn all_inside(bits: &[bool], cells: &[Cell], by: Cell) -> bool
 /// These cells, each moved by the coordinates of `by`.
 pub fn all_moved(alloc: Global, cells: &[Cell], by: Cell) -> Result<Vec<Cell>, AllocError>
     requires { (v : Coordinates) → IsIn v cells.now → IsInGrid (moved by v) }
-    ensures { IfOk result (λ there. there.items ≡ map (moved by) cells.now) }
+    ensures { ReturnsItems result (map (moved by) cells.now) }
 {
     let mut there = Vec::with_capacity(alloc, cells.len())?;
     for cell in cells {

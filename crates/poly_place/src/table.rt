@@ -2,6 +2,7 @@
 ghost use Rattle.std.specs.Prelude.{◌≡◌, ◌++◌, List, false, length, replicate, IfOk};
 ghost use Rattle.poly_cells.specs.Coordinates.{Coordinates, coordinates};
 ghost use Rattle.poly_cells.specs.Shapes.{AllInGrid};
+ghost use Rattle.cover_problem.specs.Answers.{ReturnsItems};
 ghost use Rattle.poly_place.specs.Tables.{IsTable, grid_cells, bit_index, has_bit};
 
 use poly_cells::Cell;
@@ -40,7 +41,7 @@ pub fn bit_index(x: u8, y: u8, z: u8) -> usize
 
 /// A table with no bit set.
 fn no_bits(alloc: Global, count: usize) -> Result<Vec<bool>, AllocError>
-    ensures { IfOk result (λ bits. bits.items ≡ replicate count false) }
+    ensures { ReturnsItems result (replicate count false) }
 {
     vec![in alloc; false; count]
 }

@@ -23,6 +23,9 @@ use Rattle.debug_language.specs.declared.fault.DebugFault.{DebugFault}
 use Rattle.debug_language.specs.declared.fault.DebugFault.TheVariants.{BadCommand}
 use Rattle.debug_language.specs.declared.engine.EngineCommand.{EngineCommand}
 use Rattle.debug_language.specs.declared.engine.EngineCommand.TheVariants as engine
+use Rattle.debug_language.specs.Command.{command_value}
+use Rattle.debug_language.specs.declared.command.Command as declared
+use Rattle.std.specs.Prelude.{Result, IfOk, OnErr}
 
 -- *numbers and cuts*
 
@@ -67,11 +70,35 @@ abbrev pub parts_of : Option (List ℕ) → List (List ℕ)
 parts_of prelude.None = []
 parts_of (Some text) = slice_split is_comma text
 
+-- the numbers between the commas of a word
+abbrev pub joined_numbers : List ℕ → Option (List ℕ)
+joined_numbers word = numbers_from (slice_split is_comma word)
+
 -- a cut in one word: its choices have commas between them
 unfoldable pub joined_cut : List ℕ → Option (Option (List ℕ))
-joined_cut word = if bytes_eq word (codes "start") then Some prelude.None else option_map Some (numbers_from (slice_split is_comma word))
+joined_cut word = if bytes_eq word (codes "start") then Some prelude.None else option_map Some (joined_numbers word)
 
 -- *commands of more than one word*
+
+-- `step`: how many steps
+abbrev pub steps_from : List (List ℕ) → Option CommandValue
+steps_from words = option_map Step (count_from words)
+
+-- `back`: how many steps back
+abbrev pub back_from : List (List ℕ) → Option CommandValue
+back_from words = option_map Back (count_from words)
+
+-- `break`: a breakpoint over problem p
+abbrev pub set_from : ProblemValue → List (List ℕ) → Option CommandValue
+set_from p words = option_map SetBreak (break_from p words)
+
+-- `open`: a cut
+abbrev pub enter_from : List (List ℕ) → Option CommandValue
+enter_from words = option_map Enter (cut_from words)
+
+-- `hold`: a cut
+abbrev pub hold_from : List (List ℕ) → Option CommandValue
+hold_from words = option_map Hold (cut_from words)
 
 -- `split`: a level and an option
 abbrev pub split_from : List (List ℕ) → Option CommandValue
@@ -93,17 +120,17 @@ put_back_from (word ∷ words) = option_and_then (λ lo. option_map (PutBack lo)
 -- a command without a cut
 unfoldable pub plain_command : ProblemValue → List ℕ → List (List ℕ) → Option CommandValue
 plain_command p key words =
-    if bytes_eq key (codes "step") then option_map Step (count_from words) else
-    (if bytes_eq key (codes "back") then option_map Back (count_from words) else
-    (if bytes_eq key (codes "break") then option_map SetBreak (break_from p words) else
+    if bytes_eq key (codes "step") then steps_from words else
+    (if bytes_eq key (codes "back") then back_from words else
+    (if bytes_eq key (codes "break") then set_from p words else
     (if bytes_eq key (codes "split") then split_from words else
     (if bytes_eq key (codes "save") then save_from words else prelude.None))))
 
 -- a command by its first word and the others
 unfoldable pub long_command : ProblemValue → List ℕ → List (List ℕ) → Option CommandValue
 long_command p key words =
-    if bytes_eq key (codes "open") then option_map Enter (cut_from words) else
-    (if bytes_eq key (codes "hold") then option_map Hold (cut_from words) else
+    if bytes_eq key (codes "open") then enter_from words else
+    (if bytes_eq key (codes "hold") then hold_from words else
     (if bytes_eq key (codes "putback") then put_back_from words else plain_command p key words))
 
 -- *commands of one word*
@@ -141,11 +168,33 @@ command_from p (key ∷ words) = if is_empty words then lone_command key else lo
 abbrev pub command_of : ProblemValue → List ℕ → Option CommandValue
 command_of p line = command_from p (words_of (without_return line))
 
+-- the line is this command
+abbrev pub IsCommand : ProblemValue → List ℕ → declared.Command → Type 0
+IsCommand p line command = command_of p line ≡ Some (command_value command)
+
 -- the line is no command; or it is one, and memory ran out
 abbrev pub IsNoCommand : ProblemValue → List ℕ → Refusal DebugFault → Type 0
 IsNoCommand p line (refusals.Fault BadCommand) = command_of p line ≡ prelude.None
 IsNoCommand p line (refusals.Fault _) = ⊥
 IsNoCommand p line refusals.OutOfMemory = is_some (command_of p line) ≡ true
+
+-- *what a call reads*
+
+-- what a call read, as view shows it, is what was said, or None where nothing was; unless memory ran out
+abbrev pub Finds : {X S E : Type 0} → (X → S) → Result (Option X) E → Option S → Type 0
+Finds view result said = IfOk result (λ found. option_map view found ≡ said)
+
+-- a call has an error only where something was said
+abbrev pub FailsOnly : {X S E : Type 0} → Result X E → Option S → Type 0
+FailsOnly result said = OnErr result (is_some said ≡ true)
+
+-- the value of a command, if there is one
+abbrev pub asked : Option declared.Command → Option CommandValue
+asked command = option_map command_value command
+
+-- the command that a call read is the one that was asked for, or None where none was; unless memory ran out
+abbrev pub Asks : {E : Type 0} → Result (Option declared.Command) E → Option CommandValue → Type 0
+Asks result said = Finds command_value result said
 
 -- *the engine's own commands*
 

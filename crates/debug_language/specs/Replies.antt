@@ -18,6 +18,10 @@ use Rattle.debug_language.specs.declared.words.Standing.{Standing}
 use Rattle.debug_language.specs.declared.words.Standing.TheVariants.{Waiting, Leased, Held}
 use Rattle.debug_language.specs.declared.words.Layer.{Layer}
 use Rattle.debug_language.specs.declared.words.Layer.TheVariants as layer
+use Rattle.std.specs.Prelude.{option_copied}
+use Rattle.std.specs.Borrow.{Bor}
+use Rattle.std.specs.Global.{Vec}
+use Rattle.x_steps.specs.StateView.{row_values}
 
 -- *first words*
 
@@ -67,6 +71,14 @@ branch_words lo hi = codes "branch" ∷ cut_words (codes "start") lo ++ codes "t
 abbrev pub standing_words : Option (List ℕ) → Option (List ℕ) → Standing → List (List ℕ)
 standing_words lo hi standing = branch_words lo hi ++ standing_word standing ∷ []
 
+-- a branch between two cuts that are borrowed
+abbrev pub lent_branch : Option (Bor (List ℕ)) → Option (Bor (List ℕ)) → List (List ℕ)
+lent_branch lo hi = branch_words (option_copied lo) (option_copied hi)
+
+-- the same, and how it stands
+abbrev pub lent_standing : Option (Bor (List ℕ)) → Option (Bor (List ℕ)) → Standing → List (List ℕ)
+lent_standing lo hi standing = standing_words (option_copied lo) (option_copied hi) standing
+
 -- the options of a level that can be cut off
 abbrev pub untried_words : ℕ → List ℕ → List (List ℕ)
 untried_words level options = codes "untried" ∷ decimal level ∷ map decimal options
@@ -79,6 +91,14 @@ covered_words names (item ∷ items) = codes "covered" ∷ map (name_at names) (
 -- an item, over items with these names, and its options
 abbrev pub list_words : List (List ℕ) → Listed → ℕ × List ℕ → List (List ℕ)
 list_words names listed row = listed_word listed ∷ name_at names row.0 ∷ decimal (length row.1) ∷ map decimal row.1
+
+-- an item of a problem, and its options
+abbrev pub list_line : ProblemValue → Listed → ℕ → List ℕ → List (List ℕ)
+list_line p listed item options = list_words p.names listed (item, options)
+
+-- items of a problem with their options, a line for each
+abbrev pub list_lines : ProblemValue → Listed → List (ℕ × Vec ℕ) → List (List (List ℕ))
+list_lines p listed rows = map (list_words p.names listed) (row_values rows)
 
 -- whether each row is one of an item of the problem
 abbrev pub are_of_items : ProblemValue → List (ℕ × List ℕ) → Bool

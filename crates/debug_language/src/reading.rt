@@ -1,13 +1,11 @@
 //! The reader of command lines.
-ghost use Rattle.std.specs.Prelude.{◌≡◌, true, Some, is_some, is_ok, option_map, IfOk, IfErr, OnErr};
+ghost use Rattle.std.specs.Prelude.{◌≡◌, true, is_ok, IfOk, IfErr, OnErr};
 ghost use Rattle.std.specs.Result.{result_ok};
 ghost use Rattle.text_lines.specs.Lines.{words_of};
 ghost use Rattle.x_steps.specs.StateView.{state_value};
 ghost use Rattle.x_snapshot.specs.Reading.{state_from};
-ghost use Rattle.debug_language.specs.Command as value;
-ghost use Rattle.debug_language.specs.Command.{command_value};
 ghost use Rattle.debug_language.specs.Reading as spec;
-ghost use Rattle.debug_language.specs.Reading.{command_from, command_of, IsNoCommand};
+ghost use Rattle.debug_language.specs.Reading.{command_from, IsNoCommand, Asks, Finds, FailsOnly, IsCommand};
 
 mod numbers;
 mod plain;
@@ -28,9 +26,8 @@ pub type Found<T> = Result<Option<T>, AllocError>;
 
 /// The branch to take, as the words say.
 fn enter_from(alloc: Global, words: &[u8]) -> Found<Command>
-    ensures said { IfOk result (λ command. option_map command_value command
-        ≡ option_map value.Enter (spec.cut_from (words_of words.now))) }
-    ensures memory { OnErr result (is_some (spec.cut_from (words_of words.now)) ≡ true) }
+    ensures said { Asks result (spec.enter_from (words_of words.now)) }
+    ensures memory { FailsOnly result (spec.cut_from (words_of words.now)) }
 {
     match cut_from(alloc, words)? {
         Some(lo) => Ok(Some(Command::Enter(lo))),
@@ -40,9 +37,8 @@ fn enter_from(alloc: Global, words: &[u8]) -> Found<Command>
 
 /// The branch to hold, as the words say.
 fn hold_from(alloc: Global, words: &[u8]) -> Found<Command>
-    ensures said { IfOk result (λ command. option_map command_value command
-        ≡ option_map value.Hold (spec.cut_from (words_of words.now))) }
-    ensures memory { OnErr result (is_some (spec.cut_from (words_of words.now)) ≡ true) }
+    ensures said { Asks result (spec.hold_from (words_of words.now)) }
+    ensures memory { FailsOnly result (spec.cut_from (words_of words.now)) }
 {
     match cut_from(alloc, words)? {
         Some(lo) => Ok(Some(Command::Hold(lo))),
@@ -52,7 +48,7 @@ fn hold_from(alloc: Global, words: &[u8]) -> Found<Command>
 
 /// The state that the words say.
 fn state_in(alloc: Global, words: &[u8]) -> Found<State>
-    ensures said { IfOk result (λ state. option_map state_value state ≡ result_ok (state_from (words_of words.now))) }
+    ensures said { Finds state_value result (result_ok (state_from (words_of words.now))) }
     ensures memory { OnErr result (is_ok (state_from (words_of words.now)) ≡ true) }
 {
     if !is_state(words) {
@@ -68,8 +64,8 @@ fn state_in(alloc: Global, words: &[u8]) -> Found<State>
 /// The branch to put back, and the state up to which, as the words say.
 #[tactic(auto, unfolding(crate::specs::Reading::put_back_from))]
 fn put_back_from(alloc: Global, words: &[u8]) -> Found<Command>
-    ensures said { IfOk result (λ command. option_map command_value command ≡ spec.put_back_from (words_of words.now)) }
-    ensures memory { OnErr result (is_some (spec.put_back_from (words_of words.now)) ≡ true) }
+    ensures said { Asks result (spec.put_back_from (words_of words.now)) }
+    ensures memory { FailsOnly result (spec.put_back_from (words_of words.now)) }
 {
     let Some((word, rest)) = split_word(words) else {
         return Ok(None);
@@ -89,9 +85,8 @@ fn put_back_from(alloc: Global, words: &[u8]) -> Found<Command>
 /// The command by its first word and the others.
 #[tactic(auto, unfolding(crate::specs::Reading::long_command))]
 fn long_command(alloc: Global, problem: &Problem, key: &[u8], words: &[u8]) -> Found<Command>
-    ensures said { IfOk result (λ command. option_map command_value command
-        ≡ spec.long_command problem.now key.now (words_of words.now)) }
-    ensures memory { OnErr result (is_some (spec.long_command problem.now key.now (words_of words.now)) ≡ true) }
+    ensures said { Asks result (spec.long_command problem.now key.now (words_of words.now)) }
+    ensures memory { FailsOnly result (spec.long_command problem.now key.now (words_of words.now)) }
 {
     if is_word(key, b"open") {
         enter_from(alloc, words)
@@ -107,8 +102,8 @@ fn long_command(alloc: Global, problem: &Problem, key: &[u8], words: &[u8]) -> F
 /// The command of these words.
 #[tactic(auto, unfolding(crate::specs::Reading::command_from))]
 fn command_from(alloc: Global, problem: &Problem, words: &[u8]) -> Found<Command>
-    ensures said { IfOk result (λ command. option_map command_value command ≡ command_from problem.now (words_of words.now)) }
-    ensures memory { OnErr result (is_some (command_from problem.now (words_of words.now)) ≡ true) }
+    ensures said { Asks result (command_from problem.now (words_of words.now)) }
+    ensures memory { FailsOnly result (command_from problem.now (words_of words.now)) }
 {
     let Some((key, rest)) = split_word(words) else {
         return Ok(Some(Command::Nothing));
@@ -126,7 +121,7 @@ pub fn read_command(
     problem: &Problem,
     line: &[u8],
 ) -> Result<Command, Refusal<DebugFault>>
-    ensures read { IfOk result (λ command. command_of problem.now line.now ≡ Some (command_value command)) }
+    ensures read { IfOk result (λ command. IsCommand problem.now line.now command) }
     ensures refused { IfErr result (λ refusal. IsNoCommand problem.now line.now refusal) }
 {
     match command_from(alloc, problem, without_return(line))? {

@@ -4,7 +4,7 @@ ghost use Rattle.x_branches.specs.Faults as runner;
 ghost use Rattle.x_snapshot.specs.Faults as snapshot;
 ghost use Rattle.debug_language.specs.Faults as debug;
 ghost use Rattle.debug_language.specs.Replies.{refused_words};
-ghost use Rattle.x_texts.specs.Writes.{WritesLine};
+ghost use Rattle.x_texts.specs.Writes.{WritesLine, AddsLine};
 
 use crate::fault::DebugFault;
 use crate::words::Layer;
@@ -20,7 +20,7 @@ pub fn write_refused(
     number: u8,
     name: &str,
 ) -> Result<(), AllocError>
-    ensures { OnOk result (WritesLine text.old text.new (refused_words layer number name.now)) }
+    ensures { AddsLine result text.old text.new (refused_words layer number name.now) }
 {
     text.extend_from_slice(b"refused")?;
     write_word(text, layer.word())?;
@@ -32,7 +32,7 @@ pub fn write_refused(
 
 /// Writes the line of a refusal by the debugger itself.
 pub fn write_debug_fault(text: &mut Vec<u8>, fault: DebugFault) -> Result<(), AllocError>
-    ensures { OnOk result (WritesLine text.old text.new (refused_words Layer.Debug (debug.number_of fault) (debug.name_of fault))) }
+    ensures { AddsLine result text.old text.new (refused_words Layer.Debug (debug.number_of fault) (debug.name_of fault)) }
 {
     write_refused(text, Layer::Debug, fault.number(), fault.name())
 }

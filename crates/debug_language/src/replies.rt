@@ -1,10 +1,10 @@
 //! The lines of replies.
-ghost use Rattle.std.specs.Prelude.{◌≡◌, ◌∷◌, [], true, decimal, codes, OnOk};
+ghost use Rattle.std.specs.Prelude.{◌≡◌, ◌∷◌, [], true, decimal, codes};
 ghost use Rattle.x_steps.specs.StateView.{state_value};
 ghost use Rattle.x_texts.specs.Breaks.{is_break};
-ghost use Rattle.x_texts.specs.Words.{state_words, point_words};
+ghost use Rattle.x_texts.specs.Words.{state_words, keyed_point, break_words};
 ghost use Rattle.debug_language.specs.Replies.{plain_word, counted_word};
-ghost use Rattle.x_texts.specs.Writes.{WritesLine};
+ghost use Rattle.x_texts.specs.Writes.{AddsLine};
 
 use crate::words::{Counted, Plain};
 use cover_problem::Problem;
@@ -15,7 +15,7 @@ use x_texts::{Break, write_break, write_state};
 
 /// Writes a line that is always the same.
 pub fn write_plain(text: &mut Vec<u8>, plain: Plain) -> Result<(), AllocError>
-    ensures { OnOk result (WritesLine text.old text.new (plain_word plain ∷ [])) }
+    ensures { AddsLine result text.old text.new (plain_word plain ∷ []) }
 {
     text.extend_from_slice(plain.word().as_bytes())?;
     text.push(b'\n')?;
@@ -24,14 +24,14 @@ pub fn write_plain(text: &mut Vec<u8>, plain: Plain) -> Result<(), AllocError>
 
 /// Writes the line of a count.
 pub fn write_counted(text: &mut Vec<u8>, counted: Counted, count: u128) -> Result<(), AllocError>
-    ensures { OnOk result (WritesLine text.old text.new (counted_word counted ∷ decimal count ∷ [])) }
+    ensures { AddsLine result text.old text.new (counted_word counted ∷ decimal count ∷ []) }
 {
     write_number_line(text, counted.word(), count)
 }
 
 /// Writes where the search stands: its label, its cursor and its choices.
 pub fn write_at(text: &mut Vec<u8>, state: &State) -> Result<(), AllocError>
-    ensures { OnOk result (WritesLine text.old text.new (codes "at" ∷ state_words (state_value state.now))) }
+    ensures { AddsLine result text.old text.new (codes "at" ∷ state_words (state_value state.now)) }
 {
     write_state(text, "at", state)
 }
@@ -39,7 +39,7 @@ pub fn write_at(text: &mut Vec<u8>, state: &State) -> Result<(), AllocError>
 /// Writes a breakpoint that was set.
 pub fn write_set(text: &mut Vec<u8>, problem: &Problem, breakpoint: Break) -> Result<(), AllocError>
     requires { is_break problem.now breakpoint ≡ true }
-    ensures { OnOk result (WritesLine text.old text.new (codes "set" ∷ point_words problem.now.names breakpoint)) }
+    ensures { AddsLine result text.old text.new (keyed_point (codes "set") problem.now breakpoint) }
 {
     write_break(text, "set", problem, breakpoint)
 }
@@ -47,7 +47,7 @@ pub fn write_set(text: &mut Vec<u8>, problem: &Problem, breakpoint: Break) -> Re
 /// Writes the breakpoint that was met.
 pub fn write_met(text: &mut Vec<u8>, problem: &Problem, breakpoint: Break) -> Result<(), AllocError>
     requires { is_break problem.now breakpoint ≡ true }
-    ensures { OnOk result (WritesLine text.old text.new (codes "break" ∷ point_words problem.now.names breakpoint)) }
+    ensures { AddsLine result text.old text.new (break_words problem.now.names breakpoint) }
 {
     write_break(text, "break", problem, breakpoint)
 }

@@ -1,13 +1,13 @@
 //! The lines that show branches, items and levels.
-ghost use Rattle.std.specs.Prelude.{◌≡◌, ◌<◌, ◌≤◌, ◌∷◌, [], true, map, codes, length, count_by, option_copied, OnOk};
+ghost use Rattle.std.specs.Prelude.{◌≡◌, ◌<◌, ◌≤◌, ◌∷◌, [], true, map, codes, length, count_by};
 ghost use Rattle.std.specs.List.{list_all};
 ghost use Rattle.text_lines.specs.Lines.{is_newline};
-ghost use Rattle.text_lines.specs.Writing.{spaced, words_after};
+ghost use Rattle.text_lines.specs.Writing.{spaced};
 ghost use Rattle.cover_problem.specs.Problem.{is_item, name_at};
 ghost use Rattle.x_steps.specs.StateView.{row_values};
-ghost use Rattle.debug_language.specs.Replies.{branch_words, standing_words, untried_words, covered_words, listed_word, list_words};
-ghost use Rattle.debug_language.specs.Replies.{saved_text, are_of_items};
-ghost use Rattle.x_texts.specs.Writes.{Writes, WritesLine, WritesLines};
+ghost use Rattle.debug_language.specs.Replies.{untried_words, covered_words, listed_word};
+ghost use Rattle.debug_language.specs.Replies.{saved_text, are_of_items, lent_branch, lent_standing, list_line, list_lines};
+ghost use Rattle.x_texts.specs.Writes.{Adds, AddsWords, AddsLine, AddsLines};
 
 use crate::replies::write_counted;
 use crate::words::{Counted, Listed, Standing};
@@ -18,7 +18,7 @@ use x_texts::write_cut;
 
 /// Writes a branch without the end of its line.
 fn write_cuts(text: &mut Vec<u8>, lo: Option<&[u32]>, hi: Option<&[u32]>) -> Result<(), AllocError>
-    ensures { OnOk result (Writes text.old text.new (spaced (branch_words (option_copied lo.entry) (option_copied hi.entry)))) }
+    ensures { Adds result text.old text.new (spaced (lent_branch lo.entry hi.entry)) }
 {
     text.extend_from_slice(b"branch")?;
     write_cut(text, "start", lo)?;
@@ -33,7 +33,7 @@ pub fn write_branch(
     lo: Option<&[u32]>,
     hi: Option<&[u32]>,
 ) -> Result<(), AllocError>
-    ensures { OnOk result (WritesLine text.old text.new (branch_words (option_copied lo.entry) (option_copied hi.entry))) }
+    ensures { AddsLine result text.old text.new (lent_branch lo.entry hi.entry) }
 {
     write_cuts(text, lo, hi)?;
     text.push(b'\n')?;
@@ -47,8 +47,7 @@ pub fn write_standing(
     hi: Option<&[u32]>,
     standing: Standing,
 ) -> Result<(), AllocError>
-    ensures { OnOk result (WritesLine text.old text.new (standing_words (option_copied lo.entry)
-        (option_copied hi.entry) standing)) }
+    ensures { AddsLine result text.old text.new (lent_standing lo.entry hi.entry standing) }
 {
     write_cuts(text, lo, hi)?;
     write_word(text, standing.word())?;
@@ -58,7 +57,7 @@ pub fn write_standing(
 
 /// Writes the options of a level that can be cut off.
 pub fn write_untried(text: &mut Vec<u8>, level: usize, options: &[u32]) -> Result<(), AllocError>
-    ensures { OnOk result (WritesLine text.old text.new (untried_words level options.now)) }
+    ensures { AddsLine result text.old text.new (untried_words level options.now) }
 {
     text.extend_from_slice(b"untried")?;
     write_number(text, level)?;
@@ -70,7 +69,7 @@ pub fn write_untried(text: &mut Vec<u8>, level: usize, options: &[u32]) -> Resul
 /// Writes the names of items, each after a word.
 fn write_names(text: &mut Vec<u8>, problem: &Problem, items: &[u32]) -> Result<(), AllocError>
     requires { list_all (is_item (length problem.now.names)) items.now ≡ true }
-    ensures { OnOk result (Writes text.old text.new (words_after (map (name_at problem.now.names) items.now))) }
+    ensures { AddsWords result text.old text.new (map (name_at problem.now.names) items.now) }
 {
     for item in items {
         write_word(text, problem.name(*item))?;
@@ -81,7 +80,7 @@ fn write_names(text: &mut Vec<u8>, problem: &Problem, items: &[u32]) -> Result<(
 /// Writes the covered items by their names.
 pub fn write_covered(text: &mut Vec<u8>, problem: &Problem, items: &[u32]) -> Result<(), AllocError>
     requires { list_all (is_item (length problem.now.names)) items.now ≡ true }
-    ensures { OnOk result (WritesLine text.old text.new (covered_words problem.now.names items.now)) }
+    ensures { AddsLine result text.old text.new (covered_words problem.now.names items.now) }
 {
     if items.is_empty() {
         return text.extend_from_slice(b"covered -\n");
@@ -102,7 +101,7 @@ pub fn write_list(
 ) -> Result<(), AllocError>
     requires some { 0 < item }
     requires within { item ≤ length problem.now.names }
-    ensures { OnOk result (WritesLine text.old text.new (list_words problem.now.names listed (item, options.now))) }
+    ensures { AddsLine result text.old text.new (list_line problem.now listed item options.now) }
 {
     text.extend_from_slice(listed.word().as_bytes())?;
     write_word(text, problem.name(item))?;
@@ -120,7 +119,7 @@ pub fn write_lists(
     rows: &[(u32, Vec<u32>)],
 ) -> Result<(), AllocError>
     requires { are_of_items problem.now (row_values rows.now) ≡ true }
-    ensures { OnOk result (WritesLines text.old text.new (map (list_words problem.now.names listed) (row_values rows.now))) }
+    ensures { AddsLines result text.old text.new (list_lines problem.now listed rows.now) }
 {
     for row in rows {
         write_list(text, problem, listed, row.0, &row.1)?;
@@ -137,7 +136,7 @@ fn newlines(text: &[u8]) -> usize
 
 /// Writes the text of a snapshot after the number of its lines.
 pub fn write_saved(text: &mut Vec<u8>, snapshot: &[u8]) -> Result<(), AllocError>
-    ensures { OnOk result (Writes text.old text.new (saved_text snapshot.now)) }
+    ensures { Adds result text.old text.new (saved_text snapshot.now) }
 {
     write_counted(text, Counted::Snapshot, newlines(snapshot) as u128)?;
     text.extend_from_slice(snapshot)

@@ -34,6 +34,9 @@ use Rattle.x_snapshot.specs.declared.fault.SnapshotFault.TheVariants.{TrailingBy
 use Rattle.x_texts.specs.Breaks.{is_same}
 use Rattle.x_snapshot.specs.Snapshot.{SnapshotValue, snapshot_with}
 use Rattle.x_snapshot.specs.Writing.{needs_second}
+use Rattle.std.specs.Borrow.{Bor}
+use Rattle.text_lines.specs.declared.refusal.Refusal.{Refusal}
+use Rattle.text_lines.specs.Answers.{Gives}
 
 -- *lines*
 
@@ -71,6 +74,10 @@ keyed_line fault key form text = do
   said ← form line.0
   Ok (said, line.1)
 
+-- what a call read at the front of a text, as view shows it, and what stands after it, are what was found, unless memory ran out
+abbrev pub Reads : {X S F : Type 0} → (X → S) → Result (X × Bor (List ℕ)) (Refusal F) → Result (S × List ℕ) F → Type 0
+Reads view result found = Gives (λ r. (view r.0, r.1.now)) result found
+
 -- *words*
 
 -- what was found, or a fault
@@ -100,6 +107,10 @@ unfoldable pub repeated : {S F : Type 0} → (S → Result S F) → ℕ → S �
 repeated step zero s = Ok s
 repeated step (suc n) s = step s >>= λ t. repeated step n t
 
+-- the words of a text that is borrowed
+abbrev pub lent_words : Bor (List ℕ) → List (List ℕ)
+lent_words text = words_of text.now
+
 -- *the version*
 
 -- one to nine digits
@@ -120,6 +131,10 @@ digits_from (Some word) = if are_digits word then version_from word else Err Bad
 -- the version that the first line says, by the words after its key
 unfoldable pub header : List (List ℕ) → Result ℕ SnapshotFault
 header words = digits_from (only words)
+
+-- the version, and what stands after the first line
+abbrev pub version_in : List ℕ → Result (ℕ × List ℕ) SnapshotFault
+version_in text = keyed_line BadHeader (codes "polysnap") header text
 
 -- *the problem*
 
@@ -149,10 +164,14 @@ problem_before version text rest =
 unfoldable pub lines_from : ℕ → List (List ℕ) → Result ℕ SnapshotFault
 lines_from version words = count_from BadProblem (most_options + version) words >>= λ n. found_or BadProblem (positive n)
 
+-- that number, and what stands after its line
+abbrev pub lines_in : ℕ → List ℕ → Result (ℕ × List ℕ) SnapshotFault
+lines_in version text = keyed_line BadProblem (codes "problem") (lines_from version) text
+
 -- the problem, and what stands after it
 unfoldable pub problem_in : ℕ → List ℕ → Result (ProblemValue × List ℕ) SnapshotFault
 problem_in version text = do
-  count ← keyed_line BadProblem (codes "problem") (lines_from version) text
+  count ← lines_in version text
   rest ← after_lines count.0 count.1
   problem ← problem_before version count.1 rest
   Ok (problem, rest)
@@ -175,6 +194,10 @@ some_path path = Ok (Some path)
 unfoldable pub cut_from : List ℕ → List (List ℕ) → Result (Option (List ℕ)) SnapshotFault
 cut_from none [] = Err BadState
 cut_from none (word ∷ words) = if bytes_eq word none && is_empty words then Ok None else (choices_from (word ∷ words) >>= some_path)
+
+-- the cut of a line with this key, and what stands after the line
+abbrev pub cut_in : List ℕ → List ℕ → List ℕ → Result (Option (List ℕ) × List ℕ) SnapshotFault
+cut_in key none text = keyed_line BadState key (cut_from none) text
 
 -- the label of a word
 abbrev pub label_from : List ℕ → Option Label
@@ -207,9 +230,17 @@ state_from (label ∷ cursor ∷ words) = do
   Ok (at step.0 path step.1)
 state_from _ = Err BadState
 
+-- the state of a line, and what stands after the line
+abbrev pub state_in : List ℕ → Result (StateValue × List ℕ) SnapshotFault
+state_in text = keyed_line BadState (codes "state") state_from text
+
 -- nothing but the key
 unfoldable pub end_from : List (List ℕ) → Result (Unit {0}) SnapshotFault
 end_from words = if is_empty words then Ok tt else Err BadState
+
+-- the last line, and what stands after it
+abbrev pub end_in : List ℕ → Result (Unit {0} × List ℕ) SnapshotFault
+end_in text = keyed_line BadState (codes "end") end_from text
 
 -- *breakpoints*
 
@@ -253,6 +284,10 @@ break_from p _ = None
 abbrev pub break_of_words : ProblemValue → List (List ℕ) → Result Break SnapshotFault
 break_of_words p words = found_or BadBreak (break_from p words)
 
+-- the breakpoint of a line, and what stands after the line
+abbrev pub break_in : ProblemValue → List ℕ → Result (Break × List ℕ) SnapshotFault
+break_in p text = keyed_line BadBreak (codes "break") (break_of_words p) text
+
 -- breakpoints with one more, which is new
 abbrev pub new_break : List Break → Break → Result (List Break) SnapshotFault
 new_break bs b = if list_any (is_same b) bs then Err BadBreak else Ok (bs ++ b ∷ [])
@@ -260,7 +295,7 @@ new_break bs b = if list_any (is_same b) bs then Err BadBreak else Ok (bs ++ b �
 -- breakpoints with that of the next line, and what stands after it
 unfoldable pub add_break : ProblemValue → List Break → List ℕ → Result (List Break × List ℕ) SnapshotFault
 add_break p bs text = do
-  line ← keyed_line BadBreak (codes "break") (break_of_words p) text
+  line ← break_in p text
   more ← new_break bs line.0
   Ok (more, line.1)
 
@@ -276,10 +311,14 @@ breaks_from p n text = repeated (next_break p) n ([], text)
 abbrev pub most_breaks : ℕ
 most_breaks = 999999999
 
+-- the number of breakpoints, and what stands after its line
+abbrev pub count_in : List ℕ → Result (ℕ × List ℕ) SnapshotFault
+count_in text = keyed_line BadBreak (codes "breaks") (count_from BadBreak most_breaks) text
+
 -- the breakpoints, and what stands after them
 unfoldable pub breaks_in : ProblemValue → List ℕ → Result (List Break × List ℕ) SnapshotFault
 breaks_in p text = do
-  count ← keyed_line BadBreak (codes "breaks") (count_from BadBreak most_breaks) text
+  count ← count_in text
   breaks_from p count.0 count.1
 
 -- the first version has none
@@ -297,15 +336,15 @@ whole version p breaks rest =
 -- the cuts and the state
 unfoldable pub position_in : List ℕ → Result ((Option (List ℕ) × Option (List ℕ) × StateValue) × List ℕ) SnapshotFault
 position_in text = do
-  lo ← keyed_line BadState (codes "from") (cut_from (codes "start")) text
-  hi ← keyed_line BadState (codes "to") (cut_from (codes "end")) lo.1
-  state ← keyed_line BadState (codes "state") state_from hi.1
+  lo ← cut_in (codes "from") (codes "start") text
+  hi ← cut_in (codes "to") (codes "end") lo.1
+  state ← state_in hi.1
   Ok ((lo.0, hi.0, state.0), state.1)
 
 -- after the breakpoints: the last line, and nothing that it doesn't allow
 unfoldable pub ended : ℕ → ProblemValue → List Break → List ℕ → Result (Unit {0}) SnapshotFault
 ended version p breaks text = do
-  end ← keyed_line BadState (codes "end") end_from text
+  end ← end_in text
   whole version p breaks end.1
 
 -- what a text says after its problem: the cuts, the state and the breakpoints
@@ -319,6 +358,10 @@ parts_after version p text = do
 -- what a text says, or its first fault; whether it is on the run is not judged
 unfoldable pub parts_of : List ℕ → Result SnapshotValue SnapshotFault
 parts_of text = do
-  version ← keyed_line BadHeader (codes "polysnap") header text
+  version ← version_in text
   problem ← problem_in version.0 version.1
   parts_after version.0 problem.0 problem.1
+
+-- the lines of a text say the parts of this snapshot
+abbrev pub Says : List ℕ → SnapshotValue → Type 0
+Says text v = parts_of text ≡ Ok v

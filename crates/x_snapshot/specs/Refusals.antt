@@ -20,7 +20,11 @@ use Rattle.x_texts.specs.declared.breakpoint.Break.{Break}
 use Rattle.x_snapshot.specs.declared.fault.SnapshotFault.{SnapshotFault}
 use Rattle.x_snapshot.specs.declared.fault.SnapshotFault.TheVariants.{NotOnRun, OutsideBranch, BadBreak, OutOfMemory}
 use Rattle.x_texts.specs.Breaks.{are_breaks}
-use Rattle.x_snapshot.specs.Snapshot.{SnapshotValue, IsCutIfAny, IsOnRun, IsInside}
+use Rattle.x_snapshot.specs.Snapshot.{SnapshotValue, IsCutIfAny, IsOnRun, IsInside, choices_of, parts_value}
+use Rattle.x_steps.specs.declared.state.State.{State}
+use Rattle.x_steps.specs.StateView.{state_value}
+use Rattle.std.specs.Prelude.{Result, Err, IfErr}
+use Rattle.std.specs.Global.{Vec}
 
 -- why a path is no cut, and a state none of a branch, as faults of a snapshot
 abbrev pub cut_fault_of : CutFault → SnapshotFault
@@ -67,3 +71,15 @@ IsRefused v NotOnRun = (are_breaks v.problem v.breaks ≡ true) × IsPositionRef
 IsRefused v OutsideBranch = (are_breaks v.problem v.breaks ≡ true) × IsPositionRefused v.problem v.lo v.hi v.state OutsideBranch
 IsRefused v OutOfMemory = Unit {0}
 IsRefused v _ = ⊥
+
+-- why the paths and the state, wherever they lie in memory, are no position on the run
+abbrev pub AreRefused : ProblemValue → Option (Vec ℕ) → Option (Vec ℕ) → State → SnapshotFault → Type 0
+AreRefused p lo hi state fault = IsPositionRefused p (choices_of lo) (choices_of hi) (state_value state) fault
+
+-- why the parts, wherever they lie in memory, make none
+abbrev pub MakeNone : ProblemValue → Option (Vec ℕ) → Option (Vec ℕ) → State → List Break → SnapshotFault → Type 0
+MakeNone p lo hi state breaks fault = IsRefused (parts_value p lo hi state breaks) fault
+
+-- a call that has an error tells the fault that was found, unless memory ran out
+abbrev pub TellsFault : {X S : Type 0} → Result X SnapshotFault → Result S SnapshotFault → Type 0
+TellsFault result found = IfErr result (λ fault. (fault ≡ OutOfMemory → ⊥) → found ≡ Err fault)

@@ -15,6 +15,8 @@ use Rattle.x_branches.specs.Cut.{CutPath, IsCut}
 use Rattle.x_branches.specs.Runner.{RunnerValue, IsBranch, IsWithin}
 use Rattle.x_texts.specs.declared.breakpoint.Break.{Break}
 use Rattle.x_texts.specs.Breaks.{are_breaks}
+use Rattle.std.specs.Prelude.{MatchOption}
+use Rattle.std.specs.Borrow.{Bor}
 
 -- a problem, the paths of the cuts between which the branch lies (none: the start, the end), a state, and breakpoints
 pub record SnapshotValue : Type 0 where
@@ -32,6 +34,10 @@ snapshot_with problem lo hi state breaks = record { problem = problem; lo = lo; 
 abbrev pub choices_of : Option (Vec ℕ) → Option (List ℕ)
 choices_of path = option_map (λ choices. choices.items) path
 
+-- the cuts and the state, without where they lie in memory
+abbrev pub position_value : Option (Vec ℕ) × Option (Vec ℕ) × State → Option (List ℕ) × Option (List ℕ) × StateValue
+position_value p = (choices_of p.0, choices_of p.1, state_value p.2)
+
 -- the snapshot of parts, without where they lie in memory
 abbrev pub parts_value : ProblemValue → Option (Vec ℕ) → Option (Vec ℕ) → State → List Break → SnapshotValue
 parts_value problem lo hi state breaks = snapshot_with problem (choices_of lo) (choices_of hi) (state_value state) breaks
@@ -45,13 +51,25 @@ IsCutIfAny p (Some path) = IsCut p path
 abbrev pub path_in : ProblemValue → List ℕ → CutPath
 path_in p path = record { problem = p; path = path }
 
+-- the cut of a path, if there is one
+abbrev pub cut_if_any : ProblemValue → Option (List ℕ) → Option CutPath
+cut_if_any p path = option_map (path_in p) path
+
 -- the branch between two cuts of a problem's run
 abbrev pub branch_between : ProblemValue → Option (List ℕ) → Option (List ℕ) → Branch
-branch_between p lo hi = record { lo = option_map (path_in p) lo; hi = option_map (path_in p) hi }
+branch_between p lo hi = record { lo = cut_if_any p lo; hi = cut_if_any p hi }
 
 -- the runner of a branch that stands at a state, which is its mark too
 abbrev pub started : ProblemValue → Branch → StateValue → RunnerValue
 started p b s = record { problem = p; branch = b; mark = s; position = s }
+
+-- the runner of a snapshot, over its problem p: it stands at the snapshot's state, in the branch between its cuts
+abbrev pub snapshot_runner : ProblemValue → SnapshotValue → RunnerValue
+snapshot_runner p v = started p (branch_between p v.lo v.hi) v.state
+
+-- the same of paths and a state, without where they lie in memory
+abbrev pub runner_from : ProblemValue → Option (Vec ℕ) → Option (Vec ℕ) → State → RunnerValue
+runner_from p lo hi state = started p (branch_between p (choices_of lo) (choices_of hi)) (state_value state)
 
 -- the cuts, if there are any, and the state are on the problem's run
 pub record IsOnRun (p : ProblemValue) (lo hi : Option (List ℕ)) (s : StateValue) : Type 0 where
@@ -70,3 +88,23 @@ pub record IsSnapshot (v : SnapshotValue) : Type 0 where
   pub breaks : are_breaks v.problem v.breaks ≡ true
   pub on_run : IsOnRun v.problem v.lo v.hi v.state
   pub inside : IsInside v.problem v.lo v.hi v.state
+
+-- what is true of each snapshot
+abbrev pub EachSnapshot : (SnapshotValue → Type 0) → Type 0
+EachSnapshot P = (v : SnapshotValue) → IsSnapshot v → P v
+
+-- the paths and the state, wherever they lie in memory, are on the problem's run
+abbrev pub AreOnRun : ProblemValue → Option (Vec ℕ) → Option (Vec ℕ) → State → Type 0
+AreOnRun p lo hi state = IsOnRun p (choices_of lo) (choices_of hi) (state_value state)
+
+-- the low cut comes before the high one, and the state is in the branch between them
+abbrev pub AreInside : ProblemValue → Option (Vec ℕ) → Option (Vec ℕ) → State → Type 0
+AreInside p lo hi state = IsInside p (choices_of lo) (choices_of hi) (state_value state)
+
+-- the parts, wherever they lie in memory, make a snapshot
+abbrev pub MakeSnapshot : ProblemValue → Option (Vec ℕ) → Option (Vec ℕ) → State → List Break → Type 0
+MakeSnapshot p lo hi state breaks = IsSnapshot (parts_value p lo hi state breaks)
+
+-- a call lends what is there, or None where nothing is
+abbrev pub Lends : {A : Type 0} → Option (Bor A) → Option A → Type 0
+Lends result there = MatchOption result (there ≡ prelude.None) (λ x. there ≡ Some x.now)

@@ -23,6 +23,7 @@ use Rattle.cover_problem.specs.Problem.{ProblemValue}
 use Rattle.cover_problem.specs.Grammar.{word_lines, written}
 use Rattle.x_texts.specs.declared.breakpoint.Break.{Break}
 use Rattle.x_texts.specs.Words.{cut_words, state_words, break_words}
+use Rattle.std.specs.Prelude.{Option}
 use Rattle.x_snapshot.specs.Snapshot.{SnapshotValue}
 
 -- whether the second version is needed: there are secondary items, or breakpoints
@@ -47,11 +48,19 @@ break_lines p breaks = (codes "breaks" ∷ decimal (length breaks) ∷ []) ∷ m
 abbrev pub lines_of_breaks : ProblemValue → List Break → List (List (List ℕ))
 lines_of_breaks p breaks = if needs_second p breaks then break_lines p breaks else []
 
+-- the line of the low cut
+abbrev pub low_words : Option (List ℕ) → List (List ℕ)
+low_words lo = codes "from" ∷ cut_words (codes "start") lo
+
+-- the line of the high cut
+abbrev pub high_words : Option (List ℕ) → List (List ℕ)
+high_words hi = codes "to" ∷ cut_words (codes "end") hi
+
 -- the lines of the branch and the state
 abbrev pub position_lines : SnapshotValue → List (List (List ℕ))
 position_lines v =
-    (codes "from" ∷ cut_words (codes "start") v.lo)
-    ∷ (codes "to" ∷ cut_words (codes "end") v.hi)
+    low_words v.lo
+    ∷ high_words v.hi
     ∷ (codes "state" ∷ state_words v.state) ∷ []
 
 -- the last line

@@ -1,10 +1,12 @@
 //! What a text says of a snapshot, before it is judged.
-ghost use Rattle.std.specs.Prelude.{◌≡◌, true, Ok, Err, IfOk, IfErr, OnOk};
+ghost use Rattle.std.specs.Prelude.{◌≡◌, true, Ok, IfOk, OnOk};
 ghost use Rattle.x_steps.specs.StateView.{state_value};
 ghost use Rattle.x_texts.specs.Breaks.{are_breaks};
-ghost use Rattle.x_snapshot.specs.Snapshot.{branch_between, started};
+ghost use Rattle.x_snapshot.specs.Snapshot.{snapshot_runner};
 ghost use Rattle.x_snapshot.specs.Judged.{judged_parts};
-ghost use Rattle.x_snapshot.specs.Reading.{parts_of};
+ghost use Rattle.x_snapshot.specs.Reading.{parts_of, Says};
+ghost use Rattle.cover_problem.specs.Answers.{Returns};
+ghost use Rattle.x_snapshot.specs.Refusals.{TellsFault};
 
 use crate::fault::SnapshotFault;
 use crate::judging::{check_position, runner_at};
@@ -41,8 +43,8 @@ impl Model for Draft {
 /// Reads what a text says. A refusal is the first fault of its lines, of bytes that follow, or of a second version that nothing
 /// asks for.
 pub fn read_draft(alloc: Global, bytes: &[u8]) -> Result<Draft, SnapshotFault>
-    ensures read { IfOk result (λ d. parts_of bytes.now ≡ Ok d) }
-    ensures fault { IfErr result (λ fault. (fault ≡ SnapshotFault.OutOfMemory → ⊥) → parts_of bytes.now ≡ Err fault) }
+    ensures read { IfOk result (λ d. Says bytes.now d) }
+    ensures fault { TellsFault result (parts_of bytes.now) }
 {
     match read_parts(alloc, bytes) {
         Ok((problem, lo, hi, state, breaks)) => Ok(Draft {
@@ -83,7 +85,7 @@ impl Draft {
     /// high one, or the state is outside the branch; and when out of memory.
     pub fn check(&self, alloc: Global) -> Result<(), SnapshotFault>
         ensures sound { OnOk result (judged_parts self.now ≡ Ok self.now) }
-        ensures fault { IfErr result (λ fault. (fault ≡ SnapshotFault.OutOfMemory → ⊥) → judged_parts self.now ≡ Err fault) }
+        ensures fault { TellsFault result (judged_parts self.now) }
     {
         check_position(alloc, &self.problem, &self.lo, &self.hi, &self.state)
     }
@@ -95,10 +97,9 @@ impl Draft {
         problem: &'p Problem,
     ) -> Result<Runner<'p, T>, SnapshotFault>
         requires { self.now.problem ≡ problem.now }
-        ensures runner { IfOk result (λ r. r
-            ≡ started problem.now (branch_between problem.now self.now.lo self.now.hi) self.now.state) }
+        ensures runner { Returns result (snapshot_runner problem.now self.now) }
         ensures sound { OnOk result (judged_parts self.now ≡ Ok self.now) }
-        ensures fault { IfErr result (λ fault. (fault ≡ SnapshotFault.OutOfMemory → ⊥) → judged_parts self.now ≡ Err fault) }
+        ensures fault { TellsFault result (judged_parts self.now) }
     {
         runner_at(alloc, problem, &self.lo, &self.hi, &self.state)
     }

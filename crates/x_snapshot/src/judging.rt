@@ -1,10 +1,11 @@
 //! Whether parts make a snapshot, and which fault is the first where they don't.
-ghost use Rattle.std.specs.Prelude.{◌≡◌, [], option_map, IfOk, IfErr, OnOk};
+ghost use Rattle.std.specs.Prelude.{◌≡◌, [], IfOk, IfErr, OnOk};
 ghost use Rattle.x_steps.specs.StateView.{state_value};
 ghost use Rattle.x_branches.specs.Refusals.{CanStart};
-ghost use Rattle.x_snapshot.specs.Snapshot.{IsCutIfAny, IsOnRun, IsInside, IsSnapshot, choices_of, path_in, parts_value};
-ghost use Rattle.x_snapshot.specs.Snapshot.{branch_between, started};
-ghost use Rattle.x_snapshot.specs.Refusals.{cut_fault_of, start_fault_of, IsCutRefused, IsStartRefused, IsPositionRefused, IsRefused};
+ghost use Rattle.x_snapshot.specs.Snapshot.{IsCutIfAny, choices_of};
+ghost use Rattle.x_snapshot.specs.Snapshot.{started, AreOnRun, AreInside, MakeSnapshot, cut_if_any, runner_from};
+ghost use Rattle.x_snapshot.specs.Refusals.{cut_fault_of, start_fault_of, IsCutRefused, IsStartRefused, AreRefused, MakeNone};
+ghost use Rattle.cover_problem.specs.Answers.{Returns};
 
 use crate::breakpoint::check_breaks;
 use crate::fault::SnapshotFault;
@@ -48,7 +49,7 @@ fn cut_of<'p, T: Table>(
     requires covered { T.covered_list table ≡ [] }
     ensures same_problem_back { IfOk result (λ made. T.problem_value made.0 ≡ problem.now) }
     ensures covered_back { IfOk result (λ made. T.covered_list made.0 ≡ []) }
-    ensures made { IfOk result (λ made. made.1 ≡ option_map (path_in problem.now) (choices_of path.now)) }
+    ensures made { IfOk result (λ made. made.1 ≡ cut_if_any problem.now (choices_of path.now)) }
     ensures cut { OnOk result (IsCutIfAny problem.now (choices_of path.now)) }
     ensures refused { IfErr result (λ fault. IsCutRefused problem.now (choices_of path.now) fault) }
 {
@@ -72,7 +73,7 @@ fn start_at<'p, T: Table>(
 ) -> Result<Runner<'p, T>, SnapshotFault>
     requires same_problem { T.problem_value table ≡ problem.now }
     requires covered { T.covered_list table ≡ [] }
-    ensures runner { IfOk result (λ r. r ≡ started problem.now branch.entry (state_value state.now)) }
+    ensures runner { Returns result (started problem.now branch.entry (state_value state.now)) }
     ensures can { OnOk result (CanStart problem.now branch.entry (state_value state.now)) }
     ensures refused { IfErr result (λ fault. IsStartRefused problem.now branch.entry (state_value state.now) fault) }
 {
@@ -91,12 +92,10 @@ pub fn runner_at<'p, T: Table>(
     hi: &Option<Vec<u32>>,
     state: &State,
 ) -> Result<Runner<'p, T>, SnapshotFault>
-    ensures runner { IfOk result (λ r. r
-        ≡ started problem.now (branch_between problem.now (choices_of lo.now) (choices_of hi.now)) (state_value state.now)) }
-    ensures on_run { OnOk result (IsOnRun problem.now (choices_of lo.now) (choices_of hi.now) (state_value state.now)) }
-    ensures inside { OnOk result (IsInside problem.now (choices_of lo.now) (choices_of hi.now) (state_value state.now)) }
-    ensures refused { IfErr result (λ fault.
-        IsPositionRefused problem.now (choices_of lo.now) (choices_of hi.now) (state_value state.now) fault) }
+    ensures runner { Returns result (runner_from problem.now lo.now hi.now state.now) }
+    ensures on_run { OnOk result (AreOnRun problem.now lo.now hi.now state.now) }
+    ensures inside { OnOk result (AreInside problem.now lo.now hi.now state.now) }
+    ensures refused { IfErr result (λ fault. AreRefused problem.now lo.now hi.now state.now fault) }
 {
     let table = T::new(alloc, problem)?;
     let (table, lo) = cut_of(alloc, problem, table, lo)?;
@@ -112,10 +111,9 @@ pub fn check_position(
     hi: &Option<Vec<u32>>,
     state: &State,
 ) -> Result<(), SnapshotFault>
-    ensures on_run { OnOk result (IsOnRun problem.now (choices_of lo.now) (choices_of hi.now) (state_value state.now)) }
-    ensures inside { OnOk result (IsInside problem.now (choices_of lo.now) (choices_of hi.now) (state_value state.now)) }
-    ensures refused { IfErr result (λ fault.
-        IsPositionRefused problem.now (choices_of lo.now) (choices_of hi.now) (state_value state.now) fault) }
+    ensures on_run { OnOk result (AreOnRun problem.now lo.now hi.now state.now) }
+    ensures inside { OnOk result (AreInside problem.now lo.now hi.now state.now) }
+    ensures refused { IfErr result (λ fault. AreRefused problem.now lo.now hi.now state.now fault) }
 {
     match runner_at::<LinkTable>(alloc, problem, lo, hi, state) {
         Ok(_) => Ok(()),
@@ -132,8 +130,8 @@ pub fn check_parts(
     state: &State,
     breaks: &[Break],
 ) -> Result<(), SnapshotFault>
-    ensures snapshot { OnOk result (IsSnapshot (parts_value problem.now lo.now hi.now state.now breaks.now)) }
-    ensures refused { IfErr result (λ fault. IsRefused (parts_value problem.now lo.now hi.now state.now breaks.now) fault) }
+    ensures snapshot { OnOk result (MakeSnapshot problem.now lo.now hi.now state.now breaks.now) }
+    ensures refused { IfErr result (MakeNone problem.now lo.now hi.now state.now breaks.now) }
 {
     let _items = problem.items();
     check_breaks(alloc, problem, breaks)?;

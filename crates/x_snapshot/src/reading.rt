@@ -1,13 +1,15 @@
 //! The reader of snapshots.
-ghost use Rattle.std.specs.Prelude.{◌≡◌, Ok, Err, codes, IfOk, IfErr};
+ghost use Rattle.std.specs.Prelude.{◌≡◌, Ok, IfOk, IfErr};
 ghost use Rattle.text_lines.specs.Lines.{words_of};
 ghost use Rattle.text_lines.specs.Answers.{Gives};
-ghost use Rattle.x_snapshot.specs.Snapshot.{SnapshotValue, IsSnapshot, parts_value};
+ghost use Rattle.x_snapshot.specs.Snapshot.{parts_value, EachSnapshot};
 ghost use Rattle.x_snapshot.specs.Writing.{snapshot_text};
 ghost use Rattle.x_snapshot.specs.Reading as spec;
-ghost use Rattle.x_snapshot.specs.Reading.{keyed_line, parts_of};
+ghost use Rattle.x_snapshot.specs.Reading.{parts_of, Reads, Says};
 ghost use Rattle.x_snapshot.specs.ReadRefusals.{IsReadRefused, fault_from};
 ghost use Rattle.x_snapshot.specs.Judged.{snapshot_of};
+ghost use Rattle.cover_problem.specs.Answers.{Returns};
+ghost use Rattle.x_snapshot.specs.Refusals.{TellsFault};
 
 mod breaks;
 mod lines;
@@ -60,8 +62,7 @@ fn header(words: &[u8]) -> Found<u8>
 /// The version, and what stands after the first line.
 #[tactic(auto, unfolding(crate::specs::Reading::keyed_line))]
 fn version_in(text: &[u8]) -> Found<(u8, &[u8])>
-    ensures { Gives (λ r. (r.0, r.1.now)) result
-        (keyed_line SnapshotFault.BadHeader (codes "polysnap") spec.header text.now) }
+    ensures { Reads (λ x. x) result (spec.version_in text.now) }
 {
     let (words, rest) = keyed(SnapshotFault::BadHeader, b"polysnap", text)?;
     let version = header(words)?;
@@ -82,8 +83,7 @@ fn check_end(words: &[u8]) -> Found<()>
 /// What stands after the last line.
 #[tactic(auto, unfolding(crate::specs::Reading::keyed_line))]
 fn after_end(text: &[u8]) -> Found<&[u8]>
-    ensures { Gives (λ rest. (tt, rest.now)) result
-        (keyed_line SnapshotFault.BadState (codes "end") spec.end_from text.now) }
+    ensures { Gives (λ rest. (tt, rest.now)) result (spec.end_in text.now) }
 {
     let (words, rest) = keyed(SnapshotFault::BadState, b"end", text)?;
     check_end(words)?;
@@ -148,14 +148,13 @@ pub fn fault_from(refusal: Refusal<SnapshotFault>) -> SnapshotFault
 /// Reads a snapshot. A refusal is the first fault: of the lines in their order, then bytes that follow, then a second version that
 /// nothing asks for, then a cut or a state that isn't on the run, then one that is outside the branch.
 pub fn read_snapshot(alloc: Global, bytes: &[u8]) -> Result<Snapshot, SnapshotFault>
-    ensures read { IfOk result (λ s. parts_of bytes.now ≡ Ok s) }
+    ensures read { IfOk result (λ s. Says bytes.now s) }
     ensures text { IfOk result (λ s. bytes.now ≡ snapshot_text s) }
-    ensures every { (v : SnapshotValue) → IsSnapshot v → bytes.now ≡ snapshot_text v → IfOk result (λ s. s ≡ v) }
-    ensures always { (v : SnapshotValue) → IsSnapshot v → bytes.now ≡ snapshot_text v →
-        IfErr result (λ fault. fault ≡ SnapshotFault.OutOfMemory) }
+    ensures every { EachSnapshot (λ v. bytes.now ≡ snapshot_text v → Returns result v) }
+    ensures always { EachSnapshot (λ v. bytes.now ≡ snapshot_text v → IfErr result (λ fault. fault ≡ SnapshotFault.OutOfMemory)) }
     ensures refused { IfErr result (λ fault. IsReadRefused bytes.now fault) }
     ensures snapshot { IfOk result (λ s. snapshot_of bytes.now ≡ Ok s) }
-    ensures fault { IfErr result (λ fault. (fault ≡ SnapshotFault.OutOfMemory → ⊥) → snapshot_of bytes.now ≡ Err fault) }
+    ensures fault { TellsFault result (snapshot_of bytes.now) }
 {
     let (problem, lo, hi, state, breaks) = match read_parts(alloc, bytes) {
         Ok(parts) => parts,

@@ -1,8 +1,9 @@
 //! A snapshot: a problem, a branch of its run, a state within it, and breakpoints.
-ghost use Rattle.std.specs.Prelude.{◌≡◌, None, Some, MatchOption, IfOk, IfErr, OnOk};
+ghost use Rattle.std.specs.Prelude.{◌≡◌, IfErr, OnOk};
 ghost use Rattle.x_steps.specs.StateView.{state_value};
-ghost use Rattle.x_snapshot.specs.Snapshot.{IsSnapshot, parts_value};
-ghost use Rattle.x_snapshot.specs.Refusals.{IsRefused};
+ghost use Rattle.x_snapshot.specs.Snapshot.{IsSnapshot, parts_value, MakeSnapshot, Lends};
+ghost use Rattle.x_snapshot.specs.Refusals.{MakeNone};
+ghost use Rattle.cover_problem.specs.Answers.{Returns};
 
 use crate::fault::SnapshotFault;
 use crate::judging::check_parts;
@@ -57,9 +58,9 @@ impl Snapshot {
         state: State,
         breaks: Vec<Break>,
     ) -> Result<Snapshot, Refused<SnapshotFault, SnapshotParts>>
-        ensures made { IfOk result (λ s. s ≡ parts_value problem lo hi state breaks.items) }
-        ensures snapshot { OnOk result (IsSnapshot (parts_value problem lo hi state breaks.items)) }
-        ensures refused { IfErr result (λ r. IsRefused (parts_value problem lo hi state breaks.items) r.fault) }
+        ensures made { Returns result (parts_value problem lo hi state breaks.items) }
+        ensures snapshot { OnOk result (MakeSnapshot problem lo hi state breaks.items) }
+        ensures refused { IfErr result (λ r. MakeNone problem lo hi state breaks.items r.fault) }
         ensures given_back { IfErr result (λ r. r.given ≡ (problem, lo, hi, state, breaks)) }
     {
         match check_parts(alloc, &problem, &lo, &hi, &state, &breaks) {
@@ -87,14 +88,14 @@ impl Snapshot {
 
     /// The choices of the cut where its branch begins; None where that is the start of the run.
     pub fn lo(&self) -> Option<&[u32]>
-        ensures { MatchOption result (self.now.lo ≡ None) (λ path. self.now.lo ≡ Some path.now) }
+        ensures { Lends result self.now.lo }
     {
         self.lo.as_deref()
     }
 
     /// The choices of the cut where its branch ends; None where that is the end of the run.
     pub fn hi(&self) -> Option<&[u32]>
-        ensures { MatchOption result (self.now.hi ≡ None) (λ path. self.now.hi ≡ Some path.now) }
+        ensures { Lends result self.now.hi }
     {
         self.hi.as_deref()
     }

@@ -1,12 +1,13 @@
 //! The writer of snapshots.
-ghost use Rattle.std.specs.Prelude.{◌≡◌, ◌∷◌, true, map, length, codes, option_copied, OnOk, IfOk};
+ghost use Rattle.std.specs.Prelude.{◌≡◌, ◌∷◌, true, map, length};
 ghost use Rattle.std.specs.List.{list_all};
 ghost use Rattle.cover_problem.specs.Grammar.{word_lines};
 ghost use Rattle.x_texts.specs.Breaks.{is_break};
 ghost use Rattle.x_snapshot.specs.Writing as spec;
-ghost use Rattle.x_texts.specs.Words.{cut_words, break_words};
-ghost use Rattle.x_snapshot.specs.Writing.{lines_of_breaks, snapshot_text};
-ghost use Rattle.x_texts.specs.Writes.{WritesLine, WritesLines};
+ghost use Rattle.x_texts.specs.Words.{break_words, lent_cut_words};
+ghost use Rattle.x_snapshot.specs.Writing.{lines_of_breaks, snapshot_text, low_words, high_words};
+ghost use Rattle.x_texts.specs.Writes.{AddsLine, AddsLines};
+ghost use Rattle.cover_problem.specs.Answers.{ReturnsItems};
 
 use crate::snapshot::Snapshot;
 use cover_problem::{Problem, write_cover};
@@ -21,7 +22,7 @@ fn write_cut_line(
     none: &str,
     path: Option<&[u32]>,
 ) -> Result<(), AllocError>
-    ensures { OnOk result (WritesLine text.old text.new (key.now ∷ cut_words none.now (option_copied path.entry))) }
+    ensures { AddsLine result text.old text.new (key.now ∷ lent_cut_words none.now path.entry) }
 {
     text.extend_from_slice(key.as_bytes())?;
     write_cut(text, none, path)?;
@@ -31,14 +32,14 @@ fn write_cut_line(
 
 /// Writes the line of the low cut.
 fn write_from(text: &mut Vec<u8>, snapshot: &Snapshot) -> Result<(), AllocError>
-    ensures { OnOk result (WritesLine text.old text.new (codes "from" ∷ cut_words (codes "start") snapshot.now.lo)) }
+    ensures { AddsLine result text.old text.new (low_words snapshot.now.lo) }
 {
     write_cut_line(text, "from", "start", snapshot.lo())
 }
 
 /// Writes the line of the high cut.
 fn write_to(text: &mut Vec<u8>, snapshot: &Snapshot) -> Result<(), AllocError>
-    ensures { OnOk result (WritesLine text.old text.new (codes "to" ∷ cut_words (codes "end") snapshot.now.hi)) }
+    ensures { AddsLine result text.old text.new (high_words snapshot.now.hi) }
 {
     write_cut_line(text, "to", "end", snapshot.hi())
 }
@@ -50,7 +51,7 @@ fn write_each_break(
     breaks: &[Break],
 ) -> Result<(), AllocError>
     requires { list_all (is_break problem.now) breaks.now ≡ true }
-    ensures { OnOk result (WritesLines text.old text.new (map (break_words problem.now.names) breaks.now)) }
+    ensures { AddsLines result text.old text.new (map (break_words problem.now.names) breaks.now) }
 {
     for breakpoint in breaks {
         write_break(text, "break", problem, *breakpoint)?;
@@ -68,7 +69,7 @@ pub fn needs_second(problem: &Problem, breaks: &[Break]) -> bool
 /// Writes the number of breakpoints and their lines, in the second version.
 fn write_breaks(text: &mut Vec<u8>, problem: &Problem, breaks: &[Break]) -> Result<(), AllocError>
     requires { list_all (is_break problem.now) breaks.now ≡ true }
-    ensures { OnOk result (WritesLines text.old text.new (lines_of_breaks problem.now breaks.now)) }
+    ensures { AddsLines result text.old text.new (lines_of_breaks problem.now breaks.now) }
 {
     if !needs_second(problem, breaks) {
         return Ok(());
@@ -98,7 +99,7 @@ fn line_count(problem: &Problem) -> usize
 
 /// Writes a snapshot, in its one spelling.
 pub fn write_snapshot(alloc: Global, snapshot: &Snapshot) -> Result<Vec<u8>, AllocError>
-    ensures { IfOk result (λ text. text.items ≡ snapshot_text snapshot.now) }
+    ensures { ReturnsItems result (snapshot_text snapshot.now) }
 {
     let problem = snapshot.problem();
     let breaks = snapshot.breaks();

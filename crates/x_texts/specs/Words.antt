@@ -4,7 +4,7 @@
 -- proofs/WordExamples.antt computes them.
 use Rattle.std.specs.Prelude.{ℕ, List, [], ◌∷◌, map, decimal, codes, Option, Some}
 use Rattle.std.specs.Prelude as prelude
-use Rattle.cover_problem.specs.Problem.{name_at}
+use Rattle.cover_problem.specs.Problem.{ProblemValue, name_at}
 use Rattle.x_steps.specs.declared.state.Label.{Label}
 use Rattle.x_steps.specs.declared.state.Label.TheVariants.{X1, X2, X3, X4, X5, X6, X7, X8, Done}
 use Rattle.x_steps.specs.declared.state.Cursor.{Cursor}
@@ -12,11 +12,17 @@ use Rattle.x_steps.specs.declared.state.Cursor.TheVariants as cursor
 use Rattle.x_steps.specs.StateValue.{StateValue}
 use Rattle.x_texts.specs.declared.breakpoint.Break.{Break}
 use Rattle.x_texts.specs.declared.breakpoint.Break.TheVariants as at
+use Rattle.std.specs.Prelude.{option_copied}
+use Rattle.std.specs.Borrow.{Bor}
 
 -- the choices of a cut, or the word for none
 abbrev pub cut_words : List ℕ → Option (List ℕ) → List (List ℕ)
 cut_words none prelude.None = none ∷ []
 cut_words none (Some path) = map decimal path
+
+-- the same of a path that is borrowed
+abbrev pub lent_cut_words : List ℕ → Option (Bor (List ℕ)) → List (List ℕ)
+lent_cut_words none path = cut_words none (option_copied path)
 
 -- the step about to be done
 abbrev pub label_word : Label → List ℕ
@@ -46,6 +52,10 @@ point_words names (at.Level n) = codes "level" ∷ decimal n ∷ []
 point_words names (at.Option k) = codes "option" ∷ decimal k ∷ []
 point_words names (at.Item i) = codes "item" ∷ name_at names i ∷ []
 point_words names at.Visit = codes "visit" ∷ []
+
+-- a word and what a breakpoint is at, over a problem's items
+abbrev pub keyed_point : List ℕ → ProblemValue → Break → List (List ℕ)
+keyed_point key p b = key ∷ point_words p.names b
 
 -- a breakpoint's line
 abbrev pub break_words : List (List ℕ) → Break → List (List ℕ)

@@ -1,9 +1,9 @@
 //! Lines of states, breakpoints, visits and levels.
-ghost use Rattle.std.specs.Prelude.{◌≡◌, ◌∷◌, true, map, OnOk};
+ghost use Rattle.std.specs.Prelude.{◌≡◌, ◌∷◌, true, map};
 ghost use Rattle.x_steps.specs.StateView.{state_value};
 ghost use Rattle.x_texts.specs.Breaks.{is_break};
-ghost use Rattle.x_texts.specs.Words.{state_words, point_words, visit_words, levels_words};
-ghost use Rattle.x_texts.specs.Writes.{WritesLine, WritesLines};
+ghost use Rattle.x_texts.specs.Words.{state_words, keyed_point, visit_words, levels_words};
+ghost use Rattle.x_texts.specs.Writes.{AddsLine, AddsLines};
 
 use crate::breakpoint::Break;
 use crate::word::{label_word, write_cursor, write_point};
@@ -14,7 +14,7 @@ use x_steps::State;
 
 /// Writes a line of a word and a state: its label, its cursor and its choices.
 pub fn write_state(text: &mut Vec<u8>, key: &str, state: &State) -> Result<(), AllocError>
-    ensures { OnOk result (WritesLine text.old text.new (key.now ∷ state_words (state_value state.now))) }
+    ensures { AddsLine result text.old text.new (key.now ∷ state_words (state_value state.now)) }
 {
     text.extend_from_slice(key.as_bytes())?;
     write_word(text, label_word(state.label))?;
@@ -32,7 +32,7 @@ pub fn write_break(
     breakpoint: Break,
 ) -> Result<(), AllocError>
     requires { is_break problem.now breakpoint ≡ true }
-    ensures { OnOk result (WritesLine text.old text.new (key.now ∷ point_words problem.now.names breakpoint)) }
+    ensures { AddsLine result text.old text.new (keyed_point key.now problem.now breakpoint) }
 {
     text.extend_from_slice(key.as_bytes())?;
     write_point(text, problem, breakpoint)?;
@@ -42,14 +42,14 @@ pub fn write_break(
 
 /// Writes a visit: its choices.
 pub fn write_visit(text: &mut Vec<u8>, path: &[u32]) -> Result<(), AllocError>
-    ensures { OnOk result (WritesLine text.old text.new (visit_words path.now)) }
+    ensures { AddsLine result text.old text.new (visit_words path.now) }
 {
     write_numbers_line(text, "visit", path)
 }
 
 /// Writes visits, a line for each.
 pub fn write_visits(text: &mut Vec<u8>, visits: &Lists) -> Result<(), AllocError>
-    ensures { OnOk result (WritesLines text.old text.new (map visit_words visits.now)) }
+    ensures { AddsLines result text.old text.new (map visit_words visits.now) }
 {
     for place in 0..visits.len() {
         write_visit(text, visits.list(place))?;
@@ -59,7 +59,7 @@ pub fn write_visits(text: &mut Vec<u8>, visits: &Lists) -> Result<(), AllocError
 
 /// Writes the counts of the levels from 0 on, that of level 0 at least.
 pub fn write_levels(text: &mut Vec<u8>, counts: &[u128]) -> Result<(), AllocError>
-    ensures { OnOk result (WritesLine text.old text.new (levels_words counts.now)) }
+    ensures { AddsLine result text.old text.new (levels_words counts.now) }
 {
     if counts.is_empty() {
         return text.extend_from_slice(b"levels 0\n");

@@ -1,10 +1,9 @@
 //! Words of cuts, states and breakpoints.
-ghost use Rattle.std.specs.Prelude.{◌≡◌, ◌∷◌, [], true, decimal, option_copied, OnOk};
-ghost use Rattle.text_lines.specs.Writing.{words_after};
+ghost use Rattle.std.specs.Prelude.{◌≡◌, ◌∷◌, [], true, decimal};
 ghost use Rattle.x_texts.specs.Breaks.{is_break};
 ghost use Rattle.x_texts.specs.Words as spec;
-ghost use Rattle.x_texts.specs.Words.{cut_words, point_words};
-ghost use Rattle.x_texts.specs.Writes.{Writes};
+ghost use Rattle.x_texts.specs.Words.{lent_cut_words, point_words};
+ghost use Rattle.x_texts.specs.Writes.{Adds, AddsWords};
 
 use crate::breakpoint::Break;
 use cover_problem::Problem;
@@ -14,7 +13,7 @@ use x_steps::{Cursor, Label};
 
 /// Writes the choices of a cut after a word, or the word for none.
 pub fn write_cut(text: &mut Vec<u8>, none: &str, path: Option<&[u32]>) -> Result<(), AllocError>
-    ensures { OnOk result (Writes text.old text.new (words_after (cut_words none.now (option_copied path.entry)))) }
+    ensures { AddsWords result text.old text.new (lent_cut_words none.now path.entry) }
 {
     match path {
         Some(path) => write_numbers(text, path),
@@ -41,7 +40,7 @@ pub(crate) fn label_word(label: Label) -> &'static str
 
 /// Writes a cursor after a word.
 pub(crate) fn write_cursor(text: &mut Vec<u8>, cursor: Cursor) -> Result<(), AllocError>
-    ensures { OnOk result (Writes text.old text.new (32 ∷ spec.cursor_word cursor)) }
+    ensures { Adds result text.old text.new (32 ∷ spec.cursor_word cursor) }
 {
     match cursor {
         Cursor::None => write_word(text, "-"),
@@ -52,7 +51,7 @@ pub(crate) fn write_cursor(text: &mut Vec<u8>, cursor: Cursor) -> Result<(), All
 
 /// Writes a kind of breakpoints and a number after a word.
 fn write_kind(text: &mut Vec<u8>, kind: &str, number: u32) -> Result<(), AllocError>
-    ensures { OnOk result (Writes text.old text.new (words_after (kind.now ∷ decimal number ∷ []))) }
+    ensures { AddsWords result text.old text.new (kind.now ∷ decimal number ∷ []) }
 {
     write_word(text, kind)?;
     write_number(text, number)
@@ -65,7 +64,7 @@ pub(crate) fn write_point(
     breakpoint: Break,
 ) -> Result<(), AllocError>
     requires { is_break problem.now breakpoint ≡ true }
-    ensures { OnOk result (Writes text.old text.new (words_after (point_words problem.now.names breakpoint))) }
+    ensures { AddsWords result text.old text.new (point_words problem.now.names breakpoint) }
 {
     match breakpoint {
         Break::Level(level) => write_kind(text, "level", level),

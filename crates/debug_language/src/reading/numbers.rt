@@ -1,11 +1,11 @@
 //! Numbers and cuts of a command line.
-ghost use Rattle.std.specs.Prelude.{◌≡◌, ◌≤◌, ◌∷◌, true, length, is_some, option_map, option_copied, IfOk, OnErr};
+ghost use Rattle.std.specs.Prelude.{◌≡◌, ◌≤◌, ◌∷◌, length, is_some, option_copied};
 ghost use Rattle.std.specs.List.{slice_split, position_or_len};
 ghost use Rattle.std.specs.Str.{bytes_eq};
 ghost use Rattle.text_lines.specs.Lines.{words_of};
 ghost use Rattle.x_snapshot.specs.Snapshot.{choices_of};
 ghost use Rattle.debug_language.specs.Reading as spec;
-ghost use Rattle.debug_language.specs.Reading.{is_comma, parts_of};
+ghost use Rattle.debug_language.specs.Reading.{is_comma, parts_of, Finds, FailsOnly};
 
 use crate::reading::Found;
 use std::alloc::Global;
@@ -69,8 +69,8 @@ fn are_numbers(words: &[u8]) -> bool
 
 /// The numbers that words are.
 fn numbers_from(alloc: Global, words: &[u8]) -> Found<Vec<u32>>
-    ensures said { IfOk result (λ numbers. choices_of numbers ≡ spec.numbers_from (words_of words.now)) }
-    ensures memory { OnErr result (is_some (spec.numbers_from (words_of words.now)) ≡ true) }
+    ensures said { Finds (λ v. v.items) result (spec.numbers_from (words_of words.now)) }
+    ensures memory { FailsOnly result (spec.numbers_from (words_of words.now)) }
 {
     if !are_numbers(words) {
         return Ok(None);
@@ -90,8 +90,8 @@ fn numbers_from(alloc: Global, words: &[u8]) -> Found<Vec<u32>>
 /// The cut of these words: `start` for none, or its choices.
 #[tactic(auto, unfolding(crate::specs::Reading::cut_from))]
 pub fn cut_from(alloc: Global, words: &[u8]) -> Found<Option<Vec<u32>>>
-    ensures said { IfOk result (λ cut. option_map choices_of cut ≡ spec.cut_from (words_of words.now)) }
-    ensures memory { OnErr result (is_some (spec.cut_from (words_of words.now)) ≡ true) }
+    ensures said { Finds choices_of result (spec.cut_from (words_of words.now)) }
+    ensures memory { FailsOnly result (spec.cut_from (words_of words.now)) }
 {
     let Some((word, rest)) = split_word(words) else {
         return Ok(None);
@@ -126,7 +126,7 @@ fn split_part(word: &[u8]) -> (&[u8], Option<&[u8]>)
 
 /// Whether numbers stand between the commas of a word.
 fn are_joined(word: &[u8]) -> bool
-    ensures { result ≡ is_some (spec.numbers_from (slice_split is_comma word.now)) }
+    ensures { result ≡ is_some (spec.joined_numbers word.now) }
 {
     let mut rest = Some(word);
     while let Some(text) = rest {
@@ -141,8 +141,8 @@ fn are_joined(word: &[u8]) -> bool
 
 /// The numbers that stand between the commas of a word.
 fn joined_numbers(alloc: Global, word: &[u8]) -> Found<Vec<u32>>
-    ensures said { IfOk result (λ numbers. choices_of numbers ≡ spec.numbers_from (slice_split is_comma word.now)) }
-    ensures memory { OnErr result (is_some (spec.numbers_from (slice_split is_comma word.now)) ≡ true) }
+    ensures said { Finds (λ v. v.items) result (spec.joined_numbers word.now) }
+    ensures memory { FailsOnly result (spec.joined_numbers word.now) }
 {
     if !are_joined(word) {
         return Ok(None);
@@ -163,8 +163,8 @@ fn joined_numbers(alloc: Global, word: &[u8]) -> Found<Vec<u32>>
 /// The cut of a word: `start` for none, or its choices with commas between them.
 #[tactic(auto, unfolding(crate::specs::Reading::joined_cut))]
 pub fn joined_cut(alloc: Global, word: &[u8]) -> Found<Option<Vec<u32>>>
-    ensures said { IfOk result (λ cut. option_map choices_of cut ≡ spec.joined_cut word.now) }
-    ensures memory { OnErr result (is_some (spec.joined_cut word.now) ≡ true) }
+    ensures said { Finds choices_of result (spec.joined_cut word.now) }
+    ensures memory { FailsOnly result (spec.joined_cut word.now) }
 {
     if is_word(word, b"start") {
         return Ok(Some(None));

@@ -1,10 +1,8 @@
 //! Commands without a cut.
-ghost use Rattle.std.specs.Prelude.{◌≡◌, option_map};
+ghost use Rattle.std.specs.Prelude.{◌≡◌};
 ghost use Rattle.text_lines.specs.Lines.{words_of};
-ghost use Rattle.debug_language.specs.Command as value;
-ghost use Rattle.debug_language.specs.Command.{command_value};
 ghost use Rattle.debug_language.specs.Reading as spec;
-ghost use Rattle.x_snapshot.specs.Reading.{break_from};
+ghost use Rattle.debug_language.specs.Reading.{asked};
 
 use crate::command::Command;
 use crate::reading::numbers::{count_from, is_word, pair_from};
@@ -13,7 +11,7 @@ use x_snapshot::{break_from, only_word};
 
 /// The command of one word that goes on from where the search stands.
 fn search_command(key: &[u8]) -> Option<Command>
-    ensures { option_map command_value result ≡ spec.search_command key.now }
+    ensures { asked result ≡ spec.search_command key.now }
 {
     if is_word(key, b"step") {
         Some(Command::Step(1))
@@ -34,7 +32,7 @@ fn search_command(key: &[u8]) -> Option<Command>
 
 /// The command of one word.
 pub fn lone_command(key: &[u8]) -> Option<Command>
-    ensures { option_map command_value result ≡ spec.lone_command key.now }
+    ensures { asked result ≡ spec.lone_command key.now }
 {
     if is_word(key, b"park") {
         Some(Command::Park)
@@ -59,7 +57,7 @@ pub fn lone_command(key: &[u8]) -> Option<Command>
 
 /// Steps, as many as the words say.
 fn step_from(words: &[u8]) -> Option<Command>
-    ensures { option_map command_value result ≡ option_map value.Step (spec.count_from (words_of words.now)) }
+    ensures { asked result ≡ spec.steps_from (words_of words.now) }
 {
     let count = count_from(words)?;
     Some(Command::Step(count))
@@ -67,7 +65,7 @@ fn step_from(words: &[u8]) -> Option<Command>
 
 /// Steps back, as many as the words say.
 fn back_from(words: &[u8]) -> Option<Command>
-    ensures { option_map command_value result ≡ option_map value.Back (spec.count_from (words_of words.now)) }
+    ensures { asked result ≡ spec.back_from (words_of words.now) }
 {
     let count = count_from(words)?;
     Some(Command::Back(count))
@@ -75,7 +73,7 @@ fn back_from(words: &[u8]) -> Option<Command>
 
 /// The breakpoint that the words say.
 fn set_from(problem: &Problem, words: &[u8]) -> Option<Command>
-    ensures { option_map command_value result ≡ option_map value.SetBreak (break_from problem.now (words_of words.now)) }
+    ensures { asked result ≡ spec.set_from problem.now (words_of words.now) }
 {
     let breakpoint = break_from(problem, words)?;
     Some(Command::Break(breakpoint))
@@ -83,7 +81,7 @@ fn set_from(problem: &Problem, words: &[u8]) -> Option<Command>
 
 /// The split at the level and the option that the words say.
 fn split_from(words: &[u8]) -> Option<Command>
-    ensures { option_map command_value result ≡ spec.split_from (words_of words.now) }
+    ensures { asked result ≡ spec.split_from (words_of words.now) }
 {
     let (level, option) = pair_from(words)?;
     Some(Command::Split { level, option })
@@ -91,7 +89,7 @@ fn split_from(words: &[u8]) -> Option<Command>
 
 /// What is saved beside the place, as the words say.
 fn save_from(words: &[u8]) -> Option<Command>
-    ensures { option_map command_value result ≡ spec.save_from (words_of words.now) }
+    ensures { asked result ≡ spec.save_from (words_of words.now) }
 {
     let word = only_word(words)?;
     if is_word(word, b"breaks") {
@@ -104,7 +102,7 @@ fn save_from(words: &[u8]) -> Option<Command>
 /// The command without a cut by its first word and the others.
 #[tactic(auto, unfolding(crate::specs::Reading::plain_command))]
 pub fn plain_command(problem: &Problem, key: &[u8], words: &[u8]) -> Option<Command>
-    ensures { option_map command_value result ≡ spec.plain_command problem.now key.now (words_of words.now) }
+    ensures { asked result ≡ spec.plain_command problem.now key.now (words_of words.now) }
 {
     if is_word(key, b"step") {
         step_from(words)

@@ -1,11 +1,11 @@
 //! The breakpoints of a snapshot's text.
-ghost use Rattle.std.specs.Prelude.{◌≡◌, [], codes};
+ghost use Rattle.std.specs.Prelude.{◌≡◌, []};
 ghost use Rattle.text_lines.specs.Lines.{words_of};
 ghost use Rattle.text_lines.specs.Answers.{Gives};
 ghost use Rattle.cover_problem.specs.Problem.{item_named};
 ghost use Rattle.x_texts.specs.declared.breakpoint.Break.{Break};
 ghost use Rattle.x_snapshot.specs.Reading as spec;
-ghost use Rattle.x_snapshot.specs.Reading.{keyed_line, found_or, most_breaks};
+ghost use Rattle.x_snapshot.specs.Reading.{found_or, Reads};
 
 use crate::fault::SnapshotFault;
 use crate::reading::Found;
@@ -123,8 +123,7 @@ fn break_of_words(problem: &Problem, words: &[u8]) -> Found<Break>
 /// The breakpoint of the first line, and what stands after it.
 #[tactic(auto, unfolding(crate::specs::Reading::keyed_line))]
 fn break_in<'t>(problem: &Problem, text: &'t [u8]) -> Found<(Break, &'t [u8])>
-    ensures { Gives (λ r. (r.0, r.1.now)) result
-        (keyed_line SnapshotFault.BadBreak (codes "break") (spec.break_of_words problem.now) text.now) }
+    ensures { Reads (λ x. x) result (spec.break_in problem.now text.now) }
 {
     let (words, rest) = keyed(SnapshotFault::BadBreak, b"break", text)?;
     let breakpoint = break_of_words(problem, words)?;
@@ -158,7 +157,7 @@ fn breaks_from<'t>(
     count: u32,
     text: &'t [u8],
 ) -> Found<(Vec<Break>, &'t [u8])>
-    ensures { Gives (λ r. (r.0.items, r.1.now)) result (spec.breaks_from problem.now count text.now) }
+    ensures { Reads (λ v. v.items) result (spec.breaks_from problem.now count text.now) }
 {
     let mut seen = IndexSet::new(alloc);
     let mut rest = text;
@@ -172,8 +171,7 @@ fn breaks_from<'t>(
 /// The number of breakpoints, and what stands after its line.
 #[tactic(auto, unfolding(crate::specs::Reading::keyed_line))]
 fn count_in(text: &[u8]) -> Found<(u32, &[u8])>
-    ensures { Gives (λ r. (r.0, r.1.now)) result
-        (keyed_line SnapshotFault.BadBreak (codes "breaks") (spec.count_from SnapshotFault.BadBreak most_breaks) text.now) }
+    ensures { Reads (λ x. x) result (spec.count_in text.now) }
 {
     let (words, rest) = keyed(SnapshotFault::BadBreak, b"breaks", text)?;
     let count = count_from(SnapshotFault::BadBreak, MOST_BREAKS, words)?;
@@ -183,7 +181,7 @@ fn count_in(text: &[u8]) -> Found<(u32, &[u8])>
 /// The breakpoints, and what stands after them.
 #[tactic(auto, unfolding(crate::specs::Reading::breaks_in))]
 fn breaks_in<'t>(alloc: Global, problem: &Problem, text: &'t [u8]) -> Found<(Vec<Break>, &'t [u8])>
-    ensures { Gives (λ r. (r.0.items, r.1.now)) result (spec.breaks_in problem.now text.now) }
+    ensures { Reads (λ v. v.items) result (spec.breaks_in problem.now text.now) }
 {
     let (count, rest) = count_in(text)?;
     breaks_from(alloc, problem, count, rest)
@@ -197,7 +195,7 @@ pub fn breaks_of_version<'t>(
     problem: &Problem,
     text: &'t [u8],
 ) -> Found<(Vec<Break>, &'t [u8])>
-    ensures { Gives (λ r. (r.0.items, r.1.now)) result (spec.breaks_of_version version problem.now text.now) }
+    ensures { Reads (λ v. v.items) result (spec.breaks_of_version version problem.now text.now) }
 {
     if version == 2 {
         breaks_in(alloc, problem, text)

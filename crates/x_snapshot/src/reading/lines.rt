@@ -1,9 +1,10 @@
 //! Lines of a key and words after it.
-ghost use Rattle.std.specs.Prelude.{◌≡◌, None, Some, MatchOption};
+ghost use Rattle.std.specs.Prelude.{◌≡◌};
 ghost use Rattle.text_lines.specs.Lines.{words_of};
 ghost use Rattle.text_lines.specs.Answers.{Gives};
 ghost use Rattle.x_snapshot.specs.Reading as spec;
-ghost use Rattle.x_snapshot.specs.Reading.{first_line, line_words, after_key, only};
+ghost use Rattle.x_snapshot.specs.Reading.{first_line, line_words, after_key, only, Reads, lent_words};
+ghost use Rattle.x_snapshot.specs.Snapshot.{Lends};
 
 use crate::fault::SnapshotFault;
 use crate::reading::Found;
@@ -35,7 +36,7 @@ fn check_spaced(fault: SnapshotFault, line: &[u8]) -> Found<()>
 /// The words after a key.
 #[tactic(auto, unfolding(crate::specs::Reading::after_key))]
 fn take_key<'t>(fault: SnapshotFault, key: &[u8], words: &'t [u8]) -> Found<&'t [u8]>
-    ensures { Gives (λ rest. words_of rest.now) result (after_key fault key.now (words_of words.now)) }
+    ensures { Gives lent_words result (after_key fault key.now (words_of words.now)) }
 {
     let Some((word, rest)) = split_word(words) else {
         return Err(Refusal::Fault(fault));
@@ -49,7 +50,7 @@ fn take_key<'t>(fault: SnapshotFault, key: &[u8], words: &'t [u8]) -> Found<&'t 
 /// The words after the key of the first line, and what stands after the line.
 #[tactic(auto, unfolding(crate::specs::Reading::keyed))]
 pub fn keyed<'t>(fault: SnapshotFault, key: &[u8], text: &'t [u8]) -> Found<(&'t [u8], &'t [u8])>
-    ensures { Gives (λ r. (words_of r.0.now, r.1.now)) result (spec.keyed fault key.now text.now) }
+    ensures { Reads lent_words result (spec.keyed fault key.now text.now) }
 {
     let (line, rest) = take_line(text)?;
     check_spaced(fault, line)?;
@@ -59,7 +60,7 @@ pub fn keyed<'t>(fault: SnapshotFault, key: &[u8], text: &'t [u8]) -> Found<(&'t
 
 /// The only word.
 pub fn only_word(words: &[u8]) -> Option<&[u8]>
-    ensures { MatchOption result (only (words_of words.now) ≡ None) (λ word. only (words_of words.now) ≡ Some word.now) }
+    ensures { Lends result (only (words_of words.now)) }
 {
     let (word, rest) = split_word(words)?;
     if has_words(rest) { None } else { Some(word) }

@@ -1,11 +1,11 @@
 //! The branch and the state of a snapshot's text.
-ghost use Rattle.std.specs.Prelude.{◌≡◌, [], codes, is_ok};
+ghost use Rattle.std.specs.Prelude.{◌≡◌, [], is_ok};
 ghost use Rattle.text_lines.specs.Lines.{words_of};
 ghost use Rattle.text_lines.specs.Answers.{Gives};
 ghost use Rattle.x_steps.specs.StateView.{state_value};
-ghost use Rattle.x_snapshot.specs.Snapshot.{choices_of};
+ghost use Rattle.x_snapshot.specs.Snapshot.{choices_of, position_value};
 ghost use Rattle.x_snapshot.specs.Reading as spec;
-ghost use Rattle.x_snapshot.specs.Reading.{keyed_line, add_choice, choices_from};
+ghost use Rattle.x_snapshot.specs.Reading.{add_choice, choices_from, Reads};
 
 use crate::fault::SnapshotFault;
 use crate::reading::Found;
@@ -80,8 +80,7 @@ fn cut_in<'t>(
     none: &[u8],
     text: &'t [u8],
 ) -> Found<(Option<Vec<u32>>, &'t [u8])>
-    ensures { Gives (λ r. (choices_of r.0, r.1.now)) result
-        (keyed_line SnapshotFault.BadState key.now (spec.cut_from none.now) text.now) }
+    ensures { Reads choices_of result (spec.cut_in key.now none.now text.now) }
 {
     let (words, rest) = keyed(SnapshotFault::BadState, key, text)?;
     let cut = cut_from(alloc, none, words)?;
@@ -165,8 +164,7 @@ pub fn state_from(alloc: Global, words: &[u8]) -> Found<State>
 /// The state of the first line, and what stands after it.
 #[tactic(auto, unfolding(crate::specs::Reading::keyed_line))]
 fn state_in(alloc: Global, text: &[u8]) -> Found<(State, &[u8])>
-    ensures { Gives (λ r. (state_value r.0, r.1.now)) result
-        (keyed_line SnapshotFault.BadState (codes "state") spec.state_from text.now) }
+    ensures { Reads state_value result (spec.state_in text.now) }
 {
     let (words, rest) = keyed(SnapshotFault::BadState, b"state", text)?;
     let state = state_from(alloc, words)?;
@@ -179,7 +177,7 @@ pub fn position_in(
     alloc: Global,
     text: &[u8],
 ) -> Found<((Option<Vec<u32>>, Option<Vec<u32>>, State), &[u8])>
-    ensures { Gives (λ r. ((choices_of r.0.0, choices_of r.0.1, state_value r.0.2), r.1.now)) result (spec.position_in text.now) }
+    ensures { Reads position_value result (spec.position_in text.now) }
 {
     let (lo, rest) = cut_in(alloc, b"from", b"start", text)?;
     let (hi, rest) = cut_in(alloc, b"to", b"end", rest)?;

@@ -1,12 +1,13 @@
 //! The problem of a snapshot's text.
-ghost use Rattle.std.specs.Prelude.{◌≡◌, ◌≤◌, length, take, codes, IfOk};
+ghost use Rattle.std.specs.Prelude.{◌≤◌, length, take, IfOk};
 ghost use Rattle.std.specs.Str.{bytes_eq};
 ghost use Rattle.text_lines.specs.Lines.{words_of};
 ghost use Rattle.text_lines.specs.Answers.{Gives};
 ghost use Rattle.cover_problem.specs.Reading.{problem_of};
 ghost use Rattle.cover_problem.specs.Grammar.{written};
 ghost use Rattle.x_snapshot.specs.Reading as spec;
-ghost use Rattle.x_snapshot.specs.Reading.{keyed_line, in_version};
+ghost use Rattle.x_snapshot.specs.Reading.{in_version, Reads};
+ghost use Rattle.cover_problem.specs.Answers.{Returns};
 
 use crate::fault::SnapshotFault;
 use crate::reading::Found;
@@ -31,8 +32,7 @@ fn lines_from(version: u8, words: &[u8]) -> Found<u32>
 /// The number of the problem's lines, and what stands after its line.
 #[tactic(auto, unfolding(crate::specs::Reading::keyed_line))]
 fn lines_in(version: u8, text: &[u8]) -> Found<(u32, &[u8])>
-    ensures { Gives (λ r. (r.0, r.1.now)) result
-        (keyed_line SnapshotFault.BadProblem (codes "problem") (spec.lines_from version) text.now) }
+    ensures { Reads (λ x. x) result (spec.lines_in version text.now) }
 {
     let (words, rest) = keyed(SnapshotFault::BadProblem, b"problem", text)?;
     let count = lines_from(version, words)?;
@@ -54,7 +54,7 @@ fn after_lines(count: u32, text: &[u8]) -> Found<&[u8]>
 
 /// Whether a problem is written as this text.
 fn is_written(alloc: Global, problem: &Problem, text: &[u8]) -> Result<bool, AllocError>
-    ensures { IfOk result (λ same. same ≡ bytes_eq (written problem.now) text.now) }
+    ensures { Returns result (bytes_eq (written problem.now) text.now) }
 {
     let written = write_cover(alloc, problem)?;
     Ok(written.as_slice() == text)
@@ -102,7 +102,7 @@ fn problem_before(alloc: Global, version: u8, text: &[u8], rest: &[u8]) -> Found
 /// The problem, and what stands after it.
 #[tactic(auto, unfolding(crate::specs::Reading::problem_in))]
 pub fn problem_in(alloc: Global, version: u8, text: &[u8]) -> Found<(Problem, &[u8])>
-    ensures { Gives (λ r. (r.0, r.1.now)) result (spec.problem_in version text.now) }
+    ensures { Reads (λ x. x) result (spec.problem_in version text.now) }
 {
     let (count, lines) = lines_in(version, text)?;
     let rest = after_lines(count, lines)?;

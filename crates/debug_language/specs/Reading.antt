@@ -181,8 +181,8 @@ IsNoCommand p line refusals.OutOfMemory = is_some (command_of p line) ≡ true
 -- *what a call reads*
 
 -- what a call read, as view shows it, is what was said, or None where nothing was; unless memory ran out
-abbrev pub Finds : {X S E : Type 0} → (X → S) → Result (Option X) E → Option S → Type 0
-Finds view result said = IfOk result (λ found. option_map view found ≡ said)
+abbrev pub FindsAs : {X S E : Type 0} → (X → S) → Result (Option X) E → Option S → Type 0
+FindsAs view result said = IfOk result (λ found. option_map view found ≡ said)
 
 -- a call has an error only where something was said
 abbrev pub FailsOnly : {X S E : Type 0} → Result X E → Option S → Type 0
@@ -194,7 +194,7 @@ asked command = option_map command_value command
 
 -- the command that a call read is the one that was asked for, or None where none was; unless memory ran out
 abbrev pub Asks : {E : Type 0} → Result (Option declared.Command) E → Option CommandValue → Type 0
-Asks result said = Finds command_value result said
+Asks result said = FindsAs command_value result said
 
 -- *the engine's own commands*
 

@@ -5,7 +5,7 @@ ghost use Rattle.text_lines.specs.Lines.{words_of};
 ghost use Rattle.x_steps.specs.StateView.{state_value};
 ghost use Rattle.x_snapshot.specs.Reading.{state_from};
 ghost use Rattle.debug_language.specs.Reading as spec;
-ghost use Rattle.debug_language.specs.Reading.{command_from, IsNoCommand, Asks, Finds, FailsOnly, IsCommand};
+ghost use Rattle.debug_language.specs.Reading.{command_from, IsNoCommand, Asks, FindsAs, FailsOnly, IsCommand};
 
 mod numbers;
 mod plain;
@@ -48,7 +48,7 @@ fn hold_from(alloc: Global, words: &[u8]) -> Found<Command>
 
 /// The state that the words say.
 fn state_in(alloc: Global, words: &[u8]) -> Found<State>
-    ensures said { Finds state_value result (result_ok (state_from (words_of words.now))) }
+    ensures said { FindsAs state_value result (result_ok (state_from (words_of words.now))) }
     ensures memory { OnErr result (is_ok (state_from (words_of words.now)) ≡ true) }
 {
     if !is_state(words) {

@@ -1,10 +1,11 @@
 //! The line of a refused command.
 ghost use Rattle.std.specs.Prelude.{◌≡◌, ℕ, Some, OnOk};
+ghost use Rattle.cover_problem.specs.Answers.{AddsLine};
 ghost use Rattle.x_branches.specs.Faults as runner;
 ghost use Rattle.x_snapshot.specs.Faults as snapshot;
 ghost use Rattle.debug_language.specs.Faults as debug;
 ghost use Rattle.debug_language.specs.Replies.{refused_words};
-ghost use Rattle.x_texts.specs.Writes.{WritesLine, AddsLine};
+ghost use Rattle.x_texts.specs.Writes.{WritesLine};
 
 use crate::fault::DebugFault;
 use crate::words::Layer;

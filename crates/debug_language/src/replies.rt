@@ -1,10 +1,10 @@
 //! The lines of replies.
 ghost use Rattle.std.specs.Prelude.{◌≡◌, ◌∷◌, [], true, decimal, codes};
+ghost use Rattle.cover_problem.specs.Answers.{AddsLine};
 ghost use Rattle.x_steps.specs.StateView.{state_value};
 ghost use Rattle.x_texts.specs.Breaks.{is_break};
 ghost use Rattle.x_texts.specs.Words.{state_words, keyed_point, break_words};
 ghost use Rattle.debug_language.specs.Replies.{plain_word, counted_word};
-ghost use Rattle.x_texts.specs.Writes.{AddsLine};
 
 use crate::words::{Counted, Plain};
 use cover_problem::Problem;

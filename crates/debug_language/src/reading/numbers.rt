@@ -5,7 +5,7 @@ ghost use Rattle.std.specs.Str.{bytes_eq};
 ghost use Rattle.text_lines.specs.Lines.{words_of};
 ghost use Rattle.x_snapshot.specs.Snapshot.{choices_of};
 ghost use Rattle.debug_language.specs.Reading as spec;
-ghost use Rattle.debug_language.specs.Reading.{is_comma, parts_of, Finds, FailsOnly};
+ghost use Rattle.debug_language.specs.Reading.{is_comma, parts_of, FindsAs, FailsOnly};
 
 use crate::reading::Found;
 use std::alloc::Global;
@@ -69,7 +69,7 @@ fn are_numbers(words: &[u8]) -> bool
 
 /// The numbers that words are.
 fn numbers_from(alloc: Global, words: &[u8]) -> Found<Vec<u32>>
-    ensures said { Finds (λ v. v.items) result (spec.numbers_from (words_of words.now)) }
+    ensures said { FindsAs (λ v. v.items) result (spec.numbers_from (words_of words.now)) }
     ensures memory { FailsOnly result (spec.numbers_from (words_of words.now)) }
 {
     if !are_numbers(words) {
@@ -90,7 +90,7 @@ fn numbers_from(alloc: Global, words: &[u8]) -> Found<Vec<u32>>
 /// The cut of these words: `start` for none, or its choices.
 #[tactic(auto, unfolding(crate::specs::Reading::cut_from))]
 pub fn cut_from(alloc: Global, words: &[u8]) -> Found<Option<Vec<u32>>>
-    ensures said { Finds choices_of result (spec.cut_from (words_of words.now)) }
+    ensures said { FindsAs choices_of result (spec.cut_from (words_of words.now)) }
     ensures memory { FailsOnly result (spec.cut_from (words_of words.now)) }
 {
     let Some((word, rest)) = split_word(words) else {
@@ -141,7 +141,7 @@ fn are_joined(word: &[u8]) -> bool
 
 /// The numbers that stand between the commas of a word.
 fn joined_numbers(alloc: Global, word: &[u8]) -> Found<Vec<u32>>
-    ensures said { Finds (λ v. v.items) result (spec.joined_numbers word.now) }
+    ensures said { FindsAs (λ v. v.items) result (spec.joined_numbers word.now) }
     ensures memory { FailsOnly result (spec.joined_numbers word.now) }
 {
     if !are_joined(word) {
@@ -163,7 +163,7 @@ fn joined_numbers(alloc: Global, word: &[u8]) -> Found<Vec<u32>>
 /// The cut of a word: `start` for none, or its choices with commas between them.
 #[tactic(auto, unfolding(crate::specs::Reading::joined_cut))]
 pub fn joined_cut(alloc: Global, word: &[u8]) -> Found<Option<Vec<u32>>>
-    ensures said { Finds choices_of result (spec.joined_cut word.now) }
+    ensures said { FindsAs choices_of result (spec.joined_cut word.now) }
     ensures memory { FailsOnly result (spec.joined_cut word.now) }
 {
     if is_word(word, b"start") {

@@ -1,12 +1,12 @@
 //! The lines that show branches, items and levels.
-ghost use Rattle.std.specs.Prelude.{◌≡◌, ◌<◌, ◌≤◌, ◌∷◌, [], true, map, codes, length, count_by};
+ghost use Rattle.std.specs.Prelude.{◌≡◌, ◌<◌, ◌≤◌, true, map, length, count_by};
 ghost use Rattle.std.specs.List.{list_all};
 ghost use Rattle.text_lines.specs.Lines.{is_newline};
 ghost use Rattle.text_lines.specs.Writing.{spaced};
 ghost use Rattle.cover_problem.specs.Answers.{Adds, AddsLine};
 ghost use Rattle.cover_problem.specs.Problem.{is_item, name_at};
 ghost use Rattle.x_steps.specs.StateView.{row_values};
-ghost use Rattle.debug_language.specs.Replies.{untried_words, covered_words, listed_word};
+ghost use Rattle.debug_language.specs.Replies.{untried_words, covered_words};
 ghost use Rattle.debug_language.specs.Replies.{saved_text, are_of_items, lent_branch, lent_standing, list_line, list_lines};
 ghost use Rattle.x_texts.specs.Writes.{AddsWords, AddsLines};
 

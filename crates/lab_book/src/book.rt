@@ -1,12 +1,12 @@
 //! Books.
-ghost use Rattle.std.specs.Prelude.{◌≡◌, ◌≤◌, ◌↔◌, IsTrue, All, IfSome, IfErr, OnOk, OnErr};
+ghost use Rattle.std.specs.Prelude.{◌≡◌, IfSome, IfErr, OnOk};
 ghost use Rattle.cover_problem.specs.Answers.{Returns};
 ghost use Rattle.x_steps.specs.StateView.{state_value};
 ghost use Rattle.x_steps.specs.StateValue.{start};
 ghost use Rattle.x_branches.specs.Cut.{IsCut};
 ghost use Rattle.x_branches.specs.Refusals.{CanStart, StartRefused};
 ghost use Rattle.x_branches.specs.Branch.{whole_run};
-ghost use Rattle.lab_book.specs.Book.{waiting_in, leased_in, IsTiled, IsBook, new_book, replayed, outcome, refused, tile_place, first_book};
+ghost use Rattle.lab_book.specs.Book.{waiting_in, leased_in, IsTiled, new_book, replayed, outcome, refused, tile_place, first_book};
 ghost use Rattle.lab_book.specs.Calls.{Refuses, RefusedOnly, OutOfMemoryOr};
 
 mod ending;

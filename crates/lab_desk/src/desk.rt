@@ -1,6 +1,6 @@
 //! A desk: a book under one lock, which each worker calls from a seat of its own.
-ghost use Rattle.std.specs.Prelude.{◌≡◌, ◌<◌, ◌≤◌, ◌+◌, ◌-◌, [], ◌∷◌, ◌++◌, IfOk, IfErr, OnErr, OnOk, IfSome, vec_len, vec_capacity, length, take, List};
-ghost use Rattle.cover_problem.specs.Problem.{ProblemValue, is_same};
+ghost use Rattle.std.specs.Prelude.{◌≡◌, ◌<◌, ◌≤◌, ◌+◌, ◌-◌, [], IfOk, IfErr, OnErr, OnOk, IfSome, vec_len, vec_capacity, length, take, List};
+ghost use Rattle.cover_problem.specs.Problem.{ProblemValue};
 ghost use Rattle.x_steps.specs.StateValue.{StateValue};
 ghost use Rattle.x_steps.specs.StateView.{state_value};
 ghost use Rattle.x_branches.specs.declared.branch.Branch.{Branch};

@@ -1,5 +1,5 @@
 //! The notes of the seats are compared with the history.
-ghost use Rattle.std.specs.Prelude.{◌≡◌, ◌≤◌, length, vec_len, IsTrue};
+ghost use Rattle.std.specs.Prelude.{◌≡◌, ◌≤◌, length, IsTrue};
 ghost use Rattle.lab_desk.specs.Seats.{seats_of, HaveAllNumbers, AreRecordsFrom, AreOfWorkers};
 
 use crate::seat::Seat;

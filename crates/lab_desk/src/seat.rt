@@ -1,6 +1,6 @@
 //! A worker's seat at a desk, with notes of its calls.
-ghost use Rattle.std.specs.Prelude.{◌≡◌, ◌≤◌, ◌↔◌, [], true, length, vec_len, IsTrue};
-ghost use Rattle.lab_desk.specs.Record.{noted, notes_from};
+ghost use Rattle.std.specs.Prelude.{◌≡◌, ◌≤◌, [], length, IsTrue};
+ghost use Rattle.lab_desk.specs.Record.{notes_from};
 
 use crate::sheet::Sheet;
 use lab_book::{Entries, Entry};

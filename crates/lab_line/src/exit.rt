@@ -1,6 +1,6 @@
 //! The exit status of the program.
 ghost use Rattle.std.specs.Prelude.{[], ◌∷◌, IfOk, IfErr, Contains, ◌≡◌};
-ghost use Rattle.byte_streams.specs.Stream.{Takes, Stays};
+ghost use Rattle.byte_streams.specs.Stream.{Takes};
 ghost use Rattle.polylab_engine.specs.Ending.{IsProgramRun};
 ghost use Rattle.lab_line.specs.Line.{IsTold, status_of};
 

@@ -1,5 +1,5 @@
 //! A worker's search of the tile that it leased.
-ghost use Rattle.std.specs.Prelude.{◌≡◌, ◌≤◌, ◌<◌, [], ℕ, IfOk, IfErr, OnOk, OnErr};
+ghost use Rattle.std.specs.Prelude.{◌≡◌, ◌<◌, [], IfOk, IfErr};
 
 use crate::gate::{Gate, GateCall};
 use cover_problem::{Problem, Table};

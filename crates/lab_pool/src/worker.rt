@@ -1,5 +1,5 @@
 //! A worker: it leases tiles and searches them until there is none.
-ghost use Rattle.std.specs.Prelude.{◌≡◌, ◌≤◌, ◌<◌, ◌+◌, ℕ, IfOk, IfSome, OnOk};
+ghost use Rattle.std.specs.Prelude.{◌≡◌, ◌<◌, ◌+◌, IfOk, IfSome};
 
 use crate::gate::{Gate, GateCall};
 use crate::search::{Next, Ready, Search, give_up};

@@ -31,7 +31,7 @@ use Rattle.lab_book.specs.Calls.{Refuses, Posts, PostRefused}
 use Rattle.x_steps.specs.declared.event.Event.{Event}
 use Rattle.x_steps.specs.Steps.{next, event_of}
 use Rattle.x_steps.specs.Before.{prev}
-use Rattle.x_steps.specs.Run.{after, steps_between}
+use Rattle.x_steps.specs.Run.{after}
 use Rattle.x_steps.specs.Walk.{last_event}
 use Rattle.x_branches.specs.declared.fault.RunnerFault.TheVariants.{NotAtMark}
 use Rattle.lab_world.specs.declared.worker.ending.Ending.{Ending}

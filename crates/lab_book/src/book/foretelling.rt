@@ -1,14 +1,11 @@
 //! The entry that a call would add, before the call is made: who keeps a record of the calls has it in hand then, and nothing
 //! can fail once the entry stands.
-ghost use Rattle.std.specs.Prelude.{◌≡◌, ◌<◌, ◌≤◌, false, length, cond, IfOk, OnOk};
+ghost use Rattle.std.specs.Prelude.{◌≡◌, ◌<◌, length, IfOk, OnOk};
 ghost use Rattle.cover_problem.specs.Problem.{is_same};
 ghost use Rattle.cover_problem.specs.Answers.{Returns};
-ghost use Rattle.x_branches.specs.Cut.{cut_state};
 ghost use Rattle.lab_book.specs.declared.entry.Call.TheVariants as calls;
 ghost use Rattle.lab_book.specs.declared.entry.Reply.TheVariants as replies;
-ghost use Rattle.lab_book.specs.Tile.{is_waiting, mark_of};
-ghost use Rattle.lab_book.specs.Tiling.{tile_at};
-ghost use Rattle.lab_book.specs.Book.{outcome, lent, posted, path_of, waiting_in, given_up};
+ghost use Rattle.lab_book.specs.Book.{outcome, lent, path_of, given_up};
 ghost use Rattle.lab_book.specs.Calls.{next_entry, post_entry, split_entry, entry_by, back_to};
 
 use crate::book::Book;

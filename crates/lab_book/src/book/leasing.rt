@@ -1,9 +1,9 @@
 //! Leases are given.
-ghost use Rattle.std.specs.Prelude.{◌≡◌, ◌≤◌, ◌<◌, false, length, option_map, IfOk, IfErr, OnErr, IfSome};
+ghost use Rattle.std.specs.Prelude.{◌≡◌, ◌≤◌, ◌<◌, false, length, IfOk, IfErr, OnErr, IfSome};
 ghost use Rattle.x_steps.specs.StateView.{state_value};
 ghost use Rattle.lab_book.specs.Tile.{is_leased, mark_of};
 ghost use Rattle.lab_book.specs.Tiling.{tile_at};
-ghost use Rattle.lab_book.specs.Book.{outcome, lent, path_of, book_step};
+ghost use Rattle.lab_book.specs.Book.{outcome, lent, path_of};
 ghost use Rattle.lab_book.specs.Calls.{Made, Refuses, any_reply, CanBeSearched, Leases};
 
 use crate::book::Book;

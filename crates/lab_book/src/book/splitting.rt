@@ -1,5 +1,5 @@
 //! Tiles are split.
-ghost use Rattle.std.specs.Prelude.{◌≡◌, ◌≤◌, ◌<◌, true, None, length, IfOk, IfErr, OnErr};
+ghost use Rattle.std.specs.Prelude.{◌≡◌, ◌<◌, true, None, length, IfOk, IfErr, OnErr};
 ghost use Rattle.cover_problem.specs.Problem.{is_same};
 ghost use Rattle.x_branches.specs.Cut.{cut_state};
 ghost use Rattle.x_steps.specs.StateView.{state_value};

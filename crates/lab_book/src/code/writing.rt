@@ -1,7 +1,5 @@
 //! The numbers of an entry.
 ghost use Rattle.std.specs.Prelude.{◌≡◌, ◌++◌, ◌∷◌, ◌<◌, [], Some, OnOk};
-ghost use Rattle.x_steps.specs.StateView.{state_value};
-ghost use Rattle.packed_states.specs.StateCode.{path_code, state_code};
 ghost use Rattle.lab_book.specs.EntryCode.{cut_code, grant_code, fault_code, call_code, reply_code, entry_code, entry_of};
 ghost use Rattle.lab_book.specs.EntryCode.{bool_code, ReadsCut, ReadsGrant, ReadsCall, ReadsReply, ReadsFault};
 

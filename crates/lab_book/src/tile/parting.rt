@@ -1,5 +1,5 @@
 //! A tile is parted at a cut, or copied.
-ghost use Rattle.std.specs.Prelude.{◌≡◌, IfOk, take};
+ghost use Rattle.std.specs.Prelude.{◌≡◌, IfOk};
 ghost use Rattle.lab_book.specs.Book.{ended_tile, head_tile, tail_tile};
 
 use crate::status::Status;

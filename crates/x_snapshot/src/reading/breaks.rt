@@ -1,11 +1,11 @@
 //! The breakpoints of a snapshot's text.
-ghost use Rattle.std.specs.Prelude.{◌≡◌, []};
+ghost use Rattle.std.specs.Prelude.{◌≡◌};
 ghost use Rattle.text_lines.specs.Lines.{words_of};
 ghost use Rattle.text_lines.specs.Answers.{Gives};
 ghost use Rattle.cover_problem.specs.Problem.{item_named};
 ghost use Rattle.x_texts.specs.declared.breakpoint.Break.{Break};
 ghost use Rattle.x_snapshot.specs.Reading as spec;
-ghost use Rattle.x_snapshot.specs.Reading.{found_or, Reads};
+ghost use Rattle.x_snapshot.specs.Reading.{Reads};
 
 use crate::fault::SnapshotFault;
 use crate::reading::Found;

@@ -35,7 +35,15 @@ pub record IsCut (p : ProblemValue) (path : List ℕ) : Type 0 where
   pub some : 0 < length path
   pub valid : IsValid p path
 
+-- a path that is no cut
+abbrev pub IsNoCut : ProblemValue → List ℕ → Type 0
+IsNoCut p path = IsCut p path → ⊥
+
 -- a problem with a path of its search
 pub record CutPath : Type 0 where
   pub problem : ProblemValue
   pub path : List ℕ
+
+-- the cut of a path
+abbrev pub path_cut : ProblemValue → List ℕ → CutPath
+path_cut p path = record { problem = p; path = path }

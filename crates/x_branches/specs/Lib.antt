@@ -6,5 +6,6 @@ pub mod Stretch
 pub mod Untried
 pub mod Runner
 pub mod Refusals
+pub mod Counts
 pub mod Walk
 pub mod Faults

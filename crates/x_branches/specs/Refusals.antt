@@ -5,8 +5,9 @@
 -- Example: at Done a step is refused as `AtBranchEnd`. In the small problem's whole run, at X2 with the path 2, only option 4 is untried at
 -- level 0, so that the option 5 is refused as `NotUntried`; and if the mark is X1, a stretch as `NotAtMark`. proofs/RunnerExamples.antt
 -- computes it.
-use Rattle.std.specs.Prelude.{ℕ, ◌<◌, ◌≡◌, true, false, List, [], length}
-use Rattle.cover_problem.specs.Lists.{has}
+use Rattle.std.specs.Prelude.{ℕ, ◌<◌, ◌≡◌, ◌+◌, true, false, Option, List, [], length, map}
+use Rattle.std.specs.List.{slice_get}
+use Rattle.cover_problem.specs.Lists.{has, numbers}
 use Rattle.cover_problem.specs.Problem.{ProblemValue}
 use Rattle.x_steps.specs.declared.fault.AtFault.TheVariants as steps
 use Rattle.x_steps.specs.StateValue.{StateValue}
@@ -21,7 +22,7 @@ use Rattle.x_branches.specs.declared.fault.RunnerFault.TheVariants.{StretchFull,
 use Rattle.x_branches.specs.Cut.{CutPath, cut_state}
 use Rattle.x_branches.specs.RunOrder.{ComesBefore}
 use Rattle.x_branches.specs.Stretch.{StretchValue}
-use Rattle.x_branches.specs.Untried.{left_above, untried}
+use Rattle.x_branches.specs.Untried.{left_above, untried, with_choice}
 use Rattle.x_branches.specs.Branch.{first_of, end_of}
 use Rattle.x_branches.specs.Runner.{RunnerValue, IsBranch, IsWithin}
 
@@ -58,6 +59,22 @@ AdvanceRefused r _ = ⊥
 -- what a runner leaves untried at a level
 abbrev pub untried_in : RunnerValue → ℕ → List ℕ
 untried_in r level = untried r.problem (end_of r.branch.hi) level r.position
+
+-- the same at each level of its path, and then at the cursor's
+abbrev pub untried_lists : RunnerValue → List (List ℕ)
+untried_lists r = map (untried_in r) (numbers (length r.position.path + 1) 0)
+
+-- the first option that it leaves untried at a level
+abbrev pub first_untried_in : RunnerValue → ℕ → Option ℕ
+first_untried_in r level = slice_get (untried_in r level) 0
+
+-- nothing is untried at the levels before this one
+abbrev pub NoneUntriedBefore : RunnerValue → ℕ → Type 0
+NoneUntriedBefore r n = (level : ℕ) → level < n → untried_in r level ≡ []
+
+-- the cut at an option of a level
+abbrev pub cut_at_option : RunnerValue → ℕ → ℕ → CutPath
+cut_at_option r level o = record { problem = r.problem; path = with_choice r.position level o }
 
 -- why no cut is answered, at an option of a level
 abbrev pub CutRefused : RunnerValue → ℕ → ℕ → RunnerFault → Type 0

@@ -4,17 +4,20 @@
 --
 -- Example: in the small problem a runner with its mark at X1 that stands at the first X3 has two steps that are not posted. X2 with the
 -- path 4 5 1 is a visit, and X2 with the path 4 counts one more at level 1: 1 1 0 becomes 1 2 0. proofs/RunnerExamples.antt computes it.
-use Rattle.std.specs.Prelude.{ℕ, ◌≡◌, ◌+◌, ◌-◌, Option, Some, List, [], ◌∷◌, length, slice_index, slice_set, if◌then◌else◌}
+use Rattle.std.specs.Prelude.{ℕ, ◌≡◌, ◌+◌, ◌-◌, Option, Some, List, [], ◌∷◌, length, take, slice_index, slice_set, if◌then◌else◌}
 use Rattle.std.specs.Prelude as prelude
 use Rattle.cover_problem.specs.Problem.{ProblemValue, IsProblem}
+use Rattle.cover_problem.specs.Path.{covered_by}
 use Rattle.x_steps.specs.StateValue.{StateValue}
-use Rattle.x_steps.specs.Steps.{Fits, is_level, is_visit}
+use Rattle.x_steps.specs.Steps.{Fits, IsBefore, covered_in, next, is_level, is_visit}
+use Rattle.x_steps.specs.Before.{prev}
 use Rattle.x_steps.specs.Run.{steps_between, visits_between, levels}
+use Rattle.x_steps.specs.Machine.{Position}
 use Rattle.x_branches.specs.declared.branch.Branch.{Branch}
-use Rattle.x_branches.specs.Cut.{CutPath}
+use Rattle.x_branches.specs.Cut.{CutPath, choices}
 use Rattle.x_branches.specs.Branch.{first_of, end_of}
 use Rattle.x_branches.specs.RunOrder.{ComesBefore}
-use Rattle.x_branches.specs.Stretch.{IsStretch}
+use Rattle.x_branches.specs.Stretch.{StretchValue, IsStretch}
 
 -- a problem, a branch of its run, and two states in it: from the mark up to the position the steps are not posted
 pub record RunnerValue : Type 0 where
@@ -30,6 +33,42 @@ runner_end r = end_of r.branch.hi
 -- how many of its steps are not posted
 abbrev pub unposted_steps : RunnerValue → ℕ
 unposted_steps r = steps_between r.problem r.mark r.position
+
+-- a runner that has not moved: it stands at a state, with its mark there
+abbrev pub unmoved : ProblemValue → Branch → StateValue → RunnerValue
+unmoved p b s = record { problem = p; branch = b; mark = s; position = s }
+
+-- a runner one step on
+abbrev pub one_step_on : RunnerValue → RunnerValue
+one_step_on r = record r { position = next r.problem r.position }
+
+-- and one step back
+abbrev pub one_step_back : RunnerValue → RunnerValue
+one_step_back r = record r { position = prev r.problem r.position }
+
+-- the state is the one before a runner's position
+abbrev pub StandsBefore : RunnerValue → StateValue → Type 0
+StandsBefore r s = IsBefore r.problem s r.position
+
+-- a runner whose branch ends at a cut
+abbrev pub ended_at : RunnerValue → CutPath → RunnerValue
+ended_at r cut = record r { branch = record r.branch { hi = Some cut } }
+
+-- the stretch from a runner's mark up to its position
+abbrev pub unposted_stretch : RunnerValue → StretchValue
+unposted_stretch r = record { problem = r.problem; from = r.mark; to = r.position }
+
+-- what is covered where a runner stands
+abbrev pub covered_by_runner : RunnerValue → List ℕ
+covered_by_runner r = covered_in r.problem r.position
+
+-- the choices of a runner before a level
+abbrev pub earlier_choices : RunnerValue → ℕ → List ℕ
+earlier_choices r level = take level (choices r.position)
+
+-- what those choices cover
+abbrev pub covered_before : RunnerValue → ℕ → List ℕ
+covered_before r level = covered_by r.problem (earlier_choices r level)
 
 -- a cut, if there is one, is the problem's
 abbrev pub IsOf : ProblemValue → Option CutPath → Type 0
@@ -67,6 +106,10 @@ pub record KeepsRunner (r : RunnerValue) (steps : ℕ) (visits : List (List ℕ)
 -- a state's visit, if it is one
 abbrev pub visit_of : ProblemValue → StateValue → List (List ℕ)
 visit_of p s = if is_visit p s then s.path ∷ [] else []
+
+-- the visit of the state where a machine stands, if it is one
+abbrev pub visit_here : Position → List (List ℕ)
+visit_here m = visit_of m.problem m.state
 
 -- counts for each level, with one more at the level of a state of X2
 abbrev pub with_level : List ℕ → StateValue → List ℕ

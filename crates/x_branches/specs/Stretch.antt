@@ -17,6 +17,14 @@ pub record StretchValue : Type 0 where
   pub from : StateValue
   pub to : StateValue
 
+-- the paths visited on a stretch
+abbrev pub visits_of_stretch : StretchValue → List (List ℕ)
+visits_of_stretch s = visits_between s.problem s.from s.to
+
+-- its X2 states at each level, as far as there are any
+abbrev pub levels_of_stretch : StretchValue → List ℕ
+levels_of_stretch s = trimmed_levels s.problem s.from s.to
+
 -- the first state is one of the run, and the second is it or comes later
 pub record IsStretch (p : ProblemValue) (s t : StateValue) : Type 0 where
   pub fits : Fits p s

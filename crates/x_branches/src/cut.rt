@@ -1,7 +1,9 @@
 //! Cuts: where a run is parted.
 ghost use Rattle.std.specs.Prelude.{◌≡◌, ◌↔◌, [], IfOk, IfErr, OnOk, IsTrue};
+ghost use Rattle.cover_problem.specs.Answers.{Returns};
+ghost use Rattle.x_steps.specs.Answers.{IfRefused};
 ghost use Rattle.x_steps.specs.Steps.{Fits};
-ghost use Rattle.x_branches.specs.Cut.{cut_state, IsCut};
+ghost use Rattle.x_branches.specs.Cut.{cut_state, path_cut, IsCut, IsNoCut};
 ghost use Rattle.x_branches.specs.declared.fault.CutFault as cut_faults;
 
 use crate::fault::CutFault;
@@ -46,9 +48,9 @@ impl<'p> Cut<'p> {
         problem: &'p Problem,
         path: Vec<u32>,
     ) -> Result<Cut<'p>, Refused<CutFault, Vec<u32>>>
-        ensures made { IfOk result (λ cut. cut ≡ record { problem = problem.now; path = path.items }) }
+        ensures made { Returns result (path_cut problem.now path.items) }
         ensures cut { OnOk result (IsCut problem.now path.items) }
-        ensures not_cut { IfErr result (λ r. r.fault ≡ CutFault.NotUntried → IsCut problem.now path.items → ⊥) }
+        ensures not_cut { IfRefused result CutFault.NotUntried (IsNoCut problem.now path.items) }
         ensures given_back { IfErr result (λ r. r.given ≡ path) }
     {
         let Ok(table) = PlainTable::new(alloc, problem) else {
@@ -70,9 +72,9 @@ impl<'p> Cut<'p> {
     ) -> (T, Result<Cut<'p>, Refused<CutFault, Vec<u32>>>)
         requires same_problem { T.problem_value table ≡ problem.now }
         requires covered { T.covered_list table ≡ [] }
-        ensures made { IfOk result.1 (λ cut. cut ≡ record { problem = problem.now; path = path.items }) }
+        ensures made { Returns result.1 (path_cut problem.now path.items) }
         ensures cut { OnOk result.1 (IsCut problem.now path.items) }
-        ensures not_cut { IfErr result.1 (λ r. r.fault ≡ CutFault.NotUntried → IsCut problem.now path.items → ⊥) }
+        ensures not_cut { IfRefused result.1 CutFault.NotUntried (IsNoCut problem.now path.items) }
         ensures given_back { IfErr result.1 (λ r. r.given ≡ path) }
         ensures same_problem_back { T.problem_value result.0 ≡ problem.now }
         ensures covered_back { T.covered_list result.0 ≡ [] }
@@ -103,7 +105,7 @@ impl<'p> Cut<'p> {
     /// The cut of a path that is one.
     pub(crate) fn of_path(problem: &'p Problem, path: Vec<u32>) -> Cut<'p>
         requires { IsCut problem.now path.items }
-        ensures { result ≡ record { problem = problem.now; path = path.items } }
+        ensures { result ≡ path_cut problem.now path.items }
     {
         Cut { problem, path }
     }

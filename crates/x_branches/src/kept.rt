@@ -1,10 +1,9 @@
 //! Stretches in few bytes, as one keeps them who has many.
 ghost use Rattle.std.specs.Prelude.{◌≡◌, ◌++◌, IfOk, IfErr, OnOk, IsTrue, length, map};
 ghost use Rattle.x_steps.specs.StateView.{state_value};
-ghost use Rattle.x_steps.specs.Run.{steps_between, visits_between};
-ghost use Rattle.x_steps.specs.Levels.{trimmed_levels};
+ghost use Rattle.x_steps.specs.Run.{steps_between};
 ghost use Rattle.packed_states.specs.StateCode.{choice_of, state_of, state_rest};
-ghost use Rattle.x_branches.specs.Stretch.{kept_levels, kept_visits};
+ghost use Rattle.x_branches.specs.Stretch.{kept_levels, kept_visits, visits_of_stretch, levels_of_stretch};
 
 use crate::stretch::Stretch;
 use cover_problem::{Lists, Problem};
@@ -39,10 +38,8 @@ impl<'p> Model for KeptStretch<'p> {
 fn packed(stretch: &Stretch<'_>) -> Result<Row, AllocError>
     ensures from { IfOk result (λ row. state_of row ≡ stretch.now.from) }
     ensures to { IfOk result (λ row. state_of (state_rest row) ≡ stretch.now.to) }
-    ensures visits { IfOk result (λ row. kept_visits row ≡
-        visits_between stretch.now.problem stretch.now.from stretch.now.to) }
-    ensures levels { IfOk result (λ row. kept_levels row ≡
-        trimmed_levels stretch.now.problem stretch.now.from stretch.now.to) }
+    ensures visits { IfOk result (λ row. kept_visits row ≡ visits_of_stretch stretch.now) }
+    ensures levels { IfOk result (λ row. kept_levels row ≡ levels_of_stretch stretch.now) }
 {
     let visits = stretch.visits();
     let levels = stretch.levels();
@@ -136,23 +133,21 @@ impl<'p> KeptStretch<'p> {
 
     /// How many paths it visits.
     pub fn visited(&self) -> u64
-        ensures { result ≡ length (visits_between self.now.problem self.now.from self.now.to) }
+        ensures { result ≡ length (visits_of_stretch self.now) }
     {
         skip_paths(&mut after_states(&self.row))
     }
 
     /// Adds the paths that it visits; where memory runs out, some may be there.
     pub fn add_visits(&self, alloc: Global, visits: &mut Lists) -> Result<(), AllocError>
-        ensures { OnOk result (visits.new ≡ visits.old
-            ++ visits_between self.now.problem self.now.from self.now.to) }
+        ensures { OnOk result (visits.new ≡ visits.old ++ visits_of_stretch self.now) }
     {
         read_paths(alloc, &mut after_states(&self.row), visits)
     }
 
     /// How many X2 states it has at each level, up to the last level that has one, to be read.
     pub fn levels(&self) -> Reader<'_>
-        ensures { map choice_of result ≡
-            trimmed_levels self.now.problem self.now.from self.now.to }
+        ensures { map choice_of result ≡ levels_of_stretch self.now }
     {
         let mut reader = after_states(&self.row);
         let _visited = skip_paths(&mut reader);

@@ -1,10 +1,10 @@
 //! Which of two states of one search comes first.
-ghost use Rattle.std.specs.Prelude.{◌≡◌, ◌<◌, ◌≤◌, ◌↔◌, ◌+◌, ◌*◌, ◌^◌, length, slice_index_or, IsTrue};
+ghost use Rattle.std.specs.Prelude.{◌≡◌, ◌<◌, ◌≤◌, ◌+◌, ◌*◌, ◌^◌, length, slice_index_or};
 ghost use Rattle.cover_problem.specs.Problem.{ProblemValue};
 ghost use Rattle.x_steps.specs.StateView.{state_value};
 ghost use Rattle.x_steps.specs.Steps.{Fits};
 ghost use Rattle.x_steps.specs.Rank.{digit_at};
-ghost use Rattle.x_branches.specs.RunOrder.{ComesBefore};
+ghost use Rattle.x_branches.specs.RunOrder.{LessIsBefore, EqualIsSame, GreaterIsAfter, TrueIsBefore};
 ghost use Rattle.x_branches.specs.Stage.{many, IsShared, IsWithin, Shifts, digit_of};
 
 use crate::position::Position;
@@ -73,12 +73,9 @@ fn stage(position: &Position<'_>, level: usize) -> u64
 /// Which of two positions of one search comes first on its run: by the first choice that differs, and by the step where they
 /// share their choices.
 pub fn position_order(one: &Position<'_>, other: &Position<'_>) -> Ordering
-    ensures less { (p : ProblemValue) → Fits p one.now → Fits p other.now →
-        ((result ≡ Ordering.Less) ↔ ComesBefore p one.now other.now) }
-    ensures equal { (p : ProblemValue) → Fits p one.now → Fits p other.now →
-        ((result ≡ Ordering.Equal) ↔ (one.now ≡ other.now)) }
-    ensures greater { (p : ProblemValue) → Fits p one.now → Fits p other.now →
-        ((result ≡ Ordering.Greater) ↔ ComesBefore p other.now one.now) }
+    ensures less { LessIsBefore result one.now other.now }
+    ensures equal { EqualIsSame result one.now other.now }
+    ensures greater { GreaterIsAfter result one.now other.now }
 {
     let level = shared(one.path, other.path);
     stage(one, level).cmp(&stage(other, level))
@@ -86,8 +83,7 @@ pub fn position_order(one: &Position<'_>, other: &Position<'_>) -> Ordering
 
 /// Whether of two positions of one search the first comes before the second on its run.
 pub fn is_before(one: &Position<'_>, other: &Position<'_>) -> bool
-    ensures { (p : ProblemValue) → Fits p one.now → Fits p other.now →
-        (IsTrue result ↔ ComesBefore p one.now other.now) }
+    ensures { TrueIsBefore result one.now other.now }
 {
     match position_order(one, other) {
         Ordering::Less => true,
@@ -97,12 +93,9 @@ pub fn is_before(one: &Position<'_>, other: &Position<'_>) -> bool
 
 /// Which of two states of one search comes first on its run.
 pub fn run_order(one: &State, other: &State) -> Ordering
-    ensures less { (p : ProblemValue) → Fits p (state_value one.now) → Fits p (state_value other.now) →
-        ((result ≡ Ordering.Less) ↔ ComesBefore p (state_value one.now) (state_value other.now)) }
-    ensures equal { (p : ProblemValue) → Fits p (state_value one.now) → Fits p (state_value other.now) →
-        ((result ≡ Ordering.Equal) ↔ (state_value one.now ≡ state_value other.now)) }
-    ensures greater { (p : ProblemValue) → Fits p (state_value one.now) → Fits p (state_value other.now) →
-        ((result ≡ Ordering.Greater) ↔ ComesBefore p (state_value other.now) (state_value one.now)) }
+    ensures less { LessIsBefore result (state_value one.now) (state_value other.now) }
+    ensures equal { EqualIsSame result (state_value one.now) (state_value other.now) }
+    ensures greater { GreaterIsAfter result (state_value one.now) (state_value other.now) }
 {
     position_order(&Position::of(one), &Position::of(other))
 }

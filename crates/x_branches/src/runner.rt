@@ -1,15 +1,18 @@
 //! Runners: a search within one branch of a run, with the stretch of its steps that was not posted yet.
-ghost use Rattle.std.specs.Prelude.{◌≡◌, ◌≢◌, ◌<◌, ◌≤◌, ◌+◌, ◌-◌, ◌↔◌, ◌++◌, ◌∷◌, [], ℕ, List, length, replicate, true, option_map};
-ghost use Rattle.std.specs.Prelude.{if◌then◌else◌, IfOk, IfErr, OnOk, OnErr, IsErr, IsTrue, slice_index};
+ghost use Rattle.std.specs.Prelude.{◌≡◌, ◌<◌, ◌+◌, ◌-◌, ◌↔◌, ◌++◌, [], length, true};
+ghost use Rattle.std.specs.Prelude.{if◌then◌else◌, IfOk, IfErr, OnOk, OnErr, IsErr, IsTrue};
+ghost use Rattle.cover_problem.specs.Answers.{Returns};
 ghost use Rattle.cover_problem.specs.Problem.{IsProblem};
-ghost use Rattle.x_steps.specs.StateView.{state_value, row_value, row_values};
-ghost use Rattle.x_steps.specs.Steps.{Fits, IsBefore, covered_in, next, event_of, is_visit, is_level};
-ghost use Rattle.x_steps.specs.Before.{prev};
+ghost use Rattle.x_steps.specs.Answers.{ReturnsRows, ReturnsRow, RefusedUnchanged};
+ghost use Rattle.x_steps.specs.Lists.{LosesLast};
+ghost use Rattle.x_steps.specs.StateView.{state_value};
+ghost use Rattle.x_steps.specs.Steps.{event_of, is_visit};
 ghost use Rattle.x_steps.specs.Run.{steps_between};
 ghost use Rattle.x_steps.specs.Machine.{remaining_in, second_in, chosen_in};
 ghost use Rattle.x_branches.specs.Branch.{end_of};
-ghost use Rattle.x_branches.specs.Runner.{IsRunner, visit_of, with_level, without_level};
-ghost use Rattle.x_branches.specs.Refusals.{most_steps, CanStart, StartRefused, CanAdvance, AdvanceRefused};
+ghost use Rattle.x_branches.specs.Runner.{IsRunner, unmoved, one_step_on, one_step_back, StandsBefore, covered_by_runner, visit_here, with_level, without_level};
+ghost use Rattle.x_branches.specs.Refusals.{CanStart, StartRefused, CanAdvance, AdvanceRefused};
+ghost use Rattle.x_branches.specs.Counts.{HasLevelOf, HasRoomFor, HasCounted};
 
 mod posting;
 mod untried;
@@ -59,8 +62,8 @@ impl<'p, T: Table> Model for Runner<'p, T> {
 /// Counts a state at its level, if it is one of X2.
 #[inline(always)]
 fn count(counts: &mut [u32], state: &State)
-    requires within { is_level state.now.label ≡ true → length state.now.path.items < length counts.old }
-    requires small { is_level state.now.label ≡ true → slice_index counts.old (length state.now.path.items) < most_steps }
+    requires within { HasLevelOf counts.old (state_value state.now) }
+    requires small { HasRoomFor counts.old (state_value state.now) }
     ensures { counts.new ≡ with_level counts.old (state_value state.now) }
 {
     match state.label {
@@ -72,8 +75,8 @@ fn count(counts: &mut [u32], state: &State)
 /// Takes a state's count at its level away, if it is one of X2.
 #[inline(always)]
 fn discount(counts: &mut [u32], state: &State)
-    requires within { is_level state.now.label ≡ true → length state.now.path.items < length counts.old }
-    requires some { is_level state.now.label ≡ true → 0 < slice_index counts.old (length state.now.path.items) }
+    requires within { HasLevelOf counts.old (state_value state.now) }
+    requires some { HasCounted counts.old (state_value state.now) }
     ensures { counts.new ≡ without_level counts.old (state_value state.now) }
 {
     match state.label {
@@ -90,10 +93,9 @@ fn note<T: Table>(
     visits: &mut Lists,
     counts: &mut [u32],
 ) -> Result<(), AllocError>
-    requires within { is_level machine.now.state.label ≡ true → length machine.now.state.path < length counts.old }
-    requires small { is_level machine.now.state.label ≡ true →
-        slice_index counts.old (length machine.now.state.path) < most_steps }
-    ensures visits { OnOk result (visits.new ≡ visits.old ++ visit_of machine.now.problem machine.now.state) }
+    requires within { HasLevelOf counts.old machine.now.state }
+    requires small { HasRoomFor counts.old machine.now.state }
+    ensures visits { OnOk result (visits.new ≡ visits.old ++ visit_here machine.now) }
     ensures counts { OnOk result (counts.new ≡ with_level counts.old machine.now.state) }
     ensures visits_kept { OnErr result (visits.new ≡ visits.old) }
     ensures counts_kept { OnErr result (counts.new ≡ counts.old) }
@@ -111,11 +113,9 @@ fn note<T: Table>(
 #[inline(always)]
 fn forget<T: Table>(machine: &Machine<'_, T>, visits: &mut Lists, counts: &mut [u32])
     requires visit { is_visit machine.now.problem machine.now.state ≡ true → 0 < length visits.old }
-    requires within { is_level machine.now.state.label ≡ true → length machine.now.state.path < length counts.old }
-    requires some { is_level machine.now.state.label ≡ true →
-        0 < slice_index counts.old (length machine.now.state.path) }
-    ensures visits { (last : List (List ℕ)) × (visits.old ≡ visits.new ++ last)
-        × (length last ≡ length (visit_of machine.now.problem machine.now.state)) }
+    requires within { HasLevelOf counts.old machine.now.state }
+    requires some { HasCounted counts.old machine.now.state }
+    ensures visits { LosesLast visits.old visits.new (length (visit_here machine.now)) }
     ensures counts { counts.new ≡ without_level counts.old machine.now.state }
 {
     if machine.is_visit() {
@@ -137,12 +137,7 @@ impl<'p, T: Table> Runner<'p, T> {
     ) -> Result<Runner<'p, T>, Refused<StartFault, (T, Branch<'p>)>>
         requires same_problem { T.problem_value table ≡ problem.now }
         requires covered { T.covered_list table ≡ [] }
-        ensures runner { IfOk result (λ r. r ≡ record {
-          problem = problem.now;
-          branch = branch.entry;
-          mark = state_value state.now;
-          position = state_value state.now;
-        }) }
+        ensures runner { Returns result (unmoved problem.now branch.entry (state_value state.now)) }
         ensures can { OnOk result (CanStart problem.now branch.entry (state_value state.now)) }
         ensures refused { IfErr result (λ r. StartRefused problem.now branch.entry (state_value state.now) r.fault) }
         ensures same_problem_back { IfErr result (λ r. T.problem_value r.given.0 ≡ problem.now) }
@@ -189,7 +184,7 @@ impl<'p, T: Table> Runner<'p, T> {
     /// The table, which stands for the items covered at the position.
     pub fn table(&self) -> &T
         ensures same_problem { T.problem_value result.now ≡ self.now.problem }
-        ensures covered { T.covered_list result.now ≡ covered_in self.now.problem self.now.position }
+        ensures covered { T.covered_list result.now ≡ covered_by_runner self.now }
     {
         self.machine.table()
     }
@@ -248,28 +243,28 @@ impl<'p, T: Table> Runner<'p, T> {
 
     /// The covered items, in the order of covering.
     pub fn covered(&self) -> &[u32]
-        ensures { result.now ≡ covered_in self.now.problem self.now.position }
+        ensures { result.now ≡ covered_by_runner self.now }
     {
         self.machine.covered()
     }
 
     /// The active items in order, each with the options left for it.
     pub fn remaining(&self) -> Result<Vec<(u32, Vec<u32>)>, AllocError>
-        ensures { IfOk result (λ rows. row_values rows.items ≡ remaining_in self.now.problem self.now.position) }
+        ensures { ReturnsRows result (remaining_in self.now.problem self.now.position) }
     {
         self.machine.remaining()
     }
 
     /// The secondary items that are not covered, in order, each with the options left for it.
     pub fn second(&self) -> Result<Vec<(u32, Vec<u32>)>, AllocError>
-        ensures { IfOk result (λ rows. row_values rows.items ≡ second_in self.now.problem self.now.position) }
+        ensures { ReturnsRows result (second_in self.now.problem self.now.position) }
     {
         self.machine.second()
     }
 
     /// At X4 to X7 the chosen item, with the options of its list.
     pub fn chosen(&self) -> Result<Option<(u32, Vec<u32>)>, AllocError>
-        ensures { IfOk result (λ row. option_map row_value row ≡ chosen_in self.now.problem self.now.position) }
+        ensures { ReturnsRow result (chosen_in self.now.problem self.now.position) }
     {
         self.machine.chosen()
     }
@@ -294,7 +289,7 @@ impl<'p, T: Table> Runner<'p, T> {
     /// can be counted, and, at a visit alone, when out of memory; nothing has then changed.
     #[inline]
     pub fn advance(&mut self) -> Result<Event, RunnerFault>
-        ensures state { OnOk result (self.new ≡ record self.old { position = next self.old.problem self.old.position }) }
+        ensures state { OnOk result (self.new ≡ one_step_on self.old) }
         ensures event { IfOk result (λ event. event ≡ event_of self.old.problem self.old.position) }
         ensures can { OnOk result (CanAdvance self.old) }
         ensures refused { IfErr result (AdvanceRefused self.old) }
@@ -319,10 +314,10 @@ impl<'p, T: Table> Runner<'p, T> {
     /// Takes the last step back, without memory; refused only at the mark, which changes nothing.
     #[inline]
     pub fn retreat(&mut self) -> Result<(), RunnerFault>
-        ensures state { OnOk result (self.new ≡ record self.old { position = prev self.old.problem self.old.position }) }
-        ensures before { OnOk result (IsBefore self.old.problem self.new.position self.old.position) }
+        ensures state { OnOk result (self.new ≡ one_step_back self.old) }
+        ensures before { OnOk result (StandsBefore self.old self.new.position) }
         ensures at_mark { IsErr result ↔ (self.old.position ≡ self.old.mark) }
-        ensures refused { IfErr result (λ fault. (fault ≡ RunnerFault.AtMark) × (self.new ≡ self.old)) }
+        ensures refused { RefusedUnchanged result RunnerFault.AtMark self.old self.new }
     {
         if self.steps == 0 {
             return Err(RunnerFault::AtMark);

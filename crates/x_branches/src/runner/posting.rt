@@ -1,8 +1,10 @@
 //! The unposted stretch of a runner: it is taken out to be posted, and joined again.
 ghost use Rattle.std.specs.Prelude.{◌≡◌, ◌<◌, ◌≤◌, ◌-◌, ◌↔◌, ◌++◌, [], length, take, drop, replicate, slice_index, IsTrue, IfOk, IfErr};
 ghost use Rattle.std.specs.Prelude.{OnOk, OnErr};
+ghost use Rattle.cover_problem.specs.Answers.{Returns};
 ghost use Rattle.x_steps.specs.StateView.{state_value};
 ghost use Rattle.x_steps.specs.Levels.{without_last_zeros};
+ghost use Rattle.x_branches.specs.Runner.{unposted_stretch};
 ghost use Rattle.x_branches.specs.Refusals.{EndsHere, CanReopen, ReopenRefused};
 
 use crate::fault::RunnerFault;
@@ -83,7 +85,7 @@ fn put(counts: &mut [u32], levels: &[u32])
 impl<'p, T: Table> Runner<'p, T> {
     /// Takes the stretch from the mark up to the position out, and sets the mark there. Where memory runs out, nothing changes.
     pub fn take_stretch(&mut self) -> Result<Stretch<'p>, AllocError>
-        ensures stretch { IfOk result (λ s. s ≡ record { problem = self.old.problem; from = self.old.mark; to = self.old.position }) }
+        ensures stretch { Returns result (unposted_stretch self.old) }
         ensures marked { OnOk result (self.new ≡ record self.old { mark = self.old.position }) }
         ensures unchanged { OnErr result (self.new ≡ self.old) }
     {

@@ -1,20 +1,20 @@
 //! What a runner leaves untried in its branch, and where its branch can be cut.
-ghost use Rattle.std.specs.Prelude.{All, ◌≡◌, ◌<◌, ◌≤◌, ◌+◌, ◌↔◌, ◌++◌, ◌∷◌, [], ℕ, List, length, map, take, filter, nat_lt, true, Some, None};
+ghost use Rattle.std.specs.Prelude.{All, ◌≡◌, ◌<◌, ◌≤◌, ◌+◌, ◌↔◌, [], ℕ, length, filter, true, Some, None};
 ghost use Rattle.std.specs.Prelude.{IfSome, IsTrue};
 ghost use Rattle.std.specs.Prelude.{IfOk, IfErr, OnOk, OnErr};
 ghost use Rattle.std.specs.List.{slice_get};
-ghost use Rattle.cover_problem.specs.Lists.{has, numbers};
+ghost use Rattle.cover_problem.specs.Lists.{has};
+ghost use Rattle.cover_problem.specs.Answers.{Returns, ReturnsItems};
 ghost use Rattle.cover_problem.specs.Problem.{ProblemValue};
-ghost use Rattle.cover_problem.specs.Covering.{list_of};
 ghost use Rattle.cover_problem.specs.Path.{IsValid, covered_by};
 ghost use Rattle.x_steps.specs.StateValue.{at};
 ghost use Rattle.x_steps.specs.StateView.{state_value};
 ghost use Rattle.x_steps.specs.Steps.{Fits, item_after};
-ghost use Rattle.x_branches.specs.Cut.{choices, cut_state};
+ghost use Rattle.x_branches.specs.Cut.{choices};
 ghost use Rattle.x_branches.specs.Branch.{end_of};
-ghost use Rattle.x_branches.specs.Untried.{is_before_end, left_above, untried, with_choice};
-ghost use Rattle.x_branches.specs.Runner.{IsOf};
-ghost use Rattle.x_branches.specs.Refusals.{untried_in, CanShorten, CutRefused};
+ghost use Rattle.x_branches.specs.Untried.{is_before_end, left_above, IsInList, ListsAbove};
+ghost use Rattle.x_branches.specs.Runner.{IsOf, ended_at, earlier_choices, covered_before};
+ghost use Rattle.x_branches.specs.Refusals.{untried_in, untried_lists, first_untried_in, NoneUntriedBefore, cut_at_option, CanShorten, CutRefused};
 
 use crate::branch::Branch;
 use crate::cut::Cut;
@@ -59,9 +59,8 @@ fn options_above<T: Table>(
     item: u32,
     option: u32,
 ) -> Result<Vec<u32>, AllocError>
-    requires { has (list_of (T.problem_value table.now) (T.covered_list table.now) item) option ≡ true }
-    ensures { IfOk result (λ options. options.items ≡
-        filter (λ k. nat_lt option k) (list_of (T.problem_value table.now) (T.covered_list table.now) item)) }
+    requires { IsInList (T.problem_value table.now) (T.covered_list table.now) item option }
+    ensures { ListsAbove result (T.problem_value table.now) (T.covered_list table.now) item option }
 {
     let mut options = Vec::new(alloc);
     let mut next = table.next_option(item, option);
@@ -108,7 +107,7 @@ fn cut_inside(
 impl<'p, T: Table> Runner<'p, T> {
     /// The options left above the choice at a level.
     fn left_above(&self, level: usize) -> Result<Vec<u32>, AllocError>
-        ensures { IfOk result (λ options. options.items ≡ left_above self.now.problem level self.now.position) }
+        ensures { ReturnsItems result (left_above self.now.problem level self.now.position) }
     {
         let state = self.machine.state();
         let alloc = *state.path.allocator();
@@ -121,7 +120,7 @@ impl<'p, T: Table> Runner<'p, T> {
     /// The item that was chosen at a level where there is a choice. It is covered behind what the choices before it cover.
     fn item_at(&self, level: usize) -> u32
         requires { level < length (choices self.now.position) }
-        ensures { result ≡ item_after self.now.problem (take level (choices self.now.position)) }
+        ensures { result ≡ item_after self.now.problem (earlier_choices self.now level) }
     {
         let covered = self.machine.covered();
         covered[covered_count(self.machine.problem(), self.front(level), covered)]
@@ -130,8 +129,8 @@ impl<'p, T: Table> Runner<'p, T> {
     /// The options left above the choice at a level. That choice is given, and the item that was chosen there.
     fn left_behind(&self, level: usize, choice: u32, item: u32) -> Result<Vec<u32>, AllocError>
         requires choice { Some choice ≡ slice_get (choices self.now.position) level }
-        requires item { item ≡ item_after self.now.problem (take level (choices self.now.position)) }
-        ensures { IfOk result (λ options. options.items ≡ left_above self.now.problem level self.now.position) }
+        requires item { item ≡ item_after self.now.problem (earlier_choices self.now level) }
+        ensures { ReturnsItems result (left_above self.now.problem level self.now.position) }
     {
         let alloc = *self.machine.state().path.allocator();
         options_above(alloc, self.machine.table(), item, choice)
@@ -140,7 +139,7 @@ impl<'p, T: Table> Runner<'p, T> {
     /// The choices before a level where there is one.
     fn front(&self, level: usize) -> &[u32]
         requires { level < length (choices self.now.position) }
-        ensures { result.now ≡ take level (choices self.now.position) }
+        ensures { result.now ≡ earlier_choices self.now level }
     {
         let (front, _) = self.machine.state().path.split_at(level);
         front
@@ -149,7 +148,7 @@ impl<'p, T: Table> Runner<'p, T> {
     /// Of the options left above the choice at a level, those whose cuts come before the branch's end.
     fn before_end(&self, level: usize, above: &[u32]) -> Result<Vec<u32>, AllocError>
         requires { above.now ≡ left_above self.now.problem level self.now.position }
-        ensures { IfOk result (λ options. options.items ≡ untried_in self.now level) }
+        ensures { ReturnsItems result (untried_in self.now level) }
     {
         let alloc = *self.machine.state().path.allocator();
         if above.is_empty() {
@@ -160,8 +159,7 @@ impl<'p, T: Table> Runner<'p, T> {
 
     /// The options that are untried at a level: those left there above its choice whose cuts come before the branch's end.
     pub fn untried(&self, level: usize) -> Result<Vec<u32>, AllocError>
-        ensures { IfOk result (λ options. options.items ≡
-            untried self.now.problem (end_of self.now.branch.hi) level self.now.position) }
+        ensures { ReturnsItems result (untried_in self.now level) }
     {
         let above = self.left_above(level)?;
         self.before_end(level, &above)
@@ -170,7 +168,7 @@ impl<'p, T: Table> Runner<'p, T> {
     /// The same for each level of the path, and then the one of the cursor. It goes once through the choices, where as many calls of
     /// `untried` would go through those before each level again.
     pub fn untried_by_level(&self) -> Result<Lists, AllocError>
-        ensures { IfOk result (λ lists. lists ≡ map (untried_in self.now) (numbers (length self.now.position.path + 1) 0)) }
+        ensures { Returns result (untried_lists self.now) }
     {
         let problem = self.machine.problem();
         let state = self.machine.state();
@@ -193,8 +191,8 @@ impl<'p, T: Table> Runner<'p, T> {
     /// before it cover. Options that are left rise, so where the first comes after the branch's end, so do all.
     fn first_at(&self, level: usize, choice: u32, covered: usize) -> Option<u32>
         requires choice { Some choice ≡ slice_get (choices self.now.position) level }
-        requires covered { covered ≡ length (covered_by self.now.problem (take level (choices self.now.position))) }
-        ensures { result ≡ slice_get (untried_in self.now level) 0 }
+        requires covered { covered ≡ length (covered_before self.now level) }
+        ensures { result ≡ first_untried_in self.now level }
     {
         let item = self.machine.covered()[covered];
         let Some(option) = self.machine.table().next_option(item, choice) else {
@@ -211,8 +209,8 @@ impl<'p, T: Table> Runner<'p, T> {
     /// memory, and is linear in the depth: where the choices are those of the branch's end nothing is untried, so it looks from
     /// the level on at which they part.
     pub fn first_untried(&self) -> Option<(usize, u32)>
-        ensures first { IfSome result (λ found. Some found.1 ≡ slice_get (untried_in self.now found.0) 0) }
-        ensures least { IfSome result (λ found. (level : ℕ) → level < found.0 → untried_in self.now level ≡ []) }
+        ensures first { IfSome result (λ found. Some found.1 ≡ first_untried_in self.now found.0) }
+        ensures least { IfSome result (λ found. NoneUntriedBefore self.now found.0) }
         ensures none { result ≡ None → (level : ℕ) → untried_in self.now level ≡ [] }
     {
         let problem = self.machine.problem();
@@ -241,10 +239,7 @@ impl<'p, T: Table> Runner<'p, T> {
     /// its cut doesn't come before the branch's end; where nothing is untried there; where the option isn't; and when out of
     /// memory.
     pub fn cut(&self, level: usize, option: u32) -> Result<Cut<'p>, RunnerFault>
-        ensures cut { IfOk result (λ cut. cut ≡ record {
-          problem = self.now.problem;
-          path = with_choice self.now.position level option;
-        }) }
+        ensures cut { Returns result (cut_at_option self.now level option) }
         ensures untried { OnOk result (has (untried_in self.now level) option ≡ true) }
         ensures refused { IfErr result (CutRefused self.now level option) }
     {
@@ -269,10 +264,7 @@ impl<'p, T: Table> Runner<'p, T> {
     /// The cut at an untried option of a level; refused when out of memory alone.
     fn cut_at(&self, level: usize, option: u32) -> Result<Cut<'p>, RunnerFault>
         requires { has (untried_in self.now level) option ≡ true }
-        ensures cut { IfOk result (λ cut. cut ≡ record {
-          problem = self.now.problem;
-          path = with_choice self.now.position level option;
-        }) }
+        ensures cut { Returns result (cut_at_option self.now level option) }
         ensures refused { IfErr result (λ fault. fault ≡ RunnerFault.OutOfMemory) }
     {
         let Ok(mut path) = Vec::from_slice(
@@ -303,10 +295,7 @@ impl<'p, T: Table> Runner<'p, T> {
     /// Ends the branch at a cut, without memory. Refused where the cut is another problem's, doesn't come after the position, or
     /// doesn't come before the branch's end; nothing has then changed, and the cut comes back.
     pub fn shorten(&mut self, cut: Cut<'p>) -> Result<(), Refused<RunnerFault, Cut<'p>>>
-        ensures shortened { OnOk result (self.new ≡ record self.old {
-          branch =
-              record self.old.branch { hi = Some cut.entry };
-        }) }
+        ensures shortened { OnOk result (self.new ≡ ended_at self.old cut.entry) }
         ensures can { OnOk result (CanShorten self.old cut.entry) }
         ensures outside { OnErr result (CanShorten self.old cut.entry → ⊥) }
         ensures refused { IfErr result (λ r. r.fault ≡ RunnerFault.OutsideBranch) }

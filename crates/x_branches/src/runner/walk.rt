@@ -1,12 +1,10 @@
 //! Many steps of a runner at once.
-ghost use Rattle.std.specs.Prelude.{◌≡◌, ◌≢◌, ◌<◌, ◌≤◌, ◌+◌, ◌++◌, ◌⊎◌, ◌∷◌, [], ℕ, true, false, length, IsTrue, IfOk, IfErr, OnOk, OnErr};
+ghost use Rattle.std.specs.Prelude.{◌≡◌, ◌≢◌, ◌<◌, ◌≤◌, ◌+◌, ◌++◌, ◌⊎◌, true, false, length, IsTrue, IfOk, IfErr, OnOk, OnErr};
 ghost use Rattle.x_steps.specs.StateView.{state_value};
-ghost use Rattle.x_steps.specs.Steps.{Fits, is_visit};
-ghost use Rattle.x_steps.specs.Run as run;
-ghost use Rattle.x_steps.specs.Run.{after, states};
-ghost use Rattle.x_steps.specs.Walk.{last_event, visit_told, OnlyMoves, IsAtCut, HasRoom, IsWalk};
+ghost use Rattle.x_steps.specs.Steps.{Fits};
+ghost use Rattle.x_steps.specs.Walk.{OnlyMoves, HasRoom, PassesNoCut, TellsLast, IsWalkOf};
 ghost use Rattle.x_branches.specs.Refusals.{CanAdvance, AdvanceRefused};
-ghost use Rattle.x_branches.specs.Walk.{advanced_by, CanAdvanceBy, HasToStop};
+ghost use Rattle.x_branches.specs.Walk.{advanced_by, CanAdvanceBy, HasToStop, AddsVisit, passed_visits, IsOverOrAtVisit};
 
 use crate::fault::RunnerFault;
 use crate::runner::{Runner, discount};
@@ -16,7 +14,7 @@ use x_steps::{Event, Label, Machine, State, Walk};
 /// Keeps the path where a walk came to a visit; false where memory runs out.
 #[inline(always)]
 fn keep_visit(visits: &mut Lists, event: Event, state: &State) -> bool
-    ensures kept { IsTrue result → visits.new ≡ visits.old ++ visit_told event (state_value state.now).path }
+    ensures kept { IsTrue result → AddsVisit visits.old visits.new event (state_value state.now) }
     ensures unchanged { result ≡ false → visits.new ≡ visits.old }
     ensures at_visit { result ≡ false → event ≡ Event.Visited }
 {
@@ -40,14 +38,11 @@ fn walk_noted<T: Table>(
     requires levels { length counts.old ≡ length machine.old.problem.names + 1 }
     requires room { HasRoom most counts.old }
     ensures problem { machine.new.problem ≡ machine.old.problem }
-    ensures walk { IsWalk machine.old.problem machine.old.state machine.new.state counts.old counts.new result.steps result.event }
-    ensures visits { visits.new ≡ visits.old ++
-        run.visits machine.old.problem (states machine.old.problem result.steps machine.old.state) }
+    ensures walk { IsWalkOf machine.old machine.new counts.old counts.new result }
+    ensures visits { visits.new ≡ visits.old ++ passed_visits machine.old result.steps }
     ensures within { result.steps ≤ most }
-    ensures before { (i : ℕ) → i < result.steps →
-        IsAtCut (after machine.old.problem i machine.old.state) end.now → ⊥ }
-    ensures stops { (result.steps ≡ most) ⊎ ((result.event ≢ Event.Moved) ⊎ (IsAtCut machine.new.state end.now
-        ⊎ (is_visit machine.old.problem machine.new.state ≡ true))) }
+    ensures before { PassesNoCut machine.old result.steps end.now }
+    ensures stops { IsOverOrAtVisit most machine.old.problem machine.new.state end.now result }
 {
     let Ok(walk) = machine.walk(most, end, counts) else {
         unreachable!()
@@ -73,7 +68,7 @@ impl<'p, T: Table> Runner<'p, T> {
     pub fn walk(&mut self, most: u32) -> Result<Walk, RunnerFault>
         ensures state { IfOk result (λ w. self.new ≡ advanced_by self.old w.steps) }
         ensures each_step { IfOk result (λ w. CanAdvanceBy self.old w.steps) }
-        ensures event { IfOk result (λ w. w.event ≡ last_event self.old.problem w.steps self.old.position) }
+        ensures event { IfOk result (λ w. TellsLast self.old.problem self.old.position w) }
         ensures moves { IfOk result (λ w. OnlyMoves self.old.problem w.steps self.old.position) }
         ensures within { IfOk result (λ w. w.steps ≤ most) }
         ensures some { IfOk result (λ w. 0 < most → 0 < w.steps) }

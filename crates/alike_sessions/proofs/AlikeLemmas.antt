@@ -7,7 +7,7 @@ use Rattle.x_steps.specs.Run.{steps_between}
 use Rattle.x_branches.specs.declared.branch.Branch.{Branch}
 use Rattle.x_branches.specs.declared.fault.RunnerFault.TheVariants.{NotAtMark}
 use Rattle.x_branches.specs.Runner.{RunnerValue, unposted_steps}
-use Rattle.x_branches.specs.Refusals.{most_steps, untried_in}
+use Rattle.x_branches.specs.Refusals.{most_steps, untried_in, cut_at}
 use Rattle.x_branches.specs.Untried.{with_choice}
 use Rattle.x_texts.specs.declared.breakpoint.Break.{Break}
 use Rattle.x_snapshot.specs.Writing.{snapshot_text}
@@ -21,7 +21,6 @@ use Rattle.lab_book.specs.declared.entry.Reply.TheVariants as reply
 use Rattle.lab_book.specs.Tile.{is_closed}
 use Rattle.lab_book.specs.Tiling.{tile_at}
 use Rattle.lab_book.specs.Book.{BookValue, outcome, book_step, path_of}
-use Rattle.lab_world.specs.Worker.{cut_at}
 use Rattle.lab_world.proofs.HoldLemmas.{own_lease}
 use Rattle.debug_language.specs.Replies.{saved_text}
 use Rattle.debug_language.specs.declared.words.Plain.TheVariants.{Closed}

@@ -2,12 +2,12 @@
 -- open in both, and one closed tile goes up to there in the one, two in the other.
 use Rattle.std.proofs.Common.{◌≡◌, Some, None, [], ◌∷◌, refl}
 use Rattle.cover_problem.proofs.CoverExamples.{small}
+use Rattle.x_branches.specs.Runner.{runner_at}
 use Rattle.x_branches.specs.Branch.{first_of}
 use Rattle.x_texts.specs.declared.breakpoint.Break.TheVariants.{Visit}
 use Rattle.lab_book.specs.declared.status.Status.TheVariants.{Leased}
 use Rattle.lab_book.specs.declared.lease.Grant.{Grant}
 use Rattle.lab_book.specs.Book.{BookValue}
-use Rattle.lab_world.specs.Worker.{runner_at}
 use Rattle.x_debug.specs.Session.{SessionValue, session_on}
 use Rattle.x_debug.specs.Commands.{answer_branches, answer_show}
 use Rattle.alike_books.proofs.AlikeExamples.{cut, in_two, in_three}

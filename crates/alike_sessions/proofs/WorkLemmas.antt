@@ -20,7 +20,7 @@ use Rattle.x_branches.specs.Branch.{first_of, end_of}
 use Rattle.x_branches.specs.Cut.{CutPath, IsCut, cut_state}
 use Rattle.x_branches.specs.Stretch.{StretchValue, IsStretch}
 use Rattle.x_branches.specs.Runner.{RunnerValue, IsRunner, IsWithin, unposted_steps}
-use Rattle.x_branches.specs.Refusals.{most_steps, untried_in}
+use Rattle.x_branches.specs.Refusals.{most_steps, untried_in, cut_at}
 use Rattle.x_branches.specs.Untried.{with_choice}
 use Rattle.x_branches.proofs.CutLemmas.{cut_fits}
 use Rattle.x_branches.proofs.RunnerLemmas.{not_before, before_not, next_before, before_goes_on}
@@ -34,7 +34,7 @@ use Rattle.lab_book.specs.Tiling.{IsTiling}
 use Rattle.lab_book.specs.Book.{BookValue, Outcome, outcome, made_at, unless, last_of, retracted, retract_fault}
 use Rattle.lab_book.proofs.TileLemmas.{end_fits, stretch_by, tile_can_start}
 use Rattle.debug_views.specs.Lines.{runner_refusal}
-use Rattle.lab_world.specs.Worker.{WorkerValue, HasTile, HoldsTile, after_post, after_retract, after_split, marked_at, moved_to, shortened, cut_at}
+use Rattle.lab_world.specs.Worker.{WorkerValue, HasTile, HoldsTile, after_post, after_retract, after_split, marked_at, moved_to, shortened}
 use Rattle.lab_world.proofs.HoldLemmas.{passed}
 use Rattle.lab_world.proofs.OwnLemmas.{Has, own, own_is_tile, found_own, last_own, some_is, post_has, retract_has, split_has}
 use Rattle.lab_world.proofs.SplitLemmas.{cut_is, split_is}

@@ -1,5 +1,6 @@
 -- The examples of specs/Entering.antt, specs/Giving.antt and specs/Walking.antt, computed on the small problem: worker 0
 -- has the tile of the whole run, at its start.
+use Rattle.x_branches.specs.Runner.{runner_at}
 use Rattle.std.proofs.Common.{◌≡◌, Some, None, [], ◌∷◌, ◌++◌, codes, refl}
 use Rattle.std.specs.Fmt.{digits}
 use Rattle.text_lines.specs.Writing.{text_of}
@@ -10,7 +11,6 @@ use Rattle.x_steps.proofs.RunLemmas.{start_fits}
 use Rattle.x_steps.proofs.BetweenLemmas.{steps_between_self}
 use Rattle.lab_book.specs.declared.entry.Call.TheVariants as call
 use Rattle.lab_book.specs.Book.{BookValue, new_book, outcome, book_step}
-use Rattle.lab_world.specs.Worker.{runner_at}
 use Rattle.debug_acts.specs.Work.{AtWork, work}
 use Rattle.debug_acts.specs.Walking.{back}
 use Rattle.debug_acts.specs.Entering.{enter}

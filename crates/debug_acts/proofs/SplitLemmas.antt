@@ -8,11 +8,11 @@ use Rattle.x_branches.specs.declared.fault.RunnerFault.{RunnerFault}
 use Rattle.x_branches.specs.declared.fault.RunnerFault.TheVariants.{AtBranchEnd, AtMark, NothingUntried, NotUntried, OutsideBranch, NotAtMark, StretchFull, OutOfMemory}
 use Rattle.x_branches.specs.Faults.{number_of, name_of}
 use Rattle.x_branches.specs.Branch.{end_of}
-use Rattle.x_branches.specs.Refusals.{untried_in, CutRefused}
+use Rattle.x_branches.specs.Refusals.{untried_in, CutRefused, cut_at}
 use Rattle.x_branches.specs.Untried.{left_above, is_before_end, with_choice}
 use Rattle.x_branches.proofs.UntriedLemmas.{untried_left}
 use Rattle.lab_book.specs.Book.{BookValue, book_step}
-use Rattle.lab_world.specs.Worker.{WorkerValue, shortened, cut_at, split_call}
+use Rattle.lab_world.specs.Worker.{WorkerValue, shortened, split_call}
 use Rattle.debug_language.specs.declared.words.Layer.TheVariants as layer
 use Rattle.debug_language.specs.Replies.{refused_words}
 use Rattle.debug_views.specs.Lines.{runner_refusal}

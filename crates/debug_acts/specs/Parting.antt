@@ -4,12 +4,12 @@ use Rattle.cover_problem.specs.Lists.{has}
 use Rattle.x_branches.specs.declared.fault.RunnerFault.TheVariants.{NotAtMark}
 use Rattle.x_branches.specs.Cut.{CutPath}
 use Rattle.x_branches.specs.Runner.{RunnerValue, unposted_steps}
-use Rattle.x_branches.specs.Refusals.{untried_in}
+use Rattle.x_branches.specs.Refusals.{untried_in, cut_at}
 use Rattle.lab_book.specs.declared.entry.Call.TheVariants as call
 use Rattle.lab_book.specs.declared.entry.Reply.{Reply}
 use Rattle.lab_book.specs.declared.entry.Reply.TheVariants as reply
 use Rattle.lab_book.specs.Book.{BookValue, outcome, book_step, path_of}
-use Rattle.lab_world.specs.Worker.{marked_at, shortened, cut_at}
+use Rattle.lab_world.specs.Worker.{marked_at, shortened}
 use Rattle.lab_world.specs.World.{cut_refusal}
 use Rattle.debug_language.specs.declared.words.Counted.TheVariants as counts
 use Rattle.debug_language.specs.declared.words.Standing.TheVariants as standing

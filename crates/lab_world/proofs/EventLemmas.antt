@@ -18,7 +18,7 @@ use Rattle.x_branches.specs.Branch.{end_of}
 use Rattle.x_branches.specs.Cut.{CutPath, choices}
 use Rattle.x_branches.specs.Runner.{RunnerValue, unposted_steps}
 use Rattle.x_branches.specs.Untried.{left_above, is_before_end, with_choice}
-use Rattle.x_branches.specs.Refusals.{untried_in, CanAdvance, AdvanceRefused, CutRefused}
+use Rattle.x_branches.specs.Refusals.{untried_in, CanAdvance, AdvanceRefused, CutRefused, cut_at}
 use Rattle.x_branches.proofs.UntriedLemmas.{untried_left}
 use Rattle.lab_book.specs.declared.fault.BookFault.{BookFault}
 use Rattle.lab_book.specs.declared.fault.BookFault.TheVariants.{OutOfMemory}
@@ -38,7 +38,7 @@ use Rattle.lab_world.specs.declared.worker.ending.Ending.{Ending}
 use Rattle.lab_world.specs.declared.worker.ending.Ending.TheVariants as ending
 use Rattle.lab_world.specs.declared.worker.leasing.Wanted.{Wanted}
 use Rattle.lab_world.specs.declared.worker.leasing.Wanted.TheVariants as wanted
-use Rattle.lab_world.specs.Worker.{WorkerValue, moved_to, unposted, cut_at, shortened, split_call, lease_call, end_call}
+use Rattle.lab_world.specs.Worker.{WorkerValue, moved_to, unposted, shortened, split_call, lease_call, end_call}
 use Rattle.lab_world.specs.Worker.{lent_worker, after_post, after_split, after_retract, after_end, RetractRefused, WorkerSplitRefused}
 use Rattle.lab_world.specs.declared.event.Act.{Act}
 use Rattle.lab_world.specs.declared.fault.WorkerFault.TheVariants as worker_fault

@@ -2,7 +2,7 @@
 use Rattle.std.proofs.Common.{◌≡◌, ℕ, ◌<◌, ◌==◌, Bool, true, false, Option, Some, None, Result, Ok, Err, List, length, refl, sym, ap, ap₂}
 use Rattle.std.proofs.Common.{◌∙◌, subst}
 use Rattle.std.specs.Prelude.{IsErr, IfOk}
-use Rattle.x_branches.specs.Runner.{RunnerValue}
+use Rattle.x_branches.specs.Runner.{RunnerValue, runner_at}
 use Rattle.lab_book.specs.declared.lease.Grant.{Grant}
 use Rattle.lab_book.specs.declared.lease.Leased.{Leased}
 use Rattle.lab_book.specs.declared.fault.BookFault.{BookFault}
@@ -17,7 +17,7 @@ use Rattle.lab_book.specs.Calls.{Made, leased_reply, any_reply}
 use Rattle.std.proofs.lemmas.List.Quantifiers.{position-Some}
 use Rattle.lab_book.proofs.CallLemmas.{any_is}
 use Rattle.lab_world.specs.declared.worker.leasing.Wanted.{Wanted}
-use Rattle.lab_world.specs.Worker.{leased_by, WorkerValue, HoldsTile, lent_worker, runner_at, place_found, is_wanted, wanted_place}
+use Rattle.lab_world.specs.Worker.{leased_by, WorkerValue, HoldsTile, lent_worker, place_found, is_wanted, wanted_place}
 use Rattle.lab_world.specs.Worker.{lease_call}
 use Rattle.lab_world.specs.World.{IsSeat}
 use Rattle.lab_world.proofs.HoldLemmas.{found_ok, lease_outcome}

@@ -7,7 +7,7 @@ use Rattle.cover_problem.specs.Problem.{ProblemValue}
 use Rattle.x_steps.specs.StateValue.{StateValue}
 use Rattle.x_branches.specs.declared.branch.Branch.{Branch}
 use Rattle.x_branches.specs.Cut.{CutPath}
-use Rattle.x_branches.specs.Runner.{IsOf}
+use Rattle.x_branches.specs.Runner.{IsOf, runner_at}
 use Rattle.x_branches.specs.Stretch.{StretchValue}
 use Rattle.lab_book.specs.declared.lease.Grant.{Grant}
 use Rattle.lab_book.specs.declared.fault.BookFault.{BookFault}
@@ -24,7 +24,7 @@ use Rattle.lab_book.proofs.TileLemmas.{mark_push}
 use Rattle.lab_book.proofs.TilingLemmas.{tile_in}
 use Rattle.lab_world.specs.declared.worker.ending.Ending.{Ending}
 use Rattle.lab_world.specs.declared.worker.ending.Ending.TheVariants as ending
-use Rattle.lab_world.specs.Worker.{WorkerValue, IsWorkers, HasTile, HoldsTile, lent_worker, cut_of, runner_at, marked_at, shortened}
+use Rattle.lab_world.specs.Worker.{WorkerValue, IsWorkers, HasTile, HoldsTile, lent_worker, cut_of, marked_at, shortened}
 use Rattle.lab_world.specs.Worker.{end_call, after_post, after_split, after_retract, after_end}
 use Rattle.lab_world.proofs.HoldLemmas.{found_at, own_lease, passed, kept_parted}
 

@@ -6,7 +6,7 @@ use Rattle.x_steps.specs.Steps.{Fits}
 use Rattle.x_branches.specs.Branch.{end_of}
 use Rattle.x_branches.specs.Cut.{CutPath, cut_state}
 use Rattle.x_branches.specs.Runner.{RunnerValue, IsRunner}
-use Rattle.x_branches.specs.Refusals.{untried_in, CanShorten}
+use Rattle.x_branches.specs.Refusals.{untried_in, CanShorten, cut_at}
 use Rattle.x_branches.specs.RunOrder.{comes_before}
 use Rattle.x_branches.specs.Untried.{with_choice, IsUntried}
 use Rattle.x_branches.proofs.CutLemmas.{cut_fits, rank_test, untried_is}
@@ -21,7 +21,7 @@ use Rattle.lab_book.specs.Tiling.{IsTiling}
 use Rattle.lab_book.specs.Book.{BookValue, Outcome, outcome, book_step, made_at, unless, split, cut_fault}
 use Rattle.lab_book.specs.Calls.{Made, Splits, SplitRefused, split_of}
 use Rattle.lab_book.proofs.TileLemmas.{end_fits, end_after}
-use Rattle.lab_world.specs.Worker.{WorkerValue, HasTile, HoldsTile, cut_at, split_call, shortened}
+use Rattle.lab_world.specs.Worker.{WorkerValue, HasTile, HoldsTile, split_call, shortened}
 use Rattle.lab_world.proofs.OwnLemmas.{found_own, own, own_is_tile, split_tile}
 
 -- ---- the cut

@@ -1,4 +1,5 @@
 -- The examples of specs/Worker.antt and specs/World.antt, computed on the small problem.
+use Rattle.x_branches.specs.Runner.{runner_at}
 use Rattle.std.proofs.Common.{◌≡◌, false, Some, None, List, [], ◌∷◌, refl}
 use Rattle.cover_problem.proofs.CoverExamples.{small}
 use Rattle.x_steps.specs.declared.state.Label.TheVariants.{X2}
@@ -12,7 +13,7 @@ use Rattle.lab_world.specs.declared.event.Act.TheVariants.{LeaseAny, Park}
 use Rattle.lab_world.specs.declared.event.WorldEvent.{WorldEvent}
 use Rattle.lab_world.specs.declared.event.WorldReply.TheVariants.{Book, Idle, Busy}
 use Rattle.lab_world.specs.declared.worker.leasing.Wanted.TheVariants as wanted
-use Rattle.lab_world.specs.Worker.{WorkerValue, leased_by, moved_to, marked_at, unposted, runner_at, wanted_place, after_post, after_end}
+use Rattle.lab_world.specs.Worker.{WorkerValue, leased_by, moved_to, marked_at, unposted, wanted_place, after_post, after_end}
 use Rattle.lab_world.specs.World.{turn, fresh, played, world_replies, state_of}
 
 -- the book of the whole run

@@ -10,10 +10,10 @@ use Rattle.cover_problem.specs.Problem.{ProblemValue}
 use Rattle.x_steps.specs.StateValue.{StateValue}
 use Rattle.x_branches.specs.declared.branch.Branch.{Branch}
 use Rattle.x_branches.specs.Cut.{CutPath}
-use Rattle.x_branches.specs.Runner.{RunnerValue, unposted_steps}
+use Rattle.x_branches.specs.Runner.{runner_at, unposted_stretch, RunnerValue, unposted_steps}
 use Rattle.x_branches.specs.Stretch.{StretchValue}
 use Rattle.x_branches.specs.Untried.{with_choice}
-use Rattle.x_branches.specs.Refusals.{untried_in, CutRefused}
+use Rattle.x_branches.specs.Refusals.{cut_at, untried_in, CutRefused}
 use Rattle.lab_book.specs.declared.status.Status.{Status}
 use Rattle.lab_book.specs.declared.status.Status.TheVariants as status
 use Rattle.lab_book.specs.declared.lease.Grant.{Grant}
@@ -96,15 +96,11 @@ marked_at x s = record { grant = x.grant; runner = record x.runner { mark = s } 
 
 -- the stretch that it has not posted
 abbrev pub unposted : WorkerValue → StretchValue
-unposted x = record { problem = x.runner.problem; from = x.runner.mark; to = x.runner.position }
+unposted x = unposted_stretch x.runner
 
 -- its runner's branch ends at a cut
 abbrev pub shortened : WorkerValue → CutPath → WorkerValue
 shortened x cut = record { grant = x.grant; runner = record x.runner { branch = record x.runner.branch { hi = Some cut } } }
-
--- the cut at an option of a level of where a runner stands
-abbrev pub cut_at : RunnerValue → ℕ → ℕ → CutPath
-cut_at r level o = record { problem = r.problem; path = with_choice r.position level o }
 
 -- a worker's runner's branch ends at the cut at an option of a level of where it stands
 abbrev pub shortened_at : WorkerValue → ℕ → ℕ → WorkerValue
@@ -117,10 +113,6 @@ split_call x path = call.Split x.grant path true
 -- and at the cut at an option of a level of where its runner stands
 abbrev pub split_at : WorkerValue → ℕ → ℕ → Grant → Call
 split_at x level o g = call.Split g (with_choice x.runner.position level o) true
-
--- a runner that stands at its mark
-abbrev pub runner_at : ProblemValue → Branch → StateValue → RunnerValue
-runner_at p b mark = record { problem = p; branch = b; mark = mark; position = mark }
 
 -- a runner that stands at the mark of the tile at a place of a book
 abbrev pub runner_on : BookValue → ℕ → RunnerValue

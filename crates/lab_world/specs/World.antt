@@ -19,7 +19,7 @@ use Rattle.x_branches.specs.declared.fault.RunnerFault.TheVariants.{AtBranchEnd,
 use Rattle.x_branches.specs.declared.fault.RunnerFault.TheVariants.{NotAtMark, StretchFull}
 use Rattle.x_branches.specs.Branch.{end_of}
 use Rattle.x_branches.specs.Runner.{RunnerValue, unposted_steps}
-use Rattle.x_branches.specs.Refusals.{most_steps, untried_in}
+use Rattle.x_branches.specs.Refusals.{most_steps, untried_in, cut_at}
 use Rattle.x_branches.specs.Untried.{left_above, with_choice}
 use Rattle.lab_book.specs.declared.entry.Call.{Call}
 use Rattle.lab_book.specs.declared.entry.Call.TheVariants as call
@@ -37,7 +37,7 @@ use Rattle.lab_world.specs.declared.worker.leasing.Wanted.{Wanted}
 use Rattle.lab_world.specs.declared.worker.leasing.Wanted.TheVariants as wanted
 use Rattle.lab_world.specs.declared.event.WorldReply.{WorldReply}
 use Rattle.lab_world.specs.declared.event.WorldReply.TheVariants.{Event, Runner, Book, Idle, Busy}
-use Rattle.lab_world.specs.Worker.{WorkerValue, HoldsTile, moved_to, unposted, cut_at, split_call, lent_worker, after_post}
+use Rattle.lab_world.specs.Worker.{WorkerValue, HoldsTile, moved_to, unposted, split_call, lent_worker, after_post}
 use Rattle.lab_world.specs.Worker.{after_split, after_retract, after_end}
 
 -- a world

@@ -2,7 +2,7 @@
 use Rattle.std.proofs.Common.{◌≡◌, ℕ, ◌==◌, Bool, true, false, cond, Some, Result, Ok, Err, [], ◌∷◌, refl, ap}
 use Rattle.cover_problem.specs.Lists.{has}
 use Rattle.x_branches.specs.declared.fault.RunnerFault.TheVariants.{NotAtMark}
-use Rattle.x_branches.specs.Refusals.{untried_in}
+use Rattle.x_branches.specs.Refusals.{untried_in, cut_at}
 use Rattle.x_branches.specs.Untried.{with_choice}
 use Rattle.x_branches.specs.Runner.{unposted_steps}
 use Rattle.lab_book.specs.declared.fault.BookFault.{BookFault}
@@ -10,7 +10,7 @@ use Rattle.lab_book.specs.declared.entry.Call.TheVariants as call
 use Rattle.lab_book.specs.Book.{Outcome, outcome, found, made_at, retracted, lease_fault, retract_fault}
 use Rattle.lab_world.specs.declared.event.Act.TheVariants.{Split, Retract}
 use Rattle.lab_world.specs.declared.event.WorldReply.TheVariants as world
-use Rattle.lab_world.specs.Worker.{WorkerValue, cut_at, split_call, after_split, after_retract}
+use Rattle.lab_world.specs.Worker.{WorkerValue, split_call, after_split, after_retract}
 use Rattle.lab_world.specs.World.{Turn, turn, stays, called, cut_refusal}
 use Rattle.lab_world.proofs.SplitLemmas.{split_is}
 use Rattle.debug_views.specs.Lines.{runner_refusal}

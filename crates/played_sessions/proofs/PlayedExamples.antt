@@ -11,11 +11,12 @@ use Rattle.x_steps.specs.Run.{after, steps_between}
 use Rattle.x_steps.proofs.RunLemmas.{start_fits, steps_between_is}
 use Rattle.x_steps.proofs.BetweenLemmas.{steps_between_self}
 use Rattle.x_steps.proofs.StepExamples.{forty_three_steps}
+use Rattle.x_branches.specs.Runner.{runner_at}
 use Rattle.x_branches.specs.Refusals.{most_steps}
 use Rattle.lab_book.specs.Book.{outcome}
 use Rattle.lab_book.specs.States.{same_state}
 use Rattle.lab_world.specs.declared.event.Act.TheVariants.{Step, Post, Park, RequestStop}
-use Rattle.lab_world.specs.Worker.{WorkerValue, runner_at, moved_to}
+use Rattle.lab_world.specs.Worker.{WorkerValue, moved_to}
 use Rattle.lab_world.specs.World.{turn, played, state_of}
 use Rattle.debug_language.specs.declared.command.Command.TheVariants as commands
 use Rattle.debug_language.specs.Reading.{command_from, long_command, plain_command}

@@ -30,10 +30,10 @@ use Rattle.x_branches.proofs.CutExamples.{untried_below_two}
 -- ---- specs/Branch.antt
 
 -- the cut at an option of the first item
-abbrev cut_at : ℕ → Option CutPath
-cut_at o = Some (record { problem = small; path = o ∷ [] })
+abbrev first_cut : ℕ → Option CutPath
+first_cut o = Some (record { problem = small; path = o ∷ [] })
 
-begins : first_of (cut_at 4) ≡ at X5 [] (At 4)
+begins : first_of (first_cut 4) ≡ at X5 [] (At 4)
 unfolding cut_state
 begins = refl
 
@@ -107,7 +107,7 @@ step_there = refl
 
 -- ---- specs/Walk.antt
 
-choices_there : end_choices (cut_at 4) ≡ 4 ∷ []
+choices_there : end_choices (first_cut 4) ≡ 4 ∷ []
 choices_there = refl
 
 three_on : (advanced_by (at_step start) 3).position ≡ at X4 [] cursor.None

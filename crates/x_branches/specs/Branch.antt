@@ -3,7 +3,7 @@
 --
 -- Example: in the small problem a branch with the low cut 4 begins at X5 at option 4 with the empty path; without a high cut it ends at
 -- Done. proofs/RunnerExamples.antt computes it.
-use Rattle.std.specs.Prelude.{ℕ, Option, Some, List}
+use Rattle.std.specs.Prelude.{Option, Some}
 use Rattle.std.specs.Prelude as prelude
 use Rattle.x_steps.specs.StateValue.{StateValue, start, done}
 use Rattle.x_branches.specs.declared.branch.Branch.{Branch}

@@ -73,8 +73,8 @@ abbrev pub NoneUntriedBefore : RunnerValue → ℕ → Type 0
 NoneUntriedBefore r n = (level : ℕ) → level < n → untried_in r level ≡ []
 
 -- the cut at an option of a level
-abbrev pub cut_at_option : RunnerValue → ℕ → ℕ → CutPath
-cut_at_option r level o = record { problem = r.problem; path = with_choice r.position level o }
+abbrev pub cut_at : RunnerValue → ℕ → ℕ → CutPath
+cut_at r level o = record { problem = r.problem; path = with_choice r.position level o }
 
 -- why no cut is answered, at an option of a level
 abbrev pub CutRefused : RunnerValue → ℕ → ℕ → RunnerFault → Type 0

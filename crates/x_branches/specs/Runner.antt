@@ -35,8 +35,8 @@ abbrev pub unposted_steps : RunnerValue → ℕ
 unposted_steps r = steps_between r.problem r.mark r.position
 
 -- a runner that has not moved: it stands at a state, with its mark there
-abbrev pub unmoved : ProblemValue → Branch → StateValue → RunnerValue
-unmoved p b s = record { problem = p; branch = b; mark = s; position = s }
+abbrev pub runner_at : ProblemValue → Branch → StateValue → RunnerValue
+runner_at p b s = record { problem = p; branch = b; mark = s; position = s }
 
 -- a runner one step on
 abbrev pub one_step_on : RunnerValue → RunnerValue

@@ -2,10 +2,9 @@
 --
 -- Example: in the small problem, at any state below option 2 of item a, option 4 is untried at level 0 in the whole run
 -- (computed in proofs/CutExamples.antt).
-use Rattle.std.specs.Prelude.{ℕ, ◌≡◌, nat_lt, Bool, true, Result, List, [], ◌∷◌, ◌++◌, filter, take, drop}
+use Rattle.std.specs.Prelude.{ℕ, nat_lt, Bool, Result, List, [], ◌∷◌, ◌++◌, filter, take, drop}
 use Rattle.std.specs.Global.{Vec}
 use Rattle.cover_problem.specs.Answers.{ReturnsItems}
-use Rattle.cover_problem.specs.Lists.{has}
 use Rattle.cover_problem.specs.Problem.{ProblemValue}
 use Rattle.cover_problem.specs.Covering.{list_of}
 use Rattle.x_steps.specs.StateValue.{StateValue}
@@ -48,10 +47,6 @@ pub record IsUntried (p : ProblemValue) (s end : StateValue) (path : List ℕ) :
   pub cut : IsCut p path
   pub later : ComesBefore p s (cut_state path)
   pub before_end : ComesBefore p (cut_state path) end
-
--- the option is in an item's list
-abbrev pub IsInList : ProblemValue → List ℕ → ℕ → ℕ → Type 0
-IsInList p c item option = has (list_of p c item) option ≡ true
 
 -- the call lists the options in an item's list above one of them, unless it has an error
 abbrev pub ListsAbove : {E : Type 0} → Result (Vec ℕ) E → ProblemValue → List ℕ → ℕ → ℕ → Type 0

@@ -1,6 +1,6 @@
 //! Runners: a search within one branch of a run, with the stretch of its steps that was not posted yet.
 ghost use Rattle.std.specs.Prelude.{◌≡◌, ◌<◌, ◌+◌, ◌-◌, ◌↔◌, ◌++◌, [], length, true};
-ghost use Rattle.std.specs.Prelude.{if◌then◌else◌, IfOk, IfErr, OnOk, OnErr, IsErr, IsTrue};
+ghost use Rattle.std.specs.Prelude.{IfOk, IfErr, OnOk, OnErr, IsErr, IsTrue};
 ghost use Rattle.cover_problem.specs.Answers.{Returns};
 ghost use Rattle.cover_problem.specs.Problem.{IsProblem};
 ghost use Rattle.x_steps.specs.Answers.{ReturnsRows, ReturnsRow, RefusedUnchanged};
@@ -10,7 +10,7 @@ ghost use Rattle.x_steps.specs.Steps.{event_of, is_visit};
 ghost use Rattle.x_steps.specs.Run.{steps_between};
 ghost use Rattle.x_steps.specs.Machine.{remaining_in, second_in, chosen_in};
 ghost use Rattle.x_branches.specs.Branch.{end_of};
-ghost use Rattle.x_branches.specs.Runner.{IsRunner, unmoved, one_step_on, one_step_back, StandsBefore, covered_by_runner, visit_here, with_level, without_level};
+ghost use Rattle.x_branches.specs.Runner.{IsRunner, runner_at, one_step_on, one_step_back, StandsBefore, covered_by_runner, visit_here, with_level, without_level};
 ghost use Rattle.x_branches.specs.Refusals.{CanStart, StartRefused, CanAdvance, AdvanceRefused};
 ghost use Rattle.x_branches.specs.Counts.{HasLevelOf, HasRoomFor, HasCounted};
 
@@ -137,7 +137,7 @@ impl<'p, T: Table> Runner<'p, T> {
     ) -> Result<Runner<'p, T>, Refused<StartFault, (T, Branch<'p>)>>
         requires same_problem { T.problem_value table ≡ problem.now }
         requires covered { T.covered_list table ≡ [] }
-        ensures runner { Returns result (unmoved problem.now branch.entry (state_value state.now)) }
+        ensures runner { Returns result (runner_at problem.now branch.entry (state_value state.now)) }
         ensures can { OnOk result (CanStart problem.now branch.entry (state_value state.now)) }
         ensures refused { IfErr result (λ r. StartRefused problem.now branch.entry (state_value state.now) r.fault) }
         ensures same_problem_back { IfErr result (λ r. T.problem_value r.given.0 ≡ problem.now) }

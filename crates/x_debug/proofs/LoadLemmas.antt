@@ -7,14 +7,14 @@ use Rattle.cover_problem.specs.Problem.{ProblemValue, is_same}
 use Rattle.x_steps.specs.StateValue.{StateValue}
 use Rattle.x_steps.proofs.StretchLemmas.{reached_fits}
 use Rattle.x_branches.specs.declared.branch.Branch.{Branch}
-use Rattle.x_branches.specs.Runner.{RunnerValue, IsRunner}
+use Rattle.x_branches.specs.Runner.{RunnerValue, IsRunner, runner_at}
 use Rattle.x_branches.specs.Refusals.{CanStart}
 use Rattle.x_texts.specs.declared.breakpoint.Break.{Break}
 use Rattle.x_snapshot.specs.declared.fault.SnapshotFault.{SnapshotFault}
 use Rattle.x_snapshot.specs.declared.fault.SnapshotFault.TheVariants as snapshot
 use Rattle.x_snapshot.specs.Faults.{number_of, name_of}
 use Rattle.x_texts.specs.Breaks.{is_break, are_new, are_breaks}
-use Rattle.x_snapshot.specs.Snapshot.{SnapshotValue, branch_between, started}
+use Rattle.x_snapshot.specs.Snapshot.{SnapshotValue, branch_between}
 use Rattle.x_snapshot.specs.Judged.{judged_parts, judged, snapshot_of}
 use Rattle.x_snapshot.specs.Reading.{parts_of}
 use Rattle.lab_book.specs.declared.fault.BookFault.TheVariants.{ForeignProblem}
@@ -44,7 +44,7 @@ can_start r g = record {
 }
 
 -- the book of a runner that has just been started, whose one tile it can search
-module _ (p : ProblemValue) (b : Branch) (s : StateValue) (book : BookValue) (r : RunnerValue) (at : r ≡ started p b s) (made : book ≡ new_book p r.branch r.position) where
+module _ (p : ProblemValue) (b : Branch) (s : StateValue) (book : BookValue) (r : RunnerValue) (at : r ≡ runner_at p b s) (made : book ≡ new_book p r.branch r.position) where
   pub fresh_at : book ≡ new_book p b s
   fresh_at = made ∙ ap (λ (q : RunnerValue). new_book p q.branch q.position) at
 

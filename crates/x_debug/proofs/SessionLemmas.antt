@@ -9,7 +9,7 @@ use Rattle.x_texts.specs.declared.breakpoint.Break.{Break}
 use Rattle.x_texts.specs.Breaks.{is_break}
 use Rattle.x_branches.specs.declared.fault.RunnerFault.TheVariants.{NotAtMark}
 use Rattle.x_branches.specs.Runner.{RunnerValue, unposted_steps}
-use Rattle.x_branches.specs.Refusals.{most_steps, untried_in}
+use Rattle.x_branches.specs.Refusals.{most_steps, untried_in, cut_at}
 use Rattle.lab_book.specs.declared.lease.Grant.{Grant}
 use Rattle.lab_book.specs.declared.fault.BookFault.TheVariants.{NotAtEnd}
 use Rattle.lab_book.specs.declared.entry.Call.{Call}
@@ -18,7 +18,7 @@ use Rattle.lab_book.specs.declared.entry.Reply.{Reply}
 use Rattle.lab_book.specs.declared.entry.Reply.TheVariants as replies
 use Rattle.lab_book.specs.Tiling.{tile_at, IsTiling}
 use Rattle.lab_book.specs.Book.{BookValue, outcome, book_step}
-use Rattle.lab_world.specs.Worker.{WorkerValue, HasTile, HoldsTile, lent_worker, moved_to, cut_at}
+use Rattle.lab_world.specs.Worker.{WorkerValue, HasTile, HoldsTile, lent_worker, moved_to}
 use Rattle.lab_world.specs.World.{IsSeat, cut_refusal}
 use Rattle.lab_world.proofs.OtherLemmas.{put_back_leaves, stop_leaves}
 use Rattle.lab_world.proofs.TurnLemmas.{lease_any_seat}

@@ -12,7 +12,7 @@ use Rattle.x_steps.specs.StateView.{state_value}
 use Rattle.x_steps.specs.Steps.{Fits}
 use Rattle.x_branches.specs.declared.branch.Branch.{Branch}
 use Rattle.x_branches.specs.Cut.{CutPath, IsCut}
-use Rattle.x_branches.specs.Runner.{RunnerValue, IsBranch, IsWithin}
+use Rattle.x_branches.specs.Runner.{runner_at, RunnerValue, IsBranch, IsWithin}
 use Rattle.x_texts.specs.declared.breakpoint.Break.{Break}
 use Rattle.x_texts.specs.Breaks.{are_breaks}
 use Rattle.std.specs.Prelude.{MatchOption}
@@ -59,17 +59,13 @@ cut_if_any p path = option_map (path_in p) path
 abbrev pub branch_between : ProblemValue → Option (List ℕ) → Option (List ℕ) → Branch
 branch_between p lo hi = record { lo = cut_if_any p lo; hi = cut_if_any p hi }
 
--- the runner of a branch that stands at a state, which is its mark too
-abbrev pub started : ProblemValue → Branch → StateValue → RunnerValue
-started p b s = record { problem = p; branch = b; mark = s; position = s }
-
 -- the runner of a snapshot, over its problem p: it stands at the snapshot's state, in the branch between its cuts
 abbrev pub snapshot_runner : ProblemValue → SnapshotValue → RunnerValue
-snapshot_runner p v = started p (branch_between p v.lo v.hi) v.state
+snapshot_runner p v = runner_at p (branch_between p v.lo v.hi) v.state
 
 -- the same of paths and a state, without where they lie in memory
 abbrev pub runner_from : ProblemValue → Option (Vec ℕ) → Option (Vec ℕ) → State → RunnerValue
-runner_from p lo hi state = started p (branch_between p (choices_of lo) (choices_of hi)) (state_value state)
+runner_from p lo hi state = runner_at p (branch_between p (choices_of lo) (choices_of hi)) (state_value state)
 
 -- the cuts, if there are any, and the state are on the problem's run
 pub record IsOnRun (p : ProblemValue) (lo hi : Option (List ℕ)) (s : StateValue) : Type 0 where

@@ -1,9 +1,10 @@
 //! Whether parts make a snapshot, and which fault is the first where they don't.
 ghost use Rattle.std.specs.Prelude.{◌≡◌, [], IfOk, IfErr, OnOk};
 ghost use Rattle.x_steps.specs.StateView.{state_value};
+ghost use Rattle.x_branches.specs.Runner.{runner_at};
 ghost use Rattle.x_branches.specs.Refusals.{CanStart};
 ghost use Rattle.x_snapshot.specs.Snapshot.{IsCutIfAny, choices_of};
-ghost use Rattle.x_snapshot.specs.Snapshot.{started, AreOnRun, AreInside, MakeSnapshot, cut_if_any, runner_from};
+ghost use Rattle.x_snapshot.specs.Snapshot.{AreOnRun, AreInside, MakeSnapshot, cut_if_any, runner_from};
 ghost use Rattle.x_snapshot.specs.Refusals.{cut_fault_of, start_fault_of, IsCutRefused, IsStartRefused, AreRefused, MakeNone};
 ghost use Rattle.cover_problem.specs.Answers.{Returns};
 
@@ -73,7 +74,7 @@ fn start_at<'p, T: Table>(
 ) -> Result<Runner<'p, T>, SnapshotFault>
     requires same_problem { T.problem_value table ≡ problem.now }
     requires covered { T.covered_list table ≡ [] }
-    ensures runner { Returns result (started problem.now branch.entry (state_value state.now)) }
+    ensures runner { Returns result (runner_at problem.now branch.entry (state_value state.now)) }
     ensures can { OnOk result (CanStart problem.now branch.entry (state_value state.now)) }
     ensures refused { IfErr result (λ fault. IsStartRefused problem.now branch.entry (state_value state.now) fault) }
 {

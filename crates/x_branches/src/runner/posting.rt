@@ -1,5 +1,5 @@
 //! The unposted stretch of a runner: it is taken out to be posted, and joined again.
-ghost use Rattle.std.specs.Prelude.{◌≡◌, ◌<◌, ◌≤◌, ◌-◌, ◌↔◌, ◌++◌, [], length, take, drop, replicate, slice_index, IsTrue, IfOk, IfErr};
+ghost use Rattle.std.specs.Prelude.{◌≡◌, ◌<◌, ◌≤◌, ◌-◌, ◌↔◌, ◌++◌, length, take, drop, replicate, slice_index, IsTrue, IfOk, IfErr};
 ghost use Rattle.std.specs.Prelude.{OnOk, OnErr};
 ghost use Rattle.cover_problem.specs.Answers.{Returns};
 ghost use Rattle.x_steps.specs.StateView.{state_value};

@@ -3,6 +3,7 @@ ghost use Rattle.std.specs.Prelude.{All, ◌≡◌, ◌<◌, ◌≤◌, ◌+◌,
 ghost use Rattle.std.specs.Prelude.{IfSome, IsTrue};
 ghost use Rattle.std.specs.Prelude.{IfOk, IfErr, OnOk, OnErr};
 ghost use Rattle.std.specs.List.{slice_get};
+ghost use Rattle.cover_problem.specs.Covering.{IsInList};
 ghost use Rattle.cover_problem.specs.Lists.{has};
 ghost use Rattle.cover_problem.specs.Answers.{Returns, ReturnsItems};
 ghost use Rattle.cover_problem.specs.Problem.{ProblemValue};
@@ -12,9 +13,9 @@ ghost use Rattle.x_steps.specs.StateView.{state_value};
 ghost use Rattle.x_steps.specs.Steps.{Fits, item_after};
 ghost use Rattle.x_branches.specs.Cut.{choices};
 ghost use Rattle.x_branches.specs.Branch.{end_of};
-ghost use Rattle.x_branches.specs.Untried.{is_before_end, left_above, IsInList, ListsAbove};
+ghost use Rattle.x_branches.specs.Untried.{is_before_end, left_above, ListsAbove};
 ghost use Rattle.x_branches.specs.Runner.{IsOf, ended_at, earlier_choices, covered_before};
-ghost use Rattle.x_branches.specs.Refusals.{untried_in, untried_lists, first_untried_in, NoneUntriedBefore, cut_at_option, CanShorten, CutRefused};
+ghost use Rattle.x_branches.specs.Refusals.{untried_in, untried_lists, first_untried_in, NoneUntriedBefore, cut_at, CanShorten, CutRefused};
 
 use crate::branch::Branch;
 use crate::cut::Cut;
@@ -239,7 +240,7 @@ impl<'p, T: Table> Runner<'p, T> {
     /// its cut doesn't come before the branch's end; where nothing is untried there; where the option isn't; and when out of
     /// memory.
     pub fn cut(&self, level: usize, option: u32) -> Result<Cut<'p>, RunnerFault>
-        ensures cut { Returns result (cut_at_option self.now level option) }
+        ensures cut { Returns result (cut_at self.now level option) }
         ensures untried { OnOk result (has (untried_in self.now level) option ≡ true) }
         ensures refused { IfErr result (CutRefused self.now level option) }
     {
@@ -264,7 +265,7 @@ impl<'p, T: Table> Runner<'p, T> {
     /// The cut at an untried option of a level; refused when out of memory alone.
     fn cut_at(&self, level: usize, option: u32) -> Result<Cut<'p>, RunnerFault>
         requires { has (untried_in self.now level) option ≡ true }
-        ensures cut { Returns result (cut_at_option self.now level option) }
+        ensures cut { Returns result (cut_at self.now level option) }
         ensures refused { IfErr result (λ fault. fault ≡ RunnerFault.OutOfMemory) }
     {
         let Ok(mut path) = Vec::from_slice(

@@ -1,6 +1,7 @@
 use Rattle.std.proofs.Common.{Some, refl}
+use Rattle.x_branches.specs.Refusals.{cut_at}
 use Rattle.x_branches.specs.Untried.{with_choice}
-use Rattle.lab_world.specs.Worker.{cut_at, split_call, after_split}
+use Rattle.lab_world.specs.Worker.{split_call, after_split}
 use Rattle.lab_world.specs.declared.event.Act.TheVariants.{Split}
 use Rattle.lab_world.specs.declared.event.WorldReply.TheVariants.{Book, Runner}
 use Rattle.lab_world.proofs.EventLemmas.{told, idle_turned, split_is, split_not_called, split_worker, act_stepped}

@@ -238,7 +238,10 @@ impl<'p> Book<'p> {
     pub fn is_sound(&self)
         ensures tiling { IsTiled self.now }
         ensures replay { replayed (first_book self.now) self.now.history ≡ self.now }
-    {}
+    {
+        // Where a field is read, what the whole keeps true is known.
+        let _tiles = &self.tiles;
+    }
 
     /// Notes a refusal in the history, unless memory ran out, or runs out here.
     fn refuse(&mut self, w: u8, call: Call, fault: BookFault) -> BookFault

@@ -113,7 +113,10 @@ impl<'p> Cut<'p> {
     /// What is true of every cut, for a proof that needs it: its choices are those of a cut of its problem.
     pub fn is_sound(&self)
         ensures cut { IsCut self.now.problem self.now.path }
-    {}
+    {
+        // Where a field is read, what the whole keeps true is known.
+        let _path = &self.path;
+    }
 
     /// Its choices.
     pub fn path(&self) -> &[u32]

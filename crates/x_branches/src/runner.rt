@@ -209,7 +209,10 @@ impl<'p, T: Table> Runner<'p, T> {
     pub fn is_sound(&self)
         ensures runner { IsRunner self.now }
         ensures problem { IsProblem self.now.problem }
-    {}
+    {
+        // Where a field is read, what the whole keeps true is known.
+        let _branch = &self.branch;
+    }
 
     /// Where the search stands.
     pub fn state(&self) -> &State

@@ -3,3 +3,4 @@ pub mod Breakpoints
 pub mod Showing
 pub mod Tiles
 pub mod Left
+pub mod Saying

@@ -10,9 +10,10 @@ use Rattle.x_steps.specs.Machine.{remaining_in, second_in, chosen_in}
 use Rattle.x_branches.specs.Runner.{RunnerValue}
 use Rattle.x_branches.specs.Refusals.{untried_in}
 use Rattle.lab_book.specs.Book.{path_of}
+use Rattle.debug_language.specs.declared.words.Plain.TheVariants.{NothingUntried}
 use Rattle.debug_language.specs.declared.words.Listed.TheVariants.{Chosen, Active, Second}
 use Rattle.debug_language.specs.Replies.{branch_words, covered_words, list_words, untried_words}
-use Rattle.debug_views.specs.Lines.{state_line}
+use Rattle.debug_views.specs.Lines.{state_line, plain}
 
 -- the line of the chosen item, where there is one
 abbrev pub chosen_lines : List (List ℕ) → Option (ℕ × List ℕ) → List (List (List ℕ))
@@ -39,6 +40,10 @@ runner_active r = map (list_words r.problem.names Active) (remaining_in r.proble
 abbrev pub runner_second : RunnerValue → List (List (List ℕ))
 runner_second r = map (list_words r.problem.names Second) (second_in r.problem r.position)
 
+-- the lines of all items that aren't covered where a runner stands: first the active ones
+abbrev pub runner_uncovered : RunnerValue → List (List (List ℕ))
+runner_uncovered r = runner_active r ++ runner_second r
+
 -- where the search stands, and then these
 unfoldable pub show_lines : RunnerValue → List (List (List ℕ))
 show_lines r = state_line r.position ∷ runner_branch r ∷ runner_covered r ∷ runner_chosen r ++ runner_active r ++ runner_second r
@@ -60,3 +65,7 @@ all_untried r = flat_map (untried_at r) (numbers (length r.position.path + 1) 0)
 abbrev pub or_none : List (List ℕ) → List (List (List ℕ)) → List (List (List ℕ))
 or_none none [] = none ∷ []
 or_none none (l ∷ ls) = l ∷ ls
+
+-- what a runner leaves untried, or one line that says that it leaves nothing
+abbrev pub untried_lines : RunnerValue → List (List (List ℕ))
+untried_lines r = or_none (plain NothingUntried) (all_untried r)

@@ -3,7 +3,8 @@
 --
 -- Example: the new book of the small problem has the line `branch start to end waiting`. Once that tile is held the line ends in `held`; to
 -- hold the one at the cut 4, which there isn't, is refused. proofs/ViewExamples.antt computes it.
-use Rattle.std.specs.Prelude.{ℕ, Bool, true, false, not, ◌&&◌, List, [], ◌∷◌, ◌++◌, length, map, filter, Option, Some, None}
+use Rattle.std.specs.Prelude.{ℕ, Bool, true, false, not, ◌&&◌, List, [], ◌∷◌, ◌++◌, length, map, filter, Option, Some, None, option_copied}
+use Rattle.std.specs.Borrow.{Bor}
 use Rattle.std.specs.List.{position}
 use Rattle.std.specs.Str.{bytes_eq}
 use Rattle.x_steps.specs.declared.state.State.{State}
@@ -19,12 +20,15 @@ use Rattle.lab_book.specs.declared.entry.Reply.TheVariants as replies
 use Rattle.lab_book.specs.Tile.{TileValue, is_closed}
 use Rattle.lab_book.specs.Tiling.{tile_at}
 use Rattle.lab_book.specs.Book.{BookValue, outcome, book_step, path_of}
+use Rattle.lab_book.specs.Posted.{posted_visits}
+use Rattle.debug_language.specs.declared.words.Plain.TheVariants.{NoBranches}
 use Rattle.debug_language.specs.declared.words.Counted.TheVariants as counts
 use Rattle.debug_language.specs.declared.words.Standing.{Standing}
 use Rattle.debug_language.specs.declared.words.Standing.TheVariants as standing
 use Rattle.debug_language.specs.Replies.{standing_words}
 use Rattle.x_texts.specs.Words.{visit_words}
-use Rattle.debug_views.specs.Lines.{counted, book_refusal}
+use Rattle.debug_views.specs.Lines.{plain, counted, book_refusal}
+use Rattle.debug_views.specs.Showing.{or_none}
 
 -- ---- how they are shown
 
@@ -43,11 +47,23 @@ tile_line t = standing_words (path_of t.branch.lo) (path_of t.branch.hi) (standi
 abbrev pub open_lines : List TileValue → List (List (List ℕ))
 open_lines ts = map tile_line (filter (λ t. not (is_closed t.status)) ts)
 
+-- these, or one line that says that there are none
+abbrev pub branches_lines : List TileValue → List (List (List ℕ))
+branches_lines ts = or_none (plain NoBranches) (open_lines ts)
+
 -- visits, and how many they are
 abbrev pub visits_lines : List (List ℕ) → List (List (List ℕ))
 visits_lines paths = map visit_words paths ++ counted counts.Visits (length paths) ∷ []
 
+-- the visits of all stretches that are posted, and how many they are
+abbrev pub posted_lines : List TileValue → List (List (List ℕ))
+posted_lines ts = visits_lines (posted_visits ts)
+
 -- ---- which of them a cut names
+
+-- the choices of a cut that a call is given, None for an end of the run
+abbrev pub cut : Option (Bor (List ℕ)) → Option (List ℕ)
+cut given = option_copied given
 
 -- whether two cuts are the same: both none, or the same choices
 abbrev pub same_cut : Option (List ℕ) → Option (List ℕ) → Bool
@@ -91,9 +107,17 @@ abbrev pub tile_call : Option State → ℕ → Call
 tile_call None = call.RequestStop
 tile_call (Some s) = λ id. call.PutBack id (state_value s)
 
+-- the call for the tile with an id, by the state that a function is given
+abbrev pub call_for : Option (Bor State) → ℕ → Call
+call_for given id = tile_call (option_copied given) id
+
 -- what is asked so of the tile that a cut names
 abbrev pub answer_of_cut : BookValue → Option (List ℕ) → Option State → BookAnswer
 answer_of_cut b lo s = answer_of_tile b (tile_call s) (place_at lo b.tiles)
+
+-- the same, by the cut and the state that a function is given
+abbrev pub asked : BookValue → Option (Bor (List ℕ)) → Option (Bor State) → BookAnswer
+asked b lo s = answer_of_cut b (cut lo) (option_copied s)
 
 -- `hold`
 unfoldable pub hold : BookValue → Option (List ℕ) → BookAnswer
@@ -102,3 +126,7 @@ hold b lo = answer_of_tile b call.RequestStop (place_at lo b.tiles)
 -- `putback`
 unfoldable pub put_back : BookValue → Option (List ℕ) → StateValue → BookAnswer
 put_back b lo state = answer_of_tile b (λ id. call.PutBack id state) (place_at lo b.tiles)
+
+-- `putback`, by the cut and the state that a function is given
+abbrev pub put_back_at : BookValue → Option (Bor (List ℕ)) → State → BookAnswer
+put_back_at b lo s = put_back b (cut lo) (state_value s)

@@ -1,6 +1,7 @@
 //! Which breakpoint a state meets.
-ghost use Rattle.std.specs.Prelude.{◌≡◌, ◌||◌, IfOk};
+ghost use Rattle.std.specs.Prelude.{◌≡◌, ◌||◌};
 ghost use Rattle.std.specs.List.{find, list_any};
+ghost use Rattle.cover_problem.specs.Answers.{Returns};
 ghost use Rattle.x_texts.specs.Breaks.{is_same};
 ghost use Rattle.debug_views.specs.Breakpoints.{first_met, is_item_break};
 
@@ -57,7 +58,7 @@ fn met_at_choice<T: Table>(
     runner: &Runner<'_, T>,
 ) -> Result<Option<Break>, AllocError>
     requires { runner.now.position.label ≡ Label.X4 }
-    ensures { IfOk result (λ met. met ≡ first_met runner.now.problem breaks.now.keys runner.now.position) }
+    ensures { Returns result (first_met runner.now.problem breaks.now.keys runner.now.position) }
 {
     if !has_item(breaks.as_slice()) {
         return Ok(None);
@@ -74,7 +75,7 @@ pub fn first_met<T: Table>(
     breaks: &IndexSet<Break>,
     runner: &Runner<'_, T>,
 ) -> Result<Option<Break>, AllocError>
-    ensures { IfOk result (λ met. met ≡ first_met runner.now.problem breaks.now.keys runner.now.position) }
+    ensures { Returns result (first_met runner.now.problem breaks.now.keys runner.now.position) }
 {
     if breaks.is_empty() {
         return Ok(None);

@@ -1,15 +1,12 @@
 //! Which tile a cut names, and how tiles are shown.
-ghost use Rattle.std.specs.Prelude.{◌≡◌, ◌<◌, length, option_copied, IfErr, OnOk, OnErr, IfSome};
+ghost use Rattle.std.specs.Prelude.{◌≡◌, ◌<◌, length, IfErr, OnOk, OnErr, IfSome};
 ghost use Rattle.lab_book.specs.declared.entry.Reply.TheVariants as replies;
 ghost use Rattle.lab_book.specs.Tile.{is_closed};
 ghost use Rattle.lab_book.specs.Tiling.{tile_at};
 ghost use Rattle.lab_book.specs.Calls.{Made, Refuses};
-ghost use Rattle.lab_book.specs.Posted.{posted_visits};
-ghost use Rattle.x_steps.specs.StateView.{state_value};
-ghost use Rattle.debug_views.specs.Lines.{book_refusal, plain};
-ghost use Rattle.debug_views.specs.Showing.{or_none};
-ghost use Rattle.debug_views.specs.Tiles.{is_begun_at, place_at, standing_of, tile_line, open_lines, visits_lines, tile_call, answer_of_cut, hold, put_back};
-ghost use Rattle.x_texts.specs.Writes.{WritesLine, WritesLines};
+ghost use Rattle.debug_views.specs.Lines.{book_refusal};
+ghost use Rattle.debug_views.specs.Tiles.{cut, is_begun_at, place_at, standing_of, tile_line, open_lines, branches_lines, posted_lines, call_for, asked, hold, put_back_at};
+ghost use Rattle.debug_views.specs.Saying.{Says, SaysLine};
 ghost use Rattle.debug_views.specs.Left.{IsEither};
 
 use crate::showing::choices;
@@ -33,14 +30,14 @@ fn is_closed(status: Status) -> bool
 
 /// Whether a tile begins at a cut, None for the start of the run, and isn't closed.
 fn is_begun_at(tile: &Tile<'_>, lo: Option<&[u32]>) -> bool
-    ensures { result ≡ is_begun_at (option_copied lo.entry) tile.now }
+    ensures { result ≡ is_begun_at (cut lo.entry) tile.now }
 {
     !is_closed(tile.status()) && choices(tile.lo()) == lo
 }
 
 /// The place of the tile that begins at a cut and isn't closed.
 pub fn place_at(book: &Book<'_>, lo: Option<&[u32]>) -> Option<usize>
-    ensures place { result ≡ place_at (option_copied lo.entry) book.now.tiles }
+    ensures place { result ≡ place_at (cut lo.entry) book.now.tiles }
     ensures within { IfSome result (λ i. i < length book.now.tiles) }
 {
     book.tiles().iter().position(|tile| is_begun_at(tile, lo))
@@ -59,7 +56,7 @@ fn standing_of(status: Status) -> Standing
 
 /// Writes a tile: its cuts, and how it stands.
 pub fn write_tile(text: &mut Vec<u8>, tile: &Tile<'_>) -> Result<(), AllocError>
-    ensures { OnOk result (WritesLine text.old text.new (tile_line tile.now)) }
+    ensures { SaysLine result text.old text.new (tile_line tile.now) }
 {
     write_standing(
         text,
@@ -71,7 +68,7 @@ pub fn write_tile(text: &mut Vec<u8>, tile: &Tile<'_>) -> Result<(), AllocError>
 
 /// Writes the tiles that are not closed.
 fn write_open(text: &mut Vec<u8>, tiles: &[Tile<'_>]) -> Result<(), AllocError>
-    ensures { OnOk result (WritesLines text.old text.new (open_lines tiles.now)) }
+    ensures { Says result text.old text.new (open_lines tiles.now) }
 {
     for tile in tiles {
         if !is_closed(tile.status()) {
@@ -83,7 +80,7 @@ fn write_open(text: &mut Vec<u8>, tiles: &[Tile<'_>]) -> Result<(), AllocError>
 
 /// `branches`: the tiles that are not closed.
 pub fn branches(book: &Book<'_>, text: &mut Vec<u8>) -> Result<(), AllocError>
-    ensures { OnOk result (WritesLines text.old text.new (or_none (plain Plain.NoBranches) (open_lines book.now.tiles))) }
+    ensures { Says result text.old text.new (branches_lines book.now.tiles) }
 {
     let written = text.len();
     write_open(text, book.tiles())?;
@@ -95,7 +92,7 @@ pub fn branches(book: &Book<'_>, text: &mut Vec<u8>) -> Result<(), AllocError>
 
 /// `visits`: the posted visits, and how many they are.
 pub fn write_posted(book: &Book<'_>, text: &mut Vec<u8>) -> Result<(), AllocError>
-    ensures { OnOk result (WritesLines text.old text.new (visits_lines (posted_visits book.now.tiles))) }
+    ensures { Says result text.old text.new (posted_lines book.now.tiles) }
 {
     let visits = book.visits()?;
     write_visits(text, &visits)?;
@@ -104,7 +101,7 @@ pub fn write_posted(book: &Book<'_>, text: &mut Vec<u8>) -> Result<(), AllocErro
 
 /// Writes the line of a refusal by the book. Out of memory has none, and is passed on.
 pub fn write_book_fault(text: &mut Vec<u8>, fault: &BookFault) -> Result<(), AllocError>
-    ensures text { OnOk result (WritesLine text.old text.new (book_refusal fault.now)) }
+    ensures text { SaysLine result text.old text.new (book_refusal fault.now) }
     ensures told { OnOk result (fault.now ≡ BookFault.OutOfMemory → ⊥) }
 {
     match fault.number() {
@@ -124,15 +121,15 @@ fn id_at(book: &Book<'_>, place: usize) -> u64
 /// Writes the tile at a place.
 fn write_tile_at(text: &mut Vec<u8>, book: &Book<'_>, place: usize) -> Result<(), AllocError>
     requires { place < length book.now.tiles }
-    ensures { OnOk result (WritesLine text.old text.new (tile_line (tile_at book.now.tiles place))) }
+    ensures { SaysLine result text.old text.new (tile_line (tile_at book.now.tiles place)) }
 {
     write_tile(text, &book.tiles()[place])
 }
 
 /// Asks the tile with an id to go back to a state, where there is one, and else to stop.
 fn ask(book: &mut Book<'_>, id: u64, state: Option<&State>) -> Result<(), BookFault>
-    ensures made { OnOk result (Made book.old book.new 0 (tile_call (option_copied state.entry) id) replies.Done) }
-    ensures refused { IfErr result (λ f. Refuses book.old book.new 0 (tile_call (option_copied state.entry) id) f) }
+    ensures made { OnOk result (Made book.old book.new 0 (call_for state.entry id) replies.Done) }
+    ensures refused { IfErr result (λ f. Refuses book.old book.new 0 (call_for state.entry id) f) }
 {
     match state {
         Some(state) => book.put_back(0, id, state),
@@ -147,11 +144,9 @@ fn ask_tile(
     state: Option<&State>,
     text: &mut Vec<u8>,
 ) -> Result<(), AllocError>
-    ensures made { OnOk result (book.new ≡ (answer_of_cut book.old (option_copied lo.entry) (option_copied state.entry)).book) }
-    ensures text { OnOk result (WritesLines text.old text.new
-        (answer_of_cut book.old (option_copied lo.entry) (option_copied state.entry)).lines) }
-    ensures left { OnErr result (IsEither book.new book.old (answer_of_cut book.old (option_copied lo.entry)
-        (option_copied state.entry)).book) }
+    ensures made { OnOk result (book.new ≡ (asked book.old lo.entry state.entry).book) }
+    ensures text { Says result text.old text.new (asked book.old lo.entry state.entry).lines }
+    ensures left { OnErr result (IsEither book.new book.old (asked book.old lo.entry state.entry).book) }
 {
     let Some(place) = place_at(book, lo) else {
         return write_book_fault(text, &BookFault::UnknownBranch);
@@ -166,9 +161,9 @@ fn ask_tile(
 /// `hold`: asks the tile that begins at a cut, and isn't closed, to stop. Refused where there is none.
 #[tactic(auto, unfolding(crate::specs::Tiles::hold))]
 pub fn hold(book: &mut Book<'_>, lo: Option<&[u32]>, text: &mut Vec<u8>) -> Result<(), AllocError>
-    ensures made { OnOk result (book.new ≡ (hold book.old (option_copied lo.entry)).book) }
-    ensures text { OnOk result (WritesLines text.old text.new (hold book.old (option_copied lo.entry)).lines) }
-    ensures left { OnErr result (IsEither book.new book.old (hold book.old (option_copied lo.entry)).book) }
+    ensures made { OnOk result (book.new ≡ (hold book.old (cut lo.entry)).book) }
+    ensures text { Says result text.old text.new (hold book.old (cut lo.entry)).lines }
+    ensures left { OnErr result (IsEither book.new book.old (hold book.old (cut lo.entry)).book) }
 {
     ask_tile(book, lo, None, text)
 }
@@ -182,11 +177,9 @@ pub fn put_back(
     state: &State,
     text: &mut Vec<u8>,
 ) -> Result<(), AllocError>
-    ensures made { OnOk result (book.new ≡ (put_back book.old (option_copied lo.entry) (state_value state.now)).book) }
-    ensures text { OnOk result (WritesLines text.old text.new
-        (put_back book.old (option_copied lo.entry) (state_value state.now)).lines) }
-    ensures left { OnErr result (IsEither book.new book.old (put_back book.old (option_copied lo.entry)
-        (state_value state.now)).book) }
+    ensures made { OnOk result (book.new ≡ (put_back_at book.old lo.entry state.now).book) }
+    ensures text { Says result text.old text.new (put_back_at book.old lo.entry state.now).lines }
+    ensures left { OnErr result (IsEither book.new book.old (put_back_at book.old lo.entry state.now).book) }
 {
     ask_tile(book, lo, Some(state), text)
 }

@@ -1,7 +1,6 @@
 //! Which tile a cut names, and how tiles are shown.
 ghost use Rattle.std.specs.Prelude.{◌≡◌, ◌<◌, length, IfErr, OnOk, OnErr, IfSome};
 ghost use Rattle.lab_book.specs.declared.entry.Reply.TheVariants as replies;
-ghost use Rattle.lab_book.specs.Tile.{is_closed};
 ghost use Rattle.lab_book.specs.Tiling.{tile_at};
 ghost use Rattle.lab_book.specs.Calls.{Made, Refuses};
 ghost use Rattle.debug_views.specs.Lines.{book_refusal};
@@ -18,21 +17,11 @@ use std::alloc::AllocError;
 use x_steps::State;
 use x_texts::write_visits;
 
-/// Whether a tile is closed.
-fn is_closed(status: Status) -> bool
-    ensures { result ≡ is_closed status }
-{
-    match status {
-        Status::Closed => true,
-        _ => false,
-    }
-}
-
 /// Whether a tile begins at a cut, None for the start of the run, and isn't closed.
 fn is_begun_at(tile: &Tile<'_>, lo: Option<&[u32]>) -> bool
     ensures { result ≡ is_begun_at (cut lo.entry) tile.now }
 {
-    !is_closed(tile.status()) && choices(tile.lo()) == lo
+    !tile.status().is_closed() && choices(tile.lo()) == lo
 }
 
 /// The place of the tile that begins at a cut and isn't closed.
@@ -71,7 +60,7 @@ fn write_open(text: &mut Vec<u8>, tiles: &[Tile<'_>]) -> Result<(), AllocError>
     ensures { Says result text.old text.new (open_lines tiles.now) }
 {
     for tile in tiles {
-        if !is_closed(tile.status()) {
+        if !tile.status().is_closed() {
             write_tile(text, tile)?;
         }
     }

@@ -1,4 +1,8 @@
--- What a seat notes of its calls.
+-- What a seat notes of its calls: a note (`noted`), and the one that a row of numbers tells (`note_of`); a seat and its notes (`SeatValue`,
+-- `SheetValue`); the notes that a history has for a worker (`notes_of`); and that one call more is noted (`Notes`, `NotesRefusal`).
+--
+-- Example: worker 0 leases, then worker 1, for whom none waits, and then worker 0 parks: the notes of worker 0 are the entries 0 and 2. The
+-- numbers 1 1 1 1 tell the note of entry 1. proofs/DeskExamples.antt computes it.
 use Rattle.std.specs.Prelude.{◌≡◌, ℕ, ◌+◌, ◌==◌, ◌⊎◌, List, [], ◌∷◌, ◌++◌, cond, drop, map, slice_index}
 use Rattle.std.specs.Prelude.{Option, MatchOption, Result, IfOk, IfErr, OnOk}
 use Rattle.cover_problem.specs.Problem.{ProblemValue}

@@ -1,4 +1,9 @@
--- Desks, and what the notes of their seats say of a history.
+-- Desks (`DeskValue`), and what the notes of their seats say of a history: seats as they are made (`AreNewSeats`), that each number is one
+-- seat's (`HaveAllNumbers`), that their notes are a history's entries (`AreRecords`), and whether these are of so many workers
+-- (`are_of_workers`).
+--
+-- Example: the seats 1 and 0 have all numbers below 2. Entries of the workers 0 and 1 are of workers below 2, and not below 1.
+-- proofs/DeskExamples.antt computes it.
 use Rattle.std.specs.Prelude.{◌≡◌, ◌<◌, ◌==◌, ℕ, nat_lt, Bool, List, [], slice_get, count_by, drop, true, Some}
 use Rattle.std.specs.List.{list_all}
 use Rattle.lab_book.specs.declared.entry.Entry.{Entry}

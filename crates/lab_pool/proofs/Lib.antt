@@ -1,1 +1,2 @@
 mod DoneLemmas
+mod PoolExamples

@@ -1,4 +1,6 @@
--- The numbers and names of the refusals.
+-- The number (`number_of`) and the name (`name_of`) of each refusal of a pool.
+--
+-- Example: `Held` has the number 3 and its own name. proofs/PoolExamples.antt computes it.
 use Rattle.std.specs.Prelude.{ℕ, List, codes}
 use Rattle.lab_pool.specs.declared.fault.PoolFault.{PoolFault}
 use Rattle.lab_pool.specs.declared.fault.PoolFault.TheVariants.{BadWorkerCount, OutOfMemory, Held, NoThread, Mismatch}

@@ -1,0 +1,66 @@
+-- The examples of specs/Faults.antt and specs/Pool.antt, on the small problem.
+use Rattle.std.proofs.Common.{◌≡◌, zero, suc, true, false, Some, None, List, [], ◌∷◌, codes, refl, arith}
+use Rattle.x_steps.specs.StateValue.{done}
+use Rattle.x_branches.specs.Branch.{first_of}
+use Rattle.lab_book.specs.declared.status.Status.TheVariants.{Waiting, Held}
+use Rattle.lab_book.specs.declared.lease.Grant.{Grant}
+use Rattle.lab_book.specs.declared.entry.Call.{Call}
+use Rattle.lab_book.specs.declared.entry.Call.TheVariants as call
+use Rattle.lab_book.specs.declared.entry.Reply.{Reply}
+use Rattle.lab_book.specs.declared.entry.Reply.TheVariants as reply
+use Rattle.lab_book.specs.declared.entry.Entry.{Entry}
+use Rattle.lab_book.specs.Book.{BookValue}
+use Rattle.alike_books.specs.Searched.{searched, ArePoolCalls}
+use Rattle.alike_books.proofs.AlikeExamples.{cut, in_two}
+use Rattle.lab_pool.specs.declared.fault.PoolFault.TheVariants as faults
+use Rattle.lab_pool.specs.Faults.{number_of, name_of}
+use Rattle.lab_pool.specs.Pool.{GoesOn, GivenBack, OnlyHeld, IsDone}
+
+-- ---- specs/Faults.antt
+
+its_number : number_of faults.Held ≡ 3
+its_number = refl
+
+its_name : name_of faults.Held ≡ codes "Held"
+its_name = refl
+
+-- ---- specs/Pool.antt
+
+-- worker 0's lease of the tile behind the cut 4
+abbrev lease : Grant
+lease = record { id = 1; worker = 0; index = 0 }
+
+abbrev by_zero : Call → Reply → Entry
+by_zero c r = record { worker = 0; call = c; reply = r }
+
+-- it is leased, posted in one stretch, and closed
+abbrev entries : List Entry
+entries =
+    by_zero call.LeaseAny (reply.Leased lease (Some (4 ∷ [])) None (first_of (cut 4)) 0)
+    ∷ by_zero (call.Post lease (first_of (cut 4)) done true) (reply.Posted false 0)
+    ∷ by_zero (call.Close lease) reply.Done ∷ []
+
+-- the book that is left
+abbrev finished : BookValue
+finished = record (searched (in_two Waiting)) { history = entries }
+
+goes_on : GoesOn (in_two Waiting) finished
+goes_on = record { problem = refl; branch = refl; first = refl; history = refl }
+
+given_back : GivenBack (in_two Waiting) finished
+given_back = record { on = goes_on; free = refl }
+
+none_open : OnlyHeld (in_two Waiting) finished
+none_open = refl
+
+its_calls : ArePoolCalls entries
+its_calls zero d h = refl
+its_calls (suc zero) d h = refl
+its_calls (suc (suc zero)) d h = refl
+its_calls (suc (suc (suc k))) d h = absurd (omega (arith, h))
+
+is_done : IsDone 0 finished
+is_done = record { calls = its_calls; none_waits = refl; none_leased = refl }
+
+held_stays_open : OnlyHeld (in_two Held) (searched (in_two Held))
+held_stays_open = refl

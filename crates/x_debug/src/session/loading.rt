@@ -1,15 +1,14 @@
 //! A session goes on from a snapshot.
 ghost use Rattle.std.specs.Prelude.{◌≡◌, ◌↔◌, true, false, Some, IsTrue, IfOk, OnOk, OnErr};
 ghost use Rattle.std.specs.List.{list_all};
+ghost use Rattle.cover_problem.specs.Answers.{Returns};
 ghost use Rattle.cover_problem.specs.Problem.{is_same};
 ghost use Rattle.x_texts.specs.Breaks.{is_break};
-ghost use Rattle.x_snapshot.specs.Snapshot.{branch_between, started};
-ghost use Rattle.x_snapshot.specs.Judged.{judged_parts};
 ghost use Rattle.lab_book.specs.Book.{new_book};
 ghost use Rattle.lab_world.specs.World.{IsSeat};
 ghost use Rattle.debug_acts.specs.Desk.{desk};
-ghost use Rattle.x_debug.specs.Loading.{resumed, with_some, seated, loaded, load_by, load_answer};
-ghost use Rattle.x_texts.specs.Writes.{Writes};
+ghost use Rattle.x_debug.specs.Loading.{started_on, resumed, with_some, seated, loaded, load_parts, load_answer};
+ghost use Rattle.x_debug.specs.Commands.{Replies};
 
 use crate::session::{Reply, Session};
 use cover_problem::{Problem, Table};
@@ -43,7 +42,7 @@ fn book_at<'p, T: Table>(
     runner: &Runner<'p, T>,
 ) -> Result<Book<'p>, AllocError>
     requires { runner.now.problem ≡ problem.now }
-    ensures { IfOk result (λ book. book ≡ new_book problem.now runner.now.branch runner.now.position) }
+    ensures { Returns result (new_book problem.now runner.now.branch runner.now.position) }
 {
     let state = runner.state();
     Book::started(alloc, problem, runner.branch(), state)
@@ -57,7 +56,7 @@ fn desk_of<'p, T: Table>(
     runner: Runner<'p, T>,
 ) -> Result<(Book<'p>, Worker<'p, T>), AllocError>
     requires same { draft.now.problem ≡ problem.now }
-    requires runner { runner ≡ started problem.now (branch_between problem.now draft.now.lo draft.now.hi) draft.now.state }
+    requires runner { runner ≡ started_on problem.now draft.now }
     ensures made { IfOk result (λ r. desk r.0 (Some r.1) ≡ resumed draft.now) }
     ensures seat { IfOk result (λ r. IsSeat r.0 0 (Some r.1)) }
 {
@@ -96,8 +95,7 @@ impl<'p, T: Table> Session<'p, T> {
         runner: Runner<'p, T>,
     ) -> Result<(), AllocError>
         requires same { draft.now.problem ≡ self.old.book.problem }
-        requires runner { runner ≡ started self.old.book.problem
-            (branch_between self.old.book.problem draft.now.lo draft.now.hi) draft.now.state }
+        requires runner { runner ≡ started_on self.old.book.problem draft.now }
         ensures made { OnOk result (self.new ≡ loaded self.old draft.now) }
         ensures unchanged { OnErr result (self.new ≡ self.old) }
     {
@@ -114,8 +112,8 @@ impl<'p, T: Table> Session<'p, T> {
     fn go_on(&mut self, alloc: Global, draft: &Draft, text: &mut Vec<u8>) -> Result<(), AllocError>
         requires same { draft.now.problem ≡ self.old.book.problem }
         requires test { is_same draft.now.problem self.old.book.problem ≡ true }
-        ensures reply { OnOk result (Writes text.old text.new (load_by self.old (judged_parts draft.now)).text) }
-        ensures session { OnOk result (self.new ≡ (load_by self.old (judged_parts draft.now)).session) }
+        ensures reply { Replies result text.old text.new (load_parts self.old draft.now) }
+        ensures session { OnOk result (self.new ≡ (load_parts self.old draft.now).session) }
         ensures unchanged { OnErr result (self.new ≡ self.old) }
     {
         match draft.runner(alloc, self.book.problem()) {
@@ -135,8 +133,8 @@ impl<'p, T: Table> Session<'p, T> {
         text: &mut Vec<u8>,
     ) -> Result<(), AllocError>
         requires { is_same draft.now.problem self.now.book.problem ≡ false }
-        ensures reply { OnOk result (Writes text.old text.new (load_by self.now (judged_parts draft.now)).text) }
-        ensures session { OnOk result (self.now ≡ (load_by self.now (judged_parts draft.now)).session) }
+        ensures reply { Replies result text.old text.new (load_parts self.now draft.now) }
+        ensures session { OnOk result (self.now ≡ (load_parts self.now draft.now).session) }
     {
         match draft.check(alloc) {
             Ok(()) => write_book_fault(text, &BookFault::ForeignProblem),
@@ -159,7 +157,7 @@ impl<'p, T: Table> Session<'p, T> {
         bytes: &[u8],
         text: &mut Vec<u8>,
     ) -> Result<(), AllocError>
-        ensures reply { OnOk result (Writes text.old text.new (load_answer self.old bytes.now).text) }
+        ensures reply { Replies result text.old text.new (load_answer self.old bytes.now) }
         ensures session { OnOk result (self.new ≡ (load_answer self.old bytes.now).session) }
         ensures unchanged { OnErr result (self.new ≡ self.old) }
     {

@@ -2,7 +2,7 @@
 --
 -- Example: in the new book of the small problem the branch from the start opens with the line `at X1 -`; the one from the cut 4, which
 -- there isn't, is refused. proofs/ActExamples.antt computes both.
-use Rattle.std.specs.Prelude.{ℕ, List, [], ◌∷◌, Option, Some, None, if◌then◌else◌}
+use Rattle.std.specs.Prelude.{ℕ, ◌≡◌, ◌⊎◌, List, [], ◌∷◌, Option, Some, None, if◌then◌else◌}
 use Rattle.text_lines.specs.Writing.{line_text, text_of}
 use Rattle.lab_book.specs.declared.fault.BookFault.TheVariants.{UnknownBranch}
 use Rattle.lab_book.specs.declared.entry.Call.{Call}
@@ -24,6 +24,10 @@ abbrev pub stand_lines : Option WorkerValue → List (List (List ℕ))
 stand_lines (Some w) = state_line w.runner.position ∷ []
 stand_lines None = []
 
+-- the call that enters the tile at a place
+abbrev pub entering : BookValue → ℕ → Call
+entering b i = enter_call (tile_at b.tiles i)
+
 -- worker 0 makes a call that leases, and stands where its tile's mark is; or the book's refusal
 abbrev pub lent_by : BookValue → Call → DeskAnswer
 lent_by b c =
@@ -33,11 +37,19 @@ lent_by b c =
       desk = desk (book_step b 0 c) (lent_worker b.problem r);
     }
 
+-- the tile at a place is entered
+abbrev pub lent_at : BookValue → ℕ → DeskAnswer
+lent_at b i = lent_by b (entering b i)
+
 -- the tile at a place is entered; where there is none it is refused, and the book isn't called
 abbrev pub entered_at : BookValue → Option ℕ → DeskAnswer
 entered_at b None = record { text = line_text (book_refusal UnknownBranch); desk = desk b None }
-entered_at b (Some i) = lent_by b (enter_call (tile_at b.tiles i))
+entered_at b (Some i) = lent_at b i
 
 -- the tile that begins at a cut, and isn't closed
 unfoldable pub enter : BookValue → Option (List ℕ) → DeskAnswer
 enter b lo = entered_at b (place_at lo b.tiles)
+
+-- where a book is left of which no branch was entered, out of memory: as it was, or as this answer leaves it, and then there is no worker
+abbrev pub IsNotEntered : BookValue → BookValue → DeskAnswer → Type 0
+IsNotEntered old new a = (new ≡ old) ⊎ (desk new None ≡ a.desk)

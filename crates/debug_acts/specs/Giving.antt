@@ -1,7 +1,7 @@
 -- A branch is given up: `park`, `save` (a snapshot first), or `close` at its end.
 --
 -- Example: `park` at the start of the small problem answers `parked`. proofs/ActExamples.antt computes it.
-use Rattle.std.specs.Prelude.{◌==◌, List, Some, None, if◌then◌else◌}
+use Rattle.std.specs.Prelude.{ℕ, ◌==◌, List, Some, None, if◌then◌else◌}
 use Rattle.text_lines.specs.Writing.{line_text}
 use Rattle.x_texts.specs.declared.breakpoint.Break.{Break}
 use Rattle.x_snapshot.specs.Snapshot.{SnapshotValue, snapshot_with}
@@ -30,9 +30,13 @@ park a = record { text = line_text (plain Parked); desk = desk (parked a) None }
 abbrev pub snapshot_of_worker : WorkerValue → List Break → SnapshotValue
 snapshot_of_worker w breaks = snapshot_with w.runner.problem (path_of w.runner.branch.lo) (path_of w.runner.branch.hi) w.runner.position breaks
 
+-- the text of that, after the number of its lines
+abbrev pub save_text : WorkerValue → List Break → List ℕ
+save_text w breaks = saved_text (snapshot_text (snapshot_of_worker w breaks))
+
 -- `save`, with these breakpoints
 abbrev pub save : AtWork → List Break → DeskAnswer
-save a breaks = record { text = saved_text (snapshot_text (snapshot_of_worker a.worker breaks)); desk = desk (parked a) None }
+save a breaks = record { text = save_text a.worker breaks; desk = desk (parked a) None }
 
 -- what isn't posted is posted, and the tile is closed
 unfoldable pub closed : AtWork → BookValue

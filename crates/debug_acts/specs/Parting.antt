@@ -2,6 +2,7 @@
 use Rattle.std.specs.Prelude.{ℕ, ◌==◌, true, List, [], ◌∷◌, Some, length, if◌then◌else◌}
 use Rattle.cover_problem.specs.Lists.{has}
 use Rattle.x_branches.specs.declared.fault.RunnerFault.TheVariants.{NotAtMark}
+use Rattle.x_branches.specs.declared.branch.Branch.{Branch}
 use Rattle.x_branches.specs.Cut.{CutPath}
 use Rattle.x_branches.specs.Runner.{RunnerValue, unposted_steps}
 use Rattle.x_branches.specs.Refusals.{untried_in, cut_at}
@@ -28,6 +29,10 @@ parted a cut = work (book_step a.book a.worker.grant.worker (call.Split a.worker
 abbrev pub parted_line : RunnerValue → CutPath → List (List ℕ)
 parted_line r cut = standing_words (Some cut.path) (path_of r.branch.hi) standing.Waiting
 
+-- the line of the branch that goes on where a runner's branch ends, up to the end of this one
+abbrev pub rest_line : RunnerValue → Branch → List (List ℕ)
+rest_line r b = standing_words (path_of r.branch.hi) (path_of b.hi) standing.Waiting
+
 -- `split` at option o of a level: the tile is parted there where the option is untried; else the lines say why it isn't, and nothing
 -- changes
 abbrev pub split : AtWork → ℕ → ℕ → WorkAnswer
@@ -41,6 +46,10 @@ split a level o =
 -- the book, once it was asked for the last stretch of a worker's tile
 abbrev pub book_asked : AtWork → BookValue
 book_asked a = book_step a.book a.worker.grant.worker (call.Retract a.worker.grant)
+
+-- how many steps a runner took back, which aren't posted now, and where it stands
+abbrev pub retracted_lines : RunnerValue → List (List (List ℕ))
+retracted_lines r = counted counts.Retracted (unposted_steps r) ∷ state_line r.position ∷ []
 
 -- the worker as the book's answer leaves it, and what is answered
 abbrev pub retracted_by : AtWork → Reply → WorkAnswer

@@ -5,10 +5,12 @@
 use Rattle.std.specs.Prelude.{ℕ, zero, suc, ◌≤◌, ◌≡◌, ◌⊎◌, ◌-◌, ◌==◌, nat_lt, true, if◌then◌else◌, List, [], ◌∷◌, ◌++◌, map, Option, Some, None}
 use Rattle.cover_problem.specs.Problem.{ProblemValue}
 use Rattle.x_steps.specs.StateValue.{StateValue}
+use Rattle.x_steps.specs.declared.event.Event.{Event}
 use Rattle.x_steps.specs.Steps.{next}
+use Rattle.x_steps.specs.Walk.{visit_told}
 use Rattle.x_steps.specs.Run.{after, steps_between, visits_between}
 use Rattle.x_branches.specs.Branch.{end_of}
-use Rattle.x_branches.specs.Runner.{RunnerValue, unposted_steps}
+use Rattle.x_branches.specs.Runner.{RunnerValue, unposted_steps, visit_of}
 use Rattle.x_branches.specs.Refusals.{most_steps}
 use Rattle.x_texts.specs.declared.breakpoint.Break.{Break}
 use Rattle.lab_book.specs.declared.entry.Call.{Call}
@@ -22,6 +24,7 @@ use Rattle.debug_language.specs.declared.words.Counted.TheVariants.{Moved}
 use Rattle.x_texts.specs.Words.{visit_words}
 use Rattle.debug_views.specs.Breakpoints.{first_met, steps_to_break}
 use Rattle.debug_views.specs.Lines.{plain, counted, state_line, met, debug_refusal}
+use Rattle.debug_views.specs.Left.{IsEither}
 
 -- how many steps lead from a runner on to the end of its branch
 abbrev pub steps_ahead : RunnerValue → ℕ
@@ -58,6 +61,26 @@ pub record IsPartWay (a b : AtWork) (most : ℕ) : Type 0 where
   pub within : steps ≤ most
   pub left : (b ≡ forward steps a) ⊎ (b ≡ with_room (forward steps a))
 
+-- a book and its worker, as they were and as they are: they have gone so many steps on
+abbrev pub Walks : BookValue → WorkerValue → BookValue → WorkerValue → ℕ → Type 0
+Walks b w c v n = work c v ≡ forward n (work b w)
+
+-- or they have gone some of so many
+abbrev pub WalksSome : BookValue → WorkerValue → BookValue → WorkerValue → ℕ → Type 0
+WalksSome b w c v most = IsPartWay (work b w) (work c v) most
+
+-- where they are left that couldn't take one step, out of memory: as they were, or with a stretch posted that was full
+abbrev pub IsNotStepped : BookValue → WorkerValue → BookValue → WorkerValue → Type 0
+IsNotStepped b w c v = IsEither (work c v) (work b w) (with_room (work b w))
+
+-- the line of a runner's next step, if that is a visit
+abbrev pub next_visit : RunnerValue → List (List (List ℕ))
+next_visit r = map visit_words (visit_of r.problem r.position)
+
+-- the line of the visit that a runner's walk came to, if it did
+abbrev pub told_visit : Event → RunnerValue → List (List (List ℕ))
+told_visit event r = map visit_words (visit_told event r.position.path)
+
 -- the lines of the visits between two states
 abbrev pub visit_lines : ProblemValue → StateValue → StateValue → List (List (List ℕ))
 visit_lines p s t = map visit_words (visits_between p s t)
@@ -74,6 +97,10 @@ state_on r n = after r.problem n r.position
 abbrev pub visits_on : RunnerValue → ℕ → List (List (List ℕ))
 visits_on r n = visit_lines r.problem r.position (state_on r n)
 
+-- the lines of its visits up to the end of its branch
+abbrev pub visits_ahead : RunnerValue → List (List (List ℕ))
+visits_ahead r = visits_on r (steps_ahead r)
+
 -- after so many steps: the visits, how many steps there were, and where the search stands
 abbrev pub walk_lines : RunnerValue → ℕ → List (List (List ℕ))
 walk_lines r n = visits_on r n ++ moved_lines n (state_on r n)
@@ -87,6 +114,18 @@ smaller_of m n = if nat_lt m n then m else n
 -- how many steps `step` takes of n that are asked for: no more than lead to the end of the branch
 abbrev pub step_count : RunnerValue → ℕ → ℕ
 step_count r n = smaller_of n (steps_ahead r)
+
+-- the lines of its visits
+abbrev pub step_visits : RunnerValue → ℕ → List (List (List ℕ))
+step_visits r n = visits_on r (step_count r n)
+
+-- a book and its worker have gone on as `step` goes where n steps are asked for
+abbrev pub StepsOn : BookValue → WorkerValue → BookValue → WorkerValue → ℕ → Type 0
+StepsOn b w c v n = Walks b w c v (step_count w.runner n)
+
+-- or have gone some of its steps
+abbrev pub StepsSome : BookValue → WorkerValue → BookValue → WorkerValue → ℕ → Type 0
+StepsSome b w c v n = WalksSome b w c v (step_count w.runner n)
 
 -- one line more at the end
 abbrev pub end_lines : RunnerValue → ℕ → List (List (List ℕ))
@@ -108,6 +147,22 @@ step a n = answered (step_lines a.worker.runner n) (forward (step_count a.worker
 abbrev pub run_count : List Break → RunnerValue → ℕ
 run_count breaks r = if steps_ahead r == 0 then 0 else steps_to_break r.problem breaks r.position (end_of r.branch.hi)
 
+-- the lines of its visits
+abbrev pub run_visits : List Break → RunnerValue → List (List (List ℕ))
+run_visits breaks r = visits_on r (run_count breaks r)
+
+-- the breakpoint that it stops at, if it meets one
+abbrev pub run_met : List Break → RunnerValue → Option Break
+run_met breaks r = first_met r.problem breaks (state_on r (run_count breaks r))
+
+-- a book and its worker have gone on as `run` goes with these breakpoints
+abbrev pub RunsOn : BookValue → WorkerValue → BookValue → WorkerValue → List Break → Type 0
+RunsOn b w c v breaks = Walks b w c v (run_count breaks w.runner)
+
+-- or have gone some of its steps
+abbrev pub RunsSome : BookValue → WorkerValue → BookValue → WorkerValue → List Break → Type 0
+RunsSome b w c v breaks = WalksSome b w c v (run_count breaks w.runner)
+
 -- the breakpoint that was met, or else the end
 abbrev pub stop_line : List (List ℕ) → Option Break → List (List ℕ)
 stop_line names (Some b) = met names b
@@ -117,7 +172,7 @@ stop_line names None = plain End
 abbrev pub run_lines : List Break → RunnerValue → List (List (List ℕ))
 run_lines breaks r =
     if steps_ahead r == 0 then debug_refusal AtEnd ∷ [] else
-    walk_lines r (run_count breaks r) ++ stop_line r.problem.names (first_met r.problem breaks (state_on r (run_count breaks r))) ∷ []
+    walk_lines r (run_count breaks r) ++ stop_line r.problem.names (run_met breaks r) ∷ []
 
 -- `run` with these breakpoints
 abbrev pub run : AtWork → List Break → WorkAnswer

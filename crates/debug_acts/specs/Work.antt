@@ -1,7 +1,8 @@
 -- A book and a worker that holds one of its tiles, and what a command to that worker is answered.
-use Rattle.std.specs.Prelude.{ℕ, List}
+use Rattle.std.specs.Prelude.{ℕ, ◌≡◌, List, Result, OnOk, OnErr}
 use Rattle.lab_book.specs.Book.{BookValue}
 use Rattle.lab_world.specs.Worker.{WorkerValue}
+use Rattle.debug_views.specs.Left.{IsEither}
 
 -- a book, and a worker that holds one of its tiles
 pub record AtWork : Type 0 where
@@ -20,3 +21,11 @@ pub record WorkAnswer : Type 0 where
 -- these lines, and this book with this worker
 abbrev pub answered : List (List (List ℕ)) → AtWork → WorkAnswer
 answered lines a = record { lines = lines; work = a }
+
+-- a call does what a command says: unless it has an error, a book and its worker are left as the command leaves them
+abbrev pub Does : {X E : Type 0} → Result X E → BookValue → WorkerValue → BookValue → WorkerValue → (AtWork → WorkAnswer) → Type 0
+Does result b w c v command = OnOk result (work c v ≡ (command (work b w)).work)
+
+-- where it has an error, they are as they were, or as the command leaves them
+abbrev pub MayDo : {X E : Type 0} → Result X E → BookValue → WorkerValue → BookValue → WorkerValue → (AtWork → WorkAnswer) → Type 0
+MayDo result b w c v command = OnErr result (IsEither (work c v) (work b w) (command (work b w)).work)

@@ -1,14 +1,14 @@
 //! A branch of the book is opened.
-ghost use Rattle.std.specs.Prelude.{◌≡◌, ◌<◌, ◌⊎◌, None, Some, length, option_copied, IfOk, IfErr, OnOk, OnErr};
+ghost use Rattle.std.specs.Prelude.{◌≡◌, ◌<◌, Some, length, IfOk, IfErr, OnOk, OnErr};
 ghost use Rattle.lab_book.specs.Tile.{is_held};
-ghost use Rattle.lab_book.specs.Tiling.{tile_at};
-ghost use Rattle.lab_book.specs.Book.{outcome, book_step};
+ghost use Rattle.lab_book.specs.Book.{book_step};
 ghost use Rattle.lab_book.specs.Calls.{Refuses};
-ghost use Rattle.lab_world.specs.Worker.{HoldsTile, lent_worker};
+ghost use Rattle.lab_world.specs.Worker.{HoldsTile};
 ghost use Rattle.lab_world.specs.World.{IsSeat};
 ghost use Rattle.debug_acts.specs.Desk.{desk};
-ghost use Rattle.debug_acts.specs.Entering.{enter_call, lent_by, enter};
-ghost use Rattle.x_texts.specs.Writes.{Writes};
+ghost use Rattle.debug_acts.specs.Entering.{entering, lent_at, enter, IsNotEntered};
+ghost use Rattle.debug_views.specs.Tiles.{cut};
+ghost use Rattle.debug_views.specs.Saying.{SaysText};
 
 use cover_problem::Table;
 use debug_language::write_at;
@@ -34,10 +34,9 @@ fn lend<'p, T: Table>(
     place: usize,
 ) -> Result<Worker<'p, T>, BookFault>
     requires { place < length book.old.tiles }
-    ensures book { OnOk result (book.new ≡ book_step book.old 0 (enter_call (tile_at book.old.tiles place))) }
-    ensures worker { IfOk result (λ x. Some x ≡
-        lent_worker book.old.problem (outcome book.old 0 (enter_call (tile_at book.old.tiles place))).reply) }
-    ensures refused { IfErr result (λ f. Refuses book.old book.new 0 (enter_call (tile_at book.old.tiles place)) f) }
+    ensures book { OnOk result (book.new ≡ book_step book.old 0 (entering book.old place)) }
+    ensures worker { IfOk result (λ x. Some x ≡ (lent_at book.old place).desk.worker) }
+    ensures refused { IfErr result (λ f. Refuses book.old book.new 0 (entering book.old place) f) }
 {
     let tile = &book.tiles()[place];
     let id = tile.id();
@@ -56,11 +55,9 @@ fn enter_at<'p, T: Table>(
     text: &mut Vec<u8>,
 ) -> Result<Option<Worker<'p, T>>, AllocError>
     requires { place < length book.old.tiles }
-    ensures made { IfOk result (λ worker. desk book.new worker ≡
-        (lent_by book.old (enter_call (tile_at book.old.tiles place))).desk) }
-    ensures text { OnOk result (Writes text.old text.new (lent_by book.old (enter_call (tile_at book.old.tiles place))).text) }
-    ensures left { OnErr result ((book.new ≡ book.old)
-        ⊎ (desk book.new None ≡ (lent_by book.old (enter_call (tile_at book.old.tiles place))).desk)) }
+    ensures made { IfOk result (λ w. desk book.new w ≡ (lent_at book.old place).desk) }
+    ensures text { SaysText result text.old text.new (lent_at book.old place).text }
+    ensures left { OnErr result (IsNotEntered book.old book.new (lent_at book.old place)) }
     ensures seat { IfOk result (IsSeat book.new 0) }
 {
     let written = text.len();
@@ -82,9 +79,9 @@ pub fn enter<'p, T: Table>(
     lo: Option<&[u32]>,
     text: &mut Vec<u8>,
 ) -> Result<Option<Worker<'p, T>>, AllocError>
-    ensures made { IfOk result (λ worker. desk book.new worker ≡ (enter book.old (option_copied lo.entry)).desk) }
-    ensures text { OnOk result (Writes text.old text.new (enter book.old (option_copied lo.entry)).text) }
-    ensures left { OnErr result ((book.new ≡ book.old) ⊎ (desk book.new None ≡ (enter book.old (option_copied lo.entry)).desk)) }
+    ensures made { IfOk result (λ w. desk book.new w ≡ (enter book.old (cut lo.entry)).desk) }
+    ensures text { SaysText result text.old text.new (enter book.old (cut lo.entry)).text }
+    ensures left { OnErr result (IsNotEntered book.old book.new (enter book.old (cut lo.entry))) }
     ensures seat { IfOk result (IsSeat book.new 0) }
 {
     let Some(place) = place_at(book, lo) else {

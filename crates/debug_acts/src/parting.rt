@@ -1,14 +1,8 @@
 //! A branch is parted, and its last posted stretch is walked again.
-ghost use Rattle.std.specs.Prelude.{◌≡◌, ◌∷◌, [], OnOk, OnErr};
-ghost use Rattle.x_branches.specs.Runner.{unposted_steps};
-ghost use Rattle.lab_book.specs.Book.{path_of};
 ghost use Rattle.lab_world.specs.Worker.{HoldsTile};
-ghost use Rattle.debug_language.specs.Replies.{standing_words};
-ghost use Rattle.debug_acts.specs.Work.{work};
-ghost use Rattle.debug_views.specs.Lines.{state_line, counted};
-ghost use Rattle.debug_acts.specs.Parting.{retract, split};
-ghost use Rattle.x_texts.specs.Writes.{WritesLine, WritesLines};
-ghost use Rattle.debug_views.specs.Left.{IsEither};
+ghost use Rattle.debug_acts.specs.Work.{work, Does, MayDo};
+ghost use Rattle.debug_acts.specs.Parting.{retracted_lines, retract, rest_line, split};
+ghost use Rattle.debug_views.specs.Saying.{Says, SaysLine};
 
 use cover_problem::Table;
 use debug_language::{
@@ -22,8 +16,7 @@ use x_branches::Branch;
 
 /// Writes how many steps a worker took back, which are unposted now, and where it stands.
 fn write_retracted<T: Table>(text: &mut Vec<u8>, worker: &Worker<'_, T>) -> Result<(), AllocError>
-    ensures { OnOk result (WritesLines text.old text.new (counted Counted.Retracted
-        (unposted_steps worker.now.runner) ∷ state_line worker.now.runner.position ∷ [])) }
+    ensures { Says result text.old text.new (retracted_lines worker.now.runner) }
 {
     write_counted(text, Counted::Retracted, worker.runner().unposted() as u128)?;
     write_at(text, worker.runner().state())
@@ -37,10 +30,9 @@ pub fn retract<'p, T: Table>(
     text: &mut Vec<u8>,
 ) -> Result<(), AllocError>
     requires holds { HoldsTile book.old worker.old }
-    ensures made { OnOk result (work book.new worker.new ≡ (retract (work book.old worker.old)).work) }
-    ensures text { OnOk result (WritesLines text.old text.new (retract (work book.old worker.old)).lines) }
-    ensures left { OnErr result (IsEither (work book.new worker.new) (work book.old worker.old)
-        (retract (work book.old worker.old)).work) }
+    ensures made { Does result book.old worker.old book.new worker.new retract }
+    ensures text { Says result text.old text.new (retract (work book.old worker.old)).lines }
+    ensures left { MayDo result book.old worker.old book.new worker.new retract }
     ensures holds_on { HoldsTile book.new worker.new }
 {
     book.is_sound();
@@ -58,8 +50,7 @@ fn write_parted<T: Table>(
     worker: &Worker<'_, T>,
     before: &Branch<'_>,
 ) -> Result<(), AllocError>
-    ensures { OnOk result (WritesLine text.old text.new (standing_words (path_of worker.now.runner.branch.hi)
-        (path_of before.now.hi) Standing.Waiting)) }
+    ensures { SaysLine result text.old text.new (rest_line worker.now.runner before.now) }
 {
     let runner = worker.runner();
     write_standing(
@@ -80,10 +71,9 @@ pub fn split<'p, T: Table>(
     text: &mut Vec<u8>,
 ) -> Result<(), AllocError>
     requires holds { HoldsTile book.old worker.old }
-    ensures made { OnOk result (work book.new worker.new ≡ (split (work book.old worker.old) level option).work) }
-    ensures text { OnOk result (WritesLines text.old text.new (split (work book.old worker.old) level option).lines) }
-    ensures left { OnErr result (IsEither (work book.new worker.new) (work book.old worker.old)
-        (split (work book.old worker.old) level option).work) }
+    ensures made { Does result book.old worker.old book.new worker.new (λ a. split a level option) }
+    ensures text { Says result text.old text.new (split (work book.old worker.old) level option).lines }
+    ensures left { MayDo result book.old worker.old book.new worker.new (λ a. split a level option) }
     ensures holds_on { HoldsTile book.new worker.new }
 {
     let before = worker.runner().branch().copy()?;

@@ -1,13 +1,10 @@
 //! Steps onward and back.
-ghost use Rattle.std.specs.Prelude.{◌≡◌, ◌<◌, ◌≤◌, map, IfOk, OnOk, OnErr};
-ghost use Rattle.x_steps.specs.Walk.{visit_told};
-ghost use Rattle.x_branches.specs.Runner.{visit_of};
-ghost use Rattle.x_texts.specs.Words.{visit_words};
+ghost use Rattle.std.specs.Prelude.{◌≡◌, ◌<◌, ◌≤◌, IfOk, OnOk, OnErr};
 ghost use Rattle.lab_world.specs.Worker.{HoldsTile};
-ghost use Rattle.debug_acts.specs.Walking.{with_room, stepped, forward, IsPartWay, visits_on, moved_lines, steps_ahead, step_count};
+ghost use Rattle.debug_acts.specs.Walking.{stepped, IsNotStepped, next_visit, told_visit, Walks, StepsSome, visits_on, moved_lines, steps_ahead, step_count};
 ghost use Rattle.debug_acts.specs.Work.{work};
 ghost use Rattle.x_texts.specs.Writes.{WritesLines};
-ghost use Rattle.debug_views.specs.Left.{IsEither};
+ghost use Rattle.debug_views.specs.Saying.{Says};
 
 mod backward;
 mod onward;
@@ -27,8 +24,7 @@ use x_texts::write_visit;
 
 /// Writes the visit of the next step, if it is one.
 fn note_visit<T: Table>(text: &mut Vec<u8>, worker: &Worker<'_, T>) -> Result<(), AllocError>
-    ensures { OnOk result (WritesLines text.old text.new (map visit_words
-        (visit_of worker.now.runner.problem worker.now.runner.position))) }
+    ensures { Says result text.old text.new (next_visit worker.now.runner) }
 {
     if worker.runner().is_visit() {
         return write_visit(text, &worker.runner().state().path);
@@ -45,10 +41,8 @@ pub fn step_on<'p, T: Table>(
     requires holds { HoldsTile book.old worker.old }
     requires ahead { 0 < steps_ahead worker.old.runner }
     ensures made { OnOk result (work book.new worker.new ≡ stepped (work book.old worker.old)) }
-    ensures text { OnOk result (WritesLines text.old text.new
-        (map visit_words (visit_of worker.old.runner.problem worker.old.runner.position))) }
-    ensures left { OnErr result (IsEither (work book.new worker.new) (work book.old worker.old)
-        (with_room (work book.old worker.old))) }
+    ensures text { Says result text.old text.new (next_visit worker.old.runner) }
+    ensures left { OnErr result (IsNotStepped book.old worker.old book.new worker.new) }
     ensures holds_on { HoldsTile book.new worker.new }
 {
     make_room(book, worker)?;
@@ -65,7 +59,7 @@ fn note_visited<T: Table>(
     event: Event,
     worker: &Worker<'_, T>,
 ) -> Result<(), AllocError>
-    ensures { OnOk result (WritesLines text.old text.new (map visit_words (visit_told event worker.now.runner.position.path))) }
+    ensures { Says result text.old text.new (told_visit event worker.now.runner) }
 {
     match event {
         Event::Visited => write_visit(text, &worker.runner().state().path),
@@ -86,10 +80,9 @@ pub(crate) fn walk_on<'p, T: Table>(
     requires some { 0 < most }
     ensures some { IfOk result (λ steps. 0 < steps) }
     ensures within { IfOk result (λ steps. steps ≤ step_count worker.old.runner most) }
-    ensures made { IfOk result (λ steps. work book.new worker.new ≡ forward steps (work book.old worker.old)) }
+    ensures made { IfOk result (λ steps. Walks book.old worker.old book.new worker.new steps) }
     ensures text { IfOk result (λ steps. WritesLines text.old text.new (visits_on worker.old.runner steps)) }
-    ensures left { OnErr result (IsPartWay (work book.old worker.old) (work book.new worker.new)
-        (step_count worker.old.runner most)) }
+    ensures left { OnErr result (StepsSome book.old worker.old book.new worker.new most) }
     ensures holds_on { HoldsTile book.new worker.new }
 {
     book.is_sound();
@@ -108,7 +101,7 @@ pub fn write_moved<T: Table>(
     moved: u128,
     worker: &Worker<'_, T>,
 ) -> Result<(), AllocError>
-    ensures { OnOk result (WritesLines text.old text.new (moved_lines moved worker.now.runner.position)) }
+    ensures { Says result text.old text.new (moved_lines moved worker.now.runner.position) }
 {
     write_counted(text, Counted::Moved, moved)?;
     write_at(text, worker.runner().state())

@@ -1,3 +1,4 @@
+pub mod Alike
 pub mod Input
 pub mod Pooling
 pub mod Replies

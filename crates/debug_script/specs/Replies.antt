@@ -13,7 +13,7 @@ use Rattle.debug_language.specs.Reading.{engine_command_of}
 use Rattle.x_debug.specs.Session.{SessionValue}
 use Rattle.x_debug.specs.Commands.{Answer, answer_line}
 use Rattle.x_debug.specs.Loading.{load_answer}
-use Rattle.debug_script.specs.Input.{without_newline}
+use Rattle.debug_script.specs.Input.{raw_lines, without_newline}
 use Rattle.debug_script.specs.Pooling.{answer_pool}
 
 -- what a line is answered, the session that is left, and how many of the lines after it are taken with it; None where it ends the
@@ -38,6 +38,14 @@ exchange_by s line after (Some engine.Quit) = record { text = []; session = s; t
 unfoldable pub exchange : SessionValue → List ℕ → List (List ℕ) → Exchange
 exchange s raw after = exchange_by s (without_newline raw) after (engine_command_of (without_newline raw))
 
+-- what a session says to a raw line, with this text after it
+abbrev pub said_to : List ℕ → List ℕ → SessionValue → List ℕ
+said_to raw after s = (exchange s raw (raw_lines after)).text
+
+-- and the session that it leaves
+abbrev pub left_by : List ℕ → List ℕ → SessionValue → SessionValue
+left_by raw after s = (exchange s raw (raw_lines after)).session
+
 -- the answers to raw lines, of which so many are taken already
 unfoldable pub debug_replies : SessionValue → ℕ → List (List ℕ) → List ℕ
 debug_replies s n [] = []
@@ -45,3 +53,7 @@ debug_replies s (suc n) (line ∷ after) = debug_replies s n after
 debug_replies s zero (line ∷ after) =
     let t = exchange s line after in
     t.text ++ unwrap_or (option_map (λ n. debug_replies t.session n after) t.taken) []
+
+-- the answers to the command lines of a text
+abbrev pub replies_to : SessionValue → List ℕ → List ℕ
+replies_to s commands = debug_replies s 0 (raw_lines commands)

@@ -1,10 +1,11 @@
 //! What a session of a problem answers to command lines.
 ghost use Rattle.std.specs.Prelude.{◌≡◌, ◌≤◌, length, drop, option_map, IfOk, IfSome, OnOk};
-ghost use Rattle.alike_sessions.specs.AlikeSessions.{AreSoundAlike};
+ghost use Rattle.cover_problem.specs.Answers.{ReturnsItems};
 ghost use Rattle.x_debug.specs.Session.{SessionValue, fresh_session};
+ghost use Rattle.debug_script.specs.Alike.{SaysAlike, StaysAlike};
 ghost use Rattle.debug_script.specs.Input.{raw_lines};
 ghost use Rattle.debug_script.specs.Replies as spec;
-ghost use Rattle.debug_script.specs.Replies.{debug_replies};
+ghost use Rattle.debug_script.specs.Replies.{said_to, left_by, replies_to};
 ghost use Rattle.x_texts.specs.Writes.{Writes};
 
 use crate::fault::RepliesFault;
@@ -36,10 +37,8 @@ fn exchange<'p, 'a, T: Table, R: Threads + Wait + Sync, G: Gate>(
     gate: &G,
     text: &mut Vec<u8>,
 ) -> Result<(Session<'p, T>, Option<&'a [u8]>), RepliesFault>
-    ensures text { OnOk result ((f : SessionValue) → AreSoundAlike session.entry f →
-        Writes text.old text.new (spec.exchange f raw.now (raw_lines after.now)).text) }
-    ensures session { IfOk result (λ r. (f : SessionValue) → AreSoundAlike session.entry f →
-        AreSoundAlike r.0 (spec.exchange f raw.now (raw_lines after.now)).session) }
+    ensures text { SaysAlike result text.old text.new session.entry (said_to raw.now after.now) }
+    ensures session { IfOk result (λ r. StaysAlike session.entry r.0 (left_by raw.now after.now)) }
     ensures left { IfOk result (λ r. (f : SessionValue) → option_map (λ rest. raw_lines rest.now) r.1
         ≡ option_map (λ n. drop n (raw_lines after.now)) (spec.exchange f raw.now (raw_lines after.now)).taken) }
     ensures no_longer { IfOk result (λ r. IfSome r.1 (λ rest. length rest.now ≤ length after.now)) }
@@ -75,8 +74,7 @@ fn answer_lines<T: Table, R: Threads + Wait + Sync, G: Gate>(
     gate: &G,
     text: &mut Vec<u8>,
 ) -> Result<(), RepliesFault>
-    ensures { OnOk result ((f : SessionValue) → AreSoundAlike session.entry f →
-        Writes text.old text.new (debug_replies f 0 (raw_lines commands.now))) }
+    ensures { SaysAlike result text.old text.new session.entry (λ f. replies_to f commands.now) }
 {
     let mut session = session;
     let mut rest = commands;
@@ -101,7 +99,7 @@ pub fn replies<T: Table, R: Threads + Wait + Sync, G: Gate>(
     commands: &[u8],
     gate: &G,
 ) -> Result<Vec<u8>, RepliesFault>
-    ensures { IfOk result (λ text. text.items ≡ debug_replies (fresh_session problem.now) 0 (raw_lines commands.now)) }
+    ensures { ReturnsItems result (replies_to (fresh_session problem.now) commands.now) }
 {
     let session = Session::<T>::new(alloc, problem)?;
     let mut text = Vec::new(alloc);

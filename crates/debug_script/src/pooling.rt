@@ -1,14 +1,14 @@
 //! A session's book is searched by workers on threads.
-ghost use Rattle.std.specs.Prelude.{◌≡◌, OnOk, IfOk, IfErr};
+ghost use Rattle.std.specs.Prelude.{◌≡◌, IfOk, IfErr};
 ghost use Rattle.text_lines.specs.Writing.{line_text};
 ghost use Rattle.lab_book.specs.Book.{leased_in};
 ghost use Rattle.lab_book.specs.Tiling.{IsTiling};
 ghost use Rattle.alike_books.specs.Searched.{IsSearched};
-ghost use Rattle.alike_sessions.specs.AlikeSessions.{AreSoundAlike};
 ghost use Rattle.debug_views.specs.Lines.{debug_refusal};
-ghost use Rattle.x_debug.specs.Session.{SessionValue, session_on};
+ghost use Rattle.x_debug.specs.Session.{session_on};
+ghost use Rattle.debug_script.specs.Alike.{SaysAlike, StaysAlike};
 ghost use Rattle.debug_script.specs.Pooling.{none_held, pool_words, answer_pool};
-ghost use Rattle.x_texts.specs.Writes.{Writes, WritesLine};
+ghost use Rattle.debug_views.specs.Saying.{SaysLine};
 
 use crate::answering::append;
 use crate::fault::RepliesFault;
@@ -35,7 +35,7 @@ fn pool_line(all: bool) -> &'static [u8]
 
 /// Writes that a branch is open.
 fn refuse_open(text: &mut Vec<u8>) -> Result<(), AllocError>
-    ensures { OnOk result (WritesLine text.old text.new (debug_refusal DebugFault.AlreadyOpen)) }
+    ensures { SaysLine result text.old text.new (debug_refusal DebugFault.AlreadyOpen) }
 {
     write_debug_fault(text, DebugFault::AlreadyOpen)
 }
@@ -81,10 +81,8 @@ pub(crate) fn pool<'p, T: Table, R: Threads + Wait + Sync, G: Gate>(
     gate: &G,
     text: &mut Vec<u8>,
 ) -> Result<Session<'p, T>, RepliesFault>
-    ensures text { OnOk result ((f : SessionValue) → AreSoundAlike session.entry f →
-        Writes text.old text.new (answer_pool f).text) }
-    ensures session { IfOk result (λ s. (f : SessionValue) → AreSoundAlike session.entry f →
-        AreSoundAlike s (answer_pool f).session) }
+    ensures text { SaysAlike result text.old text.new session.entry (λ f. (answer_pool f).text) }
+    ensures session { IfOk result (λ s. StaysAlike session.entry s (λ f. (answer_pool f).session)) }
 {
     if session.book().leased() > 0 {
         refuse_open(text)?;

@@ -3,39 +3,49 @@
 --
 -- Example: with no branch open, `open start` answers `at X1 -`, and `step` is refused; with one open, `open` is. A breakpoint that is set twice
 -- is kept once. proofs/CommandExamples.antt computes these.
-use Rattle.std.specs.Prelude.{ℕ, ◌≡◌, ◌⊎◌, nat_lt, Bool, true, List, [], ◌∷◌, length, Option, Some, None}
+use Rattle.std.specs.Prelude.{ℕ, ◌≡◌, ◌⊎◌, nat_lt, Bool, true, List, [], ◌∷◌, length, Option, Some, None, Result, OnErr}
+use Rattle.std.specs.Global.{Vec}
 use Rattle.text_lines.specs.Writing.{text_of}
 use Rattle.cover_problem.specs.Problem.{ProblemValue}
 use Rattle.x_steps.specs.StateValue.{StateValue}
 use Rattle.x_branches.specs.Runner.{RunnerValue}
 use Rattle.x_texts.specs.declared.breakpoint.Break.{Break}
 use Rattle.x_texts.specs.Breaks.{is_break}
-use Rattle.lab_book.specs.Posted.{posted_visits, posted_steps, posted_levels}
+use Rattle.lab_book.specs.Posted.{posted_steps, posted_levels}
 use Rattle.lab_world.specs.Worker.{WorkerValue}
 use Rattle.debug_language.specs.declared.fault.DebugFault.TheVariants.{BadCommand, AlreadyOpen, NoBranch}
-use Rattle.debug_language.specs.declared.words.Plain.TheVariants.{NothingUntried, NoBranches}
 use Rattle.debug_language.specs.declared.words.Counted.TheVariants as counts
 use Rattle.x_texts.specs.Words.{levels_words}
-use Rattle.debug_language.specs.Command.{CommandValue}
+use Rattle.debug_language.specs.declared.command.Command.{Command}
+use Rattle.debug_language.specs.Command.{CommandValue, command_value}
 use Rattle.debug_language.specs.Command as command
 use Rattle.debug_language.specs.Reading.{command_of}
 use Rattle.debug_views.specs.Breakpoints.{with_break}
-use Rattle.debug_views.specs.Lines.{plain, counted, set, debug_refusal}
+use Rattle.debug_views.specs.Lines.{counted, set, debug_refusal}
 use Rattle.debug_acts.specs.Desk.{DeskAnswer}
 use Rattle.x_debug.specs.Session.{SessionValue}
-use Rattle.debug_views.specs.Showing.{show_lines, all_untried, or_none}
-use Rattle.debug_views.specs.Tiles.{BookAnswer, open_lines, visits_lines, hold, put_back}
+use Rattle.debug_views.specs.Showing.{show_lines, untried_lines}
+use Rattle.debug_views.specs.Tiles.{BookAnswer, branches_lines, posted_lines, hold, put_back}
 use Rattle.debug_acts.specs.Walking.{IsPartWay, IsPartBack, step_count, run_count, back_count, step, run, back}
 use Rattle.debug_acts.specs.Work.{AtWork, work, WorkAnswer}
 use Rattle.debug_acts.specs.Entering.{enter}
 use Rattle.debug_acts.specs.Giving.{park, save, close, IsNotGiven}
 use Rattle.debug_acts.specs.Parting.{split, retract}
 use Rattle.debug_views.specs.Left.{IsEither}
+use Rattle.debug_views.specs.Saying.{SaysText}
 
 -- a text that is answered, and the session that is left
 pub record Answer : Type 0 where
   pub text : List ℕ
   pub session : SessionValue
+
+-- a call replies with this answer's text, unless it has an error
+abbrev pub Replies : {X E : Type 0} → Result X E → Vec ℕ → Vec ℕ → Answer → Type 0
+Replies result old new a = SaysText result old new a.text
+
+-- where it has an error, the session is as it was, or as this answer leaves it
+abbrev pub MayLeave : {X E : Type 0} → Result X E → SessionValue → SessionValue → Answer → Type 0
+MayLeave result old new a = OnErr result (IsEither new old a.session)
 
 -- the session stays as it is
 abbrev pub says : SessionValue → List (List (List ℕ)) → Answer
@@ -79,15 +89,15 @@ answer_show s = if_open s s.worker (λ w. says s (show_lines w.runner))
 
 -- `untried`: a line for each level of the open branch where an option is untried, or one line that says that there is none
 abbrev pub answer_untried : SessionValue → Answer
-answer_untried s = if_open s s.worker (λ w. says s (or_none (plain NothingUntried) (all_untried w.runner)))
+answer_untried s = if_open s s.worker (λ w. says s (untried_lines w.runner))
 
 -- `branches`: a line for each tile that isn't closed, or one line that says that there is none
 abbrev pub answer_branches : SessionValue → Answer
-answer_branches s = says s (or_none (plain NoBranches) (open_lines s.book.tiles))
+answer_branches s = says s (branches_lines s.book.tiles)
 
 -- `visits`: the visits of all stretches that are posted, and how many they are
 abbrev pub answer_visits : SessionValue → Answer
-answer_visits s = says s (visits_lines (posted_visits s.book.tiles))
+answer_visits s = says s (posted_lines s.book.tiles)
 
 -- `steps`: how many steps the posted stretches have
 abbrev pub answer_steps : SessionValue → Answer
@@ -185,6 +195,10 @@ answer s (command.PutBack lo state) = answer_put_back s lo state
 answer s command.Steps = answer_steps s
 answer s command.Levels = answer_levels s
 
+-- the same of a command that was read
+abbrev pub obeyed : SessionValue → Command → Answer
+obeyed s c = answer s (command_value c)
+
 -- whether a command can be one of a line: it counts from 1, and its breakpoint can be met
 abbrev pub is_command : ProblemValue → CommandValue → Bool
 is_command p (command.Step n) = nat_lt 0 n
@@ -218,9 +232,17 @@ LeftNotGiven s new = LeftAtWork s s.worker IsNotGiven new
 abbrev pub LeftOrDone : SessionValue → (AtWork → AtWork) → SessionValue → Type 0
 LeftOrDone s done new = LeftAtWork s s.worker (λ a b. IsEither b a (done a)) new
 
+-- it is as it was, or split at an option of a level
+abbrev pub LeftOrSplit : SessionValue → ℕ → ℕ → SessionValue → Type 0
+LeftOrSplit s level option new = LeftOrDone s (λ a. (split a level option).work) new
+
 -- it has gone some of so many steps on
 abbrev pub LeftPartWay : SessionValue → (RunnerValue → ℕ) → SessionValue → Type 0
 LeftPartWay s most new = LeftAtWork s s.worker (λ a b. IsPartWay a b (most a.worker.runner)) new
+
+-- it has gone some of the steps of `run`
+abbrev pub LeftPartRun : SessionValue → SessionValue → Type 0
+LeftPartRun s new = LeftPartWay s (λ r. run_count s.breaks r) new
 
 -- it has gone some of so many steps back, and the book is the same
 abbrev pub LeftPartBack : SessionValue → (RunnerValue → ℕ) → SessionValue → Type 0
@@ -229,9 +251,9 @@ LeftPartBack s most new = LeftAtWork s s.worker (λ a b. (b.book ≡ a.book) × 
 -- what a command may leave beside the session as it was: a part of its walk, what wasn't posted posted, or the whole of it done
 unfoldable pub LeftBy : SessionValue → CommandValue → SessionValue → Type 0
 LeftBy s (command.Step n) new = LeftPartWay s (λ r. step_count r n) new
-LeftBy s command.Run new = LeftPartWay s (λ r. run_count s.breaks r) new
+LeftBy s command.Run new = LeftPartRun s new
 LeftBy s (command.Back n) new = LeftPartBack s (λ r. back_count r n) new
-LeftBy s (command.Split level option) new = LeftOrDone s (λ a. (split a level option).work) new
+LeftBy s (command.Split level option) new = LeftOrSplit s level option new
 LeftBy s command.Park new = LeftNotGiven s new
 LeftBy s command.Save new = LeftNotGiven s new
 LeftBy s command.SaveBreaks new = LeftNotGiven s new
@@ -241,6 +263,10 @@ LeftBy s command.Retract new = LeftOrDone s (λ a. (retract a).work) new
 LeftBy s (command.Hold lo) new = new ≡ (answer_hold s lo).session
 LeftBy s (command.PutBack lo state) new = new ≡ (answer_put_back s lo state).session
 LeftBy s _ new = ⊥
+
+-- which sessions a command may leave when memory runs out
+abbrev pub IsLeftBy : SessionValue → CommandValue → SessionValue → Type 0
+IsLeftBy s c new = (new ≡ s) ⊎ LeftBy s c new
 
 -- what the command that a line is may leave; a line that is none leaves nothing but the session as it was
 abbrev pub LeftIf : SessionValue → Option CommandValue → SessionValue → Type 0

@@ -4,11 +4,12 @@
 -- Example: the text `hello` without an end is `refused snapshot 7 Truncated`. proofs/CommandExamples.antt computes it.
 use Rattle.std.specs.Prelude.{ℕ, List, [], ◌∷◌, Result, Ok, Err, if◌then◌else◌}
 use Rattle.text_lines.specs.Writing.{line_text}
-use Rattle.cover_problem.specs.Problem.{is_same}
+use Rattle.cover_problem.specs.Problem.{ProblemValue, is_same}
+use Rattle.x_branches.specs.Runner.{RunnerValue}
 use Rattle.x_texts.specs.declared.breakpoint.Break.{Break}
 use Rattle.x_snapshot.specs.declared.fault.SnapshotFault.{SnapshotFault}
-use Rattle.x_snapshot.specs.Snapshot.{SnapshotValue, branch_between}
-use Rattle.x_snapshot.specs.Judged.{snapshot_of}
+use Rattle.x_snapshot.specs.Snapshot.{SnapshotValue, branch_between, started}
+use Rattle.x_snapshot.specs.Judged.{judged_parts, snapshot_of}
 use Rattle.lab_book.specs.declared.fault.BookFault.TheVariants.{ForeignProblem}
 use Rattle.lab_book.specs.Book.{new_book}
 use Rattle.debug_acts.specs.Desk.{Desk}
@@ -17,6 +18,10 @@ use Rattle.x_debug.specs.Session.{SessionValue, entered}
 use Rattle.x_debug.specs.Commands.{Answer}
 
 -- ---- the session on a snapshot
+
+-- a runner of this problem's branch that a snapshot says, which stands at its state
+abbrev pub started_on : ProblemValue → SnapshotValue → RunnerValue
+started_on p v = started p (branch_between p v.lo v.hi) v.state
 
 -- a book of a snapshot's branch, with its state as the first mark; worker 0 leases it
 abbrev pub resumed : SnapshotValue → Desk
@@ -49,6 +54,10 @@ answers line s = record { text = line_text line; session = s }
 abbrev pub load_by : SessionValue → Result SnapshotValue SnapshotFault → Answer
 load_by s (Ok v) = if is_same v.problem s.book.problem then answers (state_line v.state) (loaded s v) else answers (book_refusal ForeignProblem) s
 load_by s (Err f) = answers (snapshot_refusal f) s
+
+-- what was read of a text is loaded, if it is a snapshot, and else refused
+abbrev pub load_parts : SessionValue → SnapshotValue → Answer
+load_parts s v = load_by s (judged_parts v)
 
 -- what session s answers to a text that is loaded, and the session that is left
 unfoldable pub load_answer : SessionValue → List ℕ → Answer

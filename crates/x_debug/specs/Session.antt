@@ -2,10 +2,10 @@
 -- `fresh_session` has the whole run of a problem open, at its start.
 --
 -- Example: the fresh session of the small problem has the line `branch start to end leased`. proofs/CommandExamples.antt computes it.
-use Rattle.std.specs.Prelude.{◌≡◌, true, List, [], Option, None}
+use Rattle.std.specs.Prelude.{◌≡◌, true, List, [], Option, None, option_map}
 use Rattle.std.specs.List.{list_all}
 use Rattle.cover_problem.specs.Problem.{ProblemValue}
-use Rattle.x_steps.specs.StateValue.{start}
+use Rattle.x_steps.specs.StateValue.{StateValue, start}
 use Rattle.x_texts.specs.declared.breakpoint.Break.{Break}
 use Rattle.x_texts.specs.Breaks.{is_break}
 use Rattle.lab_book.specs.Book.{BookValue, new_book, outcome, book_step}
@@ -24,6 +24,10 @@ pub record SessionValue : Type 0 where
 pub record IsSession (v : SessionValue) : Type 0 where
   pub seat : IsSeat v.book 0 v.worker
   pub breaks : list_all (is_break v.book.problem) v.breaks ≡ true
+
+-- where the search of an open branch stands, if one is open
+abbrev pub position_of : Option WorkerValue → Option StateValue
+position_of worker = option_map (λ (w : WorkerValue). w.runner.position) worker
 
 -- worker 0 leases the first tile that waits
 abbrev pub entered : BookValue → Desk

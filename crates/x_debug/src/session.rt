@@ -3,7 +3,7 @@ ghost use Rattle.std.specs.Prelude.{◌≡◌, None, is_some, true, option_map, 
 ghost use Rattle.x_steps.specs.StateView.{state_value};
 ghost use Rattle.x_branches.specs.Runner.{IsRunner};
 ghost use Rattle.lab_world.specs.World.{IsSeat};
-ghost use Rattle.x_debug.specs.Session.{session_on, fresh_session};
+ghost use Rattle.x_debug.specs.Session.{position_of, session_on, fresh_session};
 
 mod asking;
 mod breakpoints;
@@ -97,7 +97,7 @@ impl<'p, T: Table> Session<'p, T> {
 
     /// Where it stands in the branch that is open: in that branch or at its end, at its mark or after it; None where none is open.
     pub fn state(&self) -> Option<&State>
-        ensures state { option_map (λ s. state_value s.now) result ≡ option_map (λ w. w.runner.position) self.now.worker }
+        ensures state { option_map (λ s. state_value s.now) result ≡ position_of self.now.worker }
         ensures runner { IfSome self.now.worker (λ w. IsRunner w.runner) }
     {
         match &self.worker {

@@ -1,12 +1,12 @@
 //! A branch is closed, or the book refuses it.
 ghost use Rattle.std.specs.Prelude.{◌≡◌, ◌==◌, ◌↔◌, Some, IsTrue, IfOk, IfErr, IfSome, OnOk};
-ghost use Rattle.x_branches.specs.Branch.{end_of};
+ghost use Rattle.x_branches.specs.Runner.{runner_end};
 ghost use Rattle.lab_world.specs.Worker.{HoldsTile};
 ghost use Rattle.debug_acts.specs.Walking.{steps_ahead};
 ghost use Rattle.debug_acts.specs.Work.{work};
 ghost use Rattle.debug_acts.specs.Desk.{desk};
 ghost use Rattle.debug_acts.specs.Giving.{close, closed, not_closed, IsNotGiven};
-ghost use Rattle.x_texts.specs.Writes.{Writes};
+ghost use Rattle.debug_views.specs.Saying.{SaysText};
 
 use crate::posting::post_rest;
 use cover_problem::Table;
@@ -19,7 +19,7 @@ use x_steps::Refused;
 /// Whether a worker that holds its tile is at the tile's end.
 fn is_at_end<T: Table>(book: &Book<'_>, worker: &Worker<'_, T>) -> bool
     requires { HoldsTile book.now worker.now }
-    ensures end { IsTrue result ↔ (worker.now.runner.position ≡ end_of worker.now.runner.branch.hi) }
+    ensures end { IsTrue result ↔ (worker.now.runner.position ≡ runner_end worker.now.runner) }
     ensures none_ahead { (steps_ahead worker.now.runner == 0) ≡ result }
 {
     book.is_sound();
@@ -31,7 +31,7 @@ fn is_at_end<T: Table>(book: &Book<'_>, worker: &Worker<'_, T>) -> bool
 /// Posts what a worker walked, and closes its tile, at whose end it is. Out of memory the worker comes back.
 fn finish<'p, T: Table>(book: &mut Book<'p>, worker: Worker<'p, T>) -> Result<(), Worker<'p, T>>
     requires holds { HoldsTile book.old worker }
-    requires end { worker.runner.position ≡ end_of worker.runner.branch.hi }
+    requires end { worker.runner.position ≡ runner_end worker.runner }
     ensures made { OnOk result (book.new ≡ closed (work book.old worker.entry)) }
     ensures left { IfErr result (λ w. IsNotGiven (work book.old worker.entry) (work book.new w)) }
     ensures holds_on { IfErr result (λ w. HoldsTile book.new w) }
@@ -65,7 +65,7 @@ fn ask_to_close<'p, T: Table>(
     worker: Worker<'p, T>,
 ) -> Result<Worker<'p, T>, Worker<'p, T>>
     requires holds { HoldsTile book.old worker }
-    requires ahead { worker.runner.position ≡ end_of worker.runner.branch.hi → ⊥ }
+    requires ahead { worker.runner.position ≡ runner_end worker.runner → ⊥ }
     ensures made { OnOk result (book.new ≡ not_closed (work book.old worker.entry)) }
     ensures same { IfOk result (λ w. w ≡ worker.entry) }
     ensures left { IfErr result (λ w. work book.new w ≡ work book.old worker.entry) }
@@ -92,8 +92,8 @@ pub fn close<'p, T: Table>(
     text: &mut Vec<u8>,
 ) -> Result<Option<Worker<'p, T>>, Worker<'p, T>>
     requires holds { HoldsTile book.old worker }
-    ensures made { IfOk result (λ seat. desk book.new seat ≡ (close (work book.old worker.entry)).desk) }
-    ensures text { OnOk result (Writes text.old text.new (close (work book.old worker.entry)).text) }
+    ensures made { IfOk result (λ w. desk book.new w ≡ (close (work book.old worker.entry)).desk) }
+    ensures text { SaysText result text.old text.new (close (work book.old worker.entry)).text }
     ensures left { IfErr result (λ w. IsNotGiven (work book.old worker.entry) (work book.new w)) }
     ensures holds_still { IfOk result (λ seat. IfSome seat (HoldsTile book.new)) }
     ensures holds_on { IfErr result (λ w. HoldsTile book.new w) }

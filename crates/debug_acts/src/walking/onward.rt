@@ -1,9 +1,9 @@
 //! So many steps onward.
-ghost use Rattle.std.specs.Prelude.{◌≡◌, ◌<◌, IfOk, OnOk, OnErr};
+ghost use Rattle.std.specs.Prelude.{◌<◌, OnOk, OnErr};
+ghost use Rattle.cover_problem.specs.Answers.{Returns};
 ghost use Rattle.lab_world.specs.Worker.{HoldsTile};
-ghost use Rattle.debug_acts.specs.Walking.{forward, IsPartWay, visits_on, step_count, step};
-ghost use Rattle.debug_acts.specs.Work.{work};
-ghost use Rattle.x_texts.specs.Writes.{WritesLines};
+ghost use Rattle.debug_acts.specs.Walking.{StepsOn, StepsSome, step_count, step_visits, step_lines};
+ghost use Rattle.debug_views.specs.Saying.{Says};
 
 use crate::walking::{walk_on, write_moved};
 use cover_problem::Table;
@@ -20,12 +20,10 @@ fn walk<'p, T: Table>(
     text: &mut Vec<u8>,
 ) -> Result<u32, AllocError>
     requires holds { HoldsTile book.old worker.old }
-    ensures count { IfOk result (λ count. count ≡ step_count worker.old.runner most) }
-    ensures made { OnOk result (work book.new worker.new
-        ≡ forward (step_count worker.old.runner most) (work book.old worker.old)) }
-    ensures text { OnOk result (WritesLines text.old text.new (visits_on worker.old.runner (step_count worker.old.runner most))) }
-    ensures left { OnErr result (IsPartWay (work book.old worker.old) (work book.new worker.new)
-        (step_count worker.old.runner most)) }
+    ensures count { Returns result (step_count worker.old.runner most) }
+    ensures made { OnOk result (StepsOn book.old worker.old book.new worker.new most) }
+    ensures text { Says result text.old text.new (step_visits worker.old.runner most) }
+    ensures left { OnErr result (StepsSome book.old worker.old book.new worker.new most) }
     ensures holds_on { HoldsTile book.new worker.new }
 {
     // What is true of a book and of a runner is told by these.
@@ -51,10 +49,9 @@ pub fn step<'p, T: Table>(
 ) -> Result<(), AllocError>
     requires holds { HoldsTile book.old worker.old }
     requires some { 0 < most }
-    ensures made { OnOk result (work book.new worker.new ≡ (step (work book.old worker.old) most).work) }
-    ensures text { OnOk result (WritesLines text.old text.new (step (work book.old worker.old) most).lines) }
-    ensures left { OnErr result (IsPartWay (work book.old worker.old) (work book.new worker.new)
-        (step_count worker.old.runner most)) }
+    ensures made { OnOk result (StepsOn book.old worker.old book.new worker.new most) }
+    ensures text { Says result text.old text.new (step_lines worker.old.runner most) }
+    ensures left { OnErr result (StepsSome book.old worker.old book.new worker.new most) }
     ensures holds_on { HoldsTile book.new worker.new }
 {
     book.is_sound();

@@ -1,9 +1,8 @@
 //! What a session asks of the tiles of its book.
-ghost use Rattle.std.specs.Prelude.{◌≡◌, option_copied, OnOk, OnErr};
+ghost use Rattle.std.specs.Prelude.{◌≡◌, OnOk};
 ghost use Rattle.x_steps.specs.StateView.{state_value};
-ghost use Rattle.x_debug.specs.Commands.{answer_hold, answer_put_back, answer_enter};
-ghost use Rattle.x_texts.specs.Writes.{Writes};
-ghost use Rattle.debug_views.specs.Left.{IsEither};
+ghost use Rattle.x_debug.specs.Commands.{answer_hold, answer_put_back, answer_enter, Replies, MayLeave};
+ghost use Rattle.debug_views.specs.Tiles.{cut};
 
 use crate::session::Session;
 use cover_problem::Table;
@@ -20,9 +19,9 @@ impl<'p, T: Table> Session<'p, T> {
         lo: Option<&[u32]>,
         text: &mut Vec<u8>,
     ) -> Result<(), AllocError>
-        ensures reply { OnOk result (Writes text.old text.new (answer_hold self.old (option_copied lo.entry)).text) }
-        ensures session { OnOk result (self.new ≡ (answer_hold self.old (option_copied lo.entry)).session) }
-        ensures left { OnErr result (IsEither self.new self.old (answer_hold self.old (option_copied lo.entry)).session) }
+        ensures reply { Replies result text.old text.new (answer_hold self.old (cut lo.entry)) }
+        ensures session { OnOk result (self.new ≡ (answer_hold self.old (cut lo.entry)).session) }
+        ensures left { MayLeave result self.old self.new (answer_hold self.old (cut lo.entry)) }
     {
         hold(&mut self.book, lo, text)
     }
@@ -34,12 +33,9 @@ impl<'p, T: Table> Session<'p, T> {
         state: &State,
         text: &mut Vec<u8>,
     ) -> Result<(), AllocError>
-        ensures reply { OnOk result (Writes text.old text.new
-            (answer_put_back self.old (option_copied lo.entry) (state_value state.now)).text) }
-        ensures session { OnOk result (self.new ≡ (answer_put_back self.old (option_copied lo.entry)
-            (state_value state.now)).session) }
-        ensures left { OnErr result (IsEither self.new self.old
-            (answer_put_back self.old (option_copied lo.entry) (state_value state.now)).session) }
+        ensures reply { Replies result text.old text.new (answer_put_back self.old (cut lo.entry) (state_value state.now)) }
+        ensures session { OnOk result (self.new ≡ (answer_put_back self.old (cut lo.entry) (state_value state.now)).session) }
+        ensures left { MayLeave result self.old self.new (answer_put_back self.old (cut lo.entry) (state_value state.now)) }
     {
         put_back(&mut self.book, lo, state, text)
     }
@@ -51,9 +47,9 @@ impl<'p, T: Table> Session<'p, T> {
         lo: Option<&[u32]>,
         text: &mut Vec<u8>,
     ) -> Result<(), AllocError>
-        ensures reply { OnOk result (Writes text.old text.new (answer_enter self.old (option_copied lo.entry)).text) }
-        ensures session { OnOk result (self.new ≡ (answer_enter self.old (option_copied lo.entry)).session) }
-        ensures left { OnErr result (IsEither self.new self.old (answer_enter self.old (option_copied lo.entry)).session) }
+        ensures reply { Replies result text.old text.new (answer_enter self.old (cut lo.entry)) }
+        ensures session { OnOk result (self.new ≡ (answer_enter self.old (cut lo.entry)).session) }
+        ensures left { MayLeave result self.old self.new (answer_enter self.old (cut lo.entry)) }
     {
         if self.worker.is_some() {
             return write_debug_fault(text, DebugFault::AlreadyOpen);

@@ -1,8 +1,7 @@
 //! The breakpoints of a session.
 ghost use Rattle.std.specs.Prelude.{◌≡◌, true, OnOk, OnErr};
 ghost use Rattle.x_texts.specs.Breaks.{is_break};
-ghost use Rattle.x_debug.specs.Commands.{answer_set, answer_clear};
-ghost use Rattle.x_texts.specs.Writes.{Writes};
+ghost use Rattle.x_debug.specs.Commands.{answer_set, answer_clear, Replies};
 
 use crate::session::Session;
 use cover_problem::Table;
@@ -18,7 +17,7 @@ impl<'p, T: Table> Session<'p, T> {
         text: &mut Vec<u8>,
     ) -> Result<(), AllocError>
         requires { is_break self.old.book.problem breakpoint ≡ true }
-        ensures reply { OnOk result (Writes text.old text.new (answer_set self.old breakpoint).text) }
+        ensures reply { Replies result text.old text.new (answer_set self.old breakpoint) }
         ensures session { OnOk result (self.new ≡ (answer_set self.old breakpoint).session) }
         ensures left { OnErr result (self.new ≡ self.old) }
     {
@@ -29,7 +28,7 @@ impl<'p, T: Table> Session<'p, T> {
 
     /// `clear`: no breakpoint is left. Out of memory, nothing has changed.
     pub(super) fn obey_clear(&mut self, text: &mut Vec<u8>) -> Result<(), AllocError>
-        ensures reply { OnOk result (Writes text.old text.new (answer_clear self.old).text) }
+        ensures reply { Replies result text.old text.new (answer_clear self.old) }
         ensures session { OnOk result (self.new ≡ (answer_clear self.old).session) }
         ensures left { OnErr result (self.new ≡ self.old) }
     {

@@ -1,9 +1,8 @@
 //! What a session answers to a line.
-ghost use Rattle.std.specs.Prelude.{◌≡◌, ◌⊎◌, true, option_copied, IfOk, OnOk, OnErr};
+ghost use Rattle.std.specs.Prelude.{◌≡◌, true, option_copied, IfOk, OnOk, OnErr};
 ghost use Rattle.x_snapshot.specs.Snapshot.{choices_of};
 ghost use Rattle.debug_language.specs.Command.{command_value};
-ghost use Rattle.x_debug.specs.Commands.{answer, answer_line, is_command, LeftBy, IsLeft};
-ghost use Rattle.x_texts.specs.Writes.{Writes};
+ghost use Rattle.x_debug.specs.Commands.{obeyed, answer_line, is_command, IsLeftBy, IsLeft, Replies};
 
 use crate::session::Session;
 use cover_problem::Table;
@@ -37,9 +36,9 @@ impl<'p, T: Table> Session<'p, T> {
         text: &mut Vec<u8>,
     ) -> Result<(), AllocError>
         requires { is_command self.old.book.problem (command_value command.now) ≡ true }
-        ensures reply { OnOk result (Writes text.old text.new (answer self.old (command_value command.now)).text) }
-        ensures session { OnOk result (self.new ≡ (answer self.old (command_value command.now)).session) }
-        ensures left { OnErr result ((self.new ≡ self.old) ⊎ LeftBy self.old (command_value command.now) self.new) }
+        ensures reply { Replies result text.old text.new (obeyed self.old command.now) }
+        ensures session { OnOk result (self.new ≡ (obeyed self.old command.now).session) }
+        ensures left { OnErr result (IsLeftBy self.old (command_value command.now) self.new) }
     {
         match command {
             Command::Nothing => Ok(()),

@@ -1,8 +1,7 @@
 //! The branch that is open is given up.
 ghost use Rattle.std.specs.Prelude.{◌≡◌, ◌⊎◌, [], true, OnOk, OnErr};
 ghost use Rattle.x_texts.specs.Breaks.{are_breaks};
-ghost use Rattle.x_debug.specs.Commands.{answer_park, answer_close, answer_save, LeftNotGiven};
-ghost use Rattle.x_texts.specs.Writes.{Writes};
+ghost use Rattle.x_debug.specs.Commands.{answer_park, answer_close, answer_save, LeftNotGiven, Replies};
 
 use crate::session::Session;
 use cover_problem::Table;
@@ -14,7 +13,7 @@ use x_texts::Break;
 impl<'p, T: Table> Session<'p, T> {
     /// `park`.
     pub(super) fn obey_park(&mut self, text: &mut Vec<u8>) -> Result<(), AllocError>
-        ensures reply { OnOk result (Writes text.old text.new (answer_park self.old).text) }
+        ensures reply { Replies result text.old text.new (answer_park self.old) }
         ensures session { OnOk result (self.new ≡ (answer_park self.old).session) }
         ensures left { OnErr result (LeftNotGiven self.old self.new) }
     {
@@ -30,7 +29,7 @@ impl<'p, T: Table> Session<'p, T> {
 
     /// `close`.
     pub(super) fn obey_close(&mut self, text: &mut Vec<u8>) -> Result<(), AllocError>
-        ensures reply { OnOk result (Writes text.old text.new (answer_close self.old).text) }
+        ensures reply { Replies result text.old text.new (answer_close self.old) }
         ensures session { OnOk result (self.new ≡ (answer_close self.old).session) }
         ensures left { OnErr result (LeftNotGiven self.old self.new) }
     {
@@ -57,7 +56,7 @@ impl<'p, T: Table> Session<'p, T> {
         text: &mut Vec<u8>,
     ) -> Result<(), AllocError>
         requires { are_breaks self.old.book.problem breaks.items ≡ true }
-        ensures reply { OnOk result (Writes text.old text.new (answer_save self.old breaks.items).text) }
+        ensures reply { Replies result text.old text.new (answer_save self.old breaks.items) }
         ensures session { OnOk result (self.new ≡ (answer_save self.old breaks.items).session) }
         ensures left { OnErr result (LeftNotGiven self.old self.new) }
     {
@@ -73,7 +72,7 @@ impl<'p, T: Table> Session<'p, T> {
 
     /// `save`.
     pub(super) fn obey_save(&mut self, alloc: Global, text: &mut Vec<u8>) -> Result<(), AllocError>
-        ensures reply { OnOk result (Writes text.old text.new (answer_save self.old []).text) }
+        ensures reply { Replies result text.old text.new (answer_save self.old []) }
         ensures session { OnOk result (self.new ≡ (answer_save self.old []).session) }
         ensures left { OnErr result (LeftNotGiven self.old self.new) }
     {
@@ -86,7 +85,7 @@ impl<'p, T: Table> Session<'p, T> {
         alloc: Global,
         text: &mut Vec<u8>,
     ) -> Result<(), AllocError>
-        ensures reply { OnOk result (Writes text.old text.new (answer_save self.old self.old.breaks).text) }
+        ensures reply { Replies result text.old text.new (answer_save self.old self.old.breaks) }
         ensures session { OnOk result (self.new ≡ (answer_save self.old self.old.breaks).session) }
         ensures left { OnErr result ((self.new ≡ self.old) ⊎ LeftNotGiven self.old self.new) }
     {

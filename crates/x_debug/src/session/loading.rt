@@ -2,6 +2,7 @@
 ghost use Rattle.x_branches.specs.Runner.{runner_at};
 ghost use Rattle.std.specs.Prelude.{◌≡◌, ◌↔◌, true, false, Some, IsTrue, IfOk, OnOk, OnErr};
 ghost use Rattle.std.specs.List.{list_all};
+ghost use Rattle.cover_problem.specs.Answers.{Returns};
 ghost use Rattle.cover_problem.specs.Problem.{is_same};
 ghost use Rattle.x_texts.specs.Breaks.{is_break};
 ghost use Rattle.x_snapshot.specs.Snapshot.{branch_between};
@@ -9,8 +10,8 @@ ghost use Rattle.x_snapshot.specs.Judged.{judged_parts};
 ghost use Rattle.lab_book.specs.Book.{new_book};
 ghost use Rattle.lab_world.specs.World.{IsSeat};
 ghost use Rattle.debug_acts.specs.Desk.{desk};
-ghost use Rattle.x_debug.specs.Loading.{resumed, with_some, seated, loaded, load_by, load_answer};
-ghost use Rattle.x_texts.specs.Writes.{Writes};
+ghost use Rattle.x_debug.specs.Loading.{started_on, resumed, with_some, seated, loaded, load_parts, load_answer};
+ghost use Rattle.x_debug.specs.Commands.{Replies};
 
 use crate::session::{Reply, Session};
 use cover_problem::{Problem, Table};
@@ -44,7 +45,7 @@ fn book_at<'p, T: Table>(
     runner: &Runner<'p, T>,
 ) -> Result<Book<'p>, AllocError>
     requires { runner.now.problem ≡ problem.now }
-    ensures { IfOk result (λ book. book ≡ new_book problem.now runner.now.branch runner.now.position) }
+    ensures { Returns result (new_book problem.now runner.now.branch runner.now.position) }
 {
     let state = runner.state();
     Book::started(alloc, problem, runner.branch(), state)
@@ -115,8 +116,8 @@ impl<'p, T: Table> Session<'p, T> {
     fn go_on(&mut self, alloc: Global, draft: &Draft, text: &mut Vec<u8>) -> Result<(), AllocError>
         requires same { draft.now.problem ≡ self.old.book.problem }
         requires test { is_same draft.now.problem self.old.book.problem ≡ true }
-        ensures reply { OnOk result (Writes text.old text.new (load_by self.old (judged_parts draft.now)).text) }
-        ensures session { OnOk result (self.new ≡ (load_by self.old (judged_parts draft.now)).session) }
+        ensures reply { Replies result text.old text.new (load_parts self.old draft.now) }
+        ensures session { OnOk result (self.new ≡ (load_parts self.old draft.now).session) }
         ensures unchanged { OnErr result (self.new ≡ self.old) }
     {
         match draft.runner(alloc, self.book.problem()) {
@@ -136,8 +137,8 @@ impl<'p, T: Table> Session<'p, T> {
         text: &mut Vec<u8>,
     ) -> Result<(), AllocError>
         requires { is_same draft.now.problem self.now.book.problem ≡ false }
-        ensures reply { OnOk result (Writes text.old text.new (load_by self.now (judged_parts draft.now)).text) }
-        ensures session { OnOk result (self.now ≡ (load_by self.now (judged_parts draft.now)).session) }
+        ensures reply { Replies result text.old text.new (load_parts self.now draft.now) }
+        ensures session { OnOk result (self.now ≡ (load_parts self.now draft.now).session) }
     {
         match draft.check(alloc) {
             Ok(()) => write_book_fault(text, &BookFault::ForeignProblem),
@@ -160,7 +161,7 @@ impl<'p, T: Table> Session<'p, T> {
         bytes: &[u8],
         text: &mut Vec<u8>,
     ) -> Result<(), AllocError>
-        ensures reply { OnOk result (Writes text.old text.new (load_answer self.old bytes.now).text) }
+        ensures reply { Replies result text.old text.new (load_answer self.old bytes.now) }
         ensures session { OnOk result (self.new ≡ (load_answer self.old bytes.now).session) }
         ensures unchanged { OnErr result (self.new ≡ self.old) }
     {

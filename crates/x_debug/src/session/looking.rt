@@ -1,7 +1,5 @@
 //! What is shown of a session.
-ghost use Rattle.std.specs.Prelude.{OnOk};
-ghost use Rattle.x_debug.specs.Commands.{answer_show, answer_untried, answer_branches, answer_visits, answer_steps, answer_levels};
-ghost use Rattle.x_texts.specs.Writes.{Writes};
+ghost use Rattle.x_debug.specs.Commands.{answer_show, answer_untried, answer_branches, answer_visits, answer_steps, answer_levels, Replies};
 
 use crate::session::Session;
 use cover_problem::Table;
@@ -13,7 +11,7 @@ use x_texts::write_levels;
 impl<'p, T: Table> Session<'p, T> {
     /// `show`.
     pub(super) fn obey_show(&self, text: &mut Vec<u8>) -> Result<(), AllocError>
-        ensures { OnOk result (Writes text.old text.new (answer_show self.now).text) }
+        ensures { Replies result text.old text.new (answer_show self.now) }
     {
         let Some(worker) = &self.worker else {
             return write_debug_fault(text, DebugFault::NoBranch);
@@ -23,7 +21,7 @@ impl<'p, T: Table> Session<'p, T> {
 
     /// `untried`.
     pub(super) fn obey_untried(&self, text: &mut Vec<u8>) -> Result<(), AllocError>
-        ensures { OnOk result (Writes text.old text.new (answer_untried self.now).text) }
+        ensures { Replies result text.old text.new (answer_untried self.now) }
     {
         let Some(worker) = &self.worker else {
             return write_debug_fault(text, DebugFault::NoBranch);
@@ -33,28 +31,28 @@ impl<'p, T: Table> Session<'p, T> {
 
     /// `branches`.
     pub(super) fn obey_branches(&self, text: &mut Vec<u8>) -> Result<(), AllocError>
-        ensures { OnOk result (Writes text.old text.new (answer_branches self.now).text) }
+        ensures { Replies result text.old text.new (answer_branches self.now) }
     {
         branches(&self.book, text)
     }
 
     /// `visits`.
     pub(super) fn obey_visits(&self, text: &mut Vec<u8>) -> Result<(), AllocError>
-        ensures { OnOk result (Writes text.old text.new (answer_visits self.now).text) }
+        ensures { Replies result text.old text.new (answer_visits self.now) }
     {
         write_posted(&self.book, text)
     }
 
     /// `steps`.
     pub(super) fn obey_steps(&self, text: &mut Vec<u8>) -> Result<(), AllocError>
-        ensures { OnOk result (Writes text.old text.new (answer_steps self.now).text) }
+        ensures { Replies result text.old text.new (answer_steps self.now) }
     {
         write_counted(text, Counted::Steps, self.book.steps())
     }
 
     /// `levels`.
     pub(super) fn obey_levels(&self, text: &mut Vec<u8>) -> Result<(), AllocError>
-        ensures { OnOk result (Writes text.old text.new (answer_levels self.now).text) }
+        ensures { Replies result text.old text.new (answer_levels self.now) }
     {
         let levels = self.book.levels()?;
         write_levels(text, &levels)

@@ -1,8 +1,7 @@
 //! The branch that is open is parted, and its last posted stretch is walked again.
 ghost use Rattle.std.specs.Prelude.{◌≡◌, OnOk, OnErr};
-ghost use Rattle.debug_acts.specs.Parting.{retract, split};
-ghost use Rattle.x_debug.specs.Commands.{answer_retract, answer_split, LeftOrDone};
-ghost use Rattle.x_texts.specs.Writes.{Writes};
+ghost use Rattle.debug_acts.specs.Parting.{retract};
+ghost use Rattle.x_debug.specs.Commands.{answer_retract, answer_split, LeftOrDone, LeftOrSplit, Replies};
 
 use crate::session::Session;
 use cover_problem::Table;
@@ -13,7 +12,7 @@ use std::alloc::AllocError;
 impl<'p, T: Table> Session<'p, T> {
     /// `retract`.
     pub(super) fn obey_retract(&mut self, text: &mut Vec<u8>) -> Result<(), AllocError>
-        ensures reply { OnOk result (Writes text.old text.new (answer_retract self.old).text) }
+        ensures reply { Replies result text.old text.new (answer_retract self.old) }
         ensures session { OnOk result (self.new ≡ (answer_retract self.old).session) }
         ensures left { OnErr result (LeftOrDone self.old (λ a. (retract a).work) self.new) }
     {
@@ -30,9 +29,9 @@ impl<'p, T: Table> Session<'p, T> {
         option: u32,
         text: &mut Vec<u8>,
     ) -> Result<(), AllocError>
-        ensures reply { OnOk result (Writes text.old text.new (answer_split self.old level option).text) }
+        ensures reply { Replies result text.old text.new (answer_split self.old level option) }
         ensures session { OnOk result (self.new ≡ (answer_split self.old level option).session) }
-        ensures left { OnErr result (LeftOrDone self.old (λ a. (split a level option).work) self.new) }
+        ensures left { OnErr result (LeftOrSplit self.old level option self.new) }
     {
         let Some(worker) = &mut self.worker else {
             return write_debug_fault(text, DebugFault::NoBranch);

@@ -1,8 +1,7 @@
 //! Steps on the branch that is open.
 ghost use Rattle.std.specs.Prelude.{◌≡◌, ◌<◌, OnOk, OnErr};
-ghost use Rattle.debug_acts.specs.Walking.{step_count, run_count, back_count};
-ghost use Rattle.x_debug.specs.Commands.{answer_step, answer_run, answer_back, LeftPartWay, LeftPartBack};
-ghost use Rattle.x_texts.specs.Writes.{Writes};
+ghost use Rattle.debug_acts.specs.Walking.{step_count, back_count};
+ghost use Rattle.x_debug.specs.Commands.{answer_step, answer_run, answer_back, LeftPartWay, LeftPartRun, LeftPartBack, Replies};
 
 use crate::session::Session;
 use cover_problem::Table;
@@ -14,7 +13,7 @@ impl<'p, T: Table> Session<'p, T> {
     /// `step`.
     pub(super) fn obey_step(&mut self, most: u32, text: &mut Vec<u8>) -> Result<(), AllocError>
         requires { 0 < most }
-        ensures reply { OnOk result (Writes text.old text.new (answer_step self.old most).text) }
+        ensures reply { Replies result text.old text.new (answer_step self.old most) }
         ensures session { OnOk result (self.new ≡ (answer_step self.old most).session) }
         ensures left { OnErr result (LeftPartWay self.old (λ r. step_count r most) self.new) }
     {
@@ -26,9 +25,9 @@ impl<'p, T: Table> Session<'p, T> {
 
     /// `run`.
     pub(super) fn obey_run(&mut self, text: &mut Vec<u8>) -> Result<(), AllocError>
-        ensures reply { OnOk result (Writes text.old text.new (answer_run self.old).text) }
+        ensures reply { Replies result text.old text.new (answer_run self.old) }
         ensures session { OnOk result (self.new ≡ (answer_run self.old).session) }
-        ensures left { OnErr result (LeftPartWay self.old (λ r. run_count self.old.breaks r) self.new) }
+        ensures left { OnErr result (LeftPartRun self.old self.new) }
     {
         let Some(worker) = &mut self.worker else {
             return write_debug_fault(text, DebugFault::NoBranch);
@@ -39,7 +38,7 @@ impl<'p, T: Table> Session<'p, T> {
     /// `back`.
     pub(super) fn obey_back(&mut self, most: u32, text: &mut Vec<u8>) -> Result<(), AllocError>
         requires { 0 < most }
-        ensures reply { OnOk result (Writes text.old text.new (answer_back self.old most).text) }
+        ensures reply { Replies result text.old text.new (answer_back self.old most) }
         ensures session { OnOk result (self.new ≡ (answer_back self.old most).session) }
         ensures left { OnErr result (LeftPartBack self.old (λ r. back_count r most) self.new) }
     {

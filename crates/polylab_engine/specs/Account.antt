@@ -7,6 +7,10 @@ use Rattle.x_steps.specs.StateValue.{StateValue}
 use Rattle.x_steps.specs.Run.{visits, level_count}
 use Rattle.x_steps.specs.Walk.{is_visited}
 use Rattle.x_steps.specs.Levels.{without_last_zeros}
+use Rattle.x_steps.specs.Run.{visits_between}
+use Rattle.x_branches.specs.Branch.{end_of}
+use Rattle.lab_book.specs.Book.{BookValue}
+use Rattle.std.specs.Prelude.{◌≤◌, ◌*◌, ◌^◌}
 
 -- the visits that are kept, the number of visits and of steps, and the number of X2 states at each level from 0 on
 pub record Account : Type 0 where
@@ -29,6 +33,10 @@ report_of a = record { visits = a.visits; visited = a.visited; steps = a.steps; 
 -- these paths, or none where they are not kept
 abbrev pub kept : Bool → List (List ℕ) → List (List ℕ)
 kept keeps paths = if keeps then paths else []
+
+-- the visits of a finished book, or none where they are not kept
+abbrev pub book_visits : Bool → BookValue → List (List ℕ)
+book_visits keeps b = kept keeps (visits_between b.problem b.first (end_of b.branch.hi))
 
 -- the account of these states of a run, which keeps the visits or not
 unfoldable pub account_of : Bool → ProblemValue → List StateValue → Account
@@ -64,3 +72,7 @@ with_walk keeps a n event path = record {
 pub record AreSums (old more new : List ℕ) : Type 0 where
   pub levels : length new ≡ length old
   pub each : (level : ℕ) → level < length old → slice_index new level ≡ slice_index old level + slice_index more level
+
+-- between two counts a block of 2^32 gets full
+abbrev pub PassesBlock : ℕ → ℕ → Type 0
+PassesBlock old new = (blocks : ℕ) × (old < blocks * 2 ^ 32) × (blocks * 2 ^ 32 ≤ new)

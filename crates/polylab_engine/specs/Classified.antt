@@ -25,8 +25,11 @@ classes_of group ps = class_count (are_alike group) ps
 abbrev pub class_lines : ℕ → ℕ → List (List (List ℕ))
 class_lines rotations symmetries = (codes "rotations" ∷ decimal rotations ∷ []) ∷ (codes "symmetries" ∷ decimal symmetries ∷ []) ∷ []
 
+-- the same, of the packings of these paths
+abbrev pub lines_of_classes : PuzzleValue → List (List ℕ) → List (List (List ℕ))
+lines_of_classes p paths = let ps = packings_of p paths in class_lines (classes_of Rotations ps) (classes_of Symmetries ps)
+
 -- what `count --classes` writes: what `count` does, and then the lines of the classes of all packings
 unfoldable pub classes_output : PuzzleValue → List ℕ
 classes_output p =
-    let ps = packings_of p (whole_report true (packing_problem p)).visits in
-    count_output p ++ text_of (class_lines (classes_of Rotations ps) (classes_of Symmetries ps))
+    count_output p ++ text_of (lines_of_classes p (whole_report true (packing_problem p)).visits)

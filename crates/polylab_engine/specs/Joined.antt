@@ -7,8 +7,7 @@ use Rattle.cover_problem.specs.Problem.{ProblemValue}
 use Rattle.x_steps.specs.StateValue.{StateValue}
 use Rattle.x_snapshot.specs.Snapshot.{SnapshotValue, IsSnapshot}
 use Rattle.polylab_engine.specs.Account.{ReportValue}
-use Rattle.polylab_engine.specs.Stretch.{stretch_report}
-use Rattle.polylab_engine.specs.Resumed.{branch_end, stop_of, at_state}
+use Rattle.polylab_engine.specs.Resumed.{branch_end, stop_of, at_state, report_up_to}
 
 -- the counts of levels, added level by level
 abbrev pub levels_added : List ℕ → List ℕ → List ℕ
@@ -40,7 +39,7 @@ after_slice most v = at_state v (stop_of most v)
 
 -- the report of a slice
 abbrev pub slice_report : Bool → Option ℕ → SnapshotValue → ReportValue
-slice_report keeps most v = stretch_report keeps v.problem v.state (stop_of most v)
+slice_report keeps most v = report_up_to keeps v (stop_of most v)
 
 -- where slices lead, of so many steps at most: each begins where the one before stopped
 abbrev pub sliced : SnapshotValue → List (Option ℕ) → SnapshotValue
@@ -52,6 +51,14 @@ abbrev pub slice_reports : Bool → SnapshotValue → List (Option ℕ) → List
 slice_reports keeps v [] = []
 slice_reports keeps v (most ∷ rest) = slice_report keeps most v ∷ slice_reports keeps (after_slice most v) rest
 
+-- what is true of each run from a snapshot on that is cut in slices, with its visits or without them
+abbrev pub EachSlicing : (Bool → SnapshotValue → List (Option ℕ) → Type 0) → Type 0
+EachSlicing P = (keeps : Bool) (v : SnapshotValue) → IsSnapshot v → (mosts : List (Option ℕ)) → P keeps v mosts
+
+-- the reports of the slices add up to the report of the stretch up to t
+abbrev pub SlicesAddUp : Bool → SnapshotValue → List (Option ℕ) → StateValue → Type 0
+SlicesAddUp keeps v mosts t = sum_of (slice_reports keeps v mosts) ≡ report_up_to keeps v t
+
 -- branches of one problem's run that join from s to t: the first is at s, each later one is where the one before ends, and the last
 -- one ends at t
 abbrev pub AreJoined : ProblemValue → StateValue → List SnapshotValue → StateValue → Type 0
@@ -61,4 +68,4 @@ AreJoined p s (v ∷ vs) t = IsSnapshot v × (v.problem ≡ p) × (v.state ≡ s
 -- the report of each of them, from its state up to its branch's end
 abbrev pub part_reports : Bool → List SnapshotValue → List ReportValue
 part_reports keeps [] = []
-part_reports keeps (v ∷ vs) = stretch_report keeps v.problem v.state (branch_end v) ∷ part_reports keeps vs
+part_reports keeps (v ∷ vs) = report_up_to keeps v (branch_end v) ∷ part_reports keeps vs

@@ -32,6 +32,10 @@ use Rattle.x_snapshot.specs.Faults as snapshot_faults
 use Rattle.x_snapshot.specs.Snapshot.{SnapshotValue}
 use Rattle.x_snapshot.specs.Judged.{snapshot_of}
 use Rattle.polylab_engine.specs.Resumed.{resume_output}
+use Rattle.text_lines.specs.declared.refusal.TextRefusal.{TextRefusal}
+use Rattle.text_lines.specs.Answers.{GivesAt}
+use Rattle.debug_script.specs.Input.{raw_lines}
+use Rattle.std.specs.Prelude.{◌≡◌, IfOk}
 
 -- the words of a refused text: what it was to be, the fault's number, its name, and the number of its line
 abbrev pub refusal_words : List ℕ → ℕ → List ℕ → ℕ → List (List ℕ)
@@ -86,6 +90,14 @@ output_of puzzle_jobs.Classes lines = classes_output
 output_of puzzle_jobs.Options lines = options_output
 output_of puzzle_jobs.Debug lines = puzzle_replies lines
 
+-- what a job writes of the problem that was read, over the bytes of these commands; or the refusal of the text
+abbrev pub cover_answer : CoverJob → List ℕ → Result ProblemValue (Fault × ℕ) → Result (List ℕ) (List ℕ)
+cover_answer job commands read = covers_of (listing_of job (raw_lines commands)) read
+
+-- what a job writes of the puzzle that was read, over the bytes of these commands; or the refusal of the text or of the puzzle
+abbrev pub puzzle_answer : PuzzleJob → List ℕ → Result PuzzleValue (puzzle.Fault × ℕ) → Result (List ℕ) (List ℕ)
+puzzle_answer job commands read = packed_of (output_of job (raw_lines commands)) read
+
 -- what a job writes for an input, or the line that refuses it: the same, by however many workers it is done
 unfoldable pub outcome : Job → List ℕ → Result (List ℕ) (List ℕ)
 outcome (jobs.Cover workers) text = covers_of cover_output (problem_of text)
@@ -122,3 +134,11 @@ bad_writer = line_text (codes "refused" ∷ codes "output" ∷ [])
 abbrev pub outcome_of : Answer → Result (List ℕ) (List ℕ)
 outcome_of (Text text) = Ok text.items
 outcome_of (Refused line) = Err line.items
+
+-- a call answers with this outcome, unless it has an error
+abbrev pub HasOutcome : {E : Type 0} → Result Answer E → Result (List ℕ) (List ℕ) → Type 0
+HasOutcome result given = IfOk result (λ answer. outcome_of answer ≡ given)
+
+-- what is true of what a text says, or of its first fault, where a reader of the text found this
+abbrev pub ForReading : {X F : Type 0} → Result X (TextRefusal F) → (Result X (F × ℕ) → Type 0) → Type 0
+ForReading {X} {F} found P = (read : Result X (F × ℕ)) → GivesAt (λ x. x) found read → P read

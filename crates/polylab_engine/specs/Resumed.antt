@@ -13,6 +13,10 @@ use Rattle.x_snapshot.specs.Snapshot.{SnapshotValue, branch_between}
 use Rattle.x_snapshot.specs.Writing.{snapshot_text}
 use Rattle.polylab_engine.specs.Output.{report_text}
 use Rattle.polylab_engine.specs.Stretch.{steps_taken, stretch_report}
+use Rattle.polylab_engine.specs.Account.{ReportValue}
+use Rattle.x_snapshot.specs.Judged.{snapshot_of}
+use Rattle.x_steps.specs.Machine.{Position}
+use Rattle.std.specs.Prelude.{◌≡◌, Ok}
 
 -- the state that ends a snapshot's branch
 abbrev pub branch_end : SnapshotValue → StateValue
@@ -21,6 +25,14 @@ branch_end v = end_of (branch_between v.problem v.lo v.hi).hi
 -- where a stretch from a snapshot's state on stops: at its branch's end, or as many steps on as are asked for, where that comes first
 abbrev pub stop_of : Option ℕ → SnapshotValue → StateValue
 stop_of most v = after v.problem (steps_taken most (steps_between v.problem v.state (branch_end v))) v.state
+
+-- the position of a machine that stands at a snapshot's state
+abbrev pub position_of : SnapshotValue → Position
+position_of v = record { problem = v.problem; state = v.state }
+
+-- the report of the stretch from a snapshot's state up to t
+abbrev pub report_up_to : Bool → SnapshotValue → StateValue → ReportValue
+report_up_to keeps v t = stretch_report keeps v.problem v.state t
 
 -- the same snapshot at another state
 abbrev pub at_state : SnapshotValue → StateValue → SnapshotValue
@@ -37,4 +49,8 @@ rest_text v t = if comes_before v.problem t (branch_end v) then snapshot_text (a
 -- what `resume` writes of a snapshot, with so many steps asked for, and with the visits or without them
 unfoldable pub resume_output : Option ℕ → Bool → SnapshotValue → List ℕ
 resume_output most lists v =
-    report_text (stretch_report lists v.problem v.state (stop_of most v)) ++ rest_text v (stop_of most v)
+    report_text (report_up_to lists v (stop_of most v)) ++ rest_text v (stop_of most v)
+
+-- what is written of a snapshot is read as that snapshot
+abbrev pub IsReadBack : SnapshotValue → Type 0
+IsReadBack v = snapshot_of (snapshot_text v) ≡ Ok v

@@ -6,6 +6,11 @@ use Rattle.x_steps.specs.StateValue.{StateValue, done}
 use Rattle.x_steps.specs.Run.{states_between}
 use Rattle.x_branches.specs.Cut.{cut_state}
 use Rattle.polylab_engine.specs.Account.{ReportValue, account_of, report_of}
+use Rattle.x_steps.specs.declared.state.Label.TheVariants.{Done}
+use Rattle.x_steps.specs.Run.{after, steps_between}
+use Rattle.x_steps.specs.Machine.{Position}
+use Rattle.x_steps.specs.Walk.{IsAtCut}
+use Rattle.std.specs.Prelude.{◌≡◌, ◌⊎◌}
 
 -- the state that ends a branch: that of the cut of these choices, or Done where there are none
 abbrev pub end_at : List ℕ → StateValue
@@ -20,3 +25,20 @@ steps_taken (Some most) ahead = if nat_lt most ahead then most else ahead
 -- the report of the stretch from s up to t, which keeps the visits or not
 abbrev pub stretch_report : Bool → ProblemValue → StateValue → StateValue → ReportValue
 stretch_report keeps p s t = report_of (account_of keeps p (states_between p s t))
+
+-- the state of a machine at this position after so many steps
+abbrev pub state_at : Position → ℕ → StateValue
+state_at m n = after m.problem n m.state
+
+-- the state where a stretch from a machine's position on stops: at the end of a branch, which is the cut of these choices or Done, or
+-- as many steps on as are asked for, where that comes first
+abbrev pub stop_from : Option ℕ → Position → List ℕ → StateValue
+stop_from most m end = state_at m (steps_taken most (steps_between m.problem m.state (end_at end)))
+
+-- the report of the stretch from a machine's position up to t
+abbrev pub report_from : Bool → Position → StateValue → ReportValue
+report_from keeps m t = stretch_report keeps m.problem m.state t
+
+-- a state ends a branch: it is at the cut of these choices, or it is Done
+abbrev pub IsAtEnd : StateValue → List ℕ → Type 0
+IsAtEnd s choices = IsAtCut s choices ⊎ (s.label ≡ Done)

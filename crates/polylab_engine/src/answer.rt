@@ -1,11 +1,10 @@
 //! What a job writes for an input.
-ghost use Rattle.std.specs.Prelude.{◌≡◌, IfOk, IfErr, Ok, Err, List, [], ℕ, codes, Result};
+ghost use Rattle.std.specs.Prelude.{◌≡◌, IfOk, Ok, List, [], codes};
 ghost use Rattle.text_lines.specs.Answers.{GivesAt};
 ghost use Rattle.text_lines.specs.Writing.{line_text};
-ghost use Rattle.cover_problem.specs.declared.fault.Fault.{Fault};
 ghost use Rattle.poly_texts.specs.declared.fault.Fault as puzzle;
 ghost use Rattle.cover_problem.specs.Reading.{problem_of};
-ghost use Rattle.cover_problem.specs.Problem.{ProblemValue, is_small};
+ghost use Rattle.cover_problem.specs.Problem.{is_small};
 ghost use Rattle.poly_texts.specs.Puzzle.{PuzzleValue};
 ghost use Rattle.poly_texts.specs.Reading.{puzzle_of};
 ghost use Rattle.poly_place.specs.Packings.{packing_problem};
@@ -14,7 +13,9 @@ ghost use Rattle.polylab_engine.specs.Classified.{classes_output};
 ghost use Rattle.debug_script.specs.Input.{raw_lines};
 ghost use Rattle.x_snapshot.specs.Judged.{snapshot_of};
 ghost use Rattle.polylab_engine.specs.Resumed.{resume_output};
-ghost use Rattle.polylab_engine.specs.Outcome.{refusal_words, place_refusal, covers_of, packed_of, resumed_of, outcome, outcome_of, listing_of, output_of};
+ghost use Rattle.polylab_engine.specs.Outcome.{refusal_words, place_refusal, resumed_of, outcome, listing_of, output_of, HasOutcome, ForReading, cover_answer, puzzle_answer};
+ghost use Rattle.cover_problem.specs.Answers.{ReturnsItems};
+ghost use Rattle.x_snapshot.specs.Refusals.{TellsFault};
 
 use crate::classes::count_classes;
 use crate::cover::covers;
@@ -52,7 +53,7 @@ pub fn answer_to<T: Table, R: Threads + Wait + Sync, G: Gate>(
     workers: &Workers<'_, R, G>,
     input: Vec<u8>,
 ) -> Result<Answer, JobFault>
-    ensures { IfOk result (λ answer. outcome_of answer ≡ outcome job input.items) }
+    ensures { HasOutcome result (outcome job input.items) }
 {
     match job {
         Job::Cover { .. } => cover_answer::<T, R, G>(
@@ -107,8 +108,7 @@ fn puzzle_in(alloc: Global, text: Vec<u8>) -> Result<Puzzle, PuzzleFault>
 /// The snapshot of a text, which is let go.
 fn snapshot_in(alloc: Global, text: Vec<u8>) -> Result<Snapshot, SnapshotFault>
     ensures snapshot { IfOk result (λ s. snapshot_of text.items ≡ Ok s) }
-    ensures fault { IfErr result (λ f. (f ≡ SnapshotFault.OutOfMemory → ⊥) →
-        snapshot_of text.items ≡ Err f) }
+    ensures fault { TellsFault result (snapshot_of text.items) }
 {
     read_snapshot(alloc, &text)
 }
@@ -120,8 +120,7 @@ fn resume_answer<T: Table>(
     list: bool,
     text: Vec<u8>,
 ) -> Result<Answer, JobFault>
-    ensures { IfOk result (λ answer. outcome_of answer
-        ≡ resumed_of (resume_output steps list) (snapshot_of text.items)) }
+    ensures { HasOutcome result (resumed_of (resume_output steps list) (snapshot_of text.items)) }
 {
     match snapshot_in(alloc, text) {
         Ok(snapshot) => Ok(Answer::Text(resume::<T>(alloc, steps, list, &snapshot)?)),
@@ -148,8 +147,7 @@ fn cover_answer<T: Table, R: Threads + Wait + Sync, G: Gate>(
     found: Result<Problem, CoverFault>,
     commands: &[u8],
 ) -> Result<Answer, JobFault>
-    ensures { (read : Result ProblemValue (Fault × ℕ)) → GivesAt (λ p. p) found read →
-        IfOk result (λ answer. outcome_of answer ≡ covers_of (listing_of job (raw_lines commands.now)) read) }
+    ensures { ForReading found (λ read. HasOutcome result (cover_answer job commands.now read)) }
 {
     match found {
         Ok(problem) => Ok(Answer::Text(cover_text::<T, R, G>(
@@ -171,7 +169,7 @@ fn cover_text<T: Table, R: Threads + Wait + Sync, G: Gate>(
     problem: &Problem,
     commands: &[u8],
 ) -> Result<Vec<u8>, JobFault>
-    ensures { IfOk result (λ text. text.items ≡ listing_of job (raw_lines commands.now) problem.now) }
+    ensures { ReturnsItems result (listing_of job (raw_lines commands.now) problem.now) }
 {
     match job {
         CoverJob::List => covers::<T, R, G>(alloc, workers, problem),
@@ -186,7 +184,7 @@ fn plain_puzzle<T: Table, R: Threads + Wait + Sync, G: Gate>(
     job: PuzzleJob,
     text: Vec<u8>,
 ) -> Result<Answer, JobFault>
-    ensures { IfOk result (λ answer. outcome_of answer ≡ packed_of (output_of job (raw_lines [])) (puzzle_of text.items)) }
+    ensures { HasOutcome result (puzzle_answer job [] (puzzle_of text.items)) }
 {
     puzzle_answer::<T, R, G>(alloc, workers, job, puzzle_in(alloc, text), &[])
 }
@@ -209,8 +207,7 @@ fn puzzle_answer<T: Table, R: Threads + Wait + Sync, G: Gate>(
     found: Result<Puzzle, PuzzleFault>,
     commands: &[u8],
 ) -> Result<Answer, JobFault>
-    ensures { (read : Result PuzzleValue (puzzle.Fault × ℕ)) → GivesAt (λ p. p) found read →
-        IfOk result (λ answer. outcome_of answer ≡ packed_of (output_of job (raw_lines commands.now)) read) }
+    ensures { ForReading found (λ read. HasOutcome result (puzzle_answer job commands.now read)) }
 {
     match found {
         Ok(puzzle) => packed_answer::<T, R, G>(alloc, workers, job, &puzzle, commands),
@@ -230,8 +227,7 @@ fn packed_answer<T: Table, R: Threads + Wait + Sync, G: Gate>(
     puzzle: &Puzzle,
     commands: &[u8],
 ) -> Result<Answer, JobFault>
-    ensures { (given : PuzzleValue) → given ≡ puzzle.now →
-        IfOk result (λ answer. outcome_of answer ≡ packed_of (output_of job (raw_lines commands.now)) (Ok given)) }
+    ensures { (given : PuzzleValue) → given ≡ puzzle.now → HasOutcome result (puzzle_answer job commands.now (Ok given)) }
 {
     match compile(alloc, puzzle) {
         Ok(compiled) => Ok(Answer::Text(packed_text::<T, R, G>(
@@ -253,7 +249,7 @@ fn packed_text<T: Table, R: Threads + Wait + Sync, G: Gate>(
     compiled: &Compiled<'_>,
     commands: &[u8],
 ) -> Result<Vec<u8>, JobFault>
-    ensures { IfOk result (λ text. text.items ≡ output_of job (raw_lines commands.now) compiled.now) }
+    ensures { ReturnsItems result (output_of job (raw_lines commands.now) compiled.now) }
 {
     match job {
         PuzzleJob::Solve => solve::<T, R, G>(alloc, workers, compiled),
@@ -272,7 +268,7 @@ fn refusal(
     name: &str,
     line: u64,
 ) -> Result<Vec<u8>, AllocError>
-    ensures { IfOk result (λ bytes. bytes.items ≡ line_text (refusal_words text.now number name.now line)) }
+    ensures { ReturnsItems result (line_text (refusal_words text.now number name.now line)) }
 {
     let mut bytes = Vec::from_slice(alloc, b"refused")?;
     write_word(&mut bytes, text)?;

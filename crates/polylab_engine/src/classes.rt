@@ -1,10 +1,9 @@
 //! What `count --classes` writes.
-ghost use Rattle.std.specs.Prelude.{◌≡◌, IfOk, OnOk};
-ghost use Rattle.poly_place.specs.declared.alike.Group.TheVariants.{Rotations, Symmetries};
 ghost use Rattle.poly_place.specs.Packings.{packing_problem};
-ghost use Rattle.polylab_engine.specs.Classified.{packings_of, classes_of, class_lines, classes_output};
+ghost use Rattle.polylab_engine.specs.Classified.{packings_of, classes_output, lines_of_classes};
 ghost use Rattle.polylab_engine.specs.Listing.{AreExactCovers};
-ghost use Rattle.x_texts.specs.Writes.{WritesLines};
+ghost use Rattle.x_texts.specs.Writes.{AddsLines};
+ghost use Rattle.cover_problem.specs.Answers.{ReturnsItems};
 
 use crate::fault::JobFault;
 use crate::packed::count_text;
@@ -25,7 +24,7 @@ pub fn count_classes<T: Table, R: Threads + Wait + Sync, G: Gate>(
     workers: &Workers<'_, R, G>,
     compiled: &Compiled<'_>,
 ) -> Result<Vec<u8>, JobFault>
-    ensures { IfOk result (λ text. text.items ≡ classes_output compiled.now) }
+    ensures { ReturnsItems result (classes_output compiled.now) }
 {
     let report = search::<T, R, G>(alloc, workers, compiled.problem(), true)?;
     let mut text = count_text(alloc, compiled, &report)?;
@@ -41,9 +40,7 @@ fn push_classes(
     visits: &Lists,
 ) -> Result<(), AllocError>
     requires { AreExactCovers (packing_problem compiled.now) visits.now }
-    ensures { OnOk result (WritesLines text.old text.new (class_lines
-        (classes_of Rotations (packings_of compiled.now visits.now))
-        (classes_of Symmetries (packings_of compiled.now visits.now)))) }
+    ensures { AddsLines result text.old text.new (lines_of_classes compiled.now visits.now) }
 {
     let packings = packings_of(alloc, compiled, visits)?;
     let rotations = classes(alloc, packings.as_slice(), Group::Rotations)?;
@@ -59,7 +56,7 @@ fn packings_of<'p>(
     visits: &Lists,
 ) -> Result<Vec<Packing<'p>>, AllocError>
     requires { AreExactCovers (packing_problem compiled.now) visits.now }
-    ensures { IfOk result (λ packings. packings.items ≡ packings_of compiled.now visits.now) }
+    ensures { ReturnsItems result (packings_of compiled.now visits.now) }
 {
     let mut packings = Vec::with_capacity(alloc, visits.len())?;
     for k in 0..visits.len() {

@@ -1,6 +1,6 @@
 //! What `cover` writes.
-ghost use Rattle.std.specs.Prelude.{◌≡◌, IfOk};
 ghost use Rattle.polylab_engine.specs.Output.{cover_output, report_text};
+ghost use Rattle.cover_problem.specs.Answers.{ReturnsItems};
 
 use crate::fault::JobFault;
 use crate::report::Report;
@@ -21,7 +21,7 @@ pub fn covers<T: Table, R: Threads + Wait + Sync, G: Gate>(
     workers: &Workers<'_, R, G>,
     problem: &Problem,
 ) -> Result<Vec<u8>, JobFault>
-    ensures { IfOk result (λ text. text.items ≡ cover_output problem.now) }
+    ensures { ReturnsItems result (cover_output problem.now) }
 {
     let report = search::<T, R, G>(alloc, workers, problem, true)?;
     Ok(report_text(alloc, &report)?)
@@ -29,7 +29,7 @@ pub fn covers<T: Table, R: Threads + Wait + Sync, G: Gate>(
 
 /// The visits that a report keeps, and then the number of all visits, the steps and the levels.
 pub fn report_text(alloc: Global, report: &Report) -> Result<Vec<u8>, AllocError>
-    ensures { IfOk result (λ text. text.items ≡ report_text report.now) }
+    ensures { ReturnsItems result (report_text report.now) }
 {
     let mut text = Vec::new(alloc);
     write_visits(&mut text, report.visits())?;

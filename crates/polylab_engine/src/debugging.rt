@@ -1,7 +1,7 @@
 //! A search that is taken by commands.
-ghost use Rattle.std.specs.Prelude.{◌≡◌, IfOk};
 ghost use Rattle.debug_script.specs.Input.{raw_lines};
 ghost use Rattle.polylab_engine.specs.Debugged.{debug_output};
+ghost use Rattle.cover_problem.specs.Answers.{ReturnsItems};
 
 use crate::fault::JobFault;
 use crate::workers::Workers;
@@ -21,7 +21,7 @@ pub fn debug<T: Table, R: Threads + Wait + Sync, G: Gate>(
     problem: &Problem,
     commands: &[u8],
 ) -> Result<Vec<u8>, JobFault>
-    ensures { IfOk result (λ text. text.items ≡ debug_output (raw_lines commands.now) problem.now) }
+    ensures { ReturnsItems result (debug_output (raw_lines commands.now) problem.now) }
 {
     Ok(replies::<T, R, G>(workers.rt, alloc, problem, commands, workers.gate)?)
 }

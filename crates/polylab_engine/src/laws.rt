@@ -1,32 +1,23 @@
 //! Laws of stretches, over the definitions alone: each is a function that does nothing, whose contract is the law.
-ghost use Rattle.std.specs.Prelude.{ℕ, ◌≡◌, Bool, Option, List, Ok};
+ghost use Rattle.std.specs.Prelude.{ℕ, ◌≡◌, Bool, Option, List};
 ghost use Rattle.cover_problem.specs.Problem.{ProblemValue};
 ghost use Rattle.x_steps.specs.StateValue.{StateValue, start, done};
 ghost use Rattle.x_steps.specs.Steps.{Fits};
-ghost use Rattle.x_snapshot.specs.Snapshot.{SnapshotValue, IsSnapshot};
-ghost use Rattle.x_snapshot.specs.Writing.{snapshot_text};
-ghost use Rattle.x_snapshot.specs.Judged.{snapshot_of};
+ghost use Rattle.x_snapshot.specs.Snapshot.{SnapshotValue, IsSnapshot, EachSnapshot};
 ghost use Rattle.polylab_engine.specs.Output.{whole_report};
 ghost use Rattle.polylab_engine.specs.Stretch.{stretch_report};
-ghost use Rattle.polylab_engine.specs.Resumed.{branch_end};
-ghost use Rattle.polylab_engine.specs.Joined.{sum_of, after_slice, sliced, slice_reports, AreJoined, part_reports};
+ghost use Rattle.polylab_engine.specs.Resumed.{branch_end, IsReadBack};
+ghost use Rattle.polylab_engine.specs.Joined.{sum_of, after_slice, sliced, AreJoined, part_reports, EachSlicing, SlicesAddUp};
 
 /// A run that is cut in slices, each of which begins where the one before wrote its snapshot: the visits of the slices in order are the
 /// visits of the stretch from the first one's state to where the last one stopped, and the numbers of visits, steps and levels add up
 /// to its own; to those of the whole rest of the branch, where the last one stopped at its end. What a slice writes last is read
 /// as the snapshot where it stopped.
 pub fn slices_join()
-    ensures sum { (keeps : Bool) (v : SnapshotValue) → IsSnapshot v → (mosts : List (Option ℕ)) →
-        sum_of (slice_reports keeps v mosts)
-        ≡ stretch_report keeps v.problem v.state (sliced v mosts).state }
-    ensures whole { (keeps : Bool) (v : SnapshotValue) → IsSnapshot v → (mosts : List (Option ℕ)) →
-        (sliced v mosts).state ≡ branch_end v →
-        sum_of (slice_reports keeps v mosts)
-        ≡ stretch_report keeps v.problem v.state (branch_end v) }
-    ensures snapshot { (most : Option ℕ) (v : SnapshotValue) → IsSnapshot v →
-        IsSnapshot (after_slice most v) }
-    ensures read { (most : Option ℕ) (v : SnapshotValue) → IsSnapshot v →
-        snapshot_of (snapshot_text (after_slice most v)) ≡ Ok (after_slice most v) }
+    ensures sum { EachSlicing (λ keeps v mosts. SlicesAddUp keeps v mosts (sliced v mosts).state) }
+    ensures whole { EachSlicing (λ keeps v mosts. (sliced v mosts).state ≡ branch_end v → SlicesAddUp keeps v mosts (branch_end v)) }
+    ensures snapshot { (most : Option ℕ) → EachSnapshot (λ v. IsSnapshot (after_slice most v)) }
+    ensures read { (most : Option ℕ) → EachSnapshot (λ v. IsReadBack (after_slice most v)) }
 {}
 
 /// Branches that join, each of which begins where the one before ends: their visits in order are those of the stretch from where the

@@ -1,11 +1,12 @@
 //! What `solve`, `count` and `options` write.
-ghost use Rattle.std.specs.Prelude.{◌≡◌, ◌<◌, ◌∷◌, [], ℕ, List, length, IfOk, OnOk, decimal};
+ghost use Rattle.std.specs.Prelude.{◌<◌, ◌∷◌, [], ℕ, List, length, decimal};
 ghost use Rattle.cover_problem.specs.Lists.{has};
 ghost use Rattle.cover_problem.specs.ExactCover.{IsExactCover};
 ghost use Rattle.poly_place.specs.Packings.{packing_problem};
 ghost use Rattle.polylab_engine.specs.Packed.{solve_output, count_output, count_text, options_output, packing_text, packings_from, number_line};
 ghost use Rattle.polylab_engine.specs.Listing.{AreExactCovers};
-ghost use Rattle.x_texts.specs.Writes.{Writes};
+ghost use Rattle.x_texts.specs.Writes.{Adds};
+ghost use Rattle.cover_problem.specs.Answers.{ReturnsItems};
 
 use crate::fault::JobFault;
 use crate::report::Report;
@@ -26,7 +27,7 @@ pub fn solve<T: Table, R: Threads + Wait + Sync, G: Gate>(
     workers: &Workers<'_, R, G>,
     compiled: &Compiled<'_>,
 ) -> Result<Vec<u8>, JobFault>
-    ensures { IfOk result (λ text. text.items ≡ solve_output compiled.now) }
+    ensures { ReturnsItems result (solve_output compiled.now) }
 {
     let report = search::<T, R, G>(alloc, workers, compiled.problem(), true)?;
     let mut text = Vec::new(alloc);
@@ -42,7 +43,7 @@ pub fn count<T: Table, R: Threads + Wait + Sync, G: Gate>(
     workers: &Workers<'_, R, G>,
     compiled: &Compiled<'_>,
 ) -> Result<Vec<u8>, JobFault>
-    ensures { IfOk result (λ text. text.items ≡ count_output compiled.now) }
+    ensures { ReturnsItems result (count_output compiled.now) }
 {
     let report = search::<T, R, G>(alloc, workers, compiled.problem(), false)?;
     Ok(count_text(alloc, compiled, &report)?)
@@ -54,7 +55,7 @@ pub fn count_text(
     compiled: &Compiled<'_>,
     report: &Report,
 ) -> Result<Vec<u8>, AllocError>
-    ensures { IfOk result (λ text. text.items ≡ count_text compiled.now report.now) }
+    ensures { ReturnsItems result (count_text compiled.now report.now) }
 {
     let options = compiled.problem().options();
     let mut text = Vec::new(alloc);
@@ -67,7 +68,7 @@ pub fn count_text(
 /// The cover text whose exact covers are the packings.
 #[tactic(auto, unfolding(crate::specs::Packed::options_output))]
 pub fn options(alloc: Global, compiled: &Compiled<'_>) -> Result<Vec<u8>, AllocError>
-    ensures { IfOk result (λ text. text.items ≡ options_output compiled.now) }
+    ensures { ReturnsItems result (options_output compiled.now) }
 {
     write_cover(alloc, compiled.problem())
 }
@@ -80,7 +81,7 @@ fn push_packings(
     visits: &Lists,
 ) -> Result<(), AllocError>
     requires { AreExactCovers (packing_problem compiled.now) visits.now }
-    ensures { OnOk result (Writes text.old text.new (packings_from compiled.now 1 visits.now)) }
+    ensures { Adds result text.old text.new (packings_from compiled.now 1 visits.now) }
 {
     for k in 0..visits.len() {
         push_packing(alloc, text, compiled, k as u128 + 1, visits.list(k))?;
@@ -97,7 +98,7 @@ fn push_packing(
     path: &[u32],
 ) -> Result<(), AllocError>
     requires { IsExactCover (packing_problem compiled.now) (has path.now) }
-    ensures { OnOk result (Writes text.old text.new (packing_text compiled.now number path.now)) }
+    ensures { Adds result text.old text.new (packing_text compiled.now number path.now) }
 {
     write_number_line(text, "packing", number)?;
     let packing = packing_of(alloc, compiled, path)?;

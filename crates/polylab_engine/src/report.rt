@@ -1,12 +1,12 @@
 //! The report of a whole search.
-ghost use Rattle.std.specs.Prelude.{◌≡◌, None, IfOk, OnOk};
-ghost use Rattle.x_steps.specs.Run.{visits_between};
+ghost use Rattle.std.specs.Prelude.{◌≡◌, IfOk};
 ghost use Rattle.x_steps.specs.StateValue.{start};
-ghost use Rattle.x_branches.specs.Branch.{end_of};
+ghost use Rattle.x_branches.specs.Branch.{whole_run};
 ghost use Rattle.lab_book.specs.Posted.{AllClosed};
-ghost use Rattle.polylab_engine.specs.Account.{kept};
+ghost use Rattle.polylab_engine.specs.Account.{book_visits};
 ghost use Rattle.polylab_engine.specs.Output.{tally_lines, whole_report};
-ghost use Rattle.x_texts.specs.Writes.{WritesLines};
+ghost use Rattle.x_texts.specs.Writes.{AddsLines};
+ghost use Rattle.cover_problem.specs.Answers.{Returns};
 
 use cover_problem::Lists;
 use lab_book::Book;
@@ -40,8 +40,7 @@ impl Model for Report {
 
 /// The visits of a book, or none where they are not kept.
 fn visits_of(alloc: Global, book: &Book<'_>, keeps: bool) -> Result<Lists, AllocError>
-    ensures { IfOk result (λ paths. AllClosed book.now.tiles →
-        paths ≡ kept keeps (visits_between book.now.problem book.now.first (end_of book.now.branch.hi))) }
+    ensures { IfOk result (λ paths. AllClosed book.now.tiles → paths ≡ book_visits keeps book.now) }
 {
     if keeps {
         book.visits()
@@ -55,8 +54,8 @@ impl Report {
     pub fn of_book(alloc: Global, book: &Book<'_>, keeps: bool) -> Result<Report, AllocError>
         requires finished { AllClosed book.now.tiles }
         requires first { book.now.first ≡ start }
-        requires branch { book.now.branch ≡ record { lo = None; hi = None } }
-        ensures { IfOk result (λ report. report ≡ whole_report keeps book.now.problem) }
+        requires branch { book.now.branch ≡ whole_run }
+        ensures { Returns result (whole_report keeps book.now.problem) }
     {
         let visits = visits_of(alloc, book, keeps)?;
         let levels = book.levels()?;
@@ -84,7 +83,7 @@ impl Report {
 
     /// Adds the lines of the steps and of the levels, of level 0 at least.
     pub fn push_steps(&self, text: &mut Vec<u8>) -> Result<(), AllocError>
-        ensures { OnOk result (WritesLines text.old text.new (tally_lines self.now.steps self.now.levels)) }
+        ensures { AddsLines result text.old text.new (tally_lines self.now.steps self.now.levels) }
     {
         write_number_line(text, "steps", self.steps)?;
         write_levels(text, &self.levels)

@@ -3,8 +3,9 @@ ghost use Rattle.std.specs.Prelude.{◌≡◌, ◌↔◌, IfOk, IsTrue};
 ghost use Rattle.x_steps.specs.StateValue.{at, done};
 ghost use Rattle.x_steps.specs.StateView.{state_value};
 ghost use Rattle.x_snapshot.specs.Snapshot.{IsSnapshot, choices_of};
-ghost use Rattle.polylab_engine.specs.Stretch.{end_at, stretch_report};
-ghost use Rattle.polylab_engine.specs.Resumed.{branch_end, resume_output, stop_of, at_state, rest_text};
+ghost use Rattle.polylab_engine.specs.Stretch.{end_at};
+ghost use Rattle.polylab_engine.specs.Resumed.{branch_end, resume_output, stop_of, at_state, rest_text, position_of, report_up_to};
+ghost use Rattle.cover_problem.specs.Answers.{Returns, ReturnsItems};
 
 use crate::cover::report_text;
 use crate::report::Report;
@@ -23,7 +24,7 @@ pub fn resume<T: Table>(
     lists: bool,
     snapshot: &Snapshot,
 ) -> Result<Vec<u8>, AllocError>
-    ensures { IfOk result (λ text. text.items ≡ resume_output most lists snapshot.now) }
+    ensures { ReturnsItems result (resume_output most lists snapshot.now) }
 {
     let _problem = snapshot.problem();
     let (report, stop) = stretch_of::<T>(alloc, most, lists, snapshot)?;
@@ -50,8 +51,7 @@ fn machine_at<'p, T: Table>(
     alloc: Global,
     snapshot: &'p Snapshot,
 ) -> Result<Machine<'p, T>, AllocError>
-    ensures { IfOk result (λ m.
-        m ≡ record { problem = snapshot.now.problem; state = snapshot.now.state }) }
+    ensures { Returns result (position_of snapshot.now) }
 {
     let problem = snapshot.problem();
     let table = T::new(alloc, problem)?;
@@ -72,8 +72,7 @@ fn stretch_of<T: Table>(
     snapshot: &Snapshot,
 ) -> Result<(Report, State), AllocError>
     ensures stop { IfOk result (λ r. state_value r.1 ≡ stop_of most snapshot.now) }
-    ensures report { IfOk result (λ r.
-        r.0 ≡ stretch_report lists snapshot.now.problem snapshot.now.state (state_value r.1)) }
+    ensures report { IfOk result (λ r. r.0 ≡ report_up_to lists snapshot.now (state_value r.1)) }
 {
     let _problem = snapshot.problem();
     let machine = machine_at::<T>(alloc, snapshot)?;
@@ -127,7 +126,7 @@ fn high_of(alloc: Global, snapshot: &Snapshot) -> Result<Option<Vec<u32>>, Alloc
 /// The same snapshot at another state of its branch.
 fn moved(alloc: Global, snapshot: &Snapshot, state: State) -> Result<Snapshot, AllocError>
     requires { IsSnapshot (at_state snapshot.now (state_value state)) }
-    ensures { IfOk result (λ s. s ≡ at_state snapshot.now (state_value state)) }
+    ensures { Returns result (at_state snapshot.now (state_value state)) }
 {
     let problem = snapshot.problem().copy()?;
     let lo = low_of(alloc, snapshot)?;
@@ -145,7 +144,7 @@ fn moved(alloc: Global, snapshot: &Snapshot, state: State) -> Result<Snapshot, A
 /// What stands last where a stretch stops at a state: the line `end` where the branch ends there, or the snapshot at that state.
 fn rest_of(alloc: Global, snapshot: &Snapshot, state: State) -> Result<Vec<u8>, AllocError>
     requires { IsSnapshot (at_state snapshot.now (state_value state)) }
-    ensures { IfOk result (λ rest. rest.items ≡ rest_text snapshot.now (state_value state)) }
+    ensures { ReturnsItems result (rest_text snapshot.now (state_value state)) }
 {
     if is_end(&state, end_choices(snapshot)) {
         return Vec::from_slice(alloc, b"end\n");

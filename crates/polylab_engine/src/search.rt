@@ -1,7 +1,7 @@
 //! The whole run of a problem, and its report.
-ghost use Rattle.std.specs.Prelude.{◌≡◌, IfOk};
 ghost use Rattle.cover_problem.specs.Problem.{IsProblem};
 ghost use Rattle.polylab_engine.specs.Output.{whole_report};
+ghost use Rattle.cover_problem.specs.Answers.{Returns};
 
 use crate::fault::JobFault;
 use crate::report::Report;
@@ -22,7 +22,7 @@ pub fn search<T: Table, R: Threads + Wait + Sync, G: Gate>(
     problem: &Problem,
     keeps: bool,
 ) -> Result<Report, JobFault>
-    ensures report { IfOk result (λ report. report ≡ whole_report keeps problem.now) }
+    ensures report { Returns result (whole_report keeps problem.now) }
     ensures problem { IsProblem problem.now }
 {
     is_problem(problem);
@@ -45,7 +45,7 @@ fn search_alone<T: Table>(
     problem: &Problem,
     keeps: bool,
 ) -> Result<Report, AllocError>
-    ensures { IfOk result (λ report. report ≡ whole_report keeps problem.now) }
+    ensures { Returns result (whole_report keeps problem.now) }
 {
     let table = T::new(alloc, problem)?;
     let Ok(machine) = Machine::new(alloc, problem, table) else {
@@ -62,7 +62,7 @@ fn search_together<R: Threads + Wait + Sync, G: Gate>(
     problem: &Problem,
     keeps: bool,
 ) -> Result<Report, JobFault>
-    ensures { IfOk result (λ report. report ≡ whole_report keeps problem.now) }
+    ensures { Returns result (whole_report keeps problem.now) }
 {
     match run_pool(workers.rt, alloc, problem, workers.count, workers.gate) {
         Ok(book) => Ok(Report::of_book(alloc, &book, keeps)?),

@@ -3,10 +3,9 @@ ghost use Rattle.std.specs.Prelude.{◌≡◌, ◌<◌, ◌≤◌, ◌-◌, ◌+
 ghost use Rattle.std.specs.Option.{ForSome};
 ghost use Rattle.x_steps.specs.StateView.{state_value};
 ghost use Rattle.x_steps.specs.Steps.{Fits};
-ghost use Rattle.x_steps.specs.Run.{after, steps_between};
 ghost use Rattle.x_steps.specs.Walk.{IsAtCut, IsWalk, HasRoom};
 ghost use Rattle.x_branches.specs.RunOrder.{ComesBefore};
-ghost use Rattle.polylab_engine.specs.Stretch.{end_at, steps_taken, stretch_report};
+ghost use Rattle.polylab_engine.specs.Stretch.{end_at, stop_from, report_from, IsAtEnd, state_at};
 
 use crate::report::Report;
 use crate::tally::Tally;
@@ -51,10 +50,8 @@ fn walk_on<T: Table>(
     ensures walk { IsWalk machine.old.problem machine.old.state machine.new.state
         counts.old counts.new result.steps result.event }
     ensures within { result.steps ≤ most }
-    ensures before { (i : ℕ) → i < result.steps →
-        IsAtCut (after machine.old.problem i machine.old.state) end.now → ⊥ }
-    ensures none { result.steps ≡ 0 →
-        (most ≡ 0) ⊎ (IsAtCut machine.new.state end.now ⊎ (machine.new.state.label ≡ Label.Done)) }
+    ensures before { (i : ℕ) → i < result.steps → IsAtCut (state_at machine.old i) end.now → ⊥ }
+    ensures none { result.steps ≡ 0 → (most ≡ 0) ⊎ IsAtEnd machine.new.state end.now }
 {
     match machine.walk(most, end, counts) {
         Ok(walk) => walk,
@@ -77,12 +74,8 @@ pub fn search_on<T: Table>(
 ) -> Result<(Report, State), AllocError>
     requires end { Fits machine.problem (end_at end.now) }
     requires not_past { ComesBefore machine.problem (end_at end.now) machine.state → ⊥ }
-    ensures stop { IfOk result (λ r. state_value r.1 ≡ after machine.entry.problem
-        (steps_taken most
-        (steps_between machine.entry.problem machine.entry.state (end_at end.now)))
-        machine.entry.state) }
-    ensures report { IfOk result (λ r.
-        r.0 ≡ stretch_report keeps machine.entry.problem machine.entry.state (state_value r.1)) }
+    ensures stop { IfOk result (λ r. state_value r.1 ≡ stop_from most machine.entry end.now) }
+    ensures report { IfOk result (λ r. r.0 ≡ report_from keeps machine.entry (state_value r.1)) }
 {
     let items = machine.problem().items();
     let mut machine = machine;

@@ -1,6 +1,7 @@
 //! What a search comes to, counted walk by walk.
-ghost use Rattle.std.specs.Prelude.{◌≡◌, length, replicate, IfOk, OnOk};
+ghost use Rattle.std.specs.Prelude.{◌≡◌, length, replicate, OnOk};
 ghost use Rattle.polylab_engine.specs.Account.{AreSums, with_walk, empty_account, kept_with, visits_with, report_of};
+ghost use Rattle.cover_problem.specs.Answers.{Returns, ReturnsItems};
 
 use crate::count::Count;
 use crate::report::Report;
@@ -33,7 +34,7 @@ impl Model for Tally {
 
 /// So many counts of nothing.
 fn no_counts(alloc: Global, count: usize) -> Result<Vec<Count>, AllocError>
-    ensures { IfOk result (λ counts. counts.items ≡ replicate count 0) }
+    ensures { ReturnsItems result (replicate count 0) }
 {
     let mut counts = Vec::with_capacity(alloc, count)?;
     for _ in 0..count {
@@ -55,7 +56,7 @@ fn add_each(totals: &mut [Count], counts: &[u32]) -> Result<(), AllocError>
 
 /// The counts as numbers.
 fn totals_of(alloc: Global, counts: &[Count]) -> Result<Vec<u128>, AllocError>
-    ensures { IfOk result (λ totals. totals.items ≡ counts.now) }
+    ensures { ReturnsItems result counts.now }
 {
     let mut totals = Vec::with_capacity(alloc, counts.len())?;
     for count in counts {
@@ -67,7 +68,7 @@ fn totals_of(alloc: Global, counts: &[Count]) -> Result<Vec<u128>, AllocError>
 impl Tally {
     /// The tally of no step, for a problem of so many items.
     pub fn new(alloc: Global, items: u32) -> Result<Tally, AllocError>
-        ensures { IfOk result (λ tally. tally ≡ empty_account items) }
+        ensures { Returns result (empty_account items) }
     {
         let entered = no_counts(alloc, items as usize + 1)?;
         Ok(Tally {
@@ -98,7 +99,7 @@ impl Tally {
 
     /// The report of what was counted.
     pub fn report(self, alloc: Global) -> Result<Report, AllocError>
-        ensures { IfOk result (λ report. report ≡ report_of self) }
+        ensures { Returns result (report_of self) }
     {
         let mut levels = totals_of(alloc, &self.entered)?;
         drop_last_zeros(&mut levels);

@@ -1,0 +1,278 @@
+//! Calls of a book to which memory is refused: the book is then as it was, what was handed in comes back, and the same call, made again,
+//! leaves the book as one to which nothing is refused.
+
+use crate::setting::{are_alike, cut_of, entered, grows, stretch_of};
+use cover_problem::{Problem, read_cover};
+use drawn_problems::SMALL;
+use lab_book::{Book, BookFault, Lease, Leased};
+use std::alloc::Global;
+use std::test::Fail;
+use x_branches::{Cut, Stretch};
+use x_steps::{Refused, State};
+
+/// What worker 3 asks of a book: under the lease of its only tile, where a call takes one.
+#[derive(Clone, Copy)]
+enum Ask {
+    Lease,
+    Post,
+    Split,
+    Retract,
+    PutBack,
+}
+
+/// A call with what it is handed.
+#[derive(Drop)]
+enum Call<'p> {
+    Lease,
+    Post(Stretch<'p>),
+    Split(Cut<'p>),
+    Retract,
+    PutBack(State),
+}
+
+/// Whether a call was refused for want of memory, and left the book as another one still is.
+fn is_refused(fault: &BookFault, book: &Book<'_>, before: &Book<'_>) -> bool {
+    fault.same(&BookFault::OutOfMemory) && are_alike(book, before)
+}
+
+/// The lease that was given.
+fn lease_in(leased: Leased<'_>) -> Lease {
+    let Leased {
+        lease,
+        branch: _,
+        mark: _,
+        waiting: _,
+    } = leased;
+    lease
+}
+
+/// The lease that worker 3 has of a book's tile.
+fn lease_of(book: &mut Book<'_>) -> Result<Lease, BookFault> {
+    match book.lease(3, 0) {
+        Ok(leased) => Ok(lease_in(leased)),
+        Err(fault) => Err(fault),
+    }
+}
+
+/// What is wrong with a lease, if anything is.
+fn leases(book: &mut Book<'_>) -> Option<BookFault> {
+    match lease_of(book) {
+        Ok(lease) => {
+            lease.discard();
+            None
+        }
+        Err(fault) => Some(fault),
+    }
+}
+
+/// Whether the tile is leased, on a second try where the first is refused.
+fn is_leased(book: &mut Book<'_>, before: &Book<'_>) -> bool {
+    match leases(book) {
+        None => true,
+        Some(fault) => is_refused(&fault, book, before) && leases(book).is_none(),
+    }
+}
+
+/// The same of a post of a stretch, which a refusal gives back.
+fn is_posted<'p>(
+    book: &mut Book<'p>,
+    lease: &Lease,
+    stretch: Stretch<'p>,
+    before: &Book<'p>,
+) -> bool {
+    match book.post(lease, stretch) {
+        Ok(_) => true,
+        Err(Refused { fault, given }) => {
+            is_refused(&fault, book, before) && book.post(lease, given).is_ok()
+        }
+    }
+}
+
+/// The same of a split at a cut, which a refusal gives back.
+fn is_split<'p>(book: &mut Book<'p>, lease: &Lease, cut: Cut<'p>, before: &Book<'p>) -> bool {
+    match book.split(lease, cut) {
+        Ok(id) => id == 1,
+        Err(Refused { fault, given }) => {
+            is_refused(&fault, book, before) && book.split(lease, given).is_ok()
+        }
+    }
+}
+
+/// Whether the last stretch that is taken out is one of five steps.
+fn retracts(book: &mut Book<'_>, lease: &Lease) -> Result<bool, BookFault> {
+    match book.retract(lease) {
+        Ok(stretch) => Ok(stretch.steps() == 5),
+        Err(fault) => Err(fault),
+    }
+}
+
+/// The same, on a second try where the first is refused.
+fn is_retracted(book: &mut Book<'_>, lease: &Lease, before: &Book<'_>) -> bool {
+    match retracts(book, lease) {
+        Ok(is_five) => is_five,
+        Err(fault) => is_refused(&fault, book, before) && retracts(book, lease).is_ok(),
+    }
+}
+
+/// Whether the tile goes back to a state, on a second try where the first is refused.
+fn is_put_back(book: &mut Book<'_>, state: &State, before: &Book<'_>) -> bool {
+    match book.put_back(3, 0, state) {
+        Ok(()) => true,
+        Err(fault) => is_refused(&fault, book, before) && book.put_back(3, 0, state).is_ok(),
+    }
+}
+
+/// Posts so many steps that begin so many steps after X1.
+fn post<'p>(
+    alloc: Global,
+    problem: &'p Problem,
+    book: &mut Book<'p>,
+    lease: &Lease,
+    from: u32,
+    steps: u32,
+) -> Result<(), Fail> {
+    match book.post(lease, stretch_of(alloc, problem, from, steps)?) {
+        Ok(_) => Ok(()),
+        Err(_) => Err(Fail::from("no post")),
+    }
+}
+
+/// Posts five steps to the tile, and where it is to be put back 20 more.
+fn post_steps<'p>(
+    alloc: Global,
+    problem: &'p Problem,
+    book: &mut Book<'p>,
+    lease: &Lease,
+    ask: Ask,
+) -> Result<(), Fail> {
+    post(alloc, problem, book, lease, 0, 5)?;
+    match ask {
+        Ask::PutBack => post(alloc, problem, book, lease, 5, 20),
+        _ => Ok(()),
+    }
+}
+
+/// Lets the tile go where it is to be put back; answers whether it could.
+fn end(book: &mut Book<'_>, lease: Lease, ask: Ask) -> bool {
+    let Ask::PutBack = ask else {
+        lease.discard();
+        return true;
+    };
+    match book.park(lease) {
+        Ok(()) => true,
+        Err(Refused { fault: _, given }) => {
+            given.discard();
+            false
+        }
+    }
+}
+
+/// What is done before the call under the lease of the tile.
+fn begin<'p>(
+    alloc: Global,
+    problem: &'p Problem,
+    book: &mut Book<'p>,
+    lease: Lease,
+    ask: Ask,
+) -> Result<(), Fail> {
+    let posted = post_steps(alloc, problem, book, &lease, ask);
+    let is_ended = end(book, lease, ask);
+    posted?;
+    if is_ended {
+        return Ok(());
+    }
+    Err(Fail::from("not parked"))
+}
+
+/// A book as it is before the call.
+fn begun<'p>(alloc: Global, problem: &'p Problem, ask: Ask) -> Result<Book<'p>, Fail> {
+    let mut book = Book::new(alloc, problem)?;
+    if let Ask::Lease = ask {
+        return Ok(book);
+    }
+    match lease_of(&mut book) {
+        Ok(lease) => begin(alloc, problem, &mut book, lease, ask)?,
+        Err(_) => return Err(Fail::from("no lease")),
+    }
+    Ok(book)
+}
+
+/// The call, with what it is handed: the steps up to the visit, the cut 4, or the state that the first stretch led to.
+fn call_of<'p>(alloc: Global, problem: &'p Problem, ask: Ask) -> Result<Call<'p>, Fail> {
+    Ok(match ask {
+        Ask::Lease => Call::Lease,
+        Ask::Post => Call::Post(stretch_of(alloc, problem, 5, 25)?),
+        Ask::Split => Call::Split(cut_of(alloc, problem, &[4])?),
+        Ask::Retract => Call::Retract,
+        Ask::PutBack => Call::PutBack(entered(alloc, &[2])?),
+    })
+}
+
+/// Whether a call is made, on a second try where the first is refused.
+fn is_made<'p>(book: &mut Book<'p>, lease: &Lease, call: Call<'p>, before: &Book<'p>) -> bool {
+    match call {
+        Call::Lease => is_leased(book, before),
+        Call::Post(stretch) => is_posted(book, lease, stretch, before),
+        Call::Split(cut) => is_split(book, lease, cut, before),
+        Call::Retract => is_retracted(book, lease, before),
+        Call::PutBack(state) => is_put_back(book, &state, before),
+    }
+}
+
+/// Whether the same call leaves two books alike, memory being refused to the second one alone.
+fn is_made_alike<'p>(
+    alloc: Global,
+    problem: &'p Problem,
+    lease: &Lease,
+    ask: Ask,
+) -> Result<bool, Fail> {
+    let before = begun(alloc, problem, ask)?;
+    let mut twin = begun(alloc, problem, ask)?;
+    let mut book = begun(alloc, problem, ask)?;
+    let is_first = is_made(&mut twin, lease, call_of(alloc, problem, ask)?, &before);
+    let call = call_of(alloc, problem, ask)?;
+    grows(alloc)?;
+    Ok(is_first && is_made(&mut book, lease, call, &before) && are_alike(&book, &twin))
+}
+
+/// The same of the small problem, under the first lease that worker 3 has of its tile.
+fn is_asked(alloc: Global, ask: Ask) -> Result<bool, Fail> {
+    let problem = read_cover(alloc, SMALL.as_bytes())?;
+    let mut book = Book::new(alloc, &problem)?;
+    let Ok(lease) = lease_of(&mut book) else {
+        return Err(Fail::from("no lease"));
+    };
+    let is_alike = is_made_alike(alloc, &problem, &lease, ask);
+    lease.discard();
+    is_alike
+}
+
+#[test]
+fn a_refused_lease_leaves_the_book(rt: HostRuntime) -> Result<(), Fail> {
+    assert!(rt; is_asked(rt.alloc(), Ask::Lease)?);
+    Ok(())
+}
+
+#[test]
+fn a_refused_post_gives_its_stretch_back(rt: HostRuntime) -> Result<(), Fail> {
+    assert!(rt; is_asked(rt.alloc(), Ask::Post)?);
+    Ok(())
+}
+
+#[test]
+fn a_refused_split_gives_its_cut_back(rt: HostRuntime) -> Result<(), Fail> {
+    assert!(rt; is_asked(rt.alloc(), Ask::Split)?);
+    Ok(())
+}
+
+#[test]
+fn a_refused_retraction_leaves_the_stretch(rt: HostRuntime) -> Result<(), Fail> {
+    assert!(rt; is_asked(rt.alloc(), Ask::Retract)?);
+    Ok(())
+}
+
+#[test]
+fn a_tile_is_not_put_back_without_memory(rt: HostRuntime) -> Result<(), Fail> {
+    assert!(rt; is_asked(rt.alloc(), Ask::PutBack)?);
+    Ok(())
+}

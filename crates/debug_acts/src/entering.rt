@@ -7,8 +7,8 @@ ghost use Rattle.lab_world.specs.Worker.{HoldsTile};
 ghost use Rattle.lab_world.specs.World.{IsSeat};
 ghost use Rattle.debug_acts.specs.Desk.{desk};
 ghost use Rattle.debug_acts.specs.Entering.{entering, lent_at, enter, IsNotEntered};
-ghost use Rattle.debug_views.specs.Tiles.{cut};
-ghost use Rattle.debug_views.specs.Saying.{SaysText};
+ghost use Rattle.debug_views.specs.Tiles.{given_cut};
+ghost use Rattle.cover_problem.specs.Answers.{Adds};
 
 use cover_problem::Table;
 use debug_language::write_at;
@@ -56,7 +56,7 @@ fn enter_at<'p, T: Table>(
 ) -> Result<Option<Worker<'p, T>>, AllocError>
     requires { place < length book.old.tiles }
     ensures made { IfOk result (λ w. desk book.new w ≡ (lent_at book.old place).desk) }
-    ensures text { SaysText result text.old text.new (lent_at book.old place).text }
+    ensures text { Adds result text.old text.new (lent_at book.old place).text }
     ensures left { OnErr result (IsNotEntered book.old book.new (lent_at book.old place)) }
     ensures seat { IfOk result (IsSeat book.new 0) }
 {
@@ -79,9 +79,9 @@ pub fn enter<'p, T: Table>(
     lo: Option<&[u32]>,
     text: &mut Vec<u8>,
 ) -> Result<Option<Worker<'p, T>>, AllocError>
-    ensures made { IfOk result (λ w. desk book.new w ≡ (enter book.old (cut lo.entry)).desk) }
-    ensures text { SaysText result text.old text.new (enter book.old (cut lo.entry)).text }
-    ensures left { OnErr result (IsNotEntered book.old book.new (enter book.old (cut lo.entry))) }
+    ensures made { IfOk result (λ w. desk book.new w ≡ (enter book.old (given_cut lo.entry)).desk) }
+    ensures text { Adds result text.old text.new (enter book.old (given_cut lo.entry)).text }
+    ensures left { OnErr result (IsNotEntered book.old book.new (enter book.old (given_cut lo.entry))) }
     ensures seat { IfOk result (IsSeat book.new 0) }
 {
     let Some(place) = place_at(book, lo) else {

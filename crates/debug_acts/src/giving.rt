@@ -3,7 +3,7 @@ ghost use Rattle.std.specs.Prelude.{◌≡◌, IfErr, OnOk};
 ghost use Rattle.lab_world.specs.Worker.{HoldsTile};
 ghost use Rattle.debug_acts.specs.Work.{work};
 ghost use Rattle.debug_acts.specs.Giving.{park, parked, IsNotGiven};
-ghost use Rattle.debug_views.specs.Saying.{SaysText};
+ghost use Rattle.cover_problem.specs.Answers.{Adds};
 
 mod closing;
 mod saving;
@@ -44,7 +44,7 @@ pub fn park<'p, T: Table>(
 ) -> Result<(), Worker<'p, T>>
     requires holds { HoldsTile book.old worker }
     ensures made { OnOk result (book.new ≡ (park (work book.old worker.entry)).desk.book) }
-    ensures text { SaysText result text.old text.new (park (work book.old worker.entry)).text }
+    ensures text { Adds result text.old text.new (park (work book.old worker.entry)).text }
     ensures left { IfErr result (λ w. IsNotGiven (work book.old worker.entry) (work book.new w)) }
     ensures holds_on { IfErr result (λ w. HoldsTile book.new w) }
 {

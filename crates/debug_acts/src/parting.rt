@@ -2,7 +2,8 @@
 ghost use Rattle.lab_world.specs.Worker.{HoldsTile};
 ghost use Rattle.debug_acts.specs.Work.{work, Does, MayDo};
 ghost use Rattle.debug_acts.specs.Parting.{retracted_lines, retract, rest_line, split};
-ghost use Rattle.debug_views.specs.Saying.{Says, SaysLine};
+ghost use Rattle.cover_problem.specs.Answers.{AddsLine};
+ghost use Rattle.x_texts.specs.Writes.{AddsLines};
 
 use cover_problem::Table;
 use debug_language::{
@@ -16,7 +17,7 @@ use x_branches::Branch;
 
 /// Writes how many steps a worker took back, which are unposted now, and where it stands.
 fn write_retracted<T: Table>(text: &mut Vec<u8>, worker: &Worker<'_, T>) -> Result<(), AllocError>
-    ensures { Says result text.old text.new (retracted_lines worker.now.runner) }
+    ensures { AddsLines result text.old text.new (retracted_lines worker.now.runner) }
 {
     write_counted(text, Counted::Retracted, worker.runner().unposted() as u128)?;
     write_at(text, worker.runner().state())
@@ -31,7 +32,7 @@ pub fn retract<'p, T: Table>(
 ) -> Result<(), AllocError>
     requires holds { HoldsTile book.old worker.old }
     ensures made { Does result book.old worker.old book.new worker.new retract }
-    ensures text { Says result text.old text.new (retract (work book.old worker.old)).lines }
+    ensures text { AddsLines result text.old text.new (retract (work book.old worker.old)).lines }
     ensures left { MayDo result book.old worker.old book.new worker.new retract }
     ensures holds_on { HoldsTile book.new worker.new }
 {
@@ -50,7 +51,7 @@ fn write_parted<T: Table>(
     worker: &Worker<'_, T>,
     before: &Branch<'_>,
 ) -> Result<(), AllocError>
-    ensures { SaysLine result text.old text.new (rest_line worker.now.runner before.now) }
+    ensures { AddsLine result text.old text.new (rest_line worker.now.runner before.now) }
 {
     let runner = worker.runner();
     write_standing(
@@ -72,7 +73,7 @@ pub fn split<'p, T: Table>(
 ) -> Result<(), AllocError>
     requires holds { HoldsTile book.old worker.old }
     ensures made { Does result book.old worker.old book.new worker.new (λ a. split a level option) }
-    ensures text { Says result text.old text.new (split (work book.old worker.old) level option).lines }
+    ensures text { AddsLines result text.old text.new (split (work book.old worker.old) level option).lines }
     ensures left { MayDo result book.old worker.old book.new worker.new (λ a. split a level option) }
     ensures holds_on { HoldsTile book.new worker.new }
 {

@@ -3,8 +3,7 @@ ghost use Rattle.std.specs.Prelude.{◌≡◌, ◌<◌, ◌≤◌, IfOk, OnOk, O
 ghost use Rattle.lab_world.specs.Worker.{HoldsTile};
 ghost use Rattle.debug_acts.specs.Walking.{stepped, IsNotStepped, next_visit, told_visit, Walks, StepsSome, visits_on, moved_lines, steps_ahead, step_count};
 ghost use Rattle.debug_acts.specs.Work.{work};
-ghost use Rattle.x_texts.specs.Writes.{WritesLines};
-ghost use Rattle.debug_views.specs.Saying.{Says};
+ghost use Rattle.x_texts.specs.Writes.{WritesLines, AddsLines};
 
 mod backward;
 mod onward;
@@ -24,7 +23,7 @@ use x_texts::write_visit;
 
 /// Writes the visit of the next step, if it is one.
 fn note_visit<T: Table>(text: &mut Vec<u8>, worker: &Worker<'_, T>) -> Result<(), AllocError>
-    ensures { Says result text.old text.new (next_visit worker.now.runner) }
+    ensures { AddsLines result text.old text.new (next_visit worker.now.runner) }
 {
     if worker.runner().is_visit() {
         return write_visit(text, &worker.runner().state().path);
@@ -41,7 +40,7 @@ pub fn step_on<'p, T: Table>(
     requires holds { HoldsTile book.old worker.old }
     requires ahead { 0 < steps_ahead worker.old.runner }
     ensures made { OnOk result (work book.new worker.new ≡ stepped (work book.old worker.old)) }
-    ensures text { Says result text.old text.new (next_visit worker.old.runner) }
+    ensures text { AddsLines result text.old text.new (next_visit worker.old.runner) }
     ensures left { OnErr result (IsNotStepped book.old worker.old book.new worker.new) }
     ensures holds_on { HoldsTile book.new worker.new }
 {
@@ -59,7 +58,7 @@ fn note_visited<T: Table>(
     event: Event,
     worker: &Worker<'_, T>,
 ) -> Result<(), AllocError>
-    ensures { Says result text.old text.new (told_visit event worker.now.runner) }
+    ensures { AddsLines result text.old text.new (told_visit event worker.now.runner) }
 {
     match event {
         Event::Visited => write_visit(text, &worker.runner().state().path),
@@ -101,7 +100,7 @@ pub fn write_moved<T: Table>(
     moved: u128,
     worker: &Worker<'_, T>,
 ) -> Result<(), AllocError>
-    ensures { Says result text.old text.new (moved_lines moved worker.now.runner.position) }
+    ensures { AddsLines result text.old text.new (moved_lines moved worker.now.runner.position) }
 {
     write_counted(text, Counted::Moved, moved)?;
     write_at(text, worker.runner().state())

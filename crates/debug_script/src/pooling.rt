@@ -8,7 +8,7 @@ ghost use Rattle.debug_views.specs.Lines.{debug_refusal};
 ghost use Rattle.x_debug.specs.Session.{session_on};
 ghost use Rattle.debug_script.specs.Alike.{SaysAlike, StaysAlike};
 ghost use Rattle.debug_script.specs.Pooling.{none_held, pool_words, answer_pool};
-ghost use Rattle.debug_views.specs.Saying.{SaysLine};
+ghost use Rattle.cover_problem.specs.Answers.{AddsLine};
 
 use crate::answering::append;
 use crate::fault::RepliesFault;
@@ -35,7 +35,7 @@ fn pool_line(all: bool) -> &'static [u8]
 
 /// Writes that a branch is open.
 fn refuse_open(text: &mut Vec<u8>) -> Result<(), AllocError>
-    ensures { SaysLine result text.old text.new (debug_refusal DebugFault.AlreadyOpen) }
+    ensures { AddsLine result text.old text.new (debug_refusal DebugFault.AlreadyOpen) }
 {
     write_debug_fault(text, DebugFault::AlreadyOpen)
 }

@@ -3,4 +3,3 @@ pub mod Breakpoints
 pub mod Showing
 pub mod Tiles
 pub mod Left
-pub mod Saying

@@ -62,8 +62,8 @@ posted_lines ts = visits_lines (posted_visits ts)
 -- ---- which of them a cut names
 
 -- the choices of a cut that a call is given, None for an end of the run
-abbrev pub cut : Option (Bor (List ℕ)) → Option (List ℕ)
-cut given = option_copied given
+abbrev pub given_cut : Option (Bor (List ℕ)) → Option (List ℕ)
+given_cut given = option_copied given
 
 -- whether two cuts are the same: both none, or the same choices
 abbrev pub same_cut : Option (List ℕ) → Option (List ℕ) → Bool
@@ -116,8 +116,8 @@ abbrev pub answer_of_cut : BookValue → Option (List ℕ) → Option State → 
 answer_of_cut b lo s = answer_of_tile b (tile_call s) (place_at lo b.tiles)
 
 -- the same, by the cut and the state that a function is given
-abbrev pub asked : BookValue → Option (Bor (List ℕ)) → Option (Bor State) → BookAnswer
-asked b lo s = answer_of_cut b (cut lo) (option_copied s)
+abbrev pub answer_given : BookValue → Option (Bor (List ℕ)) → Option (Bor State) → BookAnswer
+answer_given b lo s = answer_of_cut b (given_cut lo) (option_copied s)
 
 -- `hold`
 unfoldable pub hold : BookValue → Option (List ℕ) → BookAnswer
@@ -129,4 +129,4 @@ put_back b lo state = answer_of_tile b (λ id. call.PutBack id state) (place_at 
 
 -- `putback`, by the cut and the state that a function is given
 abbrev pub put_back_at : BookValue → Option (Bor (List ℕ)) → State → BookAnswer
-put_back_at b lo s = put_back b (cut lo) (state_value s)
+put_back_at b lo s = put_back b (given_cut lo) (state_value s)

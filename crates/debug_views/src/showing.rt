@@ -4,7 +4,8 @@ ghost use Rattle.lab_book.specs.Book.{path_of};
 ghost use Rattle.debug_views.specs.Lines.{state_line};
 ghost use Rattle.debug_views.specs.Showing.{runner_branch, runner_covered, runner_chosen, runner_uncovered};
 ghost use Rattle.debug_views.specs.Showing.{show_lines, level_lines, all_untried, untried_lines};
-ghost use Rattle.debug_views.specs.Saying.{Says, SaysLine};
+ghost use Rattle.cover_problem.specs.Answers.{AddsLine};
+ghost use Rattle.x_texts.specs.Writes.{AddsLines};
 
 use cover_problem::{Problem, Table};
 use debug_language::{
@@ -26,14 +27,14 @@ pub fn choices<'a>(cut: &'a Option<Cut<'_>>) -> Option<&'a [u32]>
 
 /// Writes where a runner stands.
 fn write_position<T: Table>(text: &mut Vec<u8>, runner: &Runner<'_, T>) -> Result<(), AllocError>
-    ensures { SaysLine result text.old text.new (state_line runner.now.position) }
+    ensures { AddsLine result text.old text.new (state_line runner.now.position) }
 {
     write_at(text, runner.state())
 }
 
 /// Writes the branch of a runner.
 fn write_part<T: Table>(text: &mut Vec<u8>, runner: &Runner<'_, T>) -> Result<(), AllocError>
-    ensures { SaysLine result text.old text.new (runner_branch runner.now) }
+    ensures { AddsLine result text.old text.new (runner_branch runner.now) }
 {
     let branch = runner.branch();
     write_branch(text, choices(&branch.lo), choices(&branch.hi))
@@ -46,7 +47,7 @@ fn write_items<T: Table>(
     runner: &Runner<'_, T>,
 ) -> Result<(), AllocError>
     requires same { problem.now ≡ runner.now.problem }
-    ensures { SaysLine result text.old text.new (runner_covered runner.now) }
+    ensures { AddsLine result text.old text.new (runner_covered runner.now) }
 {
     // A runner's state tells that what is covered are items of its problem; so it does below.
     runner.is_sound();
@@ -60,7 +61,7 @@ fn write_chosen<T: Table>(
     runner: &Runner<'_, T>,
 ) -> Result<(), AllocError>
     requires same { problem.now ≡ runner.now.problem }
-    ensures { Says result text.old text.new (runner_chosen runner.now) }
+    ensures { AddsLines result text.old text.new (runner_chosen runner.now) }
 {
     runner.is_sound();
     let Some((item, options)) = runner.chosen()? else {
@@ -76,7 +77,7 @@ fn write_left<T: Table>(
     runner: &Runner<'_, T>,
 ) -> Result<(), AllocError>
     requires same { problem.now ≡ runner.now.problem }
-    ensures { Says result text.old text.new (runner_uncovered runner.now) }
+    ensures { AddsLines result text.old text.new (runner_uncovered runner.now) }
 {
     runner.is_sound();
     write_lists(text, problem, Listed::Active, &runner.remaining()?)?;
@@ -91,7 +92,7 @@ pub fn show<T: Table>(
     text: &mut Vec<u8>,
 ) -> Result<(), AllocError>
     requires same { problem.now ≡ runner.now.problem }
-    ensures { Says result text.old text.new (show_lines runner.now) }
+    ensures { AddsLines result text.old text.new (show_lines runner.now) }
 {
     write_position(text, runner)?;
     write_part(text, runner)?;
@@ -103,7 +104,7 @@ pub fn show<T: Table>(
 /// Writes the options that are untried at a level, where there are some.
 #[tactic(auto, using(crate::proofs::LineLemmas::level_none, crate::proofs::LineLemmas::level_some))]
 fn write_level(text: &mut Vec<u8>, level: usize, options: &[u32]) -> Result<(), AllocError>
-    ensures { Says result text.old text.new (level_lines level options.now) }
+    ensures { AddsLines result text.old text.new (level_lines level options.now) }
 {
     if options.is_empty() {
         return Ok(());
@@ -113,7 +114,7 @@ fn write_level(text: &mut Vec<u8>, level: usize, options: &[u32]) -> Result<(), 
 
 /// Writes the levels of a runner where something is untried.
 fn write_levels<T: Table>(text: &mut Vec<u8>, runner: &Runner<'_, T>) -> Result<(), AllocError>
-    ensures { Says result text.old text.new (all_untried runner.now) }
+    ensures { AddsLines result text.old text.new (all_untried runner.now) }
 {
     let levels = runner.untried_by_level()?;
     for level in 0..levels.len() {
@@ -124,7 +125,7 @@ fn write_levels<T: Table>(text: &mut Vec<u8>, runner: &Runner<'_, T>) -> Result<
 
 /// `untried`: for each level that has some the options that are untried there.
 pub fn untried<T: Table>(runner: &Runner<'_, T>, text: &mut Vec<u8>) -> Result<(), AllocError>
-    ensures { Says result text.old text.new (untried_lines runner.now) }
+    ensures { AddsLines result text.old text.new (untried_lines runner.now) }
 {
     let written = text.len();
     write_levels(text, runner)?;

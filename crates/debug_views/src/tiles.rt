@@ -4,8 +4,9 @@ ghost use Rattle.lab_book.specs.declared.entry.Reply.TheVariants as replies;
 ghost use Rattle.lab_book.specs.Tiling.{tile_at};
 ghost use Rattle.lab_book.specs.Calls.{Made, Refuses};
 ghost use Rattle.debug_views.specs.Lines.{book_refusal};
-ghost use Rattle.debug_views.specs.Tiles.{cut, is_begun_at, place_at, standing_of, tile_line, open_lines, branches_lines, posted_lines, call_for, asked, hold, put_back_at};
-ghost use Rattle.debug_views.specs.Saying.{Says, SaysLine};
+ghost use Rattle.debug_views.specs.Tiles.{given_cut, is_begun_at, place_at, standing_of, tile_line, open_lines, branches_lines, posted_lines, call_for, answer_given, hold, put_back_at};
+ghost use Rattle.cover_problem.specs.Answers.{AddsLine};
+ghost use Rattle.x_texts.specs.Writes.{AddsLines};
 ghost use Rattle.debug_views.specs.Left.{IsEither};
 
 use crate::showing::choices;
@@ -19,14 +20,14 @@ use x_texts::write_visits;
 
 /// Whether a tile begins at a cut, None for the start of the run, and isn't closed.
 fn is_begun_at(tile: &Tile<'_>, lo: Option<&[u32]>) -> bool
-    ensures { result ≡ is_begun_at (cut lo.entry) tile.now }
+    ensures { result ≡ is_begun_at (given_cut lo.entry) tile.now }
 {
     !tile.status().is_closed() && choices(tile.lo()) == lo
 }
 
 /// The place of the tile that begins at a cut and isn't closed.
 pub fn place_at(book: &Book<'_>, lo: Option<&[u32]>) -> Option<usize>
-    ensures place { result ≡ place_at (cut lo.entry) book.now.tiles }
+    ensures place { result ≡ place_at (given_cut lo.entry) book.now.tiles }
     ensures within { IfSome result (λ i. i < length book.now.tiles) }
 {
     book.tiles().iter().position(|tile| is_begun_at(tile, lo))
@@ -45,7 +46,7 @@ fn standing_of(status: Status) -> Standing
 
 /// Writes a tile: its cuts, and how it stands.
 pub fn write_tile(text: &mut Vec<u8>, tile: &Tile<'_>) -> Result<(), AllocError>
-    ensures { SaysLine result text.old text.new (tile_line tile.now) }
+    ensures { AddsLine result text.old text.new (tile_line tile.now) }
 {
     write_standing(
         text,
@@ -57,7 +58,7 @@ pub fn write_tile(text: &mut Vec<u8>, tile: &Tile<'_>) -> Result<(), AllocError>
 
 /// Writes the tiles that are not closed.
 fn write_open(text: &mut Vec<u8>, tiles: &[Tile<'_>]) -> Result<(), AllocError>
-    ensures { Says result text.old text.new (open_lines tiles.now) }
+    ensures { AddsLines result text.old text.new (open_lines tiles.now) }
 {
     for tile in tiles {
         if !tile.status().is_closed() {
@@ -69,7 +70,7 @@ fn write_open(text: &mut Vec<u8>, tiles: &[Tile<'_>]) -> Result<(), AllocError>
 
 /// `branches`: the tiles that are not closed.
 pub fn branches(book: &Book<'_>, text: &mut Vec<u8>) -> Result<(), AllocError>
-    ensures { Says result text.old text.new (branches_lines book.now.tiles) }
+    ensures { AddsLines result text.old text.new (branches_lines book.now.tiles) }
 {
     let written = text.len();
     write_open(text, book.tiles())?;
@@ -81,7 +82,7 @@ pub fn branches(book: &Book<'_>, text: &mut Vec<u8>) -> Result<(), AllocError>
 
 /// `visits`: the posted visits, and how many they are.
 pub fn write_posted(book: &Book<'_>, text: &mut Vec<u8>) -> Result<(), AllocError>
-    ensures { Says result text.old text.new (posted_lines book.now.tiles) }
+    ensures { AddsLines result text.old text.new (posted_lines book.now.tiles) }
 {
     let visits = book.visits()?;
     write_visits(text, &visits)?;
@@ -90,7 +91,7 @@ pub fn write_posted(book: &Book<'_>, text: &mut Vec<u8>) -> Result<(), AllocErro
 
 /// Writes the line of a refusal by the book. Out of memory has none, and is passed on.
 pub fn write_book_fault(text: &mut Vec<u8>, fault: &BookFault) -> Result<(), AllocError>
-    ensures text { SaysLine result text.old text.new (book_refusal fault.now) }
+    ensures text { AddsLine result text.old text.new (book_refusal fault.now) }
     ensures told { OnOk result (fault.now ≡ BookFault.OutOfMemory → ⊥) }
 {
     match fault.number() {
@@ -110,7 +111,7 @@ fn id_at(book: &Book<'_>, place: usize) -> u64
 /// Writes the tile at a place.
 fn write_tile_at(text: &mut Vec<u8>, book: &Book<'_>, place: usize) -> Result<(), AllocError>
     requires { place < length book.now.tiles }
-    ensures { SaysLine result text.old text.new (tile_line (tile_at book.now.tiles place)) }
+    ensures { AddsLine result text.old text.new (tile_line (tile_at book.now.tiles place)) }
 {
     write_tile(text, &book.tiles()[place])
 }
@@ -133,9 +134,9 @@ fn ask_tile(
     state: Option<&State>,
     text: &mut Vec<u8>,
 ) -> Result<(), AllocError>
-    ensures made { OnOk result (book.new ≡ (asked book.old lo.entry state.entry).book) }
-    ensures text { Says result text.old text.new (asked book.old lo.entry state.entry).lines }
-    ensures left { OnErr result (IsEither book.new book.old (asked book.old lo.entry state.entry).book) }
+    ensures made { OnOk result (book.new ≡ (answer_given book.old lo.entry state.entry).book) }
+    ensures text { AddsLines result text.old text.new (answer_given book.old lo.entry state.entry).lines }
+    ensures left { OnErr result (IsEither book.new book.old (answer_given book.old lo.entry state.entry).book) }
 {
     let Some(place) = place_at(book, lo) else {
         return write_book_fault(text, &BookFault::UnknownBranch);
@@ -150,9 +151,9 @@ fn ask_tile(
 /// `hold`: asks the tile that begins at a cut, and isn't closed, to stop. Refused where there is none.
 #[tactic(auto, unfolding(crate::specs::Tiles::hold))]
 pub fn hold(book: &mut Book<'_>, lo: Option<&[u32]>, text: &mut Vec<u8>) -> Result<(), AllocError>
-    ensures made { OnOk result (book.new ≡ (hold book.old (cut lo.entry)).book) }
-    ensures text { Says result text.old text.new (hold book.old (cut lo.entry)).lines }
-    ensures left { OnErr result (IsEither book.new book.old (hold book.old (cut lo.entry)).book) }
+    ensures made { OnOk result (book.new ≡ (hold book.old (given_cut lo.entry)).book) }
+    ensures text { AddsLines result text.old text.new (hold book.old (given_cut lo.entry)).lines }
+    ensures left { OnErr result (IsEither book.new book.old (hold book.old (given_cut lo.entry)).book) }
 {
     ask_tile(book, lo, None, text)
 }
@@ -167,7 +168,7 @@ pub fn put_back(
     text: &mut Vec<u8>,
 ) -> Result<(), AllocError>
     ensures made { OnOk result (book.new ≡ (put_back_at book.old lo.entry state.now).book) }
-    ensures text { Says result text.old text.new (put_back_at book.old lo.entry state.now).lines }
+    ensures text { AddsLines result text.old text.new (put_back_at book.old lo.entry state.now).lines }
     ensures left { OnErr result (IsEither book.new book.old (put_back_at book.old lo.entry state.now).book) }
 {
     ask_tile(book, lo, Some(state), text)

@@ -36,7 +36,7 @@ kept keeps paths = if keeps then paths else []
 
 -- the visits of a finished book, or none where they are not kept
 abbrev pub book_visits : Bool → BookValue → List (List ℕ)
-book_visits keeps b = kept keeps (visits_between b.problem b.first (end_of b.branch.hi))
+book_visits keeps b = kept keeps (whole_visits b)
 
 -- the account of these states of a run, which keeps the visits or not
 unfoldable pub account_of : Bool → ProblemValue → List StateValue → Account

@@ -27,8 +27,8 @@ abbrev pub stop_of : Option ℕ → SnapshotValue → StateValue
 stop_of most v = after v.problem (steps_taken most (steps_between v.problem v.state (branch_end v))) v.state
 
 -- the position of a machine that stands at a snapshot's state
-abbrev pub position_of : SnapshotValue → Position
-position_of v = record { problem = v.problem; state = v.state }
+abbrev pub snapshot_position : SnapshotValue → Position
+snapshot_position v = record { problem = v.problem; state = v.state }
 
 -- the report of the stretch from a snapshot's state up to t
 abbrev pub report_up_to : Bool → SnapshotValue → StateValue → ReportValue

@@ -4,7 +4,7 @@ ghost use Rattle.x_steps.specs.StateValue.{at, done};
 ghost use Rattle.x_steps.specs.StateView.{state_value};
 ghost use Rattle.x_snapshot.specs.Snapshot.{IsSnapshot, choices_of};
 ghost use Rattle.polylab_engine.specs.Stretch.{end_at};
-ghost use Rattle.polylab_engine.specs.Resumed.{branch_end, resume_output, stop_of, at_state, rest_text, position_of, report_up_to};
+ghost use Rattle.polylab_engine.specs.Resumed.{branch_end, resume_output, stop_of, at_state, rest_text, snapshot_position, report_up_to};
 ghost use Rattle.cover_problem.specs.Answers.{Returns, ReturnsItems};
 
 use crate::cover::report_text;
@@ -51,7 +51,7 @@ fn machine_at<'p, T: Table>(
     alloc: Global,
     snapshot: &'p Snapshot,
 ) -> Result<Machine<'p, T>, AllocError>
-    ensures { Returns result (position_of snapshot.now) }
+    ensures { Returns result (snapshot_position snapshot.now) }
 {
     let problem = snapshot.problem();
     let table = T::new(alloc, problem)?;

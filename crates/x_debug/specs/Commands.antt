@@ -32,7 +32,7 @@ use Rattle.debug_acts.specs.Entering.{enter}
 use Rattle.debug_acts.specs.Giving.{park, save, close, IsNotGiven}
 use Rattle.debug_acts.specs.Parting.{split, retract}
 use Rattle.debug_views.specs.Left.{IsEither}
-use Rattle.debug_views.specs.Saying.{SaysText}
+use Rattle.cover_problem.specs.Answers.{Adds}
 
 -- a text that is answered, and the session that is left
 pub record Answer : Type 0 where
@@ -41,7 +41,7 @@ pub record Answer : Type 0 where
 
 -- a call replies with this answer's text, unless it has an error
 abbrev pub Replies : {X E : Type 0} → Result X E → Vec ℕ → Vec ℕ → Answer → Type 0
-Replies result old new a = SaysText result old new a.text
+Replies result old new a = Adds result old new a.text
 
 -- where it has an error, the session is as it was, or as this answer leaves it
 abbrev pub MayLeave : {X E : Type 0} → Result X E → SessionValue → SessionValue → Answer → Type 0

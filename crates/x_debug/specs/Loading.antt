@@ -5,10 +5,10 @@
 use Rattle.std.specs.Prelude.{ℕ, List, [], ◌∷◌, Result, Ok, Err, if◌then◌else◌}
 use Rattle.text_lines.specs.Writing.{line_text}
 use Rattle.cover_problem.specs.Problem.{ProblemValue, is_same}
-use Rattle.x_branches.specs.Runner.{RunnerValue}
+use Rattle.x_branches.specs.Runner.{RunnerValue, runner_at}
 use Rattle.x_texts.specs.declared.breakpoint.Break.{Break}
 use Rattle.x_snapshot.specs.declared.fault.SnapshotFault.{SnapshotFault}
-use Rattle.x_snapshot.specs.Snapshot.{SnapshotValue, branch_between, started}
+use Rattle.x_snapshot.specs.Snapshot.{SnapshotValue, branch_between}
 use Rattle.x_snapshot.specs.Judged.{judged_parts, snapshot_of}
 use Rattle.lab_book.specs.declared.fault.BookFault.TheVariants.{ForeignProblem}
 use Rattle.lab_book.specs.Book.{new_book}
@@ -21,7 +21,7 @@ use Rattle.x_debug.specs.Commands.{Answer}
 
 -- a runner of this problem's branch that a snapshot says, which stands at its state
 abbrev pub started_on : ProblemValue → SnapshotValue → RunnerValue
-started_on p v = started p (branch_between p v.lo v.hi) v.state
+started_on p v = runner_at p (branch_between p v.lo v.hi) v.state
 
 -- a book of a snapshot's branch, with its state as the first mark; worker 0 leases it
 abbrev pub resumed : SnapshotValue → Desk

@@ -6,7 +6,7 @@ ghost use Rattle.debug_acts.specs.Walking.{steps_ahead};
 ghost use Rattle.debug_acts.specs.Work.{work};
 ghost use Rattle.debug_acts.specs.Desk.{desk};
 ghost use Rattle.debug_acts.specs.Giving.{close, closed, not_closed, IsNotGiven};
-ghost use Rattle.debug_views.specs.Saying.{SaysText};
+ghost use Rattle.cover_problem.specs.Answers.{Adds};
 
 use crate::posting::post_rest;
 use cover_problem::Table;
@@ -93,7 +93,7 @@ pub fn close<'p, T: Table>(
 ) -> Result<Option<Worker<'p, T>>, Worker<'p, T>>
     requires holds { HoldsTile book.old worker }
     ensures made { IfOk result (λ w. desk book.new w ≡ (close (work book.old worker.entry)).desk) }
-    ensures text { SaysText result text.old text.new (close (work book.old worker.entry)).text }
+    ensures text { Adds result text.old text.new (close (work book.old worker.entry)).text }
     ensures left { IfErr result (λ w. IsNotGiven (work book.old worker.entry) (work book.new w)) }
     ensures holds_still { IfOk result (λ seat. IfSome seat (HoldsTile book.new)) }
     ensures holds_on { IfErr result (λ w. HoldsTile book.new w) }

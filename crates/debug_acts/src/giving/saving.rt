@@ -1,6 +1,6 @@
 //! Where a search stands, as a snapshot.
 ghost use Rattle.std.specs.Prelude.{◌≡◌, true, IfOk, IfErr, OnOk};
-ghost use Rattle.cover_problem.specs.Answers.{Returns};
+ghost use Rattle.cover_problem.specs.Answers.{Returns, Adds};
 ghost use Rattle.cover_problem.specs.Problem.{ProblemValue};
 ghost use Rattle.x_branches.specs.Runner.{IsOf};
 ghost use Rattle.x_texts.specs.Breaks.{are_breaks};
@@ -9,7 +9,6 @@ ghost use Rattle.lab_book.specs.Book.{path_of};
 ghost use Rattle.lab_world.specs.Worker.{HoldsTile};
 ghost use Rattle.debug_acts.specs.Work.{work};
 ghost use Rattle.debug_acts.specs.Giving.{snapshot_of_worker, save_text, parked, IsNotGiven};
-ghost use Rattle.debug_views.specs.Saying.{SaysText};
 
 use crate::giving::give_up;
 use cover_problem::{Problem, Table};
@@ -72,7 +71,7 @@ fn write_position<T: Table>(
 ) -> Result<(), AllocError>
     requires same { problem.now ≡ worker.now.runner.problem }
     requires breaks { are_breaks worker.now.runner.problem breaks.items ≡ true }
-    ensures { SaysText result text.old text.new (save_text worker.now breaks.items) }
+    ensures { Adds result text.old text.new (save_text worker.now breaks.items) }
 {
     let snapshot = snapshot_of_worker(alloc, problem, worker, breaks)?;
     let written = write_snapshot(alloc, &snapshot)?;
@@ -91,7 +90,7 @@ pub fn save<'p, T: Table>(
     requires holds { HoldsTile book.old worker }
     requires breaks { are_breaks worker.runner.problem breaks.items ≡ true }
     ensures made { OnOk result (book.new ≡ parked (work book.old worker.entry)) }
-    ensures text { SaysText result text.old text.new (save_text worker.entry breaks.items) }
+    ensures text { Adds result text.old text.new (save_text worker.entry breaks.items) }
     ensures left { IfErr result (λ w. IsNotGiven (work book.old worker.entry) (work book.new w)) }
     ensures holds_on { IfErr result (λ w. HoldsTile book.new w) }
 {

@@ -3,7 +3,7 @@ ghost use Rattle.std.specs.Prelude.{◌<◌, OnOk, OnErr};
 ghost use Rattle.cover_problem.specs.Answers.{Returns};
 ghost use Rattle.lab_world.specs.Worker.{HoldsTile};
 ghost use Rattle.debug_acts.specs.Walking.{StepsOn, StepsSome, step_count, step_visits, step_lines};
-ghost use Rattle.debug_views.specs.Saying.{Says};
+ghost use Rattle.x_texts.specs.Writes.{AddsLines};
 
 use crate::walking::{walk_on, write_moved};
 use cover_problem::Table;
@@ -22,7 +22,7 @@ fn walk<'p, T: Table>(
     requires holds { HoldsTile book.old worker.old }
     ensures count { Returns result (step_count worker.old.runner most) }
     ensures made { OnOk result (StepsOn book.old worker.old book.new worker.new most) }
-    ensures text { Says result text.old text.new (step_visits worker.old.runner most) }
+    ensures text { AddsLines result text.old text.new (step_visits worker.old.runner most) }
     ensures left { OnErr result (StepsSome book.old worker.old book.new worker.new most) }
     ensures holds_on { HoldsTile book.new worker.new }
 {
@@ -50,7 +50,7 @@ pub fn step<'p, T: Table>(
     requires holds { HoldsTile book.old worker.old }
     requires some { 0 < most }
     ensures made { OnOk result (StepsOn book.old worker.old book.new worker.new most) }
-    ensures text { Says result text.old text.new (step_lines worker.old.runner most) }
+    ensures text { AddsLines result text.old text.new (step_lines worker.old.runner most) }
     ensures left { OnErr result (StepsSome book.old worker.old book.new worker.new most) }
     ensures holds_on { HoldsTile book.new worker.new }
 {

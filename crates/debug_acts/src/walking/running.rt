@@ -1,11 +1,11 @@
 //! Onward to a breakpoint.
 ghost use Rattle.std.specs.Prelude.{◌≡◌, ◌<◌, true, IfSome, IfOk, OnOk, OnErr};
 ghost use Rattle.std.specs.List.{list_all};
-ghost use Rattle.cover_problem.specs.Answers.{Returns};
+ghost use Rattle.cover_problem.specs.Answers.{Returns, AddsLine};
 ghost use Rattle.x_texts.specs.Breaks.{is_break};
 ghost use Rattle.lab_world.specs.Worker.{HoldsTile};
 ghost use Rattle.debug_acts.specs.Walking.{Walks, WalksSome, RunsOn, RunsSome, run_count, run_met, run_visits, run_lines, stop_line, steps_ahead, visits_ahead};
-ghost use Rattle.debug_views.specs.Saying.{Says, SaysLine};
+ghost use Rattle.x_texts.specs.Writes.{AddsLines};
 
 use crate::walking::{step_on, walk_on, write_moved};
 use cover_problem::Table;
@@ -26,7 +26,7 @@ fn walk_to_end<'p, T: Table>(
     requires holds { HoldsTile book.old worker.old }
     ensures count { Returns result (steps_ahead worker.old.runner) }
     ensures made { OnOk result (Walks book.old worker.old book.new worker.new (steps_ahead worker.old.runner)) }
-    ensures text { Says result text.old text.new (visits_ahead worker.old.runner) }
+    ensures text { AddsLines result text.old text.new (visits_ahead worker.old.runner) }
     ensures left { OnErr result (WalksSome book.old worker.old book.new worker.new (steps_ahead worker.old.runner)) }
     ensures holds_on { HoldsTile book.new worker.new }
 {
@@ -56,7 +56,7 @@ fn walk_to_break<'p, T: Table>(
     ensures count { IfOk result (λ r. r.0 ≡ run_count breaks.now.keys worker.old.runner) }
     ensures met { IfOk result (λ r. r.1 ≡ run_met breaks.now.keys worker.old.runner) }
     ensures made { OnOk result (RunsOn book.old worker.old book.new worker.new breaks.now.keys) }
-    ensures text { Says result text.old text.new (run_visits breaks.now.keys worker.old.runner) }
+    ensures text { AddsLines result text.old text.new (run_visits breaks.now.keys worker.old.runner) }
     ensures left { OnErr result (RunsSome book.old worker.old book.new worker.new breaks.now.keys) }
     ensures holds_on { HoldsTile book.new worker.new }
 {
@@ -90,7 +90,7 @@ fn walk_to_stop<'p, T: Table>(
     ensures count { IfOk result (λ r. r.0 ≡ run_count breaks.now.keys worker.old.runner) }
     ensures met { IfOk result (λ r. r.1 ≡ run_met breaks.now.keys worker.old.runner) }
     ensures made { OnOk result (RunsOn book.old worker.old book.new worker.new breaks.now.keys) }
-    ensures text { Says result text.old text.new (run_visits breaks.now.keys worker.old.runner) }
+    ensures text { AddsLines result text.old text.new (run_visits breaks.now.keys worker.old.runner) }
     ensures left { OnErr result (RunsSome book.old worker.old book.new worker.new breaks.now.keys) }
     ensures holds_on { HoldsTile book.new worker.new }
 {
@@ -104,7 +104,7 @@ fn walk_to_stop<'p, T: Table>(
 /// Writes where a run stopped: at a breakpoint, or else at the end.
 fn write_stop(text: &mut Vec<u8>, book: &Book<'_>, stop: Option<Break>) -> Result<(), AllocError>
     requires { IfSome stop (λ b. is_break book.now.problem b ≡ true) }
-    ensures { SaysLine result text.old text.new (stop_line book.now.problem.names stop) }
+    ensures { AddsLine result text.old text.new (stop_line book.now.problem.names stop) }
 {
     match stop {
         Some(met) => write_met(text, book.problem(), met),
@@ -123,7 +123,7 @@ pub fn run<'p, T: Table>(
     requires holds { HoldsTile book.old worker.old }
     requires breaks { list_all (is_break book.old.problem) breaks.now.keys ≡ true }
     ensures made { OnOk result (RunsOn book.old worker.old book.new worker.new breaks.now.keys) }
-    ensures text { Says result text.old text.new (run_lines breaks.now.keys worker.old.runner) }
+    ensures text { AddsLines result text.old text.new (run_lines breaks.now.keys worker.old.runner) }
     ensures left { OnErr result (RunsSome book.old worker.old book.new worker.new breaks.now.keys) }
     ensures holds_on { HoldsTile book.new worker.new }
 {

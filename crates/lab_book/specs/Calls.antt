@@ -41,8 +41,8 @@ abbrev pub entry_by : BookValue → Grant → (Grant → Call) → Entry
 entry_by b g c = next_entry b g.worker (c g)
 
 -- a call is refused with a fault, beside what it was given, only where this holds of the fault
-abbrev pub RefusedOnly : {A F G : Type 0} → Result A (Refused F G) → (F → Type 0) → Type 0
-RefusedOnly result p = IfErr result (λ r. p r.fault)
+abbrev pub RefusedIf : {A F G : Type 0} → Result A (Refused F G) → (F → Type 0) → Type 0
+RefusedIf result p = IfErr result (λ r. p r.fault)
 
 -- memory ran out, or this holds
 abbrev pub OutOfMemoryOr : BookFault → Type 0 → Type 0
@@ -115,7 +115,11 @@ EndRefused old new c g f = Refuses old new g.worker (c g) f
 
 -- where a call to end this lease is refused, the book refused it
 abbrev pub RefusesEnd : {A G : Type 0} → Result A (Refused BookFault G) → BookValue → BookValue → (Grant → Call) → Grant → Type 0
-RefusesEnd result old new c g = RefusedOnly result (EndRefused old new c g)
+RefusesEnd result old new c g = RefusedIf result (EndRefused old new c g)
+
+-- a book refuses a call by this lease
+abbrev pub RefusesBy : BookValue → BookValue → Grant → (Grant → Call) → BookFault → Type 0
+RefusesBy old new g c f = Refuses old new g.worker (c g) f
 
 -- a book took this stretch out again, by this lease, and answered from where to where it went
 abbrev pub Retracts : BookValue → BookValue → Grant → StretchValue → Type 0

@@ -28,6 +28,10 @@ posted_visits ts = flat_map (λ (t : TileValue). stretch_visits t.stretches) ts
 abbrev pub AllClosed : List TileValue → Type 0
 AllClosed ts = All (λ (t : TileValue). t.status ≡ Closed) ts
 
+-- a book is finished: all its tiles are
+abbrev pub IsFinished : BookValue → Type 0
+IsFinished b = AllClosed b.tiles
+
 -- how many stretches tiles have
 abbrev pub posted_count : List TileValue → ℕ
 posted_count ts = sum_by (λ (t : TileValue). length t.stretches) ts

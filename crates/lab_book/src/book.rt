@@ -7,7 +7,7 @@ ghost use Rattle.x_branches.specs.Cut.{IsCut};
 ghost use Rattle.x_branches.specs.Refusals.{CanStart, StartRefused};
 ghost use Rattle.x_branches.specs.Branch.{whole_run};
 ghost use Rattle.lab_book.specs.Book.{waiting_in, leased_in, IsTiled, new_book, replayed, outcome, refused, tile_place, first_book};
-ghost use Rattle.lab_book.specs.Calls.{Refuses, RefusedOnly, OutOfMemoryOr};
+ghost use Rattle.lab_book.specs.Calls.{Refuses, RefusedIf, OutOfMemoryOr};
 
 mod ending;
 mod foretelling;
@@ -157,7 +157,7 @@ impl<'p> Book<'p> {
     ) -> Result<Book<'p>, Refused<StartFault, (Branch<'p>, State)>>
         ensures made { Returns result (new_book problem.now branch.entry (state_value state)) }
         ensures can { OnOk result (CanStart problem.now branch.entry (state_value state)) }
-        ensures refused { RefusedOnly result (StartRefused problem.now branch.entry (state_value state)) }
+        ensures refused { RefusedIf result (StartRefused problem.now branch.entry (state_value state)) }
         ensures branch_back { IfErr result (λ r. r.given.0 ≡ branch.entry) }
         ensures state_back { IfErr result (λ r. r.given.1 ≡ state) }
     {

@@ -2,12 +2,10 @@
 ghost use Rattle.std.specs.Prelude.{◌≡◌, ◌<◌, ◌≤◌, ◌+◌, ◌-◌, [], IfOk, IfErr, OnErr, OnOk, IfSome, vec_len, vec_capacity, length, take, List};
 ghost use Rattle.cover_problem.specs.Problem.{ProblemValue};
 ghost use Rattle.x_steps.specs.StateValue.{StateValue};
-ghost use Rattle.x_steps.specs.StateView.{state_value};
 ghost use Rattle.x_branches.specs.declared.branch.Branch.{Branch};
-ghost use Rattle.x_branches.specs.Refusals.{CanStart};
 ghost use Rattle.lab_book.specs.declared.entry.Entry.{Entry};
 ghost use Rattle.lab_book.specs.declared.entry.Call.TheVariants as calls;
-ghost use Rattle.lab_book.specs.Calls.{leased_reply, any_reply};
+ghost use Rattle.lab_book.specs.Calls.{leased_reply, any_reply, CanBeSearched, back_to};
 ghost use Rattle.lab_desk.specs.Record.{NotesAnswer, NotesDone, NotesFault, NotesRefused, NotesPost, NotesPostFault, NotesSplit, NotesSplitFault, NotesRetract, KeepsRoomFor};
 ghost use Rattle.lab_desk.specs.Seats.{AreNewSeats, HaveAllNumbers, AreRecordsFrom, AreOfWorkers};
 
@@ -154,7 +152,7 @@ impl<'p, L: Desking> Desk<'p, L> {
     ) -> Result<Leased<'p>, BookFault>
         ensures noted { NotesAnswer seat.old seat.new (calls.Lease id) leased_reply result }
         ensures refused { NotesFault seat.old seat.new (calls.Lease id) result }
-        ensures can_start { IfOk result (λ r. CanStart L.whole r.branch (state_value r.mark)) }
+        ensures can_start { IfOk result (CanBeSearched L.whole) }
         ensures worker { IfOk result (λ r. r.lease.worker ≡ seat.old.number) }
         ensures room { OnOk result (seat.new.kept ≡ seat.old.kept + 1) }
         ensures room_stays { OnErr result (seat.new.kept ≡ seat.old.kept) }
@@ -172,8 +170,7 @@ impl<'p, L: Desking> Desk<'p, L> {
     ) -> Result<Option<Leased<'p>>, AllocError>
         ensures noted { NotesAnswer seat.old seat.new calls.LeaseAny any_reply result }
         ensures unchanged { OnErr result (seat.new.notes ≡ seat.old.notes) }
-        ensures can_start { IfOk result
-            (λ r. IfSome r (λ l. CanStart L.whole l.branch (state_value l.mark))) }
+        ensures can_start { IfOk result (λ r. IfSome r (CanBeSearched L.whole)) }
         ensures worker { IfOk result (λ r. IfSome r (λ l. l.lease.worker ≡ seat.old.number)) }
         ensures room { IfOk result (λ r. KeepsRoomFor r seat.old seat.new) }
         ensures room_stays { OnErr result (seat.new.kept ≡ seat.old.kept) }
@@ -295,7 +292,7 @@ impl<'p, L: Desking> Desk<'p, L> {
     ) -> Result<Leased<'p>, BookFault>
         ensures noted { NotesAnswer seat.old seat.new (calls.TakeHeld id) leased_reply result }
         ensures refused { NotesFault seat.old seat.new (calls.TakeHeld id) result }
-        ensures can_start { IfOk result (λ r. CanStart L.whole r.branch (state_value r.mark)) }
+        ensures can_start { IfOk result (CanBeSearched L.whole) }
         ensures worker { IfOk result (λ r. r.lease.worker ≡ seat.old.number) }
         ensures room { OnOk result (seat.new.kept ≡ seat.old.kept + 1) }
         ensures room_stays { OnErr result (seat.new.kept ≡ seat.old.kept) }
@@ -327,8 +324,8 @@ impl<'p, L: Desking> Desk<'p, L> {
         id: u64,
         state: &State,
     ) -> Result<(), BookFault>
-        ensures noted { NotesDone seat.old seat.new (calls.PutBack id (state_value state.now)) result }
-        ensures refused { NotesFault seat.old seat.new (calls.PutBack id (state_value state.now)) result }
+        ensures noted { NotesDone seat.old seat.new (back_to id state.now) result }
+        ensures refused { NotesFault seat.old seat.new (back_to id state.now) result }
         ensures room { seat.new.kept ≡ seat.old.kept }
         ensures number { seat.new.number ≡ seat.old.number }
     {

@@ -2,10 +2,8 @@
 //! it.
 ghost use Rattle.std.specs.Prelude.{◌≡◌, ◌+◌, ◌-◌, length, take, IfOk, IfErr, OnErr, OnOk, IfSome};
 ghost use Rattle.cover_problem.specs.Problem.{is_same};
-ghost use Rattle.x_steps.specs.StateView.{state_value};
-ghost use Rattle.x_branches.specs.Refusals.{CanStart};
 ghost use Rattle.lab_book.specs.declared.entry.Call.TheVariants as calls;
-ghost use Rattle.lab_book.specs.Calls.{leased_reply, any_reply};
+ghost use Rattle.lab_book.specs.Calls.{leased_reply, any_reply, CanBeSearched};
 ghost use Rattle.lab_desk.specs.Record.{NotesAnswer, NotesDone, NotesFault, NotesRefused, NotesPost, NotesPostFault, NotesSplit, NotesSplitFault, KeepsRoomFor};
 
 mod noting;
@@ -40,7 +38,7 @@ impl<'p, L: Desking> Locked<'p, L> {
     pub(crate) fn lease(&mut self, seat: &mut Seat<L>, id: u64) -> Result<Leased<'p>, BookFault>
         ensures noted { NotesAnswer seat.old seat.new (calls.Lease id) leased_reply result }
         ensures refused { NotesFault seat.old seat.new (calls.Lease id) result }
-        ensures can_start { IfOk result (λ r. CanStart L.whole r.branch (state_value r.mark)) }
+        ensures can_start { IfOk result (CanBeSearched L.whole) }
         ensures worker { IfOk result (λ r. r.lease.worker ≡ seat.old.number) }
         ensures room { OnOk result (seat.new.kept ≡ seat.old.kept + 1) }
         ensures room_stays { OnErr result (seat.new.kept ≡ seat.old.kept) }
@@ -76,8 +74,7 @@ impl<'p, L: Desking> Locked<'p, L> {
     pub(crate) fn lease_any(&mut self, seat: &mut Seat<L>) -> Result<Option<Leased<'p>>, AllocError>
         ensures noted { NotesAnswer seat.old seat.new calls.LeaseAny any_reply result }
         ensures unchanged { OnErr result (seat.new.notes ≡ seat.old.notes) }
-        ensures can_start { IfOk result
-            (λ r. IfSome r (λ l. CanStart L.whole l.branch (state_value l.mark))) }
+        ensures can_start { IfOk result (λ r. IfSome r (CanBeSearched L.whole)) }
         ensures worker { IfOk result (λ r. IfSome r (λ l. l.lease.worker ≡ seat.old.number)) }
         ensures room { IfOk result (λ r. KeepsRoomFor r seat.old seat.new) }
         ensures room_stays { OnErr result (seat.new.kept ≡ seat.old.kept) }

@@ -5,7 +5,7 @@ ghost use Rattle.lab_book.specs.declared.entry.Reply.TheVariants as replies;
 ghost use Rattle.lab_book.specs.Tile.{is_leased, Stands};
 ghost use Rattle.lab_book.specs.Tiling.{tile_at};
 ghost use Rattle.lab_book.specs.Book.{outcome, settled, end_fault, with_status, given_up};
-ghost use Rattle.lab_book.specs.Calls.{Made, Refuses, Ends, is_current, Finds, RefusedOnly, RefusesEnd};
+ghost use Rattle.lab_book.specs.Calls.{Made, Refuses, Ends, is_current, Finds, RefusedIf, RefusesEnd};
 
 use crate::book::Book;
 use crate::entry::{Call, Entry, Reply};
@@ -79,7 +79,7 @@ impl<'p> Book<'p> {
         requires { outcome self.old lease.worker call ≡ given_up self.old lease }
         ensures made { OnOk result (Made self.old self.new lease.worker call replies.Done) }
         ensures current { is_current self.old.tiles lease ≡ true → IsOk result }
-        ensures refused { RefusedOnly result (Refuses self.old self.new lease.worker call) }
+        ensures refused { RefusedIf result (Refuses self.old self.new lease.worker call) }
         ensures given_back { IfErr result (λ r. r.given ≡ lease) }
     {
         let grant = lease.grant();

@@ -2,7 +2,7 @@
 ghost use Rattle.std.specs.Prelude.{◌≡◌, ◌<◌, ◌^◌, ◌↔◌, length, IsTrue, IfOk};
 ghost use Rattle.cover_problem.specs.Answers.{ReturnsItems};
 ghost use Rattle.x_steps.specs.Order.{PathsRise};
-ghost use Rattle.lab_book.specs.Posted.{posted_count, posted_steps, posted_levels, posted_visits, AllClosed, whole_visits, whole_steps, whole_levels};
+ghost use Rattle.lab_book.specs.Posted.{posted_count, posted_steps, posted_levels, posted_visits, IsFinished, whole_visits, whole_steps, whole_levels};
 
 use crate::book::Book;
 use crate::totals::no_totals;
@@ -13,7 +13,7 @@ use x_steps::drop_last_zeros;
 impl<'p> Book<'p> {
     /// Whether all tiles are closed.
     pub fn finished(&self) -> bool
-        ensures { IsTrue result ↔ AllClosed self.now.tiles }
+        ensures { IsTrue result ↔ IsFinished self.now }
     {
         self.tiles
             .list()
@@ -26,7 +26,7 @@ impl<'p> Book<'p> {
     pub fn visits(&self) -> Result<Lists, AllocError>
         ensures visits { IfOk result (λ paths. paths ≡ posted_visits self.now.tiles) }
         ensures rise { IfOk result (λ paths. PathsRise paths) }
-        ensures whole { IfOk result (λ paths. AllClosed self.now.tiles → paths ≡ whole_visits self.now) }
+        ensures whole { IfOk result (λ paths. IsFinished self.now → paths ≡ whole_visits self.now) }
     {
         let mut visits = Lists::new(*self.first.state().path.allocator());
         for tile in self.tiles.list() {
@@ -46,7 +46,7 @@ impl<'p> Book<'p> {
     /// first mark to the branch's end.
     pub fn visited(&self) -> u128
         ensures visited { result ≡ length (posted_visits self.now.tiles) }
-        ensures whole { AllClosed self.now.tiles → result ≡ length (whole_visits self.now) }
+        ensures whole { IsFinished self.now → result ≡ length (whole_visits self.now) }
     {
         self.count_calls();
         let mut visited: u128 = 0;
@@ -60,7 +60,7 @@ impl<'p> Book<'p> {
     /// end.
     pub fn steps(&self) -> u128
         ensures steps { result ≡ posted_steps self.now.tiles }
-        ensures whole { AllClosed self.now.tiles → result ≡ whole_steps self.now }
+        ensures whole { IsFinished self.now → result ≡ whole_steps self.now }
     {
         self.count_calls();
         let mut steps: u128 = 0;
@@ -74,7 +74,7 @@ impl<'p> Book<'p> {
     /// are closed, the run has so many from the first mark to the branch's end.
     pub fn levels(&self) -> Result<Vec<u128>, AllocError>
         ensures levels { ReturnsItems result (posted_levels self.now.problem self.now.tiles) }
-        ensures whole { IfOk result (λ levels. AllClosed self.now.tiles → levels.items ≡ whole_levels self.now) }
+        ensures whole { IfOk result (λ levels. IsFinished self.now → levels.items ≡ whole_levels self.now) }
     {
         self.count_calls();
         let alloc = *self.first.state().path.allocator();

@@ -5,7 +5,7 @@ ghost use Rattle.lab_book.specs.declared.entry.Call.TheVariants as calls;
 ghost use Rattle.lab_book.specs.Tile.{is_leased};
 ghost use Rattle.lab_book.specs.Tiling.{tile_at};
 ghost use Rattle.lab_book.specs.Book.{outcome, posted, post_fault};
-ghost use Rattle.lab_book.specs.Calls.{Made, Posts, PostRefused, Doubted, posted_reply, Finds, RefusedOnly};
+ghost use Rattle.lab_book.specs.Calls.{Made, Posts, PostRefused, Doubted, posted_reply, Finds, RefusedIf};
 
 use crate::book::{Book, out_of_memory};
 use crate::entry::{Call, Entry, Reply};
@@ -121,7 +121,7 @@ impl<'p> Book<'p> {
     ) -> Result<Posted, Refused<BookFault, Stretch<'p>>>
         requires { same ≡ is_same stretch.problem self.old.problem }
         ensures made { IfOk result (λ r. Posts self.old self.new lease.now stretch.entry r) }
-        ensures refused { RefusedOnly result (PostRefused self.old self.new lease.now stretch.entry) }
+        ensures refused { RefusedIf result (PostRefused self.old self.new lease.now stretch.entry) }
         ensures given_back { IfErr result (λ r. r.given ≡ stretch.entry) }
     {
         let lease = lease.grant();
@@ -147,7 +147,7 @@ impl<'p> Book<'p> {
         stretch: Stretch<'p>,
     ) -> Result<Posted, Refused<BookFault, Stretch<'p>>>
         ensures made { IfOk result (λ r. Posts self.old self.new lease.now stretch.entry r) }
-        ensures refused { RefusedOnly result (PostRefused self.old self.new lease.now stretch.entry) }
+        ensures refused { RefusedIf result (PostRefused self.old self.new lease.now stretch.entry) }
         ensures given_back { IfErr result (λ r. r.given ≡ stretch.entry) }
     {
         let same = stretch.problem().same(self.problem);

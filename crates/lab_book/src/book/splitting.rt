@@ -8,7 +8,7 @@ ghost use Rattle.lab_book.specs.declared.entry.Reply.TheVariants as replies;
 ghost use Rattle.lab_book.specs.Tile.{is_leased};
 ghost use Rattle.lab_book.specs.Tiling.{tile_at};
 ghost use Rattle.lab_book.specs.Book.{outcome, split, ended_tile, split_fault};
-ghost use Rattle.lab_book.specs.Calls.{Made, Splits, SplitRefused, Doubted, Finds, RefusedOnly};
+ghost use Rattle.lab_book.specs.Calls.{Made, Splits, SplitRefused, Doubted, Finds, RefusedIf};
 
 use crate::book::{Book, out_of_memory};
 use crate::entry::{Call, Entry, Reply};
@@ -131,7 +131,7 @@ impl<'p> Book<'p> {
     ) -> Result<u64, Refused<BookFault, Cut<'p>>>
         requires { same ≡ is_same cut.problem self.old.problem }
         ensures made { IfOk result (λ id. Splits self.old self.new lease.now cut.entry id) }
-        ensures refused { RefusedOnly result (SplitRefused self.old self.new lease.now cut.entry) }
+        ensures refused { RefusedIf result (SplitRefused self.old self.new lease.now cut.entry) }
         ensures given_back { IfErr result (λ r. r.given ≡ cut.entry) }
     {
         let lease = lease.grant();
@@ -155,7 +155,7 @@ impl<'p> Book<'p> {
     /// end (6); the cut comes back.
     pub fn split(&mut self, lease: &Lease, cut: Cut<'p>) -> Result<u64, Refused<BookFault, Cut<'p>>>
         ensures made { IfOk result (λ id. Splits self.old self.new lease.now cut.entry id) }
-        ensures refused { RefusedOnly result (SplitRefused self.old self.new lease.now cut.entry) }
+        ensures refused { RefusedIf result (SplitRefused self.old self.new lease.now cut.entry) }
         ensures given_back { IfErr result (λ r. r.given ≡ cut.entry) }
     {
         let same = cut.problem().same(self.problem);

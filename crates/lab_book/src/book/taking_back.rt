@@ -5,7 +5,7 @@ ghost use Rattle.lab_book.specs.declared.entry.Reply.TheVariants as replies;
 ghost use Rattle.lab_book.specs.Tile.{is_leased, is_free};
 ghost use Rattle.lab_book.specs.Tiling.{tile_at};
 ghost use Rattle.lab_book.specs.Book.{retract_fault, back_place};
-ghost use Rattle.lab_book.specs.Calls.{Made, Refuses, GoesBack, Finds, Retracts, OutOfMemoryOr, back_to};
+ghost use Rattle.lab_book.specs.Calls.{Made, Refuses, RefusesBy, GoesBack, Finds, Retracts, OutOfMemoryOr, back_to};
 
 use crate::book::Book;
 use crate::entry::{Call, Entry, Reply};
@@ -74,7 +74,7 @@ impl<'p> Book<'p> {
     pub fn retract(&mut self, lease: &Lease) -> Result<Stretch<'p>, BookFault>
         ensures made { IfOk result (Retracts self.old self.new lease.now) }
         ensures problem { IfOk result (λ x. x.problem ≡ self.old.problem) }
-        ensures refused { IfErr result (λ f. Refuses self.old self.new lease.now.worker (Call.Retract lease.now) f) }
+        ensures refused { IfErr result (RefusesBy self.old self.new lease.now Call.Retract) }
     {
         let lease = lease.grant();
         let i = match self.retract_place(lease) {

@@ -1,9 +1,7 @@
 //! Calls that take a tile up again, or take back what was posted.
 ghost use Rattle.std.specs.Prelude.{◌≡◌, ◌+◌, IfOk, OnErr, OnOk};
-ghost use Rattle.x_steps.specs.StateView.{state_value};
-ghost use Rattle.x_branches.specs.Refusals.{CanStart};
 ghost use Rattle.lab_book.specs.declared.entry.Call.TheVariants as calls;
-ghost use Rattle.lab_book.specs.Calls.{leased_reply};
+ghost use Rattle.lab_book.specs.Calls.{leased_reply, CanBeSearched, back_to};
 ghost use Rattle.lab_desk.specs.Record.{NotesAnswer, NotesDone, NotesFault, NotesRetract};
 
 use crate::desk::Desking;
@@ -19,7 +17,7 @@ impl<'p, L: Desking> Locked<'p, L> {
     pub(crate) fn take_held(&mut self, seat: &mut Seat<L>, id: u64) -> Result<Leased<'p>, BookFault>
         ensures noted { NotesAnswer seat.old seat.new (calls.TakeHeld id) leased_reply result }
         ensures refused { NotesFault seat.old seat.new (calls.TakeHeld id) result }
-        ensures can_start { IfOk result (λ r. CanStart L.whole r.branch (state_value r.mark)) }
+        ensures can_start { IfOk result (CanBeSearched L.whole) }
         ensures worker { IfOk result (λ r. r.lease.worker ≡ seat.old.number) }
         ensures room { OnOk result (seat.new.kept ≡ seat.old.kept + 1) }
         ensures room_stays { OnErr result (seat.new.kept ≡ seat.old.kept) }
@@ -90,8 +88,8 @@ impl<'p, L: Desking> Locked<'p, L> {
         id: u64,
         state: &State,
     ) -> Result<(), BookFault>
-        ensures noted { NotesDone seat.old seat.new (calls.PutBack id (state_value state.now)) result }
-        ensures refused { NotesFault seat.old seat.new (calls.PutBack id (state_value state.now)) result }
+        ensures noted { NotesDone seat.old seat.new (back_to id state.now) result }
+        ensures refused { NotesFault seat.old seat.new (back_to id state.now) result }
         ensures room { seat.new.kept ≡ seat.old.kept }
         ensures number { seat.new.number ≡ seat.old.number }
     {

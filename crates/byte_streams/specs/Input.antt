@@ -1,5 +1,5 @@
 -- Reading the whole input.
-use Rattle.std.specs.Prelude.{ℕ, ◌+◌, ◌<◌, ◌≤◌, List, IfSome, length, ⊤}
+use Rattle.std.specs.Prelude.{ℕ, ◌≡◌, ◌+◌, ◌<◌, ◌≤◌, ◌++◌, List, IfSome, length, ⊤}
 use Rattle.std.specs.Io.KnownBytes.{Consumes}
 use Rattle.byte_streams.specs.declared.input.InputFault.{InputFault}
 use Rattle.byte_streams.specs.declared.input.InputFault.TheVariants.{Failed, PastLimit, OutOfMemory}
@@ -12,6 +12,14 @@ most_input = 134217728
 -- the bytes that the source had, where they are known, are more than are read
 abbrev pub GoesPastLimit : Stream → Type 0
 GoesPastLimit s = IfSome s.bytes (λ bytes. most_input < length bytes)
+
+-- the bytes that the source handed out stand behind those that the text had
+abbrev pub BringsBytes : Stream → Stream → List ℕ → List ℕ → Type 0
+BringsBytes old new before text = (came : List ℕ) × (text ≡ before ++ came) × Consumes old.bytes new.bytes came
+
+-- the text is all that the source had, where that is known
+abbrev pub IsAllOf : List ℕ → Stream → Type 0
+IsAllOf text s = IfSome s.bytes (λ bytes. text ≡ bytes)
 
 -- why the input of a source was not read
 abbrev pub StopsReading : Stream → Stream → InputFault → Type 0

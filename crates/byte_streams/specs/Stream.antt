@@ -1,7 +1,7 @@
 -- What a contract sees of a source or a sink of bytes, and what happens to it.
 use Rattle.std.specs.Prelude.{ℕ, ◌≡◌, ◌⊎◌, Bool, true, List, [], ◌∷◌, ◌++◌, Option, Result, is_err, take}
 use Rattle.std.specs.List.{list_any}
-use Rattle.std.specs.Io.KnownBytes.{Appends, Keeps}
+use Rattle.std.specs.Io.KnownBytes.{Appends, Keeps, ReadConsumes, WriteAppends}
 
 -- the bytes that a source has left or a sink holds, where they are known, whether a read or a write has failed, and for each
 -- answer so far whether it was a failure
@@ -22,9 +22,21 @@ has_failure answers = list_any (λ failed. failed) answers
 abbrev pub IsToldByAnswers : Stream → Type 0
 IsToldByAnswers s = s.failed ≡ has_failure s.answers
 
+-- whether this answer was a failure is noted behind the others
+abbrev pub NotesFailure : {E : Type 0} → List Bool → List Bool → Result ℕ E → Type 0
+NotesFailure old new answer = new ≡ old ++ is_err answer ∷ []
+
 -- there is one answer more, which is the one that was handed out
 abbrev pub AnswersOnce : {E : Type 0} → Stream → Stream → Result ℕ E → Type 0
-AnswersOnce old new answer = new.answers ≡ old.answers ++ is_err answer ∷ []
+AnswersOnce old new answer = NotesFailure old.answers new.answers answer
+
+-- the bytes that were read are gone from the source
+abbrev pub LosesRead : {E : Type 0} → Stream → Stream → Result ℕ E → List ℕ → Type 0
+LosesRead old new answer chunk = ReadConsumes old.bytes new.bytes answer chunk
+
+-- the bytes that were written are behind those that the sink had
+abbrev pub GainsWritten : {E : Type 0} → Stream → Stream → Result ℕ E → List ℕ → Type 0
+GainsWritten old new answer text = WriteAppends old.bytes new.bytes answer text
 
 -- no call failed from old to new
 abbrev pub IsSound : Stream → Stream → Type 0

@@ -1,7 +1,8 @@
 //! The only file that calls a reader or a writer of std: each call adds its answer to those before.
-ghost use Rattle.std.specs.Prelude.{◌≡◌, ◌<◌, ◌++◌, ◌∷◌, [], IfOk, is_err, length};
+ghost use Rattle.std.specs.Prelude.{◌≡◌, ◌<◌, [], IfOk, length};
 ghost use Rattle.std.specs.Io.{ReadsAtMost, WritesAtMost};
 ghost use Rattle.std.specs.Io.KnownBytes.{ReadConsumes, WriteAppends};
+ghost use Rattle.byte_streams.specs.Stream.{NotesFailure};
 
 use crate::answers::Answers;
 use crate::stream::Failed;
@@ -33,7 +34,7 @@ impl<R: Read> Asked<R> {
         ensures bound { ReadsAtMost result chunk.new }
         ensures bytes { ReadConsumes (R.remaining self.old.inner) (R.remaining self.new.inner)
             result chunk.new }
-        ensures answers { self.new.answers.failures ≡ self.old.answers.failures ++ is_err result ∷ [] }
+        ensures answers { NotesFailure self.old.answers.failures self.new.answers.failures result }
     {
         let answer = match self.inner.read(chunk) {
             Ok(count) => Ok(count),
@@ -51,7 +52,7 @@ impl<W: Write> Asked<W> {
         ensures some { 0 < length text.now → IfOk result (λ count. 0 < count) }
         ensures bytes { WriteAppends (W.contents self.old.inner) (W.contents self.new.inner)
             result text.now }
-        ensures answers { self.new.answers.failures ≡ self.old.answers.failures ++ is_err result ∷ [] }
+        ensures answers { NotesFailure self.old.answers.failures self.new.answers.failures result }
     {
         let answer = match self.inner.write(text) {
             Ok(count) if count > 0 || text.is_empty() => Ok(count),

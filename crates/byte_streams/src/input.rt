@@ -1,8 +1,8 @@
 //! Reading the whole input, up to a limit.
-ghost use Rattle.std.specs.Prelude.{◌≡◌, ◌<◌, ◌≤◌, ◌+◌, ◌++◌, IfOk, IfErr, OnOk, IfSome, length, List, ℕ, vec_len};
-ghost use Rattle.std.specs.Io.KnownBytes.{Consumes, IsAtEnd};
+ghost use Rattle.std.specs.Prelude.{◌≡◌, ◌<◌, ◌≤◌, ◌+◌, IfOk, IfErr, OnOk, length, vec_len};
+ghost use Rattle.std.specs.Io.KnownBytes.{IsAtEnd};
 ghost use Rattle.byte_streams.specs.Stream.{IsSound};
-ghost use Rattle.byte_streams.specs.Input.{most_input, StopsReading, StopsAfter, LacksMemoryWithin};
+ghost use Rattle.byte_streams.specs.Input.{most_input, StopsReading, StopsAfter, LacksMemoryWithin, BringsBytes, IsAllOf};
 
 use crate::stream::Source;
 use std::alloc::{AllocError, Global};
@@ -41,12 +41,10 @@ fn read_some<S: Source>(
     requires within { vec_len text.old ≤ most_input }
     ensures grown { IfOk result (λ count. vec_len text.new ≡ vec_len text.old + count) }
     ensures within { OnOk result (vec_len text.new ≤ most_input) }
-    ensures read { OnOk result ((came : List ℕ) × (text.new.items ≡ text.old.items ++ came)
-        × Consumes (S.stream source.old).bytes (S.stream source.new).bytes came) }
+    ensures read { OnOk result (BringsBytes (S.stream source.old) (S.stream source.new) text.old.items text.new.items) }
     ensures end { IfOk result (λ count. count ≡ 0 → IsAtEnd (S.stream source.new).bytes) }
     ensures sound { OnOk result (IsSound (S.stream source.old) (S.stream source.new)) }
-    ensures fault { IfErr result (λ fault. StopsAfter (length text.old.items)
-        (S.stream source.old) (S.stream source.new) fault) }
+    ensures fault { IfErr result (StopsAfter (length text.old.items) (S.stream source.old) (S.stream source.new)) }
 {
     let Ok(count) = source.read(chunk) else {
         return Err(InputFault::Failed);
@@ -62,14 +60,11 @@ fn read_some<S: Source>(
 
 /// Reads to the end. No read that fails is tried again.
 pub fn read_whole<S: Source>(alloc: Global, source: &mut S) -> Result<Vec<u8>, InputFault>
-    ensures all { IfOk result (λ text.
-        IfSome (S.stream source.old).bytes (λ bytes. text.items ≡ bytes)) }
+    ensures all { IfOk result (λ text. IsAllOf text.items (S.stream source.old)) }
     ensures within { IfOk result (λ text. length text.items ≤ most_input) }
     ensures sound { OnOk result (IsSound (S.stream source.old) (S.stream source.new)) }
-    ensures fault { IfErr result (λ fault.
-        StopsReading (S.stream source.old) (S.stream source.new) fault) }
-    ensures memory { IfErr result (λ fault.
-        LacksMemoryWithin (S.stream source.old) (S.stream source.new) fault) }
+    ensures fault { IfErr result (StopsReading (S.stream source.old) (S.stream source.new)) }
+    ensures memory { IfErr result (LacksMemoryWithin (S.stream source.old) (S.stream source.new)) }
 {
     let mut text = Vec::new(alloc);
     let Ok(mut chunk) = zeros(alloc, CHUNK) else {

@@ -1,8 +1,7 @@
 //! Where bytes come from and where they go.
 ghost use Rattle.std.specs.Prelude.{◌<◌, IfOk, OnOk, OnErr, length};
 ghost use Rattle.std.specs.Io.{ReadsAtMost, WritesAtMost};
-ghost use Rattle.std.specs.Io.KnownBytes.{ReadConsumes, WriteAppends};
-ghost use Rattle.byte_streams.specs.Stream.{Stream, IsSound, HasFailed, AnswersOnce, IsToldByAnswers};
+ghost use Rattle.byte_streams.specs.Stream.{Stream, IsSound, HasFailed, AnswersOnce, IsToldByAnswers, LosesRead, GainsWritten};
 
 /// A read or a write failed.
 #[derive(Clone, Copy, Debug, PartialEq, Eq)]
@@ -16,8 +15,7 @@ pub trait Source {
     /// Reads some bytes; none only at the end, or into no room.
     fn read(&mut self, chunk: &mut [u8]) -> Result<usize, Failed>
         ensures bound { ReadsAtMost result chunk.new }
-        ensures bytes { ReadConsumes (stream self.old).bytes (stream self.new).bytes
-            result chunk.new }
+        ensures bytes { LosesRead (stream self.old) (stream self.new) result chunk.new }
         ensures once { AnswersOnce (stream self.old) (stream self.new) result }
         ensures told { IsToldByAnswers (stream self.new) }
         ensures sound { OnOk result (IsSound (stream self.old) (stream self.new)) }
@@ -33,8 +31,7 @@ pub trait Sink {
     fn write(&mut self, text: &[u8]) -> Result<usize, Failed>
         ensures bound { WritesAtMost result text.now }
         ensures some { 0 < length text.now → IfOk result (λ count. 0 < count) }
-        ensures bytes { WriteAppends (stream self.old).bytes (stream self.new).bytes
-            result text.now }
+        ensures bytes { GainsWritten (stream self.old) (stream self.new) result text.now }
         ensures once { AnswersOnce (stream self.old) (stream self.new) result }
         ensures told { IsToldByAnswers (stream self.new) }
         ensures sound { OnOk result (IsSound (stream self.old) (stream self.new)) }

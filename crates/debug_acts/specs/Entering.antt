@@ -3,6 +3,7 @@
 -- Example: in the new book of the small problem the branch from the start opens with the line `at X1 -`; the one from the cut 4, which
 -- there isn't, is refused. proofs/ActExamples.antt computes both.
 use Rattle.std.specs.Prelude.{ℕ, ◌≡◌, ◌⊎◌, List, [], ◌∷◌, Option, Some, None, if◌then◌else◌}
+use Rattle.std.specs.Borrow.{Bor}
 use Rattle.text_lines.specs.Writing.{line_text, text_of}
 use Rattle.lab_book.specs.declared.fault.BookFault.TheVariants.{UnknownBranch}
 use Rattle.lab_book.specs.declared.entry.Call.{Call}
@@ -12,8 +13,8 @@ use Rattle.lab_book.specs.Tiling.{tile_at}
 use Rattle.lab_book.specs.Book.{BookValue, outcome, book_step}
 use Rattle.lab_world.specs.Worker.{WorkerValue, lent_worker}
 use Rattle.debug_views.specs.Lines.{state_line, book_refusal}
-use Rattle.debug_acts.specs.Desk.{Desk, DeskAnswer, desk}
-use Rattle.debug_views.specs.Tiles.{place_at, refusal_or}
+use Rattle.debug_acts.specs.Desk.{DeskAnswer, desk}
+use Rattle.debug_views.specs.Tiles.{place_at, refusal_or, given_cut}
 
 -- a held tile is taken, any other is leased
 abbrev pub enter_call : TileValue → Call
@@ -49,6 +50,10 @@ entered_at b (Some i) = lent_at b i
 -- the tile that begins at a cut, and isn't closed
 unfoldable pub enter : BookValue → Option (List ℕ) → DeskAnswer
 enter b lo = entered_at b (place_at lo b.tiles)
+
+-- the same, by the cut that a function is given
+abbrev pub enter_named : BookValue → Option (Bor (List ℕ)) → DeskAnswer
+enter_named b lo = enter b (given_cut lo)
 
 -- where a book is left of which no branch was entered, out of memory: as it was, or as this answer leaves it, and then there is no worker
 abbrev pub IsNotEntered : BookValue → BookValue → DeskAnswer → Type 0

@@ -1,5 +1,5 @@
 -- A branch is parted at an option that is untried (`split`), and its last posted stretch is walked again (`retract`).
-use Rattle.std.specs.Prelude.{ℕ, ◌==◌, true, List, [], ◌∷◌, Some, length, if◌then◌else◌}
+use Rattle.std.specs.Prelude.{ℕ, ◌==◌, true, List, [], ◌∷◌, Some, if◌then◌else◌}
 use Rattle.cover_problem.specs.Lists.{has}
 use Rattle.x_branches.specs.declared.fault.RunnerFault.TheVariants.{NotAtMark}
 use Rattle.x_branches.specs.declared.branch.Branch.{Branch}

@@ -69,6 +69,14 @@ Walks b w c v n = work c v ≡ forward n (work b w)
 abbrev pub WalksSome : BookValue → WorkerValue → BookValue → WorkerValue → ℕ → Type 0
 WalksSome b w c v most = IsPartWay (work b w) (work c v) most
 
+-- they have gone on up to the end of the branch
+abbrev pub WalksToEnd : BookValue → WorkerValue → BookValue → WorkerValue → Type 0
+WalksToEnd b w c v = Walks b w c v (steps_ahead w.runner)
+
+-- or some of the steps that lead there
+abbrev pub WalksTowardsEnd : BookValue → WorkerValue → BookValue → WorkerValue → Type 0
+WalksTowardsEnd b w c v = WalksSome b w c v (steps_ahead w.runner)
+
 -- where they are left that couldn't take one step, out of memory: as they were, or with a stretch posted that was full
 abbrev pub IsNotStepped : BookValue → WorkerValue → BookValue → WorkerValue → Type 0
 IsNotStepped b w c v = IsEither (work c v) (work b w) (with_room (work b w))
@@ -148,8 +156,8 @@ abbrev pub run_count : List Break → RunnerValue → ℕ
 run_count breaks r = if steps_ahead r == 0 then 0 else steps_to_break r.problem breaks r.position (end_of r.branch.hi)
 
 -- the lines of its visits
-abbrev pub run_visits : List Break → RunnerValue → List (List (List ℕ))
-run_visits breaks r = visits_on r (run_count breaks r)
+abbrev pub run_visits : List Break → WorkerValue → List (List (List ℕ))
+run_visits breaks w = visits_on w.runner (run_count breaks w.runner)
 
 -- the breakpoint that it stops at, if it meets one
 abbrev pub run_met : List Break → RunnerValue → Option Break
@@ -207,3 +215,7 @@ pub record IsPartBack (a b : WorkerValue) (most : ℕ) : Type 0 where
   pub steps : ℕ
   pub within : steps ≤ most
   pub left : b ≡ moved_to a (state_back a.runner steps)
+
+-- it has gone some of the steps that `back` takes
+abbrev pub GoesPartBack : WorkerValue → WorkerValue → ℕ → Type 0
+GoesPartBack old new most = IsPartBack old new (back_count old.runner most)

@@ -3,29 +3,17 @@ ghost use Rattle.std.specs.Prelude.{◌≡◌, ◌<◌, Some, length, IfOk, IfEr
 ghost use Rattle.lab_book.specs.Tile.{is_held};
 ghost use Rattle.lab_book.specs.Book.{book_step};
 ghost use Rattle.lab_book.specs.Calls.{Refuses};
-ghost use Rattle.lab_world.specs.Worker.{HoldsTile};
 ghost use Rattle.lab_world.specs.World.{IsSeat};
 ghost use Rattle.debug_acts.specs.Desk.{desk};
-ghost use Rattle.debug_acts.specs.Entering.{entering, lent_at, enter, IsNotEntered};
-ghost use Rattle.debug_views.specs.Tiles.{given_cut};
+ghost use Rattle.debug_acts.specs.Entering.{entering, lent_at, enter, IsNotEntered, enter_named};
 ghost use Rattle.cover_problem.specs.Answers.{Adds};
 
 use cover_problem::Table;
 use debug_language::write_at;
 use debug_views::{place_at, write_book_fault};
-use lab_book::{Book, BookFault, Status};
+use lab_book::{Book, BookFault};
 use lab_world::Worker;
 use std::alloc::{AllocError, Global};
-
-/// Whether a tile is held.
-fn is_held(status: Status) -> bool
-    ensures { result ≡ is_held status }
-{
-    match status {
-        Status::Held => true,
-        _ => false,
-    }
-}
 
 /// Worker 0 leases the tile at a place: a held one is taken.
 fn lend<'p, T: Table>(
@@ -40,7 +28,7 @@ fn lend<'p, T: Table>(
 {
     let tile = &book.tiles()[place];
     let id = tile.id();
-    if is_held(tile.status()) {
+    if tile.status().is_held() {
         Worker::take_held(alloc, book, 0, id)
     } else {
         Worker::lease(alloc, book, 0, id)
@@ -79,9 +67,9 @@ pub fn enter<'p, T: Table>(
     lo: Option<&[u32]>,
     text: &mut Vec<u8>,
 ) -> Result<Option<Worker<'p, T>>, AllocError>
-    ensures made { IfOk result (λ w. desk book.new w ≡ (enter book.old (given_cut lo.entry)).desk) }
-    ensures text { Adds result text.old text.new (enter book.old (given_cut lo.entry)).text }
-    ensures left { OnErr result (IsNotEntered book.old book.new (enter book.old (given_cut lo.entry))) }
+    ensures made { IfOk result (λ w. desk book.new w ≡ (enter_named book.old lo.entry).desk) }
+    ensures text { Adds result text.old text.new (enter_named book.old lo.entry).text }
+    ensures left { OnErr result (IsNotEntered book.old book.new (enter_named book.old lo.entry)) }
     ensures seat { IfOk result (IsSeat book.new 0) }
 {
     let Some(place) = place_at(book, lo) else {

@@ -1,11 +1,10 @@
 //! A session's book is searched by workers on threads.
-ghost use Rattle.std.specs.Prelude.{◌≡◌, IfOk, IfErr};
+ghost use Rattle.std.specs.Prelude.{◌≡◌, IfOk};
 ghost use Rattle.text_lines.specs.Writing.{line_text};
 ghost use Rattle.lab_book.specs.Book.{leased_in};
 ghost use Rattle.lab_book.specs.Tiling.{IsTiling};
 ghost use Rattle.alike_books.specs.Searched.{IsSearched};
 ghost use Rattle.debug_views.specs.Lines.{debug_refusal};
-ghost use Rattle.x_debug.specs.Session.{session_on};
 ghost use Rattle.debug_script.specs.Alike.{SaysAlike, StaysAlike};
 ghost use Rattle.debug_script.specs.Pooling.{none_held, pool_words, answer_pool};
 ghost use Rattle.cover_problem.specs.Answers.{AddsLine};

@@ -3,10 +3,11 @@
 --
 -- Example: the new book of the small problem has the line `branch start to end waiting`. Once that tile is held the line ends in `held`; to
 -- hold the one at the cut 4, which there isn't, is refused. proofs/ViewExamples.antt computes it.
-use Rattle.std.specs.Prelude.{ℕ, Bool, true, false, not, ◌&&◌, List, [], ◌∷◌, ◌++◌, length, map, filter, Option, Some, None, option_copied}
+use Rattle.std.specs.Prelude.{ℕ, Bool, true, false, not, ◌&&◌, List, [], ◌∷◌, ◌++◌, length, map, filter, Option, Some, None, option_copied, Result, OnErr}
 use Rattle.std.specs.Borrow.{Bor}
 use Rattle.std.specs.List.{position}
 use Rattle.std.specs.Str.{bytes_eq}
+use Rattle.std.specs.Global.{Vec}
 use Rattle.x_steps.specs.declared.state.State.{State}
 use Rattle.x_steps.specs.StateValue.{StateValue}
 use Rattle.x_steps.specs.StateView.{state_value}
@@ -27,8 +28,10 @@ use Rattle.debug_language.specs.declared.words.Standing.{Standing}
 use Rattle.debug_language.specs.declared.words.Standing.TheVariants as standing
 use Rattle.debug_language.specs.Replies.{standing_words}
 use Rattle.x_texts.specs.Words.{visit_words}
+use Rattle.x_texts.specs.Writes.{AddsLines}
 use Rattle.debug_views.specs.Lines.{plain, counted, book_refusal}
 use Rattle.debug_views.specs.Showing.{or_none}
+use Rattle.debug_views.specs.Left.{IsEither}
 
 -- ---- how they are shown
 
@@ -116,8 +119,8 @@ abbrev pub answer_of_cut : BookValue → Option (List ℕ) → Option State → 
 answer_of_cut b lo s = answer_of_tile b (tile_call s) (place_at lo b.tiles)
 
 -- the same, by the cut and the state that a function is given
-abbrev pub answer_given : BookValue → Option (Bor (List ℕ)) → Option (Bor State) → BookAnswer
-answer_given b lo s = answer_of_cut b (given_cut lo) (option_copied s)
+abbrev pub asked_of : BookValue → Option (Bor (List ℕ)) → Option (Bor State) → BookAnswer
+asked_of b lo s = answer_of_cut b (given_cut lo) (option_copied s)
 
 -- `hold`
 unfoldable pub hold : BookValue → Option (List ℕ) → BookAnswer
@@ -130,3 +133,13 @@ put_back b lo state = answer_of_tile b (λ id. call.PutBack id state) (place_at 
 -- `putback`, by the cut and the state that a function is given
 abbrev pub put_back_at : BookValue → Option (Bor (List ℕ)) → State → BookAnswer
 put_back_at b lo s = put_back b (given_cut lo) (state_value s)
+
+-- ---- what a call does that asks so
+
+-- unless it has an error, it answers so
+abbrev pub AnswersSo : {X E : Type 0} → Result X E → Vec ℕ → Vec ℕ → BookAnswer → Type 0
+AnswersSo result old new a = AddsLines result old new a.lines
+
+-- where it has one, the book is as it was, or as this answer leaves it
+abbrev pub MayLeaveBook : {X E : Type 0} → Result X E → BookValue → BookValue → BookAnswer → Type 0
+MayLeaveBook result old new a = OnErr result (IsEither new old a.book)

@@ -1,13 +1,12 @@
 //! Which tile a cut names, and how tiles are shown.
-ghost use Rattle.std.specs.Prelude.{◌≡◌, ◌<◌, length, IfErr, OnOk, OnErr, IfSome};
+ghost use Rattle.std.specs.Prelude.{◌≡◌, ◌<◌, length, IfErr, OnOk, IfSome};
 ghost use Rattle.lab_book.specs.declared.entry.Reply.TheVariants as replies;
 ghost use Rattle.lab_book.specs.Tiling.{tile_at};
 ghost use Rattle.lab_book.specs.Calls.{Made, Refuses};
 ghost use Rattle.debug_views.specs.Lines.{book_refusal};
-ghost use Rattle.debug_views.specs.Tiles.{given_cut, is_begun_at, place_at, standing_of, tile_line, open_lines, branches_lines, posted_lines, call_for, answer_given, hold, put_back_at};
-ghost use Rattle.cover_problem.specs.Answers.{AddsLine};
+ghost use Rattle.debug_views.specs.Tiles.{given_cut, is_begun_at, place_at, standing_of, tile_line, open_lines, branches_lines, posted_lines, call_for, asked_of, hold, put_back_at, AnswersSo, MayLeaveBook};
+ghost use Rattle.cover_problem.specs.AnswersSo.{AddsLine};
 ghost use Rattle.x_texts.specs.Writes.{AddsLines};
-ghost use Rattle.debug_views.specs.Left.{IsEither};
 
 use crate::showing::choices;
 use debug_language::{
@@ -134,9 +133,9 @@ fn ask_tile(
     state: Option<&State>,
     text: &mut Vec<u8>,
 ) -> Result<(), AllocError>
-    ensures made { OnOk result (book.new ≡ (answer_given book.old lo.entry state.entry).book) }
-    ensures text { AddsLines result text.old text.new (answer_given book.old lo.entry state.entry).lines }
-    ensures left { OnErr result (IsEither book.new book.old (answer_given book.old lo.entry state.entry).book) }
+    ensures made { OnOk result (book.new ≡ (asked_of book.old lo.entry state.entry).book) }
+    ensures text { AnswersSo result text.old text.new (asked_of book.old lo.entry state.entry) }
+    ensures left { MayLeaveBook result book.old book.new (asked_of book.old lo.entry state.entry) }
 {
     let Some(place) = place_at(book, lo) else {
         return write_book_fault(text, &BookFault::UnknownBranch);
@@ -152,8 +151,8 @@ fn ask_tile(
 #[tactic(auto, unfolding(crate::specs::Tiles::hold))]
 pub fn hold(book: &mut Book<'_>, lo: Option<&[u32]>, text: &mut Vec<u8>) -> Result<(), AllocError>
     ensures made { OnOk result (book.new ≡ (hold book.old (given_cut lo.entry)).book) }
-    ensures text { AddsLines result text.old text.new (hold book.old (given_cut lo.entry)).lines }
-    ensures left { OnErr result (IsEither book.new book.old (hold book.old (given_cut lo.entry)).book) }
+    ensures text { AnswersSo result text.old text.new (hold book.old (given_cut lo.entry)) }
+    ensures left { MayLeaveBook result book.old book.new (hold book.old (given_cut lo.entry)) }
 {
     ask_tile(book, lo, None, text)
 }
@@ -168,8 +167,8 @@ pub fn put_back(
     text: &mut Vec<u8>,
 ) -> Result<(), AllocError>
     ensures made { OnOk result (book.new ≡ (put_back_at book.old lo.entry state.now).book) }
-    ensures text { AddsLines result text.old text.new (put_back_at book.old lo.entry state.now).lines }
-    ensures left { OnErr result (IsEither book.new book.old (put_back_at book.old lo.entry state.now).book) }
+    ensures text { AnswersSo result text.old text.new (put_back_at book.old lo.entry state.now) }
+    ensures left { MayLeaveBook result book.old book.new (put_back_at book.old lo.entry state.now) }
 {
     ask_tile(book, lo, Some(state), text)
 }

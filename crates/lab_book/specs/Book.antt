@@ -110,6 +110,10 @@ else_fault test f next = if test then next else Some f
 abbrev pub status_fault : Bool → TileValue → Option BookFault
 status_fault right t = else_fault right NotWaiting None
 
+-- a tile must not be closed
+abbrev pub open_fault : TileValue → Option BookFault
+open_fault t = status_fault (not (is_closed t.status)) t
+
 -- a lease has to be the tile's current one
 abbrev pub lease_fault : Grant → TileValue → Option BookFault → Option BookFault
 lease_fault g t next = else_fault (is_lease t.status g) (StaleLease (mark_of t)) next
@@ -309,7 +313,7 @@ outcome b w (call.Abandon g) = made_at b.tiles (settled b freed) (found b.tiles 
 outcome b w (call.Close g) = made_at b.tiles (settled b closed) (found b.tiles g.id (λ t. lease_fault g t (end_fault t)))
 outcome b w (call.PutBack id s) = made_at b.tiles (settled b (put_back s)) (found b.tiles id (mark_fault s))
 outcome b w (call.RequestStop id) = made_at b.tiles (settled b asked_to_stop)
-    (found b.tiles id (λ t. status_fault (not (is_closed t.status)) t))
+    (found b.tiles id open_fault)
 
 -- one call: the tiles change as it says, and the history gains its entry
 abbrev pub book_step : BookValue → ℕ → Call → BookValue

@@ -1,9 +1,9 @@
 //! The tiles of a book in order, with what is kept beside them so that no call has to go over all.
-ghost use Rattle.std.specs.Prelude.{ℕ, ◌≡◌, ◌⊎◌, ◌≤◌, ◌<◌, ◌+◌, ◌-◌, ◌^◌, true, false, not, Some, cond, [], ◌∷◌, length, slice_set};
+ghost use Rattle.std.specs.Prelude.{ℕ, ◌≡◌, ◌⊎◌, ◌≤◌, ◌<◌, ◌+◌, ◌-◌, ◌^◌, true, false, Some, cond, [], ◌∷◌, length, slice_set};
 ghost use Rattle.std.specs.Prelude.{Option, None, IsOk, IfSome, OnOk, OnErr, IfErr, IfOk};
 ghost use Rattle.lab_book.specs.Tile.{TileValue, is_leased, is_waiting, is_held, is_closed, mark_of};
 ghost use Rattle.lab_book.specs.Tiling.{tile_at, AreNumbered};
-ghost use Rattle.lab_book.specs.Book.{tile_place, first_waiting, waiting_in, leased_in, found, status_fault, lease_fault, posted_tile};
+ghost use Rattle.lab_book.specs.Book.{tile_place, first_waiting, waiting_in, leased_in, found, status_fault, lease_fault, posted_tile, open_fault};
 ghost use Rattle.lab_book.specs.Book.{retracted_tile, settled_tile, kept_tile};
 ghost use Rattle.lab_book.specs.Index.{WaitFrom};
 ghost use Rattle.lab_book.specs.Calls.{Judged, is_current, OutOfMemoryOr};
@@ -204,7 +204,7 @@ impl<'p> Tiles<'p> {
 
     /// The place of the tile with an id, which must not be closed.
     pub fn open_place(&self, id: u64) -> Result<usize, BookFault>
-        ensures place { result ≡ found self.now id (λ t. status_fault (not (is_closed t.status)) t) }
+        ensures place { result ≡ found self.now id open_fault }
         ensures within { IfOk result (λ i. i < length self.now) }
         ensures not_closed { IfOk result (λ i. is_closed (tile_at self.now i).status ≡ false) }
     {

@@ -20,9 +20,9 @@ pub(crate) fn add_counts(totals: &mut [u128], counts: Reader<'_>)
     requires levels { length counts ≤ length totals.old }
     requires room { HaveRoom totals.old most_steps }
     ensures levels { length totals.new ≡ length totals.old }
-    ensures sums { (level : ℕ) → slice_index totals.new level ≡
-        slice_index totals.old level + slice_index (map choice_of counts.entry) level }
-    ensures small { (level : ℕ) → slice_index totals.new level ≤ slice_index totals.old level + most_steps }
+    ensures sums { (k : ℕ) → slice_index totals.new k ≡
+        slice_index totals.old k + slice_index (map choice_of counts.entry) k }
+    ensures small { (k : ℕ) → slice_index totals.new k ≤ slice_index totals.old k + most_steps }
 {
     let mut counts = counts;
     let mut level = 0;

@@ -1,5 +1,5 @@
 -- What a seat knows: what it pushed and what it took, deque by deque.
-use Rattle.std.specs.Prelude.{ℕ, zero, suc, ◌-◌, ◌+◌, List, [], ◌∷◌, ◌++◌, cond, nat_lt, length, map, slice_set, slice_index_or}
+use Rattle.std.specs.Prelude.{ℕ, zero, suc, ◌-◌, ◌+◌, ◌≡◌, ◌<◌, List, [], ◌∷◌, ◌++◌, cond, nat_lt, length, map, slice_set, slice_index_or}
 use Rattle.lab_tickets.specs.declared.rule.Tally.{Tally}
 use Rattle.lab_tickets.specs.Rule.{tally}
 
@@ -78,6 +78,10 @@ deque_of s = s.deque
 -- the seat at a place of a row
 abbrev pub seat_at : List TicketView → ℕ → TicketView
 seat_at seats k = slice_index_or seats k (alone (0, 0))
+
+-- the first n seats of a row have done nothing yet
+abbrev pub AreFresh : ℕ → List TicketView → Type 0
+AreFresh n seats = (k : ℕ) → k < n → seat_at seats k ≡ fresh (map deque_of seats) k
 
 -- the row once the seat at a place has its number and the deques of the others
 abbrev pub with_joined : ℕ → List TicketView → List TicketView

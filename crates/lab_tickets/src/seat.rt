@@ -1,7 +1,7 @@
 //! A seat: its own deque, and those of the other seats.
-ghost use Rattle.std.specs.Prelude.{◌≡◌, ◌≢◌, ◌<◌, ◌≤◌, ◌+◌, [], map, length, vec_len, IfOk, IfErr, MatchOption};
+ghost use Rattle.std.specs.Prelude.{◌≡◌, ◌≢◌, ◌<◌, ◌≤◌, ◌+◌, [], map, vec_len, IfOk, IfErr, MatchOption};
 ghost use Rattle.lab_tickets.specs.Rule.{tally};
-ghost use Rattle.lab_tickets.specs.Deques.{tally_of, source};
+ghost use Rattle.lab_tickets.specs.Deques.{tally_of, source, joined};
 ghost use Rattle.lab_tickets.specs.TicketView.{TicketView, alone, pushed, popped, stolen, place, seat_count};
 
 use crate::deques::{OtherDeque, OwnDeque};
@@ -59,11 +59,7 @@ impl TicketSeat {
     /// From now on it has this number, and steals from these deques.
     pub(crate) fn join(&mut self, number: u8, others: Vec<OtherDeque>)
         requires { (number ≤ vec_len others) × (vec_len others < 32) }
-        ensures { self.new ≡ record self.old {
-          number = number;
-          others = map tally_of others.items;
-          deques = map source others.items;
-        } }
+        ensures { self.new ≡ joined self.old number others.items }
     {
         self.number = number;
         self.others = others;

@@ -1,7 +1,7 @@
 //! All seats, made together.
-ghost use Rattle.std.specs.Prelude.{◌≡◌, ℕ, ◌<◌, ◌≤◌, ◌-◌, map, IfOk, vec_len};
+ghost use Rattle.std.specs.Prelude.{◌≡◌, ◌<◌, ◌≤◌, ◌-◌, map, IfOk, vec_len};
 ghost use Rattle.lab_tickets.specs.Deques.{tally_of, source};
-ghost use Rattle.lab_tickets.specs.TicketView.{fresh, blanks, without, deque_of, seat_at, with_joined};
+ghost use Rattle.lab_tickets.specs.TicketView.{fresh, blanks, without, deque_of, with_joined, AreFresh};
 
 use crate::deques::OtherDeque;
 use crate::seat::TicketSeat;
@@ -44,8 +44,7 @@ fn seat_among(alloc: Global, seats: &mut Vec<TicketSeat>, number: u8) -> Result<
 pub fn tickets(alloc: Global, n: u8) -> Result<Vec<TicketSeat>, AllocError>
     requires { (0 < n) × (n ≤ 32) }
     ensures count { IfOk result (λ v. vec_len v ≡ n) }
-    ensures fresh { IfOk result (λ v. (k : ℕ) → k < n → seat_at v.items k ≡
-        fresh (map deque_of v.items) k) }
+    ensures fresh { IfOk result (λ v. AreFresh n v.items) }
 {
     let mut seats = Vec::new(alloc);
     for number in 0..n {

@@ -8,7 +8,6 @@ use Rattle.std.specs.Prelude.{ℕ, ◌≡◌, ◌<◌, Bool, true, Option, Some,
 use Rattle.cover_problem.specs.Lists.{has}
 use Rattle.cover_problem.specs.Problem.{ProblemValue}
 use Rattle.x_steps.specs.StateValue.{StateValue}
-use Rattle.x_branches.specs.declared.branch.Branch.{Branch}
 use Rattle.x_branches.specs.Cut.{CutPath}
 use Rattle.x_branches.specs.Runner.{runner_at, unposted_stretch, RunnerValue, unposted_steps}
 use Rattle.x_branches.specs.Stretch.{StretchValue}
@@ -32,7 +31,7 @@ use Rattle.x_steps.specs.declared.event.Event.{Event}
 use Rattle.x_steps.specs.Steps.{next, event_of}
 use Rattle.x_steps.specs.Before.{prev}
 use Rattle.x_steps.specs.Run.{after}
-use Rattle.x_steps.specs.Walk.{last_event}
+use Rattle.x_steps.specs.Walk.{last_event, OnlyMoves}
 use Rattle.x_branches.specs.declared.fault.RunnerFault.TheVariants.{NotAtMark}
 use Rattle.lab_world.specs.declared.worker.ending.Ending.{Ending}
 use Rattle.lab_world.specs.declared.worker.ending.Ending.TheVariants.{Park, Abandon, Close}
@@ -201,6 +200,18 @@ after_split x cut r = Some x
 abbrev pub after_retract : WorkerValue → Reply → Option WorkerValue
 after_retract x (reply.Retracted from to) = Some (marked_at x from)
 after_retract x r = Some x
+
+-- so many steps of its runner, from where it stands, only move
+abbrev pub MovesOnly : WorkerValue → ℕ → Type 0
+MovesOnly x n = OnlyMoves x.runner.problem n x.runner.position
+
+-- book b answers the split of worker x's tile at an option of a level with an id
+abbrev pub AnswersSplit : BookValue → WorkerValue → ℕ → ℕ → ℕ → Type 0
+AnswersSplit b x level o id = answer_to b x (split_at x level o) ≡ reply.Split id
+
+-- book b answers that worker x's tile lost its last stretch
+abbrev pub IsRetracted : BookValue → WorkerValue → Type 0
+IsRetracted b x = (from to : StateValue) × (answer_to b x call.Retract ≡ reply.Retracted from to)
 
 -- what becomes of worker x that retracts, by the answer of book b
 abbrev pub retracted_worker : BookValue → WorkerValue → Option WorkerValue

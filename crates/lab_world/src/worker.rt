@@ -2,12 +2,11 @@
 ghost use Rattle.std.specs.Prelude.{◌≡◌, ◌≤◌, ◌<◌, ◌⊎◌, IfOk, IfErr, OnOk, OnErr};
 ghost use Rattle.cover_problem.specs.Answers.{Returns};
 ghost use Rattle.x_steps.specs.StateView.{state_value};
-ghost use Rattle.x_steps.specs.Walk.{OnlyMoves};
 ghost use Rattle.x_branches.specs.Runner.{IsRunner};
 ghost use Rattle.x_branches.specs.Refusals.{CanAdvance, AdvanceRefused};
 ghost use Rattle.x_branches.specs.Walk.{CanAdvanceBy, HasToStop};
 ghost use Rattle.lab_book.specs.Book.{BookValue};
-ghost use Rattle.lab_world.specs.Worker.{HoldsTile, moved_forward, moved_forward_by, moved_backward, next_event, event_after};
+ghost use Rattle.lab_world.specs.Worker.{HoldsTile, moved_forward, moved_forward_by, moved_backward, next_event, event_after, MovesOnly};
 
 mod ending;
 mod leasing;
@@ -85,7 +84,7 @@ impl<'p, T: Table> Worker<'p, T> {
         ensures state { IfOk result (λ w. self.new ≡ moved_forward_by self.old w.steps) }
         ensures each_step { IfOk result (λ w. CanAdvanceBy self.old.runner w.steps) }
         ensures event { IfOk result (λ w. w.event ≡ event_after self.old w.steps) }
-        ensures moves { IfOk result (λ w. OnlyMoves self.old.runner.problem w.steps self.old.runner.position) }
+        ensures moves { IfOk result (λ w. MovesOnly self.old w.steps) }
         ensures within { IfOk result (λ w. w.steps ≤ most) }
         ensures some { IfOk result (λ w. 0 < most → 0 < w.steps) }
         ensures stops { IfOk result (λ w. (w.steps ≡ most) ⊎ HasToStop self.new.runner w.event) }

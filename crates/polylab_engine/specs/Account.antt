@@ -7,8 +7,6 @@ use Rattle.x_steps.specs.StateValue.{StateValue}
 use Rattle.x_steps.specs.Run.{visits, level_count}
 use Rattle.x_steps.specs.Walk.{is_visited}
 use Rattle.x_steps.specs.Levels.{without_last_zeros}
-use Rattle.x_steps.specs.Run.{visits_between}
-use Rattle.x_branches.specs.Branch.{end_of}
 use Rattle.lab_book.specs.Book.{BookValue}
 use Rattle.std.specs.Prelude.{◌≤◌, ◌*◌, ◌^◌}
 

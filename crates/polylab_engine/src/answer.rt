@@ -1,19 +1,15 @@
 //! What a job writes for an input.
-ghost use Rattle.std.specs.Prelude.{◌≡◌, IfOk, Ok, List, [], codes};
+ghost use Rattle.std.specs.Prelude.{◌≡◌, IfOk, Ok, List, []};
 ghost use Rattle.text_lines.specs.Answers.{GivesAt};
 ghost use Rattle.text_lines.specs.Writing.{line_text};
 ghost use Rattle.poly_texts.specs.declared.fault.Fault as puzzle;
 ghost use Rattle.cover_problem.specs.Reading.{problem_of};
-ghost use Rattle.cover_problem.specs.Problem.{is_small};
 ghost use Rattle.poly_texts.specs.Puzzle.{PuzzleValue};
 ghost use Rattle.poly_texts.specs.Reading.{puzzle_of};
-ghost use Rattle.poly_place.specs.Packings.{packing_problem};
-ghost use Rattle.polylab_engine.specs.Packed.{solve_output, count_output, options_output};
-ghost use Rattle.polylab_engine.specs.Classified.{classes_output};
 ghost use Rattle.debug_script.specs.Input.{raw_lines};
 ghost use Rattle.x_snapshot.specs.Judged.{snapshot_of};
 ghost use Rattle.polylab_engine.specs.Resumed.{resume_output};
-ghost use Rattle.polylab_engine.specs.Outcome.{refusal_words, place_refusal, resumed_of, outcome, listing_of, output_of, HasOutcome, ForReading, cover_answer, puzzle_answer};
+ghost use Rattle.polylab_engine.specs.Outcome.{refusal_words, resumed_of, outcome, listing_of, output_of, HasOutcome, ForReading, cover_answer, puzzle_answer};
 ghost use Rattle.cover_problem.specs.Answers.{ReturnsItems};
 ghost use Rattle.x_snapshot.specs.Refusals.{TellsFault};
 

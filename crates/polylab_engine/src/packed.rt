@@ -1,9 +1,9 @@
 //! What `solve`, `count` and `options` write.
-ghost use Rattle.std.specs.Prelude.{◌<◌, ◌∷◌, [], ℕ, List, length, decimal};
+ghost use Rattle.std.specs.Prelude.{◌<◌};
 ghost use Rattle.cover_problem.specs.Lists.{has};
 ghost use Rattle.cover_problem.specs.ExactCover.{IsExactCover};
 ghost use Rattle.poly_place.specs.Packings.{packing_problem};
-ghost use Rattle.polylab_engine.specs.Packed.{solve_output, count_output, count_text, options_output, packing_text, packings_from, number_line};
+ghost use Rattle.polylab_engine.specs.Packed.{solve_output, count_output, count_text, options_output, packing_text, packings_from};
 ghost use Rattle.polylab_engine.specs.Listing.{AreExactCovers};
 ghost use Rattle.x_texts.specs.Writes.{Adds};
 ghost use Rattle.cover_problem.specs.Answers.{ReturnsItems};

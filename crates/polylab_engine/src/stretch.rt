@@ -3,7 +3,7 @@ ghost use Rattle.std.specs.Prelude.{◌≡◌, ◌<◌, ◌≤◌, ◌-◌, ◌+
 ghost use Rattle.std.specs.Option.{ForSome};
 ghost use Rattle.x_steps.specs.StateView.{state_value};
 ghost use Rattle.x_steps.specs.Steps.{Fits};
-ghost use Rattle.x_steps.specs.Walk.{IsAtCut, IsWalk, HasRoom};
+ghost use Rattle.x_steps.specs.Walk.{IsAtCut, IsWalkOf, HasRoom};
 ghost use Rattle.x_branches.specs.RunOrder.{ComesBefore};
 ghost use Rattle.polylab_engine.specs.Stretch.{end_at, stop_from, report_from, IsAtEnd, state_at};
 
@@ -47,8 +47,7 @@ fn walk_on<T: Table>(
     requires levels { length counts.old ≡ length machine.old.problem.names + 1 }
     requires room { HasRoom most counts.old }
     ensures problem { machine.new.problem ≡ machine.old.problem }
-    ensures walk { IsWalk machine.old.problem machine.old.state machine.new.state
-        counts.old counts.new result.steps result.event }
+    ensures walk { IsWalkOf machine.old machine.new counts.old counts.new result }
     ensures within { result.steps ≤ most }
     ensures before { (i : ℕ) → i < result.steps → IsAtCut (state_at machine.old i) end.now → ⊥ }
     ensures none { result.steps ≡ 0 → (most ≡ 0) ⊎ IsAtEnd machine.new.state end.now }

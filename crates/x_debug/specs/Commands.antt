@@ -5,6 +5,7 @@
 -- is kept once. proofs/CommandExamples.antt computes these.
 use Rattle.std.specs.Prelude.{ℕ, ◌≡◌, ◌⊎◌, nat_lt, Bool, true, List, [], ◌∷◌, length, Option, Some, None, Result, OnErr}
 use Rattle.std.specs.Global.{Vec}
+use Rattle.std.specs.Borrow.{Bor}
 use Rattle.text_lines.specs.Writing.{text_of}
 use Rattle.cover_problem.specs.Problem.{ProblemValue}
 use Rattle.x_steps.specs.StateValue.{StateValue}
@@ -25,7 +26,7 @@ use Rattle.debug_views.specs.Lines.{counted, set, debug_refusal}
 use Rattle.debug_acts.specs.Desk.{DeskAnswer}
 use Rattle.x_debug.specs.Session.{SessionValue}
 use Rattle.debug_views.specs.Showing.{show_lines, untried_lines}
-use Rattle.debug_views.specs.Tiles.{BookAnswer, branches_lines, posted_lines, hold, put_back}
+use Rattle.debug_views.specs.Tiles.{BookAnswer, branches_lines, posted_lines, hold, put_back, given_cut}
 use Rattle.debug_acts.specs.Walking.{IsPartWay, IsPartBack, step_count, run_count, back_count, step, run, back}
 use Rattle.debug_acts.specs.Work.{AtWork, work, WorkAnswer}
 use Rattle.debug_acts.specs.Entering.{enter}
@@ -33,6 +34,8 @@ use Rattle.debug_acts.specs.Giving.{park, save, close, IsNotGiven}
 use Rattle.debug_acts.specs.Parting.{split, retract}
 use Rattle.debug_views.specs.Left.{IsEither}
 use Rattle.cover_problem.specs.Answers.{Adds}
+use Rattle.x_steps.specs.declared.state.State.{State}
+use Rattle.x_steps.specs.StateView.{state_value}
 
 -- a text that is answered, and the session that is left
 pub record Answer : Type 0 where
@@ -130,6 +133,16 @@ answer_put_back s lo state = on_book s (put_back s.book lo state)
 -- `open`: the tile that begins at cut lo, and isn't closed, is leased to worker 0, where no branch is open
 abbrev pub answer_enter : SessionValue → Option (List ℕ) → Answer
 answer_enter s lo = if_none_open s s.worker (on_desk s (enter s.book lo))
+
+-- the same by the cut, and the state, that a function is given
+abbrev pub hold_given : SessionValue → Option (Bor (List ℕ)) → Answer
+hold_given s lo = answer_hold s (given_cut lo)
+
+abbrev pub put_given : SessionValue → Option (Bor (List ℕ)) → State → Answer
+put_given s lo state = answer_put_back s (given_cut lo) (state_value state)
+
+abbrev pub enter_given : SessionValue → Option (Bor (List ℕ)) → Answer
+enter_given s lo = answer_enter s (given_cut lo)
 
 -- ---- steps on the branch that is open
 

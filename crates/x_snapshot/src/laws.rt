@@ -10,7 +10,7 @@ ghost use Rattle.x_snapshot.specs.Reading.{Says};
 /// same are the same. What they say is a problem, with breakpoints that can be met, each once.
 pub fn text_has_one_spelling()
     ensures written { (text : List ℕ) (v : SnapshotValue) → Says text v → text ≡ snapshot_text v }
-    ensures same { (one other : List ℕ) (v : SnapshotValue) → Says one v → Says other v → one ≡ other }
+    ensures same { (s t : List ℕ) (v : SnapshotValue) → Says s v → Says t v → s ≡ t }
     ensures problem { (text : List ℕ) (v : SnapshotValue) → Says text v → IsProblem v.problem }
     ensures breaks { (text : List ℕ) (v : SnapshotValue) → Says text v → are_breaks v.problem v.breaks ≡ true }
 {}

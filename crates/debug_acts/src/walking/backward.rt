@@ -2,7 +2,7 @@
 ghost use Rattle.std.specs.Prelude.{◌≡◌, ◌<◌, OnOk, OnErr};
 ghost use Rattle.lab_book.specs.Book.{BookValue};
 ghost use Rattle.lab_world.specs.Worker.{HoldsTile};
-ghost use Rattle.debug_acts.specs.Walking.{IsPartBack, back_count, back_lines, gone_back};
+ghost use Rattle.debug_acts.specs.Walking.{back_count, back_lines, gone_back, GoesPartBack};
 ghost use Rattle.x_texts.specs.Writes.{AddsLines};
 
 use crate::walking::write_moved;
@@ -35,7 +35,7 @@ pub fn back<T: Table>(
     requires some { 0 < most }
     ensures made { OnOk result (worker.new ≡ gone_back worker.old most) }
     ensures text { AddsLines result text.old text.new (back_lines worker.old.runner most) }
-    ensures left { OnErr result (IsPartBack worker.old worker.new (back_count worker.old.runner most)) }
+    ensures left { OnErr result (GoesPartBack worker.old worker.new most) }
     ensures holds { (b : BookValue) → HoldsTile b worker.old → HoldsTile b worker.new }
 {
     worker.runner().is_sound();

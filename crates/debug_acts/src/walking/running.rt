@@ -4,7 +4,7 @@ ghost use Rattle.std.specs.List.{list_all};
 ghost use Rattle.cover_problem.specs.Answers.{Returns, AddsLine};
 ghost use Rattle.x_texts.specs.Breaks.{is_break};
 ghost use Rattle.lab_world.specs.Worker.{HoldsTile};
-ghost use Rattle.debug_acts.specs.Walking.{Walks, WalksSome, RunsOn, RunsSome, run_count, run_met, run_visits, run_lines, stop_line, steps_ahead, visits_ahead};
+ghost use Rattle.debug_acts.specs.Walking.{RunsOn, RunsSome, run_count, run_met, run_visits, run_lines, stop_line, steps_ahead, visits_ahead, WalksToEnd, WalksTowardsEnd};
 ghost use Rattle.x_texts.specs.Writes.{AddsLines};
 
 use crate::walking::{step_on, walk_on, write_moved};
@@ -25,9 +25,9 @@ fn walk_to_end<'p, T: Table>(
 ) -> Result<u128, AllocError>
     requires holds { HoldsTile book.old worker.old }
     ensures count { Returns result (steps_ahead worker.old.runner) }
-    ensures made { OnOk result (Walks book.old worker.old book.new worker.new (steps_ahead worker.old.runner)) }
+    ensures made { OnOk result (WalksToEnd book.old worker.old book.new worker.new) }
     ensures text { AddsLines result text.old text.new (visits_ahead worker.old.runner) }
-    ensures left { OnErr result (WalksSome book.old worker.old book.new worker.new (steps_ahead worker.old.runner)) }
+    ensures left { OnErr result (WalksTowardsEnd book.old worker.old book.new worker.new) }
     ensures holds_on { HoldsTile book.new worker.new }
 {
     book.is_sound();
@@ -56,7 +56,7 @@ fn walk_to_break<'p, T: Table>(
     ensures count { IfOk result (λ r. r.0 ≡ run_count breaks.now.keys worker.old.runner) }
     ensures met { IfOk result (λ r. r.1 ≡ run_met breaks.now.keys worker.old.runner) }
     ensures made { OnOk result (RunsOn book.old worker.old book.new worker.new breaks.now.keys) }
-    ensures text { AddsLines result text.old text.new (run_visits breaks.now.keys worker.old.runner) }
+    ensures text { AddsLines result text.old text.new (run_visits breaks.now.keys worker.old) }
     ensures left { OnErr result (RunsSome book.old worker.old book.new worker.new breaks.now.keys) }
     ensures holds_on { HoldsTile book.new worker.new }
 {
@@ -90,7 +90,7 @@ fn walk_to_stop<'p, T: Table>(
     ensures count { IfOk result (λ r. r.0 ≡ run_count breaks.now.keys worker.old.runner) }
     ensures met { IfOk result (λ r. r.1 ≡ run_met breaks.now.keys worker.old.runner) }
     ensures made { OnOk result (RunsOn book.old worker.old book.new worker.new breaks.now.keys) }
-    ensures text { AddsLines result text.old text.new (run_visits breaks.now.keys worker.old.runner) }
+    ensures text { AddsLines result text.old text.new (run_visits breaks.now.keys worker.old) }
     ensures left { OnErr result (RunsSome book.old worker.old book.new worker.new breaks.now.keys) }
     ensures holds_on { HoldsTile book.new worker.new }
 {

@@ -74,7 +74,7 @@ impl<'p> Book<'p> {
     /// are closed, the run has so many from the first mark to the branch's end.
     pub fn levels(&self) -> Result<Vec<u128>, AllocError>
         ensures levels { ReturnsItems result (posted_levels self.now.problem self.now.tiles) }
-        ensures whole { IfOk result (λ levels. IsFinished self.now → levels.items ≡ whole_levels self.now) }
+        ensures whole { IfOk result (λ v. IsFinished self.now → v.items ≡ whole_levels self.now) }
     {
         self.count_calls();
         let alloc = *self.first.state().path.allocator();

@@ -1,11 +1,10 @@
 //! What a worker walked is posted, and taken back.
 ghost use Rattle.std.specs.Prelude.{◌≡◌, ◌<◌, Some, IfOk, IfErr, OnOk, OnErr};
-ghost use Rattle.x_steps.specs.StateValue.{StateValue};
 ghost use Rattle.x_branches.specs.Runner.{unposted_steps};
 ghost use Rattle.lab_book.specs.declared.entry.Call.TheVariants as calls;
 ghost use Rattle.lab_book.specs.declared.entry.Reply.TheVariants as replies;
-ghost use Rattle.lab_world.specs.Worker.{HoldsTile, marked_at, after_call};
-ghost use Rattle.lab_world.specs.Worker.{RetractRefused, WorkerPosts, WorkerPostRefused, retracted_worker, answer_to};
+ghost use Rattle.lab_world.specs.Worker.{HoldsTile, marked_at, after_call, IsRetracted};
+ghost use Rattle.lab_world.specs.Worker.{RetractRefused, WorkerPosts, WorkerPostRefused, retracted_worker};
 
 use crate::fault::WorkerFault;
 use crate::worker::Worker;
@@ -46,8 +45,7 @@ impl<'p, T: Table> Worker<'p, T> {
         requires { HoldsTile book.old self.old }
         ensures book { OnOk result (book.new ≡ after_call book.old self.old calls.Retract) }
         ensures worker { OnOk result (Some self.new ≡ retracted_worker book.old self.old) }
-        ensures reply { OnOk result ((from : StateValue) × (to : StateValue)
-            × (answer_to book.old self.old calls.Retract ≡ replies.Retracted from to)) }
+        ensures reply { OnOk result (IsRetracted book.old self.old) }
         ensures none_unposted { OnOk result (unposted_steps self.old.runner ≡ 0) }
         ensures refused { IfErr result (RetractRefused book.old book.new self.old) }
         ensures unchanged { OnErr result (self.new ≡ self.old) }

@@ -1,8 +1,6 @@
 //! What a session asks of the tiles of its book.
 ghost use Rattle.std.specs.Prelude.{◌≡◌, OnOk};
-ghost use Rattle.x_steps.specs.StateView.{state_value};
-ghost use Rattle.x_debug.specs.Commands.{answer_hold, answer_put_back, answer_enter, Replies, MayLeave};
-ghost use Rattle.debug_views.specs.Tiles.{given_cut};
+ghost use Rattle.x_debug.specs.Commands.{hold_given, put_given, enter_given, Replies, MayLeave};
 
 use crate::session::Session;
 use cover_problem::Table;
@@ -19,9 +17,9 @@ impl<'p, T: Table> Session<'p, T> {
         lo: Option<&[u32]>,
         text: &mut Vec<u8>,
     ) -> Result<(), AllocError>
-        ensures reply { Replies result text.old text.new (answer_hold self.old (given_cut lo.entry)) }
-        ensures session { OnOk result (self.new ≡ (answer_hold self.old (given_cut lo.entry)).session) }
-        ensures left { MayLeave result self.old self.new (answer_hold self.old (given_cut lo.entry)) }
+        ensures reply { Replies result text.old text.new (hold_given self.old lo.entry) }
+        ensures session { OnOk result (self.new ≡ (hold_given self.old lo.entry).session) }
+        ensures left { MayLeave result self.old self.new (hold_given self.old lo.entry) }
     {
         hold(&mut self.book, lo, text)
     }
@@ -33,9 +31,9 @@ impl<'p, T: Table> Session<'p, T> {
         state: &State,
         text: &mut Vec<u8>,
     ) -> Result<(), AllocError>
-        ensures reply { Replies result text.old text.new (answer_put_back self.old (given_cut lo.entry) (state_value state.now)) }
-        ensures session { OnOk result (self.new ≡ (answer_put_back self.old (given_cut lo.entry) (state_value state.now)).session) }
-        ensures left { MayLeave result self.old self.new (answer_put_back self.old (given_cut lo.entry) (state_value state.now)) }
+        ensures reply { Replies result text.old text.new (put_given self.old lo.entry state.now) }
+        ensures session { OnOk result (self.new ≡ (put_given self.old lo.entry state.now).session) }
+        ensures left { MayLeave result self.old self.new (put_given self.old lo.entry state.now) }
     {
         put_back(&mut self.book, lo, state, text)
     }
@@ -47,9 +45,9 @@ impl<'p, T: Table> Session<'p, T> {
         lo: Option<&[u32]>,
         text: &mut Vec<u8>,
     ) -> Result<(), AllocError>
-        ensures reply { Replies result text.old text.new (answer_enter self.old (given_cut lo.entry)) }
-        ensures session { OnOk result (self.new ≡ (answer_enter self.old (given_cut lo.entry)).session) }
-        ensures left { MayLeave result self.old self.new (answer_enter self.old (given_cut lo.entry)) }
+        ensures reply { Replies result text.old text.new (enter_given self.old lo.entry) }
+        ensures session { OnOk result (self.new ≡ (enter_given self.old lo.entry).session) }
+        ensures left { MayLeave result self.old self.new (enter_given self.old lo.entry) }
     {
         if self.worker.is_some() {
             return write_debug_fault(text, DebugFault::AlreadyOpen);

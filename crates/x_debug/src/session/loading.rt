@@ -1,12 +1,9 @@
 //! A session goes on from a snapshot.
-ghost use Rattle.x_branches.specs.Runner.{runner_at};
 ghost use Rattle.std.specs.Prelude.{◌≡◌, ◌↔◌, true, false, Some, IsTrue, IfOk, OnOk, OnErr};
 ghost use Rattle.std.specs.List.{list_all};
 ghost use Rattle.cover_problem.specs.Answers.{Returns};
 ghost use Rattle.cover_problem.specs.Problem.{is_same};
 ghost use Rattle.x_texts.specs.Breaks.{is_break};
-ghost use Rattle.x_snapshot.specs.Snapshot.{branch_between};
-ghost use Rattle.x_snapshot.specs.Judged.{judged_parts};
 ghost use Rattle.lab_book.specs.Book.{new_book};
 ghost use Rattle.lab_world.specs.World.{IsSeat};
 ghost use Rattle.debug_acts.specs.Desk.{desk};
@@ -59,7 +56,7 @@ fn desk_of<'p, T: Table>(
     runner: Runner<'p, T>,
 ) -> Result<(Book<'p>, Worker<'p, T>), AllocError>
     requires same { draft.now.problem ≡ problem.now }
-    requires runner { runner ≡ runner_at problem.now (branch_between problem.now draft.now.lo draft.now.hi) draft.now.state }
+    requires runner { runner ≡ started_on problem.now draft.now }
     ensures made { IfOk result (λ r. desk r.0 (Some r.1) ≡ resumed draft.now) }
     ensures seat { IfOk result (λ r. IsSeat r.0 0 (Some r.1)) }
 {
@@ -98,8 +95,7 @@ impl<'p, T: Table> Session<'p, T> {
         runner: Runner<'p, T>,
     ) -> Result<(), AllocError>
         requires same { draft.now.problem ≡ self.old.book.problem }
-        requires runner { runner ≡ runner_at self.old.book.problem
-            (branch_between self.old.book.problem draft.now.lo draft.now.hi) draft.now.state }
+        requires runner { runner ≡ started_on self.old.book.problem draft.now }
         ensures made { OnOk result (self.new ≡ loaded self.old draft.now) }
         ensures unchanged { OnErr result (self.new ≡ self.old) }
     {

@@ -42,6 +42,10 @@ posted a = work (book_step a.book a.worker.grant.worker (post_call a.worker)) (m
 abbrev pub posted_if_any : AtWork → AtWork
 posted_if_any a = if nat_lt 0 (unposted_steps a.worker.runner) then posted a else a
 
+-- a book and its worker, as they were and as they are: what wasn't posted is, if there was anything
+abbrev pub PostsAny : BookValue → WorkerValue → BookValue → WorkerValue → Type 0
+PostsAny b w c v = work c v ≡ posted_if_any (work b w)
+
 -- a stretch that has as many steps as can be counted is posted before the search goes on
 abbrev pub with_room : AtWork → AtWork
 with_room a = if unposted_steps a.worker.runner == most_steps then posted a else a

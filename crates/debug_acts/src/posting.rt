@@ -1,7 +1,7 @@
 //! What a worker walked is posted.
 ghost use Rattle.std.specs.Prelude.{◌≡◌, ◌<◌, OnOk, OnErr};
 ghost use Rattle.lab_world.specs.Worker.{HoldsTile};
-ghost use Rattle.debug_acts.specs.Walking.{posted, posted_if_any, with_room};
+ghost use Rattle.debug_acts.specs.Walking.{posted, with_room, PostsAny};
 ghost use Rattle.debug_acts.specs.Work.{work};
 
 use cover_problem::Table;
@@ -32,7 +32,7 @@ pub fn post_rest<'p, T: Table>(
     worker: &mut Worker<'p, T>,
 ) -> Result<(), AllocError>
     requires holds { HoldsTile book.old worker.old }
-    ensures made { OnOk result (work book.new worker.new ≡ posted_if_any (work book.old worker.old)) }
+    ensures made { OnOk result (PostsAny book.old worker.old book.new worker.new) }
     ensures book_kept { OnErr result (book.new ≡ book.old) }
     ensures worker_kept { OnErr result (worker.new ≡ worker.old) }
     ensures holds_on { HoldsTile book.new worker.new }

@@ -3,7 +3,7 @@
 --
 -- Example: worker 0 leases, then worker 1, for whom none waits, and then worker 0 parks: the notes of worker 0 are the entries 0 and 2. The
 -- numbers 1 1 1 1 tell the note of entry 1. proofs/DeskExamples.antt computes it.
-use Rattle.std.specs.Prelude.{◌≡◌, ℕ, ◌+◌, ◌==◌, ◌⊎◌, List, [], ◌∷◌, ◌++◌, cond, drop, map, slice_index}
+use Rattle.std.specs.Prelude.{◌≡◌, ℕ, ◌+◌, ◌-◌, ◌==◌, ◌⊎◌, List, [], ◌∷◌, ◌++◌, cond, drop, map, slice_index}
 use Rattle.std.specs.Prelude.{Option, MatchOption, Result, IfOk, IfErr, OnOk}
 use Rattle.cover_problem.specs.Problem.{ProblemValue}
 use Rattle.cover_problem.specs.declared.fault.Refused.{Refused}
@@ -45,6 +45,10 @@ pub record SeatValue : Type 0 where
 pub record SheetValue : Type 0 where
   pub list : List Noted
   pub kept : ℕ
+
+-- one note more, for which room was kept
+abbrev pub with_note : SheetValue → Noted → SheetValue
+with_note n note = record { list = n.list ++ note ∷ []; kept = n.kept - 1 }
 
 -- the entry of a call
 abbrev pub entry : ℕ → Call → Reply → Entry

@@ -1,7 +1,7 @@
 //! Notes, with room kept for notes to come.
-ghost use Rattle.std.specs.Prelude.{◌≡◌, ◌≤◌, ◌<◌, ◌+◌, ◌-◌, ◌++◌, ◌∷◌, [], length, slice_get, option_map};
+ghost use Rattle.std.specs.Prelude.{◌≡◌, ◌≤◌, ◌<◌, ◌+◌, ◌-◌, ◌++◌, [], length, slice_get, option_map};
 ghost use Rattle.std.specs.Prelude.{vec_len, vec_capacity, OnOk, OnErr, IsTrue};
-ghost use Rattle.lab_desk.specs.Record.{noted, note_of, all_notes};
+ghost use Rattle.lab_desk.specs.Record.{noted, note_of, all_notes, with_note};
 
 use crate::seat::Noted;
 use lab_book::{Entries, Entry};
@@ -158,10 +158,7 @@ impl Sheet {
     /// Adds a note where room was kept for it, and packs it by a scratch row.
     pub fn add(&mut self, row: &mut Row, note: Noted)
         requires { 0 < self.old.kept }
-        ensures { self.new ≡ record {
-          list = self.old.list ++ note ∷ [];
-          kept = self.old.kept - 1;
-        } }
+        ensures { self.new ≡ with_note self.old note }
     {
         self.last.push_reserved(note);
         self.kept -= 1;

@@ -1,5 +1,5 @@
 -- What a seat knows: what it pushed and what it took, deque by deque.
-use Rattle.std.specs.Prelude.{ℕ, zero, suc, ◌-◌, ◌+◌, ◌≡◌, ◌<◌, List, [], ◌∷◌, ◌++◌, cond, nat_lt, length, map, slice_set, slice_index_or}
+use Rattle.std.specs.Prelude.{ℕ, zero, suc, ◌-◌, ◌+◌, ◌≡◌, ◌<◌, List, [], ◌∷◌, ◌++◌, cond, nat_lt, length, map, slice_set, slice_index_or, Option, MatchOption}
 use Rattle.lab_tickets.specs.declared.rule.Tally.{Tally}
 use Rattle.lab_tickets.specs.Rule.{tally}
 
@@ -27,6 +27,10 @@ put t x = tally (t.pushed ++ x ∷ []) t.taken
 -- a ticket joins those that the seat took from a deque
 abbrev pub took : Tally → ℕ → Tally
 took t x = tally t.pushed (t.taken ++ x ∷ [])
+
+-- a call takes the ticket that it answers from a deque, or nothing where it answers none
+abbrev pub TakesTicket : Option ℕ → Tally → Tally → Type 0
+TakesTicket result old new = MatchOption result (new ≡ old) (λ x. new ≡ took old x)
 
 -- a ticket joins those that the seat pushed to its own deque
 abbrev pub pushed : TicketView → ℕ → TicketView

@@ -1,9 +1,8 @@
 //! A seat's own deque, and what it has of another seat's.
 ghost use Rattle.std.specs.Prelude.{◌≡◌, [], IfOk, IfErr};
-ghost use Rattle.crossbeam_deque.specs.Handles.{IsPassOf, stealer_deque, stealer_flavor, worker_deque, worker_port, worker_flavor};
+ghost use Rattle.crossbeam_deque.specs.Handles.{view, IsPassOf, stealer_deque, stealer_flavor, worker_view, worker_deque, worker_port, worker_flavor};
 ghost use Rattle.lab_tickets.specs.Rule.{tally};
-ghost use Rattle.lab_tickets.specs.TicketView.{put};
-ghost use Rattle.lab_tickets.specs.Deques.{own_tally, tally_of, TakesTicket};
+ghost use Rattle.lab_tickets.specs.TicketView.{put, TakesTicket};
 
 use crate::rule::{Pushing, Taking, Tally, TicketRule};
 use crossbeam_deque::{Pass, Stealer, Worker};
@@ -23,7 +22,7 @@ pub struct OwnDeque {
 impl OwnDeque {
     /// A deque with nothing in it.
     pub fn new(alloc: Global) -> Result<OwnDeque, AllocError>
-        ensures { IfOk result (λ d. own_tally d ≡ tally [] []) }
+        ensures { IfOk result (λ d. worker_view d.worker ≡ tally [] []) }
     {
         let worker = Worker::<u64, Global, Tally, TicketRule>::fifo_as(alloc, FIRST_ROOM)?;
         Ok(OwnDeque { worker })
@@ -32,8 +31,10 @@ impl OwnDeque {
     /// Adds a ticket, or hands it back where the deque can't grow.
     pub fn push(&mut self, id: u64) -> Result<(), u64>
         ensures same { worker_deque self.new.worker ≡ worker_deque self.old.worker }
-        ensures pushed { IfOk result (λ _. own_tally self.new ≡ put (own_tally self.old) id) }
-        ensures refused { IfErr result (λ x. (x ≡ id) × (own_tally self.new ≡ own_tally self.old)) }
+        ensures pushed { IfOk result (λ _. worker_view self.new.worker ≡
+            put (worker_view self.old.worker) id) }
+        ensures refused { IfErr result (λ x. (x ≡ id) ×
+            (worker_view self.new.worker ≡ worker_view self.old.worker)) }
     {
         self.worker.push_as::<Pushing>(id)
     }
@@ -41,7 +42,7 @@ impl OwnDeque {
     /// Takes the oldest ticket out.
     pub fn pop(&mut self) -> Option<u64>
         ensures same { worker_deque self.new.worker ≡ worker_deque self.old.worker }
-        ensures taken { TakesTicket result (own_tally self.old) (own_tally self.new) }
+        ensures taken { TakesTicket result (worker_view self.old.worker) (worker_view self.new.worker) }
     {
         self.worker.pop_as::<Taking>()
     }
@@ -49,7 +50,7 @@ impl OwnDeque {
     /// What another seat needs to steal from this deque.
     pub fn other(&self) -> Result<OtherDeque, AllocError>
         ensures deque { IfOk result (λ d. stealer_deque d.stealer ≡ worker_deque self.now.worker) }
-        ensures untouched { IfOk result (λ d. tally_of d ≡ tally [] []) }
+        ensures untouched { IfOk result (λ d. view d.pass ≡ tally [] []) }
     {
         let stealer = self.worker.stealer()?;
         let pass = stealer.pass();
@@ -70,7 +71,7 @@ impl OtherDeque {
     /// Takes the oldest ticket out, unless the deque is empty or another seat was faster.
     pub fn steal(&mut self) -> Option<u64>
         ensures same { self.new.stealer ≡ self.old.stealer }
-        ensures taken { TakesTicket result (tally_of self.old) (tally_of self.new) }
+        ensures taken { TakesTicket result (view self.old.pass) (view self.new.pass) }
     {
         self.stealer.steal_as::<Taking>(&mut self.pass).success()
     }

@@ -187,6 +187,10 @@ abbrev pub IsSeat : BookValue → ℕ → Option WorkerValue → Type 0
 IsSeat b w None = Unit {0}
 IsSeat b w (Some x) = (x.grant.worker ≡ w) × HoldsTile b x
 
+-- a worker's act makes this of its seat alone, whatever the book is, and whichever the worker's number, unless memory ran out
+abbrev pub ActsAlone : {E : Type 0} → Result WorldReply E → Act → Option WorkerValue → Option WorkerValue → Type 0
+ActsAlone result act seat seat_new = IfOk result (λ r. (b : BookValue) (w : ℕ) → Turned (turn b seat w act) r b seat_new)
+
 -- each worker of a world that has a lease holds its tile
 abbrev pub EachHolds : WorldValue → Type 0
 EachHolds v = (w : ℕ) → w < length v.workers → IsSeat v.book w (worker_at v.workers w)

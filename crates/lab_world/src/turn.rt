@@ -4,7 +4,7 @@ ghost use Rattle.lab_book.specs.Book.{BookValue};
 ghost use Rattle.lab_book.specs.declared.fault.BookFault.TheVariants as faults;
 ghost use Rattle.lab_world.specs.declared.event.Act.TheVariants as acts;
 ghost use Rattle.lab_world.specs.declared.event.WorldReply.TheVariants as replies;
-ghost use Rattle.lab_world.specs.World.{Turned, IsSeat, turn, lease_act, end_act, Acts, AnyActs, ActsAside};
+ghost use Rattle.lab_world.specs.World.{Turned, IsSeat, turn, lease_act, end_act, Acts, AnyActs, ActsAside, ActsAlone};
 
 use crate::event::{Act, WorldReply};
 use crate::fault::WorkerFault;
@@ -48,7 +48,7 @@ fn next_index(book: &Book<'_>) -> u64
 
 /// A step.
 fn step<T: Table>(seat: &mut Option<Worker<'_, T>>) -> Result<WorldReply, AllocError>
-    ensures turned { IfOk result (λ r. (b : BookValue) (w : ℕ) → Turned (turn b seat.old w Act.Step) r b seat.new) }
+    ensures turned { ActsAlone result Act.Step seat.old seat.new }
     ensures unchanged { OnErr result (seat.new ≡ seat.old) }
 {
     let Some(worker) = seat else {

@@ -1,4 +1,8 @@
--- A desk: a book, and the worker that has one of its tiles open or none.
+-- A desk (`Desk`, and `desk` makes one): a book, and the worker that has one of its tiles open or none; and a text that is answered, with the
+-- desk that is left (`DeskAnswer`).
+--
+-- Example: when the branch of the small problem's new book is opened, the desk that is left has the book with that lease, and worker 0 at
+-- the start. proofs/ActExamples.antt computes it.
 use Rattle.std.specs.Prelude.{ℕ, List, Option}
 use Rattle.lab_book.specs.Book.{BookValue}
 use Rattle.lab_world.specs.Worker.{WorkerValue}

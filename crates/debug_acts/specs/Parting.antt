@@ -1,5 +1,10 @@
--- A branch is parted at an option that is untried (`split`), and its last posted stretch is walked again (`retract`).
-use Rattle.std.specs.Prelude.{ℕ, ◌==◌, true, List, [], ◌∷◌, Some, if◌then◌else◌}
+-- A branch is parted at an option that is untried (`parted`, with its `parted_line`), or it is told why it isn't (`split`); and its last posted
+-- stretch is walked again, or the book refuses it (`retracted_by`), or the worker isn't at its mark (`retract`).
+--
+-- Example: below option 2 of the small problem the cut at option 4 of level 0 has the line `branch 4 to end waiting`. At the start nothing is
+-- chosen, and `split` is refused as NothingUntried; nothing is posted there, and `retract` is refused as NothingToRetract.
+-- proofs/ActExamples.antt computes it.
+use Rattle.std.specs.Prelude.{ℕ, ◌==◌, true, List, [], ◌∷◌, Some, length, if◌then◌else◌}
 use Rattle.cover_problem.specs.Lists.{has}
 use Rattle.x_branches.specs.declared.fault.RunnerFault.TheVariants.{NotAtMark}
 use Rattle.x_branches.specs.declared.branch.Branch.{Branch}

@@ -1,4 +1,7 @@
--- A book and a worker that holds one of its tiles, and what a command to that worker is answered.
+-- A book and a worker that holds one of its tiles (`AtWork`, and `work` makes one), and what a command to that worker is answered: lines, and
+-- what is left (`WorkAnswer`, and `answered` makes one).
+--
+-- Example: where a step back is refused, at the mark, the book and the worker are left as they were. proofs/ActExamples.antt computes it.
 use Rattle.std.specs.Prelude.{ℕ, ◌≡◌, List, Result, OnOk, OnErr}
 use Rattle.lab_book.specs.Book.{BookValue}
 use Rattle.lab_world.specs.Worker.{WorkerValue}

@@ -10,3 +10,4 @@ mod EndingLemmas
 pub mod PackedLemmas
 mod OutputExamples
 mod PackedExamples
+mod JobExamples

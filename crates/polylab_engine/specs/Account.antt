@@ -1,4 +1,9 @@
--- The account of a search: its visits, where they are kept, and how many visits, steps and X2 states at each level it had.
+-- The account of a search (`Account`): its visits, where they are kept, and how many visits, steps and X2 states at each level it had; and
+-- what is reported of it (`ReportValue`, `report_of`). The account of states of a run (`account_of`), of none (`empty_account`), and one with
+-- more steps (`with_walk`); and counts that are added (`AreSums`).
+--
+-- Example: two states of the small problem's run, X6 at option 1 after the choices 4 5 and X2 after 4 5 1: the account keeps the visit 4 5 1, and
+-- has 2 steps and one X2 state, at level 3. proofs/JobExamples.antt computes it.
 use Rattle.std.specs.Prelude.{ℕ, suc, ◌+◌, ◌<◌, ◌≡◌, Bool, ◌&&◌, List, [], ◌∷◌, ◌++◌, length, map, slice_index, replicate, if◌then◌else◌}
 use Rattle.cover_problem.specs.Lists.{numbers}
 use Rattle.cover_problem.specs.Problem.{ProblemValue}

@@ -1,4 +1,6 @@
--- What `debug` writes: the replies to the commands that follow a problem's text.
+-- What `debug` writes: the replies to the commands that follow a problem's text (`debug_output`), or why there are none (`job_fault`).
+--
+-- Example: over the small problem the command `branches` has the reply `branch start to end leased`. proofs/JobExamples.antt computes it.
 use Rattle.std.specs.Prelude.{ℕ, List}
 use Rattle.cover_problem.specs.Problem.{ProblemValue}
 use Rattle.x_debug.specs.Session.{fresh_session}

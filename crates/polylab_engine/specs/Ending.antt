@@ -1,4 +1,8 @@
--- How a run ends: what is true then, the line that tells it, and its exit status.
+-- How a run ends: what the job makes of the input (`IsOutcomeOf`), or that it is unread (`IsUnread`); what is true then (`IsEnd`), the line that
+-- tells it (`IsTold`), and its exit status (`status_of`); and all of this of a program's run (`IsProgramRun`).
+--
+-- Example: a run that ends out of memory tells the line `refused memory`, and its status is 4. That of an input that isn't read is 5.
+-- proofs/JobExamples.antt computes it.
 use Rattle.std.specs.Prelude.{ℕ, ◌≡◌, ◌<◌, ◌≤◌, ◌⊎◌, List, [], ◌∷◌, Result, Ok, Err, IfSome, Contains, length, take}
 use Rattle.std.specs.Io.KnownBytes.{Appends}
 use Rattle.byte_streams.specs.Stream.{Stream, IsSound, HasFailed, Stays, TakesAll, TakesPart, Takes}

@@ -1,4 +1,9 @@
--- What the output lists: of `cover` the exact covers of the problem, of `solve` the packings of the puzzle, each once, in path order.
+-- What the output lists: of `cover` the exact covers of the problem (`ListsCovers`), of `solve` the packings of the puzzle (`ListsPackings`), each
+-- once, in path order; what `count` and its classes tell (`CountsPackings`, `CountsClasses`), and what `resume` does (`TellsStretch`); and the
+-- same by the job (`IsListed`).
+--
+-- Example: the path 4 5 1 is an exact cover of the small problem: its options a d f, b g and c e have each item once.
+-- proofs/JobExamples.antt shows it.
 use Rattle.std.specs.Prelude.{ℕ, ◌≡◌, ◌⊎◌, Bool, Option, Some, List, [], ◌++◌, length, map, slice_index_or, EachIndex, Ok}
 use Rattle.text_lines.specs.Writing.{line_text, text_of}
 use Rattle.cover_problem.specs.Lists.{has}

@@ -1,4 +1,7 @@
--- A stretch of a run: where it stops, and what is reported of it.
+-- A stretch of a run: where it stops (`end_at`, `steps_taken`), and what is reported of it (`stretch_report`).
+--
+-- Example: the cut 4 5 ends a branch at X5, at option 5 after the choice 4. Where 43 steps lead to the end and 30 are asked for it takes 30,
+-- and where 50 are asked for it takes 43. proofs/JobExamples.antt computes it.
 use Rattle.std.specs.Prelude.{ℕ, nat_lt, Bool, Option, Some, List, [], ◌∷◌, if◌then◌else◌}
 use Rattle.std.specs.Prelude as prelude
 use Rattle.cover_problem.specs.Problem.{ProblemValue}

@@ -1,4 +1,6 @@
--- How many workers a job is done by.
+-- How many workers a job is done by (`workers_of`).
+--
+-- Example: `cover` by 4 workers has 4, and `options` has one. proofs/JobExamples.antt computes it.
 use Rattle.std.specs.Prelude.{ℕ}
 use Rattle.polylab_engine.specs.declared.job.Job.{Job}
 use Rattle.polylab_engine.specs.declared.job.Job.TheVariants.{Cover, Solve, Count, Classes}

@@ -1,0 +1,1 @@
+use Rattle.debug_acts.proofs.ActExamples.{none_posted}

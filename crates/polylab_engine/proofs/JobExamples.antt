@@ -1,0 +1,97 @@
+-- The examples of specs/Account.antt, Stretch.antt, Debugged.antt, Ending.antt, Listing.antt and Workers.antt, on the small problem.
+use Rattle.std.proofs.Common.{◌≡◌, zero, suc, true, Some, None, List, [], ◌∷◌, ◌++◌, codes, refl, lit<, lit≤, arith}
+use Rattle.cover_problem.specs.Problem.{IsProblem}
+use Rattle.cover_problem.specs.Covering.{active, remaining, choice}
+use Rattle.cover_problem.specs.Path.{taken, covered_by}
+use Rattle.cover_problem.proofs.CoverExamples.{small}
+use Rattle.cover_problem.proofs.CoverTestLemmas.{passes_is}
+use Rattle.x_steps.specs.declared.state.Label.TheVariants.{X2, X5, X6}
+use Rattle.x_steps.specs.declared.state.Cursor.TheVariants as cursor
+use Rattle.x_steps.specs.StateValue.{StateValue, at}
+use Rattle.x_steps.specs.Levels.{without_last_zeros}
+use Rattle.x_branches.specs.Cut.{cut_state}
+use Rattle.byte_streams.specs.Stream.{Stream, Takes}
+use Rattle.lab_book.specs.Book.{outcome}
+use Rattle.lab_pool.specs.declared.fault.PoolFault.TheVariants.{Held}
+use Rattle.debug_language.specs.Reading.{command_from, engine_from}
+use Rattle.x_debug.specs.Commands.{answer}
+use Rattle.debug_script.specs.declared.fault.RepliesFault.TheVariants as replies
+use Rattle.debug_script.specs.Replies.{exchange, debug_replies}
+use Rattle.polylab_engine.specs.declared.fault.JobFault.TheVariants as faults
+use Rattle.polylab_engine.specs.declared.engine.Ending.TheVariants as endings
+use Rattle.polylab_engine.specs.declared.job.Job.TheVariants as jobs
+use Rattle.polylab_engine.specs.Account.{account_of, report_of}
+use Rattle.polylab_engine.specs.Stretch.{end_at, steps_taken}
+use Rattle.polylab_engine.specs.Debugged.{debug_output, job_fault}
+use Rattle.polylab_engine.specs.Ending.{IsTold, status_of}
+use Rattle.polylab_engine.specs.Listing.{AreExactCovers}
+use Rattle.polylab_engine.specs.Workers.{workers_of}
+
+-- ---- specs/Account.antt
+
+-- option 1 is about to be chosen after 4 and 5, and then it is
+abbrev last_choice : List StateValue
+last_choice = at X6 (4 ∷ 5 ∷ []) (cursor.At 1) ∷ at X2 (4 ∷ 5 ∷ 1 ∷ []) cursor.None ∷ []
+
+its_account
+    : account_of true small last_choice
+    ≡ record { visits = (4 ∷ 5 ∷ 1 ∷ []) ∷ []; visited = 1; steps = 2; entered = 0 ∷ 0 ∷ 0 ∷ 1 ∷ 0 ∷ 0 ∷ 0 ∷ 0 ∷ [] }
+unfolding account_of covered_by taken choice active remaining
+its_account = refl
+
+-- the levels after the last that has a state aren't reported
+its_levels : (report_of (record { visits = []; visited = 1; steps = 2; entered = 0 ∷ 0 ∷ 0 ∷ 1 ∷ 0 ∷ 0 ∷ [] })).levels ≡ 0 ∷ 0 ∷ 0 ∷ 1 ∷ []
+unfolding without_last_zeros
+its_levels = refl
+
+-- ---- specs/Stretch.antt
+
+its_end : end_at (4 ∷ 5 ∷ []) ≡ at X5 (4 ∷ []) (cursor.At 5)
+unfolding cut_state
+its_end = refl
+
+fewer_asked : steps_taken (Some 30) 43 ≡ 30
+fewer_asked = refl
+
+more_asked : steps_taken (Some 50) 43 ≡ 43
+more_asked = refl
+
+none_asked : steps_taken None 43 ≡ 43
+none_asked = refl
+
+-- ---- specs/Debugged.antt
+
+replied : debug_output ((codes "branches" ++ 10 ∷ []) ∷ []) small ≡ codes "branch start to end leased" ++ 10 ∷ []
+unfolding debug_output debug_replies exchange engine_from command_from answer outcome
+replied = refl
+
+pool_failed : job_fault (replies.Pool Held) ≡ faults.Pool Held
+pool_failed = refl
+
+-- ---- specs/Ending.antt
+
+memory_told : (old new : Stream) → Takes old new (codes "refused memory" ++ 10 ∷ []) → IsTold endings.OutOfMemory old new
+memory_told old new taken = taken
+
+memory_status : status_of endings.OutOfMemory ≡ 4
+memory_status = refl
+
+unread_status : status_of endings.Unread ≡ 5
+unread_status = refl
+
+-- ---- specs/Listing.antt
+
+its_problem : IsProblem small
+its_problem = record { some = lit< tt; within = lit≤ tt; named = refl; new = refl; options_are = refl; small = refl }
+
+its_cover : AreExactCovers small ((4 ∷ 5 ∷ 1 ∷ []) ∷ [])
+its_cover zero h = (passes_is small its_problem (4 ∷ 5 ∷ 1 ∷ []) refl).1
+its_cover (suc k) h = absurd (omega (arith, h))
+
+-- ---- specs/Workers.antt
+
+four_workers : workers_of (jobs.Cover 4) ≡ 4
+four_workers = refl
+
+one_worker : workers_of jobs.Options ≡ 1
+one_worker = refl

@@ -1,6 +1,5 @@
 -- The examples of specs/Desk.antt, Work.antt, Entering.antt, Giving.antt, Walking.antt and Parting.antt, computed on the small problem:
 -- worker 0 has the tile of the whole run, at its start.
-use Rattle.x_branches.specs.Runner.{runner_at}
 use Rattle.std.proofs.Common.{◌≡◌, Some, None, [], ◌∷◌, ◌++◌, codes, refl}
 use Rattle.std.specs.Fmt.{digits}
 use Rattle.text_lines.specs.Writing.{line_text, text_of}
@@ -11,10 +10,10 @@ use Rattle.x_steps.specs.StateValue.{at, start}
 use Rattle.x_steps.specs.Run.{steps_between}
 use Rattle.x_steps.proofs.RunLemmas.{start_fits}
 use Rattle.x_steps.proofs.BetweenLemmas.{steps_between_self}
+use Rattle.x_branches.specs.Runner.{RunnerValue, runner_at}
+use Rattle.x_branches.specs.Refusals.{cut_at}
 use Rattle.lab_book.specs.declared.entry.Call.TheVariants as call
 use Rattle.lab_book.specs.Book.{BookValue, new_book, outcome, book_step}
-use Rattle.x_branches.specs.Runner.{RunnerValue}
-use Rattle.lab_world.specs.Worker.{runner_at, cut_at}
 use Rattle.debug_acts.specs.Desk.{desk}
 use Rattle.debug_acts.specs.Work.{AtWork, work}
 use Rattle.debug_acts.specs.Walking.{back}
@@ -87,7 +86,7 @@ none_chosen : text_of (split at_start 0 4).lines ≡ codes "refused runner 3 Not
 unfolding digits
 none_chosen = refl
 
-pub none_posted : text_of (retract at_start).lines ≡ codes "refused book 9 NothingToRetract" ++ 10 ∷ []
+none_posted : text_of (retract at_start).lines ≡ codes "refused book 9 NothingToRetract" ++ 10 ∷ []
 unfolding retract outcome digits
 none_posted = rw nothing_unposted refl
 

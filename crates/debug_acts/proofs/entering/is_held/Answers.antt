@@ -1,1 +1,0 @@
-use Rattle.debug_acts.proofs.ActExamples.{none_posted}

@@ -1,10 +1,10 @@
 -- The examples of specs/Worker.antt and specs/World.antt, computed on the small problem.
-use Rattle.x_branches.specs.Runner.{runner_at}
 use Rattle.std.proofs.Common.{◌≡◌, false, Some, None, List, [], ◌∷◌, refl}
 use Rattle.cover_problem.proofs.CoverExamples.{small}
 use Rattle.x_steps.specs.declared.state.Label.TheVariants.{X2}
 use Rattle.x_steps.specs.declared.state.Cursor.TheVariants as cursor
 use Rattle.x_steps.specs.StateValue.{StateValue, at, start}
+use Rattle.x_branches.specs.Runner.{runner_at}
 use Rattle.lab_book.specs.declared.entry.Call.TheVariants as call
 use Rattle.lab_book.specs.declared.entry.Reply.TheVariants as reply
 use Rattle.lab_book.specs.Book.{BookValue, new_book, outcome}

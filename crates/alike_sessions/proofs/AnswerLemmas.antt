@@ -15,7 +15,7 @@ use Rattle.lab_book.specs.declared.entry.Call.TheVariants as call
 use Rattle.lab_book.specs.Tile.{TileValue, is_held}
 use Rattle.lab_book.specs.Tiling.{tile_at}
 use Rattle.lab_book.specs.Book.{outcome, book_step}
-use Rattle.lab_world.specs.Worker.{WorkerValue, lent_worker, moved_to}
+use Rattle.lab_world.specs.Worker.{WorkerValue, lent_worker}
 use Rattle.debug_language.specs.Command.{CommandValue}
 use Rattle.debug_language.specs.Command as command
 use Rattle.debug_language.specs.Reading.{command_of}

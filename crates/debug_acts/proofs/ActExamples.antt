@@ -89,6 +89,3 @@ none_chosen = refl
 none_posted : text_of (retract at_start).lines ≡ codes "refused book 9 NothingToRetract" ++ 10 ∷ []
 unfolding retract outcome digits
 none_posted = rw nothing_unposted refl
-
-wrong : 1 ≡ 2
-wrong = refl

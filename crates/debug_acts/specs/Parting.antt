@@ -4,7 +4,7 @@
 -- Example: below option 2 of the small problem the cut at option 4 of level 0 has the line `branch 4 to end waiting`. At the start nothing is
 -- chosen, and `split` is refused as NothingUntried; nothing is posted there, and `retract` is refused as NothingToRetract.
 -- proofs/ActExamples.antt computes it.
-use Rattle.std.specs.Prelude.{ℕ, ◌==◌, true, List, [], ◌∷◌, Some, length, if◌then◌else◌}
+use Rattle.std.specs.Prelude.{ℕ, ◌==◌, true, List, [], ◌∷◌, Some, if◌then◌else◌}
 use Rattle.cover_problem.specs.Lists.{has}
 use Rattle.x_branches.specs.declared.fault.RunnerFault.TheVariants.{NotAtMark}
 use Rattle.x_branches.specs.declared.branch.Branch.{Branch}

@@ -4,6 +4,7 @@ use Rattle.text_lines.specs.Writing.{text_of}
 use Rattle.x_branches.specs.Runner.{IsRunner}
 use Rattle.debug_language.specs.declared.fault.DebugFault.TheVariants.{AtEnd}
 use Rattle.debug_language.specs.declared.words.Plain.TheVariants.{End}
+use Rattle.x_snapshot.proofs.PositionLemmas.{on_ok as when_ok}
 use Rattle.debug_views.specs.Lines.{plain, debug_refusal}
 use Rattle.debug_acts.specs.Work.{work}
 use Rattle.debug_views.proofs.CallLemmas.{on_ok, on_err, answered}

@@ -3,6 +3,7 @@ use Rattle.std.proofs.lemmas.Bool.{false≢true}
 use Rattle.text_lines.specs.Writing.{text_of}
 use Rattle.x_branches.specs.Runner.{IsRunner}
 use Rattle.debug_language.specs.declared.fault.DebugFault.TheVariants.{AtEnd}
+use Rattle.x_snapshot.proofs.PositionLemmas.{on_ok as when_ok}
 use Rattle.debug_views.specs.Lines.{debug_refusal}
 use Rattle.debug_acts.specs.Walking.{stop_line}
 use Rattle.debug_acts.specs.Work.{work}

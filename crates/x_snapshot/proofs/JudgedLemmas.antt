@@ -59,7 +59,7 @@ valid_from_decides : (p : ProblemValue) (c path : List ℕ) → (is_valid_from p
 valid_from_decides p c [] = (λ e. tt, λ h. refl)
 valid_from_decides p c (o ∷ path) = both (choice_decides p c o) (valid_from_decides p (taken p c o) path)
 
-valid_decides : (p : ProblemValue) (path : List ℕ) → (is_valid p path ≡ true) ↔ IsValid p path
+pub valid_decides : (p : ProblemValue) (path : List ℕ) → (is_valid p path ≡ true) ↔ IsValid p path
 unfolding IsValid
 valid_decides p path = valid_from_decides p [] path
 
@@ -73,7 +73,7 @@ never n = (λ e. absurd (true≢false (sym e)), λ h. absurd (n h))
 open_decides : (p : ProblemValue) (path : List ℕ) → (is_open p path ≡ true) ↔ IsOpen p path
 open_decides p path = some _
 
-fit_decides : (p : ProblemValue) (s : StateValue) → (is_fit p s ≡ true) ↔ Fits p s
+pub fit_decides : (p : ProblemValue) (s : StateValue) → (is_fit p s ≡ true) ↔ Fits p s
 fit_decides p s = by s.label s.cursor
   where
     path : List ℕ

@@ -78,12 +78,20 @@ pub record IsInside (p : ProblemValue) (lo hi : Option (List ℕ)) (s : StateVal
   pub branch : IsBranch p (branch_between p lo hi)
   pub within : IsWithin p (branch_between p lo hi) s
 
+-- the cuts and the state of a snapshot are on its problem's run
+abbrev pub StandsOnRun : SnapshotValue → Type 0
+StandsOnRun v = IsOnRun v.problem v.lo v.hi v.state
+
+-- its cuts are in their order, and its state is between them
+abbrev pub StandsInside : SnapshotValue → Type 0
+StandsInside v = IsInside v.problem v.lo v.hi v.state
+
 -- what is true of every snapshot
 pub record IsSnapshot (v : SnapshotValue) : Type 0 where
   pub problem : IsProblem v.problem
   pub breaks : are_breaks v.problem v.breaks ≡ true
-  pub on_run : IsOnRun v.problem v.lo v.hi v.state
-  pub inside : IsInside v.problem v.lo v.hi v.state
+  pub on_run : StandsOnRun v
+  pub inside : StandsInside v
 
 -- what is true of each snapshot
 abbrev pub EachSnapshot : (SnapshotValue → Type 0) → Type 0

@@ -1,8 +1,12 @@
 //! Laws of snapshots' texts, over the definitions alone: each is a function that does nothing, whose contract is the law.
-ghost use Rattle.std.specs.Prelude.{ℕ, ◌≡◌, true, List};
-ghost use Rattle.cover_problem.specs.Problem.{IsProblem};
+ghost use Rattle.std.specs.Prelude.{ℕ, ◌≡◌, ◌↔◌, true, List};
+ghost use Rattle.cover_problem.specs.Problem.{ProblemValue, IsProblem};
+ghost use Rattle.cover_problem.specs.Path.{IsValid};
+ghost use Rattle.x_steps.specs.StateValue.{StateValue};
+ghost use Rattle.x_steps.specs.Steps.{Fits};
 ghost use Rattle.x_texts.specs.Breaks.{are_breaks};
-ghost use Rattle.x_snapshot.specs.Snapshot.{SnapshotValue, EachSnapshot};
+ghost use Rattle.x_snapshot.specs.Snapshot.{SnapshotValue, EachSnapshot, StandsOnRun, StandsInside};
+ghost use Rattle.x_snapshot.specs.Judged.{is_valid, is_fit, is_on_run, is_inside};
 ghost use Rattle.x_snapshot.specs.Writing.{snapshot_text};
 ghost use Rattle.x_snapshot.specs.Reading.{Says};
 
@@ -18,4 +22,13 @@ pub fn text_has_one_spelling()
 /// What is written of a snapshot says that snapshot.
 pub fn written_is_read()
     ensures { EachSnapshot (λ v. Says (snapshot_text v) v) }
+{}
+
+/// The tests by which a text is judged are true of exactly what the facts say of a path, of a state, and of a snapshot's cuts and state:
+/// that they are on the problem's run and, where they are, that they are in their order.
+pub fn tests_tell_the_facts()
+    ensures path { (p : ProblemValue) (path : List ℕ) → (is_valid p path ≡ true) ↔ IsValid p path }
+    ensures state { (p : ProblemValue) (s : StateValue) → (is_fit p s ≡ true) ↔ Fits p s }
+    ensures on_run { (v : SnapshotValue) → (is_on_run v ≡ true) ↔ StandsOnRun v }
+    ensures inside { (v : SnapshotValue) → StandsOnRun v → ((is_inside v ≡ true) ↔ StandsInside v) }
 {}

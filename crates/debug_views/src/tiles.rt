@@ -5,7 +5,7 @@ ghost use Rattle.lab_book.specs.Tiling.{tile_at};
 ghost use Rattle.lab_book.specs.Calls.{Made, Refuses};
 ghost use Rattle.debug_views.specs.Lines.{book_refusal};
 ghost use Rattle.debug_views.specs.Tiles.{given_cut, is_begun_at, place_at, standing_of, tile_line, open_lines, branches_lines, posted_lines, call_for, asked_of, hold, put_back_at, AnswersSo, MayLeaveBook};
-ghost use Rattle.cover_problem.specs.AnswersSo.{AddsLine};
+ghost use Rattle.cover_problem.specs.Answers.{AddsLine};
 ghost use Rattle.x_texts.specs.Writes.{AddsLines};
 
 use crate::showing::choices;

@@ -14,6 +14,7 @@ use Rattle.x_steps.specs.Walk.{is_visited}
 use Rattle.x_steps.specs.Levels.{without_last_zeros}
 use Rattle.lab_book.specs.Book.{BookValue}
 use Rattle.std.specs.Prelude.{◌≤◌, ◌*◌, ◌^◌}
+use Rattle.lab_book.specs.Posted.{whole_visits}
 
 -- the visits that are kept, the number of visits and of steps, and the number of X2 states at each level from 0 on
 pub record Account : Type 0 where

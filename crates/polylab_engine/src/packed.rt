@@ -5,8 +5,7 @@ ghost use Rattle.cover_problem.specs.ExactCover.{IsExactCover};
 ghost use Rattle.poly_place.specs.Packings.{packing_problem};
 ghost use Rattle.polylab_engine.specs.Packed.{solve_output, count_output, count_text, options_output, packing_text, packings_from};
 ghost use Rattle.polylab_engine.specs.Listing.{AreExactCovers};
-ghost use Rattle.x_texts.specs.Writes.{Adds};
-ghost use Rattle.cover_problem.specs.Answers.{ReturnsItems};
+ghost use Rattle.cover_problem.specs.Answers.{ReturnsItems, Adds};
 
 use crate::fault::JobFault;
 use crate::report::Report;

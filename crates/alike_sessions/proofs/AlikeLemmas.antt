@@ -37,7 +37,7 @@ use Rattle.alike_books.specs.AlikeBooks.{AreAlikeBooks}
 use Rattle.alike_books.specs.AlikeCalls.{Correspond, NameSameTile, addressed, anonymous_reply, AreAlikeOutcomes}
 use Rattle.alike_books.proofs.PlaceLemmas.{cut_corresponds}
 use Rattle.alike_books.proofs.CallLemmas.{call_alike}
-use Rattle.alike_sessions.specs.AlikeSessions.{runner_of}
+use Rattle.x_debug.specs.Questions.{runner_of}
 use Rattle.alike_sessions.proofs.WorkLemmas.{IsSoundWork, forward_sound, rest_sound, asked_reply}
 
 -- alike calls leave alike books

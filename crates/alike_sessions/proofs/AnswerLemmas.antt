@@ -19,21 +19,20 @@ use Rattle.lab_world.specs.Worker.{WorkerValue, lent_worker}
 use Rattle.debug_language.specs.Command.{CommandValue}
 use Rattle.debug_language.specs.Command as command
 use Rattle.debug_language.specs.Reading.{command_of}
-use Rattle.x_texts.specs.Words.{levels_words}
 use Rattle.debug_language.specs.declared.words.Counted.TheVariants as counts
-use Rattle.debug_language.specs.declared.words.Plain.TheVariants.{NothingUntried, NoBranches}
 use Rattle.debug_language.specs.declared.fault.DebugFault.TheVariants.{BadCommand, NoBranch, AlreadyOpen}
 use Rattle.debug_views.specs.Breakpoints.{with_break}
-use Rattle.debug_views.specs.Lines.{plain, counted, set, state_line, debug_refusal, book_refusal, snapshot_refusal}
-use Rattle.debug_views.specs.Showing.{show_lines, all_untried, or_none}
-use Rattle.debug_views.specs.Tiles.{tile_line, visits_lines, place_at, refusal_or, answer_of_tile, hold, put_back}
+use Rattle.debug_views.specs.Lines.{counted, set, state_line, debug_refusal, book_refusal, snapshot_refusal}
+use Rattle.debug_views.specs.Tiles.{tile_line, place_at, refusal_or, answer_of_tile, hold, put_back}
 use Rattle.debug_acts.specs.Desk.{DeskAnswer}
 use Rattle.debug_acts.specs.Walking.{forward, steps_ahead, step_count, step_lines, run_count, run_lines, back_count, back_lines, run, gone_back, state_back}
 use Rattle.debug_acts.specs.Work.{AtWork, work, WorkAnswer, answered}
 use Rattle.debug_acts.specs.Entering.{enter_call, stand_lines, entered_at, enter}
 use Rattle.debug_acts.proofs.WalkedLemmas.{least_within}
+use Rattle.debug_language.specs.declared.question.Question.{Question}
 use Rattle.x_debug.specs.Session.{SessionValue}
-use Rattle.x_debug.specs.Commands.{Answer, says, with_breaks, if_open, if_none_open, on_work, on_desk, on_book, answer, answer_if, answer_line, answer_show, answer_untried, answer_branches, answer_visits, answer_steps, answer_levels, answer_set, answer_clear, answer_step, answer_run, answer_back, answer_park, answer_save, answer_close, answer_split, answer_retract, answer_hold, answer_put_back, answer_enter}
+use Rattle.x_debug.specs.Questions.{View, runner_of, view_of, question_lines}
+use Rattle.x_debug.specs.Commands.{Answer, says, with_breaks, if_open, if_none_open, on_work, on_desk, on_book, answer, answer_if, answer_line, answer_question, answer_set, answer_clear, answer_step, answer_run, answer_back, answer_park, answer_save, answer_close, answer_split, answer_retract, answer_hold, answer_put_back, answer_enter}
 use Rattle.x_debug.specs.Loading.{answers, load_by, load_answer, loaded, breaks_of}
 use Rattle.alike_books.specs.AlikeBooks.{open_tiles}
 use Rattle.alike_books.specs.AlikeCalls.{Correspond, addressed, AreAlikeOutcomes}
@@ -41,7 +40,7 @@ use Rattle.alike_books.proofs.StatusLemmas.{held_seen}
 use Rattle.alike_books.proofs.ToldLemmas.{visits_alike, steps_alike, levels_alike}
 use Rattle.alike_books.proofs.PlaceLemmas.{Meet}
 use Rattle.alike_books.proofs.CallLemmas.{call_alike}
-use Rattle.alike_sessions.specs.AlikeSessions.{runner_of, AreAlikeSessions, AreSoundAlike, AreAlikeAnswers}
+use Rattle.alike_sessions.specs.AlikeSessions.{AreAlikeSessions, AreSoundAlike, AreAlikeAnswers}
 use Rattle.alike_sessions.proofs.WorkLemmas.{IsSoundWork}
 use Rattle.alike_sessions.proofs.SoundLemmas.{run_within, work_of, answer_sound, line_sound, load_sound}
 use Rattle.alike_sessions.proofs.AlikeLemmas.{AreAlikeWorks, AreAlikeWorkAnswers, AreAlikeDeskAnswers, step_alike, forward_alike, retract_alike, split_alike, save_alike, park_alike, close_alike}
@@ -87,29 +86,20 @@ module _ (a b : SessionValue) (p : AreSoundAlike a b) where
       (says_agree (debug_refusal NoBranch ∷ []) (debug_refusal NoBranch ∷ []) refl)
       (λ v w d e q. some v w (work_of a p.sound v d) (work_of b p.also_sound w e) (record { book = k.book; runner = q }))
 
-  -- ---- what is shown
+  -- ---- questions
 
-  show_agrees : Agree (answer_show a) (answer_show b)
-  show_agrees = open_agree _ _ (λ v w s t q. says_agree _ _ (ap show_lines q.runner))
+  -- they have the same to show
+  same_view : view_of a ≡ view_of b
+  same_view =
+      let runner = k.runner in
+      let branches = sym (lines_seen (open_tiles a.book.tiles)) ∙ ap (map tile_line) k.book.tiles ∙ lines_seen (open_tiles b.book.tiles) in
+      let visits = visits_alike a.book b.book p.sound.tiling p.also_sound.tiling k.book in
+      let steps = steps_alike a.book b.book p.sound.tiling p.also_sound.tiling k.book in
+      let levels = levels_alike a.book b.book p.sound.tiling p.also_sound.tiling k.book in
+      cc
 
-  untried_agrees : Agree (answer_untried a) (answer_untried b)
-  untried_agrees = open_agree _ _ (λ v w s t q.
-      says_agree _ _ (ap (λ (r : RunnerValue). or_none (plain NothingUntried) (all_untried r)) q.runner))
-
-  branches_agree : Agree (answer_branches a) (answer_branches b)
-  branches_agree = says_agree _ _ (ap (or_none (plain NoBranches))
-      (sym (lines_seen (open_tiles a.book.tiles)) ∙ ap (map tile_line) k.book.tiles ∙ lines_seen (open_tiles b.book.tiles)))
-
-  visits_agree : Agree (answer_visits a) (answer_visits b)
-  visits_agree = says_agree _ _ (ap visits_lines (visits_alike a.book b.book p.sound.tiling p.also_sound.tiling k.book))
-
-  steps_agree : Agree (answer_steps a) (answer_steps b)
-  steps_agree = says_agree _ _
-      (ap (λ (n : ℕ). counted counts.Steps n ∷ []) (steps_alike a.book b.book p.sound.tiling p.also_sound.tiling k.book))
-
-  levels_agree : Agree (answer_levels a) (answer_levels b)
-  levels_agree = says_agree _ _
-      (ap (λ (ns : List ℕ). levels_words ns ∷ []) (levels_alike a.book b.book p.sound.tiling p.also_sound.tiling k.book))
+  question_agrees : (question : Question) → Agree (answer_question a question) (answer_question b question)
+  question_agrees question = says_agree _ _ (ap (λ (v : View). question_lines v question) same_view)
 
   -- ---- breakpoints
 
@@ -285,21 +275,16 @@ module _ (a b : SessionValue) (p : AreSoundAlike a b) where
   answers_agree (command.Back n) = back_agrees n
   answers_agree (command.SetBreak c) = set_agrees c
   answers_agree command.Clear = clear_agrees
-  answers_agree command.Show = show_agrees
-  answers_agree command.Untried = untried_agrees
+  answers_agree (command.Ask question) = question_agrees question
   answers_agree (command.Split level option) = split_agrees level option
   answers_agree command.Park = park_agrees
   answers_agree command.Save = save_agrees [] [] refl
   answers_agree command.SaveBreaks = save_agrees a.breaks b.breaks k.breaks
   answers_agree command.Close = close_agrees
   answers_agree (command.Enter lo) = enter_agrees lo
-  answers_agree command.Branches = branches_agree
-  answers_agree command.Visits = visits_agree
   answers_agree command.Retract = retract_agrees
   answers_agree (command.Hold lo) = hold_agrees lo
   answers_agree (command.PutBack lo state) = put_back_agrees lo state
-  answers_agree command.Steps = steps_agree
-  answers_agree command.Levels = levels_agree
 
   pub answer_alike : (c : CommandValue) → AreAlikeAnswers (answer a c) (answer b c)
   answer_alike c =

@@ -8,8 +8,9 @@ use Rattle.x_texts.specs.declared.breakpoint.Break.TheVariants.{Visit}
 use Rattle.lab_book.specs.declared.status.Status.TheVariants.{Leased}
 use Rattle.lab_book.specs.declared.lease.Grant.{Grant}
 use Rattle.lab_book.specs.Book.{BookValue}
+use Rattle.debug_language.specs.declared.question.Question.TheVariants.{Show, Branches}
 use Rattle.x_debug.specs.Session.{SessionValue, session_on}
-use Rattle.x_debug.specs.Commands.{answer_branches, answer_show}
+use Rattle.x_debug.specs.Questions.{lines_asked, question_lines}
 use Rattle.alike_books.proofs.AlikeExamples.{cut, in_two, in_three}
 use Rattle.alike_sessions.specs.AlikeSessions.{AreAlikeSessions}
 
@@ -32,10 +33,12 @@ are_alike : AreAlikeSessions one other
 are_alike = record { book = record { problem = refl; branch = refl; first = refl; tiles = refl }; runner = refl; breaks = refl }
 
 -- they tell the same of the open branch, and of the branches that are not closed
-same_show : (answer_show one).text ≡ (answer_show other).text
+same_show : lines_asked one Show ≡ lines_asked other Show
+unfolding question_lines
 same_show = refl
 
-same_branches : (answer_branches one).text ≡ (answer_branches other).text
+same_branches : lines_asked one Branches ≡ lines_asked other Branches
+unfolding question_lines
 same_branches = refl
 
 -- a session without an open branch is alike to neither

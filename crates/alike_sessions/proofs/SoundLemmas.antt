@@ -277,21 +277,16 @@ module _ (s : SessionValue) (h : IsSoundSession s) where
   answer_sound (command.Back n) = step_back_sound n
   answer_sound (command.SetBreak b) = others_sound _
   answer_sound command.Clear = others_sound []
-  answer_sound command.Show = open_sound _ (λ w p. h)
-  answer_sound command.Untried = open_sound _ (λ w p. h)
+  answer_sound (command.Ask question) = h
   answer_sound (command.Split level option) = part_sound level option
   answer_sound command.Park = park_sound
   answer_sound command.Save = save_sound []
   answer_sound command.SaveBreaks = save_sound s.breaks
   answer_sound command.Close = close_sound
   answer_sound (command.Enter lo) = enter_sound lo
-  answer_sound command.Branches = h
-  answer_sound command.Visits = h
   answer_sound command.Retract = take_back_sound
   answer_sound (command.Hold lo) = hold_sound lo
   answer_sound (command.PutBack lo state) = put_back_sound lo state
-  answer_sound command.Steps = h
-  answer_sound command.Levels = h
 
   pub line_sound : (line : List ℕ) → IsSoundSession (answer_line s line).session
   line_sound line = by (command_of s.book.problem line)

@@ -22,7 +22,7 @@ use Rattle.alike_books.specs.AlikeBooks.{AreAlikeBooks, anonymous_status, anonym
 use Rattle.alike_books.specs.AlikeCalls.{Correspond, NameSameTile, anonymous_reply}
 use Rattle.alike_books.proofs.StatusLemmas.{closed_seen, leased_seen}
 use Rattle.alike_books.proofs.PlaceLemmas.{Meet, first_meet}
-use Rattle.alike_sessions.specs.AlikeSessions.{runner_of}
+use Rattle.x_debug.specs.Questions.{runner_of}
 
 -- ---- the lines of tiles
 

@@ -3,18 +3,17 @@
 --
 -- Example: a session whose branch is open behind the cut 4 of the small problem, in a book with one closed tile up to there, is alike
 -- to one in a book with two. proofs/SessionExamples.antt computes it.
-use Rattle.std.specs.Prelude.{◌≡◌, Option, Some, None, option_map}
-use Rattle.x_branches.specs.Runner.{RunnerValue, IsRunner}
+use Rattle.std.specs.Prelude.{◌≡◌, Option, Some, None}
+use Rattle.x_branches.specs.Runner.{IsRunner}
 use Rattle.lab_book.specs.Tiling.{IsTiling}
+use Rattle.lab_book.specs.Book.{BookValue, leased_in, IsTiled}
 use Rattle.lab_world.specs.Worker.{WorkerValue}
 use Rattle.lab_world.specs.World.{IsSeat}
-use Rattle.x_debug.specs.Session.{SessionValue}
+use Rattle.x_debug.specs.Session.{SessionValue, session_on}
+use Rattle.x_debug.specs.Questions.{runner_of}
 use Rattle.x_debug.specs.Commands.{Answer}
 use Rattle.alike_books.specs.AlikeBooks.{AreAlikeBooks}
-
--- the runner of the open branch, if there is one: a worker without its lease
-abbrev pub runner_of : Option WorkerValue → Option RunnerValue
-runner_of w = option_map (λ (x : WorkerValue). x.runner) w
+use Rattle.alike_books.specs.Searched.{searched, IsSearched}
 
 -- sessions that are alike
 pub record AreAlikeSessions (a b : SessionValue) : Type 0 where
@@ -47,6 +46,12 @@ pub record AreAlikeAnswers (a b : Answer) : Type 0 where
 -- an answer to a sound session leaves a sound one
 abbrev pub LeavesSound : SessionValue → Answer → Type 0
 LeavesSound s a = IsSoundSession s → IsSoundSession a.session
+
+-- a pool made the first session's book to this one; the session on it is alike to that on the second one's searched book
+abbrev pub PooledAlike : SessionValue → SessionValue → BookValue → Type 0
+PooledAlike a b new =
+    AreSoundAlike a b → leased_in b.book.tiles ≡ 0 → IsSearched a.book new → IsTiled new
+    → AreSoundAlike (session_on new) (session_on (searched b.book))
 
 -- where two sessions are sound and alike, they answer alike
 abbrev pub AgreeOn : SessionValue → SessionValue → (SessionValue → Answer) → Type 0

@@ -1,13 +1,12 @@
 //! Laws of alike sessions, over the definitions alone: each is a function that does nothing, whose contract is the law.
-ghost use Rattle.std.specs.Prelude.{ℕ, ◌≡◌, List};
+ghost use Rattle.std.specs.Prelude.{ℕ, List};
 ghost use Rattle.cover_problem.specs.Problem.{ProblemValue};
-ghost use Rattle.lab_book.specs.Book.{BookValue, leased_in, IsTiled};
+ghost use Rattle.lab_book.specs.Book.{BookValue};
 ghost use Rattle.debug_language.specs.Command.{CommandValue};
-ghost use Rattle.x_debug.specs.Session.{SessionValue, session_on, fresh_session};
+ghost use Rattle.x_debug.specs.Session.{SessionValue, fresh_session};
 ghost use Rattle.x_debug.specs.Commands.{answer, answer_line};
 ghost use Rattle.x_debug.specs.Loading.{load_answer};
-ghost use Rattle.alike_books.specs.Searched.{searched, IsSearched};
-ghost use Rattle.alike_sessions.specs.AlikeSessions.{IsSoundSession, AreSoundAlike, LeavesSound, AgreeOn};
+ghost use Rattle.alike_sessions.specs.AlikeSessions.{IsSoundSession, AreSoundAlike, LeavesSound, AgreeOn, PooledAlike};
 
 /// A new session of any problem is sound, and so is each session that a command, a line or a text that is loaded leaves of a sound
 /// one. A sound session is alike to itself.
@@ -30,7 +29,5 @@ pub fn alike_sessions_answer_the_same()
 /// Whatever tiling a pool makes of a session's book, the session on it is alike to the session on the searched book, and to that of
 /// an alike session; all are sound.
 pub fn pooled_sessions_are_alike()
-    ensures { (a b : SessionValue) (new : BookValue) → AreSoundAlike a b →
-        leased_in b.book.tiles ≡ 0 → IsSearched a.book new → IsTiled new →
-        AreSoundAlike (session_on new) (session_on (searched b.book)) }
+    ensures { (a b : SessionValue) (new : BookValue) → PooledAlike a b new }
 {}

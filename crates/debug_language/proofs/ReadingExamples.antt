@@ -1,7 +1,9 @@
--- The examples of specs/Reading.antt.
+-- The examples of specs/Reading.antt and specs/Question.antt.
 use Rattle.std.proofs.Common.{◌≡◌, [], ◌∷◌, codes, Some, None, refl}
 use Rattle.cover_problem.specs.Problem.{ProblemValue}
 use Rattle.debug_language.specs.Command.{Split}
+use Rattle.debug_language.specs.declared.question.Question.TheVariants.{Levels}
+use Rattle.debug_language.specs.Question.{question_of}
 use Rattle.debug_language.specs.Reading.{pair_from, plain_command, long_command, command_from, command_of}
 
 -- one item, and an option of it
@@ -23,3 +25,9 @@ split_zero = refl
 no_comment : command_of one (codes "# split") ≡ None
 unfolding command_from long_command plain_command
 no_comment = refl
+
+levels : question_of (codes "levels") ≡ Some Levels
+levels = refl
+
+no_level : question_of (codes "level") ≡ None
+no_level = refl

@@ -4,6 +4,7 @@ use Rattle.x_steps.specs.StateValue.{StateValue}
 use Rattle.x_steps.specs.StateView.{state_value}
 use Rattle.x_texts.specs.declared.breakpoint.Break.{Break}
 use Rattle.x_snapshot.specs.Snapshot.{choices_of}
+use Rattle.debug_language.specs.declared.question.Question.{Question}
 use Rattle.debug_language.specs.declared.command.Command as declared
 use Rattle.debug_language.specs.declared.command.Command.TheVariants as commands
 
@@ -15,21 +16,16 @@ pub data CommandValue : Type 0 where
   Back : ℕ → CommandValue
   SetBreak : Break → CommandValue
   Clear : CommandValue
-  Show : CommandValue
-  Untried : CommandValue
+  Ask : Question → CommandValue
   Split : ℕ → ℕ → CommandValue
   Park : CommandValue
   Save : CommandValue
   SaveBreaks : CommandValue
   Close : CommandValue
   Enter : Option (List ℕ) → CommandValue
-  Branches : CommandValue
-  Visits : CommandValue
   Retract : CommandValue
   Hold : Option (List ℕ) → CommandValue
   PutBack : Option (List ℕ) → StateValue → CommandValue
-  Steps : CommandValue
-  Levels : CommandValue
 
 -- the value of a command
 abbrev pub command_value : declared.Command → CommandValue
@@ -39,18 +35,13 @@ command_value commands.Run = Run
 command_value (commands.Back n) = Back n
 command_value (commands.Break b) = SetBreak b
 command_value commands.Clear = Clear
-command_value commands.Show = Show
-command_value commands.Untried = Untried
+command_value (commands.Ask question) = Ask question
 command_value (commands.Split level option) = Split level option
 command_value commands.Park = Park
 command_value commands.Save = Save
 command_value commands.SaveBreaks = SaveBreaks
 command_value commands.Close = Close
 command_value (commands.Enter lo) = Enter (choices_of lo)
-command_value commands.Branches = Branches
-command_value commands.Visits = Visits
 command_value commands.Retract = Retract
 command_value (commands.Hold lo) = Hold (choices_of lo)
 command_value (commands.PutBack lo state) = PutBack (choices_of lo) (state_value state)
-command_value commands.Steps = Steps
-command_value commands.Levels = Levels

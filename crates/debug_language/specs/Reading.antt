@@ -17,8 +17,9 @@ use Rattle.text_lines.specs.declared.refusal.Refusal.{Refusal}
 use Rattle.text_lines.specs.declared.refusal.Refusal.TheVariants as refusals
 use Rattle.cover_problem.specs.Problem.{ProblemValue}
 use Rattle.x_snapshot.specs.Reading.{only, option_number, break_from, state_from}
-use Rattle.debug_language.specs.Command.{CommandValue, Nothing, Step, Run, Back, SetBreak, Clear, Show, Untried, Split, Park, Save}
-use Rattle.debug_language.specs.Command.{SaveBreaks, Close, Enter, Branches, Visits, Retract, Hold, PutBack, Steps, Levels}
+use Rattle.debug_language.specs.Command.{CommandValue, Nothing, Step, Run, Back, SetBreak, Clear, Ask, Split, Park, Save}
+use Rattle.debug_language.specs.Command.{SaveBreaks, Close, Enter, Retract, Hold, PutBack}
+use Rattle.debug_language.specs.Question.{question_of}
 use Rattle.debug_language.specs.declared.fault.DebugFault.{DebugFault}
 use Rattle.debug_language.specs.declared.fault.DebugFault.TheVariants.{BadCommand}
 use Rattle.debug_language.specs.declared.engine.EngineCommand.{EngineCommand}
@@ -135,27 +136,21 @@ long_command p key words =
 
 -- *commands of one word*
 
--- those that go on from where the search stands
-abbrev pub search_command : List ℕ → Option CommandValue
-search_command key =
+-- a question
+abbrev pub ask_from : List ℕ → Option CommandValue
+ask_from key = option_map Ask (question_of key)
+
+-- those that do something, or a question
+abbrev pub lone_command : List ℕ → Option CommandValue
+lone_command key =
     if bytes_eq key (codes "step") then Some (Step 1) else
     (if bytes_eq key (codes "run") then Some Run else
     (if bytes_eq key (codes "back") then Some (Back 1) else
     (if bytes_eq key (codes "clear") then Some Clear else
-    (if bytes_eq key (codes "show") then Some Show else
-    (if bytes_eq key (codes "untried") then Some Untried else prelude.None)))))
-
--- those of the branches, or of the search
-abbrev pub lone_command : List ℕ → Option CommandValue
-lone_command key =
-    if bytes_eq key (codes "park") then Some Park else
+    (if bytes_eq key (codes "park") then Some Park else
     (if bytes_eq key (codes "save") then Some Save else
     (if bytes_eq key (codes "close") then Some Close else
-    (if bytes_eq key (codes "branches") then Some Branches else
-    (if bytes_eq key (codes "visits") then Some Visits else
-    (if bytes_eq key (codes "retract") then Some Retract else
-    (if bytes_eq key (codes "steps") then Some Steps else
-    (if bytes_eq key (codes "levels") then Some Levels else search_command key)))))))
+    (if bytes_eq key (codes "retract") then Some Retract else ask_from key)))))))
 
 -- *lines*
 

@@ -2,12 +2,20 @@
 --
 -- Example: the branch from the cut 4 to the end that waits is `branch 4 to end waiting`.
 -- proofs/ReplyExamples.antt computes it.
-use Rattle.std.specs.Prelude.{ℕ, Bool, List, [], ◌∷◌, ◌++◌, length, map, decimal, codes, count_by, Option}
+use Rattle.std.specs.Prelude.{ℕ, ◌≡◌, Bool, List, [], ◌∷◌, ◌++◌, length, map, decimal, codes, count_by, Option, Some, Result, OnOk}
 use Rattle.std.specs.List.{list_all}
 use Rattle.text_lines.specs.Lines.{is_newline}
 use Rattle.text_lines.specs.Writing.{line_text}
 use Rattle.cover_problem.specs.Problem.{ProblemValue, is_item, name_at}
+use Rattle.cover_problem.specs.Answers.{AddsLine}
+use Rattle.x_branches.specs.declared.fault.RunnerFault.{RunnerFault}
+use Rattle.x_branches.specs.Faults as runner
+use Rattle.x_snapshot.specs.declared.fault.SnapshotFault.{SnapshotFault}
+use Rattle.x_snapshot.specs.Faults as snapshot
 use Rattle.x_texts.specs.Words.{cut_words}
+use Rattle.x_texts.specs.Writes.{WritesLine}
+use Rattle.debug_language.specs.declared.fault.DebugFault.{DebugFault}
+use Rattle.debug_language.specs.Faults as debug
 use Rattle.debug_language.specs.declared.words.Plain.{Plain}
 use Rattle.debug_language.specs.declared.words.Plain.TheVariants.{End, Parked, Closed, NothingUntried, NoBranches}
 use Rattle.debug_language.specs.declared.words.Counted.{Counted}
@@ -107,6 +115,22 @@ are_of_items p rows = list_all (λ row. is_item (length p.names) row.0) rows
 -- a refusal: its layer, its number and its name
 abbrev pub refused_words : Layer → ℕ → List ℕ → List (List ℕ)
 refused_words layer number name = codes "refused" ∷ layer_word layer ∷ decimal number ∷ name ∷ []
+
+-- the call adds the line of what the debugger refuses
+abbrev pub AddsDebugRefusal : {X E : Type 0} → Result X E → Vec ℕ → Vec ℕ → DebugFault → Type 0
+AddsDebugRefusal result old new f = AddsLine result old new (refused_words layer.Debug (debug.number_of f) (debug.name_of f))
+
+-- the refusal has this number, and the text goes on with its line
+abbrev pub WritesRefusal : Vec ℕ → Vec ℕ → Layer → Option ℕ → List ℕ → Type 0
+WritesRefusal old new layer number name = (n : ℕ) × (number ≡ Some n) × WritesLine old new (refused_words layer n name)
+
+-- the call adds the line of what a runner refuses, which has a number then
+abbrev pub AddsRunnerRefusal : {X E : Type 0} → Result X E → Vec ℕ → Vec ℕ → RunnerFault → Type 0
+AddsRunnerRefusal result old new f = OnOk result (WritesRefusal old new layer.Runner (runner.number_of f) (runner.name_of f))
+
+-- the same of a text that is no snapshot
+abbrev pub AddsSnapshotRefusal : {X E : Type 0} → Result X E → Vec ℕ → Vec ℕ → SnapshotFault → Type 0
+AddsSnapshotRefusal result old new f = OnOk result (WritesRefusal old new layer.Snapshot (snapshot.number_of f) (snapshot.name_of f))
 
 -- *whole replies*
 

@@ -1,5 +1,6 @@
 //! The commands of the debugger.
 
+use crate::question::Question;
 use x_steps::State;
 use x_texts::Break;
 
@@ -18,10 +19,8 @@ pub enum Command {
     Break(Break),
     /// No breakpoints.
     Clear,
-    /// The state of the search.
-    Show,
-    /// The options that can be cut off.
-    Untried,
+    /// Shows something, and changes nothing.
+    Ask(Question),
     /// Cuts the branch at an option of a level.
     Split { level: u32, option: u32 },
     /// Gives the branch back.
@@ -34,18 +33,10 @@ pub enum Command {
     Close,
     /// Takes the branch that begins at a cut: `open`.
     Enter(Option<Vec<u32>>),
-    /// The branches that are not closed.
-    Branches,
-    /// The visits that were posted.
-    Visits,
     /// Takes the last posted stretch back.
     Retract,
     /// Asks the branch that begins at a cut to stop.
     Hold(Option<Vec<u32>>),
     /// Takes the posted stretches of the branch that begins at a cut back up to a state.
     PutBack { lo: Option<Vec<u32>>, state: State },
-    /// How many steps were posted.
-    Steps,
-    /// How many states at each level were posted.
-    Levels,
 }

@@ -1,11 +1,6 @@
 //! The line of a refused command.
-ghost use Rattle.std.specs.Prelude.{◌≡◌, ℕ, Some, OnOk};
 ghost use Rattle.cover_problem.specs.Answers.{AddsLine};
-ghost use Rattle.x_branches.specs.Faults as runner;
-ghost use Rattle.x_snapshot.specs.Faults as snapshot;
-ghost use Rattle.debug_language.specs.Faults as debug;
-ghost use Rattle.debug_language.specs.Replies.{refused_words};
-ghost use Rattle.x_texts.specs.Writes.{WritesLine};
+ghost use Rattle.debug_language.specs.Replies.{refused_words, AddsDebugRefusal, AddsRunnerRefusal, AddsSnapshotRefusal};
 
 use crate::fault::DebugFault;
 use crate::words::Layer;
@@ -33,15 +28,14 @@ pub fn write_refused(
 
 /// Writes the line of a refusal by the debugger itself.
 pub fn write_debug_fault(text: &mut Vec<u8>, fault: DebugFault) -> Result<(), AllocError>
-    ensures { AddsLine result text.old text.new (refused_words Layer.Debug (debug.number_of fault) (debug.name_of fault)) }
+    ensures { AddsDebugRefusal result text.old text.new fault }
 {
     write_refused(text, Layer::Debug, fault.number(), fault.name())
 }
 
 /// Writes the line of a refusal by a runner. Out of memory has none, and is passed on.
 pub fn write_runner_fault(text: &mut Vec<u8>, fault: RunnerFault) -> Result<(), AllocError>
-    ensures { OnOk result ((number : ℕ) × (runner.number_of fault ≡ Some number) ×
-        (WritesLine text.old text.new (refused_words Layer.Runner number (runner.name_of fault)))) }
+    ensures { AddsRunnerRefusal result text.old text.new fault }
 {
     match fault.number() {
         Some(number) => write_refused(text, Layer::Runner, number, fault.name()),
@@ -51,8 +45,7 @@ pub fn write_runner_fault(text: &mut Vec<u8>, fault: RunnerFault) -> Result<(), 
 
 /// Writes the line of a refusal of a snapshot. Out of memory has none, and is passed on.
 pub fn write_snapshot_fault(text: &mut Vec<u8>, fault: SnapshotFault) -> Result<(), AllocError>
-    ensures { OnOk result ((number : ℕ) × (snapshot.number_of fault ≡ Some number) ×
-        (WritesLine text.old text.new (refused_words Layer.Snapshot number (snapshot.name_of fault)))) }
+    ensures { AddsSnapshotRefusal result text.old text.new fault }
 {
     match fault.number() {
         Some(number) => write_refused(text, Layer::Snapshot, number, fault.name()),

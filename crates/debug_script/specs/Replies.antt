@@ -5,7 +5,8 @@
 --
 -- Example: after `load 1` and one line more, `show` is answered; after `quit` nothing is.
 -- proofs/ReplyExamples.antt computes it.
-use Rattle.std.specs.Prelude.{ℕ, zero, suc, ◌++◌, List, [], ◌∷◌, take, Option, Some, None, option_map, unwrap_or}
+use Rattle.std.specs.Prelude.{ℕ, zero, suc, ◌≡◌, ◌++◌, List, [], ◌∷◌, take, drop, Option, Some, None, option_map, unwrap_or}
+use Rattle.std.specs.Borrow.{Bor}
 use Rattle.std.specs.List.{concat}
 use Rattle.debug_language.specs.declared.engine.EngineCommand.{EngineCommand}
 use Rattle.debug_language.specs.declared.engine.EngineCommand.TheVariants as engine
@@ -13,6 +14,7 @@ use Rattle.debug_language.specs.Reading.{engine_command_of}
 use Rattle.x_debug.specs.Session.{SessionValue}
 use Rattle.x_debug.specs.Commands.{Answer, answer_line}
 use Rattle.x_debug.specs.Loading.{load_answer}
+use Rattle.alike_sessions.specs.AlikeSessions.{AreSoundAlike}
 use Rattle.debug_script.specs.Input.{raw_lines, without_newline}
 use Rattle.debug_script.specs.Pooling.{answer_pool}
 
@@ -46,6 +48,12 @@ said_to raw after s = (exchange s raw (raw_lines after)).text
 abbrev pub left_by : List ℕ → List ℕ → SessionValue → SessionValue
 left_by raw after s = (exchange s raw (raw_lines after)).session
 
+-- of the text after a raw line this is left, whatever session the line is said to; None where the commands end
+abbrev pub Leaves : List ℕ → List ℕ → Option (Bor (List ℕ)) → Type 0
+Leaves raw after left =
+    (s : SessionValue) → option_map (λ rest. raw_lines rest.now) left
+    ≡ option_map (λ n. drop n (raw_lines after)) (exchange s raw (raw_lines after)).taken
+
 -- the answers to raw lines, of which so many are taken already
 unfoldable pub debug_replies : SessionValue → ℕ → List (List ℕ) → List ℕ
 debug_replies s n [] = []
@@ -57,3 +65,7 @@ debug_replies s zero (line ∷ after) =
 -- the answers to the command lines of a text
 abbrev pub replies_to : SessionValue → List ℕ → List ℕ
 replies_to s commands = debug_replies s 0 (raw_lines commands)
+
+-- two sound sessions that are alike answer command lines with the same bytes
+abbrev pub ReplyAlike : SessionValue → SessionValue → List (List ℕ) → Type 0
+ReplyAlike a b lines = AreSoundAlike a b → debug_replies a 0 lines ≡ debug_replies b 0 lines

@@ -1,11 +1,9 @@
 //! What a session of a problem answers to command lines.
-ghost use Rattle.std.specs.Prelude.{◌≡◌, ◌≤◌, length, drop, option_map, IfOk, IfSome, OnOk};
+ghost use Rattle.std.specs.Prelude.{◌≤◌, length, IfOk, IfSome, OnOk};
 ghost use Rattle.cover_problem.specs.Answers.{ReturnsItems};
-ghost use Rattle.x_debug.specs.Session.{SessionValue, fresh_session};
+ghost use Rattle.x_debug.specs.Session.{fresh_session};
 ghost use Rattle.debug_script.specs.Alike.{SaysAlike, StaysAlike};
-ghost use Rattle.debug_script.specs.Input.{raw_lines};
-ghost use Rattle.debug_script.specs.Replies as spec;
-ghost use Rattle.debug_script.specs.Replies.{said_to, left_by, replies_to};
+ghost use Rattle.debug_script.specs.Replies.{said_to, left_by, Leaves, replies_to};
 ghost use Rattle.x_texts.specs.Writes.{Writes};
 
 use crate::fault::RepliesFault;
@@ -39,8 +37,7 @@ fn exchange<'p, 'a, T: Table, R: Threads + Wait + Sync, G: Gate>(
 ) -> Result<(Session<'p, T>, Option<&'a [u8]>), RepliesFault>
     ensures text { SaysAlike result text.old text.new session.entry (said_to raw.now after.now) }
     ensures session { IfOk result (λ r. StaysAlike session.entry r.0 (left_by raw.now after.now)) }
-    ensures left { IfOk result (λ r. (f : SessionValue) → option_map (λ rest. raw_lines rest.now) r.1
-        ≡ option_map (λ n. drop n (raw_lines after.now)) (spec.exchange f raw.now (raw_lines after.now)).taken) }
+    ensures left { IfOk result (λ r. Leaves raw.now after.now r.1) }
     ensures no_longer { IfOk result (λ r. IfSome r.1 (λ rest. length rest.now ≤ length after.now)) }
 {
     let mut session = session;

@@ -3,7 +3,7 @@
 --
 -- Example: the new book of the small problem has the line `branch start to end waiting`. Once that tile is held the line ends in `held`; to
 -- hold the one at the cut 4, which there isn't, is refused. proofs/ViewExamples.antt computes it.
-use Rattle.std.specs.Prelude.{ℕ, Bool, true, false, not, ◌&&◌, List, [], ◌∷◌, ◌++◌, length, map, filter, Option, Some, None, option_copied, Result, OnErr}
+use Rattle.std.specs.Prelude.{ℕ, ◌≡◌, Bool, true, false, not, ◌&&◌, List, [], ◌∷◌, ◌++◌, length, map, filter, Option, Some, None, option_copied, Result, OnErr}
 use Rattle.std.specs.Borrow.{Bor}
 use Rattle.std.specs.List.{position}
 use Rattle.std.specs.Str.{bytes_eq}
@@ -81,6 +81,18 @@ is_begun_at lo t = not (is_closed t.status) && same_cut (path_of t.branch.lo) lo
 -- the place of the tile that does
 abbrev pub place_at : Option (List ℕ) → List TileValue → Option ℕ
 place_at lo ts = position (is_begun_at lo) ts
+
+-- a tile that isn't closed stands at this place
+abbrev pub IsOpenAt : BookValue → ℕ → Type 0
+IsOpenAt b i = is_closed (tile_at b.tiles i).status ≡ false
+
+-- a cut names the tile at this place, which isn't closed then
+abbrev pub NamesOpen : BookValue → Option (List ℕ) → ℕ → Type 0
+NamesOpen b lo i = place_at lo b.tiles ≡ Some i → IsOpenAt b i
+
+-- a call of worker 0 leaves the tile at a place open, where it was
+abbrev pub KeepsOpen : BookValue → Call → ℕ → Type 0
+KeepsOpen b c i = IsOpenAt b i → IsOpenAt (book_step b 0 c) i
 
 -- ---- what is asked of one
 

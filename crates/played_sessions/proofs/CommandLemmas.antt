@@ -57,14 +57,6 @@ module _ (s : SessionValue) (h : IsSoundSession s) where
       by None e = ap (seated_at s.book) (sym e)
       by (Some w) e = some w (work_of s h w e)
 
-  -- what is shown of one
-  shown_gives : (f : WorkerValue → List (List (List ℕ))) → Gives s [] (if_open s s.worker (λ w. says s (f w))).session
-  shown_gives f = by s.worker
-    where
-      by : (x : Option WorkerValue) → Gives s [] (if_open s x (λ w. says s (f w))).session
-      by None = refl
-      by (Some w) = refl
-
   -- a call for the tile at a place
   asked_gives : (make : ℕ → Call) (act : TileValue → Act)
       → ((t : TileValue) → Leads s.book s.worker (act t ∷ []) (book_step s.book 0 (make t.id)) s.worker)
@@ -107,24 +99,19 @@ module _ (s : SessionValue) (h : IsSoundSession s) where
       open_gives _ _ (λ w p. back_leads s.book w p.runner (back_count w.runner n) (least_within n (unposted_steps w.runner)))
   gives (commands.Break b) = refl
   gives commands.Clear = refl
-  gives commands.Show = shown_gives _
-  gives commands.Untried = shown_gives _
+  gives (commands.Ask question) = refl
   gives (commands.Split level option) = open_gives _ _ (λ w p. split_leads (work s.book w) p level option)
   gives commands.Park = open_gives _ _ (λ w p. parked_leads (work s.book w) p)
   gives commands.Save = open_gives _ _ (λ w p. parked_leads (work s.book w) p)
   gives commands.SaveBreaks = open_gives _ _ (λ w p. parked_leads (work s.book w) p)
   gives commands.Close = open_gives _ _ (λ w p. closing_leads (work s.book w) p)
   gives (commands.Enter lo) = enter_gives (choices_of lo)
-  gives commands.Branches = refl
-  gives commands.Visits = refl
   gives commands.Retract = open_gives _ _ (λ w p. retract_leads (work s.book w) p)
   gives (commands.Hold lo) =
       asked_gives call.RequestStop (λ t. RequestStop t.id) (λ t. refl) (place_at (choices_of lo) s.book.tiles)
   gives (commands.PutBack lo state) =
       asked_gives (λ (id : ℕ). call.PutBack id (state_value state)) (λ t. PutBack t.id state) (λ t. refl)
       (place_at (choices_of lo) s.book.tiles)
-  gives commands.Steps = refl
-  gives commands.Levels = refl
 
   -- ---- a line
 

@@ -28,7 +28,7 @@ use Rattle.debug_language.specs.Command.{command_value}
 use Rattle.debug_language.specs.Reading.{command_of}
 use Rattle.debug_views.specs.Tiles.{place_at}
 use Rattle.debug_acts.specs.Walking.{steps_ahead, step_count, run_count, back_count}
-use Rattle.x_debug.specs.Session.{SessionValue}
+use Rattle.x_debug.specs.Session.{SessionValue, fresh_session}
 use Rattle.x_debug.specs.Commands.{Answer, answer, answer_if, answer_line}
 use Rattle.alike_sessions.specs.AlikeSessions.{IsSoundSession}
 
@@ -165,6 +165,26 @@ snapshot_book v = new_book v.problem (branch_between v.problem v.lo v.hi) v.stat
 abbrev pub loaded_world : SessionValue → Result SnapshotValue SnapshotFault → WorldValue
 loaded_world s (Ok v) = if is_same v.problem s.book.problem then entered_world (snapshot_book v) else world_of s
 loaded_world s (Err f) = world_of s
+
+-- ---- sessions that are played
+
+-- a line, read as this command or as none, leaves a sound session as worker 0 does by its acts
+abbrev pub LinePlays : SessionValue → List ℕ → Option Command → Type 0
+LinePlays s line c =
+    IsSoundSession s → IsRead s line c → world_of (answer_line s line).session ≡ played (world_of s) (events (line_acts s c))
+
+-- so do lines, whatever each is read as
+abbrev pub SessionPlays : SessionValue → Type 0
+SessionPlays s =
+    (lines : List (List ℕ)) (cs : List (Option Command)) → IsSoundSession s → AreRead s lines cs
+    → world_of (left_by_lines s lines) ≡ played (world_of s) (events (all_acts s cs))
+
+-- lines leave a new session of a problem as the world whose worker leases the first tile that waits, and then does their acts
+abbrev pub WholePlays : ProblemValue → Type 0
+WholePlays p =
+    (lines : List (List ℕ)) (cs : List (Option Command)) → AreRead (fresh_session p) lines cs
+    → world_of (left_by_lines (fresh_session p) lines)
+    ≡ played (fresh (whole_book p) 1) (events (LeaseAny ∷ all_acts (fresh_session p) cs))
 
 -- an answer to a session leaves it as this text does, once it was loaded
 abbrev pub Loads : SessionValue → List ℕ → Answer → Type 0

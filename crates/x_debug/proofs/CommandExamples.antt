@@ -1,4 +1,4 @@
--- The examples of specs/Session.antt, specs/Commands.antt and specs/Loading.antt, computed on the small problem's new session.
+-- The examples of specs/Session.antt, specs/Questions.antt, specs/Commands.antt and specs/Loading.antt, computed on the small problem's new session.
 use Rattle.std.proofs.Common.{◌≡◌, None, [], ◌∷◌, ◌++◌, codes, refl}
 use Rattle.std.specs.Fmt.{digits}
 use Rattle.cover_problem.proofs.CoverExamples.{small}
@@ -6,10 +6,13 @@ use Rattle.x_steps.specs.StateValue.{start}
 use Rattle.x_texts.specs.declared.breakpoint.Break.TheVariants.{Visit}
 use Rattle.x_snapshot.specs.Reading.{first_line, keyed, keyed_line, parts_of}
 use Rattle.lab_book.specs.Book.{new_book, outcome}
+use Rattle.text_lines.specs.Writing.{text_of}
+use Rattle.debug_language.specs.declared.question.Question.TheVariants as questions
 use Rattle.debug_language.specs.Command as command
 use Rattle.debug_acts.specs.Entering.{enter}
 use Rattle.x_debug.specs.Session.{SessionValue, fresh_session, session_on}
-use Rattle.x_debug.specs.Commands.{answer, answer_branches, answer_set}
+use Rattle.x_debug.specs.Questions.{lines_asked, question_lines}
+use Rattle.x_debug.specs.Commands.{answer, answer_set}
 use Rattle.x_debug.specs.Loading.{load_answer}
 
 -- the session of the small problem's whole run, with no branch open
@@ -18,12 +21,19 @@ resting = session_on (new_book small (record { lo = None; hi = None }) start)
 
 -- ---- specs/Session.antt
 
-its_branch : (answer_branches (fresh_session small)).text ≡ codes "branch start to end leased" ++ 10 ∷ []
-unfolding outcome
+its_branch : text_of (lines_asked (fresh_session small) questions.Branches) ≡ codes "branch start to end leased" ++ 10 ∷ []
+unfolding question_lines outcome
 its_branch = refl
 
-waits : (answer_branches resting).text ≡ codes "branch start to end waiting" ++ 10 ∷ []
+waits : text_of (lines_asked resting questions.Branches) ≡ codes "branch start to end waiting" ++ 10 ∷ []
+unfolding question_lines
 waits = refl
+
+-- ---- specs/Questions.antt
+
+no_steps : text_of (lines_asked (fresh_session small) questions.Steps) ≡ codes "steps 0" ++ 10 ∷ []
+unfolding question_lines outcome digits
+no_steps = refl
 
 -- ---- specs/Commands.antt
 

@@ -17,7 +17,8 @@ use Rattle.x_snapshot.specs.Reading.{only, positive, option_number, kind_from, b
 use Rattle.x_snapshot.proofs.BackLemmas.{some_is, none_some, and_then_is, map_is}
 use Rattle.debug_language.specs.Command.{CommandValue}
 use Rattle.debug_language.specs.Command as command
-use Rattle.debug_language.specs.Reading.{count_from, cut_from, save_word, save_from, put_back_from, joined_cut, plain_command, long_command, lone_command, search_command, command_from, command_of, pair_from}
+use Rattle.debug_language.specs.Question.{question_of}
+use Rattle.debug_language.specs.Reading.{count_from, cut_from, save_word, save_from, put_back_from, joined_cut, plain_command, long_command, lone_command, command_from, command_of, pair_from}
 use Rattle.x_debug.specs.Commands.{is_command}
 
 -- ---- a breakpoint that was read
@@ -103,15 +104,11 @@ module _ (p : ProblemValue) where
       let b = and_then_is positive (number_of 4294967295 a.0) n a.2 in
       (from_one b.0 n b.2).1
 
-  search_fine : (key : List ℕ) → Fine (search_command key)
-  search_fine key =
-      either _ (sure (command.Step 1) refl) (either _ (sure command.Run refl) (either _ (sure (command.Back 1) refl) (either _ (sure command.Clear refl)
-      (either _ (sure command.Show refl) (either _ (sure command.Untried refl) no_command)))))
-
   lone_fine : (key : List ℕ) → Fine (lone_command key)
   lone_fine key =
-      either _ (sure command.Park refl) (either _ (sure command.Save refl) (either _ (sure command.Close refl) (either _ (sure command.Branches refl)
-      (either _ (sure command.Visits refl) (either _ (sure command.Retract refl) (either _ (sure command.Steps refl) (either _ (sure command.Levels refl) (search_fine key))))))))
+      either _ (sure (command.Step 1) refl) (either _ (sure command.Run refl) (either _ (sure (command.Back 1) refl) (either _ (sure command.Clear refl)
+      (either _ (sure command.Park refl) (either _ (sure command.Save refl) (either _ (sure command.Close refl) (either _ (sure command.Retract refl)
+      (mapped command.Ask (question_of key) (λ question h. refl)))))))))
 
   save_fine : (words : List (List ℕ)) → Fine (save_from words)
   save_fine words = record { fine = λ c e. let a = and_then_is save_word (only words) c e in (word a.0).fine c a.2 }

@@ -12,11 +12,10 @@ use Rattle.x_steps.specs.StateValue.{StateValue}
 use Rattle.x_branches.specs.Runner.{RunnerValue}
 use Rattle.x_texts.specs.declared.breakpoint.Break.{Break}
 use Rattle.x_texts.specs.Breaks.{is_break}
-use Rattle.lab_book.specs.Posted.{posted_steps, posted_levels}
 use Rattle.lab_world.specs.Worker.{WorkerValue}
 use Rattle.debug_language.specs.declared.fault.DebugFault.TheVariants.{BadCommand, AlreadyOpen, NoBranch}
 use Rattle.debug_language.specs.declared.words.Counted.TheVariants as counts
-use Rattle.x_texts.specs.Words.{levels_words}
+use Rattle.debug_language.specs.declared.question.Question.{Question}
 use Rattle.debug_language.specs.declared.command.Command.{Command}
 use Rattle.debug_language.specs.Command.{CommandValue, command_value}
 use Rattle.debug_language.specs.Command as command
@@ -25,8 +24,8 @@ use Rattle.debug_views.specs.Breakpoints.{with_break}
 use Rattle.debug_views.specs.Lines.{counted, set, debug_refusal}
 use Rattle.debug_acts.specs.Desk.{DeskAnswer}
 use Rattle.x_debug.specs.Session.{SessionValue}
-use Rattle.debug_views.specs.Showing.{show_lines, untried_lines}
-use Rattle.debug_views.specs.Tiles.{BookAnswer, branches_lines, posted_lines, hold, put_back, given_cut}
+use Rattle.x_debug.specs.Questions.{lines_asked}
+use Rattle.debug_views.specs.Tiles.{BookAnswer, hold, put_back, given_cut}
 use Rattle.debug_acts.specs.Walking.{IsPartWay, IsPartBack, step_count, run_count, back_count, step, run, back}
 use Rattle.debug_acts.specs.Work.{AtWork, work, WorkAnswer}
 use Rattle.debug_acts.specs.Entering.{enter}
@@ -84,31 +83,11 @@ working s a = record { book = a.book; worker = Some a.worker; breaks = s.breaks 
 abbrev pub on_work : SessionValue → WorkAnswer → Answer
 on_work s a = record { text = text_of a.lines; session = working s a.work }
 
--- ---- what is shown
+-- ---- questions
 
--- `show`: where the search of the open branch stands, the branch, what is covered, and the items with the options left for them
-abbrev pub answer_show : SessionValue → Answer
-answer_show s = if_open s s.worker (λ w. says s (show_lines w.runner))
-
--- `untried`: a line for each level of the open branch where an option is untried, or one line that says that there is none
-abbrev pub answer_untried : SessionValue → Answer
-answer_untried s = if_open s s.worker (λ w. says s (untried_lines w.runner))
-
--- `branches`: a line for each tile that isn't closed, or one line that says that there is none
-abbrev pub answer_branches : SessionValue → Answer
-answer_branches s = says s (branches_lines s.book.tiles)
-
--- `visits`: the visits of all stretches that are posted, and how many they are
-abbrev pub answer_visits : SessionValue → Answer
-answer_visits s = says s (posted_lines s.book.tiles)
-
--- `steps`: how many steps the posted stretches have
-abbrev pub answer_steps : SessionValue → Answer
-answer_steps s = says s (counted counts.Steps (posted_steps s.book.tiles) ∷ [])
-
--- `levels`: how many states X2 the posted stretches have at each level
-abbrev pub answer_levels : SessionValue → Answer
-answer_levels s = says s (levels_words (posted_levels s.book.problem s.book.tiles) ∷ [])
+-- what is asked is told, and the session stays
+abbrev pub answer_question : SessionValue → Question → Answer
+answer_question s question = says s (lines_asked s question)
 
 -- ---- breakpoints
 
@@ -192,21 +171,16 @@ answer s command.Run = answer_run s
 answer s (command.Back n) = answer_back s n
 answer s (command.SetBreak b) = answer_set s b
 answer s command.Clear = answer_clear s
-answer s command.Show = answer_show s
-answer s command.Untried = answer_untried s
+answer s (command.Ask question) = answer_question s question
 answer s (command.Split level option) = answer_split s level option
 answer s command.Park = answer_park s
 answer s command.Save = answer_save s []
 answer s command.SaveBreaks = answer_save s s.breaks
 answer s command.Close = answer_close s
 answer s (command.Enter lo) = answer_enter s lo
-answer s command.Branches = answer_branches s
-answer s command.Visits = answer_visits s
 answer s command.Retract = answer_retract s
 answer s (command.Hold lo) = answer_hold s lo
 answer s (command.PutBack lo state) = answer_put_back s lo state
-answer s command.Steps = answer_steps s
-answer s command.Levels = answer_levels s
 
 -- the same of a command that was read
 abbrev pub obeyed : SessionValue → Command → Answer

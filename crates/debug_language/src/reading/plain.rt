@@ -5,13 +5,22 @@ ghost use Rattle.debug_language.specs.Reading as spec;
 ghost use Rattle.debug_language.specs.Reading.{asked};
 
 use crate::command::Command;
+use crate::question::Question;
 use crate::reading::numbers::{count_from, is_word, pair_from};
 use cover_problem::Problem;
 use x_snapshot::{break_from, only_word};
 
-/// The command of one word that goes on from where the search stands.
-fn search_command(key: &[u8]) -> Option<Command>
-    ensures { asked result ≡ spec.search_command key.now }
+/// The question that a word asks.
+fn ask_from(key: &[u8]) -> Option<Command>
+    ensures { asked result ≡ spec.ask_from key.now }
+{
+    let question = Question::of_word(key)?;
+    Some(Command::Ask(question))
+}
+
+/// The command of one word.
+pub fn lone_command(key: &[u8]) -> Option<Command>
+    ensures { asked result ≡ spec.lone_command key.now }
 {
     if is_word(key, b"step") {
         Some(Command::Step(1))
@@ -21,37 +30,16 @@ fn search_command(key: &[u8]) -> Option<Command>
         Some(Command::Back(1))
     } else if is_word(key, b"clear") {
         Some(Command::Clear)
-    } else if is_word(key, b"show") {
-        Some(Command::Show)
-    } else if is_word(key, b"untried") {
-        Some(Command::Untried)
-    } else {
-        None
-    }
-}
-
-/// The command of one word.
-pub fn lone_command(key: &[u8]) -> Option<Command>
-    ensures { asked result ≡ spec.lone_command key.now }
-{
-    if is_word(key, b"park") {
+    } else if is_word(key, b"park") {
         Some(Command::Park)
     } else if is_word(key, b"save") {
         Some(Command::Save)
     } else if is_word(key, b"close") {
         Some(Command::Close)
-    } else if is_word(key, b"branches") {
-        Some(Command::Branches)
-    } else if is_word(key, b"visits") {
-        Some(Command::Visits)
     } else if is_word(key, b"retract") {
         Some(Command::Retract)
-    } else if is_word(key, b"steps") {
-        Some(Command::Steps)
-    } else if is_word(key, b"levels") {
-        Some(Command::Levels)
     } else {
-        search_command(key)
+        ask_from(key)
     }
 }
 

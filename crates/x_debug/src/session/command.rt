@@ -47,21 +47,16 @@ impl<'p, T: Table> Session<'p, T> {
             Command::Back(most) => self.obey_back(*most, text),
             Command::Break(breakpoint) => self.obey_set(*breakpoint, text),
             Command::Clear => self.obey_clear(text),
-            Command::Show => self.obey_show(text),
-            Command::Untried => self.obey_untried(text),
+            Command::Ask(question) => self.answer_question(*question, text),
             Command::Split { level, option } => self.obey_split(*level, *option, text),
             Command::Park => self.obey_park(text),
             Command::Save => self.obey_save(alloc, text),
             Command::SaveBreaks => self.obey_save_breaks(alloc, text),
             Command::Close => self.obey_close(text),
             Command::Enter(lo) => self.obey_enter(alloc, path_of(lo), text),
-            Command::Branches => self.obey_branches(text),
-            Command::Visits => self.obey_visits(text),
             Command::Retract => self.obey_retract(text),
             Command::Hold(lo) => self.obey_hold(path_of(lo), text),
             Command::PutBack { lo, state } => self.obey_put_back(path_of(lo), state, text),
-            Command::Steps => self.obey_steps(text),
-            Command::Levels => self.obey_levels(text),
         }
     }
 

@@ -1,17 +1,19 @@
 //! What is shown of a session.
-ghost use Rattle.x_debug.specs.Commands.{answer_show, answer_untried, answer_branches, answer_visits, answer_steps, answer_levels, Replies};
+ghost use Rattle.x_texts.specs.Writes.{AddsLines};
+ghost use Rattle.debug_views.specs.Showing.{show_lines, untried_lines};
+ghost use Rattle.x_debug.specs.Questions.{runner_of, branch_lines, lines_asked};
 
 use crate::session::Session;
 use cover_problem::Table;
-use debug_language::{Counted, DebugFault, write_counted, write_debug_fault};
+use debug_language::{Counted, DebugFault, Question, write_counted, write_debug_fault};
 use debug_views::{branches, show, untried, write_posted};
 use std::alloc::AllocError;
 use x_texts::write_levels;
 
 impl<'p, T: Table> Session<'p, T> {
-    /// `show`.
-    pub(super) fn obey_show(&self, text: &mut Vec<u8>) -> Result<(), AllocError>
-        ensures { Replies result text.old text.new (answer_show self.now) }
+    /// Where the search of the open branch stands.
+    fn show(&self, text: &mut Vec<u8>) -> Result<(), AllocError>
+        ensures { AddsLines result text.old text.new (branch_lines show_lines (runner_of self.now.worker)) }
     {
         let Some(worker) = &self.worker else {
             return write_debug_fault(text, DebugFault::NoBranch);
@@ -19,9 +21,9 @@ impl<'p, T: Table> Session<'p, T> {
         show(self.book.problem(), worker.runner(), text)
     }
 
-    /// `untried`.
-    pub(super) fn obey_untried(&self, text: &mut Vec<u8>) -> Result<(), AllocError>
-        ensures { Replies result text.old text.new (answer_untried self.now) }
+    /// The options of the open branch that are untried.
+    fn untried(&self, text: &mut Vec<u8>) -> Result<(), AllocError>
+        ensures { AddsLines result text.old text.new (branch_lines untried_lines (runner_of self.now.worker)) }
     {
         let Some(worker) = &self.worker else {
             return write_debug_fault(text, DebugFault::NoBranch);
@@ -29,32 +31,22 @@ impl<'p, T: Table> Session<'p, T> {
         untried(worker.runner(), text)
     }
 
-    /// `branches`.
-    pub(super) fn obey_branches(&self, text: &mut Vec<u8>) -> Result<(), AllocError>
-        ensures { Replies result text.old text.new (answer_branches self.now) }
+    /// Answers a question.
+    #[tactic(auto, unfolding(crate::specs::Questions::question_lines))]
+    pub(super) fn answer_question(
+        &self,
+        question: Question,
+        text: &mut Vec<u8>,
+    ) -> Result<(), AllocError>
+        ensures { AddsLines result text.old text.new (lines_asked self.now question) }
     {
-        branches(&self.book, text)
-    }
-
-    /// `visits`.
-    pub(super) fn obey_visits(&self, text: &mut Vec<u8>) -> Result<(), AllocError>
-        ensures { Replies result text.old text.new (answer_visits self.now) }
-    {
-        write_posted(&self.book, text)
-    }
-
-    /// `steps`.
-    pub(super) fn obey_steps(&self, text: &mut Vec<u8>) -> Result<(), AllocError>
-        ensures { Replies result text.old text.new (answer_steps self.now) }
-    {
-        write_counted(text, Counted::Steps, self.book.steps())
-    }
-
-    /// `levels`.
-    pub(super) fn obey_levels(&self, text: &mut Vec<u8>) -> Result<(), AllocError>
-        ensures { Replies result text.old text.new (answer_levels self.now) }
-    {
-        let levels = self.book.levels()?;
-        write_levels(text, &levels)
+        match question {
+            Question::Show => self.show(text),
+            Question::Untried => self.untried(text),
+            Question::Branches => branches(&self.book, text),
+            Question::Visits => write_posted(&self.book, text),
+            Question::Steps => write_counted(text, Counted::Steps, self.book.steps()),
+            Question::Levels => write_levels(text, &self.book.levels()?),
+        }
     }
 }

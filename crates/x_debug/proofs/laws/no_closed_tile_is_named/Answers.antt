@@ -8,4 +8,4 @@ pub returns-clause-held : goal.returns-clause-held
 returns-clause-held c = λ b id i h. hold_keeps b id i h
 
 pub returns-clause-put_back : goal.returns-clause-put_back
-returns-clause-put_back c = λ b id s i h. put_back_keeps b id s i h
+returns-clause-put_back c = λ b id i s h. put_back_keeps b id s i h

@@ -1,0 +1,37 @@
+//! What a search is asked to show.
+ghost use Rattle.std.specs.Prelude.{◌≡◌};
+ghost use Rattle.debug_language.specs.Question.{question_of};
+
+/// A question: the answer shows something, and nothing changes.
+#[derive(Clone, Copy, Debug, PartialEq, Eq)]
+pub enum Question {
+    /// Where the search of the open branch stands.
+    Show,
+    /// The options of the open branch that can be cut off.
+    Untried,
+    /// The branches that are not closed.
+    Branches,
+    /// The visits that were posted.
+    Visits,
+    /// How many steps were posted.
+    Steps,
+    /// How many states at each level were posted.
+    Levels,
+}
+
+impl Question {
+    /// The question that a word is.
+    pub(crate) fn of_word(word: &[u8]) -> Option<Question>
+        ensures { result ≡ question_of word.now }
+    {
+        match word {
+            b"show" => Some(Question::Show),
+            b"untried" => Some(Question::Untried),
+            b"branches" => Some(Question::Branches),
+            b"visits" => Some(Question::Visits),
+            b"steps" => Some(Question::Steps),
+            b"levels" => Some(Question::Levels),
+            _ => None,
+        }
+    }
+}

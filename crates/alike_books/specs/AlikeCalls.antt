@@ -13,13 +13,17 @@ use Rattle.lab_book.specs.Tiling.{tile_at, IsTiling}
 use Rattle.lab_book.specs.Book.{BookValue, Outcome, outcome, IsTiled}
 use Rattle.alike_books.specs.AlikeBooks.{anonymous_tile, open_part, AreAlikeBooks}
 
+-- the tile at place i of some tiles is that at place j of others, but for its id and its lease
+abbrev pub AreAlikeAt : List TileValue → ℕ → List TileValue → ℕ → Type 0
+AreAlikeAt ts i us j = anonymous_tile (tile_at ts i) ≡ anonymous_tile (tile_at us j)
+
 -- place i of some tiles and place j of others correspond: the same open tile stands there, but for its id and its lease, and so do the
 -- open tiles before it and behind it
 pub record Correspond (ts : List TileValue) (i : ℕ) (us : List TileValue) (j : ℕ) : Type 0 where
   pub within : i < length ts
   pub also_within : j < length us
   pub not_closed : is_closed (tile_at ts i).status ≡ false
-  pub tile : anonymous_tile (tile_at ts i) ≡ anonymous_tile (tile_at us j)
+  pub tile : AreAlikeAt ts i us j
   pub before : open_part (take i ts) ≡ open_part (take j us)
   pub behind : open_part (drop (suc i) ts) ≡ open_part (drop (suc j) us)
 
@@ -30,6 +34,13 @@ IsSameTile a i b j = Correspond a.tiles i b.tiles j
 -- where an open tile stands at place i of a book, this is true
 abbrev pub IfOpen : BookValue → ℕ → Type 0 → Type 0
 IfOpen b i P = i < length b.tiles → is_closed (tile_at b.tiles i).status ≡ false → P
+
+-- where book b is tiled and books a and b are alike, an open tile at place i of a is the one at place j of b, where both begin at the
+-- same cut
+abbrev pub IsFoundByCut : BookValue → ℕ → BookValue → ℕ → Type 0
+IsFoundByCut a i b j =
+    IsTiled b → AreAlikeBooks a b → IfOpen a i (j < length b.tiles →
+    (tile_at a.tiles i).branch.lo ≡ (tile_at b.tiles j).branch.lo → IsSameTile a i b j)
 
 -- the tile at place i of a book has its place in another
 abbrev pub HasPlaceIn : BookValue → ℕ → BookValue → Type 0
@@ -77,3 +88,10 @@ pub record AreAlikeOutcomes (a b : BookValue) (o q : Outcome) : Type 0 where
 abbrev pub AnswerAlike : BookValue → ℕ → Call → BookValue → ℕ → Call → Type 0
 AnswerAlike a v c b w d =
     IsTiled a → IsTiled b → AreAlikeBooks a b → AreAlikeOutcomes a b (outcome a v c) (outcome b w d)
+
+-- what is true of each call of two books that are alike and tiled, at the places of the same open tile, by its id or a lease: of the books,
+-- of those places and of the two outcomes
+abbrev pub EachSameCall : (BookValue → BookValue → ℕ → ℕ → Outcome → Outcome → Type 0) → Type 0
+EachSameCall P =
+    (a b : BookValue) (v w i j : ℕ) (g h : Grant) (c : Call) → IsTiled a → IsTiled b → AreAlikeBooks a b →
+    NameSameTile a i g b j h → P a b i j (outcome a v (addressed g c)) (outcome b w (addressed h c))

@@ -1,3 +1,4 @@
 pub mod Rule
 pub mod Deques
+pub mod Own
 pub mod TicketView

@@ -23,6 +23,14 @@ abbrev pub pushed_of : List Tally → List ℕ
 pushed_of [] = []
 pushed_of (v ∷ vs) = v.pushed
 
+-- how often a ticket stands among them
+abbrev pub times_pushed : ℕ → List Tally → ℕ
+times_pushed x tallies = times x (pushed_of tallies)
+
 -- the rule: each ticket stands among the owner's pushed ones as often as in the deque and among those that any seat took, together
 abbrev pub Balanced : List ℕ → List Tally → Type 0
 Balanced items tallies = (x : ℕ) → times x (pushed_of tallies) ≡ times x items + times_taken x tallies
+
+-- what is true of each ticket, wherever the rule holds: of the tickets in the deque and of what its seats did
+abbrev pub EachTicket : (List ℕ → List Tally → ℕ → Type 0) → Type 0
+EachTicket P = (items : List ℕ) (tallies : List Tally) → Balanced items tallies → (x : ℕ) → P items tallies x

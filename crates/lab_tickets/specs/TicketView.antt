@@ -1,5 +1,5 @@
 -- What a seat knows: what it pushed and what it took, deque by deque.
-use Rattle.std.specs.Prelude.{ℕ, zero, suc, ◌-◌, ◌+◌, ◌≡◌, ◌<◌, List, [], ◌∷◌, ◌++◌, cond, nat_lt, length, map, slice_set, slice_index_or, Option, MatchOption}
+use Rattle.std.specs.Prelude.{ℕ, zero, suc, ◌-◌, ◌+◌, ◌≡◌, ◌<◌, List, [], ◌∷◌, ◌++◌, cond, nat_lt, length, map, slice_set, slice_index_or, Option, MatchOption, Result, IfErr}
 use Rattle.lab_tickets.specs.declared.rule.Tally.{Tally}
 use Rattle.lab_tickets.specs.Rule.{tally}
 
@@ -28,9 +28,17 @@ put t x = tally (t.pushed ++ x ∷ []) t.taken
 abbrev pub took : Tally → ℕ → Tally
 took t x = tally t.pushed (t.taken ++ x ∷ [])
 
+-- a call answers a ticket, and leaves what its taking makes of this; or it answers none, and nothing has changed
+abbrev pub TakesAs : {S : Type 0} → Option ℕ → S → S → (ℕ → S) → Type 0
+TakesAs result old new taking = MatchOption result (new ≡ old) (λ x. new ≡ taking x)
+
+-- a call hands the ticket back where it has no room for it, and nothing has changed
+abbrev pub HandsBack : {X S : Type 0} → Result X ℕ → ℕ → S → S → Type 0
+HandsBack result x old new = IfErr result (λ y. (y ≡ x) × (new ≡ old))
+
 -- a call takes the ticket that it answers from a deque, or nothing where it answers none
 abbrev pub TakesTicket : Option ℕ → Tally → Tally → Type 0
-TakesTicket result old new = MatchOption result (new ≡ old) (λ x. new ≡ took old x)
+TakesTicket result old new = TakesAs result old new (took old)
 
 -- a ticket joins those that the seat pushed to its own deque
 abbrev pub pushed : TicketView → ℕ → TicketView
@@ -78,6 +86,10 @@ fresh all number = among number all (alone (slice_index_or all number (0, 0)))
 -- which deque is the seat's own
 abbrev pub deque_of : TicketView → ℕ × ℕ
 deque_of s = s.deque
+
+-- the deques of all seats of a row but the one at a place
+abbrev pub other_deques : ℕ → List TicketView → List (ℕ × ℕ)
+other_deques k seats = without k (map deque_of seats)
 
 -- the seat at a place of a row
 abbrev pub seat_at : List TicketView → ℕ → TicketView

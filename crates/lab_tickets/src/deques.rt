@@ -1,8 +1,9 @@
 //! A seat's own deque, and what it has of another seat's.
-ghost use Rattle.std.specs.Prelude.{◌≡◌, [], IfOk, IfErr};
+ghost use Rattle.std.specs.Prelude.{◌≡◌, [], IfOk};
 ghost use Rattle.crossbeam_deque.specs.Handles.{view, IsPassOf, stealer_deque, stealer_flavor, worker_view, worker_deque, worker_port, worker_flavor};
 ghost use Rattle.lab_tickets.specs.Rule.{tally};
-ghost use Rattle.lab_tickets.specs.TicketView.{put, TakesTicket};
+ghost use Rattle.lab_tickets.specs.TicketView.{TakesTicket};
+ghost use Rattle.lab_tickets.specs.Own.{PushesTicket, RefusesTicket, PopsTicket};
 
 use crate::rule::{Pushing, Taking, Tally, TicketRule};
 use crossbeam_deque::{Pass, Stealer, Worker};
@@ -31,10 +32,8 @@ impl OwnDeque {
     /// Adds a ticket, or hands it back where the deque can't grow.
     pub fn push(&mut self, id: u64) -> Result<(), u64>
         ensures same { worker_deque self.new.worker ≡ worker_deque self.old.worker }
-        ensures pushed { IfOk result (λ _. worker_view self.new.worker ≡
-            put (worker_view self.old.worker) id) }
-        ensures refused { IfErr result (λ x. (x ≡ id) ×
-            (worker_view self.new.worker ≡ worker_view self.old.worker)) }
+        ensures pushed { PushesTicket result self.old.worker self.new.worker id }
+        ensures refused { RefusesTicket result self.old.worker self.new.worker id }
     {
         self.worker.push_as::<Pushing>(id)
     }
@@ -42,7 +41,7 @@ impl OwnDeque {
     /// Takes the oldest ticket out.
     pub fn pop(&mut self) -> Option<u64>
         ensures same { worker_deque self.new.worker ≡ worker_deque self.old.worker }
-        ensures taken { TakesTicket result (worker_view self.old.worker) (worker_view self.new.worker) }
+        ensures taken { PopsTicket result self.old.worker self.new.worker }
     {
         self.worker.pop_as::<Taking>()
     }

@@ -1,8 +1,8 @@
 //! A seat: its own deque, and those of the other seats.
-ghost use Rattle.std.specs.Prelude.{◌≡◌, ◌≢◌, ◌<◌, ◌≤◌, ◌+◌, [], map, vec_len, IfOk, IfErr, MatchOption};
+ghost use Rattle.std.specs.Prelude.{◌≡◌, ◌≢◌, ◌<◌, ◌≤◌, ◌+◌, [], map, vec_len, IfOk};
 ghost use Rattle.lab_tickets.specs.Rule.{tally};
 ghost use Rattle.lab_tickets.specs.Deques.{tally_of, source, joined};
-ghost use Rattle.lab_tickets.specs.TicketView.{TicketView, alone, pushed, popped, stolen, place, seat_count};
+ghost use Rattle.lab_tickets.specs.TicketView.{TicketView, alone, pushed, popped, stolen, place, seat_count, TakesAs, HandsBack};
 
 use crate::deques::{OtherDeque, OwnDeque};
 use std::alloc::{AllocError, Global};
@@ -84,14 +84,14 @@ impl TicketSeat {
     /// Adds a ticket to the seat's own deque, or hands it back where the deque can't grow.
     pub fn push(&mut self, id: u64) -> Result<(), u64>
         ensures pushed { IfOk result (λ _. self.new ≡ pushed self.old id) }
-        ensures refused { IfErr result (λ x. (x ≡ id) × (self.new ≡ self.old)) }
+        ensures refused { HandsBack result id self.old self.new }
     {
         self.own.push(id)
     }
 
     /// Takes the oldest ticket out of the seat's own deque.
     pub fn pop(&mut self) -> Option<u64>
-        ensures { MatchOption result (self.new ≡ self.old) (λ x. self.new ≡ popped self.old x) }
+        ensures { TakesAs result self.old self.new (popped self.old) }
     {
         self.own.pop()
     }
@@ -101,7 +101,7 @@ impl TicketSeat {
     pub fn steal(&mut self, from: u8) -> Option<u64>
         requires other { from ≢ self.old.number }
         requires seat { from < seat_count self.old }
-        ensures { MatchOption result (self.new ≡ self.old) (λ x. self.new ≡ stolen self.old from x) }
+        ensures { TakesAs result self.old self.new (stolen self.old from) }
     {
         let at = place_of(self.number, from, self.others.len());
         let other = &mut self.others[at];

@@ -1,7 +1,7 @@
 //! All seats, made together.
 ghost use Rattle.std.specs.Prelude.{◌≡◌, ◌<◌, ◌≤◌, ◌-◌, map, IfOk, vec_len};
 ghost use Rattle.lab_tickets.specs.Deques.{tally_of, source};
-ghost use Rattle.lab_tickets.specs.TicketView.{fresh, blanks, without, deque_of, with_joined, AreFresh};
+ghost use Rattle.lab_tickets.specs.TicketView.{blanks, other_deques, with_joined, AreFresh};
 
 use crate::deques::OtherDeque;
 use crate::seat::TicketSeat;
@@ -15,8 +15,7 @@ fn others_of(
 ) -> Result<Vec<OtherDeque>, AllocError>
     requires { number < vec_len seats.now }
     ensures tallies { IfOk result (λ v. map tally_of v.items ≡ blanks (vec_len seats.now - 1)) }
-    ensures sources { IfOk result (λ v. map source v.items ≡
-        without number (map deque_of seats.now.items)) }
+    ensures sources { IfOk result (λ v. map source v.items ≡ other_deques number seats.now.items) }
 {
     let mut others = Vec::new(alloc);
     for j in 0..seats.len() {

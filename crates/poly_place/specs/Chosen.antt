@@ -5,11 +5,12 @@
 use Rattle.std.specs.Prelude.{◌≡◌, ℕ, ◌-◌, ◌<◌, ◌≤◌, ◌==◌, Bool, ◌&&◌, List, [], map, filter, length, slice_index, slice_index_or, EachIndex}
 use Rattle.std.specs.List.{list_any}
 use Rattle.std.specs.Ordering.{is_eq, nat_cmp}
+use Rattle.cover_problem.specs.Lists.{has}
 use Rattle.poly_cells.specs.Coordinates.{Coordinates}
 use Rattle.poly_cells.specs.Sets.{in_order}
 use Rattle.poly_texts.specs.Puzzle.{PuzzleValue, names_of, has_name}
 use Rattle.poly_place.specs.Placements.{cells_cmp}
-use Rattle.poly_place.specs.Packings.{ChoiceValue, choice, choice_at}
+use Rattle.poly_place.specs.Packings.{ChoiceValue, StandsFor, choice, choice_at}
 
 -- a packing: the region, the cells of it that may stay empty, and a placement for each piece that is used
 pub record PackingValue : Type 0 where
@@ -24,6 +25,10 @@ same_choice c d = (c.name == d.name) && is_eq (cells_cmp c.cells d.cells)
 -- whether the choice is one of these
 abbrev pub is_among : List ChoiceValue → ChoiceValue → Bool
 is_among cs c = list_any (same_choice c) cs
+
+-- these options and these choices stand for each other
+abbrev pub OptionsStandFor : PuzzleValue → List ℕ → List ChoiceValue → Type 0
+OptionsStandFor p path cs = StandsFor p (has path) (is_among cs)
 
 -- the names of the pieces of these choices
 abbrev pub names_in : List ChoiceValue → List ℕ
@@ -48,3 +53,7 @@ chosen_by p path = map (choice_at p) (in_order nat_cmp path)
 -- the packing for which these options stand
 abbrev pub packing_value : PuzzleValue → List ℕ → PackingValue
 packing_value p path = record { region = p.region; maybe_cells = p.maybe_cells; placements = chosen_by p path }
+
+-- the packings for which lists of options stand
+abbrev pub packing_values : PuzzleValue → List (List ℕ) → List PackingValue
+packing_values p paths = map (packing_value p) paths

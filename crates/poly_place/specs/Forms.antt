@@ -85,6 +85,10 @@ unfoldable pub least_from : List ℕ → List ℕ → List (List ℕ) → List �
 least_from numbers best [] = best
 least_from numbers best (g ∷ gs) = least_from numbers (lesser (form_by numbers g) best) gs
 
+-- the least of the forms of these parts, as they are and carried in each way
+abbrev pub least_form : List ℕ → List (List ℕ) → List ℕ
+least_form numbers carriers = least_from numbers (first_form numbers) carriers
+
 -- the least form of a packing
 abbrev pub key_of : List Coordinates → List (List ℕ) → PackingValue → List ℕ
-key_of region carriers p = least_from (parts_in region p.placements) (first_form (parts_in region p.placements)) carriers
+key_of region carriers p = least_form (parts_in region p.placements) carriers

@@ -3,10 +3,10 @@
 --
 -- Example: the piece A at 0 0 0 and 1 0 0 in the region 0 0 0, 1 0 0, 2 0 0, whose last cell may stay empty, is the line `AA_`
 -- (proofs/LayerExamples.antt).
-use Rattle.std.specs.Prelude.{ℕ, ◌+◌, ◌-◌, ◌<◌, ◌≡◌, max, if◌then◌else◌, List, [], ◌∷◌, map, find, option_map, unwrap_or, length, slice_index, String, Result}
+use Rattle.std.specs.Prelude.{ℕ, ◌+◌, ◌-◌, ◌<◌, ◌≡◌, max, Bool, if◌then◌else◌, List, [], ◌∷◌, ◌++◌, map, find, option_map, unwrap_or, length, slice_index, String, Result}
 use Rattle.std.specs.List.{range_with_len}
 use Rattle.std.specs.declared.alloc.Global.{Global}
-use Rattle.text_lines.specs.Writing.{text_of}
+use Rattle.text_lines.specs.Writing.{line_text, text_of}
 use Rattle.poly_cells.specs.Coordinates.{Coordinates, coordinates, IsInGrid}
 use Rattle.poly_cells.specs.Shapes.{corner}
 use Rattle.poly_cells.specs.CellTests.{has_cell}
@@ -48,6 +48,10 @@ row_symbols symbol low high y z = map (λ x. symbol (coordinates x y z)) (from_t
 abbrev pub layer_words : (Coordinates → ℕ) → Coordinates → Coordinates → ℕ → List (List ℕ)
 layer_words symbol low high y = map (row_symbols symbol low high y) (from_to low.z high.z)
 
+-- the line for y
+abbrev pub layer_line : (Coordinates → ℕ) → Coordinates → Coordinates → ℕ → List ℕ
+layer_line symbol low high y = line_text (layer_words symbol low high y)
+
 -- the lines for each y
 abbrev pub layer_lines : (Coordinates → ℕ) → Coordinates → Coordinates → List (List (List ℕ))
 layer_lines symbol low high = map (layer_words symbol low high) (from_to low.y high.y)
@@ -71,3 +75,11 @@ painted symbol cells b v = if has_cell cells v then b else symbol v
 -- whatever symbols the table shows, the call adds what is shown of them to the text, unless it has an error
 abbrev pub Shows : {X E : Type 0} → Result X E → String Global → String Global → List ℕ → ((Coordinates → ℕ) → List ℕ) → Type 0
 Shows result old new table shown = (symbol : Coordinates → ℕ) → AreSymbols symbol table → AddsText result old new (shown symbol)
+
+-- whatever symbols the table shows, it shows them with these cells painted
+abbrev pub Paints : List ℕ → List ℕ → List Coordinates → ℕ → Type 0
+Paints old new cells b = (symbol : Coordinates → ℕ) → AreSymbols symbol old → AreSymbols (painted symbol cells b) new
+
+-- a text with a space behind it, where one is due
+abbrev pub with_gap : Bool → List ℕ → List ℕ
+with_gap due text = if due then text ++ 32 ∷ [] else text

@@ -44,14 +44,22 @@ is_below v w = nat_le v.x w.x && (nat_le v.y w.y && nat_le v.z w.z)
 abbrev pub if_inside : (Coordinates → Bool) → List Coordinates → List (List Coordinates)
 if_inside inside set = cond (list_all inside set) (set ∷ []) []
 
+-- these cells moved by the coordinates of another, where each is then inside
+abbrev pub moved_inside : (Coordinates → Bool) → Coordinates → List Coordinates → List (List Coordinates)
+moved_inside inside by cells = if_inside inside (map (moved by) cells)
+
 -- the piece moved up so that its first cell comes to c, where that is possible and each cell is then inside
 abbrev pub at_cell : (Coordinates → Bool) → List Coordinates → Coordinates → List (List Coordinates)
 at_cell inside [] c = []
-at_cell inside (f ∷ fs) c = cond (is_below f c) (if_inside inside (map (moved (moved_back f c)) (f ∷ fs))) []
+at_cell inside (f ∷ fs) c = cond (is_below f c) (moved_inside inside (moved_back f c) (f ∷ fs)) []
 
 -- the piece with its first cell at each of the cells in turn
 abbrev pub at_cells : (Coordinates → Bool) → List Coordinates → List Coordinates → List (List Coordinates)
 at_cells inside cells piece = flat_map (at_cell inside piece) cells
+
+-- each of these forms of a piece with its first cell at each of the cells in turn
+abbrev pub forms_at : (Coordinates → Bool) → List Coordinates → List (List Coordinates) → List (List Coordinates)
+forms_at inside cells forms = flat_map (at_cells inside cells) forms
 
 -- the turned forms of the piece, in order, each once
 unfoldable pub orientations : List Coordinates → List (List Coordinates)
@@ -59,7 +67,7 @@ orientations piece = in_order cells_cmp (map (λ n. turned n piece) rotations)
 
 -- the placements, in order, each once
 unfoldable pub placements : List Coordinates → List Coordinates → List (List Coordinates)
-placements piece region = in_order cells_cmp (flat_map (at_cells (has_cell region) region) (orientations piece))
+placements piece region = in_order cells_cmp (forms_at (has_cell region) region (orientations piece))
 
 -- the list of any shape in any other has exactly the placements
 abbrev pub ListsPlacements : Type 0

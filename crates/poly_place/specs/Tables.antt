@@ -1,5 +1,5 @@
 -- A region as a table: for each cell within the limits a bit that tells whether the region has it.
-use Rattle.std.specs.Prelude.{◌≡◌, ℕ, ◌+◌, ◌*◌, Bool, false, ◌&&◌, nat_le, List, length, slice_index_or}
+use Rattle.std.specs.Prelude.{◌≡◌, ℕ, ◌+◌, ◌*◌, Bool, false, ◌&&◌, nat_le, List, ◌++◌, length, slice_index_or}
 use Rattle.poly_cells.specs.Coordinates.{Coordinates}
 use Rattle.poly_cells.specs.CellTests.{has_cell}
 
@@ -19,3 +19,7 @@ has_bit bits c = nat_le c.x 31 && (nat_le c.y 31 && (nat_le c.z 31 && slice_inde
 pub record IsTable (region : List Coordinates) (bits : List Bool) : Type 0 where
   pub long : length bits ≡ grid_cells
   pub same : (c : Coordinates) → has_bit bits c ≡ has_cell region c
+
+-- whatever region a table has, these cells join it
+abbrev pub AddsCells : List Bool → List Bool → List Coordinates → Type 0
+AddsCells old new cells = (region : List Coordinates) → IsTable region old → IsTable (region ++ cells) new

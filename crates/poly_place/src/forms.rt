@@ -4,7 +4,7 @@ ghost use Rattle.poly_cells.specs.Sets.{in_order};
 ghost use Rattle.cover_problem.specs.Answers.{ReturnsItems};
 ghost use Rattle.poly_place.specs.Answers.{ReturnsLists, lists_of};
 ghost use Rattle.poly_place.specs.Classes.{part_at};
-ghost use Rattle.poly_place.specs.Forms.{carried, first_form, forms_cmp, key_of, least_from, parts_in, place_in, AreBelow, AllAreBelow};
+ghost use Rattle.poly_place.specs.Forms.{carried, first_form, forms_cmp, key_of, least_form, parts_in, place_in, AreBelow, AllAreBelow};
 
 use crate::choice::Choice;
 use crate::packing::Packing;
@@ -61,7 +61,7 @@ fn least_form(
     carriers: &[Vec<usize>],
 ) -> Result<Vec<usize>, AllocError>
     requires { AllAreBelow (length parts.now) (lists_of carriers.now) }
-    ensures { ReturnsItems result (least_from parts.now (first_form parts.now) (lists_of carriers.now)) }
+    ensures { ReturnsItems result (least_form parts.now (lists_of carriers.now)) }
 {
     let mut best = first_form(alloc, parts)?;
     for carrier in carriers {

@@ -1,12 +1,11 @@
 //! Packings as layers of text.
-ghost use Rattle.std.specs.Prelude.{◌≡◌, if◌then◌else◌, ◌≤◌, ◌<◌, ◌++◌, ◌∷◌, [], ℕ, length, replicate, slice_index, IfOk, OnOk};
+ghost use Rattle.std.specs.Prelude.{◌≡◌, ◌≤◌, ◌<◌, ◌∷◌, [], ℕ, length, replicate, slice_index, IfOk, OnOk};
 ghost use Rattle.std.specs.String.{string_bytes};
-ghost use Rattle.text_lines.specs.Writing.{line_text, text_of};
-ghost use Rattle.poly_cells.specs.Coordinates.{Coordinates};
+ghost use Rattle.text_lines.specs.Writing.{text_of};
 ghost use Rattle.poly_cells.specs.Shapes.{corner};
 ghost use Rattle.cover_problem.specs.Answers.{ReturnsItems};
 ghost use Rattle.poly_place.specs.Answers.{AddsText};
-ghost use Rattle.poly_place.specs.Layers.{AreSymbols, far_corner, layer_lines, layer_words, layers, painted, row_symbols, symbol_at, Shows};
+ghost use Rattle.poly_place.specs.Layers.{AreSymbols, far_corner, layer_line, layer_lines, layers, row_symbols, symbol_at, with_gap, Paints, Shows};
 ghost use Rattle.poly_place.specs.Tables.{grid_cells};
 
 use crate::packing::Packing;
@@ -58,7 +57,7 @@ fn push_line(
     requires long { length symbols.now ≡ grid_cells }
     requires within { y ≤ 31 }
     requires ascii { (i : ℕ) → slice_index symbols.now i < 128 }
-    ensures { Shows result text.old text.new symbols.now (λ f. line_text (layer_words f low high y)) }
+    ensures { Shows result text.old text.new symbols.now (λ f. layer_line f low high y) }
 {
     for z in low.z()..high.z() + 1 {
         push_gap(text, z > low.z())?;
@@ -90,8 +89,7 @@ fn push_row(
 
 /// Adds a space, where a word stands before.
 fn push_gap(text: &mut String, is_later: bool) -> Result<(), AllocError>
-    ensures { OnOk result (string_bytes text.new ≡
-        (if is_later then string_bytes text.old ++ 32 ∷ [] else string_bytes text.old)) }
+    ensures { OnOk result (string_bytes text.new ≡ with_gap is_later (string_bytes text.old)) }
 {
     if is_later {
         return push_symbol(text, b' ');
@@ -132,7 +130,7 @@ fn blank(alloc: Global, count: usize) -> Result<Vec<u8>, AllocError>
 fn paint(symbols: &mut [u8], cells: &[Cell], symbol: u8)
     requires long { length symbols.old ≡ grid_cells }
     requires ascii { symbol < 128 }
-    ensures { (f : Coordinates → ℕ) → AreSymbols f symbols.old → AreSymbols (painted f cells.now symbol) symbols.new }
+    ensures { Paints symbols.old symbols.new cells.now symbol }
 {
     for cell in cells {
         symbols[bit_index(cell.x(), cell.y(), cell.z())] = symbol;

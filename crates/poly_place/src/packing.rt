@@ -5,8 +5,8 @@ ghost use Rattle.poly_cells.specs.Sets.{in_order};
 ghost use Rattle.cover_problem.specs.Lists.{has};
 ghost use Rattle.cover_problem.specs.ExactCover.{IsExactCover};
 ghost use Rattle.cover_problem.specs.Answers.{Returns, ReturnsItems};
-ghost use Rattle.poly_place.specs.Packings.{IsPacking, StandsFor, packing_problem};
-ghost use Rattle.poly_place.specs.Chosen.{AreInPieceOrder, AreNumbered, choice_numbered, is_among, packing_value};
+ghost use Rattle.poly_place.specs.Packings.{IsPacking, packing_problem};
+ghost use Rattle.poly_place.specs.Chosen.{AreInPieceOrder, AreNumbered, choice_numbered, is_among, packing_value, OptionsStandFor};
 
 use crate::choice::Choice;
 use crate::compiled::Compiled;
@@ -66,7 +66,7 @@ pub fn packing_of<'p>(
     requires { IsExactCover (packing_problem compiled.now) (has path.now) }
     ensures value { Returns result (packing_value compiled.now path.now) }
     ensures packs { IfOk result (λ q. IsPacking compiled.now (is_among q.placements)) }
-    ensures stands { IfOk result (λ q. StandsFor compiled.now (has path.now) (is_among q.placements)) }
+    ensures stands { IfOk result (λ q. OptionsStandFor compiled.now path.now q.placements) }
     ensures order { IfOk result (λ q. AreInPieceOrder compiled.now q.placements) }
 {
     let numbers = in_order(alloc, path)?;

@@ -1,11 +1,9 @@
 //! The placements of a piece in a region.
-ghost use Rattle.std.specs.Prelude.{◌≡◌, ◌<◌, IfOk, length, map, slice_index};
-ghost use Rattle.std.specs.List.{flat_map};
+ghost use Rattle.std.specs.Prelude.{◌≡◌, ◌<◌, IfOk, length, slice_index};
 ghost use Rattle.cover_problem.specs.Answers.{ReturnsItems};
 ghost use Rattle.poly_place.specs.Answers.{ReturnsLists, AddsLists, lists_of};
-ghost use Rattle.poly_place.specs.Placements.{ArePlacements, at_cell, at_cells, if_inside, orientations, placements};
+ghost use Rattle.poly_place.specs.Placements.{ArePlacements, at_cell, at_cells, forms_at, moved_inside, orientations, placements};
 ghost use Rattle.poly_cells.specs.Symmetries.{rotations};
-ghost use Rattle.poly_cells.specs.Shapes.{moved};
 ghost use Rattle.poly_place.specs.Tables.{grid_cells, has_bit};
 
 use crate::set::{all_inside, all_moved, is_below, moved_back, put_sets_in_order, shapes_of};
@@ -58,7 +56,7 @@ fn all_sets(
     turns: &[Vec<Cell>],
 ) -> Result<Vec<Vec<Cell>>, AllocError>
     requires { length bits.now ≡ grid_cells }
-    ensures { ReturnsLists result (flat_map (at_cells (has_bit bits.now) cells.now) (lists_of turns.now)) }
+    ensures { ReturnsLists result (forms_at (has_bit bits.now) cells.now (lists_of turns.now)) }
 {
     let mut sets = Vec::new(alloc);
     for turned in turns {
@@ -113,7 +111,7 @@ fn add_if_inside(
     by: Cell,
 ) -> Result<(), AllocError>
     requires { length bits.now ≡ grid_cells }
-    ensures { AddsLists result sets.old sets.new (if_inside (has_bit bits.now) (map (moved by) cells.now)) }
+    ensures { AddsLists result sets.old sets.new (moved_inside (has_bit bits.now) by cells.now) }
 {
     if all_inside(bits, cells, by) {
         sets.push(all_moved(alloc, cells, by)?)?;

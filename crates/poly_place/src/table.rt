@@ -1,9 +1,9 @@
 //! A region as a table of bits, one for each cell within the limits.
-ghost use Rattle.std.specs.Prelude.{◌≡◌, ◌++◌, List, false, length, replicate, IfOk};
-ghost use Rattle.poly_cells.specs.Coordinates.{Coordinates, coordinates};
+ghost use Rattle.std.specs.Prelude.{◌≡◌, false, length, replicate, IfOk};
+ghost use Rattle.poly_cells.specs.Coordinates.{coordinates};
 ghost use Rattle.poly_cells.specs.Shapes.{AllInGrid};
 ghost use Rattle.cover_problem.specs.Answers.{ReturnsItems};
-ghost use Rattle.poly_place.specs.Tables.{IsTable, grid_cells, bit_index, has_bit};
+ghost use Rattle.poly_place.specs.Tables.{IsTable, AddsCells, grid_cells, bit_index, has_bit};
 
 use poly_cells::Cell;
 use std::alloc::{AllocError, Global};
@@ -50,7 +50,7 @@ fn no_bits(alloc: Global, count: usize) -> Result<Vec<bool>, AllocError>
 fn set_bits(bits: &mut [bool], cells: &[Cell])
     requires limits { AllInGrid cells.now }
     requires long { length bits.old ≡ grid_cells }
-    ensures { (region : List Coordinates) → IsTable region bits.old → IsTable (region ++ cells.now) bits.new }
+    ensures { AddsCells bits.old bits.new cells.now }
 {
     for cell in cells {
         bits[bit_index(cell.x(), cell.y(), cell.z())] = true;

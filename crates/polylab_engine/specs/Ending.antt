@@ -31,6 +31,10 @@ IsEnd job r r' w w' (Pool fault) = IsSound r r' × Stays w w'
 IsEnd job r r' w w' Unread = IsUnread r r' × Stays w w'
 IsEnd job r r' w w' Unwritten = IsSound r r' × ((text : List ℕ) × IsOutcomeOf job r (Ok text) × TakesPart w w' text)
 
+-- the same of a reader and a writer of whichever kinds, by what a contract sees of them
+abbrev pub EndsRun : {R W : Type 0} → (R → Stream) → (W → Stream) → Job → R → R → W → W → Ending → Type 0
+EndsRun seen shown job r r' w w' ending = IsEnd job (seen r) (seen r') (shown w) (shown w') ending
+
 -- what is told where a run ends so
 abbrev pub IsTold : Ending → Stream → Stream → Type 0
 IsTold Written old new = Stays old new

@@ -4,7 +4,8 @@
 -- 1 2 2 1 (proofs/OutputExamples.antt computes it).
 use Rattle.std.specs.Prelude.{ℕ, ◌+◌, ◌≡◌, Bool, Option, List, [], ◌∷◌, ◌++◌}
 use Rattle.cover_problem.specs.Problem.{ProblemValue}
-use Rattle.x_steps.specs.StateValue.{StateValue}
+use Rattle.x_steps.specs.StateValue.{StateValue, start, done}
+use Rattle.x_steps.specs.Steps.{Fits}
 use Rattle.x_snapshot.specs.Snapshot.{SnapshotValue, IsSnapshot}
 use Rattle.polylab_engine.specs.Account.{ReportValue}
 use Rattle.polylab_engine.specs.Resumed.{branch_end, stop_of, at_state, report_up_to}
@@ -59,6 +60,14 @@ EachSlicing P = (keeps : Bool) (v : SnapshotValue) → IsSnapshot v → (mosts :
 abbrev pub SlicesAddUp : Bool → SnapshotValue → List (Option ℕ) → StateValue → Type 0
 SlicesAddUp keeps v mosts t = sum_of (slice_reports keeps v mosts) ≡ report_up_to keeps v t
 
+-- the last of the slices stops at the end of the snapshot's branch
+abbrev pub SlicesEnd : SnapshotValue → List (Option ℕ) → Type 0
+SlicesEnd v mosts = (sliced v mosts).state ≡ branch_end v
+
+-- the reports of the slices add up to the report of the whole rest of that branch
+abbrev pub AddUpToEnd : Bool → SnapshotValue → List (Option ℕ) → Type 0
+AddUpToEnd keeps v mosts = SlicesAddUp keeps v mosts (branch_end v)
+
 -- branches of one problem's run that join from s to t: the first is at s, each later one is where the one before ends, and the last
 -- one ends at t
 abbrev pub AreJoined : ProblemValue → StateValue → List SnapshotValue → StateValue → Type 0
@@ -69,3 +78,13 @@ AreJoined p s (v ∷ vs) t = IsSnapshot v × (v.problem ≡ p) × (v.state ≡ s
 abbrev pub part_reports : Bool → List SnapshotValue → List ReportValue
 part_reports keeps [] = []
 part_reports keeps (v ∷ vs) = report_up_to keeps v (branch_end v) ∷ part_reports keeps vs
+
+-- what is true of all these reports as one, wherever branches of a problem's run join from a state to another
+abbrev pub EachJoin : (Bool → ProblemValue → StateValue → StateValue → ReportValue → Type 0) → Type 0
+EachJoin P = (keeps : Bool) (p : ProblemValue) (s t : StateValue) → (parts : List SnapshotValue) → Fits p s → AreJoined p s parts t →
+    P keeps p s t (sum_of (part_reports keeps parts))
+
+-- and wherever they join from the start of the run to its end
+abbrev pub EachWholeJoin : (Bool → ProblemValue → ReportValue → Type 0) → Type 0
+EachWholeJoin P = (keeps : Bool) (p : ProblemValue) (parts : List SnapshotValue) → AreJoined p start parts done →
+    P keeps p (sum_of (part_reports keeps parts))

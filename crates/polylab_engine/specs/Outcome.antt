@@ -139,6 +139,11 @@ outcome_of (Refused line) = Err line.items
 abbrev pub HasOutcome : {E : Type 0} → Result Answer E → Result (List ℕ) (List ℕ) → Type 0
 HasOutcome result given = IfOk result (λ answer. outcome_of answer ≡ given)
 
+-- a call answers what a job makes of a puzzle, over the bytes of these commands, unless it has an error
+abbrev pub AnswersPuzzle : {E : Type 0} → Result Answer E → PuzzleJob → List ℕ → PuzzleValue → Type 0
+AnswersPuzzle result job commands puzzle =
+    (given : PuzzleValue) → given ≡ puzzle → HasOutcome result (puzzle_answer job commands (Ok given))
+
 -- what is true of what a text says, or of its first fault, where a reader of the text found this
 abbrev pub ForReading : {X F : Type 0} → Result X (TextRefusal F) → (Result X (F × ℕ) → Type 0) → Type 0
 ForReading {X} {F} found P = (read : Result X (F × ℕ)) → GivesAt (λ x. x) found read → P read

@@ -4,12 +4,11 @@ ghost use Rattle.text_lines.specs.Answers.{GivesAt};
 ghost use Rattle.text_lines.specs.Writing.{line_text};
 ghost use Rattle.poly_texts.specs.declared.fault.Fault as puzzle;
 ghost use Rattle.cover_problem.specs.Reading.{problem_of};
-ghost use Rattle.poly_texts.specs.Puzzle.{PuzzleValue};
 ghost use Rattle.poly_texts.specs.Reading.{puzzle_of};
 ghost use Rattle.debug_script.specs.Input.{raw_lines};
 ghost use Rattle.x_snapshot.specs.Judged.{snapshot_of};
 ghost use Rattle.polylab_engine.specs.Resumed.{resume_output};
-ghost use Rattle.polylab_engine.specs.Outcome.{refusal_words, resumed_of, outcome, listing_of, output_of, HasOutcome, ForReading, cover_answer, puzzle_answer};
+ghost use Rattle.polylab_engine.specs.Outcome.{refusal_words, resumed_of, outcome, listing_of, output_of, HasOutcome, ForReading, cover_answer, puzzle_answer, AnswersPuzzle};
 ghost use Rattle.cover_problem.specs.Answers.{ReturnsItems};
 ghost use Rattle.x_snapshot.specs.Refusals.{TellsFault};
 
@@ -223,7 +222,7 @@ fn packed_answer<T: Table, R: Threads + Wait + Sync, G: Gate>(
     puzzle: &Puzzle,
     commands: &[u8],
 ) -> Result<Answer, JobFault>
-    ensures { (given : PuzzleValue) → given ≡ puzzle.now → HasOutcome result (puzzle_answer job commands.now (Ok given)) }
+    ensures { AnswersPuzzle result job commands.now puzzle.now }
 {
     match compile(alloc, puzzle) {
         Ok(compiled) => Ok(Answer::Text(packed_text::<T, R, G>(

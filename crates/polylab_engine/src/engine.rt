@@ -1,7 +1,7 @@
 //! From the input's bytes to the output's.
 ghost use Rattle.std.specs.Prelude.{◌≡◌};
 ghost use Rattle.byte_streams.specs.Stream.{Takes};
-ghost use Rattle.polylab_engine.specs.Ending.{IsEnd, IsTold, IsProgramRun, status_of};
+ghost use Rattle.polylab_engine.specs.Ending.{EndsRun, IsTold, IsProgramRun, status_of};
 
 use crate::answer::{Answer, answer_to};
 use crate::fault::{JobFault, pool_line};
@@ -72,8 +72,7 @@ fn work<R: Threads + Wait + Sync, G: Gate, I: Source, O: Sink>(
     reader: &mut I,
     writer: &mut O,
 ) -> Ending
-    ensures { IsEnd job (I.stream reader.old) (I.stream reader.new)
-        (O.stream writer.old) (O.stream writer.new) result }
+    ensures { EndsRun I.stream O.stream job reader.old reader.new writer.old writer.new result }
 {
     let bytes = match read_whole(alloc, reader) {
         Ok(bytes) => bytes,

@@ -2,7 +2,7 @@
 ghost use Rattle.std.specs.Prelude.{◌≡◌, IfOk};
 ghost use Rattle.x_steps.specs.StateValue.{start};
 ghost use Rattle.x_branches.specs.Branch.{whole_run};
-ghost use Rattle.lab_book.specs.Posted.{AllClosed};
+ghost use Rattle.lab_book.specs.Posted.{IsFinished};
 ghost use Rattle.polylab_engine.specs.Account.{book_visits};
 ghost use Rattle.polylab_engine.specs.Output.{tally_lines, whole_report};
 ghost use Rattle.x_texts.specs.Writes.{AddsLines};
@@ -40,7 +40,7 @@ impl Model for Report {
 
 /// The visits of a book, or none where they are not kept.
 fn visits_of(alloc: Global, book: &Book<'_>, keeps: bool) -> Result<Lists, AllocError>
-    ensures { IfOk result (λ paths. AllClosed book.now.tiles → paths ≡ book_visits keeps book.now) }
+    ensures { IfOk result (λ paths. IsFinished book.now → paths ≡ book_visits keeps book.now) }
 {
     if keeps {
         book.visits()
@@ -52,7 +52,7 @@ fn visits_of(alloc: Global, book: &Book<'_>, keeps: bool) -> Result<Lists, Alloc
 impl Report {
     /// The report of a finished book of a whole run.
     pub fn of_book(alloc: Global, book: &Book<'_>, keeps: bool) -> Result<Report, AllocError>
-        requires finished { AllClosed book.now.tiles }
+        requires finished { IsFinished book.now }
         requires first { book.now.first ≡ start }
         requires branch { book.now.branch ≡ whole_run }
         ensures { Returns result (whole_report keeps book.now.problem) }

@@ -3,6 +3,7 @@ ghost use Rattle.std.specs.Prelude.{◌≤◌, ◌<◌, length};
 
 use crate::searches::{Search, begin};
 use cover_problem::Problem;
+use drawn_books::visits_the_cover;
 use lab_book::{Book, Entries};
 use std::alloc::{AllocError, Global};
 use x_branches::Branch;
@@ -10,13 +11,7 @@ use x_steps::{Cursor, Label, State};
 
 /// Whether a book is finished with so many steps and the one cover of the small problem.
 pub fn is_done(book: &Book<'_>, steps: u128) -> Result<bool, AllocError> {
-    let visits = book.visits()?;
-    Ok(
-        book.finished()
-            && book.steps() == steps
-            && visits.len() == 1
-            && visits.list(0) == [4, 5, 1].as_slice(),
-    )
+    Ok(book.finished() && book.steps() == steps && visits_the_cover(book)?)
 }
 
 /// Whether a book is finished with so many steps, and the cover; none is not.

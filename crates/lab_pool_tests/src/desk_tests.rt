@@ -3,8 +3,9 @@
 use crate::books::{begins_with, begun, held_before, is_done, is_some_done};
 use crate::desks::{Way, Work, at_desk};
 use cover_problem::{Problem, read_cover};
+use drawn_books::{has_tiles, tiles_of};
 use drawn_problems::SMALL;
-use lab_book::{Book, Tile};
+use lab_book::Book;
 use std::alloc::{AllocError, Global};
 use std::sync::Wait;
 use std::test::Fail;
@@ -39,28 +40,6 @@ fn a_seat_is_missing(rt: HostRuntime) -> Result<(), Fail> {
     let done = finish_the_small(&rt, rt.alloc(), &problem, Work::Share, Way::OneShort, 7)?;
     assert!(rt; done);
     Ok(())
-}
-
-/// Copies of a book's tiles.
-pub fn tiles_of<'p>(alloc: Global, book: &Book<'p>) -> Result<Vec<Tile<'p>>, AllocError> {
-    let mut tiles = Vec::new(alloc);
-    for tile in book.tiles() {
-        tiles.push(tile.copy()?)?;
-    }
-    Ok(tiles)
-}
-
-/// Whether a book's tiles are these.
-pub fn has_tiles(book: &Book<'_>, tiles: &[Tile<'_>]) -> bool {
-    if book.tiles().len() != tiles.len() {
-        return false;
-    }
-    for (tile, other) in book.tiles().iter().zip(tiles) {
-        if !tile.same(other) || !tile.mark().same(other.mark()) {
-            return false;
-        }
-    }
-    true
 }
 
 /// Whether a desk where nothing is called, and that isn't finished by one seat of the two, leaves the tiles of a book as they were.

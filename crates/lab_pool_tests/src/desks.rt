@@ -2,7 +2,8 @@
 ghost use Rattle.std.specs.Prelude.{◌≡◌, IfSome};
 
 use crate::searches::{Search, begin};
-use lab_book::{Book, Leased, Posted};
+use drawn_books::lease_in;
+use lab_book::{Book, Posted};
 use lab_desk::{Desk, Desking, Seat};
 use std::alloc::Global;
 use std::marker::Brand;
@@ -106,29 +107,18 @@ fn share<'p, L: Desking, R: Wait>(
     search.close(rt, desk, first) && parted && ended && posted
 }
 
-/// Lets a lease go.
-fn let_go(leased: Leased<'_>) {
-    let Leased {
-        lease,
-        branch: _,
-        mark: _,
-        waiting: _,
-    } = leased;
-    lease.discard();
-}
-
 /// Whether no tile can be leased: by its id the first one is refused as number 2, and none waits.
 fn none_waits<L: Desking, R: Wait>(rt: &R, desk: &Desk<'_, L>, seat: &mut Seat<L>) -> bool {
     let refused = match desk.lease(rt, seat, 0) {
         Ok(leased) => {
-            let_go(leased);
+            lease_in(leased).discard();
             false
         }
         Err(fault) => fault.number() == Some(2),
     };
     match desk.lease_next(rt, seat) {
         Ok(Some(leased)) => {
-            let_go(leased);
+            lease_in(leased).discard();
             false
         }
         Ok(None) => refused,

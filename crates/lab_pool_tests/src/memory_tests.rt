@@ -3,8 +3,8 @@
 ghost use Rattle.std.specs.Prelude.{◌≡◌};
 
 use crate::books::{begins_with, begun};
-use crate::desk_tests::{has_tiles, tiles_of};
 use cover_problem::{Problem, read_cover};
+use drawn_books::{grows, has_tiles, tiles_of};
 use drawn_problems::SMALL;
 use lab_book::{Book, Tile};
 use lab_desk::{Desk, Desking, Seat};
@@ -71,7 +71,7 @@ fn is_desk_made<'p>(
         return Err(Fail::from("no book"));
     };
     let tiles = tiles_of(alloc, &copy)?;
-    let _last = vec![in alloc; 0u8; 1].map_err(|_| "refused before the call")?;
+    grows(alloc)?;
     Ok(is_made_again::<Brand>(alloc, Blank::new(2), book, &copy, &tiles))
 }
 

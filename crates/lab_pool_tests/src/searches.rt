@@ -1,34 +1,18 @@
 //! Searches of a leased tile, by calls of a desk or of a book.
 ghost use Rattle.std.specs.Prelude.{◌≡◌, IfSome};
 
-use cover_problem::{PlainTable, Problem, Table};
-use lab_book::{Book, BookFault, Lease, Leased, Posted};
+use cover_problem::{PlainTable, Problem};
+use drawn_books::{advance, is_ended, runner_of, walked};
+use lab_book::{Book, Lease, Leased, Posted};
 use lab_desk::{Desk, Desking, Seat};
 use std::alloc::Global;
 use std::sync::Wait;
-use x_branches::{Branch, Cut, Runner, Stretch};
-use x_steps::{Refused, State};
+use x_branches::{Cut, Runner};
 
 /// A lease, with a runner over its tile.
 pub struct Search<'p> {
     pub lease: Lease,
     pub runner: Runner<'p, PlainTable>,
-}
-
-/// A runner of a branch that goes on from a state.
-fn runner_of<'p>(
-    alloc: Global,
-    problem: &'p Problem,
-    branch: Branch<'p>,
-    state: &State,
-) -> Option<Runner<'p, PlainTable>> {
-    let Ok(table) = PlainTable::new(alloc, problem) else {
-        return None;
-    };
-    match Runner::new(alloc, problem, table, branch, state) {
-        Ok(runner) => Some(runner),
-        Err(_) => None,
-    }
 }
 
 /// Begins where a lease says; if that fails, the lease is let go.
@@ -42,29 +26,11 @@ pub fn begin<'p>(alloc: Global, problem: &'p Problem, leased: Leased<'p>) -> Opt
         waiting: _,
     } = leased;
     match runner_of(alloc, problem, branch, &mark) {
-        Some(runner) => Some(Search { lease, runner }),
-        None => {
+        Ok(runner) => Some(Search { lease, runner }),
+        Err(_) => {
             lease.discard();
             None
         }
-    }
-}
-
-/// Takes so many steps, as far as there are any.
-fn advance(runner: &mut Runner<'_, PlainTable>, steps: u32) {
-    for _ in 0..steps {
-        if runner.advance().is_err() {
-            break;
-        }
-    }
-}
-
-/// Takes so many steps, and hands out all that is unposted.
-fn walked<'p>(runner: &mut Runner<'p, PlainTable>, steps: u32) -> Option<Stretch<'p>> {
-    advance(runner, steps);
-    match runner.take_stretch() {
-        Ok(stretch) => Some(stretch),
-        Err(_) => None,
     }
 }
 
@@ -74,24 +40,13 @@ fn cut_twice<'p>(
     steps: u32,
     option: u32,
 ) -> Option<(Cut<'p>, Cut<'p>)> {
-    advance(runner, steps);
+    advance(runner, steps).ok()?;
     let Ok(cut) = runner.cut(0, option) else {
         return None;
     };
     match cut.copy() {
         Ok(copy) => Some((cut, copy)),
         Err(_) => None,
-    }
-}
-
-/// Whether a lease was ended; else it is let go.
-fn is_ended(answer: Result<(), Refused<BookFault, Lease>>) -> bool {
-    match answer {
-        Ok(()) => true,
-        Err(refused) => {
-            refused.given.discard();
-            false
-        }
     }
 }
 
@@ -108,7 +63,7 @@ impl<'p> Search<'p> {
         ensures lease { self.new.lease ≡ self.old.lease }
         ensures number { seat.new.number ≡ seat.old.number }
     {
-        let stretch = walked(&mut self.runner, steps)?;
+        let stretch = walked(&mut self.runner, steps).ok()?;
         match desk.post(rt, seat, &self.lease, stretch) {
             Ok(posted) => Some(posted),
             Err(_) => None,
@@ -158,7 +113,7 @@ impl<'p> Search<'p> {
 
     /// Posts to a book after so many steps.
     pub fn post_to(&mut self, book: &mut Book<'p>, steps: u32) -> Option<Posted> {
-        let stretch = walked(&mut self.runner, steps)?;
+        let stretch = walked(&mut self.runner, steps).ok()?;
         match book.post(&self.lease, stretch) {
             Ok(posted) => Some(posted),
             Err(_) => None,

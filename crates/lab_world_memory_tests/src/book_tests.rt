@@ -1,14 +1,15 @@
 //! Calls of a book to which memory is refused: the book is then as it was, what was handed in comes back, and the same call, made again,
 //! leaves the book as one to which nothing is refused.
 
-use crate::setting::{are_alike, cut_of, entered, grows, stretch_of};
+use crate::setting::are_alike;
 use cover_problem::{Problem, read_cover};
-use drawn_problems::SMALL;
-use lab_book::{Book, BookFault, Lease, Leased};
+use drawn_books::{cut_of, given_lease, grows, is_ended, lease_of, stretch_of};
+use drawn_problems::{SMALL, state_of};
+use lab_book::{Book, BookFault, Lease};
 use std::alloc::Global;
 use std::test::Fail;
 use x_branches::{Cut, Stretch};
-use x_steps::{Refused, State};
+use x_steps::{Cursor, Label, Refused, State};
 
 /// What worker 3 asks of a book: under the lease of its only tile, where a call takes one.
 #[derive(Clone, Copy)]
@@ -35,28 +36,9 @@ fn is_refused(fault: &BookFault, book: &Book<'_>, before: &Book<'_>) -> bool {
     fault.same(&BookFault::OutOfMemory) && are_alike(book, before)
 }
 
-/// The lease that was given.
-fn lease_in(leased: Leased<'_>) -> Lease {
-    let Leased {
-        lease,
-        branch: _,
-        mark: _,
-        waiting: _,
-    } = leased;
-    lease
-}
-
-/// The lease that worker 3 has of a book's tile.
-fn lease_of(book: &mut Book<'_>) -> Result<Lease, BookFault> {
-    match book.lease(3, 0) {
-        Ok(leased) => Ok(lease_in(leased)),
-        Err(fault) => Err(fault),
-    }
-}
-
-/// What is wrong with a lease, if anything is.
+/// What is wrong with a lease that worker 3 asks of a book's tile, if anything is.
 fn leases(book: &mut Book<'_>) -> Option<BookFault> {
-    match lease_of(book) {
+    match lease_of(book.lease(3, 0)) {
         Ok(lease) => {
             lease.discard();
             None
@@ -158,13 +140,7 @@ fn end(book: &mut Book<'_>, lease: Lease, ask: Ask) -> bool {
         lease.discard();
         return true;
     };
-    match book.park(lease) {
-        Ok(()) => true,
-        Err(Refused { fault: _, given }) => {
-            given.discard();
-            false
-        }
-    }
+    is_ended(book.park(lease))
 }
 
 /// What is done before the call under the lease of the tile.
@@ -190,10 +166,8 @@ fn begun<'p>(alloc: Global, problem: &'p Problem, ask: Ask) -> Result<Book<'p>, 
     if let Ask::Lease = ask {
         return Ok(book);
     }
-    match lease_of(&mut book) {
-        Ok(lease) => begin(alloc, problem, &mut book, lease, ask)?,
-        Err(_) => return Err(Fail::from("no lease")),
-    }
+    let lease = given_lease(book.lease(3, 0))?;
+    begin(alloc, problem, &mut book, lease, ask)?;
     Ok(book)
 }
 
@@ -204,7 +178,7 @@ fn call_of<'p>(alloc: Global, problem: &'p Problem, ask: Ask) -> Result<Call<'p>
         Ask::Post => Call::Post(stretch_of(alloc, problem, 5, 25)?),
         Ask::Split => Call::Split(cut_of(alloc, problem, &[4])?),
         Ask::Retract => Call::Retract,
-        Ask::PutBack => Call::PutBack(entered(alloc, &[2])?),
+        Ask::PutBack => Call::PutBack(state_of(alloc, Label::X2, &[2], Cursor::None)?),
     })
 }
 
@@ -239,9 +213,7 @@ fn is_made_alike<'p>(
 fn is_asked(alloc: Global, ask: Ask) -> Result<bool, Fail> {
     let problem = read_cover(alloc, SMALL.as_bytes())?;
     let mut book = Book::new(alloc, &problem)?;
-    let Ok(lease) = lease_of(&mut book) else {
-        return Err(Fail::from("no lease"));
-    };
+    let lease = given_lease(book.lease(3, 0))?;
     let is_alike = is_made_alike(alloc, &problem, &lease, ask);
     lease.discard();
     is_alike

@@ -2,8 +2,9 @@
 //! events, played then, end it as where nothing is refused.
 ghost use Rattle.std.specs.Prelude.{◌<◌, ◌≤◌, ◌↔◌, length, All, IsTrue};
 
-use crate::setting::{are_alike, grows};
+use crate::setting::are_alike;
 use cover_problem::{PlainTable, Problem, read_cover};
+use drawn_books::{grows, value_of};
 use drawn_problems::SMALL;
 use lab_world::{Act, World, WorldEvent, WorldReply};
 use std::alloc::{AllocError, Global};
@@ -66,10 +67,7 @@ fn play(world: &mut Plain<'_>, events: &[WorldEvent]) -> Result<Vec<WorldReply>,
     if !have_workers(events, world.workers()) {
         return Err(Fail::from("no such worker"));
     }
-    match world.play(events) {
-        Ok(replies) => Ok(replies),
-        Err(_) => Err(Fail::from("refused")),
-    }
+    value_of(world.play(events))
 }
 
 /// Whether a worker stands alike in two worlds, or has no tile in both.

@@ -6,4 +6,3 @@ mod finishing;
 mod new_tests;
 mod resumed_tests;
 mod search_tests;
-pub mod setting;

@@ -1,10 +1,10 @@
 //! Worlds of the small problem, row by row.
 
-use crate::books::setting::{cut_of, state_at, value_of};
 use crate::setting::{Do, add, play, visits_of};
 use cover_links::LinkTable;
 use cover_problem::{PlainTable, Problem, Table, read_cover};
-use drawn_problems::SMALL;
+use drawn_books::{cut_of, value_of};
+use drawn_problems::{SMALL, state_of};
 use lab_book::{Book, Entry, Reply, Tile};
 use lab_world::{World, WorldReply};
 use std::alloc::{AllocError, Global};
@@ -249,7 +249,7 @@ static FROM_THE_VISIT: [Row; 6] = [
 /// The book of the branch from the cut 4 to the end, at X2 below 4 5 1.
 fn resumed<'p>(alloc: Global, problem: &'p Problem) -> Result<Book<'p>, Fail> {
     let lo = Some(cut_of(alloc, problem, &[4])?);
-    let state = state_at(alloc, Label::X2, &[4, 5, 1], Cursor::None)?;
+    let state = state_of(alloc, Label::X2, &[4, 5, 1], Cursor::None)?;
     value_of(Book::resumed(alloc, problem, Branch { lo, hi: None }, state))
 }
 

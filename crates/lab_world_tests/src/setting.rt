@@ -2,6 +2,7 @@
 ghost use Rattle.std.specs.Prelude.{◌<◌, ◌↔◌, All, IsTrue};
 
 use cover_problem::{Lists, Table};
+use drawn_books::value_of;
 use lab_book::Book;
 use lab_world::{Act, World, WorldEvent, WorldReply};
 use std::alloc::{AllocError, Global};
@@ -75,14 +76,6 @@ fn have_workers(events: &[WorldEvent], workers: u8) -> bool
     ensures { IsTrue result ↔ All (λ (e : WorldEvent). e.worker < workers) events.now }
 {
     events.iter().all(|event| event.worker < workers)
-}
-
-/// What was made, or that it was refused.
-fn value_of<V: Drop, F: Drop>(made: Result<V, F>) -> Result<V, Fail> {
-    match made {
-        Ok(value) => Ok(value),
-        Err(_) => Err(Fail::from("refused")),
-    }
 }
 
 /// The replies to events of workers that there are.

@@ -1,18 +1,21 @@
 //! Calls of a book as rows of a table, each answered by the number of its refusal.
 
-use crate::books::setting::{advance, cut_of, stretch_of, whole};
 use cover_problem::Problem;
+use drawn_books::{advance, cut_of, ended, given_lease, lease_of, stretch_of, whole};
 use lab_book::{Book, BookFault, Lease, Leased};
 use std::alloc::Global;
 use std::test::Fail;
 use x_branches::{Cut, Stretch};
 use x_steps::Refused;
 
+/// Another problem than the small one: an item and two options.
+pub const OTHER: &[u8] = b"items a\noption a\noption a";
+
 /// A lease, current or not: a tile's id, a worker, and an entry.
 pub type Given = (u64, u8, u64);
 
-/// One call. A stretch is named by how many steps of the run lead to it and how many it has, a state by how many lead to it, and
-/// a cut by its one choice.
+/// One call. A stretch is named by how many steps of the run lead to it and how many it has (of another problem's run as many as there
+/// are), a state by how many lead to it, and a cut by its one choice.
 #[derive(Clone, Copy)]
 pub enum Act {
     Lease(u8, u64),
@@ -49,29 +52,6 @@ fn make_tiles<'p>(
     }
     lease.discard();
     Ok(())
-}
-
-/// The lease that was given.
-fn lease_of(answer: Result<Leased<'_>, BookFault>) -> Result<Lease, BookFault> {
-    match answer {
-        Ok(
-            Leased {
-                lease,
-                branch: _,
-                mark: _,
-                waiting: _,
-            },
-        ) => Ok(lease),
-        Err(fault) => Err(fault),
-    }
-}
-
-/// A lease that has to be given.
-pub fn given_lease(answer: Result<Leased<'_>, BookFault>) -> Result<Lease, Fail> {
-    match lease_of(answer) {
-        Ok(lease) => Ok(lease),
-        Err(_) => Err(Fail::from("no lease")),
-    }
 }
 
 /// The lease of these parts, whether or not the tested book gave it: of a second book, of a problem with an item and two options, where
@@ -113,23 +93,26 @@ fn leased(answer: Result<Leased<'_>, BookFault>) -> Option<u8> {
     }
 }
 
-/// The number of a refusal that gives a lease back, or 0.
-pub fn ended(answer: Result<(), Refused<BookFault, Lease>>) -> Option<u8> {
-    match answer {
-        Ok(()) => Some(0),
-        Err(Refused { fault, given }) => {
-            given.discard();
-            fault.number()
-        }
-    }
-}
-
 /// Leases any tile.
 fn lease_any(book: &mut Book<'_>, worker: u8) -> Result<Option<u8>, Fail> {
     match book.lease_any(worker % 32)? {
         Some(given) => Ok(leased(Ok(given))),
         None => Ok(Some(0)),
     }
+}
+
+/// The stretch of so many steps that begins so many steps after X1, as far as there are any.
+fn stretch_up_to<'p>(
+    alloc: Global,
+    problem: &'p Problem,
+    from: u32,
+    steps: u32,
+) -> Result<Stretch<'p>, Fail> {
+    let mut runner = whole(alloc, problem)?;
+    let _is_short = advance(&mut runner, from);
+    let _before = runner.take_stretch()?;
+    let _is_short = advance(&mut runner, steps);
+    Ok(runner.take_stretch()?)
 }
 
 /// Posts a stretch.
@@ -163,7 +146,7 @@ fn put_back(
     steps: u32,
 ) -> Result<Option<u8>, Fail> {
     let mut runner = whole(alloc, problem)?;
-    advance(&mut runner, steps);
+    advance(&mut runner, steps)?;
     Ok(number(book.put_back(worker % 32, id, runner.state())))
 }
 
@@ -184,7 +167,7 @@ pub fn make<'p>(
             Ok(post(book, stretch, lease(alloc, other, given)?))
         }
         Act::PostForeign(given, from, steps) => {
-            let stretch = stretch_of(alloc, other, from, steps)?;
+            let stretch = stretch_up_to(alloc, other, from, steps)?;
             Ok(post(book, stretch, lease(alloc, other, given)?))
         }
         Act::Split(given, choice) => {

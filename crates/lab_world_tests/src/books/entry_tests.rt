@@ -1,9 +1,9 @@
 //! The entries of a history, as they are read back.
 ghost use Rattle.std.specs.Prelude.{◌<◌, length};
 
-use crate::books::acts::{Act, make};
-use crate::books::setting::{OTHER, SMALL};
+use crate::books::acts::{Act, OTHER, make};
 use cover_problem::{Problem, read_cover};
+use drawn_problems::SMALL;
 use lab_book::{Book, BookFault, Call, CallKind, Entries, Entry, Grant, Mark, Path, Reply};
 use std::alloc::Global;
 use std::test::Fail;
@@ -187,7 +187,7 @@ fn count_right_anew(alloc: Global, problem: &Problem, other: &Problem) -> Result
 
 /// The same of the small problem.
 fn count_right_of_small(alloc: Global) -> Result<usize, Fail> {
-    let problem = read_cover(alloc, SMALL)?;
+    let problem = read_cover(alloc, SMALL.as_bytes())?;
     let other = read_cover(alloc, OTHER)?;
     count_right_anew(alloc, &problem, &other)
 }

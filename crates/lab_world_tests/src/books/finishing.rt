@@ -2,56 +2,10 @@
 
 use crate::books::acts::{Act, make};
 use cover_problem::Problem;
-use lab_book::{Book, Tile};
-use std::alloc::{AllocError, Global};
+use drawn_books::{has_tiles, tiles_of, visits_the_cover};
+use lab_book::Book;
+use std::alloc::Global;
 use std::test::Fail;
-use x_branches::KeptStretch;
-
-/// Copies of a book's tiles.
-pub fn tiles_of<'p>(alloc: Global, book: &Book<'p>) -> Result<Vec<Tile<'p>>, AllocError> {
-    let mut tiles = Vec::new(alloc);
-    for tile in book.tiles() {
-        tiles.push(tile.copy()?)?;
-    }
-    Ok(tiles)
-}
-
-/// Whether these are the same stretches.
-fn are_stretches(stretches: &[KeptStretch<'_>], others: &[KeptStretch<'_>]) -> bool {
-    if stretches.len() != others.len() {
-        return false;
-    }
-    for (stretch, other) in stretches.iter().zip(others) {
-        if !stretch.same(other) {
-            return false;
-        }
-    }
-    true
-}
-
-/// Whether a tile is another one, part by part.
-fn is_tile(tile: &Tile<'_>, other: &Tile<'_>) -> bool {
-    tile.id() == other.id()
-        && tile.branch().same(other.branch())
-        && tile.status() == other.status()
-        && tile.stop() == other.stop()
-        && tile.first_mark().same(other.first_mark())
-        && are_stretches(tile.stretches(), other.stretches())
-        && tile.mark().same(other.mark())
-}
-
-/// Whether a book's tiles are these.
-pub fn has_tiles(book: &Book<'_>, tiles: &[Tile<'_>]) -> bool {
-    if book.tiles().len() != tiles.len() {
-        return false;
-    }
-    for (tile, other) in book.tiles().iter().zip(tiles) {
-        if !is_tile(tile, other) {
-            return false;
-        }
-    }
-    true
-}
 
 /// Whether each call answers so; a refused one leaves the tiles as they were, and each adds an entry.
 fn answers<'p>(
@@ -86,11 +40,10 @@ pub struct Done {
 
 /// Whether a book visits 4 5 1 alone, or nothing.
 fn is_visited(book: &Book<'_>, has_visit: bool) -> Result<bool, Fail> {
-    let visits = book.visits()?;
     if has_visit {
-        return Ok(visits.len() == 1 && visits.list(0) == [4, 5, 1].as_slice());
+        return Ok(visits_the_cover(book)?);
     }
-    Ok(visits.len() == 0)
+    Ok(book.visits()?.len() == 0)
 }
 
 /// Whether a book is finished, and has this.

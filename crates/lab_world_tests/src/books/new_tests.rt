@@ -1,9 +1,9 @@
 //! Books of the whole run: what each call answers.
 
-use crate::books::acts::Act;
+use crate::books::acts::{Act, OTHER};
 use crate::books::finishing::{Done, finishes};
-use crate::books::setting::{OTHER, SMALL};
 use cover_problem::{Problem, read_cover};
+use drawn_problems::SMALL;
 use lab_book::Book;
 use std::alloc::Global;
 use std::test::Fail;
@@ -28,7 +28,7 @@ fn finishes_new<'p>(
 
 /// Whether the calls on a book of the small problem's run, with another problem beside it, finish it.
 fn finishes_small(alloc: Global, other: &[u8], rows: &[(Act, u8)]) -> Result<bool, Fail> {
-    let problem = read_cover(alloc, SMALL)?;
+    let problem = read_cover(alloc, SMALL.as_bytes())?;
     let other = read_cover(alloc, other)?;
     finishes_new(alloc, &problem, &other, rows)
 }

@@ -2,8 +2,9 @@
 
 use crate::books::acts::Act;
 use crate::books::finishing::{Done, finishes};
-use crate::books::setting::{SMALL, cut_of, state_at};
 use cover_problem::{Problem, read_cover};
+use drawn_books::cut_of;
+use drawn_problems::{SMALL, state_of};
 use lab_book::Book;
 use std::alloc::Global;
 use std::test::Fail;
@@ -39,7 +40,7 @@ fn resumed<'p>(
 ) -> Result<Result<Book<'p>, StartFault>, Fail> {
     let lo = cut_if_any(alloc, problem, opening.lo)?;
     let hi = cut_if_any(alloc, problem, opening.hi)?;
-    let state = state_at(alloc, opening.label, opening.path, Cursor::None)?;
+    let state = state_of(alloc, opening.label, opening.path, Cursor::None)?;
     match Book::resumed(alloc, problem, Branch { lo, hi }, state) {
         Ok(book) => Ok(Ok(book)),
         Err(Refused { fault, given: _ }) => Ok(Err(fault)),
@@ -62,7 +63,7 @@ fn finishes_resumed(
 
 /// Whether the calls on the book of the small problem that goes on there finish it.
 fn goes_on(alloc: Global, opening: Opening, rows: &[(Act, u8)], done: Done) -> Result<bool, Fail> {
-    let problem = read_cover(alloc, SMALL)?;
+    let problem = read_cover(alloc, SMALL.as_bytes())?;
     finishes_resumed(alloc, &problem, opening, rows, done)
 }
 
@@ -149,7 +150,7 @@ fn no_start(
 
 #[test]
 fn a_search_goes_on_within_its_branch(rt: HostRuntime) -> Result<(), Fail> {
-    let problem = read_cover(rt.alloc(), SMALL)?;
+    let problem = read_cover(rt.alloc(), SMALL.as_bytes())?;
     for (path, fault) in NO_STARTS {
         assert!(rt; no_start(rt.alloc(), &problem, path)? == Some(fault));
     }

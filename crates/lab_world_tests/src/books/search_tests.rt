@@ -1,10 +1,9 @@
 //! Searches of a book's tile by one runner, call by call: what is posted twice, taken out, beyond the tile's end, or by the lease of
 //! another book.
 
-use crate::books::acts::{ended, given_lease};
-use crate::books::finishing::{has_tiles, tiles_of};
-use crate::books::setting::{SMALL, advance, cut_of, whole};
 use cover_problem::{PlainTable, Problem, read_cover};
+use drawn_books::{advance, cut_of, given_lease, has_tiles, is_ended, tiles_of, whole};
+use drawn_problems::SMALL;
 use lab_book::{Book, BookFault, Lease, Leased, Posted};
 use std::alloc::Global;
 use std::process::Abort;
@@ -189,8 +188,8 @@ impl<'p> Search<'p> {
     /// Takes so many steps, all of which there have to be.
     fn advance(&mut self, steps: u32) -> bool {
         let unposted = self.runner.unposted();
-        advance(&mut self.runner, steps);
-        self.runner.unposted() == unposted.wrapping_add(steps)
+        let are_taken = advance(&mut self.runner, steps).is_ok();
+        are_taken && self.runner.unposted() == unposted.wrapping_add(steps)
     }
 
     /// Whether a row holds.
@@ -268,7 +267,7 @@ fn ends(alloc: Global, problem: &Problem, rows: &[Row], closes: bool) -> Result<
     let mut book = Book::new(alloc, problem)?;
     let lease = any_lease(book.lease_any(0)?)?;
     let held = searches(alloc, &mut book, &lease, rows);
-    let is_closed = ended(book.close(lease)) == Some(0);
+    let is_closed = is_ended(book.close(lease));
     Ok(held? && is_closed == closes)
 }
 
@@ -331,7 +330,7 @@ fn assert_searches(rt: &impl Abort, alloc: Global, problem: &Problem) -> Result<
 
 #[test]
 fn a_search_is_answered_call_by_call(rt: HostRuntime) -> Result<(), Fail> {
-    let problem = read_cover(rt.alloc(), SMALL)?;
+    let problem = read_cover(rt.alloc(), SMALL.as_bytes())?;
     assert_searches(&rt, rt.alloc(), &problem)
 }
 
@@ -359,7 +358,7 @@ fn parks(
     let mut own = Book::new(alloc, problem)?;
     let lease = any_lease(own.lease_any(0)?)?;
     let held = searches(alloc, book, &lease, rows);
-    let is_parked = ended(own.park(lease)) == Some(0);
+    let is_parked = is_ended(own.park(lease));
     Ok(held? && is_parked)
 }
 
@@ -371,7 +370,7 @@ fn is_stale(alloc: Global, problem: &Problem) -> Result<bool, Fail> {
 
 #[test]
 fn a_lease_of_another_book_is_stale(rt: HostRuntime) -> Result<(), Fail> {
-    let problem = read_cover(rt.alloc(), SMALL)?;
+    let problem = read_cover(rt.alloc(), SMALL.as_bytes())?;
     assert!(rt; is_stale(rt.alloc(), &problem)?);
     Ok(())
 }

@@ -1,10 +1,13 @@
 -- A branch is given up: `park`, `save` (a snapshot first), or `close` at its end.
 --
 -- Example: `park` at the start of the small problem answers `parked`. proofs/ActExamples.antt computes it.
-use Rattle.std.specs.Prelude.{ℕ, ◌==◌, List, Some, None, if◌then◌else◌}
+use Rattle.std.specs.Prelude.{ℕ, ◌==◌, List, Option, Some, None, if◌then◌else◌}
 use Rattle.text_lines.specs.Writing.{line_text}
+use Rattle.cover_problem.specs.Problem.{ProblemValue}
+use Rattle.x_branches.specs.Cut.{CutPath}
+use Rattle.x_branches.specs.Runner.{IsOf}
 use Rattle.x_texts.specs.declared.breakpoint.Break.{Break}
-use Rattle.x_snapshot.specs.Snapshot.{SnapshotValue, snapshot_with}
+use Rattle.x_snapshot.specs.Snapshot.{SnapshotValue, IsCutIfAny, snapshot_with}
 use Rattle.x_snapshot.specs.Writing.{snapshot_text}
 use Rattle.lab_book.specs.declared.fault.BookFault.TheVariants.{NotAtEnd}
 use Rattle.lab_book.specs.declared.entry.Call.TheVariants as call
@@ -29,6 +32,10 @@ park a = record { text = line_text (plain Parked); desk = desk (parked a) None }
 -- where the search stands, as a snapshot
 abbrev pub snapshot_of_worker : WorkerValue → List Break → SnapshotValue
 snapshot_of_worker w breaks = snapshot_with w.runner.problem (path_of w.runner.branch.lo) (path_of w.runner.branch.hi) w.runner.position breaks
+
+-- where a cut is a problem's, these choices are a cut of its search, if there are any
+abbrev pub AreChoicesOf : Option CutPath → Option (List ℕ) → Type 0
+AreChoicesOf cut choices = (p : ProblemValue) → IsOf p cut → IsCutIfAny p choices
 
 -- the text of that, after the number of its lines
 abbrev pub save_text : WorkerValue → List Break → List ℕ

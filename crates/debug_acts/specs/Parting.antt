@@ -46,6 +46,10 @@ split a level o =
     then answered (parted_line a.worker.runner (cut_at a.worker.runner level o) ∷ []) (parted a (cut_at a.worker.runner level o))
     else answered (runner_refusal (cut_refusal a.worker.runner level o) ∷ []) a
 
+-- the same, as a command
+abbrev pub splits : ℕ → ℕ → AtWork → WorkAnswer
+splits level o a = split a level o
+
 -- ---- `retract`
 
 -- the book, once it was asked for the last stretch of a worker's tile

@@ -2,7 +2,8 @@
 -- step (`stepped`), and what `step`, `run` and `back` answer and leave, in full or where memory runs out on the way.
 --
 -- Example: at its mark a worker is refused a step back, `refused debug 3 AtStart`. proofs/ActExamples.antt computes it.
-use Rattle.std.specs.Prelude.{ℕ, zero, suc, ◌≤◌, ◌≡◌, ◌⊎◌, ◌-◌, ◌==◌, nat_lt, true, if◌then◌else◌, List, [], ◌∷◌, ◌++◌, map, Option, Some, None}
+use Rattle.std.specs.Prelude.{ℕ, zero, suc, ◌≤◌, ◌≡◌, ◌⊎◌, ◌-◌, ◌==◌, nat_lt, true, if◌then◌else◌, List, [], ◌∷◌, ◌++◌, map, Option, Some, None, Result, OnErr}
+use Rattle.std.specs.Global.{Vec}
 use Rattle.cover_problem.specs.Problem.{ProblemValue}
 use Rattle.x_steps.specs.StateValue.{StateValue}
 use Rattle.x_steps.specs.declared.event.Event.{Event}
@@ -22,6 +23,7 @@ use Rattle.debug_language.specs.declared.fault.DebugFault.TheVariants.{AtEnd, At
 use Rattle.debug_language.specs.declared.words.Plain.TheVariants.{End}
 use Rattle.debug_language.specs.declared.words.Counted.TheVariants.{Moved}
 use Rattle.x_texts.specs.Words.{visit_words}
+use Rattle.x_texts.specs.Writes.{WritesLines, AddsLines}
 use Rattle.debug_views.specs.Breakpoints.{first_met, steps_to_break}
 use Rattle.debug_views.specs.Lines.{plain, counted, state_line, met, debug_refusal}
 use Rattle.debug_views.specs.Left.{IsEither}
@@ -109,6 +111,10 @@ state_on r n = after r.problem n r.position
 abbrev pub visits_on : RunnerValue → ℕ → List (List (List ℕ))
 visits_on r n = visit_lines r.problem r.position (state_on r n)
 
+-- and a text goes on with them
+abbrev pub WritesVisits : Vec ℕ → Vec ℕ → RunnerValue → ℕ → Type 0
+WritesVisits old new r n = WritesLines old new (visits_on r n)
+
 -- the lines of its visits up to the end of its branch
 abbrev pub visits_ahead : RunnerValue → List (List (List ℕ))
 visits_ahead r = visits_on r (steps_ahead r)
@@ -175,6 +181,10 @@ RunsOn b w c v breaks = Walks b w c v (run_count breaks w.runner)
 abbrev pub RunsSome : BookValue → WorkerValue → BookValue → WorkerValue → List Break → Type 0
 RunsSome b w c v breaks = WalksSome b w c v (run_count breaks w.runner)
 
+-- where a call has an error, they have gone some of them
+abbrev pub MayRun : {X E : Type 0} → Result X E → BookValue → WorkerValue → BookValue → WorkerValue → List Break → Type 0
+MayRun result b w c v breaks = OnErr result (RunsSome b w c v breaks)
+
 -- the breakpoint that was met, or else the end
 abbrev pub stop_line : List (List ℕ) → Option Break → List (List ℕ)
 stop_line names (Some b) = met names b
@@ -185,6 +195,10 @@ abbrev pub run_lines : List Break → RunnerValue → List (List (List ℕ))
 run_lines breaks r =
     if steps_ahead r == 0 then debug_refusal AtEnd ∷ [] else
     walk_lines r (run_count breaks r) ++ stop_line r.problem.names (run_met breaks r) ∷ []
+
+-- the text goes on with that answer
+abbrev pub AddsRun : {X E : Type 0} → Result X E → Vec ℕ → Vec ℕ → List Break → RunnerValue → Type 0
+AddsRun result old new breaks r = AddsLines result old new (run_lines breaks r)
 
 -- `run` with these breakpoints
 abbrev pub run : AtWork → List Break → WorkAnswer

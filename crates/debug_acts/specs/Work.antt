@@ -3,6 +3,8 @@
 --
 -- Example: where a step back is refused, at the mark, the book and the worker are left as they were. proofs/ActExamples.antt computes it.
 use Rattle.std.specs.Prelude.{ℕ, ◌≡◌, List, Result, OnOk, OnErr}
+use Rattle.std.specs.Global.{Vec}
+use Rattle.x_texts.specs.Writes.{AddsLines}
 use Rattle.lab_book.specs.Book.{BookValue}
 use Rattle.lab_world.specs.Worker.{WorkerValue}
 use Rattle.debug_views.specs.Left.{IsEither}
@@ -32,3 +34,7 @@ Does result b w c v command = OnOk result (work c v ≡ (command (work b w)).wor
 -- where it has an error, they are as they were, or as the command leaves them
 abbrev pub MayDo : {X E : Type 0} → Result X E → BookValue → WorkerValue → BookValue → WorkerValue → (AtWork → WorkAnswer) → Type 0
 MayDo result b w c v command = OnErr result (IsEither (work c v) (work b w) (command (work b w)).work)
+
+-- the text goes on with the lines that a command is answered
+abbrev pub AddsAnswer : {X E : Type 0} → Result X E → Vec ℕ → Vec ℕ → BookValue → WorkerValue → (AtWork → WorkAnswer) → Type 0
+AddsAnswer result old new b w command = AddsLines result old new (command (work b w)).lines

@@ -1,7 +1,7 @@
 //! A branch is parted, and its last posted stretch is walked again.
 ghost use Rattle.lab_world.specs.Worker.{HoldsTile};
-ghost use Rattle.debug_acts.specs.Work.{work, Does, MayDo};
-ghost use Rattle.debug_acts.specs.Parting.{retracted_lines, retract, rest_line, split};
+ghost use Rattle.debug_acts.specs.Work.{Does, MayDo, AddsAnswer};
+ghost use Rattle.debug_acts.specs.Parting.{retracted_lines, retract, rest_line, splits};
 ghost use Rattle.cover_problem.specs.Answers.{AddsLine};
 ghost use Rattle.x_texts.specs.Writes.{AddsLines};
 
@@ -32,7 +32,7 @@ pub fn retract<'p, T: Table>(
 ) -> Result<(), AllocError>
     requires holds { HoldsTile book.old worker.old }
     ensures made { Does result book.old worker.old book.new worker.new retract }
-    ensures text { AddsLines result text.old text.new (retract (work book.old worker.old)).lines }
+    ensures text { AddsAnswer result text.old text.new book.old worker.old retract }
     ensures left { MayDo result book.old worker.old book.new worker.new retract }
     ensures holds_on { HoldsTile book.new worker.new }
 {
@@ -72,9 +72,9 @@ pub fn split<'p, T: Table>(
     text: &mut Vec<u8>,
 ) -> Result<(), AllocError>
     requires holds { HoldsTile book.old worker.old }
-    ensures made { Does result book.old worker.old book.new worker.new (λ a. split a level option) }
-    ensures text { AddsLines result text.old text.new (split (work book.old worker.old) level option).lines }
-    ensures left { MayDo result book.old worker.old book.new worker.new (λ a. split a level option) }
+    ensures made { Does result book.old worker.old book.new worker.new (splits level option) }
+    ensures text { AddsAnswer result text.old text.new book.old worker.old (splits level option) }
+    ensures left { MayDo result book.old worker.old book.new worker.new (splits level option) }
     ensures holds_on { HoldsTile book.new worker.new }
 {
     let before = worker.runner().branch().copy()?;

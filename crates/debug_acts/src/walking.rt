@@ -1,9 +1,9 @@
 //! Steps onward and back.
 ghost use Rattle.std.specs.Prelude.{◌≡◌, ◌<◌, ◌≤◌, IfOk, OnOk, OnErr};
 ghost use Rattle.lab_world.specs.Worker.{HoldsTile};
-ghost use Rattle.debug_acts.specs.Walking.{stepped, IsNotStepped, next_visit, told_visit, Walks, StepsSome, visits_on, moved_lines, steps_ahead, step_count};
+ghost use Rattle.debug_acts.specs.Walking.{stepped, IsNotStepped, next_visit, told_visit, Walks, StepsSome, WritesVisits, moved_lines, steps_ahead, step_count};
 ghost use Rattle.debug_acts.specs.Work.{work};
-ghost use Rattle.x_texts.specs.Writes.{WritesLines, AddsLines};
+ghost use Rattle.x_texts.specs.Writes.{AddsLines};
 
 mod backward;
 mod onward;
@@ -80,7 +80,7 @@ pub(crate) fn walk_on<'p, T: Table>(
     ensures some { IfOk result (λ steps. 0 < steps) }
     ensures within { IfOk result (λ steps. steps ≤ step_count worker.old.runner most) }
     ensures made { IfOk result (λ steps. Walks book.old worker.old book.new worker.new steps) }
-    ensures text { IfOk result (λ steps. WritesLines text.old text.new (visits_on worker.old.runner steps)) }
+    ensures text { IfOk result (λ steps. WritesVisits text.old text.new worker.old.runner steps) }
     ensures left { OnErr result (StepsSome book.old worker.old book.new worker.new most) }
     ensures holds_on { HoldsTile book.new worker.new }
 {

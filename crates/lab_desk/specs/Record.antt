@@ -3,7 +3,7 @@
 --
 -- Example: worker 0 leases, then worker 1, for whom none waits, and then worker 0 parks: the notes of worker 0 are the entries 0 and 2. The
 -- numbers 1 1 1 1 tell the note of entry 1. proofs/DeskExamples.antt computes it.
-use Rattle.std.specs.Prelude.{◌≡◌, ℕ, ◌+◌, ◌-◌, ◌==◌, ◌⊎◌, List, [], ◌∷◌, ◌++◌, cond, drop, map, slice_index}
+use Rattle.std.specs.Prelude.{◌≡◌, ℕ, ◌+◌, ◌-◌, ◌==◌, ◌⊎◌, List, [], ◌∷◌, ◌++◌, cond, drop, map, slice_index, slice_get, option_map}
 use Rattle.std.specs.Prelude.{Option, MatchOption, Result, IfOk, IfErr, OnOk}
 use Rattle.cover_problem.specs.Problem.{ProblemValue}
 use Rattle.cover_problem.specs.declared.fault.Refused.{Refused}
@@ -49,6 +49,22 @@ pub record SheetValue : Type 0 where
 -- one note more, for which room was kept
 abbrev pub with_note : SheetValue → Noted → SheetValue
 with_note n note = record { list = n.list ++ note ∷ []; kept = n.kept - 1 }
+
+-- a note of the entry with an index joins the notes
+abbrev pub AddsNote : SheetValue → SheetValue → ℕ → Entry → Type 0
+AddsNote old new i e = new.list ≡ old.list ++ noted i e ∷ []
+
+-- the note at a place is of the entry with an index in a history
+abbrev pub TellsEntry : List Noted → ℕ → List Entry → ℕ → Type 0
+TellsEntry notes place history i = slice_get notes place ≡ option_map (noted i) (slice_get history i)
+
+-- where an entry tells that its call was done, this is true
+abbrev pub IfDone : Entry → Type 0 → Type 0
+IfDone e P = e.reply ≡ reply.Done → P
+
+-- where it tells that its call was refused, with whichever fault, this is true
+abbrev pub IfNotDone : Entry → Type 0 → Type 0
+IfNotDone e P = (f : BookFault) → e.reply ≡ reply.Refused f → P
 
 -- the entry of a call
 abbrev pub entry : ℕ → Call → Reply → Entry

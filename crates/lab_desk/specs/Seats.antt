@@ -4,7 +4,7 @@
 --
 -- Example: the seats 1 and 0 have all numbers below 2. Entries of the workers 0 and 1 are of workers below 2, and not below 1.
 -- proofs/DeskExamples.antt computes it.
-use Rattle.std.specs.Prelude.{◌≡◌, ◌<◌, ◌==◌, ℕ, nat_lt, Bool, List, [], slice_get, count_by, drop, true, Some}
+use Rattle.std.specs.Prelude.{◌≡◌, ◌<◌, ◌==◌, ℕ, nat_lt, Bool, List, [], slice_get, count_by, drop, length, true, Some}
 use Rattle.std.specs.List.{list_all}
 use Rattle.lab_book.specs.declared.entry.Entry.{Entry}
 use Rattle.lab_desk.specs.Record.{SeatValue, notes_of}
@@ -33,6 +33,10 @@ AreRecords from entries seats = (i : ℕ) (s : SeatValue) → slice_get seats i 
 abbrev pub AreRecordsFrom : ℕ → List Entry → List SeatValue → Type 0
 AreRecordsFrom from history seats = AreRecords from (drop from history) seats
 
+-- the same, from where these entries end that the history begins with
+abbrev pub AreRecordsAfter : List Entry → List Entry → List SeatValue → Type 0
+AreRecordsAfter opening history seats = AreRecordsFrom (length opening) history seats
+
 -- whether each entry is of a worker below n
 abbrev pub are_of_workers : ℕ → List Entry → Bool
 are_of_workers n entries = list_all (λ (e : Entry). nat_lt e.worker n) entries
@@ -40,3 +44,7 @@ are_of_workers n entries = list_all (λ (e : Entry). nat_lt e.worker n) entries
 -- each entry of a history, from an index on, is of a worker below n
 abbrev pub AreOfWorkers : ℕ → ℕ → List Entry → Type 0
 AreOfWorkers from n history = are_of_workers n (drop from history) ≡ true
+
+-- each entry of a history behind those that it begins with is of a worker who has one of n seats
+abbrev pub AreOfSeatsAfter : List Entry → ℕ → List Entry → Type 0
+AreOfSeatsAfter opening n history = AreOfWorkers (length opening) n history

@@ -7,7 +7,7 @@ ghost use Rattle.lab_book.specs.declared.entry.Entry.{Entry};
 ghost use Rattle.lab_book.specs.declared.entry.Call.TheVariants as calls;
 ghost use Rattle.lab_book.specs.Calls.{leased_reply, any_reply, CanBeSearched, back_to};
 ghost use Rattle.lab_desk.specs.Record.{NotesAnswer, NotesDone, NotesFault, NotesRefused, NotesPost, NotesPostFault, NotesSplit, NotesSplitFault, NotesRetract, KeepsRoomFor};
-ghost use Rattle.lab_desk.specs.Seats.{AreNewSeats, HaveAllNumbers, AreRecordsFrom, AreOfWorkers};
+ghost use Rattle.lab_desk.specs.Seats.{AreNewSeats, HaveAllNumbers, AreRecordsAfter, AreOfSeatsAfter};
 
 use crate::finishing::tell_all;
 use crate::locked::Locked;
@@ -361,8 +361,8 @@ impl<'p, L: Desking> Desk<'p, L> {
         ensures begins { IfOk result (λ b. take (length L.opening) b.history ≡ L.opening) }
         ensures number { OnOk result (vec_len seats ≡ self.entry.seats) }
         ensures all_there { OnOk result (HaveAllNumbers self.entry.seats seats.items) }
-        ensures notes { IfOk result (λ b. AreRecordsFrom (length L.opening) b.history seats.items) }
-        ensures workers { IfOk result (λ b. AreOfWorkers (length L.opening) self.entry.seats b.history) }
+        ensures notes { IfOk result (λ b. AreRecordsAfter L.opening b.history seats.items) }
+        ensures workers { IfOk result (λ b. AreOfSeatsAfter L.opening self.entry.seats b.history) }
         ensures refused { IfErr result (λ r. r.fault ≡ BookFault.SeatMismatch) }
         ensures desk_back { IfErr result (λ r. r.given.0 ≡ self.entry) }
         ensures seats_back { IfErr result (λ r. r.given.1 ≡ seats) }

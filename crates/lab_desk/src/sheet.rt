@@ -1,7 +1,7 @@
 //! Notes, with room kept for notes to come.
 ghost use Rattle.std.specs.Prelude.{◌≡◌, ◌≤◌, ◌<◌, ◌+◌, ◌-◌, ◌++◌, [], length, slice_get, option_map};
 ghost use Rattle.std.specs.Prelude.{vec_len, vec_capacity, OnOk, OnErr, IsTrue};
-ghost use Rattle.lab_desk.specs.Record.{noted, note_of, all_notes, with_note};
+ghost use Rattle.lab_desk.specs.Record.{note_of, all_notes, with_note, TellsEntry};
 
 use crate::seat::Noted;
 use lab_book::{Entries, Entry};
@@ -92,8 +92,7 @@ impl Sheet {
     pub fn tells(&self, row: &mut Row, place: usize, history: &Entries<'_>, index: usize) -> bool
         requires place { place < length self.now.list }
         requires index { index < length history.now }
-        ensures { IsTrue result → slice_get self.now.list place ≡
-            option_map (noted index) (slice_get history.now index) }
+        ensures { IsTrue result → TellsEntry self.now.list place history.now index }
     {
         let count = self.rows.len();
         if place >= count {

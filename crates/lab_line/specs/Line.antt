@@ -1,5 +1,5 @@
 -- The command line.
-use Rattle.std.specs.Prelude.{ℕ, string_bytes}
+use Rattle.std.specs.Prelude.{ℕ, string_bytes, Result, IfErr}
 use Rattle.byte_streams.specs.Stream.{Stream, Stays, Takes}
 use Rattle.polylab_engine.specs.Outcome.{no_memory}
 use Rattle.lab_line.specs.declared.line.LineFault.{LineFault}
@@ -16,3 +16,11 @@ abbrev pub IsTold : LineFault → Stream → Stream → Stream → Stream → Ty
 IsTold (Help text) w w' f f' = Takes w w' (string_bytes text) × Stays f f'
 IsTold (Usage text) w w' f f' = Stays w w' × Takes f f' (string_bytes text)
 IsTold OutOfMemory w w' f f' = Stays w w' × Takes f f' no_memory
+
+-- the same of a writer and faults of whichever kinds, by what a contract sees of them
+abbrev pub TellsNoJob : {O F : Type 0} → LineFault → (O → Stream) → (F → Stream) → O → O → F → F → Type 0
+TellsNoJob fault shown told w w' f f' = IsTold fault (shown w) (shown w') (told f) (told f')
+
+-- where the words of the command line name no job, it is told why
+abbrev pub TellsWhy : {X O F : Type 0} → Result X LineFault → (O → Stream) → (F → Stream) → O → O → F → F → Type 0
+TellsWhy asked shown told w w' f f' = IfErr asked (λ fault. TellsNoJob fault shown told w w' f f')

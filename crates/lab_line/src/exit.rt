@@ -2,7 +2,7 @@
 ghost use Rattle.std.specs.Prelude.{[], ◌∷◌, IfOk, IfErr, Contains, ◌≡◌};
 ghost use Rattle.byte_streams.specs.Stream.{Takes};
 ghost use Rattle.polylab_engine.specs.Ending.{IsProgramRun};
-ghost use Rattle.lab_line.specs.Line.{IsTold, status_of};
+ghost use Rattle.lab_line.specs.Line.{TellsNoJob, TellsWhy, status_of};
 
 use crate::line::LineFault;
 use byte_streams::{Sink, Source, write_whole};
@@ -19,10 +19,9 @@ fn write<S: Sink>(sink: &mut S, text: &[u8])
     let _ = write_whole(sink, text);
 }
 
-/// Tells why there is no job: a text of help goes to the writer, all else to the faults.
+/// TellsNoJob why there is no job: a text of help goes to the writer, all else to the faults.
 fn tell<O: Sink, F: Sink>(fault: &LineFault, writer: &mut O, faults: &mut F)
-    ensures { IsTold fault.now (O.stream writer.old) (O.stream writer.new)
-        (F.stream faults.old) (F.stream faults.new) }
+    ensures { TellsNoJob fault.now O.stream F.stream writer.old writer.new faults.old faults.new }
 {
     match fault {
         LineFault::Help(text) => write(writer, text.as_bytes()),
@@ -45,8 +44,7 @@ pub fn status<R: Threads + Wait + Sync, G: Gate, I: Source, O: Sink, F: Sink>(
     ensures ran { IfOk asked (λ job. IsProgramRun job (I.stream reader.old) (I.stream reader.new)
         (O.stream writer.old) (O.stream writer.new) (F.stream faults.old) (F.stream faults.new) result) }
     ensures refused { IfErr asked (λ fault. result ≡ status_of fault) }
-    ensures told { IfErr asked (λ fault. IsTold fault (O.stream writer.old) (O.stream writer.new)
-        (F.stream faults.old) (F.stream faults.new)) }
+    ensures told { TellsWhy asked O.stream F.stream writer.old writer.new faults.old faults.new }
     ensures unread { IfErr asked (λ _. I.stream reader.new ≡ I.stream reader.old) }
 {
     match asked {

@@ -8,7 +8,7 @@ ghost use Rattle.lab_book.specs.Posted.{AllClosed};
 ghost use Rattle.alike_books.specs.AlikeBooks.{held_tiles};
 ghost use Rattle.alike_books.specs.Searched as spec;
 ghost use Rattle.alike_books.specs.Searched.{ArePoolCalls, IsSearched};
-ghost use Rattle.lab_pool.specs.Pool.{GivenBack, OnlyHeld, IsDone, IfFault};
+ghost use Rattle.lab_pool.specs.Pool.{GivenBack, OnlyHeld, IsDone, IfFault, GivesBack};
 
 use crate::fault::PoolFault;
 use lab_book::{Book, CallKind, Entries};
@@ -96,8 +96,7 @@ pub(crate) fn answer<'p>(
     ensures finished { IfOk result (λ b. AllClosed b.tiles) }
     ensures done { OnOk result (IsDone from book.entry) }
     ensures workers { IfErr result (λ r. r.fault ≡ PoolFault.BadWorkerCount → ⊥) }
-    ensures book_back { IfErr result (λ r. (r.fault ≡ PoolFault.Mismatch → ⊥) →
-        r.given ≡ Some book.entry) }
+    ensures book_back { GivesBack result book.entry }
     ensures none_back { IfErr result (λ r. r.fault ≡ PoolFault.Mismatch → r.given ≡ None) }
     ensures free { IfErr result (λ r. IfSome r.given (λ b. leased_in b.tiles ≡ 0)) }
     ensures held { IfRefused result PoolFault.Held (IsDone from book.entry) }

@@ -1,5 +1,5 @@
 //! Workers over a desk.
-ghost use Rattle.std.specs.Prelude.{◌≡◌, ◌<◌, ◌≤◌, ◌↔◌, ◌⊎◌, [], None, IfOk, IfErr, OnOk, IfSome};
+ghost use Rattle.std.specs.Prelude.{◌≡◌, ◌<◌, ◌≤◌, ◌↔◌, [], None, IfOk, IfErr, OnOk, IfSome};
 ghost use Rattle.x_steps.specs.Answers.{IfRefused};
 ghost use Rattle.x_steps.specs.StateValue.{start};
 ghost use Rattle.x_branches.specs.Branch.{whole_run};
@@ -7,7 +7,7 @@ ghost use Rattle.lab_book.specs.Book.{waiting_in, leased_in, new_book};
 ghost use Rattle.lab_book.specs.Posted.{AllClosed};
 ghost use Rattle.alike_books.specs.AlikeBooks.{held_tiles};
 ghost use Rattle.alike_books.specs.Searched.{IsSearched};
-ghost use Rattle.lab_pool.specs.Pool.{GoesOn, GivenBack, OnlyHeld, IfFault};
+ghost use Rattle.lab_pool.specs.Pool.{GoesOn, GivenBack, OnlyHeld, IfFault, FaultWhere, IsBadCount};
 
 use crate::fault::PoolFault;
 use crate::gate::Gate;
@@ -154,8 +154,7 @@ pub fn run_pool_on<'p, R: Threads + Wait + Sync, G: Gate>(
     ensures finished { IfOk result (λ b. AllClosed b.tiles) }
     ensures none_held { OnOk result (held_tiles book.entry.tiles ≡ []) }
     ensures searched { IfOk result (λ b. IsSearched book.entry b) }
-    ensures bad_workers { IfErr result (λ r. r.fault ≡ PoolFault.BadWorkerCount ↔
-        ((workers ≡ 0) ⊎ (32 < workers))) }
+    ensures bad_workers { FaultWhere result PoolFault.BadWorkerCount (IsBadCount workers) }
     ensures given_back { IfErr result (λ r. IfSome r.given (λ b. GivenBack book.entry b)) }
     ensures none_back { IfErr result (λ r. r.given ≡ None ↔ (r.fault ≡ PoolFault.Mismatch)) }
     ensures held { IfFault result PoolFault.Held (λ b. OnlyHeld book.entry b) }

@@ -4,7 +4,7 @@
 --
 -- Example: of the small problem's new book worker 0 leases the tile of the whole run, and its runner is at the start. Moved to X2, it has a
 -- stretch from X1 to X2 to post; once that is posted its mark is X2 too. proofs/WorldExamples.antt computes it.
-use Rattle.std.specs.Prelude.{ℕ, ◌≡◌, ◌<◌, Bool, true, Option, Some, None, option_map, Result, Ok, Err, List, length}
+use Rattle.std.specs.Prelude.{ℕ, ◌≡◌, ◌<◌, Bool, true, Option, Some, None, option_map, Result, Ok, Err, IfErr, List, length}
 use Rattle.cover_problem.specs.Lists.{has}
 use Rattle.cover_problem.specs.Problem.{ProblemValue}
 use Rattle.x_steps.specs.StateValue.{StateValue}
@@ -233,3 +233,7 @@ RetractRefused old new x (Book f) = Refuses old new x.grant.worker (call.Retract
 abbrev pub WorkerSplitRefused : BookValue → BookValue → WorkerValue → ℕ → ℕ → WorkerFault → Type 0
 WorkerSplitRefused old new x level o (Runner f) = CutRefused x.runner level o f × (new ≡ old)
 WorkerSplitRefused old new x level o (Book f) = (has (untried_in x.runner level) o ≡ true) × (f ≡ OutOfMemory) × (new ≡ old)
+
+-- where a call has an error, it is such a refusal
+abbrev pub RefusesSplit : {X : Type 0} → Result X WorkerFault → BookValue → BookValue → WorkerValue → ℕ → ℕ → Type 0
+RefusesSplit result old new x level o = IfErr result (WorkerSplitRefused old new x level o)

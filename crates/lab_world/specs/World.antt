@@ -7,12 +7,13 @@
 -- one that waits, and the answer is the book's entry 0; then it leases again, and is `Busy`. It stands at the start, and worker 0 nowhere.
 -- proofs/WorldExamples.antt computes it.
 use Rattle.std.specs.Prelude.{ℕ, ◌≡◌, ◌<◌, ◌==◌, Option, Some, None, Result, IfOk, List, [], ◌∷◌, length, option_map, replicate, slice_set}
-use Rattle.std.specs.Prelude.{slice_index_or, if◌then◌else◌}
+use Rattle.std.specs.Prelude.{slice_index_or, if◌then◌else◌, IfSome, take, vec_len}
+use Rattle.std.specs.Global.{Vec}
 use Rattle.cover_problem.specs.Lists.{has}
 use Rattle.x_steps.specs.StateValue.{StateValue}
 use Rattle.x_steps.specs.StateView.{state_value}
 use Rattle.x_steps.specs.declared.event.Event.TheVariants as event
-use Rattle.x_steps.specs.Steps.{next, event_of}
+use Rattle.x_steps.specs.Steps.{next, event_of, covered_in}
 use Rattle.x_steps.specs.Before.{prev}
 use Rattle.x_branches.specs.declared.fault.RunnerFault.{RunnerFault}
 use Rattle.x_branches.specs.declared.fault.RunnerFault.TheVariants.{AtBranchEnd, AtMark, NothingUntried, NotUntried, OutsideBranch}
@@ -208,3 +209,15 @@ fresh b n = record { book = b; workers = replicate n None }
 -- where a worker stands
 abbrev pub state_of : WorldValue → ℕ → Option StateValue
 state_of v w = option_map (λ (x : WorkerValue). x.runner.position) (worker_at v.workers w)
+
+-- where worker w of a world has a tile, these items are covered where it stands
+abbrev pub AreCovered : WorldValue → ℕ → List ℕ → Type 0
+AreCovered v w items = IfSome (worker_at v.workers w) (λ (x : WorkerValue). items ≡ covered_in x.runner.problem x.runner.position)
+
+-- these are the replies to the first of these events, as many as there are
+abbrev pub Replied : WorldValue → List WorldEvent → Vec WorldReply → Type 0
+Replied v events replies = replies.items ≡ world_replies v (take (vec_len replies) events)
+
+-- and the world is as those events left it
+abbrev pub Played : WorldValue → List WorldEvent → Vec WorldReply → WorldValue → Type 0
+Played v events replies new = new ≡ played v (take (vec_len replies) events)

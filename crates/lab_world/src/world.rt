@@ -1,14 +1,13 @@
 //! Worlds: a book, and for each worker nothing or its lease with its runner.
-ghost use Rattle.std.specs.Prelude.{◌≡◌, ◌≤◌, ◌<◌, All, None, length, take, replicate, option_map, vec_len, is_some};
+ghost use Rattle.std.specs.Prelude.{◌≡◌, ◌≤◌, ◌<◌, All, None, length, replicate, option_map, is_some};
 ghost use Rattle.std.specs.Prelude.{IfOk, IfErr, IfSome, OnOk, OnErr};
 ghost use Rattle.cover_problem.specs.Answers.{Returns, ReturnsItems};
 ghost use Rattle.x_steps.specs.StateView.{state_value};
 ghost use Rattle.x_steps.specs.StateValue.{start};
-ghost use Rattle.x_steps.specs.Steps.{covered_in};
 ghost use Rattle.x_branches.specs.Runner.{IsRunner};
 ghost use Rattle.x_branches.specs.Branch.{whole_run};
 ghost use Rattle.lab_book.specs.Book.{new_book, leased_in};
-ghost use Rattle.lab_world.specs.World.{WorldValue, world_step, played, world_replies, worker_at, fresh, state_of, EachHolds};
+ghost use Rattle.lab_world.specs.World.{WorldValue, world_step, played, world_replies, worker_at, fresh, state_of, EachHolds, AreCovered, Replied, Played};
 
 use crate::event::{WorldEvent, WorldReply};
 use crate::turn::act;
@@ -114,8 +113,7 @@ impl<'p, T: Table> World<'p, T> {
         requires { w < length self.now.workers }
         ensures has { is_some result ≡ is_some (worker_at self.now.workers w) }
         ensures same_problem { IfSome result (λ t. T.problem_value t.now ≡ self.now.book.problem) }
-        ensures covered { IfSome result (λ t. IfSome (worker_at self.now.workers w) (λ x.
-            T.covered_list t.now ≡ covered_in x.runner.problem x.runner.position)) }
+        ensures covered { IfSome result (λ t. AreCovered self.now w (T.covered_list t.now)) }
     {
         match &self.workers[w as usize] {
             Some(worker) => Some(worker.runner().table()),
@@ -147,9 +145,8 @@ impl<'p, T: Table> World<'p, T> {
         requires { All (λ (e : WorldEvent). e.worker < length self.old.workers) events.now }
         ensures replies { ReturnsItems result (world_replies self.old events.now) }
         ensures world { OnOk result (self.new ≡ played self.old events.now) }
-        ensures first_replies { IfErr result (λ stopped.
-            stopped.replies.items ≡ world_replies self.old (take (vec_len stopped.replies) events.now)) }
-        ensures first_world { IfErr result (λ stopped. self.new ≡ played self.old (take (vec_len stopped.replies) events.now)) }
+        ensures first_replies { IfErr result (λ s. Replied self.old events.now s.replies) }
+        ensures first_world { IfErr result (λ s. Played self.old events.now s.replies self.new) }
     {
         let alloc = *self.workers.allocator();
         let Ok(mut replies) = Vec::with_capacity(alloc, events.len()) else {

@@ -1,6 +1,7 @@
 //! Classes of a few packings, counted by hand and by an independent program.
-ghost use Rattle.std.specs.Prelude.{◌≡◌, IfOk, map};
-ghost use Rattle.poly_place.specs.Chosen.{packing_value};
+ghost use Rattle.std.specs.Prelude.{map};
+ghost use Rattle.cover_problem.specs.Answers.{ReturnsItems};
+ghost use Rattle.poly_place.specs.Chosen.{packing_values};
 ghost use Rattle.poly_place.specs.Classes.{HaveOneRegion};
 
 use poly_place::{Compiled, Group, Packing, classes, compile, packing_of};
@@ -14,7 +15,7 @@ fn packings_of<'p>(
     compiled: &Compiled<'p>,
     paths: &[&[u32]],
 ) -> Result<Vec<Packing<'p>>, Fail>
-    ensures { IfOk result (λ packings. packings.items ≡ map (packing_value compiled.now) (map (λ path. path.now) paths.now)) }
+    ensures { ReturnsItems result (packing_values compiled.now (map (λ path. path.now) paths.now)) }
 {
     let mut packings = Vec::new(alloc);
     for path in paths {

@@ -1,14 +1,12 @@
 //! Where a search stands, as a snapshot.
 ghost use Rattle.std.specs.Prelude.{◌≡◌, true, IfOk, IfErr, OnOk};
 ghost use Rattle.cover_problem.specs.Answers.{Returns, Adds};
-ghost use Rattle.cover_problem.specs.Problem.{ProblemValue};
-ghost use Rattle.x_branches.specs.Runner.{IsOf};
 ghost use Rattle.x_texts.specs.Breaks.{are_breaks};
-ghost use Rattle.x_snapshot.specs.Snapshot.{choices_of, IsCutIfAny};
+ghost use Rattle.x_snapshot.specs.Snapshot.{choices_of};
 ghost use Rattle.lab_book.specs.Book.{path_of};
 ghost use Rattle.lab_world.specs.Worker.{HoldsTile};
 ghost use Rattle.debug_acts.specs.Work.{work};
-ghost use Rattle.debug_acts.specs.Giving.{snapshot_of_worker, save_text, parked, IsNotGiven};
+ghost use Rattle.debug_acts.specs.Giving.{snapshot_of_worker, save_text, parked, AreChoicesOf, IsNotGiven};
 
 use crate::giving::give_up;
 use cover_problem::{Problem, Table};
@@ -24,7 +22,7 @@ use x_texts::Break;
 /// The choices of a cut, if there is one, in memory of their own.
 fn path_of(alloc: Global, cut: &Option<Cut<'_>>) -> Result<Option<Vec<u32>>, AllocError>
     ensures path { IfOk result (λ path. choices_of path ≡ path_of cut.now) }
-    ensures cut { IfOk result (λ path. (p : ProblemValue) → IsOf p cut.now → IsCutIfAny p (choices_of path)) }
+    ensures cut { IfOk result (λ path. AreChoicesOf cut.now (choices_of path)) }
 {
     match cut {
         Some(cut) => Ok(Some(cut.path().to_vec(alloc)?)),

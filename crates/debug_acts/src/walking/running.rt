@@ -4,7 +4,7 @@ ghost use Rattle.std.specs.List.{list_all};
 ghost use Rattle.cover_problem.specs.Answers.{Returns, AddsLine};
 ghost use Rattle.x_texts.specs.Breaks.{is_break};
 ghost use Rattle.lab_world.specs.Worker.{HoldsTile};
-ghost use Rattle.debug_acts.specs.Walking.{RunsOn, RunsSome, run_count, run_met, run_visits, run_lines, stop_line, steps_ahead, visits_ahead, WalksToEnd, WalksTowardsEnd};
+ghost use Rattle.debug_acts.specs.Walking.{RunsOn, MayRun, AddsRun, run_count, run_met, run_visits, stop_line, steps_ahead, visits_ahead, WalksToEnd, WalksTowardsEnd};
 ghost use Rattle.x_texts.specs.Writes.{AddsLines};
 
 use crate::walking::{step_on, walk_on, write_moved};
@@ -57,7 +57,7 @@ fn walk_to_break<'p, T: Table>(
     ensures met { IfOk result (λ r. r.1 ≡ run_met breaks.now.keys worker.old.runner) }
     ensures made { OnOk result (RunsOn book.old worker.old book.new worker.new breaks.now.keys) }
     ensures text { AddsLines result text.old text.new (run_visits breaks.now.keys worker.old) }
-    ensures left { OnErr result (RunsSome book.old worker.old book.new worker.new breaks.now.keys) }
+    ensures left { MayRun result book.old worker.old book.new worker.new breaks.now.keys }
     ensures holds_on { HoldsTile book.new worker.new }
 {
     book.is_sound();
@@ -91,7 +91,7 @@ fn walk_to_stop<'p, T: Table>(
     ensures met { IfOk result (λ r. r.1 ≡ run_met breaks.now.keys worker.old.runner) }
     ensures made { OnOk result (RunsOn book.old worker.old book.new worker.new breaks.now.keys) }
     ensures text { AddsLines result text.old text.new (run_visits breaks.now.keys worker.old) }
-    ensures left { OnErr result (RunsSome book.old worker.old book.new worker.new breaks.now.keys) }
+    ensures left { MayRun result book.old worker.old book.new worker.new breaks.now.keys }
     ensures holds_on { HoldsTile book.new worker.new }
 {
     if breaks.is_empty() {
@@ -123,8 +123,8 @@ pub fn run<'p, T: Table>(
     requires holds { HoldsTile book.old worker.old }
     requires breaks { list_all (is_break book.old.problem) breaks.now.keys ≡ true }
     ensures made { OnOk result (RunsOn book.old worker.old book.new worker.new breaks.now.keys) }
-    ensures text { AddsLines result text.old text.new (run_lines breaks.now.keys worker.old.runner) }
-    ensures left { OnErr result (RunsSome book.old worker.old book.new worker.new breaks.now.keys) }
+    ensures text { AddsRun result text.old text.new breaks.now.keys worker.old.runner }
+    ensures left { MayRun result book.old worker.old book.new worker.new breaks.now.keys }
     ensures holds_on { HoldsTile book.new worker.new }
 {
     book.is_sound();

@@ -1,7 +1,6 @@
 //! Noting and counting the entry of a call, or its refusal.
-ghost use Rattle.std.specs.Prelude.{◌≡◌, ◌<◌, ◌+◌, ◌-◌, ◌↔◌, ◌++◌, ◌∷◌, [], IsTrue, OnErr, OnOk};
-ghost use Rattle.lab_book.specs.declared.entry.Reply.TheVariants as replies;
-ghost use Rattle.lab_desk.specs.Record.{noted, HasEntry};
+ghost use Rattle.std.specs.Prelude.{◌≡◌, ◌<◌, ◌+◌, ◌-◌, ◌↔◌, IsTrue, OnErr, OnOk};
+ghost use Rattle.lab_desk.specs.Record.{HasEntry, AddsNote, IfDone, IfNotDone};
 
 use crate::seat::Noted;
 use crate::sheet::Sheet;
@@ -44,7 +43,7 @@ pub(crate) fn note<L: Ledger>(
 )
     requires room { 0 < notes.old.kept }
     requires share { 0 < share.old.parts }
-    ensures notes { notes.new.list ≡ notes.old.list ++ noted index entry ∷ [] }
+    ensures notes { AddsNote notes.old notes.new index entry }
     ensures count { count.new.total ≡ count.old.total + 1 }
     ensures share { share.new.amount ≡ share.old.amount + 1 }
     ensures parts { share.new.parts ≡ share.old.parts }
@@ -66,7 +65,7 @@ pub(crate) fn note_refusal<L: Ledger>(
 )
     requires room { 0 < notes.old.kept }
     requires share { 0 < share.old.parts }
-    ensures notes { HasEntry fault.now → notes.new.list ≡ notes.old.list ++ noted index entry ∷ [] }
+    ensures notes { HasEntry fault.now → AddsNote notes.old notes.new index entry }
     ensures count { HasEntry fault.now → count.new.total ≡ count.old.total + 1 }
     ensures share { HasEntry fault.now → share.new.amount ≡ share.old.amount + 1 }
     ensures notes_kept { fault.now ≡ BookFault.OutOfMemory → notes.new.list ≡ notes.old.list }
@@ -94,10 +93,8 @@ pub(crate) fn keep_for_end(
 ) -> Result<(), AllocError>
     ensures list { notes.new.list ≡ notes.old.list }
     ensures some { OnOk result (0 < notes.new.kept) }
-    ensures ends { entry.now.reply ≡ replies.Done →
-        OnOk result (notes.new.kept - 1 ≡ notes.old.kept - 1) }
-    ensures refused { (f : BookFault) → entry.now.reply ≡ replies.Refused f →
-        OnOk result (notes.new.kept ≡ notes.old.kept + 1) }
+    ensures ends { IfDone entry.now (OnOk result (notes.new.kept - 1 ≡ notes.old.kept - 1)) }
+    ensures refused { IfNotDone entry.now (OnOk result (notes.new.kept ≡ notes.old.kept + 1)) }
     ensures unchanged { OnErr result (notes.new ≡ notes.old) }
 {
     match entry.reply() {

@@ -56,7 +56,7 @@ fn wanted_place(book: &Book<'_>, wanted: Wanted, id: u64) -> Option<usize>
 fn asked<'p>(book: &mut Book<'p>, w: u8, id: u64, wanted: Wanted) -> Result<Leased<'p>, BookFault>
     requires { w ≤ 31 }
     ensures made { IfOk result (Leases book.old book.new w (lease_call wanted id)) }
-    ensures refused { IfErr result (λ f. Refuses book.old book.new w (lease_call wanted id) f) }
+    ensures refused { IfErr result (Refuses book.old book.new w (lease_call wanted id)) }
 {
     match wanted {
         Wanted::Waiting => book.lease(w, id),
@@ -142,7 +142,7 @@ impl<'p, T: Table> Worker<'p, T> {
         ensures book { OnOk result (book.new ≡ book_step book.old w (lease_call wanted id)) }
         ensures worker { IfOk result (λ x. Some x ≡ leased_by book.old w (lease_call wanted id)) }
         ensures holds { IfOk result (λ x. HoldsTile book.new x) }
-        ensures refused { IfErr result (λ f. Refuses book.old book.new w (lease_call wanted id) f) }
+        ensures refused { IfErr result (Refuses book.old book.new w (lease_call wanted id)) }
     {
         let Some(place) = wanted_place(book, wanted, id) else {
             return Err(refusal(asked(book, w, id, wanted)));

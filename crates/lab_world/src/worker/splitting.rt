@@ -3,7 +3,7 @@ ghost use Rattle.std.specs.Prelude.{◌≡◌, true, IfOk, IfErr, OnOk, OnErr};
 ghost use Rattle.cover_problem.specs.Lists.{has};
 ghost use Rattle.x_branches.specs.Refusals.{untried_in};
 ghost use Rattle.lab_book.specs.declared.entry.Reply.TheVariants as replies;
-ghost use Rattle.lab_world.specs.Worker.{HoldsTile, WorkerSplitRefused, book_after_split, shortened_at, AnswersSplit};
+ghost use Rattle.lab_world.specs.Worker.{HoldsTile, RefusesSplit, book_after_split, shortened_at, AnswersSplit};
 
 use crate::fault::WorkerFault;
 use crate::worker::Worker;
@@ -26,7 +26,7 @@ impl<'p, T: Table> Worker<'p, T> {
         ensures book { OnOk result (book.new ≡ book_after_split book.old self.old level option) }
         ensures reply { IfOk result (AnswersSplit book.old self.old level option) }
         ensures worker { OnOk result (self.new ≡ shortened_at self.old level option) }
-        ensures refused { IfErr result (WorkerSplitRefused book.old book.new self.old level option) }
+        ensures refused { RefusesSplit result book.old book.new self.old level option }
         ensures unchanged { OnErr result (self.new ≡ self.old) }
         ensures holds { HoldsTile book.new self.new }
     {

@@ -2,6 +2,8 @@
 ghost use Rattle.std.specs.Prelude.{◌≡◌};
 ghost use Rattle.debug_language.specs.Question.{question_of};
 
+use crate::reading::is_word;
+
 /// A question: the answer shows something, and nothing changes.
 #[derive(Clone, Copy, Debug, PartialEq, Eq)]
 pub enum Question {
@@ -24,14 +26,20 @@ impl Question {
     pub(crate) fn of_word(word: &[u8]) -> Option<Question>
         ensures { result ≡ question_of word.now }
     {
-        match word {
-            b"show" => Some(Question::Show),
-            b"untried" => Some(Question::Untried),
-            b"branches" => Some(Question::Branches),
-            b"visits" => Some(Question::Visits),
-            b"steps" => Some(Question::Steps),
-            b"levels" => Some(Question::Levels),
-            _ => None,
+        if is_word(word, b"show") {
+            Some(Question::Show)
+        } else if is_word(word, b"untried") {
+            Some(Question::Untried)
+        } else if is_word(word, b"branches") {
+            Some(Question::Branches)
+        } else if is_word(word, b"visits") {
+            Some(Question::Visits)
+        } else if is_word(word, b"steps") {
+            Some(Question::Steps)
+        } else if is_word(word, b"levels") {
+            Some(Question::Levels)
+        } else {
+            None
         }
     }
 }

@@ -1,7 +1,7 @@
 //! Notes, with room kept for notes to come.
 ghost use Rattle.std.specs.Prelude.{◌≡◌, ◌≤◌, ◌<◌, ◌+◌, ◌-◌, ◌++◌, [], length, slice_get, option_map};
 ghost use Rattle.std.specs.Prelude.{vec_len, vec_capacity, OnOk, OnErr, IsTrue};
-ghost use Rattle.lab_desk.specs.Record.{note_of, all_notes, with_note, TellsEntry};
+ghost use Rattle.lab_desk.specs.Record.{noted, note_of, all_notes, with_note, TellsEntry};
 
 use crate::seat::Noted;
 use lab_book::{Entries, Entry};

@@ -19,7 +19,7 @@ fn write<S: Sink>(sink: &mut S, text: &[u8])
     let _ = write_whole(sink, text);
 }
 
-/// TellsNoJob why there is no job: a text of help goes to the writer, all else to the faults.
+/// Tells why there is no job: a text of help goes to the writer, all else to the faults.
 fn tell<O: Sink, F: Sink>(fault: &LineFault, writer: &mut O, faults: &mut F)
     ensures { TellsNoJob fault.now O.stream F.stream writer.old writer.new faults.old faults.new }
 {

@@ -14,6 +14,7 @@ use Rattle.byte_streams.specs.Stream.{Stream, Takes}
 use Rattle.lab_book.specs.Book.{outcome}
 use Rattle.lab_pool.specs.declared.fault.PoolFault.TheVariants.{Held}
 use Rattle.debug_language.specs.Reading.{command_from, engine_from}
+use Rattle.x_debug.specs.Questions.{question_lines}
 use Rattle.x_debug.specs.Commands.{answer}
 use Rattle.debug_script.specs.declared.fault.RepliesFault.TheVariants as replies
 use Rattle.debug_script.specs.Replies.{exchange, debug_replies}
@@ -62,7 +63,7 @@ none_asked = refl
 -- ---- specs/Debugged.antt
 
 replied : debug_output ((codes "branches" ++ 10 ∷ []) ∷ []) small ≡ codes "branch start to end leased" ++ 10 ∷ []
-unfolding debug_output debug_replies exchange engine_from command_from answer outcome
+unfolding debug_output debug_replies exchange engine_from command_from answer question_lines outcome
 replied = refl
 
 pool_failed : job_fault (replies.Pool Held) ≡ faults.Pool Held

@@ -90,9 +90,6 @@ module _ (p : ProblemValue) (active : ℕ → Bool) (problem : IsProblem p) (t t
   last_one : Follows (t j) z 0
   last_one = last_to_head (t j) (length p.options) within
 
-  u : ℕ
-  u = up_at es j
-
   u_is : up_at es j ≡ node_index p j z
   u_is = (g.rings j pos le z 0 last_one).1
 

@@ -1,6 +1,5 @@
 -- Going round an option from one of its places: what is hidden, or has come back, at each turn.
 use Rattle.std.proofs.Common.{◌≡◌, ℕ, suc, ◌+◌, ◌-◌, ◌<◌, ◌≤◌, ◌⊎◌, ◌==◌, nat_lt, cond, true, false, inl, inr, List, refl, sym, ap, ◌∙◌, subst, arith, if◌then◌else◌}
-use Rattle.std.proofs.lemmas.Bool.{lt-ltb, le-ltb}
 use Rattle.std.proofs.lemmas.Bool.Decides.{eqb_tells}
 use Rattle.cover_links.specs.declared.entry.Entry.{Entry}
 use Rattle.cover_links.specs.Entries.{option_start, option_end}
@@ -164,58 +163,6 @@ module _ (whole es : List Entry) (p start end q : ℕ) (other : q ≡ p → ⊥)
     hides_on (inl h) = goes_after h
     hides_on (inr h) = goes_before h
 
-    fewer_after : HidesAfter whole es p start end q → turns_to_hide p start end to < turns_to_hide p start end q
-    fewer_after h = by_equal (q + 1) end at_end inside
-      where
-        now : turns_to_hide p start end q ≡ (end - q) + (p - start)
-        now = rw (lt-ltb p q h.above) refl
-
-        at_end : ((q + 1) == end) ≡ true → q + 1 ≡ end → turns_to_hide p start end to < turns_to_hide p start end q
-        at_end t e =
-            let here : to ≡ start = at_to ∙ (rw t refl) in
-            let turns : turns_to_hide p start end to ≡ p - start = ap (turns_to_hide p start end) here ∙ (rw (le-ltb p start h.low) refl) in
-            let b = h.below in omega (arith, now, turns)
-
-        inside : ((q + 1) == end) ≡ false → (q + 1 ≡ end → ⊥) → turns_to_hide p start end to < turns_to_hide p start end q
-        inside t e =
-            let here : to ≡ q + 1 = at_to ∙ (rw t refl) in
-            let above : p < q + 1 = (let a = h.above in omega arith) in
-            let turns : turns_to_hide p start end to ≡ (end - (q + 1)) + (p - start) = ap (turns_to_hide p start end) here ∙ (rw (lt-ltb p (q + 1) above) refl) in
-            let b = h.below in omega (arith, now, turns)
-
-    fewer_before : HidesBefore whole es p start end q → turns_to_hide p start end to < turns_to_hide p start end q
-    fewer_before h = by_equal (q + 1) end at_end inside
-      where
-        sooner : q < p
-        sooner = let l = h.high in let k : (q ≡ p → ⊥) = other in omega arith
-
-        now : turns_to_hide p start end q ≡ p - q
-        now = rw (le-ltb p q h.high) refl
-
-        at_end : ((q + 1) == end) ≡ true → q + 1 ≡ end → turns_to_hide p start end to < turns_to_hide p start end q
-        at_end t e = let l = sooner in let w = h.within in absurd (omega arith)
-
-        inside : ((q + 1) == end) ≡ false → (q + 1 ≡ end → ⊥) → turns_to_hide p start end to < turns_to_hide p start end q
-        inside t e =
-            let here : to ≡ q + 1 = at_to ∙ (rw t refl) in
-            let l = sooner in
-            let high : q + 1 ≤ p = omega arith in
-            let turns : turns_to_hide p start end to ≡ p - (q + 1) = ap (turns_to_hide p start end) here ∙ (rw (le-ltb p (q + 1) high) refl) in
-            omega (arith, now, turns, l)
-
-    pub hides_fewer : Hides whole es p start end q → turns_to_hide p start end to < turns_to_hide p start end q
-    hides_fewer (inl h) = fewer_after h
-    hides_fewer (inr h) = fewer_before h
-
-pub hides_end : (whole es : List Entry) (p start end q : ℕ) → q ≡ p → Hides whole es p start end q → es ≡ whole
-hides_end whole es p start end q e (inl h) = let a = h.above in absurd (omega arith)
-hides_end whole es p start end q e (inr h) = let none : p - q ≡ 0 = omega arith in sym (ap (λ n. run_hidden es q n) none) ∙ h.rest
-
--- the place to hide has one after it
-pub hides_below : (whole es : List Entry) (p start end q : ℕ) → Hides whole es p start end q → q < end
-hides_below whole es p start end q (inl h) = h.below
-hides_below whole es p start end q (inr h) = let l = h.high in let w = h.within in omega arith
-
 -- ---- coming back
 
 -- q comes before p: the nodes after q and before p are back
@@ -241,27 +188,6 @@ turns_to_show p start end q = cond (nat_lt q p) ((q - start) + (end - p)) (q - p
 -- at the last place nothing after it has come back
 at_last : (fs : List Entry) (end : ℕ) → 0 < end → fs ≡ run_unhidden fs (suc (end - 1)) (end - suc (end - 1))
 at_last fs end some = let none : end - suc (end - 1) ≡ 0 = omega arith in sym (ap (λ n. run_unhidden fs (suc (end - 1)) n) none)
-
-pub shows_begin : (es : List Entry) (p start end q : ℕ) → start ≤ p → p < end → q ≡ before_place p start end → Shows es es p start end q
-shows_begin es p start end q low within at_q = by_equal p start at_start inside
-  where
-    at_start : (p == start) ≡ true → p ≡ start → Shows es es p start end q
-    at_start t e =
-        let here : q ≡ end - 1 = at_q ∙ (rw t refl) in
-        let none : p - start ≡ 0 = omega arith in
-        inr (record {
-          begin = low;
-          low = omega arith;
-          high = omega arith;
-          so_far = at_last es end (omega arith) ∙ sym (ap (λ n. run_unhidden (run_unhidden es start n) (suc (end - 1)) (end - suc (end - 1))) none) ∙ ap (λ k. run_unhidden (run_unhidden es start (p - start)) (suc k) (end - suc k)) (sym here);
-        })
-
-    inside : (p == start) ≡ false → (p ≡ start → ⊥) → Shows es es p start end q
-    inside t e =
-        let here : q ≡ p - 1 = at_q ∙ (rw t refl) in
-        let k : (p ≡ start → ⊥) = e in
-        let none : p - suc q ≡ 0 = omega arith in
-        inl (record { low = omega arith; high = omega arith; within = within; so_far = sym (ap (λ n. run_unhidden es (suc q) n) none) })
 
 module _ (old es : List Entry) (p start end q : ℕ) (other : q ≡ p → ⊥) where
   pub shows_can : CanUnhide old p → start ≡ option_start old p → end ≡ option_end old p → Shows old es p start end q → CanUnhideNode es q
@@ -328,59 +254,7 @@ module _ (old es : List Entry) (p start end q : ℕ) (other : q ≡ p → ⊥) w
     shows_on (inl h) = back_before h
     shows_on (inr h) = back_after h
 
-    fewer_back : ShowsBefore old es p start end q → turns_to_show p start end to < turns_to_show p start end q
-    fewer_back h = by_equal q start at_start inside
-      where
-        now : turns_to_show p start end q ≡ (q - start) + (end - p)
-        now = rw (lt-ltb q p h.high) refl
-
-        at_start : (q == start) ≡ true → q ≡ start → turns_to_show p start end to < turns_to_show p start end q
-        at_start t e =
-            let here : to ≡ end - 1 = at_to ∙ (rw t refl) in
-            let w = h.within in
-            let last : p ≤ end - 1 = omega arith in
-            let turns : turns_to_show p start end to ≡ end - 1 - p = ap (turns_to_show p start end) here ∙ (rw (le-ltb (end - 1) p last) refl) in
-            omega (arith, now, turns)
-
-        inside : (q == start) ≡ false → (q ≡ start → ⊥) → turns_to_show p start end to < turns_to_show p start end q
-        inside t e =
-            let here : to ≡ q - 1 = at_to ∙ (rw t refl) in
-            let k : (q ≡ start → ⊥) = e in
-            let l = h.low in let m = h.high in
-            let sooner : q - 1 < p = omega arith in
-            let turns : turns_to_show p start end to ≡ (q - 1 - start) + (end - p) = ap (turns_to_show p start end) here ∙ (rw (lt-ltb (q - 1) p sooner) refl) in
-            omega (arith, now, turns)
-
-    fewer_on : ShowsAfter old es p start end q → turns_to_show p start end to < turns_to_show p start end q
-    fewer_on h = by_equal q start at_start inside
-      where
-        later : p < q
-        later = let l = h.low in let k : (q ≡ p → ⊥) = other in omega arith
-
-        now : turns_to_show p start end q ≡ q - p
-        now = rw (le-ltb q p h.low) refl
-
-        at_start : (q == start) ≡ true → q ≡ start → turns_to_show p start end to < turns_to_show p start end q
-        at_start t e = let l = later in let b = h.begin in absurd (omega arith)
-
-        inside : (q == start) ≡ false → (q ≡ start → ⊥) → turns_to_show p start end to < turns_to_show p start end q
-        inside t e =
-            let here : to ≡ q - 1 = at_to ∙ (rw t refl) in
-            let l = later in
-            let low : p ≤ q - 1 = omega arith in
-            let turns : turns_to_show p start end to ≡ q - 1 - p = ap (turns_to_show p start end) here ∙ (rw (le-ltb (q - 1) p low) refl) in
-            omega (arith, now, turns, l)
-
-    pub shows_fewer : Shows old es p start end q → turns_to_show p start end to < turns_to_show p start end q
-    shows_fewer (inl h) = fewer_back h
-    shows_fewer (inr h) = fewer_on h
-
 pub shows_end : (old es : List Entry) (p start end q : ℕ) → q ≡ p → start ≡ option_start old p → end ≡ option_end old p → Shows old es p start end q → es ≡ unhidden old p
 unfolding unhidden before_unhidden
 shows_end old es p start end q e s f (inl h) = let l = h.high in absurd (omega arith)
 shows_end old es p start end q e s f (inr h) = h.so_far ∙ (λ j. run_unhidden (run_unhidden old (s j) (p - s j)) (suc (e j)) (f j - suc (e j)))
-
--- where the loop stands lies in the option
-pub shows_low : (old es : List Entry) (p start end q : ℕ) → Shows old es p start end q → start ≤ q
-shows_low old es p start end q (inl h) = h.low
-shows_low old es p start end q (inr h) = let l = h.low in let b = h.begin in omega arith

@@ -42,9 +42,6 @@ module _ (b : BookValue) (x : WorkerValue) (tiling : IsTiling b.problem b.branch
   own_end : tile_end (own b x tiling h) ≡ end
   own_end = ap (λ (c : Branch). end_of c.hi) (sym h.tile.tile.branch)
 
-  mark_fits : Fits x.runner.problem x.runner.mark
-  mark_fits = k.stretch.fits
-
   here_fits : Fits x.runner.problem x.runner.position
   here_fits = reached_fits x.runner.problem x.runner.mark x.runner.position _ k.stretch.fits k.stretch.reaches
 

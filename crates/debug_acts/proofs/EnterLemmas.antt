@@ -1,5 +1,5 @@
 -- What a call that leases makes of a book and of a worker, and what is answered.
-use Rattle.std.proofs.Common.{◌≡◌, ℕ, ◌<◌, ◌⊎◌, inl, inr, Bool, true, false, Option, Some, None, List, ◌++◌, length, take, refl, sym, ◌∙◌, ap, ap₂, subst, if◌then◌else◌}
+use Rattle.std.proofs.Common.{◌≡◌, ℕ, ◌<◌, inl, inr, Bool, true, false, Option, Some, None, List, ◌++◌, length, take, refl, sym, ◌∙◌, ap, subst, if◌then◌else◌}
 use Rattle.std.proofs.Math.Seq.{take-append_seam}
 use Rattle.text_lines.specs.Writing.{line_text, text_of}
 use Rattle.lab_book.specs.declared.fault.BookFault.{BookFault}
@@ -56,11 +56,6 @@ module _ (b : BookValue) (i : ℕ) (tiling : IsTiling b.problem b.branch b.first
       let back : cut ≡ old = rw (t, l, e) (take-append_seam old line) in
       m ∙ ap (λ s. s ++ line_text (book_refusal f)) back
       ∙ ap (λ s. old ++ s) (one_line (book_refusal f) ∙ ap (λ (r : Reply). text_of (refusal_or (stand_lines (lent_worker b.problem r)) r)) r.1.reply)
-
-  -- and no tile is leased
-  pub refused_made : (left : BookValue) (f : BookFault) → Refuses b left 0 (enter_call tile) f → (left ≡ b) ⊎ (desk left None ≡ (lent_by b (enter_call tile)).desk)
-  refused_made left f (inl r) = inl r.1
-  refused_made left f (inr r) = inr (ap₂ desk r.1.book (ap (lent_worker b.problem) r.1.reply))
 
   -- the worker holds the tile
   pub lent_seat : IsSeat (book_step b 0 (enter_call tile)) 0 (lent_worker b.problem (outcome b 0 (enter_call tile)).reply)

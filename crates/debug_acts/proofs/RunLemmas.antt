@@ -246,10 +246,6 @@ run_count_none [] r e some =
     last ∙ stops_at r [] (steps_ahead r - 1) (omega arith) (λ i a b. refl) (λ l. absurd (omega arith))
 run_count_none (b ∷ bs) r e some = absurd (omega arith)
 
-pub none_is_met : (breaks : List Break) (p : ProblemValue) (s : StateValue) → length breaks ≡ 0 → None ≡ first_met p breaks s
-none_is_met [] p s e = refl
-none_is_met (b ∷ bs) p s e = absurd (omega arith)
-
 pub end_made : (breaks : List Break) (a b : AtWork) → length breaks ≡ 0 → 0 < steps_ahead a.worker.runner → b ≡ forward (steps_ahead a.worker.runner) a
     → b ≡ forward (run_count breaks a.worker.runner) a
 end_made breaks a b e some h = h ∙ ap (λ n. forward n a) (run_count_none breaks a.worker.runner e some)

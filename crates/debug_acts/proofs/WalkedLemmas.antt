@@ -151,13 +151,6 @@ module _ (a : AtWork) (n : ℕ) (b : AtWork) (old new : List ℕ) (w : Walked a 
   pub all_counted : n ≤ most → (b.worker.runner.position ≡ end_of b.worker.runner.branch.hi) → n ≡ step_count a.worker.runner most
   all_counted l e = let h = ended a n b old new w e in h ∙ least_second most (steps_ahead a.worker.runner) (omega arith)
 
-  -- where as many are gone as were asked for, there were as many
-  pub most_counted : n ≡ most → n ≡ step_count a.worker.runner most
-  most_counted e =
-      let up = least_both n most (steps_ahead a.worker.runner) (omega arith) w.within in
-      let down = least_first most (steps_ahead a.worker.runner) in
-      omega arith
-
   -- what can be gone of those that are left to ask for
   pub left_counted : (m : ℕ) → n ≤ most → m ≤ step_count b.worker.runner (most - n) → n + m ≤ step_count a.worker.runner most
   left_counted m l h =

@@ -12,10 +12,6 @@ use Rattle.debug_language.specs.Replies.{covered_words}
 
 -- *lists that may be empty*
 
-pub covered_none : (names : List (List ℕ)) (items : List ℕ) → length items ≡ 0 → covered_words names items ≡ codes "covered" ∷ codes "-" ∷ []
-covered_none names [] h = refl
-covered_none names (item ∷ items) h = absurd (omega arith)
-
 pub covered_some : (names : List (List ℕ)) (items : List ℕ) → 0 < length items → covered_words names items ≡ codes "covered" ∷ map (name_at names) items
 covered_some names [] h = absurd (omega arith)
 covered_some names (item ∷ items) h = refl

@@ -63,10 +63,6 @@ pub record IsAnswering (whole : List ℕ) (s : SessionValue) (said rest : List �
   pub alike : AreSoundAlike s other
   pub so_far : said ++ debug_replies other 0 (raw_lines rest) ≡ whole
 
-pub answering_begins : (s f : SessionValue) (said rest : List ℕ) → AreSoundAlike s f
-    → IsAnswering (said ++ debug_replies f 0 (raw_lines rest)) s said rest
-answering_begins s f said rest k = record { other = f; alike = k; so_far = refl }
-
 -- one line more
 module _ (whole : List ℕ) (s t : SessionValue) (said text rest line after : List ℕ) (i : IsAnswering whole s said rest)
     (lines : raw_lines rest ≡ line ∷ raw_lines after)

@@ -12,9 +12,6 @@ pub record IsSearching (input rest : List ℕ) : Type 0 where
   pub problem : problem_text input ≡ front ++ problem_text rest
   pub commands : command_lines input ≡ command_lines rest
 
-pub searching_begins : (input : List ℕ) → IsSearching input input
-searching_begins input = record { front = []; parts = refl; problem = refl; commands = refl }
-
 module _ (input rest line after : List ℕ) (s : IsSearching input rest) (lines : raw_lines rest ≡ line ∷ raw_lines after) where
   problem_later : is_mark line ≡ false → problem_text rest ≡ line ++ problem_text after
   unfolding problem_text

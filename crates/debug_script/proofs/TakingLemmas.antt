@@ -11,9 +11,6 @@ pub record IsTaking (text : List ℕ) (most : ℕ) (rest : List ℕ) (left : ℕ
   pub taken : concat (take most (raw_lines text)) ≡ front ++ concat (take left (raw_lines rest))
   pub after : drop most (raw_lines text) ≡ drop left (raw_lines rest)
 
-pub taking_begins : (text : List ℕ) (most : ℕ) → IsTaking text most text most
-taking_begins text most = record { front = []; parts = refl; taken = refl; after = refl }
-
 -- one line more
 pub taking_goes : (text : List ℕ) (most : ℕ) (rest : List ℕ) (left : ℕ) (line after : List ℕ) → IsTaking text most rest left → 0 < left →
     raw_lines rest ≡ line ∷ raw_lines after → rest ≡ line ++ after → IsTaking text most after (left - 1)

@@ -19,10 +19,6 @@ one_line line = sym (append-nil (line_text line))
 pub more_lines : (lines more : List (List (List ℕ))) → text_of (lines ++ more) ≡ text_of lines ++ text_of more
 more_lines lines more = flat_map-append line_text lines more
 
--- two texts of lines
-pub both_lines : (a b : List (List (List ℕ))) (old one new : List ℕ) → one ≡ old ++ text_of a → new ≡ one ++ text_of b → new ≡ old ++ text_of (a ++ b)
-both_lines a b old one new h i = i ∙ ap (λ t. t ++ text_of b) h ∙ append_assoc old _ _ ∙ ap (λ t. old ++ t) (sym (more_lines a b))
-
 -- three lines, and then more
 three_lines : (a b c : List (List ℕ)) (d e : List (List (List ℕ))) (old one two three four new : List ℕ) → one ≡ old ++ line_text a → two ≡ one ++ line_text b → three ≡ two ++ line_text c
     → four ≡ three ++ text_of d → new ≡ four ++ text_of e → new ≡ old ++ text_of (a ∷ b ∷ c ∷ d ++ e)

@@ -88,17 +88,3 @@ found_more ts g more i = by (tile_place g.id ts)
     by (Some j) e =
         let a = at j (is_lease (tile_at ts j).status g) _ (more (tile_at ts j)) e in
         a.1 ∙ ap (λ (k : ℕ). unless k (more (tile_at ts k))) a.0
-
-pub found_stale : (ts : List TileValue) (g : Grant) (more : TileValue → Option BookFault) (f : BookFault)
-    → found ts g.id (λ t. lease_fault g t None) ≡ Err f → found ts g.id (λ t. lease_fault g t (more t)) ≡ Err f
-found_stale ts g more f = by (tile_place g.id ts)
-  where
-    at : (j : ℕ) (b : Bool) (h : BookFault) (next : Option BookFault) → unless j (else_fault b h None) ≡ Err f
-        → unless j (else_fault b h next) ≡ Err f
-    at j true h next e = absurd (cc)
-    at j false h next e = e
-
-    by : (place : Option ℕ) → checked ts (λ t. lease_fault g t None) place ≡ Err f
-        → checked ts (λ t. lease_fault g t (more t)) place ≡ Err f
-    by None e = e
-    by (Some j) e = at j (is_lease (tile_at ts j).status g) _ (more (tile_at ts j)) e

@@ -22,9 +22,6 @@ use Rattle.lab_book.specs.Book.{BookValue, Outcome, IsBook, outcome, book_step, 
 use Rattle.lab_book.specs.Book.{split_tiles, retracted, settled, freed, closed, put_back, asked_to_stop, stretches_to, with_stretch}
 use Rattle.lab_book.specs.Book.{first_waiting}
 
-count_of : TileValue → ℕ
-count_of t = length t.stretches
-
 -- a tile with at most one stretch more in the place of one
 count_set : (ts : List TileValue) (i : ℕ) (u : TileValue) → length u.stretches ≤ length (tile_at ts i).stretches + 1
     → posted_count (set ts i u) ≤ posted_count ts + 1

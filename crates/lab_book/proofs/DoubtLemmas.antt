@@ -17,23 +17,13 @@ use Rattle.lab_book.specs.States.{same_state}
 use Rattle.lab_book.specs.Tile.{TileValue, mark_of, tile_end}
 use Rattle.lab_book.specs.Tiling.{IsTiling, tile_at}
 use Rattle.lab_book.specs.Book.{stretch_fault, end_fault}
-use Rattle.lab_book.specs.Book.{retract_fault, found, unless}
-use Rattle.lab_book.specs.Book.{lease_fault}
+use Rattle.lab_book.specs.Book.{retract_fault, unless}
 use Rattle.lab_book.specs.Calls.{Doubted, Judged}
 use Rattle.lab_book.proofs.TileLemmas.{end_fits, tested}
 use Rattle.lab_book.proofs.TileLemmas.{last_some}
 use Rattle.lab_book.proofs.TilingLemmas.{tile_in}
-use Rattle.lab_book.specs.declared.lease.Grant.{Grant}
 
 -- ---- what is found of a leased tile
-
--- out of memory, or a refusal, told of the whole search
-pub judged_stale : (ts : List TileValue) (g : Grant) (more : TileValue → Option BookFault) (r : Result ℕ BookFault) (f : BookFault)
-    → Judged r (found ts g.id (λ t. lease_fault g t None)) → r ≡ Err f
-    → ((h : BookFault) → found ts g.id (λ t. lease_fault g t None) ≡ Err h → found ts g.id (λ t. lease_fault g t (more t)) ≡ Err h)
-    → Judged (Err f) (found ts g.id (λ t. lease_fault g t (more t)))
-judged_stale ts g more r f (inl a) e s = inl (sym e ∙ a)
-judged_stale ts g more r f (inr a) e s = inr (sym (s f (sym a ∙ e)))
 
 -- and what stands against a tile that was found
 pub judged_doubt : (i : ℕ) (s : Result ℕ BookFault) (f : BookFault) (d : Option BookFault) → s ≡ unless i d → Doubted (Some f) d

@@ -1,5 +1,5 @@
 -- The entry that a call would add, once its place is found or it is refused.
-use Rattle.std.proofs.Common.{◌≡◌, ℕ, ◌+◌, ◌<◌, ◌⊎◌, Bool, cond, Option, Result, Ok, Err, List}
+use Rattle.std.proofs.Common.{◌≡◌, ℕ, ◌+◌, ◌<◌, ◌⊎◌, Bool, cond, Result, Ok, Err, List}
 use Rattle.std.proofs.Common.{length, sym, ap, ◌∙◌, inl, inr, arith}
 use Rattle.std.proofs.Math.ListN.{set}
 use Rattle.std.proofs.lemmas.List.Sums.{sum_by-set}
@@ -15,9 +15,9 @@ use Rattle.lab_book.specs.declared.entry.Call.TheVariants as call
 use Rattle.lab_book.specs.declared.entry.Reply.{Reply}
 use Rattle.lab_book.specs.declared.entry.Reply.TheVariants as reply
 use Rattle.lab_book.specs.declared.entry.Entry.{Entry}
-use Rattle.lab_book.specs.Tile.{TileValue, is_waiting, mark_of}
+use Rattle.lab_book.specs.Tile.{TileValue, is_waiting}
 use Rattle.lab_book.specs.Tiling.{no_tile, tile_at}
-use Rattle.lab_book.specs.Book.{BookValue, Outcome, outcome, made_at, refused, lent, lent_tile, posted, posted_tile, split, path_of, waiting_in}
+use Rattle.lab_book.specs.Book.{BookValue, Outcome, outcome, made_at, refused, posted, posted_tile, split, waiting_in}
 use Rattle.lab_book.specs.Book.{found, lease_fault, cut_fault, stretch_fault}
 use Rattle.lab_book.specs.Calls.{Judged, next_entry, split_of, post_of}
 use Rattle.lab_book.proofs.BookLemmas.{judged_err, judged_fault}
@@ -52,16 +52,6 @@ module _ (b : BookValue) (i : ℕ) (within : i < length b.tiles) where
   waiting_set : (u : TileValue) → waiting_in (set b.tiles i u) + cond (is_waiting (tile_at b.tiles i).status) 1 0
       ≡ waiting_in b.tiles + cond (is_waiting u.status) 1 0
   waiting_set u = sum_by-set (λ (t : TileValue). cond (is_waiting t.status) 1 0) b.tiles i u no_tile within
-
-  -- what a lease is answered
-  pub lent_reply_is : (w id index n : ℕ) (lo hi : Option (List ℕ)) (mark : StateValue) → id ≡ (tile_at b.tiles i).id
-      → lo ≡ path_of (tile_at b.tiles i).branch.lo → hi ≡ path_of (tile_at b.tiles i).branch.hi → mark ≡ mark_of (tile_at b.tiles i)
-      → index ≡ length b.history → n + cond (is_waiting (tile_at b.tiles i).status) 1 0 ≡ waiting_in b.tiles
-      → reply.Leased (record { id = id; worker = w; index = index }) lo hi mark n ≡ (lent b w i).reply
-  lent_reply_is w id index n lo hi mark eid elo ehi em ei en =
-      let s = waiting_set (lent_tile (tile_at b.tiles i) w (length b.history)) in
-      let k : n ≡ waiting_in (set b.tiles i (lent_tile (tile_at b.tiles i) w (length b.history))) = omega arith in
-      λ j. reply.Leased (record { id = eid j; worker = w; index = ei j }) (elo j) (ehi j) (em j) (k j)
 
   -- what a post is answered
   pub posted_reply_is : (from to : StateValue) (stop : Bool) (n : ℕ) → stop ≡ (tile_at b.tiles i).stop → n ≡ waiting_in b.tiles

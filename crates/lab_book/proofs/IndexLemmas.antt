@@ -1,14 +1,14 @@
 -- What is kept of tiles: their numbers, where they are looked for, and how many wait and are leased.
 use Rattle.std.proofs.Common.{◌≡◌, ℕ, ◌+◌, ◌<◌, ◌≤◌, ◌==◌, ◌⊎◌, Bool, true, false, cond, Some, None, List, [], ◌∷◌, ◌++◌, length, get_or}
-use Rattle.std.proofs.Common.{refl, sym, ap, ◌∙◌, subst, inl, inr, arith, lt-ltb}
-use Rattle.std.specs.Prelude.{count_by, slice_index}
+use Rattle.std.proofs.Common.{refl, sym, ap, ◌∙◌, inl, inr, arith, lt-ltb}
+use Rattle.std.specs.Prelude.{count_by}
 use Rattle.std.specs.List.{position}
 use Rattle.std.proofs.Math.ListN.{set}
 use Rattle.std.proofs.lemmas.Bool.{cases_lt, le-ltb, ne_eqb, false≢true}
 use Rattle.std.proofs.lemmas.Bool.Decides.{eqb_tells}
 use Rattle.std.proofs.lemmas.List.{length-set, get_or_default, get_or-set_same, get_or-set_other}
 use Rattle.std.proofs.lemmas.List.Quantifiers.{position-Some}
-use Rattle.std.proofs.lemmas.List.Sums.{position_or_len_is, sum_by-set, count_by-le-length}
+use Rattle.std.proofs.lemmas.List.Sums.{position_or_len_is, sum_by-set}
 use Rattle.lab_book.specs.declared.status.Status.{Status}
 use Rattle.lab_book.specs.Tile.{TileValue, is_waiting, is_leased}
 use Rattle.lab_book.specs.Tiling.{AreNumbered, no_tile, tile_at}
@@ -31,10 +31,6 @@ position_none p xs d each =
     let e = position_or_len_is p xs (length xs) d (omega arith) each (λ l. absurd (omega arith)) in
     rw e (rw (le-ltb (length xs) (length xs) (omega arith)) refl)
 
--- a count is at most the number of tiles, and above 0 where a tile passes
-pub count_within : (f : TileValue → Bool) (ts : List TileValue) (n : ℕ) → n ≡ count_by f ts → n ≤ length ts
-count_within f ts n e = let c = count_by-le-length f ts in omega arith
-
 pub count_some : (f : TileValue → Bool) (ts : List TileValue) (i n : ℕ) → f no_tile ≡ false → i < length ts → n ≡ count_by f ts
     → f (tile_at ts i) ≡ true → 0 < n
 count_some f ts i n none l e h =
@@ -42,12 +38,6 @@ count_some f ts i n none l e h =
     let g : cond {A = ℕ} (f (tile_at ts i)) 1 0 ≡ 1 = ap {B = ℕ} (λ b. cond b 1 0) h in
     let k : cond {A = ℕ} (f no_tile) 1 0 ≡ 0 = ap {B = ℕ} (λ b. cond b 1 0) none in
     omega arith
-
--- a tile isn't looked for behind its place
-pub not_before : (places : List ℕ) (ts : List TileValue) (id k : ℕ) → AreLeast places ts → k < length ts → k < slice_index places id
-    → (tile_at ts k).id ≡ id → ⊥
-not_before places ts id k a l b e =
-    let m : slice_index places id ≤ k = subst (λ n. slice_index places n ≤ k) e (a.least k l) in omega arith
 
 pub unplaced : (places : List ℕ) (ts : List TileValue) (id : ℕ) → AreNumbered ts → AreLeast places ts → length places ≤ id
     → None ≡ tile_place id ts
@@ -68,25 +58,6 @@ none_waits ts waiting e z =
 -- from the first tile that waits on
 pub waits_first : (ts : List TileValue) (i : ℕ) → Some i ≡ first_waiting ts → WaitFrom i ts
 waits_first ts i e k l b = (position-Some (λ (t : TileValue). is_waiting t.status) ts i no_tile (sym e)).2 k b
-
--- the place where a tile stands
-pub least_kept : (places : List ℕ) (ts : List TileValue) (i : ℕ) → AreNumbered ts → AreLeast places ts → i < length ts
-    → AreLeast (set places (tile_at ts i).id i) ts
-least_kept places ts i n a l = record {
-  long = length-set places (tile_at ts i).id i ∙ a.long;
-  least = λ j m. least j m (eqb_tells (tile_at ts j).id (tile_at ts i).id);
-}
-  where
-    least : (j : ℕ) → j < length ts
-        → ((((tile_at ts j).id == (tile_at ts i).id) ≡ true) × ((tile_at ts j).id ≡ (tile_at ts i).id))
-        ⊎ ((((tile_at ts j).id == (tile_at ts i).id) ≡ false) × ((tile_at ts j).id ≡ (tile_at ts i).id → ⊥))
-        → slice_index (set places (tile_at ts i).id i) (tile_at ts j).id ≤ j
-    least j m (inl e) =
-        let b = n.below i l in
-        let k = a.long in
-        let s = n.once j i m l e.1 in
-        rw (e.1, get_or-set_same places (tile_at ts i).id i 0 (omega arith)) (omega arith)
-    least j m (inr e) = rw (get_or-set_other places (tile_at ts i).id (tile_at ts j).id i 0 e.1) (a.least j m)
 
 least_set : (places : List ℕ) (ts : List TileValue) (i : ℕ) (u : TileValue) → AreLeast places ts → i < length ts
     → u.id ≡ (tile_at ts i).id → AreLeast places (set ts i u)

@@ -340,9 +340,6 @@ pub retracted_reply : (b : BookValue) (i : ℕ) (x : StretchValue) (from to : St
     → from ≡ x.from → to ≡ x.to → reply.Retracted from to ≡ (retracted b i).reply
 retracted_reply b i x from to e f g = rw (e, f, g) refl
 
-pub same_last : (t : TileValue) (x y : StretchValue) → last_of t.stretches ≡ Some x → last_of t.stretches ≡ Some y → x ≡ y
-same_last t x y e f = let h : Some x ≡ Some y = sym e ∙ f in cc
-
 pub retracted_problem : (p : ProblemValue) (b : Branch) (s : StateValue) (ts : List TileValue) (i : ℕ) (x : StretchValue)
     → IsTiling p b s ts → i < length ts → last_of (tile_at ts i).stretches ≡ Some x → x.problem ≡ p
 retracted_problem p b s ts i x t l e = last_problem p (tile_at ts i).first (tile_at ts i).stretches x

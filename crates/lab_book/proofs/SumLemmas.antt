@@ -1,13 +1,12 @@
 -- What the posted stretches count, tile by tile: where all tiles are closed, what is counted from the first mark to the end.
-use Rattle.std.proofs.Common.{◌≡◌, ℕ, zero, suc, ◌+◌, ◌*◌, ◌^◌, ◌<◌, ◌≤◌, ◌⊎◌, ◌==◌, true, false, Option, List, [], ◌∷◌, ◌++◌, length}
+use Rattle.std.proofs.Common.{◌≡◌, ℕ, zero, suc, ◌+◌, ◌*◌, ◌<◌, ◌≤◌, ◌⊎◌, ◌==◌, true, false, Option, List, [], ◌∷◌, ◌++◌, length}
 use Rattle.std.proofs.Common.{drop, map, take, get_or, replicate, refl, sym, ap, ap₂, ◌∙◌, inl, inr, arith}
 use Rattle.std.specs.Prelude.{All}
 use Rattle.std.specs.List.{sum_by}
 use Rattle.std.proofs.Math.ListN.{set}
 use Rattle.std.proofs.lemmas.Bool.Decides.{eqb_tells}
 use Rattle.std.proofs.lemmas.List.{length-set, length-map, get_or-set_same, get_or-set_other, get_or_past, get_or-take, length-take-le}
-use Rattle.std.proofs.lemmas.List.{length-replicate}
-use Rattle.std.proofs.lemmas.List.Sums.{sum_by-cons, sum_by_more, sum_by_more_le}
+use Rattle.std.proofs.lemmas.List.Sums.{sum_by-cons, sum_by_more}
 use Rattle.cover_problem.specs.Lists.{numbers}
 use Rattle.cover_problem.specs.Problem.{ProblemValue}
 use Rattle.x_steps.specs.StateValue.{StateValue}
@@ -88,9 +87,6 @@ pub record AreAdded (old counts new : List ℕ) : Type 0 where
   pub long : length new ≡ length old
   pub sums : (level : ℕ) → get_or new level 0 ≡ get_or old level 0 + get_or counts level 0
   pub small : (level : ℕ) → get_or new level 0 ≤ get_or old level 0 + 4294967295
-
-pub added_none : (old : List ℕ) → AreAdded old [] old
-added_none old = record { long = refl; sums = λ level. omega arith; small = λ level. omega arith }
 
 -- the total at a level is the old one until its count is added
 pub added_here : (old counts new : List ℕ) (i : ℕ) → AreAdded old (take i counts) new → get_or new i 0 ≡ get_or old i 0
@@ -202,22 +198,11 @@ pub record AreSummed (xs : List StretchValue) (old new : List ℕ) : Type 0 wher
   pub sums : (level : ℕ) → level < length old → get_or new level 0 ≡ get_or old level 0 + stretch_level xs level
   pub small : (level : ℕ) → level < length old → get_or new level 0 ≤ get_or old level 0 + 4294967295 * length xs
 
-pub summed_none : (old : List ℕ) → AreSummed [] old old
-summed_none old = record { long = refl; sums = λ level l. omega arith; small = λ level l. omega arith }
-
 module _ (xs : List StretchValue) (i : ℕ) (x : StretchValue) (old mid new counts : List ℕ) (s : AreSummed (take i xs) old mid)
     (l : i < length xs) (e : x ≡ get_or xs i x) (c : counts ≡ trimmed_levels x.problem x.from x.to)
     (n : length x.problem.names + 1 ≡ length old) where
   pub summed_fit : length counts ≤ length mid
   summed_fit = let f = counts_fit x.problem x.from x.to counts c in let m = s.long in omega arith
-
-  pub summed_room : ((level : ℕ) → level < length old → get_or old level 0 + 4294967295 * length xs < 2 ^ 128) → (level : ℕ)
-      → level < length mid → get_or mid level 0 + 4294967295 < 2 ^ 128
-  summed_room room level m =
-      let k : level < length old = let o = s.long in omega arith in
-      let a = s.small level k in
-      let b = room level k in
-      let t = length-take-le i xs (omega arith) in omega arith
 
   pub summed_more : length new ≡ length mid → ((level : ℕ) → get_or new level 0 ≡ get_or mid level 0 + get_or counts level 0)
       → ((level : ℕ) → get_or new level 0 ≤ get_or mid level 0 + 4294967295) → AreSummed (take (i + 1) xs) old new
@@ -241,19 +226,6 @@ pub record AreSteps (xs : List StretchValue) (steps : ℕ) : Type 0 where
   pub sum : steps ≡ stretch_steps xs
   pub small : steps ≤ 4294967295 * length xs
 
-pub steps_more : (xs : List StretchValue) (i : ℕ) (x : StretchValue) (steps more : ℕ) → AreSteps (take i xs) steps → i < length xs
-    → x ≡ get_or xs i x → more ≡ steps_between x.problem x.from x.to → more ≤ 4294967295 → AreSteps (take (i + 1) xs) (steps + more)
-steps_more xs i x steps more s l e m b =
-    let t = length-take-le i xs (omega arith) in
-    let u = length-take-le (i + 1) xs (omega arith) in
-    let a = s.sum in
-    let d = s.small in
-    record {
-      sum = let f = sum_by_more (λ (x : StretchValue). steps_between x.problem x.from x.to) xs i x l in
-          let g = ap (λ (y : StretchValue). steps_between y.problem y.from y.to) e in omega arith;
-      small = omega arith;
-    }
-
 -- and of tiles
 pub record AreStepsOf (ts : List TileValue) (steps : ℕ) : Type 0 where
   pub sum : steps ≡ posted_steps ts
@@ -264,14 +236,6 @@ pub record AreLevelsOf (ts : List TileValue) (n : ℕ) (totals : List ℕ) : Typ
   pub long : length totals ≡ n
   pub sums : (level : ℕ) → level < n → get_or totals level 0 ≡ posted_level ts level
   pub small : (level : ℕ) → level < n → get_or totals level 0 ≤ 4294967295 * posted_count ts
-
-pub levels_none : (n : ℕ) → AreLevelsOf [] n (replicate n 0)
-levels_none n = record {
-  long = length-replicate n 0;
-  sums = λ level l. zero_at n level;
-  small = λ level l. let z = zero_at n level in
-      omega arith;
-}
 
 pub levels_all : (p : ProblemValue) (ts : List TileValue) (totals : List ℕ) → AreLevelsOf ts (length p.names + 1) totals
     → without_last_zeros totals ≡ posted_levels p ts
@@ -304,31 +268,6 @@ module _ (ts : List TileValue) (i : ℕ) (t : TileValue) (l : i < length ts) (e 
   pub count_more : posted_count (take (i + 1) ts) ≡ posted_count (take i ts) + length t.stretches
   count_more = sum_by_more (λ (t : TileValue). length t.stretches) ts i t l
       ∙ ap (λ (u : TileValue). posted_count (take i ts) + length u.stretches) (sym e)
-
-  pub count_within : posted_count (take i ts) + length t.stretches ≤ posted_count ts
-  count_within = let a = sum_by_more_le (λ (t : TileValue). length t.stretches) ts i t l in
-      let b = ap (λ (u : TileValue). length u.stretches) e in omega arith
-
-  pub steps_of_more : (steps more : ℕ) → AreStepsOf (take i ts) steps → more ≡ stretch_steps t.stretches
-      → more ≤ 4294967295 * length t.stretches → AreStepsOf (take (i + 1) ts) (steps + more)
-  steps_of_more steps more s m b =
-      let a = s.sum in
-      let d = s.small in
-      let c = count_more in
-      record {
-        sum = let f = sum_by_more (λ (t : TileValue). stretch_steps t.stretches) ts i t l in
-            let g = ap (λ (u : TileValue). stretch_steps u.stretches) e in omega arith;
-        small = omega arith;
-      }
-
-  pub steps_of_fit : (steps more : ℕ) → AreStepsOf (take i ts) steps → more ≤ 4294967295 * length t.stretches → posted_count ts < 2 ^ 64
-      → steps + more < 2 ^ 128
-  steps_of_fit steps more s b few = let d = s.small in let c = count_within in omega arith
-
-  -- the totals with those of so many tiles
-  pub levels_of_room : (totals : List ℕ) (n : ℕ) → AreLevelsOf (take i ts) n totals → posted_count ts < 2 ^ 64 → (level : ℕ)
-      → level < length totals → get_or totals level 0 + 4294967295 * length t.stretches < 2 ^ 128
-  levels_of_room totals n s few level m = let d = s.small level (let o = s.long in omega arith) in let c = count_within in omega arith
 
   pub levels_of_more : (totals new : List ℕ) (n : ℕ) → AreLevelsOf (take i ts) n totals → length new ≡ length totals
       → ((level : ℕ) → level < length totals → get_or new level 0 ≡ get_or totals level 0 + stretch_level t.stretches level)

@@ -2,7 +2,6 @@
 use Rattle.std.proofs.Common.{◌≡◌, ℕ, zero, suc, ◌-◌, ◌<◌, ◌≤◌, ◌==◌, Bool, true, false, ◌&&◌, Some, None, List, [], ◌∷◌, ◌++◌, length}
 use Rattle.std.proofs.Common.{take, get_or, refl, sym, ap, ◌∙◌, subst, arith, eq-eqb, eqb-true, bytes_eq, ◌+◌, ◌⊎◌, inl, inr}
 use Rattle.std.specs.Prelude.{◌↔◌, IsTrue, is_some, if◌then◌else◌}
-use Rattle.std.specs.List.{slice_get}
 use Rattle.std.specs.Cmp.Lexicographic.{bytes_decides}
 use Rattle.std.proofs.lemmas.Bool.{and_parts, and_from, false≢true, false_from_ne_true, cases_lt}
 use Rattle.std.proofs.lemmas.List.{take_more}
@@ -19,7 +18,7 @@ use Rattle.x_steps.proofs.RunLemmas.{leads_to}
 use Rattle.x_steps.proofs.StretchLemmas.{reached_fits, reached_rank}
 use Rattle.x_branches.specs.declared.branch.Branch.{Branch}
 use Rattle.x_branches.specs.Branch.{first_of}
-use Rattle.x_branches.specs.RunOrder.{ComesBefore, comes_before}
+use Rattle.x_branches.specs.RunOrder.{comes_before}
 use Rattle.x_branches.specs.Stretch.{StretchValue, IsStretch}
 use Rattle.x_branches.specs.Refusals.{CanStart}
 use Rattle.x_branches.proofs.CutLemmas.{test_is_order}
@@ -32,29 +31,6 @@ use Rattle.lab_book.specs.declared.status.Status.{Status}
 use Rattle.lab_book.specs.declared.status.Status.TheVariants.{Waiting, Held, Leased, Closed}
 
 -- ---- marks
-
-mark_last : (s : StateValue) (xs : List StretchValue) (x : StretchValue) (n : ℕ) → suc n ≡ length xs → slice_get xs n ≡ Some x
-    → led_to s xs ≡ x.to
-mark_last s [] x n l e = absurd (omega arith)
-mark_last s (y ∷ []) x zero l e = let h : y ≡ x = cc in ap (λ (z : StretchValue). z.to) h
-mark_last s (y ∷ []) x (suc n) l e = absurd (omega arith)
-mark_last s (y ∷ z ∷ zs) x zero l e = absurd (omega arith)
-mark_last s (y ∷ z ∷ zs) x (suc n) l e = mark_last y.to (z ∷ zs) x n (omega arith) e
-
-pub mark_read : (s : StateValue) (xs : List StretchValue) (x : StretchValue) → Some x ≡ slice_get xs (length xs - 1) → x.to ≡ led_to s xs
-mark_read s [] x e = absurd (cc)
-mark_read s (y ∷ ys) x e =
-    let h : length (y ∷ ys) - 1 ≡ length ys = omega arith in
-    sym (mark_last s (y ∷ ys) x (length ys) refl (sym (subst (λ n. Some x ≡ slice_get (y ∷ ys) n) h e)))
-
-pub mark_none : (s : StateValue) (xs : List StretchValue) → slice_get xs (length xs - 1) ≡ None → led_to s xs ≡ s
-mark_none s [] e = refl
-mark_none s (x ∷ xs) e = absurd (some (x ∷ xs) (length (x ∷ xs) - 1) (omega arith) e)
-  where
-    some : (ys : List StretchValue) (n : ℕ) → n < length ys → slice_get ys n ≡ None → ⊥
-    some [] n l e = absurd (omega arith)
-    some (y ∷ ys) zero l e = cc
-    some (y ∷ ys) (suc n) l e = some ys n (omega arith) e
 
 pub mark_push : (s : StateValue) (xs : List StretchValue) (x : StretchValue) → led_to s (xs ++ x ∷ []) ≡ x.to
 mark_push s [] x = refl
@@ -145,17 +121,6 @@ join_push p s (y ∷ ys) x j a b c = (j.0, j.1, j.2, join_push p y.to ys x j.3 a
 not_past : (p : ProblemValue) (s t : StateValue) → Fits p s → Fits p t → comes_before p s t ≡ false → rank p t ≤ rank p s
 not_past p s t f g h = not_before p s t f g (λ b. false≢true (sym h ∙ (test_is_order p s t f g).1 b))
 
--- the test of an order that a comparison answers
-pub order_tested : (p : ProblemValue) (s t : StateValue) (test : Bool) → Fits p s → Fits p t → IsTrue test ↔ ComesBefore p s t
-    → comes_before p s t ≡ test
-order_tested p s t test f g h = by test (comes_before p s t) refl refl
-  where
-    by : (a b : Bool) → test ≡ a → comes_before p s t ≡ b → comes_before p s t ≡ test
-    by true true d e = e ∙ sym d
-    by true false d e = absurd (false≢true (sym e ∙ (test_is_order p s t f g).1 (h.0 d)))
-    by false true d e = absurd (false≢true (sym d ∙ h.1 ((test_is_order p s t f g).0 e)))
-    by false false d e = e ∙ sym d
-
 -- ---- tiles
 
 not_closed : (s : Status) → is_leased s ≡ true → (t : TileValue) → Stands s t
@@ -209,23 +174,6 @@ tile_can_start p t i =
         let b = joined x.to xs j.3 (end_fits p s x.to j.2) in omega arith
 
 -- ---- fewer stretches
-
-pub last_push : (ys : List StretchValue) (x : StretchValue) → last_of (ys ++ x ∷ []) ≡ Some x
-last_push [] x = refl
-last_push (y ∷ ys) x = rw (last_push ys x) refl
-
-last_at : (xs : List StretchValue) (x : StretchValue) (n : ℕ) → suc n ≡ length xs → slice_get xs n ≡ Some x → last_of xs ≡ Some x
-last_at [] x n l e = absurd (omega arith)
-last_at (y ∷ []) x zero l e = e
-last_at (y ∷ []) x (suc n) l e = absurd (omega arith)
-last_at (y ∷ z ∷ zs) x zero l e = absurd (omega arith)
-last_at (y ∷ z ∷ zs) x (suc n) l e = rw (last_at (z ∷ zs) x n (omega arith) e) refl
-
-pub last_read : (xs : List StretchValue) (x : StretchValue) → Some x ≡ slice_get xs (length xs - 1) → last_of xs ≡ Some x
-last_read [] x e = absurd (cc)
-last_read (y ∷ ys) x e =
-    let h : length (y ∷ ys) - 1 ≡ length ys = omega arith in
-    last_at (y ∷ ys) x (length ys) refl (sym (subst (λ n. Some x ≡ slice_get (y ∷ ys) n) h e))
 
 pub last_place : (xs : List StretchValue) (x : StretchValue) → 0 < length xs → x ≡ get_or xs (length xs - 1) x → last_of xs ≡ Some x
 last_place xs x l e = by xs (length xs - 1) (omega arith) e

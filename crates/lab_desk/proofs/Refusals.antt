@@ -27,17 +27,6 @@ counts old new w c f m total now (inr p) h made kept =
     let a = length-append old.history (next_entry old w c ∷ []) in
     let l = made p.0 in omega arith
 
-pub seat_counts : (b d : BookValue) (w : ℕ) (c : Call) (f : BookFault) (amount now : ℕ) (old new : List Noted) (n : Noted) → Refuses b d w c f
-    → amount ≡ length old → ((f ≡ OutOfMemory → ⊥) → new ≡ old ++ n ∷ []) → ((f ≡ OutOfMemory → ⊥) → now ≡ amount + 1)
-    → (f ≡ OutOfMemory → new ≡ old) → (f ≡ OutOfMemory → now ≡ amount) → now ≡ length new
-seat_counts b d w c f amount now old new n (inl p) h notes count notes_kept count_kept =
-    let k = ap (length {A = Noted}) (notes_kept p.0) in
-    let l = count_kept p.0 in omega arith
-seat_counts b d w c f amount now old new n (inr p) h notes count notes_kept count_kept =
-    let k = ap (length {A = Noted}) (notes p.0) in
-    let a = length-append old (n ∷ []) in
-    let l = count p.0 in omega arith
-
 pub opens : (old new : BookValue) (w : ℕ) (c : Call) (f : BookFault) (opening : List Entry) (total : ℕ) → Refuses old new w c f
     → length old.history ≡ length opening + total → take (length opening) old.history ≡ opening → take (length opening) new.history ≡ opening
 opens old new w c f opening total (inl p) h o = ap (λ (b : BookValue). take (length opening) b.history) p.1 ∙ o

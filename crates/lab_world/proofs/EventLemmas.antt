@@ -46,11 +46,6 @@ use Rattle.lab_world.specs.World.{Turn, Turned, turn, called, stays, cut_refusal
 
 -- ---- calls of the book
 
--- out of memory, the book is as it was
-pub same_book : (b new : BookValue) (w : ℕ) (c : Call) (f : BookFault) → Refuses b new w c f → f ≡ OutOfMemory → new ≡ b
-same_book b new w c f (inl m) e = m.1
-same_book b new w c f (inr m) e = absurd (m.0 e)
-
 module _ (b new : BookValue) (w n : ℕ) (c : Call) (becomes : Reply → Option WorkerValue) (x : Option WorkerValue)
     (index : n ≡ length b.history) where
   -- the book made a call

@@ -1,6 +1,5 @@
 -- States are read back from their numbers.
-use Rattle.std.proofs.Common.{◌≡◌, ℕ, zero, suc, ◌+◌, ◌-◌, ◌<◌, ◌≤◌, inl, inr, List, [], ◌∷◌, ◌++◌, length, take, drop, map, get_or, refl, sym, ap, ◌∙◌, subst, arith, append_assoc}
-use Rattle.std.proofs.Math.Nat.{eq-or-lt_of_le}
+use Rattle.std.proofs.Common.{◌≡◌, ℕ, zero, suc, ◌+◌, ◌-◌, ◌<◌, ◌≤◌, List, [], ◌∷◌, ◌++◌, length, take, drop, map, get_or, refl, sym, ap, ◌∙◌, arith, append_assoc}
 use Rattle.std.proofs.Math.Seq.{take-append_seam, drop-append_seam}
 use Rattle.std.specs.List.{flat_map}
 use Rattle.std.proofs.lemmas.List.Concat.{flat_map-cons}
@@ -47,17 +46,6 @@ reads_state s h r = λ rest. let p = r rest in
     ((λ j. record { label = label_back s.label j; path = p.0 j; cursor = cursor_back s.cursor h j }), p.1)
 
 -- ---- a list of choices that is read one by one: `left` of them are still to come
-
-pub choices_step : (n left : ℕ) (path ns rest : List ℕ) → ns ≡ n ∷ rest → 0 < left
-    → path ++ map choice_of (take left ns) ≡ (path ++ choice_of n ∷ []) ++ map choice_of (take (left - 1) rest)
-choices_step n zero path ns rest e h = absurd (omega arith)
-choices_step n (suc k) path ns rest e h =
-    let d : suc k - 1 ≡ k = omega arith in
-    rw (e, d) (sym (append_assoc path (choice_of n ∷ []) (map choice_of (take k rest))))
-
-pub choices_drop : (n left : ℕ) (ns rest : List ℕ) → ns ≡ n ∷ rest → 0 < left → drop left ns ≡ drop (left - 1) rest
-choices_drop n zero ns rest e h = absurd (omega arith)
-choices_drop n (suc k) ns rest e h = let d : suc k - 1 ≡ k = omega arith in rw (e, d) refl
 
 -- ---- lists of lists
 
@@ -116,10 +104,6 @@ all_after (suc k) ns h = absurd (omega arith)
 -- each of the first so many lists is read back as it was
 abbrev pub Each : List (List ℕ) → ℕ → Type 0
 Each paths k = (i : ℕ) → i < k → ReadsPath (get_or paths i [])
-
-pub each_more : (paths : List (List ℕ)) (k : ℕ) (p : List ℕ) → Each paths k → p ≡ get_or paths k [] → ReadsPath p → Each paths (k + 1)
-each_more paths k p e is r = λ i l. elim (eq-or-lt_of_le (let low : i ≤ k = omega arith in low))
-    [ inl same ↦ subst ReadsPath (is ∙ ap (λ n. get_or paths n []) (sym same)) r | inr less ↦ e i less ]
 
 paths_first : (p : List ℕ) (k : ℕ) (tail : List ℕ) → ReadsPath p → paths_at (suc k) (path_code p ++ tail) ≡ p ∷ paths_at k tail
 unfolding paths_at path_code

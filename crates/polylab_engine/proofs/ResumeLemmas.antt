@@ -1,5 +1,5 @@
 -- The stretch from a snapshot's state on: where it ends, and that it stops at a snapshot of the same branch.
-use Rattle.std.proofs.Common.{◌≡◌, ◌∙◌, ℕ, ◌+◌, ◌-◌, ◌<◌, ◌≤◌, ◌⊎◌, inl, inr, Bool, Option, Some, option_map, List, [], ◌∷◌, ◌++◌, length, refl, sym, ap, ap₂, subst, arith, le_refl, length-append}
+use Rattle.std.proofs.Common.{◌≡◌, ◌∙◌, ℕ, ◌+◌, ◌-◌, ◌<◌, ◌≤◌, ◌⊎◌, inl, inr, Option, Some, option_map, List, [], ◌∷◌, ◌++◌, length, refl, sym, ap, arith, le_refl, length-append}
 use Rattle.std.proofs.Common as common
 use Rattle.std.proofs.lemmas.Bool.{cases_order}
 use Rattle.cover_problem.specs.Problem.{ProblemValue}
@@ -24,10 +24,8 @@ use Rattle.x_snapshot.specs.declared.fault.SnapshotFault.TheVariants.{BadHeader,
 use Rattle.x_snapshot.specs.Snapshot.{SnapshotValue, snapshot_with, path_in, IsCutIfAny, IsSnapshot}
 use Rattle.x_snapshot.specs.Refusals.{IsRefused}
 use Rattle.x_snapshot.specs.Writing.{snapshot_text}
-use Rattle.polylab_engine.specs.Account.{ReportValue}
-use Rattle.polylab_engine.specs.Output.{report_text}
-use Rattle.polylab_engine.specs.Stretch.{end_at, steps_taken, stretch_report}
-use Rattle.polylab_engine.specs.Resumed.{branch_end, stop_of, at_state, end_text, rest_text, resume_output}
+use Rattle.polylab_engine.specs.Stretch.{end_at, steps_taken}
+use Rattle.polylab_engine.specs.Resumed.{branch_end, stop_of, at_state, end_text, rest_text}
 use Rattle.polylab_engine.proofs.StopLemmas.{taken_within, taken_or}
 
 -- ---- the end of a branch
@@ -35,14 +33,6 @@ use Rattle.polylab_engine.proofs.StopLemmas.{taken_within, taken_or}
 cut_at : (path : List ℕ) → 0 < length path → end_at path ≡ cut_state path
 cut_at [] l = absurd (omega arith)
 cut_at (o ∷ path) l = refl
-
-pub choices_some : (v : SnapshotValue) (path : List ℕ) → IsSnapshot v → v.hi ≡ Some path → end_at path ≡ branch_end v
-choices_some v path s e =
-    let cut = subst (IsCutIfAny v.problem) e s.on_run.high in
-    cut_at path cut.some ∙ ap (λ (hi : Option (List ℕ)). end_of (option_map (path_in v.problem) hi)) (sym e)
-
-pub choices_none : (v : SnapshotValue) → v.hi ≡ common.None → end_at [] ≡ branch_end v
-choices_none v e = ap (λ (hi : Option (List ℕ)). end_of (option_map (path_in v.problem) hi)) (sym e)
 
 -- by the last of the choices and those before it
 pub end_at_last : (end front : List ℕ) (last : ℕ) → end ≡ front ++ last ∷ [] → end_at end ≡ at X5 front (At last)
@@ -166,9 +156,3 @@ module _ (v : SnapshotValue) (t : StateValue) (s : IsSnapshot (at_state v t)) wh
       rw test refl
 
 -- ---- the whole text
-
-pub resumed_text : (most : Option ℕ) (lists : Bool) (v : SnapshotValue) (r : ReportValue) (t : StateValue) (before later : List ℕ) → r ≡ stretch_report lists v.problem v.state t → t ≡ stop_of most v
-    → before ≡ report_text r → later ≡ before ++ rest_text v t → later ≡ resume_output most lists v
-unfolding resume_output
-resumed_text most lists v r t before later report stop told push =
-    push ∙ ap₂ (λ (bs : List ℕ) (u : StateValue). bs ++ rest_text v u) (told ∙ ap report_text (report ∙ ap (stretch_report lists v.problem v.state) stop)) stop

@@ -1,11 +1,11 @@
 -- A walk along a rising list from one of its members on.
-use Rattle.std.proofs.Common.{◌≡◌, ℕ, suc, ◌<◌, ◌≤◌, ◌⊎◌, true, Option, Some, None, List, [], ◌∷◌, ◌++◌, length, filter, refl, sym, ◌∙◌, inl, inr, arith}
+use Rattle.std.proofs.Common.{◌≡◌, ℕ, suc, ◌<◌, ◌≤◌, ◌⊎◌, true, Option, Some, None, List, [], ◌∷◌, ◌++◌, filter, refl, sym, ◌∙◌, inl, inr, arith}
 use Rattle.std.specs.Prelude.{nat_lt}
 use Rattle.std.proofs.lemmas.Bool.{lt-ltb, le-ltb, ltb-true, cases_lt}
 use Rattle.cover_problem.specs.Lists.{has, above, RisesFrom}
 use Rattle.cover_problem.proofs.MemberLemmas.{has_filter_in}
 use Rattle.cover_problem.proofs.NumberLemmas.{rises_weaker}
-use Rattle.x_steps.proofs.ListingLemmas.{Lists, lists_none, lists_member, lists_shorter, lists_more, lists_all}
+use Rattle.x_steps.proofs.ListingLemmas.{Lists, lists_none, lists_member, lists_more, lists_all}
 
 -- above a number the members above a smaller one are those of the list
 above_left : (c o : ℕ) (xs : List ℕ) → c ≤ o → above o (filter (λ k. nat_lt c k) xs) ≡ above o xs
@@ -53,9 +53,6 @@ module _ (o : ℕ) (list : List ℕ) (rises : RisesFrom 1 list) where
     above_more k after e a =
         let m = ltb-true o k (member k e).0 in
         lists_more (filter (λ k. nat_lt o k) list) all_rise done next l k after e (a ∙ sym (above_left o k list (omega arith)))
-
-    pub above_shorter : (k : ℕ) → next ≡ Some k → length done < length (filter (λ k. nat_lt o k) list)
-    above_shorter k e = lists_shorter (filter (λ k. nat_lt o k) list) all_rise done next l k e
 
     pub above_end : next ≡ None → done ≡ filter (λ k. nat_lt o k) list
     above_end e = lists_all (filter (λ k. nat_lt o k) list) all_rise done next l e

@@ -1,5 +1,5 @@
 -- Taking the unposted stretch out, and joining it again.
-use Rattle.std.proofs.Common.{◌≡◌, ◌↔◌, ℕ, zero, suc, ◌+◌, ◌-◌, ◌<◌, ◌≤◌, Bool, true, false, not, IsTrue, List, [], ◌∷◌, ◌++◌, length, take, drop, get_or, replicate, refl, sym, ap, ◌∙◌, subst, arith, length-append}
+use Rattle.std.proofs.Common.{◌≡◌, ◌↔◌, ℕ, zero, suc, ◌+◌, ◌-◌, ◌<◌, ◌≤◌, false, IsTrue, List, [], ◌∷◌, ◌++◌, length, take, drop, get_or, replicate, refl, sym, ap, ◌∙◌, subst, arith, length-append}
 use Rattle.std.proofs.Math.ListN.{set}
 use Rattle.std.proofs.lemmas.Bool.{false≢true}
 use Rattle.std.proofs.lemmas.List.{take_more, length-replicate, drop-replicate}
@@ -10,8 +10,7 @@ use Rattle.x_steps.specs.Levels.{without_last_zeros, trimmed_levels}
 use Rattle.x_steps.proofs.BetweenLemmas.{steps_between_self, length-levels}
 use Rattle.x_steps.proofs.StretchLemmas.{reached_rank}
 use Rattle.x_steps.proofs.ZeroLemmas.{zero_goes, last_stays, zeros_cut}
-use Rattle.x_branches.specs.Branch.{first_of, end_of}
-use Rattle.x_branches.specs.RunOrder.{ComesBefore}
+use Rattle.x_branches.specs.Branch.{end_of}
 use Rattle.x_branches.specs.Stretch.{StretchValue, KeepsStretch}
 use Rattle.x_branches.specs.Runner.{RunnerValue, KeepsRunner}
 use Rattle.x_branches.specs.Refusals.{EndsHere, CanReopen}
@@ -94,15 +93,8 @@ module _ (r : RunnerValue) (steps : ℕ) (visits : List (List ℕ)) (counts : Li
       let n : steps_between r.problem r.mark r.position ≡ 0 = sym k.steps_are ∙ z in
       sym (subst (ReachesIn r.problem r.mark r.position) n k.inside.stretch.reaches).ends
 
-  pub ends_tested : (s : StretchValue) (test : Bool) → steps ≡ 0 → IsTrue test ↔ (s.to ≡ r.position) → IsTrue test ↔ EndsHere r s
-  ends_tested s test z t = (λ h. record { at_mark = at_mark z; ends = t.0 h }, λ e. t.1 e.ends)
-
   pub not_at_mark : (s : StretchValue) → (steps ≡ 0 → ⊥) → IsTrue false ↔ EndsHere r s
   not_at_mark s h = (λ f. absurd (false≢true f), λ e. absurd (h (no_steps e.at_mark)))
-
-  pub begin_tested : (s : StretchValue) (test : Bool) → EndsHere r s → s.problem ≡ r.problem → IsTrue test ↔ ComesBefore r.problem s.from (first_of r.branch.lo) → IsTrue (not test) ↔ CanReopen r s
-  begin_tested s true e p t = (λ f. absurd (false≢true f), λ c. absurd (c.begun (t.0 refl)))
-  begin_tested s false e p t = (λ h. record { ends = e; same_problem = p; begun = λ b. false≢true (t.1 b) }, λ c. refl)
 
   pub levels_fit : (s : StretchValue) → CanReopen r s → (n : ℕ) (vs : List (List ℕ)) (ls row : List ℕ) → KeepsStretch s.problem s.from s.to n vs ls → row ≡ counts → length ls ≤ length row
   levels_fit s can n vs ls row h e =

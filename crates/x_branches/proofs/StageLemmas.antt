@@ -38,9 +38,6 @@ rank_comes p s t f g l = (steps_between p s t, steps_between_some p s t f g l, l
 
 -- ---- the answers of a comparison
 
-ranks_of : ProblemValue → StateValue → StateValue → Ordering → Type 0
-ranks_of p s t r = MatchOrdering r (rank p s < rank p t) (s ≡ t) (rank p t < rank p s)
-
 pub order_less : (p : ProblemValue) (s t : StateValue) → Fits p s → Fits p t → (r : Ordering) → MatchOrdering r (rank p s < rank p t) (s ≡ t) (rank p t < rank p s) → (r ≡ Less) ↔ ComesBefore p s t
 order_less p s t f g Less m = (λ e. rank_comes p s t f g m, λ b. refl)
 order_less p s t f g Equal m = (λ e. absurd (cc), λ b. let l = comes_rank p s t f b in let h = ap (rank p) m in absurd (omega arith))

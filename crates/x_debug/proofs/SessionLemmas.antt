@@ -18,7 +18,7 @@ use Rattle.lab_book.specs.declared.entry.Reply.{Reply}
 use Rattle.lab_book.specs.declared.entry.Reply.TheVariants as replies
 use Rattle.lab_book.specs.Tiling.{tile_at, IsTiling}
 use Rattle.lab_book.specs.Book.{BookValue, outcome, book_step}
-use Rattle.lab_world.specs.Worker.{WorkerValue, HasTile, HoldsTile, lent_worker, moved_to}
+use Rattle.lab_world.specs.Worker.{WorkerValue, HasTile, HoldsTile, lent_worker}
 use Rattle.lab_world.specs.World.{IsSeat, cut_refusal}
 use Rattle.lab_world.proofs.OtherLemmas.{put_back_leaves, stop_leaves}
 use Rattle.lab_world.proofs.TurnLemmas.{lease_any_seat}
@@ -136,10 +136,6 @@ module _ (v : SessionValue) (w : WorkerValue) (s : IsSession v) (at : v.worker �
   own_number : w.grant.worker ≡ 0
   own_number = (subst (IsSeat v.book 0) at s.seat).0
 
-  -- and holds its tile
-  pub own_tile : HoldsTile v.book w
-  own_tile = (subst (IsSeat v.book 0) at s.seat).1
-
   -- its worker goes on with the same lease
   pub working_session : (a : AtWork) → a.book.problem ≡ v.book.problem → a.worker.grant ≡ w.grant → HoldsTile a.book a.worker → IsSession (working v a)
   working_session a p g h = changed_session v a.book (Some a.worker) s p (ap (λ (x : Grant). x.worker) g ∙ own_number, h)
@@ -194,10 +190,6 @@ module _ (v : SessionValue) (w : WorkerValue) (s : IsSession v) (at : v.worker �
   walked_session (Err x) most a e left h =
       let k = part_kept (work v.book w) a most left in
       working_session v w s at a k.0 k.1 h
-
-  pub back_session : {X E : Type 0} (r : Result X E) (most : ℕ) (state : StateValue) (y : WorkerValue) → OnOk r (y ≡ moved_to w state) → OnErr r (IsPartBack w y most) → HoldsTile v.book y → IsSession (working v (work v.book y))
-  back_session (Ok x) most state y e left h = working_session v w s at (work v.book y) refl (ap (λ (z : WorkerValue). z.grant) e) h
-  back_session (Err x) most state y e left h = working_session v w s at (work v.book y) refl (ap (λ (z : WorkerValue). z.grant) left.left) h
 
 pub back_left : {X E : Type 0} (r : Result X E) (v : SessionValue) (w : WorkerValue) (most : RunnerValue → ℕ) (y : WorkerValue) → v.worker ≡ Some w → OnErr r (IsPartBack w y (most w.runner)) → OnErr r (LeftPartBack v most (working v (work v.book y)))
 back_left (Ok x) v w most y at left = tt

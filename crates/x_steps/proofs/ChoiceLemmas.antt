@@ -83,11 +83,6 @@ module _ (p : ProblemValue) (c : List ℕ) where
   walks_end item best least w e =
       sym (choice_unique p c best w.among (λ i h. let m = w.shortest i h (above_none item (active p c) e i h) in rw (← w.len) m) (λ i h k. let m = w.first i h k in rw (← w.len) m))
 
-  -- and the walk goes up among the primary items
-  pub walks_up : (item next best least : ℕ) → Walks p c item best least → above item (active p c) ≡ Some next → (item < next) × (next ≤ p.primary)
-  walks_up item next best least w e =
-      let a = above_is item 1 (active p c) next (active_rises p c) e in (a.more, (active_in p c next a.member).2)
-
   -- some item is active, so there is a first one
   pub some_active : 0 < length (active p c) → IsSome (above 0 (active p c))
   some_active h = some_of (above 0 (active p c)) (λ e. let k = choice_active p c h in let m = above_none 0 (active p c) e (choice p c) k in let i = (active_in p c (choice p c) k).1 in omega arith)

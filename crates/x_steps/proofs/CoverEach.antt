@@ -1,5 +1,5 @@
 -- The place of an item in an option, and the items covered and uncovered one after the other.
-use Rattle.std.proofs.Common.{◌≡◌, ℕ, ◌+◌, ◌<◌, ◌≤◌, ◌==◌, List, [], ◌∷◌, ◌++◌, length, true, arith, sym, ap, ◌∙◌, append_assoc, append-nil, length-append, min, refl}
+use Rattle.std.proofs.Common.{◌≡◌, ℕ, ◌+◌, ◌<◌, ◌==◌, List, [], ◌∷◌, ◌++◌, length, true, arith, sym, ap, ◌∙◌, append_assoc, length-append, min, refl}
 use Rattle.std.proofs.lemmas.List.{length-take, same_from_push}
 use Rattle.std.specs.List.{position_or_len, before_first, after_first}
 use Rattle.cover_problem.specs.Lists.{has}
@@ -50,23 +50,3 @@ uncovers_more all now new count done x u more e =
       left = let l = u.left in omega arith;
       uncovered = let l = u.uncovered in omega arith;
     }
-
-pub uncovers_none : (all front back : List ℕ) (count : ℕ) → all ≡ front ++ back → length back ≡ count → Uncovers all all count 0
-uncovers_none all front back count e h = record {
-  front = front;
-  back = back;
-  gone = [];
-  standing = e;
-  whole = e ∙ sym (append-nil (front ++ back));
-  left = omega arith;
-  uncovered = refl;
-}
-
--- all of them are uncovered
-pub uncovers_all : (all now : List ℕ) (count done : ℕ) → Uncovers all now count done → count ≤ done → (back : List ℕ) × (all ≡ now ++ back) × (length back ≡ count)
-uncovers_all all now count done u h =
-    let l = u.left in
-    let n = u.uncovered in
-    let none : length u.back ≡ 0 = omega arith in
-    let bare : u.front ++ u.back ≡ now = sym u.standing in
-    (u.gone, u.whole ∙ ap (λ l. l ++ u.gone) bare, omega arith)

@@ -1,7 +1,7 @@
 -- A walk along a rising list, which lists its members.
-use Rattle.std.proofs.Common.{◌≡◌, ℕ, suc, ◌<◌, ◌≤◌, true, Option, Some, None, List, [], ◌∷◌, ◌++◌, length, map, arith, refl, sym, ap, ◌∙◌, subst, append_assoc, append-nil, length-append}
+use Rattle.std.proofs.Common.{◌≡◌, ℕ, suc, ◌<◌, ◌≤◌, true, Option, Some, None, List, [], ◌∷◌, ◌++◌, map, arith, refl, sym, ap, ◌∙◌, subst, append_assoc, append-nil}
 use Rattle.std.proofs.lemmas.Bool.{le-ltb, lt-ltb}
-use Rattle.std.proofs.lemmas.List.{map-append, length-map}
+use Rattle.std.proofs.lemmas.List.{map-append}
 use Rattle.cover_problem.specs.Lists.{has, above, RisesFrom}
 use Rattle.cover_problem.specs.Problem.{ProblemValue}
 use Rattle.cover_problem.specs.Covering.{active, remaining, list_of}
@@ -60,9 +60,6 @@ module _ (all : List ℕ) (rises : RisesFrom 1 all) where
     pub lists_member : (o : ℕ) → next ≡ Some o → has all o ≡ true
     lists_member o e = let s = split_is o e in rw s.1 (has_append_right done (o ∷ s.0) o (has_here o s.0))
 
-    pub lists_shorter : (o : ℕ) → next ≡ Some o → length done < length all
-    lists_shorter o e = let s = split_is o e in let n = ap (length {A = ℕ}) s.1 ∙ length-append done (o ∷ s.0) in omega arith
-
     pub lists_more : (o : ℕ) (after : Option ℕ) → next ≡ Some o → after ≡ above o all → Lists all (done ++ o ∷ []) after
     lists_more o after e a =
         let s = split_is o e in
@@ -88,17 +85,9 @@ pub record ListsRows (all : List ℕ) (options : ℕ → List ℕ) (rows : List 
   pub rows_are : rows ≡ map (λ i. (i, options i)) done
 
 module _ (all : List ℕ) (options : ℕ → List ℕ) (rises : RisesFrom 1 all) where
-  pub rows_none : (next : Option ℕ) → next ≡ above 0 all → ListsRows all options [] next
-  rows_none next e = record { done = []; lists = lists_none all rises next e; rows_are = refl }
-
   module _ (rows : List (ℕ × List ℕ)) (next : Option ℕ) (l : ListsRows all options rows next) where
     pub rows_member : (o : ℕ) → next ≡ Some o → has all o ≡ true
     rows_member o e = lists_member all rises l.done next l.lists o e
-
-    pub rows_shorter : (o : ℕ) → next ≡ Some o → length rows < length all
-    rows_shorter o e =
-        let s = lists_shorter all rises l.done next l.lists o e in
-        let n = ap (length {A = ℕ × List ℕ}) l.rows_are ∙ length-map l.done (λ (i : ℕ). (i, options i)) in omega arith
 
     pub rows_more : (o : ℕ) (after : Option ℕ) (found : List ℕ) → next ≡ Some o → after ≡ above o all → found ≡ options o → ListsRows all options (rows ++ (o, found) ∷ []) after
     rows_more o after found e a f = record {

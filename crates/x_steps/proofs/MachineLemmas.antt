@@ -58,11 +58,6 @@ past_at_X5 p path cursor.None never f = absurd f
 past_at_X5 p path (At o) never f = absurd (never o refl)
 past_at_X5 p path Past never f = refl
 
--- X6 is at an option
-pub at_X6 : (p : ProblemValue) (path : List ℕ) (k : Cursor) → ((o : ℕ) → k ≡ At o → ⊥) → FitsAt p X6 path k → ⊥
-at_X6 p path (At o) never f = never o refl
-at_X6 p path _ never f = f
-
 -- a list from which nothing could be taken
 -- of two equal lists whose ends are as long as each other, the fronts are equal
 pub same_fronts : {X : Type 0} (xs ys us vs : List X) → xs ++ us ≡ ys ++ vs → length us ≡ length vs → xs ≡ ys

@@ -78,10 +78,6 @@ module _ (p : ProblemValue) (sound : IsProblem p) (o : ℕ) (some : 0 < o) (with
       same (inl t) = t ∙ sym (remaining_from p c item o t some within)
       same (inr f) = f ∙ sym (false_from_ne_true (has (remaining p c item) o) (λ h. both_ways (is_remaining c item (option_at p o)) f (remaining_in p c item o h).0))
 
--- an option that the problem doesn't have is left for none
-pub none_left : (p : ProblemValue) (c : List ℕ) (item o : ℕ) → ((0 < o) × (o ≤ length p.options) → ⊥) → has (remaining p c item) o ≡ false
-none_left p c item o out = false_from_ne_true (has (remaining p c item) o) (λ h. let r = remaining_in p c item o h in out (r.1, r.2))
-
 -- what a vector holds after its marks were changed as a slice
 pub marks_written : (marks old : List Bool) (size n : ℕ) (c : List ℕ) → length marks ≡ size → AreMarksOf marks n c → AreMarksOf (take size (marks ++ old)) n c
 marks_written marks old size n c e a =

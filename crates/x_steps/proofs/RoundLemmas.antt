@@ -1,5 +1,5 @@
 -- Rounds: the steps from one X5 to the next, or to a visit or the end.
-use Rattle.std.proofs.Common.{◌≡◌, ◌≢◌, ℕ, zero, suc, ◌+◌, ◌<◌, ◌≤◌, ◌⊎◌, inl, inr, Bool, true, false, Option, Some, List, [], ◌∷◌, length, slice_index, slice_set, refl, sym, ap, ◌∙◌, subst, arith, if◌then◌else◌}
+use Rattle.std.proofs.Common.{◌≡◌, ℕ, suc, ◌+◌, ◌<◌, ◌≤◌, ◌⊎◌, inl, inr, Bool, true, false, Option, Some, List, [], ◌∷◌, length, slice_index, slice_set, refl, sym, ap, ◌∙◌, subst, arith, if◌then◌else◌}
 use Rattle.std.proofs.Common as common
 use Rattle.std.proofs.lemmas.Bool.{cases_lt}
 use Rattle.cover_problem.specs.Problem.{ProblemValue, IsProblem}
@@ -91,10 +91,6 @@ level_counted q s table_problem covered room k m e p same label counts levels =
 
 -- ---- one step of a machine
 
--- two labels that differ
-other_label : {l : Label} (m : Label) → l ≡ m → is_level m ≡ false → is_level l ≡ false
-other_label m e h = ap is_level e ∙ h
-
 module _ {old new : Position} {event : Event} (g : Goes old new event) where
   pub takes_to_X2 : {o : ℕ} → old.state.label ≡ X5 → old.state.cursor ≡ At o → new.state.label ≡ X2
   takes_to_X2 {o} e k = ap (λ s. s.label) g.state ∙ X5_to_X2 old.problem old.state o e k
@@ -162,15 +158,6 @@ module _ {old new : Position} {event : Event} (g : Goes old new event) (counts :
   pub one_other : (old.state.label ≡ Done → ⊥) → is_level old.state.label ≡ false → IsRound old.problem 1 old.state new.state counts counts 1 event
   one_other goes_on other = record {
     walk = goes_other g old.problem refl old.state counts counts 0 (none_walked old.problem old.state counts) goes_on other;
-    some = omega arith;
-    within = omega arith;
-    passes = passes_none old.problem old.state;
-  }
-
-  pub one_level : old.state.label ≡ X2 → length old.state.path < length counts
-      → IsRound old.problem 1 old.state new.state counts (slice_set counts (length old.state.path) (slice_index counts (length old.state.path) + 1)) 1 event
-  one_level e l = record {
-    walk = goes_level g old.problem refl old.state counts counts 0 (none_walked old.problem old.state counts) e l;
     some = omega arith;
     within = omega arith;
     passes = passes_none old.problem old.state;

@@ -244,14 +244,3 @@ run_is_fitting p = record { ends = (run_leads p).ends; once = λ i j a b e. once
         within (inl l) = absurd (a.1.goes_on (steps_between p start done) l (ap (λ (s : StateValue). s.label) (run_leads p).ends))
 
 -- ---- places on the run
-
--- a fitting state stands where its distance from the start says
-pub after_place : (p : ProblemValue) (s : StateValue) → Fits p s → after p (steps_between p start s) start ≡ s
-after_place p s f = (leads_to p start s (start_fits p) f (start_first p s f)).ends
-
-pub place_within : (p : ProblemValue) (s : StateValue) → Fits p s → steps_between p start s ≤ steps_between p start done
-place_within p s f = step (cases_lt (steps_between p start done) (steps_between p start s))
-  where
-    step : (steps_between p start done < steps_between p start s) ⊎ (steps_between p start s ≤ steps_between p start done) → steps_between p start s ≤ steps_between p start done
-    step (inr l) = l
-    step (inl l) = absurd ((leads_to p start s (start_fits p) f (start_first p s f)).goes_on (steps_between p start done) l (ap (λ (s : StateValue). s.label) (run_leads p).ends))

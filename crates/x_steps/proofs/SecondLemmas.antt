@@ -29,9 +29,6 @@ filter_last test (y ∷ ys) x b e = step (cases_Bool (test y)) (filter_last test
     step (inr t) ih = rw (t, ih) refl
 
 module _ (p : ProblemValue) (c : List ℕ) where
-  pub second_none : ListsSecond p c p.primary []
-  second_none = record { passed = 0; reached = omega arith; rows_are = refl }
-
   module _ (before : ℕ) (rows : List (ℕ × List ℕ)) (l : ListsSecond p c before rows) where
     next_is : (p.primary + 1) + l.passed ≡ before + 1
     next_is = let r = l.reached in omega arith

@@ -1,33 +1,16 @@
 -- What a step covers and uncovers, and what a machine finds on the covered list.
-use Rattle.std.proofs.Common.{◌≡◌, ℕ, ◌+◌, ◌-◌, ◌<◌, ◌≤◌, true, List, [], ◌∷◌, ◌++◌, length, get_or, refl, arith}
+use Rattle.std.proofs.Common.{◌≡◌, ℕ, ◌+◌, ◌<◌, List, ◌∷◌, ◌++◌, length, get_or, refl, arith}
 use Rattle.std.proofs.lemmas.List.{get_or_at}
-use Rattle.cover_problem.specs.Lists.{has}
-use Rattle.cover_problem.specs.Problem.{ProblemValue, IsProblem, option_at}
+use Rattle.cover_problem.specs.Problem.{ProblemValue, IsProblem}
 use Rattle.cover_problem.specs.Covering.{list_of}
-use Rattle.cover_problem.specs.Path.{others, taken, IsValid, covered_by}
-use Rattle.cover_problem.specs.Coverable.{IsUncovered, CanCover}
+use Rattle.cover_problem.specs.Path.{IsValid, covered_by}
+use Rattle.cover_problem.specs.Coverable.{IsUncovered}
 use Rattle.cover_problem.proofs.ActiveLemmas.{active_item}
 use Rattle.cover_problem.proofs.RemainingLemmas.{list_covered, list_uncovered, choice_active}
 use Rattle.cover_problem.proofs.PathLemmas.{depth}
-use Rattle.x_steps.specs.declared.state.Label.{Label}
-use Rattle.x_steps.specs.declared.state.Cursor.{Cursor}
-use Rattle.x_steps.specs.StateValue.{at}
-use Rattle.x_steps.specs.Steps.{IsOpen, item_after, remaining_after, covered_at, covered_in, next_at, next}
-use Rattle.x_steps.specs.Before.{prev_at, prev}
+use Rattle.x_steps.specs.Steps.{IsOpen, item_after, remaining_after}
 
 -- ---- the words by cases on label and cursor
-
-pub next_is : (p : ProblemValue) (l : Label) (path : List ℕ) (k : Cursor) → next p (at l path k) ≡ next_at p l path k
-unfolding next
-next_is p l path k = refl
-
-pub prev_is : (p : ProblemValue) (l : Label) (path : List ℕ) (k : Cursor) → prev p (at l path k) ≡ prev_at p l path k
-unfolding prev
-prev_is p l path k = refl
-
-pub covered_is : (p : ProblemValue) (l : Label) (path : List ℕ) (k : Cursor) → covered_in p (at l path k) ≡ covered_at p l path k
-unfolding covered_in
-covered_is p l path k = refl
 
 -- ---- where an item is active
 
@@ -56,21 +39,6 @@ level_is p path s v h =
     }
 
 -- ---- where an option is at hand
-
--- what is known where an option makes the path longer
-pub record IsAtOption (p : ProblemValue) (path : List ℕ) (o : ℕ) : Type 0 where
-  pub some : 0 < o
-  pub within : o ≤ length p.options
-  pub member : has (remaining_after p path) o ≡ true
-  pub item : has (option_at p o) (item_after p path) ≡ true
-  -- the option's other items can be covered one after another
-  pub can : CanCover p (covered_by p path ++ item_after p path ∷ []) (others (item_after p path) (option_at p o))
-  -- what is covered then
-  pub taken_is : taken p (covered_by p path) o ≡ (covered_by p path ++ item_after p path ∷ []) ++ others (item_after p path) (option_at p o)
-  pub length_is : length (taken p (covered_by p path) o) ≡ length (covered_by p path) + length (option_at p o)
-  -- the chosen item stands so far from the end as the option is long
-  pub place : (d : ℕ) → get_or (taken p (covered_by p path) o) (length (taken p (covered_by p path) o) - length (option_at p o)) d ≡ item_after p path
-  pub list : list_of p (taken p (covered_by p path) o) (item_after p path) ≡ remaining_after p path
 
 -- ---- what is covered are distinct items
 

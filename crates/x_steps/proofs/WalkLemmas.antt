@@ -9,7 +9,7 @@ use Rattle.x_steps.specs.declared.state.Label.{Label}
 use Rattle.x_steps.specs.declared.state.Label.TheVariants.{X2, X3, X5, X6, X8, Done}
 use Rattle.x_steps.specs.declared.state.Cursor.{Cursor}
 use Rattle.x_steps.specs.declared.state.Cursor.TheVariants as cursor
-use Rattle.x_steps.specs.declared.state.Cursor.TheVariants.{At, Past}
+use Rattle.x_steps.specs.declared.state.Cursor.TheVariants.{At}
 use Rattle.x_steps.specs.declared.event.Event.{Event}
 use Rattle.x_steps.specs.declared.event.Event.TheVariants.{Moved}
 use Rattle.x_steps.specs.StateValue.{StateValue, at}
@@ -70,9 +70,6 @@ room_left p s a b most n v l r = λ level h.
     let z = count_by-le-length (λ s. is_level s.label && (length s.path == level)) (states p n s) in
     let m = length-states p n s in omega arith
 
-pub less_room : (a : List ℕ) (most n : ℕ) → n ≤ most → HasRoom most a → HasRoom n a
-less_room a most n l r = λ level h. let y = r level h in omega arith
-
 -- ---- walks
 
 pub none_walked : (p : ProblemValue) (s : StateValue) (counts : List ℕ) → IsWalk p s s counts counts 0 Moved
@@ -131,9 +128,6 @@ pub record Walks (p : ProblemValue) (most : ℕ) (cut : List ℕ) (m : Position)
   pub walk : IsWalk p s m.state a b n event
   pub within : n ≤ most
   pub before : (i : ℕ) → i < n → IsAtCut (after p i s) cut → ⊥
-
-pub walks_begin : (m : Position) (most : ℕ) (cut counts : List ℕ) → Walks m.problem most cut m m.state counts counts 0 Moved
-walks_begin m most cut counts = record { same = refl; walk = none_walked m.problem m.state counts; within = omega arith; before = λ i l. absurd (omega arith) }
 
 -- a step that only moves on doesn't end the run
 moves_on : (p : ProblemValue) (l : Label) (path : List ℕ) (k : Cursor) → (l ≡ Done → ⊥) → event_at p l path ≡ Moved → (next_at p l path k).label ≡ Done → ⊥

@@ -10,11 +10,6 @@ state_written old key label cursor one two three four new words a b c d e =
     let all : four ≡ (old ++ key) ++ words_after (label ∷ cursor ∷ words) = rw (d, c, b, a) (simp append_assoc) in
     e ∙ line_ends four old key (label ∷ cursor ∷ words) all
 
--- counts, of level 0 at least
-pub levels_none : (counts : List ℕ) → length counts ≡ 0 → levels_words counts ≡ codes "levels" ∷ codes "0" ∷ []
-levels_none [] h = refl
-levels_none (count ∷ counts) h = absurd (omega arith)
-
 pub levels_some : (counts : List ℕ) → 0 < length counts → levels_words counts ≡ codes "levels" ∷ map decimal counts
 levels_some [] h = absurd (omega arith)
 levels_some (count ∷ counts) h = refl

@@ -1,5 +1,5 @@
 -- How many paths the posted stretches visit, counted tile by tile.
-use Rattle.std.proofs.Common.{◌≡◌, ℕ, ◌*◌, ◌<◌, ◌≤◌, List, length, get_or}
+use Rattle.std.proofs.Common.{◌≡◌, ℕ, ◌*◌, ◌≤◌, List, length}
 use Rattle.x_branches.specs.Stretch.{StretchValue}
 use Rattle.lab_book.specs.Tile.{TileValue}
 use Rattle.lab_book.specs.Posted.{stretch_visits, posted_visits, posted_count}
@@ -13,5 +13,3 @@ pub record AreVisited (xs : List StretchValue) (visited : ℕ) : Type 0 where
 pub record AreVisitedOf (ts : List TileValue) (visited : ℕ) : Type 0 where
   pub count : visited ≡ length (posted_visits ts)
   pub small : visited ≤ 18446744073709551615 * posted_count ts
-
-module _ (ts : List TileValue) (i : ℕ) (t : TileValue) (l : i < length ts) (e : t ≡ get_or ts i t) where

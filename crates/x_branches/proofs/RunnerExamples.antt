@@ -21,6 +21,7 @@ use Rattle.x_branches.specs.Branch.{first_of, end_of, whole_run}
 use Rattle.x_branches.specs.RunOrder.{ComesBefore, comes_before}
 use Rattle.x_branches.specs.Stretch.{kept_value, kept_visits, kept_levels}
 use Rattle.x_branches.specs.Runner.{RunnerValue, unposted_steps, visit_of, with_level, without_level}
+use Rattle.x_branches.specs.Counts.{HasLevelOf, HasRoomFor, HasCounted}
 use Rattle.x_branches.specs.Walk.{end_choices, advanced_by, HasToStop}
 use Rattle.x_branches.specs.Refusals.{AdvanceRefused, CutRefused, ReopenRefused}
 use Rattle.x_branches.specs.Stage.{IsShared, digit_of}
@@ -77,6 +78,21 @@ one_more = refl
 
 one_less : without_level (1 ∷ 2 ∷ 0 ∷ []) (at X2 (4 ∷ []) cursor.None) ≡ 1 ∷ 1 ∷ 0 ∷ []
 one_less = refl
+
+-- ---- specs/Counts.antt
+
+-- X2 below option 4
+abbrev below_four : StateValue
+below_four = at X2 (4 ∷ []) cursor.None
+
+its_level : HasLevelOf (1 ∷ 1 ∷ 0 ∷ []) below_four
+its_level e = omega arith
+
+its_room : HasRoomFor (1 ∷ 1 ∷ 0 ∷ []) below_four
+its_room e = lit< tt
+
+none_counted : HasCounted (1 ∷ 0 ∷ 0 ∷ []) below_four → ⊥
+none_counted h = let l : 0 < 0 = h refl in omega arith
 
 -- ---- specs/Stretch.antt
 

@@ -1,4 +1,8 @@
--- Counts for each level, beside a state that is counted there at X2.
+-- What counts for each level say at a state, which is counted at the level of its path where its label is X2: they have that level
+-- (`HasLevelOf`), can count one more there (`HasRoomFor`), have counted one there (`HasCounted`).
+--
+-- Example: in the small problem the counts 1 1 0 have the level of X2 below option 4 and can count one more there; the counts 1 0 0
+-- have counted none there (computed in proofs/RunnerExamples.antt).
 use Rattle.std.specs.Prelude.{ℕ, ◌<◌, ◌≡◌, true, List, length, slice_index}
 use Rattle.x_steps.specs.StateValue.{StateValue}
 use Rattle.x_steps.specs.Steps.{is_level}

@@ -1,5 +1,5 @@
 -- Reports of stretches that join add up to the report of the whole.
-use Rattle.std.proofs.Common.{◌≡◌, ◌∙◌, ℕ, suc, ◌+◌, ◌≤◌, inl, inr, Bool, true, false, Option, List, [], ◌∷◌, ◌++◌, length, map, Ok, refl, sym, ap, ap₂, subst, arith, length-append}
+use Rattle.std.proofs.Common.{◌≡◌, ◌≢◌, ◌∙◌, ℕ, suc, ◌+◌, ◌≤◌, ◌⊎◌, inl, inr, ◌==◌, Bool, true, false, Option, List, [], ◌∷◌, ◌++◌, length, map, Ok, refl, sym, ap, ap₂, subst, arith, length-append}
 use Rattle.std.proofs.Common as common
 use Rattle.std.proofs.lemmas.Bool.Decides.{eqb_tells}
 use Rattle.cover_problem.specs.Lists.{numbers}
@@ -23,6 +23,9 @@ use Rattle.polylab_engine.proofs.AccountLemmas.{same_reports, none_kept}
 use Rattle.polylab_engine.proofs.ResumeLemmas.{end_fits, up, stop_fits, stop_up, stop_is_snapshot}
 
 -- ---- levels
+
+abbrev IsTold : ℕ → Type 0
+IsTold x = ((x == 0) ≡ true) × (x ≡ 0) ⊎ ((x == 0) ≡ false) × (x ≢ 0)
 
 -- a level before others, in both and in their sum
 before_added : (x y : ℕ) (xs ys : List ℕ) → levels_added (before_counts x xs) (before_counts y ys) ≡ before_counts (x + y) (levels_added xs ys)

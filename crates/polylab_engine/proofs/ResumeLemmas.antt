@@ -20,7 +20,7 @@ use Rattle.x_branches.proofs.StageLemmas.{comes_rank}
 use Rattle.x_branches.proofs.RunnerLemmas.{not_before, before_not, other_before}
 use Rattle.x_texts.specs.declared.breakpoint.Break.{Break}
 use Rattle.x_snapshot.specs.declared.fault.SnapshotFault.{SnapshotFault}
-use Rattle.x_snapshot.specs.declared.fault.SnapshotFault.TheVariants.{BadHeader, BadVersion, BadProblem, BadState, NotOnRun, OutsideBranch, Truncated, TrailingBytes, Spelling, BadBreak, OutOfMemory}
+use Rattle.x_snapshot.specs.declared.fault.SnapshotFault.TheVariants.{NotOnRun, OutsideBranch, BadBreak, OutOfMemory}
 use Rattle.x_snapshot.specs.Snapshot.{SnapshotValue, snapshot_with, path_in, IsCutIfAny, IsSnapshot}
 use Rattle.x_snapshot.specs.Refusals.{IsRefused}
 use Rattle.x_snapshot.specs.Writing.{snapshot_text}
@@ -29,10 +29,6 @@ use Rattle.polylab_engine.specs.Resumed.{branch_end, stop_of, at_state, end_text
 use Rattle.polylab_engine.proofs.StopLemmas.{taken_within, taken_or}
 
 -- ---- the end of a branch
-
-cut_at : (path : List ℕ) → 0 < length path → end_at path ≡ cut_state path
-cut_at [] l = absurd (omega arith)
-cut_at (o ∷ path) l = refl
 
 -- by the last of the choices and those before it
 pub end_at_last : (end front : List ℕ) (last : ℕ) → end ≡ front ++ last ∷ [] → end_at end ≡ at X5 front (At last)
@@ -56,17 +52,11 @@ end_fits v s = last_fits v.problem v.hi s.on_run.high
 
 -- nothing stands against a snapshot
 pub not_refused : (v : SnapshotValue) → IsSnapshot v → (f : SnapshotFault) → IsRefused v f → (f ≡ OutOfMemory → ⊥) → ⊥
-not_refused v s BadHeader h m = h
-not_refused v s BadVersion h m = h
-not_refused v s BadProblem h m = h
-not_refused v s BadState h m = h
 not_refused v s NotOnRun h m = h.1 s.on_run
 not_refused v s OutsideBranch h m = h.1.1 s.inside
-not_refused v s Truncated h m = h
-not_refused v s TrailingBytes h m = h
-not_refused v s Spelling h m = h
 not_refused v s BadBreak h m = let b = s.breaks in cc
 not_refused v s OutOfMemory h m = m refl
+not_refused v s _ h m = h
 
 -- a snapshot's parts at another state
 pub moved_is : (v : SnapshotValue) (t : StateValue) (p : ProblemValue) (lo hi : Option (List ℕ)) (breaks : List Break) → p ≡ v.problem → lo ≡ v.lo → hi ≡ v.hi → breaks ≡ v.breaks
@@ -76,9 +66,6 @@ moved_is v t p lo hi breaks a b c d = λ j. snapshot_with (a j) (b j) (c j) t (d
 -- ---- where the stretch stops
 
 module _ (most : Option ℕ) (v : SnapshotValue) (s : IsSnapshot v) where
-  ahead : ℕ
-  ahead = steps_between v.problem v.state (branch_end v)
-
   pub up : rank v.problem v.state ≤ rank v.problem (branch_end v)
   up = not_before v.problem (branch_end v) v.state (end_fits v s) s.on_run.fits s.inside.within.not_past
 

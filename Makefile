@@ -20,10 +20,10 @@ LONG_COVERS = pent-10x6 langford-12
 	check-completions check-words check-statuses check-memory check-memory-all install uninstall dist
 
 # The program, the quick examples, all checks of documents and scripts, and a sample of growths that are refused.
-all: check-names check-ownership build gallery check-tools check-parts check-docs check-words check-completions check-page check-statuses check-memory
+all: check-edits check-names check-ownership build gallery check-tools check-parts check-docs check-words check-completions check-page check-statuses check-memory
 
 # The checks that take a minute, once the program is built: a landing has to pass them after the gate.
-quick: check-names check-ownership build gallery check-docs check-words check-statuses check-memory
+quick: check-edits check-names check-ownership build gallery check-docs check-words check-statuses check-memory
 
 # What there is to do, each with the first line that stands above it here.
 help:

@@ -129,6 +129,14 @@ impl Problem {
         }
     }
 
+    /// What is true of every problem, for a proof that needs it.
+    pub fn is_sound(&self)
+        ensures problem { IsProblem self.now }
+    {
+        // Where a field is read, what the whole keeps true is known.
+        let _names = &self.names;
+    }
+
     /// How many items it has.
     pub fn items(&self) -> u32
         ensures count { result ≡ length self.now.names }

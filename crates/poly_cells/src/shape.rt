@@ -44,6 +44,14 @@ impl Shape {
         Shape { cells, lowest }
     }
 
+    /// What is true of every shape, for a proof that needs it.
+    pub fn is_sound(&self)
+        ensures shape { IsShape self.now }
+    {
+        // Where a field is read, what the whole keeps true is known.
+        let _cells = &self.cells;
+    }
+
     /// The cells in order: at least one, each once.
     pub fn cells(&self) -> &[Cell]
         ensures value { result.now ≡ self.now }

@@ -82,8 +82,7 @@ impl<'p> Compiled<'p> {
         ensures value { result.now ≡ choices self.now }
         ensures puzzle { IsPuzzle self.now }
     {
-        // Reading the region tells what holds of every puzzle.
-        let _region = self.puzzle.region();
+        self.puzzle.is_sound();
         self.choices.as_slice()
     }
 }
@@ -104,8 +103,7 @@ pub fn compile<'p>(alloc: Global, puzzle: &'p Puzzle) -> Result<Compiled<'p>, Pl
     ensures accepted { IsOk result → problem_fits puzzle.now ≡ true }
     ensures refused { IsErrOf result PlaceFault.TooManyOptions → problem_fits puzzle.now ≡ false }
 {
-    // Reading the region tells what holds of every puzzle.
-    let _region = puzzle.region();
+    puzzle.is_sound();
     let pieces = needed_pieces(alloc, puzzle)?;
     let cells = needed_cells(alloc, puzzle)?;
     let filled = table_of(alloc, cells.as_slice())?;

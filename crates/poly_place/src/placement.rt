@@ -17,8 +17,7 @@ pub fn placements(alloc: Global, piece: &Shape, region: &Shape) -> Result<Vec<Sh
     ensures value { ReturnsItems result (placements piece.now region.now) }
     ensures exactly { IfOk result (λ sets. ArePlacements piece.now region.now sets.items) }
 {
-    // Reading the piece's cells tells that they are a shape, as those of the region.
-    let _piece_cells = piece.cells();
+    piece.is_sound();
     let cells = region.cells();
     let turns = orientations(alloc, piece)?;
     let bits = table_of(alloc, cells)?;

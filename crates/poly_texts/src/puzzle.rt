@@ -45,6 +45,14 @@ impl Puzzle {
         }
     }
 
+    /// What is true of every puzzle, for a proof that needs it.
+    pub fn is_sound(&self)
+        ensures puzzle { IsPuzzle self.now }
+    {
+        // Where a field is read, what the whole keeps true is known.
+        let _region = &self.region;
+    }
+
     /// The pieces by name, in the order of the text. Each has its least corner at 0 0 0.
     pub fn pieces(&self) -> &IndexMap<PieceName, Shape>
         ensures value { result.now.entries ≡ self.now.pieces }

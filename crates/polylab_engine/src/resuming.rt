@@ -26,7 +26,7 @@ pub fn resume<T: Table>(
 ) -> Result<Vec<u8>, AllocError>
     ensures { ReturnsItems result (resume_output most lists snapshot.now) }
 {
-    let _problem = snapshot.problem();
+    snapshot.is_sound();
     let (report, stop) = stretch_of::<T>(alloc, most, lists, snapshot)?;
     let mut text = report_text(alloc, &report)?;
     let rest = rest_of(alloc, snapshot, stop)?;
@@ -38,8 +38,7 @@ pub fn resume<T: Table>(
 fn end_choices(snapshot: &Snapshot) -> &[u32]
     ensures { end_at result.now ≡ branch_end snapshot.now }
 {
-    // A snapshot tells with its problem what it is.
-    let _problem = snapshot.problem();
+    snapshot.is_sound();
     match snapshot.hi() {
         Some(path) => path,
         None => &[],
@@ -74,7 +73,7 @@ fn stretch_of<T: Table>(
     ensures stop { IfOk result (λ r. state_value r.1 ≡ stop_of most snapshot.now) }
     ensures report { IfOk result (λ r. r.0 ≡ report_up_to lists snapshot.now (state_value r.1)) }
 {
-    let _problem = snapshot.problem();
+    snapshot.is_sound();
     let machine = machine_at::<T>(alloc, snapshot)?;
     search_on(alloc, machine, end_choices(snapshot), most, lists)
 }

@@ -25,18 +25,11 @@ pub fn search<T: Table, R: Threads + Wait + Sync, G: Gate>(
     ensures report { Returns result (whole_report keeps problem.now) }
     ensures problem { IsProblem problem.now }
 {
-    is_problem(problem);
+    problem.is_sound();
     match workers.count {
         1 => Ok(search_alone::<T>(alloc, problem, keeps)?),
         _ => search_together(alloc, workers, problem, keeps),
     }
-}
-
-/// What a problem is known to be.
-fn is_problem(problem: &Problem)
-    ensures { IsProblem problem.now }
-{
-    let _items = problem.items();
 }
 
 /// The report of one worker, who takes a machine through the run.

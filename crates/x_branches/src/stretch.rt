@@ -41,6 +41,14 @@ impl<'p> Stretch<'p> {
         self.problem
     }
 
+    /// What is true of every stretch, for a proof that needs it: its steps lead from its first state to its last.
+    pub fn is_sound(&self)
+        ensures stretch { IsStretch self.now.problem self.now.from self.now.to }
+    {
+        // Where a field is read, what the whole keeps true is known.
+        let _from = &self.from;
+    }
+
     /// Its first state.
     pub fn from(&self) -> &State
         ensures state { state_value result.now ≡ self.now.from }

@@ -59,6 +59,14 @@ pub fn read_draft(alloc: Global, bytes: &[u8]) -> Result<Draft, SnapshotFault>
 }
 
 impl Draft {
+    /// What is true of every draft, for a proof that needs it: its breakpoints can be met, and none comes twice.
+    pub fn is_sound(&self)
+        ensures breaks { are_breaks self.now.problem self.now.breaks ≡ true }
+    {
+        // Where a field is read, what the whole keeps true is known.
+        let _breaks = &self.breaks;
+    }
+
     /// Its problem.
     pub fn problem(&self) -> &Problem
         ensures problem { result.now ≡ self.now.problem }

@@ -134,7 +134,7 @@ pub fn check_parts(
     ensures snapshot { OnOk result (MakeSnapshot problem.now lo.now hi.now state.now breaks.now) }
     ensures refused { IfErr result (MakeNone problem.now lo.now hi.now state.now breaks.now) }
 {
-    let _items = problem.items();
+    problem.is_sound();
     check_breaks(alloc, problem, breaks)?;
     check_position(alloc, problem, lo, hi, state)
 }

@@ -78,6 +78,14 @@ impl Snapshot {
         }
     }
 
+    /// What is true of every snapshot, for a proof that needs it.
+    pub fn is_sound(&self)
+        ensures snapshot { IsSnapshot self.now }
+    {
+        // Where a field is read, what the whole keeps true is known.
+        let _state = &self.state;
+    }
+
     /// Its problem.
     pub fn problem(&self) -> &Problem
         ensures problem { result.now ≡ self.now.problem }

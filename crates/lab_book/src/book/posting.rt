@@ -93,7 +93,7 @@ impl<'p> Book<'p> {
         ensures unchanged { OnErr result (self.new ≡ self.old) }
         ensures given_back { IfErr result (λ s. s ≡ stretch.entry) }
     {
-        let _from = stretch.from();
+        stretch.is_sound();
         let Ok(()) = self.history.keep(1) else {
             return Err(stretch);
         };

@@ -26,8 +26,7 @@ use x_texts::Break;
 fn set_of(alloc: Global, draft: &Draft) -> Result<IndexSet<Break>, AllocError>
     ensures { IfOk result (λ set. set.keys ≡ draft.now.breaks) }
 {
-    // A draft tells with its problem that none of them comes twice.
-    let _problem = draft.problem();
+    draft.is_sound();
     let mut set = IndexSet::new(alloc);
     for breakpoint in draft.breaks() {
         set.insert(*breakpoint)?;
@@ -99,7 +98,7 @@ impl<'p, T: Table> Session<'p, T> {
         ensures made { OnOk result (self.new ≡ loaded self.old draft.now) }
         ensures unchanged { OnErr result (self.new ≡ self.old) }
     {
-        let _problem = draft.problem();
+        draft.is_sound();
         let breaks = set_of(alloc, draft)?;
         let (book, worker) = desk_of(alloc, self.book.problem(), draft, runner)?;
         self.sit_down(book, Some(worker));

@@ -30,7 +30,7 @@ pub enum Kind {
 fn item_of(problem: &Problem, word: &[u8]) -> Option<u32>
     ensures { result ≡ item_named problem.now.names word.now }
 {
-    let _items = problem.items();
+    problem.is_sound();
     match str::from_utf8(word) {
         Ok(name) => problem.item(name),
         Err(_) => None,

@@ -5,11 +5,11 @@ use Rattle.poly_place.proofs.NumberLemmas.{filled_places}
 use Rattle.poly_place.proofs.compiled.compile.Goals as goal
 
 pub table_of-requires : goal.table_of-requires
-table_of-requires c = subst AllInGrid (sym (c.as_slice.ensures.value ∙ c.in_ok-cells.ensures)) (filled_places c.args.puzzle.now c.region-region.ensures.puzzle)
+table_of-requires c = subst AllInGrid (sym (c.as_slice.ensures.value ∙ c.in_ok-cells.ensures)) (filled_places c.args.puzzle.now c.is_sound.ensures.puzzle)
 
 pub overflow_add-items : goal.overflow_add-items
 overflow_add-items c =
-    let few = are_few c.args.puzzle.now c.region-region.ensures.puzzle in
+    let few = are_few c.args.puzzle.now c.is_sound.ensures.puzzle in
     let a = ap length c.in_ok-pieces.ensures in
     let b = ap length c.in_ok-cells.ensures in
     let d = ap length c.maybe_pieces.ensures in
@@ -17,7 +17,7 @@ overflow_add-items c =
 
 pub overflow_add-items-2 : goal.overflow_add-items-2
 overflow_add-items-2 c =
-    let few = are_few c.args.puzzle.now c.region-region.ensures.puzzle in
+    let few = are_few c.args.puzzle.now c.is_sound.ensures.puzzle in
     let a = ap length c.in_ok-pieces.ensures in
     let b = ap length c.in_ok-cells.ensures in
     let d = ap length c.maybe_pieces.ensures in

@@ -16,7 +16,7 @@ pub table_of-requires : goal.table_of-requires
 table_of-requires c = subst AllInGrid (sym c.cells-cells.ensures.value) c.cells-cells.ensures.shape.limits
 
 pub shapes_of-requires : goal.shapes_of-requires
-shapes_of-requires c = are_shapes _ _ _ c.cells-piece_cells.ensures.shape c.cells-cells.ensures.shape (found c)
+shapes_of-requires c = are_shapes _ _ _ c.is_sound.ensures.shape c.cells-cells.ensures.shape (found c)
 
 pub returns-clause-value : goal.returns-clause-value
 returns-clause-value c = IfOk-weaker c.shapes_of.result _ _ (λ s e. e ∙ found (goal.at.returns-clause-value c).After-put_sets_in_order) c.shapes_of.ensures
@@ -25,5 +25,5 @@ pub returns-clause-exactly : goal.returns-clause-exactly
 returns-clause-exactly c =
     IfOk-weaker c.shapes_of.result _ _
     (λ s e. subst (ArePlacements c.args.piece.now c.args.region.now) (sym (e ∙ found (goal.at.returns-clause-exactly c).After-put_sets_in_order))
-    (are_placements c.args.piece.now c.args.region.now c.cells-piece_cells.ensures.shape c.cells-cells.ensures.shape))
+    (are_placements c.args.piece.now c.args.region.now c.is_sound.ensures.shape c.cells-cells.ensures.shape))
     c.shapes_of.ensures

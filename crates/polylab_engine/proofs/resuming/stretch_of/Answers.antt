@@ -8,4 +8,4 @@ use Rattle.polylab_engine.proofs.resuming.stretch_of.Goals as goal
 pub search_on-requires-clause-end : goal.search_on-requires-clause-end
 search_on-requires-clause-end g c =
     subst (λ (m : Position). Fits m.problem (end_at c.end_choices.result.now)) (sym c.in_ok-machine.ensures)
-    (subst (Fits c.args.snapshot.now.problem) (sym c.end_choices.ensures) (end_fits c.args.snapshot.now c.problem-problem.ensures.snapshot))
+    (subst (Fits c.args.snapshot.now.problem) (sym c.end_choices.ensures) (end_fits c.args.snapshot.now c.is_sound.ensures.snapshot))

@@ -17,7 +17,7 @@ sit_down-requires-clause-problem g c =
 pub take_breaks-requires : goal.take_breaks-requires
 take_breaks-requires g c =
     met_by_seated c.args.draft.now c.in_ok-book.book (Some c.in_ok-book.worker) c.in_ok-book.ensures.made c.sit_down.new.self c.args.self.now c.sit_down.ensures c.in_ok-breaks.breaks.keys c.in_ok-breaks.ensures
-    c.problem-problem.ensures.breaks
+    c.is_sound.ensures.breaks
 
 pub returns-clause-made : goal.returns-clause-made
 returns-clause-made g c =

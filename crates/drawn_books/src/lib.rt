@@ -1,6 +1,10 @@
 //! What tests of books share: cuts, runners and stretches of a problem, the lease that a book gave, and which tiles a book has.
 #![tactic(auto)]
 
+ghost use Rattle.std.specs.Prelude.{◌≡◌, ◌↔◌, [], ◌∷◌, IfOk, IfErr, IsOk, IsTrue, Some};
+ghost use Rattle.lab_book.specs.Faults.{number_of};
+ghost use Rattle.lab_book.specs.Posted.{posted_visits};
+
 use cover_problem::{PlainTable, Problem, Table};
 use drawn_problems::state_of;
 use lab_book::{Book, BookFault, Lease, Leased, Tile};
@@ -85,7 +89,9 @@ pub fn stretch_of<'p>(
 }
 
 /// The lease that was given, without what came with it.
-pub fn lease_in(leased: Leased<'_>) -> Lease {
+pub fn lease_in(leased: Leased<'_>) -> Lease
+    ensures { result ≡ leased.entry.lease }
+{
     let Leased {
         lease,
         branch: _,
@@ -112,7 +118,10 @@ pub fn given_lease(answer: Result<Leased<'_>, BookFault>) -> Result<Lease, Fail>
 }
 
 /// The number of a refusal whose lease comes back, and is let go, or 0; none where there was no memory.
-pub fn ended(answer: Result<(), Refused<BookFault, Lease>>) -> Option<u8> {
+pub fn ended(answer: Result<(), Refused<BookFault, Lease>>) -> Option<u8>
+    ensures ended { IfOk answer (λ done. result ≡ Some 0) }
+    ensures refused { IfErr answer (λ refused. result ≡ number_of refused.fault) }
+{
     match answer {
         Ok(()) => Some(0),
         Err(Refused { fault, given }) => {
@@ -123,8 +132,16 @@ pub fn ended(answer: Result<(), Refused<BookFault, Lease>>) -> Option<u8> {
 }
 
 /// Whether a lease was ended; else it is let go.
-pub fn is_ended(answer: Result<(), Refused<BookFault, Lease>>) -> bool {
-    ended(answer) == Some(0)
+pub fn is_ended(answer: Result<(), Refused<BookFault, Lease>>) -> bool
+    ensures { IsTrue result ↔ IsOk answer }
+{
+    match answer {
+        Ok(()) => true,
+        Err(Refused { fault: _, given }) => {
+            given.discard();
+            false
+        }
+    }
 }
 
 /// Copies of a book's tiles.
@@ -149,8 +166,10 @@ fn are_stretches(stretches: &[KeptStretch<'_>], others: &[KeptStretch<'_>]) -> b
     true
 }
 
-/// Whether a tile is another one, as it says itself and part by part.
-fn is_tile(tile: &Tile<'_>, other: &Tile<'_>) -> bool {
+/// Whether a tile is another one, as it says itself and part by part; false tells nothing.
+fn is_tile(tile: &Tile<'_>, other: &Tile<'_>) -> bool
+    ensures { IsTrue result → tile.now ≡ other.now }
+{
     tile.same(other)
         && tile.id() == other.id()
         && tile.branch().same(other.branch())
@@ -161,13 +180,16 @@ fn is_tile(tile: &Tile<'_>, other: &Tile<'_>) -> bool {
         && tile.mark().same(other.mark())
 }
 
-/// Whether a book's tiles are these.
-pub fn has_tiles(book: &Book<'_>, tiles: &[Tile<'_>]) -> bool {
-    if book.tiles().len() != tiles.len() {
+/// Whether a book's tiles are these; false tells nothing.
+pub fn has_tiles(book: &Book<'_>, tiles: &[Tile<'_>]) -> bool
+    ensures { IsTrue result → book.now.tiles ≡ tiles.now }
+{
+    let own = book.tiles();
+    if own.len() != tiles.len() {
         return false;
     }
-    for (tile, other) in book.tiles().iter().zip(tiles) {
-        if !is_tile(tile, other) {
+    'comparing: for k in 0..own.len() {
+        if !is_tile(&own[k], &tiles[k]) {
             return false;
         }
     }
@@ -175,7 +197,9 @@ pub fn has_tiles(book: &Book<'_>, tiles: &[Tile<'_>]) -> bool {
 }
 
 /// Whether a book visits 4 5 1 alone, the one cover of the small problem.
-pub fn visits_the_cover(book: &Book<'_>) -> Result<bool, AllocError> {
+pub fn visits_the_cover(book: &Book<'_>) -> Result<bool, AllocError>
+    ensures { IfOk result (λ only. IsTrue only ↔ (posted_visits book.now.tiles ≡ (4 ∷ 5 ∷ 1 ∷ []) ∷ [])) }
+{
     let visits = book.visits()?;
     Ok(visits.len() == 1 && visits.list(0) == [4, 5, 1].as_slice())
 }

@@ -51,21 +51,23 @@ pub fn cover<R: Threads + Wait + Sync>(rt: &R, alloc: Global, text: &[u8]) -> Do
     }
 }
 
+/// Texts, and what is written of their covers.
+static COVERS: [(&str, &str); 4] = [
+    (SMALL, SMALL_OUTPUT),
+    ("items a", "visits 0\nsteps 7\nlevels 1\n"),
+    (
+        "items a\noption a\noption a\n",
+        "visit 1\nvisit 2\nvisits 2\nsteps 15\nlevels 1 2\n",
+    ),
+    (
+        "items a b\nmaybe c\noption a c\noption b c\noption a\noption b\n",
+        "visit 1 4\nvisit 3 2\nvisit 3 4\nvisits 3\nsteps 35\nlevels 1 2 3\n",
+    ),
+];
+
 #[test]
 fn covers_are_listed(rt: HostRuntime) {
-    let rows = [
-        (SMALL, SMALL_OUTPUT),
-        ("items a", "visits 0\nsteps 7\nlevels 1\n"),
-        (
-            "items a\noption a\noption a\n",
-            "visit 1\nvisit 2\nvisits 2\nsteps 15\nlevels 1 2\n",
-        ),
-        (
-            "items a b\nmaybe c\noption a c\noption b c\noption a\noption b\n",
-            "visit 1 4\nvisit 3 2\nvisit 3 4\nvisits 3\nsteps 35\nlevels 1 2 3\n",
-        ),
-    ];
-    for (text, output) in rows {
+    for (text, output) in COVERS {
         assert!(rt;
             ends_so(
                 &rt,
@@ -81,22 +83,24 @@ fn covers_are_listed(rt: HostRuntime) {
     }
 }
 
+/// Texts that are refused, and the line of each refusal.
+static REFUSED: [(&str, &str); 8] = [
+    (
+        "items a\noption a a",
+        "refused cover 4 ItemTwiceInOption line 2\n",
+    ),
+    ("items a\noption z", "refused cover 3 UnknownItem line 2\n"),
+    ("", "refused cover 6 NoItemLine line 0\n"),
+    ("items a-", "refused cover 1 BadName line 1\n"),
+    ("items a b a", "refused cover 2 RepeatedItem line 1\n"),
+    ("items a\nitem b", "refused cover 7 BadLine line 2\n"),
+    ("option -", "refused cover 6 NoItemLine line 1\n"),
+    ("option", "refused cover 7 BadLine line 1\n"),
+];
+
 #[test]
 fn texts_are_refused(rt: HostRuntime) {
-    let rows = [
-        (
-            "items a\noption a a",
-            "refused cover 4 ItemTwiceInOption line 2\n",
-        ),
-        ("items a\noption z", "refused cover 3 UnknownItem line 2\n"),
-        ("", "refused cover 6 NoItemLine line 0\n"),
-        ("items a-", "refused cover 1 BadName line 1\n"),
-        ("items a b a", "refused cover 2 RepeatedItem line 1\n"),
-        ("items a\nitem b", "refused cover 7 BadLine line 2\n"),
-        ("option -", "refused cover 6 NoItemLine line 1\n"),
-        ("option", "refused cover 7 BadLine line 1\n"),
-    ];
-    for (text, line) in rows {
+    for (text, line) in REFUSED {
         assert!(rt;
             ends_so(
                 &rt,
@@ -147,10 +151,19 @@ pub fn ends_with(text: &[u8], lines: usize, end: &[u8]) -> bool {
     text.iter().filter(|byte| **byte == b'\n').count() == lines && text.ends_with(end)
 }
 
+/// What `cover` does with so many equal options.
+fn cover_equal<R: Threads + Wait + Sync>(
+    rt: &R,
+    alloc: Global,
+    count: usize,
+) -> Result<Done, AllocError> {
+    let text = equal_options(alloc, count)?;
+    Ok(cover(rt, alloc, &text))
+}
+
 #[test]
 pub fn equal_options_take_linear_time(rt: HostRuntime) -> Result<(), Fail> {
-    let text = equal_options(rt.alloc(), 70_000)?;
-    let found = cover(&rt, rt.alloc(), &text);
+    let found = cover_equal(&rt, rt.alloc(), 70_000)?;
     assert!(rt; found.status == 0);
     assert!(rt;
         ends_with(
@@ -159,8 +172,12 @@ pub fn equal_options_take_linear_time(rt: HostRuntime) -> Result<(), Fail> {
             b"visit 70000\nvisits 70000\nsteps 280007\nlevels 1 70000\n"
         )
     );
-    let text = equal_options(rt.alloc(), 262_144)?;
-    let refused = cover(&rt, rt.alloc(), &text);
+    Ok(())
+}
+
+#[test]
+fn options_past_the_limit_are_refused(rt: HostRuntime) -> Result<(), Fail> {
+    let refused = cover_equal(&rt, rt.alloc(), 262_144)?;
     assert!(rt; refused.status == 3);
     assert!(rt; refused.faults.as_slice() == b"refused cover 5 TooLarge line 262145\n".as_slice());
     Ok(())

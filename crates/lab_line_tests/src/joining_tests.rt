@@ -55,41 +55,82 @@ fn add_told(sums: &mut [u64], told: &str) {
     }
 }
 
-/// Adds a snapshot of a problem's branch at its first state.
-fn snapshot(
-    alloc: Global,
-    problem: &str,
-    from: &str,
-    to: &str,
-    state: &str,
-) -> Result<String, AllocError> {
+/// The cuts between which a part of the search lies, and its first state.
+#[derive(Clone, Copy)]
+struct Part<'t> {
+    from: &'t str,
+    to: &'t str,
+    label: &'t str,
+    cursor: &'t str,
+}
+
+/// The snapshot of a problem's part at its first state.
+fn snapshot(alloc: Global, problem: &str, part: Part<'_>) -> Result<String, AllocError> {
     let mut text = String::new(alloc);
     write!(text, "polysnap 1\nproblem {}\n", problem.lines().count())?;
-    write!(text, "{problem}from {from}\nto {to}\nstate {state}\nend\n")?;
+    write!(text, "{problem}from {}\nto {}\n", part.from, part.to)?;
+    write!(text, "state {} {}\nend\n", part.label, part.cursor)?;
     Ok(text)
+}
+
+/// The snapshot that stands at the end of what a slice tells.
+fn snapshot_of(alloc: Global, rest: &str) -> Result<String, AllocError> {
+    let mut text = String::from_str(alloc, "polysnap")?;
+    text.push_str(rest)?;
+    Ok(text)
+}
+
+/// Adds what the next slice tells to sums; the snapshot where the one after it begins, or none where the search ends.
+fn add_slice<R: Threads + Wait + Sync>(
+    rt: &R,
+    alloc: Global,
+    sums: &mut [u64],
+    text: &str,
+) -> Result<Option<String>, Fail> {
+    let job = Job::Resume {
+        steps: Some(100_000),
+        list: false,
+    };
+    let output = written(rt, alloc, job, text);
+    let told = str::from_utf8(&output).unwrap_or("");
+    add_told(sums, told);
+    match told.split_once("polysnap") {
+        Some((_, rest)) => Ok(Some(snapshot_of(alloc, rest)?)),
+        None if told.ends_with("\nend\n") => Ok(None),
+        None => Err(Fail::from("a slice that neither stops nor ends")),
+    }
+}
+
+/// Adds what a search tells slice by slice to sums: how many slices there are, up to a hundred.
+fn add_slices<R: Threads + Wait + Sync>(
+    rt: &R,
+    alloc: Global,
+    sums: &mut [u64],
+    first: String,
+) -> Result<u32, Fail> {
+    let mut text = first;
+    for slice in 1..100u32 {
+        match add_slice(rt, alloc, sums, &text)? {
+            Some(next) => text = next,
+            None => return Ok(slice),
+        }
+    }
+    Ok(100)
 }
 
 #[test]
 fn slices_add_up(rt: HostRuntime) -> Result<(), Fail> {
     let problem = soma(rt.alloc())?;
-    let mut text = snapshot(rt.alloc(), &problem, "start", "end", "X1 -")?;
+    let whole = Part {
+        from: "start",
+        to: "end",
+        label: "X1",
+        cursor: "-",
+    };
+    let first = snapshot(rt.alloc(), &problem, whole)?;
     let mut sums = [0u64; 10];
-    let mut ended = false;
-    for _ in 0..20 {
-        let job = Job::Resume {
-            steps: Some(100_000),
-            list: false,
-        };
-        let output = written(&rt, rt.alloc(), job, &text);
-        let told = str::from_utf8(&output).unwrap_or("");
-        add_told(&mut sums, told);
-        ended = told.ends_with("\nend\n") && !told.contains("polysnap");
-        if let Some((_, rest)) = told.split_once("polysnap") {
-            text = String::from_str(rt.alloc(), "polysnap")?;
-            text.push_str(rest)?;
-        }
-    }
-    assert!(rt; ended);
+    let slices = add_slices(&rt, rt.alloc(), &mut sums, first)?;
+    assert_eq!(rt; slices, 20);
     assert_eq!(rt; sums, WHOLE);
     Ok(())
 }
@@ -109,15 +150,51 @@ fn untried<R: Threads + Wait + Sync>(
 }
 
 /// Adds what a part tells to sums; whether it ends.
-fn add_part<R: Threads + Wait + Sync>(rt: &R, alloc: Global, sums: &mut [u64], part: &str) -> bool {
+fn add_part<R: Threads + Wait + Sync>(
+    rt: &R,
+    alloc: Global,
+    sums: &mut [u64],
+    problem: &str,
+    part: Part<'_>,
+) -> Result<bool, AllocError> {
+    let text = snapshot(alloc, problem, part)?;
     let job = Job::Resume {
         steps: None,
         list: true,
     };
-    let output = written(rt, alloc, job, part);
+    let output = written(rt, alloc, job, &text);
     let told = str::from_utf8(&output).unwrap_or("");
     add_told(sums, told);
-    told.ends_with("\nend\n")
+    Ok(told.ends_with("\nend\n"))
+}
+
+/// Adds what the parts between these first options tell to sums: how many there are that end.
+fn add_parts<R: Threads + Wait + Sync>(
+    rt: &R,
+    alloc: Global,
+    sums: &mut [u64],
+    problem: &str,
+    options: &str,
+) -> Result<u32, AllocError> {
+    let mut ended = 0u32;
+    let mut part = Part {
+        from: "start",
+        to: "end",
+        label: "X1",
+        cursor: "-",
+    };
+    for option in options.split(' ').skip(2) {
+        let is_ended = add_part(rt, alloc, sums, problem, Part { to: option, ..part })?;
+        ended = ended.saturating_add(u32::from(is_ended));
+        part = Part {
+            from: option,
+            label: "X5",
+            cursor: option,
+            ..part
+        };
+    }
+    let is_ended = add_part(rt, alloc, sums, problem, part)?;
+    Ok(ended.saturating_add(u32::from(is_ended)))
 }
 
 #[test]
@@ -125,20 +202,8 @@ fn parts_of_each_first_option_add_up(rt: HostRuntime) -> Result<(), Fail> {
     let problem = soma(rt.alloc())?;
     let options = untried(&rt, rt.alloc(), &problem)?;
     let mut sums = [0u64; 10];
-    let mut from = String::from_str(rt.alloc(), "start")?;
-    let mut state = String::from_str(rt.alloc(), "X1 -")?;
-    let mut parts = 1u32;
-    for option in options.split(' ').skip(2) {
-        let part = snapshot(rt.alloc(), &problem, &from, option, &state)?;
-        assert!(rt; add_part(&rt, rt.alloc(), &mut sums, &part));
-        from = String::from_str(rt.alloc(), option)?;
-        state = String::from_str(rt.alloc(), "X5 ")?;
-        state.push_str(option)?;
-        parts = parts.saturating_add(1);
-    }
-    let last = snapshot(rt.alloc(), &problem, &from, "end", &state)?;
-    assert!(rt; add_part(&rt, rt.alloc(), &mut sums, &last));
-    assert_eq!(rt; parts, 55);
+    let ended = add_parts(&rt, rt.alloc(), &mut sums, &problem, &options)?;
+    assert_eq!(rt; ended, 55);
     assert_eq!(rt; sums, WHOLE);
     Ok(())
 }

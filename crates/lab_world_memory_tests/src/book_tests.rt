@@ -193,7 +193,23 @@ fn is_made<'p>(book: &mut Book<'p>, lease: &Lease, call: Call<'p>, before: &Book
     }
 }
 
-/// Whether the same call leaves two books alike, memory being refused to the second one alone.
+/// Whether the same call leaves two books alike that are as a third one before it, memory being refused to the second one alone.
+fn are_made_alike<'p>(
+    alloc: Global,
+    problem: &'p Problem,
+    lease: &Lease,
+    ask: Ask,
+    before: &Book<'p>,
+    twin: &mut Book<'p>,
+    book: &mut Book<'p>,
+) -> Result<bool, Fail> {
+    let is_first = is_made(twin, lease, call_of(alloc, problem, ask)?, before);
+    let call = call_of(alloc, problem, ask)?;
+    grows(alloc)?;
+    Ok(is_first && is_made(book, lease, call, before) && are_alike(book, twin))
+}
+
+/// The same of three new books.
 fn is_made_alike<'p>(
     alloc: Global,
     problem: &'p Problem,
@@ -203,10 +219,7 @@ fn is_made_alike<'p>(
     let before = begun(alloc, problem, ask)?;
     let mut twin = begun(alloc, problem, ask)?;
     let mut book = begun(alloc, problem, ask)?;
-    let is_first = is_made(&mut twin, lease, call_of(alloc, problem, ask)?, &before);
-    let call = call_of(alloc, problem, ask)?;
-    grows(alloc)?;
-    Ok(is_first && is_made(&mut book, lease, call, &before) && are_alike(&book, &twin))
+    are_made_alike(alloc, problem, lease, ask, &before, &mut twin, &mut book)
 }
 
 /// The same of the small problem, under the first lease that worker 3 has of its tile.

@@ -106,12 +106,44 @@ fn last_but_one(table: &LinkTable, item: u32) -> Option<u32>
     table.prev_option(item, table.last_option(item)?)
 }
 
+/// Tells a table of nodes that isn't the small problem's.
+pub fn assert_small_block(rt: &impl Abort, table: &LinkTable) {
+    assert!(rt; table.entries() == 31);
+    assert!(rt; is_small_block(table));
+}
+
+/// The same of a new table.
+fn assert_new_block(rt: &impl Abort, alloc: Global, problem: &Problem) -> Result<(), Fail> {
+    let table = LinkTable::new(alloc, problem)?;
+    assert_small_block(rt, &table);
+    Ok(())
+}
+
 #[test]
 fn the_small_problem_has_its_table_of_nodes(rt: HostRuntime) -> Result<(), Fail> {
     let problem = read_cover(rt.alloc(), SMALL.as_bytes())?;
-    let table = LinkTable::new(rt.alloc(), &problem)?;
+    assert_new_block(&rt, rt.alloc(), &problem)
+}
+
+/// Tells a table of nodes that isn't the small problem's again once three items were covered and uncovered, or is so in between.
+fn assert_goes_back(rt: &impl Abort, table: &mut LinkTable)
+    requires size { size_of table.old.problem ≡ 31 }
+    requires items { length table.old.problem.names ≡ 7 }
+    requires none { table.old.covered ≡ [] }
+{
+    cover_three(table, 1, 4, 7);
+    assert!(rt; !is_small_block(table));
+    uncover_three(table, 1, 4, 7);
+    assert!(rt; is_small_block(table));
+}
+
+/// The same of a new table of a problem with seven items.
+fn assert_new_goes_back(rt: &impl Abort, alloc: Global, problem: &Problem) -> Result<(), Fail>
+    requires { length problem.now.names ≡ 7 }
+{
+    let mut table = LinkTable::new(alloc, problem)?;
     assert!(rt; table.entries() == 31);
-    assert!(rt; is_small_block(&table));
+    assert_goes_back(rt, &mut table);
     Ok(())
 }
 
@@ -119,19 +151,7 @@ fn the_small_problem_has_its_table_of_nodes(rt: HostRuntime) -> Result<(), Fail>
 fn uncovering_gives_the_table_of_nodes_back(rt: HostRuntime) -> Result<(), Fail> {
     let problem = read_cover(rt.alloc(), SMALL.as_bytes())?;
     assert!(rt; problem.items() == 7);
-    let mut table = LinkTable::new(rt.alloc(), &problem)?;
-    assert!(rt; table.entries() == 31);
-    cover_three(&mut table, 1, 4, 7);
-    assert!(rt; !is_small_block(&table));
-    uncover_three(&mut table, 1, 4, 7);
-    assert!(rt; is_small_block(&table));
-    Ok(())
-}
-
-/// Tells a table of nodes that isn't the small problem's.
-pub fn assert_small_block(rt: &impl Abort, table: &LinkTable) {
-    assert!(rt; table.entries() == 31);
-    assert!(rt; is_small_block(table));
+    assert_new_goes_back(&rt, rt.alloc(), &problem)
 }
 
 /// How many steps a machine takes to its end.
@@ -172,27 +192,41 @@ fn the_end_of_a_run_has_the_table_of_nodes_again(rt: HostRuntime) -> Result<(), 
     assert_walks(&rt, rt.alloc(), &problem)
 }
 
-#[test]
-fn what_is_left_once_a_d_and_g_are_covered(rt: HostRuntime) -> Result<(), Fail> {
-    let problem = read_cover(rt.alloc(), SMALL.as_bytes())?;
-    assert!(rt; problem.items() == 7);
-    let mut table = LinkTable::new(rt.alloc(), &problem)?;
-    cover_three(&mut table, 1, 4, 7);
+/// Tells what isn't left once the items 1, 4 and 7 are covered.
+fn assert_left(rt: &impl Abort, table: &LinkTable)
+    requires { length table.now.problem.names ≡ 7 }
+{
     assert!(rt; table.covered() == [1, 4, 7].as_slice());
     assert!(rt; table.first_item() == Some(2));
-    assert!(rt; second_item(&table) == Some(3));
+    assert!(rt; second_item(table) == Some(3));
     assert!(rt; table.len(2) == 1);
     assert!(rt; table.first_option(3) == Some(1));
-    assert!(rt; second_option(&table, 3) == Some(3));
-    assert!(rt; second_option(&table, 2) == None);
+    assert!(rt; second_option(table, 3) == Some(3));
+    assert!(rt; second_option(table, 2) == None);
     assert!(rt; table.last_option(3) == Some(3));
-    assert!(rt; last_but_one(&table, 3) == Some(1));
-    assert!(rt; last_but_one(&table, 2) == None);
+    assert!(rt; last_but_one(table, 3) == Some(1));
+    assert!(rt; last_but_one(table, 2) == None);
     // The lists of covered items stay as they were.
     assert!(rt; table.len(1) == 2);
     assert!(rt; table.first_option(4) == Some(6));
     assert!(rt; table.len(4) == 1);
+}
+
+/// The same of a new table of a problem with seven items.
+fn assert_left_of(rt: &impl Abort, alloc: Global, problem: &Problem) -> Result<(), Fail>
+    requires { length problem.now.names ≡ 7 }
+{
+    let mut table = LinkTable::new(alloc, problem)?;
+    cover_three(&mut table, 1, 4, 7);
+    assert_left(rt, &table);
     Ok(())
+}
+
+#[test]
+fn what_is_left_once_a_d_and_g_are_covered(rt: HostRuntime) -> Result<(), Fail> {
+    let problem = read_cover(rt.alloc(), SMALL.as_bytes())?;
+    assert!(rt; problem.items() == 7);
+    assert_left_of(&rt, rt.alloc(), &problem)
 }
 
 /// An entry that names nothing.

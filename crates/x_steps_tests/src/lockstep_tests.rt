@@ -136,7 +136,13 @@ fn steps_of_both(alloc: Global, problem: &Problem) -> Result<Option<usize>, Allo
     Ok(if same { Some(on.events.len()) } else { None })
 }
 
-/// How many steps both tables make of the problem that is drawn; 100,000 where they differ.
+/// How many steps both tables make of the problem of a text; 100,000 where they differ.
+fn steps_of_text(alloc: Global, text: &str) -> Result<usize, Fail> {
+    let problem = read_cover(alloc, text.as_bytes())?;
+    Ok(steps_of_both(alloc, &problem)?.unwrap_or(100_000))
+}
+
+/// The same of a text that is drawn.
 fn drawn_steps(
     alloc: Global,
     seed: &mut u64,
@@ -145,8 +151,7 @@ fn drawn_steps(
     options: u32,
 ) -> Result<usize, Fail> {
     let text = drawn(alloc, seed, items, primary, options)?;
-    let problem = read_cover(alloc, text.as_bytes())?;
-    Ok(steps_of_both(alloc, &problem)?.unwrap_or(100_000))
+    steps_of_text(alloc, &text)
 }
 
 // The steps were counted by another program, from the numbers of states and of visits.

@@ -58,20 +58,22 @@ module _ (ts : List TileValue) (quiet : filter stopped ts ≡ []) where
             ∙ quiet;
       })
 
-  -- by what is found
-  made_stays : (change : ℕ → Outcome) (id : ℕ) (check : TileValue → Option BookFault)
-      → ((i : ℕ) → i < length ts → check (tile_at ts i) ≡ None → Stays ts (change i).tiles)
-      → Stays ts (made_at ts change (found ts id check)).tiles
-  made_stays change id check h = by (tile_place id ts) refl
-    where
-      at : (i : ℕ) (d : Option BookFault) → (d ≡ None → Stays ts (change i).tiles) → Stays ts (made_at ts change (unless i d)).tiles
-      at i None h = h refl
-      at i (Some f) h = nothing
+-- ---- what is made at the place that is found
 
-      by : (place : Option ℕ) → tile_place id ts ≡ place → Stays ts (made_at ts change (checked ts check place)).tiles
-      by None e = nothing
-      by (Some i) e =
-          let s = position-Some (λ (t : TileValue). t.id == id) ts i no_tile e in at i (check (tile_at ts i)) (h i s.0)
+-- what is true of the tiles stays true, where it is true of what is made
+pub made_leaves : (Holds : List TileValue → Type 0) (ts : List TileValue) → Holds ts → (change : ℕ → Outcome) (id : ℕ) (check : TileValue → Option BookFault)
+    → ((i : ℕ) → i < length ts → check (tile_at ts i) ≡ None → Holds (change i).tiles)
+    → Holds (made_at ts change (found ts id check)).tiles
+made_leaves Holds ts here change id check h = by (tile_place id ts) refl
+  where
+    at : (i : ℕ) (d : Option BookFault) → (d ≡ None → Holds (change i).tiles) → Holds (made_at ts change (unless i d)).tiles
+    at i None h = h refl
+    at i (Some f) h = here
+
+    by : (place : Option ℕ) → tile_place id ts ≡ place → Holds (made_at ts change (checked ts check place)).tiles
+    by None e = here
+    by (Some i) e =
+        let s = position-Some (λ (t : TileValue). t.id == id) ts i no_tile e in at i (check (tile_at ts i)) (h i s.0)
 
 -- ---- what a check tells
 
@@ -79,11 +81,9 @@ test_passed : (test : Bool) (f : BookFault) (next : Option BookFault) → else_f
 test_passed true f next e = refl
 test_passed false f next e = absurd (cc)
 
-leased_is : (s : Status) (g : Grant) → is_lease s g ≡ true → (is_held s ≡ false) × (is_leased s ≡ true)
-leased_is status.Waiting g e = absurd (false≢true e)
-leased_is status.Held g e = absurd (false≢true e)
+pub leased_is : (s : Status) (g : Grant) → is_lease s g ≡ true → (is_held s ≡ false) × (is_leased s ≡ true)
 leased_is (status.Leased w i) g e = (refl, refl)
-leased_is status.Closed g e = absurd (false≢true e)
+leased_is _ g e = absurd (false≢true e)
 
 -- a leased tile isn't stopped: no stop was asked for
 not_asked : (t : TileValue) → stopped t ≡ false → is_leased t.status ≡ true → t.stop ≡ false
@@ -126,38 +126,36 @@ module _ (b : BookValue) (w : ℕ) (quiet : filter stopped b.tiles ≡ []) where
 
   pub call_stays : (c : Call) → is_pool_call c ≡ true → Stays b.tiles (outcome b w c).tiles
   unfolding outcome
-  call_stays (call.Lease id) p = made_stays b.tiles quiet (lent b w) id (λ (t : TileValue). status_fault (is_waiting t.status) t)
+  call_stays (call.Lease id) p = made_leaves (Stays b.tiles) b.tiles (nothing b.tiles quiet) (lent b w) id (λ (t : TileValue). status_fault (is_waiting t.status) t)
       (λ i l n. lent_stays i l (test_passed _ _ _ n))
   call_stays call.LeaseAny p = by (first_waiting b.tiles) refl
     where
       by : (r : Option ℕ) → first_waiting b.tiles ≡ r → Stays b.tiles (lent_any b w r).tiles
       by None e = nothing b.tiles quiet
       by (Some i) e = let s = position-Some (λ (t : TileValue). is_waiting t.status) b.tiles i no_tile e in lent_stays i s.0 s.1
-  call_stays (call.TakeHeld id) p = absurd (false≢true p)
   call_stays (call.Post g from to same) p =
-      made_stays b.tiles quiet (posted b from to) g.id (λ (t : TileValue). lease_fault g t (stretch_fault b.problem from to same t))
+      made_leaves (Stays b.tiles) b.tiles (nothing b.tiles quiet) (posted b from to) g.id (λ (t : TileValue). lease_fault g t (stretch_fault b.problem from to same t))
       (λ i l n. kept_stays g i _ _ l n refl refl)
   call_stays (call.Split g path same) p =
       let cut : CutPath = record { problem = b.problem; path = path } in
-      made_stays b.tiles quiet (split b path) g.id (λ (t : TileValue). lease_fault g t (cut_fault b.problem path same t))
+      made_leaves (Stays b.tiles) b.tiles (nothing b.tiles quiet) (split b path) g.id (λ (t : TileValue). lease_fault g t (cut_fault b.problem path same t))
       (λ i l n.
       let q = leased_is (at i).status g (test_passed _ _ _ n) in
       put_stays b.tiles quiet i (head_tile (at i) cut) (tail_tile (length b.tiles) (at i) cut) l q.0 q.0 refl
       (none_at stopped b.tiles i no_tile quiet l) refl)
   call_stays (call.Retract g) p =
-      made_stays b.tiles quiet (retracted b) g.id (λ (t : TileValue). lease_fault g t (retract_fault t))
+      made_leaves (Stays b.tiles) b.tiles (nothing b.tiles quiet) (retracted b) g.id (λ (t : TileValue). lease_fault g t (retract_fault t))
       (λ i l n. kept_stays g i _ _ l n refl refl)
   call_stays (call.Park g) p =
-      made_stays b.tiles quiet (settled b freed) g.id (λ (t : TileValue). lease_fault g t None)
+      made_leaves (Stays b.tiles) b.tiles (nothing b.tiles quiet) (settled b freed) g.id (λ (t : TileValue). lease_fault g t None)
       (λ i l n. own_stays g i _ _ l n (λ q s. (freed_not_held (at i).stop s, freed_not_stopped (at i).stop (at i).stop)))
   call_stays (call.Abandon g) p =
-      made_stays b.tiles quiet (settled b freed) g.id (λ (t : TileValue). lease_fault g t None)
+      made_leaves (Stays b.tiles) b.tiles (nothing b.tiles quiet) (settled b freed) g.id (λ (t : TileValue). lease_fault g t None)
       (λ i l n. own_stays g i _ _ l n (λ q s. (freed_not_held (at i).stop s, freed_not_stopped (at i).stop (at i).stop)))
   call_stays (call.Close g) p =
-      made_stays b.tiles quiet (settled b closed) g.id (λ (t : TileValue). lease_fault g t (end_fault t))
+      made_leaves (Stays b.tiles) b.tiles (nothing b.tiles quiet) (settled b closed) g.id (λ (t : TileValue). lease_fault g t (end_fault t))
       (λ i l n. own_stays g i _ _ l n (λ q s. (refl, refl)))
-  call_stays (call.PutBack id s) p = absurd (false≢true p)
-  call_stays (call.RequestStop id) p = absurd (false≢true p)
+  call_stays _ p = absurd (false≢true p)
 
 -- ---- all of a pool's calls
 

@@ -1,5 +1,5 @@
 -- What a call of a book leaves is a tiling, where its tiles are one.
-use Rattle.std.proofs.Common.{◌≡◌, ℕ, suc, ◌-◌, ◌<◌, Bool, true, false, cond, not, Option, Some, None, Result, Ok, Err, List, [], ◌∷◌}
+use Rattle.std.proofs.Common.{◌≡◌, ℕ, suc, ◌-◌, ◌<◌, Bool, true, false, cond, not, Option, Some, None, List, [], ◌∷◌}
 use Rattle.std.proofs.Common.{length, take, refl, sym, ap, ◌∙◌, subst, is_some, unwrap_or}
 use Rattle.std.proofs.Math.ListN.{set}
 use Rattle.std.proofs.lemmas.Bool.{false≢true, not-true}
@@ -27,16 +27,9 @@ use Rattle.lab_book.proofs.TileLemmas.{settled_is_tile, part_is_tile, posted_is_
 use Rattle.lab_book.proofs.TilingLemmas.{tile_in, tiling_set}
 use Rattle.lab_book.proofs.SplitLemmas.{head_is_tile, tail_is_tile}
 use Rattle.lab_book.proofs.StepLemmas.{asked_is_tile, free_open, leased_open}
-use Rattle.lab_world.proofs.HoldLemmas.{found_ok, passed}
+use Rattle.lab_world.proofs.HoldLemmas.{passed}
 use Rattle.alike_books.proofs.SplitLemmas.{split_tiling}
-
--- ---- how a tile stands
-
-lease_leased : (s : Status) (g : Grant) → is_lease s g ≡ true → is_leased s ≡ true
-lease_leased status.Waiting g e = absurd (false≢true e)
-lease_leased status.Held g e = absurd (false≢true e)
-lease_leased (status.Leased w i) g e = refl
-lease_leased status.Closed g e = absurd (false≢true e)
+use Rattle.alike_books.proofs.PoolCallLemmas.{leased_is, made_leaves}
 
 -- stretches up to a mark are the first ones
 to_take : (s m : StateValue) (xs ys : List StretchValue) → stretches_to s m xs ≡ Some ys → (n : ℕ) × (ys ≡ take n xs)
@@ -99,24 +92,15 @@ module _ (b : BookValue) (tiling : IsTiling b.problem b.branch b.first b.tiles) 
 
   -- ---- what is made at the place that is found
 
-  made_keeps : (change : ℕ → Outcome) (id : ℕ) (check : TileValue → Option BookFault)
-      → ((i : ℕ) → i < length b.tiles → check (tile_at b.tiles i) ≡ None → Keeps (change i).tiles)
-      → Keeps (made_at b.tiles change (found b.tiles id check)).tiles
-  made_keeps change id check h = by (found b.tiles id check) refl
-    where
-      by : (r : Result ℕ BookFault) → found b.tiles id check ≡ r → Keeps (made_at b.tiles change r).tiles
-      by (Ok i) e = let q = found_ok b.tiles id check i e in h i q.0 q.2
-      by (Err f) e = tiling
-
   -- by a lease
   lease_keeps : (change : ℕ → Outcome) (g : Grant) (next : TileValue → Option BookFault)
       → ((i : ℕ) → i < length b.tiles → is_leased (tile_at b.tiles i).status ≡ true → next (tile_at b.tiles i) ≡ None
       → Keeps (change i).tiles)
       → Keeps (made_at b.tiles change (found b.tiles g.id (λ (t : TileValue). lease_fault g t (next t)))).tiles
   lease_keeps change g next h =
-      made_keeps change g.id (λ (t : TileValue). lease_fault g t (next t)) (λ i l n.
+      made_leaves Keeps b.tiles tiling change g.id (λ (t : TileValue). lease_fault g t (next t)) (λ i l n.
       let q = passed (is_lease (tile_at b.tiles i).status g) (StaleLease (mark_of (tile_at b.tiles i))) (next (tile_at b.tiles i)) n in
-      h i l (lease_leased (tile_at b.tiles i).status g q.0) q.1)
+      h i l (leased_is (tile_at b.tiles i).status g q.0).1 q.1)
 
   post_keeps : (from to : StateValue) (same : Bool) (i : ℕ) → IsStretch b.problem from to → i < length b.tiles
       → is_leased (tile_at b.tiles i).status ≡ true → stretch_fault b.problem from to same (tile_at b.tiles i) ≡ None
@@ -146,14 +130,14 @@ module _ (b : BookValue) (tiling : IsTiling b.problem b.branch b.first b.tiles) 
   pub call_keeps : (c : Call) → IsOfRun b.problem c → IsTiling b.problem b.branch b.first (outcome b w c).tiles
   unfolding outcome
   call_keeps (call.Lease id) r =
-      made_keeps (lent b w) id (λ (t : TileValue). status_fault (is_waiting t.status) t) (λ i l n. lent_keeps i l)
+      made_leaves Keeps b.tiles tiling (lent b w) id (λ (t : TileValue). status_fault (is_waiting t.status) t) (λ i l n. lent_keeps i l)
   call_keeps call.LeaseAny r = by (first_waiting b.tiles) refl
     where
       by : (o : Option ℕ) → first_waiting b.tiles ≡ o → Keeps (lent_any b w o).tiles
       by None e = tiling
       by (Some i) e = lent_keeps i (position-Some (λ (t : TileValue). is_waiting t.status) b.tiles i no_tile e).0
   call_keeps (call.TakeHeld id) r =
-      made_keeps (lent b w) id (λ (t : TileValue). status_fault (is_held t.status) t) (λ i l n. lent_keeps i l)
+      made_leaves Keeps b.tiles tiling (lent b w) id (λ (t : TileValue). status_fault (is_held t.status) t) (λ i l n. lent_keeps i l)
   call_keeps (call.Post g from to same) r =
       lease_keeps (posted b from to) g (stretch_fault b.problem from to same) (λ i l h n. post_keeps from to same i r l h n)
   call_keeps (call.Split g path same) r =
@@ -171,14 +155,14 @@ module _ (b : BookValue) (tiling : IsTiling b.problem b.branch b.first b.tiles) 
       (same_state_is (mark_of (tile_at b.tiles i)) (tile_end (tile_at b.tiles i))
       (passed (same_state (mark_of (tile_at b.tiles i)) (tile_end (tile_at b.tiles i))) NotAtEnd None n).0))
   call_keeps (call.PutBack id mark) r =
-      made_keeps (settled b (put_back mark)) id (mark_fault mark) (λ i l n.
+      made_leaves Keeps b.tiles tiling (settled b (put_back mark)) id (mark_fault mark) (λ i l n.
       let t = tile_at b.tiles i in
       let p = passed (is_free t.status) NotWaiting _ n in
       let q = passed (is_some (stretches_to mark t.first t.stretches)) NotAMark None p.1 in
       put_keeps i (put_back mark t) l refl refl refl
       (λ k. back_keeps t (free_open t.status p.0) k mark (stretches_to mark t.first t.stretches) refl q.0))
   call_keeps (call.RequestStop id) r =
-      made_keeps (settled b asked_to_stop) id (λ (t : TileValue). status_fault (not (is_closed t.status)) t) (λ i l n.
+      made_leaves Keeps b.tiles tiling (settled b asked_to_stop) id (λ (t : TileValue). status_fault (not (is_closed t.status)) t) (λ i l n.
       let t = tile_at b.tiles i in
       put_keeps i (asked_to_stop t) l refl refl refl
       (λ k. asked_is_tile b.problem t (asked_status t.status) refl (not-true _ (passed (not (is_closed t.status)) NotWaiting None n).0) k))

@@ -17,14 +17,14 @@ use Rattle.x_steps.proofs.StretchLemmas.{reached_fits, reached_rank, steps_betwe
 use Rattle.x_branches.specs.declared.branch.Branch.{Branch}
 use Rattle.x_branches.specs.declared.fault.RunnerFault.TheVariants.{NotAtMark}
 use Rattle.x_branches.specs.Branch.{first_of, end_of}
-use Rattle.x_branches.specs.Cut.{CutPath, IsCut, cut_state}
+use Rattle.x_branches.specs.Cut.{IsCut, cut_state}
 use Rattle.x_branches.specs.Stretch.{StretchValue, IsStretch}
 use Rattle.x_branches.specs.Runner.{RunnerValue, IsRunner, IsWithin, unposted_steps}
 use Rattle.x_branches.specs.Refusals.{most_steps, untried_in, cut_at}
 use Rattle.x_branches.specs.Untried.{with_choice}
 use Rattle.x_branches.proofs.CutLemmas.{cut_fits}
-use Rattle.x_branches.proofs.RunnerLemmas.{not_before, before_not, next_before, before_goes_on}
-use Rattle.x_branches.proofs.StageLemmas.{comes_rank, rank_comes}
+use Rattle.x_branches.proofs.RunnerLemmas.{not_before, next_before, before_goes_on, may_stand, may_end}
+use Rattle.x_branches.proofs.StageLemmas.{comes_rank}
 use Rattle.lab_book.specs.declared.fault.BookFault.{BookFault}
 use Rattle.lab_book.specs.declared.entry.Call.TheVariants as call
 use Rattle.lab_book.specs.declared.entry.Reply.{Reply}
@@ -137,26 +137,8 @@ module _ (u : AtWork) (s : IsSoundWork u) where
     runner = k;
   }
 
-  -- it may stand wherever the mark doesn't come later, nor the end earlier
   mark_up : rank run.problem run.mark ≤ rank run.problem run.position
   mark_up = reached_rank run.problem run.mark run.position _ s.runner.stretch.fits s.runner.stretch.reaches
-
-  start_up : rank run.problem (first_of run.branch.lo) ≤ rank run.problem run.mark
-  start_up = not_before run.problem run.mark (first_of run.branch.lo) s.runner.stretch.fits start_fits s.runner.mark_in.begun
-
-  placed_runner : (t : StateValue) → Fits run.problem t → rank run.problem run.mark ≤ rank run.problem t
-      → rank run.problem t ≤ rank run.problem (end_of run.branch.hi) → IsRunner (record run { position = t })
-  placed_runner t f up down =
-      let low = start_up in
-      record {
-        branch = s.runner.branch;
-        stretch = stretch_by run.problem run.mark t s.runner.stretch.fits f up;
-        mark_in = s.runner.mark_in;
-        position_in = record {
-          begun = before_not run.problem t (first_of run.branch.lo) f (omega arith);
-          not_past = before_not run.problem (end_of run.branch.hi) t last_fits down;
-        };
-      }
 
   -- one step on, where it isn't at the end
   next_runner : 0 < steps_ahead run → IsRunner (record run { position = next run.problem run.position })
@@ -164,7 +146,7 @@ module _ (u : AtWork) (s : IsSoundWork u) where
       let on = before_goes_on run.problem run.position (end_of run.branch.hi) here_fits last_fits before_end in
       let one = rank_next run.problem run.position here_fits on in
       let up = mark_up in
-      placed_runner (next run.problem run.position) (fits_next run.problem run.position here_fits) (omega arith)
+      may_stand run (next run.problem run.position) s.runner start_fits last_fits (fits_next run.problem run.position here_fits) (omega arith)
       (next_before run.problem run.position (end_of run.branch.hi) here_fits last_fits before_end)
     where
       before_end : rank run.problem run.position < rank run.problem (end_of run.branch.hi)
@@ -186,7 +168,7 @@ module _ (u : AtWork) (s : IsSoundWork u) where
       let rest : ReachesIn run.problem t run.position (unposted_steps run - n) = record { ends = ends; goes_on = on } in
       let down = reached_rank run.problem t run.position (unposted_steps run - n) fits rest in
       let high = not_before run.problem (end_of run.branch.hi) run.position last_fits here_fits k.position_in.not_past in
-      placed_runner t fits (reached_rank run.problem run.mark t n k.stretch.fits way) (omega arith)
+      may_stand run t k start_fits last_fits fits (reached_rank run.problem run.mark t n k.stretch.fits way) (omega arith)
     where
       whole : (unposted_steps run - n) + n ≡ unposted_steps run
       whole = omega arith
@@ -203,31 +185,6 @@ module _ (u : AtWork) (s : IsSoundWork u) where
   back_sound n = moved_sound _ (back_runner (unposted_steps run - n) (omega arith))
 
   -- ---- the branch is parted at an untried option
-
-  -- its branch ends at a cut after its position
-  ended_runner : (cut : CutPath) → cut.problem ≡ run.problem → Fits run.problem (cut_state cut.path)
-      → rank run.problem run.position < rank run.problem (cut_state cut.path)
-      → IsRunner (record run { branch = record { lo = run.branch.lo; hi = Some cut } })
-  ended_runner cut same fits up =
-      let k = s.runner in
-      let low = start_up in
-      let mark = mark_up in
-      record {
-        branch = record {
-          low = k.branch.low;
-          high = same;
-          order = rank_comes run.problem (first_of run.branch.lo) (cut_state cut.path) start_fits fits (omega arith);
-        };
-        stretch = k.stretch;
-        mark_in = record {
-          begun = k.mark_in.begun;
-          not_past = before_not run.problem (cut_state cut.path) run.mark fits (omega arith);
-        };
-        position_in = record {
-          begun = k.position_in.begun;
-          not_past = before_not run.problem (cut_state cut.path) run.position fits (omega arith);
-        };
-      }
 
   pub parted_sound : (level o : ℕ) → has (untried_in run level) o ≡ true → IsSoundWork (parted u (cut_at run level o))
   unfolding parted
@@ -248,7 +205,7 @@ module _ (u : AtWork) (s : IsSoundWork u) where
             (subst (λ (p : ProblemValue). IsCut p path) s.holds.problem cut.cut);
         seat = s.seat;
         holds = record { problem = mine.0; tile = mine.2 };
-        runner = ended_runner (cut_at run level o) refl (cut_fits run.problem path cut.cut)
+        runner = may_end run (cut_at run level o) s.runner start_fits refl (cut_fits run.problem path cut.cut)
             (comes_rank run.problem run.position (cut_state path) here_fits cut.later);
       }
 
@@ -359,10 +316,7 @@ module _ (u : AtWork) (s : IsSoundWork u) where
       let mine = asked_has (reply.Refused f) e in
       record { tiling = asked_tiling; seat = s.seat; holds = record { problem = mine.0; tile = mine.2 }; runner = s.runner }
   retracted_sound none (reply.Leased g lo hi mark n) e = s
-  retracted_sound none reply.NoneWaits e = s
-  retracted_sound none (reply.Posted stop n) e = s
-  retracted_sound none (reply.Split id) e = s
-  retracted_sound none reply.Done e = s
+  retracted_sound none _ e = s
 
   pub retract_sound : IsSoundWork (retract u).work
   unfolding retract

@@ -6,7 +6,7 @@ use Rattle.std.proofs.lemmas.Bool.{cases_lt, cases_order, lt-ltb, le-ltb, ltb-tr
 use Rattle.std.proofs.lemmas.List.{drop_all, length-take-le, take-append-le, take-append-drop, get_or-take, get_or_append_left}
 use Rattle.std.proofs.lemmas.Option.{slice_get-get_or}
 use Rattle.cover_problem.specs.Lists.{has, above, RisesFrom}
-use Rattle.cover_problem.specs.Problem.{ProblemValue, option_at}
+use Rattle.cover_problem.specs.Problem.{ProblemValue}
 use Rattle.cover_problem.specs.Path.{IsValid, covered_by}
 use Rattle.cover_problem.proofs.CoverLemmas.{valid_split}
 use Rattle.cover_problem.proofs.MemberLemmas.{has_here, has_cases, has_filter_in}
@@ -26,7 +26,7 @@ use Rattle.x_branches.specs.Walk.{end_choices}
 use Rattle.x_branches.specs.Stage.{IsShared}
 use Rattle.x_branches.specs.Untried.{remaining_above, left_after, left_above, is_before_end, untried_after, untried}
 use Rattle.x_branches.proofs.CutLemmas.{test_rank, rank_test, cut_is, cut_fits, chosen_is, IsLater, later_one}
-use Rattle.x_branches.proofs.UntriedLemmas.{read_drop, none_drop, untried_left, covered_more}
+use Rattle.x_branches.proofs.UntriedLemmas.{read_drop, none_drop, untried_left}
 use Rattle.x_branches.proofs.WalkedLemmas.{none_is_start}
 
 nothing_in : (xs : List ℕ) → ((k : ℕ) → has xs k ≡ true → ⊥) → xs ≡ []
@@ -181,11 +181,6 @@ take_fewer xs ys n k a b e l = sym (part xs a) ∙ ap (take k) e ∙ part ys b
 read_shared : (xs ys : List ℕ) (n k : ℕ) → take n xs ≡ take n ys → k < n → get_or xs k 0 ≡ get_or ys k 0
 read_shared xs ys n k e l = sym (get_or-take n xs k 0 l) ∙ ap (λ zs. get_or zs k 0) e ∙ get_or-take n ys k 0 l
 
-pub read_at : (xs : List ℕ) (n x : ℕ) → n < length xs → x ≡ get_or xs n x → x ≡ get_or xs n 0
-read_at xs n x l e =
-    let f : Some (get_or xs n x) ≡ Some (get_or xs n 0) = sym (slice_get-get_or xs n x l) ∙ slice_get-get_or xs n 0 l in
-    let h : get_or xs n x ≡ get_or xs n 0 = cc in e ∙ h
-
 -- the first of a path's choices are a path
 pub valid_front : (p : ProblemValue) (s : StateValue) (n : ℕ) → Fits p s → IsValid p (take n s.path)
 unfolding IsValid
@@ -217,18 +212,20 @@ nil_of (x ∷ xs) e = absurd (cc)
 
 few_at_cursor : (k : Cursor) → length (cursor_option k) ≤ 1
 few_at_cursor (At o) = omega arith
-few_at_cursor cursor.None = omega arith
-few_at_cursor cursor.Past = omega arith
+few_at_cursor _ = omega arith
 
--- below a level nothing is untried, and so many items are covered by the path's choices there
+-- below a level nothing is untried, and so many items are covered by the choices there
 pub record IsSought (p : ProblemValue) (end s : StateValue) (level covered : ℕ) : Type 0 where
   pub nothing : (k : ℕ) → k < level → untried p end k s ≡ []
-  pub count : covered ≡ length (covered_by p (take level s.path))
+  pub count : covered ≡ length (covered_by p (take level (choices s)))
 
 module _ (p : ProblemValue) (s : StateValue) (fits : Fits p s) where
   pub sought_begin : (hi : Option CutPath) (n covered : ℕ) → Fits p (end_of hi) → IsShared s.path (end_choices hi) n
       → covered ≡ length (covered_by p (take n s.path)) → IsSought p (end_of hi) s n covered
-  sought_begin hi n covered g shared count = record { nothing = nothing; count = count }
+  sought_begin hi n covered g shared count = record {
+    nothing = nothing;
+    count = count ∙ ap (λ q. length (covered_by p q)) (sym (path_front s n shared.within));
+  }
     where
       others : List ℕ
       others = end_choices hi
@@ -245,14 +242,9 @@ module _ (p : ProblemValue) (s : StateValue) (fits : Fits p s) where
 
   module _ (end : StateValue) (level covered : ℕ) (sought : IsSought p end s level covered) where
     -- nothing is untried at the level either
-    pub sought_more : (more : ℕ) → level < length s.path → None ≡ slice_get (untried p end level s) 0
-        → more ≡ length (option_at p (get_or s.path level 0)) → IsSought p end s (level + 1) (covered + more)
-    sought_more more l e h = record {
-      nothing = λ k m. step k (cases_order k level) m;
-      count =
-          let a = covered_more p s.path level (fits_valid p s.label s.path s.cursor fits) l in
-          let b = sought.count in omega arith;
-    }
+    pub sought_more : (next : ℕ) → None ≡ slice_get (untried p end level s) 0 → next ≡ length (covered_by p (take (level + 1) (choices s)))
+        → IsSought p end s (level + 1) next
+    sought_more next e count = record { nothing = λ k m. step k (cases_order k level) m; count = count }
       where
         step : (k : ℕ) → (k ≡ level) ⊎ ((k < level) ⊎ (level < k)) → k < level + 1 → untried p end k s ≡ []
         step k (inl same) m = ap (λ k. untried p end k s) same ∙ nil_of (untried p end level s) e

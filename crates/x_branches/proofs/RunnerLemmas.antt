@@ -1,5 +1,5 @@
 -- What a runner keeps of the part from its mark to its position, from step to step.
-use Rattle.std.proofs.Common.{◌≡◌, ℕ, zero, suc, ◌+◌, ◌-◌, ◌<◌, ◌≤◌, ◌⊎◌, ◌==◌, Bool, true, false, ◌&&◌, cond, Some, List, [], ◌∷◌, ◌++◌, length, get_or, refl, sym, ap, ◌∙◌, subst, inl, inr, arith, length-append}
+use Rattle.std.proofs.Common.{◌≡◌, ℕ, zero, suc, ◌+◌, ◌-◌, ◌<◌, ◌≤◌, ◌⊎◌, ◌==◌, Bool, true, false, ◌&&◌, cond, Some, List, [], ◌∷◌, ◌++◌, length, get_or, refl, sym, ap, ◌∙◌, inl, inr, arith, length-append}
 use Rattle.std.proofs.Math.ListN.{set}
 use Rattle.std.specs.Prelude.{slice_index}
 use Rattle.std.proofs.lemmas.Bool.{cases_lt}
@@ -17,7 +17,7 @@ use Rattle.x_steps.proofs.Neighbours.{fits_next}
 use Rattle.x_steps.proofs.RankLemmas.{rank_next}
 use Rattle.x_steps.proofs.MachineLemmas.{same_fronts}
 use Rattle.x_steps.proofs.OrderLemmas.{fits_valid}
-use Rattle.x_steps.proofs.RunLemmas.{first_is, start_first, end_is, done_last, rank_once, leads_to, leads_push, rises_between}
+use Rattle.x_steps.proofs.RunLemmas.{first_is, start_first, end_is, done_last, rank_once, leads_to, rises_between}
 use Rattle.x_steps.proofs.BetweenLemmas.{length-states, steps_between_self, steps_between_next, visits_between_next, length-levels, levels_at, level_count_next}
 use Rattle.x_steps.proofs.StretchLemmas.{reached_fits, reached_rank, steps_between_none}
 use Rattle.x_branches.specs.Cut.{CutPath, cut_state}
@@ -114,6 +114,42 @@ level_taken counts s w = by (is_level s.label) refl
 
 -- ---- a runner
 
+-- where its branch begins doesn't come after its mark
+pub start_up : (r : RunnerValue) → IsRunner r → Fits r.problem (first_of r.branch.lo) → rank r.problem (first_of r.branch.lo) ≤ rank r.problem r.mark
+start_up r inside first = not_before r.problem r.mark (first_of r.branch.lo) inside.stretch.fits first inside.mark_in.begun
+
+-- it may stand wherever its mark doesn't come later, nor its branch's end earlier
+pub may_stand : (r : RunnerValue) (t : StateValue) → IsRunner r → Fits r.problem (first_of r.branch.lo) → Fits r.problem (end_of r.branch.hi) → Fits r.problem t
+    → rank r.problem r.mark ≤ rank r.problem t → rank r.problem t ≤ rank r.problem (end_of r.branch.hi) → IsRunner (record r { position = t })
+may_stand r t inside first last fits up down =
+    let low = start_up r inside first in
+    record {
+      branch = inside.branch;
+      stretch = record { fits = inside.stretch.fits; reaches = leads_to r.problem r.mark t inside.stretch.fits fits up };
+      mark_in = inside.mark_in;
+      position_in = record {
+        begun = before_not r.problem t (first_of r.branch.lo) fits (omega arith);
+        not_past = before_not r.problem (end_of r.branch.hi) t last down;
+      };
+    }
+
+-- and its branch may end at any cut that comes later
+pub may_end : (r : RunnerValue) (cut : CutPath) → IsRunner r → Fits r.problem (first_of r.branch.lo) → cut.problem ≡ r.problem → Fits r.problem (cut_state cut.path)
+    → rank r.problem r.position < rank r.problem (cut_state cut.path) → IsRunner (record r { branch = record { lo = r.branch.lo; hi = Some cut } })
+may_end r cut inside first same fits later =
+    let low = start_up r inside first in
+    let up = reached_rank r.problem r.mark r.position _ inside.stretch.fits inside.stretch.reaches in
+    record {
+      branch = record {
+        low = inside.branch.low;
+        high = same;
+        order = rank_comes r.problem (first_of r.branch.lo) (cut_state cut.path) first fits (omega arith);
+      };
+      stretch = inside.stretch;
+      mark_in = record { begun = inside.mark_in.begun; not_past = before_not r.problem (cut_state cut.path) r.mark fits (omega arith) };
+      position_in = record { begun = inside.position_in.begun; not_past = before_not r.problem (cut_state cut.path) r.position fits (omega arith) };
+    }
+
 module _ (r : RunnerValue) (steps : ℕ) (visits : List (List ℕ)) (counts : List ℕ) (k : KeepsRunner r steps visits counts) where
   pub position_fits : Fits r.problem r.position
   position_fits = reached_fits r.problem r.mark r.position _ k.inside.stretch.fits k.inside.stretch.reaches
@@ -149,30 +185,12 @@ module _ (r : RunnerValue) (steps : ℕ) (visits : List (List ℕ)) (counts : Li
     pub goes_on : r.position.label ≡ Done → ⊥
     goes_on = before_goes_on r.problem r.position (end_of r.branch.hi) position_fits k.end_fits up
 
-    inside_next : IsRunner (record r { position = next r.problem r.position })
-    inside_next =
-        let f = fits_next r.problem r.position position_fits in
-        let a = rank_next r.problem r.position position_fits goes_on in
-        let b = not_before r.problem r.position (first_of r.branch.lo) position_fits k.first_fits k.inside.position_in.begun in
-        let c = next_before r.problem r.position (end_of r.branch.hi) position_fits k.end_fits up in
-        let d = steps_between_next r.problem r.mark r.position k.inside.stretch.fits position_fits mark_up goes_on in
-        record {
-          branch = k.inside.branch;
-          stretch = record {
-            fits = k.inside.stretch.fits;
-            reaches = subst (ReachesIn r.problem r.mark (next r.problem r.position)) (sym d) (leads_push r.problem r.mark r.position _ k.inside.stretch.reaches goes_on);
-          };
-          mark_in = k.inside.mark_in;
-          position_in = record {
-            begun = before_not r.problem (next r.problem r.position) (first_of r.branch.lo) f (omega arith);
-            not_past = before_not r.problem (end_of r.branch.hi) (next r.problem r.position) k.end_fits c;
-          };
-        }
-
     keeps_next : KeepsRunner (record r { position = next r.problem r.position }) (steps + 1) (visits ++ visit_of r.problem r.position) (with_level counts r.position)
     keeps_next = record {
       sound = k.sound;
-      inside = inside_next;
+      inside = may_stand r (next r.problem r.position) k.inside k.first_fits k.end_fits (fits_next r.problem r.position position_fits)
+          (let a = rank_next r.problem r.position position_fits goes_on in let b = mark_up in omega arith)
+          (next_before r.problem r.position (end_of r.branch.hi) position_fits k.end_fits up);
       first_fits = k.first_fits;
       end_fits = k.end_fits;
       steps_are = let d = steps_between_next r.problem r.mark r.position k.inside.stretch.fits position_fits mark_up goes_on in let e = k.steps_are in omega arith;
@@ -239,26 +257,10 @@ module _ (r : RunnerValue) (steps : ℕ) (visits : List (List ℕ)) (counts : Li
         let c = get_or-set_same (levels r.problem r.mark t) (length t.path) (get_or (levels r.problem r.mark t) (length t.path) 0 + 1) 0 (omega arith) in
         let d = ap (λ xs. get_or xs (length t.path) 0) (e ∙ counts_before ∙ w) in omega arith
 
-    inside_before : IsRunner (record r { position = t })
-    inside_before =
-        let a = below_position in
-        let b = above_mark in
-        let c = end_up in
-        let d = not_before r.problem r.mark (first_of r.branch.lo) k.inside.stretch.fits k.first_fits k.inside.mark_in.begun in
-        record {
-          branch = k.inside.branch;
-          stretch = record { fits = k.inside.stretch.fits; reaches = leads_to r.problem r.mark t k.inside.stretch.fits before.fit b };
-          mark_in = k.inside.mark_in;
-          position_in = record {
-            begun = before_not r.problem t (first_of r.branch.lo) before.fit (omega arith);
-            not_past = before_not r.problem (end_of r.branch.hi) t k.end_fits (omega arith);
-          };
-        }
-
     keeps_before : KeepsRunner (record r { position = t }) (steps - 1) (visits_between r.problem r.mark t) (without_level counts t)
     keeps_before = record {
       sound = k.sound;
-      inside = inside_before;
+      inside = may_stand r t k.inside k.first_fits k.end_fits before.fit above_mark (let a = below_position in let b = end_up in omega arith);
       first_fits = k.first_fits;
       end_fits = k.end_fits;
       steps_are = let a = steps_before in let b = k.steps_are in omega arith;
@@ -277,23 +279,10 @@ module _ (r : RunnerValue) (steps : ℕ) (visits : List (List ℕ)) (counts : Li
   -- the branch is ended at a cut
   pub shortened : (cut : CutPath) → CanShorten r cut → KeepsRunner (record { problem = r.problem; branch = record { lo = r.branch.lo; hi = Some cut }; mark = r.mark; position = r.position }) steps visits counts
   shortened cut can =
-      let p = r.problem in
       let f : Fits r.problem (cut_state cut.path) = reached_fits r.problem r.position (cut_state cut.path) can.later.0 position_fits can.later.2 in
-      let l = comes_rank r.problem r.position (cut_state cut.path) position_fits can.later in
-      let a = not_before r.problem r.mark (first_of r.branch.lo) k.inside.stretch.fits k.first_fits k.inside.mark_in.begun in
-      let b = mark_up in
       record {
         sound = k.sound;
-        inside = record {
-          branch = record {
-            low = k.inside.branch.low;
-            high = can.same_problem;
-            order = rank_comes r.problem (first_of r.branch.lo) (cut_state cut.path) k.first_fits f (omega arith);
-          };
-          stretch = k.inside.stretch;
-          mark_in = record { begun = k.inside.mark_in.begun; not_past = before_not r.problem (cut_state cut.path) r.mark f (omega arith) };
-          position_in = record { begun = k.inside.position_in.begun; not_past = before_not r.problem (cut_state cut.path) r.position f (omega arith) };
-        };
+        inside = may_end r cut k.inside k.first_fits can.same_problem f (comes_rank r.problem r.position (cut_state cut.path) position_fits can.later);
         first_fits = k.first_fits;
         end_fits = f;
         steps_are = k.steps_are;

@@ -44,9 +44,8 @@ order_less p s t f g Equal m = (λ e. absurd (cc), λ b. let l = comes_rank p s 
 order_less p s t f g Greater m = (λ e. absurd (cc), λ b. let l = comes_rank p s t f b in absurd (omega arith))
 
 pub order_equal : (p : ProblemValue) (s t : StateValue) → Fits p s → Fits p t → (r : Ordering) → MatchOrdering r (rank p s < rank p t) (s ≡ t) (rank p t < rank p s) → (r ≡ Equal) ↔ (s ≡ t)
-order_equal p s t f g Less m = (λ e. absurd (cc), λ b. let h = ap (rank p) b in absurd (omega arith))
 order_equal p s t f g Equal m = (λ e. m, λ b. refl)
-order_equal p s t f g Greater m = (λ e. absurd (cc), λ b. let h = ap (rank p) b in absurd (omega arith))
+order_equal p s t f g _ m = (λ e. absurd (cc), λ b. let h = ap (rank p) b in absurd (omega arith))
 
 pub order_greater : (p : ProblemValue) (s t : StateValue) → Fits p s → Fits p t → (r : Ordering) → MatchOrdering r (rank p s < rank p t) (s ≡ t) (rank p t < rank p s) → (r ≡ Greater) ↔ ComesBefore p t s
 order_greater p s t f g Less m = (λ e. absurd (cc), λ b. let l = comes_rank p t s g b in absurd (omega arith))

@@ -24,12 +24,12 @@ use Rattle.x_steps.proofs.StretchLemmas.{reached_fits, reached_rank}
 use Rattle.x_steps.proofs.VisitedLemmas.{tells, walk_shows}
 use Rattle.x_branches.specs.Cut.{CutPath, cut_state}
 use Rattle.x_branches.specs.Branch.{first_of, end_of}
-use Rattle.x_branches.specs.Runner.{RunnerValue, IsRunner, KeepsRunner, without_level}
+use Rattle.x_branches.specs.Runner.{RunnerValue, KeepsRunner, without_level}
 use Rattle.x_branches.specs.Refusals.{most_steps}
 use Rattle.x_branches.specs.Walk.{end_choices, CanAdvanceBy, HasToStop}
 use Rattle.x_branches.proofs.StageLemmas.{comes_rank}
 use Rattle.x_branches.proofs.CutLemmas.{cut_is}
-use Rattle.x_branches.proofs.RunnerLemmas.{not_before, before_not, other_before, next_before, before_goes_on, level_within, count_within, position_fits, mark_up, end_up}
+use Rattle.x_branches.proofs.RunnerLemmas.{may_stand, other_before, next_before, before_goes_on, level_within, count_within, position_fits, mark_up, end_up}
 
 -- ---- a walk that is taken back by its last step
 
@@ -225,24 +225,6 @@ module _ (r : RunnerValue) (steps : ℕ) (visited : List (List ℕ)) (counts : L
     pub each_step : CanAdvanceBy r n
     each_step i l = record { goes_on = not_end i l; has_room = λ full. let e = steps_to i (omega arith) in absurd (omega arith) }
 
-    inside_walked : IsRunner (record r { position = t })
-    inside_walked =
-        let a = up in
-        let b = not_before r.problem r.position (first_of r.branch.lo) (position_fits r steps visited counts k) k.first_fits k.inside.position_in.begun in
-        record {
-          branch = k.inside.branch;
-          stretch = record {
-            fits = k.inside.stretch.fits;
-            reaches = subst (λ v. ReachesIn r.problem r.mark v (steps_between r.problem r.mark v)) walk.reaches.ends
-                (subst (ReachesIn r.problem r.mark (after r.problem n r.position)) (sym (steps_between_is r.problem r.mark _ _ k.inside.stretch.fits (reached n (le_refl n)))) (reached n (le_refl n)));
-          };
-          mark_in = k.inside.mark_in;
-          position_in = record {
-            begun = before_not r.problem t (first_of r.branch.lo) fits (omega arith);
-            not_past = before_not r.problem (end_of r.branch.hi) t k.end_fits end_after;
-          };
-        }
-
     same_states : states_between r.problem r.position t ≡ states r.problem n r.position
     same_states = ap (λ m. states r.problem m r.position) (steps_between_is r.problem r.position t n (position_fits r steps visited counts k) walk.reaches)
 
@@ -267,7 +249,7 @@ module _ (r : RunnerValue) (steps : ℕ) (visited : List (List ℕ)) (counts : L
     keeps_walked : KeepsRunner (record r { position = t }) (steps + n) (visited ++ visits r.problem (states r.problem n r.position)) row
     keeps_walked = record {
       sound = k.sound;
-      inside = inside_walked;
+      inside = may_stand r t k.inside k.first_fits k.end_fits fits (let a = mark_up r steps visited counts k in let b = up in omega arith) end_after;
       first_fits = k.first_fits;
       end_fits = k.end_fits;
       steps_are = let e = steps_to n (le_refl n) in let f = ap (steps_between r.problem r.mark) walk.reaches.ends in omega arith;

@@ -137,6 +137,13 @@ impl<'p, T: Table> Runner<'p, T> {
         options_above(alloc, self.machine.table(), item, choice)
     }
 
+    /// The choices of the position's path.
+    fn path(&self) -> &[u32]
+        ensures { result.now ≡ self.now.position.path }
+    {
+        &self.machine.state().path
+    }
+
     /// The choices before a level where there is one.
     fn front(&self, level: usize) -> &[u32]
         requires { level < length (choices self.now.position) }
@@ -144,6 +151,19 @@ impl<'p, T: Table> Runner<'p, T> {
     {
         let (front, _) = self.machine.state().path.split_at(level);
         front
+    }
+
+    /// The item that was chosen at a level of the path, and how many items the choices up to that level cover. How many those before
+    /// it cover is given: the item is covered behind them.
+    fn pass_level(&self, level: usize, covered: usize) -> (u32, usize)
+        requires level { level < length self.now.position.path }
+        requires covered { covered ≡ length (covered_before self.now level) }
+        ensures item { result.0 ≡ item_after self.now.problem (earlier_choices self.now level) }
+        ensures covered { result.1 ≡ length (covered_before self.now (level + 1)) }
+    {
+        let items = self.machine.covered();
+        let option = self.machine.problem().option(self.path()[level]);
+        (items[covered], covered + option.len())
     }
 
     /// Of the options left above the choice at a level, those whose cuts come before the branch's end.
@@ -171,31 +191,28 @@ impl<'p, T: Table> Runner<'p, T> {
     pub fn untried_by_level(&self) -> Result<Lists, AllocError>
         ensures { Returns result (untried_lists self.now) }
     {
-        let problem = self.machine.problem();
-        let state = self.machine.state();
-        let path = state.path.as_slice();
-        let covered = self.machine.covered();
-        let mut lists = Lists::new(*state.path.allocator());
-        let mut count = 0;
+        let path = self.path();
+        let mut lists = Lists::new(*self.machine.state().path.allocator());
+        let mut covered = 0;
         'listing: for level in 0..path.len() {
-            let above = self.left_behind(level, path[level], covered[count])?;
+            let (item, with_level) = self.pass_level(level, covered);
+            let above = self.left_behind(level, path[level], item)?;
             let untried = self.before_end(level, &above)?;
             lists.push(&untried)?;
-            count += problem.option(path[level]).len();
+            covered = with_level;
         }
         let untried = self.untried(path.len())?;
         lists.push(&untried)?;
         Ok(lists)
     }
 
-    /// The first option that is untried at a level; None where nothing is. The choice there is given, and how many items the choices
-    /// before it cover. Options that are left rise, so where the first comes after the branch's end, so do all.
-    fn first_at(&self, level: usize, choice: u32, covered: usize) -> Option<u32>
+    /// The first option that is untried at a level; None where nothing is. The choice there is given, and the item that was chosen
+    /// there. Options that are left rise, so where the first comes after the branch's end, so do all.
+    fn first_at(&self, level: usize, choice: u32, item: u32) -> Option<u32>
         requires choice { Some choice ≡ slice_get (choices self.now.position) level }
-        requires covered { covered ≡ length (covered_before self.now level) }
+        requires item { item ≡ item_after self.now.problem (earlier_choices self.now level) }
         ensures { result ≡ first_untried_in self.now level }
     {
-        let item = self.machine.covered()[covered];
         let Some(option) = self.machine.table().next_option(item, choice) else {
             return None;
         };
@@ -214,23 +231,22 @@ impl<'p, T: Table> Runner<'p, T> {
         ensures least { IfSome result (λ found. NoneUntriedBefore self.now found.0) }
         ensures none { result ≡ None → (level : ℕ) → untried_in self.now level ≡ [] }
     {
-        let problem = self.machine.problem();
-        let state = self.machine.state();
-        let last = state.path.len();
-        let parted = shared(&state.path, self.branch.end_choices());
-        let (front, _) = state.path.split_at(parted);
-        let mut covered = covered_count(problem, front, self.machine.covered());
+        let path = self.path();
+        let last = path.len();
+        let parted = shared(path, self.branch.end_choices());
+        let (front, _) = path.split_at(parted);
+        let mut covered = covered_count(self.machine.problem(), front, self.machine.covered());
         'seeking: for level in parted..last {
-            let choice = state.path[level];
-            if let Some(option) = self.first_at(level, choice, covered) {
+            let (item, with_level) = self.pass_level(level, covered);
+            if let Some(option) = self.first_at(level, path[level], item) {
                 return Some((level, option));
             }
-            covered += problem.option(choice).len();
+            covered = with_level;
         }
-        let Some(choice) = choice_at(state, last) else {
+        let Some(choice) = choice_at(self.machine.state(), last) else {
             return None;
         };
-        match self.first_at(last, choice, covered) {
+        match self.first_at(last, choice, self.item_at(last)) {
             Some(option) => Some((last, option)),
             None => None,
         }

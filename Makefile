@@ -16,14 +16,14 @@ LONG = pentominoes-15x4 pentominoes-12x5 pentominoes-10x6 pentominoes-8x8-withou
 	solid-pentominoes-2x5x6 solid-pentominoes-3x4x5
 LONG_COVERS = pent-10x6 langford-12
 
-.PHONY: all quick help build ci layout wrong-bodies bench gallery gallery-long check-docs check-edits check-names check-ownership check-tools check-parts check-page \
+.PHONY: all quick help build ci layout wrong-bodies bench gallery gallery-long check-docs check-edits check-names check-lemmas check-ownership check-tools check-parts check-page \
 	check-completions check-words check-statuses check-memory check-memory-all install uninstall dist
 
 # The program, the quick examples, all checks of documents and scripts, and a sample of growths that are refused.
-all: check-edits check-names check-ownership build gallery check-tools check-parts check-docs check-words check-completions check-page check-statuses check-memory
+all: check-edits check-names check-lemmas check-ownership build gallery check-tools check-parts check-docs check-words check-completions check-page check-statuses check-memory
 
 # The checks that take a minute, once the program is built: a landing has to pass them after the gate.
-quick: check-edits check-names check-ownership build gallery check-docs check-words check-statuses check-memory
+quick: check-edits check-names check-lemmas check-ownership build gallery check-docs check-words check-statuses check-memory
 
 # What there is to do, each with the first line that stands above it here.
 help:
@@ -82,6 +82,10 @@ check-parts: build
 # Words that two crates define stand in tools/names.txt with a reason, and no other.
 check-names:
 	@tools/check_names
+
+# Each lemma is used by a proof, an example or a definition.
+check-lemmas:
+	@tools/check_lemmas
 
 # The man page and the completions name the jobs and options that the program's help names.
 check-words: build

@@ -284,8 +284,6 @@ module _ (a b : BookValue) (k : AreAlikeBooks a b) (ta : IsTiling a.problem a.br
         (λ n. cut_fault (k.problem n) path same (s.tile n)) (split_alike i j s path)
     call_alike (call.Retract l) =
         by_lease (retracted a) (retracted b) retract_fault retract_fault (ap retract_fault s.tile) (retracted_alike i j s)
-    call_alike (call.Park l) = by_lease (settled a freed) (settled b freed) (λ _. None) (λ _. None) refl (freed_alike i j s)
-    call_alike (call.Abandon l) = by_lease (settled a freed) (settled b freed) (λ _. None) (λ _. None) refl (freed_alike i j s)
     call_alike (call.Close l) =
         by_lease (settled a closed) (settled b closed) end_fault end_fault (ap end_fault s.tile) (closed_alike i j s)
     call_alike (call.PutBack id mark) =
@@ -297,3 +295,4 @@ module _ (a b : BookValue) (k : AreAlikeBooks a b) (ta : IsTiling a.problem a.br
             (sym (free_seen x.status))
     call_alike (call.RequestStop id) = by_status (settled a asked_to_stop) (settled b asked_to_stop) (λ (x : Status). not (is_closed x))
         (λ x. ap not (closed_seen x)) (asked_alike i j s)
+    call_alike _ = by_lease (settled a freed) (settled b freed) (λ _. None) (λ _. None) refl (freed_alike i j s)

@@ -17,53 +17,39 @@ is_held_tile t = is_held t.status
 
 pub closed_seen : (s : Status) → is_closed (anonymous_status s) ≡ is_closed s
 closed_seen Waiting = refl
-closed_seen Held = refl
-closed_seen (Leased w i) = refl
-closed_seen Closed = refl
+closed_seen _ = refl
 
 pub waiting_seen : (s : Status) → is_waiting (anonymous_status s) ≡ is_waiting s
 waiting_seen Waiting = refl
-waiting_seen Held = refl
-waiting_seen (Leased w i) = refl
-waiting_seen Closed = refl
+waiting_seen _ = refl
 
 pub held_seen : (s : Status) → is_held (anonymous_status s) ≡ is_held s
 held_seen Waiting = refl
-held_seen Held = refl
-held_seen (Leased w i) = refl
-held_seen Closed = refl
+held_seen _ = refl
 
 pub leased_seen : (s : Status) → is_leased (anonymous_status s) ≡ is_leased s
 leased_seen Waiting = refl
-leased_seen Held = refl
-leased_seen (Leased w i) = refl
-leased_seen Closed = refl
+leased_seen _ = refl
 
 pub free_seen : (s : Status) → is_free (anonymous_status s) ≡ is_free s
 free_seen Waiting = refl
-free_seen Held = refl
-free_seen (Leased w i) = refl
-free_seen Closed = refl
+free_seen _ = refl
 
 pub asked_seen : (s : Status) → asked_status (anonymous_status s) ≡ anonymous_status (asked_status s)
 asked_seen Waiting = refl
-asked_seen Held = refl
-asked_seen (Leased w i) = refl
-asked_seen Closed = refl
+asked_seen _ = refl
 
 pub stands_seen : (s : Status) (t u : TileValue) → t.stop ≡ u.stop → mark_of t ≡ mark_of u → tile_end t ≡ tile_end u
     → Stands (anonymous_status s) t → Stands s u
-stands_seen Waiting t u e m n h = sym e ∙ h
-stands_seen Held t u e m n h = sym e ∙ h
 stands_seen (Leased w i) t u e m n h = tt
 stands_seen Closed t u e m n h = sym m ∙ h ∙ n
+stands_seen _ t u e m n h = sym e ∙ h
 
 pub seen_stands : (s : Status) (t u : TileValue) → t.stop ≡ u.stop → mark_of t ≡ mark_of u → tile_end t ≡ tile_end u
     → Stands s t → Stands (anonymous_status s) u
-seen_stands Waiting t u e m n h = sym e ∙ h
-seen_stands Held t u e m n h = sym e ∙ h
 seen_stands (Leased w i) t u e m n h = tt
 seen_stands Closed t u e m n h = sym m ∙ h ∙ n
+seen_stands _ t u e m n h = sym e ∙ h
 
 pub same_closed : (t u : TileValue) → anonymous_tile t ≡ anonymous_tile u → is_closed t.status ≡ is_closed u.status
 same_closed t u e = sym (closed_seen t.status) ∙ ap (λ (v : TileValue). is_closed v.status) e ∙ closed_seen u.status
@@ -71,34 +57,24 @@ same_closed t u e = sym (closed_seen t.status) ∙ ap (λ (v : TileValue). is_cl
 -- ---- which tests go together
 
 pub closed_is : (s : Status) → is_closed s ≡ true → s ≡ Closed
-closed_is Waiting e = absurd (false≢true e)
-closed_is Held e = absurd (false≢true e)
-closed_is (Leased w i) e = absurd (false≢true e)
 closed_is Closed e = refl
+closed_is _ e = absurd (false≢true e)
 
 pub held_open : (s : Status) → is_held s ≡ true → not (is_closed s) ≡ true
-held_open Waiting e = absurd (false≢true e)
 held_open Held e = refl
-held_open (Leased w i) e = absurd (false≢true e)
-held_open Closed e = absurd (false≢true e)
+held_open _ e = absurd (false≢true e)
 
 pub leased_open : (s : Status) → is_leased s ≡ true → not (is_closed s) ≡ true
-leased_open Waiting e = absurd (false≢true e)
-leased_open Held e = absurd (false≢true e)
 leased_open (Leased w i) e = refl
-leased_open Closed e = absurd (false≢true e)
+leased_open _ e = absurd (false≢true e)
 
 pub waiting_open : (s : Status) → is_waiting s ≡ true → is_closed s ≡ false
 waiting_open Waiting e = refl
-waiting_open Held e = absurd (false≢true e)
-waiting_open (Leased w i) e = absurd (false≢true e)
-waiting_open Closed e = absurd (false≢true e)
+waiting_open _ e = absurd (false≢true e)
 
 pub waiting_not_held : (s : Status) → is_waiting s ≡ true → is_held s ≡ false
 waiting_not_held Waiting e = refl
-waiting_not_held Held e = absurd (false≢true e)
-waiting_not_held (Leased w i) e = absurd (false≢true e)
-waiting_not_held Closed e = absurd (false≢true e)
+waiting_not_held _ e = absurd (false≢true e)
 
 pub else_closed : (s : Status) → is_waiting s ≡ false → is_held s ≡ false → is_leased s ≡ false → not (is_closed s) ≡ false
 else_closed Waiting a b c = absurd (false≢true (sym a))

@@ -140,12 +140,7 @@ pub record AreAlikeDeskAnswers (a b : DeskAnswer) : Type 0 where
 -- ids and leases aren't read
 retracted_seen : (a : AtWork) (x : Reply) → retracted_by a x ≡ retracted_by a (anonymous_reply x)
 retracted_seen a (reply.Leased g lo hi mark n) = refl
-retracted_seen a reply.NoneWaits = refl
-retracted_seen a (reply.Posted stop n) = refl
-retracted_seen a (reply.Split id) = refl
-retracted_seen a (reply.Retracted from to) = refl
-retracted_seen a reply.Done = refl
-retracted_seen a (reply.Refused f) = refl
+retracted_seen a _ = refl
 
 module _ (u v : AtWork) (s : IsSoundWork u) (t : IsSoundWork v) (k : AreAlikeWorks u v) where
   -- what isn't posted is posted, and then a call is made by the lease of before
@@ -191,11 +186,7 @@ module _ (u v : AtWork) (s : IsSoundWork u) (t : IsSoundWork v) (k : AreAlikeWor
     work = record { book = asked_alike; runner = ap (λ (r : RunnerValue). record r { mark = from }) k.runner };
   }
   retracted_by_alike (reply.Refused f) = record { lines = refl; work = record { book = asked_alike; runner = k.runner } }
-  retracted_by_alike (reply.Leased g lo hi mark n) = record { lines = refl; work = k }
-  retracted_by_alike reply.NoneWaits = record { lines = refl; work = k }
-  retracted_by_alike (reply.Posted stop n) = record { lines = refl; work = k }
-  retracted_by_alike (reply.Split id) = record { lines = refl; work = k }
-  retracted_by_alike reply.Done = record { lines = refl; work = k }
+  retracted_by_alike _ = record { lines = refl; work = k }
 
   taken_back : AreAlikeWorkAnswers (retracted_by u (asked_reply u)) (retracted_by v (asked_reply v))
   taken_back =

@@ -74,12 +74,7 @@ mark_runner b x tiling h e =
 lent_runner : (b : BookValue) → IsTiling b.problem b.branch b.first b.tiles → (p : ProblemValue) (r : Reply) → IsSeat b 0 (lent_worker p r)
     → HasRunner (lent_worker p r)
 lent_runner b t p (reply.Leased g lo hi mark n) s = mark_runner b _ t s.1 refl
-lent_runner b t p reply.NoneWaits s = tt
-lent_runner b t p (reply.Posted stop n) s = tt
-lent_runner b t p (reply.Split id) s = tt
-lent_runner b t p (reply.Retracted from to) s = tt
-lent_runner b t p reply.Done s = tt
-lent_runner b t p (reply.Refused f) s = tt
+lent_runner b t p _ s = tt
 
 module _ (b : BookValue) (t : IsTiling b.problem b.branch b.first b.tiles) (breaks : List Break) where
   -- after a call that leases
@@ -271,13 +266,11 @@ module _ (s : SessionValue) (h : IsSoundSession s) where
 
   pub answer_sound : (c : CommandValue) → IsSoundSession (answer s c).session
   unfolding answer
-  answer_sound command.Nothing = h
   answer_sound (command.Step n) = step_sound n
   answer_sound command.Run = run_sound
   answer_sound (command.Back n) = step_back_sound n
   answer_sound (command.SetBreak b) = others_sound _
   answer_sound command.Clear = others_sound []
-  answer_sound (command.Ask question) = h
   answer_sound (command.Split level option) = part_sound level option
   answer_sound command.Park = park_sound
   answer_sound command.Save = save_sound []
@@ -287,6 +280,7 @@ module _ (s : SessionValue) (h : IsSoundSession s) where
   answer_sound command.Retract = take_back_sound
   answer_sound (command.Hold lo) = hold_sound lo
   answer_sound (command.PutBack lo state) = put_back_sound lo state
+  answer_sound _ = h
 
   pub line_sound : (line : List ℕ) → IsSoundSession (answer_line s line).session
   line_sound line = by (command_of s.book.problem line)

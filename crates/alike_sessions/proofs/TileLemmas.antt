@@ -28,9 +28,7 @@ use Rattle.x_debug.specs.Questions.{runner_of}
 
 standing_seen : (s : Status) → standing_of (anonymous_status s) ≡ standing_of s
 standing_seen status.Waiting = refl
-standing_seen status.Held = refl
-standing_seen (status.Leased w i) = refl
-standing_seen status.Closed = refl
+standing_seen _ = refl
 
 line_seen : (t : TileValue) → tile_line (anonymous_tile t) ≡ tile_line t
 line_seen t = ap (standing_words (path_of t.branch.lo) (path_of t.branch.hi)) (standing_seen t.status)
@@ -94,12 +92,7 @@ names_same a b i j p = record {
 
 refusal_seen : (l : List (List (List ℕ))) (x : Reply) → refusal_or l x ≡ refusal_or l (anonymous_reply x)
 refusal_seen l (reply.Leased g lo hi mark n) = refl
-refusal_seen l reply.NoneWaits = refl
-refusal_seen l (reply.Posted stop n) = refl
-refusal_seen l (reply.Split id) = refl
-refusal_seen l (reply.Retracted from to) = refl
-refusal_seen l reply.Done = refl
-refusal_seen l (reply.Refused e) = refl
+refusal_seen l _ = refl
 
 pub same_refusal : (l m : List (List (List ℕ))) (x y : Reply) → l ≡ m → anonymous_reply x ≡ anonymous_reply y
     → refusal_or l x ≡ refusal_or m y
@@ -107,12 +100,7 @@ same_refusal l m x y e f = refusal_seen l x ∙ ap₂ refusal_or e f ∙ sym (re
 
 pub runner_seen : (p : ProblemValue) (x : Reply) → runner_of (lent_worker p x) ≡ runner_of (lent_worker p (anonymous_reply x))
 runner_seen p (reply.Leased g lo hi mark n) = refl
-runner_seen p reply.NoneWaits = refl
-runner_seen p (reply.Posted stop n) = refl
-runner_seen p (reply.Split id) = refl
-runner_seen p (reply.Retracted from to) = refl
-runner_seen p reply.Done = refl
-runner_seen p (reply.Refused e) = refl
+runner_seen p _ = refl
 
 -- ---- whether a branch is open
 

@@ -58,8 +58,7 @@ read_stops old mid new text OutOfMemory r h = h.1 ∙ r.sound
 
 -- memory that was refused was asked for no more than the limit
 pub read_within : (old mid new : Stream) (text : List ℕ) (fault : InputFault) → IsRead old mid text → StopsAfter (length text) mid new fault → LacksMemoryWithin old new fault
-read_within old mid new text Failed r h = tt
-read_within old mid new text PastLimit r h = tt
 read_within old mid new text OutOfMemory r h =
     let came = h.0.0 in
     (text ++ came, joined old.bytes mid.bytes new.bytes text came r.came h.0.1, subst (λ n. n ≤ most_input) (sym (length-append text came)) h.0.2)
+read_within old mid new text _ r h = tt

@@ -16,9 +16,6 @@ use Rattle.cover_problem.proofs.MemberLemmas.{has_push_same, has_push_other}
 use Rattle.cover_problem.proofs.NumberLemmas.{length-numbers, filter_on, number_at, numbers_push}
 use Rattle.cover_problem.proofs.PartLemmas.{fresh_at}
 
-pub noted_none : (k : ℕ) (lists : List (List ℕ)) → IsNoted k [] lists lists
-noted_none k lists = record { long = refl; at = λ j l. sym (append-nil (get_or lists j [])) }
-
 pub item_range : (n : ℕ) (option : List ℕ) → is_option n option ≡ true → (i d : ℕ) → i < length option → (0 < get_or option i d) × (get_or option i d ≤ n)
 item_range n option h i d l =
     let a = and_parts (nat_lt 0 (length option) && are_distinct option) (list_all (is_item n) option) h in

@@ -73,11 +73,10 @@ no_item_fault names primary options h some = by_names (bind_err (each add_name [
     by_names (inr (these, a, b)) = by_options these (bind_err (each (add_option (length names)) [] options) (λ those. within (record { names = these; primary = primary; options = those })) NoItemLine b)
 
 never : {X : Type 0} (view : X → ProblemValue) (r : Result X (Refusal Fault)) (names : List (List ℕ)) (primary : ℕ) (options : List (List ℕ)) → is_item (length names) primary ≡ true → Gives view r (problem_from names primary options) → r ≡ Err (refusals.Fault NoItemLine) → ⊥
-never view (Ok x) names primary options some g e = cc
-never view (Err refusals.OutOfMemory) names primary options some g e = cc
 never view (Err (refusals.Fault f)) names primary options some g e =
     let i : f ≡ NoItemLine = cc in
     no_item_fault names primary options (subst (λ k. problem_from names primary options ≡ Err k) i g) some
+never view _ names primary options some g e = cc
 
 -- where there are items to cover, an answer doesn't say that there are none
 pub never_no_item : {X : Type 0} (view : X → ProblemValue) (r : Result X (Refusal Fault)) (names : List (List ℕ)) (primary : ℕ) (options : List (List ℕ)) (n : ℕ) → length names ≡ n → is_item n primary ≡ true → Gives view r (problem_from names primary options) →

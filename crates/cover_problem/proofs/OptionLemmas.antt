@@ -1,5 +1,5 @@
 -- Options: each number an item that is new there.
-use Rattle.std.proofs.Common.{◌≡◌, refl, sym, ap, ◌∙◌, subst, ℕ, suc, ◌+◌, ◌-◌, ◌<◌, ◌≤◌, true, false, ◌&&◌, List, [], ◌∷◌, ◌++◌, map, length, get_or, take, drop, set, All, Result, Ok, Err, nat_lt, nat_le, ◌==◌, arith, inl, inr, ◌⊎◌, append_assoc, append-nil, add-one, ltb-true, lt-ltb, le-ltb, le-leb, eq-eqb, ne_eqb, drop-cons, take-suc, length-set, get_or-set_other, get_or-set_same, drop_of_length-le, take_all}
+use Rattle.std.proofs.Common.{◌≡◌, refl, sym, ap, ◌∙◌, subst, ℕ, suc, ◌+◌, ◌-◌, ◌<◌, ◌≤◌, true, false, ◌&&◌, List, [], ◌∷◌, ◌++◌, map, length, get_or, take, drop, set, Result, Ok, Err, nat_lt, nat_le, ◌==◌, arith, inl, inr, ◌⊎◌, append_assoc, append-nil, add-one, ltb-true, lt-ltb, le-ltb, le-leb, eq-eqb, ne_eqb, drop-cons, take-suc, length-set, get_or-set_other, get_or-set_same, drop_of_length-le, take_all}
 use Rattle.std.specs.List.{list_all}
 use Rattle.std.proofs.lemmas.Bool.{and_parts, and_from, and_left, and_right, lt-leb, cases_eq}
 use Rattle.cover_problem.specs.declared.fault.Fault.{Fault}
@@ -27,12 +27,6 @@ taken_once n taken i h t = rw (h, t) refl
 pub some_option : (n : ℕ) (option : List ℕ) → 0 < length option → option_from n option ≡ each (add_number n) [] option
 some_option n [] h = absurd (omega arith)
 some_option n (i ∷ is) h = refl
-
-pub unmarked : (stamp : ℕ) (marks : List ℕ) → All (λ mark. mark < stamp) marks → AreStamps stamp [] marks
-unmarked stamp marks h = record {
-  low = λ i l. let e = h i 0 l in omega arith;
-  taken = λ i l. let e = h i 0 l in ne_eqb _ _ (λ f. omega arith);
-}
 
 pub is_item_yes : (n i : ℕ) → (i ≡ 0 → ⊥) → i ≤ n → is_item n i ≡ true
 is_item_yes n i a b = and_from _ _ (lt-ltb 0 i (omega arith)) (le-leb i n b)

@@ -25,9 +25,6 @@ module _ {X : Type 0} (items : X → List ℕ) (xs : List X) (i left most : ℕ)
   pub too_many : left < length (items x) → false ≡ nat_le (sum_by length (map items xs)) most
   too_many l = let e = with_next in let w = next_within in sym (lt-leb _ _ (omega arith))
 
-  pub few_more : length (items x) ≤ left → (left - length (items x)) + sum_by length (map items (take (i + 1) xs)) ≡ most
-  few_more l = let e = with_next in omega arith
-
 module _ (names : List (List ℕ)) (primary : ℕ) (options : List (List ℕ)) where
   pub no_items : is_item (length names) primary ≡ false → problem_from names primary options ≡ Err NoItemLine
   unfolding problem_from

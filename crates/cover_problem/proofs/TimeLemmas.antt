@@ -128,9 +128,6 @@ old_time never c i x d = by (has c x) refl
     by true h = ap (λ b. cond b (place c x) never) h ∙ sym (ap (λ b. cond b (place (c ++ i ∷ []) x) never) (other ∙ h) ∙ old_place c i x h)
     by false h = ap (λ b. cond b (place c x) never) h ∙ sym (ap (λ b. cond b (place (c ++ i ∷ []) x) never) (other ∙ h))
 
-time_none : (never i : ℕ) → time_of never [] i ≡ never
-time_none never i = refl
-
 pub times_none : (never n : ℕ) → replicate n never ≡ times_of never n []
 times_none never n = from n 1
   where

@@ -5,7 +5,7 @@ use Rattle.text_lines.specs.Writing.{line_text, text_of}
 use Rattle.x_steps.specs.StateValue.{StateValue}
 use Rattle.x_steps.specs.Run.{steps_between}
 use Rattle.x_branches.specs.declared.fault.RunnerFault.{RunnerFault}
-use Rattle.x_branches.specs.declared.fault.RunnerFault.TheVariants.{AtBranchEnd, AtMark, NothingUntried, NotUntried, OutsideBranch, NotAtMark, StretchFull}
+use Rattle.x_branches.specs.declared.fault.RunnerFault.TheVariants.{NotAtMark}
 use Rattle.x_branches.specs.declared.fault.RunnerFault.TheVariants as runners
 use Rattle.x_branches.specs.Faults.{number_of, name_of}
 use Rattle.x_branches.specs.Runner.{IsRunner, unposted_steps}
@@ -63,13 +63,7 @@ module _ (b : BookValue) (x : WorkerValue) where
 
   runner_told : (new : BookValue) (f : RunnerFault) → RetractRefused b new x (Runner f) → (f ≡ NotAtMark) × (0 < unposted_steps x.runner) × (new ≡ b)
   runner_told new NotAtMark h = (refl, h.0, h.1)
-  runner_told new AtBranchEnd h = absurd h
-  runner_told new AtMark h = absurd h
-  runner_told new NothingUntried h = absurd h
-  runner_told new NotUntried h = absurd h
-  runner_told new OutsideBranch h = absurd h
-  runner_told new StretchFull h = absurd h
-  runner_told new runners.OutOfMemory h = absurd h
+  runner_told new _ h = absurd h
 
   pub kept_work : (new : BookValue) (y : WorkerValue) (f : RunnerFault) → RetractRefused b new x (Runner f) → y ≡ x → work new y ≡ (retract (work b x)).work
   kept_work new y f h e =

@@ -8,7 +8,7 @@ use Rattle.x_branches.specs.Runner.{RunnerValue, IsRunner, IsBranch, IsWithin, I
 use Rattle.x_branches.specs.Cut.{CutPath}
 use Rattle.x_texts.specs.declared.breakpoint.Break.{Break}
 use Rattle.x_snapshot.specs.declared.fault.SnapshotFault.{SnapshotFault}
-use Rattle.x_snapshot.specs.declared.fault.SnapshotFault.TheVariants.{BadHeader, BadVersion, BadProblem, BadState, NotOnRun, OutsideBranch, Truncated, TrailingBytes, Spelling, BadBreak, OutOfMemory}
+use Rattle.x_snapshot.specs.declared.fault.SnapshotFault.TheVariants.{NotOnRun, OutsideBranch, BadBreak, OutOfMemory}
 use Rattle.x_texts.specs.Breaks.{are_breaks}
 use Rattle.x_snapshot.specs.Snapshot.{snapshot_with, branch_between, IsCutIfAny, IsOnRun, IsInside}
 use Rattle.x_snapshot.specs.Refusals.{IsRefused}
@@ -37,17 +37,11 @@ module _ (r : RunnerValue) (k : IsRunner r) (lo hi : Option (List ℕ)) (low : l
 
     -- nothing stands against it
     pub not_refused : (breaks : List Break) → are_breaks r.problem breaks ≡ true → (f : SnapshotFault) → IsRefused (snapshot_with r.problem lo hi r.position breaks) f → (f ≡ OutOfMemory → ⊥) → ⊥
-    not_refused breaks b BadHeader h m = h
-    not_refused breaks b BadVersion h m = h
-    not_refused breaks b BadProblem h m = h
-    not_refused breaks b BadState h m = h
     not_refused breaks b NotOnRun h m = h.1 on_run
     not_refused breaks b OutsideBranch h m = h.1.1 inside
-    not_refused breaks b Truncated h m = h
-    not_refused breaks b TrailingBytes h m = h
-    not_refused breaks b Spelling h m = h
     not_refused breaks b BadBreak h m = cc
     not_refused breaks b OutOfMemory h m = m refl
+    not_refused breaks b _ h m = h
 
 -- the same, of parts that are equal to a runner's
 pub is_snapshot : (r q : RunnerValue) (b : Branch) (p : ProblemValue) (lo hi : Option (List ℕ)) (s : StateValue) (breaks : List Break) (f : SnapshotFault) → IsRunner q → q ≡ r → b ≡ q.branch → p ≡ r.problem → s ≡ q.position

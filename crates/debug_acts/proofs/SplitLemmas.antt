@@ -5,7 +5,7 @@ use Rattle.cover_problem.specs.Lists.{has}
 use Rattle.cover_problem.proofs.MemberLemmas.{has_filter_in}
 use Rattle.text_lines.specs.Writing.{line_text, text_of}
 use Rattle.x_branches.specs.declared.fault.RunnerFault.{RunnerFault}
-use Rattle.x_branches.specs.declared.fault.RunnerFault.TheVariants.{AtBranchEnd, AtMark, NothingUntried, NotUntried, OutsideBranch, NotAtMark, StretchFull, OutOfMemory}
+use Rattle.x_branches.specs.declared.fault.RunnerFault.TheVariants.{NothingUntried, NotUntried, OutsideBranch, OutOfMemory}
 use Rattle.x_branches.specs.Faults.{number_of, name_of}
 use Rattle.x_branches.specs.Branch.{end_of}
 use Rattle.x_branches.specs.Refusals.{untried_in, CutRefused, cut_at}
@@ -58,11 +58,8 @@ module _ (b : BookValue) (x : WorkerValue) (level o : ℕ) where
           → NotUntried ≡ cond (length (untried_in x.runner level) == 0) NothingUntried NotUntried
       by (inl z) = let some = h.1 in let none = z.1 in absurd (omega arith)
       by (inr z) = rw z.0 refl
-  told AtBranchEnd n h e = absurd h
-  told AtMark n h e = absurd h
-  told NotAtMark n h e = absurd h
-  told StretchFull n h e = absurd h
   told OutOfMemory n h e = absurd (cc)
+  told _ n h e = absurd h
 
   module _ {X E : Type 0} (r : Result X E) (f : RunnerFault) (old after : List ℕ) (refused : CutRefused x.runner level o f) where
     pub no_cut_work : (new : BookValue) (y : WorkerValue) → new ≡ b → y ≡ x → OnOk r ((n : ℕ) × (number_of f ≡ Some n) × (after ≡ old ++ line_text (refused_words layer.Runner n (name_of f)))) → OnOk r (work new y ≡ (split (work b x) level o).work)

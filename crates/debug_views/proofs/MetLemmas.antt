@@ -181,30 +181,23 @@ module _ (p : ProblemValue) (s : StateValue) where
   visit_meets : s.label ≡ X2 → is_visit p s ≡ true → (b : Break) → meets p s b ≡ (is_same (at.Level (length s.path)) b || is_same at.Visit b)
   unfolding meets
   visit_meets l v (at.Level n) = rw l (sym (or_false (length s.path == n)))
-  visit_meets l v (at.Option k) = rw l refl
-  visit_meets l v (at.Item i) = rw l refl
   visit_meets l v at.Visit = v
+  visit_meets l v _ = rw l refl
 
   level_meets : s.label ≡ X2 → is_visit p s ≡ false → (b : Break) → meets p s b ≡ is_same (at.Level (length s.path)) b
   unfolding meets
-  level_meets l v (at.Level n) = rw l refl
-  level_meets l v (at.Option k) = rw l refl
-  level_meets l v (at.Item i) = rw l refl
   level_meets l v at.Visit = v
+  level_meets l v _ = rw l refl
 
   choice_meets : s.label ≡ X4 → (b : Break) → meets p s b ≡ is_same (at.Item (item_after p s.path)) b
   unfolding meets
   choice_meets l (at.Level n) = rw l refl
-  choice_meets l (at.Option k) = rw l refl
-  choice_meets l (at.Item i) = rw l refl
-  choice_meets l at.Visit = rw l refl
+  choice_meets l _ = rw l refl
 
   option_meets : (o : ℕ) → s.label ≡ X5 → s.cursor ≡ cursor.At o → (b : Break) → meets p s b ≡ is_same (at.Option o) b
   unfolding meets
-  option_meets o l k (at.Level n) = rw l refl
   option_meets o l k (at.Option m) = rw (l, k) refl
-  option_meets o l k (at.Item i) = rw l refl
-  option_meets o l k at.Visit = rw l refl
+  option_meets o l k _ = rw l refl
 
   tries_none : (l : Label) (c : Cursor) (k : ℕ) → (l ≡ X5 → (o : ℕ) → c ≡ cursor.At o → ⊥) → tries l c k ≡ false
   tries_none X5 (cursor.At o) k h = absurd (h refl o refl)
@@ -216,10 +209,9 @@ module _ (p : ProblemValue) (s : StateValue) where
 
   none_meets : (s.label ≡ X2 → ⊥) → (s.label ≡ X4 → ⊥) → (s.label ≡ X5 → (o : ℕ) → s.cursor ≡ cursor.At o → ⊥) → (b : Break) → meets p s b ≡ false
   unfolding meets
-  none_meets x2 x4 x5 (at.Level n) = rw (not_level s.label x2) refl
   none_meets x2 x4 x5 (at.Option k) = tries_none s.label s.cursor k x5
   none_meets x2 x4 x5 (at.Item i) = rw (no_choice s.label x4) refl
-  none_meets x2 x4 x5 at.Visit = rw (not_level s.label x2) refl
+  none_meets x2 x4 x5 _ = rw (not_level s.label x2) refl
 
   -- the chosen item is the one of the path
   is_there : Option (ℕ × List ℕ) → Bool
@@ -262,10 +254,8 @@ module _ (p : ProblemValue) (s : StateValue) where
 
     -- where the choice of an item is no breakpoint, none is met there
     item_is_choice : (i : ℕ) (b : Break) → is_item_break b ≡ false → is_same (at.Item i) b ≡ false
-    item_is_choice i (at.Level n) e = refl
-    item_is_choice i (at.Option n) e = refl
     item_is_choice i (at.Item n) e = cc
-    item_is_choice i at.Visit e = refl
+    item_is_choice i _ e = refl
 
     none_same : (i : ℕ) (cs : List Break) → list_any is_item_break cs ≡ false → None ≡ find (is_same (at.Item i)) cs
     none_same i [] e = refl

@@ -109,9 +109,7 @@ module _ (b : BookValue) (w : ℕ) where
 -- a call adds at most one stretch
 count_outcome : (b : BookValue) (w : ℕ) (c : Call) → posted_count (outcome b w c).tiles ≤ posted_count b.tiles + 1
 unfolding outcome
-count_outcome b w (call.Lease id) = count_made b.tiles (lent b w) _ (count_lent b w)
 count_outcome b w call.LeaseAny = count_any b w (first_waiting b.tiles)
-count_outcome b w (call.TakeHeld id) = count_made b.tiles (lent b w) _ (count_lent b w)
 count_outcome b w (call.Post g from to same) = count_made b.tiles (posted b from to) _ (count_posted b w from to)
 count_outcome b w (call.Split g path same) = count_made b.tiles (split b path) _ (count_split b w path)
 count_outcome b w (call.Retract g) = count_made b.tiles (retracted b) _ (count_retracted b w)
@@ -121,6 +119,7 @@ count_outcome b w (call.Close g) = count_made b.tiles (settled b closed) _ (coun
 count_outcome b w (call.PutBack id s) = count_made b.tiles (settled b (put_back s)) _ (count_settled b w (put_back s) (count_put_back s))
 count_outcome b w (call.RequestStop id) =
     count_made b.tiles (settled b asked_to_stop) _ (count_settled b w asked_to_stop (λ t. omega arith))
+count_outcome b w _ = count_made b.tiles (lent b w) _ (count_lent b w)
 
 count_replayed : (b : BookValue) (es : List Entry) → posted_count (replayed b es).tiles ≤ posted_count b.tiles + length es
 count_replayed b [] = omega arith

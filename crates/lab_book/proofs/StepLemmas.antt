@@ -312,21 +312,16 @@ asked_is_tile p t s e o i = settled_is_tile p t s true i (stands t.status s e o)
 
 pub asked_leased : (a s : Status) → s ≡ asked_status a → is_leased s ≡ is_leased a
 asked_leased status.Waiting s e = rw e refl
-asked_leased status.Held s e = rw e refl
-asked_leased (status.Leased w i) s e = rw e refl
-asked_leased status.Closed s e = rw e refl
+asked_leased _ s e = rw e refl
 
 pub leased_open : (s : Status) → is_leased s ≡ true → is_closed s ≡ false
-leased_open status.Waiting h = refl
-leased_open status.Held h = refl
-leased_open (status.Leased w i) h = refl
 leased_open status.Closed h = absurd (false≢true h)
+leased_open _ h = refl
 
 pub free_open : (s : Status) → is_free s ≡ true → is_closed s ≡ false
-free_open status.Waiting h = refl
-free_open status.Held h = refl
 free_open (status.Leased w i) h = absurd (false≢true h)
 free_open status.Closed h = absurd (false≢true h)
+free_open _ h = refl
 
 -- the tile that goes back, by how many stretches it keeps
 pub back_is : (t : TileValue) (s : StateValue) (n : ℕ) → stretches_to s t.first t.stretches ≡ Some (take n t.stretches)

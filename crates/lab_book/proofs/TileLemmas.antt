@@ -54,14 +54,7 @@ label_at n = if n == 1 then X1 else (if n == 2 then X2 else
 label_back : (l : Label) → label_at (label_number l) ≡ l
 unfolding label_at
 label_back X1 = refl
-label_back X2 = refl
-label_back X3 = refl
-label_back X4 = refl
-label_back X5 = refl
-label_back X6 = refl
-label_back X7 = refl
-label_back X8 = refl
-label_back Done = refl
+label_back _ = refl
 
 one_label : (l m : Label) → label_number l ≡ label_number m → l ≡ m
 one_label l m e = sym (label_back l) ∙ ap label_at e ∙ label_back m
@@ -125,9 +118,7 @@ not_past p s t f g h = not_before p s t f g (λ b. false≢true (sym h ∙ (test
 
 not_closed : (s : Status) → is_leased s ≡ true → (t : TileValue) → Stands s t
 not_closed (Leased w i) e t = tt
-not_closed Waiting e t = absurd (false≢true e)
-not_closed Held e t = absurd (false≢true e)
-not_closed Closed e t = absurd (false≢true e)
+not_closed _ e t = absurd (false≢true e)
 
 -- a leased tile to which a stretch is posted that begins at its mark and doesn't end after it
 pub posted_is_tile : (p : ProblemValue) (t : TileValue) (x : StretchValue) → IsTile p t → is_leased t.status ≡ true → x.problem ≡ p

@@ -1,5 +1,5 @@
 -- The examples of specs/Record.antt and specs/Seats.antt, computed.
-use Rattle.std.proofs.Common.{◌≡◌, ℕ, zero, suc, true, false, None, List, [], ◌∷◌, refl, arith}
+use Rattle.std.proofs.Common.{◌≡◌, ℕ, suc, true, false, None, List, [], ◌∷◌, refl, arith}
 use Rattle.x_steps.specs.StateValue.{start}
 use Rattle.lab_book.specs.declared.lease.Grant.{Grant}
 use Rattle.lab_book.specs.declared.entry.Call.TheVariants as call
@@ -41,9 +41,8 @@ abbrev seat : ℕ → SeatValue
 seat number = record { number = number; notes = []; kept = 0 }
 
 all_numbers : HaveAllNumbers 2 (seat 1 ∷ seat 0 ∷ [])
-all_numbers zero h = refl
-all_numbers (suc zero) h = refl
 all_numbers (suc (suc k)) h = absurd (omega (arith, h))
+all_numbers _ h = refl
 
 below_two : are_of_workers 2 entries ≡ true
 below_two = refl

@@ -1,5 +1,5 @@
 -- The examples of specs/Faults.antt and specs/Pool.antt, on the small problem.
-use Rattle.std.proofs.Common.{◌≡◌, zero, suc, true, false, Some, None, List, [], ◌∷◌, codes, refl, arith}
+use Rattle.std.proofs.Common.{◌≡◌, suc, true, false, Some, None, List, [], ◌∷◌, codes, refl, arith}
 use Rattle.x_steps.specs.StateValue.{done}
 use Rattle.x_branches.specs.Branch.{first_of}
 use Rattle.lab_book.specs.declared.status.Status.TheVariants.{Waiting, Held}
@@ -54,10 +54,8 @@ none_open : OnlyHeld (in_two Waiting) finished
 none_open = refl
 
 its_calls : ArePoolCalls entries
-its_calls zero d h = refl
-its_calls (suc zero) d h = refl
-its_calls (suc (suc zero)) d h = refl
 its_calls (suc (suc (suc k))) d h = absurd (omega (arith, h))
+its_calls _ d h = refl
 
 is_done : IsDone 0 finished
 is_done = record { calls = its_calls; none_waits = refl; none_leased = refl }

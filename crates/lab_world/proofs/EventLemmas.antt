@@ -98,11 +98,7 @@ module _ (b : BookValue) (w : ℕ) (x y : WorkerValue) where
       second_of_two _ _ _ _ _ _ (differ _ _ r.0)
       (first_of_two _ _ _ _ _ _ (eq-eqb _ _ r.1) (record { reply = refl; book = refl; worker = ap Some m }))
   step_refused runner.OutOfMemory r o m = absurd (o refl)
-  step_refused runner.AtMark r o m = absurd r
-  step_refused runner.NothingUntried r o m = absurd r
-  step_refused runner.NotUntried r o m = absurd r
-  step_refused runner.OutsideBranch r o m = absurd r
-  step_refused runner.NotAtMark r o m = absurd r
+  step_refused _ r o m = absurd r
 
   pub back_turned : (x.runner.position ≡ x.runner.mark → ⊥) → y ≡ moved_to x (prev x.runner.problem x.runner.position)
       → Turned (turn b (Some x) w Back) (reply_of.Event event.Moved) b (Some y)
@@ -138,10 +134,7 @@ cut_refused_is r level o runner.NotUntried m n =
     let some : (length (untried_in r level) == 0) ≡ false = ne_eqb (length (untried_in r level)) 0 (λ e. let l = m.1 in omega arith) in
     (not_untried r level o m.0, rw (m.0, some) refl)
 cut_refused_is r level o runner.OutOfMemory m n = absurd (n refl)
-cut_refused_is r level o runner.AtBranchEnd m n = absurd m
-cut_refused_is r level o runner.AtMark m n = absurd m
-cut_refused_is r level o runner.NotAtMark m n = absurd m
-cut_refused_is r level o runner.StretchFull m n = absurd m
+cut_refused_is r level o _ m n = absurd m
 
 -- ---- acts that change nothing
 
@@ -159,8 +152,7 @@ needs_runner _ = false
 
 pub end_needs : (e : Ending) → needs_runner (end_act e) ≡ true
 end_needs ending.Park = refl
-end_needs ending.Abandon = refl
-end_needs ending.Close = refl
+end_needs _ = refl
 
 -- whether one makes a runner
 abbrev pub leases : Act → Bool
@@ -176,19 +168,12 @@ lease_leases wanted.Held id = refl
 module _ (b : BookValue) (w : ℕ) where
   idle : (a : Act) → needs_runner a ≡ true → turn b None w a ≡ stays b None reply_of.Idle
   unfolding turn
-  idle Step e = refl
-  idle Back e = refl
-  idle Post e = refl
-  idle (Split level o) e = refl
-  idle Retract e = refl
-  idle Park e = refl
-  idle Abandon e = refl
-  idle Close e = refl
   idle (Lease id) e = absurd (false≢true e)
   idle LeaseAny e = absurd (false≢true e)
   idle (TakeHeld id) e = absurd (false≢true e)
   idle (PutBack id t) e = absurd (false≢true e)
   idle (RequestStop id) e = absurd (false≢true e)
+  idle _ e = refl
 
   pub idle_turned : (x : Option WorkerValue) (a : Act) → needs_runner a ≡ true → x ≡ None → Turned (turn b x w a) reply_of.Idle b x
   idle_turned x a n e = subst (λ (y : Option WorkerValue). Turned (turn b y w a) reply_of.Idle b y) (sym e)
@@ -304,13 +289,7 @@ module _ (b : BookValue) (w : ℕ) where
       pub retract_not_called : (f : RunnerFault) → RetractRefused b new y (worker_fault.Runner f)
           → Turned (turn b x w Retract) (reply_of.Runner f) new (Some z)
       retract_not_called runner.NotAtMark m = stays_here Retract runner.NotAtMark runner.NotAtMark (retract_stays m.0) refl m.1
-      retract_not_called runner.AtBranchEnd m = absurd m
-      retract_not_called runner.AtMark m = absurd m
-      retract_not_called runner.NothingUntried m = absurd m
-      retract_not_called runner.NotUntried m = absurd m
-      retract_not_called runner.OutsideBranch m = absurd m
-      retract_not_called runner.StretchFull m = absurd m
-      retract_not_called runner.OutOfMemory m = absurd m
+      retract_not_called _ m = absurd m
 
       pub split_not_called : (level o : ℕ) (f : RunnerFault) → WorkerSplitRefused b new y level o (worker_fault.Runner f)
           → (f ≡ runner.OutOfMemory → ⊥) → Turned (turn b x w (Split level o)) (reply_of.Runner f) new (Some z)

@@ -6,8 +6,8 @@ use Rattle.x_steps.specs.Steps.{Fits}
 use Rattle.x_steps.specs.Rank.{rank}
 use Rattle.x_steps.specs.Run.{steps_between, after}
 use Rattle.x_branches.specs.declared.fault.RunnerFault.{RunnerFault}
-use Rattle.x_branches.specs.declared.fault.RunnerFault.TheVariants.{AtBranchEnd, AtMark, NothingUntried, NotUntried, OutsideBranch}
-use Rattle.x_branches.specs.declared.fault.RunnerFault.TheVariants.{NotAtMark, StretchFull}
+use Rattle.x_branches.specs.declared.fault.RunnerFault.TheVariants.{OutsideBranch}
+use Rattle.x_branches.specs.declared.fault.RunnerFault.TheVariants.{NotAtMark}
 use Rattle.x_branches.specs.declared.fault.RunnerFault.TheVariants as runner
 use Rattle.x_branches.specs.Branch.{first_of}
 use Rattle.x_branches.specs.Runner.{RunnerValue, IsRunner}
@@ -34,14 +34,9 @@ use Rattle.lab_world.proofs.OwnLemmas.{Has, found_own, own, own_is_tile, last_ow
 -- ---- a stretch is joined again
 
 not_refused : (r : RunnerValue) (s : StretchValue) (f : RunnerFault) → CanReopen r s → ReopenRefused r s f → ⊥
-not_refused r s AtBranchEnd c h = h
-not_refused r s AtMark c h = h
-not_refused r s NothingUntried c h = h
-not_refused r s NotUntried c h = h
 not_refused r s OutsideBranch c h = h.1 c
 not_refused r s NotAtMark c h = h c.ends
-not_refused r s StretchFull c h = h
-not_refused r s runner.OutOfMemory c h = h
+not_refused r s _ c h = h
 
 -- what was taken to be posted can be joined again
 pub taken_reopens : (r q : RunnerValue) (s given : StretchValue) (f : RunnerFault) → IsRunner r → q ≡ record r { mark = r.position }

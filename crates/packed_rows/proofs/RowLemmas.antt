@@ -1,9 +1,9 @@
 -- Rows, and the bytes of many numbers.
-use Rattle.std.proofs.Common.{◌≡◌, ℕ, zero, suc, ◌+◌, ◌-◌, ◌*◌, ◌^◌, ◌<◌, ◌≤◌, All, map, List, [], ◌∷◌, ◌++◌, length, take, drop, get_or, refl, sym, ap, ◌∙◌, subst, arith}
+use Rattle.std.proofs.Common.{◌≡◌, ℕ, zero, suc, ◌+◌, ◌-◌, ◌^◌, ◌<◌, All, map, List, [], ◌∷◌, ◌++◌, length, get_or, refl, sym, ap, ◌∙◌, subst, arith}
 use Rattle.std.proofs.lemmas.List.{map-append, length-map}
 use Rattle.std.specs.List.{flat_map}
-use Rattle.packed_rows.specs.Numbers.{bytes_of, numbers_of, IsWhole, IsRow}
-use Rattle.cover_problem.specs.FlatLists.{lists_at, start_at, IsParted}
+use Rattle.packed_rows.specs.Numbers.{bytes_of, numbers_of, IsWhole}
+use Rattle.cover_problem.specs.FlatLists.{lists_at, IsParted}
 use Rattle.packed_rows.specs.Rows.{rows_at}
 use Rattle.packed_rows.proofs.NumberLemmas.{reads_number, none}
 use Rattle.cover_problem.proofs.FlatListLemmas.{push_parted, push_lists, length-lists, IsList, list_is}

@@ -4,7 +4,7 @@ use Rattle.std.proofs.Math.Seq.{take-append_seam, drop-append_seam}
 use Rattle.std.specs.List.{flat_map}
 use Rattle.std.proofs.lemmas.List.Concat.{flat_map-cons}
 use Rattle.x_steps.specs.declared.state.Label.{Label}
-use Rattle.x_steps.specs.declared.state.Label.TheVariants.{X1, X2, X3, X4, X5, X6, X7, X8, Done}
+use Rattle.x_steps.specs.declared.state.Label.TheVariants.{X1}
 use Rattle.x_steps.specs.declared.state.Cursor.{Cursor}
 use Rattle.x_steps.specs.declared.state.Cursor.TheVariants as cursor
 use Rattle.x_steps.specs.StateValue.{StateValue}
@@ -21,20 +21,12 @@ choices_small (n ∷ ns) h = (λ j. choice_small n (h 0 (omega arith)) j ∷ cho
 
 label_back : (l : Label) → label_of (label_number l) ≡ l
 label_back X1 = refl
-label_back X2 = refl
-label_back X3 = refl
-label_back X4 = refl
-label_back X5 = refl
-label_back X6 = refl
-label_back X7 = refl
-label_back X8 = refl
-label_back Done = refl
+label_back _ = refl
 
 -- a cursor's option has 32 bits
 cursor_back : (k : Cursor) → cursor_choice k < 4294967296 → cursor_of (cursor_kind k) (cursor_choice k) ≡ k
-cursor_back cursor.None h = refl
 cursor_back (cursor.At o) h = ap cursor.At (choice_small o h)
-cursor_back cursor.Past h = refl
+cursor_back _ h = refl
 
 pub reads_path : (path : List ℕ) → map choice_of path ≡ path → ReadsPath path
 unfolding path_code path_of path_rest
@@ -44,8 +36,6 @@ pub reads_state : (s : StateValue) → cursor_choice s.cursor < 4294967296 → R
 unfolding state_code state_of state_rest
 reads_state s h r = λ rest. let p = r rest in
     ((λ j. record { label = label_back s.label j; path = p.0 j; cursor = cursor_back s.cursor h j }), p.1)
-
--- ---- a list of choices that is read one by one: `left` of them are still to come
 
 -- ---- lists of lists
 

@@ -26,7 +26,7 @@ use Rattle.debug_acts.specs.Work.{work}
 use Rattle.debug_acts.specs.Entering.{entered_at, enter, lent_by}
 use Rattle.debug_acts.proofs.WalkedLemmas.{least_within}
 use Rattle.x_debug.specs.Session.{SessionValue, fresh_session, entered}
-use Rattle.x_debug.specs.Commands.{Answer, says, if_open, if_none_open, on_desk, on_book, answer, answer_if, answer_line}
+use Rattle.x_debug.specs.Commands.{Answer, if_open, if_none_open, on_desk, on_book, answer, answer_if, answer_line}
 use Rattle.x_debug.specs.Loading.{answers, load_by, load_answer, loaded}
 use Rattle.alike_sessions.specs.AlikeSessions.{IsSoundSession}
 use Rattle.alike_sessions.proofs.WorkLemmas.{IsSoundWork}
@@ -90,16 +90,12 @@ module _ (s : SessionValue) (h : IsSoundSession s) where
 
   pub gives : (c : Command) → Gives s (acts_of s c) (answer s (command_value c)).session
   unfolding answer acts_of hold put_back turn
-  gives commands.Nothing = refl
   gives (commands.Step n) =
       open_gives _ _ (λ w p. forward_leads (work s.book w) p (step_count w.runner n) (least_within n (steps_ahead w.runner)))
   gives commands.Run =
       open_gives _ _ (λ w p. forward_leads (work s.book w) p (run_count s.breaks w.runner) (run_within s.breaks w.runner))
   gives (commands.Back n) =
       open_gives _ _ (λ w p. back_leads s.book w p.runner (back_count w.runner n) (least_within n (unposted_steps w.runner)))
-  gives (commands.Break b) = refl
-  gives commands.Clear = refl
-  gives (commands.Ask question) = refl
   gives (commands.Split level option) = open_gives _ _ (λ w p. split_leads (work s.book w) p level option)
   gives commands.Park = open_gives _ _ (λ w p. parked_leads (work s.book w) p)
   gives commands.Save = open_gives _ _ (λ w p. parked_leads (work s.book w) p)
@@ -112,6 +108,7 @@ module _ (s : SessionValue) (h : IsSoundSession s) where
   gives (commands.PutBack lo state) =
       asked_gives (λ (id : ℕ). call.PutBack id (state_value state)) (λ t. PutBack t.id state) (λ t. refl)
       (place_at (choices_of lo) s.book.tiles)
+  gives _ = refl
 
   -- ---- a line
 

@@ -1,5 +1,5 @@
 -- The order of cells is a total order, and where it says Equal the cells are the same.
-use Rattle.std.proofs.Common.{◌≡◌, ℕ, ◌==◌, ◌&&◌, refl, ap, ap₂, ◌∙◌, Ordering, Less, Equal, Greater, nat_cmp, is_eq, arith, Decides, eqb-true, eq-eqb}
+use Rattle.std.proofs.Common.{◌≡◌, ℕ, ◌==◌, ◌&&◌, refl, ap, ap₂, ◌∙◌, Ordering, Equal, nat_cmp, is_eq, arith, Decides, eqb-true, eq-eqb}
 use Rattle.std.proofs.lemmas.Bool.{and_parts, and_from}
 use Rattle.std.specs.Cmp.{IsTotalOrder, tied_then}
 use Rattle.std.specs.Ordering.{ordering_then, eq_by_cmp}
@@ -13,9 +13,8 @@ coordinates_total =
     then_total (on_total (λ (v : Coordinates). v.x) nat_cmp_total) (then_total (on_total (λ (v : Coordinates). v.y) nat_cmp_total) (on_total (λ (v : Coordinates). v.z) nat_cmp_total))
 
 pub first_equal : (a b : Ordering) → ordering_then a b ≡ Equal → (a ≡ Equal) × (b ≡ Equal)
-first_equal Less b h = cc
 first_equal Equal b h = (refl, h)
-first_equal Greater b h = cc
+first_equal _ b h = cc
 
 nat_exact : (m n : ℕ) → nat_cmp m n ≡ Equal → m ≡ n
 nat_exact m n h = grind (arith, nat_tests)

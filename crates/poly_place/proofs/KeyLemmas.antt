@@ -1,5 +1,5 @@
 -- The order of forms, and the least of several.
-use Rattle.std.proofs.Common.{◌≡◌, ℕ, true, false, List, [], ◌∷◌, ◌⊎◌, map, inl, inr, refl, sym, ap, subst, ◌∙◌, Ordering, Less, Equal, Greater, nat_cmp, ◌==◌}
+use Rattle.std.proofs.Common.{◌≡◌, ℕ, true, false, List, [], ◌∷◌, ◌⊎◌, map, inl, inr, refl, sym, ap, subst, ◌∙◌, Ordering, Less, nat_cmp, ◌==◌}
 use Rattle.std.specs.Cmp.{IsTotalOrder, unsigned_ties}
 use Rattle.std.specs.Cmp.Lexicographic.{pointwise, lists_ties}
 use Rattle.std.specs.Ordering.{eq_by_cmp, is_lt}
@@ -46,13 +46,11 @@ lesser_less form best e = sym (ap (λ o. by_order o form best best) e)
 -- what a test for Less says
 pub below_is : (o : Ordering) → is_lt o ≡ true → o ≡ Less
 below_is Less h = refl
-below_is Equal h = cc
-below_is Greater h = cc
+below_is _ h = cc
 
 pub below_not : (o : Ordering) → is_lt o ≡ false → (o ≡ Less) → ⊥
 below_not Less h e = cc
-below_not Equal h e = cc
-below_not Greater h e = cc
+below_not _ h e = cc
 
 pub lesser_not : (form best : List ℕ) → ((forms_cmp form best ≡ Less) → ⊥) → best ≡ lesser form best
 lesser_not form best n = elim (lesser_of form best) [ inl w ↦ absurd (n w.1) | inr w ↦ sym w.0 ]

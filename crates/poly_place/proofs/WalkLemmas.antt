@@ -32,8 +32,6 @@ one_outside test d vs i v lt is h =
 pub all_within : (bits : List Bool) (d : Coordinates) (vs : List Coordinates) → list_all (has_bit bits) (map (moved d) vs) ≡ true → (v : Coordinates) → IsIn v vs → IsInGrid (moved d v)
 all_within bits d vs h v i = bit_in bits (moved d v) (passes (has_bit bits) (map (moved d) vs) h (moved d v) (in_map (moved d) v vs i))
 
--- ---- lists joined, one by one
-
 -- ---- two tests that agree
 
 pub at_cells_same : (p q : Coordinates → Bool) → ((c : Coordinates) → p c ≡ q c) → (cells : List Coordinates) (pieces : List (List Coordinates)) → flat_map (at_cells p cells) pieces ≡ flat_map (at_cells q cells) pieces

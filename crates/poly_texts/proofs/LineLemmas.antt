@@ -268,10 +268,9 @@ key_is word k h =
 
 maybe_keyed_is : (s : DraftValue) (key : List ℕ) (words : List (List ℕ)) (t : DraftValue) (k : Option Key) → key_from key ≡ k → maybe_keyed k s words ≡ Ok t → IsTakenLine s (codes "maybe" ∷ key ∷ words) t
 unfolding key_word
-maybe_keyed_is s key words t None e h = absurd (no_fault BadLine t h)
 maybe_keyed_is s key words t (Some keys.Piece) e h = rw (key_is key keys.Piece e) (piece_taken s true words t h)
 maybe_keyed_is s key words t (Some keys.Cells) e h = rw (key_is key keys.Cells e) (maybe_taken s words t h)
-maybe_keyed_is s key words t (Some other) e h = absurd (no_fault BadLine t h)
+maybe_keyed_is s key words t _ e h = absurd (no_fault BadLine t h)
 
 maybe_is : (s : DraftValue) (words : List (List ℕ)) (t : DraftValue) → maybe_line s words ≡ Ok t → IsTakenLine s (codes "maybe" ∷ words) t
 unfolding maybe_line

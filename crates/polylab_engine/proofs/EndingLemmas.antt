@@ -87,10 +87,8 @@ module _ (job : Job) (r r' w w' f f' : Stream) where
   pub writer_is : (e : Ending) → IsEnd job r r' w w' e → (status_of e ≡ 5 → ⊥) → IsSound w w'
   writer_is Written h s = h.1.2.1
   writer_is (Refused line) h s = h.2.1
-  writer_is OutOfMemory h s = h.1.1
-  writer_is (Pool fault) h s = h.1.1
-  writer_is Unread h s = h.1.1
   writer_is Unwritten h s = absurd (s refl)
+  writer_is _ h s = h.1.1
 
   pub limit_is : (e : Ending) → IsEnd job r r' w w' e → IfSome r.bytes (λ bytes. 134217728 < length bytes → Contains (4 ∷ 5 ∷ []) (status_of e))
   limit_is Written h = within job r (Ok h.1.0) _ h.1.1

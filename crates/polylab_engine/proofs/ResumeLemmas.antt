@@ -141,5 +141,3 @@ module _ (v : SnapshotValue) (t : StateValue) (s : IsSnapshot (at_state v t)) wh
       let low = not_before v.problem (branch_end v) t there s.on_run.fits s.inside.within.not_past in
       let test = rank_test v.problem t (branch_end v) s.on_run.fits there (other_before v.problem t (branch_end v) s.on_run.fits there low n) in
       rw test refl
-
--- ---- the whole text

@@ -43,12 +43,6 @@ digit_in (b ∷ bs) (suc i) h l =
     let p : (is_digit b ≡ true) × (list_all is_digit bs ≡ true) = and_parts _ _ h in
     digit_in bs i p.1 (omega arith)
 
--- a digit of a decimal number
-pub digit_at : (word : List ℕ) (i : ℕ) → is_decimal word ≡ true → i < length word → (48 ≤ get_or word i 0) × (get_or word i 0 ≤ 57)
-digit_at word i h l =
-    let p : (begins_well word ≡ true) × (list_all is_digit word ≡ true) = and_parts _ _ h in
-    digit_in word i p.1 l
-
 -- *a number within its bound*
 
 none_above_step : (d : Bool) (v most : ℕ) → most < v → None ≡ cond (d && nat_le v most) (Some v) None

@@ -6,7 +6,7 @@ use Rattle.std.proofs.lemmas.List.{get_or-set_same, get_or-set_other}
 use Rattle.std.proofs.lemmas.List.Quantifiers.{position-Some}
 use Rattle.x_steps.specs.StateValue.{StateValue}
 use Rattle.lab_book.specs.declared.status.Status.{Status}
-use Rattle.lab_book.specs.declared.status.Status.TheVariants.{Waiting, Held, Leased, Closed}
+use Rattle.lab_book.specs.declared.status.Status.TheVariants.{Closed}
 use Rattle.lab_book.specs.declared.fault.BookFault.{BookFault}
 use Rattle.lab_book.specs.declared.entry.Call.TheVariants as call
 use Rattle.lab_book.specs.Tile.{TileValue, is_closed, asked_status}
@@ -45,10 +45,8 @@ module _ (ts : List TileValue) (change : TileValue → TileValue) (keeps : (t : 
       by (Err x) f = here
 
 asked_stays : (s : Status) → is_closed s ≡ false → is_closed (asked_status s) ≡ false
-asked_stays Waiting e = refl
-asked_stays Held e = refl
-asked_stays (Leased w i) e = refl
 asked_stays Closed e = absurd (cc)
+asked_stays _ e = refl
 
 pub hold_keeps : (b : BookValue) (id i : ℕ) → is_closed (tile_at b.tiles i).status ≡ false → is_closed (tile_at (outcome b 0 (call.RequestStop id)).tiles i).status ≡ false
 unfolding outcome

@@ -221,12 +221,7 @@ closed_session v w new seat s at made still = changed_session v new seat s (ap (
 
 retracted_kept : (a : AtWork) (r : Reply) → ((retracted_by a r).work.book.problem ≡ a.book.problem) × ((retracted_by a r).work.worker.grant ≡ a.worker.grant)
 retracted_kept a (replies.Leased g lo hi mark waiting) = (refl, refl)
-retracted_kept a replies.NoneWaits = (refl, refl)
-retracted_kept a (replies.Posted stop waiting) = (refl, refl)
-retracted_kept a (replies.Split id) = (refl, refl)
-retracted_kept a (replies.Retracted from to) = (refl, refl)
-retracted_kept a replies.Done = (refl, refl)
-retracted_kept a (replies.Refused f) = (refl, refl)
+retracted_kept a _ = (refl, refl)
 
 module _ (a : AtWork) where
   abbrev taken : Bool → WorkAnswer

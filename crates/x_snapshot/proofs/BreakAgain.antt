@@ -38,9 +38,7 @@ module _ (p : ProblemValue) (g : IsProblem p) where
   words_said : (b : Break) → break_words p.names b ≡ codes "break" ∷ said_words b
   unfolding said_words
   words_said (breakpoints.Level n) = refl
-  words_said (breakpoints.Option k) = refl
-  words_said (breakpoints.Item i) = refl
-  words_said breakpoints.Visit = refl
+  words_said _ = refl
 
   break_again : (b : Break) → is_break p b ≡ true → break_from p (said_words b) ≡ Some b
   unfolding said_words break_from

@@ -1,5 +1,5 @@
 -- Whether a text says a snapshot, as tests: each decides what it stands for.
-use Rattle.std.proofs.Common.{◌≡◌, ◌↔◌, ◌⊎◌, ◌<◌, ◌&&◌, ℕ, Bool, not, true, false, nat_lt, inl, inr, List, [], ◌∷◌, length, Option, Some, option_map, Result, Ok, Err, OnOk, refl, sym, ap, subst, ◌∙◌, true≢false}
+use Rattle.std.proofs.Common.{◌≡◌, ◌↔◌, ◌<◌, ◌&&◌, ℕ, Bool, not, true, false, nat_lt, inl, inr, List, [], ◌∷◌, length, Option, Some, option_map, Result, Ok, Err, OnOk, refl, sym, subst, true≢false}
 use Rattle.std.proofs.Common as common
 use Rattle.std.specs.Prelude.{IfErr}
 use Rattle.cover_problem.specs.Problem.{ProblemValue}
@@ -159,14 +159,7 @@ pub position_refused : (v : SnapshotValue) (f : SnapshotFault) → IsPositionRef
 position_refused v NotOnRun r n = rw (neither (is_on_run v) (on_run_decides v) r) refl
 position_refused v OutsideBranch r n = rw ((on_run_decides v).1 r.0, neither (is_inside v) (inside_decides v r.0) r.1) refl
 position_refused v OutOfMemory r n = absurd (n refl)
-position_refused v BadHeader r n = absurd r
-position_refused v BadVersion r n = absurd r
-position_refused v BadProblem r n = absurd r
-position_refused v BadState r n = absurd r
-position_refused v Truncated r n = absurd r
-position_refused v TrailingBytes r n = absurd r
-position_refused v Spelling r n = absurd r
-position_refused v BadBreak r n = absurd r
+position_refused v _ r n = absurd r
 
 -- the same of a call that judges on a problem which is the same
 module _ {X : Type 0} (r : Result X SnapshotFault) (p : ProblemValue) (v : SnapshotValue) (same : p ≡ v.problem) where

@@ -15,7 +15,7 @@ use Rattle.cover_problem.specs.Limits.{most_options}
 use Rattle.cover_problem.specs.Problem.{is_item}
 use Rattle.cover_problem.proofs.BoundLemmas.{item_bounds}
 use Rattle.x_steps.specs.declared.state.Label.{Label}
-use Rattle.x_steps.specs.declared.state.Label.TheVariants.{X1, X2, X3, X4, X5, X6, X7, X8, Done}
+use Rattle.x_steps.specs.declared.state.Label.TheVariants.{X1}
 use Rattle.x_steps.specs.declared.state.Cursor.{Cursor}
 use Rattle.x_steps.specs.declared.state.Cursor.TheVariants as cursors
 use Rattle.x_steps.specs.StateValue.{StateValue}
@@ -142,14 +142,7 @@ cut_again none (Some (o ∷ path)) n g =
 
 label_again : (l : Label) → label_from (label_word l) ≡ Some l
 label_again X1 = refl
-label_again X2 = refl
-label_again X3 = refl
-label_again X4 = refl
-label_again X5 = refl
-label_again X6 = refl
-label_again X7 = refl
-label_again X8 = refl
-label_again Done = refl
+label_again _ = refl
 
 -- a cursor that is written
 unfoldable pub is_cursor : Cursor → Bool
@@ -158,11 +151,10 @@ is_cursor k = true
 
 cursor_again : (k : Cursor) → is_cursor k ≡ true → cursor_from (cursor_word k) ≡ Some k
 unfolding is_cursor
-cursor_again cursors.None h = refl
-cursor_again cursors.Past h = refl
 cursor_again (cursors.At o) h =
     let b = choice_bounds o h in
     rw (other_word o (codes "-") h refl, other_word o (codes "past") h refl, option_again most_options o (omega arith) b.0 b.1) refl
+cursor_again _ h = refl
 
 pub state_again : (s : StateValue) → is_cursor s.cursor ≡ true → list_all is_choice s.path ≡ true → state_from (state_words s) ≡ Ok s
 unfolding state_from
@@ -170,20 +162,12 @@ state_again s k h = rw (label_again s.label, cursor_again s.cursor k, choices_ag
 
 label_is_word : (l : Label) → is_word (label_word l) ≡ true
 label_is_word X1 = refl
-label_is_word X2 = refl
-label_is_word X3 = refl
-label_is_word X4 = refl
-label_is_word X5 = refl
-label_is_word X6 = refl
-label_is_word X7 = refl
-label_is_word X8 = refl
-label_is_word Done = refl
+label_is_word _ = refl
 
 cursor_is_word : (k : Cursor) → is_cursor k ≡ true → is_word (cursor_word k) ≡ true
 unfolding is_cursor
-cursor_is_word cursors.None h = refl
-cursor_is_word cursors.Past h = refl
 cursor_is_word (cursors.At o) h = printed_is_word o (omega (arith, (choice_bounds o h).1))
+cursor_is_word _ h = refl
 
 pub state_is_words : (s : StateValue) → is_cursor s.cursor ≡ true → list_all is_choice s.path ≡ true → list_all is_word (state_words s) ≡ true
 state_is_words s k h = and_from (is_word (label_word s.label)) (list_all is_word (cursor_word s.cursor ∷ map decimal s.path)) (label_is_word s.label) (and_from (is_word (cursor_word s.cursor)) (list_all is_word (map decimal s.path)) (cursor_is_word s.cursor k) (choices_words s.path h))

@@ -15,14 +15,14 @@ use Rattle.cover_problem.specs.Grammar.{word_lines, written}
 use Rattle.cover_problem.proofs.RemainingLemmas.{remaining_in}
 use Rattle.cover_problem.proofs.BoundLemmas.{few}
 use Rattle.x_steps.specs.declared.state.Label.{Label}
-use Rattle.x_steps.specs.declared.state.Label.TheVariants.{X1, X2, X3, X4, X5, X6, X7, X8, Done}
+use Rattle.x_steps.specs.declared.state.Label.TheVariants.{X5, X6}
 use Rattle.x_steps.specs.declared.state.Cursor.{Cursor}
 use Rattle.x_steps.specs.declared.state.Cursor.TheVariants as cursors
 use Rattle.x_steps.specs.Steps.{FitsAt, Fits}
 use Rattle.x_steps.proofs.OrderLemmas.{fits_valid}
 use Rattle.x_texts.specs.declared.breakpoint.Break.{Break}
 use Rattle.x_snapshot.specs.declared.fault.SnapshotFault.{SnapshotFault}
-use Rattle.x_snapshot.specs.declared.fault.SnapshotFault.TheVariants.{BadHeader, BadVersion, BadProblem, BadState, NotOnRun, OutsideBranch, Truncated, TrailingBytes, Spelling, BadBreak, OutOfMemory}
+use Rattle.x_snapshot.specs.declared.fault.SnapshotFault.TheVariants.{BadHeader, BadState, NotOnRun, OutsideBranch, BadBreak, OutOfMemory}
 use Rattle.x_texts.specs.Breaks.{is_break, are_new}
 use Rattle.x_snapshot.specs.Snapshot.{SnapshotValue, snapshot_with, IsCutIfAny, IsSnapshot}
 use Rattle.x_snapshot.specs.Refusals.{IsRefused}
@@ -65,19 +65,12 @@ module _ (p : ProblemValue) (g : IsProblem p) where
   at_is : (l : Label) (path : List ℕ) (o : ℕ) → FitsAt p l path (cursors.At o) → is_choice o ≡ true
   at_is X5 path o f = choice_is (covered_by p path) o f.1
   at_is X6 path o f = choice_is (covered_by p path) o f.1
-  at_is X1 path o f = absurd f
-  at_is X2 path o f = absurd f
-  at_is X3 path o f = absurd f
-  at_is X4 path o f = absurd f
-  at_is X7 path o f = absurd f
-  at_is X8 path o f = absurd f
-  at_is Done path o f = absurd f
+  at_is _ path o f = absurd f
 
   cursor_is : (l : Label) (path : List ℕ) (k : Cursor) → FitsAt p l path k → is_cursor k ≡ true
   unfolding is_cursor
-  cursor_is l path cursors.None f = refl
-  cursor_is l path cursors.Past f = refl
   cursor_is l path (cursors.At o) f = at_is l path o f
+  cursor_is l path _ f = refl
 
   -- *the lines of the position*
 
@@ -189,17 +182,11 @@ module _ (text : List ℕ) (v : SnapshotValue) (g : IsSnapshot v) (same : text �
   only_memory refusals.OutOfMemory h = refl
 
   not_refused : (fault : SnapshotFault) → IsRefused v fault → fault ≡ OutOfMemory
-  not_refused BadHeader r = absurd r
-  not_refused BadVersion r = absurd r
-  not_refused BadProblem r = absurd r
-  not_refused BadState r = absurd r
   not_refused NotOnRun r = absurd (r.1 g.on_run)
   not_refused OutsideBranch r = absurd (r.1.1 g.inside)
-  not_refused Truncated r = absurd r
-  not_refused TrailingBytes r = absurd r
-  not_refused Spelling r = absurd r
   not_refused BadBreak r = absurd (true≢false (sym g.breaks ∙ r))
   not_refused OutOfMemory r = refl
+  not_refused _ r = absurd r
 
   pub only_memory_left : (s : SnapshotValue) → parts_of text ≡ Ok s → (fault : SnapshotFault) → IsRefused s fault → fault ≡ OutOfMemory
   only_memory_left s h fault r = not_refused fault (subst (λ w. IsRefused w fault) (read_as s h) r)

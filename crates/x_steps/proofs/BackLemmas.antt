@@ -244,9 +244,8 @@ unfolding prev
 came_before m o found at_label at_cursor e = rw (at_label, at_cursor, e) refl
 
 past_before : (p : ProblemValue) (path : List ℕ) (k : Cursor) → ((o : ℕ) → k ≡ At o → ⊥) → prev_at p X5 path k ≡ came_from path (last_of (remaining_after p path))
-past_before p path cursor.None never = refl
 past_before p path (At o) never = absurd (never o refl)
-past_before p path Past never = refl
+past_before p path _ never = refl
 
 pub came_last : (m : Position) (found : Option ℕ) → m.state.label ≡ X5 → ((o : ℕ) → m.state.cursor ≡ At o → ⊥) → found ≡ last_of (remaining_after m.problem m.state.path)
     → prev m.problem m.state ≡ came_from m.state.path found

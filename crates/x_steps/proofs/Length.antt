@@ -22,12 +22,11 @@ abbrev owed : Label → ℕ
 owed X1 = 8
 owed X2 = 9
 owed X3 = 2
-owed X4 = 3
 owed X5 = 4
-owed X6 = 3
 owed X7 = 5
 owed X8 = 6
 owed Done = 7
+owed _ = 3
 
 -- one step pays for itself
 abbrev Balance : ProblemValue → StateValue → StateValue → Type 0

@@ -10,7 +10,7 @@ use Rattle.x_steps.specs.declared.state.Label.{Label}
 use Rattle.x_steps.specs.declared.state.Label.TheVariants.{X2, X4, X5, X6, X7}
 use Rattle.x_steps.specs.declared.state.Cursor.{Cursor}
 use Rattle.x_steps.specs.declared.state.Cursor.TheVariants as cursor
-use Rattle.x_steps.specs.declared.state.Cursor.TheVariants.{At, Past}
+use Rattle.x_steps.specs.declared.state.Cursor.TheVariants.{At}
 use Rattle.x_steps.specs.StateValue.{StateValue}
 use Rattle.x_steps.specs.Steps.{FitsAt, IsOpen, item_after, covered_at, covered_in, is_level, is_visit}
 use Rattle.x_steps.specs.Machine.{Keeps, Position, is_chosen, chosen_item, chosen_in}

@@ -242,5 +242,3 @@ run_is_fitting p = record { ends = (run_leads p).ends; once = λ i j a b e. once
         within : (steps_between p start done < a.0) ⊎ (a.0 ≤ steps_between p start done) → a.0 ≤ steps_between p start done
         within (inr l) = l
         within (inl l) = absurd (a.1.goes_on (steps_between p start done) l (ap (λ (s : StateValue). s.label) (run_leads p).ends))
-
--- ---- places on the run

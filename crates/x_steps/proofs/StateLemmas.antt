@@ -10,8 +10,6 @@ use Rattle.cover_problem.proofs.RemainingLemmas.{list_covered, list_uncovered, c
 use Rattle.cover_problem.proofs.PathLemmas.{depth}
 use Rattle.x_steps.specs.Steps.{IsOpen, item_after, remaining_after}
 
--- ---- the words by cases on label and cursor
-
 -- ---- where an item is active
 
 -- what is known at a level that is open
@@ -37,11 +35,3 @@ level_is p path s v h =
       place = λ more d. get_or_at (covered_by p path) (item_after p path) more d (length (covered_by p path)) refl;
       room = omega (arith, s.within);
     }
-
--- ---- where an option is at hand
-
--- ---- what is covered are distinct items
-
--- ---- what differs on the covered list from label to label
-
--- ---- what a step changes there: X4 covers the chosen item

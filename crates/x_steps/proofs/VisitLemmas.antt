@@ -9,7 +9,6 @@ use Rattle.x_steps.specs.declared.state.Label.{Label}
 use Rattle.x_steps.specs.declared.state.Label.TheVariants.{X2, Done}
 use Rattle.x_steps.specs.declared.state.Cursor.{Cursor}
 use Rattle.x_steps.specs.declared.state.Cursor.TheVariants as cursor
-use Rattle.x_steps.specs.declared.state.Cursor.TheVariants.{At, Past}
 use Rattle.x_steps.specs.StateValue.{StateValue, at, start, done}
 use Rattle.x_steps.specs.Steps.{is_open, FitsAt, Fits, is_visit}
 use Rattle.x_steps.specs.Order.{IsIn, PathLess, AllAfter, PathsRise}

@@ -34,11 +34,19 @@ fn workers_search_the_rest_of_a_run(rt: HostRuntime) -> Result<(), Fail> {
     Ok(())
 }
 
-/// Whether the history of a book begins with the three entries of the book that was begun by hand.
+/// Whether the history of a book begins with the three entries of another one.
+fn begins_with_three(book: &Book<'_>, old: &Book<'_>) -> bool {
+    old.history().len() == 3 && begins_with(book, old)
+}
+
+/// The same of the book that was begun by hand.
 fn begins_so(alloc: Global, problem: &Problem, book: &Option<Book<'_>>) -> bool {
-    match (begun(alloc, problem), book) {
-        (Some(old), Some(book)) => old.history().len() == 3 && begins_with(book, &old),
-        _ => false,
+    let Some(book) = book else {
+        return false;
+    };
+    match begun(alloc, problem) {
+        Some(old) => begins_with_three(book, &old),
+        None => false,
     }
 }
 

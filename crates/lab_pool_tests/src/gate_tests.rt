@@ -86,10 +86,10 @@ impl Gate for UntilStolen {
     }
 }
 
-const PIECES: [&str; 5] = ["A", "B", "C", "D", "E"];
+static PIECES: [&str; 5] = ["A", "B", "C", "D", "E"];
 
 /// The places of a domino in the box 5 2 1, in the order of their cells.
-const PLACES: [&str; 13] = [
+static PLACES: [&str; 13] = [
     " 000 010", " 000 100", " 010 110", " 100 110", " 100 200", " 110 210", " 200 210", " 200 300",
     " 210 310", " 300 310", " 300 400", " 310 410", " 400 410",
 ];

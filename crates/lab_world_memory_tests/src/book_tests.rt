@@ -209,6 +209,31 @@ fn are_made_alike<'p>(
     Ok(is_first && is_made(book, lease, call, before) && are_alike(book, twin))
 }
 
+/// The same of a new book.
+fn is_made_beside<'p>(
+    alloc: Global,
+    problem: &'p Problem,
+    lease: &Lease,
+    ask: Ask,
+    before: &Book<'p>,
+    twin: &mut Book<'p>,
+) -> Result<bool, Fail> {
+    let mut book = begun(alloc, problem, ask)?;
+    are_made_alike(alloc, problem, lease, ask, before, twin, &mut book)
+}
+
+/// The same of two new books.
+fn is_made_after<'p>(
+    alloc: Global,
+    problem: &'p Problem,
+    lease: &Lease,
+    ask: Ask,
+    before: &Book<'p>,
+) -> Result<bool, Fail> {
+    let mut twin = begun(alloc, problem, ask)?;
+    is_made_beside(alloc, problem, lease, ask, before, &mut twin)
+}
+
 /// The same of three new books.
 fn is_made_alike<'p>(
     alloc: Global,
@@ -217,9 +242,7 @@ fn is_made_alike<'p>(
     ask: Ask,
 ) -> Result<bool, Fail> {
     let before = begun(alloc, problem, ask)?;
-    let mut twin = begun(alloc, problem, ask)?;
-    let mut book = begun(alloc, problem, ask)?;
-    are_made_alike(alloc, problem, lease, ask, &before, &mut twin, &mut book)
+    is_made_after(alloc, problem, lease, ask, &before)
 }
 
 /// The same of the small problem, under the first lease that worker 3 has of its tile.

@@ -124,6 +124,31 @@ fn ends_alike<'p>(
     }
 }
 
+/// The same of a new runner, after so many steps.
+fn is_answered_alike<'p>(
+    alloc: Global,
+    problem: &'p Problem,
+    steps: u32,
+    call: Call,
+    other: &mut Runner<'p, PlainTable>,
+    before: &Runner<'p, PlainTable>,
+) -> Result<bool, Fail> {
+    let mut runner = advanced(alloc, problem, steps)?;
+    ends_alike(alloc, &mut runner, other, before, call)
+}
+
+/// The same beside another new runner.
+fn is_answered_beside<'p>(
+    alloc: Global,
+    problem: &'p Problem,
+    steps: u32,
+    call: Call,
+    before: &Runner<'p, PlainTable>,
+) -> Result<bool, Fail> {
+    let mut other = advanced(alloc, problem, steps)?;
+    is_answered_alike(alloc, problem, steps, call, &mut other, before)
+}
+
 /// Whether a call after so many steps of the run is answered as where nothing is refused.
 fn is_answered_after(
     alloc: Global,
@@ -132,9 +157,7 @@ fn is_answered_after(
     call: Call,
 ) -> Result<bool, Fail> {
     let before = advanced(alloc, problem, steps)?;
-    let mut other = advanced(alloc, problem, steps)?;
-    let mut runner = advanced(alloc, problem, steps)?;
-    ends_alike(alloc, &mut runner, &mut other, &before, call)
+    is_answered_beside(alloc, problem, steps, call, &before)
 }
 
 #[test]

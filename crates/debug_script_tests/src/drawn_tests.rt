@@ -15,10 +15,16 @@ type Plain<'p> = Session<'p, PlainTable>;
 
 /// The text of a problem of five items, of which three to five are primary, with five to fifteen options of few
 /// of them.
-pub fn drawn_text(alloc: Global, seed: &mut u64) -> Result<String, AllocError> {
+fn drawn_text(alloc: Global, seed: &mut u64) -> Result<String, AllocError> {
     let primary = draw(seed) % 3 + 3;
     let options = drawn_narrow_options(alloc, 5, 11, seed)?;
     text_of(alloc, 5, primary, &options)
+}
+
+/// The problem of such a text.
+pub fn drawn_problem(alloc: Global, seed: &mut u64) -> Result<Problem, Fail> {
+    let text = drawn_text(alloc, seed)?;
+    Ok(read_cover(alloc, text.as_bytes())?)
 }
 
 /// So many steps, as far as there are any: how many there were.
@@ -40,7 +46,7 @@ fn take_back(session: &mut Plain<'_>, most: u32) -> Result<(), AllocError> {
 }
 
 /// Whether steps, after some steps, and as many back leave what is shown as it was.
-fn is_taken_back(session: &mut Plain<'_>, before: u32, most: u32) -> Result<bool, AllocError> {
+fn is_taken_back(session: &mut Plain<'_>, before: u32, most: u32) -> Result<bool, Fail> {
     take_steps(session, before)?;
     let shown = answer(session, "show")?;
     let made = take_steps(session, most)?;
@@ -110,13 +116,34 @@ fn whole(alloc: Global, problem: &Problem) -> Result<Vec<u8>, AllocError> {
     finish(&mut session)
 }
 
-/// The visits of a session that takes a snapshot and runs on.
-fn loaded(alloc: Global, problem: &Problem, reply: &[u8]) -> Result<Vec<u8>, AllocError> {
-    let mut session: Plain<'_> = Session::new(alloc, problem)?;
+/// Loads the snapshot behind the first line of a reply, and runs on: the visits that are posted then.
+fn finish_loaded(session: &mut Plain<'_>, reply: &[u8]) -> Result<Vec<u8>, AllocError> {
     if let Some((_, snapshot)) = split_ended_line(reply) {
         session.load(snapshot)?;
     }
-    finish(&mut session)
+    finish(session)
+}
+
+/// The same of a new session.
+fn loaded(alloc: Global, problem: &Problem, reply: &[u8]) -> Result<Vec<u8>, AllocError> {
+    let mut session: Plain<'_> = Session::new(alloc, problem)?;
+    finish_loaded(&mut session, reply)
+}
+
+/// Adds the visits of the branch that this command opens, behind so many bytes of visits before; none where there is no command.
+fn add_opened(
+    session: &mut Plain<'_>,
+    visits: &mut Vec<u8>,
+    opening: &str,
+    before: usize,
+) -> Result<(), AllocError> {
+    if opening.is_empty() {
+        return Ok(());
+    }
+    answer(session, opening)?;
+    let all = finish(session)?;
+    let (_, others) = all.split_at(before.min(all.len()));
+    visits.extend_from_slice(others)
 }
 
 /// The visits of a search that takes some steps, is split, saved and loaded: those before, those of the
@@ -134,56 +161,68 @@ fn parted(
     let mut visits = posted(session)?;
     let before = visits.len();
     visits.extend_from_slice(&loaded(alloc, problem, &saved)?)?;
-    if opening.len() > 0 {
-        answer(session, opening)?;
-        let all = finish(session)?;
-        let (_, others) = all.split_at(before.min(all.len()));
-        visits.extend_from_slice(others)?;
-    }
+    add_opened(session, &mut visits, opening, before)?;
     Ok(visits)
 }
 
-/// Whether a search that is parted has the visits of one that runs through.
-fn is_whole(alloc: Global, problem: &Problem, steps: u32, first: u32) -> Result<bool, AllocError> {
-    let mut session = Session::new(alloc, problem)?;
-    let visits = parted(alloc, problem, &mut session, steps, first)?;
+/// Whether such a search has the visits of one that runs through.
+fn is_parted_whole(
+    alloc: Global,
+    problem: &Problem,
+    session: &mut Plain<'_>,
+    steps: u32,
+    first: u32,
+) -> Result<bool, Fail> {
+    let visits = parted(alloc, problem, session, steps, first)?;
     Ok(visits == whole(alloc, problem)?)
 }
 
+/// The same of a new session.
+fn is_whole(alloc: Global, problem: &Problem, steps: u32, first: u32) -> Result<bool, Fail> {
+    let mut session = Session::new(alloc, problem)?;
+    is_parted_whole(alloc, problem, &mut session, steps, first)
+}
+
 /// Whether what is taken back changes nothing.
-fn is_as_before(
-    alloc: Global,
-    problem: &Problem,
-    steps: u32,
-    most: u32,
-) -> Result<bool, AllocError> {
+fn is_as_before(alloc: Global, problem: &Problem, steps: u32, most: u32) -> Result<bool, Fail> {
     let mut session = Session::new(alloc, problem)?;
     is_taken_back(&mut session, steps, most)
+}
+
+/// The same of the next problem that is drawn, and drawn numbers of steps.
+fn is_next_as_before(alloc: Global, seed: &mut u64) -> Result<bool, Fail> {
+    let problem = drawn_problem(alloc, seed)?;
+    let (steps, most) = (draw(seed) % 60, draw(seed) % 60);
+    is_as_before(alloc, &problem, steps, most)
 }
 
 #[test]
 fn what_is_taken_back_changes_nothing(rt: HostRuntime) -> Result<(), Fail> {
     let mut seed = 16;
-    for _ in 0..20 {
-        let text = drawn_text(rt.alloc(), &mut seed)?;
-        let problem = read_cover(rt.alloc(), text.as_bytes())?;
-        let (steps, most) = (draw(&mut seed) % 60, draw(&mut seed) % 60);
+    for round in 0..20 {
         assert!(rt;
-            is_as_before(rt.alloc(), &problem, steps, most)?,
-            "for {text}"
+            is_next_as_before(rt.alloc(), &mut seed)?,
+            "at the problem drawn as {round}"
         );
     }
     Ok(())
 }
 
+/// Whether the next drawn problem, parted after a drawn number of steps, has the visits of the whole.
+fn is_next_whole(alloc: Global, seed: &mut u64) -> Result<bool, Fail> {
+    let problem = drawn_problem(alloc, seed)?;
+    let (steps, first) = (draw(seed) % 60, draw(seed) % 4);
+    is_whole(alloc, &problem, steps, first)
+}
+
 #[test]
 fn a_parted_search_has_the_visits_of_the_whole(rt: HostRuntime) -> Result<(), Fail> {
     let mut seed = 7;
-    for _ in 0..20 {
-        let text = drawn_text(rt.alloc(), &mut seed)?;
-        let problem = read_cover(rt.alloc(), text.as_bytes())?;
-        let (steps, first) = (draw(&mut seed) % 60, draw(&mut seed) % 4);
-        assert!(rt; is_whole(rt.alloc(), &problem, steps, first)?, "for {text}");
+    for round in 0..20 {
+        assert!(rt;
+            is_next_whole(rt.alloc(), &mut seed)?,
+            "at the problem drawn as {round}"
+        );
     }
     Ok(())
 }

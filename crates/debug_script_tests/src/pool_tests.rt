@@ -1,8 +1,8 @@
 //! Commands with pools among them, drawn by a seed on drawn problems: whatever number of workers searches, they are answered what a
 //! session answers of which each waiting branch is opened, run to its end and closed.
 
-use crate::drawn_tests::drawn_text;
-use cover_problem::{PlainTable, Problem, read_cover};
+use crate::drawn_tests::drawn_problem;
+use cover_problem::{PlainTable, Problem};
 use debug_script::replies;
 use drawn_problems::draw;
 use lab_pool::NoGate;
@@ -64,23 +64,44 @@ fn line_of(alloc: Global, word: &[u8], cut: &[u8]) -> Result<Vec<u8>, AllocError
     Ok(line)
 }
 
-/// Opens the first branch that waits, runs it to its end and closes it; whether there was one.
-fn search_one(alloc: Global, session: &mut Plain<'_>) -> Result<bool, AllocError> {
-    let branches = reply(session, b"branches")?;
-    for line in lines(alloc, &branches)?.iter() {
+/// Opens the branch that begins at a cut, runs it to its end and closes it.
+fn search_at(alloc: Global, session: &mut Plain<'_>, cut: &[u8]) -> Result<(), AllocError> {
+    reply(session, &line_of(alloc, b"open ", cut)?)?;
+    reply(session, b"run")?;
+    reply(session, b"close")?;
+    Ok(())
+}
+
+/// The cut at which the first branch begins that waits, of these lines of branches.
+fn first_waiting(alloc: Global, branches: &[u8]) -> Result<Option<&[u8]>, AllocError> {
+    for line in lines(alloc, branches)?.iter() {
         if line.ends_with(b" waiting") {
-            reply(session, &line_of(alloc, b"open ", cut_of(line))?)?;
-            reply(session, b"run")?;
-            reply(session, b"close")?;
-            return Ok(true);
+            return Ok(Some(cut_of(line)));
         }
     }
-    Ok(false)
+    Ok(None)
+}
+
+/// Searches the first branch that waits; whether there was one.
+fn search_one(alloc: Global, session: &mut Plain<'_>) -> Result<bool, AllocError> {
+    let branches = reply(session, b"branches")?;
+    match first_waiting(alloc, &branches)? {
+        Some(cut) => {
+            search_at(alloc, session, cut)?;
+            Ok(true)
+        }
+        None => Ok(false),
+    }
+}
+
+/// Whether a line is answered so.
+fn answers(session: &mut Plain<'_>, line: &[u8], wanted: &[u8]) -> Result<bool, AllocError> {
+    Ok(reply(session, line)?.as_slice() == wanted)
 }
 
 /// What `pool` is answered, where each waiting branch is searched so.
 fn search_all(alloc: Global, session: &mut Plain<'_>) -> Result<&'static [u8], AllocError> {
-    if reply(session, b"show")?.as_slice() != b"refused debug 5 NoBranch\n".as_slice() {
+    if !answers(session, b"show", b"refused debug 5 NoBranch\n")? {
         return Ok(b"refused debug 4 AlreadyOpen\n");
     }
     reply(session, b"clear")?;
@@ -89,10 +110,24 @@ fn search_all(alloc: Global, session: &mut Plain<'_>) -> Result<&'static [u8], A
             break;
         }
     }
-    if reply(session, b"branches")?.as_slice() == b"branches none\n".as_slice() {
+    if answers(session, b"branches", b"branches none\n")? {
         Ok(b"pooled\n")
     } else {
         Ok(b"refused pool 3 Held\n")
+    }
+}
+
+/// The cut at which a drawn branch begins, of these lines of branches.
+fn drawn_cut<'a>(
+    alloc: Global,
+    branches: &'a [u8],
+    seed: &mut u64,
+) -> Result<&'a [u8], AllocError> {
+    let all = lines(alloc, branches)?;
+    let drawn = all.len().saturating_sub(1).min(draw(seed) as usize % 8);
+    match all.get(drawn) {
+        Some(line) => Ok(cut_of(line)),
+        None => Ok(b"start"),
     }
 }
 
@@ -110,6 +145,17 @@ impl Script {
         self.note(line, &answer)
     }
 
+    /// The same of a word and what stands behind it.
+    fn ask_with(
+        &mut self,
+        alloc: Global,
+        session: &mut Plain<'_>,
+        word: &[u8],
+        rest: &[u8],
+    ) -> Result<(), AllocError> {
+        self.ask(session, &line_of(alloc, word, rest)?)
+    }
+
     /// A line for the session that names a drawn branch of it.
     fn ask_of(
         &mut self,
@@ -119,13 +165,8 @@ impl Script {
         word: &[u8],
     ) -> Result<(), AllocError> {
         let branches = reply(session, b"branches")?;
-        let all = lines(alloc, &branches)?;
-        let drawn = all.len().saturating_sub(1).min(draw(seed) as usize % 8);
-        let cut = match all.get(drawn) {
-            Some(line) => cut_of(line),
-            None => b"start",
-        };
-        self.ask(session, &line_of(alloc, word, cut)?)
+        let cut = drawn_cut(alloc, &branches, seed)?;
+        self.ask_with(alloc, session, word, cut)
     }
 
     /// A snapshot is saved.
@@ -164,14 +205,11 @@ impl Script {
     ) -> Result<(), AllocError> {
         let number = format!(in alloc; "{}", draw(seed) % 12 + 1)?;
         match draw(seed) % 16 {
-            0 | 1 => self.ask(session, &line_of(alloc, b"step ", number.as_bytes())?),
-            2 => self.ask(session, &line_of(alloc, b"back ", number.as_bytes())?),
-            3 | 4 => self.ask(session, &line_of(alloc, b"split 0 ", number.as_bytes())?),
-            5 => self.ask(session, &line_of(alloc, b"split 1 ", number.as_bytes())?),
-            6 => self.ask(
-                session,
-                &line_of(alloc, b"break option ", number.as_bytes())?,
-            ),
+            0 | 1 => self.ask_with(alloc, session, b"step ", number.as_bytes()),
+            2 => self.ask_with(alloc, session, b"back ", number.as_bytes()),
+            3 | 4 => self.ask_with(alloc, session, b"split 0 ", number.as_bytes()),
+            5 => self.ask_with(alloc, session, b"split 1 ", number.as_bytes()),
+            6 => self.ask_with(alloc, session, b"break option ", number.as_bytes()),
             7 => self.ask(session, b"run"),
             8 => self.ask(session, b"close"),
             9 => self.ask(session, b"retract"),
@@ -210,24 +248,34 @@ static ASKED: [&str; 5] = ["branches", "visits", "steps", "levels", "clear"];
 /// The numbers of workers.
 static POOLS: [&str; 3] = ["pool 1", "pool 2", "pool 4"];
 
-/// Sixty drawn commands, with what they are answered by hand.
-fn drawn_script(
+/// Sixty drawn commands, with what they are answered by hand in a session.
+fn script_in(
     alloc: Global,
-    problem: &Problem,
+    session: &mut Plain<'_>,
     seed: u64,
     pool: &[u8],
 ) -> Result<Script, AllocError> {
     let mut seed = seed;
-    let mut session = Session::new(alloc, problem)?;
     let mut script = Script {
         commands: Vec::new(alloc),
         answers: Vec::new(alloc),
         saved: Vec::new(alloc),
     };
     for _ in 0..60 {
-        script.go_on(alloc, &mut session, &mut seed, pool)?;
+        script.go_on(alloc, session, &mut seed, pool)?;
     }
     Ok(script)
+}
+
+/// The same in a new session.
+fn drawn_script(
+    alloc: Global,
+    problem: &Problem,
+    seed: u64,
+    pool: &[u8],
+) -> Result<Script, AllocError> {
+    let mut session = Session::new(alloc, problem)?;
+    script_in(alloc, &mut session, seed, pool)
 }
 
 /// Whether commands are answered as by hand.
@@ -241,19 +289,51 @@ fn is_as_by_hand<R: Threads + Wait + Sync>(
     Ok(answers == script.answers)
 }
 
+/// The same of drawn commands with this pool among them.
+fn is_pool_as_by_hand<R: Threads + Wait + Sync>(
+    rt: &R,
+    alloc: Global,
+    problem: &Problem,
+    seed: u64,
+    pool: &str,
+) -> Result<bool, Fail> {
+    let script = drawn_script(alloc, problem, seed, pool.as_bytes())?;
+    is_as_by_hand(rt, alloc, problem, &script)
+}
+
+/// The same with each number of workers.
+fn are_pools_as_by_hand<R: Threads + Wait + Sync>(
+    rt: &R,
+    alloc: Global,
+    problem: &Problem,
+    seed: u64,
+) -> Result<bool, Fail> {
+    for pool in POOLS.iter() {
+        if !is_pool_as_by_hand(rt, alloc, problem, seed, pool)? {
+            return Ok(false);
+        }
+    }
+    Ok(true)
+}
+
+/// The same of the next problem that is drawn.
+fn are_next_as_by_hand<R: Threads + Wait + Sync>(
+    rt: &R,
+    alloc: Global,
+    seed: &mut u64,
+) -> Result<bool, Fail> {
+    let problem = drawn_problem(alloc, seed)?;
+    are_pools_as_by_hand(rt, alloc, &problem, *seed)
+}
+
 #[test]
 fn pools_answer_as_a_search_by_hand(rt: HostRuntime) -> Result<(), Fail> {
     let mut seed = 29;
-    for _ in 0..20 {
-        let text = drawn_text(rt.alloc(), &mut seed)?;
-        let problem = read_cover(rt.alloc(), text.as_bytes())?;
-        for pool in POOLS.iter() {
-            let script = drawn_script(rt.alloc(), &problem, seed, pool.as_bytes())?;
-            assert!(rt;
-                is_as_by_hand(&rt, rt.alloc(), &problem, &script)?,
-                "for {text}"
-            );
-        }
+    for round in 0..20 {
+        assert!(rt;
+            are_next_as_by_hand(&rt, rt.alloc(), &mut seed)?,
+            "at the problem drawn as {round}"
+        );
     }
     Ok(())
 }

@@ -19,11 +19,8 @@ const WITH_BREAKS: &str =
 /// What is shown there.
 const SHOWN: &str = "at X2 - 4 5 1\nbranch 4 to end\ncovered a d f b g c e\n";
 
-/// Where a session begins anew in the rows below, and where it goes on with its book alone, if no branch is
-/// open.
+/// Where a session begins anew in the rows below.
 const NEW: &str = "new";
-
-const AGAIN: &str = "again";
 
 /// What stands for the rows to a breakpoint.
 const TO_BREAK: &str = "to break";
@@ -43,7 +40,7 @@ static BREAK_ROWS: [Row; 7] = [
 ];
 
 /// Lines and snapshots, each with what is answered.
-static ROWS: [Row; 102] = [
+static ROWS: [Row; 97] = [
     (NEW, ""),
     // To where nothing is left to try below an option, and back to the start.
     ("step 12", "moved 12\nat X5 past 2 3\n"),
@@ -178,12 +175,6 @@ static ROWS: [Row; 102] = [
     ("polysnap 3\n", "refused snapshot 2 BadVersion\n"),
     ("polysnap 1", "refused snapshot 7 Truncated\n"),
     ("back", "refused debug 3 AtStart\n"),
-    // The book is taken where no branch is open.
-    (AGAIN, ""),
-    ("open start", "refused debug 4 AlreadyOpen\n"),
-    ("park", "parked\n"),
-    (AGAIN, ""),
-    ("open start", "at X1 -\n"),
 ];
 
 /// What a session answers to a line, or to a snapshot.
@@ -196,14 +187,6 @@ pub fn answer(session: &mut Session<'_, PlainTable>, line: &str) -> Result<Vec<u
     };
     let Reply { text } = reply;
     Ok(text)
-}
-
-/// A session on the book of another, or that one where a branch is open.
-fn again<'p>(alloc: Global, session: Session<'p, PlainTable>) -> Session<'p, PlainTable> {
-    match session.into_book() {
-        Ok(book) => Session::on_book(alloc, book),
-        Err(session) => session,
-    }
 }
 
 /// Whether a row is answered so.
@@ -224,24 +207,92 @@ fn is_right(session: &mut Session<'_, PlainTable>, row: &Row) -> Result<bool, Al
     Ok(true)
 }
 
+/// Takes rows from a place on, to the next one where a session begins anew, or that isn't answered so: its place.
+fn answer_from(session: &mut Session<'_, PlainTable>, start: usize) -> Result<usize, AllocError> {
+    for (at, row) in ROWS.iter().enumerate().skip(start) {
+        if row.0 == NEW || !is_right(session, row)? {
+            return Ok(at);
+        }
+    }
+    Ok(ROWS.len())
+}
+
+/// The same in a new session.
+fn answer_anew(alloc: Global, problem: &Problem, start: usize) -> Result<usize, AllocError> {
+    let mut session = Session::new(alloc, problem)?;
+    answer_from(&mut session, start)
+}
+
+/// Whether a session begins anew at a place, or no row is left.
+fn is_end(at: usize) -> bool {
+    match ROWS.get(at) {
+        Some(row) => row.0 == NEW,
+        None => true,
+    }
+}
+
 /// The first row that isn't answered so.
 fn first_other(alloc: Global, problem: &Problem) -> Result<Option<usize>, AllocError> {
-    let mut session = Session::new(alloc, problem)?;
     for (at, row) in ROWS.iter().enumerate() {
         if row.0 == NEW {
-            session = Session::new(alloc, problem)?;
-        } else if row.0 == AGAIN {
-            session = again(alloc, session);
-        } else if !is_right(&mut session, row)? {
-            return Ok(Some(at));
+            let end = answer_anew(alloc, problem, at.saturating_add(1))?;
+            if !is_end(end) {
+                return Ok(Some(end));
+            }
         }
     }
     Ok(None)
 }
 
+/// The same of the small problem.
+fn first_other_of_small(alloc: Global) -> Result<Option<usize>, Fail> {
+    let problem = read_cover(alloc, SMALL.as_bytes())?;
+    Ok(first_other(alloc, &problem)?)
+}
+
 #[test]
 fn lines_are_answered(rt: HostRuntime) -> Result<(), Fail> {
-    let problem = read_cover(rt.alloc(), SMALL.as_bytes())?;
-    assert!(rt; first_other(rt.alloc(), &problem)? == None);
+    assert!(rt; first_other_of_small(rt.alloc())? == None);
+    Ok(())
+}
+
+/// A session on the book of another, or that one where a branch is open.
+fn again<'p>(alloc: Global, session: Session<'p, PlainTable>) -> Session<'p, PlainTable> {
+    match session.into_book() {
+        Ok(book) => Session::on_book(alloc, book),
+        Err(session) => session,
+    }
+}
+
+/// Whether a session on the book of another opens its branch.
+fn opens_again(alloc: Global, session: Session<'_, PlainTable>) -> Result<bool, AllocError> {
+    let mut session = again(alloc, session);
+    is_answered(&mut session, &("open start", "at X1 -\n"))
+}
+
+/// Whether a session has its branch open, and parks it.
+fn parks(session: &mut Session<'_, PlainTable>) -> Result<bool, AllocError> {
+    let is_open = is_answered(session, &("open start", "refused debug 4 AlreadyOpen\n"))?;
+    Ok(is_open && is_answered(session, &("park", "parked\n"))?)
+}
+
+/// Whether a session keeps its open branch, and gives its book away once that is parked.
+fn gives_its_book(alloc: Global, session: Session<'_, PlainTable>) -> Result<bool, AllocError> {
+    let mut session = again(alloc, session);
+    if !parks(&mut session)? {
+        return Ok(false);
+    }
+    opens_again(alloc, session)
+}
+
+/// The same of a new session of the small problem.
+fn gives_a_small_book(alloc: Global) -> Result<bool, Fail> {
+    let problem = read_cover(alloc, SMALL.as_bytes())?;
+    Ok(gives_its_book(alloc, Session::new(alloc, &problem)?)?)
+}
+
+#[test]
+fn a_book_is_taken_where_no_branch_is_open(rt: HostRuntime) -> Result<(), Fail> {
+    assert!(rt; gives_a_small_book(rt.alloc())?);
     Ok(())
 }

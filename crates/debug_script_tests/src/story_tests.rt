@@ -101,10 +101,20 @@ fn answered<R: Threads + Wait + Sync>(rt: &R, alloc: Global, text: &str) -> Resu
     Ok(answers)
 }
 
+/// Whether they are answered so.
+fn is_answered<R: Threads + Wait + Sync>(
+    rt: &R,
+    alloc: Global,
+    text: &str,
+    wanted: &str,
+) -> Result<bool, Fail> {
+    Ok(answered(rt, alloc, text)?.as_slice() == wanted.as_bytes())
+}
+
 /// The place of the first text that is answered otherwise.
 fn differs<R: Threads + Wait + Sync>(rt: &R, alloc: Global) -> Result<Option<usize>, Fail> {
     for (at, row) in STORIES.iter().enumerate() {
-        if answered(rt, alloc, row.0)?.as_slice() != row.1.as_bytes() {
+        if !is_answered(rt, alloc, row.0, row.1)? {
             return Ok(Some(at));
         }
     }
@@ -113,20 +123,28 @@ fn differs<R: Threads + Wait + Sync>(rt: &R, alloc: Global) -> Result<Option<usi
 
 #[test]
 fn texts_are_answered(rt: HostRuntime) -> Result<(), Fail> {
-    let wrong = differs(&rt, rt.alloc())?;
-    assert!(rt; wrong == None);
+    assert!(rt; differs(&rt, rt.alloc())? == None);
     Ok(())
+}
+
+/// Whether the held branch is left and searched with these two numbers of workers.
+fn is_held_answered<R: Threads + Wait + Sync>(
+    rt: &R,
+    alloc: Global,
+    first: &str,
+    last: &str,
+) -> Result<bool, Fail> {
+    let text = format!(in alloc;
+        "{SMALL}\n%%\nstep 5\nsplit 0 4\npark\nhold 4\npool {first}\nsteps\nlevels\nopen 4\n\
+         park\npool {last}\nsteps\nvisits\n"
+    )?;
+    is_answered(rt, alloc, &text, HELD_ANSWERS)
 }
 
 #[test]
 fn a_held_branch_is_left_by_pools(rt: HostRuntime) -> Result<(), Fail> {
     for (first, last) in HELD.iter() {
-        let text = format!(in rt.alloc();
-            "{SMALL}\n%%\nstep 5\nsplit 0 4\npark\nhold 4\npool {first}\nsteps\nlevels\nopen 4\n\
-             park\npool {last}\nsteps\nvisits\n"
-        )?;
-        let answers = answered(&rt, rt.alloc(), text.as_str())?;
-        assert!(rt; answers.as_slice() == HELD_ANSWERS.as_bytes());
+        assert!(rt; is_held_answered(&rt, rt.alloc(), first, last)?);
     }
     Ok(())
 }

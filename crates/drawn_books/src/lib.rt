@@ -76,6 +76,16 @@ pub fn walked<'p>(
     }
 }
 
+/// Takes so many steps, and hands out so many others behind them.
+fn walked_behind<'p>(
+    runner: &mut Runner<'p, PlainTable>,
+    from: u32,
+    steps: u32,
+) -> Result<Stretch<'p>, RunnerFault> {
+    let _before = walked(runner, from)?;
+    walked(runner, steps)
+}
+
 /// The stretch of so many steps that begins so many steps after X1.
 pub fn stretch_of<'p>(
     alloc: Global,
@@ -84,8 +94,7 @@ pub fn stretch_of<'p>(
     steps: u32,
 ) -> Result<Stretch<'p>, Fail> {
     let mut runner = whole(alloc, problem)?;
-    let _before = walked(&mut runner, from)?;
-    Ok(walked(&mut runner, steps)?)
+    Ok(walked_behind(&mut runner, from, steps)?)
 }
 
 /// The lease that was given, without what came with it.

@@ -6,7 +6,9 @@ use crate::puzzle_tests::{SOMA as SOMA_PUZZLE, ends_so};
 use polylab_engine::Job;
 use std::alloc::{AllocError, Global};
 use std::fmt::Write;
+use std::sync::Wait;
 use std::test::Fail;
+use std::thread::Threads;
 
 /// The coordinates wrap: what is below 0 lies in no box.
 type Cell = (u32, u32, u32);
@@ -151,22 +153,48 @@ fn push_cells(text: &mut String, grid: &[(Cell, u64)], bits: u64) -> Result<(), 
     Ok(())
 }
 
-/// The cover text: an item for each piece and each cell, and an option for each placement, the pieces in
-/// order and a piece's placements in the order of their cells.
-fn text_of(alloc: Global, size: Cell, pieces: &str) -> Result<String, AllocError> {
-    let grid = grid_of(alloc, size)?;
-    let mut text = String::from_str(alloc, "items")?;
+/// Appends an item for each piece.
+fn push_names(text: &mut String, pieces: &str) -> Result<(), AllocError> {
     for piece in pieces.lines() {
         write!(text, " {}", name_of(piece))?;
     }
-    push_cells(&mut text, &grid, u64::MAX)?;
-    for piece in pieces.lines() {
-        for bits in placements(alloc, &grid, piece)?.iter().rev() {
-            write!(text, "\noption {}", name_of(piece))?;
-            push_cells(&mut text, &grid, *bits)?;
-        }
+    Ok(())
+}
+
+/// Appends an option for each placement of a piece, in the order of their cells.
+fn push_options(
+    alloc: Global,
+    text: &mut String,
+    grid: &[(Cell, u64)],
+    piece: &str,
+) -> Result<(), AllocError> {
+    for bits in placements(alloc, grid, piece)?.iter().rev() {
+        write!(text, "\noption {}", name_of(piece))?;
+        push_cells(text, grid, *bits)?;
     }
-    text.push_str("\n")?;
+    Ok(())
+}
+
+/// Appends what stands behind `items`: an item for each piece and each cell, and the options of the pieces, in their order.
+fn push_problem(
+    alloc: Global,
+    text: &mut String,
+    grid: &[(Cell, u64)],
+    pieces: &str,
+) -> Result<(), AllocError> {
+    push_names(text, pieces)?;
+    push_cells(text, grid, u64::MAX)?;
+    for piece in pieces.lines() {
+        push_options(alloc, text, grid, piece)?;
+    }
+    text.push_str("\n")
+}
+
+/// The cover text of pieces in a box.
+fn text_of(alloc: Global, size: Cell, pieces: &str) -> Result<String, AllocError> {
+    let grid = grid_of(alloc, size)?;
+    let mut text = String::from_str(alloc, "items")?;
+    push_problem(alloc, &mut text, &grid, pieces)?;
     Ok(text)
 }
 
@@ -175,28 +203,49 @@ pub fn soma(alloc: Global) -> Result<String, AllocError> {
     text_of(alloc, (3, 3, 3), SOMA)
 }
 
+/// Pieces and their box, and how many lines are written of it, with the last ones.
+static LISTED: [(&str, Cell, usize, &[u8]); 2] = [
+    (
+        SOMA,
+        (3, 3, 3),
+        11_523,
+        b"\nvisits 11520\nsteps 1991327\nlevels 1 55 1089 10633 48900 110149 72329 11520\n",
+    ),
+    (
+        PENTOMINOES,
+        (20, 3, 1),
+        11,
+        b"\nvisits 8\nsteps 263103\nlevels 1 18 170 360 801 2252 4790 9284 7726 5150 1968 364 8\n",
+    ),
+];
+
+/// Whether so many lines are written of a cover text, with these last ones.
+fn is_listed<R: Threads + Wait + Sync>(
+    rt: &R,
+    alloc: Global,
+    text: &str,
+    lines: usize,
+    end: &[u8],
+) -> bool {
+    let done = cover(rt, alloc, text.as_bytes());
+    done.status == 0 && ends_with(&done.output, lines, end) && done.faults.is_empty()
+}
+
+/// The same of pieces in a box.
+fn are_listed<R: Threads + Wait + Sync>(
+    rt: &R,
+    alloc: Global,
+    row: &(&str, Cell, usize, &[u8]),
+) -> Result<bool, AllocError> {
+    let (pieces, size, lines, end) = *row;
+    let text = text_of(alloc, size, pieces)?;
+    Ok(is_listed(rt, alloc, &text, lines, end))
+}
+
 #[test]
 fn packings_of_a_box_are_listed(rt: HostRuntime) -> Result<(), Fail> {
-    let rows: [(&str, Cell, usize, &[u8]); 2] = [
-        (
-            SOMA,
-            (3, 3, 3),
-            11_523,
-            b"\nvisits 11520\nsteps 1991327\nlevels 1 55 1089 10633 48900 110149 72329 11520\n",
-        ),
-        (
-            PENTOMINOES,
-            (20, 3, 1),
-            11,
-            b"\nvisits 8\nsteps 263103\nlevels 1 18 170 360 801 2252 4790 9284 7726 5150 1968 364 8\n",
-        ),
-    ];
-    for (pieces, size, lines, end) in rows {
-        let text = text_of(rt.alloc(), size, pieces)?;
-        let done = cover(&rt, rt.alloc(), text.as_bytes());
-        assert_eq!(rt; done.status, 0);
-        assert!(rt; ends_with(&done.output, lines, end));
-        assert!(rt; done.faults.is_empty());
+    for row in &LISTED {
+        assert!(rt; are_listed(&rt, rt.alloc(), row)?);
     }
     Ok(())
 }
@@ -246,12 +295,22 @@ fn are_counted(text: &str, pieces: &str, counts: &[usize]) -> bool {
     true
 }
 
+/// Whether the options of a puzzle are those of its pieces in its box.
+fn are_written<R: Threads + Wait + Sync>(
+    rt: &R,
+    alloc: Global,
+    row: &(&str, &str, Cell, &[usize]),
+) -> Result<bool, AllocError> {
+    let (puzzle, pieces, size, counts) = *row;
+    let text = text_of(alloc, size, pieces)?;
+    let are_right = are_counted(&text, pieces, counts);
+    Ok(are_right && ends_so(rt, alloc, Job::Options, puzzle, 0, &text, ""))
+}
+
 #[test]
 fn options_of_a_box_are_written(rt: HostRuntime) -> Result<(), Fail> {
-    for (puzzle, pieces, size, counts) in BOXES {
-        let text = text_of(rt.alloc(), size, pieces)?;
-        assert!(rt; are_counted(&text, pieces, counts));
-        assert!(rt; ends_so(&rt, rt.alloc(), Job::Options, puzzle, 0, &text, ""));
+    for row in &BOXES {
+        assert!(rt; are_written(&rt, rt.alloc(), row)?);
     }
     Ok(())
 }

@@ -40,6 +40,7 @@ fn status_of<R: Threads + Wait + Sync, I: Read + Drop, O: Write + Drop>(
     )
 }
 
+/// Lists the covers of a text.
 pub fn cover<R: Threads + Wait + Sync>(rt: &R, alloc: Global, text: &[u8]) -> Done {
     let mut output = Vec::new(alloc);
     let mut faults = Vec::new(alloc);
@@ -127,13 +128,23 @@ static ODD_BYTES: [(&[u8], u8, &[u8], &[u8]); 2] = [
     (b"items a\n#\xff", 0, b"visits 0\nsteps 7\nlevels 1\n", b""),
 ];
 
+/// Whether `cover` ends so on a text.
+fn covers_so<R: Threads + Wait + Sync>(
+    rt: &R,
+    alloc: Global,
+    text: &[u8],
+    status: u8,
+    output: &[u8],
+    faults: &[u8],
+) -> bool {
+    let done = cover(rt, alloc, text);
+    done.status == status && done.output.as_slice() == output && done.faults.as_slice() == faults
+}
+
 #[test]
 fn odd_bytes_stand_in_comments_alone(rt: HostRuntime) {
     for (text, status, output, faults) in ODD_BYTES {
-        let done = cover(&rt, rt.alloc(), text);
-        assert!(rt; done.status == status);
-        assert!(rt; done.output.as_slice() == output);
-        assert!(rt; done.faults.as_slice() == faults);
+        assert!(rt; covers_so(&rt, rt.alloc(), text, status, output, faults));
     }
 }
 
@@ -161,25 +172,40 @@ fn cover_equal<R: Threads + Wait + Sync>(
     Ok(cover(rt, alloc, &text))
 }
 
+/// Whether a text is what is written of the covers of 70,000 equal options.
+pub fn are_equal_covers(text: &[u8]) -> bool {
+    ends_with(
+        text,
+        70_003,
+        b"visit 70000\nvisits 70000\nsteps 280007\nlevels 1 70000\n",
+    )
+}
+
+/// Whether they are covered.
+fn are_equal_covered<R: Threads + Wait + Sync>(rt: &R, alloc: Global) -> Result<bool, AllocError> {
+    let found = cover_equal(rt, alloc, 70_000)?;
+    Ok(found.status == 0 && are_equal_covers(&found.output))
+}
+
 #[test]
 pub fn equal_options_take_linear_time(rt: HostRuntime) -> Result<(), Fail> {
-    let found = cover_equal(&rt, rt.alloc(), 70_000)?;
-    assert!(rt; found.status == 0);
-    assert!(rt;
-        ends_with(
-            &found.output,
-            70_003,
-            b"visit 70000\nvisits 70000\nsteps 280007\nlevels 1 70000\n"
-        )
-    );
+    assert!(rt; are_equal_covered(&rt, rt.alloc())?);
     Ok(())
+}
+
+/// Whether as many as are one too many are refused.
+fn are_too_many_refused<R: Threads + Wait + Sync>(
+    rt: &R,
+    alloc: Global,
+) -> Result<bool, AllocError> {
+    let refused = cover_equal(rt, alloc, 262_144)?;
+    let line = b"refused cover 5 TooLarge line 262145\n";
+    Ok(refused.status == 3 && refused.faults.as_slice() == line.as_slice())
 }
 
 #[test]
 fn options_past_the_limit_are_refused(rt: HostRuntime) -> Result<(), Fail> {
-    let refused = cover_equal(&rt, rt.alloc(), 262_144)?;
-    assert!(rt; refused.status == 3);
-    assert!(rt; refused.faults.as_slice() == b"refused cover 5 TooLarge line 262145\n".as_slice());
+    assert!(rt; are_too_many_refused(&rt, rt.alloc())?);
     Ok(())
 }
 
@@ -249,26 +275,38 @@ fn a_broken_reader_is_told(rt: HostRuntime) {
     }
 }
 
+/// Whether the comment is refused.
+fn refuses_hashes<R: Threads + Wait + Sync>(rt: &R, alloc: Global) -> Result<bool, AllocError> {
+    let hashes = vec![in alloc; b'#'; 65_536]?;
+    Ok(refuses_input(rt, alloc, Repeats(hashes.as_slice())))
+}
+
 #[test]
 fn a_comment_without_end_is_refused(rt: HostRuntime) -> Result<(), Fail> {
-    let hashes = vec![in rt.alloc(); b'#'; 65_536]?;
-    assert!(rt; refuses_input(&rt, rt.alloc(), Repeats(hashes.as_slice())));
+    assert!(rt; refuses_hashes(&rt, rt.alloc())?);
     Ok(())
+}
+
+/// Whether a writer that takes so many bytes of the small problem's covers gets them, and any other than all of them are told.
+fn is_broken_after<R: Threads + Wait + Sync>(rt: &R, alloc: Global, left: usize) -> bool {
+    let mut faults: Vec<u8> = Vec::new(alloc);
+    let mut writer = Takes {
+        left,
+        taken: Vec::new(alloc),
+    };
+    let ended = status_of(rt, alloc, SMALL.as_bytes(), &mut writer, &mut faults);
+    let (status, line): (u8, &[u8]) = if left == SMALL_OUTPUT.len() {
+        (0, b"")
+    } else {
+        (5, b"refused output\n")
+    };
+    let is_begun = SMALL_OUTPUT.as_bytes().starts_with(&writer.taken) && writer.taken.len() == left;
+    is_begun && ended == status && faults.as_slice() == line
 }
 
 #[test]
 fn a_broken_writer_is_told(rt: HostRuntime) {
     for left in 0..SMALL_OUTPUT.len() + 1 {
-        let mut faults: Vec<u8> = Vec::new(rt.alloc());
-        let mut writer = Takes {
-            left,
-            taken: Vec::new(rt.alloc()),
-        };
-        let status = status_of(&rt, rt.alloc(), SMALL.as_bytes(), &mut writer, &mut faults);
-        let whole = left == SMALL_OUTPUT.len();
-        let line: &[u8] = if whole { b"" } else { b"refused output\n" };
-        assert!(rt; status == if whole { 0 } else { 5 });
-        assert!(rt; writer.taken.as_slice() == &SMALL_OUTPUT.as_bytes()[..left]);
-        assert!(rt; faults.as_slice() == line);
+        assert!(rt; is_broken_after(&rt, rt.alloc(), left), "after {left}");
     }
 }

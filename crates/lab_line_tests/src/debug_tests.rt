@@ -4,7 +4,9 @@ use crate::puzzle_tests::ends_so;
 use drawn_problems::SMALL;
 use polylab_engine::Job;
 use std::alloc::{AllocError, Global};
+use std::sync::Wait;
 use std::test::Fail;
+use std::thread::Threads;
 
 /// To where nothing is left to try below an option, and back to the start.
 const THERE_AND_BACK: &str = "step 12\nshow\nback 12\nback\n";
@@ -90,20 +92,22 @@ fn with_commands(alloc: Global, commands: &str) -> Result<String, AllocError> {
     Ok(text)
 }
 
+/// Whether commands on the small problem are answered so.
+fn are_answered<R: Threads + Wait + Sync>(
+    rt: &R,
+    alloc: Global,
+    commands: &str,
+    written: &str,
+) -> Result<bool, AllocError> {
+    let text = with_commands(alloc, commands)?;
+    Ok(ends_so(rt, alloc, Job::DebugCover, &text, 0, written, ""))
+}
+
 #[test]
 fn commands_are_answered(rt: HostRuntime) -> Result<(), Fail> {
     for (commands, written) in &ANSWERED {
-        let text = with_commands(rt.alloc(), commands)?;
         assert!(rt;
-            ends_so(
-                &rt,
-                rt.alloc(),
-                Job::DebugCover,
-                text.as_str(),
-                0,
-                written,
-                ""
-            ),
+            are_answered(&rt, rt.alloc(), commands, written)?,
             "for {commands}"
         );
     }

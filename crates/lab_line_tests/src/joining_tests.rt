@@ -118,18 +118,24 @@ fn add_slices<R: Threads + Wait + Sync>(
     Ok(100)
 }
 
+/// Where the whole search begins.
+static WHOLE_PART: Part<'static> = Part {
+    from: "start",
+    to: "end",
+    label: "X1",
+    cursor: "-",
+};
+
+/// The snapshot of the Soma cube before its search.
+fn first_snapshot(alloc: Global) -> Result<String, AllocError> {
+    let problem = soma(alloc)?;
+    snapshot(alloc, &problem, WHOLE_PART)
+}
+
 #[test]
 fn slices_add_up(rt: HostRuntime) -> Result<(), Fail> {
-    let problem = soma(rt.alloc())?;
-    let whole = Part {
-        from: "start",
-        to: "end",
-        label: "X1",
-        cursor: "-",
-    };
-    let first = snapshot(rt.alloc(), &problem, whole)?;
     let mut sums = [0u64; 10];
-    let slices = add_slices(&rt, rt.alloc(), &mut sums, first)?;
+    let slices = add_slices(&rt, rt.alloc(), &mut sums, first_snapshot(rt.alloc())?)?;
     assert_eq!(rt; slices, 20);
     assert_eq!(rt; sums, WHOLE);
     Ok(())
@@ -168,24 +174,21 @@ fn add_part<R: Threads + Wait + Sync>(
     Ok(told.ends_with("\nend\n"))
 }
 
-/// Adds what the parts between these first options tell to sums: how many there are that end.
+/// Adds what the parts between these first options tell to sums: how many there are, and whether each of them ends.
 fn add_parts<R: Threads + Wait + Sync>(
     rt: &R,
     alloc: Global,
     sums: &mut [u64],
     problem: &str,
     options: &str,
-) -> Result<u32, AllocError> {
-    let mut ended = 0u32;
-    let mut part = Part {
-        from: "start",
-        to: "end",
-        label: "X1",
-        cursor: "-",
-    };
+) -> Result<(u32, bool), AllocError> {
+    let mut parts = 1u32;
+    let mut all_end = true;
+    let mut part = WHOLE_PART;
     for option in options.split(' ').skip(2) {
-        let is_ended = add_part(rt, alloc, sums, problem, Part { to: option, ..part })?;
-        ended = ended.saturating_add(u32::from(is_ended));
+        let ends = add_part(rt, alloc, sums, problem, Part { to: option, ..part })?;
+        all_end = all_end && ends;
+        parts = parts.saturating_add(1);
         part = Part {
             from: option,
             label: "X5",
@@ -193,17 +196,37 @@ fn add_parts<R: Threads + Wait + Sync>(
             ..part
         };
     }
-    let is_ended = add_part(rt, alloc, sums, problem, part)?;
-    Ok(ended.saturating_add(u32::from(is_ended)))
+    let ends = add_part(rt, alloc, sums, problem, part)?;
+    Ok((parts, all_end && ends))
+}
+
+/// The same of the parts between all first options of a problem.
+fn add_parts_of<R: Threads + Wait + Sync>(
+    rt: &R,
+    alloc: Global,
+    sums: &mut [u64],
+    problem: &str,
+) -> Result<(u32, bool), AllocError> {
+    let options = untried(rt, alloc, problem)?;
+    add_parts(rt, alloc, sums, problem, &options)
+}
+
+/// The same of the Soma cube.
+fn add_parts_of_soma<R: Threads + Wait + Sync>(
+    rt: &R,
+    alloc: Global,
+    sums: &mut [u64],
+) -> Result<(u32, bool), AllocError> {
+    let problem = soma(alloc)?;
+    add_parts_of(rt, alloc, sums, &problem)
 }
 
 #[test]
 fn parts_of_each_first_option_add_up(rt: HostRuntime) -> Result<(), Fail> {
-    let problem = soma(rt.alloc())?;
-    let options = untried(&rt, rt.alloc(), &problem)?;
     let mut sums = [0u64; 10];
-    let ended = add_parts(&rt, rt.alloc(), &mut sums, &problem, &options)?;
-    assert_eq!(rt; ended, 55);
+    let (parts, all_end) = add_parts_of_soma(&rt, rt.alloc(), &mut sums)?;
+    assert_eq!(rt; parts, 55);
+    assert!(rt; all_end);
     assert_eq!(rt; sums, WHOLE);
     Ok(())
 }

@@ -2,7 +2,7 @@
 //! time.
 
 use crate::class_tests::FIVE_DOMINOES;
-use crate::cover_tests::{SMALL_OUTPUT, ends_with, equal_options};
+use crate::cover_tests::{SMALL_OUTPUT, are_equal_covers, equal_options};
 use crate::puzzle_tests::{SOMA, ends_so};
 use byte_streams::Watched;
 use cover_problem::Problem;
@@ -10,9 +10,9 @@ use drawn_problems::SMALL;
 use lab_book::{Book, Call, Entry};
 use lab_pool::{Gate, GateCall, NoGate, run_pool};
 use poly_place::compile;
-use poly_texts::read_puzzle;
+use poly_texts::{Puzzle, read_puzzle};
 use polylab_engine::{Job, run};
-use std::alloc::Global;
+use std::alloc::{AllocError, Global};
 use std::sync::Wait;
 use std::sync::atomic::{AtomicBool, AtomicU8, Ordering};
 use std::test::Fail;
@@ -90,18 +90,37 @@ fn packings_are_shown_by_any_number_of_workers(rt: HostRuntime) {
     }
 }
 
+/// Whether a job under a gate is done, and writes this of a text.
+fn writes_so<R: Threads + Wait + Sync, G: Gate>(
+    rt: &R,
+    alloc: Global,
+    gate: &G,
+    job: Job,
+    text: &str,
+    wanted: &[u8],
+) -> bool {
+    let (ended, output) = written(rt, alloc, gate, job, text.as_bytes());
+    ended == 0 && output.as_slice() == wanted
+}
+
+/// Whether two workers cover a text of 70,000 equal options.
+fn are_covered_by_two<R: Threads + Wait + Sync>(rt: &R, alloc: Global, text: &[u8]) -> bool {
+    let (ended, output) = written(rt, alloc, &NoGate, Job::Cover { workers: 2 }, text);
+    ended == 0 && are_equal_covers(&output)
+}
+
+/// The same of that text.
+fn are_equal_covered_by_two<R: Threads + Wait + Sync>(
+    rt: &R,
+    alloc: Global,
+) -> Result<bool, AllocError> {
+    let text = equal_options(alloc, 70_000)?;
+    Ok(are_covered_by_two(rt, alloc, &text))
+}
+
 #[test]
 fn equal_options_are_listed_by_two_workers(rt: HostRuntime) -> Result<(), Fail> {
-    let text = equal_options(rt.alloc(), 70_000)?;
-    let (ended, output) = written(&rt, rt.alloc(), &NoGate, Job::Cover { workers: 2 }, &text);
-    assert!(rt; ended == 0);
-    assert!(rt;
-        ends_with(
-            &output,
-            70_003,
-            b"visit 70000\nvisits 70000\nsteps 280007\nlevels 1 70000\n"
-        )
-    );
+    assert!(rt; are_equal_covered_by_two(&rt, rt.alloc())?);
     Ok(())
 }
 
@@ -201,40 +220,78 @@ fn has_posted(book: &Book<'_>, worker: u8) -> bool {
     false
 }
 
+/// Whether both workers have posted to the Soma cube's finished book.
+fn have_both_posted(book: &Book<'_>) -> bool {
+    book.visited() == 11_520
+        && book.steps() == 1_991_327
+        && has_posted(book, 0)
+        && has_posted(book, 1)
+}
+
+/// Whether both of two workers post, of whom the first to post is held until the other one did.
+fn both_post<R: Threads + Wait + Sync>(rt: &R, alloc: Global, problem: &Problem) -> bool {
+    let gate = new_gate();
+    match finished_by_two(rt, alloc, &gate, problem) {
+        Some(book) => have_both_posted(&book) && !gate.ran_out.load(Ordering::SeqCst),
+        None => false,
+    }
+}
+
+/// The same of a puzzle's problem.
+fn both_post_of<R: Threads + Wait + Sync>(
+    rt: &R,
+    alloc: Global,
+    puzzle: &Puzzle,
+) -> Result<bool, Fail> {
+    let compiled = compile(alloc, puzzle)?;
+    Ok(both_post(rt, alloc, compiled.problem()))
+}
+
+/// The same of the Soma cube.
+fn both_post_of_soma<R: Threads + Wait + Sync>(rt: &R, alloc: Global) -> Result<bool, Fail> {
+    let puzzle = read_puzzle(alloc, SOMA.as_bytes())?;
+    both_post_of(rt, alloc, &puzzle)
+}
+
 #[test]
 fn each_of_two_workers_posts(rt: HostRuntime) -> Result<(), Fail> {
-    let gate = new_gate();
-    let puzzle = read_puzzle(rt.alloc(), SOMA.as_bytes())?;
-    let compiled = compile(rt.alloc(), &puzzle)?;
-    let book = finished_by_two(&rt, rt.alloc(), &gate, compiled.problem()).expect(&rt, "a book");
-    assert!(rt; !gate.ran_out.load(Ordering::SeqCst));
-    assert!(rt; book.visited() == 11_520 && book.steps() == 1_991_327);
-    assert!(rt; has_posted(&book, 0) && has_posted(&book, 1));
+    assert!(rt; both_post_of_soma(&rt, rt.alloc())?);
     Ok(())
+}
+
+/// Whether a job writes this of a text while a worker is held before its first post until another worker's is answered.
+fn overlaps<R: Threads + Wait + Sync>(
+    rt: &R,
+    alloc: Global,
+    job: Job,
+    text: &str,
+    wanted: &[u8],
+) -> bool {
+    let gate = new_gate();
+    writes_so(rt, alloc, &gate, job, text, wanted)
+        && gate.answered.load(Ordering::SeqCst)
+        && !gate.ran_out.load(Ordering::SeqCst)
 }
 
 #[test]
 fn one_worker_posts_while_another_is_held(rt: HostRuntime) {
-    let gate = new_gate();
-    let (ended, output) = written(
-        &rt,
-        rt.alloc(),
-        &gate,
-        Job::Count { workers: 2 },
-        SOMA.as_bytes(),
-    );
-    assert!(rt; ended == 0 && output.starts_with(b"packings 11520\n"));
-    assert!(rt; gate.answered.load(Ordering::SeqCst));
-    assert!(rt; !gate.ran_out.load(Ordering::SeqCst));
+    let counts = b"packings 11520\noptions 688\nsteps 1991327\n\
+                   levels 1 55 1089 10633 48900 110149 72329 11520\n";
+    assert!(rt; overlaps(&rt, rt.alloc(), Job::Count { workers: 2 }, SOMA, counts));
+}
+
+/// Whether the workers of a command overlap, too.
+fn workers_of_pool_overlap<R: Threads + Wait + Sync>(
+    rt: &R,
+    alloc: Global,
+) -> Result<bool, AllocError> {
+    let text = format!(in alloc; "{SOMA}\n%%\npark\npool 2\nsteps\n")?;
+    let answers = b"parked\npooled\nsteps 1991327\n";
+    Ok(overlaps(rt, alloc, Job::DebugPuzzle, &text, answers))
 }
 
 #[test]
 fn workers_of_a_command_overlap(rt: HostRuntime) -> Result<(), Fail> {
-    let gate = new_gate();
-    let text = format!(in rt.alloc(); "{SOMA}\n%%\npark\npool 2\nsteps\n")?;
-    let (ended, output) = written(&rt, rt.alloc(), &gate, Job::DebugPuzzle, text.as_bytes());
-    assert!(rt; ended == 0 && output.as_slice() == b"parked\npooled\nsteps 1991327\n".as_slice());
-    assert!(rt; gate.answered.load(Ordering::SeqCst));
-    assert!(rt; !gate.ran_out.load(Ordering::SeqCst));
+    assert!(rt; workers_of_pool_overlap(&rt, rt.alloc())?);
     Ok(())
 }

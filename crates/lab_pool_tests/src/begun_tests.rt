@@ -1,7 +1,8 @@
 //! Two workers on threads over books that were begun by others.
 
-use crate::books::{begins_with, begun, from_the_cut, is_some_done};
+use crate::books::{begins_with, begun, from_the_cut, is_done};
 use cover_problem::{Problem, read_cover};
+use drawn_books::value_of;
 use drawn_problems::SMALL;
 use lab_book::Book;
 use lab_pool::{NoGate, run_pool_on};
@@ -14,23 +15,43 @@ use std::thread::Threads;
 fn finished_on<'p, R: Threads + Wait + Sync>(
     rt: &R,
     alloc: Global,
-    book: Option<Book<'p>>,
-) -> Option<Book<'p>> {
-    let book = book?;
+    book: Book<'p>,
+) -> Result<Book<'p>, Fail> {
     if book.leased() > 0 {
-        return None;
+        return Err(Fail::from("a tile is leased"));
     }
-    match run_pool_on(rt, alloc, book, 2, &NoGate) {
-        Ok(book) => Some(book),
-        Err(_) => None,
-    }
+    value_of(run_pool_on(rt, alloc, book, 2, &NoGate))
+}
+
+/// The book of a run from the cut 4 on that they finish.
+fn finished_rest<'p, R: Threads + Wait + Sync>(
+    rt: &R,
+    alloc: Global,
+    problem: &'p Problem,
+) -> Result<Book<'p>, Fail> {
+    let book = from_the_cut(alloc, problem)?;
+    finished_on(rt, alloc, book)
+}
+
+/// Whether two workers search the rest of a run so.
+fn search_the_rest<R: Threads + Wait + Sync>(
+    rt: &R,
+    alloc: Global,
+    problem: &Problem,
+) -> Result<bool, Fail> {
+    let book = finished_rest(rt, alloc, problem)?;
+    is_done(&book, 23)
+}
+
+/// The same of the small problem's run.
+fn search_the_small_rest<R: Threads + Wait + Sync>(rt: &R, alloc: Global) -> Result<bool, Fail> {
+    let problem = read_cover(alloc, SMALL.as_bytes())?;
+    search_the_rest(rt, alloc, &problem)
 }
 
 #[test]
 fn workers_search_the_rest_of_a_run(rt: HostRuntime) -> Result<(), Fail> {
-    let problem = read_cover(rt.alloc(), SMALL.as_bytes())?;
-    let book = finished_on(&rt, rt.alloc(), from_the_cut(rt.alloc(), &problem));
-    assert!(rt; is_some_done(&book, 23)?);
+    assert!(rt; search_the_small_rest(&rt, rt.alloc())?);
     Ok(())
 }
 
@@ -40,21 +61,40 @@ fn begins_with_three(book: &Book<'_>, old: &Book<'_>) -> bool {
 }
 
 /// The same of the book that was begun by hand.
-fn begins_so(alloc: Global, problem: &Problem, book: &Option<Book<'_>>) -> bool {
-    let Some(book) = book else {
-        return false;
-    };
-    match begun(alloc, problem) {
-        Some(old) => begins_with_three(book, &old),
-        None => false,
-    }
+fn begins_so(alloc: Global, problem: &Problem, book: &Book<'_>) -> Result<bool, Fail> {
+    let old = begun(alloc, problem)?;
+    Ok(begins_with_three(book, &old))
+}
+
+/// Whether a book is finished, and goes on from there.
+fn is_gone_on(alloc: Global, problem: &Problem, book: &Book<'_>) -> Result<bool, Fail> {
+    Ok(is_done(book, 43)? && begins_so(alloc, problem, book)?)
+}
+
+/// The book that was begun by hand, and that two workers finish.
+fn finished_begun<'p, R: Threads + Wait + Sync>(
+    rt: &R,
+    alloc: Global,
+    problem: &'p Problem,
+) -> Result<Book<'p>, Fail> {
+    let book = begun(alloc, problem)?;
+    finished_on(rt, alloc, book)
+}
+
+/// Whether two workers go on so with it.
+fn go_on<R: Threads + Wait + Sync>(rt: &R, alloc: Global, problem: &Problem) -> Result<bool, Fail> {
+    let book = finished_begun(rt, alloc, problem)?;
+    is_gone_on(alloc, problem, &book)
+}
+
+/// The same of the small problem.
+fn go_on_with_the_small<R: Threads + Wait + Sync>(rt: &R, alloc: Global) -> Result<bool, Fail> {
+    let problem = read_cover(alloc, SMALL.as_bytes())?;
+    go_on(rt, alloc, &problem)
 }
 
 #[test]
 fn workers_go_on_with_a_book(rt: HostRuntime) -> Result<(), Fail> {
-    let problem = read_cover(rt.alloc(), SMALL.as_bytes())?;
-    let book = finished_on(&rt, rt.alloc(), begun(rt.alloc(), &problem));
-    assert!(rt; is_some_done(&book, 43)?);
-    assert!(rt; begins_so(rt.alloc(), &problem, &book));
+    assert!(rt; go_on_with_the_small(&rt, rt.alloc())?);
     Ok(())
 }

@@ -3,22 +3,25 @@ ghost use Rattle.std.specs.Prelude.{◌≤◌, ◌<◌, length};
 
 use crate::searches::{Search, begin};
 use cover_problem::Problem;
-use drawn_books::visits_the_cover;
-use lab_book::{Book, Entries};
-use std::alloc::{AllocError, Global};
+use drawn_books::{value_of, visits_the_cover};
+use lab_book::{Book, Entries, Entry};
+use std::alloc::Global;
+use std::test::Fail;
 use x_branches::Branch;
 use x_steps::{Cursor, Label, State};
 
 /// Whether a book is finished with so many steps and the one cover of the small problem.
-pub fn is_done(book: &Book<'_>, steps: u128) -> Result<bool, AllocError> {
+pub fn is_done(book: &Book<'_>, steps: u128) -> Result<bool, Fail> {
     Ok(book.finished() && book.steps() == steps && visits_the_cover(book)?)
 }
 
-/// Whether a book is finished with so many steps, and the cover; none is not.
-pub fn is_some_done(book: &Option<Book<'_>>, steps: u128) -> Result<bool, AllocError> {
-    match book {
-        Some(book) => is_done(book, steps),
-        None => Ok(false),
+/// Whether an entry is the one of a history at a place.
+fn is_at(entry: &Entry, entries: &Entries<'_>, place: usize) -> bool
+    requires { place < length entries.now }
+{
+    match entries.entry(place) {
+        Ok(other) => entry.same(&other),
+        Err(_) => false,
     }
 }
 
@@ -27,9 +30,9 @@ fn are_same_at(one: &Entries<'_>, other: &Entries<'_>, place: usize) -> bool
     requires one { place < length one.now }
     requires other { place < length other.now }
 {
-    match (one.entry(place), other.entry(place)) {
-        (Ok(one), Ok(other)) => one.same(&other),
-        _ => false,
+    match one.entry(place) {
+        Ok(entry) => is_at(&entry, other, place),
+        Err(_) => false,
     }
 }
 
@@ -70,15 +73,19 @@ fn posts_and_parks(alloc: Global, book: &mut Book<'_>, worker: u8, id: u64, step
     search.park_in(book) && posted
 }
 
-/// The book of the whole run in which worker 5 posted 30 steps: three entries.
-pub fn begun<'p>(alloc: Global, problem: &'p Problem) -> Option<Book<'p>> {
-    let Ok(mut book) = Book::new(alloc, problem) else {
-        return None;
-    };
-    if posts_and_parks(alloc, &mut book, 5, 0, 30) {
-        return Some(book);
+/// A book, once its calls were answered.
+fn called(book: Book<'_>, are_answered: bool) -> Result<Book<'_>, Fail> {
+    if are_answered {
+        return Ok(book);
     }
-    None
+    Err(Fail::from("a call is refused"))
+}
+
+/// The book of the whole run in which worker 5 posted 30 steps: three entries.
+pub fn begun<'p>(alloc: Global, problem: &'p Problem) -> Result<Book<'p>, Fail> {
+    let mut book = Book::new(alloc, problem)?;
+    let is_parked = posts_and_parks(alloc, &mut book, 5, 0, 30);
+    called(book, is_parked)
 }
 
 /// Whether a worker posts so many steps of a tile, and closes it.
@@ -105,45 +112,32 @@ fn holds_first(alloc: Global, book: &mut Book<'_>) -> bool {
 }
 
 /// The book whose tile before the cut 4 is held after five steps, and whose other tile waits.
-pub fn held_before<'p>(alloc: Global, problem: &'p Problem) -> Option<Book<'p>> {
-    let Ok(mut book) = Book::new(alloc, problem) else {
-        return None;
-    };
-    if holds_first(alloc, &mut book) {
-        return Some(book);
-    }
-    None
+pub fn held_before<'p>(alloc: Global, problem: &'p Problem) -> Result<Book<'p>, Fail> {
+    let mut book = Book::new(alloc, problem)?;
+    let is_held = holds_first(alloc, &mut book);
+    called(book, is_held)
 }
 
 /// The same book, whose other tile is closed after its 23 steps.
-pub fn held_alone<'p>(alloc: Global, problem: &'p Problem) -> Option<Book<'p>> {
+pub fn held_alone<'p>(alloc: Global, problem: &'p Problem) -> Result<Book<'p>, Fail> {
     let mut book = held_before(alloc, problem)?;
-    if posts_and_closes(alloc, &mut book, 6, 1, 23) {
-        return Some(book);
-    }
-    None
+    let is_closed = posts_and_closes(alloc, &mut book, 6, 1, 23);
+    called(book, is_closed)
 }
 
 /// The book of the run from the cut 4 on: 23 steps.
-pub fn from_the_cut<'p>(alloc: Global, problem: &'p Problem) -> Option<Book<'p>> {
+pub fn from_the_cut<'p>(alloc: Global, problem: &'p Problem) -> Result<Book<'p>, Fail> {
     let state = State {
         label: Label::X5,
         path: Vec::new(alloc),
         cursor: Cursor::At(4),
     };
-    match Book::resumed(alloc, problem, Branch { lo: None, hi: None }, state) {
-        Ok(book) => Some(book),
-        Err(_) => None,
-    }
+    value_of(Book::resumed(alloc, problem, Branch { lo: None, hi: None }, state))
 }
 
 /// The book whose only tile is held at its first mark.
-pub fn all_held<'p>(alloc: Global, problem: &'p Problem) -> Option<Book<'p>> {
-    let Ok(mut book) = Book::new(alloc, problem) else {
-        return None;
-    };
-    if book.request_stop(5, 0).is_ok() {
-        return Some(book);
-    }
-    None
+pub fn all_held<'p>(alloc: Global, problem: &'p Problem) -> Result<Book<'p>, Fail> {
+    let mut book = Book::new(alloc, problem)?;
+    let is_asked = book.request_stop(5, 0).is_ok();
+    called(book, is_asked)
 }

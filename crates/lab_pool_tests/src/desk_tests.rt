@@ -1,110 +1,131 @@
 //! Two seats at a desk, whose calls are made by hand.
 
-use crate::books::{begins_with, begun, held_before, is_done, is_some_done};
+use crate::books::{begins_with, begun, held_before, is_done};
 use crate::desks::{Way, Work, at_desk};
 use cover_problem::{Problem, read_cover};
 use drawn_books::{has_tiles, tiles_of};
 use drawn_problems::SMALL;
-use lab_book::Book;
-use std::alloc::{AllocError, Global};
+use lab_book::{Book, Tile};
+use std::alloc::Global;
 use std::sync::Wait;
 use std::test::Fail;
 
-/// Whether two seats finish the small problem, with so many entries in the end.
-fn finish_the_small<R: Wait>(
+/// Whether a book is finished with the small problem's steps and cover, and so many entries.
+fn is_done_so(book: &Book<'_>, entries: usize) -> Result<bool, Fail> {
+    Ok(is_done(book, 43)? && book.history().len() == entries)
+}
+
+/// Whether two seats finish a problem as the small one has to be, with so many entries in the end.
+fn finish<R: Wait>(
     rt: &R,
     alloc: Global,
     problem: &Problem,
     todo: Work,
     way: Way,
     entries: usize,
-) -> Result<bool, AllocError> {
+) -> Result<bool, Fail> {
     let book = Book::new(alloc, problem)?;
     match at_desk(rt, alloc, book, todo, way) {
-        Some(book) => Ok(is_done(&book, 43)? && book.history().len() == entries),
+        Some(book) => is_done_so(&book, entries),
         None => Ok(false),
     }
 }
 
+/// The same of the small problem.
+fn finish_the_small<R: Wait>(
+    rt: &R,
+    alloc: Global,
+    todo: Work,
+    way: Way,
+    entries: usize,
+) -> Result<bool, Fail> {
+    let problem = read_cover(alloc, SMALL.as_bytes())?;
+    finish(rt, alloc, &problem, todo, way, entries)
+}
+
 #[test]
 fn two_seats_share_the_run(rt: HostRuntime) -> Result<(), Fail> {
-    let problem = read_cover(rt.alloc(), SMALL.as_bytes())?;
-    let done = finish_the_small(&rt, rt.alloc(), &problem, Work::Share, Way::All, 7)?;
-    assert!(rt; done);
+    assert!(rt; finish_the_small(&rt, rt.alloc(), Work::Share, Way::All, 7)?);
     Ok(())
 }
 
 #[test]
 fn a_seat_is_missing(rt: HostRuntime) -> Result<(), Fail> {
-    let problem = read_cover(rt.alloc(), SMALL.as_bytes())?;
-    let done = finish_the_small(&rt, rt.alloc(), &problem, Work::Share, Way::OneShort, 7)?;
-    assert!(rt; done);
+    assert!(rt; finish_the_small(&rt, rt.alloc(), Work::Share, Way::OneShort, 7)?);
     Ok(())
 }
 
-/// Whether a desk where nothing is called, and that isn't finished by one seat of the two, leaves the tiles of a book as they were.
-fn leaves_tiles<R: Wait>(
-    rt: &R,
-    alloc: Global,
-    book: Option<Book<'_>>,
-) -> Result<bool, AllocError> {
-    let Some(book) = book else {
-        return Ok(false);
-    };
-    let before = tiles_of(alloc, &book)?;
+/// Whether a desk where nothing is called, and that isn't finished by one seat of the two, leaves these tiles of a book.
+fn leaves_these<'p, R: Wait>(rt: &R, alloc: Global, book: Book<'p>, tiles: &[Tile<'p>]) -> bool {
     match at_desk(rt, alloc, book, Work::Nothing, Way::OneShort) {
-        Some(book) => Ok(has_tiles(&book, &before)),
-        None => Ok(false),
+        Some(book) => has_tiles(&book, tiles),
+        None => false,
     }
+}
+
+/// The same of the tiles that it has now.
+fn leaves_tiles<R: Wait>(rt: &R, alloc: Global, book: Book<'_>) -> Result<bool, Fail> {
+    let tiles = tiles_of(alloc, &book)?;
+    Ok(leaves_these(rt, alloc, book, &tiles))
+}
+
+/// The same of the small problem's book with a held tile.
+fn leaves_small_tiles<R: Wait>(rt: &R, alloc: Global) -> Result<bool, Fail> {
+    let problem = read_cover(alloc, SMALL.as_bytes())?;
+    let book = held_before(alloc, &problem)?;
+    leaves_tiles(rt, alloc, book)
 }
 
 #[test]
 fn a_missing_seat_changes_no_tile(rt: HostRuntime) -> Result<(), Fail> {
-    let problem = read_cover(rt.alloc(), SMALL.as_bytes())?;
-    let book = held_before(rt.alloc(), &problem);
-    let left = leaves_tiles(&rt, rt.alloc(), book)?;
-    assert!(rt; left);
+    assert!(rt; leaves_small_tiles(&rt, rt.alloc())?);
     Ok(())
 }
 
 #[test]
 fn seats_are_handed_in_in_any_order(rt: HostRuntime) -> Result<(), Fail> {
-    let problem = read_cover(rt.alloc(), SMALL.as_bytes())?;
-    let done = finish_the_small(&rt, rt.alloc(), &problem, Work::Share, Way::Turned, 7)?;
-    assert!(rt; done);
+    assert!(rt; finish_the_small(&rt, rt.alloc(), Work::Share, Way::Turned, 7)?);
     Ok(())
 }
 
 #[test]
 fn a_stopped_tile_is_held_and_taken(rt: HostRuntime) -> Result<(), Fail> {
-    let problem = read_cover(rt.alloc(), SMALL.as_bytes())?;
-    let done = finish_the_small(&rt, rt.alloc(), &problem, Work::Stop, Way::All, 9)?;
-    assert!(rt; done);
+    assert!(rt; finish_the_small(&rt, rt.alloc(), Work::Stop, Way::All, 9)?);
     Ok(())
 }
 
-/// The book with 30 steps posted, that a desk finishes.
-fn gone_on<'p, R: Wait>(rt: &R, alloc: Global, problem: &'p Problem) -> Option<Book<'p>> {
-    let book = begun(alloc, problem)?;
-    at_desk(rt, alloc, book, Work::GoOn, Way::All)
+/// Whether the second of two books has 3 entries more than the first, after the same ones.
+fn goes_on(old: &Book<'_>, new: &Book<'_>) -> bool {
+    old.history().len() == 3 && new.history().len() == 6 && begins_with(new, old)
 }
 
-/// Whether the second of two books has 3 entries more than the first, after the same ones.
-fn goes_on(old: &Option<Book<'_>>, new: &Option<Book<'_>>) -> bool {
-    match (old, new) {
-        (Some(old), Some(new)) => {
-            old.history().len() == 3 && new.history().len() == 6 && begins_with(new, old)
-        }
-        _ => false,
+/// Whether a book goes on from the one with 30 steps posted.
+fn goes_on_from_begun(alloc: Global, problem: &Problem, book: &Book<'_>) -> Result<bool, Fail> {
+    let old = begun(alloc, problem)?;
+    Ok(goes_on(&old, book))
+}
+
+/// Whether it is finished, too.
+fn is_gone_on(alloc: Global, problem: &Problem, book: &Book<'_>) -> Result<bool, Fail> {
+    Ok(is_done(book, 43)? && goes_on_from_begun(alloc, problem, book)?)
+}
+
+/// Whether a desk goes on so with that book.
+fn goes_on_at_desk<R: Wait>(rt: &R, alloc: Global, problem: &Problem) -> Result<bool, Fail> {
+    match at_desk(rt, alloc, begun(alloc, problem)?, Work::GoOn, Way::All) {
+        Some(book) => is_gone_on(alloc, problem, &book),
+        None => Ok(false),
     }
+}
+
+/// The same of the small problem.
+fn goes_on_at_small_desk<R: Wait>(rt: &R, alloc: Global) -> Result<bool, Fail> {
+    let problem = read_cover(alloc, SMALL.as_bytes())?;
+    goes_on_at_desk(rt, alloc, &problem)
 }
 
 #[test]
 fn a_desk_goes_on_with_a_book(rt: HostRuntime) -> Result<(), Fail> {
-    let problem = read_cover(rt.alloc(), SMALL.as_bytes())?;
-    let old = begun(rt.alloc(), &problem);
-    let new = gone_on(&rt, rt.alloc(), &problem);
-    assert!(rt; is_some_done(&new, 43)?);
-    assert!(rt; goes_on(&old, &new));
+    assert!(rt; goes_on_at_small_desk(&rt, rt.alloc())?);
     Ok(())
 }

@@ -3,12 +3,13 @@ ghost use Rattle.std.specs.Prelude.{◌≡◌, IfSome};
 
 use crate::searches::{Search, begin};
 use drawn_books::lease_in;
-use lab_book::{Book, Posted};
+use lab_book::{Book, BookFault, Posted};
 use lab_desk::{Desk, Desking, Seat};
 use std::alloc::Global;
 use std::marker::Brand;
 use std::sync::Wait;
 use std::sync::ledger::{Blank, Ledger};
+use x_steps::Refused;
 
 /// What the two seats do.
 #[derive(Clone, Copy)]
@@ -192,33 +193,40 @@ fn row<L: Ledger>(alloc: Global, one: Seat<L>, other: Option<Seat<L>>) -> Option
     Some(seats)
 }
 
-/// The numbers of seats.
-fn numbers<L: Ledger>(alloc: Global, seats: &[Seat<L>]) -> Option<Vec<u8>> {
-    let mut numbers = Vec::new(alloc);
-    for seat in seats.iter() {
-        if numbers.push(seat.number()).is_err() {
-            return None;
-        }
+/// The only one of some seats, if it has this number.
+fn only<L: Ledger>(seats: Vec<Seat<L>>, number: u8) -> Option<Seat<L>> {
+    let mut seats = seats;
+    let seat = seats.pop()?;
+    if !seats.is_empty() || seat.number() != number {
+        return None;
     }
-    Some(numbers)
+    Some(seat)
 }
 
-/// What comes back of a desk that isn't finished by these seats, for the reason number 10: the desk of two seats, and these seats.
+/// The desk of two seats and the one seat that came back, if the reason has the number 10, and the seat this one.
+fn given_back<'p, L: Desking>(
+    refused: Refused<BookFault, (Desk<'p, L>, Vec<Seat<L>>)>,
+    number: u8,
+) -> Option<(Desk<'p, L>, Seat<L>)> {
+    let Refused { fault, given } = refused;
+    let (desk, seats) = given;
+    if fault.number() != Some(10) || desk.seats() != 2 {
+        return None;
+    }
+    Some((desk, only(seats, number)?))
+}
+
+/// What comes back of a desk that isn't finished by one seat of its two.
 fn refused<'p, L: Desking>(
     alloc: Global,
     desk: Desk<'p, L>,
-    seats: Vec<Seat<L>>,
-) -> Option<(Desk<'p, L>, Vec<Seat<L>>)> {
-    let before = numbers(alloc, &seats)?;
-    let Err(refused) = desk.finish(seats) else {
-        return None;
-    };
-    let (desk, seats) = refused.given;
-    let after = numbers(alloc, &seats)?;
-    if refused.fault.number() == Some(10) && desk.seats() == 2 && before == after {
-        return Some((desk, seats));
+    seat: Seat<L>,
+) -> Option<(Desk<'p, L>, Seat<L>)> {
+    let number = seat.number();
+    match desk.finish(row(alloc, seat, None)?) {
+        Ok(_) => None,
+        Err(refused) => given_back(refused, number),
     }
-    None
 }
 
 /// The book of a desk that these seats finish.
@@ -235,6 +243,17 @@ fn finished<'p, L: Desking>(
     }
 }
 
+/// The same, after the first seat was handed in alone.
+fn finished_late<'p, L: Desking>(
+    alloc: Global,
+    desk: Desk<'p, L>,
+    first: Seat<L>,
+    second: Seat<L>,
+) -> Option<Book<'p>> {
+    let (desk, first) = refused(alloc, desk, first)?;
+    finished(alloc, desk, first, second)
+}
+
 /// The book of a desk, once its seats are handed in so.
 fn finished_so<'p, L: Desking>(
     alloc: Global,
@@ -245,15 +264,28 @@ fn finished_so<'p, L: Desking>(
 ) -> Option<Book<'p>> {
     match way {
         Way::All => finished(alloc, desk, first, second),
-        Way::OneShort => {
-            let (desk, mut seats) = refused(alloc, desk, row(alloc, first, None)?)?;
-            finished(alloc, desk, seats.pop()?, second)
-        }
+        Way::OneShort => finished_late(alloc, desk, first, second),
         Way::Turned => finished(alloc, desk, second, first),
     }
 }
 
-/// The book that two seats of a desk of this ledger finish; None where a call isn't answered as it should be.
+/// The book that a desk's two seats finish; None where a call isn't answered as it should be.
+fn finished_by<'p, L: Desking, R: Wait>(
+    rt: &R,
+    alloc: Global,
+    desk: Desk<'p, L>,
+    seats: Vec<Seat<L>>,
+    todo: Work,
+    way: Way,
+) -> Option<Book<'p>> {
+    let (mut first, mut second) = two(seats)?;
+    if !act(rt, alloc, &desk, &mut first, &mut second, todo) {
+        return None;
+    }
+    finished_so(alloc, desk, first, second, way)
+}
+
+/// The same of a desk of this ledger over a book.
 fn at_desk_of<'p, L: Desking, R: Wait>(
     rt: &R,
     alloc: Global,
@@ -269,14 +301,10 @@ fn at_desk_of<'p, L: Desking, R: Wait>(
     requires part { book.branch ≡ L.part }
     requires begin { book.first ≡ L.begin }
 {
-    let Ok((desk, seats)) = Desk::<L>::new(alloc, blank, book, 2) else {
-        return None;
-    };
-    let (mut first, mut second) = two(seats)?;
-    if !act(rt, alloc, &desk, &mut first, &mut second, todo) {
-        return None;
+    match Desk::<L>::new(alloc, blank, book, 2) {
+        Ok((desk, seats)) => finished_by(rt, alloc, desk, seats, todo, way),
+        Err(_) => None,
     }
-    finished_so(alloc, desk, first, second, way)
 }
 
 /// The book that two seats of a desk finish; None where a call isn't answered as it should be.

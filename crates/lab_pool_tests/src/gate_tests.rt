@@ -104,14 +104,20 @@ fn add_options(text: &mut String, piece: &str) -> Result<(), AllocError> {
     Ok(())
 }
 
-/// Five dominoes in the box 5 2 1: eight ways to lay them, 120 ways to name them.
-fn dominoes(alloc: Global) -> Result<String, AllocError> {
+/// The text of five dominoes in the box 5 2 1: eight ways to lay them, 120 ways to name them.
+fn dominoes_text(alloc: Global) -> Result<String, AllocError> {
     let mut text = String::new(alloc);
     text.push_str("items A B C D E 000 010 100 110 200 210 300 310 400 410")?;
     for piece in PIECES {
         add_options(&mut text, piece)?;
     }
     Ok(text)
+}
+
+/// The problem of these dominoes.
+fn dominoes(alloc: Global) -> Result<Problem, Fail> {
+    let text = dominoes_text(alloc)?;
+    Ok(read_cover(alloc, text.as_bytes())?)
 }
 
 /// The book that two workers finish under a gate.
@@ -135,13 +141,21 @@ fn visits_and_steps(book: &Option<Book<'_>>) -> (u128, u128) {
     }
 }
 
+/// Whether a ticket is stolen, and the dominoes' visits and steps are found.
+fn is_stolen<R: Threads + Wait + Sync>(rt: &R, alloc: Global, problem: &Problem) -> bool {
+    let gate = UntilStolen::new();
+    let book = finished_under(rt, alloc, problem, &gate);
+    gate.is_right() && visits_and_steps(&book) == (960, 14_487)
+}
+
+/// The same of the dominoes' problem, which is made here.
+fn is_stolen_there<R: Threads + Wait + Sync>(rt: &R, alloc: Global) -> Result<bool, Fail> {
+    let problem = dominoes(alloc)?;
+    Ok(is_stolen(rt, alloc, &problem))
+}
+
 #[test]
 fn a_ticket_is_stolen(rt: HostRuntime) -> Result<(), Fail> {
-    let text = dominoes(rt.alloc())?;
-    let problem = read_cover(rt.alloc(), text.as_bytes())?;
-    let gate = UntilStolen::new();
-    let book = finished_under(&rt, rt.alloc(), &problem, &gate);
-    assert!(rt; gate.is_right());
-    assert!(rt; visits_and_steps(&book) == (960, 14_487));
+    assert!(rt; is_stolen_there(&rt, rt.alloc())?);
     Ok(())
 }

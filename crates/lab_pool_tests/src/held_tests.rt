@@ -1,7 +1,7 @@
 //! Two workers on threads over books with a held tile, which they leave.
 
 use crate::books::{all_held, held_alone, held_before};
-use cover_problem::read_cover;
+use cover_problem::{Problem, read_cover};
 use drawn_problems::SMALL;
 use lab_book::{Book, Status, Tile};
 use lab_pool::{NoGate, run_pool_on};
@@ -44,39 +44,74 @@ fn is_left(book: &Book<'_>, was: &Tile<'_>, steps: u128) -> bool {
         && book.steps() == steps
 }
 
+/// A book of a problem with a held tile.
+#[derive(Clone, Copy)]
+enum Held {
+    /// Its other tile is closed.
+    Alone,
+    /// Its other tile waits behind it.
+    Before,
+    /// It has no other tile.
+    All,
+}
+
+/// Makes such a book.
+fn book_of<'p>(alloc: Global, problem: &'p Problem, held: Held) -> Result<Book<'p>, Fail> {
+    match held {
+        Held::Alone => held_alone(alloc, problem),
+        Held::Before => held_before(alloc, problem),
+        Held::All => all_held(alloc, problem),
+    }
+}
+
 /// Whether two workers refuse a book with the number 3, and leave its first tile as it was.
-fn leaves_held<R: Threads + Wait + Sync>(
+fn leave_tile<R: Threads + Wait + Sync>(
     rt: &R,
     alloc: Global,
-    book: Option<Book<'_>>,
+    book: Book<'_>,
+    was: &Tile<'_>,
     steps: u128,
 ) -> Option<bool> {
-    let book = book?;
-    let was = first_tile(&book)?;
     let (number, book) = refused_on(rt, alloc, book)?;
-    Some(number == 3 && book.leased() == 0 && is_left(&book, &was, steps))
+    Some(number == 3 && book.leased() == 0 && is_left(&book, was, steps))
+}
+
+/// The same of a book whose first tile is as it is now.
+fn leave_held<R: Threads + Wait + Sync>(
+    rt: &R,
+    alloc: Global,
+    book: Book<'_>,
+    steps: u128,
+) -> Option<bool> {
+    let was = first_tile(&book)?;
+    leave_tile(rt, alloc, book, &was, steps)
+}
+
+/// The same of such a book of the small problem.
+fn leave_small_held<R: Threads + Wait + Sync>(
+    rt: &R,
+    alloc: Global,
+    held: Held,
+    steps: u128,
+) -> Result<bool, Fail> {
+    let problem = read_cover(alloc, SMALL.as_bytes())?;
+    Ok(leave_held(rt, alloc, book_of(alloc, &problem, held)?, steps) == Some(true))
 }
 
 #[test]
 fn a_held_tile_is_left(rt: HostRuntime) -> Result<(), Fail> {
-    let problem = read_cover(rt.alloc(), SMALL.as_bytes())?;
-    let book = held_alone(rt.alloc(), &problem);
-    assert!(rt; leaves_held(&rt, rt.alloc(), book, 28) == Some(true));
+    assert!(rt; leave_small_held(&rt, rt.alloc(), Held::Alone, 28)?);
     Ok(())
 }
 
 #[test]
 fn a_tile_beside_a_held_one_is_closed(rt: HostRuntime) -> Result<(), Fail> {
-    let problem = read_cover(rt.alloc(), SMALL.as_bytes())?;
-    let book = held_before(rt.alloc(), &problem);
-    assert!(rt; leaves_held(&rt, rt.alloc(), book, 28) == Some(true));
+    assert!(rt; leave_small_held(&rt, rt.alloc(), Held::Before, 28)?);
     Ok(())
 }
 
 #[test]
 fn the_only_tile_is_held(rt: HostRuntime) -> Result<(), Fail> {
-    let problem = read_cover(rt.alloc(), SMALL.as_bytes())?;
-    let book = all_held(rt.alloc(), &problem);
-    assert!(rt; leaves_held(&rt, rt.alloc(), book, 0) == Some(true));
+    assert!(rt; leave_small_held(&rt, rt.alloc(), Held::All, 0)?);
     Ok(())
 }

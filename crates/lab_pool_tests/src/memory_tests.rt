@@ -61,28 +61,43 @@ fn is_made_again<'p, L: Desking>(
     is_as_before(&book, copy, tiles) && is_made(Desk::<L>::new(alloc, blank, book, 2))
 }
 
-/// The same of a book that has entries.
-fn is_desk_made<'p>(
-    alloc: Global,
-    book: Option<Book<'p>>,
-    copy: Option<Book<'p>>,
-) -> Result<bool, Fail> {
-    let (Some(book), Some(copy)) = (book, copy) else {
-        return Err(Fail::from("no book"));
-    };
-    let tiles = tiles_of(alloc, &copy)?;
-    grows(alloc)?;
-    Ok(is_made_again::<Brand>(alloc, Blank::new(2), book, &copy, &tiles))
+/// The same of a desk of two seats.
+fn is_desk_made<'p>(alloc: Global, book: Book<'p>, copy: &Book<'p>, tiles: &[Tile<'p>]) -> bool {
+    is_made_again::<Brand>(alloc, Blank::new(2), book, copy, tiles)
 }
 
-/// The same of the small problem's book in which 30 steps are posted.
+/// The same of a problem's book in which 30 steps are posted, as in this one.
+fn is_begun_made<'p>(
+    alloc: Global,
+    problem: &'p Problem,
+    copy: &Book<'p>,
+    tiles: &[Tile<'p>],
+) -> Result<bool, Fail> {
+    let book = begun(alloc, problem)?;
+    grows(alloc)?;
+    Ok(is_desk_made(alloc, book, copy, tiles))
+}
+
+/// The same of the tiles that the other book has.
+fn is_made_like<'p>(alloc: Global, problem: &'p Problem, copy: &Book<'p>) -> Result<bool, Fail> {
+    let tiles = tiles_of(alloc, copy)?;
+    is_begun_made(alloc, problem, copy, &tiles)
+}
+
+/// The same where the other book is made here.
 fn is_begun_desk_made(alloc: Global, problem: &Problem) -> Result<bool, Fail> {
-    is_desk_made(alloc, begun(alloc, problem), begun(alloc, problem))
+    let copy = begun(alloc, problem)?;
+    is_made_like(alloc, problem, &copy)
+}
+
+/// The same of the small problem.
+fn is_small_desk_made(alloc: Global) -> Result<bool, Fail> {
+    let problem = read_cover(alloc, SMALL.as_bytes())?;
+    is_begun_desk_made(alloc, &problem)
 }
 
 #[test]
 fn a_refused_desk_gives_its_book_back(rt: HostRuntime) -> Result<(), Fail> {
-    let problem = read_cover(rt.alloc(), SMALL.as_bytes())?;
-    assert!(rt; is_begun_desk_made(rt.alloc(), &problem)?);
+    assert!(rt; is_small_desk_made(rt.alloc())?);
     Ok(())
 }

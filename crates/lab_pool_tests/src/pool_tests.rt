@@ -5,7 +5,7 @@ use cover_problem::{Problem, read_cover};
 use drawn_problems::SMALL;
 use lab_book::Book;
 use lab_pool::{NoGate, PoolFault, run_pool};
-use std::alloc::{AllocError, Global};
+use std::alloc::Global;
 use std::sync::Wait;
 use std::test::Fail;
 use std::thread::Threads;
@@ -37,39 +37,55 @@ fn refusal_of<R: Threads + Wait + Sync>(
 }
 
 /// Whether a book tells the one cover of the small problem, its steps and its levels.
-fn is_small_done(book: &Book<'_>) -> Result<bool, AllocError> {
+fn is_small_done(book: &Book<'_>) -> Result<bool, Fail> {
     Ok(is_done(book, 43)? && book.levels()?.as_slice() == [1, 2, 2, 1].as_slice())
 }
 
-/// Whether so many workers find the one cover of the small problem.
-fn finish_the_small<R: Threads + Wait + Sync>(
+/// Whether so many workers find the one cover of a problem, which is the small one's.
+fn find_the_cover<R: Threads + Wait + Sync>(
     rt: &R,
     alloc: Global,
     problem: &Problem,
     workers: u32,
-) -> Result<bool, AllocError> {
+) -> Result<bool, Fail> {
     match finished_by(rt, alloc, problem, workers) {
         Some(book) => is_small_done(&book),
         None => Ok(false),
     }
 }
 
+/// The same of the small problem.
+fn finish_the_small<R: Threads + Wait + Sync>(
+    rt: &R,
+    alloc: Global,
+    workers: u32,
+) -> Result<bool, Fail> {
+    let problem = read_cover(alloc, SMALL.as_bytes())?;
+    find_the_cover(rt, alloc, &problem, workers)
+}
+
 #[test]
 fn any_number_of_workers_finishes_the_small_problem(rt: HostRuntime) -> Result<(), Fail> {
-    let problem = read_cover(rt.alloc(), SMALL.as_bytes())?;
     for workers in [1, 2, 8, 32] {
-        let done = finish_the_small(&rt, rt.alloc(), &problem, workers)?;
-        assert!(rt; done);
+        assert!(rt; finish_the_small(&rt, rt.alloc(), workers)?);
     }
     Ok(())
 }
 
+/// Whether so many workers of the small problem are refused for their number.
+fn are_refused<R: Threads + Wait + Sync>(
+    rt: &R,
+    alloc: Global,
+    workers: u32,
+) -> Result<bool, Fail> {
+    let problem = read_cover(alloc, SMALL.as_bytes())?;
+    Ok(refusal_of(rt, alloc, &problem, workers) == Some(PoolFault::BadWorkerCount))
+}
+
 #[test]
 fn other_numbers_of_workers_are_refused(rt: HostRuntime) -> Result<(), Fail> {
-    let problem = read_cover(rt.alloc(), SMALL.as_bytes())?;
     for workers in [0, 33] {
-        let fault = refusal_of(&rt, rt.alloc(), &problem, workers);
-        assert!(rt; fault == Some(PoolFault::BadWorkerCount));
+        assert!(rt; are_refused(&rt, rt.alloc(), workers)?);
     }
     Ok(())
 }

@@ -160,14 +160,24 @@ fn begin<'p>(
     Err(Fail::from("not parked"))
 }
 
+/// What is done before the call of a new book.
+fn begin_new<'p>(
+    alloc: Global,
+    problem: &'p Problem,
+    book: &mut Book<'p>,
+    ask: Ask,
+) -> Result<(), Fail> {
+    if let Ask::Lease = ask {
+        return Ok(());
+    }
+    let lease = given_lease(book.lease(3, 0))?;
+    begin(alloc, problem, book, lease, ask)
+}
+
 /// A book as it is before the call.
 fn begun<'p>(alloc: Global, problem: &'p Problem, ask: Ask) -> Result<Book<'p>, Fail> {
     let mut book = Book::new(alloc, problem)?;
-    if let Ask::Lease = ask {
-        return Ok(book);
-    }
-    let lease = given_lease(book.lease(3, 0))?;
-    begin(alloc, problem, &mut book, lease, ask)?;
+    begin_new(alloc, problem, &mut book, ask)?;
     Ok(book)
 }
 
@@ -193,6 +203,33 @@ fn is_made<'p>(book: &mut Book<'p>, lease: &Lease, call: Call<'p>, before: &Book
     }
 }
 
+/// The same of what is asked.
+fn is_asked_of<'p>(
+    alloc: Global,
+    problem: &'p Problem,
+    lease: &Lease,
+    ask: Ask,
+    before: &Book<'p>,
+    book: &mut Book<'p>,
+) -> Result<bool, Fail> {
+    let call = call_of(alloc, problem, ask)?;
+    Ok(is_made(book, lease, call, before))
+}
+
+/// The same, with one growth before the call.
+fn is_asked_last<'p>(
+    alloc: Global,
+    problem: &'p Problem,
+    lease: &Lease,
+    ask: Ask,
+    before: &Book<'p>,
+    book: &mut Book<'p>,
+) -> Result<bool, Fail> {
+    let call = call_of(alloc, problem, ask)?;
+    grows(alloc)?;
+    Ok(is_made(book, lease, call, before))
+}
+
 /// Whether the same call leaves two books alike that are as a third one before it, memory being refused to the second one alone.
 fn are_made_alike<'p>(
     alloc: Global,
@@ -203,13 +240,12 @@ fn are_made_alike<'p>(
     twin: &mut Book<'p>,
     book: &mut Book<'p>,
 ) -> Result<bool, Fail> {
-    let is_first = is_made(twin, lease, call_of(alloc, problem, ask)?, before);
-    let call = call_of(alloc, problem, ask)?;
-    grows(alloc)?;
-    Ok(is_first && is_made(book, lease, call, before) && are_alike(book, twin))
+    let is_first = is_asked_of(alloc, problem, lease, ask, before, twin)?;
+    let is_second = is_asked_last(alloc, problem, lease, ask, before, book)?;
+    Ok(is_first && is_second && are_alike(book, twin))
 }
 
-/// The same of a new book.
+/// The same where the book to which memory is refused is made here.
 fn is_made_beside<'p>(
     alloc: Global,
     problem: &'p Problem,
@@ -222,7 +258,7 @@ fn is_made_beside<'p>(
     are_made_alike(alloc, problem, lease, ask, before, twin, &mut book)
 }
 
-/// The same of two new books.
+/// The same where its twin, to which nothing is refused, is made here, too.
 fn is_made_after<'p>(
     alloc: Global,
     problem: &'p Problem,
@@ -234,7 +270,7 @@ fn is_made_after<'p>(
     is_made_beside(alloc, problem, lease, ask, before, &mut twin)
 }
 
-/// The same of three new books.
+/// The same where the third book is made here as well.
 fn is_made_alike<'p>(
     alloc: Global,
     problem: &'p Problem,
@@ -245,14 +281,24 @@ fn is_made_alike<'p>(
     is_made_after(alloc, problem, lease, ask, &before)
 }
 
-/// The same of the small problem, under the first lease that worker 3 has of its tile.
-fn is_asked(alloc: Global, ask: Ask) -> Result<bool, Fail> {
-    let problem = read_cover(alloc, SMALL.as_bytes())?;
-    let mut book = Book::new(alloc, &problem)?;
-    let lease = given_lease(book.lease(3, 0))?;
-    let is_alike = is_made_alike(alloc, &problem, &lease, ask);
+/// The first lease that worker 3 has of a new book's tile; it serves each book of the problem in which that tile was leased so.
+fn first_lease(alloc: Global, problem: &Problem) -> Result<Lease, Fail> {
+    let mut book = Book::new(alloc, problem)?;
+    given_lease(book.lease(3, 0))
+}
+
+/// The same under that lease.
+fn is_made_under(alloc: Global, problem: &Problem, ask: Ask) -> Result<bool, Fail> {
+    let lease = first_lease(alloc, problem)?;
+    let is_alike = is_made_alike(alloc, problem, &lease, ask);
     lease.discard();
     is_alike
+}
+
+/// The same of the small problem.
+fn is_asked(alloc: Global, ask: Ask) -> Result<bool, Fail> {
+    let problem = read_cover(alloc, SMALL.as_bytes())?;
+    is_made_under(alloc, &problem, ask)
 }
 
 #[test]

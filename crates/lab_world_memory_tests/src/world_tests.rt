@@ -160,8 +160,34 @@ fn answers_again(
     }
 }
 
-/// Whether a new world answers so, and ends like this one.
+/// Whether a world answers so, and ends like another one.
+fn answers_alike(
+    alloc: Global,
+    world: &mut Plain<'_>,
+    fresh: &mut Plain<'_>,
+    events: &[WorldEvent],
+    wanted: &[WorldReply],
+    other: &Plain<'_>,
+) -> Result<bool, Fail> {
+    grows(alloc)?;
+    Ok(answers_again(world, fresh, events, wanted)? && are_worlds(world, other))
+}
+
+/// The same of a world that is made here.
 fn ends_alike(
+    alloc: Global,
+    problem: &Problem,
+    fresh: &mut Plain<'_>,
+    events: &[WorldEvent],
+    wanted: &[WorldReply],
+    other: &Plain<'_>,
+) -> Result<bool, Fail> {
+    let mut world = Plain::new(alloc, problem, 2)?;
+    answers_alike(alloc, &mut world, fresh, events, wanted, other)
+}
+
+/// The same beside a fresh world that is made here.
+fn ends_beside(
     alloc: Global,
     problem: &Problem,
     events: &[WorldEvent],
@@ -169,23 +195,40 @@ fn ends_alike(
     other: &Plain<'_>,
 ) -> Result<bool, Fail> {
     let mut fresh = Plain::new(alloc, problem, 2)?;
-    let mut world = Plain::new(alloc, problem, 2)?;
-    grows(alloc)?;
-    let is_answered = answers_again(&mut world, &mut fresh, events, wanted)?;
-    Ok(is_answered && are_worlds(&world, other))
+    ends_alike(alloc, problem, &mut fresh, events, wanted, other)
 }
 
-/// Whether a new world answers and ends like one to which nothing is refused.
+/// Whether a new world answers and ends like this one, to which nothing is refused.
+fn plays_like(
+    alloc: Global,
+    problem: &Problem,
+    events: &[WorldEvent],
+    other: &mut Plain<'_>,
+) -> Result<bool, Fail> {
+    let wanted = play(other, events)?;
+    ends_beside(alloc, problem, events, &wanted, other)
+}
+
+/// The same of one that is made here.
 fn plays_alike(alloc: Global, problem: &Problem, events: &[WorldEvent]) -> Result<bool, Fail> {
     let mut other = Plain::new(alloc, problem, 2)?;
-    let wanted = play(&mut other, events)?;
-    ends_alike(alloc, problem, events, &wanted, &other)
+    plays_like(alloc, problem, events, &mut other)
+}
+
+/// The same of what two workers do.
+fn play_alike(alloc: Global, problem: &Problem) -> Result<bool, Fail> {
+    let events = events_of(alloc)?;
+    plays_alike(alloc, problem, &events)
+}
+
+/// The same in the small problem.
+fn play_small_alike(alloc: Global) -> Result<bool, Fail> {
+    let problem = read_cover(alloc, SMALL.as_bytes())?;
+    play_alike(alloc, &problem)
 }
 
 #[test]
 fn a_world_is_played_up_to_what_is_refused(rt: HostRuntime) -> Result<(), Fail> {
-    let problem = read_cover(rt.alloc(), SMALL.as_bytes())?;
-    let events = events_of(rt.alloc())?;
-    assert!(rt; plays_alike(rt.alloc(), &problem, &events)?);
+    assert!(rt; play_small_alike(rt.alloc())?);
     Ok(())
 }

@@ -1,11 +1,12 @@
 //! Worlds of the small problem, row by row.
+ghost use Rattle.std.specs.Prelude.{◌<◌, length};
 
 use crate::setting::{Do, add, play, visits_of};
 use cover_links::LinkTable;
 use cover_problem::{PlainTable, Problem, Table, read_cover};
 use drawn_books::{cut_of, value_of};
 use drawn_problems::{SMALL, state_of};
-use lab_book::{Book, Entry, Reply, Tile};
+use lab_book::{Book, Entries, Entry, Reply, Tile};
 use lab_world::{World, WorldReply};
 use std::alloc::{AllocError, Global};
 use std::test::Fail;
@@ -156,14 +157,28 @@ fn parts_of(alloc: Global, book: &Book<'_>) -> Result<Vec<u64>, AllocError> {
     Ok(parts)
 }
 
+/// The id that a split answered, if an entry is one's.
+fn split_of(entry: &Entry) -> Option<u64> {
+    match entry.reply() {
+        Reply::Split(id) => Some(*id),
+        _ => None,
+    }
+}
+
+/// The same of the entry at a place.
+fn split_at(history: &Entries<'_>, place: usize) -> Result<Option<u64>, AllocError>
+    requires { place < length history.now }
+{
+    Ok(split_of(&history.entry(place)?))
+}
+
 /// The ids that a book's splits answered.
 fn splits_of(alloc: Global, book: &Book<'_>) -> Result<Vec<u64>, AllocError> {
     let history = book.history();
     let mut ids = Vec::new(alloc);
     for place in 0..history.len() {
-        let entry = history.entry(place)?;
-        if let Reply::Split(id) = entry.reply() {
-            ids.push(*id)?;
+        if let Some(id) = split_at(&history, place)? {
+            ids.push(id)?;
         }
     }
     Ok(ids)
@@ -271,10 +286,15 @@ fn takes_the_rest(alloc: Global, problem: &Problem) -> Result<bool, Fail> {
     Ok(count == 6 && tally.is_rest())
 }
 
+/// The same of the small problem.
+fn takes_the_small_rest(alloc: Global) -> Result<bool, Fail> {
+    let problem = read_cover(alloc, SMALL.as_bytes())?;
+    takes_the_rest(alloc, &problem)
+}
+
 #[test]
 fn a_world_goes_on_with_a_book(rt: HostRuntime) -> Result<(), Fail> {
-    let problem = read_cover(rt.alloc(), SMALL.as_bytes())?;
-    assert!(rt; takes_the_rest(rt.alloc(), &problem)?);
+    assert!(rt; takes_the_small_rest(rt.alloc())?);
     Ok(())
 }
 

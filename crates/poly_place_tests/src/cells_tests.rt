@@ -1,5 +1,5 @@
 //! Each public function of cells and shapes once, with values from outside: rows worked by hand, and counts.
-use crate::setting::{Cells, are_cells, box_of, shape_at};
+use crate::setting::{Cells, MIRRORED, SCREW, are_cells, box_of, shape_at};
 use poly_cells::{Cell, Rotation, Shape, Symmetry, TranslateFault, symmetries_of};
 use std::alloc::Global;
 use std::test::Fail;
@@ -88,24 +88,32 @@ fn a_row_stays_in_the_grid(rt: HostRuntime) -> Result<(), Fail> {
     Ok(())
 }
 
-/// Whether a symmetry turns a shape into another one.
-fn is_image(shape: &Shape, symmetry: Symmetry, other: &Shape) -> Result<bool, Fail> {
-    Ok(shape.turned(symmetry)?.cells() == other.cells())
+/// Whether a symmetry turns a shape into the one of these cells.
+fn is_image(alloc: Global, shape: &Shape, symmetry: Symmetry, image: Cells) -> Result<bool, Fail> {
+    let image = shape_at(alloc, image)?;
+    Ok(shape.turned(symmetry)?.cells() == image.cells())
 }
+
+/// The same of the shape of other cells.
+fn turns(alloc: Global, cells: Cells, symmetry: Symmetry, image: Cells) -> Result<bool, Fail> {
+    let shape = shape_at(alloc, cells)?;
+    is_image(alloc, &shape, symmetry, image)
+}
+
+const STANDING: Cells = &[(3, 0, 0), (3, 1, 0), (3, 2, 0)];
+
+const RISING: Cells = &[(0, 0, 0), (0, 0, 1), (0, 0, 2)];
 
 #[test]
 fn a_turned_row_lies_along_another_axis(rt: HostRuntime) -> Result<(), Fail> {
-    let alloc = rt.alloc();
-    let row = shape_at(alloc, &[(3, 0, 0), (3, 1, 0), (3, 2, 0)])?;
-    let up = shape_at(alloc, &[(0, 0, 0), (0, 0, 1), (0, 0, 2)])?;
-    assert!(rt; is_image(&row, Rotation::new(4).symmetry(), &up)?);
+    assert!(rt; turns(rt.alloc(), STANDING, Rotation::new(4).symmetry(), RISING)?);
     Ok(())
 }
 
-/// Whether some symmetry turns a shape into another one.
-fn is_some_image(shape: &Shape, other: &Shape) -> Result<bool, Fail> {
+/// Whether some symmetry turns the shape of some cells into that of others.
+fn some_turns(alloc: Global, cells: Cells, image: Cells) -> Result<bool, Fail> {
     for n in 0..48 {
-        if is_image(shape, Symmetry::new(n), other)? {
+        if turns(alloc, cells, Symmetry::new(n), image)? {
             return Ok(true);
         }
     }
@@ -114,13 +122,10 @@ fn is_some_image(shape: &Shape, other: &Shape) -> Result<bool, Fail> {
 
 #[test]
 fn a_screw_is_no_rotation_of_its_mirror_image(rt: HostRuntime) -> Result<(), Fail> {
-    let alloc = rt.alloc();
-    let screw = shape_at(alloc, &[(0, 0, 0), (1, 0, 0), (0, 1, 0), (0, 1, 1)])?;
-    let mirrored = shape_at(alloc, &[(0, 0, 0), (1, 0, 0), (0, 1, 0), (1, 0, 1)])?;
     for r in 0..24 {
-        assert!(rt; !is_image(&screw, Rotation::new(r).symmetry(), &mirrored)?);
+        assert!(rt; !turns(rt.alloc(), SCREW, Rotation::new(r).symmetry(), MIRRORED)?);
     }
-    assert!(rt; is_some_image(&screw, &mirrored)?);
+    assert!(rt; some_turns(rt.alloc(), SCREW, MIRRORED)?);
     Ok(())
 }
 
@@ -135,15 +140,17 @@ fn count(alloc: Global, a: u8, b: u8, c: u8) -> Result<usize, Fail> {
     Ok(symmetries(alloc, a, b, c)?.len())
 }
 
+/// Whether a flat box has eight, which keep the axes in place.
+fn has_eight(alloc: Global) -> Result<bool, Fail> {
+    let flat = symmetries(alloc, 20, 3, 1)?;
+    Ok(flat.len() == 8 && flat[7].number() == 7)
+}
+
 #[test]
 fn boxes_have_their_symmetries(rt: HostRuntime) -> Result<(), Fail> {
-    let alloc = rt.alloc();
-    assert!(rt; count(alloc, 3, 3, 3)? == 48);
-    assert!(rt; count(alloc, 2, 2, 1)? == 16);
-    let flat = symmetries(alloc, 20, 3, 1)?;
-    assert!(rt; flat.len() == 8);
-    // The first eight keep the axes in place.
-    assert!(rt; flat[7].number() == 7);
-    assert!(rt; count(alloc, 16, 16, 16)? == 48);
+    assert!(rt; count(rt.alloc(), 3, 3, 3)? == 48);
+    assert!(rt; count(rt.alloc(), 2, 2, 1)? == 16);
+    assert!(rt; has_eight(rt.alloc())?);
+    assert!(rt; count(rt.alloc(), 16, 16, 16)? == 48);
     Ok(())
 }

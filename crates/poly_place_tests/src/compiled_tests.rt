@@ -81,11 +81,21 @@ fn has_too_many(alloc: Global, puzzle: &Puzzle) -> bool {
     }
 }
 
+/// That puzzle.
+fn rows(alloc: Global) -> Result<Puzzle, Fail> {
+    let mut text = String::new(alloc);
+    write_rows(&mut text)?;
+    Ok(read_puzzle(alloc, text.as_bytes())?)
+}
+
+/// Whether it has too many options.
+fn have_too_many(alloc: Global) -> Result<bool, Fail> {
+    let puzzle = rows(alloc)?;
+    Ok(has_too_many(alloc, &puzzle))
+}
+
 #[test]
 fn too_many_placements_are_refused(rt: HostRuntime) -> Result<(), Fail> {
-    let mut text = String::new(rt.alloc());
-    write_rows(&mut text)?;
-    let puzzle = read_puzzle(rt.alloc(), text.as_bytes())?;
-    assert!(rt; has_too_many(rt.alloc(), &puzzle));
+    assert!(rt; have_too_many(rt.alloc())?);
     Ok(())
 }

@@ -34,10 +34,15 @@ fn is_compiled_twice(alloc: Global, puzzle: &Puzzle) -> Result<bool, Fail> {
 const DOMINOES: &[u8] =
     b"piece A 000 100\nmaybe piece B 000 100\ncells 000 100 010\nmaybe cells 110\n";
 
+/// The same of the dominoes.
+fn are_compiled_twice(alloc: Global) -> Result<bool, Fail> {
+    let puzzle = read_puzzle(alloc, DOMINOES)?;
+    is_compiled_twice(alloc, &puzzle)
+}
+
 #[test]
 fn a_refused_problem_is_made_again(rt: HostRuntime) -> Result<(), Fail> {
-    let puzzle = read_puzzle(rt.alloc(), DOMINOES)?;
-    assert!(rt; is_compiled_twice(rt.alloc(), &puzzle)?);
+    assert!(rt; are_compiled_twice(rt.alloc())?);
     Ok(())
 }
 
@@ -72,9 +77,14 @@ fn are_placed_twice(alloc: Global, region: &Shape) -> Result<bool, Fail> {
     Ok(wanted.len() == 4 && are_placed_again(alloc, &piece, region, &wanted))
 }
 
+/// The same in a square.
+fn are_placed_in_square_twice(alloc: Global) -> Result<bool, Fail> {
+    let square = box_of(alloc, 2, 2, 1, None)?;
+    are_placed_twice(alloc, &square)
+}
+
 #[test]
 fn refused_placements_are_found_again(rt: HostRuntime) -> Result<(), Fail> {
-    let square = box_of(rt.alloc(), 2, 2, 1, None)?;
-    assert!(rt; are_placed_twice(rt.alloc(), &square)?);
+    assert!(rt; are_placed_in_square_twice(rt.alloc())?);
     Ok(())
 }

@@ -1,9 +1,8 @@
 //! Counts of placements from the literature and from an independent program, and rows worked by hand.
-use crate::setting::{Cells, are_cells, box_of, shape_at};
+use crate::setting::{Cells, MIRRORED, SCREW, are_cells, box_of, shape_at};
 use poly_cells::{Cell, Shape};
 use poly_place::placements;
 use std::alloc::Global;
-use std::process::Abort;
 use std::test::Fail;
 
 /// The placements of the piece with these cells.
@@ -30,6 +29,18 @@ fn have_counts(
         }
     }
     Ok(pieces.len() == wanted.len())
+}
+
+/// The same of a box, without the cell where one is given.
+fn have_counts_in(
+    alloc: Global,
+    pieces: &[Cells],
+    (a, b, c): (u8, u8, u8),
+    hole: Option<Cell>,
+    wanted: &[usize],
+) -> Result<bool, Fail> {
+    let region = box_of(alloc, a, b, c, hole)?;
+    have_counts(alloc, pieces, &region, wanted)
 }
 
 static SOMA: [Cells; 7] = [
@@ -59,24 +70,24 @@ static PENTOMINOES: [Cells; 12] = [
 
 #[test]
 fn the_soma_pieces_lie_in_the_cube(rt: HostRuntime) -> Result<(), Fail> {
-    let cube = box_of(rt.alloc(), 3, 3, 3, None)?;
-    assert!(rt; have_counts(rt.alloc(), &SOMA, &cube, &[144, 144, 72, 72, 96, 96, 64])?);
+    let wanted = [144, 144, 72, 72, 96, 96, 64];
+    assert!(rt; have_counts_in(rt.alloc(), &SOMA, (3, 3, 3), None, &wanted)?);
     Ok(())
 }
 
 #[test]
 fn the_soma_pieces_lie_in_the_cube_without_its_middle(rt: HostRuntime) -> Result<(), Fail> {
-    let hollow = box_of(rt.alloc(), 3, 3, 3, Some(Cell::new(1, 1, 1)?))?;
-    assert!(rt; have_counts(rt.alloc(), &SOMA, &hollow, &[108, 120, 48, 48, 48, 48, 32])?);
+    let middle = Cell::new(1, 1, 1)?;
+    let wanted = [108, 120, 48, 48, 48, 48, 32];
+    assert!(rt; have_counts_in(rt.alloc(), &SOMA, (3, 3, 3), Some(middle), &wanted)?);
     Ok(())
 }
 
-const IN_A_STRIP: [usize; 12] = [144, 48, 136, 136, 220, 72, 110, 72, 72, 18, 136, 72];
+static IN_A_STRIP: [usize; 12] = [144, 48, 136, 136, 220, 72, 110, 72, 72, 18, 136, 72];
 
 #[test]
 fn the_pentominoes_lie_in_a_strip(rt: HostRuntime) -> Result<(), Fail> {
-    let strip = box_of(rt.alloc(), 20, 3, 1, None)?;
-    assert!(rt; have_counts(rt.alloc(), &PENTOMINOES, &strip, &IN_A_STRIP)?);
+    assert!(rt; have_counts_in(rt.alloc(), &PENTOMINOES, (20, 3, 1), None, &IN_A_STRIP)?);
     Ok(())
 }
 
@@ -89,25 +100,32 @@ static IN_A_SQUARE: [Cells; 4] = [
     &[(1, 0, 0), (1, 1, 0)],
 ];
 
-/// Tells the first of four placements in a square that isn't the one that stands there.
-fn compare_with_square(rt: &impl Abort, found: &[Shape]) {
-    assert!(rt; found.len() == 4);
-    for (set, cells) in found.iter().zip(IN_A_SQUARE) {
-        assert!(rt; are_cells(set.cells(), cells));
-    }
+/// Whether placements are the four in a square, in their order.
+fn are_in_square(found: &[Shape]) -> bool {
+    found.len() == 4
+        && found
+            .iter()
+            .zip(IN_A_SQUARE)
+            .all(|(set, cells)| are_cells(set.cells(), cells))
+}
+
+/// Whether the placements of a domino in a region are these.
+fn are_placed_so(alloc: Global, region: &Shape) -> Result<bool, Fail> {
+    let found = placed(alloc, DOMINO, region)?;
+    Ok(are_in_square(&found))
+}
+
+/// The same in a square.
+fn are_placed_in_square(alloc: Global) -> Result<bool, Fail> {
+    let square = box_of(alloc, 2, 2, 1, None)?;
+    are_placed_so(alloc, &square)
 }
 
 #[test]
 fn placements_come_in_order(rt: HostRuntime) -> Result<(), Fail> {
-    let square = box_of(rt.alloc(), 2, 2, 1, None)?;
-    let found = placed(rt.alloc(), DOMINO, &square)?;
-    compare_with_square(&rt, found.as_slice());
+    assert!(rt; are_placed_in_square(rt.alloc())?);
     Ok(())
 }
-
-const SCREW: Cells = &[(0, 0, 0), (1, 0, 0), (0, 1, 0), (0, 1, 1)];
-
-const MIRRORED: Cells = &[(0, 0, 0), (1, 0, 0), (0, 1, 0), (1, 0, 1)];
 
 /// How many placements a piece has in the region with these cells.
 fn count_at(alloc: Global, piece: Cells, region: Cells) -> Result<usize, Fail> {
@@ -127,7 +145,6 @@ fn a_piece_that_does_not_fit_has_none(rt: HostRuntime) -> Result<(), Fail> {
 
 #[test]
 fn a_large_region_takes_no_time(rt: HostRuntime) -> Result<(), Fail> {
-    let slab = box_of(rt.alloc(), 32, 32, 4, None)?;
-    assert!(rt; count(rt.alloc(), DOMINO, &slab)? == 11_008);
+    assert!(rt; have_counts_in(rt.alloc(), &[DOMINO], (32, 32, 4), None, &[11_008])?);
     Ok(())
 }

@@ -6,6 +6,12 @@ use std::test::Fail;
 /// Coordinates of cells.
 pub type Cells = &'static [(u8, u8, u8)];
 
+/// A screw of four cells.
+pub const SCREW: Cells = &[(0, 0, 0), (1, 0, 0), (0, 1, 0), (0, 1, 1)];
+
+/// Its mirror image.
+pub const MIRRORED: Cells = &[(0, 0, 0), (1, 0, 0), (0, 1, 0), (1, 0, 1)];
+
 /// Whether the cells have these coordinates.
 pub fn are_cells(cells: &[Cell], coordinates: Cells) -> bool {
     cells.len() == coordinates.len()

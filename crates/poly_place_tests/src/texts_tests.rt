@@ -288,13 +288,18 @@ fn write_repeated_cells(text: &mut Vec<u8>) -> Result<(), Fail> {
     Ok(())
 }
 
+/// Whether it is read, and refused with a line of more cells.
+fn are_repeated_cells_read(alloc: Global) -> Result<bool, Fail> {
+    let mut text = Vec::new(alloc);
+    write_repeated_cells(&mut text)?;
+    let is_read = sizes_of(alloc, &text) == Some((4096, 0));
+    write_cells(&mut text, b"cells", 0, 32_768, 32_768)?;
+    Ok(is_read && is_refused(alloc, &text, Fault::TooLarge, 36))
+}
+
 #[test]
 fn repeated_cells_are_read(rt: HostRuntime) -> Result<(), Fail> {
-    let mut text = Vec::new(rt.alloc());
-    write_repeated_cells(&mut text)?;
-    assert!(rt; sizes_of(rt.alloc(), text.as_slice()) == Some((4096, 0)));
-    write_cells(&mut text, b"cells", 0, 32_768, 32_768)?;
-    assert!(rt; is_refused(rt.alloc(), text.as_slice(), Fault::TooLarge, 36));
+    assert!(rt; are_repeated_cells_read(rt.alloc())?);
     Ok(())
 }
 
@@ -333,13 +338,18 @@ fn are_all_pieces(alloc: Global, text: &[u8]) -> bool {
     }
 }
 
+/// Whether they are read, and refused with one more.
+fn are_all_pieces_read(alloc: Global) -> Result<bool, Fail> {
+    let mut text = Vec::new(alloc);
+    write_all_pieces(&mut text)?;
+    let are_read = are_all_pieces(alloc, &text);
+    text.extend_from_slice(b"\npiece 0 000")?;
+    Ok(are_read && is_refused(alloc, &text, Fault::RepeatedPiece, 64))
+}
+
 #[test]
 fn as_many_pieces_as_names_are_read(rt: HostRuntime) -> Result<(), Fail> {
-    let mut text = Vec::new(rt.alloc());
-    write_all_pieces(&mut text)?;
-    assert!(rt; are_all_pieces(rt.alloc(), text.as_slice()));
-    text.extend_from_slice(b"\npiece 0 000")?;
-    assert!(rt; is_refused(rt.alloc(), text.as_slice(), Fault::RepeatedPiece, 64));
+    assert!(rt; are_all_pieces_read(rt.alloc())?);
     Ok(())
 }
 
@@ -362,12 +372,17 @@ const ONE_CELL: Parts = Parts {
     maybe_cells: &[],
 };
 
+/// Whether it is read, and refused where its last line is none.
+fn are_blanks_read(alloc: Global) -> Result<bool, Fail> {
+    let mut text = Vec::new(alloc);
+    write_blanks(&mut text)?;
+    let is_blank = is_read(alloc, &text, &ONE_CELL);
+    text.extend_from_slice(b"\r\r")?;
+    Ok(is_blank && is_refused(alloc, &text, Fault::BadLine, 262_146))
+}
+
 #[test]
 fn blank_lines_and_comments_say_nothing(rt: HostRuntime) -> Result<(), Fail> {
-    let mut text = Vec::new(rt.alloc());
-    write_blanks(&mut text)?;
-    assert!(rt; is_read(rt.alloc(), text.as_slice(), &ONE_CELL));
-    text.extend_from_slice(b"\r\r")?;
-    assert!(rt; is_refused(rt.alloc(), text.as_slice(), Fault::BadLine, 262_146));
+    assert!(rt; are_blanks_read(rt.alloc())?);
     Ok(())
 }

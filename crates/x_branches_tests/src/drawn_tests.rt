@@ -17,14 +17,26 @@ fn drawn_text(alloc: Global, primary: u32, seed: &mut u64) -> Result<String, All
     text_of(alloc, 5, primary, &options)
 }
 
+/// The states of the run of the next problem that is drawn.
+fn drawn_states(alloc: Global, primary: u32, seed: &mut u64) -> Result<Vec<State>, Fail> {
+    let text = drawn_text(alloc, primary, seed)?;
+    states_of(alloc, &text)
+}
+
+/// Whether they come in order.
+fn are_drawn_in_order(alloc: Global, primary: u32, seed: &mut u64) -> Result<bool, Fail> {
+    let states = drawn_states(alloc, primary, seed)?;
+    Ok(are_in_order(&states))
+}
+
 #[test]
 fn states_of_drawn_problems_come_in_order(rt: HostRuntime) -> Result<(), Fail> {
-    let alloc = rt.alloc();
     let mut seed = 7;
     for round in 0..30 {
-        let text = drawn_text(alloc, round % 5 + 1, &mut seed)?;
-        let states = states_of(alloc, &text)?;
-        assert!(rt; are_in_order(&states), "for {text}");
+        assert!(rt;
+            are_drawn_in_order(rt.alloc(), round % 5 + 1, &mut seed)?,
+            "at the problem drawn as {round}"
+        );
     }
     Ok(())
 }

@@ -91,6 +91,16 @@ fn made_again<'p>(
     }
 }
 
+/// Takes so many steps, all of which there have to be.
+fn advance(runner: &mut Runner<'_, PlainTable>, steps: u32) -> Result<(), Fail> {
+    for _ in 0..steps {
+        if runner.advance().is_err() {
+            return Err(Fail::from("no step"));
+        }
+    }
+    Ok(())
+}
+
 /// A runner of the whole run, after so many steps.
 fn advanced<'p>(
     alloc: Global,
@@ -98,15 +108,42 @@ fn advanced<'p>(
     steps: u32,
 ) -> Result<Runner<'p, PlainTable>, Fail> {
     let mut runner = whole(alloc, problem)?;
-    for _ in 0..steps {
-        if runner.advance().is_err() {
-            return Err(Fail::from("no step"));
-        }
-    }
+    advance(&mut runner, steps)?;
     Ok(runner)
 }
 
-/// Whether a call of a runner is answered like that of another one, which it was like before, and they stand alike then.
+/// One growth, which is told where it is refused.
+fn grows(alloc: Global) -> Result<(), Fail> {
+    match vec![in alloc; 0u8; 1] {
+        Ok(_) => Ok(()),
+        Err(_) => Err(Fail::from("refused before the call")),
+    }
+}
+
+/// What a call of a runner is answered to which nothing is refused.
+fn answer_of<'p>(runner: &mut Runner<'p, PlainTable>, call: Call) -> Result<Answer<'p>, Fail> {
+    match make(runner, call) {
+        Ok(answer) => Ok(answer),
+        Err(_) => Err(Fail::from("no answer")),
+    }
+}
+
+/// Whether a call of a runner, which was like a third one before, is answered so, and leaves it like another one.
+fn ends_like<'p>(
+    runner: &mut Runner<'p, PlainTable>,
+    other: &Runner<'p, PlainTable>,
+    before: &Runner<'p, PlainTable>,
+    call: Call,
+    wanted: &Answer<'p>,
+) -> bool {
+    match made_again(runner, call, before) {
+        Some(answer) => answer.same(wanted) && stand_alike(runner, other),
+        None => false,
+    }
+}
+
+/// Whether the same call of two runners that stand like a third one is answered alike, and leaves them alike, memory being refused to
+/// the first one alone.
 fn ends_alike<'p>(
     alloc: Global,
     runner: &mut Runner<'p, PlainTable>,
@@ -114,17 +151,12 @@ fn ends_alike<'p>(
     before: &Runner<'p, PlainTable>,
     call: Call,
 ) -> Result<bool, Fail> {
-    let Ok(wanted) = make(other, call) else {
-        return Err(Fail::from("no answer"));
-    };
-    let _last = vec![in alloc; 0u8; 1].map_err(|_| "refused before the call")?;
-    match made_again(runner, call, before) {
-        Some(answer) => Ok(answer.same(&wanted) && stand_alike(runner, other)),
-        None => Ok(false),
-    }
+    let wanted = answer_of(other, call)?;
+    grows(alloc)?;
+    Ok(ends_like(runner, other, before, call, &wanted))
 }
 
-/// The same of a new runner, after so many steps.
+/// The same where the runner to which memory is refused is made here, after so many steps.
 fn is_answered_alike<'p>(
     alloc: Global,
     problem: &'p Problem,
@@ -137,7 +169,7 @@ fn is_answered_alike<'p>(
     ends_alike(alloc, &mut runner, other, before, call)
 }
 
-/// The same beside another new runner.
+/// The same where the other one, to which nothing is refused, is made here, too.
 fn is_answered_beside<'p>(
     alloc: Global,
     problem: &'p Problem,
@@ -160,24 +192,27 @@ fn is_answered_after(
     is_answered_beside(alloc, problem, steps, call, &before)
 }
 
+/// The same of the small problem.
+fn is_answered_in_small(alloc: Global, steps: u32, call: Call) -> Result<bool, Fail> {
+    let problem = small(alloc)?;
+    is_answered_after(alloc, &problem, steps, call)
+}
+
 #[test]
 fn a_refused_visit_is_made_again(rt: HostRuntime) -> Result<(), Fail> {
-    let problem = small(rt.alloc())?;
-    assert!(rt; is_answered_after(rt.alloc(), &problem, 29, Call::Advance)?);
+    assert!(rt; is_answered_in_small(rt.alloc(), 29, Call::Advance)?);
     Ok(())
 }
 
 #[test]
 fn a_refused_cut_leaves_the_runner(rt: HostRuntime) -> Result<(), Fail> {
-    let problem = small(rt.alloc())?;
-    assert!(rt; is_answered_after(rt.alloc(), &problem, 5, Call::Cut(0, 4))?);
+    assert!(rt; is_answered_in_small(rt.alloc(), 5, Call::Cut(0, 4))?);
     Ok(())
 }
 
 #[test]
 fn a_refused_stretch_stays_with_the_runner(rt: HostRuntime) -> Result<(), Fail> {
-    let problem = small(rt.alloc())?;
-    assert!(rt; is_answered_after(rt.alloc(), &problem, 30, Call::TakeStretch)?);
+    assert!(rt; is_answered_in_small(rt.alloc(), 30, Call::TakeStretch)?);
     Ok(())
 }
 
@@ -216,41 +251,54 @@ fn runner_again<'p>(
 
 /// Whether a runner stands at a state of a branch with nothing unposted, and visits 4 5 1 after so many steps.
 fn goes_on(
-    runner: Option<Runner<'_, PlainTable>>,
+    runner: &mut Runner<'_, PlainTable>,
     branch: &Branch<'_>,
     state: &State,
     steps: u32,
-) -> bool {
-    let Some(mut runner) = runner else {
-        return false;
-    };
+) -> Result<bool, Fail> {
     let stands = runner.branch().same(branch) && runner.state().same(state);
     let is_marked = runner.mark().same(state) && runner.unposted() == 0;
-    for _ in 0..steps {
-        if runner.advance().is_err() {
-            return false;
-        }
-    }
-    stands
-        && is_marked
-        && runner.is_visit()
-        && runner.state().path.as_slice() == [4, 5, 1].as_slice()
+    advance(runner, steps)?;
+    let is_visit = runner.is_visit() && runner.state().path.as_slice() == [4, 5, 1].as_slice();
+    Ok(stands && is_marked && is_visit)
 }
 
-/// Whether a runner that goes on from the cut 4 starts as where nothing is refused.
+/// Whether a runner of a branch goes on so from a state, though what it needs is refused at first.
+fn starts_in<'p>(
+    alloc: Global,
+    problem: &'p Problem,
+    branch: Branch<'p>,
+    copy: &Branch<'p>,
+    state: &State,
+) -> Result<bool, Fail> {
+    let table = PlainTable::new(alloc, problem)?;
+    grows(alloc)?;
+    match runner_again(alloc, problem, table, branch, copy, state) {
+        Some(mut runner) => goes_on(&mut runner, copy, state, 9),
+        None => Ok(false),
+    }
+}
+
+/// The same of the branch from the cut 4 on.
+fn starts_at(alloc: Global, problem: &Problem, state: &State) -> Result<bool, Fail> {
+    let copy = branch_of(alloc, problem, &[4], &[])?;
+    starts_in(alloc, problem, copy.copy()?, &copy, state)
+}
+
+/// The same from its first state on.
 fn starts_again(alloc: Global, problem: &Problem) -> Result<bool, Fail> {
     let state = state_of(alloc, Label::X5, &[], Cursor::At(4))?;
-    let branch = branch_of(alloc, problem, &[4], &[])?;
-    let copy = branch.copy()?;
-    let table = PlainTable::new(alloc, problem)?;
-    let _last = vec![in alloc; 0u8; 1].map_err(|_| "refused before the call")?;
-    let runner = runner_again(alloc, problem, table, branch, &copy, &state);
-    Ok(goes_on(runner, &copy, &state, 9))
+    starts_at(alloc, problem, &state)
+}
+
+/// The same of the small problem.
+fn starts_again_in_small(alloc: Global) -> Result<bool, Fail> {
+    let problem = small(alloc)?;
+    starts_again(alloc, &problem)
 }
 
 #[test]
 fn a_refused_runner_gives_its_table_and_its_branch_back(rt: HostRuntime) -> Result<(), Fail> {
-    let problem = small(rt.alloc())?;
-    assert!(rt; starts_again(rt.alloc(), &problem)?);
+    assert!(rt; starts_again_in_small(rt.alloc())?);
     Ok(())
 }

@@ -58,11 +58,15 @@ pub fn are_in_order(states: &[State]) -> bool {
     true
 }
 
+/// Whether the 44 states of the small problem's run are.
+fn are_small_in_order(alloc: Global) -> Result<bool, Fail> {
+    let states = states_of(alloc, SMALL)?;
+    Ok(states.len() == 44 && are_in_order(&states))
+}
+
 #[test]
 fn states_come_in_the_order_of_the_run(rt: HostRuntime) -> Result<(), Fail> {
-    let alloc = rt.alloc();
-    let states = states_of(alloc, SMALL)?;
-    assert!(rt; states.len() == 44 && are_in_order(&states));
+    assert!(rt; are_small_in_order(rt.alloc())?);
     Ok(())
 }
 
@@ -72,13 +76,22 @@ static STEPS: [(Label, Ordering); 2] = [
     (Label::X6, Ordering::Greater),
 ];
 
+/// How the step at a label there stands to a state.
+fn order_at(alloc: Global, label: Label, other: &State) -> Result<Ordering, Fail> {
+    let state = state_of(alloc, label, &[4], Cursor::At(5))?;
+    Ok(run_order(&state, other))
+}
+
+/// How it stands to a state below that option.
+fn order_to_below(alloc: Global, label: Label) -> Result<Ordering, Fail> {
+    let below = state_of(alloc, Label::X8, &[4, 5, 1], Cursor::None)?;
+    order_at(alloc, label, &below)
+}
+
 #[test]
 fn a_step_comes_before_or_after_what_lies_below(rt: HostRuntime) -> Result<(), Fail> {
-    let alloc = rt.alloc();
-    let below = state_of(alloc, Label::X8, &[4, 5, 1], Cursor::None)?;
     for (label, order) in STEPS {
-        let state = state_of(alloc, label, &[4], Cursor::At(5))?;
-        assert!(rt; run_order(&state, &below) == order);
+        assert!(rt; order_to_below(rt.alloc(), label)? == order);
     }
     Ok(())
 }

@@ -1,7 +1,7 @@
 //! The worked example: a runner on the small problem. What is asked of it stands in rows, each with what it has to tell.
 use crate::setting::{refusal, runner_of, small, whole};
 use cover_problem::{PlainTable, Problem, Table};
-use std::alloc::Global;
+use std::alloc::{AllocError, Global};
 use std::process::Abort;
 use std::test::Fail;
 use x_branches::{KeptStretch, Runner, RunnerFault, Stretch};
@@ -135,28 +135,60 @@ fn is_copied(
     )
 }
 
-/// Whether what is kept of a stretch tells its ends and steps, and is the stretch again when it is opened; so is its copy.
+/// Whether what is kept of a stretch begins and ends where it does.
+fn has_kept_ends(kept: &KeptStretch<'_>, stretch: &Stretch<'_>) -> Result<bool, AllocError> {
+    let alloc = *stretch.from().path.allocator();
+    Ok(kept.from(alloc)?.same(stretch.from()) && kept.to(alloc)?.same(stretch.to()))
+}
+
+/// Whether it is the stretch again when it is opened.
+fn opens_as(
+    kept: &KeptStretch<'_>,
+    stretch: &Stretch<'_>,
+    steps: u32,
+    visits: &[&[u32]],
+    levels: &[u32],
+) -> Result<bool, AllocError> {
+    let opened = kept.open(*stretch.from().path.allocator())?;
+    Ok(has_ends_of(&opened, stretch) && is_stretch(&opened, steps, visits, levels))
+}
+
+/// The same of a copy of what is kept.
+fn opens_copied(
+    kept: &KeptStretch<'_>,
+    stretch: &Stretch<'_>,
+    steps: u32,
+    visits: &[&[u32]],
+    levels: &[u32],
+) -> Result<bool, AllocError> {
+    let copy = kept.copy()?;
+    Ok(kept.same(&copy) && opens_as(&copy, stretch, steps, visits, levels)?)
+}
+
+/// Whether what is kept of a stretch tells its ends, steps and visits, and its copy is the stretch again when it is opened.
+fn tells_kept(
+    kept: &KeptStretch<'_>,
+    stretch: &Stretch<'_>,
+    steps: u32,
+    visits: &[&[u32]],
+    levels: &[u32],
+) -> Result<bool, AllocError> {
+    let is_counted = kept.steps() == steps && kept.visited() == visits.len() as u64;
+    let is_there = has_kept_ends(kept, stretch)?;
+    Ok(is_counted && is_there && opens_copied(kept, stretch, steps, visits, levels)?)
+}
+
+/// The same of a stretch that is kept here.
 fn is_kept(
     stretch: &Stretch<'_>,
     steps: u32,
     visits: &[&[u32]],
     levels: &[u32],
-) -> Result<bool, Fail> {
-    let alloc = *stretch.from().path.allocator();
-    let Ok(kept) = KeptStretch::of(stretch.copy()?) else {
-        return Err(Fail::from("no memory"));
-    };
-    let from = kept.from(alloc)?;
-    let to = kept.to(alloc)?;
-    let copy = kept.copy()?;
-    let opened = copy.open(alloc)?;
-    let told = from.same(stretch.from()) && to.same(stretch.to()) && kept.steps() == steps;
-    let counted = kept.visited() == visits.len() as u64 && kept.same(&copy);
-    Ok(
-        told && counted
-            && has_ends_of(&opened, stretch)
-            && is_stretch(&opened, steps, visits, levels),
-    )
+) -> Result<bool, AllocError> {
+    match KeptStretch::of(stretch.copy()?) {
+        Ok(kept) => tells_kept(&kept, stretch, steps, visits, levels),
+        Err(_) => Err(AllocError),
+    }
 }
 
 fn hands_out<T: Table>(

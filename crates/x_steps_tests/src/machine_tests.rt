@@ -69,17 +69,13 @@ fn is_unbegun<T: Table>(machine: &mut Machine<T>) -> bool {
         && machine.table().covered().is_empty()
 }
 
-/// Walks a problem's run to its end and back.
-pub fn there_and_back(alloc: Global, problem: &Problem) -> Result<RoundTrip, Fail> {
-    let table = PlainTable::new(alloc, problem)?;
-    let mut machine = Machine::new(alloc, problem, table).map_err(|_| "out of memory")?;
+/// Walks a machine to the end of its run and back.
+fn round_trip<T: Table>(alloc: Global, machine: &mut Machine<T>) -> Result<RoundTrip, AllocError> {
     let mut states = Vec::new(alloc);
     let mut visits = Vec::new(alloc);
     let mut events = Vec::new(alloc);
-    forwards(&mut machine, &mut states, &mut visits, &mut events)?;
-    let is_undone = is_over(&mut machine)
-        && backwards(&mut machine, &states)
-        && is_unbegun(&mut machine);
+    forwards(machine, &mut states, &mut visits, &mut events)?;
+    let is_undone = is_over(machine) && backwards(machine, &states) && is_unbegun(machine);
     Ok(RoundTrip {
         states: states.len(),
         visits,
@@ -88,12 +84,26 @@ pub fn there_and_back(alloc: Global, problem: &Problem) -> Result<RoundTrip, Fai
     })
 }
 
+/// Walks a problem's run to its end and back.
+pub fn there_and_back(alloc: Global, problem: &Problem) -> Result<RoundTrip, Fail> {
+    let table = PlainTable::new(alloc, problem)?;
+    let mut machine = Machine::new(alloc, problem, table).map_err(|_| "out of memory")?;
+    Ok(round_trip(alloc, &mut machine)?)
+}
+
+/// No refusal of a state at which a machine stands.
+fn stands_at<T: Table>(machine: &Machine<T>, state: &State) -> Result<Option<u8>, Fail> {
+    if machine.state().same(state) {
+        return Ok(None);
+    }
+    Err(Fail::from("the machine stands elsewhere"))
+}
+
 /// The number of the refusal of a state; none where a machine stands there.
 fn refused_at(alloc: Global, problem: &Problem, state: &State) -> Result<Option<u8>, Fail> {
     let table = PlainTable::new(alloc, problem)?;
     match Machine::at(alloc, problem, table, state) {
-        Ok(machine) if machine.state().same(state) => Ok(None),
-        Ok(_) => Err(Fail::from("the machine stands elsewhere")),
+        Ok(machine) => stands_at(&machine, state),
         Err(refused) => Ok(refused.fault.number()),
     }
 }
@@ -118,16 +128,21 @@ struct Told {
     second: Vec<u32>,
 }
 
-/// What this machine tells.
-fn all_told<T: Table>(alloc: Global, machine: &Machine<T>) -> Result<Told, AllocError> {
+/// The chosen item with its options, if there is one, as such a list.
+fn flat_chosen<T: Table>(alloc: Global, machine: &Machine<T>) -> Result<Vec<u32>, AllocError> {
     let mut chosen = Vec::new(alloc);
     if let Some(row) = machine.chosen()? {
         chosen.push(row)?;
     }
+    flat(alloc, &chosen)
+}
+
+/// What this machine tells.
+fn all_told<T: Table>(alloc: Global, machine: &Machine<T>) -> Result<Told, AllocError> {
     Ok(Told {
         covered: Vec::from_slice(alloc, machine.covered())?,
         remaining: flat(alloc, &machine.remaining()?)?,
-        chosen: flat(alloc, &chosen)?,
+        chosen: flat_chosen(alloc, machine)?,
         second: flat(alloc, &machine.second()?)?,
     })
 }
@@ -147,14 +162,22 @@ fn told_at(alloc: Global, text: &str, state: &State) -> Result<Told, Fail> {
     told_in(alloc, &problem, state)
 }
 
+/// The same of the small problem.
+fn small_trip(alloc: Global) -> Result<RoundTrip, Fail> {
+    let problem = read_cover(alloc, SMALL.as_bytes())?;
+    there_and_back(alloc, &problem)
+}
+
+/// Whether it has the states and the one visit of the small problem.
+fn is_small_trip_right(alloc: Global) -> Result<bool, Fail> {
+    let trip = small_trip(alloc)?;
+    let is_whole = trip.is_finished && trip.is_undone;
+    Ok(is_whole && trip.states == 44 && trip.visits.as_slice() == [4, 5, 1, 0].as_slice())
+}
+
 #[test]
 fn each_step_is_taken_back(rt: HostRuntime) -> Result<(), Fail> {
-    let problem = read_cover(rt.alloc(), SMALL.as_bytes())?;
-    let trip = there_and_back(rt.alloc(), &problem)?;
-    assert!(rt; trip.states == 44);
-    assert!(rt; trip.visits.as_slice() == [4, 5, 1, 0].as_slice());
-    assert!(rt; trip.is_finished);
-    assert!(rt; trip.is_undone);
+    assert!(rt; is_small_trip_right(rt.alloc())?);
     Ok(())
 }
 
@@ -185,13 +208,25 @@ fn is_taken_so(
     Ok(refused_at(alloc, problem, &state)? == number)
 }
 
+/// Whether this is so of each row.
+fn are_taken_so(alloc: Global, problem: &Problem) -> Result<bool, Fail> {
+    for row in &STATES {
+        if !is_taken_so(alloc, problem, row)? {
+            return Ok(false);
+        }
+    }
+    Ok(true)
+}
+
+/// The same of the small problem.
+fn are_small_taken_so(alloc: Global) -> Result<bool, Fail> {
+    let problem = read_cover(alloc, SMALL.as_bytes())?;
+    are_taken_so(alloc, &problem)
+}
+
 #[test]
 fn states_of_the_search_are_taken(rt: HostRuntime) -> Result<(), Fail> {
-    let alloc = rt.alloc();
-    let problem = read_cover(alloc, SMALL.as_bytes())?;
-    for row in &STATES {
-        assert!(rt; is_taken_so(alloc, &problem, row)?);
-    }
+    assert!(rt; are_small_taken_so(rt.alloc())?);
     Ok(())
 }
 
@@ -248,17 +283,32 @@ fn flat_paths(alloc: Global, paths: &Lists) -> Result<Vec<u32>, AllocError> {
     Ok(list)
 }
 
-#[test]
-fn paths_keep_their_order(rt: HostRuntime) -> Result<(), Fail> {
-    let mut paths = Lists::new(rt.alloc());
-    paths.push(&[4, 5, 1])?;
-    paths.push(&[])?;
+/// Adds the paths that there are once more, and one behind them.
+fn append_copy(paths: &mut Lists) -> Result<(), AllocError> {
     let mut more = paths.copy()?;
     more.push(&[2])?;
     more.push(&[7])?;
     more.pop();
-    paths.append(&more)?;
-    let wanted = [4, 5, 1, 0, 0, 4, 5, 1, 0, 0, 2, 0];
-    assert!(rt; flat_paths(rt.alloc(), &paths)?.as_slice() == wanted.as_slice());
+    paths.append(&more)
+}
+
+/// Two paths, and then these and another one again.
+fn five_paths(alloc: Global) -> Result<Lists, AllocError> {
+    let mut paths = Lists::new(alloc);
+    paths.push(&[4, 5, 1])?;
+    paths.push(&[])?;
+    append_copy(&mut paths)?;
+    Ok(paths)
+}
+
+/// Whether they come in this order.
+fn are_five_in_order(alloc: Global) -> Result<bool, AllocError> {
+    let paths = flat_paths(alloc, &five_paths(alloc)?)?;
+    Ok(paths.as_slice() == [4, 5, 1, 0, 0, 4, 5, 1, 0, 0, 2, 0].as_slice())
+}
+
+#[test]
+fn paths_keep_their_order(rt: HostRuntime) -> Result<(), Fail> {
+    assert!(rt; are_five_in_order(rt.alloc())?);
     Ok(())
 }

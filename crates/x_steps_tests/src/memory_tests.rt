@@ -80,29 +80,39 @@ fn covers_and_goes_about<T: Table>(
 }
 
 /// One growth, which is told where it is refused.
-fn grows(alloc: Global) -> Result<(), Fail> {
+fn grows(alloc: Global, refused: &'static str) -> Result<(), Fail> {
     match vec![in alloc; 0u8; 1] {
         Ok(_) => Ok(()),
-        Err(_) => Err(Fail::from("refused behind the steps")),
+        Err(_) => Err(Fail::from(refused)),
     }
+}
+
+/// Whether a table of this kind goes about in the small problem as it should, with one growth behind all that.
+fn is_gone_about<T: Table>(alloc: Global, problem: &Problem) -> Result<bool, Fail> {
+    if problem.items() != 7 {
+        return Ok(false);
+    }
+    let went = covers_and_goes_about::<T>(alloc, problem)?;
+    grows(alloc, "refused behind the steps")?;
+    Ok(went == (true, 13, 43))
+}
+
+/// The same, where the small problem is made here.
+fn is_small_gone_about<T: Table>(alloc: Global) -> Result<bool, Fail> {
+    let problem = read_cover(alloc, SMALL.as_bytes())?;
+    is_gone_about::<T>(alloc, &problem)
 }
 
 #[test]
 fn a_table_of_links_takes_no_memory(rt: HostRuntime) -> Result<(), Fail> {
-    let problem = read_cover(rt.alloc(), SMALL.as_bytes())?;
-    assert!(rt; problem.items() == 7);
-    let went = covers_and_goes_about::<LinkTable>(rt.alloc(), &problem)?;
-    assert!(rt; went == (true, 13, 43));
-    grows(rt.alloc())
+    assert!(rt; is_small_gone_about::<LinkTable>(rt.alloc())?);
+    Ok(())
 }
 
 #[test]
 fn a_plain_table_takes_no_memory(rt: HostRuntime) -> Result<(), Fail> {
-    let problem = read_cover(rt.alloc(), SMALL.as_bytes())?;
-    assert!(rt; problem.items() == 7);
-    let went = covers_and_goes_about::<PlainTable>(rt.alloc(), &problem)?;
-    assert!(rt; went == (true, 13, 43));
-    grows(rt.alloc())
+    assert!(rt; is_small_gone_about::<PlainTable>(rt.alloc())?);
+    Ok(())
 }
 
 /// The table of links of a problem, on a second try where the first is refused. None where the second is, too, and where the problem
@@ -125,13 +135,18 @@ fn assert_made(rt: &impl Abort, table: Option<LinkTable>) {
     }
 }
 
+/// Tells what is wrong with the small problem's table, on a second try where the first is refused.
+fn assert_made_again(rt: &impl Abort, alloc: Global, problem: &Problem) -> Result<(), Fail> {
+    let copy = problem.copy()?;
+    grows(alloc, "refused before the call")?;
+    assert_made(rt, table_again(alloc, problem, &copy));
+    Ok(())
+}
+
 #[test]
 fn a_refused_table_is_made_again(rt: HostRuntime) -> Result<(), Fail> {
     let problem = read_cover(rt.alloc(), SMALL.as_bytes())?;
-    let copy = problem.copy()?;
-    let _last = vec![in rt.alloc(); 0u8; 1].map_err(|_| "refused before the call")?;
-    assert_made(&rt, table_again(rt.alloc(), &problem, &copy));
-    Ok(())
+    assert_made_again(&rt, rt.alloc(), &problem)
 }
 
 /// Whether a table is that of the small problem, with nothing covered.
@@ -160,24 +175,41 @@ fn machine_again<'p>(
     Machine::new(alloc, problem, table).ok()
 }
 
-/// Whether a machine of a problem that was made goes about as one to which nothing is refused.
-fn is_made(problem: &Problem, machine: Option<Machine<LinkTable>>, counts: &mut [u32]) -> bool
-    requires machine { IfSome machine (λ m. m.problem ≡ problem.now) }
+/// Whether the machine over a table, made on a second try where the first is refused, goes about as one to which nothing is refused.
+fn is_made(alloc: Global, problem: &Problem, table: LinkTable, counts: &mut [u32]) -> bool
+    requires same_problem { table.problem ≡ problem.now }
+    requires covered { table.covered ≡ [] }
     requires counts { counts.old ≡ replicate (length problem.now.names + 1) 0 }
 {
-    match machine {
+    match machine_again(alloc, problem, table) {
         Some(mut machine) => walks_about(&mut machine, counts) == (true, 13, 43),
         None => false,
     }
 }
 
+/// The same of the machine over a new table, with one growth before it is made.
+fn is_made_anew(alloc: Global, problem: &Problem, counts: &mut [u32]) -> Result<bool, Fail>
+    requires { counts.old ≡ replicate (length problem.now.names + 1) 0 }
+{
+    let table = LinkTable::new(alloc, problem)?;
+    grows(alloc, "refused before the call")?;
+    Ok(is_made(alloc, problem, table, counts))
+}
+
+/// The same with no states counted yet.
+fn is_made_uncounted(alloc: Global, problem: &Problem) -> Result<bool, Fail> {
+    let mut counts = no_counts(alloc, problem.items())?;
+    is_made_anew(alloc, problem, &mut counts)
+}
+
+/// The same of the small problem.
+fn is_small_made(alloc: Global) -> Result<bool, Fail> {
+    let problem = read_cover(alloc, SMALL.as_bytes())?;
+    is_made_uncounted(alloc, &problem)
+}
+
 #[test]
 fn a_refused_machine_gives_its_table_back(rt: HostRuntime) -> Result<(), Fail> {
-    let problem = read_cover(rt.alloc(), SMALL.as_bytes())?;
-    let table = LinkTable::new(rt.alloc(), &problem)?;
-    let mut counts = no_counts(rt.alloc(), problem.items())?;
-    let _last = vec![in rt.alloc(); 0u8; 1].map_err(|_| "refused before the call")?;
-    let machine = machine_again(rt.alloc(), &problem, table);
-    assert!(rt; is_made(&problem, machine, &mut counts));
+    assert!(rt; is_small_made(rt.alloc())?);
     Ok(())
 }

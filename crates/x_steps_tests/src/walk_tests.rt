@@ -58,13 +58,25 @@ fn begins_so(alloc: Global, problem: &Problem, row: &Row) -> Result<bool, Fail> 
     Ok(walks_so(alloc, &mut machine, row)?)
 }
 
+/// Whether this is so of each row.
+fn stops_so(alloc: Global, problem: &Problem) -> Result<bool, Fail> {
+    for row in &WALKS {
+        if !begins_so(alloc, problem, row)? {
+            return Ok(false);
+        }
+    }
+    Ok(true)
+}
+
+/// The same of the small problem.
+fn small_stops_so(alloc: Global) -> Result<bool, Fail> {
+    let problem = read_cover(alloc, SMALL.as_bytes())?;
+    stops_so(alloc, &problem)
+}
+
 #[test]
 fn a_walk_stops_where_it_should(rt: HostRuntime) -> Result<(), Fail> {
-    let alloc = rt.alloc();
-    let problem = read_cover(alloc, SMALL.as_bytes())?;
-    for row in &WALKS {
-        assert!(rt; begins_so(alloc, &problem, row)?);
-    }
+    assert!(rt; small_stops_so(rt.alloc())?);
     Ok(())
 }
 
@@ -81,30 +93,31 @@ fn goes_on_so<T: Table>(
     }
 }
 
-/// Whether a machine walks to the small problem's visit and on to the end; and whether it then goes no
-/// further.
-fn goes_on<T: Table>(alloc: Global, machine: &mut Machine<T>) -> Result<(bool, bool), AllocError> {
+/// Whether a machine walks to the small problem's visit, on to the end, and then no further.
+fn goes_on<T: Table>(alloc: Global, machine: &mut Machine<T>) -> Result<bool, AllocError> {
     for (steps, event) in [(30, Event::Visited), (13, Event::Finished)] {
         if !goes_on_so(alloc, machine, steps, event)? {
-            return Ok((false, false));
+            return Ok(false);
         }
     }
-    Ok((true, walk_on(alloc, machine, 100, &[])?.is_none()))
+    Ok(walk_on(alloc, machine, 100, &[])?.is_none())
 }
 
 /// The same of a new machine.
-fn goes_on_anew(alloc: Global, problem: &Problem) -> Result<(bool, bool), Fail> {
+fn goes_on_anew(alloc: Global, problem: &Problem) -> Result<bool, Fail> {
     let mut machine = machine_of(alloc, problem)?;
     Ok(goes_on(alloc, &mut machine)?)
 }
 
+/// The same of the small problem, as it has to be.
+fn small_goes_on(alloc: Global) -> Result<bool, Fail> {
+    let problem = read_cover(alloc, SMALL.as_bytes())?;
+    goes_on_anew(alloc, &problem)
+}
+
 #[test]
 fn a_walk_goes_on_after_a_visit(rt: HostRuntime) -> Result<(), Fail> {
-    let alloc = rt.alloc();
-    let problem = read_cover(alloc, SMALL.as_bytes())?;
-    let (goes_on, is_over) = goes_on_anew(alloc, &problem)?;
-    assert!(rt; goes_on);
-    assert!(rt; is_over);
+    assert!(rt; small_goes_on(rt.alloc())?);
     Ok(())
 }
 
@@ -140,9 +153,19 @@ fn walk_as_steps<T: Table>(
     Ok(false)
 }
 
+/// The same beside a machine that is made here.
+fn walks_beside(
+    alloc: Global,
+    problem: &Problem,
+    machine: &mut Machine<PlainTable>,
+    most: u32,
+) -> Result<bool, Fail> {
+    let mut stepper = machine_of(alloc, problem)?;
+    Ok(walk_as_steps(alloc, machine, &mut stepper, most)?)
+}
+
 /// Whether a problem's run is the same by walks of so many steps as by single ones.
 pub fn walks_as_steps(alloc: Global, problem: &Problem, most: u32) -> Result<bool, Fail> {
     let mut machine = machine_of(alloc, problem)?;
-    let mut stepper = machine_of(alloc, problem)?;
-    Ok(walk_as_steps(alloc, &mut machine, &mut stepper, most)?)
+    walks_beside(alloc, problem, &mut machine, most)
 }

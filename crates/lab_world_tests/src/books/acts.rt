@@ -1,11 +1,11 @@
 //! Calls of a book as rows of a table, each answered by the number of its refusal.
 
-use cover_problem::Problem;
+use cover_problem::{PlainTable, Problem};
 use drawn_books::{advance, cut_of, ended, given_lease, lease_of, stretch_of, whole};
 use lab_book::{Book, BookFault, Lease, Leased};
 use std::alloc::Global;
 use std::test::Fail;
-use x_branches::{Cut, Stretch};
+use x_branches::{Cut, Runner, RunnerFault, Stretch};
 use x_steps::Refused;
 
 /// Another problem than the small one: an item and two options.
@@ -54,16 +54,26 @@ fn make_tiles<'p>(
     Ok(())
 }
 
-/// The lease of these parts, whether or not the tested book gave it: of a second book, of a problem with an item and two options, where
-/// refused calls add entries until the next one is that which the lease names.
-fn lease(alloc: Global, problem: &Problem, given: Given) -> Result<Lease, Fail> {
+/// The lease of these parts that a new book of a problem with an item and two options gives: refused calls add entries until the next
+/// one is that which the lease names.
+fn lease_of_new<'p>(
+    alloc: Global,
+    problem: &'p Problem,
+    book: &mut Book<'p>,
+    given: Given,
+) -> Result<Lease, Fail> {
     let (id, worker, index) = given;
-    let mut book = Book::new(alloc, problem)?;
-    make_tiles(alloc, problem, &mut book, id)?;
+    make_tiles(alloc, problem, book, id)?;
     for _ in book.history().len() as u64..index {
         let _refused = book.request_stop(0, 99);
     }
     given_lease(book.lease(worker % 32, id))
+}
+
+/// The lease of these parts, whether or not the tested book gave it: a second book, of a problem with an item and two options, gives it.
+fn lease(alloc: Global, problem: &Problem, given: Given) -> Result<Lease, Fail> {
+    let mut book = Book::new(alloc, problem)?;
+    lease_of_new(alloc, problem, &mut book, given)
 }
 
 /// The fault of a refusal.
@@ -101,6 +111,18 @@ fn lease_any(book: &mut Book<'_>, worker: u8) -> Result<Option<u8>, Fail> {
     }
 }
 
+/// Takes so many steps, and hands out so many others behind them, as far as there are any.
+fn walked_up_to<'p>(
+    runner: &mut Runner<'p, PlainTable>,
+    from: u32,
+    steps: u32,
+) -> Result<Stretch<'p>, Fail> {
+    let _is_short = advance(runner, from);
+    let _before = runner.take_stretch()?;
+    let _is_short = advance(runner, steps);
+    Ok(runner.take_stretch()?)
+}
+
 /// The stretch of so many steps that begins so many steps after X1, as far as there are any.
 fn stretch_up_to<'p>(
     alloc: Global,
@@ -109,10 +131,7 @@ fn stretch_up_to<'p>(
     steps: u32,
 ) -> Result<Stretch<'p>, Fail> {
     let mut runner = whole(alloc, problem)?;
-    let _is_short = advance(&mut runner, from);
-    let _before = runner.take_stretch()?;
-    let _is_short = advance(&mut runner, steps);
-    Ok(runner.take_stretch()?)
+    walked_up_to(&mut runner, from, steps)
 }
 
 /// Posts a stretch.
@@ -136,6 +155,18 @@ fn retract(book: &mut Book<'_>, lease: Lease) -> Option<u8> {
     answer
 }
 
+/// Puts a tile back to the state to which so many steps lead.
+fn put_back_after(
+    runner: &mut Runner<'_, PlainTable>,
+    book: &mut Book<'_>,
+    worker: u8,
+    id: u64,
+    steps: u32,
+) -> Result<Option<u8>, RunnerFault> {
+    advance(runner, steps)?;
+    Ok(number(book.put_back(worker % 32, id, runner.state())))
+}
+
 /// Puts a tile back to the state after so many steps of the run.
 fn put_back(
     alloc: Global,
@@ -146,8 +177,7 @@ fn put_back(
     steps: u32,
 ) -> Result<Option<u8>, Fail> {
     let mut runner = whole(alloc, problem)?;
-    advance(&mut runner, steps)?;
-    Ok(number(book.put_back(worker % 32, id, runner.state())))
+    Ok(put_back_after(&mut runner, book, worker, id, steps)?)
 }
 
 /// Makes a call: the number of the refusal, or 0.

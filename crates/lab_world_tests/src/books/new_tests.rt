@@ -34,7 +34,7 @@ fn finishes_small(alloc: Global, other: &[u8], rows: &[(Act, u8)]) -> Result<boo
 }
 
 /// The whole run by two workers, one after the other, with each refusal that comes on the way.
-const WHOLE: [(Act, u8); 17] = [
+static WHOLE: [(Act, u8); 17] = [
     (Act::Lease(1, 7), 1),
     (Act::TakeHeld(1, 0), 2),
     (Act::LeaseAny(0), 0),
@@ -61,7 +61,7 @@ fn the_run_is_posted_and_closed(rt: HostRuntime) -> Result<(), Fail> {
 }
 
 /// A tile that is asked to stop, posted in three parts, and put back.
-const STOPPED: [(Act, u8); 24] = [
+static STOPPED: [(Act, u8); 24] = [
     (Act::LeaseAny(0), 0),
     (Act::Retract((0, 0, 0)), 9),
     (Act::Post((0, 0, 0), 0, 5), 0),
@@ -95,7 +95,7 @@ fn a_tile_is_stopped_and_put_back(rt: HostRuntime) -> Result<(), Fail> {
 }
 
 /// The run by two workers, parted at the cut 4, with each refusal of a split.
-const PARTED: [(Act, u8); 14] = [
+static PARTED: [(Act, u8); 14] = [
     (Act::LeaseAny(0), 0),
     (Act::Split((0, 0, 0), 4), 0),
     (Act::Split((0, 0, 0), 4), 6),
@@ -122,7 +122,7 @@ fn a_tile_is_split(rt: HostRuntime) -> Result<(), Fail> {
 const ALONE: &[u8] = b"items a";
 
 /// That run is posted before the right one.
-const FOREIGN: [(Act, u8); 4] = [
+static FOREIGN: [(Act, u8); 4] = [
     (Act::LeaseAny(0), 0),
     (Act::PostForeign((0, 0, 0), 0, 7), 4),
     (Act::Post((0, 0, 0), 0, 43), 0),

@@ -68,7 +68,7 @@ fn goes_on(alloc: Global, opening: Opening, rows: &[(Act, u8)], done: Done) -> R
 }
 
 /// Before the cut 4: a stretch that ends after the tile, and one that ends with it.
-const TO_FOUR: (Opening, [(Act, u8); 5], Done) = (
+static TO_FOUR: (Opening, [(Act, u8); 5], Done) = (
     Opening {
         lo: &[],
         hi: &[4],
@@ -91,13 +91,13 @@ const TO_FOUR: (Opening, [(Act, u8); 5], Done) = (
 
 #[test]
 fn a_part_of_the_run_is_posted(rt: HostRuntime) -> Result<(), Fail> {
-    let (opening, rows, done) = TO_FOUR;
-    assert!(rt; goes_on(rt.alloc(), opening, &rows, done)?);
+    let (opening, rows, done) = &TO_FOUR;
+    assert!(rt; goes_on(rt.alloc(), *opening, rows, *done)?);
     Ok(())
 }
 
 /// After the cut 4, at the visit: the last 14 steps.
-const FROM_THE_VISIT: (Opening, [(Act, u8); 4], Done) = (
+static FROM_THE_VISIT: (Opening, [(Act, u8); 4], Done) = (
     Opening {
         lo: &[4],
         hi: &[],
@@ -119,13 +119,13 @@ const FROM_THE_VISIT: (Opening, [(Act, u8); 4], Done) = (
 
 #[test]
 fn a_search_goes_on_where_it_was(rt: HostRuntime) -> Result<(), Fail> {
-    let (opening, rows, done) = FROM_THE_VISIT;
-    assert!(rt; goes_on(rt.alloc(), opening, &rows, done)?);
+    let (opening, rows, done) = &FROM_THE_VISIT;
+    assert!(rt; goes_on(rt.alloc(), *opening, rows, *done)?);
     Ok(())
 }
 
 /// Where no book goes on: below which choices at X2, in the branch from the cut 4 on, and why.
-const NO_STARTS: [(&[u32], StartFault); 2] = [
+static NO_STARTS: [(&[u32], StartFault); 2] = [
     (&[2], StartFault::Runner(RunnerFault::OutsideBranch)),
     (&[3], StartFault::Steps(AtFault::NotAState)),
 ];
@@ -148,11 +148,16 @@ fn no_start(
     }
 }
 
+/// The same of the small problem.
+fn no_small_start(alloc: Global, path: &'static [u32]) -> Result<Option<StartFault>, Fail> {
+    let problem = read_cover(alloc, SMALL.as_bytes())?;
+    no_start(alloc, &problem, path)
+}
+
 #[test]
 fn a_search_goes_on_within_its_branch(rt: HostRuntime) -> Result<(), Fail> {
-    let problem = read_cover(rt.alloc(), SMALL.as_bytes())?;
     for (path, fault) in NO_STARTS {
-        assert!(rt; no_start(rt.alloc(), &problem, path)? == Some(fault));
+        assert!(rt; no_small_start(rt.alloc(), path)? == Some(fault));
     }
     Ok(())
 }

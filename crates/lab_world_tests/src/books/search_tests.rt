@@ -262,13 +262,18 @@ fn any_lease(given: Option<Leased<'_>>) -> Result<Lease, Fail> {
     }
 }
 
-/// Whether rows hold of a search of a new book, and its tile is closed then, or isn't.
-fn ends(alloc: Global, problem: &Problem, rows: &[Row], closes: bool) -> Result<bool, Fail> {
-    let mut book = Book::new(alloc, problem)?;
+/// Whether rows hold of a search of a book's tile, and it is closed then, or isn't.
+fn ends(alloc: Global, book: &mut Book<'_>, rows: &[Row], closes: bool) -> Result<bool, Fail> {
     let lease = any_lease(book.lease_any(0)?)?;
-    let held = searches(alloc, &mut book, &lease, rows);
+    let held = searches(alloc, book, &lease, rows);
     let is_closed = is_ended(book.close(lease));
     Ok(held? && is_closed == closes)
+}
+
+/// The same of a new book.
+fn ends_anew(alloc: Global, problem: &Problem, rows: &[Row], closes: bool) -> Result<bool, Fail> {
+    let mut book = Book::new(alloc, problem)?;
+    ends(alloc, &mut book, rows, closes)
 }
 
 /// Five steps are posted, and again.
@@ -323,7 +328,7 @@ static SEARCHES: [(&[Row], bool); 4] = [
 /// Tells a search that is answered otherwise.
 fn assert_searches(rt: &impl Abort, alloc: Global, problem: &Problem) -> Result<(), Fail> {
     for (rows, closes) in SEARCHES {
-        assert!(rt; ends(alloc, problem, rows, closes)?);
+        assert!(rt; ends_anew(alloc, problem, rows, closes)?);
     }
     Ok(())
 }
@@ -335,42 +340,57 @@ fn a_search_is_answered_call_by_call(rt: HostRuntime) -> Result<(), Fail> {
 }
 
 /// Five steps are posted by the lease of another book.
-const BY_ANOTHER_LEASE: [Row; 3] = [
+static BY_ANOTHER_LEASE: [Row; 3] = [
     Row::Advances(5),
     Row::Posts(Answer::Stale(Label::X1, &[])),
     Row::HasPosted(0, 0),
 ];
 
-/// A new book, of which worker 1 has leased the tile.
-fn leased<'p>(alloc: Global, problem: &'p Problem) -> Result<Book<'p>, Fail> {
-    let mut book = Book::new(alloc, problem)?;
+/// Leases a book's tile to worker 1, which never ends it.
+fn take_tile(book: &mut Book<'_>) -> Result<(), Fail> {
     any_lease(book.lease_any(1)?)?.discard();
-    Ok(book)
+    Ok(())
 }
 
 /// Whether rows hold of a search of a book by the lease of another one, which then parks the tile that it names there.
 fn parks(
     alloc: Global,
-    problem: &Problem,
+    own: &mut Book<'_>,
     book: &mut Book<'_>,
     rows: &[Row],
 ) -> Result<bool, Fail> {
-    let mut own = Book::new(alloc, problem)?;
     let lease = any_lease(own.lease_any(0)?)?;
     let held = searches(alloc, book, &lease, rows);
     let is_parked = is_ended(own.park(lease));
     Ok(held? && is_parked)
 }
 
-/// Whether the lease of one book is stale in another one.
+/// The same of another one that is made here.
+fn parks_in_new(
+    alloc: Global,
+    problem: &Problem,
+    book: &mut Book<'_>,
+    rows: &[Row],
+) -> Result<bool, Fail> {
+    let mut own = Book::new(alloc, problem)?;
+    parks(alloc, &mut own, book, rows)
+}
+
+/// Whether the lease of one book is stale in another one, whose tile is leased.
 fn is_stale(alloc: Global, problem: &Problem) -> Result<bool, Fail> {
-    let mut book = leased(alloc, problem)?;
-    parks(alloc, problem, &mut book, &BY_ANOTHER_LEASE)
+    let mut book = Book::new(alloc, problem)?;
+    take_tile(&mut book)?;
+    parks_in_new(alloc, problem, &mut book, &BY_ANOTHER_LEASE)
+}
+
+/// The same of books of the small problem.
+fn is_small_stale(alloc: Global) -> Result<bool, Fail> {
+    let problem = read_cover(alloc, SMALL.as_bytes())?;
+    is_stale(alloc, &problem)
 }
 
 #[test]
 fn a_lease_of_another_book_is_stale(rt: HostRuntime) -> Result<(), Fail> {
-    let problem = read_cover(rt.alloc(), SMALL.as_bytes())?;
-    assert!(rt; is_stale(rt.alloc(), &problem)?);
+    assert!(rt; is_small_stale(rt.alloc())?);
     Ok(())
 }

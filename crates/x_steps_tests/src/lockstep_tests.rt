@@ -123,23 +123,39 @@ fn is_finished(walk: &Walk) -> bool {
     }
 }
 
-/// How many steps a machine takes, if with either table it tells the same on its way to Done, and again on
-/// its way back to X1.
-fn steps_of_both(alloc: Global, problem: &Problem) -> Result<Option<usize>, AllocError> {
-    let pair = walks::<PlainTable>(alloc, problem)?;
-    let (on, back) = &pair;
-    let same = (on.seen == back.seen)
-        && is_finished(on)
-        && on.refused == Some(StepFault::Done)
-        && back.refused == Some(StepFault::AtFirst)
-        && pair == walks::<LinkTable>(alloc, problem)?;
-    Ok(if same { Some(on.events.len()) } else { None })
+/// Whether this is the way of a machine with links to Done, and so again back to X1.
+fn are_walks(alloc: Global, problem: &Problem, pair: &(Walk, Walk)) -> Result<bool, AllocError> {
+    let (on, back) = pair;
+    Ok(
+        (on.seen == back.seen)
+            && is_finished(on)
+            && on.refused == Some(StepFault::Done)
+            && back.refused == Some(StepFault::AtFirst)
+            && *pair == walks::<LinkTable>(alloc, problem)?,
+    )
 }
 
-/// How many steps both tables make of the problem of a text; 100,000 where they differ.
+/// How many steps a machine takes, if with either table it tells the same on its way to Done, and again on
+/// its way back to X1; else 100,000.
+fn steps_of_both(alloc: Global, problem: &Problem) -> Result<usize, AllocError> {
+    let pair = walks::<PlainTable>(alloc, problem)?;
+    let are_same = are_walks(alloc, problem, &pair)?;
+    Ok(if are_same {
+        pair.0.events.len()
+    } else {
+        100_000
+    })
+}
+
+/// The same, with the error of a test.
+fn steps_of(alloc: Global, problem: &Problem) -> Result<usize, Fail> {
+    Ok(steps_of_both(alloc, problem)?)
+}
+
+/// How many steps both tables make of the problem of a text.
 fn steps_of_text(alloc: Global, text: &str) -> Result<usize, Fail> {
     let problem = read_cover(alloc, text.as_bytes())?;
-    Ok(steps_of_both(alloc, &problem)?.unwrap_or(100_000))
+    steps_of(alloc, &problem)
 }
 
 /// The same of a text that is drawn.

@@ -147,11 +147,16 @@ fn all_told<T: Table>(alloc: Global, machine: &Machine<T>) -> Result<Told, Alloc
     })
 }
 
+/// The same, with the error of a test.
+fn told_by<T: Table>(alloc: Global, machine: &Machine<T>) -> Result<Told, Fail> {
+    Ok(all_told(alloc, machine)?)
+}
+
 /// What a machine tells that stands at a state of a problem.
 fn told_in(alloc: Global, problem: &Problem, state: &State) -> Result<Told, Fail> {
     let table = PlainTable::new(alloc, problem)?;
     match Machine::at(alloc, problem, table, state) {
-        Ok(machine) => Ok(all_told(alloc, &machine)?),
+        Ok(machine) => told_by(alloc, &machine),
         Err(_) => Err(Fail::from("no machine")),
     }
 }

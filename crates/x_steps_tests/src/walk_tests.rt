@@ -38,11 +38,7 @@ static WALKS: [Row; 5] = [
 ];
 
 /// Whether a machine walks as a row tells.
-fn walks_so<T: Table>(
-    alloc: Global,
-    machine: &mut Machine<T>,
-    row: &Row,
-) -> Result<bool, AllocError> {
+fn walks_so<T: Table>(alloc: Global, machine: &mut Machine<T>, row: &Row) -> Result<bool, Fail> {
     let (most, end, steps, event, levels) = *row;
     match walk_on(alloc, machine, most, end)? {
         Some((walk, counts)) => {
@@ -55,7 +51,7 @@ fn walks_so<T: Table>(
 /// Whether the first walk in a problem's run is as a row tells.
 fn begins_so(alloc: Global, problem: &Problem, row: &Row) -> Result<bool, Fail> {
     let mut machine = machine_of(alloc, problem)?;
-    Ok(walks_so(alloc, &mut machine, row)?)
+    walks_so(alloc, &mut machine, row)
 }
 
 /// Whether this is so of each row.
@@ -94,7 +90,7 @@ fn goes_on_so<T: Table>(
 }
 
 /// Whether a machine walks to the small problem's visit, on to the end, and then no further.
-fn goes_on<T: Table>(alloc: Global, machine: &mut Machine<T>) -> Result<bool, AllocError> {
+fn goes_on<T: Table>(alloc: Global, machine: &mut Machine<T>) -> Result<bool, Fail> {
     for (steps, event) in [(30, Event::Visited), (13, Event::Finished)] {
         if !goes_on_so(alloc, machine, steps, event)? {
             return Ok(false);
@@ -106,7 +102,7 @@ fn goes_on<T: Table>(alloc: Global, machine: &mut Machine<T>) -> Result<bool, Al
 /// The same of a new machine.
 fn goes_on_anew(alloc: Global, problem: &Problem) -> Result<bool, Fail> {
     let mut machine = machine_of(alloc, problem)?;
-    Ok(goes_on(alloc, &mut machine)?)
+    goes_on(alloc, &mut machine)
 }
 
 /// The same of the small problem, as it has to be.
@@ -139,7 +135,7 @@ fn walk_as_steps<T: Table>(
     machine: &mut Machine<T>,
     stepper: &mut Machine<T>,
     most: u32,
-) -> Result<bool, AllocError> {
+) -> Result<bool, Fail> {
     for _ in 0..100_000 {
         match walk_on(alloc, machine, most, &[])? {
             None => return Ok(stepper.step() == Err(StepFault::Done)),
@@ -161,7 +157,7 @@ fn walks_beside(
     most: u32,
 ) -> Result<bool, Fail> {
     let mut stepper = machine_of(alloc, problem)?;
-    Ok(walk_as_steps(alloc, machine, &mut stepper, most)?)
+    walk_as_steps(alloc, machine, &mut stepper, most)
 }
 
 /// Whether a problem's run is the same by walks of so many steps as by single ones.

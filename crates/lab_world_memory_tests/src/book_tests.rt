@@ -203,7 +203,7 @@ fn is_made<'p>(book: &mut Book<'p>, lease: &Lease, call: Call<'p>, before: &Book
     }
 }
 
-/// The same of what is asked.
+/// Whether what is asked of a book is made, on a second try where the first is refused.
 fn is_asked_of<'p>(
     alloc: Global,
     problem: &'p Problem,
@@ -216,7 +216,7 @@ fn is_asked_of<'p>(
     Ok(is_made(book, lease, call, before))
 }
 
-/// The same, with one growth before the call.
+/// The same behind one growth, which tells where the call begins.
 fn is_asked_last<'p>(
     alloc: Global,
     problem: &'p Problem,

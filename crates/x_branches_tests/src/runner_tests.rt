@@ -27,9 +27,8 @@ enum Row {
     Shortens(usize, u32),
     /// The stretch that is taken out is joined again, with all its steps.
     Rejoins,
-    /// The stretch that is taken out, its copy, and what is kept of it have so many steps, these visits, and so many X2 states
-    /// at each level.
-    HandsOut(u32, &'static [&'static [u32]], &'static [u32]),
+    /// The stretch that is taken out, its copy, and what is kept of it have these parts.
+    HandsOut(Parts),
 }
 
 impl Row {
@@ -45,7 +44,7 @@ impl Row {
             Row::Cut(level, option, fault) => Ok(runner.cut(*level, *option).err() == *fault),
             Row::Shortens(level, option) => Ok(shortens(runner, *level, *option)),
             Row::Rejoins => rejoins(runner),
-            Row::HandsOut(steps, visits, levels) => hands_out(runner, *steps, visits, levels),
+            Row::HandsOut(parts) => hands_out(runner, *parts),
         }
     }
 }
@@ -101,17 +100,25 @@ fn rejoins<T: Table>(runner: &mut Runner<'_, T>) -> Result<bool, Fail> {
     Ok(refusal(runner.reopen(stretch)).is_none() && runner.unposted() == steps)
 }
 
-/// Whether a stretch has so many steps, these visits, and so many X2 states at each level.
-fn is_stretch(stretch: &Stretch<'_>, steps: u32, visits: &[&[u32]], levels: &[u32]) -> bool {
-    if stretch.visits().len() != visits.len() {
+/// What a stretch has: so many steps, these visits, and so many X2 states at each level.
+#[derive(Clone, Copy)]
+struct Parts {
+    steps: u32,
+    visits: &'static [&'static [u32]],
+    levels: &'static [u32],
+}
+
+/// Whether a stretch has these parts.
+fn is_stretch(stretch: &Stretch<'_>, parts: Parts) -> bool {
+    if stretch.visits().len() != parts.visits.len() {
         return false;
     }
-    for (place, visit) in visits.iter().enumerate() {
+    for (place, visit) in parts.visits.iter().enumerate() {
         if stretch.visits().list(place) != *visit {
             return false;
         }
     }
-    stretch.steps() == steps && stretch.levels() == levels
+    stretch.steps() == parts.steps && stretch.levels() == parts.levels
 }
 
 /// Whether a stretch begins and ends where another of its problem does.
@@ -121,18 +128,9 @@ fn has_ends_of(stretch: &Stretch<'_>, other: &Stretch<'_>) -> bool {
 }
 
 /// The same of a stretch and its copy, which has its ends.
-fn is_copied(
-    stretch: &Stretch<'_>,
-    steps: u32,
-    visits: &[&[u32]],
-    levels: &[u32],
-) -> Result<bool, Fail> {
+fn is_copied(stretch: &Stretch<'_>, parts: Parts) -> Result<bool, Fail> {
     let copy = stretch.copy()?;
-    Ok(
-        has_ends_of(&copy, stretch)
-            && is_stretch(stretch, steps, visits, levels)
-            && is_stretch(&copy, steps, visits, levels),
-    )
+    Ok(has_ends_of(&copy, stretch) && is_stretch(stretch, parts) && is_stretch(&copy, parts))
 }
 
 /// Whether what is kept of a stretch begins and ends where it does.
@@ -145,61 +143,45 @@ fn has_kept_ends(kept: &KeptStretch<'_>, stretch: &Stretch<'_>) -> Result<bool, 
 fn opens_as(
     kept: &KeptStretch<'_>,
     stretch: &Stretch<'_>,
-    steps: u32,
-    visits: &[&[u32]],
-    levels: &[u32],
+    parts: Parts,
 ) -> Result<bool, AllocError> {
     let opened = kept.open(*stretch.from().path.allocator())?;
-    Ok(has_ends_of(&opened, stretch) && is_stretch(&opened, steps, visits, levels))
+    Ok(has_ends_of(&opened, stretch) && is_stretch(&opened, parts))
 }
 
 /// The same of a copy of what is kept.
 fn opens_copied(
     kept: &KeptStretch<'_>,
     stretch: &Stretch<'_>,
-    steps: u32,
-    visits: &[&[u32]],
-    levels: &[u32],
+    parts: Parts,
 ) -> Result<bool, AllocError> {
     let copy = kept.copy()?;
-    Ok(kept.same(&copy) && opens_as(&copy, stretch, steps, visits, levels)?)
+    Ok(kept.same(&copy) && opens_as(&copy, stretch, parts)?)
 }
 
 /// Whether what is kept of a stretch tells its ends, steps and visits, and its copy is the stretch again when it is opened.
 fn tells_kept(
     kept: &KeptStretch<'_>,
     stretch: &Stretch<'_>,
-    steps: u32,
-    visits: &[&[u32]],
-    levels: &[u32],
+    parts: Parts,
 ) -> Result<bool, AllocError> {
-    let is_counted = kept.steps() == steps && kept.visited() == visits.len() as u64;
+    let is_counted = kept.steps() == parts.steps && kept.visited() == parts.visits.len() as u64;
     let is_there = has_kept_ends(kept, stretch)?;
-    Ok(is_counted && is_there && opens_copied(kept, stretch, steps, visits, levels)?)
+    Ok(is_counted && is_there && opens_copied(kept, stretch, parts)?)
 }
 
 /// The same of a stretch that is kept here.
-fn is_kept(
-    stretch: &Stretch<'_>,
-    steps: u32,
-    visits: &[&[u32]],
-    levels: &[u32],
-) -> Result<bool, AllocError> {
+fn is_kept(stretch: &Stretch<'_>, parts: Parts) -> Result<bool, AllocError> {
     match KeptStretch::of(stretch.copy()?) {
-        Ok(kept) => tells_kept(&kept, stretch, steps, visits, levels),
+        Ok(kept) => tells_kept(&kept, stretch, parts),
         Err(_) => Err(AllocError),
     }
 }
 
-fn hands_out<T: Table>(
-    runner: &mut Runner<'_, T>,
-    steps: u32,
-    visits: &[&[u32]],
-    levels: &[u32],
-) -> Result<bool, Fail> {
+fn hands_out<T: Table>(runner: &mut Runner<'_, T>, parts: Parts) -> Result<bool, Fail> {
     let stretch = runner.take_stretch()?;
-    let kept = is_kept(&stretch, steps, visits, levels)?;
-    Ok(is_copied(&stretch, steps, visits, levels)? && kept)
+    let kept = is_kept(&stretch, parts)?;
+    Ok(is_copied(&stretch, parts)? && kept)
 }
 
 /// Whether a runner tells what it has to, row by row.
@@ -232,22 +214,38 @@ const CUT_AND_WALKED: [Row; 16] = [
     Row::Advances(15),
     Row::StandsAt(4, 20),
     Row::IsAtEnd,
-    Row::HandsOut(20, &[], &[1, 1, 1]),
+    Row::HandsOut(Parts {
+        steps: 20,
+        visits: &[],
+        levels: &[1, 1, 1],
+    }),
     Row::IsAtMark,
-    Row::HandsOut(0, &[], &[]),
+    Row::HandsOut(Parts {
+        steps: 0,
+        visits: &[],
+        levels: &[],
+    }),
 ];
 
 const REST: [Row; 4] = [
     Row::StandsAt(4, 0),
     Row::Advances(23),
     Row::IsAtEnd,
-    Row::HandsOut(23, &[&[4, 5, 1]], &[0, 1, 1, 1]),
+    Row::HandsOut(Parts {
+        steps: 23,
+        visits: &[&[4, 5, 1]],
+        levels: &[0, 1, 1, 1],
+    }),
 ];
 
 const JOINED_AGAIN: [Row; 3] = [
     Row::Advances(43),
     Row::Rejoins,
-    Row::HandsOut(43, &[&[4, 5, 1]], &[1, 2, 2, 1]),
+    Row::HandsOut(Parts {
+        steps: 43,
+        visits: &[&[4, 5, 1]],
+        levels: &[1, 2, 2, 1],
+    }),
 ];
 
 const WALKED: [Row; 8] = [
@@ -258,7 +256,11 @@ const WALKED: [Row; 8] = [
     Row::Rejoins,
     Row::Walks(100, 13, Event::Finished),
     Row::IsAtEnd,
-    Row::HandsOut(43, &[&[4, 5, 1]], &[1, 2, 2, 1]),
+    Row::HandsOut(Parts {
+        steps: 43,
+        visits: &[&[4, 5, 1]],
+        levels: &[1, 2, 2, 1],
+    }),
 ];
 
 const WALKED_TO_A_CUT: [Row; 6] = [
@@ -267,7 +269,11 @@ const WALKED_TO_A_CUT: [Row; 6] = [
     Row::Walks(100, 15, Event::Moved),
     Row::StandsAt(4, 20),
     Row::IsAtEnd,
-    Row::HandsOut(20, &[], &[1, 1, 1]),
+    Row::HandsOut(Parts {
+        steps: 20,
+        visits: &[],
+        levels: &[1, 1, 1],
+    }),
 ];
 
 /// After which choices a runner begins, what is asked of it, and what it has to tell.

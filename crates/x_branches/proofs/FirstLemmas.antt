@@ -1,5 +1,5 @@
 -- The first option that is untried at a level, and the levels at which nothing is.
-use Rattle.std.proofs.Common.{◌≡◌, ℕ, suc, ◌+◌, ◌<◌, ◌≤◌, ◌⊎◌, true, false, Option, Some, None, List, [], ◌∷◌, ◌++◌, length, take, drop, filter, get_or, refl, sym, ap, ◌∙◌, subst, inl, inr, arith, length-append, length-drop}
+use Rattle.std.proofs.Common.{◌≡◌, ℕ, suc, ◌+◌, ◌<◌, ◌≤◌, ◌⊎◌, true, false, Option, Some, None, List, [], ◌∷◌, ◌++◌, length, take, drop, filter, get_or, refl, sym, ap, ◌∙◌, subst, inl, inr, arith, length-append}
 use Rattle.std.specs.Prelude.{nat_lt}
 use Rattle.std.specs.List.{slice_get}
 use Rattle.std.proofs.lemmas.Bool.{cases_lt, cases_order, lt-ltb, le-ltb, ltb-true, false≢true}
@@ -13,7 +13,6 @@ use Rattle.cover_problem.proofs.MemberLemmas.{has_here, has_cases, has_filter_in
 use Rattle.cover_problem.proofs.NumberLemmas.{rises_member}
 use Rattle.x_steps.specs.declared.state.Label.TheVariants.{X5}
 use Rattle.x_steps.specs.declared.state.Cursor.{Cursor}
-use Rattle.x_steps.specs.declared.state.Cursor.TheVariants as cursor
 use Rattle.x_steps.specs.declared.state.Cursor.TheVariants.{At}
 use Rattle.x_steps.specs.StateValue.{StateValue, at}
 use Rattle.x_steps.specs.Steps.{Fits, remaining_after}
@@ -26,7 +25,7 @@ use Rattle.x_branches.specs.Walk.{end_choices}
 use Rattle.x_branches.specs.Stage.{IsShared}
 use Rattle.x_branches.specs.Untried.{remaining_above, left_after, left_above, is_before_end, untried_after, untried}
 use Rattle.x_branches.proofs.CutLemmas.{test_rank, rank_test, cut_is, cut_fits, chosen_is, IsLater, later_one}
-use Rattle.x_branches.proofs.UntriedLemmas.{read_drop, none_drop, untried_left}
+use Rattle.x_branches.proofs.UntriedLemmas.{read_drop, untried_left}
 use Rattle.x_branches.proofs.WalkedLemmas.{none_is_start}
 
 nothing_in : (xs : List ℕ) → ((k : ℕ) → has xs k ≡ true → ⊥) → xs ≡ []
@@ -250,17 +249,6 @@ module _ (p : ProblemValue) (s : StateValue) (fits : Fits p s) where
         step k (inl same) m = ap (λ k. untried p end k s) same ∙ nil_of (untried p end level s) e
         step k (inr (inl b)) m = sought.nothing k b
         step k (inr (inr b)) m = absurd (omega arith)
-
-    -- there is no choice at the level
-    pub none_without_choice : None ≡ slice_get (choices s) level → (k : ℕ) → untried p end k s ≡ []
-    none_without_choice e k = step (cases_lt k level)
-      where
-        step : (k < level) ⊎ (level ≤ k) → untried p end k s ≡ []
-        step (inl l) = sought.nothing k l
-        step (inr l) =
-            let a = length-drop level (choices s) in
-            let b = ap (length {A = ℕ}) (none_drop (choices s) level e) in
-            none_past p end s k (omega arith)
 
     -- it is the cursor's level, and nothing is untried there
     pub none_at_cursor : level ≡ length s.path → None ≡ slice_get (untried p end level s) 0 → (k : ℕ) → untried p end k s ≡ []

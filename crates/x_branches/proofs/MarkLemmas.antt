@@ -1,5 +1,5 @@
 -- At its mark a runner has no steps, no visits and no counts.
-use Rattle.std.proofs.Common.{◌≡◌, ℕ, ◌+◌, List, [], ◌∷◌, length, map, replicate, refl, sym, ap, ◌∙◌, subst}
+use Rattle.std.proofs.Common.{◌≡◌, ◌↔◌, Bool, IsTrue, ℕ, ◌+◌, List, [], ◌∷◌, length, map, replicate, refl, sym, ap, ◌∙◌, subst}
 use Rattle.cover_problem.specs.Lists.{numbers}
 use Rattle.cover_problem.specs.Problem.{ProblemValue, IsProblem}
 use Rattle.cover_problem.proofs.NumberLemmas.{length-numbers}
@@ -13,6 +13,7 @@ use Rattle.x_branches.specs.declared.branch.Branch.{Branch}
 use Rattle.x_branches.specs.Branch.{first_of, end_of}
 use Rattle.x_branches.specs.Stretch.{IsStretch}
 use Rattle.x_branches.specs.Runner.{IsBranch, IsWithin, KeepsRunner}
+use Rattle.x_branches.specs.Refusals.{CanStart}
 
 no_count : (ns : List ℕ) → map (level_count []) ns ≡ replicate (length ns) 0
 no_count [] = refl
@@ -42,3 +43,9 @@ module _ (p : ProblemValue) (b : Branch) (s : StateValue) (sound : IsProblem p) 
   -- the same at copies of the state
   pub started : (m : Position) (mark : StateValue) (n : ℕ) (visits : List (List ℕ)) (counts : List ℕ) → m ≡ record { problem = p; state = s } → mark ≡ s → n ≡ length p.names → visits ≡ [] → counts ≡ replicate (n + 1) 0 → KeepsRunner (record { problem = m.problem; branch = b; mark = mark; position = m.state }) 0 visits counts
   started m mark n visits counts a c d e f = rw (a, c, e, f, d) here
+
+-- what is tested of a branch tells whether a runner can start in it
+pub can_start : (p q : ProblemValue) (b : Branch) (s t : StateValue) (test : Bool) → q ≡ p → t ≡ s → Fits p s → (IsTrue test → IsBranch q b)
+    → (IsTrue test → IsWithin q b t) → (IsBranch q b → IsWithin q b t → IsTrue test) → IsTrue test ↔ CanStart p b s
+can_start p q b s t test e f fits branch within outside =
+    (λ h. record { fits = fits; branch = rw e at (branch h); within = rw (e, f) at (within h) }, λ k. outside (rw e k.branch) (rw (e, f) k.within))

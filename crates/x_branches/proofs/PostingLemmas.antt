@@ -5,15 +5,17 @@ use Rattle.std.proofs.lemmas.Bool.{false≢true}
 use Rattle.std.proofs.lemmas.List.{take_more, length-replicate, drop-replicate}
 use Rattle.cover_problem.specs.Problem.{ProblemValue}
 use Rattle.x_steps.specs.StateValue.{StateValue}
+use Rattle.x_steps.specs.Steps.{Fits}
 use Rattle.x_steps.specs.Run.{steps_between, levels, ReachesIn}
 use Rattle.x_steps.specs.Levels.{without_last_zeros, trimmed_levels}
 use Rattle.x_steps.proofs.BetweenLemmas.{steps_between_self, length-levels}
 use Rattle.x_steps.proofs.StretchLemmas.{reached_rank}
 use Rattle.x_steps.proofs.ZeroLemmas.{zero_goes, last_stays, zeros_cut}
-use Rattle.x_branches.specs.Branch.{end_of}
+use Rattle.x_branches.specs.declared.branch.Branch.{Branch}
+use Rattle.x_branches.specs.Branch.{first_of, end_of}
 use Rattle.x_branches.specs.Stretch.{StretchValue, KeepsStretch}
 use Rattle.x_branches.specs.Runner.{RunnerValue, KeepsRunner}
-use Rattle.x_branches.specs.Refusals.{EndsHere, CanReopen}
+use Rattle.x_branches.specs.Refusals.{CanStart, EndsHere, CanReopen}
 use Rattle.x_branches.proofs.MarkLemmas.{levels_none, started}
 use Rattle.x_branches.proofs.RunnerLemmas.{before_not, position_fits, end_up}
 
@@ -80,9 +82,19 @@ module _ (r : RunnerValue) (steps : ℕ) (visits : List (List ℕ)) (counts : Li
       here : KeepsStretch r.problem r.mark r.position steps visits (without_last_zeros counts)
       here = record { order = k.inside.stretch; steps_are = k.steps_are; visits_are = k.visits_are; levels_are = cut }
 
+  -- nothing is left, and this branch begins there
+  pub begun_there : (b new : Branch) (mark : StateValue) (vs : List (List ℕ)) (cs : List ℕ) → new ≡ b → CanStart r.problem b r.position
+      → Fits r.problem (first_of b.lo) → Fits r.problem (end_of b.hi) → mark ≡ r.position → vs ≡ [] → cs ≡ replicate (length counts) 0
+      → KeepsRunner (record { problem = r.problem; branch = new; mark = mark; position = r.position }) 0 vs cs
+  begun_there b new mark vs cs e can first end a d c =
+      rw e (started r.problem b r.position k.sound can.fits first end can.branch can.within (record { problem = r.problem; state = r.position }) mark
+      (length r.problem.names) vs cs refl a refl d (c ∙ ap (λ n. replicate n 0) length_counts))
+
   -- and nothing is left
   pub emptied_there : (mark : StateValue) (vs : List (List ℕ)) (cs : List ℕ) → mark ≡ r.position → vs ≡ [] → cs ≡ replicate (length counts) 0 → KeepsRunner (record { problem = r.problem; branch = r.branch; mark = mark; position = r.position }) 0 vs cs
-  emptied_there mark vs cs a b c = started r.problem r.branch r.position k.sound (position_fits r steps visits counts k) k.first_fits k.end_fits k.inside.branch k.inside.position_in (record { problem = r.problem; state = r.position }) mark (length r.problem.names) vs cs refl a refl b (c ∙ ap (λ n. replicate n 0) length_counts)
+  emptied_there mark vs cs a b c =
+      begun_there r.branch r.branch mark vs cs refl
+      (record { fits = position_fits r steps visits counts k; branch = k.inside.branch; within = k.inside.position_in }) k.first_fits k.end_fits a b c
 
   -- at the mark no steps are kept
   pub no_steps : r.position ≡ r.mark → steps ≡ 0

@@ -1,17 +1,19 @@
 -- What a runner finds on the covered list and on the list of the item that was chosen at a level.
 use Rattle.std.proofs.Common.{◌≡◌, ◌↔◌, ℕ, zero, suc, ◌+◌, ◌<◌, ◌≤◌, ◌⊎◌, Bool, true, false, cond, IsTrue, Some, None, All, List, [], ◌∷◌, ◌++◌, length, take, drop, filter, get_or, refl, sym, ap, ◌∙◌, subst, inl, inr, arith, eqb-true, append_assoc, append-nil, length-append}
-use Rattle.std.specs.Prelude.{nat_lt, ◌==◌}
+use Rattle.std.specs.Prelude.{nat_lt, ◌==◌, ◌&&◌}
+use Rattle.std.proofs.Math.Bool.{and-true}
 use Rattle.std.specs.List.{slice_get}
 use Rattle.std.specs.Cmp.{both_ways}
-use Rattle.std.proofs.lemmas.Bool.{cases_lt}
-use Rattle.std.proofs.lemmas.List.{nil_from_length, take_more, take-append-drop, drop_all}
+use Rattle.std.proofs.lemmas.Bool.{cases_lt, lt-ltb, le-ltb, false≢true, and_from, and_parts, and_left, and_right}
+use Rattle.std.proofs.lemmas.List.{nil_from_length, take_more, take-append-drop, take_at, drop_all}
 use Rattle.std.proofs.lemmas.List.Elements.{All-from_get_or, filter_more}
 use Rattle.std.proofs.lemmas.Option.{slice_get-get_or}
 use Rattle.cover_problem.specs.Lists.{has}
 use Rattle.cover_problem.specs.Problem.{ProblemValue, IsProblem, option_at}
-use Rattle.cover_problem.specs.Covering.{choice, list_of}
+use Rattle.cover_problem.specs.Covering.{choice, is_remaining, remaining, list_of}
 use Rattle.cover_problem.specs.Path.{others, taken, IsValid, covered_from, covered_by}
-use Rattle.cover_problem.proofs.MemberLemmas.{has_at}
+use Rattle.cover_problem.proofs.MemberLemmas.{has_at, has_filter, has_filter_in}
+use Rattle.cover_problem.proofs.RemainingLemmas.{remaining_from, remaining_in}
 use Rattle.cover_problem.proofs.PathLemmas.{length-taken, covered_by_push}
 use Rattle.cover_problem.proofs.CoverLemmas.{covered_join}
 use Rattle.x_steps.specs.declared.state.Label.{Label}
@@ -24,7 +26,7 @@ use Rattle.x_steps.proofs.Neighbours.{parted}
 use Rattle.x_steps.proofs.StateLemmas.{level_is}
 use Rattle.x_branches.specs.Cut.{choices}
 use Rattle.x_branches.specs.RunOrder.{ComesBefore, comes_before}
-use Rattle.x_branches.specs.Untried.{left_after, left_above, is_before_end, untried}
+use Rattle.x_branches.specs.Untried.{left_after, left_above, is_before_end, untried_after, untried}
 use Rattle.x_branches.proofs.CutLemmas.{test_is_order, cut_is, cut_fits, front, IsChoiceAt, choice_at, chosen_is, later_one}
 
 -- ---- lists
@@ -126,6 +128,7 @@ covered_front p s level o rest f e = step (choice_at s level o rest e)
 pub record IsAtLevel (p : ProblemValue) (s : StateValue) (level o : ℕ) (item : ℕ) : Type 0 where
   pub valid : IsValid p (take level (choices s))
   pub within : length (covered_by p (take level (choices s))) < length (covered_in p s)
+  pub before : take (length (covered_by p (take level (choices s)))) (covered_in p s) ≡ covered_by p (take level (choices s))
   pub place : get_or (covered_in p s) (length (covered_by p (take level (choices s)))) 0 ≡ item
   pub member : has (list_of p (covered_in p s) item) o ≡ true
   pub left : filter (λ k. nat_lt o k) (list_of p (covered_in p s) item) ≡ left_above p level s
@@ -141,6 +144,7 @@ at_level p s level o sound f e =
     record {
       valid = c.valid;
       within = let n = ap (length {A = ℕ}) w.1 ∙ length-append (covered_by p q) (item_after p q ∷ w.0) in omega arith;
+      before = ap (take (length (covered_by p q))) w.1 ∙ take_at (covered_by p q) (item_after p q ∷ w.0) (length (covered_by p q)) refl;
       place = ap (λ c. get_or c (length (covered_by p q)) 0) w.1 ∙ l.place w.0 0;
       member = ap (λ xs. has xs o) here ∙ c.choice.left;
       left = ap (filter (λ k. nat_lt o k)) here ∙ ap (left_after p q) (sym d.1);
@@ -149,22 +153,85 @@ at_level p s level o sound f e =
 pub none_left : (p : ProblemValue) (s : StateValue) (level : ℕ) → None ≡ slice_get (choices s) level → [] ≡ left_above p level s
 none_left p s level e = ap (left_after p (take level (choices s))) (sym (none_drop (choices s) level e))
 
--- each option left above a choice makes a cut
-pub left_fit : (p : ProblemValue) (s : StateValue) (level : ℕ) → Fits p s → All (λ k. Fits p (at X5 (take level (choices s)) (At k))) (left_above p level s)
-left_fit p s level f = all_members _ (left_above p level s) (λ k h. look (drop level (choices s)) refl k h)
-  where
-    look : (rest : List ℕ) → drop level (choices s) ≡ rest → (k : ℕ) → has (left_after p (take level (choices s)) rest) k ≡ true → Fits p (at X5 (take level (choices s)) (At k))
-    look [] e k h = absurd (cc)
-    look (o ∷ rest) e k h =
-        let b = later_one p s (take level (choices s)) o k (chosen_is p s level o rest f e) h in
-        rw (cut_is (take level (choices s)) k) at (cut_fits p (take level (choices s) ++ k ∷ []) b.cut)
-
 pub untried_left : (p : ProblemValue) (end s : StateValue) (level : ℕ) → filter (is_before_end p end (take level (choices s))) (left_above p level s) ≡ untried p end level s
 untried_left p end s level = look (drop level (choices s)) refl
   where
     look : (rest : List ℕ) → drop level (choices s) ≡ rest → filter (is_before_end p end (take level (choices s))) (left_above p level s) ≡ untried p end level s
     look [] e = rw e refl
     look (o ∷ rest) e = rw e refl
+
+-- ---- whether one option is left
+
+has_kept : (test : ℕ → Bool) (xs : List ℕ) (x : ℕ) → has (filter test xs) x ≡ (test x && has xs x)
+has_kept test xs x =
+    both_ways (has (filter test xs) x) (test x && has xs x)
+    (λ h. let m = has_filter_in test xs x h in and_from (test x) (has xs x) m.0 m.1)
+    (λ h. let m = and_parts (test x) (has xs x) h in has_filter test xs x m.0 m.1)
+
+-- an option is left for an item where it has the item and none that is covered
+remaining_tested : (p : ProblemValue) (c : List ℕ) (j o : ℕ) → 0 < o → o ≤ length p.options → is_remaining c j (option_at p o) ≡ has (remaining p c j) o
+remaining_tested p c j o some within =
+    both_ways (is_remaining c j (option_at p o)) (has (remaining p c j) o)
+    (λ h. remaining_from p c j o h some within)
+    (λ h. (remaining_in p c j o h).0)
+
+pub left_tested : (p : ProblemValue) (q : List ℕ) (o item : ℕ) (before option : List ℕ) (test : Bool) → 0 < o → o ≤ length p.options
+    → before ≡ covered_by p q → item ≡ item_after p q → option ≡ option_at p o → test ≡ is_remaining before item option
+    → test ≡ has (remaining_after p q) o
+left_tested p q o item before option test some within b i k e = e ∙ rw (b, i, k) (remaining_tested p (covered_by p q) (item_after p q) o some within)
+
+module _ (p : ProblemValue) (s : StateValue) (level choice o : ℕ) (here : Some choice ≡ slice_get (choices s) level) where
+  abbrev pub q : List ℕ
+  q = take level (choices s)
+
+  left_has : has (left_above p level s) o ≡ (nat_lt choice o && has (remaining_after p q) o)
+  left_has =
+      let d = read_drop (choices s) level choice here in
+      ap (λ rest. has (left_after p q rest) o) d.1 ∙ has_kept (λ k. nat_lt choice k) (remaining_after p q) o
+
+  -- it is above the choice, so it is left above the choice where it is left
+  pub left_where : choice < o → has (remaining_after p q) o ≡ has (left_above p level s) o
+  left_where l = sym (left_has ∙ rw (lt-ltb choice o l) refl)
+
+  -- the choice itself, and what stands below it, isn't left above it
+  pub not_left_below : o ≤ choice → false ≡ has (left_above p level s) o
+  not_left_below l = sym (left_has ∙ and_left (nat_lt choice o) (has (remaining_after p q) o) (le-ltb choice o l))
+
+  -- what is no option isn't left
+  pub not_left_past : length p.options < o → false ≡ has (left_above p level s) o
+  not_left_past l = sym (left_has ∙ and_right (nat_lt choice o) (has (remaining_after p q) o) (none (has (remaining_after p q) o) refl))
+    where
+      none : (b : Bool) → has (remaining_after p q) o ≡ b → b ≡ false
+      none false e = refl
+      none true e = absurd (past e)
+        where
+          past : has (remaining_after p q) o ≡ true → ⊥
+          past e = let m = (remaining_in p (covered_by p q) (item_after p q) o e).2 in omega arith
+
+-- where there is no choice nothing is untried
+pub none_without : (p : ProblemValue) (end s : StateValue) (level : ℕ) → None ≡ slice_get (choices s) level → None ≡ slice_get (untried p end level s) 0
+none_without p end s level e = ap (λ rest. slice_get (untried_after p end (take level (choices s)) rest) 0) (sym (none_drop (choices s) level e))
+
+-- whether an option that is left above the choice is untried is told by its cut
+pub untried_has : (p : ProblemValue) (end s : StateValue) (level o : ℕ) → has (left_above p level s) o ≡ true
+    → has (untried p end level s) o ≡ is_before_end p end (take level (choices s)) o
+untried_has p end s level o h =
+    ap (λ xs. has xs o) (sym (untried_left p end s level)) ∙ has_kept (is_before_end p end (take level (choices s))) (left_above p level s) o
+    ∙ rw h (and-true (is_before_end p end (take level (choices s)) o))
+
+-- its cut is a state of the search
+pub one_left_fits : (p : ProblemValue) (s : StateValue) (level o : ℕ) → Fits p s → has (left_above p level s) o ≡ true → Fits p (at X5 (take level (choices s)) (At o))
+one_left_fits p s level o f h = look (drop level (choices s)) refl h
+  where
+    look : (rest : List ℕ) → drop level (choices s) ≡ rest → has (left_after p (take level (choices s)) rest) o ≡ true → Fits p (at X5 (take level (choices s)) (At o))
+    look [] e h = absurd (cc)
+    look (c ∷ rest) e h =
+        let b = later_one p s (take level (choices s)) c o (chosen_is p s level c rest f e) h in
+        rw (cut_is (take level (choices s)) o) at (cut_fits p (take level (choices s) ++ o ∷ []) b.cut)
+
+-- each option left above a choice makes a cut
+pub left_fit : (p : ProblemValue) (s : StateValue) (level : ℕ) → Fits p s → All (λ k. Fits p (at X5 (take level (choices s)) (At k))) (left_above p level s)
+left_fit p s level f = all_members _ (left_above p level s) (λ k h. one_left_fits p s level k f h)
 
 -- where something is left there is a choice
 pub left_some : (p : ProblemValue) (s : StateValue) (level : ℕ) (xs : List ℕ) → xs ≡ left_above p level s → (length xs ≡ 0 → ⊥) → level < length (choices s)

@@ -1,5 +1,5 @@
--- What a runner can do, and why a call of it is refused: to start (`CanStart`, `StartRefused`), to take a step (`most_steps`, `CanAdvance`,
--- `AdvanceRefused`), to name a cut at what is untried (`untried_in`, `CutRefused`), to end its branch at a cut (`CanShorten`), and to take
+-- What a runner can do, and why a call of it is refused: to start (`CanStart`, `StartRefused`), to begin another branch (`BeginRefused`), to take a step (`most_steps`, `CanAdvance`,
+-- `AdvanceRefused`), to name a cut at what is untried (`untried_in`, `CutRefused`, `WhyNotLeft`), to end its branch at a cut (`CanShorten`), and to take
 -- a stretch back (`EndsHere`, `CanReopen`, `ReopenRefused`).
 --
 -- Example: at Done a step is refused as `AtBranchEnd`. In the small problem's whole run, at X2 with the path 2, only option 4 is untried at
@@ -39,6 +39,12 @@ StartRefused p b s (Steps steps.OutOfMemory) = Unit {0}
 StartRefused p b s (Runner OutsideBranch) = Fits p s × (CanStart p b s → ⊥)
 StartRefused p b s (Runner OutOfMemory) = CanStart p b s
 StartRefused p b s (Runner _) = ⊥
+
+-- why a runner can't begin a branch where it stands
+abbrev pub BeginRefused : RunnerValue → Branch → RunnerFault → Type 0
+BeginRefused r b OutsideBranch = CanStart r.problem b r.position → ⊥
+BeginRefused r b OutOfMemory = CanStart r.problem b r.position
+BeginRefused r b _ = ⊥
 
 -- the most steps that a stretch can have
 abbrev pub most_steps : ℕ
@@ -81,8 +87,14 @@ abbrev pub CutRefused : RunnerValue → ℕ → ℕ → RunnerFault → Type 0
 CutRefused r level o OutsideBranch = (has (left_above r.problem level r.position) o ≡ true) × (has (untried_in r level) o ≡ false)
 CutRefused r level o NothingUntried = (has (left_above r.problem level r.position) o ≡ false) × (untried_in r level ≡ [])
 CutRefused r level o NotUntried = (has (left_above r.problem level r.position) o ≡ false) × (0 < length (untried_in r level))
-CutRefused r level o OutOfMemory = Unit {0}
+CutRefused r level o OutOfMemory = has (untried_in r level) o ≡ true
 CutRefused r level o _ = ⊥
+
+-- of the two faults of an option that isn't left above a choice, the one that is told
+abbrev pub WhyNotLeft : RunnerValue → ℕ → RunnerFault → Type 0
+WhyNotLeft r level NothingUntried = untried_in r level ≡ []
+WhyNotLeft r level NotUntried = 0 < length (untried_in r level)
+WhyNotLeft r level _ = ⊥
 
 -- a runner's branch can be ended at a cut: it is of the problem, after the position, and before the end
 pub record CanShorten (r : RunnerValue) (cut : CutPath) : Type 0 where

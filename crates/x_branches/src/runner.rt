@@ -205,6 +205,13 @@ impl<'p, T: Table> Runner<'p, T> {
         machine.into_table()
     }
 
+    /// The problem whose run it is in.
+    pub fn problem(&self) -> &'p Problem
+        ensures { result.now ≡ self.now.problem }
+    {
+        self.machine.problem()
+    }
+
     /// What is true of every runner, for a proof that needs it: mark and position are in its branch, in this order.
     pub fn is_sound(&self)
         ensures runner { IsRunner self.now }

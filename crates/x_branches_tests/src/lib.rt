@@ -3,6 +3,8 @@
 #![tactic(auto)]
 
 #[cfg(test)]
+mod begin_tests;
+#[cfg(test)]
 mod cut_tests;
 #[cfg(test)]
 mod drawn_tests;

@@ -2,7 +2,7 @@
 //! is answered as where nothing is refused. `tools/check_memory` runs these tests with one growth refused, each growth in turn.
 ghost use Rattle.std.specs.Prelude.{◌≡◌, []};
 
-use crate::setting::{branch_of, small, whole};
+use crate::setting::{branch_of, runner_of, small, whole};
 use cover_problem::{PlainTable, Problem, Table};
 use drawn_problems::state_of;
 use std::alloc::Global;
@@ -300,5 +300,62 @@ fn starts_again_in_small(alloc: Global) -> Result<bool, Fail> {
 #[test]
 fn a_refused_runner_gives_its_table_and_its_branch_back(rt: HostRuntime) -> Result<(), Fail> {
     assert!(rt; starts_again_in_small(rt.alloc())?);
+    Ok(())
+}
+
+/// Whether a runner begins a branch where it stands, on a second try where the first is refused for want of memory.
+fn begins_again<'p>(
+    runner: &mut Runner<'p, PlainTable>,
+    branch: Branch<'p>,
+    copy: &Branch<'p>,
+) -> bool {
+    let Refused {
+        fault,
+        given: branch,
+    } = match runner.begin(branch) {
+        Ok(()) => return true,
+        Err(refused) => refused,
+    };
+    if fault != RunnerFault::OutOfMemory || !branch.same(copy) || !runner.is_at_end() {
+        return false;
+    }
+    runner.begin(branch).is_ok()
+}
+
+/// Whether a runner that stands at the end of its branch begins another one, and goes on there as it should from this state.
+fn begins_and_goes_on<'p>(
+    alloc: Global,
+    runner: &mut Runner<'p, PlainTable>,
+    branch: Branch<'p>,
+    copy: &Branch<'p>,
+) -> Result<bool, Fail> {
+    let state = state_of(alloc, Label::X5, &[4], Cursor::At(5))?;
+    grows(alloc)?;
+    Ok(begins_again(runner, branch, copy) && goes_on(runner, copy, &state, 5)?)
+}
+
+/// The same of the branch from the cut 4 5 on, behind the branch that ends there, which has four steps. A state without choices takes no
+/// memory: this one has a choice.
+fn begins_behind<'p>(alloc: Global, problem: &'p Problem, copy: &Branch<'p>) -> Result<bool, Fail> {
+    let mut runner = runner_of(alloc, problem, &[4], &[4, 5])?;
+    advance(&mut runner, 4)?;
+    begins_and_goes_on(alloc, &mut runner, copy.copy()?, copy)
+}
+
+/// The same where the branch is made here.
+fn begins_the_rest(alloc: Global, problem: &Problem) -> Result<bool, Fail> {
+    let copy = branch_of(alloc, problem, &[4, 5], &[])?;
+    begins_behind(alloc, problem, &copy)
+}
+
+/// The same of the small problem.
+fn begins_the_rest_of_small(alloc: Global) -> Result<bool, Fail> {
+    let problem = small(alloc)?;
+    begins_the_rest(alloc, &problem)
+}
+
+#[test]
+fn a_refused_branch_is_begun_again(rt: HostRuntime) -> Result<(), Fail> {
+    assert!(rt; begins_the_rest_of_small(rt.alloc())?);
     Ok(())
 }

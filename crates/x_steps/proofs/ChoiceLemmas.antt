@@ -83,6 +83,11 @@ module _ (p : ProblemValue) (c : List ℕ) where
   walks_end item best least w e =
       sym (choice_unique p c best w.among (λ i h. let m = w.shortest i h (above_none item (active p c) e i h) in rw (← w.len) m) (λ i h k. let m = w.first i h k in rw (← w.len) m))
 
+  -- where the best has no option left, no later one has fewer
+  pub zero_ends : (item best least : ℕ) → Walks p c item best least → least ≡ 0 → choice p c ≡ best
+  zero_ends item best least w z =
+      sym (choice_unique p c best w.among (λ i h. let l = w.len in omega arith) (λ i h k. let m = w.first i h k in rw (← w.len) m))
+
   -- some item is active, so there is a first one
   pub some_active : 0 < length (active p c) → IsSome (above 0 (active p c))
   some_active h = some_of (above 0 (active p c)) (λ e. let k = choice_active p c h in let m = above_none 0 (active p c) e (choice p c) k in let i = (active_in p c (choice p c) k).1 in omega arith)

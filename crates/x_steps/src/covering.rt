@@ -22,6 +22,10 @@ pub fn choose<T: Table>(table: &T) -> u32
     let mut least = table.len(best);
     let mut item = best;
     while let Some(next) = table.next_item(item) {
+        // None has fewer, and of those with as few the first is asked for.
+        if least == 0 {
+            return best;
+        }
         let len = table.len(next);
         if len < least {
             best = next;

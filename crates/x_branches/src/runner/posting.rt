@@ -1,12 +1,15 @@
-//! The unposted stretch of a runner: it is taken out to be posted, and joined again.
-ghost use Rattle.std.specs.Prelude.{◌≡◌, ◌<◌, ◌≤◌, ◌-◌, ◌↔◌, ◌++◌, length, take, drop, replicate, slice_index, IsTrue, IfOk, IfErr};
+//! The unposted stretch of a runner: it is taken out to be posted, joined again, or let go where another branch begins.
+ghost use Rattle.std.specs.Prelude.{◌≡◌, ◌<◌, ◌≤◌, ◌-◌, ◌↔◌, ◌++◌, [], length, take, drop, replicate, slice_index, IsTrue, IfOk, IfErr};
 ghost use Rattle.std.specs.Prelude.{OnOk, OnErr};
 ghost use Rattle.cover_problem.specs.Answers.{Returns};
 ghost use Rattle.x_steps.specs.StateView.{state_value};
 ghost use Rattle.x_steps.specs.Levels.{without_last_zeros};
-ghost use Rattle.x_branches.specs.Runner.{unposted_stretch};
-ghost use Rattle.x_branches.specs.Refusals.{EndsHere, CanReopen, ReopenRefused};
+ghost use Rattle.x_steps.specs.Steps.{Fits};
+ghost use Rattle.x_branches.specs.Branch.{first_of, end_of};
+ghost use Rattle.x_branches.specs.Runner.{unposted_stretch, runner_at};
+ghost use Rattle.x_branches.specs.Refusals.{CanStart, BeginRefused, EndsHere, CanReopen, ReopenRefused};
 
+use crate::branch::Branch;
 use crate::fault::RunnerFault;
 use crate::order::is_before;
 use crate::position::Position;
@@ -65,10 +68,12 @@ fn copied(alloc: Global, visits: &Lists, counts: &[u32]) -> Result<(Lists, Vec<u
     Ok((visits, levels))
 }
 
-/// Takes all counts away.
-fn forget_all(counts: &mut [u32])
-    ensures { counts.new ≡ replicate (length counts.old) 0 }
+/// Takes all visits and all counts away.
+fn forget_all(visits: &mut Lists, counts: &mut [u32])
+    ensures visits { visits.new ≡ [] }
+    ensures counts { counts.new ≡ replicate (length counts.old) 0 }
 {
+    visits.clear();
     counts.fill(0);
 }
 
@@ -95,8 +100,7 @@ impl<'p, T: Table> Runner<'p, T> {
         let steps = self.steps;
         let from = mem::replace(&mut self.mark, mark);
         self.steps = 0;
-        self.visits.clear();
-        forget_all(&mut self.counts);
+        forget_all(&mut self.visits, &mut self.counts);
         Ok(Stretch {
             problem: self.machine.problem(),
             from,
@@ -105,6 +109,44 @@ impl<'p, T: Table> Runner<'p, T> {
             visits,
             levels,
         })
+    }
+
+    /// Whether the search stands in a branch of the problem's run, or at its end.
+    fn is_in(&self, branch: &Branch<'_>) -> bool
+        ensures first_fits { IsTrue result → Fits self.now.problem (first_of branch.now.lo) }
+        ensures end_fits { IsTrue result → Fits self.now.problem (end_of branch.now.hi) }
+        ensures can { IsTrue result ↔ CanStart self.now.problem branch.now self.now.position }
+    {
+        branch.holds(self.machine.problem(), self.machine.state())
+    }
+
+    /// Begins another branch where the search stands, with the mark there; what is unposted is let go. So who finished a part of a run
+    /// goes on in the next one, which needs no walk down to its first state. Refused where the branch isn't one of the problem's run
+    /// or the position is outside it, and when out of memory; nothing has then changed, and the branch comes back.
+    pub fn begin(&mut self, branch: Branch<'p>) -> Result<(), Refused<RunnerFault, Branch<'p>>>
+        ensures runner { OnOk result (self.new ≡ runner_at self.old.problem branch.entry self.old.position) }
+        ensures can { OnOk result (CanStart self.old.problem branch.entry self.old.position) }
+        ensures refused { IfErr result (λ r. BeginRefused self.old branch.entry r.fault) }
+        ensures given_back { IfErr result (λ r. r.given ≡ branch.entry) }
+        ensures unchanged { OnErr result (self.new ≡ self.old) }
+    {
+        if !self.is_in(&branch) {
+            return Err(Refused {
+                fault: RunnerFault::OutsideBranch,
+                given: branch,
+            });
+        }
+        let Ok(mark) = self.machine.state().copy() else {
+            return Err(Refused {
+                fault: RunnerFault::OutOfMemory,
+                given: branch,
+            });
+        };
+        let _ = mem::replace(&mut self.branch, branch);
+        let _ = mem::replace(&mut self.mark, mark);
+        self.steps = 0;
+        forget_all(&mut self.visits, &mut self.counts);
+        Ok(())
     }
 
     /// Whether it stands at its mark, and a stretch ends there.

@@ -2,20 +2,20 @@
 ghost use Rattle.std.specs.Prelude.{All, ◌≡◌, ◌<◌, ◌≤◌, ◌+◌, ◌↔◌, [], ℕ, length, filter, true, Some, None};
 ghost use Rattle.std.specs.Prelude.{IfSome, IsTrue};
 ghost use Rattle.std.specs.Prelude.{IfOk, IfErr, OnOk, OnErr};
-ghost use Rattle.std.specs.List.{slice_get};
-ghost use Rattle.cover_problem.specs.Covering.{IsInList};
+ghost use Rattle.std.specs.List.{slice_get, list_any};
+ghost use Rattle.cover_problem.specs.Covering.{IsInList, is_remaining};
 ghost use Rattle.cover_problem.specs.Lists.{has};
 ghost use Rattle.cover_problem.specs.Answers.{Returns, ReturnsItems};
 ghost use Rattle.cover_problem.specs.Problem.{ProblemValue};
 ghost use Rattle.cover_problem.specs.Path.{IsValid, covered_by};
 ghost use Rattle.x_steps.specs.StateValue.{at};
 ghost use Rattle.x_steps.specs.StateView.{state_value};
-ghost use Rattle.x_steps.specs.Steps.{Fits, item_after};
+ghost use Rattle.x_steps.specs.Steps.{Fits, item_after, remaining_after};
 ghost use Rattle.x_branches.specs.Cut.{choices};
 ghost use Rattle.x_branches.specs.Branch.{end_of};
 ghost use Rattle.x_branches.specs.Untried.{is_before_end, left_above, ListsAbove};
 ghost use Rattle.x_branches.specs.Runner.{IsOf, ended_at, earlier_choices, covered_before};
-ghost use Rattle.x_branches.specs.Refusals.{untried_in, untried_lists, first_untried_in, NoneUntriedBefore, cut_at, CanShorten, CutRefused};
+ghost use Rattle.x_branches.specs.Refusals.{untried_in, untried_lists, first_untried_in, NoneUntriedBefore, cut_at, CanShorten, CutRefused, WhyNotLeft};
 
 use crate::branch::Branch;
 use crate::cut::Cut;
@@ -51,6 +51,27 @@ fn covered_count(problem: &Problem, path: &[u32], covered: &[u32]) -> usize
         count += problem.option(*option).len();
     }
     count
+}
+
+/// Whether an item is one of these.
+fn has_item(items: &[u32], item: u32) -> bool
+    ensures { result ≡ has items.now item }
+{
+    items.contains(&item)
+}
+
+/// Whether one of the option's items is one of these.
+fn has_any(items: &[u32], option: &[u32]) -> bool
+    ensures { result ≡ list_any (has items.now) option.now }
+{
+    option.iter().any(|item| has_item(items, *item))
+}
+
+/// Whether an option has the item, and none of those that are covered.
+fn is_remaining(option: &[u32], item: u32, covered: &[u32]) -> bool
+    ensures { result ≡ is_remaining covered.now item option.now }
+{
+    has_item(option, item) && !has_any(covered, option)
 }
 
 /// The options of an item's list above one of them.
@@ -118,13 +139,52 @@ impl<'p, T: Table> Runner<'p, T> {
         self.left_behind(level, choice, self.item_at(level))
     }
 
-    /// The item that was chosen at a level where there is a choice. It is covered behind what the choices before it cover.
+    /// What the choices before a level cover, and the item that was chosen there, where there is a choice: it is covered behind them.
+    fn covered_at(&self, level: usize) -> (&[u32], u32)
+        requires { level < length (choices self.now.position) }
+        ensures before { result.0.now ≡ covered_before self.now level }
+        ensures item { result.1 ≡ item_after self.now.problem (earlier_choices self.now level) }
+    {
+        let covered = self.machine.covered();
+        let count = covered_count(self.machine.problem(), self.front(level), covered);
+        let (before, _) = covered.split_at(count);
+        (before, covered[count])
+    }
+
+    /// The item that was chosen at a level where there is a choice.
     fn item_at(&self, level: usize) -> u32
         requires { level < length (choices self.now.position) }
         ensures { result ≡ item_after self.now.problem (earlier_choices self.now level) }
     {
-        let covered = self.machine.covered();
-        covered[covered_count(self.machine.problem(), self.front(level), covered)]
+        self.covered_at(level).1
+    }
+
+    /// Whether an option is left for the item that was chosen at a level. Its items are sought among those that were covered before,
+    /// which costs no walk down the item's list.
+    fn is_left(&self, level: usize, option: u32) -> bool
+        requires level { level < length (choices self.now.position) }
+        requires some { 0 < option }
+        requires within { option ≤ length self.now.problem.options }
+        ensures { result ≡ has (remaining_after self.now.problem (earlier_choices self.now level)) option }
+    {
+        let (before, item) = self.covered_at(level);
+        is_remaining(self.machine.problem().option(option), item, before)
+    }
+
+    /// Whether an option is left above the choice at a level.
+    fn is_left_above(&self, level: usize, option: u32) -> bool
+        ensures { result ≡ has (left_above self.now.problem level self.now.position) option }
+    {
+        let Some(choice) = choice_at(self.machine.state(), level) else {
+            return false;
+        };
+        if option <= choice {
+            return false;
+        }
+        if option > self.machine.problem().options() {
+            return false;
+        }
+        self.is_left(level, option)
     }
 
     /// The options left above the choice at a level. That choice is given, and the item that was chosen there.
@@ -223,6 +283,16 @@ impl<'p, T: Table> Runner<'p, T> {
         }
     }
 
+    /// The same where the choice isn't given: None, too, where there is none.
+    fn first_in(&self, level: usize) -> Option<u32>
+        ensures { result ≡ first_untried_in self.now level }
+    {
+        let Some(choice) = choice_at(self.machine.state(), level) else {
+            return None;
+        };
+        self.first_at(level, choice, self.item_at(level))
+    }
+
     /// The least level at which something is untried, with the first option there; None where nothing is untried. It takes no
     /// memory, and is linear in the depth: where the choices are those of the branch's end nothing is untried, so it looks from
     /// the level on at which they part.
@@ -243,10 +313,7 @@ impl<'p, T: Table> Runner<'p, T> {
             }
             covered = with_level;
         }
-        let Some(choice) = choice_at(self.machine.state(), last) else {
-            return None;
-        };
-        match self.first_at(last, choice, self.item_at(last)) {
+        match self.first_in(last) {
             Some(option) => Some((last, option)),
             None => None,
         }
@@ -254,35 +321,37 @@ impl<'p, T: Table> Runner<'p, T> {
 
     /// The cut at an untried option of a level. Refused, in this order: where the option is left above the level's choice and
     /// its cut doesn't come before the branch's end; where nothing is untried there; where the option isn't; and when out of
-    /// memory.
+    /// memory. No list is made: it costs the depth, however many options are left.
     pub fn cut(&self, level: usize, option: u32) -> Result<Cut<'p>, RunnerFault>
         ensures cut { Returns result (cut_at self.now level option) }
         ensures untried { OnOk result (has (untried_in self.now level) option ≡ true) }
         ensures refused { IfErr result (CutRefused self.now level option) }
     {
-        let Ok(above) = self.left_above(level) else {
-            return Err(RunnerFault::OutOfMemory);
-        };
-        let Ok(untried) = self.before_end(level, &above) else {
-            return Err(RunnerFault::OutOfMemory);
-        };
-        if untried.contains(&option) {
-            return self.cut_at(level, option);
+        if !self.is_left_above(level, option) {
+            return Err(self.why_not_left(level));
         }
-        if above.contains(&option) {
+        if !is_cut_inside(&self.branch, self.front(level), option) {
             return Err(RunnerFault::OutsideBranch);
         }
-        if untried.is_empty() {
-            return Err(RunnerFault::NothingUntried);
+        self.cut_at(level, option)
+    }
+
+    /// Why there is no cut at an option that isn't left above the choice at a level.
+    fn why_not_left(&self, level: usize) -> RunnerFault
+        ensures { WhyNotLeft self.now level result }
+    {
+        match self.first_in(level) {
+            Some(_) => RunnerFault::NotUntried,
+            None => RunnerFault::NothingUntried,
         }
-        Err(RunnerFault::NotUntried)
     }
 
     /// The cut at an untried option of a level; refused when out of memory alone.
     fn cut_at(&self, level: usize, option: u32) -> Result<Cut<'p>, RunnerFault>
         requires { has (untried_in self.now level) option ≡ true }
         ensures cut { Returns result (cut_at self.now level option) }
-        ensures refused { IfErr result (λ fault. fault ≡ RunnerFault.OutOfMemory) }
+        ensures untried { OnOk result (has (untried_in self.now level) option ≡ true) }
+        ensures refused { IfErr result (CutRefused self.now level option) }
     {
         let Ok(mut path) = Vec::from_slice(
             *self.machine.state().path.allocator(),

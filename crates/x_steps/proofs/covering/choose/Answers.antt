@@ -1,5 +1,5 @@
 use Rattle.std.proofs.Common.{arith, sym, ◌∙◌}
-use Rattle.x_steps.proofs.ChoiceLemmas.{some_active, first_is, begins, next_is, takes, keeps, falls, walks_end}
+use Rattle.x_steps.proofs.ChoiceLemmas.{some_active, first_is, begins, next_is, takes, keeps, falls, walks_end, zero_ends}
 use Rattle.x_steps.proofs.covering.choose.Goals as goal
 
 pub unwrap-best-requires : goal.unwrap-best-requires
@@ -32,3 +32,6 @@ loop-next-preserved g c =
 
 pub returns : goal.returns
 returns g c = sym (walks_end _ _ _ _ _ c.loop-next.invariant (sym c.next_item.ensures ∙ c.in_default.is))
+
+pub returns-then-least-eq0 : goal.returns-then-least-eq0
+returns-then-least-eq0 g c = sym (zero_ends _ _ _ _ _ c.loop-next.invariant c.if-least-eq0.true)

@@ -1,12 +1,10 @@
-use Rattle.std.proofs.Common.{◌≡◌, ℕ, Some, None, length, sym, ap, ◌∙◌, arith}
+use Rattle.std.proofs.Common.{◌≡◌, ℕ, length, sym, ap, ◌∙◌, arith}
 use Rattle.std.specs.List.{slice_get}
-use Rattle.std.proofs.lemmas.Option.{slice_get_within}
 use Rattle.x_branches.specs.Branch.{end_of}
-use Rattle.x_branches.specs.Cut.{choices}
 use Rattle.x_branches.specs.Untried.{untried}
 use Rattle.x_branches.proofs.RunnerLemmas.{position_fits}
 use Rattle.x_branches.proofs.UntriedLemmas.{covered_within}
-use Rattle.x_branches.proofs.FirstLemmas.{valid_front, sought_begin, sought_more, none_without_choice, none_at_cursor}
+use Rattle.x_branches.proofs.FirstLemmas.{valid_front, sought_begin, sought_more, none_at_cursor}
 use Rattle.x_branches.proofs.runner.Runner.first_untried.Goals as goal
 
 pub covered_count-covered-requires : goal.covered_count-covered-requires
@@ -28,25 +26,11 @@ seeking-preserved g c =
     let count = rw (← c.self.view_is) at c.pass_level-item.ensures.covered in
     rw (← c.self.view_is) (sought_more _ _ (position_fits _ _ _ _ c.self.invariant) _ _ _ sought _ none count)
 
-pub returns-in_default-choice_at-clause-none : goal.returns-in_default-choice_at-clause-none
-returns-in_default-choice_at-clause-none g c none =
-    let sought = rw (← c.self.view_is) at c.seeking.invariant in
-    let last : length c.path-path.result.now ≡ c.seeking.level = omega (arith, c.seeking-test.false, c.seeking.auto.level-end) in
-    let here : None ≡ slice_get (choices c.self.inside.machine.state) c.seeking.level =
-    sym c.in_default-choice_at.is ∙ c.choice_at.ensures ∙ (λ j. slice_get (choices (c.state.ensures.state j)) (last j)) in
-    rw (← c.self.view_is) (none_without_choice _ _ (position_fits _ _ _ _ c.self.invariant) _ _ _ sought here)
-
-pub item_at-requires : goal.item_at-requires
-item_at-requires g c =
-    let here : Some c.in-Some-choice_at.choice ≡ slice_get (choices c.self.inside.machine.state) (length c.path-path.result.now) =
-    sym c.in-Some-choice_at.is ∙ c.choice_at.ensures ∙ (λ j. slice_get (choices (c.state.ensures.state j)) (length c.path-path.result.now)) in
-    rw (← c.self.view_is) (slice_get_within _ _ _ (sym here))
-
 pub returns-in-None-clause-none : goal.returns-in-None-clause-none
 returns-in-None-clause-none g c none =
     let sought = rw (← c.self.view_is) at c.seeking.invariant in
     let size = ap (length {A = ℕ}) (rw (← c.self.view_is) at c.path-path.ensures) in
     let last : length c.path-path.result.now ≡ c.seeking.level = omega (arith, c.seeking-test.false, c.seeking.auto.level-end) in
-    let here = rw (← c.self.view_is) at (sym c.in-None.is ∙ c.first_at-2.ensures) in
+    let here = rw (← c.self.view_is) at (sym c.in-None.is ∙ c.first_in.ensures) in
     rw (← c.self.view_is) (none_at_cursor _ _ (position_fits _ _ _ _ c.self.invariant) _ _ _ sought (sym last ∙ size)
     (here ∙ (λ j. slice_get (untried c.self.inside.machine.problem (end_of c.self.inside.branch.hi) (last j) c.self.inside.machine.state) 0)))

@@ -13,4 +13,4 @@ invariant_of-self g c =
     let given : length c.deref_mut.result.now ≡ length c.self.inside.counts.items = ap length c.deref_mut.ensures.value in
     let same : length c.forget_all.new.counts ≡ length c.self.inside.counts.items = omega arith in
     let all = lent_whole c.self.inside.counts.len c.forget_all.new.counts c.self.inside.counts.items same c.self.inside.counts.ok.0 in
-    emptied_there _ _ _ _ c.self.invariant _ _ _ (ap state_value c.replace-from.ensures.after ∙ c.in_ok-to.ensures.second ∙ c.state-state.ensures.state) c.clear.ensures (all ∙ rw c.deref_mut.ensures.value at c.forget_all.ensures)
+    emptied_there _ _ _ _ c.self.invariant _ _ _ (ap state_value c.replace-from.ensures.after ∙ c.in_ok-to.ensures.second ∙ c.state-state.ensures.state) c.forget_all.ensures.visits (all ∙ rw c.deref_mut.ensures.value at c.forget_all.ensures.counts)

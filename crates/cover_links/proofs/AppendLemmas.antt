@@ -14,7 +14,7 @@ use Rattle.cover_links.proofs.EntryLemmas.{length-changed, kept, at_changed, at_
 use Rattle.cover_links.proofs.RestoreLemmas.{vertical, length-joined, joined_next, joined_next_other, joined_prev, joined_prev_other, joined_kept}
 use Rattle.cover_links.proofs.RingLemmas.{without_ne, without_from, last_to_head, count_without}
 use Rattle.cover_links.proofs.LayoutLemmas.{IsNode, place_high, place_low, place_apart}
-use Rattle.cover_links.proofs.BuildLemmas.{place_between}
+use Rattle.cover_links.proofs.BuildLemmas.{size_small, place_between}
 use Rattle.cover_links.proofs.HidingLemmas.{down_at, up_at, left_at, right_at, top_at, few}
 use Rattle.std.specs.Cmp.{both_ways as same_test}
 
@@ -353,6 +353,7 @@ module _ (p : ProblemValue) (active : ℕ → Bool) (problem : IsProblem p) (t t
       let here : x < length fs = subst (λ n. x < n) (sym fs_length) x_low in
       let head : j < length fs = subst (λ n. j < n) (sym fs_length) j_low in
       record {
+        word = (let z = g.size in let m = size_small p problem in omega arith);
         here = x_low;
         item = j_low;
         from = between.0;
@@ -361,7 +362,7 @@ module _ (p : ProblemValue) (active : ℕ → Bool) (problem : IsProblem p) (t t
         into = record {
           here = here;
           item = subst (λ n. n < length fs) (sym top) head;
-          small = subst (λ n. top_at fs n + 1 < 2 ^ 32) (sym top) (let e = ap (λ (w : Entry). w.top) (fs_other j j_apart) in let c = g.counts j pos le in let f = few p (t j) problem in omega arith);
+          small = subst (λ n. top_at fs n + 1 < 2 ^ 28) (sym top) (let e = ap (λ (w : Entry). w.top) (fs_other j j_apart) in let c = g.counts j pos le in let f = few p (t j) problem in omega arith);
           inside = subst (λ n. IsInside (changed one_more fs n) x) (sym top) (record {
             here = subst (λ n. x < n) (sym (length-changed one_more fs j)) here;
             above = subst (λ n. n < length hs) (sym hs_up) (subst (λ n. up_at es j < n) (sym hs_length) u_inside);

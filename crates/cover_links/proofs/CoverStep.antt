@@ -206,6 +206,7 @@ module _ (p : ProblemValue) (c : List ℕ) (i : ℕ) (es : List Entry) (problem 
 
   can : CanCoverItem es i
   can = record {
+    small = (let w = u.within in let f = few_items p problem in omega arith);
     here = here (shown_of p c) (active_of p c) es s;
     options = subst (λ (w : ℕ × ℕ). CanHideList es w.0 w.1) (λ z. (sym down_is z, sym top_is z)) walk.can;
     row = subst (λ gs. IsItemInside gs i) (sym options_is) (record { here = here (shown_of p (c ++ i ∷ [])) (active_of p c) fs fs_stands; before = (row.linked).before; after = (row.linked).after });

@@ -245,7 +245,7 @@ module _ (p : ProblemValue) (shown : ℕ → ℕ → Bool) (active : ℕ → Boo
         record {
           here = here;
           item = subst (λ n. n < length gone) (sym gone_top_here) (subst (λ n. j < n) (sym gone_length) head_low);
-          small = subst (λ n. top_at gone n + 1 < 2 ^ 32) (sym gone_top_here) (let c = s.counts j pos le in let g = gone_head in let f = few p (shown j) problem in omega arith);
+          small = subst (λ n. top_at gone n + 1 < 2 ^ 28) (sym gone_top_here) (let c = s.counts j pos le in let g = gone_head in let f = few p (shown j) problem in omega arith);
           inside = subst (λ fs. IsInside fs q) (sym (ap (changed one_more gone) gone_top_here ∙ gone_again)) (record {
             here = subst (λ n. q < n) (sym (length-unlinked es q)) low;
             above = subst (λ n. n < length (unlinked es q)) (sym (leaves_prev taken_out)) (subst (λ n. up_at es q < n) (sym (length-unlinked es q)) up_low);

@@ -219,7 +219,7 @@ module _ (p : ProblemValue) (active : ℕ → Bool) (problem : IsProblem p) (i k
     end_is : (f : ℕ → ℕ → Bool) (gs : List Entry) → Stands p f active gs → option_end gs q ≡ start_of p k + length o
     end_is f gs t = t.ends i (suc k) node_here
 
-    end_small : start_of p k + length o < 2 ^ 32
+    end_small : start_of p k + length o < 2 ^ 28
     end_small = let s = size_small p problem in let b = (spacer_low p (suc k) (omega arith) (omega arith)).1 in omega arith
 
     long : length o ≡ length xs + suc (length ys)
@@ -260,7 +260,7 @@ module _ (p : ProblemValue) (active : ℕ → Bool) (problem : IsProblem p) (i k
       here = low shown es s;
       begin = (let b = begin_is shown es s in omega arith);
       end = (let r = end_is shown es s in let l = long in omega arith);
-      word = subst (λ n. n < 2 ^ 32) (sym (end_is shown es s)) end_small;
+      word = subst (λ n. n < 2 ^ 28) (sym (end_is shown es s)) end_small;
       after = subst (λ n. CanHideRun es (suc q) n) (sym (after_count (option_end es q) (end_is shown es s))) one.can;
       before = subst (λ (w : List Entry × ℕ × ℕ). CanHideRun w.0 w.1 w.2) (λ j. (sym after_is j, sym (start_is shown es s) j, sym (before_count (option_start es q) (start_is shown es s)) j)) two.can;
     }
@@ -273,7 +273,7 @@ module _ (p : ProblemValue) (active : ℕ → Bool) (problem : IsProblem p) (i k
           here = low (option_gone p i shown (suc k)) all_hidden t;
           begin = omega arith;
           end = (let n = long in omega arith);
-          word = subst (λ n. n < 2 ^ 32) (sym r) end_small;
+          word = subst (λ n. n < 2 ^ 28) (sym r) end_small;
           before = subst (λ n. CanUnhideRun all_hidden n q) (sym l) two.back_can;
           after = subst (λ (w : List Entry × ℕ). CanUnhideRun w.0 (suc q) w.1) (λ j. (sym before_is j, (let n = long in let e : suc q + length ys ≡ option_end all_hidden q = omega arith in e) j)) one.back_can;
         }

@@ -12,18 +12,25 @@ use Rattle.std_alloc.proofs.SendSync.{FreesAnywhere, quiet}
 use Rattle.cover_links.specs.declared.entry.Entry.{Entry}
 use denote.Struct.Declared as Declared
 use Rattle.cover_links.specs.contracts.entry.Entry as entry
+use Rattle.cover_links.specs.contracts.entry.Offset as offset
 use Rattle.cover_links.specs.contracts.entry.Entry.{the_row}
 use Rattle.cover_links.specs.Ownership.{entry_size, slots_own, slots_lent, row_own, row_lent}
 use Rattle.cover_links.specs.contracts.raw.Slots as slots
 use Rattle.cover_links.specs.contracts.raw.Allocation as allocation
 
+offset_send : IsSend offset.the_row
+offset_send = search sendable
+
+offset_sync : IsSync offset.the_row
+offset_sync = search sendable
+
 entry_send : IsSend the_row
 entry_send =
-    recorded_send (entry.the_field).row _ _ (entry.the_type).to_one (struct_send (Declared.shape entry.the_type) (plain_send _ _ _ _ _, (plain_send _ _ _ _ _, (plain_send _ _ _ _ _, (plain_send _ _ _ _ _, (plain_send _ _ _ _ _, tt))))))
+    recorded_send (entry.the_field).row _ _ (entry.the_type).to_one (struct_send (Declared.shape entry.the_type) (offset_send, (offset_send, (offset_send, (plain_send _ _ _ _ _, (plain_send _ _ _ _ _, tt))))))
 
 entry_sync : IsSync the_row
 entry_sync =
-    recorded_sync (entry.the_field).row _ _ (entry.the_type).to_one (struct_sync (Declared.shape entry.the_type) (plain_sync _ _ _ _ _, (plain_sync _ _ _ _ _, (plain_sync _ _ _ _ _, (plain_sync _ _ _ _ _, (plain_sync _ _ _ _ _, tt))))))
+    recorded_sync (entry.the_field).row _ _ (entry.the_type).to_one (struct_sync (Declared.shape entry.the_type) (offset_sync, (offset_sync, (offset_sync, (plain_sync _ _ _ _ _, (plain_sync _ _ _ _ _, tt))))))
 
 places_cross : (b o : ℕ) (cs : List (Option Entry)) → Keyless (slots_own b o cs)
 places_cross b o [] = tt

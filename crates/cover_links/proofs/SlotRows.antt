@@ -32,6 +32,10 @@ next_place i o = omega (arith, suc-mul i entry_size)
 first_place : (o : ℕ) → o ≡ 0 * entry_size + o
 first_place o = omega (arith, zero-mul entry_size)
 
+-- as many bytes before them, as many places
+pub same_place : (i j : ℕ) → i * entry_size ≡ j * entry_size → i ≡ j
+same_place i j h = let e : i * 16 ≡ j * 16 = h in omega arith
+
 pub filled_within : (cs : List (Option Entry)) (i : ℕ) (e : Entry) → get_or cs i None ≡ Some e → i < length cs
 filled_within [] i e h = cc
 filled_within (c ∷ cs) zero e h = omega arith

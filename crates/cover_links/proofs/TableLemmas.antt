@@ -130,13 +130,13 @@ module _ {p : ProblemValue} {c : List ℕ} {items : ℕ} {block : List Entry} {s
       linked_option found (λ k h. rises_member 1 k L (list_rises p c j) (inside k h)),
     )
 
-    pub first_leads : {e : Entry} → e ≡ entry_at block j → IsLinkTo block j e.down (above 0 L)
-    first_leads is = subst (λ (e : Entry). IsLinkTo block j e.down (above 0 L)) (sym is) (next_leads 0 (inl refl))
+    pub first_leads : {e : Entry} {n : ℕ} → e ≡ entry_at block j → n ≡ e.down → IsLinkTo block j n (above 0 L)
+    first_leads is link = subst (λ n. IsLinkTo block j n (above 0 L)) (sym (link ∙ ap (λ (e : Entry). e.down) is)) (next_leads 0 (inl refl))
 
-    pub last_leads : {e : Entry} → e ≡ entry_at block j → IsLinkTo block j e.up (last_of L)
-    last_leads is =
+    pub last_leads : {e : Entry} {n : ℕ} → e ≡ entry_at block j → n ≡ e.up → IsLinkTo block j n (last_of L)
+    last_leads is link =
         let f = subst (λ l. Follows (shown_of p c j) (unwrap_or (last_of l) 0) 0) (shown_list p c j) (last_to_head (shown_of p c j) (length p.options) within) in
-        subst (λ (e : Entry). IsLinkTo block j e.up (last_of L)) (sym is) (prev_leads 0 (last_of L) f (λ k h. (last_is 1 L k (list_rises p c j) h).0))
+        subst (λ n. IsLinkTo block j n (last_of L)) (sym (link ∙ ap (λ (e : Entry). e.up) is)) (prev_leads 0 (last_of L) f (λ k h. (last_is 1 L k (list_rises p c j) h).0))
 
   -- from an option of the item's list
   module _ (j o : ℕ) (m : has (list_of p c j) o ≡ true) where
@@ -149,14 +149,14 @@ module _ {p : ProblemValue} {c : List ℕ} {items : ℕ} {block : List Entry} {s
     pub node_low : {x : ℕ} → x ≡ node_index p j o → x < length block
     node_low at = let low = place_low p j o (record { some = member.1; within = member.2; has_item = member.0 }) in let s = (stands).size in omega arith
 
-    pub next_from : {x : ℕ} {e : Entry} → x ≡ node_index p j o → e ≡ entry_at block x → IsLinkTo block j e.down (above o (list_of p c j))
-    next_from at is =
-        subst (λ (e : Entry). IsLinkTo block j e.down (above o (list_of p c j))) (sym (is ∙ ap (entry_at block) at)) (next_leads j item.0 item.1 o (inr (is_shown j item.0 item.1 o m)))
+    pub next_from : {x : ℕ} {e : Entry} {n : ℕ} → x ≡ node_index p j o → e ≡ entry_at block x → n ≡ e.down → IsLinkTo block j n (above o (list_of p c j))
+    next_from at is link =
+        subst (λ n. IsLinkTo block j n (above o (list_of p c j))) (sym (link ∙ ap (λ (e : Entry). e.down) (is ∙ ap (entry_at block) at))) (next_leads j item.0 item.1 o (inr (is_shown j item.0 item.1 o m)))
 
-    pub prev_from : {x : ℕ} {e : Entry} → x ≡ node_index p j o → e ≡ entry_at block x → IsLinkTo block j e.up (below o (list_of p c j))
-    prev_from at is =
+    pub prev_from : {x : ℕ} {e : Entry} {n : ℕ} → x ≡ node_index p j o → e ≡ entry_at block x → n ≡ e.up → IsLinkTo block j n (below o (list_of p c j))
+    prev_from at is link =
         let f = subst (λ l. Follows (shown_of p c j) (unwrap_or (below o l) 0) o) (shown_list p c j) (prev_is (shown_of p c j) (length p.options) (within j item.0 item.1) o (is_shown j item.0 item.1 o m)) in
-        subst (λ (e : Entry). IsLinkTo block j e.up (below o (list_of p c j))) (sym (is ∙ ap (entry_at block) at))
+        subst (λ n. IsLinkTo block j n (below o (list_of p c j))) (sym (link ∙ ap (λ (e : Entry). e.up) (is ∙ ap (entry_at block) at)))
         (prev_leads j item.0 item.1 o (below o (list_of p c j)) f (λ k h. (below_is o 1 (list_of p c j) k (list_rises p c j) h).member))
 
   -- ---- the nodes of an option

@@ -23,11 +23,11 @@ pub record CanHideNode (es : List Entry) (q : ℕ) : Type 0 where
   pub item : (entry_at es q).top < length es
   pub some : 0 < (entry_at (unlinked es q) (entry_at es q).top).top
 
--- a node can come back: the length of its list stays a word
+-- a node can come back: the length of its list stays what an offset counts
 pub record CanUnhideNode (es : List Entry) (q : ℕ) : Type 0 where
   pub here : q < length es
   pub item : (entry_at es q).top < length es
-  pub small : (entry_at es (entry_at es q).top).top + 1 < 2 ^ 32
+  pub small : (entry_at es (entry_at es q).top).top + 1 < 2 ^ 28
   pub inside : IsInside (changed one_more es (entry_at es q).top) q
 
 -- n nodes can be hidden, from a on
@@ -44,7 +44,7 @@ pub record CanHide (es : List Entry) (p : ℕ) : Type 0 where
   pub here : p < length es
   pub begin : (entry_at es p).left ≤ p
   pub end : p < option_end es p
-  pub word : option_end es p < 2 ^ 32
+  pub word : option_end es p < 2 ^ 28
   pub after : CanHideRun es (suc p) (option_end es p - suc p)
   pub before : CanHideRun (after_hidden es p) (option_start es p) (p - option_start es p)
 
@@ -53,7 +53,7 @@ pub record CanUnhide (es : List Entry) (p : ℕ) : Type 0 where
   pub here : p < length es
   pub begin : (entry_at es p).left ≤ p
   pub end : p < option_end es p
-  pub word : option_end es p < 2 ^ 32
+  pub word : option_end es p < 2 ^ 28
   pub before : CanUnhideRun es (option_start es p) p
   pub after : CanUnhideRun (before_unhidden es p) (suc p) (option_end es p)
 
@@ -69,6 +69,7 @@ CanUnhideList es p (suc n) = CanUnhide es p × CanUnhideList (unhidden es p) (en
 
 -- an item can be covered
 pub record CanCoverItem (es : List Entry) (i : ℕ) : Type 0 where
+  pub small : i < 2 ^ 16
   pub here : i < length es
   pub options : CanHideList es (entry_at es i).down (entry_at es i).top
   pub row : IsItemInside (options_hidden es i) i
@@ -81,6 +82,7 @@ pub record CanUncoverItem (es : List Entry) (i : ℕ) : Type 0 where
 
 -- a node can be appended, to an option that is not too long
 pub record CanAppendNode (es : List Entry) (x i start end : ℕ) : Type 0 where
+  pub word : length es < 2 ^ 28
   pub here : x < length es
   pub item : i < length es
   pub from : start ≤ x
@@ -98,5 +100,5 @@ CanAppendNodes es x start end (i ∷ items) =
 pub record CanAppendOption (es : List Entry) (start : ℕ) (option : List ℕ) : Type 0 where
   pub some : 0 < start
   pub end : start + length option < length es
-  pub word : start + length option < 2 ^ 32
+  pub word : start + length option < 2 ^ 28
   pub nodes : CanAppendNodes es start start (start + length option) option

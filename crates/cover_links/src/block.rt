@@ -1,13 +1,14 @@
 //! One raw block of entries. A clause sees it as the list of its entries.
-ghost use Rattle.std.specs.Prelude.{◌≡◌, ◌<◌, length, replicate, slice_set};
+ghost use Rattle.std.specs.Prelude.{◌≡◌, ℕ, ◌*◌, ◌<◌, length, replicate, slice_set};
 ghost use Rattle.cover_problem.specs.Answers.{Returns};
-ghost use Rattle.cover_links.specs.Ownership.{FitsInBlock};
+ghost use Rattle.cover_links.specs.Ownership.{entry_size, FitsInBlock};
 ghost use Rattle.cover_links.specs.Entries.{entry_at};
 
-use crate::entry::Entry;
+use crate::entry::{Entry, Offset};
 use crate::raw::{Allocation, Base, Slots, allocate, deallocate};
 use std::alloc::{AllocError, Allocator, Global};
 use std::marker::Model;
+use std::mem::size_of;
 
 /// The entries of a block, apart from where they begin. Who goes through many of them keeps that address by value: a compiler
 /// would load it again from the block after each entry that is written.
@@ -29,25 +30,46 @@ impl Model for Row {
 }
 
 impl Row {
-    /// The entry at an index, by where the row begins.
+    /// The entry that has so many bytes before it, by where the row begins.
     #[inline(always)]
-    pub fn read(&self, base: Base, index: u32) -> Entry
+    fn read_at(&self, base: Base, bytes: usize) -> Entry
         requires place { base.ptr ≡ self.now.place.at }
-        requires within { index < length self.now.entries }
-        ensures { result ≡ entry_at self.now.entries index }
+        requires within { (i : ℕ) × (bytes ≡ i * entry_size) × (i < length self.now.entries) }
+        ensures { (i : ℕ) → bytes ≡ i * entry_size → result ≡ entry_at self.now.entries i }
     {
-        *self.slots.get(base, index as usize)
+        *self.slots.get(base, bytes)
     }
 
-    /// Puts an entry at an index, by where the row begins.
+    /// Puts an entry there.
     #[inline(always)]
-    pub fn write(&mut self, base: Base, index: u32, entry: Entry)
+    fn write_at(&mut self, base: Base, bytes: usize, entry: Entry)
         requires place { base.ptr ≡ self.old.place.at }
-        requires within { index < length self.old.entries }
+        requires within { (i : ℕ) × (bytes ≡ i * entry_size) × (i < length self.old.entries) }
         ensures place { self.new.place ≡ self.old.place }
-        ensures entries { self.new.entries ≡ slice_set self.old.entries index entry }
+        ensures entries { (i : ℕ) → bytes ≡ i * entry_size → self.new.entries ≡ slice_set self.old.entries i entry }
     {
-        self.slots.put(base, index as usize, entry)
+        self.slots.put(base, bytes, entry)
+    }
+
+    /// The entry at an offset, by where the row begins.
+    #[inline(always)]
+    pub fn read(&self, base: Base, offset: Offset) -> Entry
+        requires place { base.ptr ≡ self.now.place.at }
+        requires within { offset < length self.now.entries }
+        ensures { result ≡ entry_at self.now.entries offset }
+    {
+        self.read_at(base, offset.bytes())
+    }
+
+    /// Puts an entry at an offset, by where the row begins.
+    #[inline(always)]
+    pub fn write(&mut self, base: Base, offset: Offset, entry: Entry)
+        requires place { base.ptr ≡ self.old.place.at }
+        requires within { offset < length self.old.entries }
+        ensures place { self.new.place ≡ self.old.place }
+        ensures entries { self.new.entries ≡ slice_set self.old.entries offset entry }
+    {
+        self.write_at(base, offset.bytes(), entry)
     }
 }
 
@@ -79,8 +101,10 @@ impl<A: Allocator> Block<A> {
         ensures { Returns result (replicate len blank) }
     {
         let (base, mut slots, allocation) = allocate(&alloc, len)?;
+        // Copied through a reference: round a loop the prover follows no copy of an argument whose type has a model in it.
+        let each = &blank;
         for index in 0..len {
-            slots.put(base, index, blank);
+            slots.put(base, index * size_of::<Entry>(), *each);
         }
         Ok(Block {
             base,
@@ -96,7 +120,8 @@ impl<A: Allocator> Block<A> {
         requires { index < length self.now }
         ensures { result ≡ entry_at self.now index }
     {
-        self.row.read(self.base, index)
+        self.row
+            .read_at(self.base, index as usize * size_of::<Entry>())
     }
 
     /// Puts an entry at an index.
@@ -105,7 +130,8 @@ impl<A: Allocator> Block<A> {
         requires { index < length self.old }
         ensures { self.new ≡ slice_set self.old index entry }
     {
-        self.row.write(self.base, index, entry)
+        self.row
+            .write_at(self.base, index as usize * size_of::<Entry>(), entry)
     }
 }
 

@@ -7,19 +7,10 @@ ghost use Rattle.cover_links.specs.Layout.{AreStarts};
 ghost use Rattle.cover_links.specs.Safety.{CanAppendNode, CanAppendOption};
 
 use crate::block::Block;
-use crate::entry::Entry;
+use crate::entry::{Entry, Offset};
 use crate::hiding::append_to_list;
 use cover_problem::Problem;
 use std::alloc::{AllocError, Global};
-
-/// An entry that names nothing.
-pub(crate) const BLANK: Entry = Entry {
-    top: 0,
-    up: 0,
-    down: 0,
-    left: 0,
-    right: 0,
-};
 
 /// For each option where its first node stands, and at the end where the block ends.
 pub(crate) fn starts(alloc: Global, problem: &Problem) -> Result<Vec<u32>, AllocError>
@@ -44,10 +35,11 @@ fn empty_head(item: u16, primary: u16) -> Entry
 {
     let is_primary = item <= primary;
     let after = if item < primary { item + 1 } else { 0 };
+    let head = Offset::at(item as u32);
     Entry {
-        top: 0,
-        up: item as u32,
-        down: item as u32,
+        top: Offset::at(0),
+        up: head,
+        down: head,
         left: if is_primary { item - 1 } else { item },
         right: if is_primary { after } else { item },
     }
@@ -65,7 +57,7 @@ fn write_heads(block: &mut Block, items: u32, primary: u32)
         Entry {
             left: primary as u16,
             right: 1,
-            ..BLANK
+            ..Entry::blank()
         },
     );
     for item in 1..items + 1 {
@@ -78,23 +70,25 @@ fn append_node(block: &mut Block, index: u32, item: u32, start: u32, end: u32)
     requires { CanAppendNode block.old index item start end }
     ensures { block.new ≡ node_appended block.old index item start end }
 {
+    let head = Offset::at(item);
     let up = block.read(item).up;
     block.write(
         index,
         Entry {
-            top: item,
+            top: head,
             up,
-            down: item,
+            down: head,
             left: (index - start) as u16,
             right: (end - index) as u16,
         },
     );
-    append_to_list(block, index);
+    append_to_list(block, Offset::at(index));
 }
 
 /// Appends the nodes of an option and the spacer past them, to which the spacer before them leads.
 fn append_option(block: &mut Block, start: u32, option: &[u32], number: u32)
-    requires { CanAppendOption block.old start option.now }
+    requires can { CanAppendOption block.old start option.now }
+    requires small { number < 2 ^ 28 }
     ensures { block.new ≡ option_appended block.old start option.now number }
 {
     let end = start + option.len() as u32;
@@ -107,16 +101,16 @@ fn append_option(block: &mut Block, start: u32, option: &[u32], number: u32)
     block.write(
         start - 1,
         Entry {
-            down: end - 1,
+            down: Offset::at(end - 1),
             ..before
         },
     );
     block.write(
         end,
         Entry {
-            top: number,
-            up: start,
-            ..BLANK
+            top: Offset::at(number),
+            up: Offset::at(start),
+            ..Entry::blank()
         },
     );
 }
@@ -129,7 +123,7 @@ pub(crate) fn fresh(alloc: Global, problem: &Problem, starts: &[u32]) -> Result<
 {
     let items = problem.items();
     let options = problem.options();
-    let mut block = Block::make(alloc, starts[options as usize] as usize, BLANK)?;
+    let mut block = Block::make(alloc, starts[options as usize] as usize, Entry::blank())?;
     write_heads(&mut block, items, problem.primary());
     for k in 0..options {
         append_option(&mut block, starts[k as usize], problem.option(k + 1), k + 1);

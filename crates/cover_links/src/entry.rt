@@ -1,18 +1,118 @@
 //! What stands at one place of the block, and what a reader sees of it.
+ghost use Rattle.std.specs.Prelude.{◌≡◌, ◌<◌, ◌≤◌, ◌+◌, ◌-◌, ◌*◌, ◌^◌, true, false};
 
-/// An entry of the block: the header, an item's head, a node, or a spacer.
+use std::marker::Model;
+
+/// A number of entries, below 2^28, kept as the bytes that they take: for a place of the block, how many entries stand before it. So
+/// what a link leads to is found by one addition, and no shift. A contract sees the number.
+#[derive(Clone, Copy)]
+pub struct Offset {
+    bytes: u32,
+}
+
+impl Model for Offset {
+    ghost use Rattle.std.specs.Prelude.{◌≡◌, ◌*◌, ◌/◌, ℕ};
+
+    ghost Value = { ℕ };
+
+    ghost view = { λ o. o.bytes / 16 };
+
+    ghost invariant = { λ o. o.bytes / 16 * 16 ≡ o.bytes };
+
+    ghost inverse = { λ n. record { bytes = n * 16 } };
+
+    ghost inverse_ok = { λ o h i. record { bytes = h i } };
+}
+
+impl Offset {
+    /// So many entries: the place that has this index.
+    #[inline(always)]
+    pub fn at(index: u32) -> Offset
+        requires { index < 2 ^ 28 }
+        ensures { result ≡ index }
+    {
+        Offset { bytes: index * 16 }
+    }
+
+    /// How many they are: the index of the place.
+    #[inline(always)]
+    pub fn index(self) -> u32
+        ensures { result ≡ self }
+    {
+        self.bytes / 16
+    }
+
+    /// The bytes that they take.
+    #[inline(always)]
+    pub(crate) fn bytes(self) -> usize
+        ensures { result ≡ self * 16 }
+    {
+        self.bytes as usize
+    }
+
+    /// So many more.
+    #[inline(always)]
+    pub fn plus(self, count: u32) -> Offset
+        requires { self + count < 2 ^ 28 }
+        ensures { result ≡ self + count }
+    {
+        Offset {
+            bytes: self.bytes + count * 16,
+        }
+    }
+
+    /// So many fewer.
+    #[inline(always)]
+    pub fn minus(self, count: u32) -> Offset
+        requires { count ≤ self }
+        ensures { result ≡ self - count }
+    {
+        Offset {
+            bytes: self.bytes - count * 16,
+        }
+    }
+
+    /// Whether both are the same number.
+    #[inline(always)]
+    pub fn is(self, other: Offset) -> bool
+        ensures same { result ≡ true → self ≡ other }
+        ensures apart { result ≡ false → self ≡ other → ⊥ }
+    {
+        self.bytes == other.bytes
+    }
+}
+
+/// An entry of the block: the header, an item's head, a node, or a spacer. Its numbers up to 2^28 are offsets, and those up to 2^16
+/// are counts of entries.
 #[derive(Clone, Copy)]
 pub struct Entry {
-    /// Of a head the length of its list, of a node its item, of a spacer the number of the option before it.
-    pub top: u32,
+    /// Of a head the length of its list, of a node its item, of a spacer the number of the option before it. One field serves all, so
+    /// a length and a number are kept as an item is.
+    pub top: Offset,
     /// The entry above it in its list; of a spacer the first node of the option before it, or 0.
-    pub up: u32,
+    pub up: Offset,
     /// The entry below it in its list; of a spacer the last node of the option after it, or 0.
-    pub down: u32,
+    pub down: Offset,
     /// Of the header and a head the active item before it, of a node the number of nodes before it in its option.
     pub left: u16,
     /// Of the header and a head the active item after it, of a node the number of entries from it to the spacer past its option.
     pub right: u16,
+}
+
+impl Entry {
+    /// An entry that names nothing.
+    pub fn blank() -> Entry
+        ensures { result ≡ record { top = 0; up = 0; down = 0; left = 0; right = 0 } }
+    {
+        let nothing = Offset::at(0);
+        Entry {
+            top: nothing,
+            up: nothing,
+            down: nothing,
+            left: 0,
+            right: 0,
+        }
+    }
 }
 
 /// An entry as the literature prints it: an item's length or a node's item (of a spacer the number of the option before it,

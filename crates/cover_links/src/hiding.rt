@@ -6,12 +6,12 @@ ghost use Rattle.cover_links.specs.Hiding.{node_hidden, node_unhidden, hidden, u
 ghost use Rattle.cover_links.specs.Safety.{IsInside, IsItemInside, CanHideNode, CanUnhideNode, CanHide, CanUnhide, CanCoverItem, CanUncoverItem};
 
 use crate::block::{Block, Row};
-use crate::entry::Entry;
+use crate::entry::{Entry, Offset};
 use crate::raw::Base;
 
 /// Lets an entry's neighbours in its vertical list name each other.
 #[inline(always)]
-fn unlink(row: &mut Row, base: Base, index: u32)
+fn unlink(row: &mut Row, base: Base, index: Offset)
     requires place { base.ptr ≡ row.old.place.at }
     requires can { IsInside row.old.entries index }
     ensures place { row.new.place ≡ row.old.place }
@@ -26,7 +26,7 @@ fn unlink(row: &mut Row, base: Base, index: u32)
 
 /// Lets them name the entry again.
 #[inline(always)]
-fn relink(row: &mut Row, base: Base, index: u32)
+fn relink(row: &mut Row, base: Base, index: Offset)
     requires place { base.ptr ≡ row.old.place.at }
     requires can { IsInside row.old.entries index }
     ensures place { row.new.place ≡ row.old.place }
@@ -48,22 +48,24 @@ fn relink(row: &mut Row, base: Base, index: u32)
 
 /// Lets an item's neighbours in the row of active items name each other.
 #[inline(always)]
-fn unlink_item(row: &mut Row, base: Base, item: u32)
+fn unlink_item(row: &mut Row, base: Base, item: Offset)
     requires place { base.ptr ≡ row.old.place.at }
     requires can { IsItemInside row.old.entries item }
     ensures place { row.new.place ≡ row.old.place }
     ensures entries { row.new.entries ≡ item_unlinked row.old.entries item }
 {
     let Entry { left, right, .. } = row.read(base, item);
-    let before = row.read(base, left as u32);
-    row.write(base, left as u32, Entry { right, ..before });
-    let after = row.read(base, right as u32);
-    row.write(base, right as u32, Entry { left, ..after });
+    let place = Offset::at(left as u32);
+    let before = row.read(base, place);
+    row.write(base, place, Entry { right, ..before });
+    let place = Offset::at(right as u32);
+    let after = row.read(base, place);
+    row.write(base, place, Entry { left, ..after });
 }
 
 /// Lets them name the item again.
 #[inline(always)]
-fn relink_item(row: &mut Row, base: Base, item: u32)
+fn relink_item(row: &mut Row, base: Base, item: Offset)
     requires place { base.ptr ≡ row.old.place.at }
     requires inside { IsItemInside row.old.entries item }
     requires small { item < 2 ^ 16 }
@@ -71,21 +73,24 @@ fn relink_item(row: &mut Row, base: Base, item: u32)
     ensures entries { row.new.entries ≡ item_relinked row.old.entries item }
 {
     let Entry { left, right, .. } = row.read(base, item);
-    let before = row.read(base, left as u32);
+    let number = item.index() as u16;
+    let place = Offset::at(left as u32);
+    let before = row.read(base, place);
     row.write(
         base,
-        left as u32,
+        place,
         Entry {
-            right: item as u16,
+            right: number,
             ..before
         },
     );
-    let after = row.read(base, right as u32);
+    let place = Offset::at(right as u32);
+    let after = row.read(base, place);
     row.write(
         base,
-        right as u32,
+        place,
         Entry {
-            left: item as u16,
+            left: number,
             ..after
         },
     );
@@ -93,7 +98,7 @@ fn relink_item(row: &mut Row, base: Base, item: u32)
 
 /// Takes a node out of its list, which is one shorter.
 #[inline(always)]
-fn hide_node(row: &mut Row, base: Base, index: u32)
+fn hide_node(row: &mut Row, base: Base, index: Offset)
     requires place { base.ptr ≡ row.old.place.at }
     requires can { CanHideNode row.old.entries index }
     ensures place { row.new.place ≡ row.old.place }
@@ -106,7 +111,7 @@ fn hide_node(row: &mut Row, base: Base, index: u32)
         base,
         item,
         Entry {
-            top: head.top - 1,
+            top: head.top.minus(1),
             ..head
         },
     );
@@ -114,7 +119,7 @@ fn hide_node(row: &mut Row, base: Base, index: u32)
 
 /// Puts a node back into its list.
 #[inline(always)]
-fn unhide_node(row: &mut Row, base: Base, index: u32)
+fn unhide_node(row: &mut Row, base: Base, index: Offset)
     requires place { base.ptr ≡ row.old.place.at }
     requires can { CanUnhideNode row.old.entries index }
     ensures place { row.new.place ≡ row.old.place }
@@ -126,7 +131,7 @@ fn unhide_node(row: &mut Row, base: Base, index: u32)
         base,
         item,
         Entry {
-            top: head.top + 1,
+            top: head.top.plus(1),
             ..head
         },
     );
@@ -135,37 +140,43 @@ fn unhide_node(row: &mut Row, base: Base, index: u32)
 
 /// The place after one in an option, whose nodes stand from `start` up to `end`: after the last comes the first.
 #[inline(always)]
-fn place_after(place: u32, start: u32, end: u32) -> u32
-    requires { place < end }
+fn place_after(place: Offset, start: Offset, end: Offset) -> Offset
+    requires within { place < end }
+    requires word { end < 2 ^ 28 }
     ensures { result ≡ (if place + 1 == end then start else place + 1) }
 {
-    if place + 1 == end { start } else { place + 1 }
+    let next = place.plus(1);
+    if next.is(end) { start } else { next }
 }
 
 /// The place before one: before the first comes the last.
 #[inline(always)]
-fn place_before(place: u32, start: u32, end: u32) -> u32
+fn place_before(place: Offset, start: Offset, end: Offset) -> Offset
     requires within { start ≤ place }
     requires some { start < end }
     ensures { result ≡ (if place == start then end - 1 else place - 1) }
 {
-    if place == start { end - 1 } else { place - 1 }
+    if place.is(start) {
+        end.minus(1)
+    } else {
+        place.minus(1)
+    }
 }
 
 /// Hides the other nodes of a node's option: those after it, then those before it. One loop goes round the option, so that its
 /// number of turns is the option's length less one, which the processor foresees.
 #[inline(always)]
-fn hide(row: &mut Row, base: Base, index: u32)
+fn hide(row: &mut Row, base: Base, index: Offset)
     requires place { base.ptr ≡ row.old.place.at }
     requires can { CanHide row.old.entries index }
     ensures place { row.new.place ≡ row.old.place }
     ensures entries { row.new.entries ≡ hidden row.old.entries index }
 {
     let Entry { left, right, .. } = row.read(base, index);
-    let start = index - left as u32;
-    let end = index + right as u32;
+    let start = index.minus(left as u32);
+    let end = index.plus(right as u32);
     let mut node = place_after(index, start, end);
-    while node != index {
+    while !node.is(index) {
         hide_node(row, base, node);
         node = place_after(node, start, end);
     }
@@ -173,24 +184,24 @@ fn hide(row: &mut Row, base: Base, index: u32)
 
 /// Puts them back, in the reverse order.
 #[inline(always)]
-fn unhide(row: &mut Row, base: Base, index: u32)
+fn unhide(row: &mut Row, base: Base, index: Offset)
     requires place { base.ptr ≡ row.old.place.at }
     requires can { CanUnhide row.old.entries index }
     ensures place { row.new.place ≡ row.old.place }
     ensures entries { row.new.entries ≡ unhidden row.old.entries index }
 {
     let Entry { left, right, .. } = row.read(base, index);
-    let start = index - left as u32;
-    let end = index + right as u32;
+    let start = index.minus(left as u32);
+    let end = index.plus(right as u32);
     let mut node = place_before(index, start, end);
-    while node != index {
+    while !node.is(index) {
         unhide_node(row, base, node);
         node = place_before(node, start, end);
     }
 }
 
 /// Hides the options of an item's list, and takes it out of the row of active items.
-fn cover_in(row: &mut Row, base: Base, item: u32)
+fn cover_in(row: &mut Row, base: Base, item: Offset)
     requires place { base.ptr ≡ row.old.place.at }
     requires can { CanCoverItem row.old.entries item }
     ensures place { row.new.place ≡ row.old.place }
@@ -198,7 +209,7 @@ fn cover_in(row: &mut Row, base: Base, item: u32)
 {
     let head = row.read(base, item);
     let mut node = head.down;
-    for _turn in 0..head.top {
+    for _turn in 0..head.top.index() {
         hide(row, base, node);
         node = row.read(base, node).down;
     }
@@ -206,7 +217,7 @@ fn cover_in(row: &mut Row, base: Base, item: u32)
 }
 
 /// Undoes that for the item that was covered last.
-fn uncover_in(row: &mut Row, base: Base, item: u32)
+fn uncover_in(row: &mut Row, base: Base, item: Offset)
     requires place { base.ptr ≡ row.old.place.at }
     requires can { CanUncoverItem row.old.entries item }
     ensures place { row.new.place ≡ row.old.place }
@@ -215,7 +226,7 @@ fn uncover_in(row: &mut Row, base: Base, item: u32)
     relink_item(row, base, item);
     let head = row.read(base, item);
     let mut node = head.up;
-    for _turn in 0..head.top {
+    for _turn in 0..head.top.index() {
         unhide(row, base, node);
         node = row.read(base, node).up;
     }
@@ -227,7 +238,7 @@ pub(crate) fn cover_item(block: &mut Block, item: u32)
     ensures { block.new ≡ item_covered block.old item }
 {
     let Block { base, row, .. } = block;
-    cover_in(row, *base, item);
+    cover_in(row, *base, Offset::at(item));
 }
 
 /// Uncovers the item that was covered last.
@@ -236,11 +247,11 @@ pub(crate) fn uncover_item(block: &mut Block, item: u32)
     ensures { block.new ≡ item_uncovered block.old item }
 {
     let Block { base, row, .. } = block;
-    uncover_in(row, *base, item);
+    uncover_in(row, *base, Offset::at(item));
 }
 
 /// Puts a node of a block into its list.
-pub(crate) fn append_to_list(block: &mut Block, index: u32)
+pub(crate) fn append_to_list(block: &mut Block, index: Offset)
     requires { CanUnhideNode block.old index }
     ensures { block.new ≡ node_unhidden block.old index }
 {

@@ -1,9 +1,9 @@
 //! The only file with `unsafe`: a row of places in one raw block, each empty or holding an entry. Its callers rest on four facts: an
 //! allocated row is empty; an entry that was put is what is got; putting changes no other place; and a row that is given up is freed.
-ghost use Rattle.std.specs.Prelude.{◌≡◌, ℕ, ◌<◌, ◌≤◌, List, Option, Some, None, length, replicate, get_or, slice_set, IfOk, ⊤};
+ghost use Rattle.std.specs.Prelude.{◌≡◌, ℕ, ◌*◌, ◌<◌, ◌≤◌, List, Option, Some, None, length, replicate, get_or, slice_set, IfOk, ⊤};
 ghost use base.Fml.{ftrue};
 ghost use denote.RawPtr.{Ptr};
-ghost use Rattle.cover_links.specs.Ownership.{row_own, row_lent, allocation_owns, FitsInBlock};
+ghost use Rattle.cover_links.specs.Ownership.{row_own, row_lent, allocation_owns, entry_size, FitsInBlock};
 ghost use Rattle.cover_links.specs.declared.entry.Entry.{Entry};
 
 use crate::entry::Entry;
@@ -115,21 +115,23 @@ pub(crate) fn deallocate<A: Allocator>(
 }
 
 impl Slots {
-    /// The entry at a place.
+    /// The entry at a place, which is told by the bytes before it.
     #[inline(always)]
-    pub(crate) fn get(&self, base: Base, index: usize) -> &Entry
-        requires { (base.ptr ≡ self.now.at) × ((x : Entry) × (get_or self.now.slots index None ≡ Some x)) }
-        ensures { get_or self.now.slots index None ≡ Some result.now }
+    pub(crate) fn get(&self, base: Base, bytes: usize) -> &Entry
+        requires { (base.ptr ≡ self.now.at) × ((i : ℕ) × (bytes ≡ i * entry_size)
+            × ((x : Entry) × (get_or self.now.slots i None ≡ Some x))) }
+        ensures { (i : ℕ) → bytes ≡ i * entry_size → get_or self.now.slots i None ≡ Some result.now }
     {
-        unsafe { &*base.ptr.add(index) }
+        unsafe { &*((base.ptr as *mut u8).add(bytes) as *mut Entry) }
     }
 
     /// Puts an entry into a place, over what stood there.
     #[inline(always)]
-    pub(crate) fn put(&mut self, base: Base, index: usize, entry: Entry)
-        requires { (base.ptr ≡ self.old.at) × (index < length self.old.slots) }
-        ensures { (self.new.at ≡ self.old.at) × (self.new.slots ≡ slice_set self.old.slots index (Some entry)) }
+    pub(crate) fn put(&mut self, base: Base, bytes: usize, entry: Entry)
+        requires { (base.ptr ≡ self.old.at) × ((i : ℕ) × (bytes ≡ i * entry_size) × (i < length self.old.slots)) }
+        ensures { (self.new.at ≡ self.old.at)
+            × ((i : ℕ) → bytes ≡ i * entry_size → self.new.slots ≡ slice_set self.old.slots i (Some entry)) }
     {
-        unsafe { base.ptr.add(index).write(entry) }
+        unsafe { ((base.ptr as *mut u8).add(bytes) as *mut Entry).write(entry) }
     }
 }

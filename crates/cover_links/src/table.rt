@@ -62,7 +62,7 @@ fn option_at(block: &Block, item: u32, node: u32) -> Option<u32>
         return None;
     }
     let spacer = node + block.read(node).right as u32;
-    Some(block.read(spacer).top)
+    Some(block.read(spacer).top.index())
 }
 
 impl LinkTable {
@@ -75,11 +75,11 @@ impl LinkTable {
     {
         let entry = self.block.read(x);
         let is_spacer = x > self.items && entry.right == 0;
-        let top = entry.top as i64;
+        let top = entry.top.index() as i64;
         Node {
             top_or_len: if is_spacer { 0 - top } else { top },
-            up: entry.up,
-            down: entry.down,
+            up: entry.up.index(),
+            down: entry.down.index(),
         }
     }
 
@@ -100,7 +100,7 @@ impl LinkTable {
         let start = self.starts[(option - 1) as usize];
         let end = self.starts[option as usize] - 1;
         for index in start..end {
-            if self.block.read(index).top == item {
+            if self.block.read(index).top.index() == item {
                 return index;
             }
         }
@@ -140,28 +140,28 @@ impl Table for LinkTable {
     }
 
     fn len(&self, item: u32) -> u32 {
-        self.block.read(item).top
+        self.block.read(item).top.index()
     }
 
     fn first_option(&self, item: u32) -> Option<u32> {
-        let node = self.block.read(item).down;
+        let node = self.block.read(item).down.index();
         option_at(&self.block, item, node)
     }
 
     fn last_option(&self, item: u32) -> Option<u32> {
-        let node = self.block.read(item).up;
+        let node = self.block.read(item).up.index();
         option_at(&self.block, item, node)
     }
 
     fn next_option(&self, item: u32, option: u32) -> Option<u32> {
         let here = self.node_of(item, option);
-        let node = self.block.read(here).down;
+        let node = self.block.read(here).down.index();
         option_at(&self.block, item, node)
     }
 
     fn prev_option(&self, item: u32, option: u32) -> Option<u32> {
         let here = self.node_of(item, option);
-        let node = self.block.read(here).up;
+        let node = self.block.read(here).up.index();
         option_at(&self.block, item, node)
     }
 

@@ -30,5 +30,9 @@ returns c =
     let es = c.args.block.now in let o = c.args.option.now in let s = c.loop-item.invariant in let l = c.args.start in let r = c.args.start + length o in
     let none : drop c.loop-item.item-index o ≡ [] = drop_all c.loop-item.item-index o c.loop-item-test.false in
     let all : c.loop-item.block ≡ nodes_appended es l l r o = sym (ap (λ js. nodes_appended c.loop-item.block c.loop-item.index l r js) none) ∙ s.rest in
-    let down = written (to_down (r - 1)) c.loop-item.block c.write.new.self (l - 1) c.read-before.result c.write.ensures c.read-before.ensures in
-    c.write-2.ensures ∙ ap (λ fs. set fs r (record { top = c.args.number; up = l; down = 0; left = 0; right = 0 })) (down ∙ ap (λ fs. changed (to_down (r - 1)) fs (l - 1)) all)
+    let wrote = c.write.ensures ∙ ap (λ (n : ℕ). set c.loop-item.block (l - 1) (to_down n c.read-before.result)) c.at.ensures in
+    let down = written (to_down (r - 1)) c.loop-item.block c.write.new.self (l - 1) c.read-before.result wrote c.read-before.ensures in
+    let end : Entry = record { top = c.at-2.result; up = c.at-3.result; down = (c.blank.result).down; left = (c.blank.result).left; right = (c.blank.result).right } in
+    let spacer : end ≡ record { top = c.args.number; up = l; down = 0; left = 0; right = 0 } =
+    (λ v. record { top = c.at-2.ensures v; up = c.at-3.ensures v; down = (c.blank.ensures v).down; left = (c.blank.ensures v).left; right = (c.blank.ensures v).right }) in
+    c.write-2.ensures ∙ ap (set c.write.new.self r) spacer ∙ ap (λ fs. set fs r (record { top = c.args.number; up = l; down = 0; left = 0; right = 0 })) (down ∙ ap (λ fs. changed (to_down (r - 1)) fs (l - 1)) all)

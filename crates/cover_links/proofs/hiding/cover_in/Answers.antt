@@ -1,13 +1,13 @@
-use Rattle.std.proofs.Common.{refl, sym, ap, subst, ◌∙◌}
+use Rattle.std.proofs.Common.{ℕ, refl, sym, ap, subst, ◌∙◌}
 use Rattle.cover_links.specs.Entries.{item_unlinked}
-use Rattle.cover_links.specs.Hiding.{options_hidden, item_covered}
-use Rattle.cover_links.specs.Safety.{IsItemInside}
-use Rattle.cover_links.proofs.ListTurns.{hiding, left_begin, left_can, left_low, left_on, left_none}
+use Rattle.cover_links.specs.Hiding.{list_hidden, options_hidden, item_covered}
+use Rattle.cover_links.specs.Safety.{IsItemInside, CanHideList}
+use Rattle.cover_links.proofs.ListTurns.{Left, hiding, left_begin, left_can, left_low, left_on, left_none}
 use Rattle.cover_links.proofs.hiding.cover_in.Goals as goal
 
 pub loop-turn-init : goal.loop-turn-init
 unfolding options_hidden
-loop-turn-init c = record { place = refl; left = left_begin hiding c.args.item refl c.read-head.ensures c.requires.can.options }
+loop-turn-init c = record { place = refl; left = subst (λ (n : ℕ). Left list_hidden CanHideList (options_hidden c.args.row.now.entries c.args.item) c.args.row.now.entries c.read-head.result.down n 0) (sym c.index-turn-end.ensures) (left_begin hiding c.args.item refl c.read-head.ensures c.requires.can.options) }
 
 pub hide-requires-clause-can : goal.hide-requires-clause-can
 hide-requires-clause-can c = left_can hiding c.loop-turn.invariant.left c.loop-turn-test.true

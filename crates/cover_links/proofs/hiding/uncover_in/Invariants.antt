@@ -7,5 +7,5 @@ use Rattle.cover_links.proofs.hiding.uncover_in.Given as goal
 abbrev pub invariant-loop-turn : goal.invariant-loop-turn
 invariant-loop-turn l = record {
   place : l.row.place ≡ l.fn.row.place;
-  left : Left list_unhidden CanUnhideList (item_uncovered l.fn.row.entries l.item) l.row.entries l.node l._turn-end l._turn;
+  left : Left list_unhidden CanUnhideList (item_uncovered l.fn.row.entries l.fn.item) l.row.entries l.node l._turn-end l._turn;
 }

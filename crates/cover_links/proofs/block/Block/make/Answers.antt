@@ -1,4 +1,4 @@
-use Rattle.std.proofs.Common.{◌≡◌, ℕ, suc, ◌+◌, ◌-◌, length, set, sym, ap, subst, ◌∙◌, arith, Some, List, Option}
+use Rattle.std.proofs.Common.{◌≡◌, ℕ, suc, ◌+◌, ◌-◌, length, set, refl, sym, ap, subst, ◌∙◌, arith, Some, List, Option}
 use Rattle.cover_links.specs.declared.entry.Entry.{Entry}
 use Rattle.cover_links.specs.Slots.{values, IsFull}
 use Rattle.cover_links.proofs.FullRows.{filled, filled_none, filled_one, filled_values, filled_full, filled_length}
@@ -13,7 +13,7 @@ pub put-requires : goal.put-requires
 put-requires g c =
     let i = c.loop-index.index in let s = c.loop-index.invariant in let lt = c.loop-index-test.true in
     let l = ap length s.places ∙ filled_length i (c.args.len - i) c.args.blank in
-    (sym s.begin, omega (arith, l, lt))
+    (sym s.begin, (i, refl, omega (arith, l, lt)))
 
 pub loop-index-preserved : goal.loop-index-preserved
 loop-index-preserved g c =
@@ -21,7 +21,7 @@ loop-index-preserved g c =
     let one : n - i ≡ suc (n - (i + 1)) = omega (arith, lt) in
     let next : suc i ≡ i + 1 = omega arith in
     record {
-      places = c.put.ensures.1 ∙ ap (λ (l : List (Option Entry)). set l i (Some e)) (s.places ∙ ap (λ k. filled i k e) one) ∙ filled_one i (n - (i + 1)) e ∙ ap (λ k. filled k (n - (i + 1)) e) next;
+      places = c.put.ensures.1 i refl ∙ ap (λ (l : List (Option Entry)). set l i (Some e)) (s.places ∙ ap (λ k. filled i k e) one) ∙ filled_one i (n - (i + 1)) e ∙ ap (λ k. filled k (n - (i + 1)) e) next;
       begin = c.put.ensures.0 ∙ s.begin;
     }
 

@@ -20,13 +20,13 @@ pub loop-index-preserved : goal.loop-index-preserved
 loop-index-preserved c =
     let here = top_here (at_view c.self.view_is c.self.invariant) c.args.item c.args.option c.requires.some c.requires.within c.requires.has_item c.index-start.ensures c.index.ensures in
     let inv = c.loop-index.invariant in
-    let apart : c.loop-index.index ≡ node_index c.args.self.now.problem c.args.item c.args.option → ⊥ = λ q. c.if-read-item.false (ap (λ (e : Entry). e.top) c.read.ensures ∙ ap (top_at c.self.inside.block) q ∙ here) in
+    let apart : c.loop-index.index ≡ node_index c.args.self.now.problem c.args.item c.args.option → ⊥ = λ q. c.if-index-item.false (c.index-in-loop-index.ensures ∙ ap (λ (e : Entry). e.top) c.read.ensures ∙ ap (top_at c.self.inside.block) q ∙ here) in
     omega (arith, apart)
 
-pub returns-then-read-item : goal.returns-then-read-item
-returns-then-read-item c =
+pub returns-then-index-item : goal.returns-then-index-item
+returns-then-index-item c =
     let item = item_here (at_view c.self.view_is c.self.invariant) c.args.item c.args.option c.requires.some c.requires.within c.requires.has_item c.index-start.ensures c.index.ensures c.loop-index.index c.loop-index.auto.index c.loop-index-test.true in
-    let top : top_at c.self.inside.block c.loop-index.index ≡ c.args.item = sym (ap (λ (e : Entry). e.top) c.read.ensures) ∙ c.if-read-item.true in
+    let top : top_at c.self.inside.block c.loop-index.index ≡ c.args.item = sym (c.index-in-loop-index.ensures ∙ ap (λ (e : Entry). e.top) c.read.ensures) ∙ c.if-index-item.true in
     sym item ∙ ap (λ j. node_index c.args.self.now.problem j c.args.option) top
 
 pub returns : goal.returns

@@ -7,4 +7,4 @@ pub read-requires : goal.read-requires
 read-requires c = item_low (at_view c.self.view_is c.self.invariant) c.args.item c.requires.within
 
 pub returns : goal.returns
-returns c = ap (λ (e : Entry). e.top) c.read.ensures ∙ length_is (at_view c.self.view_is c.self.invariant) c.args.item c.requires.some c.requires.within
+returns c = c.index.ensures ∙ ap (λ (e : Entry). e.top) c.read.ensures ∙ length_is (at_view c.self.view_is c.self.invariant) c.args.item c.requires.some c.requires.within

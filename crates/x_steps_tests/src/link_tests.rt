@@ -2,7 +2,7 @@
 ghost use Rattle.std.specs.Prelude.{◌≡◌, ◌<◌, ◌≤◌, length, [], ◌∷◌};
 ghost use Rattle.cover_problem.specs.Problem.{size_of};
 
-use cover_links::{Block, Entry, LinkTable};
+use cover_links::{Block, Entry, LinkTable, Offset};
 use cover_problem::{Problem, Table, read_cover};
 use drawn_problems::SMALL;
 use linked_list_allocator::LocalHeap;
@@ -229,14 +229,8 @@ fn what_is_left_once_a_d_and_g_are_covered(rt: HostRuntime) -> Result<(), Fail> 
     assert_left_of(&rt, rt.alloc(), &problem)
 }
 
-/// An entry that names nothing.
-static BLANK: Entry = Entry {
-    top: 0,
-    up: 0,
-    down: 0,
-    left: 0,
-    right: 0,
-};
+/// More than any of these blocks has entries, and no more than an offset counts.
+const MOST_ENTRIES: u32 = 1 << 28;
 
 /// Writes a number into each entry, and reads each again: whether each is what was written.
 fn is_used<A: Allocator>(block: &mut Block<A>, len: u32) -> bool
@@ -244,7 +238,7 @@ fn is_used<A: Allocator>(block: &mut Block<A>, len: u32) -> bool
 {
     write_each(block, len);
     for index in 0..len {
-        if block.read(index).top != index {
+        if block.read(index).top.index() != index % MOST_ENTRIES {
             return false;
         }
     }
@@ -258,8 +252,8 @@ fn write_each<A: Allocator>(block: &mut Block<A>, len: u32)
 {
     for index in 0..len {
         let entry = Entry {
-            top: index,
-            ..BLANK
+            top: Offset::at(index % MOST_ENTRIES),
+            ..Entry::blank()
         };
         block.write(index, entry);
     }
@@ -267,7 +261,7 @@ fn write_each<A: Allocator>(block: &mut Block<A>, len: u32)
 
 /// Whether a block takes its memory of the heap, holds what is written, and gives all back when it is dropped.
 fn is_given_back(heap: &LocalHeap, len: u32) -> Result<bool, AllocError> {
-    let mut block = Block::make(heap, len as usize, BLANK)?;
+    let mut block = Block::make(heap, len as usize, Entry::blank())?;
     let taken = heap.used();
     let is_used = is_used(&mut block, len);
     let held = heap.used();

@@ -1,5 +1,6 @@
-//! Problems drawn by a seed, stepped side by side on a plain table and on links.
+//! Problems drawn by a seed, stepped side by side on a plain table, on links and on bits.
 
+use cover_bits::BitTable;
 use cover_links::LinkTable;
 use cover_problem::{PlainTable, Problem, Table, read_cover};
 use drawn_problems::{bit, draw, text_of};
@@ -123,7 +124,28 @@ fn is_finished(walk: &Walk) -> bool {
     }
 }
 
-/// Whether this is the way of a machine with links to Done, and so again back to X1.
+/// Whether this is the way of a machine with a table of this kind, and so again back.
+fn are_walks_of<T: Table>(
+    alloc: Global,
+    problem: &Problem,
+    pair: &(Walk, Walk),
+) -> Result<bool, AllocError> {
+    Ok(*pair == walks::<T>(alloc, problem)?)
+}
+
+/// The same of both other tables.
+fn are_walks_of_others(
+    alloc: Global,
+    problem: &Problem,
+    pair: &(Walk, Walk),
+) -> Result<bool, AllocError> {
+    Ok(
+        are_walks_of::<LinkTable>(alloc, problem, pair)?
+            && are_walks_of::<BitTable>(alloc, problem, pair)?,
+    )
+}
+
+/// Whether this is the way of a machine with links or bits to Done, and so again back to X1.
 fn are_walks(alloc: Global, problem: &Problem, pair: &(Walk, Walk)) -> Result<bool, AllocError> {
     let (on, back) = pair;
     Ok(
@@ -131,13 +153,13 @@ fn are_walks(alloc: Global, problem: &Problem, pair: &(Walk, Walk)) -> Result<bo
             && is_finished(on)
             && on.refused == Some(StepFault::Done)
             && back.refused == Some(StepFault::AtFirst)
-            && *pair == walks::<LinkTable>(alloc, problem)?,
+            && are_walks_of_others(alloc, problem, pair)?,
     )
 }
 
-/// How many steps a machine takes, if with either table it tells the same on its way to Done, and again on
+/// How many steps a machine takes, if with each table it tells the same on its way to Done, and again on
 /// its way back to X1; else 100,000.
-fn steps_of_both(alloc: Global, problem: &Problem) -> Result<usize, AllocError> {
+fn steps_of_all(alloc: Global, problem: &Problem) -> Result<usize, AllocError> {
     let pair = walks::<PlainTable>(alloc, problem)?;
     let are_same = are_walks(alloc, problem, &pair)?;
     Ok(if are_same {
@@ -149,10 +171,10 @@ fn steps_of_both(alloc: Global, problem: &Problem) -> Result<usize, AllocError> 
 
 /// The same, with the error of a test.
 fn steps_of(alloc: Global, problem: &Problem) -> Result<usize, Fail> {
-    Ok(steps_of_both(alloc, problem)?)
+    Ok(steps_of_all(alloc, problem)?)
 }
 
-/// How many steps both tables make of the problem of a text.
+/// How many steps all tables make of the problem of a text.
 fn steps_of_text(alloc: Global, text: &str) -> Result<usize, Fail> {
     let problem = read_cover(alloc, text.as_bytes())?;
     steps_of(alloc, &problem)
@@ -172,7 +194,7 @@ fn drawn_steps(
 
 // The steps were counted by another program, from the numbers of states and of visits.
 #[test]
-fn both_tables_make_the_same_steps(rt: HostRuntime) -> Result<(), Fail> {
+fn all_tables_make_the_same_steps(rt: HostRuntime) -> Result<(), Fail> {
     let alloc = rt.alloc();
     let mut seed = 1;
     let mut steps = 0usize;
@@ -187,7 +209,7 @@ fn both_tables_make_the_same_steps(rt: HostRuntime) -> Result<(), Fail> {
 }
 
 #[test]
-fn both_tables_make_the_same_steps_of_larger_problems(rt: HostRuntime) -> Result<(), Fail> {
+fn all_tables_make_the_same_steps_of_larger_problems(rt: HostRuntime) -> Result<(), Fail> {
     let alloc = rt.alloc();
     let mut seed = 4;
     let mut steps = 0usize;
@@ -196,5 +218,13 @@ fn both_tables_make_the_same_steps_of_larger_problems(rt: HostRuntime) -> Result
         steps = steps.saturating_add(more);
     }
     assert_eq!(rt; steps, 2_240);
+    Ok(())
+}
+
+// A set of the options takes up to three words here.
+#[test]
+fn all_tables_make_the_same_steps_of_sets_of_three_words(rt: HostRuntime) -> Result<(), Fail> {
+    let steps = drawn_steps(rt.alloc(), &mut 1, 12, 2, 150)?;
+    assert_eq!(rt; steps, 1_359);
     Ok(())
 }

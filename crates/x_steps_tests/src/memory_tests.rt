@@ -6,6 +6,7 @@ ghost use Rattle.std.specs.Prelude.{◌≡◌, ◌≤◌, ◌+◌, [], length, r
 ghost use Rattle.cover_problem.specs.Problem.{size_of};
 
 use crate::link_tests::{assert_small_block, cover_three, is_small_block, uncover_three};
+use cover_bits::BitTable;
 use cover_links::LinkTable;
 use cover_problem::{PlainTable, Problem, Table, read_cover};
 use drawn_problems::SMALL;
@@ -110,21 +111,29 @@ fn a_table_of_links_takes_no_memory(rt: HostRuntime) -> Result<(), Fail> {
 }
 
 #[test]
+fn a_table_of_bits_takes_no_memory(rt: HostRuntime) -> Result<(), Fail> {
+    assert!(rt; is_small_gone_about::<BitTable>(rt.alloc())?);
+    Ok(())
+}
+
+#[test]
 fn a_plain_table_takes_no_memory(rt: HostRuntime) -> Result<(), Fail> {
     assert!(rt; is_small_gone_about::<PlainTable>(rt.alloc())?);
     Ok(())
 }
 
-/// The table of links of a problem, on a second try where the first is refused. None where the second is, too, and where the problem
-/// isn't as before.
-fn table_again(alloc: Global, problem: &Problem, copy: &Problem) -> Option<LinkTable> {
-    if let Ok(table) = LinkTable::new(alloc, problem) {
+/// The table of a problem, on a second try where the first is refused. None where the second is, too, and where the problem isn't as
+/// before.
+fn table_again<T: Table>(alloc: Global, problem: &Problem, copy: &Problem) -> Option<T>
+    ensures { IfSome result (λ t. T.problem_value t ≡ problem.now) }
+{
+    if let Ok(table) = T::new(alloc, problem) {
         return Some(table);
     }
     if !problem.same(copy) {
         return None;
     }
-    LinkTable::new(alloc, problem).ok()
+    T::new(alloc, problem).ok()
 }
 
 /// Tells a table that isn't the small problem's, and one that isn't made.
@@ -147,6 +156,48 @@ fn assert_made_again(rt: &impl Abort, alloc: Global, problem: &Problem) -> Resul
 fn a_refused_table_is_made_again(rt: HostRuntime) -> Result<(), Fail> {
     let problem = read_cover(rt.alloc(), SMALL.as_bytes())?;
     assert_made_again(&rt, rt.alloc(), &problem)
+}
+
+/// How many options the items a to g of the small problem have. (TAOCP volume 4B, section 7.2.2.1, table 1.)
+static LENGTHS: [u32; 7] = [2, 2, 2, 3, 2, 2, 3];
+
+/// Whether a table has the lengths of the small problem's lists, with nothing covered.
+fn has_small_lists<T: Table>(table: &T) -> bool
+    requires { length (T.problem_value table.now).names ≡ 7 }
+{
+    for (place, len) in LENGTHS.iter().enumerate() {
+        if table.len(place as u32 + 1) != *len {
+            return false;
+        }
+    }
+    table.covered().is_empty()
+}
+
+/// Whether the table of bits of the small problem is made, on a second try where the first is refused.
+fn are_bits_made(alloc: Global, problem: &Problem, copy: &Problem) -> bool
+    requires { length problem.now.names ≡ 7 }
+{
+    match table_again::<BitTable>(alloc, problem, copy) {
+        Some(table) => has_small_lists(&table),
+        None => false,
+    }
+}
+
+/// The same, with one growth before it is made.
+fn are_bits_made_again(alloc: Global, problem: &Problem) -> Result<bool, Fail>
+    requires { length problem.now.names ≡ 7 }
+{
+    let copy = problem.copy()?;
+    grows(alloc, "refused before the call")?;
+    Ok(are_bits_made(alloc, problem, &copy))
+}
+
+#[test]
+fn a_refused_table_of_bits_is_made_again(rt: HostRuntime) -> Result<(), Fail> {
+    let problem = read_cover(rt.alloc(), SMALL.as_bytes())?;
+    assert!(rt; problem.items() == 7);
+    assert!(rt; are_bits_made_again(rt.alloc(), &problem)?);
+    Ok(())
 }
 
 /// Whether a table is that of the small problem, with nothing covered.

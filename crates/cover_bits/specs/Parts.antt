@@ -1,0 +1,90 @@
+-- Sets of numbers as words: rows of all words, and the parts of such a row that are not 0.
+-- TAOCP volume 4A, section 7.1.3. The bit i of the word at place v stands for the number 64 v + i.
+--
+-- Example: the row 5 0 2 has the numbers 0, 2 and 129; its parts are 5 at place 0 and 2 at place 2. Without the row 4 0 2 they are
+-- 1 at place 0 alone, and they share two numbers with it. proofs/BitExamples.antt computes it.
+use Rattle.std.specs.Prelude.{ℕ, ◌<◌, ◌≤◌, ◌≡◌, ◌+◌, ◌-◌, ◌/◌, ◌%◌, ◌==◌, ◌^◌, Bool, true, false, not, cond, ◌&&◌, nat_lt, suc, List, [], ◌∷◌, sum_by, map, filter, slice_index_or, bit_and, count_ones}
+use Rattle.std.specs.Int.{bit_at, w64, bit_not}
+use Rattle.std.specs.List.{list_any}
+use Rattle.cover_bits.specs.declared.sets.Part.{Part}
+
+-- how many words a row takes for n numbers
+abbrev pub words_for : ℕ → ℕ
+words_for n = (n + 63) / 64
+
+-- whether a word has a bit
+abbrev pub in_word : ℕ → ℕ → Bool
+in_word word i = bit_at word i == 1
+
+-- whether a row has a number
+abbrev pub in_row : List ℕ → ℕ → Bool
+in_row row k = in_word (slice_index_or row (k / 64) 0) (k % 64)
+
+-- whether a part has it
+abbrev pub in_part : ℕ → Part → Bool
+in_part k part = (part.place == k / 64) && in_word part.word (k % 64)
+
+-- whether one of the parts has it
+abbrev pub in_parts : List Part → ℕ → Bool
+in_parts parts k = list_any (in_part k) parts
+
+-- whether parts and a row have it
+abbrev pub in_both : List Part → List ℕ → ℕ → Bool
+in_both parts row k = in_parts parts k && in_row row k
+
+-- words with places that rise, the first at least n, all of them below the row's length w
+abbrev pub ArePlaced : ℕ → ℕ → List Part → Type 0
+ArePlaced n w [] = Unit {0}
+ArePlaced n w (part ∷ parts) = (n ≤ part.place) × (part.place < w) × (part.word < 2 ^ 64) × ArePlaced (suc part.place) w parts
+
+-- the word that a part shares with a row
+abbrev pub shared : List ℕ → Part → ℕ
+shared row part = bit_and part.word (slice_index_or row part.place 0)
+
+-- how many ones the words have that the parts share with a row
+abbrev pub ones_of_both : List Part → List ℕ → ℕ
+ones_of_both parts row = sum_by (λ part. count_ones (shared row part)) parts
+
+-- what a part has and a row hasn't
+abbrev pub part_without : List ℕ → Part → Part
+part_without row part = record { word = bit_and part.word (bit_not w64 (slice_index_or row part.place 0)); place = part.place }
+
+-- whether a part has a number at all
+abbrev pub is_some_part : Part → Bool
+is_some_part part = not (part.word == 0)
+
+-- the parts of what the parts have and a row hasn't
+abbrev pub without_row : List ℕ → List Part → List Part
+without_row row parts = filter is_some_part (map (part_without row) parts)
+
+-- the same word as `shared`, without the numbers below one
+abbrev pub shared_from : List ℕ → ℕ → Part → ℕ
+shared_from row start part =
+    cond (nat_lt (start / 64) part.place) (shared row part)
+    (cond (part.place == start / 64) (bit_and (shared row part) (2 ^ 64 - 2 ^ (start % 64))) 0)
+
+-- the same word as `shared`, without the numbers from one on
+abbrev pub shared_below : List ℕ → ℕ → Part → ℕ
+shared_below row end part =
+    cond (nat_lt part.place (end / 64)) (shared row part)
+    (cond (part.place == end / 64) (bit_and (shared row part) (2 ^ (end % 64) - 1)) 0)
+
+-- k is the first number from `start` on that passes
+pub record IsFirstFrom (test : ℕ → Bool) (start k : ℕ) : Type 0 where
+  pub passes : test k ≡ true
+  pub from : start ≤ k
+  pub least : (j : ℕ) → start ≤ j → test j ≡ true → k ≤ j
+
+-- none from `start` on passes
+abbrev pub NoneFrom : (ℕ → Bool) → ℕ → Type 0
+NoneFrom test start = (j : ℕ) → start ≤ j → test j ≡ false
+
+-- k is the last number below `end` that passes
+pub record IsLastBelow (test : ℕ → Bool) (end k : ℕ) : Type 0 where
+  pub passes : test k ≡ true
+  pub below : k < end
+  pub greatest : (j : ℕ) → j < end → test j ≡ true → j ≤ k
+
+-- none below `end` passes
+abbrev pub NoneBelow : (ℕ → Bool) → ℕ → Type 0
+NoneBelow test end = (j : ℕ) → j < end → test j ≡ false

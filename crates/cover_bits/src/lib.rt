@@ -1,0 +1,10 @@
+//! Bit sets: a table of an exact cover problem that keeps the options left as sets of bits, and the rule that tells whether a run takes it.
+#![tactic(auto)]
+
+mod making;
+mod rule;
+mod sets;
+mod table;
+
+pub use rule::{has_room, suits};
+pub use table::BitTable;

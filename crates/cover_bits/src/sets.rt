@@ -1,0 +1,182 @@
+//! Sets of numbers: as rows of words, where the bit i of word v stands for the number 64 v + i, and as the parts of such a row that
+//! are not 0. (TAOCP volume 4A, section 7.1.3.)
+ghost use Rattle.std.specs.Prelude.{◌≡◌, ◌<◌, ◌≤◌, ◌+◌, ◌-◌, ◌*◌, ◌/◌, ◌^◌, ◌&&◌, ◌||◌, ◌==◌, not, ℕ, length, All, take, None, IfSome, Option};
+ghost use Rattle.cover_bits.specs.Parts as parts;
+ghost use Rattle.cover_bits.specs.Parts.{ones_of_both, without_row, shared_from, shared_below, in_both, in_row, IsFirstFrom, NoneFrom, IsLastBelow, NoneBelow, ArePlaced};
+
+/// A word of a set that is not 0, and its place among the set's words.
+#[derive(Clone, Copy)]
+pub struct Part {
+    pub word: u64,
+    pub place: u32,
+}
+
+/// How many words a row takes for so many numbers.
+pub(crate) fn words_for(count: u32) -> usize
+    ensures { result ≡ parts.words_for count }
+{
+    (count as usize + 63) / 64
+}
+
+/// Adds a number.
+#[inline(always)]
+pub(crate) fn add(row: &mut [u64], number: usize)
+    requires { number < 64 * length row.old }
+    ensures long { length row.new ≡ length row.old }
+    ensures each { (k : ℕ) → in_row row.new k ≡ (in_row row.old k || (k == number)) }
+{
+    row[number / 64] |= 1u64 << (number % 64) as u32;
+}
+
+/// Takes a number out.
+#[inline(always)]
+pub(crate) fn remove(row: &mut [u64], number: usize)
+    requires { number < 64 * length row.old }
+    ensures long { length row.new ≡ length row.old }
+    ensures each { (k : ℕ) → in_row row.new k ≡ (in_row row.old k && not (k == number)) }
+{
+    row[number / 64] &= !(1u64 << (number % 64) as u32);
+}
+
+/// How many numbers both sets have.
+#[inline(always)]
+pub(crate) fn count_both(parts: &[Part], row: &[u64]) -> u32
+    requires within { All (λ part. part.place < length row.now) parts.now }
+    requires small { 64 * length parts.now < 2 ^ 32 }
+    ensures { result ≡ ones_of_both parts.now row.now }
+{
+    let mut count = 0u32;
+    for part in parts {
+        count += (part.word & row[part.place as usize]).count_ones();
+    }
+    count
+}
+
+/// Writes the parts of what the first set has and the second hasn't, and tells how many these are.
+///
+/// A word that is 0 is written too, and the next one over it: so the loop has no branch. None of them is kept, since a few levels down most
+/// words of a set are 0, and each later count goes over what was kept.
+#[inline(always)]
+pub(crate) fn without(into: &mut [Part], parts: &[Part], row: &[u64]) -> u32
+    requires within { All (λ part. part.place < length row.now) parts.now }
+    requires room { length parts.now ≤ length into.old }
+    requires small { length parts.now < 2 ^ 32 }
+    ensures long { length into.new ≡ length into.old }
+    ensures few { result ≤ length parts.now }
+    ensures parts { take result into.new ≡ without_row row.now parts.now }
+{
+    let mut kept = 0u32;
+    for part in parts {
+        let word = part.word & !row[part.place as usize];
+        into[kept as usize] = Part {
+            word,
+            place: part.place,
+        };
+        kept += (word != 0) as u32;
+    }
+    kept
+}
+
+/// The bits from one on.
+#[inline(always)]
+fn from_bit(bit: u32) -> u64
+    requires { bit < 64 }
+    ensures { result ≡ 2 ^ 64 - 2 ^ bit }
+{
+    u64::MAX << bit
+}
+
+/// The word that a part shares with a row, without the numbers below `start`.
+#[inline(always)]
+fn shared_from(part: Part, row: &[u64], start: u32) -> u64
+    requires { part.place < length row.now }
+    ensures { result ≡ shared_from row.now start part }
+{
+    let word = part.word & row[part.place as usize];
+    if part.place > start / 64 {
+        word
+    } else if part.place == start / 64 {
+        word & from_bit(start % 64)
+    } else {
+        0
+    }
+}
+
+/// The first number from `start` on that both sets have.
+#[inline(always)]
+pub(crate) fn first_both(parts: &[Part], row: &[u64], start: u32) -> Option<u32>
+    requires placed { ArePlaced 0 (length row.now) parts.now }
+    requires small { 64 * length row.now < 2 ^ 32 }
+    ensures some { IfSome result (λ k. IsFirstFrom (in_both parts.now row.now) start k) }
+    ensures none { result ≡ None → NoneFrom (in_both parts.now row.now) start }
+{
+    for part in parts {
+        let word = shared_from(*part, row, start);
+        if word != 0 {
+            return Some(part.place * 64 + word.trailing_zeros());
+        }
+    }
+    None
+}
+
+/// The bits below one.
+#[inline(always)]
+fn below_bit(bit: u32) -> u64
+    requires { bit < 64 }
+    ensures { result ≡ 2 ^ bit - 1 }
+{
+    (1u64 << bit) - 1
+}
+
+/// The word that a part shares with a row, without the numbers from `end` on.
+#[inline(always)]
+fn shared_below(part: Part, row: &[u64], end: u32) -> u64
+    requires { part.place < length row.now }
+    ensures { result ≡ shared_below row.now end part }
+{
+    let word = part.word & row[part.place as usize];
+    if part.place < end / 64 {
+        word
+    } else if part.place == end / 64 {
+        word & below_bit(end % 64)
+    } else {
+        0
+    }
+}
+
+/// The last number below `end` that both sets have.
+pub(crate) fn last_both(parts: &[Part], row: &[u64], end: u32) -> Option<u32>
+    requires placed { ArePlaced 0 (length row.now) parts.now }
+    requires small { 64 * length row.now < 2 ^ 32 }
+    ensures some { IfSome result (λ k. IsLastBelow (in_both parts.now row.now) end k) }
+    ensures none { result ≡ None → NoneBelow (in_both parts.now row.now) end }
+{
+    let mut last = None;
+    for part in parts {
+        let word = shared_below(*part, row, end);
+        if word != 0 {
+            last = Some(part.place * 64 + (63 - word.leading_zeros()));
+        }
+    }
+    last
+}
+
+/// The first number from `start` on that a row has.
+#[inline(always)]
+pub(crate) fn first_in(row: &[u64], start: u32) -> Option<u32>
+    requires { 64 * length row.now < 2 ^ 32 }
+    ensures some { IfSome result (λ k. IsFirstFrom (in_row row.now) start k) }
+    ensures none { result ≡ None → NoneFrom (in_row row.now) start }
+{
+    for place in start / 64..row.len() as u32 {
+        let part = Part {
+            word: u64::MAX,
+            place,
+        };
+        let word = shared_from(part, row, start);
+        if word != 0 {
+            return Some(place * 64 + word.trailing_zeros());
+        }
+    }
+    None
+}

@@ -1,4 +1,4 @@
--- The examples of specs/Breaks.antt, specs/Words.antt and specs/Writes.antt.
+-- The examples of specs/Breaks.antt, specs/Words.antt, specs/Writes.antt and specs/Ends.antt.
 use Rattle.std.proofs.Common.{◌≡◌, ℕ, List, [], ◌∷◌, ◌++◌, true, false, codes, refl, ap, ◌∙◌}
 use Rattle.std.specs.Fmt.{digits}
 use Rattle.std.specs.Global.{Vec}
@@ -11,6 +11,7 @@ use Rattle.x_texts.specs.declared.breakpoint.Break.TheVariants as breakpoints
 use Rattle.x_texts.specs.Breaks.{is_break, are_new}
 use Rattle.x_texts.specs.Words.{state_words, visit_words}
 use Rattle.x_texts.specs.Writes.{WritesLine}
+use Rattle.x_texts.specs.Ends.{word_ends, IsVisitLine}
 
 -- one item, and two options of it
 abbrev two : ProblemValue
@@ -50,3 +51,10 @@ line_gained : (old new : Vec ℕ) → new.items ≡ old.items ++ (codes "visit 4
 unfolding digits
 line_gained old new e =
     e ∙ ap (λ (bs : List ℕ). old.items ++ bs) (let same : codes "visit 4 5" ++ 10 ∷ [] ≡ line_text (visit_words (4 ∷ 5 ∷ [])) = refl in same)
+
+ends_of_words : word_ends 5 (codes "4" ∷ codes "15" ∷ codes "1" ∷ []) ≡ 7 ∷ 10 ∷ 12 ∷ []
+ends_of_words = refl
+
+line_kept : IsVisitLine (codes "visit 4 15 1") (5 ∷ 7 ∷ 10 ∷ 12 ∷ []) (4 ∷ 15 ∷ 1 ∷ [])
+unfolding digits
+line_kept = record { written = refl; ended = refl }

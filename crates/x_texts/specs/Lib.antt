@@ -1,3 +1,4 @@
 pub mod Breaks
+pub mod Ends
 pub mod Words
 pub mod Writes

@@ -3,6 +3,7 @@
 
 mod breakpoint;
 mod line;
+mod visit_line;
 mod word;
 
 pub use breakpoint::Break;

@@ -7,6 +7,7 @@ ghost use Rattle.x_texts.specs.Words.{state_words, keyed_point, visit_words, lev
 ghost use Rattle.x_texts.specs.Writes.{AddsLines};
 
 use crate::breakpoint::Break;
+use crate::visit_line::VisitLine;
 use crate::word::{label_word, write_cursor, write_point};
 use cover_problem::{Lists, Problem};
 use std::alloc::AllocError;
@@ -52,8 +53,14 @@ pub fn write_visit(text: &mut Vec<u8>, path: &[u32]) -> Result<(), AllocError>
 pub fn write_visits(text: &mut Vec<u8>, visits: &Lists) -> Result<(), AllocError>
     ensures { AddsLines result text.old text.new (map visit_words visits.now) }
 {
+    let mut line = VisitLine::new(*text.allocator())?;
+    let mut before: &[u32] = &[];
     for place in 0..visits.len() {
-        write_visit(text, visits.list(place))?;
+        let path = visits.list(place);
+        line.turn(before, path)?;
+        text.extend_from_slice(line.bytes())?;
+        text.push(b'\n')?;
+        before = path;
     }
     Ok(())
 }

@@ -1,0 +1,109 @@
+-- How the line of a visit is kept, and goes on.
+use Rattle.std.proofs.Common.{◌≡◌, ℕ, zero, suc, ◌+◌, ◌<◌, ◌≤◌, List, [], ◌∷◌, ◌++◌, length, take, drop, map, get_or, decimal, codes, refl, sym, ap, ◌∙◌, arith, append_assoc, length-append}
+use Rattle.std.proofs.lemmas.List.{map-append, map_more, flat_map_more, length-map, take-map, take_more, take-append-drop}
+use Rattle.std.proofs.lemmas.Grind.{flat_map-append}
+use Rattle.std.proofs.Math.Seq.{take-append_seam}
+use Rattle.text_lines.specs.Writing.{words_after, line_text, text_of}
+use Rattle.text_lines.proofs.WritingLemmas.{line_ends}
+use Rattle.x_texts.specs.Words.{visit_words}
+use Rattle.x_texts.specs.Ends.{word_ends, IsVisitLine}
+
+-- *words and where they end*
+
+words_join : (vs ws : List (List ℕ)) → words_after (vs ++ ws) ≡ words_after vs ++ words_after ws
+words_join vs ws = flat_map-append (λ (word : List ℕ). 32 ∷ word) vs ws
+
+pub ends_join : (a : ℕ) (vs ws : List (List ℕ)) → word_ends a (vs ++ ws) ≡ word_ends a vs ++ word_ends (a + length (words_after vs)) ws
+ends_join a [] ws = let n : a ≡ a + 0 = omega arith in ap (λ b. word_ends b ws) n
+ends_join a (v ∷ vs) ws =
+    let n : a + suc (length v) + length (words_after vs) ≡ a + length ((32 ∷ v) ++ words_after vs) = let m = length-append (32 ∷ v) (words_after vs) in omega arith in
+    ap (λ l. (a + suc (length v)) ∷ l) (ends_join (a + suc (length v)) vs ws ∙ ap (λ b. word_ends (a + suc (length v)) vs ++ word_ends b ws) n)
+
+length-ends : (a : ℕ) (ws : List (List ℕ)) → length (word_ends a ws) ≡ length ws
+length-ends a [] = refl
+length-ends a (w ∷ ws) = ap suc (length-ends (a + suc (length w)) ws)
+
+-- the ends of the first words are the first ends
+ends_take : (a n : ℕ) (ws : List (List ℕ)) → take n (word_ends a ws) ≡ word_ends a (take n ws)
+ends_take a zero ws = refl
+ends_take a (suc n) [] = refl
+ends_take a (suc n) (w ∷ ws) = ap (λ l. (a + suc (length w)) ∷ l) (ends_take (a + suc (length w)) n ws)
+
+-- the end at a place is where the words before it end
+end_at : (a n d : ℕ) (ws : List (List ℕ)) → n < suc (length (word_ends a ws)) → get_or (a ∷ word_ends a ws) n d ≡ a + length (words_after (take n ws))
+end_at a zero d ws l = omega arith
+end_at a (suc n) d [] l = absurd (omega arith)
+end_at a (suc n) d (w ∷ ws) l =
+    let m = length-append (32 ∷ w) (words_after (take n ws)) in let e = end_at (a + suc (length w)) n d ws (omega arith) in
+    e ∙ (let s : a + suc (length w) + length (words_after (take n ws)) ≡ a + length ((32 ∷ w) ++ words_after (take n ws)) = omega arith in s)
+
+-- *the line of a visit*
+
+-- the first choices of it
+pub kept : (bytes ends path : List ℕ) (n d : ℕ) → IsVisitLine bytes ends path → n < length ends → IsVisitLine (take (get_or ends n d) bytes) (take (n + 1) ends) (take n path)
+kept bytes ends path n d line l = record {
+  written = ap (λ e. take e bytes) at_end ∙ ap (take (length (key ++ words_after (take n words)))) split ∙ take-append_seam (key ++ words_after (take n words)) (words_after (drop n words)) ∙ ap (λ ws. key ++ words_after ws) (take-map decimal n path);
+  ended = (let m : n + 1 ≡ suc n = omega arith in ap (λ k. take k ends) m) ∙ ap (take (suc n)) line.ended ∙ ap (λ es. 5 ∷ es) (ends_take 5 n words ∙ ap (word_ends 5) (take-map decimal n path));
+}
+  where
+    key : List ℕ
+    key = codes "visit"
+
+    words : List (List ℕ)
+    words = map decimal path
+
+    at_end : get_or ends n d ≡ length (key ++ words_after (take n words))
+    at_end = let m = ap length line.ended in ap (λ es. get_or es n d) line.ended ∙ end_at 5 n d words (omega arith) ∙ sym (length-append key (words_after (take n words)))
+
+    split : bytes ≡ (key ++ words_after (take n words)) ++ words_after (drop n words)
+    split = line.written ∙ ap (λ ws. key ++ words_after ws) (sym (take-append-drop n words)) ∙ ap (λ bs. key ++ bs) (words_join (take n words) (drop n words)) ∙ sym (append_assoc key (words_after (take n words)) (words_after (drop n words)))
+
+-- so many choices can be kept
+pub enough : (bytes ends path : List ℕ) (n : ℕ) → IsVisitLine bytes ends path → n ≤ length path → n < length ends
+enough bytes ends path n line l =
+    let m = ap length line.ended in let k = length-ends 5 (map decimal path) in let s = length-map path decimal in omega (arith, l, m, k, s)
+
+-- one choice more
+pub one_more : (bytes ends path new_bytes new_ends : List ℕ) (choice end : ℕ) → IsVisitLine bytes ends path → new_bytes ≡ bytes ++ 32 ∷ decimal choice → end ≡ length new_bytes → new_ends ≡ ends ++ end ∷ [] → IsVisitLine new_bytes new_ends (path ++ choice ∷ [])
+one_more bytes ends path new_bytes new_ends choice end line b n e = record {
+  written = all;
+  ended = e ∙ (λ j. line.ended j ++ place j ∷ []) ∙ ap (λ es. 5 ∷ es) (sym (ends_join 5 words (word ∷ [])) ∙ ap (word_ends 5) (sym (map-append decimal path (choice ∷ []))));
+}
+  where
+    key : List ℕ
+    key = codes "visit"
+
+    words : List (List ℕ)
+    words = map decimal path
+
+    word : List ℕ
+    word = decimal choice
+
+    all : new_bytes ≡ key ++ words_after (map decimal (path ++ choice ∷ []))
+    all = b ∙ ap (λ bs. bs ++ 32 ∷ word) line.written ∙ flat_map_more (λ (w : List ℕ). 32 ∷ w) key words word ∙ ap (λ ws. key ++ words_after ws) (sym (map-append decimal path (choice ∷ [])))
+
+    place : end ≡ 5 + length (words_after words) + suc (length word)
+    place =
+        let m = ap length b in let k = ap length line.written in let s = length-append bytes (32 ∷ word) in let t = length-append key (words_after words) in omega (arith, n, m, k, s, t)
+
+-- *a list of choices*
+
+-- the next of them
+pub next_choice : (path more : List ℕ) (i d : ℕ) → i < length more → (path ++ take i more) ++ get_or more i d ∷ [] ≡ path ++ take (i + 1) more
+next_choice path more i d l = append_assoc path (take i more) (get_or more i d ∷ []) ∙ ap (λ cs. path ++ cs) (sym (take_more more i d l))
+
+-- what two share, and the rest of the second
+pub shared_and_rest : (before path rest : List ℕ) (n : ℕ) → take n before ≡ take n path → rest ≡ drop n path → take n before ++ rest ≡ path
+shared_and_rest before path rest n e r = (λ j. e j ++ r j) ∙ take-append-drop n path
+
+-- *lines*
+
+-- the line of the next visit
+pub next_line : (old text line ends first new : List ℕ) (visits : List (List ℕ)) (path : List ℕ) (k : ℕ) → k < length visits → path ≡ get_or visits k [] → text ≡ old ++ text_of (map visit_words (take k visits)) → IsVisitLine line ends path → first ≡ text ++ line → new ≡ first ++ 10 ∷ [] → new ≡ old ++ text_of (map visit_words (take (k + 1) visits))
+next_line old text line ends first new visits path k l at before is f n =
+    n ∙ line_ends first text key (map decimal path) (f ∙ ap (λ bs. text ++ bs) is.written ∙ sym (append_assoc text key (words_after (map decimal path))))
+    ∙ ap (λ bs. bs ++ line_text (visit_words path)) before ∙ flat_map_more line_text old (map visit_words (take k visits)) (visit_words path)
+    ∙ ap (λ p. old ++ text_of (map visit_words (take k visits) ++ visit_words p ∷ [])) at ∙ ap (λ ls. old ++ text_of ls) (sym (map_more visit_words visits k [] l))
+  where
+    key : List ℕ
+    key = codes "visit"

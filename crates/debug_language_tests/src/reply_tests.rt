@@ -117,6 +117,38 @@ static REPLIES: [(Reply, &[u8]); 36] = [
     ),
 ];
 
+/// Lists of visits, each with its lines: a line goes on from what its visit shares with the one before.
+static VISITS: [(&[&[u32]], &[u8]); 13] = [
+    (&[], b""),
+    (&[&[]], b"visit\n"),
+    (&[&[], &[]], b"visit\nvisit\n"),
+    (&[&[4, 5, 1], &[2]], b"visit 4 5 1\nvisit 2\n"),
+    (&[&[7, 8, 9], &[7, 8, 9]], b"visit 7 8 9\nvisit 7 8 9\n"),
+    (&[&[7, 8], &[7, 8, 9]], b"visit 7 8\nvisit 7 8 9\n"),
+    (&[&[7, 8, 9], &[7, 8]], b"visit 7 8 9\nvisit 7 8\n"),
+    (&[&[3, 6], &[], &[3, 6]], b"visit 3 6\nvisit\nvisit 3 6\n"),
+    (
+        &[&[10, 20, 30], &[10, 25, 30], &[10, 25, 31]],
+        b"visit 10 20 30\nvisit 10 25 30\nvisit 10 25 31\n",
+    ),
+    (
+        &[&[1, 2], &[1, 23], &[12, 3], &[1, 2, 3]],
+        b"visit 1 2\nvisit 1 23\nvisit 12 3\nvisit 1 2 3\n",
+    ),
+    (
+        &[&[9, 8], &[5, 8], &[9, 8]],
+        b"visit 9 8\nvisit 5 8\nvisit 9 8\n",
+    ),
+    (
+        &[&[99999, 1, 2, 3], &[99999, 100000], &[99999, 1]],
+        b"visit 99999 1 2 3\nvisit 99999 100000\nvisit 99999 1\n",
+    ),
+    (
+        &[&[0, 4294967295], &[0, 4294967295, 1], &[0]],
+        b"visit 0 4294967295\nvisit 0 4294967295 1\nvisit 0\n",
+    ),
+];
+
 /// The lines that name items of the small problem.
 const NAMED: &[u8] = b"set level 3
 break option 6
@@ -221,22 +253,28 @@ fn are_named(alloc: Global) -> bool {
     }
 }
 
-/// The lines of two visits.
-fn two_visits(alloc: Global) -> Result<Vec<u8>, AllocError> {
-    let mut visits = Lists::new(alloc);
-    visits.push(&[4, 5, 1])?;
-    visits.push(&[2])?;
-    let mut text = Vec::new(alloc);
-    write_visits(&mut text, &visits)?;
-    Ok(text)
+/// Writes visits of these choices.
+fn write_lists_of(text: &mut Vec<u8>, paths: &[&[u32]]) -> Result<(), AllocError> {
+    let mut visits = Lists::new(*text.allocator());
+    for path in paths {
+        visits.push(path)?;
+    }
+    write_visits(text, &visits)
 }
 
-/// Whether each visit is written in a line of its own.
-fn are_visits(alloc: Global) -> bool {
-    match two_visits(alloc) {
-        Ok(text) => text.as_slice() == b"visit 4 5 1\nvisit 2\n".as_slice(),
+/// Whether visits are written as this text, each in a line of its own.
+fn are_visits(alloc: Global, paths: &[&[u32]], wanted: &[u8]) -> bool {
+    let mut text = Vec::new(alloc);
+    match write_lists_of(&mut text, paths) {
+        Ok(()) => text.as_slice() == wanted,
         Err(_) => false,
     }
+}
+
+/// The place of the first of these lists of visits that is written otherwise.
+fn wrong_visits(alloc: Global, rows: &[(&[&[u32]], &[u8])]) -> Option<usize> {
+    rows.iter()
+        .position(|(paths, text)| !are_visits(alloc, paths, text))
 }
 
 #[test]
@@ -251,5 +289,5 @@ fn items_are_named(rt: HostRuntime) {
 
 #[test]
 fn visits_are_written(rt: HostRuntime) {
-    assert!(rt; are_visits(rt.alloc()));
+    assert!(rt; wrong_visits(rt.alloc(), &VISITS).is_none());
 }

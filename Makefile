@@ -2,9 +2,14 @@
 PREFIX = /usr/local
 ZSH_FUNCTIONS = $(PREFIX)/share/zsh/site-functions
 # The scripts that are installed; the others are for this checkout.
-TOOLS = answer check_packings count_packings draw_packings explain join one_of_each page parts session slices slurm_array unique \
-	puzzles.py snapshots.py
+TOOLS = answer check_packings convert count_packings draw_packings explain join one_of_each page parts session slices slurm_array unique \
+	covers.py frame.py puzzles.py snapshots.py
 SHARE = $(DESTDIR)$(PREFIX)/share
+LIB = $(DESTDIR)$(PREFIX)/lib/polylab
+# What behind the gate is --all-there: a crate whose tests aren't built is then a fault, and else skipped.
+ALL_THERE =
+# The program that is installed.
+PROGRAM = crates/polylab/out/polylab
 
 # The puzzles and cover texts of examples/ that take seconds; the others take up to some minutes each.
 QUICK = two-dominoes optional soma-cube soma-without-centre tetracubes-2x2x8 tetracubes-2x4x4 pentominoes-20x3 \
@@ -16,14 +21,14 @@ LONG = pentominoes-15x4 pentominoes-12x5 pentominoes-10x6 pentominoes-8x8-withou
 	solid-pentominoes-2x5x6 solid-pentominoes-3x4x5
 LONG_COVERS = pent-10x6 langford-12
 
-.PHONY: all quick help build ci layout wrong-bodies bench gallery gallery-long check-docs check-edits check-names check-lemmas check-ownership check-tools check-parts check-page \
+.PHONY: all quick help build ci layout wrong-bodies bench gallery gallery-long check-docs check-edits check-names check-lemmas check-sentences check-ownership check-frame check-install check-tools check-texts check-parts check-page \
 	check-completions check-words check-statuses check-memory check-memory-all install uninstall dist
 
 # The program, the quick examples, all checks of documents and scripts, and a sample of growths that are refused.
-all: check-edits check-names check-lemmas check-ownership build gallery check-tools check-parts check-docs check-words check-completions check-page check-statuses check-memory
+all: check-names check-lemmas check-sentences check-ownership check-frame check-install build gallery check-tools check-texts check-parts check-docs check-words check-completions check-page check-statuses check-memory
 
 # The checks that take a minute, once the program is built: a landing has to pass them after the gate.
-quick: check-edits check-names check-lemmas check-ownership build gallery check-docs check-words check-statuses check-memory
+quick: check-names check-lemmas check-sentences check-ownership check-install build gallery check-docs check-words check-statuses check-memory
 
 # What there is to do, each with the first line that stands above it here.
 help:
@@ -64,16 +69,30 @@ check-docs: build
 	@tools/check_docs README.md docs/RECIPES.md docs/TUTORIAL.md docs/DEBUGGER.md docs/polylab.1
 
 # Each wrong body can be made and changes something, and those that are tried in batches were refused over today's texts.
+# And the sentences of a check are read as they are meant.
 check-edits:
+	@tools/check_verdicts
 	@tools/check_edits
 
 # What owns the raw block can't be let go by the compiler: a derived or written Drop would drop the block's owner, and leak the block.
 check-ownership:
 	@! grep -n 'Drop' crates/cover_links/src/raw.rt
 
+# Help, version and wrong words of each script that is installed, texts from files and standard input, broken texts.
+check-frame:
+	@tools/check_frame
+
+# What is installed, in a folder that is then moved: no dead link, the scripts find the program and one another, and nothing is left behind.
+check-install:
+	@tools/check_install
+
 # Puts packings through the checker and the drawer; a spoilt one has to be found.
 check-tools: build
 	@tools/check_tools
+
+# Random texts, many with faults: the program tells the first fault that the scripts read, and has as many options.
+check-texts: build
+	@tools/check_texts
 
 # Counts in parts and in slices, with a part killed and run again and an interrupt; spoilt folders of parts are refused.
 check-parts: build
@@ -87,6 +106,10 @@ check-names:
 check-lemmas:
 	@tools/check_lemmas
 
+# What the documents say of names, clauses, numbers and crates is the tree's.
+check-sentences:
+	@tools/check_sentences
+
 # The man page and the completions name the jobs and options that the program's help names.
 check-words: build
 	@tools/check_words
@@ -95,12 +118,12 @@ check-words: build
 # growth of single calls of the libraries, by the tests that the gate built: a refused call changes nothing, and is then made again.
 check-memory: build
 	@tools/refuse
-	@tools/check_memory
+	@tools/check_memory $(ALL_THERE)
 
 # Each growth of each job, refused by itself and with all after it. Some minutes.
 check-memory-all: build
 	@tools/refuse --all
-	@tools/check_memory
+	@tools/check_memory $(ALL_THERE)
 
 # Each exit status, by a run of the program itself.
 check-statuses: build
@@ -116,23 +139,23 @@ check-completions:
 
 # Puts the program, man page, completions, examples, documents and scripts below PREFIX.
 install: build
-	mkdir -p "$(DESTDIR)$(PREFIX)/bin" "$(SHARE)/man/man1" "$(SHARE)/bash-completion/completions" "$(DESTDIR)$(ZSH_FUNCTIONS)" \
-		"$(SHARE)/fish/vendor_completions.d" "$(SHARE)/doc/polylab/docs" "$(SHARE)/polylab/tools"
-	cp crates/polylab/out/polylab "$(DESTDIR)$(PREFIX)/bin/polylab"
+	mkdir -p "$(DESTDIR)$(PREFIX)/bin" "$(LIB)" "$(SHARE)/man/man1" "$(SHARE)/bash-completion/completions" "$(DESTDIR)$(ZSH_FUNCTIONS)" \
+		"$(SHARE)/fish/vendor_completions.d" "$(SHARE)/doc/polylab" "$(SHARE)/polylab/tools"
+	cp "$(PROGRAM)" "$(LIB)/polylab"
+	cp tools/given.sh "$(LIB)/given.sh"
+	cp tools/installed.sh "$(DESTDIR)$(PREFIX)/bin/polylab"
 	cp docs/polylab.1 "$(SHARE)/man/man1/polylab.1"
 	cp completions/polylab.bash "$(SHARE)/bash-completion/completions/polylab"
 	cp completions/_polylab "$(DESTDIR)$(ZSH_FUNCTIONS)/_polylab"
 	cp completions/polylab.fish "$(SHARE)/fish/vendor_completions.d/polylab.fish"
-	cp README.md CHANGELOG.md CITATION.cff "$(SHARE)/doc/polylab"
-	cp docs/*.md docs/*.svg "$(SHARE)/doc/polylab/docs"
-	cp -R examples "$(SHARE)/doc/polylab"
+	tools/install_docs "$(SHARE)/doc/polylab"
 	for tool in $(TOOLS); do cp "tools/$$tool" "$(SHARE)/polylab/tools" || exit 1; done
 
 # Takes away what install put below PREFIX.
 uninstall:
 	rm -f "$(DESTDIR)$(PREFIX)/bin/polylab" "$(SHARE)/man/man1/polylab.1" "$(SHARE)/bash-completion/completions/polylab" \
 		"$(DESTDIR)$(ZSH_FUNCTIONS)/_polylab" "$(SHARE)/fish/vendor_completions.d/polylab.fish"
-	rm -rf "$(SHARE)/doc/polylab" "$(SHARE)/polylab"
+	rm -rf "$(SHARE)/doc/polylab" "$(SHARE)/polylab" "$(LIB)"
 
 # A tar file and a Debian package with checksums, in dist/, of a checkout without changes; each names what it was proved from.
 dist: build

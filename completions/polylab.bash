@@ -29,5 +29,5 @@ _polylab() {
     fi
     mapfile -t COMPREPLY < <(compgen -W "$choices" -- "$word")
 }
-# Where none of these words fits, as after <, bash names files.
+# Where none of these words fits, as for the file after a job, bash names files.
 complete -o default -F _polylab polylab

@@ -1,7 +1,8 @@
 # Words of polylab for fish: put this file into the folder completions of fish's configuration.
-# No files among words: the program reads standard input, and fish names files after < itself.
+# No files among the first words; after a job a file may be the last one.
 complete -c polylab -f
 set -l jobs solve count options cover debug resume
+complete -c polylab -n "__fish_seen_subcommand_from $jobs" -F
 set -l first "not __fish_seen_subcommand_from $jobs help"
 complete -c polylab -n $first -a solve -d 'show every packing of a puzzle'
 complete -c polylab -n $first -a count -d 'count the packings of a puzzle'

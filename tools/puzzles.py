@@ -1,112 +1,176 @@
 """Puzzle texts for the scripts of this folder. Plain Python, NOT PROVED; written apart from the program, none of whose code
 it uses, so that it is a second opinion. It trusts nothing but the text that it is given."""
 
-import os
-import sys
+import contextlib
+import unicodedata
 from itertools import permutations, product
+
+from frame import Stop, read_file
 
 DIGITS = "0123456789abcdefghijklmnopqrstuv"
 LETTERS = "0123456789ABCDEFGHIJKLMNOPQRSTUVWXYZabcdefghijklmnopqrstuvwxyz"
 
 
-class Fault(Exception):
-    """Why a puzzle text is refused: the line (0 for the whole text), the name of the fault, what it is in words, and the columns of
-    the line that it is about, counted from 0, or None."""
+class Fault(Stop):
+    """Why a text is refused: the line (0 for the whole text), the name of the fault, what it is in words, and the columns of the line that it
+    is about, counted from 0, or None."""
 
     def __init__(self, line, name, what, columns=None):
-        super().__init__("line %d: %s: %s" % (line, name, what))
+        super().__init__("the text is refused at line %d: %s: %s" % (line, name, what))
         self.line, self.name, self.what, self.columns = line, name, what, columns
 
 
-class Puzzle:
-    """Pieces: lists of (name, cells, may be left out). Required and optional: sets of cells (x, y, z)."""
+class Reader:
+    """Reads a text line by line. It stops at the first fault or, where it is given a list, puts all that it finds there and goes on."""
 
-    def __init__(self, text):
-        self.pieces, self.filled, self.spare, self.cut = [], set(), set(), set()
-        self.has_box = False
-        for number, line in enumerate(lines_of(text), 1):
-            self.read(number, line.split("#")[0])
+    def __init__(self, faults):
+        self.faults, self.number = faults, 0
+
+    def stop(self, name, what, word=None):
+        raise Fault(self.number, name, what, word and (word[1], word[1] + len(word[0])))
+
+    @contextlib.contextmanager
+    def going_on(self):
+        """A fault in here is the last one where faults aren't collected."""
+        try:
+            yield
+        except Fault as fault:
+            if self.faults is None:
+                raise
+            self.faults.append(fault)
+
+    def read_lines(self, text, read):
+        """Reads each line that has words, by its words."""
+        for self.number, line in enumerate(lines_of(text), 1):
+            with self.going_on():
+                words = words_of(self.of_marks(line.split("#")[0]))
+                if words:
+                    read(words)
+        self.number = 0
+
+
+    def of_marks(self, line):
+        """A line that has only characters which may stand there; where faults are collected, with a blank for each that is told."""
+        column = next((at for at, mark in enumerate(line) if mark != "\t" and not " " <= mark <= "~"), None)
+        if column is None:
+            return line
+        name, long = mark_named(line, column)
+        fault = Fault(self.number, "BadLine", "%s may stand in a comment only" % name, (column, column + long))
+        if self.faults is None or long == 1 or "UTF-16" in name:
+            raise fault
+        self.faults.append(fault)
+        return "".join(mark if mark == "\t" or " " <= mark <= "~" else " " for mark in line)
+
+
+def mark_named(line, column):
+    """What stands in a line at a character that may not, and how many bytes it has."""
+    rest = line[column:].encode("latin-1")
+    if rest.startswith(b"\xef\xbb\xbf"):
+        return "a byte-order mark (the bytes ef bb bf, which an editor puts before a text: save it as UTF-8 without one)", 3
+    if rest.startswith((b"\xff\xfe", b"\xfe\xff")):
+        return "the byte-order mark of UTF-16 (save the text as UTF-8 without one)", 2
+    for long in (2, 3, 4):
+        with contextlib.suppress(UnicodeDecodeError):
+            mark = rest[:long].decode("utf-8")
+            if len(mark) == 1 and ord(mark) > 127:
+                return "the character U+%04X, %s," % (ord(mark), unicodedata.name(mark, "which has no name")), long
+    return "the byte %02x" % rest[0], 1
+
+
+class Puzzle(Reader):
+    """Pieces: lists of (name, cells, may be left out). Required and optional: sets of cells (x, y, z). Named: of each line that says the
+    region its number, its first word (`maybe` for `maybe cells`) and its cells."""
+
+    def __init__(self, text, faults=None):
+        super().__init__(faults)
+        self.pieces, self.filled, self.spare, self.cut, self.named = [], set(), set(), set(), []
+        self.has_box = self.is_large = False
+        self.read_lines(text, self.read)
         self.required = self.filled - self.spare - self.cut
         self.optional = self.spare - self.cut
         self.region = self.required | self.optional
-        if not self.region:
-            raise Fault(0, "EmptyRegion", "the region has no cell: a line `box` or `cells` is missing, or all is cut")
-        if not self.pieces:
-            raise Fault(0, "NoPiece", "there is no line `piece`")
-        if not self.required and all(maybe for _, _, maybe in self.pieces):
-            raise Fault(0, "NothingRequired", "each piece may be left out and each cell may stay empty")
+        if faults:
+            return
+        with self.going_on():
+            if not self.region:
+                self.stop("EmptyRegion", "the region has no cell: a line `box` or `cells` is missing, or all is cut")
+            if not self.pieces:
+                self.stop("NoPiece", "there is no line `piece`")
+            if not self.required and all(maybe for _, _, maybe in self.pieces):
+                self.stop("NothingRequired", "each piece may be left out and each cell may stay empty")
 
-    def read(self, number, line):
-        """One line, of which a comment was taken away."""
-
-        def stop(name, what, word=None):
-            raise Fault(number, name, what, word and (word[1], word[1] + len(word[0])))
-
-        for column, mark in enumerate(line):
-            if mark != "\t" and not " " <= mark <= "~":
-                stop("BadLine", "the character %r may stand in a comment only" % mark, (mark, column))
-        words = words_of(line)
-        first = words[0] if words else None
-        maybe = bool(words) and words[0][0] == "maybe"
+    def read(self, words):
+        """One line by its words."""
+        first, maybe = words[0], words[0][0] == "maybe"
         words = words[1:] if maybe else words
         if not words:
-            if maybe:
-                stop("BadLine", "after `maybe` comes `piece` or `cells`", first)
-            return
+            self.stop("BadLine", "after `maybe` comes `piece` or `cells`", first)
         kind, rest = words[0], words[1:]
         if kind[0] not in (("piece", "cells") if maybe else ("piece", "box", "cells", "cut")):
-            stop("BadLine", "`%s` is no first word of a line%s" % (kind[0], " after `maybe`" if maybe else ""), kind)
+            self.stop("BadLine", "`%s` is no first word of a line%s" % (kind[0], " after `maybe`" if maybe else ""), kind)
         if kind[0] == "piece":
-            self.read_piece(stop, kind, rest, maybe)
+            self.read_piece(kind, rest, maybe)
         elif kind[0] == "box":
-            self.read_box(stop, kind, rest)
+            self.read_box(kind, rest)
         else:
             if not rest:
-                stop("BadLine", "`%s` names no cell" % kind[0], kind)
-            places = [self.read_cell(stop, word) for word in rest]
+                self.stop("BadLine", "`%s` names no cell" % kind[0], kind)
+            places = self.read_cells(rest)
             {"cut": self.cut, "cells": self.spare if maybe else self.filled}[kind[0]].update(places)
-        if kind[0] != "piece" and len(self.filled | self.spare) > 4096:
-            stop("TooLarge", "the lines so far name more than 4,096 cells", kind)
+            self.named.append((self.number, "maybe" if maybe else kind[0], places))
+        if kind[0] != "piece" and len(self.filled | self.spare) > 4096 and not self.is_large:
+            self.is_large = True
+            self.stop("TooLarge", "the lines so far name more than 4,096 cells", kind)
 
-    def read_piece(self, stop, kind, rest, maybe):
+    def read_piece(self, kind, rest, maybe):
         if len(rest) < 2:
-            stop("BadLine", "`piece` needs a name and cells", kind)
+            self.stop("BadLine", "`piece` needs a name and cells", kind)
         name = rest[0]
         if len(name[0]) != 1 or name[0] not in LETTERS:
-            stop("BadLine", "`%s` is no name of a piece: one digit or letter" % name[0], name)
-        if any(name[0] == other for other, _, _ in self.pieces):
-            stop("RepeatedPiece", "a piece %s came before" % name[0], name)
-        cells = []
-        for word in rest[1:]:
-            if len(cells) == 64:
-                stop("TooLarge", "a piece has at most 64 cells", word)
-            place = self.read_cell(stop, word)
-            if place in cells:
-                stop("RepeatedCell", "the cell %s comes twice" % word[0], word)
-            cells.append(place)
-        self.pieces.append((name[0], cells, maybe))
+            self.stop("BadLine", "`%s` is no name of a piece: one digit or letter" % name[0], name)
+        with self.going_on():
+            if any(name[0] == other for other, _, _ in self.pieces):
+                self.stop("RepeatedPiece", "a piece %s came before" % name[0], name)
+        self.pieces.append((name[0], self.read_cells(rest[1:], True), maybe))
 
-    def read_box(self, stop, kind, rest):
+    def read_box(self, kind, rest):
         if len(rest) != 3:
-            stop("BadLine", "`box` has three numbers, and here are %d" % len(rest), kind)
+            self.stop("BadLine", "`box` has three numbers, and here are %d" % len(rest), kind)
         for word in rest:
             if not (word[0].isdigit() and word[0][0] != "0"):
-                stop("BadLine", "`%s` is no number from 1 to 32" % word[0], word)
+                self.stop("BadLine", "`%s` is no number from 1 to 32" % word[0], word)
         if self.has_box:
-            stop("SecondBox", "there was a line `box` before", kind)
+            self.stop("SecondBox", "there was a line `box` before", kind)
         self.has_box = True
         for word in rest:
-            if int(word[0]) > 32:
-                stop("TooLarge", "`%s` is above 32" % word[0], word)
-        self.filled |= set(product(*(range(int(size)) for size, _ in rest)))
+            if len(word[0]) > 2 or int(word[0]) > 32:
+                self.stop("TooLarge", "`%s` is above 32" % word[0], word)
+        places = list(product(*(range(int(size)) for size, _ in rest)))
+        self.filled.update(places)
+        self.named.append((self.number, "box", places))
 
-    @staticmethod
-    def read_cell(stop, word):
+    def read_cells(self, words, of_piece=False):
+        """The cells that words name; a piece has each once, and at most 64."""
+        found = {}
+        for word in words:
+            with self.going_on():
+                if of_piece and len(found) == 64:
+                    self.stop("TooLarge", "a piece has at most 64 cells", word)
+                place = self.read_cell(word)
+                if of_piece and place in found:
+                    self.stop("RepeatedCell", "the cell %s comes twice" % word[0], word)
+                found[place] = True
+                continue
+            if of_piece and len(found) == 64:
+                break
+        return list(found)
+
+    def read_cell(self, word):
         if len(word[0]) != 3:
-            stop("BadCell", "`%s` is no cell: it needs three characters, for x, y and z, and has %d" % (word[0], len(word[0])), word)
+            self.stop("BadCell", "`%s` is no cell: it needs three characters, for x, y and z, and has %d" % (word[0][:40], len(word[0])), word)
         for at, mark in enumerate(word[0]):
             if mark not in DIGITS:
-                stop("BadCell", "`%s` stands for no coordinate: these are 0 to 9 and a to v" % mark, (mark, word[1] + at))
+                self.stop("BadCell", "`%s` stands for no coordinate: these are 0 to 9 and a to v" % mark, (mark, word[1] + at))
         return cell(word[0])
 
 
@@ -127,32 +191,19 @@ def words_of(line):
     return found
 
 
-def read_file(path):
-    """The text of a file, a character for each byte; of standard input where the path is `-`."""
-    if path == "-":
-        return sys.stdin.buffer.read().decode("latin-1")
-    with open(path, "rb") as file:
-        return file.read().decode("latin-1")
+def puzzle_of(path):
+    """The puzzle in a file, or on standard input where there is none."""
+    return Puzzle(read_file(path or "-"))
 
 
-def run(main, words):
-    """Runs a script's main function: what goes wrong outside it ends it with a sentence and status 1."""
-    name = os.path.basename(sys.argv[0])
-    try:
-        status = main(words)
-        sys.stdout.flush()
-    except BrokenPipeError:
-        os.dup2(os.open(os.devnull, os.O_WRONLY), sys.stdout.fileno())
-        status = 1
-    except KeyboardInterrupt:
-        status = "%s: stopped" % name
-    except Fault as fault:
-        status = "%s: the puzzle is refused at %s" % (name, fault)
-    except OSError as error:
-        status = "%s: %s: %s" % (name, error.filename or "file", error.strerror)
-    except (ValueError, IndexError) as error:
-        status = "%s: what was read isn't what this script reads (%s)" % (name, error)
-    sys.exit(status)
+def packings_of(path):
+    """The packings that `polylab solve` printed into a file, or to standard input where there is none, as far as they are all there."""
+    found, total = packings(lines_of(read_file(path or "-")))
+    if total is None:
+        raise Stop("this isn't all that `solve` printed: no line `packings` comes last")
+    if total != len(found):
+        raise Stop("this isn't all that `solve` printed: the last line says %d, and %d packings were read" % (total, len(found)))
+    return found
 
 
 def cell(word):
@@ -201,25 +252,31 @@ def placements(puzzle, piece):
 def packings(lines):
     """The packings that `polylab solve` printed: for each its number and a dict from cells to characters, both as printed.
     The last item is the number on the line `packings`."""
-    found, rows, number, total = [], [], None, None
+    found, rows, at, total = [], [], None, None
     for line in lines:
         words = line.split()
-        if words[:1] in (["packing"], ["packings"]) and words[1:]:
-            if number is not None:
-                found.append((number, layers(rows)))
+        if words[:1] in (["packing"], ["packings"]) and len(words) == 2:
+            if not (words[1].isascii() and words[1].isdecimal()):
+                raise Stop("the line `%s` has no number" % line)
+            if at is not None:
+                found.append((at, layers(at, rows)))
             if words[0] == "packings":
                 total = int(words[1])
                 break
-            number, rows = int(words[1]), []
-        elif number is None:
-            raise ValueError("no line `packing` comes first")
+            at, rows = int(words[1]), []
+        elif at is None:
+            raise Stop("this isn't what `solve` printed: no line `packing` comes first")
         else:
             rows.append(words)
     return found, total
 
 
-def layers(rows):
-    """The characters of a picture: a line for each y, in it a word for each z, in that a character for each x."""
+def layers(at, rows):
+    """The characters of packing `at` as it is drawn: a line for each y, in it a word for each z, in that a character for each x."""
+    if not rows or not rows[0] or {tuple(map(len, row)) for row in rows} != {(len(rows[0][0]),) * len(rows[0])}:
+        raise Stop("packing %d isn't drawn as a box" % at)
+    if all(mark == "." for row in rows for layer in row for mark in layer):
+        raise Stop("packing %d has no cell" % at)
     return {(x, y, z): mark for y, row in enumerate(rows) for z, layer in enumerate(row) for x, mark in enumerate(layer)}
 
 

@@ -1,30 +1,35 @@
 """Snapshots and answers of `polylab resume` for the scripts of this folder. Plain Python, NOT PROVED. It trusts the program for what a
 snapshot means: here is only looked at how it is spelled, where its branch begins and ends, and that numbers fit each other."""
 
+import functools
 import hashlib
 import os
 import re
 import subprocess
-import sys
 
-TOP = os.path.dirname(os.path.dirname(os.path.realpath(__file__)))
-OWN = os.path.join(TOP, "polylab")
-PROGRAM = os.environ.get("POLYLAB", OWN if os.path.isfile(OWN) else "polylab")
+from frame import TOP, program, stop
+
 NUMBER = re.compile("0|[1-9][0-9]*")
+SUM = re.compile("[0-9a-f]{64}")
 
 
 class Spoilt(Exception):
     """Why a text is no snapshot, or no answer."""
 
 
-def stop(what):
-    """Ends the script with a sentence and status 1."""
-    sys.exit("%s: %s" % (os.path.basename(sys.argv[0]), what))
+@functools.lru_cache(maxsize=None)
+def ready():
+    """The program. That of a checkout may have to be built first, and what is said meanwhile is shown."""
+    found = program()
+    if found == os.path.join(TOP, "polylab"):
+        if subprocess.run([found, "--version"], stdin=subprocess.DEVNULL, stdout=subprocess.DEVNULL, check=False).returncode:
+            stop("%s doesn't start" % found)
+    return found
 
 
 def ask(words, text):
     """What the program writes of a text; its refusal ends the script. A character stands for each byte."""
-    ran = subprocess.run([PROGRAM, *words], input=text.encode("latin-1"), stdout=subprocess.PIPE, stderr=subprocess.PIPE, check=False)
+    ran = subprocess.run([ready(), *words], input=text.encode("latin-1", "replace"), stdout=subprocess.PIPE, stderr=subprocess.PIPE, check=False)
     if ran.returncode:
         said = ran.stderr.decode("latin-1").strip()
         stop("`polylab %s` ended with status %d%s" % (" ".join(words), ran.returncode, ": " + said if said else ""))
@@ -111,7 +116,8 @@ class Snapshot:
 
 
 class Answer:
-    """What `resume` printed: the visits, steps and levels of a stretch, and the text of the snapshot that ends it, or None."""
+    """What `resume` printed: the visits, steps and levels of a stretch, and the text of the snapshot that ends it, or None. And the checksum of
+    the part whose answer tools/answer says that it is, or None."""
 
     def __init__(self, text):
         lines = text.split("\n")
@@ -129,6 +135,11 @@ class Answer:
         if listed not in (0, self.visits):
             raise Spoilt("it lists %d visits, and counts %d" % (listed, self.visits))
         rest = lines[listed + 3 :]
+        self.part = None
+        if rest[0] == "end" and len(rest) == 2:
+            first, _, self.part = rest.pop().partition(" ")
+            if first != "of" or not SUM.fullmatch(self.part):
+                raise Spoilt("something other than a line `of` with a checksum follows its line `end`")
         self.rest = None if rest == ["end"] else "".join(line + "\n" for line in rest)
 
 
@@ -180,16 +191,6 @@ def answer_of(text, what):
 def saved(replies, at):
     """The text of a snapshot in replies of the debugger, from the line `snapshot K` at that place on."""
     words = replies[at].split() if at < len(replies) else []
-    if len(words) != 2 or words[0] != "snapshot":
+    if len(words) != 2 or words[0] != "snapshot" or not NUMBER.fullmatch(words[1]):
         stop("the debugger saved nothing: %s" % (replies[at] if at < len(replies) else "no reply"))
     return "".join(line + "\n" for line in replies[at + 1 : at + 1 + int(words[1])])
-
-
-def write_whole(path, text):
-    """Writes a file whole: to a name beside it first, which is then renamed."""
-    new = path + ".new"
-    with open(new, "w", encoding="latin-1", newline="") as file:
-        file.write(text)
-        file.flush()
-        os.fsync(file.fileno())
-    os.replace(new, path)

@@ -1,0 +1,79 @@
+"""Cover texts for the scripts of this folder. Plain Python, NOT PROVED; written apart from the program, none of whose code it uses. It
+trusts nothing but the text that it is given."""
+
+import re
+
+from puzzles import Reader
+
+NAME = re.compile("[0-9A-Za-z_]{1,8}")
+ITEMS, OPTIONS, TABLE = 65535, 262143, 8388608
+
+
+class Cover(Reader):
+    """Items: the names of those that have to be covered, and then of those that may be, each with its number from 0. Must: how many have to be.
+    Options: lists of numbers of items. Lines: the number of each option's line."""
+
+    def __init__(self, text, faults=None):
+        super().__init__(faults)
+        self.items, self.must, self.options, self.lines = {}, None, [], []
+        self.has_maybe, self.entries, self.is_large, self.is_lost = False, 0, False, False
+        self.read_lines(text, self.read)
+        if self.must is None and not faults:
+            with self.going_on():
+                self.stop("NoItemLine", "there is no line `items`")
+
+    def table(self):
+        """The size of the program's table."""
+        return len(self.items) + self.entries + len(self.options) + 2
+
+    def read(self, words):
+        """One line by its words."""
+        kind, rest = words[0], words[1:]
+        if kind[0] not in ("items", "maybe", "option"):
+            self.stop("BadLine", "`%s` is no first word of a line: these are `items`, `maybe` and `option`" % kind[0][:40], kind)
+        if not rest:
+            self.stop("BadLine", "`%s` names no item" % kind[0], kind)
+        if kind[0] == "items" and self.must is not None:
+            self.stop("BadLine", "there was a line `items` before", kind)
+        if kind[0] == "maybe" and self.has_maybe:
+            self.stop("BadLine", "there was a line `maybe` before", kind)
+        if kind[0] == "maybe" and self.options:
+            self.stop("BadLine", "a line `maybe` comes before the first option", kind)
+        if kind[0] != "items" and self.must is None:
+            # (it is told once, and nothing of the lines that follow)
+            self.must, self.is_lost = 0, True
+            self.stop("NoItemLine", "no line `items` came before", kind)
+        if self.is_lost:
+            return
+        if kind[0] == "option":
+            self.read_option(rest)
+        else:
+            for word in rest:
+                with self.going_on():
+                    if self.named(word) in self.items:
+                        self.stop("RepeatedItem", "an item %s came before" % word[0], word)
+                    self.items[word[0]] = len(self.items)
+            self.must = len(self.items) if kind[0] == "items" else self.must
+            self.has_maybe = self.has_maybe or kind[0] == "maybe"
+        if (len(self.items) > ITEMS or len(self.options) > OPTIONS or self.table() > TABLE) and not self.is_large:
+            self.is_large = True
+            self.stop("TooLarge", "with this line there are %d items of at most %d, %d options of at most %d, and a table of %d of at most %d" % (
+                len(self.items), ITEMS, len(self.options), OPTIONS, self.table(), TABLE), kind)
+
+    def read_option(self, rest):
+        found = {}
+        for word in rest:
+            with self.going_on():
+                if self.named(word) not in self.items:
+                    self.stop("UnknownItem", "no line names an item %s" % word[0], word)
+                if self.items[word[0]] in found:
+                    self.stop("ItemTwiceInOption", "the item %s comes twice" % word[0], word)
+                found[self.items[word[0]]] = True
+        self.options.append(list(found))
+        self.lines.append(self.number)
+        self.entries += len(found)
+
+    def named(self, word):
+        if not NAME.fullmatch(word[0]):
+            self.stop("BadName", "`%s` is no name of an item: one to eight of 0-9, A-Z, a-z and _" % word[0][:40], word)
+        return word[0]

@@ -1,0 +1,168 @@
+"""What the scripts that are installed share: their words, help and version, the files that they read and write, and how they end. Plain
+Python, NOT PROVED; it trusts nothing but the file system.
+
+A script ends with 0 where it is done, with 1 where it isn't or what it looked for is so (one sentence tells), and with 2 where a word of
+its command line is wrong (one line names it). --help and --version go to standard output."""
+
+import contextlib
+import os
+import sys
+
+VERSION = "0.1.0"
+TOP = os.path.dirname(os.path.dirname(os.path.realpath(__file__)))
+NAME = os.path.basename(sys.argv[0])
+
+
+class Stop(Exception):
+    """The sentence with which a script ends, and status 1."""
+
+
+def stop(what):
+    raise Stop(what)
+
+
+def program():
+    """The program: the one that POLYLAB names, that of this checkout, that of this installation or unpacked package, or the one on the
+    path."""
+    beside = [os.path.join(TOP, "polylab"), os.path.join(TOP, "..", "..", "bin", "polylab")]
+    there = [os.path.normpath(it) for it in beside if os.path.isfile(it) and os.access(it, os.X_OK)]
+    return os.environ.get("POLYLAB") or (there + ["polylab"])[0]
+
+
+@contextlib.contextmanager
+def naming(path):
+    """What goes wrong with a file in here names it."""
+    try:
+        yield
+    except OSError as error:
+        error.filename = error.filename or path
+        raise
+
+
+def read_file(path):
+    """The text of a file, a character for each byte; of standard input where the path is `-`."""
+    if path == "-":
+        if sys.stdin is None:
+            stop("standard input is closed")
+        if sys.stdin.isatty():
+            print("%s: reading from the terminal, up to Ctrl-D" % NAME, file=sys.stderr)
+        with naming("standard input"):
+            return sys.stdin.buffer.read().decode("latin-1")
+    with naming(path), open(path, "rb") as file:
+        return file.read().decode("latin-1")
+
+
+def write_whole(path, text):
+    """Writes a file whole: to a name beside it first, which is then renamed. Where that fails, what was there stays."""
+    new = path + ".new"
+    try:
+        with naming(new), open(new, "w", encoding="latin-1", newline="") as file:
+            file.write(text)
+            file.flush()
+            os.fsync(file.fileno())
+        os.replace(new, path)
+    except BaseException:
+        with contextlib.suppress(OSError):
+            os.remove(new)
+        raise
+
+
+def wrong(word, what):
+    """Ends the script for a word of its command line."""
+    print("%s: %s: %s (%s --help tells the words)" % (NAME, word, what, NAME), file=sys.stderr)
+    sys.exit(2)
+
+
+def whole(least, most):
+    """Reads a whole number from least to most."""
+
+    def read(word):
+        if not (word.isdecimal() and word.isascii() and least <= int(word) <= most):
+            raise ValueError("a whole number from %d to %d has to stand here" % (least, most))
+        return int(word)
+
+    return read
+
+
+def some_text(word):
+    """Reads a word that may not be empty."""
+    if not word:
+        raise ValueError("a word has to stand here")
+    return word
+
+
+def given(words, flags, values, names):
+    """The options among the words, each with its value or True, and the names. `names` says what these are, in order: one in brackets
+    may be left out (and is then None), and one that ends with `..` stands for all that are left, at least one."""
+    options, found, rest = {}, [], list(words)
+    while rest:
+        word = rest.pop(0)
+        name, sign, value = word.partition("=")
+        if word == "--":
+            found += rest
+            rest = []
+        elif word in flags:
+            options[word] = True
+        elif name in values:
+            if not sign and not rest:
+                wrong(word, "its value has to follow")
+            value = value if sign else rest.pop(0)
+            try:
+                options[name] = values[name](value)
+            except ValueError as fault:
+                wrong("%s %s" % (name, value), fault)
+        elif word.startswith("-") and word != "-":
+            wrong(word, "there is no such option")
+        else:
+            found.append(word)
+    is_many = bool(names) and names[-1].endswith("..")
+    least = sum(not name.startswith("[") for name in names)
+    if len(found) < least:
+        wrong(names[len(found)], "this is missing")
+    if len(found) > len(names) and not is_many:
+        wrong(found[len(names)], "this is one word too many")
+    return options, found + [None] * (len(names) - len(found))
+
+
+def run(main, doc, names=("[FILE]",), flags=(), values=None):
+    """Runs a script's main function over its options and names, and ends the script."""
+    words = sys.argv[1:]
+    if sys.stdout is None:
+        # (it is closed: what would be written goes nowhere)
+        sys.stdout = open(os.devnull, "w", encoding="utf-8")
+    try:
+        status = told(main, doc, words, names, flags, values or {})
+        with naming("standard output"):
+            sys.stdout.flush()
+    except BrokenPipeError:
+        status = 1
+    except KeyboardInterrupt:
+        status = "%s: stopped" % NAME
+    except Stop as why:
+        status = "%s: %s" % (NAME, why)
+    except OSError as error:
+        status = "%s: %s: %s" % (NAME, error.filename or "standard output", error.strerror or error)
+    except MemoryError:
+        status = "%s: there is not enough memory" % NAME
+    except (ValueError, LookupError) as error:
+        status = "%s: what was read isn't what this script reads (%s)" % (NAME, error)
+    # What can't be written isn't tried again when Python ends.
+    if status:
+        with contextlib.suppress(OSError):
+            sys.stdout.flush()
+        with contextlib.suppress(OSError):
+            os.dup2(os.open(os.devnull, os.O_WRONLY), sys.stdout.fileno())
+    sys.exit(status)
+
+
+def told(main, doc, words, names, flags, values):
+    """The script's status: of the help, of the version, or of what it does."""
+    asked = words[: words.index("--")] if "--" in words else words
+    if "-h" in asked or "--help" in asked:
+        print(doc.strip())
+        return 0
+    if "-V" in asked or "--version" in asked:
+        print("%s of Polylab %s" % (NAME, VERSION))
+        return 0
+    options, found = given(words, flags, values, names)
+    return main(options, *found)

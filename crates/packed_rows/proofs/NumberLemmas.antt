@@ -3,7 +3,9 @@ use Rattle.std.proofs.Common.{◌≡◌, ℕ, zero, suc, ◌+◌, ◌-◌, ◌*�
 use Rattle.std.proofs.lemmas.Bool.{cases_lt}
 use Rattle.std.proofs.lemmas.List.{append-nil, drop_more, drop_all}
 use Rattle.std.proofs.lemmas.Bool.Decides.{nat_tests}
-use Rattle.packed_rows.specs.Numbers.{front, bytes_of, most_before, numbers_at, numbers_of, IsWhole, IsRow}
+use Rattle.std.proofs.lemmas.Grind.{flat_map-append}
+use Rattle.std.specs.List.{flat_map}
+use Rattle.packed_rows.specs.Numbers.{front, bytes_of, most_before, numbers_at, numbers_of, IsWhole, IsSpelled, after_first, IsRow}
 
 -- the three ways in which a byte is read
 pub at_last : (high b : ℕ) (bs : List ℕ) → high < most_before → b < 128 → numbers_at high (b ∷ bs) ≡ (high * 128 + b) ∷ numbers_at 0 bs
@@ -68,13 +70,19 @@ none = at_none 0
 
 pub whole_none : IsRow []
 unfolding numbers_of
-whole_none = record { whole = λ cs. rw at_none refl; short = omega arith }
+whole_none = record { whole = λ cs. rw at_none refl; short = omega arith; spelled = rw at_none refl }
 
 pub reads_alone : (n : ℕ) → n < 2 ^ 64 → numbers_of (bytes_of n) ≡ n ∷ []
 reads_alone n h = ap numbers_of (sym (append-nil (bytes_of n))) ∙ reads_number n [] h ∙ ap (λ ns. n ∷ ns) none
 
 pub reads_put : (bs : List ℕ) (n : ℕ) → IsWhole bs → n < 2 ^ 64 → numbers_of (bs ++ bytes_of n) ≡ numbers_of bs ++ n ∷ []
 reads_put bs n w h = w (bytes_of n) ∙ ap (λ ns. numbers_of bs ++ ns) (reads_alone n h)
+
+-- a number more is spelled as it was put
+spelled_put : (bs : List ℕ) (n : ℕ) → IsSpelled bs → numbers_of (bs ++ bytes_of n) ≡ numbers_of bs ++ n ∷ [] → IsSpelled (bs ++ bytes_of n)
+spelled_put bs n s more =
+    ap (λ cs. cs ++ bytes_of n) s ∙ ap (λ cs. flat_map bytes_of (numbers_of bs) ++ cs) (sym (append-nil (bytes_of n)))
+    ∙ sym (flat_map-append bytes_of (numbers_of bs) (n ∷ [])) ∙ ap (flat_map bytes_of) (sym more)
 
 bytes_long : (n : ℕ) → length (bytes_of n) ≤ 10
 unfolding bytes_of
@@ -89,6 +97,7 @@ whole_put bs n w h =
           ∙ ap (λ ns. numbers_of bs ++ ns) (reads_number n cs h) ∙ sym (append_assoc (numbers_of bs) (n ∷ []) (numbers_of cs))
           ∙ ap (λ ns. ns ++ numbers_of cs) (sym more);
       short = let q = w.short in omega (arith, e, m, l, s);
+      spelled = spelled_put bs n w.spelled more;
     }
 
 -- ---- steps of a reader, which has read `high` of a number, and stands at place i
@@ -111,6 +120,43 @@ step_none high i bs l = ap (numbers_at high) (drop_all i bs l) ∙ at_none high
 pub begins : (bs : List ℕ) → numbers_at 0 bs ≡ numbers_of bs
 unfolding numbers_of
 begins bs = refl
+
+-- ---- the bytes behind the first number
+
+pub after_last : (b : ℕ) (bs : List ℕ) → b < 128 → after_first (b ∷ bs) ≡ bs
+unfolding after_first
+after_last b bs l = grind (arith, nat_tests)
+
+pub after_more : (b : ℕ) (bs : List ℕ) → 128 ≤ b → after_first (b ∷ bs) ≡ after_first bs
+unfolding after_first
+after_more b bs l = grind (arith, nat_tests)
+
+after_front : (k n : ℕ) (bs : List ℕ) → after_first (front k n ++ bs) ≡ after_first bs
+unfolding front
+after_front zero n bs = refl
+after_front (suc k) n bs =
+    elim (cases_lt 0 n) [
+      | inl l ↦ rw (front_more k n l, append_assoc)
+          (after_front k (n / 128) ((n % 128 + 128) ∷ bs) ∙ after_more (n % 128 + 128) bs (omega arith))
+      | inr l ↦ let z : n ≡ 0 = omega arith in rw z refl
+    ]
+
+after_bytes : (n : ℕ) (bs : List ℕ) → after_first (bytes_of n ++ bs) ≡ bs
+unfolding bytes_of
+after_bytes n bs = rw append_assoc (after_front 9 (n / 128) (n % 128 ∷ bs) ∙ after_last (n % 128) bs (omega arith))
+
+-- what a reader leaves is spelled as what it had
+pub spelled_rest : (bs rest : List ℕ) (n : ℕ) → IsSpelled bs → numbers_of bs ≡ n ∷ numbers_of rest → rest ≡ after_first bs → IsSpelled rest
+spelled_rest bs rest n s e a =
+    let m = s ∙ ap (flat_map bytes_of) e in
+    a ∙ ap after_first m ∙ after_bytes n (flat_map bytes_of (numbers_of rest))
+
+-- a byte that is read in the midst
+pub steps_last : (i : ℕ) (bs : List ℕ) → i < length bs → get_or bs i 0 < 128 → drop (i + 1) bs ≡ after_first (drop i bs)
+steps_last i bs l m = sym (ap after_first (drop_more bs i 0 l) ∙ after_last (get_or bs i 0) (drop (i + 1) bs) m)
+
+pub steps_more : (i : ℕ) (bs : List ℕ) → i < length bs → 128 ≤ get_or bs i 0 → after_first (drop (i + 1) bs) ≡ after_first (drop i bs)
+steps_more i bs l m = sym (ap after_first (drop_more bs i 0 l) ∙ after_more (get_or bs i 0) (drop (i + 1) bs) m)
 
 -- ---- a number is put
 

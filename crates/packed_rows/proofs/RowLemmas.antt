@@ -1,8 +1,10 @@
 -- Rows, and the bytes of many numbers.
-use Rattle.std.proofs.Common.{◌≡◌, ℕ, zero, suc, ◌+◌, ◌-◌, ◌^◌, ◌<◌, All, map, List, [], ◌∷◌, ◌++◌, length, get_or, refl, sym, ap, ◌∙◌, subst, arith}
+use Rattle.std.proofs.Common.{◌≡◌, ℕ, zero, suc, ◌^◌, ◌<◌, All, map, List, [], ◌∷◌, ◌++◌, length, get_or, refl, sym, ap, ◌∙◌, subst, arith}
 use Rattle.std.proofs.lemmas.List.{map-append, length-map}
+use Rattle.std.proofs.lemmas.List.Elements.{All-push}
+use Rattle.std.proofs.lemmas.Grind.{flat_map-append}
 use Rattle.std.specs.List.{flat_map}
-use Rattle.packed_rows.specs.Numbers.{bytes_of, numbers_of, IsWhole}
+use Rattle.packed_rows.specs.Numbers.{bytes_of, numbers_of, IsWhole, IsSpelled}
 use Rattle.cover_problem.specs.FlatLists.{lists_at, IsParted}
 use Rattle.packed_rows.specs.Rows.{rows_at}
 use Rattle.packed_rows.proofs.NumberLemmas.{reads_number, none}
@@ -21,7 +23,21 @@ reads_list (n ∷ ns) a =
 pub reads_all : (bs ns : List ℕ) → IsWhole bs → All (λ n. n < 2 ^ 64) ns → numbers_of (bs ++ flat_map bytes_of ns) ≡ numbers_of bs ++ ns
 reads_all bs ns w a = w (flat_map bytes_of ns) ∙ ap (λ ms. numbers_of bs ++ ms) (reads_list ns a)
 
+spelled_all : (bs ns : List ℕ) → IsWhole bs → IsSpelled bs → All (λ n. n < 2 ^ 64) ns → IsSpelled (bs ++ flat_map bytes_of ns)
+spelled_all bs ns w s a =
+    ap (λ cs. cs ++ flat_map bytes_of ns) s ∙ sym (flat_map-append bytes_of (numbers_of bs) ns)
+    ∙ ap (flat_map bytes_of) (sym (reads_all bs ns w a))
+
 -- one row more
+pub added_spelled : (bytes ends row more new others : List ℕ) → IsParted bytes 0 ends → All IsSpelled (lists_at bytes 0 ends) → IsWhole row
+    → IsSpelled row → All (λ n. n < 2 ^ 64) more → new ≡ bytes ++ (row ++ flat_map bytes_of more) → others ≡ ends ++ length new ∷ []
+    → All IsSpelled (lists_at new 0 others)
+added_spelled bytes ends row more new others p s w r a e f =
+    let last = row ++ flat_map bytes_of more in
+    let there : others ≡ ends ++ length (bytes ++ last) ∷ [] = f ∙ ap (λ (bs : List ℕ). ends ++ length bs ∷ []) e in
+    let lists : lists_at new 0 others ≡ lists_at bytes 0 ends ++ last ∷ [] = (λ j. lists_at (e j) 0 (there j)) ∙ push_lists bytes last 0 ends p in
+    subst (All IsSpelled) (sym lists) (All-push IsSpelled (lists_at bytes 0 ends) last s (spelled_all row more w r a))
+
 pub added_rows : (bytes ends row more new others : List ℕ) → IsParted bytes 0 ends → IsWhole row → All (λ n. n < 2 ^ 64) more
     → new ≡ bytes ++ (row ++ flat_map bytes_of more) → others ≡ ends ++ length new ∷ []
     → rows_at new others ≡ rows_at bytes ends ++ (numbers_of row ++ more) ∷ []

@@ -1,11 +1,11 @@
 //! The numbers of a row, one after another.
-ghost use Rattle.std.specs.Prelude.{◌≡◌, ◌∷◌, [], ◌≤◌, length, drop, slice_index, MatchOption, IsTrue};
-ghost use Rattle.packed_rows.specs.Numbers.{numbers_of};
+ghost use Rattle.std.specs.Prelude.{◌≡◌, ◌↔◌, ◌∷◌, [], ◌≤◌, length, drop, slice_index, MatchOption, IsTrue};
+ghost use Rattle.packed_rows.specs.Numbers.{numbers_of, after_first, IsSpelled};
 
 use std::marker::Model;
 
-/// What is left of a row: its numbers from one on, which are read as they are asked for. Bytes that
-/// tell no whole number end it.
+/// What is left of a row: its numbers from one on, which are read as they are asked for. Its bytes are
+/// those that its numbers were put as.
 #[derive(Drop)]
 pub struct Reader<'a> {
     bytes: &'a [u8],
@@ -13,17 +13,20 @@ pub struct Reader<'a> {
 
 impl<'a> Model for Reader<'a> {
     ghost use Rattle.std.specs.Prelude.{ℕ, List};
-    ghost use Rattle.packed_rows.specs.Numbers.{numbers_of};
+    ghost use Rattle.packed_rows.specs.Numbers.{numbers_of, IsSpelled};
 
     ghost Value = { List ℕ };
 
     ghost view = { λ r. numbers_of r.bytes.now };
+
+    ghost invariant = { λ r. IsSpelled r.bytes.now };
 }
 
 /// The first number of some bytes, and how many bytes it takes; none where none is whole.
 fn first(bytes: &[u8]) -> Option<(u64, usize)>
     ensures { MatchOption result (numbers_of bytes.now ≡ []) (λ r.
-        (r.1 ≤ length bytes.now) × (numbers_of bytes.now ≡ r.0 ∷ numbers_of (drop r.1 bytes.now))) }
+        (r.1 ≤ length bytes.now) × (numbers_of bytes.now ≡ r.0 ∷ numbers_of (drop r.1 bytes.now))
+        × (drop r.1 bytes.now ≡ after_first bytes.now)) }
 {
     let mut high: u64 = 0;
     'reading: for (read, byte) in bytes.iter().enumerate() {
@@ -42,6 +45,7 @@ fn first(bytes: &[u8]) -> Option<(u64, usize)>
 impl<'a> Reader<'a> {
     /// Of the numbers of these bytes.
     pub(crate) fn of(bytes: &'a [u8]) -> Reader<'a>
+        requires { IsSpelled bytes.now }
         ensures { result ≡ numbers_of bytes.now }
     {
         Reader { bytes }
@@ -62,9 +66,9 @@ impl<'a> Reader<'a> {
         }
     }
 
-    /// Whether the same numbers are left, by their bytes; false tells nothing.
+    /// Whether the same numbers are left. Their bytes are compared, for each number is put in one way.
     pub fn same(&self, other: &Reader<'_>) -> bool
-        ensures { IsTrue result → self.now ≡ other.now }
+        ensures { IsTrue result ↔ (self.now ≡ other.now) }
     {
         self.bytes == other.bytes
     }

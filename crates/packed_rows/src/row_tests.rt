@@ -1,6 +1,6 @@
 //! Rows are read as they were written, in as many bytes as their numbers have groups of seven bits.
 
-ghost use Rattle.std.specs.Prelude.{◌≡◌, ◌∷◌, [], ◌+◌, length, IfOk, OnOk};
+ghost use Rattle.std.specs.Prelude.{◌≡◌, ◌<◌, ◌∷◌, [], ◌+◌, length, IfOk, OnOk};
 
 use crate::{Reader, Row, Rows};
 use std::alloc::{AllocError, Global};
@@ -63,6 +63,48 @@ fn assert_copies(rt: &impl Abort, row: &mut Row) -> Result<(), AllocError> {
 fn a_copy_stays_when_a_row_is_cleared(rt: HostRuntime) -> Result<(), AllocError> {
     let mut row = row_of(rt.alloc(), 300, 70000)?;
     assert_copies(&rt, &mut row)
+}
+
+/// A row of so many times two numbers, of three bytes together.
+fn long_row(alloc: Global, count: u32) -> Result<Row, AllocError> {
+    let mut row = Row::new(alloc);
+    'putting: for _k in 0..count {
+        row.put(300)?;
+        row.put(7)?;
+    }
+    Ok(row)
+}
+
+/// Whether two rows, one of which was put number by number, tell the same from some numbers on.
+fn tell_alike(one: &Row, rows: &Rows, skipped: u32) -> bool
+    requires { 0 < length rows.now.rows }
+{
+    let mut mine = one.reader();
+    let mut other = rows.row(0);
+    'skipping: for _k in 0..skipped {
+        if mine.next() != other.next() {
+            return false;
+        }
+    }
+    mine.same(&other)
+}
+
+/// A row of so many numbers tells the same as its copy in a block, from each end of it on, and not once it has a number more.
+fn assert_alike(rt: &impl Abort, row: &mut Row, rows: &mut Rows) -> Result<(), AllocError> {
+    rows.push(row)?;
+    assert!(rt; tell_alike(row, rows, 0));
+    assert!(rt; tell_alike(row, rows, 3));
+    assert!(rt; tell_alike(row, rows, 3999));
+    row.put(0)?;
+    assert!(rt; !tell_alike(row, rows, 3));
+    Ok(())
+}
+
+#[test]
+fn long_rows_are_told_alike(rt: HostRuntime) -> Result<(), AllocError> {
+    let mut row = long_row(rt.alloc(), 2000)?;
+    let mut rows = Rows::new(rt.alloc());
+    assert_alike(&rt, &mut row, &mut rows)
 }
 
 /// Two rows, of a row's two numbers with two more and with one.

@@ -1,4 +1,4 @@
-use Rattle.std.proofs.Common.{◌≡◌, length, ◌∙◌, sym, ap}
+use Rattle.std.proofs.Common.{length, ◌∙◌, sym, ap}
 use Rattle.packed_rows.specs.Rows.{RowsValue}
 use Rattle.packed_rows.proofs.RowLemmas.{length-rows}
 use Rattle.packed_rows.proofs.rows.Rows.len.Goals as goal

@@ -11,7 +11,7 @@ use Rattle.cover_problem.specs.Problem.{ProblemValue, IsProblem, option_at}
 use Rattle.cover_problem.specs.Table.{IsCoveredList}
 use Rattle.cover_problem.specs.Plain.{times_of}
 use Rattle.cover_bits.specs.declared.sets.Part.{Part}
-use Rattle.cover_bits.specs.Parts.{words_for, in_row, in_parts, in_both, ArePlaced, ones_of_both}
+use Rattle.cover_bits.specs.Parts.{words_for, in_row, in_parts, in_both, without_row, ArePlaced, ones_of_both}
 
 -- the row at place i among rows of so many words
 abbrev pub row_at : ℕ → ℕ → List ℕ → List ℕ
@@ -77,6 +77,11 @@ pub record IsNextSet (words depth : ℕ) (next : List Part) (parts parts2 : List
   pub set : set_at words parts2 counts2 (depth + 1) ≡ next
   pub counts_same : (d : ℕ) → (d ≡ depth + 1 → ⊥) → slice_index_or counts2 d 0 ≡ slice_index_or counts d 0
   pub before : take ((depth + 1) * words) parts2 ≡ take ((depth + 1) * words) parts
+
+-- the next set is what the set at `depth` has and the column hasn't
+abbrev pub IsNextWithout : ℕ → ℕ → List ℕ → List Part → List Part → List ℕ → List ℕ → Type 0
+IsNextWithout words depth column parts parts2 counts counts2 =
+    IsNextSet words depth (without_row column (set_at words parts counts depth)) parts parts2 counts counts2
 
 -- the word at place v of the set of all numbers below n
 abbrev pub full_word : ℕ → ℕ → ℕ

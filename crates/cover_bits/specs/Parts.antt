@@ -3,7 +3,7 @@
 --
 -- Example: the row 5 0 2 has the numbers 0, 2 and 129; its parts are 5 at place 0 and 2 at place 2. Without the row 4 0 2 they are
 -- 1 at place 0 alone, and they share two numbers with it. proofs/BitExamples.antt computes it.
-use Rattle.std.specs.Prelude.{ℕ, ◌<◌, ◌≤◌, ◌≡◌, ◌+◌, ◌-◌, ◌/◌, ◌%◌, ◌==◌, ◌^◌, Bool, true, false, not, cond, ◌&&◌, nat_lt, suc, List, [], ◌∷◌, sum_by, map, filter, slice_index_or, bit_and, count_ones}
+use Rattle.std.specs.Prelude.{ℕ, ◌<◌, ◌≤◌, ◌≡◌, ◌+◌, ◌-◌, ◌/◌, ◌%◌, ◌*◌, ◌==◌, ◌^◌, Bool, true, false, not, cond, ◌&&◌, nat_lt, suc, List, [], ◌∷◌, sum_by, map, filter, slice_index_or, bit_and, count_ones}
 use Rattle.std.specs.Int.{bit_at, w64, bit_not}
 use Rattle.std.specs.List.{list_any}
 use Rattle.cover_bits.specs.declared.sets.Part.{Part}
@@ -31,6 +31,10 @@ in_parts parts k = list_any (in_part k) parts
 -- whether parts and a row have it
 abbrev pub in_both : List Part → List ℕ → ℕ → Bool
 in_both parts row k = in_parts parts k && in_row row k
+
+-- the place k among the columns of words words is that of an option in the column of one of these items
+abbrev pub is_noted : ℕ → ℕ → List ℕ → ℕ → Bool
+is_noted words place option k = list_any (λ i. k == (i - 1) * (64 * words) + place) option
 
 -- words with places that rise, the first at least n, all of them below the row's length w
 abbrev pub ArePlaced : ℕ → ℕ → List Part → Type 0

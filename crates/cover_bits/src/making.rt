@@ -1,8 +1,8 @@
 //! The columns, the first set and the row of active items of a table with nothing covered.
 ghost use Rattle.std.specs.Prelude.{◌≡◌, ◌<◌, ◌≤◌, ◌+◌, ◌-◌, ◌*◌, ◌^◌, ◌||◌, ◌==◌, false, nat_lt, ℕ, length, take, IfOk};
-ghost use Rattle.std.specs.List.{All, list_any};
+ghost use Rattle.std.specs.List.{All};
 ghost use Rattle.cover_problem.specs.Problem.{IsProblem};
-ghost use Rattle.cover_bits.specs.Parts.{words_for, in_row};
+ghost use Rattle.cover_bits.specs.Parts.{words_for, in_row, is_noted};
 ghost use Rattle.cover_bits.specs.Bits as bits;
 ghost use Rattle.cover_bits.specs.Bits.{AreColumns};
 
@@ -24,7 +24,7 @@ fn note(columns: &mut [u64], words: usize, option: &[u32], place: usize)
     requires small { words ≤ 4096 }
     requires fits { 64 * length columns.old < 2 ^ 64 }
     ensures long { length columns.new ≡ length columns.old }
-    ensures each { (k : ℕ) → in_row columns.new k ≡ (in_row columns.old k || list_any (λ i. k == (i - 1) * (64 * words) + place) option.now) }
+    ensures each { (k : ℕ) → in_row columns.new k ≡ (in_row columns.old k || is_noted words place option.now k) }
 {
     for item in option {
         add(columns, (*item - 1) as usize * (64 * words) + place);

@@ -12,7 +12,8 @@ const MOST_WORDS: u64 = 1_048_576;
 const LEAST_MEAN: u64 = 16;
 
 /// Whether tables of bits for so many workers stay within the bound: items times words times workers is at most 1,048,576, where a set of the
-/// options takes a word for 64 of them. A table has 24 bytes for each word of each item, and a set more, so all take some 25 MB at most.
+/// options takes a word for 64 of them. A table has 24 bytes for each word of each item, so all take 25 MB at most, beside one
+/// set more for each and 12 bytes for each item.
 pub fn has_room(problem: &Problem, workers: u32) -> bool
     ensures { IsTrue result ↔ TablesFit problem.now workers }
 {

@@ -3,9 +3,9 @@ ghost use Rattle.std.specs.Prelude.{◌≡◌, ◌<◌, ◌≤◌, ◌+◌, ◌-
 ghost use Rattle.std.specs.List.{All};
 ghost use Rattle.cover_problem.specs.Problem as problem;
 ghost use Rattle.cover_problem.specs.Covering.{list_of};
-ghost use Rattle.cover_bits.specs.Parts.{in_row, without_row};
+ghost use Rattle.cover_bits.specs.Parts.{in_row};
 ghost use Rattle.cover_bits.specs.Bits as bits;
-ghost use Rattle.cover_bits.specs.Bits.{IsListOf, IsNextSet};
+ghost use Rattle.cover_bits.specs.Bits.{IsListOf, IsNextWithout};
 
 use crate::making::{add_below, empty_row, fill, note_all};
 use crate::sets::{
@@ -20,9 +20,9 @@ use std::snapshot::Snapshot;
 const NEVER: u32 = u32::MAX;
 
 /// A table of bit sets: for each number of covered items, up to all of them, the options left then. Covering an item writes the next of
-/// these sets, and uncovering it lets that one go, so nothing is put back. An item's list is what the set at its time shares with its column,
-/// which has a bit for each option that has the item. (The table: TAOCP volume 4B, section 7.2.2.1. Sets as bits, their first and last
-/// member and how many there are: volume 4A, section 7.1.3.)
+/// these sets, and uncovering it lets that one go, so no option is put back: only its bit among the active items and its time are. An
+/// item's list is what the set at its time shares with its column, which has a bit for each option that has the item. (The table: TAOCP
+/// volume 4B, section 7.2.2.1. Sets as bits, their first and last member and how many there are: volume 4A, section 7.1.3.)
 #[derive(Drop)]
 pub struct BitTable {
     /// The problem, which contracts alone see.
@@ -93,7 +93,7 @@ fn write_next(parts: &mut [Part], counts: &mut [u32], words: usize, depth: usize
     requires within { (depth + 2) * words ≤ length parts.old }
     requires small { words < 2 ^ 32 }
     requires placed { All (λ part. part.place < length column.now) (bits.set_at words parts.old counts.old depth) }
-    ensures next { IsNextSet words depth (without_row column.now (bits.set_at words parts.old counts.old depth)) parts.old parts.new counts.old counts.new }
+    ensures next { IsNextWithout words depth column.now parts.old parts.new counts.old counts.new }
     ensures words { (m : ℕ) → slice_index_or column.now m 0 < 2 ^ 64 }
 {
     let (before, next) = parts.split_at_mut((depth + 1) * words);

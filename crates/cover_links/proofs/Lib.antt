@@ -22,3 +22,4 @@ pub mod TableLemmas
 pub mod LinkExamples
 pub mod LayoutLemmas
 pub mod FullRows
+pub mod Crossing

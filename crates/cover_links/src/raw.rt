@@ -1,5 +1,5 @@
 //! The only file with `unsafe`: a row of places in one raw block, each empty or holding an entry. Its callers rest on four facts: an
-//! allocated row is empty; an entry that was put is what is got; putting changes no other place; and a row that is given up is freed.
+//! allocated row is empty; an entry that was put is what is got; putting changes no other place; and a row is freed at most once.
 ghost use Rattle.std.specs.Prelude.{◌≡◌, ℕ, ◌*◌, ◌<◌, ◌≤◌, List, Option, Some, None, length, replicate, get_or, slice_set, IfOk, ⊤};
 ghost use base.Fml.{ftrue};
 ghost use denote.RawPtr.{Ptr};

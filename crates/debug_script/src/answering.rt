@@ -26,7 +26,7 @@ pub(crate) fn append(text: &mut Vec<u8>, answer: &[u8]) -> Result<(), AllocError
 
 /// Answers a line, and tells what is left of what stands after it; None where the commands end. What is answered is the same for
 /// each sound session that is alike.
-fn exchange<'p, 'a, T: Table, R: Threads + Wait + Sync, G: Gate>(
+fn exchange<'p, 'a, T: Table + Send + Sync, R: Threads + Wait + Sync, G: Gate>(
     rt: &R,
     alloc: Global,
     session: Session<'p, T>,
@@ -63,7 +63,7 @@ fn exchange<'p, 'a, T: Table, R: Threads + Wait + Sync, G: Gate>(
 }
 
 /// Answers command lines, up to `quit` or the last, as each sound session does that is alike.
-fn answer_lines<T: Table, R: Threads + Wait + Sync, G: Gate>(
+fn answer_lines<T: Table + Send + Sync, R: Threads + Wait + Sync, G: Gate>(
     rt: &R,
     alloc: Global,
     session: Session<'_, T>,
@@ -89,7 +89,7 @@ fn answer_lines<T: Table, R: Threads + Wait + Sync, G: Gate>(
 
 /// What a new session of the problem answers to command lines, up to `quit` or the last. A command that is refused is told in the
 /// text; a `pool` whose workers don't finish ends all.
-pub fn replies<T: Table, R: Threads + Wait + Sync, G: Gate>(
+pub fn replies<T: Table + Send + Sync, R: Threads + Wait + Sync, G: Gate>(
     rt: &R,
     alloc: Global,
     problem: &Problem,

@@ -40,7 +40,7 @@ fn refuse_open(text: &mut Vec<u8>) -> Result<(), AllocError>
 }
 
 /// The book that so many workers leave, and whether all its tiles are closed, or held ones are left.
-fn search<'p, R: Threads + Wait + Sync, G: Gate>(
+fn search<'p, T: Table + Send + Sync, R: Threads + Wait + Sync, G: Gate>(
     rt: &R,
     alloc: Global,
     book: Book<'p>,
@@ -52,7 +52,7 @@ fn search<'p, R: Threads + Wait + Sync, G: Gate>(
     ensures tiling { IfOk result (λ r. IsTiling r.0.problem r.0.branch r.0.first r.0.tiles) }
     ensures all { IfOk result (λ r. r.1 ≡ none_held book.entry) }
 {
-    match run_pool_on(rt, alloc, book, workers, gate) {
+    match run_pool_on::<T, R, G>(rt, alloc, book, workers, gate) {
         Ok(book) => {
             book.is_sound();
             Ok((book, true))
@@ -72,7 +72,7 @@ fn search<'p, R: Threads + Wait + Sync, G: Gate>(
 
 /// Answers `pool`: the waiting tiles of the session's book are searched by so many workers, unless a
 /// tile is leased. No branch is open then, and no breakpoint is left.
-pub(crate) fn pool<'p, T: Table, R: Threads + Wait + Sync, G: Gate>(
+pub(crate) fn pool<'p, T: Table + Send + Sync, R: Threads + Wait + Sync, G: Gate>(
     rt: &R,
     alloc: Global,
     session: Session<'p, T>,
@@ -90,7 +90,7 @@ pub(crate) fn pool<'p, T: Table, R: Threads + Wait + Sync, G: Gate>(
     let Ok(book) = session.into_book() else {
         unreachable!();
     };
-    let (book, all) = search(rt, alloc, book, workers, gate)?;
+    let (book, all) = search::<T, R, G>(rt, alloc, book, workers, gate)?;
     append(text, pool_line(all))?;
     Ok(Session::on_book(alloc, book))
 }

@@ -1,5 +1,5 @@
 //! What is answered of a book, once its workers are through with it.
-ghost use Rattle.std.specs.Prelude.{◌≡◌, ◌<◌, ◌≤◌, ◌↔◌, [], Some, None, IfOk, IfErr, OnOk, IfSome, IsTrue, length, drop};
+ghost use Rattle.std.specs.Prelude.{◌≡◌, ◌<◌, ◌≤◌, ◌↔◌, [], true, false, Some, None, IfOk, IfErr, OnOk, IfSome, IsTrue, length, drop};
 ghost use Rattle.x_steps.specs.Answers.{IfRefused};
 ghost use Rattle.lab_book.specs.declared.entry.Call.{Call};
 ghost use Rattle.lab_book.specs.Kinds.{kind_of};
@@ -8,7 +8,7 @@ ghost use Rattle.lab_book.specs.Posted.{AllClosed};
 ghost use Rattle.alike_books.specs.AlikeBooks.{held_tiles};
 ghost use Rattle.alike_books.specs.Searched as spec;
 ghost use Rattle.alike_books.specs.Searched.{ArePoolCalls, IsSearched};
-ghost use Rattle.lab_pool.specs.Pool.{GivenBack, OnlyHeld, IsDone, IfFault, GivesBack};
+ghost use Rattle.lab_pool.specs.Pool.{GivenBack, OnlyHeld, IsDone, IsUnexplained, IfFault, GivesBack};
 
 use crate::fault::PoolFault;
 use lab_book::{Book, CallKind, Entries};
@@ -103,6 +103,9 @@ pub(crate) fn answer<'p>(
     ensures open { IfRefused result PoolFault.Held (AllClosed book.entry.tiles → ⊥) }
     ensures memory { IfRefused result PoolFault.OutOfMemory (0 < waiting_in book.entry.tiles) }
     ensures threads { IfRefused result PoolFault.NoThread (0 < waiting_in book.entry.tiles) }
+    ensures memory_told { IfRefused result PoolFault.OutOfMemory (memory ≡ true) }
+    ensures refusal_told { IfRefused result PoolFault.NoThread ((memory ≡ false) × (refused ≡ true)) }
+    ensures unexplained { IfRefused result PoolFault.Mismatch (IsUnexplained from memory refused book.entry) }
 {
     if book.leased() > 0 || !are_pool_calls(&book.history(), from) {
         return Err(mismatch());

@@ -13,7 +13,7 @@ use crate::fault::PoolFault;
 use crate::gate::Gate;
 use crate::judging::{answer, mismatch, refuse, settle};
 use crate::worker::work;
-use cover_problem::Problem;
+use cover_problem::{Problem, Table};
 use lab_book::Book;
 use lab_desk::{Desk, Desking, Seat};
 use lab_tickets::{TicketSeat, tickets};
@@ -38,6 +38,7 @@ fn start_all<
     'f: 's,
     'p: 's,
     E,
+    T: Table + Send + Sync + 's,
     L: Desking + Send + Sync,
     R: Wait + Sync,
     G: Gate,
@@ -60,18 +61,18 @@ fn start_all<
     let mut refused = false;
     for (seat, lane) in others.iter_mut().zip(other_lanes.iter_mut()) {
         if scope
-            .spawn(move || work(rt, alloc, desk, gate, memory, seat, lane))
+            .spawn(move || work::<T, L, R, G>(rt, alloc, desk, gate, memory, seat, lane))
             .is_err()
         {
             refused = true;
         }
     }
-    work(rt, alloc, desk, gate, memory, first, first_lane);
+    work::<T, L, R, G>(rt, alloc, desk, gate, memory, first, first_lane);
     refused
 }
 
 /// Runs a worker at each seat. Answers whether a thread was refused.
-fn run_seats<L: Desking + Send + Sync, R: Threads + Wait + Sync, G: Gate>(
+fn run_seats<T: Table + Send + Sync, L: Desking + Send + Sync, R: Threads + Wait + Sync, G: Gate>(
     rt: &R,
     alloc: Global,
     desk: &Desk<'_, L>,
@@ -81,12 +82,12 @@ fn run_seats<L: Desking + Send + Sync, R: Threads + Wait + Sync, G: Gate>(
     lanes: &mut [TicketSeat],
 ) -> bool {
     thread::scope(thread::scope_env(), rt, |scope| {
-        start_all(scope, rt, alloc, desk, gate, memory, seats, lanes)
+        start_all::<_, T, L, R, G>(scope, rt, alloc, desk, gate, memory, seats, lanes)
     })
 }
 
 /// Finishes a book by a desk of this ledger.
-fn run_at<'p, L: Desking + Send + Sync, R: Threads + Wait + Sync, G: Gate>(
+fn run_at<'p, T: Table + Send + Sync, L: Desking + Send + Sync, R: Threads + Wait + Sync, G: Gate>(
     rt: &R,
     alloc: Global,
     blank: Blank,
@@ -123,7 +124,7 @@ fn run_at<'p, L: Desking + Send + Sync, R: Threads + Wait + Sync, G: Gate>(
         Err((_, book)) => return Err(refuse(PoolFault::OutOfMemory, book)),
     };
     let memory = AtomicBool::new(false);
-    let refused = run_seats(
+    let refused = run_seats::<T, L, R, G>(
         rt,
         alloc,
         &desk,
@@ -139,9 +140,9 @@ fn run_at<'p, L: Desking + Send + Sync, R: Threads + Wait + Sync, G: Gate>(
     answer(book, from, memory.load(Ordering::SeqCst), refused)
 }
 
-/// Finishes a book with so many workers. The first runs here: one worker starts no thread. Tiles
+/// Finishes a book with so many workers, each with a table of its own. The first runs here: one worker starts no thread. Tiles
 /// that are held are left as they are, and all others are closed; where none waits, no worker runs.
-pub fn run_pool_on<'p, R: Threads + Wait + Sync, G: Gate>(
+pub fn run_pool_on<'p, T: Table + Send + Sync, R: Threads + Wait + Sync, G: Gate>(
     rt: &R,
     alloc: Global,
     book: Book<'p>,
@@ -169,7 +170,7 @@ pub fn run_pool_on<'p, R: Threads + Wait + Sync, G: Gate>(
     if book.waiting() == 0 {
         return settle(book);
     }
-    run_at::<Brand, R, G>(
+    run_at::<T, Brand, R, G>(
         rt,
         alloc,
         Blank::new(workers as u64),
@@ -179,17 +180,26 @@ pub fn run_pool_on<'p, R: Threads + Wait + Sync, G: Gate>(
     )
 }
 
-/// Searches the whole run of a problem with so many workers.
-pub fn run_pool<'p, R: Threads + Wait + Sync, G: Gate>(
+/// Searches the whole run of a problem with so many workers, each with a table of its own. Where it doesn't finish, the book comes back
+/// as far as it is, with no tile leased: none comes back for a bad number of workers, at a mismatch, and where there was no memory for one.
+pub fn run_pool<'p, T: Table + Send + Sync, R: Threads + Wait + Sync, G: Gate>(
     rt: &R,
     alloc: Global,
     problem: &'p Problem,
     workers: u32,
     gate: &G,
 ) -> Result<Book<'p>, Refused<PoolFault, Option<Book<'p>>>>
+    ensures workers { OnOk result ((0 < workers) × (workers ≤ 32)) }
     ensures problem { IfOk result (λ b. b.problem ≡ problem.now) }
     ensures on { IfOk result (λ b. GoesOn (new_book problem.now whole_run start) b) }
     ensures finished { IfOk result (λ b. AllClosed b.tiles) }
+    ensures bad_workers { FaultWhere result PoolFault.BadWorkerCount (IsBadCount workers) }
+    ensures never_held { IfErr result (λ r. r.fault ≡ PoolFault.Held → ⊥) }
+    ensures given_back { IfErr result (λ r. IfSome r.given (λ b. GivenBack (new_book problem.now whole_run start) b)) }
+    ensures none_at_bad_workers { IfErr result (λ r. r.fault ≡ PoolFault.BadWorkerCount → r.given ≡ None) }
+    ensures none_at_mismatch { IfErr result (λ r. r.fault ≡ PoolFault.Mismatch → r.given ≡ None) }
+    ensures memory { IfFault result PoolFault.OutOfMemory (λ b. 0 < waiting_in b.tiles) }
+    ensures threads { IfFault result PoolFault.NoThread (λ b. 0 < waiting_in b.tiles) }
 {
     if workers == 0 || workers > 32 {
         return Err(Refused {
@@ -203,5 +213,5 @@ pub fn run_pool<'p, R: Threads + Wait + Sync, G: Gate>(
             given: None,
         });
     };
-    run_pool_on(rt, alloc, book, workers, gate)
+    run_pool_on::<T, R, G>(rt, alloc, book, workers, gate)
 }

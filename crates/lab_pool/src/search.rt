@@ -1,5 +1,9 @@
 //! A worker's search of the tile that it leased.
-ghost use Rattle.std.specs.Prelude.{◌≡◌, ◌<◌, [], IfOk, IfErr};
+ghost use Rattle.std.specs.Prelude.{◌≡◌, ◌<◌, IfOk, IfErr, IfSome};
+ghost use Rattle.x_steps.specs.StateView.{state_value};
+ghost use Rattle.x_steps.specs.StateValue.{start};
+ghost use Rattle.x_branches.specs.Branch.{whole_run};
+ghost use Rattle.x_branches.specs.Runner.{runner_at};
 
 use crate::gate::{Gate, GateCall};
 use cover_problem::{Problem, Table};
@@ -8,38 +12,17 @@ use lab_desk::{Desk, Desking, Seat};
 use lab_tickets::TicketSeat;
 use std::alloc::{AllocError, Global};
 use std::sync::Wait;
-use x_branches::{Cut, Runner, RunnerFault, Stretch};
-use x_steps::Refused;
+use x_branches::{Branch, Cut, Runner, RunnerFault};
+use x_steps::{Cursor, Label, State};
 
 /// The most steps that a worker takes before it posts.
 const STEPS: u32 = 4096;
 
-/// A table of a problem, with nothing covered.
-#[derive(Drop)]
-pub(crate) struct Ready<'p, T: Table> {
-    problem: &'p Problem,
-    table: T,
-    ghost same: { T.problem_value table ≡ problem.now },
-    ghost clear: { T.covered_list table ≡ [] },
-}
-
-impl<'p, T: Table> Ready<'p, T> {
-    /// A table of the problem.
-    pub fn new(problem: &'p Problem, table: T) -> Ready<'p, T>
-        requires same { T.problem_value table ≡ problem.now }
-        requires clear { T.covered_list table ≡ [] }
-    {
-        Ready { problem, table }
-    }
-}
-
 /// A lease, with the runner that searches its tile, and how many tiles waited by the last answer.
 pub(crate) struct Search<'p, T: Table> {
-    problem: &'p Problem,
     lease: Lease,
     runner: Runner<'p, T>,
     waiting: u64,
-    ghost same: { runner.problem ≡ problem.now },
 }
 
 /// What a worker does next.
@@ -58,9 +41,7 @@ pub(crate) enum Next {
 }
 
 /// Walks up to so many steps on, or to the branch's end. Memory may run out at a visit.
-fn walk_on<T: Table>(runner: &mut Runner<'_, T>) -> Result<(), AllocError>
-    ensures { runner.new.problem ≡ runner.old.problem }
-{
+fn walk_on<T: Table>(runner: &mut Runner<'_, T>) -> Result<(), AllocError> {
     let mut left = STEPS;
     'walking: for _ in 0..STEPS {
         if left == 0 {
@@ -73,6 +54,53 @@ fn walk_on<T: Table>(runner: &mut Runner<'_, T>) -> Result<(), AllocError>
         }
     }
     Ok(())
+}
+
+/// A runner at the first state of a problem's run, from where each tile can be reached; None when out of memory.
+pub(crate) fn first_runner<'p, T: Table>(
+    alloc: Global,
+    problem: &'p Problem,
+) -> Option<Runner<'p, T>>
+    ensures { IfSome result (λ r. r ≡ runner_at problem.now whole_run start) }
+{
+    let Ok(table) = T::new(alloc, problem) else {
+        return None;
+    };
+    let whole = Branch { lo: None, hi: None };
+    let first = State {
+        label: Label::X1,
+        path: Vec::new(alloc),
+        cursor: Cursor::None,
+    };
+    Runner::new(alloc, problem, table, whole, &first).ok()
+}
+
+/// The runner in a branch, at a state there; None when out of memory. A worker's newest ticket is for the rest that it has just split
+/// off, and that rest begins where its search stands when its tile is done: so mostly it goes on, and walks to no state of its own.
+fn placed<'p, T: Table>(
+    alloc: Global,
+    runner: Runner<'p, T>,
+    branch: Branch<'p>,
+    state: &State,
+) -> Option<Runner<'p, T>>
+    ensures { IfSome result (λ r. r ≡ runner_at runner.entry.problem branch.entry (state_value state.now)) }
+{
+    if runner.state().same(state) {
+        return begun(runner, branch);
+    }
+    let problem = runner.problem();
+    Runner::new(alloc, problem, runner.into_table(), branch, state).ok()
+}
+
+/// The runner in another branch, where it stands; None when out of memory.
+fn begun<'p, T: Table>(runner: Runner<'p, T>, branch: Branch<'p>) -> Option<Runner<'p, T>>
+    ensures { IfSome result (λ r. r ≡ runner_at runner.entry.problem branch.entry runner.entry.position) }
+{
+    let mut runner = runner;
+    match runner.begin(branch) {
+        Ok(()) => Some(runner),
+        Err(_) => None,
+    }
 }
 
 /// The cut at the first option of the least level that has something untried, and a copy; None
@@ -101,14 +129,14 @@ fn next_of(fault: &BookFault) -> Next {
 }
 
 impl<'p, T: Table> Search<'p, T> {
-    /// Begins where a lease says. When out of memory the table and the lease come back.
+    /// Begins where a lease says. When out of memory the lease comes back.
     pub fn begin(
         alloc: Global,
-        ready: Ready<'p, T>,
+        runner: Runner<'p, T>,
         leased: Leased<'p>,
-    ) -> Result<Search<'p, T>, (Ready<'p, T>, Lease)>
+    ) -> Result<Search<'p, T>, Lease>
         ensures lease { IfOk result (λ s. s.lease ≡ leased.entry.lease) }
-        ensures lease_back { IfErr result (λ r. r.1 ≡ leased.entry.lease) }
+        ensures lease_back { IfErr result (λ lease. lease ≡ leased.entry.lease) }
     {
         let Leased {
             lease,
@@ -116,18 +144,13 @@ impl<'p, T: Table> Search<'p, T> {
             mark,
             waiting,
         } = leased;
-        let Ready { problem, table } = ready;
-        match Runner::new(alloc, problem, table, branch, &mark) {
-            Ok(runner) => Ok(Search {
-                problem,
+        match placed(alloc, runner, branch, &mark) {
+            Some(runner) => Ok(Search {
                 lease,
                 runner,
                 waiting,
             }),
-            Err(refused) => {
-                let (table, _) = refused.given;
-                Err((Ready { problem, table }, lease))
-            }
+            None => Err(lease),
         }
     }
 
@@ -226,7 +249,8 @@ impl<'p, T: Table> Search<'p, T> {
         Next::On
     }
 
-    /// Ends the lease: closes, parks or abandons the tile. The table comes back.
+    /// Ends the lease: closes, parks or abandons the tile. Answers the runner, where it stands, and what the worker does next: where
+    /// that was refused, as for want of memory, it ends too.
     fn end<L: Desking, R: Wait, G: Gate>(
         self,
         rt: &R,
@@ -234,12 +258,11 @@ impl<'p, T: Table> Search<'p, T> {
         gate: &G,
         seat: &mut Seat<L>,
         next: Next,
-    ) -> Ready<'p, T>
+    ) -> (Runner<'p, T>, Next)
         requires { self.lease.worker ≡ seat.old.number }
         ensures number { seat.new.number ≡ seat.old.number }
     {
         let Search {
-            problem,
             lease,
             runner,
             waiting: _,
@@ -252,13 +275,17 @@ impl<'p, T: Table> Search<'p, T> {
             _ => desk.abandon(rt, seat, lease),
         };
         gate.after(number, GateCall::End);
-        if let Err(refused) = ended {
-            give_up(rt, desk, seat, refused.given);
+        match ended {
+            Ok(()) => (runner, next),
+            Err(refused) => {
+                let next = next_of(&refused.fault);
+                give_up(rt, desk, seat, refused.given);
+                (runner, next)
+            }
         }
-        Ready::new(problem, runner.into_table())
     }
 
-    /// Searches the tile until it is done, or the worker has to end. Answers the table, and why it
+    /// Searches the tile until it is done, or the worker has to end. Answers the runner, and why it
     /// ended.
     pub fn run<L: Desking, R: Wait, G: Gate>(
         self,
@@ -267,7 +294,7 @@ impl<'p, T: Table> Search<'p, T> {
         gate: &G,
         seat: &mut Seat<L>,
         lane: &mut TicketSeat,
-    ) -> (Ready<'p, T>, Next)
+    ) -> (Runner<'p, T>, Next)
         requires { self.lease.worker ≡ seat.old.number }
         ensures number { seat.new.number ≡ seat.old.number }
     {
@@ -280,7 +307,7 @@ impl<'p, T: Table> Search<'p, T> {
                 _ => break,
             }
         }
-        (search.end(rt, desk, gate, seat, next), next)
+        search.end(rt, desk, gate, seat, next)
     }
 }
 

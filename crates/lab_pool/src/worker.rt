@@ -2,8 +2,7 @@
 ghost use Rattle.std.specs.Prelude.{◌≡◌, ◌<◌, ◌+◌, IfOk, IfSome};
 
 use crate::gate::{Gate, GateCall};
-use crate::search::{Next, Ready, Search, give_up};
-use cover_links::LinkTable;
+use crate::search::{Next, Search, first_runner, give_up};
 use cover_problem::Table;
 use lab_book::{BookFault, Leased};
 use lab_desk::{Desk, Desking, Seat};
@@ -11,6 +10,7 @@ use lab_tickets::TicketSeat;
 use std::alloc::{AllocError, Global};
 use std::sync::Wait;
 use std::sync::atomic::{AtomicBool, Ordering};
+use x_branches::Runner;
 
 /// Leases the tile of a ticket; None where it doesn't wait any more.
 fn lease_ticket<'p, L: Desking, R: Wait, G: Gate>(
@@ -114,7 +114,7 @@ fn lease_tile<'p, L: Desking, R: Wait, G: Gate>(
     leased
 }
 
-/// Searches a tile that was leased. Answers the table, where the worker goes on.
+/// Searches a tile that was leased. Answers the runner, where the worker goes on.
 fn search_tile<'p, T: Table, L: Desking, R: Wait, G: Gate>(
     rt: &R,
     alloc: Global,
@@ -123,34 +123,34 @@ fn search_tile<'p, T: Table, L: Desking, R: Wait, G: Gate>(
     memory: &AtomicBool,
     seat: &mut Seat<L>,
     lane: &mut TicketSeat,
-    ready: Ready<'p, T>,
+    runner: Runner<'p, T>,
     leased: Leased<'p>,
-) -> Option<Ready<'p, T>>
+) -> Option<Runner<'p, T>>
     requires { leased.lease.worker ≡ seat.old.number }
     ensures number { seat.new.number ≡ seat.old.number }
 {
-    let search = match Search::begin(alloc, ready, leased) {
+    let search = match Search::begin(alloc, runner, leased) {
         Ok(search) => search,
-        Err((_, lease)) => {
+        Err(lease) => {
             memory.store(true, Ordering::SeqCst);
             give_up(rt, desk, seat, lease);
             return None;
         }
     };
-    let (ready, next) = search.run(rt, desk, gate, seat, lane);
+    let (runner, next) = search.run(rt, desk, gate, seat, lane);
     match next {
         Next::OutOfMemory => {
             memory.store(true, Ordering::SeqCst);
             None
         }
         Next::Refused => None,
-        _ => Some(ready),
+        _ => Some(runner),
     }
 }
 
 /// Leases tiles and searches them, until none waits and none is leased. When out of memory, that is
 /// noted, and the worker ends.
-pub(crate) fn work<'p, L: Desking, R: Wait, G: Gate>(
+pub(crate) fn work<'p, T: Table, L: Desking, R: Wait, G: Gate>(
     rt: &R,
     alloc: Global,
     desk: &Desk<'p, L>,
@@ -159,12 +159,11 @@ pub(crate) fn work<'p, L: Desking, R: Wait, G: Gate>(
     seat: &mut Seat<L>,
     lane: &mut TicketSeat,
 ) {
-    let problem = desk.problem();
-    let Ok(table) = LinkTable::new(alloc, problem) else {
+    let Some(first) = first_runner::<T>(alloc, desk.problem()) else {
         memory.store(true, Ordering::SeqCst);
         return;
     };
-    let mut ready = Ready::new(problem, table);
+    let mut runner = first;
     'working: for _ in rt.forever() {
         let leased = match lease_tile(rt, desk, gate, seat, lane) {
             Ok(Some(leased)) => leased,
@@ -174,8 +173,8 @@ pub(crate) fn work<'p, L: Desking, R: Wait, G: Gate>(
                 return;
             }
         };
-        match search_tile(rt, alloc, desk, gate, memory, seat, lane, ready, leased) {
-            Some(again) => ready = again,
+        match search_tile(rt, alloc, desk, gate, memory, seat, lane, runner, leased) {
+            Some(again) => runner = again,
             None => return,
         }
     }

@@ -1,17 +1,23 @@
-//! A desk to which memory is refused: blank and book come back, the book as it was, and the same desk is made of them then.
-//! `tools/check_memory` runs this test with one growth refused, each growth in turn.
+//! A desk to which memory is refused: blank and book come back, the book as it was, and the same desk is made of them then. And a pool
+//! to which it is refused: it hands out its book, with no tile leased, and the rest is searched then.
+//! `tools/check_memory` runs these tests with one growth refused, each growth in turn.
 ghost use Rattle.std.specs.Prelude.{◌≡◌};
 
 use crate::books::{begins_with, begun};
+use cover_links::LinkTable;
 use cover_problem::{Problem, read_cover};
 use drawn_books::{grows, has_tiles, tiles_of};
 use drawn_problems::SMALL;
 use lab_book::{Book, Tile};
 use lab_desk::{Desk, Desking, Seat};
+use lab_pool::{NoGate, PoolFault, run_pool, run_pool_on};
 use std::alloc::Global;
 use std::marker::Brand;
+use std::sync::Wait;
 use std::sync::ledger::Blank;
 use std::test::Fail;
+use std::thread::Threads;
+use x_steps::Refused;
 
 /// Whether a book is as another one was that had these tiles.
 fn is_as_before(book: &Book<'_>, copy: &Book<'_>, tiles: &[Tile<'_>]) -> bool {
@@ -99,5 +105,63 @@ fn is_small_desk_made(alloc: Global) -> Result<bool, Fail> {
 #[test]
 fn a_refused_desk_gives_its_book_back(rt: HostRuntime) -> Result<(), Fail> {
     assert!(rt; is_small_desk_made(rt.alloc())?);
+    Ok(())
+}
+
+/// Whether a book is finished, with the small problem's cover and its steps. It takes no memory to tell.
+fn is_small_finished(book: &Book<'_>) -> bool {
+    book.finished() && book.visited() == 1 && book.steps() == 43
+}
+
+/// Whether one worker finishes a book of the small problem.
+fn finishes_on<R: Threads + Wait + Sync>(rt: &R, alloc: Global, book: Book<'_>) -> bool {
+    if book.leased() > 0 {
+        return false;
+    }
+    match run_pool_on::<LinkTable, _, _>(rt, alloc, book, 1, &NoGate) {
+        Ok(book) => is_small_finished(&book),
+        Err(_) => false,
+    }
+}
+
+/// Whether one worker finishes that problem's run.
+fn finishes<R: Threads + Wait + Sync>(rt: &R, alloc: Global, problem: &Problem) -> bool {
+    match run_pool::<LinkTable, _, _>(rt, alloc, problem, 1, &NoGate) {
+        Ok(book) => is_small_finished(&book),
+        Err(_) => false,
+    }
+}
+
+/// Whether it does, on a second try where the first is refused: with the book that came back, or with none where there was no memory for
+/// one.
+fn finishes_again<R: Threads + Wait + Sync>(rt: &R, alloc: Global, problem: &Problem) -> bool {
+    match run_pool::<LinkTable, _, _>(rt, alloc, problem, 1, &NoGate) {
+        Ok(book) => is_small_finished(&book),
+        Err(
+            Refused {
+                fault: PoolFault::OutOfMemory,
+                given: Some(book),
+            },
+        ) => finishes_on(rt, alloc, book),
+        Err(
+            Refused {
+                fault: PoolFault::OutOfMemory,
+                given: None,
+            },
+        ) => finishes(rt, alloc, problem),
+        Err(_) => false,
+    }
+}
+
+/// The same of the small problem.
+fn finishes_small_again<R: Threads + Wait + Sync>(rt: &R, alloc: Global) -> Result<bool, Fail> {
+    let problem = read_cover(alloc, SMALL.as_bytes())?;
+    grows(alloc)?;
+    Ok(finishes_again(rt, alloc, &problem))
+}
+
+#[test]
+fn a_refused_pool_gives_its_book_back(rt: HostRuntime) -> Result<(), Fail> {
+    assert!(rt; finishes_small_again(&rt, rt.alloc())?);
     Ok(())
 }

@@ -1,6 +1,7 @@
 //! Workers on threads, of several numbers, over the small problem.
 
 use crate::books::is_done;
+use cover_links::LinkTable;
 use cover_problem::{Problem, read_cover};
 use drawn_problems::SMALL;
 use lab_book::Book;
@@ -17,7 +18,7 @@ fn finished_by<'p, R: Threads + Wait + Sync>(
     problem: &'p Problem,
     workers: u32,
 ) -> Option<Book<'p>> {
-    match run_pool(rt, alloc, problem, workers, &NoGate) {
+    match run_pool::<LinkTable, _, _>(rt, alloc, problem, workers, &NoGate) {
         Ok(book) => Some(book),
         Err(_) => None,
     }
@@ -30,7 +31,7 @@ fn refusal_of<R: Threads + Wait + Sync>(
     problem: &Problem,
     workers: u32,
 ) -> Option<PoolFault> {
-    match run_pool(rt, alloc, problem, workers, &NoGate) {
+    match run_pool::<LinkTable, _, _>(rt, alloc, problem, workers, &NoGate) {
         Ok(_) => None,
         Err(refused) => Some(refused.fault),
     }

@@ -7,14 +7,15 @@ _polylab() {
         choices="$jobs help --help --version"
     else
         case ${COMP_WORDS[1]} in
-            count) choices='--workers --classes --help' ;;
+            count) choices='--workers --table --classes --help' ;;
             debug) choices='--cover --help' ;;
-            resume) choices='--steps --list --help' ;;
-            solve | cover) choices='--workers --help' ;;
+            resume) choices='--table --steps --list --help' ;;
+            solve | cover) choices='--workers --table --help' ;;
             options) choices='--help' ;;
             help) [ "$COMP_CWORD" -eq 2 ] && choices=$jobs ;;
         esac
         case ${COMP_WORDS[COMP_CWORD - 1]} in
+            --table) choices='links bits' ;;
             --workers | --steps | '<' | '>') choices= ;;
         esac
         # An option that stands there already is not said again, and after --help nothing is.

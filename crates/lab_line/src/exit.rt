@@ -4,10 +4,10 @@ ghost use Rattle.byte_streams.specs.Stream.{Takes};
 ghost use Rattle.polylab_engine.specs.Ending.{IsProgramRun};
 ghost use Rattle.lab_line.specs.Line.{TellsNoJob, TellsWhy, status_of};
 
-use crate::line::LineFault;
+use crate::line::{LineFault, Request};
 use byte_streams::{Sink, Source, write_whole};
 use lab_pool::Gate;
-use polylab_engine::{Job, run};
+use polylab_engine::{run_alone, run_together};
 use std::alloc::Global;
 use std::sync::Wait;
 use std::thread::Threads;
@@ -34,21 +34,36 @@ fn tell<O: Sink, F: Sink>(fault: &LineFault, writer: &mut O, faults: &mut F)
 pub fn status<R: Threads + Wait + Sync, G: Gate, I: Source, O: Sink, F: Sink>(
     rt: &R,
     alloc: Global,
-    asked: Result<Job, LineFault>,
+    request: Result<Request, LineFault>,
     gate: &G,
     reader: &mut I,
     writer: &mut O,
     faults: &mut F,
 ) -> u8
     ensures known { Contains (0 ∷ 2 ∷ 3 ∷ 4 ∷ 5 ∷ []) result }
-    ensures ran { IfOk asked (λ job. IsProgramRun job (I.stream reader.old) (I.stream reader.new)
+    ensures ran { IfOk request (λ asked. IsProgramRun asked.job (I.stream reader.old) (I.stream reader.new)
         (O.stream writer.old) (O.stream writer.new) (F.stream faults.old) (F.stream faults.new) result) }
-    ensures refused { IfErr asked (λ fault. result ≡ status_of fault) }
-    ensures told { TellsWhy asked O.stream F.stream writer.old writer.new faults.old faults.new }
-    ensures unread { IfErr asked (λ _. I.stream reader.new ≡ I.stream reader.old) }
+    ensures refused { IfErr request (λ fault. result ≡ status_of fault) }
+    ensures told { TellsWhy request O.stream F.stream writer.old writer.new faults.old faults.new }
+    ensures unread { IfErr request (λ _. I.stream reader.new ≡ I.stream reader.old) }
 {
-    match asked {
-        Ok(job) => run(rt, alloc, job, gate, reader, writer, faults),
+    match request {
+        Ok(
+            Request {
+                job,
+                workers,
+                table,
+            },
+        ) if workers == 1 && !job.takes_commands() => {
+            run_alone(alloc, job, table, reader, writer, faults)
+        }
+        Ok(
+            Request {
+                job,
+                workers,
+                table,
+            },
+        ) => run_together(rt, alloc, job, table, workers, gate, reader, writer, faults),
         Err(fault) => {
             tell(&fault, writer, faults);
             fault.status()

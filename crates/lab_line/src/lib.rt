@@ -5,4 +5,4 @@ mod exit;
 mod line;
 
 pub use exit::status;
-pub use line::{LineFault, parse_line};
+pub use line::{LineFault, Request, parse_line};

@@ -1,13 +1,20 @@
 //! The command line: which job the words ask for.
 
 ghost use Rattle.std.specs.Prelude.{◌≡◌, ◌≤◌, IfOk};
-ghost use Rattle.polylab_engine.specs.Workers.{workers_of};
 ghost use Rattle.lab_line.specs.Line.{status_of};
 
 use clap::error::ErrorKind;
 use clap::{Arg, ArgAction, ArgMatches, Command, Error, value_parser};
-use polylab_engine::Job;
+use polylab_engine::{Job, TableKind};
 use std::alloc::{AllocError, Global};
+
+/// A job, how many workers do it, 1 to 32, and the table that was asked for, if one was.
+#[derive(Clone, Copy, Debug, PartialEq, Eq)]
+pub struct Request {
+    pub job: Job,
+    pub workers: u32,
+    pub table: Option<TableKind>,
+}
 
 /// Why the words name no job. The texts are `clap`'s.
 #[derive(Debug, Drop)]
@@ -45,7 +52,7 @@ Exit statuses:
   4  there was not enough memory, or workers did not finish their search
   5  reading or writing failed";
 
-const COVER_USAGE: &str = "polylab cover [--workers N] < COVER-TEXT";
+const COVER_USAGE: &str = "polylab cover [--workers N] [--table links|bits] < COVER-TEXT";
 
 const COVER: &str = "Lists the exact covers of a cover text.";
 
@@ -74,11 +81,14 @@ which the search took them; then come the number of covers, the number of steps
 of Algorithm X, and how many paths of 0, 1, 2, .. choices it met.
 
 With --workers N, N threads share the search; what is printed is the same.
+--table links takes dancing links and --table bits bit sets, where the shape of
+the problem chooses else; what is printed is the same. Bit sets of more than
+25 MB are refused as memory is.
 
 Exit statuses: 0 done, 2 command line refused, 3 text refused, 4 no memory or
 workers not done, 5 reading or writing failed.";
 
-const SOLVE_USAGE: &str = "polylab solve [--workers N] < PUZZLE";
+const SOLVE_USAGE: &str = "polylab solve [--workers N] [--table links|bits] < PUZZLE";
 
 const SOLVE: &str = "Shows every packing of a puzzle, in layers of text.";
 
@@ -101,13 +111,14 @@ Example, saved as dominoes.puzzle:
 A packing has a line for each y, in it a block for each z, and in that a letter
 for each x: the piece there, `_` for an empty cell, `.` outside the region.
 
-With --workers N, N threads share the search; what is printed is the same.
+With --workers N, N threads share the search, and --table TABLE chooses how it
+keeps its options (see `cover --help`); what is printed is the same.
 
 A refusal is one line on standard error: `refused puzzle 6 EmptyRegion line 0`.
 Exit statuses: 0 done, 2 command line refused, 3 text refused, 4 no memory or
 workers not done, 5 reading or writing failed.";
 
-const COUNT_USAGE: &str = "polylab count [--workers N] [--classes] < PUZZLE";
+const COUNT_USAGE: &str = "polylab count [--workers N] [--table links|bits] [--classes] < PUZZLE";
 
 const COUNT: &str = "Counts the packings of a puzzle.";
 
@@ -128,8 +139,8 @@ or a rotation or reflection, carries onto one another, whatever the names of
 the pieces. All packings are then kept in memory until the end.
 
 With --workers N, N threads share the search; what is printed is the same. They
-keep what they posted until the end, about 3 GB for 10^10 steps; one worker
-keeps nothing.
+keep what they posted until the end, about 1 GB for 10^10 steps; one worker
+keeps nothing. --table TABLE is as with `cover` (see `cover --help`).
 
 Exit statuses: 0 done, 2 command line refused, 3 text refused, 4 no memory or
 workers not done, 5 reading or writing failed.";
@@ -137,6 +148,10 @@ workers not done, 5 reading or writing failed.";
 const CLASSES: &str = "Also counts the packings up to rotations, and up to all symmetries";
 
 const WORKERS: &str = "How many threads share the search, 1 to 32";
+
+const TABLE: &str = "The table of the search; what is printed is the same";
+
+const TABLES: &[&str] = &["links", "bits"];
 
 const OPTIONS_USAGE: &str = "polylab options < PUZZLE";
 
@@ -186,7 +201,7 @@ Each reply is one or more lines. What can't be done is refused in one line, as
 Exit statuses: 0 done, 2 command line refused, 3 text refused, 4 no memory or
 workers of `pool` not done, 5 reading or writing failed.";
 
-const RESUME_USAGE: &str = "polylab resume [--steps N] [--list] < SNAPSHOT";
+const RESUME_USAGE: &str = "polylab resume [--table links|bits] [--steps N] [--list] < SNAPSHOT";
 
 const RESUME: &str = "Counts a branch of a search from a snapshot on, in slices if you like.";
 
@@ -211,8 +226,10 @@ Example: of the snapshot at the start of small.cover (see `cover --help`),
 and the rest of the snapshot there, of which `polylab resume` prints
   visits 0
   steps 3
-  levels
+  levels 0
   end
+
+--table TABLE is as with `cover` (see `cover --help`).
 
 With --list a line `visit` comes first for each visit, as `cover` prints it;
 without it no visit is kept.
@@ -251,6 +268,15 @@ fn workers<'a>(alloc: Global) -> Arg<'a> {
         .help(WORKERS)
 }
 
+/// The option that says which table the search has.
+fn table<'a>(alloc: Global) -> Arg<'a> {
+    Arg::new(alloc, "table")
+        .long("table")
+        .value_name("TABLE")
+        .value_parser(TABLES)
+        .help(TABLE)
+}
+
 /// The word that asks for classes.
 fn classes<'a>(alloc: Global) -> Arg<'a> {
     Arg::new(alloc, "classes")
@@ -286,13 +312,19 @@ fn list<'a>(alloc: Global) -> Arg<'a> {
 
 /// The command line that the program takes.
 fn command<'a>(alloc: Global) -> Result<Command<'a>, AllocError> {
-    let cover = job(alloc, "cover", COVER_USAGE, COVER, COVER_TEXT).arg(workers(alloc))?;
-    let solve = job(alloc, "solve", SOLVE_USAGE, SOLVE, SOLVE_TEXT).arg(workers(alloc))?;
+    let cover = job(alloc, "cover", COVER_USAGE, COVER, COVER_TEXT)
+        .arg(workers(alloc))?
+        .arg(table(alloc))?;
+    let solve = job(alloc, "solve", SOLVE_USAGE, SOLVE, SOLVE_TEXT)
+        .arg(workers(alloc))?
+        .arg(table(alloc))?;
     let count = job(alloc, "count", COUNT_USAGE, COUNT, COUNT_TEXT)
         .arg(workers(alloc))?
+        .arg(table(alloc))?
         .arg(classes(alloc))?;
     let debug = job(alloc, "debug", DEBUG_USAGE, DEBUG, DEBUG_TEXT).arg(of_cover(alloc))?;
     let resume = job(alloc, "resume", RESUME_USAGE, RESUME, RESUME_TEXT)
+        .arg(table(alloc))?
         .arg(steps(alloc))?
         .arg(list(alloc))?;
     Command::new(alloc, "polylab")
@@ -321,18 +353,39 @@ fn workers_in(words: &ArgMatches<'_>) -> u32
     }
 }
 
-/// The job that the words ask for.
-fn job_of(matches: &ArgMatches<'_>) -> Job
-    ensures { (1 ≤ workers_of result) × (workers_of result ≤ 32) }
+/// The table that the words of a job ask for, if they ask for one.
+fn table_in(words: &ArgMatches<'_>) -> Option<TableKind> {
+    match words.get_str("table") {
+        Some("links") => Some(TableKind::Links),
+        Some("bits") => Some(TableKind::Bits),
+        _ => None,
+    }
+}
+
+/// What the words ask for.
+fn request_in(matches: &ArgMatches<'_>) -> Request
+    ensures { (1 ≤ result.workers) × (result.workers ≤ 32) }
 {
     let Some((name, words)) = matches.subcommand() else {
-        return Job::Cover { workers: 1 };
+        return Request {
+            job: Job::Cover,
+            workers: 1,
+            table: None,
+        };
     };
-    let workers = workers_in(words);
+    Request {
+        job: job_of(name, words),
+        workers: workers_in(words),
+        table: table_in(words),
+    }
+}
+
+/// The job of this name that the words after it ask for.
+fn job_of(name: &str, words: &ArgMatches<'_>) -> Job {
     match name {
-        "solve" => Job::Solve { workers },
-        "count" if words.get_flag("classes") => Job::Classes { workers },
-        "count" => Job::Count { workers },
+        "solve" => Job::Solve,
+        "count" if words.get_flag("classes") => Job::Classes,
+        "count" => Job::Count,
         "options" => Job::Options,
         "debug" if words.get_flag("cover") => Job::DebugCover,
         "debug" => Job::DebugPuzzle,
@@ -340,7 +393,7 @@ fn job_of(matches: &ArgMatches<'_>) -> Job
             steps: words.get_one::<u64>("steps"),
             list: words.get_flag("list"),
         },
-        _ => Job::Cover { workers },
+        _ => Job::Cover,
     }
 }
 
@@ -357,14 +410,14 @@ fn refused(alloc: Global, error: &Error) -> LineFault {
 }
 
 /// Reads the words of a command line, without the program's name.
-pub fn parse_line(alloc: Global, words: &[&str]) -> Result<Job, LineFault>
-    ensures { IfOk result (λ job. (1 ≤ workers_of job) × (workers_of job ≤ 32)) }
+pub fn parse_line(alloc: Global, words: &[&str]) -> Result<Request, LineFault>
+    ensures { IfOk result (λ asked. (1 ≤ asked.workers) × (asked.workers ≤ 32)) }
 {
     let Ok(command) = command(alloc) else {
         return Err(LineFault::OutOfMemory);
     };
     match command.try_get_matches_from(words) {
-        Ok(matches) => Ok(job_of(&matches)),
+        Ok(matches) => Ok(request_in(&matches)),
         Err(error) => Err(refused(alloc, &error)),
     }
 }

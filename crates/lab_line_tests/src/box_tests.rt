@@ -3,6 +3,7 @@
 use crate::class_tests::PENTOMINOES as PENTOMINO_PUZZLE;
 use crate::cover_tests::{cover, ends_with};
 use crate::puzzle_tests::{SOMA as SOMA_PUZZLE, ends_so};
+use crate::request::alone;
 use polylab_engine::Job;
 use std::alloc::{AllocError, Global};
 use std::fmt::Write;
@@ -304,7 +305,7 @@ fn are_written<R: Threads + Wait + Sync>(
     let (puzzle, pieces, size, counts) = *row;
     let text = text_of(alloc, size, pieces)?;
     let are_right = are_counted(&text, pieces, counts);
-    Ok(are_right && ends_so(rt, alloc, Job::Options, puzzle, 0, &text, ""))
+    Ok(are_right && ends_so(rt, alloc, alone(Job::Options), puzzle, 0, &text, ""))
 }
 
 #[test]

@@ -1,6 +1,7 @@
 //! Classes of packings, from a puzzle's text to the output: worked by hand, and counts from the literature.
 
 use crate::puzzle_tests::{DOMINOES, OPTIONAL, SOMA, STRIP, ends_so};
+use crate::request::alone;
 use polylab_engine::Job;
 
 pub const FIVE_DOMINOES: &str =
@@ -51,15 +52,7 @@ fn classes_are_counted(rt: HostRuntime) {
     ];
     for (text, written) in rows {
         assert!(rt;
-            ends_so(
-                &rt,
-                rt.alloc(),
-                Job::Classes { workers: 1 },
-                text,
-                0,
-                written,
-                ""
-            ),
+            ends_so(&rt, rt.alloc(), alone(Job::Classes), text, 0, written, ""),
             "for {text}"
         );
     }
@@ -81,15 +74,7 @@ fn known_puzzles_have_their_classes(rt: HostRuntime) {
     ];
     for (text, written) in rows {
         assert!(rt;
-            ends_so(
-                &rt,
-                rt.alloc(),
-                Job::Classes { workers: 1 },
-                text,
-                0,
-                written,
-                ""
-            ),
+            ends_so(&rt, rt.alloc(), alone(Job::Classes), text, 0, written, ""),
             "for {text}"
         );
     }

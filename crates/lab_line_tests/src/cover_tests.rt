@@ -1,10 +1,11 @@
 //! Whole inputs through `run`, with outputs that were worked out by hand or printed by other programs.
 
 use crate::puzzle_tests::ends_so;
+use crate::request::{alone, run};
 use byte_streams::Watched;
 use drawn_problems::SMALL;
 use lab_pool::NoGate;
-use polylab_engine::{Job, run};
+use polylab_engine::Job;
 use std::alloc::{AllocError, Global};
 use std::io::{self, ErrorKind, Read, Write};
 use std::sync::Wait;
@@ -32,7 +33,7 @@ fn status_of<R: Threads + Wait + Sync, I: Read + Drop, O: Write + Drop>(
     run(
         rt,
         alloc,
-        Job::Cover { workers: 1 },
+        alone(Job::Cover),
         &NoGate,
         &mut Watched::reader(reader),
         &mut Watched::writer(writer),
@@ -70,15 +71,7 @@ static COVERS: [(&str, &str); 4] = [
 fn covers_are_listed(rt: HostRuntime) {
     for (text, output) in COVERS {
         assert!(rt;
-            ends_so(
-                &rt,
-                rt.alloc(),
-                Job::Cover { workers: 1 },
-                text,
-                0,
-                output,
-                ""
-            ),
+            ends_so(&rt, rt.alloc(), alone(Job::Cover), text, 0, output, ""),
             "for {text}"
         );
     }
@@ -103,15 +96,7 @@ static REFUSED: [(&str, &str); 8] = [
 fn texts_are_refused(rt: HostRuntime) {
     for (text, line) in REFUSED {
         assert!(rt;
-            ends_so(
-                &rt,
-                rt.alloc(),
-                Job::Cover { workers: 1 },
-                text,
-                3,
-                "",
-                line
-            ),
+            ends_so(&rt, rt.alloc(), alone(Job::Cover), text, 3, "", line),
             "for {text}"
         );
     }

@@ -1,6 +1,7 @@
 //! Searches that are taken by commands, from the input to the output: rows that were worked by hand.
 
 use crate::puzzle_tests::ends_so;
+use crate::request::alone;
 use drawn_problems::SMALL;
 use polylab_engine::Job;
 use std::alloc::{AllocError, Global};
@@ -100,7 +101,7 @@ fn are_answered<R: Threads + Wait + Sync>(
     written: &str,
 ) -> Result<bool, AllocError> {
     let text = with_commands(alloc, commands)?;
-    Ok(ends_so(rt, alloc, Job::DebugCover, &text, 0, written, ""))
+    Ok(ends_so(rt, alloc, alone(Job::DebugCover), &text, 0, written, ""))
 }
 
 #[test]
@@ -120,7 +121,7 @@ fn no_command_is_answered_by_nothing(rt: HostRuntime) {
         ends_so(
             &rt,
             rt.alloc(),
-            Job::DebugCover,
+            alone(Job::DebugCover),
             "items a\noption a\n",
             0,
             "",
@@ -135,7 +136,7 @@ fn a_refused_problem_takes_no_command(rt: HostRuntime) {
         ends_so(
             &rt,
             rt.alloc(),
-            Job::DebugCover,
+            alone(Job::DebugCover),
             "items a\noption z\n%%\nstep\n",
             3,
             "",
@@ -146,7 +147,7 @@ fn a_refused_problem_takes_no_command(rt: HostRuntime) {
         ends_so(
             &rt,
             rt.alloc(),
-            Job::DebugPuzzle,
+            alone(Job::DebugPuzzle),
             "piece A 000\n%%\nbox 1 1 1\n",
             3,
             "",
@@ -157,7 +158,7 @@ fn a_refused_problem_takes_no_command(rt: HostRuntime) {
         ends_so(
             &rt,
             rt.alloc(),
-            Job::DebugPuzzle,
+            alone(Job::DebugPuzzle),
             "piece A 000\nbox 1 1 1\n%%\nrun\n",
             0,
             "visit 1\nmoved 11\nat Done -\nend\n",

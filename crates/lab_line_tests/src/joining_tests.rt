@@ -1,9 +1,11 @@
 //! The Soma cube's search in slices and in parts, whose counts add up to those that two other programs print of the whole.
 
 use crate::box_tests::soma;
+use crate::request::{alone, run};
 use byte_streams::Watched;
+use lab_line::Request;
 use lab_pool::NoGate;
-use polylab_engine::{Job, run};
+use polylab_engine::Job;
 use std::alloc::{AllocError, Global};
 use std::fmt::Write;
 use std::sync::Wait;
@@ -16,13 +18,18 @@ static WHOLE: [u64; 10] = [
 ];
 
 /// What a job writes of a text; nothing where it is refused.
-fn written<R: Threads + Wait + Sync>(rt: &R, alloc: Global, job: Job, text: &str) -> Vec<u8> {
+fn written<R: Threads + Wait + Sync>(
+    rt: &R,
+    alloc: Global,
+    request: Request,
+    text: &str,
+) -> Vec<u8> {
     let mut output = Vec::new(alloc);
     let mut faults = Vec::new(alloc);
     let _status = run(
         rt,
         alloc,
-        job,
+        request,
         &NoGate,
         &mut Watched::reader(text.as_bytes()),
         &mut Watched::writer(&mut output),
@@ -87,11 +94,11 @@ fn add_slice<R: Threads + Wait + Sync>(
     sums: &mut [u64],
     text: &str,
 ) -> Result<Option<String>, Fail> {
-    let job = Job::Resume {
+    let request = alone(Job::Resume {
         steps: Some(100_000),
         list: false,
-    };
-    let output = written(rt, alloc, job, text);
+    });
+    let output = written(rt, alloc, request, text);
     let told = str::from_utf8(&output).unwrap_or("");
     add_told(sums, told);
     match told.split_once("polysnap") {
@@ -149,7 +156,7 @@ fn untried<R: Threads + Wait + Sync>(
 ) -> Result<String, AllocError> {
     let mut text = String::new(alloc);
     write!(text, "{problem}%%\nstep 4\nuntried\n")?;
-    let output = written(rt, alloc, Job::DebugCover, &text);
+    let output = written(rt, alloc, alone(Job::DebugCover), &text);
     let told = str::from_utf8(&output).unwrap_or("");
     let row = told.lines().find(|line| line.starts_with("untried 0 "));
     String::from_str(alloc, row.unwrap_or(""))
@@ -164,11 +171,11 @@ fn add_part<R: Threads + Wait + Sync>(
     part: Part<'_>,
 ) -> Result<bool, AllocError> {
     let text = snapshot(alloc, problem, part)?;
-    let job = Job::Resume {
+    let request = alone(Job::Resume {
         steps: None,
         list: true,
-    };
-    let output = written(rt, alloc, job, &text);
+    });
+    let output = written(rt, alloc, request, &text);
     let told = str::from_utf8(&output).unwrap_or("");
     add_told(sums, told);
     Ok(told.ends_with("\nend\n"))

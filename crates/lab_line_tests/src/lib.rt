@@ -1,4 +1,4 @@
-//! Tests of `polylab_engine`: whole inputs of every job through `run`, with what is written and told.
+//! Tests of `polylab_engine`: whole inputs of every job through `status` of `lab_line`, with what is written and told.
 #![tactic(auto)]
 
 #[cfg(test)]
@@ -16,6 +16,10 @@ mod line_tests;
 #[cfg(test)]
 mod puzzle_tests;
 #[cfg(test)]
+mod request;
+#[cfg(test)]
 mod resume_tests;
+#[cfg(test)]
+mod table_tests;
 #[cfg(test)]
 mod worker_tests;

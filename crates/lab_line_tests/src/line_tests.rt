@@ -1,9 +1,10 @@
 //! Words of the command line, and the exit statuses of those that name no job.
 
+use crate::request::{alone, by_table, shared};
 use byte_streams::Watched;
-use lab_line::{LineFault, parse_line, status};
+use lab_line::{LineFault, Request, parse_line, status};
 use lab_pool::NoGate;
-use polylab_engine::Job;
+use polylab_engine::{Job, TableKind};
 use std::alloc::Global;
 use std::sync::Wait;
 use std::thread::Threads;
@@ -13,14 +14,14 @@ use std::thread::Threads;
 fn ends_with<R: Threads + Wait + Sync>(
     rt: &R,
     alloc: Global,
-    asked: Result<Job, LineFault>,
+    request: Result<Request, LineFault>,
 ) -> (u8, bool, bool) {
     let mut output = Vec::new(alloc);
     let mut faults = Vec::new(alloc);
     let ended = status(
         rt,
         alloc,
-        asked,
+        request,
         &NoGate,
         &mut Watched::reader(b"".as_slice()),
         &mut Watched::writer(&mut output),
@@ -40,45 +41,67 @@ fn words_end_with<R: Threads + Wait + Sync>(
 
 #[test]
 fn the_job_is_read(rt: HostRuntime) {
-    let rows: [(&[&str], Job); 14] = [
-        (&["cover"], Job::Cover { workers: 1 }),
-        (&["cover", "--workers", "2"], Job::Cover { workers: 2 }),
-        (&["solve"], Job::Solve { workers: 1 }),
-        (&["solve", "--workers=32"], Job::Solve { workers: 32 }),
-        (&["count"], Job::Count { workers: 1 }),
-        (&["count", "--workers", "8"], Job::Count { workers: 8 }),
-        (&["count", "--classes"], Job::Classes { workers: 1 }),
+    let rows: [(&[&str], Request); 18] = [
+        (&["cover"], alone(Job::Cover)),
+        (&["cover", "--workers", "2"], shared(Job::Cover, 2)),
+        (&["solve"], alone(Job::Solve)),
+        (&["solve", "--workers=32"], shared(Job::Solve, 32)),
+        (&["count"], alone(Job::Count)),
+        (&["count", "--workers", "8"], shared(Job::Count, 8)),
+        (&["count", "--classes"], alone(Job::Classes)),
         (
             &["count", "--workers", "4", "--classes"],
-            Job::Classes { workers: 4 },
+            shared(Job::Classes, 4),
         ),
-        (&["options"], Job::Options),
-        (&["debug"], Job::DebugPuzzle),
-        (&["debug", "--cover"], Job::DebugCover),
+        (
+            &["count", "--table", "bits"],
+            by_table(alone(Job::Count), TableKind::Bits),
+        ),
+        (
+            &["solve", "--table=links"],
+            by_table(alone(Job::Solve), TableKind::Links),
+        ),
+        (
+            &["cover", "--workers", "3", "--table", "bits"],
+            by_table(shared(Job::Cover, 3), TableKind::Bits),
+        ),
+        (
+            &["resume", "--table", "links"],
+            by_table(
+                alone(Job::Resume {
+                    steps: None,
+                    list: false,
+                }),
+                TableKind::Links,
+            ),
+        ),
+        (&["options"], alone(Job::Options)),
+        (&["debug"], alone(Job::DebugPuzzle)),
+        (&["debug", "--cover"], alone(Job::DebugCover)),
         (
             &["resume"],
-            Job::Resume {
+            alone(Job::Resume {
                 steps: None,
                 list: false,
-            },
+            }),
         ),
         (
             &["resume", "--list", "--steps", "1"],
-            Job::Resume {
+            alone(Job::Resume {
                 steps: Some(1),
                 list: true,
-            },
+            }),
         ),
         (
             &["resume", "--steps=18446744073709551615"],
-            Job::Resume {
+            alone(Job::Resume {
                 steps: Some(u64::MAX),
                 list: false,
-            },
+            }),
         ),
     ];
-    for (words, job) in rows {
-        assert!(rt; matches!(parse_line(rt.alloc(), words), Ok(read) if read == job));
+    for (words, request) in rows {
+        assert!(rt; matches!(parse_line(rt.alloc(), words), Ok(read) if read == request));
     }
 }
 
@@ -99,7 +122,7 @@ fn help_is_given(rt: HostRuntime) {
 
 #[test]
 fn other_words_are_refused(rt: HostRuntime) {
-    let rows: [&[&str]; 21] = [
+    let rows: [&[&str]; 27] = [
         &[],
         &["covers"],
         &["cover", "--workers", "0"],
@@ -121,6 +144,12 @@ fn other_words_are_refused(rt: HostRuntime) {
         &["resume", "--steps"],
         &["resume", "--list", "1"],
         &["resume", "--workers", "2"],
+        &["count", "--table"],
+        &["cover", "--table", "bit"],
+        &["solve", "--table", "Links"],
+        &["options", "--table", "links"],
+        &["debug", "--table", "bits"],
+        &["resume", "--table", ""],
     ];
     for words in rows {
         assert!(rt; words_end_with(&rt, rt.alloc(), words) == (2, false, true));

@@ -1,8 +1,10 @@
 //! Puzzles from their text to the output: rows that were worked by hand, and counts from the literature.
 
+use crate::request::{alone, run};
 use byte_streams::Watched;
+use lab_line::Request;
 use lab_pool::NoGate;
-use polylab_engine::{Job, run};
+use polylab_engine::Job;
 use std::alloc::{AllocError, Global};
 use std::sync::Wait;
 use std::test::Fail;
@@ -22,7 +24,7 @@ pub const SOMA: &str =
 pub fn ends_so<R: Threads + Wait + Sync>(
     rt: &R,
     alloc: Global,
-    job: Job,
+    request: Request,
     text: &str,
     status: u8,
     written: &str,
@@ -33,7 +35,7 @@ pub fn ends_so<R: Threads + Wait + Sync>(
     let ended = run(
         rt,
         alloc,
-        job,
+        request,
         &NoGate,
         &mut Watched::reader(text.as_bytes()),
         &mut Watched::writer(&mut output),
@@ -61,15 +63,7 @@ fn packings_are_shown(rt: HostRuntime) {
     ];
     for (text, written) in rows {
         assert!(rt;
-            ends_so(
-                &rt,
-                rt.alloc(),
-                Job::Solve { workers: 1 },
-                text,
-                0,
-                written,
-                ""
-            ),
+            ends_so(&rt, rt.alloc(), alone(Job::Solve), text, 0, written, ""),
             "for {text}"
         );
     }
@@ -93,15 +87,7 @@ fn packings_are_counted(rt: HostRuntime) {
     ];
     for (text, written) in rows {
         assert!(rt;
-            ends_so(
-                &rt,
-                rt.alloc(),
-                Job::Count { workers: 1 },
-                text,
-                0,
-                written,
-                ""
-            ),
+            ends_so(&rt, rt.alloc(), alone(Job::Count), text, 0, written, ""),
             "for {text}"
         );
     }
@@ -128,7 +114,7 @@ static OPTIONS: [(&str, &str); 3] = [
 fn options_are_written(rt: HostRuntime) {
     for (text, written) in &OPTIONS {
         assert!(rt;
-            ends_so(&rt, rt.alloc(), Job::Options, text, 0, written, ""),
+            ends_so(&rt, rt.alloc(), alone(Job::Options), text, 0, written, ""),
             "for {text}"
         );
     }
@@ -154,14 +140,14 @@ static REFUSED: [(&str, &str); 7] = [
 #[test]
 fn puzzles_are_refused(rt: HostRuntime) {
     for (text, line) in &REFUSED {
-        for job in [
-            Job::Solve { workers: 1 },
-            Job::Count { workers: 1 },
-            Job::Classes { workers: 1 },
-            Job::Options,
+        for request in [
+            alone(Job::Solve),
+            alone(Job::Count),
+            alone(Job::Classes),
+            alone(Job::Options),
         ] {
             assert!(rt;
-                ends_so(&rt, rt.alloc(), job, text, 3, "", line),
+                ends_so(&rt, rt.alloc(), request, text, 3, "", line),
                 "for {text}"
             );
         }
@@ -188,7 +174,7 @@ fn too_many_placements_are_refused(rt: HostRuntime) {
         ends_so(
             &rt,
             rt.alloc(),
-            Job::Count { workers: 1 },
+            alone(Job::Count),
             text.as_str(),
             3,
             "",
@@ -204,7 +190,7 @@ fn counted<R: Threads + Wait + Sync>(rt: &R, alloc: Global, text: &str, first: &
     let ended = run(
         rt,
         alloc,
-        Job::Count { workers: 1 },
+        alone(Job::Count),
         &NoGate,
         &mut Watched::reader(text.as_bytes()),
         &mut Watched::writer(&mut output),
@@ -222,8 +208,8 @@ fn the_soma_cube_has_its_packings(rt: HostRuntime) {
 fn is_hollow_empty<R: Threads + Wait + Sync>(rt: &R, alloc: Global) -> Result<bool, AllocError> {
     let text = format!(in alloc; "{SOMA}cut 111\n")?;
     let counts = "packings 0\noptions 452\nsteps 377839\nlevels 1 32 544 3816 13552 21522 7763\n";
-    let job = Job::Count { workers: 1 };
-    Ok(ends_so(rt, alloc, job, &text, 0, counts, ""))
+    let request = alone(Job::Count);
+    Ok(ends_so(rt, alloc, request, &text, 0, counts, ""))
 }
 
 #[test]

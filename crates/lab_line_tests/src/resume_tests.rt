@@ -1,6 +1,7 @@
 //! Searches that go on from snapshots. The small problem's run was worked by hand.
 
 use crate::puzzle_tests::ends_so;
+use crate::request::alone;
 use drawn_problems::SMALL;
 use polylab_engine::Job;
 use std::alloc::{AllocError, Global};
@@ -163,11 +164,11 @@ fn goes_on<R: Threads + Wait + Sync>(
     let mut text = String::new(alloc);
     push_snapshot(&mut text, state)?;
     let written = told(alloc, from, to, there, list)?;
-    let job = Job::Resume {
+    let request = alone(Job::Resume {
         steps: Some(steps as u64),
         list,
-    };
-    Ok(ends_so(rt, alloc, job, &text, 0, &written, ""))
+    });
+    Ok(ends_so(rt, alloc, request, &text, 0, &written, ""))
 }
 
 /// Whether it goes on to the end.
@@ -180,11 +181,11 @@ fn goes_to_the_end<R: Threads + Wait + Sync>(
     let mut text = String::new(alloc);
     push_snapshot(&mut text, state)?;
     let written = told(alloc, from, LAST, state, true)?;
-    let job = Job::Resume {
+    let request = alone(Job::Resume {
         steps: None,
         list: true,
-    };
-    Ok(ends_so(rt, alloc, job, &text, 0, &written, ""))
+    });
+    Ok(ends_so(rt, alloc, request, &text, 0, &written, ""))
 }
 
 #[test]
@@ -247,11 +248,11 @@ fn part_is_searched<R: Threads + Wait + Sync>(
     let mut text = String::new(alloc);
     push_head(&mut text, from, to)?;
     write!(text, "state {state}\nend\n")?;
-    let job = Job::Resume {
+    let request = alone(Job::Resume {
         steps: None,
         list: false,
-    };
-    Ok(ends_so(rt, alloc, job, &text, 0, written, ""))
+    });
+    Ok(ends_so(rt, alloc, request, &text, 0, written, ""))
 }
 
 #[test]
@@ -281,12 +282,12 @@ static SECOND: [(&str, u64, &str); 2] = [
 #[test]
 fn the_second_version_is_kept(rt: HostRuntime) {
     for (text, steps, written) in &SECOND {
-        let job = Job::Resume {
+        let request = alone(Job::Resume {
             steps: Some(*steps),
             list: false,
-        };
+        });
         assert!(rt;
-            ends_so(&rt, rt.alloc(), job, text, 0, written, ""),
+            ends_so(&rt, rt.alloc(), request, text, 0, written, ""),
             "for {text}"
         );
     }
@@ -340,12 +341,12 @@ static REFUSALS: [(&str, &str); 14] = [
 #[test]
 fn other_texts_are_refused(rt: HostRuntime) {
     for (text, line) in &REFUSALS {
-        let job = Job::Resume {
+        let request = alone(Job::Resume {
             steps: None,
             list: true,
-        };
+        });
         assert!(rt;
-            ends_so(&rt, rt.alloc(), job, text, 3, "", line),
+            ends_so(&rt, rt.alloc(), request, text, 3, "", line),
             "for {text}"
         );
     }

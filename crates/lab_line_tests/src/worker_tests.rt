@@ -4,14 +4,17 @@
 use crate::class_tests::FIVE_DOMINOES;
 use crate::cover_tests::{SMALL_OUTPUT, are_equal_covers, equal_options};
 use crate::puzzle_tests::{SOMA, ends_so};
+use crate::request::{alone, run, shared};
 use byte_streams::Watched;
+use cover_links::LinkTable;
 use cover_problem::Problem;
 use drawn_problems::SMALL;
 use lab_book::{Book, Call, Entry};
+use lab_line::Request;
 use lab_pool::{Gate, GateCall, NoGate, run_pool};
 use poly_place::compile;
 use poly_texts::{Puzzle, read_puzzle};
-use polylab_engine::{Job, run};
+use polylab_engine::Job;
 use std::alloc::{AllocError, Global};
 use std::sync::Wait;
 use std::sync::atomic::{AtomicBool, AtomicU8, Ordering};
@@ -24,7 +27,7 @@ fn written<R: Threads + Wait + Sync, G: Gate>(
     rt: &R,
     alloc: Global,
     gate: &G,
-    job: Job,
+    request: Request,
     text: &[u8],
 ) -> (u8, Vec<u8>) {
     let mut output = Vec::new(alloc);
@@ -32,7 +35,7 @@ fn written<R: Threads + Wait + Sync, G: Gate>(
     let ended = run(
         rt,
         alloc,
-        job,
+        request,
         gate,
         &mut Watched::reader(text),
         &mut Watched::writer(&mut output),
@@ -45,8 +48,8 @@ fn written<R: Threads + Wait + Sync, G: Gate>(
 fn write_the_same<R: Threads + Wait + Sync>(
     rt: &R,
     alloc: Global,
-    one: Job,
-    other: Job,
+    one: Request,
+    other: Request,
     text: &str,
 ) -> bool {
     let (ended, output) = written(rt, alloc, &NoGate, one, text.as_bytes());
@@ -57,8 +60,8 @@ fn write_the_same<R: Threads + Wait + Sync>(
 #[test]
 fn covers_are_listed_by_any_number_of_workers(rt: HostRuntime) {
     for workers in [1, 2, 8, 32] {
-        let job = Job::Cover { workers };
-        assert!(rt; ends_so(&rt, rt.alloc(), job, SMALL, 0, SMALL_OUTPUT, ""));
+        let request = shared(Job::Cover, workers);
+        assert!(rt; ends_so(&rt, rt.alloc(), request, SMALL, 0, SMALL_OUTPUT, ""));
     }
 }
 
@@ -66,8 +69,8 @@ fn covers_are_listed_by_any_number_of_workers(rt: HostRuntime) {
 fn packings_are_counted_by_any_number_of_workers(rt: HostRuntime) {
     let counts = "packings 960\noptions 65\nsteps 14487\nlevels 1 10 60 300 960 960\n";
     for workers in [1, 2, 8, 32] {
-        let job = Job::Count { workers };
-        assert!(rt; ends_so(&rt, rt.alloc(), job, FIVE_DOMINOES, 0, counts, ""));
+        let request = shared(Job::Count, workers);
+        assert!(rt; ends_so(&rt, rt.alloc(), request, FIVE_DOMINOES, 0, counts, ""));
     }
 }
 
@@ -76,15 +79,15 @@ fn classes_are_counted_by_any_number_of_workers(rt: HostRuntime) {
     let counts = "packings 11520\noptions 688\nsteps 1991327\n\
                   levels 1 55 1089 10633 48900 110149 72329 11520\nrotations 480\nsymmetries 240\n";
     for workers in [2, 8, 32] {
-        let job = Job::Classes { workers };
-        assert!(rt; ends_so(&rt, rt.alloc(), job, SOMA, 0, counts, ""));
+        let request = shared(Job::Classes, workers);
+        assert!(rt; ends_so(&rt, rt.alloc(), request, SOMA, 0, counts, ""));
     }
 }
 
 #[test]
 fn packings_are_shown_by_any_number_of_workers(rt: HostRuntime) {
     for workers in [2, 8, 32] {
-        let (one, more) = (Job::Solve { workers: 1 }, Job::Solve { workers });
+        let (one, more) = (alone(Job::Solve), shared(Job::Solve, workers));
         assert!(rt; write_the_same(&rt, rt.alloc(), one, more, FIVE_DOMINOES));
         assert!(rt; write_the_same(&rt, rt.alloc(), one, more, SOMA));
     }
@@ -95,17 +98,17 @@ fn writes_so<R: Threads + Wait + Sync, G: Gate>(
     rt: &R,
     alloc: Global,
     gate: &G,
-    job: Job,
+    request: Request,
     text: &str,
     wanted: &[u8],
 ) -> bool {
-    let (ended, output) = written(rt, alloc, gate, job, text.as_bytes());
+    let (ended, output) = written(rt, alloc, gate, request, text.as_bytes());
     ended == 0 && output.as_slice() == wanted
 }
 
 /// Whether two workers cover a text of 70,000 equal options.
 fn are_covered_by_two<R: Threads + Wait + Sync>(rt: &R, alloc: Global, text: &[u8]) -> bool {
-    let (ended, output) = written(rt, alloc, &NoGate, Job::Cover { workers: 2 }, text);
+    let (ended, output) = written(rt, alloc, &NoGate, shared(Job::Cover, 2), text);
     ended == 0 && are_equal_covers(&output)
 }
 
@@ -127,9 +130,9 @@ fn equal_options_are_listed_by_two_workers(rt: HostRuntime) -> Result<(), Fail> 
 #[test]
 fn other_numbers_of_workers_are_refused(rt: HostRuntime) {
     for workers in [0, 33] {
-        let job = Job::Count { workers };
+        let request = shared(Job::Count, workers);
         let line = "refused pool 1 BadWorkerCount\n";
-        assert!(rt; ends_so(&rt, rt.alloc(), job, FIVE_DOMINOES, 4, "", line));
+        assert!(rt; ends_so(&rt, rt.alloc(), request, FIVE_DOMINOES, 4, "", line));
     }
 }
 
@@ -191,7 +194,7 @@ fn finished_by_two<'p, R: Threads + Wait + Sync, G: Gate>(
     gate: &G,
     problem: &'p Problem,
 ) -> Option<Book<'p>> {
-    match run_pool(rt, alloc, problem, 2, gate) {
+    match run_pool::<LinkTable, _, _>(rt, alloc, problem, 2, gate) {
         Ok(book) => Some(book),
         Err(_) => None,
     }
@@ -263,12 +266,12 @@ fn each_of_two_workers_posts(rt: HostRuntime) -> Result<(), Fail> {
 fn overlaps<R: Threads + Wait + Sync>(
     rt: &R,
     alloc: Global,
-    job: Job,
+    request: Request,
     text: &str,
     wanted: &[u8],
 ) -> bool {
     let gate = new_gate();
-    writes_so(rt, alloc, &gate, job, text, wanted)
+    writes_so(rt, alloc, &gate, request, text, wanted)
         && gate.answered.load(Ordering::SeqCst)
         && !gate.ran_out.load(Ordering::SeqCst)
 }
@@ -277,7 +280,7 @@ fn overlaps<R: Threads + Wait + Sync>(
 fn one_worker_posts_while_another_is_held(rt: HostRuntime) {
     let counts = b"packings 11520\noptions 688\nsteps 1991327\n\
                    levels 1 55 1089 10633 48900 110149 72329 11520\n";
-    assert!(rt; overlaps(&rt, rt.alloc(), Job::Count { workers: 2 }, SOMA, counts));
+    assert!(rt; overlaps(&rt, rt.alloc(), shared(Job::Count, 2), SOMA, counts));
 }
 
 /// Whether the workers of a command overlap, too.
@@ -287,7 +290,7 @@ fn workers_of_pool_overlap<R: Threads + Wait + Sync>(
 ) -> Result<bool, AllocError> {
     let text = format!(in alloc; "{SOMA}\n%%\npark\npool 2\nsteps\n")?;
     let answers = b"parked\npooled\nsteps 1991327\n";
-    Ok(overlaps(rt, alloc, Job::DebugPuzzle, &text, answers))
+    Ok(overlaps(rt, alloc, alone(Job::DebugPuzzle), &text, answers))
 }
 
 #[test]

@@ -5,9 +5,8 @@ ghost use Rattle.std.specs.Prelude.{◌≡◌};
 ghost use Rattle.lab_line.specs.Line.{status_of};
 
 use byte_streams::Watched;
-use lab_line::{LineFault, parse_line, status};
+use lab_line::{LineFault, Request, parse_line, status};
 use lab_pool::NoGate;
-use polylab_engine::Job;
 use std::alloc::Global;
 use std::env;
 use std::io::{self, ErrorKind};
@@ -36,7 +35,7 @@ fn no_words(alloc: Global, error: &io::Error) -> LineFault
 }
 
 /// The job that these words ask for.
-fn job_of(alloc: Global, words: &[String]) -> Result<Job, LineFault> {
+fn job_of(alloc: Global, words: &[String]) -> Result<Request, LineFault> {
     let words = words
         .iter()
         .map(|word| word.as_str())
@@ -48,7 +47,7 @@ fn job_of(alloc: Global, words: &[String]) -> Result<Job, LineFault> {
 }
 
 /// The job that the command line asks for.
-fn asked(rt: &HostRuntime) -> Result<Job, LineFault> {
+fn asked(rt: &HostRuntime) -> Result<Request, LineFault> {
     match words(rt) {
         Ok(words) => job_of(rt.alloc(), &words),
         Err(error) => Err(no_words(rt.alloc(), &error)),

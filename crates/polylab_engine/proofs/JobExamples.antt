@@ -1,4 +1,4 @@
--- The examples of specs/Account.antt, Stretch.antt, Debugged.antt, Ending.antt, Listing.antt and Workers.antt, on the small problem.
+-- The examples of specs/Account.antt, Stretch.antt, Debugged.antt, Ending.antt and Listing.antt, on the small problem.
 use Rattle.std.proofs.Common.{◌≡◌, zero, suc, true, Some, None, List, [], ◌∷◌, ◌++◌, codes, refl, lit<, lit≤, arith}
 use Rattle.cover_problem.specs.Problem.{IsProblem}
 use Rattle.cover_problem.specs.Covering.{active, remaining, choice}
@@ -20,13 +20,11 @@ use Rattle.debug_script.specs.declared.fault.RepliesFault.TheVariants as replies
 use Rattle.debug_script.specs.Replies.{exchange, debug_replies}
 use Rattle.polylab_engine.specs.declared.fault.JobFault.TheVariants as faults
 use Rattle.polylab_engine.specs.declared.engine.Ending.TheVariants as endings
-use Rattle.polylab_engine.specs.declared.job.Job.TheVariants as jobs
 use Rattle.polylab_engine.specs.Account.{account_of, report_of}
 use Rattle.polylab_engine.specs.Stretch.{end_at, steps_taken}
 use Rattle.polylab_engine.specs.Debugged.{debug_output, job_fault}
 use Rattle.polylab_engine.specs.Ending.{IsTold, status_of}
 use Rattle.polylab_engine.specs.Listing.{AreExactCovers}
-use Rattle.polylab_engine.specs.Workers.{workers_of}
 
 -- ---- specs/Account.antt
 
@@ -88,11 +86,3 @@ its_problem = record { some = lit< tt; within = lit≤ tt; named = refl; new = r
 its_cover : AreExactCovers small ((4 ∷ 5 ∷ 1 ∷ []) ∷ [])
 its_cover zero h = (passes_is small its_problem (4 ∷ 5 ∷ 1 ∷ []) refl).1
 its_cover (suc k) h = absurd (omega (arith, h))
-
--- ---- specs/Workers.antt
-
-four_workers : workers_of (jobs.Cover 4) ≡ 4
-four_workers = refl
-
-one_worker : workers_of jobs.Options ≡ 1
-one_worker = refl

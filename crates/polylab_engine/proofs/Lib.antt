@@ -11,3 +11,4 @@ pub mod PackedLemmas
 mod OutputExamples
 mod PackedExamples
 mod JobExamples
+mod TableExamples

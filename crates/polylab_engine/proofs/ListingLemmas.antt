@@ -165,10 +165,10 @@ puzzle_read input p h = puzzle_is input p (texts.read_is_text input p h)
 
 pub outcome_lists : (job : Job) (input text : List ℕ) → outcome job input ≡ Ok text → IsListed job input text
 unfolding outcome
-outcome_lists (jobs.Cover workers) input text e = listed ListsCovers cover_output lists (problem_of input) text (problem_read input) e
-outcome_lists (jobs.Solve workers) input text e = packed ListsPackings solve_output shows (puzzle_of input) text (puzzle_read input) e
-outcome_lists (jobs.Count workers) input text e = packed CountsPackings count_output counts (puzzle_of input) text (puzzle_read input) e
-outcome_lists (jobs.Classes workers) input text e = packed CountsClasses classes_output classified (puzzle_of input) text (puzzle_read input) e
+outcome_lists jobs.Cover input text e = listed ListsCovers cover_output lists (problem_of input) text (problem_read input) e
+outcome_lists jobs.Solve input text e = packed ListsPackings solve_output shows (puzzle_of input) text (puzzle_read input) e
+outcome_lists jobs.Count input text e = packed CountsPackings count_output counts (puzzle_of input) text (puzzle_read input) e
+outcome_lists jobs.Classes input text e = packed CountsClasses classes_output classified (puzzle_of input) text (puzzle_read input) e
 outcome_lists jobs.Options input text e = packed (λ p t. t ≡ written (packing_problem p)) options_output (λ p z s. options_are p) (puzzle_of input) text (puzzle_read input) e
 outcome_lists jobs.DebugPuzzle input text e =
     let lines = command_lines input in

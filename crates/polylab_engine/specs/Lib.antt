@@ -1,4 +1,3 @@
-pub mod Workers
 pub mod Account
 pub mod Output
 pub mod Stretch
@@ -10,3 +9,4 @@ pub mod Joined
 pub mod Outcome
 pub mod Listing
 pub mod Ending
+pub mod Tables

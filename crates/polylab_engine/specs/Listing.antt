@@ -107,10 +107,10 @@ pub record TellsStretch (most : Option ℕ) (lists : Bool) (v : SnapshotValue) (
 
 -- what is written is what the job is to tell of the input's problem, puzzle or snapshot, or what the input's commands are answered
 abbrev pub IsListed : Job → List ℕ → List ℕ → Type 0
-IsListed (jobs.Cover workers) input text = (p : ProblemValue) × (problem_of input ≡ Ok p) × ListsCovers p text
-IsListed (jobs.Solve workers) input text = (p : PuzzleValue) × (puzzle_of input ≡ Ok p) × ListsPackings p text
-IsListed (jobs.Count workers) input text = (p : PuzzleValue) × (puzzle_of input ≡ Ok p) × CountsPackings p text
-IsListed (jobs.Classes workers) input text = (p : PuzzleValue) × (puzzle_of input ≡ Ok p) × CountsClasses p text
+IsListed jobs.Cover input text = (p : ProblemValue) × (problem_of input ≡ Ok p) × ListsCovers p text
+IsListed jobs.Solve input text = (p : PuzzleValue) × (puzzle_of input ≡ Ok p) × ListsPackings p text
+IsListed jobs.Count input text = (p : PuzzleValue) × (puzzle_of input ≡ Ok p) × CountsPackings p text
+IsListed jobs.Classes input text = (p : PuzzleValue) × (puzzle_of input ≡ Ok p) × CountsClasses p text
 IsListed jobs.Options input text = (p : PuzzleValue) × (puzzle_of input ≡ Ok p) × (text ≡ written (packing_problem p))
 IsListed jobs.DebugPuzzle input text = (p : PuzzleValue) × (puzzle_of (problem_text input) ≡ Ok p)
     × (text ≡ debug_output (command_lines input) (packing_problem p))

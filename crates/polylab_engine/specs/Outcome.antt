@@ -98,12 +98,12 @@ cover_answer job commands read = covers_of (listing_of job (raw_lines commands))
 abbrev pub puzzle_answer : PuzzleJob → List ℕ → Result PuzzleValue (puzzle.Fault × ℕ) → Result (List ℕ) (List ℕ)
 puzzle_answer job commands read = packed_of (output_of job (raw_lines commands)) read
 
--- what a job writes for an input, or the line that refuses it: the same, by however many workers it is done
+-- what a job writes for an input, or the line that refuses it
 unfoldable pub outcome : Job → List ℕ → Result (List ℕ) (List ℕ)
-outcome (jobs.Cover workers) text = covers_of cover_output (problem_of text)
-outcome (jobs.Solve workers) text = packed_of solve_output (puzzle_of text)
-outcome (jobs.Count workers) text = packed_of count_output (puzzle_of text)
-outcome (jobs.Classes workers) text = packed_of classes_output (puzzle_of text)
+outcome jobs.Cover text = covers_of cover_output (problem_of text)
+outcome jobs.Solve text = packed_of solve_output (puzzle_of text)
+outcome jobs.Count text = packed_of count_output (puzzle_of text)
+outcome jobs.Classes text = packed_of classes_output (puzzle_of text)
 outcome jobs.Options text = packed_of options_output (puzzle_of text)
 outcome jobs.DebugPuzzle text = packed_of (puzzle_replies (command_lines text)) (puzzle_of (problem_text text))
 outcome jobs.DebugCover text = covers_of (debug_output (command_lines text)) (problem_of (problem_text text))

@@ -14,21 +14,18 @@ ghost use Rattle.x_snapshot.specs.Refusals.{TellsFault};
 
 use crate::classes::count_classes;
 use crate::cover::covers;
-use crate::debugging::debug;
 use crate::fault::JobFault;
 use crate::job::Job;
 use crate::packed::{count, options, solve};
 use crate::resuming::resume;
+use crate::tables::TableKind;
 use crate::workers::Workers;
-use cover_problem::{CoverFault, Problem, Table, read_cover};
+use cover_problem::{CoverFault, Problem, read_cover};
 use debug_language::write_snapshot_fault;
 use debug_script::split_input;
-use lab_pool::Gate;
 use poly_place::{Compiled, PlaceFault, compile};
 use poly_texts::{Puzzle, PuzzleFault, read_puzzle};
 use std::alloc::{AllocError, Global};
-use std::sync::Wait;
-use std::thread::Threads;
 use text_lines::{write_number, write_word};
 use x_snapshot::{Snapshot, SnapshotFault, read_snapshot};
 
@@ -42,29 +39,30 @@ pub enum Answer {
 /// What the job writes for an input. The bytes of an input that is all one text are let go before anything is searched; those
 /// of a text with commands are kept, since the commands stand in them.
 #[tactic(auto, unfolding(crate::specs::Outcome::outcome))]
-pub fn answer_to<T: Table, R: Threads + Wait + Sync, G: Gate>(
+pub fn answer_to<W: Workers>(
     alloc: Global,
     job: Job,
-    workers: &Workers<'_, R, G>,
+    workers: &W,
     input: Vec<u8>,
 ) -> Result<Answer, JobFault>
+    requires { W.ready workers.now }
     ensures { HasOutcome result (outcome job input.items) }
 {
     match job {
-        Job::Cover { .. } => cover_answer::<T, R, G>(
+        Job::Cover => cover_answer::<W>(
             alloc,
             workers,
             CoverJob::List,
             problem_in(alloc, input),
             &[],
         ),
-        Job::Solve { .. } => plain_puzzle::<T, R, G>(alloc, workers, PuzzleJob::Solve, input),
-        Job::Count { .. } => plain_puzzle::<T, R, G>(alloc, workers, PuzzleJob::Count, input),
-        Job::Classes { .. } => plain_puzzle::<T, R, G>(alloc, workers, PuzzleJob::Classes, input),
-        Job::Options => plain_puzzle::<T, R, G>(alloc, workers, PuzzleJob::Options, input),
+        Job::Solve => plain_puzzle::<W>(alloc, workers, PuzzleJob::Solve, input),
+        Job::Count => plain_puzzle::<W>(alloc, workers, PuzzleJob::Count, input),
+        Job::Classes => plain_puzzle::<W>(alloc, workers, PuzzleJob::Classes, input),
+        Job::Options => plain_puzzle::<W>(alloc, workers, PuzzleJob::Options, input),
         Job::DebugPuzzle => {
             let (text, commands) = split_input(&input);
-            puzzle_answer::<T, R, G>(
+            puzzle_answer::<W>(
                 alloc,
                 workers,
                 PuzzleJob::Debug,
@@ -74,7 +72,7 @@ pub fn answer_to<T: Table, R: Threads + Wait + Sync, G: Gate>(
         }
         Job::DebugCover => {
             let (text, commands) = split_input(&input);
-            cover_answer::<T, R, G>(
+            cover_answer::<W>(
                 alloc,
                 workers,
                 CoverJob::Debug,
@@ -82,7 +80,7 @@ pub fn answer_to<T: Table, R: Threads + Wait + Sync, G: Gate>(
                 commands,
             )
         }
-        Job::Resume { steps, list } => resume_answer::<T>(alloc, steps, list, input),
+        Job::Resume { steps, list } => { resume_answer(alloc, workers.table(), steps, list, input) }
     }
 }
 
@@ -109,8 +107,9 @@ fn snapshot_in(alloc: Global, text: Vec<u8>) -> Result<Snapshot, SnapshotFault>
 }
 
 /// What `resume` writes of the snapshot that a text is, or the refusal of the text.
-fn resume_answer<T: Table>(
+fn resume_answer(
     alloc: Global,
+    table: Option<TableKind>,
     steps: Option<u64>,
     list: bool,
     text: Vec<u8>,
@@ -118,7 +117,7 @@ fn resume_answer<T: Table>(
     ensures { HasOutcome result (resumed_of (resume_output steps list) (snapshot_of text.items)) }
 {
     match snapshot_in(alloc, text) {
-        Ok(snapshot) => Ok(Answer::Text(resume::<T>(alloc, steps, list, &snapshot)?)),
+        Ok(snapshot) => Ok(Answer::Text(resume(alloc, table, steps, list, &snapshot)?)),
         Err(fault) => {
             let mut line = Vec::new(alloc);
             write_snapshot_fault(&mut line, fault)?;
@@ -135,19 +134,18 @@ pub enum CoverJob {
 }
 
 /// What the job writes of the problem that was found in a text, or the refusal of the text.
-fn cover_answer<T: Table, R: Threads + Wait + Sync, G: Gate>(
+fn cover_answer<W: Workers>(
     alloc: Global,
-    workers: &Workers<'_, R, G>,
+    workers: &W,
     job: CoverJob,
     found: Result<Problem, CoverFault>,
     commands: &[u8],
 ) -> Result<Answer, JobFault>
+    requires { W.ready workers.now }
     ensures { ForReading found (λ read. HasOutcome result (cover_answer job commands.now read)) }
 {
     match found {
-        Ok(problem) => Ok(Answer::Text(cover_text::<T, R, G>(
-            alloc, workers, job, &problem, commands,
-        )?)),
+        Ok(problem) => Ok(Answer::Text(cover_text::<W>(alloc, workers, job, &problem, commands)?)),
         Err(CoverFault::Fault { fault, line }) => {
             let (number, name) = (fault.number(), fault.name());
             Ok(Answer::Refused(refusal(alloc, "cover", number, name, line)?))
@@ -157,31 +155,33 @@ fn cover_answer<T: Table, R: Threads + Wait + Sync, G: Gate>(
 }
 
 /// What the job writes of a problem.
-fn cover_text<T: Table, R: Threads + Wait + Sync, G: Gate>(
+fn cover_text<W: Workers>(
     alloc: Global,
-    workers: &Workers<'_, R, G>,
+    workers: &W,
     job: CoverJob,
     problem: &Problem,
     commands: &[u8],
 ) -> Result<Vec<u8>, JobFault>
+    requires { W.ready workers.now }
     ensures { ReturnsItems result (listing_of job (raw_lines commands.now) problem.now) }
 {
     match job {
-        CoverJob::List => covers::<T, R, G>(alloc, workers, problem),
-        CoverJob::Debug => debug::<T, R, G>(alloc, workers, problem, commands),
+        CoverJob::List => covers::<W>(alloc, workers, problem),
+        CoverJob::Debug => workers.replies(alloc, problem, commands),
     }
 }
 
 /// What the job writes for a text that is a puzzle and nothing else.
-fn plain_puzzle<T: Table, R: Threads + Wait + Sync, G: Gate>(
+fn plain_puzzle<W: Workers>(
     alloc: Global,
-    workers: &Workers<'_, R, G>,
+    workers: &W,
     job: PuzzleJob,
     text: Vec<u8>,
 ) -> Result<Answer, JobFault>
+    requires { W.ready workers.now }
     ensures { HasOutcome result (puzzle_answer job [] (puzzle_of text.items)) }
 {
-    puzzle_answer::<T, R, G>(alloc, workers, job, puzzle_in(alloc, text), &[])
+    puzzle_answer::<W>(alloc, workers, job, puzzle_in(alloc, text), &[])
 }
 
 /// What is asked of a puzzle.
@@ -195,17 +195,18 @@ pub enum PuzzleJob {
 }
 
 /// What the job writes of the puzzle that was found in a text, or the refusal of the text or of the puzzle.
-fn puzzle_answer<T: Table, R: Threads + Wait + Sync, G: Gate>(
+fn puzzle_answer<W: Workers>(
     alloc: Global,
-    workers: &Workers<'_, R, G>,
+    workers: &W,
     job: PuzzleJob,
     found: Result<Puzzle, PuzzleFault>,
     commands: &[u8],
 ) -> Result<Answer, JobFault>
+    requires { W.ready workers.now }
     ensures { ForReading found (λ read. HasOutcome result (puzzle_answer job commands.now read)) }
 {
     match found {
-        Ok(puzzle) => packed_answer::<T, R, G>(alloc, workers, job, &puzzle, commands),
+        Ok(puzzle) => packed_answer::<W>(alloc, workers, job, &puzzle, commands),
         Err(PuzzleFault::Fault { fault, line }) => {
             let (number, name) = (fault.number(), fault.name());
             Ok(Answer::Refused(refusal(alloc, "puzzle", number, name, line)?))
@@ -215,17 +216,18 @@ fn puzzle_answer<T: Table, R: Threads + Wait + Sync, G: Gate>(
 }
 
 /// What the job writes of a puzzle, or its refusal.
-fn packed_answer<T: Table, R: Threads + Wait + Sync, G: Gate>(
+fn packed_answer<W: Workers>(
     alloc: Global,
-    workers: &Workers<'_, R, G>,
+    workers: &W,
     job: PuzzleJob,
     puzzle: &Puzzle,
     commands: &[u8],
 ) -> Result<Answer, JobFault>
+    requires { W.ready workers.now }
     ensures { AnswersPuzzle result job commands.now puzzle.now }
 {
     match compile(alloc, puzzle) {
-        Ok(compiled) => Ok(Answer::Text(packed_text::<T, R, G>(
+        Ok(compiled) => Ok(Answer::Text(packed_text::<W>(
             alloc, workers, job, &compiled, commands,
         )?)),
         Err(PlaceFault::TooManyOptions) => {
@@ -237,21 +239,22 @@ fn packed_answer<T: Table, R: Threads + Wait + Sync, G: Gate>(
 }
 
 /// What the job writes of a puzzle whose problem is within the limits.
-fn packed_text<T: Table, R: Threads + Wait + Sync, G: Gate>(
+fn packed_text<W: Workers>(
     alloc: Global,
-    workers: &Workers<'_, R, G>,
+    workers: &W,
     job: PuzzleJob,
     compiled: &Compiled<'_>,
     commands: &[u8],
 ) -> Result<Vec<u8>, JobFault>
+    requires { W.ready workers.now }
     ensures { ReturnsItems result (output_of job (raw_lines commands.now) compiled.now) }
 {
     match job {
-        PuzzleJob::Solve => solve::<T, R, G>(alloc, workers, compiled),
-        PuzzleJob::Count => count::<T, R, G>(alloc, workers, compiled),
-        PuzzleJob::Classes => count_classes::<T, R, G>(alloc, workers, compiled),
+        PuzzleJob::Solve => solve::<W>(alloc, workers, compiled),
+        PuzzleJob::Count => count::<W>(alloc, workers, compiled),
+        PuzzleJob::Classes => count_classes::<W>(alloc, workers, compiled),
         PuzzleJob::Options => Ok(options(alloc, compiled)?),
-        PuzzleJob::Debug => debug::<T, R, G>(alloc, workers, compiled.problem(), commands),
+        PuzzleJob::Debug => workers.replies(alloc, compiled.problem(), commands),
     }
 }
 

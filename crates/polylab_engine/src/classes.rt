@@ -7,26 +7,25 @@ ghost use Rattle.cover_problem.specs.Answers.{ReturnsItems};
 
 use crate::fault::JobFault;
 use crate::packed::count_text;
-use crate::search::search;
 use crate::workers::Workers;
-use cover_problem::{Lists, Table};
-use lab_pool::Gate;
+use cover_problem::Lists;
 use poly_place::{Compiled, Group, Packing, classes, packing_of};
 use std::alloc::{AllocError, Global};
-use std::sync::Wait;
-use std::thread::Threads;
 use text_lines::write_number_line;
 
 /// What `count` writes, and then how many classes the packings make, by the rotations and by all symmetries of the region.
 #[tactic(auto, unfolding(crate::specs::Classified::classes_output))]
-pub fn count_classes<T: Table, R: Threads + Wait + Sync, G: Gate>(
+pub fn count_classes<W: Workers>(
     alloc: Global,
-    workers: &Workers<'_, R, G>,
+    workers: &W,
     compiled: &Compiled<'_>,
 ) -> Result<Vec<u8>, JobFault>
+    requires { W.ready workers.now }
     ensures { ReturnsItems result (classes_output compiled.now) }
 {
-    let report = search::<T, R, G>(alloc, workers, compiled.problem(), true)?;
+    let problem = compiled.problem();
+    problem.is_sound();
+    let report = workers.search(alloc, problem, true)?;
     let mut text = count_text(alloc, compiled, &report)?;
     push_classes(alloc, &mut text, compiled, report.visits())?;
     Ok(text)

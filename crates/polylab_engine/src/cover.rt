@@ -4,26 +4,23 @@ ghost use Rattle.cover_problem.specs.Answers.{ReturnsItems};
 
 use crate::fault::JobFault;
 use crate::report::Report;
-use crate::search::search;
 use crate::workers::Workers;
-use cover_problem::{Problem, Table};
-use lab_pool::Gate;
+use cover_problem::Problem;
 use std::alloc::{AllocError, Global};
-use std::sync::Wait;
-use std::thread::Threads;
 use text_lines::write_number_line;
 use x_texts::write_visits;
 
 /// The exact covers of the problem in path order, and then their number, the steps and the levels.
 #[tactic(auto, unfolding(crate::specs::Output::cover_output))]
-pub fn covers<T: Table, R: Threads + Wait + Sync, G: Gate>(
+pub fn covers<W: Workers>(
     alloc: Global,
-    workers: &Workers<'_, R, G>,
+    workers: &W,
     problem: &Problem,
 ) -> Result<Vec<u8>, JobFault>
+    requires { W.ready workers.now }
     ensures { ReturnsItems result (cover_output problem.now) }
 {
-    let report = search::<T, R, G>(alloc, workers, problem, true)?;
+    let report = workers.search(alloc, problem, true)?;
     Ok(report_text(alloc, &report)?)
 }
 

@@ -4,7 +4,6 @@ ghost use Rattle.polylab_engine.specs.Debugged.{debug_output};
 ghost use Rattle.cover_problem.specs.Answers.{ReturnsItems};
 
 use crate::fault::JobFault;
-use crate::workers::Workers;
 use cover_problem::{Problem, Table};
 use debug_script::replies;
 use lab_pool::Gate;
@@ -15,13 +14,14 @@ use std::thread::Threads;
 /// What commands over a problem are answered, from the start of its run on. A `pool` names its own
 /// number of workers.
 #[tactic(auto, unfolding(crate::specs::Debugged::debug_output))]
-pub fn debug<T: Table, R: Threads + Wait + Sync, G: Gate>(
+pub fn debug<T: Table + Send + Sync, R: Threads + Wait + Sync, G: Gate>(
+    rt: &R,
     alloc: Global,
-    workers: &Workers<'_, R, G>,
     problem: &Problem,
     commands: &[u8],
+    gate: &G,
 ) -> Result<Vec<u8>, JobFault>
     ensures { ReturnsItems result (debug_output (raw_lines commands.now) problem.now) }
 {
-    Ok(replies::<T, R, G>(workers.rt, alloc, problem, commands, workers.gate)?)
+    Ok(replies::<T, R, G>(rt, alloc, problem, commands, gate)?)
 }

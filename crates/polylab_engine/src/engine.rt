@@ -1,14 +1,24 @@
 //! From the input's bytes to the output's.
 ghost use Rattle.std.specs.Prelude.{◌≡◌};
+ghost use Rattle.std.specs.Thread.{IsSync};
 ghost use Rattle.byte_streams.specs.Stream.{Takes};
+ghost use Rattle.cover_problem.specs.Answers.{Returns, ReturnsItems};
+ghost use Rattle.debug_script.specs.Input.{raw_lines};
+ghost use Rattle.polylab_engine.specs.Debugged.{debug_output};
+ghost use Rattle.polylab_engine.specs.Output.{whole_report};
 ghost use Rattle.polylab_engine.specs.Ending.{EndsRun, IsTold, IsProgramRun, status_of};
 
 use crate::answer::{Answer, answer_to};
+use crate::debugging::debug;
 use crate::fault::{JobFault, pool_line};
 use crate::job::Job;
-use crate::workers::Workers;
+use crate::report::Report;
+use crate::search::search_together;
+use crate::tables::TableKind;
+use crate::workers::{Alone, Together, Workers};
 use byte_streams::{InputFault, Sink, Source, read_whole, write_whole};
 use cover_links::LinkTable;
+use cover_problem::Problem;
 use lab_pool::{Gate, PoolFault};
 use std::alloc::Global;
 use std::sync::Wait;
@@ -65,13 +75,14 @@ fn tell_ending<F: Sink>(faults: &mut F, ending: &Ending)
 }
 
 /// Reads the whole input, does the job, and writes the whole output.
-fn work<R: Threads + Wait + Sync, G: Gate, I: Source, O: Sink>(
+fn work<W: Workers, I: Source, O: Sink>(
     alloc: Global,
     job: Job,
-    workers: &Workers<'_, R, G>,
+    workers: &W,
     reader: &mut I,
     writer: &mut O,
 ) -> Ending
+    requires { W.ready workers.now }
     ensures { EndsRun I.stream O.stream job reader.old reader.new writer.old writer.new result }
 {
     let bytes = match read_whole(alloc, reader) {
@@ -79,7 +90,7 @@ fn work<R: Threads + Wait + Sync, G: Gate, I: Source, O: Sink>(
         Err(InputFault::OutOfMemory) => return Ending::OutOfMemory,
         Err(_) => return Ending::Unread,
     };
-    match answer_to::<LinkTable, R, G>(alloc, job, workers, bytes) {
+    match answer_to(alloc, job, workers, bytes) {
         Ok(Answer::Text(text)) => match write_whole(writer, &text) {
             Ok(()) => Ending::Written,
             Err(_) => Ending::Unwritten,
@@ -98,10 +109,45 @@ fn work<R: Threads + Wait + Sync, G: Gate, I: Source, O: Sink>(
 /// these are, or what the search of its snapshot comes to from there on. It is the same for every number of workers
 /// and every gate; a gate sees the acts of workers who share a search. At 3 and 4 nothing is written. `IsProgramRun` of
 /// `specs/Ending.antt` says all this, fact by fact.
-pub fn run<R: Threads + Wait + Sync, G: Gate, I: Source, O: Sink, F: Sink>(
+fn run<W: Workers, I: Source, O: Sink, F: Sink>(
+    alloc: Global,
+    job: Job,
+    workers: &W,
+    reader: &mut I,
+    writer: &mut O,
+    faults: &mut F,
+) -> u8
+    requires { W.ready workers.now }
+    ensures { IsProgramRun job (I.stream reader.old) (I.stream reader.new) (O.stream writer.old) (O.stream writer.new)
+        (F.stream faults.old) (F.stream faults.new) result }
+{
+    let ending = work(alloc, job, workers, reader, writer);
+    tell_ending(faults, &ending);
+    status(&ending)
+}
+
+/// A run by one worker, which returns. The table can be asked for; else the problem's shape chooses it.
+pub fn run_alone<I: Source, O: Sink, F: Sink>(
+    alloc: Global,
+    job: Job,
+    table: Option<TableKind>,
+    reader: &mut I,
+    writer: &mut O,
+    faults: &mut F,
+) -> u8
+    ensures { IsProgramRun job (I.stream reader.old) (I.stream reader.new) (O.stream writer.old) (O.stream writer.new)
+        (F.stream faults.old) (F.stream faults.new) result }
+{
+    run(alloc, job, &Alone { table }, reader, writer, faults)
+}
+
+/// A run by so many workers, 1 to 32, on the threads of a runtime, each seen by a gate.
+pub fn run_together<R: Threads + Wait + Sync, G: Gate, I: Source, O: Sink, F: Sink>(
     rt: &R,
     alloc: Global,
     job: Job,
+    table: Option<TableKind>,
+    count: u32,
     gate: &G,
     reader: &mut I,
     writer: &mut O,
@@ -110,12 +156,26 @@ pub fn run<R: Threads + Wait + Sync, G: Gate, I: Source, O: Sink, F: Sink>(
     ensures { IsProgramRun job (I.stream reader.old) (I.stream reader.new) (O.stream writer.old) (O.stream writer.new)
         (F.stream faults.old) (F.stream faults.new) result }
 {
-    let workers = Workers {
-        rt,
-        gate,
-        count: job.workers(),
-    };
-    let ending = work(alloc, job, &workers, reader, writer);
-    tell_ending(faults, &ending);
-    status(&ending)
+    let search = |alloc: Global, problem: &Problem, keeps: bool| -> Result<Report, JobFault>
+        requires threads { IsSync R.row }
+        requires gate { IsSync G.row }
+        ensures { Returns result (whole_report keeps problem.now) }
+    { search_together(rt, alloc, problem, table, count, gate, keeps) };
+    let replies = |alloc: Global, problem: &Problem, commands: &[u8]| -> Result<Vec<u8>, JobFault>
+        requires threads { IsSync R.row }
+        requires gate { IsSync G.row }
+        ensures { ReturnsItems result (debug_output (raw_lines commands.now) problem.now) }
+    { debug::<LinkTable, R, G>(rt, alloc, problem, commands, gate) };
+    run(
+        alloc,
+        job,
+        &Together {
+            table,
+            search,
+            replies,
+        },
+        reader,
+        writer,
+        faults,
+    )
 }

@@ -15,8 +15,10 @@ mod report;
 mod resuming;
 mod search;
 mod stretch;
+mod tables;
 mod tally;
 mod workers;
 
-pub use engine::run;
+pub use engine::{run_alone, run_together};
 pub use job::Job;
+pub use tables::TableKind;

@@ -9,26 +9,25 @@ ghost use Rattle.cover_problem.specs.Answers.{ReturnsItems, Adds};
 
 use crate::fault::JobFault;
 use crate::report::Report;
-use crate::search::search;
 use crate::workers::Workers;
-use cover_problem::{Lists, Table, write_cover};
-use lab_pool::Gate;
+use cover_problem::{Lists, write_cover};
 use poly_place::{Compiled, layers, packing_of};
 use std::alloc::{AllocError, Global};
-use std::sync::Wait;
-use std::thread::Threads;
 use text_lines::write_number_line;
 
 /// The packings of the puzzle in path order, each with its layers, and then their number.
 #[tactic(auto, unfolding(crate::specs::Packed::solve_output))]
-pub fn solve<T: Table, R: Threads + Wait + Sync, G: Gate>(
+pub fn solve<W: Workers>(
     alloc: Global,
-    workers: &Workers<'_, R, G>,
+    workers: &W,
     compiled: &Compiled<'_>,
 ) -> Result<Vec<u8>, JobFault>
+    requires { W.ready workers.now }
     ensures { ReturnsItems result (solve_output compiled.now) }
 {
-    let report = search::<T, R, G>(alloc, workers, compiled.problem(), true)?;
+    let problem = compiled.problem();
+    problem.is_sound();
+    let report = workers.search(alloc, problem, true)?;
     let mut text = Vec::new(alloc);
     push_packings(alloc, &mut text, compiled, report.visits())?;
     write_number_line(&mut text, "packings", report.visited())?;
@@ -37,14 +36,15 @@ pub fn solve<T: Table, R: Threads + Wait + Sync, G: Gate>(
 
 /// The number of packings and of options, and the steps and the levels of the search.
 #[tactic(auto, unfolding(crate::specs::Packed::count_output))]
-pub fn count<T: Table, R: Threads + Wait + Sync, G: Gate>(
+pub fn count<W: Workers>(
     alloc: Global,
-    workers: &Workers<'_, R, G>,
+    workers: &W,
     compiled: &Compiled<'_>,
 ) -> Result<Vec<u8>, JobFault>
+    requires { W.ready workers.now }
     ensures { ReturnsItems result (count_output compiled.now) }
 {
-    let report = search::<T, R, G>(alloc, workers, compiled.problem(), false)?;
+    let report = workers.search(alloc, compiled.problem(), false)?;
     Ok(count_text(alloc, compiled, &report)?)
 }
 

@@ -10,6 +10,9 @@ ghost use Rattle.cover_problem.specs.Answers.{Returns, ReturnsItems};
 use crate::cover::report_text;
 use crate::report::Report;
 use crate::stretch::search_on;
+use crate::tables::{TableKind, table_for};
+use cover_bits::BitTable;
+use cover_links::LinkTable;
 use cover_problem::Table;
 use std::alloc::{AllocError, Global};
 use x_snapshot::{Snapshot, SnapshotFault, write_snapshot};
@@ -18,8 +21,9 @@ use x_steps::{AtFault, Cursor, Label, Machine, State};
 /// What `resume` writes of a snapshot: the report of the stretch from its state on, with the visits or without them, up to the end of
 /// its branch, or as many steps on as are asked for, where that comes first; and then that it ended, or the snapshot there.
 #[tactic(auto, unfolding(crate::specs::Resumed::resume_output))]
-pub fn resume<T: Table>(
+pub fn resume(
     alloc: Global,
+    table: Option<TableKind>,
     most: Option<u64>,
     lists: bool,
     snapshot: &Snapshot,
@@ -27,7 +31,7 @@ pub fn resume<T: Table>(
     ensures { ReturnsItems result (resume_output most lists snapshot.now) }
 {
     snapshot.is_sound();
-    let (report, stop) = stretch_of::<T>(alloc, most, lists, snapshot)?;
+    let (report, stop) = stretch_of(alloc, table, most, lists, snapshot)?;
     let mut text = report_text(alloc, &report)?;
     let rest = rest_of(alloc, snapshot, stop)?;
     text.extend_from_slice(&rest)?;
@@ -64,7 +68,25 @@ fn machine_at<'p, T: Table>(
 }
 
 /// The report of the stretch from a snapshot's state on, and the state where it stops.
-fn stretch_of<T: Table>(
+fn stretch_of(
+    alloc: Global,
+    table: Option<TableKind>,
+    most: Option<u64>,
+    lists: bool,
+    snapshot: &Snapshot,
+) -> Result<(Report, State), AllocError>
+    ensures stop { IfOk result (λ r. state_value r.1 ≡ stop_of most snapshot.now) }
+    ensures report { IfOk result (λ r. r.0 ≡ report_up_to lists snapshot.now (state_value r.1)) }
+{
+    match table_for(snapshot.problem(), 1, table) {
+        Some(TableKind::Links) => stretch_by::<LinkTable>(alloc, most, lists, snapshot),
+        Some(TableKind::Bits) => stretch_by::<BitTable>(alloc, most, lists, snapshot),
+        None => Err(AllocError),
+    }
+}
+
+/// The same by this table.
+fn stretch_by<T: Table>(
     alloc: Global,
     most: Option<u64>,
     lists: bool,

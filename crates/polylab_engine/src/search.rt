@@ -1,12 +1,13 @@
 //! The whole run of a problem, and its report.
-ghost use Rattle.cover_problem.specs.Problem.{IsProblem};
 ghost use Rattle.polylab_engine.specs.Output.{whole_report};
 ghost use Rattle.cover_problem.specs.Answers.{Returns};
 
 use crate::fault::JobFault;
 use crate::report::Report;
 use crate::stretch::search_on;
-use crate::workers::Workers;
+use crate::tables::{TableKind, table_for};
+use cover_bits::BitTable;
+use cover_links::LinkTable;
 use cover_problem::{Problem, Table};
 use lab_pool::{Gate, run_pool};
 use std::alloc::{AllocError, Global};
@@ -14,30 +15,24 @@ use std::sync::Wait;
 use std::thread::Threads;
 use x_steps::Machine;
 
-/// Takes the run of the problem from X1 to Done, and reports it: the totals, and the visits in path order where they are kept. One
-/// worker searches by itself, and its memory doesn't grow with the run; more share a book.
-pub fn search<T: Table, R: Threads + Wait + Sync, G: Gate>(
+/// The report of one worker, who takes a machine through the run.
+pub fn search_alone(
     alloc: Global,
-    workers: &Workers<'_, R, G>,
     problem: &Problem,
+    table: Option<TableKind>,
     keeps: bool,
-) -> Result<Report, JobFault>
-    ensures report { Returns result (whole_report keeps problem.now) }
-    ensures problem { IsProblem problem.now }
+) -> Result<Report, AllocError>
+    ensures { Returns result (whole_report keeps problem.now) }
 {
-    problem.is_sound();
-    match workers.count {
-        1 => Ok(search_alone::<T>(alloc, problem, keeps)?),
-        _ => search_together(alloc, workers, problem, keeps),
+    match table_for(problem, 1, table) {
+        Some(TableKind::Links) => search_by::<LinkTable>(alloc, problem, keeps),
+        Some(TableKind::Bits) => search_by::<BitTable>(alloc, problem, keeps),
+        None => Err(AllocError),
     }
 }
 
-/// The report of one worker, who takes a machine through the run.
-fn search_alone<T: Table>(
-    alloc: Global,
-    problem: &Problem,
-    keeps: bool,
-) -> Result<Report, AllocError>
+/// The same by this table.
+fn search_by<T: Table>(alloc: Global, problem: &Problem, keeps: bool) -> Result<Report, AllocError>
     ensures { Returns result (whole_report keeps problem.now) }
 {
     let table = T::new(alloc, problem)?;
@@ -48,16 +43,39 @@ fn search_alone<T: Table>(
     Ok(report)
 }
 
-/// The report of workers who share a book of the run.
-fn search_together<R: Threads + Wait + Sync, G: Gate>(
+/// The report of so many workers, who share a book of the run.
+pub fn search_together<R: Threads + Wait + Sync, G: Gate>(
+    rt: &R,
     alloc: Global,
-    workers: &Workers<'_, R, G>,
     problem: &Problem,
+    table: Option<TableKind>,
+    count: u32,
+    gate: &G,
     keeps: bool,
 ) -> Result<Report, JobFault>
     ensures { Returns result (whole_report keeps problem.now) }
 {
-    match run_pool(workers.rt, alloc, problem, workers.count, workers.gate) {
+    match table_for(problem, count, table) {
+        Some(TableKind::Links) => share_by::<LinkTable, R, G>(
+            rt, alloc, problem, count, gate, keeps,
+        ),
+        Some(TableKind::Bits) => share_by::<BitTable, R, G>(rt, alloc, problem, count, gate, keeps),
+        None => Err(JobFault::OutOfMemory),
+    }
+}
+
+/// The same by tables of this kind.
+fn share_by<T: Table + Send + Sync, R: Threads + Wait + Sync, G: Gate>(
+    rt: &R,
+    alloc: Global,
+    problem: &Problem,
+    count: u32,
+    gate: &G,
+    keeps: bool,
+) -> Result<Report, JobFault>
+    ensures { Returns result (whole_report keeps problem.now) }
+{
+    match run_pool::<T, R, G>(rt, alloc, problem, count, gate) {
         Ok(book) => Ok(Report::of_book(alloc, &book, keeps)?),
         Err(refused) => Err(JobFault::Pool(refused.fault)),
     }

@@ -1,9 +1,99 @@
-//! Who searches.
+//! Who takes a run.
+ghost use Rattle.cover_problem.specs.Answers.{Returns, ReturnsItems};
+ghost use Rattle.debug_script.specs.Input.{raw_lines};
+ghost use Rattle.polylab_engine.specs.Debugged.{debug_output};
+ghost use Rattle.polylab_engine.specs.Output.{whole_report};
 
-/// So many workers, on the threads of a runtime, each seen by a gate.
+use crate::fault::JobFault;
+use crate::report::Report;
+use crate::search::search_alone;
+use crate::tables::TableKind;
+use cover_problem::Problem;
+use lab_pool::PoolFault;
+use std::alloc::{AllocError, Global};
+
+/// Who takes a problem's run, whole or by commands.
+pub trait Workers {
+    // They can be called, and what they answer is right.
+    ghost ready: { Self → Type 0 };
+
+    /// The table that was asked for, if one was.
+    fn table(&self) -> Option<TableKind>;
+
+    /// Takes the run of the problem from X1 to Done, and reports it: the totals, and the visits in path order where they are kept.
+    fn search(&self, alloc: Global, problem: &Problem, keeps: bool) -> Result<Report, JobFault>
+        requires { ready self.now }
+        ensures { Returns result (whole_report keeps problem.now) };
+
+    /// What commands over a problem are answered, from the start of its run on.
+    fn replies(
+        &self,
+        alloc: Global,
+        problem: &Problem,
+        commands: &[u8],
+    ) -> Result<Vec<u8>, JobFault>
+        requires { ready self.now }
+        ensures { ReturnsItems result (debug_output (raw_lines commands.now) problem.now) };
+}
+
+/// One worker, whose calls return: it takes a machine through the run, in memory that doesn't grow with the run. It has no threads
+/// for commands.
 #[derive(Drop)]
-pub struct Workers<'r, R, G> {
-    pub rt: &'r R,
-    pub gate: &'r G,
-    pub count: u32,
+pub struct Alone {
+    pub table: Option<TableKind>,
+}
+
+impl Workers for Alone {
+    ghost ready = { λ _. Unit {0} };
+
+    fn table(&self) -> Option<TableKind> {
+        self.table
+    }
+
+    fn search(&self, alloc: Global, problem: &Problem, keeps: bool) -> Result<Report, JobFault> {
+        Ok(search_alone(alloc, problem, self.table, keeps)?)
+    }
+
+    fn replies(
+        &self,
+        _alloc: Global,
+        _problem: &Problem,
+        _commands: &[u8],
+    ) -> Result<Vec<u8>, JobFault> {
+        Err(JobFault::Pool(PoolFault::NoThread))
+    }
+}
+
+/// Workers on threads, by what calls them: a closure may wait where the function that makes it may.
+#[derive(Drop)]
+pub struct Together<S, D> {
+    pub table: Option<TableKind>,
+    pub search: S,
+    pub replies: D,
+}
+
+impl<
+    S: Fn(Global, &Problem, bool) -> Result<Report, JobFault>,
+    D: Fn(Global, &Problem, &[u8]) -> Result<Vec<u8>, JobFault>,
+> Workers for Together<S, D> {
+    ghost ready = { λ w. S.IsAlwaysCallable w.search × D.IsAlwaysCallable w.replies
+        × ((a : _) (p : _) (k : _) (r : _) → S.post w.search a p k r → Returns r (whole_report k p.now))
+        × ((a : _) (p : _) (c : _) (r : _) → D.post w.replies a p c r → ReturnsItems r (debug_output (raw_lines c.now) p.now)) };
+
+    fn table(&self) -> Option<TableKind> {
+        self.table
+    }
+
+    fn search(&self, alloc: Global, problem: &Problem, keeps: bool) -> Result<Report, JobFault> {
+        (self.search)(alloc, problem, keeps)
+    }
+
+    fn replies(
+        &self,
+        alloc: Global,
+        problem: &Problem,
+        commands: &[u8],
+    ) -> Result<Vec<u8>, JobFault> {
+        (self.replies)(alloc, problem, commands)
+    }
 }

@@ -6,6 +6,6 @@ use Rattle.polylab_engine.proofs.ResumeLemmas.{stop_is_snapshot}
 use Rattle.polylab_engine.proofs.resuming.resume.Goals as goal
 
 pub rest_of-requires : goal.rest_of-requires
-rest_of-requires g c =
+rest_of-requires c =
     subst (λ (t : StateValue). IsSnapshot (at_state c.args.snapshot.now t)) (sym c.in_ok-report.ensures.stop)
     (stop_is_snapshot c.args.most c.args.snapshot.now c.is_sound.ensures.snapshot)

@@ -3,7 +3,7 @@ use Rattle.x_steps.specs.Steps.{Fits}
 use Rattle.x_steps.specs.Machine.{Position}
 use Rattle.polylab_engine.specs.Stretch.{end_at}
 use Rattle.polylab_engine.proofs.ResumeLemmas.{end_fits}
-use Rattle.polylab_engine.proofs.resuming.stretch_of.Goals as goal
+use Rattle.polylab_engine.proofs.resuming.stretch_by.Goals as goal
 
 pub search_on-requires-clause-end : goal.search_on-requires-clause-end
 search_on-requires-clause-end g c =

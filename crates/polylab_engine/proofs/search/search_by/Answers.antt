@@ -1,5 +1,5 @@
 use Rattle.polylab_engine.proofs.StopLemmas.{whole_not_past, whole_stretch}
-use Rattle.polylab_engine.proofs.search.search_alone.Goals as goal
+use Rattle.polylab_engine.proofs.search.search_by.Goals as goal
 
 pub search_on-requires-clause-not_past : goal.search_on-requires-clause-not_past
 search_on-requires-clause-not_past g c = whole_not_past c.args.keeps c.args.problem.now _ c.in-Ok.ensures.at_first

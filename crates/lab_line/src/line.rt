@@ -1,6 +1,7 @@
 //! The command line: which job the words ask for.
 
-ghost use Rattle.std.specs.Prelude.{◌≡◌, ◌≤◌, IfOk};
+ghost use Rattle.std.specs.Prelude.{◌≡◌, ◌≤◌, IfOk, IsTrue};
+ghost use Rattle.polylab_engine.specs.First.{is_first};
 ghost use Rattle.lab_line.specs.Line.{status_of};
 
 use clap::error::ErrorKind;
@@ -52,7 +53,8 @@ Exit statuses:
   4  there was not enough memory, or workers did not finish their search
   5  reading or writing failed";
 
-const COVER_USAGE: &str = "polylab cover [--workers N] [--table links|bits] < COVER-TEXT";
+const COVER_USAGE: &str =
+    "polylab cover [--workers N | --first N] [--table links|bits] < COVER-TEXT";
 
 const COVER: &str = "Lists the exact covers of a cover text.";
 
@@ -80,6 +82,9 @@ Each `visit` line is an exact cover, as option numbers from 1 in the order in
 which the search took them; then come the number of covers, the number of steps
 of Algorithm X, and how many paths of 0, 1, 2, .. choices it met.
 
+With --first N the search stops at the N-th cover, if there are so many: the
+first N are printed as above, and then the line `first N`. One worker finds them.
+
 With --workers N, N threads share the search; what is printed is the same.
 --table links takes dancing links and --table bits bit sets, where the shape of
 the problem chooses else; what is printed is the same. Bit sets of more than
@@ -88,7 +93,7 @@ the problem chooses else; what is printed is the same. Bit sets of more than
 Exit statuses: 0 done, 2 command line refused, 3 text refused, 4 no memory or
 workers not done, 5 reading or writing failed.";
 
-const SOLVE_USAGE: &str = "polylab solve [--workers N] [--table links|bits] < PUZZLE";
+const SOLVE_USAGE: &str = "polylab solve [--workers N | --first N] [--table links|bits] < PUZZLE";
 
 const SOLVE: &str = "Shows every packing of a puzzle, in layers of text.";
 
@@ -110,6 +115,10 @@ Example, saved as dominoes.puzzle:
 
 A packing has a line for each y, in it a block for each z, and in that a letter
 for each x: the piece there, `_` for an empty cell, `.` outside the region.
+
+With --first N the search stops at the N-th packing, if there are so many: the
+first N are shown as above, and then the line `first N`. One worker finds them,
+often at once where a whole search would take years.
 
 With --workers N, N threads share the search, and --table TABLE chooses how it
 keeps its options (see `cover --help`); what is printed is the same.
@@ -238,6 +247,14 @@ A refusal is one line on standard error: `refused snapshot 5 NotOnRun`.
 Exit statuses: 0 done, 2 command line refused, 3 text refused, 4 no memory,
 5 reading or writing failed.";
 
+const FIRST: &str = "Stop at the N-th, for a worker alone, 1 to 18446744073709551615";
+
+const FIRST_SHARED: &str = "\
+error: the argument '--first <N>' cannot be used with '--workers <N>' above 1: one worker finds the first
+
+For more information, try '--help'.
+";
+
 const STEPS: &str = "How many steps to take at most, 1 to 18446744073709551615";
 
 const LIST: &str = "Also lists the visits";
@@ -277,6 +294,15 @@ fn table<'a>(alloc: Global) -> Arg<'a> {
         .help(TABLE)
 }
 
+/// The option that says how many are asked for.
+fn first<'a>(alloc: Global) -> Arg<'a> {
+    Arg::new(alloc, "first")
+        .long("first")
+        .value_name("N")
+        .value_parser(value_parser!(u64).range(1..))
+        .help(FIRST)
+}
+
 /// The word that asks for classes.
 fn classes<'a>(alloc: Global) -> Arg<'a> {
     Arg::new(alloc, "classes")
@@ -314,9 +340,11 @@ fn list<'a>(alloc: Global) -> Arg<'a> {
 fn command<'a>(alloc: Global) -> Result<Command<'a>, AllocError> {
     let cover = job(alloc, "cover", COVER_USAGE, COVER, COVER_TEXT)
         .arg(workers(alloc))?
+        .arg(first(alloc))?
         .arg(table(alloc))?;
     let solve = job(alloc, "solve", SOLVE_USAGE, SOLVE, SOLVE_TEXT)
         .arg(workers(alloc))?
+        .arg(first(alloc))?
         .arg(table(alloc))?;
     let count = job(alloc, "count", COUNT_USAGE, COUNT, COUNT_TEXT)
         .arg(workers(alloc))?
@@ -383,7 +411,7 @@ fn request_in(matches: &ArgMatches<'_>) -> Request
 /// The job of this name that the words after it ask for.
 fn job_of(name: &str, words: &ArgMatches<'_>) -> Job {
     match name {
-        "solve" => Job::Solve,
+        "solve" => solving(words.get_one::<u64>("first")),
         "count" if words.get_flag("classes") => Job::Classes,
         "count" => Job::Count,
         "options" => Job::Options,
@@ -393,7 +421,37 @@ fn job_of(name: &str, words: &ArgMatches<'_>) -> Job {
             steps: words.get_one::<u64>("steps"),
             list: words.get_flag("list"),
         },
-        _ => Job::Cover,
+        _ => listing(words.get_one::<u64>("first")),
+    }
+}
+
+/// The job of all packings, or of the first ones, if a number is asked for.
+fn solving(first: Option<u64>) -> Job {
+    match first {
+        Some(first) => Job::FirstPackings(first),
+        None => Job::Solve,
+    }
+}
+
+/// The job of all exact covers, or of the first ones, if a number is asked for.
+fn listing(first: Option<u64>) -> Job {
+    match first {
+        Some(first) => Job::FirstCovers(first),
+        None => Job::Cover,
+    }
+}
+
+/// What is asked for, but for workers who would have to share the search for the first ones.
+fn allowed(alloc: Global, request: Request) -> Result<Request, LineFault>
+    ensures same { IfOk result (λ asked. asked ≡ request) }
+    ensures alone { IfOk result (λ asked. IsTrue (is_first asked.job) → asked.workers ≡ 1) }
+{
+    if request.workers == 1 || !request.job.is_first() {
+        return Ok(request);
+    }
+    match String::from_str(alloc, FIRST_SHARED) {
+        Ok(text) => Err(LineFault::Usage(text)),
+        Err(_) => Err(LineFault::OutOfMemory),
     }
 }
 
@@ -411,13 +469,14 @@ fn refused(alloc: Global, error: &Error) -> LineFault {
 
 /// Reads the words of a command line, without the program's name.
 pub fn parse_line(alloc: Global, words: &[&str]) -> Result<Request, LineFault>
-    ensures { IfOk result (λ asked. (1 ≤ asked.workers) × (asked.workers ≤ 32)) }
+    ensures workers { IfOk result (λ asked. (1 ≤ asked.workers) × (asked.workers ≤ 32)) }
+    ensures alone { IfOk result (λ asked. IsTrue (is_first asked.job) → asked.workers ≡ 1) }
 {
     let Ok(command) = command(alloc) else {
         return Err(LineFault::OutOfMemory);
     };
     match command.try_get_matches_from(words) {
-        Ok(matches) => Ok(request_in(&matches)),
+        Ok(matches) => allowed(alloc, request_in(&matches)),
         Err(error) => Err(refused(alloc, &error)),
     }
 }

@@ -77,6 +77,49 @@ fn covers_are_listed(rt: HostRuntime) {
     }
 }
 
+/// Texts, how many of their covers are asked for, and what is written.
+static FIRST: [(&str, u64, &str); 6] = [
+    (SMALL, 1, "visit 4 5 1\nfirst 1\n"),
+    (SMALL, 2, SMALL_OUTPUT),
+    ("items a", 1, "visits 0\nsteps 7\nlevels 1\n"),
+    ("items a\noption a\noption a\n", 1, "visit 1\nfirst 1\n"),
+    (
+        "items a\noption a\noption a\n",
+        2,
+        "visit 1\nvisit 2\nfirst 2\n",
+    ),
+    (
+        "items a\noption a\noption a\n",
+        u64::MAX,
+        "visit 1\nvisit 2\nvisits 2\nsteps 15\nlevels 1 2\n",
+    ),
+];
+
+#[test]
+fn the_first_covers_are_listed(rt: HostRuntime) {
+    for (text, first, output) in FIRST {
+        assert!(rt;
+            ends_so(
+                &rt,
+                rt.alloc(),
+                alone(Job::FirstCovers(first)),
+                text,
+                0,
+                output,
+                ""
+            ),
+            "for the first {first} of {text}"
+        );
+    }
+}
+
+#[test]
+fn the_first_covers_of_no_text_are_refused(rt: HostRuntime) {
+    let line = "refused cover 3 UnknownItem line 2\n";
+    let job = alone(Job::FirstCovers(1));
+    assert!(rt; ends_so(&rt, rt.alloc(), job, "items a\noption z", 3, "", line));
+}
+
 /// Texts that are refused, and the line of each refusal.
 static REFUSED: [(&str, &str); 8] = [
     (

@@ -41,10 +41,20 @@ fn words_end_with<R: Threads + Wait + Sync>(
 
 #[test]
 fn the_job_is_read(rt: HostRuntime) {
-    let rows: [(&[&str], Request); 18] = [
+    let rows: [(&[&str], Request); 22] = [
         (&["cover"], alone(Job::Cover)),
         (&["cover", "--workers", "2"], shared(Job::Cover, 2)),
+        (&["cover", "--first", "1"], alone(Job::FirstCovers(1))),
+        (
+            &["cover", "--workers=1", "--first=18446744073709551615"],
+            alone(Job::FirstCovers(u64::MAX)),
+        ),
         (&["solve"], alone(Job::Solve)),
+        (&["solve", "--first=3"], alone(Job::FirstPackings(3))),
+        (
+            &["solve", "--table", "bits", "--first", "2"],
+            by_table(alone(Job::FirstPackings(2)), TableKind::Bits),
+        ),
         (&["solve", "--workers=32"], shared(Job::Solve, 32)),
         (&["count"], alone(Job::Count)),
         (&["count", "--workers", "8"], shared(Job::Count, 8)),
@@ -122,8 +132,15 @@ fn help_is_given(rt: HostRuntime) {
 
 #[test]
 fn other_words_are_refused(rt: HostRuntime) {
-    let rows: [&[&str]; 27] = [
+    let rows: [&[&str]; 34] = [
         &[],
+        &["cover", "--first", "0"],
+        &["solve", "--first", "x"],
+        &["solve", "--first", "18446744073709551616"],
+        &["cover", "--first"],
+        &["cover", "--first", "1", "--workers", "2"],
+        &["solve", "--workers=32", "--first=1"],
+        &["count", "--first", "1"],
         &["covers"],
         &["cover", "--workers", "0"],
         &["solve", "--workers", "33"],

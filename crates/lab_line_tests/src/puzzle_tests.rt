@@ -70,6 +70,39 @@ fn packings_are_shown(rt: HostRuntime) {
 }
 
 #[test]
+fn the_first_packings_are_shown(rt: HostRuntime) {
+    let rows = [
+        (DOMINOES, 1, "packing 1\nAB\nAB\nfirst 1\n"),
+        (
+            DOMINOES,
+            4,
+            "packing 1\nAB\nAB\npacking 2\nAA\nBB\npacking 3\nBB\nAA\npacking 4\nBA\nBA\nfirst 4\n",
+        ),
+        (
+            DOMINOES,
+            5,
+            "packing 1\nAB\nAB\npacking 2\nAA\nBB\npacking 3\nBB\nAA\npacking 4\nBA\nBA\npackings 4\n",
+        ),
+        ("box 1 1 1\npiece A 000 100\n", 1, "packings 0\n"),
+        (OPTIONAL, 1, "packing 1\nAA_\nfirst 1\n"),
+    ];
+    for (text, first, written) in rows {
+        assert!(rt;
+            ends_so(
+                &rt,
+                rt.alloc(),
+                alone(Job::FirstPackings(first)),
+                text,
+                0,
+                written,
+                ""
+            ),
+            "for the first {first} of {text}"
+        );
+    }
+}
+
+#[test]
 fn packings_are_counted(rt: HostRuntime) {
     let rows = [
         (DOMINOES, "packings 4\noptions 8\nsteps 55\nlevels 1 4 4\n"),

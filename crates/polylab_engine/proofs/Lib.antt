@@ -1,6 +1,7 @@
 pub mod AccountLemmas
 pub mod StopLemmas
 mod SearchLemmas
+mod FirstLemmas
 pub mod ResumeLemmas
 mod ToldLemmas
 pub mod JoinedLemmas

@@ -1,6 +1,9 @@
 -- What is written lists the exact covers, or the packings.
-use Rattle.std.proofs.Common.{◌≡◌, ℕ, zero, suc, ◌<◌, arith, Bool, true, false, List, [], ◌∷◌, length, get_or, cond, Result, Ok, Err, refl, sym, ap, ◌∙◌, subst, inl, inr}
+use Rattle.std.proofs.Common.{◌≡◌, ℕ, zero, suc, ◌<◌, arith, Bool, true, false, List, [], ◌∷◌, length, take, get_or, cond, Result, Ok, Err, refl, sym, ap, ◌∙◌, subst, inl, inr}
+use Rattle.std.proofs.lemmas.Bool.{lt-ltb, le-ltb}
+use Rattle.std.proofs.lemmas.List.{take_all, length-take, get_or-take}
 use Rattle.cover_problem.specs.Lists.{has}
+use Rattle.cover_problem.specs.ExactCover.{IsExactCover}
 use Rattle.cover_problem.specs.Problem.{ProblemValue, IsProblem, is_small}
 use Rattle.cover_problem.specs.declared.fault.Fault.{Fault}
 use Rattle.cover_problem.specs.Reading.{problem_of}
@@ -29,12 +32,13 @@ use Rattle.polylab_engine.specs.declared.job.Job.TheVariants as jobs
 use Rattle.polylab_engine.specs.Account.{ReportValue, account_of}
 use Rattle.polylab_engine.specs.Output.{cover_output, whole_report}
 use Rattle.polylab_engine.proofs.ToldLemmas.{resumed, snapshot_read}
+use Rattle.polylab_engine.specs.First.{IsFirstReport, first_cover_output, first_packings_output}
 use Rattle.polylab_engine.specs.Packed.{solve_output, count_output, options_output}
 use Rattle.polylab_engine.specs.Classified.{packings_of, classes_of, classes_output}
 use Rattle.debug_script.specs.Input.{problem_text, command_lines}
 use Rattle.polylab_engine.specs.Debugged.{debug_output}
 use Rattle.polylab_engine.specs.Outcome.{outcome, covers_of, packed_of, place_refusal, puzzle_replies}
-use Rattle.polylab_engine.specs.Listing.{ListsCovers, ListsPackings, CountsPackings, CountsClasses, ArePackingPaths, AreExactCovers, IsListed}
+use Rattle.polylab_engine.specs.Listing.{ListsCovers, ListsPackings, ListsFirstCovers, ListsFirstPackings, CountsPackings, CountsClasses, ArePackingPaths, AreExactCovers, IsListed}
 
 -- ---- covers
 
@@ -48,6 +52,19 @@ lists p sound = record {
   lines = refl;
   rise = visits_rise p;
   covers = visits_are_covers p sound;
+}
+
+-- with --first it lists the first of them
+lists_first : (n : ℕ) (p : ProblemValue) → IsProblem p → ListsFirstCovers n p (first_cover_output n p)
+unfolding first_cover_output account_of visits_between
+lists_first n p sound = record {
+  paths = visits_between p start done;
+  steps = (whole_report true p).steps;
+  levels = (whole_report true p).levels;
+  rise = visits_rise p;
+  covers = visits_are_covers p sound;
+  few = λ l. let b = lt-ltb (length (visits_between p start done)) n l in rw (b, take_all n (visits_between p start done) (omega (arith, l))) refl;
+  first = λ l. let b = le-ltb (length (visits_between p start done)) n l in rw b refl;
 }
 
 -- what is written of a problem that was read
@@ -69,6 +86,19 @@ visits_covers p sound k lt = (visits_are_covers p sound).sound (get_or (visits_b
 -- the same, of the visits that a report of a puzzle's problem keeps
 pub report_covers : (p : PuzzleValue) (q : ProblemValue) (r : ReportValue) (visits : List (List ℕ)) → q ≡ packing_problem p → IsProblem q → r ≡ whole_report true q → visits ≡ r.visits → AreExactCovers (packing_problem p) visits
 report_covers p q r visits e sound report kept = subst (λ vs. AreExactCovers (packing_problem p) vs) (sym (kept ∙ ap (λ b. b.visits) (report ∙ ap (whole_report true) e))) (visits_covers (packing_problem p) (subst IsProblem e sound))
+
+-- the first ones of exact covers are exact covers
+covers_taken : (p : ProblemValue) (n : ℕ) (paths : List (List ℕ)) → AreExactCovers p paths → AreExactCovers p (take n paths)
+covers_taken p n paths all k lt =
+    let within : k < n = (let l = length-take n paths in omega arith) in
+    let there : k < length paths = (let l = length-take n paths in omega arith) in
+    subst (λ path. IsExactCover p (has path)) (sym (get_or-take n paths k [] within)) (all k there)
+
+-- the same, of the first visits of a puzzle's problem
+pub first_report_covers : (n : ℕ) (p : PuzzleValue) (q : ProblemValue) (r : ReportValue) (visits : List (List ℕ)) → q ≡ packing_problem p → IsProblem q → IsFirstReport n q r → visits ≡ r.visits → AreExactCovers (packing_problem p) visits
+first_report_covers n p q r visits e sound first kept =
+    subst (λ vs. AreExactCovers (packing_problem p) vs) (sym (kept ∙ first.visits ∙ ap (λ t. take n (whole_report true t).visits) e))
+    (covers_taken (packing_problem p) n (whole_report true (packing_problem p)).visits (visits_covers (packing_problem p) (subst IsProblem e sound)))
 
 -- ---- packings
 
@@ -112,6 +142,16 @@ shows p z small = record {
   lines = refl;
   rise = visits_rise (packing_problem p);
   packings = packing_paths p z small;
+}
+
+shows_first : (n : ℕ) (p : PuzzleValue) → IsPuzzle p → is_small (packing_problem p) ≡ true → ListsFirstPackings n p (first_packings_output n p)
+unfolding first_packings_output account_of visits_between
+shows_first n p z small = record {
+  paths = visits_between (packing_problem p) start done;
+  rise = visits_rise (packing_problem p);
+  packings = packing_paths p z small;
+  few = λ l. let b = lt-ltb (length (visits_between (packing_problem p) start done)) n l in rw (b, take_all n (visits_between (packing_problem p) start done) (omega (arith, l))) refl;
+  first = λ l. let b = le-ltb (length (visits_between (packing_problem p) start done)) n l in rw b refl;
 }
 
 counts : (p : PuzzleValue) → IsPuzzle p → is_small (packing_problem p) ≡ true → CountsPackings p (count_output p)
@@ -167,6 +207,8 @@ pub outcome_lists : (job : Job) (input text : List ℕ) → outcome job input �
 unfolding outcome
 outcome_lists jobs.Cover input text e = listed ListsCovers cover_output lists (problem_of input) text (problem_read input) e
 outcome_lists jobs.Solve input text e = packed ListsPackings solve_output shows (puzzle_of input) text (puzzle_read input) e
+outcome_lists (jobs.FirstCovers n) input text e = listed (ListsFirstCovers n) (first_cover_output n) (lists_first n) (problem_of input) text (problem_read input) e
+outcome_lists (jobs.FirstPackings n) input text e = packed (ListsFirstPackings n) (first_packings_output n) (shows_first n) (puzzle_of input) text (puzzle_read input) e
 outcome_lists jobs.Count input text e = packed CountsPackings count_output counts (puzzle_of input) text (puzzle_read input) e
 outcome_lists jobs.Classes input text e = packed CountsClasses classes_output classified (puzzle_of input) text (puzzle_read input) e
 outcome_lists jobs.Options input text e = packed (λ p t. t ≡ written (packing_problem p)) options_output (λ p z s. options_are p) (puzzle_of input) text (puzzle_read input) e

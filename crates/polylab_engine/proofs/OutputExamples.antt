@@ -1,4 +1,4 @@
--- The examples of specs/Output.antt, specs/Outcome.antt, specs/Resumed.antt and specs/Joined.antt, computed.
+-- The examples of specs/Output.antt, specs/First.antt, specs/Outcome.antt, specs/Resumed.antt and specs/Joined.antt, computed.
 use Rattle.std.proofs.Common.{◌≡◌, ℕ, zero, suc, ◌<◌, ◌≤◌, inl, inr, Bool, true, false, ◌&&◌, [], ◌∷◌, ◌++◌, map, Err, codes, refl, sym, ap, ◌∙◌, arith}
 use Rattle.std.proofs.Math.Nat.{eq-or-lt_of_le}
 use Rattle.std.specs.Fmt.{digits}
@@ -16,6 +16,7 @@ use Rattle.x_steps.proofs.RunLemmas.{start_fits, steps_between_is}
 use Rattle.cover_problem.specs.declared.fault.Fault.TheVariants.{UnknownItem}
 use Rattle.polylab_engine.specs.Account.{account_of, report_of}
 use Rattle.polylab_engine.specs.Outcome.{covers_of}
+use Rattle.polylab_engine.specs.First.{first_text, first_cover_output}
 use Rattle.polylab_engine.specs.Output.{cover_output, report_text}
 use Rattle.x_steps.specs.Levels.{without_last_zeros}
 use Rattle.polylab_engine.specs.Joined.{levels_added}
@@ -64,6 +65,19 @@ small_report = refl
 small_output : cover_output small ≡ codes "visit 4 5 1" ++ 10 ∷ codes "visits 1" ++ 10 ∷ codes "steps 43" ++ 10 ∷ codes "levels 1 2 2 1" ++ 10 ∷ []
 unfolding cover_output
 small_output = rw (steps_between_is small start done 43 (start_fits small) reaches_done) small_report
+
+-- with --first 1 its one visit, and that the search stopped there; with --first 2 the same as without
+first_report : first_text 1 (report_of (account_of true small (states small 43 start))) ≡ codes "visit 4 5 1" ++ 10 ∷ codes "first 1" ++ 10 ∷ []
+unfolding account_of without_last_zeros digits next covered_by taken choice active remaining
+first_report = refl
+
+small_first : first_cover_output 1 small ≡ codes "visit 4 5 1" ++ 10 ∷ codes "first 1" ++ 10 ∷ []
+unfolding first_cover_output
+small_first = rw (steps_between_is small start done 43 (start_fits small) reaches_done) first_report
+
+first_two : first_text 2 (report_of (account_of true small (states small 43 start))) ≡ report_text (report_of (account_of true small (states small 43 start)))
+unfolding account_of without_last_zeros digits next covered_by taken choice active remaining
+first_two = refl
 
 -- `option z` on line 2, where no item has that name
 unknown_refused : covers_of cover_output (Err (UnknownItem, 2)) ≡ Err (codes "refused cover 3 UnknownItem line 2" ++ 10 ∷ [])

@@ -150,7 +150,7 @@ module _ (keeps : Bool) (p : ProblemValue) (from : StateValue) (end : List ℕ) 
   here : ReachesIn p m.state new.state n
   here = subst (λ q. ReachesIn q m.state new.state n) s.same walk.reaches
 
-  new_fits : Fits p new.state
+  pub new_fits : Fits p new.state
   new_fits = reached_fits p m.state new.state n s.fits here
 
   up : rank p m.state ≤ rank p new.state
@@ -208,9 +208,9 @@ module _ (keeps : Bool) (p : ProblemValue) (from : StateValue) (end : List ℕ) 
         ∙ ap (λ t. account_of keeps p (states_between p from t)) (sym stays)
 
     -- and the machine stands where the stretch stops
-    pub searches_stop : (pace : ℕ) → (pace ≡ 0 → (room ≡ 0) ⊎ (left ≡ Some 0)) → 0 < room → (pace ≡ 0) ⊎ (IsAtCut new.state end ⊎ (new.state.label ≡ Done))
+    pub searches_stop : 0 < room → ((room ≡ 0) ⊎ (left ≡ Some 0)) ⊎ (IsAtCut new.state end ⊎ (new.state.label ≡ Done))
         → new.state ≡ after p (steps_taken most (steps_between p from (end_at end))) from
-    searches_stop pace kept some stops =
+    searches_stop some stops =
         stays ∙ sym (leads_to p from m.state s.from_fits s.fits s.begun).ends ∙ ap (λ k. after p k from) (as_many stops)
       where
         at_end : new.state ≡ end_at end → steps_between p from m.state ≡ steps_taken most (steps_between p from (end_at end))
@@ -232,8 +232,8 @@ module _ (keeps : Bool) (p : ProblemValue) (from : StateValue) (end : List ℕ) 
             let high : rank p new.state ≡ rank p done = ap (rank p) last in
             rank_once p new.state (end_at end) new_fits s.end_fits (omega arith)
 
-        as_many : (pace ≡ 0) ⊎ (IsAtCut new.state end ⊎ (new.state.label ≡ Done)) → steps_between p from m.state ≡ steps_taken most (steps_between p from (end_at end))
-        as_many (inl z) = used_up (kept z)
+        as_many : ((room ≡ 0) ⊎ (left ≡ Some 0)) ⊎ (IsAtCut new.state end ⊎ (new.state.label ≡ Done)) → steps_between p from m.state ≡ steps_taken most (steps_between p from (end_at end))
+        as_many (inl z) = used_up z
         as_many (inr (inl c)) = at_end (cut_ends p end new.state c)
         as_many (inr (inr d)) = at_end (over d)
 

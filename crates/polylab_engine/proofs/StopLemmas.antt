@@ -1,7 +1,7 @@
 -- Where a stretch stops: how many of the steps that are asked for are left, and the end of a branch by its choices.
 use Rattle.std.proofs.Common.{◌≡◌, ℕ, ◌+◌, ◌-◌, ◌<◌, ◌≤◌, ◌⊎◌, Bool, Option, Some, List, [], ◌∷◌, ◌++◌, option_map, refl, sym, ap, ◌∙◌, inl, inr, arith, le_refl, subst}
 use Rattle.std.specs.Prelude as prelude
-use Rattle.std.specs.Prelude.{IfSome}
+use Rattle.std.specs.Prelude.{IfSome, IsSomeAnd, true, false, if◌then◌else◌}
 use Rattle.std.specs.Option.{ForSome}
 use Rattle.std.proofs.lemmas.Bool.{cases_lt, cases_order, lt-ltb, le-ltb}
 use Rattle.cover_problem.specs.Problem.{ProblemValue}
@@ -12,7 +12,8 @@ use Rattle.x_steps.specs.Steps.{Fits}
 use Rattle.x_steps.specs.Run.{after, steps_between, ReachesIn}
 use Rattle.x_steps.specs.Rank.{rank}
 use Rattle.x_steps.specs.Machine.{Position}
-use Rattle.x_steps.specs.Walk.{IsAtCut}
+use Rattle.x_steps.specs.declared.event.Event.{Event}
+use Rattle.x_steps.specs.Walk.{IsAtCut, is_visited}
 use Rattle.x_steps.proofs.Neighbours.{split_last_cases}
 use Rattle.x_steps.proofs.RunLemmas.{done_fits, start_first, leads_to, rises_between, run_leads}
 use Rattle.x_branches.specs.Cut.{cut_state}
@@ -20,7 +21,7 @@ use Rattle.x_branches.specs.RunOrder.{ComesBefore}
 use Rattle.x_branches.proofs.CutLemmas.{cut_is}
 use Rattle.x_branches.proofs.RunnerLemmas.{before_not}
 use Rattle.x_branches.proofs.WalkedLemmas.{end_is_cut}
-use Rattle.polylab_engine.specs.Account.{ReportValue}
+use Rattle.polylab_engine.specs.Account.{ReportValue, visits_with}
 use Rattle.polylab_engine.specs.Output.{whole_report}
 use Rattle.polylab_engine.specs.Stretch.{end_at, steps_taken, stretch_report}
 
@@ -83,6 +84,49 @@ taken_or (Some most) ahead = step (cases_lt most ahead)
     step : (most < ahead) ⊎ (ahead ≤ most) → (steps_taken (Some most) ahead ≡ ahead) ⊎ (Some most ≡ Some (steps_taken (Some most) ahead))
     step (inl l) = let b = lt-ltb most ahead l in inr (rw b refl)
     step (inr l) = let b = le-ltb most ahead l in inl (rw b refl)
+
+-- ---- the visits that are asked for
+
+-- a walk took no step since all visits are there, or since it was to take none, or where it stands at the end
+pub why_none : {pace : ℕ} {Full None End : Type 0} → (pace ≡ 0 → Full ⊎ None) → (pace ≡ 0) ⊎ End → Full ⊎ (None ⊎ End)
+why_none kept (inl z) = by (kept z)
+  where
+    by : _ → _
+    by (inl f) = inl f
+    by (inr n) = inr (inl n)
+why_none kept (inr e) = inr (inr e)
+
+-- what follows from one of two stands in one of two
+pub either : {A B C D : Type 0} → A ⊎ B → (A → C) → (B → D) → C ⊎ D
+either (inl a) f g = inl (f a)
+either (inr b) f g = inr (g b)
+
+-- where there are as many as are asked for, and no more
+pub full_is : (first : Option ℕ) (v : ℕ) → IsSomeAnd first (λ n. n ≤ v) → ForSome first (λ n. v ≤ n) → first ≡ Some v
+full_is prelude.None v full most = absurd full
+full_is (Some n) v full most = let low : n ≤ v = full in let high : v ≤ n = most n refl in let same : n ≡ v = omega arith in ap Some same
+
+-- where there are not, one more is within
+pub not_full : (first : Option ℕ) (v more : ℕ) → (IsSomeAnd first (λ n. n ≤ v) → ⊥) → more ≤ v + 1 → ForSome first (λ n. more ≤ n)
+not_full prelude.None v more less one = λ n e. absurd (cc)
+not_full (Some m) v more less one = λ n e. step n e (cases_lt v m)
+  where
+    step : (n : ℕ) → Some m ≡ Some n → (v < m) ⊎ (m ≤ v) → more ≤ n
+    step n e (inl l) = let same : m ≡ n = cc in omega arith
+    step n e (inr l) = absurd (less l)
+
+-- where no number is asked for, no visit stops the stretch
+pub not_stopped : {P : Type 0} (v : ℕ) → (prelude.None ≡ Some v) ⊎ P → P
+not_stopped v (inl e) = absurd (cc)
+not_stopped v (inr h) = h
+
+-- a walk comes to one visit at most
+pub visits_within : (v : ℕ) (event : Event) → visits_with v event ≤ v + 1
+visits_within v event = by (is_visited event)
+  where
+    by : (b : Bool) → (if b then v + 1 else v) ≤ v + 1
+    by true = omega arith
+    by false = omega arith
 
 -- ---- the end of a branch, by its choices
 

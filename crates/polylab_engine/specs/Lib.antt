@@ -10,3 +10,4 @@ pub mod Outcome
 pub mod Listing
 pub mod Ending
 pub mod Tables
+pub mod First

@@ -1,10 +1,10 @@
 -- What the output lists: of `cover` the exact covers of the problem (`ListsCovers`), of `solve` the packings of the puzzle (`ListsPackings`), each
--- once, in path order; what `count` and its classes tell (`CountsPackings`, `CountsClasses`), and what `resume` does (`TellsStretch`); and the
--- same by the job (`IsListed`).
+-- once, in path order; of both with `--first` the first of these (`ListsFirstCovers`, `ListsFirstPackings`); what `count` and its classes tell
+-- (`CountsPackings`, `CountsClasses`), and what `resume` does (`TellsStretch`); and the same by the job (`IsListed`).
 --
 -- Example: the path 4 5 1 is an exact cover of the small problem: its options a d f, b g and c e have each item once.
 -- proofs/JobExamples.antt shows it.
-use Rattle.std.specs.Prelude.{ℕ, ◌≡◌, ◌⊎◌, Bool, Option, Some, List, [], ◌++◌, length, map, slice_index_or, EachIndex, Ok}
+use Rattle.std.specs.Prelude.{ℕ, ◌≡◌, ◌<◌, ◌≤◌, ◌⊎◌, Bool, Option, Some, List, [], ◌++◌, length, map, take, slice_index_or, EachIndex, Ok}
 use Rattle.text_lines.specs.Writing.{line_text, text_of}
 use Rattle.cover_problem.specs.Lists.{has}
 use Rattle.cover_problem.specs.Problem.{ProblemValue}
@@ -33,6 +33,7 @@ use Rattle.polylab_engine.specs.declared.job.Job.TheVariants as jobs
 use Rattle.x_texts.specs.Words.{visit_words}
 use Rattle.polylab_engine.specs.Output.{total_lines}
 use Rattle.polylab_engine.specs.Packed.{packings_from, number_line, count_lines}
+use Rattle.polylab_engine.specs.First.{first_line}
 use Rattle.polylab_engine.specs.Classified.{packings_of, class_lines}
 use Rattle.debug_script.specs.Input.{problem_text, command_lines}
 use Rattle.polylab_engine.specs.Debugged.{debug_output}
@@ -65,6 +66,24 @@ pub record ListsPackings (p : PuzzleValue) (text : List ℕ) : Type 0 where
   pub lines : text ≡ packings_from p 1 paths ++ line_text (number_line (length paths))
   pub rise : PathsRise paths
   pub packings : ArePackingPaths p paths
+
+-- the text lists the first n of the exact covers, each once, in path order, and that the search stopped there; or all, and their number
+pub record ListsFirstCovers (n : ℕ) (p : ProblemValue) (text : List ℕ) : Type 0 where
+  pub paths : List (List ℕ)
+  pub steps : ℕ
+  pub levels : List ℕ
+  pub rise : PathsRise paths
+  pub covers : AreCovers p paths
+  pub few : length paths < n → text ≡ text_of (map visit_words paths) ++ text_of (total_lines (length paths) steps levels)
+  pub first : n ≤ length paths → text ≡ text_of (map visit_words (take n paths)) ++ line_text (first_line n)
+
+-- the text shows the first n of the packings, each once, in path order, and that the search stopped there; or all, and their number
+pub record ListsFirstPackings (n : ℕ) (p : PuzzleValue) (text : List ℕ) : Type 0 where
+  pub paths : List (List ℕ)
+  pub rise : PathsRise paths
+  pub packings : ArePackingPaths p paths
+  pub few : length paths < n → text ≡ packings_from p 1 paths ++ line_text (number_line (length paths))
+  pub first : n ≤ length paths → text ≡ packings_from p 1 (take n paths) ++ line_text (first_line n)
 
 -- the text tells how many packings there are, how many options, and the steps and levels of the search
 pub record CountsPackings (p : PuzzleValue) (text : List ℕ) : Type 0 where
@@ -108,6 +127,8 @@ pub record TellsStretch (most : Option ℕ) (lists : Bool) (v : SnapshotValue) (
 -- what is written is what the job is to tell of the input's problem, puzzle or snapshot, or what the input's commands are answered
 abbrev pub IsListed : Job → List ℕ → List ℕ → Type 0
 IsListed jobs.Cover input text = (p : ProblemValue) × (problem_of input ≡ Ok p) × ListsCovers p text
+IsListed (jobs.FirstCovers n) input text = (p : ProblemValue) × (problem_of input ≡ Ok p) × ListsFirstCovers n p text
+IsListed (jobs.FirstPackings n) input text = (p : PuzzleValue) × (puzzle_of input ≡ Ok p) × ListsFirstPackings n p text
 IsListed jobs.Solve input text = (p : PuzzleValue) × (puzzle_of input ≡ Ok p) × ListsPackings p text
 IsListed jobs.Count input text = (p : PuzzleValue) × (puzzle_of input ≡ Ok p) × CountsPackings p text
 IsListed jobs.Classes input text = (p : PuzzleValue) × (puzzle_of input ≡ Ok p) × CountsClasses p text

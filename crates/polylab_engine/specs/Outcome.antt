@@ -23,6 +23,7 @@ use Rattle.poly_place.specs.Packings.{packing_problem}
 use Rattle.lab_pool.specs.declared.fault.PoolFault.{PoolFault}
 use Rattle.lab_pool.specs.Faults as pool_faults
 use Rattle.polylab_engine.specs.Output.{cover_output}
+use Rattle.polylab_engine.specs.First.{first_cover_output, first_packings_output}
 use Rattle.polylab_engine.specs.Packed.{solve_output, count_output, options_output}
 use Rattle.polylab_engine.specs.Classified.{classes_output}
 use Rattle.debug_script.specs.Input.{problem_text, command_lines}
@@ -80,11 +81,13 @@ puzzle_replies lines p = debug_output lines (packing_problem p)
 -- what a job writes of a problem; the debugger answers these command lines
 abbrev pub listing_of : CoverJob → List (List ℕ) → ProblemValue → List ℕ
 listing_of cover_jobs.List lines = cover_output
+listing_of (cover_jobs.First n) lines = first_cover_output n
 listing_of cover_jobs.Debug lines = debug_output lines
 
 -- what a job writes of a puzzle
 abbrev pub output_of : PuzzleJob → List (List ℕ) → PuzzleValue → List ℕ
 output_of puzzle_jobs.Solve lines = solve_output
+output_of (puzzle_jobs.First n) lines = first_packings_output n
 output_of puzzle_jobs.Count lines = count_output
 output_of puzzle_jobs.Classes lines = classes_output
 output_of puzzle_jobs.Options lines = options_output
@@ -101,7 +104,9 @@ puzzle_answer job commands read = packed_of (output_of job (raw_lines commands))
 -- what a job writes for an input, or the line that refuses it
 unfoldable pub outcome : Job → List ℕ → Result (List ℕ) (List ℕ)
 outcome jobs.Cover text = covers_of cover_output (problem_of text)
+outcome (jobs.FirstCovers n) text = covers_of (first_cover_output n) (problem_of text)
 outcome jobs.Solve text = packed_of solve_output (puzzle_of text)
+outcome (jobs.FirstPackings n) text = packed_of (first_packings_output n) (puzzle_of text)
 outcome jobs.Count text = packed_of count_output (puzzle_of text)
 outcome jobs.Classes text = packed_of classes_output (puzzle_of text)
 outcome jobs.Options text = packed_of options_output (puzzle_of text)

@@ -13,10 +13,10 @@ ghost use Rattle.cover_problem.specs.Answers.{ReturnsItems};
 ghost use Rattle.x_snapshot.specs.Refusals.{TellsFault};
 
 use crate::classes::count_classes;
-use crate::cover::covers;
+use crate::cover::{covers, first_covers};
 use crate::fault::JobFault;
 use crate::job::Job;
-use crate::packed::{count, options, solve};
+use crate::packed::{count, first_packings, options, solve};
 use crate::resuming::resume;
 use crate::tables::TableKind;
 use crate::workers::Workers;
@@ -56,7 +56,17 @@ pub fn answer_to<W: Workers>(
             problem_in(alloc, input),
             &[],
         ),
+        Job::FirstCovers(first) => cover_answer::<W>(
+            alloc,
+            workers,
+            CoverJob::First(first),
+            problem_in(alloc, input),
+            &[],
+        ),
         Job::Solve => plain_puzzle::<W>(alloc, workers, PuzzleJob::Solve, input),
+        Job::FirstPackings(first) => {
+            plain_puzzle::<W>(alloc, workers, PuzzleJob::First(first), input)
+        }
         Job::Count => plain_puzzle::<W>(alloc, workers, PuzzleJob::Count, input),
         Job::Classes => plain_puzzle::<W>(alloc, workers, PuzzleJob::Classes, input),
         Job::Options => plain_puzzle::<W>(alloc, workers, PuzzleJob::Options, input),
@@ -130,6 +140,7 @@ fn resume_answer(
 #[derive(Clone, Copy)]
 pub enum CoverJob {
     List,
+    First(u64),
     Debug,
 }
 
@@ -167,6 +178,7 @@ fn cover_text<W: Workers>(
 {
     match job {
         CoverJob::List => covers::<W>(alloc, workers, problem),
+        CoverJob::First(first) => Ok(first_covers(alloc, problem, workers.table(), first)?),
         CoverJob::Debug => workers.replies(alloc, problem, commands),
     }
 }
@@ -188,6 +200,7 @@ fn plain_puzzle<W: Workers>(
 #[derive(Clone, Copy)]
 pub enum PuzzleJob {
     Solve,
+    First(u64),
     Count,
     Classes,
     Options,
@@ -251,6 +264,7 @@ fn packed_text<W: Workers>(
 {
     match job {
         PuzzleJob::Solve => solve::<W>(alloc, workers, compiled),
+        PuzzleJob::First(first) => { Ok(first_packings(alloc, compiled, workers.table(), first)?) }
         PuzzleJob::Count => count::<W>(alloc, workers, compiled),
         PuzzleJob::Classes => count_classes::<W>(alloc, workers, compiled),
         PuzzleJob::Options => Ok(options(alloc, compiled)?),

@@ -1,9 +1,13 @@
-//! What `cover` writes.
+//! What `cover` writes, with `--first` and without it.
+ghost use Rattle.polylab_engine.specs.First.{cover_end, first_cover_output};
 ghost use Rattle.polylab_engine.specs.Output.{cover_output, report_text};
+ghost use Rattle.x_texts.specs.Writes.{AddsLines};
 ghost use Rattle.cover_problem.specs.Answers.{ReturnsItems};
 
 use crate::fault::JobFault;
 use crate::report::Report;
+use crate::search::search_first;
+use crate::tables::TableKind;
 use crate::workers::Workers;
 use cover_problem::Problem;
 use std::alloc::{AllocError, Global};
@@ -30,7 +34,34 @@ pub fn report_text(alloc: Global, report: &Report) -> Result<Vec<u8>, AllocError
 {
     let mut text = Vec::new(alloc);
     write_visits(&mut text, report.visits())?;
-    write_number_line(&mut text, "visits", report.visited())?;
-    report.push_steps(&mut text)?;
+    report.push_totals(&mut text)?;
     Ok(text)
+}
+
+/// The first exact covers of the problem in path order, and the line `first N` where the search stopped there; or what `covers` writes,
+/// where there are fewer.
+pub fn first_covers(
+    alloc: Global,
+    problem: &Problem,
+    table: Option<TableKind>,
+    first: u64,
+) -> Result<Vec<u8>, AllocError>
+    ensures { ReturnsItems result (first_cover_output first problem.now) }
+{
+    let report = search_first(alloc, problem, table, first)?;
+    let mut text = Vec::new(alloc);
+    write_visits(&mut text, report.visits())?;
+    push_end(&mut text, &report, first)?;
+    Ok(text)
+}
+
+/// Adds the totals of a report that has fewer visits than were asked for, or else the line that tells how many these are.
+fn push_end(text: &mut Vec<u8>, report: &Report, first: u64) -> Result<(), AllocError>
+    ensures { AddsLines result text.old text.new (cover_end first report.now) }
+{
+    if report.visited() < u128::from(first) {
+        report.push_totals(text)
+    } else {
+        write_number_line(text, "first", u128::from(first))
+    }
 }

@@ -1,12 +1,18 @@
 //! The jobs.
+ghost use Rattle.std.specs.Prelude.{◌≡◌};
+ghost use Rattle.polylab_engine.specs.First.{is_first};
 
 /// What the program is asked to do.
 #[derive(Clone, Copy, Debug, PartialEq, Eq)]
 pub enum Job {
     /// List the exact covers of a cover text.
     Cover,
+    /// List the first exact covers of a cover text in path order, so many of them.
+    FirstCovers(u64),
     /// Show the packings of a puzzle.
     Solve,
+    /// Show the first packings of a puzzle in path order, so many of them.
+    FirstPackings(u64),
     /// Count the packings of a puzzle.
     Count,
     /// Count the packings of a puzzle, and how many are different where symmetries carry some onto others.
@@ -22,6 +28,13 @@ pub enum Job {
 }
 
 impl Job {
+    /// Whether it stops at the first ones, which one worker finds.
+    pub fn is_first(self) -> bool
+        ensures { result ≡ is_first self }
+    {
+        matches!(self, Job::FirstCovers(_) | Job::FirstPackings(_))
+    }
+
     /// Whether it answers commands, which follow the input's text.
     pub fn takes_commands(self) -> bool {
         matches!(self, Job::DebugPuzzle | Job::DebugCover)

@@ -4,11 +4,15 @@ ghost use Rattle.cover_problem.specs.Lists.{has};
 ghost use Rattle.cover_problem.specs.ExactCover.{IsExactCover};
 ghost use Rattle.poly_place.specs.Packings.{packing_problem};
 ghost use Rattle.polylab_engine.specs.Packed.{solve_output, count_output, count_text, options_output, packing_text, packings_from};
+ghost use Rattle.polylab_engine.specs.First.{packings_end, first_packings_output};
 ghost use Rattle.polylab_engine.specs.Listing.{AreExactCovers};
+ghost use Rattle.text_lines.specs.Writing.{line_text};
 ghost use Rattle.cover_problem.specs.Answers.{ReturnsItems, Adds};
 
 use crate::fault::JobFault;
 use crate::report::Report;
+use crate::search::search_first;
+use crate::tables::TableKind;
 use crate::workers::Workers;
 use cover_problem::{Lists, write_cover};
 use poly_place::{Compiled, layers, packing_of};
@@ -32,6 +36,36 @@ pub fn solve<W: Workers>(
     push_packings(alloc, &mut text, compiled, report.visits())?;
     write_number_line(&mut text, "packings", report.visited())?;
     Ok(text)
+}
+
+/// The first packings of the puzzle in path order, each with its layers, and the line `first N` where the search stopped there; or what
+/// `solve` writes, where there are fewer.
+pub fn first_packings(
+    alloc: Global,
+    compiled: &Compiled<'_>,
+    table: Option<TableKind>,
+    first: u64,
+) -> Result<Vec<u8>, AllocError>
+    ensures { ReturnsItems result (first_packings_output first compiled.now) }
+{
+    let problem = compiled.problem();
+    problem.is_sound();
+    let report = search_first(alloc, problem, table, first)?;
+    let mut text = Vec::new(alloc);
+    push_packings(alloc, &mut text, compiled, report.visits())?;
+    push_end(&mut text, report.visited(), first)?;
+    Ok(text)
+}
+
+/// Adds the line of the number of packings where there are fewer than were asked for, or else the line that tells how many these are.
+fn push_end(text: &mut Vec<u8>, packings: u128, first: u64) -> Result<(), AllocError>
+    ensures { Adds result text.old text.new (line_text (packings_end first packings)) }
+{
+    if packings < u128::from(first) {
+        write_number_line(text, "packings", packings)
+    } else {
+        write_number_line(text, "first", u128::from(first))
+    }
 }
 
 /// The number of packings and of options, and the steps and the levels of the search.

@@ -4,7 +4,7 @@ ghost use Rattle.x_steps.specs.StateValue.{start};
 ghost use Rattle.x_branches.specs.Branch.{whole_run};
 ghost use Rattle.lab_book.specs.Posted.{IsFinished};
 ghost use Rattle.polylab_engine.specs.Account.{book_visits};
-ghost use Rattle.polylab_engine.specs.Output.{tally_lines, whole_report};
+ghost use Rattle.polylab_engine.specs.Output.{tally_lines, total_lines, whole_report};
 ghost use Rattle.x_texts.specs.Writes.{AddsLines};
 ghost use Rattle.cover_problem.specs.Answers.{Returns};
 
@@ -79,6 +79,14 @@ impl Report {
         ensures { result ≡ self.now.visited }
     {
         self.visited
+    }
+
+    /// Adds the lines of the number of visits, of the steps and of the levels.
+    pub fn push_totals(&self, text: &mut Vec<u8>) -> Result<(), AllocError>
+        ensures { AddsLines result text.old text.new (total_lines self.now.visited self.now.steps self.now.levels) }
+    {
+        write_number_line(text, "visits", self.visited)?;
+        self.push_steps(text)
     }
 
     /// Adds the lines of the steps and of the levels, of level 0 at least.

@@ -97,7 +97,8 @@ fn stretch_by<T: Table>(
 {
     snapshot.is_sound();
     let machine = machine_at::<T>(alloc, snapshot)?;
-    search_on(alloc, machine, end_choices(snapshot), most, lists)
+    let (report, stop) = search_on(alloc, machine, end_choices(snapshot), most, None, lists)?;
+    Ok((report, stop))
 }
 
 /// Whether a state is X5 at an option, after these choices.

@@ -1,4 +1,6 @@
-//! The whole run of a problem, and its report.
+//! The run of a problem, whole or up to a visit, and its report.
+ghost use Rattle.std.specs.Prelude.{IfOk};
+ghost use Rattle.polylab_engine.specs.First.{IsFirstReport};
 ghost use Rattle.polylab_engine.specs.Output.{whole_report};
 ghost use Rattle.cover_problem.specs.Answers.{Returns};
 
@@ -39,7 +41,35 @@ fn search_by<T: Table>(alloc: Global, problem: &Problem, keeps: bool) -> Result<
     let Ok(machine) = Machine::new(alloc, problem, table) else {
         return Err(AllocError);
     };
-    let (report, _) = search_on(alloc, machine, &[], None, keeps)?;
+    let (report, _) = search_on(alloc, machine, &[], None, None, keeps)?;
+    Ok(report)
+}
+
+/// The report of one worker up to the visit of this number, or of the whole run where it has fewer. It keeps the visits.
+pub fn search_first(
+    alloc: Global,
+    problem: &Problem,
+    table: Option<TableKind>,
+    first: u64,
+) -> Result<Report, AllocError>
+    ensures { IfOk result (IsFirstReport first problem.now) }
+{
+    match table_for(problem, 1, table) {
+        Some(TableKind::Links) => first_by::<LinkTable>(alloc, problem, first),
+        Some(TableKind::Bits) => first_by::<BitTable>(alloc, problem, first),
+        None => Err(AllocError),
+    }
+}
+
+/// The same by this table.
+fn first_by<T: Table>(alloc: Global, problem: &Problem, first: u64) -> Result<Report, AllocError>
+    ensures { IfOk result (IsFirstReport first problem.now) }
+{
+    let table = T::new(alloc, problem)?;
+    let Ok(machine) = Machine::new(alloc, problem, table) else {
+        return Err(AllocError);
+    };
+    let (report, _) = search_on(alloc, machine, &[], None, Some(first), true)?;
     Ok(report)
 }
 

@@ -1,5 +1,5 @@
 //! A stretch of a run: a machine is taken on, and what it passes is counted.
-ghost use Rattle.std.specs.Prelude.{◌≡◌, ◌<◌, ◌≤◌, ◌-◌, ◌+◌, ◌⊎◌, ℕ, Some, length, option_map, IfOk, IfSome};
+ghost use Rattle.std.specs.Prelude.{◌≡◌, ◌<◌, ◌≤◌, ◌-◌, ◌+◌, ◌⊎◌, ℕ, Some, length, option_map, IfOk, IfSome, IsTrue};
 ghost use Rattle.std.specs.Option.{ForSome};
 ghost use Rattle.x_steps.specs.StateView.{state_value};
 ghost use Rattle.x_steps.specs.Steps.{Fits};
@@ -13,12 +13,16 @@ use cover_problem::Table;
 use std::alloc::{AllocError, Global};
 use x_steps::{Event, Label, Machine, State, Walk, no_counts};
 
-/// How many steps the next walk may take: as many as there is room for, and no more than are left.
-fn pace_of(room: u32, left: Option<u64>) -> u32
+/// How many steps the next walk may take: as many as there is room for, and no more than are left; none where all visits are there.
+fn pace_of(room: u32, left: Option<u64>, is_full: bool) -> u32
     ensures room { result ≤ room }
     ensures left { IfSome left (λ steps. result ≤ steps) }
-    ensures none { result ≡ 0 → (room ≡ 0) ⊎ (left ≡ Some 0) }
+    ensures full { IsTrue is_full → result ≡ 0 }
+    ensures none { result ≡ 0 → IsTrue is_full ⊎ ((room ≡ 0) ⊎ (left ≡ Some 0)) }
 {
+    if is_full {
+        return 0;
+    }
     match left {
         Some(steps) if steps < room as u64 => steps as u32,
         _ => room,
@@ -62,18 +66,21 @@ fn walk_on<T: Table>(
 }
 
 /// Takes a machine on, up to the end of a branch, which is the cut of these choices, or Done where there are none; or as many steps
-/// as are asked for, where these come first. Answers the report of the stretch, which keeps the visits or not, and the state where
-/// it stops. Memory doesn't grow with the stretch, but for visits that are kept.
+/// as are asked for, or up to the visit of the number `first`, where these come first. Answers the report of the stretch, which keeps
+/// the visits or not, and the state where it stops. Memory doesn't grow with the stretch, but for visits that are kept.
 pub fn search_on<T: Table>(
     alloc: Global,
     machine: Machine<'_, T>,
     end: &[u32],
     most: Option<u64>,
+    first: Option<u64>,
     keeps: bool,
 ) -> Result<(Report, State), AllocError>
     requires end { Fits machine.problem (end_at end.now) }
     requires not_past { ComesBefore machine.problem (end_at end.now) machine.state → ⊥ }
-    ensures stop { IfOk result (λ r. state_value r.1 ≡ stop_from most machine.entry end.now) }
+    ensures stop { IfOk result (λ r. (first ≡ Some r.0.visited) ⊎ (state_value r.1 ≡ stop_from most machine.entry end.now)) }
+    ensures first { IfOk result (λ r. ForSome first (λ n. r.0.visited ≤ n)) }
+    ensures fits { IfOk result (λ r. Fits machine.entry.problem (state_value r.1)) }
     ensures report { IfOk result (λ r. r.0 ≡ report_from keeps machine.entry (state_value r.1)) }
 {
     let items = machine.problem().items();
@@ -83,7 +90,12 @@ pub fn search_on<T: Table>(
     let mut room = u32::MAX;
     let mut left = most;
     loop {
-        let walk = walk_on(&mut machine, pace_of(room, left), end, &mut counts);
+        let walk = walk_on(
+            &mut machine,
+            pace_of(room, left, tally.is_full(first)),
+            end,
+            &mut counts,
+        );
         if walk.steps == 0 {
             tally.add_counts(&counts)?;
             let stop = machine.state().copy()?;

@@ -1,5 +1,5 @@
 //! What a search comes to, counted walk by walk.
-ghost use Rattle.std.specs.Prelude.{◌≡◌, length, replicate, OnOk};
+ghost use Rattle.std.specs.Prelude.{◌≡◌, ◌≤◌, ◌↔◌, length, replicate, OnOk, IsTrue, IsSomeAnd};
 ghost use Rattle.polylab_engine.specs.Account.{AreSums, with_walk, empty_account, kept_with, visits_with, report_of};
 ghost use Rattle.cover_problem.specs.Answers.{Returns, ReturnsItems};
 
@@ -86,6 +86,16 @@ impl Tally {
         self.steps.add(walk.steps)?;
         note_visit(&mut self.visited, walk.event)?;
         keep_visit(&mut self.visits, keeps, walk.event, path)
+    }
+
+    /// Whether there are as many visits as are asked for, if a number is.
+    pub fn is_full(&self, first: Option<u64>) -> bool
+        ensures { IsTrue result ↔ IsSomeAnd first (λ n. n ≤ self.now.visited) }
+    {
+        match first {
+            Some(first) => self.visited.total() >= u128::from(first),
+            None => false,
+        }
     }
 
     /// Adds counts of X2 states, one for each level.

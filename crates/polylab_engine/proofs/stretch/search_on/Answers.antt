@@ -1,4 +1,4 @@
-use Rattle.std.proofs.Common.{◌≡◌, ◌-◌, length, sym, ap, ◌∙◌, subst, arith}
+use Rattle.std.proofs.Common.{◌≡◌, ◌≤◌, ◌+◌, ◌-◌, ◌⊎◌, Some, length, sym, ap, ◌∙◌, subst, arith, inl, inr}
 use Rattle.cover_problem.specs.Problem.{ProblemValue, IsProblem}
 use Rattle.x_steps.specs.StateValue.{StateValue}
 use Rattle.x_steps.specs.Steps.{Fits}
@@ -6,9 +6,9 @@ use Rattle.x_steps.specs.Run.{states_between}
 use Rattle.x_steps.specs.Machine.{Position}
 use Rattle.x_steps.specs.Walk.{IsWalk}
 use Rattle.x_steps.proofs.WalkLemmas.{lent_whole}
-use Rattle.polylab_engine.specs.Account.{AreSums, account_of, report_of}
-use Rattle.polylab_engine.proofs.StopLemmas.{pace_left}
-use Rattle.polylab_engine.proofs.SearchLemmas.{Searches, searches_begin, searches_on, searches_nearer, searches_anew, searches_end, searches_stop}
+use Rattle.polylab_engine.specs.Account.{Account, ReportValue, AreSums, account_of, report_of}
+use Rattle.polylab_engine.proofs.StopLemmas.{pace_left, why_none, either, full_is, not_full, visits_within}
+use Rattle.polylab_engine.proofs.SearchLemmas.{Searches, searches_begin, searches_on, searches_nearer, searches_anew, searches_end, searches_stop, new_fits}
 use Rattle.polylab_engine.proofs.stretch.search_on.Goals as goal
 
 pub loop-left-init : goal.loop-left-init
@@ -17,6 +17,7 @@ loop-left-init g c = (
       (subst (λ (m : Position). Fits m.problem m.state) c.machine.view_is c.machine.invariant.fit) c.requires.end c.requires.not_past
       (c.items-items.ensures.count ∙ ap (λ (q : ProblemValue). length q.names) c.problem.ensures) c.in_ok-tally.ensures c.in_ok-counts.ensures (omega arith),
   omega arith,
+  λ n e. let none = ap (λ (t : Account). t.visited) c.in_ok-tally.ensures in omega arith,
 )
 
 pub returns-then-walk-eq0-clause-stop : goal.returns-then-walk-eq0-clause-stop
@@ -24,8 +25,24 @@ returns-then-walk-eq0-clause-stop g c =
     let t = c.if-walk-eq0.true in
     let none : c.walk_on-walk.result.steps ≡ 0 = omega arith in
     let walk = subst (λ l. IsWalk c.loop-left.machine.problem c.loop-left.machine.state c.walk_on-walk.new.machine.state l c.walk_on-walk.new.counts c.walk_on-walk.result.steps c.walk_on-walk.result.event) c.deref_mut.ensures.value c.walk_on-walk.ensures.walk in
-    c.in_ok-stop.ensures ∙ c.state.ensures.state
-    ∙ searches_stop _ _ _ _ _ _ c.walk_on-walk.new.machine _ _ _ _ _ _ _ c.loop-left.invariant.0 walk none c.pace_of.result c.pace_of.ensures.none c.loop-left.invariant.1 (c.walk_on-walk.ensures.none none)
+    let others = ap (λ (t : Account). t.visited) c.in_ok-add_counts.ensures.others in
+    let told : c.in_ok-report.report.visited ≡ c.loop-left.tally.visited = ap (λ (r : ReportValue). r.visited) c.in_ok-report.ensures ∙ others in
+    let why = why_none c.pace_of.ensures.none (c.walk_on-walk.ensures.none none) in
+    either why (λ full. full_is c.args.first c.loop-left.tally.visited (c.is_full.ensures.0 full) c.loop-left.invariant.2 ∙ ap Some (sym told))
+    (λ stops. c.in_ok-stop.ensures ∙ c.state.ensures.state
+    ∙ searches_stop _ _ _ _ _ _ c.walk_on-walk.new.machine _ _ _ _ _ _ _ c.loop-left.invariant.0 walk none c.loop-left.invariant.1 stops)
+
+pub returns-then-walk-eq0-clause-first : goal.returns-then-walk-eq0-clause-first
+returns-then-walk-eq0-clause-first g c =
+    let others = ap (λ (t : Account). t.visited) c.in_ok-add_counts.ensures.others in
+    let told : c.in_ok-report.report.visited ≡ c.loop-left.tally.visited = ap (λ (r : ReportValue). r.visited) c.in_ok-report.ensures ∙ others in
+    λ n e. let most = c.loop-left.invariant.2 n e in omega arith
+
+pub returns-then-walk-eq0-clause-fits : goal.returns-then-walk-eq0-clause-fits
+returns-then-walk-eq0-clause-fits g c =
+    let walk = subst (λ l. IsWalk c.loop-left.machine.problem c.loop-left.machine.state c.walk_on-walk.new.machine.state l c.walk_on-walk.new.counts c.walk_on-walk.result.steps c.walk_on-walk.result.event) c.deref_mut.ensures.value c.walk_on-walk.ensures.walk in
+    subst (Fits c.args.machine.problem) (sym (c.in_ok-stop.ensures ∙ c.state.ensures.state))
+    (new_fits _ _ _ _ _ _ c.walk_on-walk.new.machine _ _ _ _ _ _ _ c.loop-left.invariant.0 walk)
 
 pub returns-then-walk-eq0-clause-report : goal.returns-then-walk-eq0-clause-report
 returns-then-walk-eq0-clause-report g c =
@@ -57,11 +74,17 @@ loop-left-preserved g c =
     let size : c.loop-left.counts.len ≡ length c.loop-left.counts.items = sym c.deref_mut.ensures.len ∙ ap length c.deref_mut.ensures.value in
     let pace = c.pace_of.ensures.room in
     let within = c.walk_on-walk.ensures.within in
+    let some = c.if-walk-eq0.false in
+    let less = λ h. let full = c.pace_of.ensures.full (c.is_full.ensures.1 h) in absurd (omega arith) in
+    let noted = ap (λ (t : Account). t.visited) c.in_ok-note.ensures in
+    let more = visits_within c.loop-left.tally.visited c.walk_on-walk.result.event in
+    let one : c.note.new.self.visited ≤ c.loop-left.tally.visited + 1 = omega arith in
     let path = c.deref-in-loop-left.ensures.value ∙ ap (λ (s : StateValue). s.path) c.state-in-loop-left.ensures.state in
     let on = searches_on _ _ _ _ _ _ c.walk_on-walk.new.machine _ _ _ _ _ _ _ c.loop-left.invariant.0 walk _ _ _ c.walk_on-walk.ensures.problem (omega arith)
     (pace_left c.loop-left.left c.pace_of.result _ c.pace_of.ensures.left within) c.walk_on-walk.ensures.before path c.in_ok-note.ensures c.left_after-left.ensures in (
       subst (λ l. Searches c.args.keeps c.args.machine.problem c.args.machine.state c.args.end.now c.args.most c.walk_on-walk.new.machine c.note.new.self l (c.loop-left.room - c.walk_on-walk.result.steps) c.left_after-left.result) (sym (lent_whole _ _ _ walk.counted.levels size)) on,
       omega arith,
+      not_full c.args.first c.loop-left.tally.visited c.note.new.self.visited less one,
     )
 
 pub loop-left-preserved-then-room-eq0 : goal.loop-left-preserved-then-room-eq0
@@ -70,6 +93,12 @@ loop-left-preserved-then-room-eq0 g c =
     let size : c.loop-left.counts.len ≡ length c.loop-left.counts.items = sym c.deref_mut.ensures.len ∙ ap length c.deref_mut.ensures.value in
     let pace = c.pace_of.ensures.room in
     let within = c.walk_on-walk.ensures.within in
+    let some = c.if-walk-eq0.false in
+    let less = λ h. let full = c.pace_of.ensures.full (c.is_full.ensures.1 h) in absurd (omega arith) in
+    let noted = ap (λ (t : Account). t.visited) c.in_ok-note.ensures in
+    let others = ap (λ (t : Account). t.visited) c.in_ok-add_counts-2.ensures.others in
+    let more = visits_within c.loop-left.tally.visited c.walk_on-walk.result.event in
+    let one : c.add_counts-then-room-eq0.new.self.visited ≤ c.loop-left.tally.visited + 1 = omega arith in
     let path = c.deref-in-loop-left.ensures.value ∙ ap (λ (s : StateValue). s.path) c.state-in-loop-left.ensures.state in
     let on = searches_on _ _ _ _ _ _ c.walk_on-walk.new.machine _ _ _ _ _ _ _ c.loop-left.invariant.0 walk _ _ _ c.walk_on-walk.ensures.problem (omega arith)
     (pace_left c.loop-left.left c.pace_of.result _ c.pace_of.ensures.left within) c.walk_on-walk.ensures.before path c.in_ok-note.ensures c.left_after-left.ensures in
@@ -78,4 +107,5 @@ loop-left-preserved-then-room-eq0 g c =
       searches_anew _ _ _ _ _ _ _ _ _ _ _ _ 4294967295 _ on c.in_ok-add_counts-2.ensures.others sums
           (c.items-items.ensures.count ∙ ap (λ (q : ProblemValue). length q.names) c.problem.ensures) c.in_ok-counts-2.ensures (omega arith),
       omega arith,
+      not_full c.args.first c.loop-left.tally.visited c.add_counts-then-room-eq0.new.self.visited less one,
     )

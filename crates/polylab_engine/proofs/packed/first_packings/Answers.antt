@@ -1,0 +1,16 @@
+use Rattle.std.proofs.Common.{◌∙◌, ap, subst, ◌++◌, List, ℕ}
+use Rattle.cover_problem.specs.Problem.{ProblemValue}
+use Rattle.polylab_engine.specs.First.{IsFirstReport}
+use Rattle.polylab_engine.proofs.FirstLemmas.{first_shown}
+use Rattle.polylab_engine.proofs.ListingLemmas.{first_report_covers}
+use Rattle.polylab_engine.proofs.packed.first_packings.Goals as goal
+
+pub push_packings-requires : goal.push_packings-requires
+push_packings-requires c =
+    first_report_covers c.args.first c.args.compiled.now _ _ _ c.problem-problem.ensures c.is_sound.ensures.problem c.in_ok-report.ensures c.visits.ensures
+
+pub returns : goal.returns
+returns c =
+    let first = subst (λ (q : ProblemValue). IsFirstReport c.args.first q c.in_ok-report.report) c.problem-problem.ensures c.in_ok-report.ensures in
+    c.in_ok-push_end.ensures ∙ ap (λ (t : List ℕ). t ++ _) c.in_ok-push_packings.ensures
+    ∙ first_shown c.args.first c.args.compiled.now c.in_ok-report.report first

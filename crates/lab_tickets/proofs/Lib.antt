@@ -3,3 +3,4 @@ pub mod RuleExamples
 pub mod StealLemmas
 pub mod CountLemmas
 pub mod JoinLemmas
+mod SeatExamples

@@ -6,6 +6,7 @@
 -- Example: worker 2 parks the tile 0, by the lease of the entry 7, and that is done: 2, then 6 0 2 7 for the call, and 5 for the reply; and
 -- so it is read back. proofs/BookExamples.antt computes it.
 use Rattle.std.specs.Prelude.{ℕ, ◌≡◌, ◌%◌, ◌==◌, Bool, true, false, not, Option, List, [], ◌∷◌, ◌++◌, map, slice_index, if◌then◌else◌}
+use Rattle.std.specs.List.{All}
 use Rattle.std.specs.Prelude as prelude
 use Rattle.std.specs.Global.{Vec}
 use Rattle.packed_rows.specs.Rows.{RowsValue}
@@ -178,6 +179,14 @@ abbrev pub ReadsFault : BookFault → Type 0
 ReadsFault f = fault_of (fault_code f) ≡ f
 
 -- ---- a history's entries
+
+-- the numbers of a row are the code of the entry that they tell: it is written in this way alone
+abbrev pub IsEntryCode : List ℕ → Type 0
+IsEntryCode ns = ns ≡ entry_code (entry_of ns)
+
+-- each packed row is the code of an entry
+abbrev pub AreEntryCodes : RowsValue → Type 0
+AreEntryCodes packed = All IsEntryCode packed.rows
 
 -- the entries of a history: those that are packed into rows, and then the last ones
 abbrev pub all_entries : RowsValue → Vec Entry → List Entry

@@ -1,6 +1,6 @@
 //! The entries of a history, to be read.
-ghost use Rattle.std.specs.Prelude.{◌≡◌, ◌<◌, ◌++◌, length, map, slice_get, Some, IsTrue, IfOk, IfSome};
-ghost use Rattle.lab_book.specs.EntryCode.{entry_of};
+ghost use Rattle.std.specs.Prelude.{◌≡◌, ◌↔◌, ◌<◌, ◌++◌, length, map, slice_get, Some, IsTrue, IfOk, IfSome};
+ghost use Rattle.lab_book.specs.EntryCode.{entry_of, AreEntryCodes, IsEntryCode};
 ghost use Rattle.lab_book.specs.Kinds.{kind_of};
 ghost use Rattle.lab_book.specs.declared.entry.Entry.{Entry};
 
@@ -21,17 +21,20 @@ pub struct Entries<'a> {
 
 impl<'a> Model for Entries<'a> {
     ghost use Rattle.std.specs.Prelude.{◌++◌, List, map};
-    ghost use Rattle.lab_book.specs.EntryCode.{entry_of};
+    ghost use Rattle.lab_book.specs.EntryCode.{entry_of, AreEntryCodes};
     ghost use Rattle.lab_book.specs.declared.entry.Entry.{Entry};
 
     ghost Value = { List Entry };
 
     ghost view = { λ e. map entry_of e.rows.now.rows ++ e.last.now.items };
+
+    ghost invariant = { λ e. AreEntryCodes e.rows.now };
 }
 
 impl<'a> Entries<'a> {
     /// Those that are packed, and then the last ones.
     pub(crate) fn of(rows: &'a Rows, last: &'a Vec<Entry>) -> Entries<'a>
+        requires { AreEntryCodes rows.now }
         ensures { result ≡ map entry_of rows.now.rows ++ last.now.items }
     {
         Entries { rows, last }
@@ -82,30 +85,39 @@ impl<'a> Entries<'a> {
         read_kind(&mut self.rows.row(place))
     }
 
-    /// Whether the entry at a place is this one; false tells nothing. A packed one is compared by a scratch row, without memory
-    /// where this entry was written into that row before.
-    pub fn is(&self, place: usize, entry: &Entry, row: &mut Row) -> bool
+    /// Whether the entry at a place is this one. A packed one is compared by a scratch row, without memory where this entry was
+    /// written into that row before; where memory runs out, nothing is told.
+    pub fn is(&self, place: usize, entry: &Entry, row: &mut Row) -> Result<bool, AllocError>
         requires { place < length self.now }
-        ensures { IsTrue result → slice_get self.now place ≡ Some entry.now }
+        ensures { IfOk result (λ same. IsTrue same ↔ (slice_get self.now place ≡ Some entry.now)) }
     {
         let count = self.rows.len();
         if place >= count {
-            return self.last[place - count].same(entry);
+            return Ok(self.last[place - count].same(entry));
         }
-        entry.write(row).is_ok() && self.rows.row(place).same(&row.reader())
+        entry.write(row)?;
+        Ok(self.rows.row(place).same(&row.reader()))
     }
 
-    /// Whether the entry at a place is the one that these numbers tell; false tells nothing. One that isn't packed is compared
-    /// by a scratch row, without memory where that entry was written into it before.
-    pub fn is_told(&self, place: usize, numbers: &Reader<'_>, row: &mut Row) -> bool
+    /// Whether the entry at a place is the one that these numbers tell. False tells nothing where they are not the code of an
+    /// entry. One that isn't packed is compared by a scratch row, without memory where that entry was written into it before;
+    /// where memory runs out, nothing is told.
+    pub fn is_told(
+        &self,
+        place: usize,
+        numbers: &Reader<'_>,
+        row: &mut Row,
+    ) -> Result<bool, AllocError>
         requires { place < length self.now }
-        ensures { IsTrue result → slice_get self.now place ≡ Some (entry_of numbers.now) }
+        ensures told { IfOk result (λ same. IsTrue same → slice_get self.now place ≡ Some (entry_of numbers.now)) }
+        ensures all_told { IsEntryCode numbers.now →
+            IfOk result (λ same. slice_get self.now place ≡ Some (entry_of numbers.now) → IsTrue same) }
     {
         let count = self.rows.len();
         if place >= count {
-            let entry = &self.last[place - count];
-            return entry.write(row).is_ok() && row.reader().same(numbers);
+            self.last[place - count].write(row)?;
+            return Ok(row.reader().same(numbers));
         }
-        self.rows.row(place).same(numbers)
+        Ok(self.rows.row(place).same(numbers))
     }
 }

@@ -245,7 +245,8 @@ impl Entry {
 
     /// Writes its numbers into a scratch row, and nothing else.
     pub(crate) fn write(&self, row: &mut Row) -> Result<(), AllocError>
-        ensures { OnOk result (entry_of row.new ≡ self.now) }
+        ensures told { OnOk result (entry_of row.new ≡ self.now) }
+        ensures code { OnOk result (row.new ≡ entry_code self.now) }
     {
         row.clear();
         self.put(row)?;

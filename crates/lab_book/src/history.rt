@@ -1,6 +1,6 @@
 //! A history with room kept for entries to come.
 ghost use Rattle.std.specs.Prelude.{◌≡◌, ◌≤◌, ◌<◌, ◌+◌, ◌-◌, ◌++◌, ◌∷◌, [], length, map, vec_len, vec_capacity, OnOk, OnErr};
-ghost use Rattle.lab_book.specs.EntryCode.{entry_of, all_entries};
+ghost use Rattle.lab_book.specs.EntryCode.{entry_of, all_entries, AreEntryCodes};
 
 use crate::entries::Entries;
 use crate::entry::Entry;
@@ -22,13 +22,13 @@ pub(crate) struct History {
 impl Model for History {
     ghost use Rattle.std.specs.Prelude.{◌+◌, ◌≤◌, ◌++◌, map, vec_len, vec_capacity};
     ghost use Rattle.lab_book.specs.Book.{HistoryValue};
-    ghost use Rattle.lab_book.specs.EntryCode.{entry_of};
+    ghost use Rattle.lab_book.specs.EntryCode.{entry_of, AreEntryCodes};
 
     ghost Value = { HistoryValue };
 
     ghost view = { λ h. record { entries = map entry_of h.rows.rows ++ h.last.items; kept = h.kept } };
 
-    ghost invariant = { λ h. vec_len h.last + h.kept ≤ vec_capacity h.last };
+    ghost invariant = { λ h. (vec_len h.last + h.kept ≤ vec_capacity h.last) × AreEntryCodes h.rows };
 }
 
 /// Packs the first of the last entries.
@@ -38,6 +38,7 @@ fn pack_first(rows: &mut Rows, row: &mut Row, last: &mut Vec<Entry>) -> Result<(
     ensures fewer { OnOk result (vec_len last.new + 1 ≡ vec_len last.old) }
     ensures unchanged { OnErr result (vec_len last.new ≡ vec_len last.old) }
     ensures capacity { vec_capacity last.old ≤ vec_capacity last.new }
+    ensures codes { AreEntryCodes rows.old → AreEntryCodes rows.new }
 {
     last[0].write(row)?;
     rows.push(row)?;
@@ -50,6 +51,7 @@ fn pack(rows: &mut Rows, row: &mut Row, last: &mut Vec<Entry>)
     ensures all { all_entries rows.new last.new ≡ all_entries rows.old last.old }
     ensures fewer { vec_len last.new ≤ vec_len last.old }
     ensures capacity { vec_capacity last.old ≤ vec_capacity last.new }
+    ensures codes { AreEntryCodes rows.old → AreEntryCodes rows.new }
 {
     'packing: while !last.is_empty() {
         if pack_first(rows, row, last).is_err() {

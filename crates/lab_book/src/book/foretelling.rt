@@ -1,12 +1,12 @@
 //! The entry that a call would add, before the call is made: who keeps a record of the calls has it in hand then, and nothing
 //! can fail once the entry stands.
-ghost use Rattle.std.specs.Prelude.{◌≡◌, ◌<◌, length, IfOk, OnOk};
+ghost use Rattle.std.specs.Prelude.{◌≡◌, ◌<◌, true, length, IfOk, IsOk, OnOk};
 ghost use Rattle.cover_problem.specs.Problem.{is_same};
 ghost use Rattle.cover_problem.specs.Answers.{Returns};
 ghost use Rattle.lab_book.specs.declared.entry.Call.TheVariants as calls;
 ghost use Rattle.lab_book.specs.declared.entry.Reply.TheVariants as replies;
 ghost use Rattle.lab_book.specs.Book.{outcome, lent, path_of, given_up};
-ghost use Rattle.lab_book.specs.Calls.{next_entry, post_entry, split_entry, entry_by, back_to};
+ghost use Rattle.lab_book.specs.Calls.{next_entry, post_entry, split_entry, entry_by, back_to, is_current};
 
 use crate::book::Book;
 use crate::book::leasing::path_of;
@@ -161,7 +161,8 @@ impl<'p> Book<'p> {
     /// The entry that the end of a lease at the tile's mark would add, by this call.
     fn foretell_end(&self, lease: Grant, call: Call) -> Result<Entry, AllocError>
         requires { outcome self.now lease.worker call ≡ given_up self.now lease }
-        ensures { IfOk result (λ e. e ≡ next_entry self.now lease.worker call) }
+        ensures entry { IfOk result (λ e. e ≡ next_entry self.now lease.worker call) }
+        ensures current { is_current self.now.tiles lease ≡ true → IsOk result }
     {
         match self.tiles.leased_place(lease) {
             Ok(_) => Ok(Entry {
@@ -177,17 +178,19 @@ impl<'p> Book<'p> {
         }
     }
 
-    /// The entry that a park would add.
+    /// The entry that a park would add. Takes no memory for the tile's current lease.
     pub fn foretell_park(&self, lease: &Lease) -> Result<Entry, AllocError>
-        ensures { Returns result (entry_by self.now lease.now calls.Park) }
+        ensures entry { Returns result (entry_by self.now lease.now calls.Park) }
+        ensures current { is_current self.now.tiles lease.now ≡ true → IsOk result }
     {
         let grant = lease.grant();
         self.foretell_end(grant, Call::Park(grant))
     }
 
-    /// The entry that an abandon would add.
+    /// The entry that an abandon would add. Takes no memory for the tile's current lease.
     pub fn foretell_abandon(&self, lease: &Lease) -> Result<Entry, AllocError>
-        ensures { Returns result (entry_by self.now lease.now calls.Abandon) }
+        ensures entry { Returns result (entry_by self.now lease.now calls.Abandon) }
+        ensures current { is_current self.now.tiles lease.now ≡ true → IsOk result }
     {
         let grant = lease.grant();
         self.foretell_end(grant, Call::Abandon(grant))

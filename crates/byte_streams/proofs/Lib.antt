@@ -1,2 +1,3 @@
+mod StreamExamples
 mod Transfer
 mod Walks

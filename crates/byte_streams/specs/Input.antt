@@ -1,9 +1,9 @@
 -- Reading the whole input.
-use Rattle.std.specs.Prelude.{ℕ, ◌≡◌, ◌+◌, ◌<◌, ◌≤◌, ◌++◌, List, IfSome, length, ⊤}
+use Rattle.std.specs.Prelude.{ℕ, ◌≡◌, ◌+◌, ◌<◌, ◌≤◌, ◌++◌, List, [], ◌∷◌, Some, IfSome, length, ⊤}
 use Rattle.std.specs.Io.KnownBytes.{Consumes}
 use Rattle.byte_streams.specs.declared.input.InputFault.{InputFault}
 use Rattle.byte_streams.specs.declared.input.InputFault.TheVariants.{Failed, PastLimit, OutOfMemory}
-use Rattle.byte_streams.specs.Stream.{Stream, HasFailed, IsSound}
+use Rattle.byte_streams.specs.Stream.{Stream, HasFailed, IsSound, CountsThen, CountsAlone, StopsAtFailure}
 
 -- the most bytes that are read
 abbrev pub most_input : ℕ
@@ -26,6 +26,16 @@ abbrev pub StopsReading : Stream → Stream → InputFault → Type 0
 StopsReading old new Failed = HasFailed new
 StopsReading old new PastLimit = GoesPastLimit old × IsSound old new
 StopsReading old new OutOfMemory = IsSound old new
+
+-- each read told some bytes but the last, which told the end: none followed the one that told it
+abbrev pub StopsAtEnd : Stream → Stream → Type 0
+StopsAtEnd old new = CountsThen old.answers new.answers (Some 0 ∷ [])
+
+-- where the input was not read, no read followed one that failed, and none had told the end
+abbrev pub AsksNoMore : Stream → Stream → InputFault → Type 0
+AsksNoMore old new Failed = StopsAtFailure old new
+AsksNoMore old new PastLimit = CountsAlone old new
+AsksNoMore old new OutOfMemory = CountsAlone old new
 
 -- the bytes that the source handed out, where they are known, are no more than are read
 abbrev pub StaysWithinLimit : Stream → Stream → Type 0

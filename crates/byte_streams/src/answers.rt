@@ -1,14 +1,15 @@
 //! What a stream has answered. It takes no memory, and only contracts read it.
-ghost use Rattle.std.specs.Prelude.{◌≡◌, List, Bool, [], ◌∷◌, ◌++◌, is_err};
+ghost use Rattle.std.specs.Prelude.{◌≡◌, ℕ, List, Option, [], ◌∷◌, ◌++◌};
+ghost use Rattle.std.specs.Result.{result_ok};
 ghost use Rattle.std.specs.Borrow.{ftrue};
 
 use crate::stream::Failed;
 use std::marker::Model;
 
-/// For each answer so far, in order, whether it was a failure.
+/// Of each answer so far, in order, how many bytes it told, or none where it was a failure.
 #[derive(Drop)]
 pub struct Answers {
-    pub ghost failures: { List Bool },
+    pub ghost told: { List (Option ℕ) },
 }
 
 impl Model for Answers {
@@ -18,7 +19,7 @@ impl Model for Answers {
 impl Answers {
     /// No answer yet.
     pub fn new() -> Answers
-        ensures { result.failures ≡ [] }
+        ensures { result.told ≡ [] }
     {
         Answers {}
     }
@@ -26,7 +27,7 @@ impl Answers {
     /// One answer more.
     #[inline(always)]
     pub fn with(&self, _answer: &Result<usize, Failed>) -> Answers
-        ensures { result.failures ≡ self.now.failures ++ is_err _answer.now ∷ [] }
+        ensures { result.told ≡ self.now.told ++ result_ok _answer.now ∷ [] }
     {
         Answers {}
     }

@@ -2,7 +2,7 @@
 ghost use Rattle.std.specs.Prelude.{◌≡◌, ◌<◌, [], IfOk, length};
 ghost use Rattle.std.specs.Io.{ReadsAtMost, WritesAtMost};
 ghost use Rattle.std.specs.Io.KnownBytes.{ReadConsumes, WriteAppends};
-ghost use Rattle.byte_streams.specs.Stream.{NotesFailure};
+ghost use Rattle.byte_streams.specs.Stream.{NotesCount};
 
 use crate::answers::Answers;
 use crate::stream::Failed;
@@ -19,7 +19,7 @@ impl<S> Asked<S> {
     /// A stream that has answered nothing yet.
     pub fn new(inner: S) -> Asked<S>
         ensures inner { result.inner ≡ inner }
-        ensures answers { result.answers.failures ≡ [] }
+        ensures answers { result.answers.told ≡ [] }
     {
         Asked {
             inner,
@@ -34,7 +34,7 @@ impl<R: Read> Asked<R> {
         ensures bound { ReadsAtMost result chunk.new }
         ensures bytes { ReadConsumes (R.remaining self.old.inner) (R.remaining self.new.inner)
             result chunk.new }
-        ensures answers { NotesFailure self.old.answers.failures self.new.answers.failures result }
+        ensures answers { NotesCount self.old.answers.told self.new.answers.told result }
     {
         let answer = match self.inner.read(chunk) {
             Ok(count) => Ok(count),
@@ -52,7 +52,7 @@ impl<W: Write> Asked<W> {
         ensures some { 0 < length text.now → IfOk result (λ count. 0 < count) }
         ensures bytes { WriteAppends (W.contents self.old.inner) (W.contents self.new.inner)
             result text.now }
-        ensures answers { NotesFailure self.old.answers.failures self.new.answers.failures result }
+        ensures answers { NotesCount self.old.answers.told self.new.answers.told result }
     {
         let answer = match self.inner.write(text) {
             Ok(count) if count > 0 || text.is_empty() => Ok(count),

@@ -1,8 +1,9 @@
 //! Reading the whole input, up to a limit.
 ghost use Rattle.std.specs.Prelude.{◌≡◌, ◌<◌, ◌≤◌, ◌+◌, IfOk, IfErr, OnOk, length, vec_len};
 ghost use Rattle.std.specs.Io.KnownBytes.{IsAtEnd};
-ghost use Rattle.byte_streams.specs.Stream.{IsSound};
-ghost use Rattle.byte_streams.specs.Input.{most_input, StopsReading, StopsAfter, LacksMemoryWithin, BringsBytes, IsAllOf};
+ghost use Rattle.byte_streams.specs.Stream.{IsSound, AnswersOnce};
+ghost use Rattle.byte_streams.specs.Input.{most_input, BringsBytes, IsAllOf, StopsAtEnd, AsksNoMore};
+ghost use Rattle.byte_streams.specs.Input.{StopsReading, StopsAfter, LacksMemoryWithin};
 
 use crate::stream::Source;
 use std::alloc::{AllocError, Global};
@@ -41,10 +42,14 @@ fn read_some<S: Source>(
     requires within { vec_len text.old ≤ most_input }
     ensures grown { IfOk result (λ count. vec_len text.new ≡ vec_len text.old + count) }
     ensures within { OnOk result (vec_len text.new ≤ most_input) }
-    ensures read { OnOk result (BringsBytes (S.stream source.old) (S.stream source.new) text.old.items text.new.items) }
+    ensures read { OnOk result (BringsBytes (S.stream source.old) (S.stream source.new)
+        text.old.items text.new.items) }
     ensures end { IfOk result (λ count. count ≡ 0 → IsAtEnd (S.stream source.new).bytes) }
     ensures sound { OnOk result (IsSound (S.stream source.old) (S.stream source.new)) }
-    ensures fault { IfErr result (StopsAfter (length text.old.items) (S.stream source.old) (S.stream source.new)) }
+    ensures once { OnOk result (AnswersOnce (S.stream source.old) (S.stream source.new) result) }
+    ensures stopped { IfErr result (AsksNoMore (S.stream source.old) (S.stream source.new)) }
+    ensures fault { IfErr result (StopsAfter (length text.old.items)
+        (S.stream source.old) (S.stream source.new)) }
 {
     let Ok(count) = source.read(chunk) else {
         return Err(InputFault::Failed);
@@ -58,11 +63,13 @@ fn read_some<S: Source>(
     Ok(count)
 }
 
-/// Reads to the end. No read that fails is tried again.
+/// Reads to the end. No read that fails is tried again, and none follows the one that tells the end.
 pub fn read_whole<S: Source>(alloc: Global, source: &mut S) -> Result<Vec<u8>, InputFault>
     ensures all { IfOk result (λ text. IsAllOf text.items (S.stream source.old)) }
     ensures within { IfOk result (λ text. length text.items ≤ most_input) }
     ensures sound { OnOk result (IsSound (S.stream source.old) (S.stream source.new)) }
+    ensures end { OnOk result (StopsAtEnd (S.stream source.old) (S.stream source.new)) }
+    ensures stopped { IfErr result (AsksNoMore (S.stream source.old) (S.stream source.new)) }
     ensures fault { IfErr result (StopsReading (S.stream source.old) (S.stream source.new)) }
     ensures memory { IfErr result (LacksMemoryWithin (S.stream source.old) (S.stream source.new)) }
 {

@@ -41,8 +41,8 @@ impl<W: Write> Watched<W> {
 impl<R: Read> Source for Watched<R> {
     ghost stream = { λ s. record {
       bytes = R.remaining s.asked.inner;
-      failed = has_failure s.asked.answers.failures;
-      answers = s.asked.answers.failures;
+      failed = has_failure s.asked.answers.told;
+      answers = s.asked.answers.told;
     } };
 
     /// Asks the reader once. Any error is a failure.
@@ -54,8 +54,8 @@ impl<R: Read> Source for Watched<R> {
 impl<W: Write> Sink for Watched<W> {
     ghost stream = { λ s. record {
       bytes = W.contents s.asked.inner;
-      failed = has_failure s.asked.answers.failures;
-      answers = s.asked.answers.failures;
+      failed = has_failure s.asked.answers.told;
+      answers = s.asked.answers.told;
     } };
 
     /// Asks the writer once. Any error is a failure, and so is a write that takes none of some bytes.

@@ -27,7 +27,7 @@ use denote.Triple.Table.{entered}
 use denote.Triple.Walked.{says, Stays, stay_dropped, walk_of, ends_at, walk_Meets, Goes-dropped}
 use Rattle.byte_streams.proofs.Walks.{none, none_made}
 use Rattle.byte_streams.specs.contracts.answers.Answers as Row
-use Rattle.std.specs.Result.{is_err}
+use Rattle.std.specs.Result.{result_ok}
 use Rattle.std.specs.contracts.result.Result as Outcome
 use Rattle.byte_streams.specs.contracts.stream.Failed as Failed
 use Rattle.byte_streams.specs.contracts.answers.Answers.with as F
@@ -63,7 +63,7 @@ module _ {M : Type 1} {𝓤 : Ura M} (𝓛 : Logic 𝓤) (at_mem : Memory → SP
         let vss = z.0.4 in
         let u : Val = vptr a.0.ref_ptr.0 a.0.ref_ptr.1 in
         let v : Val = vptr a.1.0.ref_ptr.0 a.1.0.ref_ptr.1 in
-        let answers : (Row.the_row).Denot = record { failures = a.0.now.failures ++ is_err a.1.0.now ∷ [] } in
+        let answers : (Row.the_row).Denot = record { told = a.0.now.told ++ result_ok a.1.0.now ∷ [] } in
         qed 𝓛 ((raw toks ⊛ ‵ (owns (types_at ended.signature.params z.0.0) a vss)) ∷ raw ((held z.0.0 a).requires z.1) ∷ []) ∵
         keep ! (0 ∷ []) $ split ! $ move ! (1 ∷ []) $ fsplit ! $ fsplit ! $ feq_l ! (λ is₀. drop ! $ fsplit ! $ fsplit ! $ feq_l ! (λ is₁. drop ! $ drop ! $
         regoal ! (λ (us : List Val). prop (WpFn 𝓤 H C Λ function (us ++ (vss.1.0 ++ [])) Post)) is₀ refl $

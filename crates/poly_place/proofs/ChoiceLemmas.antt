@@ -9,10 +9,10 @@ use Rattle.std.proofs.lemmas.List.Elements.{filter-append}
 use Rattle.poly_cells.specs.Coordinates.{Coordinates}
 use Rattle.poly_cells.specs.Sets.{IsIn}
 use Rattle.poly_cells.specs.CellTests.{has_cell}
-use Rattle.poly_texts.specs.Puzzle.{PuzzleValue, names_of, has_name}
+use Rattle.poly_texts.specs.Puzzle.{PuzzleValue, names_of, has_name, is_needed}
 use Rattle.poly_cells.proofs.CellTestLemmas.{in_from_has, has_from_in}
 use Rattle.poly_place.specs.Tables.{IsTable, has_bit}
-use Rattle.poly_place.specs.Packings.{choice, is_needed, must_fill, is_useful}
+use Rattle.poly_place.specs.Packings.{choice, must_fill, is_useful}
 use Rattle.poly_place.specs.Compiled.{filled_cells, needed_names}
 use Rattle.poly_cells.proofs.MemberLemmas.{in_from_filter, in_filter, same_function}
 use Rattle.poly_place.proofs.DistinctLemmas.{in_from_name, name_from_in}

@@ -8,11 +8,11 @@ use Rattle.poly_cells.proofs.SetLemmas.{in_map, in_from_map}
 use Rattle.poly_cells.proofs.CoordinateLemmas.{is_same_Decides}
 use Rattle.poly_cells.specs.CellTests.{is_same, has_cell}
 use Rattle.poly_place.specs.declared.alike.Group.{Group}
-use Rattle.poly_place.specs.Packings.{ChoiceValue}
+use Rattle.poly_place.specs.Packings.{ChoiceValue, place_of}
 use Rattle.poly_place.specs.Chosen.{PackingValue}
 use Rattle.poly_place.specs.Classes.{part_at, IsSent, AreAlike, HaveOneRegion, IsClassCount}
 use Rattle.poly_place.specs.ClassCount.{image_in}
-use Rattle.poly_place.specs.Forms.{place_of, carrier, IsKept, AreCarriers, parts_in, first_form, form_by, forms_cmp, key_of}
+use Rattle.poly_place.specs.Forms.{carrier, IsKept, AreCarriers, parts_in, first_form, form_by, forms_cmp, key_of}
 use Rattle.poly_place.proofs.CountingLemmas.{AreKeys, classes_are_keys}
 use Rattle.poly_place.proofs.FormLemmas.{PartAlike, same_form, alike_form}
 use Rattle.poly_place.proofs.KeyLemmas.{forms_total, forms_exact, forms_of, least_in, least_lowest, same_lowest}

@@ -1,21 +1,33 @@
 -- Where it is within the limits, the problem that stands for a puzzle is one.
-use Rattle.std.proofs.Common.{◌≡◌, ℕ, ◌+◌, ◌<◌, ◌≤◌, List, [], ◌∷◌, ◌++◌, map, length, Bool, true, false, not, ◌&&◌, nat_lt, nat_le, ◌==◌, inl, inr, refl, sym, ap, ap₂, subst, ◌∙◌, arith, bytes_eq, sum_by, Result, Ok}
-use Rattle.std.specs.List.{list_any, list_all}
-use Rattle.std.specs.Cmp.{both_ways as same_tests}
+use Rattle.std.proofs.Common.{◌||◌, ◌≡◌, ℕ, zero, suc, ◌+◌, ◌-◌, ◌<◌, ◌≤◌, ◌^◌, ◌/◌, ◌%◌, List, [], ◌∷◌, ◌++◌, map, flat_map, length, Bool, true, false, cond, not, ◌&&◌, nat_lt, nat_le, ◌==◌, inl, inr, refl, sym, ap, ap₂, subst, ◌∙◌, arith, bytes_eq, eqb-true, sum_by, Result, Ok}
+use Rattle.std.specs.List.{list_any, list_all, range_with_len, position_or_len}
 use Rattle.std.specs.Cmp.Lexicographic.{bytes_decides}
-use Rattle.std.proofs.lemmas.Bool.{and_parts, and_from, or_left, leb-true, le-leb, lt-ltb, cases_Bool, not_from_false, agree_below_at, both_ways, not-true, false_from_ne_true, true_from_ne_false}
+use Rattle.std.proofs.lemmas.List.Folds.{list_any-append}
+use Rattle.std.proofs.lemmas.Bool.{and_parts, and_from, or_left, le-leb, lt-ltb, cases_Bool, not_from_false, agree_below_at, both_ways, not-true, false_from_ne_true, true_from_ne_false, leb-true}
 use Rattle.std.proofs.lemmas.Bool.Decides.{nat_tests}
-use Rattle.std.proofs.lemmas.List.{map-append, length-append, length-map, append_assoc}
-use Rattle.std.proofs.lemmas.List.Sums.{sum_by-cons}
+use Rattle.std.proofs.lemmas.List.{length-append, length-map, map-append, append_assoc}
+use Rattle.std.proofs.Math.Nat.{pow-le-pow_right}
 use Rattle.poly_cells.specs.Coordinates.{Coordinates, IsInGrid}
 use Rattle.poly_cells.specs.Sets.{IsIn}
 use Rattle.poly_cells.proofs.CoordinateLemmas.{coordinates_total, same_coordinates}
-use Rattle.poly_cells.proofs.SetLemmas.{in_append_cases, in_from_map}
+use Rattle.poly_cells.proofs.SetLemmas.{in_append_cases, in_from_map, in_map}
 use Rattle.poly_cells.proofs.CellTestLemmas.{in_from_has, has_from_in}
 use Rattle.poly_cells.specs.CellTests.{has_cell}
 use Rattle.poly_cells.specs.CellWords.{symbol, cell_word}
+use Rattle.cover_problem.specs.Lists.{has, are_distinct}
+use Rattle.cover_problem.specs.Problem.{IsProblem, is_name, is_name_byte, is_item, is_option, is_small, are_new, ProblemValue}
+use Rattle.poly_cells.proofs.MemberLemmas.{all_pass, passes, some_passes, in_from_flat_map, in_from_range}
 use Rattle.poly_texts.specs.Words as words
-use Rattle.poly_texts.specs.Puzzle.{PuzzleValue, IsPuzzle, names_of, has_name}
+use Rattle.poly_place.specs.Turns.{from_right, from_left}
+use Rattle.poly_texts.specs.Puzzle.{PuzzleValue, IsPuzzle, names_of, has_name, is_needed}
+use Rattle.poly_place.specs.Packings.{ChoiceValue, is_any, must_fill, neighbours, pairs, first_cell, IsPlaced, choices, Thing, a_piece, a_cell, a_node, needed_things, other_things, things, index_among, item_of, levels_for, levels, nodes, nodes_by, leaf_of, given, things_of, option_of, node_word, thing_name, packing_problem}
+use Rattle.poly_place.proofs.DistinctLemmas.{in_from_name, name_from_in, IsDistinct, distinct_append, distinct_filter, distinct_map, distinct_rising, distinct_names}
+use Rattle.poly_place.proofs.PairLemmas.{all_of, distinct_left, distinct_right, distinct_apart, in_group, among_groups, pair_differs, pair_next}
+use Rattle.poly_place.proofs.TurnLemmas.{IsBelow, right_above, left_above, up}
+use Rattle.poly_place.proofs.PackingLemmas.{has_shapes, placed_in, leaf_placed, least_in}
+use Rattle.poly_place.proofs.ThingLemmas.{place_in, nothing, item_same, needed_piece, needed_cell, needed_cases, needed_distinct, parts_in, in_given, thing_of_item, cell_part}
+use Rattle.std.specs.Cmp.{both_ways as same_tests}
+use Rattle.std.proofs.lemmas.List.Sums.{sum_by-cons}
 use Rattle.cover_problem.specs.declared.limits.TheConstants.{MOST_ITEMS, MOST_OPTIONS, MOST_ENTRIES}
 use Rattle.text_lines.specs.declared.refusal.Refusal.{Refusal}
 use Rattle.text_lines.specs.declared.refusal.Refusal.TheVariants as refusals
@@ -24,14 +36,7 @@ use Rattle.text_lines.proofs.ResultLemmas.{no_fault}
 use Rattle.cover_problem.specs.Validation.{problem_from}
 use Rattle.cover_problem.specs.declared.fault.Fault.{Fault}
 use Rattle.cover_problem.proofs.ProblemLemmas.{made_again}
-use Rattle.cover_problem.specs.Lists.{has, are_distinct}
-use Rattle.cover_problem.specs.Problem.{ProblemValue, IsProblem, is_name, is_name_byte, is_item, is_option, is_small, are_new}
-use Rattle.poly_place.specs.Packings.{ChoiceValue, is_needed, must_fill, IsPlaced, choices, Thing, a_piece, a_cell, needed_things, things, index_among, item_of, things_of, option_of, thing_name, packing_problem}
 use Rattle.poly_place.specs.Compiled.{needed_names, filled_cells, entries_of, has_room}
-use Rattle.poly_cells.proofs.MemberLemmas.{all_pass, passes, some_passes}
-use Rattle.poly_place.proofs.DistinctLemmas.{in_from_name, name_from_in, IsDistinct, distinct_append, distinct_filter, distinct_map, distinct_rising, distinct_names}
-use Rattle.poly_place.proofs.PackingLemmas.{has_shapes, placed_in}
-use Rattle.poly_place.proofs.ThingLemmas.{place_in, nothing, item_same, needed_piece, needed_cell, needed_cases, needed_distinct, parts_in, thing_of_item}
 use mathlib.Core.List.{map-map}
 
 -- ---- tests
@@ -41,8 +46,8 @@ none_from test xs h = not_from_false _ (false_from_ne_true _ (λ t. let x = some
 
 -- ---- names
 
-low_symbol : (n : ℕ) → n ≤ 31 → is_name_byte (symbol n) ≡ true
-low_symbol n h = agree_below_at (λ k. is_name_byte (symbol k)) (λ k. true) 32 n refl (omega arith)
+low_symbol : (n : ℕ) → n < 32 → is_name_byte (symbol n) ≡ true
+low_symbol n h = agree_below_at (λ k. is_name_byte (symbol k)) (λ k. true) 32 n refl h
 
 piece_named : (n : ℕ) → words.is_name n ≡ true → is_name (n ∷ []) ≡ true
 piece_named n h =
@@ -51,13 +56,25 @@ piece_named n h =
 
 cell_named : (v : Coordinates) → IsInGrid v → is_name (cell_word v) ≡ true
 cell_named v h =
-    let x = low_symbol v.x h.x_in in
-    let y = low_symbol v.y h.y_in in
-    let w = low_symbol v.z h.z_in in
+    let x = low_symbol v.x (let a = h.x_in in omega arith) in
+    let y = low_symbol v.y (let a = h.y_in in omega arith) in
+    let w = low_symbol v.z (let a = h.z_in in omega arith) in
     and_from (is_name_byte (symbol v.x)) _ x (and_from (is_name_byte (symbol v.y)) _ y (and_from (is_name_byte (symbol v.z)) true w refl))
+
+node_named : (n h : ℕ) → words.is_name n ≡ true → h < 4096 → is_name (node_word n h) ≡ true
+node_named n h name lt =
+    let byte : is_name_byte n ≡ true = or_left (words.is_name n) (n == 95) name in
+    let x = low_symbol (h / 1024) (omega arith) in
+    let y = low_symbol (h / 32 % 32) (omega arith) in
+    let w = low_symbol (h % 32) (omega arith) in
+    and_from (is_name_byte n) _ byte (and_from true _ refl
+    (and_from (is_name_byte (symbol (h / 1024))) _ x (and_from (is_name_byte (symbol (h / 32 % 32))) _ y (and_from (is_name_byte (symbol (h % 32))) true w refl))))
 
 symbol_same : (m n : ℕ) → symbol m ≡ symbol n → m ≡ n
 symbol_same m n e = grind (arith, nat_tests)
+
+three_same : (g h : ℕ) → g / 1024 ≡ h / 1024 → g / 32 % 32 ≡ h / 32 % 32 → g % 32 ≡ h % 32 → g ≡ h
+three_same g h a b c = omega arith
 
 name_same : (a b : Thing) → thing_name a ≡ thing_name b → a ≡ b
 name_same (a_piece m) (a_piece n) e = let s : m ≡ n = cc in ap a_piece s
@@ -66,8 +83,18 @@ name_same (a_cell v) (a_cell w) e =
     let y : symbol v.y ≡ symbol w.y = cc in
     let u : symbol v.z ≡ symbol w.z = cc in
     ap a_cell (same_coordinates v.x v.y v.z w.x w.y w.z (symbol_same v.x w.x x) (symbol_same v.y w.y y) (symbol_same v.z w.z u))
+name_same (a_node m g) (a_node n h) e =
+    let s : m ≡ n = cc in
+    let x : symbol (g / 1024) ≡ symbol (h / 1024) = cc in
+    let y : symbol (g / 32 % 32) ≡ symbol (h / 32 % 32) = cc in
+    let u : symbol (g % 32) ≡ symbol (h % 32) = cc in
+    ap₂ a_node s (three_same g h (symbol_same _ _ x) (symbol_same _ _ y) (symbol_same _ _ u))
 name_same (a_piece m) (a_cell w) e = cc
+name_same (a_piece m) (a_node n h) e = cc
 name_same (a_cell v) (a_piece n) e = cc
+name_same (a_cell v) (a_node n h) e = cc
+name_same (a_node m g) (a_piece n) e = cc
+name_same (a_node m g) (a_cell w) e = cc
 
 new_from : (names : List (List ℕ)) → IsDistinct names → are_new names ≡ true
 new_from [] d = refl
@@ -75,9 +102,109 @@ new_from (name ∷ names) d =
     and_from (not (list_any (bytes_eq name) names)) (are_new names)
     (none_from (bytes_eq name) names (λ x i h. d.0 (subst (λ (y : List ℕ). IsIn y names) (sym ((bytes_decides name x).0 h)) i))) (new_from names d.1)
 
+-- ---- nodes
+
+-- the levels are 12 at most
+pub few_levels : (n : ℕ) → 2 ^ levels_for n ≤ 4096
+unfolding levels_for
+few_levels n = pow-le-pow_right {n = 2} (omega arith) (most (λ k. nat_le n (2 ^ k)) (range_with_len 0 12))
+  where
+    most : (test : ℕ → Bool) (xs : List ℕ) → position_or_len test xs ≤ length xs
+    most test [] = omega arith
+    most test (x ∷ xs) = by_test (test x) (most test xs)
+      where
+        by_test : (b : Bool) → position_or_len test xs ≤ length xs → cond (not b) (1 + position_or_len test xs) 0 ≤ suc (length xs)
+        by_test true h = omega arith
+        by_test false h = omega arith
+
+distinct_range : (a n : ℕ) → IsDistinct (range_with_len a n)
+distinct_range a zero = tt
+distinct_range a (suc n) = ((λ i. let h = at_least (a + 1) n a i in absurd (omega arith)), distinct_range (a + 1) n)
+  where
+    at_least : (a n x : ℕ) → IsIn x (range_with_len a n) → a ≤ x
+    at_least a zero x i = absurd i
+    at_least a (suc n) x i = elim i [ inl e ↦ omega arith | inr r ↦ let h = at_least (a + 1) n x r in omega arith ]
+
+distinct_flat_map : {X A : Type 0} (f : X → List A) (xs : List X) → ((x : X) → IsIn x xs → IsDistinct (f x)) → ((x y : X) (a : A) → IsIn x xs → IsIn y xs → IsIn a (f x) → IsIn a (f y) → x ≡ y) → IsDistinct xs → IsDistinct (flat_map f xs)
+distinct_flat_map f [] each one d = tt
+distinct_flat_map {X} {A} f (x ∷ xs) each one d =
+    distinct_append (f x) (flat_map f xs) (each x (inl refl))
+    (distinct_flat_map f xs (λ y i. each y (inr i)) (λ y z a i j. one y z a (inr i) (inr j)) d.1)
+    (λ a i j.
+    let y = in_from_flat_map f a xs j in
+    d.0 (subst (λ (w : X). IsIn w xs) (sym (one x y.0 a (inl refl) (inr y.1) i y.2)) y.1))
+
+distinct_if : (t : Bool) (x : ℕ) (xs : List ℕ) → (IsIn x xs → ⊥) → IsDistinct xs → IsDistinct (cond t (x ∷ xs) xs)
+distinct_if true x xs new d = (new, d)
+distinct_if false x xs new d = d
+
+distinct_right_turns : (k n : ℕ) → IsBelow k n → IsDistinct (from_right k n)
+distinct_right_turns zero n b = tt
+distinct_right_turns (suc k) n b =
+    distinct_if (n % 2 == 1) (n / 2) (from_right k (n / 2)) (λ i. let h = right_above k (n / 2) (n / 2) (up k n b) i in let l = (up k n b).low in omega arith) (distinct_right_turns k (n / 2) (up k n b))
+
+distinct_left_turns : (k n : ℕ) → IsBelow k n → IsDistinct (from_left k n)
+distinct_left_turns zero n b = tt
+distinct_left_turns (suc k) n b =
+    distinct_if (n % 2 == 0) (n / 2) (from_left k (n / 2)) (λ i. let h = left_above k (n / 2) (n / 2) (up k n b) i in let l = (up k n b).low in omega arith) (distinct_left_turns k (n / 2) (up k n b))
+
+distinct_given : (b : Bool) (ts : List Thing) → IsDistinct ts → IsDistinct (given b ts)
+distinct_given true ts d = d
+distinct_given false ts d = tt
+
+-- ---- pairs
+
+pairs_in : (ns : List ℕ) → IsDistinct ns → IsDistinct (neighbours ns)
+pairs_in [] d = tt
+pairs_in (a ∷ []) d = tt
+pairs_in (a ∷ b ∷ ns) d = ((λ i. d.0 (in_group a b (b ∷ ns) i).0), pairs_in (b ∷ ns) d.1)
+
+pairs_among : (groups : List (List ℕ)) → IsDistinct (all_of groups) → IsDistinct (flat_map neighbours groups)
+pairs_among [] d = tt
+pairs_among (g ∷ gs) d =
+    distinct_append (neighbours g) (flat_map neighbours gs) (pairs_in g (distinct_left g (all_of gs) d)) (pairs_among gs (distinct_right g (all_of gs) d))
+    (λ q i j. distinct_apart (q.0) g (all_of gs) d (in_group (q.0) (q.1) g i).0 (among_groups (q.0) (q.1) gs j).0)
+
 -- ---- the things of a puzzle
 
 module _ (p : PuzzleValue) (z : IsPuzzle p) where
+  pub pairs_distinct : IsDistinct (pairs p)
+  pairs_distinct = pairs_among p.equal (distinct_names (all_of p.equal) z.equal_new)
+
+  -- pairs with one first piece are one
+  pub one_pair : (q r : ℕ × ℕ) → IsIn q (pairs p) → IsIn r (pairs p) → q.0 ≡ r.0 → q ≡ r
+  one_pair q r i j e = ap₂ (λ (m n : ℕ). (m, n)) e (pair_next p z (q.0) (q.1) (r.1) i (subst (λ (m : ℕ). IsIn (m, r.1) (pairs p)) (sym e) j))
+
+  pair_named : (q : ℕ × ℕ) → IsIn q (pairs p) → IsIn (q.0) (names_of p.pieces)
+  pair_named q i =
+      let known = passes (λ (n : ℕ). has_name (names_of p.pieces) n && is_needed p n) (all_of p.equal) z.equal_needed (q.0) (among_groups (q.0) (q.1) p.equal i).0 in
+      in_from_name (names_of p.pieces) (q.0) (and_parts (has_name (names_of p.pieces) (q.0)) (is_needed p (q.0)) known).0
+
+  -- a node of the trees
+  node_of : (t : Thing) → IsIn t (flat_map (nodes p) (pairs p)) → (q : ℕ × ℕ) × IsIn q (pairs p) × (h : ℕ) × (h < 4096) × (t ≡ a_node (q.0) h)
+  unfolding levels
+  node_of t i =
+      let q = in_from_flat_map (nodes p) t (pairs p) i in
+      let h = in_from_map (a_node (q.0.0)) t (range_with_len 1 (2 ^ levels p - 1)) q.2 in
+      let high = in_from_range h.0 1 (2 ^ levels p - 1) h.1 in
+      let few = few_levels (length p.region) in
+      (q.0, q.1, h.0, omega (arith, high, few), h.2)
+
+  nodes_distinct : IsDistinct (flat_map (nodes p) (pairs p))
+  nodes_distinct =
+      distinct_flat_map (nodes p) (pairs p)
+      (λ q i. distinct_map (a_node (q.0)) (range_with_len 1 (2 ^ levels p - 1)) (λ a b e. cc) (distinct_range 1 (2 ^ levels p - 1)))
+      (λ q r t i j a b.
+      let g = in_from_map (a_node (q.0)) t (range_with_len 1 (2 ^ levels p - 1)) a in
+      let h = in_from_map (a_node (r.0)) t (range_with_len 1 (2 ^ levels p - 1)) b in
+      let e = g.2 in
+      let f = h.2 in
+      one_pair q r i j (same_tree t (q.0) (r.0) g.0 h.0 e f))
+      pairs_distinct
+    where
+      same_tree : (t : Thing) (m n g h : ℕ) → t ≡ a_node m g → t ≡ a_node n h → m ≡ n
+      same_tree t m n g h e f = cc
+
   maybe_is_name : (n : ℕ) → IsIn n p.maybe_pieces → IsIn n (names_of p.pieces)
   maybe_is_name n i = in_from_name (names_of p.pieces) n (passes (has_name (names_of p.pieces)) p.maybe_pieces z.maybe_named n i)
 
@@ -92,7 +219,7 @@ module _ (p : PuzzleValue) (z : IsPuzzle p) where
 
   good : (t : Thing) → IsIn t (things p) → is_name (thing_name t) ≡ true
   good t i =
-      elim (in_append_cases t (needed_things p) (map a_piece p.maybe_pieces ++ map a_cell p.maybe_cells) i) [
+      elim (in_append_cases t (needed_things p) (other_things p) i) [
         | inl a ↦
             elim (needed_cases p t a) [
               | inl n ↦ subst (λ (s : Thing). is_name (thing_name s) ≡ true) (sym n.1) (piece_good n.0 n.2)
@@ -101,13 +228,18 @@ module _ (p : PuzzleValue) (z : IsPuzzle p) where
                   subst (λ (s : Thing). is_name (thing_name s) ≡ true) (sym v.1) (cell_good v.0 (in_from_has p.region v.0 c.0))
             ]
         | inr b ↦
-            elim (in_append_cases t (map a_piece p.maybe_pieces) (map a_cell p.maybe_cells) b) [
+            elim (in_append_cases t (map a_piece p.maybe_pieces) (map a_cell p.maybe_cells ++ flat_map (nodes p) (pairs p)) b) [
               | inl c ↦
                   let n = in_from_map a_piece t p.maybe_pieces c in
                   subst (λ (s : Thing). is_name (thing_name s) ≡ true) (sym n.2) (piece_good n.0 (maybe_is_name n.0 n.1))
-              | inr d ↦
-                  let v = in_from_map a_cell t p.maybe_cells d in
-                  subst (λ (s : Thing). is_name (thing_name s) ≡ true) (sym v.2) (cell_good v.0 (maybe_is_cell v.0 v.1))
+              | inr d ↦ elim (in_append_cases t (map a_cell p.maybe_cells) (flat_map (nodes p) (pairs p)) d) [
+                | inl e ↦
+                    let v = in_from_map a_cell t p.maybe_cells e in
+                    subst (λ (s : Thing). is_name (thing_name s) ≡ true) (sym v.2) (cell_good v.0 (maybe_is_cell v.0 v.1))
+                | inr e ↦
+                    let q = node_of t e in
+                    subst (λ (s : Thing). is_name (thing_name s) ≡ true) (sym q.4) (node_named (q.0.0) q.2 (passes words.is_name (names_of p.pieces) z.named (q.0.0) (pair_named q.0 q.1)) q.3)
+              ]
             ]
       ]
 
@@ -120,41 +252,65 @@ module _ (p : PuzzleValue) (z : IsPuzzle p) where
   maybe_names_distinct =
       subst (λ (ns : List ℕ). IsDistinct ns) (sym z.maybe_in_order) (distinct_filter (has_name p.maybe_pieces) (names_of p.pieces) (distinct_names (names_of p.pieces) z.new))
 
-  maybe_distinct : IsDistinct (map a_piece p.maybe_pieces ++ map a_cell p.maybe_cells)
-  maybe_distinct =
-      distinct_append (map a_piece p.maybe_pieces) (map a_cell p.maybe_cells) (distinct_map a_piece p.maybe_pieces (λ a b e. cc) maybe_names_distinct)
-      (distinct_map a_cell p.maybe_cells (λ a b e. cc) (distinct_rising coordinates_total p.maybe_cells z.maybe_rises))
+  later_distinct : IsDistinct (map a_cell p.maybe_cells ++ flat_map (nodes p) (pairs p))
+  later_distinct =
+      distinct_append (map a_cell p.maybe_cells) (flat_map (nodes p) (pairs p))
+      (distinct_map a_cell p.maybe_cells (λ a b e. cc) (distinct_rising coordinates_total p.maybe_cells z.maybe_rises)) nodes_distinct
       (λ t i j.
-      let name = in_from_map a_piece t p.maybe_pieces i in
-      let v = in_from_map a_cell t p.maybe_cells j in
-      let m = name.2 in
-      let n = v.2 in
+      let v = in_from_map a_cell t p.maybe_cells i in
+      let q = node_of t j in
+      let m = v.2 in
+      let n = q.4 in
       cc)
 
-  apart : (t : Thing) → IsIn t (needed_things p) → IsIn t (map a_piece p.maybe_pieces ++ map a_cell p.maybe_cells) → ⊥
+  other_distinct : IsDistinct (other_things p)
+  other_distinct =
+      distinct_append (map a_piece p.maybe_pieces) (map a_cell p.maybe_cells ++ flat_map (nodes p) (pairs p)) (distinct_map a_piece p.maybe_pieces (λ a b e. cc) maybe_names_distinct)
+      later_distinct
+      (λ t i j.
+      let name = in_from_map a_piece t p.maybe_pieces i in
+      let m = name.2 in
+      elim (in_append_cases t (map a_cell p.maybe_cells) (flat_map (nodes p) (pairs p)) j) [
+        | inl a ↦ let v = in_from_map a_cell t p.maybe_cells a in let n = v.2 in cc
+        | inr b ↦ let q = node_of t b in let n = q.4 in cc
+      ])
+
+  not_maybe : (n : ℕ) → is_needed p n ≡ true → has_name p.maybe_pieces n ≡ false
+  not_maybe n h = not-true _ (and_parts (not (has_name p.maybe_pieces n)) (not (has_name p.any_pieces n)) h).0
+
+  apart : (t : Thing) → IsIn t (needed_things p) → IsIn t (other_things p) → ⊥
   apart t i j =
-      elim (in_append_cases t (map a_piece p.maybe_pieces) (map a_cell p.maybe_cells) j) [
+      elim (in_append_cases t (map a_piece p.maybe_pieces) (map a_cell p.maybe_cells ++ flat_map (nodes p) (pairs p)) j) [
         | inl a ↦
             let n = in_from_map a_piece t p.maybe_pieces a in
             elim (needed_cases p t i) [
               | inl m ↦
                   let same : n.0 ≡ m.0 = let e = n.2 in let f = m.1 in cc in
-                  both_ways (has_name p.maybe_pieces n.0) (not-true _ (subst (λ (k : ℕ). is_needed p k ≡ true) (sym same) m.3)) (name_from_in p.maybe_pieces n.0 n.1)
+                  both_ways (has_name p.maybe_pieces n.0) (not_maybe n.0 (subst (λ (k : ℕ). is_needed p k ≡ true) (sym same) m.3)) (name_from_in p.maybe_pieces n.0 n.1)
               | inr v ↦ let e = n.2 in let f = v.1 in cc
             ]
-        | inr b ↦
-            let w = in_from_map a_cell t p.maybe_cells b in
-            elim (needed_cases p t i) [
-              | inl m ↦ let e = w.2 in let f = m.1 in cc
-              | inr v ↦
-                  let same : w.0 ≡ v.0 = let e = w.2 in let f = v.1 in cc in
-                  both_ways (has_cell p.maybe_cells w.0)
-                  (not-true _ (and_parts (has_cell p.region w.0) (not (has_cell p.maybe_cells w.0)) (subst (λ (u : Coordinates). must_fill p u ≡ true) (sym same) v.2)).1) (has_from_in p.maybe_cells w.0 w.1)
-            ]
+        | inr b ↦ elim (in_append_cases t (map a_cell p.maybe_cells) (flat_map (nodes p) (pairs p)) b) [
+          | inl c ↦
+              let w = in_from_map a_cell t p.maybe_cells c in
+              elim (needed_cases p t i) [
+                | inl m ↦ let e = w.2 in let f = m.1 in cc
+                | inr v ↦
+                    let same : w.0 ≡ v.0 = let e = w.2 in let f = v.1 in cc in
+                    both_ways (has_cell p.maybe_cells w.0)
+                    (not-true _ (and_parts (has_cell p.region w.0) (not (has_cell p.maybe_cells w.0)) (subst (λ (u : Coordinates). must_fill p u ≡ true) (sym same) v.2)).1) (has_from_in p.maybe_cells w.0 w.1)
+              ]
+          | inr c ↦
+              let q = node_of t c in
+              let e = q.4 in
+              elim (needed_cases p t i) [
+                | inl m ↦ let f = m.1 in cc
+                | inr v ↦ let f = v.1 in cc
+              ]
+        ]
       ]
 
   things_distinct : IsDistinct (things p)
-  things_distinct = distinct_append (needed_things p) (map a_piece p.maybe_pieces ++ map a_cell p.maybe_cells) (needed_distinct p z) maybe_distinct apart
+  things_distinct = distinct_append (needed_things p) (other_things p) (needed_distinct p z) other_distinct apart
 
   all_new : are_new (map thing_name (things p)) ≡ true
   all_new = new_from (map thing_name (things p)) (distinct_map thing_name (things p) name_same things_distinct)
@@ -170,18 +326,27 @@ module _ (p : PuzzleValue) (z : IsPuzzle p) where
         | inl t ↦ is_lt (length (needed_things p)) t
         | inr f ↦
             let e = is_none (length (needed_things p)) f in
-            let names : list_all (has_name p.maybe_pieces) (names_of p.pieces) ≡ true =
-            all_pass (has_name p.maybe_pieces) (names_of p.pieces)
-            (λ n i. true_from_ne_false _ (λ g. no_needed e (a_piece n) (needed_piece p n i (not_from_false (has_name p.maybe_pieces n) g)))) in
+            let names : list_all (has_name (p.maybe_pieces ++ p.any_pieces)) (names_of p.pieces) ≡ true =
+            all_pass (has_name (p.maybe_pieces ++ p.any_pieces)) (names_of p.pieces)
+            (λ n i. either_name n (false_from_ne_true _ (λ g. no_needed e (a_piece n) (needed_piece p n i g)))) in
             let cells : list_all (has_cell p.maybe_cells) p.region ≡ true =
             all_pass (has_cell p.maybe_cells) p.region (λ v i. true_from_ne_false _ (λ g.
             no_needed e (a_cell v)
             (needed_cell p v (and_from (has_cell p.region v) (not (has_cell p.maybe_cells v)) (has_from_in p.region v i) (not_from_false (has_cell p.maybe_cells v) g))))) in
-            let all = and_from (list_all (has_name p.maybe_pieces) (names_of p.pieces)) (list_all (has_cell p.maybe_cells) p.region) names cells in
+            let all = and_from (list_all (has_name (p.maybe_pieces ++ p.any_pieces)) (names_of p.pieces)) (list_all (has_cell p.maybe_cells) p.region) names cells in
             let required = z.required in
             cc
       ]
     where
+      -- a piece that isn't needed has one of the names
+      either_name : (n : ℕ) → is_needed p n ≡ false → has_name (p.maybe_pieces ++ p.any_pieces) n ≡ true
+      either_name n h = list_any-append (λ m. m == n) p.maybe_pieces p.any_pieces ∙ by_tests (has_name p.maybe_pieces n) (has_name p.any_pieces n) h
+        where
+          by_tests : (a b : Bool) → (not a && not b) ≡ false → (a || b) ≡ true
+          by_tests true b e = refl
+          by_tests false true e = refl
+          by_tests false false e = cc
+
       is_lt : (n : ℕ) → nat_lt 0 n ≡ true → 0 < n
       is_lt n h = grind (arith, nat_tests)
 
@@ -190,11 +355,62 @@ module _ (p : PuzzleValue) (z : IsPuzzle p) where
 
   -- ---- options
 
-  parts_distinct : (c : ChoiceValue) → IsPlaced p c → IsDistinct (things_of c)
-  parts_distinct c h = (
-    (λ i. let v = in_from_map a_cell (a_piece c.name) c.cells i in let m = v.2 in cc),
-    distinct_map a_cell c.cells (λ a b e. cc) (distinct_rising coordinates_total c.cells h.rises),
-  )
+  -- a node by a pair
+  node_by : (c : ChoiceValue) (q : ℕ × ℕ) (t : Thing) → IsIn t (nodes_by p c q) → (h : ℕ) × (t ≡ a_node (q.0) h)
+  node_by c q t i =
+      let rights = map (a_node (q.0)) (from_right (levels p) (leaf_of p c)) in
+      let lefts = map (a_node (q.0)) (from_left (levels p) (leaf_of p c)) in
+      elim (in_append_cases t (given (c.name == q.0) rights) (given (c.name == q.1) lefts) i) [
+        | inl l ↦ let h = in_from_map (a_node (q.0)) t (from_right (levels p) (leaf_of p c)) (in_given (c.name == q.0) t rights l).1 in (h.0, h.2)
+        | inr r ↦ let h = in_from_map (a_node (q.0)) t (from_left (levels p) (leaf_of p c)) (in_given (c.name == q.1) t lefts r).1 in (h.0, h.2)
+      ]
+
+  by_distinct : (c : ChoiceValue) → IsBelow (levels p) (leaf_of p c) → (q : ℕ × ℕ) → IsIn q (pairs p) → IsDistinct (nodes_by p c q)
+  by_distinct c b q i =
+      let rights = map (a_node (q.0)) (from_right (levels p) (leaf_of p c)) in
+      let lefts = map (a_node (q.0)) (from_left (levels p) (leaf_of p c)) in
+      distinct_append (given (c.name == q.0) rights) (given (c.name == q.1) lefts)
+      (distinct_given (c.name == q.0) rights (distinct_map (a_node (q.0)) (from_right (levels p) (leaf_of p c)) (λ x y e. cc) (distinct_right_turns (levels p) (leaf_of p c) b)))
+      (distinct_given (c.name == q.1) lefts (distinct_map (a_node (q.0)) (from_left (levels p) (leaf_of p c)) (λ x y e. cc) (distinct_left_turns (levels p) (leaf_of p c) b)))
+      (λ t l r. pair_differs p z (q.0) (q.1) i (sym (eqb-true c.name (q.0) (in_given (c.name == q.0) t rights l).0) ∙ eqb-true c.name (q.1) (in_given (c.name == q.1) t lefts r).0))
+
+  all_by_distinct : (c : ChoiceValue) → IsBelow (levels p) (leaf_of p c) → IsDistinct (flat_map (nodes_by p c) (pairs p))
+  all_by_distinct c b =
+      distinct_flat_map (nodes_by p c) (pairs p) (by_distinct c b)
+      (λ q r t i j x y.
+      let g = node_by c q t x in
+      let h = node_by c r t y in
+      one_pair q r i j (same_tree t (q.0) (r.0) g.0 h.0 g.1 h.1))
+      pairs_distinct
+    where
+      same_tree : (t : Thing) (m n g h : ℕ) → t ≡ a_node m g → t ≡ a_node n h → m ≡ n
+      same_tree t m n g h e f = cc
+
+  parts_distinct : (c : ChoiceValue) → IsPlaced p c → IsBelow (levels p) (leaf_of p c) → IsDistinct (things_of p c)
+  parts_distinct c h b =
+      distinct_append (given (not (is_any p c.name)) (a_piece c.name ∷ [])) (map a_cell c.cells ++ flat_map (nodes_by p c) (pairs p))
+      (distinct_given (not (is_any p c.name)) (a_piece c.name ∷ []) ((λ i. i), tt))
+      (distinct_append (map a_cell c.cells) (flat_map (nodes_by p c) (pairs p)) (distinct_map a_cell c.cells (λ x y e. cc) (distinct_rising coordinates_total c.cells h.rises))
+      (all_by_distinct c b)
+      (λ t i j.
+      let v = in_from_map a_cell t c.cells i in
+      let q = in_from_flat_map (nodes_by p c) t (pairs p) j in
+      let k = node_by c q.0 t q.2 in
+      let e = v.2 in
+      let f = k.1 in
+      cc))
+      (λ t i j.
+      elim (in_given (not (is_any p c.name)) t (a_piece c.name ∷ []) i).1 [
+        | inl e ↦ elim (in_append_cases t (map a_cell c.cells) (flat_map (nodes_by p c) (pairs p)) j) [
+          | inl l ↦ let v = in_from_map a_cell t c.cells l in let f = v.2 in cc
+          | inr r ↦
+              let q = in_from_flat_map (nodes_by p c) t (pairs p) r in
+              let k = node_by c q.0 t q.2 in
+              let f = k.1 in
+              cc
+        ]
+        | inr n ↦ absurd n
+      ])
 
   distinct_items : (ts : List Thing) → ((t : Thing) → IsIn t ts → IsIn t (things p)) → IsDistinct ts → are_distinct (map (item_of p) ts) ≡ true
   distinct_items [] inside d = refl
@@ -214,14 +430,25 @@ module _ (p : PuzzleValue) (z : IsPuzzle p) where
       and_from (nat_lt 0 (index_among t (things p) + 1)) (nat_le (index_among t (things p) + 1) (length (map thing_name (things p))))
       (lt-ltb 0 (index_among t (things p) + 1) (omega arith)) (le-leb (index_among t (things p) + 1) (length (map thing_name (things p))) (omega (arith, at, long)))
 
+  -- an option has an item: its piece or its least cell
+  some_item : (c : ChoiceValue) → IsPlaced p c → 0 < length (option_of p c)
+  some_item c h =
+      let v = in_map (item_of p) (a_cell (first_cell c.cells)) (things_of p c) (cell_part p c (first_cell c.cells) (least_in p (has_shapes p z) c h)) in
+      some_from_member (item_of p (a_cell (first_cell c.cells))) (option_of p c) v
+    where
+      some_from_member : (n : ℕ) (ns : List ℕ) → IsIn n ns → 0 < length ns
+      some_from_member n [] i = absurd i
+      some_from_member n (m ∷ ns) i = omega arith
+
   option_good : (c : ChoiceValue) → IsPlaced p c → is_option (length (map thing_name (things p))) (option_of p c) ≡ true
   option_good c h =
+      let b = leaf_placed p (has_shapes p z) c h in
       and_from (nat_lt 0 (length (option_of p c)) && are_distinct (option_of p c)) (list_all (is_item (length (map thing_name (things p)))) (option_of p c))
-      (and_from (nat_lt 0 (length (option_of p c))) (are_distinct (option_of p c)) (lt-ltb 0 (length (option_of p c)) (omega arith))
-      (distinct_items (things_of c) (parts_in p c h) (parts_distinct c h)))
+      (and_from (nat_lt 0 (length (option_of p c))) (are_distinct (option_of p c)) (lt-ltb 0 (length (option_of p c)) (some_item c h))
+      (distinct_items (things_of p c) (parts_in p c h b) (parts_distinct c h b)))
       (all_pass (is_item (length (map thing_name (things p)))) (option_of p c) (λ n i.
-      let t = in_from_map (item_of p) n (things_of c) i in
-      subst (λ (k : ℕ). is_item (length (map thing_name (things p))) k ≡ true) (sym t.2) (item_within t.0 (parts_in p c h t.0 t.1))))
+      let t = in_from_map (item_of p) n (things_of p c) i in
+      subst (λ (k : ℕ). is_item (length (map thing_name (things p))) k ≡ true) (sym t.2) (item_within t.0 (parts_in p c h b t.0 t.1))))
 
   all_options : list_all (is_option (length (map thing_name (things p)))) (map (option_of p) (choices p)) ≡ true
   all_options = all_pass (is_option (length (map thing_name (things p)))) (map (option_of p) (choices p)) (λ o i.
@@ -234,7 +461,7 @@ module _ (p : PuzzleValue) (z : IsPuzzle p) where
     some = some_needed;
     within =
         let long = length-map (things p) thing_name in
-        let all = length-append (needed_things p) (map a_piece p.maybe_pieces ++ map a_cell p.maybe_cells) in
+        let all = length-append (needed_things p) (other_things p) in
         omega (arith, long, all);
     named = all_named;
     new = all_new;
@@ -244,43 +471,68 @@ module _ (p : PuzzleValue) (z : IsPuzzle p) where
 
 -- ---- the names of the items
 
-pub names_are : (p : PuzzleValue) → ((map (λ (n : ℕ). n ∷ []) (needed_names p) ++ map cell_word (filled_cells p)) ++ map (λ (n : ℕ). n ∷ []) p.maybe_pieces) ++ map cell_word p.maybe_cells ≡ map thing_name (things p)
+pub names_are : (p : PuzzleValue)
+    → (((map (λ (n : ℕ). n ∷ []) (needed_names p) ++ map cell_word (filled_cells p)) ++ map (λ (n : ℕ). n ∷ []) p.maybe_pieces) ++ map cell_word p.maybe_cells) ++ map thing_name (flat_map (nodes p) (pairs p))
+    ≡ map thing_name (things p)
 names_are p =
-    append_assoc (map (λ (n : ℕ). n ∷ []) (needed_names p) ++ map cell_word (filled_cells p)) (map (λ (n : ℕ). n ∷ []) p.maybe_pieces) (map cell_word p.maybe_cells)
-    ∙ ap₂ (λ (xs ys : List (List ℕ)). xs ++ ys) (two (needed_names p) (filled_cells p)) (two p.maybe_pieces p.maybe_cells)
-    ∙ sym (map-append thing_name (needed_things p) (map a_piece p.maybe_pieces ++ map a_cell p.maybe_cells))
+    ap (λ (xs : List (List ℕ)). xs ++ map thing_name trees)
+    (append_assoc (map (λ (n : ℕ). n ∷ []) (needed_names p) ++ map cell_word (filled_cells p)) (map (λ (n : ℕ). n ∷ []) p.maybe_pieces) (map cell_word p.maybe_cells)
+    ∙ ap₂ (λ (xs ys : List (List ℕ)). xs ++ ys) (two (needed_names p) (filled_cells p)) (two p.maybe_pieces p.maybe_cells))
+    ∙ append_assoc (map thing_name (needed_things p)) (map thing_name (map a_piece p.maybe_pieces ++ map a_cell p.maybe_cells)) (map thing_name trees)
+    ∙ ap (λ (xs : List (List ℕ)). map thing_name (needed_things p) ++ xs) (sym (map-append thing_name (map a_piece p.maybe_pieces ++ map a_cell p.maybe_cells) trees))
+    ∙ ap (λ (xs : List Thing). map thing_name (needed_things p) ++ map thing_name xs) (append_assoc (map a_piece p.maybe_pieces) (map a_cell p.maybe_cells) trees)
+    ∙ sym (map-append thing_name (needed_things p) (other_things p))
   where
+    trees : List Thing
+    trees = flat_map (nodes p) (pairs p)
+
     two : (ns : List ℕ) (vs : List Coordinates) → map (λ (n : ℕ). n ∷ []) ns ++ map cell_word vs ≡ map thing_name (map a_piece ns ++ map a_cell vs)
     two ns vs = ap₂ (λ (xs ys : List (List ℕ)). xs ++ ys) (sym (map-map thing_name a_piece ns)) (sym (map-map thing_name a_cell vs)) ∙ sym (map-append thing_name (map a_piece ns) (map a_cell vs))
 
 -- ---- what is made
 
-entries_same : (p : PuzzleValue) (cs : List ChoiceValue) → sum_by length (map (option_of p) cs) + length (map (option_of p) cs) ≡ entries_of cs
+entries_same : (p : PuzzleValue) (cs : List ChoiceValue) → sum_by length (map (option_of p) cs) + length (map (option_of p) cs) ≡ entries_of p cs
 entries_same p [] = refl
 entries_same p (c ∷ cs) =
     let rest = entries_same p cs in
-    let cells = length-map (map a_cell c.cells) (item_of p) in
-    let same = length-map c.cells a_cell in
+    let same = length-map (things_of p c) (item_of p) in
     let sum = sum_by-cons length (option_of p c) (map (option_of p) cs) in
-    let all = sum_by-cons (λ (d : ChoiceValue). length d.cells + 2) c cs in
-    omega (arith, rest, cells, same, sum, all)
+    let all = sum_by-cons (λ (d : ChoiceValue). length (things_of p d) + 1) c cs in
+    omega (arith, rest, same, sum, all)
+
+-- where there are too many items the problem is large
+pub large_is : (p : PuzzleValue) → MOST_ITEMS < length (things p) → is_small (packing_problem p) ≡ false
+unfolding packing_problem
+large_is p many =
+    false_from_ne_true _ (λ t.
+    let parts = and_parts (nat_le (length names) MOST_ITEMS && nat_le (length options) MOST_OPTIONS) (nat_le (length names + sum_by length options + length options + 2) MOST_ENTRIES) t in
+    let first = and_parts (nat_le (length names) MOST_ITEMS) (nat_le (length options) MOST_OPTIONS) parts.0 in
+    let few = leb-true (length names) MOST_ITEMS first.0 in
+    let long = length-map (things p) thing_name in
+    omega (arith, few, long, many))
+  where
+    names : List (List ℕ)
+    names = map thing_name (things p)
+
+    options : List (List ℕ)
+    options = map (option_of p) (choices p)
 
 -- the problem is small exactly where there is room for the choices
-pub small_is : (p : PuzzleValue) → length (things p) ≤ MOST_ITEMS → is_small (packing_problem p) ≡ has_room (length (things p)) (choices p)
+pub small_is : (p : PuzzleValue) → length (things p) ≤ MOST_ITEMS → is_small (packing_problem p) ≡ has_room p (length (things p)) (choices p)
 unfolding packing_problem
 small_is p few =
-    same_tests (is_small (packing_problem p)) (has_room (length (things p)) (choices p))
+    same_tests (is_small (packing_problem p)) (has_room p (length (things p)) (choices p))
     (λ t.
     let parts = and_parts (nat_le (length names) MOST_ITEMS && nat_le (length options) MOST_OPTIONS) (nat_le (length names + sum_by length options + length options + 2) MOST_ENTRIES) t in
     let first = and_parts (nat_le (length names) MOST_ITEMS) (nat_le (length options) MOST_OPTIONS) parts.0 in
     let count = leb-true (length options) MOST_OPTIONS first.1 in
     let size = leb-true (length names + sum_by length options + length options + 2) MOST_ENTRIES parts.1 in
-    and_from (nat_le (length (choices p)) MOST_OPTIONS) (nat_le (length (things p) + entries_of (choices p) + 2) MOST_ENTRIES) (le-leb (length (choices p)) MOST_OPTIONS (omega (arith, count, many)))
-    (le-leb (length (things p) + entries_of (choices p) + 2) MOST_ENTRIES (omega (arith, size, long, entries))))
+    and_from (nat_le (length (choices p)) MOST_OPTIONS) (nat_le (length (things p) + entries_of p (choices p) + 2) MOST_ENTRIES) (le-leb (length (choices p)) MOST_OPTIONS (omega (arith, count, many)))
+    (le-leb (length (things p) + entries_of p (choices p) + 2) MOST_ENTRIES (omega (arith, size, long, entries))))
     (λ t.
-    let parts = and_parts (nat_le (length (choices p)) MOST_OPTIONS) (nat_le (length (things p) + entries_of (choices p) + 2) MOST_ENTRIES) t in
+    let parts = and_parts (nat_le (length (choices p)) MOST_OPTIONS) (nat_le (length (things p) + entries_of p (choices p) + 2) MOST_ENTRIES) t in
     let count = leb-true (length (choices p)) MOST_OPTIONS parts.0 in
-    let size = leb-true (length (things p) + entries_of (choices p) + 2) MOST_ENTRIES parts.1 in
+    let size = leb-true (length (things p) + entries_of p (choices p) + 2) MOST_ENTRIES parts.1 in
     and_from (nat_le (length names) MOST_ITEMS && nat_le (length options) MOST_OPTIONS) (nat_le (length names + sum_by length options + length options + 2) MOST_ENTRIES)
     (and_from (nat_le (length names) MOST_ITEMS) (nat_le (length options) MOST_OPTIONS) (le-leb (length names) MOST_ITEMS (omega (arith, few, long))) (le-leb (length options) MOST_OPTIONS (omega (arith, count, many))))
     (le-leb (length names + sum_by length options + length options + 2) MOST_ENTRIES (omega (arith, size, long, entries))))
@@ -297,7 +549,7 @@ small_is p few =
     many : length (map (option_of p) (choices p)) ≡ length (choices p)
     many = length-map (choices p) (option_of p)
 
-    entries : sum_by length (map (option_of p) (choices p)) + length (map (option_of p) (choices p)) ≡ entries_of (choices p)
+    entries : sum_by length (map (option_of p) (choices p)) + length (map (option_of p) (choices p)) ≡ entries_of p (choices p)
     entries = entries_same p (choices p)
 
 -- the parts are those of the problem

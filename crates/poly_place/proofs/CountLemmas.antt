@@ -1,7 +1,9 @@
 -- How many things a puzzle has at most, and lists made by a test, one by one.
-use Rattle.std.proofs.Common.{◌≡◌, ℕ, ◌+◌, ◌<◌, ◌≤◌, List, [], ◌∷◌, ◌++◌, map, filter, length, get_or, take, Bool, true, false, cond, sym, ap, subst, ◌∙◌, Some, slice_get, append-nil, arith}
+use Rattle.std.proofs.Common.{◌-◌, ◌*◌, ◌^◌, flat_map, ◌≡◌, ℕ, ◌+◌, ◌<◌, ◌≤◌, List, [], ◌∷◌, ◌++◌, map, filter, length, get_or, take, Bool, true, false, cond, sym, ap, subst, ◌∙◌, Some, slice_get, append-nil, arith}
 use Rattle.std.proofs.lemmas.List.Elements.{filter_more}
 use Rattle.std.proofs.lemmas.Option.{slice_get_within, get_or_from_slice_get}
+use Rattle.std.specs.List.{range_with_len}
+use Rattle.std.proofs.lemmas.List.FromFn.{length-range_with_len}
 use Rattle.std.proofs.lemmas.List.{get_or-map, length-append, length-map}
 use Rattle.poly_cells.specs.Coordinates.{Coordinates, coordinates_cmp}
 use Rattle.poly_cells.specs.Sets.{IsIn}
@@ -9,9 +11,9 @@ use Rattle.poly_cells.proofs.CoordinateLemmas.{coordinates_total}
 use Rattle.poly_cells.proofs.SetLemmas.{in_at, same_members}
 use Rattle.poly_cells.proofs.CellTestLemmas.{in_from_has, has_from_in}
 use Rattle.poly_cells.specs.CellTests.{has_cell}
-use Rattle.poly_texts.specs.Puzzle.{PuzzleValue, IsPuzzle, names_of, has_name}
-use Rattle.poly_place.specs.Packings.{is_needed, must_fill, needed_things, things, a_piece, a_cell}
-use Rattle.poly_place.specs.Compiled.{needed_names, filled_cells}
+use Rattle.poly_texts.specs.Puzzle.{PuzzleValue, IsPuzzle, names_of, has_name, is_needed}
+use Rattle.poly_place.specs.Packings.{must_fill, needed_things, other_things, things, nodes, pairs, levels, a_piece, a_cell, a_node}
+use Rattle.poly_place.specs.Compiled.{needed_names, filled_cells, before_nodes}
 use Rattle.poly_cells.proofs.MemberLemmas.{passes, in_from_filter, in_filter}
 use Rattle.std.proofs.lemmas.List.Sums.{length-filter, count_by-le-length}
 use Rattle.std.proofs.lemmas.List.Kept.{IsStrictlySortedBy-filter}
@@ -90,10 +92,22 @@ needed_count p =
     let second = length-map (filled_cells p) a_cell in
     omega (arith, all, first, second)
 
-pub things_count : (p : PuzzleValue) → length (things p) ≡ length (needed_things p) + length p.maybe_pieces + length p.maybe_cells
+pub things_count : (p : PuzzleValue) → length (things p) ≡ before_nodes p + length (pairs p) * (2 ^ levels p - 1)
 things_count p =
-    let all = length-append (needed_things p) (map a_piece p.maybe_pieces ++ map a_cell p.maybe_cells) in
-    let later = length-append (map a_piece p.maybe_pieces) (map a_cell p.maybe_cells) in
+    let trees = flat_map (nodes p) (pairs p) in
+    let all = length-append (needed_things p) (other_things p) in
+    let later = length-append (map a_piece p.maybe_pieces) (map a_cell p.maybe_cells ++ trees) in
+    let last = length-append (map a_cell p.maybe_cells) trees in
     let first = length-map p.maybe_pieces a_piece in
     let second = length-map p.maybe_cells a_cell in
-    omega (arith, all, later, first, second)
+    let third = trees_long (pairs p) in
+    omega (arith, all, later, last, first, second, third)
+  where
+    trees_long : (ps : List (ℕ × ℕ)) → length (flat_map (nodes p) ps) ≡ length ps * (2 ^ levels p - 1)
+    trees_long [] = omega arith
+    trees_long (q ∷ qs) =
+        let all = length-append (nodes p q) (flat_map (nodes p) qs) in
+        let one = length-map (range_with_len 1 (2 ^ levels p - 1)) (a_node (q.0)) in
+        let many = length-range_with_len 1 (2 ^ levels p - 1) in
+        let rest = trees_long qs in
+        omega (arith, all, one, many, rest)

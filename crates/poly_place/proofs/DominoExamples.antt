@@ -23,6 +23,9 @@ dominoes = record {
   maybe_pieces = [];
   region = coordinates 0 0 0 ∷ coordinates 0 1 0 ∷ coordinates 1 0 0 ∷ coordinates 1 1 0 ∷ [];
   maybe_cells = [];
+  any_pieces = [];
+  mirrored = [];
+  equal = [];
 }
 
 -- the items are A, B and the cells 000, 010, 100 and 110; each piece has four options

@@ -2,7 +2,8 @@
 use Rattle.std.proofs.Common.{◌≡◌, ℕ, ◌+◌, ◌==◌, List, [], ◌∷◌, map, Bool, cond, inl, inr, refl, sym, ap, ap₂, ◌∙◌, eqb-true, eq-eqb, get_or}
 use Rattle.poly_cells.specs.Sets.{IsIn}
 use Rattle.poly_cells.proofs.SetLemmas.{in_map}
-use Rattle.poly_place.specs.Forms.{place_in, first_form}
+use Rattle.poly_place.specs.Forms.{first_form}
+use Rattle.poly_place.specs.Chosen.{place_in}
 use Rattle.std.specs.Cmp.{nat_eq_equiv, both_ways as same_tests}
 use Rattle.poly_cells.proofs.MemberLemmas.{same_at, same_map, first_at, first_within}
 use mathlib.Core.List.{map-map}

@@ -10,10 +10,10 @@ use Rattle.poly_cells.specs.Images.{HasSymmetry}
 use Rattle.poly_cells.proofs.SetLemmas.{in_map, in_from_map, in_append_left, in_append_right, in_append_cases, take_next}
 use Rattle.poly_cells.specs.CellTests.{is_same, has_cell}
 use Rattle.poly_place.specs.declared.alike.Group.{Group}
-use Rattle.poly_place.specs.Packings.{ChoiceValue}
+use Rattle.poly_place.specs.Packings.{ChoiceValue, place_of}
 use Rattle.poly_place.specs.Classes.{is_member, part_at}
 use Rattle.poly_place.specs.ClassCount.{image_in, images_in}
-use Rattle.poly_place.specs.Forms.{place_of, carrier, IsKept, AreCarriers, lesser, form_by, least_from}
+use Rattle.poly_place.specs.Forms.{carrier, IsKept, AreCarriers, lesser, form_by, least_from}
 use Rattle.poly_place.proofs.CarryLemmas.{image_stays}
 use Rattle.poly_cells.proofs.CellTestLemmas.{is_same_symmetric}
 use mathlib.Core.List.{map-map}

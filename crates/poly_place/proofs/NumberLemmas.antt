@@ -1,26 +1,31 @@
--- The number of each item: by a table for cells, by their places for pieces.
-use Rattle.std.proofs.Common.{◌≡◌, ℕ, ◌+◌, ◌<◌, ◌≤◌, List, [], ◌∷◌, ◌++◌, map, length, take, true, not, inl, inr, refl, sym, ap, subst, ◌∙◌, arith, slice_set}
+-- The number of each item: by a table for cells, by their places for pieces and nodes.
+use Rattle.std.proofs.Common.{ap₂, cond, ◌≡◌, ℕ, ◌+◌, ◌<◌, ◌≤◌, List, [], ◌∷◌, ◌++◌, map, length, take, true, not, inl, inr, refl, sym, ap, subst, ◌∙◌, arith, slice_set, Bool, false, ◌&&◌, ◌==◌, zero, suc, ◌-◌, ◌*◌, ◌^◌, flat_map, get_or}
 use Rattle.std.proofs.Math.ListN.{length-set}
-use Rattle.std.proofs.lemmas.Bool.{and_parts, and_from, cases_Bool, not_from_false, both_ways, not-true, cond-true, cases_lt, eq-eqb}
+use Rattle.std.proofs.lemmas.Bool.{and_parts, and_from, cases_Bool, not_from_false, both_ways, not-true, cond-true, cases_lt, eq-eqb, cases_eq, ne_eqb}
 use Rattle.std.proofs.lemmas.List.{get_or-set_same, get_or-set_other, take_at, length-map}
 use Rattle.poly_cells.specs.Coordinates.{Coordinates, IsInGrid}
 use Rattle.poly_cells.specs.Sets.{IsIn}
 use Rattle.poly_cells.specs.Shapes.{AllInGrid}
 use Rattle.poly_cells.proofs.CoordinateLemmas.{coordinates_total, is_same_Decides}
 use Rattle.poly_cells.proofs.SetLemmas.{in_append_left, in_append_cases, in_map, in_from_map, in_at}
-use Rattle.poly_cells.proofs.CellTestLemmas.{in_from_has, has_from_in}
+use Rattle.poly_cells.proofs.CellTestLemmas.{in_from_has, has_from_in, is_same_symmetric}
 use Rattle.poly_cells.specs.CellTests.{is_same, has_cell}
 use Rattle.poly_texts.specs.Puzzle.{PuzzleValue, IsPuzzle, names_of, has_name}
-use Rattle.poly_place.specs.Packings.{must_fill, Thing, a_piece, a_cell, same_thing, needed_things, index_among, item_of}
+use Rattle.poly_place.specs.Packings.{must_fill, Thing, a_piece, a_cell, same_thing, needed_things, index_among, item_of, a_node, other_things, pairs, levels, nodes, is_any, place_of}
 use Rattle.poly_place.specs.Tables.{bit_index}
-use Rattle.poly_place.specs.Compiled.{needed_names, filled_cells, item_number_at, numbered, AreNumbers}
-use Rattle.poly_cells.proofs.MemberLemmas.{passes, in_from_filter, in_filter}
+use Rattle.poly_place.specs.Compiled.{needed_names, filled_cells, item_number_at, numbered, AreNumbers, before_nodes, ArePlaces}
+use Rattle.poly_cells.proofs.MemberLemmas.{passes, in_from_filter, in_filter, same_map, in_to_range}
 use Rattle.poly_place.proofs.DistinctLemmas.{in_from_name, IsDistinct, distinct_filter, distinct_rising}
 use Rattle.poly_place.proofs.TableLemmas.{low, bit_index_same}
 use Rattle.poly_place.proofs.ThingLemmas.{same_is, place_here, place_later, place_in, place_append, nothing, needed_piece, needed_cell, needed_cases, place_is}
 use Rattle.std.proofs.lemmas.List.Sums.{passes_at_first, prefix_len-le-length}
 use Rattle.std.proofs.lemmas.List.Folds.{prefix_len-append}
-use Rattle.std.specs.List.{position_or_len}
+use Rattle.std.specs.List.{position_or_len, range_with_len}
+use Rattle.std.proofs.lemmas.List.FromFn.{length-range_with_len}
+use mathlib.Core.List.{map-map}
+use Rattle.poly_place.specs.Turns.{from_right, from_left}
+use Rattle.poly_place.proofs.TurnLemmas.{IsBelow, right_above, left_above, right_some, left_some}
+use Rattle.poly_place.proofs.CompiledLemmas.{pairs_distinct, one_pair}
 
 -- ---- places in joined lists
 
@@ -53,21 +58,21 @@ needed_item p name place e h =
     let long : length (map a_piece (needed_names p)) ≡ length (needed_names p) = length-map (needed_names p) a_piece in
     let here = place_found (a_piece name) (map a_piece (needed_names p)) (omega (arith, e, h, long)) in
     let inner = place_append (a_piece name) (map a_piece (needed_names p)) (map a_cell (filled_cells p)) here in
-    let outer = place_append (a_piece name) (needed_things p) (map a_piece p.maybe_pieces ++ map a_cell p.maybe_cells) (in_append_left (a_piece name) (map a_piece (needed_names p)) (map a_cell (filled_cells p)) here) in
+    let outer = place_append (a_piece name) (needed_things p) (other_things p) (in_append_left (a_piece name) (map a_piece (needed_names p)) (map a_cell (filled_cells p)) here) in
     omega (arith, e, inner, outer)
 
-pub maybe_item : (p : PuzzleValue) (name place later : ℕ) → IsIn name (names_of p.pieces) → place ≡ index_among (a_piece name) (map a_piece (needed_names p))
+pub maybe_item : (p : PuzzleValue) (name place later : ℕ) → IsIn name (names_of p.pieces) → is_any p name ≡ false → place ≡ index_among (a_piece name) (map a_piece (needed_names p))
     → length (needed_names p) ≤ place → later ≡ index_among (a_piece name) (map a_piece p.maybe_pieces) → item_of p (a_piece name) ≡ length (needed_things p) + later + 1
 unfolding item_of
-maybe_item p name place later member e h l =
+maybe_item p name place later member single e h l =
     let long : length (map a_piece (needed_names p)) ≡ length (needed_names p) = length-map (needed_names p) a_piece in
     let out : IsIn (a_piece name) (map a_piece (needed_names p)) → ⊥ = λ i. let at = (place_in nothing (a_piece name) (map a_piece (needed_names p)) i).0 in omega (arith, e, h, long, at) in
     let outside : IsIn (a_piece name) (needed_things p) → ⊥ =
     λ i. elim (in_append_cases (a_piece name) (map a_piece (needed_names p)) (map a_cell (filled_cells p)) i) [ inl a ↦ out a | inr b ↦ no_cell name (filled_cells p) b ] in
     let optional : has_name p.maybe_pieces name ≡ true =
-    elim (cases_Bool (has_name p.maybe_pieces name)) [ inl t ↦ t | inr f ↦ absurd (outside (needed_piece p name member (not_from_false (has_name p.maybe_pieces name) f))) ] in
-    let past = place_past (a_piece name) (needed_things p) (map a_piece p.maybe_pieces ++ map a_cell p.maybe_cells) outside in
-    let inner = place_append (a_piece name) (map a_piece p.maybe_pieces) (map a_cell p.maybe_cells) (in_map a_piece name p.maybe_pieces (in_from_name p.maybe_pieces name optional)) in
+    elim (cases_Bool (has_name p.maybe_pieces name)) [ inl t ↦ t | inr f ↦ absurd (outside (needed_piece p name member (and_from (not (has_name p.maybe_pieces name)) (not (has_name p.any_pieces name)) (not_from_false (has_name p.maybe_pieces name) f) (not_from_false (has_name p.any_pieces name) single)))) ] in
+    let past = place_past (a_piece name) (needed_things p) (other_things p) outside in
+    let inner = place_append (a_piece name) (map a_piece p.maybe_pieces) (map a_cell p.maybe_cells ++ flat_map (nodes p) (pairs p)) (in_map a_piece name p.maybe_pieces (in_from_name p.maybe_pieces name optional)) in
     omega (arith, l, past, inner)
 
 -- ---- cells, by a table
@@ -106,6 +111,11 @@ numbered_in w numbers k (v ∷ vs) long all d i =
     plus_none : (a b : ℕ) → b ≡ 0 → a ≡ a + b
     plus_none a b h = omega (arith, h)
 
+-- the place among things is that among cells
+place_by : (vs : List Coordinates) (v : Coordinates) → index_among (a_cell v) (map a_cell vs) ≡ place_of vs v
+place_by [] v = refl
+place_by (w ∷ ws) v = ap₂ (λ (b : Bool) (n : ℕ). cond b 0 n) (is_same_symmetric v w) (omega (arith, place_by ws v))
+
 module _ (p : PuzzleValue) (z : IsPuzzle p) where
   pub filled_places : AllInGrid (filled_cells p)
   filled_places v i = z.limits v (in_from_filter (must_fill p) v p.region i).0
@@ -123,7 +133,7 @@ module _ (p : PuzzleValue) (z : IsPuzzle p) where
   unfolding item_of
   filled_item v i =
       let must = (in_from_filter (must_fill p) v p.region i).1 in
-      let outer = place_append (a_cell v) (needed_things p) (map a_piece p.maybe_pieces ++ map a_cell p.maybe_cells) (needed_cell p v must) in
+      let outer = place_append (a_cell v) (needed_things p) (other_things p) (needed_cell p v must) in
       let inner = place_past (a_cell v) (map a_piece (needed_names p)) (map a_cell (filled_cells p)) (no_piece v (needed_names p)) in
       let long : length (map a_piece (needed_names p)) ≡ length (needed_names p) = length-map (needed_names p) a_piece in
       omega (arith, outer, inner, long)
@@ -139,10 +149,11 @@ module _ (p : PuzzleValue) (z : IsPuzzle p) where
             both_ways (has_cell p.maybe_cells v)
             (not-true _ (and_parts (has_cell p.region v) (not (has_cell p.maybe_cells v)) (subst (λ (u : Coordinates). must_fill p u ≡ true) (sym same) w.2)).1) (has_from_in p.maybe_cells v i)
       ] in
-      let outer = place_past (a_cell v) (needed_things p) (map a_piece p.maybe_pieces ++ map a_cell p.maybe_cells) outside in
-      let inner = place_past (a_cell v) (map a_piece p.maybe_pieces) (map a_cell p.maybe_cells) (no_piece v p.maybe_pieces) in
+      let outer = place_past (a_cell v) (needed_things p) (other_things p) outside in
+      let inner = place_past (a_cell v) (map a_piece p.maybe_pieces) (map a_cell p.maybe_cells ++ flat_map (nodes p) (pairs p)) (no_piece v p.maybe_pieces) in
+      let last = place_append (a_cell v) (map a_cell p.maybe_cells) (flat_map (nodes p) (pairs p)) (in_map a_cell v p.maybe_cells i) in
       let long : length (map a_piece p.maybe_pieces) ≡ length p.maybe_pieces = length-map p.maybe_pieces a_piece in
-      omega (arith, outer, inner, long)
+      omega (arith, outer, inner, last, long)
 
   pub are_numbers : (base : List ℕ) (first second : ℕ) → length base ≡ 32768 → first ≡ length (needed_names p) → second ≡ length (needed_things p) + length p.maybe_pieces
       → AreNumbers p (numbered (numbered base (first + 1) (filled_cells p)) (second + 1) p.maybe_cells)
@@ -167,6 +178,17 @@ module _ (p : PuzzleValue) (z : IsPuzzle p) where
             ];
       }
 
+  -- ---- places, by a table
+
+  pub are_places : (base : List ℕ) → length base ≡ 32768 → ArePlaces p (numbered base 1 p.region)
+  are_places base long = record {
+    long = numbered_long base 1 p.region ∙ long;
+    same = λ v i.
+        let at = numbered_in v base 1 p.region long z.limits (distinct_rising coordinates_total p.region z.rises) i in
+        let place = place_by p.region v in
+        omega (arith, at, place);
+  }
+
 -- ---- the loops
 
 pub written_numbers : (p : PuzzleValue) → IsPuzzle p → (base one old new all left later : List ℕ) (cells empty : List Coordinates) (first second size : ℕ) → length base ≡ 32768 → length base ≡ size
@@ -182,3 +204,94 @@ written_numbers p z base one old new all left later cells empty first second siz
     all_is ∙ then ∙ ap (λ (ns : List ℕ). numbered ns (second + 1) empty) (old_is ∙ made ∙ ap (numbered base (first + 1)) is_filled)
     ∙ ap (numbered (numbered base (first + 1) (filled_cells p)) (second + 1)) is_empty in
     subst (AreNumbers p) (sym same) (are_numbers p z base first second long f s)
+
+pub written_places : (p : PuzzleValue) → IsPuzzle p → (base one all left : List ℕ) (cells : List Coordinates) (size : ℕ) → length base ≡ 32768 → length base ≡ size → cells ≡ p.region
+    → one ≡ numbered base (0 + 1) cells → all ≡ take size (one ++ left) → ArePlaces p all
+written_places p z base one all left cells size long sized is_region made whole =
+    let one_long : length one ≡ size = ap length made ∙ numbered_long base (0 + 1) cells ∙ sized in
+    let same : all ≡ numbered base 1 p.region = whole ∙ take_at one left size one_long ∙ made ∙ ap (numbered base 1) is_region in
+    subst (ArePlaces p) (sym same) (are_places p z base long)
+
+-- ---- in one tree
+
+in_tree : (n h a m : ℕ) → a ≤ h → h < a + m → index_among (a_node n h) (map (a_node n) (range_with_len a m)) ≡ h - a
+in_tree n h a zero low high = absurd (omega arith)
+in_tree n h a (suc m) low high =
+    elim (cases_eq h a) [
+      | inl e ↦
+          let here = place_here (a_node n h) (a_node n a) (map (a_node n) (range_with_len (a + 1) m)) (and_from (n == n) (h == a) (eq-eqb n n refl) (eq-eqb h a e)) in
+          omega (arith, here, e)
+      | inr d ↦
+          let later = place_later (a_node n h) (a_node n a) (map (a_node n) (range_with_len (a + 1) m)) (ap (λ b. (n == n) && b) (ne_eqb h a d) ∙ false_and (n == n)) in
+          let rest = in_tree n h (a + 1) m (omega (arith, d)) (omega (arith, high)) in
+          omega (arith, later, rest, d)
+    ]
+  where
+    false_and : (b : Bool) → (b && false) ≡ false
+    false_and true = refl
+    false_and false = refl
+
+tree_long : (p : PuzzleValue) (q : ℕ × ℕ) → length (nodes p q) ≡ 2 ^ levels p - 1
+tree_long p q = length-map (range_with_len 1 (2 ^ levels p - 1)) (a_node (q.0)) ∙ length-range_with_len 1 (2 ^ levels p - 1)
+
+-- a tree has nodes of its own first name alone
+of_tree : (p : PuzzleValue) (q : ℕ × ℕ) (n h : ℕ) → IsIn (a_node n h) (nodes p q) → n ≡ q.0
+of_tree p q n h i = let m = in_from_map (a_node (q.0)) (a_node n h) (range_with_len 1 (2 ^ levels p - 1)) i in let e = m.2 in cc
+
+-- ---- in the trees of some pairs with different first names
+
+in_trees : (p : PuzzleValue) (ps : List (ℕ × ℕ)) → ((q r : ℕ × ℕ) → IsIn q ps → IsIn r ps → q.0 ≡ r.0 → q ≡ r) → IsDistinct ps → (d : ℕ × ℕ) (k h : ℕ) → k < length ps → 0 < h → h < 2 ^ levels p
+    → index_among (a_node ((get_or ps k d).0) h) (flat_map (nodes p) ps) ≡ k * (2 ^ levels p - 1) + (h - 1)
+in_trees p [] one dis d k h lt some within = absurd (omega arith)
+in_trees p (q ∷ ps) one dis d zero h lt some within =
+    let here : IsIn (a_node (q.0) h) (nodes p q) = in_map (a_node (q.0)) h (range_with_len 1 (2 ^ levels p - 1)) (in_to_range h 1 (2 ^ levels p - 1) some (omega arith)) in
+    let first = place_append (a_node (q.0) h) (nodes p q) (flat_map (nodes p) ps) here in
+    let at = in_tree (q.0) h 1 (2 ^ levels p - 1) some (omega arith) in
+    omega (arith, first, at)
+in_trees p (q ∷ ps) one dis d (suc k) h lt some within =
+    let r = get_or ps k d in
+    let member = in_at ps k d (omega arith) in
+    let out : IsIn (a_node (r.0) h) (nodes p q) → ⊥ = λ i. dis.0 (subst (λ (x : ℕ × ℕ). IsIn x ps) (one r q (inr member) (inl refl) (of_tree p q (r.0) h i)) member) in
+    let past = place_past (a_node (r.0) h) (nodes p q) (flat_map (nodes p) ps) out in
+    let long = tree_long p q in
+    let rest = in_trees p ps (λ x y i j. one x y (inr i) (inr j)) dis.1 d k h (omega arith) some within in
+    omega (arith, past, long, rest)
+
+-- ---- a node's item
+
+module _ (p : PuzzleValue) (z : IsPuzzle p) where
+  not_needed : (n h : ℕ) → IsIn (a_node n h) (needed_things p) → ⊥
+  not_needed n h i = elim (needed_cases p (a_node n h) i) [ inl m ↦ let e = m.1 in cc | inr v ↦ let e = v.1 in cc ]
+
+  not_piece : (n h : ℕ) → IsIn (a_node n h) (map a_piece p.maybe_pieces) → ⊥
+  not_piece n h i = let m = in_from_map a_piece (a_node n h) p.maybe_pieces i in let e = m.2 in cc
+
+  not_cell : (n h : ℕ) → IsIn (a_node n h) (map a_cell p.maybe_cells) → ⊥
+  not_cell n h i = let v = in_from_map a_cell (a_node n h) p.maybe_cells i in let e = v.2 in cc
+
+  pub node_item : (d : ℕ × ℕ) (k h : ℕ) → k < length (pairs p) → 0 < h → h < 2 ^ levels p
+      → item_of p (a_node ((get_or (pairs p) k d).0) h) ≡ before_nodes p + k * (2 ^ levels p - 1) + h
+  unfolding item_of
+  node_item d k h lt some within =
+      let n = (get_or (pairs p) k d).0 in
+      let trees = flat_map (nodes p) (pairs p) in
+      let a = place_past (a_node n h) (needed_things p) (other_things p) (not_needed n h) in
+      let b = place_past (a_node n h) (map a_piece p.maybe_pieces) (map a_cell p.maybe_cells ++ trees) (not_piece n h) in
+      let c = place_past (a_node n h) (map a_cell p.maybe_cells) trees (not_cell n h) in
+      let e = in_trees p (pairs p) (one_pair p z) (pairs_distinct p z) d k h lt some within in
+      let f = length-map p.maybe_pieces a_piece in
+      let g = length-map p.maybe_cells a_cell in
+      omega (arith, a, b, c, e, f, g)
+
+  -- the items of the nodes that a leaf reaches are what the code adds
+  pub right_items : (d : ℕ × ℕ) (k n : ℕ) → k < length (pairs p) → IsBelow (levels p) n
+      → map (item_of p) (map (a_node ((get_or (pairs p) k d).0)) (from_right (levels p) n)) ≡ map (λ h. (before_nodes p + k * (2 ^ levels p - 1)) + h) (from_right (levels p) n)
+  right_items d k n lt b =
+      map-map (item_of p) (a_node ((get_or (pairs p) k d).0)) (from_right (levels p) n)
+      ∙ same_map _ _ (from_right (levels p) n) (λ h i. node_item d k h lt (right_some (levels p) n h b i) (right_above (levels p) n h b i))
+
+  pub left_items : (d : ℕ × ℕ) (k n : ℕ) → k < length (pairs p) → IsBelow (levels p) n
+      → map (item_of p) (map (a_node ((get_or (pairs p) k d).0)) (from_left (levels p) n)) ≡ map (λ h. (before_nodes p + k * (2 ^ levels p - 1)) + h) (from_left (levels p) n)
+  left_items d k n lt b =
+      map-map (item_of p) (a_node ((get_or (pairs p) k d).0)) (from_left (levels p) n)
+      ∙ same_map _ _ (from_left (levels p) n) (λ h i. node_item d k h lt (left_some (levels p) n h b i) (left_above (levels p) n h b i))

@@ -1,5 +1,5 @@
 -- The option of a choice by a table of numbers, and where there is no room for some choices, there is none for more.
-use Rattle.std.proofs.Common.{◌≡◌, ℕ, ◌+◌, ◌<◌, List, [], ◌∷◌, ◌++◌, map, length, get_or, take, drop, true, false, nat_le, inl, inr, refl, sym, ap, ap₂, subst, ◌∙◌, arith}
+use Rattle.std.proofs.Common.{◌≡◌, ℕ, ◌+◌, ◌<◌, List, [], ◌∷◌, ◌++◌, map, length, get_or, take, drop, true, false, nat_le, refl, sym, ap, ap₂, subst, ◌∙◌, arith}
 use Rattle.std.specs.List.{flat_map}
 use Rattle.std.proofs.lemmas.Bool.{and_parts, and_from, leb-true, le-leb, false_from_ne_true, both_ways}
 use Rattle.std.proofs.lemmas.Grind.{flat_map-append}
@@ -9,22 +9,10 @@ use Rattle.poly_cells.specs.Coordinates.{Coordinates}
 use Rattle.poly_cells.specs.Sets.{IsIn}
 use Rattle.poly_texts.specs.Puzzle.{PuzzleValue, IsPuzzle}
 use Rattle.cover_problem.specs.declared.limits.TheConstants.{MOST_OPTIONS, MOST_ENTRIES}
-use Rattle.poly_place.specs.Packings.{ChoiceValue, IsPlaced, choices_of_piece, choices, a_piece, a_cell, item_of, option_of}
-use Rattle.poly_place.specs.Compiled.{item_number_at, AreNumbers, option_by, entries_of, has_room}
+use Rattle.poly_place.specs.Packings.{ChoiceValue, IsPlaced, choices_of_piece, choices, things_of, option_of}
+use Rattle.poly_place.specs.Compiled.{entries_of, has_room}
 use Rattle.poly_cells.proofs.SetLemmas.{in_at, take_next}
 use Rattle.poly_place.proofs.PackingLemmas.{has_shapes, placed_in}
-
--- ---- the option of a choice
-
-module _ (p : PuzzleValue) (numbers : List ℕ) (n : AreNumbers p numbers) where
-  cells_same : (vs : List Coordinates) → ((v : Coordinates) → IsIn v vs → IsIn v p.region) → map (item_number_at numbers) vs ≡ map (item_of p) (map a_cell vs)
-  cells_same [] inside = refl
-  cells_same (v ∷ vs) inside = ap₂ (λ (i : ℕ) (is : List ℕ). i ∷ is) (n.same v (inside v (inl refl))) (cells_same vs (λ u i. inside u (inr i)))
-
-  pub option_same : IsPuzzle p → (c : ChoiceValue) → IsIn c (choices p) → option_by numbers (item_of p (a_piece c.name)) c.cells ≡ option_of p c
-  option_same z c i =
-      let placed = placed_in p (has_shapes p z) c i in
-      ap (λ (is : List ℕ). item_of p (a_piece c.name) ∷ is) (cells_same c.cells (λ v j. placed.placed.inside v j))
 
 -- a choice of the list is placed
 pub chosen_at : (p : PuzzleValue) → IsPuzzle p → (cs : List ChoiceValue) (i : ℕ) (c : ChoiceValue) → cs ≡ choices p → i < length cs → c ≡ get_or cs i c → IsPlaced p c × IsIn c (choices p)
@@ -54,25 +42,25 @@ choices_all p = refl
 
 -- ---- room
 
-pub entries_append : (xs ys : List ChoiceValue) → entries_of (xs ++ ys) ≡ entries_of xs + entries_of ys
-entries_append xs ys = sum_by-append (λ (c : ChoiceValue). length c.cells + 2) xs ys
+pub entries_append : (p : PuzzleValue) (xs ys : List ChoiceValue) → entries_of p (xs ++ ys) ≡ entries_of p xs + entries_of p ys
+entries_append p xs ys = sum_by-append (λ (c : ChoiceValue). length (things_of p c) + 1) xs ys
 
-fewer : (n : ℕ) (xs ys : List ChoiceValue) → has_room n (xs ++ ys) ≡ true → has_room n xs ≡ true
-fewer n xs ys h =
-    let parts = and_parts (nat_le (length (xs ++ ys)) MOST_OPTIONS) (nat_le (n + entries_of (xs ++ ys) + 2) MOST_ENTRIES) h in
+fewer : (p : PuzzleValue) (n : ℕ) (xs ys : List ChoiceValue) → has_room p n (xs ++ ys) ≡ true → has_room p n xs ≡ true
+fewer p n xs ys h =
+    let parts = and_parts (nat_le (length (xs ++ ys)) MOST_OPTIONS) (nat_le (n + entries_of p (xs ++ ys) + 2) MOST_ENTRIES) h in
     let a = leb-true (length (xs ++ ys)) MOST_OPTIONS parts.0 in
-    let b = leb-true (n + entries_of (xs ++ ys) + 2) MOST_ENTRIES parts.1 in
+    let b = leb-true (n + entries_of p (xs ++ ys) + 2) MOST_ENTRIES parts.1 in
     let l = length-append xs ys in
-    let s = entries_append xs ys in
-    and_from (nat_le (length xs) MOST_OPTIONS) (nat_le (n + entries_of xs + 2) MOST_ENTRIES) (le-leb (length xs) MOST_OPTIONS (omega (arith, a, l)))
-    (le-leb (n + entries_of xs + 2) MOST_ENTRIES (omega (arith, b, l, s)))
+    let s = entries_append p xs ys in
+    and_from (nat_le (length xs) MOST_OPTIONS) (nat_le (n + entries_of p xs + 2) MOST_ENTRIES) (le-leb (length xs) MOST_OPTIONS (omega (arith, a, l)))
+    (le-leb (n + entries_of p xs + 2) MOST_ENTRIES (omega (arith, b, l, s)))
 
-no_room : (n : ℕ) (xs ys : List ChoiceValue) → has_room n xs ≡ false → has_room n (xs ++ ys) ≡ false
-no_room n xs ys h = false_from_ne_true _ (λ t. both_ways (has_room n xs) h (fewer n xs ys t))
+no_room : (p : PuzzleValue) (n : ℕ) (xs ys : List ChoiceValue) → has_room p n xs ≡ false → has_room p n (xs ++ ys) ≡ false
+no_room p n xs ys h = false_from_ne_true _ (λ t. both_ways (has_room p n xs) h (fewer p n xs ys t))
 
 -- where there is no room for the choices of the first pieces, there is none for all
-pub no_room_before : (p : PuzzleValue) (n : ℕ) (pieces : List (ℕ × List Coordinates)) (k : ℕ) → pieces ≡ p.pieces → has_room n (choices_before p pieces k) ≡ false
-    → has_room n (choices p) ≡ false
+pub no_room_before : (p : PuzzleValue) (n : ℕ) (pieces : List (ℕ × List Coordinates)) (k : ℕ) → pieces ≡ p.pieces → has_room p n (choices_before p pieces k) ≡ false
+    → has_room p n (choices p) ≡ false
 no_room_before p n pieces k same f =
-    ap (has_room n) (sym (choices_all p) ∙ ap (flat_map (choices_of_piece p)) (sym same ∙ sym (take-append-drop k pieces)) ∙ flat_map-append (choices_of_piece p) (take k pieces) (drop k pieces))
-    ∙ no_room n (choices_before p pieces k) (flat_map (choices_of_piece p) (drop k pieces)) f
+    ap (has_room p n) (sym (choices_all p) ∙ ap (flat_map (choices_of_piece p)) (sym same ∙ sym (take-append-drop k pieces)) ∙ flat_map-append (choices_of_piece p) (take k pieces) (drop k pieces))
+    ∙ no_room p n (choices_before p pieces k) (flat_map (choices_of_piece p) (drop k pieces)) f

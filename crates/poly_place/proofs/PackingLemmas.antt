@@ -1,25 +1,31 @@
 -- Packings of a puzzle and exact covers of its problem are the same, one for one.
-use Rattle.std.proofs.Common.{◌≡◌, ℕ, ◌+◌, ◌-◌, ◌<◌, ◌≤◌, List, [], ◌∷◌, map, length, get_or, Bool, true, ◌&&◌, nat_lt, nat_le, ◌⊎◌, inl, inr, refl, sym, ap, subst, ◌∙◌, arith, eqb-true, eq-eqb, ◌==◌, is_eq, ap₂}
+use Rattle.std.proofs.Common.{false, not, Less, ◌≡◌, ℕ, ◌+◌, ◌-◌, ◌<◌, ◌≤◌, List, [], ◌∷◌, map, length, get_or, Bool, true, ◌&&◌, nat_lt, nat_le, ◌⊎◌, inl, inr, refl, sym, ap, subst, ◌∙◌, arith, eqb-true, eq-eqb, ◌==◌, is_eq, ap₂}
 use Rattle.std.specs.List.{list_any, flat_map, range_with_len}
-use Rattle.std.proofs.lemmas.Bool.{and_parts, and_from, or_left, or_right, or_cases, leb-true, le-leb, ltb-true, lt-ltb}
+use Rattle.std.proofs.lemmas.Bool.{not-true, and_parts, and_from, or_left, or_right, or_cases, leb-true, le-leb, ltb-true, lt-ltb}
 use Rattle.std.proofs.lemmas.List.{get_or-map, length-map}
-use Rattle.poly_cells.specs.Coordinates.{Coordinates}
+use Rattle.poly_cells.specs.Coordinates.{Coordinates, coordinates_cmp}
 use Rattle.poly_cells.specs.Sets.{IsIn}
 use Rattle.poly_cells.specs.Shapes.{IsShape}
-use Rattle.poly_cells.proofs.SetLemmas.{in_map, in_from_map, in_at}
-use Rattle.poly_texts.specs.Puzzle.{PuzzleValue, IsPuzzle, names_of}
+use Rattle.poly_cells.proofs.SetLemmas.{in_map, in_from_map, in_at, cases_order, turned_back}
+use Rattle.poly_texts.specs.Puzzle.{PuzzleValue, IsPuzzle, names_of, has_name, is_needed}
 use Rattle.cover_problem.specs.Lists.{has}
 use Rattle.cover_problem.specs.Problem.{option_at}
 use Rattle.cover_problem.specs.ExactCover.{IsExactCover}
 use Rattle.poly_place.specs.Placements.{cells_cmp, placements}
-use Rattle.poly_place.specs.Packings.{ChoiceValue, choice, is_needed, must_fill, IsPlaced, IsPacking, is_useful, choices_of_piece, choices, Thing, a_piece, a_cell, needed_things, item_of, things_of, option_of, packing_problem, choice_at, StandsFor, ArePackings}
+use Rattle.poly_place.specs.Packings.{ChoiceValue, choice, is_any, turns_of, pairs, first_cell, levels, leaf_of, place_of, a_node, must_fill, IsPlaced, IsPacking, is_useful, choices_of_piece, choices, Thing, a_piece, a_cell, needed_things, item_of, things_of, option_of, packing_problem, choice_at, StandsFor, ArePackings}
 use Rattle.std.proofs.lemmas.Cmp.{tied_itself}
 use Rattle.poly_place.proofs.OrderLemmas.{cells_total, cells_exact}
 use Rattle.poly_place.specs.Chosen.{same_choice}
 use Rattle.poly_cells.proofs.MemberLemmas.{in_flat_map, in_from_flat_map, in_from_filter, in_filter, some_passes, passes_some, in_to_range}
 use Rattle.poly_place.proofs.PlacementLemmas.{sound, complete, placements_rise}
 use Rattle.poly_place.proofs.DistinctLemmas.{IsDistinct, distinct_append, distinct_filter, distinct_map, distinct_rising, distinct_names, at_of_in, distinct_at}
-use Rattle.poly_place.proofs.ThingLemmas.{item_same, item_positive, item_needed, needed_in, needed_piece, needed_cell, needed_cases, needed_at, parts_in, has_item, thing_of_item}
+use Rattle.poly_place.proofs.ThingLemmas.{item_same, item_positive, item_needed, needed_in, needed_piece, needed_cell, needed_cases, needed_at, parts_in, has_item, thing_of_item, the_piece, the_cell, on_right, on_left, part_of, piece_part, cell_part, right_part, left_part}
+use Rattle.poly_place.specs.Turns.{from_right, from_left}
+use Rattle.poly_place.proofs.TurnLemmas.{IsBelow, leaf_below, greater_shares, share_greater}
+use Rattle.poly_place.proofs.PairLemmas.{pair_differs, pair_next, pair_single}
+use Rattle.poly_place.proofs.PlaceLemmas.{place_within, place_rises, first_in, enough_levels}
+use Rattle.poly_cells.proofs.CoordinateLemmas.{coordinates_total, coordinates_exact}
+use Rattle.poly_cells.proofs.ImageLemmas.{in_from_some, some_from_in}
 use Rattle.std.specs.Cmp.{Equal-is, both_ways as same_tests}
 
 -- ---- the pieces and the region are shapes
@@ -28,11 +34,13 @@ use Rattle.std.specs.Cmp.{Equal-is, both_ways as same_tests}
 pub record HasShapes (p : PuzzleValue) : Type 0 where
   pub pieces : (named : ℕ × List Coordinates) → IsIn named p.pieces → IsShape (named.1)
   pub region : IsShape p.region
+  pub few : length p.region ≤ 4096
 
 pub has_shapes : (p : PuzzleValue) → IsPuzzle p → HasShapes p
 has_shapes p z = record {
   pieces = λ named i. (z.shaped named i).shape;
   region = record { some = z.some_cell; rises = z.rises; limits = z.limits };
+  few = z.few;
 }
 
 -- ---- what may be chosen is what is placed
@@ -48,18 +56,18 @@ from_useful p c h =
       | inr r ↦ or_right (is_needed p c.name) (list_any (must_fill p) c.cells) (passes_some (must_fill p) r.0 c.cells r.1 r.2)
     ]
 
-placed_from : (p : PuzzleValue) → HasShapes p → (name : ℕ) (piece set : List Coordinates) → IsIn (name, piece) p.pieces → IsIn set (placements piece p.region) → is_useful p (choice name set) ≡ true
+placed_from : (p : PuzzleValue) → HasShapes p → (name : ℕ) (piece set : List Coordinates) → IsIn (name, piece) p.pieces → IsIn set (placements (turns_of p name) piece p.region) → is_useful p (choice name set) ≡ true
     → IsPlaced p (choice name set)
 placed_from p s name piece set named i h =
-    let found = sound piece p.region set (s.pieces (name, piece) named) i in
+    let found = sound (turns_of p name) piece p.region set (s.pieces (name, piece) named) i in
     record { piece = piece; named = named; rises = found.0; placed = found.1; useful = useful_from p (choice name set) h }
 
 pub placed_in : (p : PuzzleValue) → HasShapes p → (c : ChoiceValue) → IsIn c (choices p) → IsPlaced p c
 unfolding choices
 placed_in p s c i =
     let n = in_from_flat_map (choices_of_piece p) c p.pieces i in
-    let kept = in_from_filter (is_useful p) c (map (choice (n.0.0)) (placements (n.0.1) p.region)) n.2 in
-    let set = in_from_map (choice (n.0.0)) c (placements (n.0.1) p.region) kept.0 in
+    let kept = in_from_filter (is_useful p) c (map (choice (n.0.0)) (placements (turns_of p (n.0.0)) (n.0.1) p.region)) n.2 in
+    let set = in_from_map (choice (n.0.0)) c (placements (turns_of p (n.0.0)) (n.0.1) p.region) kept.0 in
     subst (IsPlaced p) (sym set.2)
     (placed_from p s n.0.0 n.0.1 set.0 n.1 set.1 (subst (λ (d : ChoiceValue). is_useful p d ≡ true) set.2 kept.1))
 
@@ -67,16 +75,16 @@ pub in_placed : (p : PuzzleValue) → HasShapes p → (c : ChoiceValue) → IsPl
 unfolding choices
 in_placed p s c h =
     in_flat_map (choices_of_piece p) c (c.name, h.piece) p.pieces h.named
-    (in_filter (is_useful p) c (map (choice c.name) (placements h.piece p.region))
-    (in_map (choice c.name) c.cells (placements h.piece p.region) (complete h.piece p.region c.cells (s.pieces (c.name, h.piece) h.named) h.rises h.placed))
+    (in_filter (is_useful p) c (map (choice c.name) (placements (turns_of p c.name) h.piece p.region))
+    (in_map (choice c.name) c.cells (placements (turns_of p c.name) h.piece p.region) (complete (turns_of p c.name) h.piece p.region c.cells (s.pieces (c.name, h.piece) h.named) h.rises h.placed))
     (from_useful p c h.useful))
 
 -- ---- no choice comes twice
 
 pub named_by : (p : PuzzleValue) (n : ℕ × List Coordinates) (c : ChoiceValue) → IsIn c (choices_of_piece p n) → c.name ≡ n.0
 named_by p n c i =
-    let kept = in_from_filter (is_useful p) c (map (choice (n.0)) (placements (n.1) p.region)) i in
-    let set = in_from_map (choice (n.0)) c (placements (n.1) p.region) kept.0 in
+    let kept = in_from_filter (is_useful p) c (map (choice (n.0)) (placements (turns_of p (n.0)) (n.1) p.region)) i in
+    let set = in_from_map (choice (n.0)) c (placements (turns_of p (n.0)) (n.1) p.region) kept.0 in
     ap (λ (d : ChoiceValue). d.name) set.2
 
 pub named_among : (p : PuzzleValue) (ns : List (ℕ × List Coordinates)) (c : ChoiceValue) → IsIn c (flat_map (choices_of_piece p) ns) → IsIn c.name (names_of ns)
@@ -91,8 +99,8 @@ distinct_of : (p : PuzzleValue) (ns : List (ℕ × List Coordinates)) → IsDist
 distinct_of p [] d = tt
 distinct_of p (n ∷ ns) d =
     distinct_append (choices_of_piece p n) (flat_map (choices_of_piece p) ns)
-    (distinct_filter (is_useful p) (map (choice (n.0)) (placements (n.1) p.region))
-    (distinct_map (choice (n.0)) (placements (n.1) p.region) (cells_same (n.0)) (distinct_rising cells_total (placements (n.1) p.region) (placements_rise (n.1) p.region))))
+    (distinct_filter (is_useful p) (map (choice (n.0)) (placements (turns_of p (n.0)) (n.1) p.region))
+    (distinct_map (choice (n.0)) (placements (turns_of p (n.0)) (n.1) p.region) (cells_same (n.0)) (distinct_rising cells_total (placements (turns_of p (n.0)) (n.1) p.region) (placements_rise (turns_of p (n.0)) (n.1) p.region))))
     (distinct_of p ns d.1)
     (λ c i j. d.0 (subst (λ (m : ℕ). IsIn m (names_of ns)) (named_by p n c i) (named_among p ns c j)))
 
@@ -122,13 +130,13 @@ same_number p z a b sa wa sb wb e =
     let same = distinct_at (choice 0 []) (choices p) (a - 1) (b - 1) (choices_distinct p z) (omega arith) (omega arith) e in
     omega (arith, same)
 
-holds : (p : PuzzleValue) (o : ℕ) (t : Thing) → 0 < o → o ≤ length (choices p) → IsIn t (things_of (choice_at p o)) → has (option_at (packing_problem p) o) (item_of p t) ≡ true
+holds : (p : PuzzleValue) (o : ℕ) (t : Thing) → 0 < o → o ≤ length (choices p) → IsIn t (things_of p (choice_at p o)) → has (option_at (packing_problem p) o) (item_of p t) ≡ true
 holds p o t some within i =
-    ap (λ (items : List ℕ). has items (item_of p t)) (option_is p o some within) ∙ has_item (item_of p) t (things_of (choice_at p o)) i
+    ap (λ (items : List ℕ). has items (item_of p t)) (option_is p o some within) ∙ has_item (item_of p) t (things_of p (choice_at p o)) i
 
-held : (p : PuzzleValue) (o i : ℕ) → 0 < o → o ≤ length (choices p) → has (option_at (packing_problem p) o) i ≡ true → (t : Thing) × IsIn t (things_of (choice_at p o)) × (item_of p t ≡ i)
+held : (p : PuzzleValue) (o i : ℕ) → 0 < o → o ≤ length (choices p) → has (option_at (packing_problem p) o) i ≡ true → (t : Thing) × IsIn t (things_of p (choice_at p o)) × (item_of p t ≡ i)
 held p o i some within h =
-    thing_of_item (item_of p) i (things_of (choice_at p o)) (ap (λ (items : List ℕ). has items i) (sym (option_is p o some within)) ∙ h)
+    thing_of_item (item_of p) i (things_of p (choice_at p o)) (ap (λ (items : List ℕ). has items i) (sym (option_is p o some within)) ∙ h)
 
 primary_is : (p : PuzzleValue) → (packing_problem p).primary ≡ length (needed_things p)
 unfolding packing_problem
@@ -140,22 +148,44 @@ count_is p o h = subst (λ (n : ℕ). o ≤ n) (sym (simp length-map)) h
 
 -- ---- the parts of a choice
 
-in_piece : (c : ChoiceValue) (name : ℕ) → IsIn (a_piece name) (things_of c) → c.name ≡ name
-in_piece c name i =
-    elim i [
-      | inl e ↦ cc
-      | inr r ↦ let v = in_from_map a_cell (a_piece name) c.cells r in let m = v.2 in cc
-    ]
+in_piece : (p : PuzzleValue) (c : ChoiceValue) (name : ℕ) → IsIn (a_piece name) (things_of p c) → (is_any p c.name ≡ false) × (c.name ≡ name)
+in_piece p c name i = elim (part_of p c (a_piece name) i) [
+  | the_piece single e ↦ (single, cc)
+  | the_cell v j e ↦ cc
+  | on_right pair h j n r e ↦ cc
+  | on_left pair h j n l e ↦ cc
+]
 
-in_cell : (c : ChoiceValue) (v : Coordinates) → IsIn (a_cell v) (things_of c) → IsIn v c.cells
-in_cell c v i =
-    elim i [
-      | inl e ↦ cc
-      | inr r ↦
-          let w = in_from_map a_cell (a_cell v) c.cells r in
-          let same : v ≡ w.0 = let m = w.2 in cc in
-          subst (λ (u : Coordinates). IsIn u c.cells) (sym same) w.1
-    ]
+in_cell : (p : PuzzleValue) (c : ChoiceValue) (v : Coordinates) → IsIn (a_cell v) (things_of p c) → IsIn v c.cells
+in_cell p c v i = elim (part_of p c (a_cell v) i) [
+  | the_piece single e ↦ cc
+  | the_cell w j e ↦ let same : v ≡ w = cc in subst (λ (u : Coordinates). IsIn u c.cells) (sym same) j
+  | on_right pair h j n r e ↦ cc
+  | on_left pair h j n l e ↦ cc
+]
+
+-- a required piece is not one that may be used any number of times
+needed_single : (p : PuzzleValue) (name : ℕ) → is_needed p name ≡ true → is_any p name ≡ false
+needed_single p name n = not-true (is_any p name) (and_parts (not (has_name p.maybe_pieces name)) (not (is_any p name)) n).1
+
+-- ---- the leaf of a placement
+
+-- a placement has a least cell, which lies in the region
+pub least_in : (p : PuzzleValue) → HasShapes p → (c : ChoiceValue) → IsPlaced p c → IsIn (first_cell c.cells) c.cells
+least_in p s c q =
+    let v = in_from_some q.piece (s.pieces (c.name, q.piece) q.named).some in
+    let w = q.placed.image.into v.0 v.1 in
+    first_in c.cells (some_from_in w.0 c.cells w.1)
+
+pub least_inside : (p : PuzzleValue) → HasShapes p → (c : ChoiceValue) → IsPlaced p c → IsIn (first_cell c.cells) p.region
+least_inside p s c q = q.placed.inside (first_cell c.cells) (least_in p s c q)
+
+pub leaf_placed : (p : PuzzleValue) → HasShapes p → (c : ChoiceValue) → IsPlaced p c → IsBelow (levels p) (leaf_of p c)
+unfolding levels
+leaf_placed p s c q =
+    let within = place_within p.region (first_cell c.cells) s.region.rises (least_inside p s c q) in
+    let enough = enough_levels (length p.region) s.few in
+    leaf_below (levels p) (place_of p.region (first_cell c.cells)) (omega (arith, within, enough))
 
 -- what is chosen, and the number of its option
 record IsNumbered (p : PuzzleValue) (set : ℕ → Bool) (c : ChoiceValue) : Type 0 where
@@ -177,50 +207,122 @@ module _ (p : PuzzleValue) (z : IsPuzzle p) (h : HasShapes p) (set : ℕ → Boo
       let n = numbered c k in
       placed_in p h c (subst (λ (d : ChoiceValue). IsIn d (choices p)) n.is (chosen_in p n.number n.some n.within))
 
-  part_of : (c : ChoiceValue) → chosen c ≡ true → (t : Thing) → IsIn t (things_of c) → (n : IsNumbered p set c) → has (option_at (packing_problem p) n.number) (item_of p t) ≡ true
-  part_of c k t i n = holds p n.number t n.some n.within (subst (λ (d : ChoiceValue). IsIn t (things_of d)) (sym n.is) i)
+  item_part : (c : ChoiceValue) → chosen c ≡ true → (t : Thing) → IsIn t (things_of p c) → (n : IsNumbered p set c) → has (option_at (packing_problem p) n.number) (item_of p t) ≡ true
+  item_part c k t i n = holds p n.number t n.some n.within (subst (λ (d : ChoiceValue). IsIn t (things_of p d)) (sym n.is) i)
 
   -- ---- an exact cover is a packing
 
-  shared : IsExactCover (packing_problem p) set → (t : Thing) (c d : ChoiceValue) → chosen c ≡ true → chosen d ≡ true → IsIn t (things_of c) → IsIn t (things_of d) → c ≡ d
+  shared : IsExactCover (packing_problem p) set → (t : Thing) (c d : ChoiceValue) → chosen c ≡ true → chosen d ≡ true → IsIn t (things_of p c) → IsIn t (things_of p d) → c ≡ d
   shared e t c d k l i j =
       let m = numbered c k in
       let n = numbered d l in
-      let same = e.once (item_of p t) m.number n.number m.taken n.taken (part_of c k t i m) (part_of d l t j n) in
+      let same = e.once (item_of p t) m.number n.number m.taken n.taken (item_part c k t i m) (item_part d l t j n) in
       sym m.is ∙ ap (choice_at p) same ∙ n.is
 
-  met : IsExactCover (packing_problem p) set → (t : Thing) → IsIn t (needed_things p) → (c : ChoiceValue) × (chosen c ≡ true) × IsIn t (things_of c)
+  met : IsExactCover (packing_problem p) set → (t : Thing) → IsIn t (needed_things p) → (c : ChoiceValue) × (chosen c ≡ true) × IsIn t (things_of p c)
   met e t i =
       let o = e.covers (item_of p t) (item_positive p t) (subst (λ (n : ℕ). item_of p t ≤ n) (sym (primary_is p)) (item_needed p t i)) in
       let f = s.forth o.0 o.1 in
       let u = held p o.0 (item_of p t) f.0 f.1 o.2 in
-      let same = item_same p u.0 t (parts_in p (choice_at p o.0) (placed_by (choice_at p o.0) f.2) u.0 u.1) (needed_in p t i) u.2 in
-      (choice_at p o.0, f.2, subst (λ (w : Thing). IsIn w (things_of (choice_at p o.0))) same u.1)
+      let same = item_same p u.0 t (parts_in p (choice_at p o.0) (placed_by (choice_at p o.0) f.2) (leaf_placed p h (choice_at p o.0) (placed_by (choice_at p o.0) f.2)) u.0 u.1) (needed_in p t i) u.2 in
+      (choice_at p o.0, f.2, subst (λ (w : Thing). IsIn w (things_of p (choice_at p o.0))) same u.1)
+
+  -- of two equal pieces the leaf of the first is the lesser one: else they would share a cell or a node
+  same_never : (c d : ChoiceValue) → IsIn (c.name, d.name) (pairs p) → c ≡ d → ⊥
+  same_never c d i e = pair_differs p z c.name d.name i (ap (λ (b : ChoiceValue). b.name) e)
+
+  in_their_order : IsExactCover (packing_problem p) set → (c d : ChoiceValue) → chosen c ≡ true → chosen d ≡ true → IsIn (c.name, d.name) (pairs p)
+      → coordinates_cmp (first_cell c.cells) (first_cell d.cells) ≡ Less
+  in_their_order e c d k l i =
+      let v = first_cell c.cells in
+      let w = first_cell d.cells in
+      let pc = placed_by c k in
+      let pd = placed_by d l in
+      elim (cases_order (coordinates_cmp v w)) [
+        | inl less ↦ less
+        | inr other ↦ elim other [
+          | inl same ↦
+              absurd (same_never c d i (shared e (a_cell v) c d k l (cell_part p c v (least_in p h c pc))
+              (cell_part p d v (subst (λ (u : Coordinates). IsIn u d.cells) (sym (coordinates_exact v w same)) (least_in p h d pd)))))
+          | inr more ↦
+              let rise = place_rises p.region w v h.region.rises (least_inside p h d pd) (least_inside p h c pc) (turned_back coordinates_total v w more) in
+              let node = greater_shares (levels p) (leaf_of p c) (leaf_of p d) (leaf_placed p h c pc) (leaf_placed p h d pd) (omega (arith, rise)) in
+              absurd (same_never c d i (shared e (a_node c.name node.0) c d k l (right_part p c (c.name, d.name) node.0 i refl node.1) (left_part p d (c.name, d.name) node.0 i refl node.2)))
+        ]
+      ]
 
   pub cover_packs : IsExactCover (packing_problem p) set → IsPacking p chosen
   cover_packs e = record {
     placed = placed_by;
-    once = λ c d k l same. shared e (a_piece c.name) c d k l (inl refl) (inl (ap a_piece same));
-    used = λ name i n. let c = met e (a_piece name) (needed_piece p name i n) in (c.0, c.1, in_piece c.0 name c.2);
-    filled = λ v m. let c = met e (a_cell v) (needed_cell p v m) in (c.0, c.1, in_cell c.0 v c.2);
-    apart = λ v c d k l i j. shared e (a_cell v) c d k l (inr (in_map a_cell v c.cells i)) (inr (in_map a_cell v d.cells j));
+    once = λ c d k l single same. shared e (a_piece c.name) c d k l (piece_part p c single)
+        (subst (λ (n : ℕ). IsIn (a_piece n) (things_of p d)) (sym same) (piece_part p d (subst (λ (n : ℕ). is_any p n ≡ false) same single)));
+    used = λ name i n. let c = met e (a_piece name) (needed_piece p name i n) in (c.0, c.1, (in_piece p c.0 name c.2).1);
+    filled = λ v m. let c = met e (a_cell v) (needed_cell p v m) in (c.0, c.1, in_cell p c.0 v c.2);
+    apart = λ v c d k l i j. shared e (a_cell v) c d k l (cell_part p c v i) (cell_part p d v j);
+    ordered = in_their_order e;
   }
 
   -- ---- a packing is an exact cover
 
-  alone : IsPacking p chosen → (t : Thing) (c d : ChoiceValue) → chosen c ≡ true → chosen d ≡ true → IsIn t (things_of c) → IsIn t (things_of d) → c ≡ d
-  alone k (a_piece name) c d q r i j = k.once c d q r (in_piece c name i ∙ sym (in_piece d name j))
-  alone k (a_cell v) c d q r i j = k.apart v c d q r (in_cell c v i) (in_cell d v j)
+  -- two nodes are one, so of the same tree
+  firsts : (m g a b x y : ℕ) → a_node m g ≡ a_node x a → a_node m g ≡ a_node y b → x ≡ y
+  firsts m g a b x y e f = cc
 
-  reaches : IsPacking p chosen → (t : Thing) → IsIn t (needed_things p) → (c : ChoiceValue) × (chosen c ≡ true) × IsIn t (things_of c)
+  levels_same : (m g a b x y : ℕ) → a_node m g ≡ a_node x a → a_node m g ≡ a_node y b → a ≡ b
+  levels_same m g a b x y e f = cc
+
+  next_of : (one two : ℕ × ℕ) → IsIn one (pairs p) → IsIn two (pairs p) → one.0 ≡ two.0 → one.1 ≡ two.1
+  next_of one two i j e = pair_next p z (one.0) (one.1) (two.1) i (subst (λ (n : ℕ). IsIn (n, two.1) (pairs p)) (sym e) j)
+
+  -- a node that is reached from the right by the first of two equal pieces isn't reached from the left by the second
+  apart_nodes : IsPacking p chosen → (c d : ChoiceValue) → chosen c ≡ true → chosen d ≡ true → (m g a b : ℕ) (one two : ℕ × ℕ) → IsIn one (pairs p) → IsIn two (pairs p)
+      → c.name ≡ one.0 → d.name ≡ two.1 → IsIn a (from_right (levels p) (leaf_of p c)) → IsIn b (from_left (levels p) (leaf_of p d))
+      → a_node m g ≡ a_node (one.0) a → a_node m g ≡ a_node (two.0) b → ⊥
+  apart_nodes k c d q r m g a b one two i j n o x y e f =
+      let pc = k.placed c q in
+      let pd = k.placed d r in
+      let next = next_of one two i j (firsts m g a b (one.0) (two.0) e f) in
+      let pair : IsIn (c.name, d.name) (pairs p) = subst (λ (x : ℕ). IsIn (x, d.name) (pairs p)) (sym n) (subst (λ (x : ℕ). IsIn (one.0, x) (pairs p)) (next ∙ sym o) i) in
+      let rise = place_rises p.region (first_cell c.cells) (first_cell d.cells) h.region.rises (least_inside p h c pc) (least_inside p h d pd) (k.ordered c d q r pair) in
+      let more = share_greater (levels p) (leaf_of p c) (leaf_of p d) a (leaf_placed p h c pc) (leaf_placed p h d pd) x
+      (subst (λ (x : ℕ). IsIn x (from_left (levels p) (leaf_of p d))) (sym (levels_same m g a b (one.0) (two.0) e f)) y) in
+      omega (arith, rise, more)
+
+  alone : IsPacking p chosen → (t : Thing) (c d : ChoiceValue) → chosen c ≡ true → chosen d ≡ true → IsIn t (things_of p c) → IsIn t (things_of p d) → c ≡ d
+  alone k (a_piece name) c d q r i j = k.once c d q r (in_piece p c name i).0 ((in_piece p c name i).1 ∙ sym (in_piece p d name j).1)
+  alone k (a_cell v) c d q r i j = k.apart v c d q r (in_cell p c v i) (in_cell p d v j)
+  alone k (a_node m g) c d q r i j = elim (part_of p c (a_node m g) i) [
+    | the_piece single e ↦ cc
+    | the_cell v a e ↦ cc
+    | on_right one a y n x e ↦ elim (part_of p d (a_node m g) j) [
+      | the_piece single f ↦ cc
+      | the_cell w b f ↦ cc
+      | on_right two b u o w f ↦ k.once c d q r (subst (λ (b : ℕ). is_any p b ≡ false) (sym n) (pair_single p z (one.0) (one.1) y).0) (n ∙ firsts m g a b (one.0) (two.0) e f ∙ sym o)
+      | on_left two b u o w f ↦ absurd (apart_nodes k c d q r m g a b one two y u n o x w e f)
+    ]
+    | on_left one a y n x e ↦ elim (part_of p d (a_node m g) j) [
+      | the_piece single f ↦ cc
+      | the_cell w b f ↦ cc
+      | on_right two b u o w f ↦ absurd (apart_nodes k d c r q m g b a two one u y o n w x f e)
+      | on_left two b u o w f ↦
+          k.once c d q r (subst (λ (b : ℕ). is_any p b ≡ false) (sym n) (pair_single p z (one.0) (one.1) y).1)
+          (n ∙ next_of one two y u (firsts m g a b (one.0) (two.0) e f) ∙ sym o)
+    ]
+  ]
+
+  reaches : IsPacking p chosen → (t : Thing) → IsIn t (needed_things p) → (c : ChoiceValue) × (chosen c ≡ true) × IsIn t (things_of p c)
   reaches k t i =
       elim (needed_cases p t i) [
         | inl n ↦
-            let c = k.used n.0 n.2 n.3 in
-            (c.0, c.1, inl (n.1 ∙ ap a_piece (sym c.2)))
+            let c = k.used n.0 n.2 n.3 in (
+              c.0,
+              c.1,
+              subst (λ (w : Thing). IsIn w (things_of p c.0)) (ap a_piece c.2 ∙ sym n.1)
+                  (piece_part p c.0 (subst (λ (m : ℕ). is_any p m ≡ false) (sym c.2) (needed_single p n.0 n.3))),
+            )
         | inr m ↦
             let c = k.filled m.0 m.2 in
-            (c.0, c.1, inr (subst (λ (w : Thing). IsIn w (map a_cell c.0.cells)) (sym m.1) (in_map a_cell m.0 c.0.cells c.2)))
+            (c.0, c.1, subst (λ (w : Thing). IsIn w (things_of p c.0)) (sym m.1) (cell_part p c.0 m.0 c.2))
       ]
 
   covered : IsPacking p chosen → (i : ℕ) → 0 < i → i ≤ length (needed_things p) → (o : ℕ) × (set o ≡ true) × (has (option_at (packing_problem p) o) i ≡ true)
@@ -228,7 +330,7 @@ module _ (p : PuzzleValue) (z : IsPuzzle p) (h : HasShapes p) (set : ℕ → Boo
       let t = needed_at p z i some within in
       let c = reaches k t.0 t.1 in
       let n = numbered c.0 c.1 in
-      (n.number, n.taken, subst (λ (j : ℕ). has (option_at (packing_problem p) n.number) j ≡ true) t.2 (part_of c.0 c.1 t.0 c.2 n))
+      (n.number, n.taken, subst (λ (j : ℕ). has (option_at (packing_problem p) n.number) j ≡ true) t.2 (item_part c.0 c.1 t.0 c.2 n))
 
   once_only : IsPacking p chosen → (i a b : ℕ) → set a ≡ true → set b ≡ true → has (option_at (packing_problem p) a) i ≡ true → has (option_at (packing_problem p) b) i ≡ true → a ≡ b
   once_only k i a b q r ha hb =
@@ -236,15 +338,15 @@ module _ (p : PuzzleValue) (z : IsPuzzle p) (h : HasShapes p) (set : ℕ → Boo
       let fb = s.forth b r in
       let ta = held p a i fa.0 fa.1 ha in
       let tb = held p b i fb.0 fb.1 hb in
-      let same = item_same p ta.0 tb.0 (parts_in p (choice_at p a) (k.placed (choice_at p a) fa.2) ta.0 ta.1) (parts_in p (choice_at p b) (k.placed (choice_at p b) fb.2) tb.0 tb.1) (ta.2 ∙ sym tb.2) in
+      let same = item_same p ta.0 tb.0 (parts_in p (choice_at p a) (k.placed (choice_at p a) fa.2) (leaf_placed p h (choice_at p a) (k.placed (choice_at p a) fa.2)) ta.0 ta.1) (parts_in p (choice_at p b) (k.placed (choice_at p b) fb.2) (leaf_placed p h (choice_at p b) (k.placed (choice_at p b) fb.2)) tb.0 tb.1) (ta.2 ∙ sym tb.2) in
       same_number p z a b fa.0 fa.1 fb.0 fb.1
-      (alone k tb.0 (choice_at p a) (choice_at p b) fa.2 fb.2 (subst (λ (w : Thing). IsIn w (things_of (choice_at p a))) same ta.1) tb.1)
+      (alone k tb.0 (choice_at p a) (choice_at p b) fa.2 fb.2 (subst (λ (w : Thing). IsIn w (things_of p (choice_at p a))) same ta.1) tb.1)
 
-  needed_part : (c : ChoiceValue) → IsPlaced p c → (t : Thing) × IsIn t (needed_things p) × IsIn t (things_of c)
+  needed_part : (c : ChoiceValue) → IsPlaced p c → (t : Thing) × IsIn t (needed_things p) × IsIn t (things_of p c)
   needed_part c q =
       elim q.useful [
-        | inl n ↦ (a_piece c.name, needed_piece p c.name (in_map (λ (m : ℕ × List Coordinates). m.0) (c.name, q.piece) p.pieces q.named) n, inl refl)
-        | inr v ↦ (a_cell v.0, needed_cell p v.0 v.2, inr (in_map a_cell v.0 c.cells v.1))
+        | inl n ↦ (a_piece c.name, needed_piece p c.name (in_map (λ (m : ℕ × List Coordinates). m.0) (c.name, q.piece) p.pieces q.named) n, piece_part p c (needed_single p c.name n))
+        | inr v ↦ (a_cell v.0, needed_cell p v.0 v.2, cell_part p c v.0 v.1)
       ]
 
   pub packing_covers : IsPacking p chosen → IsExactCover (packing_problem p) set

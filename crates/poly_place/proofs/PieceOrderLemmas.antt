@@ -1,7 +1,8 @@
--- The placements of a packing come in the order of the pieces.
-use Rattle.std.proofs.Common.{◌≡◌, ℕ, ◌+◌, ◌-◌, ◌<◌, ◌≤◌, ◌==◌, nat_lt, true, cond, List, [], ◌∷◌, ◌++◌, filter, flat_map, length, get_or, inl, inr, refl, sym, ap, subst, ◌∙◌, Ordering, Less, nat_cmp, eqb-true, eq-eqb, arith}
+-- The placements of a packing come in the order of the pieces: no placement of a piece before one of an earlier piece, and where none is used
+-- several times, each name once.
+use Rattle.std.proofs.Common.{◌≡◌, ℕ, zero, suc, map, ◌+◌, ◌-◌, ◌<◌, ◌≤◌, ◌==◌, nat_lt, true, cond, List, [], ◌∷◌, ◌++◌, filter, flat_map, length, get_or, inl, inr, refl, sym, ap, subst, ◌∙◌, Ordering, Less, nat_cmp, eqb-true, eq-eqb, arith}
 use Rattle.std.specs.Cmp.{IsTotalOrder, nat_cmp_is}
-use Rattle.std.specs.List.Sorted.{IsStrictlySortedBy}
+use Rattle.std.specs.List.Sorted.{IsNonDecreasingBy, IsStrictlySortedBy}
 use Rattle.std.proofs.lemmas.Bool.{cases_Bool, ltb-true, ltb-false}
 use Rattle.std.proofs.lemmas.Bool.Decides.{nat_tests}
 use Rattle.std.proofs.lemmas.Cmp.{nat_cmp_total, on_total}
@@ -9,13 +10,12 @@ use Rattle.std.proofs.lemmas.List.{map-id, length-append, get_or_append_left, ge
 use Rattle.std.proofs.lemmas.List.Kept.{IsStrictlySortedBy-filter}
 use Rattle.poly_cells.specs.Coordinates.{Coordinates}
 use Rattle.poly_cells.specs.Sets.{IsIn, in_order}
-use Rattle.poly_cells.proofs.SetLemmas.{in_at, in_map, in_from_map, in_from_order, in_order_rises, rising_cons, rising_none, rising_map, same_members}
+use Rattle.poly_cells.proofs.SetLemmas.{in_at, in_map, in_from_map, in_from_order, in_order_rises, rising_head, rising_tail, rising_cons, rising_none, rising_map, same_members}
 use Rattle.poly_texts.specs.Puzzle.{PuzzleValue, IsPuzzle, names_of, has_name}
 use Rattle.cover_problem.specs.Lists.{has}
 use Rattle.cover_problem.specs.ExactCover.{IsExactCover}
 use Rattle.poly_place.specs.Packings.{ChoiceValue, choice, choices, choices_of_piece, choice_at, packing_problem}
-use Rattle.poly_place.specs.Chosen.{chosen_by, is_among, same_choice, names_in, AreInPieceOrder}
-use Rattle.poly_place.specs.Forms.{place_in}
+use Rattle.poly_place.specs.Chosen.{chosen_by, is_among, same_choice, names_in, AreInPieceOrder, ComeByPiece, place_in}
 use Rattle.poly_cells.proofs.MemberLemmas.{in_from_filter, in_filter, passes_some}
 use Rattle.poly_place.proofs.DistinctLemmas.{IsDistinct, distinct_names, in_from_name, name_from_in}
 use Rattle.poly_place.proofs.FormLemmas.{place_tells}
@@ -116,6 +116,19 @@ choice_named : (p : PuzzleValue) (c : ChoiceValue) → IsIn c (choices p) → Is
 unfolding choices
 choice_named p c i = named_among p p.pieces c i
 
+-- ---- what doesn't fall from a member to a greater one never falls
+
+never_falls : {X Y : Type 0} (R : X → X → Ordering) (f : X → Y) (n : Y → ℕ) (xs : List X) → IsStrictlySortedBy R xs → ((a b : X) → IsIn a xs → IsIn b xs → R a b ≡ Less → n (f a) ≤ n (f b)) → IsNonDecreasingBy n (map f xs)
+never_falls R f n [] h keeps i j d le lt = absurd (omega arith)
+never_falls R f n (x ∷ xs) h keeps zero zero d le lt = omega arith
+never_falls {X} {Y} R f n (x ∷ xs) h keeps zero (suc j) d le lt =
+    let y = get_or (map f xs) j d in
+    let from = in_from_map f y xs (in_at (map f xs) j d (omega arith)) in
+    subst (λ (w : Y). n (f x) ≤ n w) (sym from.2) (keeps x from.0 (inl refl) (inr from.1) (rising_head R x xs h from.0 from.1))
+never_falls R f n (x ∷ xs) h keeps (suc i) zero d le lt = absurd (omega arith)
+never_falls R f n (x ∷ xs) h keeps (suc i) (suc j) d le lt =
+    never_falls R f n xs (rising_tail R x xs h) (λ a b p q less. keeps a b (inr p) (inr q) less) i j d (omega arith) (omega arith)
+
 -- ---- the placements of a packing
 
 module _ (p : PuzzleValue) (z : IsPuzzle p) (path : List ℕ) (e : IsExactCover (packing_problem p) (has path)) where
@@ -128,31 +141,38 @@ module _ (p : PuzzleValue) (z : IsPuzzle p) (path : List ℕ) (e : IsExactCover 
   named_in : (o : ℕ) → IsIn o (in_order nat_cmp path) → IsIn (choice_at p o).name (names_of p.pieces)
   named_in o i = let low = in_path o i in choice_named p (choice_at p o) (chosen_in p o low.0 low.1)
 
-  places_rise : (a b : ℕ) → IsIn a (in_order nat_cmp path) → IsIn b (in_order nat_cmp path) → a < b → choice_place p a < choice_place p b
+  pub placed_by_piece : ComeByPiece p (chosen_by p path)
   unfolding choice_place
-  places_rise a b i j lt =
+  placed_by_piece =
+      never_falls nat_cmp (choice_at p) (λ (c : ChoiceValue). place_in (names_of p.pieces) c.name) (in_order nat_cmp path) (in_order_rises nat_cmp_total path)
+      (λ a b i j less. choices_by_piece p z a b (in_path a i).0 (from_less a b less) (in_path b j).1)
+
+  -- where no piece may be used several times
+  places_rise : p.any_pieces ≡ [] → (a b : ℕ) → IsIn a (in_order nat_cmp path) → IsIn b (in_order nat_cmp path) → a < b → choice_place p a < choice_place p b
+  unfolding choice_place
+  places_rise none a b i j lt =
       let low = in_path a i in
       let high = in_path b j in
       let upto = choices_by_piece p z a b low.0 lt high.1 in
       let differ : choice_place p a ≡ choice_place p b → ⊥ = λ same.
-      let one = (cover_packs p z path e).once (choice_at p a) (choice_at p b) (among a i) (among b j)
+      let one = (cover_packs p z path e).once (choice_at p a) (choice_at p b) (among a i) (among b j) (ap (λ (ns : List ℕ). has_name ns (choice_at p a).name) none)
       (place_tells (names_of p.pieces) (choice_at p a).name (choice_at p b).name (named_in a i) (named_in b j) same) in
       let number = same_number p z a b low.0 low.1 high.0 high.1 one in
       omega (arith, number, lt) in
       omega (arith, upto, differ)
 
-  names_sorted : IsStrictlySortedBy (by_place (names_of p.pieces)) (names_in (chosen_by p path))
+  names_sorted : p.any_pieces ≡ [] → IsStrictlySortedBy (by_place (names_of p.pieces)) (names_in (chosen_by p path))
   unfolding choice_place by_place
-  names_sorted =
+  names_sorted none =
       rising_map (λ (c : ChoiceValue). c.name) (λ (c d : ChoiceValue). by_place (names_of p.pieces) c.name d.name) (by_place (names_of p.pieces)) (chosen_by p path) (λ c d i j h. h)
       (rising_map (choice_at p) nat_cmp (λ (c d : ChoiceValue). by_place (names_of p.pieces) c.name d.name) (in_order nat_cmp path)
-      (λ a b i j h. less_from (choice_place p a) (choice_place p b) (places_rise a b i j (from_less a b h)))
+      (λ a b i j h. less_from (choice_place p a) (choice_place p b) (places_rise none a b i j (from_less a b h)))
       (in_order_rises nat_cmp_total path))
 
-  pub placed_in_order : AreInPieceOrder p (chosen_by p path)
-  placed_in_order =
+  pub placed_in_order : p.any_pieces ≡ [] → AreInPieceOrder p (chosen_by p path)
+  placed_in_order none =
       let names = names_in (chosen_by p path) in
-      same_members (place_total (names_of p.pieces)) names (filter (has_name names) (names_of p.pieces)) names_sorted
+      same_members (place_total (names_of p.pieces)) names (filter (has_name names) (names_of p.pieces)) (names_sorted none)
       (IsStrictlySortedBy-filter (by_place (names_of p.pieces)) (has_name names) (names_of p.pieces) (names_rise (names_of p.pieces) (distinct_names (names_of p.pieces) z.new)))
       (λ x i.
       let c = in_from_map (λ (c : ChoiceValue). c.name) x (chosen_by p path) i in

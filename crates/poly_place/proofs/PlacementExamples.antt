@@ -24,12 +24,12 @@ moved_to_its_place = refl
 does_not_fit : at_cell (has_cell square) row (coordinates 1 0 0) ≡ []
 does_not_fit = refl
 
-lies_three_ways : orientations row ≡ (coordinates 0 0 0 ∷ coordinates 0 0 1 ∷ []) ∷ (coordinates 0 0 0 ∷ coordinates 0 1 0 ∷ []) ∷ (coordinates 0 0 0 ∷ coordinates 1 0 0 ∷ []) ∷ []
+lies_three_ways : orientations rotations row ≡ (coordinates 0 0 0 ∷ coordinates 0 0 1 ∷ []) ∷ (coordinates 0 0 0 ∷ coordinates 0 1 0 ∷ []) ∷ (coordinates 0 0 0 ∷ coordinates 1 0 0 ∷ []) ∷ []
 unfolding orientations in_order turned normal rotations is_rotation matrix
 lies_three_ways = refl
 
 four_placements
-    : placements row square
+    : placements rotations row square
     ≡ (coordinates 0 0 0 ∷ coordinates 0 1 0 ∷ []) ∷ (coordinates 0 0 0 ∷ coordinates 1 0 0 ∷ []) ∷ (coordinates 0 1 0 ∷ coordinates 1 1 0 ∷ []) ∷ (coordinates 1 0 0 ∷ coordinates 1 1 0 ∷ []) ∷ []
 unfolding placements orientations in_order turned normal rotations is_rotation matrix
 four_placements = refl

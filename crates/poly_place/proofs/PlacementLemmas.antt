@@ -6,7 +6,6 @@ use Rattle.std.proofs.lemmas.Bool.{and_from}
 use Rattle.std.proofs.lemmas.Bool.Decides.{nat_tests}
 use Rattle.poly_cells.specs.Coordinates.{Coordinates, coordinates_cmp}
 use Rattle.poly_cells.specs.Points.{point, translated}
-use Rattle.poly_cells.specs.Symmetries.{rotations}
 use Rattle.poly_cells.specs.Sets.{IsIn, in_order}
 use Rattle.poly_cells.specs.Shapes.{IsShape, moved, moved_back, turned}
 use Rattle.poly_cells.specs.Images.{IsImage}
@@ -52,41 +51,41 @@ up_from_cell inside (f ∷ fs) set c i =
     up_from_inside inside (moved_back f c) (f ∷ fs) set (in_from_cond (is_below f c) set (if_inside inside (map (moved (moved_back f c)) (f ∷ fs))) i).1
 
 -- a turned form of the piece is one of the orientations
-in_from_orientations : (piece turned_piece : List Coordinates) → IsIn turned_piece (orientations piece) → (n : ℕ) × IsIn n rotations × (turned_piece ≡ turned n piece)
+in_from_orientations : (turns : List ℕ) (piece turned_piece : List Coordinates) → IsIn turned_piece (orientations turns piece) → (n : ℕ) × IsIn n turns × (turned_piece ≡ turned n piece)
 unfolding orientations
-in_from_orientations piece o i =
-    in_from_map (λ n. turned n piece) o rotations (in_from_order cells_cmp o (map (λ n. turned n piece) rotations) i)
+in_from_orientations turns piece o i =
+    in_from_map (λ n. turned n piece) o turns (in_from_order cells_cmp o (map (λ n. turned n piece) turns) i)
 
-in_orientations : (piece : List Coordinates) (n : ℕ) → IsIn n rotations → IsIn (turned n piece) (orientations piece)
+in_orientations : (turns : List ℕ) (piece : List Coordinates) (n : ℕ) → IsIn n turns → IsIn (turned n piece) (orientations turns piece)
 unfolding orientations
-in_orientations piece n i =
-    in_to_order cells_exact (turned n piece) (map (λ k. turned k piece) rotations) (in_map (λ k. turned k piece) n rotations i)
+in_orientations turns piece n i =
+    in_to_order cells_exact (turned n piece) (map (λ k. turned k piece) turns) (in_map (λ k. turned k piece) n turns i)
 
 -- the sets of the list, before they are put in order
-abbrev all_sets : List Coordinates → List Coordinates → List (List Coordinates)
-all_sets piece region = flat_map (at_cells (has_cell region) region) (orientations piece)
+abbrev all_sets : List ℕ → List Coordinates → List Coordinates → List (List Coordinates)
+all_sets turns piece region = flat_map (at_cells (has_cell region) region) (orientations turns piece)
 
-placement_from_up : (piece region set : List Coordinates) (n : ℕ) → IsShape piece → IsIn n rotations → IsUp (has_cell region) (turned n piece) set
-    → IsStrictlySortedBy coordinates_cmp set × IsPlacement piece region set
-placement_from_up piece region set n s i u =
+placement_from_up : (turns : List ℕ) (piece region set : List Coordinates) (n : ℕ) → IsShape piece → IsIn n turns → IsUp (has_cell region) (turned n piece) set
+    → IsStrictlySortedBy coordinates_cmp set × IsPlacement turns piece region set
+placement_from_up turns piece region set n s i u =
     let t = turned_is n piece s.some s.limits in (
       subst (IsStrictlySortedBy coordinates_cmp) (sym u.same) (moved_rises u.by (turned n piece) (turned_is_shape n piece s.some s.limits).rises),
       record {
-        rotation = n;
+        symmetry = n;
         by = translated (point u.by) t.by;
-        turns = i;
+        turned = i;
         image = subst (IsImage n (translated (point u.by) t.by) piece) (sym u.same) (moved_image n u.by t.by piece (turned n piece) t.image);
         inside = λ c j. in_from_has region c (passes (has_cell region) set u.all c j);
       },
     )
 
-pub sound : (piece region set : List Coordinates) → IsShape piece → IsIn set (placements piece region) → IsStrictlySortedBy coordinates_cmp set × IsPlacement piece region set
+pub sound : (turns : List ℕ) (piece region set : List Coordinates) → IsShape piece → IsIn set (placements turns piece region) → IsStrictlySortedBy coordinates_cmp set × IsPlacement turns piece region set
 unfolding placements
-sound piece region set s i =
-    let o = in_from_flat_map (at_cells (has_cell region) region) set (orientations piece) (in_from_order cells_cmp set (all_sets piece region) i) in
+sound turns piece region set s i =
+    let o = in_from_flat_map (at_cells (has_cell region) region) set (orientations turns piece) (in_from_order cells_cmp set (all_sets turns piece region) i) in
     let c = in_from_flat_map (at_cell (has_cell region) o.0) set region o.2 in
-    let n = in_from_orientations piece o.0 o.1 in
-    placement_from_up piece region set n.0 s n.1 (subst (λ (w : List Coordinates). IsUp (has_cell region) w set) n.2 (up_from_cell (has_cell region) o.0 set c.0 c.2))
+    let n = in_from_orientations turns piece o.0 o.1 in
+    placement_from_up turns piece region set n.0 s n.1 (subst (λ (w : List Coordinates). IsUp (has_cell region) w set) n.2 (up_from_cell (has_cell region) o.0 set c.0 c.2))
 
 -- ---- and each such set is on the list
 
@@ -113,53 +112,53 @@ reached region (f ∷ fs) d some inside =
     (at_its_cell (has_cell region) f (moved d f) d fs (below_moved d f) (moved_by d f)
     (all_pass (has_cell region) (map (moved d) (f ∷ fs)) (λ c i. has_from_in region c (inside c i))))
 
-in_all_sets : (piece region : List Coordinates) (n : ℕ) (d : Coordinates) → IsShape piece → IsIn n rotations → ((c : Coordinates) → IsIn c (map (moved d) (turned n piece)) → IsIn c region)
-    → IsIn (map (moved d) (turned n piece)) (all_sets piece region)
-in_all_sets piece region n d s i inside =
-    in_flat_map (at_cells (has_cell region) region) (map (moved d) (turned n piece)) (turned n piece) (orientations piece) (in_orientations piece n i)
+in_all_sets : (turns : List ℕ) (piece region : List Coordinates) (n : ℕ) (d : Coordinates) → IsShape piece → IsIn n turns → ((c : Coordinates) → IsIn c (map (moved d) (turned n piece)) → IsIn c region)
+    → IsIn (map (moved d) (turned n piece)) (all_sets turns piece region)
+in_all_sets turns piece region n d s i inside =
+    in_flat_map (at_cells (has_cell region) region) (map (moved d) (turned n piece)) (turned n piece) (orientations turns piece) (in_orientations turns piece n i)
     (reached region (turned n piece) d (turned_is_shape n piece s.some s.limits).some inside)
 
-pub complete : (piece region set : List Coordinates) → IsShape piece → IsStrictlySortedBy coordinates_cmp set → IsPlacement piece region set → IsIn set (placements piece region)
+pub complete : (turns : List ℕ) (piece region set : List Coordinates) → IsShape piece → IsStrictlySortedBy coordinates_cmp set → IsPlacement turns piece region set → IsIn set (placements turns piece region)
 unfolding placements
-complete piece region set s rises p =
-    let n = p.rotation in
+complete turns piece region set s rises p =
+    let n = p.symmetry in
     let there = is_moved n piece (turned n piece) set p.by (turned_is n piece s.some s.limits) p.image (turned_is_shape n piece s.some s.limits).rises rises in
-    in_to_order cells_exact set (all_sets piece region)
-    (subst (λ (w : List Coordinates). IsIn w (all_sets piece region)) (sym there.same)
-    (in_all_sets piece region n there.by s p.turns (λ c i. p.inside c (subst (λ (w : List Coordinates). IsIn c w) (sym there.same) i))))
+    in_to_order cells_exact set (all_sets turns piece region)
+    (subst (λ (w : List Coordinates). IsIn w (all_sets turns piece region)) (sym there.same)
+    (in_all_sets turns piece region n there.by s p.turned (λ c i. p.inside c (subst (λ (w : List Coordinates). IsIn c w) (sym there.same) i))))
 
-pub placements_rise : (piece region : List Coordinates) → IsStrictlySortedBy cells_cmp (placements piece region)
+pub placements_rise : (turns : List ℕ) (piece region : List Coordinates) → IsStrictlySortedBy cells_cmp (placements turns piece region)
 unfolding placements
-placements_rise piece region = in_order_rises cells_total (all_sets piece region)
+placements_rise turns piece region = in_order_rises cells_total (all_sets turns piece region)
 
-pub are_placements : (piece region : List Coordinates) → IsShape piece → IsShape region → ArePlacements piece region (placements piece region)
+pub are_placements : (turns : List ℕ) (piece region : List Coordinates) → IsShape piece → IsShape region → ArePlacements turns piece region (placements turns piece region)
 unfolding placements
-are_placements piece region s r = record {
-  rises = placements_rise piece region;
-  sound = λ set i. sound piece region set s i;
-  complete = λ set rises some p. complete piece region set s rises p;
+are_placements turns piece region s r = record {
+  rises = placements_rise turns piece region;
+  sound = λ set i. sound turns piece region set s i;
+  complete = λ set rises some p. complete turns piece region set s rises p;
 }
 
 -- ---- what the code finds
 
 -- a placement is a shape
-pub placement_is_shape : (piece region set : List Coordinates) → IsShape piece → IsShape region → IsStrictlySortedBy coordinates_cmp set → IsPlacement piece region set → IsShape set
-placement_is_shape piece region set s r rises p =
+pub placement_is_shape : (turns : List ℕ) (piece region set : List Coordinates) → IsShape piece → IsShape region → IsStrictlySortedBy coordinates_cmp set → IsPlacement turns piece region set → IsShape set
+placement_is_shape turns piece region set s r rises p =
     let v = in_from_some piece s.some in
     let w = p.image.into v.0 v.1 in
     record { some = some_from_in w.0 set w.1; rises = rises; limits = λ c i. r.limits c (p.inside c i) }
 
-pub are_shapes : (piece region : List Coordinates) (sets : List (List Coordinates)) → IsShape piece → IsShape region → sets ≡ placements piece region → (set : List Coordinates) → IsIn set sets → IsShape set
-are_shapes piece region sets s r is set i =
-    let h = sound piece region set s (subst (λ (ws : List (List Coordinates)). IsIn set ws) is i) in
-    placement_is_shape piece region set s r h.0 h.1
+pub are_shapes : (turns : List ℕ) (piece region : List Coordinates) (sets : List (List Coordinates)) → IsShape piece → IsShape region → sets ≡ placements turns piece region → (set : List Coordinates) → IsIn set sets → IsShape set
+are_shapes turns piece region sets s r is set i =
+    let h = sound turns piece region set s (subst (λ (ws : List (List Coordinates)). IsIn set ws) is i) in
+    placement_is_shape turns piece region set s r h.0 h.1
 
 -- with a table of the region in its place
-pub found_placements : (piece region cells : List Coordinates) (bits read : List Bool) (turns walked sets found : List (List Coordinates))
-    → cells ≡ region → IsTable cells bits → read ≡ bits → turns ≡ orientations piece → walked ≡ turns → sets ≡ flat_map (at_cells (has_bit read) cells) walked → found ≡ in_order cells_cmp sets
-    → found ≡ placements piece region
+pub found_placements : (turns : List ℕ) (piece region cells : List Coordinates) (bits read : List Bool) (forms walked sets found : List (List Coordinates))
+    → cells ≡ region → IsTable cells bits → read ≡ bits → forms ≡ orientations turns piece → walked ≡ forms → sets ≡ flat_map (at_cells (has_bit read) cells) walked → found ≡ in_order cells_cmp sets
+    → found ≡ placements turns piece region
 unfolding placements
-found_placements piece region cells bits read turns walked sets found same table reads are walks all sorted =
+found_placements turns piece region cells bits read forms walked sets found same table reads are walks all sorted =
     sorted ∙ ap (in_order cells_cmp) (all
     ∙ ap (λ b. flat_map (at_cells (has_bit b) cells) walked) reads
     ∙ at_cells_same (has_bit bits) (has_cell cells) table.same cells walked

@@ -4,13 +4,13 @@ use Rattle.std.specs.List.{list_all, flat_map}
 use Rattle.std.proofs.lemmas.List.{take_all, map_more, map-append}
 use Rattle.std.proofs.lemmas.List.Folds.{list_all-map, list_all_at}
 use Rattle.poly_cells.specs.Coordinates.{Coordinates, coordinates, IsInGrid}
-use Rattle.poly_cells.specs.Symmetries.{rotations}
 use Rattle.poly_cells.specs.Sets.{IsIn, in_order}
 use Rattle.poly_cells.specs.Shapes.{moved, turned}
 use Rattle.poly_cells.proofs.CoordinateLemmas.{same_coordinates}
 use Rattle.poly_cells.proofs.SetLemmas.{in_map, in_at}
+use Rattle.std.proofs.lemmas.List.FromFn.{length-range_with_len, get_or-range_with_len}
 use Rattle.poly_cells.proofs.GroupLemmas.{are_rotations}
-use Rattle.poly_place.specs.Placements.{cells_cmp, at_cells, orientations}
+use Rattle.poly_place.specs.Placements.{cells_cmp, at_cells, orientations, symmetries, turns_for}
 use Rattle.poly_place.specs.Tables.{has_bit}
 use Rattle.poly_cells.proofs.MemberLemmas.{passes, same_function}
 use Rattle.poly_place.proofs.TableLemmas.{bit_in}
@@ -37,18 +37,30 @@ all_within bits d vs h v i = bit_in bits (moved d v) (passes (has_bit bits) (map
 pub at_cells_same : (p q : Coordinates → Bool) → ((c : Coordinates) → p c ≡ q c) → (cells : List Coordinates) (pieces : List (List Coordinates)) → flat_map (at_cells p cells) pieces ≡ flat_map (at_cells q cells) pieces
 at_cells_same p q h cells pieces = ap (λ (r : Coordinates → Bool). flat_map (at_cells r cells) pieces) (same_function p q h)
 
--- ---- the rotations, one by one
+-- ---- the symmetries, one by one
 
 pub mapped_push : {X Y : Type 0} (f : X → Y) (xs ys : List X) (x : X) (y : Y) → ys ≡ xs ++ x ∷ [] → f x ≡ y → map f ys ≡ map f xs ++ y ∷ []
 mapped_push {X} {Y} f xs ys x y push is = ap (map f) push ∙ map-append f xs (x ∷ []) ∙ ap (λ (z : Y). map f xs ++ z ∷ []) is
 
-pub one_turned : (piece : List Coordinates) (r n : ℕ) (before after : List (List Coordinates)) → r < 24 → n ≡ slice_index rotations r → after ≡ before ++ turned n piece ∷ []
-    → before ≡ map (λ k. turned k piece) (take r rotations) → after ≡ map (λ k. turned k piece) (take (r + 1) rotations)
-one_turned piece r n before after lt is push so =
-    let within : r < length rotations = let count = are_rotations.count in omega arith in
-    push ∙ ap₂ (λ ws (k : ℕ). ws ++ turned k piece ∷ []) so is ∙ sym (map_more (λ k. turned k piece) rotations r 0 within)
+pub one_turned : (turns : List ℕ) (piece : List Coordinates) (r n : ℕ) (before after : List (List Coordinates)) → r < length turns → n ≡ slice_index turns r → after ≡ before ++ turned n piece ∷ []
+    → before ≡ map (λ k. turned k piece) (take r turns) → after ≡ map (λ k. turned k piece) (take (r + 1) turns)
+one_turned turns piece r n before after lt is push so =
+    push ∙ ap₂ (λ ws (k : ℕ). ws ++ turned k piece ∷ []) so is ∙ sym (map_more (λ k. turned k piece) turns r 0 lt)
 
-pub all_turned : (piece : List Coordinates) (r : ℕ) (turns : List (List Coordinates)) → 24 ≤ r → turns ≡ map (λ k. turned k piece) (take r rotations) → in_order cells_cmp turns ≡ orientations piece
+pub all_turned : (turns : List ℕ) (piece : List Coordinates) (r : ℕ) (forms : List (List Coordinates)) → length turns ≤ r → forms ≡ map (λ k. turned k piece) (take r turns) → in_order cells_cmp forms ≡ orientations turns piece
 unfolding orientations
-all_turned piece r turns le so =
-    ap (in_order cells_cmp) (so ∙ ap (map (λ k. turned k piece)) (take_all r rotations (let count = are_rotations.count in omega arith)))
+all_turned turns piece r forms le so = ap (in_order cells_cmp) (so ∙ ap (map (λ k. turned k piece)) (take_all r turns le))
+
+pub turns_count : (b : Bool) → b ≡ false → 24 ≡ length (turns_for b)
+turns_count true e = absurd (cc)
+turns_count false e = sym are_rotations.count
+
+pub rotation_low : (b : Bool) (r : ℕ) → b ≡ false → r < length (turns_for b) → r < 24
+rotation_low b r e h = let count = turns_count b e in omega (arith, count, h)
+
+pub symmetry_at : (b : Bool) (r n : ℕ) → b ≡ true → r < length (turns_for b) → n ≡ r → n ≡ slice_index (turns_for b) r
+symmetry_at false r n e h is = absurd (cc)
+symmetry_at true r n e h is =
+    let long : length symmetries ≡ 48 = length-range_with_len 0 48 in
+    let at = get_or-range_with_len 0 48 r 0 (omega (arith, h, long)) in
+    omega (arith, is, at)

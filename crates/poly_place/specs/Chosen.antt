@@ -2,8 +2,9 @@
 --
 -- Example: in the puzzle of the pieces A and B of one cell each and the region 0 0 0, 1 0 0 the options 3 2 stand for A at 1 0 0
 -- and B at 0 0 0 (proofs/PackingExamples.antt).
-use Rattle.std.specs.Prelude.{◌≡◌, ℕ, ◌-◌, ◌<◌, ◌≤◌, ◌==◌, Bool, ◌&&◌, List, [], map, filter, length, slice_index, slice_index_or, EachIndex}
+use Rattle.std.specs.Prelude.{◌≡◌, ℕ, ◌+◌, ◌-◌, ◌<◌, ◌≤◌, ◌==◌, Bool, cond, ◌&&◌, List, [], ◌∷◌, map, filter, length, slice_index, slice_index_or, EachIndex}
 use Rattle.std.specs.List.{list_any}
+use Rattle.std.specs.List.Sorted.{IsNonDecreasingBy}
 use Rattle.std.specs.Ordering.{is_eq, nat_cmp}
 use Rattle.cover_problem.specs.Lists.{has}
 use Rattle.poly_cells.specs.Coordinates.{Coordinates}
@@ -37,6 +38,15 @@ names_in cs = map (λ c. c.name) cs
 -- the names of the choices are those of the pieces that have one, in the order of the pieces
 abbrev pub AreInPieceOrder : PuzzleValue → List ChoiceValue → Type 0
 AreInPieceOrder p cs = names_in cs ≡ filter (has_name (names_in cs)) (names_of p.pieces)
+
+-- how many come before the first x
+abbrev pub place_in : List ℕ → ℕ → ℕ
+place_in [] x = 0
+place_in (y ∷ ys) x = cond (y == x) 0 (1 + place_in ys x)
+
+-- no choice of a piece comes before one of an earlier piece
+abbrev pub ComeByPiece : PuzzleValue → List ChoiceValue → Type 0
+ComeByPiece p cs = IsNonDecreasingBy (λ c. place_in (names_of p.pieces) c.name) cs
 
 -- the choice numbered o, from 1 on
 abbrev pub choice_numbered : List ChoiceValue → ℕ → ChoiceValue

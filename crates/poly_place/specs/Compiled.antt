@@ -1,10 +1,11 @@
--- How the items of a puzzle's problem are numbered, and when there is room for its options.
-use Rattle.std.specs.Prelude.{◌≡◌, ℕ, ◌+◌, nat_le, Bool, ◌&&◌, List, [], ◌∷◌, map, filter, length, sum_by, slice_index_or, slice_set}
+-- How the items of a puzzle's problem are numbered, by tables of cells and by the places of nodes, and when there is room for its options.
+use Rattle.std.specs.Prelude.{◌≡◌, ℕ, ◌+◌, ◌^◌, ◌==◌, nat_le, Bool, cond, ◌&&◌, List, [], ◌∷◌, ◌++◌, map, filter, length, sum_by, slice_index_or, slice_set}
 use Rattle.poly_cells.specs.Coordinates.{Coordinates}
 use Rattle.poly_cells.specs.Sets.{IsIn}
-use Rattle.poly_texts.specs.Puzzle.{PuzzleValue, names_of}
+use Rattle.poly_texts.specs.Puzzle.{PuzzleValue, names_of, is_needed}
 use Rattle.cover_problem.specs.declared.limits.TheConstants.{MOST_OPTIONS, MOST_ENTRIES}
-use Rattle.poly_place.specs.Packings.{ChoiceValue, is_needed, must_fill, a_cell, item_of}
+use Rattle.poly_place.specs.Packings.{ChoiceValue, must_fill, a_cell, item_of, place_of, pairs, levels, needed_things, things_of}
+use Rattle.poly_place.specs.Turns.{from_right, from_left}
 use Rattle.poly_place.specs.Tables.{grid_cells, bit_index}
 
 -- ---- items
@@ -31,18 +32,43 @@ pub record AreNumbers (p : PuzzleValue) (numbers : List ℕ) : Type 0 where
   pub long : length numbers ≡ grid_cells
   pub same : (v : Coordinates) → IsIn v p.region → item_number_at numbers v ≡ item_of p (a_cell v)
 
+-- the table has, for each cell of the region, one more than how many of the region's cells come before it
+pub record ArePlaces (p : PuzzleValue) (places : List ℕ) : Type 0 where
+  pub long : length places ≡ grid_cells
+  pub same : (v : Coordinates) → IsIn v p.region → item_number_at places v ≡ place_of p.region v + 1
+
+-- how many items come before the nodes
+abbrev pub before_nodes : PuzzleValue → ℕ
+before_nodes p = length (needed_things p) + length p.maybe_pieces + length p.maybe_cells
+
+-- what tells the number of each item: the table of the cells' items, that of their places, the pairs of equal pieces, the levels of
+-- their trees with how many leaves each has, and how many items come before the nodes
+pub record IsNumbering (p : PuzzleValue) (cells places : List ℕ) (pairs_are : List (ℕ × ℕ)) (levels_are leaves before : ℕ) : Type 0 where
+  pub items : AreNumbers p cells
+  pub places_are : ArePlaces p places
+  pub pairs_same : pairs_are ≡ pairs p
+  pub levels_same : levels_are ≡ levels p
+  pub leaves_same : leaves ≡ 2 ^ levels p
+  pub before_same : before ≡ before_nodes p
+
 -- ---- options
 
--- the item, and then the items of the cells by the table
-abbrev pub option_by : List ℕ → ℕ → List Coordinates → List ℕ
-option_by numbers item cells = item ∷ map (item_number_at numbers) cells
+-- these numbers, if it is so
+abbrev pub numbers_if : Bool → List ℕ → List ℕ
+numbers_if b ns = cond b ns []
+
+-- the items of the nodes of a pair's tree that a leaf reaches: from the right where the name is that of the piece that comes first, and
+-- from the left where it is that of the second; the item of node h is numbered h more than `before`
+abbrev pub pair_items : ℕ → ℕ × ℕ → ℕ → ℕ → ℕ → List ℕ
+pair_items name pair before levels leaf =
+    numbers_if (name == pair.0) (map (λ h. before + h) (from_right levels leaf)) ++ numbers_if (name == pair.1) (map (λ h. before + h) (from_left levels leaf))
 
 -- ---- room
 
--- the entries that the options of these choices take: a node for the piece, one for each cell, and a spacer
-abbrev pub entries_of : List ChoiceValue → ℕ
-entries_of cs = sum_by (λ c. length c.cells + 2) cs
+-- the entries that the options of these choices take: one for each item, and a spacer
+abbrev pub entries_of : PuzzleValue → List ChoiceValue → ℕ
+entries_of p cs = sum_by (λ c. length (things_of p c) + 1) cs
 
 -- there is room for this many items and the options of these choices
-abbrev pub has_room : ℕ → List ChoiceValue → Bool
-has_room items cs = nat_le (length cs) MOST_OPTIONS && nat_le (items + entries_of cs + 2) MOST_ENTRIES
+abbrev pub has_room : PuzzleValue → ℕ → List ChoiceValue → Bool
+has_room p items cs = nat_le (length cs) MOST_OPTIONS && nat_le (items + entries_of p cs + 2) MOST_ENTRIES

@@ -2,24 +2,19 @@
 -- Contracts of private functions cite these words.
 --
 -- Example: the parts 2 0 2 1 have the form 1 0 1 4, since the part numbered 2 stands first at place 1 (proofs/ClassExamples.antt).
-use Rattle.std.specs.Prelude.{◌≡◌, ◌↔◌, ℕ, ◌+◌, ◌<◌, ◌==◌, Bool, true, cond, List, [], ◌∷◌, map, slice_index}
+use Rattle.std.specs.Prelude.{◌≡◌, ◌↔◌, ℕ, ◌<◌, Bool, true, List, [], ◌∷◌, map, slice_index}
 use Rattle.std.specs.Ordering.{nat_cmp}
 use Rattle.std.specs.Cmp.Lexicographic.{slice_cmp}
 use Rattle.std.specs.declared.cmp.Ordering.{Ordering}
 use Rattle.poly_cells.specs.Coordinates.{Coordinates}
 use Rattle.poly_cells.specs.Sets.{IsIn, by_order}
 use Rattle.poly_cells.specs.Images.{HasSymmetry}
-use Rattle.poly_cells.specs.CellTests.{is_same, has_cell}
+use Rattle.poly_cells.specs.CellTests.{has_cell}
 use Rattle.poly_place.specs.declared.alike.Group.{Group}
-use Rattle.poly_place.specs.Packings.{ChoiceValue}
-use Rattle.poly_place.specs.Chosen.{PackingValue}
+use Rattle.poly_place.specs.Packings.{ChoiceValue, place_of}
+use Rattle.poly_place.specs.Chosen.{PackingValue, place_in}
 use Rattle.poly_place.specs.Classes.{is_member, part_at}
 use Rattle.poly_place.specs.ClassCount.{images_in}
-
--- how many cells come before this one
-abbrev pub place_of : List Coordinates → Coordinates → ℕ
-place_of [] v = 0
-place_of (c ∷ cs) v = cond (is_same c v) 0 (1 + place_of cs v)
 
 -- for each cell of the region the place of its image
 abbrev pub carrier : List Coordinates → ℕ → List ℕ
@@ -58,11 +53,6 @@ parts_in region cs = map (part_at cs) region
 -- the numbers at these places
 abbrev pub carried : List ℕ → List ℕ → List ℕ
 carried numbers places = map (slice_index numbers) places
-
--- how many come before the first x
-abbrev pub place_in : List ℕ → ℕ → ℕ
-place_in [] x = 0
-place_in (y ∷ ys) x = cond (y == x) 0 (1 + place_in ys x)
 
 -- for each number where it stands first, from 1 on, and 0 for 0
 unfoldable pub first_form : List ℕ → List ℕ

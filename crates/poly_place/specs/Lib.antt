@@ -1,7 +1,10 @@
 pub mod Answers
 pub mod Placements
 pub mod Tables
+pub mod Turns
 pub mod Packings
+pub mod Swaps
+pub mod Plain
 pub mod Chosen
 pub mod Compiled
 pub mod Layers

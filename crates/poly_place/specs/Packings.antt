@@ -1,20 +1,23 @@
 -- Packings of a puzzle, and the exact cover problem that stands for them.
--- Its items are pieces and cells: first those that are required, then those that may be left out. Its options are placements.
+-- Its items are pieces and cells: first those that are required, then those that may be left out, and then nodes of trees that keep
+-- equal pieces in order (specs/Turns.antt). Its options are placements.
 --
 -- Example: the puzzle of two pieces A and B of one cell each and the region 0 0 0, 1 0 0, in which B may be left out and
 -- 1 0 0 may stay empty, has the items A, 000, B and 100. A has the options A 000 and A 100, and B has B 000 alone
 -- (proofs/PackingExamples.antt).
-use Rattle.std.specs.Prelude.{◌≡◌, ℕ, ◌+◌, ◌-◌, ◌<◌, ◌≤◌, ◌==◌, Bool, true, false, not, ◌&&◌, ◌||◌, cond, List, [], ◌∷◌, ◌++◌, ◌⊎◌, map, filter, flat_map, length, slice_index_or}
-use Rattle.std.specs.List.{list_any}
+use Rattle.std.specs.Prelude.{◌^◌, nat_le, ◌/◌, ◌%◌, ◌≡◌, ℕ, ◌+◌, ◌-◌, ◌<◌, ◌≤◌, ◌==◌, Bool, true, false, not, ◌&&◌, ◌||◌, cond, List, [], ◌∷◌, ◌++◌, ◌⊎◌, map, filter, flat_map, length, slice_index_or}
+use Rattle.std.specs.List.{list_any, position_or_len, range_with_len}
+use Rattle.std.specs.declared.cmp.Ordering.TheVariants.{Less}
 use Rattle.std.specs.List.Sorted.{IsStrictlySortedBy}
-use Rattle.poly_cells.specs.Coordinates.{Coordinates, coordinates_cmp}
+use Rattle.poly_cells.specs.Coordinates.{Coordinates, coordinates, coordinates_cmp}
 use Rattle.poly_cells.specs.Sets.{IsIn}
 use Rattle.poly_cells.specs.CellTests.{is_same, has_cell}
-use Rattle.poly_cells.specs.CellWords.{cell_word}
-use Rattle.poly_texts.specs.Puzzle.{PuzzleValue, IsPuzzle, names_of, has_name}
+use Rattle.poly_cells.specs.CellWords.{cell_word, symbol}
+use Rattle.poly_texts.specs.Puzzle.{PuzzleValue, IsPuzzle, names_of, has_name, is_needed}
 use Rattle.cover_problem.specs.Problem.{ProblemValue, is_small}
 use Rattle.cover_problem.specs.ExactCover.{IsExactCover}
-use Rattle.poly_place.specs.Placements.{IsPlacement, placements}
+use Rattle.poly_place.specs.Placements.{IsPlacement, placements, turns_for}
+use Rattle.poly_place.specs.Turns.{from_right, from_left, leaf}
 
 -- a piece's name, and a set of cells for it
 pub record ChoiceValue : Type 0 where
@@ -25,9 +28,28 @@ pub record ChoiceValue : Type 0 where
 abbrev pub choice : ℕ → List Coordinates → ChoiceValue
 choice name cells = record { name = name; cells = cells }
 
--- the piece may not be left out
-abbrev pub is_needed : PuzzleValue → ℕ → Bool
-is_needed p name = not (has_name p.maybe_pieces name)
+-- the piece may be used any number of times
+abbrev pub is_any : PuzzleValue → ℕ → Bool
+is_any p name = has_name p.any_pieces name
+
+-- the symmetries by which the piece may be turned
+abbrev pub turns_of : PuzzleValue → ℕ → List ℕ
+turns_of p name = turns_for (has_name p.mirrored name)
+
+-- each name with the one after it
+abbrev pub neighbours : List ℕ → List (ℕ × ℕ)
+neighbours [] = []
+neighbours (m ∷ []) = []
+neighbours (m ∷ n ∷ ns) = (m, n) ∷ neighbours (n ∷ ns)
+
+-- each two equal pieces of which the second one follows the first
+abbrev pub pairs : PuzzleValue → List (ℕ × ℕ)
+pairs p = flat_map neighbours p.equal
+
+-- the least of the cells
+abbrev pub first_cell : List Coordinates → Coordinates
+first_cell [] = coordinates 0 0 0
+first_cell (v ∷ vs) = v
 
 -- the region has the cell, which may not stay empty
 abbrev pub must_fill : PuzzleValue → Coordinates → Bool
@@ -38,17 +60,20 @@ pub record IsPlaced (p : PuzzleValue) (c : ChoiceValue) : Type 0 where
   pub piece : List Coordinates
   pub named : IsIn (c.name, piece) p.pieces
   pub rises : IsStrictlySortedBy coordinates_cmp c.cells
-  pub placed : IsPlacement piece p.region c.cells
+  pub placed : IsPlacement (turns_of p c.name) piece p.region c.cells
   pub useful : (is_needed p c.name ≡ true) ⊎ ((v : Coordinates) × IsIn v c.cells × (must_fill p v ≡ true))
 
--- some pieces, the required ones among them, each in one placement, which fill each required cell and meet nowhere;
+-- some pieces, the required ones among them, each in one placement (those that may be used any number of times in some), which fill
+-- each required cell and meet nowhere; of two equal pieces the one that comes first has the lesser of their least cells;
 -- given as a test on choices
 pub record IsPacking (p : PuzzleValue) (chosen : ChoiceValue → Bool) : Type 0 where
   pub placed : (c : ChoiceValue) → chosen c ≡ true → IsPlaced p c
-  pub once : (c d : ChoiceValue) → chosen c ≡ true → chosen d ≡ true → c.name ≡ d.name → c ≡ d
+  pub once : (c d : ChoiceValue) → chosen c ≡ true → chosen d ≡ true → is_any p c.name ≡ false → c.name ≡ d.name → c ≡ d
   pub used : (name : ℕ) → IsIn name (names_of p.pieces) → is_needed p name ≡ true → (c : ChoiceValue) × (chosen c ≡ true) × (c.name ≡ name)
   pub filled : (v : Coordinates) → must_fill p v ≡ true → (c : ChoiceValue) × (chosen c ≡ true) × IsIn v c.cells
   pub apart : (v : Coordinates) (c d : ChoiceValue) → chosen c ≡ true → chosen d ≡ true → IsIn v c.cells → IsIn v d.cells → c ≡ d
+  pub ordered : (c d : ChoiceValue) → chosen c ≡ true → chosen d ≡ true → IsIn (c.name, d.name) (pairs p)
+      → coordinates_cmp (first_cell c.cells) (first_cell d.cells) ≡ Less
 
 -- ---- the problem
 
@@ -58,31 +83,54 @@ is_useful p c = is_needed p c.name || list_any (must_fill p) c.cells
 
 -- what may be chosen for a piece, in the order of its placements
 abbrev pub choices_of_piece : PuzzleValue → ℕ × List Coordinates → List ChoiceValue
-choices_of_piece p named = filter (is_useful p) (map (choice (named.0)) (placements (named.1) p.region))
+choices_of_piece p named = filter (is_useful p) (map (choice (named.0)) (placements (turns_of p (named.0)) (named.1) p.region))
 
 -- what may be chosen, piece by piece
 unfoldable pub choices : PuzzleValue → List ChoiceValue
 choices p = flat_map (choices_of_piece p) p.pieces
 
--- what an item stands for: a piece, by its name, or a cell
+-- what an item stands for: a piece, by its name; a cell; or a node of the tree that keeps two equal pieces in order, by the name of
+-- the one that comes first
 pub data Thing : Type 0 where
   a_piece : ℕ → Thing
   a_cell : Coordinates → Thing
+  a_node : ℕ → ℕ → Thing
 
 -- the two are the same
 abbrev pub same_thing : Thing → Thing → Bool
 same_thing (a_piece m) (a_piece n) = m == n
 same_thing (a_cell v) (a_cell w) = is_same v w
+same_thing (a_node m h) (a_node n i) = (m == n) && (h == i)
 same_thing (a_piece m) (a_cell w) = false
+same_thing (a_piece m) (a_node n i) = false
 same_thing (a_cell v) (a_piece n) = false
+same_thing (a_cell v) (a_node n i) = false
+same_thing (a_node m h) (a_piece n) = false
+same_thing (a_node m h) (a_cell w) = false
 
 -- the required pieces, and then the cells that have to be filled
 abbrev pub needed_things : PuzzleValue → List Thing
 needed_things p = map a_piece (filter (is_needed p) (names_of p.pieces)) ++ map a_cell (filter (must_fill p) p.region)
 
--- and then the pieces that may be left out, and the cells that may stay empty
+-- so many levels has a tree with a leaf for each of so many cells, 4,096 at most
+unfoldable pub levels_for : ℕ → ℕ
+levels_for n = position_or_len (λ k. nat_le n (2 ^ k)) (range_with_len 0 12)
+
+-- the levels of the trees that keep equal pieces in order
+unfoldable pub levels : PuzzleValue → ℕ
+levels p = levels_for (length p.region)
+
+-- the nodes of the tree of two equal pieces, without its leaves
+abbrev pub nodes : PuzzleValue → ℕ × ℕ → List Thing
+nodes p pair = map (a_node (pair.0)) (range_with_len 1 (2 ^ levels p - 1))
+
+-- and then the pieces that may be left out, the cells that may stay empty, and the nodes
+abbrev pub other_things : PuzzleValue → List Thing
+other_things p = map a_piece p.maybe_pieces ++ (map a_cell p.maybe_cells ++ flat_map (nodes p) (pairs p))
+
+-- all of them
 abbrev pub things : PuzzleValue → List Thing
-things p = needed_things p ++ (map a_piece p.maybe_pieces ++ map a_cell p.maybe_cells)
+things p = needed_things p ++ other_things p
 
 -- how many come before the thing
 abbrev pub index_among : Thing → List Thing → ℕ
@@ -93,18 +141,42 @@ index_among t (s ∷ ss) = cond (same_thing t s) 0 (index_among t ss + 1)
 unfoldable pub item_of : PuzzleValue → Thing → ℕ
 item_of p t = index_among t (things p) + 1
 
--- the piece, and then its cells in order
-abbrev pub things_of : ChoiceValue → List Thing
-things_of c = a_piece c.name ∷ map a_cell c.cells
+-- how many of the cells come before this one
+abbrev pub place_of : List Coordinates → Coordinates → ℕ
+place_of [] v = 0
+place_of (c ∷ cs) v = cond (is_same c v) 0 (1 + place_of cs v)
+
+-- the leaf of the least cell
+abbrev pub leaf_of : PuzzleValue → ChoiceValue → ℕ
+leaf_of p c = leaf (levels p) (place_of p.region (first_cell c.cells))
+
+-- these things, if it is so
+abbrev pub given : Bool → List Thing → List Thing
+given b ts = cond b ts []
+
+-- the nodes of a pair's tree that the leaf of the least cell reaches from the right, where the piece comes first, or from the left
+abbrev pub nodes_by : PuzzleValue → ChoiceValue → ℕ × ℕ → List Thing
+nodes_by p c pair =
+    given (c.name == pair.0) (map (a_node (pair.0)) (from_right (levels p) (leaf_of p c)))
+    ++ given (c.name == pair.1) (map (a_node (pair.0)) (from_left (levels p) (leaf_of p c)))
+
+-- the piece, unless it may be used any number of times; then its cells in order, and the nodes
+abbrev pub things_of : PuzzleValue → ChoiceValue → List Thing
+things_of p c = given (not (is_any p c.name)) (a_piece c.name ∷ []) ++ (map a_cell c.cells ++ flat_map (nodes_by p c) (pairs p))
 
 -- the option that stands for the choice
 abbrev pub option_of : PuzzleValue → ChoiceValue → List ℕ
-option_of p c = map (item_of p) (things_of c)
+option_of p c = map (item_of p) (things_of p c)
 
--- the name of an item: the piece's, or the symbols of the cell's three coordinates
+-- the name of a node of a pair's tree: the name of the one that comes first, `_`, and the node's number in three symbols
+abbrev pub node_word : ℕ → ℕ → List ℕ
+node_word name h = name ∷ 95 ∷ symbol (h / 1024) ∷ symbol (h / 32 % 32) ∷ symbol (h % 32) ∷ []
+
+-- the name of an item: the piece's, or the symbols of the cell's three coordinates, or the node's
 abbrev pub thing_name : Thing → List ℕ
 thing_name (a_piece name) = name ∷ []
 thing_name (a_cell v) = cell_word v
+thing_name (a_node name h) = node_word name h
 
 -- the problem that stands for the puzzle
 unfoldable pub packing_problem : PuzzleValue → ProblemValue

@@ -1,9 +1,9 @@
--- Placements of a piece in a region: the sets of region cells that are the piece turned by a rotation and then translated.
+-- Placements of a piece in a region: the sets of region cells that are the piece turned by one of some symmetries and then translated.
 --
 -- Example: in the box 2 2 1 the piece 0 0 0, 1 0 0 has four placements: 0 0 0 with 0 1 0, 0 0 0 with 1 0 0, 0 1 0 with
 -- 1 1 0, and 1 0 0 with 1 1 0, in this order (proofs/PlacementExamples.antt).
 use Rattle.std.specs.Prelude.{ℕ, ◌<◌, Bool, cond, ◌&&◌, nat_le, List, [], ◌∷◌, map, length}
-use Rattle.std.specs.List.{list_all, flat_map}
+use Rattle.std.specs.List.{list_all, flat_map, range_with_len}
 use Rattle.std.specs.List.Sorted.{IsStrictlySortedBy}
 use Rattle.std.specs.Cmp.Lexicographic.{slice_cmp}
 use Rattle.std.specs.declared.cmp.Ordering.{Ordering}
@@ -19,19 +19,19 @@ use Rattle.poly_cells.specs.Images.{IsImage}
 abbrev pub cells_cmp : List Coordinates → List Coordinates → Ordering
 cells_cmp = slice_cmp coordinates_cmp
 
--- a set of region cells to which a rotation and then a translation bring the piece
-pub record IsPlacement (piece region set : List Coordinates) : Type 0 where
-  pub rotation : ℕ
+-- a set of region cells to which one of the symmetries and then a translation bring the piece
+pub record IsPlacement (turns : List ℕ) (piece region set : List Coordinates) : Type 0 where
+  pub symmetry : ℕ
   pub by : Point
-  pub turns : IsIn rotation rotations
-  pub image : IsImage rotation by piece set
+  pub turned : IsIn symmetry turns
+  pub image : IsImage symmetry by piece set
   pub inside : (c : Coordinates) → IsIn c set → IsIn c region
 
 -- exactly the placements, each once, in order
-pub record ArePlacements (piece region : List Coordinates) (sets : List (List Coordinates)) : Type 0 where
+pub record ArePlacements (turns : List ℕ) (piece region : List Coordinates) (sets : List (List Coordinates)) : Type 0 where
   pub rises : IsStrictlySortedBy cells_cmp sets
-  pub sound : (set : List Coordinates) → IsIn set sets → IsStrictlySortedBy coordinates_cmp set × IsPlacement piece region set
-  pub complete : (set : List Coordinates) → IsStrictlySortedBy coordinates_cmp set → 0 < length set → IsPlacement piece region set
+  pub sound : (set : List Coordinates) → IsIn set sets → IsStrictlySortedBy coordinates_cmp set × IsPlacement turns piece region set
+  pub complete : (set : List Coordinates) → IsStrictlySortedBy coordinates_cmp set → 0 < length set → IsPlacement turns piece region set
       → IsIn set sets
 
 -- ---- the list of the placements
@@ -61,14 +61,23 @@ at_cells inside cells piece = flat_map (at_cell inside piece) cells
 abbrev pub forms_at : (Coordinates → Bool) → List Coordinates → List (List Coordinates) → List (List Coordinates)
 forms_at inside cells forms = flat_map (at_cells inside cells) forms
 
--- the turned forms of the piece, in order, each once
-unfoldable pub orientations : List Coordinates → List (List Coordinates)
-orientations piece = in_order cells_cmp (map (λ n. turned n piece) rotations)
+-- the turned forms of the piece by these symmetries, in order, each once
+unfoldable pub orientations : List ℕ → List Coordinates → List (List Coordinates)
+orientations turns piece = in_order cells_cmp (map (λ n. turned n piece) turns)
 
--- the placements, in order, each once
-unfoldable pub placements : List Coordinates → List Coordinates → List (List Coordinates)
-placements piece region = in_order cells_cmp (forms_at (has_cell region) region (orientations piece))
+-- the placements by these symmetries, in order, each once
+unfoldable pub placements : List ℕ → List Coordinates → List Coordinates → List (List Coordinates)
+placements turns piece region = in_order cells_cmp (forms_at (has_cell region) region (orientations turns piece))
 
--- the list of any shape in any other has exactly the placements
+-- all symmetries
+abbrev pub symmetries : List ℕ
+symmetries = range_with_len 0 48
+
+-- those by which a piece may be turned, which may be reflected or not
+abbrev pub turns_for : Bool → List ℕ
+turns_for mirrored = cond mirrored symmetries rotations
+
+-- the list of any shape in any other, by any symmetries, has exactly the placements
 abbrev pub ListsPlacements : Type 0
-ListsPlacements = (piece region : List Coordinates) → IsShape piece → IsShape region → ArePlacements piece region (placements piece region)
+ListsPlacements =
+    (turns : List ℕ) (piece region : List Coordinates) → IsShape piece → IsShape region → ArePlacements turns piece region (placements turns piece region)

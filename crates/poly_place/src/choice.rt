@@ -75,7 +75,8 @@ pub fn add_choices(
     ensures { Adds result choices.old choices.new (choices_of_piece puzzle.now (name, piece.now)) }
 {
     let is_needed = needed.contains(&name);
-    for cells in placements(alloc, piece, puzzle.region())? {
+    let is_mirrored = puzzle.mirrored().contains(&name);
+    for cells in placements(alloc, piece, puzzle.region(), is_mirrored)? {
         if is_useful(is_needed, filled, cells.cells()) {
             choices.push(Choice { name, cells })?;
         }

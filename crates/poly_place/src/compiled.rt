@@ -5,16 +5,14 @@ ghost use Rattle.poly_texts.specs.Puzzle.{IsPuzzle};
 ghost use Rattle.cover_problem.specs.Answers.{Returns, ReturnsItems};
 ghost use Rattle.poly_place.specs.Answers.{ReturnsLists, ReturnsTexts};
 ghost use Rattle.poly_place.specs.Packings.{choices, packing_problem, needed_things, option_of, thing_name, things, problem_fits};
-ghost use Rattle.poly_place.specs.Compiled.{AreNumbers, filled_cells, needed_names, option_by};
-ghost use Rattle.poly_place.specs.Tables.{grid_cells};
+ghost use Rattle.poly_place.specs.Compiled.{filled_cells, needed_names};
 
 use crate::choice::{Choice, all_choices};
 use crate::fault::PlaceFault;
-use crate::items::{
-    add_cell_names, add_piece_names, cell_numbers, needed_cells, needed_pieces, piece_number,
-};
+use crate::items::{add_cell_names, add_piece_names, needed_cells, needed_pieces};
+use crate::numbers::Numbers;
 use crate::room::has_room;
-use crate::table::{bit_index, table_of};
+use crate::table::table_of;
 use cover_problem::{Problem, ProblemFault};
 use poly_cells::{Cell, Shape};
 use poly_texts::{PieceName, Puzzle};
@@ -107,9 +105,14 @@ pub fn compile<'p>(alloc: Global, puzzle: &'p Puzzle) -> Result<Compiled<'p>, Pl
     let pieces = needed_pieces(alloc, puzzle)?;
     let cells = needed_cells(alloc, puzzle)?;
     let filled = table_of(alloc, cells.as_slice())?;
-    let primary = pieces.len() + cells.len();
-    let items = primary + puzzle.maybe_pieces().len() + puzzle.maybe_cells().len();
-    let room = has_room(alloc, puzzle, pieces.as_slice(), filled.as_slice(), items)?;
+    let numbers = Numbers::of(alloc, puzzle, pieces.as_slice(), cells.as_slice())?;
+    let room = has_room(
+        alloc,
+        puzzle,
+        pieces.as_slice(),
+        filled.as_slice(),
+        &numbers,
+    )?;
     if let Some(fault) = refusal(room) {
         return Err(fault);
     }
@@ -119,6 +122,7 @@ pub fn compile<'p>(alloc: Global, puzzle: &'p Puzzle) -> Result<Compiled<'p>, Pl
         puzzle,
         pieces.as_slice(),
         cells.as_slice(),
+        &numbers,
         choices.as_slice(),
     )?;
     Ok(Compiled {
@@ -134,19 +138,20 @@ fn problem_of(
     puzzle: &Puzzle,
     pieces: &[PieceName],
     cells: &[Cell],
+    numbers: &Numbers<'_>,
     list: &[Choice],
 ) -> Result<Problem, AllocError>
     requires puzzle { IsPuzzle puzzle.now }
     requires pieces { pieces.now ≡ needed_names puzzle.now }
     requires cells { cells.now ≡ filled_cells puzzle.now }
+    requires numbers { numbers.now ≡ puzzle.now }
     requires list { list.now ≡ choices puzzle.now }
     requires small { problem_fits puzzle.now ≡ true }
     ensures { Returns result (packing_problem puzzle.now) }
 {
     let primary = (pieces.len() + cells.len()) as u32;
-    let names = item_names(alloc, puzzle, pieces, cells)?;
-    let numbers = cell_numbers(alloc, puzzle, pieces, cells)?;
-    let options = all_options(alloc, puzzle, pieces, primary, numbers.as_slice(), list)?;
+    let names = item_names(alloc, puzzle, pieces, cells, numbers)?;
+    let options = all_options(alloc, pieces, primary, numbers, list)?;
     match Problem::new(alloc, names, primary, options) {
         Ok(problem) => Ok(problem),
         Err(refused) => match refused.fault {
@@ -162,9 +167,11 @@ fn item_names(
     puzzle: &Puzzle,
     pieces: &[PieceName],
     cells: &[Cell],
+    numbers: &Numbers<'_>,
 ) -> Result<Vec<String>, AllocError>
     requires pieces { pieces.now ≡ needed_names puzzle.now }
     requires cells { cells.now ≡ filled_cells puzzle.now }
+    requires numbers { numbers.now ≡ puzzle.now }
     ensures { ReturnsTexts result (map thing_name (things puzzle.now)) }
 {
     let mut names = Vec::new(alloc);
@@ -172,47 +179,27 @@ fn item_names(
     add_cell_names(alloc, &mut names, cells)?;
     add_piece_names(alloc, &mut names, puzzle.maybe_pieces())?;
     add_cell_names(alloc, &mut names, puzzle.maybe_cells())?;
+    numbers.add_node_names(alloc, &mut names)?;
     Ok(names)
 }
 
 /// The options of these choices.
 fn all_options(
     alloc: Global,
-    puzzle: &Puzzle,
     needed: &[PieceName],
     primary: u32,
-    numbers: &[u32],
+    numbers: &Numbers<'_>,
     list: &[Choice],
 ) -> Result<Vec<Vec<u32>>, AllocError>
-    requires puzzle { IsPuzzle puzzle.now }
-    requires needed { needed.now ≡ needed_names puzzle.now }
-    requires primary { primary ≡ length (needed_things puzzle.now) }
-    requires numbers { AreNumbers puzzle.now numbers.now }
-    requires list { list.now ≡ choices puzzle.now }
-    ensures { ReturnsLists result (map (option_of puzzle.now) (choices puzzle.now)) }
+    requires puzzle { IsPuzzle numbers.now }
+    requires needed { needed.now ≡ needed_names numbers.now }
+    requires primary { primary ≡ length (needed_things numbers.now) }
+    requires list { list.now ≡ choices numbers.now }
+    ensures { ReturnsLists result (map (option_of numbers.now) (choices numbers.now)) }
 {
     let mut options = Vec::with_capacity(alloc, list.len())?;
     for choice in list {
-        let item = piece_number(puzzle, needed, primary, choice.name());
-        options.push(option_of(alloc, item, numbers, choice.cells())?)?;
+        options.push(numbers.option_of(alloc, needed, primary, choice)?)?;
     }
     Ok(options)
-}
-
-/// The piece's item, and then the items of its cells.
-fn option_of(
-    alloc: Global,
-    item: u32,
-    numbers: &[u32],
-    cells: &[Cell],
-) -> Result<Vec<u32>, AllocError>
-    requires { length numbers.now ≡ grid_cells }
-    ensures { ReturnsItems result (option_by numbers.now item cells.now) }
-{
-    let mut option = Vec::with_capacity(alloc, cells.len() + 1)?;
-    option.push(item)?;
-    for cell in cells {
-        option.push(numbers[bit_index(cell.x(), cell.y(), cell.z())])?;
-    }
-    Ok(option)
 }

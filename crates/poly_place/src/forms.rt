@@ -4,7 +4,8 @@ ghost use Rattle.poly_cells.specs.Sets.{in_order};
 ghost use Rattle.cover_problem.specs.Answers.{ReturnsItems};
 ghost use Rattle.poly_place.specs.Answers.{ReturnsLists, lists_of};
 ghost use Rattle.poly_place.specs.Classes.{part_at};
-ghost use Rattle.poly_place.specs.Forms.{carried, first_form, forms_cmp, key_of, least_form, parts_in, place_in, AreBelow, AllAreBelow};
+ghost use Rattle.poly_place.specs.Forms.{carried, first_form, forms_cmp, key_of, least_form, parts_in, AreBelow, AllAreBelow};
+ghost use Rattle.poly_place.specs.Chosen.{place_in};
 
 use crate::choice::Choice;
 use crate::packing::Packing;

@@ -7,7 +7,8 @@ ghost use Rattle.poly_cells.specs.Shapes.{IsShape, moved, moved_back};
 ghost use Rattle.poly_cells.specs.Images.{HasSymmetry};
 ghost use Rattle.cover_problem.specs.Answers.{ReturnsItems};
 ghost use Rattle.poly_place.specs.ClassCount.{images_in};
-ghost use Rattle.poly_place.specs.Forms.{place_of, marks_of};
+ghost use Rattle.poly_place.specs.Forms.{marks_of};
+ghost use Rattle.poly_place.specs.Packings.{place_of};
 
 use crate::set::moved_back;
 use poly_cells::{Cell, Symmetry, corner_of};

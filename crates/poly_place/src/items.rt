@@ -1,14 +1,15 @@
 //! The items of a puzzle's problem: the required pieces and cells, and then those that may be left out.
-ghost use Rattle.std.specs.Prelude.{◌≡◌, ◌≤◌, ◌+◌, ◌∷◌, [], IfOk, length, map};
+ghost use Rattle.std.specs.Prelude.{◌≡◌, ◌≤◌, ◌<◌, ◌+◌, ◌∷◌, [], ◌&&◌, false, not, IfOk, length, map};
+ghost use Rattle.std.specs.String.{string_bytes};
 ghost use Rattle.poly_cells.specs.CellWords.{cell_word};
 ghost use Rattle.poly_cells.specs.CellWords as grammar;
 ghost use Rattle.poly_cells.specs.Sets.{IsIn};
-ghost use Rattle.poly_texts.specs.Puzzle.{IsPuzzle, names_of};
+ghost use Rattle.poly_texts.specs.Puzzle.{IsPuzzle, names_of, has_name};
 ghost use Rattle.cover_problem.specs.Limits.{most_items};
 ghost use Rattle.cover_problem.specs.Answers.{ReturnsItems};
 ghost use Rattle.poly_place.specs.Answers.{AddsTexts};
-ghost use Rattle.poly_place.specs.Packings.{a_piece, item_of, needed_things, index_among};
-ghost use Rattle.poly_place.specs.Compiled.{AreNumbers, filled_cells, needed_names, numbered};
+ghost use Rattle.poly_place.specs.Packings.{a_piece, item_of, is_any, needed_things, index_among, node_word};
+ghost use Rattle.poly_place.specs.Compiled.{AreNumbers, ArePlaces, filled_cells, needed_names, numbered};
 ghost use Rattle.poly_place.specs.Tables.{grid_cells};
 
 use crate::table::{GRID_CELLS, bit_index, has_bit, table_of};
@@ -22,14 +23,22 @@ pub fn needed_pieces(alloc: Global, puzzle: &Puzzle) -> Result<Vec<PieceName>, A
 {
     let mut needed = Vec::new(alloc);
     let optional = puzzle.maybe_pieces();
+    let any = puzzle.any_pieces();
     let pieces = puzzle.pieces();
     for k in 0..pieces.len() {
         let (name, _shape) = pieces.get_index(k).unwrap();
-        if !optional.contains(name) {
+        if is_needed(optional, any, *name) {
             needed.push(*name)?;
         }
     }
     Ok(needed)
+}
+
+/// Whether the name is neither one of a piece that may be left out nor one of a piece that may be used any number of times.
+fn is_needed(optional: &[PieceName], any: &[PieceName], name: PieceName) -> bool
+    ensures { result ≡ not (has_name optional.now name) && not (has_name any.now name) }
+{
+    !optional.contains(&name) && !any.contains(&name)
 }
 
 /// The cells of the region that may not stay empty, in order.
@@ -75,6 +84,16 @@ fn no_numbers(alloc: Global, count: usize) -> Result<Vec<u32>, AllocError>
     vec![in alloc; 0u32; count]
 }
 
+/// For each cell of the region one more than how many of its cells come before it, at the place of the cell's bit.
+pub fn cell_places(alloc: Global, puzzle: &Puzzle) -> Result<Vec<u32>, AllocError>
+    requires { IsPuzzle puzzle.now }
+    ensures { IfOk result (λ places. ArePlaces puzzle.now places.items) }
+{
+    let mut places = no_numbers(alloc, GRID_CELLS)?;
+    number_cells(&mut places, puzzle.region().cells(), 0);
+    Ok(places)
+}
+
 /// Numbers these cells from the number after `last` on.
 fn number_cells(numbers: &mut [u32], cells: &[Cell], last: u32)
     requires long { length numbers.old ≡ grid_cells }
@@ -88,12 +107,13 @@ fn number_cells(numbers: &mut [u32], cells: &[Cell], last: u32)
     }
 }
 
-/// The number of the item of a piece of the puzzle.
+/// The number of the item of a piece of the puzzle, which may not be used any number of times.
 pub fn piece_number(puzzle: &Puzzle, needed: &[PieceName], primary: u32, name: PieceName) -> u32
     requires puzzle { IsPuzzle puzzle.now }
     requires needed { needed.now ≡ needed_names puzzle.now }
     requires primary { primary ≡ length (needed_things puzzle.now) }
     requires member { IsIn name (names_of puzzle.now.pieces) }
+    requires single { is_any puzzle.now name ≡ false }
     ensures { result ≡ item_of puzzle.now (a_piece name) }
 {
     let place = index_among(needed, name);
@@ -151,6 +171,20 @@ pub fn add_cell_names(
         names.push(text)?;
     }
     Ok(())
+}
+
+/// The name of a node of a pair's tree: the name of the piece that comes first, `_`, and the node's number in three symbols.
+pub fn node_name(alloc: Global, name: PieceName, node: u32) -> Result<String, AllocError>
+    requires { node < 32768 }
+    ensures { IfOk result (λ text. string_bytes text ≡ node_word name node) }
+{
+    let mut text = String::new(alloc);
+    text.push(name.symbol() as char)?;
+    text.push('_')?;
+    text.push(symbol((node / 1024) as u8))?;
+    text.push(symbol((node / 32 % 32) as u8))?;
+    text.push(symbol((node % 32) as u8))?;
+    Ok(text)
 }
 
 /// One of `0-9a-v`, for 0 to 31.

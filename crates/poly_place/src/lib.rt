@@ -10,6 +10,8 @@ mod images;
 mod items;
 pub mod laws;
 mod layer;
+mod nodes;
+mod numbers;
 mod packing;
 mod placement;
 mod room;

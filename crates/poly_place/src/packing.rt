@@ -1,12 +1,12 @@
 //! Packings of a puzzle, made of the exact covers of its problem.
-ghost use Rattle.std.specs.Prelude.{◌≡◌, map, IfOk};
+ghost use Rattle.std.specs.Prelude.{◌≡◌, [], map, IfOk};
 ghost use Rattle.std.specs.Ordering.{nat_cmp};
 ghost use Rattle.poly_cells.specs.Sets.{in_order};
 ghost use Rattle.cover_problem.specs.Lists.{has};
 ghost use Rattle.cover_problem.specs.ExactCover.{IsExactCover};
 ghost use Rattle.cover_problem.specs.Answers.{Returns, ReturnsItems};
 ghost use Rattle.poly_place.specs.Packings.{IsPacking, packing_problem};
-ghost use Rattle.poly_place.specs.Chosen.{AreInPieceOrder, AreNumbered, choice_numbered, is_among, packing_value, OptionsStandFor};
+ghost use Rattle.poly_place.specs.Chosen.{AreInPieceOrder, AreNumbered, ComeByPiece, choice_numbered, is_among, packing_value, OptionsStandFor};
 
 use crate::choice::Choice;
 use crate::compiled::Compiled;
@@ -15,7 +15,8 @@ use poly_texts::Puzzle;
 use std::alloc::{AllocError, Global};
 use std::marker::Model;
 
-/// A packing of a puzzle: a placement for each piece that is used, in the order of the pieces.
+/// A packing of a puzzle: a placement for each piece that is used, or some for one that may be used any number of times, in the order
+/// of the pieces.
 #[derive(Drop)]
 pub struct Packing<'p> {
     puzzle: &'p Puzzle,
@@ -67,7 +68,8 @@ pub fn packing_of<'p>(
     ensures value { Returns result (packing_value compiled.now path.now) }
     ensures packs { IfOk result (λ q. IsPacking compiled.now (is_among q.placements)) }
     ensures stands { IfOk result (λ q. OptionsStandFor compiled.now path.now q.placements) }
-    ensures order { IfOk result (λ q. AreInPieceOrder compiled.now q.placements) }
+    ensures by_piece { IfOk result (λ q. ComeByPiece compiled.now q.placements) }
+    ensures order { IfOk result (λ q. compiled.now.any_pieces ≡ [] → AreInPieceOrder compiled.now q.placements) }
 {
     let numbers = in_order(alloc, path)?;
     let placements = chosen(alloc, compiled.choices(), numbers.as_slice())?;

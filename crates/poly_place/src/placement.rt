@@ -2,8 +2,7 @@
 ghost use Rattle.std.specs.Prelude.{◌≡◌, ◌<◌, IfOk, length, slice_index};
 ghost use Rattle.cover_problem.specs.Answers.{ReturnsItems};
 ghost use Rattle.poly_place.specs.Answers.{ReturnsLists, AddsLists, lists_of};
-ghost use Rattle.poly_place.specs.Placements.{ArePlacements, at_cell, at_cells, forms_at, moved_inside, orientations, placements};
-ghost use Rattle.poly_cells.specs.Symmetries.{rotations};
+ghost use Rattle.poly_place.specs.Placements.{ArePlacements, at_cell, at_cells, forms_at, moved_inside, orientations, placements, turns_for};
 ghost use Rattle.poly_place.specs.Tables.{grid_cells, has_bit};
 
 use crate::set::{all_inside, all_moved, is_below, moved_back, put_sets_in_order, shapes_of};
@@ -11,15 +10,20 @@ use crate::table::table_of;
 use poly_cells::{Cell, Rotation, Shape, Symmetry};
 use std::alloc::{AllocError, Global};
 
-/// The placements of the piece in the region: all sets of region cells that are the piece turned by a rotation and
-/// translated, each once, in the order of their lists of cells.
-pub fn placements(alloc: Global, piece: &Shape, region: &Shape) -> Result<Vec<Shape>, AllocError>
-    ensures value { ReturnsItems result (placements piece.now region.now) }
-    ensures exactly { IfOk result (λ sets. ArePlacements piece.now region.now sets.items) }
+/// The placements of the piece in the region: all sets of region cells that are the piece turned by a rotation, or also by a
+/// reflection where it may be reflected, and translated, each once, in the order of their lists of cells.
+pub fn placements(
+    alloc: Global,
+    piece: &Shape,
+    region: &Shape,
+    is_mirrored: bool,
+) -> Result<Vec<Shape>, AllocError>
+    ensures value { ReturnsItems result (placements (turns_for is_mirrored) piece.now region.now) }
+    ensures exactly { IfOk result (λ sets. ArePlacements (turns_for is_mirrored) piece.now region.now sets.items) }
 {
     piece.is_sound();
     let cells = region.cells();
-    let turns = orientations(alloc, piece)?;
+    let turns = orientations(alloc, piece, is_mirrored)?;
     let bits = table_of(alloc, cells)?;
     let mut sets = all_sets(alloc, bits.as_slice(), cells, turns.as_slice())?;
     put_sets_in_order(&mut sets);
@@ -27,24 +31,39 @@ pub fn placements(alloc: Global, piece: &Shape, region: &Shape) -> Result<Vec<Sh
 }
 
 /// The turned forms of the piece, in order, each once.
-fn orientations(alloc: Global, piece: &Shape) -> Result<Vec<Vec<Cell>>, AllocError>
-    ensures { ReturnsLists result (orientations piece.now) }
+fn orientations(
+    alloc: Global,
+    piece: &Shape,
+    is_mirrored: bool,
+) -> Result<Vec<Vec<Cell>>, AllocError>
+    ensures { ReturnsLists result (orientations (turns_for is_mirrored) piece.now) }
 {
     let mut turns = Vec::new(alloc);
-    for r in 0..24u8 {
-        let turned = piece.turned(turn(r))?;
+    for r in 0..turn_count(is_mirrored) {
+        let turned = piece.turned(turn(is_mirrored, r))?;
         turns.push(Vec::from_slice(alloc, turned.cells())?)?;
     }
     put_sets_in_order(&mut turns);
     Ok(turns)
 }
 
-/// The rotation numbered `r`, among the symmetries.
-fn turn(r: u8) -> Symmetry
-    requires { r < 24 }
-    ensures { result ≡ slice_index rotations r }
+/// How many symmetries turn a piece that may be reflected, or that may not.
+fn turn_count(is_mirrored: bool) -> u8
+    ensures { result ≡ length (turns_for is_mirrored) }
 {
-    Rotation::new(r).symmetry()
+    if is_mirrored { 48 } else { 24 }
+}
+
+/// The symmetry at place `r` among those that turn such a piece.
+fn turn(is_mirrored: bool, r: u8) -> Symmetry
+    requires { r < length (turns_for is_mirrored) }
+    ensures { result ≡ slice_index (turns_for is_mirrored) r }
+{
+    if is_mirrored {
+        Symmetry::new(r)
+    } else {
+        Rotation::new(r).symmetry()
+    }
 }
 
 /// Each of the turned forms with its first cell at each of the cells, where it is then inside.

@@ -1,13 +1,15 @@
 //! Whether there is room for the options of a puzzle, counted before any of them is kept.
-ghost use Rattle.std.specs.Prelude.{◌≡◌, ◌≤◌, ◌+◌, length};
+ghost use Rattle.std.specs.Prelude.{◌≡◌, ◌≤◌, ◌+◌, IfOk, length};
 ghost use Rattle.poly_texts.specs.Puzzle.{IsPuzzle};
 ghost use Rattle.cover_problem.specs.Answers.{Returns};
 ghost use Rattle.poly_place.specs.Tables.{IsTable};
-ghost use Rattle.poly_place.specs.Packings.{things, problem_fits};
+ghost use Rattle.poly_cells.specs.Sets.{IsIn};
+ghost use Rattle.poly_place.specs.Packings.{ChoiceValue, choices, things, problem_fits};
 ghost use Rattle.poly_place.specs.Compiled.{entries_of, filled_cells, needed_names};
 
 use crate::choice::{Choice, add_choices};
-use cover_problem::{MOST_ENTRIES, MOST_OPTIONS};
+use crate::numbers::Numbers;
+use cover_problem::{MOST_ENTRIES, MOST_ITEMS, MOST_OPTIONS};
 use poly_texts::{PieceName, Puzzle};
 use std::alloc::{AllocError, Global};
 
@@ -17,13 +19,18 @@ pub fn has_room(
     puzzle: &Puzzle,
     needed: &[PieceName],
     filled: &[bool],
-    items: usize,
+    numbers: &Numbers<'_>,
 ) -> Result<bool, AllocError>
+    requires puzzle { IsPuzzle puzzle.now }
     requires needed { needed.now ≡ needed_names puzzle.now }
     requires filled { IsTable (filled_cells puzzle.now) filled.now }
-    requires items { items ≡ length (things puzzle.now) }
+    requires numbers { numbers.now ≡ puzzle.now }
     ensures { Returns result (problem_fits puzzle.now) }
 {
+    let items = numbers.items();
+    if items > MOST_ITEMS {
+        return Ok(false);
+    }
     let pieces = puzzle.pieces();
     let (mut options, mut entries) = (0, items + 2);
     for k in 0..pieces.len() {
@@ -31,7 +38,7 @@ pub fn has_room(
         let mut choices = Vec::new(alloc);
         add_choices(alloc, &mut choices, puzzle, needed, filled, *name, piece)?;
         options += choices.len();
-        entries = entries_with(entries, choices.as_slice());
+        entries = entries_with(alloc, entries, numbers, choices.as_slice())?;
         if options > MOST_OPTIONS || entries > MOST_ENTRIES {
             return Ok(false);
         }
@@ -40,17 +47,25 @@ pub fn has_room(
 }
 
 /// The entries of a table with the options of these choices added; where that goes past the limit, some number past it.
-fn entries_with(entries: usize, choices: &[Choice]) -> usize
-    requires { entries ≤ MOST_ENTRIES }
-    ensures exact { result ≤ MOST_ENTRIES → result ≡ entries + entries_of choices.now }
-    ensures past { entries + entries_of choices.now ≤ MOST_ENTRIES → result ≤ MOST_ENTRIES }
+fn entries_with(
+    alloc: Global,
+    entries: usize,
+    numbers: &Numbers<'_>,
+    list: &[Choice],
+) -> Result<usize, AllocError>
+    requires puzzle { IsPuzzle numbers.now }
+    requires members { (c : ChoiceValue) → IsIn c list.now → IsIn c (choices numbers.now) }
+    requires low { entries ≤ MOST_ENTRIES }
+    ensures exact { IfOk result (λ n. n ≤ MOST_ENTRIES → n ≡ entries + entries_of numbers.now list.now) }
+    ensures past { IfOk result (λ n. entries + entries_of numbers.now list.now ≤ MOST_ENTRIES → n ≤ MOST_ENTRIES) }
 {
     let mut entries = entries;
-    for choice in choices {
-        entries += choice.cells().len() + 2;
-        if entries > MOST_ENTRIES {
-            return entries;
+    for choice in list {
+        let size = numbers.size_of(alloc, choice)?;
+        if size >= MOST_ENTRIES - entries {
+            return Ok(MOST_ENTRIES + 1);
         }
+        entries += size + 1;
     }
-    entries
+    Ok(entries)
 }

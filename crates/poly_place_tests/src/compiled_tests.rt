@@ -35,6 +35,22 @@ fn optional_pieces_and_cells_come_last(rt: HostRuntime) -> Result<(), Fail> {
     Ok(())
 }
 
+#[test]
+fn equal_pieces_share_nodes(rt: HostRuntime) -> Result<(), Fail> {
+    let text = b"copies AB 000\ncells 000 100\n";
+    let wanted =
+        b"items A B 000 100\nmaybe A_001\noption A 000\noption A 100 A_001\noption B 000 A_001\noption B 100\n";
+    assert!(rt; is_compiled_to(rt.alloc(), text, wanted)?);
+    Ok(())
+}
+
+#[test]
+fn a_piece_used_any_number_of_times_has_no_item(rt: HostRuntime) -> Result<(), Fail> {
+    let text = b"any piece A 000\ncells 000 100\n";
+    assert!(rt; is_compiled_to(rt.alloc(), text, b"items 000 100\noption 000\noption 100\n")?);
+    Ok(())
+}
+
 /// How many items the problem has that stands for a puzzle, how many of them are primary, and how many options it has.
 fn sizes_of(alloc: Global, puzzle: &Puzzle) -> Result<(u32, u32, u32), Fail> {
     let compiled = compile(alloc, puzzle)?;
@@ -60,6 +76,13 @@ const SOMA: &[u8] = b"piece V 000 100 010\n\
 #[test]
 fn soma_has_its_options(rt: HostRuntime) -> Result<(), Fail> {
     assert!(rt; sizes(rt.alloc(), SOMA)? == (34, 34, 688));
+    Ok(())
+}
+
+#[test]
+fn a_piece_that_may_be_reflected_lies_in_more_ways(rt: HostRuntime) -> Result<(), Fail> {
+    assert!(rt; sizes(rt.alloc(), b"piece A 000 100 010 011\nbox 2 2 2")? == (9, 9, 12));
+    assert!(rt; sizes(rt.alloc(), b"mirror piece A 000 100 010 011\nbox 2 2 2")? == (9, 9, 24));
     Ok(())
 }
 

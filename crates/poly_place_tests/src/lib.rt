@@ -9,6 +9,8 @@ mod class_tests;
 #[cfg(test)]
 mod compiled_tests;
 #[cfg(test)]
+mod drawn_tests;
+#[cfg(test)]
 mod memory_tests;
 #[cfg(test)]
 mod packing_tests;

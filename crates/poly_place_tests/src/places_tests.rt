@@ -8,7 +8,7 @@ use std::test::Fail;
 /// The placements of the piece with these cells.
 fn placed(alloc: Global, piece: Cells, region: &Shape) -> Result<Vec<Shape>, Fail> {
     let piece = shape_at(alloc, piece)?;
-    Ok(placements(alloc, &piece, region)?)
+    Ok(placements(alloc, &piece, region, false)?)
 }
 
 /// How many they are.

@@ -80,6 +80,50 @@ fn the_first_fault_of_a_line_is_named(rt: HostRuntime) {
     assert_refused(&rt, rt.alloc(), &FIRST_FAULTS);
 }
 
+static LATER_LINES: [Refusal; 32] = [
+    (b"copies AA 000", Fault::RepeatedPiece, 1),
+    (b"copies A 000", Fault::BadLine, 1),
+    (b"copies A- 000", Fault::BadLine, 1),
+    (b"copies AB", Fault::BadLine, 1),
+    (b"copies", Fault::BadLine, 1),
+    (b"copies AB 00", Fault::BadCell, 1),
+    (b"copies AB 000 000", Fault::RepeatedCell, 1),
+    (b"copies ABA 00", Fault::RepeatedPiece, 1),
+    (b"piece A 000\ncopies BA 000", Fault::RepeatedPiece, 2),
+    (b"copies AB 000\npiece B 000", Fault::RepeatedPiece, 2),
+    (b"copies AB 000\nany piece A 000", Fault::RepeatedPiece, 2),
+    (b"maybe copies AB 000", Fault::BadLine, 1),
+    (b"any copies AB 000", Fault::BadLine, 1),
+    (b"any mirror copies AB 000", Fault::BadLine, 1),
+    (b"maybe mirror copies AB 000", Fault::BadLine, 1),
+    (b"any", Fault::BadLine, 1),
+    (b"any cells 000", Fault::BadLine, 1),
+    (b"any box 1 1 1", Fault::BadLine, 1),
+    (b"any cut 000", Fault::BadLine, 1),
+    (b"any any piece A 000", Fault::BadLine, 1),
+    (b"any maybe piece A 000", Fault::BadLine, 1),
+    (b"any piece AB 000", Fault::BadLine, 1),
+    (b"piece AB 000", Fault::BadLine, 1),
+    (b"maybe piece AB 000", Fault::BadLine, 1),
+    (b"mirror", Fault::BadLine, 1),
+    (b"mirror box 1 1 1", Fault::BadLine, 1),
+    (b"mirror cells 000", Fault::BadLine, 1),
+    (b"mirror maybe piece A 000", Fault::BadLine, 1),
+    (b"mirror any piece A 000", Fault::BadLine, 1),
+    (b"mirror mirror piece A 000", Fault::BadLine, 1),
+    (b"maybe any piece A 000", Fault::BadLine, 1),
+    (
+        b"maybe cells 000\nany piece A 000\nmaybe piece B 000",
+        Fault::NothingRequired,
+        0,
+    ),
+];
+
+#[test]
+fn lines_of_equal_pieces_have_their_faults(rt: HostRuntime) {
+    assert_refused(&rt, rt.alloc(), &LATER_LINES);
+}
+
 /// A piece of 64 cells and a word more.
 const FULL_PIECE: &[u8] = b"piece A \
     000 001 002 003 004 005 006 007 008 009 00a 00b 00c 00d 00e 00f \
@@ -169,6 +213,30 @@ fn a_puzzle_is_read(rt: HostRuntime) {
     let text =
         b"# two pieces\n\npiece A 100 200 # moved\r\n\tmaybe  piece b 00v#\xff\nbox 2 2 1\ncut 000 310\nmaybe cells 0a0 110";
     assert!(rt; is_read(rt.alloc(), text, &TWO_PIECES));
+}
+
+/// Whether a text is read as a puzzle with these names of pieces that may be used any number of times, of pieces that may be reflected,
+/// and of one group of equal pieces.
+fn has_names(alloc: Global, text: &[u8], any: &[u8], mirrored: &[u8], equal: &[u8]) -> bool {
+    match read_puzzle(alloc, text) {
+        Ok(puzzle) => {
+            let groups = puzzle.equal();
+            are_names(puzzle.any_pieces(), any)
+                && are_names(puzzle.mirrored(), mirrored)
+                && groups.len() == 1
+                && groups
+                    .iter()
+                    .all(|group| are_names(group.as_slice(), equal))
+        }
+        Err(_) => false,
+    }
+}
+
+#[test]
+fn equal_pieces_are_read(rt: HostRuntime) {
+    let text =
+        b"any mirror piece a 000 100\nmirror copies BCA 000\nmaybe mirror piece D 000\nany piece 0 000\nbox 3 1 1";
+    assert!(rt; has_names(rt.alloc(), text, b"a0", b"aBCAD", b"BCA"));
 }
 
 const OPTIONAL_CELL: Parts = Parts {

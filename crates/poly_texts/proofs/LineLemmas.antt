@@ -1,7 +1,7 @@
 -- A line that is taken is a line within the limits, and what it adds to what is said.
-use Rattle.std.proofs.Common.{◌≡◌, ◌<◌, ◌≤◌, ℕ, List, [], ◌∷◌, map, length, Bool, true, false, cond, not, ◌&&◌, nat_lt, nat_le, Option, Some, None, Ok, Err, refl, sym, ap, ◌∙◌, subst, arith, codes, decimal, lt-ltb, le-leb, ltb-true, leb-true}
+use Rattle.std.proofs.Common.{◌≡◌, ◌<◌, ◌≤◌, ℕ, List, [], ◌∷◌, map, length, Bool, true, false, cond, not, ◌&&◌, nat_lt, nat_le, ◌||◌, Option, Some, None, Ok, Err, refl, sym, ap, ◌∙◌, subst, arith, codes, decimal, lt-ltb, le-leb, ltb-true, leb-true}
 use Rattle.std.specs.List.{list_all}
-use Rattle.std.proofs.lemmas.Bool.{and_parts, and_from, not-true, not-false, not_from_false}
+use Rattle.std.proofs.lemmas.Bool.{and_parts, and_from, both_ways, or_right, not-true, not-false, not_from_false}
 use Rattle.text_lines.specs.Lines.{is_empty}
 use Rattle.text_lines.specs.Each.{each, ◌>>=◌}
 use Rattle.std.proofs.lemmas.Option.{same_Some, none-some}
@@ -10,19 +10,21 @@ use Rattle.poly_texts.specs.Limits.{most_piece_cells, most_region_cells, most_si
 use Rattle.poly_texts.specs.declared.fault.Fault.TheVariants.{BadLine, RepeatedPiece, SecondBox, TooLarge}
 use Rattle.poly_texts.specs.declared.key.Key.{Key}
 use Rattle.poly_texts.specs.declared.key.Key.TheVariants as keys
+use Rattle.poly_texts.specs.declared.need.Need.{Need}
+use Rattle.poly_texts.specs.declared.need.Need.TheVariants as needs
 use Rattle.poly_texts.specs.Cells.{with_cells}
-use Rattle.poly_texts.specs.Words.{piece_name, is_name, are_sizes, are_small, is_size, size_from}
-use Rattle.poly_texts.specs.Reading.{DraftValue, kept_shape, shape_of, within, has_piece, with_piece, is_new, new_name, add_cell, add_piece_cell, three_words, with_box, sized_box, piece_line, box_line, cells_line, maybe_cells_line, cut_line, key_from, maybe_keyed, maybe_line, keyed_line, words_line}
+use Rattle.poly_texts.specs.Words.{word_names, is_name, are_so_many, are_sizes, are_small, is_size, size_from}
+use Rattle.poly_texts.specs.Reading.{DraftValue, kept_shape, shape_of, within, is_must, some_repeated, with_pieces, are_fresh, new_names, add_cell, add_piece_cell, three_words, with_box, sized_box, piece_line, box_line, cells_line, maybe_cells_line, cut_line, key_from, mirror_keyed, mirror_line, any_keyed, any_line, maybe_keyed, maybe_line, keyed_line, words_line}
 use Rattle.poly_cells.specs.CellTests.{is_in_grid}
 use Rattle.poly_cells.specs.CellWords.{cell_word}
-use Rattle.poly_texts.specs.Grammar.{Line, piece, box, cells, cut, maybe_words, line_words, are_in_grid, are_apart, is_side, is_line}
+use Rattle.poly_texts.specs.Grammar.{Line, piece, box, cells, cut, need_words, mirror_words, piece_word, are_names, line_words, are_in_grid, are_apart, is_side, is_line}
 use Rattle.text_lines.proofs.ResultLemmas.{ok_is, no_fault, bind_ok, unrefused, granted, key_told}
-use Rattle.poly_texts.proofs.ReadingLemmas.{piece_read, name_found}
-use Rattle.poly_texts.proofs.SpellingLemmas.{words_same, cells_again, cells_are, piece_again, piece_cells_are, name_again, name_is, side_again, side_is}
+use Rattle.poly_texts.proofs.ReadingLemmas.{piece_read, names_found}
+use Rattle.poly_texts.proofs.SpellingLemmas.{words_same, cells_again, cells_are, piece_again, piece_cells_are, side_again, side_is}
 
 -- what is said with one more line
 abbrev pub plus : DraftValue → Line → DraftValue
-plus s (piece optional name cs) = with_piece s optional name (kept_shape cs)
+plus s (piece need several mirrored names cs) = with_pieces s need mirrored names (kept_shape cs)
 plus s (box a b c) = with_box s a b c
 plus s (cells optional cs) = record s { named = with_cells s.named cs; maybe_cells = cond optional (with_cells s.maybe_cells cs) s.maybe_cells }
 plus s (cut cs) = record s { cut = with_cells s.cut cs }
@@ -32,7 +34,7 @@ is_small s = nat_le (length s.named) most_region_cells
 
 -- whether a line may come after what is said
 abbrev pub is_fit : DraftValue → Line → Bool
-is_fit s (piece optional name cs) = not (has_piece s.pieces name)
+is_fit s (piece need several mirrored names cs) = not (some_repeated s.pieces names)
 is_fit s (box a b c) = not s.boxed && is_small (with_box s a b c)
 is_fit s (cells optional cs) = is_small (plus s (cells optional cs))
 is_fit s (cut cs) = true
@@ -54,14 +56,26 @@ shape_again : (cs : List Coordinates) → list_all is_in_grid cs ≡ true → ar
 unfolding shape_of
 shape_again cs p a l = rw (piece_again [] cs p a (omega arith)) refl
 
-piece_again_line : (s : DraftValue) (optional : Bool) (name : ℕ) (cs : List Coordinates) → is_line (piece optional name cs) ≡ true → not (has_piece s.pieces name) ≡ true → piece_line s optional ((name ∷ []) ∷ map cell_word cs) ≡ Ok (with_piece s optional name (kept_shape cs))
-piece_again_line s optional name cs is fit =
-    let p = and_parts (is_name name) (are_in_grid cs && (are_apart cs && nat_le (length cs) most_piece_cells)) is in
+names_again : (need : Need) (several : Bool) (names : List ℕ) → are_names need several names ≡ true → word_names several names ≡ Some names
+names_again need several names h = rw (and_parts (is_must need || not several) (list_all is_name names && are_so_many several (length names)) h).1 refl
+
+told : {A : Type 0} (b : Bool) (x y : A) → cond b (Some x) None ≡ Some y → (b ≡ true) × (x ≡ y)
+told true x y h = (refl, same_Some x y h)
+told false x y h = absurd (none-some y h)
+
+names_is : (need : Need) (several : Bool) (word names : List ℕ) → (is_must need || not several) ≡ true → word_names several word ≡ Some names → (are_names need several names ≡ true) × (word ≡ names)
+names_is need several word names m h =
+    let t = told (list_all is_name word && are_so_many several (length word)) word names h in
+    (and_from _ _ m (subst (λ (w : List ℕ). (list_all is_name w && are_so_many several (length w)) ≡ true) t.1 t.0), t.1)
+
+piece_again_line : (s : DraftValue) (need : Need) (several mirrored : Bool) (names : List ℕ) (cs : List Coordinates) → is_line (piece need several mirrored names cs) ≡ true → not (some_repeated s.pieces names) ≡ true → piece_line s need several mirrored (names ∷ map cell_word cs) ≡ Ok (with_pieces s need mirrored names (kept_shape cs))
+piece_again_line s need several mirrored names cs is fit =
+    let p = and_parts (are_names need several names) (are_in_grid cs && (are_apart cs && nat_le (length cs) most_piece_cells)) is in
     let q = and_parts (are_in_grid cs) (are_apart cs && nat_le (length cs) most_piece_cells) p.1 in
     let r = and_parts (are_apart cs) (nat_le (length cs) most_piece_cells) q.1 in
     let u = and_parts (nat_lt 0 (length cs)) (list_all is_in_grid cs) q.0 in
-    piece_read s optional ((name ∷ []) ∷ map cell_word cs) (name ∷ []) (map cell_word cs) name (kept_shape cs) refl (some_words cs (ltb-true 0 (length cs) u.0))
-    (name_found s.pieces (name ∷ []) name (sym (name_again name p.0)) (not-true _ fit)) (shape_again cs u.1 r.0 (leb-true (length cs) most_piece_cells r.1))
+    piece_read s need several mirrored (names ∷ map cell_word cs) names (map cell_word cs) names (kept_shape cs) refl (some_words cs (ltb-true 0 (length cs) u.0))
+    (names_found s.pieces several names names (sym (names_again need several names p.0)) (not-true _ fit)) (shape_again cs u.1 r.0 (leb-true (length cs) most_piece_cells r.1))
 
 box_again_line : (s : DraftValue) (a b c : ℕ) → is_line (box a b c) ≡ true → is_fit s (box a b c) ≡ true → box_line s (decimal a ∷ decimal b ∷ decimal c ∷ []) ≡ Ok (with_box s a b c)
 unfolding box_line
@@ -99,9 +113,19 @@ cut_again_line s cs is =
     rw (some_words cs (ltb-true 0 (length cs) u.0), cells_again s.cut cs u.1) refl
 
 pub line_again : (s : DraftValue) (l : Line) → is_line l ≡ true → is_fit s l ≡ true → words_line s (line_words l) ≡ Ok (plus s l)
-unfolding words_line maybe_line
-line_again s (piece true name cs) is fit = piece_again_line s true name cs is fit
-line_again s (piece false name cs) is fit = piece_again_line s false name cs is fit
+unfolding words_line maybe_line any_line mirror_line
+line_again s (piece needs.Must true true names cs) is fit = piece_again_line s needs.Must true true names cs is fit
+line_again s (piece needs.Must true false names cs) is fit = piece_again_line s needs.Must true false names cs is fit
+line_again s (piece needs.Must false true names cs) is fit = piece_again_line s needs.Must false true names cs is fit
+line_again s (piece needs.Must false false names cs) is fit = piece_again_line s needs.Must false false names cs is fit
+line_again s (piece needs.Maybe true true names cs) is fit = absurd (both_ways false refl is)
+line_again s (piece needs.Maybe true false names cs) is fit = absurd (both_ways false refl is)
+line_again s (piece needs.Maybe false true names cs) is fit = piece_again_line s needs.Maybe false true names cs is fit
+line_again s (piece needs.Maybe false false names cs) is fit = piece_again_line s needs.Maybe false false names cs is fit
+line_again s (piece needs.Any true true names cs) is fit = absurd (both_ways false refl is)
+line_again s (piece needs.Any true false names cs) is fit = absurd (both_ways false refl is)
+line_again s (piece needs.Any false true names cs) is fit = piece_again_line s needs.Any false true names cs is fit
+line_again s (piece needs.Any false false names cs) is fit = piece_again_line s needs.Any false false names cs is fit
 line_again s (box a b c) is fit = box_again_line s a b c is fit
 line_again s (cells true cs) is fit = maybe_again_line s cs is fit
 line_again s (cells false cs) is fit = cells_again_line s cs is fit
@@ -117,16 +141,16 @@ pub record IsTakenLine (s : DraftValue) (words : List (List ℕ)) (t : DraftValu
   pub fits : is_fit s line ≡ true
   pub more : t ≡ plus s line
 
-new_is : (pieces : List (ℕ × List Coordinates)) (found : Option ℕ) (name : ℕ) → is_new pieces found ≡ Ok name → (found ≡ Some name) × (has_piece pieces name ≡ false)
-new_is pieces None name h = absurd (no_fault BadLine name h)
-new_is pieces (Some n) name h =
-    let p = unrefused (has_piece pieces n) RepeatedPiece (Ok n) name h in
-    let e = ok_is n name p.1 in
-    (ap (λ m. Some m) e, subst (λ m. has_piece pieces m ≡ false) e p.0)
+fresh_is : (pieces : List (ℕ × List Coordinates)) (found : Option (List ℕ)) (names : List ℕ) → are_fresh pieces found ≡ Ok names → (found ≡ Some names) × (some_repeated pieces names ≡ false)
+fresh_is pieces None names h = absurd (no_fault BadLine names h)
+fresh_is pieces (Some ns) names h =
+    let p = unrefused (some_repeated pieces ns) RepeatedPiece (Ok ns) names h in
+    let e = ok_is ns names p.1 in
+    (ap (λ m. Some m) e, subst (λ m. some_repeated pieces m ≡ false) e p.0)
 
-name_parts : (pieces : List (ℕ × List Coordinates)) (word : List ℕ) (name : ℕ) → new_name pieces word ≡ Ok name → (piece_name word ≡ Some name) × (has_piece pieces name ≡ false)
-unfolding new_name
-name_parts pieces word name h = new_is pieces (piece_name word) name h
+name_parts : (pieces : List (ℕ × List Coordinates)) (several : Bool) (word names : List ℕ) → new_names pieces several word ≡ Ok names → (word_names several word ≡ Some names) × (some_repeated pieces names ≡ false)
+unfolding new_names
+name_parts pieces several word names h = fresh_is pieces (word_names several word) names h
 
 shape_parts : (words : List (List ℕ)) (shape : List Coordinates) → shape_of words ≡ Ok shape → (cs : List Coordinates) × (each add_piece_cell [] words ≡ Ok cs) × (kept_shape cs ≡ shape)
 unfolding shape_of
@@ -134,35 +158,35 @@ shape_parts words shape h =
     let b = bind_ok (each add_piece_cell [] words) (λ cs. Ok (kept_shape cs)) shape h in
     (b.0, b.1, ok_is (kept_shape b.0) shape b.2)
 
-piece_parts : (s : DraftValue) (optional : Bool) (word : List ℕ) (words : List (List ℕ)) (t : DraftValue) → piece_line s optional (word ∷ words) ≡ Ok t →
-    (is_empty words ≡ false) × ((name : ℕ) × (new_name s.pieces word ≡ Ok name) × ((shape : List Coordinates) × (shape_of words ≡ Ok shape) × (with_piece s optional name shape ≡ t)))
+piece_parts : (s : DraftValue) (need : Need) (several mirrored : Bool) (word : List ℕ) (words : List (List ℕ)) (t : DraftValue) → piece_line s need several mirrored (word ∷ words) ≡ Ok t →
+    (is_empty words ≡ false) × ((names : List ℕ) × (new_names s.pieces several word ≡ Ok names) × ((shape : List Coordinates) × (shape_of words ≡ Ok shape) × (with_pieces s need mirrored names shape ≡ t)))
 unfolding piece_line
-piece_parts s optional word words t h =
-    let u = unrefused (is_empty words) BadLine (new_name s.pieces word >>= λ name. shape_of words >>= λ shape. Ok (with_piece s optional name shape)) t h in
-    let b = bind_ok (new_name s.pieces word) (λ name. shape_of words >>= λ shape. Ok (with_piece s optional name shape)) t u.1 in
-    let d = bind_ok (shape_of words) (λ shape. Ok (with_piece s optional b.0 shape)) t b.2 in
-    (u.0, (b.0, b.1, (d.0, d.1, ok_is (with_piece s optional b.0 d.0) t d.2)))
+piece_parts s need several mirrored word words t h =
+    let u = unrefused (is_empty words) BadLine (new_names s.pieces several word >>= λ names. shape_of words >>= λ shape. Ok (with_pieces s need mirrored names shape)) t h in
+    let b = bind_ok (new_names s.pieces several word) (λ names. shape_of words >>= λ shape. Ok (with_pieces s need mirrored names shape)) t u.1 in
+    let d = bind_ok (shape_of words) (λ shape. Ok (with_pieces s need mirrored b.0 shape)) t b.2 in
+    (u.0, (b.0, b.1, (d.0, d.1, ok_is (with_pieces s need mirrored b.0 d.0) t d.2)))
 
-no_piece : (s : DraftValue) (optional : Bool) (t : DraftValue) → piece_line s optional [] ≡ Ok t → ⊥
+no_piece : (s : DraftValue) (need : Need) (several mirrored : Bool) (t : DraftValue) → piece_line s need several mirrored [] ≡ Ok t → ⊥
 unfolding piece_line
-no_piece s optional t h = no_fault BadLine t h
+no_piece s need several mirrored t h = no_fault BadLine t h
 
-piece_taken : (s : DraftValue) (optional : Bool) (words : List (List ℕ)) (t : DraftValue) → piece_line s optional words ≡ Ok t → IsTakenLine s (maybe_words optional (codes "piece" ∷ words)) t
-piece_taken s optional [] t h = absurd (no_piece s optional t h)
-piece_taken s optional (word ∷ words) t h =
-    let p = piece_parts s optional word words t h in
-    let n = name_parts s.pieces word p.1.0 p.1.1 in
-    let w = name_is word p.1.0 n.0 in
+piece_taken : (s : DraftValue) (need : Need) (several mirrored : Bool) (words : List (List ℕ)) (t : DraftValue) → (is_must need || not several) ≡ true → piece_line s need several mirrored words ≡ Ok t → IsTakenLine s (need_words need (mirror_words mirrored (piece_word several ∷ words))) t
+piece_taken s need several mirrored [] t u h = absurd (no_piece s need several mirrored t h)
+piece_taken s need several mirrored (word ∷ words) t u h =
+    let p = piece_parts s need several mirrored word words t h in
+    let n = name_parts s.pieces several word p.1.0 p.1.1 in
+    let w = names_is need several word p.1.0 u n.0 in
     let k = shape_parts words p.1.2.0 p.1.2.1 in
     let m = piece_cells_are [] words k.0 refl (omega arith) k.1 in
     let all : k.0 ≡ m.cs = m.all_are in
     let some : is_empty (map cell_word m.cs) ≡ false = rw (← m.words_are) p.0 in
     record {
-      line = piece optional p.1.0 m.cs;
-      words_are = ap (λ ws. maybe_words optional (codes "piece" ∷ ws)) (words_same w.1 m.words_are);
+      line = piece need several mirrored p.1.0 m.cs;
+      words_are = ap (λ ws. need_words need (mirror_words mirrored (piece_word several ∷ ws))) (words_same w.1 m.words_are);
       good = and_from _ _ w.0 (and_from _ _ (and_from _ _ (some_cells m.cs some) m.in_grid) (and_from _ _ (subst (λ cs. are_apart cs ≡ true) all m.apart) (le-leb (length m.cs) most_piece_cells (subst (λ cs. length cs ≤ most_piece_cells) all m.few))));
       fits = not_from_false _ n.1;
-      more = sym p.1.2.2 ∙ ap (with_piece s optional p.1.0) (sym k.2 ∙ ap kept_shape all);
+      more = sym p.1.2.2 ∙ ap (with_pieces s need mirrored p.1.0) (sym k.2 ∙ ap kept_shape all);
     }
 
 three_is : (words : List (List ℕ)) (a b c : List ℕ) → three_words words ≡ Some (a, b, c) → words ≡ a ∷ b ∷ c ∷ []
@@ -259,17 +283,32 @@ key_word keys.Box = codes "box"
 key_word keys.Cells = codes "cells"
 key_word keys.Cut = codes "cut"
 key_word keys.Maybe = codes "maybe"
+key_word keys.Any = codes "any"
+key_word keys.Mirror = codes "mirror"
+key_word keys.Copies = codes "copies"
 
 key_is : (word : List ℕ) (k : Key) → key_from word ≡ Some k → word ≡ key_word k
 unfolding key_word
 key_is word k h =
     let first = key_told key_word word k in
-    first keys.Piece _ (first keys.Box _ (first keys.Cells _ (first keys.Cut _ (first keys.Maybe None (λ e. absurd (none-some k e)))))) h
+    first keys.Piece _ (first keys.Box _ (first keys.Cells _ (first keys.Cut _ (first keys.Maybe _ (first keys.Any _ (first keys.Mirror _ (first keys.Copies None (λ e. absurd (none-some k e))))))))) h
+
+mirror_keyed_is : (s : DraftValue) (need : Need) (key : List ℕ) (words : List (List ℕ)) (t : DraftValue) (k : Option Key) → key_from key ≡ k → mirror_keyed k s need words ≡ Ok t → IsTakenLine s (need_words need (codes "mirror" ∷ key ∷ words)) t
+unfolding key_word
+mirror_keyed_is s need key words t (Some keys.Piece) e h = rw (key_is key keys.Piece e) (piece_taken s need false true words t (or_right (is_must need) true refl) h)
+mirror_keyed_is s needs.Must key words t (Some keys.Copies) e h = rw (key_is key keys.Copies e) (piece_taken s needs.Must true true words t refl h)
+mirror_keyed_is s need key words t _ e h = absurd (no_fault BadLine t h)
+
+mirror_is : (s : DraftValue) (need : Need) (words : List (List ℕ)) (t : DraftValue) → mirror_line s need words ≡ Ok t → IsTakenLine s (need_words need (codes "mirror" ∷ words)) t
+unfolding mirror_line
+mirror_is s need [] t h = absurd (no_fault BadLine t h)
+mirror_is s need (key ∷ words) t h = mirror_keyed_is s need key words t (key_from key) refl h
 
 maybe_keyed_is : (s : DraftValue) (key : List ℕ) (words : List (List ℕ)) (t : DraftValue) (k : Option Key) → key_from key ≡ k → maybe_keyed k s words ≡ Ok t → IsTakenLine s (codes "maybe" ∷ key ∷ words) t
 unfolding key_word
-maybe_keyed_is s key words t (Some keys.Piece) e h = rw (key_is key keys.Piece e) (piece_taken s true words t h)
+maybe_keyed_is s key words t (Some keys.Piece) e h = rw (key_is key keys.Piece e) (piece_taken s needs.Maybe false false words t refl h)
 maybe_keyed_is s key words t (Some keys.Cells) e h = rw (key_is key keys.Cells e) (maybe_taken s words t h)
+maybe_keyed_is s key words t (Some keys.Mirror) e h = rw (key_is key keys.Mirror e) (mirror_is s needs.Maybe words t h)
 maybe_keyed_is s key words t _ e h = absurd (no_fault BadLine t h)
 
 maybe_is : (s : DraftValue) (words : List (List ℕ)) (t : DraftValue) → maybe_line s words ≡ Ok t → IsTakenLine s (codes "maybe" ∷ words) t
@@ -277,14 +316,28 @@ unfolding maybe_line
 maybe_is s [] t h = absurd (no_fault BadLine t h)
 maybe_is s (key ∷ words) t h = maybe_keyed_is s key words t (key_from key) refl h
 
+any_keyed_is : (s : DraftValue) (key : List ℕ) (words : List (List ℕ)) (t : DraftValue) (k : Option Key) → key_from key ≡ k → any_keyed k s words ≡ Ok t → IsTakenLine s (codes "any" ∷ key ∷ words) t
+unfolding key_word
+any_keyed_is s key words t (Some keys.Piece) e h = rw (key_is key keys.Piece e) (piece_taken s needs.Any false false words t refl h)
+any_keyed_is s key words t (Some keys.Mirror) e h = rw (key_is key keys.Mirror e) (mirror_is s needs.Any words t h)
+any_keyed_is s key words t _ e h = absurd (no_fault BadLine t h)
+
+any_is : (s : DraftValue) (words : List (List ℕ)) (t : DraftValue) → any_line s words ≡ Ok t → IsTakenLine s (codes "any" ∷ words) t
+unfolding any_line
+any_is s [] t h = absurd (no_fault BadLine t h)
+any_is s (key ∷ words) t h = any_keyed_is s key words t (key_from key) refl h
+
 keyed_is : (s : DraftValue) (key : List ℕ) (words : List (List ℕ)) (t : DraftValue) (k : Option Key) → key_from key ≡ k → keyed_line k s words ≡ Ok t → IsTakenLine s (key ∷ words) t
 unfolding key_word
 keyed_is s key words t None e h = absurd (no_fault BadLine t h)
-keyed_is s key words t (Some keys.Piece) e h = rw (key_is key keys.Piece e) (piece_taken s false words t h)
+keyed_is s key words t (Some keys.Piece) e h = rw (key_is key keys.Piece e) (piece_taken s needs.Must false false words t refl h)
 keyed_is s key words t (Some keys.Box) e h = rw (key_is key keys.Box e) (box_parts s words t h)
 keyed_is s key words t (Some keys.Cells) e h = rw (key_is key keys.Cells e) (cells_taken s words t h)
 keyed_is s key words t (Some keys.Cut) e h = rw (key_is key keys.Cut e) (cut_taken s words t h)
 keyed_is s key words t (Some keys.Maybe) e h = rw (key_is key keys.Maybe e) (maybe_is s words t h)
+keyed_is s key words t (Some keys.Any) e h = rw (key_is key keys.Any e) (any_is s words t h)
+keyed_is s key words t (Some keys.Mirror) e h = rw (key_is key keys.Mirror e) (mirror_is s needs.Must words t h)
+keyed_is s key words t (Some keys.Copies) e h = rw (key_is key keys.Copies e) (piece_taken s needs.Must true false words t refl h)
 
 -- a line with words that is taken is a line that fits
 pub line_is : (s : DraftValue) (key : List ℕ) (words : List (List ℕ)) (t : DraftValue) → words_line s (key ∷ words) ≡ Ok t → IsTakenLine s (key ∷ words) t

@@ -10,7 +10,7 @@ use Rattle.poly_cells.proofs.MemberLemmas.{in_from_flat_map, in_from_filter, in_
 use Rattle.poly_cells.specs.Coordinates.{Coordinates, IsInGrid, coordinates, coordinates_cmp}
 use Rattle.poly_cells.specs.Sets.{in_order, insert_in, by_order}
 use Rattle.poly_cells.specs.Shapes.{AllInGrid, corner, moved_back, normal}
-use Rattle.poly_cells.proofs.SetLemmas.{in_from_map, in_from_order, in_order_rises}
+use Rattle.poly_cells.proofs.SetLemmas.{in_append_cases, in_from_map, in_from_order, in_order_rises}
 use Rattle.poly_cells.proofs.CoordinateLemmas.{coordinates_total}
 use Rattle.poly_cells.proofs.ShapeLemmas.{normal_is_shape}
 use Rattle.poly_cells.proofs.ImageLemmas.{normal_is}
@@ -18,10 +18,9 @@ use Rattle.poly_cells.specs.CellTests.{has_cell, is_in_grid}
 use Rattle.poly_cells.proofs.CellTestLemmas.{all_in_grid_from}
 use Rattle.poly_texts.specs.Limits.{most_piece_cells, most_size}
 use Rattle.poly_texts.specs.Cells.{without, row, layer, box_cells}
-use Rattle.poly_texts.specs.Words.{is_name}
 use Rattle.poly_texts.specs.Puzzle.{IsPiece, ArePieces}
-use Rattle.poly_texts.specs.Reading.{kept_shape}
-use Rattle.poly_texts.specs.Grammar.{Line, piece, box, cells, are_in_grid, are_apart, is_side, is_line, piece_of, named_by}
+use Rattle.poly_texts.specs.Reading.{kept_shape, named_shapes}
+use Rattle.poly_texts.specs.Grammar.{Line, piece, box, cells, are_in_grid, are_apart, are_names, is_side, is_line, piece_of, named_by}
 use Rattle.poly_texts.proofs.StepLemmas.{some_in_order}
 
 -- *members of lists*
@@ -94,10 +93,15 @@ piece_is cs good short =
 -- the pieces that lines say are pieces
 pub pieces_are : (ls : List Line) → list_all is_line ls ≡ true → ArePieces (flat_map piece_of ls)
 pieces_are [] h = λ p i. absurd i
-pieces_are (piece optional name cs ∷ ls) h =
-    let a = and_parts (is_line (piece optional name cs)) (list_all is_line ls) h in
-    let b = and_parts (is_name name) (are_in_grid cs && (are_apart cs && nat_le (length cs) most_piece_cells)) a.0 in
+pieces_are (piece need several mirrored names cs ∷ ls) h =
+    let a = and_parts (is_line (piece need several mirrored names cs)) (list_all is_line ls) h in
+    let b = and_parts (are_names need several names) (are_in_grid cs && (are_apart cs && nat_le (length cs) most_piece_cells)) a.0 in
     let c = and_parts (are_in_grid cs) (are_apart cs && nat_le (length cs) most_piece_cells) b.1 in
     let d = and_parts (are_apart cs) (nat_le (length cs) most_piece_cells) c.1 in
-    λ p i. elim i [ inl e ↦ subst (λ (q : ℕ × List Coordinates). IsPiece q.1) (sym e) (piece_is cs c.0 d.1) | inr r ↦ pieces_are ls a.1 p r ]
+    λ p i. elim (in_append_cases p (named_shapes names (kept_shape cs)) (flat_map piece_of ls) i) [
+      | inl l ↦
+          let n = in_from_map (λ k. (k, kept_shape cs)) p names l in
+          subst (λ (q : ℕ × List Coordinates). IsPiece q.1) (sym n.2) (piece_is cs c.0 d.1)
+      | inr r ↦ pieces_are ls a.1 p r
+    ]
 pieces_are (l ∷ ls) h = pieces_are ls (and_parts (is_line l) (list_all is_line ls) h).1

@@ -1,12 +1,16 @@
 -- How the reader's steps give what a text says.
-use Rattle.std.proofs.Common.{◌≡◌, ℕ, ◌==◌, List, [], ◌∷◌, ◌++◌, Bool, true, false, cond, ◌||◌, Some, None, is_some, Ok, Err, refl, ap}
+use Rattle.std.proofs.Common.{◌+◌, ◌<◌, length, get_or, drop, take, sym, ◌∙◌, append_assoc, ◌≡◌, ℕ, ◌==◌, List, [], ◌∷◌, ◌++◌, Bool, true, false, cond, ◌||◌, Some, None, is_some, Ok, refl, ap}
 use Rattle.std.specs.Map.{lookup}
+use Rattle.std.proofs.lemmas.Bool.{or_parts, or_from}
+use Rattle.std.proofs.lemmas.List.{drop_more, take_more, map-append}
+use Rattle.std.proofs.lemmas.List.Folds.{list_any-append}
+use Rattle.poly_texts.specs.Puzzle.{has_name}
 use Rattle.indexmap.specs.IndexMap.{insert_entry}
 use Rattle.text_lines.specs.Lines.{is_empty}
 use Rattle.poly_cells.specs.Coordinates.{Coordinates}
-use Rattle.poly_texts.specs.declared.fault.Fault.TheVariants.{RepeatedPiece}
-use Rattle.poly_texts.specs.Words.{piece_name}
-use Rattle.poly_texts.specs.Reading.{DraftValue, three_words, has_piece, new_name, shape_of, with_piece, piece_line}
+use Rattle.poly_texts.specs.Words.{word_names}
+use Rattle.poly_texts.specs.declared.need.Need.{Need}
+use Rattle.poly_texts.specs.Reading.{DraftValue, three_words, has_piece, named_shapes, some_repeated, new_names, shape_of, with_pieces, piece_line}
 
 -- *words*
 
@@ -43,16 +47,41 @@ entered (p ∷ ps) name shape h = by_test (name == p.0) h (entered ps name shape
     by_test true h later = absurd (cc)
     by_test false h later = ap (λ qs. p ∷ qs) (later h)
 
-module _ (pieces : List (ℕ × List Coordinates)) (word : List ℕ) (name : ℕ) (named : Some name ≡ piece_name word) where
-  pub name_repeated : has_piece pieces name ≡ true → new_name pieces word ≡ Err RepeatedPiece
-  unfolding new_name
-  name_repeated h = rw (← named, h) refl
-
-  pub name_found : has_piece pieces name ≡ false → new_name pieces word ≡ Ok name
-  unfolding new_name
-  name_found h = rw (← named, h) refl
+module _ (pieces : List (ℕ × List Coordinates)) (several : Bool) (word names : List ℕ) (named : Some names ≡ word_names several word) where
+  pub names_found : some_repeated pieces names ≡ false → new_names pieces several word ≡ Ok names
+  unfolding new_names
+  names_found h = rw (← named, h) refl
 
 -- a `piece` line whose words gave these
-pub piece_read : (s : DraftValue) (optional : Bool) (all : List (List ℕ)) (word : List ℕ) (words : List (List ℕ)) (name : ℕ) (shape : List Coordinates) → all ≡ word ∷ words → is_empty words ≡ false → new_name s.pieces word ≡ Ok name → shape_of words ≡ Ok shape → piece_line s optional all ≡ Ok (with_piece s optional name shape)
+pub piece_read : (s : DraftValue) (need : Need) (several mirrored : Bool) (all : List (List ℕ)) (word : List ℕ) (words : List (List ℕ)) (names : List ℕ) (shape : List Coordinates) → all ≡ word ∷ words → is_empty words ≡ false → new_names s.pieces several word ≡ Ok names → shape_of words ≡ Ok shape → piece_line s need several mirrored all ≡ Ok (with_pieces s need mirrored names shape)
 unfolding piece_line
-piece_read s optional all word words name shape e some a b = rw (e, some, a, b) refl
+piece_read s need several mirrored all word words names shape e some a b = rw (e, some, a, b) refl
+
+-- *names that are gone through*
+
+module _ (pieces : List (ℕ × List Coordinates)) (names : List ℕ) (k n : ℕ) (within : k < length names) (is : n ≡ get_or names k n) where
+  parted : drop k names ≡ n ∷ drop (k + 1) names
+  parted = drop_more names k n within ∙ ap (λ m. m ∷ drop (k + 1) names) (sym is)
+
+  whole_is : some_repeated pieces (drop k names) ≡ (has_piece pieces n || (has_name (drop (k + 1) names) n || some_repeated pieces (drop (k + 1) names)))
+  whole_is = ap (some_repeated pieces) parted
+
+  -- what is not repeated is not repeated later either, also with this one there
+  pub fresh_later : (shape : List Coordinates) → some_repeated pieces (drop k names) ≡ false → some_repeated (pieces ++ (n, shape) ∷ []) (drop (k + 1) names) ≡ false
+  fresh_later shape h =
+      let p = or_parts (has_piece pieces n) (has_name (drop (k + 1) names) n || some_repeated pieces (drop (k + 1) names)) (sym whole_is ∙ h) in
+      let q = or_parts (has_name (drop (k + 1) names) n) (some_repeated pieces (drop (k + 1) names)) p.1 in
+      more_fresh pieces n shape (drop (k + 1) names) q.0 q.1
+    where
+      more_fresh : (pieces : List (ℕ × List Coordinates)) (n : ℕ) (shape : List Coordinates) (ns : List ℕ) → has_name ns n ≡ false → some_repeated pieces ns ≡ false → some_repeated (pieces ++ (n, shape) ∷ []) ns ≡ false
+      more_fresh pieces n shape [] a b = refl
+      more_fresh pieces n shape (m ∷ ms) a b =
+          let p = or_parts (has_piece pieces m) (has_name ms m || some_repeated pieces ms) b in
+          let q = or_parts (has_name ms m) (some_repeated pieces ms) p.1 in
+          let r = or_parts (m == n) (has_name ms n) a in
+          or_from _ _ (list_any-append (λ e. m == e.0) pieces ((n, shape) ∷ []) ∙ or_from _ _ p.0 (or_from _ _ r.0 refl)) (or_from _ _ q.0 (more_fresh pieces n shape ms r.1 q.1))
+
+  pub shapes_more : (shape : List Coordinates) (before : List (ℕ × List Coordinates)) → pieces ≡ before ++ named_shapes (take k names) shape → pieces ++ (n, shape) ∷ [] ≡ before ++ named_shapes (take (k + 1) names) shape
+  shapes_more shape before so =
+      ap (λ ps. ps ++ (n, shape) ∷ []) so ∙ append_assoc before (named_shapes (take k names) shape) ((n, shape) ∷ [])
+      ∙ ap (λ ps. before ++ ps) (sym (ap (λ ns. named_shapes ns shape) (take_more names k n within ∙ ap (λ m. take k names ++ m ∷ []) (sym is)) ∙ map-append (λ m. (m, shape)) (take k names) (n ∷ [])))

@@ -5,7 +5,7 @@
 --
 -- Example: the lines `piece A 100 200`, `box 2 2 1` and `cut 000 110` say the piece A with the cells 0 0 0 and 1 0 0, and the
 -- region 0 1 0 and 1 0 0. proofs/GrammarExamples.antt computes it.
-use Rattle.std.specs.Prelude.{ℕ, ◌≤◌, ◌<◌, ◌≡◌, nat_lt, nat_le, Bool, true, false, not, ◌&&◌, List, [], ◌∷◌, length, map, filter, flat_map, codes, decimal, if◌then◌else◌}
+use Rattle.std.specs.Prelude.{ℕ, ◌≤◌, ◌<◌, ◌≡◌, nat_lt, nat_le, Bool, true, false, not, ◌&&◌, ◌||◌, ◌++◌, List, [], ◌∷◌, length, map, filter, flat_map, codes, decimal, if◌then◌else◌}
 use Rattle.std.specs.List.{list_all}
 use Rattle.text_lines.specs.Lines.{lines_of}
 use Rattle.text_lines.specs.Writing.{are_plain}
@@ -15,14 +15,16 @@ use Rattle.poly_cells.specs.CellTests.{has_cell, is_in_grid}
 use Rattle.poly_cells.specs.CellWords.{cell_word}
 use Rattle.poly_texts.specs.Limits.{most_size, most_region_cells, most_piece_cells}
 use Rattle.poly_texts.specs.Cells.{with_cells, ordered_without, box_cells}
-use Rattle.poly_texts.specs.Words.{is_name}
+use Rattle.poly_texts.specs.Words.{is_name, are_so_many}
 use Rattle.poly_texts.specs.Puzzle.{PuzzleValue, names_of, are_new, needs_nothing}
-use Rattle.poly_texts.specs.Reading.{kept_shape}
+use Rattle.poly_texts.specs.declared.need.Need.{Need}
+use Rattle.poly_texts.specs.declared.need.Need.TheVariants as needs
+use Rattle.poly_texts.specs.Reading.{kept_shape, is_must, is_maybe, is_repeatable, names_if, group_of, named_shapes}
 
--- what a line says: a piece, whether it may be left out, with its name and its cells; a box of these sizes; cells, and
--- whether they may stay empty; or cells to be cut
+-- what a line says: a piece or several equal ones, whether they have to be used and whether they may be reflected, with their names and
+-- cells; a box of these sizes; cells, and whether they may stay empty; or cells to be cut
 pub data Line : Type 0 where
-  piece : Bool → ℕ → List Coordinates → Line
+  piece : Need → Bool → Bool → List ℕ → List Coordinates → Line
   box : ℕ → ℕ → ℕ → Line
   cells : Bool → List Coordinates → Line
   cut : List Coordinates → Line
@@ -33,9 +35,23 @@ pub data Line : Type 0 where
 abbrev pub maybe_words : Bool → List (List ℕ) → List (List ℕ)
 maybe_words optional words = if optional then codes "maybe" ∷ words else words
 
+-- the words after that for the need
+abbrev pub need_words : Need → List (List ℕ) → List (List ℕ)
+need_words needs.Must words = words
+need_words needs.Maybe words = codes "maybe" ∷ words
+need_words needs.Any words = codes "any" ∷ words
+
+-- the words, after `mirror` if it is so
+abbrev pub mirror_words : Bool → List (List ℕ) → List (List ℕ)
+mirror_words mirrored words = if mirrored then codes "mirror" ∷ words else words
+
+-- the first word for equal pieces, or for one alone
+abbrev pub piece_word : Bool → List ℕ
+piece_word several = if several then codes "copies" else codes "piece"
+
 -- the words of a line
 abbrev pub line_words : Line → List (List ℕ)
-line_words (piece optional name cs) = maybe_words optional (codes "piece" ∷ (name ∷ []) ∷ map cell_word cs)
+line_words (piece need several mirrored names cs) = need_words need (mirror_words mirrored (piece_word several ∷ names ∷ map cell_word cs))
 line_words (box a b c) = codes "box" ∷ decimal a ∷ decimal b ∷ decimal c ∷ []
 line_words (cells optional cs) = maybe_words optional (codes "cells" ∷ map cell_word cs)
 line_words (cut cs) = codes "cut" ∷ map cell_word cs
@@ -55,9 +71,13 @@ are_apart (c ∷ cs) = not (has_cell cs c) && are_apart cs
 abbrev pub is_side : ℕ → Bool
 is_side n = nat_lt 0 n && nat_le n most_size
 
+-- the names of a line: two or more of pieces that have to be used, or else one alone
+abbrev pub are_names : Need → Bool → List ℕ → Bool
+are_names need several names = (is_must need || not several) && (list_all is_name names && are_so_many several (length names))
+
 -- a line within the limits
 abbrev pub is_line : Line → Bool
-is_line (piece optional name cs) = is_name name && (are_in_grid cs && (are_apart cs && nat_le (length cs) most_piece_cells))
+is_line (piece need several mirrored names cs) = are_names need several names && (are_in_grid cs && (are_apart cs && nat_le (length cs) most_piece_cells))
 is_line (box a b c) = is_side a && (is_side b && is_side c)
 is_line (cells optional cs) = are_in_grid cs
 is_line (cut cs) = are_in_grid cs
@@ -66,42 +86,63 @@ is_line (cut cs) = are_in_grid cs
 
 -- the piece of a `piece` line, as it is kept
 abbrev pub piece_of : Line → List (ℕ × List Coordinates)
-piece_of (piece optional name cs) = (name, kept_shape cs) ∷ []
+piece_of (piece need several mirrored names cs) = named_shapes names (kept_shape cs)
 piece_of (box a b c) = []
 piece_of (cells optional cs) = []
 piece_of (cut cs) = []
 
 -- the name of a piece that may be left out
 abbrev pub maybe_name_of : Line → List ℕ
-maybe_name_of (piece optional name cs) = if optional then name ∷ [] else []
+maybe_name_of (piece need several mirrored names cs) = names_if (is_maybe need) names
 maybe_name_of (box a b c) = []
 maybe_name_of (cells optional cs) = []
 maybe_name_of (cut cs) = []
 
+-- the name of a piece that may be used any number of times
+abbrev pub any_name_of : Line → List ℕ
+any_name_of (piece need several mirrored names cs) = names_if (is_repeatable need) names
+any_name_of (box a b c) = []
+any_name_of (cells optional cs) = []
+any_name_of (cut cs) = []
+
+-- the names of pieces that may be reflected
+abbrev pub mirrored_by : Line → List ℕ
+mirrored_by (piece need several mirrored names cs) = names_if mirrored names
+mirrored_by (box a b c) = []
+mirrored_by (cells optional cs) = []
+mirrored_by (cut cs) = []
+
+-- the group of equal pieces, if there are two at least
+abbrev pub equal_by : Line → List (List ℕ)
+equal_by (piece need several mirrored names cs) = group_of names
+equal_by (box a b c) = []
+equal_by (cells optional cs) = []
+equal_by (cut cs) = []
+
 -- whether it is a `box` line
 abbrev pub is_box : Line → Bool
-is_box (piece optional name cs) = false
+is_box (piece need several mirrored names cs) = false
 is_box (box a b c) = true
 is_box (cells optional cs) = false
 is_box (cut cs) = false
 
 -- the cells of a `box` or `cells` line
 abbrev pub named_by : Line → List Coordinates
-named_by (piece optional name cs) = []
+named_by (piece need several mirrored names cs) = []
 named_by (box a b c) = box_cells a b c
 named_by (cells optional cs) = cs
 named_by (cut cs) = []
 
 -- the cells of a `maybe cells` line
 abbrev pub maybe_by : Line → List Coordinates
-maybe_by (piece optional name cs) = []
+maybe_by (piece need several mirrored names cs) = []
 maybe_by (box a b c) = []
 maybe_by (cells optional cs) = if optional then cs else []
 maybe_by (cut cs) = []
 
 -- the cells of a `cut` line
 abbrev pub cut_by : Line → List Coordinates
-cut_by (piece optional name cs) = []
+cut_by (piece need several mirrored names cs) = []
 cut_by (box a b c) = []
 cut_by (cells optional cs) = []
 cut_by (cut cs) = cs
@@ -124,6 +165,9 @@ puzzle_by lines = record {
   maybe_pieces = flat_map maybe_name_of lines;
   region = uncut lines (flat_map named_by lines);
   maybe_cells = uncut lines (flat_map maybe_by lines);
+  any_pieces = flat_map any_name_of lines;
+  mirrored = flat_map mirrored_by lines;
+  equal = flat_map equal_by lines;
 }
 
 -- comments, blanks, empty lines and line ends aside, the text is lines that say the puzzle: with a cell, with a piece, and
@@ -136,4 +180,4 @@ pub record IsPuzzleText (text : List ℕ) (p : PuzzleValue) : Type 0 where
   pub puzzle : p ≡ puzzle_by lines
   pub some_cell : 0 < length p.region
   pub some_piece : 0 < length p.pieces
-  pub required : needs_nothing p.pieces p.maybe_pieces p.region p.maybe_cells ≡ false
+  pub required : needs_nothing p.pieces (p.maybe_pieces ++ p.any_pieces) p.region p.maybe_cells ≡ false

@@ -5,3 +5,5 @@ pub mod Words
 pub mod Puzzle
 pub mod Reading
 pub mod Grammar
+pub mod Plain
+pub mod Lists

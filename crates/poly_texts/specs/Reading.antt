@@ -1,6 +1,8 @@
 -- What a puzzle text says, line by line, or its first fault.
 --
---     piece N c ..         a piece named N with these cells; a piece that may be left out, after `maybe`
+--     piece N c ..         a piece named N with these cells; after `maybe` one that may be left out, after `any` one that may be used
+--                          any number of times; after `mirror` (and these) one that may be reflected
+--     copies W c ..        equal pieces with these cells, one for each symbol of W; after `mirror` such that may be reflected
 --     box a b c            all cells with x below a, y below b and z below c: at most one such line
 --     cells c ..           these cells; cells that may stay empty, after `maybe`
 --     cut c ..             none of these cells
@@ -11,7 +13,7 @@
 --
 -- Example: `piece A 000 000` has the fault RepeatedCell in line 1; a text of no lines has EmptyRegion in line 0, and
 -- `box 1 1 1` alone NoPiece. proofs/ReadingExamples.antt computes them.
-use Rattle.std.specs.Prelude.{ℕ, ◌==◌, nat_lt, nat_le, Bool, true, false, not, List, [], ◌∷◌, ◌++◌, length, Option, Some, None, Result, Ok, Err, codes, if◌then◌else◌}
+use Rattle.std.specs.Prelude.{ℕ, ◌==◌, nat_lt, nat_le, Bool, true, false, not, ◌||◌, map, List, [], ◌∷◌, ◌++◌, length, Option, Some, None, Result, Ok, Err, codes, if◌then◌else◌}
 use Rattle.std.specs.List.{list_any}
 use Rattle.std.specs.Str.{bytes_eq}
 use Rattle.text_lines.specs.Lines.{lines_of, is_empty}
@@ -25,11 +27,13 @@ use Rattle.poly_texts.specs.declared.fault.Fault.{Fault}
 use Rattle.poly_texts.specs.declared.fault.Fault.TheVariants.{BadLine, BadCell, RepeatedCell, RepeatedPiece, SecondBox, EmptyRegion, NoPiece, TooLarge, NothingRequired}
 use Rattle.poly_texts.specs.declared.key.Key.{Key}
 use Rattle.poly_texts.specs.declared.key.Key.TheVariants as keys
+use Rattle.poly_texts.specs.declared.need.Need.{Need}
+use Rattle.poly_texts.specs.declared.need.Need.TheVariants as needs
 use Rattle.poly_cells.specs.CellTests.{has_cell}
 use Rattle.poly_cells.specs.CellWords.{cell_of}
 use Rattle.poly_texts.specs.Cells.{with_cell, with_cells, ordered_without, box_cells}
-use Rattle.poly_texts.specs.Words.{piece_name, are_sizes, are_small, size_from}
-use Rattle.poly_texts.specs.Puzzle.{PuzzleValue, puzzle_from, needs_nothing}
+use Rattle.poly_texts.specs.Words.{word_names, are_sizes, are_small, size_from}
+use Rattle.poly_texts.specs.Puzzle.{PuzzleValue, puzzle_from, needs_nothing, has_name}
 
 -- what the lines so far say: the pieces, the names of those that may be left out, whether there was a box, and the cells that
 -- lines name, that `maybe cells` lines name and that `cut` lines name, each cell once
@@ -40,21 +44,27 @@ pub record DraftValue : Type 0 where
   pub named : List Coordinates
   pub maybe_cells : List Coordinates
   pub cut : List Coordinates
+  pub any_pieces : List ℕ
+  pub mirrored : List ℕ
+  pub equal : List (List ℕ)
 
 -- these parts together
-abbrev pub draft_from : List (ℕ × List Coordinates) → List ℕ → Bool → List Coordinates → List Coordinates → List Coordinates → DraftValue
-draft_from pieces maybe_pieces boxed named maybe_cells cut = record {
+abbrev pub draft_from : List (ℕ × List Coordinates) → List ℕ → Bool → List Coordinates → List Coordinates → List Coordinates → List ℕ → List ℕ → List (List ℕ) → DraftValue
+draft_from pieces maybe_pieces boxed named maybe_cells cut any_pieces mirrored equal = record {
   pieces = pieces;
   maybe_pieces = maybe_pieces;
   boxed = boxed;
   named = named;
   maybe_cells = maybe_cells;
   cut = cut;
+  any_pieces = any_pieces;
+  mirrored = mirrored;
+  equal = equal;
 }
 
 -- no lines say this
 abbrev pub nothing : DraftValue
-nothing = draft_from [] [] false [] [] []
+nothing = draft_from [] [] false [] [] [] [] [] []
 
 -- *the words of a line*
 
@@ -97,32 +107,68 @@ within s = if nat_le (length s.named) most_region_cells then Ok s else Err TooLa
 abbrev pub has_piece : List (ℕ × List Coordinates) → ℕ → Bool
 has_piece pieces name = list_any (λ p. name == p.0) pieces
 
--- these names with one more, if it is to be there
-abbrev pub with_name : Bool → List ℕ → ℕ → List ℕ
-with_name there names name = if there then names ++ name ∷ [] else names
+-- the piece has to be used
+abbrev pub is_must : Need → Bool
+is_must needs.Must = true
+is_must needs.Maybe = false
+is_must needs.Any = false
 
--- with one more piece
-abbrev pub with_piece : DraftValue → Bool → ℕ → List Coordinates → DraftValue
-with_piece s optional name shape =
-    record s { pieces = s.pieces ++ (name, shape) ∷ []; maybe_pieces = with_name optional s.maybe_pieces name }
+-- it may be left out
+abbrev pub is_maybe : Need → Bool
+is_maybe needs.Must = false
+is_maybe needs.Maybe = true
+is_maybe needs.Any = false
 
--- the name of a new piece
-abbrev pub is_new : List (ℕ × List Coordinates) → Option ℕ → Result ℕ Fault
-is_new pieces None = Err BadLine
-is_new pieces (Some name) = if has_piece pieces name then Err RepeatedPiece else Ok name
+-- it may be used any number of times
+abbrev pub is_repeatable : Need → Bool
+is_repeatable needs.Must = false
+is_repeatable needs.Maybe = false
+is_repeatable needs.Any = true
 
--- the same, where the name is given by a word
-unfoldable pub new_name : List (ℕ × List Coordinates) → List ℕ → Result ℕ Fault
-new_name pieces word = is_new pieces (piece_name word)
+-- these names, if it is so
+abbrev pub names_if : Bool → List ℕ → List ℕ
+names_if there names = if there then names else []
 
--- a `piece` line: a name, and a cell
-unfoldable pub piece_line : DraftValue → Bool → List (List ℕ) → Result DraftValue Fault
-piece_line s optional [] = Err BadLine
-piece_line s optional (word ∷ words) =
+-- the group of these names, if there are two at least
+abbrev pub group_of : List ℕ → List (List ℕ)
+group_of names = if nat_lt 1 (length names) then names ∷ [] else []
+
+-- a piece of this shape for each name
+abbrev pub named_shapes : List ℕ → List Coordinates → List (ℕ × List Coordinates)
+named_shapes names shape = map (λ n. (n, shape)) names
+
+-- with more pieces, of one shape
+abbrev pub with_pieces : DraftValue → Need → Bool → List ℕ → List Coordinates → DraftValue
+with_pieces s need mirrored names shape = record s {
+  pieces = s.pieces ++ named_shapes names shape;
+  maybe_pieces = s.maybe_pieces ++ names_if (is_maybe need) names;
+  any_pieces = s.any_pieces ++ names_if (is_repeatable need) names;
+  mirrored = s.mirrored ++ names_if mirrored names;
+  equal = s.equal ++ group_of names;
+}
+
+-- one of the names is that of a piece, or comes twice
+abbrev pub some_repeated : List (ℕ × List Coordinates) → List ℕ → Bool
+some_repeated pieces [] = false
+some_repeated pieces (n ∷ ns) = has_piece pieces n || (has_name ns n || some_repeated pieces ns)
+
+-- the names of new pieces
+abbrev pub are_fresh : List (ℕ × List Coordinates) → Option (List ℕ) → Result (List ℕ) Fault
+are_fresh pieces None = Err BadLine
+are_fresh pieces (Some names) = if some_repeated pieces names then Err RepeatedPiece else Ok names
+
+-- the same, where the names are given by a word
+unfoldable pub new_names : List (ℕ × List Coordinates) → Bool → List ℕ → Result (List ℕ) Fault
+new_names pieces several word = are_fresh pieces (word_names several word)
+
+-- a `piece` or a `copies` line: one name or several, and a cell
+unfoldable pub piece_line : DraftValue → Need → Bool → Bool → List (List ℕ) → Result DraftValue Fault
+piece_line s need several mirrored [] = Err BadLine
+piece_line s need several mirrored (word ∷ words) =
     if is_empty words then Err BadLine else (do
-      name ← new_name s.pieces word
+      names ← new_names s.pieces several word
       shape ← shape_of words
-      Ok (with_piece s optional name shape))
+      Ok (with_pieces s need mirrored names shape))
 
 -- three words, and no others
 abbrev pub three_words : List (List ℕ) → Option (List ℕ × List ℕ × List ℕ)
@@ -170,15 +216,42 @@ key_from word =
     (if bytes_eq word (codes "box") then Some keys.Box else
     (if bytes_eq word (codes "cells") then Some keys.Cells else
     (if bytes_eq word (codes "cut") then Some keys.Cut else
-    (if bytes_eq word (codes "maybe") then Some keys.Maybe else None))))
+    (if bytes_eq word (codes "maybe") then Some keys.Maybe else
+    (if bytes_eq word (codes "any") then Some keys.Any else
+    (if bytes_eq word (codes "mirror") then Some keys.Mirror else
+    (if bytes_eq word (codes "copies") then Some keys.Copies else None)))))))
+
+-- a `copies` line after `mirror`, before which no other word stands
+abbrev pub mirrored_copies : DraftValue → Need → List (List ℕ) → Result DraftValue Fault
+mirrored_copies s need words = if not (is_must need) then Err BadLine else piece_line s needs.Must true true words
+
+-- a line after `mirror`, by its key
+abbrev pub mirror_keyed : Option Key → DraftValue → Need → List (List ℕ) → Result DraftValue Fault
+mirror_keyed (Some keys.Piece) s need words = piece_line s need false true words
+mirror_keyed (Some keys.Copies) s need words = mirrored_copies s need words
+mirror_keyed (Some keys.Cells) s need words = Err BadLine
+mirror_keyed (Some keys.Box) s need words = Err BadLine
+mirror_keyed (Some keys.Cut) s need words = Err BadLine
+mirror_keyed (Some keys.Maybe) s need words = Err BadLine
+mirror_keyed (Some keys.Any) s need words = Err BadLine
+mirror_keyed (Some keys.Mirror) s need words = Err BadLine
+mirror_keyed None s need words = Err BadLine
+
+-- a `mirror` line: the words after `mirror`
+unfoldable pub mirror_line : DraftValue → Need → List (List ℕ) → Result DraftValue Fault
+mirror_line s need [] = Err BadLine
+mirror_line s need (key ∷ words) = mirror_keyed (key_from key) s need words
 
 -- a line of a second key, after `maybe`, and the words after it
 abbrev pub maybe_keyed : Option Key → DraftValue → List (List ℕ) → Result DraftValue Fault
-maybe_keyed (Some keys.Piece) s words = piece_line s true words
+maybe_keyed (Some keys.Piece) s words = piece_line s needs.Maybe false false words
 maybe_keyed (Some keys.Cells) s words = maybe_cells_line s words
+maybe_keyed (Some keys.Mirror) s words = mirror_line s needs.Maybe words
 maybe_keyed (Some keys.Box) s words = Err BadLine
 maybe_keyed (Some keys.Cut) s words = Err BadLine
 maybe_keyed (Some keys.Maybe) s words = Err BadLine
+maybe_keyed (Some keys.Any) s words = Err BadLine
+maybe_keyed (Some keys.Copies) s words = Err BadLine
 maybe_keyed None s words = Err BadLine
 
 -- a `maybe` line: the words after `maybe`
@@ -186,13 +259,33 @@ unfoldable pub maybe_line : DraftValue → List (List ℕ) → Result DraftValue
 maybe_line s [] = Err BadLine
 maybe_line s (key ∷ words) = maybe_keyed (key_from key) s words
 
+-- a line of a second key, after `any`, and the words after it
+abbrev pub any_keyed : Option Key → DraftValue → List (List ℕ) → Result DraftValue Fault
+any_keyed (Some keys.Piece) s words = piece_line s needs.Any false false words
+any_keyed (Some keys.Mirror) s words = mirror_line s needs.Any words
+any_keyed (Some keys.Cells) s words = Err BadLine
+any_keyed (Some keys.Box) s words = Err BadLine
+any_keyed (Some keys.Cut) s words = Err BadLine
+any_keyed (Some keys.Maybe) s words = Err BadLine
+any_keyed (Some keys.Any) s words = Err BadLine
+any_keyed (Some keys.Copies) s words = Err BadLine
+any_keyed None s words = Err BadLine
+
+-- an `any` line: the words after `any`
+unfoldable pub any_line : DraftValue → List (List ℕ) → Result DraftValue Fault
+any_line s [] = Err BadLine
+any_line s (key ∷ words) = any_keyed (key_from key) s words
+
 -- a line of a key and the words after it
 abbrev pub keyed_line : Option Key → DraftValue → List (List ℕ) → Result DraftValue Fault
-keyed_line (Some keys.Piece) s words = piece_line s false words
+keyed_line (Some keys.Piece) s words = piece_line s needs.Must false false words
 keyed_line (Some keys.Box) s words = box_line s words
 keyed_line (Some keys.Cells) s words = cells_line s words
 keyed_line (Some keys.Cut) s words = cut_line s words
 keyed_line (Some keys.Maybe) s words = maybe_line s words
+keyed_line (Some keys.Any) s words = any_line s words
+keyed_line (Some keys.Mirror) s words = mirror_line s needs.Must words
+keyed_line (Some keys.Copies) s words = piece_line s needs.Must true false words
 keyed_line None s words = Err BadLine
 
 -- a line of these words; one without words says nothing
@@ -223,7 +316,7 @@ whole_fault pieces maybe_pieces region maybe_cells =
 
 -- the pieces that are said, with this region and these cells of it that may stay empty
 abbrev pub with_region : DraftValue → List Coordinates → List Coordinates → PuzzleValue
-with_region s region maybe = puzzle_from s.pieces s.maybe_pieces region maybe
+with_region s region maybe = puzzle_from s.pieces s.maybe_pieces region maybe s.any_pieces s.mirrored s.equal
 
 -- the puzzle that is said
 abbrev pub puzzle_said : DraftValue → PuzzleValue
@@ -236,7 +329,7 @@ unless (Some f) p = Err f
 
 -- the fault of what is said, with this region
 abbrev pub fault_with : DraftValue → List Coordinates → Option Fault
-fault_with s region = whole_fault s.pieces s.maybe_pieces region s.maybe_cells
+fault_with s region = whole_fault s.pieces (s.maybe_pieces ++ s.any_pieces) region s.maybe_cells
 
 -- the puzzle of all lines
 unfoldable pub whole : DraftValue → Result PuzzleValue Fault

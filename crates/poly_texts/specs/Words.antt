@@ -1,7 +1,8 @@
 -- The words of a puzzle text beside those of cells: names of pieces, and sizes.
 --
--- Example: `A` is a name and `AB` isn't. `0` and `07` are no sizes. proofs/WordExamples.antt computes it.
-use Rattle.std.specs.Prelude.{ℕ, nat_le, Bool, not, ◌&&◌, ◌||◌, List, [], ◌∷◌, Option, Some, None, codes, if◌then◌else◌}
+-- Example: `A` is one name, and `AB` are two. `0` and `07` are no sizes. proofs/WordExamples.antt computes it.
+use Rattle.std.specs.Prelude.{ℕ, ◌==◌, nat_lt, length, nat_le, Bool, not, ◌&&◌, ◌||◌, List, Option, Some, None, codes, if◌then◌else◌}
+use Rattle.std.specs.List.{list_all}
 use Rattle.std.specs.Str.{bytes_eq}
 use Rattle.text_lines.specs.Numbers.{is_decimal, value_after}
 use Rattle.poly_texts.specs.Limits.{most_size}
@@ -10,10 +11,13 @@ use Rattle.poly_texts.specs.Limits.{most_size}
 abbrev pub is_name : ℕ → Bool
 is_name b = (nat_le 48 b && nat_le b 57) || (nat_le 65 b && nat_le b 90) || (nat_le 97 b && nat_le b 122)
 
--- the name of a piece that a word is: one letter or digit
-abbrev pub piece_name : List ℕ → Option ℕ
-piece_name (b ∷ []) = if is_name b then Some b else None
-piece_name word = None
+-- that many are two or more, or else one alone
+abbrev pub are_so_many : Bool → ℕ → Bool
+are_so_many several n = if several then nat_lt 1 n else n == 1
+
+-- the names of pieces that a word is: letters and digits, two or more of them or else one alone
+abbrev pub word_names : Bool → List ℕ → Option (List ℕ)
+word_names several word = if list_all is_name word && are_so_many several (length word) then Some word else None
 
 -- a decimal number from 1 on
 abbrev pub is_size : List ℕ → Bool

@@ -7,13 +7,15 @@ ghost use Rattle.poly_cells.specs.Coordinates.{coordinates_cmp};
 ghost use Rattle.text_lines.specs.Answers.{Gives};
 ghost use Rattle.poly_texts.specs.Puzzle.{PuzzleValue, IsPuzzle, has_name, names_of};
 ghost use Rattle.poly_texts.specs.Reading as reading;
-ghost use Rattle.poly_texts.specs.Reading.{has_piece, nothing, with_name, with_region};
+ghost use Rattle.poly_texts.specs.Reading.{has_piece, group_of, named_shapes, names_if, nothing, some_repeated, with_pieces, with_region};
+ghost use Rattle.poly_texts.specs.Lists.{lists_of};
 
 use crate::cells::{add_box, add_cells, are_all_in, uncut};
 use crate::fault::{Fault, LineFault};
 use crate::key::{Key, key_of};
 use crate::limits::MOST_REGION_CELLS;
 use crate::name::PieceName;
+use crate::need::Need;
 use crate::piece::shape_of;
 use crate::puzzle::Puzzle;
 use crate::word::{are_sizes, sizes_of, three_words};
@@ -33,29 +35,68 @@ pub struct Draft {
     named: IndexSet<Cell>,
     maybe_cells: IndexSet<Cell>,
     cut: IndexSet<Cell>,
+    any_pieces: Vec<PieceName>,
+    mirrored: Vec<PieceName>,
+    equal: Vec<Vec<PieceName>>,
 }
 
 impl Model for Draft {
     ghost use Rattle.poly_texts.specs.Reading.{DraftValue, draft_from};
+    ghost use Rattle.poly_texts.specs.Lists.{lists_of};
 
     ghost Value = { DraftValue };
 
-    ghost view = { λ a. draft_from a.pieces.entries a.maybe_pieces.items a.is_boxed a.named.keys a.maybe_cells.keys a.cut.keys };
+    ghost view = { λ a. draft_from a.pieces.entries a.maybe_pieces.items a.is_boxed a.named.keys a.maybe_cells.keys a.cut.keys a.any_pieces.items a.mirrored.items (lists_of a.equal.items) };
 }
 
-/// The name of a new piece.
-#[tactic(auto, unfolding(crate::specs::Reading::new_name))]
-fn new_name(pieces: &IndexMap<PieceName, Shape>, word: &[u8]) -> Result<PieceName, LineFault>
-    ensures name { Gives (λ name. name) result (reading.new_name pieces.now.entries word.now) }
-    ensures new { IfOk result (λ name. has_piece pieces.now.entries name ≡ false) }
+/// Whether a piece has this name.
+fn is_known(pieces: &IndexMap<PieceName, Shape>, name: PieceName) -> bool
+    ensures { result ≡ has_piece pieces.now.entries name }
 {
-    let Some(name) = PieceName::of(word) else {
+    pieces.contains_key(&name)
+}
+
+/// Whether the name is one of these.
+fn is_among(names: &[PieceName], name: PieceName) -> bool
+    ensures { result ≡ has_name names.now name }
+{
+    names.contains(&name)
+}
+
+/// Whether one of these names is that of a piece, or comes twice.
+fn is_repeated(pieces: &IndexMap<PieceName, Shape>, names: &[PieceName]) -> bool
+    ensures { result ≡ some_repeated pieces.now.entries names.now }
+{
+    for k in 0..names.len() {
+        let name = names[k];
+        if is_known(pieces, name) {
+            return true;
+        }
+        if is_among(&names[k + 1..], name) {
+            return true;
+        }
+    }
+    false
+}
+
+/// The names of new pieces.
+#[tactic(auto, unfolding(crate::specs::Reading::new_names))]
+fn new_names(
+    alloc: Global,
+    pieces: &IndexMap<PieceName, Shape>,
+    are_several: bool,
+    word: &[u8],
+) -> Result<Vec<PieceName>, LineFault>
+    ensures name { Gives (λ names. names.items) result (reading.new_names pieces.now.entries are_several word.now) }
+    ensures new { IfOk result (λ names. some_repeated pieces.now.entries names.items ≡ false) }
+{
+    let Some(names) = PieceName::all_of(alloc, are_several, word)? else {
         return Err(LineFault::Fault(Fault::BadLine));
     };
-    if pieces.contains_key(&name) {
+    if is_repeated(pieces, names.as_slice()) {
         return Err(LineFault::Fault(Fault::RepeatedPiece));
     }
-    Ok(name)
+    Ok(names)
 }
 
 /// Adds a new piece.
@@ -71,16 +112,41 @@ fn add_piece(
     Ok(())
 }
 
-/// Adds a name, if it is to be there.
-fn add_name(
-    names: &mut Vec<PieceName>,
-    there: bool,
-    name: PieceName,
-) -> Result<(), AllocFailed<PieceName>>
-    ensures { OnOk result (names.new.items ≡ with_name there names.old.items name) }
+/// Adds new pieces of one shape.
+fn add_pieces(
+    pieces: &mut IndexMap<PieceName, Shape>,
+    names: &[PieceName],
+    shape: &Shape,
+) -> Result<(), AllocError>
+    requires { some_repeated pieces.old.entries names.now ≡ false }
+    ensures { OnOk result (pieces.new.entries ≡ pieces.old.entries ++ named_shapes names.now shape.now) }
+{
+    for name in names {
+        add_piece(pieces, *name, shape.copy()?)?;
+    }
+    Ok(())
+}
+
+/// Adds names, if it is so.
+fn add_names(names: &mut Vec<PieceName>, there: bool, more: &[PieceName]) -> Result<(), AllocError>
+    ensures { OnOk result (names.new.items ≡ names.old.items ++ names_if there more.now) }
 {
     if there {
-        names.push(name)?;
+        names.extend_from_slice(more)?;
+    }
+    Ok(())
+}
+
+/// Adds the group of these names, if there are two at least.
+fn add_group(
+    alloc: Global,
+    groups: &mut Vec<Vec<PieceName>>,
+    names: &[PieceName],
+) -> Result<(), AllocError>
+    ensures { OnOk result (lists_of groups.new.items ≡ lists_of groups.old.items ++ group_of names.now) }
+{
+    if names.len() > 1 {
+        groups.push(Vec::from_slice(alloc, names)?)?;
     }
     Ok(())
 }
@@ -97,6 +163,9 @@ impl Draft {
             named: IndexSet::new(alloc),
             maybe_cells: IndexSet::new(alloc),
             cut: IndexSet::new(alloc),
+            any_pieces: Vec::new(alloc),
+            mirrored: Vec::new(alloc),
+            equal: Vec::new(alloc),
         }
     }
 
@@ -115,10 +184,12 @@ impl Draft {
     fn take_piece(
         &mut self,
         alloc: Global,
-        is_optional: bool,
+        need: Need,
+        are_several: bool,
+        is_mirrored: bool,
         words: &[u8],
     ) -> Result<(), LineFault>
-        ensures { Gives (λ _. self.new) result (reading.piece_line self.old is_optional (words_of words.now)) }
+        ensures { Gives (λ _. self.new) result (reading.piece_line self.old need are_several is_mirrored (words_of words.now)) }
     {
         let Some((word, cells)) = split_word(words) else {
             return Err(LineFault::Fault(Fault::BadLine));
@@ -126,10 +197,29 @@ impl Draft {
         if !has_words(cells) {
             return Err(LineFault::Fault(Fault::BadLine));
         }
-        let name = new_name(&self.pieces, word)?;
+        let names = new_names(alloc, &self.pieces, are_several, word)?;
         let shape = shape_of(alloc, cells)?;
-        add_piece(&mut self.pieces, name, shape)?;
-        add_name(&mut self.maybe_pieces, is_optional, name)?;
+        self.add_equal(alloc, need, is_mirrored, names.as_slice(), &shape)?;
+        Ok(())
+    }
+
+    /// Adds equal pieces.
+    fn add_equal(
+        &mut self,
+        alloc: Global,
+        need: Need,
+        is_mirrored: bool,
+        names: &[PieceName],
+        shape: &Shape,
+    ) -> Result<(), AllocError>
+        requires { some_repeated self.old.pieces names.now ≡ false }
+        ensures { OnOk result (self.new ≡ with_pieces self.old need is_mirrored names.now shape.now) }
+    {
+        add_pieces(&mut self.pieces, names, shape)?;
+        add_names(&mut self.maybe_pieces, need.is_maybe(), names)?;
+        add_names(&mut self.any_pieces, need.is_any(), names)?;
+        add_names(&mut self.mirrored, is_mirrored, names)?;
+        add_group(alloc, &mut self.equal, names)?;
         Ok(())
     }
 
@@ -200,11 +290,72 @@ impl Draft {
             return Err(LineFault::Fault(Fault::BadLine));
         };
         match key_of(key) {
-            Some(Key::Piece) => self.take_piece(alloc, true, words),
+            Some(Key::Piece) => self.take_piece(alloc, Need::Maybe, false, false, words),
             Some(Key::Cells) => self.take_maybe_cells(words),
-            Some(Key::Box) | Some(Key::Cut) | Some(Key::Maybe) | None => {
-                Err(LineFault::Fault(Fault::BadLine))
-            }
+            Some(Key::Mirror) => self.take_mirror(alloc, Need::Maybe, words),
+            Some(Key::Box)
+            | Some(Key::Cut)
+            | Some(Key::Maybe)
+            | Some(Key::Any)
+            | Some(Key::Copies)
+            | None => Err(LineFault::Fault(Fault::BadLine)),
+        }
+    }
+
+    /// Takes what an `any` line says after that word.
+    #[tactic(auto, unfolding(crate::specs::Reading::any_line))]
+    fn take_any(&mut self, alloc: Global, words: &[u8]) -> Result<(), LineFault>
+        ensures { Gives (λ _. self.new) result (reading.any_line self.old (words_of words.now)) }
+    {
+        let Some((key, words)) = split_word(words) else {
+            return Err(LineFault::Fault(Fault::BadLine));
+        };
+        match key_of(key) {
+            Some(Key::Piece) => self.take_piece(alloc, Need::Any, false, false, words),
+            Some(Key::Mirror) => self.take_mirror(alloc, Need::Any, words),
+            Some(Key::Cells)
+            | Some(Key::Box)
+            | Some(Key::Cut)
+            | Some(Key::Maybe)
+            | Some(Key::Any)
+            | Some(Key::Copies)
+            | None => Err(LineFault::Fault(Fault::BadLine)),
+        }
+    }
+
+    /// Takes what a `copies` line says after `mirror`, before which no other word stands.
+    fn take_mirrored_copies(
+        &mut self,
+        alloc: Global,
+        need: Need,
+        words: &[u8],
+    ) -> Result<(), LineFault>
+        ensures { Gives (λ _. self.new) result (reading.mirrored_copies self.old need (words_of words.now)) }
+    {
+        if !need.is_must() {
+            return Err(LineFault::Fault(Fault::BadLine));
+        }
+        self.take_piece(alloc, Need::Must, true, true, words)
+    }
+
+    /// Takes what a `mirror` line says after that word.
+    #[tactic(auto, unfolding(crate::specs::Reading::mirror_line))]
+    fn take_mirror(&mut self, alloc: Global, need: Need, words: &[u8]) -> Result<(), LineFault>
+        ensures { Gives (λ _. self.new) result (reading.mirror_line self.old need (words_of words.now)) }
+    {
+        let Some((key, words)) = split_word(words) else {
+            return Err(LineFault::Fault(Fault::BadLine));
+        };
+        match key_of(key) {
+            Some(Key::Piece) => self.take_piece(alloc, need, false, true, words),
+            Some(Key::Copies) => self.take_mirrored_copies(alloc, need, words),
+            Some(Key::Cells)
+            | Some(Key::Box)
+            | Some(Key::Cut)
+            | Some(Key::Maybe)
+            | Some(Key::Any)
+            | Some(Key::Mirror)
+            | None => { Err(LineFault::Fault(Fault::BadLine)) }
         }
     }
 
@@ -217,11 +368,14 @@ impl Draft {
             return Ok(());
         };
         match key_of(key) {
-            Some(Key::Piece) => self.take_piece(alloc, false, words),
+            Some(Key::Piece) => self.take_piece(alloc, Need::Must, false, false, words),
             Some(Key::Box) => self.take_box(words),
             Some(Key::Cells) => self.take_cells(words),
             Some(Key::Cut) => self.take_cut(words),
             Some(Key::Maybe) => self.take_maybe(alloc, words),
+            Some(Key::Any) => self.take_any(alloc, words),
+            Some(Key::Mirror) => self.take_mirror(alloc, Need::Must, words),
+            Some(Key::Copies) => self.take_piece(alloc, Need::Must, true, false, words),
             None => Err(LineFault::Fault(Fault::BadLine)),
         }
     }
@@ -252,8 +406,11 @@ impl Draft {
         if self.pieces.is_empty() {
             return Some(Fault::NoPiece);
         }
-        if are_all_named(&self.pieces, self.maybe_pieces.as_slice())
-            && are_all_in(region, &self.maybe_cells)
+        if are_all_named(
+            &self.pieces,
+            self.maybe_pieces.as_slice(),
+            self.any_pieces.as_slice(),
+        ) && are_all_in(region, &self.maybe_cells)
         {
             return Some(Fault::NothingRequired);
         }
@@ -278,7 +435,15 @@ impl Draft {
         requires { IsPuzzle (with_region self region maybe_cells.items) }
         ensures { result ≡ with_region self region maybe_cells.items }
     {
-        Puzzle::from_parts(self.pieces, self.maybe_pieces, region, maybe_cells)
+        Puzzle::from_parts(
+            self.pieces,
+            self.maybe_pieces,
+            region,
+            maybe_cells,
+            self.any_pieces,
+            self.mirrored,
+            self.equal,
+        )
     }
 
     /// The puzzle of a whole text.
@@ -306,9 +471,20 @@ impl ByLine for Draft {
     }
 }
 
-/// Whether each piece is one of these names.
-fn are_all_named(pieces: &IndexMap<PieceName, Shape>, names: &[PieceName]) -> bool
-    ensures { result ≡ list_all (has_name names.now) (names_of pieces.now.entries) }
+/// Whether each piece has one of these names or of those.
+fn are_all_named(
+    pieces: &IndexMap<PieceName, Shape>,
+    names: &[PieceName],
+    others: &[PieceName],
+) -> bool
+    ensures { result ≡ list_all (has_name (names.now ++ others.now)) (names_of pieces.now.entries) }
 {
-    pieces.keys().all(|name| names.contains(name))
+    pieces.keys().all(|name| is_either(names, others, *name))
+}
+
+/// Whether the name is one of these or of those.
+fn is_either(names: &[PieceName], others: &[PieceName], name: PieceName) -> bool
+    ensures { result ≡ has_name (names.now ++ others.now) name }
+{
+    is_among(names, name) || is_among(others, name)
 }

@@ -10,18 +10,32 @@ pub enum Key {
     Cells,
     Cut,
     Maybe,
+    Any,
+    Mirror,
+    Copies,
 }
 
 /// What a line with this first word says.
 pub fn key_of(word: &[u8]) -> Option<Key>
     ensures { result ≡ key_from word.now }
 {
-    match word {
-        b"piece" => Some(Key::Piece),
-        b"box" => Some(Key::Box),
-        b"cells" => Some(Key::Cells),
-        b"cut" => Some(Key::Cut),
-        b"maybe" => Some(Key::Maybe),
-        _ => None,
+    if word == b"piece".as_slice() {
+        Some(Key::Piece)
+    } else if word == b"box".as_slice() {
+        Some(Key::Box)
+    } else if word == b"cells".as_slice() {
+        Some(Key::Cells)
+    } else if word == b"cut".as_slice() {
+        Some(Key::Cut)
+    } else if word == b"maybe".as_slice() {
+        Some(Key::Maybe)
+    } else if word == b"any".as_slice() {
+        Some(Key::Any)
+    } else if word == b"mirror".as_slice() {
+        Some(Key::Mirror)
+    } else if word == b"copies".as_slice() {
+        Some(Key::Copies)
+    } else {
+        None
     }
 }

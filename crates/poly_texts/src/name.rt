@@ -1,7 +1,8 @@
 //! The names of pieces.
-ghost use Rattle.std.specs.Prelude.{◌≡◌, true};
+ghost use Rattle.std.specs.Prelude.{◌≡◌, true, IfOk, option_map};
 ghost use Rattle.poly_texts.specs.Words as words;
 
+use std::alloc::{AllocError, Global};
 use std::marker::Model;
 
 /// The name of a piece: one of `0-9A-Za-z`. Contracts see its code.
@@ -31,14 +32,25 @@ fn is_name(symbol: u8) -> bool
 }
 
 impl PieceName {
-    /// The name that a word is.
-    pub(crate) fn of(word: &[u8]) -> Option<PieceName>
-        ensures { result ≡ words.piece_name word.now }
+    /// The names that a word is: two or more of them, or else one alone.
+    pub(crate) fn all_of(
+        alloc: Global,
+        are_several: bool,
+        word: &[u8],
+    ) -> Result<Option<Vec<PieceName>>, AllocError>
+        ensures { IfOk result (λ found. option_map (λ names. names.items) found ≡ words.word_names are_several word.now) }
     {
-        match word {
-            [symbol] if is_name(*symbol) => Some(PieceName { symbol: *symbol }),
-            _ => None,
+        if !are_so_many(are_several, word.len()) {
+            return Ok(None);
         }
+        let mut names = Vec::with_capacity(alloc, word.len())?;
+        for symbol in word {
+            if !is_name(*symbol) {
+                return Ok(None);
+            }
+            names.push(PieceName { symbol: *symbol })?;
+        }
+        Ok(Some(names))
     }
 
     /// The letter or digit.
@@ -48,4 +60,11 @@ impl PieceName {
     {
         self.symbol
     }
+}
+
+/// Whether that many are two or more, or else one alone.
+fn are_so_many(are_several: bool, count: usize) -> bool
+    ensures { result ≡ words.are_so_many are_several count }
+{
+    if are_several { count > 1 } else { count == 1 }
 }

@@ -1,5 +1,8 @@
-use Rattle.std.proofs.Common.{ap, ◌+◌, arith, length, map, vec_items}
+use Rattle.std.proofs.Common.{◌∙◌, sym, subst, ap, ◌+◌, arith, length, map, vec_items}
 use Rattle.std.specs.String.{string_bytes}
+use Rattle.poly_texts.specs.Puzzle.{PuzzleValue, IsPuzzle}
+use Rattle.poly_place.specs.Packings.{choices, option_of, needed_things}
+use Rattle.poly_place.specs.Compiled.{needed_names}
 use Rattle.poly_place.proofs.CountLemmas.{are_few, needed_count}
 use Rattle.poly_place.proofs.CompiledLemmas.{AreParts, parts_make, not_faulty}
 use Rattle.poly_place.proofs.compiled.problem_of.Goals as goal
@@ -14,7 +17,7 @@ parts c = record {
       let a = ap length c.requires.pieces in
       let b = ap length c.requires.cells in
       omega arith;
-  options_are = c.in_ok-options.ensures;
+  options_are = c.in_ok-options.ensures ∙ ap (λ (p : PuzzleValue). map (option_of p) (choices p)) c.requires.numbers;
 }
 
 pub overflow_cast-primary : goal.overflow_cast-primary
@@ -34,3 +37,20 @@ pub unreachable-requires : goal.unreachable-requires
 unreachable-requires c =
     let m = parts_make c.args.puzzle.now c.requires.puzzle _ _ _ (parts (goal.at.unreachable-requires c).After-new) c.requires.small in
     not_faulty _ c.in-Fault.field-0 _ _ m c.in-Fault.is c.in-Err.ensures.refused
+
+pub all_options-requires-clause-puzzle : goal.all_options-requires-clause-puzzle
+all_options-requires-clause-puzzle c = subst IsPuzzle (sym c.requires.numbers) c.requires.puzzle
+
+pub all_options-requires-clause-needed : goal.all_options-requires-clause-needed
+all_options-requires-clause-needed c = c.requires.pieces ∙ ap needed_names (sym c.requires.numbers)
+
+pub all_options-requires-clause-primary : goal.all_options-requires-clause-primary
+all_options-requires-clause-primary c =
+    let count = needed_count c.args.puzzle.now in
+    let a = ap length c.requires.pieces in
+    let b = ap length c.requires.cells in
+    let same = ap (λ (p : PuzzleValue). length (needed_things p)) c.requires.numbers in
+    omega arith
+
+pub all_options-requires-clause-list : goal.all_options-requires-clause-list
+all_options-requires-clause-list c = c.requires.list ∙ ap choices (sym c.requires.numbers)

@@ -1,5 +1,5 @@
 use Rattle.std.proofs.Common.{◌∷◌, map, ap, ◌∙◌, take_all}
-use Rattle.poly_place.specs.Forms.{place_in}
+use Rattle.poly_place.specs.Chosen.{place_in}
 use Rattle.poly_place.proofs.FormLemmas.{form_is}
 use Rattle.poly_place.proofs.forms.first_form.Goals as goal
 

@@ -1,5 +1,5 @@
 use Rattle.std.proofs.Common.{◌≡◌, ◌∷◌, map, take}
-use Rattle.poly_place.specs.Forms.{place_in}
+use Rattle.poly_place.specs.Chosen.{place_in}
 use Rattle.poly_place.proofs.forms.first_form.Given as goal
 
 -- the form so far

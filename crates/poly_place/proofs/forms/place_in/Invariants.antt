@@ -1,5 +1,5 @@
 use Rattle.std.proofs.Common.{◌≡◌, ◌+◌, drop}
-use Rattle.poly_place.specs.Forms.{place_in}
+use Rattle.poly_place.specs.Chosen.{place_in}
 use Rattle.poly_place.proofs.forms.place_in.Given as goal
 
 -- none of the numbers so far is the one

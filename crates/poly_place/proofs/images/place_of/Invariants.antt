@@ -1,5 +1,5 @@
 use Rattle.std.proofs.Common.{◌≡◌, ◌+◌, drop}
-use Rattle.poly_place.specs.Forms.{place_of}
+use Rattle.poly_place.specs.Packings.{place_of}
 use Rattle.poly_place.proofs.images.place_of.Given as goal
 
 -- none of the cells so far is the one

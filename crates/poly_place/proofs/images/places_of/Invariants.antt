@@ -1,5 +1,5 @@
 use Rattle.std.proofs.Common.{◌≡◌, map, take}
-use Rattle.poly_place.specs.Forms.{place_of}
+use Rattle.poly_place.specs.Packings.{place_of}
 use Rattle.poly_place.proofs.images.places_of.Given as goal
 
 -- the places so far

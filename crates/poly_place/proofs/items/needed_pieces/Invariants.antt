@@ -1,6 +1,5 @@
 use Rattle.std.proofs.Common.{◌≡◌, filter, take}
-use Rattle.poly_texts.specs.Puzzle.{names_of}
-use Rattle.poly_place.specs.Packings.{is_needed}
+use Rattle.poly_texts.specs.Puzzle.{names_of, is_needed}
 use Rattle.poly_place.proofs.items.needed_pieces.Given as goal
 
 -- the required pieces so far

@@ -30,7 +30,7 @@ returns-then-place-needed c =
 
 pub returns-else-place-needed : goal.returns-else-place-needed
 returns-else-place-needed c =
-    let item = maybe_item c.args.puzzle.now c.args.name c.index_among-place.result c.index_among.result c.requires.member
+    let item = maybe_item c.args.puzzle.now c.args.name c.index_among-place.result c.index_among.result c.requires.member c.requires.single
     (c.index_among-place.ensures.value ∙ ap (λ (ns : List ℕ). index_among (a_piece c.args.name) (map a_piece ns)) c.requires.needed)
     (subst (λ (ns : List ℕ). length ns ≤ c.index_among-place.result) c.requires.needed c.if-place-needed.false)
     (c.index_among.ensures.value ∙ ap (λ (ns : List ℕ). index_among (a_piece c.args.name) (map a_piece ns)) c.maybe_pieces.ensures) in

@@ -1,9 +1,9 @@
 use Rattle.std.proofs.Common.{◌≡◌, ℕ, List, map, ap₂, sym, subst, ◌∙◌}
 use Rattle.cover_problem.specs.Lists.{has}
 use Rattle.poly_place.specs.Packings.{ChoiceValue, IsPacking, StandsFor}
-use Rattle.poly_place.specs.Chosen.{AreInPieceOrder, choice_numbered, chosen_by, is_among}
+use Rattle.poly_place.specs.Chosen.{AreInPieceOrder, ComeByPiece, choice_numbered, chosen_by, is_among}
 use Rattle.poly_place.proofs.ChosenLemmas.{numbered, cover_stands, cover_packs}
-use Rattle.poly_place.proofs.PieceOrderLemmas.{placed_in_order}
+use Rattle.poly_place.proofs.PieceOrderLemmas.{placed_by_piece, placed_in_order}
 use Rattle.poly_place.proofs.packing.packing_of.Goals as goal
 use Rattle.poly_place.proofs.packing.packing_of.Goals.{In_ok-placements}
 
@@ -28,5 +28,11 @@ returns-clause-stands c =
 
 pub returns-clause-order : goal.returns-clause-order
 returns-clause-order c =
+    λ none.
     subst (λ (cs : List ChoiceValue). AreInPieceOrder c.args.compiled.now cs) (sym (here (goal.at.returns-clause-order c).In_ok-placements))
-    (placed_in_order c.args.compiled.now c.choices.ensures.puzzle c.args.path.now c.requires)
+    (placed_in_order c.args.compiled.now c.choices.ensures.puzzle c.args.path.now c.requires none)
+
+pub returns-clause-by_piece : goal.returns-clause-by_piece
+returns-clause-by_piece c =
+    subst (λ (cs : List ChoiceValue). ComeByPiece c.args.compiled.now cs) (sym (here (goal.at.returns-clause-by_piece c).In_ok-placements))
+    (placed_by_piece c.args.compiled.now c.choices.ensures.puzzle c.args.path.now c.requires)

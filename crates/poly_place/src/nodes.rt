@@ -1,0 +1,146 @@
+//! The nodes of a tree that a leaf reaches, as numbers of items.
+ghost use Rattle.std.specs.Prelude.{◌≡◌, ◌+◌, ◌<◌, ◌≤◌, ◌^◌, map};
+ghost use Rattle.std.specs.List.{flat_map};
+ghost use Rattle.cover_problem.specs.Answers.{Adds, ReturnsItems};
+ghost use Rattle.poly_place.specs.Answers.{lists_of};
+ghost use Rattle.poly_place.specs.Packings.{levels_for, neighbours};
+ghost use Rattle.poly_place.specs.Turns.{from_right, from_left};
+ghost use Rattle.poly_place.specs.Compiled.{numbers_if, pair_items};
+
+use poly_texts::PieceName;
+use std::alloc::{AllocError, Global};
+
+/// Each two equal pieces of which the second one follows the first.
+pub fn pairs_of(
+    alloc: Global,
+    groups: &[Vec<PieceName>],
+) -> Result<Vec<(PieceName, PieceName)>, AllocError>
+    ensures { ReturnsItems result (flat_map neighbours (lists_of groups.now)) }
+{
+    let mut pairs = Vec::new(alloc);
+    for group in groups {
+        add_neighbours(&mut pairs, group.as_slice())?;
+    }
+    Ok(pairs)
+}
+
+/// Adds each name with the one after it.
+fn add_neighbours(
+    pairs: &mut Vec<(PieceName, PieceName)>,
+    names: &[PieceName],
+) -> Result<(), AllocError>
+    ensures { Adds result pairs.old pairs.new (neighbours names.now) }
+{
+    for k in 1..names.len() {
+        pairs.push((names[k - 1], names[k]))?;
+    }
+    Ok(())
+}
+
+/// The levels of a tree with a leaf for each of so many cells, 12 at most, and how many leaves it has.
+pub fn tree_for(cells: usize) -> (u32, u32)
+    ensures levels { result.0 ≡ levels_for cells }
+    ensures leaves { result.1 ≡ 2 ^ levels_for cells }
+{
+    let mut leaves = 1u32;
+    for level in 0..12u32 {
+        if cells <= leaves as usize {
+            return (level, leaves);
+        }
+        leaves *= 2;
+    }
+    (12, leaves)
+}
+
+/// Adds the items of the nodes of a pair's tree that a leaf reaches, from the right where the name is the first, and from the left
+/// where it is the second. The item of node h is numbered h more than `before`.
+pub fn push_pair(
+    items: &mut Vec<u32>,
+    name: PieceName,
+    pair: (PieceName, PieceName),
+    before: u32,
+    levels: u32,
+    leaf: u32,
+) -> Result<(), AllocError>
+    requires { before + leaf < 2 ^ 32 }
+    ensures { Adds result items.old items.new (pair_items name pair before levels leaf) }
+{
+    push_first(items, name == pair.0, before, levels, leaf)?;
+    push_second(items, name == pair.1, before, levels, leaf)?;
+    Ok(())
+}
+
+/// Adds the items of the nodes that are reached from the right, if they are to be there.
+fn push_first(
+    items: &mut Vec<u32>,
+    there: bool,
+    before: u32,
+    levels: u32,
+    leaf: u32,
+) -> Result<(), AllocError>
+    requires { before + leaf < 2 ^ 32 }
+    ensures { Adds result items.old items.new (numbers_if there (map (λ h. before + h) (from_right levels leaf))) }
+{
+    if there {
+        push_from_right(items, before, levels, leaf)?;
+    }
+    Ok(())
+}
+
+/// Adds the items of the nodes that are reached from the left, if they are to be there.
+fn push_second(
+    items: &mut Vec<u32>,
+    there: bool,
+    before: u32,
+    levels: u32,
+    leaf: u32,
+) -> Result<(), AllocError>
+    requires { before + leaf < 2 ^ 32 }
+    ensures { Adds result items.old items.new (numbers_if there (map (λ h. before + h) (from_left levels leaf))) }
+{
+    if there {
+        push_from_left(items, before, levels, leaf)?;
+    }
+    Ok(())
+}
+
+/// Adds the items of the nodes of so many levels above a leaf that are reached from the right. The item of node h is numbered
+/// h more than `before`.
+fn push_from_right(
+    items: &mut Vec<u32>,
+    before: u32,
+    levels: u32,
+    leaf: u32,
+) -> Result<(), AllocError>
+    requires { before + leaf < 2 ^ 32 }
+    ensures { Adds result items.old items.new (map (λ h. before + h) (from_right levels leaf)) }
+{
+    let mut node = leaf;
+    for _level in 0..levels {
+        if node % 2 == 1 {
+            items.push(before + node / 2)?;
+        }
+        node /= 2;
+    }
+    Ok(())
+}
+
+/// Adds those that are reached from the left.
+fn push_from_left(
+    items: &mut Vec<u32>,
+    before: u32,
+    levels: u32,
+    leaf: u32,
+) -> Result<(), AllocError>
+    requires { before + leaf < 2 ^ 32 }
+    ensures { Adds result items.old items.new (map (λ h. before + h) (from_left levels leaf)) }
+{
+    let mut node = leaf;
+    for _level in 0..levels {
+        if node % 2 == 0 {
+            items.push(before + node / 2)?;
+        }
+        node /= 2;
+    }
+    Ok(())
+}

@@ -1,0 +1,247 @@
+//! Drawn puzzles with equal pieces, pieces used any number of times and pieces that may be reflected. How many packings each has was
+//! counted by a program of another language, which takes sets of placements that meet nowhere and knows no exact covers.
+use cover_problem::Problem;
+use poly_place::{Compiled, compile};
+use poly_texts::{Puzzle, read_puzzle};
+use std::alloc::{AllocError, Global};
+use std::process::Abort;
+use std::test::Fail;
+
+/// The items of an option, or of a problem, as bits.
+fn bits_of(items: &[u32]) -> u64 {
+    items.iter().fold(
+        0,
+        |bits, item| bits | 1u64.wrapping_shl(item.wrapping_sub(1)),
+    )
+}
+
+/// The options of a problem, as bits.
+fn options_of(alloc: Global, problem: &Problem) -> Result<Vec<u64>, AllocError> {
+    let mut options = Vec::new(alloc);
+    for k in 0..problem.options() {
+        options.push(bits_of(problem.option(k + 1)))?;
+    }
+    Ok(options)
+}
+
+/// How many exact covers there are where these items are taken, of so many options at most.
+fn covers(options: &[u64], primary: u64, taken: u64, most: u32) -> u64 {
+    let missing = primary & !taken;
+    if missing == 0 {
+        return 1;
+    }
+    if most == 0 {
+        return 0;
+    }
+    let first = missing & missing.wrapping_neg();
+    let mut count = 0u64;
+    for option in options {
+        if option & first != 0 && option & taken == 0 {
+            count = count.wrapping_add(covers(options, primary, taken | option, most - 1));
+        }
+    }
+    count
+}
+
+/// How many exact covers the problem of a puzzle has.
+fn covers_of(alloc: Global, compiled: &Compiled<'_>) -> Result<u64, AllocError> {
+    let problem = compiled.problem();
+    let options = options_of(alloc, problem)?;
+    let primary = 1u64.wrapping_shl(problem.primary()).wrapping_sub(1);
+    Ok(covers(options.as_slice(), primary, 0, 64))
+}
+
+/// The same of a puzzle.
+fn packings_of(alloc: Global, puzzle: &Puzzle) -> Result<u64, Fail> {
+    let compiled = compile(alloc, puzzle)?;
+    Ok(covers_of(alloc, &compiled)?)
+}
+
+/// The same of the puzzle of a text.
+fn packings(alloc: Global, text: &[u8]) -> Result<u64, Fail> {
+    let puzzle = read_puzzle(alloc, text)?;
+    packings_of(alloc, &puzzle)
+}
+
+/// Tells the first row whose text has another number of packings.
+fn assert_counts(rt: &impl Abort, alloc: Global, rows: &[(&[u8], u64)]) -> Result<(), Fail> {
+    for (text, count) in rows {
+        assert_eq!(rt; packings(alloc, text)?, *count);
+    }
+    Ok(())
+}
+
+static DRAWN: [(&[u8], u64); 40] = [
+    (
+        b"maybe piece F 000\npiece a 000 100 200\nmaybe cells 001 200 211\nany piece E 000 100 200 010\nbox 3 2 2",
+        8,
+    ),
+    (
+        b"any piece F 000 100 200\nbox 3 3 1\nmaybe piece b 000 100 200\nmaybe cells 000",
+        8,
+    ),
+    (
+        b"any piece j 000 100\nmirror copies fF 000 100 010 011\npiece A 000 100 010\nbox 2 2 2\nmaybe mirror piece H 000 100 010",
+        0,
+    ),
+    (b"mirror copies jACG 000 100 200\nbox 2 3 2", 1),
+    (
+        b"box 4 2 1\ncopies bEAc 000 100 200\ncut 000\ncopies Gg 000 100 200 010",
+        0,
+    ),
+    (
+        b"maybe piece B 000 100 200 010\npiece H 000 100 200 010\ncut 210\nbox 4 2 1\ncopies biC 000 100 200 010\nmaybe cells 110\nany piece e 000 100 010",
+        0,
+    ),
+    (
+        b"mirror copies hi 000 100 010\nany mirror piece E 000 100 010 011\npiece j 000 100 200\ncut 100\nmaybe cells 010 110 210\nbox 3 2 1",
+        0,
+    ),
+    (
+        b"cut 011\nany piece F 000 100\nany piece I 000 100 010\nmaybe cells 000 010 200\nbox 3 2 2\nmirror piece D 000 100 200 010",
+        78,
+    ),
+    (
+        b"any piece f 000 100 010 011\nmirror piece a 000 100 200 010\nbox 3 2 2\nmirror copies cC 000 100 010 011\nmaybe piece I 000 100 200 010",
+        16,
+    ),
+    (
+        b"piece H 000 100 010\nmaybe cells 010 110\nbox 3 3 1\ncopies Gjef 000",
+        2,
+    ),
+    (
+        b"piece E 000 100\npiece A 000\nbox 4 2 1\nany mirror piece d 000 100\nany piece B 000 100 200 010\nmaybe cells 110 310",
+        49,
+    ),
+    (
+        b"maybe cells 010 110\nmaybe mirror piece H 000 100 200\nbox 3 3 1\ncopies db 000 100",
+        3,
+    ),
+    (
+        b"maybe piece d 000 100 200 010\nbox 4 2 1\ncopies CB 000 100 200 010",
+        2,
+    ),
+    (
+        b"maybe cells 100 101 211\nbox 3 2 2\nany piece D 000 100 010 011\ncut 100\nmirror copies Fh 000\nmirror piece G 000 100 010\ncopies eH 000 100 200",
+        4,
+    ),
+    (
+        b"mirror piece c 000 100\nmaybe cells 010 011\nany mirror piece C 000\nbox 2 2 2",
+        12,
+    ),
+    (
+        b"cut 000\nany piece g 000 100\nbox 3 3 1\nany mirror piece H 000 100 010 011\ncopies EJd 000 100",
+        16,
+    ),
+    (
+        b"copies GJag 000\nbox 4 2 1\nany mirror piece i 000\npiece D 000\nany piece E 000 100",
+        580,
+    ),
+    (
+        b"any piece g 000 100 200 010\nmirror piece C 000 100 200\nbox 3 3 1\ncut 100\nmaybe cells 100 110 210",
+        2,
+    ),
+    (b"any piece J 000\nbox 2 2 2\ncopies aAG 000", 56),
+    (
+        b"maybe mirror piece a 000 100\ncopies fD 000 100\ncopies jBC 000\npiece e 000 100 200\nbox 3 2 2",
+        672,
+    ),
+    (
+        b"maybe piece J 000\nmaybe mirror piece B 000 100 200\nmaybe cells 001 010 101\nbox 2 3 2\nany mirror piece b 000 100 010 011\ncut 010\nmirror copies djIH 000 100",
+        16,
+    ),
+    (
+        b"any mirror piece C 000\nmaybe cells 010 300 310\ncut 010\nany mirror piece A 000 100 010 011\nbox 4 2 1\nmirror piece D 000 100 010",
+        9,
+    ),
+    (
+        b"any piece H 000 100\nbox 2 3 2\nmirror piece B 000 100 200\nmaybe piece h 000\nmaybe mirror piece F 000 100 200",
+        96,
+    ),
+    (
+        b"any mirror piece b 000 100 010 011\nany mirror piece j 000\nbox 4 2 1\nany piece G 000 100 010 011",
+        1,
+    ),
+    (
+        b"copies AeH 000 100\nmaybe cells 101\nany mirror piece c 000 100 200\nany piece b 000 100\nbox 2 2 2\nany piece i 000 100 010 011",
+        36,
+    ),
+    (
+        b"any piece g 000 100 010 011\nany piece d 000 100 010\nbox 3 2 1\nmaybe cells 000\nany piece a 000\ncut 000",
+        6,
+    ),
+    (
+        b"maybe mirror piece g 000 100 200\nbox 3 3 1\nmirror copies DH 000 100 010\nany piece b 000",
+        30,
+    ),
+    (b"box 3 3 1\nany piece E 000\ncopies AjJh 000 100", 18),
+    (
+        b"box 4 2 1\nmirror copies iADf 000 100\nmaybe cells 000 010\nmaybe piece C 000 100 200 010",
+        5,
+    ),
+    (
+        b"any mirror piece d 000 100 200\nmaybe piece j 000 100 010 011\nmirror copies IJ 000 100 200\nmaybe cells 001\nbox 2 3 2\nany piece c 000 100 010 011",
+        6,
+    ),
+    (
+        b"any piece I 000 100 010\nbox 3 2 1\nmirror copies dH 000 100\nmirror piece e 000 100",
+        9,
+    ),
+    (
+        b"any piece I 000 100 010 011\nbox 3 2 2\ncopies DGe 000\nmaybe piece d 000\nmaybe cells 101 110",
+        208,
+    ),
+    (
+        b"box 3 2 2\nmirror piece C 000 100 010\ncopies IE 000 100 010\nmaybe cells 000\nany piece G 000 100 200 010\nmaybe piece g 000 100",
+        228,
+    ),
+    (
+        b"box 2 3 2\nmirror piece A 000 100\nmaybe cells 000 001 011\ncopies IE 000 100 200\nany piece b 000 100 200\nmirror piece g 000 100 200 010",
+        16,
+    ),
+    (
+        b"copies Gj 000\nany piece i 000 100 010 011\nbox 2 2 2\ncut 111\nmaybe cells 100 101",
+        5,
+    ),
+    (
+        b"copies gcJ 000 100 010\nany mirror piece C 000 100 200 010\nbox 3 2 2\nany mirror piece h 000\npiece d 000 100 200",
+        20,
+    ),
+    (
+        b"box 3 2 1\nmaybe cells 010\nmirror copies Bd 000\nmirror piece I 000 100 200",
+        1,
+    ),
+    (
+        b"maybe piece h 000\nmirror copies bj 000\nany mirror piece E 000 100 010\nmaybe cells 210\nmirror copies IfC 000\nbox 3 2 1",
+        60,
+    ),
+    (
+        b"any mirror piece e 000 100 010 011\nmaybe cells 001 010\nany piece C 000 100 200\ncopies Jj 000 100\nbox 2 3 2",
+        128,
+    ),
+    (
+        b"box 3 2 2\nany piece A 000\ncut 111\nmaybe mirror piece G 000 100 010 011\nmirror copies bc 000 100 200 010\nmaybe cells 101 200",
+        20,
+    ),
+];
+
+#[test]
+fn drawn_puzzles_have_their_packings(rt: HostRuntime) -> Result<(), Fail> {
+    assert_counts(&rt, rt.alloc(), &DRAWN)
+}
+
+static WORKED: [(&[u8], u64); 6] = [
+    // dominoes in 4 x 2 and 4 x 4: numbers of the literature
+    (b"any piece A 000 100\nbox 4 2 1", 5),
+    (b"any piece A 000 100\nbox 4 4 1", 36),
+    // two screws of one kind fill a box in six ways, and with their mirror images in twelve
+    (b"copies AB 000 100 010 011\nbox 2 2 2", 6),
+    (b"mirror copies AB 000 100 010 011\nbox 2 2 2", 12),
+    (b"any piece A 000 100 010 011\nbox 2 2 2", 6),
+    (b"any mirror piece A 000 100 010 011\nbox 2 2 2", 12),
+];
+
+#[test]
+fn worked_puzzles_have_their_packings(rt: HostRuntime) -> Result<(), Fail> {
+    assert_counts(&rt, rt.alloc(), &WORKED)
+}

@@ -1,18 +1,21 @@
 -- What a seat notes of its calls: a note (`noted`), and the one that a row of numbers tells (`note_of`); a seat and its notes (`SeatValue`,
--- `SheetValue`); the notes that a history has for a worker (`notes_of`); and that one call more is noted (`Notes`, `NotesRefusal`).
+-- `SheetValue`); the notes that a history has for a worker (`notes_of`); and that one call more is noted (`Notes`, `NotesRefusal`),
+-- at the index that its entry has in the history.
 --
 -- Example: worker 0 leases, then worker 1, for whom none waits, and then worker 0 parks: the notes of worker 0 are the entries 0 and 2. The
 -- numbers 1 1 1 1 tell the note of entry 1. proofs/DeskExamples.antt computes it.
 use Rattle.std.specs.Prelude.{◌≡◌, ℕ, ◌+◌, ◌-◌, ◌==◌, ◌⊎◌, List, [], ◌∷◌, ◌++◌, cond, drop, map, slice_index, slice_get, option_map}
-use Rattle.std.specs.Prelude.{Option, MatchOption, Result, IfOk, IfErr, OnOk}
+use Rattle.std.specs.Prelude.{Option, Some, MatchOption, Result, IfOk, IfErr, OnOk}
+use Rattle.std.specs.List.{All}
 use Rattle.cover_problem.specs.Problem.{ProblemValue}
 use Rattle.cover_problem.specs.declared.fault.Refused.{Refused}
 use Rattle.x_branches.specs.Cut.{CutPath}
 use Rattle.x_branches.specs.Stretch.{StretchValue}
-use Rattle.lab_book.specs.EntryCode.{entry_of}
-use Rattle.lab_book.specs.Calls.{post_of, split_of, posted_reply}
+use Rattle.lab_book.specs.EntryCode.{entry_of, entry_code}
+use Rattle.lab_book.specs.Calls.{post_of, split_of, posted_reply, leased_reply}
 use Rattle.lab_book.specs.declared.lease.Grant.{Grant}
 use Rattle.lab_book.specs.declared.lease.Posted.{Posted}
+use Rattle.lab_book.specs.declared.lease.Leased.{Leased}
 use Rattle.lab_book.specs.declared.entry.Call.{Call}
 use Rattle.lab_book.specs.declared.entry.Call.TheVariants as call
 use Rattle.lab_book.specs.declared.entry.Reply.{Reply}
@@ -29,6 +32,18 @@ noted i e = record { index = i; entry = e }
 -- the note that a row of numbers tells: its first number is the index, the others tell the entry
 abbrev pub note_of : List ℕ → Noted
 note_of ns = noted (slice_index ns 0) (entry_of (drop 1 ns))
+
+-- the numbers of a note
+abbrev pub note_code : Noted → List ℕ
+note_code n = n.index ∷ entry_code n.entry
+
+-- the numbers of a row are those of the note that they tell: it is written in this way alone
+abbrev pub IsNoteCode : List ℕ → Type 0
+IsNoteCode ns = ns ≡ note_code (note_of ns)
+
+-- each packed row is that of a note
+abbrev pub AreNoteCodes : List (List ℕ) → Type 0
+AreNoteCodes rows = All IsNoteCode rows
 
 -- all notes: those that are packed into rows, and then the last ones
 abbrev pub all_notes : List (List ℕ) → List Noted → List Noted
@@ -53,6 +68,10 @@ with_note n note = record { list = n.list ++ note ∷ []; kept = n.kept - 1 }
 -- a note of the entry with an index joins the notes
 abbrev pub AddsNote : SheetValue → SheetValue → ℕ → Entry → Type 0
 AddsNote old new i e = new.list ≡ old.list ++ noted i e ∷ []
+
+-- a note is of the entry with an index in a history
+abbrev pub IsNoteOf : Noted → List Entry → ℕ → Type 0
+IsNoteOf note history i = Some note ≡ option_map (noted i) (slice_get history i)
 
 -- the note at a place is of the entry with an index in a history
 abbrev pub TellsEntry : List Noted → ℕ → List Entry → ℕ → Type 0
@@ -79,13 +98,17 @@ notes_of k i (e ∷ es) = cond (e.worker == k) (noted i e ∷ []) [] ++ notes_of
 abbrev pub notes_from : ℕ → ℕ → List Entry → List Noted
 notes_from k from history = notes_of k from (drop from history)
 
--- one call more of a worker is noted, with what it was answered
-abbrev pub Notes : List Noted → List Noted → ℕ → Call → Reply → Type 0
-Notes old new w c r = (i : ℕ) × (new ≡ old ++ noted i (entry w c r) ∷ [])
+-- one call more of a worker is noted, at the index that its entry has, with what it was answered
+abbrev pub Notes : ℕ → List Noted → List Noted → ℕ → Call → Reply → Type 0
+Notes i old new w c r = new ≡ old ++ noted i (entry w c r) ∷ []
 
 -- the same where it was refused; when out of memory, nothing is noted
-abbrev pub NotesRefusal : List Noted → List Noted → ℕ → Call → BookFault → Type 0
-NotesRefusal old new w c f = ((f ≡ OutOfMemory) × (new ≡ old)) ⊎ ((f ≡ OutOfMemory → ⊥) × Notes old new w c (reply.Refused f))
+abbrev pub NotesRefusal : ℕ → List Noted → List Noted → ℕ → Call → BookFault → Type 0
+NotesRefusal i old new w c f = ((f ≡ OutOfMemory) × (new ≡ old)) ⊎ ((f ≡ OutOfMemory → ⊥) × Notes i old new w c (reply.Refused f))
+
+-- at some index: that of the entry, in a history that stands under a lock
+abbrev pub AtSomeIndex : (ℕ → Type 0) → Type 0
+AtSomeIndex P = (i : ℕ) × P i
 
 -- a refusal has an entry in the history: any has but that memory ran out
 abbrev pub HasEntry : BookFault → Type 0
@@ -93,44 +116,54 @@ HasEntry f = f ≡ OutOfMemory → ⊥
 
 -- ---- what is noted at a seat, by what a call returned
 
--- a call that was answered is noted, with the reply that shows the answer
-abbrev pub NotesAnswer : {X E : Type 0} → SeatValue → SeatValue → Call → (X → Reply) → Result X E → Type 0
-NotesAnswer old new c view result = IfOk result (λ x. Notes old.notes new.notes old.number c (view x))
+-- a call that was answered is noted at an index, with the reply that shows the answer
+abbrev pub NotesAnswer : {X E : Type 0} → ℕ → SeatValue → SeatValue → Call → (X → Reply) → Result X E → Type 0
+NotesAnswer i old new c view result = IfOk result (λ x. Notes i old.notes new.notes old.number c (view x))
+
+-- a call that leased a tile is noted at the index of the entry that gave the lease
+abbrev pub NotesLease : {E : Type 0} → SeatValue → SeatValue → Call → Result Leased E → Type 0
+NotesLease old new c result = IfOk result (λ r. Notes r.lease.index old.notes new.notes old.number c (leased_reply r))
+
+-- the same of a call that leases any tile; where none waits, it is noted too
+abbrev pub NotesAnyLease : {E : Type 0} → SeatValue → SeatValue → Result (Option Leased) E → Type 0
+NotesAnyLease old new result = IfOk result (λ r. MatchOption r
+    (AtSomeIndex (λ i. Notes i old.notes new.notes old.number call.LeaseAny reply.NoneWaits))
+    (λ l. Notes l.lease.index old.notes new.notes old.number call.LeaseAny (leased_reply l)))
 
 -- a call that had nothing to answer is noted as done
-abbrev pub NotesDone : {X E : Type 0} → SeatValue → SeatValue → Call → Result X E → Type 0
-NotesDone old new c result = OnOk result (Notes old.notes new.notes old.number c reply.Done)
+abbrev pub NotesDone : {X E : Type 0} → ℕ → SeatValue → SeatValue → Call → Result X E → Type 0
+NotesDone i old new c result = OnOk result (Notes i old.notes new.notes old.number c reply.Done)
 
 -- a call that was refused is noted with its fault, unless memory ran out
-abbrev pub NotesFault : {X : Type 0} → SeatValue → SeatValue → Call → Result X BookFault → Type 0
-NotesFault old new c result = IfErr result (λ f. NotesRefusal old.notes new.notes old.number c f)
+abbrev pub NotesFault : {X : Type 0} → ℕ → SeatValue → SeatValue → Call → Result X BookFault → Type 0
+NotesFault i old new c result = IfErr result (λ f. NotesRefusal i old.notes new.notes old.number c f)
 
 -- the same, where what the call was given comes back with the fault
-abbrev pub NotesRefused : {X G : Type 0} → SeatValue → SeatValue → Call → Result X (Refused BookFault G) → Type 0
-NotesRefused old new c result = IfErr result (λ r. NotesRefusal old.notes new.notes old.number c r.fault)
+abbrev pub NotesRefused : {X G : Type 0} → ℕ → SeatValue → SeatValue → Call → Result X (Refused BookFault G) → Type 0
+NotesRefused i old new c result = IfErr result (λ r. NotesRefusal i old.notes new.notes old.number c r.fault)
 
 -- a post of this stretch, by this lease, to a book of this problem is noted with its answer
-abbrev pub NotesPost : {E : Type 0} → ProblemValue → SeatValue → SeatValue → Grant → StretchValue → Result Posted E → Type 0
-NotesPost p old new g x result = NotesAnswer old new (post_of p g x) posted_reply result
+abbrev pub NotesPost : {E : Type 0} → ℕ → ProblemValue → SeatValue → SeatValue → Grant → StretchValue → Result Posted E → Type 0
+NotesPost i p old new g x result = NotesAnswer i old new (post_of p g x) posted_reply result
 
 -- where it was refused, it is noted with its fault
 abbrev pub NotesPostFault : {X G : Type 0}
-    → ProblemValue → SeatValue → SeatValue → Grant → StretchValue → Result X (Refused BookFault G) → Type 0
-NotesPostFault p old new g x result = NotesRefused old new (post_of p g x) result
+    → ℕ → ProblemValue → SeatValue → SeatValue → Grant → StretchValue → Result X (Refused BookFault G) → Type 0
+NotesPostFault i p old new g x result = NotesRefused i old new (post_of p g x) result
 
 -- a split at this cut is noted with the new tile's id
-abbrev pub NotesSplit : {E : Type 0} → ProblemValue → SeatValue → SeatValue → Grant → CutPath → Result ℕ E → Type 0
-NotesSplit p old new g cut result = NotesAnswer old new (split_of p g cut) reply.Split result
+abbrev pub NotesSplit : {E : Type 0} → ℕ → ProblemValue → SeatValue → SeatValue → Grant → CutPath → Result ℕ E → Type 0
+NotesSplit i p old new g cut result = NotesAnswer i old new (split_of p g cut) reply.Split result
 
 -- where it was refused, it is noted with its fault
 abbrev pub NotesSplitFault : {X G : Type 0}
-    → ProblemValue → SeatValue → SeatValue → Grant → CutPath → Result X (Refused BookFault G) → Type 0
-NotesSplitFault p old new g cut result = NotesRefused old new (split_of p g cut) result
+    → ℕ → ProblemValue → SeatValue → SeatValue → Grant → CutPath → Result X (Refused BookFault G) → Type 0
+NotesSplitFault i p old new g cut result = NotesRefused i old new (split_of p g cut) result
 
 -- a stretch that was taken out again, by this lease, is noted by its ends
-abbrev pub NotesRetract : {E : Type 0} → SeatValue → SeatValue → Grant → Result StretchValue E → Type 0
-NotesRetract old new g result =
-    NotesAnswer old new (call.Retract g) (λ (x : StretchValue). reply.Retracted x.from x.to) result
+abbrev pub NotesRetract : {E : Type 0} → ℕ → SeatValue → SeatValue → Grant → Result StretchValue E → Type 0
+NotesRetract i old new g result =
+    NotesAnswer i old new (call.Retract g) (λ (x : StretchValue). reply.Retracted x.from x.to) result
 
 -- room is kept for one note more where there is such a thing, and else for as many as before
 abbrev pub KeepsRoomFor : {A : Type 0} → Option A → SeatValue → SeatValue → Type 0

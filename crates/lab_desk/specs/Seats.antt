@@ -4,8 +4,12 @@
 --
 -- Example: the seats 1 and 0 have all numbers below 2. Entries of the workers 0 and 1 are of workers below 2, and not below 1.
 -- proofs/DeskExamples.antt computes it.
-use Rattle.std.specs.Prelude.{◌≡◌, ◌<◌, ◌==◌, ℕ, nat_lt, Bool, List, [], slice_get, count_by, drop, length, true, Some}
+use Rattle.std.specs.Prelude.{◌≡◌, ◌<◌, ◌==◌, ℕ, nat_lt, Bool, List, [], slice_get, count_by, take, drop, length, true, Some}
 use Rattle.std.specs.List.{list_all}
+use Rattle.cover_problem.specs.Problem.{ProblemValue}
+use Rattle.x_steps.specs.StateValue.{StateValue}
+use Rattle.x_branches.specs.declared.branch.Branch.{Branch}
+use Rattle.lab_book.specs.Book.{BookValue}
 use Rattle.lab_book.specs.declared.entry.Entry.{Entry}
 use Rattle.lab_desk.specs.Record.{SeatValue, notes_of}
 
@@ -45,6 +49,19 @@ are_of_workers n entries = list_all (λ (e : Entry). nat_lt e.worker n) entries
 abbrev pub AreOfWorkers : ℕ → ℕ → List Entry → Type 0
 AreOfWorkers from n history = are_of_workers n (drop from history) ≡ true
 
+-- these are all of so many seats, their notes are the entries of a history from an index on, and no other worker has an entry there
+pub record IsFinishedBy (n from : ℕ) (history : List Entry) (seats : List SeatValue) : Type 0 where
+  pub count : length seats ≡ n
+  pub numbers : HaveAllNumbers n seats
+  pub records : AreRecordsFrom from history seats
+  pub workers : AreOfWorkers from n history
+
 -- each entry of a history behind those that it begins with is of a worker who has one of n seats
 abbrev pub AreOfSeatsAfter : List Entry → ℕ → List Entry → Type 0
 AreOfSeatsAfter opening n history = AreOfWorkers (length opening) n history
+
+-- this is true of the book that stood under a desk's lock: one of the problem, the branch and the first mark that the desk knows, whose
+-- history begins with this one
+abbrev pub IsDeskBook : ProblemValue → Branch → StateValue → List Entry → (BookValue → Type 0) → Type 0
+IsDeskBook p branch first opening P =
+    (b : BookValue) × (b.problem ≡ p) × (b.branch ≡ branch) × (b.first ≡ first) × (take (length opening) b.history ≡ opening) × P b

@@ -1,13 +1,14 @@
 //! A desk: a book under one lock, which each worker calls from a seat of its own.
-ghost use Rattle.std.specs.Prelude.{◌≡◌, ◌<◌, ◌≤◌, ◌+◌, ◌-◌, [], IfOk, IfErr, OnErr, OnOk, IfSome, vec_len, vec_capacity, length, take, List};
+ghost use Rattle.std.specs.Prelude.{◌≡◌, ◌⊎◌, ◌<◌, ◌≤◌, ◌+◌, ◌-◌, true, [], IfOk, IfErr, OnErr, OnOk, IfSome, vec_len, vec_capacity, length, take, List};
 ghost use Rattle.cover_problem.specs.Problem.{ProblemValue};
 ghost use Rattle.x_steps.specs.StateValue.{StateValue};
 ghost use Rattle.x_branches.specs.declared.branch.Branch.{Branch};
 ghost use Rattle.lab_book.specs.declared.entry.Entry.{Entry};
 ghost use Rattle.lab_book.specs.declared.entry.Call.TheVariants as calls;
-ghost use Rattle.lab_book.specs.Calls.{leased_reply, any_reply, CanBeSearched, back_to};
-ghost use Rattle.lab_desk.specs.Record.{NotesAnswer, NotesDone, NotesFault, NotesRefused, NotesPost, NotesPostFault, NotesSplit, NotesSplitFault, NotesRetract, KeepsRoomFor};
-ghost use Rattle.lab_desk.specs.Seats.{AreNewSeats, HaveAllNumbers, AreRecordsAfter, AreOfSeatsAfter};
+ghost use Rattle.lab_book.specs.Calls.{CanBeSearched, back_to, is_current};
+ghost use Rattle.lab_desk.specs.Record.{NotesLease, NotesAnyLease, NotesDone, NotesFault, NotesRefused, NotesPost, NotesPostFault, NotesSplit, NotesSplitFault};
+ghost use Rattle.lab_desk.specs.Record.{NotesRetract, AtSomeIndex, KeepsRoomFor};
+ghost use Rattle.lab_desk.specs.Seats.{AreNewSeats, HaveAllNumbers, AreRecordsAfter, AreOfSeatsAfter, IsFinishedBy, IsDeskBook};
 
 use crate::finishing::tell_all;
 use crate::locked::Locked;
@@ -150,8 +151,8 @@ impl<'p, L: Desking> Desk<'p, L> {
         seat: &mut Seat<L>,
         id: u64,
     ) -> Result<Leased<'p>, BookFault>
-        ensures noted { NotesAnswer seat.old seat.new (calls.Lease id) leased_reply result }
-        ensures refused { NotesFault seat.old seat.new (calls.Lease id) result }
+        ensures noted { NotesLease seat.old seat.new (calls.Lease id) result }
+        ensures refused { AtSomeIndex (λ i. NotesFault i seat.old seat.new (calls.Lease id) result) }
         ensures can_start { IfOk result (CanBeSearched L.whole) }
         ensures worker { IfOk result (λ r. r.lease.worker ≡ seat.old.number) }
         ensures room { OnOk result (seat.new.kept ≡ seat.old.kept + 1) }
@@ -168,7 +169,7 @@ impl<'p, L: Desking> Desk<'p, L> {
         rt: &R,
         seat: &mut Seat<L>,
     ) -> Result<Option<Leased<'p>>, AllocError>
-        ensures noted { NotesAnswer seat.old seat.new calls.LeaseAny any_reply result }
+        ensures noted { NotesAnyLease seat.old seat.new result }
         ensures unchanged { OnErr result (seat.new.notes ≡ seat.old.notes) }
         ensures can_start { IfOk result (λ r. IfSome r (CanBeSearched L.whole)) }
         ensures worker { IfOk result (λ r. IfSome r (λ l. l.lease.worker ≡ seat.old.number)) }
@@ -191,8 +192,8 @@ impl<'p, L: Desking> Desk<'p, L> {
         stretch: Stretch<'p>,
     ) -> Result<Posted, Refused<BookFault, Stretch<'p>>>
         requires { lease.now.worker ≡ seat.old.number }
-        ensures noted { NotesPost L.whole seat.old seat.new lease.now stretch.entry result }
-        ensures refused { NotesPostFault L.whole seat.old seat.new lease.now stretch.entry result }
+        ensures noted { AtSomeIndex (λ i. NotesPost i L.whole seat.old seat.new lease.now stretch.entry result) }
+        ensures refused { AtSomeIndex (λ i. NotesPostFault i L.whole seat.old seat.new lease.now stretch.entry result) }
         ensures given_back { IfErr result (λ r. r.given ≡ stretch.entry) }
         ensures room { seat.new.kept ≡ seat.old.kept }
         ensures number { seat.new.number ≡ seat.old.number }
@@ -211,8 +212,8 @@ impl<'p, L: Desking> Desk<'p, L> {
         cut: Cut<'p>,
     ) -> Result<u64, Refused<BookFault, Cut<'p>>>
         requires { lease.now.worker ≡ seat.old.number }
-        ensures noted { NotesSplit L.whole seat.old seat.new lease.now cut.entry result }
-        ensures refused { NotesSplitFault L.whole seat.old seat.new lease.now cut.entry result }
+        ensures noted { AtSomeIndex (λ i. NotesSplit i L.whole seat.old seat.new lease.now cut.entry result) }
+        ensures refused { AtSomeIndex (λ i. NotesSplitFault i L.whole seat.old seat.new lease.now cut.entry result) }
         ensures given_back { IfErr result (λ r. r.given ≡ cut.entry) }
         ensures room { seat.new.kept ≡ seat.old.kept }
         ensures number { seat.new.number ≡ seat.old.number }
@@ -223,7 +224,8 @@ impl<'p, L: Desking> Desk<'p, L> {
         id
     }
 
-    /// Parks the tile that is leased, as the book does.
+    /// Parks the tile that is leased, as the book does. Takes no memory for the tile's current lease,
+    /// where its seat has room for its end.
     pub fn park<R: Wait>(
         &self,
         rt: &R,
@@ -231,9 +233,11 @@ impl<'p, L: Desking> Desk<'p, L> {
         lease: Lease,
     ) -> Result<(), Refused<BookFault, Lease>>
         requires { lease.worker ≡ seat.old.number }
-        ensures noted { NotesDone seat.old seat.new (calls.Park lease) result }
-        ensures refused { NotesRefused seat.old seat.new (calls.Park lease) result }
+        ensures noted { AtSomeIndex (λ i. NotesDone i seat.old seat.new (calls.Park lease) result) }
+        ensures refused { AtSomeIndex (λ i. NotesRefused i seat.old seat.new (calls.Park lease) result) }
         ensures given_back { IfErr result (λ r. r.given ≡ lease) }
+        ensures current { OnErr result (IsDeskBook L.whole L.part L.begin L.opening (λ b.
+            is_current b.tiles lease ≡ true → seat.old.kept ≡ 0)) }
         ensures room { OnOk result (seat.new.kept ≡ seat.old.kept - 1) }
         ensures room_stays { OnErr result (seat.new.kept ≡ seat.old.kept) }
         ensures number { seat.new.number ≡ seat.old.number }
@@ -243,7 +247,8 @@ impl<'p, L: Desking> Desk<'p, L> {
         done
     }
 
-    /// Gives the tile up that is leased, as the book does.
+    /// Gives the tile up that is leased, as the book does. Takes no memory for the tile's current lease,
+    /// where its seat has room for its end.
     pub fn abandon<R: Wait>(
         &self,
         rt: &R,
@@ -251,9 +256,11 @@ impl<'p, L: Desking> Desk<'p, L> {
         lease: Lease,
     ) -> Result<(), Refused<BookFault, Lease>>
         requires { lease.worker ≡ seat.old.number }
-        ensures noted { NotesDone seat.old seat.new (calls.Abandon lease) result }
-        ensures refused { NotesRefused seat.old seat.new (calls.Abandon lease) result }
+        ensures noted { AtSomeIndex (λ i. NotesDone i seat.old seat.new (calls.Abandon lease) result) }
+        ensures refused { AtSomeIndex (λ i. NotesRefused i seat.old seat.new (calls.Abandon lease) result) }
         ensures given_back { IfErr result (λ r. r.given ≡ lease) }
+        ensures current { OnErr result (IsDeskBook L.whole L.part L.begin L.opening (λ b.
+            is_current b.tiles lease ≡ true → seat.old.kept ≡ 0)) }
         ensures room { OnOk result (seat.new.kept ≡ seat.old.kept - 1) }
         ensures room_stays { OnErr result (seat.new.kept ≡ seat.old.kept) }
         ensures number { seat.new.number ≡ seat.old.number }
@@ -271,8 +278,8 @@ impl<'p, L: Desking> Desk<'p, L> {
         lease: Lease,
     ) -> Result<(), Refused<BookFault, Lease>>
         requires { lease.worker ≡ seat.old.number }
-        ensures noted { NotesDone seat.old seat.new (calls.Close lease) result }
-        ensures refused { NotesRefused seat.old seat.new (calls.Close lease) result }
+        ensures noted { AtSomeIndex (λ i. NotesDone i seat.old seat.new (calls.Close lease) result) }
+        ensures refused { AtSomeIndex (λ i. NotesRefused i seat.old seat.new (calls.Close lease) result) }
         ensures given_back { IfErr result (λ r. r.given ≡ lease) }
         ensures room { OnOk result (seat.new.kept ≡ seat.old.kept - 1) }
         ensures room_stays { OnErr result (seat.new.kept ≡ seat.old.kept) }
@@ -290,8 +297,8 @@ impl<'p, L: Desking> Desk<'p, L> {
         seat: &mut Seat<L>,
         id: u64,
     ) -> Result<Leased<'p>, BookFault>
-        ensures noted { NotesAnswer seat.old seat.new (calls.TakeHeld id) leased_reply result }
-        ensures refused { NotesFault seat.old seat.new (calls.TakeHeld id) result }
+        ensures noted { NotesLease seat.old seat.new (calls.TakeHeld id) result }
+        ensures refused { AtSomeIndex (λ i. NotesFault i seat.old seat.new (calls.TakeHeld id) result) }
         ensures can_start { IfOk result (CanBeSearched L.whole) }
         ensures worker { IfOk result (λ r. r.lease.worker ≡ seat.old.number) }
         ensures room { OnOk result (seat.new.kept ≡ seat.old.kept + 1) }
@@ -308,8 +315,8 @@ impl<'p, L: Desking> Desk<'p, L> {
         seat: &mut Seat<L>,
         id: u64,
     ) -> Result<(), BookFault>
-        ensures noted { NotesDone seat.old seat.new (calls.RequestStop id) result }
-        ensures refused { NotesFault seat.old seat.new (calls.RequestStop id) result }
+        ensures noted { AtSomeIndex (λ i. NotesDone i seat.old seat.new (calls.RequestStop id) result) }
+        ensures refused { AtSomeIndex (λ i. NotesFault i seat.old seat.new (calls.RequestStop id) result) }
         ensures room { seat.new.kept ≡ seat.old.kept }
         ensures number { seat.new.number ≡ seat.old.number }
     {
@@ -324,8 +331,8 @@ impl<'p, L: Desking> Desk<'p, L> {
         id: u64,
         state: &State,
     ) -> Result<(), BookFault>
-        ensures noted { NotesDone seat.old seat.new (back_to id state.now) result }
-        ensures refused { NotesFault seat.old seat.new (back_to id state.now) result }
+        ensures noted { AtSomeIndex (λ i. NotesDone i seat.old seat.new (back_to id state.now) result) }
+        ensures refused { AtSomeIndex (λ i. NotesFault i seat.old seat.new (back_to id state.now) result) }
         ensures room { seat.new.kept ≡ seat.old.kept }
         ensures number { seat.new.number ≡ seat.old.number }
     {
@@ -340,8 +347,8 @@ impl<'p, L: Desking> Desk<'p, L> {
         lease: &Lease,
     ) -> Result<Stretch<'p>, BookFault>
         requires worker { lease.now.worker ≡ seat.old.number }
-        ensures noted { NotesRetract seat.old seat.new lease.now result }
-        ensures refused { NotesFault seat.old seat.new (calls.Retract lease.now) result }
+        ensures noted { AtSomeIndex (λ i. NotesRetract i seat.old seat.new lease.now result) }
+        ensures refused { AtSomeIndex (λ i. NotesFault i seat.old seat.new (calls.Retract lease.now) result) }
         ensures room { seat.new.kept ≡ seat.old.kept }
         ensures number { seat.new.number ≡ seat.old.number }
     {
@@ -350,7 +357,7 @@ impl<'p, L: Desking> Desk<'p, L> {
 
     /// Takes the desk apart, without memory: the book comes out where all its seats are there, in
     /// any order, and their notes are the entries that the book gained, each by its own worker.
-    /// Else both come back.
+    /// Else both come back: the seats don't fit the book as it stood under the lock, or memory ran out.
     pub fn finish(
         self,
         seats: Vec<Seat<L>>,
@@ -363,7 +370,10 @@ impl<'p, L: Desking> Desk<'p, L> {
         ensures all_there { OnOk result (HaveAllNumbers self.entry.seats seats.items) }
         ensures notes { IfOk result (λ b. AreRecordsAfter L.opening b.history seats.items) }
         ensures workers { IfOk result (λ b. AreOfSeatsAfter L.opening self.entry.seats b.history) }
-        ensures refused { IfErr result (λ r. r.fault ≡ BookFault.SeatMismatch) }
+        ensures refused { IfErr result (λ r. (r.fault ≡ BookFault.SeatMismatch) ⊎ (r.fault ≡ BookFault.OutOfMemory)) }
+        ensures mismatch { IfErr result (λ r. r.fault ≡ BookFault.SeatMismatch →
+            IsDeskBook L.whole L.part L.begin L.opening (λ b.
+            IsFinishedBy self.entry.seats (length L.opening) b.history seats.items → ⊥)) }
         ensures desk_back { IfErr result (λ r. r.given.0 ≡ self.entry) }
         ensures seats_back { IfErr result (λ r. r.given.1 ≡ seats) }
     {
@@ -379,9 +389,11 @@ impl<'p, L: Desking> Desk<'p, L> {
             count,
             mut row,
         } = lock.into_inner();
-        if seats.len() == n as usize && tell_all(&seats, &mut row, from, &book.history()) {
-            return Ok(book);
-        }
+        let fault = match tell_all(&seats, n, &mut row, from, &book.history()) {
+            Ok(true) => return Ok(book),
+            Ok(false) => BookFault::SeatMismatch,
+            Err(_) => BookFault::OutOfMemory,
+        };
         let locked = Locked { book, count, row };
         let desk = Desk {
             lock: Mutex::new(locked),
@@ -391,7 +403,7 @@ impl<'p, L: Desking> Desk<'p, L> {
             seats: n,
         };
         Err(Refused {
-            fault: BookFault::SeatMismatch,
+            fault,
             given: (desk, seats),
         })
     }

@@ -1,9 +1,9 @@
 //! What lies under a desk's lock: each call of the book is counted, and noted at the seat that made
 //! it.
-ghost use Rattle.std.specs.Prelude.{◌≡◌, ◌+◌, ◌-◌, length, take, IfOk, IfErr, OnErr, OnOk, IfSome};
+ghost use Rattle.std.specs.Prelude.{◌≡◌, ◌<◌, ◌+◌, ◌-◌, true, length, take, IfOk, IsOk, IfErr, OnErr, OnOk, IfSome};
 ghost use Rattle.cover_problem.specs.Problem.{is_same};
 ghost use Rattle.lab_book.specs.declared.entry.Call.TheVariants as calls;
-ghost use Rattle.lab_book.specs.Calls.{leased_reply, any_reply, CanBeSearched};
+ghost use Rattle.lab_book.specs.Calls.{leased_reply, any_reply, CanBeSearched, is_current};
 ghost use Rattle.lab_desk.specs.Record.{NotesAnswer, NotesDone, NotesFault, NotesRefused, NotesPost, NotesPostFault, NotesSplit, NotesSplitFault, KeepsRoomFor};
 
 mod noting;
@@ -36,10 +36,11 @@ pub(crate) struct Locked<'p, L: Desking> {
 impl<'p, L: Desking> Locked<'p, L> {
     /// Leases the tile with an id.
     pub(crate) fn lease(&mut self, seat: &mut Seat<L>, id: u64) -> Result<Leased<'p>, BookFault>
-        ensures noted { NotesAnswer seat.old seat.new (calls.Lease id) leased_reply result }
-        ensures refused { NotesFault seat.old seat.new (calls.Lease id) result }
+        ensures noted { NotesAnswer (length self.old.book.history) seat.old seat.new (calls.Lease id) leased_reply result }
+        ensures refused { NotesFault (length self.old.book.history) seat.old seat.new (calls.Lease id) result }
         ensures can_start { IfOk result (CanBeSearched L.whole) }
         ensures worker { IfOk result (λ r. r.lease.worker ≡ seat.old.number) }
+        ensures index { IfOk result (λ r. r.lease.index ≡ length self.old.book.history) }
         ensures room { OnOk result (seat.new.kept ≡ seat.old.kept + 1) }
         ensures room_stays { OnErr result (seat.new.kept ≡ seat.old.kept) }
         ensures number { seat.new.number ≡ seat.old.number }
@@ -72,10 +73,11 @@ impl<'p, L: Desking> Locked<'p, L> {
 
     /// Leases the first tile that waits, if one does.
     pub(crate) fn lease_any(&mut self, seat: &mut Seat<L>) -> Result<Option<Leased<'p>>, AllocError>
-        ensures noted { NotesAnswer seat.old seat.new calls.LeaseAny any_reply result }
+        ensures noted { NotesAnswer (length self.old.book.history) seat.old seat.new calls.LeaseAny any_reply result }
         ensures unchanged { OnErr result (seat.new.notes ≡ seat.old.notes) }
         ensures can_start { IfOk result (λ r. IfSome r (CanBeSearched L.whole)) }
         ensures worker { IfOk result (λ r. IfSome r (λ l. l.lease.worker ≡ seat.old.number)) }
+        ensures index { IfOk result (λ r. IfSome r (λ l. l.lease.index ≡ length self.old.book.history)) }
         ensures room { IfOk result (λ r. KeepsRoomFor r seat.old seat.new) }
         ensures room_stays { OnErr result (seat.new.kept ≡ seat.old.kept) }
         ensures number { seat.new.number ≡ seat.old.number }
@@ -111,8 +113,8 @@ impl<'p, L: Desking> Locked<'p, L> {
     ) -> Result<Posted, Refused<BookFault, Stretch<'p>>>
         requires worker { lease.now.worker ≡ seat.old.number }
         requires same { same ≡ is_same stretch.problem L.whole }
-        ensures noted { NotesPost L.whole seat.old seat.new lease.now stretch.entry result }
-        ensures refused { NotesPostFault L.whole seat.old seat.new lease.now stretch.entry result }
+        ensures noted { NotesPost (length self.old.book.history) L.whole seat.old seat.new lease.now stretch.entry result }
+        ensures refused { NotesPostFault (length self.old.book.history) L.whole seat.old seat.new lease.now stretch.entry result }
         ensures given_back { IfErr result (λ r. r.given ≡ stretch.entry) }
         ensures room { seat.new.kept ≡ seat.old.kept }
         ensures number { seat.new.number ≡ seat.old.number }
@@ -152,8 +154,8 @@ impl<'p, L: Desking> Locked<'p, L> {
     ) -> Result<u64, Refused<BookFault, Cut<'p>>>
         requires worker { lease.now.worker ≡ seat.old.number }
         requires same { same ≡ is_same cut.problem L.whole }
-        ensures noted { NotesSplit L.whole seat.old seat.new lease.now cut.entry result }
-        ensures refused { NotesSplitFault L.whole seat.old seat.new lease.now cut.entry result }
+        ensures noted { NotesSplit (length self.old.book.history) L.whole seat.old seat.new lease.now cut.entry result }
+        ensures refused { NotesSplitFault (length self.old.book.history) L.whole seat.old seat.new lease.now cut.entry result }
         ensures given_back { IfErr result (λ r. r.given ≡ cut.entry) }
         ensures room { seat.new.kept ≡ seat.old.kept }
         ensures number { seat.new.number ≡ seat.old.number }
@@ -183,16 +185,18 @@ impl<'p, L: Desking> Locked<'p, L> {
         }
     }
 
-    /// Parks the tile that is leased.
+    /// Parks the tile that is leased. Takes no memory for the tile's current lease, where its seat has
+    /// room for its end.
     pub(crate) fn park(
         &mut self,
         seat: &mut Seat<L>,
         lease: Lease,
     ) -> Result<(), Refused<BookFault, Lease>>
         requires worker { lease.worker ≡ seat.old.number }
-        ensures noted { NotesDone seat.old seat.new (calls.Park lease) result }
-        ensures refused { NotesRefused seat.old seat.new (calls.Park lease) result }
+        ensures noted { NotesDone (length self.old.book.history) seat.old seat.new (calls.Park lease) result }
+        ensures refused { NotesRefused (length self.old.book.history) seat.old seat.new (calls.Park lease) result }
         ensures given_back { IfErr result (λ r. r.given ≡ lease) }
+        ensures current { is_current self.old.book.tiles lease ≡ true → 0 < seat.old.kept → IsOk result }
         ensures room { OnOk result (seat.new.kept ≡ seat.old.kept - 1) }
         ensures room_stays { OnErr result (seat.new.kept ≡ seat.old.kept) }
         ensures number { seat.new.number ≡ seat.old.number }
@@ -222,16 +226,18 @@ impl<'p, L: Desking> Locked<'p, L> {
         }
     }
 
-    /// Gives the tile up that is leased.
+    /// Gives the tile up that is leased. Takes no memory for the tile's current lease, where its seat
+    /// has room for its end.
     pub(crate) fn abandon(
         &mut self,
         seat: &mut Seat<L>,
         lease: Lease,
     ) -> Result<(), Refused<BookFault, Lease>>
         requires worker { lease.worker ≡ seat.old.number }
-        ensures noted { NotesDone seat.old seat.new (calls.Abandon lease) result }
-        ensures refused { NotesRefused seat.old seat.new (calls.Abandon lease) result }
+        ensures noted { NotesDone (length self.old.book.history) seat.old seat.new (calls.Abandon lease) result }
+        ensures refused { NotesRefused (length self.old.book.history) seat.old seat.new (calls.Abandon lease) result }
         ensures given_back { IfErr result (λ r. r.given ≡ lease) }
+        ensures current { is_current self.old.book.tiles lease ≡ true → 0 < seat.old.kept → IsOk result }
         ensures room { OnOk result (seat.new.kept ≡ seat.old.kept - 1) }
         ensures room_stays { OnErr result (seat.new.kept ≡ seat.old.kept) }
         ensures number { seat.new.number ≡ seat.old.number }
@@ -268,8 +274,8 @@ impl<'p, L: Desking> Locked<'p, L> {
         lease: Lease,
     ) -> Result<(), Refused<BookFault, Lease>>
         requires worker { lease.worker ≡ seat.old.number }
-        ensures noted { NotesDone seat.old seat.new (calls.Close lease) result }
-        ensures refused { NotesRefused seat.old seat.new (calls.Close lease) result }
+        ensures noted { NotesDone (length self.old.book.history) seat.old seat.new (calls.Close lease) result }
+        ensures refused { NotesRefused (length self.old.book.history) seat.old seat.new (calls.Close lease) result }
         ensures given_back { IfErr result (λ r. r.given ≡ lease) }
         ensures room { OnOk result (seat.new.kept ≡ seat.old.kept - 1) }
         ensures room_stays { OnErr result (seat.new.kept ≡ seat.old.kept) }

@@ -1,11 +1,11 @@
 //! A worker's seat at a desk, with notes of its calls.
-ghost use Rattle.std.specs.Prelude.{◌≡◌, ◌≤◌, [], length, IsTrue};
+ghost use Rattle.std.specs.Prelude.{◌≡◌, ◌↔◌, ◌≤◌, [], length, IfOk, IsTrue};
 ghost use Rattle.lab_desk.specs.Record.{notes_from};
 
 use crate::sheet::Sheet;
 use lab_book::{Entries, Entry};
 use packed_rows::Row;
-use std::alloc::Global;
+use std::alloc::{AllocError, Global};
 use std::marker::Model;
 use std::sync::ledger::{Ledger, Share};
 
@@ -36,25 +36,31 @@ impl<L: Ledger> Model for Seat<L> {
     ghost view = { λ s. record { number = s.number; notes = s.notes.list; kept = s.notes.kept } };
 }
 
-/// Whether these are the entries of a worker, with their indexes, from an index on; false tells
-/// nothing. The notes are compared by a scratch row.
-fn is_record(notes: &Sheet, row: &mut Row, number: u8, from: usize, history: &Entries<'_>) -> bool
+/// Whether these are the entries of a worker, with their indexes, from an index on. The notes are
+/// compared by a scratch row; where memory runs out, nothing is told.
+fn is_record(
+    notes: &Sheet,
+    row: &mut Row,
+    number: u8,
+    from: usize,
+    history: &Entries<'_>,
+) -> Result<bool, AllocError>
     requires { from ≤ length history.now }
-    ensures { IsTrue result → notes.now.list ≡ notes_from number from history.now }
+    ensures { IfOk result (λ told. IsTrue told ↔ (notes.now.list ≡ notes_from number from history.now)) }
 {
     let mut next = 0;
     'comparing: for i in from..history.len() {
         if history.worker(i) == number {
             if next >= notes.len() {
-                return false;
+                return Ok(false);
             }
-            if !notes.tells(row, next, history, i) {
-                return false;
+            if !notes.tells(row, next, history, i)? {
+                return Ok(false);
             }
             next += 1;
         }
     }
-    next == notes.len()
+    Ok(next == notes.len())
 }
 
 impl<L: Ledger> Seat<L> {
@@ -79,10 +85,17 @@ impl<L: Ledger> Seat<L> {
         self.number
     }
 
-    /// Whether its notes are the entries of its number, from an index on; false tells nothing.
-    pub(crate) fn tells(&self, row: &mut Row, from: usize, history: &Entries<'_>) -> bool
+    /// Whether its notes are the entries of its number, from an index on; where memory runs out,
+    /// nothing is told.
+    pub(crate) fn tells(
+        &self,
+        row: &mut Row,
+        from: usize,
+        history: &Entries<'_>,
+    ) -> Result<bool, AllocError>
         requires { from ≤ length history.now }
-        ensures { IsTrue result → self.now.notes ≡ notes_from self.now.number from history.now }
+        ensures { IfOk result (λ told.
+            IsTrue told ↔ (self.now.notes ≡ notes_from self.now.number from history.now)) }
     {
         is_record(&self.notes, row, self.number, from, history)
     }

@@ -1,11 +1,11 @@
 //! Notes, with room kept for notes to come.
-ghost use Rattle.std.specs.Prelude.{◌≡◌, ◌≤◌, ◌<◌, ◌+◌, ◌-◌, ◌++◌, [], length, slice_get, option_map};
-ghost use Rattle.std.specs.Prelude.{vec_len, vec_capacity, OnOk, OnErr, IsTrue};
-ghost use Rattle.lab_desk.specs.Record.{noted, note_of, all_notes, with_note, TellsEntry};
+ghost use Rattle.std.specs.Prelude.{◌≡◌, ◌↔◌, ◌≤◌, ◌<◌, ◌+◌, ◌-◌, ◌++◌, [], length, slice_get, option_map};
+ghost use Rattle.std.specs.Prelude.{vec_len, vec_capacity, IfOk, OnOk, OnErr, IsOk, IsTrue};
+ghost use Rattle.lab_desk.specs.Record.{noted, note_of, note_code, all_notes, with_note, TellsEntry, IsNoteOf, IsNoteCode, AreNoteCodes};
 
 use crate::seat::Noted;
 use lab_book::{Entries, Entry};
-use packed_rows::{Row, Rows};
+use packed_rows::{Reader, Row, Rows};
 use std::alloc::{AllocError, Global};
 use std::marker::Model;
 
@@ -20,18 +20,19 @@ pub(crate) struct Sheet {
 
 impl Model for Sheet {
     ghost use Rattle.std.specs.Prelude.{◌+◌, ◌≤◌, ◌++◌, map, vec_len, vec_capacity};
-    ghost use Rattle.lab_desk.specs.Record.{SheetValue, note_of};
+    ghost use Rattle.lab_desk.specs.Record.{SheetValue, note_of, AreNoteCodes};
 
     ghost Value = { SheetValue };
 
     ghost view = { λ n. record { list = map note_of n.rows.rows ++ n.last.items; kept = n.kept } };
 
-    ghost invariant = { λ n. vec_len n.last + n.kept ≤ vec_capacity n.last };
+    ghost invariant = { λ n. (vec_len n.last + n.kept ≤ vec_capacity n.last) × AreNoteCodes n.rows.rows };
 }
 
 /// Writes the numbers of a note into a scratch row, and nothing else.
 fn write(row: &mut Row, index: u64, entry: &Entry) -> Result<(), AllocError>
-    ensures { OnOk result (note_of row.new ≡ noted index entry.now) }
+    ensures told { OnOk result (note_of row.new ≡ noted index entry.now) }
+    ensures code { OnOk result (row.new ≡ note_code (noted index entry.now)) }
 {
     row.clear();
     row.put(index)?;
@@ -47,6 +48,7 @@ fn pack_first(rows: &mut Rows, row: &mut Row, last: &mut Vec<Noted>) -> Result<(
     ensures fewer { OnOk result (vec_len last.new + 1 ≡ vec_len last.old) }
     ensures unchanged { OnErr result (vec_len last.new ≡ vec_len last.old) }
     ensures capacity { vec_capacity last.old ≤ vec_capacity last.new }
+    ensures codes { AreNoteCodes rows.old.rows → AreNoteCodes rows.new.rows }
 {
     let first = &last[0];
     write(row, first.index, &first.entry)?;
@@ -60,12 +62,46 @@ fn pack(rows: &mut Rows, row: &mut Row, last: &mut Vec<Noted>)
     ensures all { all_notes rows.new.rows last.new.items ≡ all_notes rows.old.rows last.old.items }
     ensures fewer { vec_len last.new ≤ vec_len last.old }
     ensures capacity { vec_capacity last.old ≤ vec_capacity last.new }
+    ensures codes { AreNoteCodes rows.old.rows → AreNoteCodes rows.new.rows }
 {
     'packing: while !last.is_empty() {
         if pack_first(rows, row, last).is_err() {
             return;
         }
     }
+}
+
+/// Whether a note is of the entry with an index.
+fn tells_last(
+    note: &Noted,
+    row: &mut Row,
+    history: &Entries<'_>,
+    index: usize,
+) -> Result<bool, AllocError>
+    requires { index < length history.now }
+    ensures { IfOk result (λ told. IsTrue told ↔ IsNoteOf note.now history.now index) }
+{
+    if note.index != index as u64 {
+        return Ok(false);
+    }
+    history.is(index, &note.entry, row)
+}
+
+/// Whether the numbers of a note tell that it is of the entry with an index.
+fn tells_packed(
+    numbers: &mut Reader<'_>,
+    row: &mut Row,
+    history: &Entries<'_>,
+    index: usize,
+) -> Result<bool, AllocError>
+    requires index { index < length history.now }
+    requires code { IsNoteCode numbers.old }
+    ensures { IfOk result (λ told. IsTrue told ↔ IsNoteOf (note_of numbers.old) history.now index) }
+{
+    if numbers.number() != index as u64 {
+        return Ok(false);
+    }
+    history.is_told(index, numbers, row)
 }
 
 impl Sheet {
@@ -87,20 +123,25 @@ impl Sheet {
         self.rows.len() + self.last.len()
     }
 
-    /// Whether the note at a place is of the entry with an index; false tells nothing. No memory is
-    /// needed where they are the same and room for the note was kept by this scratch row.
-    pub fn tells(&self, row: &mut Row, place: usize, history: &Entries<'_>, index: usize) -> bool
+    /// Whether the note at a place is of the entry with an index. No memory is needed where they are
+    /// the same and room for the note was kept by this scratch row; where memory runs out, nothing
+    /// is told.
+    pub fn tells(
+        &self,
+        row: &mut Row,
+        place: usize,
+        history: &Entries<'_>,
+        index: usize,
+    ) -> Result<bool, AllocError>
         requires place { place < length self.now.list }
         requires index { index < length history.now }
-        ensures { IsTrue result → TellsEntry self.now.list place history.now index }
+        ensures { IfOk result (λ told. IsTrue told ↔ TellsEntry self.now.list place history.now index) }
     {
         let count = self.rows.len();
         if place >= count {
-            let note = &self.last[place - count];
-            return note.index == index as u64 && history.is(index, &note.entry, row);
+            return tells_last(&self.last[place - count], row, history, index);
         }
-        let mut numbers = self.rows.row(place);
-        numbers.number() == index as u64 && history.is_told(index, &numbers, row)
+        tells_packed(&mut self.rows.row(place), row, history, index)
     }
 
     /// Keeps room for so many notes more.
@@ -138,6 +179,7 @@ impl Sheet {
         ensures some { OnOk result (0 < self.new.kept) }
         ensures one { OnOk result (self.new.kept - 1 ≡ self.old.kept - 1) }
         ensures unchanged { OnErr result (self.new ≡ self.old) }
+        ensures kept { 0 < self.old.kept → IsOk result }
     {
         if self.kept > 0 {
             return Ok(());

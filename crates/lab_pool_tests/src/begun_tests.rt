@@ -1,7 +1,7 @@
 //! Two workers on threads over books that were begun by others.
 
 use crate::books::{begins_with, begun, from_the_cut, is_done};
-use cover_links::LinkTable;
+use cover_bits::BitTable;
 use cover_problem::{Problem, read_cover};
 use drawn_books::value_of;
 use drawn_problems::SMALL;
@@ -21,7 +21,7 @@ fn finished_on<'p, R: Threads + Wait + Sync>(
     if book.leased() > 0 {
         return Err(Fail::from("a tile is leased"));
     }
-    value_of(run_pool_on::<LinkTable, _, _>(rt, alloc, book, 2, &NoGate))
+    value_of(run_pool_on::<BitTable, _, _>(rt, alloc, book, 2, &NoGate))
 }
 
 /// The book of a run from the cut 4 on that they finish.

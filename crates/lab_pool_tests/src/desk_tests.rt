@@ -88,6 +88,22 @@ fn seats_are_handed_in_in_any_order(rt: HostRuntime) -> Result<(), Fail> {
     Ok(())
 }
 
+/// Whether the small problem's desk is finished after its seats were refused so many calls together.
+fn finishes_after<R: Wait>(rt: &R, alloc: Global, entries: usize) -> Result<bool, Fail> {
+    let problem = read_cover(alloc, SMALL.as_bytes())?;
+    let book = Book::new(alloc, &problem)?;
+    match at_desk(rt, alloc, book, Work::Ask, Way::Turned) {
+        Some(book) => Ok(book.history().len() == entries),
+        None => Ok(false),
+    }
+}
+
+#[test]
+fn notes_of_many_calls_are_the_history(rt: HostRuntime) -> Result<(), Fail> {
+    assert!(rt; finishes_after(&rt, rt.alloc(), 66_000)?);
+    Ok(())
+}
+
 #[test]
 fn a_stopped_tile_is_held_and_taken(rt: HostRuntime) -> Result<(), Fail> {
     assert!(rt; finish_the_small(&rt, rt.alloc(), Work::Stop, Way::All, 9)?);

@@ -22,6 +22,8 @@ pub enum Work {
     Stop,
     /// Neither calls.
     Nothing,
+    /// Both ask the worker of a tile that there isn't to stop, which is refused, more than 65,536 times together.
+    Ask,
 }
 
 /// How the seats are handed in.
@@ -147,6 +149,21 @@ fn stops<L: Desking, R: Wait>(
     search.park(rt, desk, first) && asked && posted
 }
 
+/// Whether both seats are refused a stop of a tile that there isn't, again and again.
+fn ask<L: Desking, R: Wait>(
+    rt: &R,
+    desk: &Desk<'_, L>,
+    first: &mut Seat<L>,
+    second: &mut Seat<L>,
+) -> bool {
+    'asking: for _again in 0..33_000 {
+        if desk.request_stop(rt, first, 9).is_ok() || desk.request_stop(rt, second, 9).is_ok() {
+            return false;
+        }
+    }
+    true
+}
+
 /// Whether the two seats do what they have to.
 fn act<'p, L: Desking, R: Wait>(
     rt: &R,
@@ -168,6 +185,7 @@ fn act<'p, L: Desking, R: Wait>(
             ends(rt, desk, second, search, 38) && stopped
         }
         Work::Nothing => true,
+        Work::Ask => ask(rt, desk, first, second),
     }
 }
 

@@ -1,6 +1,6 @@
 //! A gate that holds a worker until the other one stole a ticket.
 
-use cover_links::LinkTable;
+use cover_bits::BitTable;
 use cover_problem::{Problem, read_cover};
 use lab_book::Book;
 use lab_pool::{Gate, GateCall, run_pool};
@@ -128,7 +128,7 @@ fn finished_under<'p, R: Threads + Wait + Sync, G: Gate>(
     problem: &'p Problem,
     gate: &G,
 ) -> Option<Book<'p>> {
-    match run_pool::<LinkTable, _, _>(rt, alloc, problem, 2, gate) {
+    match run_pool::<BitTable, _, _>(rt, alloc, problem, 2, gate) {
         Ok(book) => Some(book),
         Err(_) => None,
     }

@@ -1,7 +1,7 @@
 //! Two workers on threads over books with a held tile, which they leave.
 
 use crate::books::{all_held, held_alone, held_before};
-use cover_links::LinkTable;
+use cover_bits::BitTable;
 use cover_problem::{Problem, read_cover};
 use drawn_problems::SMALL;
 use lab_book::{Book, Status, Tile};
@@ -20,7 +20,7 @@ fn refused_on<'p, R: Threads + Wait + Sync>(
     if book.leased() > 0 {
         return None;
     }
-    match run_pool_on::<LinkTable, _, _>(rt, alloc, book, 2, &NoGate) {
+    match run_pool_on::<BitTable, _, _>(rt, alloc, book, 2, &NoGate) {
         Ok(_) => None,
         Err(refused) => Some((refused.fault.number(), refused.given?)),
     }

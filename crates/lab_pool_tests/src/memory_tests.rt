@@ -4,7 +4,7 @@
 ghost use Rattle.std.specs.Prelude.{◌≡◌};
 
 use crate::books::{begins_with, begun};
-use cover_links::LinkTable;
+use cover_bits::BitTable;
 use cover_problem::{Problem, read_cover};
 use drawn_books::{grows, has_tiles, tiles_of};
 use drawn_problems::SMALL;
@@ -118,7 +118,7 @@ fn finishes_on<R: Threads + Wait + Sync>(rt: &R, alloc: Global, book: Book<'_>) 
     if book.leased() > 0 {
         return false;
     }
-    match run_pool_on::<LinkTable, _, _>(rt, alloc, book, 1, &NoGate) {
+    match run_pool_on::<BitTable, _, _>(rt, alloc, book, 1, &NoGate) {
         Ok(book) => is_small_finished(&book),
         Err(_) => false,
     }
@@ -126,7 +126,7 @@ fn finishes_on<R: Threads + Wait + Sync>(rt: &R, alloc: Global, book: Book<'_>) 
 
 /// Whether one worker finishes that problem's run.
 fn finishes<R: Threads + Wait + Sync>(rt: &R, alloc: Global, problem: &Problem) -> bool {
-    match run_pool::<LinkTable, _, _>(rt, alloc, problem, 1, &NoGate) {
+    match run_pool::<BitTable, _, _>(rt, alloc, problem, 1, &NoGate) {
         Ok(book) => is_small_finished(&book),
         Err(_) => false,
     }
@@ -135,7 +135,7 @@ fn finishes<R: Threads + Wait + Sync>(rt: &R, alloc: Global, problem: &Problem) 
 /// Whether it does, on a second try where the first is refused: with the book that came back, or with none where there was no memory for
 /// one.
 fn finishes_again<R: Threads + Wait + Sync>(rt: &R, alloc: Global, problem: &Problem) -> bool {
-    match run_pool::<LinkTable, _, _>(rt, alloc, problem, 1, &NoGate) {
+    match run_pool::<BitTable, _, _>(rt, alloc, problem, 1, &NoGate) {
         Ok(book) => is_small_finished(&book),
         Err(
             Refused {

@@ -221,3 +221,7 @@ Replied v events replies = replies.items ≡ world_replies v (take (vec_len repl
 -- and the world is as those events left it
 abbrev pub Played : WorldValue → List WorldEvent → Vec WorldReply → WorldValue → Type 0
 Played v events replies new = new ≡ played v (take (vec_len replies) events)
+
+-- it stopped before one of these events: there are fewer replies
+abbrev pub StoppedEarly : List WorldEvent → Vec WorldReply → Type 0
+StoppedEarly events replies = vec_len replies < length events

@@ -7,7 +7,7 @@ ghost use Rattle.x_steps.specs.StateValue.{start};
 ghost use Rattle.x_branches.specs.Runner.{IsRunner};
 ghost use Rattle.x_branches.specs.Branch.{whole_run};
 ghost use Rattle.lab_book.specs.Book.{new_book, leased_in};
-ghost use Rattle.lab_world.specs.World.{WorldValue, world_step, played, world_replies, worker_at, fresh, state_of, EachHolds, AreCovered, Replied, Played};
+ghost use Rattle.lab_world.specs.World.{WorldValue, world_step, played, world_replies, worker_at, fresh, state_of, EachHolds, AreCovered, Replied, Played, StoppedEarly};
 
 use crate::event::{WorldEvent, WorldReply};
 use crate::turn::act;
@@ -140,13 +140,14 @@ impl<'p, T: Table> World<'p, T> {
     }
 
     /// Events one after another, and their replies. Room for the replies is made first. When out of memory at an event, the world is
-    /// as the events before it left it, and their replies come.
+    /// as the events before it left it, and their replies come: fewer than there are events.
     pub fn play(&mut self, events: &[WorldEvent]) -> Result<Vec<WorldReply>, PlayStopped>
         requires { All (λ (e : WorldEvent). e.worker < length self.old.workers) events.now }
         ensures replies { ReturnsItems result (world_replies self.old events.now) }
         ensures world { OnOk result (self.new ≡ played self.old events.now) }
         ensures first_replies { IfErr result (λ s. Replied self.old events.now s.replies) }
         ensures first_world { IfErr result (λ s. Played self.old events.now s.replies self.new) }
+        ensures early { IfErr result (λ s. StoppedEarly events.now s.replies) }
     {
         let alloc = *self.workers.allocator();
         let Ok(mut replies) = Vec::with_capacity(alloc, events.len()) else {

@@ -1,5 +1,5 @@
 //! Noting and counting the entry of a call, or its refusal.
-ghost use Rattle.std.specs.Prelude.{◌≡◌, ◌<◌, ◌+◌, ◌-◌, ◌↔◌, IsTrue, OnErr, OnOk};
+ghost use Rattle.std.specs.Prelude.{◌≡◌, ◌<◌, ◌+◌, ◌-◌, ◌↔◌, IsTrue, IsOk, OnErr, OnOk};
 ghost use Rattle.lab_desk.specs.Record.{HasEntry, AddsNote, IfDone, IfNotDone};
 
 use crate::seat::Noted;
@@ -96,6 +96,7 @@ pub(crate) fn keep_for_end(
     ensures ends { IfDone entry.now (OnOk result (notes.new.kept - 1 ≡ notes.old.kept - 1)) }
     ensures refused { IfNotDone entry.now (OnOk result (notes.new.kept ≡ notes.old.kept + 1)) }
     ensures unchanged { OnErr result (notes.new ≡ notes.old) }
+    ensures kept { IfDone entry.now (0 < notes.old.kept → IsOk result) }
 {
     match entry.reply() {
         Reply::Refused(_) => notes.keep(1, row, index, entry),

@@ -1,5 +1,5 @@
 //! Calls that take a tile up again, or take back what was posted.
-ghost use Rattle.std.specs.Prelude.{◌≡◌, ◌+◌, IfOk, OnErr, OnOk};
+ghost use Rattle.std.specs.Prelude.{◌≡◌, ◌+◌, length, IfOk, OnErr, OnOk};
 ghost use Rattle.lab_book.specs.declared.entry.Call.TheVariants as calls;
 ghost use Rattle.lab_book.specs.Calls.{leased_reply, CanBeSearched, back_to};
 ghost use Rattle.lab_desk.specs.Record.{NotesAnswer, NotesDone, NotesFault, NotesRetract};
@@ -15,10 +15,11 @@ use x_steps::State;
 impl<'p, L: Desking> Locked<'p, L> {
     /// Leases the held tile with an id.
     pub(crate) fn take_held(&mut self, seat: &mut Seat<L>, id: u64) -> Result<Leased<'p>, BookFault>
-        ensures noted { NotesAnswer seat.old seat.new (calls.TakeHeld id) leased_reply result }
-        ensures refused { NotesFault seat.old seat.new (calls.TakeHeld id) result }
+        ensures noted { NotesAnswer (length self.old.book.history) seat.old seat.new (calls.TakeHeld id) leased_reply result }
+        ensures refused { NotesFault (length self.old.book.history) seat.old seat.new (calls.TakeHeld id) result }
         ensures can_start { IfOk result (CanBeSearched L.whole) }
         ensures worker { IfOk result (λ r. r.lease.worker ≡ seat.old.number) }
+        ensures index { IfOk result (λ r. r.lease.index ≡ length self.old.book.history) }
         ensures room { OnOk result (seat.new.kept ≡ seat.old.kept + 1) }
         ensures room_stays { OnErr result (seat.new.kept ≡ seat.old.kept) }
         ensures number { seat.new.number ≡ seat.old.number }
@@ -51,8 +52,8 @@ impl<'p, L: Desking> Locked<'p, L> {
 
     /// Asks the worker of a tile to stop.
     pub(crate) fn request_stop(&mut self, seat: &mut Seat<L>, id: u64) -> Result<(), BookFault>
-        ensures noted { NotesDone seat.old seat.new (calls.RequestStop id) result }
-        ensures refused { NotesFault seat.old seat.new (calls.RequestStop id) result }
+        ensures noted { NotesDone (length self.old.book.history) seat.old seat.new (calls.RequestStop id) result }
+        ensures refused { NotesFault (length self.old.book.history) seat.old seat.new (calls.RequestStop id) result }
         ensures room { seat.new.kept ≡ seat.old.kept }
         ensures number { seat.new.number ≡ seat.old.number }
     {
@@ -88,8 +89,8 @@ impl<'p, L: Desking> Locked<'p, L> {
         id: u64,
         state: &State,
     ) -> Result<(), BookFault>
-        ensures noted { NotesDone seat.old seat.new (back_to id state.now) result }
-        ensures refused { NotesFault seat.old seat.new (back_to id state.now) result }
+        ensures noted { NotesDone (length self.old.book.history) seat.old seat.new (back_to id state.now) result }
+        ensures refused { NotesFault (length self.old.book.history) seat.old seat.new (back_to id state.now) result }
         ensures room { seat.new.kept ≡ seat.old.kept }
         ensures number { seat.new.number ≡ seat.old.number }
     {
@@ -125,8 +126,8 @@ impl<'p, L: Desking> Locked<'p, L> {
         lease: &Lease,
     ) -> Result<Stretch<'p>, BookFault>
         requires worker { lease.now.worker ≡ seat.old.number }
-        ensures noted { NotesRetract seat.old seat.new lease.now result }
-        ensures refused { NotesFault seat.old seat.new (calls.Retract lease.now) result }
+        ensures noted { NotesRetract (length self.old.book.history) seat.old seat.new lease.now result }
+        ensures refused { NotesFault (length self.old.book.history) seat.old seat.new (calls.Retract lease.now) result }
         ensures room { seat.new.kept ≡ seat.old.kept }
         ensures number { seat.new.number ≡ seat.old.number }
     {

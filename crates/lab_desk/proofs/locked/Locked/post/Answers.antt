@@ -12,6 +12,6 @@ invariant_of-self-in-Err-clause-opened g c = opens _ _ _ _ _ _ _ c.in-Err.ensure
 
 pub returns-clause-noted : goal.returns-clause-noted
 returns-clause-noted g c = elim c.match-post_compared.branch [
-  | in-Ok-post_compared w ↦ rw (w.result-is, w.seat-inside-is, ← c.requires.worker, ← c.seat.view_is, ← c.args.self.now.same) (told _ _ _ _ _ _ _ _ _ _ c.in-Ok.ensures w.in-Ok-post_compared.ensures.made (search rules) w.note.ensures.notes)
+  | in-Ok-post_compared w ↦ rw (w.result-is, w.seat-inside-is, ← c.requires.worker, ← c.seat.view_is, ← c.args.self.now.same) (told _ _ _ _ _ _ _ _ _ _ _ c.in-Ok.ensures w.in-Ok-post_compared.ensures.made (search rules) (search rules) w.note.ensures.notes)
   | in-Err w ↦ rw w.result-is tt
 ]

@@ -1,4 +1,5 @@
-use Rattle.std.proofs.Common.{sym, subst, ◌∙◌, ◌+◌, arith}
+use Rattle.std.proofs.Common.{◌≡◌, length, sym, subst, ◌∙◌, ◌+◌, inl, inr, arith}
+use Rattle.std.proofs.lemmas.Bool.{cases_lt}
 use Rattle.lab_world.proofs.WorldLemmas.{Plays, begins, plays_more, event_within, all_world, all_replies}
 use Rattle.lab_world.proofs.world.World.play.Goals as goal
 
@@ -22,6 +23,17 @@ returns-in-Err-clause-first_replies g c = rw c.playing.invariant.count c.playing
 
 pub returns-in-Err-clause-first_world : goal.returns-in-Err-clause-first_world
 returns-in-Err-clause-first_world g c = rw c.playing.invariant.count (c.in-Err.ensures.unchanged ∙ c.playing.invariant.plays.world)
+
+pub returns-in_default-clause-early : goal.returns-in_default-clause-early
+returns-in_default-clause-early g c = elim (cases_lt 0 (length c.args.events.now)) [
+  | inl some ↦ omega (arith, some, c.new.ensures.len)
+  | inr none ↦
+      let no : length c.args.events.now ≡ 0 = omega (arith, none) in
+      let made = c.in_default.ensures.succeeds no in absurd (cc)
+]
+
+pub returns-in-Err-clause-early : goal.returns-in-Err-clause-early
+returns-in-Err-clause-early g c = omega (arith, c.playing.invariant.count, c.playing-test.true)
 
 pub playing-preserved : goal.playing-preserved
 playing-preserved g c = record {

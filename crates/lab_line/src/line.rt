@@ -1,7 +1,7 @@
 //! The command line: which job the words ask for.
 
 ghost use Rattle.std.specs.Prelude.{◌≡◌, ◌≤◌, IfOk, IsTrue};
-ghost use Rattle.polylab_engine.specs.First.{is_first};
+ghost use Rattle.polylab_engine.specs.Jobs.{is_first};
 ghost use Rattle.lab_line.specs.Line.{status_of};
 
 use clap::error::ErrorKind;

@@ -6,7 +6,7 @@ use crate::cover_tests::{SMALL_OUTPUT, are_equal_covers, equal_options};
 use crate::puzzle_tests::{SOMA, ends_so};
 use crate::request::{alone, run, shared};
 use byte_streams::Watched;
-use cover_links::LinkTable;
+use cover_bits::BitTable;
 use cover_problem::Problem;
 use drawn_problems::SMALL;
 use lab_book::{Book, Call, Entry};
@@ -194,7 +194,7 @@ fn finished_by_two<'p, R: Threads + Wait + Sync, G: Gate>(
     gate: &G,
     problem: &'p Problem,
 ) -> Option<Book<'p>> {
-    match run_pool::<LinkTable, _, _>(rt, alloc, problem, 2, gate) {
+    match run_pool::<BitTable, _, _>(rt, alloc, problem, 2, gate) {
         Ok(book) => Some(book),
         Err(_) => None,
     }

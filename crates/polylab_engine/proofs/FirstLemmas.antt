@@ -33,10 +33,10 @@ take_first : (vs ws : List (List ℕ)) → take (length vs) (vs ++ ws) ≡ vs
 take_first vs ws = take-append-le (length vs) vs ws (omega arith) ∙ take_all (length vs) vs (omega arith)
 
 module _ (n : ℕ) (p : ProblemValue) where
-  passed : StateValue → List (List ℕ)
+  abbrev passed : StateValue → List (List ℕ)
   passed t = visits p (states_between p start t)
 
-  ahead : StateValue → List (List ℕ)
+  abbrev ahead : StateValue → List (List ℕ)
   ahead t = visits p (states_between p t done)
 
   module _ (r : ReportValue) (t : StateValue) (fits : Fits p t) (report : r ≡ stretch_report true p start t) where
@@ -110,18 +110,30 @@ module _ (n : ℕ) (p : ProblemValue) (r : ReportValue) (first : IsFirstReport n
       by (inl e) = ap (cover_end n) e
       by (inr h) = rw (le-ltb r.visited n h.0, le-ltb (whole_report true p).visited n h.1) refl
 
-  pub same_packings_end : packings_end n r.visited ≡ packings_end n (whole_report true p).visited
+  same_packings_end : packings_end n r.visited ≡ packings_end n (whole_report true p).visited
   same_packings_end = by whole_or_full
     where
       by : (r ≡ whole_report true p) ⊎ ((n ≤ r.visited) × (n ≤ (whole_report true p).visited)) → packings_end n r.visited ≡ packings_end n (whole_report true p).visited
       by (inl e) = ap (λ b. packings_end n b.visited) e
       by (inr h) = rw (le-ltb r.visited n h.0, le-ltb (whole_report true p).visited n h.1) refl
 
-  pub first_written : text_of (map visit_words r.visits) ++ text_of (cover_end n r) ≡ first_cover_output n p
+  first_written : text_of (map visit_words r.visits) ++ text_of (cover_end n r) ≡ first_cover_output n p
   unfolding first_cover_output
   first_written = ap₂ (λ (vs : List (List ℕ)) (end : List (List (List ℕ))). text_of (map visit_words vs) ++ text_of end) first.visits same_end
 
-pub first_shown : (n : ℕ) (p : PuzzleValue) (r : ReportValue) → IsFirstReport n (packing_problem p) r → packings_from p 1 r.visits ++ line_text (packings_end n r.visited) ≡ first_packings_output n p
+first_shown : (n : ℕ) (p : PuzzleValue) (r : ReportValue) → IsFirstReport n (packing_problem p) r → packings_from p 1 r.visits ++ line_text (packings_end n r.visited) ≡ first_packings_output n p
 unfolding first_packings_output
 first_shown n p r first =
     ap₂ (λ (vs : List (List ℕ)) (end : List (List ℕ)). packings_from p 1 vs ++ line_text end) first.visits (same_packings_end n (packing_problem p) r first)
+
+-- the text that is written, part by part: of covers
+pub covers_written : (n : ℕ) (p : ProblemValue) (r : ReportValue) → IsFirstReport n p r → (none visited whole : List ℕ) (vs : List (List ℕ)) → none ≡ [] → vs ≡ r.visits
+    → visited ≡ none ++ text_of (map visit_words vs) → whole ≡ visited ++ text_of (cover_end n r) → whole ≡ first_cover_output n p
+covers_written n p r first none visited whole vs e f a b =
+    b ∙ ap (λ (t : List ℕ). t ++ text_of (cover_end n r)) (a ∙ ap₂ (λ (t : List ℕ) (ws : List (List ℕ)). t ++ text_of (map visit_words ws)) e f) ∙ first_written n p r first
+
+-- and of packings
+pub packings_shown : (n : ℕ) (p : PuzzleValue) (r : ReportValue) → IsFirstReport n (packing_problem p) r → (none shown whole : List ℕ) (vs : List (List ℕ)) (many : ℕ) → none ≡ [] → vs ≡ r.visits → many ≡ r.visited
+    → shown ≡ none ++ packings_from p 1 vs → whole ≡ shown ++ line_text (packings_end n many) → whole ≡ first_packings_output n p
+packings_shown n p r first none shown whole vs many e f g a b =
+    b ∙ ap₂ (λ (t : List ℕ) (k : ℕ). t ++ line_text (packings_end n k)) (a ∙ ap₂ (λ (t : List ℕ) (ws : List (List ℕ)). t ++ packings_from p 1 ws) e f) g ∙ first_shown n p r first

@@ -1,5 +1,5 @@
--- The examples of specs/Account.antt, Stretch.antt, Debugged.antt, Ending.antt and Listing.antt, on the small problem.
-use Rattle.std.proofs.Common.{◌≡◌, zero, suc, true, Some, None, List, [], ◌∷◌, ◌++◌, codes, refl, lit<, lit≤, arith}
+-- The examples of specs/Account.antt, Stretch.antt, Debugged.antt, Ending.antt, Listing.antt and Jobs.antt, on the small problem.
+use Rattle.std.proofs.Common.{◌≡◌, zero, suc, true, false, Some, None, List, [], ◌∷◌, ◌++◌, codes, refl, lit<, lit≤, arith}
 use Rattle.cover_problem.specs.Problem.{IsProblem}
 use Rattle.cover_problem.specs.Covering.{active, remaining, choice}
 use Rattle.cover_problem.specs.Path.{taken, covered_by}
@@ -18,6 +18,8 @@ use Rattle.x_debug.specs.Questions.{question_lines}
 use Rattle.x_debug.specs.Commands.{answer}
 use Rattle.debug_script.specs.declared.fault.RepliesFault.TheVariants as replies
 use Rattle.debug_script.specs.Replies.{exchange, debug_replies}
+use Rattle.polylab_engine.specs.declared.job.Job.TheVariants as jobs
+use Rattle.polylab_engine.specs.Jobs.{is_first, takes_commands}
 use Rattle.polylab_engine.specs.declared.fault.JobFault.TheVariants as faults
 use Rattle.polylab_engine.specs.declared.engine.Ending.TheVariants as endings
 use Rattle.polylab_engine.specs.Account.{account_of, report_of}
@@ -86,3 +88,14 @@ its_problem = record { some = lit< tt; within = lit≤ tt; named = refl; new = r
 its_cover : AreExactCovers small ((4 ∷ 5 ∷ 1 ∷ []) ∷ [])
 its_cover zero h = (passes_is small its_problem (4 ∷ 5 ∷ 1 ∷ []) refl).1
 its_cover (suc k) h = absurd (omega (arith, h))
+
+-- ---- specs/Jobs.antt
+
+stops : is_first (jobs.FirstCovers 2) ≡ true
+stops = refl
+
+commands_follow : takes_commands jobs.DebugPuzzle ≡ true
+commands_follow = refl
+
+neither : (is_first jobs.Options ≡ false) × (takes_commands jobs.Options ≡ false)
+neither = (refl, refl)

@@ -16,8 +16,8 @@ use Rattle.x_steps.proofs.RunLemmas.{start_fits, steps_between_is}
 use Rattle.cover_problem.specs.declared.fault.Fault.TheVariants.{UnknownItem}
 use Rattle.polylab_engine.specs.Account.{account_of, report_of}
 use Rattle.polylab_engine.specs.Outcome.{covers_of}
-use Rattle.polylab_engine.specs.First.{first_text, first_cover_output}
-use Rattle.polylab_engine.specs.Output.{cover_output, report_text}
+use Rattle.polylab_engine.specs.First.{cover_end, first_text, first_cover_output}
+use Rattle.polylab_engine.specs.Output.{cover_output, report_text, total_lines}
 use Rattle.x_steps.specs.Levels.{without_last_zeros}
 use Rattle.polylab_engine.specs.Joined.{levels_added}
 
@@ -66,7 +66,7 @@ small_output : cover_output small ≡ codes "visit 4 5 1" ++ 10 ∷ codes "visit
 unfolding cover_output
 small_output = rw (steps_between_is small start done 43 (start_fits small) reaches_done) small_report
 
--- with --first 1 its one visit, and that the search stopped there; with --first 2 the same as without
+-- with --first 1 its one visit, and that the search stopped there; with --first 2 the totals come after it, as without
 first_report : first_text 1 (report_of (account_of true small (states small 43 start))) ≡ codes "visit 4 5 1" ++ 10 ∷ codes "first 1" ++ 10 ∷ []
 unfolding account_of without_last_zeros digits next covered_by taken choice active remaining
 first_report = refl
@@ -75,8 +75,7 @@ small_first : first_cover_output 1 small ≡ codes "visit 4 5 1" ++ 10 ∷ codes
 unfolding first_cover_output
 small_first = rw (steps_between_is small start done 43 (start_fits small) reaches_done) first_report
 
-first_two : first_text 2 (report_of (account_of true small (states small 43 start))) ≡ report_text (report_of (account_of true small (states small 43 start)))
-unfolding account_of without_last_zeros digits next covered_by taken choice active remaining
+first_two : cover_end 2 (record { visits = (4 ∷ 5 ∷ 1 ∷ []) ∷ []; visited = 1; steps = 43; levels = 1 ∷ 2 ∷ 2 ∷ 1 ∷ [] }) ≡ total_lines 1 43 (1 ∷ 2 ∷ 2 ∷ 1 ∷ [])
 first_two = refl
 
 -- `option z` on line 2, where no item has that name

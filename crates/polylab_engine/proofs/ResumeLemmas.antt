@@ -9,6 +9,7 @@ use Rattle.x_steps.specs.StateValue.{StateValue, at, done}
 use Rattle.x_steps.specs.Steps.{Fits}
 use Rattle.x_steps.specs.Run.{after, steps_between, ReachesIn}
 use Rattle.x_steps.specs.Rank.{rank}
+use Rattle.x_steps.specs.Machine.{Position}
 use Rattle.x_steps.proofs.RunLemmas.{start_fits, done_fits, after_fits, leads_to, rises_between, steps_between_is}
 use Rattle.x_steps.proofs.BetweenLemmas.{steps_between_self}
 use Rattle.x_steps.proofs.StretchLemmas.{reached_rank}
@@ -24,8 +25,8 @@ use Rattle.x_snapshot.specs.declared.fault.SnapshotFault.TheVariants.{NotOnRun, 
 use Rattle.x_snapshot.specs.Snapshot.{SnapshotValue, snapshot_with, path_in, IsCutIfAny, IsSnapshot}
 use Rattle.x_snapshot.specs.Refusals.{IsRefused}
 use Rattle.x_snapshot.specs.Writing.{snapshot_text}
-use Rattle.polylab_engine.specs.Stretch.{end_at, steps_taken}
-use Rattle.polylab_engine.specs.Resumed.{branch_end, stop_of, at_state, end_text, rest_text}
+use Rattle.polylab_engine.specs.Stretch.{end_at, steps_taken, stop_from}
+use Rattle.polylab_engine.specs.Resumed.{branch_end, stop_of, snapshot_position, at_state, end_text, rest_text}
 use Rattle.polylab_engine.proofs.StopLemmas.{taken_within, taken_or}
 
 -- ---- the end of a branch
@@ -141,3 +142,9 @@ module _ (v : SnapshotValue) (t : StateValue) (s : IsSnapshot (at_state v t)) wh
       let low = not_before v.problem (branch_end v) t there s.on_run.fits s.inside.within.not_past in
       let test = rank_test v.problem t (branch_end v) s.on_run.fits there (other_before v.problem t (branch_end v) s.on_run.fits there low n) in
       rw test refl
+
+-- a machine at a snapshot's state stops where a stretch from there does
+pub stop_is : (most : Option ℕ) (v : SnapshotValue) (m : Position) (end : List ℕ) → m ≡ snapshot_position v → end_at end ≡ branch_end v → stop_from most m end ≡ stop_of most v
+stop_is most v m end here e =
+    ap (λ (q : Position). stop_from most q end) here
+    ∙ ap (λ (s : StateValue). after v.problem (steps_taken most (steps_between v.problem v.state s)) v.state) e

@@ -89,9 +89,9 @@ taken_or (Some most) ahead = step (cases_lt most ahead)
 
 -- a walk took no step since all visits are there, or since it was to take none, or where it stands at the end
 pub why_none : {pace : ℕ} {Full None End : Type 0} → (pace ≡ 0 → Full ⊎ None) → (pace ≡ 0) ⊎ End → Full ⊎ (None ⊎ End)
-why_none kept (inl z) = by (kept z)
+why_none {Full = Full} {None = None} {End = End} kept (inl z) = by (kept z)
   where
-    by : _ → _
+    by : Full ⊎ None → Full ⊎ (None ⊎ End)
     by (inl f) = inl f
     by (inr n) = inr (inl n)
 why_none kept (inr e) = inr (inr e)

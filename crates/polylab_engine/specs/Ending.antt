@@ -8,11 +8,18 @@ use Rattle.std.specs.Io.KnownBytes.{Appends}
 use Rattle.byte_streams.specs.Stream.{Stream, IsSound, HasFailed, Stays, TakesAll, TakesPart, Takes}
 use Rattle.byte_streams.specs.Input.{GoesPastLimit, most_input}
 use Rattle.lab_pool.specs.declared.fault.PoolFault.{PoolFault}
+use Rattle.polylab_engine.specs.declared.fault.JobFault.{JobFault}
+use Rattle.polylab_engine.specs.declared.fault.JobFault.TheVariants as faults
 use Rattle.polylab_engine.specs.declared.job.Job.{Job}
 use Rattle.polylab_engine.specs.declared.engine.Ending.{Ending}
 use Rattle.polylab_engine.specs.declared.engine.Ending.TheVariants.{Written, Refused, OutOfMemory, Pool, Unread, Unwritten}
 use Rattle.polylab_engine.specs.Outcome.{outcome, to_write, no_memory, pool_refusal, bad_reader, bad_writer}
 use Rattle.polylab_engine.specs.Listing.{IsListed}
+
+-- how a run ends whose job could not be done
+abbrev pub ending_of : JobFault → Ending
+ending_of faults.OutOfMemory = OutOfMemory
+ending_of (faults.Pool fault) = Pool fault
 
 -- the input, where it is known, is within the limit, and this is what the job does with it
 abbrev pub IsOutcomeOf : Job → Stream → Result (List ℕ) (List ℕ) → Type 0

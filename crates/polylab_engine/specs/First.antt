@@ -3,27 +3,19 @@
 --
 -- Example: the small problem has one visit. Of it `cover --first 1` writes `visit 4 5 1` and `first 1`, and `cover --first 2` what `cover`
 -- writes. proofs/OutputExamples.antt computes it.
-use Rattle.std.specs.Prelude.{ℕ, ◌≡◌, ◌<◌, Bool, true, false, List, [], ◌∷◌, ◌++◌, map, take, length, decimal, codes, nat_lt, if◌then◌else◌}
+use Rattle.std.specs.Prelude.{ℕ, ◌≡◌, ◌<◌, true, List, [], ◌∷◌, ◌++◌, map, take, length, decimal, codes, nat_lt, if◌then◌else◌}
 use Rattle.text_lines.specs.Writing.{line_text, text_of}
 use Rattle.cover_problem.specs.Problem.{ProblemValue}
 use Rattle.poly_texts.specs.Puzzle.{PuzzleValue}
 use Rattle.poly_place.specs.Packings.{packing_problem}
 use Rattle.x_texts.specs.Words.{visit_words}
-use Rattle.polylab_engine.specs.declared.job.Job.{Job}
-use Rattle.polylab_engine.specs.declared.job.Job.TheVariants as jobs
 use Rattle.polylab_engine.specs.Account.{ReportValue}
 use Rattle.polylab_engine.specs.Output.{whole_report, total_lines}
 use Rattle.polylab_engine.specs.Packed.{packings_from, number_line}
 
--- whether a job stops at the first ones
-abbrev pub is_first : Job → Bool
-is_first (jobs.FirstCovers n) = true
-is_first (jobs.FirstPackings n) = true
-is_first _ = false
-
 -- the line that tells that the search stopped at the visit of this number
-abbrev pub first_line : ℕ → List (List ℕ)
-first_line n = codes "first" ∷ decimal n ∷ []
+abbrev pub stopped_line : ℕ → List (List ℕ)
+stopped_line n = codes "first" ∷ decimal n ∷ []
 
 -- a report that has the first n visits, and is that of the whole run where there are fewer
 pub record IsFirstReport (n : ℕ) (p : ProblemValue) (r : ReportValue) : Type 0 where
@@ -33,7 +25,7 @@ pub record IsFirstReport (n : ℕ) (p : ProblemValue) (r : ReportValue) : Type 0
 
 -- the lines after the visits: the totals of a report that has fewer than n, or else that the search stopped there
 abbrev pub cover_end : ℕ → ReportValue → List (List (List ℕ))
-cover_end n r = if nat_lt r.visited n then total_lines r.visited r.steps r.levels else first_line n ∷ []
+cover_end n r = if nat_lt r.visited n then total_lines r.visited r.steps r.levels else stopped_line n ∷ []
 
 -- the first n visits of a whole run's report, and the lines after them
 abbrev pub first_text : ℕ → ReportValue → List ℕ
@@ -45,7 +37,7 @@ first_cover_output n p = first_text n (whole_report true p)
 
 -- the line after the packings: how many they are where they are fewer than n, or else that the search stopped there
 abbrev pub packings_end : ℕ → ℕ → List (List ℕ)
-packings_end n visited = if nat_lt visited n then number_line visited else first_line n
+packings_end n visited = if nat_lt visited n then number_line visited else stopped_line n
 
 -- what `solve --first` writes of a puzzle
 unfoldable pub first_packings_output : ℕ → PuzzleValue → List ℕ

@@ -3,11 +3,12 @@ pub mod Output
 pub mod Stretch
 pub mod Packed
 pub mod Classified
+pub mod First
 pub mod Debugged
 pub mod Resumed
 pub mod Joined
+pub mod Jobs
 pub mod Outcome
 pub mod Listing
 pub mod Ending
 pub mod Tables
-pub mod First

@@ -4,7 +4,7 @@
 --
 -- Example: the path 4 5 1 is an exact cover of the small problem: its options a d f, b g and c e have each item once.
 -- proofs/JobExamples.antt shows it.
-use Rattle.std.specs.Prelude.{ℕ, ◌≡◌, ◌<◌, ◌≤◌, ◌⊎◌, Bool, Option, Some, List, [], ◌++◌, length, map, take, slice_index_or, EachIndex, Ok}
+use Rattle.std.specs.Prelude.{ℕ, ◌≡◌, ◌<◌, ◌≤◌, ◌⊎◌, Bool, Option, Some, List, [], ◌∷◌, ◌++◌, length, map, take, slice_index_or, EachIndex, Ok}
 use Rattle.text_lines.specs.Writing.{line_text, text_of}
 use Rattle.cover_problem.specs.Lists.{has}
 use Rattle.cover_problem.specs.Problem.{ProblemValue}
@@ -33,7 +33,7 @@ use Rattle.polylab_engine.specs.declared.job.Job.TheVariants as jobs
 use Rattle.x_texts.specs.Words.{visit_words}
 use Rattle.polylab_engine.specs.Output.{total_lines}
 use Rattle.polylab_engine.specs.Packed.{packings_from, number_line, count_lines}
-use Rattle.polylab_engine.specs.First.{first_line}
+use Rattle.polylab_engine.specs.First.{stopped_line}
 use Rattle.polylab_engine.specs.Classified.{packings_of, class_lines}
 use Rattle.debug_script.specs.Input.{problem_text, command_lines}
 use Rattle.polylab_engine.specs.Debugged.{debug_output}
@@ -75,7 +75,7 @@ pub record ListsFirstCovers (n : ℕ) (p : ProblemValue) (text : List ℕ) : Typ
   pub rise : PathsRise paths
   pub covers : AreCovers p paths
   pub few : length paths < n → text ≡ text_of (map visit_words paths) ++ text_of (total_lines (length paths) steps levels)
-  pub first : n ≤ length paths → text ≡ text_of (map visit_words (take n paths)) ++ line_text (first_line n)
+  pub first : n ≤ length paths → text ≡ text_of (map visit_words (take n paths)) ++ text_of (stopped_line n ∷ [])
 
 -- the text shows the first n of the packings, each once, in path order, and that the search stopped there; or all, and their number
 pub record ListsFirstPackings (n : ℕ) (p : PuzzleValue) (text : List ℕ) : Type 0 where
@@ -83,7 +83,7 @@ pub record ListsFirstPackings (n : ℕ) (p : PuzzleValue) (text : List ℕ) : Ty
   pub rise : PathsRise paths
   pub packings : ArePackingPaths p paths
   pub few : length paths < n → text ≡ packings_from p 1 paths ++ line_text (number_line (length paths))
-  pub first : n ≤ length paths → text ≡ packings_from p 1 (take n paths) ++ line_text (first_line n)
+  pub first : n ≤ length paths → text ≡ packings_from p 1 (take n paths) ++ line_text (stopped_line n)
 
 -- the text tells how many packings there are, how many options, and the steps and levels of the search
 pub record CountsPackings (p : PuzzleValue) (text : List ℕ) : Type 0 where

@@ -41,6 +41,19 @@ pub enum Ending {
     Unwritten,
 }
 
+impl From<JobFault> for Ending {
+    ghost use Rattle.polylab_engine.specs.Ending.{ending_of};
+
+    ghost from_gives = { λ fault ending. ending ≡ ending_of fault };
+
+    fn from(fault: JobFault) -> Ending {
+        match fault {
+            JobFault::OutOfMemory => Ending::OutOfMemory,
+            JobFault::Pool(fault) => Ending::Pool(fault),
+        }
+    }
+}
+
 /// The exit status of a run that ended so.
 fn status(ending: &Ending) -> u8
     ensures { result ≡ status_of ending.now }
@@ -96,8 +109,7 @@ fn work<W: Workers, I: Source, O: Sink>(
             Err(_) => Ending::Unwritten,
         },
         Ok(Answer::Refused(line)) => Ending::Refused(line),
-        Err(JobFault::OutOfMemory) => Ending::OutOfMemory,
-        Err(JobFault::Pool(fault)) => Ending::Pool(fault),
+        Err(fault) => Ending::from(fault),
     }
 }
 

@@ -24,6 +24,14 @@ impl From<AllocError> for JobFault {
     }
 }
 
+impl From<PoolFault> for JobFault {
+    ghost from_gives = { λ fault e. e ≡ faults.Pool fault };
+
+    fn from(fault: PoolFault) -> JobFault {
+        JobFault::Pool(fault)
+    }
+}
+
 impl From<RepliesFault> for JobFault {
     ghost use Rattle.polylab_engine.specs.Debugged.{job_fault};
 

@@ -1,6 +1,6 @@
 //! The jobs.
 ghost use Rattle.std.specs.Prelude.{◌≡◌};
-ghost use Rattle.polylab_engine.specs.First.{is_first};
+ghost use Rattle.polylab_engine.specs.Jobs.{is_first, takes_commands};
 
 /// What the program is asked to do.
 #[derive(Clone, Copy, Debug, PartialEq, Eq)]
@@ -36,7 +36,9 @@ impl Job {
     }
 
     /// Whether it answers commands, which follow the input's text.
-    pub fn takes_commands(self) -> bool {
+    pub fn takes_commands(self) -> bool
+        ensures { result ≡ takes_commands self }
+    {
         matches!(self, Job::DebugPuzzle | Job::DebugCover)
     }
 }

@@ -107,6 +107,6 @@ fn share_by<T: Table + Send + Sync, R: Threads + Wait + Sync, G: Gate>(
 {
     match run_pool::<T, R, G>(rt, alloc, problem, count, gate) {
         Ok(book) => Ok(Report::of_book(alloc, &book, keeps)?),
-        Err(refused) => Err(JobFault::Pool(refused.fault)),
+        Err(refused) => Err(JobFault::from(refused.fault)),
     }
 }

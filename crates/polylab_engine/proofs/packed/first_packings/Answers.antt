@@ -1,7 +1,7 @@
-use Rattle.std.proofs.Common.{◌∙◌, ap, subst, ◌++◌, List, ℕ}
+use Rattle.std.proofs.Common.{subst}
 use Rattle.cover_problem.specs.Problem.{ProblemValue}
 use Rattle.polylab_engine.specs.First.{IsFirstReport}
-use Rattle.polylab_engine.proofs.FirstLemmas.{first_shown}
+use Rattle.polylab_engine.proofs.FirstLemmas.{packings_shown}
 use Rattle.polylab_engine.proofs.ListingLemmas.{first_report_covers}
 use Rattle.polylab_engine.proofs.packed.first_packings.Goals as goal
 
@@ -12,5 +12,4 @@ push_packings-requires c =
 pub returns : goal.returns
 returns c =
     let first = subst (λ (q : ProblemValue). IsFirstReport c.args.first q c.in_ok-report.report) c.problem-problem.ensures c.in_ok-report.ensures in
-    c.in_ok-push_end.ensures ∙ ap (λ (t : List ℕ). t ++ _) c.in_ok-push_packings.ensures
-    ∙ first_shown c.args.first c.args.compiled.now c.in_ok-report.report first
+    packings_shown c.args.first c.args.compiled.now c.in_ok-report.report first _ _ _ _ _ c.new-text.ensures.items c.visits.ensures c.visited.ensures c.in_ok-push_packings.ensures c.in_ok-push_end.ensures

@@ -1,8 +1,8 @@
-use Rattle.std.proofs.Common.{sym, subst}
+use Rattle.std.proofs.Common.{sym, subst, ◌∙◌}
 use Rattle.x_steps.specs.Steps.{Fits}
 use Rattle.x_steps.specs.Machine.{Position}
 use Rattle.polylab_engine.specs.Stretch.{end_at}
-use Rattle.polylab_engine.proofs.ResumeLemmas.{end_fits}
+use Rattle.polylab_engine.proofs.ResumeLemmas.{end_fits, stop_is}
 use Rattle.polylab_engine.proofs.StopLemmas.{not_stopped}
 use Rattle.polylab_engine.proofs.resuming.stretch_by.Goals as goal
 
@@ -12,4 +12,5 @@ search_on-requires-clause-end g c =
     (subst (Fits c.args.snapshot.now.problem) (sym c.end_choices.ensures) (end_fits c.args.snapshot.now c.is_sound.ensures.snapshot))
 
 pub returns-clause-stop : goal.returns-clause-stop
-returns-clause-stop g c = not_stopped _ c.in_ok-report.ensures.stop
+returns-clause-stop g c =
+    not_stopped _ c.in_ok-report.ensures.stop ∙ stop_is c.args.most c.args.snapshot.now _ _ c.in_ok-machine.ensures c.end_choices.ensures

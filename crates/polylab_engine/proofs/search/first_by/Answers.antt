@@ -1,3 +1,4 @@
+use Rattle.std.proofs.Common.{true}
 use Rattle.polylab_engine.proofs.StopLemmas.{whole_not_past}
 use Rattle.polylab_engine.proofs.FirstLemmas.{first_report}
 use Rattle.polylab_engine.proofs.search.first_by.Goals as goal

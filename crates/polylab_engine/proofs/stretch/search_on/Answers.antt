@@ -1,4 +1,5 @@
 use Rattle.std.proofs.Common.{◌≡◌, ◌≤◌, ◌+◌, ◌-◌, ◌⊎◌, Some, length, sym, ap, ◌∙◌, subst, arith, inl, inr}
+use Rattle.std.specs.Prelude.{IsSomeAnd}
 use Rattle.cover_problem.specs.Problem.{ProblemValue, IsProblem}
 use Rattle.x_steps.specs.StateValue.{StateValue}
 use Rattle.x_steps.specs.Steps.{Fits}
@@ -11,8 +12,8 @@ use Rattle.polylab_engine.proofs.StopLemmas.{pace_left, why_none, either, full_i
 use Rattle.polylab_engine.proofs.SearchLemmas.{Searches, searches_begin, searches_on, searches_nearer, searches_anew, searches_end, searches_stop, new_fits}
 use Rattle.polylab_engine.proofs.stretch.search_on.Goals as goal
 
-pub loop-left-init : goal.loop-left-init
-loop-left-init g c = (
+pub loop-first-init : goal.loop-first-init
+loop-first-init g c = (
   searches_begin _ _ _ _ _ _ _ _ (subst (λ (m : Position). IsProblem m.problem) c.machine.view_is c.machine.invariant.sound)
       (subst (λ (m : Position). Fits m.problem m.state) c.machine.view_is c.machine.invariant.fit) c.requires.end c.requires.not_past
       (c.items-items.ensures.count ∙ ap (λ (q : ProblemValue). length q.names) c.problem.ensures) c.in_ok-tally.ensures c.in_ok-counts.ensures (omega arith),
@@ -24,88 +25,88 @@ pub returns-then-walk-eq0-clause-stop : goal.returns-then-walk-eq0-clause-stop
 returns-then-walk-eq0-clause-stop g c =
     let t = c.if-walk-eq0.true in
     let none : c.walk_on-walk.result.steps ≡ 0 = omega arith in
-    let walk = subst (λ l. IsWalk c.loop-left.machine.problem c.loop-left.machine.state c.walk_on-walk.new.machine.state l c.walk_on-walk.new.counts c.walk_on-walk.result.steps c.walk_on-walk.result.event) c.deref_mut.ensures.value c.walk_on-walk.ensures.walk in
+    let walk = subst (λ l. IsWalk c.loop-first.machine.problem c.loop-first.machine.state c.walk_on-walk.new.machine.state l c.walk_on-walk.new.counts c.walk_on-walk.result.steps c.walk_on-walk.result.event) c.deref_mut.ensures.value c.walk_on-walk.ensures.walk in
     let others = ap (λ (t : Account). t.visited) c.in_ok-add_counts.ensures.others in
-    let told : c.in_ok-report.report.visited ≡ c.loop-left.tally.visited = ap (λ (r : ReportValue). r.visited) c.in_ok-report.ensures ∙ others in
+    let told = ap (λ (r : ReportValue). r.visited) c.in_ok-report.ensures ∙ others in
     let why = why_none c.pace_of.ensures.none (c.walk_on-walk.ensures.none none) in
-    either why (λ full. full_is c.args.first c.loop-left.tally.visited (c.is_full.ensures.0 full) c.loop-left.invariant.2 ∙ ap Some (sym told))
+    either why (λ full. full_is c.args.first c.loop-first.tally.visited (c.is_full.ensures.0 full) c.loop-first.invariant.2 ∙ ap Some (sym told))
     (λ stops. c.in_ok-stop.ensures ∙ c.state.ensures.state
-    ∙ searches_stop _ _ _ _ _ _ c.walk_on-walk.new.machine _ _ _ _ _ _ _ c.loop-left.invariant.0 walk none c.loop-left.invariant.1 stops)
+    ∙ searches_stop _ _ _ _ _ _ c.walk_on-walk.new.machine _ _ _ _ _ _ _ c.loop-first.invariant.0 walk none c.loop-first.invariant.1 stops)
 
 pub returns-then-walk-eq0-clause-first : goal.returns-then-walk-eq0-clause-first
 returns-then-walk-eq0-clause-first g c =
     let others = ap (λ (t : Account). t.visited) c.in_ok-add_counts.ensures.others in
-    let told : c.in_ok-report.report.visited ≡ c.loop-left.tally.visited = ap (λ (r : ReportValue). r.visited) c.in_ok-report.ensures ∙ others in
-    λ n e. let most = c.loop-left.invariant.2 n e in omega arith
+    let told = ap (λ (r : ReportValue). r.visited) c.in_ok-report.ensures ∙ others in
+    λ n e. let most = c.loop-first.invariant.2 n e in omega arith
 
 pub returns-then-walk-eq0-clause-fits : goal.returns-then-walk-eq0-clause-fits
 returns-then-walk-eq0-clause-fits g c =
-    let walk = subst (λ l. IsWalk c.loop-left.machine.problem c.loop-left.machine.state c.walk_on-walk.new.machine.state l c.walk_on-walk.new.counts c.walk_on-walk.result.steps c.walk_on-walk.result.event) c.deref_mut.ensures.value c.walk_on-walk.ensures.walk in
+    let walk = subst (λ l. IsWalk c.loop-first.machine.problem c.loop-first.machine.state c.walk_on-walk.new.machine.state l c.walk_on-walk.new.counts c.walk_on-walk.result.steps c.walk_on-walk.result.event) c.deref_mut.ensures.value c.walk_on-walk.ensures.walk in
     subst (Fits c.args.machine.problem) (sym (c.in_ok-stop.ensures ∙ c.state.ensures.state))
-    (new_fits _ _ _ _ _ _ c.walk_on-walk.new.machine _ _ _ _ _ _ _ c.loop-left.invariant.0 walk)
+    (new_fits _ _ _ _ _ _ c.walk_on-walk.new.machine _ _ _ _ _ _ _ c.loop-first.invariant.0 walk)
 
 pub returns-then-walk-eq0-clause-report : goal.returns-then-walk-eq0-clause-report
 returns-then-walk-eq0-clause-report g c =
     let t = c.if-walk-eq0.true in
     let none : c.walk_on-walk.result.steps ≡ 0 = omega arith in
-    let walk = subst (λ l. IsWalk c.loop-left.machine.problem c.loop-left.machine.state c.walk_on-walk.new.machine.state l c.walk_on-walk.new.counts c.walk_on-walk.result.steps c.walk_on-walk.result.event) c.deref_mut.ensures.value c.walk_on-walk.ensures.walk in
-    let size : c.loop-left.counts.len ≡ length c.loop-left.counts.items = sym c.deref_mut.ensures.len ∙ ap length c.deref_mut.ensures.value in
+    let walk = subst (λ l. IsWalk c.loop-first.machine.problem c.loop-first.machine.state c.walk_on-walk.new.machine.state l c.walk_on-walk.new.counts c.walk_on-walk.result.steps c.walk_on-walk.result.event) c.deref_mut.ensures.value c.walk_on-walk.ensures.walk in
+    let size : c.loop-first.counts.len ≡ length c.loop-first.counts.items = sym c.deref_mut.ensures.len ∙ ap length c.deref_mut.ensures.value in
     let row = c.deref.ensures.value ∙ lent_whole _ _ _ walk.counted.levels size in
-    let sums = subst (λ l. AreSums c.loop-left.tally.entered l c.add_counts.new.self.entered) row c.in_ok-add_counts.ensures.sums in
-    let whole = searches_end _ _ _ _ _ _ c.walk_on-walk.new.machine _ _ _ _ _ _ _ c.loop-left.invariant.0 walk none c.add_counts.new.self c.in_ok-add_counts.ensures.others sums in
+    let sums = subst (λ l. AreSums c.loop-first.tally.entered l c.add_counts.new.self.entered) row c.in_ok-add_counts.ensures.sums in
+    let whole = searches_end _ _ _ _ _ _ c.walk_on-walk.new.machine _ _ _ _ _ _ _ c.loop-first.invariant.0 walk none c.add_counts.new.self c.in_ok-add_counts.ensures.others sums in
     c.in_ok-report.ensures ∙ ap report_of whole
     ∙ ap (λ (s : StateValue). report_of (account_of c.args.keeps c.args.machine.problem (states_between c.args.machine.problem c.args.machine.state s))) (sym (c.in_ok-stop.ensures ∙ c.state.ensures.state))
 
-pub loop-left-smaller : goal.loop-left-smaller
-loop-left-smaller g c =
+pub loop-first-smaller : goal.loop-first-smaller
+loop-first-smaller g c =
     let f = c.if-walk-eq0.false in
-    let walk = subst (λ l. IsWalk c.loop-left.machine.problem c.loop-left.machine.state c.walk_on-walk.new.machine.state l c.walk_on-walk.new.counts c.walk_on-walk.result.steps c.walk_on-walk.result.event) c.deref_mut.ensures.value c.walk_on-walk.ensures.walk in
-    searches_nearer _ _ _ _ _ _ c.walk_on-walk.new.machine _ _ _ _ _ _ _ c.loop-left.invariant.0 walk (omega arith)
+    let walk = subst (λ l. IsWalk c.loop-first.machine.problem c.loop-first.machine.state c.walk_on-walk.new.machine.state l c.walk_on-walk.new.counts c.walk_on-walk.result.steps c.walk_on-walk.result.event) c.deref_mut.ensures.value c.walk_on-walk.ensures.walk in
+    searches_nearer _ _ _ _ _ _ c.walk_on-walk.new.machine _ _ _ _ _ _ _ c.loop-first.invariant.0 walk (omega arith)
 
-pub loop-left-smaller-then-room-eq0 : goal.loop-left-smaller-then-room-eq0
-loop-left-smaller-then-room-eq0 g c =
+pub loop-first-smaller-then-room-eq0 : goal.loop-first-smaller-then-room-eq0
+loop-first-smaller-then-room-eq0 g c =
     let f = c.if-walk-eq0.false in
-    let walk = subst (λ l. IsWalk c.loop-left.machine.problem c.loop-left.machine.state c.walk_on-walk.new.machine.state l c.walk_on-walk.new.counts c.walk_on-walk.result.steps c.walk_on-walk.result.event) c.deref_mut.ensures.value c.walk_on-walk.ensures.walk in
-    searches_nearer _ _ _ _ _ _ c.walk_on-walk.new.machine _ _ _ _ _ _ _ c.loop-left.invariant.0 walk (omega arith)
+    let walk = subst (λ l. IsWalk c.loop-first.machine.problem c.loop-first.machine.state c.walk_on-walk.new.machine.state l c.walk_on-walk.new.counts c.walk_on-walk.result.steps c.walk_on-walk.result.event) c.deref_mut.ensures.value c.walk_on-walk.ensures.walk in
+    searches_nearer _ _ _ _ _ _ c.walk_on-walk.new.machine _ _ _ _ _ _ _ c.loop-first.invariant.0 walk (omega arith)
 
-pub loop-left-preserved : goal.loop-left-preserved
-loop-left-preserved g c =
-    let walk = subst (λ l. IsWalk c.loop-left.machine.problem c.loop-left.machine.state c.walk_on-walk.new.machine.state l c.walk_on-walk.new.counts c.walk_on-walk.result.steps c.walk_on-walk.result.event) c.deref_mut.ensures.value c.walk_on-walk.ensures.walk in
-    let size : c.loop-left.counts.len ≡ length c.loop-left.counts.items = sym c.deref_mut.ensures.len ∙ ap length c.deref_mut.ensures.value in
+pub loop-first-preserved : goal.loop-first-preserved
+loop-first-preserved g c =
+    let walk = subst (λ l. IsWalk c.loop-first.machine.problem c.loop-first.machine.state c.walk_on-walk.new.machine.state l c.walk_on-walk.new.counts c.walk_on-walk.result.steps c.walk_on-walk.result.event) c.deref_mut.ensures.value c.walk_on-walk.ensures.walk in
+    let size : c.loop-first.counts.len ≡ length c.loop-first.counts.items = sym c.deref_mut.ensures.len ∙ ap length c.deref_mut.ensures.value in
     let pace = c.pace_of.ensures.room in
     let within = c.walk_on-walk.ensures.within in
     let some = c.if-walk-eq0.false in
-    let less = λ h. let full = c.pace_of.ensures.full (c.is_full.ensures.1 h) in absurd (omega arith) in
+    let less : IsSomeAnd c.args.first (λ n. n ≤ c.loop-first.tally.visited) → ⊥ = λ h. let full = c.pace_of.ensures.full (c.is_full.ensures.1 h) in omega arith in
     let noted = ap (λ (t : Account). t.visited) c.in_ok-note.ensures in
-    let more = visits_within c.loop-left.tally.visited c.walk_on-walk.result.event in
-    let one : c.note.new.self.visited ≤ c.loop-left.tally.visited + 1 = omega arith in
-    let path = c.deref-in-loop-left.ensures.value ∙ ap (λ (s : StateValue). s.path) c.state-in-loop-left.ensures.state in
-    let on = searches_on _ _ _ _ _ _ c.walk_on-walk.new.machine _ _ _ _ _ _ _ c.loop-left.invariant.0 walk _ _ _ c.walk_on-walk.ensures.problem (omega arith)
-    (pace_left c.loop-left.left c.pace_of.result _ c.pace_of.ensures.left within) c.walk_on-walk.ensures.before path c.in_ok-note.ensures c.left_after-left.ensures in (
-      subst (λ l. Searches c.args.keeps c.args.machine.problem c.args.machine.state c.args.end.now c.args.most c.walk_on-walk.new.machine c.note.new.self l (c.loop-left.room - c.walk_on-walk.result.steps) c.left_after-left.result) (sym (lent_whole _ _ _ walk.counted.levels size)) on,
+    let more = visits_within c.loop-first.tally.visited c.walk_on-walk.result.event in
+    let one : c.note.new.self.visited ≤ c.loop-first.tally.visited + 1 = omega arith in
+    let path = c.deref-in-loop-first.ensures.value ∙ ap (λ (s : StateValue). s.path) c.state-in-loop-first.ensures.state in
+    let on = searches_on _ _ _ _ _ _ c.walk_on-walk.new.machine _ _ _ _ _ _ _ c.loop-first.invariant.0 walk _ _ _ c.walk_on-walk.ensures.problem (omega arith)
+    (pace_left c.loop-first.left c.pace_of.result _ c.pace_of.ensures.left within) c.walk_on-walk.ensures.before path c.in_ok-note.ensures c.left_after-left.ensures in (
+      subst (λ l. Searches c.args.keeps c.args.machine.problem c.args.machine.state c.args.end.now c.args.most c.walk_on-walk.new.machine c.note.new.self l (c.loop-first.room - c.walk_on-walk.result.steps) c.left_after-left.result) (sym (lent_whole _ _ _ walk.counted.levels size)) on,
       omega arith,
-      not_full c.args.first c.loop-left.tally.visited c.note.new.self.visited less one,
+      not_full c.args.first c.loop-first.tally.visited c.note.new.self.visited less one,
     )
 
-pub loop-left-preserved-then-room-eq0 : goal.loop-left-preserved-then-room-eq0
-loop-left-preserved-then-room-eq0 g c =
-    let walk = subst (λ l. IsWalk c.loop-left.machine.problem c.loop-left.machine.state c.walk_on-walk.new.machine.state l c.walk_on-walk.new.counts c.walk_on-walk.result.steps c.walk_on-walk.result.event) c.deref_mut.ensures.value c.walk_on-walk.ensures.walk in
-    let size : c.loop-left.counts.len ≡ length c.loop-left.counts.items = sym c.deref_mut.ensures.len ∙ ap length c.deref_mut.ensures.value in
+pub loop-first-preserved-then-room-eq0 : goal.loop-first-preserved-then-room-eq0
+loop-first-preserved-then-room-eq0 g c =
+    let walk = subst (λ l. IsWalk c.loop-first.machine.problem c.loop-first.machine.state c.walk_on-walk.new.machine.state l c.walk_on-walk.new.counts c.walk_on-walk.result.steps c.walk_on-walk.result.event) c.deref_mut.ensures.value c.walk_on-walk.ensures.walk in
+    let size : c.loop-first.counts.len ≡ length c.loop-first.counts.items = sym c.deref_mut.ensures.len ∙ ap length c.deref_mut.ensures.value in
     let pace = c.pace_of.ensures.room in
     let within = c.walk_on-walk.ensures.within in
     let some = c.if-walk-eq0.false in
-    let less = λ h. let full = c.pace_of.ensures.full (c.is_full.ensures.1 h) in absurd (omega arith) in
+    let less : IsSomeAnd c.args.first (λ n. n ≤ c.loop-first.tally.visited) → ⊥ = λ h. let full = c.pace_of.ensures.full (c.is_full.ensures.1 h) in omega arith in
     let noted = ap (λ (t : Account). t.visited) c.in_ok-note.ensures in
     let others = ap (λ (t : Account). t.visited) c.in_ok-add_counts-2.ensures.others in
-    let more = visits_within c.loop-left.tally.visited c.walk_on-walk.result.event in
-    let one : c.add_counts-then-room-eq0.new.self.visited ≤ c.loop-left.tally.visited + 1 = omega arith in
-    let path = c.deref-in-loop-left.ensures.value ∙ ap (λ (s : StateValue). s.path) c.state-in-loop-left.ensures.state in
-    let on = searches_on _ _ _ _ _ _ c.walk_on-walk.new.machine _ _ _ _ _ _ _ c.loop-left.invariant.0 walk _ _ _ c.walk_on-walk.ensures.problem (omega arith)
-    (pace_left c.loop-left.left c.pace_of.result _ c.pace_of.ensures.left within) c.walk_on-walk.ensures.before path c.in_ok-note.ensures c.left_after-left.ensures in
+    let more = visits_within c.loop-first.tally.visited c.walk_on-walk.result.event in
+    let one : c.add_counts-then-room-eq0.new.self.visited ≤ c.loop-first.tally.visited + 1 = omega arith in
+    let path = c.deref-in-loop-first.ensures.value ∙ ap (λ (s : StateValue). s.path) c.state-in-loop-first.ensures.state in
+    let on = searches_on _ _ _ _ _ _ c.walk_on-walk.new.machine _ _ _ _ _ _ _ c.loop-first.invariant.0 walk _ _ _ c.walk_on-walk.ensures.problem (omega arith)
+    (pace_left c.loop-first.left c.pace_of.result _ c.pace_of.ensures.left within) c.walk_on-walk.ensures.before path c.in_ok-note.ensures c.left_after-left.ensures in
     let row = c.deref-then-room-eq0.ensures.value ∙ lent_whole _ _ _ walk.counted.levels size in
     let sums = subst (λ l. AreSums c.note.new.self.entered l c.add_counts-then-room-eq0.new.self.entered) row c.in_ok-add_counts-2.ensures.sums in (
       searches_anew _ _ _ _ _ _ _ _ _ _ _ _ 4294967295 _ on c.in_ok-add_counts-2.ensures.others sums
           (c.items-items.ensures.count ∙ ap (λ (q : ProblemValue). length q.names) c.problem.ensures) c.in_ok-counts-2.ensures (omega arith),
       omega arith,
-      not_full c.args.first c.loop-left.tally.visited c.add_counts-then-room-eq0.new.self.visited less one,
+      not_full c.args.first c.loop-first.tally.visited c.add_counts-then-room-eq0.new.self.visited less one,
     )

@@ -13,22 +13,26 @@ PROGRAM = crates/polylab/out/polylab
 
 # The puzzles and cover texts of examples/ that take seconds; the others take up to some minutes each.
 QUICK = two-dominoes optional soma-cube soma-without-centre tetracubes-2x2x8 tetracubes-2x4x4 pentominoes-20x3 \
-	pentominoes-scott five-pentominoes-5x5 slothouber-graatsma solid-pentominoes-2x3x10
+	pentominoes-scott five-pentominoes-5x5 slothouber-graatsma slothouber-graatsma-copies dominoes-6x6 y-pentominoes-10x5 \
+	two-sets-of-tetrominoes-8x5 two-sets-of-tetrominoes-10x4 solid-pentominoes-2x3x10
 # Puzzles and cover texts that are also searched by workers.
-SHARED = puzzles/two-dominoes puzzles/soma-cube puzzles/pentominoes-20x3 covers/small covers/langford-10 covers/domino-8x6
+SHARED = puzzles/two-dominoes puzzles/soma-cube puzzles/pentominoes-20x3 puzzles/slothouber-graatsma-copies covers/small covers/langford-10 covers/domino-8x6
 QUICK_COVERS = small secondary soma-cube pent-20x3 langford-10 permutations-09 domino-8x6 queens-8 latin-4 sudoku
 LONG = pentominoes-15x4 pentominoes-12x5 pentominoes-10x6 pentominoes-8x8-without-corners dudeney \
-	solid-pentominoes-2x5x6 solid-pentominoes-3x4x5
+	solid-pentominoes-2x5x6 solid-pentominoes-3x4x5 soma-two-handed conway
 LONG_COVERS = pent-10x6 langford-12
+# Puzzles whose first packing comes at once, and whose count nobody waits for.
+FIRST = first/bricks-6x6x6
 
-.PHONY: all quick help build ci layout wrong-bodies bench gallery gallery-long check-docs check-edits check-names check-lemmas check-sentences check-ownership check-frame check-install check-tools check-texts check-parts check-page \
+.PHONY: all quick help build ci layout wrong-bodies bench gallery gallery-long check-docs check-edits check-names check-lemmas check-waiting check-sentences check-ownership check-frame check-install check-tools check-texts check-parts \
+	check-page \
 	check-completions check-words check-statuses check-memory check-memory-all install uninstall dist
 
 # The program, the quick examples, all checks of documents and scripts, and a sample of growths that are refused.
-all: check-names check-lemmas check-sentences check-ownership check-frame check-install build gallery check-tools check-texts check-parts check-docs check-words check-completions check-page check-statuses check-memory
+all: check-names check-lemmas check-waiting check-sentences check-ownership check-frame check-install build gallery check-tools check-texts check-parts check-docs check-words check-completions check-page check-statuses check-memory
 
 # The checks that take a minute, once the program is built: a landing has to pass them after the gate.
-quick: check-names check-lemmas check-sentences check-ownership check-install build gallery check-docs check-words check-statuses check-memory
+quick: check-names check-lemmas check-waiting check-sentences check-ownership check-install build gallery check-docs check-words check-statuses check-memory
 
 # What there is to do, each with the first line that stands above it here.
 help:
@@ -60,6 +64,8 @@ gallery: build
 	@tools/gallery $(QUICK:%=puzzles/%) $(QUICK_COVERS:%=covers/%)
 	@WORKERS=2 tools/gallery $(SHARED)
 	@WORKERS=8 tools/gallery $(SHARED)
+	@for table in links bits; do TABLE=$$table tools/gallery $(SHARED) || exit 1; WORKERS=2 TABLE=$$table tools/gallery $(SHARED) || exit 1; done
+	@tools/gallery $(FIRST)
 
 gallery-long: build
 	@tools/gallery $(LONG:%=puzzles/%) $(LONG_COVERS:%=covers/%)
@@ -105,6 +111,10 @@ check-names:
 # Each lemma is used by a proof, an example or a definition.
 check-lemmas:
 	@tools/check_lemmas
+
+# The functions of the program that may wait for ever stand in tools/waiting.txt with a reason, and no other.
+check-waiting:
+	@tools/check_waiting
 
 # What the documents say of names, clauses, numbers and crates is the tree's.
 check-sentences:

@@ -10,13 +10,13 @@ _polylab() {
             count) choices='--workers --table --classes --help' ;;
             debug) choices='--cover --help' ;;
             resume) choices='--table --steps --list --help' ;;
-            solve | cover) choices='--workers --table --help' ;;
+            solve | cover) choices='--workers --first --table --help' ;;
             options) choices='--help' ;;
             help) [ "$COMP_CWORD" -eq 2 ] && choices=$jobs ;;
         esac
         case ${COMP_WORDS[COMP_CWORD - 1]} in
             --table) choices='links bits' ;;
-            --workers | --steps | '<' | '>') choices= ;;
+            --workers | --first | --steps | '<' | '>') choices= ;;
         esac
         # An option that stands there already is not said again, and after --help nothing is.
         for ((k = 1; k < ${#COMP_WORDS[@]}; k++)); do

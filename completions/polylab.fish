@@ -13,6 +13,7 @@ complete -c polylab -n $first -a resume -d 'count a branch of a search from a sn
 complete -c polylab -n $first -a help -d 'tell what a job reads and writes'
 complete -c polylab -n "__fish_seen_subcommand_from help; and not __fish_seen_subcommand_from $jobs" -a "$jobs"
 complete -c polylab -n '__fish_seen_subcommand_from solve count cover' -l workers -x -d 'threads that share the search, 1 to 32'
+complete -c polylab -n '__fish_seen_subcommand_from solve cover' -l first -x -d 'stop at this one, with one worker'
 complete -c polylab -n '__fish_seen_subcommand_from solve count cover resume' -l table -x -a 'links bits' -d 'the table of the search'
 complete -c polylab -n '__fish_seen_subcommand_from count' -l classes -d 'count up to rotations and symmetries too'
 complete -c polylab -n '__fish_seen_subcommand_from debug' -l cover -d 'the problem is a cover text'

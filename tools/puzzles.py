@@ -3,12 +3,17 @@ it uses, so that it is a second opinion. It trusts nothing but the text that it 
 
 import contextlib
 import unicodedata
+from collections import namedtuple
 from itertools import permutations, product
 
 from frame import Stop, read_file
 
 DIGITS = "0123456789abcdefghijklmnopqrstuv"
 LETTERS = "0123456789ABCDEFGHIJKLMNOPQRSTUVWXYZabcdefghijklmnopqrstuvwxyz"
+
+
+# A piece: its name, its cells, `maybe` or `any` where it needn't be used once, and whether it may be reflected.
+Piece = namedtuple("Piece", ("name", "cells", "need", "mirror"))
 
 
 class Fault(Stop):
@@ -18,6 +23,13 @@ class Fault(Stop):
     def __init__(self, line, name, what, columns=None):
         super().__init__("the text is refused at line %d: %s: %s" % (line, name, what))
         self.line, self.name, self.what, self.columns = line, name, what, columns
+
+
+# What may come after these words of a line: `maybe`, `any` or neither, and `mirror` or not.
+KINDS = {
+    ("", False): ("piece", "copies", "box", "cells", "cut"), ("", True): ("piece", "copies"), ("maybe", False): ("piece", "cells"),
+    ("maybe", True): ("piece",), ("any", False): ("piece",), ("any", True): ("piece",),
+}
 
 
 class Reader:
@@ -78,12 +90,12 @@ def mark_named(line, column):
 
 
 class Puzzle(Reader):
-    """Pieces: lists of (name, cells, may be left out). Required and optional: sets of cells (x, y, z). Named: of each line that says the
-    region its number, its first word (`maybe` for `maybe cells`) and its cells."""
+    """Pieces: a list. Equal: the names of the pieces of each line `copies`. Required and optional: sets of cells (x, y, z). Named: of each
+    line that says the region its number, its first word (`maybe` for `maybe cells`) and its cells."""
 
     def __init__(self, text, faults=None):
         super().__init__(faults)
-        self.pieces, self.filled, self.spare, self.cut, self.named = [], set(), set(), set(), []
+        self.pieces, self.equal, self.filled, self.spare, self.cut, self.named = [], [], set(), set(), set(), []
         self.has_box = self.is_large = False
         self.read_lines(text, self.read)
         self.required = self.filled - self.spare - self.cut
@@ -96,20 +108,26 @@ class Puzzle(Reader):
                 self.stop("EmptyRegion", "the region has no cell: a line `box` or `cells` is missing, or all is cut")
             if not self.pieces:
                 self.stop("NoPiece", "there is no line `piece`")
-            if not self.required and all(maybe for _, _, maybe in self.pieces):
+            if not self.required and all(piece.need for piece in self.pieces):
                 self.stop("NothingRequired", "each piece may be left out and each cell may stay empty")
 
     def read(self, words):
         """One line by its words."""
-        first, maybe = words[0], words[0][0] == "maybe"
-        words = words[1:] if maybe else words
+        first, taken = words[0], []
+        for marks in (("maybe", "any"), ("mirror",)):
+            if words and words[0][0] in marks:
+                taken.append(words[0][0])
+                words = words[1:]
+        need, mirror, after = (taken[0] if taken[:1] in (["maybe"], ["any"]) else ""), "mirror" in taken, " ".join(taken)
+        wanted = KINDS[need, mirror]
         if not words:
-            self.stop("BadLine", "after `maybe` comes `piece` or `cells`", first)
+            self.stop("BadLine", "after `%s` comes %s" % (after, " or ".join("`%s`" % it for it in wanted)), first)
         kind, rest = words[0], words[1:]
-        if kind[0] not in (("piece", "cells") if maybe else ("piece", "box", "cells", "cut")):
-            self.stop("BadLine", "`%s` is no first word of a line%s" % (kind[0], " after `maybe`" if maybe else ""), kind)
-        if kind[0] == "piece":
-            self.read_piece(kind, rest, maybe)
+        if kind[0] not in wanted:
+            self.stop("BadLine", "`%s` is no first word of a line%s" % (kind[0], " after `%s`" % after if after else ""), kind)
+        maybe = need == "maybe"
+        if kind[0] in ("piece", "copies"):
+            self.read_piece(kind, rest, need, mirror)
         elif kind[0] == "box":
             self.read_box(kind, rest)
         else:
@@ -118,20 +136,26 @@ class Puzzle(Reader):
             places = self.read_cells(rest)
             {"cut": self.cut, "cells": self.spare if maybe else self.filled}[kind[0]].update(places)
             self.named.append((self.number, "maybe" if maybe else kind[0], places))
-        if kind[0] != "piece" and len(self.filled | self.spare) > 4096 and not self.is_large:
+        if kind[0] not in ("piece", "copies") and len(self.filled | self.spare) > 4096 and not self.is_large:
             self.is_large = True
             self.stop("TooLarge", "the lines so far name more than 4,096 cells", kind)
 
-    def read_piece(self, kind, rest, maybe):
+    def read_piece(self, kind, rest, need, mirror):
+        several = kind[0] == "copies"
         if len(rest) < 2:
-            self.stop("BadLine", "`piece` needs a name and cells", kind)
-        name = rest[0]
-        if len(name[0]) != 1 or name[0] not in LETTERS:
-            self.stop("BadLine", "`%s` is no name of a piece: one digit or letter" % name[0], name)
+            self.stop("BadLine", "`%s` needs %s and cells" % (kind[0], "names" if several else "a name"), kind)
+        word = rest[0]
+        if set(word[0]) - set(LETTERS) or (len(word[0]) < 2 if several else len(word[0]) != 1):
+            what = "doesn't name two pieces or more: two or more digits and letters" if several else "is no name of a piece: one digit or letter"
+            self.stop("BadLine", "`%s` %s" % (word[0], what), word)
         with self.going_on():
-            if any(name[0] == other for other, _, _ in self.pieces):
-                self.stop("RepeatedPiece", "a piece %s came before" % name[0], name)
-        self.pieces.append((name[0], self.read_cells(rest[1:], True), maybe))
+            for at, name in enumerate(word[0]):
+                if name in word[0][:at] or any(name == piece.name for piece in self.pieces):
+                    self.stop("RepeatedPiece", "a piece %s came before" % name, word)
+        cells = self.read_cells(rest[1:], True)
+        self.pieces += [Piece(name, cells, need, mirror) for name in word[0]]
+        if several:
+            self.equal.append(word[0])
 
     def read_box(self, kind, rest):
         if len(rest) != 3:
@@ -198,9 +222,12 @@ def puzzle_of(path):
 
 def packings_of(path):
     """The packings that `polylab solve` printed into a file, or to standard input where there is none, as far as they are all there."""
-    found, total = packings(lines_of(read_file(path or "-")))
+    lines = lines_of(read_file(path or "-"))
+    found, total = packings(lines)
     if total is None:
         raise Stop("this isn't all that `solve` printed: no line `packings` comes last")
+    if is_first(lines):
+        raise Stop("these are the first packings alone, and all are needed: `solve` prints them without --first")
     if total != len(found):
         raise Stop("this isn't all that `solve` printed: the last line says %d, and %d packings were read" % (total, len(found)))
     return found
@@ -223,44 +250,48 @@ def moved(cells):
     return tuple(sorted(tuple(place[axis] - low[axis] for axis in range(3)) for place in cells))
 
 
-def turned(cells):
-    """The cells under each rotation of space, moved; each shape once."""
+def turned(cells, mirror=False):
+    """The cells under each rotation of space, and under reflections too where it is asked for, moved; each shape once."""
     shapes = set()
     for axes in permutations(range(3)):
         even = axes in ((0, 1, 2), (1, 2, 0), (2, 0, 1))
         for signs in product((1, -1), repeat=3):
-            if (signs[0] * signs[1] * signs[2] == 1) == even:
+            if mirror or (signs[0] * signs[1] * signs[2] == 1) == even:
                 shapes.add(moved([tuple(signs[k] * place[axes[k]] for k in range(3)) for place in cells]))
     return shapes
 
 
 def placements(puzzle, piece):
-    """Each set of cells of the region that a piece can fill, sorted. One that may be left out fills a required cell."""
-    name, cells, maybe = piece
+    """Each set of cells of the region that a piece can fill, sorted. One that needn't be used once fills a required cell."""
     found = set()
-    for shape in turned(cells):
+    for shape in turned(piece.cells, piece.mirror):
         first = shape[0]
         for place in puzzle.region:
             step = [place[axis] - first[axis] for axis in range(3)]
             put = tuple(tuple(spot[axis] + step[axis] for axis in range(3)) for spot in shape)
             if all(spot in puzzle.region for spot in put):
-                if not maybe or any(spot in puzzle.required for spot in put):
+                if not piece.need or any(spot in puzzle.required for spot in put):
                     found.add(tuple(sorted(put)))
     return sorted(found)
 
 
+def is_first(lines):
+    """Whether `polylab solve --first` stopped at the last of these packings, so that there may be more."""
+    return any(line.split()[:1] == ["first"] for line in lines[-1:])
+
+
 def packings(lines):
     """The packings that `polylab solve` printed: for each its number and a dict from cells to characters, both as printed.
-    The last item is the number on the line `packings`."""
+    The last item is the number on the line `packings`, or `first`."""
     found, rows, at, total = [], [], None, None
     for line in lines:
         words = line.split()
-        if words[:1] in (["packing"], ["packings"]) and len(words) == 2:
+        if words[:1] in (["packing"], ["packings"], ["first"]) and len(words) == 2:
             if not (words[1].isascii() and words[1].isdecimal()):
                 raise Stop("the line `%s` has no number" % line)
             if at is not None:
                 found.append((at, layers(at, rows)))
-            if words[0] == "packings":
+            if words[0] != "packing":
                 total = int(words[1])
                 break
             at, rows = int(words[1]), []

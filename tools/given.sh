@@ -11,12 +11,12 @@ is_given() {
     esac
     while [ $# -gt 1 ]; do
         case $1 in
-            --workers | --steps)
-                # (what follows is the option's number, and not a file)
+            --workers | --first | --table | --steps)
+                # (what follows is the option's number or word, and not a file)
                 [ $# -gt 2 ] || return 1
                 shift 2
                 ;;
-            --workers=* | --steps=* | --classes | --cover | --list) shift ;;
+            --workers=* | --first=* | --table=* | --steps=* | --classes | --cover | --list) shift ;;
             *) return 1 ;;
         esac
     done

@@ -1,5 +1,6 @@
 pub mod BitLemmas
 pub mod PartLemmas
+pub mod RestLemmas
 pub mod CountLemmas
 pub mod ListLemmas
 pub mod TableLemmas

@@ -13,7 +13,7 @@ most_words = 1048576
 
 -- the least options of the mean list
 abbrev pub least_mean : ℕ
-least_mean = 16
+least_mean = 8
 
 -- the columns of so many workers' tables stay within the bound
 abbrev pub TablesFit : ProblemValue → ℕ → Type 0

@@ -9,7 +9,7 @@ use cover_problem::Problem;
 const MOST_WORDS: u64 = 1_048_576;
 
 /// The least options of the mean list, for which bits were found to be faster. specs/Rule.antt has the same number.
-const LEAST_MEAN: u64 = 16;
+const LEAST_MEAN: u64 = 8;
 
 /// Whether tables of bits for so many workers stay within the bound: items times words times workers is at most 1,048,576, where a set of the
 /// options takes a word for 64 of them. A table has 24 bytes for each word of each item, so all take 25 MB at most, beside one
@@ -34,7 +34,7 @@ fn nodes(problem: &Problem) -> u64
     nodes
 }
 
-/// Whether a run with so many workers takes tables of bits: they have room, and the mean list of an item has at least 16 options.
+/// Whether a run with so many workers takes tables of bits: they have room, and the mean list of an item has at least 8 options.
 ///
 /// The rule was measured on puzzles and covers, and promises no speed. Any answer gives the same output, since both tables keep the
 /// contract of `Table`.

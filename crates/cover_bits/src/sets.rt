@@ -119,6 +119,21 @@ pub(crate) fn first_both(parts: &[Part], row: &[u64], start: u32) -> Option<u32>
     None
 }
 
+/// The first number from `start` on that both sets have. The parts before its place are passed over by halving, as their places rise:
+/// where a level is wide they are thousands, and each step asks for the next option there.
+#[inline(always)]
+pub(crate) fn next_both(parts: &[Part], row: &[u64], start: u32) -> Option<u32>
+    requires placed { ArePlaced 0 (length row.now) parts.now }
+    requires small { 64 * length row.now < 2 ^ 32 }
+    ensures some { IfSome result (λ k. IsFirstFrom (in_both parts.now row.now) start k) }
+    ensures none { result ≡ None → NoneFrom (in_both parts.now row.now) start }
+{
+    let place = start / 64;
+    let before = parts.partition_point(|part| part.place < place);
+    let (_, rest) = parts.split_at(before);
+    first_both(rest, row, start)
+}
+
 /// The bits below one.
 #[inline(always)]
 fn below_bit(bit: u32) -> u64

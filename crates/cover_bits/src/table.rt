@@ -9,7 +9,7 @@ ghost use Rattle.cover_bits.specs.Bits.{IsListOf, IsNextWithout};
 
 use crate::making::{add_below, empty_row, fill, note_all};
 use crate::sets::{
-    Part, add, count_both, first_both, first_in, last_both, remove, without, words_for,
+    Part, add, count_both, first_both, first_in, last_both, next_both, remove, without, words_for,
 };
 use cover_problem::{Problem, Table, push_within};
 use std::alloc::{AllocError, Global};
@@ -231,7 +231,7 @@ impl Table for BitTable {
         // Where a field is read, what the whole keeps true is known: here, that the option has a number.
         let _primary = &self.primary;
         let (left, column) = self.list(item);
-        after(first_both(left, column, option))
+        after(next_both(left, column, option))
     }
 
     fn prev_option(&self, item: u32, option: u32) -> Option<u32> {

@@ -8,10 +8,10 @@ use std::test::Fail;
 
 /// Of a problem with one item the number of options; a number of workers; whether their tables have room, and whether bits suit it.
 static ROWS: [(u32, u32, bool, bool); 8] = [
-    (16, 1, true, true),
-    (15, 1, true, false),
-    (16, 1_048_576, true, true),
-    (16, 1_048_577, false, false),
+    (8, 1, true, true),
+    (7, 1, true, false),
+    (8, 1_048_576, true, true),
+    (8, 1_048_577, false, false),
     (64, 1_048_576, true, true),
     (65, 524_288, true, true),
     (65, 524_289, false, false),

@@ -23,7 +23,7 @@ use Rattle.poly_cells.proofs.MemberLemmas.{all_pass, passes, some_passes, passes
 use Rattle.poly_place.proofs.CarryLemmas.{maps_at, maps_are}
 use Rattle.poly_place.proofs.FormLemmas.{PartAlike}
 use Rattle.poly_place.proofs.ClassLemmas.{AreMatched, matched, alike, one_region}
-use Rattle.poly_place.proofs.PackingLemmas.{has_shapes}
+use Rattle.poly_place.proofs.PlacedLemmas.{has_shapes}
 use Rattle.std.proofs.lemmas.List.{append_assoc}
 
 -- ---- tests over cells, and over the symmetries

@@ -21,10 +21,10 @@ row = coordinates 0 0 0 ∷ coordinates 1 0 0 ∷ coordinates 2 0 0 ∷ []
 
 -- the packings of the row that read AAB and BAA
 abbrev left : PackingValue
-left = record { region = row; maybe_cells = []; placements = choice 65 (coordinates 0 0 0 ∷ coordinates 1 0 0 ∷ []) ∷ choice 66 (coordinates 2 0 0 ∷ []) ∷ [] }
+left = record { region = row; maybe_cells = []; placements = choice 65 (coordinates 0 0 0 ∷ coordinates 1 0 0 ∷ []) ∷ choice 66 (coordinates 2 0 0 ∷ []) ∷ []; symbols = [] }
 
 abbrev right : PackingValue
-right = record { region = row; maybe_cells = []; placements = choice 65 (coordinates 1 0 0 ∷ coordinates 2 0 0 ∷ []) ∷ choice 66 (coordinates 0 0 0 ∷ []) ∷ [] }
+right = record { region = row; maybe_cells = []; placements = choice 65 (coordinates 1 0 0 ∷ coordinates 2 0 0 ∷ []) ∷ choice 66 (coordinates 0 0 0 ∷ []) ∷ []; symbols = [] }
 
 its_parts : map (part_at left.placements) row ≡ 2 ∷ 2 ∷ 1 ∷ []
 its_parts = refl
@@ -67,7 +67,7 @@ a_form = refl
 
 -- the packing of the row that reads ABC
 abbrev apart : PackingValue
-apart = record { region = row; maybe_cells = []; placements = choice 65 (coordinates 0 0 0 ∷ []) ∷ choice 66 (coordinates 1 0 0 ∷ []) ∷ choice 67 (coordinates 2 0 0 ∷ []) ∷ [] }
+apart = record { region = row; maybe_cells = []; placements = choice 65 (coordinates 0 0 0 ∷ []) ∷ choice 66 (coordinates 1 0 0 ∷ []) ∷ choice 67 (coordinates 2 0 0 ∷ []) ∷ []; symbols = [] }
 
 two_classes : class_count (are_alike Rotations) (left ∷ right ∷ apart ∷ []) ≡ 2
 unfolding class_count are_alike carries image_in matrix is_rotation turned normal in_order

@@ -184,7 +184,7 @@ match_forms group vs ms cs ds s m n k l e =
 -- ---- keys
 
 abbrev key : List Coordinates → List (List ℕ) → List ChoiceValue → List ℕ
-key vs gs cs = key_of vs gs (record { region = vs; maybe_cells = []; placements = cs })
+key vs gs cs = key_of vs gs (record { region = vs; maybe_cells = []; placements = cs; symbols = [] })
 
 key_form : (group : Group) (vs ms : List Coordinates) (gs : List (List ℕ)) (cs : List ChoiceValue) → IsShape vs → AreCarriers group vs ms gs → (n : ℕ) × IsKept group vs ms n × (key vs gs cs ≡ form_at vs cs n)
 key_form group vs ms gs cs s all = from_form group vs ms gs cs s all (key vs gs cs) (least_in (parts_in vs cs) (first_form (parts_in vs cs)) gs)

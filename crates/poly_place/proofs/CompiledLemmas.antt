@@ -1,106 +1,31 @@
 -- Where it is within the limits, the problem that stands for a puzzle is one.
-use Rattle.std.proofs.Common.{◌||◌, ◌≡◌, ℕ, zero, suc, ◌+◌, ◌-◌, ◌<◌, ◌≤◌, ◌^◌, ◌/◌, ◌%◌, List, [], ◌∷◌, ◌++◌, map, flat_map, length, Bool, true, false, cond, not, ◌&&◌, nat_lt, nat_le, ◌==◌, inl, inr, refl, sym, ap, ap₂, subst, ◌∙◌, arith, bytes_eq, eqb-true, sum_by, Result, Ok}
-use Rattle.std.specs.List.{list_any, list_all, range_with_len, position_or_len}
-use Rattle.std.specs.Cmp.Lexicographic.{bytes_decides}
+use Rattle.std.proofs.Common.{◌||◌, ◌≡◌, ℕ, zero, suc, ◌+◌, ◌-◌, ◌<◌, ◌≤◌, ◌^◌, ◌/◌, ◌%◌, List, [], ◌∷◌, ◌++◌, map, flat_map, length, Bool, true, false, cond, not, ◌&&◌, nat_lt, nat_le, ◌==◌, inl, inr, refl, sym, ap₂, subst, ◌∙◌, arith, eqb-true}
+use Rattle.std.specs.List.{list_all, range_with_len, position_or_len}
 use Rattle.std.proofs.lemmas.List.Folds.{list_any-append}
-use Rattle.std.proofs.lemmas.Bool.{and_parts, and_from, or_left, le-leb, lt-ltb, cases_Bool, not_from_false, agree_below_at, both_ways, not-true, false_from_ne_true, true_from_ne_false, leb-true}
+use Rattle.std.proofs.lemmas.Bool.{and_parts, and_from, le-leb, lt-ltb, cases_Bool, not_from_false, both_ways, not-true, false_from_ne_true, true_from_ne_false}
 use Rattle.std.proofs.lemmas.Bool.Decides.{nat_tests}
-use Rattle.std.proofs.lemmas.List.{length-append, length-map, map-append, append_assoc}
+use Rattle.std.proofs.lemmas.List.{length-append, length-map}
 use Rattle.std.proofs.Math.Nat.{pow-le-pow_right}
-use Rattle.poly_cells.specs.Coordinates.{Coordinates, IsInGrid}
+use Rattle.poly_cells.specs.Coordinates.{Coordinates}
 use Rattle.poly_cells.specs.Sets.{IsIn}
-use Rattle.poly_cells.proofs.CoordinateLemmas.{coordinates_total, same_coordinates}
+use Rattle.poly_cells.proofs.CoordinateLemmas.{coordinates_total}
 use Rattle.poly_cells.proofs.SetLemmas.{in_append_cases, in_from_map, in_map}
 use Rattle.poly_cells.proofs.CellTestLemmas.{in_from_has, has_from_in}
 use Rattle.poly_cells.specs.CellTests.{has_cell}
-use Rattle.poly_cells.specs.CellWords.{symbol, cell_word}
 use Rattle.cover_problem.specs.Lists.{has, are_distinct}
-use Rattle.cover_problem.specs.Problem.{IsProblem, is_name, is_name_byte, is_item, is_option, is_small, are_new, ProblemValue}
-use Rattle.poly_cells.proofs.MemberLemmas.{all_pass, passes, some_passes, in_from_flat_map, in_from_range}
+use Rattle.cover_problem.specs.Problem.{IsProblem, is_name, is_item, is_option, is_small, are_new}
+use Rattle.poly_cells.proofs.MemberLemmas.{all_pass, passes, in_from_flat_map, in_from_range}
 use Rattle.poly_texts.specs.Words as words
 use Rattle.poly_place.specs.Turns.{from_right, from_left}
 use Rattle.poly_texts.specs.Puzzle.{PuzzleValue, IsPuzzle, names_of, has_name, is_needed}
-use Rattle.poly_place.specs.Packings.{ChoiceValue, is_any, must_fill, neighbours, pairs, first_cell, IsPlaced, choices, Thing, a_piece, a_cell, a_node, needed_things, other_things, things, index_among, item_of, levels_for, levels, nodes, nodes_by, leaf_of, given, things_of, option_of, node_word, thing_name, packing_problem}
+use Rattle.poly_place.specs.Packings.{ChoiceValue, is_any, must_fill, neighbours, pairs, first_cell, IsPlaced, choices, Thing, a_piece, a_cell, a_node, needed_things, other_things, things, index_among, item_of, levels_for, levels, nodes, nodes_by, leaf_of, given, things_of, option_of, thing_name, packing_problem}
 use Rattle.poly_place.proofs.DistinctLemmas.{in_from_name, name_from_in, IsDistinct, distinct_append, distinct_filter, distinct_map, distinct_rising, distinct_names}
 use Rattle.poly_place.proofs.PairLemmas.{all_of, distinct_left, distinct_right, distinct_apart, in_group, among_groups, pair_differs, pair_next}
 use Rattle.poly_place.proofs.TurnLemmas.{IsBelow, right_above, left_above, up}
-use Rattle.poly_place.proofs.PackingLemmas.{has_shapes, placed_in, leaf_placed, least_in}
+use Rattle.poly_place.proofs.PackingLemmas.{leaf_placed, least_in}
+use Rattle.poly_place.proofs.PlacedLemmas.{has_shapes, placed_in}
 use Rattle.poly_place.proofs.ThingLemmas.{place_in, nothing, item_same, needed_piece, needed_cell, needed_cases, needed_distinct, parts_in, in_given, thing_of_item, cell_part}
-use Rattle.std.specs.Cmp.{both_ways as same_tests}
-use Rattle.std.proofs.lemmas.List.Sums.{sum_by-cons}
-use Rattle.cover_problem.specs.declared.limits.TheConstants.{MOST_ITEMS, MOST_OPTIONS, MOST_ENTRIES}
-use Rattle.text_lines.specs.declared.refusal.Refusal.{Refusal}
-use Rattle.text_lines.specs.declared.refusal.Refusal.TheVariants as refusals
-use Rattle.text_lines.specs.Answers.{IsFaultOf}
-use Rattle.text_lines.proofs.ResultLemmas.{no_fault}
-use Rattle.cover_problem.specs.Validation.{problem_from}
-use Rattle.cover_problem.specs.declared.fault.Fault.{Fault}
-use Rattle.cover_problem.proofs.ProblemLemmas.{made_again}
-use Rattle.poly_place.specs.Compiled.{needed_names, filled_cells, entries_of, has_room}
-use mathlib.Core.List.{map-map}
-
--- ---- tests
-
-none_from : {X : Type 0} (test : X → Bool) (xs : List X) → ((x : X) → IsIn x xs → test x ≡ true → ⊥) → not (list_any test xs) ≡ true
-none_from test xs h = not_from_false _ (false_from_ne_true _ (λ t. let x = some_passes test xs t in h x.0 x.1 x.2))
-
--- ---- names
-
-low_symbol : (n : ℕ) → n < 32 → is_name_byte (symbol n) ≡ true
-low_symbol n h = agree_below_at (λ k. is_name_byte (symbol k)) (λ k. true) 32 n refl h
-
-piece_named : (n : ℕ) → words.is_name n ≡ true → is_name (n ∷ []) ≡ true
-piece_named n h =
-    let byte : is_name_byte n ≡ true = or_left (words.is_name n) (n == 95) h in
-    and_from (is_name_byte n) true byte refl
-
-cell_named : (v : Coordinates) → IsInGrid v → is_name (cell_word v) ≡ true
-cell_named v h =
-    let x = low_symbol v.x (let a = h.x_in in omega arith) in
-    let y = low_symbol v.y (let a = h.y_in in omega arith) in
-    let w = low_symbol v.z (let a = h.z_in in omega arith) in
-    and_from (is_name_byte (symbol v.x)) _ x (and_from (is_name_byte (symbol v.y)) _ y (and_from (is_name_byte (symbol v.z)) true w refl))
-
-node_named : (n h : ℕ) → words.is_name n ≡ true → h < 4096 → is_name (node_word n h) ≡ true
-node_named n h name lt =
-    let byte : is_name_byte n ≡ true = or_left (words.is_name n) (n == 95) name in
-    let x = low_symbol (h / 1024) (omega arith) in
-    let y = low_symbol (h / 32 % 32) (omega arith) in
-    let w = low_symbol (h % 32) (omega arith) in
-    and_from (is_name_byte n) _ byte (and_from true _ refl
-    (and_from (is_name_byte (symbol (h / 1024))) _ x (and_from (is_name_byte (symbol (h / 32 % 32))) _ y (and_from (is_name_byte (symbol (h % 32))) true w refl))))
-
-symbol_same : (m n : ℕ) → symbol m ≡ symbol n → m ≡ n
-symbol_same m n e = grind (arith, nat_tests)
-
-three_same : (g h : ℕ) → g / 1024 ≡ h / 1024 → g / 32 % 32 ≡ h / 32 % 32 → g % 32 ≡ h % 32 → g ≡ h
-three_same g h a b c = omega arith
-
-name_same : (a b : Thing) → thing_name a ≡ thing_name b → a ≡ b
-name_same (a_piece m) (a_piece n) e = let s : m ≡ n = cc in ap a_piece s
-name_same (a_cell v) (a_cell w) e =
-    let x : symbol v.x ≡ symbol w.x = cc in
-    let y : symbol v.y ≡ symbol w.y = cc in
-    let u : symbol v.z ≡ symbol w.z = cc in
-    ap a_cell (same_coordinates v.x v.y v.z w.x w.y w.z (symbol_same v.x w.x x) (symbol_same v.y w.y y) (symbol_same v.z w.z u))
-name_same (a_node m g) (a_node n h) e =
-    let s : m ≡ n = cc in
-    let x : symbol (g / 1024) ≡ symbol (h / 1024) = cc in
-    let y : symbol (g / 32 % 32) ≡ symbol (h / 32 % 32) = cc in
-    let u : symbol (g % 32) ≡ symbol (h % 32) = cc in
-    ap₂ a_node s (three_same g h (symbol_same _ _ x) (symbol_same _ _ y) (symbol_same _ _ u))
-name_same (a_piece m) (a_cell w) e = cc
-name_same (a_piece m) (a_node n h) e = cc
-name_same (a_cell v) (a_piece n) e = cc
-name_same (a_cell v) (a_node n h) e = cc
-name_same (a_node m g) (a_piece n) e = cc
-name_same (a_node m g) (a_cell w) e = cc
-
-new_from : (names : List (List ℕ)) → IsDistinct names → are_new names ≡ true
-new_from [] d = refl
-new_from (name ∷ names) d =
-    and_from (not (list_any (bytes_eq name) names)) (are_new names)
-    (none_from (bytes_eq name) names (λ x i h. d.0 (subst (λ (y : List ℕ). IsIn y names) (sym ((bytes_decides name x).0 h)) i))) (new_from names d.1)
+use Rattle.poly_place.proofs.ItemNameLemmas.{piece_named, cell_named, node_named, name_same, new_from}
 
 -- ---- nodes
 
@@ -125,7 +50,7 @@ distinct_range a (suc n) = ((λ i. let h = at_least (a + 1) n a i in absurd (ome
     at_least a zero x i = absurd i
     at_least a (suc n) x i = elim i [ inl e ↦ omega arith | inr r ↦ let h = at_least (a + 1) n x r in omega arith ]
 
-distinct_flat_map : {X A : Type 0} (f : X → List A) (xs : List X) → ((x : X) → IsIn x xs → IsDistinct (f x)) → ((x y : X) (a : A) → IsIn x xs → IsIn y xs → IsIn a (f x) → IsIn a (f y) → x ≡ y) → IsDistinct xs → IsDistinct (flat_map f xs)
+pub distinct_flat_map : {X A : Type 0} (f : X → List A) (xs : List X) → ((x : X) → IsIn x xs → IsDistinct (f x)) → ((x y : X) (a : A) → IsIn x xs → IsIn y xs → IsIn a (f x) → IsIn a (f y) → x ≡ y) → IsDistinct xs → IsDistinct (flat_map f xs)
 distinct_flat_map f [] each one d = tt
 distinct_flat_map {X} {A} f (x ∷ xs) each one d =
     distinct_append (f x) (flat_map f xs) (each x (inl refl))
@@ -468,108 +393,3 @@ module _ (p : PuzzleValue) (z : IsPuzzle p) where
     options_are = all_options;
     small = small;
   }
-
--- ---- the names of the items
-
-pub names_are : (p : PuzzleValue)
-    → (((map (λ (n : ℕ). n ∷ []) (needed_names p) ++ map cell_word (filled_cells p)) ++ map (λ (n : ℕ). n ∷ []) p.maybe_pieces) ++ map cell_word p.maybe_cells) ++ map thing_name (flat_map (nodes p) (pairs p))
-    ≡ map thing_name (things p)
-names_are p =
-    ap (λ (xs : List (List ℕ)). xs ++ map thing_name trees)
-    (append_assoc (map (λ (n : ℕ). n ∷ []) (needed_names p) ++ map cell_word (filled_cells p)) (map (λ (n : ℕ). n ∷ []) p.maybe_pieces) (map cell_word p.maybe_cells)
-    ∙ ap₂ (λ (xs ys : List (List ℕ)). xs ++ ys) (two (needed_names p) (filled_cells p)) (two p.maybe_pieces p.maybe_cells))
-    ∙ append_assoc (map thing_name (needed_things p)) (map thing_name (map a_piece p.maybe_pieces ++ map a_cell p.maybe_cells)) (map thing_name trees)
-    ∙ ap (λ (xs : List (List ℕ)). map thing_name (needed_things p) ++ xs) (sym (map-append thing_name (map a_piece p.maybe_pieces ++ map a_cell p.maybe_cells) trees))
-    ∙ ap (λ (xs : List Thing). map thing_name (needed_things p) ++ map thing_name xs) (append_assoc (map a_piece p.maybe_pieces) (map a_cell p.maybe_cells) trees)
-    ∙ sym (map-append thing_name (needed_things p) (other_things p))
-  where
-    trees : List Thing
-    trees = flat_map (nodes p) (pairs p)
-
-    two : (ns : List ℕ) (vs : List Coordinates) → map (λ (n : ℕ). n ∷ []) ns ++ map cell_word vs ≡ map thing_name (map a_piece ns ++ map a_cell vs)
-    two ns vs = ap₂ (λ (xs ys : List (List ℕ)). xs ++ ys) (sym (map-map thing_name a_piece ns)) (sym (map-map thing_name a_cell vs)) ∙ sym (map-append thing_name (map a_piece ns) (map a_cell vs))
-
--- ---- what is made
-
-entries_same : (p : PuzzleValue) (cs : List ChoiceValue) → sum_by length (map (option_of p) cs) + length (map (option_of p) cs) ≡ entries_of p cs
-entries_same p [] = refl
-entries_same p (c ∷ cs) =
-    let rest = entries_same p cs in
-    let same = length-map (things_of p c) (item_of p) in
-    let sum = sum_by-cons length (option_of p c) (map (option_of p) cs) in
-    let all = sum_by-cons (λ (d : ChoiceValue). length (things_of p d) + 1) c cs in
-    omega (arith, rest, same, sum, all)
-
--- where there are too many items the problem is large
-pub large_is : (p : PuzzleValue) → MOST_ITEMS < length (things p) → is_small (packing_problem p) ≡ false
-unfolding packing_problem
-large_is p many =
-    false_from_ne_true _ (λ t.
-    let parts = and_parts (nat_le (length names) MOST_ITEMS && nat_le (length options) MOST_OPTIONS) (nat_le (length names + sum_by length options + length options + 2) MOST_ENTRIES) t in
-    let first = and_parts (nat_le (length names) MOST_ITEMS) (nat_le (length options) MOST_OPTIONS) parts.0 in
-    let few = leb-true (length names) MOST_ITEMS first.0 in
-    let long = length-map (things p) thing_name in
-    omega (arith, few, long, many))
-  where
-    names : List (List ℕ)
-    names = map thing_name (things p)
-
-    options : List (List ℕ)
-    options = map (option_of p) (choices p)
-
--- the problem is small exactly where there is room for the choices
-pub small_is : (p : PuzzleValue) → length (things p) ≤ MOST_ITEMS → is_small (packing_problem p) ≡ has_room p (length (things p)) (choices p)
-unfolding packing_problem
-small_is p few =
-    same_tests (is_small (packing_problem p)) (has_room p (length (things p)) (choices p))
-    (λ t.
-    let parts = and_parts (nat_le (length names) MOST_ITEMS && nat_le (length options) MOST_OPTIONS) (nat_le (length names + sum_by length options + length options + 2) MOST_ENTRIES) t in
-    let first = and_parts (nat_le (length names) MOST_ITEMS) (nat_le (length options) MOST_OPTIONS) parts.0 in
-    let count = leb-true (length options) MOST_OPTIONS first.1 in
-    let size = leb-true (length names + sum_by length options + length options + 2) MOST_ENTRIES parts.1 in
-    and_from (nat_le (length (choices p)) MOST_OPTIONS) (nat_le (length (things p) + entries_of p (choices p) + 2) MOST_ENTRIES) (le-leb (length (choices p)) MOST_OPTIONS (omega (arith, count, many)))
-    (le-leb (length (things p) + entries_of p (choices p) + 2) MOST_ENTRIES (omega (arith, size, long, entries))))
-    (λ t.
-    let parts = and_parts (nat_le (length (choices p)) MOST_OPTIONS) (nat_le (length (things p) + entries_of p (choices p) + 2) MOST_ENTRIES) t in
-    let count = leb-true (length (choices p)) MOST_OPTIONS parts.0 in
-    let size = leb-true (length (things p) + entries_of p (choices p) + 2) MOST_ENTRIES parts.1 in
-    and_from (nat_le (length names) MOST_ITEMS && nat_le (length options) MOST_OPTIONS) (nat_le (length names + sum_by length options + length options + 2) MOST_ENTRIES)
-    (and_from (nat_le (length names) MOST_ITEMS) (nat_le (length options) MOST_OPTIONS) (le-leb (length names) MOST_ITEMS (omega (arith, few, long))) (le-leb (length options) MOST_OPTIONS (omega (arith, count, many))))
-    (le-leb (length names + sum_by length options + length options + 2) MOST_ENTRIES (omega (arith, size, long, entries))))
-  where
-    names : List (List ℕ)
-    names = map thing_name (things p)
-
-    options : List (List ℕ)
-    options = map (option_of p) (choices p)
-
-    long : length (map thing_name (things p)) ≡ length (things p)
-    long = length-map (things p) thing_name
-
-    many : length (map (option_of p) (choices p)) ≡ length (choices p)
-    many = length-map (choices p) (option_of p)
-
-    entries : sum_by length (map (option_of p) (choices p)) + length (map (option_of p) (choices p)) ≡ entries_of p (choices p)
-    entries = entries_same p (choices p)
-
--- the parts are those of the problem
-pub record AreParts (p : PuzzleValue) (names : List (List ℕ)) (primary : ℕ) (options : List (List ℕ)) : Type 0 where
-  pub names_are : names ≡ map thing_name (things p)
-  pub primary_is : primary ≡ length (needed_things p)
-  pub options_are : options ≡ map (option_of p) (choices p)
-
-same_made : (p : PuzzleValue) (names : List (List ℕ)) (primary : ℕ) (options : List (List ℕ)) → AreParts p names primary options
-    → problem_from names primary options ≡ problem_from (map thing_name (things p)) (length (needed_things p)) (map (option_of p) (choices p))
-same_made p names primary options a =
-    ap (λ (ns : List (List ℕ)). problem_from ns primary options) a.names_are ∙ ap (λ (k : ℕ). problem_from (map thing_name (things p)) k options) a.primary_is
-    ∙ ap (problem_from (map thing_name (things p)) (length (needed_things p))) a.options_are
-
--- these parts make the problem of the puzzle
-pub parts_make : (p : PuzzleValue) → IsPuzzle p → (names : List (List ℕ)) (primary : ℕ) (options : List (List ℕ)) → AreParts p names primary options → is_small (packing_problem p) ≡ true
-    → problem_from names primary options ≡ Ok (packing_problem p)
-unfolding packing_problem
-parts_make p z names primary options a small = same_made p names primary options a ∙ made_again (packing_problem p) (is_problem p z small)
-
--- what is made has no fault
-pub not_faulty : (f : Refusal Fault) (g : Fault) (found : Result ProblemValue Fault) (q : ProblemValue) → found ≡ Ok q → f ≡ refusals.Fault g → IsFaultOf f found → ⊥
-not_faulty f g found q made is fault = no_fault g q (sym (subst (λ (h : Refusal Fault). IsFaultOf h found) is fault) ∙ made)

@@ -26,6 +26,7 @@ dominoes = record {
   any_pieces = [];
   mirrored = [];
   equal = [];
+  symbols = [];
 }
 
 -- the items are A, B and the cells 000, 010, 100 and 110; each piece has four options

@@ -11,8 +11,22 @@ strip = record {
   region = coordinates 0 0 0 ∷ coordinates 1 0 0 ∷ coordinates 2 0 0 ∷ [];
   maybe_cells = coordinates 2 0 0 ∷ [];
   placements = choice 65 (coordinates 0 0 0 ∷ coordinates 1 0 0 ∷ []) ∷ [];
+  symbols = [];
 }
 
 its_layers : layers strip ≡ codes "AA_" ++ 10 ∷ []
 unfolding layers strip
 its_layers = refl
+
+-- three copies of a cell A, which are shown by A and B in turn
+copies : PackingValue
+copies = record {
+  region = coordinates 0 0 0 ∷ coordinates 1 0 0 ∷ coordinates 2 0 0 ∷ [];
+  maybe_cells = [];
+  placements = choice 65 (coordinates 0 0 0 ∷ []) ∷ choice 65 (coordinates 1 0 0 ∷ []) ∷ choice 65 (coordinates 2 0 0 ∷ []) ∷ [];
+  symbols = (65 ∷ 66 ∷ []) ∷ [];
+}
+
+shown_in_turn : layers copies ≡ codes "ABA" ++ 10 ∷ []
+unfolding layers copies
+shown_in_turn = refl

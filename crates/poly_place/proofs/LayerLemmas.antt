@@ -1,15 +1,16 @@
 -- The loops that show a packing in layers.
-use Rattle.std.proofs.Common.{◌≡◌, ℕ, zero, suc, ◌+◌, ◌-◌, ◌<◌, ◌≤◌, max, List, [], ◌∷◌, ◌++◌, length, get_or, set, take, drop, map, Bool, true, false, cond, ◌||◌, nat_lt, Some, ◌⊎◌, inl, inr, refl, sym, ap, ap₂, subst, ◌∙◌, arith, append_assoc, append-nil, replicate, find, option_map, unwrap_or}
+use Rattle.std.proofs.Common.{Option, ◌%◌, ◌≡◌, ℕ, zero, suc, ◌+◌, ◌-◌, ◌<◌, ◌≤◌, max, List, [], ◌∷◌, ◌++◌, length, get_or, set, take, drop, map, Bool, true, false, cond, ◌||◌, nat_lt, Some, ◌⊎◌, inl, inr, refl, sym, ap, ap₂, subst, ◌∙◌, arith, append_assoc, append-nil, replicate, find, option_map, unwrap_or}
 use Rattle.std.specs.List.{range_with_len}
+use Rattle.std.proofs.Math.Nat.{mod-lt}
 use Rattle.std.proofs.lemmas.Grind.{flat_map-append}
-use Rattle.std.proofs.lemmas.List.{map-append, get_or-set_same, get_or-set_other, length-set, length-replicate, get_or-replicate, drop_more, drop_all, take_at}
+use Rattle.std.proofs.lemmas.List.{map-append, get_or-set_same, get_or-set_other, get_or_default, length-set, length-replicate, get_or-replicate, drop_more, drop_all, take_at}
 use Rattle.text_lines.specs.Writing.{spaced, line_text, text_of}
 use Rattle.poly_cells.specs.Coordinates.{Coordinates, coordinates, IsInGrid}
 use Rattle.poly_cells.proofs.CoordinateLemmas.{same_coordinates, is_same_Decides}
 use Rattle.poly_cells.specs.CellTests.{is_same, has_cell}
 use Rattle.poly_place.specs.Packings.{ChoiceValue}
 use Rattle.poly_place.specs.Tables.{bit_index}
-use Rattle.poly_place.specs.Layers.{greatest, far_corner, symbol_over, ground, AreSymbols, painted}
+use Rattle.poly_place.specs.Layers.{greatest, far_corner, in_turn, symbol_over, ground, AreSymbols, painted}
 use Rattle.poly_place.proofs.TableLemmas.{bit_index_same, low, cell_more}
 use Rattle.std.proofs.lemmas.Bool.{ltb-true, ltb-false, cases_Bool}
 use Rattle.poly_texts.proofs.CellLemmas.{range_more}
@@ -147,6 +148,12 @@ painted_more f vs i v t new b k lt is h ascii at made s =
         ∙ ap (λ c. cond c b (f w))
         (sym (cell_more (take i vs) v w) ∙ sym (ap (λ (us : List Coordinates). has_cell us w) (take_next vs i v lt is)))
 
+-- the symbol of a number, modulo how many there are
+pub turn_is : (found : Option (List ℕ)) (word : List ℕ) (k i name symbol : ℕ) → Some word ≡ found → i ≡ k % length word → 0 < length word → symbol ≡ get_or word i symbol → symbol ≡ in_turn found k name
+turn_is found word k i name symbol e at some is =
+    subst (λ (o : Option (List ℕ)). symbol ≡ in_turn o k name) e
+    (is ∙ get_or_default word i symbol 0 (subst (λ (j : ℕ). j < length word) (sym at) (mod-lt k some)) ∙ ap (λ (j : ℕ). get_or word j 0) at)
+
 -- points show nothing
 pub points_shown : (n : ℕ) (t : List ℕ) → t ≡ replicate n 46 → n ≡ 32768 → AreSymbols (λ v. 46) t
 points_shown n t is all = record {
@@ -161,10 +168,10 @@ points_shown n t is all = record {
     all_points (suc m) (suc i) = all_points m i
 
 -- the placements from the k-th on, and one more before them
-pub over_one : (cs : List ChoiceValue) (g : Coordinates → ℕ) (c : ChoiceValue) (v : Coordinates) → painted (symbol_over cs g) c.cells c.name v ≡ symbol_over (c ∷ cs) g v
-over_one cs g c v = by_test (has_cell c.cells v)
+pub over_one : (shown : ChoiceValue → ℕ) (cs : List ChoiceValue) (g : Coordinates → ℕ) (c : ChoiceValue) (v : Coordinates) → painted (symbol_over shown cs g) c.cells (shown c) v ≡ symbol_over shown (c ∷ cs) g v
+over_one shown cs g c v = by_test (has_cell c.cells v)
   where
-    by_test : (b : Bool) → cond b c.name (symbol_over cs g v) ≡ unwrap_or (option_map (λ (d : ChoiceValue). d.name) (cond b (Some c) (find (λ (d : ChoiceValue). has_cell d.cells v) cs))) (g v)
+    by_test : (b : Bool) → cond b (shown c) (symbol_over shown cs g v) ≡ unwrap_or (option_map shown (cond b (Some c) (find (λ (d : ChoiceValue). has_cell d.cells v) cs))) (g v)
     by_test true = refl
     by_test false = refl
 
@@ -173,18 +180,18 @@ pub written_symbols : (f : Coordinates → ℕ) (t old : List ℕ) (n : ℕ) →
 written_symbols f t old n e s = subst (AreSymbols f) (sym (take_at t (drop (length t) old) n (sym e))) s
 
 -- the region shown over the points, with no placement
-pub ground_shown : (region : List Coordinates) (cs : List ChoiceValue) (vs : List Coordinates) (t : List ℕ) → vs ≡ region → AreSymbols (painted (λ v. 46) vs 95) t
-    → AreSymbols (symbol_over (drop (length cs - 0) cs) (ground region)) t
-ground_shown region cs vs t e s =
-    shown_alike (painted (λ v. 46) vs 95) (symbol_over (drop (length cs - 0) cs) (ground region)) t
-    (λ v. ap (λ (us : List Coordinates). ground us v) e ∙ sym (ap (λ (ds : List ChoiceValue). symbol_over ds (ground region) v) (drop_all (length cs - 0) cs (omega arith)))) s
+pub ground_shown : (shown : ChoiceValue → ℕ) (region : List Coordinates) (cs : List ChoiceValue) (vs : List Coordinates) (t : List ℕ) → vs ≡ region → AreSymbols (painted (λ v. 46) vs 95) t
+    → AreSymbols (symbol_over shown (drop (length cs - 0) cs) (ground region)) t
+ground_shown shown region cs vs t e s =
+    shown_alike (painted (λ v. 46) vs 95) (symbol_over shown (drop (length cs - 0) cs) (ground region)) t
+    (λ v. ap (λ (us : List Coordinates). ground us v) e ∙ sym (ap (λ (ds : List ChoiceValue). symbol_over shown ds (ground region) v) (drop_all (length cs - 0) cs (omega arith)))) s
 
 -- one placement more is shown
-pub over_next : (cs : List ChoiceValue) (k : ℕ) (c : ChoiceValue) (g : Coordinates → ℕ) (t : List ℕ) → k < length cs → c ≡ get_or cs (length cs - 1 - k) c
-    → AreSymbols (painted (symbol_over (drop (length cs - k) cs) g) c.cells c.name) t → AreSymbols (symbol_over (drop (length cs - (k + 1)) cs) g) t
-over_next cs k c g t lt is s =
-    shown_alike (painted (symbol_over (drop (length cs - k) cs) g) c.cells c.name) (symbol_over (drop (length cs - (k + 1)) cs) g) t
-    (λ v. over_one (drop (length cs - k) cs) g c v ∙ ap (λ (ds : List ChoiceValue). symbol_over ds g v) (sym one)) s
+pub over_next : (shown : ChoiceValue → ℕ) (cs : List ChoiceValue) (k : ℕ) (c : ChoiceValue) (g : Coordinates → ℕ) (t : List ℕ) → k < length cs → c ≡ get_or cs (length cs - 1 - k) c
+    → AreSymbols (painted (symbol_over shown (drop (length cs - k) cs) g) c.cells (shown c)) t → AreSymbols (symbol_over shown (drop (length cs - (k + 1)) cs) g) t
+over_next shown cs k c g t lt is s =
+    shown_alike (painted (symbol_over shown (drop (length cs - k) cs) g) c.cells (shown c)) (symbol_over shown (drop (length cs - (k + 1)) cs) g) t
+    (λ v. over_one shown (drop (length cs - k) cs) g c v ∙ ap (λ (ds : List ChoiceValue). symbol_over shown ds g v) (sym one)) s
   where
     one : drop (length cs - (k + 1)) cs ≡ c ∷ drop (length cs - k) cs
     one =

@@ -9,8 +9,10 @@ pub mod TurnLemmas
 pub mod PairLemmas
 pub mod PlaceLemmas
 pub mod ThingLemmas
+pub mod PlacedLemmas
 pub mod PackingLemmas
 pub mod SortLemmas
+pub mod EqualLemmas
 pub mod SwapLemmas
 pub mod PlainLemmas
 pub mod NodeLemmas
@@ -22,7 +24,10 @@ pub mod NumberingLemmas
 pub mod ChoiceLemmas
 pub mod OptionLemmas
 pub mod LayerLemmas
+pub mod ItemNameLemmas
 pub mod CompiledLemmas
+pub mod MadeLemmas
+pub mod VolumeLemmas
 pub mod RoomLemmas
 pub mod LayerExamples
 pub mod CountingLemmas

@@ -19,7 +19,8 @@ use Rattle.poly_place.specs.Tables.{bit_index}
 use Rattle.poly_place.proofs.DistinctLemmas.{in_from_name}
 use Rattle.poly_place.proofs.PairLemmas.{all_of}
 use Rattle.poly_place.proofs.TurnLemmas.{IsBelow}
-use Rattle.poly_place.proofs.PackingLemmas.{has_shapes, placed_in, least_in, least_inside, leaf_placed}
+use Rattle.poly_place.proofs.PackingLemmas.{least_in, least_inside, leaf_placed}
+use Rattle.poly_place.proofs.PlacedLemmas.{has_shapes, placed_in}
 use Rattle.poly_place.proofs.CountLemmas.{are_few, needed_count, things_count}
 use Rattle.poly_place.proofs.CompiledLemmas.{few_levels}
 use Rattle.poly_place.proofs.NumberLemmas.{right_items, left_items}

@@ -12,7 +12,7 @@ use Rattle.cover_problem.specs.declared.limits.TheConstants.{MOST_OPTIONS, MOST_
 use Rattle.poly_place.specs.Packings.{ChoiceValue, IsPlaced, choices_of_piece, choices, things_of, option_of}
 use Rattle.poly_place.specs.Compiled.{entries_of, has_room}
 use Rattle.poly_cells.proofs.SetLemmas.{in_at, take_next}
-use Rattle.poly_place.proofs.PackingLemmas.{has_shapes, placed_in}
+use Rattle.poly_place.proofs.PlacedLemmas.{has_shapes, placed_in}
 
 -- a choice of the list is placed
 pub chosen_at : (p : PuzzleValue) → IsPuzzle p → (cs : List ChoiceValue) (i : ℕ) (c : ChoiceValue) → cs ≡ choices p → i < length cs → c ≡ get_or cs i c → IsPlaced p c × IsIn c (choices p)

@@ -1,13 +1,14 @@
 -- The example of specs/Packings.antt, computed; and two equal pieces of one cell, one that may be used any number of times, and one that may
 -- be reflected.
-use Rattle.std.proofs.Common.{◌≡◌, ◌≤◌, ℕ, List, [], ◌∷◌, length, inl, inr, refl, sym, ap, subst, arith, true, false}
+use Rattle.std.proofs.Common.{◌≡◌, ◌≤◌, ℕ, List, [], ◌∷◌, length, inl, inr, refl, sym, ap, subst, arith}
 use Rattle.std.specs.List.Sorted.{IsStrictlySortedBy}
 use Rattle.poly_cells.specs.Coordinates.{Coordinates, IsInGrid, coordinates, coordinates_cmp}
 use Rattle.poly_cells.specs.Symmetries.{matrix, is_rotation, rotations}
 use Rattle.poly_cells.specs.Sets.{IsIn, in_order}
 use Rattle.poly_cells.specs.Shapes.{normal, turned}
 use Rattle.poly_texts.specs.Puzzle.{PuzzleValue, IsPuzzle, IsPiece, ArePieces, IsOneShape}
-use Rattle.poly_place.specs.Placements.{orientations, placements, turns_for}
+use Rattle.poly_place.specs.declared.alike.Group.TheVariants.{Rotations, Symmetries}
+use Rattle.poly_place.specs.Placements.{orientations, placements, turns_by}
 use Rattle.poly_place.specs.Packings.{choices, item_of, levels, levels_for, packing_problem, choice, a_piece, a_cell}
 use Rattle.poly_place.specs.Chosen.{chosen_by}
 
@@ -21,6 +22,7 @@ pair = record {
   any_pieces = [];
   mirrored = [];
   equal = [];
+  symbols = [];
 }
 
 three_choices : choices pair ≡ choice 65 (coordinates 0 0 0 ∷ []) ∷ choice 65 (coordinates 1 0 0 ∷ []) ∷ choice 66 (coordinates 0 0 0 ∷ []) ∷ []
@@ -63,6 +65,7 @@ equals = record {
   any_pieces = [];
   mirrored = [];
   equal = (65 ∷ 66 ∷ []) ∷ [];
+  symbols = [];
 }
 
 -- the items A, B, 000, 100 and A_001, of which all but the last are primary, and the options A 000, A 100 A_001, B 000 A_001 and B 100:
@@ -157,12 +160,15 @@ is_a_puzzle = record {
   any_not_maybe = refl;
   equal_new = refl;
   equal_needed = refl;
+  symbols_new = refl;
+  symbols_named = refl;
+  symbols_show = refl;
   equal_shapes = equal_shapes;
 }
 
 -- the piece A of one cell, which may be used any number of times: the items 000 and 100, and the options 000 and 100
 abbrev any_cell : PuzzleValue
-any_cell = record { pieces = (65, one_cell) ∷ []; maybe_pieces = []; region = row_of_two; maybe_cells = []; any_pieces = 65 ∷ []; mirrored = []; equal = [] }
+any_cell = record { pieces = (65, one_cell) ∷ []; maybe_pieces = []; region = row_of_two; maybe_cells = []; any_pieces = 65 ∷ []; mirrored = []; equal = []; symbols = [] }
 
 any_problem : packing_problem any_cell ≡ record { names = (48 ∷ 48 ∷ 48 ∷ []) ∷ (49 ∷ 48 ∷ 48 ∷ []) ∷ []; primary = 2; options = (1 ∷ []) ∷ (2 ∷ []) ∷ [] }
 unfolding packing_problem choices item_of levels levels_for placements orientations in_order turned normal rotations is_rotation matrix
@@ -172,10 +178,10 @@ any_problem = refl
 abbrev screw : List Coordinates
 screw = coordinates 0 0 0 ∷ coordinates 0 0 1 ∷ coordinates 0 1 1 ∷ coordinates 1 0 0 ∷ []
 
-turned_alone : length (orientations (turns_for false) screw) ≡ 12
+turned_alone : length (orientations (turns_by Rotations) screw) ≡ 12
 unfolding orientations in_order turned normal rotations is_rotation matrix
 turned_alone = refl
 
-reflected_too : length (orientations (turns_for true) screw) ≡ 24
+reflected_too : length (orientations (turns_by Symmetries) screw) ≡ 24
 unfolding orientations in_order turned normal rotations is_rotation matrix
 reflected_too = refl

@@ -19,7 +19,8 @@ use Rattle.poly_place.specs.Chosen.{chosen_by, is_among, same_choice, names_in, 
 use Rattle.poly_cells.proofs.MemberLemmas.{in_from_filter, in_filter, passes_some}
 use Rattle.poly_place.proofs.DistinctLemmas.{IsDistinct, distinct_names, in_from_name, name_from_in}
 use Rattle.poly_place.proofs.FormLemmas.{place_tells}
-use Rattle.poly_place.proofs.PackingLemmas.{same_choice_itself, count_back, named_by, named_among, same_number, chosen_in}
+use Rattle.poly_place.proofs.PackingLemmas.{same_choice_itself, count_back, same_number, chosen_in}
+use Rattle.poly_place.proofs.PlacedLemmas.{named_by, named_among}
 use Rattle.poly_place.proofs.ChosenLemmas.{cover_packs}
 
 -- ---- names are ordered by their places in a list

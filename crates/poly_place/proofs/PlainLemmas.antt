@@ -10,16 +10,16 @@ use Rattle.poly_place.specs.Packings.{ChoiceValue, choice, is_useful, must_fill,
 use Rattle.poly_place.specs.Plain.{plain_needed, plain_things, plain_option, plain_choices, plain_problem, PlainStay}
 
 -- of the parts of a puzzle, the new ones empty
-plain_of : List (ℕ × List Coordinates) → List ℕ → List Coordinates → List Coordinates → PuzzleValue
-plain_of pieces maybe region cells = record { pieces = pieces; maybe_pieces = maybe; region = region; maybe_cells = cells; any_pieces = []; mirrored = []; equal = [] }
+plain_of : List (ℕ × List Coordinates) → List ℕ → List Coordinates → List Coordinates → List (List ℕ) → PuzzleValue
+plain_of pieces maybe region cells symbols = record { pieces = pieces; maybe_pieces = maybe; region = region; maybe_cells = cells; any_pieces = []; mirrored = []; equal = []; symbols = symbols }
 
 and_true : (b : Bool) → (b && true) ≡ b
 and_true true = refl
 and_true false = refl
 
-module _ (pieces : List (ℕ × List Coordinates)) (maybe : List ℕ) (region cells : List Coordinates) where
+module _ (pieces : List (ℕ × List Coordinates)) (maybe : List ℕ) (region cells : List Coordinates) (symbols : List (List ℕ)) where
   p : PuzzleValue
-  p = plain_of pieces maybe region cells
+  p = plain_of pieces maybe region cells symbols
 
   needed_same : (n : ℕ) → is_needed p n ≡ not (has_name p.maybe_pieces n)
   unfolding p plain_of
@@ -67,6 +67,6 @@ module _ (pieces : List (ℕ × List Coordinates)) (maybe : List ℕ) (region ce
 pub plain_stay : PlainStay
 unfolding problem_same p plain_of
 plain_stay p h =
-    let e : p ≡ plain_of p.pieces p.maybe_pieces p.region p.maybe_cells =
-    λ i. record { pieces = p.pieces; maybe_pieces = p.maybe_pieces; region = p.region; maybe_cells = p.maybe_cells; any_pieces = h.none_any i; mirrored = h.none_mirrored i; equal = h.none_equal i } in
-    subst (λ (q : PuzzleValue). packing_problem q ≡ plain_problem q) (sym e) (problem_same p.pieces p.maybe_pieces p.region p.maybe_cells)
+    let e : p ≡ plain_of p.pieces p.maybe_pieces p.region p.maybe_cells p.symbols =
+    λ i. record { pieces = p.pieces; maybe_pieces = p.maybe_pieces; region = p.region; maybe_cells = p.maybe_cells; any_pieces = h.none_any i; mirrored = h.none_mirrored i; equal = h.none_equal i; symbols = p.symbols } in
+    subst (λ (q : PuzzleValue). packing_problem q ≡ plain_problem q) (sym e) (problem_same p.pieces p.maybe_pieces p.region p.maybe_cells p.symbols)

@@ -8,7 +8,7 @@ use Rattle.cover_problem.specs.Problem.{is_small}
 use Rattle.poly_place.specs.Packings.{ChoiceValue, choices_of_piece, choices, things, packing_problem}
 use Rattle.poly_place.specs.Compiled.{entries_of, has_room}
 use Rattle.poly_place.proofs.OptionLemmas.{choices_before, choices_next, entries_append, no_room_before}
-use Rattle.poly_place.proofs.CompiledLemmas.{small_is}
+use Rattle.poly_place.proofs.MadeLemmas.{small_is}
 use Rattle.std.proofs.lemmas.List.{length-append}
 
 -- the choices of the first k pieces are counted with their entries, and there is room for them

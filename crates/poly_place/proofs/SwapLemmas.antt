@@ -1,24 +1,26 @@
 -- Of the packings that differ by equal pieces that change places exactly one keeps them in order.
-use Rattle.std.proofs.Common.{Ordering, ◌≡◌, ℕ, ◌<◌, ◌==◌, List, [], ◌∷◌, map, filter, length, get_or, Bool, true, false, cond, ◌&&◌, ◌⊎◌, inl, inr, refl, sym, ap, ap₂, subst, ◌∙◌, Less, arith, eqb-true, eq-eqb, is_eq}
-use Rattle.std.specs.Cmp.{IsTotalOrder, Equal-is, both_ways as same_tests}
+use Rattle.std.proofs.Common.{◌≡◌, ℕ, ◌<◌, ◌==◌, List, [], ◌∷◌, map, filter, length, get_or, Bool, true, false, cond, ◌&&◌, ◌⊎◌, inl, inr, refl, sym, ap, ap₂, subst, ◌∙◌, Less, arith, eqb-true, eq-eqb, is_eq}
+use Rattle.std.specs.Cmp.{Equal-is, both_ways as same_tests}
 use Rattle.std.specs.List.Sorted.{IsStrictlySortedBy}
-use Rattle.std.proofs.lemmas.Bool.{cases_Bool, cond-true, cond-false, and_parts, and_from, false_from_ne_true}
+use Rattle.std.proofs.lemmas.Bool.{cases_Bool, cond-true, cond-false, and_parts, and_from}
 use Rattle.std.proofs.lemmas.List.{length-map}
-use Rattle.std.proofs.lemmas.Cmp.{tied_itself, on_total}
+use Rattle.std.proofs.lemmas.Cmp.{tied_itself}
 use Rattle.poly_cells.specs.Coordinates.{Coordinates, coordinates_cmp}
 use Rattle.poly_cells.specs.Sets.{IsIn, in_order}
-use Rattle.poly_cells.proofs.SetLemmas.{rising_none, rising_cons, rising_head, in_map, in_from_map, in_at, in_from_order, in_to_order, in_order_rises, same_members, not_itself}
+use Rattle.poly_cells.proofs.SetLemmas.{in_map, in_from_map, in_at, in_from_order, in_to_order, in_order_rises, same_members, not_itself}
 use Rattle.poly_cells.proofs.MemberLemmas.{in_flat_map, in_from_flat_map, in_from_filter, in_filter, passes, same_at}
 use Rattle.poly_texts.specs.Puzzle.{PuzzleValue, IsPuzzle, names_of, has_name, is_needed}
-use Rattle.poly_place.specs.Placements.{cells_cmp, IsPlacement, turns_for}
+use Rattle.poly_place.specs.declared.alike.Group.TheVariants.{Rotations, Symmetries}
+use Rattle.poly_place.specs.Placements.{cells_cmp, IsPlacement, turns_by}
 use Rattle.poly_place.specs.Packings.{ChoiceValue, choice, is_any, must_fill, neighbours, pairs, first_cell, IsPlaced, IsPacking, choices}
 use Rattle.poly_place.specs.Swaps.{told_apart, AreEqual, IsSwap, CountSwapsOnce}
-use Rattle.poly_cells.proofs.CoordinateLemmas.{coordinates_total}
 use Rattle.poly_place.proofs.OrderLemmas.{cells_total, cells_exact}
-use Rattle.poly_place.proofs.DistinctLemmas.{IsDistinct, distinct_names, distinct_rising, in_from_name, name_from_in, at_of_in, distinct_at}
-use Rattle.poly_place.proofs.PairLemmas.{all_of, distinct_left, distinct_right, distinct_apart, equal_single, in_group}
-use Rattle.poly_place.proofs.PackingLemmas.{has_shapes, in_placed, least_in}
+use Rattle.poly_place.proofs.DistinctLemmas.{IsDistinct, distinct_names, distinct_rising, in_from_name, at_of_in, distinct_at}
+use Rattle.poly_place.proofs.PairLemmas.{all_of, equal_single, in_group}
+use Rattle.poly_place.proofs.PackingLemmas.{least_in}
+use Rattle.poly_place.proofs.PlacedLemmas.{has_shapes, in_placed}
 use Rattle.poly_place.proofs.SortLemmas.{length_in_order, distinct_images, rising_at, place_in, place_lt, at_place_in, place_at, place_next, less_by_first}
+use Rattle.poly_place.proofs.EqualLemmas.{by_first, first_total, rising_neighbours, group_of, group_is, distinct_group, is_grouped, grouped_in, in_grouped}
 
 -- ---- a packing but for the order of equal pieces
 
@@ -51,73 +53,6 @@ is_apart p chosen k = record {
   ordered = λ c d h g i. absurd i;
 }
 
--- ---- sets of cells in the order of their least ones
-
-abbrev by_first : List Coordinates → List Coordinates → Ordering
-by_first xs ys = coordinates_cmp (first_cell xs) (first_cell ys)
-
-first_total : IsTotalOrder by_first
-first_total = on_total first_cell coordinates_total
-
-rising_neighbours : {K : Type 0} (R : K → K → Ordering) → IsTotalOrder R → (f : ℕ → K) (ns : List ℕ) → ((m n : ℕ) → IsIn (m, n) (neighbours ns) → R (f m) (f n) ≡ Less) → IsStrictlySortedBy R (map f ns)
-rising_neighbours R o f [] h = rising_none R
-rising_neighbours R o f (a ∷ []) h = rising_cons R (f a) [] (λ y i. absurd i) (rising_none R)
-rising_neighbours {K} R o f (a ∷ b ∷ ns) h =
-    let rest = rising_neighbours R o f (b ∷ ns) (λ m n i. h m n (inr i)) in
-    let next = h a b (inl refl) in
-    rising_cons R (f a) (map f (b ∷ ns))
-    (λ y i. elim i [
-      | inl e ↦ subst (λ (q : K). R (f a) q ≡ Less) (sym e) next
-      | inr r ↦ o.trans (f a) (f b) y next (rising_head R (f b) (map f ns) rest y r)
-    ])
-    rest
-
--- ---- the group of a name
-
-group_of : List (List ℕ) → ℕ → List ℕ
-group_of [] n = []
-group_of (g ∷ gs) n = cond (has_name g n) g (group_of gs n)
-
-group_is : (gs : List (List ℕ)) (g : List ℕ) (n : ℕ) → IsDistinct (all_of gs) → IsIn g gs → IsIn n g → group_of gs n ≡ g
-unfolding group_of
-group_is [] g n d i j = absurd i
-group_is (h ∷ gs) g n d i j =
-    elim i [
-      | inl e ↦ cond-true (has_name h n) h (group_of gs n) (name_from_in h n (subst (λ (x : List ℕ). IsIn n x) e j)) ∙ sym e
-      | inr r ↦
-          cond-false (has_name h n) h (group_of gs n)
-          (false_from_ne_true (has_name h n) (λ t. distinct_apart n h (all_of gs) d (in_from_name h n t) (in_flat_map (λ (group : List ℕ). group) n g gs r j)))
-          ∙ group_is gs g n (distinct_right h (all_of gs) d) r j
-    ]
-
-distinct_group : (gs : List (List ℕ)) (g : List ℕ) → IsDistinct (all_of gs) → IsIn g gs → IsDistinct g
-distinct_group [] g d i = absurd i
-distinct_group (h ∷ gs) g d i =
-    elim i [
-      | inl e ↦ subst IsDistinct (sym e) (distinct_left h (all_of gs) d)
-      | inr r ↦ distinct_group gs g (distinct_right h (all_of gs) d) r
-    ]
-
--- a name is in a group or in none
-is_grouped : PuzzleValue → ℕ → Bool
-is_grouped p n = has_name (all_of p.equal) n
-
--- a group of the puzzle with a name in it
-record InGroup (p : PuzzleValue) (n : ℕ) : Type 0 where
-  group : List ℕ
-  there : IsIn group p.equal
-  member : IsIn n group
-
-grouped_in : (p : PuzzleValue) (n : ℕ) → is_grouped p n ≡ true → InGroup p n
-unfolding is_grouped
-grouped_in p n h =
-    let g = in_from_flat_map (λ (group : List ℕ). group) n p.equal (in_from_name (all_of p.equal) n h) in
-    record { group = g.0; there = g.1; member = g.2 }
-
-in_grouped : (p : PuzzleValue) (n : ℕ) (g : List ℕ) → IsIn g p.equal → IsIn n g → is_grouped p n ≡ true
-unfolding is_grouped
-in_grouped p n g i j = name_from_in (all_of p.equal) n (in_flat_map (λ (group : List ℕ). group) n g p.equal i j)
-
 module _ (p : PuzzleValue) (z : IsPuzzle p) where
   distinct_all : IsDistinct (all_of p.equal)
   distinct_all = distinct_names (all_of p.equal) z.equal_new
@@ -146,7 +81,7 @@ module _ (p : PuzzleValue) (z : IsPuzzle p) where
         piece = h.piece;
         named = (one.0 h.piece).0 h.named;
         rises = h.rises;
-        placed = subst (λ (q : Bool). IsPlacement (turns_for q) h.piece p.region cells) one.1 h.placed;
+        placed = subst (λ (q : Bool). IsPlacement (turns_by (cond q Symmetries Rotations)) h.piece p.region cells) one.1 h.placed;
         useful = inl (equal_known g n i b).1;
       }
 

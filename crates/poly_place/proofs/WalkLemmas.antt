@@ -10,7 +10,9 @@ use Rattle.poly_cells.proofs.CoordinateLemmas.{same_coordinates}
 use Rattle.poly_cells.proofs.SetLemmas.{in_map, in_at}
 use Rattle.std.proofs.lemmas.List.FromFn.{length-range_with_len, get_or-range_with_len}
 use Rattle.poly_cells.proofs.GroupLemmas.{are_rotations}
-use Rattle.poly_place.specs.Placements.{cells_cmp, at_cells, orientations, symmetries, turns_for}
+use Rattle.poly_place.specs.declared.alike.Group.{Group}
+use Rattle.poly_place.specs.declared.alike.Group.TheVariants.{Rotations, Symmetries}
+use Rattle.poly_place.specs.Placements.{cells_cmp, at_cells, orientations, symmetries, turns_by}
 use Rattle.poly_place.specs.Tables.{has_bit}
 use Rattle.poly_cells.proofs.MemberLemmas.{passes, same_function}
 use Rattle.poly_place.proofs.TableLemmas.{bit_in}
@@ -51,16 +53,17 @@ pub all_turned : (turns : List ℕ) (piece : List Coordinates) (r : ℕ) (forms 
 unfolding orientations
 all_turned turns piece r forms le so = ap (in_order cells_cmp) (so ∙ ap (map (λ k. turned k piece)) (take_all r turns le))
 
-pub turns_count : (b : Bool) → b ≡ false → 24 ≡ length (turns_for b)
-turns_count true e = absurd (cc)
-turns_count false e = sym are_rotations.count
+pub rotation_count : (g : Group) → g ≡ Rotations → 24 ≡ length (turns_by g)
+rotation_count g e = subst (λ (f : Group). 24 ≡ length (turns_by f)) (sym e) (sym are_rotations.count)
 
-pub rotation_low : (b : Bool) (r : ℕ) → b ≡ false → r < length (turns_for b) → r < 24
-rotation_low b r e h = let count = turns_count b e in omega (arith, count, h)
+pub rotation_low : (g : Group) (r : ℕ) → g ≡ Rotations → r < length (turns_by g) → r < 24
+rotation_low g r e h = let count = rotation_count g e in omega (arith, count, h)
 
-pub symmetry_at : (b : Bool) (r n : ℕ) → b ≡ true → r < length (turns_for b) → n ≡ r → n ≡ slice_index (turns_for b) r
-symmetry_at false r n e h is = absurd (cc)
-symmetry_at true r n e h is =
-    let long : length symmetries ≡ 48 = length-range_with_len 0 48 in
-    let at = get_or-range_with_len 0 48 r 0 (omega (arith, h, long)) in
-    omega (arith, is, at)
+pub symmetry_at : (g : Group) (r n : ℕ) → g ≡ Symmetries → r < length (turns_by g) → n ≡ r → n ≡ slice_index (turns_by g) r
+symmetry_at g r n e = subst (λ (f : Group). r < length (turns_by f) → n ≡ r → n ≡ slice_index (turns_by f) r) (sym e) (at_place r n)
+  where
+    at_place : (r n : ℕ) → r < length symmetries → n ≡ r → n ≡ slice_index symmetries r
+    at_place r n h is =
+        let long : length symmetries ≡ 48 = length-range_with_len 0 48 in
+        let at = get_or-range_with_len 0 48 r 0 (omega (arith, h, long)) in
+        omega (arith, is, at)

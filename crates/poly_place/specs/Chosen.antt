@@ -13,11 +13,13 @@ use Rattle.poly_texts.specs.Puzzle.{PuzzleValue, names_of, has_name}
 use Rattle.poly_place.specs.Placements.{cells_cmp}
 use Rattle.poly_place.specs.Packings.{ChoiceValue, StandsFor, choice, choice_at}
 
--- a packing: the region, the cells of it that may stay empty, and a placement for each piece that is used
+-- a packing: the region, the cells of it that may stay empty, a placement for each piece that is used, and the symbols that show the
+-- copies of a piece in turn
 pub record PackingValue : Type 0 where
   pub region : List Coordinates
   pub maybe_cells : List Coordinates
   pub placements : List ChoiceValue
+  pub symbols : List (List ℕ)
 
 -- whether two choices are the same
 abbrev pub same_choice : ChoiceValue → ChoiceValue → Bool
@@ -62,7 +64,7 @@ chosen_by p path = map (choice_at p) (in_order nat_cmp path)
 
 -- the packing for which these options stand
 abbrev pub packing_value : PuzzleValue → List ℕ → PackingValue
-packing_value p path = record { region = p.region; maybe_cells = p.maybe_cells; placements = chosen_by p path }
+packing_value p path = record { region = p.region; maybe_cells = p.maybe_cells; placements = chosen_by p path; symbols = p.symbols }
 
 -- the packings for which lists of options stand
 abbrev pub packing_values : PuzzleValue → List (List ℕ) → List PackingValue

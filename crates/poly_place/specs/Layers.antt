@@ -1,17 +1,18 @@
 -- How a packing is shown in layers of text: a line for each y, in it a word for each z, and in that a symbol for each x, all over
 -- the bounding box of the region.
 --
--- Example: the piece A at 0 0 0 and 1 0 0 in the region 0 0 0, 1 0 0, 2 0 0, whose last cell may stay empty, is the line `AA_`
--- (proofs/LayerExamples.antt).
-use Rattle.std.specs.Prelude.{ℕ, ◌+◌, ◌-◌, ◌<◌, ◌≡◌, max, Bool, if◌then◌else◌, List, [], ◌∷◌, ◌++◌, map, find, option_map, unwrap_or, length, slice_index, String, Result}
+-- Example: the piece A at 0 0 0 and 1 0 0 in the region 0 0 0, 1 0 0, 2 0 0, whose last cell may stay empty, is the line `AA_`. Three
+-- copies of a cell A that are shown by A and B in turn are the line `ABA` (proofs/LayerExamples.antt).
+use Rattle.std.specs.Prelude.{ℕ, ◌+◌, ◌-◌, ◌%◌, ◌<◌, ◌≡◌, ◌==◌, max, Bool, false, ◌&&◌, Option, Some, None, filter, if◌then◌else◌, List, [], ◌∷◌, ◌++◌, map, find, option_map, unwrap_or, length, slice_index, String, Result}
 use Rattle.std.specs.List.{range_with_len}
 use Rattle.std.specs.declared.alloc.Global.{Global}
 use Rattle.text_lines.specs.Writing.{line_text, text_of}
-use Rattle.poly_cells.specs.Coordinates.{Coordinates, coordinates, IsInGrid}
+use Rattle.std.specs.Ordering.{is_lt}
+use Rattle.poly_cells.specs.Coordinates.{Coordinates, coordinates, coordinates_cmp, IsInGrid}
 use Rattle.poly_cells.specs.Shapes.{corner}
 use Rattle.poly_cells.specs.CellTests.{has_cell}
 use Rattle.poly_place.specs.Answers.{AddsText}
-use Rattle.poly_place.specs.Packings.{ChoiceValue}
+use Rattle.poly_place.specs.Packings.{ChoiceValue, first_cell}
 use Rattle.poly_place.specs.Chosen.{PackingValue}
 use Rattle.poly_place.specs.Tables.{grid_cells, bit_index}
 
@@ -28,9 +29,35 @@ far_corner vs = coordinates (greatest (λ v. v.x) vs) (greatest (λ v. v.y) vs) 
 abbrev pub from_to : ℕ → ℕ → List ℕ
 from_to a b = range_with_len a (b + 1 - a)
 
--- the name of the piece that has the cell, or what shows the cell where none has it
-abbrev pub symbol_over : List ChoiceValue → (Coordinates → ℕ) → Coordinates → ℕ
-symbol_over cs ground v = unwrap_or (option_map (λ c. c.name) (find (λ c. has_cell c.cells v) cs)) (ground v)
+-- ---- symbols of copies
+
+-- the symbols begin with the name of the piece
+abbrev pub begins_with : ℕ → List ℕ → Bool
+begins_with name [] = false
+begins_with name (n ∷ ns) = n == name
+
+-- the second is a copy of the same piece, and its least cell comes before that of the first
+abbrev pub is_earlier_copy : ChoiceValue → ChoiceValue → Bool
+is_earlier_copy c d = (d.name == c.name) && is_lt (coordinates_cmp (first_cell d.cells) (first_cell c.cells))
+
+-- the rank of a copy: how many copies of its piece come before it
+abbrev pub copy_rank : List ChoiceValue → ChoiceValue → ℕ
+copy_rank cs c = length (filter (is_earlier_copy c) cs)
+
+-- the symbol number k, modulo how many there are; or the name, where there are none
+abbrev pub in_turn : Option (List ℕ) → ℕ → ℕ → ℕ
+in_turn None k name = name
+in_turn (Some word) k name = slice_index word (k % length word)
+
+-- what shows a piece or a copy of it: its name; or of the symbols of its piece that whose number is the rank of the copy
+abbrev pub shown_symbol : PackingValue → ChoiceValue → ℕ
+shown_symbol q c = in_turn (find (begins_with c.name) q.symbols) (copy_rank q.placements c) c.name
+
+-- ---- layers
+
+-- what shows the piece that has the cell, or the cell where none has it
+abbrev pub symbol_over : (ChoiceValue → ℕ) → List ChoiceValue → (Coordinates → ℕ) → Coordinates → ℕ
+symbol_over shown cs ground v = unwrap_or (option_map shown (find (λ c. has_cell c.cells v) cs)) (ground v)
 
 -- what shows a cell that no piece has: `_` in the region, and `.` outside
 abbrev pub ground : List Coordinates → Coordinates → ℕ
@@ -38,7 +65,7 @@ ground region v = if has_cell region v then 95 else 46
 
 -- what shows a cell
 abbrev pub symbol_at : PackingValue → Coordinates → ℕ
-symbol_at q v = symbol_over q.placements (ground q.region) v
+symbol_at q v = symbol_over (shown_symbol q) q.placements (ground q.region) v
 
 -- the symbols of the cells with this y and z, in the box from one corner to the other
 abbrev pub row_symbols : (Coordinates → ℕ) → Coordinates → Coordinates → ℕ → ℕ → List ℕ

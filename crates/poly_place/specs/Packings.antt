@@ -16,7 +16,9 @@ use Rattle.poly_cells.specs.CellWords.{cell_word, symbol}
 use Rattle.poly_texts.specs.Puzzle.{PuzzleValue, IsPuzzle, names_of, has_name, is_needed}
 use Rattle.cover_problem.specs.Problem.{ProblemValue, is_small}
 use Rattle.cover_problem.specs.ExactCover.{IsExactCover}
-use Rattle.poly_place.specs.Placements.{IsPlacement, placements, turns_for}
+use Rattle.poly_place.specs.declared.alike.Group.{Group}
+use Rattle.poly_place.specs.declared.alike.Group.TheVariants.{Rotations, Symmetries}
+use Rattle.poly_place.specs.Placements.{IsPlacement, placements, turns_by}
 use Rattle.poly_place.specs.Turns.{from_right, from_left, leaf}
 
 -- a piece's name, and a set of cells for it
@@ -32,9 +34,13 @@ choice name cells = record { name = name; cells = cells }
 abbrev pub is_any : PuzzleValue → ℕ → Bool
 is_any p name = has_name p.any_pieces name
 
+-- the piece is turned by rotations, or also by reflections where it may be reflected
+abbrev pub turning_group : PuzzleValue → ℕ → Group
+turning_group p name = cond (has_name p.mirrored name) Symmetries Rotations
+
 -- the symmetries by which the piece may be turned
 abbrev pub turns_of : PuzzleValue → ℕ → List ℕ
-turns_of p name = turns_for (has_name p.mirrored name)
+turns_of p name = turns_by (turning_group p name)
 
 -- each name with the one after it
 abbrev pub neighbours : List ℕ → List (ℕ × ℕ)

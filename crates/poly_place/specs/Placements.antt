@@ -14,6 +14,8 @@ use Rattle.poly_cells.specs.Symmetries.{rotations}
 use Rattle.poly_cells.specs.Sets.{IsIn, in_order}
 use Rattle.poly_cells.specs.Shapes.{IsShape, moved, moved_back, turned}
 use Rattle.poly_cells.specs.Images.{IsImage}
+use Rattle.poly_place.specs.declared.alike.Group.{Group}
+use Rattle.poly_place.specs.declared.alike.Group.TheVariants.{Rotations, Symmetries}
 
 -- sets of cells are ordered as lists of cells
 abbrev pub cells_cmp : List Coordinates → List Coordinates → Ordering
@@ -73,9 +75,10 @@ placements turns piece region = in_order cells_cmp (forms_at (has_cell region) r
 abbrev pub symmetries : List ℕ
 symmetries = range_with_len 0 48
 
--- those by which a piece may be turned, which may be reflected or not
-abbrev pub turns_for : Bool → List ℕ
-turns_for mirrored = cond mirrored symmetries rotations
+-- those of the group, in order
+abbrev pub turns_by : Group → List ℕ
+turns_by Rotations = rotations
+turns_by Symmetries = symmetries
 
 -- the list of any shape in any other, by any symmetries, has exactly the placements
 abbrev pub ListsPlacements : Type 0

@@ -12,7 +12,7 @@ use crate::packing::Packing;
 use poly_cells::{Cell, Shape, Symmetry, symmetries_of};
 use std::alloc::{AllocError, Global};
 
-/// Which symmetries of a region count.
+/// Which symmetries count.
 #[derive(Clone, Copy, Debug, PartialEq, Eq)]
 pub enum Group {
     /// Those that a solid body can be turned by.

@@ -5,10 +5,11 @@ ghost use Rattle.poly_cells.specs.Sets.{IsIn};
 ghost use Rattle.poly_texts.specs.Puzzle.{IsPuzzle, names_of};
 ghost use Rattle.cover_problem.specs.Answers.{Returns, ReturnsItems, Adds};
 ghost use Rattle.poly_place.specs.Tables.{IsTable, grid_cells, has_bit};
-ghost use Rattle.poly_place.specs.Packings.{choices, choices_of_piece};
+ghost use Rattle.poly_place.specs.Packings.{choices, choices_of_piece, turning_group};
 ghost use Rattle.poly_place.specs.Compiled.{filled_cells, needed_names};
 
-use crate::placement::placements;
+use crate::alike::Group;
+use crate::placement::placements_by;
 use crate::table::has_bit;
 use poly_cells::{Cell, Shape};
 use poly_texts::{PieceName, Puzzle};
@@ -75,13 +76,24 @@ pub fn add_choices(
     ensures { Adds result choices.old choices.new (choices_of_piece puzzle.now (name, piece.now)) }
 {
     let is_needed = needed.contains(&name);
-    let is_mirrored = puzzle.mirrored().contains(&name);
-    for cells in placements(alloc, piece, puzzle.region(), is_mirrored)? {
+    let group = turning_group(puzzle, name);
+    for cells in placements_by(alloc, piece, puzzle.region(), group)? {
         if is_useful(is_needed, filled, cells.cells()) {
             choices.push(Choice { name, cells })?;
         }
     }
     Ok(())
+}
+
+/// The symmetries by which a piece may be turned.
+fn turning_group(puzzle: &Puzzle, name: PieceName) -> Group
+    ensures { result ≡ turning_group puzzle.now name }
+{
+    if puzzle.mirrored().contains(&name) {
+        Group::Symmetries
+    } else {
+        Group::Rotations
+    }
 }
 
 /// Whether the piece is required, or one of the cells is in the table.

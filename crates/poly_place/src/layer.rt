@@ -9,6 +9,7 @@ ghost use Rattle.poly_place.specs.Layers.{AreSymbols, far_corner, layer_line, la
 ghost use Rattle.poly_place.specs.Tables.{grid_cells};
 
 use crate::packing::Packing;
+use crate::symbol::shown_symbol;
 use crate::table::{GRID_CELLS, bit_index};
 use poly_cells::{Cell, corner_of};
 use std::alloc::{AllocError, Global};
@@ -17,7 +18,7 @@ use std::alloc::{AllocError, Global};
 const LAST: u8 = 31;
 
 /// The layers of a packing: a line for each y of the region's bounding box, in it a block for each z, one space between two,
-/// and in that a symbol for each x: the name of the piece there, `_` where the cell is empty, `.` outside the region.
+/// and in that a symbol for each x: that of the piece there, `_` where the cell is empty, `.` outside the region.
 #[tactic(auto, unfolding(crate::specs::Layers::layers))]
 pub fn layers(alloc: Global, packing: &Packing<'_>) -> Result<String, AllocError>
     ensures { IfOk result (λ text. string_bytes text ≡ layers packing.now) }
@@ -114,7 +115,7 @@ fn symbols_of(alloc: Global, packing: &Packing<'_>) -> Result<Vec<u8>, AllocErro
     let placements = packing.placements();
     for k in 0..placements.len() {
         let choice = &placements[placements.len() - 1 - k];
-        paint(&mut symbols, choice.cells(), choice.name().symbol());
+        paint(&mut symbols, choice.cells(), shown_symbol(packing, choice));
     }
     Ok(symbols)
 }

@@ -16,6 +16,7 @@ mod packing;
 mod placement;
 mod room;
 mod set;
+mod symbol;
 mod table;
 
 pub use alike::{Group, classes};
@@ -24,4 +25,4 @@ pub use compiled::{Compiled, compile};
 pub use fault::PlaceFault;
 pub use layer::layers;
 pub use packing::{Packing, packing_of};
-pub use placement::placements;
+pub use placement::{placements, placements_by};

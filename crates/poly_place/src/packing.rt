@@ -5,13 +5,14 @@ ghost use Rattle.poly_cells.specs.Sets.{in_order};
 ghost use Rattle.cover_problem.specs.Lists.{has};
 ghost use Rattle.cover_problem.specs.ExactCover.{IsExactCover};
 ghost use Rattle.cover_problem.specs.Answers.{Returns, ReturnsItems};
+ghost use Rattle.poly_place.specs.Answers.{lists_of};
 ghost use Rattle.poly_place.specs.Packings.{IsPacking, packing_problem};
 ghost use Rattle.poly_place.specs.Chosen.{AreInPieceOrder, AreNumbered, ComeByPiece, choice_numbered, is_among, packing_value, OptionsStandFor};
 
 use crate::choice::Choice;
 use crate::compiled::Compiled;
 use poly_cells::{Cell, Shape};
-use poly_texts::Puzzle;
+use poly_texts::{PieceName, Puzzle};
 use std::alloc::{AllocError, Global};
 use std::marker::Model;
 
@@ -32,6 +33,7 @@ impl<'p> Model for Packing<'p> {
       region = a.puzzle.now.region;
       maybe_cells = a.puzzle.now.maybe_cells;
       placements = a.placements.items;
+      symbols = a.puzzle.now.symbols;
     } };
 }
 
@@ -55,6 +57,13 @@ impl<'p> Packing<'p> {
         ensures { result.now ≡ self.now.maybe_cells }
     {
         self.puzzle.maybe_cells()
+    }
+
+    /// The symbols that show the copies of a piece in turn, of each piece that has several, its name first.
+    pub fn symbols(&self) -> &[Vec<PieceName>]
+        ensures { lists_of result.now ≡ self.now.symbols }
+    {
+        self.puzzle.symbols()
     }
 }
 

@@ -2,28 +2,38 @@
 ghost use Rattle.std.specs.Prelude.{◌≡◌, ◌<◌, IfOk, length, slice_index};
 ghost use Rattle.cover_problem.specs.Answers.{ReturnsItems};
 ghost use Rattle.poly_place.specs.Answers.{ReturnsLists, AddsLists, lists_of};
-ghost use Rattle.poly_place.specs.Placements.{ArePlacements, at_cell, at_cells, forms_at, moved_inside, orientations, placements, turns_for};
+ghost use Rattle.poly_cells.specs.Symmetries.{rotations};
+ghost use Rattle.poly_place.specs.Placements.{ArePlacements, at_cell, at_cells, forms_at, moved_inside, orientations, placements, turns_by};
 ghost use Rattle.poly_place.specs.Tables.{grid_cells, has_bit};
 
+use crate::alike::Group;
 use crate::set::{all_inside, all_moved, is_below, moved_back, put_sets_in_order, shapes_of};
 use crate::table::table_of;
 use poly_cells::{Cell, Rotation, Shape, Symmetry};
 use std::alloc::{AllocError, Global};
 
-/// The placements of the piece in the region: all sets of region cells that are the piece turned by a rotation, or also by a
-/// reflection where it may be reflected, and translated, each once, in the order of their lists of cells.
-pub fn placements(
+/// The placements of the piece in the region: all sets of region cells that are the piece turned by a rotation and translated, each
+/// once, in the order of their lists of cells.
+pub fn placements(alloc: Global, piece: &Shape, region: &Shape) -> Result<Vec<Shape>, AllocError>
+    ensures value { ReturnsItems result (placements rotations piece.now region.now) }
+    ensures exactly { IfOk result (λ sets. ArePlacements rotations piece.now region.now sets.items) }
+{
+    placements_by(alloc, piece, region, Group::Rotations)
+}
+
+/// The placements by rotations, or by all symmetries.
+pub fn placements_by(
     alloc: Global,
     piece: &Shape,
     region: &Shape,
-    is_mirrored: bool,
+    group: Group,
 ) -> Result<Vec<Shape>, AllocError>
-    ensures value { ReturnsItems result (placements (turns_for is_mirrored) piece.now region.now) }
-    ensures exactly { IfOk result (λ sets. ArePlacements (turns_for is_mirrored) piece.now region.now sets.items) }
+    ensures value { ReturnsItems result (placements (turns_by group) piece.now region.now) }
+    ensures exactly { IfOk result (λ sets. ArePlacements (turns_by group) piece.now region.now sets.items) }
 {
     piece.is_sound();
     let cells = region.cells();
-    let turns = orientations(alloc, piece, is_mirrored)?;
+    let turns = orientations(alloc, piece, group)?;
     let bits = table_of(alloc, cells)?;
     let mut sets = all_sets(alloc, bits.as_slice(), cells, turns.as_slice())?;
     put_sets_in_order(&mut sets);
@@ -31,38 +41,36 @@ pub fn placements(
 }
 
 /// The turned forms of the piece, in order, each once.
-fn orientations(
-    alloc: Global,
-    piece: &Shape,
-    is_mirrored: bool,
-) -> Result<Vec<Vec<Cell>>, AllocError>
-    ensures { ReturnsLists result (orientations (turns_for is_mirrored) piece.now) }
+fn orientations(alloc: Global, piece: &Shape, group: Group) -> Result<Vec<Vec<Cell>>, AllocError>
+    ensures { ReturnsLists result (orientations (turns_by group) piece.now) }
 {
     let mut turns = Vec::new(alloc);
-    for r in 0..turn_count(is_mirrored) {
-        let turned = piece.turned(turn(is_mirrored, r))?;
+    for r in 0..turn_count(group) {
+        let turned = piece.turned(turn(group, r))?;
         turns.push(Vec::from_slice(alloc, turned.cells())?)?;
     }
     put_sets_in_order(&mut turns);
     Ok(turns)
 }
 
-/// How many symmetries turn a piece that may be reflected, or that may not.
-fn turn_count(is_mirrored: bool) -> u8
-    ensures { result ≡ length (turns_for is_mirrored) }
+/// How many symmetries the group has.
+fn turn_count(group: Group) -> u8
+    ensures { result ≡ length (turns_by group) }
 {
-    if is_mirrored { 48 } else { 24 }
+    match group {
+        Group::Rotations => 24,
+        Group::Symmetries => 48,
+    }
 }
 
-/// The symmetry at place `r` among those that turn such a piece.
-fn turn(is_mirrored: bool, r: u8) -> Symmetry
-    requires { r < length (turns_for is_mirrored) }
-    ensures { result ≡ slice_index (turns_for is_mirrored) r }
+/// The symmetry at place `r` of the group.
+fn turn(group: Group, r: u8) -> Symmetry
+    requires { r < length (turns_by group) }
+    ensures { result ≡ slice_index (turns_by group) r }
 {
-    if is_mirrored {
-        Symmetry::new(r)
-    } else {
-        Rotation::new(r).symmetry()
+    match group {
+        Group::Rotations => Rotation::new(r).symmetry(),
+        Group::Symmetries => Symmetry::new(r),
     }
 }
 

@@ -73,7 +73,8 @@ fn assert_counts(rt: &impl Abort, alloc: Global, rows: &[(&[u8], u64)]) -> Resul
 
 static DRAWN: [(&[u8], u64); 40] = [
     (
-        b"maybe piece F 000\npiece a 000 100 200\nmaybe cells 001 200 211\nany piece E 000 100 200 010\nbox 3 2 2",
+        b"maybe piece F 000\npiece a 000 100 200\nmaybe cells 001 200 211\n\
+          any piece E 000 100 200 010\nbox 3 2 2",
         8,
     ),
     (
@@ -81,7 +82,8 @@ static DRAWN: [(&[u8], u64); 40] = [
         8,
     ),
     (
-        b"any piece j 000 100\nmirror copies fF 000 100 010 011\npiece A 000 100 010\nbox 2 2 2\nmaybe mirror piece H 000 100 010",
+        b"any piece j 000 100\nmirror copies fF 000 100 010 011\npiece A 000 100 010\n\
+          box 2 2 2\nmaybe mirror piece H 000 100 010",
         0,
     ),
     (b"mirror copies jACG 000 100 200\nbox 2 3 2", 1),
@@ -90,19 +92,23 @@ static DRAWN: [(&[u8], u64); 40] = [
         0,
     ),
     (
-        b"maybe piece B 000 100 200 010\npiece H 000 100 200 010\ncut 210\nbox 4 2 1\ncopies biC 000 100 200 010\nmaybe cells 110\nany piece e 000 100 010",
+        b"maybe piece B 000 100 200 010\npiece H 000 100 200 010\ncut 210\nbox 4 2 1\n\
+          copies biC 000 100 200 010\nmaybe cells 110\nany piece e 000 100 010",
         0,
     ),
     (
-        b"mirror copies hi 000 100 010\nany mirror piece E 000 100 010 011\npiece j 000 100 200\ncut 100\nmaybe cells 010 110 210\nbox 3 2 1",
+        b"mirror copies hi 000 100 010\nany mirror piece E 000 100 010 011\n\
+          piece j 000 100 200\ncut 100\nmaybe cells 010 110 210\nbox 3 2 1",
         0,
     ),
     (
-        b"cut 011\nany piece F 000 100\nany piece I 000 100 010\nmaybe cells 000 010 200\nbox 3 2 2\nmirror piece D 000 100 200 010",
+        b"cut 011\nany piece F 000 100\nany piece I 000 100 010\nmaybe cells 000 010 200\n\
+          box 3 2 2\nmirror piece D 000 100 200 010",
         78,
     ),
     (
-        b"any piece f 000 100 010 011\nmirror piece a 000 100 200 010\nbox 3 2 2\nmirror copies cC 000 100 010 011\nmaybe piece I 000 100 200 010",
+        b"any piece f 000 100 010 011\nmirror piece a 000 100 200 010\nbox 3 2 2\n\
+          mirror copies cC 000 100 010 011\nmaybe piece I 000 100 200 010",
         16,
     ),
     (
@@ -110,7 +116,8 @@ static DRAWN: [(&[u8], u64); 40] = [
         2,
     ),
     (
-        b"piece E 000 100\npiece A 000\nbox 4 2 1\nany mirror piece d 000 100\nany piece B 000 100 200 010\nmaybe cells 110 310",
+        b"piece E 000 100\npiece A 000\nbox 4 2 1\nany mirror piece d 000 100\n\
+          any piece B 000 100 200 010\nmaybe cells 110 310",
         49,
     ),
     (
@@ -122,7 +129,8 @@ static DRAWN: [(&[u8], u64); 40] = [
         2,
     ),
     (
-        b"maybe cells 100 101 211\nbox 3 2 2\nany piece D 000 100 010 011\ncut 100\nmirror copies Fh 000\nmirror piece G 000 100 010\ncopies eH 000 100 200",
+        b"maybe cells 100 101 211\nbox 3 2 2\nany piece D 000 100 010 011\ncut 100\n\
+          mirror copies Fh 000\nmirror piece G 000 100 010\ncopies eH 000 100 200",
         4,
     ),
     (
@@ -130,7 +138,8 @@ static DRAWN: [(&[u8], u64); 40] = [
         12,
     ),
     (
-        b"cut 000\nany piece g 000 100\nbox 3 3 1\nany mirror piece H 000 100 010 011\ncopies EJd 000 100",
+        b"cut 000\nany piece g 000 100\nbox 3 3 1\nany mirror piece H 000 100 010 011\n\
+          copies EJd 000 100",
         16,
     ),
     (
@@ -138,49 +147,61 @@ static DRAWN: [(&[u8], u64); 40] = [
         580,
     ),
     (
-        b"any piece g 000 100 200 010\nmirror piece C 000 100 200\nbox 3 3 1\ncut 100\nmaybe cells 100 110 210",
+        b"any piece g 000 100 200 010\nmirror piece C 000 100 200\nbox 3 3 1\ncut 100\n\
+          maybe cells 100 110 210",
         2,
     ),
     (b"any piece J 000\nbox 2 2 2\ncopies aAG 000", 56),
     (
-        b"maybe mirror piece a 000 100\ncopies fD 000 100\ncopies jBC 000\npiece e 000 100 200\nbox 3 2 2",
+        b"maybe mirror piece a 000 100\ncopies fD 000 100\ncopies jBC 000\n\
+          piece e 000 100 200\nbox 3 2 2",
         672,
     ),
     (
-        b"maybe piece J 000\nmaybe mirror piece B 000 100 200\nmaybe cells 001 010 101\nbox 2 3 2\nany mirror piece b 000 100 010 011\ncut 010\nmirror copies djIH 000 100",
+        b"maybe piece J 000\nmaybe mirror piece B 000 100 200\nmaybe cells 001 010 101\n\
+          box 2 3 2\nany mirror piece b 000 100 010 011\ncut 010\nmirror copies djIH 000 100",
         16,
     ),
     (
-        b"any mirror piece C 000\nmaybe cells 010 300 310\ncut 010\nany mirror piece A 000 100 010 011\nbox 4 2 1\nmirror piece D 000 100 010",
+        b"any mirror piece C 000\nmaybe cells 010 300 310\ncut 010\n\
+          any mirror piece A 000 100 010 011\nbox 4 2 1\nmirror piece D 000 100 010",
         9,
     ),
     (
-        b"any piece H 000 100\nbox 2 3 2\nmirror piece B 000 100 200\nmaybe piece h 000\nmaybe mirror piece F 000 100 200",
+        b"any piece H 000 100\nbox 2 3 2\nmirror piece B 000 100 200\nmaybe piece h 000\n\
+          maybe mirror piece F 000 100 200",
         96,
     ),
     (
-        b"any mirror piece b 000 100 010 011\nany mirror piece j 000\nbox 4 2 1\nany piece G 000 100 010 011",
+        b"any mirror piece b 000 100 010 011\nany mirror piece j 000\nbox 4 2 1\n\
+          any piece G 000 100 010 011",
         1,
     ),
     (
-        b"copies AeH 000 100\nmaybe cells 101\nany mirror piece c 000 100 200\nany piece b 000 100\nbox 2 2 2\nany piece i 000 100 010 011",
+        b"copies AeH 000 100\nmaybe cells 101\nany mirror piece c 000 100 200\n\
+          any piece b 000 100\nbox 2 2 2\nany piece i 000 100 010 011",
         36,
     ),
     (
-        b"any piece g 000 100 010 011\nany piece d 000 100 010\nbox 3 2 1\nmaybe cells 000\nany piece a 000\ncut 000",
+        b"any piece g 000 100 010 011\nany piece d 000 100 010\nbox 3 2 1\nmaybe cells 000\n\
+          any piece a 000\ncut 000",
         6,
     ),
     (
-        b"maybe mirror piece g 000 100 200\nbox 3 3 1\nmirror copies DH 000 100 010\nany piece b 000",
+        b"maybe mirror piece g 000 100 200\nbox 3 3 1\nmirror copies DH 000 100 010\n\
+          any piece b 000",
         30,
     ),
     (b"box 3 3 1\nany piece E 000\ncopies AjJh 000 100", 18),
     (
-        b"box 4 2 1\nmirror copies iADf 000 100\nmaybe cells 000 010\nmaybe piece C 000 100 200 010",
+        b"box 4 2 1\nmirror copies iADf 000 100\nmaybe cells 000 010\n\
+          maybe piece C 000 100 200 010",
         5,
     ),
     (
-        b"any mirror piece d 000 100 200\nmaybe piece j 000 100 010 011\nmirror copies IJ 000 100 200\nmaybe cells 001\nbox 2 3 2\nany piece c 000 100 010 011",
+        b"any mirror piece d 000 100 200\nmaybe piece j 000 100 010 011\n\
+          mirror copies IJ 000 100 200\nmaybe cells 001\nbox 2 3 2\n\
+          any piece c 000 100 010 011",
         6,
     ),
     (
@@ -188,15 +209,18 @@ static DRAWN: [(&[u8], u64); 40] = [
         9,
     ),
     (
-        b"any piece I 000 100 010 011\nbox 3 2 2\ncopies DGe 000\nmaybe piece d 000\nmaybe cells 101 110",
+        b"any piece I 000 100 010 011\nbox 3 2 2\ncopies DGe 000\nmaybe piece d 000\n\
+          maybe cells 101 110",
         208,
     ),
     (
-        b"box 3 2 2\nmirror piece C 000 100 010\ncopies IE 000 100 010\nmaybe cells 000\nany piece G 000 100 200 010\nmaybe piece g 000 100",
+        b"box 3 2 2\nmirror piece C 000 100 010\ncopies IE 000 100 010\nmaybe cells 000\n\
+          any piece G 000 100 200 010\nmaybe piece g 000 100",
         228,
     ),
     (
-        b"box 2 3 2\nmirror piece A 000 100\nmaybe cells 000 001 011\ncopies IE 000 100 200\nany piece b 000 100 200\nmirror piece g 000 100 200 010",
+        b"box 2 3 2\nmirror piece A 000 100\nmaybe cells 000 001 011\n\
+          copies IE 000 100 200\nany piece b 000 100 200\nmirror piece g 000 100 200 010",
         16,
     ),
     (
@@ -204,7 +228,8 @@ static DRAWN: [(&[u8], u64); 40] = [
         5,
     ),
     (
-        b"copies gcJ 000 100 010\nany mirror piece C 000 100 200 010\nbox 3 2 2\nany mirror piece h 000\npiece d 000 100 200",
+        b"copies gcJ 000 100 010\nany mirror piece C 000 100 200 010\nbox 3 2 2\n\
+          any mirror piece h 000\npiece d 000 100 200",
         20,
     ),
     (
@@ -212,15 +237,18 @@ static DRAWN: [(&[u8], u64); 40] = [
         1,
     ),
     (
-        b"maybe piece h 000\nmirror copies bj 000\nany mirror piece E 000 100 010\nmaybe cells 210\nmirror copies IfC 000\nbox 3 2 1",
+        b"maybe piece h 000\nmirror copies bj 000\nany mirror piece E 000 100 010\n\
+          maybe cells 210\nmirror copies IfC 000\nbox 3 2 1",
         60,
     ),
     (
-        b"any mirror piece e 000 100 010 011\nmaybe cells 001 010\nany piece C 000 100 200\ncopies Jj 000 100\nbox 2 3 2",
+        b"any mirror piece e 000 100 010 011\nmaybe cells 001 010\nany piece C 000 100 200\n\
+          copies Jj 000 100\nbox 2 3 2",
         128,
     ),
     (
-        b"box 3 2 2\nany piece A 000\ncut 111\nmaybe mirror piece G 000 100 010 011\nmirror copies bc 000 100 200 010\nmaybe cells 101 200",
+        b"box 3 2 2\nany piece A 000\ncut 111\nmaybe mirror piece G 000 100 010 011\n\
+          mirror copies bc 000 100 200 010\nmaybe cells 101 200",
         20,
     ),
 ];

@@ -11,6 +11,8 @@ mod compiled_tests;
 #[cfg(test)]
 mod drawn_tests;
 #[cfg(test)]
+mod large_tests;
+#[cfg(test)]
 mod memory_tests;
 #[cfg(test)]
 mod packing_tests;

@@ -57,10 +57,10 @@ fn are_shapes(shapes: &[Shape], others: &[Shape]) -> bool {
 
 /// Whether the placements are these, on a second try where the first is refused.
 fn are_placed_again(alloc: Global, piece: &Shape, region: &Shape, wanted: &[Shape]) -> bool {
-    if let Ok(found) = placements(alloc, piece, region, false) {
+    if let Ok(found) = placements(alloc, piece, region) {
         return are_shapes(&found, wanted);
     }
-    match placements(alloc, piece, region, false) {
+    match placements(alloc, piece, region) {
         Ok(found) => are_shapes(&found, wanted),
         Err(_) => false,
     }
@@ -72,7 +72,7 @@ const PIECE: Cells = &[(0, 0, 0), (1, 0, 0), (0, 1, 0)];
 /// Whether the placements of the piece in a region are those that were found before.
 fn are_placed_twice(alloc: Global, region: &Shape) -> Result<bool, Fail> {
     let piece = shape_at(alloc, PIECE)?;
-    let wanted = placements(alloc, &piece, region, false)?;
+    let wanted = placements(alloc, &piece, region)?;
     let _last = vec![in alloc; 0u8; 1].map_err(|_| "refused before the call")?;
     Ok(wanted.len() == 4 && are_placed_again(alloc, &piece, region, &wanted))
 }

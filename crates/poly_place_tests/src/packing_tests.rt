@@ -65,3 +65,14 @@ fn an_optional_piece_is_used_or_left_out(rt: HostRuntime) -> Result<(), Fail> {
     assert!(rt; is_shown(rt.alloc(), text, &[2, 3], "BAA\n")?);
     Ok(())
 }
+
+#[test]
+fn copies_are_shown_in_turn(rt: HostRuntime) -> Result<(), Fail> {
+    let text = b"any piece Aab 000\nbox 2 2 1\n";
+    assert!(rt; is_shown(rt.alloc(), text, &[4, 1, 3, 2], "Ab\naA\n")?);
+    let text = b"any piece AB 000 100\npiece C 000\nbox 5 1 1\n";
+    assert!(rt; is_shown(rt.alloc(), text, &[3, 1, 9], "AABBC\n")?);
+    let text = b"any piece A 000 100\nbox 4 1 1\n";
+    assert!(rt; is_shown(rt.alloc(), text, &[1, 3], "AAAA\n")?);
+    Ok(())
+}

@@ -1,14 +1,14 @@
 //! Counts of placements from the literature and from an independent program, and rows worked by hand.
 use crate::setting::{Cells, MIRRORED, SCREW, are_cells, box_of, shape_at};
 use poly_cells::{Cell, Shape};
-use poly_place::placements;
+use poly_place::{Group, placements, placements_by};
 use std::alloc::Global;
 use std::test::Fail;
 
 /// The placements of the piece with these cells.
 fn placed(alloc: Global, piece: Cells, region: &Shape) -> Result<Vec<Shape>, Fail> {
     let piece = shape_at(alloc, piece)?;
-    Ok(placements(alloc, &piece, region, false)?)
+    Ok(placements(alloc, &piece, region)?)
 }
 
 /// How many they are.
@@ -140,6 +140,19 @@ fn a_piece_that_does_not_fit_has_none(rt: HostRuntime) -> Result<(), Fail> {
     // The mirror image of a screw is none of its rotations.
     assert!(rt; count_at(alloc, SCREW, MIRRORED)? == 0);
     assert!(rt; count_at(alloc, MIRRORED, MIRRORED)? == 1);
+    Ok(())
+}
+
+/// Whether the piece lies in the region of these cells once, by all symmetries.
+fn is_placed_reflected(alloc: Global, piece: Cells, region: Cells) -> Result<bool, Fail> {
+    let piece = shape_at(alloc, piece)?;
+    let region = shape_at(alloc, region)?;
+    Ok(placements_by(alloc, &piece, &region, Group::Symmetries)?.len() == 1)
+}
+
+#[test]
+fn a_screw_lies_in_its_mirror_image(rt: HostRuntime) -> Result<(), Fail> {
+    assert!(rt; is_placed_reflected(rt.alloc(), SCREW, MIRRORED)?);
     Ok(())
 }
 

@@ -1,10 +1,6 @@
-//! Texts of puzzles, with answers that were written down by hand. Texts and their answers are rows of tables; a long text is written by
-//! functions that change it in place.
-ghost use Rattle.std.specs.Prelude.{◌<◌};
-
+//! Texts of puzzles, with answers that were written down by hand. Texts and their answers are rows of tables.
 use crate::setting::{Cells, are_cells};
-use poly_cells::Cell;
-use poly_texts::{Fault, MOST_PIECES, PieceName, Puzzle, PuzzleFault, read_puzzle};
+use poly_texts::{Fault, PieceName, Puzzle, PuzzleFault, read_puzzle};
 use std::alloc::Global;
 use std::process::Abort;
 use std::test::Fail;
@@ -13,7 +9,7 @@ use std::test::Fail;
 type Refusal = (&'static [u8], Fault, u64);
 
 /// Whether a text is refused with this fault in this line.
-fn is_refused(alloc: Global, text: &[u8], fault: Fault, line: u64) -> bool {
+pub fn is_refused(alloc: Global, text: &[u8], fault: Fault, line: u64) -> bool {
     match read_puzzle(alloc, text) {
         Err(found) => found == PuzzleFault::Fault { fault, line },
         Ok(_) => false,
@@ -80,7 +76,7 @@ fn the_first_fault_of_a_line_is_named(rt: HostRuntime) {
     assert_refused(&rt, rt.alloc(), &FIRST_FAULTS);
 }
 
-static LATER_LINES: [Refusal; 32] = [
+static LATER_LINES: [Refusal; 38] = [
     (b"copies AA 000", Fault::RepeatedPiece, 1),
     (b"copies A 000", Fault::BadLine, 1),
     (b"copies A- 000", Fault::BadLine, 1),
@@ -102,7 +98,21 @@ static LATER_LINES: [Refusal; 32] = [
     (b"any cut 000", Fault::BadLine, 1),
     (b"any any piece A 000", Fault::BadLine, 1),
     (b"any maybe piece A 000", Fault::BadLine, 1),
-    (b"any piece AB 000", Fault::BadLine, 1),
+    (b"any piece AA 000", Fault::RepeatedPiece, 1),
+    (b"any piece ABA 00", Fault::RepeatedPiece, 1),
+    (b"any piece A- 000", Fault::BadLine, 1),
+    (b"any piece AB", Fault::BadLine, 1),
+    (b"any piece AB 000\npiece B 000", Fault::RepeatedPiece, 2),
+    (
+        b"piece B 000\nany mirror piece AB 000",
+        Fault::RepeatedPiece,
+        2,
+    ),
+    (
+        b"any piece AB 000\nany piece CB 000",
+        Fault::RepeatedPiece,
+        2,
+    ),
     (b"piece AB 000", Fault::BadLine, 1),
     (b"maybe piece AB 000", Fault::BadLine, 1),
     (b"mirror", Fault::BadLine, 1),
@@ -163,11 +173,11 @@ fn the_last_line_may_lack_its_end(rt: HostRuntime) {
 }
 
 /// What a puzzle has: its pieces, the names of those that may be left out, its region, and the cells that may stay empty.
-struct Parts {
-    pieces: &'static [(u8, Cells)],
-    maybe_pieces: &'static [u8],
-    region: Cells,
-    maybe_cells: Cells,
+pub struct Parts {
+    pub pieces: &'static [(u8, Cells)],
+    pub maybe_pieces: &'static [u8],
+    pub region: Cells,
+    pub maybe_cells: Cells,
 }
 
 /// Whether the pieces have these names and cells.
@@ -189,7 +199,7 @@ fn are_names(names: &[PieceName], symbols: &[u8]) -> bool {
 }
 
 /// Whether a text is read as the puzzle with these parts.
-fn is_read(alloc: Global, text: &[u8], parts: &Parts) -> bool {
+pub fn is_read(alloc: Global, text: &[u8], parts: &Parts) -> bool {
     match read_puzzle(alloc, text) {
         Ok(puzzle) => {
             are_pieces(&puzzle, parts.pieces)
@@ -215,28 +225,48 @@ fn a_puzzle_is_read(rt: HostRuntime) {
     assert!(rt; is_read(rt.alloc(), text, &TWO_PIECES));
 }
 
-/// Whether a text is read as a puzzle with these names of pieces that may be used any number of times, of pieces that may be reflected,
-/// and of one group of equal pieces.
-fn has_names(alloc: Global, text: &[u8], any: &[u8], mirrored: &[u8], equal: &[u8]) -> bool {
+/// Whether there is one group of names, which has these symbols.
+fn is_one_group(groups: &[Vec<PieceName>], symbols: &[u8]) -> bool {
+    groups.len() == 1
+        && groups
+            .iter()
+            .all(|group| are_names(group.as_slice(), symbols))
+}
+
+/// Names of pieces: of those that may be used any number of times, of those that may be reflected, of equal ones, and the symbols that
+/// show copies.
+struct Names {
+    any: &'static [u8],
+    mirrored: &'static [u8],
+    equal: &'static [u8],
+    symbols: &'static [u8],
+}
+
+/// Whether a text is read as a puzzle with these names.
+fn has_names(alloc: Global, text: &[u8], names: &Names) -> bool {
     match read_puzzle(alloc, text) {
         Ok(puzzle) => {
-            let groups = puzzle.equal();
-            are_names(puzzle.any_pieces(), any)
-                && are_names(puzzle.mirrored(), mirrored)
-                && groups.len() == 1
-                && groups
-                    .iter()
-                    .all(|group| are_names(group.as_slice(), equal))
+            are_names(puzzle.any_pieces(), names.any)
+                && are_names(puzzle.mirrored(), names.mirrored)
+                && is_one_group(puzzle.equal(), names.equal)
+                && is_one_group(puzzle.symbols(), names.symbols)
         }
         Err(_) => false,
     }
 }
 
+const SEVERAL: Names = Names {
+    any: b"ax",
+    mirrored: b"aBCAD",
+    equal: b"BCA",
+    symbols: b"x0y",
+};
+
 #[test]
 fn equal_pieces_are_read(rt: HostRuntime) {
     let text =
-        b"any mirror piece a 000 100\nmirror copies BCA 000\nmaybe mirror piece D 000\nany piece 0 000\nbox 3 1 1";
-    assert!(rt; has_names(rt.alloc(), text, b"a0", b"aBCAD", b"BCA"));
+        b"any mirror piece a 000 100\nmirror copies BCA 000\nmaybe mirror piece D 000\nany piece x0y 000\nbox 3 1 1";
+    assert!(rt; has_names(rt.alloc(), text, &SEVERAL));
 }
 
 const OPTIONAL_CELL: Parts = Parts {
@@ -250,207 +280,4 @@ const OPTIONAL_CELL: Parts = Parts {
 fn a_cell_of_maybe_is_optional_wherever_it_is_named(rt: HostRuntime) {
     let text = b"cut 200\nmaybe cells 000 200\nbox 3 1 1\ncells 000 000\npiece A 000";
     assert!(rt; is_read(rt.alloc(), text, &OPTIONAL_CELL));
-}
-
-/// The symbols of coordinates, and of names of pieces.
-const SYMBOLS: &[u8; 62] = b"0123456789abcdefghijklmnopqrstuvwxyzABCDEFGHIJKLMNOPQRSTUVWXYZ";
-
-/// Writes a space and the word of a cell, which its index in the order numbers from 0 to 32,767.
-fn write_cell(text: &mut Vec<u8>, n: usize) -> Result<(), Fail> {
-    text.push(b' ')?;
-    text.push(SYMBOLS[n / 1024 % 32])?;
-    text.push(SYMBOLS[n / 32 % 32])?;
-    text.push(SYMBOLS[n % 32])?;
-    Ok(())
-}
-
-/// Writes lines of the cells from one number up to another. A line with these words at its front begins at each number that
-/// `each` divides.
-fn write_cells(
-    text: &mut Vec<u8>,
-    front: &[u8],
-    from: usize,
-    to: usize,
-    each: usize,
-) -> Result<(), Fail>
-    requires { 0 < each }
-{
-    for n in from..to {
-        if n % each == 0 {
-            text.push(b'\n')?;
-            text.extend_from_slice(front)?;
-        }
-        write_cell(text, n)?;
-    }
-    Ok(())
-}
-
-/// How many cells the region of a text has, and how many of them may stay empty.
-fn sizes_of(alloc: Global, text: &[u8]) -> Option<(usize, usize)> {
-    match read_puzzle(alloc, text) {
-        Ok(puzzle) => Some((puzzle.region().cells().len(), puzzle.maybe_cells().len())),
-        Err(_) => None,
-    }
-}
-
-const LAST_CELL: Parts = Parts {
-    pieces: &[(b'A', &[(0, 0, 0)])],
-    maybe_pieces: b"",
-    region: &[(31, 31, 31)],
-    maybe_cells: &[(31, 31, 31)],
-};
-
-/// Writes a region of 4,096 cells that are named twice, in lines of so many cells.
-fn write_full_region(text: &mut Vec<u8>, each: usize) -> Result<(), Fail>
-    requires { 0 < each }
-{
-    text.extend_from_slice(b"piece A 000")?;
-    write_cells(text, b"cells", 28_672, 32_768, each)?;
-    write_cells(text, b"maybe cells", 28_672, 32_768, each)
-}
-
-/// Whether a region of 4,096 cells is read that are named twice, in lines of so many cells; then the same with all but the last
-/// of them cut; and then one cell more is refused, in the line with this number.
-fn is_full_region_read(
-    alloc: Global,
-    text: &mut Vec<u8>,
-    each: usize,
-    last: u64,
-) -> Result<bool, Fail>
-    requires { 0 < each }
-{
-    write_full_region(text, each)?;
-    let sizes = sizes_of(alloc, text.as_slice());
-    write_cells(text, b"cut", 28_672, 32_767, each)?;
-    let is_cut = is_read(alloc, text.as_slice(), &LAST_CELL);
-    text.extend_from_slice(b"\ncells 000")?;
-    let is_refused = is_refused(alloc, text.as_slice(), Fault::TooLarge, last);
-    Ok(sizes == Some((4096, 4096)) && is_cut && is_refused)
-}
-
-/// The same, of a text that begins empty.
-fn is_full_region(alloc: Global, each: usize, last: u64) -> Result<bool, Fail>
-    requires { 0 < each }
-{
-    is_full_region_read(alloc, &mut Vec::new(alloc), each, last)
-}
-
-#[test]
-fn a_full_region_is_read_in_one_line_or_many(rt: HostRuntime) -> Result<(), Fail> {
-    assert!(rt; is_full_region(rt.alloc(), 4096, 5)?);
-    assert!(rt; is_full_region(rt.alloc(), 64, 194)?);
-    assert!(rt; is_full_region(rt.alloc(), 1, 12_289)?);
-    Ok(())
-}
-
-/// Writes a box, and its cells 64 times more: each 32 times in lines of their own, and 32 times in one line.
-fn write_repeated_cells(text: &mut Vec<u8>) -> Result<(), Fail> {
-    text.extend_from_slice(b"piece A 000\nbox 4 32 32")?;
-    for _ in 0..32 {
-        write_cells(text, b"cells", 0, 4096, 4096)?;
-    }
-    text.extend_from_slice(b"\ncells")?;
-    for n in 0..131_072usize {
-        write_cell(text, n % 4096)?;
-    }
-    Ok(())
-}
-
-/// Whether it is read, and refused with a line of more cells.
-fn are_repeated_cells_read(alloc: Global) -> Result<bool, Fail> {
-    let mut text = Vec::new(alloc);
-    write_repeated_cells(&mut text)?;
-    let is_read = sizes_of(alloc, &text) == Some((4096, 0));
-    write_cells(&mut text, b"cells", 0, 32_768, 32_768)?;
-    Ok(is_read && is_refused(alloc, &text, Fault::TooLarge, 36))
-}
-
-#[test]
-fn repeated_cells_are_read(rt: HostRuntime) -> Result<(), Fail> {
-    assert!(rt; are_repeated_cells_read(rt.alloc())?);
-    Ok(())
-}
-
-/// Writes a piece of each name, of 64 cells in two rows.
-fn write_all_pieces(text: &mut Vec<u8>) -> Result<(), Fail> {
-    text.extend_from_slice(b"box 1 1 1")?;
-    for (k, name) in SYMBOLS.iter().enumerate() {
-        text.extend_from_slice(b"\npiece ")?;
-        text.push(*name)?;
-        for n in 0..64usize {
-            write_cell(text, 64 * k + n)?;
-        }
-    }
-    Ok(())
-}
-
-/// Whether the cells are 64, of which the last is 0 1 31.
-fn are_two_rows(cells: &[Cell]) -> bool {
-    cells.len() == 64
-        && cells
-            .last()
-            .is_some_and(|cell| (cell.x(), cell.y(), cell.z()) == (0, 1, 31))
-}
-
-/// Whether a text is read as those pieces.
-fn are_all_pieces(alloc: Global, text: &[u8]) -> bool {
-    match read_puzzle(alloc, text) {
-        Ok(puzzle) => {
-            puzzle.pieces().len() == MOST_PIECES
-                && SYMBOLS.iter().zip(puzzle.pieces().iter()).all(|(
-                    symbol,
-                    (name, shape),
-                )| name.symbol() == *symbol && are_two_rows(shape.cells()))
-        }
-        Err(_) => false,
-    }
-}
-
-/// Whether they are read, and refused with one more.
-fn are_all_pieces_read(alloc: Global) -> Result<bool, Fail> {
-    let mut text = Vec::new(alloc);
-    write_all_pieces(&mut text)?;
-    let are_read = are_all_pieces(alloc, &text);
-    text.extend_from_slice(b"\npiece 0 000")?;
-    Ok(are_read && is_refused(alloc, &text, Fault::RepeatedPiece, 64))
-}
-
-#[test]
-fn as_many_pieces_as_names_are_read(rt: HostRuntime) -> Result<(), Fail> {
-    assert!(rt; are_all_pieces_read(rt.alloc())?);
-    Ok(())
-}
-
-/// Writes a puzzle of one cell with a long comment, many blank lines and a long end.
-fn write_blanks(text: &mut Vec<u8>) -> Result<(), Fail> {
-    text.extend_from_slice(b"piece A 000 #")?;
-    text.resize(1 << 20, b'\xff')?;
-    for _ in 0..262_144u32 {
-        text.extend_from_slice(b"\n \t\r")?;
-    }
-    text.extend_from_slice(b"\nbox 1 1 1")?;
-    text.resize(3 << 20, b' ')?;
-    Ok(())
-}
-
-const ONE_CELL: Parts = Parts {
-    pieces: &[(b'A', &[(0, 0, 0)])],
-    maybe_pieces: b"",
-    region: &[(0, 0, 0)],
-    maybe_cells: &[],
-};
-
-/// Whether it is read, and refused where its last line is none.
-fn are_blanks_read(alloc: Global) -> Result<bool, Fail> {
-    let mut text = Vec::new(alloc);
-    write_blanks(&mut text)?;
-    let is_blank = is_read(alloc, &text, &ONE_CELL);
-    text.extend_from_slice(b"\r\r")?;
-    Ok(is_blank && is_refused(alloc, &text, Fault::BadLine, 262_146))
-}
-
-#[test]
-fn blank_lines_and_comments_say_nothing(rt: HostRuntime) -> Result<(), Fail> {
-    assert!(rt; are_blanks_read(rt.alloc())?);
-    Ok(())
 }

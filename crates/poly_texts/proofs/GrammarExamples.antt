@@ -4,6 +4,7 @@ use Rattle.poly_cells.specs.Coordinates.{coordinates}
 use Rattle.poly_cells.specs.Sets.{in_order}
 use Rattle.poly_cells.specs.Shapes.{normal}
 use Rattle.poly_texts.specs.declared.need.Need.TheVariants as needs
+use Rattle.poly_texts.specs.Needs.{pieces_named}
 use Rattle.poly_texts.specs.Plain.{plain_piece, plain_words}
 use Rattle.poly_texts.specs.Grammar.{piece, box, cut, line_words, puzzle_by}
 
@@ -19,9 +20,16 @@ said_together : puzzle_by (piece needs.Must false false (65 ∷ []) (coordinates
       any_pieces = [];
       mirrored = [];
       equal = [];
+      symbols = [];
     }
 unfolding in_order normal
 said_together = refl
+
+shown_by_two : pieces_named needs.Any (65 ∷ 66 ∷ []) ≡ 65 ∷ []
+shown_by_two = refl
+
+two_pieces : pieces_named needs.Must (65 ∷ 66 ∷ []) ≡ 65 ∷ 66 ∷ []
+two_pieces = refl
 
 words_of_a_plain_line : plain_words (plain_piece true 65 (coordinates 0 0 0 ∷ [])) ≡ codes "maybe" ∷ codes "piece" ∷ codes "A" ∷ codes "000" ∷ []
 words_of_a_plain_line = refl

@@ -13,8 +13,9 @@ use Rattle.poly_texts.specs.declared.key.Key.TheVariants as keys
 use Rattle.poly_texts.specs.declared.need.Need.{Need}
 use Rattle.poly_texts.specs.declared.need.Need.TheVariants as needs
 use Rattle.poly_texts.specs.Cells.{with_cells}
+use Rattle.poly_texts.specs.Needs.{is_must}
 use Rattle.poly_texts.specs.Words.{word_names, is_name, are_so_many, are_sizes, are_small, is_size, size_from}
-use Rattle.poly_texts.specs.Reading.{DraftValue, kept_shape, shape_of, within, is_must, some_repeated, with_pieces, are_fresh, new_names, add_cell, add_piece_cell, three_words, with_box, sized_box, piece_line, box_line, cells_line, maybe_cells_line, cut_line, key_from, mirror_keyed, mirror_line, any_keyed, any_line, maybe_keyed, maybe_line, keyed_line, words_line}
+use Rattle.poly_texts.specs.Reading.{DraftValue, kept_shape, shape_of, within, some_repeated, taken_in, with_line, are_fresh, new_names, add_cell, add_piece_cell, three_words, with_box, sized_box, piece_line, box_line, cells_line, maybe_cells_line, cut_line, key_from, mirror_keyed, mirror_line, any_keyed, any_line, maybe_keyed, maybe_line, keyed_line, words_line}
 use Rattle.poly_cells.specs.CellTests.{is_in_grid}
 use Rattle.poly_cells.specs.CellWords.{cell_word}
 use Rattle.poly_texts.specs.Grammar.{Line, piece, box, cells, cut, need_words, mirror_words, piece_word, are_names, line_words, are_in_grid, are_apart, is_side, is_line}
@@ -24,7 +25,7 @@ use Rattle.poly_texts.proofs.SpellingLemmas.{words_same, cells_again, cells_are,
 
 -- what is said with one more line
 abbrev pub plus : DraftValue → Line → DraftValue
-plus s (piece need several mirrored names cs) = with_pieces s need mirrored names (kept_shape cs)
+plus s (piece need several mirrored names cs) = with_line s need mirrored names (kept_shape cs)
 plus s (box a b c) = with_box s a b c
 plus s (cells optional cs) = record s { named = with_cells s.named cs; maybe_cells = cond optional (with_cells s.maybe_cells cs) s.maybe_cells }
 plus s (cut cs) = record s { cut = with_cells s.cut cs }
@@ -34,7 +35,7 @@ is_small s = nat_le (length s.named) most_region_cells
 
 -- whether a line may come after what is said
 abbrev pub is_fit : DraftValue → Line → Bool
-is_fit s (piece need several mirrored names cs) = not (some_repeated s.pieces names)
+is_fit s (piece need several mirrored names cs) = not (some_repeated (taken_in s) names)
 is_fit s (box a b c) = not s.boxed && is_small (with_box s a b c)
 is_fit s (cells optional cs) = is_small (plus s (cells optional cs))
 is_fit s (cut cs) = true
@@ -56,26 +57,26 @@ shape_again : (cs : List Coordinates) → list_all is_in_grid cs ≡ true → ar
 unfolding shape_of
 shape_again cs p a l = rw (piece_again [] cs p a (omega arith)) refl
 
-names_again : (need : Need) (several : Bool) (names : List ℕ) → are_names need several names ≡ true → word_names several names ≡ Some names
-names_again need several names h = rw (and_parts (is_must need || not several) (list_all is_name names && are_so_many several (length names)) h).1 refl
+names_again : (need : Need) (several : Bool) (names : List ℕ) → are_names need several names ≡ true → word_names need several names ≡ Some names
+names_again need several names h = rw (and_parts (is_must need || not several) (list_all is_name names && are_so_many need several (length names)) h).1 refl
 
 told : {A : Type 0} (b : Bool) (x y : A) → cond b (Some x) None ≡ Some y → (b ≡ true) × (x ≡ y)
 told true x y h = (refl, same_Some x y h)
 told false x y h = absurd (none-some y h)
 
-names_is : (need : Need) (several : Bool) (word names : List ℕ) → (is_must need || not several) ≡ true → word_names several word ≡ Some names → (are_names need several names ≡ true) × (word ≡ names)
+names_is : (need : Need) (several : Bool) (word names : List ℕ) → (is_must need || not several) ≡ true → word_names need several word ≡ Some names → (are_names need several names ≡ true) × (word ≡ names)
 names_is need several word names m h =
-    let t = told (list_all is_name word && are_so_many several (length word)) word names h in
-    (and_from _ _ m (subst (λ (w : List ℕ). (list_all is_name w && are_so_many several (length w)) ≡ true) t.1 t.0), t.1)
+    let t = told (list_all is_name word && are_so_many need several (length word)) word names h in
+    (and_from _ _ m (subst (λ (w : List ℕ). (list_all is_name w && are_so_many need several (length w)) ≡ true) t.1 t.0), t.1)
 
-piece_again_line : (s : DraftValue) (need : Need) (several mirrored : Bool) (names : List ℕ) (cs : List Coordinates) → is_line (piece need several mirrored names cs) ≡ true → not (some_repeated s.pieces names) ≡ true → piece_line s need several mirrored (names ∷ map cell_word cs) ≡ Ok (with_pieces s need mirrored names (kept_shape cs))
+piece_again_line : (s : DraftValue) (need : Need) (several mirrored : Bool) (names : List ℕ) (cs : List Coordinates) → is_line (piece need several mirrored names cs) ≡ true → not (some_repeated (taken_in s) names) ≡ true → piece_line s need several mirrored (names ∷ map cell_word cs) ≡ Ok (with_line s need mirrored names (kept_shape cs))
 piece_again_line s need several mirrored names cs is fit =
     let p = and_parts (are_names need several names) (are_in_grid cs && (are_apart cs && nat_le (length cs) most_piece_cells)) is in
     let q = and_parts (are_in_grid cs) (are_apart cs && nat_le (length cs) most_piece_cells) p.1 in
     let r = and_parts (are_apart cs) (nat_le (length cs) most_piece_cells) q.1 in
     let u = and_parts (nat_lt 0 (length cs)) (list_all is_in_grid cs) q.0 in
     piece_read s need several mirrored (names ∷ map cell_word cs) names (map cell_word cs) names (kept_shape cs) refl (some_words cs (ltb-true 0 (length cs) u.0))
-    (names_found s.pieces several names names (sym (names_again need several names p.0)) (not-true _ fit)) (shape_again cs u.1 r.0 (leb-true (length cs) most_piece_cells r.1))
+    (names_found (taken_in s) need several names names (sym (names_again need several names p.0)) (not-true _ fit)) (shape_again cs u.1 r.0 (leb-true (length cs) most_piece_cells r.1))
 
 box_again_line : (s : DraftValue) (a b c : ℕ) → is_line (box a b c) ≡ true → is_fit s (box a b c) ≡ true → box_line s (decimal a ∷ decimal b ∷ decimal c ∷ []) ≡ Ok (with_box s a b c)
 unfolding box_line
@@ -141,16 +142,16 @@ pub record IsTakenLine (s : DraftValue) (words : List (List ℕ)) (t : DraftValu
   pub fits : is_fit s line ≡ true
   pub more : t ≡ plus s line
 
-fresh_is : (pieces : List (ℕ × List Coordinates)) (found : Option (List ℕ)) (names : List ℕ) → are_fresh pieces found ≡ Ok names → (found ≡ Some names) × (some_repeated pieces names ≡ false)
-fresh_is pieces None names h = absurd (no_fault BadLine names h)
-fresh_is pieces (Some ns) names h =
-    let p = unrefused (some_repeated pieces ns) RepeatedPiece (Ok ns) names h in
+fresh_is : (taken : ℕ → Bool) (found : Option (List ℕ)) (names : List ℕ) → are_fresh taken found ≡ Ok names → (found ≡ Some names) × (some_repeated taken names ≡ false)
+fresh_is taken None names h = absurd (no_fault BadLine names h)
+fresh_is taken (Some ns) names h =
+    let p = unrefused (some_repeated taken ns) RepeatedPiece (Ok ns) names h in
     let e = ok_is ns names p.1 in
-    (ap (λ m. Some m) e, subst (λ m. some_repeated pieces m ≡ false) e p.0)
+    (ap (λ m. Some m) e, subst (λ m. some_repeated taken m ≡ false) e p.0)
 
-name_parts : (pieces : List (ℕ × List Coordinates)) (several : Bool) (word names : List ℕ) → new_names pieces several word ≡ Ok names → (word_names several word ≡ Some names) × (some_repeated pieces names ≡ false)
+name_parts : (taken : ℕ → Bool) (need : Need) (several : Bool) (word names : List ℕ) → new_names taken need several word ≡ Ok names → (word_names need several word ≡ Some names) × (some_repeated taken names ≡ false)
 unfolding new_names
-name_parts pieces several word names h = fresh_is pieces (word_names several word) names h
+name_parts taken need several word names h = fresh_is taken (word_names need several word) names h
 
 shape_parts : (words : List (List ℕ)) (shape : List Coordinates) → shape_of words ≡ Ok shape → (cs : List Coordinates) × (each add_piece_cell [] words ≡ Ok cs) × (kept_shape cs ≡ shape)
 unfolding shape_of
@@ -159,13 +160,13 @@ shape_parts words shape h =
     (b.0, b.1, ok_is (kept_shape b.0) shape b.2)
 
 piece_parts : (s : DraftValue) (need : Need) (several mirrored : Bool) (word : List ℕ) (words : List (List ℕ)) (t : DraftValue) → piece_line s need several mirrored (word ∷ words) ≡ Ok t →
-    (is_empty words ≡ false) × ((names : List ℕ) × (new_names s.pieces several word ≡ Ok names) × ((shape : List Coordinates) × (shape_of words ≡ Ok shape) × (with_pieces s need mirrored names shape ≡ t)))
+    (is_empty words ≡ false) × ((names : List ℕ) × (new_names (taken_in s) need several word ≡ Ok names) × ((shape : List Coordinates) × (shape_of words ≡ Ok shape) × (with_line s need mirrored names shape ≡ t)))
 unfolding piece_line
 piece_parts s need several mirrored word words t h =
-    let u = unrefused (is_empty words) BadLine (new_names s.pieces several word >>= λ names. shape_of words >>= λ shape. Ok (with_pieces s need mirrored names shape)) t h in
-    let b = bind_ok (new_names s.pieces several word) (λ names. shape_of words >>= λ shape. Ok (with_pieces s need mirrored names shape)) t u.1 in
-    let d = bind_ok (shape_of words) (λ shape. Ok (with_pieces s need mirrored b.0 shape)) t b.2 in
-    (u.0, (b.0, b.1, (d.0, d.1, ok_is (with_pieces s need mirrored b.0 d.0) t d.2)))
+    let u = unrefused (is_empty words) BadLine (new_names (taken_in s) need several word >>= λ names. shape_of words >>= λ shape. Ok (with_line s need mirrored names shape)) t h in
+    let b = bind_ok (new_names (taken_in s) need several word) (λ names. shape_of words >>= λ shape. Ok (with_line s need mirrored names shape)) t u.1 in
+    let d = bind_ok (shape_of words) (λ shape. Ok (with_line s need mirrored b.0 shape)) t b.2 in
+    (u.0, (b.0, b.1, (d.0, d.1, ok_is (with_line s need mirrored b.0 d.0) t d.2)))
 
 no_piece : (s : DraftValue) (need : Need) (several mirrored : Bool) (t : DraftValue) → piece_line s need several mirrored [] ≡ Ok t → ⊥
 unfolding piece_line
@@ -175,7 +176,7 @@ piece_taken : (s : DraftValue) (need : Need) (several mirrored : Bool) (words : 
 piece_taken s need several mirrored [] t u h = absurd (no_piece s need several mirrored t h)
 piece_taken s need several mirrored (word ∷ words) t u h =
     let p = piece_parts s need several mirrored word words t h in
-    let n = name_parts s.pieces several word p.1.0 p.1.1 in
+    let n = name_parts (taken_in s) need several word p.1.0 p.1.1 in
     let w = names_is need several word p.1.0 u n.0 in
     let k = shape_parts words p.1.2.0 p.1.2.1 in
     let m = piece_cells_are [] words k.0 refl (omega arith) k.1 in
@@ -186,7 +187,7 @@ piece_taken s need several mirrored (word ∷ words) t u h =
       words_are = ap (λ ws. need_words need (mirror_words mirrored (piece_word several ∷ ws))) (words_same w.1 m.words_are);
       good = and_from _ _ w.0 (and_from _ _ (and_from _ _ (some_cells m.cs some) m.in_grid) (and_from _ _ (subst (λ cs. are_apart cs ≡ true) all m.apart) (le-leb (length m.cs) most_piece_cells (subst (λ cs. length cs ≤ most_piece_cells) all m.few))));
       fits = not_from_false _ n.1;
-      more = sym p.1.2.2 ∙ ap (with_pieces s need mirrored p.1.0) (sym k.2 ∙ ap kept_shape all);
+      more = sym p.1.2.2 ∙ ap (with_line s need mirrored p.1.0) (sym k.2 ∙ ap kept_shape all);
     }
 
 three_is : (words : List (List ℕ)) (a b c : List ℕ) → three_words words ≡ Some (a, b, c) → words ≡ a ∷ b ∷ c ∷ []

@@ -19,6 +19,7 @@ use Rattle.poly_cells.proofs.CellTestLemmas.{all_in_grid_from}
 use Rattle.poly_texts.specs.Limits.{most_piece_cells, most_size}
 use Rattle.poly_texts.specs.Cells.{without, row, layer, box_cells}
 use Rattle.poly_texts.specs.Puzzle.{IsPiece, ArePieces}
+use Rattle.poly_texts.specs.Needs.{pieces_named}
 use Rattle.poly_texts.specs.Reading.{kept_shape, named_shapes}
 use Rattle.poly_texts.specs.Grammar.{Line, piece, box, cells, are_in_grid, are_apart, are_names, is_side, is_line, piece_of, named_by}
 use Rattle.poly_texts.proofs.StepLemmas.{some_in_order}
@@ -98,9 +99,9 @@ pieces_are (piece need several mirrored names cs ∷ ls) h =
     let b = and_parts (are_names need several names) (are_in_grid cs && (are_apart cs && nat_le (length cs) most_piece_cells)) a.0 in
     let c = and_parts (are_in_grid cs) (are_apart cs && nat_le (length cs) most_piece_cells) b.1 in
     let d = and_parts (are_apart cs) (nat_le (length cs) most_piece_cells) c.1 in
-    λ p i. elim (in_append_cases p (named_shapes names (kept_shape cs)) (flat_map piece_of ls) i) [
+    λ p i. elim (in_append_cases p (named_shapes (pieces_named need names) (kept_shape cs)) (flat_map piece_of ls) i) [
       | inl l ↦
-          let n = in_from_map (λ k. (k, kept_shape cs)) p names l in
+          let n = in_from_map (λ k. (k, kept_shape cs)) p (pieces_named need names) l in
           subst (λ (q : ℕ × List Coordinates). IsPiece q.1) (sym n.2) (piece_is cs c.0 d.1)
       | inr r ↦ pieces_are ls a.1 p r
     ]

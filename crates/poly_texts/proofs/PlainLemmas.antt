@@ -1,13 +1,14 @@
 -- A text of the lines that there were before is read as the puzzle that it was.
 use Rattle.std.proofs.Common.{◌≡◌, ◌≤◌, ℕ, suc, List, [], ◌∷◌, ◌++◌, map, filter, flat_map, length, Bool, true, false, cond, ◌&&◌, refl, sym, ap, ap₂, subst, ◌∙◌, append-nil}
 use Rattle.std.specs.List.{list_all}
+use Rattle.std.proofs.lemmas.List.{map-append}
 use Rattle.poly_cells.specs.Coordinates.{Coordinates}
 use Rattle.poly_texts.specs.declared.need.Need.TheVariants as needs
 use Rattle.poly_texts.specs.Limits.{most_region_cells}
 use Rattle.poly_texts.specs.Cells.{with_cells, ordered_without}
 use Rattle.poly_texts.specs.Words.{is_name}
 use Rattle.poly_texts.specs.Puzzle.{PuzzleValue, names_of, are_new, needs_nothing}
-use Rattle.poly_texts.specs.Grammar.{Line, piece, box, cells, cut, line_words, is_line, piece_of, maybe_name_of, any_name_of, mirrored_by, equal_by, is_box, named_by, maybe_by, cut_by, AreLines, puzzle_by}
+use Rattle.poly_texts.specs.Grammar.{Line, piece, box, cells, cut, line_words, is_line, piece_of, maybe_name_of, any_name_of, mirrored_by, equal_by, symbols_by, taken_by, is_box, named_by, maybe_by, cut_by, AreLines, puzzle_by}
 use Rattle.poly_texts.specs.Plain.{PlainLine, plain_piece, plain_box, plain_cells, plain_cut, plain_words, is_plain_line, plain_piece_of, plain_maybe_name, is_plain_box, plain_named, plain_maybe, plain_cut_cells, ArePlainLines, plain_puzzle_by, PlainTextsStay}
 use Rattle.poly_texts.proofs.TextLemmas.{text_again}
 
@@ -113,6 +114,22 @@ equal_none (plain_box a b c) = refl
 equal_none (plain_cells optional cs) = refl
 equal_none (plain_cut cs) = refl
 
+symbols_none : (l : PlainLine) → symbols_by (as_line l) ≡ []
+unfolding as_line
+symbols_none (plain_piece true name cs) = refl
+symbols_none (plain_piece false name cs) = refl
+symbols_none (plain_box a b c) = refl
+symbols_none (plain_cells optional cs) = refl
+symbols_none (plain_cut cs) = refl
+
+taken_same : (l : PlainLine) → taken_by (as_line l) ≡ names_of (plain_piece_of l)
+unfolding as_line
+taken_same (plain_piece true name cs) = refl
+taken_same (plain_piece false name cs) = refl
+taken_same (plain_box a b c) = refl
+taken_same (plain_cells optional cs) = refl
+taken_same (plain_cut cs) = refl
+
 -- ---- all lines
 
 as_lines : List PlainLine → List Line
@@ -127,6 +144,14 @@ flat_none : {X : Type 0} (f : Line → List X) → ((l : PlainLine) → f (as_li
 unfolding as_lines
 flat_none f h [] = refl
 flat_none {X} f h (l ∷ ls) = ap₂ (λ (xs ys : List X). xs ++ ys) (h l) (flat_none f h ls)
+
+all_taken : (ls : List PlainLine) → flat_map taken_by (as_lines ls) ≡ names_of (flat_map plain_piece_of ls)
+all_taken ls = flat_same taken_by (λ l. names_of (plain_piece_of l)) taken_same ls ∙ flat_names ls
+  where
+    flat_names : (ks : List PlainLine) → flat_map (λ l. names_of (plain_piece_of l)) ks ≡ names_of (flat_map plain_piece_of ks)
+    flat_names [] = refl
+    flat_names (k ∷ ks) =
+        ap (λ (ns : List ℕ). names_of (plain_piece_of k) ++ ns) (flat_names ks) ∙ sym (map-append (λ (p : ℕ × List Coordinates). p.0) (plain_piece_of k) (flat_map plain_piece_of ks))
 
 all_words : (ls : List PlainLine) → map line_words (as_lines ls) ≡ map plain_words ls
 unfolding as_lines
@@ -160,12 +185,13 @@ puzzle_same ls =
     let any = flat_none any_name_of any_none ls in
     let mirrored = flat_none mirrored_by mirrored_none ls in
     let equal = flat_none equal_by equal_none ls in
-    λ i. record { pieces = pieces i; maybe_pieces = names i; region = region i; maybe_cells = empty i; any_pieces = any i; mirrored = mirrored i; equal = equal i }
+    let symbols = flat_none symbols_by symbols_none ls in
+    λ i. record { pieces = pieces i; maybe_pieces = names i; region = region i; maybe_cells = empty i; any_pieces = any i; mirrored = mirrored i; equal = equal i; symbols = symbols i }
 
 lines_same : (ls : List PlainLine) → ArePlainLines ls → AreLines (as_lines ls)
 lines_same ls h = record {
   good = all_good ls ∙ h.good;
-  new = ap (λ (ps : List (ℕ × List Coordinates)). are_new (names_of ps)) (flat_same piece_of plain_piece_of piece_same ls) ∙ h.new;
+  new = ap are_new (all_taken ls) ∙ h.new;
   one_box = subst (λ (n : ℕ). n ≤ 1) (sym (boxes ls)) h.one_box;
   few = subst (λ (vs : List Coordinates). length (with_cells [] vs) ≤ most_region_cells) (sym (flat_same named_by plain_named named_same ls)) h.few;
 }

@@ -10,7 +10,7 @@ use Rattle.text_lines.specs.Lines.{is_empty}
 use Rattle.poly_cells.specs.Coordinates.{Coordinates}
 use Rattle.poly_texts.specs.Words.{word_names}
 use Rattle.poly_texts.specs.declared.need.Need.{Need}
-use Rattle.poly_texts.specs.Reading.{DraftValue, three_words, has_piece, named_shapes, some_repeated, new_names, shape_of, with_pieces, piece_line}
+use Rattle.poly_texts.specs.Reading.{DraftValue, three_words, has_piece, named_shapes, some_repeated, taken_in, new_names, shape_of, with_line, piece_line}
 
 -- *words*
 
@@ -47,13 +47,13 @@ entered (p ∷ ps) name shape h = by_test (name == p.0) h (entered ps name shape
     by_test true h later = absurd (cc)
     by_test false h later = ap (λ qs. p ∷ qs) (later h)
 
-module _ (pieces : List (ℕ × List Coordinates)) (several : Bool) (word names : List ℕ) (named : Some names ≡ word_names several word) where
-  pub names_found : some_repeated pieces names ≡ false → new_names pieces several word ≡ Ok names
+module _ (taken : ℕ → Bool) (need : Need) (several : Bool) (word names : List ℕ) (named : Some names ≡ word_names need several word) where
+  pub names_found : some_repeated taken names ≡ false → new_names taken need several word ≡ Ok names
   unfolding new_names
   names_found h = rw (← named, h) refl
 
 -- a `piece` line whose words gave these
-pub piece_read : (s : DraftValue) (need : Need) (several mirrored : Bool) (all : List (List ℕ)) (word : List ℕ) (words : List (List ℕ)) (names : List ℕ) (shape : List Coordinates) → all ≡ word ∷ words → is_empty words ≡ false → new_names s.pieces several word ≡ Ok names → shape_of words ≡ Ok shape → piece_line s need several mirrored all ≡ Ok (with_pieces s need mirrored names shape)
+pub piece_read : (s : DraftValue) (need : Need) (several mirrored : Bool) (all : List (List ℕ)) (word : List ℕ) (words : List (List ℕ)) (names : List ℕ) (shape : List Coordinates) → all ≡ word ∷ words → is_empty words ≡ false → new_names (taken_in s) need several word ≡ Ok names → shape_of words ≡ Ok shape → piece_line s need several mirrored all ≡ Ok (with_line s need mirrored names shape)
 unfolding piece_line
 piece_read s need several mirrored all word words names shape e some a b = rw (e, some, a, b) refl
 
@@ -63,21 +63,21 @@ module _ (pieces : List (ℕ × List Coordinates)) (names : List ℕ) (k n : ℕ
   parted : drop k names ≡ n ∷ drop (k + 1) names
   parted = drop_more names k n within ∙ ap (λ m. m ∷ drop (k + 1) names) (sym is)
 
-  whole_is : some_repeated pieces (drop k names) ≡ (has_piece pieces n || (has_name (drop (k + 1) names) n || some_repeated pieces (drop (k + 1) names)))
-  whole_is = ap (some_repeated pieces) parted
+  whole_is : some_repeated (has_piece pieces) (drop k names) ≡ (has_piece pieces n || (has_name (drop (k + 1) names) n || some_repeated (has_piece pieces) (drop (k + 1) names)))
+  whole_is = ap (some_repeated (has_piece pieces)) parted
 
   -- what is not repeated is not repeated later either, also with this one there
-  pub fresh_later : (shape : List Coordinates) → some_repeated pieces (drop k names) ≡ false → some_repeated (pieces ++ (n, shape) ∷ []) (drop (k + 1) names) ≡ false
+  pub fresh_later : (shape : List Coordinates) → some_repeated (has_piece pieces) (drop k names) ≡ false → some_repeated (has_piece (pieces ++ (n, shape) ∷ [])) (drop (k + 1) names) ≡ false
   fresh_later shape h =
-      let p = or_parts (has_piece pieces n) (has_name (drop (k + 1) names) n || some_repeated pieces (drop (k + 1) names)) (sym whole_is ∙ h) in
-      let q = or_parts (has_name (drop (k + 1) names) n) (some_repeated pieces (drop (k + 1) names)) p.1 in
+      let p = or_parts (has_piece pieces n) (has_name (drop (k + 1) names) n || some_repeated (has_piece pieces) (drop (k + 1) names)) (sym whole_is ∙ h) in
+      let q = or_parts (has_name (drop (k + 1) names) n) (some_repeated (has_piece pieces) (drop (k + 1) names)) p.1 in
       more_fresh pieces n shape (drop (k + 1) names) q.0 q.1
     where
-      more_fresh : (pieces : List (ℕ × List Coordinates)) (n : ℕ) (shape : List Coordinates) (ns : List ℕ) → has_name ns n ≡ false → some_repeated pieces ns ≡ false → some_repeated (pieces ++ (n, shape) ∷ []) ns ≡ false
+      more_fresh : (pieces : List (ℕ × List Coordinates)) (n : ℕ) (shape : List Coordinates) (ns : List ℕ) → has_name ns n ≡ false → some_repeated (has_piece pieces) ns ≡ false → some_repeated (has_piece (pieces ++ (n, shape) ∷ [])) ns ≡ false
       more_fresh pieces n shape [] a b = refl
       more_fresh pieces n shape (m ∷ ms) a b =
-          let p = or_parts (has_piece pieces m) (has_name ms m || some_repeated pieces ms) b in
-          let q = or_parts (has_name ms m) (some_repeated pieces ms) p.1 in
+          let p = or_parts (has_piece pieces m) (has_name ms m || some_repeated (has_piece pieces) ms) b in
+          let q = or_parts (has_name ms m) (some_repeated (has_piece pieces) ms) p.1 in
           let r = or_parts (m == n) (has_name ms n) a in
           or_from _ _ (list_any-append (λ e. m == e.0) pieces ((n, shape) ∷ []) ∙ or_from _ _ p.0 (or_from _ _ r.0 refl)) (or_from _ _ q.0 (more_fresh pieces n shape ms r.1 q.1))
 

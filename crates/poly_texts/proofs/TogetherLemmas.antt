@@ -1,20 +1,17 @@
 -- Lines that are taken one after the other are lines that go together, and the other way round.
-use Rattle.std.proofs.Common.{◌||◌, inl, inr, eq-eqb, eqb-true, ◌≡◌, ◌≤◌, ℕ, ◌+◌, ◌==◌, List, [], ◌∷◌, ◌++◌, filter, flat_map, length, Bool, true, false, cond, not, ◌&&◌, nat_le, refl, sym, ap, ◌∙◌, subst, arith, append_assoc, append-nil, length-append, le_refl, le_trans, le-leb, leb-true}
+use Rattle.std.proofs.Common.{◌||◌, ◌≡◌, ◌≤◌, ℕ, ◌+◌, List, [], ◌∷◌, ◌++◌, filter, flat_map, length, Bool, true, false, cond, not, ◌&&◌, nat_le, refl, sym, ap, ◌∙◌, subst, arith, append_assoc, append-nil, length-append, le_refl, le_trans, le-leb, leb-true}
 use Rattle.std.specs.List.{list_all}
-use Rattle.std.proofs.lemmas.Bool.{and_parts, and_from, or_parts, or_from, or_left, not-true, not_from_false, ne_eqb, both_ways, false_from_ne_true}
-use Rattle.poly_cells.specs.Sets.{IsIn}
-use Rattle.poly_cells.proofs.MemberLemmas.{some_passes, passes_some}
-use Rattle.std.proofs.lemmas.List.{map-append}
-use Rattle.std.proofs.lemmas.List.Folds.{list_any-append}
-use Rattle.std.specs.Cmp.{nat_eq_equiv}
+use Rattle.std.proofs.lemmas.Bool.{and_parts, and_from, not-true, not_from_false}
+use Rattle.std.proofs.Math.Bool.{or-false}
 use Rattle.poly_cells.specs.Coordinates.{Coordinates}
 use Rattle.poly_cells.specs.CellTests.{has_cell}
 use Rattle.poly_texts.specs.Limits.{most_region_cells}
 use Rattle.poly_texts.specs.Cells.{with_cell, with_cells}
-use Rattle.poly_texts.specs.Puzzle.{names_of, has_name, are_new}
-use Rattle.poly_texts.specs.Reading.{DraftValue, nothing, has_piece, some_repeated, named_shapes, kept_shape}
-use Rattle.poly_texts.specs.Grammar.{Line, piece, box, cells, cut, is_line, piece_of, maybe_name_of, any_name_of, mirrored_by, equal_by, is_box, named_by, maybe_by, cut_by, AreLines}
+use Rattle.poly_texts.specs.Puzzle.{has_name}
+use Rattle.poly_texts.specs.Reading.{DraftValue, nothing, taken_in, some_repeated, kept_shape}
+use Rattle.poly_texts.specs.Grammar.{Line, piece, box, cells, cut, is_line, piece_of, maybe_name_of, any_name_of, mirrored_by, equal_by, symbols_by, taken_by, is_box, named_by, maybe_by, cut_by, AreLines}
 use Rattle.poly_texts.proofs.CellLemmas.{with_cells-append, with_none}
+use Rattle.poly_texts.proofs.FreshLemmas.{fresh_new, fresh_from, fresh_joined, fresh_parted, taken_more}
 use Rattle.poly_texts.proofs.LineLemmas.{plus, is_small, is_fit}
 
 -- each line fits after the ones before it
@@ -48,6 +45,15 @@ plus_mirrored s other = sym (append-nil s.mirrored)
 plus_equal : (s : DraftValue) (l : Line) → (plus s l).equal ≡ s.equal ++ equal_by l
 plus_equal s (piece need several mirrored names cs) = refl
 plus_equal s other = sym (append-nil s.equal)
+
+plus_symbols : (s : DraftValue) (l : Line) → (plus s l).symbols ≡ s.symbols ++ symbols_by l
+plus_symbols s (piece need several mirrored names cs) = refl
+plus_symbols s other = sym (append-nil s.symbols)
+
+-- a symbol is taken then where it was before, or where the line takes it
+plus_taken : (s : DraftValue) (l : Line) (n : ℕ) → taken_in (plus s l) n ≡ (taken_in s n || has_name (taken_by l) n)
+plus_taken s (piece need several mirrored names cs) n = taken_more s need mirrored names (kept_shape cs) n
+plus_taken s other n = sym (or-false (taken_in s n))
 
 plus_named : (s : DraftValue) (l : Line) → (plus s l).named ≡ with_cells s.named (named_by l)
 plus_named s (box a b c) = refl
@@ -90,6 +96,10 @@ pub all_equal : (s : DraftValue) (ls : List Line) → (plus_all s ls).equal ≡ 
 all_equal s [] = sym (append-nil s.equal)
 all_equal s (l ∷ ls) = all_equal (plus s l) ls ∙ ap (λ gs. gs ++ flat_map equal_by ls) (plus_equal s l) ∙ append_assoc s.equal (equal_by l) (flat_map equal_by ls)
 
+pub all_symbols : (s : DraftValue) (ls : List Line) → (plus_all s ls).symbols ≡ s.symbols ++ flat_map symbols_by ls
+all_symbols s [] = sym (append-nil s.symbols)
+all_symbols s (l ∷ ls) = all_symbols (plus s l) ls ∙ ap (λ gs. gs ++ flat_map symbols_by ls) (plus_symbols s l) ∙ append_assoc s.symbols (symbols_by l) (flat_map symbols_by ls)
+
 pub all_named : (s : DraftValue) (ls : List Line) → (plus_all s ls).named ≡ with_cells s.named (flat_map named_by ls)
 all_named s [] = sym (with_none s.named)
 all_named s (l ∷ ls) = all_named (plus s l) ls ∙ more_named s l (flat_map named_by ls)
@@ -116,62 +126,6 @@ unfolding with_cells
 grows s [] = le_refl (length s)
 grows s (c ∷ cs) = le_trans (one_grows s c) (grows (with_cell s c) cs)
 
--- *names*
-
-named_in : (pieces : List (ℕ × List Coordinates)) (n : ℕ) → has_piece pieces n ≡ has_name (names_of pieces) n
-named_in [] n = refl
-named_in (p ∷ ps) n = rw (nat_eq_equiv.symm n p.0, named_in ps n) refl
-
--- names that are new together are so apart, and have none in common
-pub new_apart : (ns ms : List ℕ) → are_new (ns ++ ms) ≡ true → (are_new ms ≡ true) × ((n : ℕ) → IsIn n ns → has_name ms n ≡ false)
-new_apart [] ms h = (h, λ n i. absurd i)
-new_apart (m ∷ ns) ms h =
-    let p = and_parts (not (has_name (ns ++ ms) m)) (are_new (ns ++ ms)) h in
-    let q = or_parts (has_name ns m) (has_name ms m) (sym (list_any-append (λ k. k == m) ns ms) ∙ not-true _ p.0) in
-    let rest = new_apart ns ms p.1 in
-    (rest.0, λ n i. elim i [ inl e ↦ ap (has_name ms) e ∙ q.1 | inr r ↦ rest.1 n r ])
-
-pub new_first : (ns ms : List ℕ) → are_new (ns ++ ms) ≡ true → are_new ns ≡ true
-new_first [] ms h = refl
-new_first (m ∷ ns) ms h =
-    let p = and_parts (not (has_name (ns ++ ms) m)) (are_new (ns ++ ms)) h in
-    let q = or_parts (has_name ns m) (has_name ms m) (sym (list_any-append (λ k. k == m) ns ms) ∙ not-true _ p.0) in
-    and_from _ _ (not_from_false _ q.0) (new_first ns ms p.1)
-
-pub new_joined : (ns ms : List ℕ) → are_new ns ≡ true → are_new ms ≡ true → ((n : ℕ) → IsIn n ns → has_name ms n ≡ false) → are_new (ns ++ ms) ≡ true
-new_joined [] ms a b h = b
-new_joined (m ∷ ns) ms a b h =
-    let p = and_parts (not (has_name ns m)) (are_new ns) a in
-    and_from _ _ (not_from_false _ (list_any-append (λ k. k == m) ns ms ∙ or_from _ _ (not-true _ p.0) (h m (inl refl)))) (new_joined ns ms p.1 b (λ n i. h n (inr i)))
-
--- names that aren't repeated are new, and none of them is that of a piece
-fresh_new : (pieces : List (ℕ × List Coordinates)) (names : List ℕ) → some_repeated pieces names ≡ false → are_new names ≡ true
-fresh_new pieces [] h = refl
-fresh_new pieces (n ∷ ns) h =
-    let p = or_parts (has_piece pieces n) (has_name ns n || some_repeated pieces ns) h in
-    let q = or_parts (has_name ns n) (some_repeated pieces ns) p.1 in
-    and_from _ _ (not_from_false _ q.0) (fresh_new pieces ns q.1)
-
-fresh_apart : (pieces : List (ℕ × List Coordinates)) (names : List ℕ) → some_repeated pieces names ≡ false → (n : ℕ) → IsIn n (names_of pieces) → has_name names n ≡ false
-fresh_apart pieces [] h n i = refl
-fresh_apart pieces (m ∷ ms) h n i =
-    let p = or_parts (has_piece pieces m) (has_name ms m || some_repeated pieces ms) h in
-    let q = or_parts (has_name ms m) (some_repeated pieces ms) p.1 in
-    or_from _ _ (ne_eqb m n (λ e. both_ways (has_piece pieces m) p.0 (named_in pieces m ∙ passes_some (λ k. k == m) n (names_of pieces) i (eq-eqb n m (sym e))))) (fresh_apart pieces ms q.1 n i)
-
-fresh_from : (pieces : List (ℕ × List Coordinates)) (names : List ℕ) → are_new names ≡ true → ((n : ℕ) → IsIn n (names_of pieces) → has_name names n ≡ false) → some_repeated pieces names ≡ false
-fresh_from pieces [] a h = refl
-fresh_from pieces (m ∷ ms) a h =
-    let p = and_parts (not (has_name ms m)) (are_new ms) a in
-    let alone : has_piece pieces m ≡ false = named_in pieces m ∙ false_from_ne_true _ (λ t.
-    let n = some_passes (λ k. k == m) (names_of pieces) t in
-    both_ways (has_name (m ∷ ms) n.0) (h n.0 n.1) (or_left (m == n.0) (has_name ms n.0) (eq-eqb m n.0 (sym (eqb-true n.0 m n.2))))) in
-    or_from _ _ alone (or_from _ _ (not-true _ p.0) (fresh_from pieces ms p.1 (λ n i. (or_parts (m == n) (has_name ms n) (h n i)).1)))
-
-pub shapes_named : (names : List ℕ) (shape : List Coordinates) → names_of (named_shapes names shape) ≡ names
-shapes_named [] shape = refl
-shapes_named (n ∷ ns) shape = ap (λ ms. n ∷ ms) (shapes_named ns shape)
-
 -- *lines together*
 
 abbrev pub bit : Bool → ℕ
@@ -180,7 +134,7 @@ bit b = cond b 1 0
 -- the lines go together, after what is said
 pub record GoTogether (s : DraftValue) (ls : List Line) : Type 0 where
   pub good : list_all is_line ls ≡ true
-  pub new : are_new (names_of (s.pieces ++ flat_map piece_of ls)) ≡ true
+  pub new : some_repeated (taken_in s) (flat_map taken_by ls) ≡ false
   pub one_box : bit s.boxed + length (filter is_box ls) ≤ 1
   pub few : length (with_cells s.named (flat_map named_by ls)) ≤ most_region_cells
 
@@ -195,31 +149,29 @@ boxes_more s (box a b c) ls fit =
     rw first (omega arith)
 boxes_more s other ls fit = refl
 
-plus_new : (s : DraftValue) (l : Line) → are_new (names_of s.pieces) ≡ true → is_fit s l ≡ true → are_new (names_of (plus s l).pieces) ≡ true
-plus_new s (piece need several mirrored names cs) new fit =
-    let fresh = not-true _ fit in
-    rw (map-append, shapes_named names (kept_shape cs)) (new_joined (names_of s.pieces) names new (fresh_new s.pieces names fresh) (fresh_apart s.pieces names fresh))
-plus_new s other new fit = new
+fit_new : (s : DraftValue) (l : Line) → is_fit s l ≡ true → some_repeated (taken_in s) (taken_by l) ≡ false
+fit_new s (piece need several mirrored names cs) fit = not-true _ fit
+fit_new s other fit = refl
 
 plus_few : (s : DraftValue) (l : Line) → length s.named ≤ most_region_cells → is_fit s l ≡ true → length (plus s l).named ≤ most_region_cells
 plus_few s (box a b c) few fit = leb-true _ most_region_cells (and_parts (not s.boxed) (is_small (plus s (box a b c))) fit).1
 plus_few s (cells optional cs) few fit = leb-true _ most_region_cells fit
 plus_few s other few fit = few
 
-pub together : (s : DraftValue) (ls : List Line) → are_new (names_of s.pieces) ≡ true → length s.named ≤ most_region_cells → all_fit s ls ≡ true → GoTogether s ls
-together s [] new few fit = record {
+pub together : (s : DraftValue) (ls : List Line) → length s.named ≤ most_region_cells → all_fit s ls ≡ true → GoTogether s ls
+together s [] few fit = record {
   good = refl;
-  new = rw append-nil new;
+  new = refl;
   one_box = at_most_one s.boxed;
   few = rw with_none few;
 }
-together s (l ∷ ls) new few fit =
+together s (l ∷ ls) few fit =
     let p = and_parts (is_line l) (is_fit s l && all_fit (plus s l) ls) fit in
     let q = and_parts (is_fit s l) (all_fit (plus s l) ls) p.1 in
-    let t = together (plus s l) ls (plus_new s l new q.0) (plus_few s l few q.0) q.1 in
+    let t = together (plus s l) ls (plus_few s l few q.0) q.1 in
     record {
       good = and_from _ _ p.0 t.good;
-      new = subst (λ ps. are_new (names_of ps) ≡ true) (more_pieces s l (flat_map piece_of ls)) t.new;
+      new = fresh_joined (taken_in s) (taken_in (plus s l)) (taken_by l) (flat_map taken_by ls) (plus_taken s l) (fit_new s l q.0) t.new;
       one_box = subst (λ n. n ≤ 1) (boxes_more s l ls q.0) t.one_box;
       few = subst (λ cs. length cs ≤ most_region_cells) (more_named s l (flat_map named_by ls)) t.few;
     }
@@ -235,13 +187,8 @@ unboxed false n h = refl
 
 fits_first : (s : DraftValue) (l : Line) (ls : List Line) → GoTogether s (l ∷ ls) → is_fit s l ≡ true
 fits_first s (piece need several mirrored names cs) ls t =
-    let rest = names_of (flat_map piece_of ls) in
-    let e : names_of (s.pieces ++ (named_shapes names (kept_shape cs) ++ flat_map piece_of ls)) ≡ names_of s.pieces ++ (names ++ rest) =
-    map-append (λ p. p.0) s.pieces (named_shapes names (kept_shape cs) ++ flat_map piece_of ls)
-    ∙ ap (λ ns. names_of s.pieces ++ ns) (map-append (λ p. p.0) (named_shapes names (kept_shape cs)) (flat_map piece_of ls) ∙ ap (λ ns. ns ++ rest) (shapes_named names (kept_shape cs))) in
-    let all = new_apart (names_of s.pieces) (names ++ rest) (subst (λ ns. are_new ns ≡ true) e t.new) in
-    not_from_false _ (fresh_from s.pieces names (new_first names rest all.0)
-    (λ n i. (or_parts (has_name names n) (has_name rest n) (sym (list_any-append (λ k. k == n) names rest) ∙ all.1 n i)).0))
+    let l = piece need several mirrored names cs in
+    not_from_false _ (fresh_parted (taken_in s) (taken_in (plus s l)) names (flat_map taken_by ls) (plus_taken s l) t.new).0
 fits_first s (box a b c) ls t = and_from _ _ (unboxed s.boxed (length (filter is_box ls)) (omega (arith, t.one_box))) (small_before s (box a b c) (flat_map named_by ls) t.few)
 fits_first s (cells optional cs) ls t = small_before s (cells optional cs) (flat_map named_by ls) t.few
 fits_first s (cut cs) ls t = refl
@@ -253,15 +200,15 @@ fit_together s (l ∷ ls) t =
     let fit = fits_first s l ls t in
     and_from _ _ p.0 (and_from _ _ fit (fit_together (plus s l) ls (record {
       good = p.1;
-      new = subst (λ ps. are_new (names_of ps) ≡ true) (sym (more_pieces s l (flat_map piece_of ls))) t.new;
+      new = (fresh_parted (taken_in s) (taken_in (plus s l)) (taken_by l) (flat_map taken_by ls) (plus_taken s l) t.new).1;
       one_box = subst (λ n. n ≤ 1) (sym (boxes_more s l ls fit)) t.one_box;
       few = subst (λ cs. length cs ≤ most_region_cells) (sym (more_named s l (flat_map named_by ls))) t.few;
     })))
 
 pub lines_together : (ls : List Line) → all_fit nothing ls ≡ true → AreLines ls
 lines_together ls fit =
-    let t = together nothing ls refl (omega arith) fit in
-    record { good = t.good; new = t.new; one_box = let h : 0 + length (filter is_box ls) ≤ 1 = t.one_box in omega arith; few = t.few }
+    let t = together nothing ls (omega arith) fit in
+    record { good = t.good; new = fresh_new (taken_in nothing) (flat_map taken_by ls) t.new; one_box = let h : 0 + length (filter is_box ls) ≤ 1 = t.one_box in omega arith; few = t.few }
 
 pub together_lines : (ls : List Line) → AreLines ls → all_fit nothing ls ≡ true
-together_lines ls t = fit_together nothing ls (record { good = t.good; new = t.new; one_box = let h : length (filter is_box ls) ≤ 1 = t.one_box in let e : 0 + length (filter is_box ls) ≤ 1 = omega arith in e; few = t.few })
+together_lines ls t = fit_together nothing ls (record { good = t.good; new = fresh_from (taken_in nothing) (flat_map taken_by ls) t.new (λ n i. refl); one_box = let h : length (filter is_box ls) ≤ 1 = t.one_box in let e : 0 + length (filter is_box ls) ≤ 1 = omega arith in e; few = t.few })

@@ -15,11 +15,12 @@ use Rattle.poly_cells.specs.CellTests.{has_cell, is_in_grid}
 use Rattle.poly_cells.specs.CellWords.{cell_word}
 use Rattle.poly_texts.specs.Limits.{most_size, most_region_cells, most_piece_cells}
 use Rattle.poly_texts.specs.Cells.{with_cells, ordered_without, box_cells}
+use Rattle.poly_texts.specs.Needs.{is_must, is_maybe, is_repeatable, pieces_named}
 use Rattle.poly_texts.specs.Words.{is_name, are_so_many}
-use Rattle.poly_texts.specs.Puzzle.{PuzzleValue, names_of, are_new, needs_nothing}
+use Rattle.poly_texts.specs.Puzzle.{PuzzleValue, are_new, needs_nothing}
 use Rattle.poly_texts.specs.declared.need.Need.{Need}
 use Rattle.poly_texts.specs.declared.need.Need.TheVariants as needs
-use Rattle.poly_texts.specs.Reading.{kept_shape, is_must, is_maybe, is_repeatable, names_if, group_of, named_shapes}
+use Rattle.poly_texts.specs.Reading.{kept_shape, names_if, group_of, symbols_of, named_shapes}
 
 -- what a line says: a piece or several equal ones, whether they have to be used and whether they may be reflected, with their names and
 -- cells; a box of these sizes; cells, and whether they may stay empty; or cells to be cut
@@ -71,9 +72,11 @@ are_apart (c ∷ cs) = not (has_cell cs c) && are_apart cs
 abbrev pub is_side : ℕ → Bool
 is_side n = nat_lt 0 n && nat_le n most_size
 
--- the names of a line: two or more of pieces that have to be used, or else one alone
+-- the symbols of a line: two or more of pieces that have to be used, one or more of a piece that may be used any number of times, or else
+-- one alone
 abbrev pub are_names : Need → Bool → List ℕ → Bool
-are_names need several names = (is_must need || not several) && (list_all is_name names && are_so_many several (length names))
+are_names need several names =
+    (is_must need || not several) && (list_all is_name names && are_so_many need several (length names))
 
 -- a line within the limits
 abbrev pub is_line : Line → Bool
@@ -86,38 +89,52 @@ is_line (cut cs) = are_in_grid cs
 
 -- the piece of a `piece` line, as it is kept
 abbrev pub piece_of : Line → List (ℕ × List Coordinates)
-piece_of (piece need several mirrored names cs) = named_shapes names (kept_shape cs)
+piece_of (piece need several mirrored names cs) = named_shapes (pieces_named need names) (kept_shape cs)
 piece_of (box a b c) = []
 piece_of (cells optional cs) = []
 piece_of (cut cs) = []
 
 -- the name of a piece that may be left out
 abbrev pub maybe_name_of : Line → List ℕ
-maybe_name_of (piece need several mirrored names cs) = names_if (is_maybe need) names
+maybe_name_of (piece need several mirrored names cs) = names_if (is_maybe need) (pieces_named need names)
 maybe_name_of (box a b c) = []
 maybe_name_of (cells optional cs) = []
 maybe_name_of (cut cs) = []
 
 -- the name of a piece that may be used any number of times
 abbrev pub any_name_of : Line → List ℕ
-any_name_of (piece need several mirrored names cs) = names_if (is_repeatable need) names
+any_name_of (piece need several mirrored names cs) = names_if (is_repeatable need) (pieces_named need names)
 any_name_of (box a b c) = []
 any_name_of (cells optional cs) = []
 any_name_of (cut cs) = []
 
 -- the names of pieces that may be reflected
 abbrev pub mirrored_by : Line → List ℕ
-mirrored_by (piece need several mirrored names cs) = names_if mirrored names
+mirrored_by (piece need several mirrored names cs) = names_if mirrored (pieces_named need names)
 mirrored_by (box a b c) = []
 mirrored_by (cells optional cs) = []
 mirrored_by (cut cs) = []
 
 -- the group of equal pieces, if there are two at least
 abbrev pub equal_by : Line → List (List ℕ)
-equal_by (piece need several mirrored names cs) = group_of names
+equal_by (piece need several mirrored names cs) = group_of (pieces_named need names)
 equal_by (box a b c) = []
 equal_by (cells optional cs) = []
 equal_by (cut cs) = []
+
+-- the symbols by which copies are shown in turn, if there are two at least
+abbrev pub symbols_by : Line → List (List ℕ)
+symbols_by (piece need several mirrored names cs) = symbols_of need names
+symbols_by (box a b c) = []
+symbols_by (cells optional cs) = []
+symbols_by (cut cs) = []
+
+-- the symbols that a line takes
+abbrev pub taken_by : Line → List ℕ
+taken_by (piece need several mirrored names cs) = names
+taken_by (box a b c) = []
+taken_by (cells optional cs) = []
+taken_by (cut cs) = []
 
 -- whether it is a `box` line
 abbrev pub is_box : Line → Bool
@@ -150,7 +167,7 @@ cut_by (cut cs) = cs
 -- what lines say that are within the limits, alone and together
 pub record AreLines (lines : List Line) : Type 0 where
   pub good : list_all is_line lines ≡ true
-  pub new : are_new (names_of (flat_map piece_of lines)) ≡ true
+  pub new : are_new (flat_map taken_by lines) ≡ true
   pub one_box : length (filter is_box lines) ≤ 1
   pub few : length (with_cells [] (flat_map named_by lines)) ≤ most_region_cells
 
@@ -168,6 +185,7 @@ puzzle_by lines = record {
   any_pieces = flat_map any_name_of lines;
   mirrored = flat_map mirrored_by lines;
   equal = flat_map equal_by lines;
+  symbols = flat_map symbols_by lines;
 }
 
 -- comments, blanks, empty lines and line ends aside, the text is lines that say the puzzle: with a cell, with a piece, and

@@ -1,6 +1,7 @@
 pub mod Faults
 pub mod Limits
 pub mod Cells
+pub mod Needs
 pub mod Words
 pub mod Puzzle
 pub mod Reading

@@ -2,6 +2,7 @@
 --
 --     piece N c ..         a piece named N with these cells; after `maybe` one that may be left out, after `any` one that may be used
 --                          any number of times; after `mirror` (and these) one that may be reflected
+--     any piece W c ..     a piece named by the first symbol of W, whose copies are shown by the symbols of W in turn
 --     copies W c ..        equal pieces with these cells, one for each symbol of W; after `mirror` such that may be reflected
 --     box a b c            all cells with x below a, y below b and z below c: at most one such line
 --     cells c ..           these cells; cells that may stay empty, after `maybe`
@@ -32,6 +33,7 @@ use Rattle.poly_texts.specs.declared.need.Need.TheVariants as needs
 use Rattle.poly_cells.specs.CellTests.{has_cell}
 use Rattle.poly_cells.specs.CellWords.{cell_of}
 use Rattle.poly_texts.specs.Cells.{with_cell, with_cells, ordered_without, box_cells}
+use Rattle.poly_texts.specs.Needs.{is_must, is_maybe, is_repeatable, pieces_named}
 use Rattle.poly_texts.specs.Words.{word_names, are_sizes, are_small, size_from}
 use Rattle.poly_texts.specs.Puzzle.{PuzzleValue, puzzle_from, needs_nothing, has_name}
 
@@ -47,10 +49,13 @@ pub record DraftValue : Type 0 where
   pub any_pieces : List ℕ
   pub mirrored : List ℕ
   pub equal : List (List ℕ)
+  pub symbols : List (List ℕ)
 
 -- these parts together
-abbrev pub draft_from : List (ℕ × List Coordinates) → List ℕ → Bool → List Coordinates → List Coordinates → List Coordinates → List ℕ → List ℕ → List (List ℕ) → DraftValue
-draft_from pieces maybe_pieces boxed named maybe_cells cut any_pieces mirrored equal = record {
+abbrev pub draft_from
+    : List (ℕ × List Coordinates) → List ℕ → Bool → List Coordinates → List Coordinates → List Coordinates → List ℕ → List ℕ
+    → List (List ℕ) → List (List ℕ) → DraftValue
+draft_from pieces maybe_pieces boxed named maybe_cells cut any_pieces mirrored equal symbols = record {
   pieces = pieces;
   maybe_pieces = maybe_pieces;
   boxed = boxed;
@@ -60,11 +65,12 @@ draft_from pieces maybe_pieces boxed named maybe_cells cut any_pieces mirrored e
   any_pieces = any_pieces;
   mirrored = mirrored;
   equal = equal;
+  symbols = symbols;
 }
 
 -- no lines say this
 abbrev pub nothing : DraftValue
-nothing = draft_from [] [] false [] [] [] [] [] []
+nothing = draft_from [] [] false [] [] [] [] [] [] []
 
 -- *the words of a line*
 
@@ -107,24 +113,6 @@ within s = if nat_le (length s.named) most_region_cells then Ok s else Err TooLa
 abbrev pub has_piece : List (ℕ × List Coordinates) → ℕ → Bool
 has_piece pieces name = list_any (λ p. name == p.0) pieces
 
--- the piece has to be used
-abbrev pub is_must : Need → Bool
-is_must needs.Must = true
-is_must needs.Maybe = false
-is_must needs.Any = false
-
--- it may be left out
-abbrev pub is_maybe : Need → Bool
-is_maybe needs.Must = false
-is_maybe needs.Maybe = true
-is_maybe needs.Any = false
-
--- it may be used any number of times
-abbrev pub is_repeatable : Need → Bool
-is_repeatable needs.Must = false
-is_repeatable needs.Maybe = false
-is_repeatable needs.Any = true
-
 -- these names, if it is so
 abbrev pub names_if : Bool → List ℕ → List ℕ
 names_if there names = if there then names else []
@@ -147,28 +135,45 @@ with_pieces s need mirrored names shape = record s {
   equal = s.equal ++ group_of names;
 }
 
--- one of the names is that of a piece, or comes twice
-abbrev pub some_repeated : List (ℕ × List Coordinates) → List ℕ → Bool
-some_repeated pieces [] = false
-some_repeated pieces (n ∷ ns) = has_piece pieces n || (has_name ns n || some_repeated pieces ns)
+-- the symbols by which the copies of a piece that may be used any number of times are shown in turn, if there are two at least
+abbrev pub symbols_of : Need → List ℕ → List (List ℕ)
+symbols_of need names = group_of (names_if (is_repeatable need) names)
 
--- the names of new pieces
-abbrev pub are_fresh : List (ℕ × List Coordinates) → Option (List ℕ) → Result (List ℕ) Fault
-are_fresh pieces None = Err BadLine
-are_fresh pieces (Some names) = if some_repeated pieces names then Err RepeatedPiece else Ok names
+-- what a line of pieces says: those that it names, and the symbols by which copies are shown
+abbrev pub with_line : DraftValue → Need → Bool → List ℕ → List Coordinates → DraftValue
+with_line s need mirrored names shape =
+    record (with_pieces s need mirrored (pieces_named need names) shape) { symbols = s.symbols ++ symbols_of need names }
 
--- the same, where the names are given by a word
-unfoldable pub new_names : List (ℕ × List Coordinates) → Bool → List ℕ → Result (List ℕ) Fault
-new_names pieces several word = are_fresh pieces (word_names several word)
+-- the symbol names a piece, or is one of those by which copies are shown
+abbrev pub is_taken : List (ℕ × List Coordinates) → List (List ℕ) → ℕ → Bool
+is_taken pieces symbols name = has_piece pieces name || list_any (λ word. has_name word name) symbols
+
+-- so it is in what the lines so far say
+abbrev pub taken_in : DraftValue → ℕ → Bool
+taken_in s = is_taken s.pieces s.symbols
+
+-- one of the names is taken, or comes twice
+abbrev pub some_repeated : (ℕ → Bool) → List ℕ → Bool
+some_repeated taken [] = false
+some_repeated taken (n ∷ ns) = taken n || (has_name ns n || some_repeated taken ns)
+
+-- new names
+abbrev pub are_fresh : (ℕ → Bool) → Option (List ℕ) → Result (List ℕ) Fault
+are_fresh taken None = Err BadLine
+are_fresh taken (Some names) = if some_repeated taken names then Err RepeatedPiece else Ok names
+
+-- the same, where they are given by a word
+unfoldable pub new_names : (ℕ → Bool) → Need → Bool → List ℕ → Result (List ℕ) Fault
+new_names taken need several word = are_fresh taken (word_names need several word)
 
 -- a `piece` or a `copies` line: one name or several, and a cell
 unfoldable pub piece_line : DraftValue → Need → Bool → Bool → List (List ℕ) → Result DraftValue Fault
 piece_line s need several mirrored [] = Err BadLine
 piece_line s need several mirrored (word ∷ words) =
     if is_empty words then Err BadLine else (do
-      names ← new_names s.pieces several word
+      names ← new_names (taken_in s) need several word
       shape ← shape_of words
-      Ok (with_pieces s need mirrored names shape))
+      Ok (with_line s need mirrored names shape))
 
 -- three words, and no others
 abbrev pub three_words : List (List ℕ) → Option (List ℕ × List ℕ × List ℕ)
@@ -316,7 +321,7 @@ whole_fault pieces maybe_pieces region maybe_cells =
 
 -- the pieces that are said, with this region and these cells of it that may stay empty
 abbrev pub with_region : DraftValue → List Coordinates → List Coordinates → PuzzleValue
-with_region s region maybe = puzzle_from s.pieces s.maybe_pieces region maybe s.any_pieces s.mirrored s.equal
+with_region s region maybe = puzzle_from s.pieces s.maybe_pieces region maybe s.any_pieces s.mirrored s.equal s.symbols
 
 -- the puzzle that is said
 abbrev pub puzzle_said : DraftValue → PuzzleValue

@@ -1,14 +1,12 @@
 //! What has been read of a puzzle text.
-ghost use Rattle.std.specs.Prelude.{◌≡◌, ◌++◌, ◌∷◌, [], false, Ok, ◌<◌, length, IfOk, OnOk, IfNone};
-ghost use Rattle.std.specs.List.{list_all};
+ghost use Rattle.std.specs.Prelude.{◌≡◌, false, Ok, ◌<◌, length, IfOk, OnOk, IfNone};
 ghost use Rattle.std.specs.List.Sorted.{IsStrictlySortedBy};
 ghost use Rattle.text_lines.specs.Lines.{words_of};
 ghost use Rattle.poly_cells.specs.Coordinates.{coordinates_cmp};
 ghost use Rattle.text_lines.specs.Answers.{Gives};
-ghost use Rattle.poly_texts.specs.Puzzle.{PuzzleValue, IsPuzzle, has_name, names_of};
+ghost use Rattle.poly_texts.specs.Puzzle.{PuzzleValue, IsPuzzle};
 ghost use Rattle.poly_texts.specs.Reading as reading;
-ghost use Rattle.poly_texts.specs.Reading.{has_piece, group_of, named_shapes, names_if, nothing, some_repeated, with_pieces, with_region};
-ghost use Rattle.poly_texts.specs.Lists.{lists_of};
+ghost use Rattle.poly_texts.specs.Reading.{has_piece, nothing, some_repeated, taken_in, with_line, with_pieces, with_region};
 
 use crate::cells::{add_box, add_cells, are_all_in, uncut};
 use crate::fault::{Fault, LineFault};
@@ -17,11 +15,14 @@ use crate::limits::MOST_REGION_CELLS;
 use crate::name::PieceName;
 use crate::need::Need;
 use crate::piece::shape_of;
+use crate::pieces::{
+    add_group, add_names, add_pieces, add_symbols, are_all_named, new_names, pieces_named,
+};
 use crate::puzzle::Puzzle;
 use crate::word::{are_sizes, sizes_of, three_words};
 use indexmap::{IndexMap, IndexSet};
 use poly_cells::{Cell, Shape};
-use std::alloc::{AllocError, AllocFailed, Global};
+use std::alloc::{AllocError, Global};
 use std::marker::Model;
 use text_lines::{ByLine, has_words, is_all_plain, outside_comment, split_word};
 
@@ -38,6 +39,7 @@ pub struct Draft {
     any_pieces: Vec<PieceName>,
     mirrored: Vec<PieceName>,
     equal: Vec<Vec<PieceName>>,
+    symbols: Vec<Vec<PieceName>>,
 }
 
 impl Model for Draft {
@@ -46,109 +48,7 @@ impl Model for Draft {
 
     ghost Value = { DraftValue };
 
-    ghost view = { λ a. draft_from a.pieces.entries a.maybe_pieces.items a.is_boxed a.named.keys a.maybe_cells.keys a.cut.keys a.any_pieces.items a.mirrored.items (lists_of a.equal.items) };
-}
-
-/// Whether a piece has this name.
-fn is_known(pieces: &IndexMap<PieceName, Shape>, name: PieceName) -> bool
-    ensures { result ≡ has_piece pieces.now.entries name }
-{
-    pieces.contains_key(&name)
-}
-
-/// Whether the name is one of these.
-fn is_among(names: &[PieceName], name: PieceName) -> bool
-    ensures { result ≡ has_name names.now name }
-{
-    names.contains(&name)
-}
-
-/// Whether one of these names is that of a piece, or comes twice.
-fn is_repeated(pieces: &IndexMap<PieceName, Shape>, names: &[PieceName]) -> bool
-    ensures { result ≡ some_repeated pieces.now.entries names.now }
-{
-    for k in 0..names.len() {
-        let name = names[k];
-        if is_known(pieces, name) {
-            return true;
-        }
-        if is_among(&names[k + 1..], name) {
-            return true;
-        }
-    }
-    false
-}
-
-/// The names of new pieces.
-#[tactic(auto, unfolding(crate::specs::Reading::new_names))]
-fn new_names(
-    alloc: Global,
-    pieces: &IndexMap<PieceName, Shape>,
-    are_several: bool,
-    word: &[u8],
-) -> Result<Vec<PieceName>, LineFault>
-    ensures name { Gives (λ names. names.items) result (reading.new_names pieces.now.entries are_several word.now) }
-    ensures new { IfOk result (λ names. some_repeated pieces.now.entries names.items ≡ false) }
-{
-    let Some(names) = PieceName::all_of(alloc, are_several, word)? else {
-        return Err(LineFault::Fault(Fault::BadLine));
-    };
-    if is_repeated(pieces, names.as_slice()) {
-        return Err(LineFault::Fault(Fault::RepeatedPiece));
-    }
-    Ok(names)
-}
-
-/// Adds a new piece.
-fn add_piece(
-    pieces: &mut IndexMap<PieceName, Shape>,
-    name: PieceName,
-    shape: Shape,
-) -> Result<(), AllocFailed<(PieceName, Shape)>>
-    requires { has_piece pieces.old.entries name ≡ false }
-    ensures { OnOk result (pieces.new.entries ≡ pieces.old.entries ++ (name, shape) ∷ []) }
-{
-    pieces.insert(name, shape)?;
-    Ok(())
-}
-
-/// Adds new pieces of one shape.
-fn add_pieces(
-    pieces: &mut IndexMap<PieceName, Shape>,
-    names: &[PieceName],
-    shape: &Shape,
-) -> Result<(), AllocError>
-    requires { some_repeated pieces.old.entries names.now ≡ false }
-    ensures { OnOk result (pieces.new.entries ≡ pieces.old.entries ++ named_shapes names.now shape.now) }
-{
-    for name in names {
-        add_piece(pieces, *name, shape.copy()?)?;
-    }
-    Ok(())
-}
-
-/// Adds names, if it is so.
-fn add_names(names: &mut Vec<PieceName>, there: bool, more: &[PieceName]) -> Result<(), AllocError>
-    ensures { OnOk result (names.new.items ≡ names.old.items ++ names_if there more.now) }
-{
-    if there {
-        names.extend_from_slice(more)?;
-    }
-    Ok(())
-}
-
-/// Adds the group of these names, if there are two at least.
-fn add_group(
-    alloc: Global,
-    groups: &mut Vec<Vec<PieceName>>,
-    names: &[PieceName],
-) -> Result<(), AllocError>
-    ensures { OnOk result (lists_of groups.new.items ≡ lists_of groups.old.items ++ group_of names.now) }
-{
-    if names.len() > 1 {
-        groups.push(Vec::from_slice(alloc, names)?)?;
-    }
-    Ok(())
+    ghost view = { λ a. draft_from a.pieces.entries a.maybe_pieces.items a.is_boxed a.named.keys a.maybe_cells.keys a.cut.keys a.any_pieces.items a.mirrored.items (lists_of a.equal.items) (lists_of a.symbols.items) };
 }
 
 impl Draft {
@@ -166,6 +66,7 @@ impl Draft {
             any_pieces: Vec::new(alloc),
             mirrored: Vec::new(alloc),
             equal: Vec::new(alloc),
+            symbols: Vec::new(alloc),
         }
     }
 
@@ -197,10 +98,33 @@ impl Draft {
         if !has_words(cells) {
             return Err(LineFault::Fault(Fault::BadLine));
         }
-        let names = new_names(alloc, &self.pieces, are_several, word)?;
+        let names = new_names(
+            alloc,
+            &self.pieces,
+            self.symbols.as_slice(),
+            need,
+            are_several,
+            word,
+        )?;
         let shape = shape_of(alloc, cells)?;
-        self.add_equal(alloc, need, is_mirrored, names.as_slice(), &shape)?;
+        self.add_line(alloc, need, is_mirrored, names.as_slice(), &shape)?;
         Ok(())
+    }
+
+    /// Adds what a line of these symbols says.
+    fn add_line(
+        &mut self,
+        alloc: Global,
+        need: Need,
+        is_mirrored: bool,
+        names: &[PieceName],
+        shape: &Shape,
+    ) -> Result<(), AllocError>
+        requires { some_repeated (taken_in self.old) names.now ≡ false }
+        ensures { OnOk result (self.new ≡ with_line self.old need is_mirrored names.now shape.now) }
+    {
+        self.add_equal(alloc, need, is_mirrored, pieces_named(need, names), shape)?;
+        add_symbols(alloc, &mut self.symbols, need, names)
     }
 
     /// Adds equal pieces.
@@ -212,7 +136,7 @@ impl Draft {
         names: &[PieceName],
         shape: &Shape,
     ) -> Result<(), AllocError>
-        requires { some_repeated self.old.pieces names.now ≡ false }
+        requires { some_repeated (has_piece self.old.pieces) names.now ≡ false }
         ensures { OnOk result (self.new ≡ with_pieces self.old need is_mirrored names.now shape.now) }
     {
         add_pieces(&mut self.pieces, names, shape)?;
@@ -435,15 +359,16 @@ impl Draft {
         requires { IsPuzzle (with_region self region maybe_cells.items) }
         ensures { result ≡ with_region self region maybe_cells.items }
     {
-        Puzzle::from_parts(
-            self.pieces,
-            self.maybe_pieces,
+        Puzzle {
+            pieces: self.pieces,
+            maybe_pieces: self.maybe_pieces,
             region,
             maybe_cells,
-            self.any_pieces,
-            self.mirrored,
-            self.equal,
-        )
+            any_pieces: self.any_pieces,
+            mirrored: self.mirrored,
+            equal: self.equal,
+            symbols: self.symbols,
+        }
     }
 
     /// The puzzle of a whole text.
@@ -469,22 +394,4 @@ impl ByLine for Draft {
         }
         self.take_words(alloc, said)
     }
-}
-
-/// Whether each piece has one of these names or of those.
-fn are_all_named(
-    pieces: &IndexMap<PieceName, Shape>,
-    names: &[PieceName],
-    others: &[PieceName],
-) -> bool
-    ensures { result ≡ list_all (has_name (names.now ++ others.now)) (names_of pieces.now.entries) }
-{
-    pieces.keys().all(|name| is_either(names, others, *name))
-}
-
-/// Whether the name is one of these or of those.
-fn is_either(names: &[PieceName], others: &[PieceName], name: PieceName) -> bool
-    ensures { result ≡ has_name (names.now ++ others.now) name }
-{
-    is_among(names, name) || is_among(others, name)
 }

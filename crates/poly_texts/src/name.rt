@@ -2,6 +2,7 @@
 ghost use Rattle.std.specs.Prelude.{◌≡◌, true, IfOk, option_map};
 ghost use Rattle.poly_texts.specs.Words as words;
 
+use crate::need::Need;
 use std::alloc::{AllocError, Global};
 use std::marker::Model;
 
@@ -32,15 +33,16 @@ fn is_name(symbol: u8) -> bool
 }
 
 impl PieceName {
-    /// The names that a word is: two or more of them, or else one alone.
+    /// The symbols that a word is, as many as the line may have.
     pub(crate) fn all_of(
         alloc: Global,
+        need: Need,
         are_several: bool,
         word: &[u8],
     ) -> Result<Option<Vec<PieceName>>, AllocError>
-        ensures { IfOk result (λ found. option_map (λ names. names.items) found ≡ words.word_names are_several word.now) }
+        ensures { IfOk result (λ found. option_map (λ names. names.items) found ≡ words.word_names need are_several word.now) }
     {
-        if !are_so_many(are_several, word.len()) {
+        if !are_so_many(need, are_several, word.len()) {
             return Ok(None);
         }
         let mut names = Vec::with_capacity(alloc, word.len())?;
@@ -62,9 +64,12 @@ impl PieceName {
     }
 }
 
-/// Whether that many are two or more, or else one alone.
-fn are_so_many(are_several: bool, count: usize) -> bool
-    ensures { result ≡ words.are_so_many are_several count }
+/// Whether a line may have that many symbols.
+fn are_so_many(need: Need, are_several: bool, count: usize) -> bool
+    ensures { result ≡ words.are_so_many need are_several count }
 {
+    if need.is_any() {
+        return count > 0;
+    }
     if are_several { count > 1 } else { count == 1 }
 }

@@ -3,7 +3,7 @@ use Rattle.poly_place.specs.Packings.{nodes, pairs, thing_name}
 use Rattle.std.proofs.Common.{flat_map, ℕ, List, [], ◌∷◌, ◌++◌, map, ap, ap₂, ◌∙◌}
 use Rattle.std.specs.String.{string_bytes}
 use Rattle.poly_cells.specs.CellWords.{cell_word}
-use Rattle.poly_place.proofs.CompiledLemmas.{names_are}
+use Rattle.poly_place.proofs.MadeLemmas.{names_are}
 use Rattle.poly_place.proofs.compiled.item_names.Goals as goal
 
 pub returns : goal.returns

@@ -4,7 +4,7 @@ use Rattle.poly_texts.specs.Puzzle.{PuzzleValue, IsPuzzle}
 use Rattle.poly_place.specs.Packings.{choices, option_of, needed_things}
 use Rattle.poly_place.specs.Compiled.{needed_names}
 use Rattle.poly_place.proofs.CountLemmas.{are_few, needed_count}
-use Rattle.poly_place.proofs.CompiledLemmas.{AreParts, parts_make, not_faulty}
+use Rattle.poly_place.proofs.MadeLemmas.{AreParts, parts_make, not_faulty}
 use Rattle.poly_place.proofs.compiled.problem_of.Goals as goal
 use Rattle.poly_place.proofs.compiled.problem_of.Goals.{After-new}
 

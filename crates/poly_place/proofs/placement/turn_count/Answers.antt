@@ -1,5 +1,5 @@
-use Rattle.poly_place.proofs.WalkLemmas.{turns_count}
+use Rattle.poly_place.proofs.WalkLemmas.{rotation_count}
 use Rattle.poly_place.proofs.placement.turn_count.Goals as goal
 
-pub returns-else-is_mirrored : goal.returns-else-is_mirrored
-returns-else-is_mirrored c = turns_count c.args.is_mirrored c.if-is_mirrored.false
+pub returns-in-Rotations : goal.returns-in-Rotations
+returns-in-Rotations c = rotation_count c.args.group c.in-Rotations.is

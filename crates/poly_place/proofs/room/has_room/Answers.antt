@@ -7,7 +7,7 @@ use Rattle.poly_texts.specs.Puzzle.{PuzzleValue, IsPuzzle}
 use Rattle.cover_problem.specs.declared.limits.TheConstants.{MOST_ITEMS, MOST_ENTRIES}
 use Rattle.poly_cells.proofs.MemberLemmas.{in_flat_map}
 use Rattle.poly_place.specs.Compiled.{entries_of}
-use Rattle.poly_place.proofs.CompiledLemmas.{large_is}
+use Rattle.poly_place.proofs.MadeLemmas.{large_is}
 use Rattle.poly_place.proofs.CountLemmas.{IsEntry, entry_is}
 use Rattle.poly_place.proofs.OptionLemmas.{choices_all}
 use Rattle.poly_place.proofs.RoomLemmas.{counted_next, counted_past, counted_all}

@@ -1,2 +1,4 @@
 mod DoneLemmas
 mod PoolExamples
+mod WorkerExamples
+mod WorkerLemmas

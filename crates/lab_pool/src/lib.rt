@@ -6,6 +6,7 @@ mod gate;
 mod judging;
 mod pool;
 mod search;
+mod station;
 mod worker;
 
 pub use fault::PoolFault;

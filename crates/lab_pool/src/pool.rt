@@ -1,5 +1,6 @@
 //! Workers over a desk.
-ghost use Rattle.std.specs.Prelude.{◌≡◌, ◌<◌, ◌≤◌, ◌↔◌, [], None, IfOk, IfErr, OnOk, IfSome};
+ghost use Rattle.std.specs.Prelude.{◌≡◌, ◌<◌, ◌≤◌, ◌↔◌, ◌+◌, [], None, IfOk, IfErr, OnOk, IfSome, IsTrue};
+ghost use Rattle.std.specs.Prelude.{length, vec_len, vec_capacity};
 ghost use Rattle.x_steps.specs.Answers.{IfRefused};
 ghost use Rattle.x_steps.specs.StateValue.{start};
 ghost use Rattle.x_branches.specs.Branch.{whole_run};
@@ -12,6 +13,7 @@ ghost use Rattle.lab_pool.specs.Pool.{GoesOn, GivenBack, OnlyHeld, IfFault, Faul
 use crate::fault::PoolFault;
 use crate::gate::Gate;
 use crate::judging::{answer, mismatch, refuse, settle};
+use crate::station::Crew;
 use crate::worker::work;
 use cover_problem::{Problem, Table};
 use lab_book::Book;
@@ -23,20 +25,17 @@ use std::sync::Wait;
 use std::sync::atomic::{AtomicBool, Ordering};
 use std::sync::ledger::{Blank, Ledger};
 use std::thread;
-use std::thread::{Scope, Threads};
+use std::thread::{JoinHandle, Scope, Threads};
 use x_steps::Refused;
 
-/// Starts a thread for each seat but the first, whose worker runs here. Answers whether a thread
-/// was refused.
+/// Starts a thread for each seat but the first, whose worker runs here. Answers the threads that were started, and whether one was
+/// refused.
 fn start_all<
     's,
     'a: 's,
-    'b: 's,
-    'c: 's,
-    'd: 's,
+    'p: 's,
     'e: 's,
     'f: 's,
-    'p: 's,
     E,
     T: Table + Send + Sync + 's,
     L: Desking + Send + Sync,
@@ -44,46 +43,57 @@ fn start_all<
     G: Gate,
 >(
     scope: &Scope<'s, E>,
-    rt: &'a R,
-    alloc: Global,
-    desk: &'b Desk<'p, L>,
-    gate: &'c G,
-    memory: &'d AtomicBool,
+    crew: &'a Crew<'a, 'p, L, R, G>,
     seats: &'e mut [Seat<L>],
     lanes: &'f mut [TicketSeat],
-) -> bool {
+    threads: Vec<JoinHandle<()>>,
+) -> (Vec<JoinHandle<()>>, bool)
+    requires lanes { length lanes.old ≡ length seats.old }
+    requires none { threads.items ≡ [] }
+    requires room { length seats.old ≤ vec_capacity threads + 1 }
+    ensures { IsTrue result.1 ↔ vec_len result.0 + 1 < length seats.old }
+{
+    let mut threads = threads;
     let Some((first, others)) = seats.split_first_mut() else {
-        return false;
+        return (threads, false);
     };
-    let Some((first_lane, other_lanes)) = lanes.split_first_mut() else {
-        return false;
+    let Some((lane, other_lanes)) = lanes.split_first_mut() else {
+        return (threads, false);
     };
     let mut refused = false;
-    for (seat, lane) in others.iter_mut().zip(other_lanes.iter_mut()) {
-        if scope
-            .spawn(move || work::<T, L, R, G>(rt, alloc, desk, gate, memory, seat, lane))
-            .is_err()
-        {
-            refused = true;
+    'starting: for (seat, lane) in others.iter_mut().zip(other_lanes.iter_mut()) {
+        match scope.spawn(move || work::<T, L, R, G>(crew, seat, lane)) {
+            Ok(thread) => threads.push_reserved(thread),
+            Err(_) => refused = true,
         }
     }
-    work::<T, L, R, G>(rt, alloc, desk, gate, memory, first, first_lane);
-    refused
+    work::<T, L, R, G>(crew, first, lane);
+    (threads, refused)
 }
 
 /// Runs a worker at each seat. Answers whether a thread was refused.
 fn run_seats<T: Table + Send + Sync, L: Desking + Send + Sync, R: Threads + Wait + Sync, G: Gate>(
-    rt: &R,
-    alloc: Global,
-    desk: &Desk<'_, L>,
-    gate: &G,
-    memory: &AtomicBool,
+    crew: &Crew<'_, '_, L, R, G>,
     seats: &mut [Seat<L>],
     lanes: &mut [TicketSeat],
-) -> bool {
-    thread::scope(thread::scope_env(), rt, |scope| {
-        start_all::<_, T, L, R, G>(scope, rt, alloc, desk, gate, memory, seats, lanes)
-    })
+    threads: Vec<JoinHandle<()>>,
+) -> bool
+    requires lanes { length lanes.old ≡ length seats.old }
+    requires none { threads.items ≡ [] }
+    requires room { length seats.old ≤ vec_capacity threads + 1 }
+    ensures { IsTrue result → 1 < length seats.old }
+{
+    let (_, refused) = thread::scope(
+        thread::scope_env(),
+        crew.rt,
+        |scope|
+            requires lanes { length lanes.now ≡ length seats.now }
+            requires none { threads.items ≡ [] }
+            requires room { length seats.now ≤ vec_capacity threads + 1 }
+            ensures { IsTrue result.1 → 1 < length seats.entry.now }
+        { start_all::<_, T, L, R, G>(scope, crew, seats, lanes, threads) },
+    );
+    refused
 }
 
 /// Finishes a book by a desk of this ledger.
@@ -114,9 +124,13 @@ fn run_at<'p, T: Table + Send + Sync, L: Desking + Send + Sync, R: Threads + Wai
     ensures some_held { IfRefused result PoolFault.Held (held_tiles book.entry.tiles ≡ [] → ⊥) }
     ensures memory { IfFault result PoolFault.OutOfMemory (λ b. 0 < waiting_in b.tiles) }
     ensures threads { IfFault result PoolFault.NoThread (λ b. 0 < waiting_in b.tiles) }
+    ensures several { IfRefused result PoolFault.NoThread (1 < workers) }
 {
     let from = book.history().len();
     let Ok(mut lanes) = tickets(alloc, workers) else {
+        return Err(refuse(PoolFault::OutOfMemory, book));
+    };
+    let Ok(threads) = Vec::with_capacity(alloc, workers as usize - 1) else {
         return Err(refuse(PoolFault::OutOfMemory, book));
     };
     let (desk, mut seats) = match Desk::<L>::new(alloc, blank, book, workers) {
@@ -124,14 +138,18 @@ fn run_at<'p, T: Table + Send + Sync, L: Desking + Send + Sync, R: Threads + Wai
         Err((_, book)) => return Err(refuse(PoolFault::OutOfMemory, book)),
     };
     let memory = AtomicBool::new(false);
-    let refused = run_seats::<T, L, R, G>(
+    let crew = Crew {
         rt,
         alloc,
-        &desk,
+        desk: &desk,
         gate,
-        &memory,
+        memory: &memory,
+    };
+    let refused = run_seats::<T, L, R, G>(
+        &crew,
         seats.as_mut_slice(),
         lanes.as_mut_slice(),
+        threads,
     );
     let Ok(book) = desk.finish(seats) else {
         return Err(mismatch());
@@ -163,6 +181,7 @@ pub fn run_pool_on<'p, T: Table + Send + Sync, R: Threads + Wait + Sync, G: Gate
     ensures some_held { IfRefused result PoolFault.Held (held_tiles book.entry.tiles ≡ [] → ⊥) }
     ensures memory { IfFault result PoolFault.OutOfMemory (λ b. 0 < waiting_in b.tiles) }
     ensures threads { IfFault result PoolFault.NoThread (λ b. 0 < waiting_in b.tiles) }
+    ensures several { IfRefused result PoolFault.NoThread (1 < workers) }
 {
     if workers == 0 || workers > 32 {
         return Err(refuse(PoolFault::BadWorkerCount, book));
@@ -200,6 +219,7 @@ pub fn run_pool<'p, T: Table + Send + Sync, R: Threads + Wait + Sync, G: Gate>(
     ensures none_at_mismatch { IfErr result (λ r. r.fault ≡ PoolFault.Mismatch → r.given ≡ None) }
     ensures memory { IfFault result PoolFault.OutOfMemory (λ b. 0 < waiting_in b.tiles) }
     ensures threads { IfFault result PoolFault.NoThread (λ b. 0 < waiting_in b.tiles) }
+    ensures several { IfRefused result PoolFault.NoThread (1 < workers) }
 {
     if workers == 0 || workers > 32 {
         return Err(Refused {

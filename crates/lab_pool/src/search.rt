@@ -4,12 +4,14 @@ ghost use Rattle.x_steps.specs.StateView.{state_value};
 ghost use Rattle.x_steps.specs.StateValue.{start};
 ghost use Rattle.x_branches.specs.Branch.{whole_run};
 ghost use Rattle.x_branches.specs.Runner.{runner_at};
+ghost use Rattle.lab_desk.specs.Seats.{IsDeskBook};
+ghost use Rattle.lab_pool.specs.Worker.{next_after, EndsTile, LacksRoom};
 
-use crate::gate::{Gate, GateCall};
+use crate::gate::Gate;
+use crate::station::Station;
 use cover_problem::{Problem, Table};
 use lab_book::{BookFault, Lease, Leased};
-use lab_desk::{Desk, Desking, Seat};
-use lab_tickets::TicketSeat;
+use lab_desk::Desking;
 use std::alloc::{AllocError, Global};
 use std::sync::Wait;
 use x_branches::{Branch, Cut, Runner, RunnerFault};
@@ -121,7 +123,9 @@ fn cut_twice<'p, T: Table>(runner: &Runner<'p, T>) -> Result<Option<(Cut<'p>, Cu
 }
 
 /// What a refusal of the book means for a worker.
-fn next_of(fault: &BookFault) -> Next {
+fn next_of(fault: &BookFault) -> Next
+    ensures { result ≡ next_after fault.now }
+{
     match fault {
         BookFault::OutOfMemory => Next::OutOfMemory,
         _ => Next::Refused,
@@ -157,30 +161,23 @@ impl<'p, T: Table> Search<'p, T> {
     /// Splits the tile where too few tiles wait, and pushes a ticket for the new one.
     fn split<L: Desking, R: Wait, G: Gate>(
         &mut self,
-        rt: &R,
-        desk: &Desk<'p, L>,
-        gate: &G,
-        seat: &mut Seat<L>,
-        lane: &mut TicketSeat,
+        station: &mut Station<'_, 'p, L, R, G>,
     ) -> Result<(), Next>
-        requires { self.old.lease.worker ≡ seat.old.number }
+        requires { self.old.lease.worker ≡ station.old.seat.now.number }
         ensures lease { self.new.lease ≡ self.old.lease }
-        ensures number { seat.new.number ≡ seat.old.number }
+        ensures room { station.new.seat.now.kept ≡ station.old.seat.now.kept }
+        ensures number { station.new.seat.now.number ≡ station.old.seat.now.number }
     {
         let (cut, copy) = match cut_twice(&self.runner) {
             Ok(Some(cuts)) => cuts,
             Ok(None) => return Ok(()),
             Err(next) => return Err(next),
         };
-        let number = seat.number();
-        gate.before(number, GateCall::Split);
-        let split = desk.split(rt, seat, &self.lease, cut);
-        gate.after(number, GateCall::Split);
-        let id = match split {
+        let id = match station.split(&self.lease, cut) {
             Ok(id) => id,
             Err(refused) => return Err(next_of(&refused.fault)),
         };
-        let _ = lane.push(id);
+        let _ = station.lane.push(id);
         match self.runner.shorten(copy) {
             Ok(()) => Ok(()),
             Err(_) => Err(Next::Refused),
@@ -190,23 +187,17 @@ impl<'p, T: Table> Search<'p, T> {
     /// Posts what was walked. Answers whether the worker is asked to stop.
     fn post<L: Desking, R: Wait, G: Gate>(
         &mut self,
-        rt: &R,
-        desk: &Desk<'p, L>,
-        gate: &G,
-        seat: &mut Seat<L>,
+        station: &mut Station<'_, 'p, L, R, G>,
     ) -> Result<bool, Next>
-        requires { self.old.lease.worker ≡ seat.old.number }
+        requires { self.old.lease.worker ≡ station.old.seat.now.number }
         ensures lease { self.new.lease ≡ self.old.lease }
-        ensures number { seat.new.number ≡ seat.old.number }
+        ensures room { station.new.seat.now.kept ≡ station.old.seat.now.kept }
+        ensures number { station.new.seat.now.number ≡ station.old.seat.now.number }
     {
         let Ok(stretch) = self.runner.take_stretch() else {
             return Err(Next::OutOfMemory);
         };
-        let number = seat.number();
-        gate.before(number, GateCall::Post);
-        let posted = desk.post(rt, seat, &self.lease, stretch);
-        gate.after(number, GateCall::Post);
-        match posted {
+        match station.post(&self.lease, stretch) {
             Ok(posted) => {
                 self.waiting = posted.waiting;
                 Ok(posted.stop)
@@ -216,27 +207,21 @@ impl<'p, T: Table> Search<'p, T> {
     }
 
     /// Walks, splits and posts once.
-    fn go<L: Desking, R: Wait, G: Gate>(
-        &mut self,
-        rt: &R,
-        desk: &Desk<'p, L>,
-        gate: &G,
-        seat: &mut Seat<L>,
-        lane: &mut TicketSeat,
-    ) -> Next
-        requires { self.old.lease.worker ≡ seat.old.number }
+    fn go<L: Desking, R: Wait, G: Gate>(&mut self, station: &mut Station<'_, 'p, L, R, G>) -> Next
+        requires { self.old.lease.worker ≡ station.old.seat.now.number }
         ensures lease { self.new.lease ≡ self.old.lease }
-        ensures number { seat.new.number ≡ seat.old.number }
+        ensures room { station.new.seat.now.kept ≡ station.old.seat.now.kept }
+        ensures number { station.new.seat.now.number ≡ station.old.seat.now.number }
     {
         if walk_on(&mut self.runner).is_err() {
             return Next::OutOfMemory;
         }
-        if self.waiting < desk.seats() as u64 {
-            if let Err(next) = self.split(rt, desk, gate, seat, lane) {
+        if self.waiting < station.crew.desk.seats() as u64 {
+            if let Err(next) = self.split(station) {
                 return next;
             }
         }
-        let stop = match self.post(rt, desk, gate, seat) {
+        let stop = match self.post(station) {
             Ok(stop) => stop,
             Err(next) => return next,
         };
@@ -249,79 +234,65 @@ impl<'p, T: Table> Search<'p, T> {
         Next::On
     }
 
+    /// Walks, splits and posts until the tile is done, or the worker has to end it.
+    fn go_on<L: Desking, R: Wait, G: Gate>(
+        &mut self,
+        station: &mut Station<'_, 'p, L, R, G>,
+    ) -> Next
+        requires { self.old.lease.worker ≡ station.old.seat.now.number }
+        ensures lease { self.new.lease ≡ self.old.lease }
+        ensures room { station.new.seat.now.kept ≡ station.old.seat.now.kept }
+        ensures number { station.new.seat.now.number ≡ station.old.seat.now.number }
+    {
+        let rt = station.crew.rt;
+        'searching: for _ in rt.forever() {
+            let next = self.go(station);
+            match next {
+                Next::On => (),
+                _ => return next,
+            }
+        }
+        Next::On
+    }
+
     /// Ends the lease: closes, parks or abandons the tile. Answers the runner, where it stands, and what the worker does next: where
-    /// that was refused, as for want of memory, it ends too.
+    /// that was refused, as for want of memory, it gives the tile up and ends too.
     fn end<L: Desking, R: Wait, G: Gate>(
         self,
-        rt: &R,
-        desk: &Desk<'p, L>,
-        gate: &G,
-        seat: &mut Seat<L>,
+        station: &mut Station<'_, 'p, L, R, G>,
         next: Next,
     ) -> (Runner<'p, T>, Next)
-        requires { self.lease.worker ≡ seat.old.number }
-        ensures number { seat.new.number ≡ seat.old.number }
+        requires { self.lease.worker ≡ station.old.seat.now.number }
+        ensures ended { EndsTile result.1 station.new.seat.now self.entry.lease
+            (IsDeskBook L.whole L.part L.begin L.opening (LacksRoom station.old.seat.now self.entry.lease)) }
+        ensures number { station.new.seat.now.number ≡ station.old.seat.now.number }
     {
         let Search {
             lease,
             runner,
             waiting: _,
         } = self;
-        let number = seat.number();
-        gate.before(number, GateCall::End);
-        let ended = match next {
-            Next::Done => desk.close(rt, seat, lease),
-            Next::Stop => desk.park(rt, seat, lease),
-            _ => desk.abandon(rt, seat, lease),
+        let Err(refused) = station.end(lease, next) else {
+            return (runner, next);
         };
-        gate.after(number, GateCall::End);
-        match ended {
-            Ok(()) => (runner, next),
-            Err(refused) => {
-                let next = next_of(&refused.fault);
-                give_up(rt, desk, seat, refused.given);
-                (runner, next)
-            }
-        }
+        let after = next_of(&refused.fault);
+        station.give_up(refused.given);
+        (runner, after)
     }
 
     /// Searches the tile until it is done, or the worker has to end. Answers the runner, and why it
     /// ended.
     pub fn run<L: Desking, R: Wait, G: Gate>(
         self,
-        rt: &R,
-        desk: &Desk<'p, L>,
-        gate: &G,
-        seat: &mut Seat<L>,
-        lane: &mut TicketSeat,
+        station: &mut Station<'_, 'p, L, R, G>,
     ) -> (Runner<'p, T>, Next)
-        requires { self.lease.worker ≡ seat.old.number }
-        ensures number { seat.new.number ≡ seat.old.number }
+        requires { self.lease.worker ≡ station.old.seat.now.number }
+        ensures ended { EndsTile result.1 station.new.seat.now self.entry.lease
+            (IsDeskBook L.whole L.part L.begin L.opening (LacksRoom station.old.seat.now self.entry.lease)) }
+        ensures number { station.new.seat.now.number ≡ station.old.seat.now.number }
     {
         let mut search = self;
-        let mut next = Next::On;
-        'searching: for _ in rt.forever() {
-            next = search.go(rt, desk, gate, seat, lane);
-            match next {
-                Next::On => (),
-                _ => break,
-            }
-        }
-        search.end(rt, desk, gate, seat, next)
-    }
-}
-
-/// Gives a tile up; where that is refused, the lease is let go.
-pub(crate) fn give_up<'p, L: Desking, R: Wait>(
-    rt: &R,
-    desk: &Desk<'p, L>,
-    seat: &mut Seat<L>,
-    lease: Lease,
-)
-    requires { lease.worker ≡ seat.old.number }
-    ensures number { seat.new.number ≡ seat.old.number }
-{
-    if let Err(refused) = desk.abandon(rt, seat, lease) {
-        refused.given.discard();
+        let next = search.go_on(station);
+        search.end(station, next)
     }
 }

@@ -190,7 +190,7 @@ fn act<'p, L: Desking, R: Wait>(
 }
 
 /// The two seats of a desk.
-fn two<L: Ledger>(seats: Vec<Seat<L>>) -> Option<(Seat<L>, Seat<L>)> {
+pub fn two<L: Ledger>(seats: Vec<Seat<L>>) -> Option<(Seat<L>, Seat<L>)> {
     let mut seats = seats;
     let second = seats.pop()?;
     let first = seats.pop()?;
@@ -248,7 +248,7 @@ fn refused<'p, L: Desking>(
 }
 
 /// The book of a desk that these seats finish.
-fn finished<'p, L: Desking>(
+pub fn finished<'p, L: Desking>(
     alloc: Global,
     desk: Desk<'p, L>,
     one: Seat<L>,

@@ -6,6 +6,8 @@ mod begun_tests;
 #[cfg(test)]
 mod books;
 #[cfg(test)]
+mod coming_tests;
+#[cfg(test)]
 mod desk_tests;
 #[cfg(test)]
 mod desks;
@@ -19,3 +21,7 @@ mod memory_tests;
 mod pool_tests;
 #[cfg(test)]
 mod searches;
+#[cfg(test)]
+mod waiting;
+#[cfg(test)]
+mod waiting_tests;

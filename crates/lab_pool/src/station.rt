@@ -1,0 +1,206 @@
+//! Where a worker calls: the desk and the gate that all share, and its own seat and deque.
+ghost use Rattle.std.specs.Prelude.{◌≡◌, ◌<◌, ◌+◌, ◌⊎◌, IfOk, IfErr, OnErr, IfSome};
+ghost use Rattle.lab_desk.specs.Record.{NotesDone, AtSomeIndex};
+ghost use Rattle.lab_desk.specs.Seats.{IsDeskBook};
+ghost use Rattle.lab_pool.specs.Worker.{ending_call, Abandons, LacksRoom};
+
+use crate::gate::{Gate, GateCall};
+use crate::search::Next;
+use lab_book::{BookFault, Lease, Leased, Posted};
+use lab_desk::{Desk, Desking, Seat};
+use lab_tickets::TicketSeat;
+use std::alloc::{AllocError, Global};
+use std::sync::Wait;
+use std::sync::atomic::{AtomicBool, Ordering};
+use x_branches::{Cut, Stretch};
+use x_steps::Refused;
+
+/// What the workers of a pool share.
+#[derive(Drop)]
+pub(crate) struct Crew<'a, 'p, L: Desking, R, G> {
+    pub rt: &'a R,
+    pub alloc: Global,
+    pub desk: &'a Desk<'p, L>,
+    pub gate: &'a G,
+    /// Whether a worker ran out of memory.
+    pub memory: &'a AtomicBool,
+}
+
+/// A worker's place in a pool: what all share, its seat at the desk, and its deque of tickets.
+#[derive(Drop)]
+pub(crate) struct Station<'a, 'p, L: Desking, R, G> {
+    pub crew: &'a Crew<'a, 'p, L, R, G>,
+    pub seat: &'a mut Seat<L>,
+    pub lane: &'a mut TicketSeat,
+}
+
+impl<'p, L: Desking, R: Wait, G: Gate> Station<'_, 'p, L, R, G> {
+    /// Notes that memory ran out.
+    pub fn lacks_memory(&mut self)
+        ensures { self.new.seat.now ≡ self.old.seat.now }
+    {
+        self.crew.memory.store(true, Ordering::SeqCst);
+    }
+
+    /// Leases the tile of a ticket; None where it doesn't wait any more.
+    fn lease(&mut self, id: u64) -> Result<Option<Leased<'p>>, AllocError>
+        ensures worker { IfOk result (λ r. IfSome r (λ l. l.lease.worker ≡ self.old.seat.now.number)) }
+        ensures number { self.new.seat.now.number ≡ self.old.seat.now.number }
+    {
+        let number = self.seat.number();
+        self.crew.gate.before(number, GateCall::Lease);
+        let leased = self.crew.desk.lease(self.crew.rt, self.seat, id);
+        self.crew.gate.after(number, GateCall::Lease);
+        match leased {
+            Ok(leased) => Ok(Some(leased)),
+            Err(BookFault::OutOfMemory) => Err(AllocError),
+            Err(_) => Ok(None),
+        }
+    }
+
+    /// Leases by a ticket of its own deque.
+    fn lease_own(&mut self) -> Result<Option<Leased<'p>>, AllocError>
+        ensures worker { IfOk result (λ r. IfSome r (λ l. l.lease.worker ≡ self.old.seat.now.number)) }
+        ensures number { self.new.seat.now.number ≡ self.old.seat.now.number }
+    {
+        let rt = self.crew.rt;
+        'popping: for _ in rt.forever() {
+            let Some(id) = self.lane.pop() else {
+                return Ok(None);
+            };
+            if let Some(leased) = self.lease(id)? {
+                return Ok(Some(leased));
+            }
+        }
+        Ok(None)
+    }
+
+    /// A ticket of the deque of another number, if there is such a seat.
+    fn steal(&mut self, from: u8) -> Option<u64>
+        ensures { self.new.seat.now ≡ self.old.seat.now }
+    {
+        if from == self.lane.number() || from >= self.lane.seats() {
+            return None;
+        }
+        self.lane.steal(from)
+    }
+
+    /// Leases by a ticket of another worker's deque: each is tried once, from the next number round.
+    fn lease_stolen(&mut self) -> Result<Option<Leased<'p>>, AllocError>
+        ensures worker { IfOk result (λ r. IfSome r (λ l. l.lease.worker ≡ self.old.seat.now.number)) }
+        ensures number { self.new.seat.now.number ≡ self.old.seat.now.number }
+    {
+        let number = self.seat.number();
+        let seats = self.crew.desk.seats();
+        'stealing: for from in (number + 1..seats).chain(0..number) {
+            let Some(id) = self.steal(from) else {
+                continue;
+            };
+            self.crew.gate.after(number, GateCall::Steal);
+            if let Some(leased) = self.lease(id)? {
+                return Ok(Some(leased));
+            }
+        }
+        Ok(None)
+    }
+
+    /// Leases the first tile that waits, and waits for one while some is leased.
+    fn lease_waiting(&mut self) -> Result<Option<Leased<'p>>, AllocError>
+        ensures worker { IfOk result (λ r. IfSome r (λ l. l.lease.worker ≡ self.old.seat.now.number)) }
+        ensures number { self.new.seat.now.number ≡ self.old.seat.now.number }
+    {
+        let number = self.seat.number();
+        self.crew.gate.before(number, GateCall::Lease);
+        let leased = self.crew.desk.lease_next(self.crew.rt, self.seat);
+        self.crew.gate.after(number, GateCall::Lease);
+        leased
+    }
+
+    /// Leases a tile: by a ticket of its own, by one that is stolen, or the next that waits; None where
+    /// none waits and none is leased.
+    pub fn next_tile(&mut self) -> Result<Option<Leased<'p>>, AllocError>
+        ensures worker { IfOk result (λ r. IfSome r (λ l. l.lease.worker ≡ self.old.seat.now.number)) }
+        ensures number { self.new.seat.now.number ≡ self.old.seat.now.number }
+    {
+        if let Some(leased) = self.lease_own()? {
+            return Ok(Some(leased));
+        }
+        if let Some(leased) = self.lease_stolen()? {
+            return Ok(Some(leased));
+        }
+        self.lease_waiting()
+    }
+
+    /// Splits a tile.
+    pub fn split(&mut self, lease: &Lease, cut: Cut<'p>) -> Result<u64, Refused<BookFault, Cut<'p>>>
+        requires { lease.now.worker ≡ self.old.seat.now.number }
+        ensures room { self.new.seat.now.kept ≡ self.old.seat.now.kept }
+        ensures number { self.new.seat.now.number ≡ self.old.seat.now.number }
+    {
+        let number = self.seat.number();
+        self.crew.gate.before(number, GateCall::Split);
+        let split = self.crew.desk.split(self.crew.rt, self.seat, lease, cut);
+        self.crew.gate.after(number, GateCall::Split);
+        split
+    }
+
+    /// Posts a stretch.
+    pub fn post(
+        &mut self,
+        lease: &Lease,
+        stretch: Stretch<'p>,
+    ) -> Result<Posted, Refused<BookFault, Stretch<'p>>>
+        requires { lease.now.worker ≡ self.old.seat.now.number }
+        ensures room { self.new.seat.now.kept ≡ self.old.seat.now.kept }
+        ensures number { self.new.seat.now.number ≡ self.old.seat.now.number }
+    {
+        let number = self.seat.number();
+        self.crew.gate.before(number, GateCall::Post);
+        let posted = self.crew.desk.post(self.crew.rt, self.seat, lease, stretch);
+        self.crew.gate.after(number, GateCall::Post);
+        posted
+    }
+
+    /// Closes a tile that is done, parks one at which the worker was asked to stop, and abandons any other.
+    fn close_or_leave(&mut self, lease: Lease, next: Next) -> Result<(), Refused<BookFault, Lease>>
+        requires { lease.worker ≡ self.old.seat.now.number }
+        ensures noted { AtSomeIndex (λ i. NotesDone i self.old.seat.now self.new.seat.now (ending_call next lease) result) }
+        ensures given_back { IfErr result (λ r. r.given ≡ lease) }
+        ensures room_stays { OnErr result (self.new.seat.now.kept ≡ self.old.seat.now.kept) }
+        ensures number { self.new.seat.now.number ≡ self.old.seat.now.number }
+    {
+        match next {
+            Next::Done => self.crew.desk.close(self.crew.rt, self.seat, lease),
+            Next::Stop => self.crew.desk.park(self.crew.rt, self.seat, lease),
+            _ => self.crew.desk.abandon(self.crew.rt, self.seat, lease),
+        }
+    }
+
+    /// Ends a lease by what the worker does next.
+    pub fn end(&mut self, lease: Lease, next: Next) -> Result<(), Refused<BookFault, Lease>>
+        requires { lease.worker ≡ self.old.seat.now.number }
+        ensures noted { AtSomeIndex (λ i. NotesDone i self.old.seat.now self.new.seat.now (ending_call next lease) result) }
+        ensures given_back { IfErr result (λ r. r.given ≡ lease) }
+        ensures room_stays { OnErr result (self.new.seat.now.kept ≡ self.old.seat.now.kept) }
+        ensures number { self.new.seat.now.number ≡ self.old.seat.now.number }
+    {
+        let number = self.seat.number();
+        self.crew.gate.before(number, GateCall::End);
+        let ended = self.close_or_leave(lease, next);
+        self.crew.gate.after(number, GateCall::End);
+        ended
+    }
+
+    /// Gives a tile up; where that is refused, the lease is let go.
+    pub fn give_up(&mut self, lease: Lease)
+        requires { lease.worker ≡ self.old.seat.now.number }
+        ensures abandoned { Abandons self.new.seat.now lease
+            (IsDeskBook L.whole L.part L.begin L.opening (LacksRoom self.old.seat.now lease)) }
+        ensures number { self.new.seat.now.number ≡ self.old.seat.now.number }
+    {
+        let Err(refused) = self.crew.desk.abandon(self.crew.rt, self.seat, lease) else {
+            return;
+        };
+        refused.given.discard();
+    }
+}

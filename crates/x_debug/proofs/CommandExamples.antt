@@ -1,6 +1,7 @@
 -- The examples of specs/Session.antt, specs/Questions.antt, specs/Commands.antt and specs/Loading.antt, computed on the small problem's new session.
-use Rattle.std.proofs.Common.{◌≡◌, None, [], ◌∷◌, ◌++◌, codes, refl}
+use Rattle.std.proofs.Common.{◌≡◌, sym, ap, is_some, None, [], ◌∷◌, ◌++◌, codes, refl}
 use Rattle.std.specs.Fmt.{digits}
+use Rattle.std.proofs.lemmas.Bool.{false≢true}
 use Rattle.cover_problem.proofs.CoverExamples.{small}
 use Rattle.x_steps.specs.StateValue.{start}
 use Rattle.x_texts.specs.declared.breakpoint.Break.TheVariants.{Visit}
@@ -12,7 +13,7 @@ use Rattle.debug_language.specs.Command as command
 use Rattle.debug_acts.specs.Entering.{enter}
 use Rattle.x_debug.specs.Session.{SessionValue, fresh_session, session_on}
 use Rattle.x_debug.specs.Questions.{lines_asked, question_lines}
-use Rattle.x_debug.specs.Commands.{answer, answer_set}
+use Rattle.x_debug.specs.Commands.{answer, answer_set, LeftBy}
 use Rattle.x_debug.specs.Loading.{load_answer}
 
 -- the session of the small problem's whole run, with no branch open
@@ -51,6 +52,21 @@ none_open = refl
 
 kept_once : (answer_set (answer_set resting Visit).session Visit).session.breaks ≡ Visit ∷ []
 kept_once = refl
+
+-- where no branch is open and memory runs out, none gets open by a step
+none_opens : LeftBy resting (command.Step 1) (fresh_session small) → ⊥
+unfolding LeftBy outcome
+none_opens h = false≢true (sym (ap (λ (s : SessionValue). is_some s.worker) h))
+
+-- and a command that shows leaves nothing but the session as it was
+shows_alone : (new : SessionValue) → LeftBy resting (command.Ask questions.Show) new → ⊥
+unfolding LeftBy
+shows_alone new h = h
+
+-- a branch that couldn't be parked for want of memory stays open
+stays_open : LeftBy (fresh_session small) command.Park resting → ⊥
+unfolding LeftBy outcome
+stays_open h = false≢true (ap (λ (s : SessionValue). is_some s.worker) h.2)
 
 -- ---- specs/Loading.antt
 

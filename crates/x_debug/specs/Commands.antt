@@ -117,9 +117,11 @@ answer_enter s lo = if_none_open s s.worker (on_desk s (enter s.book lo))
 abbrev pub hold_given : SessionValue → Option (Bor (List ℕ)) → Answer
 hold_given s lo = answer_hold s (given_cut lo)
 
+-- the same of `putback`, with a state as the code holds it
 abbrev pub put_given : SessionValue → Option (Bor (List ℕ)) → State → Answer
 put_given s lo state = answer_put_back s (given_cut lo) (state_value state)
 
+-- the same of `open`
 abbrev pub enter_given : SessionValue → Option (Bor (List ℕ)) → Answer
 enter_given s lo = answer_enter s (given_cut lo)
 

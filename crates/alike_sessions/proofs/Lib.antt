@@ -1,5 +1,7 @@
 pub mod CallLemmas
+pub mod LeasedLemmas
 pub mod WorkLemmas
+pub mod EndLemmas
 pub mod SoundLemmas
 pub mod AlikeLemmas
 pub mod TileLemmas

@@ -1,6 +1,6 @@
 -- The example of specs/AlikeSessions.antt, computed on the two books of alike_books/proofs/AlikeExamples.antt: the tile behind the cut 4 is
 -- open in both, and one closed tile goes up to there in the one, two in the other.
-use Rattle.std.proofs.Common.{◌≡◌, Some, None, [], ◌∷◌, refl}
+use Rattle.std.proofs.Common.{◌≡◌, suc, zero, Some, None, [], ◌∷◌, refl, arith}
 use Rattle.cover_problem.proofs.CoverExamples.{small}
 use Rattle.x_branches.specs.Runner.{runner_at}
 use Rattle.x_branches.specs.Branch.{first_of}
@@ -12,7 +12,7 @@ use Rattle.debug_language.specs.declared.question.Question.TheVariants.{Show, Br
 use Rattle.x_debug.specs.Session.{SessionValue, session_on}
 use Rattle.x_debug.specs.Questions.{lines_asked, question_lines}
 use Rattle.alike_books.proofs.AlikeExamples.{cut, in_two, in_three}
-use Rattle.alike_sessions.specs.AlikeSessions.{AreAlikeSessions}
+use Rattle.alike_sessions.specs.AlikeSessions.{AreAlikeSessions, IsSoundSession}
 
 -- worker 0 stands at the mark of the tile behind the cut 4, and visits are a breakpoint
 abbrev session_of : BookValue → Grant → SessionValue
@@ -44,3 +44,7 @@ same_branches = refl
 -- a session without an open branch is alike to neither
 not_alike : ¬ AreAlikeSessions one (session_on (in_two (Leased 0 3)))
 not_alike k = let e = k.runner in absurd (cc)
+
+-- nor is it sound, as a tile of its book is leased
+not_sound : ¬ IsSoundSession (session_on (in_two (Leased 0 3)))
+not_sound h = let e : suc zero ≡ zero = h.leased in absurd (omega arith)

@@ -1,5 +1,5 @@
 -- A new session is sound, and so is what each command, line and text leaves of a sound one.
-use Rattle.std.proofs.Common.{◌≡◌, ℕ, zero, suc, ◌+◌, ◌-◌, ◌≤◌, ◌==◌, ◌⊎◌, inl, inr, not, Bool, true, false, cond, Option, Some, None, Result, Ok, Err, List, [], ◌∷◌, length, refl, sym, subst, arith, option_map, IfSome}
+use Rattle.std.proofs.Common.{◌≡◌, ℕ, zero, suc, ◌+◌, ◌-◌, ◌≤◌, ◌==◌, ◌⊎◌, inl, inr, not, Bool, true, false, cond, Option, Some, None, Result, Ok, Err, List, [], ◌∷◌, length, refl, sym, subst, arith, option_map, IfSome, ap, ◌∙◌, eqb-true}
 use Rattle.std.specs.List.{position_or_len}
 use Rattle.std.proofs.lemmas.Bool.Decides.{eqb_tells}
 use Rattle.cover_problem.specs.Problem.{ProblemValue, is_same}
@@ -25,7 +25,7 @@ use Rattle.lab_book.specs.declared.entry.Reply.{Reply}
 use Rattle.lab_book.specs.declared.entry.Reply.TheVariants as reply
 use Rattle.lab_book.specs.Tile.{is_held}
 use Rattle.lab_book.specs.Tiling.{IsTiling, tile_at}
-use Rattle.lab_book.specs.Book.{BookValue, outcome, book_step, new_book, whole_tile}
+use Rattle.lab_book.specs.Book.{BookValue, outcome, book_step, leased_in, new_book, whole_tile}
 use Rattle.lab_book.proofs.TileLemmas.{stretch_by, tile_can_start}
 use Rattle.lab_book.proofs.StepLemmas.{whole_run, opened_keeps}
 use Rattle.lab_world.specs.declared.event.Act.TheVariants.{Lease, TakeHeld}
@@ -51,9 +51,11 @@ use Rattle.debug_acts.proofs.WalkedLemmas.{least_within}
 use Rattle.x_debug.specs.Session.{SessionValue, fresh_session, session_on, entered}
 use Rattle.x_debug.specs.Commands.{Answer, if_open, if_none_open, on_work, on_desk, on_book, answer, answer_if, answer_line, answer_step, answer_run, answer_back, answer_park, answer_save, answer_close, answer_split, answer_retract, answer_hold, answer_put_back, answer_enter}
 use Rattle.x_debug.specs.Loading.{answers, load_by, load_answer, loaded, breaks_of}
-use Rattle.alike_sessions.specs.AlikeSessions.{HasRunner, IsSoundSession}
+use Rattle.alike_sessions.specs.AlikeSessions.{HasRunner, open_branches, IsSoundSession}
 use Rattle.alike_sessions.proofs.CallLemmas.{IsOfRun, call_keeps}
+use Rattle.alike_sessions.proofs.LeasedLemmas.{keeps_leases, call_counts, lease_counts, take_counts, lease_any_counts}
 use Rattle.alike_sessions.proofs.WorkLemmas.{IsSoundWork, mark_within, forward_sound, back_sound, split_sound, retract_sound, parked_tiling, closed_tiling, not_closed_sound}
+use Rattle.alike_sessions.proofs.EndLemmas.{parked_leaves, closed_leaves, not_at_end}
 
 -- ---- who leases a tile has a runner at its mark
 
@@ -76,16 +78,22 @@ lent_runner : (b : BookValue) → IsTiling b.problem b.branch b.first b.tiles �
 lent_runner b t p (reply.Leased g lo hi mark n) s = mark_runner b _ t s.1 refl
 lent_runner b t p _ s = tt
 
-module _ (b : BookValue) (t : IsTiling b.problem b.branch b.first b.tiles) (breaks : List Break) where
+module _ (b : BookValue) (t : IsTiling b.problem b.branch b.first b.tiles) (none : leased_in b.tiles ≡ 0) (breaks : List Break) where
   -- after a call that leases
   lent_sound : (c : Call) → IsOfRun b.problem c → IsSeat (book_step b 0 c) 0 (lent_worker b.problem (outcome b 0 c).reply)
+      → leased_in (outcome b 0 c).tiles ≡ leased_in b.tiles + open_branches (lent_worker b.problem (outcome b 0 c).reply)
       → IsSoundSession (record { book = book_step b 0 c; worker = lent_worker b.problem (outcome b 0 c).reply; breaks = breaks })
-  lent_sound c r s =
+  lent_sound c r s counts =
       let tiling = call_keeps b t 0 c r in
-      record { tiling = tiling; seat = s; runner = lent_runner (book_step b 0 c) tiling b.problem (outcome b 0 c).reply s }
+      record {
+        tiling = tiling;
+        seat = s;
+        runner = lent_runner (book_step b 0 c) tiling b.problem (outcome b 0 c).reply s;
+        leased = omega arith;
+      }
 
   pub entered_sound : IsSoundSession (record { book = (entered b).book; worker = (entered b).worker; breaks = breaks })
-  entered_sound = lent_sound call.LeaseAny tt (lease_any_seat b 0 t)
+  entered_sound = lent_sound call.LeaseAny tt (lease_any_seat b 0 t) (lease_any_counts b 0 b.problem)
 
   lease_sound : (id : ℕ) → IsSoundSession (record {
     book = book_step b 0 (call.Lease id);
@@ -93,7 +101,7 @@ module _ (b : BookValue) (t : IsTiling b.problem b.branch b.first b.tiles) (brea
     breaks = breaks;
   })
   unfolding turn
-  lease_sound id = lent_sound (call.Lease id) tt (turn_keeps b 0 t None (Lease id) tt)
+  lease_sound id = lent_sound (call.Lease id) tt (turn_keeps b 0 t None (Lease id) tt) (lease_counts b 0 b.problem id)
 
   take_sound : (id : ℕ) → IsSoundSession (record {
     book = book_step b 0 (call.TakeHeld id);
@@ -101,19 +109,19 @@ module _ (b : BookValue) (t : IsTiling b.problem b.branch b.first b.tiles) (brea
     breaks = breaks;
   })
   unfolding turn
-  take_sound id = lent_sound (call.TakeHeld id) tt (turn_keeps b 0 t None (TakeHeld id) tt)
+  take_sound id = lent_sound (call.TakeHeld id) tt (turn_keeps b 0 t None (TakeHeld id) tt) (take_counts b 0 b.problem id)
 
 -- ---- new sessions
 
-pub on_sound : (b : BookValue) → IsTiling b.problem b.branch b.first b.tiles → IsSoundSession (session_on b)
-on_sound b t = record { tiling = t; seat = tt; runner = tt }
+pub on_sound : (b : BookValue) → IsTiling b.problem b.branch b.first b.tiles → leased_in b.tiles ≡ 0 → IsSoundSession (session_on b)
+on_sound b t n = record { tiling = t; seat = tt; runner = tt; leased = n }
 
 pub fresh_sound : (p : ProblemValue) → IsSoundSession (fresh_session p)
 fresh_sound p =
     let whole : Branch = record { lo = None; hi = None } in
     entered_sound (new_book p whole start)
     (opened_keeps p whole whole start start (whole_tile whole start ∷ []) (record { entries = []; kept = 0 }) (whole_run p) tt tt refl refl
-    refl refl).sound.tiling []
+    refl refl).sound.tiling refl []
 
 -- on a snapshot
 resumed_sound : (v : SnapshotValue) (breaks : List Break) → is_on_run v ≡ true → is_inside v ≡ true
@@ -126,7 +134,7 @@ resumed_sound v breaks d e =
     entered_sound (new_book v.problem branch v.state)
     (opened_keeps v.problem branch branch v.state v.state (whole_tile branch v.state ∷ []) (record { entries = []; kept = 0 })
     (record { fits = on.fits; branch = inside.branch; within = inside.within }) (own_cut v.problem v.lo on.low)
-    (own_cut v.problem v.hi on.high) refl refl refl refl).sound.tiling breaks
+    (own_cut v.problem v.hi on.high) refl refl refl refl).sound.tiling refl breaks
   where
     own_cut : (p : ProblemValue) (path : Option (List ℕ)) → IsCutIfAny p path
         → IfSome (option_map (path_in p) path) (λ (c : CutPath). IsCut c.problem c.path)
@@ -167,17 +175,23 @@ module _ (s : SessionValue) (h : IsSoundSession s) where
   pub work_of : (w : WorkerValue) → s.worker ≡ Some w → IsSoundWork (work s.book w)
   work_of w e =
       let seat = subst (IsSeat s.book 0) e h.seat in
-      record { tiling = h.tiling; seat = seat.0; holds = seat.1; runner = subst HasRunner e h.runner }
+      record {
+        tiling = h.tiling;
+        seat = seat.0;
+        holds = seat.1;
+        runner = subst HasRunner e h.runner;
+        leased = h.leased ∙ ap open_branches e;
+      }
 
   work_sound : (l : List (List (List ℕ))) (u : AtWork) → IsSoundWork u → IsSoundSession (on_work s (answered l u)).session
-  work_sound l u p = record { tiling = p.tiling; seat = (p.seat, p.holds); runner = p.runner }
+  work_sound l u p = record { tiling = p.tiling; seat = (p.seat, p.holds); runner = p.runner; leased = p.leased }
 
-  given_sound : (b : BookValue) → IsTiling b.problem b.branch b.first b.tiles
+  given_sound : (b : BookValue) → IsTiling b.problem b.branch b.first b.tiles → leased_in b.tiles ≡ 0
       → IsSoundSession (record { book = b; worker = None; breaks = s.breaks })
-  given_sound b t = record { tiling = t; seat = tt; runner = tt }
+  given_sound b t n = record { tiling = t; seat = tt; runner = tt; leased = n }
 
   others_sound : (breaks : List Break) → IsSoundSession (record { book = s.book; worker = s.worker; breaks = breaks })
-  others_sound breaks = record { tiling = h.tiling; seat = h.seat; runner = h.runner }
+  others_sound breaks = record { tiling = h.tiling; seat = h.seat; runner = h.runner; leased = h.leased }
 
   -- what needs an open branch
   open_sound : (g : WorkerValue → Answer) → ((w : WorkerValue) → IsSoundWork (work s.book w) → IsSoundSession (g w).session)
@@ -200,10 +214,10 @@ module _ (s : SessionValue) (h : IsSoundSession s) where
   step_back_sound n = open_sound _ (λ w p. work_sound [] _ (back_sound (work s.book w) p (back_count w.runner n)))
 
   park_sound : IsSoundSession (answer_park s).session
-  park_sound = open_sound _ (λ w p. given_sound _ (parked_tiling (work s.book w) p))
+  park_sound = open_sound _ (λ w p. given_sound _ (parked_tiling (work s.book w) p) (parked_leaves (work s.book w) p))
 
   save_sound : (bs : List Break) → IsSoundSession (answer_save s bs).session
-  save_sound bs = open_sound _ (λ w p. given_sound _ (parked_tiling (work s.book w) p))
+  save_sound bs = open_sound _ (λ w p. given_sound _ (parked_tiling (work s.book w) p) (parked_leaves (work s.book w) p))
 
   close_sound : IsSoundSession (answer_close s).session
   close_sound = open_sound _ (λ w p. by w p (steps_ahead w.runner == 0) refl)
@@ -211,8 +225,8 @@ module _ (s : SessionValue) (h : IsSoundSession s) where
       by : (w : WorkerValue) → IsSoundWork (work s.book w) → (b : Bool) → (steps_ahead w.runner == 0) ≡ b
           → IsSoundSession (on_desk s (cond b (record { text = line_text (plain Closed); desk = desk (closed (work s.book w)) None })
           (record { text = line_text (book_refusal NotAtEnd); desk = desk (not_closed (work s.book w)) (Some w) }))).session
-      by w p true e = given_sound _ (closed_tiling (work s.book w) p)
-      by w p false e = work_sound [] _ (not_closed_sound (work s.book w) p e)
+      by w p true e = given_sound _ (closed_tiling (work s.book w) p) (closed_leaves (work s.book w) p (eqb-true (steps_ahead w.runner) 0 e))
+      by w p false e = work_sound [] _ (not_closed_sound (work s.book w) p (not_at_end (work s.book w) p e))
 
   part_sound : (level o : ℕ) → IsSoundSession (answer_split s level o).session
   part_sound level o = open_sound _ (λ w p. work_sound [] _ (split_sound (work s.book w) p level o))
@@ -223,13 +237,14 @@ module _ (s : SessionValue) (h : IsSoundSession s) where
   -- ---- `hold`, `putback` and `open`
 
   asked_sound : (make : ℕ → Call) → ((x : WorkerValue) (id : ℕ) → HasTile s.book.tiles x → HasTile (outcome s.book 0 (make id)).tiles x)
-      → ((id : ℕ) → IsOfRun s.book.problem (make id)) → (place : Option ℕ)
+      → ((id : ℕ) → IsOfRun s.book.problem (make id)) → ((id : ℕ) → keeps_leases (make id) ≡ true) → (place : Option ℕ)
       → IsSoundSession (on_book s (answer_of_tile s.book make place)).session
-  asked_sound make leaves of_run None = record { tiling = h.tiling; seat = h.seat; runner = h.runner }
-  asked_sound make leaves of_run (Some i) = record {
+  asked_sound make leaves of_run keeps None = record { tiling = h.tiling; seat = h.seat; runner = h.runner; leased = h.leased }
+  asked_sound make leaves of_run keeps (Some i) = record {
     tiling = call_keeps s.book h.tiling 0 (make (tile_at s.book.tiles i).id) (of_run (tile_at s.book.tiles i).id);
     seat = still s.worker h.seat;
     runner = h.runner;
+    leased = call_counts s.book 0 (make (tile_at s.book.tiles i).id) (keeps (tile_at s.book.tiles i).id) ∙ h.leased;
   }
     where
       still : (x : Option WorkerValue) → IsSeat s.book 0 x → IsSeat (book_step s.book 0 (make (tile_at s.book.tiles i).id)) 0 x
@@ -238,29 +253,32 @@ module _ (s : SessionValue) (h : IsSoundSession s) where
 
   hold_sound : (lo : Option (List ℕ)) → IsSoundSession (answer_hold s lo).session
   unfolding hold
-  hold_sound lo = asked_sound call.RequestStop (λ x id g. stop_leaves s.book 0 x g id) (λ id. tt) (place_at lo s.book.tiles)
+  hold_sound lo =
+      asked_sound call.RequestStop (λ x id g. stop_leaves s.book 0 x g id) (λ id. tt) (λ id. refl) (place_at lo s.book.tiles)
 
   put_back_sound : (lo : Option (List ℕ)) (mark : StateValue) → IsSoundSession (answer_put_back s lo mark).session
   unfolding put_back
   put_back_sound lo mark =
-      asked_sound (λ (id : ℕ). call.PutBack id mark) (λ x id g. put_back_leaves s.book 0 x g id mark) (λ id. tt) (place_at lo s.book.tiles)
+      asked_sound (λ (id : ℕ). call.PutBack id mark) (λ x id g. put_back_leaves s.book 0 x g id mark) (λ id. tt) (λ id. refl)
+      (place_at lo s.book.tiles)
 
-  found_sound : (place : Option ℕ) → IsSoundSession (on_desk s (entered_at s.book place)).session
-  found_sound None = record { tiling = h.tiling; seat = tt; runner = tt }
-  found_sound (Some i) = by (is_held (tile_at s.book.tiles i).status)
+  found_sound : leased_in s.book.tiles ≡ 0 → (place : Option ℕ) → IsSoundSession (on_desk s (entered_at s.book place)).session
+  found_sound n None = record { tiling = h.tiling; seat = tt; runner = tt; leased = n }
+  found_sound n (Some i) = by (is_held (tile_at s.book.tiles i).status)
     where
       by : (b : Bool) → IsSoundSession (on_desk s
           (lent_by s.book (cond b (call.TakeHeld (tile_at s.book.tiles i).id) (call.Lease (tile_at s.book.tiles i).id)))).session
-      by true = take_sound s.book h.tiling s.breaks (tile_at s.book.tiles i).id
-      by false = lease_sound s.book h.tiling s.breaks (tile_at s.book.tiles i).id
+      by true = take_sound s.book h.tiling n s.breaks (tile_at s.book.tiles i).id
+      by false = lease_sound s.book h.tiling n s.breaks (tile_at s.book.tiles i).id
 
   enter_sound : (lo : Option (List ℕ)) → IsSoundSession (answer_enter s lo).session
   unfolding enter
-  enter_sound lo = by s.worker
+  enter_sound lo = by s.worker refl
     where
-      by : (x : Option WorkerValue) → IsSoundSession (if_none_open s x (on_desk s (entered_at s.book (place_at lo s.book.tiles)))).session
-      by None = found_sound (place_at lo s.book.tiles)
-      by (Some w) = h
+      by : (x : Option WorkerValue) → s.worker ≡ x
+          → IsSoundSession (if_none_open s x (on_desk s (entered_at s.book (place_at lo s.book.tiles)))).session
+      by None e = found_sound (h.leased ∙ ap open_branches e) (place_at lo s.book.tiles)
+      by (Some w) e = h
 
   -- ---- each command
 

@@ -1,7 +1,7 @@
 -- A branch at work stays sound: where what isn't posted is posted, where its search steps on or back, where it is parted, and where its
 -- last stretch is taken out.
-use Rattle.std.proofs.Common.{◌≡◌, ℕ, zero, suc, ◌+◌, ◌-◌, ◌<◌, ◌≤◌, ◌==◌, ◌⊎◌, inl, inr, nat_lt, Bool, true, false, cond, Option, Some, None, Result, List, [], ◌∷◌, refl, sym, ap, ◌∙◌, subst, arith, eq-eqb, eqb-true}
-use Rattle.std.proofs.lemmas.Bool.{cases_lt, false≢true}
+use Rattle.std.proofs.Common.{◌≡◌, ℕ, zero, suc, ◌+◌, ◌-◌, ◌<◌, ◌≤◌, ◌==◌, ◌⊎◌, inl, inr, nat_lt, Bool, true, false, cond, Option, Some, None, Result, List, [], ◌∷◌, refl, sym, ap, ◌∙◌, subst, arith, eqb-true}
+use Rattle.std.proofs.lemmas.Bool.{cases_lt}
 use Rattle.cover_problem.specs.Lists.{has}
 use Rattle.cover_problem.specs.Problem.{ProblemValue}
 use Rattle.x_steps.specs.declared.state.Label.TheVariants.{Done}
@@ -12,7 +12,6 @@ use Rattle.x_steps.specs.Rank.{rank}
 use Rattle.x_steps.proofs.Neighbours.{fits_next}
 use Rattle.x_steps.proofs.RankLemmas.{rank_next}
 use Rattle.x_steps.proofs.RunLemmas.{after_add, after_fits}
-use Rattle.x_steps.proofs.BetweenLemmas.{steps_between_self}
 use Rattle.x_steps.proofs.StretchLemmas.{reached_fits, reached_rank, steps_between_none}
 use Rattle.x_branches.specs.declared.branch.Branch.{Branch}
 use Rattle.x_branches.specs.declared.fault.RunnerFault.TheVariants.{NotAtMark}
@@ -31,7 +30,7 @@ use Rattle.lab_book.specs.declared.entry.Reply.{Reply}
 use Rattle.lab_book.specs.declared.entry.Reply.TheVariants as reply
 use Rattle.lab_book.specs.Tile.{TileValue, IsTile, Join, mark_of, tile_end}
 use Rattle.lab_book.specs.Tiling.{IsTiling}
-use Rattle.lab_book.specs.Book.{BookValue, Outcome, outcome, made_at, unless, last_of, retracted, retract_fault}
+use Rattle.lab_book.specs.Book.{BookValue, Outcome, outcome, leased_in, made_at, unless, last_of, retracted, retract_fault}
 use Rattle.lab_book.proofs.TileLemmas.{end_fits, stretch_by, tile_can_start}
 use Rattle.debug_views.specs.Lines.{runner_refusal}
 use Rattle.lab_world.specs.Worker.{WorkerValue, HasTile, HoldsTile, after_post, after_retract, after_split, marked_at, moved_to, shortened}
@@ -49,13 +48,15 @@ use Rattle.debug_acts.proofs.ForwardLemmas.{can_walk, ahead_is}
 use Rattle.debug_acts.proofs.WalkLemmas.{room_worker, on_problem, on_branch, on_position}
 use Rattle.debug_acts.proofs.RetractLemmas.{to_here}
 use Rattle.alike_sessions.proofs.CallLemmas.{call_keeps}
+use Rattle.alike_sessions.proofs.LeasedLemmas.{call_counts}
 
--- a book and worker 0, which holds one of its tiles and has a runner
+-- a book and worker 0, which holds one of its tiles and has a runner; no other tile is leased
 pub record IsSoundWork (u : AtWork) : Type 0 where
   pub tiling : IsTiling u.book.problem u.book.branch u.book.first u.book.tiles
   pub seat : u.worker.grant.worker ≡ 0
   pub holds : HoldsTile u.book u.worker
   pub runner : IsRunner u.worker.runner
+  pub leased : leased_in u.book.tiles ≡ 1
 
 module _ (u : AtWork) (s : IsSoundWork u) where
   abbrev pub run : RunnerValue
@@ -102,6 +103,7 @@ module _ (u : AtWork) (s : IsSoundWork u) where
           mark_in = s.runner.position_in;
           position_in = s.runner.position_in;
         };
+        leased = call_counts u.book w (post_call u.worker) refl ∙ s.leased;
       }
 
   -- both of two
@@ -135,6 +137,7 @@ module _ (u : AtWork) (s : IsSoundWork u) where
       };
     };
     runner = k;
+    leased = s.leased;
   }
 
   mark_up : rank run.problem run.mark ≤ rank run.problem run.position
@@ -207,6 +210,7 @@ module _ (u : AtWork) (s : IsSoundWork u) where
         holds = record { problem = mine.0; tile = mine.2 };
         runner = may_end run (cut_at run level o) s.runner start_fits refl (cut_fits run.problem path cut.cut)
             (comes_rank run.problem run.position (cut_state path) here_fits cut.later);
+        leased = call_counts u.book w (call.Split u.worker.grant path true) refl ∙ s.leased;
       }
 
 -- ---- steps on
@@ -293,6 +297,9 @@ module _ (u : AtWork) (s : IsSoundWork u) where
   asked_tiling : IsTiling (book_asked u).problem (book_asked u).branch (book_asked u).first (book_asked u).tiles
   asked_tiling = call_keeps u.book s.tiling u.worker.grant.worker (call.Retract u.worker.grant) tt
 
+  asked_leased : leased_in (book_asked u).tiles ≡ 1
+  asked_leased = call_counts u.book u.worker.grant.worker (call.Retract u.worker.grant) refl ∙ s.leased
+
   -- as the book's answer leaves it
   pub retracted_sound : unposted_steps u.worker.runner ≡ 0 → (x : Reply) → asked_reply u ≡ x → IsSoundWork (retracted_by u x).work
   retracted_sound none (reply.Retracted from to) e =
@@ -311,10 +318,17 @@ module _ (u : AtWork) (s : IsSoundWork u) where
           mark_in = mark_within (book_asked u) (marked_at u.worker from) asked_tiling holds;
           position_in = s.runner.position_in;
         };
+        leased = asked_leased;
       }
   retracted_sound none (reply.Refused f) e =
       let mine = asked_has (reply.Refused f) e in
-      record { tiling = asked_tiling; seat = s.seat; holds = record { problem = mine.0; tile = mine.2 }; runner = s.runner }
+      record {
+        tiling = asked_tiling;
+        seat = s.seat;
+        holds = record { problem = mine.0; tile = mine.2 };
+        runner = s.runner;
+        leased = asked_leased;
+      }
   retracted_sound none (reply.Leased g lo hi mark n) e = s
   retracted_sound none _ e = s
 
@@ -347,23 +361,17 @@ module _ (u : AtWork) (s : IsSoundWork u) where
   unfolding closed
   closed_tiling = call_keeps (posted_if_any u).book (rest_sound u s).tiling u.worker.grant.worker (call.Close u.worker.grant) tt
 
-  not_there : (steps_ahead u.worker.runner == 0) ≡ false → u.worker.runner.position ≡ end_of u.worker.runner.branch.hi → ⊥
-  not_there e h =
-      let r = u.worker.runner in
-      let none : steps_ahead r ≡ 0 =
-      ap (steps_between r.problem r.position) (sym h) ∙ steps_between_self r.problem r.position (here_fits u s) in
-      false≢true (sym e ∙ eq-eqb (steps_ahead r) 0 none)
-
   -- before its end the book refuses, and the branch stays open
-  pub not_closed_sound : (steps_ahead u.worker.runner == 0) ≡ false → IsSoundWork (work (not_closed u) u.worker)
+  pub not_closed_sound : (u.worker.runner.position ≡ end_of u.worker.runner.branch.hi → ⊥) → IsSoundWork (work (not_closed u) u.worker)
   unfolding not_closed
-  not_closed_sound e = record {
+  not_closed_sound past = record {
     tiling = call_keeps u.book s.tiling u.worker.grant.worker (call.Close u.worker.grant) tt;
     seat = s.seat;
     holds = record {
       problem = s.holds.problem;
       tile = subst (λ (o : Outcome). HasTile o.tiles u.worker)
-          (sym (refused_is u.book u.worker s.tiling s.holds s.runner (not_there e))) s.holds.tile;
+          (sym (refused_is u.book u.worker s.tiling s.holds s.runner past)) s.holds.tile;
     };
     runner = s.runner;
+    leased = ap (λ (o : Outcome). leased_in o.tiles) (refused_is u.book u.worker s.tiling s.holds s.runner past) ∙ s.leased;
   }

@@ -3,7 +3,7 @@
 --
 -- Example: a session whose branch is open behind the cut 4 of the small problem, in a book with one closed tile up to there, is alike
 -- to one in a book with two. proofs/SessionExamples.antt computes it.
-use Rattle.std.specs.Prelude.{◌≡◌, Option, Some, None}
+use Rattle.std.specs.Prelude.{ℕ, ◌≡◌, Option, Some, None}
 use Rattle.x_branches.specs.Runner.{IsRunner}
 use Rattle.lab_book.specs.Tiling.{IsTiling}
 use Rattle.lab_book.specs.Book.{BookValue, leased_in, IsTiled}
@@ -26,11 +26,18 @@ abbrev pub HasRunner : Option WorkerValue → Type 0
 HasRunner None = Unit {0}
 HasRunner (Some w) = IsRunner w.runner
 
--- a sound session: its book's tiles are a tiling, an open branch is leased to worker 0, which holds the tile, and has a runner
+-- how many branches are open: one, or none
+abbrev pub open_branches : Option WorkerValue → ℕ
+open_branches None = 0
+open_branches (Some w) = 1
+
+-- a sound session: its book's tiles are a tiling, an open branch is leased to worker 0, which holds the tile, and has a runner; no other
+-- tile is leased
 pub record IsSoundSession (s : SessionValue) : Type 0 where
   pub tiling : IsTiling s.book.problem s.book.branch s.book.first s.book.tiles
   pub seat : IsSeat s.book 0 s.worker
   pub runner : HasRunner s.worker
+  pub leased : leased_in s.book.tiles ≡ open_branches s.worker
 
 -- two sound sessions that are alike
 pub record AreSoundAlike (a b : SessionValue) : Type 0 where
@@ -47,10 +54,11 @@ pub record AreAlikeAnswers (a b : Answer) : Type 0 where
 abbrev pub LeavesSound : SessionValue → Answer → Type 0
 LeavesSound s a = IsSoundSession s → IsSoundSession a.session
 
--- a pool made the first session's book to this one; the session on it is alike to that on the second one's searched book
+-- of two sessions that are alike, with no branch open, a pool made the first one's book to this one; the session on it is alike to that on
+-- the second one's searched book
 abbrev pub PooledAlike : SessionValue → SessionValue → BookValue → Type 0
 PooledAlike a b new =
-    AreSoundAlike a b → leased_in b.book.tiles ≡ 0 → IsSearched a.book new → IsTiled new
+    AreSoundAlike a b → b.worker ≡ None → IsSearched a.book new → IsTiled new
     → AreSoundAlike (session_on new) (session_on (searched b.book))
 
 -- where two sessions are sound and alike, they answer alike

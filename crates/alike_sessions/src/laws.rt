@@ -26,8 +26,8 @@ pub fn alike_sessions_answer_the_same()
     ensures load { (a b : SessionValue) (bytes : List ℕ) → AgreeOn a b (λ s. load_answer s bytes) }
 {}
 
-/// Whatever tiling a pool makes of a session's book, the session on it is alike to the session on the searched book, and to that of
-/// an alike session; all are sound.
+/// Whatever tiling a pool makes of the book of a session with no branch open, the session on it is alike to the session on the searched
+/// book, and to that of an alike session; all are sound.
 pub fn pooled_sessions_are_alike()
     ensures { (a b : SessionValue) (new : BookValue) → PooledAlike a b new }
 {}

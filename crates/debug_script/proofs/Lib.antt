@@ -6,4 +6,6 @@ mod InputExamples
 mod PoolLemmas
 mod AlikeLemmas
 mod ReplyLemmas
+mod RefusingExamples
+pub mod RefusingLemmas
 mod ReplyExamples

@@ -1,6 +1,6 @@
 -- What a pool is answered: of sound sessions that are alike the same.
-use Rattle.std.proofs.Common.{◌≡◌, ℕ, zero, suc, ◌<◌, ◌==◌, Bool, true, false, cond, Option, Some, None, is_some, List, [], ◌∷◌, ◌++◌}
-use Rattle.std.proofs.Common.{length, refl, sym, ap, ◌∙◌, arith, eqb-true}
+use Rattle.std.proofs.Common.{◌≡◌, ℕ, zero, suc, ◌<◌, ◌==◌, Bool, true, false, Option, Some, None, is_some, List, [], ◌∷◌, ◌++◌}
+use Rattle.std.proofs.Common.{nat_lt, length, refl, sym, ap, ◌∙◌, subst, arith, ltb-true, ltb-false}
 use Rattle.std.proofs.lemmas.Bool.{false≢true}
 use Rattle.text_lines.specs.Writing.{line_text}
 use Rattle.lab_book.specs.Tile.{TileValue, is_leased}
@@ -10,15 +10,26 @@ use Rattle.lab_world.specs.Worker.{WorkerValue}
 use Rattle.lab_world.specs.World.{IsSeat}
 use Rattle.debug_language.specs.declared.fault.DebugFault.TheVariants.{AlreadyOpen}
 use Rattle.debug_views.specs.Lines.{debug_refusal}
+use Rattle.debug_views.proofs.LineLemmas.{one_line}
 use Rattle.x_debug.specs.Session.{SessionValue}
+use Rattle.x_debug.specs.Commands.{says, if_none_open}
 use Rattle.x_debug.specs.Loading.{answers}
 use Rattle.alike_books.specs.Searched.{searched, IsSearched}
 use Rattle.alike_books.proofs.FilterLemmas.{count_none}
 use Rattle.alike_books.proofs.CountLemmas.{held_alike, leased_alike}
 use Rattle.alike_books.proofs.SearchedLemmas.{searched_tiling, searched_open}
-use Rattle.alike_sessions.specs.AlikeSessions.{AreSoundAlike, AreAlikeAnswers}
-use Rattle.alike_sessions.proofs.PooledLemmas.{pooled_alike}
+use Rattle.alike_sessions.specs.AlikeSessions.{open_branches, IsSoundSession, AreSoundAlike, AreAlikeAnswers}
+use Rattle.alike_sessions.proofs.TileLemmas.{both_open}
+use Rattle.alike_sessions.proofs.PooledLemmas.{none_leased, pooled_alike}
 use Rattle.debug_script.specs.Pooling.{none_held, pool_words, pool_answer, answer_pool}
+
+-- ---- whether a tile of a session's book is leased, by a test of the book
+
+pub some_leased : (s : SessionValue) (b : BookValue) → b ≡ s.book → true ≡ nat_lt 0 (leased_in b.tiles) → 0 < leased_in s.book.tiles
+some_leased s b e t = let n = ap (λ (c : BookValue). leased_in c.tiles) e in omega (arith, ltb-true 0 (leased_in b.tiles) (sym t))
+
+pub no_leased : (s : SessionValue) (b : BookValue) → b ≡ s.book → false ≡ nat_lt 0 (leased_in b.tiles) → leased_in s.book.tiles ≡ 0
+no_leased s b e t = let n = ap (λ (c : BookValue). leased_in c.tiles) e in omega (arith, ltb-false 0 (leased_in b.tiles) (sym t))
 
 -- ---- no branch is open where no tile is leased
 
@@ -33,9 +44,13 @@ none_open b (Some x) s n e =
     let t = s.1.tile in
     false≢true (sym (none_leased_at b.tiles t.place n t.within) ∙ ap is_leased t.tile.leased)
 
-positive : (n : ℕ) → (n == 0) ≡ false → 0 < n
-positive zero e = absurd (false≢true (sym e))
-positive (suc n) e = omega arith
+-- of a sound session
+no_worker : (s : SessionValue) → IsSoundSession s → leased_in s.book.tiles ≡ 0 → s.worker ≡ None
+no_worker s h n = by s.worker refl
+  where
+    by : (x : Option WorkerValue) → s.worker ≡ x → s.worker ≡ None
+    by None e = e
+    by (Some w) e = let l = h.leased in let o : open_branches s.worker ≡ 1 = ap open_branches e in absurd (omega arith)
 
 -- ---- the answer
 
@@ -46,31 +61,30 @@ module _ (a f : SessionValue) (k : AreSoundAlike a f) where
   as_many_held : none_held a.book ≡ none_held f.book
   as_many_held = ap (λ (n : ℕ). n == 0) (held_alike a.book.tiles f.book.tiles k.alike.book.tiles)
 
-  -- with a leased tile it is refused
+  -- with a branch open it is refused
+  refused_with : 0 < open_branches a.worker → AreAlikeAnswers (says a (debug_refusal AlreadyOpen ∷ [])) (answer_pool f)
+  refused_with = both_open a.worker f.worker k.alike.runner
+      (λ x y. 0 < open_branches x
+      → AreAlikeAnswers (says a (debug_refusal AlreadyOpen ∷ [])) (if_none_open f y (pool_answer f.book (searched f.book))))
+      (λ l. absurd (omega arith)) (λ v w d e g. λ l. record { text = refl; sessions = k })
+
+  -- that is where a tile is leased
   pub refused_alike : 0 < leased_in a.book.tiles → AreAlikeAnswers (answers (debug_refusal AlreadyOpen) a) (answer_pool f)
-  refused_alike some = by (leased_in f.book.tiles == 0) refl
-    where
-      by : (b : Bool) → (leased_in f.book.tiles == 0) ≡ b
-          → AreAlikeAnswers (answers (debug_refusal AlreadyOpen) a)
-          (cond b (pool_answer f.book (searched f.book)) (answers (debug_refusal AlreadyOpen) f))
-      by true e = let n = as_many_leased in let z = eqb-true (leased_in f.book.tiles) 0 e in absurd (omega arith)
-      by false e = record { text = refl; sessions = k }
+  refused_alike some =
+      let n = k.sound.leased in
+      let r = refused_with (omega arith) in
+      record { text = one_line (debug_refusal AlreadyOpen) ∙ r.text; sessions = r.sessions }
 
   -- and else the waiting tiles are searched
   pub searched_alike : (new : BookValue) → leased_in a.book.tiles ≡ 0 → IsSearched a.book new → IsTiling new.problem new.branch new.first new.tiles
       → AreAlikeAnswers (pool_answer a.book new) (answer_pool f)
-  searched_alike new none s t = by (leased_in f.book.tiles == 0) (ap (λ (n : ℕ). n == 0) free)
-    where
-      free : leased_in f.book.tiles ≡ 0
-      free = sym as_many_leased ∙ none
-
-      by : (b : Bool) → b ≡ true
-          → AreAlikeAnswers (pool_answer a.book new) (cond b (pool_answer f.book (searched f.book)) (answers (debug_refusal AlreadyOpen) f))
-      by true e = record {
+  searched_alike new none s t =
+      let e = no_worker f k.also_sound (sym as_many_leased ∙ none) in
+      subst (λ (w : Option WorkerValue). AreAlikeAnswers (pool_answer a.book new) (if_none_open f w (pool_answer f.book (searched f.book))))
+      (sym e) (record {
         text = ap (λ (all : Bool). (answers (pool_words all) a).text) as_many_held;
-        sessions = pooled_alike a f new k free s t;
-      }
-      by false e = absurd (false≢true e)
+        sessions = pooled_alike a f new k e s t;
+      })
 
   -- what is written then
   pub searched_text : (new : BookValue) (all : Bool) (said text : List ℕ) → leased_in a.book.tiles ≡ 0 → IsSearched a.book new
@@ -82,13 +96,13 @@ module _ (a f : SessionValue) (k : AreSoundAlike a f) where
 
   -- so it is of the two
   pub pools_alike : AreAlikeAnswers (answer_pool a) (answer_pool f)
-  pools_alike = by (leased_in a.book.tiles == 0) refl
+  pools_alike = by a.worker refl
     where
-      by : (b : Bool) → (leased_in a.book.tiles == 0) ≡ b
-          → AreAlikeAnswers (cond b (pool_answer a.book (searched a.book)) (answers (debug_refusal AlreadyOpen) a)) (answer_pool f)
-      by true e =
-          let z = eqb-true (leased_in a.book.tiles) 0 e in
-          searched_alike (searched a.book) z
-          (record { problem = refl; branch = refl; first = refl; tiles = searched_open a.book.problem a.book.tiles z })
+      by : (x : Option WorkerValue) → a.worker ≡ x
+          → AreAlikeAnswers (if_none_open a x (pool_answer a.book (searched a.book))) (answer_pool f)
+      by None e =
+          let n = none_leased a k.sound e in
+          searched_alike (searched a.book) n
+          (record { problem = refl; branch = refl; first = refl; tiles = searched_open a.book.problem a.book.tiles n })
           (searched_tiling a.book k.sound.tiling)
-      by false e = refused_alike (positive (leased_in a.book.tiles) e)
+      by (Some w) e = let o : open_branches a.worker ≡ 1 = ap open_branches e in refused_with (omega arith)

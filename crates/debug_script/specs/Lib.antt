@@ -1,4 +1,5 @@
 pub mod Alike
 pub mod Input
 pub mod Pooling
+pub mod Refusing
 pub mod Replies

@@ -3,11 +3,9 @@
 -- Each waiting tile of the session's book is searched to its end, and no breakpoint is left; with a branch open it is refused. How many
 -- workers search is not in it, nor what they did: whatever tiles and stretches they leave, the answers are the same.
 use Rattle.std.specs.Prelude.{◌==◌, ℕ, Bool, List, [], ◌∷◌, length, codes, if◌then◌else◌}
-use Rattle.lab_book.specs.Book.{BookValue, leased_in}
-use Rattle.debug_language.specs.declared.fault.DebugFault.TheVariants.{AlreadyOpen}
-use Rattle.debug_views.specs.Lines.{debug_refusal}
+use Rattle.lab_book.specs.Book.{BookValue}
 use Rattle.x_debug.specs.Session.{SessionValue, session_on}
-use Rattle.x_debug.specs.Commands.{Answer}
+use Rattle.x_debug.specs.Commands.{Answer, if_none_open}
 use Rattle.x_debug.specs.Loading.{answers}
 use Rattle.alike_books.specs.AlikeBooks.{held_tiles}
 use Rattle.alike_books.specs.Searched.{searched}
@@ -24,7 +22,6 @@ pool_words all = if all then codes "pooled" ∷ [] else codes "refused" ∷ code
 abbrev pub pool_answer : BookValue → BookValue → Answer
 pool_answer b new = answers (pool_words (none_held b)) (session_on new)
 
--- `pool`: each waiting tile is searched to its end, unless a tile is leased
+-- `pool`: each waiting tile is searched to its end, where no branch is open
 abbrev pub answer_pool : SessionValue → Answer
-answer_pool s =
-    if leased_in s.book.tiles == 0 then pool_answer s.book (searched s.book) else answers (debug_refusal AlreadyOpen) s
+answer_pool s = if_none_open s s.worker (pool_answer s.book (searched s.book))

@@ -1,8 +1,9 @@
 //! What a session of a problem answers to command lines.
-ghost use Rattle.std.specs.Prelude.{◌≤◌, length, IfOk, IfSome, OnOk};
+ghost use Rattle.std.specs.Prelude.{◌≤◌, length, IfOk, IfErr, IfSome, OnOk};
 ghost use Rattle.cover_problem.specs.Answers.{ReturnsItems};
 ghost use Rattle.x_debug.specs.Session.{fresh_session};
 ghost use Rattle.debug_script.specs.Alike.{SaysAlike, StaysAlike};
+ghost use Rattle.debug_script.specs.Refusing.{IsWantOr, MayEnd};
 ghost use Rattle.debug_script.specs.Replies.{said_to, left_by, Leaves, replies_to};
 ghost use Rattle.x_texts.specs.Writes.{Writes};
 
@@ -39,6 +40,7 @@ fn exchange<'p, 'a, T: Table + Send + Sync, R: Threads + Wait + Sync, G: Gate>(
     ensures session { IfOk result (λ r. StaysAlike session.entry r.0 (left_by raw.now after.now)) }
     ensures left { IfOk result (λ r. Leaves raw.now after.now r.1) }
     ensures no_longer { IfOk result (λ r. IfSome r.1 (λ rest. length rest.now ≤ length after.now)) }
+    ensures why { IfErr result (IsWantOr MayEnd) }
 {
     let mut session = session;
     let line = without_newline(raw);
@@ -71,7 +73,8 @@ fn answer_lines<T: Table + Send + Sync, R: Threads + Wait + Sync, G: Gate>(
     gate: &G,
     text: &mut Vec<u8>,
 ) -> Result<(), RepliesFault>
-    ensures { SaysAlike result text.old text.new session.entry (λ f. replies_to f commands.now) }
+    ensures text { SaysAlike result text.old text.new session.entry (λ f. replies_to f commands.now) }
+    ensures why { IfErr result (IsWantOr MayEnd) }
 {
     let mut session = session;
     let mut rest = commands;
@@ -88,7 +91,7 @@ fn answer_lines<T: Table + Send + Sync, R: Threads + Wait + Sync, G: Gate>(
 }
 
 /// What a new session of the problem answers to command lines, up to `quit` or the last. A command that is refused is told in the
-/// text; a `pool` whose workers don't finish ends all.
+/// text; a `pool` whose workers don't finish ends all, and neither their number nor a held tile is why.
 pub fn replies<T: Table + Send + Sync, R: Threads + Wait + Sync, G: Gate>(
     rt: &R,
     alloc: Global,
@@ -96,7 +99,8 @@ pub fn replies<T: Table + Send + Sync, R: Threads + Wait + Sync, G: Gate>(
     commands: &[u8],
     gate: &G,
 ) -> Result<Vec<u8>, RepliesFault>
-    ensures { ReturnsItems result (replies_to (fresh_session problem.now) commands.now) }
+    ensures text { ReturnsItems result (replies_to (fresh_session problem.now) commands.now) }
+    ensures why { IfErr result (IsWantOr MayEnd) }
 {
     let session = Session::<T>::new(alloc, problem)?;
     let mut text = Vec::new(alloc);

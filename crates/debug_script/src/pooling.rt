@@ -1,5 +1,5 @@
 //! A session's book is searched by workers on threads.
-ghost use Rattle.std.specs.Prelude.{◌≡◌, IfOk};
+ghost use Rattle.std.specs.Prelude.{◌≡◌, nat_lt, IfOk, IfErr};
 ghost use Rattle.text_lines.specs.Writing.{line_text};
 ghost use Rattle.lab_book.specs.Book.{leased_in};
 ghost use Rattle.lab_book.specs.Tiling.{IsTiling};
@@ -7,6 +7,7 @@ ghost use Rattle.alike_books.specs.Searched.{IsSearched};
 ghost use Rattle.debug_views.specs.Lines.{debug_refusal};
 ghost use Rattle.debug_script.specs.Alike.{SaysAlike, StaysAlike};
 ghost use Rattle.debug_script.specs.Pooling.{none_held, pool_words, answer_pool};
+ghost use Rattle.debug_script.specs.Refusing.{MayRefuse, IsWantOr};
 ghost use Rattle.cover_problem.specs.Answers.{AddsLine};
 
 use crate::answering::append;
@@ -32,6 +33,13 @@ fn pool_line(all: bool) -> &'static [u8]
     }
 }
 
+/// Whether a tile of a book is leased.
+fn has_leased(book: &Book<'_>) -> bool
+    ensures { result ≡ nat_lt 0 (leased_in book.now.tiles) }
+{
+    book.leased() > 0
+}
+
 /// Writes that a branch is open.
 fn refuse_open(text: &mut Vec<u8>) -> Result<(), AllocError>
     ensures { AddsLine result text.old text.new (debug_refusal DebugFault.AlreadyOpen) }
@@ -51,6 +59,7 @@ fn search<'p, T: Table + Send + Sync, R: Threads + Wait + Sync, G: Gate>(
     ensures searched { IfOk result (λ r. IsSearched book.entry r.0) }
     ensures tiling { IfOk result (λ r. IsTiling r.0.problem r.0.branch r.0.first r.0.tiles) }
     ensures all { IfOk result (λ r. r.1 ≡ none_held book.entry) }
+    ensures why { IfErr result (IsWantOr (MayRefuse workers)) }
 {
     match run_pool_on::<T, R, G>(rt, alloc, book, workers, gate) {
         Ok(book) => {
@@ -70,8 +79,8 @@ fn search<'p, T: Table + Send + Sync, R: Threads + Wait + Sync, G: Gate>(
     }
 }
 
-/// Answers `pool`: the waiting tiles of the session's book are searched by so many workers, unless a
-/// tile is leased. No branch is open then, and no breakpoint is left.
+/// Answers `pool`: the waiting tiles of the session's book are searched by so many workers, and no breakpoint is left; with a branch
+/// open, whose tile is leased, it is refused.
 pub(crate) fn pool<'p, T: Table + Send + Sync, R: Threads + Wait + Sync, G: Gate>(
     rt: &R,
     alloc: Global,
@@ -82,8 +91,9 @@ pub(crate) fn pool<'p, T: Table + Send + Sync, R: Threads + Wait + Sync, G: Gate
 ) -> Result<Session<'p, T>, RepliesFault>
     ensures text { SaysAlike result text.old text.new session.entry (λ f. (answer_pool f).text) }
     ensures session { IfOk result (λ s. StaysAlike session.entry s (λ f. (answer_pool f).session)) }
+    ensures why { IfErr result (IsWantOr (MayRefuse workers)) }
 {
-    if session.book().leased() > 0 {
+    if has_leased(session.book()) {
         refuse_open(text)?;
         return Ok(session);
     }
@@ -92,5 +102,6 @@ pub(crate) fn pool<'p, T: Table + Send + Sync, R: Threads + Wait + Sync, G: Gate
     };
     let (book, all) = search::<T, R, G>(rt, alloc, book, workers, gate)?;
     append(text, pool_line(all))?;
-    Ok(Session::on_book(alloc, book))
+    let left = Session::on_book(alloc, book);
+    Ok(left)
 }

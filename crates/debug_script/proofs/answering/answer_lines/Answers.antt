@@ -12,14 +12,14 @@ loop-rest-preserved g c = λ f k.
     (c.loop-rest.invariant f k) c.raw_line.ensures.lines c.in_ok-left.ensures.text c.in-Some.further.now c.in_ok-left.ensures.session
     (λ u. rw c.in-Some.is at (c.in_ok-left.ensures.left u))
 
-pub returns-in_default : goal.returns-in_default
-returns-in_default g c = λ f k.
+pub returns-in_default-clause-text : goal.returns-in_default-clause-text
+returns-in_default-clause-text g c = λ f k.
     answering_ends (c.args.text.now.items ++ debug_replies f 0 (raw_lines c.args.commands.now)) c.loop-rest.session c.in_ok-left.left
     c.loop-rest.text.items c.exchange.new.text.items c.loop-rest.rest.now c.raw_line.result.0.now c.raw_line.result.1.now
     (c.loop-rest.invariant f k) c.raw_line.ensures.lines c.in_ok-left.ensures.text
     (λ u. rw c.in_default.is at (c.in_ok-left.ensures.left u))
 
-pub returns : goal.returns
-returns g c = λ f k.
+pub returns-clause-text : goal.returns-clause-text
+returns-clause-text g c = λ f k.
     answering_done (c.args.text.now.items ++ debug_replies f 0 (raw_lines c.args.commands.now)) c.loop-rest.session c.loop-rest.text.items
     c.loop-rest.rest.now (c.loop-rest.invariant f k) (grind (arith, nat_tests))

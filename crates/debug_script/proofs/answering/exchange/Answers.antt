@@ -1,4 +1,4 @@
-use Rattle.std.proofs.Common.{◌∙◌, Option, Some, None, List, ℕ, ap, sym, refl, take, drop, append-nil}
+use Rattle.std.proofs.Common.{◌∙◌, Option, Some, None, List, ℕ, ap, sym, subst, refl, take, drop, append-nil}
 use Rattle.std.specs.List.{concat}
 use Rattle.debug_language.specs.declared.engine.EngineCommand.TheVariants as engine
 use Rattle.debug_language.specs.Reading.{engine_command_of}
@@ -6,6 +6,8 @@ use Rattle.x_debug.specs.Commands.{answer_line}
 use Rattle.x_debug.specs.Loading.{load_answer}
 use Rattle.alike_sessions.proofs.AnswerLemmas.{line_alike, load_alike}
 use Rattle.debug_script.specs.Input.{without_newline, raw_lines}
+use Rattle.debug_script.specs.Refusing.{IsWantOr, MayRefuse, MayEnd}
+use Rattle.debug_script.proofs.RefusingLemmas.{command_may_end, passed_on}
 use Rattle.debug_script.proofs.AlikeLemmas.{read_as, left_by, text_by, session_by, text_of_alike, session_of_alike}
 use Rattle.debug_script.proofs.answering.exchange.Goals as goal
 
@@ -104,3 +106,13 @@ returns-in-Some-Quit-clause-left g c = λ f.
     left_by f c.args.raw.now (raw_lines c.args.after.now) (Some engine.Quit) (read_as c.args.raw.now c.without_newline-line.result.now c.in-Some-Quit.field-0 engine.Quit c.in-Some-Quit.field-0-is c.in-Some-Quit.ensures
     c.without_newline-line.ensures)
     None refl
+
+pub returns-in_err-session-in-Some-Pool-clause-why : goal.returns-in_err-session-in-Some-Pool-clause-why
+returns-in_err-session-in-Some-Pool-clause-why g c =
+    passed_on (IsWantOr MayEnd) c.in_err-session-in-Some-Pool.field-0.0 c.from_residual-in_err-session-in-Some-Pool.result
+    c.from_residual-in_err-session-in-Some-Pool.ensures.1
+    (command_may_end (without_newline c.args.raw.now) c.in-Some-Pool.workers
+    (sym (read_as c.args.raw.now c.without_newline-line.result.now c.in-Some-Pool.field-0 (engine.Pool c.in-Some-Pool.workers) c.in-Some-Pool.field-0-is
+    c.in-Some-Pool.ensures c.without_newline-line.ensures))
+    c.in_err-session-in-Some-Pool.field-0.0
+    (subst (λ (n : ℕ). IsWantOr (MayRefuse n) c.in_err-session-in-Some-Pool.field-0.0) c.in-Some-Pool.workers-is c.in_err-session-in-Some-Pool.ensures.why))

@@ -1,7 +1,9 @@
 -- The command line.
-use Rattle.std.specs.Prelude.{ℕ, string_bytes, Result, IfErr}
+use Rattle.std.specs.Prelude.{ℕ, ◌≡◌, string_bytes, Result, IfErr}
 use Rattle.byte_streams.specs.Stream.{Stream, Stays, Takes}
+use Rattle.lab_pool.specs.declared.fault.PoolFault.{PoolFault}
 use Rattle.polylab_engine.specs.Outcome.{no_memory}
+use Rattle.debug_script.specs.Refusing.{MayRefuse}
 use Rattle.lab_line.specs.declared.line.LineFault.{LineFault}
 use Rattle.lab_line.specs.declared.line.LineFault.TheVariants.{Help, Usage, OutOfMemory}
 
@@ -10,6 +12,10 @@ abbrev pub status_of : LineFault → ℕ
 status_of (Help text) = 0
 status_of (Usage text) = 2
 status_of OutOfMemory = 4
+
+-- the faults of workers with which a search by so many may be refused: one worker has none
+abbrev pub search_faults : ℕ → PoolFault → Type 0
+search_faults workers fault = (workers ≡ 1 → ⊥) × MayRefuse workers fault
 
 -- what is told then: the writer takes a text of help, the faults take all else
 abbrev pub IsTold : LineFault → Stream → Stream → Stream → Stream → Type 0

@@ -2,7 +2,8 @@
 ghost use Rattle.std.specs.Prelude.{[], ◌∷◌, IfOk, IfErr, Contains, ◌≡◌};
 ghost use Rattle.byte_streams.specs.Stream.{Takes};
 ghost use Rattle.polylab_engine.specs.Ending.{IsProgramRun};
-ghost use Rattle.lab_line.specs.Line.{TellsNoJob, TellsWhy, status_of};
+ghost use Rattle.polylab_engine.specs.Refusing.{TellsAtFour, pool_faults};
+ghost use Rattle.lab_line.specs.Line.{TellsNoJob, TellsWhy, search_faults, status_of};
 
 use crate::line::{LineFault, Request};
 use byte_streams::{Sink, Source, write_whole};
@@ -43,30 +44,27 @@ pub fn status<R: Threads + Wait + Sync, G: Gate, I: Source, O: Sink, F: Sink>(
     ensures known { Contains (0 ∷ 2 ∷ 3 ∷ 4 ∷ 5 ∷ []) result }
     ensures ran { IfOk request (λ asked. IsProgramRun asked.job (I.stream reader.old) (I.stream reader.new)
         (O.stream writer.old) (O.stream writer.new) (F.stream faults.old) (F.stream faults.new) result) }
+    ensures why { IfOk request (λ asked. TellsAtFour result F.stream
+        (pool_faults asked.job (search_faults asked.workers)) faults.old faults.new) }
     ensures refused { IfErr request (λ fault. result ≡ status_of fault) }
     ensures told { TellsWhy request O.stream F.stream writer.old writer.new faults.old faults.new }
     ensures unread { IfErr request (λ _. I.stream reader.new ≡ I.stream reader.old) }
 {
-    match request {
-        Ok(
-            Request {
-                job,
-                workers,
-                table,
-            },
-        ) if workers == 1 && !job.takes_commands() => {
-            run_alone(alloc, job, table, reader, writer, faults)
-        }
-        Ok(
-            Request {
-                job,
-                workers,
-                table,
-            },
-        ) => run_together(rt, alloc, job, table, workers, gate, reader, writer, faults),
+    let asked = match request {
+        Ok(asked) => asked,
         Err(fault) => {
             tell(&fault, writer, faults);
-            fault.status()
+            return fault.status();
         }
+    };
+    let Request {
+        job,
+        workers,
+        table,
+    } = asked;
+    if workers == 1 && !job.takes_commands() {
+        run_alone(alloc, job, table, reader, writer, faults)
+    } else {
+        run_together(rt, alloc, job, table, workers, gate, reader, writer, faults)
     }
 }

@@ -2,6 +2,7 @@
 #![tactic(auto)]
 
 mod exit;
+mod help;
 mod line;
 
 pub use exit::status;

@@ -2,7 +2,7 @@
 
 use crate::class_tests::PENTOMINOES as PENTOMINO_PUZZLE;
 use crate::cover_tests::{cover, ends_with};
-use crate::puzzle_tests::{SOMA as SOMA_PUZZLE, ends_so};
+use crate::puzzle_tests::{SOMA as SOMA_PUZZLE, writes};
 use crate::request::alone;
 use polylab_engine::Job;
 use std::alloc::{AllocError, Global};
@@ -305,7 +305,7 @@ fn are_written<R: Threads + Wait + Sync>(
     let (puzzle, pieces, size, counts) = *row;
     let text = text_of(alloc, size, pieces)?;
     let are_right = are_counted(&text, pieces, counts);
-    Ok(are_right && ends_so(rt, alloc, alone(Job::Options), puzzle, 0, &text, ""))
+    Ok(are_right && writes(rt, alloc, alone(Job::Options), puzzle, &text))
 }
 
 #[test]

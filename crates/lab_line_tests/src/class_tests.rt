@@ -1,6 +1,6 @@
 //! Classes of packings, from a puzzle's text to the output: worked by hand, and counts from the literature.
 
-use crate::puzzle_tests::{DOMINOES, OPTIONAL, SOMA, STRIP, ends_so};
+use crate::puzzle_tests::{DOMINOES, OPTIONAL, SOMA, STRIP, writes};
 use crate::request::alone;
 use polylab_engine::Job;
 
@@ -52,7 +52,7 @@ fn classes_are_counted(rt: HostRuntime) {
     ];
     for (text, written) in rows {
         assert!(rt;
-            ends_so(&rt, rt.alloc(), alone(Job::Classes), text, 0, written, ""),
+            writes(&rt, rt.alloc(), alone(Job::Classes), text, written),
             "for {text}"
         );
     }
@@ -74,7 +74,7 @@ fn known_puzzles_have_their_classes(rt: HostRuntime) {
     ];
     for (text, written) in rows {
         assert!(rt;
-            ends_so(&rt, rt.alloc(), alone(Job::Classes), text, 0, written, ""),
+            writes(&rt, rt.alloc(), alone(Job::Classes), text, written),
             "for {text}"
         );
     }

@@ -1,9 +1,10 @@
 //! Whole inputs through `run`, with outputs that were worked out by hand or printed by other programs.
 
-use crate::puzzle_tests::ends_so;
-use crate::request::{alone, run};
+use crate::puzzle_tests::{refuses, writes};
+use crate::request::alone;
 use byte_streams::Watched;
 use drawn_problems::SMALL;
+use lab_line::status;
 use lab_pool::NoGate;
 use polylab_engine::Job;
 use std::alloc::{AllocError, Global};
@@ -30,10 +31,10 @@ fn status_of<R: Threads + Wait + Sync, I: Read + Drop, O: Write + Drop>(
     writer: O,
     faults: &mut Vec<u8>,
 ) -> u8 {
-    run(
+    status(
         rt,
         alloc,
-        alone(Job::Cover),
+        Ok(alone(Job::Cover)),
         &NoGate,
         &mut Watched::reader(reader),
         &mut Watched::writer(writer),
@@ -71,7 +72,7 @@ static COVERS: [(&str, &str); 4] = [
 fn covers_are_listed(rt: HostRuntime) {
     for (text, output) in COVERS {
         assert!(rt;
-            ends_so(&rt, rt.alloc(), alone(Job::Cover), text, 0, output, ""),
+            writes(&rt, rt.alloc(), alone(Job::Cover), text, output),
             "for {text}"
         );
     }
@@ -99,14 +100,12 @@ static FIRST: [(&str, u64, &str); 6] = [
 fn the_first_covers_are_listed(rt: HostRuntime) {
     for (text, first, output) in FIRST {
         assert!(rt;
-            ends_so(
+            writes(
                 &rt,
                 rt.alloc(),
                 alone(Job::FirstCovers(first)),
                 text,
-                0,
-                output,
-                ""
+                output
             ),
             "for the first {first} of {text}"
         );
@@ -117,7 +116,7 @@ fn the_first_covers_are_listed(rt: HostRuntime) {
 fn the_first_covers_of_no_text_are_refused(rt: HostRuntime) {
     let line = "refused cover 3 UnknownItem line 2\n";
     let job = alone(Job::FirstCovers(1));
-    assert!(rt; ends_so(&rt, rt.alloc(), job, "items a\noption z", 3, "", line));
+    assert!(rt; refuses(&rt, rt.alloc(), job, "items a\noption z", 3, line));
 }
 
 /// Texts that are refused, and the line of each refusal.
@@ -139,7 +138,7 @@ static REFUSED: [(&str, &str); 8] = [
 fn texts_are_refused(rt: HostRuntime) {
     for (text, line) in REFUSED {
         assert!(rt;
-            ends_so(&rt, rt.alloc(), alone(Job::Cover), text, 3, "", line),
+            refuses(&rt, rt.alloc(), alone(Job::Cover), text, 3, line),
             "for {text}"
         );
     }

@@ -1,6 +1,6 @@
 //! Searches that are taken by commands, from the input to the output: rows that were worked by hand.
 
-use crate::puzzle_tests::ends_so;
+use crate::puzzle_tests::{refuses, writes};
 use crate::request::alone;
 use drawn_problems::SMALL;
 use polylab_engine::Job;
@@ -101,7 +101,7 @@ fn are_answered<R: Threads + Wait + Sync>(
     written: &str,
 ) -> Result<bool, AllocError> {
     let text = with_commands(alloc, commands)?;
-    Ok(ends_so(rt, alloc, alone(Job::DebugCover), &text, 0, written, ""))
+    Ok(writes(rt, alloc, alone(Job::DebugCover), &text, written))
 }
 
 #[test]
@@ -118,13 +118,11 @@ fn commands_are_answered(rt: HostRuntime) -> Result<(), Fail> {
 #[test]
 fn no_command_is_answered_by_nothing(rt: HostRuntime) {
     assert!(rt;
-        ends_so(
+        writes(
             &rt,
             rt.alloc(),
             alone(Job::DebugCover),
             "items a\noption a\n",
-            0,
-            "",
             ""
         )
     );
@@ -133,36 +131,32 @@ fn no_command_is_answered_by_nothing(rt: HostRuntime) {
 #[test]
 fn a_refused_problem_takes_no_command(rt: HostRuntime) {
     assert!(rt;
-        ends_so(
+        refuses(
             &rt,
             rt.alloc(),
             alone(Job::DebugCover),
             "items a\noption z\n%%\nstep\n",
             3,
-            "",
             "refused cover 3 UnknownItem line 2\n"
         )
     );
     assert!(rt;
-        ends_so(
+        refuses(
             &rt,
             rt.alloc(),
             alone(Job::DebugPuzzle),
             "piece A 000\n%%\nbox 1 1 1\n",
             3,
-            "",
             "refused puzzle 6 EmptyRegion line 0\n"
         )
     );
     assert!(rt;
-        ends_so(
+        writes(
             &rt,
             rt.alloc(),
             alone(Job::DebugPuzzle),
             "piece A 000\nbox 1 1 1\n%%\nrun\n",
-            0,
-            "visit 1\nmoved 11\nat Done -\nend\n",
-            ""
+            "visit 1\nmoved 11\nat Done -\nend\n"
         )
     );
 }

@@ -1,9 +1,9 @@
 //! The Soma cube's search in slices and in parts, whose counts add up to those that two other programs print of the whole.
 
 use crate::box_tests::soma;
-use crate::request::{alone, run};
+use crate::request::alone;
 use byte_streams::Watched;
-use lab_line::Request;
+use lab_line::{Request, status};
 use lab_pool::NoGate;
 use polylab_engine::Job;
 use std::alloc::{AllocError, Global};
@@ -26,10 +26,10 @@ fn written<R: Threads + Wait + Sync>(
 ) -> Vec<u8> {
     let mut output = Vec::new(alloc);
     let mut faults = Vec::new(alloc);
-    let _status = run(
+    let _status = status(
         rt,
         alloc,
-        request,
+        Ok(request),
         &NoGate,
         &mut Watched::reader(text.as_bytes()),
         &mut Watched::writer(&mut output),

@@ -1,8 +1,8 @@
 //! Puzzles from their text to the output: rows that were worked by hand, and counts from the literature.
 
-use crate::request::{alone, run};
+use crate::request::alone;
 use byte_streams::Watched;
-use lab_line::Request;
+use lab_line::{Request, status};
 use lab_pool::NoGate;
 use polylab_engine::Job;
 use std::alloc::{AllocError, Global};
@@ -20,30 +20,62 @@ pub const SOMA: &str =
     "piece V 000 100 010\npiece L 000 100 200 010\npiece T 000 100 200 110\npiece Z 000 100 110 210\n\
      piece A 000 100 010 011\npiece B 000 100 010 101\npiece P 000 100 010 001\nbox 3 3 3\n";
 
-/// Whether the job on a text ends with this status, writes this text, and tells this line.
-pub fn ends_so<R: Threads + Wait + Sync>(
+/// How a job ended: its status, what it wrote, and what it told.
+#[derive(Drop)]
+struct Ended {
+    status: u8,
+    written: Vec<u8>,
+    told: Vec<u8>,
+}
+
+/// How a job on a text ends.
+fn ending_of<R: Threads + Wait + Sync>(
+    rt: &R,
+    alloc: Global,
+    request: Request,
+    text: &str,
+) -> Ended {
+    let mut written = Vec::new(alloc);
+    let mut told = Vec::new(alloc);
+    let status = status(
+        rt,
+        alloc,
+        Ok(request),
+        &NoGate,
+        &mut Watched::reader(text.as_bytes()),
+        &mut Watched::writer(&mut written),
+        &mut Watched::writer(&mut told),
+    );
+    Ended {
+        status,
+        written,
+        told,
+    }
+}
+
+/// Whether the job on a text is done, writes this, and tells nothing.
+pub fn writes<R: Threads + Wait + Sync>(
+    rt: &R,
+    alloc: Global,
+    request: Request,
+    text: &str,
+    written: &str,
+) -> bool {
+    let ended = ending_of(rt, alloc, request, text);
+    ended.status == 0 && ended.written.as_slice() == written.as_bytes() && ended.told.is_empty()
+}
+
+/// Whether the job on a text ends with this status, writes nothing, and tells this line.
+pub fn refuses<R: Threads + Wait + Sync>(
     rt: &R,
     alloc: Global,
     request: Request,
     text: &str,
     status: u8,
-    written: &str,
     line: &str,
 ) -> bool {
-    let mut output = Vec::new(alloc);
-    let mut faults = Vec::new(alloc);
-    let ended = run(
-        rt,
-        alloc,
-        request,
-        &NoGate,
-        &mut Watched::reader(text.as_bytes()),
-        &mut Watched::writer(&mut output),
-        &mut Watched::writer(&mut faults),
-    );
-    ended == status
-        && output.as_slice() == written.as_bytes()
-        && faults.as_slice() == line.as_bytes()
+    let ended = ending_of(rt, alloc, request, text);
+    ended.status == status && ended.written.is_empty() && ended.told.as_slice() == line.as_bytes()
 }
 
 #[test]
@@ -63,7 +95,7 @@ fn packings_are_shown(rt: HostRuntime) {
     ];
     for (text, written) in rows {
         assert!(rt;
-            ends_so(&rt, rt.alloc(), alone(Job::Solve), text, 0, written, ""),
+            writes(&rt, rt.alloc(), alone(Job::Solve), text, written),
             "for {text}"
         );
     }
@@ -88,14 +120,12 @@ fn the_first_packings_are_shown(rt: HostRuntime) {
     ];
     for (text, first, written) in rows {
         assert!(rt;
-            ends_so(
+            writes(
                 &rt,
                 rt.alloc(),
                 alone(Job::FirstPackings(first)),
                 text,
-                0,
-                written,
-                ""
+                written
             ),
             "for the first {first} of {text}"
         );
@@ -120,7 +150,7 @@ fn packings_are_counted(rt: HostRuntime) {
     ];
     for (text, written) in rows {
         assert!(rt;
-            ends_so(&rt, rt.alloc(), alone(Job::Count), text, 0, written, ""),
+            writes(&rt, rt.alloc(), alone(Job::Count), text, written),
             "for {text}"
         );
     }
@@ -147,7 +177,7 @@ static OPTIONS: [(&str, &str); 3] = [
 fn options_are_written(rt: HostRuntime) {
     for (text, written) in &OPTIONS {
         assert!(rt;
-            ends_so(&rt, rt.alloc(), alone(Job::Options), text, 0, written, ""),
+            writes(&rt, rt.alloc(), alone(Job::Options), text, written),
             "for {text}"
         );
     }
@@ -180,7 +210,7 @@ fn puzzles_are_refused(rt: HostRuntime) {
             alone(Job::Options),
         ] {
             assert!(rt;
-                ends_so(&rt, rt.alloc(), request, text, 3, "", line),
+                refuses(&rt, rt.alloc(), request, text, 3, line),
                 "for {text}"
             );
         }
@@ -203,27 +233,17 @@ fn many_dominoes(rt: &HostRuntime) -> Option<String> {
 fn too_many_placements_are_refused(rt: HostRuntime) {
     let text = many_dominoes(&rt).expect(&rt, "memory");
     let line = "refused place 1 TooManyOptions\n";
-    assert!(rt;
-        ends_so(
-            &rt,
-            rt.alloc(),
-            alone(Job::Count),
-            text.as_str(),
-            3,
-            "",
-            line
-        )
-    );
+    assert!(rt; refuses(&rt, rt.alloc(), alone(Job::Count), text.as_str(), 3, line));
 }
 
 /// How many packings `count` tells of a puzzle and of how many options.
 fn counted<R: Threads + Wait + Sync>(rt: &R, alloc: Global, text: &str, first: &str) -> bool {
     let mut output = Vec::new(alloc);
     let mut faults = Vec::new(alloc);
-    let ended = run(
+    let ended = status(
         rt,
         alloc,
-        alone(Job::Count),
+        Ok(alone(Job::Count)),
         &NoGate,
         &mut Watched::reader(text.as_bytes()),
         &mut Watched::writer(&mut output),
@@ -242,7 +262,7 @@ fn is_hollow_empty<R: Threads + Wait + Sync>(rt: &R, alloc: Global) -> Result<bo
     let text = format!(in alloc; "{SOMA}cut 111\n")?;
     let counts = "packings 0\noptions 452\nsteps 377839\nlevels 1 32 544 3816 13552 21522 7763\n";
     let request = alone(Job::Count);
-    Ok(ends_so(rt, alloc, request, &text, 0, counts, ""))
+    Ok(writes(rt, alloc, request, &text, counts))
 }
 
 #[test]

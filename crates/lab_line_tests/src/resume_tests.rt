@@ -1,6 +1,6 @@
 //! Searches that go on from snapshots. The small problem's run was worked by hand.
 
-use crate::puzzle_tests::ends_so;
+use crate::puzzle_tests::{refuses, writes};
 use crate::request::alone;
 use drawn_problems::SMALL;
 use polylab_engine::Job;
@@ -168,7 +168,7 @@ fn goes_on<R: Threads + Wait + Sync>(
         steps: Some(steps as u64),
         list,
     });
-    Ok(ends_so(rt, alloc, request, &text, 0, &written, ""))
+    Ok(writes(rt, alloc, request, &text, &written))
 }
 
 /// Whether it goes on to the end.
@@ -185,7 +185,7 @@ fn goes_to_the_end<R: Threads + Wait + Sync>(
         steps: None,
         list: true,
     });
-    Ok(ends_so(rt, alloc, request, &text, 0, &written, ""))
+    Ok(writes(rt, alloc, request, &text, &written))
 }
 
 #[test]
@@ -252,7 +252,7 @@ fn part_is_searched<R: Threads + Wait + Sync>(
         steps: None,
         list: false,
     });
-    Ok(ends_so(rt, alloc, request, &text, 0, written, ""))
+    Ok(writes(rt, alloc, request, &text, written))
 }
 
 #[test]
@@ -287,7 +287,7 @@ fn the_second_version_is_kept(rt: HostRuntime) {
             list: false,
         });
         assert!(rt;
-            ends_so(&rt, rt.alloc(), request, text, 0, written, ""),
+            writes(&rt, rt.alloc(), request, text, written),
             "for {text}"
         );
     }
@@ -346,7 +346,7 @@ fn other_texts_are_refused(rt: HostRuntime) {
             list: true,
         });
         assert!(rt;
-            ends_so(&rt, rt.alloc(), request, text, 3, "", line),
+            refuses(&rt, rt.alloc(), request, text, 3, line),
             "for {text}"
         );
     }

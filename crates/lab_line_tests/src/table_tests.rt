@@ -2,7 +2,7 @@
 
 use crate::class_tests::FIVE_DOMINOES;
 use crate::cover_tests::SMALL_OUTPUT;
-use crate::puzzle_tests::{SOMA, ends_so};
+use crate::puzzle_tests::{SOMA, refuses, writes};
 use crate::request::{alone, by_table, shared};
 use drawn_problems::SMALL;
 use lab_line::Request;
@@ -30,8 +30,7 @@ fn writes_by_each<R: Threads + Wait + Sync>(
 ) -> bool {
     let links = by_table(request, TableKind::Links);
     let bits = by_table(request, TableKind::Bits);
-    ends_so(rt, alloc, links, text, 0, written, "")
-        && ends_so(rt, alloc, bits, text, 0, written, "")
+    writes(rt, alloc, links, text, written) && writes(rt, alloc, bits, text, written)
 }
 
 #[test]
@@ -77,52 +76,36 @@ fn wide_text(alloc: Global, items: u32) -> Result<String, AllocError> {
     Ok(text)
 }
 
-/// How `cover` by bit sets and so many workers should end on such a text, which has no cover.
-#[derive(Clone, Copy)]
-struct Row {
-    items: u32,
-    workers: u32,
-    status: u8,
-    written: &'static str,
-    line: &'static str,
+/// `cover` by bit sets and so many workers.
+fn by_bits(workers: u32) -> Request {
+    by_table(shared(Job::Cover, workers), TableKind::Bits)
 }
 
-/// A set of 65,536 options takes 1,024 words, and 1,024 items have 1,048,576 together, the most that there may be.
-static ROWS: [Row; 3] = [
-    Row {
-        items: 1024,
-        workers: 1,
-        status: 0,
-        written: "visits 0\nsteps 7\nlevels 1\n",
-        line: "",
-    },
-    Row {
-        items: 1025,
-        workers: 1,
-        status: 4,
-        written: "",
-        line: "refused memory\n",
-    },
-    Row {
-        items: 1024,
-        workers: 2,
-        status: 4,
-        written: "",
-        line: "refused memory\n",
-    },
-];
-
-/// Whether it ends so.
-fn is_right<R: Threads + Wait + Sync>(rt: &R, alloc: Global, row: Row) -> Result<bool, AllocError> {
-    let text = wide_text(alloc, row.items)?;
-    let request = by_table(shared(Job::Cover, row.workers), TableKind::Bits);
-    Ok(ends_so(rt, alloc, request, &text, row.status, row.written, row.line))
+/// Whether so many workers have no room for bit sets of so many items. A set of 65,536 options takes 1,024 words.
+fn lacks_room<R: Threads + Wait + Sync>(
+    rt: &R,
+    alloc: Global,
+    items: u32,
+    workers: u32,
+) -> Result<bool, AllocError> {
+    let text = wide_text(alloc, items)?;
+    Ok(refuses(rt, alloc, by_bits(workers), &text, 4, "refused memory\n"))
 }
 
 #[test]
 fn bit_sets_have_their_bound(rt: HostRuntime) -> Result<(), Fail> {
-    for row in &ROWS {
-        assert!(rt; is_right(&rt, rt.alloc(), *row)?);
-    }
+    // 1,024 items have 1,048,576 words together, the most that there may be; the text has no cover.
+    let text = wide_text(rt.alloc(), 1024)?;
+    assert!(rt;
+        writes(
+            &rt,
+            rt.alloc(),
+            by_bits(1),
+            &text,
+            "visits 0\nsteps 7\nlevels 1\n"
+        )
+    );
+    assert!(rt; lacks_room(&rt, rt.alloc(), 1025, 1)?);
+    assert!(rt; lacks_room(&rt, rt.alloc(), 1024, 2)?);
     Ok(())
 }

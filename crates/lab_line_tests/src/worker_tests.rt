@@ -3,14 +3,14 @@
 
 use crate::class_tests::FIVE_DOMINOES;
 use crate::cover_tests::{SMALL_OUTPUT, are_equal_covers, equal_options};
-use crate::puzzle_tests::{SOMA, ends_so};
-use crate::request::{alone, run, shared};
+use crate::puzzle_tests::{SOMA, refuses, writes};
+use crate::request::{alone, shared};
 use byte_streams::Watched;
 use cover_bits::BitTable;
 use cover_problem::Problem;
 use drawn_problems::SMALL;
 use lab_book::{Book, Call, Entry};
-use lab_line::Request;
+use lab_line::{Request, status};
 use lab_pool::{Gate, GateCall, NoGate, run_pool};
 use poly_place::compile;
 use poly_texts::{Puzzle, read_puzzle};
@@ -32,10 +32,10 @@ fn written<R: Threads + Wait + Sync, G: Gate>(
 ) -> (u8, Vec<u8>) {
     let mut output = Vec::new(alloc);
     let mut faults = Vec::new(alloc);
-    let ended = run(
+    let ended = status(
         rt,
         alloc,
-        request,
+        Ok(request),
         gate,
         &mut Watched::reader(text),
         &mut Watched::writer(&mut output),
@@ -61,7 +61,7 @@ fn write_the_same<R: Threads + Wait + Sync>(
 fn covers_are_listed_by_any_number_of_workers(rt: HostRuntime) {
     for workers in [1, 2, 8, 32] {
         let request = shared(Job::Cover, workers);
-        assert!(rt; ends_so(&rt, rt.alloc(), request, SMALL, 0, SMALL_OUTPUT, ""));
+        assert!(rt; writes(&rt, rt.alloc(), request, SMALL, SMALL_OUTPUT));
     }
 }
 
@@ -70,7 +70,7 @@ fn packings_are_counted_by_any_number_of_workers(rt: HostRuntime) {
     let counts = "packings 960\noptions 65\nsteps 14487\nlevels 1 10 60 300 960 960\n";
     for workers in [1, 2, 8, 32] {
         let request = shared(Job::Count, workers);
-        assert!(rt; ends_so(&rt, rt.alloc(), request, FIVE_DOMINOES, 0, counts, ""));
+        assert!(rt; writes(&rt, rt.alloc(), request, FIVE_DOMINOES, counts));
     }
 }
 
@@ -80,7 +80,7 @@ fn classes_are_counted_by_any_number_of_workers(rt: HostRuntime) {
                   levels 1 55 1089 10633 48900 110149 72329 11520\nrotations 480\nsymmetries 240\n";
     for workers in [2, 8, 32] {
         let request = shared(Job::Classes, workers);
-        assert!(rt; ends_so(&rt, rt.alloc(), request, SOMA, 0, counts, ""));
+        assert!(rt; writes(&rt, rt.alloc(), request, SOMA, counts));
     }
 }
 
@@ -132,7 +132,7 @@ fn other_numbers_of_workers_are_refused(rt: HostRuntime) {
     for workers in [0, 33] {
         let request = shared(Job::Count, workers);
         let line = "refused pool 1 BadWorkerCount\n";
-        assert!(rt; ends_so(&rt, rt.alloc(), request, FIVE_DOMINOES, 4, "", line));
+        assert!(rt; refuses(&rt, rt.alloc(), request, FIVE_DOMINOES, 4, line));
     }
 }
 

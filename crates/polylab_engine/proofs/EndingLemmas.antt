@@ -13,6 +13,7 @@ use Rattle.polylab_engine.specs.declared.engine.Ending.{Ending}
 use Rattle.polylab_engine.specs.declared.engine.Ending.TheVariants.{Written, Refused, OutOfMemory, Pool, Unread, Unwritten}
 use Rattle.polylab_engine.specs.Outcome.{outcome, to_write, no_memory, pool_refusal, bad_reader, bad_writer}
 use Rattle.polylab_engine.specs.Listing.{IsListed}
+use Rattle.polylab_engine.specs.Refusing.{IsEndingOf, TellsWant}
 use Rattle.polylab_engine.specs.Ending.{IsOutcomeOf, IsUnread, IsEnd, IsTold, status_of}
 use Rattle.polylab_engine.proofs.ListingLemmas.{outcome_lists}
 
@@ -45,6 +46,12 @@ status_known (Refused line) = (1, omega arith, refl)
 status_known OutOfMemory = (2, omega arith, refl)
 status_known (Pool fault) = (2, omega arith, refl)
 status_known _ = (3, omega arith, refl)
+
+-- at status 4 want of memory is told, or a fault that the run may end with
+pub want_is : (May : PoolFault → Type 0) (f f' : Stream) (e : Ending) → IsEndingOf May e → IsTold e f f' → status_of e ≡ 4 → TellsWant May f f'
+want_is May f f' OutOfMemory h t s = inl t
+want_is May f f' (Pool fault) h t s = inr (fault, h, t)
+want_is May f f' _ h t s = absurd (omega arith)
 
 module _ (job : Job) (r r' w w' f f' : Stream) where
   pub done_is : (e : Ending) → IsEnd job r r' w w' e → status_of e ≡ 0 → (text : List ℕ) × IsOutcomeOf job r (Ok text) × TakesAll w w' text

@@ -1,5 +1,6 @@
--- The examples of specs/Account.antt, Stretch.antt, Debugged.antt, Ending.antt, Listing.antt and Jobs.antt, on the small problem.
-use Rattle.std.proofs.Common.{◌≡◌, zero, suc, true, false, Some, None, List, [], ◌∷◌, ◌++◌, codes, refl, lit<, lit≤, arith}
+-- The examples of specs/Account.antt, Stretch.antt, Debugged.antt, Ending.antt, Listing.antt, Jobs.antt and Refusing.antt, on the small problem.
+use Rattle.std.proofs.Common.{◌≡◌, ℕ, zero, suc, ◌+◌, ◌<◌, true, false, Some, None, List, [], ◌∷◌, ◌++◌, codes, refl, lit<, lit≤, arith}
+use Rattle.std.specs.Prelude.{slice_index}
 use Rattle.cover_problem.specs.Problem.{IsProblem}
 use Rattle.cover_problem.specs.Covering.{active, remaining, choice}
 use Rattle.cover_problem.specs.Path.{taken, covered_by}
@@ -12,7 +13,8 @@ use Rattle.x_steps.specs.Levels.{without_last_zeros}
 use Rattle.x_branches.specs.Cut.{cut_state}
 use Rattle.byte_streams.specs.Stream.{Stream, Takes}
 use Rattle.lab_book.specs.Book.{outcome}
-use Rattle.lab_pool.specs.declared.fault.PoolFault.TheVariants.{Held}
+use Rattle.lab_pool.specs.declared.fault.PoolFault.{PoolFault}
+use Rattle.lab_pool.specs.declared.fault.PoolFault.TheVariants.{BadWorkerCount, Held}
 use Rattle.debug_language.specs.Reading.{command_from, engine_from}
 use Rattle.x_debug.specs.Questions.{question_lines}
 use Rattle.x_debug.specs.Commands.{answer}
@@ -20,9 +22,10 @@ use Rattle.debug_script.specs.declared.fault.RepliesFault.TheVariants as replies
 use Rattle.debug_script.specs.Replies.{exchange, debug_replies}
 use Rattle.polylab_engine.specs.declared.job.Job.TheVariants as jobs
 use Rattle.polylab_engine.specs.Jobs.{is_first, takes_commands}
+use Rattle.polylab_engine.specs.Refusing.{pool_faults}
 use Rattle.polylab_engine.specs.declared.fault.JobFault.TheVariants as faults
 use Rattle.polylab_engine.specs.declared.engine.Ending.TheVariants as endings
-use Rattle.polylab_engine.specs.Account.{account_of, report_of}
+use Rattle.polylab_engine.specs.Account.{account_of, report_of, AreSums, PassesBlock}
 use Rattle.polylab_engine.specs.Stretch.{end_at, steps_taken}
 use Rattle.polylab_engine.specs.Debugged.{debug_output, job_fault}
 use Rattle.polylab_engine.specs.Ending.{IsTold, status_of}
@@ -44,6 +47,27 @@ its_account = refl
 its_levels : (report_of (record { visits = []; visited = 1; steps = 2; entered = 0 ∷ 0 ∷ 0 ∷ 1 ∷ 0 ∷ 0 ∷ [] })).levels ≡ 0 ∷ 0 ∷ 0 ∷ 1 ∷ []
 unfolding without_last_zeros
 its_levels = refl
+
+-- to 1 2 the counts 0 3 are added
+added : AreSums (1 ∷ 2 ∷ []) (0 ∷ 3 ∷ []) (1 ∷ 5 ∷ [])
+added = record { levels = refl; each = each }
+  where
+    each : (level : ℕ) → level < 2 → slice_index (1 ∷ 5 ∷ []) level ≡ slice_index (1 ∷ 2 ∷ []) level + slice_index (0 ∷ 3 ∷ []) level
+    each zero l = refl
+    each (suc zero) l = refl
+    each (suc (suc level)) l = absurd (omega (arith, l))
+
+-- and not where a level is left as it was
+not_added : AreSums (1 ∷ 2 ∷ []) (0 ∷ 3 ∷ []) (1 ∷ 2 ∷ []) → ⊥
+not_added s = absurd (let e : 2 ≡ 5 = s.each 1 (omega arith) in omega arith)
+
+-- the next step fills a block of 2^32
+fills : PassesBlock 4294967295 4294967296
+fills = (1, omega arith, omega arith)
+
+-- and no step within a block does
+fills_none : PassesBlock 5 6 → ⊥
+fills_none p = let a = p.1 in let b = p.2 in absurd (omega arith)
 
 -- ---- specs/Stretch.antt
 
@@ -99,3 +123,13 @@ commands_follow = refl
 
 neither : (is_first jobs.Options ≡ false) × (takes_commands jobs.Options ≡ false)
 neither = (refl, refl)
+
+-- ---- specs/Refusing.antt
+
+-- `options` ends with no fault of workers, whatever a search may end with
+no_search : (May : PoolFault → Type 0) (fault : PoolFault) → pool_faults jobs.Options May fault → ⊥
+no_search May fault h = h
+
+-- `debug` doesn't end for the number of workers
+not_for_number : (May : PoolFault → Type 0) → pool_faults jobs.DebugCover May BadWorkerCount → ⊥
+not_for_number May h = h.not_number refl

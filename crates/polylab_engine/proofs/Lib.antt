@@ -3,7 +3,7 @@ pub mod StopLemmas
 mod SearchLemmas
 mod FirstLemmas
 pub mod ResumeLemmas
-mod ToldLemmas
+pub mod ToldLemmas
 pub mod JoinedLemmas
 pub mod ClassifiedLemmas
 mod ListingLemmas

@@ -11,4 +11,5 @@ pub mod Jobs
 pub mod Outcome
 pub mod Listing
 pub mod Ending
+pub mod Refusing
 pub mod Tables

@@ -1,5 +1,6 @@
 //! What a job writes for an input.
-ghost use Rattle.std.specs.Prelude.{◌≡◌, IfOk, Ok, List, []};
+ghost use Rattle.std.specs.Prelude.{◌≡◌, IfOk, IfErr, Ok, List, []};
+ghost use Rattle.polylab_engine.specs.Refusing.{IsWantOrPool, NoPool, cover_faults, puzzle_faults, pool_faults};
 ghost use Rattle.text_lines.specs.Answers.{GivesAt};
 ghost use Rattle.text_lines.specs.Writing.{line_text};
 ghost use Rattle.poly_texts.specs.declared.fault.Fault as puzzle;
@@ -46,7 +47,8 @@ pub fn answer_to<W: Workers>(
     input: Vec<u8>,
 ) -> Result<Answer, JobFault>
     requires { W.ready workers.now }
-    ensures { HasOutcome result (outcome job input.items) }
+    ensures outcome { HasOutcome result (outcome job input.items) }
+    ensures why { IfErr result (IsWantOrPool (pool_faults job (W.refuses workers.now))) }
 {
     match job {
         Job::Cover => cover_answer::<W>(
@@ -124,7 +126,8 @@ fn resume_answer(
     list: bool,
     text: Vec<u8>,
 ) -> Result<Answer, JobFault>
-    ensures { HasOutcome result (resumed_of (resume_output steps list) (snapshot_of text.items)) }
+    ensures outcome { HasOutcome result (resumed_of (resume_output steps list) (snapshot_of text.items)) }
+    ensures why { IfErr result (IsWantOrPool NoPool) }
 {
     match snapshot_in(alloc, text) {
         Ok(snapshot) => Ok(Answer::Text(resume(alloc, table, steps, list, &snapshot)?)),
@@ -153,7 +156,8 @@ fn cover_answer<W: Workers>(
     commands: &[u8],
 ) -> Result<Answer, JobFault>
     requires { W.ready workers.now }
-    ensures { ForReading found (λ read. HasOutcome result (cover_answer job commands.now read)) }
+    ensures outcome { ForReading found (λ read. HasOutcome result (cover_answer job commands.now read)) }
+    ensures why { IfErr result (IsWantOrPool (cover_faults job (W.refuses workers.now))) }
 {
     match found {
         Ok(problem) => Ok(Answer::Text(cover_text::<W>(alloc, workers, job, &problem, commands)?)),
@@ -174,7 +178,8 @@ fn cover_text<W: Workers>(
     commands: &[u8],
 ) -> Result<Vec<u8>, JobFault>
     requires { W.ready workers.now }
-    ensures { ReturnsItems result (listing_of job (raw_lines commands.now) problem.now) }
+    ensures text { ReturnsItems result (listing_of job (raw_lines commands.now) problem.now) }
+    ensures why { IfErr result (IsWantOrPool (cover_faults job (W.refuses workers.now))) }
 {
     match job {
         CoverJob::List => covers::<W>(alloc, workers, problem),
@@ -191,7 +196,8 @@ fn plain_puzzle<W: Workers>(
     text: Vec<u8>,
 ) -> Result<Answer, JobFault>
     requires { W.ready workers.now }
-    ensures { HasOutcome result (puzzle_answer job [] (puzzle_of text.items)) }
+    ensures outcome { HasOutcome result (puzzle_answer job [] (puzzle_of text.items)) }
+    ensures why { IfErr result (IsWantOrPool (puzzle_faults job (W.refuses workers.now))) }
 {
     puzzle_answer::<W>(alloc, workers, job, puzzle_in(alloc, text), &[])
 }
@@ -216,7 +222,8 @@ fn puzzle_answer<W: Workers>(
     commands: &[u8],
 ) -> Result<Answer, JobFault>
     requires { W.ready workers.now }
-    ensures { ForReading found (λ read. HasOutcome result (puzzle_answer job commands.now read)) }
+    ensures outcome { ForReading found (λ read. HasOutcome result (puzzle_answer job commands.now read)) }
+    ensures why { IfErr result (IsWantOrPool (puzzle_faults job (W.refuses workers.now))) }
 {
     match found {
         Ok(puzzle) => packed_answer::<W>(alloc, workers, job, &puzzle, commands),
@@ -237,7 +244,8 @@ fn packed_answer<W: Workers>(
     commands: &[u8],
 ) -> Result<Answer, JobFault>
     requires { W.ready workers.now }
-    ensures { AnswersPuzzle result job commands.now puzzle.now }
+    ensures answer { AnswersPuzzle result job commands.now puzzle.now }
+    ensures why { IfErr result (IsWantOrPool (puzzle_faults job (W.refuses workers.now))) }
 {
     match compile(alloc, puzzle) {
         Ok(compiled) => Ok(Answer::Text(packed_text::<W>(
@@ -260,7 +268,8 @@ fn packed_text<W: Workers>(
     commands: &[u8],
 ) -> Result<Vec<u8>, JobFault>
     requires { W.ready workers.now }
-    ensures { ReturnsItems result (output_of job (raw_lines commands.now) compiled.now) }
+    ensures text { ReturnsItems result (output_of job (raw_lines commands.now) compiled.now) }
+    ensures why { IfErr result (IsWantOrPool (puzzle_faults job (W.refuses workers.now))) }
 {
     match job {
         PuzzleJob::Solve => solve::<W>(alloc, workers, compiled),

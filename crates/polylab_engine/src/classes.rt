@@ -1,4 +1,6 @@
 //! What `count --classes` writes.
+ghost use Rattle.std.specs.Prelude.{IfErr};
+ghost use Rattle.polylab_engine.specs.Refusing.{IsWantOrPool};
 ghost use Rattle.poly_place.specs.Packings.{packing_problem};
 ghost use Rattle.polylab_engine.specs.Classified.{packings_of, classes_output, lines_of_classes};
 ghost use Rattle.polylab_engine.specs.Listing.{AreExactCovers};
@@ -21,7 +23,8 @@ pub fn count_classes<W: Workers>(
     compiled: &Compiled<'_>,
 ) -> Result<Vec<u8>, JobFault>
     requires { W.ready workers.now }
-    ensures { ReturnsItems result (classes_output compiled.now) }
+    ensures text { ReturnsItems result (classes_output compiled.now) }
+    ensures why { IfErr result (IsWantOrPool (W.refuses workers.now)) }
 {
     let problem = compiled.problem();
     problem.is_sound();

@@ -1,4 +1,6 @@
 //! What `cover` writes, with `--first` and without it.
+ghost use Rattle.std.specs.Prelude.{IfErr};
+ghost use Rattle.polylab_engine.specs.Refusing.{IsWantOrPool};
 ghost use Rattle.polylab_engine.specs.First.{cover_end, first_cover_output};
 ghost use Rattle.polylab_engine.specs.Output.{cover_output, report_text};
 ghost use Rattle.x_texts.specs.Writes.{AddsLines};
@@ -22,7 +24,8 @@ pub fn covers<W: Workers>(
     problem: &Problem,
 ) -> Result<Vec<u8>, JobFault>
     requires { W.ready workers.now }
-    ensures { ReturnsItems result (cover_output problem.now) }
+    ensures text { ReturnsItems result (cover_output problem.now) }
+    ensures why { IfErr result (IsWantOrPool (W.refuses workers.now)) }
 {
     let report = workers.search(alloc, problem, true)?;
     Ok(report_text(alloc, &report)?)

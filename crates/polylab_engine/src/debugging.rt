@@ -1,6 +1,9 @@
 //! A search that is taken by commands.
+ghost use Rattle.std.specs.Prelude.{IfErr};
 ghost use Rattle.debug_script.specs.Input.{raw_lines};
+ghost use Rattle.debug_script.specs.Refusing.{MayEnd};
 ghost use Rattle.polylab_engine.specs.Debugged.{debug_output};
+ghost use Rattle.polylab_engine.specs.Refusing.{IsWantOrPool};
 ghost use Rattle.cover_problem.specs.Answers.{ReturnsItems};
 
 use crate::fault::JobFault;
@@ -21,7 +24,8 @@ pub fn debug<T: Table + Send + Sync, R: Threads + Wait + Sync, G: Gate>(
     commands: &[u8],
     gate: &G,
 ) -> Result<Vec<u8>, JobFault>
-    ensures { ReturnsItems result (debug_output (raw_lines commands.now) problem.now) }
+    ensures text { ReturnsItems result (debug_output (raw_lines commands.now) problem.now) }
+    ensures why { IfErr result (IsWantOrPool MayEnd) }
 {
     Ok(replies::<T, R, G>(rt, alloc, problem, commands, gate)?)
 }

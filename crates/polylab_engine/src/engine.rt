@@ -1,11 +1,13 @@
 //! From the input's bytes to the output's.
-ghost use Rattle.std.specs.Prelude.{◌≡◌};
+ghost use Rattle.std.specs.Prelude.{◌≡◌, IfErr};
 ghost use Rattle.std.specs.Thread.{IsSync};
 ghost use Rattle.byte_streams.specs.Stream.{Takes};
 ghost use Rattle.cover_problem.specs.Answers.{Returns, ReturnsItems};
 ghost use Rattle.debug_script.specs.Input.{raw_lines};
 ghost use Rattle.polylab_engine.specs.Debugged.{debug_output};
 ghost use Rattle.polylab_engine.specs.Output.{whole_report};
+ghost use Rattle.polylab_engine.specs.Refusing.{IsWantOrPool, IsEndingOf, NoPool, TellsAtFour, pool_faults};
+ghost use Rattle.debug_script.specs.Refusing.{MayRefuse, MayEnd};
 ghost use Rattle.polylab_engine.specs.Ending.{EndsRun, IsTold, IsProgramRun, status_of};
 
 use crate::answer::{Answer, answer_to};
@@ -96,7 +98,8 @@ fn work<W: Workers, I: Source, O: Sink>(
     writer: &mut O,
 ) -> Ending
     requires { W.ready workers.now }
-    ensures { EndsRun I.stream O.stream job reader.old reader.new writer.old writer.new result }
+    ensures ends { EndsRun I.stream O.stream job reader.old reader.new writer.old writer.new result }
+    ensures why { IsEndingOf (pool_faults job (W.refuses workers.now)) result }
 {
     let bytes = match read_whole(alloc, reader) {
         Ok(bytes) => bytes,
@@ -130,8 +133,9 @@ fn run<W: Workers, I: Source, O: Sink, F: Sink>(
     faults: &mut F,
 ) -> u8
     requires { W.ready workers.now }
-    ensures { IsProgramRun job (I.stream reader.old) (I.stream reader.new) (O.stream writer.old) (O.stream writer.new)
+    ensures run { IsProgramRun job (I.stream reader.old) (I.stream reader.new) (O.stream writer.old) (O.stream writer.new)
         (F.stream faults.old) (F.stream faults.new) result }
+    ensures why { TellsAtFour result F.stream (pool_faults job (W.refuses workers.now)) faults.old faults.new }
 {
     let ending = work(alloc, job, workers, reader, writer);
     tell_ending(faults, &ending);
@@ -147,8 +151,9 @@ pub fn run_alone<I: Source, O: Sink, F: Sink>(
     writer: &mut O,
     faults: &mut F,
 ) -> u8
-    ensures { IsProgramRun job (I.stream reader.old) (I.stream reader.new) (O.stream writer.old) (O.stream writer.new)
+    ensures run { IsProgramRun job (I.stream reader.old) (I.stream reader.new) (O.stream writer.old) (O.stream writer.new)
         (F.stream faults.old) (F.stream faults.new) result }
+    ensures why { TellsAtFour result F.stream (pool_faults job NoPool) faults.old faults.new }
 {
     run(alloc, job, &Alone { table }, reader, writer, faults)
 }
@@ -165,24 +170,28 @@ pub fn run_together<R: Threads + Wait + Sync, G: Gate, I: Source, O: Sink, F: Si
     writer: &mut O,
     faults: &mut F,
 ) -> u8
-    ensures { IsProgramRun job (I.stream reader.old) (I.stream reader.new) (O.stream writer.old) (O.stream writer.new)
+    ensures run { IsProgramRun job (I.stream reader.old) (I.stream reader.new) (O.stream writer.old) (O.stream writer.new)
         (F.stream faults.old) (F.stream faults.new) result }
+    ensures why { TellsAtFour result F.stream (pool_faults job (MayRefuse count)) faults.old faults.new }
 {
     let search = |alloc: Global, problem: &Problem, keeps: bool| -> Result<Report, JobFault>
         requires threads { IsSync R.row }
         requires gate { IsSync G.row }
-        ensures { Returns result (whole_report keeps problem.now) }
+        ensures report { Returns result (whole_report keeps problem.now) }
+        ensures why { IfErr result (IsWantOrPool (MayRefuse count)) }
     { search_together(rt, alloc, problem, table, count, gate, keeps) };
     let replies = |alloc: Global, problem: &Problem, commands: &[u8]| -> Result<Vec<u8>, JobFault>
         requires threads { IsSync R.row }
         requires gate { IsSync G.row }
-        ensures { ReturnsItems result (debug_output (raw_lines commands.now) problem.now) }
+        ensures text { ReturnsItems result (debug_output (raw_lines commands.now) problem.now) }
+        ensures why { IfErr result (IsWantOrPool MayEnd) }
     { debug::<LinkTable, R, G>(rt, alloc, problem, commands, gate) };
     run(
         alloc,
         job,
         &Together {
             table,
+            count,
             search,
             replies,
         },

@@ -1,5 +1,6 @@
 //! What `solve`, `count` and `options` write.
-ghost use Rattle.std.specs.Prelude.{◌<◌};
+ghost use Rattle.polylab_engine.specs.Refusing.{IsWantOrPool};
+ghost use Rattle.std.specs.Prelude.{◌<◌, IfErr};
 ghost use Rattle.cover_problem.specs.Lists.{has};
 ghost use Rattle.cover_problem.specs.ExactCover.{IsExactCover};
 ghost use Rattle.poly_place.specs.Packings.{packing_problem};
@@ -27,7 +28,8 @@ pub fn solve<W: Workers>(
     compiled: &Compiled<'_>,
 ) -> Result<Vec<u8>, JobFault>
     requires { W.ready workers.now }
-    ensures { ReturnsItems result (solve_output compiled.now) }
+    ensures text { ReturnsItems result (solve_output compiled.now) }
+    ensures why { IfErr result (IsWantOrPool (W.refuses workers.now)) }
 {
     let problem = compiled.problem();
     problem.is_sound();
@@ -76,7 +78,8 @@ pub fn count<W: Workers>(
     compiled: &Compiled<'_>,
 ) -> Result<Vec<u8>, JobFault>
     requires { W.ready workers.now }
-    ensures { ReturnsItems result (count_output compiled.now) }
+    ensures text { ReturnsItems result (count_output compiled.now) }
+    ensures why { IfErr result (IsWantOrPool (W.refuses workers.now)) }
 {
     let report = workers.search(alloc, compiled.problem(), false)?;
     Ok(count_text(alloc, compiled, &report)?)

@@ -1,7 +1,9 @@
 //! The run of a problem, whole or up to a visit, and its report.
-ghost use Rattle.std.specs.Prelude.{IfOk};
+ghost use Rattle.std.specs.Prelude.{IfOk, IfErr};
 ghost use Rattle.polylab_engine.specs.First.{IsFirstReport};
 ghost use Rattle.polylab_engine.specs.Output.{whole_report};
+ghost use Rattle.polylab_engine.specs.Refusing.{IsWantOrPool};
+ghost use Rattle.debug_script.specs.Refusing.{MayRefuse};
 ghost use Rattle.cover_problem.specs.Answers.{Returns};
 
 use crate::fault::JobFault;
@@ -83,7 +85,8 @@ pub fn search_together<R: Threads + Wait + Sync, G: Gate>(
     gate: &G,
     keeps: bool,
 ) -> Result<Report, JobFault>
-    ensures { Returns result (whole_report keeps problem.now) }
+    ensures report { Returns result (whole_report keeps problem.now) }
+    ensures why { IfErr result (IsWantOrPool (MayRefuse count)) }
 {
     match table_for(problem, count, table) {
         Some(TableKind::Links) => share_by::<LinkTable, R, G>(
@@ -103,7 +106,8 @@ fn share_by<T: Table + Send + Sync, R: Threads + Wait + Sync, G: Gate>(
     gate: &G,
     keeps: bool,
 ) -> Result<Report, JobFault>
-    ensures { Returns result (whole_report keeps problem.now) }
+    ensures report { Returns result (whole_report keeps problem.now) }
+    ensures why { IfErr result (IsWantOrPool (MayRefuse count)) }
 {
     match run_pool::<T, R, G>(rt, alloc, problem, count, gate) {
         Ok(book) => Ok(Report::of_book(alloc, &book, keeps)?),

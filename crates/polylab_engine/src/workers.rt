@@ -3,6 +3,10 @@ ghost use Rattle.cover_problem.specs.Answers.{Returns, ReturnsItems};
 ghost use Rattle.debug_script.specs.Input.{raw_lines};
 ghost use Rattle.polylab_engine.specs.Debugged.{debug_output};
 ghost use Rattle.polylab_engine.specs.Output.{whole_report};
+ghost use Rattle.polylab_engine.specs.Refusing.{IsWantOrPool, NoPool};
+ghost use Rattle.debug_script.specs.Refusing.{MayRefuse, MayEnd};
+ghost use Rattle.std.specs.Prelude.{IfErr};
+ghost use Rattle.lab_pool.specs.declared.fault.PoolFault.{PoolFault};
 
 use crate::fault::JobFault;
 use crate::report::Report;
@@ -17,13 +21,17 @@ pub trait Workers {
     // They can be called, and what they answer is right.
     ghost ready: { Self → Type 0 };
 
+    // The faults with which they may refuse a search, beside want of memory.
+    ghost refuses: { Self → PoolFault → Type 0 };
+
     /// The table that was asked for, if one was.
     fn table(&self) -> Option<TableKind>;
 
     /// Takes the run of the problem from X1 to Done, and reports it: the totals, and the visits in path order where they are kept.
     fn search(&self, alloc: Global, problem: &Problem, keeps: bool) -> Result<Report, JobFault>
         requires { ready self.now }
-        ensures { Returns result (whole_report keeps problem.now) };
+        ensures report { Returns result (whole_report keeps problem.now) }
+        ensures why { IfErr result (IsWantOrPool (refuses self.now)) };
 
     /// What commands over a problem are answered, from the start of its run on.
     fn replies(
@@ -33,7 +41,8 @@ pub trait Workers {
         commands: &[u8],
     ) -> Result<Vec<u8>, JobFault>
         requires { ready self.now }
-        ensures { ReturnsItems result (debug_output (raw_lines commands.now) problem.now) };
+        ensures text { ReturnsItems result (debug_output (raw_lines commands.now) problem.now) }
+        ensures why { IfErr result (IsWantOrPool MayEnd) };
 }
 
 /// One worker, whose calls return: it takes a machine through the run, in memory that doesn't grow with the run. It has no threads
@@ -45,6 +54,8 @@ pub struct Alone {
 
 impl Workers for Alone {
     ghost ready = { λ _. Unit {0} };
+
+    ghost refuses = { λ _. NoPool };
 
     fn table(&self) -> Option<TableKind> {
         self.table
@@ -68,6 +79,7 @@ impl Workers for Alone {
 #[derive(Drop)]
 pub struct Together<S, D> {
     pub table: Option<TableKind>,
+    pub count: u32,
     pub search: S,
     pub replies: D,
 }
@@ -78,7 +90,11 @@ impl<
 > Workers for Together<S, D> {
     ghost ready = { λ w. S.IsAlwaysCallable w.search × D.IsAlwaysCallable w.replies
         × ((a : _) (p : _) (k : _) (r : _) → S.post w.search a p k r → Returns r (whole_report k p.now))
-        × ((a : _) (p : _) (c : _) (r : _) → D.post w.replies a p c r → ReturnsItems r (debug_output (raw_lines c.now) p.now)) };
+        × ((a : _) (p : _) (k : _) (r : _) → S.post w.search a p k r → IfErr r (IsWantOrPool (MayRefuse w.count)))
+        × ((a : _) (p : _) (c : _) (r : _) → D.post w.replies a p c r → ReturnsItems r (debug_output (raw_lines c.now) p.now))
+        × ((a : _) (p : _) (c : _) (r : _) → D.post w.replies a p c r → IfErr r (IsWantOrPool MayEnd)) };
+
+    ghost refuses = { λ w. MayRefuse w.count };
 
     fn table(&self) -> Option<TableKind> {
         self.table

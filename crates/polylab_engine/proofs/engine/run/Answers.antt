@@ -1,8 +1,8 @@
 use Rattle.polylab_engine.proofs.EndingLemmas as of
 use Rattle.polylab_engine.proofs.engine.run.Goals as goal
 
-pub returns : goal.returns
-returns g c =
+pub returns-clause-run : goal.returns-clause-run
+returns-clause-run g c =
     let job = c.args.job in
     let r = g.I.Source.stream c.args.reader.now in
     let r' = g.I.Source.stream c.work-ending.new.reader in
@@ -11,7 +11,7 @@ returns g c =
     let f = g.F.Sink.stream c.args.faults.now in
     let f' = g.F.Sink.stream c.tell_ending.new.faults in
     let ending = c.work-ending.result in
-    let ends = c.work-ending.ensures in
+    let ends = c.work-ending.ensures.ends in
     let told = c.tell_ending.ensures in
     rw c.status.ensures (record {
       statuses = of.status_known ending;
@@ -27,3 +27,7 @@ returns g c =
       limit = of.limit_is job r r' w w' f f' ending ends;
       beginning = of.beginning_is job r r' w w' f f' ending ends;
     })
+
+pub returns-clause-why : goal.returns-clause-why
+returns-clause-why g c =
+    rw c.status.ensures (of.want_is _ (g.F.Sink.stream c.args.faults.now) (g.F.Sink.stream c.tell_ending.new.faults) c.work-ending.result c.work-ending.ensures.why c.tell_ending.ensures)

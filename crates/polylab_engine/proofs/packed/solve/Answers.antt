@@ -3,4 +3,4 @@ use Rattle.polylab_engine.proofs.packed.solve.Goals as goal
 
 pub push_packings-requires : goal.push_packings-requires
 push_packings-requires g c =
-    report_covers c.args.compiled.now _ _ _ c.problem-problem.ensures c.is_sound.ensures.problem c.in_ok-report.ensures c.visits.ensures
+    report_covers c.args.compiled.now _ _ _ c.problem-problem.ensures c.is_sound.ensures.problem c.in_ok-report.ensures.report c.visits.ensures

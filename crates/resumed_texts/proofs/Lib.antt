@@ -1,0 +1,12 @@
+mod PartLemmas
+mod LengthLemmas
+mod BreakLemmas
+mod WordLemmas
+mod LimitLemmas
+mod OutputLemmas
+mod ChainLemmas
+mod OnceLemmas
+mod LawLemmas
+mod AheadLemmas
+mod ResumedExamples
+mod RunExamples

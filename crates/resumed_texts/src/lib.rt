@@ -1,0 +1,4 @@
+//! Laws of texts that are resumed. No code is here.
+#![tactic(auto)]
+
+pub mod laws;

@@ -3,9 +3,11 @@ snapshot means: here is only looked at how it is spelled, where its branch begin
 
 import functools
 import hashlib
+import itertools
 import os
 import re
 import subprocess
+import tempfile
 
 from frame import TOP, program, stop
 
@@ -27,13 +29,27 @@ def ready():
     return found
 
 
+def asked(words, text):
+    """The lines that the program writes of a text, one by one, each with its end; its refusal ends the script. A character stands for each byte."""
+    with tempfile.TemporaryFile() as told, tempfile.TemporaryFile() as said:
+        told.write(text.encode("latin-1", "replace"))
+        told.seek(0)
+        with subprocess.Popen([ready(), *words], stdin=told, stdout=subprocess.PIPE, stderr=said) as ran:
+            try:
+                for line in ran.stdout:
+                    yield line.decode("latin-1")
+            except BaseException:
+                ran.kill()
+                raise
+        if ran.returncode:
+            said.seek(0)
+            why = said.read().decode("latin-1").strip()
+            stop("`polylab %s` ended with status %d%s" % (" ".join(words), ran.returncode, ": " + why if why else ""))
+
+
 def ask(words, text):
-    """What the program writes of a text; its refusal ends the script. A character stands for each byte."""
-    ran = subprocess.run([ready(), *words], input=text.encode("latin-1", "replace"), stdout=subprocess.PIPE, stderr=subprocess.PIPE, check=False)
-    if ran.returncode:
-        said = ran.stderr.decode("latin-1").strip()
-        stop("`polylab %s` ended with status %d%s" % (" ".join(words), ran.returncode, ": " + said if said else ""))
-    return ran.stdout.decode("latin-1")
+    """All that the program writes of a text."""
+    return "".join(asked(words, text))
 
 
 def problem_text(text):
@@ -161,10 +177,10 @@ class Sums:
 
         Algorithm X takes the steps X2, X3, X4, X7, X8 and X5 `past` for each path that is no visit, X2 and X8 for each visit, X5 and X6
         for each option taken, and X1. So a whole run has 8 steps for each path, less 4 for each visit, less 1. At a cut of N choices
-        4 N of these are still to come, as the paths up to there are begun and not left."""
+        4 N of these are still to come, as the paths up to there are begun and not left. And the empty path is met at the start alone."""
         ahead = 0 if lo is None else 4 * len(lo)
         behind = 1 if hi is None else 4 * len(hi)
-        return self.steps == 8 * sum(self.levels) - 4 * self.visits + ahead - behind
+        return self.levels[:1] == [int(lo is None)] and self.steps == 8 * sum(self.levels) - 4 * self.visits + ahead - behind
 
     def lines(self, job, options):
         """The lines of `count`, or those of `cover` without its visits."""
@@ -188,9 +204,11 @@ def answer_of(text, what):
         return stop("%s is no answer: %s" % (what, spoilt))
 
 
-def saved(replies, at):
-    """The text of a snapshot in replies of the debugger, from the line `snapshot K` at that place on."""
-    words = replies[at].split() if at < len(replies) else []
-    if len(words) != 2 or words[0] != "snapshot" or not NUMBER.fullmatch(words[1]):
-        stop("the debugger saved nothing: %s" % (replies[at] if at < len(replies) else "no reply"))
-    return "".join(line + "\n" for line in replies[at + 1 : at + 1 + int(words[1])])
+def saved(replies):
+    """The text of the next snapshot in replies of the debugger, an iterator that is moved past it: of the lines behind `snapshot K`."""
+    line = "no reply"
+    for line in replies:
+        words = line.split()
+        if len(words) == 2 and words[0] == "snapshot" and NUMBER.fullmatch(words[1]):
+            return "".join(itertools.islice(replies, int(words[1])))
+    return stop("the debugger saved nothing: %s" % line.rstrip("\n"))

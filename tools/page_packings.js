@@ -1,0 +1,259 @@
+"use strict";
+// The page of packings: the solid that is turned, its pieces and layers, and the list of packings to choose from.
+
+const view = get("view"), pen = view.getContext("2d");
+const marks = [...new Set(DATA.packings.join(""))].filter(mark => mark !== "_").sort();
+const nameOf = body => DATA.names[marks[body]] || marks[body];
+const numberOfMark = new Map(marks.map((mark, body) => [mark, body]));
+const bodiesOf = packing => Array.from(DATA.packings[packing], mark => mark === "_" ? -1 : numberOfMark.get(mark));
+const START = firstView([0, 1, 2].map(axis => 1 + Math.max(...DATA.cells.map(cell => cell[axis]))));
+const APART = 2.2;                               // how far pieces go where they are pulled apart most
+const looked = {...START}, hidden = new Set();
+const firstOf = [];                              // of each class the first packing
+DATA.classes?.forEach((number, k) => { firstOf[number] ??= k; });
+let packing = 0, listed = [], solid, paints, picture = new Picture(), isMoving = false, settling = 0;
+
+function paintsOf(shape) {
+  const near = neighbours(marks.length, shape.cells, (x, y, z) => shape.at(x, y, z));
+  return coloursOf(marks.length, near).map(colour => DATA.palette[colour]);
+}
+
+// The packing that is chosen, drawn: at once while it is turned, and with more samples when it rests.
+function draw() {
+  const scale = window.devicePixelRatio || 1, width = Math.round(view.clientWidth * scale), height = Math.round(view.clientHeight * scale);
+  if (!width || !height) return;
+  if (view.width !== width || view.height !== height) { view.width = width; view.height = height; }
+  const upto = +get("upto").value, shown = new Set();
+  const faces = solid.faces((body, cell) => body >= 0 && !hidden.has(body) && cell[2] < upto);
+  faces.forEach(face => shown.add(face.body));
+  const samples = Math.max(1, Math.min(3, Math.floor(Math.sqrt((isMoving ? 1.5e6 : 6e6) / (width * height)))));
+  const moves = solid.moves(get("apart").value / 100 * APART), unit = unitOf(solid, moves, looked, width, height);
+  const line = Math.max(scale, Math.min(2.2 * scale, 0.03 * unit));
+  pen.putImageData(picture.draw(solid, faces, moves, looked, {width, height, samples, paints: paints.map(rgb), line}), 0, 0);
+  const spots = picture.spots(solid);
+  if (get("names").checked) drawNames(pen, spots, nameOf, scale);
+  drawAxes();
+  const cells = solid.cells.filter((cell, k) => shown.has(solid.bodies[k]) && cell[2] < upto).length;
+  Object.assign(document.body.dataset, {packing: packing + 1, cells, pieces: shown.size, total: DATA.packings.length, listed: listed.length,
+    turn: looked.turn.toFixed(2), tilt: looked.tilt.toFixed(2), zoom: looked.zoom.toFixed(2), unit: unit.toFixed(1), scale, samples,
+    named: [...spots].map(([body, spot]) => [nameOf(body), spot.x.toFixed(0), spot.y.toFixed(0), spot.round.toFixed(1)].join(":")).join(" ")});
+}
+
+// Draws in the next frame; more finely once nothing has moved for a while.
+let waits = false;
+function soon(moves) {
+  isMoving = Boolean(moves);
+  clearTimeout(settling);
+  if (moves) settling = setTimeout(() => soon(false), 140);
+  if (waits) return;
+  waits = true;
+  requestAnimationFrame(() => { waits = false; draw(); });
+}
+
+function drawAxes() {
+  const axes = axesOf(looked), svg = get("axes");
+  svg.textContent = "";
+  ["x", "y", "z"].forEach((name, k) => {
+    const [x, y] = axes[k], line = svg.appendChild(document.createElementNS(svg.namespaceURI, "line"));
+    if (Math.hypot(x, y) < 0.15) return line.remove();
+    const end = {x1: 42, y1: 42, x2: 42 + 27 * x, y2: 42 + 27 * y};
+    for (const key in end) line.setAttribute(key, end[key].toFixed(1));
+    const text = svg.appendChild(document.createElementNS(svg.namespaceURI, "text"));
+    text.setAttribute("x", (42 + 36 * x).toFixed(1));
+    text.setAttribute("y", (42 + 36 * y).toFixed(1));
+    text.textContent = name;
+  });
+}
+
+// The layers as tables, with thick lines between pieces.
+function drawLayers() {
+  const box = get("layers"), [wide, high, deep] = solid.size;
+  const inRegion = new Set(solid.cells.map(cell => cell.join()));
+  box.textContent = "";
+  for (let z = 0; z < deep; z++) {
+    const table = make(box, "table");
+    if (deep > 1) table.createCaption().textContent = "layer z = " + z;
+    for (let y = 0; y < high; y++) {
+      const row = table.insertRow();
+      for (let x = 0; x < wide; x++) {
+        const cell = row.insertCell(), body = solid.at(x, y, z);
+        if (!inRegion.has([x, y, z].join())) continue;
+        if (body >= 0) cell.textContent = nameOf(body);
+        cell.style.background = body < 0 || hidden.has(body) ? "#fff" : paints[body];
+        if (body >= 0 && !hidden.has(body) && isDark(paints[body])) cell.style.color = "#fff";
+        const line = (dx, dy) => inRegion.has([x + dx, y + dy, z].join()) && solid.at(x + dx, y + dy, z) === body ? "0.5px solid #0003" : "1.5px solid var(--line)";
+        Object.assign(cell.style, {borderLeft: line(-1, 0), borderRight: line(1, 0), borderTop: line(0, -1), borderBottom: line(0, 1)});
+      }
+    }
+  }
+}
+
+function drawPieces() {
+  const box = get("pieces");
+  box.textContent = "";
+  marks.forEach((mark, body) => {
+    if (!solid.boxes[body].cells) return;
+    const label = make(box, "label"), tick = make(label, "input"), dot = make(label, "i");
+    tick.type = "checkbox";
+    tick.checked = !hidden.has(body);
+    tick.dataset.piece = nameOf(body);
+    dot.style.background = paints[body];
+    label.append(nameOf(body));
+    tick.onchange = () => { if (tick.checked) hidden.delete(body); else hidden.add(body); drawLayers(); soon(); };
+  });
+}
+
+// What the packing is among those like it, in words.
+function sayClass() {
+  const alike = DATA.classes ? DATA.packings.map((_, k) => k).filter(k => DATA.classes[k] === DATA.classes[packing]) : [];
+  get("alike").textContent = !DATA.classes ? "" : "Class " + (1 + DATA.classes[packing]) + " of " + firstOf.length + ": number " + (1 + alike.indexOf(packing)) +
+    " of the " + alike.length + " that symmetries of the region carry onto one another.";
+  return alike;
+}
+
+// Which packings are listed: all, one of each class, or those like this one.
+function chooseList(which) {
+  const all = DATA.packings.map((_, k) => k);
+  if (which === "classes") listed = [...firstOf];
+  else if (which === "alike") listed = all.filter(k => DATA.classes[k] === DATA.classes[packing]);
+  else listed = all;
+  if (which === "classes" && !listed.includes(packing)) packing = firstOf[DATA.classes[packing]];
+  thumbs.fresh();
+  chosen();
+}
+
+function choose(next) {
+  if (!(next >= 0 && next < DATA.packings.length) || next === packing) return;
+  packing = next;
+  if (!listed.includes(packing)) { get("through").value = "all"; chooseList("all"); }
+  chosen();
+}
+
+function stepBy(by) { const at = listed.indexOf(packing) + by; if (at >= 0 && at < listed.length) choose(listed[at]); }
+
+function chosen() {
+  solid = new Solid(DATA.cells, bodiesOf(packing), marks.length);
+  paints = paintsOf(solid);
+  get("number").value = packing + 1;
+  const at = listed.indexOf(packing);
+  get("back").disabled = at <= 0;
+  get("next").disabled = at >= listed.length - 1;
+  sayClass();
+  drawPieces();
+  drawLayers();
+  thumbs.show();
+  soon();
+}
+
+// The list of small pictures: those in sight are drawn, each once it comes there.
+const thumbs = {
+  wide: 104, high: 118, box: get("thumbs"), inner: null, picture: new Picture(),
+  fresh() { this.box.textContent = ""; this.inner = make(this.box, "div"); this.box.scrollTop = 0; this.drawn = new Map(); },
+  columns() { return Math.max(1, Math.floor(this.box.clientWidth / this.wide)); },
+  show() {
+    const at = Math.max(0, listed.indexOf(packing)), top = Math.floor(at / this.columns()) * this.high, box = this.box;
+    if (top < box.scrollTop) box.scrollTop = top;
+    this.fill();
+    if (top + this.high > box.scrollTop + box.clientHeight) box.scrollTop = top + this.high - box.clientHeight;
+    this.fill();
+  },
+  fill() {
+    const columns = this.columns(), rows = Math.ceil(listed.length / columns), first = Math.floor(this.box.scrollTop / this.high) * columns;
+    const last = Math.min(listed.length, first + columns * (2 + Math.ceil(this.box.clientHeight / this.high)));
+    this.inner.style.height = rows * this.high + "px";
+    for (const [at, made] of this.drawn) if (at < first || at >= last) { made.remove(); this.drawn.delete(at); }
+    for (let at = first; at < last; at++) {
+      if (!this.drawn.has(at)) this.drawn.set(at, this.made(listed[at]));
+      const made = this.drawn.get(at), now = listed[at] === packing;
+      Object.assign(made.style, {left: at % columns * this.wide + "px", top: Math.floor(at / columns) * this.high + "px"});
+      made.classList.toggle("now", now);
+      made.setAttribute("aria-selected", now);
+      if (now) this.box.setAttribute("aria-activedescendant", made.id);
+    }
+  },
+  made(which) {
+    const made = make(this.inner, "div", "", "thumb"), small = make(made, "canvas"), scale = Math.max(1, window.devicePixelRatio || 1);
+    made.id = "packing-" + (which + 1);
+    made.setAttribute("role", "option");
+    made.append(which + 1);
+    made.onclick = () => choose(which);
+    small.width = 96 * scale;
+    small.height = 90 * scale;
+    const shape = new Solid(DATA.cells, bodiesOf(which), marks.length), faces = shape.faces(body => body >= 0);
+    const how = {width: small.width, height: small.height, samples: 2, paints: paintsOf(shape).map(rgb), line: scale};
+    small.getContext("2d").putImageData(this.picture.draw(shape, faces, shape.moves(0), START, how), 0, 0);
+    return made;
+  },
+};
+
+function tilted(by) { looked.tilt = Math.max(-Math.PI / 2, Math.min(Math.PI / 2, looked.tilt + by)); }
+function zoomed(by) { looked.zoom = Math.max(0.2, Math.min(8, looked.zoom * by)); }
+const ACTS = {
+  left: () => { looked.turn -= 0.1; }, right: () => { looked.turn += 0.1; }, up: () => tilted(-0.1), down: () => tilted(0.1),
+  larger: () => zoomed(1.1), smaller: () => zoomed(1 / 1.1), first: () => Object.assign(looked, START),
+};
+const KEYS = {ArrowLeft: "left", ArrowRight: "right", ArrowUp: "up", ArrowDown: "down", "+": "larger", "=": "larger", "-": "smaller", "0": "first"};
+
+// One finger or the mouse turns; two fingers make it larger and smaller.
+const held = new Map();
+function spread() { const [one, other] = [...held.values()]; return Math.hypot(one.x - other.x, one.y - other.y); }
+function moved(event) {
+  const was = held.get(event.pointerId);
+  if (!was) return;
+  const before = held.size === 2 ? spread() : 0, now = {x: event.clientX, y: event.clientY};
+  held.set(event.pointerId, now);
+  if (held.size === 2 && before > 0) zoomed(spread() / before);
+  if (held.size === 1) { looked.turn += (now.x - was.x) / 150; tilted((now.y - was.y) / 150); }
+  soon(true);
+}
+
+function listen() {
+  for (const id in ACTS) get(id).onclick = () => { ACTS[id](); soon(); };
+  view.onkeydown = event => { if (KEYS[event.key]) { event.preventDefault(); ACTS[KEYS[event.key]](); soon(true); } };
+  view.onpointerdown = event => {
+    held.set(event.pointerId, {x: event.clientX, y: event.clientY});
+    try { view.setPointerCapture(event.pointerId); } catch { /* (a pointer that is gone) */ }
+  };
+  view.onpointermove = moved;
+  view.onpointerup = view.onpointercancel = event => held.delete(event.pointerId);
+  view.addEventListener("wheel", event => { event.preventDefault(); zoomed(event.deltaY < 0 ? 1.1 : 1 / 1.1); soon(true); }, {passive: false});
+  get("number").onchange = event => { choose(Math.floor(+event.target.value) - 1); event.target.value = packing + 1; };
+  get("back").onclick = () => stepBy(-1);
+  get("next").onclick = () => stepBy(1);
+  get("through").onchange = event => chooseList(event.target.value);
+  get("apart").oninput = get("names").onchange = () => soon(true);
+  get("upto").oninput = () => { sayLayers(); soon(true); };
+  get("all").onclick = () => { hidden.clear(); chosen(); };
+  get("none").onclick = () => { marks.forEach((_, body) => hidden.add(body)); chosen(); };
+  thumbs.box.onscroll = () => thumbs.fill();
+  thumbs.box.onkeydown = event => {
+    const page = thumbs.columns() * 2, by = {ArrowLeft: -1, ArrowRight: 1, ArrowUp: -thumbs.columns(), ArrowDown: thumbs.columns(), PageUp: -page, PageDown: page,
+      Home: -listed.indexOf(packing), End: listed.length - 1 - listed.indexOf(packing)}[event.key];
+    if (by !== undefined) { event.preventDefault(); stepBy(by); }
+  };
+  new ResizeObserver(() => { soon(); thumbs.show(); }).observe(view);
+}
+
+function sayLayers() {
+  const upto = +get("upto").value;
+  get("uptosaid").textContent = upto < solid.size[2] ? "up to z = " + (upto - 1) : "all";
+}
+
+function begin() {
+  const deep = 1 + Math.max(...DATA.cells.map(cell => cell[2])), first = +asked.get("packing");
+  get("upto").max = get("upto").value = deep;
+  get("layerslider").hidden = deep === 1;
+  get("number").max = DATA.packings.length;
+  get("total").textContent = DATA.packings.length;
+  get("through").parentElement.hidden = !DATA.classes;
+  if (asked.has("apart")) get("apart").value = asked.get("apart");
+  if (asked.has("upto")) get("upto").value = asked.get("upto");
+  (asked.get("hide") || "").split("").forEach(name => marks.forEach((_, body) => { if (nameOf(body) === name) hidden.add(body); }));
+  if (first >= 1 && first <= DATA.packings.length) packing = Math.floor(first) - 1;
+  if (DATA.classes && ["classes", "alike"].includes(asked.get("through"))) get("through").value = asked.get("through");
+  listen();
+  chooseList(get("through").value);
+  sayLayers();
+  draw();
+}
+begin();

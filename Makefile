@@ -3,16 +3,18 @@ PREFIX = /usr/local
 ZSH_FUNCTIONS = $(PREFIX)/share/zsh/site-functions
 # The scripts that are installed; the others are for this checkout.
 TOOLS = answer check_packings convert count_packings draw_packings explain join one_of_each page parts session slices slurm_array unique \
-	covers.py frame.py puzzles.py snapshots.py
+	burrtools.py colours.py covers.py frame.py packed.py puzzles.py searched.py snapshots.py solids.py page.css page_common.js page_packings.js page_search.js page_solid.js
 SHARE = $(DESTDIR)$(PREFIX)/share
 LIB = $(DESTDIR)$(PREFIX)/lib/polylab
 # What behind the gate is --all-there: a crate whose tests aren't built is then a fault, and else skipped.
 ALL_THERE =
 # The program that is installed.
 PROGRAM = crates/polylab/out/polylab
+# What the build wrote of it: its sources, and the revision that --version tells.
+BUILT = crates/polylab/out/built
 
 # The puzzles and cover texts of examples/ that take seconds; the others take up to some minutes each.
-QUICK = two-dominoes optional soma-cube soma-without-centre tetracubes-2x2x8 tetracubes-2x4x4 pentominoes-20x3 \
+QUICK = two-dominoes optional soma-cube soma-without-centre tetracubes-2x2x8 tetracubes-2x4x4 tetracubes-two-handed-2x4x4 pentominoes-20x3 \
 	pentominoes-scott five-pentominoes-5x5 slothouber-graatsma slothouber-graatsma-copies dominoes-6x6 y-pentominoes-10x5 \
 	two-sets-of-tetrominoes-8x5 two-sets-of-tetrominoes-10x4 solid-pentominoes-2x3x10
 # Puzzles and cover texts that are also searched by workers.
@@ -24,15 +26,15 @@ LONG_COVERS = pent-10x6 langford-12
 # Puzzles whose first packing comes at once, and whose count nobody waits for.
 FIRST = first/bricks-6x6x6
 
-.PHONY: all quick help build ci layout wrong-bodies bench gallery gallery-long check-docs check-edits check-names check-lemmas check-waiting check-sentences check-ownership check-frame check-install check-tools check-texts check-parts \
+.PHONY: all quick help build ci layout wrong-bodies bench gallery gallery-long check-docs check-edits check-names check-lemmas check-waiting check-sentences check-ownership check-frame check-install check-dist check-tools check-texts check-parts \
 	check-page \
 	check-completions check-words check-statuses check-memory check-memory-all install uninstall dist
 
 # The program, the quick examples, all checks of documents and scripts, and a sample of growths that are refused.
-all: check-names check-lemmas check-waiting check-sentences check-ownership check-frame check-install build gallery check-tools check-texts check-parts check-docs check-words check-completions check-page check-statuses check-memory
+all: check-names check-lemmas check-edits check-waiting check-sentences check-ownership check-frame check-install check-dist build gallery check-tools check-texts check-parts check-docs check-words check-completions check-page check-statuses check-memory
 
 # The checks that take a minute, once the program is built: a landing has to pass them after the gate.
-quick: check-names check-lemmas check-waiting check-sentences check-ownership check-install build gallery check-docs check-words check-statuses check-memory
+quick: check-names check-lemmas check-edits check-waiting check-sentences check-ownership check-install build gallery check-docs check-words check-statuses check-memory
 
 # What there is to do, each with the first line that stands above it here.
 help:
@@ -92,6 +94,10 @@ check-frame:
 check-install:
 	@tools/check_install
 
+# Packs a checkout with stand-ins: the tar works where it is unpacked, and the Debian package has no error of lintian.
+check-dist:
+	@tools/check_dist
+
 # Puts packings through the checker and the drawer; a spoilt one has to be found.
 check-tools: build
 	@tools/check_tools
@@ -147,24 +153,32 @@ check-page: build
 check-completions:
 	@tools/check_completions
 
-# Puts the program, man page, completions, examples, documents and scripts below PREFIX.
+# Puts the program, man pages, completions, examples, documents and scripts below PREFIX; tools/NAME is the command polylab-NAME there.
 install: build
 	mkdir -p "$(DESTDIR)$(PREFIX)/bin" "$(LIB)" "$(SHARE)/man/man1" "$(SHARE)/bash-completion/completions" "$(DESTDIR)$(ZSH_FUNCTIONS)" \
 		"$(SHARE)/fish/vendor_completions.d" "$(SHARE)/doc/polylab" "$(SHARE)/polylab/tools"
 	cp "$(PROGRAM)" "$(LIB)/polylab"
+	cp "$(BUILT)" "$(LIB)/built"
 	cp tools/given.sh "$(LIB)/given.sh"
 	cp tools/installed.sh "$(DESTDIR)$(PREFIX)/bin/polylab"
 	cp docs/polylab.1 "$(SHARE)/man/man1/polylab.1"
 	cp completions/polylab.bash "$(SHARE)/bash-completion/completions/polylab"
 	cp completions/_polylab "$(DESTDIR)$(ZSH_FUNCTIONS)/_polylab"
 	cp completions/polylab.fish "$(SHARE)/fish/vendor_completions.d/polylab.fish"
-	tools/install_docs "$(SHARE)/doc/polylab"
+	tools/install_docs "$(SHARE)/doc/polylab" $(TOOLS)
 	for tool in $(TOOLS); do cp "tools/$$tool" "$(SHARE)/polylab/tools" || exit 1; done
+	for tool in $(TOOLS); do case $$tool in *.py | *.js | *.css) ;; *) name=polylab-$$(echo "$$tool" | tr _ -); \
+		ln -sf "../share/polylab/tools/$$tool" "$(DESTDIR)$(PREFIX)/bin/$$name" && \
+		ln -sf polylab "$(SHARE)/bash-completion/completions/$$name" && \
+		ln -sf polylab.fish "$(SHARE)/fish/vendor_completions.d/$$name.fish" || exit 1 ;; esac; done
+	tools/install_man "$(DESTDIR)$(PREFIX)/bin" "$(SHARE)/man/man1"
 
 # Takes away what install put below PREFIX.
 uninstall:
-	rm -f "$(DESTDIR)$(PREFIX)/bin/polylab" "$(SHARE)/man/man1/polylab.1" "$(SHARE)/bash-completion/completions/polylab" \
-		"$(DESTDIR)$(ZSH_FUNCTIONS)/_polylab" "$(SHARE)/fish/vendor_completions.d/polylab.fish"
+	for name in polylab $(TOOLS:%=polylab-%); do name=$$(echo "$$name" | tr _ -); \
+		rm -f "$(DESTDIR)$(PREFIX)/bin/$$name" "$(SHARE)/man/man1/$$name.1" "$(SHARE)/bash-completion/completions/$$name" \
+		"$(SHARE)/fish/vendor_completions.d/$$name.fish"; done
+	rm -f "$(DESTDIR)$(ZSH_FUNCTIONS)/_polylab"
 	rm -rf "$(SHARE)/doc/polylab" "$(SHARE)/polylab" "$(LIB)"
 
 # A tar file and a Debian package with checksums, in dist/, of a checkout without changes; each names what it was proved from.

@@ -32,3 +32,12 @@ _polylab() {
 }
 # Where none of these words fits, as for the file after a job, bash names files.
 complete -o default -F _polylab polylab
+# The scripts that are installed beside it tell their options themselves.
+_polylab_script() {
+    local word=${COMP_WORDS[COMP_CWORD]}
+    COMPREPLY=()
+    [[ $word != -* ]] || mapfile -t COMPREPLY < <(compgen -W "$("${COMP_WORDS[0]}" --words 2> /dev/null)" -- "$word")
+}
+mapfile -t _polylab_scripts < <(compgen -c polylab-)
+[ "${#_polylab_scripts[@]}" = 0 ] || complete -o default -F _polylab_script "${_polylab_scripts[@]}"
+unset _polylab_scripts

@@ -21,3 +21,8 @@ complete -c polylab -n '__fish_seen_subcommand_from resume' -l steps -x -d 'step
 complete -c polylab -n '__fish_seen_subcommand_from resume' -l list -d 'list the visits too'
 complete -c polylab -n $first -l version -d 'tell the version'
 complete -c polylab -n 'not __fish_seen_subcommand_from help; and not __fish_contains_opt help' -l help -d 'tell what goes in and comes out'
+# The scripts that are installed beside it tell their options themselves.
+for script in $PATH/polylab-*
+    set -l name (basename $script)
+    complete -c $name -n 'string match -q -- "-*" (commandline -ct)' -f -a "($name --words 2> /dev/null)"
+end

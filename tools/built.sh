@@ -35,7 +35,7 @@ mark() {
     {
         wanted "$1"
         echo "kit $(rt version)"
-        echo "revision $(git -C "$here" describe --always --dirty --abbrev=12 2> /dev/null || echo unknown)"
+        echo "revision $(git -C "$here" describe --always --dirty --abbrev=40 2> /dev/null || echo unknown)"
     } > "$stamp.new"
     mv "$stamp.new" "$stamp"
 }

@@ -2,10 +2,12 @@
 Python, NOT PROVED; it trusts nothing but the file system.
 
 A script ends with 0 where it is done, with 1 where it isn't or what it looked for is so (one sentence tells), and with 2 where a word of
-its command line is wrong (one line names it). --help and --version go to standard output."""
+its command line is wrong (one line names it). --help, --version and --words, the options that the shells offer, go to standard output.
+tools/NAME is installed as the command polylab-NAME, with hyphens, and its help then says so."""
 
 import contextlib
 import os
+import re
 import sys
 
 VERSION = "0.1.0"
@@ -139,7 +141,7 @@ def run(main, doc, names=("[FILE]",), flags=(), values=None):
     except KeyboardInterrupt:
         status = "%s: stopped" % NAME
     except Stop as why:
-        status = "%s: %s" % (NAME, why)
+        status = "%s: %s" % (NAME, installed_words(str(why)))
     except OSError as error:
         status = "%s: %s: %s" % (NAME, error.filename or "standard output", error.strerror or error)
     except MemoryError:
@@ -155,14 +157,27 @@ def run(main, doc, names=("[FILE]",), flags=(), values=None):
     sys.exit(status)
 
 
+def installed_words(text):
+    """What is told, in which each script has the name of its command where this one was called by its own."""
+
+    def named(found):
+        is_there = os.path.isfile(os.path.join(TOP, "tools", found[1]))
+        return "polylab-" + found[1].replace("_", "-") if is_there else found[0]
+
+    return re.sub(r"(?<![\w./])tools/(\w+)\b(?!\.)", named, text).replace("./polylab ", "polylab ") if NAME.startswith("polylab-") else text
+
+
 def told(main, doc, words, names, flags, values):
-    """The script's status: of the help, of the version, or of what it does."""
+    """The script's status: of the help, of the version, of its options, or of what it does."""
     asked = words[: words.index("--")] if "--" in words else words
     if "-h" in asked or "--help" in asked:
-        print(doc.strip())
+        print(installed_words(doc.strip()))
         return 0
     if "-V" in asked or "--version" in asked:
         print("%s of Polylab %s" % (NAME, VERSION))
+        return 0
+    if asked == ["--words"]:
+        print(*sorted(["--help", "--version", *flags, *values]), sep="\n")
         return 0
     options, found = given(words, flags, values, names)
     return main(options, *found)

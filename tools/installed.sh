@@ -7,7 +7,7 @@
 set -eu
 self=$(readlink -f "$0")
 lib=$(dirname "$(dirname "$self")")/lib/polylab
-program=$lib/polylab
+program=$lib/polylab stamp=$lib/built slices=polylab-slices
 # shellcheck source=tools/given.sh
 . "$lib/given.sh"
 start "$@"

@@ -12,8 +12,9 @@ DIGITS = "0123456789abcdefghijklmnopqrstuv"
 LETTERS = "0123456789ABCDEFGHIJKLMNOPQRSTUVWXYZabcdefghijklmnopqrstuvwxyz"
 
 
-# A piece: its name, its cells, `maybe` or `any` where it needn't be used once, and whether it may be reflected.
-Piece = namedtuple("Piece", ("name", "cells", "need", "mirror"))
+# A piece: its name, its cells, `maybe` or `any` where it needn't be used once, whether it may be reflected, and the symbols by which it is
+# drawn: its name, or of a piece used any number of times those of its copies, in the order of their least cells.
+Piece = namedtuple("Piece", ("name", "cells", "need", "mirror", "symbols"))
 
 
 class Fault(Stop):
@@ -145,15 +146,20 @@ class Puzzle(Reader):
         if len(rest) < 2:
             self.stop("BadLine", "`%s` needs %s and cells" % (kind[0], "names" if several else "a name"), kind)
         word = rest[0]
-        if set(word[0]) - set(LETTERS) or (len(word[0]) < 2 if several else len(word[0]) != 1):
+        if set(word[0]) - set(LETTERS) or (len(word[0]) < 2 if several else len(word[0]) != 1 and need != "any"):
             what = "doesn't name two pieces or more: two or more digits and letters" if several else "is no name of a piece: one digit or letter"
+            if need == "any":
+                what = "is no name of a piece: one digit or letter, or more by which its copies are drawn in turn"
             self.stop("BadLine", "`%s` %s" % (word[0], what), word)
         with self.going_on():
             for at, name in enumerate(word[0]):
-                if name in word[0][:at] or any(name == piece.name for piece in self.pieces):
+                if name in word[0][:at] or any(name in piece.symbols for piece in self.pieces):
                     self.stop("RepeatedPiece", "a piece %s came before" % name, word)
         cells = self.read_cells(rest[1:], True)
-        self.pieces += [Piece(name, cells, need, mirror) for name in word[0]]
+        if need == "any":
+            self.pieces.append(Piece(word[0][0], cells, need, mirror, word[0]))
+        else:
+            self.pieces += [Piece(name, cells, need, mirror, name) for name in word[0]]
         if several:
             self.equal.append(word[0])
 
@@ -246,7 +252,7 @@ def word(place):
 
 def moved(cells):
     """The cells, sorted, with the least corner of their bounding box at 0 0 0."""
-    low = [min(place[axis] for place in cells) for axis in range(3)]
+    low = [min(place[axis] for place in cells) for axis in range(3)] if cells else []
     return tuple(sorted(tuple(place[axis] - low[axis] for axis in range(3)) for place in cells))
 
 

@@ -21,6 +21,7 @@ impl Answers {
     pub fn new() -> Answers
         ensures { result.told ≡ [] }
     {
+        // The list is a ghost: of the answers nothing stands in memory.
         Answers {}
     }
 

@@ -38,6 +38,7 @@ impl<R: Read> Asked<R> {
     {
         let answer = match self.inner.read(chunk) {
             Ok(count) => Ok(count),
+            // The kind of error isn't kept. None is tried again, not even one that a signal made.
             Err(_) => Err(Failed),
         };
         self.answers = self.answers.with(&answer);
@@ -55,6 +56,7 @@ impl<W: Write> Asked<W> {
         ensures answers { NotesCount self.old.answers.told self.new.answers.told result }
     {
         let answer = match self.inner.write(text) {
+            // A writer that takes nothing of some bytes would be asked for ever.
             Ok(count) if count > 0 || text.is_empty() => Ok(count),
             _ => Err(Failed),
         };

@@ -9,9 +9,11 @@ use crate::stream::Source;
 use std::alloc::{AllocError, Global};
 
 /// The most bytes that are read.
+// 2^27. An input without an end would take all memory before anything is known of it.
 const MOST_INPUT: usize = 134_217_728;
 
 /// How many bytes one read asks for.
+// A pipe of Linux holds so many.
 const CHUNK: usize = 65_536;
 
 /// Why the input was not read.
@@ -51,9 +53,11 @@ fn read_some<S: Source>(
     ensures fault { IfErr result (StopsAfter (length text.old.items)
         (S.stream source.old) (S.stream source.new)) }
 {
+    // The chunk is apart from the text: so the text grows by what came, and a failed read leaves it as it is.
     let Ok(count) = source.read(chunk) else {
         return Err(InputFault::Failed);
     };
+    // As a difference it can't overflow: the text is never longer than the limit.
     if count > MOST_INPUT - text.len() {
         return Err(InputFault::PastLimit);
     }
@@ -73,12 +77,14 @@ pub fn read_whole<S: Source>(alloc: Global, source: &mut S) -> Result<Vec<u8>, I
     ensures fault { IfErr result (StopsReading (S.stream source.old) (S.stream source.new)) }
     ensures memory { IfErr result (LacksMemoryWithin (S.stream source.old) (S.stream source.new)) }
 {
+    // It takes no memory until bytes come, and then by doubling.
     let mut text = Vec::new(alloc);
     let Ok(mut chunk) = zeros(alloc, CHUNK) else {
         return Err(InputFault::OutOfMemory);
     };
     loop {
         let count = read_some(source, &mut chunk, &mut text)?;
+        // The chunk isn't empty, so only the end is read as no bytes.
         if count == 0 {
             return Ok(text);
         }

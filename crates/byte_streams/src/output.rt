@@ -16,6 +16,7 @@ pub fn write_whole<S: Sink>(sink: &mut S, text: &[u8]) -> Result<(), Failed>
         let Ok(count) = sink.write(rest) else {
             return Err(Failed);
         };
+        // At least one byte was taken, so the rest gets shorter and the loop ends.
         let (_, left) = rest.split_at(count);
         rest = left;
     }

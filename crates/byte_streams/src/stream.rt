@@ -5,6 +5,7 @@ ghost use Rattle.byte_streams.specs.Stream.{Stream, IsSound, HasFailed, AnswersO
 
 /// A read or a write failed.
 #[derive(Clone, Copy, Debug, PartialEq, Eq)]
+// It has no field: one failure is as good as another, and no caller asks for its kind.
 pub struct Failed;
 
 /// Where bytes come from.

@@ -27,6 +27,7 @@ fn note(columns: &mut [u64], words: usize, option: &[u32], place: usize)
     ensures each { (k : ℕ) → in_row columns.new k ≡ (in_row columns.old k || is_noted words place option.now k) }
 {
     for item in option {
+        // The columns stand one after another, so one number tells the bit among them all.
         add(columns, (*item - 1) as usize * (64 * words) + place);
     }
 }
@@ -51,6 +52,7 @@ fn full_word(count: u32, place: u32) -> u64
     ensures { result ≡ bits.full_word count place }
 {
     let rest = count - 64 * place;
+    // A word that isn't the last is full, and a shift by 64 has no meaning.
     if rest < 64 {
         (1u64 << rest) - 1
     } else {

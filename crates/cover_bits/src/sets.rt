@@ -15,6 +15,7 @@ pub struct Part {
 pub(crate) fn words_for(count: u32) -> usize
     ensures { result ≡ parts.words_for count }
 {
+    // The last word may be part of one: its other bits stay 0.
     (count as usize + 63) / 64
 }
 
@@ -54,8 +55,8 @@ pub(crate) fn count_both(parts: &[Part], row: &[u64]) -> u32
 
 /// Writes the parts of what the first set has and the second hasn't, and tells how many these are.
 ///
-/// A word that is 0 is written too, and the next one over it: so the loop has no branch. None of them is kept, since a few levels down most
-/// words of a set are 0, and each later count goes over what was kept.
+/// A word that is 0 is written too, and the next one over it: so the loop has no branch. None of them is kept, since a few
+/// levels down most words of a set are 0, and each later count goes over what was kept.
 #[inline(always)]
 pub(crate) fn without(into: &mut [Part], parts: &[Part], row: &[u64]) -> u32
     requires within { All (λ part. part.place < length row.now) parts.now }
@@ -93,6 +94,7 @@ fn shared_from(part: Part, row: &[u64], start: u32) -> u64
     ensures { result ≡ shared_from row.now start part }
 {
     let word = part.word & row[part.place as usize];
+    // All numbers of a place past that of `start` are from `start` on, and none of a place before it is.
     if part.place > start / 64 {
         word
     } else if part.place == start / 64 {
@@ -166,6 +168,7 @@ pub(crate) fn last_both(parts: &[Part], row: &[u64], end: u32) -> Option<u32>
     ensures some { IfSome result (λ k. IsLastBelow (in_both parts.now row.now) end k) }
     ensures none { result ≡ None → NoneBelow (in_both parts.now row.now) end }
 {
+    // From the front, though the last is wanted: only steps back ask for it.
     let mut last = None;
     for part in parts {
         let word = shared_below(*part, row, end);
@@ -184,6 +187,7 @@ pub(crate) fn first_in(row: &[u64], start: u32) -> Option<u32>
     ensures none { result ≡ None → NoneFrom (in_row row.now) start }
 {
     for place in start / 64..row.len() as u32 {
+        // Shared with all numbers: the row's own word is left.
         let part = Part {
             word: u64::MAX,
             place,

@@ -33,15 +33,16 @@ pub struct BitTable {
     words: usize,
     /// For each item a row of so many words: the options that have it.
     columns: Vec<u64>,
-    /// For each number of covered items, from 0 up to all, room for the parts of a set. Of these sets those up to the covered items of today are
-    /// written: the options left then. All room is taken when the table is made, so covering takes no memory.
+    /// For each number of covered items, from 0 up to all, room for the parts of a set: the options that are left with so many
+    /// covered. The sets up to the number of items that are covered are written. All room is taken when the table is made, so
+    /// covering takes no memory.
     parts: Vec<Part>,
     /// How many parts each of these sets has.
     counts: Vec<u32>,
     /// One row: the active items.
     active: Vec<u64>,
-    /// For each item how many were covered before it, or `NEVER`. Which set an item's list is in has to be told by its time, since the list of a
-    /// covered item stays as it was when the item was covered.
+    /// For each item how many were covered before it, or `NEVER`. Which set an item's list is in has to be told by its time, since
+    /// the list of a covered item stays as it was when the item was covered.
     times: Vec<u32>,
     /// The covered items, with room for all.
     covered: Vec<u32>,
@@ -96,6 +97,7 @@ fn write_next(parts: &mut [Part], counts: &mut [u32], words: usize, depth: usize
     ensures next { IsNextWithout words depth column.now parts.old parts.new counts.old counts.new }
     ensures words { (m : ℕ) → slice_index_or column.now m 0 < 2 ^ 64 }
 {
+    // Parted, so that one set is read while the next is written.
     let (before, next) = parts.split_at_mut((depth + 1) * words);
     let left = set(before, counts, words, depth);
     counts[depth + 1] = without(next, left, column);
@@ -135,6 +137,7 @@ fn after(number: Option<u32>) -> Option<u32>
     requires { (k : ℕ) → number ≡ Some k → k + 1 < 2 ^ 32 }
     ensures { result ≡ option_map (λ k. k + 1) number }
 {
+    // Sets count from 0, and items and options from 1.
     match number {
         Some(number) => Some(number + 1),
         None => None,
@@ -151,6 +154,7 @@ impl BitTable {
     {
         let place = (item - 1) as usize;
         let time = self.times[place] as usize;
+        // `NEVER` is later than all: of an item that isn't covered the list is in the last set.
         let depth = self.covered.len().min(time);
         (
             set(&self.parts, &self.counts, self.words, depth),
@@ -172,8 +176,10 @@ impl Table for BitTable {
         let mut columns = empty_row(alloc, items as usize * words)?;
         note_all(&mut columns, words, problem);
         let none = Part { word: 0, place: 0 };
+        // A set has a part for each word at most, and there is one set more than items.
         let mut parts = vec![in alloc; none; (items as usize + 1) * words]?;
         fill(&mut parts, words, options);
+        // The other sets are written, and their parts counted, by `cover`.
         let mut counts = vec![in alloc; 0u32; items as usize + 1]?;
         counts[0] = words as u32;
         let mut active = empty_row(alloc, words_for(items))?;
@@ -206,6 +212,7 @@ impl Table for BitTable {
 
     #[inline(always)]
     fn next_item(&self, item: u32) -> Option<u32> {
+        // In the set an item has the number below its own, so what comes from its own number on stands after it.
         after(first_in(&self.active, item))
     }
 
@@ -231,6 +238,7 @@ impl Table for BitTable {
         // Where a field is read, what the whole keeps true is known: here, that the option has a number.
         let _primary = &self.primary;
         let (left, column) = self.list(item);
+        // In the column, too, an option has the number below its own.
         after(next_both(left, column, option))
     }
 
@@ -238,6 +246,7 @@ impl Table for BitTable {
         // Where a field is read, what the whole keeps true is known: here, that the option has a number.
         let _primary = &self.primary;
         let (left, column) = self.list(item);
+        // The option itself has the number below its own, at which the search ends.
         after(last_both(left, column, option - 1))
     }
 
@@ -254,6 +263,7 @@ impl Table for BitTable {
 
     #[inline(always)]
     fn uncover(&mut self, item: u32) {
+        // With this the last set is let go: what stands past the covered items is room.
         self.covered.pop();
         let place = (item - 1) as usize;
         self.times[place] = NEVER;

@@ -8,6 +8,7 @@ pub record Place : Type 0 where
   pub at : Ptr
   pub len : ℕ
 
+-- the place that begins there and has this room
 abbrev pub place : Ptr → ℕ → Place
 place at len = record { at = at; len = len }
 

@@ -100,6 +100,7 @@ impl<A: Allocator> Block<A> {
         requires { FitsInBlock len }
         ensures { Returns result (replicate len blank) }
     {
+        // Each place is written here, so who reads one never meets a place that is empty.
         let (base, mut slots, allocation) = allocate(&alloc, len)?;
         // Copied through a reference: round a loop the prover follows no copy of an argument whose type has a model in it.
         let each = &blank;
@@ -137,6 +138,7 @@ impl<A: Allocator> Block<A> {
 
 impl<A: Allocator> Drop for Block<A> {
     fn drop(self) {
+        // Taken apart, since none of the parts is `Drop`: each has to go to `deallocate`.
         let Block {
             base,
             row,

@@ -19,9 +19,11 @@ pub(crate) fn starts(alloc: Global, problem: &Problem) -> Result<Vec<u32>, Alloc
 {
     let options = problem.options();
     let mut starts = Vec::with_capacity(alloc, options as usize + 1)?;
+    // The header stands at 0, the heads up to `items`, and then the first spacer.
     let mut next = problem.items() + 2;
     starts.push_reserved(next);
     for k in 0..options {
+        // One more, for the spacer past the option.
         next += problem.option(k + 1).len() as u32 + 1;
         starts.push_reserved(next);
     }
@@ -33,6 +35,7 @@ fn empty_head(item: u16, primary: u16) -> Entry
     requires { 0 < item }
     ensures { result ≡ list.empty_head primary item }
 {
+    // A secondary item is its own neighbour: it stands in no row, and taking it out of one changes nothing.
     let is_primary = item <= primary;
     let after = if item < primary { item + 1 } else { 0 };
     let head = Offset::at(item as u32);
@@ -55,6 +58,7 @@ fn write_heads(block: &mut Block, items: u32, primary: u32)
     block.write(
         0,
         Entry {
+            // The row of active items is a ring through the header, before which the last item to cover stands.
             left: primary as u16,
             right: 1,
             ..Entry::blank()
@@ -72,12 +76,14 @@ fn append_node(block: &mut Block, index: u32, item: u32, start: u32, end: u32)
 {
     let head = Offset::at(item);
     let up = block.read(item).up;
+    // A node is appended as one that is put back: it names the last of the list and the head, which then name it and count it.
     block.write(
         index,
         Entry {
             top: head,
             up,
             down: head,
+            // Both fit in 16 bits: an option has each item once at most.
             left: (index - start) as u16,
             right: (end - index) as u16,
         },
@@ -97,6 +103,7 @@ fn append_option(block: &mut Block, start: u32, option: &[u32], number: u32)
         append_node(block, index, *item, start, end);
         index += 1;
     }
+    // The other fields of this spacer belong to the option before it, and stay.
     let before = block.read(start - 1);
     block.write(
         start - 1,
@@ -108,6 +115,7 @@ fn append_option(block: &mut Block, start: u32, option: &[u32], number: u32)
     block.write(
         end,
         Entry {
+            // The literature negates the number, by which it tells a spacer from a node. Here the counts of a node lead to the spacer.
             top: Offset::at(number),
             up: Offset::at(start),
             ..Entry::blank()
@@ -123,6 +131,7 @@ pub(crate) fn fresh(alloc: Global, problem: &Problem, starts: &[u32]) -> Result<
 {
     let items = problem.items();
     let options = problem.options();
+    // The block is made at its full size: a block that grows would be copied.
     let mut block = Block::make(alloc, starts[options as usize] as usize, Entry::blank())?;
     write_heads(&mut block, items, problem.primary());
     for k in 0..options {

@@ -31,6 +31,7 @@ impl Offset {
         requires { index < 2 ^ 28 }
         ensures { result ≡ index }
     {
+        // An entry takes 16 bytes.
         Offset { bytes: index * 16 }
     }
 
@@ -84,6 +85,7 @@ impl Offset {
 
 /// An entry of the block: the header, an item's head, a node, or a spacer. Its numbers up to 2^28 are offsets, and those up to 2^16
 /// are counts of entries.
+// Sixteen bytes: four stand in a line of the processor's cache.
 #[derive(Clone, Copy)]
 pub struct Entry {
     /// Of a head the length of its list, of a node its item, of a spacer the number of the option before it. One field serves all, so
@@ -93,6 +95,7 @@ pub struct Entry {
     pub up: Offset,
     /// The entry below it in its list; of a spacer the last node of the option after it, or 0.
     pub down: Offset,
+    // Numbers of items and counts of nodes fit in 16 bits; with 32, an entry would take 20 bytes.
     /// Of the header and a head the active item before it, of a node the number of nodes before it in its option.
     pub left: u16,
     /// Of the header and a head the active item after it, of a node the number of entries from it to the spacer past its option.
@@ -119,7 +122,10 @@ impl Entry {
 /// negated), and its links up and down. (TAOCP volume 4B, section 7.2.2.1, table 1.)
 #[derive(Clone, Copy)]
 pub struct Node {
+    /// Of a head its length, of a node its item, of a spacer 0 or less.
     pub top_or_len: i64,
+    /// The index of the entry above; of a spacer the first node of the option before it, or 0.
     pub up: u32,
+    /// The index of the entry below; of a spacer the last node of the option after it, or 0.
     pub down: u32,
 }

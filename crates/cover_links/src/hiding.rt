@@ -17,9 +17,11 @@ fn unlink(row: &mut Row, base: Base, index: Offset)
     ensures place { row.new.place ≡ row.old.place }
     ensures entries { row.new.entries ≡ unlinked row.old.entries index }
 {
+    // The entry keeps its own links, by which it can be put back (formulas (1) and (2)).
     let Entry { up, down, .. } = row.read(base, index);
     let above = row.read(base, up);
     row.write(base, up, Entry { down, ..above });
+    // Read after the entry above is written: in a list of one node both are the head.
     let below = row.read(base, down);
     row.write(base, down, Entry { up, ..below });
 }
@@ -55,6 +57,7 @@ fn unlink_item(row: &mut Row, base: Base, item: Offset)
     ensures entries { row.new.entries ≡ item_unlinked row.old.entries item }
 {
     let Entry { left, right, .. } = row.read(base, item);
+    // The number of an item is the place of its head.
     let place = Offset::at(left as u32);
     let before = row.read(base, place);
     row.write(base, place, Entry { right, ..before });
@@ -106,6 +109,7 @@ fn hide_node(row: &mut Row, base: Base, index: Offset)
 {
     let item = row.read(base, index).top;
     unlink(row, base, index);
+    // Read after `unlink`, which may have written to the head as a neighbour.
     let head = row.read(base, item);
     row.write(
         base,
@@ -126,6 +130,7 @@ fn unhide_node(row: &mut Row, base: Base, index: Offset)
     ensures entries { row.new.entries ≡ node_unhidden row.old.entries index }
 {
     let item = row.read(base, index).top;
+    // The count goes up before the links come back, in the reverse order of `hide_node`.
     let head = row.read(base, item);
     row.write(
         base,
@@ -172,9 +177,11 @@ fn hide(row: &mut Row, base: Base, index: Offset)
     ensures place { row.new.place ≡ row.old.place }
     ensures entries { row.new.entries ≡ hidden row.old.entries index }
 {
+    // The counts stand at the node itself, so no spacer is read. (Formula (13) steps onto the spacer, and goes back by its link.)
     let Entry { left, right, .. } = row.read(base, index);
     let start = index.minus(left as u32);
     let end = index.plus(right as u32);
+    // The node itself stays in its list: the item of that list is being covered, and the list is walked.
     let mut node = place_after(index, start, end);
     while !node.is(index) {
         hide_node(row, base, node);
@@ -208,6 +215,7 @@ fn cover_in(row: &mut Row, base: Base, item: Offset)
     ensures entries { row.new.entries ≡ item_covered row.old.entries item }
 {
     let head = row.read(base, item);
+    // Hiding doesn't touch the item's own list, so its length tells how many turns there are.
     let mut node = head.down;
     for _turn in 0..head.top.index() {
         hide(row, base, node);
@@ -223,8 +231,10 @@ fn uncover_in(row: &mut Row, base: Base, item: Offset)
     ensures place { row.new.place ≡ row.old.place }
     ensures entries { row.new.entries ≡ item_uncovered row.old.entries item }
 {
+    // The last step of `cover_in` is undone first.
     relink_item(row, base, item);
     let head = row.read(base, item);
+    // From the last node up: links work only when they come back in the reverse order (formulas (14) and (15)).
     let mut node = head.up;
     for _turn in 0..head.top.index() {
         unhide(row, base, node);

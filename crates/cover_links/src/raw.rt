@@ -28,6 +28,7 @@ impl Clone for Base {
 
 impl Copy for Base {}
 
+// It is an address: who reads by it has to lend the slots, and who writes has to own them.
 unsafe impl Send for Base {}
 
 unsafe impl Sync for Base {}
@@ -103,6 +104,7 @@ pub(crate) fn deallocate<A: Allocator>(
     requires { (slots.at ≡ base.ptr) × (length slots.slots ≡ len) × (allocation.at ≡ base.ptr)
         × (allocation.len ≡ len) × (allocation.alloc ≡ alloc.now) }
 {
+    // Both end here: no entry can be read after this, and the row can't be freed again.
     let Slots { mark: _ } = slots;
     let Allocation { mark: _ } = allocation;
     unsafe {
@@ -122,6 +124,7 @@ impl Slots {
             × ((x : Entry) × (get_or self.now.slots i None ≡ Some x))) }
         ensures { (i : ℕ) → bytes ≡ i * entry_size → get_or self.now.slots i None ≡ Some result.now }
     {
+        // What makes it safe is the clause above: the bytes lead to a place of the row, and an entry was put there.
         unsafe { &*((base.ptr as *mut u8).add(bytes) as *mut Entry) }
     }
 
@@ -132,6 +135,7 @@ impl Slots {
         ensures { (self.new.at ≡ self.old.at)
             × ((i : ℕ) → bytes ≡ i * entry_size → self.new.slots ≡ slice_set self.old.slots i (Some entry)) }
     {
+        // What makes it safe is the clause above: the bytes lead to a place of the row. What stood there needs no drop.
         unsafe { ((base.ptr as *mut u8).add(bytes) as *mut Entry).write(entry) }
     }
 }

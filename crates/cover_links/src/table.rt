@@ -58,9 +58,11 @@ fn option_at(block: &Block, item: u32, node: u32) -> Option<u32>
     requires { (k : ℕ) × table.IsHeadOrNode block.now item node k }
     ensures { (k : ℕ) → table.IsHeadOrNode block.now item node k → result ≡ table.nonzero k }
 {
+    // A head stands at its item's number, so the walk has come back to it.
     if node == item {
         return None;
     }
+    // Past the option stands its spacer, which has the number: a node has no room for it.
     let spacer = node + block.read(node).right as u32;
     Some(block.read(spacer).top.index())
 }
@@ -74,6 +76,7 @@ impl LinkTable {
             (entry_at (block_of self.now.problem self.now.covered) x) }
     {
         let entry = self.block.read(x);
+        // Past the heads only a spacer has nothing after it in its option.
         let is_spacer = x > self.items && entry.right == 0;
         let top = entry.top.index() as i64;
         Node {
@@ -99,11 +102,13 @@ impl LinkTable {
     {
         let start = self.starts[(option - 1) as usize];
         let end = self.starts[option as usize] - 1;
+        // The search keeps the numbers of options, where the literature keeps nodes: so an option of few items is gone through.
         for index in start..end {
             if self.block.read(index).top.index() == item {
                 return index;
             }
         }
+        // The option has the item, so this is never met.
         start
     }
 }
@@ -132,6 +137,7 @@ impl Table for LinkTable {
     }
 
     fn first_item(&self) -> Option<u32> {
+        // The header is entry 0.
         nonzero(self.block.read(0).right as u32)
     }
 

@@ -88,6 +88,7 @@ fn take_once(
     ensures marked { OnOk result (AreStamps stamp option.new.items marks.new) }
 {
     let place = item as usize - 1;
+    // Marks of earlier options are below the stamp, so no mark is cleared between two options.
     told(marks[place] != stamp, Fault::ItemTwiceInOption)?;
     option.push(item)?;
     marks[place] = stamp;
@@ -152,6 +153,7 @@ fn take_option(
     ensures option { TakesItems result names.now [] taken.new.items words.now }
     ensures marks { OnOk result (All (λ mark. mark ≤ stamp) marks.new) }
 {
+    // The room of the option before is used again.
     taken.clear();
     take_items(names, marks, stamp, taken, words)
 }
@@ -172,6 +174,7 @@ fn with_names(mut names: IndexSet<Name>, words: &[u8]) -> Result<IndexSet<Name>,
 fn is_within(items: usize, options: usize, entries: usize) -> bool
     ensures { result ≡ are_within items options entries }
 {
+    // The order matters: where the first two hold, the difference isn't below 0.
     items <= MOST_ITEMS && options <= MOST_OPTIONS && entries <= MOST_ENTRIES - 2 - items - options
 }
 
@@ -236,6 +239,7 @@ impl Draft {
     {
         told(has_words(words), Fault::BadLine)?;
         told(self.primary == 0, Fault::BadLine)?;
+        // Where no item has to be covered there are no names either, so the set begins empty.
         let names = with_names(IndexSet::new(alloc), words)?;
         let primary = names.len();
         of_names(alloc, names, primary)
@@ -247,6 +251,7 @@ impl Draft {
         ensures { Gives (λ d. d) result (reading.maybe_line self (words_of words.now)) }
     {
         told(has_words(words), Fault::BadLine)?;
+        // There are more names than items to cover only after a `maybe` line.
         told(self.primary >= self.names.len(), Fault::BadLine)?;
         told(self.options.is_empty(), Fault::BadLine)?;
         told(self.primary > 0, Fault::NoItemLine)?;
@@ -261,6 +266,7 @@ impl Draft {
     {
         told(has_words(words), Fault::BadLine)?;
         told(self.primary > 0, Fault::NoItemLine)?;
+        // Taken apart: marks that an option has set, and options without it, make no draft until it is added.
         let Draft {
             names,
             primary,
@@ -273,6 +279,7 @@ impl Draft {
         take_option(&names, &mut marks, stamp, &mut taken, words)?;
         let entries = entries + taken.len();
         options.push(&taken)?;
+        // The limits come last: a line with another fault is refused for that one.
         Ok(within(names, primary, options, entries, marks, taken)?)
     }
 
@@ -296,6 +303,7 @@ impl Draft {
     fn with_line(self, alloc: Global, line: &[u8]) -> Result<Draft, ProblemFault>
         ensures { Gives (λ d. d) result (reading.line self line.now) }
     {
+        // Any byte may stand in a comment: only what is said has to be plain.
         let said = outside_comment(line);
         told(is_all_plain(said), Fault::BadLine)?;
         self.with_words(alloc, said)
@@ -313,6 +321,7 @@ impl Draft {
         requires { IsProblem self }
         ensures { result ≡ self }
     {
+        // What served the reading alone is let go: the sum, the marks and the room.
         let Draft {
             names,
             primary,
@@ -329,6 +338,7 @@ impl ByLine for Draft {
     ghost line = { reading.line };
 
     fn add_line(&mut self, alloc: Global, bytes: &[u8]) -> Result<(), ProblemFault> {
+        // Each kind of line takes the draft by value and answers the next. A refusal leaves the draft of no lines.
         let draft = mem::replace(self, Draft::new(alloc));
         *self = draft.with_line(alloc, bytes)?;
         Ok(())

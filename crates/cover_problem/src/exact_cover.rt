@@ -46,6 +46,7 @@ fn have_right_counts(problem: &Problem, chosen: &[u32]) -> bool
     requires { cover_test.are_options problem.now chosen.now ≡ true }
     ensures { result ≡ cover_test.have_right_counts problem.now chosen.now }
 {
+    // For each item all options are gone through: slower than with marks, but it takes no memory.
     for item in 1..problem.items() + 1 {
         if !has_right_count(problem, chosen, item) {
             return false;
@@ -81,9 +82,11 @@ fn are_useful(problem: &Problem, chosen: &[u32]) -> bool
 fn passes(problem: &Problem, chosen: &[u32]) -> bool
     ensures { result ≡ cover_test.is_cover problem.now chosen.now }
 {
+    // Asked first: only an option can be asked for its items.
     if !are_options(problem, chosen) {
         return false;
     }
+    // An option that comes twice has its items twice. One without items to cover is on no list that the search goes through.
     have_right_counts(problem, chosen) && are_useful(problem, chosen)
 }
 
@@ -92,6 +95,7 @@ impl Problem {
     pub fn is_exact_cover(&self, chosen: &[u32]) -> bool
         ensures { IsTrue result ↔ ((are_distinct chosen.now ≡ true) × IsExactCover self.now (has chosen.now)) }
     {
+        // Where a problem is asked, what it keeps true is known.
         let _ = self.items();
         passes(self, chosen)
     }

@@ -87,6 +87,8 @@ pub type CoverFault = TextRefusal<Fault>;
 /// What a refused call hands back beside its fault.
 #[derive(Debug, Drop)]
 pub struct Refused<F, G> {
+    /// Why it was refused.
     pub fault: F,
+    /// What the call took, as it was.
     pub given: G,
 }

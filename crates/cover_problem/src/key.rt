@@ -4,8 +4,11 @@ ghost use Rattle.cover_problem.specs.Reading.{key_from};
 
 /// What a line says.
 pub enum Key {
+    /// The names of the items that have to be covered.
     Items,
+    /// The names of the items that may be covered.
     Maybe,
+    /// The items of an option.
     Option,
 }
 

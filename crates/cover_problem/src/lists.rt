@@ -10,6 +10,7 @@ use std::marker::Model;
 /// Lists of numbers, in order: the numbers of all of them one after another, and where among these each list ends.
 #[derive(Drop)]
 pub struct Lists {
+    // Two blocks, and not one for each list: a problem has up to 262,143 options of a few items.
     flat: Vec<u32>,
     ends: Vec<usize>,
 }
@@ -41,6 +42,7 @@ fn start_of(ends: &[usize], place: usize) -> usize
     requires { place ≤ length ends.now }
     ensures { result ≡ start_at 0 ends.now place }
 {
+    // Only ends are kept: a list begins where the one before it ends.
     if place == 0 { 0 } else { ends[place - 1] }
 }
 
@@ -94,6 +96,7 @@ impl Lists {
         ensures added { OnOk result (self.new ≡ self.old ++ list.now ∷ []) }
         ensures unchanged { OnErr result (self.new ≡ self.old) }
     {
+        // Room for the end is made before anything changes: what follows fails as a whole, or can't fail.
         self.ends.reserve(1)?;
         self.flat.extend_from_slice(list)?;
         let end = self.flat.len();
@@ -106,6 +109,7 @@ impl Lists {
         ensures added { OnOk result (self.new ≡ self.old ++ other.now) }
         ensures unchanged { OnErr result (self.new ≡ self.old) }
     {
+        // As in `push`, all room is made before anything changes.
         self.ends.reserve(other.ends.len())?;
         self.flat.extend_from_slice(&other.flat)?;
         let end = self.flat.len();
@@ -138,6 +142,7 @@ impl Lists {
     pub fn same(&self, other: &Lists) -> bool
         ensures { IsTrue result ↔ (self.now ≡ other.now) }
     {
+        // The numbers alone don't tell where one list ends and the next begins.
         self.flat == other.flat && self.ends == other.ends
     }
 

@@ -49,6 +49,7 @@ pub fn name_of(word: &[u8]) -> Result<Name, Fault>
     if !is_name(word) {
         return Err(Fault::BadName);
     }
+    // A name is ASCII and short, so neither of the two refusals comes.
     match str::from_utf8(word) {
         Ok(text) => Name::from(text).map_err(|_| Fault::BadName),
         Err(_) => Err(Fault::BadName),
@@ -79,6 +80,7 @@ impl Hash for Word<'_> {
     ghost respects_eq = { Prim.search (hashing, rules) };
 
     fn hash<H: Hasher>(&self, state: &mut H) {
+        // As `str` is hashed: its bytes, and then a byte that no text has. A name is found by a word only if both are hashed alike.
         state.write(self.0);
         state.write_u8(0xff);
     }

@@ -61,6 +61,7 @@ fn is_out(option: &[u32], times: &[u32], limit: u32) -> bool
 {
     option
         .iter()
+        // The time of an item isn't below itself: so the list of a covered item stays as it stood then.
         .any(|item| times[(*item - 1) as usize] < limit)
 }
 
@@ -159,6 +160,7 @@ fn note_all(holders: &mut [Vec<u32>], options: &Lists) -> Result<(), AllocError>
     ensures { OnOk result (items_of holders.new ≡ holders_of (length holders.old) options.now) }
 {
     for place in 0..options.len() {
+        // Options are noted in rising number, so the options of each item rise.
         note(holders, options.list(place), place as u32 + 1)?;
     }
     Ok(())
@@ -260,6 +262,7 @@ impl Table for PlainTable {
 
     fn len(&self, item: u32) -> u32 {
         let (holders, time) = self.row(item);
+        // Counted at each call: this table is for comparing, and a field for each length would be one thing more to be wrong.
         self.count_in(holders, time) as u32
     }
 
@@ -274,6 +277,7 @@ impl Table for PlainTable {
     }
 
     fn next_option(&self, item: u32, option: u32) -> Option<u32> {
+        // Where a field is read, what the whole keeps true is known: here, that the option has a number.
         let _ = &self.primary;
         let (holders, time) = self.row(item);
         let place = place_below(holders, option + 1);
@@ -281,6 +285,7 @@ impl Table for PlainTable {
     }
 
     fn prev_option(&self, item: u32, option: u32) -> Option<u32> {
+        // Where a field is read, what the whole keeps true is known: here, that the option has a number.
         let _ = &self.primary;
         let (holders, time) = self.row(item);
         let place = place_below(holders, option);
@@ -288,6 +293,7 @@ impl Table for PlainTable {
     }
 
     fn cover(&mut self, item: u32) {
+        // The first item that is covered has the time 0.
         let time = self.covered.len() as u32;
         self.times[(item - 1) as usize] = time;
         push_within(&mut self.covered, item);

@@ -23,6 +23,7 @@ use std::marker::Model;
 /// Items with names, of which the first have to be covered, and options.
 #[derive(Drop)]
 pub struct Problem {
+    // In order, and found by a hash: the item numbered i stands at place i - 1.
     names: IndexSet<Name>,
     primary: u32,
     options: Lists,
@@ -69,6 +70,7 @@ fn place_of(names: &IndexSet<Name>, name: &str) -> Option<usize>
     requires { list_all is_name (kept_names names.now) ≡ true }
     ensures { result ≡ position (bytes_eq name.now) (kept_names names.now) }
 {
+    // What doesn't fit into a name is the name of no item.
     let key = Name::from(name).ok()?;
     names.get_index_of(&key)
 }
@@ -108,6 +110,7 @@ impl Problem {
         ensures primary { IsErrAnd result (λ r. r.fault ≡ refusals.Fault NoItemLine) ↔ LacksPrimary names.items primary }
         ensures given { IfErr result (λ r. r.given ≡ (names, options)) }
     {
+        // The lists are lent, so that a refusal can hand them back.
         match checked(alloc, &names, primary, &options) {
             Ok(problem) => Ok(problem),
             Err(fault) => Err(Refused {
@@ -218,6 +221,7 @@ impl Problem {
         ensures test { result ≡ is_same self.now other.now }
         ensures equal { IsTrue result ↔ (self.now ≡ other.now) }
     {
+        // What costs least is compared first.
         self.primary == other.primary
             && are_same_names(self.names.as_slice(), other.names.as_slice())
             && are_same_options(&self.options, &other.options)

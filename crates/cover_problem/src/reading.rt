@@ -18,6 +18,7 @@ fn read_problem(alloc: Global, bytes: &[u8]) -> Result<Problem, CoverFault>
     let draft = read_lines(alloc, Draft::new(alloc), bytes)?;
     match told(draft.has_items(), Fault::NoItemLine) {
         Ok(()) => Ok(draft.into_problem()),
+        // No line has this fault: its number is 0.
         Err(fault) => Err(ProblemFault::from(fault).in_line(0)),
     }
 }

@@ -30,6 +30,7 @@ pub trait Table: Drop {
         ensures problem { IsProblem (problem_value self.now) }
         ensures distinct { IsCoveredList (problem_value self.now) (covered_list self.now) };
 
+    // Step X3 chooses among the active items, by the lengths of their lists.
     /// The first active item.
     fn first_item(&self) -> Option<u32>
         ensures { result ≡ above 0 (active (problem_value self.now) (covered_list self.now)) };
@@ -45,6 +46,7 @@ pub trait Table: Drop {
         requires within { item ≤ length (problem_value self.now).names }
         ensures { result ≡ length (list_of (problem_value self.now) (covered_list self.now) item) };
 
+    // Steps X4 to X6 try the options of the chosen item one after another, from the first on.
     /// The first option of an item's list.
     fn first_option(&self, item: u32) -> Option<u32>
         requires some { 0 < item }
@@ -67,6 +69,7 @@ pub trait Table: Drop {
         requires { IsInList (problem_value self.now) (covered_list self.now) item option }
         ensures { result ≡ prev_left (problem_value self.now) (covered_list self.now) item option };
 
+    // Steps X4 and X5 cover items, and X6 and X7 uncover them in the reverse order.
     /// Covers an item that isn't covered.
     fn cover(&mut self, item: u32)
         requires some { 0 < item }

@@ -68,6 +68,7 @@ fn check_each(marks: &mut [usize], options: &[Vec<u32>]) -> Result<(), Fault>
     ensures { Tells (λ _. items_of options.now) result (options_from (length marks.old) (items_of options.now)) }
 {
     for (place, option) in options.iter().enumerate() {
+        // A stamp of its own for each option, from 1: so no mark is cleared between two options.
         check_option(marks, place + 1, option)?;
     }
     Ok(())
@@ -85,6 +86,7 @@ fn check_options(alloc: Global, count: usize, options: &[Vec<u32>]) -> Result<()
 fn are_few(options: &[Vec<u32>], most: usize) -> bool
     ensures { result ≡ nat_le (sum_by length (items_of options.now)) most }
 {
+    // What is left is counted down, since a sum of lengths could overflow.
     let mut left = most;
     for option in options {
         if option.len() > left {
@@ -101,6 +103,7 @@ fn is_within(count: usize, options: &[Vec<u32>]) -> bool
 {
     count <= MOST_ITEMS
         && options.len() <= MOST_OPTIONS
+        // Of the entries a header, the items and the spacers, one more than options, leave so many to the nodes.
         && are_few(options, MOST_ENTRIES - 2 - count - options.len())
 }
 
@@ -125,6 +128,7 @@ fn checked_parts(
     requires { problem.is_item (length names.now) primary ≡ true }
     ensures { ChecksNames result names.now primary options.now }
 {
+    // The order is that of the faults: names, then options, then the size.
     let these = take_names(alloc, names)?;
     check_options(alloc, names.len(), options)?;
     check_size(names.len(), options)?;
@@ -141,6 +145,7 @@ pub fn checked_names(
     ensures names { ChecksNames result names.now primary options.now }
     ensures primary { IsErrOf result (refusals.Fault NoItemLine) ↔ LacksPrimary names.now primary }
 {
+    // Asked before any name is read, so that it takes no memory.
     if primary == 0 || primary as usize > names.len() {
         return Err(ProblemFault::Fault(Fault::NoItemLine));
     }

@@ -29,6 +29,7 @@ fn write_names(text: &mut Vec<u8>, key: &[u8], names: &[Name]) -> Result<(), All
 fn write_maybe(text: &mut Vec<u8>, names: &[Name]) -> Result<(), AllocError>
     ensures { Adds result text.old text.new (text_of (maybe_words (bytes_of names.now))) }
 {
+    // A `maybe` line without names would be refused.
     if names.is_empty() {
         return Ok(());
     }
@@ -65,6 +66,7 @@ pub fn write_cover(alloc: Global, problem: &Problem) -> Result<Vec<u8>, AllocErr
     ensures { ReturnsItems result (written problem.now) }
 {
     let names = problem.name_list();
+    // The items to cover come first, so one place parts the names of the two lines.
     let (items, others) = names.split_at(problem.primary() as usize);
     let mut text = Vec::new(alloc);
     write_names(&mut text, b"items", items)?;

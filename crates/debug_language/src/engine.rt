@@ -25,6 +25,7 @@ pub enum EngineCommand {
 fn load_from(words: &[u8]) -> Option<EngineCommand>
     ensures { result ≡ spec.load_from (words_of words.now) }
 {
+    // Of no lines the snapshot ends early: its reader refuses that, and not this line.
     let lines = number_from(words)?;
     Some(EngineCommand::Load(lines))
 }
@@ -34,6 +35,7 @@ fn pool_from(words: &[u8]) -> Option<EngineCommand>
     ensures { result ≡ spec.pool_from (words_of words.now) }
 {
     let workers = count_from(words)?;
+    // The pool would refuse more: here they are no command.
     if workers <= MOST_WORKERS {
         Some(EngineCommand::Pool(workers))
     } else {
@@ -58,6 +60,7 @@ fn engine_from(words: &[u8]) -> Option<EngineCommand>
     ensures { result ≡ spec.engine_from (words_of words.now) }
 {
     let (key, rest) = split_word(words)?;
+    // None of these begins a command of a search, so either reader may be asked first.
     match key {
         b"load" => load_from(rest),
         b"pool" => pool_from(rest),

@@ -51,11 +51,13 @@ fn state_in(alloc: Global, words: &[u8]) -> Found<State>
     ensures said { FindsAs state_value result (result_ok (state_from (words_of words.now))) }
     ensures memory { OnErr result (is_ok (state_from (words_of words.now)) ≡ true) }
 {
+    // Tested first, without memory: a line that is no state is refused even where there is none.
     if !is_state(words) {
         return Ok(None);
     }
     match state_from(alloc, words) {
         Ok(state) => Ok(Some(state)),
+        // The words passed the test, so no fault comes.
         Err(Refusal::Fault(_)) => Ok(None),
         Err(Refusal::OutOfMemory) => Err(AllocError),
     }
@@ -70,6 +72,7 @@ fn put_back_from(alloc: Global, words: &[u8]) -> Found<Command>
     let Some((word, rest)) = split_word(words) else {
         return Ok(None);
     };
+    // Before the cut is kept: a bad state is refused even where there is no memory for the cut.
     if !is_state(rest) {
         return Ok(None);
     }
@@ -108,6 +111,7 @@ fn command_from(alloc: Global, problem: &Problem, words: &[u8]) -> Found<Command
     let Some((key, rest)) = split_word(words) else {
         return Ok(Some(Command::Nothing));
     };
+    // A word that stands alone may be another command than with words: `step` is one step.
     if !has_words(rest) {
         return Ok(lone_command(key));
     }
@@ -124,6 +128,7 @@ pub fn read_command(
     ensures read { IfOk result (λ command. IsCommand problem.now line.now command) }
     ensures refused { IfErr result (λ refusal. IsNoCommand problem.now line.now refusal) }
 {
+    // A line of a DOS text ends in a return, which is no part of its last word.
     match command_from(alloc, problem, without_return(line))? {
         Some(command) => Ok(command),
         None => Err(Refusal::Fault(DebugFault::BadCommand)),

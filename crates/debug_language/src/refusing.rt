@@ -39,6 +39,7 @@ pub fn write_runner_fault(text: &mut Vec<u8>, fault: RunnerFault) -> Result<(), 
 {
     match fault.number() {
         Some(number) => write_refused(text, Layer::Runner, number, fault.name()),
+        // Without memory no line can be promised: the caller ends.
         None => Err(AllocError),
     }
 }

@@ -21,6 +21,7 @@ use x_texts::write_cut;
 fn write_cuts(text: &mut Vec<u8>, lo: Option<&[u32]>, hi: Option<&[u32]>) -> Result<(), AllocError>
     ensures { Adds result text.old text.new (spaced (lent_branch lo.entry hi.entry)) }
 {
+    // The key of each line stands first, and each word after it brings its own blank.
     text.extend_from_slice(b"branch")?;
     write_cut(text, "start", lo)?;
     write_word(text, "to")?;
@@ -84,6 +85,7 @@ pub fn write_covered(text: &mut Vec<u8>, problem: &Problem, items: &[u32]) -> Re
     ensures { AddsLine result text.old text.new (covered_words problem.now.names items.now) }
 {
     if items.is_empty() {
+        // A sign for none, so that a word stands after each key.
         return text.extend_from_slice(b"covered -\n");
     }
     text.extend_from_slice(b"covered")?;
@@ -132,6 +134,7 @@ pub fn write_lists(
 fn newlines(text: &[u8]) -> usize
     ensures { result ≡ count_by is_newline text.now }
 {
+    // By so many lines `load` finds the end of the snapshot again.
     text.iter().filter(|byte| **byte == b'\n').count()
 }
 

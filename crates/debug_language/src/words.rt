@@ -48,17 +48,24 @@ pub enum Listed {
 /// How a branch stands that is not closed.
 #[derive(Clone, Copy, Debug, PartialEq, Eq)]
 pub enum Standing {
+    /// No worker has it, and any may take it.
     Waiting,
+    /// A worker has it.
     Leased,
+    /// No worker has it, and only who asks for this one gets it.
     Held,
 }
 
 /// The layer that refused a command.
 #[derive(Clone, Copy, Debug, PartialEq, Eq)]
 pub enum Layer {
+    /// The debugger itself (`DebugFault`).
     Debug,
+    /// The runner of a search (`RunnerFault`).
     Runner,
+    /// The book of branches, whose faults have numbers of their own.
     Book,
+    /// Who reads a snapshot (`SnapshotFault`).
     Snapshot,
 }
 

@@ -25,6 +25,7 @@ impl OwnDeque {
     pub fn new(alloc: Global) -> Result<OwnDeque, AllocError>
         ensures { IfOk result (λ d. worker_view d.worker ≡ tally [] []) }
     {
+        // First in, first out, at both ends: owner and thieves take the ticket that waits the longest.
         let worker = Worker::<u64, Global, Tally, TicketRule>::fifo_as(alloc, FIRST_ROOM)?;
         Ok(OwnDeque { worker })
     }
@@ -51,6 +52,7 @@ impl OwnDeque {
         ensures deque { IfOk result (λ d. stealer_deque d.stealer ≡ worker_deque self.now.worker) }
         ensures untouched { IfOk result (λ d. view d.pass ≡ tally [] []) }
     {
+        // The pass belongs to one seat: what this seat steals is noted there as taken.
         let stealer = self.worker.stealer()?;
         let pass = stealer.pass();
         Ok(OtherDeque { stealer, pass })
@@ -72,6 +74,7 @@ impl OtherDeque {
         ensures same { self.new.stealer ≡ self.old.stealer }
         ensures taken { TakesTicket result (view self.old.pass) (view self.new.pass) }
     {
+        // An empty deque and a faster seat answer alike: who looks for work asks the next seat.
         self.stealer.steal_as::<Taking>(&mut self.pass).success()
     }
 }

@@ -4,7 +4,9 @@ use std::collections::LinkedList;
 
 /// What a seat has pushed to one deque, and what it took from it. No value of it is ever made.
 pub struct Tally {
+    /// The tickets that the seat pushed, in order.
     pub pushed: LinkedList<u64>,
+    /// The tickets that the seat took, in order.
     pub taken: LinkedList<u64>,
 }
 

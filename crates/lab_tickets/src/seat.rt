@@ -13,6 +13,7 @@ use std::marker::Model;
 pub struct TicketSeat {
     number: u8,
     own: OwnDeque,
+    // Kept, so that stealing takes no memory.
     others: Vec<OtherDeque>,
 }
 
@@ -56,7 +57,7 @@ impl TicketSeat {
         self.own.other()
     }
 
-    /// From now on it has this number, and steals from these deques.
+    /// Gives it its number, and the deques from which it steals.
     pub(crate) fn join(&mut self, number: u8, others: Vec<OtherDeque>)
         requires { (number ≤ vec_len others) × (vec_len others < 32) }
         ensures { self.new ≡ joined self.old number others.items }
@@ -78,6 +79,7 @@ impl TicketSeat {
         ensures seats { result ≡ seat_count self.now }
         ensures most { seat_count self.now ≤ 32 }
     {
+        // There are at most 32 seats.
         self.others.len() as u8 + 1
     }
 
@@ -116,6 +118,7 @@ fn place_of(number: u8, from: u8, others: usize) -> usize
     ensures place { result ≡ place number from }
     ensures below { result < others }
 {
+    // The seat itself is left out, so those behind it stand one place lower.
     if from < number {
         from as usize
     } else {

@@ -19,6 +19,7 @@ fn others_of(
 {
     let mut others = Vec::new(alloc);
     for j in 0..seats.len() {
+        // A seat has nothing to steal from itself.
         if j != number {
             let other = seats[j].other()?;
             others.push(other)?;
@@ -46,6 +47,7 @@ pub fn tickets(alloc: Global, n: u8) -> Result<Vec<TicketSeat>, AllocError>
     ensures fresh { IfOk result (λ v. AreFresh n v.items) }
 {
     let mut seats = Vec::new(alloc);
+    // All deques are made before any seat gets what it needs to steal from them.
     for number in 0..n {
         seats.push(TicketSeat::alone(alloc)?)?;
     }

@@ -30,6 +30,7 @@ fn first(bytes: &[u8]) -> Option<(u64, usize)>
 {
     let mut high: u64 = 0;
     'reading: for (read, byte) in bytes.iter().enumerate() {
+        // Seven bits more would pass 64: no number was put so.
         if high >= 1 << 57 {
             return None;
         }
@@ -79,6 +80,7 @@ impl<'a> Reader<'a> {
         ensures rest { self.new ≡ drop 1 self.old }
     {
         match self.next() {
+            // No refusal: what was put is all there, and who reads it needs no case for what can't be.
             Some(number) => number,
             None => 0,
         }

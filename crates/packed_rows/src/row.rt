@@ -36,6 +36,7 @@ fn put_front(bytes: &mut Vec<u8>, n: u64, most: usize)
     if n == 0 {
         return;
     }
+    // The highest seven bits go first, each byte but the last with a sign that more follow: a reader adds them up as they come.
     put_front(bytes, n / 128, most - 1);
     bytes.push_reserved((n % 128) as u8 + 128);
 }
@@ -47,6 +48,7 @@ pub(crate) fn put(bytes: &mut Vec<u8>, n: u64)
     ensures long { vec_len bytes.new ≤ vec_len bytes.old + 10 }
     ensures capacity { vec_capacity bytes.new ≡ vec_capacity bytes.old }
 {
+    // 64 bits are ten groups of seven, so nine at most stand before the last.
     put_front(bytes, n / 128, 9);
     bytes.push_reserved((n % 128) as u8);
 }
@@ -73,6 +75,7 @@ impl Row {
         ensures added { OnOk result (self.new ≡ self.old ++ n ∷ []) }
         ensures unchanged { OnErr result (self.new ≡ self.old) }
     {
+        // Room for the longest number first, so that a refusal leaves no part of one.
         self.bytes.reserve(10)?;
         put(&mut self.bytes, n);
         Ok(())
@@ -105,6 +108,7 @@ impl Row {
     pub fn copy(&self) -> Result<Row, AllocError>
         ensures { Returns result self.now }
     {
+        // A row that grew has room for more: a copy, which may stand for long, is made to measure.
         let bytes = Vec::from_slice(*self.bytes.allocator(), &self.bytes)?;
         Ok(Row { bytes })
     }

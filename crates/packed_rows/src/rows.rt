@@ -14,6 +14,7 @@ use std::marker::Model;
 /// Rows in one block of bytes, with where each ends. Room is kept for as many short rows as `kept` says, of eight numbers at most, and
 /// beside them for one row of as many numbers as `room` says: these can be added without memory.
 #[derive(Drop)]
+// One block for all rows: many take a few bytes, less than a block of their own would cost.
 pub struct Rows {
     bytes: Vec<u8>,
     ends: Vec<usize>,
@@ -75,6 +76,7 @@ fn add_row(bytes: &mut Vec<u8>, ends: &mut Vec<usize>, row: &[u8], more: &[u64])
     ensures capacity { vec_capacity bytes.old ≤ vec_capacity bytes.new }
     ensures ends_capacity { vec_capacity ends.new ≡ vec_capacity ends.old }
 {
+    // Room is kept for the row's bytes, so it is never refused.
     let Ok(()) = bytes.extend_from_slice(row) else {
         unreachable!()
     };
@@ -110,6 +112,7 @@ impl Rows {
         ensures unchanged { OnErr result (self.new ≡ self.old) }
     {
         let kept = self.kept + short;
+        // Ten bytes for each number are always enough. A sum that is too large is refused as memory is.
         self.bytes
             .reserve(room.saturating_mul(10).saturating_add(80 * kept))?;
         self.ends.reserve(room.saturating_add(kept))?;
@@ -152,6 +155,7 @@ impl Rows {
         ensures added { OnOk result (self.new ≡ added self.old row.now self.old.kept 0) }
         ensures unchanged { OnErr result (self.new ≡ self.old) }
     {
+        // A row has no more numbers than bytes. One more, since room for none is no room for a row.
         self.keep(0, row.size() + 1)?;
         self.add(row, &[]);
         Ok(())

@@ -12,10 +12,12 @@ use crate::symmetry::Symmetry;
 use std::marker::Model;
 
 // The greatest coordinate of a cell.
+// A puzzle writes a coordinate as one of 0-9 and a-v, which are 32.
 pub(crate) const LAST: u8 = 31;
 
 /// A cell: three coordinates from 0 to 31. Cells are ordered by x, then by y, then by z.
 /// Contracts see a cell as the triple of its coordinates.
+// The order that is derived is that of the fields: x, y, z.
 #[derive(Clone, Copy, Debug, PartialEq, Eq, Hash, PartialOrd, Ord)]
 pub struct Cell {
     x: u8,
@@ -88,6 +90,7 @@ impl Cell {
         match coordinates {
             0 => self.x,
             1 => self.y,
+            // A place is below 3, so this one is z.
             _ => self.z,
         }
     }
@@ -103,6 +106,7 @@ impl Cell {
     pub(crate) fn turned_by(self, m: SignedPermutation) -> Cell
         ensures { result ≡ turned_by m self }
     {
+        // No sign leads out of the cube of all cells, so each cell has an image.
         Cell {
             x: mirrored(m.minus_x, self.coordinate(m.from_x)),
             y: mirrored(m.minus_y, self.coordinate(m.from_y)),
@@ -114,6 +118,7 @@ impl Cell {
     pub(crate) fn moved_back(self, by: Cell) -> Cell
         ensures { result ≡ moved_back by self }
     {
+        // Nothing is lost where `by` is the least corner of the cells: none of its coordinates is greater than theirs.
         Cell {
             x: self.x.saturating_sub(by.x),
             y: self.y.saturating_sub(by.y),
@@ -148,6 +153,7 @@ fn shifted(c: u8, by: i32) -> Option<u8>
     ensures inside { IfSome result (λ r. (r ≤ 31) × (pos r ≡ pos c +ℤ by)) }
     ensures outside { IfNone result ((n : ℕ) → n ≤ 31 → pos n ≢ (pos c +ℤ by)) }
 {
+    // In 64 bits a `u8` and an `i32` have a sum, whatever they are.
     let sum = i64::from(c) + i64::from(by);
     if sum < 0 || sum > 31 {
         None

@@ -5,8 +5,10 @@ ghost use Rattle.poly_cells.specs.Products.{from_at, minus_at, product, row_from
 use std::marker::Model;
 
 /// A signed permutation matrix: row x takes the coordinate at place `from_x`, with a minus sign where `minus_x`, and so on.
+// Six small fields and not nine entries: each row of such a matrix has one entry that isn't 0.
 #[derive(Clone, Copy)]
 pub(crate) struct SignedPermutation {
+    /// The place, 0 to 2, from which row x takes its coordinate; so for y and z.
     pub from_x: u8,
     pub from_y: u8,
     pub from_z: u8,
@@ -76,6 +78,7 @@ impl SignedPermutation {
         } else if self.from_y == place {
             1
         } else {
+            // The three sources are 0, 1 and 2 in some order, so it is the row that is left.
             2
         }
     }
@@ -85,6 +88,7 @@ impl SignedPermutation {
         ensures { result ≡ product self first }
     {
         SignedPermutation {
+            // A row takes what `first` has brought to its source, and two minus signs make a plus.
             from_x: first.source(self.from_x),
             from_y: first.source(self.from_y),
             from_z: first.source(self.from_z),
@@ -98,6 +102,7 @@ impl SignedPermutation {
     pub fn transposed(self) -> Self
         ensures { result ≡ transposed self }
     {
+        // Such a matrix is orthogonal: its transpose is its inverse.
         let x = self.row_from(0);
         let y = self.row_from(1);
         let z = self.row_from(2);
@@ -116,6 +121,7 @@ impl SignedPermutation {
         ensures value { result ≡ number_of self }
         ensures limit { result < 48 }
     {
+        // In the list of permutations each source of x has two, and the one whose other sources rise comes first.
         let permutation = 2 * self.from_x + u8::from(self.from_z < self.from_y);
         8 * permutation
             + 4 * u8::from(self.minus_x)

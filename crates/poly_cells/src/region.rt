@@ -14,6 +14,7 @@ pub fn symmetries_of(alloc: Global, region: &Shape) -> Result<Vec<Symmetry>, All
     ensures exactly { IfOk result (λ found. (n : ℕ) → IsIn n found.items ↔ ((n < 48) × HasSymmetry n region.now)) }
     ensures rises { IfOk result (λ found. IsStrictlyIncreasing found.items) }
 {
+    // Both are compared with their least corner at 0 0 0, so any translation is allowed.
     let settled = region.normal()?;
     let mut found = Vec::new(alloc);
     for n in 0..48u8 {

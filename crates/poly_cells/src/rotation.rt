@@ -80,6 +80,7 @@ impl Rotation {
         ensures limit { result < 24 }
     {
         Rotation {
+            // One of each pair of numbers is a rotation, so half of its number is the pair's.
             number: symmetry.number() / 2,
         }
     }

@@ -18,6 +18,7 @@ pub fn put_in_order(cells: &mut Vec<Cell>)
     ensures rises { IsStrictlySortedBy coordinates_cmp cells.new.items }
     ensures members { (v : Coordinates) → IsIn v cells.new.items ↔ IsIn v cells.old.items }
 {
+    // Equal cells can't be told apart, so the sort may exchange them. In order they stand side by side, as `dedup` needs.
     cells.sort_unstable();
     cells.dedup();
 }
@@ -27,6 +28,7 @@ pub fn corner_of(cells: &[Cell]) -> Cell
     ensures value { result ≡ corner cells.now }
     ensures limits { AllInGrid cells.now }
 {
+    // No coordinate is greater, so the least of these begins here.
     let mut x: u8 = LAST;
     let mut y: u8 = LAST;
     let mut z: u8 = LAST;
@@ -77,6 +79,7 @@ pub fn translated(
 {
     let mut moved = Vec::with_capacity(alloc, cells.len())?;
     for cell in cells {
+        // `stay_inside` was asked before, so each cell has an image.
         moved.push(cell.translated(dx, dy, dz).unwrap())?;
     }
     Ok(moved)

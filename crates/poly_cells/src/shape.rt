@@ -18,6 +18,7 @@ use std::marker::Model;
 pub struct Shape {
     cells: Vec<Cell>,
     // The least x, the least y and the least z.
+    // Kept, so that `normal` goes through the cells once.
     lowest: Cell,
 }
 
@@ -77,6 +78,7 @@ impl Shape {
         ensures image { IfOk result (λ shape. IsTurned symmetry self.now shape) }
     {
         let mut cells = images(self.allocator(), self.cells.as_slice(), symmetry.matrix())?;
+        // Turned cells stand in another order, and the least corner of the image is a new one.
         put_in_order(&mut cells);
         let ordered = cells.as_slice();
         at_origin(self.allocator(), ordered, corner_of(ordered))
@@ -98,6 +100,7 @@ impl Shape {
         ensures refused { IsErrOf result TranslateFault.OutOfRange ↔ ¬ StaysInside (point_at dx dy dz) self.now }
     {
         let cells = self.cells.as_slice();
+        // Tested first, so that a shape that would leave the grid is refused without memory.
         if !stay_inside(cells, dx, dy, dz) {
             return Err(TranslateFault::OutOfRange);
         }
@@ -119,5 +122,6 @@ fn at_origin(alloc: Global, cells: &[Cell], least: Cell) -> Result<Shape, AllocE
     ensures { IfOk result (λ shape. shape ≡ normal cells.now) }
 {
     let moved = moved_back(alloc, cells, least)?;
+    // All cells are moved alike, so they are in order still.
     Ok(Shape::new(moved))
 }

@@ -49,6 +49,7 @@ impl Symmetry {
         ensures rotation { is_rotation a ≡ true → is_rotation b ≡ true → is_rotation result ≡ true }
     {
         Symmetry {
+            // By matrices, where a table would have 48 times 48 numbers.
             number: a.matrix().product(b.matrix()).number(),
         }
     }
@@ -71,6 +72,7 @@ impl Symmetry {
     {
         let odd = self.has_odd_permutation();
         let m = self.matrix();
+        // Each exchange of two coordinates and each minus sign changes the sign of the determinant.
         !(odd ^ m.minus_x ^ m.minus_y ^ m.minus_z)
     }
 
@@ -79,6 +81,7 @@ impl Symmetry {
         ensures { result ≡ is_odd (self / 8) }
     {
         let permutation = self.number / 8;
+        // 021, 102 and 210 exchange two coordinates. 012 moves none, and 120 and 201 move three in a ring.
         permutation == 1 || permutation == 2 || permutation == 5
     }
 

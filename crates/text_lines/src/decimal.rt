@@ -11,6 +11,7 @@ fn begins_well(word: &[u8]) -> bool
     match word {
         [] => false,
         [_] => true,
+        // A number has one spelling: a text that is read and written again keeps its bytes.
         [first, ..] => *first != b'0',
     }
 }
@@ -38,6 +39,7 @@ pub fn number(word: &[u8], most: u32) -> Option<u32>
     }
     let mut value = 0;
     for byte in word {
+        // In 64 bits ten times a `u32` and a digit can't overflow.
         let more = u64::from(value) * 10 + u64::from(*byte - b'0');
         if more > u64::from(most) {
             return None;

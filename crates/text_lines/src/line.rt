@@ -12,6 +12,7 @@ fn newline_at(text: &[u8]) -> usize
     ensures first { result ≡ position_or_len is_newline text.now }
     ensures within { result ≤ length text.now }
 {
+    // Most bytes of a text are passed over here, and `memchr` tests many of them at once.
     memchr(b'\n', text).unwrap_or(text.len())
 }
 
@@ -26,6 +27,7 @@ pub fn split_line(text: &[u8]) -> (&[u8], &[u8])
     let (line, rest) = text.split_at(newline_at(text));
     match rest {
         [_, after @ ..] => (line, after),
+        // The text ends without a newline, so nothing is left.
         [] => (line, rest),
     }
 }
@@ -42,6 +44,7 @@ pub fn split_ended_line(text: &[u8]) -> Option<(&[u8], &[u8])>
     let (line, rest) = text.split_at(newline_at(text));
     match rest {
         [_, after @ ..] => Some((line, after)),
+        // A text whose last line isn't ended may have lost its end: no part of that line is lent.
         [] => None,
     }
 }
@@ -51,6 +54,7 @@ pub fn without_return(line: &[u8]) -> &[u8]
     ensures { result.now ≡ spec.without_return line.now }
 {
     match line {
+        // A line of a DOS text ends in a return and a newline. A second return stays, and isn't plain.
         [front @ .., b'\r'] => front,
         _ => line,
     }
@@ -68,6 +72,7 @@ fn comment_at(line: &[u8]) -> usize
 pub fn outside_comment(line: &[u8]) -> &[u8]
     ensures { result.now ≡ spec.outside_comment line.now }
 {
+    // The return goes first: one that stands before a comment isn't at the line's end, and stays.
     let kept = without_return(line);
     &kept[..comment_at(kept)]
 }
@@ -76,6 +81,7 @@ pub fn outside_comment(line: &[u8]) -> &[u8]
 fn is_plain_byte(byte: u8) -> bool
     ensures { result ≡ is_plain byte }
 {
+    // `|` and `&` ask for no branch, so that many bytes can be tested at once.
     (byte == b'\t') | ((byte >= b' ') & (byte <= b'~'))
 }
 

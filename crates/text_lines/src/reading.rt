@@ -31,6 +31,7 @@ pub fn read_lines<D: ByLine>(
 {
     let mut draft = nothing;
     let mut rest = text;
+    // Lines count from 1: the number 0 is for faults of the whole text.
     let mut number: u64 = 1;
     while !rest.is_empty() {
         let (line, after) = split_line(rest);

@@ -11,7 +11,9 @@ use std::fmt::{self, Debug, Display, Formatter, Write};
 /// Why a call is refused.
 #[derive(Clone, Copy, Debug, PartialEq, Eq)]
 pub enum Refusal<F> {
+    /// What is wrong with what was given.
     Fault(F),
+    /// There was no memory to go on; what was given may be right.
     OutOfMemory,
 }
 
@@ -39,6 +41,7 @@ impl<F, T: Drop> From<AllocFailed<T>> for Refusal<F> {
     ghost from_gives = { λ _ e. e ≡ refusals.OutOfMemory };
 
     fn from(_e: AllocFailed<T>) -> Refusal<F> {
+        // The value that found no room is let go: a reader that is refused has no use for it.
         Refusal::OutOfMemory
     }
 }
@@ -57,7 +60,9 @@ impl<F: Debug + Display + Drop> Error for Refusal<F> {}
 /// Why a text could not be read. The line's number is 0 for a fault of the whole text.
 #[derive(Clone, Copy, Debug, PartialEq, Eq)]
 pub enum TextRefusal<F> {
+    /// What is wrong, and in which line.
     Fault { fault: F, line: u64 },
+    /// There was no memory to go on; the text may be right.
     OutOfMemory,
 }
 

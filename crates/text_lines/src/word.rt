@@ -46,6 +46,7 @@ pub fn split_word(said: &[u8]) -> Option<(&[u8], &[u8])>
     if after.is_empty() {
         return None;
     }
+    // The blanks behind the word stay with the rest: the next call passes over them.
     Some(after.split_at(word_len(after)))
 }
 
@@ -61,6 +62,7 @@ pub fn has_words(said: &[u8]) -> bool
 pub fn is_spaced(line: &[u8]) -> bool
     ensures { IsTrue result ↔ (line.now ≡ spaced (words_of line.now)) }
 {
+    // A word has to begin at the front and after each blank.
     let mut wants_word = true;
     for byte in line {
         if is_blank(*byte) && (wants_word || *byte != b' ') {
@@ -68,5 +70,6 @@ pub fn is_spaced(line: &[u8]) -> bool
         }
         wants_word = is_blank(*byte);
     }
+    // A blank at the end leaves a word wanted. An empty line has no words, and none is wanted.
     line.is_empty() || !wants_word
 }

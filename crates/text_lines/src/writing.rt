@@ -10,6 +10,7 @@ use std::alloc::AllocError;
 pub fn write_word(text: &mut Vec<u8>, word: &str) -> Result<(), AllocError>
     ensures { OnOk result (text.new.items ≡ text.old.items ++ 32 ∷ word.now) }
 {
+    // The blank stands before the word, so the last word of a line needs no case of its own.
     text.push(b' ')?;
     text.extend_from_slice(word.as_bytes())
 }
@@ -19,6 +20,7 @@ pub fn write_word(text: &mut Vec<u8>, word: &str) -> Result<(), AllocError>
 pub fn write_number<N: Integer + Drop>(text: &mut Vec<u8>, number: N) -> Result<(), AllocError>
     ensures { OnOk result (text.new.items ≡ text.old.items ++ 32 ∷ N.text number) }
 {
+    // The digits are made on the stack, so no other memory is asked for than the text's.
     let mut buffer = Buffer::new();
     write_word(text, buffer.format(number))
 }

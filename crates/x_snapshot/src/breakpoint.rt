@@ -24,6 +24,7 @@ fn is_break(problem: &Problem, breakpoint: Break) -> bool
     ensures { result ≡ spec.is_break problem.now breakpoint }
 {
     match breakpoint {
+        // Each choice covers an item at least, so no path is longer than there are items.
         Break::Level(level) => level <= problem.items(),
         Break::Option(option) => is_one_of(option, problem.options()),
         Break::Item(item) => is_one_of(item, problem.items()),
@@ -48,6 +49,7 @@ pub fn check_breaks(alloc: Global, problem: &Problem, breaks: &[Break]) -> Resul
     if !can_be_met(problem, breaks) {
         return Err(SnapshotFault::BadBreak);
     }
+    // Found by their hash: each is compared with all before it in one step.
     let mut seen = IndexSet::new(alloc);
     for breakpoint in breaks {
         if !seen.insert(*breakpoint)? {

@@ -49,6 +49,7 @@ pub fn read_draft(alloc: Global, bytes: &[u8]) -> Result<Draft, SnapshotFault>
     match read_parts(alloc, bytes) {
         Ok((problem, lo, hi, state, breaks)) => Ok(Draft {
             problem,
+            // Cuts and state are judged later, by who needs them: this takes no table.
             lo,
             hi,
             state,

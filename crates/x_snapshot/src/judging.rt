@@ -22,6 +22,7 @@ fn cut_fault(fault: CutFault) -> SnapshotFault
     ensures { result ≡ cut_fault_of fault }
 {
     match fault {
+        // A path that no search takes has no option that is untried at its end.
         CutFault::NotUntried => SnapshotFault::NotOnRun,
         CutFault::OutOfMemory => SnapshotFault::OutOfMemory,
     }
@@ -35,6 +36,7 @@ fn start_fault(fault: StartFault) -> SnapshotFault
         StartFault::Steps(AtFault::NotAState) => SnapshotFault::NotOnRun,
         StartFault::Steps(AtFault::OutOfMemory) => SnapshotFault::OutOfMemory,
         StartFault::Runner(RunnerFault::OutsideBranch) => SnapshotFault::OutsideBranch,
+        // The other faults are of calls, and a runner that isn't made yet has no call: what is left is want of memory.
         StartFault::Runner(_) => SnapshotFault::OutOfMemory,
     }
 }
@@ -57,6 +59,7 @@ fn cut_of<'p, T: Table>(
     let Some(path) = path else {
         return Ok((table, None));
     };
+    // The table comes back with nothing covered, so one serves both cuts and the runner. The cut keeps a copy of the path.
     let (table, made) = Cut::with_table(alloc, problem, table, path.clone()?);
     match made {
         Ok(cut) => Ok((table, Some(cut))),
@@ -101,6 +104,7 @@ pub fn runner_at<'p, T: Table>(
     let table = T::new(alloc, problem)?;
     let (table, lo) = cut_of(alloc, problem, table, lo)?;
     let (table, hi) = cut_of(alloc, problem, table, hi)?;
+    // Cuts first: a cut that isn't on the run is told before a state that is outside the branch.
     start_at(alloc, problem, table, Branch { lo, hi }, state)
 }
 
@@ -116,6 +120,7 @@ pub fn check_position(
     ensures inside { OnOk result (AreInside problem.now lo.now hi.now state.now) }
     ensures refused { IfErr result (λ fault. AreRefused problem.now lo.now hi.now state.now fault) }
 {
+    // Any table gives the same answer. The runner is let go: only whether there is one was asked.
     match runner_at::<LinkTable>(alloc, problem, lo, hi, state) {
         Ok(_) => Ok(()),
         Err(fault) => Err(fault),
@@ -134,7 +139,9 @@ pub fn check_parts(
     ensures snapshot { OnOk result (MakeSnapshot problem.now lo.now hi.now state.now breaks.now) }
     ensures refused { IfErr result (MakeNone problem.now lo.now hi.now state.now breaks.now) }
 {
+    // What a problem keeps true is known where it is asked.
     problem.is_sound();
+    // The cheap test first; the other walks three paths.
     check_breaks(alloc, problem, breaks)?;
     check_position(alloc, problem, lo, hi, state)
 }

@@ -53,6 +53,7 @@ fn header(words: &[u8]) -> Found<u8>
     let Some(word) = only_word(words) else {
         return Err(Refusal::Fault(SnapshotFault::BadHeader));
     };
+    // Digits that name no version are of a version, and have a fault of their own.
     if !are_digits(word) {
         return Err(Refusal::Fault(SnapshotFault::BadHeader));
     }
@@ -64,6 +65,7 @@ fn header(words: &[u8]) -> Found<u8>
 fn version_in(text: &[u8]) -> Found<(u8, &[u8])>
     ensures { Reads (λ x. x) result (spec.version_in text.now) }
 {
+    // The version comes first, since it says which lines may follow.
     let (words, rest) = keyed(SnapshotFault::BadHeader, b"polysnap", text)?;
     let version = header(words)?;
     Ok((version, rest))
@@ -95,9 +97,11 @@ fn after_end(text: &[u8]) -> Found<&[u8]>
 fn check_whole(version: u8, problem: &Problem, breaks: &[Break], rest: &[u8]) -> Found<()>
     ensures { Gives (λ _. tt) result (spec.whole version problem.now breaks.now rest.now) }
 {
+    // Bytes behind the last line come before the version: an order of faults that the format fixes.
     if !rest.is_empty() {
         return Err(Refusal::Fault(SnapshotFault::TrailingBytes));
     }
+    // One spelling: what the first version can say isn't said in the second.
     if version == 2 && !needs_second(problem, breaks) {
         return Err(Refusal::Fault(SnapshotFault::Spelling));
     }
@@ -119,6 +123,7 @@ fn parts_after(alloc: Global, version: u8, problem: &Problem, text: &[u8]) -> Fo
     ensures { Gives (λ v. parts_value problem.now v.0 v.1 v.2 v.3.items) result (spec.parts_after version problem.now text.now) }
 {
     let ((lo, hi, state), rest) = position_in(alloc, text)?;
+    // The second version has lines for breakpoints, the first has none.
     let (breaks, rest) = breaks_of_version(alloc, version, problem, rest)?;
     check_ended(version, problem, &breaks, rest)?;
     Ok((lo, hi, state, breaks))
@@ -129,6 +134,7 @@ fn parts_after(alloc: Global, version: u8, problem: &Problem, text: &[u8]) -> Fo
 pub fn read_parts(alloc: Global, text: &[u8]) -> Found<SnapshotParts>
     ensures { Gives (λ v. parts_value v.0 v.1 v.2 v.3 v.4.items) result (parts_of text.now) }
 {
+    // Line by line from the front, so the first fault that is met is that of the first line with one.
     let (version, rest) = version_in(text)?;
     let (problem, rest) = problem_in(alloc, version, rest)?;
     let (lo, hi, state, breaks) = parts_after(alloc, version, &problem, rest)?;
@@ -160,6 +166,7 @@ pub fn read_snapshot(alloc: Global, bytes: &[u8]) -> Result<Snapshot, SnapshotFa
         Ok(parts) => parts,
         Err(refusal) => return Err(fault_from(refusal)),
     };
+    // The run is judged last, since it takes a table and three walks.
     match Snapshot::new(alloc, problem, lo, hi, state, breaks) {
         Ok(snapshot) => Ok(snapshot),
         Err(refused) => Err(refused.fault),

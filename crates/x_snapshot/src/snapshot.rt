@@ -63,6 +63,7 @@ impl Snapshot {
         ensures refused { IfErr result (λ r. MakeNone problem lo hi state breaks.items r.fault) }
         ensures given_back { IfErr result (λ r. r.given ≡ (problem, lo, hi, state, breaks)) }
     {
+        // The parts are lent to the test, so that a refusal can hand them back.
         match check_parts(alloc, &problem, &lo, &hi, &state, &breaks) {
             Ok(()) => Ok(Snapshot {
                 problem,

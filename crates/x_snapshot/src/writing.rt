@@ -63,6 +63,7 @@ fn write_each_break(
 pub fn needs_second(problem: &Problem, breaks: &[Break]) -> bool
     ensures { result ≡ spec.needs_second problem.now breaks.now }
 {
+    // Both have lines that the first version doesn't know.
     problem.primary() < problem.items() || !breaks.is_empty()
 }
 
@@ -72,6 +73,7 @@ fn write_breaks(text: &mut Vec<u8>, problem: &Problem, breaks: &[Break]) -> Resu
     ensures { AddsLines result text.old text.new (lines_of_breaks problem.now breaks.now) }
 {
     if !needs_second(problem, breaks) {
+        // The first version has no line for breakpoints, and there are none.
         return Ok(());
     }
     write_number_line(text, "breaks", breaks.len())?;
@@ -89,6 +91,7 @@ fn version_of(problem: &Problem, breaks: &[Break]) -> usize
 fn line_count(problem: &Problem) -> usize
     ensures { result ≡ length (word_lines problem.now) }
 {
+    // Counted from the problem, so that the text isn't gone through.
     let maybe = if problem.primary() < problem.items() {
         1
     } else {

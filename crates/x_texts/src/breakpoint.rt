@@ -4,8 +4,12 @@
 /// by its number; or at a visit.
 #[derive(Clone, Copy, Debug, PartialEq, Eq, Hash)]
 pub enum Break {
+    /// At X2 with so many choices.
     Level(u32),
+    /// At X5 with this option.
     Option(u32),
+    /// At X4 where the item of this number is chosen.
     Item(u32),
+    /// At a visit.
     Visit,
 }

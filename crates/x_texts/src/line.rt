@@ -54,6 +54,7 @@ pub fn write_visits(text: &mut Vec<u8>, visits: &Lists) -> Result<(), AllocError
     ensures { AddsLines result text.old text.new (map visit_words visits.now) }
 {
     let mut line = VisitLine::new(*text.allocator())?;
+    // No visit is before the first: the line begins as that of a visit without choices.
     let mut before: &[u32] = &[];
     for place in 0..visits.len() {
         let path = visits.list(place);
@@ -70,6 +71,7 @@ pub fn write_levels(text: &mut Vec<u8>, counts: &[u128]) -> Result<(), AllocErro
     ensures { AddsLine result text.old text.new (levels_words counts.now) }
 {
     if counts.is_empty() {
+        // Level 0 has a count of 0 where nothing is counted yet.
         return text.extend_from_slice(b"levels 0\n");
     }
     text.extend_from_slice(b"levels")?;

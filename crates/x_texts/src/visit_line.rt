@@ -10,6 +10,7 @@ use text_lines::write_word;
 #[derive(Drop)]
 pub(crate) struct VisitLine {
     bytes: Vec<u8>,
+    // The word's end stands before those of the choices: so many choices end at the place of that number.
     ends: Vec<usize>,
 }
 
@@ -51,6 +52,7 @@ impl VisitLine {
         ensures { (path : List ℕ) → IsVisitLine self.old.bytes.items self.old.ends.items path →
             IsVisitLine self.new.bytes.items self.new.ends.items (take count path) }
     {
+        // The ends show where the bytes part, so what is kept is cut off without a look at its digits.
         self.bytes.truncate(self.ends[count]);
         self.ends.truncate(count + 1);
     }

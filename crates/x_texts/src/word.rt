@@ -44,6 +44,7 @@ pub(crate) fn write_cursor(text: &mut Vec<u8>, cursor: Cursor) -> Result<(), All
     ensures { Adds result text.old text.new (32 ∷ spec.cursor_word cursor) }
 {
     match cursor {
+        // Each cursor is one word, so that the choices begin at the same word of each line.
         Cursor::None => write_word(text, "-"),
         Cursor::At(option) => write_number(text, option),
         Cursor::Past => write_word(text, "past"),
@@ -71,6 +72,7 @@ pub(crate) fn write_point(
         Break::Level(level) => write_kind(text, "level", level),
         Break::Option(option) => write_kind(text, "option", option),
         Break::Item(item) => {
+            // By its name, as the cover text has it.
             write_word(text, "item")?;
             write_word(text, problem.name(item))
         }

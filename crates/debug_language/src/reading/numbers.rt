@@ -23,6 +23,7 @@ pub fn is_word(word: &[u8], wanted: &[u8]) -> bool
 fn number_in(word: &[u8]) -> Option<u32>
     ensures { result ≡ spec.number_in word.now }
 {
+    // Any `u32`: whether there is such a level, option or line isn't told by the word.
     number(word, u32::MAX)
 }
 
@@ -39,6 +40,7 @@ pub fn count_from(words: &[u8]) -> Option<u32>
     ensures { result ≡ spec.count_from (words_of words.now) }
 {
     let word = only_word(words)?;
+    // Of no steps and of no workers there is no command.
     option_number(u32::MAX, word)
 }
 
@@ -72,6 +74,7 @@ fn numbers_from(alloc: Global, words: &[u8]) -> Found<Vec<u32>>
     ensures said { FindsAs (λ v. v.items) result (spec.numbers_from (words_of words.now)) }
     ensures memory { FailsOnly result (spec.numbers_from (words_of words.now)) }
 {
+    // Tested first, so that memory is asked for only where each word is a number.
     if !are_numbers(words) {
         return Ok(None);
     }
@@ -79,6 +82,7 @@ fn numbers_from(alloc: Global, words: &[u8]) -> Found<Vec<u32>>
     let mut rest = words;
     while let Some((word, after)) = split_word(rest) {
         let Some(number) = number_in(word) else {
+            // Each word passed the test, so this isn't met.
             return Ok(None);
         };
         numbers.push(number)?;
@@ -96,6 +100,7 @@ pub fn cut_from(alloc: Global, words: &[u8]) -> Found<Option<Vec<u32>>>
     let Some((word, rest)) = split_word(words) else {
         return Ok(None);
     };
+    // `start` stands alone: the cut at the start of the run has no choices.
     if is_word(word, b"start") && !has_words(rest) {
         return Ok(Some(None));
     }
@@ -129,6 +134,7 @@ fn are_joined(word: &[u8]) -> bool
     ensures { result ≡ is_some (spec.joined_numbers word.now) }
 {
     let mut rest = Some(word);
+    // A comma at the end leaves an empty part, which is no number.
     while let Some(text) = rest {
         let (part, after) = split_part(text);
         let Some(_) = number_in(part) else {
@@ -144,6 +150,7 @@ fn joined_numbers(alloc: Global, word: &[u8]) -> Found<Vec<u32>>
     ensures said { FindsAs (λ v. v.items) result (spec.joined_numbers word.now) }
     ensures memory { FailsOnly result (spec.joined_numbers word.now) }
 {
+    // Tested first, so that memory is asked for only where each part is a number.
     if !are_joined(word) {
         return Ok(None);
     }
@@ -152,6 +159,7 @@ fn joined_numbers(alloc: Global, word: &[u8]) -> Found<Vec<u32>>
     while let Some(text) = rest {
         let (part, after) = split_part(text);
         let Some(number) = number_in(part) else {
+            // Each part passed the test, so this isn't met.
             return Ok(None);
         };
         numbers.push(number)?;

@@ -22,7 +22,9 @@ fn ask_from(key: &[u8]) -> Option<Command>
 pub fn lone_command(key: &[u8]) -> Option<Command>
     ensures { asked result ≡ spec.lone_command key.now }
 {
+    // A chain of tests, since a `match` over so many words isn't proved.
     if is_word(key, b"step") {
+        // Without a number it is one step, as `back` is one step back.
         Some(Command::Step(1))
     } else if is_word(key, b"run") {
         Some(Command::Run)
@@ -39,6 +41,7 @@ pub fn lone_command(key: &[u8]) -> Option<Command>
     } else if is_word(key, b"retract") {
         Some(Command::Retract)
     } else {
+        // The questions are left: each is one word.
         ask_from(key)
     }
 }
@@ -92,6 +95,7 @@ fn save_from(words: &[u8]) -> Option<Command>
 pub fn plain_command(problem: &Problem, key: &[u8], words: &[u8]) -> Option<Command>
     ensures { asked result ≡ spec.plain_command problem.now key.now (words_of words.now) }
 {
+    // The words that take others. One that takes none is no command here.
     if is_word(key, b"step") {
         step_from(words)
     } else if is_word(key, b"back") {

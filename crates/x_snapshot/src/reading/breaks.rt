@@ -17,6 +17,7 @@ use text_lines::{Refusal, has_words, number, split_word};
 use x_texts::Break;
 
 /// The greatest number of nine digits.
+// A count has nine digits at most, like the version.
 const MOST_BREAKS: u32 = 999_999_999;
 
 /// What a breakpoint with a word after its kind is at.
@@ -30,6 +31,7 @@ pub enum Kind {
 fn item_of(problem: &Problem, word: &[u8]) -> Option<u32>
     ensures { result ≡ item_named problem.now.names word.now }
 {
+    // What a problem keeps true, that its names are text, is known where it is asked.
     problem.is_sound();
     match str::from_utf8(word) {
         Ok(name) => problem.item(name),
@@ -101,6 +103,7 @@ pub fn break_from(problem: &Problem, words: &[u8]) -> Option<Break>
     ensures { result ≡ spec.break_from problem.now (words_of words.now) }
 {
     let (kind, rest) = split_word(words)?;
+    // Only a visit has no word after its kind.
     let Some((word, rest)) = split_word(rest) else {
         return lone_break(kind);
     };
@@ -134,6 +137,7 @@ fn break_in<'t>(problem: &Problem, text: &'t [u8]) -> Found<(Break, &'t [u8])>
 fn take_break(seen: &mut IndexSet<Break>, breakpoint: Break) -> Found<()>
     ensures { Gives (λ _. seen.new.keys) result (spec.new_break seen.old.keys breakpoint) }
 {
+    // Twice the same breakpoint would be a second spelling of one set.
     if !seen.insert(breakpoint)? {
         return Err(Refusal::Fault(SnapshotFault::BadBreak));
     }
@@ -159,11 +163,13 @@ fn breaks_from<'t>(
 ) -> Found<(Vec<Break>, &'t [u8])>
     ensures { Reads (λ v. v.items) result (spec.breaks_from problem.now count text.now) }
 {
+    // No room is made by the count: one that is too large ends where the lines do.
     let mut seen = IndexSet::new(alloc);
     let mut rest = text;
     for _ in 0..count {
         rest = add_break(problem, &mut seen, rest)?;
     }
+    // In the order of their lines, which is part of the one spelling.
     let breaks = Vec::from_slice(alloc, seen.as_slice())?;
     Ok((breaks, rest))
 }
@@ -200,6 +206,7 @@ pub fn breaks_of_version<'t>(
     if version == 2 {
         breaks_in(alloc, problem, text)
     } else {
+        // The first version has no line for their number either.
         Ok((Vec::new(alloc), text))
     }
 }

@@ -16,6 +16,7 @@ use text_lines::{
 pub fn take_line(text: &[u8]) -> Found<(&[u8], &[u8])>
     ensures { Gives (λ s. (s.0.now, s.1.now)) result (first_line text.now) }
 {
+    // A line without its end is where a text was cut off, so this fault comes before any of its words.
     match split_ended_line(text) {
         Some((line, rest)) => Ok((line, rest)),
         None => Err(Refusal::Fault(SnapshotFault::Truncated)),
@@ -27,6 +28,7 @@ pub fn take_line(text: &[u8]) -> Found<(&[u8], &[u8])>
 fn check_spaced(fault: SnapshotFault, line: &[u8]) -> Found<()>
     ensures { Gives (λ _. words_of line.now) result (line_words fault line.now) }
 {
+    // More blanks would be a second spelling of the same words.
     if !is_spaced(line) {
         return Err(Refusal::Fault(fault));
     }
@@ -92,5 +94,6 @@ pub fn option_number(bound: u32, word: &[u8]) -> Option<u32>
 pub fn are_digits(word: &[u8]) -> bool
     ensures { result ≡ spec.are_digits word.now }
 {
+    // Nine digits stay below 2^32, whatever they are.
     !word.is_empty() && word.len() <= 9 && is_all_digits(word)
 }

@@ -16,6 +16,7 @@ use text_lines::{Refusal, has_words, split_word};
 use x_steps::{Cursor, Label, State};
 
 /// The most options of a problem.
+// By the limit and not by the problem: whether it has such an option is judged with the run.
 const MOST: u32 = MOST_OPTIONS as u32;
 
 /// Takes a choice.
@@ -65,6 +66,7 @@ fn cut_from(alloc: Global, none: &[u8], words: &[u8]) -> Found<Option<Vec<u32>>>
     let Some((word, rest)) = split_word(words) else {
         return Err(Refusal::Fault(SnapshotFault::BadState));
     };
+    // The word for none stands alone: before other words it is one that is no choice.
     if word == none && !has_words(rest) {
         return Ok(None);
     }
@@ -136,6 +138,7 @@ pub fn is_state(words: &[u8]) -> bool
     let Some((cursor, words)) = split_word(words) else {
         return false;
     };
+    // The tests of `state_from`, which asks for memory only once a word has to be kept.
     step_from(label, cursor).is_some() && are_choices(words)
 }
 

@@ -21,8 +21,10 @@ use text_lines::{Refusal, TextRefusal};
 fn lines_from(version: u8, words: &[u8]) -> Found<u32>
     ensures { Gives (λ n. n) result (spec.lines_from version (words_of words.now)) }
 {
+    // A line of items, one for each option, and in the second version one more for items that may be covered.
     let most = MOST_OPTIONS as u32 + u32::from(version);
     let count = count_from(SnapshotFault::BadProblem, most, words)?;
+    // No problem is without its line of items.
     if count == 0 {
         return Err(Refusal::Fault(SnapshotFault::BadProblem));
     }
@@ -56,6 +58,7 @@ fn after_lines(count: u32, text: &[u8]) -> Found<&[u8]>
 fn is_written(alloc: Global, problem: &Problem, text: &[u8]) -> Result<bool, AllocError>
     ensures { Returns result (bytes_eq (written problem.now) text.now) }
 {
+    // Who writes is the measure: a reader alone would take comments and blanks.
     let written = write_cover(alloc, problem)?;
     Ok(written.as_slice() == text)
 }
@@ -67,6 +70,7 @@ fn spelled(alloc: Global, text: &[u8]) -> Found<Problem>
 {
     let problem = match read_cover(alloc, text) {
         Ok(problem) => problem,
+        // The number of the line would count within the problem, and a snapshot's fault has none.
         Err(TextRefusal::Fault { .. }) => return Err(Refusal::Fault(SnapshotFault::BadProblem)),
         Err(TextRefusal::OutOfMemory) => return Err(Refusal::OutOfMemory),
     };
@@ -81,6 +85,7 @@ fn spelled(alloc: Global, text: &[u8]) -> Found<Problem>
 fn check_version(version: u8, problem: &Problem) -> Found<()>
     ensures { Gives (λ _. problem.now) result (in_version version problem.now) }
 {
+    // Only the second version has items that may be covered.
     if version == 1 && problem.primary() < problem.items() {
         return Err(Refusal::Fault(SnapshotFault::BadProblem));
     }
@@ -93,6 +98,7 @@ fn problem_before(alloc: Global, version: u8, text: &[u8], rest: &[u8]) -> Found
     requires { length rest.now ≤ length text.now }
     ensures { Gives (λ p. p) result (spec.problem_before version text.now rest.now) }
 {
+    // What the count has passed over is the problem's text; who reads it sees nothing behind it.
     let (lines, _) = text.split_at(text.len() - rest.len());
     let problem = spelled(alloc, lines)?;
     check_version(version, &problem)?;

@@ -22,7 +22,7 @@ use Rattle.x_steps.proofs.Neighbours.{split_last_cases}
 use Rattle.x_branches.specs.Cut.{cursor_option, choices, cut_state, CutPath}
 use Rattle.x_branches.specs.Branch.{end_of}
 use Rattle.x_branches.specs.Walk.{end_choices}
-use Rattle.x_branches.specs.Stage.{IsShared}
+use Rattle.x_steps.specs.Order.{IsShared}
 use Rattle.x_branches.specs.Untried.{remaining_above, left_after, left_above, is_before_end, untried_after, untried}
 use Rattle.x_branches.proofs.CutLemmas.{test_rank, rank_test, cut_is, cut_fits, chosen_is, IsLater, later_one}
 use Rattle.x_branches.proofs.UntriedLemmas.{read_drop, untried_left}

@@ -6,6 +6,7 @@ use Rattle.std.proofs.lemmas.List.{take_more, length-replicate, drop-replicate}
 use Rattle.cover_problem.specs.Problem.{ProblemValue}
 use Rattle.x_steps.specs.StateValue.{StateValue}
 use Rattle.x_steps.specs.Steps.{Fits}
+use Rattle.x_steps.specs.Machine.{Position}
 use Rattle.x_steps.specs.Run.{steps_between, levels, ReachesIn}
 use Rattle.x_steps.specs.Levels.{without_last_zeros, trimmed_levels}
 use Rattle.x_steps.proofs.BetweenLemmas.{steps_between_self, length-levels}
@@ -82,19 +83,18 @@ module _ (r : RunnerValue) (steps : ℕ) (visits : List (List ℕ)) (counts : Li
       here : KeepsStretch r.problem r.mark r.position steps visits (without_last_zeros counts)
       here = record { order = k.inside.stretch; steps_are = k.steps_are; visits_are = k.visits_are; levels_are = cut }
 
-  -- nothing is left, and this branch begins there
-  pub begun_there : (b new : Branch) (mark : StateValue) (vs : List (List ℕ)) (cs : List ℕ) → new ≡ b → CanStart r.problem b r.position
-      → Fits r.problem (first_of b.lo) → Fits r.problem (end_of b.hi) → mark ≡ r.position → vs ≡ [] → cs ≡ replicate (length counts) 0
-      → KeepsRunner (record { problem = r.problem; branch = new; mark = mark; position = r.position }) 0 vs cs
-  begun_there b new mark vs cs e can first end a d c =
-      rw e (started r.problem b r.position k.sound can.fits first end can.branch can.within (record { problem = r.problem; state = r.position }) mark
-      (length r.problem.names) vs cs refl a refl d (c ∙ ap (λ n. replicate n 0) length_counts))
+  -- nothing is left, and this branch begins at this state
+  pub begun_at : (b new : Branch) (s : StateValue) (m : Position) (mark : StateValue) (vs : List (List ℕ)) (cs : List ℕ) → new ≡ b → CanStart r.problem b s
+      → Fits r.problem (first_of b.lo) → Fits r.problem (end_of b.hi) → m ≡ record { problem = r.problem; state = s } → mark ≡ s → vs ≡ [] → cs ≡ replicate (length counts) 0
+      → KeepsRunner (record { problem = m.problem; branch = new; mark = mark; position = m.state }) 0 vs cs
+  begun_at b new s m mark vs cs e can first end here a d c =
+      rw e (started r.problem b s k.sound can.fits first end can.branch can.within m mark (length r.problem.names) vs cs here a refl d (c ∙ ap (λ n. replicate n 0) length_counts))
 
   -- and nothing is left
   pub emptied_there : (mark : StateValue) (vs : List (List ℕ)) (cs : List ℕ) → mark ≡ r.position → vs ≡ [] → cs ≡ replicate (length counts) 0 → KeepsRunner (record { problem = r.problem; branch = r.branch; mark = mark; position = r.position }) 0 vs cs
   emptied_there mark vs cs a b c =
-      begun_there r.branch r.branch mark vs cs refl
-      (record { fits = position_fits r steps visits counts k; branch = k.inside.branch; within = k.inside.position_in }) k.first_fits k.end_fits a b c
+      begun_at r.branch r.branch r.position (record { problem = r.problem; state = r.position }) mark vs cs refl
+      (record { fits = position_fits r steps visits counts k; branch = k.inside.branch; within = k.inside.position_in }) k.first_fits k.end_fits refl a b c
 
   -- at the mark no steps are kept
   pub no_steps : r.position ≡ r.mark → steps ≡ 0

@@ -13,7 +13,7 @@ use Rattle.x_steps.specs.Steps.{next}
 use Rattle.x_steps.specs.Run.{after, ReachesIn, steps_between}
 use Rattle.x_steps.specs.Rank.{rank}
 use Rattle.x_steps.proofs.RunLemmas.{start_fits, steps_between_is}
-use Rattle.packed_states.specs.StateCode.{path_of, path_rest, state_of, state_rest, paths_at, after_paths, paths_of, paths_rest}
+use Rattle.x_codes.specs.StateCode.{path_of, path_rest, state_of, state_rest, paths_at, after_paths, paths_of, paths_rest}
 use Rattle.x_branches.specs.declared.fault.RunnerFault.TheVariants.{AtBranchEnd, NotUntried, NotAtMark, StretchFull, OutOfMemory}
 use Rattle.x_branches.specs.declared.fault.CutFault.TheVariants as cuts
 use Rattle.x_branches.specs.Cut.{CutPath, cut_state}
@@ -24,7 +24,7 @@ use Rattle.x_branches.specs.Runner.{RunnerValue, unposted_steps, visit_of, with_
 use Rattle.x_branches.specs.Counts.{HasLevelOf, HasRoomFor, HasCounted}
 use Rattle.x_branches.specs.Walk.{end_choices, advanced_by, HasToStop}
 use Rattle.x_branches.specs.Refusals.{AdvanceRefused, CutRefused, ReopenRefused}
-use Rattle.x_branches.specs.Stage.{IsShared, digit_of}
+use Rattle.x_branches.specs.Stage.{digit_of}
 use Rattle.x_branches.specs.Faults.{number_of, name_of, number_of_cut}
 use Rattle.x_branches.proofs.CutExamples.{untried_below_two}
 
@@ -152,10 +152,6 @@ not_at_mark : ReopenRefused below_two (record { problem = small; from = start; t
 not_at_mark e = let f : X2 ≡ X1 = ap (λ (s : StateValue). s.label) e.at_mark in cc
 
 -- ---- specs/Stage.antt
-
--- 2 3 and 2 share the choice 2
-share_one : IsShared (2 ∷ 3 ∷ []) (2 ∷ []) 1
-share_one = record { within = omega arith; within_other = omega arith; same = refl; differs = λ l m e. absurd (omega arith) }
 
 choice_digit : digit_of small (at X5 (4 ∷ []) (At 5)) 0 ≡ 18
 choice_digit = refl

@@ -24,7 +24,8 @@ use Rattle.x_steps.proofs.OrderLemmas.{below_digits, fits_valid, digit_small}
 use Rattle.x_steps.proofs.RunLemmas.{rises_between, leads_to, rank_once}
 use Rattle.x_steps.proofs.BetweenLemmas.{steps_between_some}
 use Rattle.x_branches.specs.RunOrder.{ComesBefore}
-use Rattle.x_branches.specs.Stage.{many, IsShared, IsWithin, Shifts}
+use Rattle.x_steps.specs.Order.{IsShared}
+use Rattle.x_branches.specs.Stage.{many, IsWithin, Shifts}
 
 -- ---- the run's order is that of the ranks
 

@@ -4,7 +4,7 @@ use Rattle.std.specs.Prelude.{nat_lt, ◌==◌, ◌&&◌}
 use Rattle.std.proofs.Math.Bool.{and-true}
 use Rattle.std.specs.List.{slice_get}
 use Rattle.std.specs.Cmp.{both_ways}
-use Rattle.std.proofs.lemmas.Bool.{cases_lt, lt-ltb, le-ltb, false≢true, and_from, and_parts, and_left, and_right}
+use Rattle.std.proofs.lemmas.Bool.{cases_lt, lt-ltb, le-ltb, and_from, and_parts, and_left, and_right}
 use Rattle.std.proofs.lemmas.List.{nil_from_length, take_more, take-append-drop, take_at, drop_all}
 use Rattle.std.proofs.lemmas.List.Elements.{All-from_get_or, filter_more}
 use Rattle.std.proofs.lemmas.Option.{slice_get-get_or}

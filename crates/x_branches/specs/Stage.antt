@@ -1,10 +1,9 @@
 -- Where states stand at one level of the search, with room for any option number: a device of the comparison, whose contract speaks of the
--- run alone. `many` and `IsWithin` are that room, `IsShared` is how far two paths are the same, `digit_of` is a state's digit at a level,
--- and `Shifts` says what the room changes of it.
+-- run alone. `many` and `IsWithin` are that room, `digit_of` is a state's digit at a level, and `Shifts` says what the room changes of it.
 --
--- Example: the paths 2 3 and 2 share one choice. In the small problem X5 at option 5 with the path 4 has the digits 18 and 21 at the levels
--- 0 and 1. proofs/RunnerExamples.antt computes it.
-use Rattle.std.specs.Prelude.{ℕ, ◌<◌, ◌≤◌, ◌≡◌, ◌≢◌, ◌+◌, ◌*◌, ◌⊎◌, List, length, take, slice_index_or}
+-- Example: in the small problem X5 at option 5 with the path 4 has the digits 18 and 21 at the levels 0 and 1. proofs/RunnerExamples.antt
+-- computes it.
+use Rattle.std.specs.Prelude.{ℕ, ◌<◌, ◌≤◌, ◌≡◌, ◌+◌, ◌*◌, ◌⊎◌, length, slice_index_or}
 use Rattle.cover_problem.specs.Problem.{ProblemValue}
 use Rattle.x_steps.specs.declared.state.Cursor.{Cursor}
 use Rattle.x_steps.specs.declared.state.Cursor.TheVariants.{At}
@@ -19,13 +18,6 @@ many = 4294967296
 abbrev pub IsWithin : Cursor → Type 0
 IsWithin (At o) = o < many
 IsWithin k = Unit {0}
-
--- the first n choices are the same, and then one path ends or the next choices differ
-pub record IsShared (q r : List ℕ) (n : ℕ) : Type 0 where
-  pub within : n ≤ length q
-  pub within_other : n ≤ length r
-  pub same : take n q ≡ take n r
-  pub differs : n < length q → n < length r → slice_index_or q n 0 ≢ slice_index_or r n 0
 
 -- a state's digit at a level
 abbrev pub digit_of : ProblemValue → StateValue → ℕ → ℕ

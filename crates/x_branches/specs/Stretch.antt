@@ -9,7 +9,7 @@ use Rattle.x_steps.specs.StateValue.{StateValue}
 use Rattle.x_steps.specs.Steps.{Fits}
 use Rattle.x_steps.specs.Run.{ReachesIn, steps_between, visits_between}
 use Rattle.x_steps.specs.Levels.{trimmed_levels}
-use Rattle.packed_states.specs.StateCode.{choice_of, state_of, state_rest, paths_of, paths_rest}
+use Rattle.x_codes.specs.StateCode.{choice_of, state_of, state_rest, paths_of, paths_rest}
 
 -- a problem, and two states of its run: what lies between them is a function of these
 pub record StretchValue : Type 0 where

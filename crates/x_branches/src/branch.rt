@@ -104,6 +104,16 @@ impl<'p> Branch<'p> {
         }
     }
 
+    /// What is true of every branch, for a proof that needs it: a search of the problem whose cuts these are has its ends.
+    #[inline(always)]
+    pub(crate) fn is_sound(&self)
+        ensures first_fits { (p : ProblemValue) → IsOf p self.now.lo → Fits p (first_of self.now.lo) }
+        ensures end_fits { (p : ProblemValue) → IsOf p self.now.hi → Fits p (end_of self.now.hi) }
+    {
+        let _first = self.first();
+        let _end = self.end();
+    }
+
     /// Whether it is a branch of the problem's run: it begins before it ends.
     fn is_of(&self, problem: &Problem) -> bool
         ensures { IsTrue result ↔ IsBranch problem.now self.now }

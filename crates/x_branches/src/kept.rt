@@ -2,17 +2,17 @@
 ghost use Rattle.std.specs.Prelude.{◌≡◌, ◌++◌, IfOk, IfErr, OnOk, IsTrue, length, map};
 ghost use Rattle.x_steps.specs.StateView.{state_value};
 ghost use Rattle.x_steps.specs.Run.{steps_between};
-ghost use Rattle.packed_states.specs.StateCode.{choice_of, state_of, state_rest};
+ghost use Rattle.x_codes.specs.StateCode.{choice_of, state_of, state_rest};
 ghost use Rattle.x_branches.specs.Stretch.{kept_levels, kept_visits, visits_of_stretch, levels_of_stretch};
 
 use crate::stretch::Stretch;
 use cover_problem::{Lists, Problem};
 use packed_rows::{Reader, Row};
-use packed_states::{
-    put_choices, put_paths, put_state, read_all, read_paths, read_state, skip_paths, skip_state,
-};
 use std::alloc::{AllocError, Global};
 use std::marker::Model;
+use x_codes::{
+    put_choices, put_paths, put_state, read_all, read_paths, read_state, skip_paths, skip_state,
+};
 use x_steps::State;
 
 /// A stretch whose states, visits and counts are numbers of a row: some hundred bytes in place of three hundred and sixty.

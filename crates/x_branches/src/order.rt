@@ -5,28 +5,17 @@ ghost use Rattle.x_steps.specs.StateView.{state_value};
 ghost use Rattle.x_steps.specs.Steps.{Fits};
 ghost use Rattle.x_steps.specs.Rank.{digit_at};
 ghost use Rattle.x_branches.specs.RunOrder.{LessIsBefore, EqualIsSame, GreaterIsAfter, TrueIsBefore};
-ghost use Rattle.x_branches.specs.Stage.{many, IsShared, IsWithin, Shifts, digit_of};
+ghost use Rattle.x_branches.specs.Stage.{many, IsWithin, Shifts, digit_of};
 
 use crate::position::Position;
 use std::cmp::Ordering;
-use x_steps::{Cursor, Label, State};
+use x_steps::{Cursor, Label, State, shared};
 
 /// More options than a number of 32 bits can name.
 const MANY: u64 = 4_294_967_296;
 
 /// Where X5 stands past all options of its level.
 const PAST_ALL: u64 = 4 * MANY + 5;
-
-/// How many choices two paths share, up to their first difference.
-pub(crate) fn shared(one: &[u32], other: &[u32]) -> usize
-    ensures { IsShared one.now other.now result }
-{
-    let mut level = 0;
-    while level < one.len() && level < other.len() && one[level] == other[level] {
-        level += 1;
-    }
-    level
-}
 
 /// Where what lies below an option stands, among all that is done at its level.
 fn stage_below(option: u32) -> u64

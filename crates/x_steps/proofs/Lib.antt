@@ -13,6 +13,7 @@ pub mod ListingLemmas
 pub mod ReadLemmas
 pub mod MarkedLemmas
 pub mod ResumeLemmas
+pub mod MovingLemmas
 pub mod SecondLemmas
 pub mod Length
 pub mod WalkLemmas

@@ -28,7 +28,7 @@ use Rattle.x_steps.proofs.BackLemmas.{valid_at_X2}
 
 -- ---- steps of machines whose position is known
 
-whole : (m : Position) (p : ProblemValue) (s : StateValue) → m.problem ≡ p → m.state ≡ s → m ≡ position p s
+pub whole : (m : Position) (p : ProblemValue) (s : StateValue) → m.problem ≡ p → m.state ≡ s → m ≡ position p s
 whole m p s a b = rw (← a, ← b) refl
 
 pub goes_on : (p : ProblemValue) (s t : StateValue) (old new : Position) (event : Event) → next p s ≡ t → old ≡ position p s → Goes old new event → new ≡ position p t
@@ -80,7 +80,7 @@ pub same_at_X8 : (m : Position) (p : ProblemValue) (path : List ℕ) (k j : Curs
 unfolding covered_in
 same_at_X8 m p path k j e = rw e refl
 
-plain : (p : ProblemValue) (l : Label) (path : List ℕ) (k : Cursor) → (l ≡ X5 → ⊥) → (l ≡ X6 → ⊥) → (l ≡ X7 → ⊥) → covered_at p l path k ≡ covered_by p path
+pub plain : (p : ProblemValue) (l : Label) (path : List ℕ) (k : Cursor) → (l ≡ X5 → ⊥) → (l ≡ X6 → ⊥) → (l ≡ X7 → ⊥) → covered_at p l path k ≡ covered_by p path
 plain p X5 path k a b c = absurd (a refl)
 plain p X6 path k a b c = absurd (b refl)
 plain p X7 path k a b c = absurd (c refl)

@@ -1,5 +1,5 @@
 -- The step table, backwards and forwards, computed on the small problem: c e, a d g, b c f, a d f, b g, d e g.
-use Rattle.std.proofs.Common.{◌≡◌, [], ◌∷◌, map, refl, sym, ap, ◌∙◌}
+use Rattle.std.proofs.Common.{◌≡◌, [], ◌∷◌, map, refl, sym, ap, ◌∙◌, arith}
 use Rattle.cover_problem.specs.Lists.{numbers}
 use Rattle.cover_problem.specs.Covering.{active, remaining, choice}
 use Rattle.cover_problem.specs.Path.{taken, covered_by}
@@ -13,6 +13,7 @@ use Rattle.x_steps.specs.Steps.{next, covered_in, event_of}
 use Rattle.x_steps.specs.Before.{prev}
 use Rattle.x_steps.specs.Run.{after, entries, level_count, levels, states, steps_between, visits, visits_between}
 use Rattle.x_steps.specs.Levels.{without_last_zeros, trimmed_levels}
+use Rattle.x_steps.specs.Order.{IsShared}
 use Rattle.x_steps.proofs.RunLemmas.{start_fits, steps_between_is}
 use Rattle.x_steps.proofs.StretchLemmas.{ends_first}
 
@@ -125,3 +126,9 @@ levels_of_run = ap (λ n. map (level_count (states small n start)) (numbers 8 0)
 trimmed_levels_of_run : trimmed_levels small start done ≡ 1 ∷ 2 ∷ 2 ∷ 1 ∷ []
 unfolding trimmed_levels without_last_zeros
 trimmed_levels_of_run = ap without_last_zeros levels_of_run
+
+-- ---- specs/Order.antt
+
+-- 2 3 and 2 share the choice 2
+share_one : IsShared (2 ∷ 3 ∷ []) (2 ∷ []) 1
+share_one = record { within = omega arith; within_other = omega arith; same = refl; differs = λ l m e. absurd (omega arith) }

@@ -1,5 +1,7 @@
--- Path order.
-use Rattle.std.specs.Prelude.{ℕ, ◌<◌, ◌≡◌, ◌⊎◌, List, [], ◌∷◌}
+-- Path order, and how far two paths are the same (`IsShared`).
+--
+-- Example: the paths 2 3 and 2 share one choice (computed in proofs/StepExamples.antt).
+use Rattle.std.specs.Prelude.{ℕ, ◌<◌, ◌≤◌, ◌≡◌, ◌≢◌, ◌⊎◌, List, [], ◌∷◌, length, take, slice_index_or}
 
 -- one of the paths
 abbrev pub IsIn : List ℕ → List (List ℕ) → Type 0
@@ -21,3 +23,10 @@ AllAfter q (x ∷ xs) = PathLess q x × AllAfter q xs
 abbrev pub PathsRise : List (List ℕ) → Type 0
 PathsRise [] = Unit {0}
 PathsRise (x ∷ xs) = AllAfter x xs × PathsRise xs
+
+-- the first n choices are the same, and then one path ends or the next choices differ
+pub record IsShared (q r : List ℕ) (n : ℕ) : Type 0 where
+  pub within : n ≤ length q
+  pub within_other : n ≤ length r
+  pub same : take n q ≡ take n r
+  pub differs : n < length q → n < length r → slice_index_or q n 0 ≢ slice_index_or r n 0

@@ -1,12 +1,12 @@
--- A machine on its way down a path.
-use Rattle.std.specs.Prelude.{◌≡◌, Bool, List, [], ◌∷◌, ◌++◌, length, ℕ}
+-- A machine on its way down a path, and up one.
+use Rattle.std.specs.Prelude.{◌≡◌, ◌⊎◌, Bool, List, [], ◌∷◌, ◌++◌, length, ℕ}
 use Rattle.cover_problem.specs.Lists.{above}
 use Rattle.cover_problem.specs.Problem.{ProblemValue}
 use Rattle.cover_problem.specs.Path.{covered_by}
 use Rattle.x_steps.specs.declared.state.Label.{Label}
 use Rattle.x_steps.specs.declared.state.Label.TheVariants.{X2, X5}
 use Rattle.x_steps.specs.declared.state.Cursor.{Cursor}
-use Rattle.x_steps.specs.declared.state.Cursor.TheVariants.{None}
+use Rattle.x_steps.specs.declared.state.Cursor.TheVariants.{None, Past}
 use Rattle.x_steps.specs.StateValue.{StateValue, at}
 use Rattle.x_steps.specs.Steps.{Fits, remaining_after, cursor_of}
 use Rattle.x_steps.specs.Machine.{Position}
@@ -40,3 +40,16 @@ pub record IsDown (p : ProblemValue) (path : List ℕ) (m : Position) (marks : L
 -- the machine went down by this option, which is now the path's last
 abbrev pub GoesDown : Position → ℕ → Position → List Bool → Type 0
 GoesDown old option new marks = IsDown old.problem (old.state.path ++ option ∷ []) new marks
+
+-- the machine stands at X2 with one choice more
+abbrev pub longer_by : Position → ℕ → Position
+longer_by m o = standing_at m (at X2 (m.state.path ++ o ∷ []) None)
+
+-- the machine is on this path: at X2, or past the options of the item that is chosen after it, which then is covered
+pub record IsOnPath (p : ProblemValue) (path : List ℕ) (m : Position) : Type 0 where
+  pub here : (m ≡ position p (at X2 path None)) ⊎ (m ≡ position p (at X5 path Past))
+  pub fits : Fits p m.state
+
+-- the machine is on its own path
+abbrev pub IsOnItsPath : Position → Type 0
+IsOnItsPath m = IsOnPath m.problem m.state.path m

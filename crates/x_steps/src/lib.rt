@@ -9,6 +9,7 @@ pub mod laws;
 mod listing;
 mod machine;
 mod marks;
+mod paths;
 mod state;
 
 pub use counts::drop_last_zeros;
@@ -16,4 +17,5 @@ pub use cover_problem::Refused;
 pub use event::Event;
 pub use fault::{AtFault, StepFault};
 pub use machine::{Machine, Walk, no_counts};
+pub use paths::shared;
 pub use state::{Cursor, Label, State};

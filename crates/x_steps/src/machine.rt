@@ -10,6 +10,7 @@ ghost use Rattle.x_steps.specs.Machine.{IsAt, Goes, item_to_choose};
 
 mod at;
 mod back;
+mod moving;
 mod read;
 mod walk;
 

@@ -142,11 +142,22 @@ impl<'p, T: Table> Runner<'p, T> {
                 given: branch,
             });
         };
+        self.move_to(branch, mark);
+        Ok(())
+    }
+
+    /// Goes to a state of a branch and begins the branch there, with the mark at that state; what is unposted is let go. Takes no
+    /// memory and compares no problems: that a search can start there is known. What is covered at both states stays covered.
+    pub fn move_to(&mut self, branch: Branch<'p>, mark: State)
+        requires { CanStart self.old.problem branch (state_value mark) }
+        ensures { self.new ≡ runner_at self.old.problem branch.entry (state_value mark) }
+    {
+        branch.is_sound();
+        self.machine.move_to(&mark);
         let _ = mem::replace(&mut self.branch, branch);
         let _ = mem::replace(&mut self.mark, mark);
         self.steps = 0;
         forget_all(&mut self.visits, &mut self.counts);
-        Ok(())
     }
 
     /// Whether it stands at its mark, and a stretch ends there.

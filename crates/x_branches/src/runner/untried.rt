@@ -20,12 +20,12 @@ ghost use Rattle.x_branches.specs.Refusals.{untried_in, untried_lists, first_unt
 use crate::branch::Branch;
 use crate::cut::Cut;
 use crate::fault::RunnerFault;
-use crate::order::{is_before, shared};
+use crate::order::is_before;
 use crate::position::Position;
 use crate::runner::Runner;
 use cover_problem::{Lists, Problem, Table};
 use std::alloc::{AllocError, Global};
-use x_steps::{Cursor, Label, Refused, State};
+use x_steps::{Cursor, Label, Refused, State, shared};
 
 /// A state's choice at a level: the path's, or after the path the cursor's option.
 fn choice_at(state: &State, level: usize) -> Option<u32>
@@ -325,6 +325,7 @@ impl<'p, T: Table> Runner<'p, T> {
     pub fn cut(&self, level: usize, option: u32) -> Result<Cut<'p>, RunnerFault>
         ensures cut { Returns result (cut_at self.now level option) }
         ensures untried { OnOk result (has (untried_in self.now level) option ≡ true) }
+        ensures can_end { IfOk result (CanShorten self.now) }
         ensures refused { IfErr result (CutRefused self.now level option) }
     {
         if !self.is_left_above(level, option) {
@@ -351,6 +352,7 @@ impl<'p, T: Table> Runner<'p, T> {
         requires { has (untried_in self.now level) option ≡ true }
         ensures cut { Returns result (cut_at self.now level option) }
         ensures untried { OnOk result (has (untried_in self.now level) option ≡ true) }
+        ensures can_end { IfOk result (CanShorten self.now) }
         ensures refused { IfErr result (CutRefused self.now level option) }
     {
         let Ok(mut path) = Vec::from_slice(
@@ -394,7 +396,15 @@ impl<'p, T: Table> Runner<'p, T> {
                 given: cut,
             });
         }
-        self.branch.hi = Some(cut);
+        self.end_at(cut);
         Ok(())
+    }
+
+    /// The same where it is known that the branch can be ended there: nothing is compared.
+    pub fn end_at(&mut self, cut: Cut<'p>)
+        requires { CanShorten self.old cut }
+        ensures { self.new ≡ ended_at self.old cut.entry }
+    {
+        self.branch.hi = Some(cut);
     }
 }

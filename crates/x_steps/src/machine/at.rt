@@ -249,7 +249,7 @@ impl<'p, T: Table> Machine<'p, T> {
     }
 
     /// From X2 to X5 past the last option.
-    fn open_past(&mut self)
+    pub(super) fn open_past(&mut self)
         requires label { IsAt self.old Label.X2 }
         requires fits { HasStep self.old Label.X5 Cursor.Past }
         ensures { self.new ≡ at_step self.old Label.X5 Cursor.Past }
@@ -280,7 +280,7 @@ impl<'p, T: Table> Machine<'p, T> {
     }
 
     /// Stands at another step, where the same items are covered.
-    fn turn(&mut self, label: Label, cursor: Cursor)
+    pub(super) fn turn(&mut self, label: Label, cursor: Cursor)
         requires fits { HasStep self.old label cursor }
         requires same { covered_items (at_step self.old label cursor) ≡ covered_items self.old }
         ensures { self.new ≡ at_step self.old label cursor }

@@ -40,7 +40,7 @@ impl<'p, T: Table> Machine<'p, T> {
     }
 
     /// Before X2: the last option of the path is at hand again, or the search has not begun.
-    fn unenter(&mut self)
+    pub(super) fn unenter(&mut self)
         requires { IsAt self.old Label.X2 }
         ensures { GoesBack self.old self.new }
     {
@@ -129,7 +129,7 @@ impl<'p, T: Table> Machine<'p, T> {
     }
 
     /// Before X6: X8 with the option as the path's last.
-    fn retake(&mut self, option: u32)
+    pub(super) fn retake(&mut self, option: u32)
         requires label { IsAt self.old Label.X6 }
         requires cursor { self.old.state.cursor ≡ Cursor.At option }
         ensures { GoesBack self.old self.new }

@@ -1,7 +1,0 @@
-use Rattle.std.proofs.Common.{refl}
-use Rattle.packed_states.specs.StateCode.{path_rest}
-use Rattle.packed_states.proofs.reading.skip_path.Goals as goal
-
-pub returns : goal.returns
-unfolding path_rest
-returns c = rw (c.skip.ensures, c.number-count.ensures.number, c.number-count.ensures.rest) refl

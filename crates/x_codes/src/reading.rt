@@ -1,0 +1,176 @@
+//! States made of their numbers.
+ghost use Rattle.std.specs.Prelude.{◌≡◌, ◌++◌, length, take, drop, map, IfOk, OnOk};
+ghost use Rattle.x_steps.specs.StateView.{state_value};
+ghost use Rattle.x_codes.specs.StateCode.{choice_of, label_of, cursor_of};
+ghost use Rattle.x_codes.specs.StateCode.{path_of, path_rest, paths_of, paths_rest, state_of, state_rest};
+
+use cover_problem::Lists;
+use packed_rows::Reader;
+use std::alloc::{AllocError, Global};
+use x_steps::{Cursor, Label, State};
+
+/// A choice, of its number.
+pub fn choice(n: u64) -> u32
+    ensures { result ≡ choice_of n }
+// Each number gives a choice, so that reading can't fail. Those that were put as choices are below 2^32.
+{
+    (n % 4_294_967_296) as u32
+}
+
+/// The step of a number.
+fn label(n: u64) -> Label
+    ensures { result ≡ label_of n }
+{
+    match n {
+        1 => Label::X1,
+        2 => Label::X2,
+        3 => Label::X3,
+        4 => Label::X4,
+        5 => Label::X5,
+        6 => Label::X6,
+        7 => Label::X7,
+        8 => Label::X8,
+        // The rest is 9: no other number was put.
+        _ => Label::Done,
+    }
+}
+
+/// A cursor of this kind.
+fn cursor(kind: u64, n: u64) -> Cursor
+    ensures { result ≡ cursor_of kind n }
+{
+    match kind {
+        0 => Cursor::None,
+        1 => Cursor::At(choice(n)),
+        _ => Cursor::Past,
+    }
+}
+
+/// Reads so many choices, or as many as there are.
+fn read_choices(reader: &mut Reader<'_>, path: &mut Vec<u32>, count: u64) -> Result<(), AllocError>
+    ensures choices { OnOk result
+        (path.new.items ≡ path.old.items ++ map choice_of (take count reader.old)) }
+    ensures rest { OnOk result (reader.new ≡ drop count reader.old) }
+{
+    // A count is a number of the row like others, and no promise: where the numbers end, so does the loop.
+    let mut left = count;
+    'reading: while left > 0 {
+        let Some(n) = reader.next() else {
+            return Ok(());
+        };
+        path.push(choice(n))?;
+        left -= 1;
+    }
+    Ok(())
+}
+
+/// Reads all choices that are left.
+pub fn read_all(alloc: Global, reader: &mut Reader<'_>) -> Result<Vec<u32>, AllocError>
+    ensures { IfOk result (λ choices. choices.items ≡ map choice_of reader.old) }
+{
+    let mut choices = Vec::new(alloc);
+    'reading: while let Some(n) = reader.next() {
+        choices.push(choice(n))?;
+    }
+    Ok(choices)
+}
+
+/// Reads a list of choices.
+pub fn read_path(alloc: Global, reader: &mut Reader<'_>) -> Result<Vec<u32>, AllocError>
+    ensures path { IfOk result (λ path. path.items ≡ path_of reader.old) }
+    ensures rest { OnOk result (reader.new ≡ path_rest reader.old) }
+{
+    let count = reader.number();
+    let mut path = Vec::new(alloc);
+    read_choices(reader, &mut path, count)?;
+    Ok(path)
+}
+
+/// Reads lists of choices, and adds them to lists. Where memory runs out, some may be there.
+pub fn read_paths(
+    alloc: Global,
+    reader: &mut Reader<'_>,
+    paths: &mut Lists,
+) -> Result<(), AllocError>
+    ensures paths { OnOk result (paths.new ≡ paths.old ++ paths_of reader.old) }
+    ensures rest { OnOk result (reader.new ≡ paths_rest reader.old) }
+{
+    let mut left = reader.number();
+    'reading: while left > 0 {
+        let Some(size) = reader.next() else {
+            return Ok(());
+        };
+        let mut path = Vec::new(alloc);
+        read_choices(reader, &mut path, size)?;
+        paths.push(&path)?;
+        left -= 1;
+    }
+    Ok(())
+}
+
+/// Reads a state.
+pub fn read_state(alloc: Global, reader: &mut Reader<'_>) -> Result<State, AllocError>
+    ensures state { IfOk result (λ state. state_value state ≡ state_of reader.old) }
+    ensures rest { OnOk result (reader.new ≡ state_rest reader.old) }
+{
+    let label = label(reader.number());
+    let kind = reader.number();
+    let option = reader.number();
+    // It stands there for each kind, so its place is told before the kind is.
+    let cursor = cursor(kind, option);
+    let path = read_path(alloc, reader)?;
+    Ok(State {
+        label,
+        path,
+        cursor,
+    })
+}
+
+/// Reads over so many numbers, or over as many as there are.
+fn skip(reader: &mut Reader<'_>, count: u64)
+    ensures { reader.new ≡ drop count reader.old }
+{
+    let mut left = count;
+    'skipping: while left > 0 {
+        if reader.next().is_none() {
+            return;
+        }
+        left -= 1;
+    }
+}
+
+/// Reads over a list of choices.
+fn skip_path(reader: &mut Reader<'_>)
+    ensures { reader.new ≡ path_rest reader.old }
+{
+    let count = reader.number();
+    skip(reader, count);
+}
+
+/// Reads over a state, without memory.
+pub fn skip_state(reader: &mut Reader<'_>)
+    ensures { reader.new ≡ state_rest reader.old }
+{
+    let _label = reader.number();
+    let _kind = reader.number();
+    let _option = reader.number();
+    skip_path(reader);
+}
+
+/// Reads over lists of choices, without memory; how many there are.
+pub fn skip_paths(reader: &mut Reader<'_>) -> u64
+    ensures count { result ≡ length (paths_of reader.old) }
+    ensures rest { reader.new ≡ paths_rest reader.old }
+{
+    let told = reader.number();
+    let mut left = told;
+    'skipping: while left > 0 {
+        let Some(size) = reader.next() else {
+            // As many lists as began. Of a row that was put as lists, none is missing.
+            return told - left;
+        };
+        skip(reader, size);
+        left -= 1;
+    }
+    told
+}

@@ -1,0 +1,96 @@
+//! The numbers of a state.
+ghost use Rattle.std.specs.Prelude.{◌≡◌, ◌++◌, OnOk, map};
+ghost use Rattle.x_steps.specs.StateView.{state_value};
+ghost use Rattle.x_codes.specs.StateCode.{label_number, cursor_kind, cursor_choice, choice_of};
+ghost use Rattle.x_codes.specs.StateCode.{path_code, paths_code, state_code, ReadsPath, ReadsPaths, ReadsState};
+
+use cover_problem::Lists;
+use packed_rows::Row;
+use std::alloc::AllocError;
+use x_steps::{Cursor, Label, State};
+
+/// Adds choices, or other numbers of 32 bits. Where memory runs out, some of them may be there.
+pub fn put_choices(row: &mut Row, choices: &[u32]) -> Result<(), AllocError>
+    ensures code { OnOk result (row.new ≡ row.old ++ choices.now) }
+    ensures reads { map choice_of choices.now ≡ choices.now }
+{
+    'putting: for choice in choices {
+        row.put(*choice as u64)?;
+    }
+    Ok(())
+}
+
+/// Adds a list of choices, with its length before it. Where memory runs out, some numbers may be there.
+pub fn put_path(row: &mut Row, path: &[u32]) -> Result<(), AllocError>
+    ensures code { OnOk result (row.new ≡ row.old ++ path_code path.now) }
+    ensures reads { OnOk result (ReadsPath path.now) }
+{
+    // The length goes first, so that a reader can pass over a list.
+    row.put(path.len() as u64)?;
+    put_choices(row, path)?;
+    Ok(())
+}
+
+/// Adds lists of choices, with their number before them. Where memory runs out, some numbers may be there.
+pub fn put_paths(row: &mut Row, paths: &Lists) -> Result<(), AllocError>
+    ensures code { OnOk result (row.new ≡ row.old ++ paths_code paths.now) }
+    ensures reads { OnOk result (ReadsPaths paths.now) }
+{
+    row.put(paths.len() as u64)?;
+    for place in 0..paths.len() {
+        put_path(row, paths.list(place))?;
+    }
+    Ok(())
+}
+
+/// The number of a step.
+fn label_number(label: Label) -> u64
+    ensures { result ≡ label_number label }
+{
+    match label {
+        Label::X1 => 1,
+        Label::X2 => 2,
+        Label::X3 => 3,
+        Label::X4 => 4,
+        Label::X5 => 5,
+        Label::X6 => 6,
+        Label::X7 => 7,
+        Label::X8 => 8,
+        Label::Done => 9,
+    }
+}
+
+/// What kind of cursor it is.
+fn cursor_kind(cursor: Cursor) -> u64
+    ensures { result ≡ cursor_kind cursor }
+{
+    match cursor {
+        Cursor::None => 0,
+        Cursor::At(_) => 1,
+        Cursor::Past => 2,
+    }
+}
+
+/// The option that a cursor is at.
+fn cursor_choice(cursor: Cursor) -> u32
+    ensures { result ≡ cursor_choice cursor }
+{
+    match cursor {
+        Cursor::At(option) => option,
+        _ => 0,
+        // At no option a 0 is put: the place stays, and a reader needs no case.
+    }
+}
+
+/// Adds a state. Where memory runs out, some numbers may be there.
+pub fn put_state(row: &mut Row, state: &State) -> Result<(), AllocError>
+    ensures code { OnOk result (row.new ≡ row.old ++ state_code (state_value state.now)) }
+    ensures reads { OnOk result (ReadsState (state_value state.now)) }
+{
+    row.put(label_number(state.label))?;
+    row.put(cursor_kind(state.cursor))?;
+    let choice = cursor_choice(state.cursor);
+    row.put(choice as u64)?;
+    put_path(row, &state.path)?;
+    Ok(())
+}

@@ -3,7 +3,7 @@ use Rattle.std.proofs.Common.{◌≡◌, ℕ, ◌<◌, Bool, true, false, Option
 use Rattle.std.specs.Prelude as prelude
 use Rattle.std.proofs.lemmas.List.{append-nil}
 use Rattle.x_steps.specs.StateValue.{StateValue}
-use Rattle.packed_states.specs.StateCode.{path_code, state_code, state_of, state_rest, ReadsPath, ReadsState}
+use Rattle.x_codes.specs.StateCode.{path_code, state_code, state_of, state_rest, ReadsPath, ReadsState}
 use Rattle.lab_book.specs.declared.lease.Grant.{Grant}
 use Rattle.lab_book.specs.declared.fault.BookFault.{BookFault}
 use Rattle.lab_book.specs.declared.fault.BookFault.TheVariants.{StaleLease}

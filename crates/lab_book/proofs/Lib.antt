@@ -12,7 +12,7 @@ pub mod CountLemmas
 pub mod SumLemmas
 pub mod VisitedLemmas
 pub mod RiseLemmas
-pub mod ForetellLemmas
+pub mod ScribeLemmas
 pub mod CodeLemmas
 pub mod ReadingLemmas
 pub mod PlaceLemmas

@@ -2,7 +2,7 @@
 use Rattle.std.proofs.Common.{◌≡◌, ℕ, List, get_or, refl, arith}
 use Rattle.std.specs.Prelude as prelude
 use Rattle.std.proofs.lemmas.Bool.Decides.{nat_tests}
-use Rattle.packed_states.specs.StateCode.{later, path_of, path_rest}
+use Rattle.x_codes.specs.StateCode.{later, path_of, path_rest}
 use Rattle.lab_book.specs.EntryCode.{cut_of, cut_rest}
 
 -- ---- a cut's choices, by whether there is a cut

@@ -175,15 +175,14 @@ module _ (p : ProblemValue) (b : Branch) (s : StateValue) (ts : List TileValue) 
         ≡ cond {A = ℕ} (is_leased (tile_at ts i).status) 1 0 = ap {B = ℕ} (λ s. cond (is_leased s) 1 0) e in omega arith
 
     -- a tile is leased
-    pub lend_keeps : (index n : ℕ) (r : Reply) (after : List TileValue)
+    pub lend_keeps : (index : ℕ) (r : Reply) (after : List TileValue)
         → outcome (with_history p b s ts old.entries) w c ≡ lent (with_history p b s ts old.entries) w i
         → is_leased (tile_at ts i).status ≡ false → mid ≡ record old { kept = old.kept + 2 } → index ≡ length mid.entries
         → after ≡ set ts i (record (tile_at ts i) { status = status.Leased w index; stop = false })
-        → r ≡ reply.Leased (record { id = (tile_at ts i).id; worker = w; index = index }) (path_of (tile_at ts i).branch.lo)
-        (path_of (tile_at ts i).branch.hi) (mark_of (tile_at ts i)) (waiting_in after)
+        → r ≡ (lent (with_history p b s ts old.entries) w i).reply
         → new ≡ record { entries = mid.entries ++ record { worker = w; call = c; reply = r } ∷ []; kept = mid.kept - 1 }
         → KeepsBook (with_history p b s after new.entries) new.kept
-    lend_keeps index n r after o free k len t e a =
+    lend_keeps index r after o free k len t e a =
         let r1 = room_is old mid new _ 2 k a (omega arith) in
         let m = keeps.room in
         let here : index ≡ length old.entries = len ∙ ap (λ (h : HistoryValue). length h.entries) k in
@@ -191,7 +190,7 @@ module _ (p : ProblemValue) (b : Branch) (s : StateValue) (ts : List TileValue) 
         let t2 : after ≡ set ts i (lent_tile (tile_at ts i) w (length old.entries)) = t ∙ rw here refl in
         let l = lent_is (lent_tile (tile_at ts i) w (length old.entries)) refl free in
         let l2 = ap leased_in t2 in
-        kept_by _ w c r (lent (with_history p b s ts old.entries) w i) after new.entries o (e ∙ rw (t2, here) refl) t2
+        kept_by _ w c r (lent (with_history p b s ts old.entries) w i) after new.entries o e t2
         (entries_are old mid new _ 2 k a (omega arith)) old.kept new.kept keeps
         (tiling_set p b s ts i (lent_tile (tile_at ts i) w (length old.entries)) keeps.sound.tiling within refl refl refl
         (λ h. settled_is_tile p (tile_at ts i) (status.Leased w (length old.entries)) false h tt)) (omega arith)

@@ -18,7 +18,7 @@ use Rattle.cover_problem.proofs.NumberLemmas.{length-numbers}
 use Rattle.x_steps.proofs.BetweenLemmas.{steps_between_self, steps_between_join, states_between_self, level_count_between, levels_at}
 use Rattle.x_steps.proofs.BetweenLemmas.{counts_at}
 use Rattle.x_steps.proofs.ZeroLemmas.{zeros_cut}
-use Rattle.packed_states.specs.StateCode.{choice_of}
+use Rattle.x_codes.specs.StateCode.{choice_of}
 use Rattle.x_branches.specs.declared.branch.Branch.{Branch}
 use Rattle.x_branches.specs.Branch.{end_of}
 use Rattle.x_branches.specs.Cut.{CutPath}

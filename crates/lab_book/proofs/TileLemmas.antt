@@ -23,7 +23,7 @@ use Rattle.x_branches.specs.Stretch.{StretchValue, IsStretch}
 use Rattle.x_branches.specs.Refusals.{CanStart}
 use Rattle.x_branches.proofs.CutLemmas.{test_is_order}
 use Rattle.x_branches.proofs.RunnerLemmas.{not_before, before_not}
-use Rattle.packed_states.specs.StateCode.{label_number}
+use Rattle.x_codes.specs.StateCode.{label_number}
 use Rattle.lab_book.specs.States.{cursor_number, same_state}
 use Rattle.lab_book.specs.Tile.{TileValue, KeepsTile, led_to, mark_of, tile_end, Join, Stands, IsTile, is_leased, is_closed}
 use Rattle.lab_book.specs.Book.{last_of, stretches_to}

@@ -36,10 +36,6 @@ pub record Made (old new : BookValue) (w : ℕ) (c : Call) (r : Reply) : Type 0 
 abbrev pub next_entry : BookValue → ℕ → Call → Entry
 next_entry b w c = record { worker = w; call = c; reply = (outcome b w c).reply }
 
--- the entry that a call by this lease adds
-abbrev pub entry_by : BookValue → Grant → (Grant → Call) → Entry
-entry_by b g c = next_entry b g.worker (c g)
-
 -- a call is refused with a fault, beside what it was given, only where this holds of the fault
 abbrev pub RefusedIf : {A F G : Type 0} → Result A (Refused F G) → (F → Type 0) → Type 0
 RefusedIf result p = IfErr result (λ r. p r.fault)
@@ -77,10 +73,6 @@ posted_reply r = reply.Posted r.stop r.waiting
 abbrev pub post_of : ProblemValue → Grant → StretchValue → Call
 post_of p g x = call.Post g x.from x.to (is_same x.problem p)
 
--- the entry that it adds
-abbrev pub post_entry : BookValue → Grant → StretchValue → Entry
-post_entry b g x = next_entry b g.worker (post_of b.problem g x)
-
 -- a book made a post of this stretch, by this lease, and answered so
 abbrev pub Posts : BookValue → BookValue → Grant → StretchValue → Posted → Type 0
 Posts old new g x r = Made old new g.worker (post_of old.problem g x) (posted_reply r)
@@ -92,10 +84,6 @@ PostRefused old new g x f = Refuses old new g.worker (post_of old.problem g x) f
 -- a split, as the history keeps it
 abbrev pub split_of : ProblemValue → Grant → CutPath → Call
 split_of p g c = call.Split g c.path (is_same c.problem p)
-
--- the entry that it adds
-abbrev pub split_entry : BookValue → Grant → CutPath → Entry
-split_entry b g c = next_entry b g.worker (split_of b.problem g c)
 
 -- a book made a split at this cut, by this lease, and answered with the new tile's id
 abbrev pub Splits : BookValue → BookValue → Grant → CutPath → ℕ → Type 0
@@ -153,3 +141,30 @@ LeadTo s first xs count = option_map (λ n. take n xs) count ≡ stretches_to (s
 pub record GoesBack (t : TileValue) (s : StateValue) (count : ℕ) : Type 0 where
   pub some : count ≤ length t.stretches
   pub kept : stretches_to s t.first t.stretches ≡ Some (take count t.stretches)
+
+-- a scribe, of whom this tells what it notes, noted the entry of a call, with the index that it has in the history
+abbrev pub ScribeNotes : {S : Type 0} → (S → ℕ → Entry → S → Type 0) → S → S → BookValue → ℕ → Call → Type 0
+ScribeNotes notes old new b w c = notes old (length b.history) (next_entry b w c) new
+
+-- where a call was refused, it noted that, and nothing where memory ran out
+abbrev pub ScribeNotesFault : {S : Type 0}
+    → (S → ℕ → Entry → S → Type 0) → S → S → BookValue → ℕ → Call → BookFault → Type 0
+ScribeNotesFault notes old new b w c f =
+    (f ≡ OutOfMemory → new ≡ old) × ((f ≡ OutOfMemory → ⊥) → ScribeNotes notes old new b w c)
+
+-- the same for a call by this lease
+abbrev pub ScribeNotesBy : {S : Type 0} → (S → ℕ → Entry → S → Type 0) → S → S → BookValue → (Grant → Call) → Grant → Type 0
+ScribeNotesBy notes old new b c g = ScribeNotes notes old new b g.worker (c g)
+
+-- and where it was refused
+abbrev pub ScribeNotesByFault : {S : Type 0}
+    → (S → ℕ → Entry → S → Type 0) → S → S → BookValue → (Grant → Call) → Grant → BookFault → Type 0
+ScribeNotesByFault notes old new b c g f = ScribeNotesFault notes old new b g.worker (c g) f
+
+-- the entry of a call that is done
+abbrev pub done_entry : ℕ → Call → Entry
+done_entry w c = record { worker = w; call = c; reply = reply.Done }
+
+-- a scribe, of whom this tells for which entries it has room, has room for the one by which a call ends this lease
+abbrev pub ReadyToEnd : {S : Type 0} → (S → Entry → Type 0) → S → (Grant → Call) → Grant → Type 0
+ReadyToEnd ready s c g = ready s (done_entry g.worker (c g))

@@ -8,7 +8,7 @@ use Rattle.x_steps.specs.declared.state.Cursor.{Cursor}
 use Rattle.x_steps.specs.declared.state.Cursor.TheVariants as cursor
 use Rattle.x_steps.specs.declared.state.Cursor.TheVariants.{At, Past}
 use Rattle.x_steps.specs.StateValue.{StateValue}
-use Rattle.packed_states.specs.StateCode.{label_number}
+use Rattle.x_codes.specs.StateCode.{label_number}
 
 -- a number for each option that a step can be at
 abbrev pub cursor_number : Cursor → ℕ

@@ -7,10 +7,9 @@ ghost use Rattle.x_branches.specs.Cut.{IsCut};
 ghost use Rattle.x_branches.specs.Refusals.{CanStart, StartRefused};
 ghost use Rattle.x_branches.specs.Branch.{whole_run};
 ghost use Rattle.lab_book.specs.Book.{waiting_in, leased_in, IsTiled, new_book, replayed, outcome, refused, tile_place, first_book};
-ghost use Rattle.lab_book.specs.Calls.{Refuses, RefusedIf, OutOfMemoryOr};
+ghost use Rattle.lab_book.specs.Calls.{Refuses, RefusedIf, OutOfMemoryOr, ScribeNotesFault};
 
 mod ending;
-mod foretelling;
 mod leasing;
 mod posted;
 mod posting;
@@ -22,6 +21,7 @@ use crate::entry::{Call, Entry, Reply};
 use crate::fault::BookFault;
 use crate::history::History;
 use crate::mark::Mark;
+use crate::scribe::Scribe;
 use crate::status::Status;
 use crate::tile::Tile;
 use crate::tiles::Tiles;
@@ -243,10 +243,17 @@ impl<'p> Book<'p> {
         let _tiles = &self.tiles;
     }
 
-    /// Notes a refusal in the history, unless memory ran out, or runs out here.
-    fn refuse(&mut self, w: u8, call: Call, fault: BookFault) -> BookFault
+    /// Notes a refusal in the history and at a scribe, unless memory ran out, or runs out here.
+    fn refuse<S: Scribe>(
+        &mut self,
+        scribe: &mut S,
+        w: u8,
+        call: Call,
+        fault: BookFault,
+    ) -> BookFault
         requires { OutOfMemoryOr fault (outcome self.old w call ≡ refused self.old.tiles fault) }
-        ensures { Refuses self.old self.new w call result }
+        ensures refused { Refuses self.old self.new w call result }
+        ensures noted { ScribeNotesFault S.notes scribe.old scribe.new self.old w call result }
     {
         let fault = match fault {
             BookFault::OutOfMemory => return BookFault::OutOfMemory,
@@ -255,20 +262,23 @@ impl<'p> Book<'p> {
         let Ok(copy) = fault.copy() else {
             return BookFault::OutOfMemory;
         };
-        let Ok(()) = self.history.keep(1) else {
-            return BookFault::OutOfMemory;
-        };
-        self.history.add(Entry {
+        let entry = Entry {
             worker: w,
             call,
             reply: Reply::Refused(copy),
-        });
+        };
+        let Ok(()) = self.history.keep(scribe, 1, &entry) else {
+            return BookFault::OutOfMemory;
+        };
+        self.history.add(entry);
+        scribe.note();
         fault
     }
 
     /// Notes a refusal as `refuse` does, and hands back what the call was given.
-    fn hand_back<G>(
+    fn hand_back<S: Scribe, G>(
         &mut self,
+        scribe: &mut S,
         w: u8,
         call: Call,
         fault: BookFault,
@@ -276,9 +286,10 @@ impl<'p> Book<'p> {
     ) -> Refused<BookFault, G>
         requires { OutOfMemoryOr fault (outcome self.old w call ≡ refused self.old.tiles fault) }
         ensures refused { Refuses self.old self.new w call result.fault }
+        ensures noted { ScribeNotesFault S.notes scribe.old scribe.new self.old w call result.fault }
         ensures given_back { result.given ≡ given }
     {
-        let fault = self.refuse(w, call, fault);
+        let fault = self.refuse(scribe, w, call, fault);
         Refused { fault, given }
     }
 }

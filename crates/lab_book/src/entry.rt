@@ -257,8 +257,14 @@ impl Entry {
     pub(crate) fn copy(&self, alloc: Global) -> Result<Entry, AllocError>
         ensures { IfOk result (λ entry. entry ≡ self.now) }
     {
-        let mut row = Row::new(alloc);
-        self.write(&mut row)?;
+        self.copy_by(alloc, &mut Row::new(alloc))
+    }
+
+    /// A copy, made of its numbers by a scratch row.
+    pub fn copy_by(&self, alloc: Global, row: &mut Row) -> Result<Entry, AllocError>
+        ensures { IfOk result (λ entry. entry ≡ self.now) }
+    {
+        self.write(row)?;
         let entry = read_entry(alloc, &mut row.reader())?;
         Ok(entry)
     }

@@ -1,12 +1,12 @@
 //! Totals for each level.
 ghost use Rattle.std.specs.Prelude.{◌≡◌, ◌≤◌, ◌+◌, ℕ, IfOk, length, map, replicate, slice_index};
-ghost use Rattle.packed_states.specs.StateCode.{choice_of};
+ghost use Rattle.x_codes.specs.StateCode.{choice_of};
 ghost use Rattle.x_branches.specs.Refusals.{most_steps};
 ghost use Rattle.lab_book.specs.Posted.{HaveRoom};
 
 use packed_rows::Reader;
-use packed_states::choice;
 use std::alloc::{AllocError, Global};
+use x_codes::choice;
 
 /// A total of nothing for each level that a problem of so many items has.
 pub(crate) fn no_totals(alloc: Global, items: u32) -> Result<Vec<u128>, AllocError>

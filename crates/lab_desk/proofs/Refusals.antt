@@ -1,20 +1,18 @@
--- What a refused call leaves counted.
-use Rattle.std.proofs.Common.{◌≡◌, ℕ, ◌+◌, ◌-◌, List, [], ◌∷◌, ◌++◌, length, take, refl, sym, ap, ◌∙◌, inl, inr, arith, length-append}
-use Rattle.std.specs.Prelude.{true, false, Option, Some, Result, Ok, Err, is_ok, is_err, IfSome, OnOk, None}
+-- What a call leaves counted and noted.
+use Rattle.std.proofs.Common.{◌≡◌, ℕ, ◌+◌, List, [], ◌∷◌, ◌++◌, length, take, refl, sym, ap, ◌∙◌, inl, inr, arith, length-append}
+use Rattle.std.specs.Prelude.{Option, Some, Result, Ok, Err, MatchOption, None}
 use Rattle.std.proofs.lemmas.List.{take-append-le}
 use Rattle.lab_book.specs.declared.fault.BookFault.{BookFault}
 use Rattle.lab_book.specs.declared.fault.BookFault.TheVariants.{OutOfMemory}
 use Rattle.lab_book.specs.declared.entry.Call.{Call}
 use Rattle.lab_book.specs.declared.entry.Call.TheVariants as call
 use Rattle.lab_book.specs.declared.entry.Entry.{Entry}
-use Rattle.lab_book.specs.Tile.{TileValue}
-use Rattle.lab_book.specs.declared.lease.Grant.{Grant}
-use Rattle.lab_book.specs.Book.{BookValue, Outcome, outcome, made_at, settled, freed, found, lease_fault, lent, lent_any, first_waiting}
+use Rattle.lab_book.specs.Book.{BookValue, outcome, made_at, lent, lent_any, first_waiting}
 use Rattle.lab_book.specs.declared.entry.Reply.{Reply}
 use Rattle.lab_book.specs.declared.entry.Reply.TheVariants as reply
-use Rattle.lab_book.specs.Calls.{Made, Refuses, next_entry, is_current, leased_reply, any_reply}
+use Rattle.lab_book.specs.Calls.{Made, Refuses, next_entry, leased_reply, any_reply, ScribeNotes, ScribeNotesFault}
 use Rattle.lab_book.specs.declared.lease.Leased.{Leased}
-use Rattle.lab_desk.specs.Record.{noted, entry, Notes}
+use Rattle.lab_desk.specs.Record.{SheetValue, SheetNotes, noted, entry, Notes, NotesRefusal, AtSomeIndex}
 use Rattle.lab_desk.specs.declared.seat.Noted.{Noted}
 
 pub counts : (old new : BookValue) (w : ℕ) (c : Call) (f : BookFault) (m total now : ℕ) → Refuses old new w c f
@@ -34,13 +32,6 @@ opens old new w c f opening total (inl p) h o = ap (λ (b : BookValue). take (le
 opens old new w c f opening total (inr p) h o =
     ap (λ (b : BookValue). take (length opening) b.history) p.1.book
     ∙ take-append-le (length opening) old.history (next_entry old w c ∷ []) (omega arith) ∙ o
-
--- a call that was answered stands in the seat's notes, where its entry was told before
-pub told : (b d : BookValue) (w : ℕ) (c : Call) (r : Reply) (i n : ℕ) (e : Entry) (old kept new : List Noted) → e ≡ next_entry b w c
-    → Made b d w c r → kept ≡ old → i ≡ n → new ≡ kept ++ noted i e ∷ [] → Notes n old new w c r
-told b d w c r i n e old kept new is made same index notes =
-    notes ∙ ap (λ xs. xs ++ noted i e ∷ []) same
-    ∙ (λ j. old ++ noted (index j) ((is ∙ ap (entry w c) (sym made.reply)) j) ∷ [])
 
 -- the index of a lease is that of the entry that gave it
 abbrev index_of : Reply → ℕ
@@ -68,57 +59,47 @@ any_index b d w r made = any_lent_index (first_waiting b.tiles) made.reply
     any_lent_index None e = absurd (cc)
     any_lent_index (Some i) e = ap index_of e
 
-pub any_some_index : (b d : BookValue) (w : ℕ) (o : Option Leased) → Made b d w call.LeaseAny (any_reply o)
-    → IfSome o (λ l. l.lease.index ≡ length b.history)
-any_some_index b d w None made = tt
-any_some_index b d w (Some l) made = any_index b d w l made
+-- what the sheet of a seat, as a book's scribe, notes of one call: it is lent a scratch row before, and gives it back after
+module _ (old new : BookValue) (was s t now : SheetValue) (lent : s ≡ was) (back : now ≡ t) (w : ℕ) (c : Call) where
+  -- a call that was answered is noted with its answer, at the index of its entry
+  pub answered_at : (i : ℕ) (r : Reply) → i ≡ length old.history → Made old new w c r → ScribeNotes SheetNotes s t old w c
+      → Notes i was.list now.list w c r
+  answered_at i r e made notes = ap (λ (n : SheetValue). n.list) (back ∙ notes)
+      ∙ ap (λ (n : SheetValue). n.list ++ noted (length old.history) (next_entry old w c) ∷ []) lent
+      ∙ ap (λ (a : Reply). was.list ++ noted (length old.history) (entry w c a) ∷ []) (sym made.reply)
+      ∙ ap (λ (n : ℕ). was.list ++ noted n (entry w c r) ∷ []) (sym e)
 
--- what holds where a call succeeds, holds where it did
-on_ok : {A : Type 0} {B : Type 0} {P : Type 0} (r : Result A B) → is_err r ≡ false → OnOk r P → P
-on_ok (Ok x) off p = p
-on_ok (Err x) off p = cc
+  pub answered : (r : Reply) → Made old new w c r → ScribeNotes SheetNotes s t old w c → Notes (length old.history) was.list now.list w c r
+  answered r made notes = answered_at (length old.history) r refl made notes
 
--- a call that finds something against it is refused
-found_refused : (ts : List TileValue) (change : ℕ → Outcome) (r : Result ℕ BookFault) → (is_ok r ≡ true → ⊥)
-    → (f : BookFault) × ((made_at ts change r).reply ≡ reply.Refused f)
-found_refused ts change (Ok i) against = absurd (against refl)
-found_refused ts change (Err f) against = (f, refl)
+  -- a refusal is noted, unless memory ran out
+  pub refusal : (f : BookFault) → Refuses old new w c f → ScribeNotesFault SheetNotes s t old w c f
+      → NotesRefusal (length old.history) was.list now.list w c f
+  refusal f (inl p) notes = inl (p.0, ap (λ (n : SheetValue). n.list) (back ∙ notes.0 p.0 ∙ lent))
+  refusal f (inr p) notes = inr (p.0, answered (reply.Refused f) p.1 (notes.1 p.0))
 
--- what a park and an abandon come to
-pub park_is : (b : BookValue) (g : Grant) → outcome b g.worker (call.Park g)
-    ≡ made_at b.tiles (settled b freed) (found b.tiles g.id (λ t. lease_fault g t None))
-unfolding outcome
-park_is b g = refl
+  -- no note is in hand then
+  pub refusal_none : (f : BookFault) → was.next ≡ None → Refuses old new w c f → ScribeNotesFault SheetNotes s t old w c f → now.next ≡ None
+  refusal_none f none (inl p) notes = ap (λ (n : SheetValue). n.next) (back ∙ notes.0 p.0 ∙ lent) ∙ none
+  refusal_none f none (inr p) notes = ap (λ (n : SheetValue). n.next) (back ∙ notes.1 p.0)
 
-pub abandon_is : (b : BookValue) (g : Grant) → outcome b g.worker (call.Abandon g)
-    ≡ made_at b.tiles (settled b freed) (found b.tiles g.id (λ t. lease_fault g t None))
-unfolding outcome
-abandon_is b g = refl
+  -- and there are as many notes as are counted
+  pub refusal_counts : (f : BookFault) (amount after : ℕ) → Refuses old new w c f → ScribeNotesFault SheetNotes s t old w c f
+      → amount ≡ length was.list → ((f ≡ OutOfMemory → ⊥) → after ≡ amount + 1) → (f ≡ OutOfMemory → after ≡ amount)
+      → after ≡ length now.list
+  refusal_counts f amount after (inl p) notes h made kept =
+      let l = ap (λ (n : SheetValue). length n.list) (back ∙ notes.0 p.0 ∙ lent) in
+      let k = kept p.0 in omega arith
+  refusal_counts f amount after (inr p) notes h made kept =
+      let l = ap (λ (xs : List Noted). length xs) (answered (reply.Refused f) p.1 (notes.1 p.0)) in
+      let a = length-append was.list (noted (length old.history) (entry w c (reply.Refused f)) ∷ []) in
+      let k = made p.0 in omega arith
 
--- a refused call of a lease leaves as much room kept as there was: its note had room of its own
-pub room_stays : {A : Type 0} {B : Type 0} (b : BookValue) (g : Grant) (k : Call) (e : Entry) (r : Result A B) (old mid new : ℕ)
-    → outcome b g.worker k ≡ made_at b.tiles (settled b freed) (found b.tiles g.id (λ t. lease_fault g t None))
-    → e ≡ next_entry b g.worker k → (is_current b.tiles g ≡ true → ⊥)
-    → ((f : BookFault) → e.reply ≡ reply.Refused f → OnOk r (mid ≡ old + 1)) → is_err r ≡ false → new ≡ mid - 1 → new ≡ old
-room_stays b g k e r old mid new o is against kept ok now =
-    let f = found_refused b.tiles (settled b freed) (found b.tiles g.id (λ t. lease_fault g t None)) against in
-    let more = on_ok r ok (kept f.0 (ap (λ (e : Entry). e.reply) is ∙ ap (λ (x : Outcome). x.reply) o ∙ f.1)) in
-    omega arith
-
--- a call that ends the current lease of a tile is done
-found_current : (ts : List TileValue) (change : ℕ → Outcome) (r : Result ℕ BookFault) → is_ok r ≡ true → ((i : ℕ) → (change i).reply ≡ reply.Done)
-    → (made_at ts change r).reply ≡ reply.Done
-found_current ts change (Ok i) current done = done i
-found_current ts change (Err f) current done = absurd (cc)
-
-pub ends_current : (b : BookValue) (g : Grant) (k : Call) (e : Entry)
-    → outcome b g.worker k ≡ made_at b.tiles (settled b freed) (found b.tiles g.id (λ t. lease_fault g t None))
-    → e ≡ next_entry b g.worker k → is_current b.tiles g ≡ true → e.reply ≡ reply.Done
-ends_current b g k e o is current =
-    ap (λ (e : Entry). e.reply) is ∙ ap (λ (x : Outcome). x.reply) o
-    ∙ found_current b.tiles (settled b freed) (found b.tiles g.id (λ t. lease_fault g t None)) current (λ i. refl)
-
--- what succeeded didn't fail
-pub ok_no_err : {A : Type 0} {B : Type 0} (r : Result A B) → is_ok r ≡ true → is_err r ≡ true → ⊥
-ok_no_err (Ok x) ok err = cc
-ok_no_err (Err x) ok err = cc
+module _ (old new : BookValue) (was s t now : SheetValue) (lent : s ≡ was) (back : now ≡ t) (w : ℕ) where
+  -- a lease of any tile is noted with its answer; its index is that of its entry
+  pub any_answered : (o : Option Leased) → Made old new w call.LeaseAny (any_reply o) → ScribeNotes SheetNotes s t old w call.LeaseAny
+      → MatchOption o (AtSomeIndex (λ i. Notes i was.list now.list w call.LeaseAny reply.NoneWaits))
+      (λ l. Notes l.lease.index was.list now.list w call.LeaseAny (leased_reply l))
+  any_answered None made notes = (length old.history, answered old new was s t now lent back w call.LeaseAny reply.NoneWaits made notes)
+  any_answered (Some l) made notes =
+      answered_at old new was s t now lent back w call.LeaseAny l.lease.index (leased_reply l) (any_index old new w l made) made notes

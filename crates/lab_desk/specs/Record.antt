@@ -4,8 +4,8 @@
 --
 -- Example: worker 0 leases, then worker 1, for whom none waits, and then worker 0 parks: the notes of worker 0 are the entries 0 and 2. The
 -- numbers 1 1 1 1 tell the note of entry 1. proofs/DeskExamples.antt computes it.
-use Rattle.std.specs.Prelude.{◌≡◌, ℕ, ◌+◌, ◌-◌, ◌==◌, ◌⊎◌, List, [], ◌∷◌, ◌++◌, cond, drop, map, slice_index, slice_get, option_map}
-use Rattle.std.specs.Prelude.{Option, Some, MatchOption, Result, IfOk, IfErr, OnOk}
+use Rattle.std.specs.Prelude.{◌≡◌, ◌<◌, ℕ, ◌+◌, ◌-◌, ◌==◌, ◌⊎◌, Bool, true, false, List, [], ◌∷◌, ◌++◌, cond, drop, map, slice_index, slice_get, option_map}
+use Rattle.std.specs.Prelude.{Option, Some, None, MatchOption, Result, IfOk, IfErr, OnOk}
 use Rattle.std.specs.List.{All}
 use Rattle.cover_problem.specs.Problem.{ProblemValue}
 use Rattle.cover_problem.specs.declared.fault.Refused.{Refused}
@@ -56,18 +56,49 @@ pub record SeatValue : Type 0 where
   pub notes : List Noted
   pub kept : ℕ
 
--- notes, and for how many more room is kept
+-- notes, for how many more room is kept, and the note that is in hand
 pub record SheetValue : Type 0 where
   pub list : List Noted
   pub kept : ℕ
+  pub next : Option Noted
 
--- one note more, for which room was kept
-abbrev pub with_note : SheetValue → Noted → SheetValue
-with_note n note = record { list = n.list ++ note ∷ []; kept = n.kept - 1 }
+-- whether a call ends a lease
+abbrev pub ends_lease : Call → Bool
+ends_lease (call.Park g) = true
+ends_lease (call.Abandon g) = true
+ends_lease (call.Close g) = true
+ends_lease c = false
 
--- a note of the entry with an index joins the notes
-abbrev pub AddsNote : SheetValue → SheetValue → ℕ → Entry → Type 0
-AddsNote old new i e = new.list ≡ old.list ++ noted i e ∷ []
+-- an entry tells that a lease has ended
+pub record EndsLease (e : Entry) : Type 0 where
+  pub ends : ends_lease e.call ≡ true
+  pub done : e.reply ≡ reply.Done
+
+-- for how many notes room is kept once a call was answered so, of so many before: one more where a lease was given, and one fewer where
+-- one ended
+abbrev pub kept_by : ℕ → Call → Reply → ℕ
+kept_by k c (reply.Leased g lo hi mark n) = k + 1
+kept_by k c reply.Done = cond (ends_lease c) (k - 1) k
+kept_by k c r = k
+
+-- and once this entry is noted
+abbrev pub kept_after : ℕ → Entry → ℕ
+kept_after k e = kept_by k e.call e.reply
+
+-- the entry with an index is noted, where none is in hand
+abbrev pub SheetNotes : SheetValue → ℕ → Entry → SheetValue → Type 0
+SheetNotes old i e new = new ≡ record { list = old.list ++ noted i e ∷ []; kept = kept_after old.kept e; next = None }
+
+-- the entry with an index is in hand, where none was
+pub record SheetKeeps (old : SheetValue) (i : ℕ) (e : Entry) (new : SheetValue) : Type 0 where
+  pub free : old.next ≡ None
+  pub next : new ≡ record old { next = Some (noted i e) }
+
+-- there is room for an entry: it ends a lease, whose end room is kept for
+pub record SheetReady (s : SheetValue) (e : Entry) : Type 0 where
+  pub end : EndsLease e
+  pub some : 0 < s.kept
+  pub free : s.next ≡ None
 
 -- a note is of the entry with an index in a history
 abbrev pub IsNoteOf : Noted → List Entry → ℕ → Type 0
@@ -76,14 +107,6 @@ IsNoteOf note history i = Some note ≡ option_map (noted i) (slice_get history 
 -- the note at a place is of the entry with an index in a history
 abbrev pub TellsEntry : List Noted → ℕ → List Entry → ℕ → Type 0
 TellsEntry notes place history i = slice_get notes place ≡ option_map (noted i) (slice_get history i)
-
--- where an entry tells that its call was done, this is true
-abbrev pub IfDone : Entry → Type 0 → Type 0
-IfDone e P = e.reply ≡ reply.Done → P
-
--- where it tells that its call was refused, with whichever fault, this is true
-abbrev pub IfNotDone : Entry → Type 0 → Type 0
-IfNotDone e P = (f : BookFault) → e.reply ≡ reply.Refused f → P
 
 -- the entry of a call
 abbrev pub entry : ℕ → Call → Reply → Entry

@@ -1,6 +1,6 @@
 //! A desk: a book under one lock, which each worker calls from a seat of its own.
 ghost use Rattle.std.specs.Prelude.{◌≡◌, ◌⊎◌, ◌<◌, ◌≤◌, ◌+◌, ◌-◌, true, [], IfOk, IfErr, OnErr, OnOk, IfSome, vec_len, vec_capacity, length, take, List};
-ghost use Rattle.cover_problem.specs.Problem.{ProblemValue};
+ghost use Rattle.cover_problem.specs.Problem.{ProblemValue, is_same};
 ghost use Rattle.x_steps.specs.StateValue.{StateValue};
 ghost use Rattle.x_branches.specs.declared.branch.Branch.{Branch};
 ghost use Rattle.lab_book.specs.declared.entry.Entry.{Entry};
@@ -11,7 +11,7 @@ ghost use Rattle.lab_desk.specs.Record.{NotesRetract, AtSomeIndex, KeepsRoomFor}
 ghost use Rattle.lab_desk.specs.Seats.{AreNewSeats, HaveAllNumbers, AreRecordsAfter, AreOfSeatsAfter, IsFinishedBy, IsDeskBook};
 
 use crate::finishing::tell_all;
-use crate::locked::Locked;
+use crate::locked::{Locked, count_refusal};
 use crate::seat::Seat;
 use cover_problem::Problem;
 use lab_book::{Book, BookFault, Lease, Leased, Posted};
@@ -159,7 +159,12 @@ impl<'p, L: Desking> Desk<'p, L> {
         ensures room_stays { OnErr result (seat.new.kept ≡ seat.old.kept) }
         ensures number { seat.new.number ≡ seat.old.number }
     {
-        self.lock.lock(rt).lease(seat, id)
+        called!(
+            self.lock.lock(rt),
+            seat,
+            |book, number, notes| book.lease_by(notes, *number, id),
+            |fault| &fault
+        )
     }
 
     /// Waits while no tile waits and some tile is leased, and then leases the first that waits, if
@@ -177,10 +182,40 @@ impl<'p, L: Desking> Desk<'p, L> {
         ensures room_stays { OnErr result (seat.new.kept ≡ seat.old.kept) }
         ensures number { seat.new.number ≡ seat.old.number }
     {
-        let mut locked = self.changed.wait_while(rt, self.lock.lock(rt), |locked| {
+        let locked = self.changed.wait_while(rt, self.lock.lock(rt), |locked| {
             locked.book.waiting() == 0 && locked.book.leased() > 0
         });
-        locked.lease_any(seat)
+        called!(
+            locked,
+            seat,
+            |book, number, notes| book.lease_any_by(notes, *number),
+            |_none| &BookFault::OutOfMemory
+        )
+    }
+
+    /// Posts a stretch, with the answer of the comparison of its problem and the desk's.
+    fn post_compared<R: Wait>(
+        &self,
+        rt: &R,
+        seat: &mut Seat<L>,
+        lease: &Lease,
+        stretch: Stretch<'p>,
+        same: bool,
+    ) -> Result<Posted, Refused<BookFault, Stretch<'p>>>
+        requires worker { lease.now.worker ≡ seat.old.number }
+        requires same { same ≡ is_same stretch.problem L.whole }
+        ensures noted { AtSomeIndex (λ i. NotesPost i L.whole seat.old seat.new lease.now stretch.entry result) }
+        ensures refused { AtSomeIndex (λ i. NotesPostFault i L.whole seat.old seat.new lease.now stretch.entry result) }
+        ensures given_back { IfErr result (λ r. r.given ≡ stretch.entry) }
+        ensures room { seat.new.kept ≡ seat.old.kept }
+        ensures number { seat.new.number ≡ seat.old.number }
+    {
+        called!(
+            self.lock.lock(rt),
+            seat,
+            |book, _number, notes| book.post_by(notes, lease, stretch, same),
+            |refused| &refused.fault
+        )
     }
 
     /// Posts a stretch, as the book does. Its problem is compared before the lock is taken.
@@ -199,7 +234,53 @@ impl<'p, L: Desking> Desk<'p, L> {
         ensures number { seat.new.number ≡ seat.old.number }
     {
         let same = stretch.problem().same(self.problem);
-        self.lock.lock(rt).post(seat, lease, stretch, same)
+        self.post_compared(rt, seat, lease, stretch, same)
+    }
+
+    /// The same for a stretch that is known to be of the desk's problem: nothing is compared.
+    pub fn post_own<R: Wait>(
+        &self,
+        rt: &R,
+        seat: &mut Seat<L>,
+        lease: &Lease,
+        stretch: Stretch<'p>,
+    ) -> Result<Posted, Refused<BookFault, Stretch<'p>>>
+        requires worker { lease.now.worker ≡ seat.old.number }
+        requires own { stretch.problem ≡ L.whole }
+        ensures noted { AtSomeIndex (λ i. NotesPost i L.whole seat.old seat.new lease.now stretch.entry result) }
+        ensures refused { AtSomeIndex (λ i. NotesPostFault i L.whole seat.old seat.new lease.now stretch.entry result) }
+        ensures given_back { IfErr result (λ r. r.given ≡ stretch.entry) }
+        ensures room { seat.new.kept ≡ seat.old.kept }
+        ensures number { seat.new.number ≡ seat.old.number }
+    {
+        self.post_compared(rt, seat, lease, stretch, true)
+    }
+
+    /// Splits the tile that is leased, with the answer of the comparison of the cut's problem and the desk's.
+    fn split_compared<R: Wait>(
+        &self,
+        rt: &R,
+        seat: &mut Seat<L>,
+        lease: &Lease,
+        cut: Cut<'p>,
+        same: bool,
+    ) -> Result<u64, Refused<BookFault, Cut<'p>>>
+        requires worker { lease.now.worker ≡ seat.old.number }
+        requires same { same ≡ is_same cut.problem L.whole }
+        ensures noted { AtSomeIndex (λ i. NotesSplit i L.whole seat.old seat.new lease.now cut.entry result) }
+        ensures refused { AtSomeIndex (λ i. NotesSplitFault i L.whole seat.old seat.new lease.now cut.entry result) }
+        ensures given_back { IfErr result (λ r. r.given ≡ cut.entry) }
+        ensures room { seat.new.kept ≡ seat.old.kept }
+        ensures number { seat.new.number ≡ seat.old.number }
+    {
+        let id = called!(
+            self.lock.lock(rt),
+            seat,
+            |book, _number, notes| book.split_by(notes, lease, cut, same),
+            |refused| &refused.fault
+        );
+        self.changed.notify_all();
+        id
     }
 
     /// Splits the tile that is leased, as the book does. The cut's problem is compared before the
@@ -219,9 +300,26 @@ impl<'p, L: Desking> Desk<'p, L> {
         ensures number { seat.new.number ≡ seat.old.number }
     {
         let same = cut.problem().same(self.problem);
-        let id = self.lock.lock(rt).split(seat, lease, cut, same);
-        self.changed.notify_all();
-        id
+        self.split_compared(rt, seat, lease, cut, same)
+    }
+
+    /// The same for a cut that is known to be of the desk's problem: nothing is compared.
+    pub fn split_own<R: Wait>(
+        &self,
+        rt: &R,
+        seat: &mut Seat<L>,
+        lease: &Lease,
+        cut: Cut<'p>,
+    ) -> Result<u64, Refused<BookFault, Cut<'p>>>
+        requires worker { lease.now.worker ≡ seat.old.number }
+        requires own { cut.problem ≡ L.whole }
+        ensures noted { AtSomeIndex (λ i. NotesSplit i L.whole seat.old seat.new lease.now cut.entry result) }
+        ensures refused { AtSomeIndex (λ i. NotesSplitFault i L.whole seat.old seat.new lease.now cut.entry result) }
+        ensures given_back { IfErr result (λ r. r.given ≡ cut.entry) }
+        ensures room { seat.new.kept ≡ seat.old.kept }
+        ensures number { seat.new.number ≡ seat.old.number }
+    {
+        self.split_compared(rt, seat, lease, cut, true)
     }
 
     /// Parks the tile that is leased, as the book does. Takes no memory for the tile's current lease,
@@ -242,7 +340,12 @@ impl<'p, L: Desking> Desk<'p, L> {
         ensures room_stays { OnErr result (seat.new.kept ≡ seat.old.kept) }
         ensures number { seat.new.number ≡ seat.old.number }
     {
-        let done = self.lock.lock(rt).park(seat, lease);
+        let done = called!(
+            self.lock.lock(rt),
+            seat,
+            |book, _number, notes| book.park_by(notes, lease),
+            |refused| &refused.fault
+        );
         self.changed.notify_all();
         done
     }
@@ -265,7 +368,12 @@ impl<'p, L: Desking> Desk<'p, L> {
         ensures room_stays { OnErr result (seat.new.kept ≡ seat.old.kept) }
         ensures number { seat.new.number ≡ seat.old.number }
     {
-        let done = self.lock.lock(rt).abandon(seat, lease);
+        let done = called!(
+            self.lock.lock(rt),
+            seat,
+            |book, _number, notes| book.abandon_by(notes, lease),
+            |refused| &refused.fault
+        );
         self.changed.notify_all();
         done
     }
@@ -285,7 +393,12 @@ impl<'p, L: Desking> Desk<'p, L> {
         ensures room_stays { OnErr result (seat.new.kept ≡ seat.old.kept) }
         ensures number { seat.new.number ≡ seat.old.number }
     {
-        let done = self.lock.lock(rt).close(seat, lease);
+        let done = called!(
+            self.lock.lock(rt),
+            seat,
+            |book, _number, notes| book.close_by(notes, lease),
+            |refused| &refused.fault
+        );
         self.changed.notify_all();
         done
     }
@@ -305,7 +418,12 @@ impl<'p, L: Desking> Desk<'p, L> {
         ensures room_stays { OnErr result (seat.new.kept ≡ seat.old.kept) }
         ensures number { seat.new.number ≡ seat.old.number }
     {
-        self.lock.lock(rt).take_held(seat, id)
+        called!(
+            self.lock.lock(rt),
+            seat,
+            |book, number, notes| book.take_held_by(notes, *number, id),
+            |fault| &fault
+        )
     }
 
     /// Asks the worker of a tile to stop, as the book does.
@@ -320,7 +438,12 @@ impl<'p, L: Desking> Desk<'p, L> {
         ensures room { seat.new.kept ≡ seat.old.kept }
         ensures number { seat.new.number ≡ seat.old.number }
     {
-        self.lock.lock(rt).request_stop(seat, id)
+        called!(
+            self.lock.lock(rt),
+            seat,
+            |book, number, notes| book.request_stop_by(notes, *number, id),
+            |fault| &fault
+        )
     }
 
     /// Puts a tile back to one of its marks, as the book does.
@@ -336,7 +459,12 @@ impl<'p, L: Desking> Desk<'p, L> {
         ensures room { seat.new.kept ≡ seat.old.kept }
         ensures number { seat.new.number ≡ seat.old.number }
     {
-        self.lock.lock(rt).put_back(seat, id, state)
+        called!(
+            self.lock.lock(rt),
+            seat,
+            |book, number, notes| book.put_back_by(notes, *number, id, state),
+            |fault| &fault
+        )
     }
 
     /// Takes the last posted stretch out, as the book does.
@@ -352,7 +480,12 @@ impl<'p, L: Desking> Desk<'p, L> {
         ensures room { seat.new.kept ≡ seat.old.kept }
         ensures number { seat.new.number ≡ seat.old.number }
     {
-        self.lock.lock(rt).retract(seat, lease)
+        called!(
+            self.lock.lock(rt),
+            seat,
+            |book, _number, notes| book.retract_by(notes, lease),
+            |fault| &fault
+        )
     }
 
     /// Takes the desk apart, without memory: the book comes out where all its seats are there, in

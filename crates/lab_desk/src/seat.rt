@@ -1,5 +1,5 @@
 //! A worker's seat at a desk, with notes of its calls.
-ghost use Rattle.std.specs.Prelude.{◌≡◌, ◌↔◌, ◌≤◌, [], length, IfOk, IsTrue};
+ghost use Rattle.std.specs.Prelude.{◌≡◌, ◌↔◌, ◌≤◌, [], length, IfOk, IsTrue, None};
 ghost use Rattle.lab_desk.specs.Record.{notes_from};
 
 use crate::sheet::Sheet;
@@ -25,6 +25,7 @@ pub struct Seat<L: Ledger> {
     pub(crate) share: Share<L>,
     ghost few: { number ≤ 31 },
     ghost one_part: { share.parts ≡ 1 },
+    ghost none: { notes.next ≡ None },
     ghost counted: { share.amount ≡ length notes.list },
 }
 

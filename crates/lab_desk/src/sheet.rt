@@ -1,32 +1,39 @@
 //! Notes, with room kept for notes to come.
 ghost use Rattle.std.specs.Prelude.{◌≡◌, ◌↔◌, ◌≤◌, ◌<◌, ◌+◌, ◌-◌, ◌++◌, [], length, slice_get, option_map};
-ghost use Rattle.std.specs.Prelude.{vec_len, vec_capacity, IfOk, OnOk, OnErr, IsOk, IsTrue};
-ghost use Rattle.lab_desk.specs.Record.{noted, note_of, note_code, all_notes, with_note, TellsEntry, IsNoteOf, IsNoteCode, AreNoteCodes};
+ghost use Rattle.std.specs.Prelude.{vec_len, vec_capacity, IfOk, OnOk, OnErr, IsOk, IsTrue, IsSome, IfSome, ◌^◌, None};
+ghost use Rattle.lab_book.specs.Calls.{done_entry};
+ghost use Rattle.lab_desk.specs.Record.{noted, note_of, note_code, all_notes, kept_after, EndsLease, TellsEntry, IsNoteOf, IsNoteCode, AreNoteCodes};
 
 use crate::seat::Noted;
-use lab_book::{Entries, Entry};
+use lab_book::{Call, Entries, Entry, Reply, Scribe};
 use packed_rows::{Reader, Row, Rows};
 use std::alloc::{AllocError, Global};
 use std::marker::Model;
+use std::mem;
 
-/// Notes, with room for as many more as `kept` says: these can be added without memory. A note is
-/// packed into a row of numbers as soon as there is memory for that; `last` are those that are not.
+/// Notes, with room for as many more as `kept` says, and for the one that is in hand: these can be
+/// added without memory. A note is packed into a row of numbers as soon as there is memory for that; `last` are those that are not.
 #[derive(Drop)]
 pub(crate) struct Sheet {
     rows: Rows,
     last: Vec<Noted>,
     kept: usize,
+    /// The note that is in hand.
+    next: Option<Noted>,
+    /// The scratch row by which notes are packed.
+    row: Row,
 }
 
 impl Model for Sheet {
-    ghost use Rattle.std.specs.Prelude.{◌+◌, ◌≤◌, ◌++◌, map, vec_len, vec_capacity};
-    ghost use Rattle.lab_desk.specs.Record.{SheetValue, note_of, AreNoteCodes};
+    ghost use Rattle.std.specs.Prelude.{◌+◌, ◌≤◌, ◌++◌, map, vec_len, vec_capacity, IfSome};
+    ghost use Rattle.lab_desk.specs.Record.{SheetValue, note_of, AreNoteCodes, kept_after};
 
     ghost Value = { SheetValue };
 
-    ghost view = { λ n. record { list = map note_of n.rows.rows ++ n.last.items; kept = n.kept } };
+    ghost view = { λ n. record { list = map note_of n.rows.rows ++ n.last.items; kept = n.kept; next = n.next } };
 
-    ghost invariant = { λ n. (vec_len n.last + n.kept ≤ vec_capacity n.last) × AreNoteCodes n.rows.rows };
+    ghost invariant = { λ n. (vec_len n.last + n.kept ≤ vec_capacity n.last) × AreNoteCodes n.rows.rows
+        × IfSome n.next (λ x. vec_len n.last + 1 + kept_after n.kept x.entry ≤ vec_capacity n.last) };
 }
 
 /// Writes the numbers of a note into a scratch row, and nothing else.
@@ -104,15 +111,108 @@ fn tells_packed(
     history.is_told(index, numbers, row)
 }
 
+/// The entry of a call that is done.
+fn done_entry(worker: u8, call: Call) -> Entry
+    ensures { result ≡ done_entry worker call }
+{
+    Entry {
+        worker,
+        call,
+        reply: Reply::Done,
+    }
+}
+
+/// A copy of an entry that ends a lease, made without memory.
+fn end_of(entry: &Entry) -> Option<Entry>
+    ensures same { IfSome result (λ e. e ≡ entry.now) }
+    ensures some { EndsLease entry.now → IsSome result }
+{
+    let Reply::Done = entry.reply() else {
+        return None;
+    };
+    match entry.call() {
+        Call::Park(lease) => Some(done_entry(entry.worker(), Call::Park(*lease))),
+        Call::Abandon(lease) => Some(done_entry(entry.worker(), Call::Abandon(*lease))),
+        Call::Close(lease) => Some(done_entry(entry.worker(), Call::Close(*lease))),
+        _ => None,
+    }
+}
+
+/// A copy of an entry, which takes no memory where it ends a lease: the entry of that lease stood in
+/// the scratch row, and takes as much. Any other is written there with its index, so that the row has
+/// room for its note when the notes are compared with the history.
+fn copied(alloc: Global, row: &mut Row, index: u64, entry: &Entry) -> Result<Entry, AllocError>
+    ensures same { IfOk result (λ e. e ≡ entry.now) }
+    ensures end { EndsLease entry.now → IsOk result }
+{
+    if let Some(end) = end_of(entry) {
+        return Ok(end);
+    }
+    write(row, index, entry)?;
+    entry.copy_by(alloc, row)
+}
+
+/// For how many notes room is kept once an entry is noted, of so many before.
+fn room_after(kept: usize, entry: &Entry) -> usize
+    requires { kept < 2 ^ 63 }
+    ensures { result ≡ kept_after kept entry.now }
+{
+    match entry.reply() {
+        Reply::Leased { .. } => kept + 1,
+        Reply::Done => match entry.call() {
+            Call::Park(_) | Call::Abandon(_) | Call::Close(_) => kept.saturating_sub(1),
+            _ => kept,
+        },
+        _ => kept,
+    }
+}
+
+impl Scribe for Sheet {
+    ghost use Rattle.lab_desk.specs.Record.{SheetKeeps, SheetNotes, SheetReady};
+
+    ghost keeps = { SheetKeeps };
+
+    ghost notes = { SheetNotes };
+
+    ghost ready = { SheetReady };
+
+    fn keep(&mut self, index: u64, entry: &Entry) -> Result<(), AllocError> {
+        if self.next.is_some() {
+            return Err(AllocError);
+        }
+        let alloc = *self.last.allocator();
+        let entry = copied(alloc, &mut self.row, index, entry)?;
+        let after = room_after(self.kept, &entry);
+        self.last.reserve(after + 1)?;
+        self.next = Some(Noted { index, entry });
+        Ok(())
+    }
+
+    fn note(&mut self) {
+        let Some(noted) = self.next.take() else {
+            return;
+        };
+        self.kept = room_after(self.kept, &noted.entry);
+        self.last.push_reserved(noted);
+        pack(&mut self.rows, &mut self.row, &mut self.last);
+    }
+
+    fn let_go(&mut self) {
+        self.next = None;
+    }
+}
+
 impl Sheet {
     /// No note.
     pub fn new(alloc: Global) -> Sheet
-        ensures { result ≡ record { list = []; kept = 0 } }
+        ensures { result ≡ record { list = []; kept = 0; next = None } }
     {
         Sheet {
             rows: Rows::new(alloc),
             last: Vec::new(alloc),
             kept: 0,
+            next: None,
+            row: Row::new(alloc),
         }
     }
 
@@ -144,65 +244,10 @@ impl Sheet {
         tells_packed(&mut self.rows.row(place), row, history, index)
     }
 
-    /// Keeps room for so many notes more.
-    fn reserve(&mut self, count: usize) -> Result<(), AllocError>
-        requires { count ≤ 2 }
-        ensures kept { OnOk result (self.new ≡ record self.old { kept = self.old.kept + count }) }
-        ensures unchanged { OnErr result (self.new ≡ self.old) }
+    /// Lends a scratch row, and takes back the one that was lent.
+    pub fn swap_row(&mut self, row: &mut Row)
+        ensures { self.new ≡ self.old }
     {
-        self.last.reserve(self.kept + count)?;
-        self.kept += count;
-        Ok(())
-    }
-
-    /// Keeps room for so many notes more, of which one will be this: it is written into the scratch
-    /// row, so that the row has room for it when the notes are compared with the history. Where
-    /// memory runs out, nothing changes.
-    pub fn keep(
-        &mut self,
-        count: usize,
-        row: &mut Row,
-        index: u64,
-        entry: &Entry,
-    ) -> Result<(), AllocError>
-        requires { count ≤ 2 }
-        ensures kept { OnOk result (self.new ≡ record self.old { kept = self.old.kept + count }) }
-        ensures unchanged { OnErr result (self.new ≡ self.old) }
-    {
-        write(row, index, entry)?;
-        self.reserve(count)
-    }
-
-    /// Keeps room for one note, where none is kept.
-    pub fn keep_one(&mut self) -> Result<(), AllocError>
-        ensures list { self.new.list ≡ self.old.list }
-        ensures some { OnOk result (0 < self.new.kept) }
-        ensures one { OnOk result (self.new.kept - 1 ≡ self.old.kept - 1) }
-        ensures unchanged { OnErr result (self.new ≡ self.old) }
-        ensures kept { 0 < self.old.kept → IsOk result }
-    {
-        if self.kept > 0 {
-            return Ok(());
-        }
-        self.reserve(1)
-    }
-
-    /// Gives the room for one note up, if some is kept.
-    pub fn give_up(&mut self)
-        ensures { self.new ≡ record self.old { kept = self.old.kept - 1 } }
-    {
-        if self.kept > 0 {
-            self.kept -= 1;
-        }
-    }
-
-    /// Adds a note where room was kept for it, and packs it by a scratch row.
-    pub fn add(&mut self, row: &mut Row, note: Noted)
-        requires { 0 < self.old.kept }
-        ensures { self.new ≡ with_note self.old note }
-    {
-        self.last.push_reserved(note);
-        self.kept -= 1;
-        pack(&mut self.rows, row, &mut self.last);
+        mem::swap(&mut self.row, row);
     }
 }

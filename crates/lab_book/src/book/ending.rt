@@ -1,36 +1,56 @@
 //! Leases are given up.
-ghost use Rattle.std.specs.Prelude.{◌≡◌, ◌<◌, true, false, length, IsOk, IfOk, IfErr, OnOk};
+ghost use Rattle.std.specs.Prelude.{◌≡◌, ◌<◌, true, false, length, IsOk, IfOk, IfErr, OnOk, OnErr};
 ghost use Rattle.lab_book.specs.declared.entry.Call.TheVariants as calls;
 ghost use Rattle.lab_book.specs.declared.entry.Reply.TheVariants as replies;
 ghost use Rattle.lab_book.specs.Tile.{is_leased, Stands};
 ghost use Rattle.lab_book.specs.Tiling.{tile_at};
 ghost use Rattle.lab_book.specs.Book.{outcome, settled, end_fault, with_status, given_up};
-ghost use Rattle.lab_book.specs.Calls.{Made, Refuses, Ends, is_current, Finds, RefusedIf, RefusesEnd};
+ghost use Rattle.lab_book.specs.Calls.{Made, Refuses, Ends, is_current, Finds, RefusedIf, RefusesEnd, done_entry};
+ghost use Rattle.lab_book.specs.Calls.{ScribeNotes, ScribeNotesFault, ScribeNotesBy, ScribeNotesByFault, ReadyToEnd};
 
-use crate::book::Book;
+use crate::book::{Book, out_of_memory};
 use crate::entry::{Call, Entry, Reply};
 use crate::fault::BookFault;
 use crate::lease::{Grant, Lease};
+use crate::scribe::{Scribe, Unnoted};
 use crate::status::Status;
+use std::alloc::AllocError;
 use x_steps::Refused;
 
 impl<'p> Book<'p> {
     /// Ends the lease of the tile at a place, by the entry that room was kept for.
-    fn settle(&mut self, w: u8, i: usize, call: Call, status: Status)
+    fn settle<S: Scribe>(
+        &mut self,
+        scribe: &mut S,
+        w: u8,
+        i: usize,
+        call: Call,
+        status: Status,
+    ) -> Result<(), AllocError>
         requires within { i < length self.old.tiles }
         requires leased { is_leased (tile_at self.old.tiles i).status ≡ true }
         requires ends { is_leased status ≡ false }
         requires stands { Stands status (tile_at self.old.tiles i) }
         requires outcome { outcome self.old w call ≡ settled self.old (with_status status) i }
-        ensures { Made self.old self.new w call replies.Done }
+        ensures made { OnOk result (Made self.old self.new w call replies.Done) }
+        ensures unchanged { OnErr result (self.new ≡ self.old) }
+        ensures noted { OnOk result (ScribeNotes S.notes scribe.old scribe.new self.old w call) }
+        ensures not_noted { OnErr result (scribe.new ≡ scribe.old) }
+        ensures ready { S.ready scribe.old (done_entry w call) → IsOk result }
     {
-        let stop = self.tiles.tile(i).stop();
-        self.tiles.settle(i, status, stop);
-        self.history.add(Entry {
+        let entry = Entry {
             worker: w,
             call,
             reply: Reply::Done,
-        });
+        };
+        let Ok(()) = scribe.keep(self.history.len(), &entry) else {
+            return Err(AllocError);
+        };
+        let stop = self.tiles.tile(i).stop();
+        self.tiles.settle(i, status, stop);
+        self.history.add(entry);
+        scribe.note();
+        Ok(())
     }
 
     /// The place of the tile that is closed by its lease.
@@ -59,37 +79,61 @@ impl<'p> Book<'p> {
         ensures refused { RefusesEnd result self.old self.new calls.Close lease }
         ensures given_back { IfErr result (λ r. r.given ≡ lease) }
     {
+        self.close_by(&mut Unnoted, lease)
+    }
+
+    /// The same as `close`, with a scribe.
+    pub fn close_by<S: Scribe>(
+        &mut self,
+        scribe: &mut S,
+        lease: Lease,
+    ) -> Result<(), Refused<BookFault, Lease>>
+        ensures made { OnOk result (Ends self.old self.new calls.Close lease) }
+        ensures refused { RefusesEnd result self.old self.new calls.Close lease }
+        ensures given_back { IfErr result (λ r. r.given ≡ lease) }
+        ensures noted { OnOk result (ScribeNotesBy S.notes scribe.old scribe.new self.old calls.Close lease) }
+        ensures refusal_noted { RefusedIf result (
+            ScribeNotesByFault S.notes scribe.old scribe.new self.old calls.Close lease) }
+    {
         let grant = lease.grant();
+        let call = Call::Close(grant);
         let i = match self.close_place(grant) {
             Ok(i) => i,
-            Err(fault) => return Err(self.hand_back(
-                grant.worker,
-                Call::Close(grant),
-                fault,
-                lease,
-            )),
+            Err(fault) => return Err(self.hand_back(scribe, grant.worker, call, fault, lease)),
+        };
+        let Ok(()) = self.settle(scribe, grant.worker, i, call, Status::Closed) else {
+            return Err(out_of_memory(lease));
         };
         lease.discard();
-        self.settle(grant.worker, i, Call::Close(grant), Status::Closed);
         Ok(())
     }
 
     /// Ends a lease at its tile's mark by this call: the tile waits, or is held where a stop was asked for.
-    fn give_up(&mut self, lease: Lease, call: Call) -> Result<(), Refused<BookFault, Lease>>
+    fn give_up<S: Scribe>(
+        &mut self,
+        scribe: &mut S,
+        lease: Lease,
+        call: Call,
+    ) -> Result<(), Refused<BookFault, Lease>>
         requires { outcome self.old lease.worker call ≡ given_up self.old lease }
         ensures made { OnOk result (Made self.old self.new lease.worker call replies.Done) }
-        ensures current { is_current self.old.tiles lease ≡ true → IsOk result }
+        ensures current { is_current self.old.tiles lease ≡ true → S.ready scribe.old (done_entry lease.worker call) → IsOk result }
         ensures refused { RefusedIf result (Refuses self.old self.new lease.worker call) }
         ensures given_back { IfErr result (λ r. r.given ≡ lease) }
+        ensures noted { OnOk result (ScribeNotes S.notes scribe.old scribe.new self.old lease.worker call) }
+        ensures refusal_noted { RefusedIf result (
+            ScribeNotesFault S.notes scribe.old scribe.new self.old lease.worker call) }
     {
         let grant = lease.grant();
         let i = match self.tiles.leased_place(grant) {
             Ok(i) => i,
-            Err(fault) => return Err(self.hand_back(grant.worker, call, fault, lease)),
+            Err(fault) => return Err(self.hand_back(scribe, grant.worker, call, fault, lease)),
+        };
+        let status = Status::freed(self.tiles.tile(i).stop());
+        let Ok(()) = self.settle(scribe, grant.worker, i, call, status) else {
+            return Err(out_of_memory(lease));
         };
         lease.discard();
-        let status = Status::freed(self.tiles.tile(i).stop());
-        self.settle(grant.worker, i, call, status);
         Ok(())
     }
 
@@ -102,8 +146,25 @@ impl<'p> Book<'p> {
         ensures refused { RefusesEnd result self.old self.new calls.Abandon lease }
         ensures given_back { IfErr result (λ r. r.given ≡ lease) }
     {
+        self.abandon_by(&mut Unnoted, lease)
+    }
+
+    /// The same as `abandon`, with a scribe: it takes no memory for the tile's current lease where the scribe is ready for it.
+    pub fn abandon_by<S: Scribe>(
+        &mut self,
+        scribe: &mut S,
+        lease: Lease,
+    ) -> Result<(), Refused<BookFault, Lease>>
+        ensures made { OnOk result (Ends self.old self.new calls.Abandon lease) }
+        ensures current { is_current self.old.tiles lease ≡ true → ReadyToEnd S.ready scribe.old calls.Abandon lease → IsOk result }
+        ensures refused { RefusesEnd result self.old self.new calls.Abandon lease }
+        ensures given_back { IfErr result (λ r. r.given ≡ lease) }
+        ensures noted { OnOk result (ScribeNotesBy S.notes scribe.old scribe.new self.old calls.Abandon lease) }
+        ensures refusal_noted { RefusedIf result (
+            ScribeNotesByFault S.notes scribe.old scribe.new self.old calls.Abandon lease) }
+    {
         let call = Call::Abandon(lease.grant());
-        self.give_up(lease, call)
+        self.give_up(scribe, lease, call)
     }
 
     /// The same for a tile that is to be taken up again: its worker has posted what it wants to keep. It waits, or is held where a
@@ -114,7 +175,24 @@ impl<'p> Book<'p> {
         ensures refused { RefusesEnd result self.old self.new calls.Park lease }
         ensures given_back { IfErr result (λ r. r.given ≡ lease) }
     {
+        self.park_by(&mut Unnoted, lease)
+    }
+
+    /// The same as `park`, with a scribe: it takes no memory for the tile's current lease where the scribe is ready for it.
+    pub fn park_by<S: Scribe>(
+        &mut self,
+        scribe: &mut S,
+        lease: Lease,
+    ) -> Result<(), Refused<BookFault, Lease>>
+        ensures made { OnOk result (Ends self.old self.new calls.Park lease) }
+        ensures current { is_current self.old.tiles lease ≡ true → ReadyToEnd S.ready scribe.old calls.Park lease → IsOk result }
+        ensures refused { RefusesEnd result self.old self.new calls.Park lease }
+        ensures given_back { IfErr result (λ r. r.given ≡ lease) }
+        ensures noted { OnOk result (ScribeNotesBy S.notes scribe.old scribe.new self.old calls.Park lease) }
+        ensures refusal_noted { RefusedIf result (
+            ScribeNotesByFault S.notes scribe.old scribe.new self.old calls.Park lease) }
+    {
         let call = Call::Park(lease.grant());
-        self.give_up(lease, call)
+        self.give_up(scribe, lease, call)
     }
 }

@@ -1,31 +1,22 @@
 //! Leases are given.
-ghost use Rattle.std.specs.Prelude.{◌≡◌, ◌≤◌, ◌<◌, false, length, IfOk, IfErr, OnErr, IfSome};
+ghost use Rattle.std.specs.Prelude.{◌≡◌, ◌≤◌, ◌<◌, false, length, IfOk, IfErr, OnErr, OnOk, IfSome};
 ghost use Rattle.x_steps.specs.StateView.{state_value};
 ghost use Rattle.lab_book.specs.Tile.{is_leased, mark_of};
 ghost use Rattle.lab_book.specs.Tiling.{tile_at};
 ghost use Rattle.lab_book.specs.Book.{outcome, lent, path_of};
-ghost use Rattle.lab_book.specs.Calls.{Made, Refuses, any_reply, CanBeSearched, Leases};
+ghost use Rattle.lab_book.specs.Calls.{Made, Refuses, any_reply, CanBeSearched, Leases, ScribeNotes, ScribeNotesFault};
 
 use crate::book::Book;
 use crate::entry::{Call, Entry, Reply};
 use crate::fault::BookFault;
 use crate::lease::{Grant, Lease, Leased};
 use crate::mark::{Mark, Path};
+use crate::scribe::{Scribe, Unnoted};
 use crate::status::Status;
 use crate::tile::Tile;
 use std::alloc::{AllocError, Global};
 use x_branches::{Branch, Cut};
 use x_steps::State;
-
-/// What is copied of a tile that is leased: for the worker, and for the history.
-#[derive(Drop)]
-struct Copies<'p> {
-    branch: Branch<'p>,
-    state: State,
-    lo: Option<Path>,
-    hi: Option<Path>,
-    mark: Mark,
-}
 
 /// The choices of a cut, if there is one.
 pub(crate) fn path_of(alloc: Global, cut: &Option<Cut<'_>>) -> Result<Option<Path>, AllocError>
@@ -37,32 +28,51 @@ pub(crate) fn path_of(alloc: Global, cut: &Option<Cut<'_>>) -> Result<Option<Pat
     }
 }
 
-/// What is copied of a tile.
-fn copied<'p>(tile: &Tile<'p>) -> Result<Copies<'p>, AllocError>
-    ensures branch { IfOk result (λ c. c.branch ≡ tile.now.branch) }
-    ensures state { IfOk result (λ c. state_value c.state ≡ mark_of tile.now) }
-    ensures lo { IfOk result (λ c. c.lo ≡ path_of tile.now.branch.lo) }
-    ensures hi { IfOk result (λ c. c.hi ≡ path_of tile.now.branch.hi) }
-    ensures mark { IfOk result (λ c. c.mark ≡ mark_of tile.now) }
+/// What a worker is given of a tile: its branch, and its mark.
+fn copied<'p>(tile: &Tile<'p>) -> Result<(Branch<'p>, State), AllocError>
+    ensures branch { IfOk result (λ c. c.0 ≡ tile.now.branch) }
+    ensures mark { IfOk result (λ c. state_value c.1 ≡ mark_of tile.now) }
 {
-    let alloc = *tile.mark().path.allocator();
     let branch = tile.branch().copy()?;
-    let state = tile.mark().copy()?;
-    let lo = path_of(alloc, tile.lo())?;
-    let hi = path_of(alloc, tile.hi())?;
-    let mark = Mark::of(tile.mark())?;
-    Ok(Copies {
-        branch,
-        state,
-        lo,
-        hi,
-        mark,
-    })
+    let mark = tile.mark().copy()?;
+    Ok((branch, mark))
 }
 
 impl<'p> Book<'p> {
+    /// The reply to a lease of the tile at a place.
+    pub(crate) fn lent_reply(&self, w: u8, i: usize) -> Result<Reply, AllocError>
+        requires { i < length self.now.tiles }
+        ensures { IfOk result (λ r. r ≡ (lent self.now w i).reply) }
+    {
+        let tile = self.tiles.tile(i);
+        let alloc = *tile.mark().path.allocator();
+        let lo = path_of(alloc, tile.lo())?;
+        let hi = path_of(alloc, tile.hi())?;
+        let mark = Mark::of(tile.mark())?;
+        let id = tile.id();
+        let index = self.history.len();
+        let waiting = self.tiles.waiting_beside(i);
+        Ok(Reply::Leased {
+            lease: Grant {
+                id,
+                worker: w,
+                index,
+            },
+            lo,
+            hi,
+            mark,
+            waiting,
+        })
+    }
+
     /// Leases the tile at a place, and keeps room for the entry that gives it up.
-    fn lend(&mut self, w: u8, i: usize, call: Call) -> Result<Leased<'p>, BookFault>
+    fn lend<S: Scribe>(
+        &mut self,
+        scribe: &mut S,
+        w: u8,
+        i: usize,
+        call: Call,
+    ) -> Result<Leased<'p>, BookFault>
         requires within { i < length self.old.tiles }
         requires free { is_leased (tile_at self.old.tiles i).status ≡ false }
         requires outcome { outcome self.old w call ≡ lent self.old w i }
@@ -70,46 +80,39 @@ impl<'p> Book<'p> {
         ensures can_start { IfOk result (CanBeSearched self.old.problem) }
         ensures worker { IfOk result (λ r. r.lease.worker ≡ w) }
         ensures refused { IfErr result (λ f. (f ≡ BookFault.OutOfMemory) × (self.new ≡ self.old)) }
+        ensures noted { OnOk result (ScribeNotes S.notes scribe.old scribe.new self.old w call) }
+        ensures not_noted { OnErr result (scribe.new ≡ scribe.old) }
     {
-        let Ok(copies) = copied(self.tiles.tile(i)) else {
+        let Ok((branch, mark)) = copied(self.tiles.tile(i)) else {
             return Err(BookFault::OutOfMemory);
         };
-        let Ok(()) = self.history.keep(2) else {
+        let Ok(reply) = self.lent_reply(w, i) else {
+            return Err(BookFault::OutOfMemory);
+        };
+        let entry = Entry {
+            worker: w,
+            call,
+            reply,
+        };
+        let Ok(()) = self.history.keep(scribe, 2, &entry) else {
             return Err(BookFault::OutOfMemory);
         };
         let index = self.history.len();
         let id = self.tiles.tile(i).id();
-        self.tiles
-            .settle(i, Status::Leased { worker: w, index }, false);
         let lease = Grant {
             id,
             worker: w,
             index,
         };
+        self.tiles
+            .settle(i, Status::Leased { worker: w, index }, false);
         let waiting = self.tiles.waiting();
-        let Copies {
-            branch,
-            state,
-            lo,
-            hi,
-            mark,
-        } = copies;
-        let reply = Reply::Leased {
-            lease,
-            lo,
-            hi,
-            mark,
-            waiting,
-        };
-        self.history.add(Entry {
-            worker: w,
-            call,
-            reply,
-        });
+        self.history.add(entry);
+        scribe.note();
         Ok(Leased {
             lease: Lease::of(lease),
             branch,
-            mark: state,
+            mark,
             waiting,
         })
     }
@@ -122,11 +125,30 @@ impl<'p> Book<'p> {
         ensures worker { IfOk result (λ r. r.lease.worker ≡ w) }
         ensures refused { IfErr result (λ f. Refuses self.old self.new w (Call.Lease id) f) }
     {
+        self.lease_by(&mut Unnoted, w, id)
+    }
+
+    /// The same as `lease`, with a scribe.
+    pub fn lease_by<S: Scribe>(
+        &mut self,
+        scribe: &mut S,
+        w: u8,
+        id: u64,
+    ) -> Result<Leased<'p>, BookFault>
+        requires { w ≤ 31 }
+        ensures made { IfOk result (Leases self.old self.new w (Call.Lease id)) }
+        ensures can_start { IfOk result (CanBeSearched self.old.problem) }
+        ensures worker { IfOk result (λ r. r.lease.worker ≡ w) }
+        ensures refused { IfErr result (λ f. Refuses self.old self.new w (Call.Lease id) f) }
+        ensures noted { OnOk result (ScribeNotes S.notes scribe.old scribe.new self.old w (Call.Lease id)) }
+        ensures refusal_noted { IfErr result (λ f.
+            ScribeNotesFault S.notes scribe.old scribe.new self.old w (Call.Lease id) f) }
+    {
         let i = match self.tiles.waiting_place(id) {
             Ok(i) => i,
-            Err(fault) => return Err(self.refuse(w, Call::Lease(id), fault)),
+            Err(fault) => return Err(self.refuse(scribe, w, Call::Lease(id), fault)),
         };
-        self.lend(w, i, Call::Lease(id))
+        self.lend(scribe, w, i, Call::Lease(id))
     }
 
     /// Leases the first tile that waits, or answers None where none does.
@@ -137,16 +159,35 @@ impl<'p> Book<'p> {
         ensures worker { IfOk result (λ r. IfSome r (λ l. l.lease.worker ≡ w)) }
         ensures unchanged { OnErr result (self.new ≡ self.old) }
     {
+        self.lease_any_by(&mut Unnoted, w)
+    }
+
+    /// The same as `lease_any`, with a scribe.
+    pub fn lease_any_by<S: Scribe>(
+        &mut self,
+        scribe: &mut S,
+        w: u8,
+    ) -> Result<Option<Leased<'p>>, AllocError>
+        requires { w ≤ 31 }
+        ensures made { IfOk result (λ r. Made self.old self.new w Call.LeaseAny (any_reply r)) }
+        ensures can_start { IfOk result (λ r. IfSome r (CanBeSearched self.old.problem)) }
+        ensures worker { IfOk result (λ r. IfSome r (λ l. l.lease.worker ≡ w)) }
+        ensures unchanged { OnErr result (self.new ≡ self.old) }
+        ensures noted { OnOk result (ScribeNotes S.notes scribe.old scribe.new self.old w Call.LeaseAny) }
+        ensures not_noted { OnErr result (scribe.new ≡ scribe.old) }
+    {
         let Some(i) = self.tiles.next_waiting() else {
-            self.history.keep(1)?;
-            self.history.add(Entry {
+            let entry = Entry {
                 worker: w,
                 call: Call::LeaseAny,
                 reply: Reply::NoneWaits,
-            });
+            };
+            self.history.keep(scribe, 1, &entry)?;
+            self.history.add(entry);
+            scribe.note();
             return Ok(None);
         };
-        match self.lend(w, i, Call::LeaseAny) {
+        match self.lend(scribe, w, i, Call::LeaseAny) {
             Ok(leased) => Ok(Some(leased)),
             Err(_) => Err(AllocError),
         }
@@ -161,10 +202,29 @@ impl<'p> Book<'p> {
         ensures worker { IfOk result (λ r. r.lease.worker ≡ w) }
         ensures refused { IfErr result (λ f. Refuses self.old self.new w (Call.TakeHeld id) f) }
     {
+        self.take_held_by(&mut Unnoted, w, id)
+    }
+
+    /// The same as `take_held`, with a scribe.
+    pub fn take_held_by<S: Scribe>(
+        &mut self,
+        scribe: &mut S,
+        w: u8,
+        id: u64,
+    ) -> Result<Leased<'p>, BookFault>
+        requires { w ≤ 31 }
+        ensures made { IfOk result (Leases self.old self.new w (Call.TakeHeld id)) }
+        ensures can_start { IfOk result (CanBeSearched self.old.problem) }
+        ensures worker { IfOk result (λ r. r.lease.worker ≡ w) }
+        ensures refused { IfErr result (λ f. Refuses self.old self.new w (Call.TakeHeld id) f) }
+        ensures noted { OnOk result (ScribeNotes S.notes scribe.old scribe.new self.old w (Call.TakeHeld id)) }
+        ensures refusal_noted { IfErr result (λ f.
+            ScribeNotesFault S.notes scribe.old scribe.new self.old w (Call.TakeHeld id) f) }
+    {
         let i = match self.tiles.held_place(id) {
             Ok(i) => i,
-            Err(fault) => return Err(self.refuse(w, Call::TakeHeld(id), fault)),
+            Err(fault) => return Err(self.refuse(scribe, w, Call::TakeHeld(id), fault)),
         };
-        self.lend(w, i, Call::TakeHeld(id))
+        self.lend(scribe, w, i, Call::TakeHeld(id))
     }
 }

@@ -1,17 +1,18 @@
 //! Stretches are posted.
-ghost use Rattle.std.specs.Prelude.{◌≡◌, ◌<◌, true, None, length, IfOk, IfErr, OnErr};
+ghost use Rattle.std.specs.Prelude.{◌≡◌, ◌<◌, true, None, length, IfOk, IfErr, OnErr, OnOk};
 ghost use Rattle.cover_problem.specs.Problem.{is_same};
 ghost use Rattle.lab_book.specs.declared.entry.Call.TheVariants as calls;
 ghost use Rattle.lab_book.specs.Tile.{is_leased};
 ghost use Rattle.lab_book.specs.Tiling.{tile_at};
 ghost use Rattle.lab_book.specs.Book.{outcome, posted, post_fault};
-ghost use Rattle.lab_book.specs.Calls.{Made, Posts, PostRefused, Doubted, posted_reply, Finds, RefusedIf};
+ghost use Rattle.lab_book.specs.Calls.{Made, Posts, PostRefused, Doubted, posted_reply, post_of, Finds, RefusedIf, ScribeNotes, ScribeNotesFault};
 
 use crate::book::{Book, out_of_memory};
 use crate::entry::{Call, Entry, Reply};
 use crate::fault::BookFault;
 use crate::lease::{Grant, Lease, Posted};
 use crate::mark::Mark;
+use crate::scribe::{Scribe, Unnoted};
 use crate::tiles::stale;
 use std::alloc::AllocError;
 use std::cmp::Ordering;
@@ -77,8 +78,9 @@ impl<'p> Book<'p> {
     }
 
     /// Adds a stretch to the tile at a place.
-    fn commit_post(
+    fn commit_post<S: Scribe>(
         &mut self,
+        scribe: &mut S,
         w: u8,
         i: usize,
         call: Call,
@@ -92,50 +94,28 @@ impl<'p> Book<'p> {
         ensures made { IfOk result (λ r. Made self.old self.new w call (posted_reply r)) }
         ensures unchanged { OnErr result (self.new ≡ self.old) }
         ensures given_back { IfErr result (λ s. s ≡ stretch.entry) }
+        ensures noted { OnOk result (ScribeNotes S.notes scribe.old scribe.new self.old w call) }
+        ensures not_noted { OnErr result (scribe.new ≡ scribe.old) }
     {
         stretch.is_sound();
-        let Ok(()) = self.history.keep(1) else {
+        let stop = self.tiles.tile(i).stop();
+        let waiting = self.tiles.waiting();
+        let entry = Entry {
+            worker: w,
+            call,
+            reply: Reply::Posted { stop, waiting },
+        };
+        let Ok(()) = self.history.keep(scribe, 1, &entry) else {
             return Err(stretch);
         };
         if let Err(stretch) = self.tiles.add(i, stretch) {
             self.history.give_up();
+            scribe.let_go();
             return Err(stretch);
         }
-        let stop = self.tiles.tile(i).stop();
-        let waiting = self.tiles.waiting();
-        self.history.add(Entry {
-            worker: w,
-            call,
-            reply: Reply::Posted { stop, waiting },
-        });
+        self.history.add(entry);
+        scribe.note();
         Ok(Posted { stop, waiting })
-    }
-
-    /// The same as `post`, with the answer of the comparison of the stretch's problem and the book's: it goes over both, and a
-    /// caller that shares the book can make it before.
-    pub fn post_compared(
-        &mut self,
-        lease: &Lease,
-        stretch: Stretch<'p>,
-        same: bool,
-    ) -> Result<Posted, Refused<BookFault, Stretch<'p>>>
-        requires { same ≡ is_same stretch.problem self.old.problem }
-        ensures made { IfOk result (λ r. Posts self.old self.new lease.now stretch.entry r) }
-        ensures refused { RefusedIf result (PostRefused self.old self.new lease.now stretch.entry) }
-        ensures given_back { IfErr result (λ r. r.given ≡ stretch.entry) }
-    {
-        let lease = lease.grant();
-        let Ok(call) = post_call(lease, &stretch, same) else {
-            return Err(out_of_memory(stretch));
-        };
-        let i = match self.post_place(lease, &stretch, same) {
-            Ok(i) => i,
-            Err(fault) => return Err(self.hand_back(lease.worker, call, fault, stretch)),
-        };
-        match self.commit_post(lease.worker, i, call, stretch) {
-            Ok(posted) => Ok(posted),
-            Err(stretch) => Err(out_of_memory(stretch)),
-        }
     }
 
     /// Adds a stretch to the tile that is leased: the tile's mark is then the stretch's end. Refused where no tile has the lease's
@@ -152,5 +132,52 @@ impl<'p> Book<'p> {
     {
         let same = stretch.problem().same(self.problem);
         self.post_compared(lease, stretch, same)
+    }
+
+    /// The same as `post`, with the answer of the comparison of the stretch's problem and the book's: it goes over both, and a
+    /// caller that shares the book can make it before.
+    pub fn post_compared(
+        &mut self,
+        lease: &Lease,
+        stretch: Stretch<'p>,
+        same: bool,
+    ) -> Result<Posted, Refused<BookFault, Stretch<'p>>>
+        requires { same ≡ is_same stretch.problem self.old.problem }
+        ensures made { IfOk result (λ r. Posts self.old self.new lease.now stretch.entry r) }
+        ensures refused { RefusedIf result (PostRefused self.old self.new lease.now stretch.entry) }
+        ensures given_back { IfErr result (λ r. r.given ≡ stretch.entry) }
+    {
+        self.post_by(&mut Unnoted, lease, stretch, same)
+    }
+
+    /// The same as `post_compared`, with a scribe.
+    pub fn post_by<S: Scribe>(
+        &mut self,
+        scribe: &mut S,
+        lease: &Lease,
+        stretch: Stretch<'p>,
+        same: bool,
+    ) -> Result<Posted, Refused<BookFault, Stretch<'p>>>
+        requires { same ≡ is_same stretch.problem self.old.problem }
+        ensures made { IfOk result (λ r. Posts self.old self.new lease.now stretch.entry r) }
+        ensures refused { RefusedIf result (PostRefused self.old self.new lease.now stretch.entry) }
+        ensures given_back { IfErr result (λ r. r.given ≡ stretch.entry) }
+        ensures noted { OnOk result (ScribeNotes S.notes scribe.old scribe.new self.old lease.now.worker
+            (post_of self.old.problem lease.now stretch.entry)) }
+        ensures refusal_noted { RefusedIf result (ScribeNotesFault S.notes scribe.old scribe.new self.old
+            lease.now.worker (post_of self.old.problem lease.now stretch.entry)) }
+    {
+        let lease = lease.grant();
+        let Ok(call) = post_call(lease, &stretch, same) else {
+            return Err(out_of_memory(stretch));
+        };
+        let i = match self.post_place(lease, &stretch, same) {
+            Ok(i) => i,
+            Err(fault) => return Err(self.hand_back(scribe, lease.worker, call, fault, stretch)),
+        };
+        match self.commit_post(scribe, lease.worker, i, call, stretch) {
+            Ok(posted) => Ok(posted),
+            Err(stretch) => Err(out_of_memory(stretch)),
+        }
     }
 }

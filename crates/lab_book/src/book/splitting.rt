@@ -1,5 +1,5 @@
 //! Tiles are split.
-ghost use Rattle.std.specs.Prelude.{◌≡◌, ◌<◌, true, None, length, IfOk, IfErr, OnErr};
+ghost use Rattle.std.specs.Prelude.{◌≡◌, ◌<◌, true, None, length, IfOk, IfErr, OnErr, OnOk};
 ghost use Rattle.cover_problem.specs.Problem.{is_same};
 ghost use Rattle.x_branches.specs.Cut.{cut_state};
 ghost use Rattle.x_steps.specs.StateView.{state_value};
@@ -8,13 +8,15 @@ ghost use Rattle.lab_book.specs.declared.entry.Reply.TheVariants as replies;
 ghost use Rattle.lab_book.specs.Tile.{is_leased};
 ghost use Rattle.lab_book.specs.Tiling.{tile_at};
 ghost use Rattle.lab_book.specs.Book.{outcome, split, ended_tile, split_fault};
-ghost use Rattle.lab_book.specs.Calls.{Made, Splits, SplitRefused, Doubted, Finds, RefusedIf};
+ghost use Rattle.lab_book.specs.Calls.{Made, Splits, SplitRefused, Doubted, Finds, RefusedIf, split_of};
+ghost use Rattle.lab_book.specs.Calls.{ScribeNotes, ScribeNotesFault};
 
 use crate::book::{Book, out_of_memory};
 use crate::entry::{Call, Entry, Reply};
 use crate::fault::BookFault;
 use crate::lease::{Grant, Lease};
 use crate::mark::Path;
+use crate::scribe::{Scribe, Unnoted};
 use crate::tile::Tile;
 use std::alloc::{AllocError, Global};
 use std::cmp::Ordering;
@@ -83,12 +85,12 @@ impl<'p> Book<'p> {
         }
     }
 
-    /// Splits the tile at a place.
-    fn commit_split(
+    /// Splits the tile at a place, by this entry.
+    fn commit_split<S: Scribe>(
         &mut self,
-        w: u8,
+        scribe: &mut S,
         i: usize,
-        call: Call,
+        entry: Entry,
         cut: Cut<'p>,
         tail: Tile<'p>,
     ) -> Result<u64, Cut<'p>>
@@ -97,28 +99,42 @@ impl<'p> Book<'p> {
         requires same { cut.problem ≡ self.old.problem }
         requires fine { split_fault self.old cut true (tile_at self.old.tiles i) ≡ None }
         requires tail { tail ≡ ended_tile cut }
-        requires outcome { outcome self.old w call ≡ split self.old cut.path i }
-        ensures made { IfOk result (λ id. Made self.old self.new w call (replies.Split id)) }
+        requires outcome { outcome self.old entry.worker entry.call ≡ split self.old cut.path i }
+        requires reply { entry.reply ≡ replies.Split (length self.old.tiles) }
+        ensures made { IfOk result (λ id. Made self.old self.new entry.worker entry.call (replies.Split id)) }
         ensures unchanged { OnErr result (self.new ≡ self.old) }
         ensures given_back { IfErr result (λ c. c ≡ cut.entry) }
+        ensures noted { OnOk result (ScribeNotes S.notes scribe.old scribe.new self.old entry.worker entry.call) }
+        ensures not_noted { OnErr result (scribe.new ≡ scribe.old) }
     {
         cut.is_sound();
-        let Ok(()) = self.history.keep(1) else {
+        let Ok(()) = self.history.keep(scribe, 1, &entry) else {
             return Err(cut);
         };
         let id = match self.tiles.split(i, cut, tail) {
             Ok(id) => id,
             Err(cut) => {
                 self.history.give_up();
+                scribe.let_go();
                 return Err(cut);
             }
         };
-        self.history.add(Entry {
-            worker: w,
-            call,
-            reply: Reply::Split(id),
-        });
+        self.history.add(entry);
+        scribe.note();
         Ok(id)
+    }
+
+    /// Ends the tile that is leased at a cut; a tile that waits goes on from there, and its id comes back: the number of tiles
+    /// before. What was posted stays before the cut. Refused where no tile has the lease's id (1), where the lease isn't its current
+    /// one (3), where the cut is another problem's (4), where it isn't after the mark (5), and where it isn't before the tile's
+    /// end (6); the cut comes back.
+    pub fn split(&mut self, lease: &Lease, cut: Cut<'p>) -> Result<u64, Refused<BookFault, Cut<'p>>>
+        ensures made { IfOk result (λ id. Splits self.old self.new lease.now cut.entry id) }
+        ensures refused { RefusedIf result (SplitRefused self.old self.new lease.now cut.entry) }
+        ensures given_back { IfErr result (λ r. r.given ≡ cut.entry) }
+    {
+        let same = cut.problem().same(self.problem);
+        self.split_compared(lease, cut, same)
     }
 
     /// The same as `split`, with the answer of the comparison of the cut's problem and the book's: it goes over both, and a caller
@@ -134,6 +150,26 @@ impl<'p> Book<'p> {
         ensures refused { RefusedIf result (SplitRefused self.old self.new lease.now cut.entry) }
         ensures given_back { IfErr result (λ r. r.given ≡ cut.entry) }
     {
+        self.split_by(&mut Unnoted, lease, cut, same)
+    }
+
+    /// The same as `split_compared`, with a scribe.
+    pub fn split_by<S: Scribe>(
+        &mut self,
+        scribe: &mut S,
+        lease: &Lease,
+        cut: Cut<'p>,
+        same: bool,
+    ) -> Result<u64, Refused<BookFault, Cut<'p>>>
+        requires { same ≡ is_same cut.problem self.old.problem }
+        ensures made { IfOk result (λ id. Splits self.old self.new lease.now cut.entry id) }
+        ensures refused { RefusedIf result (SplitRefused self.old self.new lease.now cut.entry) }
+        ensures given_back { IfErr result (λ r. r.given ≡ cut.entry) }
+        ensures noted { OnOk result (ScribeNotes S.notes scribe.old scribe.new self.old lease.now.worker
+            (split_of self.old.problem lease.now cut.entry)) }
+        ensures refusal_noted { RefusedIf result (ScribeNotesFault S.notes scribe.old scribe.new self.old
+            lease.now.worker (split_of self.old.problem lease.now cut.entry)) }
+    {
         let lease = lease.grant();
         let alloc = *self.first.state().path.allocator();
         let Ok((call, tail)) = copied(alloc, lease, &cut, same) else {
@@ -141,24 +177,16 @@ impl<'p> Book<'p> {
         };
         let i = match self.split_place(lease, &cut, tail.end(), same) {
             Ok(i) => i,
-            Err(fault) => return Err(self.hand_back(lease.worker, call, fault, cut)),
+            Err(fault) => return Err(self.hand_back(scribe, lease.worker, call, fault, cut)),
         };
-        match self.commit_split(lease.worker, i, call, cut, tail) {
+        let entry = Entry {
+            worker: lease.worker,
+            call,
+            reply: Reply::Split(self.tiles.list().len() as u64),
+        };
+        match self.commit_split(scribe, i, entry, cut, tail) {
             Ok(id) => Ok(id),
             Err(cut) => Err(out_of_memory(cut)),
         }
-    }
-
-    /// Ends the tile that is leased at a cut; a tile that waits goes on from there, and its id comes back: the number of tiles
-    /// before. What was posted stays before the cut. Refused where no tile has the lease's id (1), where the lease isn't its current
-    /// one (3), where the cut is another problem's (4), where it isn't after the mark (5), and where it isn't before the tile's
-    /// end (6); the cut comes back.
-    pub fn split(&mut self, lease: &Lease, cut: Cut<'p>) -> Result<u64, Refused<BookFault, Cut<'p>>>
-        ensures made { IfOk result (λ id. Splits self.old self.new lease.now cut.entry id) }
-        ensures refused { RefusedIf result (SplitRefused self.old self.new lease.now cut.entry) }
-        ensures given_back { IfErr result (λ r. r.given ≡ cut.entry) }
-    {
-        let same = cut.problem().same(self.problem);
-        self.split_compared(lease, cut, same)
     }
 }

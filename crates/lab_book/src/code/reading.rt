@@ -1,7 +1,7 @@
 //! Entries made of their numbers.
 ghost use Rattle.std.specs.Prelude.{◌≡◌, ℕ, List, IfOk, OnOk};
 ghost use Rattle.cover_problem.specs.Answers.{Returns};
-ghost use Rattle.packed_states.specs.StateCode.{later, path_rest, state_of, state_rest};
+ghost use Rattle.x_codes.specs.StateCode.{later, path_rest, state_of, state_rest};
 ghost use Rattle.lab_book.specs.EntryCode.{worker_of, cut_of, cut_rest, retracted_read};
 ghost use Rattle.lab_book.specs.EntryCode.{grant_of, grant_rest, fault_of, fault_with, call_of, call_rest, call_with, call_rest_with};
 ghost use Rattle.lab_book.specs.EntryCode.{post_read, split_read, leased_read, reply_of, reply_with, entry_of, put_back_read, posted_read};
@@ -13,8 +13,8 @@ use crate::kind::CallKind;
 use crate::lease::Grant;
 use crate::mark::{Mark, Path};
 use packed_rows::Reader;
-use packed_states::{read_path, read_state};
 use std::alloc::{AllocError, Global};
+use x_codes::{read_path, read_state};
 
 /// A worker.
 fn worker(n: u64) -> u8

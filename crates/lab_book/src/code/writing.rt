@@ -8,8 +8,8 @@ use crate::fault::BookFault;
 use crate::lease::Grant;
 use crate::mark::{Mark, Path};
 use packed_rows::Row;
-use packed_states::{put_path, put_state};
 use std::alloc::AllocError;
+use x_codes::{put_path, put_state};
 
 /// Adds the choices of a cut.
 fn put_some(row: &mut Row, path: &Path) -> Result<(), AllocError>

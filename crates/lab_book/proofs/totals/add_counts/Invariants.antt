@@ -1,5 +1,5 @@
 use Rattle.std.proofs.Common.{◌≡◌, drop, length, map, take}
-use Rattle.packed_states.specs.StateCode.{choice_of}
+use Rattle.x_codes.specs.StateCode.{choice_of}
 use Rattle.lab_book.proofs.SumLemmas.{AreAdded}
 use Rattle.lab_book.proofs.totals.add_counts.Given as goal
 

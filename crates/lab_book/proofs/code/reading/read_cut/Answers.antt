@@ -1,5 +1,5 @@
 use Rattle.std.proofs.Common.{◌∙◌, ap, sym, Some}
-use Rattle.packed_states.specs.StateCode.{path_of, path_rest}
+use Rattle.x_codes.specs.StateCode.{path_of, path_rest}
 use Rattle.lab_book.proofs.ReadingLemmas.{cut_none, cut_some}
 use Rattle.lab_book.proofs.code.reading.read_cut.Goals as goal
 

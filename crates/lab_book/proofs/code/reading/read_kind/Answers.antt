@@ -1,5 +1,5 @@
 use Rattle.std.proofs.Common.{◌∙◌, refl}
-use Rattle.packed_states.specs.StateCode.{later}
+use Rattle.x_codes.specs.StateCode.{later}
 use Rattle.lab_book.specs.EntryCode.{call_of, entry_of}
 use Rattle.lab_book.proofs.code.reading.read_kind.Goals as goal
 

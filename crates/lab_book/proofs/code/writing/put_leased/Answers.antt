@@ -1,5 +1,5 @@
 use Rattle.std.proofs.Common.{subst, append_assoc}
-use Rattle.packed_states.specs.StateCode.{ReadsState}
+use Rattle.x_codes.specs.StateCode.{ReadsState}
 use Rattle.lab_book.specs.EntryCode.{reply_code}
 use Rattle.lab_book.proofs.CodeLemmas.{reads_leased}
 use Rattle.lab_book.proofs.code.writing.put_leased.Goals as goal

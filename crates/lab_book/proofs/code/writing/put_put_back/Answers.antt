@@ -1,5 +1,5 @@
 use Rattle.std.proofs.Common.{subst, append_assoc}
-use Rattle.packed_states.specs.StateCode.{ReadsState}
+use Rattle.x_codes.specs.StateCode.{ReadsState}
 use Rattle.lab_book.specs.EntryCode.{call_code}
 use Rattle.lab_book.proofs.CodeLemmas.{reads_put_back}
 use Rattle.lab_book.proofs.code.writing.put_put_back.Goals as goal

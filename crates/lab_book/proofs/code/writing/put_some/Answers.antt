@@ -1,5 +1,5 @@
 use Rattle.std.proofs.Common.{subst, append_assoc}
-use Rattle.packed_states.specs.StateCode.{ReadsPath}
+use Rattle.x_codes.specs.StateCode.{ReadsPath}
 use Rattle.lab_book.specs.EntryCode.{cut_code}
 use Rattle.lab_book.proofs.CodeLemmas.{reads_some}
 use Rattle.lab_book.proofs.code.writing.put_some.Goals as goal

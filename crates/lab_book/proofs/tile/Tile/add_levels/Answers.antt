@@ -1,6 +1,6 @@
 use Rattle.std.proofs.Common.{◌+◌, ◌∙◌, ap, length, arith}
 use Rattle.std.proofs.lemmas.List.{length-map}
-use Rattle.packed_states.specs.StateCode.{choice_of}
+use Rattle.x_codes.specs.StateCode.{choice_of}
 use Rattle.x_branches.specs.Stretch.{StretchValue}
 use Rattle.lab_book.proofs.SumLemmas.{summed_fit, summed_more}
 use Rattle.lab_book.proofs.tile.Tile.add_levels.Goals as goal

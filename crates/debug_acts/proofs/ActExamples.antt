@@ -1,25 +1,26 @@
--- The examples of specs/Desk.antt, Work.antt, Entering.antt, Giving.antt, Walking.antt and Parting.antt, computed on the small problem:
--- worker 0 has the tile of the whole run, at its start.
+-- The examples of specs/Desk.antt, Work.antt, Acts.antt, Asking.antt, Giving.antt and Walking.antt, computed on the small problem: worker 0 has
+-- the tile of the whole run, at its start.
 use Rattle.std.proofs.Common.{◌≡◌, Some, None, [], ◌∷◌, ◌++◌, codes, refl}
 use Rattle.std.specs.Fmt.{digits}
 use Rattle.text_lines.specs.Writing.{line_text, text_of}
 use Rattle.cover_problem.proofs.CoverExamples.{small}
-use Rattle.x_steps.specs.declared.state.Label.TheVariants.{X2}
-use Rattle.x_steps.specs.declared.state.Cursor.TheVariants as cursor
-use Rattle.x_steps.specs.StateValue.{at, start}
+use Rattle.x_steps.specs.StateValue.{start}
 use Rattle.x_steps.specs.Run.{steps_between}
 use Rattle.x_steps.proofs.RunLemmas.{start_fits}
 use Rattle.x_steps.proofs.BetweenLemmas.{steps_between_self}
-use Rattle.x_branches.specs.Runner.{RunnerValue, runner_at}
-use Rattle.x_branches.specs.Refusals.{cut_at}
+use Rattle.x_branches.specs.Runner.{runner_at}
 use Rattle.lab_book.specs.declared.entry.Call.TheVariants as call
 use Rattle.lab_book.specs.Book.{BookValue, new_book, outcome, book_step}
+use Rattle.lab_world.specs.declared.event.Act.TheVariants.{Retract, Park, RequestStop}
+use Rattle.lab_world.specs.Worker.{lent_worker}
+use Rattle.lab_world.specs.World.{turn}
+use Rattle.debug_acts.specs.declared.asking.Told.TheVariants as told
 use Rattle.debug_acts.specs.Desk.{desk}
 use Rattle.debug_acts.specs.Work.{AtWork, work}
-use Rattle.debug_acts.specs.Walking.{back}
-use Rattle.debug_acts.specs.Entering.{enter}
-use Rattle.debug_acts.specs.Giving.{park}
-use Rattle.debug_acts.specs.Parting.{parted_line, split, retract}
+use Rattle.debug_acts.specs.Walking.{back_lines}
+use Rattle.debug_acts.specs.Acts.{end_acts}
+use Rattle.debug_acts.specs.Asking.{told_lines}
+use Rattle.debug_acts.specs.Giving.{close_line}
 
 -- the book of the whole run
 abbrev whole : BookValue
@@ -39,53 +40,36 @@ at_start = work leased (record {
 nothing_unposted : steps_between small start start ≡ 0
 nothing_unposted = steps_between_self small start (start_fits small)
 
--- ---- specs/Desk.antt
+-- ---- specs/Desk.antt and specs/Work.antt
 
-its_desk : (enter whole None).desk ≡ desk (book_step whole 0 (call.Lease 0)) (Some at_start.worker)
-unfolding enter outcome
-its_desk = refl
-
--- ---- specs/Work.antt
-
-stays : (back at_start 1).work ≡ at_start
+its_worker : desk leased (lent_worker small (outcome whole 0 call.LeaseAny).reply) ≡ desk leased (Some at_start.worker)
 unfolding outcome
-stays = rw nothing_unposted refl
+its_worker = refl
 
--- ---- specs/Entering.antt
+-- ---- specs/Acts.antt
 
-entered : (enter whole None).text ≡ codes "at X1 -" ++ 10 ∷ []
-unfolding enter outcome
-entered = refl
+parks : end_acts (Some at_start.worker) Park ≡ Park ∷ []
+unfolding outcome
+parks = rw nothing_unposted refl
 
-none_there : (enter whole (Some (4 ∷ []))).text ≡ codes "refused book 1 UnknownBranch" ++ 10 ∷ []
-unfolding enter outcome digits
-none_there = refl
+-- ---- specs/Asking.antt
+
+none_posted : text_of (told_lines leased (Some at_start.worker) Retract told.Retracted) ≡ codes "refused book 9 NothingToRetract" ++ 10 ∷ []
+unfolding turn outcome digits
+none_posted = rw nothing_unposted refl
+
+is_held : text_of (told_lines whole None (RequestStop 0) (told.Tile 0)) ≡ codes "branch start to end held" ++ 10 ∷ []
+unfolding turn outcome
+is_held = refl
 
 -- ---- specs/Giving.antt
 
-parks : (park at_start).text ≡ codes "parked" ++ 10 ∷ []
-parks = refl
+not_closed : line_text (close_line None) ≡ codes "refused book 8 NotAtEnd" ++ 10 ∷ []
+unfolding digits
+not_closed = refl
 
 -- ---- specs/Walking.antt
 
-at_mark : text_of (back at_start 1).lines ≡ codes "refused debug 3 AtStart" ++ 10 ∷ []
+at_mark : text_of (back_lines at_start.worker.runner 1) ≡ codes "refused debug 3 AtStart" ++ 10 ∷ []
 unfolding outcome digits
 at_mark = rw nothing_unposted refl
-
--- ---- specs/Parting.antt
-
--- below option 2 of the item a
-abbrev below_two : RunnerValue
-below_two = record { problem = small; branch = record { lo = None; hi = None }; mark = start; position = at X2 (2 ∷ []) cursor.None }
-
-its_part : line_text (parted_line below_two (cut_at below_two 0 4)) ≡ codes "branch 4 to end waiting" ++ 10 ∷ []
-unfolding digits
-its_part = refl
-
-none_chosen : text_of (split at_start 0 4).lines ≡ codes "refused runner 3 NothingUntried" ++ 10 ∷ []
-unfolding digits
-none_chosen = refl
-
-none_posted : text_of (retract at_start).lines ≡ codes "refused book 9 NothingToRetract" ++ 10 ∷ []
-unfolding retract outcome digits
-none_posted = rw nothing_unposted refl

@@ -1,7 +1,6 @@
 pub mod PostLemmas
+pub mod CallLemmas
 pub mod WalkLemmas
-pub mod EnterLemmas
-pub mod GiveLemmas
 pub mod SaveLemmas
 pub mod ForwardLemmas
 pub mod WalkedLemmas
@@ -10,6 +9,7 @@ pub mod AnswerLemmas
 pub mod RunLemmas
 pub mod BackLemmas
 pub mod CloseLemmas
-pub mod RetractLemmas
-pub mod SplitLemmas
+pub mod SoundLemmas
+pub mod LeadLemmas
+pub mod PartLemmas
 mod ActExamples

@@ -1,5 +1,5 @@
 -- A run to the first breakpoint: where it stops, and how its steps are counted.
-use Rattle.std.proofs.Common.{◌≡◌, ℕ, zero, suc, ◌+◌, ◌-◌, ◌*◌, ◌<◌, ◌≤◌, ◌⊎◌, ◌==◌, inl, inr, Bool, true, false, cond, ◌||◌, ◌&&◌, Option, Some, None, is_some, IfSome, List, [], ◌∷◌, ◌++◌, length, map, get_or, ◌^◌, refl, sym, ◌∙◌, ap, ap₂, subst, arith, le_refl, length-append}
+use Rattle.std.proofs.Common.{◌≡◌, ℕ, zero, suc, ◌+◌, ◌-◌, ◌*◌, ◌<◌, ◌≤◌, ◌⊎◌, ◌==◌, inl, inr, Bool, true, false, cond, not, ◌||◌, ◌&&◌, Option, Some, None, is_some, IfSome, List, [], ◌∷◌, ◌++◌, length, map, get_or, ◌^◌, refl, sym, ◌∙◌, ap, ap₂, subst, arith, le_refl, length-append}
 use Rattle.std.specs.List.{find, list_any, list_all, position_or_len}
 use Rattle.std.proofs.Math.Seq.{get_or-append_seam}
 use Rattle.std.proofs.lemmas.Bool.{cases_lt, ne_eqb}
@@ -24,7 +24,7 @@ use Rattle.text_lines.specs.Writing.{text_of}
 use Rattle.x_texts.specs.Words.{visit_words}
 use Rattle.lab_world.specs.Worker.{HoldsTile, moved_to}
 use Rattle.debug_views.specs.Breakpoints.{first_met, meets_one, steps_to_break}
-use Rattle.debug_acts.proofs.WalkedLemmas.{Walked, none_walked, walked_on, part_way, ended, not_ended, left, position, same_problem}
+use Rattle.debug_acts.proofs.WalkedLemmas.{Walked, none_walked, walked_on, part_way, part_there, ended, not_ended, left, position, same_problem}
 use Rattle.debug_acts.proofs.ForwardLemmas.{CanWalk, on_goes_on}
 use Rattle.debug_acts.specs.Walking.{IsPartWay, posted, with_room, stepped, forward, steps_ahead, state_on, visit_lines, run_count}
 use Rattle.debug_acts.specs.Work.{AtWork, work}
@@ -327,7 +327,7 @@ module _ (a : AtWork) (breaks : List Break) (n : ℕ) (b : AtWork) (old new : Li
     few l = let p = step_spent.0 in let q = step_spent.1 in let r = w.counted in omega arith
 
     pub step_part : IsPartWay a c (run_count breaks a.worker.runner)
-    step_part = part_way a (suc n) c old more step_walked c (run_count breaks a.worker.runner) (further x.goes) (inl refl)
+    step_part = part_there a (suc n) c old more step_walked c (run_count breaks a.worker.runner) (further x.goes) refl
 
     module _ (m : Option Break) (met : m ≡ first_met c.worker.runner.problem breaks c.worker.runner.position) where
       met_here : m ≡ first_met a.worker.runner.problem breaks (state_on a.worker.runner (suc n))
@@ -356,3 +356,31 @@ module _ (a : AtWork) (breaks : List Break) (n : ℕ) (b : AtWork) (old new : Li
         let q = left a (suc n) c old more step_walked in
         let l = not_ended a n b old new w.walked x.goes in
         omega arith
+
+-- ---- how far `run` goes
+
+-- the place of the first that passes is within the list, or at its end
+first-within : {X : Type 0} (p : X → Bool) (xs : List X) → position_or_len p xs ≤ length xs
+first-within p [] = omega arith
+first-within p (x ∷ xs) = by (p x) (first-within p xs)
+  where
+    by : (b : Bool) → position_or_len p xs ≤ length xs → cond (not b) (1 + position_or_len p xs) 0 ≤ suc (length xs)
+    by true l = omega arith
+    by false l = omega arith
+
+pub run_within : (breaks : List Break) (q : RunnerValue) → run_count breaks q ≤ steps_ahead q
+unfolding steps_to_break
+run_within breaks q = by (eqb_tells (steps_ahead q) 0)
+  where
+    some : (m c : ℕ) → (m ≡ 0 → ⊥) → c ≤ m - 1 → suc c ≤ m
+    some zero c n l = absurd (n refl)
+    some (suc m) c n l = omega arith
+
+    by : (((steps_ahead q == 0) ≡ true) × (steps_ahead q ≡ 0)) ⊎ (((steps_ahead q == 0) ≡ false) × (steps_ahead q ≡ 0 → ⊥))
+        → run_count breaks q ≤ steps_ahead q
+    by (inl h) = rw h.0 (omega arith)
+    by (inr h) =
+        let way = states q.problem (steps_ahead q - 1) (next q.problem q.position) in
+        let a = first-within (meets_one q.problem breaks) way in
+        let b = length-states q.problem (steps_ahead q - 1) (next q.problem q.position) in
+        rw h.0 (some (steps_ahead q) (position_or_len (meets_one q.problem breaks) way) h.1 (omega arith))

@@ -127,9 +127,10 @@ module _ (a : AtWork) (n : ℕ) (b : AtWork) (old new : List ℕ) (w : Walked a 
       on : forward h.steps b ≡ forward (n + h.steps) a
       on = ap (forward h.steps) w.made ∙ forward_more h.steps n a
 
-      by : (c ≡ forward h.steps b) ⊎ (c ≡ with_room (forward h.steps b)) → (c ≡ forward (n + h.steps) a) ⊎ (c ≡ with_room (forward (n + h.steps) a))
+      by : (c ≡ forward h.steps b) ⊎ ((h.steps < m) × (c ≡ with_room (forward h.steps b)))
+          → (c ≡ forward (n + h.steps) a) ⊎ ((n + h.steps < most) × (c ≡ with_room (forward (n + h.steps) a)))
       by (inl e) = inl (e ∙ on)
-      by (inr e) = inr (e ∙ ap with_room on)
+      by (inr e) = let f = e.0 in inr (omega arith, e.1 ∙ ap with_room on)
 
   -- of a walk to the end
   pub end_part : (most : ℕ) (c : AtWork) → IsPartWay b c (step_count b.worker.runner most) → IsPartWay a c (steps_ahead a.worker.runner)
@@ -140,9 +141,13 @@ module _ (a : AtWork) (n : ℕ) (b : AtWork) (old new : List ℕ) (w : Walked a 
       part_on (step_count b.worker.runner most) (steps_ahead a.worker.runner) c h (omega arith)
 
   -- where it is left before a step that wasn't taken
-  pub part_way : (c : AtWork) (most : ℕ) → n ≤ most → (c ≡ b) ⊎ (c ≡ with_room b) → IsPartWay a c most
-  part_way c most l (inl e) = record { steps = n; within = l; left = inl (e ∙ w.made) }
-  part_way c most l (inr e) = record { steps = n; within = l; left = inr (e ∙ ap with_room w.made) }
+  pub part_way : (c : AtWork) (most : ℕ) → n < most → (c ≡ b) ⊎ (c ≡ with_room b) → IsPartWay a c most
+  part_way c most l (inl e) = record { steps = n; within = omega arith; left = inl (e ∙ w.made) }
+  part_way c most l (inr e) = record { steps = n; within = omega arith; left = inr (l, e ∙ ap with_room w.made) }
+
+  -- or after all of them
+  pub part_there : (c : AtWork) (most : ℕ) → n ≤ most → c ≡ b → IsPartWay a c most
+  part_there c most l e = record { steps = n; within = l; left = inl (e ∙ w.made) }
 
 -- ---- `step`
 

@@ -1,9 +1,7 @@
--- A desk (`Desk`, and `desk` makes one): a book, and the worker that has one of its tiles open or none; and a text that is answered, with the
--- desk that is left (`DeskAnswer`).
+-- A desk (`Desk`, and `desk` makes one): a book, and the worker that has one of its tiles open or none.
 --
--- Example: when the branch of the small problem's new book is opened, the desk that is left has the book with that lease, and worker 0 at
--- the start. proofs/ActExamples.antt computes it.
-use Rattle.std.specs.Prelude.{ℕ, List, Option}
+-- Example: the small problem's new book once its tile is leased, and worker 0 at the start. proofs/ActExamples.antt computes it.
+use Rattle.std.specs.Prelude.{Option}
 use Rattle.lab_book.specs.Book.{BookValue}
 use Rattle.lab_world.specs.Worker.{WorkerValue}
 
@@ -15,8 +13,3 @@ pub record Desk : Type 0 where
 -- this book and this worker, as a desk
 abbrev pub desk : BookValue → Option WorkerValue → Desk
 desk b w = record { book = b; worker = w }
-
--- a text that is answered, with the book and the worker that are left
-pub record DeskAnswer : Type 0 where
-  pub text : List ℕ
-  pub desk : Desk

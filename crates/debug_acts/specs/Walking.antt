@@ -2,7 +2,7 @@
 -- step (`stepped`), and what `step`, `run` and `back` answer and leave, in full or where memory runs out on the way.
 --
 -- Example: at its mark a worker is refused a step back, `refused debug 3 AtStart`. proofs/ActExamples.antt computes it.
-use Rattle.std.specs.Prelude.{ℕ, zero, suc, ◌≤◌, ◌≡◌, ◌⊎◌, ◌-◌, ◌==◌, nat_lt, true, if◌then◌else◌, List, [], ◌∷◌, ◌++◌, map, Option, Some, None, Result, OnErr}
+use Rattle.std.specs.Prelude.{ℕ, zero, suc, ◌≤◌, ◌<◌, ◌≡◌, ◌⊎◌, ◌-◌, ◌==◌, nat_lt, true, if◌then◌else◌, List, [], ◌∷◌, ◌++◌, map, Option, Some, None, Result, OnErr}
 use Rattle.std.specs.Global.{Vec}
 use Rattle.cover_problem.specs.Problem.{ProblemValue}
 use Rattle.x_steps.specs.StateValue.{StateValue}
@@ -18,7 +18,7 @@ use Rattle.lab_book.specs.declared.entry.Call.{Call}
 use Rattle.lab_book.specs.declared.entry.Call.TheVariants as call
 use Rattle.lab_book.specs.Book.{BookValue, book_step}
 use Rattle.lab_world.specs.Worker.{WorkerValue, moved_to, marked_at}
-use Rattle.debug_acts.specs.Work.{AtWork, WorkAnswer, work, answered}
+use Rattle.debug_acts.specs.Work.{AtWork, work}
 use Rattle.debug_language.specs.declared.fault.DebugFault.TheVariants.{AtEnd, AtStart}
 use Rattle.debug_language.specs.declared.words.Plain.TheVariants.{End}
 use Rattle.debug_language.specs.declared.words.Counted.TheVariants.{Moved}
@@ -40,14 +40,6 @@ post_call w = call.Post w.grant w.runner.mark w.runner.position true
 unfoldable pub posted : AtWork → AtWork
 posted a = work (book_step a.book a.worker.grant.worker (post_call a.worker)) (marked_at a.worker a.worker.runner.position)
 
--- the same, where there is something
-abbrev pub posted_if_any : AtWork → AtWork
-posted_if_any a = if nat_lt 0 (unposted_steps a.worker.runner) then posted a else a
-
--- a book and its worker, as they were and as they are: what wasn't posted is, if there was anything
-abbrev pub PostsAny : BookValue → WorkerValue → BookValue → WorkerValue → Type 0
-PostsAny b w c v = work c v ≡ posted_if_any (work b w)
-
 -- a stretch that has as many steps as can be counted is posted before the search goes on
 abbrev pub with_room : AtWork → AtWork
 with_room a = if unposted_steps a.worker.runner == most_steps then posted a else a
@@ -61,11 +53,11 @@ abbrev pub forward : ℕ → AtWork → AtWork
 forward zero a = a
 forward (suc n) a = stepped (forward n a)
 
--- where it is left when memory runs out: after some of the steps, and before the next one perhaps with its stretch posted
+-- where it is left when memory runs out: after some of the steps, and before the next one, if there is one, perhaps with its stretch posted
 pub record IsPartWay (a b : AtWork) (most : ℕ) : Type 0 where
   pub steps : ℕ
   pub within : steps ≤ most
-  pub left : (b ≡ forward steps a) ⊎ (b ≡ with_room (forward steps a))
+  pub left : (b ≡ forward steps a) ⊎ ((steps < most) × (b ≡ with_room (forward steps a)))
 
 -- a book and its worker, as they were and as they are: they have gone so many steps on
 abbrev pub Walks : BookValue → WorkerValue → BookValue → WorkerValue → ℕ → Type 0
@@ -86,6 +78,10 @@ WalksTowardsEnd b w c v = WalksSome b w c v (steps_ahead w.runner)
 -- where they are left that couldn't take one step, out of memory: as they were, or with a stretch posted that was full
 abbrev pub IsNotStepped : BookValue → WorkerValue → BookValue → WorkerValue → Type 0
 IsNotStepped b w c v = IsEither (work c v) (work b w) (with_room (work b w))
+
+-- the book's problem and the worker's lease are as they were
+abbrev pub IsKept : BookValue → WorkerValue → BookValue → WorkerValue → Type 0
+IsKept b w c v = (c.problem ≡ b.problem) × (v.grant ≡ w.grant)
 
 -- the line of a runner's next step, if that is a visit
 abbrev pub next_visit : RunnerValue → List (List (List ℕ))
@@ -155,10 +151,6 @@ step_lines r n =
     if steps_ahead r == 0 then debug_refusal AtEnd ∷ [] else
     walk_lines r (step_count r n) ++ end_lines r (step_count r n)
 
--- `step` where n steps are asked for
-abbrev pub step : AtWork → ℕ → WorkAnswer
-step a n = answered (step_lines a.worker.runner n) (forward (step_count a.worker.runner n) a)
-
 -- ---- `run`: on to the first state that meets a breakpoint, or to the end; refused at the end
 
 -- how many steps `run` takes: on to the first state that meets one of these breakpoints, or to the end of the branch; 0 at the end
@@ -200,10 +192,6 @@ run_lines breaks r =
 abbrev pub AddsRun : {X E : Type 0} → Result X E → Vec ℕ → Vec ℕ → List Break → RunnerValue → Type 0
 AddsRun result old new breaks r = AddsLines result old new (run_lines breaks r)
 
--- `run` with these breakpoints
-abbrev pub run : AtWork → List Break → WorkAnswer
-run a breaks = answered (run_lines breaks a.worker.runner) (forward (run_count breaks a.worker.runner) a)
-
 -- ---- `back`: back by so many steps, or to the mark; refused at the mark
 
 -- how many steps `back` takes of n that are asked for: no more than lead back to the mark
@@ -224,16 +212,8 @@ back_lines r n =
 abbrev pub gone_back : WorkerValue → ℕ → WorkerValue
 gone_back w n = moved_to w (state_back w.runner (back_count w.runner n))
 
--- `back` where n steps are asked for
-abbrev pub back : AtWork → ℕ → WorkAnswer
-back a n = answered (back_lines a.worker.runner n) (work a.book (gone_back a.worker n))
-
 -- where it is left when memory runs out: so many steps back, all of them at most
 pub record IsPartBack (a b : WorkerValue) (most : ℕ) : Type 0 where
   pub steps : ℕ
   pub within : steps ≤ most
   pub left : b ≡ moved_to a (state_back a.runner steps)
-
--- it has gone some of the steps that `back` takes
-abbrev pub GoesPartBack : WorkerValue → WorkerValue → ℕ → Type 0
-GoesPartBack old new most = IsPartBack old new (back_count old.runner most)

@@ -1,55 +1,63 @@
 //! A branch is given up: parked, saved, or closed.
-ghost use Rattle.std.specs.Prelude.{◌≡◌, IfErr, OnOk};
-ghost use Rattle.lab_world.specs.Worker.{HoldsTile};
-ghost use Rattle.debug_acts.specs.Work.{work};
-ghost use Rattle.debug_acts.specs.Giving.{park, parked, IsNotGiven};
-ghost use Rattle.cover_problem.specs.Answers.{Adds};
+ghost use Rattle.std.specs.Prelude.{◌≡◌, OnOk, OnErr};
+ghost use Rattle.lab_world.specs.World.{IsSeat};
+ghost use Rattle.lab_world.specs.Alone.{Leads};
+ghost use Rattle.debug_acts.specs.Acts.{has_rest, rest_acts, end_acts, LeadsShort};
 
 mod closing;
 mod saving;
 
-use crate::posting::post_rest;
 pub use closing::close;
 use cover_problem::Table;
-use debug_language::{Plain, write_plain};
 use lab_book::Book;
-use lab_world::Worker;
-pub use saving::save;
-use x_steps::Refused;
+use lab_world::{Act, Worker, take_turn};
+pub use saving::write_position;
+use std::alloc::{AllocError, Global};
 
-/// Posts what a worker walked, and gives its tile up. Out of memory the worker comes back.
-fn give_up<'p, T: Table>(book: &mut Book<'p>, worker: Worker<'p, T>) -> Result<(), Worker<'p, T>>
-    requires holds { HoldsTile book.old worker }
-    ensures made { OnOk result (book.new ≡ parked (work book.old worker.entry)) }
-    ensures left { IfErr result (λ w. IsNotGiven (work book.old worker.entry) (work book.new w)) }
-    ensures holds_on { IfErr result (λ w. HoldsTile book.new w) }
+/// Whether a worker has steps that aren't posted.
+fn has_rest<T: Table>(seat: &Option<Worker<'_, T>>) -> bool
+    ensures { result ≡ has_rest seat.now }
 {
-    let mut worker = worker;
-    let Ok(()) = post_rest(book, &mut worker) else {
-        return Err(worker);
-    };
-    book.is_sound();
-    let Refused { fault: _, given } = match worker.park(book) {
-        Ok(()) => return Ok(()),
-        Err(refused) => refused,
-    };
-    Err(given)
+    match seat {
+        Some(worker) => worker.runner().unposted() > 0,
+        None => false,
+    }
 }
 
-/// `park`: posts what isn't posted, and gives the branch up. Out of memory the worker comes back.
-pub fn park<'p, T: Table>(
+/// Posts what isn't posted. Out of memory, nothing has changed.
+fn post_rest<'p, T: Table>(
+    alloc: Global,
     book: &mut Book<'p>,
-    worker: Worker<'p, T>,
-    text: &mut Vec<u8>,
-) -> Result<(), Worker<'p, T>>
-    requires holds { HoldsTile book.old worker }
-    ensures made { OnOk result (book.new ≡ (park (work book.old worker.entry)).desk.book) }
-    ensures text { Adds result text.old text.new (park (work book.old worker.entry)).text }
-    ensures left { IfErr result (λ w. IsNotGiven (work book.old worker.entry) (work book.new w)) }
-    ensures holds_on { IfErr result (λ w. HoldsTile book.new w) }
+    seat: &mut Option<Worker<'p, T>>,
+) -> Result<(), AllocError>
+    requires seat { IsSeat book.old 0 seat.old }
+    ensures made { OnOk result (Leads book.old seat.old (rest_acts seat.old) book.new seat.new) }
+    ensures book { OnErr result (book.new ≡ book.old) }
+    ensures unchanged { OnErr result (seat.new ≡ seat.old) }
+    ensures seat { IsSeat book.new 0 seat.new }
+    ensures same_problem { book.new.problem ≡ book.old.problem }
 {
-    let Ok(()) = write_plain(text, Plain::Parked) else {
-        return Err(worker);
-    };
-    give_up(book, worker)
+    if !has_rest(seat) {
+        return Ok(());
+    }
+    take_turn(alloc, book, seat, 0, &Act::Post)?;
+    Ok(())
+}
+
+/// Posts what isn't posted, and then does an act, by which the tile is given up or closed. Out of memory that act isn't done.
+pub fn end_branch<'p, T: Table>(
+    alloc: Global,
+    book: &mut Book<'p>,
+    seat: &mut Option<Worker<'p, T>>,
+    act: &Act,
+) -> Result<(), AllocError>
+    requires seat { IsSeat book.old 0 seat.old }
+    ensures made { OnOk result (Leads book.old seat.old (end_acts seat.old act.now) book.new seat.new) }
+    ensures left { OnErr result (LeadsShort book.old seat.old (end_acts seat.old act.now) book.new seat.new) }
+    ensures seat { IsSeat book.new 0 seat.new }
+    ensures same_problem { book.new.problem ≡ book.old.problem }
+{
+    post_rest(alloc, book, seat)?;
+    take_turn(alloc, book, seat, 0, act)?;
+    Ok(())
 }

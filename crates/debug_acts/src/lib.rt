@@ -1,14 +1,11 @@
 //! What a worker of a book is asked for by hand: to walk, to part its branch, to give it up, and to open another.
 #![tactic(auto)]
 
-mod entering;
+mod asking;
 mod giving;
-mod parting;
 mod posting;
 mod walking;
 
-pub use entering::enter;
-pub use giving::{close, park, save};
-pub use parting::{retract, split};
-pub use posting::{make_room, post_rest};
-pub use walking::{back, run, step, step_on, write_moved};
+pub use asking::{Told, ask};
+pub use giving::{close, end_branch, write_position};
+pub use walking::{back, run, step};

@@ -1,7 +1,7 @@
 //! What a worker walked is posted.
 ghost use Rattle.std.specs.Prelude.{◌≡◌, ◌<◌, OnOk, OnErr};
 ghost use Rattle.lab_world.specs.Worker.{HoldsTile};
-ghost use Rattle.debug_acts.specs.Walking.{posted, with_room, PostsAny};
+ghost use Rattle.debug_acts.specs.Walking.{posted, with_room};
 ghost use Rattle.debug_acts.specs.Work.{work};
 
 use cover_problem::Table;
@@ -20,31 +20,14 @@ fn post<'p, T: Table>(book: &mut Book<'p>, worker: &mut Worker<'p, T>) -> Result
 {
     book.is_sound();
     worker.runner().is_sound();
-    let Ok(_) = worker.post(book) else {
+    let Ok(_) = worker.post_held(book) else {
         return Err(AllocError);
     };
     Ok(())
 }
 
-/// The same, where it walked at all.
-pub fn post_rest<'p, T: Table>(
-    book: &mut Book<'p>,
-    worker: &mut Worker<'p, T>,
-) -> Result<(), AllocError>
-    requires holds { HoldsTile book.old worker.old }
-    ensures made { OnOk result (PostsAny book.old worker.old book.new worker.new) }
-    ensures book_kept { OnErr result (book.new ≡ book.old) }
-    ensures worker_kept { OnErr result (worker.new ≡ worker.old) }
-    ensures holds_on { HoldsTile book.new worker.new }
-{
-    if worker.runner().unposted() == 0 {
-        return Ok(());
-    }
-    post(book, worker)
-}
-
 /// The same, where its stretch has as many steps as can be counted.
-pub fn make_room<'p, T: Table>(
+pub(crate) fn make_room<'p, T: Table>(
     book: &mut Book<'p>,
     worker: &mut Worker<'p, T>,
 ) -> Result<(), AllocError>

@@ -7,8 +7,8 @@ use Rattle.debug_language.specs.declared.engine.EngineCommand.TheVariants as eng
 use Rattle.debug_language.specs.Reading.{engine_command_of}
 use Rattle.x_debug.specs.Session.{SessionValue}
 use Rattle.x_debug.specs.Commands.{Answer}
-use Rattle.alike_sessions.specs.AlikeSessions.{AreSoundAlike, AreAlikeAnswers}
-use Rattle.alike_sessions.proofs.AnswerLemmas.{line_alike, load_alike}
+use Rattle.debug_laws.specs.AlikeSessions.{AreSoundAlike, AreAlikeAnswers}
+use Rattle.debug_laws.proofs.AnswerLemmas.{line_alike, load_alike}
 use Rattle.debug_script.specs.Input.{without_newline}
 use Rattle.debug_script.specs.Pooling.{answer_pool}
 use Rattle.debug_script.specs.Replies.{Exchange, exchange_with, exchange_by, exchange, debug_replies}

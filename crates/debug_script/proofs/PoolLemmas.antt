@@ -12,16 +12,16 @@ use Rattle.debug_language.specs.declared.fault.DebugFault.TheVariants.{AlreadyOp
 use Rattle.debug_views.specs.Lines.{debug_refusal}
 use Rattle.debug_views.proofs.LineLemmas.{one_line}
 use Rattle.x_debug.specs.Session.{SessionValue}
-use Rattle.x_debug.specs.Commands.{says, if_none_open}
+use Rattle.x_debug.specs.Commands.{says, done_by}
 use Rattle.x_debug.specs.Loading.{answers}
-use Rattle.alike_books.specs.Searched.{searched, IsSearched}
-use Rattle.alike_books.proofs.FilterLemmas.{count_none}
-use Rattle.alike_books.proofs.CountLemmas.{held_alike, leased_alike}
-use Rattle.alike_books.proofs.SearchedLemmas.{searched_tiling, searched_open}
-use Rattle.alike_sessions.specs.AlikeSessions.{open_branches, IsSoundSession, AreSoundAlike, AreAlikeAnswers}
-use Rattle.alike_sessions.proofs.TileLemmas.{both_open}
-use Rattle.alike_sessions.proofs.PooledLemmas.{none_leased, pooled_alike}
-use Rattle.debug_script.specs.Pooling.{none_held, pool_words, pool_answer, answer_pool}
+use Rattle.lab_book_laws.specs.Searched.{searched, IsSearched}
+use Rattle.lab_book_laws.proofs.FilterLemmas.{count_none}
+use Rattle.lab_book_laws.proofs.CountLemmas.{held_alike, leased_alike}
+use Rattle.lab_book_laws.proofs.SearchedLemmas.{searched_tiling, searched_open}
+use Rattle.debug_laws.specs.AlikeSessions.{open_branches, IsSoundSession, AreSoundAlike, AreAlikeAnswers}
+use Rattle.debug_laws.proofs.TileLemmas.{both_open}
+use Rattle.debug_laws.proofs.PooledLemmas.{none_leased, pooled_alike}
+use Rattle.debug_script.specs.Pooling.{none_held, pool_words, pool_answer, answer_pool, unless_open}
 
 -- ---- whether a tile of a session's book is leased, by a test of the book
 
@@ -62,10 +62,10 @@ module _ (a f : SessionValue) (k : AreSoundAlike a f) where
   as_many_held = ap (λ (n : ℕ). n == 0) (held_alike a.book.tiles f.book.tiles k.alike.book.tiles)
 
   -- with a branch open it is refused
-  refused_with : 0 < open_branches a.worker → AreAlikeAnswers (says a (debug_refusal AlreadyOpen ∷ [])) (answer_pool f)
+  refused_with : 0 < open_branches a.worker → AreAlikeAnswers (done_by a (says a (debug_refusal AlreadyOpen ∷ []))) (answer_pool f)
   refused_with = both_open a.worker f.worker k.alike.runner
       (λ x y. 0 < open_branches x
-      → AreAlikeAnswers (says a (debug_refusal AlreadyOpen ∷ [])) (if_none_open f y (pool_answer f.book (searched f.book))))
+      → AreAlikeAnswers (done_by a (says a (debug_refusal AlreadyOpen ∷ []))) (unless_open f y (pool_answer f.book (searched f.book))))
       (λ l. absurd (omega arith)) (λ v w d e g. λ l. record { text = refl; sessions = k })
 
   -- that is where a tile is leased
@@ -80,7 +80,7 @@ module _ (a f : SessionValue) (k : AreSoundAlike a f) where
       → AreAlikeAnswers (pool_answer a.book new) (answer_pool f)
   searched_alike new none s t =
       let e = no_worker f k.also_sound (sym as_many_leased ∙ none) in
-      subst (λ (w : Option WorkerValue). AreAlikeAnswers (pool_answer a.book new) (if_none_open f w (pool_answer f.book (searched f.book))))
+      subst (λ (w : Option WorkerValue). AreAlikeAnswers (pool_answer a.book new) (unless_open f w (pool_answer f.book (searched f.book))))
       (sym e) (record {
         text = ap (λ (all : Bool). (answers (pool_words all) a).text) as_many_held;
         sessions = pooled_alike a f new k e s t;
@@ -99,7 +99,7 @@ module _ (a f : SessionValue) (k : AreSoundAlike a f) where
   pools_alike = by a.worker refl
     where
       by : (x : Option WorkerValue) → a.worker ≡ x
-          → AreAlikeAnswers (if_none_open a x (pool_answer a.book (searched a.book))) (answer_pool f)
+          → AreAlikeAnswers (unless_open a x (pool_answer a.book (searched a.book))) (answer_pool f)
       by None e =
           let n = none_leased a k.sound e in
           searched_alike (searched a.book) n

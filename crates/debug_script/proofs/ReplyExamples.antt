@@ -2,9 +2,10 @@
 use Rattle.std.proofs.Common.{◌≡◌, List, ℕ, [], ◌∷◌, ◌++◌, codes, ap, append-nil}
 use Rattle.std.specs.List.{concat}
 use Rattle.debug_language.specs.declared.question.Question.TheVariants.{Show}
+use Rattle.debug_language.specs.Command as command
 use Rattle.debug_language.specs.Reading.{command_from, engine_from}
 use Rattle.x_debug.specs.Session.{SessionValue}
-use Rattle.x_debug.specs.Commands.{answer, answer_question}
+use Rattle.x_debug.specs.Commands.{answer, deed_of}
 use Rattle.x_debug.specs.Loading.{load_answer}
 use Rattle.debug_script.specs.Replies.{exchange, debug_replies}
 
@@ -17,8 +18,8 @@ lines line =
 loaded_and_shown
     : (s : SessionValue) (line : List ℕ)
     → let loaded = load_answer s (concat (line ∷ [])) in
-    debug_replies s 0 (lines line) ≡ loaded.text ++ (answer_question loaded.session Show).text
-unfolding debug_replies exchange engine_from command_from answer
+    debug_replies s 0 (lines line) ≡ loaded.text ++ (answer loaded.session (command.Ask Show)).text
+unfolding debug_replies exchange engine_from command_from deed_of
 loaded_and_shown s line =
     let loaded = load_answer s (concat (line ∷ [])) in
-    ap (λ (bs : List ℕ). loaded.text ++ bs) (append-nil (answer_question loaded.session Show).text)
+    ap (λ (bs : List ℕ). loaded.text ++ bs) (append-nil (answer loaded.session (command.Ask Show)).text)

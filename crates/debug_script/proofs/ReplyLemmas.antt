@@ -1,7 +1,7 @@
 -- Replies, line by line.
 use Rattle.std.proofs.Common.{◌≡◌, ℕ, zero, suc, List, [], ◌∷◌, ◌++◌, drop, Option, Some, None, option_map, unwrap_or, refl, sym, ◌∙◌, ap, length, append_assoc, append-nil, arith}
 use Rattle.x_debug.specs.Session.{SessionValue}
-use Rattle.alike_sessions.specs.AlikeSessions.{AreSoundAlike}
+use Rattle.debug_laws.specs.AlikeSessions.{AreSoundAlike}
 use Rattle.debug_script.specs.Input.{raw_lines}
 use Rattle.debug_script.specs.Replies.{exchange, debug_replies}
 

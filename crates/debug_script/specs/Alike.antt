@@ -3,7 +3,7 @@ use Rattle.std.specs.Prelude.{ℕ, List, Result, OnOk}
 use Rattle.std.specs.Global.{Vec}
 use Rattle.x_texts.specs.Writes.{Writes}
 use Rattle.x_debug.specs.Session.{SessionValue}
-use Rattle.alike_sessions.specs.AlikeSessions.{AreSoundAlike}
+use Rattle.debug_laws.specs.AlikeSessions.{AreSoundAlike}
 
 -- unless it has an error, a call says what each sound session says that is alike to this one
 abbrev pub SaysAlike : {X E : Type 0} → Result X E → Vec ℕ → Vec ℕ → SessionValue → (SessionValue → List ℕ) → Type 0

@@ -14,7 +14,7 @@ use Rattle.debug_language.specs.Reading.{engine_command_of}
 use Rattle.x_debug.specs.Session.{SessionValue}
 use Rattle.x_debug.specs.Commands.{Answer, answer_line}
 use Rattle.x_debug.specs.Loading.{load_answer}
-use Rattle.alike_sessions.specs.AlikeSessions.{AreSoundAlike}
+use Rattle.debug_laws.specs.AlikeSessions.{AreSoundAlike}
 use Rattle.debug_script.specs.Input.{raw_lines, without_newline}
 use Rattle.debug_script.specs.Pooling.{answer_pool}
 

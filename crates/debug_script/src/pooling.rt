@@ -3,7 +3,7 @@ ghost use Rattle.std.specs.Prelude.{◌≡◌, nat_lt, IfOk, IfErr};
 ghost use Rattle.text_lines.specs.Writing.{line_text};
 ghost use Rattle.lab_book.specs.Book.{leased_in};
 ghost use Rattle.lab_book.specs.Tiling.{IsTiling};
-ghost use Rattle.alike_books.specs.Searched.{IsSearched};
+ghost use Rattle.lab_book_laws.specs.Searched.{IsSearched};
 ghost use Rattle.debug_views.specs.Lines.{debug_refusal};
 ghost use Rattle.debug_script.specs.Alike.{SaysAlike, StaysAlike};
 ghost use Rattle.debug_script.specs.Pooling.{none_held, pool_words, answer_pool};

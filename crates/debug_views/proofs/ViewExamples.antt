@@ -12,11 +12,11 @@ use Rattle.x_steps.specs.Steps.{covered_in}
 use Rattle.x_branches.specs.Runner.{RunnerValue}
 use Rattle.x_texts.specs.declared.breakpoint.Break.TheVariants as breaks
 use Rattle.lab_book.specs.declared.fault.BookFault.TheVariants.{UnknownBranch}
-use Rattle.lab_book.specs.Book.{BookValue, new_book, outcome}
+use Rattle.lab_book.specs.Book.{BookValue, new_book}
 use Rattle.debug_views.specs.Lines.{state_line, book_refusal}
 use Rattle.debug_views.specs.Breakpoints.{meets, first_met, with_break}
 use Rattle.debug_views.specs.Showing.{runner_branch, runner_covered}
-use Rattle.debug_views.specs.Tiles.{open_lines, place_at, hold}
+use Rattle.debug_views.specs.Tiles.{open_lines, place_at}
 
 -- option 4 is chosen, and option 5 is about to be tried
 abbrev at_five : StateValue
@@ -59,14 +59,6 @@ begins_there = refl
 
 none_begins : place_at (Some (4 ∷ [])) whole.tiles ≡ None
 none_begins = refl
-
-one_held : text_of (hold whole None).lines ≡ codes "branch start to end held" ++ 10 ∷ []
-unfolding hold outcome
-one_held = refl
-
-none_held : text_of (hold whole (Some (4 ∷ []))).lines ≡ codes "refused book 1 UnknownBranch" ++ 10 ∷ []
-unfolding hold outcome digits
-none_held = refl
 
 -- ---- specs/Showing.antt
 

@@ -7,4 +7,4 @@ mod tiles;
 
 pub use met::first_met;
 pub use showing::{choices, show, untried};
-pub use tiles::{branches, hold, place_at, put_back, write_book_fault, write_posted, write_tile};
+pub use tiles::{branches, place_at, write_book_fault, write_posted, write_tile};

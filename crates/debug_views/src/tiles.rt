@@ -1,10 +1,7 @@
 //! Which tile a cut names, and how tiles are shown.
-ghost use Rattle.std.specs.Prelude.{◌≡◌, ◌<◌, length, IfErr, OnOk, IfSome};
-ghost use Rattle.lab_book.specs.declared.entry.Reply.TheVariants as replies;
-ghost use Rattle.lab_book.specs.Tiling.{tile_at};
-ghost use Rattle.lab_book.specs.Calls.{Made, Refuses};
+ghost use Rattle.std.specs.Prelude.{◌≡◌, ◌<◌, length, OnOk, IfSome};
 ghost use Rattle.debug_views.specs.Lines.{book_refusal};
-ghost use Rattle.debug_views.specs.Tiles.{given_cut, is_begun_at, place_at, standing_of, tile_line, open_lines, branches_lines, posted_lines, call_for, asked_of, hold, put_back_at, AnswersSo, MayLeaveBook};
+ghost use Rattle.debug_views.specs.Tiles.{given_cut, is_begun_at, place_at, standing_of, tile_line, open_lines, branches_lines, posted_lines};
 ghost use Rattle.cover_problem.specs.Answers.{AddsLine};
 ghost use Rattle.x_texts.specs.Writes.{AddsLines};
 
@@ -14,7 +11,6 @@ use debug_language::{
 };
 use lab_book::{Book, BookFault, Status, Tile};
 use std::alloc::AllocError;
-use x_steps::State;
 use x_texts::write_visits;
 
 /// Whether a tile begins at a cut, None for the start of the run, and isn't closed.
@@ -97,78 +93,4 @@ pub fn write_book_fault(text: &mut Vec<u8>, fault: &BookFault) -> Result<(), All
         Some(number) => write_refused(text, Layer::Book, number, fault.name()),
         None => Err(AllocError),
     }
-}
-
-/// The id of the tile at a place.
-fn id_at(book: &Book<'_>, place: usize) -> u64
-    requires { place < length book.now.tiles }
-    ensures { result ≡ (tile_at book.now.tiles place).id }
-{
-    book.tiles()[place].id()
-}
-
-/// Writes the tile at a place.
-fn write_tile_at(text: &mut Vec<u8>, book: &Book<'_>, place: usize) -> Result<(), AllocError>
-    requires { place < length book.now.tiles }
-    ensures { AddsLine result text.old text.new (tile_line (tile_at book.now.tiles place)) }
-{
-    write_tile(text, &book.tiles()[place])
-}
-
-/// Asks the tile with an id to go back to a state, where there is one, and else to stop.
-fn ask(book: &mut Book<'_>, id: u64, state: Option<&State>) -> Result<(), BookFault>
-    ensures made { OnOk result (Made book.old book.new 0 (call_for state.entry id) replies.Done) }
-    ensures refused { IfErr result (λ f. Refuses book.old book.new 0 (call_for state.entry id) f) }
-{
-    match state {
-        Some(state) => book.put_back(0, id, state),
-        None => book.request_stop(0, id),
-    }
-}
-
-/// Asks the tile that begins at a cut, and isn't closed, and shows it. Refused where there is none, and as the book refuses it.
-fn ask_tile(
-    book: &mut Book<'_>,
-    lo: Option<&[u32]>,
-    state: Option<&State>,
-    text: &mut Vec<u8>,
-) -> Result<(), AllocError>
-    ensures made { OnOk result (book.new ≡ (asked_of book.old lo.entry state.entry).book) }
-    ensures text { AnswersSo result text.old text.new (asked_of book.old lo.entry state.entry) }
-    ensures left { MayLeaveBook result book.old book.new (asked_of book.old lo.entry state.entry) }
-{
-    let Some(place) = place_at(book, lo) else {
-        return write_book_fault(text, &BookFault::UnknownBranch);
-    };
-    let id = id_at(book, place);
-    match ask(book, id, state) {
-        Ok(()) => write_tile_at(text, book, place),
-        Err(fault) => write_book_fault(text, &fault),
-    }
-}
-
-/// `hold`: asks the tile that begins at a cut, and isn't closed, to stop. Refused where there is none.
-#[tactic(auto, unfolding(crate::specs::Tiles::hold))]
-pub fn hold(book: &mut Book<'_>, lo: Option<&[u32]>, text: &mut Vec<u8>) -> Result<(), AllocError>
-    ensures made { OnOk result (book.new ≡ (hold book.old (given_cut lo.entry)).book) }
-    ensures text { AnswersSo result text.old text.new (hold book.old (given_cut lo.entry)) }
-    ensures left { MayLeaveBook result book.old book.new (hold book.old (given_cut lo.entry)) }
-{
-    ask_tile(book, lo, None, text)
-}
-
-/// `putback`: takes what was posted after a state out of the tile that begins at a cut, and isn't closed. Refused where there is
-/// none, and as the book refuses it.
-#[tactic(auto, unfolding(crate::specs::Tiles::put_back))]
-pub fn put_back(
-    book: &mut Book<'_>,
-    lo: Option<&[u32]>,
-    state: &State,
-    text: &mut Vec<u8>,
-) -> Result<(), AllocError>
-    ensures made { OnOk result (book.new ≡ (put_back_at book.old lo.entry state.now).book) }
-    ensures text { AnswersSo result text.old text.new (put_back_at book.old lo.entry state.now) }
-    ensures left { MayLeaveBook result book.old book.new (put_back_at book.old lo.entry state.now) }
-{
-    ask_tile(book, lo, Some(state), text)
 }

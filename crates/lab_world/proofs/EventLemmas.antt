@@ -221,10 +221,10 @@ module _ (b : BookValue) (w : ℕ) where
   lease_any_is None e = refl
   lease_any_is (Some y) e = absurd (false≢true (sym e))
 
-  pub put_back_is : (x : Option WorkerValue) (id : ℕ) (s : State)
-      → turn b x w (PutBack id s) ≡ called b w (call.PutBack id (state_value s)) (λ r. x)
+  pub put_back_is : (x : Option WorkerValue) (id : ℕ) (s : StateValue) (t : State) → state_value t ≡ s
+      → turn b x w (PutBack id s) ≡ called b w (call.PutBack id (state_value t)) (λ r. x)
   unfolding turn
-  put_back_is x id s = refl
+  put_back_is x id s t e = ap (λ (v : StateValue). called b w (call.PutBack id v) (λ r. x)) (sym e)
 
   pub stop_is : (x : Option WorkerValue) (id : ℕ) → turn b x w (RequestStop id) ≡ called b w (call.RequestStop id) (λ r. x)
   unfolding turn

@@ -6,5 +6,6 @@ pub mod LeaseLemmas
 pub mod PostLemmas
 pub mod SplitLemmas
 pub mod EventLemmas
+pub mod AloneLemmas
 pub mod WorldLemmas
 mod WorldExamples

@@ -8,7 +8,6 @@ use Rattle.std.proofs.lemmas.List.Quantifiers.{position-Some}
 use Rattle.cover_problem.specs.Lists.{has}
 use Rattle.cover_problem.specs.Problem.{is_same}
 use Rattle.x_steps.specs.StateValue.{StateValue}
-use Rattle.x_steps.specs.StateView.{state_value}
 use Rattle.x_steps.specs.Steps.{next}
 use Rattle.x_steps.specs.Before.{prev}
 use Rattle.x_branches.specs.Branch.{end_of}
@@ -77,7 +76,7 @@ module _ (b : BookValue) (w : ℕ) (tiling : IsTiling b.problem b.branch b.first
 -- ---- the worker that acts
 
 -- what both of two turns have
-either : (P : Turn → Type 0) (c : Bool) (t u : Turn) → P t → P u → P (if c then t else u)
+pub either : (P : Turn → Type 0) (c : Bool) (t u : Turn) → P t → P u → P (if c then t else u)
 either P true t u a b = a
 either P false t u a b = b
 
@@ -165,7 +164,7 @@ module _ (b : BookValue) (w : ℕ) (tiling : IsTiling b.problem b.branch b.first
   turn_keeps (Some x) Park k = end_keeps x ending.Park k
   turn_keeps (Some x) Abandon k = end_keeps x ending.Abandon k
   turn_keeps (Some x) Close k = end_keeps x ending.Close k
-  turn_keeps (Some x) (PutBack id s) k = same_seat x (call.PutBack id (state_value s)) (put_back_leaves b w x k.1.tile id (state_value s))
+  turn_keeps (Some x) (PutBack id s) k = same_seat x (call.PutBack id s) (put_back_leaves b w x k.1.tile id s)
       k
   turn_keeps (Some x) (RequestStop id) k = same_seat x (call.RequestStop id) (stop_leaves b w x k.1.tile id) k
 
@@ -199,7 +198,7 @@ module _ (b : BookValue) (w v : ℕ) (y : WorkerValue) (other : v ≡ w → ⊥)
   leaves None Park h = k
   leaves None Abandon h = k
   leaves None Close h = k
-  leaves None (PutBack id s) h = left w (call.PutBack id (state_value s)) (put_back_leaves b w y k.1.tile id (state_value s))
+  leaves None (PutBack id s) h = left w (call.PutBack id s) (put_back_leaves b w y k.1.tile id s)
   leaves None (RequestStop id) h = left w (call.RequestStop id) (stop_leaves b w y k.1.tile id)
   leaves (Some x) Step h = either Leaves (same_state x.runner.position (end_of x.runner.branch.hi)) _ _ k
       (either Leaves (unposted_steps x.runner == most_steps) _ _ k k)
@@ -219,7 +218,7 @@ module _ (b : BookValue) (w v : ℕ) (y : WorkerValue) (other : v ≡ w → ⊥)
   leaves (Some x) Park h = end_left x ending.Park h
   leaves (Some x) Abandon h = end_left x ending.Abandon h
   leaves (Some x) Close h = end_left x ending.Close h
-  leaves (Some x) (PutBack id s) h = left w (call.PutBack id (state_value s)) (put_back_leaves b w y k.1.tile id (state_value s))
+  leaves (Some x) (PutBack id s) h = left w (call.PutBack id s) (put_back_leaves b w y k.1.tile id s)
   leaves (Some x) (RequestStop id) h = left w (call.RequestStop id) (stop_leaves b w y k.1.tile id)
 
 pub turn_leaves : (b : BookValue) (w v : ℕ) (x y : Option WorkerValue) (a : Act) → (v ≡ w → ⊥) → IsSeat b w x → IsSeat b v y

@@ -1,4 +1,4 @@
--- The examples of specs/Worker.antt and specs/World.antt, computed on the small problem.
+-- The examples of specs/Worker.antt, specs/World.antt and specs/Alone.antt, computed on the small problem.
 use Rattle.std.proofs.Common.{◌≡◌, false, Some, None, List, [], ◌∷◌, refl}
 use Rattle.cover_problem.proofs.CoverExamples.{small}
 use Rattle.x_steps.specs.declared.state.Label.TheVariants.{X2}
@@ -7,7 +7,7 @@ use Rattle.x_steps.specs.StateValue.{StateValue, at, start}
 use Rattle.x_branches.specs.Runner.{runner_at}
 use Rattle.lab_book.specs.declared.entry.Call.TheVariants as call
 use Rattle.lab_book.specs.declared.entry.Reply.TheVariants as reply
-use Rattle.lab_book.specs.Book.{BookValue, new_book, outcome}
+use Rattle.lab_book.specs.Book.{BookValue, new_book, outcome, book_step}
 use Rattle.lab_world.specs.declared.event.Act.{Act}
 use Rattle.lab_world.specs.declared.event.Act.TheVariants.{LeaseAny, Park}
 use Rattle.lab_world.specs.declared.event.WorldEvent.{WorldEvent}
@@ -15,6 +15,7 @@ use Rattle.lab_world.specs.declared.event.WorldReply.TheVariants.{Book, Idle, Bu
 use Rattle.lab_world.specs.declared.worker.leasing.Wanted.TheVariants as wanted
 use Rattle.lab_world.specs.Worker.{WorkerValue, leased_by, moved_to, marked_at, unposted, wanted_place, after_post, after_end}
 use Rattle.lab_world.specs.World.{turn, fresh, played, world_replies, state_of}
+use Rattle.lab_world.specs.Alone.{Leads}
 
 -- the book of the whole run
 abbrev whole : BookValue
@@ -77,3 +78,9 @@ one_stands = refl
 zero_has_none : state_of (played (fresh whole 2) events) 0 ≡ None
 unfolding turn outcome
 zero_has_none = refl
+
+-- ---- specs/Alone.antt
+
+one_leases : Leads whole None (LeaseAny ∷ []) (book_step whole 0 call.LeaseAny) (Some at_start)
+unfolding turn outcome
+one_leases = refl

@@ -1,2 +1,3 @@
 pub mod Worker
 pub mod World
+pub mod Alone

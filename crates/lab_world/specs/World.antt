@@ -11,7 +11,6 @@ use Rattle.std.specs.Prelude.{slice_index_or, if◌then◌else◌, IfSome, take,
 use Rattle.std.specs.Global.{Vec}
 use Rattle.cover_problem.specs.Lists.{has}
 use Rattle.x_steps.specs.StateValue.{StateValue}
-use Rattle.x_steps.specs.StateView.{state_value}
 use Rattle.x_steps.specs.declared.event.Event.TheVariants as event
 use Rattle.x_steps.specs.Steps.{next, event_of, covered_in}
 use Rattle.x_steps.specs.Before.{prev}
@@ -126,7 +125,7 @@ turn b x w Retract = if_working b x (retracting b)
 turn b x w Park = if_working b x (λ y. called b y.grant.worker (call.Park y.grant) (after_end y))
 turn b x w Abandon = if_working b x (λ y. called b y.grant.worker (call.Abandon y.grant) (after_end y))
 turn b x w Close = if_working b x (λ y. called b y.grant.worker (call.Close y.grant) (after_end y))
-turn b x w (PutBack id s) = called b w (call.PutBack id (state_value s)) (λ r. x)
+turn b x w (PutBack id s) = called b w (call.PutBack id s) (λ r. x)
 turn b x w (RequestStop id) = called b w (call.RequestStop id) (λ r. x)
 
 -- the act that leases a tile by its id
@@ -157,6 +156,11 @@ AnyActs result act old new seat seat_new = IfOk result (λ r. (w : ℕ) → Turn
 -- worker w's act makes this of a book, and leaves its seat as it is, whatever sits there, unless memory ran out
 abbrev pub ActsAside : {E : Type 0} → Result WorldReply E → ℕ → Act → BookValue → BookValue → Type 0
 ActsAside result w act old new = IfOk result (λ r. (x : Option WorkerValue) → Turned (turn old x w act) r new x)
+
+-- where a reply names an entry of a book's history, it is there
+abbrev pub IsNoted : BookValue → WorldReply → Type 0
+IsNoted b (Book i) = i < length b.history
+IsNoted b r = Unit {0}
 
 -- ---- worlds
 

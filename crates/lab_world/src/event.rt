@@ -1,7 +1,41 @@
 //! What workers do, and what they are answered.
+ghost use Rattle.std.specs.Prelude.{◌≡◌};
+ghost use Rattle.x_steps.specs.StateView.{state_value};
 
+use std::marker::Model;
 use x_branches::RunnerFault;
 use x_steps::{Event, State};
+
+/// The state that a tile is put back to.
+#[derive(Debug, Drop)]
+pub struct Target {
+    state: State,
+}
+
+impl Model for Target {
+    ghost use Rattle.x_steps.specs.StateValue.{StateValue};
+    ghost use Rattle.x_steps.specs.StateView.{state_value};
+
+    ghost Value = { StateValue };
+
+    ghost view = { λ t. state_value t.state };
+}
+
+impl Target {
+    /// A state itself.
+    pub fn new(state: State) -> Target
+        ensures { result ≡ state_value state }
+    {
+        Target { state }
+    }
+
+    /// The state.
+    pub fn state(&self) -> &State
+        ensures { state_value result.now ≡ self.now }
+    {
+        &self.state
+    }
+}
 
 /// What one worker does: a step of its runner, or a call of the book. `PutBack` and `RequestStop` need no runner.
 #[derive(Debug, Drop)]
@@ -18,7 +52,7 @@ pub enum Act {
     Park,
     Abandon,
     Close,
-    PutBack { id: u64, state: State },
+    PutBack { id: u64, state: Target },
     RequestStop(u64),
 }
 

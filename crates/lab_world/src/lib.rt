@@ -7,7 +7,8 @@ mod turn;
 mod worker;
 mod world;
 
-pub use event::{Act, WorldEvent, WorldReply};
+pub use event::{Act, Target, WorldEvent, WorldReply};
 pub use fault::WorkerFault;
+pub use turn::take_turn;
 pub use worker::Worker;
 pub use world::{PlayStopped, World};

@@ -4,16 +4,16 @@ ghost use Rattle.lab_book.specs.Book.{BookValue};
 ghost use Rattle.lab_book.specs.declared.fault.BookFault.TheVariants as faults;
 ghost use Rattle.lab_world.specs.declared.event.Act.TheVariants as acts;
 ghost use Rattle.lab_world.specs.declared.event.WorldReply.TheVariants as replies;
-ghost use Rattle.lab_world.specs.World.{Turned, IsSeat, turn, lease_act, end_act, Acts, AnyActs, ActsAside, ActsAlone};
+ghost use Rattle.lab_world.specs.World.{Turned, IsSeat, IsNoted, turn, lease_act, end_act, Acts, AnyActs, ActsAside, ActsAlone};
 
-use crate::event::{Act, WorldReply};
+use crate::event::{Act, Target, WorldReply};
 use crate::fault::WorkerFault;
 use crate::worker::{Ending, Wanted, Worker};
 use cover_problem::Table;
 use lab_book::{Book, BookFault};
 use std::alloc::{AllocError, Global};
 use x_branches::RunnerFault;
-use x_steps::{Event, Refused, State};
+use x_steps::{Event, Refused};
 
 /// The reply to a call that the book refused: the index of its entry. Out of memory, the book has none.
 fn refused(index: u64, fault: &BookFault) -> Result<WorldReply, AllocError>
@@ -124,8 +124,10 @@ fn lease_any<'p, T: Table>(
 fn post<'p, T: Table>(
     book: &mut Book<'p>,
     seat: &mut Option<Worker<'p, T>>,
+    w: u8,
 ) -> Result<WorldReply, AllocError>
-    ensures turned { AnyActs result Act.Post book.old book.new seat.old seat.new }
+    requires { IsSeat book.old w seat.old }
+    ensures turned { Acts result w Act.Post book.old book.new seat.old seat.new }
     ensures book { OnErr result (book.new ≡ book.old) }
     ensures unchanged { OnErr result (seat.new ≡ seat.old) }
 {
@@ -133,7 +135,7 @@ fn post<'p, T: Table>(
     let Some(worker) = seat else {
         return Ok(WorldReply::Idle);
     };
-    match worker.post(book) {
+    match worker.post_held(book) {
         Ok(_) => Ok(WorldReply::Book(index)),
         Err(fault) => refused(index, &fault),
     }
@@ -208,12 +210,13 @@ fn end<'p, T: Table>(
 }
 
 /// A tile goes back to one of its marks.
-fn put_back(book: &mut Book<'_>, w: u8, id: u64, state: &State) -> Result<WorldReply, AllocError>
+fn put_back(book: &mut Book<'_>, w: u8, id: u64, target: &Target) -> Result<WorldReply, AllocError>
     requires { w ≤ 31 }
-    ensures turned { ActsAside result w (acts.PutBack id state.now) book.old book.new }
+    ensures turned { ActsAside result w (acts.PutBack id target.now) book.old book.new }
     ensures book { OnErr result (book.new ≡ book.old) }
 {
     let index = next_index(book);
+    let state = target.state();
     match book.put_back(w, id, state) {
         Ok(()) => Ok(WorldReply::Book(index)),
         Err(fault) => refused(index, &fault),
@@ -233,8 +236,8 @@ fn request_stop(book: &mut Book<'_>, w: u8, id: u64) -> Result<WorldReply, Alloc
     }
 }
 
-/// One act of worker w. Out of memory, nothing has changed.
-pub(crate) fn act<'p, T: Table>(
+/// One act of worker w.
+fn perform<'p, T: Table>(
     alloc: Global,
     book: &mut Book<'p>,
     seat: &mut Option<Worker<'p, T>>,
@@ -253,7 +256,7 @@ pub(crate) fn act<'p, T: Table>(
         Act::Lease(id) => lease(alloc, book, seat, w, *id, Wanted::Waiting),
         Act::LeaseAny => lease_any(alloc, book, seat, w),
         Act::TakeHeld(id) => lease(alloc, book, seat, w, *id, Wanted::Held),
-        Act::Post => post(book, seat),
+        Act::Post => post(book, seat, w),
         Act::Split { level, option } => split(book, seat, w, *level, *option),
         Act::Retract => retract(book, seat, w),
         Act::Park => end(book, seat, Ending::Park),
@@ -262,4 +265,25 @@ pub(crate) fn act<'p, T: Table>(
         Act::PutBack { id, state } => put_back(book, w, *id, state),
         Act::RequestStop(id) => request_stop(book, w, *id),
     }
+}
+
+/// One act of worker w, which has this seat of the book. Out of memory, nothing has changed. Many steps at once are `Worker::walk`.
+pub fn take_turn<'p, T: Table>(
+    alloc: Global,
+    book: &mut Book<'p>,
+    seat: &mut Option<Worker<'p, T>>,
+    w: u8,
+    act: &Act,
+) -> Result<WorldReply, AllocError>
+    requires small { w ≤ 31 }
+    requires seat { IsSeat book.old w seat.old }
+    ensures turned { Acts result w act.now book.old book.new seat.old seat.new }
+    ensures book { OnErr result (book.new ≡ book.old) }
+    ensures unchanged { OnErr result (seat.new ≡ seat.old) }
+    ensures seat { IsSeat book.new w seat.new }
+    ensures noted { IfOk result (IsNoted book.new) }
+    ensures same_problem { book.new.problem ≡ book.old.problem }
+{
+    book.is_sound();
+    perform(alloc, book, seat, w, act)
 }

@@ -7,6 +7,7 @@ ghost use Rattle.x_branches.specs.Refusals.{CanAdvance, AdvanceRefused};
 ghost use Rattle.x_branches.specs.Walk.{CanAdvanceBy, HasToStop};
 ghost use Rattle.lab_book.specs.Book.{BookValue};
 ghost use Rattle.lab_world.specs.Worker.{HoldsTile, moved_forward, moved_forward_by, moved_backward, next_event, event_after, MovesOnly};
+ghost use Rattle.lab_world.specs.Alone.{StepsLead};
 
 mod ending;
 mod leasing;
@@ -79,12 +80,13 @@ impl<'p, T: Table> Worker<'p, T> {
 
     /// Takes steps as `step` does, one after the other, and stops where its runner does: once `most` are taken, where the last one
     /// came to a visit or to the end of the run, or where the next one would be refused. Refused where the first one is, which
-    /// changes nothing.
+    /// changes nothing. In a world of this worker alone it is so many acts `Step`, whatever the book is.
     pub fn walk(&mut self, most: u32) -> Result<Walk, RunnerFault>
         ensures state { IfOk result (λ w. self.new ≡ moved_forward_by self.old w.steps) }
         ensures each_step { IfOk result (λ w. CanAdvanceBy self.old.runner w.steps) }
         ensures event { IfOk result (λ w. w.event ≡ event_after self.old w.steps) }
         ensures moves { IfOk result (λ w. MovesOnly self.old w.steps) }
+        ensures played { IfOk result (λ w. StepsLead self.old w.steps self.new) }
         ensures within { IfOk result (λ w. w.steps ≤ most) }
         ensures some { IfOk result (λ w. 0 < most → 0 < w.steps) }
         ensures stops { IfOk result (λ w. (w.steps ≡ most) ⊎ HasToStop self.new.runner w.event) }

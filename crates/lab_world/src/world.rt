@@ -10,7 +10,7 @@ ghost use Rattle.lab_book.specs.Book.{new_book, leased_in};
 ghost use Rattle.lab_world.specs.World.{WorldValue, world_step, played, world_replies, worker_at, fresh, state_of, EachHolds, AreCovered, Replied, Played, StoppedEarly};
 
 use crate::event::{WorldEvent, WorldReply};
-use crate::turn::act;
+use crate::turn::take_turn;
 use crate::worker::Worker;
 use cover_problem::{Problem, Table};
 use lab_book::Book;
@@ -130,7 +130,7 @@ impl<'p, T: Table> World<'p, T> {
     {
         let alloc = *self.workers.allocator();
         self.book.is_sound();
-        act(
+        take_turn(
             alloc,
             &mut self.book,
             &mut self.workers[event.worker as usize],

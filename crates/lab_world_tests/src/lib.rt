@@ -9,3 +9,5 @@ mod drawn_tests;
 mod row_tests;
 #[cfg(test)]
 mod setting;
+#[cfg(test)]
+mod turn_tests;

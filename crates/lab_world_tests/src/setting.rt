@@ -4,7 +4,7 @@ ghost use Rattle.std.specs.Prelude.{◌<◌, ◌↔◌, All, IsTrue};
 use cover_problem::{Lists, Table};
 use drawn_books::value_of;
 use lab_book::Book;
-use lab_world::{Act, World, WorldEvent, WorldReply};
+use lab_world::{Act, Target, World, WorldEvent, WorldReply};
 use std::alloc::{AllocError, Global};
 use std::test::Fail;
 use x_steps::{Cursor, Label, State};
@@ -34,6 +34,7 @@ fn put_back(alloc: Global, id: u64, label: Label) -> Act {
         path: Vec::new(alloc),
         cursor: Cursor::None,
     };
+    let state = Target::new(state);
     Act::PutBack { id, state }
 }
 

@@ -1,19 +1,20 @@
 -- The examples of specs/Session.antt, specs/Questions.antt, specs/Commands.antt and specs/Loading.antt, computed on the small problem's new session.
-use Rattle.std.proofs.Common.{◌≡◌, sym, ap, is_some, None, [], ◌∷◌, ◌++◌, codes, refl}
+use Rattle.std.proofs.Common.{◌≡◌, ℕ, ap, ◌∙◌, None, [], ◌∷◌, ◌++◌, take, codes, refl, arith}
 use Rattle.std.specs.Fmt.{digits}
-use Rattle.std.proofs.lemmas.Bool.{false≢true}
 use Rattle.cover_problem.proofs.CoverExamples.{small}
 use Rattle.x_steps.specs.StateValue.{start}
+use Rattle.x_steps.proofs.RunLemmas.{start_fits}
+use Rattle.x_steps.proofs.BetweenLemmas.{steps_between_self}
 use Rattle.x_texts.specs.declared.breakpoint.Break.TheVariants.{Visit}
 use Rattle.x_snapshot.specs.Reading.{first_line, keyed, keyed_line, parts_of}
 use Rattle.lab_book.specs.Book.{new_book, outcome}
 use Rattle.text_lines.specs.Writing.{text_of}
+use Rattle.lab_world.specs.World.{turn}
 use Rattle.debug_language.specs.declared.question.Question.TheVariants as questions
 use Rattle.debug_language.specs.Command as command
-use Rattle.debug_acts.specs.Entering.{enter}
 use Rattle.x_debug.specs.Session.{SessionValue, fresh_session, session_on}
 use Rattle.x_debug.specs.Questions.{lines_asked, question_lines}
-use Rattle.x_debug.specs.Commands.{answer, answer_set, LeftBy}
+use Rattle.x_debug.specs.Commands.{answer, deed_of, left_by, MayLeave}
 use Rattle.x_debug.specs.Loading.{load_answer}
 
 -- the session of the small problem's whole run, with no branch open
@@ -39,34 +40,31 @@ no_steps = refl
 -- ---- specs/Commands.antt
 
 opens : (answer resting (command.Enter None)).text ≡ codes "at X1 -" ++ 10 ∷ []
-unfolding answer enter outcome
+unfolding deed_of turn outcome
 opens = refl
 
 not_twice : (answer (fresh_session small) (command.Enter None)).text ≡ codes "refused debug 4 AlreadyOpen" ++ 10 ∷ []
-unfolding answer outcome digits
+unfolding deed_of outcome digits
 not_twice = refl
 
 none_open : (answer resting (command.Step 1)).text ≡ codes "refused debug 5 NoBranch" ++ 10 ∷ []
-unfolding answer digits
+unfolding deed_of digits
 none_open = refl
 
-kept_once : (answer_set (answer_set resting Visit).session Visit).session.breaks ≡ Visit ∷ []
+kept_once : (answer (answer resting (command.SetBreak Visit)).session (command.SetBreak Visit)).session.breaks ≡ Visit ∷ []
+unfolding deed_of
 kept_once = refl
 
--- where no branch is open and memory runs out, none gets open by a step
-none_opens : LeftBy resting (command.Step 1) (fresh_session small) → ⊥
-unfolding LeftBy outcome
-none_opens h = false≢true (sym (ap (λ (s : SessionValue). is_some s.worker) h))
+-- where memory runs out, a command that shows leaves the session as it was
+shows_alone : (new : SessionValue) → MayLeave resting (deed_of resting (command.Ask questions.Show)) new → new ≡ resting
+unfolding deed_of
+shows_alone new h = let none : h.count ≡ 0 = (let l = h.within in omega arith) in
+    h.left ∙ ap (λ (n : ℕ). left_by resting (take n [])) none
 
--- and a command that shows leaves nothing but the session as it was
-shows_alone : (new : SessionValue) → LeftBy resting (command.Ask questions.Show) new → ⊥
-unfolding LeftBy
-shows_alone new h = h
-
--- a branch that couldn't be parked for want of memory stays open
-stays_open : LeftBy (fresh_session small) command.Park resting → ⊥
-unfolding LeftBy outcome
-stays_open h = false≢true (ap (λ (s : SessionValue). is_some s.worker) h.2)
+-- at the start `park` is one act, which isn't done then
+none_parks : (deed_of (fresh_session small) command.Park).most ≡ 0
+unfolding deed_of outcome
+none_parks = rw (steps_between_self small start (start_fits small)) refl
 
 -- ---- specs/Loading.antt
 

@@ -1,40 +1,45 @@
--- What a session answers to each command, and what it leaves (`answer`); the same of a line (`answer_line`); and what may be left of it where
--- memory runs out (`IsLeft`).
+-- What a session does by each command (`deed_of`): a text that is answered, acts of worker 0, and the breakpoints that are left. The session
+-- that is left is what these acts make of its world (`left_by`); the same of a line (`answer_line`); and what may be left where memory runs
+-- out: some first ones of the acts were played (`IsLeft`).
+--
+-- A session is a world of one worker (`world_of`): its book, and worker 0 where a branch is open.
 --
 -- Example: with no branch open, `open start` answers `at X1 -`, and `step` is refused; with one open, `open` is. A breakpoint that is set twice
 -- is kept once. proofs/CommandExamples.antt computes these.
-use Rattle.std.specs.Prelude.{ℕ, ◌≡◌, ◌⊎◌, nat_lt, Bool, true, List, [], ◌∷◌, length, Option, Some, None, Result, OnErr}
+use Rattle.std.specs.Prelude.{ℕ, ◌≡◌, ◌≤◌, ◌-◌, nat_lt, Bool, true, List, [], ◌∷◌, length, take, replicate, Option, Some, None, Result, OnOk, OnErr}
 use Rattle.std.specs.Global.{Vec}
-use Rattle.std.specs.Borrow.{Bor}
-use Rattle.text_lines.specs.Writing.{text_of}
+use Rattle.text_lines.specs.Writing.{line_text, text_of}
+use Rattle.cover_problem.specs.Answers.{Adds}
 use Rattle.cover_problem.specs.Problem.{ProblemValue}
 use Rattle.x_steps.specs.StateValue.{StateValue}
-use Rattle.x_branches.specs.Runner.{RunnerValue}
 use Rattle.x_texts.specs.declared.breakpoint.Break.{Break}
 use Rattle.x_texts.specs.Breaks.{is_break}
+use Rattle.lab_book.specs.declared.fault.BookFault.TheVariants.{UnknownBranch}
+use Rattle.lab_book.specs.Tile.{TileValue}
+use Rattle.lab_book.specs.Tiling.{tile_at}
+use Rattle.lab_world.specs.declared.event.Act.{Act}
+use Rattle.lab_world.specs.declared.event.Act.TheVariants.{Back, Split, Retract, Park, PutBack, RequestStop}
 use Rattle.lab_world.specs.Worker.{WorkerValue}
+use Rattle.lab_world.specs.World.{WorldValue, worker_at, played}
+use Rattle.lab_world.specs.Alone.{alone, own_events}
 use Rattle.debug_language.specs.declared.fault.DebugFault.TheVariants.{BadCommand, AlreadyOpen, NoBranch}
 use Rattle.debug_language.specs.declared.words.Counted.TheVariants as counts
-use Rattle.debug_language.specs.declared.question.Question.{Question}
+use Rattle.debug_language.specs.declared.words.Plain.TheVariants.{Parked}
 use Rattle.debug_language.specs.declared.command.Command.{Command}
 use Rattle.debug_language.specs.Command.{CommandValue, command_value}
 use Rattle.debug_language.specs.Command as command
 use Rattle.debug_language.specs.Reading.{command_of}
 use Rattle.debug_views.specs.Breakpoints.{with_break}
-use Rattle.debug_views.specs.Lines.{counted, set, debug_refusal}
-use Rattle.debug_acts.specs.Desk.{DeskAnswer}
+use Rattle.debug_views.specs.Lines.{plain, counted, set, debug_refusal, book_refusal}
+use Rattle.debug_views.specs.Tiles.{place_at}
+use Rattle.debug_acts.specs.declared.asking.Told.{Told}
+use Rattle.debug_acts.specs.declared.asking.Told.TheVariants as told
+use Rattle.debug_acts.specs.Walking.{step_count, step_lines, run_count, run_lines, back_count, back_lines}
+use Rattle.debug_acts.specs.Acts.{walk_acts, end_acts, close_acts, enter_act}
+use Rattle.debug_acts.specs.Asking.{told_lines}
+use Rattle.debug_acts.specs.Giving.{save_text, close_line}
 use Rattle.x_debug.specs.Session.{SessionValue}
 use Rattle.x_debug.specs.Questions.{lines_asked}
-use Rattle.debug_views.specs.Tiles.{BookAnswer, hold, put_back, given_cut}
-use Rattle.debug_acts.specs.Walking.{IsPartWay, IsPartBack, step_count, run_count, back_count, step, run, back}
-use Rattle.debug_acts.specs.Work.{AtWork, work, WorkAnswer}
-use Rattle.debug_acts.specs.Entering.{enter}
-use Rattle.debug_acts.specs.Giving.{park, save, close, IsNotGiven}
-use Rattle.debug_acts.specs.Parting.{split, retract}
-use Rattle.debug_views.specs.Left.{IsEither}
-use Rattle.cover_problem.specs.Answers.{Adds}
-use Rattle.x_steps.specs.declared.state.State.{State}
-use Rattle.x_steps.specs.StateView.{state_value}
 
 -- a text that is answered, and the session that is left
 pub record Answer : Type 0 where
@@ -45,148 +50,156 @@ pub record Answer : Type 0 where
 abbrev pub Replies : {X E : Type 0} → Result X E → Vec ℕ → Vec ℕ → Answer → Type 0
 Replies result old new a = Adds result old new a.text
 
--- where it has an error, the session is as it was, or as this answer leaves it
-abbrev pub MayLeave : {X E : Type 0} → Result X E → SessionValue → SessionValue → Answer → Type 0
-MayLeave result old new a = OnErr result (IsEither new old a.session)
+-- ---- a session and its world
 
--- the session stays as it is
-abbrev pub says : SessionValue → List (List (List ℕ)) → Answer
-says s lines = record { text = text_of lines; session = s }
+-- its book, and the worker whose branch is open, if one is
+abbrev pub world_of : SessionValue → WorldValue
+world_of s = alone s.book s.worker
 
--- its worker and its book are others
-abbrev pub on_desk : SessionValue → DeskAnswer → Answer
-on_desk s a = record { text = a.text; session = record { book = a.desk.book; worker = a.desk.worker; breaks = s.breaks } }
+-- the session after acts of worker 0, one after another
+abbrev pub left_by : SessionValue → List Act → SessionValue
+left_by s acts =
+    let v = played (world_of s) (own_events acts) in
+    record { book = v.book; worker = worker_at v.workers 0; breaks = s.breaks }
 
--- its book is another, and its worker and its breakpoints stay
-abbrev pub on_book : SessionValue → BookAnswer → Answer
-on_book s a = record { text = text_of a.lines; session = record { book = a.book; worker = s.worker; breaks = s.breaks } }
+-- ---- what a command does
 
--- its breakpoints are others
-abbrev pub with_breaks : SessionValue → List Break → List (List (List ℕ)) → Answer
-with_breaks s breaks lines = record { text = text_of lines; session = record { book = s.book; worker = s.worker; breaks = breaks } }
+-- a text that is answered, acts of worker 0, how many first ones of them may be done when memory runs out, and the breakpoints then
+pub record Deed : Type 0 where
+  pub text : List ℕ
+  pub acts : List Act
+  pub most : ℕ
+  pub breaks : List Break
+
+-- these lines are answered, and nothing is done
+abbrev pub says : SessionValue → List (List (List ℕ)) → Deed
+says s lines = record { text = text_of lines; acts = []; most = 0; breaks = s.breaks }
+
+-- the breakpoints are others
+abbrev pub with_breaks : List Break → List (List (List ℕ)) → Deed
+with_breaks breaks lines = record { text = text_of lines; acts = []; most = 0; breaks = breaks }
+
+-- these acts are done; where memory runs out, some of them may be, or all
+abbrev pub does : SessionValue → List (List (List ℕ)) → List Act → Deed
+does s lines acts = record { text = text_of lines; acts = acts; most = length acts; breaks = s.breaks }
+
+-- the last act gives the branch up or closes it; where memory runs out, it isn't done
+abbrev pub ends : SessionValue → List ℕ → List Act → Deed
+ends s text acts = record { text = text; acts = acts; most = length acts - 1; breaks = s.breaks }
+
+-- one act is done, and told so unless it is refused
+abbrev pub asks : SessionValue → Act → Told → Deed
+asks s a what = does s (told_lines s.book s.worker a what) (a ∷ [])
 
 -- what needs an open branch is refused where there is none
-abbrev pub if_open : SessionValue → Option WorkerValue → (WorkerValue → Answer) → Answer
+abbrev pub if_open : SessionValue → Option WorkerValue → (WorkerValue → Deed) → Deed
 if_open s None f = says s (debug_refusal NoBranch ∷ [])
 if_open s (Some w) f = f w
 
 -- and what needs none where there is one
-abbrev pub if_none_open : SessionValue → Option WorkerValue → Answer → Answer
-if_none_open s None a = a
-if_none_open s (Some w) a = says s (debug_refusal AlreadyOpen ∷ [])
+abbrev pub if_none_open : SessionValue → Option WorkerValue → Deed → Deed
+if_none_open s None d = d
+if_none_open s (Some w) d = says s (debug_refusal AlreadyOpen ∷ [])
 
--- a book and a worker at work, in the place of its own
-abbrev pub working : SessionValue → AtWork → SessionValue
-working s a = record { book = a.book; worker = Some a.worker; breaks = s.breaks }
+-- what is asked of the tile at a place; it is refused where there is none
+abbrev pub at_place : SessionValue → (ℕ → TileValue → Deed) → Option ℕ → Deed
+at_place s f None = says s (book_refusal UnknownBranch ∷ [])
+at_place s f (Some i) = f i (tile_at s.book.tiles i)
 
--- its branch is at work, and these lines are answered
-abbrev pub on_work : SessionValue → WorkAnswer → Answer
-on_work s a = record { text = text_of a.lines; session = working s a.work }
+-- what is asked of the tile that begins at a cut (None: at the start) and isn't closed
+abbrev pub on_tile : SessionValue → Option (List ℕ) → (ℕ → TileValue → Deed) → Deed
+on_tile s lo f = at_place s f (place_at lo s.book.tiles)
 
--- ---- questions
+-- so many steps are gone on from where worker w stands
+abbrev pub walks : SessionValue → List (List (List ℕ)) → ℕ → Deed
+walks s lines n = does s lines (walk_acts n (world_of s))
 
--- what is asked is told, and the session stays
-abbrev pub answer_question : SessionValue → Question → Answer
-answer_question s question = says s (lines_asked s question)
-
--- ---- breakpoints
-
--- `break`: b is a breakpoint now, after those that were set before; it stays where it is if it is one already
-abbrev pub answer_set : SessionValue → Break → Answer
-answer_set s b = with_breaks s (with_break s.breaks b) (set s.book.problem.names b ∷ [])
-
--- `clear`: no breakpoint is left, and the answer is how many there were
-abbrev pub answer_clear : SessionValue → Answer
-answer_clear s = with_breaks s [] (counted counts.Cleared (length s.breaks) ∷ [])
-
--- ---- the book's tiles
-
--- `hold`: the book is asked to stop the tile that begins at cut lo (None: at the start) and isn't closed
-abbrev pub answer_hold : SessionValue → Option (List ℕ) → Answer
-answer_hold s lo = on_book s (hold s.book lo)
-
--- `putback`: the book is asked to put the tile that begins at cut lo back to its mark that is this state
-abbrev pub answer_put_back : SessionValue → Option (List ℕ) → StateValue → Answer
-answer_put_back s lo state = on_book s (put_back s.book lo state)
-
--- `open`: the tile that begins at cut lo, and isn't closed, is leased to worker 0, where no branch is open
-abbrev pub answer_enter : SessionValue → Option (List ℕ) → Answer
-answer_enter s lo = if_none_open s s.worker (on_desk s (enter s.book lo))
-
--- the same by the cut, and the state, that a function is given
-abbrev pub hold_given : SessionValue → Option (Bor (List ℕ)) → Answer
-hold_given s lo = answer_hold s (given_cut lo)
-
--- the same of `putback`, with a state as the code holds it
-abbrev pub put_given : SessionValue → Option (Bor (List ℕ)) → State → Answer
-put_given s lo state = answer_put_back s (given_cut lo) (state_value state)
-
--- the same of `open`
-abbrev pub enter_given : SessionValue → Option (Bor (List ℕ)) → Answer
-enter_given s lo = answer_enter s (given_cut lo)
-
--- ---- steps on the branch that is open
+-- ---- what each command does
 
 -- `step`: the search goes n steps on, or to the end of its branch where that is nearer
-abbrev pub answer_step : SessionValue → ℕ → Answer
-answer_step s n = if_open s s.worker (λ w. on_work s (step (work s.book w) n))
+abbrev pub step_deed : SessionValue → ℕ → Deed
+step_deed s n = if_open s s.worker (λ w. walks s (step_lines w.runner n) (step_count w.runner n))
 
 -- `run`: the search goes on to the first state that meets a breakpoint, or to the end of its branch
-abbrev pub answer_run : SessionValue → Answer
-answer_run s = if_open s s.worker (λ w. on_work s (run (work s.book w) s.breaks))
+abbrev pub run_deed : SessionValue → Deed
+run_deed s = if_open s s.worker (λ w. walks s (run_lines s.breaks w.runner) (run_count s.breaks w.runner))
 
 -- `back`: the search goes n steps back, or to its mark where that is nearer
-abbrev pub answer_back : SessionValue → ℕ → Answer
-answer_back s n = if_open s s.worker (λ w. on_work s (back (work s.book w) n))
+abbrev pub back_deed : SessionValue → ℕ → Deed
+back_deed s n = if_open s s.worker (λ w. does s (back_lines w.runner n) (replicate (back_count w.runner n) Back))
 
--- ---- the branch that is open is given up
+-- `break`: b is a breakpoint now, after those that were set before; it stays where it is if it is one already
+abbrev pub set_deed : SessionValue → Break → Deed
+set_deed s b = with_breaks (with_break s.breaks b) (set s.book.problem.names b ∷ [])
 
--- `park`: what isn't posted is posted, and the lease is given up: the tile waits again, or is held where a stop was asked for
-abbrev pub answer_park : SessionValue → Answer
-answer_park s = if_open s s.worker (λ w. on_desk s (park (work s.book w)))
-
--- `save`: the same, and the answer is a snapshot of where the search stands, with these breakpoints
-abbrev pub answer_save : SessionValue → List Break → Answer
-answer_save s breaks = if_open s s.worker (λ w. on_desk s (save (work s.book w) breaks))
-
--- `close`: what isn't posted is posted and the tile is closed, where the search stands at the end of its branch
-abbrev pub answer_close : SessionValue → Answer
-answer_close s = if_open s s.worker (λ w. on_desk s (close (work s.book w)))
-
--- ---- the branch that is open is parted, or its last stretch is walked again
+-- `clear`: no breakpoint is left, and the answer is how many there were
+abbrev pub clear_deed : SessionValue → Deed
+clear_deed s = with_breaks [] (counted counts.Cleared (length s.breaks) ∷ [])
 
 -- `split`: the part of the open branch from an untried option o of a level on becomes a tile of its own, which waits
-abbrev pub answer_split : SessionValue → ℕ → ℕ → Answer
-answer_split s level o = if_open s s.worker (λ w. on_work s (split (work s.book w) level o))
+abbrev pub split_deed : SessionValue → ℕ → ℕ → Deed
+split_deed s level o = if_open s s.worker (λ w. asks s (Split level o) (told.Parted w.runner.branch))
+
+-- `park`: what isn't posted is posted, and the lease is given up: the tile waits again, or is held where a stop was asked for
+abbrev pub park_deed : SessionValue → Deed
+park_deed s = if_open s s.worker (λ w. ends s (line_text (plain Parked)) (end_acts s.worker Park))
+
+-- `save`: the same, and the answer is a snapshot of where the search stands, with these breakpoints
+abbrev pub save_deed : SessionValue → List Break → Deed
+save_deed s breaks = if_open s s.worker (λ w. ends s (save_text w breaks) (end_acts s.worker Park))
+
+-- `close`: what isn't posted is posted and the tile is closed, where the search stands at the end of its branch
+abbrev pub close_deed : SessionValue → Deed
+close_deed s = if_open s s.worker (λ w. ends s (line_text (close_line s.worker)) (close_acts s.worker))
+
+-- `open`: the tile is leased to worker 0, where no branch is open
+abbrev pub enter_deed : SessionValue → Option (List ℕ) → Deed
+enter_deed s lo = if_none_open s s.worker (on_tile s lo (λ i t. asks s (enter_act t) told.Place))
 
 -- `retract`: the stretch that was posted last is taken out of the tile, and the mark goes back to where it began
-abbrev pub answer_retract : SessionValue → Answer
-answer_retract s = if_open s s.worker (λ w. on_work s (retract (work s.book w)))
+abbrev pub retract_deed : SessionValue → Deed
+retract_deed s = asks s Retract told.Retracted
 
--- ---- each command
+-- `hold`: the tile is asked to stop
+abbrev pub hold_deed : SessionValue → Option (List ℕ) → Deed
+hold_deed s lo = on_tile s lo (λ i t. asks s (RequestStop t.id) (told.Tile i))
+
+-- `putback`: the tile goes back to its mark that is this state
+abbrev pub put_back_deed : SessionValue → Option (List ℕ) → StateValue → Deed
+put_back_deed s lo state = on_tile s lo (λ i t. asks s (PutBack t.id state) (told.Tile i))
+
+-- what session s does by a command
+unfoldable pub deed_of : SessionValue → CommandValue → Deed
+deed_of s command.Nothing = says s []
+deed_of s (command.Step n) = step_deed s n
+deed_of s command.Run = run_deed s
+deed_of s (command.Back n) = back_deed s n
+deed_of s (command.SetBreak b) = set_deed s b
+deed_of s command.Clear = clear_deed s
+deed_of s (command.Ask question) = says s (lines_asked s question)
+deed_of s (command.Split level option) = split_deed s level option
+deed_of s command.Park = park_deed s
+deed_of s command.Save = save_deed s []
+deed_of s command.SaveBreaks = save_deed s s.breaks
+deed_of s command.Close = close_deed s
+deed_of s (command.Enter lo) = enter_deed s lo
+deed_of s command.Retract = retract_deed s
+deed_of s (command.Hold lo) = hold_deed s lo
+deed_of s (command.PutBack lo state) = put_back_deed s lo state
+
+-- ---- what is answered and left
+
+-- a deed's text, and the session that its acts and its breakpoints leave
+abbrev pub done_by : SessionValue → Deed → Answer
+done_by s d = record { text = d.text; session = record (left_by s d.acts) { breaks = d.breaks } }
 
 -- what session s answers to a command, and the session that is left
-unfoldable pub answer : SessionValue → CommandValue → Answer
-answer s command.Nothing = says s []
-answer s (command.Step n) = answer_step s n
-answer s command.Run = answer_run s
-answer s (command.Back n) = answer_back s n
-answer s (command.SetBreak b) = answer_set s b
-answer s command.Clear = answer_clear s
-answer s (command.Ask question) = answer_question s question
-answer s (command.Split level option) = answer_split s level option
-answer s command.Park = answer_park s
-answer s command.Save = answer_save s []
-answer s command.SaveBreaks = answer_save s s.breaks
-answer s command.Close = answer_close s
-answer s (command.Enter lo) = answer_enter s lo
-answer s command.Retract = answer_retract s
-answer s (command.Hold lo) = answer_hold s lo
-answer s (command.PutBack lo state) = answer_put_back s lo state
+abbrev pub answer : SessionValue → CommandValue → Answer
+answer s c = done_by s (deed_of s c)
 
--- the same of a command that was read
-abbrev pub obeyed : SessionValue → Command → Answer
-obeyed s c = answer s (command_value c)
+-- what a command that was read does
+abbrev pub deed : SessionValue → Command → Deed
+deed s c = deed_of s (command_value c)
 
 -- whether a command can be one of a line: it counts from 1, and its breakpoint can be met
 abbrev pub is_command : ProblemValue → CommandValue → Bool
@@ -195,73 +208,54 @@ is_command p (command.Back n) = nat_lt 0 n
 is_command p (command.SetBreak b) = is_break p b
 is_command p _ = true
 
--- ---- a line
+-- what a line does: the command that it is, or the refusal of a line that is none
+abbrev pub deed_if : SessionValue → Option CommandValue → Deed
+deed_if s None = says s (debug_refusal BadCommand ∷ [])
+deed_if s (Some c) = deed_of s c
 
--- the answer to the command that a line is, or the refusal of a line that is none
-abbrev pub answer_if : SessionValue → Option CommandValue → Answer
-answer_if s None = says s (debug_refusal BadCommand ∷ [])
-answer_if s (Some c) = answer s c
+-- the same of a line, by the command that it is over the problem of the session's book
+abbrev pub deed_of_line : SessionValue → List ℕ → Deed
+deed_of_line s line = deed_if s (command_of s.book.problem line)
 
--- the answer to a line, by the command that it is over the problem of the session's book
+-- the answer to a line
 abbrev pub answer_line : SessionValue → List ℕ → Answer
-answer_line s line = answer_if s (command_of s.book.problem line)
+answer_line s line = done_by s (deed_of_line s line)
 
 -- ---- what is left when memory runs out
 
--- a session without a branch is as it was; of one at work the book and the worker are as this says
-abbrev pub LeftAtWork : SessionValue → Option WorkerValue → (AtWork → AtWork → Type 0) → SessionValue → Type 0
-LeftAtWork s None left new = new ≡ s
-LeftAtWork s (Some w) left new = (a : AtWork) × left (work s.book w) a × (new ≡ working s a)
+-- so many first ones of these acts are done, and no more than `most`
+pub record IsLeftBy (s : SessionValue) (acts : List Act) (most : ℕ) (new : SessionValue) : Type 0 where
+  pub count : ℕ
+  pub within : count ≤ most
+  pub left : new ≡ left_by s (take count acts)
 
--- its branch couldn't be given up
-abbrev pub LeftNotGiven : SessionValue → SessionValue → Type 0
-LeftNotGiven s new = LeftAtWork s s.worker IsNotGiven new
+-- which sessions a deed may leave
+abbrev pub MayLeave : SessionValue → Deed → SessionValue → Type 0
+MayLeave s d new = IsLeftBy s d.acts d.most new
 
--- it is as it was, or as this makes it
-abbrev pub LeftOrDone : SessionValue → (AtWork → AtWork) → SessionValue → Type 0
-LeftOrDone s done new = LeftAtWork s s.worker (λ a b. IsEither b a (done a)) new
-
--- it is as it was, or split at an option of a level
-abbrev pub LeftOrSplit : SessionValue → ℕ → ℕ → SessionValue → Type 0
-LeftOrSplit s level option new = LeftOrDone s (λ a. (split a level option).work) new
-
--- it has gone some of so many steps on
-abbrev pub LeftPartWay : SessionValue → (RunnerValue → ℕ) → SessionValue → Type 0
-LeftPartWay s most new = LeftAtWork s s.worker (λ a b. IsPartWay a b (most a.worker.runner)) new
-
--- it has gone some of the steps of `run`
-abbrev pub LeftPartRun : SessionValue → SessionValue → Type 0
-LeftPartRun s new = LeftPartWay s (λ r. run_count s.breaks r) new
-
--- it has gone some of so many steps back, and the book is the same
-abbrev pub LeftPartBack : SessionValue → (RunnerValue → ℕ) → SessionValue → Type 0
-LeftPartBack s most new = LeftAtWork s s.worker (λ a b. (b.book ≡ a.book) × IsPartBack a.worker b.worker (most a.worker.runner)) new
-
--- what a command may leave beside the session as it was: a part of its walk, what wasn't posted posted, or the whole of it done
-unfoldable pub LeftBy : SessionValue → CommandValue → SessionValue → Type 0
-LeftBy s (command.Step n) new = LeftPartWay s (λ r. step_count r n) new
-LeftBy s command.Run new = LeftPartRun s new
-LeftBy s (command.Back n) new = LeftPartBack s (λ r. back_count r n) new
-LeftBy s (command.Split level option) new = LeftOrSplit s level option new
-LeftBy s command.Park new = LeftNotGiven s new
-LeftBy s command.Save new = LeftNotGiven s new
-LeftBy s command.SaveBreaks new = LeftNotGiven s new
-LeftBy s command.Close new = LeftNotGiven s new
-LeftBy s (command.Enter lo) new = new ≡ (answer_enter s lo).session
-LeftBy s command.Retract new = LeftOrDone s (λ a. (retract a).work) new
-LeftBy s (command.Hold lo) new = new ≡ (answer_hold s lo).session
-LeftBy s (command.PutBack lo state) new = new ≡ (answer_put_back s lo state).session
-LeftBy s _ new = ⊥
-
--- which sessions a command may leave when memory runs out
-abbrev pub IsLeftBy : SessionValue → CommandValue → SessionValue → Type 0
-IsLeftBy s c new = (new ≡ s) ⊎ LeftBy s c new
-
--- what the command that a line is may leave; a line that is none leaves nothing but the session as it was
-abbrev pub LeftIf : SessionValue → Option CommandValue → SessionValue → Type 0
-LeftIf s None new = ⊥
-LeftIf s (Some c) new = LeftBy s c new
-
--- which sessions a line may leave when memory runs out
+-- which sessions a line may leave
 abbrev pub IsLeft : SessionValue → List ℕ → SessionValue → Type 0
-IsLeft s line new = (new ≡ s) ⊎ LeftIf s (command_of s.book.problem line) new
+IsLeft s line new = MayLeave s (deed_of_line s line) new
+
+-- ---- what calls do
+
+-- where a call has an error, what isn't posted may be posted, and the act after it isn't done
+abbrev pub EndsShort : {X E : Type 0} → Result X E → SessionValue → Act → SessionValue → Type 0
+EndsShort result s a new = OnErr result (IsLeftBy s (end_acts s.worker a) (length (end_acts s.worker a) - 1) new)
+
+-- the snapshot of where a worker stands, with these breakpoints, or the refusal where there is none
+abbrev pub saved_or : Option WorkerValue → List Break → List ℕ
+saved_or None breaks = text_of (debug_refusal NoBranch ∷ [])
+saved_or (Some w) breaks = save_text w breaks
+
+-- a call writes a deed's text, unless it has an error
+abbrev pub TellsDeed : {X E : Type 0} → Result X E → Vec ℕ → Vec ℕ → Deed → Type 0
+TellsDeed result old new d = Adds result old new d.text
+
+-- and leaves the session that the deed leaves
+abbrev pub DoesDeed : {X E : Type 0} → Result X E → SessionValue → SessionValue → Deed → Type 0
+DoesDeed result old new d = OnOk result (new ≡ (done_by old d).session)
+
+-- where it has one, some first ones of the acts are done
+abbrev pub FailsDeed : {X E : Type 0} → Result X E → SessionValue → SessionValue → Deed → Type 0
+FailsDeed result old new d = OnErr result (MayLeave old d new)

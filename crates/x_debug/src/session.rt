@@ -11,7 +11,6 @@ mod command;
 mod giving;
 mod loading;
 mod looking;
-mod parting;
 mod walking;
 
 pub use command::Reply;
@@ -93,6 +92,13 @@ impl<'p, T: Table> Session<'p, T> {
         ensures seat { IsSeat self.now.book 0 self.now.worker }
     {
         &self.book
+    }
+
+    /// Whether a branch is open.
+    fn is_open(&self) -> bool
+        ensures { result ≡ is_some self.now.worker }
+    {
+        self.worker.is_some()
     }
 
     /// Where it stands in the branch that is open: in that branch or at its end, at its mark or after it; None where none is open.

@@ -2,7 +2,8 @@
 ghost use Rattle.std.specs.Prelude.{◌≡◌, ◌<◌, OnOk, OnErr};
 ghost use Rattle.lab_book.specs.Book.{BookValue};
 ghost use Rattle.lab_world.specs.Worker.{HoldsTile};
-ghost use Rattle.debug_acts.specs.Walking.{back_count, back_lines, gone_back, GoesPartBack};
+ghost use Rattle.debug_acts.specs.Walking.{back_count, back_lines, gone_back, IsPartBack};
+ghost use Rattle.debug_acts.specs.Acts.{GoesBack, GoesPartBack};
 ghost use Rattle.x_texts.specs.Writes.{AddsLines};
 
 use crate::walking::write_moved;
@@ -26,8 +27,8 @@ fn go_back<T: Table>(worker: &mut Worker<'_, T>, most: u32) -> u32
     most
 }
 
-/// `back`: up to so many steps of a worker back, to its mark at most; refused there. Out of memory it has gone some of them.
-pub fn back<T: Table>(
+/// Goes up to so many steps back, or refuses to at its mark, and writes the answer.
+fn back_told<T: Table>(
     worker: &mut Worker<'_, T>,
     most: u32,
     text: &mut Vec<u8>,
@@ -35,7 +36,7 @@ pub fn back<T: Table>(
     requires some { 0 < most }
     ensures made { OnOk result (worker.new ≡ gone_back worker.old most) }
     ensures text { AddsLines result text.old text.new (back_lines worker.old.runner most) }
-    ensures left { OnErr result (GoesPartBack worker.old worker.new most) }
+    ensures left { OnErr result (IsPartBack worker.old worker.new (back_count worker.old.runner most)) }
     ensures holds { (b : BookValue) → HoldsTile b worker.old → HoldsTile b worker.new }
 {
     worker.runner().is_sound();
@@ -44,4 +45,21 @@ pub fn back<T: Table>(
     }
     let moved = go_back(worker, most);
     write_moved(text, moved as u128, worker)
+}
+
+/// `back`: up to so many steps of a worker back, to its mark at most; refused there. Out of memory it has gone some of them.
+pub fn back<T: Table>(
+    worker: &mut Worker<'_, T>,
+    most: u32,
+    text: &mut Vec<u8>,
+) -> Result<(), AllocError>
+    requires some { 0 < most }
+    ensures made { (b : BookValue) → GoesBack result b worker.old worker.new (back_count worker.old.runner most) }
+    ensures text { AddsLines result text.old text.new (back_lines worker.old.runner most) }
+    ensures left { (b : BookValue) → GoesPartBack result b worker.old worker.new (back_count worker.old.runner most) }
+    ensures holds { (b : BookValue) → HoldsTile b worker.old → HoldsTile b worker.new }
+    ensures kept { worker.new.grant ≡ worker.old.grant }
+{
+    worker.runner().is_sound();
+    back_told(worker, most, text)
 }

@@ -2,7 +2,8 @@
 ghost use Rattle.std.specs.Prelude.{◌<◌, OnOk, OnErr};
 ghost use Rattle.cover_problem.specs.Answers.{Returns};
 ghost use Rattle.lab_world.specs.Worker.{HoldsTile};
-ghost use Rattle.debug_acts.specs.Walking.{StepsOn, StepsSome, step_count, step_visits, step_lines};
+ghost use Rattle.debug_acts.specs.Walking.{StepsOn, StepsSome, step_count, step_visits, step_lines, IsKept};
+ghost use Rattle.debug_acts.specs.Acts.{WalksOn, WalksPart};
 ghost use Rattle.x_texts.specs.Writes.{AddsLines};
 
 use crate::walking::{walk_on, write_moved};
@@ -40,8 +41,8 @@ fn walk<'p, T: Table>(
     Ok(most)
 }
 
-/// `step`: up to so many steps of a worker, to its branch's end at most; refused there. Out of memory it has gone some of them.
-pub fn step<'p, T: Table>(
+/// Goes up to so many steps on, or refuses to at its branch's end, and writes the answer.
+fn step_told<'p, T: Table>(
     book: &mut Book<'p>,
     worker: &mut Worker<'p, T>,
     most: u32,
@@ -65,4 +66,25 @@ pub fn step<'p, T: Table>(
         return write_plain(text, Plain::End);
     }
     Ok(())
+}
+
+/// `step`: up to so many steps of a worker, to its branch's end at most; refused there. Out of memory it has gone some of them.
+pub fn step<'p, T: Table>(
+    book: &mut Book<'p>,
+    worker: &mut Worker<'p, T>,
+    most: u32,
+    text: &mut Vec<u8>,
+) -> Result<(), AllocError>
+    requires holds { HoldsTile book.old worker.old }
+    requires some { 0 < most }
+    ensures made { WalksOn result book.old worker.old book.new worker.new (step_count worker.old.runner most) }
+    ensures text { AddsLines result text.old text.new (step_lines worker.old.runner most) }
+    ensures left { WalksPart result book.old worker.old book.new worker.new (step_count worker.old.runner most) }
+    ensures holds_on { HoldsTile book.new worker.new }
+    ensures kept { IsKept book.old worker.old book.new worker.new }
+{
+    // What is true of a book and of a runner is told by these.
+    book.is_sound();
+    worker.runner().is_sound();
+    step_told(book, worker, most, text)
 }

@@ -4,7 +4,8 @@ ghost use Rattle.std.specs.List.{list_all};
 ghost use Rattle.cover_problem.specs.Answers.{Returns, AddsLine};
 ghost use Rattle.x_texts.specs.Breaks.{is_break};
 ghost use Rattle.lab_world.specs.Worker.{HoldsTile};
-ghost use Rattle.debug_acts.specs.Walking.{RunsOn, MayRun, AddsRun, run_count, run_met, run_visits, stop_line, steps_ahead, visits_ahead, WalksToEnd, WalksTowardsEnd};
+ghost use Rattle.debug_acts.specs.Walking.{RunsOn, MayRun, AddsRun, run_count, run_met, run_visits, stop_line, steps_ahead, visits_ahead, WalksToEnd, WalksTowardsEnd, IsKept};
+ghost use Rattle.debug_acts.specs.Acts.{WalksOn, WalksPart};
 ghost use Rattle.x_texts.specs.Writes.{AddsLines};
 
 use crate::walking::{step_on, walk_on, write_moved};
@@ -112,9 +113,8 @@ fn write_stop(text: &mut Vec<u8>, book: &Book<'_>, stop: Option<Break>) -> Resul
     }
 }
 
-/// `run`: on to the first state that meets a breakpoint, or to its branch's end; refused there. Out of memory it has gone some of
-/// the steps.
-pub fn run<'p, T: Table>(
+/// Goes on to the first state that meets a breakpoint, or to its branch's end, or refuses to there, and writes the answer.
+fn run_told<'p, T: Table>(
     book: &mut Book<'p>,
     worker: &mut Worker<'p, T>,
     breaks: &IndexSet<Break>,
@@ -135,4 +135,25 @@ pub fn run<'p, T: Table>(
     let (moved, met) = walk_to_stop(book, worker, breaks, text)?;
     write_moved(text, moved, worker)?;
     write_stop(text, book, met)
+}
+
+/// `run`: on to the first state that meets a breakpoint, or to its branch's end; refused there. Out of memory it has gone some of
+/// the steps.
+pub fn run<'p, T: Table>(
+    book: &mut Book<'p>,
+    worker: &mut Worker<'p, T>,
+    breaks: &IndexSet<Break>,
+    text: &mut Vec<u8>,
+) -> Result<(), AllocError>
+    requires holds { HoldsTile book.old worker.old }
+    requires breaks { list_all (is_break book.old.problem) breaks.now.keys ≡ true }
+    ensures made { WalksOn result book.old worker.old book.new worker.new (run_count breaks.now.keys worker.old.runner) }
+    ensures text { AddsRun result text.old text.new breaks.now.keys worker.old.runner }
+    ensures left { WalksPart result book.old worker.old book.new worker.new (run_count breaks.now.keys worker.old.runner) }
+    ensures holds_on { HoldsTile book.new worker.new }
+    ensures kept { IsKept book.old worker.old book.new worker.new }
+{
+    book.is_sound();
+    worker.runner().is_sound();
+    run_told(book, worker, breaks, text)
 }

@@ -1,5 +1,6 @@
 //! What a worker walked is posted, and taken back.
 ghost use Rattle.std.specs.Prelude.{◌≡◌, ◌<◌, Some, IfOk, IfErr, OnOk, OnErr};
+ghost use Rattle.cover_problem.specs.Problem.{is_same};
 ghost use Rattle.x_branches.specs.Runner.{unposted_steps};
 ghost use Rattle.lab_book.specs.declared.entry.Call.TheVariants as calls;
 ghost use Rattle.lab_book.specs.declared.entry.Reply.TheVariants as replies;
@@ -14,9 +15,9 @@ use x_branches::RunnerFault;
 use x_steps::Refused;
 
 impl<'p, T: Table> Worker<'p, T> {
-    /// Posts what it walked since its mark; its mark is then its position. Refused as the book refuses it; what it walked is then
-    /// unposted as before.
-    pub fn post(&mut self, book: &mut Book<'p>) -> Result<Posted, BookFault>
+    /// Posts what it walked since its mark, with the answer of the comparison of its problem and the book's.
+    fn post_compared(&mut self, book: &mut Book<'p>, same: bool) -> Result<Posted, BookFault>
+        requires { same ≡ is_same self.old.runner.problem book.old.problem }
         ensures made { IfOk result (WorkerPosts book.old book.new self.old) }
         ensures marked { OnOk result (self.new ≡ marked_at self.old self.old.runner.position) }
         ensures refused { IfErr result (WorkerPostRefused book.old book.new self.old) }
@@ -28,7 +29,7 @@ impl<'p, T: Table> Worker<'p, T> {
         let Ok(stretch) = self.runner.take_stretch() else {
             return Err(BookFault::OutOfMemory);
         };
-        let refused = match book.post(&self.lease, stretch) {
+        let refused = match book.post_compared(&self.lease, stretch, same) {
             Ok(posted) => return Ok(posted),
             Err(refused) => refused,
         };
@@ -37,6 +38,31 @@ impl<'p, T: Table> Worker<'p, T> {
             unreachable!()
         };
         Err(fault)
+    }
+
+    /// Posts what it walked since its mark; its mark is then its position. Refused as the book refuses it; what it walked is then
+    /// unposted as before.
+    pub fn post(&mut self, book: &mut Book<'p>) -> Result<Posted, BookFault>
+        ensures made { IfOk result (WorkerPosts book.old book.new self.old) }
+        ensures marked { OnOk result (self.new ≡ marked_at self.old self.old.runner.position) }
+        ensures refused { IfErr result (WorkerPostRefused book.old book.new self.old) }
+        ensures unchanged { OnErr result (self.new ≡ self.old) }
+        ensures holds { HoldsTile book.old self.old → HoldsTile book.new self.new }
+    {
+        let same = self.runner.problem().same(book.problem());
+        self.post_compared(book, same)
+    }
+
+    /// The same for a worker that holds its tile: its problem is the book's, and isn't compared.
+    pub fn post_held(&mut self, book: &mut Book<'p>) -> Result<Posted, BookFault>
+        requires { HoldsTile book.old self.old }
+        ensures made { IfOk result (WorkerPosts book.old book.new self.old) }
+        ensures marked { OnOk result (self.new ≡ marked_at self.old self.old.runner.position) }
+        ensures refused { IfErr result (WorkerPostRefused book.old book.new self.old) }
+        ensures unchanged { OnErr result (self.new ≡ self.old) }
+        ensures holds { HoldsTile book.new self.new }
+    {
+        self.post_compared(book, true)
     }
 
     /// Takes the last posted stretch of its tile out of the book, and walks on from where it began: that stretch is unposted then.

@@ -39,7 +39,8 @@ impl<'p, T: Table> Worker<'p, T> {
         let Ok(copy) = cut.copy() else {
             return Err(WorkerFault::Runner(RunnerFault::OutOfMemory));
         };
-        let id = match book.split(&self.lease, cut) {
+        // It holds its tile, and so its problem is the book's.
+        let id = match book.split_compared(&self.lease, cut, true) {
             Ok(id) => id,
             Err(Refused { fault, given: _ }) => return Err(WorkerFault::Book(fault)),
         };

@@ -1,41 +1,139 @@
-//! What a session asks of the tiles of its book.
-ghost use Rattle.std.specs.Prelude.{◌≡◌, OnOk};
-ghost use Rattle.x_debug.specs.Commands.{hold_given, put_given, enter_given, Replies, MayLeave};
+//! What a session asks of its worker, and of the tiles of its book, by one act.
+ghost use Rattle.std.specs.Prelude.{◌≡◌, ◌<◌, length, IfOk, option_map};
+ghost use Rattle.lab_book.specs.Tiling.{tile_at};
+ghost use Rattle.debug_acts.specs.Acts.{enter_act};
+ghost use Rattle.debug_views.specs.Tiles.{given_cut};
+ghost use Rattle.x_steps.specs.StateView.{state_value};
+ghost use Rattle.x_debug.specs.Commands.{asks, split_deed, enter_deed, retract_deed, hold_deed, put_back_deed, TellsDeed, DoesDeed, FailsDeed};
 
 use crate::session::Session;
 use cover_problem::Table;
-use debug_acts::enter;
+use debug_acts::{Told, ask};
 use debug_language::{DebugFault, write_debug_fault};
-use debug_views::{hold, put_back};
+use debug_views::{place_at, write_book_fault};
+use lab_book::{Book, BookFault};
+use lab_world::{Act, Target};
 use std::alloc::{AllocError, Global};
+use x_branches::Branch;
 use x_steps::State;
 
+/// The id of the tile at a place.
+fn id_at(book: &Book<'_>, place: usize) -> u64
+    requires { place < length book.now.tiles }
+    ensures { result ≡ (tile_at book.now.tiles place).id }
+{
+    book.tiles()[place].id()
+}
+
+/// The act by which the tile at a place is entered: a held one is taken, any other is leased.
+fn enter_act(book: &Book<'_>, place: usize) -> Act
+    requires { place < length book.now.tiles }
+    ensures { result ≡ enter_act (tile_at book.now.tiles place) }
+{
+    let tile = &book.tiles()[place];
+    let id = tile.id();
+    if tile.status().is_held() {
+        Act::TakeHeld(id)
+    } else {
+        Act::Lease(id)
+    }
+}
+
 impl<'p, T: Table> Session<'p, T> {
+    /// One act of its worker, with the answer.
+    fn ask(
+        &mut self,
+        alloc: Global,
+        act: &Act,
+        told: &Told<'_>,
+        text: &mut Vec<u8>,
+    ) -> Result<(), AllocError>
+        ensures reply { TellsDeed result text.old text.new (asks self.old act.now told.now) }
+        ensures session { DoesDeed result self.old self.new (asks self.old act.now told.now) }
+        ensures left { FailsDeed result self.old self.new (asks self.old act.now told.now) }
+    {
+        ask(alloc, &mut self.book, &mut self.worker, act, told, text)
+    }
+
+    /// The branch that is open, if one is.
+    fn branch(&self) -> Result<Option<Branch<'p>>, AllocError>
+        ensures { IfOk result (λ b. b ≡ option_map (λ w. w.runner.branch) self.now.worker) }
+    {
+        match &self.worker {
+            Some(worker) => Ok(Some(worker.runner().branch().copy()?)),
+            None => Ok(None),
+        }
+    }
+
+    /// `split`.
+    pub(super) fn obey_split(
+        &mut self,
+        alloc: Global,
+        level: u32,
+        option: u32,
+        text: &mut Vec<u8>,
+    ) -> Result<(), AllocError>
+        ensures reply { TellsDeed result text.old text.new (split_deed self.old level option) }
+        ensures session { DoesDeed result self.old self.new (split_deed self.old level option) }
+        ensures left { FailsDeed result self.old self.new (split_deed self.old level option) }
+    {
+        let Some(before) = self.branch()? else {
+            return write_debug_fault(text, DebugFault::NoBranch);
+        };
+        let level = level as usize;
+        let act = Act::Split { level, option };
+        self.ask(alloc, &act, &Told::Parted(before), text)
+    }
+
+    /// `retract`.
+    pub(super) fn obey_retract(
+        &mut self,
+        alloc: Global,
+        text: &mut Vec<u8>,
+    ) -> Result<(), AllocError>
+        ensures reply { TellsDeed result text.old text.new (retract_deed self.old) }
+        ensures session { DoesDeed result self.old self.new (retract_deed self.old) }
+        ensures left { FailsDeed result self.old self.new (retract_deed self.old) }
+    {
+        self.ask(alloc, &Act::Retract, &Told::Retracted, text)
+    }
+
     /// `hold`.
     pub(super) fn obey_hold(
         &mut self,
+        alloc: Global,
         lo: Option<&[u32]>,
         text: &mut Vec<u8>,
     ) -> Result<(), AllocError>
-        ensures reply { Replies result text.old text.new (hold_given self.old lo.entry) }
-        ensures session { OnOk result (self.new ≡ (hold_given self.old lo.entry).session) }
-        ensures left { MayLeave result self.old self.new (hold_given self.old lo.entry) }
+        ensures reply { TellsDeed result text.old text.new (hold_deed self.old (given_cut lo.entry)) }
+        ensures session { DoesDeed result self.old self.new (hold_deed self.old (given_cut lo.entry)) }
+        ensures left { FailsDeed result self.old self.new (hold_deed self.old (given_cut lo.entry)) }
     {
-        hold(&mut self.book, lo, text)
+        let Some(place) = place_at(self.book(), lo) else {
+            return write_book_fault(text, &BookFault::UnknownBranch);
+        };
+        let act = Act::RequestStop(id_at(self.book(), place));
+        self.ask(alloc, &act, &Told::Tile(place), text)
     }
 
     /// `putback`.
     pub(super) fn obey_put_back(
         &mut self,
+        alloc: Global,
         lo: Option<&[u32]>,
         state: &State,
         text: &mut Vec<u8>,
     ) -> Result<(), AllocError>
-        ensures reply { Replies result text.old text.new (put_given self.old lo.entry state.now) }
-        ensures session { OnOk result (self.new ≡ (put_given self.old lo.entry state.now).session) }
-        ensures left { MayLeave result self.old self.new (put_given self.old lo.entry state.now) }
+        ensures reply { TellsDeed result text.old text.new (put_back_deed self.old (given_cut lo.entry) (state_value state.now)) }
+        ensures session { DoesDeed result self.old self.new (put_back_deed self.old (given_cut lo.entry) (state_value state.now)) }
+        ensures left { FailsDeed result self.old self.new (put_back_deed self.old (given_cut lo.entry) (state_value state.now)) }
     {
-        put_back(&mut self.book, lo, state, text)
+        let Some(place) = place_at(self.book(), lo) else {
+            return write_book_fault(text, &BookFault::UnknownBranch);
+        };
+        let id = id_at(self.book(), place);
+        let state = Target::new(state.copy()?);
+        self.ask(alloc, &Act::PutBack { id, state }, &Told::Tile(place), text)
     }
 
     /// `open`.
@@ -45,14 +143,17 @@ impl<'p, T: Table> Session<'p, T> {
         lo: Option<&[u32]>,
         text: &mut Vec<u8>,
     ) -> Result<(), AllocError>
-        ensures reply { Replies result text.old text.new (enter_given self.old lo.entry) }
-        ensures session { OnOk result (self.new ≡ (enter_given self.old lo.entry).session) }
-        ensures left { MayLeave result self.old self.new (enter_given self.old lo.entry) }
+        ensures reply { TellsDeed result text.old text.new (enter_deed self.old (given_cut lo.entry)) }
+        ensures session { DoesDeed result self.old self.new (enter_deed self.old (given_cut lo.entry)) }
+        ensures left { FailsDeed result self.old self.new (enter_deed self.old (given_cut lo.entry)) }
     {
-        if self.worker.is_some() {
+        if self.is_open() {
             return write_debug_fault(text, DebugFault::AlreadyOpen);
         }
-        self.worker = enter(alloc, &mut self.book, lo, text)?;
-        Ok(())
+        let Some(place) = place_at(self.book(), lo) else {
+            return write_book_fault(text, &BookFault::UnknownBranch);
+        };
+        let act = enter_act(self.book(), place);
+        self.ask(alloc, &act, &Told::Place, text)
     }
 }

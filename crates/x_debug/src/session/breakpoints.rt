@@ -1,7 +1,7 @@
 //! The breakpoints of a session.
-ghost use Rattle.std.specs.Prelude.{◌≡◌, true, OnOk, OnErr};
+ghost use Rattle.std.specs.Prelude.{◌≡◌, true, OnErr};
 ghost use Rattle.x_texts.specs.Breaks.{is_break};
-ghost use Rattle.x_debug.specs.Commands.{answer_set, answer_clear, Replies};
+ghost use Rattle.x_debug.specs.Commands.{set_deed, clear_deed, TellsDeed, DoesDeed};
 
 use crate::session::Session;
 use cover_problem::Table;
@@ -17,8 +17,8 @@ impl<'p, T: Table> Session<'p, T> {
         text: &mut Vec<u8>,
     ) -> Result<(), AllocError>
         requires { is_break self.old.book.problem breakpoint ≡ true }
-        ensures reply { Replies result text.old text.new (answer_set self.old breakpoint) }
-        ensures session { OnOk result (self.new ≡ (answer_set self.old breakpoint).session) }
+        ensures reply { TellsDeed result text.old text.new (set_deed self.old breakpoint) }
+        ensures session { DoesDeed result self.old self.new (set_deed self.old breakpoint) }
         ensures left { OnErr result (self.new ≡ self.old) }
     {
         write_set(text, self.book.problem(), breakpoint)?;
@@ -28,8 +28,8 @@ impl<'p, T: Table> Session<'p, T> {
 
     /// `clear`: no breakpoint is left. Out of memory, nothing has changed.
     pub(super) fn obey_clear(&mut self, text: &mut Vec<u8>) -> Result<(), AllocError>
-        ensures reply { Replies result text.old text.new (answer_clear self.old) }
-        ensures session { OnOk result (self.new ≡ (answer_clear self.old).session) }
+        ensures reply { TellsDeed result text.old text.new (clear_deed self.old) }
+        ensures session { DoesDeed result self.old self.new (clear_deed self.old) }
         ensures left { OnErr result (self.new ≡ self.old) }
     {
         write_counted(text, Counted::Cleared, self.breaks.len() as u128)?;

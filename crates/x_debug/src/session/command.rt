@@ -2,7 +2,7 @@
 ghost use Rattle.std.specs.Prelude.{◌≡◌, true, option_copied, IfOk, OnOk, OnErr};
 ghost use Rattle.x_snapshot.specs.Snapshot.{choices_of};
 ghost use Rattle.debug_language.specs.Command.{command_value};
-ghost use Rattle.x_debug.specs.Commands.{obeyed, answer_line, is_command, IsLeftBy, IsLeft, Replies};
+ghost use Rattle.x_debug.specs.Commands.{deed, answer_line, is_command, IsLeft, TellsDeed, DoesDeed, FailsDeed};
 
 use crate::session::Session;
 use cover_problem::Table;
@@ -28,7 +28,7 @@ fn path_of(lo: &Option<Vec<u32>>) -> Option<&[u32]>
 
 impl<'p, T: Table> Session<'p, T> {
     /// Does what a command asks, and writes what is answered.
-    #[tactic(auto, unfolding(crate::specs::Commands::answer, crate::specs::Commands::LeftBy))]
+    #[tactic(auto, unfolding(crate::specs::Commands::deed_of))]
     fn obey(
         &mut self,
         alloc: Global,
@@ -36,9 +36,9 @@ impl<'p, T: Table> Session<'p, T> {
         text: &mut Vec<u8>,
     ) -> Result<(), AllocError>
         requires { is_command self.old.book.problem (command_value command.now) ≡ true }
-        ensures reply { Replies result text.old text.new (obeyed self.old command.now) }
-        ensures session { OnOk result (self.new ≡ (obeyed self.old command.now).session) }
-        ensures left { OnErr result (IsLeftBy self.old (command_value command.now) self.new) }
+        ensures reply { TellsDeed result text.old text.new (deed self.old command.now) }
+        ensures session { DoesDeed result self.old self.new (deed self.old command.now) }
+        ensures left { FailsDeed result self.old self.new (deed self.old command.now) }
     {
         match command {
             Command::Nothing => Ok(()),
@@ -48,15 +48,15 @@ impl<'p, T: Table> Session<'p, T> {
             Command::Break(breakpoint) => self.obey_set(*breakpoint, text),
             Command::Clear => self.obey_clear(text),
             Command::Ask(question) => self.answer_question(*question, text),
-            Command::Split { level, option } => self.obey_split(*level, *option, text),
-            Command::Park => self.obey_park(text),
+            Command::Split { level, option } => self.obey_split(alloc, *level, *option, text),
+            Command::Park => self.obey_park(alloc, text),
             Command::Save => self.obey_save(alloc, text),
             Command::SaveBreaks => self.obey_save_breaks(alloc, text),
-            Command::Close => self.obey_close(text),
+            Command::Close => self.obey_close(alloc, text),
             Command::Enter(lo) => self.obey_enter(alloc, path_of(lo), text),
-            Command::Retract => self.obey_retract(text),
-            Command::Hold(lo) => self.obey_hold(path_of(lo), text),
-            Command::PutBack { lo, state } => self.obey_put_back(path_of(lo), state, text),
+            Command::Retract => self.obey_retract(alloc, text),
+            Command::Hold(lo) => self.obey_hold(alloc, path_of(lo), text),
+            Command::PutBack { lo, state } => self.obey_put_back(alloc, path_of(lo), state, text),
         }
     }
 

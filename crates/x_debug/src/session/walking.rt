@@ -1,7 +1,6 @@
 //! Steps on the branch that is open.
-ghost use Rattle.std.specs.Prelude.{◌≡◌, ◌<◌, OnOk, OnErr};
-ghost use Rattle.debug_acts.specs.Walking.{step_count, back_count};
-ghost use Rattle.x_debug.specs.Commands.{answer_step, answer_run, answer_back, LeftPartWay, LeftPartRun, LeftPartBack, Replies};
+ghost use Rattle.std.specs.Prelude.{◌<◌};
+ghost use Rattle.x_debug.specs.Commands.{step_deed, run_deed, back_deed, TellsDeed, DoesDeed, FailsDeed};
 
 use crate::session::Session;
 use cover_problem::Table;
@@ -13,9 +12,9 @@ impl<'p, T: Table> Session<'p, T> {
     /// `step`.
     pub(super) fn obey_step(&mut self, most: u32, text: &mut Vec<u8>) -> Result<(), AllocError>
         requires { 0 < most }
-        ensures reply { Replies result text.old text.new (answer_step self.old most) }
-        ensures session { OnOk result (self.new ≡ (answer_step self.old most).session) }
-        ensures left { OnErr result (LeftPartWay self.old (λ r. step_count r most) self.new) }
+        ensures reply { TellsDeed result text.old text.new (step_deed self.old most) }
+        ensures session { DoesDeed result self.old self.new (step_deed self.old most) }
+        ensures left { FailsDeed result self.old self.new (step_deed self.old most) }
     {
         let Some(worker) = &mut self.worker else {
             return write_debug_fault(text, DebugFault::NoBranch);
@@ -25,9 +24,9 @@ impl<'p, T: Table> Session<'p, T> {
 
     /// `run`.
     pub(super) fn obey_run(&mut self, text: &mut Vec<u8>) -> Result<(), AllocError>
-        ensures reply { Replies result text.old text.new (answer_run self.old) }
-        ensures session { OnOk result (self.new ≡ (answer_run self.old).session) }
-        ensures left { OnErr result (LeftPartRun self.old self.new) }
+        ensures reply { TellsDeed result text.old text.new (run_deed self.old) }
+        ensures session { DoesDeed result self.old self.new (run_deed self.old) }
+        ensures left { FailsDeed result self.old self.new (run_deed self.old) }
     {
         let Some(worker) = &mut self.worker else {
             return write_debug_fault(text, DebugFault::NoBranch);
@@ -38,9 +37,9 @@ impl<'p, T: Table> Session<'p, T> {
     /// `back`.
     pub(super) fn obey_back(&mut self, most: u32, text: &mut Vec<u8>) -> Result<(), AllocError>
         requires { 0 < most }
-        ensures reply { Replies result text.old text.new (answer_back self.old most) }
-        ensures session { OnOk result (self.new ≡ (answer_back self.old most).session) }
-        ensures left { OnErr result (LeftPartBack self.old (λ r. back_count r most) self.new) }
+        ensures reply { TellsDeed result text.old text.new (back_deed self.old most) }
+        ensures session { DoesDeed result self.old self.new (back_deed self.old most) }
+        ensures left { FailsDeed result self.old self.new (back_deed self.old most) }
     {
         let Some(worker) = &mut self.worker else {
             return write_debug_fault(text, DebugFault::NoBranch);

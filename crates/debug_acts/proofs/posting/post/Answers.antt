@@ -6,9 +6,9 @@ use Rattle.debug_acts.proofs.posting.post.Goals as goal
 pub returns-clause-made : goal.returns-clause-made
 returns-clause-made g c =
     post_made c.args.book.now c.args.worker.now c.is_sound.ensures.tiling c.requires.holds (subst IsRunner c.runner.ensures c.is_sound-2.ensures.runner)
-    c.post.new.book c.post.new.self c.in-Ok.field-0 c.in-Ok.ensures.made c.in-Ok.ensures.marked
+    c.post_held.new.book c.post_held.new.self c.in-Ok.field-0 c.in-Ok.ensures.made c.in-Ok.ensures.marked
 
 pub returns-in_default-clause-book_kept : goal.returns-in_default-clause-book_kept
 returns-in_default-clause-book_kept g c =
     post_kept c.args.book.now c.args.worker.now c.is_sound.ensures.tiling c.requires.holds (subst IsRunner c.runner.ensures c.is_sound-2.ensures.runner)
-    c.post.new.book c.in_default.field-0 c.in_default.ensures.refused
+    c.post_held.new.book c.in_default.field-0 c.in_default.ensures.refused

@@ -1,8 +1,10 @@
-use Rattle.std.proofs.Common.{subst, arith, ap₂, inl}
+use Rattle.std.proofs.Common.{subst, arith, ap, ap₂, ◌∙◌, inl, inr}
 use Rattle.x_branches.specs.Runner.{IsRunner}
 use Rattle.debug_acts.specs.Work.{work}
 use Rattle.debug_views.proofs.CallLemmas.{on_err}
 use Rattle.debug_acts.proofs.ForwardLemmas.{can_walk}
+use Rattle.debug_acts.specs.Walking.{steps_ahead}
+use Rattle.debug_acts.proofs.WalkedLemmas.{least_both}
 use Rattle.debug_acts.proofs.FarLemmas.{WalkedFar, far_within, far_made, far_text, far_part}
 use Rattle.debug_acts.proofs.walking.walk_on.Goals.{In-Ok}
 use Rattle.debug_acts.proofs.walking.walk_on.Goals as goal
@@ -23,6 +25,11 @@ far g c = record {
 pub returns-in_err-make_room-clause-left : goal.returns-in_err-make_room-clause-left
 returns-in_err-make_room-clause-left g c =
     on_err c.from_residual.result (record { steps = 0; within = omega arith; left = inl (ap₂ work c.in_err-make_room.ensures.book_kept c.in_err-make_room.ensures.worker_kept) })
+
+pub returns-in_default-clause-left : goal.returns-in_default-clause-left
+returns-in_default-clause-left g c =
+    let more = least_both 1 c.args.most (steps_ahead c.args.worker.now.runner) (omega (arith, c.requires.some)) (omega (arith, c.requires.ahead)) in
+    record { steps = 0; within = omega arith; left = inr (more, ap (work c.make_room.new.book) c.in_default.ensures.unchanged ∙ c.in_ok-make_room.ensures.made) }
 
 pub returns-in_err-note_visited-clause-left : goal.returns-in_err-note_visited-clause-left
 returns-in_err-note_visited-clause-left g c =

@@ -1,6 +1,6 @@
 use Rattle.std.proofs.Common.{◌++◌, length}
 use Rattle.x_debug.specs.Session.{SessionValue}
-use Rattle.alike_sessions.specs.AlikeSessions.{AreSoundAlike}
+use Rattle.debug_laws.specs.AlikeSessions.{AreSoundAlike}
 use Rattle.debug_script.specs.Input.{raw_lines}
 use Rattle.debug_script.specs.Replies.{debug_replies}
 use Rattle.debug_script.proofs.ReplyLemmas.{IsAnswering}

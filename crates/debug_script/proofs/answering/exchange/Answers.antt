@@ -4,7 +4,7 @@ use Rattle.debug_language.specs.declared.engine.EngineCommand.TheVariants as eng
 use Rattle.debug_language.specs.Reading.{engine_command_of}
 use Rattle.x_debug.specs.Commands.{answer_line}
 use Rattle.x_debug.specs.Loading.{load_answer}
-use Rattle.alike_sessions.proofs.AnswerLemmas.{line_alike, load_alike}
+use Rattle.debug_laws.proofs.AnswerLemmas.{line_alike, load_alike}
 use Rattle.debug_script.specs.Input.{without_newline, raw_lines}
 use Rattle.debug_script.specs.Refusing.{IsWantOr, MayRefuse, MayEnd}
 use Rattle.debug_script.proofs.RefusingLemmas.{command_may_end, passed_on}

@@ -1,8 +1,8 @@
 use Rattle.std.proofs.Common.{ℕ, List, ◌++◌, ◌∙◌, ap, sym, subst}
 use Rattle.x_debug.specs.Session.{SessionValue, fresh_session}
-use Rattle.alike_sessions.specs.AlikeSessions.{AreSoundAlike}
-use Rattle.alike_sessions.proofs.SoundLemmas.{fresh_sound}
-use Rattle.alike_sessions.proofs.PooledLemmas.{itself}
+use Rattle.debug_laws.specs.AlikeSessions.{AreSoundAlike}
+use Rattle.debug_laws.proofs.SoundLemmas.{fresh_sound}
+use Rattle.debug_laws.proofs.PooledLemmas.{itself}
 use Rattle.debug_script.specs.Replies.{replies_to}
 use Rattle.debug_script.proofs.answering.replies.Goals as goal
 

@@ -1,7 +1,7 @@
 use Rattle.std.proofs.Common.{◌++◌, ◌∙◌, List, ℕ, ap, sym, subst}
 use Rattle.lab_book.specs.Book.{BookValue}
-use Rattle.alike_books.specs.Searched.{IsSearched}
-use Rattle.alike_sessions.specs.AlikeSessions.{AreSoundAlike}
+use Rattle.lab_book_laws.specs.Searched.{IsSearched}
+use Rattle.debug_laws.specs.AlikeSessions.{AreSoundAlike}
 use Rattle.x_debug.specs.Session.{SessionValue}
 use Rattle.debug_script.specs.Pooling.{none_held, answer_pool}
 use Rattle.debug_script.proofs.PoolLemmas.{some_leased, no_leased, none_open, refused_alike, searched_alike, searched_text}

@@ -3,6 +3,6 @@ use Rattle.x_branches.specs.Runner.{IsRunner}
 use Rattle.debug_acts.proofs.CloseLemmas.{none_ahead}
 use Rattle.debug_acts.proofs.giving.closing.is_at_end.Goals as goal
 
-pub returns-clause-none_ahead : goal.returns-clause-none_ahead
-returns-clause-none_ahead g c =
+pub returns : goal.returns
+returns g c =
     none_ahead c.args.book.now c.args.worker.now c.is_sound.ensures.tiling c.requires (subst IsRunner c.runner-runner.ensures c.is_sound-2.ensures.runner) c.is_at_end.result (rw c.runner-runner.ensures at c.is_at_end.ensures)

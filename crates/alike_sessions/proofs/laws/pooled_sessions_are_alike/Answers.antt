@@ -1,5 +1,0 @@
-use Rattle.alike_sessions.proofs.PooledLemmas.{pooled_alike}
-use Rattle.alike_sessions.proofs.laws.pooled_sessions_are_alike.Goals as goal
-
-pub returns : goal.returns
-returns c = λ a b new p n s t. pooled_alike a b new p n s t

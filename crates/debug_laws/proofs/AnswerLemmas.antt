@@ -1,0 +1,418 @@
+-- Sound sessions that are alike answer each command, each line and each text that is loaded with the same text, and stay alike.
+use Rattle.std.proofs.Common.{◌≡◌, ℕ, Bool, true, false, cond, Option, Some, None, Result, Ok, Err, List, [], ◌∷◌, ◌++◌, replicate, map, length, refl, sym, ap, ◌∙◌, subst}
+use Rattle.text_lines.specs.Writing.{line_text, text_of}
+use Rattle.cover_problem.specs.Problem.{ProblemValue, is_same}
+use Rattle.x_steps.specs.StateValue.{StateValue}
+use Rattle.x_branches.specs.Runner.{RunnerValue}
+use Rattle.x_texts.specs.declared.breakpoint.Break.{Break}
+use Rattle.x_snapshot.specs.declared.fault.SnapshotFault.{SnapshotFault}
+use Rattle.x_snapshot.specs.Snapshot.{SnapshotValue, snapshot_with}
+use Rattle.x_snapshot.specs.Writing.{snapshot_text}
+use Rattle.x_snapshot.specs.Judged.{snapshot_of}
+use Rattle.lab_book.specs.declared.lease.Grant.{Grant}
+use Rattle.lab_book.specs.declared.fault.BookFault.TheVariants.{ForeignProblem, NotAtEnd}
+use Rattle.lab_book.specs.declared.entry.Call.{Call}
+use Rattle.lab_book.specs.declared.entry.Call.TheVariants as call
+use Rattle.lab_book.specs.Tile.{TileValue, is_held}
+use Rattle.lab_book.specs.Tiling.{tile_at}
+use Rattle.lab_book.specs.Book.{BookValue, outcome, book_step, path_of}
+use Rattle.lab_world.specs.declared.event.Act.{Act}
+use Rattle.lab_world.specs.declared.event.Act.TheVariants.{Back, Post, Split, Retract, Park, Close}
+use Rattle.lab_world.specs.Worker.{WorkerValue, lent_worker}
+use Rattle.lab_world.specs.World.{turn}
+use Rattle.debug_language.specs.Command.{CommandValue}
+use Rattle.debug_language.specs.Command as command
+use Rattle.debug_language.specs.Reading.{command_of}
+use Rattle.debug_language.specs.declared.words.Counted.TheVariants as counts
+use Rattle.debug_language.specs.declared.words.Plain.TheVariants.{Closed}
+use Rattle.debug_language.specs.Replies.{saved_text}
+use Rattle.debug_language.specs.declared.fault.DebugFault.TheVariants.{BadCommand, NoBranch}
+use Rattle.debug_views.specs.Breakpoints.{with_break}
+use Rattle.debug_views.specs.Lines.{plain, counted, set, state_line, debug_refusal, book_refusal, snapshot_refusal}
+use Rattle.debug_views.specs.Tiles.{tile_line, place_at}
+use Rattle.debug_acts.specs.Walking.{step_count, run_count, run_lines, back_count, back_lines}
+use Rattle.debug_acts.specs.declared.asking.Told.{Told}
+use Rattle.debug_acts.specs.declared.asking.Told.TheVariants as told
+use Rattle.debug_acts.specs.Acts.{has_rest, rest_acts, end_acts, is_ended, close_acts, walk_acts}
+use Rattle.debug_acts.specs.Asking.{told_lines}
+use Rattle.debug_acts.specs.Giving.{save_text, close_line}
+use Rattle.debug_acts.specs.Work.{work}
+use Rattle.debug_laws.proofs.WorkWords.{enter_call, stand_lines, entered_at, refusal_or, answer_of_tile, hold, put_back}
+use Rattle.x_debug.specs.Session.{SessionValue}
+use Rattle.x_debug.specs.Questions.{View, runner_of, view_of, question_lines}
+use Rattle.x_debug.specs.Commands.{Answer, Deed, world_of, left_by, says, with_breaks, does, ends, asks, if_open, walks, back_deed, split_deed, close_deed, enter_deed, retract_deed, hold_deed, put_back_deed, deed_of, done_by, deed_if, answer, answer_line}
+use Rattle.debug_laws.proofs.PlayedLemmas.{seen, on_desk, on_book, split_lines, retract_lines, hold_same, put_back_same, entered_same}
+use Rattle.debug_laws.proofs.SeatLemmas.{AreAlikeSeats, AreOwn, is_own, acts_alike, own_both, own_times, walk_own, walk_alike, rest_seen, end_is_seen}
+use Rattle.x_debug.specs.Loading.{answers, load_by, load_answer, loaded, breaks_of}
+use Rattle.lab_book_laws.specs.AlikeBooks.{open_tiles}
+use Rattle.lab_book_laws.specs.AlikeCalls.{Correspond, addressed, AreAlikeOutcomes}
+use Rattle.lab_book_laws.proofs.StatusLemmas.{held_seen}
+use Rattle.lab_book_laws.proofs.ToldLemmas.{visits_alike, steps_alike, levels_alike}
+use Rattle.lab_book_laws.proofs.PlaceLemmas.{Meet}
+use Rattle.lab_book_laws.proofs.CallLemmas.{call_alike}
+use Rattle.debug_laws.specs.AlikeSessions.{AreAlikeSessions, AreSoundAlike, AreAlikeAnswers}
+use Rattle.debug_laws.proofs.SoundLemmas.{seat_of, work_of, answer_sound, line_sound, load_sound}
+use Rattle.debug_laws.proofs.AlikeLemmas.{AreAlikeWorks, step_alike, retract_alike, split_alike}
+use Rattle.debug_laws.proofs.TileLemmas.{lines_seen, same_line, place_meet, naming, names_same, same_refusal, runner_seen, both_open, stand_alike}
+
+-- the same text, and alike sessions that are left
+record Agree (x y : Answer) : Type 0 where
+  pub text : x.text ≡ y.text
+  pub session : AreAlikeSessions x.session y.session
+
+-- nothing is taken out where no branch is open
+idle_lines : (b c : BookValue) → told_lines b None Retract told.Retracted ≡ told_lines c None Retract told.Retracted
+unfolding turn
+idle_lines b c = refl
+
+module _ (a b : SessionValue) (p : AreSoundAlike a b) where
+  abbrev k : AreAlikeSessions a b
+  k = p.alike
+
+  seats : AreAlikeSeats a.book a.worker b.book b.worker
+  seats = record { book = k.book; runner = k.runner }
+
+  -- ---- deeds
+
+  -- lines are answered, and nothing is done
+  says_agree : (l m : List (List (List ℕ))) → l ≡ m → Agree (done_by a (says a l)) (done_by b (says b m))
+  says_agree l m e = record { text = ap text_of e; session = record { book = k.book; runner = k.runner; breaks = k.breaks } }
+
+  -- the breakpoints are others
+  breaks_agree : (bs cs : List Break) (l m : List (List (List ℕ))) → bs ≡ cs → l ≡ m → Agree (done_by a (with_breaks bs l)) (done_by b (with_breaks cs m))
+  breaks_agree bs cs l m e g = record { text = ap text_of g; session = record { book = k.book; runner = k.runner; breaks = e } }
+
+  -- the worker's own acts are done
+  acts_agree : (d e : Deed) → d.text ≡ e.text → d.acts ≡ e.acts → AreOwn d.acts → d.breaks ≡ e.breaks → Agree (done_by a d) (done_by b e)
+  acts_agree d e text same own breaks =
+      let there = acts_alike d.acts a.book b.book a.worker b.worker own (seat_of a p.sound) (seat_of b p.also_sound) seats in
+      record {
+        text = text;
+        session = subst (λ (acts : List Act). AreAlikeSessions (record (left_by a d.acts) { breaks = d.breaks })
+            (record (left_by b acts) { breaks = e.breaks })) same
+            (record { book = there.book; runner = there.runner; breaks = breaks });
+      }
+
+  -- what needs an open branch
+  open_agree : (f g : WorkerValue → Deed)
+      → ((v w : WorkerValue) → a.worker ≡ Some v → b.worker ≡ Some w → v.runner ≡ w.runner → Agree (done_by a (f v)) (done_by b (g w)))
+      → Agree (done_by a (if_open a a.worker f)) (done_by b (if_open b b.worker g))
+  open_agree f g some =
+      both_open a.worker b.worker k.runner (λ x y. Agree (done_by a (if_open a x f)) (done_by b (if_open b y g)))
+      (says_agree (debug_refusal NoBranch ∷ []) (debug_refusal NoBranch ∷ []) refl) some
+
+  -- ---- questions
+
+  -- they have the same to show
+  same_view : view_of a ≡ view_of b
+  same_view =
+      let runner = k.runner in
+      let branches = sym (lines_seen (open_tiles a.book.tiles)) ∙ ap (map tile_line) k.book.tiles ∙ lines_seen (open_tiles b.book.tiles) in
+      let visits = visits_alike a.book b.book p.sound.tiling p.also_sound.tiling k.book in
+      let steps = steps_alike a.book b.book p.sound.tiling p.also_sound.tiling k.book in
+      let levels = levels_alike a.book b.book p.sound.tiling p.also_sound.tiling k.book in
+      cc
+
+  -- ---- steps
+
+  walk_agrees : (lines : RunnerValue → List (List (List ℕ))) (more : RunnerValue → List (List (List ℕ))) (count also : RunnerValue → ℕ)
+      → ((r : RunnerValue) → lines r ≡ more r) → ((r : RunnerValue) → count r ≡ also r)
+      → Agree (done_by a (if_open a a.worker (λ w. walks a (lines w.runner) (count w.runner))))
+      (done_by b (if_open b b.worker (λ w. walks b (more w.runner) (also w.runner))))
+  walk_agrees lines more count also l c =
+      open_agree _ _ (λ v w d e q.
+      acts_agree (walks a (lines v.runner) (count v.runner)) (walks b (more w.runner) (also w.runner))
+      (ap text_of (ap lines q ∙ l w.runner))
+      (walk_alike (count v.runner) a.book b.book a.worker b.worker (seat_of a p.sound) (seat_of b p.also_sound) seats
+      ∙ ap (λ (n : ℕ). walk_acts n (world_of b)) (ap count q ∙ c w.runner))
+      (walk_own (count v.runner) (world_of a)) k.breaks)
+
+  back_agrees : (n : ℕ) → Agree (done_by a (back_deed a n)) (done_by b (back_deed b n))
+  back_agrees n = open_agree _ _ (λ v w d e q.
+      acts_agree (does a (back_lines v.runner n) (replicate (back_count v.runner n) Back))
+      (does b (back_lines w.runner n) (replicate (back_count w.runner n) Back))
+      (ap (λ (r : RunnerValue). text_of (back_lines r n)) q) (ap (λ (r : RunnerValue). replicate (back_count r n) Back) q)
+      (own_times (back_count v.runner n) Back refl) k.breaks)
+
+  -- ---- the branch is given up
+
+  same_rest : rest_acts a.worker ≡ rest_acts b.worker
+  same_rest = ap (λ (v : Bool). cond v (Post ∷ []) []) (rest_seen a.worker b.worker k.runner)
+
+  rest_own : (x : Option WorkerValue) → AreOwn (rest_acts x)
+  rest_own x = by (has_rest x)
+    where
+      by : (v : Bool) → AreOwn (cond v (Post ∷ []) [])
+      by true = (refl, tt)
+      by false = tt
+
+  end_agrees : (act : Act) → is_own act ≡ true → (text : WorkerValue → List ℕ) (more : WorkerValue → List ℕ)
+      → ((v w : WorkerValue) → v.runner ≡ w.runner → text v ≡ more w)
+      → Agree (done_by a (if_open a a.worker (λ w. ends a (text w) (end_acts a.worker act))))
+      (done_by b (if_open b b.worker (λ w. ends b (more w) (end_acts b.worker act))))
+  end_agrees act own text more same =
+      open_agree _ _ (λ v w d e q.
+      acts_agree (ends a (text v) (end_acts a.worker act)) (ends b (more w) (end_acts b.worker act)) (same v w q)
+      (ap (λ (acts : List Act). acts ++ act ∷ []) same_rest)
+      (own_both (rest_acts a.worker) (act ∷ []) (rest_own a.worker) (own, tt)) k.breaks)
+
+  saved_same : (bs cs : List Break) → bs ≡ cs → (v w : WorkerValue) → v.runner ≡ w.runner → save_text v bs ≡ save_text w cs
+  saved_same bs cs e v w q = λ j. saved_text (snapshot_text (saved (q j) (e j)))
+    where
+      saved : RunnerValue → List Break → SnapshotValue
+      saved r breaks = snapshot_with r.problem (path_of r.branch.lo) (path_of r.branch.hi) r.position breaks
+
+  close_agrees : Agree (done_by a (close_deed a)) (done_by b (close_deed b))
+  close_agrees = open_agree _ _ (λ v w d e q.
+      let same = end_is_seen a.worker b.worker k.runner in
+      acts_agree (ends a (line_text (close_line a.worker)) (close_acts a.worker)) (ends b (line_text (close_line b.worker)) (close_acts b.worker))
+      (ap (λ (t : Bool). line_text (cond t (plain Closed) (book_refusal NotAtEnd))) same)
+      (λ j. cond (same j) (same_rest j ++ Close ∷ []) (Close ∷ [])) (closing (is_ended a.worker)) k.breaks)
+    where
+      closing : (v : Bool) → AreOwn (cond v (end_acts a.worker Close) (Close ∷ []))
+      closing true = own_both (rest_acts a.worker) (Close ∷ []) (rest_own a.worker) (refl, tt)
+      closing false = (refl, tt)
+
+  -- ---- the branch is parted, or its last stretch is taken out
+
+  asks_agree : (act : Act) (what also : Told) → is_own act ≡ true
+      → told_lines a.book a.worker act what ≡ told_lines b.book b.worker act also
+      → Agree (done_by a (asks a act what)) (done_by b (asks b act also))
+  asks_agree act what also own lines = acts_agree (asks a act what) (asks b act also) (ap text_of lines) refl (own, tt) k.breaks
+
+  works : (v w : WorkerValue) → v.runner ≡ w.runner → AreAlikeWorks (work a.book v) (work b.book w)
+  works v w q = record { book = k.book; runner = q }
+
+  split_agrees : (level o : ℕ) → Agree (done_by a (split_deed a level o)) (done_by b (split_deed b level o))
+  split_agrees level o = open_agree _ _ (λ v w d e q.
+      let s = work_of a p.sound v d in
+      let t = work_of b p.also_sound w e in
+      asks_agree (Split level o) (told.Parted v.runner.branch) (told.Parted w.runner.branch) refl
+      (ap (λ (x : Option WorkerValue). told_lines a.book x (Split level o) (told.Parted v.runner.branch)) d
+      ∙ split_lines (work a.book v) s level o ∙ (split_alike (work a.book v) (work b.book w) s t (works v w q) level o).lines
+      ∙ sym (split_lines (work b.book w) t level o)
+      ∙ sym (ap (λ (x : Option WorkerValue). told_lines b.book x (Split level o) (told.Parted w.runner.branch)) e)))
+
+  retract_agrees : Agree (done_by a (retract_deed a)) (done_by b (retract_deed b))
+  retract_agrees = asks_agree Retract told.Retracted told.Retracted refl lines
+    where
+      working : (v w : WorkerValue) → a.worker ≡ Some v → b.worker ≡ Some w → v.runner ≡ w.runner
+          → told_lines a.book (Some v) Retract told.Retracted ≡ told_lines b.book (Some w) Retract told.Retracted
+      working v w d e q =
+          let s = work_of a p.sound v d in
+          let t = work_of b p.also_sound w e in
+          retract_lines (work a.book v) s ∙ (retract_alike (work a.book v) (work b.book w) s t (works v w q)).lines
+          ∙ sym (retract_lines (work b.book w) t)
+
+      lines : told_lines a.book a.worker Retract told.Retracted ≡ told_lines b.book b.worker Retract told.Retracted
+      lines = both_open a.worker b.worker k.runner
+          (λ x y. told_lines a.book x Retract told.Retracted ≡ told_lines b.book y Retract told.Retracted) (idle_lines a.book b.book) working
+
+  -- ---- `hold` and `putback`
+
+  -- a call at the places of the same tile
+  module _ (i j : ℕ) (q : Correspond a.book.tiles i b.book.tiles j) where
+    named_alike : (c : Call) → AreAlikeOutcomes a.book b.book (outcome a.book 0 (addressed (naming (tile_at a.book.tiles i)) c))
+        (outcome b.book 0 (addressed (naming (tile_at b.book.tiles j)) c))
+    named_alike c = (call_alike a.book b.book k.book p.sound.tiling p.also_sound.tiling 0 0 i j (naming (tile_at a.book.tiles i))
+        (naming (tile_at b.book.tiles j)) (names_same a.book b.book i j q) c).0
+
+    named_line : (c : Call)
+        → tile_line (tile_at (outcome a.book 0 (addressed (naming (tile_at a.book.tiles i)) c)).tiles i)
+        ≡ tile_line (tile_at (outcome b.book 0 (addressed (naming (tile_at b.book.tiles j)) c)).tiles j)
+    named_line c = same_line (tile_at (outcome a.book 0 (addressed (naming (tile_at a.book.tiles i)) c)).tiles i)
+        (tile_at (outcome b.book 0 (addressed (naming (tile_at b.book.tiles j)) c)).tiles j)
+        (call_alike a.book b.book k.book p.sound.tiling p.also_sound.tiling 0 0 i j (naming (tile_at a.book.tiles i))
+        (naming (tile_at b.book.tiles j)) (names_same a.book b.book i j q) c).1
+
+  -- of the tile that a cut names; the call is made of the id alone
+  asked_agrees : (make : ℕ → Call) (c : Call) → ((g : Grant) → addressed g c ≡ make g.id) → (m n : Option ℕ)
+      → Meet a.book.tiles b.book.tiles m n
+      → Agree (on_book a (answer_of_tile a.book make m)) (on_book b (answer_of_tile b.book make n))
+  asked_agrees make c by_id None None q = record { text = refl; session = record { book = k.book; runner = k.runner; breaks = k.breaks } }
+  asked_agrees make c by_id (Some i) (Some j) q =
+      let d = addressed (naming (tile_at a.book.tiles i)) c in
+      let e = addressed (naming (tile_at b.book.tiles j)) c in
+      let o = named_alike i j q c in
+      subst (λ (x : Call × Call). Agree (asked a x.0 i) (asked b x.1 j))
+      (λ n. (by_id (naming (tile_at a.book.tiles i)) n, by_id (naming (tile_at b.book.tiles j)) n))
+      (record {
+        text = ap text_of (same_refusal (tile_line (tile_at (outcome a.book 0 d).tiles i) ∷ [])
+            (tile_line (tile_at (outcome b.book 0 e).tiles j) ∷ []) (outcome a.book 0 d).reply (outcome b.book 0 e).reply
+            (ap (λ (l : List (List ℕ)). l ∷ []) (named_line i j q c)) o.reply);
+        session = record { book = step_alike a.book b.book 0 0 d e k.book o; runner = k.runner; breaks = k.breaks };
+      })
+    where
+      asked : SessionValue → Call → ℕ → Answer
+      asked s d i = on_book s (record {
+        lines = refusal_or (tile_line (tile_at (book_step s.book 0 d).tiles i) ∷ []) (outcome s.book 0 d).reply;
+        book = book_step s.book 0 d;
+      })
+  asked_agrees make c by_id None (Some j) q = absurd q
+  asked_agrees make c by_id (Some i) None q = absurd q
+
+  tile_agrees : (x y : Answer) (d e : Deed) → done_by a d ≡ x → done_by b e ≡ y → Agree x y → Agree (done_by a d) (done_by b e)
+  tile_agrees x y d e l m q = subst (λ (z : Answer × Answer). Agree z.0 z.1) (λ j. (sym l j, sym m j)) q
+
+  hold_agrees : (lo : Option (List ℕ)) → Agree (done_by a (hold_deed a lo)) (done_by b (hold_deed b lo))
+  unfolding hold
+  hold_agrees lo =
+      tile_agrees _ _ (hold_deed a lo) (hold_deed b lo) (hold_same a.book a.breaks a.worker lo) (hold_same b.book b.breaks b.worker lo)
+      (asked_agrees call.RequestStop (call.RequestStop 0) (λ g. refl) (place_at lo a.book.tiles) (place_at lo b.book.tiles)
+      (place_meet lo a.book b.book k.book))
+
+  put_back_agrees : (lo : Option (List ℕ)) (mark : StateValue) → Agree (done_by a (put_back_deed a lo mark)) (done_by b (put_back_deed b lo mark))
+  unfolding put_back
+  put_back_agrees lo mark =
+      tile_agrees _ _ (put_back_deed a lo mark) (put_back_deed b lo mark) (put_back_same a.book a.breaks a.worker lo mark)
+      (put_back_same b.book b.breaks b.worker lo mark)
+      (asked_agrees (λ (id : ℕ). call.PutBack id mark) (call.PutBack 0 mark) (λ g. refl) (place_at lo a.book.tiles)
+      (place_at lo b.book.tiles) (place_meet lo a.book b.book k.book))
+
+  -- ---- `open`
+
+  -- the call that leases an open tile
+  enter_alike : (i j : ℕ) → Correspond a.book.tiles i b.book.tiles j → AreAlikeOutcomes a.book b.book
+      (outcome a.book 0 (enter_call (tile_at a.book.tiles i))) (outcome b.book 0 (enter_call (tile_at b.book.tiles j)))
+  enter_alike i j q =
+      subst (λ (h : Bool). AreAlikeOutcomes a.book b.book (outcome a.book 0 (enter_call (tile_at a.book.tiles i)))
+      (outcome b.book 0 (entering h (tile_at b.book.tiles j).id)))
+      (sym (held_seen (tile_at a.book.tiles i).status) ∙ ap (λ (t : TileValue). is_held t.status) q.tile
+      ∙ held_seen (tile_at b.book.tiles j).status)
+      (by (is_held (tile_at a.book.tiles i).status))
+    where
+      entering : Bool → ℕ → Call
+      entering h id = cond h (call.TakeHeld id) (call.Lease id)
+
+      by : (h : Bool) → AreAlikeOutcomes a.book b.book (outcome a.book 0 (entering h (tile_at a.book.tiles i).id))
+          (outcome b.book 0 (entering h (tile_at b.book.tiles j).id))
+      by true = named_alike i j q (call.TakeHeld 0)
+      by false = named_alike i j q (call.Lease 0)
+
+  entered_agrees : (i j : ℕ) → Correspond a.book.tiles i b.book.tiles j
+      → Agree (on_desk a (entered_at a.book (Some i))) (on_desk b (entered_at b.book (Some j)))
+  entered_agrees i j q =
+      let o = enter_alike i j q in
+      let x = (outcome a.book 0 (enter_call (tile_at a.book.tiles i))).reply in
+      let y = (outcome b.book 0 (enter_call (tile_at b.book.tiles j))).reply in
+      let runner : runner_of (lent_worker a.book.problem x) ≡ runner_of (lent_worker b.book.problem y) =
+      runner_seen a.book.problem x ∙ (λ n. runner_of (lent_worker (k.book.problem n) (o.reply n))) ∙ sym (runner_seen b.book.problem y) in
+      record {
+        text = ap text_of (same_refusal (stand_lines (lent_worker a.book.problem x)) (stand_lines (lent_worker b.book.problem y)) x y
+            (stand_alike (lent_worker a.book.problem x) (lent_worker b.book.problem y) runner) o.reply);
+        session = record {
+          book = step_alike a.book b.book 0 0 (enter_call (tile_at a.book.tiles i)) (enter_call (tile_at b.book.tiles j)) k.book o;
+          runner = runner;
+          breaks = k.breaks;
+        };
+      }
+
+  found_agrees : (m n : Option ℕ) → Meet a.book.tiles b.book.tiles m n
+      → Agree (on_desk a (entered_at a.book m)) (on_desk b (entered_at b.book n))
+  found_agrees None None q = record { text = refl; session = record { book = k.book; runner = refl; breaks = k.breaks } }
+  found_agrees (Some i) (Some j) q = entered_agrees i j q
+  found_agrees None (Some j) q = absurd q
+  found_agrees (Some i) None q = absurd q
+
+  enter_agrees : (lo : Option (List ℕ)) → Agree (done_by a (enter_deed a lo)) (done_by b (enter_deed b lo))
+  enter_agrees lo =
+      both_open a.worker b.worker k.runner
+      (λ x y. Agree (done_by (seen a.book a.breaks x) (enter_deed (seen a.book a.breaks x) lo))
+      (done_by (seen b.book b.breaks y) (enter_deed (seen b.book b.breaks y) lo)))
+      (subst (λ (z : Answer × Answer). Agree z.0 z.1)
+      (λ j. (
+        sym (entered_same a.book a.breaks (place_at lo a.book.tiles)) j,
+        sym (entered_same b.book b.breaks (place_at lo b.book.tiles)) j,
+      ))
+      (found_agrees (place_at lo a.book.tiles) (place_at lo b.book.tiles) (place_meet lo a.book b.book k.book)))
+      (λ v w d e q. record {
+        text = refl;
+        session = record { book = k.book; runner = ap (λ (r : RunnerValue). Some r) q; breaks = k.breaks };
+      })
+
+  -- ---- each command
+
+  deeds_agree : (c : CommandValue) → Agree (done_by a (deed_of a c)) (done_by b (deed_of b c))
+  unfolding deed_of
+  deeds_agree command.Nothing = says_agree [] [] refl
+  deeds_agree (command.Step n) = walk_agrees _ _ (λ r. step_count r n) (λ r. step_count r n) (λ r. refl) (λ r. refl)
+  deeds_agree command.Run =
+      walk_agrees (run_lines a.breaks) (run_lines b.breaks) (run_count a.breaks) (run_count b.breaks)
+      (λ r. ap (λ (bs : List Break). run_lines bs r) k.breaks) (λ r. ap (λ (bs : List Break). run_count bs r) k.breaks)
+  deeds_agree (command.Back n) = back_agrees n
+  deeds_agree (command.SetBreak c) = breaks_agree _ _ _ _ (ap (λ (bs : List Break). with_break bs c) k.breaks)
+      (ap (λ (q : ProblemValue). set q.names c ∷ []) k.book.problem)
+  deeds_agree command.Clear = breaks_agree _ _ _ _ refl (ap (λ (bs : List Break). counted counts.Cleared (length bs) ∷ []) k.breaks)
+  deeds_agree (command.Ask question) = says_agree _ _ (ap (λ (v : View). question_lines v question) same_view)
+  deeds_agree (command.Split level option) = split_agrees level option
+  deeds_agree command.Park = end_agrees Park refl _ _ (λ v w q. refl)
+  deeds_agree command.Save = end_agrees Park refl _ _ (saved_same [] [] refl)
+  deeds_agree command.SaveBreaks = end_agrees Park refl _ _ (saved_same a.breaks b.breaks k.breaks)
+  deeds_agree command.Close = close_agrees
+  deeds_agree (command.Enter lo) = enter_agrees lo
+  deeds_agree command.Retract = retract_agrees
+  deeds_agree (command.Hold lo) = hold_agrees lo
+  deeds_agree (command.PutBack lo state) = put_back_agrees lo state
+
+  pub answer_alike : (c : CommandValue) → AreAlikeAnswers (answer a c) (answer b c)
+  answer_alike c =
+      let q = deeds_agree c in
+      record {
+        text = q.text;
+        sessions = record { sound = answer_sound a p.sound c; also_sound = answer_sound b p.also_sound c; alike = q.session };
+      }
+
+  -- ---- a line
+
+  pub line_alike : (line : List ℕ) → AreAlikeAnswers (answer_line a line) (answer_line b line)
+  line_alike line =
+      let q = subst (λ (x : ProblemValue). Agree (answer_line a line) (done_by b (deed_if b (command_of x line)))) k.book.problem
+      (by (command_of a.book.problem line)) in
+      record {
+        text = q.text;
+        sessions = record { sound = line_sound a p.sound line; also_sound = line_sound b p.also_sound line; alike = q.session };
+      }
+    where
+      by : (c : Option CommandValue) → Agree (done_by a (deed_if a c)) (done_by b (deed_if b c))
+      by None = says_agree (debug_refusal BadCommand ∷ []) (debug_refusal BadCommand ∷ []) refl
+      by (Some c) = deeds_agree c
+
+  -- ---- a text that is loaded
+
+  stays_agree : (l : List (List ℕ)) → Agree (answers l a) (answers l b)
+  stays_agree l = record { text = refl; session = k }
+
+  loaded_agree : (v : SnapshotValue) → Agree (answers (state_line v.state) (loaded a v)) (answers (state_line v.state) (loaded b v))
+  loaded_agree v = record {
+    text = refl;
+    session = record {
+      book = record { problem = refl; branch = refl; first = refl; tiles = refl };
+      runner = refl;
+      breaks = ap (λ (bs : List Break). breaks_of bs v.breaks) k.breaks;
+    };
+  }
+
+  load_agrees : (o : Result SnapshotValue SnapshotFault) → Agree (load_by a o) (load_by b o)
+  load_agrees (Err e) = stays_agree (snapshot_refusal e)
+  load_agrees (Ok v) =
+      subst (λ (q : ProblemValue). Agree (load_by a (Ok v)) (loading (is_same v.problem q) b)) k.book.problem
+      (by (is_same v.problem a.book.problem))
+    where
+      loading : Bool → SessionValue → Answer
+      loading t s = cond t (answers (state_line v.state) (loaded s v)) (answers (book_refusal ForeignProblem) s)
+
+      by : (t : Bool) → Agree (loading t a) (loading t b)
+      by true = loaded_agree v
+      by false = stays_agree (book_refusal ForeignProblem)
+
+  text_agrees : (bytes : List ℕ) → Agree (load_answer a bytes) (load_answer b bytes)
+  unfolding load_answer
+  text_agrees bytes = load_agrees (snapshot_of bytes)
+
+  pub load_alike : (bytes : List ℕ) → AreAlikeAnswers (load_answer a bytes) (load_answer b bytes)
+  load_alike bytes =
+      let q = text_agrees bytes in
+      record {
+        text = q.text;
+        sessions = record { sound = load_sound a p.sound bytes; also_sound = load_sound b p.also_sound bytes; alike = q.session };
+      }

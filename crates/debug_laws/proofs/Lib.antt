@@ -1,0 +1,15 @@
+pub mod WorkWords
+pub mod BookLemmas
+pub mod LeasedLemmas
+pub mod WorkLemmas
+pub mod EndLemmas
+pub mod PlayedLemmas
+pub mod TurnLemmas
+pub mod SoundLemmas
+pub mod AlikeLemmas
+pub mod SeatLemmas
+pub mod TileLemmas
+pub mod AnswerLemmas
+pub mod PooledLemmas
+pub mod WholeLemmas
+pub mod SessionExamples

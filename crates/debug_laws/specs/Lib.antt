@@ -1,0 +1,2 @@
+pub mod AlikeSessions
+pub mod PlayedSessions

@@ -1,0 +1,47 @@
+//! Laws of alike sessions, over the definitions alone: each is a function that does nothing, whose contract is the law.
+ghost use Rattle.std.specs.Prelude.{ℕ, ◌≡◌, List};
+ghost use Rattle.lab_world.specs.World.{IsWorld};
+ghost use Rattle.cover_problem.specs.Problem.{ProblemValue};
+ghost use Rattle.lab_book.specs.Book.{BookValue};
+ghost use Rattle.debug_language.specs.Command.{CommandValue};
+ghost use Rattle.x_debug.specs.Session.{SessionValue, fresh_session};
+ghost use Rattle.x_debug.specs.Commands.{answer, answer_line, world_of};
+ghost use Rattle.x_debug.specs.Loading.{load_answer};
+ghost use Rattle.debug_laws.specs.AlikeSessions.{IsSoundSession, AreSoundAlike, LeavesSound, StopsSound, AgreeOn, PooledAlike};
+ghost use Rattle.debug_laws.specs.PlayedSessions.{SessionPlays, WholePlays, entered_world, whole_book, Loads};
+
+/// A new session of any problem is sound, and so is each session that a command, a line or a text that is loaded leaves of a sound
+/// one, also where memory runs out at a line. A sound session is alike to itself.
+pub fn sessions_are_sound()
+    ensures fresh { (p : ProblemValue) → IsSoundSession (fresh_session p) }
+    ensures command { (s : SessionValue) (c : CommandValue) → LeavesSound s (answer s c) }
+    ensures line { (s : SessionValue) (line : List ℕ) → LeavesSound s (answer_line s line) }
+    ensures load { (s : SessionValue) (bytes : List ℕ) → LeavesSound s (load_answer s bytes) }
+    ensures stopped { (s new : SessionValue) (line : List ℕ) → StopsSound s line new }
+    ensures itself { (s : SessionValue) → IsSoundSession s → AreSoundAlike s s }
+{}
+
+/// Sound sessions that are alike answer each command, each line and each text that is loaded with the same text, and stay alike and
+/// sound.
+pub fn alike_sessions_answer_the_same()
+    ensures command { (a b : SessionValue) (c : CommandValue) → AgreeOn a b (λ s. answer s c) }
+    ensures line { (a b : SessionValue) (line : List ℕ) → AgreeOn a b (λ s. answer_line s line) }
+    ensures load { (a b : SessionValue) (bytes : List ℕ) → AgreeOn a b (λ s. load_answer s bytes) }
+{}
+
+/// Whatever tiling a pool makes of the book of a session with no branch open, the session on it is alike to the session on the searched
+/// book, and to that of an alike session; all are sound.
+pub fn pooled_sessions_are_alike()
+    ensures { (a b : SessionValue) (new : BookValue) → PooledAlike a b new }
+{}
+
+/// A whole session is a run of a world of one worker: lines leave it as that worker does by the acts of all of them. A new session is a
+/// new world whose worker was leased the first tile that waits, and so is one on a text that is loaded. The world of a sound session is
+/// one: its worker, if it has a tile, holds it.
+pub fn sessions_are_played()
+    ensures session { (s : SessionValue) (lines : List (List ℕ)) → SessionPlays s lines }
+    ensures fresh { (p : ProblemValue) → world_of (fresh_session p) ≡ entered_world (whole_book p) }
+    ensures whole { (p : ProblemValue) (lines : List (List ℕ)) → WholePlays p lines }
+    ensures load { (s : SessionValue) (bytes : List ℕ) → Loads s bytes (load_answer s bytes) }
+    ensures world { (s : SessionValue) → IsSoundSession s → IsWorld (world_of s) }
+{}

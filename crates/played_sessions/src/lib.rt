@@ -1,4 +1,0 @@
-//! Laws of sessions as worlds of one worker. No code is here.
-#![tactic(auto)]
-
-pub mod laws;

@@ -9,10 +9,10 @@ use Rattle.cover_problem.specs.Problem.{ProblemValue}
 use Rattle.lab_book.specs.declared.entry.Entry.{Entry}
 use Rattle.lab_book.specs.Book.{BookValue, book_step, new_book, replayed, waiting_in, leased_in}
 use Rattle.lab_book.specs.Posted.{AllClosed}
-use Rattle.alike_books.specs.AlikeBooks.{held_tiles}
-use Rattle.alike_books.specs.Searched.{IsSearched}
-use Rattle.alike_books.proofs.SearchedLemmas.{none_open, all_closed}
-use Rattle.alike_books.proofs.PoolCallLemmas.{searched_by, open_held}
+use Rattle.lab_book_laws.specs.AlikeBooks.{held_tiles}
+use Rattle.lab_book_laws.specs.Searched.{IsSearched}
+use Rattle.lab_book_laws.proofs.SearchedLemmas.{none_open, all_closed}
+use Rattle.lab_book_laws.proofs.PoolCallLemmas.{searched_by, open_held}
 use Rattle.cover_problem.specs.declared.fault.Refused.{Refused}
 use Rattle.lab_pool.specs.declared.fault.PoolFault.{PoolFault}
 use Rattle.lab_pool.specs.declared.fault.PoolFault.TheVariants.{Held, Mismatch}

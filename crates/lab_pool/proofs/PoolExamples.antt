@@ -10,8 +10,8 @@ use Rattle.lab_book.specs.declared.entry.Reply.{Reply}
 use Rattle.lab_book.specs.declared.entry.Reply.TheVariants as reply
 use Rattle.lab_book.specs.declared.entry.Entry.{Entry}
 use Rattle.lab_book.specs.Book.{BookValue, leased_in}
-use Rattle.alike_books.specs.Searched.{searched, ArePoolCalls}
-use Rattle.alike_books.proofs.AlikeExamples.{cut, in_two}
+use Rattle.lab_book_laws.specs.Searched.{searched, ArePoolCalls}
+use Rattle.lab_book_laws.proofs.AlikeExamples.{cut, in_two}
 use Rattle.cover_problem.specs.declared.fault.Refused.{Refused}
 use Rattle.lab_pool.specs.declared.fault.PoolFault.{PoolFault}
 use Rattle.lab_pool.specs.declared.fault.PoolFault.TheVariants as faults

@@ -10,7 +10,7 @@ use Rattle.lab_book.specs.declared.kind.CallKind.TheVariants as kind
 use Rattle.lab_book.specs.Kinds.{kind_of}
 use Rattle.lab_desk.specs.declared.seat.Noted.{Noted}
 use Rattle.lab_desk.specs.Record.{SeatValue, noted, entry}
-use Rattle.alike_books.proofs.AlikeExamples.{in_two}
+use Rattle.lab_book_laws.proofs.AlikeExamples.{in_two}
 use Rattle.lab_pool.specs.declared.search.Next.TheVariants as next
 use Rattle.lab_pool.specs.Worker.{ending_call, next_after, EndsTile, LacksRoom}
 

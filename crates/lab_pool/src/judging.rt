@@ -5,9 +5,9 @@ ghost use Rattle.lab_book.specs.declared.entry.Call.{Call};
 ghost use Rattle.lab_book.specs.Kinds.{kind_of};
 ghost use Rattle.lab_book.specs.Book.{waiting_in, leased_in};
 ghost use Rattle.lab_book.specs.Posted.{AllClosed};
-ghost use Rattle.alike_books.specs.AlikeBooks.{held_tiles};
-ghost use Rattle.alike_books.specs.Searched as spec;
-ghost use Rattle.alike_books.specs.Searched.{ArePoolCalls, IsSearched};
+ghost use Rattle.lab_book_laws.specs.AlikeBooks.{held_tiles};
+ghost use Rattle.lab_book_laws.specs.Searched as spec;
+ghost use Rattle.lab_book_laws.specs.Searched.{ArePoolCalls, IsSearched};
 ghost use Rattle.lab_pool.specs.Pool.{GivenBack, OnlyHeld, IsDone, IsUnexplained, IfFault, GivesBack};
 
 use crate::fault::PoolFault;

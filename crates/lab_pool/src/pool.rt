@@ -6,8 +6,8 @@ ghost use Rattle.x_steps.specs.StateValue.{start};
 ghost use Rattle.x_branches.specs.Branch.{whole_run};
 ghost use Rattle.lab_book.specs.Book.{waiting_in, leased_in, new_book};
 ghost use Rattle.lab_book.specs.Posted.{AllClosed};
-ghost use Rattle.alike_books.specs.AlikeBooks.{held_tiles};
-ghost use Rattle.alike_books.specs.Searched.{IsSearched};
+ghost use Rattle.lab_book_laws.specs.AlikeBooks.{held_tiles};
+ghost use Rattle.lab_book_laws.specs.Searched.{IsSearched};
 ghost use Rattle.lab_pool.specs.Pool.{GoesOn, GivenBack, OnlyHeld, IfFault, FaultWhere, IsBadCount};
 
 use crate::fault::PoolFault;

@@ -1,9 +1,11 @@
 //! A worker's search of the tile that it leased.
-ghost use Rattle.std.specs.Prelude.{◌≡◌, ◌<◌, IfOk, IfErr, IfSome};
+ghost use Rattle.std.specs.Prelude.{◌≡◌, ◌<◌, IfOk, IfSome};
 ghost use Rattle.x_steps.specs.StateView.{state_value};
 ghost use Rattle.x_steps.specs.StateValue.{start};
 ghost use Rattle.x_branches.specs.Branch.{whole_run};
 ghost use Rattle.x_branches.specs.Runner.{runner_at};
+ghost use Rattle.x_branches.specs.Refusals.{CanShorten};
+ghost use Rattle.lab_book.specs.Calls.{CanBeSearched};
 ghost use Rattle.lab_desk.specs.Seats.{IsDeskBook};
 ghost use Rattle.lab_pool.specs.Worker.{next_after, EndsTile, LacksRoom};
 
@@ -43,7 +45,9 @@ pub(crate) enum Next {
 }
 
 /// Walks up to so many steps on, or to the branch's end. Memory may run out at a visit.
-fn walk_on<T: Table>(runner: &mut Runner<'_, T>) -> Result<(), AllocError> {
+fn walk_on<T: Table>(runner: &mut Runner<'_, T>) -> Result<(), AllocError>
+    ensures problem { runner.new.problem ≡ runner.old.problem }
+{
     let mut left = STEPS;
     'walking: for _ in 0..STEPS {
         if left == 0 {
@@ -77,37 +81,12 @@ pub(crate) fn first_runner<'p, T: Table>(
     Runner::new(alloc, problem, table, whole, &first).ok()
 }
 
-/// The runner in a branch, at a state there; None when out of memory. A worker's newest ticket is for the rest that it has just split
-/// off, and that rest begins where its search stands when its tile is done: so mostly it goes on, and walks to no state of its own.
-fn placed<'p, T: Table>(
-    alloc: Global,
-    runner: Runner<'p, T>,
-    branch: Branch<'p>,
-    state: &State,
-) -> Option<Runner<'p, T>>
-    ensures { IfSome result (λ r. r ≡ runner_at runner.entry.problem branch.entry (state_value state.now)) }
-{
-    if runner.state().same(state) {
-        return begun(runner, branch);
-    }
-    let problem = runner.problem();
-    Runner::new(alloc, problem, runner.into_table(), branch, state).ok()
-}
-
-/// The runner in another branch, where it stands; None when out of memory.
-fn begun<'p, T: Table>(runner: Runner<'p, T>, branch: Branch<'p>) -> Option<Runner<'p, T>>
-    ensures { IfSome result (λ r. r ≡ runner_at runner.entry.problem branch.entry runner.entry.position) }
-{
-    let mut runner = runner;
-    match runner.begin(branch) {
-        Ok(()) => Some(runner),
-        Err(_) => None,
-    }
-}
-
 /// The cut at the first option of the least level that has something untried, and a copy; None
 /// where nothing is untried.
-fn cut_twice<'p, T: Table>(runner: &Runner<'p, T>) -> Result<Option<(Cut<'p>, Cut<'p>)>, Next> {
+fn cut_twice<'p, T: Table>(runner: &Runner<'p, T>) -> Result<Option<(Cut<'p>, Cut<'p>)>, Next>
+    ensures can_end { IfOk result (λ r. IfSome r (λ cuts. CanShorten runner.now cuts.0)) }
+    ensures same { IfOk result (λ r. IfSome r (λ cuts. cuts.1 ≡ cuts.0)) }
+{
     let Some((level, option)) = runner.first_untried() else {
         return Ok(None);
     };
@@ -133,14 +112,12 @@ fn next_of(fault: &BookFault) -> Next
 }
 
 impl<'p, T: Table> Search<'p, T> {
-    /// Begins where a lease says. When out of memory the lease comes back.
-    pub fn begin(
-        alloc: Global,
-        runner: Runner<'p, T>,
-        leased: Leased<'p>,
-    ) -> Result<Search<'p, T>, Lease>
-        ensures lease { IfOk result (λ s. s.lease ≡ leased.entry.lease) }
-        ensures lease_back { IfErr result (λ lease. lease ≡ leased.entry.lease) }
+    /// Begins where a lease says. The runner goes there from where it stands: a worker's newest ticket is for the rest that it has
+    /// just split off, and that rest begins where its search stands when its tile is done.
+    pub fn begin(runner: Runner<'p, T>, leased: Leased<'p>) -> Search<'p, T>
+        requires { CanBeSearched runner.problem leased }
+        ensures lease { result.lease ≡ leased.entry.lease }
+        ensures runner { result.runner ≡ runner_at runner.entry.problem leased.entry.branch (state_value leased.entry.mark) }
     {
         let Leased {
             lease,
@@ -148,13 +125,12 @@ impl<'p, T: Table> Search<'p, T> {
             mark,
             waiting,
         } = leased;
-        match placed(alloc, runner, branch, &mark) {
-            Some(runner) => Ok(Search {
-                lease,
-                runner,
-                waiting,
-            }),
-            None => Err(lease),
+        let mut runner = runner;
+        runner.move_to(branch, mark);
+        Search {
+            lease,
+            runner,
+            waiting,
         }
     }
 
@@ -163,8 +139,10 @@ impl<'p, T: Table> Search<'p, T> {
         &mut self,
         station: &mut Station<'_, 'p, L, R, G>,
     ) -> Result<(), Next>
-        requires { self.old.lease.worker ≡ station.old.seat.now.number }
+        requires worker { self.old.lease.worker ≡ station.old.seat.now.number }
+        requires own { self.old.runner.problem ≡ L.whole }
         ensures lease { self.new.lease ≡ self.old.lease }
+        ensures problem { self.new.runner.problem ≡ self.old.runner.problem }
         ensures room { station.new.seat.now.kept ≡ station.old.seat.now.kept }
         ensures number { station.new.seat.now.number ≡ station.old.seat.now.number }
     {
@@ -178,10 +156,8 @@ impl<'p, T: Table> Search<'p, T> {
             Err(refused) => return Err(next_of(&refused.fault)),
         };
         let _ = station.lane.push(id);
-        match self.runner.shorten(copy) {
-            Ok(()) => Ok(()),
-            Err(_) => Err(Next::Refused),
-        }
+        self.runner.end_at(copy);
+        Ok(())
     }
 
     /// Posts what was walked. Answers whether the worker is asked to stop.
@@ -189,8 +165,10 @@ impl<'p, T: Table> Search<'p, T> {
         &mut self,
         station: &mut Station<'_, 'p, L, R, G>,
     ) -> Result<bool, Next>
-        requires { self.old.lease.worker ≡ station.old.seat.now.number }
+        requires worker { self.old.lease.worker ≡ station.old.seat.now.number }
+        requires own { self.old.runner.problem ≡ L.whole }
         ensures lease { self.new.lease ≡ self.old.lease }
+        ensures problem { self.new.runner.problem ≡ self.old.runner.problem }
         ensures room { station.new.seat.now.kept ≡ station.old.seat.now.kept }
         ensures number { station.new.seat.now.number ≡ station.old.seat.now.number }
     {
@@ -208,8 +186,10 @@ impl<'p, T: Table> Search<'p, T> {
 
     /// Walks, splits and posts once.
     fn go<L: Desking, R: Wait, G: Gate>(&mut self, station: &mut Station<'_, 'p, L, R, G>) -> Next
-        requires { self.old.lease.worker ≡ station.old.seat.now.number }
+        requires worker { self.old.lease.worker ≡ station.old.seat.now.number }
+        requires own { self.old.runner.problem ≡ L.whole }
         ensures lease { self.new.lease ≡ self.old.lease }
+        ensures problem { self.new.runner.problem ≡ self.old.runner.problem }
         ensures room { station.new.seat.now.kept ≡ station.old.seat.now.kept }
         ensures number { station.new.seat.now.number ≡ station.old.seat.now.number }
     {
@@ -239,8 +219,10 @@ impl<'p, T: Table> Search<'p, T> {
         &mut self,
         station: &mut Station<'_, 'p, L, R, G>,
     ) -> Next
-        requires { self.old.lease.worker ≡ station.old.seat.now.number }
+        requires worker { self.old.lease.worker ≡ station.old.seat.now.number }
+        requires own { self.old.runner.problem ≡ L.whole }
         ensures lease { self.new.lease ≡ self.old.lease }
+        ensures problem { self.new.runner.problem ≡ self.old.runner.problem }
         ensures room { station.new.seat.now.kept ≡ station.old.seat.now.kept }
         ensures number { station.new.seat.now.number ≡ station.old.seat.now.number }
     {
@@ -266,6 +248,7 @@ impl<'p, T: Table> Search<'p, T> {
         ensures ended { EndsTile result.1 station.new.seat.now self.entry.lease
             (IsDeskBook L.whole L.part L.begin L.opening (LacksRoom station.old.seat.now self.entry.lease)) }
         ensures number { station.new.seat.now.number ≡ station.old.seat.now.number }
+        ensures problem { result.0.problem ≡ self.entry.runner.problem }
     {
         let Search {
             lease,
@@ -286,10 +269,12 @@ impl<'p, T: Table> Search<'p, T> {
         self,
         station: &mut Station<'_, 'p, L, R, G>,
     ) -> (Runner<'p, T>, Next)
-        requires { self.lease.worker ≡ station.old.seat.now.number }
+        requires worker { self.lease.worker ≡ station.old.seat.now.number }
+        requires own { self.runner.problem ≡ L.whole }
         ensures ended { EndsTile result.1 station.new.seat.now self.entry.lease
             (IsDeskBook L.whole L.part L.begin L.opening (LacksRoom station.old.seat.now self.entry.lease)) }
         ensures number { station.new.seat.now.number ≡ station.old.seat.now.number }
+        ensures problem { result.0.problem ≡ self.entry.runner.problem }
     {
         let mut search = self;
         let next = search.go_on(station);

@@ -1,5 +1,6 @@
 //! Where a worker calls: the desk and the gate that all share, and its own seat and deque.
 ghost use Rattle.std.specs.Prelude.{◌≡◌, ◌<◌, ◌+◌, ◌⊎◌, IfOk, IfErr, OnErr, IfSome};
+ghost use Rattle.lab_book.specs.Calls.{CanBeSearched};
 ghost use Rattle.lab_desk.specs.Record.{NotesDone, AtSomeIndex};
 ghost use Rattle.lab_desk.specs.Seats.{IsDeskBook};
 ghost use Rattle.lab_pool.specs.Worker.{ending_call, Abandons, LacksRoom};
@@ -45,6 +46,7 @@ impl<'p, L: Desking, R: Wait, G: Gate> Station<'_, 'p, L, R, G> {
     /// Leases the tile of a ticket; None where it doesn't wait any more.
     fn lease(&mut self, id: u64) -> Result<Option<Leased<'p>>, AllocError>
         ensures worker { IfOk result (λ r. IfSome r (λ l. l.lease.worker ≡ self.old.seat.now.number)) }
+        ensures can_start { IfOk result (λ r. IfSome r (CanBeSearched L.whole)) }
         ensures number { self.new.seat.now.number ≡ self.old.seat.now.number }
     {
         let number = self.seat.number();
@@ -61,6 +63,7 @@ impl<'p, L: Desking, R: Wait, G: Gate> Station<'_, 'p, L, R, G> {
     /// Leases by a ticket of its own deque.
     fn lease_own(&mut self) -> Result<Option<Leased<'p>>, AllocError>
         ensures worker { IfOk result (λ r. IfSome r (λ l. l.lease.worker ≡ self.old.seat.now.number)) }
+        ensures can_start { IfOk result (λ r. IfSome r (CanBeSearched L.whole)) }
         ensures number { self.new.seat.now.number ≡ self.old.seat.now.number }
     {
         let rt = self.crew.rt;
@@ -88,6 +91,7 @@ impl<'p, L: Desking, R: Wait, G: Gate> Station<'_, 'p, L, R, G> {
     /// Leases by a ticket of another worker's deque: each is tried once, from the next number round.
     fn lease_stolen(&mut self) -> Result<Option<Leased<'p>>, AllocError>
         ensures worker { IfOk result (λ r. IfSome r (λ l. l.lease.worker ≡ self.old.seat.now.number)) }
+        ensures can_start { IfOk result (λ r. IfSome r (CanBeSearched L.whole)) }
         ensures number { self.new.seat.now.number ≡ self.old.seat.now.number }
     {
         let number = self.seat.number();
@@ -107,6 +111,7 @@ impl<'p, L: Desking, R: Wait, G: Gate> Station<'_, 'p, L, R, G> {
     /// Leases the first tile that waits, and waits for one while some is leased.
     fn lease_waiting(&mut self) -> Result<Option<Leased<'p>>, AllocError>
         ensures worker { IfOk result (λ r. IfSome r (λ l. l.lease.worker ≡ self.old.seat.now.number)) }
+        ensures can_start { IfOk result (λ r. IfSome r (CanBeSearched L.whole)) }
         ensures number { self.new.seat.now.number ≡ self.old.seat.now.number }
     {
         let number = self.seat.number();
@@ -120,6 +125,7 @@ impl<'p, L: Desking, R: Wait, G: Gate> Station<'_, 'p, L, R, G> {
     /// none waits and none is leased.
     pub fn next_tile(&mut self) -> Result<Option<Leased<'p>>, AllocError>
         ensures worker { IfOk result (λ r. IfSome r (λ l. l.lease.worker ≡ self.old.seat.now.number)) }
+        ensures can_start { IfOk result (λ r. IfSome r (CanBeSearched L.whole)) }
         ensures number { self.new.seat.now.number ≡ self.old.seat.now.number }
     {
         if let Some(leased) = self.lease_own()? {
@@ -133,13 +139,17 @@ impl<'p, L: Desking, R: Wait, G: Gate> Station<'_, 'p, L, R, G> {
 
     /// Splits a tile.
     pub fn split(&mut self, lease: &Lease, cut: Cut<'p>) -> Result<u64, Refused<BookFault, Cut<'p>>>
-        requires { lease.now.worker ≡ self.old.seat.now.number }
+        requires worker { lease.now.worker ≡ self.old.seat.now.number }
+        requires own { cut.problem ≡ L.whole }
         ensures room { self.new.seat.now.kept ≡ self.old.seat.now.kept }
         ensures number { self.new.seat.now.number ≡ self.old.seat.now.number }
     {
         let number = self.seat.number();
         self.crew.gate.before(number, GateCall::Split);
-        let split = self.crew.desk.split(self.crew.rt, self.seat, lease, cut);
+        let split = self
+            .crew
+            .desk
+            .split_own(self.crew.rt, self.seat, lease, cut);
         self.crew.gate.after(number, GateCall::Split);
         split
     }
@@ -150,13 +160,17 @@ impl<'p, L: Desking, R: Wait, G: Gate> Station<'_, 'p, L, R, G> {
         lease: &Lease,
         stretch: Stretch<'p>,
     ) -> Result<Posted, Refused<BookFault, Stretch<'p>>>
-        requires { lease.now.worker ≡ self.old.seat.now.number }
+        requires worker { lease.now.worker ≡ self.old.seat.now.number }
+        requires own { stretch.problem ≡ L.whole }
         ensures room { self.new.seat.now.kept ≡ self.old.seat.now.kept }
         ensures number { self.new.seat.now.number ≡ self.old.seat.now.number }
     {
         let number = self.seat.number();
         self.crew.gate.before(number, GateCall::Post);
-        let posted = self.crew.desk.post(self.crew.rt, self.seat, lease, stretch);
+        let posted = self
+            .crew
+            .desk
+            .post_own(self.crew.rt, self.seat, lease, stretch);
         self.crew.gate.after(number, GateCall::Post);
         posted
     }

@@ -2,6 +2,7 @@
 ghost use Rattle.std.specs.Prelude.{◌≡◌, ◌⊎◌, None, IfSome};
 ghost use Rattle.lab_book.specs.declared.entry.Call.TheVariants as calls;
 ghost use Rattle.lab_book.specs.declared.entry.Reply.TheVariants as replies;
+ghost use Rattle.lab_book.specs.Calls.{CanBeSearched};
 ghost use Rattle.lab_desk.specs.Seats.{IsDeskBook};
 ghost use Rattle.lab_pool.specs.Worker.{EndsIn, Abandons, LacksRoom};
 
@@ -21,21 +22,17 @@ fn search_tile<'p, T: Table, L: Desking, R: Wait, G: Gate>(
     runner: Runner<'p, T>,
     leased: Leased<'p>,
 ) -> Option<Runner<'p, T>>
-    requires { leased.lease.worker ≡ station.old.seat.now.number }
+    requires worker { leased.lease.worker ≡ station.old.seat.now.number }
+    requires own { runner.problem ≡ L.whole }
+    requires can { CanBeSearched L.whole leased }
     ensures ended { IfSome result (λ _. EndsIn station.new.seat.now (calls.Close leased.entry.lease) replies.Done
         ⊎ EndsIn station.new.seat.now (calls.Park leased.entry.lease) replies.Done) }
     ensures given_up { result ≡ None → Abandons station.new.seat.now leased.entry.lease
         (IsDeskBook L.whole L.part L.begin L.opening (LacksRoom station.old.seat.now leased.entry.lease)) }
     ensures number { station.new.seat.now.number ≡ station.old.seat.now.number }
+    ensures own { IfSome result (λ r. r.problem ≡ L.whole) }
 {
-    let search = match Search::begin(station.crew.alloc, runner, leased) {
-        Ok(search) => search,
-        Err(lease) => {
-            station.lacks_memory();
-            station.give_up(lease);
-            return None;
-        }
-    };
+    let search = Search::begin(runner, leased);
     let (runner, next) = search.run(station);
     match next {
         Next::Done => Some(runner),

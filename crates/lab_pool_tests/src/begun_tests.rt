@@ -1,6 +1,6 @@
 //! Two workers on threads over books that were begun by others.
 
-use crate::books::{begins_with, begun, from_the_cut, is_done};
+use crate::books::{begun, from_the_cut, is_done, is_gone_on};
 use cover_bits::BitTable;
 use cover_problem::{Problem, read_cover};
 use drawn_books::value_of;
@@ -54,22 +54,6 @@ fn search_the_small_rest<R: Threads + Wait + Sync>(rt: &R, alloc: Global) -> Res
 fn workers_search_the_rest_of_a_run(rt: HostRuntime) -> Result<(), Fail> {
     assert!(rt; search_the_small_rest(&rt, rt.alloc())?);
     Ok(())
-}
-
-/// Whether the history of a book begins with the three entries of another one.
-fn begins_with_three(book: &Book<'_>, old: &Book<'_>) -> bool {
-    old.history().len() == 3 && begins_with(book, old)
-}
-
-/// The same of the book that was begun by hand.
-fn begins_so(alloc: Global, problem: &Problem, book: &Book<'_>) -> Result<bool, Fail> {
-    let old = begun(alloc, problem)?;
-    Ok(begins_with_three(book, &old))
-}
-
-/// Whether a book is finished, and goes on from there.
-fn is_gone_on(alloc: Global, problem: &Problem, book: &Book<'_>) -> Result<bool, Fail> {
-    Ok(is_done(book, 43)? && begins_so(alloc, problem, book)?)
 }
 
 /// The book that was begun by hand, and that two workers finish.

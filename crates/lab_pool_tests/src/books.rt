@@ -88,6 +88,22 @@ pub fn begun<'p>(alloc: Global, problem: &'p Problem) -> Result<Book<'p>, Fail> 
     called(book, is_parked)
 }
 
+/// Whether the history of a book begins with the three entries of another one.
+fn begins_with_three(book: &Book<'_>, old: &Book<'_>) -> bool {
+    old.history().len() == 3 && begins_with(book, old)
+}
+
+/// The same of the book in which 30 steps are posted.
+fn begins_so(alloc: Global, problem: &Problem, book: &Book<'_>) -> Result<bool, Fail> {
+    let old = begun(alloc, problem)?;
+    Ok(begins_with_three(book, &old))
+}
+
+/// Whether a book is the small problem's, finished, and goes on from that one.
+pub fn is_gone_on(alloc: Global, problem: &Problem, book: &Book<'_>) -> Result<bool, Fail> {
+    Ok(is_done(book, 43)? && begins_so(alloc, problem, book)?)
+}
+
 /// Whether a worker posts so many steps of a tile, and closes it.
 pub fn posts_and_closes(alloc: Global, book: &mut Book<'_>, worker: u8, id: u64, steps: u32) -> bool
     requires { worker ≤ 31 }

@@ -1,11 +1,12 @@
 //! A gate that holds each worker before its first lease until all of them have come there.
 
 use crate::books::is_done;
+use crate::pools::finished_under;
 use cover_bits::BitTable;
 use cover_problem::{Problem, read_cover};
 use drawn_problems::SMALL;
 use lab_book::Book;
-use lab_pool::{Gate, GateCall, run_pool};
+use lab_pool::{Gate, GateCall};
 use std::alloc::Global;
 use std::sync::Wait;
 use std::sync::atomic::{AtomicBool, AtomicU64, Ordering};
@@ -66,20 +67,6 @@ impl Gate for UntilAllCame {
     fn after(&self, _worker: u8, _call: GateCall) {}
 }
 
-/// The book that so many workers finish under a gate.
-fn finished_under<'p, R: Threads + Wait + Sync, G: Gate>(
-    rt: &R,
-    alloc: Global,
-    problem: &'p Problem,
-    workers: u32,
-    gate: &G,
-) -> Option<Book<'p>> {
-    match run_pool::<BitTable, _, _>(rt, alloc, problem, workers, gate) {
-        Ok(book) => Some(book),
-        Err(_) => None,
-    }
-}
-
 /// Whether a book is the small problem's, finished.
 fn is_small_done(book: &Option<Book<'_>>) -> Result<bool, Fail> {
     match book {
@@ -96,7 +83,7 @@ fn come_to_lease<R: Threads + Wait + Sync>(
     workers: u32,
 ) -> Result<bool, Fail> {
     let gate = UntilAllCame::new(workers);
-    let book = finished_under(rt, alloc, problem, workers, &gate);
+    let book = finished_under::<BitTable, R, _>(rt, alloc, problem, workers, &gate);
     Ok(gate.is_right() && is_small_done(&book)?)
 }
 

@@ -1,6 +1,6 @@
 //! Two seats at a desk, whose calls are made by hand.
 
-use crate::books::{begins_with, begun, held_before, is_done};
+use crate::books::{begun, held_before, is_done, is_gone_on};
 use crate::desks::{Way, Work, at_desk};
 use cover_problem::{Problem, read_cover};
 use drawn_books::{has_tiles, tiles_of};
@@ -9,6 +9,7 @@ use lab_book::{Book, Tile};
 use std::alloc::Global;
 use std::sync::Wait;
 use std::test::Fail;
+use std::thread::Threads;
 
 /// Whether a book is finished with the small problem's steps and cover, and so many entries.
 fn is_done_so(book: &Book<'_>, entries: usize) -> Result<bool, Fail> {
@@ -16,7 +17,7 @@ fn is_done_so(book: &Book<'_>, entries: usize) -> Result<bool, Fail> {
 }
 
 /// Whether two seats finish a problem as the small one has to be, with so many entries in the end.
-fn finish<R: Wait>(
+fn finish<R: Threads + Wait + Sync>(
     rt: &R,
     alloc: Global,
     problem: &Problem,
@@ -32,7 +33,7 @@ fn finish<R: Wait>(
 }
 
 /// The same of the small problem.
-fn finish_the_small<R: Wait>(
+fn finish_the_small<R: Threads + Wait + Sync>(
     rt: &R,
     alloc: Global,
     todo: Work,
@@ -56,7 +57,12 @@ fn a_seat_is_missing(rt: HostRuntime) -> Result<(), Fail> {
 }
 
 /// Whether a desk where nothing is called, and that isn't finished by one seat of the two, leaves these tiles of a book.
-fn leaves_these<'p, R: Wait>(rt: &R, alloc: Global, book: Book<'p>, tiles: &[Tile<'p>]) -> bool {
+fn leaves_these<'p, R: Threads + Wait + Sync>(
+    rt: &R,
+    alloc: Global,
+    book: Book<'p>,
+    tiles: &[Tile<'p>],
+) -> bool {
     match at_desk(rt, alloc, book, Work::Nothing, Way::OneShort) {
         Some(book) => has_tiles(&book, tiles),
         None => false,
@@ -64,13 +70,17 @@ fn leaves_these<'p, R: Wait>(rt: &R, alloc: Global, book: Book<'p>, tiles: &[Til
 }
 
 /// The same of the tiles that it has now.
-fn leaves_tiles<R: Wait>(rt: &R, alloc: Global, book: Book<'_>) -> Result<bool, Fail> {
+fn leaves_tiles<R: Threads + Wait + Sync>(
+    rt: &R,
+    alloc: Global,
+    book: Book<'_>,
+) -> Result<bool, Fail> {
     let tiles = tiles_of(alloc, &book)?;
     Ok(leaves_these(rt, alloc, book, &tiles))
 }
 
 /// The same of the small problem's book with a held tile.
-fn leaves_small_tiles<R: Wait>(rt: &R, alloc: Global) -> Result<bool, Fail> {
+fn leaves_small_tiles<R: Threads + Wait + Sync>(rt: &R, alloc: Global) -> Result<bool, Fail> {
     let problem = read_cover(alloc, SMALL.as_bytes())?;
     let book = held_before(alloc, &problem)?;
     leaves_tiles(rt, alloc, book)
@@ -89,7 +99,11 @@ fn seats_are_handed_in_in_any_order(rt: HostRuntime) -> Result<(), Fail> {
 }
 
 /// Whether the small problem's desk is finished after its seats were refused so many calls together.
-fn finishes_after<R: Wait>(rt: &R, alloc: Global, entries: usize) -> Result<bool, Fail> {
+fn finishes_after<R: Threads + Wait + Sync>(
+    rt: &R,
+    alloc: Global,
+    entries: usize,
+) -> Result<bool, Fail> {
     let problem = read_cover(alloc, SMALL.as_bytes())?;
     let book = Book::new(alloc, &problem)?;
     match at_desk(rt, alloc, book, Work::Ask, Way::Turned) {
@@ -110,32 +124,20 @@ fn a_stopped_tile_is_held_and_taken(rt: HostRuntime) -> Result<(), Fail> {
     Ok(())
 }
 
-/// Whether the second of two books has 3 entries more than the first, after the same ones.
-fn goes_on(old: &Book<'_>, new: &Book<'_>) -> bool {
-    old.history().len() == 3 && new.history().len() == 6 && begins_with(new, old)
-}
-
-/// Whether a book goes on from the one with 30 steps posted.
-fn goes_on_from_begun(alloc: Global, problem: &Problem, book: &Book<'_>) -> Result<bool, Fail> {
-    let old = begun(alloc, problem)?;
-    Ok(goes_on(&old, book))
-}
-
-/// Whether it is finished, too.
-fn is_gone_on(alloc: Global, problem: &Problem, book: &Book<'_>) -> Result<bool, Fail> {
-    Ok(is_done(book, 43)? && goes_on_from_begun(alloc, problem, book)?)
-}
-
-/// Whether a desk goes on so with that book.
-fn goes_on_at_desk<R: Wait>(rt: &R, alloc: Global, problem: &Problem) -> Result<bool, Fail> {
+/// Whether a desk goes on with the book in which 30 steps are posted, by three entries more.
+fn goes_on_at_desk<R: Threads + Wait + Sync>(
+    rt: &R,
+    alloc: Global,
+    problem: &Problem,
+) -> Result<bool, Fail> {
     match at_desk(rt, alloc, begun(alloc, problem)?, Work::GoOn, Way::All) {
-        Some(book) => is_gone_on(alloc, problem, &book),
+        Some(book) => Ok(book.history().len() == 6 && is_gone_on(alloc, problem, &book)?),
         None => Ok(false),
     }
 }
 
 /// The same of the small problem.
-fn goes_on_at_small_desk<R: Wait>(rt: &R, alloc: Global) -> Result<bool, Fail> {
+fn goes_on_at_small_desk<R: Threads + Wait + Sync>(rt: &R, alloc: Global) -> Result<bool, Fail> {
     let problem = read_cover(alloc, SMALL.as_bytes())?;
     goes_on_at_desk(rt, alloc, &problem)
 }

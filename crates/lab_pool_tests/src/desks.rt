@@ -2,6 +2,7 @@
 ghost use Rattle.std.specs.Prelude.{◌≡◌, IfSome};
 
 use crate::searches::{Search, begin};
+use crate::waiting::{End, given_while_ended};
 use drawn_books::lease_in;
 use lab_book::{Book, BookFault, Posted};
 use lab_desk::{Desk, Desking, Seat};
@@ -9,6 +10,7 @@ use std::alloc::Global;
 use std::marker::Brand;
 use std::sync::Wait;
 use std::sync::ledger::{Blank, Ledger};
+use std::thread::Threads;
 use x_steps::Refused;
 
 /// What the two seats do.
@@ -24,6 +26,8 @@ pub enum Work {
     Nothing,
     /// Both ask the worker of a tile that there isn't to stop, which is refused, more than 65,536 times together.
     Ask,
+    /// The second waits for a tile while the first ends the only one, and is given it, or isn't.
+    Wait { end: End, given: bool },
 }
 
 /// How the seats are handed in.
@@ -164,8 +168,23 @@ fn ask<L: Desking, R: Wait>(
     true
 }
 
+/// Whether the second seat, which waits while the first ends the only tile so, is told what it should be.
+fn wait<L: Desking + Send + Sync, R: Threads + Wait + Sync>(
+    rt: &R,
+    desk: &Desk<'_, L>,
+    first: &mut Seat<L>,
+    second: &mut Seat<L>,
+    end: End,
+    given: bool,
+) -> bool {
+    match given_while_ended(rt, desk, first, second, end) {
+        Some(is_given) => is_given == given,
+        None => false,
+    }
+}
+
 /// Whether the two seats do what they have to.
-fn act<'p, L: Desking, R: Wait>(
+fn act<'p, L: Desking + Send + Sync, R: Threads + Wait + Sync>(
     rt: &R,
     alloc: Global,
     desk: &Desk<'p, L>,
@@ -186,11 +205,12 @@ fn act<'p, L: Desking, R: Wait>(
         }
         Work::Nothing => true,
         Work::Ask => ask(rt, desk, first, second),
+        Work::Wait { end, given } => wait(rt, desk, first, second, end, given),
     }
 }
 
 /// The two seats of a desk.
-pub fn two<L: Ledger>(seats: Vec<Seat<L>>) -> Option<(Seat<L>, Seat<L>)> {
+fn two<L: Ledger>(seats: Vec<Seat<L>>) -> Option<(Seat<L>, Seat<L>)> {
     let mut seats = seats;
     let second = seats.pop()?;
     let first = seats.pop()?;
@@ -248,17 +268,14 @@ fn refused<'p, L: Desking>(
 }
 
 /// The book of a desk that these seats finish.
-pub fn finished<'p, L: Desking>(
+fn finished<'p, L: Desking>(
     alloc: Global,
     desk: Desk<'p, L>,
     one: Seat<L>,
     other: Seat<L>,
 ) -> Option<Book<'p>> {
     let seats = row(alloc, one, Some(other))?;
-    match desk.finish(seats) {
-        Ok(book) => Some(book),
-        Err(_) => None,
-    }
+    desk.finish(seats).ok()
 }
 
 /// The same, after the first seat was handed in alone.
@@ -288,7 +305,7 @@ fn finished_so<'p, L: Desking>(
 }
 
 /// The book that a desk's two seats finish; None where a call isn't answered as it should be.
-fn finished_by<'p, L: Desking, R: Wait>(
+fn finished_by<'p, L: Desking + Send + Sync, R: Threads + Wait + Sync>(
     rt: &R,
     alloc: Global,
     desk: Desk<'p, L>,
@@ -304,7 +321,7 @@ fn finished_by<'p, L: Desking, R: Wait>(
 }
 
 /// The same of a desk of this ledger over a book.
-fn at_desk_of<'p, L: Desking, R: Wait>(
+fn at_desk_of<'p, L: Desking + Send + Sync, R: Threads + Wait + Sync>(
     rt: &R,
     alloc: Global,
     blank: Blank,
@@ -326,7 +343,7 @@ fn at_desk_of<'p, L: Desking, R: Wait>(
 }
 
 /// The book that two seats of a desk finish; None where a call isn't answered as it should be.
-pub fn at_desk<'p, R: Wait>(
+pub fn at_desk<'p, R: Threads + Wait + Sync>(
     rt: &R,
     alloc: Global,
     book: Book<'p>,

@@ -1,9 +1,10 @@
 //! A gate that holds a worker until the other one stole a ticket.
 
+use crate::pools::finished_under;
 use cover_bits::BitTable;
 use cover_problem::{Problem, read_cover};
 use lab_book::Book;
-use lab_pool::{Gate, GateCall, run_pool};
+use lab_pool::{Gate, GateCall};
 use std::alloc::{AllocError, Global};
 use std::sync::Wait;
 use std::sync::atomic::{AtomicBool, AtomicU64, Ordering};
@@ -121,19 +122,6 @@ fn dominoes(alloc: Global) -> Result<Problem, Fail> {
     Ok(read_cover(alloc, text.as_bytes())?)
 }
 
-/// The book that two workers finish under a gate.
-fn finished_under<'p, R: Threads + Wait + Sync, G: Gate>(
-    rt: &R,
-    alloc: Global,
-    problem: &'p Problem,
-    gate: &G,
-) -> Option<Book<'p>> {
-    match run_pool::<BitTable, _, _>(rt, alloc, problem, 2, gate) {
-        Ok(book) => Some(book),
-        Err(_) => None,
-    }
-}
-
 /// How many visits and steps a book has; none where there is no book.
 fn visits_and_steps(book: &Option<Book<'_>>) -> (u128, u128) {
     match book {
@@ -145,7 +133,7 @@ fn visits_and_steps(book: &Option<Book<'_>>) -> (u128, u128) {
 /// Whether a ticket is stolen, and the dominoes' visits and steps are found.
 fn is_stolen<R: Threads + Wait + Sync>(rt: &R, alloc: Global, problem: &Problem) -> bool {
     let gate = UntilStolen::new();
-    let book = finished_under(rt, alloc, problem, &gate);
+    let book = finished_under::<BitTable, R, _>(rt, alloc, problem, 2, &gate);
     gate.is_right() && visits_and_steps(&book) == (960, 14_487)
 }
 

@@ -20,6 +20,8 @@ mod memory_tests;
 #[cfg(test)]
 mod pool_tests;
 #[cfg(test)]
+mod pools;
+#[cfg(test)]
 mod searches;
 #[cfg(test)]
 mod waiting;

@@ -1,6 +1,6 @@
 //! A desk to which memory is refused: blank and book come back, the book as it was, and the same desk is made of them then. And a pool
 //! to which it is refused: it hands out its book, with no tile leased, and the rest is searched then.
-//! `tools/check_memory` runs these tests with one growth refused, each growth in turn.
+//! `dev/check_memory` runs these tests with one growth refused, each growth in turn.
 ghost use Rattle.std.specs.Prelude.{◌≡◌};
 
 use crate::books::{begins_with, begun};

@@ -1,6 +1,7 @@
 //! Workers on threads, of several numbers, over the small problem.
 
 use crate::books::is_done;
+use crate::pools::finished_under;
 use cover_links::LinkTable;
 use cover_problem::{Problem, read_cover};
 use drawn_problems::SMALL;
@@ -10,19 +11,6 @@ use std::alloc::Global;
 use std::sync::Wait;
 use std::test::Fail;
 use std::thread::Threads;
-
-/// The book that so many workers finish; None where they are refused.
-fn finished_by<'p, R: Threads + Wait + Sync>(
-    rt: &R,
-    alloc: Global,
-    problem: &'p Problem,
-    workers: u32,
-) -> Option<Book<'p>> {
-    match run_pool::<LinkTable, _, _>(rt, alloc, problem, workers, &NoGate) {
-        Ok(book) => Some(book),
-        Err(_) => None,
-    }
-}
 
 /// Why so many workers are refused.
 fn refusal_of<R: Threads + Wait + Sync>(
@@ -49,7 +37,7 @@ fn find_the_cover<R: Threads + Wait + Sync>(
     problem: &Problem,
     workers: u32,
 ) -> Result<bool, Fail> {
-    match finished_by(rt, alloc, problem, workers) {
+    match finished_under::<LinkTable, R, _>(rt, alloc, problem, workers, &NoGate) {
         Some(book) => is_small_done(&book),
         None => Ok(false),
     }

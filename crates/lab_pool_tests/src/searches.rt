@@ -41,9 +41,7 @@ fn cut_twice<'p>(
     option: u32,
 ) -> Option<(Cut<'p>, Cut<'p>)> {
     advance(runner, steps).ok()?;
-    let Ok(cut) = runner.cut(0, option) else {
-        return None;
-    };
+    let cut = runner.cut(0, option).ok()?;
     match cut.copy() {
         Ok(copy) => Some((cut, copy)),
         Err(_) => None,
@@ -64,10 +62,7 @@ impl<'p> Search<'p> {
         ensures number { seat.new.number ≡ seat.old.number }
     {
         let stretch = walked(&mut self.runner, steps).ok()?;
-        match desk.post(rt, seat, &self.lease, stretch) {
-            Ok(posted) => Some(posted),
-            Err(_) => None,
-        }
+        desk.post(rt, seat, &self.lease, stretch).ok()
     }
 
     /// Splits at a desk after so many steps, at an option of the first level.
@@ -84,13 +79,16 @@ impl<'p> Search<'p> {
         ensures number { seat.new.number ≡ seat.old.number }
     {
         let (cut, copy) = cut_twice(&mut self.runner, steps, option)?;
-        let Ok(id) = desk.split(rt, seat, &self.lease, cut) else {
-            return None;
-        };
-        match self.runner.shorten(copy) {
-            Ok(()) => Some(id),
-            Err(_) => None,
-        }
+        let id = desk.split(rt, seat, &self.lease, cut).ok();
+        self.end_at(copy, id)
+    }
+
+    /// The id of the tile that was split off, once the runner's branch ends at the cut.
+    fn end_at(&mut self, cut: Cut<'p>, id: Option<u64>) -> Option<u64>
+        ensures { self.new.lease ≡ self.old.lease }
+    {
+        self.runner.shorten(cut).ok()?;
+        id
     }
 
     /// Closes the tile at a desk; if that is refused, the lease is let go.
@@ -114,22 +112,14 @@ impl<'p> Search<'p> {
     /// Posts to a book after so many steps.
     pub fn post_to(&mut self, book: &mut Book<'p>, steps: u32) -> Option<Posted> {
         let stretch = walked(&mut self.runner, steps).ok()?;
-        match book.post(&self.lease, stretch) {
-            Ok(posted) => Some(posted),
-            Err(_) => None,
-        }
+        book.post(&self.lease, stretch).ok()
     }
 
     /// Splits in a book after so many steps, at an option of the first level.
     pub fn split_in(&mut self, book: &mut Book<'p>, steps: u32, option: u32) -> Option<u64> {
         let (cut, copy) = cut_twice(&mut self.runner, steps, option)?;
-        let Ok(id) = book.split(&self.lease, cut) else {
-            return None;
-        };
-        match self.runner.shorten(copy) {
-            Ok(()) => Some(id),
-            Err(_) => None,
-        }
+        let id = book.split(&self.lease, cut).ok();
+        self.end_at(copy, id)
     }
 
     /// Closes the tile in a book; if that is refused, the lease is let go.

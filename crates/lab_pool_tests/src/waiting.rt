@@ -1,15 +1,11 @@
 //! A seat of a desk that waits for a tile, on a thread of its own, while the other one ends the only tile.
 ghost use Rattle.std.specs.Prelude.{◌≡◌};
 
-use crate::desks::{finished, two};
 use drawn_books::{is_ended, lease_in};
-use lab_book::{Book, Lease};
+use lab_book::Lease;
 use lab_desk::{Desk, Desking, Seat};
-use std::alloc::Global;
-use std::marker::Brand;
 use std::sync::Wait;
 use std::sync::atomic::{AtomicBool, Ordering};
-use std::sync::ledger::Blank;
 use std::thread;
 use std::thread::Threads;
 
@@ -114,8 +110,9 @@ fn waits<L: Desking, R: Wait>(
     }
 }
 
-/// Whether the second seat, which waits while the first ends the only tile so, is given a tile.
-fn act<L: Desking + Send + Sync, R: Threads + Wait + Sync>(
+/// Whether the second seat, which waits while the first ends the only tile so, is given a tile; None where a call isn't answered as it
+/// should be.
+pub fn given_while_ended<L: Desking + Send + Sync, R: Threads + Wait + Sync>(
     rt: &R,
     desk: &Desk<'_, L>,
     first: &mut Seat<L>,
@@ -132,50 +129,4 @@ fn act<L: Desking + Send + Sync, R: Threads + Wait + Sync>(
         || leases_and_ends(rt, desk, first, end, &progress),
     );
     if ended { given } else { None }
-}
-
-/// Whether the waiting seat was given a tile, and the book of the desk that the two seats finish.
-fn finished_by<'p, L: Desking + Send + Sync, R: Threads + Wait + Sync>(
-    rt: &R,
-    alloc: Global,
-    desk: Desk<'p, L>,
-    seats: Vec<Seat<L>>,
-    end: End,
-) -> Option<(bool, Book<'p>)> {
-    let (mut first, mut second) = two(seats)?;
-    let given = act(rt, &desk, &mut first, &mut second, end)?;
-    let book = finished(alloc, desk, first, second)?;
-    Some((given, book))
-}
-
-/// The same of a desk of this ledger over a book.
-fn at_desk_of<'p, L: Desking + Send + Sync, R: Threads + Wait + Sync>(
-    rt: &R,
-    alloc: Global,
-    blank: Blank,
-    book: Book<'p>,
-    end: End,
-) -> Option<(bool, Book<'p>)>
-    requires name { blank.name ≡ L.name }
-    requires parts { (blank.parts ≡ L.parts) × (blank.parts ≡ 2) }
-    requires opening { book.history ≡ L.opening }
-    requires whole { book.problem ≡ L.whole }
-    requires part { book.branch ≡ L.part }
-    requires begin { book.first ≡ L.begin }
-{
-    match Desk::<L>::new(alloc, blank, book, 2) {
-        Ok((desk, seats)) => finished_by(rt, alloc, desk, seats, end),
-        Err(_) => None,
-    }
-}
-
-/// Whether a seat that waits while the other ends the only tile is given it, and the book that they finish; None where a call isn't
-/// answered as it should be.
-pub fn while_ended<'p, R: Threads + Wait + Sync>(
-    rt: &R,
-    alloc: Global,
-    book: Book<'p>,
-    end: End,
-) -> Option<(bool, Book<'p>)> {
-    at_desk_of::<Brand, R>(rt, alloc, Blank::new(2), book, end)
 }

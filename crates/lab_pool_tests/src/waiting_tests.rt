@@ -1,6 +1,7 @@
 //! A seat that waits for a tile while the other one parks or abandons the only one.
 
-use crate::waiting::{End, while_ended};
+use crate::desks::{Way, Work, at_desk};
+use crate::waiting::End;
 use cover_problem::{Problem, read_cover};
 use drawn_problems::SMALL;
 use lab_book::{Book, Status};
@@ -27,10 +28,9 @@ fn is_woken<R: Threads + Wait + Sync>(
     status: Status,
 ) -> Result<bool, Fail> {
     let book = Book::new(alloc, problem)?;
-    match while_ended(rt, alloc, book, end) {
-        Some((given, book)) => Ok(
-            given == (status == Status::Waiting) && is_left(&book, status, 4),
-        ),
+    let given = status == Status::Waiting;
+    match at_desk(rt, alloc, book, Work::Wait { end, given }, Way::All) {
+        Some(book) => Ok(is_left(&book, status, 4)),
         None => Ok(false),
     }
 }

@@ -4,7 +4,7 @@ use Rattle.std.proofs.lemmas.Bool.{false≢true}
 use Rattle.lab_book.specs.declared.entry.Entry.{Entry}
 use Rattle.lab_book.specs.Kinds.{kind_of}
 use Rattle.lab_book.proofs.PlaceLemmas.{passes, fails, told}
-use Rattle.alike_books.specs.Searched.{is_pool_call}
+use Rattle.lab_book_laws.specs.Searched.{is_pool_call}
 use Rattle.lab_pool.proofs.judging.are_pool_calls.Goals as goal
 
 pub returns-then-not-is_pool_call : goal.returns-then-not-is_pool_call

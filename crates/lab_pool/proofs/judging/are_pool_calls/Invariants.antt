@@ -1,7 +1,7 @@
 use Rattle.std.proofs.Common.{◌≡◌, drop}
 use Rattle.std.specs.List.{list_all}
 use Rattle.lab_book.specs.declared.entry.Entry.{Entry}
-use Rattle.alike_books.specs.Searched.{is_pool_call}
+use Rattle.lab_book_laws.specs.Searched.{is_pool_call}
 use Rattle.lab_pool.proofs.judging.are_pool_calls.Given as goal
 
 abbrev pub invariant-asking : goal.invariant-asking

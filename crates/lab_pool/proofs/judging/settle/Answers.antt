@@ -1,4 +1,4 @@
-use Rattle.alike_books.specs.Searched.{IsSearched}
+use Rattle.lab_book_laws.specs.Searched.{IsSearched}
 use Rattle.lab_pool.specs.Pool.{OnlyHeld}
 use Rattle.lab_pool.proofs.DoneLemmas.{still_searched, none_was_held, else_finished, given_some, told, denied}
 use Rattle.lab_pool.proofs.judging.settle.Goals as goal

@@ -5,3 +5,4 @@ abbrev pub invariant-searching : goal.invariant-searching
 invariant-searching g l = (goal.iterator-searching g).can_next l.iterator' × (goal.iterator-searching g).is_finite l.iterator'
     × (l.self.lease ≡ l.fn.self.lease) × (l.station.seat.now.number ≡ l.fn.station.seat.now.number)
     × (l.station.seat.now.kept ≡ l.fn.station.seat.now.kept)
+    × (l.self.runner.problem ≡ l.fn.self.runner.problem)

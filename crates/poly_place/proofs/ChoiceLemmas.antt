@@ -1,5 +1,4 @@
--- Which placements of a piece may be chosen, as the code tells it: by the list of the required pieces and a table of the cells
--- that have to be filled.
+-- Which placements of a piece may be chosen, as the code tells it: by a table of the cells that have to be filled.
 use Rattle.std.proofs.Common.{◌≡◌, ℕ, List, [], ◌∷◌, ◌++◌, map, filter, Bool, true, false, cond, not, ◌||◌, sym, ap, ap₂, ◌∙◌, append-nil, append_assoc}
 use Rattle.std.specs.List.{list_any}
 use Rattle.std.specs.Cmp.{both_ways as same_tests}
@@ -7,20 +6,13 @@ use Rattle.std.proofs.lemmas.Bool.{and_parts}
 use Rattle.std.proofs.lemmas.List.{map-append}
 use Rattle.std.proofs.lemmas.List.Elements.{filter-append}
 use Rattle.poly_cells.specs.Coordinates.{Coordinates}
-use Rattle.poly_cells.specs.Sets.{IsIn}
 use Rattle.poly_cells.specs.CellTests.{has_cell}
-use Rattle.poly_texts.specs.Puzzle.{PuzzleValue, names_of, has_name, is_needed}
+use Rattle.poly_texts.specs.Puzzle.{PuzzleValue, is_needed}
 use Rattle.poly_cells.proofs.CellTestLemmas.{in_from_has, has_from_in}
 use Rattle.poly_place.specs.Tables.{IsTable, has_bit}
 use Rattle.poly_place.specs.Packings.{choice, must_fill, is_useful}
-use Rattle.poly_place.specs.Compiled.{filled_cells, needed_names}
+use Rattle.poly_place.specs.Compiled.{filled_cells}
 use Rattle.poly_cells.proofs.MemberLemmas.{in_from_filter, in_filter, same_function}
-use Rattle.poly_place.proofs.DistinctLemmas.{in_from_name, name_from_in}
-
-needed_is : (p : PuzzleValue) (name : ℕ) → IsIn name (names_of p.pieces) → has_name (needed_names p) name ≡ is_needed p name
-needed_is p name i =
-    same_tests (has_name (needed_names p) name) (is_needed p name) (λ h. (in_from_filter (is_needed p) name (names_of p.pieces) (in_from_name (needed_names p) name h)).1)
-    (λ h. name_from_in (needed_names p) name (in_filter (is_needed p) name (names_of p.pieces) i h))
 
 filled_is : (p : PuzzleValue) (v : Coordinates) → has_cell (filled_cells p) v ≡ must_fill p v
 filled_is p v =
@@ -33,9 +25,9 @@ meets_is : (p : PuzzleValue) (bits : List Bool) → IsTable (filled_cells p) bit
 meets_is p bits t vs = ap (λ (test : Coordinates → Bool). list_any test vs) (same_function (has_bit bits) (must_fill p) (λ v. t.same v ∙ filled_is p v))
 
 -- the code's test of a placement
-pub useful_is : (p : PuzzleValue) (bits : List Bool) (name : ℕ) (cells : List Coordinates) (needed : Bool) → IsTable (filled_cells p) bits → IsIn name (names_of p.pieces)
-    → needed ≡ has_name (needed_names p) name → needed || list_any (has_bit bits) cells ≡ is_useful p (choice name cells)
-useful_is p bits name cells needed t i e = ap₂ (λ a b. a || b) (e ∙ needed_is p name i) (meets_is p bits t cells)
+pub useful_is : (p : PuzzleValue) (bits : List Bool) (name : ℕ) (cells : List Coordinates) (needed : Bool) → IsTable (filled_cells p) bits
+    → needed ≡ is_needed p name → needed || list_any (has_bit bits) cells ≡ is_useful p (choice name cells)
+useful_is p bits name cells needed t e = ap₂ (λ a b. a || b) e (meets_is p bits t cells)
 
 -- ---- a list that is mapped and then filtered, one by one
 

@@ -1,5 +1,5 @@
 -- Where it is within the limits, the problem that stands for a puzzle is one.
-use Rattle.std.proofs.Common.{◌||◌, ◌≡◌, ℕ, zero, suc, ◌+◌, ◌-◌, ◌<◌, ◌≤◌, ◌^◌, ◌/◌, ◌%◌, List, [], ◌∷◌, ◌++◌, map, flat_map, length, Bool, true, false, cond, not, ◌&&◌, nat_lt, nat_le, ◌==◌, inl, inr, refl, sym, ap₂, subst, ◌∙◌, arith, eqb-true}
+use Rattle.std.proofs.Common.{◌||◌, ap, ◌≡◌, ℕ, zero, suc, ◌+◌, ◌-◌, ◌<◌, ◌≤◌, ◌^◌, ◌/◌, ◌%◌, List, [], ◌∷◌, ◌++◌, map, flat_map, length, Bool, true, false, cond, not, ◌&&◌, nat_lt, nat_le, ◌==◌, inl, inr, refl, sym, ap₂, subst, ◌∙◌, arith, eqb-true}
 use Rattle.std.specs.List.{list_all, range_with_len, position_or_len}
 use Rattle.std.proofs.lemmas.List.Folds.{list_any-append}
 use Rattle.std.proofs.lemmas.Bool.{and_parts, and_from, le-leb, lt-ltb, cases_Bool, not_from_false, both_ways, not-true, false_from_ne_true, true_from_ne_false}
@@ -17,12 +17,14 @@ use Rattle.cover_problem.specs.Problem.{IsProblem, is_name, is_item, is_option, 
 use Rattle.poly_cells.proofs.MemberLemmas.{all_pass, passes, in_from_flat_map, in_from_range}
 use Rattle.poly_texts.specs.Words as words
 use Rattle.poly_place.specs.Turns.{from_right, from_left}
-use Rattle.poly_texts.specs.Puzzle.{PuzzleValue, IsPuzzle, names_of, has_name, is_needed}
-use Rattle.poly_place.specs.Packings.{ChoiceValue, is_any, must_fill, neighbours, pairs, first_cell, IsPlaced, choices, Thing, a_piece, a_cell, a_node, needed_things, other_things, things, index_among, item_of, levels_for, levels, nodes, nodes_by, leaf_of, given, things_of, option_of, thing_name, packing_problem}
+use Rattle.poly_texts.specs.Puzzle.{PuzzleValue, IsPuzzle, names_of, has_name, is_needed, unneeded}
+use Rattle.poly_place.specs.Packings.{ChoiceValue, is_any, must_fill, neighbours, pairs, first_cell, IsPlaced, choices, leavings, leaving_option, Thing, a_piece, a_cell, a_node, needed_things, other_things, things, index_among, item_of, levels_for, levels, nodes, nodes_by, leaf_of, given, things_of, option_of, thing_name, packing_problem}
 use Rattle.poly_place.proofs.DistinctLemmas.{in_from_name, name_from_in, IsDistinct, distinct_append, distinct_filter, distinct_map, distinct_rising, distinct_names}
 use Rattle.poly_place.proofs.PairLemmas.{all_of, distinct_left, distinct_right, distinct_apart, in_group, among_groups, pair_differs, pair_next}
 use Rattle.poly_place.proofs.TurnLemmas.{IsBelow, right_above, left_above, up}
 use Rattle.poly_place.proofs.PackingLemmas.{leaf_placed, least_in}
+use Rattle.poly_place.proofs.EqualLemmas.{distinct_group}
+use Rattle.poly_place.proofs.LeavingLemmas.{IsLeaving, leaving_is, first_left, left_copy}
 use Rattle.poly_place.proofs.PlacedLemmas.{has_shapes, placed_in}
 use Rattle.poly_place.proofs.ThingLemmas.{place_in, nothing, item_same, needed_piece, needed_cell, needed_cases, needed_distinct, parts_in, in_given, thing_of_item, cell_part}
 use Rattle.poly_place.proofs.ItemNameLemmas.{piece_named, cell_named, node_named, name_same, new_from}
@@ -251,26 +253,29 @@ module _ (p : PuzzleValue) (z : IsPuzzle p) where
         | inl t ↦ is_lt (length (needed_things p)) t
         | inr f ↦
             let e = is_none (length (needed_things p)) f in
-            let names : list_all (has_name (p.maybe_pieces ++ p.any_pieces)) (names_of p.pieces) ≡ true =
-            all_pass (has_name (p.maybe_pieces ++ p.any_pieces)) (names_of p.pieces)
+            let names : list_all (has_name (unneeded p)) (names_of p.pieces) ≡ true =
+            all_pass (has_name (unneeded p)) (names_of p.pieces)
             (λ n i. either_name n (false_from_ne_true _ (λ g. no_needed e (a_piece n) (needed_piece p n i g)))) in
             let cells : list_all (has_cell p.maybe_cells) p.region ≡ true =
             all_pass (has_cell p.maybe_cells) p.region (λ v i. true_from_ne_false _ (λ g.
             no_needed e (a_cell v)
             (needed_cell p v (and_from (has_cell p.region v) (not (has_cell p.maybe_cells v)) (has_from_in p.region v i) (not_from_false (has_cell p.maybe_cells v) g))))) in
-            let all = and_from (list_all (has_name (p.maybe_pieces ++ p.any_pieces)) (names_of p.pieces)) (list_all (has_cell p.maybe_cells) p.region) names cells in
+            let all = and_from (list_all (has_name (unneeded p)) (names_of p.pieces)) (list_all (has_cell p.maybe_cells) p.region) names cells in
             let required = z.required in
             cc
       ]
     where
       -- a piece that isn't needed has one of the names
-      either_name : (n : ℕ) → is_needed p n ≡ false → has_name (p.maybe_pieces ++ p.any_pieces) n ≡ true
-      either_name n h = list_any-append (λ m. m == n) p.maybe_pieces p.any_pieces ∙ by_tests (has_name p.maybe_pieces n) (has_name p.any_pieces n) h
+      either_name : (n : ℕ) → is_needed p n ≡ false → has_name (unneeded p) n ≡ true
+      either_name n h =
+          list_any-append (λ m. m == n) p.maybe_pieces (p.any_pieces ++ p.spare)
+          ∙ ap (λ b. has_name p.maybe_pieces n || b) (list_any-append (λ m. m == n) p.any_pieces p.spare)
+          ∙ by_tests (has_name p.maybe_pieces n) (has_name p.any_pieces n) (has_name p.spare n) h
         where
-          by_tests : (a b : Bool) → (not a && not b) ≡ false → (a || b) ≡ true
-          by_tests true b e = refl
-          by_tests false true e = refl
-          by_tests false false e = cc
+          by_tests : (a b c : Bool) → (not a && not b) ≡ false → (a || (b || c)) ≡ true
+          by_tests true b c e = refl
+          by_tests false true c e = refl
+          by_tests false false c e = cc
 
       is_lt : (n : ℕ) → nat_lt 0 n ≡ true → 0 < n
       is_lt n h = grind (arith, nat_tests)
@@ -375,10 +380,39 @@ module _ (p : PuzzleValue) (z : IsPuzzle p) where
       let t = in_from_map (item_of p) n (things_of p c) i in
       subst (λ (k : ℕ). is_item (length (map thing_name (things p))) k ≡ true) (sym t.2) (item_within t.0 (parts_in p c h b t.0 t.1))))
 
-  all_options : list_all (is_option (length (map thing_name (things p)))) (map (option_of p) (choices p)) ≡ true
-  all_options = all_pass (is_option (length (map thing_name (things p)))) (map (option_of p) (choices p)) (λ o i.
+  laying_options : list_all (is_option (length (map thing_name (things p)))) (map (option_of p) (choices p)) ≡ true
+  laying_options = all_pass (is_option (length (map thing_name (things p)))) (map (option_of p) (choices p)) (λ o i.
       let c = in_from_map (option_of p) o (choices p) i in
       subst (λ (q : List ℕ). is_option (length (map thing_name (things p))) q ≡ true) (sym c.2) (option_good c.0 (placed_in p (has_shapes p z) c.0 c.1)))
+
+  leaving_good : (parts : List ℕ × List ℕ) → IsLeaving p parts → is_option (length (map thing_name (things p))) (leaving_option p parts) ≡ true
+  leaving_good parts l =
+      let inside : (t : Thing) → IsIn t (map a_piece (parts.1)) → IsIn t (things p) = λ t i.
+      let n = in_from_map a_piece t (parts.1) i in
+      subst (λ (s : Thing). IsIn s (things p)) (sym n.2) (left_copy p z parts l n.0 n.1).thing in
+      let whole = subst IsDistinct l.parted.whole (distinct_group p.equal l.group (distinct_names (all_of p.equal) z.equal_new) l.there) in
+      let apart = distinct_map a_piece (parts.1) (λ x y e. cc) (distinct_right (parts.0) (parts.1) whole) in
+      let first = in_map (item_of p) (a_piece l.parted.first) (map a_piece (parts.1)) (in_map a_piece l.parted.first (parts.1) (first_left l.group parts l.parted)) in
+      and_from (nat_lt 0 (length (leaving_option p parts)) && are_distinct (leaving_option p parts)) (list_all (is_item (length (map thing_name (things p)))) (leaving_option p parts))
+      (and_from (nat_lt 0 (length (leaving_option p parts))) (are_distinct (leaving_option p parts))
+      (lt-ltb 0 (length (leaving_option p parts)) (some_from (item_of p (a_piece l.parted.first)) (leaving_option p parts) first))
+      (distinct_items (map a_piece (parts.1)) inside apart))
+      (all_pass (is_item (length (map thing_name (things p)))) (leaving_option p parts) (λ n i.
+      let t = in_from_map (item_of p) n (map a_piece (parts.1)) i in
+      subst (λ (k : ℕ). is_item (length (map thing_name (things p))) k ≡ true) (sym t.2) (item_within t.0 (inside t.0 t.1))))
+    where
+      some_from : (n : ℕ) (ns : List ℕ) → IsIn n ns → 0 < length ns
+      some_from n [] i = absurd i
+      some_from n (m ∷ ns) i = omega arith
+
+  all_options : list_all (is_option (length (map thing_name (things p)))) (map (option_of p) (choices p) ++ map (leaving_option p) (leavings p)) ≡ true
+  all_options = all_pass (is_option (length (map thing_name (things p)))) (map (option_of p) (choices p) ++ map (leaving_option p) (leavings p)) (λ o i.
+      elim (in_append_cases o (map (option_of p) (choices p)) (map (leaving_option p) (leavings p)) i) [
+        | inl l ↦ passes (is_option (length (map thing_name (things p)))) (map (option_of p) (choices p)) laying_options o l
+        | inr r ↦
+            let parts = in_from_map (leaving_option p) o (leavings p) r in
+            subst (λ (q : List ℕ). is_option (length (map thing_name (things p))) q ≡ true) (sym parts.2) (leaving_good parts.0 (leaving_is p parts.0 parts.1))
+      ])
 
   pub is_problem : is_small (packing_problem p) ≡ true → IsProblem (packing_problem p)
   unfolding packing_problem

@@ -8,7 +8,7 @@ use Rattle.poly_cells.specs.Shapes.{normal, turned}
 use Rattle.poly_texts.specs.Puzzle.{PuzzleValue}
 use Rattle.poly_place.specs.declared.alike.Group.TheVariants.{Rotations, Symmetries}
 use Rattle.poly_place.specs.Placements.{orientations, placements}
-use Rattle.poly_place.specs.Packings.{choices, item_of, packing_problem}
+use Rattle.poly_place.specs.Packings.{choices, leavings, item_of, packing_problem}
 use Rattle.poly_place.specs.Chosen.{packing_value}
 use Rattle.poly_place.specs.Layers.{layers}
 use Rattle.poly_place.specs.ClassCount.{image_in, carries, are_alike, class_count}
@@ -27,6 +27,7 @@ dominoes = record {
   mirrored = [];
   equal = [];
   symbols = [];
+  spare = [];
 }
 
 -- the items are A, B and the cells 000, 010, 100 and 110; each piece has four options
@@ -40,7 +41,7 @@ boxed = record {
 }
 
 pub boxed_dominoes : packing_problem dominoes ≡ boxed
-unfolding packing_problem choices item_of placements orientations in_order turned normal rotations is_rotation matrix
+unfolding packing_problem choices leavings item_of placements orientations in_order turned normal rotations is_rotation matrix
 boxed_dominoes = refl
 
 -- A stands on the left, above, below, and on the right

@@ -10,10 +10,12 @@ pub mod PairLemmas
 pub mod PlaceLemmas
 pub mod ThingLemmas
 pub mod PlacedLemmas
+pub mod LeavingLemmas
 pub mod PackingLemmas
 pub mod SortLemmas
 pub mod EqualLemmas
 pub mod SwapLemmas
+pub mod RangeLemmas
 pub mod PlainLemmas
 pub mod NodeLemmas
 pub mod ChosenLemmas
@@ -29,6 +31,7 @@ pub mod CompiledLemmas
 pub mod MadeLemmas
 pub mod VolumeLemmas
 pub mod RoomLemmas
+pub mod LeftLemmas
 pub mod LayerExamples
 pub mod CountingLemmas
 pub mod FormLemmas

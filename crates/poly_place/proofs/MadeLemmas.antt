@@ -1,14 +1,15 @@
 -- What is made for a puzzle are the parts of its problem, which is within the limits exactly where there is room.
-use Rattle.std.proofs.Common.{◌≡◌, ℕ, ◌+◌, ◌<◌, ◌≤◌, List, [], ◌∷◌, ◌++◌, map, flat_map, length, true, false, ◌&&◌, nat_le, refl, sym, ap, ap₂, subst, ◌∙◌, arith, sum_by, Result, Ok}
-use Rattle.std.proofs.lemmas.Bool.{and_parts, and_from, le-leb, false_from_ne_true, leb-true}
-use Rattle.std.proofs.lemmas.List.{length-map, map-append, append_assoc}
+use Rattle.std.proofs.Common.{◌≡◌, ℕ, ◌+◌, ◌<◌, ◌≤◌, List, [], ◌∷◌, ◌++◌, map, filter, flat_map, length, Bool, cond, true, false, ◌&&◌, nat_le, refl, sym, ap, ap₂, subst, ◌∙◌, arith, sum_by, Result, Ok}
+use Rattle.std.proofs.lemmas.Bool.{and_parts, and_from, both_ways, le-leb, false_from_ne_true, leb-true}
+use Rattle.std.proofs.lemmas.List.{length-append, length-map, map-append, append_assoc}
+use Rattle.std.specs.List.{list_all}
 use Rattle.poly_cells.specs.Coordinates.{Coordinates}
 use Rattle.poly_cells.specs.CellWords.{cell_word}
 use Rattle.cover_problem.specs.Problem.{is_small, ProblemValue}
-use Rattle.poly_texts.specs.Puzzle.{PuzzleValue, IsPuzzle}
-use Rattle.poly_place.specs.Packings.{ChoiceValue, pairs, choices, Thing, a_piece, a_cell, needed_things, other_things, things, item_of, nodes, things_of, option_of, thing_name, packing_problem}
+use Rattle.poly_texts.specs.Puzzle.{PuzzleValue, IsPuzzle, is_spare}
+use Rattle.poly_place.specs.Packings.{ChoiceValue, pairs, partings, leavings_of, leavings, leaving_option, choices, Thing, a_piece, a_cell, needed_things, other_things, things, item_of, nodes, things_of, option_of, thing_name, packing_problem}
 use Rattle.std.specs.Cmp.{both_ways as same_tests}
-use Rattle.std.proofs.lemmas.List.Sums.{sum_by-cons}
+use Rattle.std.proofs.lemmas.List.Sums.{sum_by-cons, sum_by-append}
 use Rattle.cover_problem.specs.declared.limits.TheConstants.{MOST_ITEMS, MOST_OPTIONS, MOST_ENTRIES}
 use Rattle.text_lines.specs.declared.refusal.Refusal.{Refusal}
 use Rattle.text_lines.specs.declared.refusal.Refusal.TheVariants as refusals
@@ -17,7 +18,7 @@ use Rattle.text_lines.proofs.ResultLemmas.{no_fault}
 use Rattle.cover_problem.specs.Validation.{problem_from}
 use Rattle.cover_problem.specs.declared.fault.Fault.{Fault}
 use Rattle.cover_problem.proofs.ProblemLemmas.{made_again}
-use Rattle.poly_place.specs.Compiled.{needed_names, filled_cells, entries_of, has_room}
+use Rattle.poly_place.specs.Compiled.{needed_names, filled_cells, left_from, left_out, left_items, leaving_entries, entries_of, has_room, has_room_beside}
 use mathlib.Core.List.{map-map}
 use Rattle.poly_place.proofs.CompiledLemmas.{is_problem}
 
@@ -52,69 +53,153 @@ entries_same p (c ∷ cs) =
     let all = sum_by-cons (λ (d : ChoiceValue). length (things_of p d) + 1) c cs in
     omega (arith, rest, same, sum, all)
 
--- where there are too many items the problem is large
-pub large_is : (p : PuzzleValue) → MOST_ITEMS < length (things p) → is_small (packing_problem p) ≡ false
-unfolding packing_problem
-large_is p many =
-    false_from_ne_true _ (λ t.
-    let parts = and_parts (nat_le (length names) MOST_ITEMS && nat_le (length options) MOST_OPTIONS) (nat_le (length names + sum_by length options + length options + 2) MOST_ENTRIES) t in
-    let first = and_parts (nat_le (length names) MOST_ITEMS) (nat_le (length options) MOST_OPTIONS) parts.0 in
-    let few = leb-true (length names) MOST_ITEMS first.0 in
-    let long = length-map (things p) thing_name in
-    omega (arith, few, long, many))
+-- ---- what is left out
+
+abbrev kept : PuzzleValue → List (List ℕ × List ℕ) → List (List ℕ × List ℕ)
+kept p qs = filter (λ (parts : List ℕ × List ℕ). list_all (is_spare p) (parts.1)) qs
+
+abbrev ends : List (List ℕ × List ℕ) → List (List ℕ)
+ends qs = map (λ (parts : List ℕ × List ℕ). parts.1) qs
+
+abbrev longer : ℕ → List (List ℕ × List ℕ) → List (List ℕ × List ℕ)
+longer n qs = map (λ (parts : List ℕ × List ℕ). (n ∷ parts.0, parts.1)) qs
+
+same_ends : (p : PuzzleValue) (n : ℕ) (qs : List (List ℕ × List ℕ)) → ends (kept p (longer n qs)) ≡ ends (kept p qs)
+same_ends p n [] = refl
+same_ends p n (q ∷ qs) = by_test (list_all (is_spare p) (q.1)) (same_ends p n qs)
   where
-    names : List (List ℕ)
-    names = map thing_name (things p)
+    by_test : (b : Bool) → ends (kept p (longer n qs)) ≡ ends (kept p qs) → ends (cond b ((n ∷ q.0, q.1) ∷ kept p (longer n qs)) (kept p (longer n qs))) ≡ ends (cond b (q ∷ kept p qs) (kept p qs))
+    by_test true rest = ap (λ (es : List (List ℕ)). q.1 ∷ es) rest
+    by_test false rest = rest
 
-    options : List (List ℕ)
-    options = map (option_of p) (choices p)
-
--- the problem is small exactly where there is room for the choices
-pub small_is : (p : PuzzleValue) → length (things p) ≤ MOST_ITEMS → is_small (packing_problem p) ≡ has_room p (length (things p)) (choices p)
-unfolding packing_problem
-small_is p few =
-    same_tests (is_small (packing_problem p)) (has_room p (length (things p)) (choices p))
-    (λ t.
-    let parts = and_parts (nat_le (length names) MOST_ITEMS && nat_le (length options) MOST_OPTIONS) (nat_le (length names + sum_by length options + length options + 2) MOST_ENTRIES) t in
-    let first = and_parts (nat_le (length names) MOST_ITEMS) (nat_le (length options) MOST_OPTIONS) parts.0 in
-    let count = leb-true (length options) MOST_OPTIONS first.1 in
-    let size = leb-true (length names + sum_by length options + length options + 2) MOST_ENTRIES parts.1 in
-    and_from (nat_le (length (choices p)) MOST_OPTIONS) (nat_le (length (things p) + entries_of p (choices p) + 2) MOST_ENTRIES) (le-leb (length (choices p)) MOST_OPTIONS (omega (arith, count, many)))
-    (le-leb (length (things p) + entries_of p (choices p) + 2) MOST_ENTRIES (omega (arith, size, long, entries))))
-    (λ t.
-    let parts = and_parts (nat_le (length (choices p)) MOST_OPTIONS) (nat_le (length (things p) + entries_of p (choices p) + 2) MOST_ENTRIES) t in
-    let count = leb-true (length (choices p)) MOST_OPTIONS parts.0 in
-    let size = leb-true (length (things p) + entries_of p (choices p) + 2) MOST_ENTRIES parts.1 in
-    and_from (nat_le (length names) MOST_ITEMS && nat_le (length options) MOST_OPTIONS) (nat_le (length names + sum_by length options + length options + 2) MOST_ENTRIES)
-    (and_from (nat_le (length names) MOST_ITEMS) (nat_le (length options) MOST_OPTIONS) (le-leb (length names) MOST_ITEMS (omega (arith, few, long))) (le-leb (length options) MOST_OPTIONS (omega (arith, count, many))))
-    (le-leb (length names + sum_by length options + length options + 2) MOST_ENTRIES (omega (arith, size, long, entries))))
+one_group : (p : PuzzleValue) (g : List ℕ) → left_from (is_spare p) g ≡ ends (kept p (partings g))
+one_group p [] = refl
+one_group p (n ∷ ns) = by_test (list_all (is_spare p) (n ∷ ns)) (one_group p ns ∙ sym (same_ends p n (partings ns)))
   where
-    names : List (List ℕ)
-    names = map thing_name (things p)
+    by_test : (b : Bool) → left_from (is_spare p) ns ≡ ends (kept p (longer n (partings ns)))
+        → cond b ((n ∷ ns) ∷ []) [] ++ left_from (is_spare p) ns ≡ ends (cond b (([], n ∷ ns) ∷ kept p (longer n (partings ns))) (kept p (longer n (partings ns))))
+    by_test true rest = ap (λ (es : List (List ℕ)). (n ∷ ns) ∷ es) rest
+    by_test false rest = rest
 
-    options : List (List ℕ)
-    options = map (option_of p) (choices p)
+all_groups : (p : PuzzleValue) (gs : List (List ℕ)) → flat_map (left_from (is_spare p)) gs ≡ ends (flat_map (leavings_of p) gs)
+all_groups p [] = refl
+all_groups p (g ∷ gs) =
+    ap₂ (λ (xs ys : List (List ℕ)). xs ++ ys) (one_group p g) (all_groups p gs)
+    ∙ sym (map-append (λ (parts : List ℕ × List ℕ). parts.1) (leavings_of p g) (flat_map (leavings_of p) gs))
 
-    long : length (map thing_name (things p)) ≡ length (things p)
-    long = length-map (things p) thing_name
+-- as the ends of the groups
+pub left_out_is : (p : PuzzleValue) → left_out p ≡ map (λ (parts : List ℕ × List ℕ). parts.1) (leavings p)
+unfolding leavings
+left_out_is p = all_groups p p.equal
 
-    many : length (map (option_of p) (choices p)) ≡ length (choices p)
-    many = length-map (choices p) (option_of p)
+pub leaving_options : (p : PuzzleValue) → map (left_items p) (left_out p) ≡ map (leaving_option p) (leavings p)
+leaving_options p = ap (map (left_items p)) (left_out_is p) ∙ map-map (left_items p) (λ (parts : List ℕ × List ℕ). parts.1) (leavings p)
 
-    entries : sum_by length (map (option_of p) (choices p)) + length (map (option_of p) (choices p)) ≡ entries_of p (choices p)
-    entries = entries_same p (choices p)
+left_same : (p : PuzzleValue) (lefts : List (List ℕ)) → sum_by length (map (left_items p) lefts) + length (map (left_items p) lefts) ≡ leaving_entries lefts
+left_same p [] = refl
+left_same p (names ∷ lefts) =
+    let rest = left_same p lefts in
+    let first = length-map (map a_piece names) (item_of p) in
+    let second = length-map names a_piece in
+    let sum = sum_by-cons length (left_items p names) (map (left_items p) lefts) in
+    let all = sum_by-cons (λ (ns : List ℕ). length ns + 1) names lefts in
+    omega (arith, rest, first, second, sum, all)
+
+-- ---- how lists_long
+
+module _ (p : PuzzleValue) where
+  item_words : List (List ℕ)
+  item_words = map thing_name (things p)
+
+  option_lists : List (List ℕ)
+  option_lists = map (option_of p) (choices p) ++ map (leaving_option p) (leavings p)
+
+  words_long : length item_words ≡ length (things p)
+  unfolding item_words
+  words_long = length-map (things p) thing_name
+
+  lists_long : length option_lists ≡ length (choices p) + length (left_out p)
+  unfolding option_lists
+  lists_long =
+      let all = length-append (map (option_of p) (choices p)) (map (leaving_option p) (leavings p)) in
+      let first = length-map (choices p) (option_of p) in
+      let second = ap length (leaving_options p) in
+      let third = length-map (left_out p) (left_items p) in
+      omega (arith, all, first, second, third)
+
+  entries_all : sum_by length option_lists + length option_lists ≡ entries_of p (choices p) + leaving_entries (left_out p)
+  unfolding option_lists
+  entries_all =
+      let all = length-append (map (option_of p) (choices p)) (map (leaving_option p) (leavings p)) in
+      let sum = sum_by-append length (map (option_of p) (choices p)) (map (leaving_option p) (leavings p)) in
+      let first = entries_same p (choices p) in
+      let second = left_same p (left_out p) in
+      let same = ap (sum_by length) (leaving_options p) in
+      let count = ap length (leaving_options p) in
+      omega (arith, all, sum, first, second, same, count)
+
+  is_small_parts : is_small (packing_problem p) ≡ ((nat_le (length item_words) MOST_ITEMS && nat_le (length option_lists) MOST_OPTIONS) && nat_le (length item_words + sum_by length option_lists + length option_lists + 2) MOST_ENTRIES)
+  unfolding packing_problem item_words option_lists
+  is_small_parts = refl
+
+  -- where there are too lists_long items the problem is large
+  pub large_is : MOST_ITEMS < length (things p) → is_small (packing_problem p) ≡ false
+  large_is more =
+      false_from_ne_true _ (λ t.
+      let parts = and_parts (nat_le (length item_words) MOST_ITEMS && nat_le (length option_lists) MOST_OPTIONS) (nat_le (length item_words + sum_by length option_lists + length option_lists + 2) MOST_ENTRIES) (sym is_small_parts ∙ t) in
+      let first = and_parts (nat_le (length item_words) MOST_ITEMS) (nat_le (length option_lists) MOST_OPTIONS) parts.0 in
+      let few = leb-true (length item_words) MOST_ITEMS first.0 in
+      let l = words_long in
+      omega (arith, few, l, more))
+
+  -- the problem is small exactly where there is room for all option_lists
+  pub small_is : length (things p) ≤ MOST_ITEMS → is_small (packing_problem p) ≡ has_room_beside (length (choices p)) (length (things p) + entries_of p (choices p) + 2) (left_out p)
+  small_is few =
+      is_small_parts
+      ∙ same_tests ((nat_le (length item_words) MOST_ITEMS && nat_le (length option_lists) MOST_OPTIONS) && nat_le (length item_words + sum_by length option_lists + length option_lists + 2) MOST_ENTRIES)
+      (has_room_beside (length (choices p)) (length (things p) + entries_of p (choices p) + 2) (left_out p))
+      (λ t.
+      let parts = and_parts (nat_le (length item_words) MOST_ITEMS && nat_le (length option_lists) MOST_OPTIONS) (nat_le (length item_words + sum_by length option_lists + length option_lists + 2) MOST_ENTRIES) t in
+      let first = and_parts (nat_le (length item_words) MOST_ITEMS) (nat_le (length option_lists) MOST_OPTIONS) parts.0 in
+      let count = leb-true (length option_lists) MOST_OPTIONS first.1 in
+      let size = leb-true (length item_words + sum_by length option_lists + length option_lists + 2) MOST_ENTRIES parts.1 in
+      let l = words_long in
+      let m = lists_long in
+      let e = entries_all in
+      and_from _ _ (le-leb (length (choices p) + length (left_out p)) MOST_OPTIONS (omega (arith, count, m)))
+      (le-leb (length (things p) + entries_of p (choices p) + 2 + leaving_entries (left_out p)) MOST_ENTRIES (omega (arith, size, l, e))))
+      (λ t.
+      let parts = and_parts (nat_le (length (choices p) + length (left_out p)) MOST_OPTIONS) (nat_le (length (things p) + entries_of p (choices p) + 2 + leaving_entries (left_out p)) MOST_ENTRIES) t in
+      let count = leb-true (length (choices p) + length (left_out p)) MOST_OPTIONS parts.0 in
+      let size = leb-true (length (things p) + entries_of p (choices p) + 2 + leaving_entries (left_out p)) MOST_ENTRIES parts.1 in
+      let l = words_long in
+      let m = lists_long in
+      let e = entries_all in
+      and_from _ _ (and_from _ _ (le-leb (length item_words) MOST_ITEMS (omega (arith, few, l))) (le-leb (length option_lists) MOST_OPTIONS (omega (arith, count, m))))
+      (le-leb (length item_words + sum_by length option_lists + length option_lists + 2) MOST_ENTRIES (omega (arith, size, l, e))))
+
+  -- where there is no room for the choices the problem is large
+  pub large_by_choices : length (things p) ≤ MOST_ITEMS → has_room p (length (things p)) (choices p) ≡ false → is_small (packing_problem p) ≡ false
+  large_by_choices few h =
+      small_is few
+      ∙ false_from_ne_true _ (λ t.
+      let parts = and_parts (nat_le (length (choices p) + length (left_out p)) MOST_OPTIONS) (nat_le (length (things p) + entries_of p (choices p) + 2 + leaving_entries (left_out p)) MOST_ENTRIES) t in
+      let count = leb-true (length (choices p) + length (left_out p)) MOST_OPTIONS parts.0 in
+      let size = leb-true (length (things p) + entries_of p (choices p) + 2 + leaving_entries (left_out p)) MOST_ENTRIES parts.1 in
+      both_ways (has_room p (length (things p)) (choices p)) h
+      (and_from _ _ (le-leb (length (choices p)) MOST_OPTIONS (omega (arith, count))) (le-leb (length (things p) + entries_of p (choices p) + 2) MOST_ENTRIES (omega (arith, size)))))
 
 -- the parts are those of the problem
 pub record AreParts (p : PuzzleValue) (names : List (List ℕ)) (primary : ℕ) (options : List (List ℕ)) : Type 0 where
   pub names_are : names ≡ map thing_name (things p)
   pub primary_is : primary ≡ length (needed_things p)
-  pub options_are : options ≡ map (option_of p) (choices p)
+  pub options_are : options ≡ map (option_of p) (choices p) ++ map (left_items p) (left_out p)
 
 same_made : (p : PuzzleValue) (names : List (List ℕ)) (primary : ℕ) (options : List (List ℕ)) → AreParts p names primary options
-    → problem_from names primary options ≡ problem_from (map thing_name (things p)) (length (needed_things p)) (map (option_of p) (choices p))
+    → problem_from names primary options ≡ problem_from (map thing_name (things p)) (length (needed_things p)) (map (option_of p) (choices p) ++ map (leaving_option p) (leavings p))
 same_made p names primary options a =
     ap (λ (ns : List (List ℕ)). problem_from ns primary options) a.names_are ∙ ap (λ (k : ℕ). problem_from (map thing_name (things p)) k options) a.primary_is
-    ∙ ap (problem_from (map thing_name (things p)) (length (needed_things p))) a.options_are
+    ∙ ap (problem_from (map thing_name (things p)) (length (needed_things p))) (a.options_are ∙ ap (λ (os : List (List ℕ)). map (option_of p) (choices p) ++ os) (leaving_options p))
 
 -- these parts make the problem of the puzzle
 pub parts_make : (p : PuzzleValue) → IsPuzzle p → (names : List (List ℕ)) (primary : ℕ) (options : List (List ℕ)) → AreParts p names primary options → is_small (packing_problem p) ≡ true

@@ -9,7 +9,7 @@ use Rattle.poly_cells.specs.Shapes.{normal, turned}
 use Rattle.poly_texts.specs.Puzzle.{PuzzleValue, IsPuzzle, IsPiece, ArePieces, IsOneShape}
 use Rattle.poly_place.specs.declared.alike.Group.TheVariants.{Rotations, Symmetries}
 use Rattle.poly_place.specs.Placements.{orientations, placements, turns_by}
-use Rattle.poly_place.specs.Packings.{choices, item_of, levels, levels_for, packing_problem, choice, a_piece, a_cell}
+use Rattle.poly_place.specs.Packings.{choices, leavings, item_of, levels, levels_for, packing_problem, choice, a_piece, a_cell}
 use Rattle.poly_place.specs.Chosen.{chosen_by}
 
 -- the pieces A and B of one cell each, for the region 0 0 0, 1 0 0: B may be left out, and 1 0 0 may stay empty
@@ -23,6 +23,7 @@ pair = record {
   mirrored = [];
   equal = [];
   symbols = [];
+  spare = [];
 }
 
 three_choices : choices pair ≡ choice 65 (coordinates 0 0 0 ∷ []) ∷ choice 65 (coordinates 1 0 0 ∷ []) ∷ choice 66 (coordinates 0 0 0 ∷ []) ∷ []
@@ -39,7 +40,7 @@ last_item = refl
 
 -- the items A, 000, B and 100, of which A and 000 are primary, and the options A 000, A 100 and B 000
 pair_problem : packing_problem pair ≡ record { names = (65 ∷ []) ∷ (48 ∷ 48 ∷ 48 ∷ []) ∷ (66 ∷ []) ∷ (49 ∷ 48 ∷ 48 ∷ []) ∷ []; primary = 2; options = (1 ∷ 2 ∷ []) ∷ (1 ∷ 4 ∷ []) ∷ (3 ∷ 2 ∷ []) ∷ [] }
-unfolding packing_problem choices item_of placements orientations in_order turned normal rotations is_rotation matrix
+unfolding packing_problem choices leavings item_of placements orientations in_order turned normal rotations is_rotation matrix
 pair_problem = refl
 
 -- the options 3 2, in the order of the pieces
@@ -66,6 +67,7 @@ equals = record {
   mirrored = [];
   equal = (65 ∷ 66 ∷ []) ∷ [];
   symbols = [];
+  spare = [];
 }
 
 -- the items A, B, 000, 100 and A_001, of which all but the last are primary, and the options A 000, A 100 A_001, B 000 A_001 and B 100:
@@ -75,7 +77,7 @@ its_problem : packing_problem equals ≡ record {
   primary = 4;
   options = (1 ∷ 3 ∷ []) ∷ (1 ∷ 4 ∷ 5 ∷ []) ∷ (2 ∷ 3 ∷ 5 ∷ []) ∷ (2 ∷ 4 ∷ []) ∷ [];
 }
-unfolding packing_problem choices item_of levels levels_for placements orientations in_order turned normal rotations is_rotation matrix
+unfolding packing_problem choices leavings item_of levels levels_for placements orientations in_order turned normal rotations is_rotation matrix
 its_problem = refl
 
 within : (x y z : ℕ) → x ≤ 31 → y ≤ 31 → z ≤ 31 → IsInGrid (coordinates x y z)
@@ -163,15 +165,17 @@ is_a_puzzle = record {
   symbols_new = refl;
   symbols_named = refl;
   symbols_show = refl;
+  spare_equal = refl;
+  spare_last = refl;
   equal_shapes = equal_shapes;
 }
 
 -- the piece A of one cell, which may be used any number of times: the items 000 and 100, and the options 000 and 100
 abbrev any_cell : PuzzleValue
-any_cell = record { pieces = (65, one_cell) ∷ []; maybe_pieces = []; region = row_of_two; maybe_cells = []; any_pieces = 65 ∷ []; mirrored = []; equal = []; symbols = [] }
+any_cell = record { pieces = (65, one_cell) ∷ []; maybe_pieces = []; region = row_of_two; maybe_cells = []; any_pieces = 65 ∷ []; mirrored = []; equal = []; symbols = []; spare = [] }
 
 any_problem : packing_problem any_cell ≡ record { names = (48 ∷ 48 ∷ 48 ∷ []) ∷ (49 ∷ 48 ∷ 48 ∷ []) ∷ []; primary = 2; options = (1 ∷ []) ∷ (2 ∷ []) ∷ [] }
-unfolding packing_problem choices item_of levels levels_for placements orientations in_order turned normal rotations is_rotation matrix
+unfolding packing_problem choices leavings item_of levels levels_for placements orientations in_order turned normal rotations is_rotation matrix
 any_problem = refl
 
 -- the left screw has 12 turned forms, and 24 with those of its reflection

@@ -6,7 +6,7 @@ use Rattle.poly_cells.proofs.SetLemmas.{in_append_left, in_append_right, in_appe
 use Rattle.poly_cells.proofs.MemberLemmas.{in_flat_map, in_from_flat_map, passes}
 use Rattle.poly_texts.specs.Puzzle.{PuzzleValue, IsPuzzle, names_of, has_name, is_needed}
 use Rattle.poly_place.specs.Packings.{neighbours, pairs, is_any}
-use Rattle.poly_place.proofs.DistinctLemmas.{IsDistinct, distinct_names}
+use Rattle.poly_place.proofs.DistinctLemmas.{IsDistinct, distinct_names, in_from_name}
 
 -- ---- in one group
 
@@ -107,6 +107,12 @@ equal_single p z n i =
     let known = passes (λ (k : ℕ). has_name (names_of p.pieces) k && is_needed p k) (all_of p.equal) z.equal_needed n i in
     let needed = (and_parts (has_name (names_of p.pieces) n) (is_needed p n) known).1 in
     (needed, not-true (is_any p n) (and_parts (not (has_name p.maybe_pieces n)) (not (has_name p.any_pieces n)) needed).1)
+
+-- and their names are those of pieces
+pub equal_named : (p : PuzzleValue) → IsPuzzle p → (n : ℕ) → IsIn n (all_of p.equal) → IsIn n (names_of p.pieces)
+equal_named p z n i =
+    let known = passes (λ (k : ℕ). has_name (names_of p.pieces) k && is_needed p k) (all_of p.equal) z.equal_needed n i in
+    in_from_name (names_of p.pieces) n (and_parts (has_name (names_of p.pieces) n) (is_needed p n) known).0
 
 pub pair_single : (p : PuzzleValue) → IsPuzzle p → (m n : ℕ) → IsIn (m, n) (pairs p) → (is_any p m ≡ false) × (is_any p n ≡ false)
 pair_single p z m n i =

@@ -1,6 +1,6 @@
 -- The placements of a packing come in the order of the pieces: no placement of a piece before one of an earlier piece, and where none is used
 -- several times, each name once.
-use Rattle.std.proofs.Common.{◌≡◌, ℕ, zero, suc, map, ◌+◌, ◌-◌, ◌<◌, ◌≤◌, ◌==◌, nat_lt, true, cond, List, [], ◌∷◌, ◌++◌, filter, flat_map, length, get_or, inl, inr, refl, sym, ap, subst, ◌∙◌, Ordering, Less, nat_cmp, eqb-true, eq-eqb, arith}
+use Rattle.std.proofs.Common.{◌≡◌, ℕ, zero, suc, map, ◌+◌, ◌-◌, ◌<◌, ◌≤◌, ◌==◌, nat_lt, nat_le, true, cond, List, [], ◌∷◌, ◌++◌, filter, flat_map, length, get_or, inl, inr, refl, sym, ap, subst, ◌∙◌, Ordering, Less, nat_cmp, eqb-true, eq-eqb, arith}
 use Rattle.std.specs.Cmp.{IsTotalOrder, nat_cmp_is}
 use Rattle.std.specs.List.Sorted.{IsNonDecreasingBy, IsStrictlySortedBy}
 use Rattle.std.proofs.lemmas.Bool.{cases_Bool, ltb-true, ltb-false}
@@ -10,18 +10,18 @@ use Rattle.std.proofs.lemmas.List.{map-id, length-append, get_or_append_left, ge
 use Rattle.std.proofs.lemmas.List.Kept.{IsStrictlySortedBy-filter}
 use Rattle.poly_cells.specs.Coordinates.{Coordinates}
 use Rattle.poly_cells.specs.Sets.{IsIn, in_order}
-use Rattle.poly_cells.proofs.SetLemmas.{in_at, in_map, in_from_map, in_from_order, in_order_rises, rising_head, rising_tail, rising_cons, rising_none, rising_map, same_members}
+use Rattle.poly_cells.proofs.SetLemmas.{in_at, in_map, in_from_map, in_order_rises, rising_head, rising_tail, rising_cons, rising_none, rising_map, same_members}
 use Rattle.poly_texts.specs.Puzzle.{PuzzleValue, IsPuzzle, names_of, has_name}
 use Rattle.cover_problem.specs.Lists.{has}
 use Rattle.cover_problem.specs.ExactCover.{IsExactCover}
-use Rattle.poly_place.specs.Packings.{ChoiceValue, choice, choices, choices_of_piece, choice_at, packing_problem}
-use Rattle.poly_place.specs.Chosen.{chosen_by, is_among, same_choice, names_in, AreInPieceOrder, ComeByPiece, place_in}
+use Rattle.poly_place.specs.Packings.{ChoiceValue, choice, choices, choices_of_piece, choice_at, laying_count, packing_problem}
+use Rattle.poly_place.specs.Chosen.{laying, chosen_by, is_among, same_choice, names_in, AreInPieceOrder, ComeByPiece, place_in}
 use Rattle.poly_cells.proofs.MemberLemmas.{in_from_filter, in_filter, passes_some}
 use Rattle.poly_place.proofs.DistinctLemmas.{IsDistinct, distinct_names, in_from_name, name_from_in}
 use Rattle.poly_place.proofs.FormLemmas.{place_tells}
-use Rattle.poly_place.proofs.PackingLemmas.{same_choice_itself, count_back, same_number, chosen_in}
+use Rattle.poly_place.proofs.PackingLemmas.{same_choice_itself, same_number, chosen_in}
 use Rattle.poly_place.proofs.PlacedLemmas.{named_by, named_among}
-use Rattle.poly_place.proofs.ChosenLemmas.{cover_packs}
+use Rattle.poly_place.proofs.ChosenLemmas.{in_laying, cover_packs}
 
 -- ---- names are ordered by their places in a list
 
@@ -133,23 +133,26 @@ never_falls R f n (x ∷ xs) h keeps (suc i) (suc j) d le lt =
 -- ---- the placements of a packing
 
 module _ (p : PuzzleValue) (z : IsPuzzle p) (path : List ℕ) (e : IsExactCover (packing_problem p) (has path)) where
-  in_path : (o : ℕ) → IsIn o (in_order nat_cmp path) → (0 < o) × (o ≤ length (choices p))
-  in_path o i = let low = e.options o (name_from_in path o (in_from_order nat_cmp o path i)) in (low.0, count_back p o low.1)
+  in_path : (o : ℕ) → IsIn o (laying p path) → (0 < o) × (o ≤ length (choices p))
+  in_path o i = let there = in_laying p path o i in ((e.options o (name_from_in path o there.0)).0, there.1)
 
-  among : (o : ℕ) → IsIn o (in_order nat_cmp path) → is_among (chosen_by p path) (choice_at p o) ≡ true
-  among o i = passes_some (same_choice (choice_at p o)) (choice_at p o) (chosen_by p path) (in_map (choice_at p) o (in_order nat_cmp path) i) (same_choice_itself (choice_at p o))
+  laying_rises : IsStrictlySortedBy nat_cmp (laying p path)
+  laying_rises = IsStrictlySortedBy-filter nat_cmp (λ o. nat_le o (laying_count p)) (in_order nat_cmp path) (in_order_rises nat_cmp_total path)
 
-  named_in : (o : ℕ) → IsIn o (in_order nat_cmp path) → IsIn (choice_at p o).name (names_of p.pieces)
+  among : (o : ℕ) → IsIn o (laying p path) → is_among (chosen_by p path) (choice_at p o) ≡ true
+  among o i = passes_some (same_choice (choice_at p o)) (choice_at p o) (chosen_by p path) (in_map (choice_at p) o (laying p path) i) (same_choice_itself (choice_at p o))
+
+  named_in : (o : ℕ) → IsIn o (laying p path) → IsIn (choice_at p o).name (names_of p.pieces)
   named_in o i = let low = in_path o i in choice_named p (choice_at p o) (chosen_in p o low.0 low.1)
 
   pub placed_by_piece : ComeByPiece p (chosen_by p path)
   unfolding choice_place
   placed_by_piece =
-      never_falls nat_cmp (choice_at p) (λ (c : ChoiceValue). place_in (names_of p.pieces) c.name) (in_order nat_cmp path) (in_order_rises nat_cmp_total path)
+      never_falls nat_cmp (choice_at p) (λ (c : ChoiceValue). place_in (names_of p.pieces) c.name) (laying p path) laying_rises
       (λ a b i j less. choices_by_piece p z a b (in_path a i).0 (from_less a b less) (in_path b j).1)
 
   -- where no piece may be used several times
-  places_rise : p.any_pieces ≡ [] → (a b : ℕ) → IsIn a (in_order nat_cmp path) → IsIn b (in_order nat_cmp path) → a < b → choice_place p a < choice_place p b
+  places_rise : p.any_pieces ≡ [] → (a b : ℕ) → IsIn a (laying p path) → IsIn b (laying p path) → a < b → choice_place p a < choice_place p b
   unfolding choice_place
   places_rise none a b i j lt =
       let low = in_path a i in
@@ -166,9 +169,9 @@ module _ (p : PuzzleValue) (z : IsPuzzle p) (path : List ℕ) (e : IsExactCover 
   unfolding choice_place by_place
   names_sorted none =
       rising_map (λ (c : ChoiceValue). c.name) (λ (c d : ChoiceValue). by_place (names_of p.pieces) c.name d.name) (by_place (names_of p.pieces)) (chosen_by p path) (λ c d i j h. h)
-      (rising_map (choice_at p) nat_cmp (λ (c d : ChoiceValue). by_place (names_of p.pieces) c.name d.name) (in_order nat_cmp path)
+      (rising_map (choice_at p) nat_cmp (λ (c d : ChoiceValue). by_place (names_of p.pieces) c.name d.name) (laying p path)
       (λ a b i j h. less_from (choice_place p a) (choice_place p b) (places_rise none a b i j (from_less a b h)))
-      (in_order_rises nat_cmp_total path))
+      laying_rises)
 
   pub placed_in_order : p.any_pieces ≡ [] → AreInPieceOrder p (chosen_by p path)
   placed_in_order none =
@@ -177,6 +180,6 @@ module _ (p : PuzzleValue) (z : IsPuzzle p) (path : List ℕ) (e : IsExactCover 
       (IsStrictlySortedBy-filter (by_place (names_of p.pieces)) (has_name names) (names_of p.pieces) (names_rise (names_of p.pieces) (distinct_names (names_of p.pieces) z.new)))
       (λ x i.
       let c = in_from_map (λ (c : ChoiceValue). c.name) x (chosen_by p path) i in
-      let o = in_from_map (choice_at p) c.0 (in_order nat_cmp path) c.1 in
+      let o = in_from_map (choice_at p) c.0 (laying p path) c.1 in
       in_filter (has_name names) x (names_of p.pieces) (subst (λ (n : ℕ). IsIn n (names_of p.pieces)) (sym (c.2 ∙ ap (λ (d : ChoiceValue). d.name) o.2)) (named_in o.0 o.1)) (name_from_in names x i))
       (λ x i. in_from_name names x (in_from_filter (has_name names) x (names_of p.pieces) i).1)

@@ -6,20 +6,20 @@ use Rattle.poly_cells.specs.Symmetries.{rotations}
 use Rattle.poly_cells.proofs.MemberLemmas.{same_function}
 use Rattle.poly_texts.specs.Puzzle.{PuzzleValue, has_name, is_needed, names_of}
 use Rattle.poly_place.specs.Placements.{placements}
-use Rattle.poly_place.specs.Packings.{ChoiceValue, choice, is_useful, must_fill, Thing, a_piece, a_cell, needed_things, other_things, things, things_of, item_of, index_among, option_of, choices, choices_of_piece, packing_problem}
+use Rattle.poly_place.specs.Packings.{ChoiceValue, choice, is_useful, must_fill, Thing, a_piece, a_cell, needed_things, other_things, things, things_of, item_of, index_among, option_of, leaving_option, leavings, choices, choices_of_piece, packing_problem}
 use Rattle.poly_place.specs.Plain.{plain_needed, plain_things, plain_option, plain_choices, plain_problem, PlainStay}
 
 -- of the parts of a puzzle, the new ones empty
-plain_of : List (ℕ × List Coordinates) → List ℕ → List Coordinates → List Coordinates → List (List ℕ) → PuzzleValue
-plain_of pieces maybe region cells symbols = record { pieces = pieces; maybe_pieces = maybe; region = region; maybe_cells = cells; any_pieces = []; mirrored = []; equal = []; symbols = symbols }
+plain_of : List (ℕ × List Coordinates) → List ℕ → List Coordinates → List Coordinates → List (List ℕ) → List ℕ → PuzzleValue
+plain_of pieces maybe region cells symbols spare = record { pieces = pieces; maybe_pieces = maybe; region = region; maybe_cells = cells; any_pieces = []; mirrored = []; equal = []; symbols = symbols; spare = spare }
 
 and_true : (b : Bool) → (b && true) ≡ b
 and_true true = refl
 and_true false = refl
 
-module _ (pieces : List (ℕ × List Coordinates)) (maybe : List ℕ) (region cells : List Coordinates) (symbols : List (List ℕ)) where
+module _ (pieces : List (ℕ × List Coordinates)) (maybe : List ℕ) (region cells : List Coordinates) (symbols : List (List ℕ)) (spare : List ℕ) where
   p : PuzzleValue
-  p = plain_of pieces maybe region cells symbols
+  p = plain_of pieces maybe region cells symbols spare
 
   needed_same : (n : ℕ) → is_needed p n ≡ not (has_name p.maybe_pieces n)
   unfolding p plain_of
@@ -50,14 +50,24 @@ module _ (pieces : List (ℕ × List Coordinates)) (maybe : List ℕ) (region ce
       ap (λ (test : ChoiceValue → Bool). flat_map (λ (n : ℕ × List Coordinates). filter test (map (choice (n.0)) (placements rotations (n.1) region))) pieces)
       (same_function (is_useful p) (λ c. not (has_name p.maybe_pieces c.name) || list_any (must_fill p) c.cells) useful_same)
 
+  -- nothing is left out, as there are no equal pieces
+  options_same : map (option_of p) (choices p) ++ map (leaving_option p) (leavings p) ≡ map (option_of p) (choices p)
+  unfolding leavings p plain_of
+  options_same = append-nil (map (option_of p) (choices p))
+
   problem_same : packing_problem p ≡ plain_problem p
   unfolding packing_problem
   problem_same =
       ap₂ (λ (needed all : List Thing). record {
         names = map Rattle.poly_place.specs.Packings.thing_name all;
         primary = length needed;
-        options = map (option_of p) (choices p);
+        options = map (option_of p) (choices p) ++ map (leaving_option p) (leavings p);
       }) needed_things_same things_same
+      ∙ ap (λ (os : List (List ℕ)). record {
+        names = map Rattle.poly_place.specs.Packings.thing_name (plain_things p);
+        primary = length (plain_needed p);
+        options = os;
+      }) options_same
       ∙ ap₂ (λ (f : ChoiceValue → List ℕ) (cs : List ChoiceValue). record {
         names = map Rattle.poly_place.specs.Packings.thing_name (plain_things p);
         primary = length (plain_needed p);
@@ -67,6 +77,6 @@ module _ (pieces : List (ℕ × List Coordinates)) (maybe : List ℕ) (region ce
 pub plain_stay : PlainStay
 unfolding problem_same p plain_of
 plain_stay p h =
-    let e : p ≡ plain_of p.pieces p.maybe_pieces p.region p.maybe_cells p.symbols =
-    λ i. record { pieces = p.pieces; maybe_pieces = p.maybe_pieces; region = p.region; maybe_cells = p.maybe_cells; any_pieces = h.none_any i; mirrored = h.none_mirrored i; equal = h.none_equal i; symbols = p.symbols } in
-    subst (λ (q : PuzzleValue). packing_problem q ≡ plain_problem q) (sym e) (problem_same p.pieces p.maybe_pieces p.region p.maybe_cells p.symbols)
+    let e : p ≡ plain_of p.pieces p.maybe_pieces p.region p.maybe_cells p.symbols p.spare =
+    λ i. record { pieces = p.pieces; maybe_pieces = p.maybe_pieces; region = p.region; maybe_cells = p.maybe_cells; any_pieces = h.none_any i; mirrored = h.none_mirrored i; equal = h.none_equal i; symbols = p.symbols; spare = p.spare } in
+    subst (λ (q : PuzzleValue). packing_problem q ≡ plain_problem q) (sym e) (problem_same p.pieces p.maybe_pieces p.region p.maybe_cells p.symbols p.spare)

@@ -65,14 +65,6 @@ later_place y x ys n = ap (λ b. cond b 0 (1 + place_in ys x)) (ne_eqb y x n)
 other_head : (y x : ℕ) (ys : List ℕ) → (IsIn y ys → ⊥) → IsIn x ys → y ≡ x → ⊥
 other_head y x ys new i e = new (subst (λ (n : ℕ). IsIn n ys) (sym e) i)
 
-pub place_lt : (ys : List ℕ) (x : ℕ) → IsDistinct ys → IsIn x ys → place_in ys x < length ys
-place_lt [] x d i = absurd i
-place_lt (y ∷ ys) x d i =
-    elim i [
-      | inl e ↦ let at = first_place y x ys (sym e) in omega (arith, at)
-      | inr r ↦ let at = later_place y x ys (other_head y x ys d.0 r) in let rest = place_lt ys x d.1 r in omega (arith, at, rest)
-    ]
-
 pub at_place_in : (ys : List ℕ) (x : ℕ) → IsDistinct ys → IsIn x ys → get_or ys (place_in ys x) 0 ≡ x
 at_place_in [] x d i = absurd i
 at_place_in (y ∷ ys) x d i =

@@ -248,7 +248,7 @@ module _ (p : PuzzleValue) (name : ℕ) (piece : List Coordinates) (cs : List Ch
       (other_pieces p name) (filter other cs) (distinct_filter (λ (q : ℕ × List Coordinates). not (q.0 == name)) p.pieces (distinct_pieces p.pieces apart))
       (λ q i.
       let k = in_from_filter (λ (r : ℕ × List Coordinates). not (r.0 == name)) q p.pieces i in
-      let c = h.used (q.0) (in_map (λ (r : ℕ × List Coordinates). r.0) q p.pieces k.0) (needs (q.0) k.1) in
+      let c = h.used (q.0) (in_map (λ (r : ℕ × List Coordinates). r.0) q p.pieces k.0) (needs (q.0) k.1) (ap (λ (ns : List ℕ). has_name ns (q.0)) f.sure) in
       let there = from_among cs c.0 c.1 in
       let far = subst (λ (n : ℕ). not (n == name) ≡ true) (sym c.2) k.1 in
       (c.0, in_filter other c.0 cs there far, record { there = there; known = k.0; same = sym c.2; apart = far }))

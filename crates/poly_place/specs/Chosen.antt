@@ -2,7 +2,7 @@
 --
 -- Example: in the puzzle of the pieces A and B of one cell each and the region 0 0 0, 1 0 0 the options 3 2 stand for A at 1 0 0
 -- and B at 0 0 0 (proofs/PackingExamples.antt).
-use Rattle.std.specs.Prelude.{◌≡◌, ℕ, ◌+◌, ◌-◌, ◌<◌, ◌≤◌, ◌==◌, Bool, cond, ◌&&◌, List, [], ◌∷◌, map, filter, length, slice_index, slice_index_or, EachIndex}
+use Rattle.std.specs.Prelude.{◌≡◌, ℕ, ◌+◌, ◌-◌, ◌<◌, ◌==◌, nat_le, Bool, cond, ◌&&◌, List, [], ◌∷◌, map, filter, length, slice_index, slice_index_or, EachIndex}
 use Rattle.std.specs.List.{list_any}
 use Rattle.std.specs.List.Sorted.{IsNonDecreasingBy}
 use Rattle.std.specs.Ordering.{is_eq, nat_cmp}
@@ -11,7 +11,7 @@ use Rattle.poly_cells.specs.Coordinates.{Coordinates}
 use Rattle.poly_cells.specs.Sets.{in_order}
 use Rattle.poly_texts.specs.Puzzle.{PuzzleValue, names_of, has_name}
 use Rattle.poly_place.specs.Placements.{cells_cmp}
-use Rattle.poly_place.specs.Packings.{ChoiceValue, StandsFor, choice, choice_at}
+use Rattle.poly_place.specs.Packings.{ChoiceValue, StandsFor, choice, choice_at, laying_count}
 
 -- a packing: the region, the cells of it that may stay empty, a placement for each piece that is used, and the symbols that show the
 -- copies of a piece in turn
@@ -54,13 +54,21 @@ ComeByPiece p cs = IsNonDecreasingBy (λ c. place_in (names_of p.pieces) c.name)
 abbrev pub choice_numbered : List ChoiceValue → ℕ → ChoiceValue
 choice_numbered cs o = slice_index_or cs (o - 1) (choice 0 [])
 
--- each of these numbers one of the choices
-abbrev pub AreNumbered : List ChoiceValue → List ℕ → Type 0
-AreNumbered cs numbers = EachIndex numbers (λ i. (0 < slice_index numbers i) × (slice_index numbers i ≤ length cs))
+-- none of these numbers is 0
+abbrev pub ArePositive : List ℕ → Type 0
+ArePositive numbers = EachIndex numbers (λ i. 0 < slice_index numbers i)
+
+-- the numbers that are those of choices
+abbrev pub numbering : List ChoiceValue → List ℕ → List ℕ
+numbering cs numbers = filter (λ o. nat_le o (length cs)) numbers
+
+-- the options of these that lay a piece, in order
+abbrev pub laying : PuzzleValue → List ℕ → List ℕ
+laying p path = filter (λ o. nat_le o (laying_count p)) (in_order nat_cmp path)
 
 -- the choices for which these options stand, in the order of the options, which is that of the pieces
 abbrev pub chosen_by : PuzzleValue → List ℕ → List ChoiceValue
-chosen_by p path = map (choice_at p) (in_order nat_cmp path)
+chosen_by p path = map (choice_at p) (laying p path)
 
 -- the packing for which these options stand
 abbrev pub packing_value : PuzzleValue → List ℕ → PackingValue

@@ -1,10 +1,11 @@
 -- How the items of a puzzle's problem are numbered, by tables of cells and by the places of nodes, and when there is room for its options.
-use Rattle.std.specs.Prelude.{◌≡◌, ℕ, ◌+◌, ◌^◌, ◌==◌, nat_le, Bool, cond, ◌&&◌, List, [], ◌∷◌, ◌++◌, map, filter, length, sum_by, slice_index_or, slice_set}
+use Rattle.std.specs.Prelude.{◌≡◌, ℕ, ◌+◌, ◌^◌, ◌≤◌, ◌==◌, nat_le, Bool, cond, ◌&&◌, List, [], ◌∷◌, ◌++◌, map, filter, flat_map, length, sum_by, slice_index_or, slice_set}
+use Rattle.std.specs.List.{list_all}
 use Rattle.poly_cells.specs.Coordinates.{Coordinates}
 use Rattle.poly_cells.specs.Sets.{IsIn}
-use Rattle.poly_texts.specs.Puzzle.{PuzzleValue, names_of, is_needed}
-use Rattle.cover_problem.specs.declared.limits.TheConstants.{MOST_OPTIONS, MOST_ENTRIES}
-use Rattle.poly_place.specs.Packings.{ChoiceValue, must_fill, a_cell, item_of, place_of, pairs, levels, needed_things, things_of}
+use Rattle.poly_texts.specs.Puzzle.{PuzzleValue, names_of, is_needed, is_spare}
+use Rattle.cover_problem.specs.declared.limits.TheConstants.{MOST_ITEMS, MOST_OPTIONS, MOST_ENTRIES}
+use Rattle.poly_place.specs.Packings.{ChoiceValue, choices, things, must_fill, a_cell, a_piece, item_of, place_of, pairs, levels, needed_things, things_of}
 use Rattle.poly_place.specs.Turns.{from_right, from_left}
 use Rattle.poly_place.specs.Tables.{grid_cells, bit_index}
 
@@ -65,10 +66,39 @@ pair_items name pair before levels leaf =
 
 -- ---- room
 
+-- the ends of a list that pass the test throughout, from the longest on
+abbrev pub left_from : (ℕ → Bool) → List ℕ → List (List ℕ)
+left_from test [] = []
+left_from test (n ∷ ns) = cond (list_all test (n ∷ ns)) ((n ∷ ns) ∷ []) [] ++ left_from test ns
+
+-- the copies that an option leaves out, of each that leaves out some
+abbrev pub left_out : PuzzleValue → List (List ℕ)
+left_out p = flat_map (left_from (is_spare p)) p.equal
+
+-- the items of these pieces
+abbrev pub left_items : PuzzleValue → List ℕ → List ℕ
+left_items p names = map (item_of p) (map a_piece names)
+
 -- the entries that the options of these choices take: one for each item, and a spacer
 abbrev pub entries_of : PuzzleValue → List ChoiceValue → ℕ
 entries_of p cs = sum_by (λ c. length (things_of p c) + 1) cs
 
+-- the entries that options take which leave out these copies
+abbrev pub leaving_entries : List (List ℕ) → ℕ
+leaving_entries lefts = sum_by (λ names. length names + 1) lefts
+
 -- there is room for this many items and the options of these choices
 abbrev pub has_room : PuzzleValue → ℕ → List ChoiceValue → Bool
 has_room p items cs = nat_le (length cs) MOST_OPTIONS && nat_le (items + entries_of p cs + 2) MOST_ENTRIES
+
+-- beside so many options and entries there is room for options that leave out these copies
+abbrev pub has_room_beside : ℕ → ℕ → List (List ℕ) → Bool
+has_room_beside options entries lefts = nat_le (options + length lefts) MOST_OPTIONS && nat_le (entries + leaving_entries lefts) MOST_ENTRIES
+
+-- so many options lay a piece, and so many entries has a table with these alone; both are within the limits, and so is the number of items
+pub record LaysWithin (p : PuzzleValue) (options entries : ℕ) : Type 0 where
+  pub count : options ≡ length (choices p)
+  pub sum : entries ≡ length (things p) + entries_of p (choices p) + 2
+  pub items : length (things p) ≤ MOST_ITEMS
+  pub few : options ≤ MOST_OPTIONS
+  pub low : entries ≤ MOST_ENTRIES

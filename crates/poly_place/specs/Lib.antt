@@ -4,6 +4,7 @@ pub mod Tables
 pub mod Turns
 pub mod Packings
 pub mod Swaps
+pub mod Ranges
 pub mod Volume
 pub mod Plain
 pub mod Chosen

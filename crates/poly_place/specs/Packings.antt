@@ -1,19 +1,19 @@
 -- Packings of a puzzle, and the exact cover problem that stands for them.
 -- Its items are pieces and cells: first those that are required, then those that may be left out, and then nodes of trees that keep
--- equal pieces in order (specs/Turns.antt). Its options are placements.
+-- equal pieces in order (specs/Turns.antt). Its options are placements, and then the ways to leave out spare copies.
 --
 -- Example: the puzzle of two pieces A and B of one cell each and the region 0 0 0, 1 0 0, in which B may be left out and
 -- 1 0 0 may stay empty, has the items A, 000, B and 100. A has the options A 000 and A 100, and B has B 000 alone
 -- (proofs/PackingExamples.antt).
-use Rattle.std.specs.Prelude.{◌^◌, nat_le, ◌/◌, ◌%◌, ◌≡◌, ℕ, ◌+◌, ◌-◌, ◌<◌, ◌≤◌, ◌==◌, Bool, true, false, not, ◌&&◌, ◌||◌, cond, List, [], ◌∷◌, ◌++◌, ◌⊎◌, map, filter, flat_map, length, slice_index_or}
-use Rattle.std.specs.List.{list_any, position_or_len, range_with_len}
+use Rattle.std.specs.Prelude.{◌^◌, nat_le, ◌/◌, ◌%◌, ◌≡◌, ℕ, ◌+◌, ◌-◌, ◌<◌, ◌≤◌, ◌==◌, Bool, true, false, not, ◌&&◌, ◌||◌, cond, List, [], ◌∷◌, ◌++◌, ◌⊎◌, ◌↔◌, map, filter, flat_map, length, slice_index_or}
+use Rattle.std.specs.List.{list_all, list_any, position_or_len, range_with_len}
 use Rattle.std.specs.declared.cmp.Ordering.TheVariants.{Less}
 use Rattle.std.specs.List.Sorted.{IsStrictlySortedBy}
 use Rattle.poly_cells.specs.Coordinates.{Coordinates, coordinates, coordinates_cmp}
 use Rattle.poly_cells.specs.Sets.{IsIn}
 use Rattle.poly_cells.specs.CellTests.{is_same, has_cell}
 use Rattle.poly_cells.specs.CellWords.{cell_word, symbol}
-use Rattle.poly_texts.specs.Puzzle.{PuzzleValue, IsPuzzle, names_of, has_name, is_needed}
+use Rattle.poly_texts.specs.Puzzle.{PuzzleValue, IsPuzzle, names_of, has_name, is_needed, is_spare}
 use Rattle.cover_problem.specs.Problem.{ProblemValue, is_small}
 use Rattle.cover_problem.specs.ExactCover.{IsExactCover}
 use Rattle.poly_place.specs.declared.alike.Group.{Group}
@@ -69,17 +69,22 @@ pub record IsPlaced (p : PuzzleValue) (c : ChoiceValue) : Type 0 where
   pub placed : IsPlacement (turns_of p c.name) piece p.region c.cells
   pub useful : (is_needed p c.name ≡ true) ⊎ ((v : Coordinates) × IsIn v c.cells × (must_fill p v ≡ true))
 
+-- the piece is used: it is laid somewhere
+abbrev pub IsUsed : (ChoiceValue → Bool) → ℕ → Type 0
+IsUsed chosen name = (c : ChoiceValue) × (chosen c ≡ true) × (c.name ≡ name)
+
 -- some pieces, the required ones among them, each in one placement (those that may be used any number of times in some), which fill
--- each required cell and meet nowhere; of two equal pieces the one that comes first has the lesser of their least cells;
--- given as a test on choices
+-- each required cell and meet nowhere; of two equal pieces the one that comes first has the lesser of their least cells, and is used
+-- where the other one is; given as a test on choices
 pub record IsPacking (p : PuzzleValue) (chosen : ChoiceValue → Bool) : Type 0 where
   pub placed : (c : ChoiceValue) → chosen c ≡ true → IsPlaced p c
   pub once : (c d : ChoiceValue) → chosen c ≡ true → chosen d ≡ true → is_any p c.name ≡ false → c.name ≡ d.name → c ≡ d
-  pub used : (name : ℕ) → IsIn name (names_of p.pieces) → is_needed p name ≡ true → (c : ChoiceValue) × (chosen c ≡ true) × (c.name ≡ name)
+  pub used : (name : ℕ) → IsIn name (names_of p.pieces) → is_needed p name ≡ true → is_spare p name ≡ false → IsUsed chosen name
   pub filled : (v : Coordinates) → must_fill p v ≡ true → (c : ChoiceValue) × (chosen c ≡ true) × IsIn v c.cells
   pub apart : (v : Coordinates) (c d : ChoiceValue) → chosen c ≡ true → chosen d ≡ true → IsIn v c.cells → IsIn v d.cells → c ≡ d
   pub ordered : (c d : ChoiceValue) → chosen c ≡ true → chosen d ≡ true → IsIn (c.name, d.name) (pairs p)
       → coordinates_cmp (first_cell c.cells) (first_cell d.cells) ≡ Less
+  pub in_turn : (m n : ℕ) → IsIn (m, n) (pairs p) → IsUsed chosen n → IsUsed chosen m
 
 -- ---- the problem
 
@@ -94,6 +99,19 @@ choices_of_piece p named = filter (is_useful p) (map (choice (named.0)) (placeme
 -- what may be chosen, piece by piece
 unfoldable pub choices : PuzzleValue → List ChoiceValue
 choices p = flat_map (choices_of_piece p) p.pieces
+
+-- the ways to part equal pieces in two: those that are used, and one at least that is left out
+abbrev pub partings : List ℕ → List (List ℕ × List ℕ)
+partings [] = []
+partings (n ∷ ns) = ([], n ∷ ns) ∷ map (λ parts. (n ∷ parts.0, parts.1)) (partings ns)
+
+-- those that leave out spare copies alone
+abbrev pub leavings_of : PuzzleValue → List ℕ → List (List ℕ × List ℕ)
+leavings_of p group = filter (λ parts. list_all (is_spare p) (parts.1)) (partings group)
+
+-- the ways to leave out spare copies, group by group
+unfoldable pub leavings : PuzzleValue → List (List ℕ × List ℕ)
+leavings p = flat_map (leavings_of p) p.equal
 
 -- what an item stands for: a piece, by its name; a cell; or a node of the tree that keeps two equal pieces in order, by the name of
 -- the one that comes first
@@ -174,6 +192,10 @@ things_of p c = given (not (is_any p c.name)) (a_piece c.name ∷ []) ++ (map a_
 abbrev pub option_of : PuzzleValue → ChoiceValue → List ℕ
 option_of p c = map (item_of p) (things_of p c)
 
+-- the option that stands for leaving out these copies
+abbrev pub leaving_option : PuzzleValue → List ℕ × List ℕ → List ℕ
+leaving_option p parts = map (item_of p) (map a_piece (parts.1))
+
 -- the name of a node of a pair's tree: the name of the one that comes first, `_`, and the node's number in three symbols
 abbrev pub node_word : ℕ → ℕ → List ℕ
 node_word name h = name ∷ 95 ∷ symbol (h / 1024) ∷ symbol (h / 32 % 32) ∷ symbol (h % 32) ∷ []
@@ -189,7 +211,7 @@ unfoldable pub packing_problem : PuzzleValue → ProblemValue
 packing_problem p = record {
   names = map thing_name (things p);
   primary = length (needed_things p);
-  options = map (option_of p) (choices p);
+  options = map (option_of p) (choices p) ++ map (leaving_option p) (leavings p);
 }
 
 -- whether that problem is within the limits
@@ -198,14 +220,34 @@ problem_fits p = is_small (packing_problem p)
 
 -- ---- packings and exact covers
 
+-- how many options lay a piece
+abbrev pub laying_count : PuzzleValue → ℕ
+laying_count p = length (choices p)
+
+-- how many options there are
+abbrev pub option_count : PuzzleValue → ℕ
+option_count p = length (choices p) + length (leavings p)
+
 -- the choice for which the option numbered o stands
 abbrev pub choice_at : PuzzleValue → ℕ → ChoiceValue
 choice_at p o = slice_index_or (choices p) (o - 1) (choice 0 [])
 
--- a set of options and a test on choices stand for each other
+-- what the option numbered o leaves out, after the options that lay a piece
+abbrev pub leaving_at : PuzzleValue → ℕ → List ℕ × List ℕ
+leaving_at p o = slice_index_or (leavings p) (o - length (choices p) - 1) ([], [])
+
+-- of the equal pieces the first ones are used, and the others aren't
+pub record LeavesOut (chosen : ChoiceValue → Bool) (parts : List ℕ × List ℕ) : Type 0 where
+  pub used : (n : ℕ) → IsIn n (parts.0) → IsUsed chosen n
+  pub left : (n : ℕ) → IsIn n (parts.1) → IsUsed chosen n → ⊥
+
+-- a set of options and a test on choices stand for each other: options that lay a piece for what is chosen, and those that leave out
+-- spare copies for what is left
 pub record StandsFor (p : PuzzleValue) (set : ℕ → Bool) (chosen : ChoiceValue → Bool) : Type 0 where
-  pub forth : (o : ℕ) → set o ≡ true → (0 < o) × (o ≤ length (choices p)) × (chosen (choice_at p o) ≡ true)
-  pub back : (c : ChoiceValue) → chosen c ≡ true → (o : ℕ) × (set o ≡ true) × (choice_at p o ≡ c)
+  pub within : (o : ℕ) → set o ≡ true → (0 < o) × (o ≤ option_count p)
+  pub forth : (o : ℕ) → set o ≡ true → o ≤ laying_count p → chosen (choice_at p o) ≡ true
+  pub back : (c : ChoiceValue) → chosen c ≡ true → (o : ℕ) × (set o ≡ true) × (o ≤ laying_count p) × (choice_at p o ≡ c)
+  pub left : (o : ℕ) → laying_count p < o → o ≤ option_count p → ((set o ≡ true) ↔ LeavesOut chosen (leaving_at p o))
 
 -- packings and exact covers are the same, one for one
 pub record ArePackings (p : PuzzleValue) : Type 0 where

@@ -9,21 +9,27 @@ use Rattle.poly_place.specs.Placements.{placements}
 use Rattle.poly_place.specs.Packings.{ChoiceValue, choice, must_fill, Thing, a_piece, a_cell, index_among, thing_name, packing_problem}
 use Rattle.poly_cells.specs.Coordinates.{Coordinates}
 
--- as it was: the required pieces and cells, and then the others
+-- ---- the problem of such a puzzle, without what is of equal, repeated and reflected pieces
+
+-- the required pieces and cells
 abbrev pub plain_needed : PuzzleValue → List Thing
 plain_needed p = map a_piece (filter (λ n. not (has_name p.maybe_pieces n)) (names_of p.pieces)) ++ map a_cell (filter (must_fill p) p.region)
 
+-- and then the others
 abbrev pub plain_things : PuzzleValue → List Thing
 plain_things p = plain_needed p ++ (map a_piece p.maybe_pieces ++ map a_cell p.maybe_cells)
 
+-- the option of a choice: its piece and its cells
 abbrev pub plain_option : PuzzleValue → ChoiceValue → List ℕ
 plain_option p c = map (λ t. index_among t (plain_things p) + 1) (a_piece c.name ∷ map a_cell c.cells)
 
+-- what may be chosen: the placements by rotations, those of a piece that may be left out where they fill a required cell
 abbrev pub plain_choices : PuzzleValue → List ChoiceValue
 plain_choices p =
     flat_map (λ (n : ℕ × List Coordinates).
     filter (λ c. not (has_name p.maybe_pieces c.name) || list_any (must_fill p) c.cells) (map (choice (n.0)) (placements rotations (n.1) p.region))) p.pieces
 
+-- the problem of all of them
 abbrev pub plain_problem : PuzzleValue → ProblemValue
 plain_problem p = record {
   names = map thing_name (plain_things p);
@@ -31,11 +37,12 @@ plain_problem p = record {
   options = map (plain_option p) (plain_choices p);
 }
 
--- a puzzle as they were
+-- a puzzle without such pieces
 pub record IsPlainPuzzle (p : PuzzleValue) : Type 0 where
   pub none_any : p.any_pieces ≡ []
   pub none_mirrored : p.mirrored ≡ []
   pub none_equal : p.equal ≡ []
 
+-- its problem is that one
 abbrev pub PlainStay : Type 0
 PlainStay = (p : PuzzleValue) → IsPlainPuzzle p → packing_problem p ≡ plain_problem p

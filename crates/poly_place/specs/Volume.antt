@@ -1,4 +1,4 @@
--- Where the volume forces how often a piece is used: no cell may stay empty, no piece may be left out, and one piece alone may be used any
+-- Where the volume forces how often a piece is used: no cell may stay empty, no piece or copy may be left out, and one piece alone may be used any
 -- number of times. What the others leave of the region it has to fill.
 --
 -- Example: dominoes alone fill a region of 36 cells with 18 copies.
@@ -14,6 +14,7 @@ use Rattle.poly_place.specs.Chosen.{is_among}
 pub record IsForced (p : PuzzleValue) (name : ℕ) (piece : List Coordinates) : Type 0 where
   pub filled : p.maybe_cells ≡ []
   pub used : p.maybe_pieces ≡ []
+  pub sure : p.spare ≡ []
   pub any : p.any_pieces ≡ name ∷ []
   pub named : IsIn (name, piece) p.pieces
 

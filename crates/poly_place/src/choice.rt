@@ -1,14 +1,13 @@
 //! What may be chosen for the pieces of a puzzle: a placement of each.
 ghost use Rattle.std.specs.Prelude.{◌≡◌, ◌||◌, length};
 ghost use Rattle.std.specs.List.{list_any};
-ghost use Rattle.poly_cells.specs.Sets.{IsIn};
-ghost use Rattle.poly_texts.specs.Puzzle.{IsPuzzle, names_of};
 ghost use Rattle.cover_problem.specs.Answers.{Returns, ReturnsItems, Adds};
 ghost use Rattle.poly_place.specs.Tables.{IsTable, grid_cells, has_bit};
 ghost use Rattle.poly_place.specs.Packings.{choices, choices_of_piece, turning_group};
-ghost use Rattle.poly_place.specs.Compiled.{filled_cells, needed_names};
+ghost use Rattle.poly_place.specs.Compiled.{filled_cells};
 
 use crate::alike::Group;
+use crate::items::is_needed;
 use crate::placement::placements_by;
 use crate::table::has_bit;
 use poly_cells::{Cell, Shape};
@@ -65,17 +64,14 @@ pub fn add_choices(
     alloc: Global,
     choices: &mut Vec<Choice>,
     puzzle: &Puzzle,
-    needed: &[PieceName],
     filled: &[bool],
     name: PieceName,
     piece: &Shape,
 ) -> Result<(), AllocError>
-    requires needed { needed.now ≡ needed_names puzzle.now }
-    requires filled { IsTable (filled_cells puzzle.now) filled.now }
-    requires member { IsIn name (names_of puzzle.now.pieces) }
+    requires { IsTable (filled_cells puzzle.now) filled.now }
     ensures { Adds result choices.old choices.new (choices_of_piece puzzle.now (name, piece.now)) }
 {
-    let is_needed = needed.contains(&name);
+    let is_needed = is_needed(puzzle, name);
     let group = turning_group(puzzle, name);
     for cells in placements_by(alloc, piece, puzzle.region(), group)? {
         if is_useful(is_needed, filled, cells.cells()) {
@@ -118,18 +114,16 @@ fn meets(bits: &[bool], cells: &[Cell]) -> bool
 pub fn all_choices(
     alloc: Global,
     puzzle: &Puzzle,
-    needed: &[PieceName],
     filled: &[bool],
 ) -> Result<Vec<Choice>, AllocError>
-    requires needed { needed.now ≡ needed_names puzzle.now }
-    requires filled { IsTable (filled_cells puzzle.now) filled.now }
+    requires { IsTable (filled_cells puzzle.now) filled.now }
     ensures { ReturnsItems result (choices puzzle.now) }
 {
     let pieces = puzzle.pieces();
     let mut choices = Vec::new(alloc);
     for k in 0..pieces.len() {
         let (name, piece) = pieces.get_index(k).unwrap();
-        add_choices(alloc, &mut choices, puzzle, needed, filled, *name, piece)?;
+        add_choices(alloc, &mut choices, puzzle, filled, *name, piece)?;
     }
     Ok(choices)
 }

@@ -3,13 +3,14 @@ ghost use Rattle.std.specs.Prelude.{◌≡◌, ◌++◌, Ok, Some, None, true, f
 ghost use Rattle.std.specs.Prelude.{IsOk, IsErrOf};
 ghost use Rattle.poly_texts.specs.Puzzle.{IsPuzzle};
 ghost use Rattle.cover_problem.specs.Answers.{Returns, ReturnsItems};
-ghost use Rattle.poly_place.specs.Answers.{ReturnsLists, ReturnsTexts};
+ghost use Rattle.poly_place.specs.Answers.{AddsLists, ReturnsLists, ReturnsTexts, lists_of};
 ghost use Rattle.poly_place.specs.Packings.{choices, packing_problem, needed_things, option_of, thing_name, things, problem_fits};
-ghost use Rattle.poly_place.specs.Compiled.{filled_cells, needed_names};
+ghost use Rattle.poly_place.specs.Compiled.{filled_cells, left_items, left_out, needed_names};
 
 use crate::choice::{Choice, all_choices};
 use crate::fault::PlaceFault;
 use crate::items::{add_cell_names, add_piece_names, needed_cells, needed_pieces};
+use crate::leaving::left_out;
 use crate::numbers::Numbers;
 use crate::room::has_room;
 use crate::table::table_of;
@@ -40,7 +41,8 @@ impl<'p> Model for Compiled<'p> {
 }
 
 impl<'p> Compiled<'p> {
-    /// The problem: required pieces, required cells, optional pieces and optional cells as items, placements as options.
+    /// The problem: required pieces, required cells, optional pieces and optional cells as items, placements as options, and then the ways
+    /// to leave out spare copies.
     pub fn problem(&self) -> &Problem
         ensures { result.now ≡ packing_problem self.now }
     {
@@ -106,17 +108,11 @@ pub fn compile<'p>(alloc: Global, puzzle: &'p Puzzle) -> Result<Compiled<'p>, Pl
     let cells = needed_cells(alloc, puzzle)?;
     let filled = table_of(alloc, cells.as_slice())?;
     let numbers = Numbers::of(alloc, puzzle, pieces.as_slice(), cells.as_slice())?;
-    let room = has_room(
-        alloc,
-        puzzle,
-        pieces.as_slice(),
-        filled.as_slice(),
-        &numbers,
-    )?;
+    let room = has_room(alloc, puzzle, filled.as_slice(), &numbers)?;
     if let Some(fault) = refusal(room) {
         return Err(fault);
     }
-    let choices = all_choices(alloc, puzzle, pieces.as_slice(), filled.as_slice())?;
+    let choices = all_choices(alloc, puzzle, filled.as_slice())?;
     let problem = problem_of(
         alloc,
         puzzle,
@@ -151,7 +147,16 @@ fn problem_of(
 {
     let primary = (pieces.len() + cells.len()) as u32;
     let names = item_names(alloc, puzzle, pieces, cells, numbers)?;
-    let options = all_options(alloc, pieces, primary, numbers, list)?;
+    let mut options = all_options(alloc, pieces, primary, numbers, list)?;
+    let lefts = left_out(alloc, puzzle)?;
+    add_leavings(
+        alloc,
+        &mut options,
+        pieces,
+        primary,
+        numbers,
+        lefts.as_slice(),
+    )?;
     match Problem::new(alloc, names, primary, options) {
         Ok(problem) => Ok(problem),
         Err(refused) => match refused.fault {
@@ -181,6 +186,27 @@ fn item_names(
     add_cell_names(alloc, &mut names, puzzle.maybe_cells())?;
     numbers.add_node_names(alloc, &mut names)?;
     Ok(names)
+}
+
+/// Adds the options that leave out these copies.
+fn add_leavings(
+    alloc: Global,
+    options: &mut Vec<Vec<u32>>,
+    needed: &[PieceName],
+    primary: u32,
+    numbers: &Numbers<'_>,
+    lefts: &[Vec<PieceName>],
+) -> Result<(), AllocError>
+    requires puzzle { IsPuzzle numbers.now }
+    requires needed { needed.now ≡ needed_names numbers.now }
+    requires primary { primary ≡ length (needed_things numbers.now) }
+    requires lefts { lists_of lefts.now ≡ left_out numbers.now }
+    ensures { AddsLists result options.old options.new (map (left_items numbers.now) (left_out numbers.now)) }
+{
+    for left in lefts {
+        options.push(numbers.items_of(alloc, needed, primary, left.as_slice())?)?;
+    }
+    Ok(())
 }
 
 /// The options of these choices.

@@ -1,10 +1,10 @@
 //! The items of a puzzle's problem: the required pieces and cells, and then those that may be left out.
-ghost use Rattle.std.specs.Prelude.{◌≡◌, ◌≤◌, ◌<◌, ◌+◌, ◌∷◌, [], ◌&&◌, false, not, IfOk, length, map};
+ghost use Rattle.std.specs.Prelude.{◌≡◌, ◌≤◌, ◌<◌, ◌+◌, ◌∷◌, [], false, IfOk, length, map};
 ghost use Rattle.std.specs.String.{string_bytes};
 ghost use Rattle.poly_cells.specs.CellWords.{cell_word};
 ghost use Rattle.poly_cells.specs.CellWords as grammar;
 ghost use Rattle.poly_cells.specs.Sets.{IsIn};
-ghost use Rattle.poly_texts.specs.Puzzle.{IsPuzzle, names_of, has_name};
+ghost use Rattle.poly_texts.specs.Puzzle.{IsPuzzle, names_of, is_needed};
 ghost use Rattle.cover_problem.specs.Limits.{most_items};
 ghost use Rattle.cover_problem.specs.Answers.{ReturnsItems};
 ghost use Rattle.poly_place.specs.Answers.{AddsTexts};
@@ -17,28 +17,26 @@ use poly_cells::Cell;
 use poly_texts::{PieceName, Puzzle};
 use std::alloc::{AllocError, Global};
 
-/// The pieces that may not be left out, in the order of the puzzle.
+/// The pieces that each packing lays or, as spare copies, leaves out, in the order of the puzzle.
 pub fn needed_pieces(alloc: Global, puzzle: &Puzzle) -> Result<Vec<PieceName>, AllocError>
     ensures { ReturnsItems result (needed_names puzzle.now) }
 {
     let mut needed = Vec::new(alloc);
-    let optional = puzzle.maybe_pieces();
-    let any = puzzle.any_pieces();
     let pieces = puzzle.pieces();
     for k in 0..pieces.len() {
         let (name, _shape) = pieces.get_index(k).unwrap();
-        if is_needed(optional, any, *name) {
+        if is_needed(puzzle, *name) {
             needed.push(*name)?;
         }
     }
     Ok(needed)
 }
 
-/// Whether the name is neither one of a piece that may be left out nor one of a piece that may be used any number of times.
-fn is_needed(optional: &[PieceName], any: &[PieceName], name: PieceName) -> bool
-    ensures { result ≡ not (has_name optional.now name) && not (has_name any.now name) }
+/// Whether the piece is neither one that may be left out nor one that may be used any number of times.
+pub fn is_needed(puzzle: &Puzzle, name: PieceName) -> bool
+    ensures { result ≡ is_needed puzzle.now name }
 {
-    !optional.contains(&name) && !any.contains(&name)
+    !puzzle.maybe_pieces().contains(&name) && !puzzle.any_pieces().contains(&name)
 }
 
 /// The cells of the region that may not stay empty, in order.

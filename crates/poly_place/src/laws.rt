@@ -4,6 +4,7 @@ ghost use Rattle.std.specs.Prelude.{◌≡◌, true};
 ghost use Rattle.poly_texts.specs.Puzzle.{PuzzleValue, IsPuzzle};
 ghost use Rattle.cover_problem.specs.Problem.{IsProblem};
 ghost use Rattle.poly_place.specs.Packings.{CoversArePackings, packing_problem, problem_fits};
+ghost use Rattle.poly_place.specs.Ranges.{RangesAreSums, SurePuzzlesStay};
 ghost use Rattle.poly_place.specs.Swaps.{SwapsCountOnce};
 ghost use Rattle.poly_place.specs.Volume.{VolumeForces};
 ghost use Rattle.poly_place.specs.Plain.{PlainStay};
@@ -26,14 +27,24 @@ pub fn swaps_count_once()
     ensures { SwapsCountOnce }
 {}
 
+/// The packings of a puzzle with spare copies are those of the puzzles where the numbers of copies are fixed, each of exactly one.
+pub fn ranges_are_sums()
+    ensures { RangesAreSums }
+{}
+
+/// A puzzle without spare copies has the options that lay a piece, and no others.
+pub fn sure_puzzles_stay()
+    ensures { SurePuzzlesStay }
+{}
+
 /// Where no cell may stay empty, no piece may be left out and one piece alone may be used any number of times, each packing has as many
 /// copies of it as fill what the other pieces leave.
 pub fn volume_forces()
     ensures { VolumeForces }
 {}
 
-/// A puzzle without equal pieces, pieces used any number of times and pieces that may be reflected has the problem that it had before
-/// there were any: the same items, with the same names, and the same options.
+/// A puzzle without equal pieces, pieces used any number of times and pieces that may be reflected has the problem that is stated without
+/// any of these: the same items, with the same names, and the same options.
 pub fn plain_puzzles_stay()
     ensures { PlainStay }
 {}

@@ -10,6 +10,7 @@ mod images;
 mod items;
 pub mod laws;
 mod layer;
+mod leaving;
 mod nodes;
 mod numbers;
 mod packing;

@@ -1,5 +1,5 @@
 //! The numbers of the items of a puzzle's problem, and the options that they make.
-ghost use Rattle.std.specs.Prelude.{◌≡◌, ◌+◌, ◌≤◌, ◌∷◌, [], not, length, map};
+ghost use Rattle.std.specs.Prelude.{◌≡◌, ◌+◌, ◌≤◌, ◌∷◌, [], ℕ, false, not, length, map};
 ghost use Rattle.std.specs.List.{flat_map};
 ghost use Rattle.poly_cells.specs.Sets.{IsIn};
 ghost use Rattle.poly_texts.specs.Puzzle.{IsPuzzle, names_of};
@@ -7,7 +7,7 @@ ghost use Rattle.poly_cells.specs.Coordinates.{Coordinates};
 ghost use Rattle.cover_problem.specs.Answers.{Adds, Returns, ReturnsItems};
 ghost use Rattle.poly_place.specs.Answers.{AddsTexts};
 ghost use Rattle.poly_place.specs.Packings.{a_cell, a_piece, choices, given, is_any, item_of, leaf_of, needed_things, nodes, nodes_by, option_of, pairs, thing_name, things, things_of};
-ghost use Rattle.poly_place.specs.Compiled.{filled_cells, needed_names};
+ghost use Rattle.poly_place.specs.Compiled.{filled_cells, left_items, needed_names};
 
 use crate::choice::Choice;
 use crate::items::{cell_numbers, cell_places, node_name, piece_number};
@@ -99,6 +99,28 @@ impl<'p> Numbers<'p> {
         self.push_cells(&mut option, choice.cells())?;
         self.push_nodes(&mut option, choice)?;
         Ok(option)
+    }
+
+    /// The items of these pieces.
+    pub fn items_of(
+        &self,
+        alloc: Global,
+        needed: &[PieceName],
+        primary: u32,
+        names: &[PieceName],
+    ) -> Result<Vec<u32>, AllocError>
+        requires puzzle { IsPuzzle self.now }
+        requires needed { needed.now ≡ needed_names self.now }
+        requires primary { primary ≡ length (needed_things self.now) }
+        requires members { (n : ℕ) → IsIn n names.now → IsIn n (names_of self.now.pieces) }
+        requires single { (n : ℕ) → IsIn n names.now → is_any self.now n ≡ false }
+        ensures { ReturnsItems result (left_items self.now names.now) }
+    {
+        let mut items = Vec::with_capacity(alloc, names.len())?;
+        for name in names {
+            items.push(piece_number(self.puzzle, needed, primary, *name))?;
+        }
+        Ok(items)
     }
 
     /// Adds the item of a piece, unless it may be used any number of times.

@@ -7,7 +7,7 @@ ghost use Rattle.cover_problem.specs.ExactCover.{IsExactCover};
 ghost use Rattle.cover_problem.specs.Answers.{Returns, ReturnsItems};
 ghost use Rattle.poly_place.specs.Answers.{lists_of};
 ghost use Rattle.poly_place.specs.Packings.{IsPacking, packing_problem};
-ghost use Rattle.poly_place.specs.Chosen.{AreInPieceOrder, AreNumbered, ComeByPiece, choice_numbered, is_among, packing_value, OptionsStandFor};
+ghost use Rattle.poly_place.specs.Chosen.{AreInPieceOrder, ArePositive, ComeByPiece, choice_numbered, numbering, is_among, packing_value, OptionsStandFor};
 
 use crate::choice::Choice;
 use crate::compiled::Compiled;
@@ -98,14 +98,16 @@ fn in_order(alloc: Global, path: &[u32]) -> Result<Vec<u32>, AllocError>
     Ok(numbers)
 }
 
-/// The choices with these numbers, from 1 on.
+/// The choices with these numbers, from 1 on. A number past the last one is none of a choice.
 fn chosen(alloc: Global, choices: &[Choice], numbers: &[u32]) -> Result<Vec<Choice>, AllocError>
-    requires { AreNumbered choices.now numbers.now }
-    ensures { ReturnsItems result (map (choice_numbered choices.now) numbers.now) }
+    requires { ArePositive numbers.now }
+    ensures { ReturnsItems result (map (choice_numbered choices.now) (numbering choices.now numbers.now)) }
 {
     let mut chosen = Vec::with_capacity(alloc, numbers.len())?;
     for number in numbers {
-        chosen.push(choices[*number as usize - 1].copy()?)?;
+        if *number as usize <= choices.len() {
+            chosen.push(choices[*number as usize - 1].copy()?)?;
+        }
     }
     Ok(chosen)
 }

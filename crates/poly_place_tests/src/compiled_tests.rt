@@ -45,6 +45,19 @@ fn equal_pieces_share_nodes(rt: HostRuntime) -> Result<(), Fail> {
 }
 
 #[test]
+fn spare_copies_are_left_out_from_the_last_on(rt: HostRuntime) -> Result<(), Fail> {
+    let text = b"copies A+B 000\ncells 000\nmaybe cells 100\n";
+    let wanted =
+        b"items A B 000\nmaybe 100 A_001\noption A 000\noption A 100 A_001\noption B 000 A_001\noption B 100\noption B\n";
+    assert!(rt; is_compiled_to(rt.alloc(), text, wanted)?);
+    let text = b"copies +AB 000\npiece C 000\ncells 000\n";
+    let wanted =
+        b"items A B C 000\noption A 000\noption B 000\noption C 000\noption A B\noption B\n";
+    assert!(rt; is_compiled_to(rt.alloc(), text, wanted)?);
+    Ok(())
+}
+
+#[test]
 fn a_piece_used_any_number_of_times_has_no_item(rt: HostRuntime) -> Result<(), Fail> {
     let text = b"any piece A 000\ncells 000 100\n";
     assert!(rt; is_compiled_to(rt.alloc(), text, b"items 000 100\noption 000\noption 100\n")?);

@@ -67,6 +67,14 @@ fn an_optional_piece_is_used_or_left_out(rt: HostRuntime) -> Result<(), Fail> {
 }
 
 #[test]
+fn a_spare_copy_is_used_or_left_out(rt: HostRuntime) -> Result<(), Fail> {
+    let text = b"copies A+B 000\ncells 000\nmaybe cells 100\n";
+    assert!(rt; is_shown(rt.alloc(), text, &[5, 1], "A_\n")?);
+    assert!(rt; is_shown(rt.alloc(), text, &[4, 1], "AB\n")?);
+    Ok(())
+}
+
+#[test]
 fn copies_are_shown_in_turn(rt: HostRuntime) -> Result<(), Fail> {
     let text = b"any piece Aab 000\nbox 2 2 1\n";
     assert!(rt; is_shown(rt.alloc(), text, &[4, 1, 3, 2], "Ab\naA\n")?);

@@ -134,6 +134,44 @@ fn lines_of_equal_pieces_have_their_faults(rt: HostRuntime) {
     assert_refused(&rt, rt.alloc(), &LATER_LINES);
 }
 
+static RANGES: [Refusal; 26] = [
+    (b"copies AB+ 000", Fault::BadLine, 1),
+    (b"copies + 000", Fault::BadLine, 1),
+    (b"copies +A 000", Fault::BadLine, 1),
+    (b"copies A+B+C 000", Fault::BadLine, 1),
+    (b"copies A++B 000", Fault::BadLine, 1),
+    (b"copies A+B+ 000", Fault::BadLine, 1),
+    (b"copies A +B 000", Fault::BadLine, 1),
+    (b"copies A+- 000", Fault::BadLine, 1),
+    (b"copies A+B", Fault::BadLine, 1),
+    (b"copies A+B 00", Fault::BadCell, 1),
+    (b"copies A+B 000 000", Fault::RepeatedCell, 1),
+    (b"copies A+A 000", Fault::RepeatedPiece, 1),
+    (b"copies A+BB 00", Fault::RepeatedPiece, 1),
+    (b"piece B 000\ncopies A+B 000", Fault::RepeatedPiece, 2),
+    (b"copies A+B 000\npiece B 000", Fault::RepeatedPiece, 2),
+    (b"copies A+B 000\ncopies CB 000", Fault::RepeatedPiece, 2),
+    (b"copies A+B 000\nany piece CB 000", Fault::RepeatedPiece, 2),
+    (b"mirror copies AB+ 000", Fault::BadLine, 1),
+    (b"mirror copies A+B 00", Fault::BadCell, 1),
+    (b"maybe copies A+B 000", Fault::BadLine, 1),
+    (b"any copies A+B 000", Fault::BadLine, 1),
+    (b"piece A+B 000", Fault::BadLine, 1),
+    (b"maybe piece +A 000", Fault::BadLine, 1),
+    (b"any piece A+B 000", Fault::BadLine, 1),
+    (b"copies A+B 000\nbox 1 1", Fault::BadLine, 2),
+    (
+        b"maybe cells 000\ncopies +AB 000",
+        Fault::NothingRequired,
+        0,
+    ),
+];
+
+#[test]
+fn lines_of_spare_copies_have_their_faults(rt: HostRuntime) {
+    assert_refused(&rt, rt.alloc(), &RANGES);
+}
+
 /// A piece of 64 cells and a word more.
 const FULL_PIECE: &[u8] = b"piece A \
     000 001 002 003 004 005 006 007 008 009 00a 00b 00c 00d 00e 00f \
@@ -233,13 +271,14 @@ fn is_one_group(groups: &[Vec<PieceName>], symbols: &[u8]) -> bool {
             .all(|group| are_names(group.as_slice(), symbols))
 }
 
-/// Names of pieces: of those that may be used any number of times, of those that may be reflected, of equal ones, and the symbols that
-/// show copies.
+/// Names of pieces: of those that may be used any number of times, of those that may be reflected, of equal ones, the symbols that
+/// show copies, and the names of spare copies.
 struct Names {
     any: &'static [u8],
     mirrored: &'static [u8],
     equal: &'static [u8],
     symbols: &'static [u8],
+    spare: &'static [u8],
 }
 
 /// Whether a text is read as a puzzle with these names.
@@ -250,6 +289,7 @@ fn has_names(alloc: Global, text: &[u8], names: &Names) -> bool {
                 && are_names(puzzle.mirrored(), names.mirrored)
                 && is_one_group(puzzle.equal(), names.equal)
                 && is_one_group(puzzle.symbols(), names.symbols)
+                && are_names(puzzle.spare(), names.spare)
         }
         Err(_) => false,
     }
@@ -260,6 +300,7 @@ const SEVERAL: Names = Names {
     mirrored: b"aBCAD",
     equal: b"BCA",
     symbols: b"x0y",
+    spare: b"",
 };
 
 #[test]
@@ -267,6 +308,30 @@ fn equal_pieces_are_read(rt: HostRuntime) {
     let text =
         b"any mirror piece a 000 100\nmirror copies BCA 000\nmaybe mirror piece D 000\nany piece x0y 000\nbox 3 1 1";
     assert!(rt; has_names(rt.alloc(), text, &SEVERAL));
+}
+
+const TWO_SPARE: Names = Names {
+    any: b"x",
+    mirrored: b"BCA",
+    equal: b"BCA",
+    symbols: b"x0y",
+    spare: b"CA",
+};
+
+const ALL_SPARE: Names = Names {
+    any: b"x",
+    mirrored: b"",
+    equal: b"1a",
+    symbols: b"x0y",
+    spare: b"1a",
+};
+
+#[test]
+fn spare_copies_are_read(rt: HostRuntime) {
+    let text = b"mirror copies B+CA 000\nany piece x0y 000\nbox 3 1 1";
+    assert!(rt; has_names(rt.alloc(), text, &TWO_SPARE));
+    let text = b"any piece x0y 000\ncopies +1a 000\nbox 3 1 1";
+    assert!(rt; has_names(rt.alloc(), text, &ALL_SPARE));
 }
 
 const OPTIONAL_CELL: Parts = Parts {

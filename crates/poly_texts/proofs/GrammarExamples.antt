@@ -6,7 +6,7 @@ use Rattle.poly_cells.specs.Shapes.{normal}
 use Rattle.poly_texts.specs.declared.need.Need.TheVariants as needs
 use Rattle.poly_texts.specs.Needs.{pieces_named}
 use Rattle.poly_texts.specs.Plain.{plain_piece, plain_words}
-use Rattle.poly_texts.specs.Grammar.{piece, box, cut, line_words, puzzle_by}
+use Rattle.poly_texts.specs.Grammar.{piece, range, box, cut, line_words, is_line, spare_by, puzzle_by}
 
 words_of_a_piece : line_words (piece needs.Must false false (65 ∷ []) (coordinates 1 0 0 ∷ coordinates 2 10 31 ∷ [])) ≡ codes "piece" ∷ codes "A" ∷ codes "100" ∷ codes "2av" ∷ []
 words_of_a_piece = refl
@@ -21,9 +21,19 @@ said_together : puzzle_by (piece needs.Must false false (65 ∷ []) (coordinates
       mirrored = [];
       equal = [];
       symbols = [];
+      spare = [];
     }
 unfolding in_order normal
 said_together = refl
+
+words_of_a_range : line_words (range false (65 ∷ 66 ∷ []) (67 ∷ []) (coordinates 0 0 0 ∷ [])) ≡ codes "copies" ∷ codes "AB+C" ∷ codes "000" ∷ []
+words_of_a_range = refl
+
+two_or_three : spare_by (range false (65 ∷ 66 ∷ []) (67 ∷ []) (coordinates 0 0 0 ∷ [])) ≡ 67 ∷ []
+two_or_three = refl
+
+none_spare : is_line (range false (65 ∷ 66 ∷ []) [] (coordinates 0 0 0 ∷ [])) ≡ false
+none_spare = refl
 
 shown_by_two : pieces_named needs.Any (65 ∷ 66 ∷ []) ≡ 65 ∷ []
 shown_by_two = refl

@@ -1,7 +1,8 @@
 -- A line that is taken is a line within the limits, and what it adds to what is said.
-use Rattle.std.proofs.Common.{◌≡◌, ◌<◌, ◌≤◌, ℕ, List, [], ◌∷◌, map, length, Bool, true, false, cond, not, ◌&&◌, nat_lt, nat_le, ◌||◌, Option, Some, None, Ok, Err, refl, sym, ap, ◌∙◌, subst, arith, codes, decimal, lt-ltb, le-leb, ltb-true, leb-true}
+use Rattle.std.proofs.Common.{◌≡◌, ◌<◌, ◌≤◌, ◌==◌, ◌++◌, ℕ, List, [], ◌∷◌, drop, map, length, Bool, true, false, cond, not, ◌&&◌, nat_lt, nat_le, ◌||◌, Option, Some, None, Ok, Err, refl, sym, ap, ◌∙◌, subst, arith, codes, decimal, lt-ltb, le-leb, ltb-true, leb-true}
 use Rattle.std.specs.List.{list_all}
-use Rattle.std.proofs.lemmas.Bool.{and_parts, and_from, both_ways, or_right, not-true, not-false, not_from_false}
+use Rattle.std.proofs.lemmas.Bool.{and_parts, and_from, both_ways, or_right, or_parts, ne_eqb, not-true, not-false, not_from_false}
+use Rattle.std.proofs.lemmas.Bool.Decides.{nat_tests}
 use Rattle.text_lines.specs.Lines.{is_empty}
 use Rattle.text_lines.specs.Each.{each, ◌>>=◌}
 use Rattle.std.proofs.lemmas.Option.{same_Some, none-some}
@@ -14,18 +15,20 @@ use Rattle.poly_texts.specs.declared.need.Need.{Need}
 use Rattle.poly_texts.specs.declared.need.Need.TheVariants as needs
 use Rattle.poly_texts.specs.Cells.{with_cells}
 use Rattle.poly_texts.specs.Needs.{is_must}
-use Rattle.poly_texts.specs.Words.{word_names, is_name, are_so_many, are_sizes, are_small, is_size, size_from}
-use Rattle.poly_texts.specs.Reading.{DraftValue, kept_shape, shape_of, within, some_repeated, taken_in, with_line, are_fresh, new_names, add_cell, add_piece_cell, three_words, with_box, sized_box, piece_line, box_line, cells_line, maybe_cells_line, cut_line, key_from, mirror_keyed, mirror_line, any_keyed, any_line, maybe_keyed, maybe_line, keyed_line, words_line}
+use Rattle.poly_texts.specs.Words.{word_names, is_name, are_so_many, has_plus, before_plus, after_plus, are_sizes, are_small, is_size, size_from}
+use Rattle.poly_texts.specs.Reading.{DraftValue, kept_shape, shape_of, within, some_repeated, taken_in, with_line, are_fresh, new_names, add_cell, add_piece_cell, three_words, with_spare, range_line, copies_line, with_box, sized_box, piece_line, box_line, cells_line, maybe_cells_line, cut_line, key_from, mirror_keyed, mirror_line, any_keyed, any_line, maybe_keyed, maybe_line, keyed_line, words_line}
 use Rattle.poly_cells.specs.CellTests.{is_in_grid}
 use Rattle.poly_cells.specs.CellWords.{cell_word}
-use Rattle.poly_texts.specs.Grammar.{Line, piece, box, cells, cut, need_words, mirror_words, piece_word, are_names, line_words, are_in_grid, are_apart, is_side, is_line}
+use Rattle.poly_texts.specs.Grammar.{Line, piece, range, box, cells, cut, need_words, mirror_words, piece_word, are_names, are_ranged, line_words, are_in_grid, are_apart, is_side, is_line}
 use Rattle.text_lines.proofs.ResultLemmas.{ok_is, no_fault, bind_ok, unrefused, granted, key_told}
 use Rattle.poly_texts.proofs.ReadingLemmas.{piece_read, names_found}
+use Rattle.poly_texts.proofs.PlusLemmas.{plus_none, plus_again, plus_is, drop_first}
 use Rattle.poly_texts.proofs.SpellingLemmas.{words_same, cells_again, cells_are, piece_again, piece_cells_are, side_again, side_is}
 
 -- what is said with one more line
 abbrev pub plus : DraftValue → Line → DraftValue
 plus s (piece need several mirrored names cs) = with_line s need mirrored names (kept_shape cs)
+plus s (range mirrored names spare cs) = with_spare (with_line s needs.Must mirrored (names ++ spare) (kept_shape cs)) spare
 plus s (box a b c) = with_box s a b c
 plus s (cells optional cs) = record s { named = with_cells s.named cs; maybe_cells = cond optional (with_cells s.maybe_cells cs) s.maybe_cells }
 plus s (cut cs) = record s { cut = with_cells s.cut cs }
@@ -36,6 +39,7 @@ is_small s = nat_le (length s.named) most_region_cells
 -- whether a line may come after what is said
 abbrev pub is_fit : DraftValue → Line → Bool
 is_fit s (piece need several mirrored names cs) = not (some_repeated (taken_in s) names)
+is_fit s (range mirrored names spare cs) = not (some_repeated (taken_in s) (names ++ spare))
 is_fit s (box a b c) = not s.boxed && is_small (with_box s a b c)
 is_fit s (cells optional cs) = is_small (plus s (cells optional cs))
 is_fit s (cut cs) = true
@@ -50,6 +54,34 @@ some_cells (c ∷ cs) h = lt-ltb 0 (length (c ∷ cs)) (omega arith)
 
 within_is : (s : DraftValue) (t : DraftValue) → within s ≡ Ok t → (is_small s ≡ true) × (s ≡ t)
 within_is s t h = let p = granted (is_small s) TooLarge (Ok s) t h in (p.0, ok_is s t p.1)
+
+-- *the parts of a line*
+
+fresh_is : (taken : ℕ → Bool) (found : Option (List ℕ)) (names : List ℕ) → are_fresh taken found ≡ Ok names → (found ≡ Some names) × (some_repeated taken names ≡ false)
+fresh_is taken None names h = absurd (no_fault BadLine names h)
+fresh_is taken (Some ns) names h =
+    let p = unrefused (some_repeated taken ns) RepeatedPiece (Ok ns) names h in
+    let e = ok_is ns names p.1 in
+    (ap (λ m. Some m) e, subst (λ m. some_repeated taken m ≡ false) e p.0)
+
+name_parts : (taken : ℕ → Bool) (need : Need) (several : Bool) (word names : List ℕ) → new_names taken need several word ≡ Ok names → (word_names need several word ≡ Some names) × (some_repeated taken names ≡ false)
+unfolding new_names
+name_parts taken need several word names h = fresh_is taken (word_names need several word) names h
+
+shape_parts : (words : List (List ℕ)) (shape : List Coordinates) → shape_of words ≡ Ok shape → (cs : List Coordinates) × (each add_piece_cell [] words ≡ Ok cs) × (kept_shape cs ≡ shape)
+unfolding shape_of
+shape_parts words shape h =
+    let b = bind_ok (each add_piece_cell [] words) (λ cs. Ok (kept_shape cs)) shape h in
+    (b.0, b.1, ok_is (kept_shape b.0) shape b.2)
+
+piece_parts : (s : DraftValue) (need : Need) (several mirrored : Bool) (word : List ℕ) (words : List (List ℕ)) (t : DraftValue) → piece_line s need several mirrored (word ∷ words) ≡ Ok t →
+    (is_empty words ≡ false) × ((names : List ℕ) × (new_names (taken_in s) need several word ≡ Ok names) × ((shape : List Coordinates) × (shape_of words ≡ Ok shape) × (with_line s need mirrored names shape ≡ t)))
+unfolding piece_line
+piece_parts s need several mirrored word words t h =
+    let u = unrefused (is_empty words) BadLine (new_names (taken_in s) need several word >>= λ names. shape_of words >>= λ shape. Ok (with_line s need mirrored names shape)) t h in
+    let b = bind_ok (new_names (taken_in s) need several word) (λ names. shape_of words >>= λ shape. Ok (with_line s need mirrored names shape)) t u.1 in
+    let d = bind_ok (shape_of words) (λ shape. Ok (with_line s need mirrored b.0 shape)) t b.2 in
+    (u.0, (b.0, b.1, (d.0, d.1, ok_is (with_line s need mirrored b.0 d.0) t d.2)))
 
 -- *a line that fits is taken*
 
@@ -77,6 +109,54 @@ piece_again_line s need several mirrored names cs is fit =
     let u = and_parts (nat_lt 0 (length cs)) (list_all is_in_grid cs) q.0 in
     piece_read s need several mirrored (names ∷ map cell_word cs) names (map cell_word cs) names (kept_shape cs) refl (some_words cs (ltb-true 0 (length cs) u.0))
     (names_found (taken_in s) need several names names (sym (names_again need several names p.0)) (not-true _ fit)) (shape_again cs u.1 r.0 (leb-true (length cs) most_piece_cells r.1))
+
+are_named : (need : Need) (several : Bool) (names : List ℕ) → are_names need several names ≡ true → list_all is_name names ≡ true
+are_named need several names h =
+    (and_parts (list_all is_name names) (are_so_many need several (length names))
+    (and_parts (is_must need || not several) (list_all is_name names && are_so_many need several (length names)) h).1).0
+
+copies_again_line : (s : DraftValue) (mirrored : Bool) (names : List ℕ) (cs : List Coordinates) → is_line (piece needs.Must true mirrored names cs) ≡ true → not (some_repeated (taken_in s) names) ≡ true
+    → copies_line s mirrored (names ∷ map cell_word cs) ≡ Ok (with_line s needs.Must mirrored names (kept_shape cs))
+unfolding copies_line
+copies_again_line s mirrored names cs is fit =
+    let p = and_parts (are_names needs.Must true names) (are_in_grid cs && (are_apart cs && nat_le (length cs) most_piece_cells)) is in
+    rw (plus_none names (are_named needs.Must true names p.0)) (piece_again_line s needs.Must true mirrored names cs is fit)
+
+-- a line of which some pieces are spare is as a line of all of them
+as_piece : (mirrored : Bool) (names spare : List ℕ) (cs : List Coordinates) → is_line (range mirrored names spare cs) ≡ true
+    → (nat_lt 0 (length spare) ≡ true) × (is_line (piece needs.Must true mirrored (names ++ spare) cs) ≡ true)
+as_piece mirrored names spare cs is =
+    let cells = are_in_grid cs && (are_apart cs && nat_le (length cs) most_piece_cells) in
+    let p = and_parts (are_ranged names spare) cells is in
+    let q = and_parts (nat_lt 0 (length spare)) (are_names needs.Must true (names ++ spare)) p.0 in
+    (q.0, and_from (are_names needs.Must true (names ++ spare)) cells q.1 p.1)
+
+range_from_piece : (s : DraftValue) (mirrored : Bool) (needed spare : List ℕ) (words : List (List ℕ)) (t : DraftValue) → nat_lt 0 (length spare) ≡ true
+    → piece_line s needs.Must true mirrored ((needed ++ spare) ∷ words) ≡ Ok t → range_line s mirrored needed spare words ≡ Ok (with_spare t spare)
+unfolding range_line
+range_from_piece s mirrored needed spare words t some h =
+    let p = piece_parts s needs.Must true mirrored (needed ++ spare) words t h in
+    let lt = ltb-true 0 (length spare) some in
+    let none : (length spare == 0) ≡ false = ne_eqb (length spare) 0 (λ e. omega (arith, e, lt)) in
+    rw (p.0, none, p.1.1, p.1.2.1) (ap (λ u. Ok (with_spare u spare)) p.1.2.2)
+
+range_again_line : (s : DraftValue) (mirrored : Bool) (names spare : List ℕ) (cs : List Coordinates) → is_line (range mirrored names spare cs) ≡ true → not (some_repeated (taken_in s) (names ++ spare)) ≡ true
+    → copies_line s mirrored ((names ++ 43 ∷ spare) ∷ map cell_word cs) ≡ Ok (plus s (range mirrored names spare cs))
+unfolding copies_line
+range_again_line s mirrored names spare cs is fit =
+    let p = as_piece mirrored names spare cs is in
+    let good = (all_parts names spare (are_named needs.Must true (names ++ spare) (and_parts (are_names needs.Must true (names ++ spare)) (are_in_grid cs && (are_apart cs && nat_le (length cs) most_piece_cells)) p.1).0)).0 in
+    let w = plus_again spare names good in
+    rw (w.0, w.1, w.2)
+    (range_from_piece s mirrored names spare (map cell_word cs) (with_line s needs.Must mirrored (names ++ spare) (kept_shape cs)) p.0
+    (piece_again_line s needs.Must true mirrored (names ++ spare) cs p.1 fit))
+  where
+    all_parts : (xs ys : List ℕ) → list_all is_name (xs ++ ys) ≡ true → (list_all is_name xs ≡ true) × (list_all is_name ys ≡ true)
+    all_parts [] ys h = (refl, h)
+    all_parts (x ∷ xs) ys h =
+        let p = and_parts (is_name x) (list_all is_name (xs ++ ys)) h in
+        let rest = all_parts xs ys p.1 in
+        (and_from (is_name x) (list_all is_name xs) p.0 rest.0, rest.1)
 
 box_again_line : (s : DraftValue) (a b c : ℕ) → is_line (box a b c) ≡ true → is_fit s (box a b c) ≡ true → box_line s (decimal a ∷ decimal b ∷ decimal c ∷ []) ≡ Ok (with_box s a b c)
 unfolding box_line
@@ -115,8 +195,8 @@ cut_again_line s cs is =
 
 pub line_again : (s : DraftValue) (l : Line) → is_line l ≡ true → is_fit s l ≡ true → words_line s (line_words l) ≡ Ok (plus s l)
 unfolding words_line maybe_line any_line mirror_line
-line_again s (piece needs.Must true true names cs) is fit = piece_again_line s needs.Must true true names cs is fit
-line_again s (piece needs.Must true false names cs) is fit = piece_again_line s needs.Must true false names cs is fit
+line_again s (piece needs.Must true true names cs) is fit = copies_again_line s true names cs is fit
+line_again s (piece needs.Must true false names cs) is fit = copies_again_line s false names cs is fit
 line_again s (piece needs.Must false true names cs) is fit = piece_again_line s needs.Must false true names cs is fit
 line_again s (piece needs.Must false false names cs) is fit = piece_again_line s needs.Must false false names cs is fit
 line_again s (piece needs.Maybe true true names cs) is fit = absurd (both_ways false refl is)
@@ -127,6 +207,8 @@ line_again s (piece needs.Any true true names cs) is fit = absurd (both_ways fal
 line_again s (piece needs.Any true false names cs) is fit = absurd (both_ways false refl is)
 line_again s (piece needs.Any false true names cs) is fit = piece_again_line s needs.Any false true names cs is fit
 line_again s (piece needs.Any false false names cs) is fit = piece_again_line s needs.Any false false names cs is fit
+line_again s (range true names spare cs) is fit = range_again_line s true names spare cs is fit
+line_again s (range false names spare cs) is fit = range_again_line s false names spare cs is fit
 line_again s (box a b c) is fit = box_again_line s a b c is fit
 line_again s (cells true cs) is fit = maybe_again_line s cs is fit
 line_again s (cells false cs) is fit = cells_again_line s cs is fit
@@ -141,32 +223,6 @@ pub record IsTakenLine (s : DraftValue) (words : List (List ℕ)) (t : DraftValu
   pub good : is_line line ≡ true
   pub fits : is_fit s line ≡ true
   pub more : t ≡ plus s line
-
-fresh_is : (taken : ℕ → Bool) (found : Option (List ℕ)) (names : List ℕ) → are_fresh taken found ≡ Ok names → (found ≡ Some names) × (some_repeated taken names ≡ false)
-fresh_is taken None names h = absurd (no_fault BadLine names h)
-fresh_is taken (Some ns) names h =
-    let p = unrefused (some_repeated taken ns) RepeatedPiece (Ok ns) names h in
-    let e = ok_is ns names p.1 in
-    (ap (λ m. Some m) e, subst (λ m. some_repeated taken m ≡ false) e p.0)
-
-name_parts : (taken : ℕ → Bool) (need : Need) (several : Bool) (word names : List ℕ) → new_names taken need several word ≡ Ok names → (word_names need several word ≡ Some names) × (some_repeated taken names ≡ false)
-unfolding new_names
-name_parts taken need several word names h = fresh_is taken (word_names need several word) names h
-
-shape_parts : (words : List (List ℕ)) (shape : List Coordinates) → shape_of words ≡ Ok shape → (cs : List Coordinates) × (each add_piece_cell [] words ≡ Ok cs) × (kept_shape cs ≡ shape)
-unfolding shape_of
-shape_parts words shape h =
-    let b = bind_ok (each add_piece_cell [] words) (λ cs. Ok (kept_shape cs)) shape h in
-    (b.0, b.1, ok_is (kept_shape b.0) shape b.2)
-
-piece_parts : (s : DraftValue) (need : Need) (several mirrored : Bool) (word : List ℕ) (words : List (List ℕ)) (t : DraftValue) → piece_line s need several mirrored (word ∷ words) ≡ Ok t →
-    (is_empty words ≡ false) × ((names : List ℕ) × (new_names (taken_in s) need several word ≡ Ok names) × ((shape : List Coordinates) × (shape_of words ≡ Ok shape) × (with_line s need mirrored names shape ≡ t)))
-unfolding piece_line
-piece_parts s need several mirrored word words t h =
-    let u = unrefused (is_empty words) BadLine (new_names (taken_in s) need several word >>= λ names. shape_of words >>= λ shape. Ok (with_line s need mirrored names shape)) t h in
-    let b = bind_ok (new_names (taken_in s) need several word) (λ names. shape_of words >>= λ shape. Ok (with_line s need mirrored names shape)) t u.1 in
-    let d = bind_ok (shape_of words) (λ shape. Ok (with_line s need mirrored b.0 shape)) t b.2 in
-    (u.0, (b.0, b.1, (d.0, d.1, ok_is (with_line s need mirrored b.0 d.0) t d.2)))
 
 no_piece : (s : DraftValue) (need : Need) (several mirrored : Bool) (t : DraftValue) → piece_line s need several mirrored [] ≡ Ok t → ⊥
 unfolding piece_line
@@ -189,6 +245,68 @@ piece_taken s need several mirrored (word ∷ words) t u h =
       fits = not_from_false _ n.1;
       more = sym p.1.2.2 ∙ ap (with_line s need mirrored p.1.0) (sym k.2 ∙ ap kept_shape all);
     }
+
+-- a `copies` line with a `+`
+range_parts : (s : DraftValue) (mirrored : Bool) (needed spare : List ℕ) (words : List (List ℕ)) (t : DraftValue) → range_line s mirrored needed spare words ≡ Ok t →
+    (nat_lt 0 (length spare) ≡ true) × ((u : DraftValue) × (piece_line s needs.Must true mirrored ((needed ++ spare) ∷ words) ≡ Ok u) × (with_spare u spare ≡ t))
+unfolding range_line
+range_parts s mirrored needed spare words t h =
+    let later = new_names (taken_in s) needs.Must true (needed ++ spare) >>= λ names. shape_of words >>= λ shape. Ok (with_spare (with_line s needs.Must mirrored names shape) spare) in
+    let u = unrefused (is_empty words || (length spare == 0)) BadLine later t h in
+    let o = or_parts (is_empty words) (length spare == 0) u.0 in
+    let b = bind_ok (new_names (taken_in s) needs.Must true (needed ++ spare)) (λ names. shape_of words >>= λ shape. Ok (with_spare (with_line s needs.Must mirrored names shape) spare)) t u.1 in
+    let d = bind_ok (shape_of words) (λ shape. Ok (with_spare (with_line s needs.Must mirrored b.0 shape) spare)) t b.2 in (
+      lt-ltb 0 (length spare) (let n = o.1 in grind (arith, nat_tests)),
+      (with_line s needs.Must mirrored b.0 d.0, piece_read s needs.Must true mirrored ((needed ++ spare) ∷ words) (needed ++ spare) words b.0 d.0 refl o.0 b.1 d.1, ok_is (with_spare (with_line s needs.Must mirrored b.0 d.0) spare) t d.2),
+    )
+
+-- the names of a line with a `+` are its symbols
+pub range_names : (taken : ℕ → Bool) (needed spare names : List ℕ) → new_names taken needs.Must true (needed ++ spare) ≡ Ok names → needed ++ spare ≡ names
+range_names taken needed spare names h =
+    let n = name_parts taken needs.Must true (needed ++ spare) names h in
+    (names_is needs.Must true (needed ++ spare) names refl n.0).1
+
+-- a `copies` line with a `+` whose words gave these
+pub range_read : (s : DraftValue) (mirrored : Bool) (needed spare : List ℕ) (words : List (List ℕ)) (names : List ℕ) (shape : List Coordinates) → is_empty words ≡ false → (length spare == 0) ≡ false
+    → new_names (taken_in s) needs.Must true (needed ++ spare) ≡ Ok names → shape_of words ≡ Ok shape
+    → range_line s mirrored needed spare words ≡ Ok (with_spare (with_line s needs.Must mirrored names shape) (drop (length needed) names))
+unfolding range_line
+range_read s mirrored needed spare words names shape some more a b =
+    let e = range_names (taken_in s) needed spare names a in
+    let rest : drop (length needed) names ≡ spare = ap (drop (length needed)) (sym e) ∙ drop_first needed spare in
+    rw (some, more, a, b) (ap (λ ns. Ok (with_spare (with_line s needs.Must mirrored names shape) ns)) (sym rest))
+
+-- what was taken as a line of pieces is taken as one of which some are spare
+range_taken : (s : DraftValue) (mirrored : Bool) (word : List ℕ) (words : List (List ℕ)) (t : DraftValue) → has_plus word ≡ true → range_line s mirrored (before_plus word) (after_plus word) words ≡ Ok t
+    → IsTakenLine s (mirror_words mirrored (codes "copies" ∷ word ∷ words)) t
+range_taken s mirrored word words t plus h =
+    let r = range_parts s mirrored (before_plus word) (after_plus word) words t h in
+    let all = before_plus word ++ after_plus word in
+    let p = piece_parts s needs.Must true mirrored all words r.1.0 r.1.1 in
+    let n = name_parts (taken_in s) needs.Must true all p.1.0 p.1.1 in
+    let w = names_is needs.Must true all p.1.0 refl n.0 in
+    let k = shape_parts words p.1.2.0 p.1.2.1 in
+    let m = piece_cells_are [] words k.0 refl (omega arith) k.1 in
+    let cells : k.0 ≡ m.cs = m.all_are in
+    let some : is_empty (map cell_word m.cs) ≡ false = rw (← m.words_are) p.0 in
+    record {
+      line = range mirrored (before_plus word) (after_plus word) m.cs;
+      words_are = ap (λ ws. mirror_words mirrored (codes "copies" ∷ ws)) (words_same (plus_is word plus) m.words_are);
+      good = and_from _ _ (and_from _ _ r.0 (subst (λ ns. are_names needs.Must true ns ≡ true) (sym w.1) w.0))
+          (and_from _ _ (and_from _ _ (some_cells m.cs some) m.in_grid) (and_from _ _ (subst (λ cs. are_apart cs ≡ true) cells m.apart) (le-leb (length m.cs) most_piece_cells (subst (λ cs. length cs ≤ most_piece_cells) cells m.few))));
+      fits = not_from_false _ (subst (λ ns. some_repeated (taken_in s) ns ≡ false) (sym w.1) n.1);
+      more = sym r.1.2 ∙ ap (λ u. with_spare u (after_plus word)) (sym p.1.2.2 ∙ ap (λ ns. with_line s needs.Must mirrored ns p.1.2.0) (sym w.1) ∙ ap (with_line s needs.Must mirrored all) (sym k.2 ∙ ap kept_shape cells));
+    }
+
+copies_taken : (s : DraftValue) (mirrored : Bool) (words : List (List ℕ)) (t : DraftValue) → copies_line s mirrored words ≡ Ok t → IsTakenLine s (mirror_words mirrored (codes "copies" ∷ words)) t
+unfolding copies_line
+copies_taken s mirrored [] t h = absurd (no_fault BadLine t h)
+copies_taken s mirrored (word ∷ words) t h = by_test (has_plus word) refl h
+  where
+    by_test : (b : Bool) → has_plus word ≡ b → cond b (range_line s mirrored (before_plus word) (after_plus word) words) (piece_line s needs.Must true mirrored (word ∷ words)) ≡ Ok t
+        → IsTakenLine s (mirror_words mirrored (codes "copies" ∷ word ∷ words)) t
+    by_test true e g = range_taken s mirrored word words t e g
+    by_test false e g = piece_taken s needs.Must true mirrored (word ∷ words) t refl g
 
 three_is : (words : List (List ℕ)) (a b c : List ℕ) → three_words words ≡ Some (a, b, c) → words ≡ a ∷ b ∷ c ∷ []
 three_is [] a b c h = absurd (cc)
@@ -297,7 +415,7 @@ key_is word k h =
 mirror_keyed_is : (s : DraftValue) (need : Need) (key : List ℕ) (words : List (List ℕ)) (t : DraftValue) (k : Option Key) → key_from key ≡ k → mirror_keyed k s need words ≡ Ok t → IsTakenLine s (need_words need (codes "mirror" ∷ key ∷ words)) t
 unfolding key_word
 mirror_keyed_is s need key words t (Some keys.Piece) e h = rw (key_is key keys.Piece e) (piece_taken s need false true words t (or_right (is_must need) true refl) h)
-mirror_keyed_is s needs.Must key words t (Some keys.Copies) e h = rw (key_is key keys.Copies e) (piece_taken s needs.Must true true words t refl h)
+mirror_keyed_is s needs.Must key words t (Some keys.Copies) e h = rw (key_is key keys.Copies e) (copies_taken s true words t h)
 mirror_keyed_is s need key words t _ e h = absurd (no_fault BadLine t h)
 
 mirror_is : (s : DraftValue) (need : Need) (words : List (List ℕ)) (t : DraftValue) → mirror_line s need words ≡ Ok t → IsTakenLine s (need_words need (codes "mirror" ∷ words)) t
@@ -338,7 +456,7 @@ keyed_is s key words t (Some keys.Cut) e h = rw (key_is key keys.Cut e) (cut_tak
 keyed_is s key words t (Some keys.Maybe) e h = rw (key_is key keys.Maybe e) (maybe_is s words t h)
 keyed_is s key words t (Some keys.Any) e h = rw (key_is key keys.Any e) (any_is s words t h)
 keyed_is s key words t (Some keys.Mirror) e h = rw (key_is key keys.Mirror e) (mirror_is s needs.Must words t h)
-keyed_is s key words t (Some keys.Copies) e h = rw (key_is key keys.Copies e) (piece_taken s needs.Must true false words t refl h)
+keyed_is s key words t (Some keys.Copies) e h = rw (key_is key keys.Copies e) (copies_taken s false words t h)
 
 -- a line with words that is taken is a line that fits
 pub line_is : (s : DraftValue) (key : List ℕ) (words : List (List ℕ)) (t : DraftValue) → words_line s (key ∷ words) ≡ Ok t → IsTakenLine s (key ∷ words) t

@@ -10,8 +10,8 @@ use Rattle.std.proofs.lemmas.Map.Made.{length-le_from_is_member}
 use Rattle.poly_cells.specs.Coordinates.{Coordinates}
 use Rattle.poly_texts.specs.Limits.{most_piece_cells, most_pieces}
 use Rattle.poly_texts.specs.Words.{is_name, are_so_many}
-use Rattle.poly_texts.specs.Puzzle.{names_of, has_name, are_new}
-use Rattle.poly_texts.specs.Grammar.{Line, piece, box, cells, cut, are_names, is_line, are_in_grid, are_apart, piece_of, maybe_name_of, any_name_of, mirrored_by, equal_by, taken_by}
+use Rattle.poly_texts.specs.Puzzle.{names_of, has_name, are_new, come_last}
+use Rattle.poly_texts.specs.Grammar.{Line, piece, range, box, cells, cut, are_names, are_ranged, is_line, are_in_grid, are_apart, piece_of, maybe_name_of, any_name_of, mirrored_by, equal_by, spare_by, taken_by}
 use Rattle.poly_texts.specs.declared.need.Need.{Need}
 use Rattle.poly_texts.specs.declared.need.Need.TheVariants as needs
 use Rattle.poly_texts.specs.Needs.{is_must, is_maybe, is_repeatable, pieces_named}
@@ -20,13 +20,14 @@ use Rattle.poly_texts.proofs.FreshLemmas.{has_in, in_has, named_own, named_keeps
 use Rattle.std.specs.Cmp.{both_ways as same_tests}
 use Rattle.poly_cells.specs.Sets.{IsIn}
 use Rattle.poly_cells.proofs.MemberLemmas.{in_flat_map, in_from_flat_map, all_pass, passes, some_passes, passes_some, in_to_range}
-use Rattle.poly_cells.proofs.SetLemmas.{all_from_in, in_append_cases, in_from_map, in_map}
+use Rattle.poly_cells.proofs.SetLemmas.{all_from_in, in_append_cases, in_append_left, in_append_right, in_from_map, in_map}
 
 -- *names of lines*
 
 -- the names of the pieces of a line
 unfoldable pub laid_names : Line → List ℕ
 laid_names (piece need several mirrored names cs) = pieces_named need names
+laid_names (range mirrored names spare cs) = names ++ spare
 laid_names (box a b c) = []
 laid_names (cells optional cs) = []
 laid_names (cut cs) = []
@@ -37,6 +38,9 @@ names_flat [] = refl
 names_flat (piece need several mirrored names cs ∷ ls) =
     map-append (λ p. p.0) (named_shapes (pieces_named need names) (kept_shape cs)) (flat_map piece_of ls)
     ∙ ap₂ (λ (ns ms : List ℕ). ns ++ ms) (shapes_named (pieces_named need names) (kept_shape cs)) (names_flat ls)
+names_flat (range mirrored names spare cs ∷ ls) =
+    map-append (λ p. p.0) (named_shapes (names ++ spare) (kept_shape cs)) (flat_map piece_of ls)
+    ∙ ap₂ (λ (ns ms : List ℕ). ns ++ ms) (shapes_named (names ++ spare) (kept_shape cs)) (names_flat ls)
 names_flat (box a b c ∷ ls) = names_flat ls
 names_flat (cells optional cs ∷ ls) = names_flat ls
 names_flat (cut cs ∷ ls) = names_flat ls
@@ -45,6 +49,7 @@ names_flat (cut cs ∷ ls) = names_flat ls
 pub laid_own : (l : Line) (n : ℕ) → IsIn n (laid_names l) → IsIn n (taken_by l)
 unfolding laid_names
 laid_own (piece need several mirrored names cs) n i = named_own need names n i
+laid_own (range mirrored names spare cs) n i = i
 laid_own (box a b c) n i = absurd i
 laid_own (cells optional cs) n i = absurd i
 laid_own (cut cs) n i = absurd i
@@ -72,6 +77,7 @@ in_group_names names n i = by_test (nat_lt 1 (length names)) i
 maybe_own : (l : Line) (n : ℕ) → IsIn n (maybe_name_of l) → IsIn n (laid_names l)
 unfolding laid_names
 maybe_own (piece need several mirrored names cs) n i = (in_if (is_maybe need) n (pieces_named need names) i).1
+maybe_own (range mirrored names spare cs) n i = absurd i
 maybe_own (box a b c) n i = absurd i
 maybe_own (cells optional cs) n i = absurd i
 maybe_own (cut cs) n i = absurd i
@@ -79,6 +85,7 @@ maybe_own (cut cs) n i = absurd i
 any_own : (l : Line) (n : ℕ) → IsIn n (any_name_of l) → IsIn n (laid_names l)
 unfolding laid_names
 any_own (piece need several mirrored names cs) n i = (in_if (is_repeatable need) n (pieces_named need names) i).1
+any_own (range mirrored names spare cs) n i = absurd i
 any_own (box a b c) n i = absurd i
 any_own (cells optional cs) n i = absurd i
 any_own (cut cs) n i = absurd i
@@ -86,6 +93,7 @@ any_own (cut cs) n i = absurd i
 mirrored_own : (l : Line) (n : ℕ) → IsIn n (mirrored_by l) → IsIn n (laid_names l)
 unfolding laid_names
 mirrored_own (piece need several mirrored names cs) n i = (in_if mirrored n (pieces_named need names) i).1
+mirrored_own (range mirrored names spare cs) n i = (in_if mirrored n (names ++ spare) i).1
 mirrored_own (box a b c) n i = absurd i
 mirrored_own (cells optional cs) n i = absurd i
 mirrored_own (cut cs) n i = absurd i
@@ -93,6 +101,7 @@ mirrored_own (cut cs) n i = absurd i
 group_own : (l : Line) (n : ℕ) → IsIn n (group_names l) → IsIn n (laid_names l)
 unfolding laid_names group_names
 group_own (piece need several mirrored names cs) n i = (in_group_names (pieces_named need names) n i).0
+group_own (range mirrored names spare cs) n i = (in_group_names (names ++ spare) n i).0
 group_own (box a b c) n i = absurd i
 group_own (cells optional cs) n i = absurd i
 group_own (cut cs) n i = absurd i
@@ -116,6 +125,11 @@ name_good (piece need several mirrored names cs) n h i =
     let p = and_parts (are_names need several names) (are_in_grid cs && (are_apart cs && nat_le (length cs) most_piece_cells)) h in
     let q = and_parts (is_must need || not several) (list_all is_name names && are_so_many need several (length names)) p.0 in
     passes is_name names (and_parts (list_all is_name names) (are_so_many need several (length names)) q.1).0 n i
+name_good (range mirrored names spare cs) n h i =
+    let p = and_parts (are_ranged names spare) (are_in_grid cs && (are_apart cs && nat_le (length cs) most_piece_cells)) h in
+    let q = and_parts (nat_lt 0 (length spare)) (are_names needs.Must true (names ++ spare)) p.0 in
+    let r = and_parts (list_all is_name (names ++ spare)) (are_so_many needs.Must true (length (names ++ spare))) q.1 in
+    passes is_name (names ++ spare) r.0 n i
 name_good (box a b c) n h i = absurd i
 name_good (cells optional cs) n h i = absurd i
 name_good (cut cs) n h i = absurd i
@@ -176,6 +190,7 @@ sub_new f own keeps (l ∷ ls) h =
 laid_keeps : (l : Line) → are_new (taken_by l) ≡ true → are_new (laid_names l) ≡ true
 unfolding laid_names
 laid_keeps (piece need several mirrored names cs) h = named_keeps need names h
+laid_keeps (range mirrored names spare cs) h = h
 laid_keeps (box a b c) h = refl
 laid_keeps (cells optional cs) h = refl
 laid_keeps (cut cs) h = refl
@@ -203,6 +218,7 @@ module _ (ls : List Line) (good : list_all is_line ls ≡ true) (new : NewNames 
   any_or_maybe (piece needs.Must several mirrored names cs) n h i j = absurd i
   any_or_maybe (piece needs.Maybe several mirrored names cs) n h i j = absurd i
   any_or_maybe (piece needs.Any several mirrored names cs) n h i j = absurd j
+  any_or_maybe (range mirrored names spare cs) n h i j = absurd i
   any_or_maybe (box a b c) n h i j = absurd i
   any_or_maybe (cells optional cs) n h i j = absurd i
   any_or_maybe (cut cs) n h i j = absurd i
@@ -231,6 +247,7 @@ module _ (ls : List Line) (good : list_all is_line ls ≡ true) (new : NewNames 
   group_or_maybe (piece needs.Must several mirrored names cs) n h i j = absurd j
   group_or_maybe (piece needs.Maybe several mirrored names cs) n h i j = let m = single needs.Maybe several names cs mirrored h (in_group_names (pieces_named needs.Maybe names) n i).1 in cc
   group_or_maybe (piece needs.Any several mirrored names cs) n h i j = absurd j
+  group_or_maybe (range mirrored names spare cs) n h i j = absurd j
   group_or_maybe (box a b c) n h i j = absurd i
   group_or_maybe (cells optional cs) n h i j = absurd i
   group_or_maybe (cut cs) n h i j = absurd i
@@ -240,6 +257,7 @@ module _ (ls : List Line) (good : list_all is_line ls ≡ true) (new : NewNames 
   group_or_any (piece needs.Must several mirrored names cs) n h i j = absurd j
   group_or_any (piece needs.Maybe several mirrored names cs) n h i j = absurd j
   group_or_any (piece needs.Any several mirrored names cs) n h i j = let m = single needs.Any several names cs mirrored h (in_group_names (pieces_named needs.Any names) n i).1 in cc
+  group_or_any (range mirrored names spare cs) n h i j = absurd j
   group_or_any (box a b c) n h i j = absurd i
   group_or_any (cells optional cs) n h i j = absurd i
   group_or_any (cut cs) n h i j = absurd i
@@ -259,60 +277,160 @@ module _ (ls : List Line) (good : list_all is_line ls ≡ true) (new : NewNames 
 
   -- *one shape*
 
-  group_is : (l : Line) (group : List ℕ) → IsIn group (equal_by l)
-      → (need : Need) × (several : Bool) × (mirrored : Bool) × (names : List ℕ) × (cs : List Coordinates) × (l ≡ piece need several mirrored names cs) × (group ≡ pieces_named need names)
-  group_is (piece need several mirrored names cs) group i = by_test (nat_lt 1 (length (pieces_named need names))) i
+  -- the line that tells of a group, and whether its pieces may be reflected
+  record TellsGroup (l : Line) (group : List ℕ) : Type 0 where
+    mirrored : Bool
+    cs : List Coordinates
+    pieces : piece_of l ≡ named_shapes group (kept_shape cs)
+    reflected : mirrored_by l ≡ names_if mirrored group
+    own : (n : ℕ) → IsIn n group → IsIn n (taken_by l)
+
+  in_one_group : (names group : List ℕ) → IsIn group (group_of names) → group ≡ names
+  in_one_group names group i = by_test (nat_lt 1 (length names)) i
     where
-      by_test : (b : Bool) → IsIn group (cond b (pieces_named need names ∷ []) [])
-          → (n : Need) × (k : Bool) × (m : Bool) × (ns : List ℕ) × (vs : List Coordinates) × (piece need several mirrored names cs ≡ piece n k m ns vs) × (group ≡ pieces_named n ns)
-      by_test true i = elim i [ inl e ↦ (need, several, mirrored, names, cs, refl, e) | inr r ↦ absurd r ]
+      by_test : (b : Bool) → IsIn group (cond b (names ∷ []) []) → group ≡ names
+      by_test true i = elim i [ inl e ↦ e | inr r ↦ absurd r ]
       by_test false i = absurd i
-  group_is (box a b c) group i = absurd i
-  group_is (cells optional cs) group i = absurd i
-  group_is (cut cs) group i = absurd i
+
+  tells_group : (l : Line) (group : List ℕ) → IsIn group (equal_by l) → TellsGroup l group
+  tells_group (piece need several mirrored names cs) group i =
+      let e = in_one_group (pieces_named need names) group i in
+      record {
+        mirrored = mirrored;
+        cs = cs;
+        pieces = ap (λ (ns : List ℕ). named_shapes ns (kept_shape cs)) (sym e);
+        reflected = ap (names_if mirrored) (sym e);
+        own = λ n j. named_own need names n (subst (λ (ns : List ℕ). IsIn n ns) e j);
+      }
+  tells_group (range mirrored names spare cs) group i =
+      let e = in_one_group (names ++ spare) group i in
+      record {
+        mirrored = mirrored;
+        cs = cs;
+        pieces = ap (λ (ns : List ℕ). named_shapes ns (kept_shape cs)) (sym e);
+        reflected = ap (names_if mirrored) (sym e);
+        own = λ n j. subst (λ (ns : List ℕ). IsIn n ns) e j;
+      }
+  tells_group (box a b c) group i = absurd i
+  tells_group (cells optional cs) group i = absurd i
+  tells_group (cut cs) group i = absurd i
 
   shape_own : (l : Line) (n : ℕ) (vs : List Coordinates) → IsIn (n, vs) (piece_of l) → IsIn n (laid_names l)
   unfolding laid_names
   shape_own (piece need several mirrored names cs) n vs i =
       let m = in_from_map (λ k. (k, kept_shape cs)) (n, vs) (pieces_named need names) i in
       subst (λ (k : ℕ). IsIn k (pieces_named need names)) (sym (ap (λ (q : ℕ × List Coordinates). q.0) m.2)) m.1
+  shape_own (range mirrored names spare cs) n vs i =
+      let m = in_from_map (λ k. (k, kept_shape cs)) (n, vs) (names ++ spare) i in
+      subst (λ (k : ℕ). IsIn k (names ++ spare)) (sym (ap (λ (q : ℕ × List Coordinates). q.0) m.2)) m.1
   shape_own (box a b c) n vs i = absurd i
   shape_own (cells optional cs) n vs i = absurd i
   shape_own (cut cs) n vs i = absurd i
 
-  module _ (need : Need) (several mirrored : Bool) (names : List ℕ) (cs : List Coordinates) (there : IsIn (piece need several mirrored names cs) ls) where
-    line_of : (k : Line) (n : ℕ) → IsIn k ls → IsIn n (pieces_named need names) → IsIn n (laid_names k) → k ≡ piece need several mirrored names cs
-    line_of k n i a b = one_line ls new k (piece need several mirrored names cs) n i there (laid_own k n b) (named_own need names n a)
+  module _ (l : Line) (there : IsIn l ls) (group : List ℕ) (t : TellsGroup l group) where
+    line_of : (k : Line) (n : ℕ) → IsIn k ls → IsIn n group → IsIn n (laid_names k) → k ≡ l
+    line_of k n i a b = one_line ls new k l n i there (laid_own k n b) (t.own n a)
 
-    shape_to : (m n : ℕ) → IsIn m (pieces_named need names) → IsIn n (pieces_named need names) → (vs : List Coordinates) → IsIn (m, vs) (flat_map piece_of ls) → IsIn (n, vs) (flat_map piece_of ls)
+    shape_to : (m n : ℕ) → IsIn m group → IsIn n group → (vs : List Coordinates) → IsIn (m, vs) (flat_map piece_of ls) → IsIn (n, vs) (flat_map piece_of ls)
     shape_to m n a b vs i =
         let k = in_from_flat_map piece_of (m, vs) ls i in
         let same = line_of k.0 m k.1 a (shape_own k.0 m vs k.2) in
-        let here = subst (λ (x : Line). IsIn (m, vs) (piece_of x)) same k.2 in
-        let from = in_from_map (λ q. (q, kept_shape cs)) (m, vs) (pieces_named need names) here in
-        let shape : vs ≡ kept_shape cs = ap (λ (q : ℕ × List Coordinates). q.1) from.2 in
-        in_flat_map piece_of (n, vs) (piece need several mirrored names cs) ls there
-        (subst (λ (ws : List Coordinates). IsIn (n, ws) (named_shapes (pieces_named need names) (kept_shape cs))) (sym shape) (in_map (λ q. (q, kept_shape cs)) n (pieces_named need names) b))
+        let here = subst (λ (ps : List (ℕ × List Coordinates)). IsIn (m, vs) ps) (ap piece_of same ∙ t.pieces) k.2 in
+        let from = in_from_map (λ q. (q, kept_shape t.cs)) (m, vs) group here in
+        let shape : vs ≡ kept_shape t.cs = ap (λ (q : ℕ × List Coordinates). q.1) from.2 in
+        in_flat_map piece_of (n, vs) l ls there
+        (subst (λ (ps : List (ℕ × List Coordinates)). IsIn (n, vs) ps) (sym t.pieces)
+        (subst (λ (ws : List Coordinates). IsIn (n, ws) (named_shapes group (kept_shape t.cs))) (sym shape) (in_map (λ q. (q, kept_shape t.cs)) n group b)))
 
-    mirrored_to : (m n : ℕ) → IsIn m (pieces_named need names) → IsIn n (pieces_named need names) → has_name (flat_map mirrored_by ls) m ≡ true → has_name (flat_map mirrored_by ls) n ≡ true
+    mirrored_to : (m n : ℕ) → IsIn m group → IsIn n group → has_name (flat_map mirrored_by ls) m ≡ true → has_name (flat_map mirrored_by ls) n ≡ true
     mirrored_to m n a b h =
         let k = in_from_flat_map mirrored_by m ls (in_has (flat_map mirrored_by ls) m h) in
         let same = line_of k.0 m k.1 a (mirrored_own k.0 m k.2) in
-        let here = subst (λ (x : Line). IsIn m (mirrored_by x)) same k.2 in
+        let here = subst (λ (ns : List ℕ). IsIn m ns) (ap mirrored_by same ∙ t.reflected) k.2 in
         has_in (flat_map mirrored_by ls) n
-        (in_flat_map mirrored_by n (piece need several mirrored names cs) ls there (if_in mirrored n (pieces_named need names) (in_if mirrored m (pieces_named need names) here).0 b))
+        (in_flat_map mirrored_by n l ls there (subst (λ (ns : List ℕ). IsIn n ns) (sym t.reflected) (if_in t.mirrored n group (in_if t.mirrored m group here).0 b)))
 
   pub equal_shapes : (group : List ℕ) (m n : ℕ) → IsIn group (flat_map equal_by ls) → IsIn m group → IsIn n group
       → ((vs : List Coordinates) → IsIn (m, vs) (flat_map piece_of ls) ↔ IsIn (n, vs) (flat_map piece_of ls)) × (has_name (flat_map mirrored_by ls) m ≡ has_name (flat_map mirrored_by ls) n)
   equal_shapes group m n i a b =
       let l = in_from_flat_map equal_by group ls i in
-      let is = group_is l.0 group l.2 in
-      let there = subst (λ (x : Line). IsIn x ls) is.5 l.1 in
-      let first = subst (λ ns. IsIn m ns) is.6 a in
-      let second = subst (λ ns. IsIn n ns) is.6 b in (
-        (λ vs. (shape_to is.0 is.1 is.2 is.3 is.4 there m n first second vs, shape_to is.0 is.1 is.2 is.3 is.4 there n m second first vs)),
-        same_tests _ _ (mirrored_to is.0 is.1 is.2 is.3 is.4 there m n first second) (mirrored_to is.0 is.1 is.2 is.3 is.4 there n m second first),
+      let t = tells_group l.0 group l.2 in (
+        (λ vs. (shape_to l.0 l.1 group t m n a b vs, shape_to l.0 l.1 group t n m b a vs)),
+        same_tests _ _ (mirrored_to l.0 l.1 group t m n a b) (mirrored_to l.0 l.1 group t n m b a),
       )
+
+  -- *spare copies*
+
+  spare_own : (l : Line) (n : ℕ) → IsIn n (spare_by l) → IsIn n (taken_by l)
+  spare_own (piece need several mirrored names cs) n i = absurd i
+  spare_own (range mirrored names spare cs) n i = in_append_right n names spare i
+  spare_own (box a b c) n i = absurd i
+  spare_own (cells optional cs) n i = absurd i
+  spare_own (cut cs) n i = absurd i
+
+  spare_grouped : (l : Line) (n : ℕ) → is_line l ≡ true → IsIn n (spare_by l) → IsIn n (group_names l)
+  unfolding group_names
+  spare_grouped (piece need several mirrored names cs) n h i = absurd i
+  spare_grouped (range mirrored names spare cs) n h i =
+      let p = and_parts (are_ranged names spare) (are_in_grid cs && (are_apart cs && nat_le (length cs) most_piece_cells)) h in
+      let q = and_parts (nat_lt 0 (length spare)) (are_names needs.Must true (names ++ spare)) p.0 in
+      let r = and_parts (list_all is_name (names ++ spare)) (are_so_many needs.Must true (length (names ++ spare))) q.1 in
+      by_test (nat_lt 1 (length (names ++ spare))) r.1
+    where
+      by_test : (b : Bool) → b ≡ true → IsIn n (flat_map (λ group. group) (cond b ((names ++ spare) ∷ []) []))
+      by_test true e = in_append_left n (names ++ spare) [] (in_append_right n names spare i)
+      by_test false e = absurd (cc)
+  spare_grouped (box a b c) n h i = absurd i
+  spare_grouped (cells optional cs) n h i = absurd i
+  spare_grouped (cut cs) n h i = absurd i
+
+  pub spare_equal : list_all (has_name (flat_map (λ group. group) (flat_map equal_by ls))) (flat_map spare_by ls) ≡ true
+  spare_equal =
+      rw (groups_flat ls)
+      (all_pass (has_name (flat_map group_names ls)) (flat_map spare_by ls) (λ n i.
+      let l = in_from_flat_map spare_by n ls i in
+      has_in (flat_map group_names ls) n (in_flat_map group_names n l.0 ls l.1 (spare_grouped l.0 n (passes is_line ls good l.0 l.1) l.2))))
+
+  -- a spare copy of the line is one of all
+  spare_is : (l : Line) → IsIn l ls → (n : ℕ) → IsIn n (taken_by l) → has_name (flat_map spare_by ls) n ≡ has_name (spare_by l) n
+  spare_is l there n i =
+      same_tests (has_name (flat_map spare_by ls) n) (has_name (spare_by l) n)
+      (λ t.
+      let k = in_from_flat_map spare_by n ls (in_has (flat_map spare_by ls) n t) in
+      let same = one_line ls new k.0 l n k.1 there (spare_own k.0 n k.2) i in
+      has_in (spare_by l) n (subst (λ (x : Line). IsIn n (spare_by x)) same k.2))
+      (λ t. has_in (flat_map spare_by ls) n (in_flat_map spare_by n l ls there (in_has (spare_by l) n t)))
+
+  none_last : (test : ℕ → Bool) (ns : List ℕ) → ((n : ℕ) → IsIn n ns → test n ≡ false) → come_last test ns ≡ true
+  none_last test [] h = refl
+  none_last test (n ∷ ns) h = ap (λ b. cond b (list_all test ns) (come_last test ns)) (h n (inl refl)) ∙ none_last test ns (λ m i. h m (inr i))
+
+  all_last : (test : ℕ → Bool) (ns : List ℕ) → ((n : ℕ) → IsIn n ns → test n ≡ true) → come_last test ns ≡ true
+  all_last test [] h = refl
+  all_last test (n ∷ ns) h = ap (λ b. cond b (list_all test ns) (come_last test ns)) (h n (inl refl)) ∙ all_pass test ns (λ m i. h m (inr i))
+
+  both_last : (test : ℕ → Bool) (ns ms : List ℕ) → ((n : ℕ) → IsIn n ns → test n ≡ false) → ((n : ℕ) → IsIn n ms → test n ≡ true) → come_last test (ns ++ ms) ≡ true
+  both_last test [] ms f g = all_last test ms g
+  both_last test (n ∷ ns) ms f g = ap (λ b. cond b (list_all test (ns ++ ms)) (come_last test (ns ++ ms))) (f n (inl refl)) ∙ both_last test ns ms (λ m i. f m (inr i)) g
+
+  line_last : (l : Line) → IsIn l ls → (group : List ℕ) → IsIn group (equal_by l) → come_last (has_name (flat_map spare_by ls)) group ≡ true
+  line_last (piece need several mirrored names cs) there group i =
+      let e = in_one_group (pieces_named need names) group i in
+      none_last (has_name (flat_map spare_by ls)) group (λ n j. spare_is (piece need several mirrored names cs) there n (named_own need names n (subst (λ (ns : List ℕ). IsIn n ns) e j)))
+  line_last (range mirrored names spare cs) there group i =
+      let e = in_one_group (names ++ spare) group i in
+      let l = range mirrored names spare cs in
+      let apart = new_apart names spare (line_new ls new l there) in
+      subst (λ (ns : List ℕ). come_last (has_name (flat_map spare_by ls)) ns ≡ true) (sym e)
+      (both_last (has_name (flat_map spare_by ls)) names spare (λ n j. spare_is l there n (in_append_left n names spare j) ∙ apart.1 n j) (λ n j. spare_is l there n (in_append_right n names spare j) ∙ has_in spare n j))
+  line_last (box a b c) there group i = absurd i
+  line_last (cells optional cs) there group i = absurd i
+  line_last (cut cs) there group i = absurd i
+
+  pub spare_last : list_all (come_last (has_name (flat_map spare_by ls))) (flat_map equal_by ls) ≡ true
+  spare_last =
+      all_pass (come_last (has_name (flat_map spare_by ls))) (flat_map equal_by ls) (λ group i.
+      let l = in_from_flat_map equal_by group ls i in line_last l.0 l.1 group l.2)
 
 -- *groups have no name in common*
 
@@ -322,6 +440,11 @@ group_keeps (piece need several mirrored names cs) h = by_test (nat_lt 1 (length
   where
     by_test : (b : Bool) → are_new (flat_map (λ group. group) (cond b (pieces_named need names ∷ []) [])) ≡ true
     by_test true = subst (λ ns. are_new ns ≡ true) (sym (append-nil (pieces_named need names))) (named_keeps need names h)
+    by_test false = refl
+group_keeps (range mirrored names spare cs) h = by_test (nat_lt 1 (length (names ++ spare)))
+  where
+    by_test : (b : Bool) → are_new (flat_map (λ group. group) (cond b ((names ++ spare) ∷ []) [])) ≡ true
+    by_test true = subst (λ ns. are_new ns ≡ true) (sym (append-nil (names ++ spare))) h
     by_test false = refl
 group_keeps (box a b c) h = refl
 group_keeps (cells optional cs) h = refl
@@ -405,6 +528,7 @@ unfolding laid_names
 own_kept_by later (piece needs.Must several mirrored names cs) out = filter_none _ names (λ n i. false_from_ne_true _ (out n i))
 own_kept_by later (piece needs.Maybe several mirrored names cs) out = filter_all _ names (λ n i. has_joined names later n ∙ or_left _ _ (has_in names n i))
 own_kept_by later (piece needs.Any several mirrored names cs) out = filter_none _ (take 1 names) (λ n i. false_from_ne_true _ (out n i))
+own_kept_by later (range mirrored names spare cs) out = filter_none _ (names ++ spare) (λ n i. false_from_ne_true _ (out n i))
 own_kept_by later (box a b c) out = refl
 own_kept_by later (cells optional cs) out = refl
 own_kept_by later (cut cs) out = refl

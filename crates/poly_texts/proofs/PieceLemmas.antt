@@ -1,5 +1,5 @@
 -- The cells of pieces and of the region are within the limits, and pieces lie at the origin.
-use Rattle.std.proofs.Common.{◌≡◌, ◌<◌, ◌≤◌, inl, inr, ℕ, ◌+◌, List, [], ◌∷◌, flat_map, length, true, not, ◌&&◌, nat_lt, nat_le, sym, subst, arith}
+use Rattle.std.proofs.Common.{◌++◌, ◌≡◌, ◌<◌, ◌≤◌, inl, inr, ℕ, ◌+◌, List, [], ◌∷◌, flat_map, length, true, not, ◌&&◌, nat_lt, nat_le, sym, subst, arith}
 use Rattle.std.specs.List.{list_all, range_with_len}
 use Rattle.std.proofs.lemmas.Bool.{and_parts}
 use Rattle.std.proofs.lemmas.Bool.Decides.{nat_tests}
@@ -21,7 +21,7 @@ use Rattle.poly_texts.specs.Cells.{without, row, layer, box_cells}
 use Rattle.poly_texts.specs.Puzzle.{IsPiece, ArePieces}
 use Rattle.poly_texts.specs.Needs.{pieces_named}
 use Rattle.poly_texts.specs.Reading.{kept_shape, named_shapes}
-use Rattle.poly_texts.specs.Grammar.{Line, piece, box, cells, are_in_grid, are_apart, are_names, is_side, is_line, piece_of, named_by}
+use Rattle.poly_texts.specs.Grammar.{Line, piece, range, box, cells, are_in_grid, are_apart, are_names, are_ranged, is_side, is_line, piece_of, named_by}
 use Rattle.poly_texts.proofs.StepLemmas.{some_in_order}
 
 -- *members of lists*
@@ -102,6 +102,17 @@ pieces_are (piece need several mirrored names cs ∷ ls) h =
     λ p i. elim (in_append_cases p (named_shapes (pieces_named need names) (kept_shape cs)) (flat_map piece_of ls) i) [
       | inl l ↦
           let n = in_from_map (λ k. (k, kept_shape cs)) p (pieces_named need names) l in
+          subst (λ (q : ℕ × List Coordinates). IsPiece q.1) (sym n.2) (piece_is cs c.0 d.1)
+      | inr r ↦ pieces_are ls a.1 p r
+    ]
+pieces_are (range mirrored names spare cs ∷ ls) h =
+    let a = and_parts (is_line (range mirrored names spare cs)) (list_all is_line ls) h in
+    let b = and_parts (are_ranged names spare) (are_in_grid cs && (are_apart cs && nat_le (length cs) most_piece_cells)) a.0 in
+    let c = and_parts (are_in_grid cs) (are_apart cs && nat_le (length cs) most_piece_cells) b.1 in
+    let d = and_parts (are_apart cs) (nat_le (length cs) most_piece_cells) c.1 in
+    λ p i. elim (in_append_cases p (named_shapes (names ++ spare) (kept_shape cs)) (flat_map piece_of ls) i) [
+      | inl l ↦
+          let n = in_from_map (λ k. (k, kept_shape cs)) p (names ++ spare) l in
           subst (λ (q : ℕ × List Coordinates). IsPiece q.1) (sym n.2) (piece_is cs c.0 d.1)
       | inr r ↦ pieces_are ls a.1 p r
     ]

@@ -8,7 +8,7 @@ use Rattle.poly_texts.specs.Limits.{most_region_cells}
 use Rattle.poly_texts.specs.Cells.{with_cells, ordered_without}
 use Rattle.poly_texts.specs.Words.{is_name}
 use Rattle.poly_texts.specs.Puzzle.{PuzzleValue, names_of, are_new, needs_nothing}
-use Rattle.poly_texts.specs.Grammar.{Line, piece, box, cells, cut, line_words, is_line, piece_of, maybe_name_of, any_name_of, mirrored_by, equal_by, symbols_by, taken_by, is_box, named_by, maybe_by, cut_by, AreLines, puzzle_by}
+use Rattle.poly_texts.specs.Grammar.{Line, piece, box, cells, cut, line_words, is_line, piece_of, maybe_name_of, any_name_of, mirrored_by, equal_by, symbols_by, spare_by, taken_by, is_box, named_by, maybe_by, cut_by, AreLines, puzzle_by}
 use Rattle.poly_texts.specs.Plain.{PlainLine, plain_piece, plain_box, plain_cells, plain_cut, plain_words, is_plain_line, plain_piece_of, plain_maybe_name, is_plain_box, plain_named, plain_maybe, plain_cut_cells, ArePlainLines, plain_puzzle_by, PlainTextsStay}
 use Rattle.poly_texts.proofs.TextLemmas.{text_again}
 
@@ -122,6 +122,14 @@ symbols_none (plain_box a b c) = refl
 symbols_none (plain_cells optional cs) = refl
 symbols_none (plain_cut cs) = refl
 
+spare_none : (l : PlainLine) → spare_by (as_line l) ≡ []
+unfolding as_line
+spare_none (plain_piece true name cs) = refl
+spare_none (plain_piece false name cs) = refl
+spare_none (plain_box a b c) = refl
+spare_none (plain_cells optional cs) = refl
+spare_none (plain_cut cs) = refl
+
 taken_same : (l : PlainLine) → taken_by (as_line l) ≡ names_of (plain_piece_of l)
 unfolding as_line
 taken_same (plain_piece true name cs) = refl
@@ -186,7 +194,8 @@ puzzle_same ls =
     let mirrored = flat_none mirrored_by mirrored_none ls in
     let equal = flat_none equal_by equal_none ls in
     let symbols = flat_none symbols_by symbols_none ls in
-    λ i. record { pieces = pieces i; maybe_pieces = names i; region = region i; maybe_cells = empty i; any_pieces = any i; mirrored = mirrored i; equal = equal i; symbols = symbols i }
+    let spare = flat_none spare_by spare_none ls in
+    λ i. record { pieces = pieces i; maybe_pieces = names i; region = region i; maybe_cells = empty i; any_pieces = any i; mirrored = mirrored i; equal = equal i; symbols = symbols i; spare = spare i }
 
 lines_same : (ls : List PlainLine) → ArePlainLines ls → AreLines (as_lines ls)
 lines_same ls h = record {
@@ -207,6 +216,7 @@ plain_texts_stay text p t =
       some_cell = t.some_cell;
       some_piece = t.some_piece;
       required =
-          ap (λ (ns : List ℕ). needs_nothing p.pieces ns p.region p.maybe_cells) (ap (λ (ns : List ℕ). p.maybe_pieces ++ ns) (ap (λ (q : PuzzleValue). q.any_pieces) t.puzzle) ∙ append-nil p.maybe_pieces)
+          ap (λ (ns : List ℕ). needs_nothing p.pieces ns p.region p.maybe_cells)
+          (ap₂ (λ (ns ms : List ℕ). p.maybe_pieces ++ (ns ++ ms)) (ap (λ (q : PuzzleValue). q.any_pieces) t.puzzle) (ap (λ (q : PuzzleValue). q.spare) t.puzzle) ∙ append-nil p.maybe_pieces)
           ∙ t.required;
     })

@@ -8,7 +8,7 @@ use Rattle.poly_cells.proofs.MemberLemmas.{in_flat_map, in_from_flat_map, all_pa
 use Rattle.poly_texts.specs.Words.{is_name}
 use Rattle.poly_texts.specs.Puzzle.{PuzzleValue, names_of, has_name, are_new, shows_copies}
 use Rattle.poly_texts.specs.declared.need.Need.TheVariants as needs
-use Rattle.poly_texts.specs.Grammar.{Line, piece, box, cells, cut, is_line, piece_of, any_name_of, symbols_by, taken_by}
+use Rattle.poly_texts.specs.Grammar.{Line, piece, range, box, cells, cut, is_line, piece_of, any_name_of, symbols_by, taken_by}
 use Rattle.poly_texts.proofs.FreshLemmas.{has_in, in_has}
 use Rattle.poly_texts.proofs.NameLemmas.{NewNames, laid_names, laid_own, names_flat, name_good, line_new, one_line, sub_new, flat_map_append}
 
@@ -27,6 +27,7 @@ word_is (piece needs.Any several mirrored (n ∷ ns) cs) word i = by_test (nat_l
         → (k : Bool) × (m : Bool) × (vs : List Coordinates) × (j : ℕ) × (js : List ℕ) × (piece needs.Any several mirrored (n ∷ ns) cs ≡ piece needs.Any k m (j ∷ js) vs) × (word ≡ j ∷ js)
     by_test true i = elim i [ inl e ↦ (several, mirrored, cs, n, ns, refl, e) | inr r ↦ absurd r ]
     by_test false i = absurd i
+word_is (range mirrored names spare cs) word i = absurd i
 word_is (box a b c) word i = absurd i
 word_is (cells optional cs) word i = absurd i
 word_is (cut cs) word i = absurd i
@@ -47,6 +48,7 @@ symbol_keeps (piece needs.Any several mirrored names cs) h = by_test (nat_lt 1 (
     by_test : (b : Bool) → are_new (flat_map (λ word. word) (cond b (names ∷ []) [])) ≡ true
     by_test true = subst (λ ns. are_new ns ≡ true) (sym (append-nil names)) h
     by_test false = refl
+symbol_keeps (range mirrored names spare cs) h = refl
 symbol_keeps (box a b c) h = refl
 symbol_keeps (cells optional cs) h = refl
 symbol_keeps (cut cs) h = refl

@@ -9,7 +9,8 @@ use Rattle.poly_texts.specs.Limits.{most_region_cells}
 use Rattle.poly_texts.specs.Cells.{with_cell, with_cells}
 use Rattle.poly_texts.specs.Puzzle.{has_name}
 use Rattle.poly_texts.specs.Reading.{DraftValue, nothing, taken_in, some_repeated, kept_shape}
-use Rattle.poly_texts.specs.Grammar.{Line, piece, box, cells, cut, is_line, piece_of, maybe_name_of, any_name_of, mirrored_by, equal_by, symbols_by, taken_by, is_box, named_by, maybe_by, cut_by, AreLines}
+use Rattle.poly_texts.specs.Grammar.{Line, piece, range, box, cells, cut, is_line, piece_of, maybe_name_of, any_name_of, mirrored_by, equal_by, symbols_by, spare_by, taken_by, is_box, named_by, maybe_by, cut_by, AreLines}
+use Rattle.poly_texts.specs.declared.need.Need.TheVariants as needs
 use Rattle.poly_texts.proofs.CellLemmas.{with_cells-append, with_none}
 use Rattle.poly_texts.proofs.FreshLemmas.{fresh_new, fresh_from, fresh_joined, fresh_parted, taken_more}
 use Rattle.poly_texts.proofs.LineLemmas.{plus, is_small, is_fit}
@@ -28,31 +29,43 @@ plus_all s (l ∷ ls) = plus_all (plus s l) ls
 
 plus_pieces : (s : DraftValue) (l : Line) → (plus s l).pieces ≡ s.pieces ++ piece_of l
 plus_pieces s (piece need several mirrored names cs) = refl
+plus_pieces s (range mirrored names spare cs) = refl
 plus_pieces s other = sym (append-nil s.pieces)
 
 plus_names : (s : DraftValue) (l : Line) → (plus s l).maybe_pieces ≡ s.maybe_pieces ++ maybe_name_of l
 plus_names s (piece need several mirrored names cs) = refl
+plus_names s (range mirrored names spare cs) = refl
 plus_names s other = sym (append-nil s.maybe_pieces)
 
 plus_any : (s : DraftValue) (l : Line) → (plus s l).any_pieces ≡ s.any_pieces ++ any_name_of l
 plus_any s (piece need several mirrored names cs) = refl
+plus_any s (range mirrored names spare cs) = refl
 plus_any s other = sym (append-nil s.any_pieces)
 
 plus_mirrored : (s : DraftValue) (l : Line) → (plus s l).mirrored ≡ s.mirrored ++ mirrored_by l
 plus_mirrored s (piece need several mirrored names cs) = refl
+plus_mirrored s (range mirrored names spare cs) = refl
 plus_mirrored s other = sym (append-nil s.mirrored)
 
 plus_equal : (s : DraftValue) (l : Line) → (plus s l).equal ≡ s.equal ++ equal_by l
 plus_equal s (piece need several mirrored names cs) = refl
+plus_equal s (range mirrored names spare cs) = refl
 plus_equal s other = sym (append-nil s.equal)
 
 plus_symbols : (s : DraftValue) (l : Line) → (plus s l).symbols ≡ s.symbols ++ symbols_by l
 plus_symbols s (piece need several mirrored names cs) = refl
+plus_symbols s (range mirrored names spare cs) = refl
 plus_symbols s other = sym (append-nil s.symbols)
+
+plus_spare : (s : DraftValue) (l : Line) → (plus s l).spare ≡ s.spare ++ spare_by l
+plus_spare s (range mirrored names spare cs) = refl
+plus_spare s (piece need several mirrored names cs) = sym (append-nil s.spare)
+plus_spare s other = sym (append-nil s.spare)
 
 -- a symbol is taken then where it was before, or where the line takes it
 plus_taken : (s : DraftValue) (l : Line) (n : ℕ) → taken_in (plus s l) n ≡ (taken_in s n || has_name (taken_by l) n)
 plus_taken s (piece need several mirrored names cs) n = taken_more s need mirrored names (kept_shape cs) n
+plus_taken s (range mirrored names spare cs) n = taken_more s needs.Must mirrored (names ++ spare) (kept_shape cs) n
 plus_taken s other n = sym (or-false (taken_in s n))
 
 plus_named : (s : DraftValue) (l : Line) → (plus s l).named ≡ with_cells s.named (named_by l)
@@ -99,6 +112,10 @@ all_equal s (l ∷ ls) = all_equal (plus s l) ls ∙ ap (λ gs. gs ++ flat_map e
 pub all_symbols : (s : DraftValue) (ls : List Line) → (plus_all s ls).symbols ≡ s.symbols ++ flat_map symbols_by ls
 all_symbols s [] = sym (append-nil s.symbols)
 all_symbols s (l ∷ ls) = all_symbols (plus s l) ls ∙ ap (λ gs. gs ++ flat_map symbols_by ls) (plus_symbols s l) ∙ append_assoc s.symbols (symbols_by l) (flat_map symbols_by ls)
+
+pub all_spare : (s : DraftValue) (ls : List Line) → (plus_all s ls).spare ≡ s.spare ++ flat_map spare_by ls
+all_spare s [] = sym (append-nil s.spare)
+all_spare s (l ∷ ls) = all_spare (plus s l) ls ∙ ap (λ ns. ns ++ flat_map spare_by ls) (plus_spare s l) ∙ append_assoc s.spare (spare_by l) (flat_map spare_by ls)
 
 pub all_named : (s : DraftValue) (ls : List Line) → (plus_all s ls).named ≡ with_cells s.named (flat_map named_by ls)
 all_named s [] = sym (with_none s.named)
@@ -151,6 +168,7 @@ boxes_more s other ls fit = refl
 
 fit_new : (s : DraftValue) (l : Line) → is_fit s l ≡ true → some_repeated (taken_in s) (taken_by l) ≡ false
 fit_new s (piece need several mirrored names cs) fit = not-true _ fit
+fit_new s (range mirrored names spare cs) fit = not-true _ fit
 fit_new s other fit = refl
 
 plus_few : (s : DraftValue) (l : Line) → length s.named ≤ most_region_cells → is_fit s l ≡ true → length (plus s l).named ≤ most_region_cells
@@ -189,6 +207,9 @@ fits_first : (s : DraftValue) (l : Line) (ls : List Line) → GoTogether s (l �
 fits_first s (piece need several mirrored names cs) ls t =
     let l = piece need several mirrored names cs in
     not_from_false _ (fresh_parted (taken_in s) (taken_in (plus s l)) names (flat_map taken_by ls) (plus_taken s l) t.new).0
+fits_first s (range mirrored names spare cs) ls t =
+    let l = range mirrored names spare cs in
+    not_from_false _ (fresh_parted (taken_in s) (taken_in (plus s l)) (names ++ spare) (flat_map taken_by ls) (plus_taken s l) t.new).0
 fits_first s (box a b c) ls t = and_from _ _ (unboxed s.boxed (length (filter is_box ls)) (omega (arith, t.one_box))) (small_before s (box a b c) (flat_map named_by ls) t.few)
 fits_first s (cells optional cs) ls t = small_before s (cells optional cs) (flat_map named_by ls) t.few
 fits_first s (cut cs) ls t = refl

@@ -17,15 +17,17 @@ use Rattle.poly_texts.specs.Limits.{most_size, most_region_cells, most_piece_cel
 use Rattle.poly_texts.specs.Cells.{with_cells, ordered_without, box_cells}
 use Rattle.poly_texts.specs.Needs.{is_must, is_maybe, is_repeatable, pieces_named}
 use Rattle.poly_texts.specs.Words.{is_name, are_so_many}
-use Rattle.poly_texts.specs.Puzzle.{PuzzleValue, are_new, needs_nothing}
+use Rattle.poly_texts.specs.Puzzle.{PuzzleValue, are_new, needs_nothing, unneeded}
 use Rattle.poly_texts.specs.declared.need.Need.{Need}
 use Rattle.poly_texts.specs.declared.need.Need.TheVariants as needs
 use Rattle.poly_texts.specs.Reading.{kept_shape, names_if, group_of, symbols_of, named_shapes}
 
 -- what a line says: a piece or several equal ones, whether they have to be used and whether they may be reflected, with their names and
--- cells; a box of these sizes; cells, and whether they may stay empty; or cells to be cut
+-- cells; equal pieces of which some may be left out, whether they may be reflected, with the names of those that have to be used and of
+-- the spare ones, and cells; a box of these sizes; cells, and whether they may stay empty; or cells to be cut
 pub data Line : Type 0 where
   piece : Need → Bool → Bool → List ℕ → List Coordinates → Line
+  range : Bool → List ℕ → List ℕ → List Coordinates → Line
   box : ℕ → ℕ → ℕ → Line
   cells : Bool → List Coordinates → Line
   cut : List Coordinates → Line
@@ -53,6 +55,7 @@ piece_word several = if several then codes "copies" else codes "piece"
 -- the words of a line
 abbrev pub line_words : Line → List (List ℕ)
 line_words (piece need several mirrored names cs) = need_words need (mirror_words mirrored (piece_word several ∷ names ∷ map cell_word cs))
+line_words (range mirrored names spare cs) = mirror_words mirrored (codes "copies" ∷ (names ++ 43 ∷ spare) ∷ map cell_word cs)
 line_words (box a b c) = codes "box" ∷ decimal a ∷ decimal b ∷ decimal c ∷ []
 line_words (cells optional cs) = maybe_words optional (codes "cells" ∷ map cell_word cs)
 line_words (cut cs) = codes "cut" ∷ map cell_word cs
@@ -78,9 +81,14 @@ abbrev pub are_names : Need → Bool → List ℕ → Bool
 are_names need several names =
     (is_must need || not several) && (list_all is_name names && are_so_many need several (length names))
 
+-- the symbols of a line of which some are spare: two or more, and a spare one
+abbrev pub are_ranged : List ℕ → List ℕ → Bool
+are_ranged names spare = nat_lt 0 (length spare) && are_names needs.Must true (names ++ spare)
+
 -- a line within the limits
 abbrev pub is_line : Line → Bool
 is_line (piece need several mirrored names cs) = are_names need several names && (are_in_grid cs && (are_apart cs && nat_le (length cs) most_piece_cells))
+is_line (range mirrored names spare cs) = are_ranged names spare && (are_in_grid cs && (are_apart cs && nat_le (length cs) most_piece_cells))
 is_line (box a b c) = is_side a && (is_side b && is_side c)
 is_line (cells optional cs) = are_in_grid cs
 is_line (cut cs) = are_in_grid cs
@@ -90,6 +98,7 @@ is_line (cut cs) = are_in_grid cs
 -- the piece of a `piece` line, as it is kept
 abbrev pub piece_of : Line → List (ℕ × List Coordinates)
 piece_of (piece need several mirrored names cs) = named_shapes (pieces_named need names) (kept_shape cs)
+piece_of (range mirrored names spare cs) = named_shapes (names ++ spare) (kept_shape cs)
 piece_of (box a b c) = []
 piece_of (cells optional cs) = []
 piece_of (cut cs) = []
@@ -97,6 +106,7 @@ piece_of (cut cs) = []
 -- the name of a piece that may be left out
 abbrev pub maybe_name_of : Line → List ℕ
 maybe_name_of (piece need several mirrored names cs) = names_if (is_maybe need) (pieces_named need names)
+maybe_name_of (range mirrored names spare cs) = []
 maybe_name_of (box a b c) = []
 maybe_name_of (cells optional cs) = []
 maybe_name_of (cut cs) = []
@@ -104,6 +114,7 @@ maybe_name_of (cut cs) = []
 -- the name of a piece that may be used any number of times
 abbrev pub any_name_of : Line → List ℕ
 any_name_of (piece need several mirrored names cs) = names_if (is_repeatable need) (pieces_named need names)
+any_name_of (range mirrored names spare cs) = []
 any_name_of (box a b c) = []
 any_name_of (cells optional cs) = []
 any_name_of (cut cs) = []
@@ -111,6 +122,7 @@ any_name_of (cut cs) = []
 -- the names of pieces that may be reflected
 abbrev pub mirrored_by : Line → List ℕ
 mirrored_by (piece need several mirrored names cs) = names_if mirrored (pieces_named need names)
+mirrored_by (range mirrored names spare cs) = names_if mirrored (names ++ spare)
 mirrored_by (box a b c) = []
 mirrored_by (cells optional cs) = []
 mirrored_by (cut cs) = []
@@ -118,6 +130,7 @@ mirrored_by (cut cs) = []
 -- the group of equal pieces, if there are two at least
 abbrev pub equal_by : Line → List (List ℕ)
 equal_by (piece need several mirrored names cs) = group_of (pieces_named need names)
+equal_by (range mirrored names spare cs) = group_of (names ++ spare)
 equal_by (box a b c) = []
 equal_by (cells optional cs) = []
 equal_by (cut cs) = []
@@ -125,13 +138,23 @@ equal_by (cut cs) = []
 -- the symbols by which copies are shown in turn, if there are two at least
 abbrev pub symbols_by : Line → List (List ℕ)
 symbols_by (piece need several mirrored names cs) = symbols_of need names
+symbols_by (range mirrored names spare cs) = []
 symbols_by (box a b c) = []
 symbols_by (cells optional cs) = []
 symbols_by (cut cs) = []
 
+-- the names of spare copies
+abbrev pub spare_by : Line → List ℕ
+spare_by (piece need several mirrored names cs) = []
+spare_by (range mirrored names spare cs) = spare
+spare_by (box a b c) = []
+spare_by (cells optional cs) = []
+spare_by (cut cs) = []
+
 -- the symbols that a line takes
 abbrev pub taken_by : Line → List ℕ
 taken_by (piece need several mirrored names cs) = names
+taken_by (range mirrored names spare cs) = names ++ spare
 taken_by (box a b c) = []
 taken_by (cells optional cs) = []
 taken_by (cut cs) = []
@@ -139,6 +162,7 @@ taken_by (cut cs) = []
 -- whether it is a `box` line
 abbrev pub is_box : Line → Bool
 is_box (piece need several mirrored names cs) = false
+is_box (range mirrored names spare cs) = false
 is_box (box a b c) = true
 is_box (cells optional cs) = false
 is_box (cut cs) = false
@@ -146,6 +170,7 @@ is_box (cut cs) = false
 -- the cells of a `box` or `cells` line
 abbrev pub named_by : Line → List Coordinates
 named_by (piece need several mirrored names cs) = []
+named_by (range mirrored names spare cs) = []
 named_by (box a b c) = box_cells a b c
 named_by (cells optional cs) = cs
 named_by (cut cs) = []
@@ -153,6 +178,7 @@ named_by (cut cs) = []
 -- the cells of a `maybe cells` line
 abbrev pub maybe_by : Line → List Coordinates
 maybe_by (piece need several mirrored names cs) = []
+maybe_by (range mirrored names spare cs) = []
 maybe_by (box a b c) = []
 maybe_by (cells optional cs) = if optional then cs else []
 maybe_by (cut cs) = []
@@ -160,6 +186,7 @@ maybe_by (cut cs) = []
 -- the cells of a `cut` line
 abbrev pub cut_by : Line → List Coordinates
 cut_by (piece need several mirrored names cs) = []
+cut_by (range mirrored names spare cs) = []
 cut_by (box a b c) = []
 cut_by (cells optional cs) = []
 cut_by (cut cs) = cs
@@ -186,6 +213,7 @@ puzzle_by lines = record {
   mirrored = flat_map mirrored_by lines;
   equal = flat_map equal_by lines;
   symbols = flat_map symbols_by lines;
+  spare = flat_map spare_by lines;
 }
 
 -- comments, blanks, empty lines and line ends aside, the text is lines that say the puzzle: with a cell, with a piece, and
@@ -198,4 +226,4 @@ pub record IsPuzzleText (text : List ℕ) (p : PuzzleValue) : Type 0 where
   pub puzzle : p ≡ puzzle_by lines
   pub some_cell : 0 < length p.region
   pub some_piece : 0 < length p.pieces
-  pub required : needs_nothing p.pieces (p.maybe_pieces ++ p.any_pieces) p.region p.maybe_cells ≡ false
+  pub required : needs_nothing p.pieces (unneeded p) p.region p.maybe_cells ≡ false

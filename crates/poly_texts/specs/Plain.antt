@@ -95,7 +95,7 @@ plain_uncut lines cs = ordered_without (flat_map plain_cut_cells lines) cs
 abbrev pub plain_puzzle_by : List PlainLine → PuzzleValue
 plain_puzzle_by lines =
     puzzle_from (flat_map plain_piece_of lines) (flat_map plain_maybe_name lines) (plain_uncut lines (flat_map plain_named lines))
-    (plain_uncut lines (flat_map plain_maybe lines)) [] [] [] []
+    (plain_uncut lines (flat_map plain_maybe lines)) [] [] [] [] []
 
 -- comments, blanks, empty lines and line ends aside, the text is such lines that say the puzzle: with a cell, with a piece, and with one
 -- of these required

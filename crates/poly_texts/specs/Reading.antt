@@ -4,6 +4,7 @@
 --                          any number of times; after `mirror` (and these) one that may be reflected
 --     any piece W c ..     a piece named by the first symbol of W, whose copies are shown by the symbols of W in turn
 --     copies W c ..        equal pieces with these cells, one for each symbol of W; after `mirror` such that may be reflected
+--     copies V+W c ..      the same for the symbols of V and of W, where those of W may be left out, and are used in their order
 --     box a b c            all cells with x below a, y below b and z below c: at most one such line
 --     cells c ..           these cells; cells that may stay empty, after `maybe`
 --     cut c ..             none of these cells
@@ -34,8 +35,8 @@ use Rattle.poly_cells.specs.CellTests.{has_cell}
 use Rattle.poly_cells.specs.CellWords.{cell_of}
 use Rattle.poly_texts.specs.Cells.{with_cell, with_cells, ordered_without, box_cells}
 use Rattle.poly_texts.specs.Needs.{is_must, is_maybe, is_repeatable, pieces_named}
-use Rattle.poly_texts.specs.Words.{word_names, are_sizes, are_small, size_from}
-use Rattle.poly_texts.specs.Puzzle.{PuzzleValue, puzzle_from, needs_nothing, has_name}
+use Rattle.poly_texts.specs.Words.{word_names, has_plus, before_plus, after_plus, are_sizes, are_small, size_from}
+use Rattle.poly_texts.specs.Puzzle.{PuzzleValue, puzzle_from, names_unneeded, needs_nothing, has_name}
 
 -- what the lines so far say: the pieces, the names of those that may be left out, whether there was a box, and the cells that
 -- lines name, that `maybe cells` lines name and that `cut` lines name, each cell once
@@ -50,12 +51,13 @@ pub record DraftValue : Type 0 where
   pub mirrored : List ℕ
   pub equal : List (List ℕ)
   pub symbols : List (List ℕ)
+  pub spare : List ℕ
 
 -- these parts together
 abbrev pub draft_from
     : List (ℕ × List Coordinates) → List ℕ → Bool → List Coordinates → List Coordinates → List Coordinates → List ℕ → List ℕ
-    → List (List ℕ) → List (List ℕ) → DraftValue
-draft_from pieces maybe_pieces boxed named maybe_cells cut any_pieces mirrored equal symbols = record {
+    → List (List ℕ) → List (List ℕ) → List ℕ → DraftValue
+draft_from pieces maybe_pieces boxed named maybe_cells cut any_pieces mirrored equal symbols spare = record {
   pieces = pieces;
   maybe_pieces = maybe_pieces;
   boxed = boxed;
@@ -66,11 +68,12 @@ draft_from pieces maybe_pieces boxed named maybe_cells cut any_pieces mirrored e
   mirrored = mirrored;
   equal = equal;
   symbols = symbols;
+  spare = spare;
 }
 
 -- no lines say this
 abbrev pub nothing : DraftValue
-nothing = draft_from [] [] false [] [] [] [] [] [] []
+nothing = draft_from [] [] false [] [] [] [] [] [] [] []
 
 -- *the words of a line*
 
@@ -175,6 +178,25 @@ piece_line s need several mirrored (word ∷ words) =
       shape ← shape_of words
       Ok (with_line s need mirrored names shape))
 
+-- with some of the pieces as spare copies
+abbrev pub with_spare : DraftValue → List ℕ → DraftValue
+with_spare s names = record s { spare = s.spare ++ names }
+
+-- a `copies` line with a `+`: the symbols before it and those after it, two in all and one after it at least, and a cell
+unfoldable pub range_line : DraftValue → Bool → List ℕ → List ℕ → List (List ℕ) → Result DraftValue Fault
+range_line s mirrored needed spare words =
+    if is_empty words || length spare == 0 then Err BadLine else (do
+      names ← new_names (taken_in s) needs.Must true (needed ++ spare)
+      shape ← shape_of words
+      Ok (with_spare (with_line s needs.Must mirrored names shape) spare))
+
+-- a `copies` line, with a `+` or without
+unfoldable pub copies_line : DraftValue → Bool → List (List ℕ) → Result DraftValue Fault
+copies_line s mirrored [] = Err BadLine
+copies_line s mirrored (word ∷ words) =
+    if has_plus word then range_line s mirrored (before_plus word) (after_plus word) words else
+    piece_line s needs.Must true mirrored (word ∷ words)
+
 -- three words, and no others
 abbrev pub three_words : List (List ℕ) → Option (List ℕ × List ℕ × List ℕ)
 three_words (a ∷ b ∷ c ∷ []) = Some (a, b, c)
@@ -228,7 +250,7 @@ key_from word =
 
 -- a `copies` line after `mirror`, before which no other word stands
 abbrev pub mirrored_copies : DraftValue → Need → List (List ℕ) → Result DraftValue Fault
-mirrored_copies s need words = if not (is_must need) then Err BadLine else piece_line s needs.Must true true words
+mirrored_copies s need words = if not (is_must need) then Err BadLine else copies_line s true words
 
 -- a line after `mirror`, by its key
 abbrev pub mirror_keyed : Option Key → DraftValue → Need → List (List ℕ) → Result DraftValue Fault
@@ -290,7 +312,7 @@ keyed_line (Some keys.Cut) s words = cut_line s words
 keyed_line (Some keys.Maybe) s words = maybe_line s words
 keyed_line (Some keys.Any) s words = any_line s words
 keyed_line (Some keys.Mirror) s words = mirror_line s needs.Must words
-keyed_line (Some keys.Copies) s words = piece_line s needs.Must true false words
+keyed_line (Some keys.Copies) s words = copies_line s false words
 keyed_line None s words = Err BadLine
 
 -- a line of these words; one without words says nothing
@@ -312,16 +334,16 @@ region_of s = ordered_without s.cut s.named
 abbrev pub maybe_region_of : DraftValue → List Coordinates
 maybe_region_of s = ordered_without s.cut s.maybe_cells
 
--- the fault of a whole text: no cell, no piece, or none of these required
+-- the fault of a whole text: no cell, no piece, or none of these required, where no packing has to use these pieces
 abbrev pub whole_fault : List (ℕ × List Coordinates) → List ℕ → List Coordinates → List Coordinates → Option Fault
-whole_fault pieces maybe_pieces region maybe_cells =
+whole_fault pieces names region maybe_cells =
     if length region == 0 then Some EmptyRegion else
     (if length pieces == 0 then Some NoPiece else
-    (if needs_nothing pieces maybe_pieces region maybe_cells then Some NothingRequired else None))
+    (if needs_nothing pieces names region maybe_cells then Some NothingRequired else None))
 
 -- the pieces that are said, with this region and these cells of it that may stay empty
 abbrev pub with_region : DraftValue → List Coordinates → List Coordinates → PuzzleValue
-with_region s region maybe = puzzle_from s.pieces s.maybe_pieces region maybe s.any_pieces s.mirrored s.equal s.symbols
+with_region s region maybe = puzzle_from s.pieces s.maybe_pieces region maybe s.any_pieces s.mirrored s.equal s.symbols s.spare
 
 -- the puzzle that is said
 abbrev pub puzzle_said : DraftValue → PuzzleValue
@@ -334,7 +356,7 @@ unless (Some f) p = Err f
 
 -- the fault of what is said, with this region
 abbrev pub fault_with : DraftValue → List Coordinates → Option Fault
-fault_with s region = whole_fault s.pieces (s.maybe_pieces ++ s.any_pieces) region s.maybe_cells
+fault_with s region = whole_fault s.pieces (names_unneeded s.maybe_pieces s.any_pieces s.spare) region s.maybe_cells
 
 -- the puzzle of all lines
 unfoldable pub whole : DraftValue → Result PuzzleValue Fault

@@ -1,8 +1,9 @@
 -- The words of a puzzle text beside those of cells: names of pieces, and sizes.
 --
--- Example: `A` is one name, and `AB` are two. `0` and `07` are no sizes. proofs/WordExamples.antt computes it.
-use Rattle.std.specs.Prelude.{ℕ, ◌==◌, nat_lt, length, nat_le, Bool, not, ◌&&◌, ◌||◌, List, Option, Some, None, codes, if◌then◌else◌}
-use Rattle.std.specs.List.{list_all}
+-- Example: `A` is one name, and `AB` are two. `A+BC` has A before the `+`, and B and C after it. `0` and `07` are no sizes.
+-- proofs/WordExamples.antt computes it.
+use Rattle.std.specs.Prelude.{ℕ, ◌+◌, ◌==◌, nat_lt, length, take, drop, nat_le, Bool, not, ◌&&◌, ◌||◌, List, Option, Some, None, codes, if◌then◌else◌}
+use Rattle.std.specs.List.{list_all, position_or_len}
 use Rattle.std.specs.Str.{bytes_eq}
 use Rattle.text_lines.specs.Numbers.{is_decimal, value_after}
 use Rattle.poly_texts.specs.Limits.{most_size}
@@ -21,6 +22,22 @@ are_so_many need several n = if is_repeatable need then nat_lt 0 n else (if seve
 -- the symbols that a word is: letters and digits, as many as the line may have
 abbrev pub word_names : Need → Bool → List ℕ → Option (List ℕ)
 word_names need several word = if list_all is_name word && are_so_many need several (length word) then Some word else None
+
+-- how many symbols stand before the first `+`
+unfoldable pub plus_at : List ℕ → ℕ
+plus_at word = position_or_len (λ b. b == 43) word
+
+-- there is a `+`
+abbrev pub has_plus : List ℕ → Bool
+has_plus word = nat_lt (plus_at word) (length word)
+
+-- the symbols before it
+abbrev pub before_plus : List ℕ → List ℕ
+before_plus word = take (plus_at word) word
+
+-- the symbols after it
+abbrev pub after_plus : List ℕ → List ℕ
+after_plus word = drop (plus_at word + 1) word
 
 -- a decimal number from 1 on
 abbrev pub is_size : List ℕ → Bool

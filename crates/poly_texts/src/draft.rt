@@ -1,12 +1,13 @@
 //! What has been read of a puzzle text.
-ghost use Rattle.std.specs.Prelude.{◌≡◌, false, Ok, ◌<◌, length, IfOk, OnOk, IfNone};
+ghost use Rattle.std.specs.Prelude.{◌≡◌, ◌++◌, ◌≤◌, true, false, Ok, ◌<◌, drop, length, IfOk, OnOk, IfNone};
+ghost use Rattle.poly_texts.specs.declared.need.Need.TheVariants as needs;
 ghost use Rattle.std.specs.List.Sorted.{IsStrictlySortedBy};
 ghost use Rattle.text_lines.specs.Lines.{words_of};
 ghost use Rattle.poly_cells.specs.Coordinates.{coordinates_cmp};
 ghost use Rattle.text_lines.specs.Answers.{Gives};
 ghost use Rattle.poly_texts.specs.Puzzle.{PuzzleValue, IsPuzzle};
 ghost use Rattle.poly_texts.specs.Reading as reading;
-ghost use Rattle.poly_texts.specs.Reading.{has_piece, nothing, some_repeated, taken_in, with_line, with_pieces, with_region};
+ghost use Rattle.poly_texts.specs.Reading.{has_piece, nothing, some_repeated, taken_in, with_line, with_pieces, with_region, with_spare};
 
 use crate::cells::{add_box, add_cells, are_all_in, uncut};
 use crate::fault::{Fault, LineFault};
@@ -19,7 +20,7 @@ use crate::pieces::{
     add_group, add_names, add_pieces, add_symbols, are_all_named, new_names, pieces_named,
 };
 use crate::puzzle::Puzzle;
-use crate::word::{are_sizes, sizes_of, three_words};
+use crate::word::{are_sizes, joined, sizes_of, split_plus, three_words};
 use indexmap::{IndexMap, IndexSet};
 use poly_cells::{Cell, Shape};
 use std::alloc::{AllocError, Global};
@@ -40,6 +41,7 @@ pub struct Draft {
     mirrored: Vec<PieceName>,
     equal: Vec<Vec<PieceName>>,
     symbols: Vec<Vec<PieceName>>,
+    spare: Vec<PieceName>,
 }
 
 impl Model for Draft {
@@ -48,7 +50,8 @@ impl Model for Draft {
 
     ghost Value = { DraftValue };
 
-    ghost view = { λ a. draft_from a.pieces.entries a.maybe_pieces.items a.is_boxed a.named.keys a.maybe_cells.keys a.cut.keys a.any_pieces.items a.mirrored.items (lists_of a.equal.items) (lists_of a.symbols.items) };
+    ghost view = { λ a. draft_from a.pieces.entries a.maybe_pieces.items a.is_boxed a.named.keys a.maybe_cells.keys a.cut.keys
+        a.any_pieces.items a.mirrored.items (lists_of a.equal.items) (lists_of a.symbols.items) a.spare.items };
 }
 
 impl Draft {
@@ -67,6 +70,7 @@ impl Draft {
             mirrored: Vec::new(alloc),
             equal: Vec::new(alloc),
             symbols: Vec::new(alloc),
+            spare: Vec::new(alloc),
         }
     }
 
@@ -108,6 +112,87 @@ impl Draft {
         )?;
         let shape = shape_of(alloc, cells)?;
         self.add_line(alloc, need, is_mirrored, names.as_slice(), &shape)?;
+        Ok(())
+    }
+
+    /// Takes the pieces of a `copies` line, with a `+` or without.
+    #[tactic(auto, unfolding(crate::specs::Reading::copies_line))]
+    fn take_copies(
+        &mut self,
+        alloc: Global,
+        is_mirrored: bool,
+        words: &[u8],
+    ) -> Result<(), LineFault>
+        ensures { Gives (λ _. self.new) result (reading.copies_line self.old is_mirrored (words_of words.now)) }
+    {
+        let Some((word, cells)) = split_word(words) else {
+            return Err(LineFault::Fault(Fault::BadLine));
+        };
+        if let Some((needed, spare)) = split_plus(word) {
+            return self.take_range(alloc, is_mirrored, needed, spare, cells);
+        }
+        self.take_piece(alloc, Need::Must, true, is_mirrored, words)
+    }
+
+    /// Takes the pieces of a `copies` line with these symbols before and after the `+`.
+    #[tactic(auto, unfolding(crate::specs::Reading::range_line))]
+    fn take_range(
+        &mut self,
+        alloc: Global,
+        is_mirrored: bool,
+        needed: &[u8],
+        spare: &[u8],
+        cells: &[u8],
+    ) -> Result<(), LineFault>
+        ensures { Gives (λ _. self.new) result (reading.range_line self.old is_mirrored needed.now spare.now (words_of cells.now)) }
+    {
+        if !has_words(cells) || spare.is_empty() {
+            return Err(LineFault::Fault(Fault::BadLine));
+        }
+        let names = self.range_names(alloc, needed, spare)?;
+        let shape = shape_of(alloc, cells)?;
+        self.add_range(alloc, is_mirrored, names.as_slice(), needed.len(), &shape)?;
+        Ok(())
+    }
+
+    /// The names of a `copies` line with these symbols before and after the `+`.
+    fn range_names(
+        &self,
+        alloc: Global,
+        needed: &[u8],
+        spare: &[u8],
+    ) -> Result<Vec<PieceName>, LineFault>
+        ensures name { Gives (λ names. names.items) result
+            (reading.new_names (taken_in self.now) needs.Must true (needed.now ++ spare.now)) }
+        ensures new { IfOk result (λ names. some_repeated (taken_in self.now) names.items ≡ false) }
+    {
+        let word = joined(alloc, needed, spare)?;
+        new_names(
+            alloc,
+            &self.pieces,
+            self.symbols.as_slice(),
+            Need::Must,
+            true,
+            word.as_slice(),
+        )
+    }
+
+    /// Adds what a `copies` line with a `+` says, before which so many of the names stand.
+    fn add_range(
+        &mut self,
+        alloc: Global,
+        is_mirrored: bool,
+        names: &[PieceName],
+        needed: usize,
+        shape: &Shape,
+    ) -> Result<(), AllocError>
+        requires new { some_repeated (taken_in self.old) names.now ≡ false }
+        requires within { needed ≤ length names.now }
+        ensures { OnOk result
+            (self.new ≡ with_spare (with_line self.old needs.Must is_mirrored names.now shape.now) (drop needed names.now)) }
+    {
+        self.add_line(alloc, Need::Must, is_mirrored, names, shape)?;
+        self.spare.extend_from_slice(names.split_at(needed).1)?;
         Ok(())
     }
 
@@ -259,7 +344,7 @@ impl Draft {
         if !need.is_must() {
             return Err(LineFault::Fault(Fault::BadLine));
         }
-        self.take_piece(alloc, Need::Must, true, true, words)
+        self.take_copies(alloc, true, words)
     }
 
     /// Takes what a `mirror` line says after that word.
@@ -299,7 +384,7 @@ impl Draft {
             Some(Key::Maybe) => self.take_maybe(alloc, words),
             Some(Key::Any) => self.take_any(alloc, words),
             Some(Key::Mirror) => self.take_mirror(alloc, Need::Must, words),
-            Some(Key::Copies) => self.take_piece(alloc, Need::Must, true, false, words),
+            Some(Key::Copies) => self.take_copies(alloc, false, words),
             None => Err(LineFault::Fault(Fault::BadLine)),
         }
     }
@@ -334,6 +419,7 @@ impl Draft {
             &self.pieces,
             self.maybe_pieces.as_slice(),
             self.any_pieces.as_slice(),
+            self.spare.as_slice(),
         ) && are_all_in(region, &self.maybe_cells)
         {
             return Some(Fault::NothingRequired);
@@ -368,6 +454,7 @@ impl Draft {
             mirrored: self.mirrored,
             equal: self.equal,
             symbols: self.symbols,
+            spare: self.spare,
         }
     }
 

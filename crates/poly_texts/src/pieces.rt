@@ -3,7 +3,7 @@ ghost use Rattle.std.specs.Prelude.{◌≡◌, ◌++◌, ◌∷◌, [], ◌||◌
 ghost use Rattle.std.specs.List.{list_all, list_any};
 ghost use Rattle.text_lines.specs.Answers.{Gives};
 ghost use Rattle.poly_texts.specs.Needs as needs;
-ghost use Rattle.poly_texts.specs.Puzzle.{has_name, names_of};
+ghost use Rattle.poly_texts.specs.Puzzle.{has_name, names_of, names_unneeded};
 ghost use Rattle.poly_texts.specs.Reading as reading;
 ghost use Rattle.poly_texts.specs.Reading.{group_of, has_piece, is_taken, named_shapes, names_if, some_repeated};
 ghost use Rattle.poly_texts.specs.Lists.{lists_of};
@@ -185,15 +185,25 @@ pub fn add_group(
     Ok(())
 }
 
-/// Whether each piece has one of these names or of those.
+/// Whether each piece has one of these names.
 pub fn are_all_named(
     pieces: &IndexMap<PieceName, Shape>,
-    names: &[PieceName],
-    others: &[PieceName],
+    maybe: &[PieceName],
+    any: &[PieceName],
+    spare: &[PieceName],
 ) -> bool
-    ensures { result ≡ list_all (has_name (names.now ++ others.now)) (names_of pieces.now.entries) }
+    ensures { result ≡ list_all (has_name (names_unneeded maybe.now any.now spare.now)) (names_of pieces.now.entries) }
 {
-    pieces.keys().all(|name| is_either(names, others, *name))
+    pieces
+        .keys()
+        .all(|name| is_unneeded(maybe, any, spare, *name))
+}
+
+/// Whether the name is one of these.
+fn is_unneeded(maybe: &[PieceName], any: &[PieceName], spare: &[PieceName], name: PieceName) -> bool
+    ensures { result ≡ has_name (names_unneeded maybe.now any.now spare.now) name }
+{
+    is_among(maybe, name) || is_either(any, spare, name)
 }
 
 /// Whether the name is one of these or of those.

@@ -1,6 +1,5 @@
-use Rattle.std.proofs.Common.{◌≡◌, ◌||◌, ℕ, List, sym, ap, ◌∙◌}
+use Rattle.std.proofs.Common.{◌≡◌, ◌||◌, sym, ap, ◌∙◌}
 use Rattle.std.specs.List.{list_any}
-use Rattle.poly_texts.specs.Puzzle.{has_name}
 use Rattle.poly_place.specs.Tables.{has_bit}
 use Rattle.poly_place.specs.Packings.{choice, is_useful}
 use Rattle.poly_place.proofs.ChoiceLemmas.{useful_is, mapped_kept, mapped_left}
@@ -10,9 +9,8 @@ use Rattle.poly_place.proofs.choice.add_choices.Goals.{After-is_useful}
 -- the test is that of the choice
 test : (c : After-is_useful) → c.is_useful.result ≡ is_useful c.args.puzzle.now (choice c.args.name c.in-Some.cells)
 test c =
-    c.is_useful.ensures ∙ ap (λ vs. c.contains-is_needed.result || list_any (has_bit c.args.filled.now) vs) c.cells-in-loop-cells.ensures.value
-    ∙ useful_is c.args.puzzle.now c.args.filled.now c.args.name c.in-Some.cells c.contains-is_needed.result c.requires.filled c.requires.member
-    (c.contains-is_needed.ensures.value ∙ ap (λ (ns : List ℕ). has_name ns c.args.name) c.requires.needed)
+    c.is_useful.ensures ∙ ap (λ vs. c.is_needed-is_needed.result || list_any (has_bit c.args.filled.now) vs) c.cells-in-loop-cells.ensures.value
+    ∙ useful_is c.args.puzzle.now c.args.filled.now c.args.name c.in-Some.cells c.is_needed-is_needed.result c.requires c.is_needed-is_needed.ensures
 
 pub loop-cells-preserved-in-Continue-branch-2 : goal.loop-cells-preserved-in-Continue-branch-2
 loop-cells-preserved-in-Continue-branch-2 c = record {

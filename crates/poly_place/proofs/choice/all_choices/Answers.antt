@@ -1,9 +1,6 @@
-use Rattle.std.proofs.Common.{◌++◌, ℕ, List, ap, sym, subst, ◌∙◌, arith, option_map, take_all}
+use Rattle.std.proofs.Common.{◌++◌, List, ap, sym, ◌∙◌, arith, option_map, take_all}
 use Rattle.std.specs.List.{flat_map}
 use Rattle.std.specs.Map.Iter.{deref_pair}
-use Rattle.poly_cells.specs.Coordinates.{Coordinates}
-use Rattle.poly_cells.specs.Sets.{IsIn}
-use Rattle.poly_cells.proofs.SetLemmas.{in_map}
 use Rattle.poly_place.specs.Packings.{ChoiceValue, choices_of_piece}
 use Rattle.poly_place.proofs.CountLemmas.{IsEntry, entry_is}
 use Rattle.poly_place.proofs.OptionLemmas.{choices_next, choices_all}
@@ -13,12 +10,6 @@ use Rattle.poly_place.proofs.choice.all_choices.Goals.{After-unwrap}
 -- the piece at hand
 entry : (c : After-unwrap) → IsEntry c.pieces-pieces.result.now.entries c.loop-k.k c.unwrap.result.0.now c.unwrap.result.1.now
 entry c = entry_is c.pieces-pieces.result.now.entries c.loop-k.k _ _ (sym c.get_index.ensures.entry ∙ ap (option_map deref_pair) c.unwrap.ensures)
-
-pub add_choices-requires-clause-member : goal.add_choices-requires-clause-member
-add_choices-requires-clause-member c =
-    let e = entry (goal.at.add_choices-requires-clause-member c).After-unwrap in
-    in_map (λ (q : ℕ × List Coordinates). q.0) (c.unwrap.result.0.now, c.unwrap.result.1.now) c.args.puzzle.now.pieces
-    (subst (λ (qs : List (ℕ × List Coordinates)). IsIn (c.unwrap.result.0.now, c.unwrap.result.1.now) qs) c.pieces-pieces.ensures.value e.member)
 
 pub loop-k-preserved : goal.loop-k-preserved
 loop-k-preserved c =

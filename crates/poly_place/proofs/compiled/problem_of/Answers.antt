@@ -1,15 +1,15 @@
-use Rattle.std.proofs.Common.{◌∙◌, sym, subst, ap, ◌+◌, arith, length, map, vec_items}
+use Rattle.std.proofs.Common.{◌∙◌, ℕ, List, ◌++◌, sym, subst, ap, ap₂, ◌+◌, arith, length, map, vec_items}
 use Rattle.std.specs.String.{string_bytes}
 use Rattle.poly_texts.specs.Puzzle.{PuzzleValue, IsPuzzle}
 use Rattle.poly_place.specs.Packings.{choices, option_of, needed_things}
-use Rattle.poly_place.specs.Compiled.{needed_names}
+use Rattle.poly_place.specs.Compiled.{left_items, left_out, needed_names}
 use Rattle.poly_place.proofs.CountLemmas.{are_few, needed_count}
 use Rattle.poly_place.proofs.MadeLemmas.{AreParts, parts_make, not_faulty}
 use Rattle.poly_place.proofs.compiled.problem_of.Goals as goal
 use Rattle.poly_place.proofs.compiled.problem_of.Goals.{After-new}
 
 -- the parts of the problem
-parts : (c : After-new) → AreParts c.args.puzzle.now (map string_bytes c.in_ok-names.names.items) (length c.args.pieces.now + length c.args.cells.now) (map vec_items c.in_ok-options.options.items)
+parts : (c : After-new) → AreParts c.args.puzzle.now (map string_bytes c.in_ok-names.names.items) (length c.args.pieces.now + length c.args.cells.now) (map vec_items c.add_leavings.new.options.items)
 parts c = record {
   names_are = c.in_ok-names.ensures;
   primary_is =
@@ -17,7 +17,10 @@ parts c = record {
       let a = ap length c.requires.pieces in
       let b = ap length c.requires.cells in
       omega arith;
-  options_are = c.in_ok-options.ensures ∙ ap (λ (p : PuzzleValue). map (option_of p) (choices p)) c.requires.numbers;
+  options_are =
+      c.in_ok-add_leavings.ensures
+      ∙ ap₂ (λ (xs ys : List (List ℕ)). xs ++ ys) (c.in_ok-options.ensures ∙ ap (λ (p : PuzzleValue). map (option_of p) (choices p)) c.requires.numbers)
+      (ap (λ (p : PuzzleValue). map (left_items p) (left_out p)) c.requires.numbers);
 }
 
 pub overflow_cast-primary : goal.overflow_cast-primary
@@ -54,3 +57,20 @@ all_options-requires-clause-primary c =
 
 pub all_options-requires-clause-list : goal.all_options-requires-clause-list
 all_options-requires-clause-list c = c.requires.list ∙ ap choices (sym c.requires.numbers)
+
+pub add_leavings-requires-clause-puzzle : goal.add_leavings-requires-clause-puzzle
+add_leavings-requires-clause-puzzle c = subst IsPuzzle (sym c.requires.numbers) c.requires.puzzle
+
+pub add_leavings-requires-clause-needed : goal.add_leavings-requires-clause-needed
+add_leavings-requires-clause-needed c = c.requires.pieces ∙ ap needed_names (sym c.requires.numbers)
+
+pub add_leavings-requires-clause-primary : goal.add_leavings-requires-clause-primary
+add_leavings-requires-clause-primary c =
+    let count = needed_count c.args.puzzle.now in
+    let a = ap length c.requires.pieces in
+    let b = ap length c.requires.cells in
+    let same = ap (λ (p : PuzzleValue). length (needed_things p)) c.requires.numbers in
+    omega arith
+
+pub add_leavings-requires-clause-lefts : goal.add_leavings-requires-clause-lefts
+add_leavings-requires-clause-lefts c = ap (map vec_items) c.as_slice.ensures.value ∙ c.in_ok-lefts.ensures ∙ ap left_out (sym c.requires.numbers)

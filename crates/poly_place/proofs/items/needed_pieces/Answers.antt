@@ -1,6 +1,6 @@
-use Rattle.std.proofs.Common.{◌≡◌, ℕ, List, not, ◌&&◌, ap, ap₂, sym, ◌∙◌, option_map}
+use Rattle.std.proofs.Common.{◌≡◌, ap, sym, ◌∙◌, option_map}
 use Rattle.std.specs.Map.Iter.{deref_pair}
-use Rattle.poly_texts.specs.Puzzle.{names_of, has_name, is_needed}
+use Rattle.poly_texts.specs.Puzzle.{names_of, is_needed}
 use Rattle.poly_place.proofs.CountLemmas.{entry_is, one_kept, one_left}
 use Rattle.poly_place.proofs.items.needed_pieces.Goals as goal
 use Rattle.poly_place.proofs.items.needed_pieces.Goals.{then-is_needed+in_ok-push, else-is_needed}
@@ -10,7 +10,7 @@ loop-k-preserved c =
     let entry = entry_is c.pieces-pieces.result.now.entries c.loop-k.k _ _ (sym c.get_index.ensures.entry ∙ ap (option_map deref_pair) c.unwrap.ensures) in
     let name = (deref_pair c.unwrap.result).0 in
     let found : c.is_needed.result ≡ is_needed c.args.puzzle.now name =
-    c.is_needed.ensures ∙ ap₂ (λ (ms ns : List ℕ). not (has_name ms name) && not (has_name ns name)) c.maybe_pieces-optional.ensures c.any_pieces-any.ensures in
+    c.is_needed.ensures in
     elim c.if-is_needed.branch [
       | then-is_needed+in_ok-push w ↦
           one_kept (is_needed c.args.puzzle.now) (names_of c.pieces-pieces.result.now.entries) c.loop-k.k name c.loop-k.needed.items _ entry.lt entry.is

@@ -1,5 +1,5 @@
 use Rattle.poly_place.proofs.RoomLemmas.{IsCounted}
-use Rattle.poly_place.proofs.room.has_room.Given as goal
+use Rattle.poly_place.proofs.room.laying_room.Given as goal
 
 -- the choices of the pieces so far are counted, and there is room for them
 abbrev pub invariant-loop-k : goal.invariant-loop-k

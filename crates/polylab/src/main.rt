@@ -2,11 +2,11 @@
 #![tactic(auto)]
 
 ghost use Rattle.std.specs.Prelude.{◌≡◌};
-ghost use Rattle.lab_line.specs.Line.{status_of};
+ghost use Rattle.polylab_line.specs.Line.{status_of};
 
 use byte_streams::Watched;
-use lab_line::{LineFault, Request, parse_line, status};
 use lab_pool::NoGate;
+use polylab_line::{LineFault, Request, parse_line, status};
 use std::alloc::Global;
 use std::env;
 use std::io::{self, ErrorKind};
@@ -15,6 +15,7 @@ use std::process::ExitCode;
 /// The words of the command line, without the program's name.
 fn words(rt: &HostRuntime) -> io::Result<Vec<String>> {
     let mut words = Vec::new(rt.alloc());
+    // The first is the program's name.
     for word in env::args(rt)?.skip(1) {
         words.push(word)?;
     }
@@ -28,6 +29,7 @@ fn no_words(alloc: Global, error: &io::Error) -> LineFault
     if error.kind() == ErrorKind::OutOfMemory {
         return LineFault::OutOfMemory;
     }
+    // Words that are no UTF-8 end as those that `clap` refuses do.
     match String::from_str(alloc, "error: the words of the command line are not text\n") {
         Ok(text) => LineFault::Usage(text),
         Err(_) => LineFault::OutOfMemory,
@@ -59,6 +61,7 @@ fn main(rt: HostRuntime) -> ExitCode {
         &rt,
         rt.alloc(),
         asked(&rt),
+        // A gate may hold workers back between their acts, which tests do. Here none is held.
         &NoGate,
         &mut Watched::reader(rt.stdin()),
         &mut Watched::writer(rt.stdout()),

@@ -1,14 +1,12 @@
 -- A search up to the visit of a number: its report has the first visits of the run, and what is written of it are these.
-use Rattle.std.proofs.Common.{◌≡◌, ℕ, ◌<◌, ◌≤◌, ◌⊎◌, Bool, true, false, Option, Some, List, [], ◌∷◌, ◌++◌, length, map, take, get_or, cond, refl, sym, ap, ap₂, ◌∙◌, subst, inl, inr, arith, length-append}
+use Rattle.std.proofs.Common.{◌≡◌, ℕ, ◌<◌, ◌≤◌, ◌⊎◌, true, Some, List, [], ◌++◌, length, map, take, refl, sym, ap, ap₂, ◌∙◌, subst, inl, inr, arith}
 use Rattle.std.specs.Prelude as prelude
 use Rattle.std.specs.Option.{ForSome}
 use Rattle.std.specs.Prelude.{nat_lt, if◌then◌else◌}
-use Rattle.std.proofs.lemmas.Bool.{cases_lt, lt-ltb, le-ltb}
-use Rattle.std.proofs.lemmas.List.{take_all, take-append-le, length-take-le}
+use Rattle.std.proofs.lemmas.Bool.{cases_lt, le-ltb}
+use Rattle.std.proofs.lemmas.List.{take_all, take-append-le}
 use Rattle.text_lines.specs.Writing.{line_text, text_of}
-use Rattle.cover_problem.specs.Lists.{has}
-use Rattle.cover_problem.specs.Problem.{ProblemValue, IsProblem}
-use Rattle.cover_problem.specs.ExactCover.{IsExactCover}
+use Rattle.cover_problem.specs.Problem.{ProblemValue}
 use Rattle.poly_texts.specs.Puzzle.{PuzzleValue}
 use Rattle.poly_place.specs.Packings.{packing_problem}
 use Rattle.x_steps.specs.StateValue.{StateValue, start, done}
@@ -18,12 +16,11 @@ use Rattle.x_steps.specs.Machine.{Position}
 use Rattle.x_steps.proofs.BetweenLemmas.{states_between_join, visits_join}
 use Rattle.x_steps.proofs.RunLemmas.{start_fits, done_fits, start_first, done_last}
 use Rattle.x_texts.specs.Words.{visit_words}
-use Rattle.polylab_engine.specs.Account.{ReportValue, account_of, report_of}
+use Rattle.polylab_engine.specs.Account.{ReportValue, account_of}
 use Rattle.polylab_engine.specs.Output.{whole_report}
 use Rattle.polylab_engine.specs.Packed.{packings_from}
-use Rattle.polylab_engine.specs.Stretch.{end_at, stop_from, report_from, stretch_report}
+use Rattle.polylab_engine.specs.Stretch.{stop_from, report_from, stretch_report}
 use Rattle.polylab_engine.specs.First.{IsFirstReport, cover_end, packings_end, first_cover_output, first_packings_output}
-use Rattle.polylab_engine.specs.Listing.{AreExactCovers}
 use Rattle.polylab_engine.proofs.StopLemmas.{whole_stretch}
 
 -- ---- the report

@@ -17,10 +17,12 @@ use Rattle.lab_pool.specs.declared.fault.PoolFault.{PoolFault}
 use Rattle.lab_pool.specs.declared.fault.PoolFault.TheVariants.{BadWorkerCount, Held}
 use Rattle.debug_language.specs.Reading.{command_from, engine_from}
 use Rattle.x_debug.specs.Questions.{question_lines}
-use Rattle.x_debug.specs.Commands.{answer}
+use Rattle.x_debug.specs.Commands.{deed_of}
 use Rattle.debug_script.specs.declared.fault.RepliesFault.TheVariants as replies
 use Rattle.debug_script.specs.Replies.{exchange, debug_replies}
 use Rattle.polylab_engine.specs.declared.job.Job.TheVariants as jobs
+use Rattle.polylab_engine.specs.declared.job.CoverJob.TheVariants as cover_jobs
+use Rattle.polylab_engine.specs.declared.job.PuzzleJob.TheVariants as puzzle_jobs
 use Rattle.polylab_engine.specs.Jobs.{is_first, takes_commands}
 use Rattle.polylab_engine.specs.Refusing.{pool_faults}
 use Rattle.polylab_engine.specs.declared.fault.JobFault.TheVariants as faults
@@ -87,7 +89,7 @@ none_asked = refl
 -- ---- specs/Debugged.antt
 
 replied : debug_output ((codes "branches" ++ 10 ∷ []) ∷ []) small ≡ codes "branch start to end leased" ++ 10 ∷ []
-unfolding debug_output debug_replies exchange engine_from command_from answer question_lines outcome
+unfolding debug_output debug_replies exchange engine_from command_from deed_of question_lines outcome
 replied = refl
 
 pool_failed : job_fault (replies.Pool Held) ≡ faults.Pool Held
@@ -115,21 +117,21 @@ its_cover (suc k) h = absurd (omega (arith, h))
 
 -- ---- specs/Jobs.antt
 
-stops : is_first (jobs.FirstCovers 2) ≡ true
+stops : is_first (jobs.Cover (cover_jobs.First 2)) ≡ true
 stops = refl
 
-commands_follow : takes_commands jobs.DebugPuzzle ≡ true
+commands_follow : takes_commands (jobs.Puzzle puzzle_jobs.Debug) ≡ true
 commands_follow = refl
 
-neither : (is_first jobs.Options ≡ false) × (takes_commands jobs.Options ≡ false)
+neither : (is_first (jobs.Puzzle puzzle_jobs.Options) ≡ false) × (takes_commands (jobs.Puzzle puzzle_jobs.Options) ≡ false)
 neither = (refl, refl)
 
 -- ---- specs/Refusing.antt
 
 -- `options` ends with no fault of workers, whatever a search may end with
-no_search : (May : PoolFault → Type 0) (fault : PoolFault) → pool_faults jobs.Options May fault → ⊥
+no_search : (May : PoolFault → Type 0) (fault : PoolFault) → pool_faults (jobs.Puzzle puzzle_jobs.Options) May fault → ⊥
 no_search May fault h = h
 
 -- `debug` doesn't end for the number of workers
-not_for_number : (May : PoolFault → Type 0) → pool_faults jobs.DebugCover May BadWorkerCount → ⊥
+not_for_number : (May : PoolFault → Type 0) → pool_faults (jobs.Cover cover_jobs.Debug) May BadWorkerCount → ⊥
 not_for_number May h = h.not_number refl

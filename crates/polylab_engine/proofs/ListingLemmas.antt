@@ -29,6 +29,8 @@ use Rattle.x_steps.proofs.VisitLemmas.{visits_rise, visits_are_covers}
 use Rattle.x_snapshot.specs.Judged.{snapshot_of}
 use Rattle.polylab_engine.specs.declared.job.Job.{Job}
 use Rattle.polylab_engine.specs.declared.job.Job.TheVariants as jobs
+use Rattle.polylab_engine.specs.declared.job.CoverJob.TheVariants as cover_jobs
+use Rattle.polylab_engine.specs.declared.job.PuzzleJob.TheVariants as puzzle_jobs
 use Rattle.polylab_engine.specs.Account.{ReportValue, account_of}
 use Rattle.polylab_engine.specs.Output.{cover_output, whole_report}
 use Rattle.polylab_engine.proofs.ToldLemmas.{resumed, snapshot_read}
@@ -110,11 +112,11 @@ packing_paths p z small = record {
       let set = all.some_cover chosen packing in
       let q = a.complete set.0 (all.covers set.0 chosen set.1 packing) in
       let cover = a.sound q.0 q.1 in
-      (q.0, q.1, all.one_packing (has q.0) (is_among (chosen_by p q.0)) chosen (cover_stands p q.0 cover) (along set.0 (has q.0) chosen (λ o. sym (q.2 o)) set.1));
+      (q.0, q.1, all.one_packing (has q.0) (is_among (chosen_by p q.0)) chosen (cover_stands p z q.0 cover) (along set.0 (has q.0) chosen (λ o. sym (q.2 o)) set.1));
   once = λ q r i j same.
       a.once q r i j
-      (all.one_cover (has q) (has r) (is_among (chosen_by p r)) (alike (has q) (is_among (chosen_by p q)) (is_among (chosen_by p r)) same (cover_stands p q (a.sound q i)))
-      (cover_stands p r (a.sound r j)));
+      (all.one_cover (has q) (has r) (is_among (chosen_by p r)) (alike (has q) (is_among (chosen_by p q)) (is_among (chosen_by p r)) same (cover_stands p z q (a.sound q i)))
+      (cover_stands p z r (a.sound r j)));
 }
   where
     all : ArePackings p
@@ -125,14 +127,28 @@ packing_paths p z small = record {
 
     along : (set other : ℕ → Bool) (chosen : ChoiceValue → Bool) → ((o : ℕ) → set o ≡ other o) → StandsFor p set chosen → StandsFor p other chosen
     along set other chosen e s = record {
-      forth = λ o h. s.forth o (e o ∙ h);
-      back = λ c h. let o = s.back c h in (o.0, sym (e o.0) ∙ o.1, o.2);
+      within = λ o h. s.within o (e o ∙ h);
+      forth = λ o h le. s.forth o (e o ∙ h) le;
+      back = λ c h. let o = s.back c h in (o.0, sym (e o.0) ∙ o.1, o.2, o.3);
+      left = λ o past within. ((λ h. (s.left o past within).0 (e o ∙ h)), (λ a. sym (e o) ∙ (s.left o past within).1 a));
     }
 
     alike : (set : ℕ → Bool) (chosen other : ChoiceValue → Bool) → ((c : ChoiceValue) → chosen c ≡ other c) → StandsFor p set chosen → StandsFor p set other
     alike set chosen other e s = record {
-      forth = λ o h. let f = s.forth o h in (f.0, f.1, sym (e (choice_at p o)) ∙ f.2);
+      within = s.within;
+      forth = λ o h le. sym (e (choice_at p o)) ∙ s.forth o h le;
       back = λ c h. s.back c (e c ∙ h);
+      left = λ o past within. (
+        (λ h.
+            let a = (s.left o past within).0 h in record {
+              used = λ n i. let c = a.used n i in (c.0, sym (e c.0) ∙ c.1, c.2);
+              left = λ n i u. a.left n i (u.0, e u.0 ∙ u.1, u.2);
+            }),
+        (λ a. (s.left o past within).1 (record {
+          used = λ n i. let c = a.used n i in (c.0, e c.0 ∙ c.1, c.2);
+          left = λ n i u. a.left n i (u.0, sym (e u.0) ∙ u.1, u.2);
+        })),
+      );
     }
 
 shows : (p : PuzzleValue) → IsPuzzle p → is_small (packing_problem p) ≡ true → ListsPackings p (solve_output p)
@@ -205,17 +221,17 @@ puzzle_read input p h = puzzle_is input p (texts.read_is_text input p h)
 
 pub outcome_lists : (job : Job) (input text : List ℕ) → outcome job input ≡ Ok text → IsListed job input text
 unfolding outcome
-outcome_lists jobs.Cover input text e = listed ListsCovers cover_output lists (problem_of input) text (problem_read input) e
-outcome_lists jobs.Solve input text e = packed ListsPackings solve_output shows (puzzle_of input) text (puzzle_read input) e
-outcome_lists (jobs.FirstCovers n) input text e = listed (ListsFirstCovers n) (first_cover_output n) (lists_first n) (problem_of input) text (problem_read input) e
-outcome_lists (jobs.FirstPackings n) input text e = packed (ListsFirstPackings n) (first_packings_output n) (shows_first n) (puzzle_of input) text (puzzle_read input) e
-outcome_lists jobs.Count input text e = packed CountsPackings count_output counts (puzzle_of input) text (puzzle_read input) e
-outcome_lists jobs.Classes input text e = packed CountsClasses classes_output classified (puzzle_of input) text (puzzle_read input) e
-outcome_lists jobs.Options input text e = packed (λ p t. t ≡ written (packing_problem p)) options_output (λ p z s. options_are p) (puzzle_of input) text (puzzle_read input) e
-outcome_lists jobs.DebugPuzzle input text e =
+outcome_lists (jobs.Cover cover_jobs.List) input text e = listed ListsCovers cover_output lists (problem_of input) text (problem_read input) e
+outcome_lists (jobs.Puzzle puzzle_jobs.Solve) input text e = packed ListsPackings solve_output shows (puzzle_of input) text (puzzle_read input) e
+outcome_lists (jobs.Cover (cover_jobs.First n)) input text e = listed (ListsFirstCovers n) (first_cover_output n) (lists_first n) (problem_of input) text (problem_read input) e
+outcome_lists (jobs.Puzzle (puzzle_jobs.First n)) input text e = packed (ListsFirstPackings n) (first_packings_output n) (shows_first n) (puzzle_of input) text (puzzle_read input) e
+outcome_lists (jobs.Puzzle puzzle_jobs.Count) input text e = packed CountsPackings count_output counts (puzzle_of input) text (puzzle_read input) e
+outcome_lists (jobs.Puzzle puzzle_jobs.Classes) input text e = packed CountsClasses classes_output classified (puzzle_of input) text (puzzle_read input) e
+outcome_lists (jobs.Puzzle puzzle_jobs.Options) input text e = packed (λ p t. t ≡ written (packing_problem p)) options_output (λ p z s. options_are p) (puzzle_of input) text (puzzle_read input) e
+outcome_lists (jobs.Puzzle puzzle_jobs.Debug) input text e =
     let lines = command_lines input in
     packed (λ p t. t ≡ debug_output lines (packing_problem p)) (puzzle_replies lines) (λ p z s. refl) (puzzle_of (problem_text input)) text (puzzle_read (problem_text input)) e
-outcome_lists jobs.DebugCover input text e =
+outcome_lists (jobs.Cover cover_jobs.Debug) input text e =
     let lines = command_lines input in
     listed (λ p t. t ≡ debug_output lines p) (debug_output lines) (λ p s. refl) (problem_of (problem_text input)) text (problem_read (problem_text input)) e
 outcome_lists (jobs.Resume steps list) input text e = resumed steps list (snapshot_of input) text (snapshot_read input) e

@@ -30,6 +30,8 @@ use Rattle.polylab_engine.specs.Account.{kept}
 use Rattle.polylab_engine.specs.Resumed.{branch_end, at_state, end_text, rest_text}
 use Rattle.polylab_engine.specs.declared.job.Job.{Job}
 use Rattle.polylab_engine.specs.declared.job.Job.TheVariants as jobs
+use Rattle.polylab_engine.specs.declared.job.CoverJob.TheVariants as cover_jobs
+use Rattle.polylab_engine.specs.declared.job.PuzzleJob.TheVariants as puzzle_jobs
 use Rattle.x_texts.specs.Words.{visit_words}
 use Rattle.polylab_engine.specs.Output.{total_lines}
 use Rattle.polylab_engine.specs.Packed.{packings_from, number_line, count_lines}
@@ -126,15 +128,15 @@ pub record TellsStretch (most : Option ℕ) (lists : Bool) (v : SnapshotValue) (
 
 -- what is written is what the job is to tell of the input's problem, puzzle or snapshot, or what the input's commands are answered
 abbrev pub IsListed : Job → List ℕ → List ℕ → Type 0
-IsListed jobs.Cover input text = (p : ProblemValue) × (problem_of input ≡ Ok p) × ListsCovers p text
-IsListed (jobs.FirstCovers n) input text = (p : ProblemValue) × (problem_of input ≡ Ok p) × ListsFirstCovers n p text
-IsListed (jobs.FirstPackings n) input text = (p : PuzzleValue) × (puzzle_of input ≡ Ok p) × ListsFirstPackings n p text
-IsListed jobs.Solve input text = (p : PuzzleValue) × (puzzle_of input ≡ Ok p) × ListsPackings p text
-IsListed jobs.Count input text = (p : PuzzleValue) × (puzzle_of input ≡ Ok p) × CountsPackings p text
-IsListed jobs.Classes input text = (p : PuzzleValue) × (puzzle_of input ≡ Ok p) × CountsClasses p text
-IsListed jobs.Options input text = (p : PuzzleValue) × (puzzle_of input ≡ Ok p) × (text ≡ written (packing_problem p))
-IsListed jobs.DebugPuzzle input text = (p : PuzzleValue) × (puzzle_of (problem_text input) ≡ Ok p)
-    × (text ≡ debug_output (command_lines input) (packing_problem p))
-IsListed jobs.DebugCover input text = (p : ProblemValue) × (problem_of (problem_text input) ≡ Ok p)
+IsListed (jobs.Cover cover_jobs.List) input text = (p : ProblemValue) × (problem_of input ≡ Ok p) × ListsCovers p text
+IsListed (jobs.Cover (cover_jobs.First n)) input text = (p : ProblemValue) × (problem_of input ≡ Ok p) × ListsFirstCovers n p text
+IsListed (jobs.Cover cover_jobs.Debug) input text = (p : ProblemValue) × (problem_of (problem_text input) ≡ Ok p)
     × (text ≡ debug_output (command_lines input) p)
+IsListed (jobs.Puzzle puzzle_jobs.Solve) input text = (p : PuzzleValue) × (puzzle_of input ≡ Ok p) × ListsPackings p text
+IsListed (jobs.Puzzle (puzzle_jobs.First n)) input text = (p : PuzzleValue) × (puzzle_of input ≡ Ok p) × ListsFirstPackings n p text
+IsListed (jobs.Puzzle puzzle_jobs.Count) input text = (p : PuzzleValue) × (puzzle_of input ≡ Ok p) × CountsPackings p text
+IsListed (jobs.Puzzle puzzle_jobs.Classes) input text = (p : PuzzleValue) × (puzzle_of input ≡ Ok p) × CountsClasses p text
+IsListed (jobs.Puzzle puzzle_jobs.Options) input text = (p : PuzzleValue) × (puzzle_of input ≡ Ok p) × (text ≡ written (packing_problem p))
+IsListed (jobs.Puzzle puzzle_jobs.Debug) input text = (p : PuzzleValue) × (puzzle_of (problem_text input) ≡ Ok p)
+    × (text ≡ debug_output (command_lines input) (packing_problem p))
 IsListed (jobs.Resume steps list) input text = (v : SnapshotValue) × (snapshot_of input ≡ Ok v) × IsSnapshot v × TellsStretch steps list v text

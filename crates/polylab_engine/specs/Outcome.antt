@@ -9,10 +9,10 @@ use Rattle.cover_problem.specs.Problem.{ProblemValue, is_small}
 use Rattle.cover_problem.specs.Reading.{problem_of}
 use Rattle.polylab_engine.specs.declared.job.Job.{Job}
 use Rattle.polylab_engine.specs.declared.job.Job.TheVariants as jobs
-use Rattle.polylab_engine.specs.declared.answer.CoverJob.{CoverJob}
-use Rattle.polylab_engine.specs.declared.answer.CoverJob.TheVariants as cover_jobs
-use Rattle.polylab_engine.specs.declared.answer.PuzzleJob.{PuzzleJob}
-use Rattle.polylab_engine.specs.declared.answer.PuzzleJob.TheVariants as puzzle_jobs
+use Rattle.polylab_engine.specs.declared.job.CoverJob.{CoverJob}
+use Rattle.polylab_engine.specs.declared.job.CoverJob.TheVariants as cover_jobs
+use Rattle.polylab_engine.specs.declared.job.PuzzleJob.{PuzzleJob}
+use Rattle.polylab_engine.specs.declared.job.PuzzleJob.TheVariants as puzzle_jobs
 use Rattle.polylab_engine.specs.declared.answer.Answer.{Answer}
 use Rattle.polylab_engine.specs.declared.answer.Answer.TheVariants.{Text, Refused}
 use Rattle.poly_texts.specs.declared.fault.Fault as puzzle
@@ -101,18 +101,21 @@ cover_answer job commands read = covers_of (listing_of job (raw_lines commands))
 abbrev pub puzzle_answer : PuzzleJob → List ℕ → Result PuzzleValue (puzzle.Fault × ℕ) → Result (List ℕ) (List ℕ)
 puzzle_answer job commands read = packed_of (output_of job (raw_lines commands)) read
 
+-- what a job on a cover text writes for an input, or the line that refuses it: the debugger's commands follow the text
+abbrev pub cover_outcome : CoverJob → List ℕ → Result (List ℕ) (List ℕ)
+cover_outcome cover_jobs.Debug input = covers_of (debug_output (command_lines input)) (problem_of (problem_text input))
+cover_outcome job input = covers_of (listing_of job []) (problem_of input)
+
+-- what a job on a puzzle writes for an input, or the line that refuses it
+abbrev pub puzzle_outcome : PuzzleJob → List ℕ → Result (List ℕ) (List ℕ)
+puzzle_outcome puzzle_jobs.Debug input = packed_of (puzzle_replies (command_lines input)) (puzzle_of (problem_text input))
+puzzle_outcome job input = packed_of (output_of job []) (puzzle_of input)
+
 -- what a job writes for an input, or the line that refuses it
 unfoldable pub outcome : Job → List ℕ → Result (List ℕ) (List ℕ)
-outcome jobs.Cover text = covers_of cover_output (problem_of text)
-outcome (jobs.FirstCovers n) text = covers_of (first_cover_output n) (problem_of text)
-outcome jobs.Solve text = packed_of solve_output (puzzle_of text)
-outcome (jobs.FirstPackings n) text = packed_of (first_packings_output n) (puzzle_of text)
-outcome jobs.Count text = packed_of count_output (puzzle_of text)
-outcome jobs.Classes text = packed_of classes_output (puzzle_of text)
-outcome jobs.Options text = packed_of options_output (puzzle_of text)
-outcome jobs.DebugPuzzle text = packed_of (puzzle_replies (command_lines text)) (puzzle_of (problem_text text))
-outcome jobs.DebugCover text = covers_of (debug_output (command_lines text)) (problem_of (problem_text text))
-outcome (jobs.Resume steps list) text = resumed_of (resume_output steps list) (snapshot_of text)
+outcome (jobs.Cover job) input = cover_outcome job input
+outcome (jobs.Puzzle job) input = puzzle_outcome job input
+outcome (jobs.Resume steps list) input = resumed_of (resume_output steps list) (snapshot_of input)
 
 -- what is to be written: the text, or nothing where the input is refused
 abbrev pub to_write : Result (List ℕ) (List ℕ) → List ℕ

@@ -10,10 +10,10 @@ use Rattle.polylab_engine.specs.declared.fault.JobFault.{JobFault}
 use Rattle.polylab_engine.specs.declared.fault.JobFault.TheVariants.{OutOfMemory, Pool}
 use Rattle.polylab_engine.specs.declared.job.Job.{Job}
 use Rattle.polylab_engine.specs.declared.job.Job.TheVariants as jobs
-use Rattle.polylab_engine.specs.declared.answer.CoverJob.{CoverJob}
-use Rattle.polylab_engine.specs.declared.answer.CoverJob.TheVariants as cover_jobs
-use Rattle.polylab_engine.specs.declared.answer.PuzzleJob.{PuzzleJob}
-use Rattle.polylab_engine.specs.declared.answer.PuzzleJob.TheVariants as puzzle_jobs
+use Rattle.polylab_engine.specs.declared.job.CoverJob.{CoverJob}
+use Rattle.polylab_engine.specs.declared.job.CoverJob.TheVariants as cover_jobs
+use Rattle.polylab_engine.specs.declared.job.PuzzleJob.{PuzzleJob}
+use Rattle.polylab_engine.specs.declared.job.PuzzleJob.TheVariants as puzzle_jobs
 use Rattle.polylab_engine.specs.declared.engine.Ending.{Ending}
 use Rattle.polylab_engine.specs.declared.engine.Ending.TheVariants as endings
 use Rattle.polylab_engine.specs.Outcome.{no_memory, pool_refusal}
@@ -42,15 +42,11 @@ puzzle_faults puzzle_jobs.Classes May = May
 puzzle_faults puzzle_jobs.Options May = NoPool
 puzzle_faults puzzle_jobs.Debug May = MayEnd
 
--- the same of a job: those that list or count all may end with these, those that take commands as commands do, and the others with none
+-- the same of any job
 abbrev pub pool_faults : Job → (PoolFault → Type 0) → PoolFault → Type 0
-pool_faults jobs.Cover May = May
-pool_faults jobs.Solve May = May
-pool_faults jobs.Count May = May
-pool_faults jobs.Classes May = May
-pool_faults jobs.DebugPuzzle May = MayEnd
-pool_faults jobs.DebugCover May = MayEnd
-pool_faults _ May = NoPool
+pool_faults (jobs.Cover job) May = cover_faults job May
+pool_faults (jobs.Puzzle job) May = puzzle_faults job May
+pool_faults (jobs.Resume steps list) May = NoPool
 
 -- a run that ends by a fault of workers ends by one that may be
 abbrev pub IsEndingOf : (PoolFault → Type 0) → Ending → Type 0

@@ -1,5 +1,5 @@
 //! What a job writes for an input.
-ghost use Rattle.std.specs.Prelude.{◌≡◌, IfOk, IfErr, Ok, List, []};
+ghost use Rattle.std.specs.Prelude.{◌≡◌, IfOk, IfErr, Ok};
 ghost use Rattle.polylab_engine.specs.Refusing.{IsWantOrPool, NoPool, cover_faults, puzzle_faults, pool_faults};
 ghost use Rattle.text_lines.specs.Answers.{GivesAt};
 ghost use Rattle.text_lines.specs.Writing.{line_text};
@@ -9,14 +9,14 @@ ghost use Rattle.poly_texts.specs.Reading.{puzzle_of};
 ghost use Rattle.debug_script.specs.Input.{raw_lines};
 ghost use Rattle.x_snapshot.specs.Judged.{snapshot_of};
 ghost use Rattle.polylab_engine.specs.Resumed.{resume_output};
-ghost use Rattle.polylab_engine.specs.Outcome.{refusal_words, resumed_of, outcome, listing_of, output_of, HasOutcome, ForReading, cover_answer, puzzle_answer, AnswersPuzzle};
+ghost use Rattle.polylab_engine.specs.Outcome.{refusal_words, resumed_of, outcome, cover_outcome, puzzle_outcome, listing_of, output_of, HasOutcome, ForReading, cover_answer, puzzle_answer, AnswersPuzzle};
 ghost use Rattle.cover_problem.specs.Answers.{ReturnsItems};
 ghost use Rattle.x_snapshot.specs.Refusals.{TellsFault};
 
 use crate::classes::count_classes;
 use crate::cover::{covers, first_covers};
 use crate::fault::JobFault;
-use crate::job::Job;
+use crate::job::{CoverJob, Job, PuzzleJob};
 use crate::packed::{count, first_packings, options, solve};
 use crate::resuming::resume;
 use crate::tables::TableKind;
@@ -37,8 +37,7 @@ pub enum Answer {
     Refused(Vec<u8>),
 }
 
-/// What the job writes for an input. The bytes of an input that is all one text are let go before anything is searched; those
-/// of a text with commands are kept, since the commands stand in them.
+/// What the job writes for an input.
 #[tactic(auto, unfolding(crate::specs::Outcome::outcome))]
 pub fn answer_to<W: Workers>(
     alloc: Global,
@@ -51,38 +50,29 @@ pub fn answer_to<W: Workers>(
     ensures why { IfErr result (IsWantOrPool (pool_faults job (W.refuses workers.now))) }
 {
     match job {
-        Job::Cover => cover_answer::<W>(
-            alloc,
-            workers,
-            CoverJob::List,
-            problem_in(alloc, input),
-            &[],
-        ),
-        Job::FirstCovers(first) => cover_answer::<W>(
-            alloc,
-            workers,
-            CoverJob::First(first),
-            problem_in(alloc, input),
-            &[],
-        ),
-        Job::Solve => plain_puzzle::<W>(alloc, workers, PuzzleJob::Solve, input),
-        Job::FirstPackings(first) => {
-            plain_puzzle::<W>(alloc, workers, PuzzleJob::First(first), input)
+        Job::Cover(job) => cover_job::<W>(alloc, workers, job, input),
+        Job::Puzzle(job) => puzzle_job::<W>(alloc, workers, job, input),
+        Job::Resume { steps, list } => resume_answer(alloc, workers.table(), steps, list, input),
+    }
+}
+
+/// What the job writes for an input that is a cover text. The bytes of a text that stands alone are let go before anything is searched;
+/// those of a text with commands are kept, since the commands stand in them.
+fn cover_job<W: Workers>(
+    alloc: Global,
+    workers: &W,
+    job: CoverJob,
+    input: Vec<u8>,
+) -> Result<Answer, JobFault>
+    requires { W.ready workers.now }
+    ensures outcome { HasOutcome result (cover_outcome job input.items) }
+    ensures why { IfErr result (IsWantOrPool (cover_faults job (W.refuses workers.now))) }
+{
+    match job {
+        CoverJob::List | CoverJob::First(_) => {
+            cover_answer::<W>(alloc, workers, job, problem_in(alloc, input), &[])
         }
-        Job::Count => plain_puzzle::<W>(alloc, workers, PuzzleJob::Count, input),
-        Job::Classes => plain_puzzle::<W>(alloc, workers, PuzzleJob::Classes, input),
-        Job::Options => plain_puzzle::<W>(alloc, workers, PuzzleJob::Options, input),
-        Job::DebugPuzzle => {
-            let (text, commands) = split_input(&input);
-            puzzle_answer::<W>(
-                alloc,
-                workers,
-                PuzzleJob::Debug,
-                read_puzzle(alloc, text),
-                commands,
-            )
-        }
-        Job::DebugCover => {
+        CoverJob::Debug => {
             let (text, commands) = split_input(&input);
             cover_answer::<W>(
                 alloc,
@@ -92,7 +82,32 @@ pub fn answer_to<W: Workers>(
                 commands,
             )
         }
-        Job::Resume { steps, list } => { resume_answer(alloc, workers.table(), steps, list, input) }
+    }
+}
+
+/// What the job writes for an input that is a puzzle, whose bytes are let go as those of a cover text are.
+fn puzzle_job<W: Workers>(
+    alloc: Global,
+    workers: &W,
+    job: PuzzleJob,
+    input: Vec<u8>,
+) -> Result<Answer, JobFault>
+    requires { W.ready workers.now }
+    ensures outcome { HasOutcome result (puzzle_outcome job input.items) }
+    ensures why { IfErr result (IsWantOrPool (puzzle_faults job (W.refuses workers.now))) }
+{
+    match job {
+        PuzzleJob::Debug => {
+            let (text, commands) = split_input(&input);
+            puzzle_answer::<W>(
+                alloc,
+                workers,
+                PuzzleJob::Debug,
+                read_puzzle(alloc, text),
+                commands,
+            )
+        }
+        _ => puzzle_answer::<W>(alloc, workers, job, puzzle_in(alloc, input), &[]),
     }
 }
 
@@ -139,14 +154,6 @@ fn resume_answer(
     }
 }
 
-/// What is asked of a cover text.
-#[derive(Clone, Copy)]
-pub enum CoverJob {
-    List,
-    First(u64),
-    Debug,
-}
-
 /// What the job writes of the problem that was found in a text, or the refusal of the text.
 fn cover_answer<W: Workers>(
     alloc: Global,
@@ -186,31 +193,6 @@ fn cover_text<W: Workers>(
         CoverJob::First(first) => Ok(first_covers(alloc, problem, workers.table(), first)?),
         CoverJob::Debug => workers.replies(alloc, problem, commands),
     }
-}
-
-/// What the job writes for a text that is a puzzle and nothing else.
-fn plain_puzzle<W: Workers>(
-    alloc: Global,
-    workers: &W,
-    job: PuzzleJob,
-    text: Vec<u8>,
-) -> Result<Answer, JobFault>
-    requires { W.ready workers.now }
-    ensures outcome { HasOutcome result (puzzle_answer job [] (puzzle_of text.items)) }
-    ensures why { IfErr result (IsWantOrPool (puzzle_faults job (W.refuses workers.now))) }
-{
-    puzzle_answer::<W>(alloc, workers, job, puzzle_in(alloc, text), &[])
-}
-
-/// What is asked of a puzzle.
-#[derive(Clone, Copy)]
-pub enum PuzzleJob {
-    Solve,
-    First(u64),
-    Count,
-    Classes,
-    Options,
-    Debug,
 }
 
 /// What the job writes of the puzzle that was found in a text, or the refusal of the text or of the puzzle.

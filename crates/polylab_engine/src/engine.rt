@@ -17,7 +17,7 @@ use crate::job::Job;
 use crate::report::Report;
 use crate::search::search_together;
 use crate::tables::TableKind;
-use crate::workers::{Alone, Together, Workers};
+use crate::workers::{Alone, Crew, Together, Workers};
 use byte_streams::{InputFault, Sink, Source, read_whole, write_whole};
 use cover_links::LinkTable;
 use cover_problem::Problem;
@@ -158,40 +158,37 @@ pub fn run_alone<I: Source, O: Sink, F: Sink>(
     run(alloc, job, &Alone { table }, reader, writer, faults)
 }
 
-/// A run by so many workers, 1 to 32, on the threads of a runtime, each seen by a gate.
+/// A run by workers who share its search.
 pub fn run_together<R: Threads + Wait + Sync, G: Gate, I: Source, O: Sink, F: Sink>(
-    rt: &R,
     alloc: Global,
     job: Job,
-    table: Option<TableKind>,
-    count: u32,
-    gate: &G,
+    crew: &Crew<'_, R, G>,
     reader: &mut I,
     writer: &mut O,
     faults: &mut F,
 ) -> u8
     ensures run { IsProgramRun job (I.stream reader.old) (I.stream reader.new) (O.stream writer.old) (O.stream writer.new)
         (F.stream faults.old) (F.stream faults.new) result }
-    ensures why { TellsAtFour result F.stream (pool_faults job (MayRefuse count)) faults.old faults.new }
+    ensures why { TellsAtFour result F.stream (pool_faults job (MayRefuse crew.now.count)) faults.old faults.new }
 {
     let search = |alloc: Global, problem: &Problem, keeps: bool| -> Result<Report, JobFault>
         requires threads { IsSync R.row }
         requires gate { IsSync G.row }
         ensures report { Returns result (whole_report keeps problem.now) }
-        ensures why { IfErr result (IsWantOrPool (MayRefuse count)) }
-    { search_together(rt, alloc, problem, table, count, gate, keeps) };
+        ensures why { IfErr result (IsWantOrPool (MayRefuse crew.entry.now.count)) }
+    { search_together(alloc, crew, problem, keeps) };
     let replies = |alloc: Global, problem: &Problem, commands: &[u8]| -> Result<Vec<u8>, JobFault>
         requires threads { IsSync R.row }
         requires gate { IsSync G.row }
         ensures text { ReturnsItems result (debug_output (raw_lines commands.now) problem.now) }
         ensures why { IfErr result (IsWantOrPool MayEnd) }
-    { debug::<LinkTable, R, G>(rt, alloc, problem, commands, gate) };
+    { debug::<LinkTable, R, G>(crew.rt, alloc, problem, commands, crew.gate) };
     run(
         alloc,
         job,
         &Together {
-            table,
-            count,
+            table: crew.table,
+            count: crew.count,
             search,
             replies,
         },

@@ -2,29 +2,43 @@
 ghost use Rattle.std.specs.Prelude.{◌≡◌};
 ghost use Rattle.polylab_engine.specs.Jobs.{is_first, takes_commands};
 
-/// What the program is asked to do.
+/// What the program is asked to do with its input.
 #[derive(Clone, Copy, Debug, PartialEq, Eq)]
 pub enum Job {
-    /// List the exact covers of a cover text.
-    Cover,
-    /// List the first exact covers of a cover text in path order, so many of them.
-    FirstCovers(u64),
-    /// Show the packings of a puzzle.
-    Solve,
-    /// Show the first packings of a puzzle in path order, so many of them.
-    FirstPackings(u64),
-    /// Count the packings of a puzzle.
-    Count,
-    /// Count the packings of a puzzle, and how many are different where symmetries carry some onto others.
-    Classes,
-    /// Write the cover text whose exact covers are the packings of a puzzle.
-    Options,
-    /// Take the search of a puzzle by commands, which follow it.
-    DebugPuzzle,
-    /// Take the search of a cover text by commands, which follow it.
-    DebugCover,
+    /// With a cover text.
+    Cover(CoverJob),
+    /// With a puzzle.
+    Puzzle(PuzzleJob),
     /// Go on from a snapshot, up to its branch's end, or so many steps on where that comes first; list the visits or count them.
     Resume { steps: Option<u64>, list: bool },
+}
+
+/// What is asked of a cover text.
+#[derive(Clone, Copy, Debug, PartialEq, Eq)]
+pub enum CoverJob {
+    /// List its exact covers.
+    List,
+    /// List its first exact covers in path order, so many of them.
+    First(u64),
+    /// Take its search by commands, which follow it.
+    Debug,
+}
+
+/// What is asked of a puzzle.
+#[derive(Clone, Copy, Debug, PartialEq, Eq)]
+pub enum PuzzleJob {
+    /// Show its packings.
+    Solve,
+    /// Show its first packings in path order, so many of them.
+    First(u64),
+    /// Count its packings.
+    Count,
+    /// Count its packings, and how many are different where symmetries carry some onto others.
+    Classes,
+    /// Write the cover text whose exact covers are its packings.
+    Options,
+    /// Take its search by commands, which follow it.
+    Debug,
 }
 
 impl Job {
@@ -32,13 +46,19 @@ impl Job {
     pub fn is_first(self) -> bool
         ensures { result ≡ is_first self }
     {
-        matches!(self, Job::FirstCovers(_) | Job::FirstPackings(_))
+        matches!(
+            self,
+            Job::Cover(CoverJob::First(_)) | Job::Puzzle(PuzzleJob::First(_))
+        )
     }
 
     /// Whether it answers commands, which follow the input's text.
     pub fn takes_commands(self) -> bool
         ensures { result ≡ takes_commands self }
     {
-        matches!(self, Job::DebugPuzzle | Job::DebugCover)
+        matches!(
+            self,
+            Job::Cover(CoverJob::Debug) | Job::Puzzle(PuzzleJob::Debug)
+        )
     }
 }

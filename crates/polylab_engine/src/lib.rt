@@ -20,5 +20,6 @@ mod tally;
 mod workers;
 
 pub use engine::{run_alone, run_together};
-pub use job::Job;
+pub use job::{CoverJob, Job, PuzzleJob};
 pub use tables::TableKind;
+pub use workers::Crew;

@@ -10,6 +10,7 @@ use crate::fault::JobFault;
 use crate::report::Report;
 use crate::stretch::search_on;
 use crate::tables::{TableKind, table_for};
+use crate::workers::Crew;
 use cover_bits::BitTable;
 use cover_links::LinkTable;
 use cover_problem::{Problem, Table};
@@ -75,41 +76,34 @@ fn first_by<T: Table>(alloc: Global, problem: &Problem, first: u64) -> Result<Re
     Ok(report)
 }
 
-/// The report of so many workers, who share a book of the run.
+/// The report of workers who share a book of the run.
 pub fn search_together<R: Threads + Wait + Sync, G: Gate>(
-    rt: &R,
     alloc: Global,
+    crew: &Crew<'_, R, G>,
     problem: &Problem,
-    table: Option<TableKind>,
-    count: u32,
-    gate: &G,
     keeps: bool,
 ) -> Result<Report, JobFault>
     ensures report { Returns result (whole_report keeps problem.now) }
-    ensures why { IfErr result (IsWantOrPool (MayRefuse count)) }
+    ensures why { IfErr result (IsWantOrPool (MayRefuse crew.now.count)) }
 {
-    match table_for(problem, count, table) {
-        Some(TableKind::Links) => share_by::<LinkTable, R, G>(
-            rt, alloc, problem, count, gate, keeps,
-        ),
-        Some(TableKind::Bits) => share_by::<BitTable, R, G>(rt, alloc, problem, count, gate, keeps),
+    match table_for(problem, crew.count, crew.table) {
+        Some(TableKind::Links) => share_by::<LinkTable, R, G>(alloc, crew, problem, keeps),
+        Some(TableKind::Bits) => share_by::<BitTable, R, G>(alloc, crew, problem, keeps),
         None => Err(JobFault::OutOfMemory),
     }
 }
 
 /// The same by tables of this kind.
 fn share_by<T: Table + Send + Sync, R: Threads + Wait + Sync, G: Gate>(
-    rt: &R,
     alloc: Global,
+    crew: &Crew<'_, R, G>,
     problem: &Problem,
-    count: u32,
-    gate: &G,
     keeps: bool,
 ) -> Result<Report, JobFault>
     ensures report { Returns result (whole_report keeps problem.now) }
-    ensures why { IfErr result (IsWantOrPool (MayRefuse count)) }
+    ensures why { IfErr result (IsWantOrPool (MayRefuse crew.now.count)) }
 {
-    match run_pool::<T, R, G>(rt, alloc, problem, count, gate) {
+    match run_pool::<T, R, G>(crew.rt, alloc, problem, crew.count, crew.gate) {
         Ok(book) => Ok(Report::of_book(alloc, &book, keeps)?),
         Err(refused) => Err(JobFault::from(refused.fault)),
     }

@@ -16,6 +16,19 @@ use cover_problem::Problem;
 use lab_pool::PoolFault;
 use std::alloc::{AllocError, Global};
 
+/// Workers who share a search.
+#[derive(Drop)]
+pub struct Crew<'a, R, G> {
+    /// On whose threads they work.
+    pub rt: &'a R,
+    /// By what each is seen.
+    pub gate: &'a G,
+    /// How many they are, 1 to 32.
+    pub count: u32,
+    /// The table that was asked for, if one was; else the problem's shape chooses it.
+    pub table: Option<TableKind>,
+}
+
 /// Who takes a problem's run, whole or by commands.
 pub trait Workers {
     // They can be called, and what they answer is right.

@@ -1,0 +1,286 @@
+//! The command line: which job the words ask for.
+
+ghost use Rattle.std.specs.Prelude.{◌≡◌, ◌≤◌, IfOk, IsTrue};
+ghost use Rattle.polylab_engine.specs.Jobs.{is_first};
+ghost use Rattle.polylab_line.specs.Line.{status_of};
+
+use crate::help::{self, JobHelp};
+use clap::error::ErrorKind;
+use clap::{Arg, ArgAction, ArgMatches, Command, Error, value_parser};
+use polylab_engine::{CoverJob, Job, PuzzleJob, TableKind};
+use std::alloc::{AllocError, Global};
+
+/// A job, how many workers do it, 1 to 32, and the table that was asked for, if one was.
+#[derive(Clone, Copy, Debug, PartialEq, Eq)]
+pub struct Request {
+    /// What is to be done.
+    pub job: Job,
+    /// How many threads do it, 1 to 32.
+    pub workers: u32,
+    /// The table that was named; None where the shape of the problem chooses.
+    pub table: Option<TableKind>,
+}
+
+/// Why the words name no job. The texts are `clap`'s, but for `--first` with several workers, and for words that are not text.
+#[derive(Debug, Drop)]
+pub enum LineFault {
+    /// Help or the version was asked for; this is the text.
+    Help(String),
+    /// The words were refused; this is why.
+    Usage(String),
+    /// There is no memory to read the words.
+    OutOfMemory,
+}
+
+impl LineFault {
+    /// The program's exit status.
+    pub fn status(&self) -> u8
+        ensures { result ≡ status_of self.now }
+    {
+        match self {
+            LineFault::Help(_) => 0,
+            LineFault::Usage(_) => 2,
+            LineFault::OutOfMemory => 4,
+        }
+    }
+}
+
+/// A subcommand with its usage and its help.
+fn job<'a>(alloc: Global, told: &JobHelp) -> Command<'a> {
+    Command::new(alloc, told.name)
+        .about(told.about)
+        .override_usage(told.usage)
+        .after_help(told.text)
+}
+
+/// The option that says how many workers search.
+fn workers<'a>(alloc: Global) -> Arg<'a> {
+    Arg::new(alloc, "workers")
+        .long("workers")
+        .value_name("N")
+        .value_parser(value_parser!(u32).range(1..=32))
+        // So the search always gets a number, said or not.
+        .default_value("1")
+        .help(help::WORKERS)
+}
+
+/// The option that says which table the search has.
+fn table<'a>(alloc: Global) -> Arg<'a> {
+    Arg::new(alloc, "table")
+        .long("table")
+        .value_name("TABLE")
+        .value_parser(help::TABLES)
+        .help(help::TABLE)
+}
+
+/// The option that says how many are asked for.
+fn first<'a>(alloc: Global) -> Arg<'a> {
+    Arg::new(alloc, "first")
+        .long("first")
+        .value_name("N")
+        // The first none would be found without a search.
+        .value_parser(value_parser!(u64).range(1..))
+        .help(help::FIRST)
+}
+
+/// The word that asks for classes.
+fn classes<'a>(alloc: Global) -> Arg<'a> {
+    Arg::new(alloc, "classes")
+        .long("classes")
+        .action(ArgAction::SetTrue)
+        .help(help::CLASSES)
+}
+
+/// The word that asks for a cover text's problem.
+fn of_cover<'a>(alloc: Global) -> Arg<'a> {
+    Arg::new(alloc, "cover")
+        .long("cover")
+        .action(ArgAction::SetTrue)
+        .help(help::OF_COVER)
+}
+
+/// The option that says how many steps are taken at most.
+fn steps<'a>(alloc: Global) -> Arg<'a> {
+    Arg::new(alloc, "steps")
+        .long("steps")
+        .value_name("N")
+        // No steps would be the same snapshot again.
+        .value_parser(value_parser!(u64).range(1..))
+        .help(help::STEPS)
+}
+
+/// The word that asks for the visits.
+fn list<'a>(alloc: Global) -> Arg<'a> {
+    Arg::new(alloc, "list")
+        .long("list")
+        .action(ArgAction::SetTrue)
+        .help(help::LIST)
+}
+
+/// The job `cover`.
+fn cover<'a>(alloc: Global) -> Result<Command<'a>, AllocError> {
+    job(alloc, &help::COVER)
+        .arg(workers(alloc))?
+        .arg(first(alloc))?
+        .arg(table(alloc))
+}
+
+/// The job `solve`.
+fn solve<'a>(alloc: Global) -> Result<Command<'a>, AllocError> {
+    job(alloc, &help::SOLVE)
+        .arg(workers(alloc))?
+        .arg(first(alloc))?
+        .arg(table(alloc))
+}
+
+/// The job `count`.
+fn count<'a>(alloc: Global) -> Result<Command<'a>, AllocError> {
+    job(alloc, &help::COUNT)
+        .arg(workers(alloc))?
+        .arg(table(alloc))?
+        .arg(classes(alloc))
+}
+
+/// The job `resume`.
+fn resume<'a>(alloc: Global) -> Result<Command<'a>, AllocError> {
+    job(alloc, &help::RESUME)
+        .arg(table(alloc))?
+        .arg(steps(alloc))?
+        .arg(list(alloc))
+}
+
+/// The command line that the program takes.
+fn command<'a>(alloc: Global) -> Result<Command<'a>, AllocError> {
+    Command::new(alloc, "polylab")
+        .about(help::ABOUT)
+        .after_help(help::STATUSES)
+        .version("0.1.0")
+        // Who calls this has left the program's name out.
+        .no_binary_name(true)
+        .subcommand_required(true)
+        // Without any word the answer is the help.
+        .arg_required_else_help(true)
+        .subcommand(cover(alloc)?)?
+        .subcommand(solve(alloc)?)?
+        .subcommand(count(alloc)?)?
+        .subcommand(job(alloc, &help::OPTIONS))?
+        .subcommand(job(alloc, &help::DEBUG).arg(of_cover(alloc))?)?
+        .subcommand(resume(alloc)?)
+}
+
+/// How many workers the words of a job ask for. That it is 1 to 32, and 1 where it isn't said, is `clap`'s to see; its answer is
+/// looked at once more.
+fn workers_in(words: &ArgMatches<'_>) -> u32
+    ensures { (1 ≤ result) × (result ≤ 32) }
+{
+    match words.get_one::<u32>("workers") {
+        Some(workers) if workers >= 1 && workers <= 32 => workers,
+        _ => 1,
+    }
+}
+
+/// The table that the words of a job ask for, if they ask for one.
+fn table_in(words: &ArgMatches<'_>) -> Option<TableKind> {
+    match words.get_str("table") {
+        Some("links") => Some(TableKind::Links),
+        Some("bits") => Some(TableKind::Bits),
+        // The words are those of `help::TABLES`, which `clap` has compared: no other comes here.
+        _ => None,
+    }
+}
+
+/// What the words ask for.
+fn request_in(matches: &ArgMatches<'_>) -> Request
+    ensures { (1 ≤ result.workers) × (result.workers ≤ 32) }
+{
+    // `clap` asks for a subcommand, so this isn't met. Any job would do here.
+    let Some((name, words)) = matches.subcommand() else {
+        return Request {
+            job: Job::Cover(CoverJob::List),
+            workers: 1,
+            table: None,
+        };
+    };
+    Request {
+        job: job_of(name, words),
+        workers: workers_in(words),
+        table: table_in(words),
+    }
+}
+
+/// The job of this name that the words after it ask for.
+fn job_of(name: &str, words: &ArgMatches<'_>) -> Job {
+    match name {
+        "solve" => solving(words.get_one::<u64>("first")),
+        "count" if words.get_flag("classes") => Job::Puzzle(PuzzleJob::Classes),
+        "count" => Job::Puzzle(PuzzleJob::Count),
+        "options" => Job::Puzzle(PuzzleJob::Options),
+        "debug" if words.get_flag("cover") => Job::Cover(CoverJob::Debug),
+        "debug" => Job::Puzzle(PuzzleJob::Debug),
+        "resume" => Job::Resume {
+            steps: words.get_one::<u64>("steps"),
+            list: words.get_flag("list"),
+        },
+        // `cover`: `clap` knows no other name.
+        _ => listing(words.get_one::<u64>("first")),
+    }
+}
+
+/// The job of all packings, or of the first ones, if a number is asked for.
+fn solving(first: Option<u64>) -> Job {
+    match first {
+        Some(first) => Job::Puzzle(PuzzleJob::First(first)),
+        None => Job::Puzzle(PuzzleJob::Solve),
+    }
+}
+
+/// The job of all exact covers, or of the first ones, if a number is asked for.
+fn listing(first: Option<u64>) -> Job {
+    match first {
+        Some(first) => Job::Cover(CoverJob::First(first)),
+        None => Job::Cover(CoverJob::List),
+    }
+}
+
+/// What is asked for, but for workers who would have to share the search for the first ones.
+fn allowed(alloc: Global, request: Request) -> Result<Request, LineFault>
+    ensures same { IfOk result (λ asked. asked ≡ request) }
+    ensures alone { IfOk result (λ asked. IsTrue (is_first asked.job) → asked.workers ≡ 1) }
+{
+    // Several workers find later ones before earlier ones, and would have to wait for these.
+    if request.workers == 1 || !request.job.is_first() {
+        return Ok(request);
+    }
+    match String::from_str(alloc, help::FIRST_SHARED) {
+        Ok(text) => Err(LineFault::Usage(text)),
+        Err(_) => Err(LineFault::OutOfMemory),
+    }
+}
+
+/// What a refusal by `clap` means.
+fn refused(alloc: Global, error: &Error) -> LineFault {
+    // Where memory ran out `clap` has no text, and none can be made.
+    if error.kind() == ErrorKind::OutOfMemory {
+        return LineFault::OutOfMemory;
+    }
+    match error.to_string(alloc) {
+        Err(_) => LineFault::OutOfMemory,
+        // Help and the version are errors to `clap` too, but go to standard output.
+        Ok(text) if error.use_stderr() => LineFault::Usage(text),
+        Ok(text) => LineFault::Help(text),
+    }
+}
+
+/// Reads the words of a command line, without the program's name.
+pub fn parse_line(alloc: Global, words: &[&str]) -> Result<Request, LineFault>
+    ensures workers { IfOk result (λ asked. (1 ≤ asked.workers) × (asked.workers ≤ 32)) }
+    ensures alone { IfOk result (λ asked. IsTrue (is_first asked.job) → asked.workers ≡ 1) }
+{
+    let Ok(command) = command(alloc) else {
+        return Err(LineFault::OutOfMemory);
+    };
+    match command.try_get_matches_from(words) {
+        Ok(matches) => allowed(alloc, request_in(&matches)),
+        Err(error) => Err(refused(alloc, &error)),
+    }
+}

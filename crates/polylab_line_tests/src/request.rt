@@ -1,0 +1,26 @@
+//! What tests ask the program for.
+
+use polylab_engine::{Job, TableKind};
+use polylab_line::Request;
+
+/// A job of so many workers, by the table that suits the problem.
+pub fn shared(job: Job, workers: u32) -> Request {
+    Request {
+        job,
+        workers,
+        table: None,
+    }
+}
+
+/// The same of one worker.
+pub fn alone(job: Job) -> Request {
+    shared(job, 1)
+}
+
+/// The same by this table.
+pub fn by_table(request: Request, table: TableKind) -> Request {
+    Request {
+        table: Some(table),
+        ..request
+    }
+}

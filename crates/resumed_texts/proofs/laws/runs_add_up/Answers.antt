@@ -1,5 +1,0 @@
-use Rattle.resumed_texts.proofs.LawLemmas as of
-use Rattle.resumed_texts.proofs.laws.runs_add_up.Goals as goal
-
-pub returns : goal.returns
-returns c = record { numbers = of.numbers; visits = of.visits; input = of.input; whole = of.whole; cover = of.cover; cover_visits = of.cover_visits }

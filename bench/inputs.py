@@ -14,6 +14,26 @@ A text has a name: that of a file of examples/covers or examples/puzzles, or one
     fives-5x5x5       25 of the pentomino Y, all named, in 5 x 5 x 5
     bricks-6x6x6      36 blocks of 1 x 2 x 3, all named, in 6 x 6 x 6
     two-16x16x16      two pieces of three in 16 x 16 x 16, where each cell may stay empty
+
+Equal pieces in three forms: NAME-named, all told apart; NAME-copies, equal ones in lines `copies`; and NAME-any, the largest group a piece
+that is used any number of times. The columns tell the X2 states of each form, and the packings where equal pieces count once:
+
+    NAME                 what it is                                         named      copies       any  packings
+    blocks-3x3x3         six blocks 1 x 2 x 2 and three cubes             453,094       1,496       440         8
+    tetrominoes-8x5      two of each tetromino                          2,126,569     118,573   212,900     3,106
+    tetrominoes-10x4     the same                                       1,402,055      79,728   158,365     1,796
+    tetrominoes-5x4x2    the same, in space                            13,982,597     864,785 1,716,987    26,040
+    y-10x5               ten of the pentomino Y                                 -       1,012       129        10
+    l-8x6                twelve of the tetromino L                              -     255,763    22,526     4,340
+    p-10x6               twelve of the pentomino P                              -      45,384     7,600       808
+    dominoes-6x6         18 dominoes                                            -     120,498    25,695     6,728
+    blocks-holes         six blocks in 3 x 3 x 3, three holes             157,909       4,797         -         8
+    y-holes              five of Y in 6 x 5, five holes                   179,309      12,635         -       244
+    s-holes              seven of the tetromino S in 6 x 6, eight holes 74,918,505     311,073         -     3,160
+    x-holes              six of the pentomino X in 4 x 4 x 4           10,449,121      49,269         -    10,820
+    none-to-two-5x4      no, one or two of each tetromino (-copies alone)       -       3,860         -       270
+
+Forms marked - have packings without end or nobody waits for them; they can be made all the same.
 """
 
 import functools
@@ -55,6 +75,7 @@ def cover_text(items, options, maybe=()):
 
 
 def langford(n):
+    """Pairs of the numbers 1 to n: the two places of k have k others between."""
     numbers, places = ["n%d" % k for k in range(1, n + 1)], ["p%d" % place for place in range(1, 2 * n + 1)]
     return cover_text(
         numbers + places, [[numbers[k - 1], places[at], places[at + k + 1]] for k in range(1, n + 1) for at in range(2 * n - k - 1)]
@@ -62,27 +83,32 @@ def langford(n):
 
 
 def permutations(n):
+    """A rook in each row and column of n x n."""
     return cover_text(["%s%d" % (kind, at) for kind in "rc" for at in range(n)], [["r%d" % r, "c%d" % c] for r in range(n) for c in range(n)])
 
 
 def partitions(n):
+    """Each set of its members is an option."""
     members = ["m%d" % member for member in range(n)]
     return cover_text(members, [list(some) for size in range(1, n + 1) for some in combinations(members, size)])
 
 
 def latin(n):
+    """Each cell has one number, each row and column has each number once."""
     square = range(n)
     items = ["%s%d_%d" % (kind, one, other) for kind in ("cell", "row", "col") for one in square for other in square]
     return cover_text(items, [["cell%d_%d" % (r, c), "row%d_%d" % (r, d), "col%d_%d" % (c, d)] for r in square for c in square for d in square])
 
 
 def queens(n):
+    """Each row and file has one queen, each diagonal at most one."""
     items = ["%s%d" % (kind, at) for kind in "rf" for at in range(n)]
     maybe = ["%s%d" % (kind, at) for kind in "ab" for at in range(2 * n - 1)]
     return cover_text(items, [["r%d" % r, "f%d" % f, "a%d" % (r + f), "b%d" % (n - 1 - r + f)] for r in range(n) for f in range(n)], maybe)
 
 
 def domino(size):
+    """Each two cells side by side are an option."""
     width, height = map(int, size.split("x"))
     cells = [(x, y) for y in range(height) for x in range(width)]
     name = "c%d_%d"
@@ -91,6 +117,7 @@ def domino(size):
 
 
 def sudoku():
+    """Boxes are two cells high and three wide; the first row is given."""
     six = range(6)
     box = [[r // 2 * 2 + c // 3 for c in six] for r in six]
     items = ["%s%d_%d" % (kind, one, other) for kind in ("cell", "row", "col", "box") for one in six for other in six]
@@ -112,9 +139,54 @@ def named(count, cells):
     return "".join("piece %s %s\n" % (name, cells) for name in NAMES[:count])
 
 
-def every_cell(size):
-    digits = "0123456789abcdefghijklmnopqrstuv"[:size]
-    return " ".join(x + y + z for z in digits for y in digits for x in digits)
+DIGITS = "0123456789abcdefghijklmnopqrstuv"
+
+
+def every_cell(*sizes):
+    """The words of all cells of a box of these sizes, or of a cube."""
+    wide, high, deep = sizes * (3 // len(sizes))
+    return " ".join(x + y + z for z in DIGITS[:deep] for y in DIGITS[:high] for x in DIGITS[:wide])
+
+
+BLOCK, CUBE, DOMINO = "000 100 010 110", "000", "000 100"
+TETROMINOES = {"I": "000 100 200 300", "L": "000 100 200 010", "T": "000 100 200 110", "S": "000 100 110 210", "O": BLOCK}
+Y, P, X = "000 100 200 300 110", "000 100 010 110 020", "100 010 110 210 120"
+
+
+def holes(*sizes):
+    return "maybe cells " + every_cell(*sizes) + "\n"
+
+
+# Equal pieces: how many of which cells, and the region.
+EQUAL = {
+    "blocks-3x3x3": ([(6, BLOCK), (3, CUBE)], "box 3 3 3\n"),
+    "tetrominoes-8x5": ([(2, cells) for cells in TETROMINOES.values()], "box 8 5 1\n"),
+    "tetrominoes-10x4": ([(2, cells) for cells in TETROMINOES.values()], "box 10 4 1\n"),
+    "tetrominoes-5x4x2": ([(2, cells) for cells in TETROMINOES.values()], "box 5 4 2\n"),
+    "y-10x5": ([(10, Y)], "box 10 5 1\n"),
+    "l-8x6": ([(12, TETROMINOES["L"])], "box 8 6 1\n"),
+    "p-10x6": ([(12, P)], "box 10 6 1\n"),
+    "dominoes-6x6": ([(18, DOMINO)], "box 6 6 1\n"),
+    "blocks-holes": ([(6, BLOCK)], holes(3)),
+    "y-holes": ([(5, Y)], holes(6, 5, 1)),
+    "s-holes": ([(7, TETROMINOES["S"])], holes(6, 6, 1)),
+    "x-holes": ([(6, X)], holes(4)),
+}
+
+
+def equal_text(groups, region, form):
+    """A puzzle of equal pieces in one of its forms."""
+    names, lines, largest = iter(NAMES), [], max(groups)
+    for count, cells in groups:
+        own = "".join(next(names) for _ in range(count))
+        if form == "any" and (count, cells) == largest:
+            lines.append("any piece %s %s" % (own[0], cells))
+            largest = None
+        elif form == "named" or count == 1:
+            lines += ["piece %s %s" % (name, cells) for name in own]
+        else:
+            lines.append("copies %s %s" % (own, cells))
+    return "\n".join(lines) + "\n" + region
 
 
 NUMBERED = {"langford": langford, "permutations": permutations, "partitions": partitions, "latin": latin, "queens": queens}
@@ -123,7 +195,9 @@ MADE = {
     "cube-4": lambda: compiled(PENTOMINOES + SOLID + SQUARE + "box 4 4 4\n"),
     "fives-5x5x5": lambda: compiled(named(25, "000 100 200 300 110") + "box 5 5 5\n"),
     "bricks-6x6x6": lambda: compiled(named(36, "000 100 010 110 020 120") + "box 6 6 6\n"),
-    "two-16x16x16": lambda: compiled("piece L 000 100 010\npiece I 000 100 200\nmaybe cells " + every_cell(16) + "\n"),
+    "two-16x16x16": lambda: compiled("piece L 000 100 010\npiece I 000 100 200\n" + holes(16)),
+    "none-to-two-5x4-copies": lambda: compiled(
+        "".join("copies +%s%s %s\n" % (name, name.lower(), cells) for name, cells in TETROMINOES.items()) + "box 5 4 1\n"),
 }
 
 
@@ -139,6 +213,9 @@ def text_of(name):
             return text if path == cover else compiled(text)
     if name in MADE:
         return MADE[name]()
+    base, _, form = name.rpartition("-")
+    if base in EQUAL and form in ("named", "copies", "any"):
+        return compiled(equal_text(*EQUAL[base], form))
     kind, _, size = name.partition("-")
     if kind in NUMBERED and size.isdigit() and int(size):
         return NUMBERED[kind](int(size))

@@ -8,6 +8,7 @@ import os
 import shutil
 import statistics
 import subprocess
+import sys
 import time
 
 from inputs import TOP, stop
@@ -15,6 +16,29 @@ from inputs import TOP, stop
 POLYLAB = os.environ.get("POLYLAB") or os.path.join(TOP, "crates", "polylab", "out", "polylab")
 LEAST = 0.15  # seconds: a shorter run is taken several times in a round
 FORMS = {"": [], "-ring": ["-DRING"], "-offsets": ["-DOFFSETS"], "-bits": ["-DBITS"]}
+
+
+def setting(name, default):
+    """A number of the environment, whole where the default is."""
+    word = os.environ.get(name, str(default))
+    is_number = word.isdigit() if isinstance(default, int) else word.replace(".", "", 1).isdigit()
+    return type(default)(word) if is_number else stop("%s is to be a number" % name)
+
+
+def words_given(words):
+    """The number of rounds of a command line, 3 where there is none, and the names of texts after it."""
+    rounds = int(words[0]) if words and words[0].isdigit() else 3
+    if words and not words[0].isdigit() or not rounds:
+        stop("usage: bench/%s [ROUNDS [NAME ..]], with ROUNDS from 1 on" % os.path.basename(sys.argv[0]))
+    return rounds, words[1:]
+
+
+def write(folder, name, text):
+    """Writes a text into a folder; where it is then."""
+    path = os.path.join(folder, name)
+    with open(path, "w", encoding="latin-1") as file:
+        file.write(text)
+    return path
 
 
 class Run:

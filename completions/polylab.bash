@@ -2,7 +2,7 @@
 _polylab() {
     local word=${COMP_WORDS[COMP_CWORD]}
     local jobs='solve count options cover debug resume'
-    local choices= given k
+    local choices="" given k
     if [ "$COMP_CWORD" -eq 1 ]; then
         choices="$jobs help --help --version"
     else

@@ -6,8 +6,9 @@ import re
 import xml.etree.ElementTree
 import zlib
 
+from cells import moved
 from frame import stop
-from puzzles import LETTERS, moved
+from puzzles import LETTERS
 
 # A file that unpacks to more is no puzzle.
 MOST = 1 << 26
@@ -70,7 +71,7 @@ def chosen(problems, name, tell):
     return stop("there is no problem `%s`: there are %s" % (name, ", ".join("%d `%s`" % it for it in enumerate(names, 1))))
 
 
-def named(counts, room, tell):
+def named(counts, room):
     """The lines of the pieces: for each its first words, its name or names, and its shape. A name is that of the shape where this is a letter or
     digit, else the next free one. `room` is the number of cells that may be filled."""
     free, taken = [it for it in LETTERS[10:] + LETTERS[:10] if it not in {shape.name for shape, _, _ in counts}], set()
@@ -87,13 +88,10 @@ def named(counts, room, tell):
         if is_any:
             yield "any piece", names[0], shape
             continue
-        if least:
-            yield "piece" if least == 1 else "copies", "".join(names[:least]), shape
-        for name in names[least:]:
-            yield "maybe piece", name, shape
-        if most > least and most > 1:
-            tell("shape %s comes %d to %d times, and those that may be left out have names: a packing counts again where others are used" % (
-                shape.name, least, most))
+        if most == 1:
+            yield "piece" if least else "maybe piece", names[0], shape
+        elif most:
+            yield "copies", "".join(names[:least]) + "+" * (least < most) + "".join(names[least:]), shape
 
 
 def lost(problem, used, tell):
@@ -158,10 +156,10 @@ def read(data, name, tell):
         stop("shape %s is the region, and has no cell" % region.name)
     lost(problem, [region, *(shape for shape, _, most in counts if most)], tell)
     pieces, comments = [], ["%s, from BurrTools" % (problem.get("name") or "A problem").replace("\n", " ")]
-    for kind, names, shape in named(counts, len(region.filled) + len(region.spare), tell):
+    for kind, names, shape in named(counts, len(region.filled) + len(region.spare)):
         pieces.append((kind, names, moved(shape.filled)))
         if names != shape.name:
-            comments.append("%s %s shape %s" % (names, "is" if len(names) == 1 else "are", shape.name))
+            comments.append("%s %s shape %s" % (names.replace("+", ""), "is" if len(names) == 1 else "are", shape.name))
     if not pieces:
         stop("the problem has no piece")
     return pieces, region, [re.sub(r"[^ -~]", "?", it) for it in comments]

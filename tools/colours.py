@@ -1,7 +1,8 @@
-"""Colours of pieces for the scripts of this folder. Plain Python, NOT PROVED.
+"""Colours of pieces for the scripts of this folder. Plain Python, NOT PROVED; it trusts the measures of what eyes see that it cites.
 
 The first twelve colours of PALETTE are as far from one another as could be found for the eyes that see least of the difference: normal eyes,
-and those without one of the three kinds of cones. Each further one is as far from those before it as can be. They differ in lightness as well as in hue."""
+and those without one of the three kinds of cones. Each further one is as far from those before it as can be. They differ in lightness as
+well as in hue."""
 
 import math
 
@@ -35,7 +36,10 @@ def seen(colour, eyes):
         (a * red + b * green + c * blue) ** (1 / 3)
         for a, b, c in ((0.4122, 0.5363, 0.0514), (0.2119, 0.6807, 0.1074), (0.0883, 0.2817, 0.6300))
     ]
-    return [sum(share * cone for share, cone in zip(row, cones)) for row in ((0.2105, 0.7936, -0.0041), (1.9780, -2.4286, 0.4506), (0.0259, 0.7828, -0.8087))]
+    return [
+        sum(share * cone for share, cone in zip(row, cones))
+        for row in ((0.2105, 0.7936, -0.0041), (1.9780, -2.4286, 0.4506), (0.0259, 0.7828, -0.8087))
+    ]
 
 
 def distance(one, other):

@@ -3,7 +3,7 @@ trusts nothing but the text that it is given."""
 
 import re
 
-from puzzles import Reader
+from texts import Reader
 
 NAME = re.compile("[0-9A-Za-z_]{1,8}")
 ITEMS, OPTIONS, TABLE = 65535, 262143, 8388608
@@ -61,6 +61,7 @@ class Cover(Reader):
                 len(self.items), ITEMS, len(self.options), OPTIONS, self.table(), TABLE), kind)
 
     def read_option(self, rest):
+        """One option by its words."""
         found = {}
         for word in rest:
             with self.going_on():
@@ -74,6 +75,7 @@ class Cover(Reader):
         self.entries += len(found)
 
     def named(self, word):
+        """The name of an item that a word spells."""
         if not NAME.fullmatch(word[0]):
             self.stop("BadName", "`%s` is no name of an item: one to eight of 0-9, A-Z, a-z and _" % word[0][:40], word)
         return word[0]

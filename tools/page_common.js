@@ -11,6 +11,9 @@ function make(parent, kind, text, name) {
   return made;
 }
 
+// How far cells reach along x, y and z, counted from 0.
+const sizeOf = cells => [0, 1, 2].map(axis => 1 + Math.max(...cells.map(cell => cell[axis])));
+
 // The page's address may say where to begin, as page.html#packing=240&apart=60.
 const asked = new URLSearchParams(location.hash.slice(1));
 
@@ -46,6 +49,7 @@ function neighbours(many, cells, at) {
   return near;
 }
 
+// Red, green and blue of a colour `#rrggbb`, each from 0 to 255.
 function rgb(colour) { return [1, 3, 5].map(at => parseInt(colour.slice(at, at + 2), 16)); }
 
 // Whether white is read better on a colour than black.

@@ -6,13 +6,14 @@ const marks = [...new Set(DATA.packings.join(""))].filter(mark => mark !== "_").
 const nameOf = body => DATA.names[marks[body]] || marks[body];
 const numberOfMark = new Map(marks.map((mark, body) => [mark, body]));
 const bodiesOf = packing => Array.from(DATA.packings[packing], mark => mark === "_" ? -1 : numberOfMark.get(mark));
-const START = firstView([0, 1, 2].map(axis => 1 + Math.max(...DATA.cells.map(cell => cell[axis]))));
+const START = firstView(sizeOf(DATA.cells));
 const APART = 2.2;                               // how far pieces go where they are pulled apart most
 const looked = {...START}, hidden = new Set();
 const firstOf = [];                              // of each class the first packing
 DATA.classes?.forEach((number, k) => { firstOf[number] ??= k; });
 let packing = 0, listed = [], solid, paints, picture = new Picture(), isMoving = false, settling = 0;
 
+// A colour for each piece of a packing; they differ from packing to packing, as other pieces touch.
 function paintsOf(shape) {
   const near = neighbours(marks.length, shape.cells, (x, y, z) => shape.at(x, y, z));
   return coloursOf(marks.length, near).map(colour => DATA.palette[colour]);
@@ -26,6 +27,7 @@ function draw() {
   const upto = +get("upto").value, shown = new Set();
   const faces = solid.faces((body, cell) => body >= 0 && !hidden.has(body) && cell[2] < upto);
   faces.forEach(face => shown.add(face.body));
+  // (as many samples as a frame has time for: fewer while it moves, fewer in a large window)
   const samples = Math.max(1, Math.min(3, Math.floor(Math.sqrt((isMoving ? 1.5e6 : 6e6) / (width * height)))));
   const moves = solid.moves(get("apart").value / 100 * APART), unit = unitOf(solid, moves, looked, width, height);
   const line = Math.max(scale, Math.min(2.2 * scale, 0.03 * unit));
@@ -50,11 +52,13 @@ function soon(moves) {
   requestAnimationFrame(() => { waits = false; draw(); });
 }
 
+// Where x, y and z go, as three lines.
 function drawAxes() {
   const axes = axesOf(looked), svg = get("axes");
   svg.textContent = "";
   ["x", "y", "z"].forEach((name, k) => {
     const [x, y] = axes[k], line = svg.appendChild(document.createElementNS(svg.namespaceURI, "line"));
+    // (one that points at the eye would be a dot)
     if (Math.hypot(x, y) < 0.15) return line.remove();
     const end = {x1: 42, y1: 42, x2: 42 + 27 * x, y2: 42 + 27 * y};
     for (const key in end) line.setAttribute(key, end[key].toFixed(1));
@@ -88,6 +92,7 @@ function drawLayers() {
   }
 }
 
+// The pieces of this packing, each with a box to tick that shows or hides it.
 function drawPieces() {
   const box = get("pieces");
   box.textContent = "";
@@ -122,6 +127,7 @@ function chooseList(which) {
   chosen();
 }
 
+// Shows another packing; where it isn't listed, all are.
 function choose(next) {
   if (!(next >= 0 && next < DATA.packings.length) || next === packing) return;
   packing = next;
@@ -129,8 +135,10 @@ function choose(next) {
   chosen();
 }
 
+// Goes so far in the list.
 function stepBy(by) { const at = listed.indexOf(packing) + by; if (at >= 0 && at < listed.length) choose(listed[at]); }
 
+// Shows the packing that is chosen, everywhere on the page.
 function chosen() {
   solid = new Solid(DATA.cells, bodiesOf(packing), marks.length);
   paints = paintsOf(solid);
@@ -153,6 +161,7 @@ const thumbs = {
   show() {
     const at = Math.max(0, listed.indexOf(packing)), top = Math.floor(at / this.columns()) * this.high, box = this.box;
     if (top < box.scrollTop) box.scrollTop = top;
+    // (the list has its height once it is filled, and can be scrolled down then)
     this.fill();
     if (top + this.high > box.scrollTop + box.clientHeight) box.scrollTop = top + this.high - box.clientHeight;
     this.fill();
@@ -196,7 +205,9 @@ const KEYS = {ArrowLeft: "left", ArrowRight: "right", ArrowUp: "up", ArrowDown: 
 
 // One finger or the mouse turns; two fingers make it larger and smaller.
 const held = new Map();
+// How far two fingers are from each other.
 function spread() { const [one, other] = [...held.values()]; return Math.hypot(one.x - other.x, one.y - other.y); }
+// A finger, or the mouse, moved.
 function moved(event) {
   const was = held.get(event.pointerId);
   if (!was) return;
@@ -234,13 +245,15 @@ function listen() {
   new ResizeObserver(() => { soon(); thumbs.show(); }).observe(view);
 }
 
+// Which layers are shown, in words.
 function sayLayers() {
   const upto = +get("upto").value;
   get("uptosaid").textContent = upto < solid.size[2] ? "up to z = " + (upto - 1) : "all";
 }
 
+// Shows what the page's address asks for.
 function begin() {
-  const deep = 1 + Math.max(...DATA.cells.map(cell => cell[2])), first = +asked.get("packing");
+  const deep = sizeOf(DATA.cells)[2], first = +asked.get("packing");
   get("upto").max = get("upto").value = deep;
   get("layerslider").hidden = deep === 1;
   get("number").max = DATA.packings.length;

@@ -5,6 +5,7 @@ let now = 0, pointed = null;
 const pieceNames = DATA.board ? [...new Set(Object.values(DATA.board.laid).map(([name]) => name[0]).filter(Boolean))].sort() : [];
 const SVG = "http://www.w3.org/2000/svg";
 
+// Adds an element of a picture.
 function draw(parent, kind, values, text) {
   const made = parent.appendChild(document.createElementNS(SVG, kind));
   for (const key in values) made.setAttribute(key, values[key]);
@@ -21,18 +22,21 @@ function option(parent, number) {
   return chip;
 }
 
+// The pointer over an element points at its option.
 function points(element, number) {
   element.dataset.option = number;
   element.onpointerenter = () => point(number);
   element.onpointerleave = () => point(null);
 }
 
+// Marks an option wherever it stands, and lays it over the board; null is none.
 function point(number) {
   pointed = number;
   document.querySelectorAll("[data-option]").forEach(it => it.classList.toggle("pointed", number !== null && it.dataset.option === String(number)));
   drawBoard();
 }
 
+// A line of items under a heading, or what is said where there is none.
 function items(parent, title, list, said) {
   make(parent, "h2", title);
   const line = make(parent, "p");
@@ -76,6 +80,7 @@ function browsed(table) {
   frame.onblur = () => { at = -1; point(null); };
 }
 
+// Where the search stands at this row: what was replied, what is taken, chosen, left and covered.
 function drawState() {
   const row = DATA.rows[now], box = get("state");
   box.textContent = "";
@@ -110,6 +115,7 @@ function drawState() {
   }
 }
 
+// An option's colour: that of its piece or, where its piece has no name, its own.
 function colourOf(number) {
   const name = DATA.board.laid[number]?.[0][0], at = name ? pieceNames.indexOf(name) : number;
   return DATA.palette[at % DATA.palette.length];
@@ -121,15 +127,16 @@ function drawBoard() {
   if (!box) return;
   box.textContent = "";
   const row = told(), shown = pointed ?? (["X5", "X6"].includes(row.label) && row.cursor !== "past" ? row.cursor : null);
-  const [wide, deep] = [0, 2].map(axis => 1 + Math.max(...DATA.board.cells.map(cell => cell[axis])));
+  const [wide, , deep] = sizeOf(DATA.board.cells);
   boardPicture(box, row.path, shown, Math.max(14, Math.min(34, Math.floor(680 / deep / (wide + 0.5)))));
   const kind = pointed !== null ? "Option " : row.label === "X6" ? "Taken back next: option " : "Tried next: option ";
   make(box, "p", shown === null ? "" : kind + shown + (DATA.options[shown] ? " = " + DATA.options[shown] : ""), "hint boardsaid");
 }
 
+// The board with the pieces of these options, each square so wide, and the outline of one more option.
 function boardPicture(box, path, shown, side) {
   const laid = path.map(number => ({number, cells: DATA.board.laid[number]?.[1] || [], name: DATA.board.laid[number]?.[0][0] || ""}));
-  const [wide, high, deep] = [0, 1, 2].map(axis => 1 + Math.max(...DATA.board.cells.map(cell => cell[axis])));
+  const [wide, high, deep] = sizeOf(DATA.board.cells);
   const spare = new Set(DATA.board.spare.map(cell => cell.join())), over = new Set((DATA.board.laid[shown]?.[1] || []).map(cell => cell.join()));
   const at = new Map();
   for (const piece of laid) for (const cell of piece.cells) at.set(cell.join(), piece);
@@ -159,6 +166,7 @@ function boardPicture(box, path, shown, side) {
 
 // The tree: a node for each choice the search came to so far, a level for each option taken.
 const WIDE = 58, HIGH = 70, MOST = 160;
+// The nodes that the search came to up to this row. Of a large tree those below what isn't on the path are hidden.
 function treeNow() {
   const isSo = row => row >= 0 && row <= now;
   const nodes = DATA.tree.map(([above, number, from, dead, done, visit], id) => ({id, above, number, from, dead: isSo(dead), done: isSo(done), visit: isSo(visit),
@@ -186,6 +194,7 @@ function shortly(number) {
   return name ? "piece " + name : text.length > 9 ? text.slice(0, 8) + "…" : text;
 }
 
+// Draws the tree: a node stands above the middle of those below it, and leaves side by side. Answers how many choices it has.
 function drawTree() {
   const box = get("tree"), {root, many} = treeNow(), current = stands();
   box.textContent = "";
@@ -224,6 +233,7 @@ function drawTree() {
   return many;
 }
 
+// The covers found up to this row. Answers how many they are.
 function drawCovers() {
   const list = get("covers"), found = DATA.covers.filter(([row]) => row <= now);
   list.textContent = "";
@@ -238,6 +248,7 @@ function drawCovers() {
   return found.length;
 }
 
+// Shows this row, everywhere on the page.
 function all() {
   pointed = null;
   document.querySelectorAll("#steps li").forEach((li, k) => {
@@ -260,8 +271,10 @@ function inSight(list, row) {
   else if (row.offsetTop + row.offsetHeight > list.scrollTop + list.clientHeight) list.scrollTop = row.offsetTop + row.offsetHeight - list.clientHeight;
 }
 
+// Goes to a row.
 function go(row) { if (row >= 0 && row < DATA.rows.length) { now = row; all(); } }
 
+// Makes the list of rows, and goes where the page's address asks for.
 function begin() {
   DATA.rows.forEach((row, k) => {
     const li = make(get("steps"), "li", row.row);

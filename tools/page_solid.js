@@ -6,7 +6,7 @@ class Solid {
   constructor(cells, bodies, many) {
     this.cells = cells;
     this.bodies = bodies;
-    this.size = [0, 1, 2].map(axis => 1 + Math.max(...cells.map(cell => cell[axis])));
+    this.size = sizeOf(cells);
     this.grid = new Int16Array(this.size.reduce((product, long) => product * (long + 2), 1)).fill(-1);
     this.boxes = Array.from({length: many}, () => ({low: [99, 99, 99], high: [0, 0, 0], sum: [0, 0, 0], cells: 0}));
     cells.forEach((cell, number) => {
@@ -49,6 +49,7 @@ class Solid {
   }
 }
 
+// The next cell along an axis.
 function beside(cell, axis, way) {
   const next = [...cell];
   next[axis] += way;
@@ -61,6 +62,7 @@ function axesOf({turn, tilt}) {
   return [[c, -st * s, -ct * s], [-s, -st * c, -ct * c], [0, -ct, st]];
 }
 
+// Where a point goes, by where the units along each axis go.
 function sent(axes, point) {
   return [0, 1, 2].map(k => point[0] * axes[0][k] + point[1] * axes[1][k] + point[2] * axes[2][k]);
 }
@@ -115,6 +117,7 @@ class Picture {
       const towards = face.way * this.axes[face.axis][2];
       const light = 0.66 + 0.34 * towards, paint = paints[face.body];
       for (let k = 0; k < 3; k++) colours[k].set([light * paint[k], 0.8 * light * paint[k], 26], 3 * number + 3);
+      // (a face that looks away, or is seen from its side, shows nothing)
       if (towards > 1e-4) this.fill(this.corner(solid, face), edges[face.axis], face.sides, 3 * number + 3);
     });
     return this.gathered(colours);
@@ -183,6 +186,7 @@ class Picture {
     return best;
   }
 
+  // Of nine points of a face the one round which the face goes on farthest; nearer to its middle where others are hardly better.
   spot(solid, number) {
     const face = this.faces[number], a = this.corner(solid, face);
     const [u, v] = [0, 1, 2].filter(axis => axis !== face.axis).map(axis => this.axes[axis].map(it => it * this.unit * this.samples));

@@ -3,9 +3,9 @@ far, and the covers found. Plain Python, NOT PROVED; it walks Algorithm X by set
 
 import functools
 
+from cells import DIGITS
 from colours import DISTANCES, PALETTE
 from frame import stop
-from puzzles import DIGITS
 
 # After these commands the search may stand elsewhere, and tools/session shows where.
 MOVES = ("step", "run", "back", "open", "split", "retract", "load")
@@ -73,6 +73,7 @@ class Row:
         self.told = {"label": "", "cursor": "", "path": [], "shown": False, "covered": [], "chosen": None, "active": [], "second": []}
 
     def read(self, line):
+        """One line of a reply; what it doesn't know says nothing of the state."""
         words = line.split()
         if not self.joins:
             self.replies.append(line)
@@ -153,6 +154,7 @@ class Tree:
         self.nodes, self.numbers = [[-1, 0, 0, -1, -1, -1]], {(): 0}
 
     def node(self, path, row):
+        """The number of a path's node, which is made where the path is new."""
         if path not in self.numbers:
             above = self.node(path[:-1], row)
             self.numbers[path] = len(self.nodes)
@@ -166,6 +168,7 @@ class Tree:
             node[what] = row
 
     def take(self, row, label, cursor, path, is_dead):
+        """A state of the search at a row; it is dead where the item that is chosen has no option."""
         self.node(path, row)
         if label == "X5" and cursor == "past" and is_dead:
             self.note(path, row, 3)
@@ -251,11 +254,15 @@ def number_of(row, told, walk, before):
     return number
 
 
+def cells_in(items):
+    """The cells among the items of a puzzle; the others are pieces, and nodes that keep equal pieces in order."""
+    return [[DIGITS.index(digit) for digit in item] for item in items if is_cell(item)]
+
+
 def board(problem, options):
     """The cells of a puzzle, those that may stay empty, and for each option its piece and cells."""
-    cells = {kind: [[DIGITS.index(digit) for digit in item] for item in problem[kind] if is_cell(item)] for kind in ("items", "maybe")}
-    laid = {number: [[item for item in text.split() if len(item) == 1][:1], [[DIGITS.index(digit) for digit in item] for item in text.split() if is_cell(item)]]
-        for number, text in options.items()}
+    cells = {kind: cells_in(problem[kind]) for kind in ("items", "maybe")}
+    laid = {number: [[item for item in text.split() if len(item) == 1][:1], cells_in(text.split())] for number, text in options.items()}
     return {"cells": cells["items"] + cells["maybe"], "spare": cells["maybe"], "laid": laid}
 
 

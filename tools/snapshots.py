@@ -60,6 +60,7 @@ def problem_text(text):
 
 
 def checksum(text):
+    """The sha256 of a text, by which parts and answers are told apart."""
     return hashlib.sha256(text.encode("latin-1")).hexdigest()
 
 
@@ -122,6 +123,7 @@ class Snapshot:
         return lines[self.at - count : self.at]
 
     def problem_lines(self):
+        """The text of the problem."""
         return "".join(line + "\n" for line in self.problem)
 
     def is_at_start(self):
@@ -166,6 +168,7 @@ class Sums:
         self.visits, self.steps, self.levels = 0, 0, []
 
     def add(self, answer):
+        """Adds what an answer tells; it may go deeper than those before."""
         self.visits += answer.visits
         self.steps += answer.steps
         self.levels += [0] * (len(answer.levels) - len(self.levels))

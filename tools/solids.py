@@ -1,5 +1,5 @@
 """Polycubes as solids, for tools/convert: their faces, and the two formats that printers and programs of geometry read. Plain Python, NOT
-PROVED."""
+PROVED; it trusts nothing."""
 
 # For each way out of a cube the corners of that face, seen from outside, turning to the left.
 FACES = (

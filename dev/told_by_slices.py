@@ -1,0 +1,36 @@
+"""How tools/slices tells a share and a time, and what it reckons to be left, of numbers for which that is known. Called by dev/check_frame. Plain
+Python, NOT PROVED; it trusts nothing."""
+
+import importlib.machinery
+import importlib.util
+import os
+
+from tree import TOP
+
+LOADER = importlib.machinery.SourceFileLoader("slices", os.path.join(TOP, "tools", "slices"))
+slices = importlib.util.module_from_spec(importlib.util.spec_from_loader("slices", LOADER))
+LOADER.exec_module(slices)
+
+SHARES = {
+    0: "about none", 1e-300: "about 1.0 x 10^-300", 9.96e-7: "about 1.0 x 10^-6", 1e-5: "about 0.001 %", 0.45: "about 45.000 %",
+    1: "about 100.000 %",
+}
+SPANS = {
+    0: "0.0 s", 9.94: "9.9 s", 12: "12 s", 99: "99 s", 120: "2.0 min", 6000: "1.7 hours", 86400: "24 hours", 1e6: "12 days", 1e9: "32 years",
+    1e15: "10^7 years",
+}
+# Two items, a and b; the third option covers both. In the states of its search so much is done.
+PROBLEM = ["items a b", "option a", "option b", "option a b"]
+DONE = {"X1 -": 0, "X5 1": 0, "X2 - 1": 0, "X5 2 1": 0, "X6 2 1": 0.5, "X5 3": 0.5, "X6 3": 1, "X5 past": 1, "X8 -": 1}
+
+if __name__ == "__main__":
+    for share, told in SHARES.items():
+        assert slices.share_told(share) == told, share
+    for seconds, told in SPANS.items():
+        assert slices.span(seconds) == told, seconds
+    estimate = slices.Estimate(PROBLEM)
+    for state, share in DONE.items():
+        assert estimate.share(state.split()) == share, state
+    # (of nothing done nobody can tell what is left; a quarter in 10 seconds leaves 30, within a half of itself)
+    assert estimate.left(0.0, 5) is None
+    assert estimate.left(0.25, 10) == (10.0, 45.0)

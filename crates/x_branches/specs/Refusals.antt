@@ -1,6 +1,6 @@
--- What a runner can do, and why a call of it is refused: to start (`CanStart`, `StartRefused`), to begin another branch (`BeginRefused`), to take a step (`most_steps`, `CanAdvance`,
--- `AdvanceRefused`), to name a cut at what is untried (`untried_in`, `CutRefused`, `WhyNotLeft`), to end its branch at a cut (`CanShorten`), and to take
--- a stretch back (`EndsHere`, `CanReopen`, `ReopenRefused`).
+-- What a runner can do, and why a call of it is refused: to start (`CanStart`, `StartRefused`), to begin another branch (`BeginRefused`),
+-- to take a step (`most_steps`, `CanAdvance`, `AdvanceRefused`), to name a cut at what is untried (`untried_in`, `CutRefused`, `WhyNotLeft`),
+-- to end its branch at a cut (`CanShorten`), and to take a stretch back (`EndsHere`, `CanReopen`, `ReopenRefused`).
 --
 -- Example: at Done a step is refused as `AtBranchEnd`. In the small problem's whole run, at X2 with the path 2, only option 4 is untried at
 -- level 0, so that the option 5 is refused as `NotUntried`; and if the mark is X1, a stretch as `NotAtMark`. proofs/RunnerExamples.antt

@@ -118,12 +118,14 @@ impl<'p> Branch<'p> {
     fn is_of(&self, problem: &Problem) -> bool
         ensures { IsTrue result ↔ IsBranch problem.now self.now }
     {
+        // Anyone can put two cuts together: that they are this problem's is asked before they are compared.
         if !is_of(&self.lo, problem) {
             return false;
         }
         if !is_of(&self.hi, problem) {
             return false;
         }
+        // A branch without a state is none.
         is_before(&self.first(), &self.end())
     }
 
@@ -143,6 +145,7 @@ impl<'p> Branch<'p> {
         if is_before(&position, &self.first()) {
             return false;
         }
+        // At the end itself a runner may stand, once it has walked the branch.
         !is_before(&self.end(), &position)
     }
 }

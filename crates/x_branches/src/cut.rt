@@ -53,6 +53,7 @@ impl<'p> Cut<'p> {
         ensures not_cut { IfRefused result CutFault.NotUntried (IsNoCut problem.now path.items) }
         ensures given_back { IfErr result (λ r. r.given ≡ path) }
     {
+        // It serves for one walk down the path, so a plain one will do.
         let Ok(table) = PlainTable::new(alloc, problem) else {
             return Err(Refused {
                 fault: CutFault::OutOfMemory,
@@ -79,16 +80,19 @@ impl<'p> Cut<'p> {
         ensures same_problem_back { T.problem_value result.0 ≡ problem.now }
         ensures covered_back { T.covered_list result.0 ≡ [] }
     {
+        // The search can take a path exactly where it has X2 with it.
         let state = State {
             label: Label::X2,
             path,
             cursor: Cursor::None,
         };
         let found = Machine::at(alloc, problem, table, &state);
+        // The state was made only to ask, and the path has to come back.
         let path = state.path;
         match found {
             Ok(machine) => {
                 let table = machine.into_table();
+                // The search has X2 with the empty path, but that has no last choice to cut at.
                 if path.is_empty() {
                     let fault = CutFault::NotUntried;
                     return (table, Err(Refused { fault, given: path }));
@@ -132,6 +136,7 @@ impl<'p> Cut<'p> {
         ensures position { result ≡ cut_state self.now.path }
         ensures fits { Fits self.now.problem (cut_state self.now.path) }
     {
+        // There is a last choice, since no cut is empty.
         let (front, last) = self.path.split_at(self.path.len() - 1);
         Position {
             label: Label::X5,

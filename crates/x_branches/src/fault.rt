@@ -76,6 +76,7 @@ impl CutFault {
         ensures { result ≡ number_of_cut self }
     {
         match self {
+            // The number that `RunnerFault::NotUntried` has.
             CutFault::NotUntried => Some(4),
             CutFault::OutOfMemory => None,
         }

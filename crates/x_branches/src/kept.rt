@@ -19,6 +19,7 @@ use x_steps::State;
 #[derive(Drop)]
 pub struct KeptStretch<'p> {
     problem: &'p Problem,
+    /// Beside the row, so that telling it reads nothing.
     steps: u32,
     /// Its first state, the one that it leads to, its visits, and how many X2 states there are at each level.
     row: Row,
@@ -48,6 +49,7 @@ fn packed(stretch: &Stretch<'_>) -> Result<Row, AllocError>
     put_state(&mut row, stretch.to())?;
     put_paths(&mut row, visits)?;
     put_choices(&mut row, levels)?;
+    // A row that grew has room to spare: its copy is what is kept.
     let packed = row.copy()?;
     Ok(packed)
 }
@@ -68,6 +70,7 @@ impl<'p> KeptStretch<'p> {
         ensures kept { IfOk result (λ kept. kept ≡ stretch.entry) }
         ensures given_back { IfErr result (λ s. s ≡ stretch.entry) }
     {
+        // Only lent up to here, so it can come back.
         let Ok(row) = packed(&stretch) else {
             return Err(stretch);
         };
@@ -83,6 +86,7 @@ impl<'p> KeptStretch<'p> {
         ensures { IfOk result (λ stretch. stretch ≡ self.now) }
     {
         let mut reader = self.row.reader();
+        // In the order in which `packed` put them.
         let from = read_state(alloc, &mut reader)?;
         let to = read_state(alloc, &mut reader)?;
         let mut visits = Lists::new(alloc);
@@ -158,6 +162,7 @@ impl<'p> KeptStretch<'p> {
     pub fn same(&self, other: &KeptStretch<'_>) -> bool
         ensures { IsTrue result → self.now ≡ other.now }
     {
+        // How many steps there are follows from the states. Rows that differ could tell the same states.
         self.problem.same(other.problem) && self.row.reader().same(&other.row.reader())
     }
 

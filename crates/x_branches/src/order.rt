@@ -31,6 +31,7 @@ fn stage_of(label: Label, cursor: Cursor) -> u64
     ensures stage { result ≡ digit_at many label cursor }
     ensures within { IsWithin cursor }
 {
+    // Four places for an option: X5 at it, what lies below it, X6 after it, and one to spare. The first is 1, so they begin past X4.
     match (label, cursor) {
         (Label::X1, _) => 0,
         (Label::X2, _) => 1,
@@ -39,6 +40,7 @@ fn stage_of(label: Label, cursor: Cursor) -> u64
         (Label::X5, Cursor::At(option)) => 4 * option as u64 + 1,
         (Label::X5, _) => PAST_ALL,
         (Label::X6, Cursor::At(option)) => 4 * option as u64 + 3,
+        // No state that fits, so any number does.
         (Label::X6, _) => 0,
         (Label::X7, _) => PAST_ALL + 1,
         (Label::X8, _) => PAST_ALL + 2,
@@ -53,6 +55,7 @@ fn stage(position: &Position<'_>, level: usize) -> u64
         Shifts (length p.options) result (digit_of p position.now level) }
 {
     if level < position.path.len() {
+        // The position has taken that choice and lies below it.
         stage_below(position.path[level])
     } else {
         stage_of(position.label, position.cursor)
@@ -66,6 +69,7 @@ pub fn position_order(one: &Position<'_>, other: &Position<'_>) -> Ordering
     ensures equal { EqualIsSame result one.now other.now }
     ensures greater { GreaterIsAfter result one.now other.now }
 {
+    // Up to this level both have the same choices, so it decides.
     let level = shared(one.path, other.path);
     stage(one, level).cmp(&stage(other, level))
 }

@@ -66,6 +66,7 @@ fn count(counts: &mut [u32], state: &State)
     requires small { HasRoomFor counts.old (state_value state.now) }
     ensures { counts.new ≡ with_level counts.old (state_value state.now) }
 {
+    // At X2 a level begins, and at no other step.
     match state.label {
         Label::X2 => counts[state.path.len()] += 1,
         _ => (),
@@ -102,6 +103,7 @@ fn note<T: Table>(
     ensures at_visit { OnErr result (is_visit machine.now.problem machine.now.state ≡ true) }
 {
     let state = machine.state();
+    // The visit comes first: it alone can be refused, and then nothing is counted.
     if machine.is_visit() && visits.push(&state.path).is_err() {
         return Err(AllocError);
     }
@@ -118,6 +120,7 @@ fn forget<T: Table>(machine: &Machine<'_, T>, visits: &mut Lists, counts: &mut [
     ensures visits { LosesLast visits.old visits.new (length (visit_here machine.now)) }
     ensures counts { counts.new ≡ without_level counts.old machine.now.state }
 {
+    // The machine stands again where `note` saw it: so the last visit is this state's, if it is one.
     if machine.is_visit() {
         visits.pop();
     }
@@ -144,6 +147,7 @@ impl<'p, T: Table> Runner<'p, T> {
         ensures covered_back { IfErr result (λ r. T.covered_list r.given.0 ≡ []) }
         ensures branch_back { IfErr result (λ r. r.given.1 ≡ branch.entry) }
     {
+        // The state comes first: whether a branch holds it can be asked only where the search has it.
         let machine = match Machine::at(alloc, problem, table, state) {
             Ok(machine) => machine,
             Err(refused) => {
@@ -159,6 +163,7 @@ impl<'p, T: Table> Runner<'p, T> {
                 given: (machine.into_table(), branch),
             });
         }
+        // After the branch, so that a wrong one is told even where this memory is missing.
         let Ok(counts) = no_counts(alloc, problem.items()) else {
             return Err(Refused {
                 fault: StartFault::Runner(RunnerFault::OutOfMemory),
@@ -311,11 +316,13 @@ impl<'p, T: Table> Runner<'p, T> {
         if self.steps == u32::MAX {
             return Err(RunnerFault::StretchFull);
         }
+        // Before the step, which leaves the state. What comes after this isn't refused.
         let Ok(()) = note(&self.machine, &mut self.visits, &mut self.counts) else {
             return Err(RunnerFault::OutOfMemory);
         };
         self.steps += 1;
         let Ok(event) = self.machine.step() else {
+            // A step is refused only at Done, which no branch has before its end.
             unreachable!()
         };
         Ok(event)
@@ -329,10 +336,12 @@ impl<'p, T: Table> Runner<'p, T> {
         ensures at_mark { IsErr result ↔ (self.old.position ≡ self.old.mark) }
         ensures refused { RefusedUnchanged result RunnerFault.AtMark self.old self.new }
     {
+        // Steps are counted, so the states need not be compared.
         if self.steps == 0 {
             return Err(RunnerFault::AtMark);
         }
         let Ok(()) = self.machine.back() else {
+            // A step back is refused only at X1, and here the mark comes before the position.
             unreachable!()
         };
         forget(&self.machine, &mut self.visits, &mut self.counts);

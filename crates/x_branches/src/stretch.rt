@@ -89,6 +89,7 @@ impl<'p> Stretch<'p> {
     pub fn same(&self, other: &Stretch<'_>) -> bool
         ensures { IsTrue result ↔ (self.now ≡ other.now) }
     {
+        // All else that it has follows from these.
         self.problem.same(other.problem) && self.from.same(&other.from) && self.to.same(&other.to)
     }
 

@@ -1,4 +1,5 @@
--- States as numbers of a row, and back. What a row tells is read in whole: a number too many is a choice too many, one that is missing is 0.
+-- States as numbers of a row, and back. What a row tells is read in whole: a number too many is a choice too many, and one that is missing
+-- is 0.
 use Rattle.std.specs.Prelude.{ℕ, zero, suc, ◌≡◌, ◌%◌, ◌==◌, List, [], ◌∷◌, ◌++◌, length, take, drop, map, slice_index, if◌then◌else◌}
 use Rattle.std.specs.List.{flat_map}
 use Rattle.x_steps.specs.declared.state.Label.{Label}

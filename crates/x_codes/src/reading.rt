@@ -42,6 +42,7 @@ fn cursor(kind: u64, n: u64) -> Cursor
     match kind {
         0 => Cursor::None,
         1 => Cursor::At(choice(n)),
+        // As for a step: the rest is 2, since no other kind was put.
         _ => Cursor::Past,
     }
 }
@@ -70,6 +71,7 @@ pub fn read_all(alloc: Global, reader: &mut Reader<'_>) -> Result<Vec<u32>, Allo
 {
     let mut choices = Vec::new(alloc);
     'reading: while let Some(n) = reader.next() {
+        // How many are left isn't known before, so the vector grows.
         choices.push(choice(n))?;
     }
     Ok(choices)
@@ -80,6 +82,7 @@ pub fn read_path(alloc: Global, reader: &mut Reader<'_>) -> Result<Vec<u32>, All
     ensures path { IfOk result (λ path. path.items ≡ path_of reader.old) }
     ensures rest { OnOk result (reader.new ≡ path_rest reader.old) }
 {
+    // No room is asked for by it: a row that was not put as a list may tell any number.
     let count = reader.number();
     let mut path = Vec::new(alloc);
     read_choices(reader, &mut path, count)?;
@@ -95,11 +98,13 @@ pub fn read_paths(
     ensures paths { OnOk result (paths.new ≡ paths.old ++ paths_of reader.old) }
     ensures rest { OnOk result (reader.new ≡ paths_rest reader.old) }
 {
+    // Where numbers are missing, the list in which they end is shorter, and none comes after it.
     let mut left = reader.number();
     'reading: while left > 0 {
         let Some(size) = reader.next() else {
             return Ok(());
         };
+        // Lists take whole ones alone, so each is read aside first.
         let mut path = Vec::new(alloc);
         read_choices(reader, &mut path, size)?;
         paths.push(&path)?;
@@ -151,6 +156,7 @@ fn skip_path(reader: &mut Reader<'_>)
 pub fn skip_state(reader: &mut Reader<'_>)
     ensures { reader.new ≡ state_rest reader.old }
 {
+    // These three stand there for each state, whatever its step.
     let _label = reader.number();
     let _kind = reader.number();
     let _option = reader.number();

@@ -36,6 +36,7 @@ pub fn put_paths(row: &mut Row, paths: &Lists) -> Result<(), AllocError>
     ensures code { OnOk result (row.new ≡ row.old ++ paths_code paths.now) }
     ensures reads { OnOk result (ReadsPaths paths.now) }
 {
+    // Their number goes first: so a reader knows where they end, with anything after them.
     row.put(paths.len() as u64)?;
     for place in 0..paths.len() {
         put_path(row, paths.list(place))?;
@@ -87,6 +88,7 @@ pub fn put_state(row: &mut Row, state: &State) -> Result<(), AllocError>
     ensures code { OnOk result (row.new ≡ row.old ++ state_code (state_value state.now)) }
     ensures reads { OnOk result (ReadsState (state_value state.now)) }
 {
+    // The choices go last: before them stand three numbers, the same in each state.
     row.put(label_number(state.label))?;
     row.put(cursor_kind(state.cursor))?;
     let choice = cursor_choice(state.cursor);

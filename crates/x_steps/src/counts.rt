@@ -13,6 +13,7 @@ fn ends_in_zero(counts: &[u128]) -> bool
 pub fn drop_last_zeros(counts: &mut Vec<u128>)
     ensures { counts.new.items ≡ without_last_zeros counts.old.items }
 {
+    // From the end on: a 0 before a count above 0 belongs to its level, and stays.
     while ends_in_zero(counts) {
         counts.pop();
     }

@@ -18,6 +18,7 @@ pub fn choose<T: Table>(table: &T) -> u32
     requires open { 0 < length (active (T.problem_value table.now) (T.covered_list table.now)) }
     ensures { result ≡ choice (T.problem_value table.now) (T.covered_list table.now) }
 {
+    // An item is active, as `open` asks, so there is a first one.
     let mut best = table.first_item().unwrap();
     let mut least = table.len(best);
     let mut item = best;
@@ -26,6 +27,7 @@ pub fn choose<T: Table>(table: &T) -> u32
         if least == 0 {
             return best;
         }
+        // Only a shorter list displaces the best, so that of those with as few the first stays.
         let len = table.len(next);
         if len < least {
             best = next;
@@ -72,6 +74,7 @@ fn place_of(option: &[u32], item: u32) -> usize
     requires { has option.now item ≡ true }
     ensures { result ≡ position_or_len (λ x. x == item) option.now }
 {
+    // An option has few items, so its places are not kept anywhere.
     option.iter().take_while(|x| **x != item).count()
 }
 
@@ -83,9 +86,11 @@ pub fn cover_others<T: Table>(table: &mut T, option: &[u32], item: u32)
     ensures same_problem { T.problem_value table.new ≡ T.problem_value table.old }
     ensures covered { T.covered_list table.new ≡ T.covered_list table.old ++ others item option.now }
 {
+    // The order is round the option, as in Algorithm X: it is seen in the list of covered items.
     let place = place_of(option, item);
     let (_, after) = option.split_at(place + 1);
     cover_each(table, after);
+    // The item itself is in neither part: it was covered when it was chosen.
     let (before, _) = option.split_at(place);
     cover_each(table, before);
 }
@@ -97,6 +102,7 @@ pub fn uncover_last<T: Table>(table: &mut T, count: usize)
     ensures same_problem { T.problem_value table.new ≡ T.problem_value table.old }
     ensures covered { LosesLast (T.covered_list table.old) (T.covered_list table.new) count }
 {
+    // A table takes back only what it covered last, so its own list tells which item comes.
     for _ in 0..count {
         let item = last_covered(table);
         table.uncover(item);

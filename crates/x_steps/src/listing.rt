@@ -14,6 +14,7 @@ pub fn options_of<T: Table>(alloc: Global, table: &T, item: u32) -> Result<Vec<u
     requires within { item ≤ length (T.problem_value table.now).names }
     ensures { ReturnsOptions result (T.problem_value table.now) (T.covered_list table.now) item }
 {
+    // The table knows how many there are, so memory is asked for once.
     let mut options = Vec::with_capacity(alloc, table.len(item) as usize)?;
     let mut next = table.first_option(item);
     while let Some(option) = next {
@@ -46,8 +47,10 @@ pub fn secondary_items<T: Table>(
     requires { T.problem_value table.now ≡ problem.now }
     ensures { ReturnsRows result (second_items problem.now (T.covered_list table.now)) }
 {
+    // Marks, so that the list of covered items isn't searched for each secondary one.
     let marks = marks_of(alloc, problem.items(), table.covered())?;
     let mut rows = Vec::new(alloc);
+    // A table goes through the active items only, which are primary: these are gone through by number.
     for before in problem.primary()..problem.items() {
         let item = before + 1;
         if is_marked(&marks, item) {

@@ -58,7 +58,9 @@ fn event_entered(entered: bool) -> Event
 #[derive(Drop)]
 pub struct Machine<'p, T: Table> {
     problem: &'p Problem,
+    /// Its list of covered items is always that of the state.
     table: T,
+    /// Its path has room for a choice of each item, so that no step takes memory.
     state: State,
 }
 
@@ -84,6 +86,7 @@ impl<'p, T: Table> Machine<'p, T> {
         ensures at_first { IfOk result (λ m. m ≡ record { problem = problem.now; state = start }) }
         ensures given_back { IfErr result (λ t. t ≡ table) }
     {
+        // Each choice covers an item that no other one does, so no path is longer.
         match Vec::with_capacity(alloc, problem.items() as usize) {
             Ok(path) => Ok(Machine {
                 problem,
@@ -133,6 +136,7 @@ impl<'p, T: Table> Machine<'p, T> {
             state: _,
         } = self;
         let count = table.covered().len();
+        // The table's own list is all that has to be taken back, at whichever step the search stands.
         uncover_last(&mut table, count);
         table
     }
@@ -152,8 +156,10 @@ impl<'p, T: Table> Machine<'p, T> {
             (Label::X3, _) => self.plan(),
             (Label::X4, _) => self.open(),
             (Label::X5, Cursor::At(option)) => self.take(option),
+            // The cursor is past the last option here: at X5 it is never none.
             (Label::X5, _) => self.give_up(),
             (Label::X6, Cursor::At(option)) => self.retry(option),
+            // A state that fits is at an option at X6.
             (Label::X6, _) => unreachable!(),
             (Label::X7, _) => self.close(),
             (Label::X8, _) => self.leave(),
@@ -188,6 +194,7 @@ impl<'p, T: Table> Machine<'p, T> {
         requires { IsAt self.old Label.X3 }
         ensures { Goes self.old self.new result }
     {
+        // A state has no place for the chosen item, so X4 chooses it.
         self.state.go(Label::X4, Cursor::None);
         Event::Moved
     }
@@ -209,6 +216,7 @@ impl<'p, T: Table> Machine<'p, T> {
         requires item { item ≡ item_to_choose self.old }
         ensures { Goes self.old self.new result }
     {
+        // A covered item keeps its list of options, so the first can be asked for after it.
         self.table.cover(item);
         let cursor = cursor_at(self.table.first_option(item));
         self.state.go(Label::X5, cursor);
@@ -222,8 +230,10 @@ impl<'p, T: Table> Machine<'p, T> {
         requires cursor { self.old.state.cursor ≡ Cursor.At option }
         ensures { Goes self.old self.new result }
     {
+        // At X5 the chosen item is the one covered last.
         let item = last_covered(&self.table);
         cover_others(&mut self.table, self.problem.option(option), item);
+        // There is room for it, so this takes no memory.
         push_within(&mut self.state.path, option);
         self.state.go(Label::X2, Cursor::None);
         Event::Moved
@@ -247,6 +257,7 @@ impl<'p, T: Table> Machine<'p, T> {
         requires cursor { self.old.state.cursor ≡ Cursor.At option }
         ensures { Goes self.old self.new result }
     {
+        // All items of the option but the chosen one, which stays covered up to X7.
         let others = self.problem.option(option).len() - 1;
         uncover_last(&mut self.table, others);
         let item = last_covered(&self.table);

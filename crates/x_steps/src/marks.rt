@@ -9,6 +9,7 @@ use std::alloc::{AllocError, Global};
 pub fn no_marks(alloc: Global, items: u32) -> Result<Vec<bool>, AllocError>
     ensures { IfOk result (λ marks. AreMarksOf marks.items items []) }
 {
+    // Items are numbered from 1: place 0 is there so that none has to be shifted.
     vec![in alloc; false; items as usize + 1]
 }
 

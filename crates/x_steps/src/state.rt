@@ -51,6 +51,7 @@ impl State {
     pub fn same(&self, other: &State) -> bool
         ensures { IsTrue result ↔ (state_value self.now ≡ state_value other.now) }
     {
+        // What costs nothing to compare comes first, and the paths only where that agrees.
         self.label == other.label && self.cursor == other.cursor && self.path == other.path
     }
 
@@ -59,6 +60,7 @@ impl State {
     pub(crate) fn go(&mut self, label: Label, cursor: Cursor)
         ensures { self.new ≡ record self.old { label = label; cursor = cursor } }
     {
+        // The path stays: a step that changes it pushes or pops for itself.
         self.label = label;
         self.cursor = cursor;
     }

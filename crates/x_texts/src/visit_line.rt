@@ -78,6 +78,7 @@ impl VisitLine {
     {
         let count = shared(before, path);
         self.keep(count);
+        // Where memory runs out here the line is of neither visit, and its writer gives up.
         let (_, more) = path.split_at(count);
         self.write_more(more)
     }

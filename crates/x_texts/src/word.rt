@@ -17,6 +17,7 @@ pub fn write_cut(text: &mut Vec<u8>, none: &str, path: Option<&[u32]>) -> Result
     ensures { AddsWords result text.old text.new (lent_cut_words none.now path.entry) }
 {
     match path {
+        // No cut is without a choice, so this never looks like the word for none.
         Some(path) => write_numbers(text, path),
         None => write_word(text, none),
     }

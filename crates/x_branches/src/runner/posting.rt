@@ -33,6 +33,7 @@ fn counted(counts: &[u32]) -> usize
     ensures within { result ≤ length counts.now }
     ensures cut { take result counts.now ≡ without_last_zeros counts.now }
 {
+    // From the end on: a 0 between counts above 0 stays.
     let mut count = counts.len();
     while is_zero_before(counts, count) {
         count -= 1;
@@ -95,7 +96,9 @@ impl<'p, T: Table> Runner<'p, T> {
         ensures unchanged { OnErr result (self.new ≡ self.old) }
     {
         let state = self.machine.state();
+        // All memory is asked for before the first change.
         let (to, mark) = twice(state)?;
+        // Copies go out: so the runner keeps its room, for the steps to come.
         let (visits, levels) = copied(*state.path.allocator(), &self.visits, &self.counts)?;
         let steps = self.steps;
         let from = mem::replace(&mut self.mark, mark);
@@ -142,6 +145,7 @@ impl<'p, T: Table> Runner<'p, T> {
                 given: branch,
             });
         };
+        // The mark is where the machine stands, so it has no way to go.
         self.move_to(branch, mark);
         Ok(())
     }
@@ -152,6 +156,7 @@ impl<'p, T: Table> Runner<'p, T> {
         requires { CanStart self.old.problem branch (state_value mark) }
         ensures { self.new ≡ runner_at self.old.problem branch.entry (state_value mark) }
     {
+        // For the proof alone: the search has the ends of the branch.
         branch.is_sound();
         self.machine.move_to(&mark);
         let _ = mem::replace(&mut self.branch, branch);
@@ -164,6 +169,7 @@ impl<'p, T: Table> Runner<'p, T> {
     fn is_end_of(&self, stretch: &Stretch<'_>) -> bool
         ensures { IsTrue result ↔ EndsHere self.now stretch.now }
     {
+        // With no step the position is the mark, so the end is compared with one of them alone.
         if self.steps > 0 {
             return false;
         }
@@ -175,6 +181,7 @@ impl<'p, T: Table> Runner<'p, T> {
         requires { EndsHere self.now stretch.now }
         ensures { IsTrue result ↔ CanReopen self.now stretch.now }
     {
+        // The problems first: which of two states comes first makes sense in one search alone.
         if !stretch.problem().same(self.machine.problem()) {
             return false;
         }
@@ -211,6 +218,7 @@ impl<'p, T: Table> Runner<'p, T> {
             visits,
             levels,
         } = stretch;
+        // At the mark all counts are 0, so past the last level that the stretch tells they are right as they are.
         put(&mut self.counts, &levels);
         self.mark = from;
         self.steps = steps;

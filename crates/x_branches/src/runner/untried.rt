@@ -34,6 +34,7 @@ fn choice_at(state: &State, level: usize) -> Option<u32>
     if level < state.path.len() {
         return Some(state.path[level]);
     }
+    // Only X5 and X6 are at an option, and it comes right after the path.
     match state.cursor {
         Cursor::At(option) if level == state.path.len() => Some(option),
         _ => None,
@@ -46,6 +47,7 @@ fn covered_count(problem: &Problem, path: &[u32], covered: &[u32]) -> usize
     requires within { length (covered_by problem.now path.now) ≤ length covered.now }
     ensures { result ≡ length (covered_by problem.now path.now) }
 {
+    // `covered` isn't read: by its length the proof knows that the sum has room.
     let mut count = 0;
     for option in path {
         count += problem.option(*option).len();
@@ -98,6 +100,7 @@ fn is_cut_inside(branch: &Branch<'_>, front: &[u32], option: u32) -> bool
     ensures { (p : ProblemValue) → IsOf p branch.now.hi → Fits p (at Label.X5 front.now (Cursor.At option)) →
         result ≡ is_before_end p (end_of branch.now.hi) front.now option }
 {
+    // Made of what is lent, so that comparing it takes no memory.
     let cut = Position {
         label: Label::X5,
         path: front,
@@ -181,6 +184,7 @@ impl<'p, T: Table> Runner<'p, T> {
         if option <= choice {
             return false;
         }
+        // Whoever asks for a cut may name any number, and the option is looked up next.
         if option > self.machine.problem().options() {
             return false;
         }
@@ -194,6 +198,7 @@ impl<'p, T: Table> Runner<'p, T> {
         ensures { ReturnsItems result (left_above self.now.problem level self.now.position) }
     {
         let alloc = *self.machine.state().path.allocator();
+        // The item is covered, so its list is that of the time when it was chosen.
         options_above(alloc, self.machine.table(), item, choice)
     }
 
@@ -232,6 +237,7 @@ impl<'p, T: Table> Runner<'p, T> {
         ensures { ReturnsItems result (untried_in self.now level) }
     {
         let alloc = *self.machine.state().path.allocator();
+        // Where nothing is left there may be no choice at the level, and `front` asks for one.
         if above.is_empty() {
             return Ok(Vec::new(alloc));
         }
@@ -261,6 +267,7 @@ impl<'p, T: Table> Runner<'p, T> {
             lists.push(&untried)?;
             covered = with_level;
         }
+        // The cursor's level is not on the path; where there is no option, its list is empty.
         let untried = self.untried(path.len())?;
         lists.push(&untried)?;
         Ok(lists)
@@ -273,6 +280,7 @@ impl<'p, T: Table> Runner<'p, T> {
         requires item { item ≡ item_after self.now.problem (earlier_choices self.now level) }
         ensures { result ≡ first_untried_in self.now level }
     {
+        // The item's list is as it was when the item was chosen, so the next option in it is the first one left.
         let Some(option) = self.machine.table().next_option(item, choice) else {
             return None;
         };
@@ -329,6 +337,7 @@ impl<'p, T: Table> Runner<'p, T> {
         ensures refused { IfErr result (CutRefused self.now level option) }
     {
         if !self.is_left_above(level, option) {
+            // Asked for only here: it has to look for what is untried.
             return Err(self.why_not_left(level));
         }
         if !is_cut_inside(&self.branch, self.front(level), option) {
@@ -364,6 +373,7 @@ impl<'p, T: Table> Runner<'p, T> {
         let Ok(()) = path.push(option) else {
             return Err(RunnerFault::OutOfMemory);
         };
+        // It is known that the search can take the path, so it isn't walked down.
         Ok(Cut::of_path(self.machine.problem(), path))
     }
 
@@ -371,6 +381,7 @@ impl<'p, T: Table> Runner<'p, T> {
     fn can_shorten(&self, cut: &Cut<'_>) -> bool
         ensures { IsTrue result ↔ CanShorten self.now cut.now }
     {
+        // The problems first: only in one search can the states be compared.
         if !cut.problem().same(self.machine.problem()) {
             return false;
         }

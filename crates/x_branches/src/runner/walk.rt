@@ -45,17 +45,20 @@ fn walk_noted<T: Table>(
     ensures stops { IsOverOrAtVisit most machine.old.problem machine.new.state end.now result }
 {
     let Ok(walk) = machine.walk(most, end, counts) else {
+        // A walk is refused only at Done.
         unreachable!()
     };
     if keep_visit(visits, walk.event, machine.state()) {
         return walk;
     }
+    // Without memory for the visit the search has to stand before it again.
     let Ok(()) = machine.back() else {
         unreachable!()
     };
     discount(counts, machine.state());
     Walk {
         steps: walk.steps - 1,
+        // A walk goes on only where a step moved, and so did the one before the visit's, if there is one.
         event: Event::Moved,
     }
 }
@@ -83,7 +86,9 @@ impl<'p, T: Table> Runner<'p, T> {
         if self.steps == u32::MAX {
             return Err(RunnerFault::StretchFull);
         }
+        // The steps of a stretch are counted in 32 bits.
         let room = most.min(u32::MAX - self.steps);
+        // A branch that ends with the run has no such choices: Done itself ends the walk.
         let end = self.branch.end_choices();
         let walk = walk_noted(
             &mut self.machine,
@@ -93,6 +98,7 @@ impl<'p, T: Table> Runner<'p, T> {
             &mut self.counts,
         );
         self.steps += walk.steps;
+        // Neither at the end nor full, it took no step: so the first was a visit's, without memory.
         if walk.steps == 0 && most > 0 {
             return Err(RunnerFault::OutOfMemory);
         }

@@ -23,6 +23,7 @@ use std::alloc::Global;
 fn has_option(problem: &Problem, option: u32) -> bool
     ensures { IsTrue result ↔ ((0 < option) × (option ≤ length problem.now.options)) }
 {
+    // A state may come from a text, where any number can stand.
     0 < option && option <= problem.options()
 }
 
@@ -31,6 +32,7 @@ fn is_free(option: &[u32], item: u32, marks: &[bool]) -> bool
     requires { All (λ i. i < length marks.now) option.now }
     ensures { result ≡ (has option.now item && none_marked marks.now option.now) }
 {
+    // An option of the item is still not left for it when another of its items is covered.
     option.contains(&item) && !any_marked(marks, option)
 }
 
@@ -51,6 +53,7 @@ impl<'p, T: Table> Machine<'p, T> {
         ensures same_problem_back { IfErr result (λ r. T.problem_value r.given ≡ problem.now) }
         ensures covered_back { IfErr result (λ r. T.covered_list r.given ≡ []) }
     {
+        // Before the machine: when out of memory here, nothing has to be taken apart.
         let mut marks = match no_marks(alloc, problem.items()) {
             Ok(marks) => marks,
             Err(_) => {
@@ -75,6 +78,7 @@ impl<'p, T: Table> Machine<'p, T> {
         } else {
             Err(Refused {
                 fault: AtFault::NotAState,
+                // The path may have been walked half-way, so items may be covered.
                 given: machine.into_table(),
             })
         }
@@ -121,6 +125,7 @@ impl<'p, T: Table> Machine<'p, T> {
         };
         self.open_for(item, option);
         self.take(option);
+        // The marks follow the table: one look at each item of an option tells whether it is free.
         mark_all(marks, self.problem.option(option));
         true
     }
@@ -132,6 +137,7 @@ impl<'p, T: Table> Machine<'p, T> {
         ensures choice { OnSome result (HasStep self.now Label.X5 (Cursor.At option)) }
         ensures none { result ≡ None → HasStep self.now Label.X5 (Cursor.At option) → ⊥ }
     {
+        // First, since the option is looked up below.
         if !has_option(self.problem, option) {
             return None;
         }
@@ -170,6 +176,7 @@ impl<'p, T: Table> Machine<'p, T> {
         ensures unfit { result ≡ false → HasStep self.old label cursor → ⊥ }
         ensures problem { self.new.problem ≡ self.old.problem }
     {
+        // All is asked before the first step, so a step that is refused has covered nothing.
         if !self.would_fit(label, cursor, marks) {
             return false;
         }
@@ -191,8 +198,10 @@ impl<'p, T: Table> Machine<'p, T> {
             (Label::X5, Cursor::Past) => self.is_open(),
             (Label::X6, Cursor::At(option)) => self.is_choice(option, marks),
             (Label::X7, Cursor::None) => self.is_open(),
+            // Open or not: X8 comes after X7 and after a visit.
             (Label::X8, Cursor::None) => true,
             (Label::Done, Cursor::None) => self.state.path.is_empty(),
+            // Any other cursor isn't one of the step.
             _ => false,
         }
     }
@@ -206,9 +215,11 @@ impl<'p, T: Table> Machine<'p, T> {
         match (label, cursor) {
             (Label::X5, Cursor::At(option)) => self.open_at(option),
             (Label::X6, Cursor::At(option)) => self.take_at(option),
+            // At X6 the cursor is at an option, as `fits` says.
             (Label::X6, _) => unreachable!(),
             (Label::X5, _) => self.open_past(),
             (Label::X7, _) => self.pass_all(),
+            // At all others exactly the items of the path are covered, as at X2.
             _ => self.turn(label, cursor),
         }
     }
@@ -230,6 +241,7 @@ impl<'p, T: Table> Machine<'p, T> {
         requires fits { HasStep self.old Label.X5 (Cursor.At option) }
         ensures { self.new ≡ at_step self.old Label.X5 (Cursor.At option) }
     {
+        // As `open_level`, but choosing goes through all active items: it isn't done twice.
         self.enter();
         self.plan();
         self.open_list(item);
@@ -244,6 +256,7 @@ impl<'p, T: Table> Machine<'p, T> {
     {
         self.open_at(option);
         self.take(option);
+        // X6 has the option's items covered but not the option on its path: X8 pops it and leaves them.
         self.turn(Label::X8, Cursor::None);
         self.leave();
     }

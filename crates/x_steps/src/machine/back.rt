@@ -31,6 +31,7 @@ impl<'p, T: Table> Machine<'p, T> {
             (Label::X5, Cursor::At(option)) => self.reconsider(option),
             (Label::X5, _) => self.reconsider_last(),
             (Label::X6, Cursor::At(option)) => self.retake(option),
+            // As in `step`: no such state fits.
             (Label::X6, _) => unreachable!(),
             (Label::X7, _) => self.unclose(),
             (Label::X8, _) => self.unleave(),
@@ -47,6 +48,7 @@ impl<'p, T: Table> Machine<'p, T> {
         match self.state.path.pop() {
             None => self.state.go(Label::X1, Cursor::None),
             Some(option) => {
+                // At X5 the chosen item is covered, and no other item of the option.
                 let others = self.problem.option(option).len() - 1;
                 uncover_last(&mut self.table, others);
                 self.state.go(Label::X5, Cursor::At(option));
@@ -118,10 +120,12 @@ impl<'p, T: Table> Machine<'p, T> {
         let item = last_covered(&self.table);
         match before {
             None => {
+                // Nothing was tried before, so this X5 came from X4, which covered the item.
                 self.table.uncover(item);
                 self.state.go(Label::X4, Cursor::None);
             }
             Some(option) => {
+                // The option before was taken and left again: at X6 its other items are still covered.
                 cover_others(&mut self.table, self.problem.option(option), item);
                 self.state.go(Label::X6, Cursor::At(option));
             }
@@ -151,7 +155,9 @@ impl<'p, T: Table> Machine<'p, T> {
         requires { IsAt self.old Label.X8 }
         ensures { GoesBack self.old self.new }
     {
+        // The table tells where X8 came from: X2 goes there only where no item is active.
         if has_active(&self.table) {
+            // The same items are covered as at X4, so the same one is chosen.
             let item = choose(&self.table);
             self.table.cover(item);
             self.state.go(Label::X7, Cursor::None);

@@ -18,7 +18,9 @@ impl<'p, T: Table> Machine<'p, T> {
         requires { IsState self.old.problem state.now }
         ensures { self.new ≡ standing_at self.old (state_value state.now) }
     {
+        // First to a step where the path tells what is covered, but for the item chosen after it.
         self.stand_on_path();
+        // Only from where they part: the choices that both paths share are not touched.
         let level = shared(&self.state.path, &state.path);
         self.rise_to(level);
         let (_, rest) = state.path.split_at(level);
@@ -32,8 +34,10 @@ impl<'p, T: Table> Machine<'p, T> {
         ensures problem { self.new.problem ≡ self.old.problem }
     {
         match (self.state.label, self.state.cursor) {
+            // At X5 and X7 the chosen item is covered too; which option came is of no interest here.
             (Label::X5, _) => self.turn(Label::X5, Cursor::Past),
             (Label::X7, _) => self.turn(Label::X5, Cursor::Past),
+            // Its items are covered, so it counts as a choice: the way may lead on below it.
             (Label::X6, Cursor::At(option)) => self.retake_choice(option),
             (Label::X6, _) => unreachable!(),
             _ => self.turn(Label::X2, Cursor::None),
@@ -70,6 +74,7 @@ impl<'p, T: Table> Machine<'p, T> {
     {
         match self.state.label {
             Label::X5 => self.close_item(),
+            // At X2, the other step that `on` allows.
             _ => (),
         }
     }
@@ -92,8 +97,10 @@ impl<'p, T: Table> Machine<'p, T> {
         requires some { 0 < length self.old.state.path }
         ensures { IsOnPath self.old.problem (take (length self.old.state.path - 1) self.old.state.path) self.new }
     {
+        // The choice can only be taken back from X2.
         self.uncover_item();
         self.unenter();
+        // All X5 with this path have the same items covered, so one stands for them.
         self.turn(Label::X5, Cursor::Past);
     }
 
@@ -103,6 +110,7 @@ impl<'p, T: Table> Machine<'p, T> {
         requires within { level ≤ length self.old.state.path }
         ensures { IsOnPath self.old.problem (take level self.old.state.path) self.new }
     {
+        // The path gets shorter on the way, so this is counted first.
         let count = self.state.path.len() - level;
         for _ in 0..count {
             self.rise();
@@ -115,6 +123,7 @@ impl<'p, T: Table> Machine<'p, T> {
         requires fits { HasStep self.old Label.X5 (Cursor.At option) }
         ensures { self.new ≡ longer_by self.old option }
     {
+        // Nothing is tested, as the state is known to be of the search.
         self.cover_item();
         self.turn(Label::X5, Cursor::At(option));
         self.take(option);
@@ -163,6 +172,7 @@ impl<'p, T: Table> Machine<'p, T> {
         ensures { self.new ≡ at_step self.old Label.X6 (Cursor.At option) }
     {
         self.go_down(option);
+        // To X6 the table leads from X8 alone.
         self.turn(Label::X8, Cursor::None);
         self.leave();
     }

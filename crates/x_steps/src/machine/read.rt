@@ -23,6 +23,7 @@ impl<'p, T: Table> Machine<'p, T> {
     pub fn remaining(&self) -> Result<Vec<(u32, Vec<u32>)>, AllocError>
         ensures { ReturnsRows result (remaining_in self.now.problem self.now.state) }
     {
+        // The machine keeps no allocator: its path has the one that the machine was made with.
         active_items(*self.state.path.allocator(), &self.table)
     }
 
@@ -60,6 +61,7 @@ impl<'p, T: Table> Machine<'p, T> {
         ensures { result ≡ chosen_item self.now.problem self.now.state }
     {
         match (self.state.label, self.state.cursor) {
+            // Here alone the item is still to be covered, so it is chosen as X4 will.
             (Label::X4, _) => Some(choose(&self.table)),
             (Label::X5, _) => Some(last_covered(&self.table)),
             (Label::X7, _) => Some(last_covered(&self.table)),

@@ -22,6 +22,7 @@ pub struct Walk {
 pub fn no_counts(alloc: Global, items: u32) -> Result<Vec<u32>, AllocError>
     ensures { IfOk result (λ counts. counts.items ≡ replicate (items + 1) 0) }
 {
+    // The empty path is level 0, and no path has more choices than there are items.
     vec![in alloc; 0; items as usize + 1]
 }
 
@@ -91,6 +92,7 @@ impl<'p, T: Table> Machine<'p, T> {
             steps: 0,
             event: Event::Moved,
         };
+        // The cut is looked for before each round: a walk that begins at it takes no step.
         while is_move(walk.event) && walk.steps < most && !is_at_cut(&self.state, end) {
             let round = self.round(most - walk.steps, counts);
             walk = Walk {
@@ -111,6 +113,7 @@ impl<'p, T: Table> Machine<'p, T> {
         ensures problem { self.new.problem ≡ self.old.problem }
         ensures round { IsRoundOf most self.old self.new counts.old counts.new result }
     {
+        // A long round has up to four steps. Between its ends lies no X5, so it can't pass a cut.
         match (self.state.label, self.state.cursor) {
             (Label::X5, Cursor::At(option)) if most >= 4 => self.take_and_open(option, counts),
             (Label::X5, Cursor::Past) if most >= 4 => self.close_and_retry(),
@@ -129,6 +132,7 @@ impl<'p, T: Table> Machine<'p, T> {
         ensures round { IsRoundOf 4 self.old self.new counts.old counts.new result }
     {
         self.take(option);
+        // After the option is on the path: the X2 state that is passed is one level deeper.
         count_level(counts, self.state.path.len());
         match self.enter() {
             Event::Moved => {
@@ -136,6 +140,7 @@ impl<'p, T: Table> Machine<'p, T> {
                 let event = self.open();
                 Walk { steps: 4, event }
             }
+            // A visit ends the walk, and X8 is next.
             event => Walk { steps: 2, event },
         }
     }
@@ -151,6 +156,7 @@ impl<'p, T: Table> Machine<'p, T> {
         self.give_up();
         self.close();
         let event = self.leave();
+        // X8 leads to X6 at an option, or from the empty path to Done.
         let Cursor::At(option) = self.state.cursor else {
             return Walk { steps: 3, event };
         };
@@ -168,11 +174,13 @@ impl<'p, T: Table> Machine<'p, T> {
         ensures problem { self.new.problem ≡ self.old.problem }
         ensures round { IsRoundOf 1 self.old self.new counts.old counts.new result }
     {
+        // A level is counted when its X2 is left, and so once.
         if let Label::X2 = self.state.label {
             count_level(counts, self.state.path.len());
         }
         match self.step() {
             Ok(event) => Walk { steps: 1, event },
+            // A step is refused only at Done.
             Err(_) => unreachable!(),
         }
     }

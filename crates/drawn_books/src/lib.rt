@@ -2,7 +2,7 @@
 #![tactic(auto)]
 
 ghost use Rattle.std.specs.Prelude.{◌≡◌, ◌↔◌, [], ◌∷◌, IfOk, IfErr, IsOk, IsTrue, Some};
-ghost use Rattle.lab_book.specs.Faults.{number_of};
+ghost use Rattle.lab_history.specs.Faults.{number_of};
 ghost use Rattle.lab_book.specs.Posted.{posted_visits};
 
 use cover_problem::{PlainTable, Problem, Table};

@@ -1,6 +1,6 @@
--- The examples of tiles, books, their counts and their entries, computed on the small problem: c e, a d g, b c f, a d f, b g, d e g. Its
+-- The examples of tiles, books and their counts, computed on the small problem: c e, a d g, b c f, a d f, b g, d e g. Its
 -- item a has the options 2 and 4, and 4 5 1 is its one visit.
-use Rattle.std.proofs.Common.{◌≡◌, ℕ, zero, suc, ◌<◌, ◌≤◌, true, false, Some, None, List, [], ◌∷◌, slice_index, codes, refl, arith}
+use Rattle.std.proofs.Common.{◌≡◌, ℕ, zero, suc, ◌<◌, ◌≤◌, true, false, None, List, [], ◌∷◌, slice_index, refl, arith}
 use Rattle.cover_problem.specs.Covering.{active, remaining, choice}
 use Rattle.cover_problem.specs.Path.{IsValid, taken, covered_by}
 use Rattle.cover_problem.proofs.CoverExamples.{small}
@@ -19,12 +19,10 @@ use Rattle.x_branches.specs.Branch.{whole_run}
 use Rattle.x_branches.specs.RunOrder.{comes_before}
 use Rattle.x_branches.specs.Stretch.{StretchValue}
 use Rattle.lab_book.specs.declared.status.Status.TheVariants.{Waiting, Held, Leased}
-use Rattle.lab_book.specs.declared.lease.Grant.{Grant}
-use Rattle.lab_book.specs.declared.fault.BookFault.TheVariants.{UnknownBranch, StaleLease, NotAtEnd, OutOfMemory}
-use Rattle.lab_book.specs.declared.entry.Call.TheVariants as call
-use Rattle.lab_book.specs.declared.entry.Reply.TheVariants as reply
-use Rattle.lab_book.specs.declared.entry.Entry.{Entry}
-use Rattle.lab_book.specs.declared.kind.CallKind.TheVariants as kind
+use Rattle.lab_history.specs.declared.grant.Grant.{Grant}
+use Rattle.lab_history.specs.declared.fault.BookFault.TheVariants.{UnknownBranch, StaleLease, NotAtEnd}
+use Rattle.lab_history.specs.declared.entry.Call.TheVariants as call
+use Rattle.lab_history.specs.declared.entry.Reply.TheVariants as reply
 use Rattle.lab_book.specs.States.{same_state}
 use Rattle.lab_book.specs.Tile.{TileValue, is_lease, freed_status, mark_of, tile_end}
 use Rattle.lab_book.specs.Tiling.{tile_at, no_tile, AreNumbered}
@@ -32,9 +30,6 @@ use Rattle.lab_book.specs.Book.{BookValue, new_book, outcome, book_step, split, 
 use Rattle.lab_book.specs.Calls.{Made, next_entry, is_current}
 use Rattle.lab_book.specs.Posted.{posted_count, posted_visits, posted_steps, posted_levels}
 use Rattle.lab_book.specs.Index.{AreLeast, WaitFrom}
-use Rattle.lab_book.specs.EntryCode.{grant_code, grant_of, call_code, call_of, call_rest, reply_code, reply_of, entry_code, entry_of}
-use Rattle.lab_book.specs.Kinds.{kind_of}
-use Rattle.lab_book.specs.Faults.{number_of, name_of}
 
 -- ---- specs/Tile.antt
 
@@ -228,33 +223,3 @@ from_one : WaitFrom 1 parted
 unfolding outcome
 from_one zero l m = refl
 from_one (suc i) l m = absurd (omega arith)
-
--- ---- specs/EntryCode.antt
-
--- worker 2 gives the tile 0 up, by the lease of the entry 7
-abbrev gives_up : Entry
-gives_up = record { worker = 2; call = call.Park (record { id = 0; worker = 2; index = 7 }); reply = reply.Done }
-
-coded : entry_code gives_up ≡ 2 ∷ 6 ∷ 0 ∷ 2 ∷ 7 ∷ 5 ∷ []
-unfolding entry_code call_code grant_code reply_code
-coded = refl
-
-read_back : entry_of (2 ∷ 6 ∷ 0 ∷ 2 ∷ 7 ∷ 5 ∷ []) ≡ gives_up
-unfolding entry_of call_of call_rest grant_of reply_of
-read_back = refl
-
--- ---- specs/Kinds.antt
-
-its_kind : kind_of (call.Lease 3) ≡ kind.Lease
-its_kind = refl
-
--- ---- specs/Faults.antt
-
-stale_number : number_of (StaleLease start) ≡ Some 3
-stale_number = refl
-
-stale_name : name_of (StaleLease start) ≡ codes "StaleLease"
-stale_name = refl
-
-no_number : number_of OutOfMemory ≡ None
-no_number = refl

@@ -13,7 +13,5 @@ pub mod SumLemmas
 pub mod VisitedLemmas
 pub mod RiseLemmas
 pub mod ScribeLemmas
-pub mod CodeLemmas
-pub mod ReadingLemmas
 pub mod PlaceLemmas
 pub mod BookExamples

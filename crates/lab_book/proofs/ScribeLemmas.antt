@@ -8,9 +8,9 @@ use Rattle.lab_book.specs.Tile.{TileValue, is_waiting}
 use Rattle.lab_book.specs.Tiling.{no_tile, tile_at}
 use Rattle.lab_book.specs.Book.{BookValue, posted_tile, waiting_in}
 use Rattle.lab_book.specs.Calls.{Made, ScribeNotes}
-use Rattle.lab_book.specs.declared.entry.Call.{Call}
-use Rattle.lab_book.specs.declared.entry.Entry.{Entry}
-use Rattle.lab_book.specs.declared.entry.Reply.{Reply}
+use Rattle.lab_history.specs.declared.entry.Call.{Call}
+use Rattle.lab_history.specs.declared.entry.Entry.{Entry}
+use Rattle.lab_history.specs.declared.entry.Reply.{Reply}
 
 module _ (ts : List TileValue) (i : ℕ) (within : i < length ts) (x : StretchValue) (after : List TileValue)
     (is : after ≡ set ts i (posted_tile (tile_at ts i) x)) where

@@ -16,12 +16,13 @@ use Rattle.x_branches.proofs.CutLemmas.{cut_fits, test_is_order}
 use Rattle.x_branches.proofs.StageLemmas.{comes_rank, rank_comes}
 use Rattle.lab_book.specs.declared.status.Status.{Status}
 use Rattle.lab_book.specs.declared.status.Status.TheVariants as status
-use Rattle.lab_book.specs.declared.fault.BookFault.TheVariants.{NotAfterMark, BeyondEnd}
-use Rattle.lab_book.specs.declared.entry.Call.{Call}
-use Rattle.lab_book.specs.declared.entry.Reply.TheVariants as reply
+use Rattle.lab_history.specs.declared.fault.BookFault.TheVariants.{NotAfterMark, BeyondEnd}
+use Rattle.lab_history.specs.declared.entry.Call.{Call}
+use Rattle.lab_history.specs.declared.entry.Reply.TheVariants as reply
 use Rattle.lab_book.specs.Tile.{TileValue, IsTile, Stands, is_leased, mark_of, tile_end}
 use Rattle.lab_book.specs.Tiling.{AreTiles, IsTiling, AreNumbered, tile_at}
-use Rattle.lab_book.specs.Book.{HistoryValue, KeepsBook, outcome, head_tile, tail_tile, split_tiles, split, leased_in, cut_fault, else_fault}
+use Rattle.lab_history.specs.History.{HistoryValue}
+use Rattle.lab_book.specs.Book.{KeepsBook, outcome, head_tile, tail_tile, split_tiles, split, leased_in, cut_fault, else_fault}
 use Rattle.lab_book.specs.Calls.{Doubted}
 use Rattle.lab_book.proofs.TileLemmas.{stretch_by, end_fits, end_after, led_rank}
 use Rattle.lab_book.proofs.TilingLemmas.{tile_in}

@@ -24,18 +24,19 @@ use Rattle.x_branches.proofs.StageLemmas.{rank_comes}
 use Rattle.x_branches.proofs.RunnerLemmas.{not_before, before_not, other_before}
 use Rattle.lab_book.specs.declared.status.Status.{Status}
 use Rattle.lab_book.specs.declared.status.Status.TheVariants as status
-use Rattle.lab_book.specs.declared.fault.BookFault.{BookFault}
-use Rattle.lab_book.specs.declared.fault.BookFault.TheVariants.{OutOfMemory, StaleLease, BeyondEnd}
-use Rattle.lab_book.specs.declared.entry.Call.{Call}
-use Rattle.lab_book.specs.declared.entry.Reply.{Reply}
-use Rattle.lab_book.specs.declared.entry.Reply.TheVariants as reply
-use Rattle.lab_book.specs.declared.entry.Entry.{Entry}
+use Rattle.lab_history.specs.declared.fault.BookFault.{BookFault}
+use Rattle.lab_history.specs.declared.fault.BookFault.TheVariants.{OutOfMemory, StaleLease, BeyondEnd}
+use Rattle.lab_history.specs.declared.entry.Call.{Call}
+use Rattle.lab_history.specs.declared.entry.Reply.{Reply}
+use Rattle.lab_history.specs.declared.entry.Reply.TheVariants as reply
+use Rattle.lab_history.specs.declared.entry.Entry.{Entry}
 use Rattle.lab_book.specs.States.{same_state}
 use Rattle.lab_book.specs.Tile.{TileValue, IsTile, Stands, is_waiting, is_leased, is_closed, is_free, asked_status, mark_of, tile_end}
 use Rattle.lab_book.specs.Tiling.{IsTiling, no_tile, tile_at}
-use Rattle.lab_book.specs.Book.{BookValue, HistoryValue, outcome, whole_tile, new_book, leased_in, waiting_in, path_of, lent, lent_tile}
+use Rattle.lab_history.specs.History.{HistoryValue}
+use Rattle.lab_book.specs.Book.{BookValue, outcome, whole_tile, new_book, leased_in, waiting_in, cut_path, lent, lent_tile}
 use Rattle.lab_book.specs.Book.{posted, posted_tile, settled, refused, stretch_fault, else_fault, first_waiting, KeepsBook}
-use Rattle.lab_book.specs.Book.{Outcome, stretches_to, put_back, last_of, retracted}
+use Rattle.lab_book.specs.Book.{Outcome, stretches_to, put_back, last_stretch, retracted}
 use Rattle.lab_book.specs.Calls.{Made}
 use Rattle.lab_book.proofs.TileLemmas.{stretch_by, posted_is_tile, settled_is_tile, tile_can_start, same_state_is}
 use Rattle.lab_book.proofs.TileLemmas.{last_problem}
@@ -330,12 +331,12 @@ back_is t s n e = rw e refl
 -- ---- what is taken out
 
 -- the reply is told by the last stretch
-pub retracted_reply : (b : BookValue) (i : ℕ) (x : StretchValue) (from to : StateValue) → last_of (tile_at b.tiles i).stretches ≡ Some x
+pub retracted_reply : (b : BookValue) (i : ℕ) (x : StretchValue) (from to : StateValue) → last_stretch (tile_at b.tiles i).stretches ≡ Some x
     → from ≡ x.from → to ≡ x.to → reply.Retracted from to ≡ (retracted b i).reply
 retracted_reply b i x from to e f g = rw (e, f, g) refl
 
 pub retracted_problem : (p : ProblemValue) (b : Branch) (s : StateValue) (ts : List TileValue) (i : ℕ) (x : StretchValue)
-    → IsTiling p b s ts → i < length ts → last_of (tile_at ts i).stretches ≡ Some x → x.problem ≡ p
+    → IsTiling p b s ts → i < length ts → last_stretch (tile_at ts i).stretches ≡ Some x → x.problem ≡ p
 retracted_problem p b s ts i x t l e = last_problem p (tile_at ts i).first (tile_at ts i).stretches x
     (tile_in p b.lo s ts b.hi i t.tiles l).joins e
 

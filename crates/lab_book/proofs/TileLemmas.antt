@@ -26,7 +26,7 @@ use Rattle.x_branches.proofs.RunnerLemmas.{not_before, before_not}
 use Rattle.x_codes.specs.StateCode.{label_number}
 use Rattle.lab_book.specs.States.{cursor_number, same_state}
 use Rattle.lab_book.specs.Tile.{TileValue, KeepsTile, led_to, mark_of, tile_end, Join, Stands, IsTile, is_leased, is_closed}
-use Rattle.lab_book.specs.Book.{last_of, stretches_to}
+use Rattle.lab_book.specs.Book.{last_stretch, stretches_to}
 use Rattle.lab_book.specs.declared.status.Status.{Status}
 use Rattle.lab_book.specs.declared.status.Status.TheVariants.{Waiting, Held, Leased, Closed}
 
@@ -166,10 +166,10 @@ tile_can_start p t i =
 
 -- ---- fewer stretches
 
-pub last_place : (xs : List StretchValue) (x : StretchValue) → 0 < length xs → x ≡ get_or xs (length xs - 1) x → last_of xs ≡ Some x
+pub last_place : (xs : List StretchValue) (x : StretchValue) → 0 < length xs → x ≡ get_or xs (length xs - 1) x → last_stretch xs ≡ Some x
 last_place xs x l e = by xs (length xs - 1) (omega arith) e
   where
-    by : (ys : List StretchValue) (n : ℕ) → suc n ≡ length ys → x ≡ get_or ys n x → last_of ys ≡ Some x
+    by : (ys : List StretchValue) (n : ℕ) → suc n ≡ length ys → x ≡ get_or ys n x → last_stretch ys ≡ Some x
     by [] n l e = absurd (omega arith)
     by (y ∷ []) zero l e = ap Some (sym e)
     by (y ∷ []) (suc n) l e = absurd (omega arith)
@@ -177,14 +177,14 @@ last_place xs x l e = by xs (length xs - 1) (omega arith) e
     by (y ∷ z ∷ zs) (suc n) l e = rw (by (z ∷ zs) n (omega arith) e) refl
 
 -- the last of stretches that join is the problem's
-pub last_problem : (p : ProblemValue) (s : StateValue) (xs : List StretchValue) (x : StretchValue) → Join p s xs → last_of xs ≡ Some x
+pub last_problem : (p : ProblemValue) (s : StateValue) (xs : List StretchValue) (x : StretchValue) → Join p s xs → last_stretch xs ≡ Some x
     → x.problem ≡ p
 last_problem p s [] x j e = absurd (cc)
 last_problem p s (y ∷ []) x j e = let h : y ≡ x = cc in rw (← h) j.0
 last_problem p s (y ∷ z ∷ zs) x j e = last_problem p y.to (z ∷ zs) x j.3 e
 
 -- a list that isn't empty has a last element
-pub last_some : (xs : List StretchValue) → 0 < length xs → is_some (last_of xs) ≡ true
+pub last_some : (xs : List StretchValue) → 0 < length xs → is_some (last_stretch xs) ≡ true
 last_some [] l = absurd (omega arith)
 last_some (x ∷ xs) l = refl
 

@@ -23,15 +23,15 @@ use Rattle.x_branches.specs.RunOrder.{comes_before}
 use Rattle.x_branches.specs.Stretch.{StretchValue}
 use Rattle.lab_book.specs.declared.status.Status.{Status}
 use Rattle.lab_book.specs.declared.status.Status.TheVariants as status
-use Rattle.lab_book.specs.declared.lease.Grant.{Grant}
-use Rattle.lab_book.specs.declared.fault.BookFault.{BookFault}
-use Rattle.lab_book.specs.declared.fault.BookFault.TheVariants.{UnknownBranch, NotWaiting, StaleLease, ForeignProblem, NotAfterMark}
-use Rattle.lab_book.specs.declared.fault.BookFault.TheVariants.{BeyondEnd, NotAMark, NotAtEnd, NothingToRetract}
-use Rattle.lab_book.specs.declared.entry.Call.{Call}
-use Rattle.lab_book.specs.declared.entry.Call.TheVariants as call
-use Rattle.lab_book.specs.declared.entry.Reply.{Reply}
-use Rattle.lab_book.specs.declared.entry.Reply.TheVariants as reply
-use Rattle.lab_book.specs.declared.entry.Entry.{Entry}
+use Rattle.lab_history.specs.declared.grant.Grant.{Grant}
+use Rattle.lab_history.specs.declared.fault.BookFault.{BookFault}
+use Rattle.lab_history.specs.declared.fault.BookFault.TheVariants.{UnknownBranch, NotWaiting, StaleLease, ForeignProblem, NotAfterMark}
+use Rattle.lab_history.specs.declared.fault.BookFault.TheVariants.{BeyondEnd, NotAMark, NotAtEnd, NothingToRetract}
+use Rattle.lab_history.specs.declared.entry.Call.{Call}
+use Rattle.lab_history.specs.declared.entry.Call.TheVariants as call
+use Rattle.lab_history.specs.declared.entry.Reply.{Reply}
+use Rattle.lab_history.specs.declared.entry.Reply.TheVariants as reply
+use Rattle.lab_history.specs.declared.entry.Entry.{Entry}
 use Rattle.lab_book.specs.States.{same_state}
 use Rattle.lab_book.specs.Tile.{TileValue, is_waiting, is_held, is_leased, is_closed, is_free, is_lease, freed_status, asked_status}
 use Rattle.lab_book.specs.Tile.{mark_of, tile_end}
@@ -87,9 +87,9 @@ abbrev pub found : List TileValue → ℕ → (TileValue → Option BookFault) �
 found ts id check = checked ts check (tile_place id ts)
 
 -- the last stretch, if there is one
-abbrev pub last_of : List StretchValue → Option StretchValue
-last_of [] = None
-last_of (x ∷ xs) = Some (unwrap_or (last_of xs) x)
+abbrev pub last_stretch : List StretchValue → Option StretchValue
+last_stretch [] = None
+last_stretch (x ∷ xs) = Some (unwrap_or (last_stretch xs) x)
 
 -- the stretches up to the first mark that is this state, if one is
 -- (here with stretch x before them)
@@ -136,7 +136,7 @@ end_fault t = else_fault (same_state (mark_of t) (tile_end t)) NotAtEnd None
 
 -- a tile whose last stretch is taken out has to have one
 abbrev pub retract_fault : TileValue → Option BookFault
-retract_fault t = else_fault (is_some (last_of t.stretches)) NothingToRetract None
+retract_fault t = else_fault (is_some (last_stretch t.stretches)) NothingToRetract None
 
 -- a tile that goes back to a state has to wait or be held, and to have that mark
 abbrev pub mark_fault : StateValue → TileValue → Option BookFault
@@ -169,8 +169,8 @@ made_at ts change (Ok i) = change i
 made_at ts change (Err f) = refused ts f
 
 -- the choices of a cut, if there is one
-abbrev pub path_of : Option CutPath → Option (List ℕ)
-path_of cut = option_map (λ (c : CutPath). c.path) cut
+abbrev pub cut_path : Option CutPath → Option (List ℕ)
+cut_path cut = option_map (λ (c : CutPath). c.path) cut
 
 -- a tile is leased by the entry that comes next
 abbrev pub lent_tile : TileValue → ℕ → ℕ → TileValue
@@ -183,7 +183,7 @@ lent b w i =
     let t = tile_at b.tiles i in
     let ts = slice_set b.tiles i (lent_tile t w (length b.history)) in
     record {
-      reply = reply.Leased (record { id = t.id; worker = w; index = length b.history }) (path_of t.branch.lo) (path_of t.branch.hi)
+      reply = reply.Leased (record { id = t.id; worker = w; index = length b.history }) (cut_path t.branch.lo) (cut_path t.branch.hi)
           (mark_of t) (waiting_in ts);
       tiles = ts;
     }
@@ -260,7 +260,7 @@ kept_tile count t = record t { stretches = take count t.stretches }
 abbrev pub retracted : BookValue → ℕ → Outcome
 retracted b i =
     let t = tile_at b.tiles i in
-    let x = unwrap_or (last_of t.stretches) (record { problem = b.problem; from = t.first; to = t.first }) in
+    let x = unwrap_or (last_stretch t.stretches) (record { problem = b.problem; from = t.first; to = t.first }) in
     record {
       reply = reply.Retracted x.from x.to;
       tiles = slice_set b.tiles i (retracted_tile t);
@@ -349,11 +349,6 @@ replayed b (e ∷ es) = replayed (book_step b e.worker e.call) es
 pub record IsBook (b : BookValue) : Type 0 where
   pub tiling : IsTiling b.problem b.branch b.first b.tiles
   pub replay : replayed (new_book b.problem b.branch b.first) b.history ≡ b
-
--- entries, and for how many more room is kept
-pub record HistoryValue : Type 0 where
-  pub entries : List Entry
-  pub kept : ℕ
 
 -- what a book keeps: room is kept for as many entries as there are tiles leased
 pub record KeepsBook (b : BookValue) (kept : ℕ) : Type 0 where

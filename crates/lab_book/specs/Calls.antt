@@ -1,7 +1,7 @@
 -- What a caller is told of a call: that the book made it (`Made`, which adds `next_entry`), or that it was refused (`Refuses`). The answers
 -- and calls as the history keeps them are `leased_reply`, `any_reply`, `posted_reply`, `post_of` and `split_of`; `Posts`, `PostRefused`,
 -- `Splits`, `SplitRefused`, `Ends` and `EndRefused` say it of these calls. `is_current` tests a lease; `Judged` and `Doubted` allow for
--- memory that runs out; and `GoesBack` is how many stretches a tile keeps.
+-- memory that runs out; and `ReturnsTo` is how many stretches a tile keeps.
 --
 -- Example: the small problem's new book makes the call of worker 0 that leases any tile. The lease is then the current one of its tile, and
 -- was not before. proofs/BookExamples.antt computes it.
@@ -15,17 +15,17 @@ use Rattle.cover_problem.specs.Problem.{ProblemValue, is_same}
 use Rattle.x_branches.specs.Cut.{CutPath}
 use Rattle.x_branches.specs.Stretch.{StretchValue}
 use Rattle.x_branches.specs.Refusals.{CanStart}
-use Rattle.lab_book.specs.declared.lease.Grant.{Grant}
+use Rattle.lab_history.specs.declared.grant.Grant.{Grant}
 use Rattle.lab_book.specs.declared.lease.Leased.{Leased}
 use Rattle.lab_book.specs.declared.lease.Posted.{Posted}
-use Rattle.lab_book.specs.declared.fault.BookFault.{BookFault}
-use Rattle.lab_book.specs.declared.fault.BookFault.TheVariants.{OutOfMemory}
-use Rattle.lab_book.specs.declared.entry.Call.{Call}
-use Rattle.lab_book.specs.declared.entry.Call.TheVariants as call
-use Rattle.lab_book.specs.declared.entry.Reply.{Reply}
-use Rattle.lab_book.specs.declared.entry.Entry.{Entry}
-use Rattle.lab_book.specs.declared.entry.Reply.TheVariants as reply
-use Rattle.lab_book.specs.Book.{BookValue, outcome, book_step, path_of, stretches_to, found, found_by, lease_fault}
+use Rattle.lab_history.specs.declared.fault.BookFault.{BookFault}
+use Rattle.lab_history.specs.declared.fault.BookFault.TheVariants.{OutOfMemory}
+use Rattle.lab_history.specs.declared.entry.Call.{Call}
+use Rattle.lab_history.specs.declared.entry.Call.TheVariants as call
+use Rattle.lab_history.specs.declared.entry.Reply.{Reply}
+use Rattle.lab_history.specs.declared.entry.Entry.{Entry}
+use Rattle.lab_history.specs.declared.entry.Reply.TheVariants as reply
+use Rattle.lab_book.specs.Book.{BookValue, outcome, book_step, cut_path, stretches_to, found, found_by, lease_fault}
 
 -- a book made this call, and gave this answer
 pub record Made (old new : BookValue) (w : ℕ) (c : Call) (r : Reply) : Type 0 where
@@ -50,7 +50,7 @@ Refuses old new w c f = ((f ≡ OutOfMemory) × (new ≡ old)) ⊎ ((f ≡ OutOf
 
 -- the answer to a worker that leases a tile, as the history keeps it
 abbrev pub leased_reply : Leased → Reply
-leased_reply r = reply.Leased r.lease (path_of r.branch.lo) (path_of r.branch.hi) (state_value r.mark) r.waiting
+leased_reply r = reply.Leased r.lease (cut_path r.branch.lo) (cut_path r.branch.hi) (state_value r.mark) r.waiting
 
 -- a book leased a tile by a call, and answered so
 abbrev pub Leases : BookValue → BookValue → ℕ → Call → Leased → Type 0
@@ -138,7 +138,7 @@ abbrev pub LeadTo : State → StateValue → List StretchValue → Option ℕ �
 LeadTo s first xs count = option_map (λ n. take n xs) count ≡ stretches_to (state_value s) first xs
 
 -- a tile goes back to a state by keeping so many of its stretches
-pub record GoesBack (t : TileValue) (s : StateValue) (count : ℕ) : Type 0 where
+pub record ReturnsTo (t : TileValue) (s : StateValue) (count : ℕ) : Type 0 where
   pub some : count ≤ length t.stretches
   pub kept : stretches_to s t.first t.stretches ≡ Some (take count t.stretches)
 

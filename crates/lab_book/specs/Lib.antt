@@ -1,10 +1,7 @@
 pub mod States
 pub mod Tile
 pub mod Tiling
-pub mod Faults
 pub mod Book
 pub mod Calls
 pub mod Index
 pub mod Posted
-pub mod EntryCode
-pub mod Kinds

@@ -14,7 +14,7 @@ use Rattle.x_branches.specs.Stretch.{StretchValue, IsStretch}
 use Rattle.x_branches.specs.Runner.{IsBranch}
 use Rattle.lab_book.specs.declared.status.Status.{Status}
 use Rattle.lab_book.specs.declared.status.Status.TheVariants.{Waiting, Held, Leased, Closed}
-use Rattle.lab_book.specs.declared.lease.Grant.{Grant}
+use Rattle.lab_history.specs.declared.grant.Grant.{Grant}
 
 -- whether a tile that stands so waits: it can be leased, and nobody has it
 abbrev pub is_waiting : Status → Bool

@@ -9,23 +9,18 @@ ghost use Rattle.x_branches.specs.Branch.{whole_run};
 ghost use Rattle.lab_book.specs.Book.{waiting_in, leased_in, IsTiled, new_book, replayed, outcome, refused, tile_place, first_book};
 ghost use Rattle.lab_book.specs.Calls.{Refuses, RefusedIf, OutOfMemoryOr, ScribeNotesFault};
 
-mod ending;
-mod leasing;
+mod ends;
+mod leases;
 mod posted;
-mod posting;
-mod splitting;
-mod taking_back;
+mod posts;
+mod retractions;
+mod splits;
 
-use crate::entries::Entries;
-use crate::entry::{Call, Entry, Reply};
-use crate::fault::BookFault;
-use crate::history::History;
-use crate::mark::Mark;
-use crate::scribe::Scribe;
 use crate::status::Status;
 use crate::tile::Tile;
 use crate::tiles::Tiles;
 use cover_problem::{PlainTable, Problem, Table};
+use lab_history::{BookFault, Call, Entries, Entry, History, Mark, Reply, Scribe};
 use std::alloc::{AllocError, Global};
 use std::marker::Model;
 use x_branches::{Branch, Cut, Runner, RunnerFault, StartFault};
@@ -74,6 +69,7 @@ fn check_start(
     ensures can { OnOk result (CanStart problem.now branch.now (state_value state.now)) }
     ensures refused { IfErr result (StartRefused problem.now branch.now (state_value state.now)) }
 {
+    // The plain table will do: it is asked for one walk down the paths, and no search goes on from here.
     let Ok(table) = PlainTable::new(alloc, problem) else {
         return Err(StartFault::Steps(AtFault::OutOfMemory));
     };
@@ -81,6 +77,7 @@ fn check_start(
         return Err(StartFault::Steps(AtFault::OutOfMemory));
     };
     match Runner::new(alloc, problem, table, branch, state) {
+        // The runner is let go. What it walked is known now, and each worker makes its own.
         Ok(_) => Ok(()),
         Err(refused) => Err(refused.fault),
     }
@@ -101,6 +98,7 @@ fn out_of_memory<G>(given: G) -> Refused<BookFault, G>
 fn is_cut(cut: &Option<Cut<'_>>)
     ensures { IfSome cut.now (λ c. IsCut c.problem c.path) }
 {
+    // Runs nothing that matters: it tells a proof what each cut keeps true.
     if let Some(cut) = cut {
         cut.is_sound();
     }
@@ -120,6 +118,7 @@ impl<'p> Book<'p> {
     {
         is_cut(&branch.lo);
         is_cut(&branch.hi);
+        // The book keeps one of its own: a replay of the history begins there, whatever became of the tiles.
         let first = Mark::of(state)?;
         let begin = Mark::of(state)?;
         let whole = branch.copy()?;
@@ -161,6 +160,7 @@ impl<'p> Book<'p> {
         ensures branch_back { IfErr result (λ r. r.given.0 ≡ branch.entry) }
         ensures state_back { IfErr result (λ r. r.given.1 ≡ state) }
     {
+        // Before anything is made of them, so that branch and state come back as they came.
         if let Err(fault) = check_start(alloc, problem, &branch, &state) {
             return Err(Refused {
                 fault,
@@ -256,9 +256,11 @@ impl<'p> Book<'p> {
         ensures noted { ScribeNotesFault S.notes scribe.old scribe.new self.old w call result }
     {
         let fault = match fault {
+            // No entry tells of it: a replay knows nothing of memory.
             BookFault::OutOfMemory => return BookFault::OutOfMemory,
             fault => fault,
         };
+        // One for the history, and one for the caller.
         let Ok(copy) = fault.copy() else {
             return BookFault::OutOfMemory;
         };
@@ -267,6 +269,7 @@ impl<'p> Book<'p> {
             call,
             reply: Reply::Refused(copy),
         };
+        // With this room nothing after it can fail: the refusal is noted on both sides, or on neither.
         let Ok(()) = self.history.keep(scribe, 1, &entry) else {
             return BookFault::OutOfMemory;
         };

@@ -1,17 +1,10 @@
 //! Leases, and what a worker is answered.
 ghost use Rattle.std.specs.Prelude.{◌≡◌};
 
+use lab_history::Grant;
 use std::marker::Model;
 use x_branches::Branch;
 use x_steps::State;
-
-/// A lease as the history names it: the tile's id, the worker, and the index of the entry of the history that gave it.
-#[derive(Clone, Copy, Debug, PartialEq, Eq)]
-pub struct Grant {
-    pub id: u64,
-    pub worker: u8,
-    pub index: u64,
-}
 
 /// A worker's right to post to a tile. It can't be copied, and it has to be spent: by a call that ends it, or by `discard`.
 pub struct Lease {
@@ -19,7 +12,7 @@ pub struct Lease {
 }
 
 impl Model for Lease {
-    ghost use Rattle.lab_book.specs.declared.lease.Grant.{Grant};
+    ghost use Rattle.lab_history.specs.declared.grant.Grant.{Grant};
 
     ghost Value = { Grant };
 
@@ -64,6 +57,7 @@ impl Lease {
 
     /// Lets it go without a call of a book: the tile stays leased.
     pub fn discard(self) {
+        // Taken apart: a type that can't be dropped is let go in no other way.
         let Lease { grant: _ } = self;
     }
 }

@@ -3,27 +3,16 @@
 #![tactic(auto)]
 
 mod book;
-mod code;
-mod entries;
-mod entry;
-mod fault;
-mod history;
-mod kind;
 mod lease;
-mod mark;
-mod scribe;
 mod status;
 mod tile;
 mod tiles;
 mod totals;
 
 pub use book::Book;
-pub use entries::Entries;
-pub use entry::{Call, Entry, Reply};
-pub use fault::BookFault;
-pub use kind::CallKind;
-pub use lease::{Grant, Lease, Leased, Posted};
-pub use mark::{Mark, Path};
-pub use scribe::{Scribe, Unnoted};
+pub use lab_history::{
+    BookFault, Call, CallKind, Entries, Entry, Grant, Mark, Path, Reply, Scribe, Unnoted,
+};
+pub use lease::{Lease, Leased, Posted};
 pub use status::Status;
 pub use tile::Tile;

@@ -2,7 +2,7 @@
 ghost use Rattle.std.specs.Prelude.{◌≡◌};
 ghost use Rattle.lab_book.specs.Tile.{is_waiting, is_held, is_leased, is_closed, is_free, is_lease, freed_status, asked_status};
 
-use crate::lease::Grant;
+use lab_history::Grant;
 
 /// How a tile stands: it waits for a worker, it is held back, a worker has leased it by the entry of the history that `index`
 /// names, or it is done.
@@ -71,6 +71,7 @@ impl Status {
         ensures { result ≡ is_lease self lease }
     {
         match self {
+            // The tile was looked for by the lease's id, so that needn't be compared.
             Status::Leased { worker, index } => worker == lease.worker && index == lease.index,
             _ => false,
         }

@@ -6,15 +6,15 @@ ghost use Rattle.x_branches.specs.Branch.{end_of};
 ghost use Rattle.x_branches.specs.Cut.{cut_state};
 ghost use Rattle.lab_book.specs.Tile.{led_to, mark_of, tile_end};
 ghost use Rattle.lab_book.specs.Posted.{stretch_visits};
-ghost use Rattle.lab_book.specs.Book.{whole_tile, posted_tile, retracted_tile, last_of, kept_tile};
+ghost use Rattle.lab_book.specs.Book.{whole_tile, posted_tile, retracted_tile, last_stretch, kept_tile};
 ghost use Rattle.lab_book.specs.Calls.{LeadTo};
 
-mod parting;
+mod halves;
 mod totals;
 
-use crate::mark::Mark;
 use crate::status::Status;
 use cover_problem::Lists;
+use lab_history::Mark;
 use std::alloc::{AllocError, Global};
 use std::marker::Model;
 use x_branches::{Branch, Cut, KeptStretch, Stretch};
@@ -80,6 +80,7 @@ fn cut_state(alloc: Global, cut: &Cut<'_>) -> Result<Mark, AllocError>
     ensures { IfOk result (λ mark. mark ≡ cut_state cut.now.path) }
 {
     let choices = cut.path();
+    // A cut has a choice at least: at none the run hasn't chosen yet, and there is nothing to part.
     let (front, last) = choices.split_at(choices.len() - 1);
     let path = Vec::from_slice(alloc, front)?;
     Ok(Mark::from(State {
@@ -99,10 +100,12 @@ fn mark_place(
     ensures place { IfOk result (LeadTo state.now (state_value first.now) stretches.now) }
     ensures within { IfOk result (λ place. IfSome place (λ n. n ≤ length stretches.now)) }
 {
+    // A stretch may have no step, so marks can be equal: the first of them is meant.
     if state.same(first) {
         return Ok(Some(0));
     }
     for (place, stretch) in stretches.iter().enumerate() {
+        // A kept stretch is packed: its end is made again, and that takes memory.
         let mark = stretch.to(alloc)?;
         if state.same(&mark) {
             return Ok(Some(place + 1));
@@ -148,6 +151,7 @@ impl<'p> Tile<'p> {
     pub fn same(&self, other: &Tile<'_>) -> bool
         ensures { IsTrue result → self.now ≡ other.now }
     {
+        // What is cheap comes first; the stretches are as many as were posted.
         self.id() == other.id()
             && self.status() == other.status()
             && self.stop() == other.stop()
@@ -164,6 +168,7 @@ impl<'p> Tile<'p> {
     ) -> Result<Tile<'p>, AllocError>
         ensures { IfOk result (λ tile. tile ≡ whole_tile branch.entry first) }
     {
+        // Kept beside the branch: each post and each split compares with it.
         let end = end_state(alloc, &branch.hi)?;
         let mark = first.copy()?;
         Tile::of(
@@ -266,10 +271,12 @@ impl<'p> Tile<'p> {
         ensures unchanged { OnErr result (self.new ≡ self.old) }
         ensures given_back { IfErr result (λ s. s ≡ stretch.entry) }
     {
+        // While the stretch is whole: packed, its end could only be made again.
         let Ok(mark) = Mark::of(stretch.to()) else {
             return Err(stretch);
         };
         let parts = &mut *self.parts;
+        // Room before the stretch is packed, since a packed one could not go back to the caller.
         if parts.stretches.reserve(1).is_err() {
             return Err(stretch);
         }
@@ -295,7 +302,7 @@ impl<'p> Tile<'p> {
     /// Its last stretch, and the mark that it has without it.
     pub(crate) fn last(&self) -> Result<(Stretch<'p>, Mark), AllocError>
         requires { 0 < length self.now.stretches }
-        ensures stretch { IfOk result (λ last. last_of self.now.stretches ≡ Some last.0) }
+        ensures stretch { IfOk result (λ last. last_stretch self.now.stretches ≡ Some last.0) }
         ensures mark { IfOk result (λ last. last.1 ≡ mark_of (retracted_tile self.now)) }
     {
         let alloc = *self.parts.stretches.allocator();
@@ -312,6 +319,7 @@ impl<'p> Tile<'p> {
         ensures { self.new ≡ retracted_tile self.old }
     {
         let count = self.stretches().len() - 1;
+        // The mark was made before, so that this can't fail.
         self.put_back(count, mark);
     }
 

@@ -8,13 +8,11 @@ ghost use Rattle.lab_book.specs.Book.{retracted_tile, settled_tile, kept_tile};
 ghost use Rattle.lab_book.specs.Index.{WaitFrom};
 ghost use Rattle.lab_book.specs.Calls.{Judged, is_current, OutOfMemoryOr};
 
-mod splitting;
+mod splits;
 
-use crate::fault::BookFault;
-use crate::lease::Grant;
-use crate::mark::Mark;
 use crate::status::Status;
 use crate::tile::Tile;
+use lab_history::{BookFault, Grant, Mark};
 use std::alloc::{AllocError, Global};
 use std::marker::Model;
 use x_branches::Stretch;
@@ -119,6 +117,7 @@ impl<'p> Tiles<'p> {
         let mut list = Vec::with_capacity(alloc, 1)?;
         let mut places = Vec::with_capacity(alloc, 1)?;
         list.push_reserved(tile);
+        // By id: the one tile has the id 0, and stands at the place 0.
         places.push_reserved(0);
         Ok(Tiles {
             list,
@@ -165,6 +164,7 @@ impl<'p> Tiles<'p> {
         ensures within { IfSome result (λ i. i < length self.now) }
     {
         let number = id as usize;
+        // No tile has another id: as many places are kept as there are tiles.
         if number < self.places.len() {
             find(&self.list, id, self.places[number])
         } else {
@@ -222,6 +222,7 @@ impl<'p> Tiles<'p> {
         ensures place { result ≡ first_waiting self.now }
         ensures within { IfSome result (λ i. i < length self.now) }
     {
+        // Else a search for none would go over all tiles behind `from`.
         if self.waiting == 0 {
             return None;
         }
@@ -235,6 +236,7 @@ impl<'p> Tiles<'p> {
         ensures unchanged { self.new ≡ self.old }
     {
         let i = self.first_waiting()?;
+        // All before it were seen just now, or known before, not to wait.
         self.from = i;
         Some(i)
     }
@@ -245,6 +247,7 @@ impl<'p> Tiles<'p> {
         ensures { self.new ≡ self.old }
     {
         let id = self.list[i].id() as usize;
+        // Tiles only move up, so where it stands now it never stands before again.
         self.places[id] = i;
     }
 
@@ -267,6 +270,7 @@ impl<'p> Tiles<'p> {
             return Err(BookFault::UnknownBranch);
         };
         let tile = self.tile(i);
+        // A tile that is leased again has the index of a later entry, so an old lease never fits again.
         if !tile.status().is_lease(lease) {
             return Err(stale(tile));
         }
@@ -279,6 +283,7 @@ impl<'p> Tiles<'p> {
         ensures { self.new ≡ slice_set self.old i (settled_tile status stop (tile_at self.old i)) }
     {
         self.keep_place(i);
+        // Counted from how it stood to how it stands: the others are not looked at.
         let old = self.list[i].status();
         self.waiting = recounted(self.waiting, old.is_waiting(), status.is_waiting());
         self.leased = recounted(self.leased, old.is_leased(), status.is_leased());

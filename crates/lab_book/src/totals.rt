@@ -12,6 +12,7 @@ use x_codes::choice;
 pub(crate) fn no_totals(alloc: Global, items: u32) -> Result<Vec<u128>, AllocError>
     ensures { IfOk result (λ totals. totals.items ≡ replicate (items + 1) 0) }
 {
+    // A path chooses each item once at most, so the levels are 0 to the number of items.
     vec![in alloc; 0u128; items as usize + 1]
 }
 
@@ -26,6 +27,7 @@ pub(crate) fn add_counts(totals: &mut [u128], counts: Reader<'_>)
 {
     let mut counts = counts;
     let mut level = 0;
+    // A stretch keeps no level behind the last that it reached, so the counts may end before the totals.
     'adding: while let Some(count) = counts.next() {
         totals[level] += choice(count) as u128;
         level += 1;

@@ -9,18 +9,18 @@ use Rattle.cover_problem.specs.Problem.{ProblemValue}
 use Rattle.x_steps.specs.StateValue.{StateValue}
 use Rattle.x_branches.specs.Cut.{CutPath}
 use Rattle.lab_book.specs.declared.status.Status.{Status}
-use Rattle.lab_book.specs.declared.lease.Grant.{Grant}
-use Rattle.lab_book.specs.declared.fault.BookFault.{BookFault}
-use Rattle.lab_book.specs.declared.fault.BookFault.TheVariants.{NotWaiting, NotAMark, StaleLease}
-use Rattle.lab_book.specs.declared.entry.Call.{Call}
-use Rattle.lab_book.specs.declared.entry.Call.TheVariants as call
-use Rattle.lab_book.specs.declared.entry.Reply.{Reply}
-use Rattle.lab_book.specs.declared.entry.Reply.TheVariants as reply
+use Rattle.lab_history.specs.declared.grant.Grant.{Grant}
+use Rattle.lab_history.specs.declared.fault.BookFault.{BookFault}
+use Rattle.lab_history.specs.declared.fault.BookFault.TheVariants.{NotWaiting, NotAMark, StaleLease}
+use Rattle.lab_history.specs.declared.entry.Call.{Call}
+use Rattle.lab_history.specs.declared.entry.Call.TheVariants as call
+use Rattle.lab_history.specs.declared.entry.Reply.{Reply}
+use Rattle.lab_history.specs.declared.entry.Reply.TheVariants as reply
 use Rattle.lab_book.specs.Tile.{TileValue, IsTile, is_closed, is_waiting, is_held, freed_status, mark_of}
 use Rattle.lab_book.specs.Tiling.{AreTiles, AreNumbered, IsTiling, tile_at, no_tile}
 use Rattle.lab_book.specs.Book.{BookValue, Outcome, outcome, waiting_in, first_waiting, found, checked, unless, made_at, else_fault}
 use Rattle.lab_book.specs.Book.{status_fault, lease_fault, stretch_fault, cut_fault, retract_fault, end_fault, mark_fault, stretches_to}
-use Rattle.lab_book.specs.Book.{last_of, path_of, lent, lent_any, lent_tile, posted, posted_tile, split, split_tiles, head_tile}
+use Rattle.lab_book.specs.Book.{last_stretch, cut_path, lent, lent_any, lent_tile, posted, posted_tile, split, split_tiles, head_tile}
 use Rattle.lab_book.specs.Book.{tail_tile}
 use Rattle.lab_book.specs.Book.{retracted, retracted_tile, settled, freed, closed, put_back, asked_to_stop}
 use Rattle.lab_book.proofs.IndexLemmas.{position_at}
@@ -87,7 +87,7 @@ module _ (a b : BookValue) (k : AreAlikeBooks a b) (ta : IsTiling a.problem a.br
     lent_alike : Same (lent a v i) (lent b w j)
     lent_alike =
         put (lent_tile one v (length a.history)) (lent_tile other w (length b.history)) _ _
-        (λ n. reply.Leased (record { id = 0; worker = 0; index = 0 }) (path_of (s.tile n).branch.lo) (path_of (s.tile n).branch.hi)
+        (λ n. reply.Leased (record { id = 0; worker = 0; index = 0 }) (cut_path (s.tile n).branch.lo) (cut_path (s.tile n).branch.hi)
         (mark_of (s.tile n)) (waits (lent_tile one v (length a.history)) (lent_tile other w (length b.history)) lent_seen n)) lent_seen
         refl refl refl
 
@@ -105,7 +105,7 @@ module _ (a b : BookValue) (k : AreAlikeBooks a b) (ta : IsTiling a.problem a.br
       where
         back : ProblemValue → TileValue → Reply
         back p t =
-            let x = unwrap_or (last_of t.stretches) (record { problem = p; from = t.first; to = t.first }) in reply.Retracted x.from x.to
+            let x = unwrap_or (last_stretch t.stretches) (record { problem = p; from = t.first; to = t.first }) in reply.Retracted x.from x.to
 
     freed_alike : Same (settled a freed i) (settled b freed j)
     freed_alike = put (freed one) (freed other) _ _ refl

@@ -4,11 +4,12 @@
 -- Example: in one book of the small problem a closed tile goes up to the cut 4, and worker 0 has leased the tile behind it; in another
 -- two closed tiles meet at the cut 2, and worker 1 has leased the tile behind the cut 4, which has another id. They are alike.
 -- proofs/AlikeExamples.antt computes it.
-use Rattle.std.specs.Prelude.{◌≡◌, not, List, map, filter}
+use Rattle.std.specs.Prelude.{ℕ, ◌≡◌, not, List, map, filter}
 use Rattle.lab_book.specs.declared.status.Status.{Status}
 use Rattle.lab_book.specs.declared.status.Status.TheVariants.{Leased}
 use Rattle.lab_book.specs.Tile.{TileValue, is_closed, is_held}
 use Rattle.lab_book.specs.Book.{BookValue, IsTiled}
+use Rattle.lab_book.specs.Posted.{posted_levels}
 
 -- how a tile stands, without the worker and the index of its lease
 abbrev pub anonymous_status : Status → Status
@@ -26,6 +27,10 @@ open_tiles ts = filter (λ t. not (is_closed t.status)) ts
 -- the tiles that are held, in their order
 abbrev pub held_tiles : List TileValue → List TileValue
 held_tiles ts = filter (λ t. is_held t.status) ts
+
+-- how many states X2 a book's posted stretches have at each level
+abbrev pub levels_told : BookValue → List ℕ
+levels_told b = posted_levels b.problem b.tiles
 
 -- the open tiles without their ids and leases
 abbrev pub open_part : List TileValue → List TileValue

@@ -3,11 +3,11 @@
 -- Example: in the two books of AlikeBooks.antt the second tile of the one and the third of the other are the tile behind the cut 4, so
 -- their places, 1 and 2, correspond, and the leases of both workers name it. proofs/AlikeExamples.antt computes it.
 use Rattle.std.specs.Prelude.{ℕ, suc, ◌≡◌, ◌<◌, false, List, length, take, drop}
-use Rattle.lab_book.specs.declared.lease.Grant.{Grant}
-use Rattle.lab_book.specs.declared.entry.Call.{Call}
-use Rattle.lab_book.specs.declared.entry.Call.TheVariants as call
-use Rattle.lab_book.specs.declared.entry.Reply.{Reply}
-use Rattle.lab_book.specs.declared.entry.Reply.TheVariants as reply
+use Rattle.lab_history.specs.declared.grant.Grant.{Grant}
+use Rattle.lab_history.specs.declared.entry.Call.{Call}
+use Rattle.lab_history.specs.declared.entry.Call.TheVariants as call
+use Rattle.lab_history.specs.declared.entry.Reply.{Reply}
+use Rattle.lab_history.specs.declared.entry.Reply.TheVariants as reply
 use Rattle.lab_book.specs.Tile.{TileValue, is_closed, is_lease}
 use Rattle.lab_book.specs.Tiling.{tile_at, IsTiling}
 use Rattle.lab_book.specs.Book.{BookValue, Outcome, outcome, IsTiled}
@@ -45,6 +45,14 @@ IsFoundByCut a i b j =
 -- the tile at place i of a book has its place in another
 abbrev pub HasPlaceIn : BookValue → ℕ → BookValue → Type 0
 HasPlaceIn a i b = (j : ℕ) × IsSameTile a i b j
+
+-- where the books are alike, an open tile of the one has its place in the other
+abbrev pub IfAlikeHasPlace : BookValue → ℕ → BookValue → Type 0
+IfAlikeHasPlace a i b = AreAlikeBooks a b → IfOpen a i (HasPlaceIn a i b)
+
+-- and it has no second one
+abbrev pub HasOnePlace : BookValue → ℕ → BookValue → ℕ → ℕ → Type 0
+HasOnePlace a i b j k = IsSameTile a i b j → IsSameTile a i b k → j ≡ k
 
 -- leases g and h name the same open tile of two books, which stands at i in the one and at j in the other: each has the tile's id
 -- there, and either both are the current lease, or neither
@@ -88,6 +96,10 @@ pub record AreAlikeOutcomes (a b : BookValue) (o q : Outcome) : Type 0 where
 abbrev pub AnswerAlike : BookValue → ℕ → Call → BookValue → ℕ → Call → Type 0
 AnswerAlike a v c b w d =
     IsTiled a → IsTiled b → AreAlikeBooks a b → AreAlikeOutcomes a b (outcome a v c) (outcome b w d)
+
+-- the same where worker v of the one and worker w of the other lease any tile
+abbrev pub LeaseAnyAlike : BookValue → ℕ → BookValue → ℕ → Type 0
+LeaseAnyAlike a v b w = AnswerAlike a v call.LeaseAny b w call.LeaseAny
 
 -- what is true of each call of two books that are alike and tiled, at the places of the same open tile, by its id or a lease: of the books,
 -- of those places and of the two outcomes

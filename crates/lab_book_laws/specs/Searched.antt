@@ -6,9 +6,9 @@
 use Rattle.std.specs.Prelude.{◌≡◌, Bool, true, false, List, [], map, if◌then◌else◌}
 use Rattle.std.specs.List.{AllPass}
 use Rattle.cover_problem.specs.Problem.{ProblemValue}
-use Rattle.lab_book.specs.declared.entry.Call.{Call}
-use Rattle.lab_book.specs.declared.entry.Call.TheVariants as call
-use Rattle.lab_book.specs.declared.entry.Entry.{Entry}
+use Rattle.lab_history.specs.declared.entry.Call.{Call}
+use Rattle.lab_history.specs.declared.entry.Call.TheVariants as call
+use Rattle.lab_history.specs.declared.entry.Entry.{Entry}
 use Rattle.lab_book.specs.Tile.{TileValue, is_waiting, mark_of, tile_end}
 use Rattle.lab_book.specs.Book.{BookValue, posted_tile, closed, waiting_in, leased_in, replayed}
 use Rattle.lab_book.specs.Posted.{IsFinished}
@@ -56,9 +56,9 @@ NoneLeased b = leased_in b.tiles ≡ 0
 abbrev pub NoneHeld : BookValue → Type 0
 NoneHeld b = held_tiles b.tiles ≡ []
 
--- what a pool makes of book a is alike to the searched book b, if it is book c
+-- what a pool makes of book a, if it is book c, is alike to the searched book b, where a and b are alike and no tile of b is leased
 abbrev pub MakesAlike : BookValue → BookValue → BookValue → Type 0
-MakesAlike a b c = IsSearched a c → AreAlikeBooks c (searched b)
+MakesAlike a b c = AreAlikeBooks a b → NoneLeased b → IsSearched a c → AreAlikeBooks c (searched b)
 
 -- where all tiles of a book are closed, which is of the same branch of the same problem's run as an old one, from the same first mark on,
 -- this is true

@@ -4,11 +4,11 @@ use Rattle.lab_tickets.specs.Rule.{tally}
 use Rattle.lab_tickets.specs.declared.rule.Tally.{Tally}
 use Rattle.lab_tickets.specs.declared.deques.OtherDeque.{OtherDeque}
 use Rattle.lab_tickets.specs.Deques.{tally_of, source, joined}
-use Rattle.lab_tickets.specs.TicketView.{TicketView, alone, pushed, popped, TakesAs, TakesTicket}
+use Rattle.lab_tickets.specs.TicketView.{TicketView, lone_seat, pushed, popped, TakesAs, TakesTicket}
 
 -- the only seat, which pushed 7 and 9
 abbrev seat : TicketView
-seat = pushed (pushed (alone (4, 0)) 7) 9
+seat = pushed (pushed (lone_seat (4, 0)) 7) 9
 
 it_pushed : seat ≡ record { number = 0; own = tally (7 ∷ 9 ∷ []) []; others = []; deque = (4, 0); deques = [] }
 it_pushed = refl

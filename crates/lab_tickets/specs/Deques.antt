@@ -13,6 +13,10 @@ tally_of d = view d.pass
 abbrev pub source : OtherDeque → ℕ × ℕ
 source d = (stealer_deque d.stealer).0
 
+-- which deques these are
+abbrev pub sources : List OtherDeque → List (ℕ × ℕ)
+sources others = map source others
+
 -- a seat has a number, and steals from these deques
 abbrev pub joined : TicketView → ℕ → List OtherDeque → TicketView
 joined s number others = record s { number = number; others = map tally_of others; deques = map source others }

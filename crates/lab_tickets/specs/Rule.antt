@@ -34,3 +34,7 @@ Balanced items tallies = (x : ℕ) → times x (pushed_of tallies) ≡ times x i
 -- what is true of each ticket, wherever the rule holds: of the tickets in the deque and of what its seats did
 abbrev pub EachTicket : (List ℕ → List Tally → ℕ → Type 0) → Type 0
 EachTicket P = (items : List ℕ) (tallies : List Tally) → Balanced items tallies → (x : ℕ) → P items tallies x
+
+-- the same of an empty deque: of what its seats did
+abbrev pub EachTicketOfEmpty : (List Tally → ℕ → Type 0) → Type 0
+EachTicketOfEmpty P = (tallies : List Tally) → Balanced [] tallies → (x : ℕ) → P tallies x

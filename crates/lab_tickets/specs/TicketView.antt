@@ -49,8 +49,8 @@ abbrev pub popped : TicketView → ℕ → TicketView
 popped s x = record s { own = took s.own x }
 
 -- the place of another seat among the others of a seat
-abbrev pub place : ℕ → ℕ → ℕ
-place number from = cond (nat_lt from number) from (from - 1)
+abbrev pub place_among : ℕ → ℕ → ℕ
+place_among number from = cond (nat_lt from number) from (from - 1)
 
 -- the tally at a place
 abbrev pub tally_at : List Tally → ℕ → Tally
@@ -58,7 +58,7 @@ tally_at tallies k = slice_index_or tallies k (tally [] [])
 
 -- a ticket joins those that the seat took from the deque of another seat, whose number is given
 abbrev pub stolen : TicketView → ℕ → ℕ → TicketView
-stolen s from x = record s { others = slice_set s.others (place s.number from) (took (tally_at s.others (place s.number from)) x) }
+stolen s from x = record s { others = slice_set s.others (place_among s.number from) (took (tally_at s.others (place_among s.number from)) x) }
 
 -- so many deques from which nothing is taken yet
 abbrev pub blanks : ℕ → List Tally
@@ -66,22 +66,22 @@ blanks zero = []
 blanks (suc k) = tally [] [] ∷ blanks k
 
 -- all deques but the one at a place
-abbrev pub without : ℕ → List (ℕ × ℕ) → List (ℕ × ℕ)
-without k [] = []
-without zero (x ∷ xs) = xs
-without (suc k) (x ∷ xs) = x ∷ without k xs
+abbrev pub all_but : ℕ → List (ℕ × ℕ) → List (ℕ × ℕ)
+all_but k [] = []
+all_but zero (x ∷ xs) = xs
+all_but (suc k) (x ∷ xs) = x ∷ all_but k xs
 
 -- the one seat where there is no other, which has done nothing yet
-abbrev pub alone : ℕ × ℕ → TicketView
-alone deque = record { number = 0; own = tally [] []; others = []; deque = deque; deques = [] }
+abbrev pub lone_seat : ℕ × ℕ → TicketView
+lone_seat deque = record { number = 0; own = tally [] []; others = []; deque = deque; deques = [] }
 
 -- a seat with a number among the seats that have these deques, of which it has stolen from none
 abbrev pub among : ℕ → List (ℕ × ℕ) → TicketView → TicketView
-among number all s = record s { number = number; others = blanks (length all - 1); deques = without number all }
+among number all s = record s { number = number; others = blanks (length all - 1); deques = all_but number all }
 
 -- the seat of a number among the seats that have these deques, which has done nothing yet
-abbrev pub fresh : List (ℕ × ℕ) → ℕ → TicketView
-fresh all number = among number all (alone (slice_index_or all number (0, 0)))
+abbrev pub new_seat : List (ℕ × ℕ) → ℕ → TicketView
+new_seat all number = among number all (lone_seat (slice_index_or all number (0, 0)))
 
 -- which deque is the seat's own
 abbrev pub deque_of : TicketView → ℕ × ℕ
@@ -89,15 +89,15 @@ deque_of s = s.deque
 
 -- the deques of all seats of a row but the one at a place
 abbrev pub other_deques : ℕ → List TicketView → List (ℕ × ℕ)
-other_deques k seats = without k (map deque_of seats)
+other_deques k seats = all_but k (map deque_of seats)
 
 -- the seat at a place of a row
 abbrev pub seat_at : List TicketView → ℕ → TicketView
-seat_at seats k = slice_index_or seats k (alone (0, 0))
+seat_at seats k = slice_index_or seats k (lone_seat (0, 0))
 
 -- the first n seats of a row have done nothing yet
 abbrev pub AreFresh : ℕ → List TicketView → Type 0
-AreFresh n seats = (k : ℕ) → k < n → seat_at seats k ≡ fresh (map deque_of seats) k
+AreFresh n seats = (k : ℕ) → k < n → seat_at seats k ≡ new_seat (map deque_of seats) k
 
 -- the row once the seat at a place has its number and the deques of the others
 abbrev pub with_joined : ℕ → List TicketView → List TicketView

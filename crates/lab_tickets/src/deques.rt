@@ -3,7 +3,7 @@ ghost use Rattle.std.specs.Prelude.{◌≡◌, [], IfOk};
 ghost use Rattle.crossbeam_deque.specs.Handles.{view, IsPassOf, stealer_deque, stealer_flavor, worker_view, worker_deque, worker_port, worker_flavor};
 ghost use Rattle.lab_tickets.specs.Rule.{tally};
 ghost use Rattle.lab_tickets.specs.TicketView.{TakesTicket};
-ghost use Rattle.lab_tickets.specs.Own.{PushesTicket, RefusesTicket, PopsTicket};
+ghost use Rattle.lab_tickets.specs.Own.{PushesTicket, RefusesTicket, PopsTicket, StealsFrom};
 
 use crate::rule::{Pushing, Taking, Tally, TicketRule};
 use crossbeam_deque::{Pass, Stealer, Worker};
@@ -49,7 +49,7 @@ impl OwnDeque {
 
     /// What another seat needs to steal from this deque.
     pub fn other(&self) -> Result<OtherDeque, AllocError>
-        ensures deque { IfOk result (λ d. stealer_deque d.stealer ≡ worker_deque self.now.worker) }
+        ensures deque { IfOk result (λ d. StealsFrom d.stealer self.now.worker) }
         ensures untouched { IfOk result (λ d. view d.pass ≡ tally [] []) }
     {
         // The pass belongs to one seat: what this seat steals is noted there as taken.

@@ -1,7 +1,6 @@
 //! What the rule of a deque says of its tickets: each a function that does nothing, whose contract is the law.
-ghost use Rattle.std.specs.Prelude.{ℕ, ◌≡◌, ◌≤◌, ◌+◌, List, []};
-ghost use Rattle.lab_tickets.specs.declared.rule.Tally.{Tally};
-ghost use Rattle.lab_tickets.specs.Rule.{times, times_pushed, times_taken, Balanced, EachTicket};
+ghost use Rattle.std.specs.Prelude.{◌≡◌, ◌≤◌, ◌+◌};
+ghost use Rattle.lab_tickets.specs.Rule.{times, times_pushed, times_taken, EachTicket, EachTicketOfEmpty};
 
 /// No ticket was taken that the owner had not pushed.
 pub fn none_is_invented()
@@ -15,5 +14,5 @@ pub fn none_is_taken_twice()
 
 /// Of an empty deque each ticket was taken as often as it was pushed.
 pub fn none_is_lost()
-    ensures { (ts : List Tally) → Balanced [] ts → (x : ℕ) → times_taken x ts ≡ times_pushed x ts }
+    ensures { EachTicketOfEmpty (λ ts x. times_taken x ts ≡ times_pushed x ts) }
 {}

@@ -2,7 +2,7 @@
 ghost use Rattle.std.specs.Prelude.{◌≡◌, ◌≢◌, ◌<◌, ◌≤◌, ◌+◌, [], map, vec_len, IfOk};
 ghost use Rattle.lab_tickets.specs.Rule.{tally};
 ghost use Rattle.lab_tickets.specs.Deques.{tally_of, source, joined};
-ghost use Rattle.lab_tickets.specs.TicketView.{TicketView, alone, pushed, popped, stolen, place, seat_count, TakesAs, HandsBack};
+ghost use Rattle.lab_tickets.specs.TicketView.{TicketView, lone_seat, pushed, popped, stolen, place_among, seat_count, TakesAs, HandsBack};
 
 use crate::deques::{OtherDeque, OwnDeque};
 use std::alloc::{AllocError, Global};
@@ -39,7 +39,7 @@ impl Model for TicketSeat {
 impl TicketSeat {
     /// A seat that is the only one.
     pub(crate) fn alone(alloc: Global) -> Result<TicketSeat, AllocError>
-        ensures { IfOk result (λ s. s ≡ alone s.deque) }
+        ensures { IfOk result (λ s. s ≡ lone_seat s.deque) }
     {
         let own = OwnDeque::new(alloc)?;
         Ok(TicketSeat {
@@ -115,7 +115,7 @@ impl TicketSeat {
 fn place_of(number: u8, from: u8, others: usize) -> usize
     requires other { from ≢ number }
     requires seat { (from ≤ others) × (number ≤ others) }
-    ensures place { result ≡ place number from }
+    ensures place { result ≡ place_among number from }
     ensures below { result < others }
 {
     // The seat itself is left out, so those behind it stand one place lower.

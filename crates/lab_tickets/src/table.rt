@@ -1,6 +1,6 @@
 //! All seats, made together.
 ghost use Rattle.std.specs.Prelude.{◌≡◌, ◌<◌, ◌≤◌, ◌-◌, map, IfOk, vec_len};
-ghost use Rattle.lab_tickets.specs.Deques.{tally_of, source};
+ghost use Rattle.lab_tickets.specs.Deques.{tally_of, sources};
 ghost use Rattle.lab_tickets.specs.TicketView.{blanks, other_deques, with_joined, AreFresh};
 
 use crate::deques::OtherDeque;
@@ -15,7 +15,7 @@ fn others_of(
 ) -> Result<Vec<OtherDeque>, AllocError>
     requires { number < vec_len seats.now }
     ensures tallies { IfOk result (λ v. map tally_of v.items ≡ blanks (vec_len seats.now - 1)) }
-    ensures sources { IfOk result (λ v. map source v.items ≡ other_deques number seats.now.items) }
+    ensures sources { IfOk result (λ v. sources v.items ≡ other_deques number seats.now.items) }
 {
     let mut others = Vec::new(alloc);
     for j in 0..seats.len() {
@@ -35,6 +35,7 @@ fn seat_among(alloc: Global, seats: &mut Vec<TicketSeat>, number: u8) -> Result<
     ensures { IfOk result (λ _. seats.new.items ≡ with_joined number seats.old.items) }
 {
     let others = others_of(alloc, seats, number as usize)?;
+    // Only now, since all seats are read while the others' deques are gathered.
     let seat = &mut seats[number as usize];
     seat.join(number, others);
     Ok(())

@@ -10,9 +10,9 @@ use Rattle.x_branches.specs.Refusals.{most_steps, untried_in, cut_at}
 use Rattle.x_branches.specs.Runner.{RunnerValue, unposted_steps}
 use Rattle.x_branches.specs.Untried.{with_choice}
 use Rattle.x_branches.specs.Walk.{advanced_by, CanAdvanceBy}
-use Rattle.lab_book.specs.declared.entry.Call.{Call}
-use Rattle.lab_book.specs.declared.entry.Call.TheVariants as call
-use Rattle.lab_book.specs.declared.entry.Reply.{Reply}
+use Rattle.lab_history.specs.declared.entry.Call.{Call}
+use Rattle.lab_history.specs.declared.entry.Call.TheVariants as call
+use Rattle.lab_history.specs.declared.entry.Reply.{Reply}
 use Rattle.lab_book.specs.States.{same_state}
 use Rattle.lab_book.specs.Calls.{post_of}
 use Rattle.lab_book.specs.Tiling.{IsTiling}
@@ -23,7 +23,7 @@ use Rattle.lab_world.specs.declared.event.Act.TheVariants.{Close, PutBack, Reque
 use Rattle.lab_world.specs.declared.event.WorldEvent.{WorldEvent}
 use Rattle.lab_world.specs.declared.event.WorldReply.{WorldReply}
 use Rattle.lab_world.specs.Worker.{WorkerValue, moved_forward_by, unposted, split_call, lent_worker, after_post, after_split, after_retract, after_end}
-use Rattle.lab_world.specs.World.{WorldValue, Turn, Turned, Acts, IsSeat, IsNoted, turn, called, stepped, stepped_back, splitting, retracting, world_step, played}
+use Rattle.lab_world.specs.World.{WorldValue, Turn, Turned, Acts, IsSeat, IsInHistory, turn_of, called, stepped, stepped_back, splitting, retracting, world_step, played}
 use Rattle.lab_world.specs.Alone.{alone, own_event, own_events, Leads, StepsLead}
 use Rattle.lab_world.proofs.EventLemmas.{step_turned}
 use Rattle.lab_world.proofs.TurnLemmas.{either, turn_keeps}
@@ -34,7 +34,7 @@ played_append v [] ys = refl
 played_append v (x ∷ xs) ys = played_append (world_step v x).world xs ys
 
 -- an act leads to what its turn leaves
-pub one_act : (b c : BookValue) (x y : Option WorkerValue) (a : Act) → (turn b x 0 a).book ≡ c → (turn b x 0 a).worker ≡ y
+pub one_act : (b c : BookValue) (x y : Option WorkerValue) (a : Act) → (turn_of b x 0 a).book ≡ c → (turn_of b x 0 a).worker ≡ y
     → Leads b x (a ∷ []) c y
 one_act b c x y a e d = ap₂ alone e d
 
@@ -46,7 +46,7 @@ then_acts b c d x y z xs ys p q =
     ∙ ap (λ (v : WorldValue). played v (own_events ys)) p ∙ q
 
 -- a call that takes a turn
-pub turned_leads : (b c : BookValue) (x y : Option WorkerValue) (a : Act) (r : WorldReply) → Turned (turn b x 0 a) r c y
+pub turned_leads : (b c : BookValue) (x y : Option WorkerValue) (a : Act) (r : WorldReply) → Turned (turn_of b x 0 a) r c y
     → Leads b x (a ∷ []) c y
 turned_leads b c x y a r t = one_act b c x y a (sym t.book) (sym t.worker)
 
@@ -70,8 +70,8 @@ module _ (b : BookValue) where
   retract_same : (x : WorkerValue) → Same (retracting b x)
   retract_same x = either Same (unposted_steps x.runner == 0) _ _ refl refl
 
-  pub turn_problem : (x : Option WorkerValue) (w : ℕ) (a : Act) → Same (turn b x w a)
-  unfolding turn
+  pub turn_problem : (x : Option WorkerValue) (w : ℕ) (a : Act) → Same (turn_of b x w a)
+  unfolding turn_of
   turn_problem None w (Lease id) = refl
   turn_problem None w LeaseAny = refl
   turn_problem None w (TakeHeld id) = refl
@@ -89,7 +89,7 @@ module _ (b : BookValue) where
 
   -- an entry that a turn's reply names is the book's last one
   abbrev Noted : Turn → Type 0
-  Noted t = IsNoted t.book t.reply
+  Noted t = IsInHistory t.book t.reply
 
   called_noted : (w : ℕ) (c : Call) (becomes : Reply → Option WorkerValue) → Noted (called b w c becomes)
   called_noted w c becomes =
@@ -111,8 +111,8 @@ module _ (b : BookValue) where
   retract_noted x =
       either Noted (unposted_steps x.runner == 0) _ _ (called_noted x.grant.worker (call.Retract x.grant) (after_retract x)) tt
 
-  pub turn_noted : (x : Option WorkerValue) (w : ℕ) (a : Act) → Noted (turn b x w a)
-  unfolding turn
+  pub turn_noted : (x : Option WorkerValue) (w : ℕ) (a : Act) → Noted (turn_of b x w a)
+  unfolding turn_of
   turn_noted None w (Lease id) = called_noted w (call.Lease id) (lent_worker b.problem)
   turn_noted None w LeaseAny = called_noted w call.LeaseAny (lent_worker b.problem)
   turn_noted None w (TakeHeld id) = called_noted w (call.TakeHeld id) (lent_worker b.problem)
@@ -141,9 +141,9 @@ module _ {E : Type 0} (b new : BookValue) (w : ℕ) (x y : Option WorkerValue) (
       subst (λ (c : BookValue × Option WorkerValue). IsSeat c.0 w c.1) (λ j. (sym t.book j, sym t.worker j)) (turn_keeps b w tiling x a h)
   taken_seat (Err v) tiling h t e g = subst (λ (c : BookValue × Option WorkerValue). IsSeat c.0 w c.1) (λ j. (sym e j, sym g j)) h
 
-  pub taken_noted : (r : Result WorldReply E) → Acts r w a b new x y → IfOk r (IsNoted new)
+  pub taken_noted : (r : Result WorldReply E) → Acts r w a b new x y → IfOk r (IsInHistory new)
   taken_noted (Ok v) t =
-      subst (λ (c : BookValue × WorldReply). IsNoted c.0 c.1) (λ j. (sym t.book j, sym t.reply j)) (turn_noted b x w a)
+      subst (λ (c : BookValue × WorldReply). IsInHistory c.0 c.1) (λ j. (sym t.book j, sym t.reply j)) (turn_noted b x w a)
   taken_noted (Err v) t = tt
 
   pub taken_problem : (r : Result WorldReply E) → Acts r w a b new x y → OnErr r (new ≡ b) → new.problem ≡ b.problem

@@ -10,15 +10,15 @@ use Rattle.std.proofs.lemmas.List.Edits.{length-insert, get_or-insert_below, get
 use Rattle.std.proofs.lemmas.List.Quantifiers.{position-Some}
 use Rattle.lab_book.specs.declared.status.Status.{Status}
 use Rattle.lab_book.specs.declared.status.Status.TheVariants as status
-use Rattle.lab_book.specs.declared.lease.Grant.{Grant}
-use Rattle.lab_book.specs.declared.fault.BookFault.{BookFault}
+use Rattle.lab_history.specs.declared.grant.Grant.{Grant}
+use Rattle.lab_history.specs.declared.fault.BookFault.{BookFault}
 use Rattle.lab_book.specs.Tile.{TileValue, is_waiting, is_held, is_free, is_lease}
 use Rattle.lab_book.specs.Tiling.{tile_at, no_tile, AreNumbered}
 use Rattle.lab_book.specs.Book.{BookValue, Outcome, outcome, lent, tile_place, found, checked, unless, made_at, status_fault, else_fault}
 use Rattle.lab_book.proofs.IndexLemmas.{position_at}
 use Rattle.lab_book.proofs.InsertLemmas.{two_parts}
-use Rattle.lab_world.specs.declared.worker.leasing.Wanted.{Wanted}
-use Rattle.lab_world.specs.declared.worker.leasing.Wanted.TheVariants as wanted
+use Rattle.lab_world.specs.declared.worker.leases.Wanted.{Wanted}
+use Rattle.lab_world.specs.declared.worker.leases.Wanted.TheVariants as wanted
 use Rattle.lab_world.specs.Worker.{WorkerValue, IsWorkers, HasTile, is_wanted, lease_call}
 
 -- ---- the place of a tile

@@ -3,12 +3,12 @@ use Rattle.std.proofs.Common.{◌≡◌, ℕ, ◌<◌, ◌==◌, Bool, true, fal
 use Rattle.std.proofs.Common.{◌∙◌, subst}
 use Rattle.std.specs.Prelude.{IsErr, IfOk}
 use Rattle.x_branches.specs.Runner.{RunnerValue, runner_at}
-use Rattle.lab_book.specs.declared.lease.Grant.{Grant}
+use Rattle.lab_history.specs.declared.grant.Grant.{Grant}
 use Rattle.lab_book.specs.declared.lease.Leased.{Leased}
-use Rattle.lab_book.specs.declared.fault.BookFault.{BookFault}
-use Rattle.lab_book.specs.declared.fault.BookFault.TheVariants.{NotWaiting}
-use Rattle.lab_book.specs.declared.entry.Call.{Call}
-use Rattle.lab_book.specs.declared.entry.Call.TheVariants as call
+use Rattle.lab_history.specs.declared.fault.BookFault.{BookFault}
+use Rattle.lab_history.specs.declared.fault.BookFault.TheVariants.{NotWaiting}
+use Rattle.lab_history.specs.declared.entry.Call.{Call}
+use Rattle.lab_history.specs.declared.entry.Call.TheVariants as call
 use Rattle.lab_book.specs.Tile.{TileValue, mark_of, is_waiting}
 use Rattle.lab_book.specs.Tiling.{tile_at, no_tile, IsTiling}
 use Rattle.lab_book.specs.Book.{BookValue, Outcome, outcome, book_step, found, checked, unless, tile_place, made_at, lent, lent_any}
@@ -16,7 +16,7 @@ use Rattle.lab_book.specs.Book.{first_waiting, status_fault, else_fault}
 use Rattle.lab_book.specs.Calls.{Made, leased_reply, any_reply}
 use Rattle.std.proofs.lemmas.List.Quantifiers.{position-Some}
 use Rattle.lab_book.proofs.CallLemmas.{any_is}
-use Rattle.lab_world.specs.declared.worker.leasing.Wanted.{Wanted}
+use Rattle.lab_world.specs.declared.worker.leases.Wanted.{Wanted}
 use Rattle.lab_world.specs.Worker.{leased_by, WorkerValue, HoldsTile, lent_worker, place_found, is_wanted, wanted_place}
 use Rattle.lab_world.specs.Worker.{lease_call}
 use Rattle.lab_world.specs.World.{IsSeat}

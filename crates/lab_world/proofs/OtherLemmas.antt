@@ -5,18 +5,18 @@ use Rattle.std.proofs.lemmas.List.Quantifiers.{position-Some}
 use Rattle.x_steps.specs.StateValue.{StateValue}
 use Rattle.x_branches.specs.Cut.{CutPath}
 use Rattle.lab_book.specs.declared.status.Status.TheVariants as status
-use Rattle.lab_book.specs.declared.lease.Grant.{Grant}
-use Rattle.lab_book.specs.declared.fault.BookFault.{BookFault}
-use Rattle.lab_book.specs.declared.entry.Call.TheVariants as call
+use Rattle.lab_history.specs.declared.grant.Grant.{Grant}
+use Rattle.lab_history.specs.declared.fault.BookFault.{BookFault}
+use Rattle.lab_history.specs.declared.entry.Call.TheVariants as call
 use Rattle.lab_book.specs.Tile.{TileValue, is_waiting, is_closed, asked_status}
 use Rattle.lab_book.specs.Tiling.{tile_at, no_tile}
 use Rattle.lab_book.specs.Book.{BookValue, Outcome, outcome, lent, lent_any, first_waiting, posted, split, head_tile, tail_tile, retracted}
 use Rattle.lab_book.specs.Book.{settled, freed, closed, put_back, asked_to_stop, status_fault, lease_fault, stretch_fault, cut_fault}
 use Rattle.lab_book.specs.Book.{retract_fault, end_fault, mark_fault}
-use Rattle.lab_world.specs.declared.worker.ending.Ending.{Ending}
-use Rattle.lab_world.specs.declared.worker.ending.Ending.TheVariants as ending
-use Rattle.lab_world.specs.declared.worker.leasing.Wanted.{Wanted}
-use Rattle.lab_world.specs.declared.worker.leasing.Wanted.TheVariants as wanted
+use Rattle.lab_world.specs.declared.worker.ends.Ending.{Ending}
+use Rattle.lab_world.specs.declared.worker.ends.Ending.TheVariants as ending
+use Rattle.lab_world.specs.declared.worker.leases.Wanted.{Wanted}
+use Rattle.lab_world.specs.declared.worker.leases.Wanted.TheVariants as wanted
 use Rattle.lab_world.specs.Worker.{WorkerValue, IsWorkers, HasTile, is_wanted, lease_call, end_call}
 use Rattle.lab_world.proofs.HoldLemmas.{kept_set, kept_made, kept_parted, passed, lease_outcome, wanted_not_leased, free_not_leased}
 use Rattle.lab_world.proofs.HoldLemmas.{other_lease}

@@ -9,29 +9,29 @@ use Rattle.x_branches.specs.declared.branch.Branch.{Branch}
 use Rattle.x_branches.specs.Cut.{CutPath}
 use Rattle.x_branches.specs.Runner.{IsOf, runner_at}
 use Rattle.x_branches.specs.Stretch.{StretchValue}
-use Rattle.lab_book.specs.declared.lease.Grant.{Grant}
-use Rattle.lab_book.specs.declared.fault.BookFault.{BookFault}
-use Rattle.lab_book.specs.declared.fault.BookFault.TheVariants.{StaleLease}
-use Rattle.lab_book.specs.declared.entry.Call.TheVariants as call
-use Rattle.lab_book.specs.declared.entry.Reply.{Reply}
-use Rattle.lab_book.specs.declared.entry.Reply.TheVariants as reply
+use Rattle.lab_history.specs.declared.grant.Grant.{Grant}
+use Rattle.lab_history.specs.declared.fault.BookFault.{BookFault}
+use Rattle.lab_history.specs.declared.fault.BookFault.TheVariants.{StaleLease}
+use Rattle.lab_history.specs.declared.entry.Call.TheVariants as call
+use Rattle.lab_history.specs.declared.entry.Reply.{Reply}
+use Rattle.lab_history.specs.declared.entry.Reply.TheVariants as reply
 use Rattle.lab_book.specs.Tile.{TileValue, IsTile, Join, led_to, mark_of}
 use Rattle.lab_book.specs.Tiling.{tile_at, no_tile, IsTiling}
-use Rattle.lab_book.specs.Book.{BookValue, Outcome, outcome, found, unless, made_at, lent, lent_tile, path_of, posted, split, head_tile}
-use Rattle.lab_book.specs.Book.{tail_tile, retracted, last_of, settled, freed, closed, else_fault, lease_fault, stretch_fault, cut_fault}
+use Rattle.lab_book.specs.Book.{BookValue, Outcome, outcome, found, unless, made_at, lent, lent_tile, cut_path, posted, split, head_tile}
+use Rattle.lab_book.specs.Book.{tail_tile, retracted, last_stretch, settled, freed, closed, else_fault, lease_fault, stretch_fault, cut_fault}
 use Rattle.lab_book.specs.Book.{retract_fault, end_fault}
 use Rattle.lab_book.proofs.TileLemmas.{mark_push}
 use Rattle.lab_book.proofs.TilingLemmas.{tile_in}
-use Rattle.lab_world.specs.declared.worker.ending.Ending.{Ending}
-use Rattle.lab_world.specs.declared.worker.ending.Ending.TheVariants as ending
-use Rattle.lab_world.specs.Worker.{WorkerValue, IsWorkers, HasTile, HoldsTile, lent_worker, cut_of, marked_at, shortened}
+use Rattle.lab_world.specs.declared.worker.ends.Ending.{Ending}
+use Rattle.lab_world.specs.declared.worker.ends.Ending.TheVariants as ending
+use Rattle.lab_world.specs.Worker.{WorkerValue, IsWorkers, HasTile, HoldsTile, lent_worker, cut_along, marked_at, shortened}
 use Rattle.lab_world.specs.Worker.{end_call, after_post, after_split, after_retract, after_end}
 use Rattle.lab_world.proofs.HoldLemmas.{found_at, own_lease, passed, kept_parted}
 
 -- ---- a tile is leased
 
 -- a cut of the problem, from its choices
-pub cut_back : (p : ProblemValue) (cut : Option CutPath) → IsOf p cut → cut_of p (path_of cut) ≡ cut
+pub cut_back : (p : ProblemValue) (cut : Option CutPath) → IsOf p cut → cut_along p (cut_path cut) ≡ cut
 cut_back p None h = refl
 cut_back p (Some c) h = ap (λ (q : ProblemValue). Some (record { problem = q; path = c.path })) (sym h)
 
@@ -65,7 +65,7 @@ module _ (b : BookValue) (w i : ℕ) (tiling : IsTiling b.problem b.branch b.fir
 
 -- joined stretches end where the last one begins, without it
 join_last : (p : ProblemValue) (s : StateValue) (xs : List StretchValue) (x : StretchValue) (n : ℕ) → suc n ≡ length xs → Join p s xs
-    → last_of xs ≡ Some x → led_to s (take n xs) ≡ x.from
+    → last_stretch xs ≡ Some x → led_to s (take n xs) ≡ x.from
 join_last p s [] x n l j e = absurd (omega arith)
 join_last p s (y ∷ []) x zero l j e = let h : y ≡ x = cc in sym j.1 ∙ ap (λ (z : StretchValue). z.from) h
 join_last p s (y ∷ []) x (suc n) l j e = absurd (omega arith)
@@ -73,7 +73,7 @@ join_last p s (y ∷ z ∷ zs) x zero l j e = absurd (omega arith)
 join_last p s (y ∷ z ∷ zs) x (suc n) l j e = join_last p y.to (z ∷ zs) x n (omega arith) j.3 e
 
 -- a list with a last stretch isn't empty
-some_last : (xs : List StretchValue) (x : StretchValue) → last_of xs ≡ Some x → 0 < length xs
+some_last : (xs : List StretchValue) (x : StretchValue) → last_stretch xs ≡ Some x → 0 < length xs
 some_last [] x e = absurd (cc)
 some_last (y ∷ ys) x e = omega arith
 
@@ -140,12 +140,12 @@ module _ (b : BookValue) (x : WorkerValue) (tiling : IsTiling b.problem b.branch
 
   -- the last of its tile's stretches
   abbrev pub last_own : StretchValue
-  last_own = unwrap_or (last_of own.stretches) (record { problem = b.problem; from = own.first; to = own.first })
+  last_own = unwrap_or (last_stretch own.stretches) (record { problem = b.problem; from = own.first; to = own.first })
 
   pub own_is_tile : IsTile b.problem own
   own_is_tile = tile_in b.problem b.branch.lo b.first b.tiles b.branch.hi h.tile.place tiling.tiles h.tile.within
 
-  last_from : last_of own.stretches ≡ Some last_own → last_own.from ≡ led_to own.first (take (length own.stretches - 1) own.stretches)
+  last_from : last_stretch own.stretches ≡ Some last_own → last_own.from ≡ led_to own.first (take (length own.stretches - 1) own.stretches)
   last_from e =
       let m = some_last own.stretches last_own e in
       sym (join_last b.problem own.first own.stretches last_own (length own.stretches - 1) (omega arith) own_is_tile.joins e)

@@ -15,16 +15,16 @@ use Rattle.x_branches.specs.Refusals.{CanReopen, ReopenRefused}
 use Rattle.x_branches.specs.RunOrder.{ComesBefore}
 use Rattle.x_branches.specs.Stretch.{StretchValue}
 use Rattle.x_branches.proofs.RunnerLemmas.{before_not}
-use Rattle.lab_book.specs.declared.lease.Grant.{Grant}
+use Rattle.lab_history.specs.declared.grant.Grant.{Grant}
 use Rattle.lab_book.specs.declared.lease.Posted.{Posted}
-use Rattle.lab_book.specs.declared.fault.BookFault.{BookFault}
-use Rattle.lab_book.specs.declared.entry.Call.{Call}
-use Rattle.lab_book.specs.declared.entry.Call.TheVariants as call
-use Rattle.lab_book.specs.declared.entry.Reply.{Reply}
-use Rattle.lab_book.specs.declared.entry.Reply.TheVariants as reply
+use Rattle.lab_history.specs.declared.fault.BookFault.{BookFault}
+use Rattle.lab_history.specs.declared.entry.Call.{Call}
+use Rattle.lab_history.specs.declared.entry.Call.TheVariants as call
+use Rattle.lab_history.specs.declared.entry.Reply.{Reply}
+use Rattle.lab_history.specs.declared.entry.Reply.TheVariants as reply
 use Rattle.lab_book.specs.Tile.{Join, led_to}
 use Rattle.lab_book.specs.Tiling.{IsTiling}
-use Rattle.lab_book.specs.Book.{BookValue, outcome, unless, made_at, retracted, retract_fault, last_of}
+use Rattle.lab_book.specs.Book.{BookValue, outcome, unless, made_at, retracted, retract_fault, last_stretch}
 use Rattle.lab_book.specs.Calls.{Made, Refuses, Posts, PostRefused, post_of, posted_reply}
 use Rattle.lab_book.proofs.TileLemmas.{end_fits, end_after}
 use Rattle.lab_world.specs.Worker.{WorkerValue, HoldsTile, marked_at, unposted, after_post, after_retract}
@@ -114,7 +114,7 @@ module _ (b new : BookValue) (g : Grant) (run : RunnerValue) (tiling : IsTiling 
 -- ---- a stretch is taken back
 
 -- the last of stretches that join begins where they do, or later
-last_later : (p : ProblemValue) (s : StateValue) (xs : List StretchValue) (x : StretchValue) → Join p s xs → Fits p s → last_of xs ≡ Some x
+last_later : (p : ProblemValue) (s : StateValue) (xs : List StretchValue) (x : StretchValue) → Join p s xs → Fits p s → last_stretch xs ≡ Some x
     → Fits p x.from × (rank p s ≤ rank p x.from)
 last_later p s [] x j f e = absurd (cc)
 last_later p s (y ∷ []) x j f e =
@@ -127,7 +127,7 @@ last_later p s (y ∷ z ∷ zs) x j f e =
     (l.0, omega (arith, l.1))
 
 -- and ends where they end
-pub last_ends : (s : StateValue) (xs : List StretchValue) (x : StretchValue) → last_of xs ≡ Some x → led_to s xs ≡ x.to
+pub last_ends : (s : StateValue) (xs : List StretchValue) (x : StretchValue) → last_stretch xs ≡ Some x → led_to s xs ≡ x.to
 last_ends s [] x e = absurd (cc)
 last_ends s (y ∷ []) x e = ap (λ (z : StretchValue). z.to) (let h : y ≡ x = cc in h)
 last_ends s (y ∷ z ∷ zs) x e = last_ends y.to (z ∷ zs) x e
@@ -141,7 +141,7 @@ at_mark r n i e l =
 module _ (b new : BookValue) (x : WorkerValue) (tiling : IsTiling b.problem b.branch b.first b.tiles) (h : HoldsTile b x) where
   -- the stretch that the book answers is the tile's last
   told_last : (w : ℕ) (from to : StateValue) → Made b new w (call.Retract x.grant) (reply.Retracted from to)
-      → (last_of (own b x tiling h).stretches ≡ Some (last_own b x tiling h)) × (from ≡ (last_own b x tiling h).from)
+      → (last_stretch (own b x tiling h).stretches ≡ Some (last_own b x tiling h)) × (from ≡ (last_own b x tiling h).from)
       × (to ≡ (last_own b x tiling h).to)
   unfolding outcome
   told_last w from to m =
@@ -150,7 +150,7 @@ module _ (b new : BookValue) (x : WorkerValue) (tiling : IsTiling b.problem b.br
     where
       by : (d : Option BookFault) → retract_fault (own b x tiling h) ≡ d
           → reply.Retracted from to ≡ (made_at b.tiles (retracted b) (unless h.tile.place d)).reply
-          → (last_of (own b x tiling h).stretches ≡ Some (last_own b x tiling h)) × (from ≡ (last_own b x tiling h).from)
+          → (last_stretch (own b x tiling h).stretches ≡ Some (last_own b x tiling h)) × (from ≡ (last_own b x tiling h).from)
           × (to ≡ (last_own b x tiling h).to)
       by None d e = (some_is _ _ (passed _ _ _ d).0, cc, cc)
       by (Some f) d e = absurd (cc)

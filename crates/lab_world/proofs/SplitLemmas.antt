@@ -11,11 +11,11 @@ use Rattle.x_branches.specs.RunOrder.{comes_before}
 use Rattle.x_branches.specs.Untried.{with_choice, IsUntried}
 use Rattle.x_branches.proofs.CutLemmas.{cut_fits, rank_test, untried_is}
 use Rattle.x_branches.proofs.StageLemmas.{comes_rank}
-use Rattle.lab_book.specs.declared.fault.BookFault.{BookFault}
-use Rattle.lab_book.specs.declared.fault.BookFault.TheVariants.{OutOfMemory}
-use Rattle.lab_book.specs.declared.entry.Call.{Call}
-use Rattle.lab_book.specs.declared.entry.Call.TheVariants as call
-use Rattle.lab_book.specs.declared.entry.Reply.TheVariants as reply
+use Rattle.lab_history.specs.declared.fault.BookFault.{BookFault}
+use Rattle.lab_history.specs.declared.fault.BookFault.TheVariants.{OutOfMemory}
+use Rattle.lab_history.specs.declared.entry.Call.{Call}
+use Rattle.lab_history.specs.declared.entry.Call.TheVariants as call
+use Rattle.lab_history.specs.declared.entry.Reply.TheVariants as reply
 use Rattle.lab_book.specs.Tile.{mark_of, tile_end}
 use Rattle.lab_book.specs.Tiling.{IsTiling}
 use Rattle.lab_book.specs.Book.{BookValue, Outcome, outcome, book_step, made_at, unless, split, cut_fault}

@@ -14,12 +14,12 @@ use Rattle.x_branches.specs.Branch.{end_of}
 use Rattle.x_branches.specs.Refusals.{most_steps, untried_in}
 use Rattle.x_branches.specs.Untried.{with_choice}
 use Rattle.x_branches.specs.Runner.{unposted_steps}
-use Rattle.lab_book.specs.declared.lease.Grant.{Grant}
+use Rattle.lab_history.specs.declared.grant.Grant.{Grant}
 use Rattle.lab_book.specs.States.{same_state}
 use Rattle.lab_book.specs.Calls.{post_of}
-use Rattle.lab_book.specs.declared.fault.BookFault.{BookFault}
-use Rattle.lab_book.specs.declared.entry.Call.{Call}
-use Rattle.lab_book.specs.declared.entry.Call.TheVariants as call
+use Rattle.lab_history.specs.declared.fault.BookFault.{BookFault}
+use Rattle.lab_history.specs.declared.entry.Call.{Call}
+use Rattle.lab_history.specs.declared.entry.Call.TheVariants as call
 use Rattle.lab_book.specs.Tile.{TileValue, is_waiting}
 use Rattle.lab_book.specs.Tiling.{tile_at, no_tile, IsTiling}
 use Rattle.lab_book.specs.Book.{BookValue, Outcome, outcome, book_step, found, made_at, lent, lent_any, first_waiting, status_fault}
@@ -27,14 +27,14 @@ use Rattle.lab_world.specs.declared.event.Act.{Act}
 use Rattle.lab_world.specs.declared.event.Act.TheVariants.{Step, Back, Lease, LeaseAny, TakeHeld, Post, Split, Retract, Park, Abandon}
 use Rattle.lab_world.specs.declared.event.Act.TheVariants.{Close, PutBack, RequestStop}
 use Rattle.lab_world.specs.declared.event.WorldEvent.{WorldEvent}
-use Rattle.lab_world.specs.declared.worker.ending.Ending.{Ending}
-use Rattle.lab_world.specs.declared.worker.ending.Ending.TheVariants as ending
-use Rattle.lab_world.specs.declared.worker.leasing.Wanted.{Wanted}
-use Rattle.lab_world.specs.declared.worker.leasing.Wanted.TheVariants as wanted
+use Rattle.lab_world.specs.declared.worker.ends.Ending.{Ending}
+use Rattle.lab_world.specs.declared.worker.ends.Ending.TheVariants as ending
+use Rattle.lab_world.specs.declared.worker.leases.Wanted.{Wanted}
+use Rattle.lab_world.specs.declared.worker.leases.Wanted.TheVariants as wanted
 use Rattle.lab_world.specs.Worker.{leased_by, WorkerValue, HasTile, moved_to, unposted, split_call, is_wanted, lease_call}
 use Rattle.lab_world.specs.Worker.{end_call}
 use Rattle.lab_world.specs.Worker.{after_end, lent_worker}
-use Rattle.lab_world.specs.World.{WorldValue, Turn, turn, stepped, stepped_back, splitting, retracting, IsSeat, IsWorld, worker_at}
+use Rattle.lab_world.specs.World.{WorldValue, Turn, turn_of, stepped, stepped_back, splitting, retracting, IsSeat, IsWorld, worker_at}
 use Rattle.lab_world.specs.World.{world_step}
 use Rattle.lab_world.proofs.HoldLemmas.{found_ok, lease_outcome}
 use Rattle.lab_world.proofs.OtherLemmas.{lease_leaves, lease_any_leaves, post_leaves, retract_leaves, split_leaves, end_leaves}
@@ -137,8 +137,8 @@ module _ (b : BookValue) (w : ℕ) (tiling : IsTiling b.problem b.branch b.first
   same_seat : (x : WorkerValue) (c : Call) → HasTile (outcome b w c).tiles x → IsSeat b w (Some x) → IsSeat (book_step b w c) w (Some x)
   same_seat x c h k = (k.0, record { problem = k.1.problem; tile = h })
 
-  pub turn_keeps : (x : Option WorkerValue) (a : Act) → IsSeat b w x → Keeps w (turn b x w a)
-  unfolding turn
+  pub turn_keeps : (x : Option WorkerValue) (a : Act) → IsSeat b w x → Keeps w (turn_of b x w a)
+  unfolding turn_of
   turn_keeps None Step k = tt
   turn_keeps None Back k = tt
   turn_keeps None (Lease id) k = lease_seat b w tiling wanted.Waiting id
@@ -185,8 +185,8 @@ module _ (b : BookValue) (w v : ℕ) (y : WorkerValue) (other : v ≡ w → ⊥)
   end_left : (x : WorkerValue) (e : Ending) → IsSeat b w (Some x) → IsSeat (book_step b x.grant.worker (end_call e x.grant)) v (Some y)
   end_left x e h = left x.grant.worker (end_call e x.grant) (end_leaves b x.grant.worker y k.1.tile x.grant (not_own x h.0) e)
 
-  leaves : (x : Option WorkerValue) (a : Act) → IsSeat b w x → Leaves (turn b x w a)
-  unfolding turn
+  leaves : (x : Option WorkerValue) (a : Act) → IsSeat b w x → Leaves (turn_of b x w a)
+  unfolding turn_of
   leaves None Step h = k
   leaves None Back h = k
   leaves None (Lease id) h = left w (call.Lease id) (lease_leaves b w y k.1.tile wanted.Waiting id)
@@ -222,7 +222,7 @@ module _ (b : BookValue) (w v : ℕ) (y : WorkerValue) (other : v ≡ w → ⊥)
   leaves (Some x) (RequestStop id) h = left w (call.RequestStop id) (stop_leaves b w y k.1.tile id)
 
 pub turn_leaves : (b : BookValue) (w v : ℕ) (x y : Option WorkerValue) (a : Act) → (v ≡ w → ⊥) → IsSeat b w x → IsSeat b v y
-    → IsSeat (turn b x w a).book v y
+    → IsSeat (turn_of b x w a).book v y
 turn_leaves b w v x None a other h k = tt
 turn_leaves b w v x (Some y) a other h k = leaves b w v y other k x a h
 
@@ -231,7 +231,7 @@ turn_leaves b w v x (Some y) a other h k = leaves b w v y other k x a h
 pub world_keeps : (v : WorldValue) (e : WorldEvent) → IsTiling v.book.problem v.book.branch v.book.first v.book.tiles
     → e.worker < length v.workers → IsWorld v → IsWorld (world_step v e).world
 world_keeps v e tiling l k =
-    let t = turn v.book (worker_at v.workers e.worker) e.worker e.act in
+    let t = turn_of v.book (worker_at v.workers e.worker) e.worker e.act in
     let long = length-set v.workers e.worker t.worker in
     record {
       some = let a = k.some in omega arith;
@@ -242,11 +242,11 @@ world_keeps v e tiling l k =
     by : (u : ℕ) → u < length v.workers → (((u == e.worker) ≡ true) × (u ≡ e.worker)) ⊎ (((u == e.worker) ≡ false) × (u ≡ e.worker → ⊥))
         → IsSeat (world_step v e).world.book u (worker_at (world_step v e).world.workers u)
     by u m (inl h) =
-        let t = turn v.book (worker_at v.workers e.worker) e.worker e.act in
+        let t = turn_of v.book (worker_at v.workers e.worker) e.worker e.act in
         subst (λ (i : ℕ). IsSeat t.book i (worker_at (world_step v e).world.workers i)) (sym h.1)
         (subst (IsSeat t.book e.worker) (sym (get_or-set_same v.workers e.worker t.worker None l))
         (turn_keeps v.book e.worker tiling (worker_at v.workers e.worker) e.act (k.holds e.worker l)))
     by u m (inr h) =
-        let t = turn v.book (worker_at v.workers e.worker) e.worker e.act in
+        let t = turn_of v.book (worker_at v.workers e.worker) e.worker e.act in
         subst (IsSeat t.book u) (sym (get_or-set_other v.workers e.worker u t.worker None h.1))
         (turn_leaves v.book e.worker u (worker_at v.workers e.worker) (worker_at v.workers u) e.act h.1 (k.holds e.worker l) (k.holds u m))

@@ -5,16 +5,16 @@ use Rattle.x_steps.specs.declared.state.Label.TheVariants.{X2}
 use Rattle.x_steps.specs.declared.state.Cursor.TheVariants as cursor
 use Rattle.x_steps.specs.StateValue.{StateValue, at, start}
 use Rattle.x_branches.specs.Runner.{runner_at}
-use Rattle.lab_book.specs.declared.entry.Call.TheVariants as call
-use Rattle.lab_book.specs.declared.entry.Reply.TheVariants as reply
+use Rattle.lab_history.specs.declared.entry.Call.TheVariants as call
+use Rattle.lab_history.specs.declared.entry.Reply.TheVariants as reply
 use Rattle.lab_book.specs.Book.{BookValue, new_book, outcome, book_step}
 use Rattle.lab_world.specs.declared.event.Act.{Act}
 use Rattle.lab_world.specs.declared.event.Act.TheVariants.{LeaseAny, Park}
 use Rattle.lab_world.specs.declared.event.WorldEvent.{WorldEvent}
 use Rattle.lab_world.specs.declared.event.WorldReply.TheVariants.{Book, Idle, Busy}
-use Rattle.lab_world.specs.declared.worker.leasing.Wanted.TheVariants as wanted
+use Rattle.lab_world.specs.declared.worker.leases.Wanted.TheVariants as wanted
 use Rattle.lab_world.specs.Worker.{WorkerValue, leased_by, moved_to, marked_at, unposted, wanted_place, after_post, after_end}
-use Rattle.lab_world.specs.World.{turn, fresh, played, world_replies, state_of}
+use Rattle.lab_world.specs.World.{turn_of, new_world, played, world_replies, worker_state}
 use Rattle.lab_world.specs.Alone.{Leads}
 
 -- the book of the whole run
@@ -67,20 +67,20 @@ by_one act = record { worker = 1; act = act }
 abbrev events : List WorldEvent
 events = by_one Park ∷ by_one LeaseAny ∷ by_one LeaseAny ∷ []
 
-replies : world_replies (fresh whole 2) events ≡ Idle ∷ Book 0 ∷ Busy ∷ []
-unfolding turn outcome
+replies : world_replies (new_world whole 2) events ≡ Idle ∷ Book 0 ∷ Busy ∷ []
+unfolding turn_of outcome
 replies = refl
 
-one_stands : state_of (played (fresh whole 2) events) 1 ≡ Some start
-unfolding turn outcome
+one_stands : worker_state (played (new_world whole 2) events) 1 ≡ Some start
+unfolding turn_of outcome
 one_stands = refl
 
-zero_has_none : state_of (played (fresh whole 2) events) 0 ≡ None
-unfolding turn outcome
+zero_has_none : worker_state (played (new_world whole 2) events) 0 ≡ None
+unfolding turn_of outcome
 zero_has_none = refl
 
 -- ---- specs/Alone.antt
 
 one_leases : Leads whole None (LeaseAny ∷ []) (book_step whole 0 call.LeaseAny) (Some at_start)
-unfolding turn outcome
+unfolding turn_of outcome
 one_leases = refl

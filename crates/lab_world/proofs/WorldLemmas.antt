@@ -11,7 +11,7 @@ use Rattle.lab_world.proofs.TurnLemmas.{world_keeps}
 use Rattle.lab_world.specs.declared.event.WorldEvent.{WorldEvent}
 use Rattle.lab_world.specs.declared.event.WorldReply.{WorldReply}
 use Rattle.lab_world.specs.Worker.{WorkerValue}
-use Rattle.lab_world.specs.World.{WorldValue, Turned, turn, worker_at, world_step, played, world_replies, IsSeat, IsWorld}
+use Rattle.lab_world.specs.World.{WorldValue, Turned, turn_of, worker_at, world_step, played, world_replies, IsSeat, IsWorld}
 
 -- ---- folds
 
@@ -43,7 +43,7 @@ pub plays_more : (v : WorldValue) (es : List WorldEvent) (i : ℕ) (e : WorldEve
     → Plays v es (i + 1) u (rs ++ r ∷ [])
 plays_more v es i e w u rs r p l g a b =
     let more : take (i + 1) es ≡ take i es ++ e ∷ [] = take_more es i e l ∙ ap (λ (x : WorldEvent). take i es ++ x ∷ []) (sym g) in
-    let long = length-set w.workers e.worker (turn w.book (worker_at w.workers e.worker) e.worker e.act).worker in
+    let long = length-set w.workers e.worker (turn_of w.book (worker_at w.workers e.worker) e.worker e.act).worker in
     let k = ap (λ (v : WorldValue). length v.workers) b in
     let m = p.workers in
     let c = length-push rs r in
@@ -87,7 +87,7 @@ fresh_is_world b n ws e some few =
 
 -- an event leaves what its turn says
 pub happened : (v : WorldValue) (e : WorldEvent) (b : BookValue) (ws : List (Option WorkerValue)) (r : WorldReply) (x : Option WorkerValue)
-    → Turned (turn v.book (worker_at v.workers e.worker) e.worker e.act) r b x → ws ≡ set v.workers e.worker x
+    → Turned (turn_of v.book (worker_at v.workers e.worker) e.worker e.act) r b x → ws ≡ set v.workers e.worker x
     → record { book = b; workers = ws } ≡ (world_step v e).world
 happened v e b ws r x t s = ap₂ (λ (b : BookValue) (ws : List (Option WorkerValue)). record { book = b; workers = ws }) t.book
     (s ∙ ap (set v.workers e.worker) t.worker)
@@ -95,7 +95,7 @@ happened v e b ws r x t s = ap₂ (λ (b : BookValue) (ws : List (Option WorkerV
 -- an event leaves a world
 pub happened_is_world : {E : Type 0} (v : WorldValue) (e : WorldEvent) (r : Result WorldReply E) (b : BookValue)
     (ws : List (Option WorkerValue)) (x : Option WorkerValue) → IsTiling v.book.problem v.book.branch v.book.first v.book.tiles
-    → e.worker < length v.workers → IsWorld v → IfOk r (λ y. Turned (turn v.book (worker_at v.workers e.worker) e.worker e.act) y b x)
+    → e.worker < length v.workers → IsWorld v → IfOk r (λ y. Turned (turn_of v.book (worker_at v.workers e.worker) e.worker e.act) y b x)
     → OnErr r (b ≡ v.book) → OnErr r (x ≡ worker_at v.workers e.worker) → ws ≡ set v.workers e.worker x
     → IsWorld (record { book = b; workers = ws })
 happened_is_world v e (Ok y) b ws x tiling l k t f g s = subst IsWorld (sym (happened v e b ws y x t s)) (world_keeps v e tiling l k)
@@ -107,12 +107,12 @@ happened_is_world v e (Err y) b ws x tiling l k t f g s =
 pub happened_here : {E : Type 0} (v : WorldValue) (e : WorldEvent) (r : Result WorldReply E) (b : BookValue)
     (ws : List (Option WorkerValue)) (x old : Option WorkerValue) → old ≡ get_or v.workers e.worker old
     → IsTiling v.book.problem v.book.branch v.book.first v.book.tiles → e.worker < length v.workers → IsWorld v
-    → IfOk r (λ y. Turned (turn v.book old e.worker e.act) y b x) → OnErr r (b ≡ v.book) → OnErr r (x ≡ old) → ws ≡ set v.workers e.worker x
+    → IfOk r (λ y. Turned (turn_of v.book old e.worker e.act) y b x) → OnErr r (b ≡ v.book) → OnErr r (x ≡ old) → ws ≡ set v.workers e.worker x
     → IsWorld (record { book = b; workers = ws })
 happened_here v e r b ws x old read tiling l k t f g s =
     let here : old ≡ worker_at v.workers e.worker = read ∙ get_or_default v.workers e.worker old None l in
     happened_is_world v e r b ws x tiling l k
-    (subst (λ (o : Option WorkerValue). IfOk r (λ y. Turned (turn v.book o e.worker e.act) y b x)) here t) f
+    (subst (λ (o : Option WorkerValue). IfOk r (λ y. Turned (turn_of v.book o e.worker e.act) y b x)) here t) f
     (subst (λ (o : Option WorkerValue). OnErr r (x ≡ o)) here g) s
 
 all_taken : (es : List WorldEvent) (n : ℕ) → length es ≤ n → take n es ≡ es

@@ -15,16 +15,16 @@ use Rattle.x_branches.specs.Untried.{with_choice}
 use Rattle.x_branches.specs.Refusals.{cut_at, untried_in, CutRefused}
 use Rattle.lab_book.specs.declared.status.Status.{Status}
 use Rattle.lab_book.specs.declared.status.Status.TheVariants as status
-use Rattle.lab_book.specs.declared.lease.Grant.{Grant}
-use Rattle.lab_book.specs.declared.fault.BookFault.{BookFault}
-use Rattle.lab_book.specs.declared.fault.BookFault.TheVariants.{OutOfMemory}
-use Rattle.lab_book.specs.declared.entry.Reply.{Reply}
-use Rattle.lab_book.specs.declared.entry.Reply.TheVariants as reply
+use Rattle.lab_history.specs.declared.grant.Grant.{Grant}
+use Rattle.lab_history.specs.declared.fault.BookFault.{BookFault}
+use Rattle.lab_history.specs.declared.fault.BookFault.TheVariants.{OutOfMemory}
+use Rattle.lab_history.specs.declared.entry.Reply.{Reply}
+use Rattle.lab_history.specs.declared.entry.Reply.TheVariants as reply
 use Rattle.lab_book.specs.Tile.{TileValue, mark_of, is_waiting, is_held}
 use Rattle.lab_book.specs.Tiling.{tile_at}
 use Rattle.lab_book.specs.Book.{BookValue, outcome, book_step, found, status_fault, first_waiting}
-use Rattle.lab_book.specs.declared.entry.Call.{Call}
-use Rattle.lab_book.specs.declared.entry.Call.TheVariants as call
+use Rattle.lab_history.specs.declared.entry.Call.{Call}
+use Rattle.lab_history.specs.declared.entry.Call.TheVariants as call
 use Rattle.lab_book.specs.declared.lease.Posted.{Posted}
 use Rattle.lab_book.specs.Calls.{Refuses, Posts, PostRefused}
 use Rattle.x_steps.specs.declared.event.Event.{Event}
@@ -33,10 +33,10 @@ use Rattle.x_steps.specs.Before.{prev}
 use Rattle.x_steps.specs.Run.{after}
 use Rattle.x_steps.specs.Walk.{last_event, OnlyMoves}
 use Rattle.x_branches.specs.declared.fault.RunnerFault.TheVariants.{NotAtMark}
-use Rattle.lab_world.specs.declared.worker.ending.Ending.{Ending}
-use Rattle.lab_world.specs.declared.worker.ending.Ending.TheVariants.{Park, Abandon, Close}
-use Rattle.lab_world.specs.declared.worker.leasing.Wanted.{Wanted}
-use Rattle.lab_world.specs.declared.worker.leasing.Wanted.TheVariants as wanted
+use Rattle.lab_world.specs.declared.worker.ends.Ending.{Ending}
+use Rattle.lab_world.specs.declared.worker.ends.Ending.TheVariants.{Park, Abandon, Close}
+use Rattle.lab_world.specs.declared.worker.leases.Wanted.{Wanted}
+use Rattle.lab_world.specs.declared.worker.leases.Wanted.TheVariants as wanted
 use Rattle.lab_world.specs.declared.fault.WorkerFault.{WorkerFault}
 use Rattle.lab_world.specs.declared.fault.WorkerFault.TheVariants.{Runner, Book}
 
@@ -124,8 +124,8 @@ pub record StandsAtFirst (b : BookValue) (r : RunnerValue) : Type 0 where
   pub runner : r ≡ runner_at b.problem (tile_at b.tiles place).branch (mark_of (tile_at b.tiles place))
 
 -- a problem's cut, by its choices
-abbrev pub cut_of : ProblemValue → Option (List ℕ) → Option CutPath
-cut_of p path = option_map (λ (q : List ℕ). record { problem = p; path = q }) path
+abbrev pub cut_along : ProblemValue → Option (List ℕ) → Option CutPath
+cut_along p path = option_map (λ (q : List ℕ). record { problem = p; path = q }) path
 
 -- the call by which a lease is ended
 abbrev pub end_call : Ending → Grant → Call
@@ -136,7 +136,7 @@ end_call Close g = call.Close g
 -- the worker that is leased a tile, by the book's answer
 abbrev pub lent_worker : ProblemValue → Reply → Option WorkerValue
 lent_worker p (reply.Leased g lo hi mark waiting) =
-    Some (record { grant = g; runner = runner_at p (record { lo = cut_of p lo; hi = cut_of p hi }) mark })
+    Some (record { grant = g; runner = runner_at p (record { lo = cut_along p lo; hi = cut_along p hi }) mark })
 lent_worker p r = None
 
 -- the worker that a call of the book leases a tile to, if it does

@@ -1,5 +1,5 @@
 -- A world (`WorldValue`): a book, and for each worker nothing or its lease with its runner. What a worker's act makes of the book and of its
--- seat (`turn`), what an event (`world_step`) and many (`played`) make of a world, and what is true of every world (`IsWorld`).
+-- seat (`turn_of`), what an event (`world_step`) and many (`played`) make of a world, and what is true of every world (`IsWorld`).
 --
 -- An event is one worker's: it changes the book and that worker's seat alone.
 --
@@ -21,9 +21,9 @@ use Rattle.x_branches.specs.Branch.{end_of}
 use Rattle.x_branches.specs.Runner.{RunnerValue, unposted_steps}
 use Rattle.x_branches.specs.Refusals.{most_steps, untried_in, cut_at}
 use Rattle.x_branches.specs.Untried.{left_above, with_choice}
-use Rattle.lab_book.specs.declared.entry.Call.{Call}
-use Rattle.lab_book.specs.declared.entry.Call.TheVariants as call
-use Rattle.lab_book.specs.declared.entry.Reply.{Reply}
+use Rattle.lab_history.specs.declared.entry.Call.{Call}
+use Rattle.lab_history.specs.declared.entry.Call.TheVariants as call
+use Rattle.lab_history.specs.declared.entry.Reply.{Reply}
 use Rattle.lab_book.specs.States.{same_state}
 use Rattle.lab_book.specs.Book.{BookValue, outcome, book_step}
 use Rattle.lab_book.specs.Calls.{post_of}
@@ -31,10 +31,10 @@ use Rattle.lab_world.specs.declared.event.Act.{Act}
 use Rattle.lab_world.specs.declared.event.Act.TheVariants.{Step, Back, Lease, LeaseAny, TakeHeld, Post, Split, Retract, Park, Abandon}
 use Rattle.lab_world.specs.declared.event.Act.TheVariants.{Close, PutBack, RequestStop}
 use Rattle.lab_world.specs.declared.event.WorldEvent.{WorldEvent}
-use Rattle.lab_world.specs.declared.worker.ending.Ending.{Ending}
-use Rattle.lab_world.specs.declared.worker.ending.Ending.TheVariants as ending
-use Rattle.lab_world.specs.declared.worker.leasing.Wanted.{Wanted}
-use Rattle.lab_world.specs.declared.worker.leasing.Wanted.TheVariants as wanted
+use Rattle.lab_world.specs.declared.worker.ends.Ending.{Ending}
+use Rattle.lab_world.specs.declared.worker.ends.Ending.TheVariants as ending
+use Rattle.lab_world.specs.declared.worker.leases.Wanted.{Wanted}
+use Rattle.lab_world.specs.declared.worker.leases.Wanted.TheVariants as wanted
 use Rattle.lab_world.specs.declared.event.WorldReply.{WorldReply}
 use Rattle.lab_world.specs.declared.event.WorldReply.TheVariants.{Event, Runner, Book, Idle, Busy}
 use Rattle.lab_world.specs.Worker.{WorkerValue, HoldsTile, moved_to, unposted, split_call, lent_worker, after_post}
@@ -113,20 +113,20 @@ retracting b x =
     stays b (Some x) (Runner NotAtMark)
 
 -- what worker w's act makes of a book and of its seat
-unfoldable pub turn : BookValue → Option WorkerValue → ℕ → Act → Turn
-turn b x w Step = if_working b x (stepped b)
-turn b x w Back = if_working b x (stepped_back b)
-turn b x w (Lease id) = leasing b w x (call.Lease id)
-turn b x w LeaseAny = leasing b w x call.LeaseAny
-turn b x w (TakeHeld id) = leasing b w x (call.TakeHeld id)
-turn b x w Post = if_working b x (λ y. called b y.grant.worker (post_of b.problem y.grant (unposted y)) (after_post y))
-turn b x w (Split level o) = if_working b x (splitting b level o)
-turn b x w Retract = if_working b x (retracting b)
-turn b x w Park = if_working b x (λ y. called b y.grant.worker (call.Park y.grant) (after_end y))
-turn b x w Abandon = if_working b x (λ y. called b y.grant.worker (call.Abandon y.grant) (after_end y))
-turn b x w Close = if_working b x (λ y. called b y.grant.worker (call.Close y.grant) (after_end y))
-turn b x w (PutBack id s) = called b w (call.PutBack id s) (λ r. x)
-turn b x w (RequestStop id) = called b w (call.RequestStop id) (λ r. x)
+unfoldable pub turn_of : BookValue → Option WorkerValue → ℕ → Act → Turn
+turn_of b x w Step = if_working b x (stepped b)
+turn_of b x w Back = if_working b x (stepped_back b)
+turn_of b x w (Lease id) = leasing b w x (call.Lease id)
+turn_of b x w LeaseAny = leasing b w x call.LeaseAny
+turn_of b x w (TakeHeld id) = leasing b w x (call.TakeHeld id)
+turn_of b x w Post = if_working b x (λ y. called b y.grant.worker (post_of b.problem y.grant (unposted y)) (after_post y))
+turn_of b x w (Split level o) = if_working b x (splitting b level o)
+turn_of b x w Retract = if_working b x (retracting b)
+turn_of b x w Park = if_working b x (λ y. called b y.grant.worker (call.Park y.grant) (after_end y))
+turn_of b x w Abandon = if_working b x (λ y. called b y.grant.worker (call.Abandon y.grant) (after_end y))
+turn_of b x w Close = if_working b x (λ y. called b y.grant.worker (call.Close y.grant) (after_end y))
+turn_of b x w (PutBack id s) = called b w (call.PutBack id s) (λ r. x)
+turn_of b x w (RequestStop id) = called b w (call.RequestStop id) (λ r. x)
 
 -- the act that leases a tile by its id
 abbrev pub lease_act : Wanted → ℕ → Act
@@ -147,20 +147,20 @@ pub record Turned (t : Turn) (r : WorldReply) (b : BookValue) (x : Option Worker
 
 -- worker w's act makes this of a book and of its seat, unless memory ran out
 abbrev pub Acts : {E : Type 0} → Result WorldReply E → ℕ → Act → BookValue → BookValue → Option WorkerValue → Option WorkerValue → Type 0
-Acts result w act old new seat seat_new = IfOk result (λ r. Turned (turn old seat w act) r new seat_new)
+Acts result w act old new seat seat_new = IfOk result (λ r. Turned (turn_of old seat w act) r new seat_new)
 
 -- and so does any worker's, whichever its number
 abbrev pub AnyActs : {E : Type 0} → Result WorldReply E → Act → BookValue → BookValue → Option WorkerValue → Option WorkerValue → Type 0
-AnyActs result act old new seat seat_new = IfOk result (λ r. (w : ℕ) → Turned (turn old seat w act) r new seat_new)
+AnyActs result act old new seat seat_new = IfOk result (λ r. (w : ℕ) → Turned (turn_of old seat w act) r new seat_new)
 
 -- worker w's act makes this of a book, and leaves its seat as it is, whatever sits there, unless memory ran out
 abbrev pub ActsAside : {E : Type 0} → Result WorldReply E → ℕ → Act → BookValue → BookValue → Type 0
-ActsAside result w act old new = IfOk result (λ r. (x : Option WorkerValue) → Turned (turn old x w act) r new x)
+ActsAside result w act old new = IfOk result (λ r. (x : Option WorkerValue) → Turned (turn_of old x w act) r new x)
 
 -- where a reply names an entry of a book's history, it is there
-abbrev pub IsNoted : BookValue → WorldReply → Type 0
-IsNoted b (Book i) = i < length b.history
-IsNoted b r = Unit {0}
+abbrev pub IsInHistory : BookValue → WorldReply → Type 0
+IsInHistory b (Book i) = i < length b.history
+IsInHistory b r = Unit {0}
 
 -- ---- worlds
 
@@ -175,7 +175,7 @@ happening_of ws w t = record { reply = t.reply; world = record { book = t.book; 
 
 -- what event e makes of world v: the turn of the worker that it names, with the act that it names
 abbrev pub world_step : WorldValue → WorldEvent → Happening
-world_step v e = happening_of v.workers e.worker (turn v.book (worker_at v.workers e.worker) e.worker e.act)
+world_step v e = happening_of v.workers e.worker (turn_of v.book (worker_at v.workers e.worker) e.worker e.act)
 
 -- the fold of events
 abbrev pub played : WorldValue → List WorldEvent → WorldValue
@@ -194,7 +194,7 @@ IsSeat b w (Some x) = (x.grant.worker ≡ w) × HoldsTile b x
 
 -- a worker's act makes this of its seat alone, whatever the book is, and whichever the worker's number, unless memory ran out
 abbrev pub ActsAlone : {E : Type 0} → Result WorldReply E → Act → Option WorkerValue → Option WorkerValue → Type 0
-ActsAlone result act seat seat_new = IfOk result (λ r. (b : BookValue) (w : ℕ) → Turned (turn b seat w act) r b seat_new)
+ActsAlone result act seat seat_new = IfOk result (λ r. (b : BookValue) (w : ℕ) → Turned (turn_of b seat w act) r b seat_new)
 
 -- each worker of a world that has a lease holds its tile
 abbrev pub EachHolds : WorldValue → Type 0
@@ -207,12 +207,12 @@ pub record IsWorld (v : WorldValue) : Type 0 where
   pub holds : (w : ℕ) → w < length v.workers → IsSeat v.book w (worker_at v.workers w)
 
 -- a world whose workers have no tile
-abbrev pub fresh : BookValue → ℕ → WorldValue
-fresh b n = record { book = b; workers = replicate n None }
+abbrev pub new_world : BookValue → ℕ → WorldValue
+new_world b n = record { book = b; workers = replicate n None }
 
 -- where a worker stands
-abbrev pub state_of : WorldValue → ℕ → Option StateValue
-state_of v w = option_map (λ (x : WorkerValue). x.runner.position) (worker_at v.workers w)
+abbrev pub worker_state : WorldValue → ℕ → Option StateValue
+worker_state v w = option_map (λ (x : WorkerValue). x.runner.position) (worker_at v.workers w)
 
 -- where worker w of a world has a tile, these items are covered where it stands
 abbrev pub AreCovered : WorldValue → ℕ → List ℕ → Type 0

@@ -1,10 +1,10 @@
 //! What one worker's act makes of the book and of its seat.
 ghost use Rattle.std.specs.Prelude.{◌≡◌, ◌≤◌, ℕ, length, IfOk, OnErr};
 ghost use Rattle.lab_book.specs.Book.{BookValue};
-ghost use Rattle.lab_book.specs.declared.fault.BookFault.TheVariants as faults;
+ghost use Rattle.lab_history.specs.declared.fault.BookFault.TheVariants as faults;
 ghost use Rattle.lab_world.specs.declared.event.Act.TheVariants as acts;
 ghost use Rattle.lab_world.specs.declared.event.WorldReply.TheVariants as replies;
-ghost use Rattle.lab_world.specs.World.{Turned, IsSeat, IsNoted, turn, lease_act, end_act, Acts, AnyActs, ActsAside, ActsAlone};
+ghost use Rattle.lab_world.specs.World.{Turned, IsSeat, IsInHistory, turn_of, lease_act, end_act, Acts, AnyActs, ActsAside, ActsAlone};
 
 use crate::event::{Act, Target, WorldReply};
 use crate::fault::WorkerFault;
@@ -22,6 +22,7 @@ fn refused(index: u64, fault: &BookFault) -> Result<WorldReply, AllocError>
     ensures memory { OnErr result (fault.now ≡ faults.OutOfMemory) }
 {
     match fault {
+        // Such a call left no entry, so there is no index to answer.
         BookFault::OutOfMemory => Err(AllocError),
         _ => Ok(WorldReply::Book(index)),
     }
@@ -62,11 +63,12 @@ fn step<T: Table>(seat: &mut Option<Worker<'_, T>>) -> Result<WorldReply, AllocE
 
 /// A step back.
 fn back<T: Table>(seat: &mut Option<Worker<'_, T>>) -> WorldReply
-    ensures { (b : BookValue) (w : ℕ) → Turned (turn b seat.old w Act.Back) result b seat.new }
+    ensures { (b : BookValue) (w : ℕ) → Turned (turn_of b seat.old w Act.Back) result b seat.new }
 {
     let Some(worker) = seat else {
         return WorldReply::Idle;
     };
+    // No memory is asked for: its path only gets shorter.
     match worker.back() {
         Ok(()) => WorldReply::Event(Event::Moved),
         Err(fault) => WorldReply::Runner(fault),
@@ -90,6 +92,7 @@ fn lease<'p, T: Table>(
     if seat.is_some() {
         return Ok(WorldReply::Busy);
     }
+    // Read before the call, whose entry will stand there.
     let index = next_index(book);
     match Worker::lease_wanted(alloc, book, w, id, wanted) {
         Ok(worker) => {
@@ -116,6 +119,7 @@ fn lease_any<'p, T: Table>(
         return Ok(WorldReply::Busy);
     }
     let index = next_index(book);
+    // That none waits has an entry too, and the seat stays empty.
     *seat = Worker::lease_any(alloc, book, w)?;
     Ok(WorldReply::Book(index))
 }
@@ -135,6 +139,7 @@ fn post<'p, T: Table>(
     let Some(worker) = seat else {
         return Ok(WorldReply::Idle);
     };
+    // A worker in its seat holds its tile, so no problems are compared.
     match worker.post_held(book) {
         Ok(_) => Ok(WorldReply::Book(index)),
         Err(fault) => refused(index, &fault),
@@ -158,6 +163,7 @@ fn retract<'p, T: Table>(
     };
     match worker.retract(book) {
         Ok(()) => Ok(WorldReply::Book(index)),
+        // The runner refuses for unposted steps alone, never for want of memory.
         Err(WorkerFault::Runner(fault)) => Ok(WorldReply::Runner(fault)),
         Err(WorkerFault::Book(fault)) => refused(index, &fault),
     }
@@ -198,6 +204,7 @@ fn end<'p, T: Table>(
     ensures unchanged { OnErr result (seat.new ≡ seat.old) }
 {
     let index = next_index(book);
+    // The call spends the lease, so the worker leaves its seat for it.
     let Some(worker) = seat.take() else {
         return Ok(WorldReply::Idle);
     };
@@ -205,6 +212,7 @@ fn end<'p, T: Table>(
         Ok(()) => return Ok(WorldReply::Book(index)),
         Err(refused) => refused,
     };
+    // Refused, it sits down again with all that it walked.
     *seat = Some(given);
     refused(index, &fault)
 }
@@ -262,6 +270,7 @@ fn perform<'p, T: Table>(
         Act::Park => end(book, seat, Ending::Park),
         Act::Abandon => end(book, seat, Ending::Abandon),
         Act::Close => end(book, seat, Ending::Close),
+        // These two are about any tile, and leave the seat alone.
         Act::PutBack { id, state } => put_back(book, w, *id, state),
         Act::RequestStop(id) => request_stop(book, w, *id),
     }
@@ -281,9 +290,10 @@ pub fn take_turn<'p, T: Table>(
     ensures book { OnErr result (book.new ≡ book.old) }
     ensures unchanged { OnErr result (seat.new ≡ seat.old) }
     ensures seat { IsSeat book.new w seat.new }
-    ensures noted { IfOk result (IsNoted book.new) }
+    ensures noted { IfOk result (IsInHistory book.new) }
     ensures same_problem { book.new.problem ≡ book.old.problem }
 {
+    // Tells that the tiles part the branch, on which the seat's clause rests.
     book.is_sound();
     perform(alloc, book, seat, w, act)
 }

@@ -9,15 +9,15 @@ ghost use Rattle.lab_book.specs.Book.{BookValue};
 ghost use Rattle.lab_world.specs.Worker.{HoldsTile, moved_forward, moved_forward_by, moved_backward, next_event, event_after, MovesOnly};
 ghost use Rattle.lab_world.specs.Alone.{StepsLead};
 
-mod ending;
-mod leasing;
-mod posting;
-mod splitting;
+mod ends;
+mod leases;
+mod posts;
+mod splits;
 
 use cover_problem::Table;
-pub(crate) use ending::Ending;
+pub(crate) use ends::Ending;
 use lab_book::{Grant, Lease};
-pub(crate) use leasing::Wanted;
+pub(crate) use leases::Wanted;
 use std::marker::Model;
 use x_branches::{Runner, RunnerFault};
 use x_steps::{Event, State, Walk};
@@ -38,6 +38,7 @@ impl<'p, T: Table> Model for Worker<'p, T> {
 
 impl<'p, T: Table> Drop for Worker<'p, T> {
     fn drop(self) {
+        // To end the lease is a call of the book, which isn't here and may refuse.
         let Worker { lease, runner: _ } = self;
         lease.discard();
     }
@@ -95,6 +96,7 @@ impl<'p, T: Table> Worker<'p, T> {
         ensures unchanged { OnErr result (self.new ≡ self.old) }
         ensures holds { (b : BookValue) → HoldsTile b self.old → HoldsTile b self.new }
     {
+        // The runner looks at its limits once for many steps, and not at each.
         self.runner.walk(most)
     }
 

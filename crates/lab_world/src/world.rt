@@ -7,7 +7,7 @@ ghost use Rattle.x_steps.specs.StateValue.{start};
 ghost use Rattle.x_branches.specs.Runner.{IsRunner};
 ghost use Rattle.x_branches.specs.Branch.{whole_run};
 ghost use Rattle.lab_book.specs.Book.{new_book, leased_in};
-ghost use Rattle.lab_world.specs.World.{WorldValue, world_step, played, world_replies, worker_at, fresh, state_of, EachHolds, AreCovered, Replied, Played, StoppedEarly};
+ghost use Rattle.lab_world.specs.World.{WorldValue, world_step, played, world_replies, worker_at, new_world, worker_state, EachHolds, AreCovered, Replied, Played, StoppedEarly};
 
 use crate::event::{WorldEvent, WorldReply};
 use crate::turn::take_turn;
@@ -22,6 +22,7 @@ use x_steps::State;
 #[derive(Drop)]
 pub struct World<'p, T: Table> {
     book: Book<'p>,
+    // A worker's number is its place, so that none is ever looked for.
     workers: Vec<Option<Worker<'p, T>>>,
 }
 
@@ -49,6 +50,7 @@ fn without_tiles<'p, T: Table>(
     ensures { IfOk result (λ seats. seats.items ≡ replicate workers None) }
 {
     let mut seats = Vec::with_capacity(alloc, workers as usize)?;
+    // All places are made now: no event takes memory for one later.
     for made in 0..workers {
         seats.push_reserved(None);
     }
@@ -60,7 +62,7 @@ impl<'p, T: Table> World<'p, T> {
     pub fn new(alloc: Global, problem: &'p Problem, workers: u8) -> Result<World<'p, T>, AllocError>
         requires some { 0 < workers }
         requires few { workers ≤ 32 }
-        ensures { Returns result (fresh (new_book problem.now whole_run start) workers) }
+        ensures { Returns result (new_world (new_book problem.now whole_run start) workers) }
     {
         let book = Book::new(alloc, problem)?;
         let workers = without_tiles(alloc, workers)?;
@@ -72,9 +74,10 @@ impl<'p, T: Table> World<'p, T> {
         requires some { 0 < workers }
         requires few { workers ≤ 32 }
         requires none_leased { leased_in book.tiles ≡ 0 }
-        ensures made { IfOk result (λ world. world ≡ fresh book.entry workers) }
+        ensures made { IfOk result (λ world. world ≡ new_world book.entry workers) }
         ensures given_back { IfErr result (λ given. given ≡ book.entry) }
     {
+        // A book can't be made again: it goes back to the caller.
         let Ok(workers) = without_tiles(alloc, workers) else {
             return Err(book);
         };
@@ -93,13 +96,14 @@ impl<'p, T: Table> World<'p, T> {
     pub fn workers(&self) -> u8
         ensures { result ≡ length self.now.workers }
     {
+        // There are at most 32 workers.
         self.workers.len() as u8
     }
 
     /// Where a worker stands, which is in its branch or at its end, at its mark or after it; None where it has no tile.
     pub fn state(&self, w: u8) -> Option<&State>
         requires { w < length self.now.workers }
-        ensures state { option_map (λ s. state_value s.now) result ≡ state_of self.now w }
+        ensures state { option_map (λ s. state_value s.now) result ≡ worker_state self.now w }
         ensures runner { IfSome (worker_at self.now.workers w) (λ x. IsRunner x.runner) }
     {
         match &self.workers[w as usize] {
@@ -129,6 +133,7 @@ impl<'p, T: Table> World<'p, T> {
         ensures unchanged { OnErr result (self.new ≡ self.old) }
     {
         let alloc = *self.workers.allocator();
+        // That the world stays sound rests on the tiling, which the book tells here.
         self.book.is_sound();
         take_turn(
             alloc,
@@ -158,6 +163,7 @@ impl<'p, T: Table> World<'p, T> {
         'playing: for event in events {
             match self.happen(event) {
                 Ok(reply) => replies.push_reserved(reply),
+                // An event without memory has no reply: how many there are tells where to go on.
                 Err(_) => return Err(PlayStopped { replies }),
             }
         }

@@ -29,6 +29,7 @@ impl<'p> Book<'p> {
         ensures whole { IfOk result (λ paths. IsFinished self.now → paths ≡ whole_visits self.now) }
     {
         let mut visits = Lists::new(*self.first.state().path.allocator());
+        // Tiles stand in the order of the run, so the visits of each come after those of all before it.
         for tile in self.tiles.list() {
             tile.add_visits(&mut visits)?;
         }
@@ -39,6 +40,7 @@ impl<'p> Book<'p> {
     fn count_calls(&self)
         ensures { posted_count self.now.tiles < 2 ^ 64 }
     {
+        // It is a number of 64 bits, and no post is without its entry.
         let _calls = self.history.len();
     }
 
@@ -49,6 +51,7 @@ impl<'p> Book<'p> {
         ensures whole { IsFinished self.now → result ≡ length (whole_visits self.now) }
     {
         self.count_calls();
+        // Fewer than 2 ^ 64 stretches with fewer than 2 ^ 64 visits each: the sum fits into 128 bits.
         let mut visited: u128 = 0;
         for tile in self.tiles.list() {
             visited += tile.visited();
@@ -78,10 +81,12 @@ impl<'p> Book<'p> {
     {
         self.count_calls();
         let alloc = *self.first.state().path.allocator();
+        // For all levels that the problem can have, since no stretch tells which is the last of all.
         let mut totals = no_totals(alloc, self.problem.items())?;
         for tile in self.tiles.list() {
             tile.add_levels(&mut totals);
         }
+        // The run's own levels end with the last one that was reached.
         drop_last_zeros(&mut totals);
         Ok(totals)
     }

@@ -15,6 +15,7 @@ impl<'p> Tile<'p> {
     {
         let mut visited: u128 = 0;
         for stretch in self.stretches() {
+            // A stretch counts in 64 bits, so that 2 ^ 64 of them can't fill 128.
             visited += stretch.visited() as u128;
         }
         visited

@@ -1,5 +1,5 @@
 use Rattle.std.proofs.Common.{◌≡◌, Some, None, sym, ap}
-use Rattle.lab_book.specs.declared.entry.Reply.TheVariants as reply
+use Rattle.lab_history.specs.declared.entry.Reply.TheVariants as reply
 use Rattle.lab_world.specs.Worker.{WorkerValue, end_call, after_end}
 use Rattle.lab_world.specs.World.{end_act}
 use Rattle.lab_world.specs.declared.event.WorldReply.TheVariants.{Book}

@@ -1,5 +1,5 @@
 use Rattle.std.proofs.Common.{refl, sym, ◌∙◌}
-use Rattle.lab_book.specs.declared.entry.Call.TheVariants as call
+use Rattle.lab_history.specs.declared.entry.Call.TheVariants as call
 use Rattle.lab_world.specs.Worker.{lent_worker}
 use Rattle.lab_world.specs.declared.event.Act.TheVariants.{LeaseAny}
 use Rattle.lab_world.proofs.EventLemmas.{busy_turned, lease_any_is, act_stepped}

@@ -1,7 +1,7 @@
 use Rattle.std.proofs.Common.{refl}
-use Rattle.lab_book.specs.declared.entry.Call.TheVariants as call
-use Rattle.lab_book.specs.declared.entry.Reply.{Reply}
-use Rattle.lab_book.specs.declared.entry.Reply.TheVariants as reply
+use Rattle.lab_history.specs.declared.entry.Call.TheVariants as call
+use Rattle.lab_history.specs.declared.entry.Reply.{Reply}
+use Rattle.lab_history.specs.declared.entry.Reply.TheVariants as reply
 use Rattle.lab_world.specs.declared.event.Act.TheVariants.{RequestStop}
 use Rattle.lab_world.specs.declared.event.WorldReply.TheVariants.{Book}
 use Rattle.lab_world.proofs.EventLemmas.{told, stop_is, act_made, act_refused}

@@ -1,5 +1,5 @@
 use Rattle.std.proofs.Common.{Some, refl, sym, ap}
-use Rattle.lab_book.specs.declared.entry.Call.TheVariants as call
+use Rattle.lab_history.specs.declared.entry.Call.TheVariants as call
 use Rattle.lab_world.specs.Worker.{WorkerValue, after_retract}
 use Rattle.lab_world.specs.declared.event.Act.TheVariants.{Retract}
 use Rattle.lab_world.specs.declared.event.WorldReply.TheVariants.{Book}

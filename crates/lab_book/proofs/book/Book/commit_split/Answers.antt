@@ -1,6 +1,6 @@
 use Rattle.std.proofs.Common.{◌≡◌, ◌++◌, ◌∷◌, ◌-◌, [], ap, sym, ◌∙◌}
-use Rattle.lab_book.specs.declared.entry.Entry.{Entry}
-use Rattle.lab_book.specs.declared.entry.Reply.TheVariants as replies
+use Rattle.lab_history.specs.declared.entry.Entry.{Entry}
+use Rattle.lab_history.specs.declared.entry.Reply.TheVariants as replies
 use Rattle.lab_book.proofs.SplitLemmas.{split_keeps}
 use Rattle.lab_book.proofs.book.Book.commit_split.Goals as goal
 

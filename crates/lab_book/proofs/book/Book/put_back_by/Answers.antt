@@ -1,8 +1,8 @@
 use Rattle.std.proofs.Common.{refl, ap, take, length}
 use Rattle.std.proofs.Math.ListN.{set}
 use Rattle.x_steps.specs.StateView.{state_value}
-use Rattle.lab_book.specs.declared.entry.Call.TheVariants as calls
-use Rattle.lab_book.specs.declared.entry.Reply.TheVariants as replies
+use Rattle.lab_history.specs.declared.entry.Call.TheVariants as calls
+use Rattle.lab_history.specs.declared.entry.Reply.TheVariants as replies
 use Rattle.lab_book.specs.Tiling.{tile_at}
 use Rattle.lab_book.specs.Book.{BookValue}
 use Rattle.lab_book.proofs.TileLemmas.{part_is_tile}

@@ -1,6 +1,6 @@
 use Rattle.std.proofs.Common.{refl, ap, ap₂, length}
-use Rattle.lab_book.specs.declared.entry.Call.TheVariants as calls
-use Rattle.lab_book.specs.declared.entry.Reply.TheVariants as replies
+use Rattle.lab_history.specs.declared.entry.Call.TheVariants as calls
+use Rattle.lab_history.specs.declared.entry.Reply.TheVariants as replies
 use Rattle.lab_book.specs.Tiling.{tile_at}
 use Rattle.lab_book.specs.Book.{BookValue, retracted_tile}
 use Rattle.lab_book.proofs.TileLemmas.{part_is_tile}

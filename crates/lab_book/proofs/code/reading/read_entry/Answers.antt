@@ -1,7 +1,0 @@
-use Rattle.std.proofs.Common.{refl}
-use Rattle.lab_book.specs.EntryCode.{entry_of}
-use Rattle.lab_book.proofs.code.reading.read_entry.Goals as goal
-
-pub returns : goal.returns
-unfolding entry_of
-returns c = rw (c.in_ok-reply.ensures, c.in_ok-call.ensures.call, c.in_ok-call.ensures.rest, c.worker-worker.ensures, c.number.ensures.number, c.number.ensures.rest) refl

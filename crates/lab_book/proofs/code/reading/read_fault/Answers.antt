@@ -1,7 +1,0 @@
-use Rattle.std.proofs.Common.{refl}
-use Rattle.lab_book.specs.EntryCode.{fault_of}
-use Rattle.lab_book.proofs.code.reading.read_fault.Goals as goal
-
-pub returns : goal.returns
-unfolding fault_of
-returns c = rw (c.in_ok-fault.ensures, c.number-kind.ensures.number, c.number-kind.ensures.rest) refl

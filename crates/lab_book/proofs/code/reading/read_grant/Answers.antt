@@ -1,7 +1,0 @@
-use Rattle.std.proofs.Common.{refl}
-use Rattle.lab_book.specs.EntryCode.{grant_of}
-use Rattle.lab_book.proofs.code.reading.read_grant.Goals as goal
-
-pub returns-clause-grant : goal.returns-clause-grant
-unfolding grant_of
-returns-clause-grant c = rw (c.worker-worker.ensures, c.number-index.ensures.number, c.number.ensures.number, c.number-id.ensures.number, c.number.ensures.rest, c.number-id.ensures.rest) refl

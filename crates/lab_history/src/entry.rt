@@ -1,0 +1,295 @@
+//! The entries of a history: who called what, and what was answered.
+ghost use Rattle.std.specs.Prelude.{◌≡◌, ◌↔◌, ◌++◌, IsTrue, IfOk, OnOk};
+ghost use Rattle.lab_history.specs.EntryCode.{entry_code, entry_of};
+ghost use Rattle.lab_history.specs.Kinds.{kind_of};
+ghost use Rattle.lab_history.specs.declared.entry.Call.TheVariants as calls;
+
+use crate::code::{put_entry, read_entry};
+use crate::fault::BookFault;
+use crate::grant::Grant;
+use crate::kind::CallKind;
+use crate::mark::{Mark, Path};
+use packed_rows::Row;
+use std::alloc::{AllocError, Global};
+
+/// A call, as the history keeps it: a stretch by its two states, a cut by its choices, each with whether its problem is the
+/// book's, and a lease by its parts.
+#[derive(Drop)]
+pub enum Call {
+    Lease(u64),
+    LeaseAny,
+    TakeHeld(u64),
+    Post {
+        lease: Grant,
+        from: Mark,
+        to: Mark,
+        same: bool,
+    },
+    Split {
+        lease: Grant,
+        path: Path,
+        same: bool,
+    },
+    Retract(Grant),
+    Park(Grant),
+    Abandon(Grant),
+    Close(Grant),
+    PutBack {
+        id: u64,
+        state: Mark,
+    },
+    RequestStop(u64),
+}
+
+/// An answer, as the history keeps it.
+#[derive(Drop)]
+pub enum Reply {
+    Leased {
+        lease: Grant,
+        lo: Option<Path>,
+        hi: Option<Path>,
+        mark: Mark,
+        waiting: u64,
+    },
+    NoneWaits,
+    Posted {
+        stop: bool,
+        waiting: u64,
+    },
+    Split(u64),
+    Retracted {
+        from: Mark,
+        to: Mark,
+    },
+    Done,
+    Refused(BookFault),
+}
+
+/// One entry of a history.
+#[derive(Drop)]
+pub struct Entry {
+    pub worker: u8,
+    pub call: Call,
+    pub reply: Reply,
+}
+
+impl Call {
+    /// Whether it is this post.
+    fn is_post(&self, lease: Grant, from: &Mark, to: &Mark, same: bool) -> bool
+        ensures { IsTrue result ↔ (self.now ≡ calls.Post lease from.now to.now same) }
+    {
+        match self {
+            Call::Post {
+                lease: my_lease,
+                from: my_from,
+                to: my_to,
+                same: my_same,
+            } => { *my_lease == lease && *my_same == same && my_from.same(from) && my_to.same(to) }
+            _ => false,
+        }
+    }
+
+    /// Whether it is this split.
+    fn is_split(&self, lease: Grant, path: &Path, same: bool) -> bool
+        ensures { IsTrue result ↔ (self.now ≡ calls.Split lease path.now same) }
+    {
+        match self {
+            Call::Split {
+                lease: my_lease,
+                path: my_path,
+                same: my_same,
+            } => *my_lease == lease && *my_same == same && my_path.same(path),
+            _ => false,
+        }
+    }
+
+    /// Whether it is this way back to a state.
+    fn is_put_back(&self, id: u64, state: &Mark) -> bool
+        ensures { IsTrue result ↔ (self.now ≡ calls.PutBack id state.now) }
+    {
+        match self {
+            Call::PutBack {
+                id: my_id,
+                state: my_state,
+            } => *my_id == id && my_state.same(state),
+            _ => false,
+        }
+    }
+
+    /// Whether it is the same call.
+    pub fn same(&self, other: &Call) -> bool
+        ensures { IsTrue result ↔ (self.now ≡ other.now) }
+    {
+        match (self, other) {
+            (Call::Lease(one), Call::Lease(other)) => one == other,
+            (Call::LeaseAny, Call::LeaseAny) => true,
+            (Call::TakeHeld(one), Call::TakeHeld(other)) => one == other,
+            (
+                Call::Post {
+                    lease,
+                    from,
+                    to,
+                    same,
+                },
+                other,
+            ) => other.is_post(*lease, from, to, *same),
+            (Call::Split { lease, path, same }, other) => other.is_split(*lease, path, *same),
+            (Call::Retract(one), Call::Retract(other)) => one == other,
+            (Call::Park(one), Call::Park(other)) => one == other,
+            (Call::Abandon(one), Call::Abandon(other)) => one == other,
+            (Call::Close(one), Call::Close(other)) => one == other,
+            (Call::PutBack { id, state }, other) => other.is_put_back(*id, state),
+            (Call::RequestStop(one), Call::RequestStop(other)) => one == other,
+            _ => false,
+        }
+    }
+
+    /// What kind of call it is.
+    pub fn kind(&self) -> CallKind
+        ensures { result ≡ kind_of self.now }
+    {
+        match self {
+            Call::Lease(_) => CallKind::Lease,
+            Call::LeaseAny => CallKind::LeaseAny,
+            Call::TakeHeld(_) => CallKind::TakeHeld,
+            Call::Post { .. } => CallKind::Post,
+            Call::Split { .. } => CallKind::Split,
+            Call::Retract(_) => CallKind::Retract,
+            Call::Park(_) => CallKind::Park,
+            Call::Abandon(_) => CallKind::Abandon,
+            Call::Close(_) => CallKind::Close,
+            Call::PutBack { .. } => CallKind::PutBack,
+            Call::RequestStop(_) => CallKind::RequestStop,
+        }
+    }
+}
+
+/// Whether two paths, if there are, are the same.
+fn are_same(one: &Option<Path>, other: &Option<Path>) -> bool
+    ensures { IsTrue result ↔ (one.now ≡ other.now) }
+{
+    match (one, other) {
+        (Some(one), Some(other)) => one.same(other),
+        (None, None) => true,
+        _ => false,
+    }
+}
+
+impl Reply {
+    /// Whether it is the same answer.
+    pub fn same(&self, other: &Reply) -> bool
+        ensures { IsTrue result ↔ (self.now ≡ other.now) }
+    {
+        match (self, other) {
+            (
+                Reply::Leased {
+                    lease,
+                    lo,
+                    hi,
+                    mark,
+                    waiting,
+                },
+                Reply::Leased {
+                    lease: other_lease,
+                    lo: other_lo,
+                    hi: other_hi,
+                    mark: other_mark,
+                    waiting: other_waiting,
+                },
+            ) => {
+                lease == other_lease
+                    && waiting == other_waiting
+                    && are_same(lo, other_lo)
+                    && are_same(hi, other_hi)
+                    && mark.same(other_mark)
+            }
+            (Reply::NoneWaits, Reply::NoneWaits) => true,
+            (
+                Reply::Posted { stop, waiting },
+                Reply::Posted {
+                    stop: other_stop,
+                    waiting: other_waiting,
+                },
+            ) => stop == other_stop && waiting == other_waiting,
+            (Reply::Split(one), Reply::Split(other)) => one == other,
+            (
+                Reply::Retracted { from, to },
+                Reply::Retracted {
+                    from: other_from,
+                    to: other_to,
+                },
+            ) => from.same(other_from) && to.same(other_to),
+            (Reply::Done, Reply::Done) => true,
+            (Reply::Refused(one), Reply::Refused(other)) => one.same(other),
+            _ => false,
+        }
+    }
+}
+
+impl Entry {
+    /// Whether it is the same entry.
+    pub fn same(&self, other: &Entry) -> bool
+        ensures { IsTrue result ↔ (self.now ≡ other.now) }
+    {
+        // The cheapest first: a reply may hold two paths and a state.
+        self.worker == other.worker && self.call.same(&other.call) && self.reply.same(&other.reply)
+    }
+
+    /// Adds its numbers to a row, from which the entry can be told again. Where memory runs out,
+    /// some of them may be there.
+    pub fn put(&self, row: &mut Row) -> Result<(), AllocError>
+        ensures code { OnOk result (row.new ≡ row.old ++ entry_code self.now) }
+        ensures reads { OnOk result (entry_of (entry_code self.now) ≡ self.now) }
+    {
+        put_entry(row, self)
+    }
+
+    /// Writes its numbers into a scratch row, and nothing else.
+    pub(crate) fn write(&self, row: &mut Row) -> Result<(), AllocError>
+        ensures told { OnOk result (entry_of row.new ≡ self.now) }
+        ensures code { OnOk result (row.new ≡ entry_code self.now) }
+    {
+        // The room of a scratch row stays, so that an entry that fitted once takes no memory again.
+        row.clear();
+        self.put(row)?;
+        Ok(())
+    }
+
+    /// A copy, made of its numbers.
+    pub(crate) fn copy(&self, alloc: Global) -> Result<Entry, AllocError>
+        ensures { IfOk result (λ entry. entry ≡ self.now) }
+    {
+        self.copy_by(alloc, &mut Row::new(alloc))
+    }
+
+    /// A copy, made of its numbers by a scratch row.
+    pub fn copy_by(&self, alloc: Global, row: &mut Row) -> Result<Entry, AllocError>
+        ensures { IfOk result (λ entry. entry ≡ self.now) }
+    {
+        self.write(row)?;
+        // By its numbers, so that copies and what is packed are made in one way.
+        let entry = read_entry(alloc, &mut row.reader())?;
+        Ok(entry)
+    }
+
+    /// Who called.
+    pub fn worker(&self) -> u8
+        ensures { result ≡ self.now.worker }
+    {
+        self.worker
+    }
+
+    /// What was called.
+    pub fn call(&self) -> &Call
+        ensures { result.now ≡ self.now.call }
+    {
+        &self.call
+    }
+
+    /// What was answered.
+    pub fn reply(&self) -> &Reply
+        ensures { result.now ≡ self.now.reply }
+    {
+        &self.reply
+    }
+}

@@ -1,0 +1,22 @@
+//! The history of a book of a search: the entries of calls with their answers, kept as rows of numbers, and who keeps a record beside
+//! it. No tile and no search is known here.
+#![tactic(auto)]
+
+mod code;
+mod entries;
+mod entry;
+mod fault;
+mod grant;
+mod history;
+mod kind;
+mod mark;
+mod scribe;
+
+pub use entries::Entries;
+pub use entry::{Call, Entry, Reply};
+pub use fault::BookFault;
+pub use grant::Grant;
+pub use history::History;
+pub use kind::CallKind;
+pub use mark::{Mark, Path};
+pub use scribe::{Scribe, Unnoted};

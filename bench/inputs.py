@@ -19,18 +19,18 @@ Equal pieces in three forms: NAME-named, all told apart; NAME-copies, equal ones
 that is used any number of times. The columns tell the X2 states of each form, and the packings where equal pieces count once:
 
     NAME                 what it is                                         named      copies       any  packings
-    blocks-3x3x3         six blocks 1 x 2 x 2 and three cubes             453,094       1,496       440         8
-    tetrominoes-8x5      two of each tetromino                          2,126,569     118,573   212,900     3,106
-    tetrominoes-10x4     the same                                       1,402,055      79,728   158,365     1,796
-    tetrominoes-5x4x2    the same, in space                            13,982,597     864,785 1,716,987    26,040
-    y-10x5               ten of the pentomino Y                                 -       1,012       129        10
-    l-8x6                twelve of the tetromino L                              -     255,763    22,526     4,340
-    p-10x6               twelve of the pentomino P                              -      45,384     7,600       808
-    dominoes-6x6         18 dominoes                                            -     120,498    25,695     6,728
-    blocks-holes         six blocks in 3 x 3 x 3, three holes             157,909       4,797         -         8
-    y-holes              five of Y in 6 x 5, five holes                   179,309      12,635         -       244
-    s-holes              seven of the tetromino S in 6 x 6, eight holes 74,918,505     311,073         -     3,160
-    x-holes              six of the pentomino X in 4 x 4 x 4           10,449,121      49,269         -    10,820
+    blocks-3x3x3         six blocks 1 x 2 x 2 and three cubes             453,094       1,059       389         8
+    tetrominoes-8x5      two of each tetromino                          2,126,569     122,811   228,200     3,106
+    tetrominoes-10x4     the same                                       1,402,055      78,429   161,365     1,796
+    tetrominoes-5x4x2    the same, in space                            13,982,597     867,720 1,781,371    26,040
+    y-10x5               ten of the pentomino Y                                 -         558       129        10
+    l-8x6                twelve of the tetromino L                              -      79,464    22,526     4,340
+    p-10x6               twelve of the pentomino P                              -      16,533     7,600       808
+    dominoes-6x6         18 dominoes                                            -      56,218    25,695     6,728
+    blocks-holes         six blocks in 3 x 3 x 3, three holes             157,909         984         -         8
+    y-holes              five of Y in 6 x 5, five holes                   179,309       4,389         -       244
+    s-holes              seven of the tetromino S in 6 x 6, eight holes 74,918,505     112,593         -     3,160
+    x-holes              six of the pentomino X in 4 x 4 x 4           10,449,121      42,681         -    10,820
     none-to-two-5x4      no, one or two of each tetromino (-copies alone)       -       3,860         -       270
 
 Forms marked - have packings without end or nobody waits for them; they can be made all the same.

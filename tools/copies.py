@@ -47,7 +47,7 @@ def ways_of(parts):
 
 def told_apart(found, puzzle):
     """The packings with a mark for each copy of a piece that is used any number of times, as Y1, Y2, .. Those of one symbol are
-    drawn alike, so which cells make a copy is found anew; of packings that look the same, each is given another way."""
+    drawn alike, so which cells make a copy is looked for; of packings that look the same, each is given another way."""
     pieces = [piece for piece in puzzle.pieces if piece.need == "any"]
     if not pieces:
         return found

@@ -149,13 +149,22 @@ def puzzle_of(path):
     return Puzzle(read_file(path or "-"))
 
 
+def starts(puzzle, piece):
+    """The cells of the region where the least cell of a piece may lie: from there on there is room for it and for the copies that follow it in
+    its line and have to be used."""
+    cells, spare = sorted(puzzle.region), {it.name for it in puzzle.pieces if it.need == "spare"}
+    after = sum(name not in spare for names in puzzle.equal if piece.name in names for name in names[names.index(piece.name) + 1:])
+    return cells[:max(0, len(cells) + 1 - (after + 1) * len(piece.cells))]
+
+
 def placements(puzzle, piece):
-    """Each set of cells of the region that a piece can fill, sorted. One of `maybe` or `any` fills a required cell."""
-    found = set()
+    """Each set of cells of the region that a piece can fill, sorted. One of `maybe` or `any` fills a required cell, and a copy leaves room for
+    those that follow."""
+    found, first = set(), {*starts(puzzle, piece)}
     for shape in turned(piece.cells, piece.mirror):
         for place in puzzle.region:
             put = shifted(shape, shape[0], place)
-            if all(spot in puzzle.region for spot in put):
+            if all(spot in puzzle.region for spot in put) and min(put) in first:
                 if piece.need in ("", "spare") or any(spot in puzzle.required for spot in put):
                     found.add(tuple(sorted(put)))
     return sorted(found)

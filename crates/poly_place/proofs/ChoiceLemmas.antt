@@ -1,5 +1,5 @@
 -- Which placements of a piece may be chosen, as the code tells it: by a table of the cells that have to be filled.
-use Rattle.std.proofs.Common.{◌≡◌, ℕ, List, [], ◌∷◌, ◌++◌, map, filter, Bool, true, false, cond, not, ◌||◌, sym, ap, ap₂, ◌∙◌, append-nil, append_assoc}
+use Rattle.std.proofs.Common.{◌≡◌, ◌<◌, ℕ, length, List, [], ◌∷◌, ◌++◌, map, filter, Bool, true, false, cond, not, ◌||◌, sym, ap, ap₂, ◌∙◌, append-nil, append_assoc}
 use Rattle.std.specs.List.{list_any}
 use Rattle.std.specs.Cmp.{both_ways as same_tests}
 use Rattle.std.proofs.lemmas.Bool.{and_parts}
@@ -9,8 +9,11 @@ use Rattle.poly_cells.specs.Coordinates.{Coordinates}
 use Rattle.poly_cells.specs.CellTests.{has_cell}
 use Rattle.poly_texts.specs.Puzzle.{PuzzleValue, is_needed}
 use Rattle.poly_cells.proofs.CellTestLemmas.{in_from_has, has_from_in}
-use Rattle.poly_place.specs.Tables.{IsTable, has_bit}
-use Rattle.poly_place.specs.Packings.{choice, must_fill, is_useful}
+use Rattle.poly_place.specs.Tables.{IsCellTable, has_bit}
+use Rattle.poly_cells.specs.Sets.{IsIn}
+use Rattle.poly_place.specs.Placements.{ArePlacements}
+use Rattle.poly_place.specs.Packings.{choice_with, must_fill, is_useful, first_cell}
+use Rattle.poly_place.proofs.PlaceLemmas.{first_in}
 use Rattle.poly_place.specs.Compiled.{filled_cells}
 use Rattle.poly_cells.proofs.MemberLemmas.{in_from_filter, in_filter, same_function}
 
@@ -21,13 +24,17 @@ filled_is p v =
     let parts = and_parts (has_cell p.region v) (not (has_cell p.maybe_cells v)) h in
     has_from_in (filled_cells p) v (in_filter (must_fill p) v p.region (in_from_has p.region v parts.0) h))
 
-meets_is : (p : PuzzleValue) (bits : List Bool) → IsTable (filled_cells p) bits → (vs : List Coordinates) → list_any (has_bit bits) vs ≡ list_any (must_fill p) vs
+meets_is : (p : PuzzleValue) (bits : List Bool) → IsCellTable (filled_cells p) bits → (vs : List Coordinates) → list_any (has_bit bits) vs ≡ list_any (must_fill p) vs
 meets_is p bits t vs = ap (λ (test : Coordinates → Bool). list_any test vs) (same_function (has_bit bits) (must_fill p) (λ v. t.same v ∙ filled_is p v))
 
 -- the code's test of a placement
-pub useful_is : (p : PuzzleValue) (bits : List Bool) (name : ℕ) (cells : List Coordinates) (needed : Bool) → IsTable (filled_cells p) bits
-    → needed ≡ is_needed p name → needed || list_any (has_bit bits) cells ≡ is_useful p (choice name cells)
+pub useful_is : (p : PuzzleValue) (bits : List Bool) (name : ℕ) (cells : List Coordinates) (needed : Bool) → IsCellTable (filled_cells p) bits
+    → needed ≡ is_needed p name → needed || list_any (has_bit bits) cells ≡ is_useful p (choice_with name cells)
 useful_is p bits name cells needed t e = ap₂ (λ a b. a || b) e (meets_is p bits t cells)
+
+-- the least cell of a placement lies in the region
+pub placed_first : (turns : List ℕ) (piece region : List Coordinates) (sets : List (List Coordinates)) (set : List Coordinates) → ArePlacements turns piece region sets → IsIn set sets → 0 < length set → IsIn (first_cell set) region
+placed_first turns piece region sets set are i some = (are.sound set i).1.inside (first_cell set) (first_in set some)
 
 -- ---- a list that is mapped and then filtered, one by one
 

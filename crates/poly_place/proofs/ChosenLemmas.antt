@@ -12,10 +12,11 @@ use Rattle.poly_cells.proofs.SortLemmas.{after_sort}
 use Rattle.poly_texts.specs.Puzzle.{PuzzleValue, IsPuzzle}
 use Rattle.cover_problem.specs.Lists.{has}
 use Rattle.cover_problem.specs.ExactCover.{IsExactCover}
-use Rattle.poly_place.specs.Packings.{IsPacking, StandsFor, choice_at, laying_count, packing_problem}
+use Rattle.poly_place.specs.Packings.{IsPacking, SetStandsFor, choice_at, laying_count, packing_problem}
 use Rattle.poly_place.specs.Chosen.{same_choice, is_among, ArePositive, laying, chosen_by}
 use Rattle.poly_place.proofs.DistinctLemmas.{in_from_name, name_from_in}
-use Rattle.poly_place.proofs.PackingLemmas.{same_choice_is, same_choice_itself, count_back, LaysWhat, stands_from, are_packings}
+use Rattle.poly_place.proofs.PackingLemmas.{same_choice_is, same_choice_itself, count_back, stands_from, are_packings}
+use Rattle.poly_place.proofs.StandLemmas.{LaysWhat}
 use Rattle.poly_cells.proofs.MemberLemmas.{some_passes, passes_some, in_filter, in_from_filter}
 
 pub nat_exact : IsExact nat_cmp
@@ -43,7 +44,7 @@ cover_lays p path e = record {
       (o.0, name_from_in path o.0 there.0, there.1, sym o.2 ∙ sym (same_choice_is c d.0 d.2));
 }
 
-pub cover_stands : (p : PuzzleValue) → IsPuzzle p → (path : List ℕ) → IsExactCover (packing_problem p) (has path) → StandsFor p (has path) (is_among (chosen_by p path))
+pub cover_stands : (p : PuzzleValue) → IsPuzzle p → (path : List ℕ) → IsExactCover (packing_problem p) (has path) → SetStandsFor p (has path) (is_among (chosen_by p path))
 cover_stands p z path e = stands_from p z (has path) (is_among (chosen_by p path)) (cover_lays p path e) e
 
 pub cover_packs : (p : PuzzleValue) → IsPuzzle p → (path : List ℕ) → IsExactCover (packing_problem p) (has path) → IsPacking p (is_among (chosen_by p path))

@@ -7,7 +7,7 @@ use Rattle.poly_cells.specs.Shapes.{IsShape, normal, turned}
 use Rattle.poly_cells.proofs.RegionLemmas.{symmetry_from_forms}
 use Rattle.poly_cells.proofs.SetLemmas.{rising_cons, rising_none}
 use Rattle.poly_place.specs.declared.alike.Group.TheVariants.{Rotations}
-use Rattle.poly_place.specs.Packings.{choice}
+use Rattle.poly_place.specs.Packings.{choice_with}
 use Rattle.poly_place.specs.Chosen.{PackingValue}
 use Rattle.poly_place.specs.Classes.{AreAlike, part_at}
 use Rattle.poly_place.specs.ClassCount.{image_in, carries, are_alike, class_count}
@@ -21,10 +21,10 @@ row = coordinates 0 0 0 ∷ coordinates 1 0 0 ∷ coordinates 2 0 0 ∷ []
 
 -- the packings of the row that read AAB and BAA
 abbrev left : PackingValue
-left = record { region = row; maybe_cells = []; placements = choice 65 (coordinates 0 0 0 ∷ coordinates 1 0 0 ∷ []) ∷ choice 66 (coordinates 2 0 0 ∷ []) ∷ []; symbols = [] }
+left = record { region = row; maybe_cells = []; placements = choice_with 65 (coordinates 0 0 0 ∷ coordinates 1 0 0 ∷ []) ∷ choice_with 66 (coordinates 2 0 0 ∷ []) ∷ []; symbols = [] }
 
 abbrev right : PackingValue
-right = record { region = row; maybe_cells = []; placements = choice 65 (coordinates 1 0 0 ∷ coordinates 2 0 0 ∷ []) ∷ choice 66 (coordinates 0 0 0 ∷ []) ∷ []; symbols = [] }
+right = record { region = row; maybe_cells = []; placements = choice_with 65 (coordinates 1 0 0 ∷ coordinates 2 0 0 ∷ []) ∷ choice_with 66 (coordinates 0 0 0 ∷ []) ∷ []; symbols = [] }
 
 its_parts : map (part_at left.placements) row ≡ 2 ∷ 2 ∷ 1 ∷ []
 its_parts = refl
@@ -67,7 +67,7 @@ a_form = refl
 
 -- the packing of the row that reads ABC
 abbrev apart : PackingValue
-apart = record { region = row; maybe_cells = []; placements = choice 65 (coordinates 0 0 0 ∷ []) ∷ choice 66 (coordinates 1 0 0 ∷ []) ∷ choice 67 (coordinates 2 0 0 ∷ []) ∷ []; symbols = [] }
+apart = record { region = row; maybe_cells = []; placements = choice_with 65 (coordinates 0 0 0 ∷ []) ∷ choice_with 66 (coordinates 1 0 0 ∷ []) ∷ choice_with 67 (coordinates 2 0 0 ∷ []) ∷ []; symbols = [] }
 
 two_classes : class_count (are_alike Rotations) (left ∷ right ∷ apart ∷ []) ≡ 2
 unfolding class_count are_alike carries image_in matrix is_rotation turned normal in_order

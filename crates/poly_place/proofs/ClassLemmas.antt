@@ -13,7 +13,7 @@ use Rattle.poly_place.specs.Chosen.{PackingValue}
 use Rattle.poly_place.specs.Classes.{part_at, IsSent, AreAlike, HaveOneRegion, IsClassCount}
 use Rattle.poly_place.specs.ClassCount.{image_in}
 use Rattle.poly_place.specs.Forms.{carrier, IsKept, AreCarriers, parts_in, first_form, form_by, forms_cmp, key_of}
-use Rattle.poly_place.proofs.CountingLemmas.{AreKeys, classes_are_keys}
+use Rattle.poly_place.proofs.KeyCountLemmas.{AreKeys, classes_are_keys}
 use Rattle.poly_place.proofs.FormLemmas.{PartAlike, same_form, alike_form}
 use Rattle.poly_place.proofs.KeyLemmas.{forms_total, forms_exact, forms_of, least_in, least_lowest, same_lowest}
 use Rattle.poly_place.proofs.CarryLemmas.{image_point, image_is, kept_stays, neutral_stays, neutral_kept, kept_composed, kept_inverse, maps_at, maps_are}

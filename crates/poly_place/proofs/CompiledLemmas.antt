@@ -18,13 +18,13 @@ use Rattle.poly_cells.proofs.MemberLemmas.{all_pass, passes, in_from_flat_map, i
 use Rattle.poly_texts.specs.Words as words
 use Rattle.poly_place.specs.Turns.{from_right, from_left}
 use Rattle.poly_texts.specs.Puzzle.{PuzzleValue, IsPuzzle, names_of, has_name, is_needed, unneeded}
-use Rattle.poly_place.specs.Packings.{ChoiceValue, is_any, must_fill, neighbours, pairs, first_cell, IsPlaced, choices, leavings, leaving_option, Thing, a_piece, a_cell, a_node, needed_things, other_things, things, index_among, item_of, levels_for, levels, nodes, nodes_by, leaf_of, given, things_of, option_of, thing_name, packing_problem}
+use Rattle.poly_place.specs.Packings.{ChoiceValue, is_any, must_fill, neighbours, pairs, first_cell, IsPlaced, every_choice, leavings, leaving_option, Thing, a_piece, a_cell, a_node, needed_things, other_things, things, index_among, thing_item, levels_for, tree_levels, nodes, nodes_by, leaf_of, given, things_of, option_of, thing_name, packing_problem}
 use Rattle.poly_place.proofs.DistinctLemmas.{in_from_name, name_from_in, IsDistinct, distinct_append, distinct_filter, distinct_map, distinct_rising, distinct_names}
 use Rattle.poly_place.proofs.PairLemmas.{all_of, distinct_left, distinct_right, distinct_apart, in_group, among_groups, pair_differs, pair_next}
 use Rattle.poly_place.proofs.TurnLemmas.{IsBelow, right_above, left_above, up}
-use Rattle.poly_place.proofs.PackingLemmas.{leaf_placed, least_in}
+use Rattle.poly_place.proofs.StandLemmas.{leaf_placed, least_in}
 use Rattle.poly_place.proofs.EqualLemmas.{distinct_group}
-use Rattle.poly_place.proofs.LeavingLemmas.{IsLeaving, leaving_is, first_left, left_copy}
+use Rattle.poly_place.proofs.LeavingsLemmas.{IsLeaving, leaving_is, first_left, left_copy}
 use Rattle.poly_place.proofs.PlacedLemmas.{has_shapes, placed_in}
 use Rattle.poly_place.proofs.ThingLemmas.{place_in, nothing, item_same, needed_piece, needed_cell, needed_cases, needed_distinct, parts_in, in_given, thing_of_item, cell_part}
 use Rattle.poly_place.proofs.ItemNameLemmas.{piece_named, cell_named, node_named, name_same, new_from}
@@ -109,21 +109,21 @@ module _ (p : PuzzleValue) (z : IsPuzzle p) where
 
   -- a node of the trees
   node_of : (t : Thing) → IsIn t (flat_map (nodes p) (pairs p)) → (q : ℕ × ℕ) × IsIn q (pairs p) × (h : ℕ) × (h < 4096) × (t ≡ a_node (q.0) h)
-  unfolding levels
+  unfolding tree_levels
   node_of t i =
       let q = in_from_flat_map (nodes p) t (pairs p) i in
-      let h = in_from_map (a_node (q.0.0)) t (range_with_len 1 (2 ^ levels p - 1)) q.2 in
-      let high = in_from_range h.0 1 (2 ^ levels p - 1) h.1 in
+      let h = in_from_map (a_node (q.0.0)) t (range_with_len 1 (2 ^ tree_levels p - 1)) q.2 in
+      let high = in_from_range h.0 1 (2 ^ tree_levels p - 1) h.1 in
       let few = few_levels (length p.region) in
       (q.0, q.1, h.0, omega (arith, high, few), h.2)
 
   nodes_distinct : IsDistinct (flat_map (nodes p) (pairs p))
   nodes_distinct =
       distinct_flat_map (nodes p) (pairs p)
-      (λ q i. distinct_map (a_node (q.0)) (range_with_len 1 (2 ^ levels p - 1)) (λ a b e. cc) (distinct_range 1 (2 ^ levels p - 1)))
+      (λ q i. distinct_map (a_node (q.0)) (range_with_len 1 (2 ^ tree_levels p - 1)) (λ a b e. cc) (distinct_range 1 (2 ^ tree_levels p - 1)))
       (λ q r t i j a b.
-      let g = in_from_map (a_node (q.0)) t (range_with_len 1 (2 ^ levels p - 1)) a in
-      let h = in_from_map (a_node (r.0)) t (range_with_len 1 (2 ^ levels p - 1)) b in
+      let g = in_from_map (a_node (q.0)) t (range_with_len 1 (2 ^ tree_levels p - 1)) a in
+      let h = in_from_map (a_node (r.0)) t (range_with_len 1 (2 ^ tree_levels p - 1)) b in
       let e = g.2 in
       let f = h.2 in
       one_pair q r i j (same_tree t (q.0) (r.0) g.0 h.0 e f))
@@ -288,23 +288,23 @@ module _ (p : PuzzleValue) (z : IsPuzzle p) where
   -- a node by a pair
   node_by : (c : ChoiceValue) (q : ℕ × ℕ) (t : Thing) → IsIn t (nodes_by p c q) → (h : ℕ) × (t ≡ a_node (q.0) h)
   node_by c q t i =
-      let rights = map (a_node (q.0)) (from_right (levels p) (leaf_of p c)) in
-      let lefts = map (a_node (q.0)) (from_left (levels p) (leaf_of p c)) in
+      let rights = map (a_node (q.0)) (from_right (tree_levels p) (leaf_of p c)) in
+      let lefts = map (a_node (q.0)) (from_left (tree_levels p) (leaf_of p c)) in
       elim (in_append_cases t (given (c.name == q.0) rights) (given (c.name == q.1) lefts) i) [
-        | inl l ↦ let h = in_from_map (a_node (q.0)) t (from_right (levels p) (leaf_of p c)) (in_given (c.name == q.0) t rights l).1 in (h.0, h.2)
-        | inr r ↦ let h = in_from_map (a_node (q.0)) t (from_left (levels p) (leaf_of p c)) (in_given (c.name == q.1) t lefts r).1 in (h.0, h.2)
+        | inl l ↦ let h = in_from_map (a_node (q.0)) t (from_right (tree_levels p) (leaf_of p c)) (in_given (c.name == q.0) t rights l).1 in (h.0, h.2)
+        | inr r ↦ let h = in_from_map (a_node (q.0)) t (from_left (tree_levels p) (leaf_of p c)) (in_given (c.name == q.1) t lefts r).1 in (h.0, h.2)
       ]
 
-  by_distinct : (c : ChoiceValue) → IsBelow (levels p) (leaf_of p c) → (q : ℕ × ℕ) → IsIn q (pairs p) → IsDistinct (nodes_by p c q)
+  by_distinct : (c : ChoiceValue) → IsBelow (tree_levels p) (leaf_of p c) → (q : ℕ × ℕ) → IsIn q (pairs p) → IsDistinct (nodes_by p c q)
   by_distinct c b q i =
-      let rights = map (a_node (q.0)) (from_right (levels p) (leaf_of p c)) in
-      let lefts = map (a_node (q.0)) (from_left (levels p) (leaf_of p c)) in
+      let rights = map (a_node (q.0)) (from_right (tree_levels p) (leaf_of p c)) in
+      let lefts = map (a_node (q.0)) (from_left (tree_levels p) (leaf_of p c)) in
       distinct_append (given (c.name == q.0) rights) (given (c.name == q.1) lefts)
-      (distinct_given (c.name == q.0) rights (distinct_map (a_node (q.0)) (from_right (levels p) (leaf_of p c)) (λ x y e. cc) (distinct_right_turns (levels p) (leaf_of p c) b)))
-      (distinct_given (c.name == q.1) lefts (distinct_map (a_node (q.0)) (from_left (levels p) (leaf_of p c)) (λ x y e. cc) (distinct_left_turns (levels p) (leaf_of p c) b)))
+      (distinct_given (c.name == q.0) rights (distinct_map (a_node (q.0)) (from_right (tree_levels p) (leaf_of p c)) (λ x y e. cc) (distinct_right_turns (tree_levels p) (leaf_of p c) b)))
+      (distinct_given (c.name == q.1) lefts (distinct_map (a_node (q.0)) (from_left (tree_levels p) (leaf_of p c)) (λ x y e. cc) (distinct_left_turns (tree_levels p) (leaf_of p c) b)))
       (λ t l r. pair_differs p z (q.0) (q.1) i (sym (eqb-true c.name (q.0) (in_given (c.name == q.0) t rights l).0) ∙ eqb-true c.name (q.1) (in_given (c.name == q.1) t lefts r).0))
 
-  all_by_distinct : (c : ChoiceValue) → IsBelow (levels p) (leaf_of p c) → IsDistinct (flat_map (nodes_by p c) (pairs p))
+  all_by_distinct : (c : ChoiceValue) → IsBelow (tree_levels p) (leaf_of p c) → IsDistinct (flat_map (nodes_by p c) (pairs p))
   all_by_distinct c b =
       distinct_flat_map (nodes_by p c) (pairs p) (by_distinct c b)
       (λ q r t i j x y.
@@ -316,7 +316,7 @@ module _ (p : PuzzleValue) (z : IsPuzzle p) where
       same_tree : (t : Thing) (m n g h : ℕ) → t ≡ a_node m g → t ≡ a_node n h → m ≡ n
       same_tree t m n g h e f = cc
 
-  parts_distinct : (c : ChoiceValue) → IsPlaced p c → IsBelow (levels p) (leaf_of p c) → IsDistinct (things_of p c)
+  parts_distinct : (c : ChoiceValue) → IsPlaced p c → IsBelow (tree_levels p) (leaf_of p c) → IsDistinct (things_of p c)
   parts_distinct c h b =
       distinct_append (given (not (is_any p c.name)) (a_piece c.name ∷ [])) (map a_cell c.cells ++ flat_map (nodes_by p c) (pairs p))
       (distinct_given (not (is_any p c.name)) (a_piece c.name ∷ []) ((λ i. i), tt))
@@ -342,18 +342,18 @@ module _ (p : PuzzleValue) (z : IsPuzzle p) where
         | inr n ↦ absurd n
       ])
 
-  distinct_items : (ts : List Thing) → ((t : Thing) → IsIn t ts → IsIn t (things p)) → IsDistinct ts → are_distinct (map (item_of p) ts) ≡ true
+  distinct_items : (ts : List Thing) → ((t : Thing) → IsIn t ts → IsIn t (things p)) → IsDistinct ts → are_distinct (map (thing_item p) ts) ≡ true
   distinct_items [] inside d = refl
   distinct_items (t ∷ ts) inside d =
-      and_from (not (has (map (item_of p) ts) (item_of p t))) (are_distinct (map (item_of p) ts)) alone (distinct_items ts (λ s i. inside s (inr i)) d.1)
+      and_from (not (has (map (thing_item p) ts) (thing_item p t))) (are_distinct (map (thing_item p) ts)) alone (distinct_items ts (λ s i. inside s (inr i)) d.1)
     where
-      alone : not (has (map (item_of p) ts) (item_of p t)) ≡ true
+      alone : not (has (map (thing_item p) ts) (thing_item p t)) ≡ true
       alone = not_from_false _ (false_from_ne_true _ (λ h.
-          let s = thing_of_item (item_of p) (item_of p t) ts h in
+          let s = thing_of_item (thing_item p) (thing_item p t) ts h in
           d.0 (subst (λ (u : Thing). IsIn u ts) (item_same p s.0 t (inside s.0 (inr s.1)) (inside t (inl refl)) s.2) s.1)))
 
-  item_within : (t : Thing) → IsIn t (things p) → is_item (length (map thing_name (things p))) (item_of p t) ≡ true
-  unfolding item_of
+  item_within : (t : Thing) → IsIn t (things p) → is_item (length (map thing_name (things p))) (thing_item p t) ≡ true
+  unfolding thing_item
   item_within t i =
       let at = (place_in nothing t (things p) i).0 in
       let long = length-map (things p) thing_name in
@@ -363,8 +363,8 @@ module _ (p : PuzzleValue) (z : IsPuzzle p) where
   -- an option has an item: its piece or its least cell
   some_item : (c : ChoiceValue) → IsPlaced p c → 0 < length (option_of p c)
   some_item c h =
-      let v = in_map (item_of p) (a_cell (first_cell c.cells)) (things_of p c) (cell_part p c (first_cell c.cells) (least_in p (has_shapes p z) c h)) in
-      some_from_member (item_of p (a_cell (first_cell c.cells))) (option_of p c) v
+      let v = in_map (thing_item p) (a_cell (first_cell c.cells)) (things_of p c) (cell_part p c (first_cell c.cells) (least_in p (has_shapes p z) c h)) in
+      some_from_member (thing_item p (a_cell (first_cell c.cells))) (option_of p c) v
     where
       some_from_member : (n : ℕ) (ns : List ℕ) → IsIn n ns → 0 < length ns
       some_from_member n [] i = absurd i
@@ -377,12 +377,12 @@ module _ (p : PuzzleValue) (z : IsPuzzle p) where
       (and_from (nat_lt 0 (length (option_of p c))) (are_distinct (option_of p c)) (lt-ltb 0 (length (option_of p c)) (some_item c h))
       (distinct_items (things_of p c) (parts_in p c h b) (parts_distinct c h b)))
       (all_pass (is_item (length (map thing_name (things p)))) (option_of p c) (λ n i.
-      let t = in_from_map (item_of p) n (things_of p c) i in
+      let t = in_from_map (thing_item p) n (things_of p c) i in
       subst (λ (k : ℕ). is_item (length (map thing_name (things p))) k ≡ true) (sym t.2) (item_within t.0 (parts_in p c h b t.0 t.1))))
 
-  laying_options : list_all (is_option (length (map thing_name (things p)))) (map (option_of p) (choices p)) ≡ true
-  laying_options = all_pass (is_option (length (map thing_name (things p)))) (map (option_of p) (choices p)) (λ o i.
-      let c = in_from_map (option_of p) o (choices p) i in
+  laying_options : list_all (is_option (length (map thing_name (things p)))) (map (option_of p) (every_choice p)) ≡ true
+  laying_options = all_pass (is_option (length (map thing_name (things p)))) (map (option_of p) (every_choice p)) (λ o i.
+      let c = in_from_map (option_of p) o (every_choice p) i in
       subst (λ (q : List ℕ). is_option (length (map thing_name (things p))) q ≡ true) (sym c.2) (option_good c.0 (placed_in p (has_shapes p z) c.0 c.1)))
 
   leaving_good : (parts : List ℕ × List ℕ) → IsLeaving p parts → is_option (length (map thing_name (things p))) (leaving_option p parts) ≡ true
@@ -392,23 +392,23 @@ module _ (p : PuzzleValue) (z : IsPuzzle p) where
       subst (λ (s : Thing). IsIn s (things p)) (sym n.2) (left_copy p z parts l n.0 n.1).thing in
       let whole = subst IsDistinct l.parted.whole (distinct_group p.equal l.group (distinct_names (all_of p.equal) z.equal_new) l.there) in
       let apart = distinct_map a_piece (parts.1) (λ x y e. cc) (distinct_right (parts.0) (parts.1) whole) in
-      let first = in_map (item_of p) (a_piece l.parted.first) (map a_piece (parts.1)) (in_map a_piece l.parted.first (parts.1) (first_left l.group parts l.parted)) in
+      let first = in_map (thing_item p) (a_piece l.parted.first) (map a_piece (parts.1)) (in_map a_piece l.parted.first (parts.1) (first_left l.group parts l.parted)) in
       and_from (nat_lt 0 (length (leaving_option p parts)) && are_distinct (leaving_option p parts)) (list_all (is_item (length (map thing_name (things p)))) (leaving_option p parts))
       (and_from (nat_lt 0 (length (leaving_option p parts))) (are_distinct (leaving_option p parts))
-      (lt-ltb 0 (length (leaving_option p parts)) (some_from (item_of p (a_piece l.parted.first)) (leaving_option p parts) first))
+      (lt-ltb 0 (length (leaving_option p parts)) (some_from (thing_item p (a_piece l.parted.first)) (leaving_option p parts) first))
       (distinct_items (map a_piece (parts.1)) inside apart))
       (all_pass (is_item (length (map thing_name (things p)))) (leaving_option p parts) (λ n i.
-      let t = in_from_map (item_of p) n (map a_piece (parts.1)) i in
+      let t = in_from_map (thing_item p) n (map a_piece (parts.1)) i in
       subst (λ (k : ℕ). is_item (length (map thing_name (things p))) k ≡ true) (sym t.2) (item_within t.0 (inside t.0 t.1))))
     where
       some_from : (n : ℕ) (ns : List ℕ) → IsIn n ns → 0 < length ns
       some_from n [] i = absurd i
       some_from n (m ∷ ns) i = omega arith
 
-  all_options : list_all (is_option (length (map thing_name (things p)))) (map (option_of p) (choices p) ++ map (leaving_option p) (leavings p)) ≡ true
-  all_options = all_pass (is_option (length (map thing_name (things p)))) (map (option_of p) (choices p) ++ map (leaving_option p) (leavings p)) (λ o i.
-      elim (in_append_cases o (map (option_of p) (choices p)) (map (leaving_option p) (leavings p)) i) [
-        | inl l ↦ passes (is_option (length (map thing_name (things p)))) (map (option_of p) (choices p)) laying_options o l
+  all_options : list_all (is_option (length (map thing_name (things p)))) (map (option_of p) (every_choice p) ++ map (leaving_option p) (leavings p)) ≡ true
+  all_options = all_pass (is_option (length (map thing_name (things p)))) (map (option_of p) (every_choice p) ++ map (leaving_option p) (leavings p)) (λ o i.
+      elim (in_append_cases o (map (option_of p) (every_choice p)) (map (leaving_option p) (leavings p)) i) [
+        | inl l ↦ passes (is_option (length (map thing_name (things p)))) (map (option_of p) (every_choice p)) laying_options o l
         | inr r ↦
             let parts = in_from_map (leaving_option p) o (leavings p) r in
             subst (λ (q : List ℕ). is_option (length (map thing_name (things p))) q ≡ true) (sym parts.2) (leaving_good parts.0 (leaving_is p parts.0 parts.1))

@@ -12,7 +12,7 @@ use Rattle.poly_cells.proofs.SetLemmas.{in_at, same_members}
 use Rattle.poly_cells.proofs.CellTestLemmas.{in_from_has, has_from_in}
 use Rattle.poly_cells.specs.CellTests.{has_cell}
 use Rattle.poly_texts.specs.Puzzle.{PuzzleValue, IsPuzzle, names_of, has_name, is_needed}
-use Rattle.poly_place.specs.Packings.{must_fill, needed_things, other_things, things, nodes, pairs, levels, a_piece, a_cell, a_node}
+use Rattle.poly_place.specs.Packings.{must_fill, needed_things, other_things, things, nodes, pairs, tree_levels, a_piece, a_cell, a_node}
 use Rattle.poly_place.specs.Compiled.{needed_names, filled_cells, before_nodes}
 use Rattle.poly_cells.proofs.MemberLemmas.{passes, in_from_filter, in_filter}
 use Rattle.std.proofs.lemmas.List.Sums.{length-filter, count_by-le-length}
@@ -92,7 +92,7 @@ needed_count p =
     let second = length-map (filled_cells p) a_cell in
     omega (arith, all, first, second)
 
-pub things_count : (p : PuzzleValue) → length (things p) ≡ before_nodes p + length (pairs p) * (2 ^ levels p - 1)
+pub things_count : (p : PuzzleValue) → length (things p) ≡ before_nodes p + length (pairs p) * (2 ^ tree_levels p - 1)
 things_count p =
     let trees = flat_map (nodes p) (pairs p) in
     let all = length-append (needed_things p) (other_things p) in
@@ -103,11 +103,11 @@ things_count p =
     let third = trees_long (pairs p) in
     omega (arith, all, later, last, first, second, third)
   where
-    trees_long : (ps : List (ℕ × ℕ)) → length (flat_map (nodes p) ps) ≡ length ps * (2 ^ levels p - 1)
+    trees_long : (ps : List (ℕ × ℕ)) → length (flat_map (nodes p) ps) ≡ length ps * (2 ^ tree_levels p - 1)
     trees_long [] = omega arith
     trees_long (q ∷ qs) =
         let all = length-append (nodes p q) (flat_map (nodes p) qs) in
-        let one = length-map (range_with_len 1 (2 ^ levels p - 1)) (a_node (q.0)) in
-        let many = length-range_with_len 1 (2 ^ levels p - 1) in
+        let one = length-map (range_with_len 1 (2 ^ tree_levels p - 1)) (a_node (q.0)) in
+        let many = length-range_with_len 1 (2 ^ tree_levels p - 1) in
         let rest = trees_long qs in
         omega (arith, all, one, many, rest)

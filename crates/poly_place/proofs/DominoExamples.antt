@@ -8,7 +8,7 @@ use Rattle.poly_cells.specs.Shapes.{normal, turned}
 use Rattle.poly_texts.specs.Puzzle.{PuzzleValue}
 use Rattle.poly_place.specs.declared.alike.Group.TheVariants.{Rotations, Symmetries}
 use Rattle.poly_place.specs.Placements.{orientations, placements}
-use Rattle.poly_place.specs.Packings.{choices, leavings, item_of, packing_problem}
+use Rattle.poly_place.specs.Packings.{every_choice, leavings, thing_item, packing_problem}
 use Rattle.poly_place.specs.Chosen.{packing_value}
 use Rattle.poly_place.specs.Layers.{layers}
 use Rattle.poly_place.specs.ClassCount.{image_in, carries, are_alike, class_count}
@@ -41,24 +41,24 @@ boxed = record {
 }
 
 pub boxed_dominoes : packing_problem dominoes ≡ boxed
-unfolding packing_problem choices leavings item_of placements orientations in_order turned normal rotations is_rotation matrix
+unfolding packing_problem every_choice leavings thing_item placements orientations in_order turned normal rotations is_rotation matrix
 boxed_dominoes = refl
 
 -- A stands on the left, above, below, and on the right
 pub on_the_left : layers (packing_value dominoes (1 ∷ 8 ∷ [])) ≡ codes "AB" ++ 10 ∷ codes "AB" ++ 10 ∷ []
-unfolding layers choices placements orientations in_order turned normal rotations is_rotation matrix
+unfolding layers every_choice placements orientations in_order turned normal rotations is_rotation matrix
 on_the_left = refl
 
 pub above : layers (packing_value dominoes (2 ∷ 7 ∷ [])) ≡ codes "AA" ++ 10 ∷ codes "BB" ++ 10 ∷ []
-unfolding layers choices placements orientations in_order turned normal rotations is_rotation matrix
+unfolding layers every_choice placements orientations in_order turned normal rotations is_rotation matrix
 above = refl
 
 pub below : layers (packing_value dominoes (3 ∷ 6 ∷ [])) ≡ codes "BB" ++ 10 ∷ codes "AA" ++ 10 ∷ []
-unfolding layers choices placements orientations in_order turned normal rotations is_rotation matrix
+unfolding layers every_choice placements orientations in_order turned normal rotations is_rotation matrix
 below = refl
 
 pub on_the_right : layers (packing_value dominoes (4 ∷ 5 ∷ [])) ≡ codes "BA" ++ 10 ∷ codes "BA" ++ 10 ∷ []
-unfolding layers choices placements orientations in_order turned normal rotations is_rotation matrix
+unfolding layers every_choice placements orientations in_order turned normal rotations is_rotation matrix
 on_the_right = refl
 
 -- the paths of the four packings
@@ -67,9 +67,9 @@ paths = (1 ∷ 8 ∷ []) ∷ (2 ∷ 7 ∷ []) ∷ (3 ∷ 6 ∷ []) ∷ (4 ∷ 5 
 
 -- turns carry each of them onto the first one
 pub one_by_rotations : class_count (are_alike Rotations) (map (packing_value dominoes) paths) ≡ 1
-unfolding class_count are_alike carries image_in choices placements orientations in_order turned normal rotations is_rotation matrix
+unfolding class_count are_alike carries image_in every_choice placements orientations in_order turned normal rotations is_rotation matrix
 one_by_rotations = refl
 
 pub one_by_symmetries : class_count (are_alike Symmetries) (map (packing_value dominoes) paths) ≡ 1
-unfolding class_count are_alike carries image_in choices placements orientations in_order turned normal rotations is_rotation matrix
+unfolding class_count are_alike carries image_in every_choice placements orientations in_order turned normal rotations is_rotation matrix
 one_by_symmetries = refl

@@ -1,7 +1,7 @@
 -- The example of specs/Layers.antt, computed.
 use Rattle.std.proofs.Common.{◌≡◌, [], ◌∷◌, ◌++◌, codes, refl}
 use Rattle.poly_cells.specs.Coordinates.{coordinates}
-use Rattle.poly_place.specs.Packings.{choice}
+use Rattle.poly_place.specs.Packings.{choice_with}
 use Rattle.poly_place.specs.Chosen.{PackingValue}
 use Rattle.poly_place.specs.Layers.{layers}
 
@@ -10,7 +10,7 @@ strip : PackingValue
 strip = record {
   region = coordinates 0 0 0 ∷ coordinates 1 0 0 ∷ coordinates 2 0 0 ∷ [];
   maybe_cells = coordinates 2 0 0 ∷ [];
-  placements = choice 65 (coordinates 0 0 0 ∷ coordinates 1 0 0 ∷ []) ∷ [];
+  placements = choice_with 65 (coordinates 0 0 0 ∷ coordinates 1 0 0 ∷ []) ∷ [];
   symbols = [];
 }
 
@@ -23,7 +23,7 @@ copies : PackingValue
 copies = record {
   region = coordinates 0 0 0 ∷ coordinates 1 0 0 ∷ coordinates 2 0 0 ∷ [];
   maybe_cells = [];
-  placements = choice 65 (coordinates 0 0 0 ∷ []) ∷ choice 65 (coordinates 1 0 0 ∷ []) ∷ choice 65 (coordinates 2 0 0 ∷ []) ∷ [];
+  placements = choice_with 65 (coordinates 0 0 0 ∷ []) ∷ choice_with 65 (coordinates 1 0 0 ∷ []) ∷ choice_with 65 (coordinates 2 0 0 ∷ []) ∷ [];
   symbols = (65 ∷ 66 ∷ []) ∷ [];
 }
 

@@ -9,7 +9,7 @@ use Rattle.poly_cells.proofs.SetLemmas.{in_from_map, take_next}
 use Rattle.poly_texts.specs.Puzzle.{PuzzleValue, IsPuzzle}
 use Rattle.poly_place.specs.Packings.{leavings}
 use Rattle.poly_place.specs.Compiled.{left_from, left_out, leaving_entries}
-use Rattle.poly_place.proofs.LeavingLemmas.{IsCopy, leaving_is, left_copy}
+use Rattle.poly_place.proofs.LeavingsLemmas.{IsCopy, leaving_is, left_copy}
 use Rattle.poly_place.proofs.MadeLemmas.{left_out_is}
 
 -- ---- the ends of groups

@@ -10,7 +10,11 @@ pub mod PairLemmas
 pub mod PlaceLemmas
 pub mod ThingLemmas
 pub mod PlacedLemmas
-pub mod LeavingLemmas
+pub mod SizeLemmas
+pub mod FollowLemmas
+pub mod LeavingsLemmas
+pub mod StandLemmas
+pub mod CoverLemmas
 pub mod PackingLemmas
 pub mod SortLemmas
 pub mod EqualLemmas
@@ -22,7 +26,7 @@ pub mod ChosenLemmas
 pub mod PackingExamples
 pub mod CountLemmas
 pub mod NumberLemmas
-pub mod NumberingLemmas
+pub mod NumberedLemmas
 pub mod ChoiceLemmas
 pub mod OptionLemmas
 pub mod LayerLemmas
@@ -33,7 +37,7 @@ pub mod VolumeLemmas
 pub mod RoomLemmas
 pub mod LeftLemmas
 pub mod LayerExamples
-pub mod CountingLemmas
+pub mod KeyCountLemmas
 pub mod FormLemmas
 pub mod PieceOrderLemmas
 pub mod KeyLemmas

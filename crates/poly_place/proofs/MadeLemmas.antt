@@ -7,7 +7,7 @@ use Rattle.poly_cells.specs.Coordinates.{Coordinates}
 use Rattle.poly_cells.specs.CellWords.{cell_word}
 use Rattle.cover_problem.specs.Problem.{is_small, ProblemValue}
 use Rattle.poly_texts.specs.Puzzle.{PuzzleValue, IsPuzzle, is_spare}
-use Rattle.poly_place.specs.Packings.{ChoiceValue, pairs, partings, leavings_of, leavings, leaving_option, choices, Thing, a_piece, a_cell, needed_things, other_things, things, item_of, nodes, things_of, option_of, thing_name, packing_problem}
+use Rattle.poly_place.specs.Packings.{ChoiceValue, pairs, partings, leavings_of, leavings, leaving_option, every_choice, Thing, a_piece, a_cell, needed_things, other_things, things, thing_item, nodes, things_of, option_of, thing_name, packing_problem}
 use Rattle.std.specs.Cmp.{both_ways as same_tests}
 use Rattle.std.proofs.lemmas.List.Sums.{sum_by-cons, sum_by-append}
 use Rattle.cover_problem.specs.declared.limits.TheConstants.{MOST_ITEMS, MOST_OPTIONS, MOST_ENTRIES}
@@ -48,7 +48,7 @@ entries_same : (p : PuzzleValue) (cs : List ChoiceValue) → sum_by length (map 
 entries_same p [] = refl
 entries_same p (c ∷ cs) =
     let rest = entries_same p cs in
-    let same = length-map (things_of p c) (item_of p) in
+    let same = length-map (things_of p c) (thing_item p) in
     let sum = sum_by-cons length (option_of p c) (map (option_of p) cs) in
     let all = sum_by-cons (λ (d : ChoiceValue). length (things_of p d) + 1) c cs in
     omega (arith, rest, same, sum, all)
@@ -99,7 +99,7 @@ left_same : (p : PuzzleValue) (lefts : List (List ℕ)) → sum_by length (map (
 left_same p [] = refl
 left_same p (names ∷ lefts) =
     let rest = left_same p lefts in
-    let first = length-map (map a_piece names) (item_of p) in
+    let first = length-map (map a_piece names) (thing_item p) in
     let second = length-map names a_piece in
     let sum = sum_by-cons length (left_items p names) (map (left_items p) lefts) in
     let all = sum_by-cons (λ (ns : List ℕ). length ns + 1) names lefts in
@@ -112,27 +112,27 @@ module _ (p : PuzzleValue) where
   item_words = map thing_name (things p)
 
   option_lists : List (List ℕ)
-  option_lists = map (option_of p) (choices p) ++ map (leaving_option p) (leavings p)
+  option_lists = map (option_of p) (every_choice p) ++ map (leaving_option p) (leavings p)
 
   words_long : length item_words ≡ length (things p)
   unfolding item_words
   words_long = length-map (things p) thing_name
 
-  lists_long : length option_lists ≡ length (choices p) + length (left_out p)
+  lists_long : length option_lists ≡ length (every_choice p) + length (left_out p)
   unfolding option_lists
   lists_long =
-      let all = length-append (map (option_of p) (choices p)) (map (leaving_option p) (leavings p)) in
-      let first = length-map (choices p) (option_of p) in
+      let all = length-append (map (option_of p) (every_choice p)) (map (leaving_option p) (leavings p)) in
+      let first = length-map (every_choice p) (option_of p) in
       let second = ap length (leaving_options p) in
       let third = length-map (left_out p) (left_items p) in
       omega (arith, all, first, second, third)
 
-  entries_all : sum_by length option_lists + length option_lists ≡ entries_of p (choices p) + leaving_entries (left_out p)
+  entries_all : sum_by length option_lists + length option_lists ≡ entries_of p (every_choice p) + leaving_entries (left_out p)
   unfolding option_lists
   entries_all =
-      let all = length-append (map (option_of p) (choices p)) (map (leaving_option p) (leavings p)) in
-      let sum = sum_by-append length (map (option_of p) (choices p)) (map (leaving_option p) (leavings p)) in
-      let first = entries_same p (choices p) in
+      let all = length-append (map (option_of p) (every_choice p)) (map (leaving_option p) (leavings p)) in
+      let sum = sum_by-append length (map (option_of p) (every_choice p)) (map (leaving_option p) (leavings p)) in
+      let first = entries_same p (every_choice p) in
       let second = left_same p (left_out p) in
       let same = ap (sum_by length) (leaving_options p) in
       let count = ap length (leaving_options p) in
@@ -153,11 +153,11 @@ module _ (p : PuzzleValue) where
       omega (arith, few, l, more))
 
   -- the problem is small exactly where there is room for all option_lists
-  pub small_is : length (things p) ≤ MOST_ITEMS → is_small (packing_problem p) ≡ has_room_beside (length (choices p)) (length (things p) + entries_of p (choices p) + 2) (left_out p)
+  pub small_is : length (things p) ≤ MOST_ITEMS → is_small (packing_problem p) ≡ has_room_beside (length (every_choice p)) (length (things p) + entries_of p (every_choice p) + 2) (left_out p)
   small_is few =
       is_small_parts
       ∙ same_tests ((nat_le (length item_words) MOST_ITEMS && nat_le (length option_lists) MOST_OPTIONS) && nat_le (length item_words + sum_by length option_lists + length option_lists + 2) MOST_ENTRIES)
-      (has_room_beside (length (choices p)) (length (things p) + entries_of p (choices p) + 2) (left_out p))
+      (has_room_beside (length (every_choice p)) (length (things p) + entries_of p (every_choice p) + 2) (left_out p))
       (λ t.
       let parts = and_parts (nat_le (length item_words) MOST_ITEMS && nat_le (length option_lists) MOST_OPTIONS) (nat_le (length item_words + sum_by length option_lists + length option_lists + 2) MOST_ENTRIES) t in
       let first = and_parts (nat_le (length item_words) MOST_ITEMS) (nat_le (length option_lists) MOST_OPTIONS) parts.0 in
@@ -166,12 +166,12 @@ module _ (p : PuzzleValue) where
       let l = words_long in
       let m = lists_long in
       let e = entries_all in
-      and_from _ _ (le-leb (length (choices p) + length (left_out p)) MOST_OPTIONS (omega (arith, count, m)))
-      (le-leb (length (things p) + entries_of p (choices p) + 2 + leaving_entries (left_out p)) MOST_ENTRIES (omega (arith, size, l, e))))
+      and_from _ _ (le-leb (length (every_choice p) + length (left_out p)) MOST_OPTIONS (omega (arith, count, m)))
+      (le-leb (length (things p) + entries_of p (every_choice p) + 2 + leaving_entries (left_out p)) MOST_ENTRIES (omega (arith, size, l, e))))
       (λ t.
-      let parts = and_parts (nat_le (length (choices p) + length (left_out p)) MOST_OPTIONS) (nat_le (length (things p) + entries_of p (choices p) + 2 + leaving_entries (left_out p)) MOST_ENTRIES) t in
-      let count = leb-true (length (choices p) + length (left_out p)) MOST_OPTIONS parts.0 in
-      let size = leb-true (length (things p) + entries_of p (choices p) + 2 + leaving_entries (left_out p)) MOST_ENTRIES parts.1 in
+      let parts = and_parts (nat_le (length (every_choice p) + length (left_out p)) MOST_OPTIONS) (nat_le (length (things p) + entries_of p (every_choice p) + 2 + leaving_entries (left_out p)) MOST_ENTRIES) t in
+      let count = leb-true (length (every_choice p) + length (left_out p)) MOST_OPTIONS parts.0 in
+      let size = leb-true (length (things p) + entries_of p (every_choice p) + 2 + leaving_entries (left_out p)) MOST_ENTRIES parts.1 in
       let l = words_long in
       let m = lists_long in
       let e = entries_all in
@@ -179,27 +179,27 @@ module _ (p : PuzzleValue) where
       (le-leb (length item_words + sum_by length option_lists + length option_lists + 2) MOST_ENTRIES (omega (arith, size, l, e))))
 
   -- where there is no room for the choices the problem is large
-  pub large_by_choices : length (things p) ≤ MOST_ITEMS → has_room p (length (things p)) (choices p) ≡ false → is_small (packing_problem p) ≡ false
+  pub large_by_choices : length (things p) ≤ MOST_ITEMS → has_room p (length (things p)) (every_choice p) ≡ false → is_small (packing_problem p) ≡ false
   large_by_choices few h =
       small_is few
       ∙ false_from_ne_true _ (λ t.
-      let parts = and_parts (nat_le (length (choices p) + length (left_out p)) MOST_OPTIONS) (nat_le (length (things p) + entries_of p (choices p) + 2 + leaving_entries (left_out p)) MOST_ENTRIES) t in
-      let count = leb-true (length (choices p) + length (left_out p)) MOST_OPTIONS parts.0 in
-      let size = leb-true (length (things p) + entries_of p (choices p) + 2 + leaving_entries (left_out p)) MOST_ENTRIES parts.1 in
-      both_ways (has_room p (length (things p)) (choices p)) h
-      (and_from _ _ (le-leb (length (choices p)) MOST_OPTIONS (omega (arith, count))) (le-leb (length (things p) + entries_of p (choices p) + 2) MOST_ENTRIES (omega (arith, size)))))
+      let parts = and_parts (nat_le (length (every_choice p) + length (left_out p)) MOST_OPTIONS) (nat_le (length (things p) + entries_of p (every_choice p) + 2 + leaving_entries (left_out p)) MOST_ENTRIES) t in
+      let count = leb-true (length (every_choice p) + length (left_out p)) MOST_OPTIONS parts.0 in
+      let size = leb-true (length (things p) + entries_of p (every_choice p) + 2 + leaving_entries (left_out p)) MOST_ENTRIES parts.1 in
+      both_ways (has_room p (length (things p)) (every_choice p)) h
+      (and_from _ _ (le-leb (length (every_choice p)) MOST_OPTIONS (omega (arith, count))) (le-leb (length (things p) + entries_of p (every_choice p) + 2) MOST_ENTRIES (omega (arith, size)))))
 
 -- the parts are those of the problem
 pub record AreParts (p : PuzzleValue) (names : List (List ℕ)) (primary : ℕ) (options : List (List ℕ)) : Type 0 where
   pub names_are : names ≡ map thing_name (things p)
   pub primary_is : primary ≡ length (needed_things p)
-  pub options_are : options ≡ map (option_of p) (choices p) ++ map (left_items p) (left_out p)
+  pub options_are : options ≡ map (option_of p) (every_choice p) ++ map (left_items p) (left_out p)
 
 same_made : (p : PuzzleValue) (names : List (List ℕ)) (primary : ℕ) (options : List (List ℕ)) → AreParts p names primary options
-    → problem_from names primary options ≡ problem_from (map thing_name (things p)) (length (needed_things p)) (map (option_of p) (choices p) ++ map (leaving_option p) (leavings p))
+    → problem_from names primary options ≡ problem_from (map thing_name (things p)) (length (needed_things p)) (map (option_of p) (every_choice p) ++ map (leaving_option p) (leavings p))
 same_made p names primary options a =
     ap (λ (ns : List (List ℕ)). problem_from ns primary options) a.names_are ∙ ap (λ (k : ℕ). problem_from (map thing_name (things p)) k options) a.primary_is
-    ∙ ap (problem_from (map thing_name (things p)) (length (needed_things p))) (a.options_are ∙ ap (λ (os : List (List ℕ)). map (option_of p) (choices p) ++ os) (leaving_options p))
+    ∙ ap (problem_from (map thing_name (things p)) (length (needed_things p))) (a.options_are ∙ ap (λ (os : List (List ℕ)). map (option_of p) (every_choice p) ++ os) (leaving_options p))
 
 -- these parts make the problem of the puzzle
 pub parts_make : (p : PuzzleValue) → IsPuzzle p → (names : List (List ℕ)) (primary : ℕ) (options : List (List ℕ)) → AreParts p names primary options → is_small (packing_problem p) ≡ true

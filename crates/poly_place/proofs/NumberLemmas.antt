@@ -11,7 +11,7 @@ use Rattle.poly_cells.proofs.SetLemmas.{in_append_left, in_append_cases, in_map,
 use Rattle.poly_cells.proofs.CellTestLemmas.{in_from_has, has_from_in, is_same_symmetric}
 use Rattle.poly_cells.specs.CellTests.{is_same, has_cell}
 use Rattle.poly_texts.specs.Puzzle.{PuzzleValue, IsPuzzle, names_of, has_name}
-use Rattle.poly_place.specs.Packings.{must_fill, Thing, a_piece, a_cell, same_thing, needed_things, index_among, item_of, a_node, other_things, pairs, levels, nodes, is_any, place_of}
+use Rattle.poly_place.specs.Packings.{must_fill, Thing, a_piece, a_cell, same_thing, needed_things, index_among, thing_item, a_node, other_things, pairs, tree_levels, nodes, is_any, place_of}
 use Rattle.poly_place.specs.Tables.{bit_index}
 use Rattle.poly_place.specs.Compiled.{needed_names, filled_cells, item_number_at, numbered, AreNumbers, before_nodes, ArePlaces}
 use Rattle.poly_cells.proofs.MemberLemmas.{passes, in_from_filter, in_filter, same_map, in_to_range}
@@ -52,8 +52,8 @@ no_cell name vs i = let v = in_from_map a_cell (a_piece name) vs i in let m = v.
 no_piece : (v : Coordinates) (names : List ℕ) → IsIn (a_cell v) (map a_piece names) → ⊥
 no_piece v names i = let n = in_from_map a_piece (a_cell v) names i in let m = n.2 in cc
 
-pub needed_item : (p : PuzzleValue) (name place : ℕ) → place ≡ index_among (a_piece name) (map a_piece (needed_names p)) → place < length (needed_names p) → item_of p (a_piece name) ≡ place + 1
-unfolding item_of
+pub needed_item : (p : PuzzleValue) (name place : ℕ) → place ≡ index_among (a_piece name) (map a_piece (needed_names p)) → place < length (needed_names p) → thing_item p (a_piece name) ≡ place + 1
+unfolding thing_item
 needed_item p name place e h =
     let long : length (map a_piece (needed_names p)) ≡ length (needed_names p) = length-map (needed_names p) a_piece in
     let here = place_found (a_piece name) (map a_piece (needed_names p)) (omega (arith, e, h, long)) in
@@ -62,8 +62,8 @@ needed_item p name place e h =
     omega (arith, e, inner, outer)
 
 pub maybe_item : (p : PuzzleValue) (name place later : ℕ) → IsIn name (names_of p.pieces) → is_any p name ≡ false → place ≡ index_among (a_piece name) (map a_piece (needed_names p))
-    → length (needed_names p) ≤ place → later ≡ index_among (a_piece name) (map a_piece p.maybe_pieces) → item_of p (a_piece name) ≡ length (needed_things p) + later + 1
-unfolding item_of
+    → length (needed_names p) ≤ place → later ≡ index_among (a_piece name) (map a_piece p.maybe_pieces) → thing_item p (a_piece name) ≡ length (needed_things p) + later + 1
+unfolding thing_item
 maybe_item p name place later member single e h l =
     let long : length (map a_piece (needed_names p)) ≡ length (needed_names p) = length-map (needed_names p) a_piece in
     let out : IsIn (a_piece name) (map a_piece (needed_names p)) → ⊥ = λ i. let at = (place_in nothing (a_piece name) (map a_piece (needed_names p)) i).0 in omega (arith, e, h, long, at) in
@@ -129,8 +129,8 @@ module _ (p : PuzzleValue) (z : IsPuzzle p) where
   maybe_distinct : IsDistinct p.maybe_cells
   maybe_distinct = distinct_rising coordinates_total p.maybe_cells z.maybe_rises
 
-  filled_item : (v : Coordinates) → IsIn v (filled_cells p) → item_of p (a_cell v) ≡ length (needed_names p) + index_among (a_cell v) (map a_cell (filled_cells p)) + 1
-  unfolding item_of
+  filled_item : (v : Coordinates) → IsIn v (filled_cells p) → thing_item p (a_cell v) ≡ length (needed_names p) + index_among (a_cell v) (map a_cell (filled_cells p)) + 1
+  unfolding thing_item
   filled_item v i =
       let must = (in_from_filter (must_fill p) v p.region i).1 in
       let outer = place_append (a_cell v) (needed_things p) (other_things p) (needed_cell p v must) in
@@ -138,8 +138,8 @@ module _ (p : PuzzleValue) (z : IsPuzzle p) where
       let long : length (map a_piece (needed_names p)) ≡ length (needed_names p) = length-map (needed_names p) a_piece in
       omega (arith, outer, inner, long)
 
-  empty_item : (v : Coordinates) → IsIn v p.maybe_cells → item_of p (a_cell v) ≡ length (needed_things p) + length p.maybe_pieces + index_among (a_cell v) (map a_cell p.maybe_cells) + 1
-  unfolding item_of
+  empty_item : (v : Coordinates) → IsIn v p.maybe_cells → thing_item p (a_cell v) ≡ length (needed_things p) + length p.maybe_pieces + index_among (a_cell v) (map a_cell p.maybe_cells) + 1
+  unfolding thing_item
   empty_item v i =
       let outside : IsIn (a_cell v) (needed_things p) → ⊥ = λ j.
       elim (needed_cases p (a_cell v) j) [
@@ -231,22 +231,22 @@ in_tree n h a (suc m) low high =
     false_and true = refl
     false_and false = refl
 
-tree_long : (p : PuzzleValue) (q : ℕ × ℕ) → length (nodes p q) ≡ 2 ^ levels p - 1
-tree_long p q = length-map (range_with_len 1 (2 ^ levels p - 1)) (a_node (q.0)) ∙ length-range_with_len 1 (2 ^ levels p - 1)
+tree_long : (p : PuzzleValue) (q : ℕ × ℕ) → length (nodes p q) ≡ 2 ^ tree_levels p - 1
+tree_long p q = length-map (range_with_len 1 (2 ^ tree_levels p - 1)) (a_node (q.0)) ∙ length-range_with_len 1 (2 ^ tree_levels p - 1)
 
 -- a tree has nodes of its own first name alone
 of_tree : (p : PuzzleValue) (q : ℕ × ℕ) (n h : ℕ) → IsIn (a_node n h) (nodes p q) → n ≡ q.0
-of_tree p q n h i = let m = in_from_map (a_node (q.0)) (a_node n h) (range_with_len 1 (2 ^ levels p - 1)) i in let e = m.2 in cc
+of_tree p q n h i = let m = in_from_map (a_node (q.0)) (a_node n h) (range_with_len 1 (2 ^ tree_levels p - 1)) i in let e = m.2 in cc
 
 -- ---- in the trees of some pairs with different first names
 
-in_trees : (p : PuzzleValue) (ps : List (ℕ × ℕ)) → ((q r : ℕ × ℕ) → IsIn q ps → IsIn r ps → q.0 ≡ r.0 → q ≡ r) → IsDistinct ps → (d : ℕ × ℕ) (k h : ℕ) → k < length ps → 0 < h → h < 2 ^ levels p
-    → index_among (a_node ((get_or ps k d).0) h) (flat_map (nodes p) ps) ≡ k * (2 ^ levels p - 1) + (h - 1)
+in_trees : (p : PuzzleValue) (ps : List (ℕ × ℕ)) → ((q r : ℕ × ℕ) → IsIn q ps → IsIn r ps → q.0 ≡ r.0 → q ≡ r) → IsDistinct ps → (d : ℕ × ℕ) (k h : ℕ) → k < length ps → 0 < h → h < 2 ^ tree_levels p
+    → index_among (a_node ((get_or ps k d).0) h) (flat_map (nodes p) ps) ≡ k * (2 ^ tree_levels p - 1) + (h - 1)
 in_trees p [] one dis d k h lt some within = absurd (omega arith)
 in_trees p (q ∷ ps) one dis d zero h lt some within =
-    let here : IsIn (a_node (q.0) h) (nodes p q) = in_map (a_node (q.0)) h (range_with_len 1 (2 ^ levels p - 1)) (in_to_range h 1 (2 ^ levels p - 1) some (omega arith)) in
+    let here : IsIn (a_node (q.0) h) (nodes p q) = in_map (a_node (q.0)) h (range_with_len 1 (2 ^ tree_levels p - 1)) (in_to_range h 1 (2 ^ tree_levels p - 1) some (omega arith)) in
     let first = place_append (a_node (q.0) h) (nodes p q) (flat_map (nodes p) ps) here in
-    let at = in_tree (q.0) h 1 (2 ^ levels p - 1) some (omega arith) in
+    let at = in_tree (q.0) h 1 (2 ^ tree_levels p - 1) some (omega arith) in
     omega (arith, first, at)
 in_trees p (q ∷ ps) one dis d (suc k) h lt some within =
     let r = get_or ps k d in
@@ -269,9 +269,9 @@ module _ (p : PuzzleValue) (z : IsPuzzle p) where
   not_cell : (n h : ℕ) → IsIn (a_node n h) (map a_cell p.maybe_cells) → ⊥
   not_cell n h i = let v = in_from_map a_cell (a_node n h) p.maybe_cells i in let e = v.2 in cc
 
-  pub node_item : (d : ℕ × ℕ) (k h : ℕ) → k < length (pairs p) → 0 < h → h < 2 ^ levels p
-      → item_of p (a_node ((get_or (pairs p) k d).0) h) ≡ before_nodes p + k * (2 ^ levels p - 1) + h
-  unfolding item_of
+  pub node_item : (d : ℕ × ℕ) (k h : ℕ) → k < length (pairs p) → 0 < h → h < 2 ^ tree_levels p
+      → thing_item p (a_node ((get_or (pairs p) k d).0) h) ≡ before_nodes p + k * (2 ^ tree_levels p - 1) + h
+  unfolding thing_item
   node_item d k h lt some within =
       let n = (get_or (pairs p) k d).0 in
       let trees = flat_map (nodes p) (pairs p) in
@@ -284,14 +284,14 @@ module _ (p : PuzzleValue) (z : IsPuzzle p) where
       omega (arith, a, b, c, e, f, g)
 
   -- the items of the nodes that a leaf reaches are what the code adds
-  pub right_items : (d : ℕ × ℕ) (k n : ℕ) → k < length (pairs p) → IsBelow (levels p) n
-      → map (item_of p) (map (a_node ((get_or (pairs p) k d).0)) (from_right (levels p) n)) ≡ map (λ h. (before_nodes p + k * (2 ^ levels p - 1)) + h) (from_right (levels p) n)
+  pub right_items : (d : ℕ × ℕ) (k n : ℕ) → k < length (pairs p) → IsBelow (tree_levels p) n
+      → map (thing_item p) (map (a_node ((get_or (pairs p) k d).0)) (from_right (tree_levels p) n)) ≡ map (λ h. (before_nodes p + k * (2 ^ tree_levels p - 1)) + h) (from_right (tree_levels p) n)
   right_items d k n lt b =
-      map-map (item_of p) (a_node ((get_or (pairs p) k d).0)) (from_right (levels p) n)
-      ∙ same_map _ _ (from_right (levels p) n) (λ h i. node_item d k h lt (right_some (levels p) n h b i) (right_above (levels p) n h b i))
+      map-map (thing_item p) (a_node ((get_or (pairs p) k d).0)) (from_right (tree_levels p) n)
+      ∙ same_map _ _ (from_right (tree_levels p) n) (λ h i. node_item d k h lt (right_some (tree_levels p) n h b i) (right_above (tree_levels p) n h b i))
 
-  pub left_items : (d : ℕ × ℕ) (k n : ℕ) → k < length (pairs p) → IsBelow (levels p) n
-      → map (item_of p) (map (a_node ((get_or (pairs p) k d).0)) (from_left (levels p) n)) ≡ map (λ h. (before_nodes p + k * (2 ^ levels p - 1)) + h) (from_left (levels p) n)
+  pub left_items : (d : ℕ × ℕ) (k n : ℕ) → k < length (pairs p) → IsBelow (tree_levels p) n
+      → map (thing_item p) (map (a_node ((get_or (pairs p) k d).0)) (from_left (tree_levels p) n)) ≡ map (λ h. (before_nodes p + k * (2 ^ tree_levels p - 1)) + h) (from_left (tree_levels p) n)
   left_items d k n lt b =
-      map-map (item_of p) (a_node ((get_or (pairs p) k d).0)) (from_left (levels p) n)
-      ∙ same_map _ _ (from_left (levels p) n) (λ h i. node_item d k h lt (left_some (levels p) n h b i) (left_above (levels p) n h b i))
+      map-map (thing_item p) (a_node ((get_or (pairs p) k d).0)) (from_left (tree_levels p) n)
+      ∙ same_map _ _ (from_left (tree_levels p) n) (λ h i. node_item d k h lt (left_some (tree_levels p) n h b i) (left_above (tree_levels p) n h b i))

@@ -9,15 +9,15 @@ use Rattle.poly_cells.specs.Coordinates.{Coordinates}
 use Rattle.poly_cells.specs.Sets.{IsIn}
 use Rattle.poly_texts.specs.Puzzle.{PuzzleValue, IsPuzzle}
 use Rattle.cover_problem.specs.declared.limits.TheConstants.{MOST_OPTIONS, MOST_ENTRIES}
-use Rattle.poly_place.specs.Packings.{ChoiceValue, IsPlaced, choices_of_piece, choices, things_of, option_of}
+use Rattle.poly_place.specs.Packings.{ChoiceValue, IsPlaced, choices_of_piece, every_choice, things_of, option_of}
 use Rattle.poly_place.specs.Compiled.{entries_of, has_room}
 use Rattle.poly_cells.proofs.SetLemmas.{in_at, take_next}
 use Rattle.poly_place.proofs.PlacedLemmas.{has_shapes, placed_in}
 
 -- a choice of the list is placed
-pub chosen_at : (p : PuzzleValue) → IsPuzzle p → (cs : List ChoiceValue) (i : ℕ) (c : ChoiceValue) → cs ≡ choices p → i < length cs → c ≡ get_or cs i c → IsPlaced p c × IsIn c (choices p)
+pub chosen_at : (p : PuzzleValue) → IsPuzzle p → (cs : List ChoiceValue) (i : ℕ) (c : ChoiceValue) → cs ≡ every_choice p → i < length cs → c ≡ get_or cs i c → IsPlaced p c × IsIn c (every_choice p)
 chosen_at p z cs i c same lt is =
-    let here : IsIn c (choices p) = subst (λ (ds : List ChoiceValue). IsIn c ds) same (subst (λ (d : ChoiceValue). IsIn d cs) (sym is) (in_at cs i c lt)) in
+    let here : IsIn c (every_choice p) = subst (λ (ds : List ChoiceValue). IsIn c ds) same (subst (λ (d : ChoiceValue). IsIn d cs) (sym is) (in_at cs i c lt)) in
     (placed_in p (has_shapes p z) c here, here)
 
 pub one_option : (p : PuzzleValue) (cs : List ChoiceValue) (i : ℕ) (c : ChoiceValue) (before after : List (List ℕ)) → i < length cs → c ≡ get_or cs i c → after ≡ before ++ option_of p c ∷ []
@@ -36,8 +36,8 @@ choices_next p pieces k q lt is =
     sym (flat_map_more (choices_of_piece p) [] (take k pieces) q
     ∙ ap (flat_map (choices_of_piece p)) (sym (take_next pieces k q lt is)))
 
-pub choices_all : (p : PuzzleValue) → flat_map (choices_of_piece p) p.pieces ≡ choices p
-unfolding choices
+pub choices_all : (p : PuzzleValue) → flat_map (choices_of_piece p) p.pieces ≡ every_choice p
+unfolding every_choice
 choices_all p = refl
 
 -- ---- room
@@ -60,7 +60,7 @@ no_room p n xs ys h = false_from_ne_true _ (λ t. both_ways (has_room p n xs) h 
 
 -- where there is no room for the choices of the first pieces, there is none for all
 pub no_room_before : (p : PuzzleValue) (n : ℕ) (pieces : List (ℕ × List Coordinates)) (k : ℕ) → pieces ≡ p.pieces → has_room p n (choices_before p pieces k) ≡ false
-    → has_room p n (choices p) ≡ false
+    → has_room p n (every_choice p) ≡ false
 no_room_before p n pieces k same f =
     ap (has_room p n) (sym (choices_all p) ∙ ap (flat_map (choices_of_piece p)) (sym same ∙ sym (take-append-drop k pieces)) ∙ flat_map-append (choices_of_piece p) (take k pieces) (drop k pieces))
     ∙ no_room p n (choices_before p pieces k) (flat_map (choices_of_piece p) (drop k pieces)) f

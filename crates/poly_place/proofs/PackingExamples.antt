@@ -1,6 +1,6 @@
 -- The example of specs/Packings.antt, computed; and two equal pieces of one cell, one that may be used any number of times, and one that may
 -- be reflected.
-use Rattle.std.proofs.Common.{◌≡◌, ◌≤◌, ℕ, List, [], ◌∷◌, length, inl, inr, refl, sym, ap, subst, arith}
+use Rattle.std.proofs.Common.{◌≡◌, ◌≤◌, ℕ, List, [], ◌∷◌, length, inl, inr, refl, sym, ap, subst, arith, true, false}
 use Rattle.std.specs.List.Sorted.{IsStrictlySortedBy}
 use Rattle.poly_cells.specs.Coordinates.{Coordinates, IsInGrid, coordinates, coordinates_cmp}
 use Rattle.poly_cells.specs.Symmetries.{matrix, is_rotation, rotations}
@@ -9,7 +9,7 @@ use Rattle.poly_cells.specs.Shapes.{normal, turned}
 use Rattle.poly_texts.specs.Puzzle.{PuzzleValue, IsPuzzle, IsPiece, ArePieces, IsOneShape}
 use Rattle.poly_place.specs.declared.alike.Group.TheVariants.{Rotations, Symmetries}
 use Rattle.poly_place.specs.Placements.{orientations, placements, turns_by}
-use Rattle.poly_place.specs.Packings.{choices, leavings, item_of, levels, levels_for, packing_problem, choice, a_piece, a_cell}
+use Rattle.poly_place.specs.Packings.{every_choice, leavings, thing_item, tree_levels, levels_for, leaves_room, packing_problem, choice_with, a_piece, a_cell}
 use Rattle.poly_place.specs.Chosen.{chosen_by}
 
 -- the pieces A and B of one cell each, for the region 0 0 0, 1 0 0: B may be left out, and 1 0 0 may stay empty
@@ -26,26 +26,26 @@ pair = record {
   spare = [];
 }
 
-three_choices : choices pair ≡ choice 65 (coordinates 0 0 0 ∷ []) ∷ choice 65 (coordinates 1 0 0 ∷ []) ∷ choice 66 (coordinates 0 0 0 ∷ []) ∷ []
-unfolding choices placements orientations in_order turned normal rotations is_rotation matrix
+three_choices : every_choice pair ≡ choice_with 65 (coordinates 0 0 0 ∷ []) ∷ choice_with 65 (coordinates 1 0 0 ∷ []) ∷ choice_with 66 (coordinates 0 0 0 ∷ []) ∷ []
+unfolding every_choice placements orientations in_order turned normal rotations is_rotation matrix
 three_choices = refl
 
-third_item : item_of pair (a_piece 66) ≡ 3
-unfolding item_of
+third_item : thing_item pair (a_piece 66) ≡ 3
+unfolding thing_item
 third_item = refl
 
-last_item : item_of pair (a_cell (coordinates 1 0 0)) ≡ 4
-unfolding item_of
+last_item : thing_item pair (a_cell (coordinates 1 0 0)) ≡ 4
+unfolding thing_item
 last_item = refl
 
 -- the items A, 000, B and 100, of which A and 000 are primary, and the options A 000, A 100 and B 000
 pair_problem : packing_problem pair ≡ record { names = (65 ∷ []) ∷ (48 ∷ 48 ∷ 48 ∷ []) ∷ (66 ∷ []) ∷ (49 ∷ 48 ∷ 48 ∷ []) ∷ []; primary = 2; options = (1 ∷ 2 ∷ []) ∷ (1 ∷ 4 ∷ []) ∷ (3 ∷ 2 ∷ []) ∷ [] }
-unfolding packing_problem choices leavings item_of placements orientations in_order turned normal rotations is_rotation matrix
+unfolding packing_problem every_choice leavings thing_item placements orientations in_order turned normal rotations is_rotation matrix
 pair_problem = refl
 
 -- the options 3 2, in the order of the pieces
-its_packing : chosen_by pair (3 ∷ 2 ∷ []) ≡ choice 65 (coordinates 1 0 0 ∷ []) ∷ choice 66 (coordinates 0 0 0 ∷ []) ∷ []
-unfolding choices placements orientations in_order turned normal rotations is_rotation matrix
+its_packing : chosen_by pair (3 ∷ 2 ∷ []) ≡ choice_with 65 (coordinates 1 0 0 ∷ []) ∷ choice_with 66 (coordinates 0 0 0 ∷ []) ∷ []
+unfolding every_choice placements orientations in_order turned normal rotations is_rotation matrix
 its_packing = refl
 
 -- ---- equal pieces
@@ -70,14 +70,24 @@ equals = record {
   spare = [];
 }
 
--- the items A, B, 000, 100 and A_001, of which all but the last are primary, and the options A 000, A 100 A_001, B 000 A_001 and B 100:
+-- after 0 0 0 there is room for B, and after 1 0 0 there is none, unless B may be left out
+leaves_one : leaves_room equals (choice_with 65 (coordinates 0 0 0 ∷ [])) ≡ true
+leaves_one = refl
+
+leaves_none : leaves_room equals (choice_with 65 (coordinates 1 0 0 ∷ [])) ≡ false
+leaves_none = refl
+
+nothing_needed : leaves_room (record equals { spare = 66 ∷ [] }) (choice_with 65 (coordinates 1 0 0 ∷ [])) ≡ true
+nothing_needed = refl
+
+-- the items A, B, 000, 100 and A_001, of which all but the last are primary, and the options A 000, B 000 A_001 and B 100:
 -- the one exact cover is A 000, B 100
 its_problem : packing_problem equals ≡ record {
   names = (65 ∷ []) ∷ (66 ∷ []) ∷ (48 ∷ 48 ∷ 48 ∷ []) ∷ (49 ∷ 48 ∷ 48 ∷ []) ∷ (65 ∷ 95 ∷ 48 ∷ 48 ∷ 49 ∷ []) ∷ [];
   primary = 4;
-  options = (1 ∷ 3 ∷ []) ∷ (1 ∷ 4 ∷ 5 ∷ []) ∷ (2 ∷ 3 ∷ 5 ∷ []) ∷ (2 ∷ 4 ∷ []) ∷ [];
+  options = (1 ∷ 3 ∷ []) ∷ (2 ∷ 3 ∷ 5 ∷ []) ∷ (2 ∷ 4 ∷ []) ∷ [];
 }
-unfolding packing_problem choices leavings item_of levels levels_for placements orientations in_order turned normal rotations is_rotation matrix
+unfolding packing_problem every_choice leavings thing_item tree_levels levels_for placements orientations in_order turned normal rotations is_rotation matrix
 its_problem = refl
 
 within : (x y z : ℕ) → x ≤ 31 → y ≤ 31 → z ≤ 31 → IsInGrid (coordinates x y z)
@@ -175,7 +185,7 @@ abbrev any_cell : PuzzleValue
 any_cell = record { pieces = (65, one_cell) ∷ []; maybe_pieces = []; region = row_of_two; maybe_cells = []; any_pieces = 65 ∷ []; mirrored = []; equal = []; symbols = []; spare = [] }
 
 any_problem : packing_problem any_cell ≡ record { names = (48 ∷ 48 ∷ 48 ∷ []) ∷ (49 ∷ 48 ∷ 48 ∷ []) ∷ []; primary = 2; options = (1 ∷ []) ∷ (2 ∷ []) ∷ [] }
-unfolding packing_problem choices leavings item_of levels levels_for placements orientations in_order turned normal rotations is_rotation matrix
+unfolding packing_problem every_choice leavings thing_item tree_levels levels_for placements orientations in_order turned normal rotations is_rotation matrix
 any_problem = refl
 
 -- the left screw has 12 turned forms, and 24 with those of its reflection

@@ -14,12 +14,13 @@ use Rattle.poly_cells.proofs.SetLemmas.{in_at, in_map, in_from_map, in_order_ris
 use Rattle.poly_texts.specs.Puzzle.{PuzzleValue, IsPuzzle, names_of, has_name}
 use Rattle.cover_problem.specs.Lists.{has}
 use Rattle.cover_problem.specs.ExactCover.{IsExactCover}
-use Rattle.poly_place.specs.Packings.{ChoiceValue, choice, choices, choices_of_piece, choice_at, laying_count, packing_problem}
+use Rattle.poly_place.specs.Packings.{ChoiceValue, choice_with, every_choice, choices_of_piece, choice_at, laying_count, packing_problem}
 use Rattle.poly_place.specs.Chosen.{laying, chosen_by, is_among, same_choice, names_in, AreInPieceOrder, ComeByPiece, place_in}
 use Rattle.poly_cells.proofs.MemberLemmas.{in_from_filter, in_filter, passes_some}
 use Rattle.poly_place.proofs.DistinctLemmas.{IsDistinct, distinct_names, in_from_name, name_from_in}
 use Rattle.poly_place.proofs.FormLemmas.{place_tells}
-use Rattle.poly_place.proofs.PackingLemmas.{same_choice_itself, same_number, chosen_in}
+use Rattle.poly_place.proofs.PackingLemmas.{same_choice_itself}
+use Rattle.poly_place.proofs.StandLemmas.{same_number, chosen_in}
 use Rattle.poly_place.proofs.PlacedLemmas.{named_by, named_among}
 use Rattle.poly_place.proofs.ChosenLemmas.{in_laying, cover_packs}
 
@@ -67,15 +68,15 @@ names_rise (n ∷ ns) d =
 -- ---- what may be chosen comes piece by piece
 
 abbrev name_at : List ChoiceValue → ℕ → ℕ
-name_at cs i = (get_or cs i (choice 0 [])).name
+name_at cs i = (get_or cs i (choice_with 0 [])).name
 
 first_name : (p : PuzzleValue) (n : ℕ × List Coordinates) (ds : List ChoiceValue) (i : ℕ) → i < length (choices_of_piece p n) → name_at (choices_of_piece p n ++ ds) i ≡ n.0
 first_name p n ds i lt =
-    ap (λ (c : ChoiceValue). c.name) (get_or_append_left (choices_of_piece p n) ds (choice 0 []) i lt)
-    ∙ named_by p n (get_or (choices_of_piece p n) i (choice 0 [])) (in_at (choices_of_piece p n) i (choice 0 []) lt)
+    ap (λ (c : ChoiceValue). c.name) (get_or_append_left (choices_of_piece p n) ds (choice_with 0 []) i lt)
+    ∙ named_by p n (get_or (choices_of_piece p n) i (choice_with 0 [])) (in_at (choices_of_piece p n) i (choice_with 0 []) lt)
 
 later_name : (p : PuzzleValue) (n : ℕ × List Coordinates) (ds : List ChoiceValue) (i : ℕ) → length (choices_of_piece p n) ≤ i → name_at (choices_of_piece p n ++ ds) i ≡ name_at ds (i - length (choices_of_piece p n))
-later_name p n ds i le = ap (λ (c : ChoiceValue). c.name) (get_or-append_right (choices_of_piece p n) ds (length (choices_of_piece p n)) i (choice 0 []) refl le)
+later_name p n ds i le = ap (λ (c : ChoiceValue). c.name) (get_or-append_right (choices_of_piece p n) ds (length (choices_of_piece p n)) i (choice_with 0 []) refl le)
 
 -- a name of a later piece is at a place one more than among the later pieces
 place_after : (p : PuzzleValue) (n : ℕ × List Coordinates) (ns : List (ℕ × List Coordinates)) → IsDistinct (names_of (n ∷ ns)) → (i : ℕ) → length (choices_of_piece p n) ≤ i → i < length (choices_of_piece p n ++ flat_map (choices_of_piece p) ns)
@@ -85,7 +86,7 @@ place_after p n ns d i le within =
     let k = i - length (choices_of_piece p n) in
     let inside : k < length (flat_map (choices_of_piece p) ns) = omega (arith, le, within, len) in
     ap (place_in (names_of (n ∷ ns))) (later_name p n (flat_map (choices_of_piece p) ns) i le)
-    ∙ later_place (n.0) (name_at (flat_map (choices_of_piece p) ns) k) (names_of ns) d.0 (named_among p ns (get_or (flat_map (choices_of_piece p) ns) k (choice 0 [])) (in_at (flat_map (choices_of_piece p) ns) k (choice 0 []) inside))
+    ∙ later_place (n.0) (name_at (flat_map (choices_of_piece p) ns) k) (names_of ns) d.0 (named_among p ns (get_or (flat_map (choices_of_piece p) ns) k (choice_with 0 [])) (in_at (flat_map (choices_of_piece p) ns) k (choice_with 0 []) inside))
 
 piece_by_piece : (p : PuzzleValue) (ns : List (ℕ × List Coordinates)) → IsDistinct (names_of ns) → (i j : ℕ) → i < j → j < length (flat_map (choices_of_piece p) ns)
     → place_in (names_of ns) (name_at (flat_map (choices_of_piece p) ns) i) ≤ place_in (names_of ns) (name_at (flat_map (choices_of_piece p) ns) j)
@@ -109,12 +110,12 @@ piece_by_piece p (n ∷ ns) d i j lt within =
 choice_place : PuzzleValue → ℕ → ℕ
 choice_place p o = place_in (names_of p.pieces) (choice_at p o).name
 
-choices_by_piece : (p : PuzzleValue) → IsPuzzle p → (a b : ℕ) → 0 < a → a < b → b ≤ length (choices p) → choice_place p a ≤ choice_place p b
-unfolding choices choice_place
+choices_by_piece : (p : PuzzleValue) → IsPuzzle p → (a b : ℕ) → 0 < a → a < b → b ≤ length (every_choice p) → choice_place p a ≤ choice_place p b
+unfolding every_choice choice_place
 choices_by_piece p z a b some lt within = piece_by_piece p p.pieces (distinct_names (names_of p.pieces) z.new) (a - 1) (b - 1) (omega (arith, some, lt)) (omega (arith, some, lt, within))
 
-choice_named : (p : PuzzleValue) (c : ChoiceValue) → IsIn c (choices p) → IsIn c.name (names_of p.pieces)
-unfolding choices
+choice_named : (p : PuzzleValue) (c : ChoiceValue) → IsIn c (every_choice p) → IsIn c.name (names_of p.pieces)
+unfolding every_choice
 choice_named p c i = named_among p p.pieces c i
 
 -- ---- what doesn't fall from a member to a greater one never falls
@@ -133,7 +134,7 @@ never_falls R f n (x ∷ xs) h keeps (suc i) (suc j) d le lt =
 -- ---- the placements of a packing
 
 module _ (p : PuzzleValue) (z : IsPuzzle p) (path : List ℕ) (e : IsExactCover (packing_problem p) (has path)) where
-  in_path : (o : ℕ) → IsIn o (laying p path) → (0 < o) × (o ≤ length (choices p))
+  in_path : (o : ℕ) → IsIn o (laying p path) → (0 < o) × (o ≤ length (every_choice p))
   in_path o i = let there = in_laying p path o i in ((e.options o (name_from_in path o there.0)).0, there.1)
 
   laying_rises : IsStrictlySortedBy nat_cmp (laying p path)

@@ -1,5 +1,5 @@
 -- Places in a rising list are in the order of the cells, and a tree of so many levels has a leaf for each.
-use Rattle.std.proofs.Common.{◌≡◌, ℕ, ◌+◌, ◌^◌, ◌<◌, ◌≤◌, List, [], ◌∷◌, length, Bool, true, cond, nat_le, inl, inr, refl, sym, ap, subst, ◌∙◌, arith, Less, get_or}
+use Rattle.std.proofs.Common.{◌≡◌, ◌⊎◌, ℕ, zero, suc, ◌+◌, ◌-◌, ◌^◌, ◌<◌, ◌≤◌, List, [], ◌∷◌, length, Bool, true, cond, nat_le, inl, inr, refl, sym, ap, subst, ◌∙◌, arith, Less, get_or}
 use Rattle.std.specs.List.{position_or_len, range_with_len}
 use Rattle.std.specs.List.Sorted.{IsStrictlySortedBy}
 use Rattle.std.proofs.lemmas.Bool.{cases_Bool, cases_lt, leb-true}
@@ -83,3 +83,34 @@ enough_levels n h =
           leb-true n (2 ^ k) (subst (λ (j : ℕ). test j ≡ true) is there)
       | inr past ↦ let more = pow-le-pow_right {n = 2} (omega arith) past in omega (arith, more, h)
     ]
+
+-- ---- the cells from a place on
+
+abbrev pub past : ℕ → List Coordinates → List Coordinates
+past zero vs = vs
+past (suc k) [] = []
+past (suc k) (v ∷ vs) = past k vs
+
+pub past_long : (k : ℕ) (vs : List Coordinates) → length (past k vs) ≡ length vs - k
+past_long zero vs = omega arith
+past_long (suc k) [] = omega arith
+past_long (suc k) (v ∷ vs) = let rest = past_long k vs in omega (arith, rest)
+
+pub in_past : (k : ℕ) (cs : List Coordinates) (v : Coordinates) → IsIn v cs → k ≤ place_of cs v → IsIn v (past k cs)
+in_past zero cs v i le = i
+in_past (suc k) [] v i le = i
+in_past (suc k) (c ∷ cs) v i le =
+    elim (cases_Bool (is_same c v)) [
+      | inl t ↦ let at = here c v cs ((is_same_Decides c v).0 t) in absurd (omega (arith, at, le))
+      | inr f ↦
+          let at : place_of (c ∷ cs) v ≡ 1 + place_of cs v = ap (at_place c cs v) f in
+          elim i [
+            | inl e ↦ let zero_at = here c v cs (sym e) in absurd (omega (arith, zero_at, le))
+            | inr r ↦ in_past k cs v r (omega (arith, at, le))
+          ]
+    ]
+
+-- the first of rising cells is the least
+pub first_least : (vs : List Coordinates) (v : Coordinates) → IsStrictlySortedBy coordinates_cmp vs → IsIn v vs → (v ≡ first_cell vs) ⊎ (coordinates_cmp (first_cell vs) v ≡ Less)
+first_least [] v h i = absurd i
+first_least (w ∷ ws) v h i = elim i [ inl e ↦ inl e | inr r ↦ inr (rising_head coordinates_cmp w ws h v r) ]

@@ -16,7 +16,7 @@ use Rattle.poly_cells.proofs.ShapeLemmas.{turned_is_shape}
 use Rattle.poly_cells.proofs.CellTestLemmas.{in_from_has, has_from_in}
 use Rattle.poly_cells.specs.CellTests.{has_cell}
 use Rattle.poly_place.specs.Placements.{cells_cmp, IsPlacement, ArePlacements, is_below, if_inside, at_cell, at_cells, orientations, placements}
-use Rattle.poly_place.specs.Tables.{has_bit, IsTable}
+use Rattle.poly_place.specs.Tables.{has_bit, IsCellTable}
 use Rattle.poly_place.proofs.OrderLemmas.{cells_total, cells_exact}
 use Rattle.poly_place.proofs.WalkLemmas.{at_cells_same}
 use Rattle.poly_place.proofs.MoveLemmas.{moved_rises, moved_image, moved_by, is_moved}
@@ -155,7 +155,7 @@ are_shapes turns piece region sets s r is set i =
 
 -- with a table of the region in its place
 pub found_placements : (turns : List ℕ) (piece region cells : List Coordinates) (bits read : List Bool) (forms walked sets found : List (List Coordinates))
-    → cells ≡ region → IsTable cells bits → read ≡ bits → forms ≡ orientations turns piece → walked ≡ forms → sets ≡ flat_map (at_cells (has_bit read) cells) walked → found ≡ in_order cells_cmp sets
+    → cells ≡ region → IsCellTable cells bits → read ≡ bits → forms ≡ orientations turns piece → walked ≡ forms → sets ≡ flat_map (at_cells (has_bit read) cells) walked → found ≡ in_order cells_cmp sets
     → found ≡ placements turns piece region
 unfolding placements
 found_placements turns piece region cells bits read forms walked sets found same table reads are walks all sorted =

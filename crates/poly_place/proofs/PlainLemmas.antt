@@ -1,12 +1,13 @@
 -- Puzzles without the new lines have the problem that they had.
-use Rattle.std.proofs.Common.{◌≡◌, ℕ, ◌+◌, List, [], ◌∷◌, ◌++◌, map, filter, flat_map, length, Bool, true, false, not, ◌&&◌, ◌||◌, refl, sym, ap, ap₂, subst, ◌∙◌, append-nil}
+use Rattle.std.proofs.Common.{◌≡◌, ℕ, ◌+◌, ◌*◌, ◌-◌, arith, List, [], ◌∷◌, ◌++◌, map, filter, flat_map, length, Bool, true, false, not, ◌&&◌, ◌||◌, refl, sym, ap, ap₂, subst, ◌∙◌, append-nil}
 use Rattle.std.specs.List.{list_any}
+use Rattle.std.proofs.lemmas.Bool.{le-leb}
 use Rattle.poly_cells.specs.Coordinates.{Coordinates}
 use Rattle.poly_cells.specs.Symmetries.{rotations}
 use Rattle.poly_cells.proofs.MemberLemmas.{same_function}
 use Rattle.poly_texts.specs.Puzzle.{PuzzleValue, has_name, is_needed, names_of}
 use Rattle.poly_place.specs.Placements.{placements}
-use Rattle.poly_place.specs.Packings.{ChoiceValue, choice, is_useful, must_fill, Thing, a_piece, a_cell, needed_things, other_things, things, things_of, item_of, index_among, option_of, leaving_option, leavings, choices, choices_of_piece, packing_problem}
+use Rattle.poly_place.specs.Packings.{ChoiceValue, choice_with, is_useful, leaves_room, may_be_chosen, place_of, first_cell, must_fill, Thing, a_piece, a_cell, needed_things, other_things, things, things_of, thing_item, index_among, option_of, leaving_option, leavings, every_choice, choices_of_piece, packing_problem}
 use Rattle.poly_place.specs.Plain.{plain_needed, plain_things, plain_option, plain_choices, plain_problem, PlainStay}
 
 -- of the parts of a puzzle, the new ones empty
@@ -38,22 +39,31 @@ module _ (pieces : List (ℕ × List Coordinates)) (maybe : List ℕ) (region ce
   parts_same c = ap (λ (xs : List Thing). a_piece c.name ∷ xs) (append-nil (map a_cell c.cells))
 
   option_same : (c : ChoiceValue) → option_of p c ≡ plain_option p c
-  unfolding item_of
+  unfolding thing_item
   option_same c = ap₂ (λ (all ts : List Thing). map (λ (t : Thing). index_among t all + 1) ts) things_same (parts_same c)
 
   useful_same : (c : ChoiceValue) → is_useful p c ≡ (not (has_name p.maybe_pieces c.name) || list_any (must_fill p) c.cells)
   useful_same c = ap (λ (b : Bool). b || list_any (must_fill p) c.cells) (needed_same c.name)
 
-  choices_same : choices p ≡ plain_choices p
-  unfolding choices p plain_of
+  -- no copies follow, so there is room for them
+  room_left : (c : ChoiceValue) → leaves_room p c ≡ true
+  unfolding p plain_of
+  room_left c = le-leb (0 * length c.cells) (length region - place_of region (first_cell c.cells) - length c.cells) (omega arith)
+
+  chosen_same : (c : ChoiceValue) → may_be_chosen p c ≡ (not (has_name p.maybe_pieces c.name) || list_any (must_fill p) c.cells)
+  chosen_same c =
+      ap (λ (b : Bool). is_useful p c && b) (room_left c) ∙ and_true (is_useful p c) ∙ useful_same c
+
+  choices_same : every_choice p ≡ plain_choices p
+  unfolding every_choice p plain_of
   choices_same =
-      ap (λ (test : ChoiceValue → Bool). flat_map (λ (n : ℕ × List Coordinates). filter test (map (choice (n.0)) (placements rotations (n.1) region))) pieces)
-      (same_function (is_useful p) (λ c. not (has_name p.maybe_pieces c.name) || list_any (must_fill p) c.cells) useful_same)
+      ap (λ (test : ChoiceValue → Bool). flat_map (λ (n : ℕ × List Coordinates). filter test (map (choice_with (n.0)) (placements rotations (n.1) region))) pieces)
+      (same_function (may_be_chosen p) (λ c. not (has_name p.maybe_pieces c.name) || list_any (must_fill p) c.cells) chosen_same)
 
   -- nothing is left out, as there are no equal pieces
-  options_same : map (option_of p) (choices p) ++ map (leaving_option p) (leavings p) ≡ map (option_of p) (choices p)
+  options_same : map (option_of p) (every_choice p) ++ map (leaving_option p) (leavings p) ≡ map (option_of p) (every_choice p)
   unfolding leavings p plain_of
-  options_same = append-nil (map (option_of p) (choices p))
+  options_same = append-nil (map (option_of p) (every_choice p))
 
   problem_same : packing_problem p ≡ plain_problem p
   unfolding packing_problem
@@ -61,7 +71,7 @@ module _ (pieces : List (ℕ × List Coordinates)) (maybe : List ℕ) (region ce
       ap₂ (λ (needed all : List Thing). record {
         names = map Rattle.poly_place.specs.Packings.thing_name all;
         primary = length needed;
-        options = map (option_of p) (choices p) ++ map (leaving_option p) (leavings p);
+        options = map (option_of p) (every_choice p) ++ map (leaving_option p) (leavings p);
       }) needed_things_same things_same
       ∙ ap (λ (os : List (List ℕ)). record {
         names = map Rattle.poly_place.specs.Packings.thing_name (plain_things p);

@@ -7,12 +7,12 @@ use Rattle.poly_cells.specs.Sets.{IsIn}
 use Rattle.poly_cells.proofs.SetLemmas.{in_map, in_from_map}
 use Rattle.poly_cells.proofs.MemberLemmas.{in_flat_map, in_from_flat_map, in_from_filter, in_filter, passes}
 use Rattle.poly_texts.specs.Puzzle.{PuzzleValue, IsPuzzle, names_of, has_name, is_needed, is_spare}
-use Rattle.poly_place.specs.Packings.{ChoiceValue, neighbours, pairs, IsUsed, IsPlaced, IsPacking, choices, option_of, leaving_option, leavings, packing_problem}
+use Rattle.poly_place.specs.Packings.{ChoiceValue, neighbours, pairs, IsUsed, IsPlaced, IsPacking, every_choice, option_of, leaving_option, leavings, packing_problem}
 use Rattle.poly_place.specs.Ranges.{AreSpareEnds, is_kept, fixed_without, SumOfFixed, SurePuzzlesStay}
 use Rattle.poly_place.proofs.DistinctLemmas.{in_from_name, name_from_in}
 use Rattle.poly_place.proofs.PairLemmas.{all_of, among_groups, equal_named, equal_single}
-use Rattle.poly_place.proofs.PlacedLemmas.{has_shapes, in_placed}
-use Rattle.poly_place.proofs.LeavingLemmas.{split_by, neighbours_more, uses, used_from, from_used, leaving_is, first_left}
+use Rattle.poly_place.proofs.PlacedLemmas.{has_shapes, layable, in_layable}
+use Rattle.poly_place.proofs.LeavingsLemmas.{split_by, neighbours_more, uses, used_from, from_used, leaving_is, first_left}
 use Rattle.poly_place.proofs.SwapLemmas.{neighbours_left}
 
 -- ---- neighbours that are left
@@ -118,8 +118,8 @@ module _ (p : PuzzleValue) (z : IsPuzzle p) (gone : List ℕ) (e : AreSpareEnds 
 -- ---- a packing is one with fixed numbers
 
 module _ (p : PuzzleValue) (z : IsPuzzle p) (chosen : ChoiceValue → Bool) (k : IsPacking p chosen) where
-  among : (c : ChoiceValue) → chosen c ≡ true → IsIn c (choices p)
-  among c h = in_placed p (has_shapes p z) c (k.placed c h)
+  among : (c : ChoiceValue) → chosen c ≡ true → IsIn c (layable p)
+  among c h = in_layable p (has_shapes p z) c (k.placed c h)
 
   -- the spare copies that it leaves out
   gone_by : List ℕ
@@ -196,4 +196,4 @@ sure_puzzles_stay p none =
     let empty = none_in (leavings p) (λ parts i.
     let l = leaving_is p parts i in
     both_ways (is_spare p l.parted.first) (ap (λ (ns : List ℕ). has_name ns l.parted.first) none) (l.spare l.parted.first (first_left l.group parts l.parted))) in
-    ap (λ (ls : List (List ℕ × List ℕ)). map (option_of p) (choices p) ++ map (leaving_option p) ls) empty ∙ append-nil (map (option_of p) (choices p))
+    ap (λ (ls : List (List ℕ × List ℕ)). map (option_of p) (every_choice p) ++ map (leaving_option p) ls) empty ∙ append-nil (map (option_of p) (every_choice p))

@@ -5,7 +5,7 @@ use Rattle.poly_cells.specs.Coordinates.{Coordinates}
 use Rattle.poly_texts.specs.Puzzle.{PuzzleValue}
 use Rattle.cover_problem.specs.declared.limits.TheConstants.{MOST_OPTIONS, MOST_ENTRIES}
 use Rattle.cover_problem.specs.Problem.{is_small}
-use Rattle.poly_place.specs.Packings.{ChoiceValue, choices_of_piece, choices, things, packing_problem}
+use Rattle.poly_place.specs.Packings.{ChoiceValue, choices_of_piece, every_choice, things, packing_problem}
 use Rattle.poly_place.specs.Compiled.{LaysWithin, left_out, entries_of, has_room, has_room_beside}
 use Rattle.poly_place.proofs.OptionLemmas.{choices_before, choices_next, entries_append, no_room_before}
 use Rattle.poly_place.proofs.MadeLemmas.{small_is, large_by_choices}
@@ -39,7 +39,7 @@ module _ (p : PuzzleValue) (pieces : List (ℕ × List Coordinates)) (k items op
   pub counted_past : pieces ≡ p.pieces → items ≡ length (things p) → items ≤ 65535 → (entries + entries_of p cs ≤ MOST_ENTRIES → e ≤ MOST_ENTRIES)
       → (MOST_OPTIONS < options + n) ⊎ (MOST_ENTRIES < e) → false ≡ is_small (packing_problem p)
   counted_past same all few within past =
-      sym (large_by_choices p (omega (arith, all, few)) (ap (λ (m : ℕ). has_room p m (choices p)) (sym all) ∙ no_room_before p items pieces (k + 1) same no_room))
+      sym (large_by_choices p (omega (arith, all, few)) (ap (λ (m : ℕ). has_room p m (every_choice p)) (sym all) ∙ no_room_before p items pieces (k + 1) same no_room))
     where
       no_room : has_room p items (choices_before p pieces (k + 1)) ≡ false
       no_room =
@@ -52,7 +52,7 @@ module _ (p : PuzzleValue) (pieces : List (ℕ × List Coordinates)) (k items op
           elim past [ inl h ↦ absurd (omega (arith, a, l, h)) | inr h ↦ let c = within (omega (arith, b, w)) in absurd (omega (arith, c, h)) ])
 
 -- once all are counted, that is how much the options take that lay a piece
-pub counted_all : (p : PuzzleValue) (pieces : List (ℕ × List Coordinates)) (k items options entries : ℕ) → IsCounted p pieces k items options entries → choices_before p pieces k ≡ choices p
+pub counted_all : (p : PuzzleValue) (pieces : List (ℕ × List Coordinates)) (k items options entries : ℕ) → IsCounted p pieces k items options entries → choices_before p pieces k ≡ every_choice p
     → items ≡ length (things p) → items ≤ 65535 → LaysWithin p options entries
 counted_all p pieces k items options entries s end all few =
     let a = ap length end in
@@ -64,4 +64,4 @@ counted_all p pieces k items options entries s end all few =
 -- beside these there is room for the others exactly where the problem is small
 pub room_is : (p : PuzzleValue) (options entries : ℕ) → LaysWithin p options entries → has_room_beside options entries (left_out p) ≡ is_small (packing_problem p)
 room_is p options entries h =
-    ap (λ (n : ℕ). has_room_beside n entries (left_out p)) h.count ∙ ap (λ (n : ℕ). has_room_beside (length (choices p)) n (left_out p)) h.sum ∙ sym (small_is p h.items)
+    ap (λ (n : ℕ). has_room_beside n entries (left_out p)) h.count ∙ ap (λ (n : ℕ). has_room_beside (length (every_choice p)) n (left_out p)) h.sum ∙ sym (small_is p h.items)

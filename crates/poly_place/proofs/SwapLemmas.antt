@@ -13,15 +13,15 @@ use Rattle.poly_cells.proofs.MemberLemmas.{in_flat_map, in_from_flat_map, in_fro
 use Rattle.poly_texts.specs.Puzzle.{PuzzleValue, IsPuzzle, names_of, has_name, is_needed, is_spare, come_last}
 use Rattle.poly_place.specs.declared.alike.Group.TheVariants.{Rotations, Symmetries}
 use Rattle.poly_place.specs.Placements.{cells_cmp, IsPlacement, turns_by}
-use Rattle.poly_place.specs.Packings.{ChoiceValue, choice, is_any, must_fill, neighbours, pairs, IsUsed, first_cell, IsPlaced, IsPacking, choices}
+use Rattle.poly_place.specs.Packings.{ChoiceValue, choice_with, is_any, must_fill, neighbours, pairs, IsUsed, first_cell, IsPlaced, IsPacking}
 use Rattle.poly_place.specs.Swaps.{told_apart, AreEqual, IsSwap, CountSwapsOnce}
 use Rattle.poly_place.proofs.OrderLemmas.{cells_total, cells_exact}
 use Rattle.poly_place.proofs.DistinctLemmas.{IsDistinct, distinct_filter, distinct_names, distinct_rising, in_from_name, at_of_in, distinct_at}
 use Rattle.poly_place.proofs.PairLemmas.{all_of, equal_single, in_group}
-use Rattle.poly_place.proofs.PackingLemmas.{least_in}
-use Rattle.poly_place.proofs.LeavingLemmas.{IsSplit, split_by, uses, used_from, from_used}
+use Rattle.poly_place.proofs.StandLemmas.{least_in}
+use Rattle.poly_place.proofs.LeavingsLemmas.{IsSplit, split_by, uses, used_from, from_used}
 use Rattle.poly_place.proofs.CountLemmas.{filter_short}
-use Rattle.poly_place.proofs.PlacedLemmas.{has_shapes, in_placed}
+use Rattle.poly_place.proofs.PlacedLemmas.{has_shapes, layable, in_layable}
 use Rattle.poly_place.proofs.SortLemmas.{length_in_order, distinct_images, rising_at, place_in, at_place_in, place_at, place_next, less_by_first}
 use Rattle.poly_place.proofs.EqualLemmas.{by_first, first_total, rising_neighbours, group_of, group_is, distinct_group, is_grouped, grouped_in, in_grouped}
 
@@ -117,7 +117,7 @@ module _ (p : PuzzleValue) (z : IsPuzzle p) where
       (in_from_name (names_of p.pieces) n named, single.0, single.1)
 
   -- what an equal piece is laid on the other one may be laid on
-  moved_to : (g : List ℕ) (m n : ℕ) (cells : List Coordinates) → IsIn g p.equal → IsIn m g → IsIn n g → IsPlaced p (choice m cells) → IsPlaced p (choice n cells)
+  moved_to : (g : List ℕ) (m n : ℕ) (cells : List Coordinates) → IsIn g p.equal → IsIn m g → IsIn n g → IsPlaced p (choice_with m cells) → IsPlaced p (choice_with n cells)
   moved_to g m n cells i a b h =
       let one = z.equal_shapes g m n i a b in
       record {
@@ -131,7 +131,7 @@ module _ (p : PuzzleValue) (z : IsPuzzle p) where
   -- ---- what a packing lays a piece on
 
   pick : (ChoiceValue → Bool) → ℕ → ChoiceValue
-  pick chosen n = get_or (filter (λ (c : ChoiceValue). chosen c && (c.name == n)) (choices p)) 0 (choice n [])
+  pick chosen n = get_or (filter (λ (c : ChoiceValue). chosen c && (c.name == n)) (layable p)) 0 (choice_with n [])
 
   some_first : (xs : List ChoiceValue) (c d : ChoiceValue) → IsIn c xs → IsIn (get_or xs 0 d) xs
   some_first [] c d i = absurd i
@@ -142,16 +142,16 @@ module _ (p : PuzzleValue) (z : IsPuzzle p) where
     unfolding pick
     picked c h =
         let test = λ (d : ChoiceValue). chosen d && (d.name == c.name) in
-        let among = in_filter test c (choices p) (in_placed p (has_shapes p z) c (k.placed c h)) (and_from (chosen c) (c.name == c.name) h (eq-eqb c.name c.name refl)) in
-        let first = in_from_filter test (pick chosen c.name) (choices p) (some_first (filter test (choices p)) c (choice c.name []) among) in
+        let among = in_filter test c (layable p) (in_layable p (has_shapes p z) c (k.placed c h)) (and_from (chosen c) (c.name == c.name) h (eq-eqb c.name c.name refl)) in
+        let first = in_from_filter test (pick chosen c.name) (layable p) (some_first (filter test (layable p)) c (choice_with c.name []) among) in
         let parts = and_parts (chosen (pick chosen c.name)) ((pick chosen c.name).name == c.name) first.1 in
         (parts.0, eqb-true (pick chosen c.name).name c.name parts.1)
 
     pick_is : (c : ChoiceValue) → chosen c ≡ true → is_any p c.name ≡ false → pick chosen c.name ≡ c
     pick_is c h single = let there = picked c h in sym (k.once c (pick chosen c.name) h there.0 single (sym there.1))
 
-    among : (c : ChoiceValue) → chosen c ≡ true → IsIn c (choices p)
-    among c h = in_placed p (has_shapes p z) c (k.placed c h)
+    among : (c : ChoiceValue) → chosen c ≡ true → IsIn c (layable p)
+    among c h = in_layable p (has_shapes p z) c (k.placed c h)
 
     -- of a piece that is used
     laid : (n : ℕ) → uses p chosen n ≡ true → (chosen (pick chosen n) ≡ true) × ((pick chosen n).name ≡ n)
@@ -286,10 +286,10 @@ module _ (p : PuzzleValue) (z : IsPuzzle p) where
     swapped_put : (c : ChoiceValue) → is_grouped p c.name ≡ true → swapped c ≡ true → c.cells ≡ put c.name
     swapped_put c g h = cells_exact c.cells (put c.name) ((Equal-is (cells_cmp c.cells (put c.name))).0 (swapped_parts c g h).1)
 
-    put_swapped : (n : ℕ) (cells : List Coordinates) → is_grouped p n ≡ true → has_put n ≡ true → cells ≡ put n → swapped (choice n cells) ≡ true
+    put_swapped : (n : ℕ) (cells : List Coordinates) → is_grouped p n ≡ true → has_put n ≡ true → cells ≡ put n → swapped (choice_with n cells) ≡ true
     unfolding swapped
     put_swapped n cells g t e =
-        cond-true (is_grouped p n) (has_put n && is_eq (cells_cmp cells (put n))) (chosen (choice n cells)) g
+        cond-true (is_grouped p n) (has_put n && is_eq (cells_cmp cells (put n))) (chosen (choice_with n cells)) g
         ∙ and_from (has_put n) (is_eq (cells_cmp cells (put n))) t (ap (λ (q : List Coordinates). is_eq (cells_cmp cells q)) (sym e) ∙ ap is_eq (tied_itself cells_total cells))
 
     swapped_kept : (c : ChoiceValue) → is_grouped p c.name ≡ false → swapped c ≡ chosen c
@@ -328,7 +328,7 @@ module _ (p : PuzzleValue) (z : IsPuzzle p) where
               let n = put_to there.group c.name there.there there.member (from_used p chosen among c.name (c, h, refl)) in
               let is = pick_is c h (equal_known there.group c.name there.there there.member).2 in
               let cells : put n.0 ≡ c.cells = n.3 ∙ ap (λ (q : ChoiceValue). q.cells) is in
-              (choice n.0 c.cells, put_swapped n.0 c.cells (in_grouped p n.0 there.group there.there n.1) n.2 (sym cells), refl, inr (there.group, there.there, there.member, n.1))
+              (choice_with n.0 c.cells, put_swapped n.0 c.cells (in_grouped p n.0 there.group there.there n.1) n.2 (sym cells), refl, inr (there.group, there.there, there.member, n.1))
           | inr f ↦ (c, swapped_kept c f ∙ h, refl, inl refl)
         ]
 
@@ -353,13 +353,13 @@ module _ (p : PuzzleValue) (z : IsPuzzle p) where
         let there = k.placed o.from o.taken in
         elim o.equal [
           | inl q ↦ subst (IsPlaced p) (sym q.1) there
-          | inr q ↦ moved_to q.0 o.from.name c.name c.cells q.1 q.3 q.2 (subst (λ (vs : List Coordinates). IsPlaced p (choice o.from.name vs)) o.same there)
+          | inr q ↦ moved_to q.0 o.from.name c.name c.cells q.1 q.3 q.2 (subst (λ (vs : List Coordinates). IsPlaced p (choice_with o.from.name vs)) o.same there)
         ]
 
     swapped_once : (c d : ChoiceValue) → swapped c ≡ true → swapped d ≡ true → is_any p c.name ≡ false → c.name ≡ d.name → c ≡ d
     swapped_once c d h g single e =
         elim (cases_Bool (is_grouped p c.name)) [
-          | inl q ↦ ap₂ choice e (swapped_put c q h ∙ ap put e ∙ sym (swapped_put d (subst (λ (n : ℕ). is_grouped p n ≡ true) e q) g))
+          | inl q ↦ ap₂ choice_with e (swapped_put c q h ∙ ap put e ∙ sym (swapped_put d (subst (λ (n : ℕ). is_grouped p n ≡ true) e q) g))
           | inr q ↦ k.once c d (sym (swapped_kept c q) ∙ h) (sym (swapped_kept d (subst (λ (n : ℕ). is_grouped p n ≡ false) e q)) ∙ g) single e
         ]
 
@@ -368,7 +368,7 @@ module _ (p : PuzzleValue) (z : IsPuzzle p) where
         elim (cases_Bool (is_grouped p name)) [
           | inl g ↦
               let there = grouped_in p name g in
-              (choice name (put name), put_swapped name (put name) g (put_sure there.group name there.there there.member sure) refl, refl)
+              (choice_with name (put name), put_swapped name (put name) g (put_sure there.group name there.there there.member sure) refl, refl)
           | inr f ↦ let c = k.used name i n sure in (c.0, swapped_kept c.0 (subst (λ (m : ℕ). is_grouped p m ≡ false) (sym c.2) f) ∙ c.1, c.2)
         ]
 
@@ -378,7 +378,7 @@ module _ (p : PuzzleValue) (z : IsPuzzle p) where
         let both = in_group m n pair.0 pair.2 in
         let grouped = in_grouped p n pair.0 pair.1 both.1 in
         let has = subst (λ (a : ℕ). has_put a ≡ true) u.2 (swapped_parts u.0 (subst (λ (a : ℕ). is_grouped p a ≡ true) (sym u.2) grouped) u.1).0 in
-        (choice m (put m), put_swapped m (put m) (in_grouped p m pair.0 pair.1 both.0) (put_before pair.0 m n pair.1 pair.2 has) refl, refl)
+        (choice_with m (put m), put_swapped m (put m) (in_grouped p m pair.0 pair.1 both.0) (put_before pair.0 m n pair.1 pair.2 has) refl, refl)
 
     -- two that meet come from one; so they are one
     swapped_apart : (v : Coordinates) (c d : ChoiceValue) → swapped c ≡ true → swapped d ≡ true → IsIn v c.cells → IsIn v d.cells → c ≡ d
@@ -407,7 +407,7 @@ module _ (p : PuzzleValue) (z : IsPuzzle p) where
                 let one_has = (swapped_parts c (in_grouped p c.name a.0 a.1 a.2) h).0 in
                 let other_has = (swapped_parts d (in_grouped p d.name b.0 b.1 b.2) g).0 in
                 let puts = sym (swapped_put c (in_grouped p c.name a.0 a.1 a.2) h) ∙ cells ∙ swapped_put d (in_grouped p d.name b.0 b.1 b.2) g in
-                ap₂ choice (put_tells a.0 c.name d.name a.1 a.2 there one_has other_has puts) cells
+                ap₂ choice_with (put_tells a.0 c.name d.name a.1 a.2 there one_has other_has puts) cells
           ]
         ]
 
@@ -464,8 +464,8 @@ module _ (p : PuzzleValue) (z : IsPuzzle p) where
     lies : ℕ → List Coordinates
     lies n = (pick other n).cells
 
-    other_has : (c : ChoiceValue) → other c ≡ true → IsIn c (choices p)
-    other_has c h = in_placed p (has_shapes p z) c (k.placed c h)
+    other_has : (c : ChoiceValue) → other c ≡ true → IsIn c (layable p)
+    other_has c h = in_layable p (has_shapes p z) c (k.placed c h)
 
     -- those of a group that are used are its first ones
     firsts : (g : List ℕ) → IsIn g p.equal → IsSplit (uses p other) g
@@ -549,12 +549,12 @@ module _ (p : PuzzleValue) (z : IsPuzzle p) where
               let used = (from_firsts another b g.group g.there c.name (subst (λ (ns : List ℕ). IsIn c.name ns) (same_firsts g.group g.there) first)).1 in
               let there = laid another (laid_from p another b) c.name used in
               let cells : (pick another c.name).cells ≡ c.cells = sym same ∙ ap (λ (d : ChoiceValue). d.cells) is in
-              subst (λ (d : ChoiceValue). another d ≡ true) (ap₂ choice there.1 cells) there.0
+              subst (λ (d : ChoiceValue). another d ≡ true) (ap₂ choice_with there.1 cells) there.0
           | inr f ↦
               let d = carried chosen other another a s b t c h in
               let one = equal_alone c.name d.3.name f d.4 in
               let two = equal_alone d.3.name d.0.name (subst (λ (n : ℕ). is_grouped p n ≡ false) one f) d.5 in
-              subst (λ (e : ChoiceValue). another e ≡ true) (ap₂ choice (sym (one ∙ two)) d.2) d.1
+              subst (λ (e : ChoiceValue). another e ≡ true) (ap₂ choice_with (sym (one ∙ two)) d.2) d.1
         ]
 
   pub count_swaps_once : CountSwapsOnce p

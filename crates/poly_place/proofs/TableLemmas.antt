@@ -7,7 +7,7 @@ use Rattle.std.proofs.lemmas.List.Folds.{list_any-append}
 use Rattle.poly_cells.specs.Coordinates.{Coordinates, IsInGrid}
 use Rattle.poly_cells.proofs.CoordinateLemmas.{same_coordinates, is_same_Decides}
 use Rattle.poly_cells.specs.CellTests.{is_same, has_cell}
-use Rattle.poly_place.specs.Tables.{bit_index, has_bit, IsTable}
+use Rattle.poly_place.specs.Tables.{bit_index, has_bit, IsCellTable}
 use Rattle.std.proofs.Math.Bool.{or-false}
 use Rattle.poly_cells.proofs.SetLemmas.{take_next}
 
@@ -81,7 +81,7 @@ grown region vs i v lt is =
 
 -- a loop that sets the bits of vs has set that of one more
 pub table_more : (region vs : List Coordinates) (i : ℕ) (v : Coordinates) (bits new : List Bool) (k : ℕ) → i < length vs → v ≡ get_or vs i v → IsInGrid v → k ≡ bit_index v → new ≡ slice_set bits k true
-    → IsTable (region ++ take i vs) bits → IsTable (region ++ take (i + 1) vs) new
+    → IsCellTable (region ++ take i vs) bits → IsCellTable (region ++ take (i + 1) vs) new
 table_more region vs i v bits new k lt is h at set t =
     let one : new ≡ slice_set bits (bit_index v) true = set ∙ ap (λ j. slice_set bits j true) at in
     record {
@@ -97,12 +97,12 @@ no_bit zero k = refl
 no_bit (suc n) zero = refl
 no_bit (suc n) (suc k) = no_bit n k
 
-pub empty_table : (bits : List Bool) (n : ℕ) → bits ≡ replicate n false → n ≡ 32768 → IsTable [] bits
+pub empty_table : (bits : List Bool) (n : ℕ) → bits ≡ replicate n false → n ≡ 32768 → IsCellTable [] bits
 empty_table bits n e m = record {
   long = ap length e ∙ length-replicate n false ∙ m;
   same = λ c. and_right (nat_le c.x 31) _ (and_right (nat_le c.y 31) _ (and_right (nat_le c.z 31) _ (ap (λ (b : List Bool). slice_index_or b (bit_index c) false) e ∙ no_bit n (bit_index c))));
 }
 
 -- what a vector holds after its bits were changed as a slice
-pub table_written : (region : List Coordinates) (bits old : List Bool) (size : ℕ) → length bits ≡ size → IsTable region bits → IsTable region (take size (bits ++ old))
-table_written region bits old size e t = subst (IsTable region) (sym (take_at bits old size e)) t
+pub table_written : (region : List Coordinates) (bits old : List Bool) (size : ℕ) → length bits ≡ size → IsCellTable region bits → IsCellTable region (take size (bits ++ old))
+table_written region bits old size e t = subst (IsCellTable region) (sym (take_at bits old size e)) t

@@ -9,7 +9,7 @@ use Rattle.poly_cells.proofs.CellTestLemmas.{in_from_has, has_from_in}
 use Rattle.poly_cells.specs.CellTests.{has_cell}
 use Rattle.poly_texts.specs.Puzzle.{PuzzleValue, IsPuzzle, names_of, has_name, is_needed}
 use Rattle.cover_problem.specs.Lists.{has}
-use Rattle.poly_place.specs.Packings.{ChoiceValue, is_any, must_fill, IsPlaced, Thing, a_piece, a_cell, a_node, same_thing, needed_things, other_things, things, index_among, item_of, things_of, pairs, levels, nodes, nodes_by, leaf_of, given}
+use Rattle.poly_place.specs.Packings.{ChoiceValue, is_any, must_fill, IsPlaced, Thing, a_piece, a_cell, a_node, same_thing, needed_things, other_things, things, index_among, thing_item, things_of, pairs, tree_levels, nodes, nodes_by, leaf_of, given}
 use Rattle.poly_cells.proofs.MemberLemmas.{in_flat_map, in_from_flat_map, in_to_range, in_from_filter, in_filter, some_passes, passes_some, first_at, first_within}
 use Rattle.poly_place.proofs.DistinctLemmas.{in_from_name, IsDistinct, distinct_append, distinct_filter, distinct_map, distinct_rising, distinct_names, distinct_at}
 use Rattle.std.proofs.lemmas.List.Sums.{passes_at_first}
@@ -65,18 +65,18 @@ place_append t xs ys i =
 pub nothing : Thing
 nothing = a_piece 0
 
-pub item_same : (p : PuzzleValue) (a b : Thing) → IsIn a (things p) → IsIn b (things p) → item_of p a ≡ item_of p b → a ≡ b
-unfolding item_of
+pub item_same : (p : PuzzleValue) (a b : Thing) → IsIn a (things p) → IsIn b (things p) → thing_item p a ≡ thing_item p b → a ≡ b
+unfolding thing_item
 item_same p a b i j e =
     let same : index_among a (things p) ≡ index_among b (things p) = omega (arith, e) in
     sym (place_in nothing a (things p) i).1 ∙ ap (λ (k : ℕ). get_or (things p) k nothing) same ∙ (place_in nothing b (things p) j).1
 
-pub item_positive : (p : PuzzleValue) (t : Thing) → 0 < item_of p t
-unfolding item_of
+pub item_positive : (p : PuzzleValue) (t : Thing) → 0 < thing_item p t
+unfolding thing_item
 item_positive p t = omega arith
 
-pub item_needed : (p : PuzzleValue) (t : Thing) → IsIn t (needed_things p) → item_of p t ≤ length (needed_things p)
-unfolding item_of
+pub item_needed : (p : PuzzleValue) (t : Thing) → IsIn t (needed_things p) → thing_item p t ≤ length (needed_things p)
+unfolding thing_item
 item_needed p t i =
     let at = place_append t (needed_things p) (other_things p) i in
     let within = (place_in nothing t (needed_things p) i).0 in
@@ -129,8 +129,8 @@ needed_distinct p z =
     cc)
 
 -- each of the first items stands for a required thing
-pub needed_at : (p : PuzzleValue) → IsPuzzle p → (i : ℕ) → 0 < i → i ≤ length (needed_things p) → (t : Thing) × IsIn t (needed_things p) × (item_of p t ≡ i)
-unfolding item_of
+pub needed_at : (p : PuzzleValue) → IsPuzzle p → (i : ℕ) → 0 < i → i ≤ length (needed_things p) → (t : Thing) × IsIn t (needed_things p) × (thing_item p t ≡ i)
+unfolding thing_item
 needed_at p z i some within =
     let ts = needed_things p in
     let k : i - 1 < length ts = omega arith in
@@ -168,13 +168,13 @@ cell_in p v i =
           (needed_cell p v (and_from (has_cell p.region v) (not (has_cell p.maybe_cells v)) (has_from_in p.region v i) (not_from_false (has_cell p.maybe_cells v) h)))
     ]
 
-pub node_in : (p : PuzzleValue) (pair : ℕ × ℕ) (h : ℕ) → IsIn pair (pairs p) → 0 < h → h < 2 ^ levels p → IsIn (a_node (pair.0) h) (things p)
+pub node_in : (p : PuzzleValue) (pair : ℕ × ℕ) (h : ℕ) → IsIn pair (pairs p) → 0 < h → h < 2 ^ tree_levels p → IsIn (a_node (pair.0) h) (things p)
 node_in p pair h i some within =
     in_append_right (a_node (pair.0) h) (needed_things p) (other_things p)
     (in_append_right (a_node (pair.0) h) (map a_piece p.maybe_pieces) (map a_cell p.maybe_cells ++ flat_map (nodes p) (pairs p))
     (in_append_right (a_node (pair.0) h) (map a_cell p.maybe_cells) (flat_map (nodes p) (pairs p))
     (in_flat_map (nodes p) (a_node (pair.0) h) pair (pairs p) i
-    (in_map (a_node (pair.0)) h (range_with_len 1 (2 ^ levels p - 1)) (in_to_range h 1 (2 ^ levels p - 1) some (omega arith))))))
+    (in_map (a_node (pair.0)) h (range_with_len 1 (2 ^ tree_levels p - 1)) (in_to_range h 1 (2 ^ tree_levels p - 1) some (omega arith))))))
 
 -- ---- things that are given
 
@@ -189,21 +189,21 @@ in_given false t ts i = absurd i
 pub data PartOf (p : PuzzleValue) (c : ChoiceValue) (t : Thing) : Type 0 where
   the_piece : is_any p c.name ≡ false → t ≡ a_piece c.name → PartOf p c t
   the_cell : (v : Coordinates) → IsIn v c.cells → t ≡ a_cell v → PartOf p c t
-  on_right : (pair : ℕ × ℕ) (h : ℕ) → IsIn pair (pairs p) → c.name ≡ pair.0 → IsIn h (from_right (levels p) (leaf_of p c)) → t ≡ a_node (pair.0) h → PartOf p c t
-  on_left : (pair : ℕ × ℕ) (h : ℕ) → IsIn pair (pairs p) → c.name ≡ pair.1 → IsIn h (from_left (levels p) (leaf_of p c)) → t ≡ a_node (pair.0) h → PartOf p c t
+  on_right : (pair : ℕ × ℕ) (h : ℕ) → IsIn pair (pairs p) → c.name ≡ pair.0 → IsIn h (from_right (tree_levels p) (leaf_of p c)) → t ≡ a_node (pair.0) h → PartOf p c t
+  on_left : (pair : ℕ × ℕ) (h : ℕ) → IsIn pair (pairs p) → c.name ≡ pair.1 → IsIn h (from_left (tree_levels p) (leaf_of p c)) → t ≡ a_node (pair.0) h → PartOf p c t
 
 node_part : (p : PuzzleValue) (c : ChoiceValue) (t : Thing) (pair : ℕ × ℕ) → IsIn pair (pairs p) → IsIn t (nodes_by p c pair) → PartOf p c t
 node_part p c t pair i j =
-    let rights = map (a_node (pair.0)) (from_right (levels p) (leaf_of p c)) in
-    let lefts = map (a_node (pair.0)) (from_left (levels p) (leaf_of p c)) in
+    let rights = map (a_node (pair.0)) (from_right (tree_levels p) (leaf_of p c)) in
+    let lefts = map (a_node (pair.0)) (from_left (tree_levels p) (leaf_of p c)) in
     elim (in_append_cases t (given (c.name == pair.0) rights) (given (c.name == pair.1) lefts) j) [
       | inl l ↦
           let there = in_given (c.name == pair.0) t rights l in
-          let h = in_from_map (a_node (pair.0)) t (from_right (levels p) (leaf_of p c)) there.1 in
+          let h = in_from_map (a_node (pair.0)) t (from_right (tree_levels p) (leaf_of p c)) there.1 in
           on_right pair h.0 i (eqb-true c.name (pair.0) there.0) h.1 h.2
       | inr r ↦
           let there = in_given (c.name == pair.1) t lefts r in
-          let h = in_from_map (a_node (pair.0)) t (from_left (levels p) (leaf_of p c)) there.1 in
+          let h = in_from_map (a_node (pair.0)) t (from_left (tree_levels p) (leaf_of p c)) there.1 in
           on_left pair h.0 i (eqb-true c.name (pair.1) there.0) h.1 h.2
     ]
 
@@ -234,28 +234,28 @@ nodes_part p c pair t i j =
     in_append_right t (given (not (is_any p c.name)) (a_piece c.name ∷ [])) (map a_cell c.cells ++ flat_map (nodes_by p c) (pairs p))
     (in_append_right t (map a_cell c.cells) (flat_map (nodes_by p c) (pairs p)) (in_flat_map (nodes_by p c) t pair (pairs p) i j))
 
-pub right_part : (p : PuzzleValue) (c : ChoiceValue) (pair : ℕ × ℕ) (h : ℕ) → IsIn pair (pairs p) → c.name ≡ pair.0 → IsIn h (from_right (levels p) (leaf_of p c)) → IsIn (a_node (pair.0) h) (things_of p c)
+pub right_part : (p : PuzzleValue) (c : ChoiceValue) (pair : ℕ × ℕ) (h : ℕ) → IsIn pair (pairs p) → c.name ≡ pair.0 → IsIn h (from_right (tree_levels p) (leaf_of p c)) → IsIn (a_node (pair.0) h) (things_of p c)
 right_part p c pair h i e j =
-    let rights = map (a_node (pair.0)) (from_right (levels p) (leaf_of p c)) in
-    let lefts = map (a_node (pair.0)) (from_left (levels p) (leaf_of p c)) in
+    let rights = map (a_node (pair.0)) (from_right (tree_levels p) (leaf_of p c)) in
+    let lefts = map (a_node (pair.0)) (from_left (tree_levels p) (leaf_of p c)) in
     nodes_part p c pair (a_node (pair.0) h) i
     (in_append_left (a_node (pair.0) h) (given (c.name == pair.0) rights) (given (c.name == pair.1) lefts)
-    (given_in (c.name == pair.0) (a_node (pair.0) h) rights (eq-eqb c.name (pair.0) e) (in_map (a_node (pair.0)) h (from_right (levels p) (leaf_of p c)) j)))
+    (given_in (c.name == pair.0) (a_node (pair.0) h) rights (eq-eqb c.name (pair.0) e) (in_map (a_node (pair.0)) h (from_right (tree_levels p) (leaf_of p c)) j)))
 
-pub left_part : (p : PuzzleValue) (c : ChoiceValue) (pair : ℕ × ℕ) (h : ℕ) → IsIn pair (pairs p) → c.name ≡ pair.1 → IsIn h (from_left (levels p) (leaf_of p c)) → IsIn (a_node (pair.0) h) (things_of p c)
+pub left_part : (p : PuzzleValue) (c : ChoiceValue) (pair : ℕ × ℕ) (h : ℕ) → IsIn pair (pairs p) → c.name ≡ pair.1 → IsIn h (from_left (tree_levels p) (leaf_of p c)) → IsIn (a_node (pair.0) h) (things_of p c)
 left_part p c pair h i e j =
-    let rights = map (a_node (pair.0)) (from_right (levels p) (leaf_of p c)) in
-    let lefts = map (a_node (pair.0)) (from_left (levels p) (leaf_of p c)) in
+    let rights = map (a_node (pair.0)) (from_right (tree_levels p) (leaf_of p c)) in
+    let lefts = map (a_node (pair.0)) (from_left (tree_levels p) (leaf_of p c)) in
     nodes_part p c pair (a_node (pair.0) h) i
     (in_append_right (a_node (pair.0) h) (given (c.name == pair.0) rights) (given (c.name == pair.1) lefts)
-    (given_in (c.name == pair.1) (a_node (pair.0) h) lefts (eq-eqb c.name (pair.1) e) (in_map (a_node (pair.0)) h (from_left (levels p) (leaf_of p c)) j)))
+    (given_in (c.name == pair.1) (a_node (pair.0) h) lefts (eq-eqb c.name (pair.1) e) (in_map (a_node (pair.0)) h (from_left (tree_levels p) (leaf_of p c)) j)))
 
-pub parts_in : (p : PuzzleValue) (c : ChoiceValue) → IsPlaced p c → IsBelow (levels p) (leaf_of p c) → (t : Thing) → IsIn t (things_of p c) → IsIn t (things p)
+pub parts_in : (p : PuzzleValue) (c : ChoiceValue) → IsPlaced p c → IsBelow (tree_levels p) (leaf_of p c) → (t : Thing) → IsIn t (things_of p c) → IsIn t (things p)
 parts_in p c h b t i = elim (part_of p c t i) [
   | the_piece single e ↦ subst (λ (u : Thing). IsIn u (things p)) (sym e) (piece_in p c.name (in_map (λ (n : ℕ × List Coordinates). n.0) (c.name, h.piece) p.pieces h.named) single)
   | the_cell v j e ↦ subst (λ (u : Thing). IsIn u (things p)) (sym e) (cell_in p v (h.placed.inside v j))
-  | on_right pair k j n r e ↦ subst (λ (u : Thing). IsIn u (things p)) (sym e) (node_in p pair k j (right_some (levels p) (leaf_of p c) k b r) (right_above (levels p) (leaf_of p c) k b r))
-  | on_left pair k j n l e ↦ subst (λ (u : Thing). IsIn u (things p)) (sym e) (node_in p pair k j (left_some (levels p) (leaf_of p c) k b l) (left_above (levels p) (leaf_of p c) k b l))
+  | on_right pair k j n r e ↦ subst (λ (u : Thing). IsIn u (things p)) (sym e) (node_in p pair k j (right_some (tree_levels p) (leaf_of p c) k b r) (right_above (tree_levels p) (leaf_of p c) k b r))
+  | on_left pair k j n l e ↦ subst (λ (u : Thing). IsIn u (things p)) (sym e) (node_in p pair k j (left_some (tree_levels p) (leaf_of p c) k b l) (left_above (tree_levels p) (leaf_of p c) k b l))
 ]
 
 -- ---- the items of an option

@@ -1,97 +1,29 @@
 -- Where the volume forces how often a piece is used.
-use Rattle.std.proofs.Common.{◌≡◌, ℕ, ◌+◌, ◌*◌, ◌<◌, ◌≤◌, ◌==◌, ◌⊎◌, List, [], ◌∷◌, filter, flat_map, length, Bool, true, false, not, inl, inr, refl, sym, ap, subst, ◌∙◌, arith, eqb-true, eq-eqb, length-append}
+use Rattle.std.proofs.Common.{◌≡◌, ℕ, ◌+◌, ◌*◌, ◌≤◌, ◌==◌, List, [], ◌∷◌, filter, flat_map, length, Bool, true, false, not, inl, inr, refl, sym, ap, subst, ◌∙◌, arith, eqb-true, eq-eqb, length-append}
 use Rattle.std.specs.List.{sum_by}
 use Rattle.std.proofs.lemmas.List.Sums.{sum_by-cons}
 use Rattle.std.proofs.lemmas.List.Filters.{sum_by-filter_both}
 use Rattle.std.proofs.lemmas.Bool.{and_parts, and_from, both_ways, not-true, not_from_false, false_from_ne_true}
-use Rattle.std.proofs.lemmas.Int.{ints}
 use Rattle.std.proofs.Math.Bool.{or-false}
 use Rattle.std.proofs.Math.Nat.{suc-mul}
 use Rattle.poly_cells.specs.Coordinates.{Coordinates}
 use Rattle.poly_cells.specs.CellTests.{has_cell}
-use Rattle.poly_cells.specs.Points.{Point, point, translated}
 use Rattle.poly_cells.specs.Sets.{IsIn}
-use Rattle.poly_cells.specs.Products.{inverse_of}
-use Rattle.poly_cells.specs.Symmetries.{sent_by}
-use Rattle.poly_cells.specs.Images.{IsImage}
 use Rattle.poly_cells.proofs.CellTestLemmas.{has_from_in}
 use Rattle.poly_cells.proofs.CoordinateLemmas.{coordinates_total}
-use Rattle.poly_cells.proofs.GroupLemmas.{rotation_from_in}
-use Rattle.poly_cells.proofs.ImageLemmas.{point_same}
-use Rattle.poly_cells.proofs.MemberLemmas.{in_filter, in_from_filter, in_flat_map, in_from_flat_map, in_from_range, some_passes, passes_some}
+use Rattle.poly_cells.proofs.MemberLemmas.{in_filter, in_from_filter, in_flat_map, in_from_flat_map, some_passes, passes_some}
 use Rattle.poly_cells.proofs.SetLemmas.{in_map}
-use Rattle.poly_cells.proofs.SymmetryTables.{neutral, undone_before}
 use Rattle.poly_texts.specs.Puzzle.{PuzzleValue, IsPuzzle, names_of, has_name, is_needed}
-use Rattle.poly_place.specs.declared.alike.Group.{Group}
-use Rattle.poly_place.specs.declared.alike.Group.TheVariants.{Rotations, Symmetries}
-use Rattle.poly_place.specs.Placements.{turns_by}
-use Rattle.poly_place.specs.Packings.{ChoiceValue, is_any, must_fill, turning_group, IsPlaced, IsPacking}
+use Rattle.poly_place.specs.Packings.{ChoiceValue, is_any, must_fill, IsPlaced, IsPacking}
 use Rattle.poly_place.specs.Chosen.{is_among, same_choice}
 use Rattle.poly_place.specs.Volume.{IsForced, other_pieces, other_cells, copies_in, are_once, VolumeForces}
 use Rattle.poly_place.proofs.DistinctLemmas.{IsDistinct, distinct_filter, distinct_rising, distinct_names}
 use Rattle.poly_place.proofs.CompiledLemmas.{distinct_flat_map}
 use Rattle.poly_place.proofs.PlacedLemmas.{HasShapes, has_shapes}
 use Rattle.poly_place.proofs.PackingLemmas.{same_choice_is, same_choice_itself}
+use Rattle.poly_place.proofs.SizeLemmas.{sum_below, short, placed_size, distinct_pieces, one_piece}
 
 -- ---- sums
-
--- the list without one of its members
-record IsWithout {Y : Type 0} (g : Y → ℕ) (y : Y) (ys : List Y) : Type 0 where
-  rest : List Y
-  total : sum_by g ys ≡ g y + sum_by g rest
-  others : (z : Y) → IsIn z ys → (z ≡ y) ⊎ IsIn z rest
-
-without : {Y : Type 0} (g : Y → ℕ) (y : Y) (ys : List Y) → IsIn y ys → IsWithout g y ys
-without g y [] i = absurd i
-without {Y} g y (x ∷ xs) i =
-    elim i [
-      | inl e ↦ record {
-        rest = xs;
-        total = sum_by-cons g x xs ∙ ap (λ (z : Y). g z + sum_by g xs) (sym e);
-        others = λ z j. elim j [ inl f ↦ inl (f ∙ sym e) | inr r ↦ inr r ];
-      }
-      | inr r ↦
-          let w = without g y xs r in
-          let here = w.total in
-          let cons = sum_by-cons g x xs in
-          let more = sum_by-cons g x w.rest in
-          record {
-            rest = x ∷ w.rest;
-            total = omega (arith, here, cons, more);
-            others = λ z j. elim j [ inl f ↦ inr (inl f) | inr s ↦ elim (w.others z s) [ inl f ↦ inl f | inr t ↦ inr (inr t) ] ];
-          }
-    ]
-
--- each member of a list has a partner of the same weight in the other list, and no two have one partner
-pub sum_below : {X Y : Type 0} (Pairs : X → Y → Type 0) (f : X → ℕ) (g : Y → ℕ) → ((a b : X) (y : Y) → Pairs a y → Pairs b y → a ≡ b) → ((x : X) (y : Y) → Pairs x y → f x ≡ g y)
-    → (xs : List X) (ys : List Y) → IsDistinct xs → ((x : X) → IsIn x xs → (y : Y) × IsIn y ys × Pairs x y) → sum_by f xs ≤ sum_by g ys
-sum_below Pairs f g one even [] ys d each = omega arith
-sum_below {X} {Y} Pairs f g one even (x ∷ xs) ys d each =
-    let mine = each x (inl refl) in
-    let w = without g mine.0 ys mine.1 in
-    let later : (z : X) → IsIn z xs → (y : Y) × IsIn y w.rest × Pairs z y = λ z i.
-    let its = each z (inr i) in
-    elim (w.others its.0 its.1) [
-      | inl e ↦ absurd (d.0 (subst (λ (k : X). IsIn k xs) (one z x mine.0 (subst (λ (y : Y). Pairs z y) e its.2) mine.2) i))
-      | inr r ↦ (its.0, r, its.2)
-    ] in
-    let rest = sum_below Pairs f g one even xs w.rest d.1 later in
-    let first = even x mine.0 mine.2 in
-    let total = w.total in
-    let cons = sum_by-cons f x xs in
-    omega (arith, rest, first, total, cons)
-
-ones : {X : Type 0} (xs : List X) → sum_by (λ x. 1) xs ≡ length xs
-ones [] = refl
-ones (x ∷ xs) = let rest = ones xs in let cons = sum_by-cons (λ y. 1) x xs in omega (arith, rest, cons)
-
--- lists in which nothing comes twice, with the same members, are equally long
-short : {X : Type 0} (xs ys : List X) → IsDistinct xs → ((x : X) → IsIn x xs → IsIn x ys) → length xs ≤ length ys
-short {X} xs ys d each =
-    let below = sum_below (λ (a b : X). a ≡ b) (λ (x : X). 1) (λ (x : X). 1) (λ a b y e f. e ∙ sym f) (λ x y e. refl) xs ys d (λ x i. (x, each x i, refl)) in
-    let one = ones xs in
-    let two = ones ys in
-    omega (arith, below, one, two)
 
 weighed : {X : Type 0} (f : X → ℕ) (k : ℕ) (xs : List X) → ((x : X) → IsIn x xs → f x ≡ k) → sum_by f xs ≡ length xs * k
 weighed f k [] each = omega arith
@@ -110,38 +42,6 @@ flat_length f (x ∷ xs) =
     let cons = sum_by-cons (λ y. length (f y)) x xs in
     omega (arith, rest, joined, cons)
 
--- ---- a placement has as many cells as the piece
-
-untranslated : (d a b : Point) → translated d a ≡ translated d b → a ≡ b
-untranslated d a b e = λ i. record { x = x_same i; y = y_same i; z = z_same i }
-  where
-    x_same : a.x ≡ b.x
-    x_same = omega (arith, ints, ap (λ (u : Point). u.x) e)
-
-    y_same : a.y ≡ b.y
-    y_same = omega (arith, ints, ap (λ (u : Point). u.y) e)
-
-    z_same : a.z ≡ b.z
-    z_same = omega (arith, ints, ap (λ (u : Point). u.z) e)
-
-unsent : (n : ℕ) → n < 48 → (a b : Point) → sent_by n a ≡ sent_by n b → a ≡ b
-unsent n low a b e =
-    sym (sym (undone_before n low a) ∙ neutral a) ∙ ap (sent_by (inverse_of n)) e ∙ (sym (undone_before n low b) ∙ neutral b)
-
-low_turn : (g : Group) (n : ℕ) → IsIn n (turns_by g) → n < 48
-low_turn Rotations n i = (rotation_from_in n i).0
-low_turn Symmetries n i = in_from_range n 0 48 i
-
-size_is : (n : ℕ) (d : Point) (vs ws : List Coordinates) → n < 48 → IsDistinct vs → IsDistinct ws → IsImage n d vs ws → length ws ≡ length vs
-size_is n d vs ws low dv dw h =
-    let up = sum_below (λ (w v : Coordinates). point w ≡ translated d (sent_by n (point v))) (λ (w : Coordinates). 1) (λ (v : Coordinates). 1)
-    (λ a b v e f. point_same a b (e ∙ sym f)) (λ w v e. refl) ws vs dw (λ w i. h.onto w i) in
-    let down = sum_below (λ (v w : Coordinates). point w ≡ translated d (sent_by n (point v))) (λ (v : Coordinates). 1) (λ (w : Coordinates). 1)
-    (λ a b w e f. point_same a b (unsent n low (point a) (point b) (untranslated d (sent_by n (point a)) (sent_by n (point b)) (sym e ∙ f)))) (λ v w e. refl) vs ws dv (λ v i. h.into v i) in
-    let one = ones vs in
-    let two = ones ws in
-    omega (arith, up, down, one, two)
-
 -- ---- a packing as a list
 
 among : (cs : List ChoiceValue) (c : ChoiceValue) → IsIn c cs → is_among cs c ≡ true
@@ -155,24 +55,6 @@ distinct_once [] h = tt
 distinct_once (c ∷ cs) h =
     let p = and_parts (not (is_among cs c)) (are_once cs) h in
     ((λ i. both_ways (is_among cs c) (not-true _ p.0) (among cs c i)), distinct_once cs p.1)
-
-distinct_pieces : (ps : List (ℕ × List Coordinates)) → IsDistinct (names_of ps) → IsDistinct ps
-distinct_pieces [] d = tt
-distinct_pieces (q ∷ qs) d = ((λ i. d.0 (in_map (λ (r : ℕ × List Coordinates). r.0) q qs i)), distinct_pieces qs d.1)
-
-one_piece : (ps : List (ℕ × List Coordinates)) → IsDistinct (names_of ps) → (a b : ℕ × List Coordinates) → IsIn a ps → IsIn b ps → a.0 ≡ b.0 → a ≡ b
-one_piece [] d a b i j e = absurd i
-one_piece (q ∷ qs) d a b i j e =
-    elim i [
-      | inl f ↦ elim j [
-        | inl g ↦ f ∙ sym g
-        | inr s ↦ absurd (d.0 (subst (λ (n : ℕ). IsIn n (names_of qs)) (sym e ∙ ap (λ (r : ℕ × List Coordinates). r.0) f) (in_map (λ (r : ℕ × List Coordinates). r.0) b qs s)))
-      ]
-      | inr r ↦ elim j [
-        | inl g ↦ absurd (d.0 (subst (λ (n : ℕ). IsIn n (names_of qs)) (e ∙ ap (λ (r : ℕ × List Coordinates). r.0) g) (in_map (λ (r : ℕ × List Coordinates). r.0) a qs r)))
-        | inr s ↦ one_piece qs d.1 a b r s e
-      ]
-    ]
 
 module _ (p : PuzzleValue) (name : ℕ) (piece : List Coordinates) (cs : List ChoiceValue) (z : IsPuzzle p) (f : IsForced p name piece) (once : are_once cs ≡ true) (h : IsPacking p (is_among cs)) where
   shapes : HasShapes p
@@ -192,9 +74,7 @@ module _ (p : PuzzleValue) (name : ℕ) (piece : List Coordinates) (cs : List Ch
   sized c i q there e =
       let at = placed c i in
       let same = one_piece p.pieces apart (c.name, at.piece) q at.named there (sym e) in
-      size_is at.placed.symmetry at.placed.by at.piece c.cells (low_turn (turning_group p c.name) at.placed.symmetry at.placed.turned)
-      (distinct_rising coordinates_total at.piece (shapes.pieces (c.name, at.piece) at.named).rises) (distinct_rising coordinates_total c.cells at.rises) at.placed.image
-      ∙ ap (λ (r : ℕ × List Coordinates). length (r.1)) same
+      placed_size p shapes c at ∙ ap (λ (r : ℕ × List Coordinates). length (r.1)) same
 
   -- the cells of all placements are those of the region
   total : sum_by (λ c. length c.cells) cs ≡ length p.region

@@ -1,12 +1,9 @@
 -- What a call returns, or adds, of lists and of strings, where memory didn't run out.
-use Rattle.std.specs.Prelude.{◌≡◌, ℕ, ◌++◌, Result, IfOk, OnOk, List, String, map, vec_items}
+use Rattle.std.specs.Prelude.{◌≡◌, ℕ, ◌++◌, Result, IfOk, OnOk, List, String, map}
 use Rattle.std.specs.String.{string_bytes}
 use Rattle.std.specs.declared.alloc.Global.{Global}
 use Rattle.std.specs.Global.{Vec}
-
--- the items of each of these vectors
-abbrev pub lists_of : {X : Type 0} → List (Vec X) → List (List X)
-lists_of vectors = map vec_items vectors
+use Rattle.poly_texts.specs.Lists.{lists_of}
 
 -- the call returns a vector of vectors of these items, unless it has an error
 abbrev pub ReturnsLists : {X E : Type 0} → Result (Vec (Vec X)) E → List (List X) → Type 0

@@ -11,7 +11,7 @@ use Rattle.poly_cells.specs.Coordinates.{Coordinates}
 use Rattle.poly_cells.specs.Sets.{in_order}
 use Rattle.poly_texts.specs.Puzzle.{PuzzleValue, names_of, has_name}
 use Rattle.poly_place.specs.Placements.{cells_cmp}
-use Rattle.poly_place.specs.Packings.{ChoiceValue, StandsFor, choice, choice_at, laying_count}
+use Rattle.poly_place.specs.Packings.{ChoiceValue, SetStandsFor, choice_with, choice_at, laying_count}
 
 -- a packing: the region, the cells of it that may stay empty, a placement for each piece that is used, and the symbols that show the
 -- copies of a piece in turn
@@ -31,7 +31,7 @@ is_among cs c = list_any (same_choice c) cs
 
 -- these options and these choices stand for each other
 abbrev pub OptionsStandFor : PuzzleValue → List ℕ → List ChoiceValue → Type 0
-OptionsStandFor p path cs = StandsFor p (has path) (is_among cs)
+OptionsStandFor p path cs = SetStandsFor p (has path) (is_among cs)
 
 -- the names of the pieces of these choices
 abbrev pub names_in : List ChoiceValue → List ℕ
@@ -52,7 +52,7 @@ ComeByPiece p cs = IsNonDecreasingBy (λ c. place_in (names_of p.pieces) c.name)
 
 -- the choice numbered o, from 1 on
 abbrev pub choice_numbered : List ChoiceValue → ℕ → ChoiceValue
-choice_numbered cs o = slice_index_or cs (o - 1) (choice 0 [])
+choice_numbered cs o = slice_index_or cs (o - 1) (choice_with 0 [])
 
 -- none of these numbers is 0
 abbrev pub ArePositive : List ℕ → Type 0

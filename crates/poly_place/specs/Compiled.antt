@@ -1,11 +1,11 @@
 -- How the items of a puzzle's problem are numbered, by tables of cells and by the places of nodes, and when there is room for its options.
-use Rattle.std.specs.Prelude.{◌≡◌, ℕ, ◌+◌, ◌^◌, ◌≤◌, ◌==◌, nat_le, Bool, cond, ◌&&◌, List, [], ◌∷◌, ◌++◌, map, filter, flat_map, length, sum_by, slice_index_or, slice_set}
+use Rattle.std.specs.Prelude.{◌≡◌, ℕ, ◌+◌, ◌^◌, ◌≤◌, ◌==◌, nat_le, Bool, cond, not, ◌&&◌, List, [], ◌∷◌, ◌++◌, map, filter, flat_map, length, sum_by, slice_index_or, slice_set}
 use Rattle.std.specs.List.{list_all}
 use Rattle.poly_cells.specs.Coordinates.{Coordinates}
 use Rattle.poly_cells.specs.Sets.{IsIn}
 use Rattle.poly_texts.specs.Puzzle.{PuzzleValue, names_of, is_needed, is_spare}
 use Rattle.cover_problem.specs.declared.limits.TheConstants.{MOST_ITEMS, MOST_OPTIONS, MOST_ENTRIES}
-use Rattle.poly_place.specs.Packings.{ChoiceValue, choices, things, must_fill, a_cell, a_piece, item_of, place_of, pairs, levels, needed_things, things_of}
+use Rattle.poly_place.specs.Packings.{ChoiceValue, every_choice, things, must_fill, a_cell, a_piece, thing_item, place_of, pairs, tree_levels, needed_things, things_of, given, is_any, nodes, nodes_by, thing_name}
 use Rattle.poly_place.specs.Turns.{from_right, from_left}
 use Rattle.poly_place.specs.Tables.{grid_cells, bit_index}
 
@@ -31,7 +31,7 @@ numbered numbers k (v ∷ vs) = numbered (slice_set numbers (bit_index v) k) (k 
 -- the table has the number of the item of each cell of the region
 pub record AreNumbers (p : PuzzleValue) (numbers : List ℕ) : Type 0 where
   pub long : length numbers ≡ grid_cells
-  pub same : (v : Coordinates) → IsIn v p.region → item_number_at numbers v ≡ item_of p (a_cell v)
+  pub same : (v : Coordinates) → IsIn v p.region → item_number_at numbers v ≡ thing_item p (a_cell v)
 
 -- the table has, for each cell of the region, one more than how many of the region's cells come before it
 pub record ArePlaces (p : PuzzleValue) (places : List ℕ) : Type 0 where
@@ -48,8 +48,8 @@ pub record IsNumbering (p : PuzzleValue) (cells places : List ℕ) (pairs_are : 
   pub items : AreNumbers p cells
   pub places_are : ArePlaces p places
   pub pairs_same : pairs_are ≡ pairs p
-  pub levels_same : levels_are ≡ levels p
-  pub leaves_same : leaves ≡ 2 ^ levels p
+  pub levels_same : levels_are ≡ tree_levels p
+  pub leaves_same : leaves ≡ 2 ^ tree_levels p
   pub before_same : before ≡ before_nodes p
 
 -- ---- options
@@ -58,11 +58,35 @@ pub record IsNumbering (p : PuzzleValue) (cells places : List ℕ) (pairs_are : 
 abbrev pub numbers_if : Bool → List ℕ → List ℕ
 numbers_if b ns = cond b ns []
 
+-- the item of a piece, unless it may be used any number of times
+abbrev pub piece_items : PuzzleValue → ℕ → List ℕ
+piece_items p name = map (thing_item p) (given (not (is_any p name)) (a_piece name ∷ []))
+
+-- the items of cells
+abbrev pub cell_items : PuzzleValue → List Coordinates → List ℕ
+cell_items p cells = map (thing_item p) (map a_cell cells)
+
+-- the items of the nodes of a choice
+abbrev pub node_items : PuzzleValue → ChoiceValue → List ℕ
+node_items p c = map (thing_item p) (flat_map (nodes_by p c) (pairs p))
+
+-- the names of all nodes
+abbrev pub node_names : PuzzleValue → List (List ℕ)
+node_names p = map thing_name (flat_map (nodes p) (pairs p))
+
+-- the items of the nodes that a leaf reaches from the right, where the item of node h is numbered h more than `before`
+abbrev pub items_from_right : ℕ → ℕ → ℕ → List ℕ
+items_from_right before levels leaf = map (λ h. before + h) (from_right levels leaf)
+
+-- and from the left
+abbrev pub items_from_left : ℕ → ℕ → ℕ → List ℕ
+items_from_left before levels leaf = map (λ h. before + h) (from_left levels leaf)
+
 -- the items of the nodes of a pair's tree that a leaf reaches: from the right where the name is that of the piece that comes first, and
 -- from the left where it is that of the second; the item of node h is numbered h more than `before`
 abbrev pub pair_items : ℕ → ℕ × ℕ → ℕ → ℕ → ℕ → List ℕ
 pair_items name pair before levels leaf =
-    numbers_if (name == pair.0) (map (λ h. before + h) (from_right levels leaf)) ++ numbers_if (name == pair.1) (map (λ h. before + h) (from_left levels leaf))
+    numbers_if (name == pair.0) (items_from_right before levels leaf) ++ numbers_if (name == pair.1) (items_from_left before levels leaf)
 
 -- ---- room
 
@@ -77,7 +101,7 @@ left_out p = flat_map (left_from (is_spare p)) p.equal
 
 -- the items of these pieces
 abbrev pub left_items : PuzzleValue → List ℕ → List ℕ
-left_items p names = map (item_of p) (map a_piece names)
+left_items p names = map (thing_item p) (map a_piece names)
 
 -- the entries that the options of these choices take: one for each item, and a spacer
 abbrev pub entries_of : PuzzleValue → List ChoiceValue → ℕ
@@ -97,8 +121,8 @@ has_room_beside options entries lefts = nat_le (options + length lefts) MOST_OPT
 
 -- so many options lay a piece, and so many entries has a table with these alone; both are within the limits, and so is the number of items
 pub record LaysWithin (p : PuzzleValue) (options entries : ℕ) : Type 0 where
-  pub count : options ≡ length (choices p)
-  pub sum : entries ≡ length (things p) + entries_of p (choices p) + 2
+  pub count : options ≡ length (every_choice p)
+  pub sum : entries ≡ length (things p) + entries_of p (every_choice p) + 2
   pub items : length (things p) ≤ MOST_ITEMS
   pub few : options ≤ MOST_OPTIONS
   pub low : entries ≤ MOST_ENTRIES

@@ -6,7 +6,7 @@ use Rattle.poly_cells.specs.Symmetries.{rotations}
 use Rattle.cover_problem.specs.Problem.{ProblemValue}
 use Rattle.poly_texts.specs.Puzzle.{PuzzleValue, names_of, has_name}
 use Rattle.poly_place.specs.Placements.{placements}
-use Rattle.poly_place.specs.Packings.{ChoiceValue, choice, must_fill, Thing, a_piece, a_cell, index_among, thing_name, packing_problem}
+use Rattle.poly_place.specs.Packings.{ChoiceValue, choice_with, must_fill, Thing, a_piece, a_cell, index_among, thing_name, packing_problem}
 use Rattle.poly_cells.specs.Coordinates.{Coordinates}
 
 -- ---- the problem of such a puzzle, without what is of equal, repeated and reflected pieces
@@ -27,7 +27,7 @@ plain_option p c = map (λ t. index_among t (plain_things p) + 1) (a_piece c.nam
 abbrev pub plain_choices : PuzzleValue → List ChoiceValue
 plain_choices p =
     flat_map (λ (n : ℕ × List Coordinates).
-    filter (λ c. not (has_name p.maybe_pieces c.name) || list_any (must_fill p) c.cells) (map (choice (n.0)) (placements rotations (n.1) p.region))) p.pieces
+    filter (λ c. not (has_name p.maybe_pieces c.name) || list_any (must_fill p) c.cells) (map (choice_with (n.0)) (placements rotations (n.1) p.region))) p.pieces
 
 -- the problem of all of them
 abbrev pub plain_problem : PuzzleValue → ProblemValue

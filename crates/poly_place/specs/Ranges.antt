@@ -5,7 +5,7 @@
 use Rattle.std.specs.Prelude.{◌≡◌, ℕ, Bool, true, not, List, [], map, filter}
 use Rattle.poly_cells.specs.Sets.{IsIn}
 use Rattle.poly_texts.specs.Puzzle.{PuzzleValue, IsPuzzle, has_name, is_spare}
-use Rattle.poly_place.specs.Packings.{ChoiceValue, pairs, IsPacking, option_of, choices, packing_problem}
+use Rattle.poly_place.specs.Packings.{ChoiceValue, pairs, IsPacking, option_of, every_choice, packing_problem}
 
 -- spare copies that are left out together: with one of them also the next one
 pub record AreSpareEnds (p : PuzzleValue) (gone : List ℕ) : Type 0 where
@@ -37,4 +37,4 @@ RangesAreSums = (p : PuzzleValue) → IsPuzzle p → SumOfFixed p
 
 -- a puzzle without spare copies has the options that lay a piece, and no others
 abbrev pub SurePuzzlesStay : Type 0
-SurePuzzlesStay = (p : PuzzleValue) → p.spare ≡ [] → (packing_problem p).options ≡ map (option_of p) (choices p)
+SurePuzzlesStay = (p : PuzzleValue) → p.spare ≡ [] → (packing_problem p).options ≡ map (option_of p) (every_choice p)

@@ -16,10 +16,10 @@ abbrev pub has_bit : List Bool → Coordinates → Bool
 has_bit bits c = nat_le c.x 31 && (nat_le c.y 31 && (nat_le c.z 31 && slice_index_or bits (bit_index c) false))
 
 -- the table has exactly the cells of the region
-pub record IsTable (region : List Coordinates) (bits : List Bool) : Type 0 where
+pub record IsCellTable (region : List Coordinates) (bits : List Bool) : Type 0 where
   pub long : length bits ≡ grid_cells
   pub same : (c : Coordinates) → has_bit bits c ≡ has_cell region c
 
 -- whatever region a table has, these cells join it
 abbrev pub AddsCells : List Bool → List Bool → List Coordinates → Type 0
-AddsCells old new cells = (region : List Coordinates) → IsTable region old → IsTable (region ++ cells) new
+AddsCells old new cells = (region : List Coordinates) → IsCellTable region old → IsCellTable (region ++ cells) new

@@ -3,14 +3,16 @@ ghost use Rattle.std.specs.Prelude.{◌≡◌, ◌++◌, Ok, Some, None, true, f
 ghost use Rattle.std.specs.Prelude.{IsOk, IsErrOf};
 ghost use Rattle.poly_texts.specs.Puzzle.{IsPuzzle};
 ghost use Rattle.cover_problem.specs.Answers.{Returns, ReturnsItems};
-ghost use Rattle.poly_place.specs.Answers.{AddsLists, ReturnsLists, ReturnsTexts, lists_of};
-ghost use Rattle.poly_place.specs.Packings.{choices, packing_problem, needed_things, option_of, thing_name, things, problem_fits};
+ghost use Rattle.poly_texts.specs.Lists.{lists_of};
+ghost use Rattle.poly_place.specs.Answers.{AddsLists, ReturnsLists, ReturnsTexts};
+ghost use Rattle.poly_place.specs.Packings.{every_choice, packing_problem, needed_things, option_of, thing_name, things, problem_fits};
 ghost use Rattle.poly_place.specs.Compiled.{filled_cells, left_items, left_out, needed_names};
 
-use crate::choice::{Choice, all_choices};
+use crate::choice::Choice;
 use crate::fault::PlaceFault;
 use crate::items::{add_cell_names, add_piece_names, needed_cells, needed_pieces};
-use crate::leaving::left_out;
+use crate::laying::all_choices;
+use crate::leavings::left_out;
 use crate::numbers::Numbers;
 use crate::room::has_room;
 use crate::table::table_of;
@@ -31,7 +33,7 @@ pub struct Compiled<'p> {
 impl<'p> Model for Compiled<'p> {
     ghost use Rattle.std.specs.Prelude.{◌≡◌};
     ghost use Rattle.poly_texts.specs.Puzzle.{PuzzleValue};
-    ghost use Rattle.poly_place.specs.Packings.{choices as every_choice, packing_problem};
+    ghost use Rattle.poly_place.specs.Packings.{every_choice, packing_problem};
 
     ghost Value = { PuzzleValue };
 
@@ -79,7 +81,7 @@ impl<'p> Compiled<'p> {
 
     /// What each option stands for.
     pub(crate) fn choices(&self) -> &[Choice]
-        ensures value { result.now ≡ choices self.now }
+        ensures value { result.now ≡ every_choice self.now }
         ensures puzzle { IsPuzzle self.now }
     {
         self.puzzle.is_sound();
@@ -112,7 +114,7 @@ pub fn compile<'p>(alloc: Global, puzzle: &'p Puzzle) -> Result<Compiled<'p>, Pl
     if let Some(fault) = refusal(room) {
         return Err(fault);
     }
-    let choices = all_choices(alloc, puzzle, filled.as_slice())?;
+    let choices = all_choices(alloc, &numbers, filled.as_slice())?;
     let problem = problem_of(
         alloc,
         puzzle,
@@ -141,7 +143,7 @@ fn problem_of(
     requires pieces { pieces.now ≡ needed_names puzzle.now }
     requires cells { cells.now ≡ filled_cells puzzle.now }
     requires numbers { numbers.now ≡ puzzle.now }
-    requires list { list.now ≡ choices puzzle.now }
+    requires list { list.now ≡ every_choice puzzle.now }
     requires small { problem_fits puzzle.now ≡ true }
     ensures { Returns result (packing_problem puzzle.now) }
 {
@@ -220,8 +222,8 @@ fn all_options(
     requires puzzle { IsPuzzle numbers.now }
     requires needed { needed.now ≡ needed_names numbers.now }
     requires primary { primary ≡ length (needed_things numbers.now) }
-    requires list { list.now ≡ choices numbers.now }
-    ensures { ReturnsLists result (map (option_of numbers.now) (choices numbers.now)) }
+    requires list { list.now ≡ every_choice numbers.now }
+    ensures { ReturnsLists result (map (option_of numbers.now) (every_choice numbers.now)) }
 {
     let mut options = Vec::with_capacity(alloc, list.len())?;
     for choice in list {

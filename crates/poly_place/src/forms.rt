@@ -2,7 +2,8 @@
 ghost use Rattle.std.specs.Prelude.{◌≡◌, ◌≤◌, ◌<◌, ◌∷◌, length, map};
 ghost use Rattle.poly_cells.specs.Sets.{in_order};
 ghost use Rattle.cover_problem.specs.Answers.{ReturnsItems};
-ghost use Rattle.poly_place.specs.Answers.{ReturnsLists, lists_of};
+ghost use Rattle.poly_texts.specs.Lists.{lists_of};
+ghost use Rattle.poly_place.specs.Answers.{ReturnsLists};
 ghost use Rattle.poly_place.specs.Classes.{part_at};
 ghost use Rattle.poly_place.specs.Forms.{carried, first_form, forms_cmp, key_of, least_form, parts_in, AreBelow, AllAreBelow};
 ghost use Rattle.poly_place.specs.Chosen.{place_in};

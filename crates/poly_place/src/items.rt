@@ -8,7 +8,7 @@ ghost use Rattle.poly_texts.specs.Puzzle.{IsPuzzle, names_of, is_needed};
 ghost use Rattle.cover_problem.specs.Limits.{most_items};
 ghost use Rattle.cover_problem.specs.Answers.{ReturnsItems};
 ghost use Rattle.poly_place.specs.Answers.{AddsTexts};
-ghost use Rattle.poly_place.specs.Packings.{a_piece, item_of, is_any, needed_things, index_among, node_word};
+ghost use Rattle.poly_place.specs.Packings.{a_piece, thing_item, is_any, needed_things, index_among, node_word};
 ghost use Rattle.poly_place.specs.Compiled.{AreNumbers, ArePlaces, filled_cells, needed_names, numbered};
 ghost use Rattle.poly_place.specs.Tables.{grid_cells};
 
@@ -112,7 +112,7 @@ pub fn piece_number(puzzle: &Puzzle, needed: &[PieceName], primary: u32, name: P
     requires primary { primary ≡ length (needed_things puzzle.now) }
     requires member { IsIn name (names_of puzzle.now.pieces) }
     requires single { is_any puzzle.now name ≡ false }
-    ensures { result ≡ item_of puzzle.now (a_piece name) }
+    ensures { result ≡ thing_item puzzle.now (a_piece name) }
 {
     let place = index_among(needed, name);
     if place < needed.len() {

@@ -1,9 +1,6 @@
 //! Laws over the definitions alone. Each is a function without a body whose contract states the law.
 ghost use Rattle.poly_place.specs.Placements.{ListsPlacements};
-ghost use Rattle.std.specs.Prelude.{◌≡◌, true};
-ghost use Rattle.poly_texts.specs.Puzzle.{PuzzleValue, IsPuzzle};
-ghost use Rattle.cover_problem.specs.Problem.{IsProblem};
-ghost use Rattle.poly_place.specs.Packings.{CoversArePackings, packing_problem, problem_fits};
+ghost use Rattle.poly_place.specs.Packings.{CoversArePackings, PackingsHaveRoom, PuzzlesHaveProblems};
 ghost use Rattle.poly_place.specs.Ranges.{RangesAreSums, SurePuzzlesStay};
 ghost use Rattle.poly_place.specs.Swaps.{SwapsCountOnce};
 ghost use Rattle.poly_place.specs.Volume.{VolumeForces};
@@ -19,6 +16,11 @@ pub fn placements_are_listed()
 /// The packings of a puzzle and the exact covers of its problem are the same, one for one.
 pub fn covers_are_packings()
     ensures { CoversArePackings }
+{}
+
+/// In each packing the region has room, from the least cell of a placement on, for it and for the copies that follow and have to be used.
+pub fn packings_have_room()
+    ensures { PackingsHaveRoom }
 {}
 
 /// Each packing is one in which all pieces are told apart, and of those that differ by equal pieces that change places exactly one is
@@ -51,7 +53,7 @@ pub fn plain_puzzles_stay()
 
 /// What stands for a puzzle is a problem, where it is within the limits: no name comes twice, and no item in an option.
 pub fn puzzles_have_problems()
-    ensures { (p : PuzzleValue) → IsPuzzle p → problem_fits p ≡ true → IsProblem (packing_problem p) }
+    ensures { PuzzlesHaveProblems }
 {}
 
 /// A number is greater than another one exactly where their leaves share a node that the one reaches from the right and the other from

@@ -1,11 +1,10 @@
 //! The nodes of a tree that a leaf reaches, as numbers of items.
-ghost use Rattle.std.specs.Prelude.{◌≡◌, ◌+◌, ◌<◌, ◌≤◌, ◌^◌, map};
+ghost use Rattle.std.specs.Prelude.{◌≡◌, ◌+◌, ◌<◌, ◌≤◌, ◌^◌};
 ghost use Rattle.std.specs.List.{flat_map};
 ghost use Rattle.cover_problem.specs.Answers.{Adds, ReturnsItems};
-ghost use Rattle.poly_place.specs.Answers.{lists_of};
+ghost use Rattle.poly_texts.specs.Lists.{lists_of};
 ghost use Rattle.poly_place.specs.Packings.{levels_for, neighbours};
-ghost use Rattle.poly_place.specs.Turns.{from_right, from_left};
-ghost use Rattle.poly_place.specs.Compiled.{numbers_if, pair_items};
+ghost use Rattle.poly_place.specs.Compiled.{items_from_left, items_from_right, numbers_if, pair_items};
 
 use poly_texts::PieceName;
 use std::alloc::{AllocError, Global};
@@ -79,7 +78,7 @@ fn push_first(
     leaf: u32,
 ) -> Result<(), AllocError>
     requires { before + leaf < 2 ^ 32 }
-    ensures { Adds result items.old items.new (numbers_if there (map (λ h. before + h) (from_right levels leaf))) }
+    ensures { Adds result items.old items.new (numbers_if there (items_from_right before levels leaf)) }
 {
     if there {
         push_from_right(items, before, levels, leaf)?;
@@ -96,7 +95,7 @@ fn push_second(
     leaf: u32,
 ) -> Result<(), AllocError>
     requires { before + leaf < 2 ^ 32 }
-    ensures { Adds result items.old items.new (numbers_if there (map (λ h. before + h) (from_left levels leaf))) }
+    ensures { Adds result items.old items.new (numbers_if there (items_from_left before levels leaf)) }
 {
     if there {
         push_from_left(items, before, levels, leaf)?;
@@ -113,7 +112,7 @@ fn push_from_right(
     leaf: u32,
 ) -> Result<(), AllocError>
     requires { before + leaf < 2 ^ 32 }
-    ensures { Adds result items.old items.new (map (λ h. before + h) (from_right levels leaf)) }
+    ensures { Adds result items.old items.new (items_from_right before levels leaf) }
 {
     let mut node = leaf;
     for _level in 0..levels {
@@ -133,7 +132,7 @@ fn push_from_left(
     leaf: u32,
 ) -> Result<(), AllocError>
     requires { before + leaf < 2 ^ 32 }
-    ensures { Adds result items.old items.new (map (λ h. before + h) (from_left levels leaf)) }
+    ensures { Adds result items.old items.new (items_from_left before levels leaf) }
 {
     let mut node = leaf;
     for _level in 0..levels {

@@ -1,15 +1,15 @@
 //! The numbers of the items of a puzzle's problem, and the options that they make.
-ghost use Rattle.std.specs.Prelude.{◌≡◌, ◌+◌, ◌≤◌, ◌∷◌, [], ℕ, false, not, length, map};
-ghost use Rattle.std.specs.List.{flat_map};
+ghost use Rattle.std.specs.Prelude.{◌≡◌, ◌+◌, ◌<◌, ◌≤◌, ℕ, false, length, map};
 ghost use Rattle.poly_cells.specs.Sets.{IsIn};
 ghost use Rattle.poly_texts.specs.Puzzle.{IsPuzzle, names_of};
 ghost use Rattle.poly_cells.specs.Coordinates.{Coordinates};
 ghost use Rattle.cover_problem.specs.Answers.{Adds, Returns, ReturnsItems};
 ghost use Rattle.poly_place.specs.Answers.{AddsTexts};
-ghost use Rattle.poly_place.specs.Packings.{a_cell, a_piece, choices, given, is_any, item_of, leaf_of, needed_things, nodes, nodes_by, option_of, pairs, thing_name, things, things_of};
-ghost use Rattle.poly_place.specs.Compiled.{filled_cells, left_items, needed_names};
+ghost use Rattle.poly_place.specs.Packings.{every_choice, first_cell, followers, has_room_for, is_any, leaf_of, needed_things, nodes, option_of, place_of, thing_name, things, things_of};
+ghost use Rattle.poly_place.specs.Compiled.{cell_items, filled_cells, left_items, needed_names, node_items, node_names, piece_items};
 
 use crate::choice::Choice;
+use crate::followers::{fit, following};
 use crate::items::{cell_numbers, cell_places, node_name, piece_number};
 use crate::nodes::{pairs_of, push_pair, tree_for};
 use crate::table::bit_index;
@@ -72,6 +72,38 @@ impl<'p> Numbers<'p> {
         })
     }
 
+    /// The puzzle.
+    pub fn puzzle(&self) -> &'p Puzzle
+        ensures { result.now ≡ self.now }
+    {
+        self.puzzle
+    }
+
+    /// How many equal pieces follow this one and have to be used.
+    pub fn following(&self, name: PieceName) -> usize
+        ensures { result ≡ length (followers self.now name) }
+    {
+        following(self.pairs.as_slice(), self.puzzle.spare(), name)
+    }
+
+    /// Whether the region has room, from the least of these cells on, for so many copies of as many cells beside them.
+    pub fn has_room_for(&self, copies: usize, cells: &[Cell]) -> bool
+        requires some { 0 < length cells.now }
+        requires inside { IsIn (first_cell cells.now) self.now.region }
+        ensures { result ≡ has_room_for self.now copies cells.now }
+    {
+        let from_there = self.puzzle.region().cells().len() - self.place_of(cells[0]);
+        fit(copies, cells.len(), from_there)
+    }
+
+    /// How many of the region's cells come before this one.
+    fn place_of(&self, cell: Cell) -> usize
+        requires { IsIn cell self.now.region }
+        ensures { result ≡ place_of self.now.region cell }
+    {
+        self.places[bit_index(cell.x(), cell.y(), cell.z())] as usize - 1
+    }
+
     /// How many items there are.
     pub fn items(&self) -> usize
         requires { IsPuzzle self.now }
@@ -91,7 +123,7 @@ impl<'p> Numbers<'p> {
         requires puzzle { IsPuzzle self.now }
         requires needed { needed.now ≡ needed_names self.now }
         requires primary { primary ≡ length (needed_things self.now) }
-        requires member { IsIn choice.now (choices self.now) }
+        requires member { IsIn choice.now (every_choice self.now) }
         ensures { ReturnsItems result (option_of self.now choice.now) }
     {
         let mut option = Vec::with_capacity(alloc, choice.cells().len() + 1)?;
@@ -135,7 +167,7 @@ impl<'p> Numbers<'p> {
         requires needed { needed.now ≡ needed_names self.now }
         requires primary { primary ≡ length (needed_things self.now) }
         requires member { IsIn name (names_of self.now.pieces) }
-        ensures { Adds result option.old option.new (map (item_of self.now) (given (not (is_any self.now name)) (a_piece name ∷ []))) }
+        ensures { Adds result option.old option.new (piece_items self.now name) }
     {
         if self.is_any(name) {
             return Ok(());
@@ -154,7 +186,7 @@ impl<'p> Numbers<'p> {
     /// Adds the items of these cells.
     fn push_cells(&self, option: &mut Vec<u32>, cells: &[Cell]) -> Result<(), AllocError>
         requires { (v : Coordinates) → IsIn v cells.now → IsIn v self.now.region }
-        ensures { Adds result option.old option.new (map (item_of self.now) (map a_cell cells.now)) }
+        ensures { Adds result option.old option.new (cell_items self.now cells.now) }
     {
         for cell in cells {
             option.push(self.cells[bit_index(cell.x(), cell.y(), cell.z())])?;
@@ -165,8 +197,8 @@ impl<'p> Numbers<'p> {
     /// Adds the items of the nodes that the leaf of a choice reaches, where its piece is one of equal ones.
     fn push_nodes(&self, option: &mut Vec<u32>, choice: &Choice) -> Result<(), AllocError>
         requires puzzle { IsPuzzle self.now }
-        requires member { IsIn choice.now (choices self.now) }
-        ensures { Adds result option.old option.new (map (item_of self.now) (flat_map (nodes_by self.now choice.now) (pairs self.now))) }
+        requires member { IsIn choice.now (every_choice self.now) }
+        ensures { Adds result option.old option.new (node_items self.now choice.now) }
     {
         if self.pairs.is_empty() {
             return Ok(());
@@ -183,7 +215,7 @@ impl<'p> Numbers<'p> {
     /// The leaf of the least cell of a choice.
     fn leaf_of(&self, choice: &Choice) -> u32
         requires puzzle { IsPuzzle self.now }
-        requires member { IsIn choice.now (choices self.now) }
+        requires member { IsIn choice.now (every_choice self.now) }
         ensures { result ≡ leaf_of self.now choice.now }
     {
         let first = choice.cells()[0];
@@ -193,7 +225,7 @@ impl<'p> Numbers<'p> {
     /// How many items the option of a choice has.
     pub fn size_of(&self, alloc: Global, choice: &Choice) -> Result<usize, AllocError>
         requires puzzle { IsPuzzle self.now }
-        requires member { IsIn choice.now (choices self.now) }
+        requires member { IsIn choice.now (every_choice self.now) }
         ensures { Returns result (length (things_of self.now choice.now)) }
     {
         let cells = choice.cells().len();
@@ -205,7 +237,7 @@ impl<'p> Numbers<'p> {
 
     /// Adds the names of all nodes.
     pub fn add_node_names(&self, alloc: Global, names: &mut Vec<String>) -> Result<(), AllocError>
-        ensures { AddsTexts result names.old names.new (map thing_name (flat_map (nodes self.now) (pairs self.now))) }
+        ensures { AddsTexts result names.old names.new (node_names self.now) }
     {
         for pair in self.pairs.as_slice() {
             self.add_tree_names(alloc, names, *pair)?;

@@ -5,7 +5,7 @@ ghost use Rattle.poly_cells.specs.Sets.{in_order};
 ghost use Rattle.cover_problem.specs.Lists.{has};
 ghost use Rattle.cover_problem.specs.ExactCover.{IsExactCover};
 ghost use Rattle.cover_problem.specs.Answers.{Returns, ReturnsItems};
-ghost use Rattle.poly_place.specs.Answers.{lists_of};
+ghost use Rattle.poly_texts.specs.Lists.{lists_of};
 ghost use Rattle.poly_place.specs.Packings.{IsPacking, packing_problem};
 ghost use Rattle.poly_place.specs.Chosen.{AreInPieceOrder, ArePositive, ComeByPiece, choice_numbered, numbering, is_among, packing_value, OptionsStandFor};
 

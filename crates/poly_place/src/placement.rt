@@ -1,7 +1,8 @@
 //! The placements of a piece in a region.
 ghost use Rattle.std.specs.Prelude.{◌≡◌, ◌<◌, IfOk, length, slice_index};
 ghost use Rattle.cover_problem.specs.Answers.{ReturnsItems};
-ghost use Rattle.poly_place.specs.Answers.{ReturnsLists, AddsLists, lists_of};
+ghost use Rattle.poly_texts.specs.Lists.{lists_of};
+ghost use Rattle.poly_place.specs.Answers.{ReturnsLists, AddsLists};
 ghost use Rattle.poly_cells.specs.Symmetries.{rotations};
 ghost use Rattle.poly_place.specs.Placements.{ArePlacements, at_cell, at_cells, forms_at, moved_inside, orientations, placements, turns_by};
 ghost use Rattle.poly_place.specs.Tables.{grid_cells, has_bit};
@@ -16,7 +17,7 @@ use std::alloc::{AllocError, Global};
 /// once, in the order of their lists of cells.
 pub fn placements(alloc: Global, piece: &Shape, region: &Shape) -> Result<Vec<Shape>, AllocError>
     ensures value { ReturnsItems result (placements rotations piece.now region.now) }
-    ensures exactly { IfOk result (λ sets. ArePlacements rotations piece.now region.now sets.items) }
+    ensures exactly { IfOk result (λ s. ArePlacements rotations piece.now region.now s.items) }
 {
     placements_by(alloc, piece, region, Group::Rotations)
 }

@@ -2,14 +2,15 @@
 ghost use Rattle.std.specs.Prelude.{◌≡◌, ◌≤◌, ◌+◌, false, IfNone, IfOk, IfSome};
 ghost use Rattle.poly_texts.specs.Puzzle.{IsPuzzle};
 ghost use Rattle.cover_problem.specs.Answers.{Returns};
-ghost use Rattle.poly_place.specs.Tables.{IsTable};
+ghost use Rattle.poly_place.specs.Tables.{IsCellTable};
 ghost use Rattle.poly_cells.specs.Sets.{IsIn};
-ghost use Rattle.poly_place.specs.Packings.{ChoiceValue, choices, problem_fits};
-ghost use Rattle.poly_place.specs.Answers.{lists_of};
+ghost use Rattle.poly_place.specs.Packings.{ChoiceValue, every_choice, problem_fits};
+ghost use Rattle.poly_texts.specs.Lists.{lists_of};
 ghost use Rattle.poly_place.specs.Compiled.{LaysWithin, entries_of, filled_cells, has_room_beside, leaving_entries};
 
-use crate::choice::{Choice, add_choices};
-use crate::leaving::left_out;
+use crate::choice::Choice;
+use crate::laying::add_choices;
+use crate::leavings::left_out;
 use crate::numbers::Numbers;
 use cover_problem::{MOST_ENTRIES, MOST_ITEMS, MOST_OPTIONS};
 use poly_texts::{PieceName, Puzzle};
@@ -23,7 +24,7 @@ pub fn has_room(
     numbers: &Numbers<'_>,
 ) -> Result<bool, AllocError>
     requires puzzle { IsPuzzle puzzle.now }
-    requires filled { IsTable (filled_cells puzzle.now) filled.now }
+    requires filled { IsCellTable (filled_cells puzzle.now) filled.now }
     requires numbers { numbers.now ≡ puzzle.now }
     ensures { Returns result (problem_fits puzzle.now) }
 {
@@ -68,7 +69,7 @@ fn laying_room(
     numbers: &Numbers<'_>,
 ) -> Result<Option<(usize, usize)>, AllocError>
     requires puzzle { IsPuzzle puzzle.now }
-    requires filled { IsTable (filled_cells puzzle.now) filled.now }
+    requires filled { IsCellTable (filled_cells puzzle.now) filled.now }
     requires numbers { numbers.now ≡ puzzle.now }
     ensures none { IfOk result (λ found. IfNone found (problem_fits puzzle.now ≡ false)) }
     ensures some { IfOk result (λ found. IfSome found (λ r. LaysWithin puzzle.now r.0 r.1)) }
@@ -82,7 +83,7 @@ fn laying_room(
     for k in 0..pieces.len() {
         let (name, piece) = pieces.get_index(k).unwrap();
         let mut choices = Vec::new(alloc);
-        add_choices(alloc, &mut choices, puzzle, filled, *name, piece)?;
+        add_choices(alloc, &mut choices, numbers, filled, *name, piece)?;
         options += choices.len();
         entries = entries_with(alloc, entries, numbers, choices.as_slice())?;
         if options > MOST_OPTIONS || entries > MOST_ENTRIES {
@@ -100,7 +101,7 @@ fn entries_with(
     list: &[Choice],
 ) -> Result<usize, AllocError>
     requires puzzle { IsPuzzle numbers.now }
-    requires members { (c : ChoiceValue) → IsIn c list.now → IsIn c (choices numbers.now) }
+    requires members { (c : ChoiceValue) → IsIn c list.now → IsIn c (every_choice numbers.now) }
     requires low { entries ≤ MOST_ENTRIES }
     ensures exact { IfOk result (λ n. n ≤ MOST_ENTRIES → n ≡ entries + entries_of numbers.now list.now) }
     ensures past { IfOk result (λ n. entries + entries_of numbers.now list.now ≤ MOST_ENTRIES → n ≤ MOST_ENTRIES) }

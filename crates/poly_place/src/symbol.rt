@@ -1,6 +1,6 @@
 //! The symbols that show pieces: the name of a piece, or for its copies the symbols of its line in turn.
 ghost use Rattle.std.specs.Prelude.{◌≡◌, ◌<◌, true, find, length, option_map, IfSome};
-ghost use Rattle.poly_place.specs.Answers.{lists_of};
+ghost use Rattle.poly_texts.specs.Lists.{lists_of};
 ghost use Rattle.poly_place.specs.Layers.{begins_with, is_earlier_copy, copy_rank, shown_symbol};
 ghost use Rattle.poly_place.specs.Packings.{first_cell};
 

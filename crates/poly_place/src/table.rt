@@ -3,7 +3,7 @@ ghost use Rattle.std.specs.Prelude.{◌≡◌, false, length, replicate, IfOk};
 ghost use Rattle.poly_cells.specs.Coordinates.{coordinates};
 ghost use Rattle.poly_cells.specs.Shapes.{AllInGrid};
 ghost use Rattle.cover_problem.specs.Answers.{ReturnsItems};
-ghost use Rattle.poly_place.specs.Tables.{IsTable, AddsCells, grid_cells, bit_index, has_bit};
+ghost use Rattle.poly_place.specs.Tables.{IsCellTable, AddsCells, grid_cells, bit_index, has_bit};
 
 use poly_cells::Cell;
 use std::alloc::{AllocError, Global};
@@ -17,7 +17,7 @@ pub const GRID_CELLS: usize = 32_768;
 /// The table of a region.
 pub fn table_of(alloc: Global, region: &[Cell]) -> Result<Vec<bool>, AllocError>
     requires { AllInGrid region.now }
-    ensures { IfOk result (λ bits. IsTable region.now bits.items) }
+    ensures { IfOk result (λ bits. IsCellTable region.now bits.items) }
 {
     let mut bits = no_bits(alloc, GRID_CELLS)?;
     set_bits(&mut bits, region);

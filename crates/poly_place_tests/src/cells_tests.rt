@@ -1,5 +1,5 @@
 //! Each public function of cells and shapes once, with values from outside: rows worked by hand, and counts.
-use crate::setting::{Cells, MIRRORED, SCREW, are_cells, box_of, shape_at};
+use crate::fixtures::{Cells, MIRRORED, SCREW, are_cells, box_of, shape_at};
 use poly_cells::{Cell, Rotation, Shape, Symmetry, TranslateFault, symmetries_of};
 use std::alloc::Global;
 use std::test::Fail;

@@ -39,7 +39,7 @@ fn optional_pieces_and_cells_come_last(rt: HostRuntime) -> Result<(), Fail> {
 fn equal_pieces_share_nodes(rt: HostRuntime) -> Result<(), Fail> {
     let text = b"copies AB 000\ncells 000 100\n";
     let wanted =
-        b"items A B 000 100\nmaybe A_001\noption A 000\noption A 100 A_001\noption B 000 A_001\noption B 100\n";
+        b"items A B 000 100\nmaybe A_001\noption A 000\noption B 000 A_001\noption B 100\n";
     assert!(rt; is_compiled_to(rt.alloc(), text, wanted)?);
     Ok(())
 }

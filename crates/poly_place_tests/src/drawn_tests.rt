@@ -1,5 +1,5 @@
-//! Drawn puzzles with equal pieces, pieces used any number of times and pieces that may be reflected. How many packings each has was
-//! counted by a program of another language, which takes sets of placements that meet nowhere and knows no exact covers.
+//! Drawn puzzles with equal pieces, also such as may be left out, pieces used any number of times and pieces that may be reflected. How many
+//! packings each has was counted by a program of another language, which takes sets of placements that meet nowhere and knows no exact covers.
 use cover_problem::Problem;
 use poly_place::{Compiled, compile};
 use poly_texts::{Puzzle, read_puzzle};
@@ -256,6 +256,188 @@ static DRAWN: [(&[u8], u64); 40] = [
 #[test]
 fn drawn_puzzles_have_their_packings(rt: HostRuntime) -> Result<(), Fail> {
     assert_counts(&rt, rt.alloc(), &DRAWN)
+}
+
+static RANGED: [(&[u8], u64); 40] = [
+    (b"box 3 1 1\ncut 100\ncopies DgA+HEi 000 100 200", 0),
+    (
+        b"box 3 1 1\npiece f 000 100 200\nmirror copies +dF 000 100 200 010\n\
+          maybe cells 100 200",
+        1,
+    ),
+    (
+        b"box 4 2 1\nmaybe mirror piece C 000 100 200\nmaybe cells 210 300\n\
+          copies B+Efc 000 100 010\ncopies hb 000 100 200 010\nmirror piece I 000 100 200",
+        0,
+    ),
+    (
+        b"piece a 000 100 010 011\nbox 2 3 2\ncopies +iJ 000 100\nmaybe cells 021 121",
+        0,
+    ),
+    (
+        b"mirror piece F 000 100\nany mirror piece b 000\ncopies +hB 000 100\nbox 3 2 1",
+        38,
+    ),
+    (
+        b"box 2 2 1\ncopies +AF 000 100 200\nmaybe cells 010 100\n\
+          maybe piece I 000 100 010 011\nmirror copies g+f 000 100 010",
+        2,
+    ),
+    (
+        b"mirror piece j 000 100 010 011\nmaybe cells 020 110\n\
+          mirror copies g+d 000 100 200 010\ncopies fc 000\nbox 2 3 2",
+        7,
+    ),
+    (
+        b"mirror copies GeI+JB 000 100 200 010\nmirror piece D 000 100 200\ncut 100\n\
+          box 3 1 1\nany mirror piece h 000 100 200 010",
+        0,
+    ),
+    (
+        b"box 3 3 1\ncopies +dFa 000 100 010 011\nany piece b 000",
+        1,
+    ),
+    (
+        b"maybe piece j 000 100 010 011\ncopies +cF 000 100 200\nbox 3 1 1\n\
+          copies +JI 000\npiece G 000",
+        3,
+    ),
+    (b"box 2 2 1\ncopies g+G 000\nmirror copies +jJ 000 100", 4),
+    (b"box 2 2 2\ncopies cg+EA 000 100", 9),
+    (
+        b"box 3 3 1\ncut 210\nmaybe piece b 000 100 200\ncopies g+F 000\n\
+          mirror piece D 000 100 200 010",
+        4,
+    ),
+    (
+        b"box 2 2 2\nmaybe piece C 000 100 200\ncopies +de 000\nany piece J 000",
+        37,
+    ),
+    (
+        b"box 2 3 2\nmaybe cells 110\ncopies e+i 000\npiece H 000 100 010\n\
+          copies jE 000 100 010 011",
+        72,
+    ),
+    (
+        b"mirror copies +cei 000\nany piece H 000 100 010 011\n\
+          mirror copies +Ad 000 100 010\nbox 3 3 1\npiece I 000 100 010",
+        44,
+    ),
+    (
+        b"copies +Ea 000 100\nmaybe piece C 000 100 010\ncut 000\nbox 2 2 1",
+        1,
+    ),
+    (
+        b"copies E+jHc 000\nbox 2 2 1\ncopies ef+g 000\nmaybe cells 010 100 110\n\
+          any piece i 000 100 010 011",
+        19,
+    ),
+    (
+        b"maybe mirror piece A 000 100 200\ncopies i+c 000\nbox 3 1 1\nmaybe cells 100\n\
+          any mirror piece C 000",
+        6,
+    ),
+    (b"box 2 2 1\ncopies gH+DA 000 100", 2),
+    (
+        b"any piece E 000 100\ncopies +dhb 000 100 010\nmaybe cells 110 200\ncut 110\n\
+          box 4 2 1",
+        5,
+    ),
+    (
+        b"any piece D 000 100\ncopies +GF 000 100 010 011\nmirror piece b 000 100\n\
+          maybe cells 010 101 211\nbox 3 2 2",
+        662,
+    ),
+    (
+        b"mirror copies +dg 000 100 200\nmaybe cells 100\n\
+          any mirror piece j 000 100 200 010\nbox 3 3 1\npiece J 000 100",
+        17,
+    ),
+    (b"box 3 1 1\ncopies Ff 000\ncut 100\ncopies +Ab 000", 1),
+    (
+        b"box 3 2 2\nmirror piece b 000 100 200\nmirror copies +ei 000 100 200\n\
+          copies Ba 000 100 200 010\nmaybe cells 101",
+        2,
+    ),
+    (
+        b"any piece G 000 100 200\ncopies +ED 000 100 200 010\nbox 3 2 1\n\
+          mirror copies +afF 000 100 200\nmaybe cells 000 100\ncopies JC 000",
+        8,
+    ),
+    (
+        b"maybe cells 120\ncopies +EJh 000 100 200 010\nmirror piece G 000 100 200 010\n\
+          mirror copies Ab+FI 000\ncut 100\nbox 3 3 1",
+        12,
+    ),
+    (
+        b"copies +jgA 000 100 200 010\ncut 010\nmaybe cells 000 310\nbox 4 2 1\n\
+          copies D+a 000",
+        7,
+    ),
+    (
+        b"box 2 3 2\nany piece B 000 100\ncopies A+jc 000 100 200",
+        12,
+    ),
+    (
+        b"copies Ig+f 000 100 200 010\ncopies E+j 000 100 010\nbox 3 2 2\n\
+          maybe cells 100 201",
+        8,
+    ),
+    (
+        b"copies +gD 000 100\nbox 3 2 2\nmirror piece h 000 100 010\n\
+          maybe mirror piece I 000 100\nmaybe cells 101 200 201",
+        60,
+    ),
+    (
+        b"maybe cells 010\nmaybe mirror piece d 000 100 010 011\n\
+          mirror copies +Ig 000 100 010 011\npiece h 000 100 010\nbox 2 2 1",
+        1,
+    ),
+    (
+        b"box 2 2 2\nany piece d 000 100 010 011\nmirror copies hJF+B 000 100\n\
+          maybe cells 001 010 101",
+        14,
+    ),
+    (
+        b"any piece E 000\nbox 3 2 2\ncopies gJ+cI 000 100 200 010",
+        40,
+    ),
+    (
+        b"maybe cells 000 010\ncopies +eb 000 100 010\nbox 2 2 1\ncut 000\n\
+          copies jIc+h 000",
+        1,
+    ),
+    (
+        b"maybe piece H 000 100 200\nbox 2 2 2\nany piece f 000 100 010\ncopies +jC 000\n\
+          maybe cells 000 111",
+        111,
+    ),
+    (
+        b"piece d 000 100 010\ncopies eG 000 100\nmaybe piece g 000 100 010\n\
+          copies C+f 000 100\nbox 3 3 1",
+        24,
+    ),
+    (
+        b"any mirror piece H 000 100\ncopies je+h 000\nbox 2 3 2\n\
+          maybe mirror piece A 000 100 010 011\nmirror piece J 000 100 200\n\
+          maybe cells 020",
+        512,
+    ),
+    (
+        b"maybe piece A 000 100 010\nmaybe cells 000\ncopies +IE 000 100 010\n\
+          piece j 000\nbox 4 2 1\nany piece f 000",
+        248,
+    ),
+    (
+        b"box 2 2 2\ncopies F+iA 000\nmaybe cells 000 010 111\n\
+          copies +jE 000 100 200 010\nmaybe piece c 000 100",
+        4,
+    ),
+];
+
+#[test]
+fn drawn_ranges_have_their_packings(rt: HostRuntime) -> Result<(), Fail> {
+    assert_counts(&rt, rt.alloc(), &RANGED)
 }
 
 static WORKED: [(&[u8], u64); 6] = [

@@ -11,6 +11,8 @@ mod compiled_tests;
 #[cfg(test)]
 mod drawn_tests;
 #[cfg(test)]
+mod fixtures;
+#[cfg(test)]
 mod large_tests;
 #[cfg(test)]
 mod memory_tests;
@@ -18,7 +20,5 @@ mod memory_tests;
 mod packing_tests;
 #[cfg(test)]
 mod places_tests;
-#[cfg(test)]
-mod setting;
 #[cfg(test)]
 mod texts_tests;

@@ -1,6 +1,6 @@
 //! Problems and placements to whose making memory is refused: the same call, made again over the same puzzle or shapes, makes what it makes
 //! where nothing is refused. `dev/check_memory` runs these tests with one growth refused, each growth in turn.
-use crate::setting::{Cells, box_of, shape_at};
+use crate::fixtures::{Cells, box_of, shape_at};
 use poly_cells::Shape;
 use poly_place::{Compiled, PlaceFault, compile, placements};
 use poly_texts::{Puzzle, read_puzzle};

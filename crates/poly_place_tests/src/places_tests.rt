@@ -1,5 +1,5 @@
 //! Counts of placements from the literature and from an independent program, and rows worked by hand.
-use crate::setting::{Cells, MIRRORED, SCREW, are_cells, box_of, shape_at};
+use crate::fixtures::{Cells, MIRRORED, SCREW, are_cells, box_of, shape_at};
 use poly_cells::{Cell, Shape};
 use poly_place::{Group, placements, placements_by};
 use std::alloc::Global;

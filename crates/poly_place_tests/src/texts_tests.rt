@@ -1,5 +1,5 @@
 //! Texts of puzzles, with answers that were written down by hand. Texts and their answers are rows of tables.
-use crate::setting::{Cells, are_cells};
+use crate::fixtures::{Cells, are_cells};
 use poly_texts::{Fault, PieceName, Puzzle, PuzzleFault, read_puzzle};
 use std::alloc::Global;
 use std::process::Abort;

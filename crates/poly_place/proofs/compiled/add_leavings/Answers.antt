@@ -2,7 +2,7 @@ use Rattle.std.proofs.Common.{ℕ, List, subst, vec_items}
 use Rattle.poly_cells.specs.Sets.{IsIn}
 use Rattle.poly_cells.proofs.SetLemmas.{in_map}
 use Rattle.poly_place.proofs.WalkLemmas.{item_in}
-use Rattle.poly_place.proofs.LeavingLemmas.{IsCopy}
+use Rattle.poly_place.proofs.LeavingsLemmas.{IsCopy}
 use Rattle.poly_place.proofs.LeftLemmas.{left_members}
 use Rattle.poly_place.proofs.compiled.add_leavings.Goals as goal
 use Rattle.poly_place.proofs.compiled.add_leavings.Goals.{After-as_slice}

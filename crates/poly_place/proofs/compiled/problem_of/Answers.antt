@@ -1,7 +1,7 @@
 use Rattle.std.proofs.Common.{◌∙◌, ℕ, List, ◌++◌, sym, subst, ap, ap₂, ◌+◌, arith, length, map, vec_items}
 use Rattle.std.specs.String.{string_bytes}
 use Rattle.poly_texts.specs.Puzzle.{PuzzleValue, IsPuzzle}
-use Rattle.poly_place.specs.Packings.{choices, option_of, needed_things}
+use Rattle.poly_place.specs.Packings.{every_choice, option_of, needed_things}
 use Rattle.poly_place.specs.Compiled.{left_items, left_out, needed_names}
 use Rattle.poly_place.proofs.CountLemmas.{are_few, needed_count}
 use Rattle.poly_place.proofs.MadeLemmas.{AreParts, parts_make, not_faulty}
@@ -19,7 +19,7 @@ parts c = record {
       omega arith;
   options_are =
       c.in_ok-add_leavings.ensures
-      ∙ ap₂ (λ (xs ys : List (List ℕ)). xs ++ ys) (c.in_ok-options.ensures ∙ ap (λ (p : PuzzleValue). map (option_of p) (choices p)) c.requires.numbers)
+      ∙ ap₂ (λ (xs ys : List (List ℕ)). xs ++ ys) (c.in_ok-options.ensures ∙ ap (λ (p : PuzzleValue). map (option_of p) (every_choice p)) c.requires.numbers)
       (ap (λ (p : PuzzleValue). map (left_items p) (left_out p)) c.requires.numbers);
 }
 
@@ -56,7 +56,7 @@ all_options-requires-clause-primary c =
     omega arith
 
 pub all_options-requires-clause-list : goal.all_options-requires-clause-list
-all_options-requires-clause-list c = c.requires.list ∙ ap choices (sym c.requires.numbers)
+all_options-requires-clause-list c = c.requires.list ∙ ap every_choice (sym c.requires.numbers)
 
 pub add_leavings-requires-clause-puzzle : goal.add_leavings-requires-clause-puzzle
 add_leavings-requires-clause-puzzle c = subst IsPuzzle (sym c.requires.numbers) c.requires.puzzle

@@ -1,6 +1,6 @@
 use Rattle.std.proofs.Common.{◌≡◌, ℕ, List, map, ap₂, sym, subst, ◌∙◌}
 use Rattle.cover_problem.specs.Lists.{has}
-use Rattle.poly_place.specs.Packings.{ChoiceValue, IsPacking, StandsFor}
+use Rattle.poly_place.specs.Packings.{ChoiceValue, IsPacking, SetStandsFor}
 use Rattle.poly_place.specs.Chosen.{AreInPieceOrder, ComeByPiece, choice_numbered, numbering, chosen_by, is_among}
 use Rattle.poly_place.proofs.ChosenLemmas.{numbered, cover_stands, cover_packs}
 use Rattle.poly_place.proofs.PieceOrderLemmas.{placed_by_piece, placed_in_order}
@@ -23,7 +23,7 @@ returns-clause-packs c =
 
 pub returns-clause-stands : goal.returns-clause-stands
 returns-clause-stands c =
-    subst (λ (cs : List ChoiceValue). StandsFor c.args.compiled.now (has c.args.path.now) (is_among cs)) (sym (here (goal.at.returns-clause-stands c).In_ok-placements))
+    subst (λ (cs : List ChoiceValue). SetStandsFor c.args.compiled.now (has c.args.path.now) (is_among cs)) (sym (here (goal.at.returns-clause-stands c).In_ok-placements))
     (cover_stands c.args.compiled.now c.choices.ensures.puzzle c.args.path.now c.requires)
 
 pub returns-clause-order : goal.returns-clause-order

@@ -10,7 +10,7 @@ use Rattle.poly_place.proofs.MadeLemmas.{large_is}
 use Rattle.poly_place.proofs.CountLemmas.{IsEntry, entry_is}
 use Rattle.poly_place.proofs.OptionLemmas.{choices_all}
 use Rattle.poly_place.proofs.RoomLemmas.{counted_next, counted_past, counted_all}
-use Rattle.poly_place.specs.Packings.{ChoiceValue, choices, choices_of_piece, things}
+use Rattle.poly_place.specs.Packings.{ChoiceValue, every_choice, choices_of_piece, things}
 use Rattle.std.specs.List.{flat_map}
 use Rattle.poly_place.proofs.room.laying_room.Goals as goal
 use Rattle.poly_place.proofs.room.laying_room.Goals.{After-unwrap, After-as_slice, After-pieces-pieces}
@@ -21,7 +21,9 @@ entry c = entry_is c.pieces-pieces.result.now.entries c.loop-k.k _ _ (sym c.get_
 
 -- the choices that are added are those of the piece
 chosen : (c : After-as_slice) → c.as_slice.result.now ≡ choices_of_piece c.args.puzzle.now (c.unwrap.result.0.now, c.unwrap.result.1.now)
-chosen c = c.as_slice.ensures.value ∙ c.in_ok-add_choices.ensures ∙ ap (λ (cs : List ChoiceValue). cs ++ choices_of_piece c.args.puzzle.now (c.unwrap.result.0.now, c.unwrap.result.1.now)) c.new-choices.ensures.items
+chosen c =
+    c.as_slice.ensures.value ∙ c.in_ok-add_choices.ensures ∙ ap (λ (p : PuzzleValue). c.new-choices.result.items ++ choices_of_piece p (c.unwrap.result.0.now, c.unwrap.result.1.now)) c.requires.numbers
+    ∙ ap (λ (cs : List ChoiceValue). cs ++ choices_of_piece c.args.puzzle.now (c.unwrap.result.0.now, c.unwrap.result.1.now)) c.new-choices.ensures.items
 
 counted : (c : After-as_slice) → c.len-options.result ≡ length c.as_slice.result.now
 counted c = c.len-options.ensures ∙ sym c.as_slice.ensures.len
@@ -45,7 +47,7 @@ pub entries_with-requires-clause-members : goal.entries_with-requires-clause-mem
 entries_with-requires-clause-members c d i =
     let at = goal.at.entries_with-requires-clause-members c in
     let here = entry at.After-unwrap in
-    subst (λ (p : PuzzleValue). IsIn d (choices p)) (sym c.requires.numbers)
+    subst (λ (p : PuzzleValue). IsIn d (every_choice p)) (sym c.requires.numbers)
     (subst (λ (cs : List ChoiceValue). IsIn d cs) (choices_all c.args.puzzle.now)
     (in_flat_map (choices_of_piece c.args.puzzle.now) d (c.unwrap.result.0.now, c.unwrap.result.1.now) c.args.puzzle.now.pieces
     (subst (λ (qs : List (ℕ × List Coordinates)). IsIn (c.unwrap.result.0.now, c.unwrap.result.1.now) qs) c.pieces-pieces.ensures.value here.member)

@@ -1,5 +1,5 @@
 use Rattle.std.proofs.Common.{◌≡◌, drop, find}
-use Rattle.poly_place.specs.Answers.{lists_of}
+use Rattle.poly_texts.specs.Lists.{lists_of}
 use Rattle.poly_place.specs.Layers.{begins_with}
 use Rattle.poly_place.proofs.symbol.word_of.Given as goal
 

@@ -1,7 +1,7 @@
 use Rattle.std.proofs.Common.{List, ◌++◌, subst, take_all, refl, ap, ◌∙◌}
 use Rattle.poly_cells.specs.Coordinates.{Coordinates}
 use Rattle.poly_cells.proofs.CoordinateLemmas.{same_coordinates}
-use Rattle.poly_place.specs.Tables.{bit_index, IsTable}
+use Rattle.poly_place.specs.Tables.{bit_index, IsCellTable}
 use Rattle.poly_place.proofs.WalkLemmas.{item_in}
 use Rattle.poly_place.proofs.TableLemmas.{table_more}
 use Rattle.poly_place.proofs.table.set_bits.Goals as goal
@@ -16,4 +16,4 @@ loop-cell-preserved c = λ region t.
 
 pub returns : goal.returns
 returns c = λ region t.
-    subst (λ (vs : List Coordinates). IsTable (region ++ vs) c.loop-cell.bits) (take_all _ _ c.loop-cell-test.false) (c.loop-cell.invariant region t)
+    subst (λ (vs : List Coordinates). IsCellTable (region ++ vs) c.loop-cell.bits) (take_all _ _ c.loop-cell-test.false) (c.loop-cell.invariant region t)

@@ -1,7 +1,7 @@
 use Rattle.std.proofs.Common.{arith}
 use Rattle.std.specs.String.{string_bytes}
 use Rattle.poly_place.proofs.WalkLemmas.{mapped_push}
-use Rattle.poly_place.proofs.NumberingLemmas.{leaves_few, node_more}
+use Rattle.poly_place.proofs.NumberedLemmas.{leaves_few, node_more}
 use Rattle.poly_place.proofs.numbers.Numbers.add_tree_names.Goals as goal
 
 pub node_name-requires : goal.node_name-requires

@@ -1,9 +1,9 @@
 use Rattle.std.proofs.Common.{◌<◌, ◌^◌, ◌∙◌, List, arith, ap, length, subst, sym}
 use Rattle.poly_cells.specs.Coordinates.{Coordinates}
 use Rattle.poly_texts.specs.Puzzle.{PuzzleValue}
-use Rattle.poly_place.specs.Packings.{first_cell, levels}
+use Rattle.poly_place.specs.Packings.{first_cell, tree_levels}
 use Rattle.poly_place.specs.Compiled.{ArePlaces}
-use Rattle.poly_place.proofs.NumberingLemmas.{choice_some, first_is, leaf_is, leaf_low, table_at}
+use Rattle.poly_place.proofs.NumberedLemmas.{choice_some, first_is, leaf_is, leaf_low, table_at}
 use Rattle.poly_place.proofs.numbers.Numbers.leaf_of.Goals as goal
 
 pub bounds-cells-0 : goal.bounds-cells-0
@@ -20,7 +20,7 @@ overflow_add-result c =
     c.x.ensures.limit c.y.ensures.limit c.z.ensures.limit c.bit_index.ensures c.index.ensures in
     let leaf =
     leaf_is c.args.self.now c.requires.puzzle c.args.choice.now c.requires.member c.self.inside.places.items places c.index-cells-0.result c.self.inside.leaves first
-    (c.self.invariant.leaves_same ∙ ap (λ (p : PuzzleValue). 2 ^ levels p) c.self.view_is) in
+    (c.self.invariant.leaves_same ∙ ap (λ (p : PuzzleValue). 2 ^ tree_levels p) c.self.view_is) in
     let low = leaf_low c.args.self.now c.requires.puzzle c.args.choice.now c.requires.member in
     omega (arith, leaf, low, at)
 
@@ -35,5 +35,5 @@ returns c =
     c.x.ensures.limit c.y.ensures.limit c.z.ensures.limit c.bit_index.ensures c.index.ensures in
     let leaf =
     leaf_is c.args.self.now c.requires.puzzle c.args.choice.now c.requires.member c.self.inside.places.items places c.index-cells-0.result c.self.inside.leaves first
-    (c.self.invariant.leaves_same ∙ ap (λ (p : PuzzleValue). 2 ^ levels p) c.self.view_is) in
+    (c.self.invariant.leaves_same ∙ ap (λ (p : PuzzleValue). 2 ^ tree_levels p) c.self.view_is) in
     omega (arith, leaf, at)

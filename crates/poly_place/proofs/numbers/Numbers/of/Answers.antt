@@ -1,7 +1,7 @@
 use Rattle.std.proofs.Common.{◌^◌, ◌∙◌, ℕ, arith, ap, flat_map, length}
 use Rattle.poly_place.specs.Packings.{levels_for, neighbours}
 use Rattle.poly_place.proofs.CountLemmas.{are_few, needed_count}
-use Rattle.poly_place.proofs.NumberingLemmas.{levels_are}
+use Rattle.poly_place.proofs.NumberedLemmas.{levels_are}
 use Rattle.poly_place.proofs.numbers.Numbers.of.Goals as goal
 
 pub overflow_add-before : goal.overflow_add-before

@@ -2,7 +2,7 @@ use Rattle.std.proofs.Common.{ℕ, List, subst, sym}
 use Rattle.poly_cells.specs.Coordinates.{Coordinates}
 use Rattle.poly_cells.specs.Sets.{IsIn}
 use Rattle.poly_texts.specs.Puzzle.{names_of}
-use Rattle.poly_place.proofs.NumberingLemmas.{choice_member, choice_placed}
+use Rattle.poly_place.proofs.NumberedLemmas.{choice_member, choice_placed}
 use Rattle.poly_place.proofs.numbers.Numbers.option_of.Goals as goal
 
 pub push_piece-requires-clause-member : goal.push_piece-requires-clause-member

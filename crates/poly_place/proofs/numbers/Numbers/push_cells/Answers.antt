@@ -1,7 +1,7 @@
 use Rattle.std.proofs.Common.{subst}
 use Rattle.poly_texts.specs.Puzzle.{PuzzleValue}
 use Rattle.poly_place.specs.Compiled.{AreNumbers}
-use Rattle.poly_place.proofs.NumberingLemmas.{cell_more, table_at}
+use Rattle.poly_place.proofs.NumberedLemmas.{cell_more, table_at}
 use Rattle.poly_place.proofs.numbers.Numbers.push_cells.Goals as goal
 
 pub loop-cell-preserved : goal.loop-cell-preserved

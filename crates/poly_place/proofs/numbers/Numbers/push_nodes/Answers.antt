@@ -1,8 +1,8 @@
 use Rattle.std.proofs.Common.{◌≡◌, ◌<◌, ◌+◌, ◌-◌, ◌^◌, ◌∙◌, ℕ, List, get_or, arith, ap, ap₂, length, subst}
 use Rattle.poly_texts.specs.Puzzle.{PuzzleValue}
-use Rattle.poly_place.specs.Packings.{item_of, levels, nodes_by, pairs}
+use Rattle.poly_place.specs.Packings.{thing_item, tree_levels, nodes_by, pairs}
 use Rattle.poly_place.specs.Compiled.{before_nodes, pair_items}
-use Rattle.poly_place.proofs.NumberingLemmas.{before_low, choice_leaf, flat_more, leaf_low, leaves_few, one_tree_more, pair_same}
+use Rattle.poly_place.proofs.NumberedLemmas.{before_low, choice_leaf, flat_more, leaf_low, leaves_few, one_tree_more, pair_same}
 use Rattle.poly_place.proofs.numbers.Numbers.push_nodes.Goals as goal
 
 pub push_pair-requires : goal.push_pair-requires
@@ -21,7 +21,7 @@ overflow_add-before c =
     let lt = subst (λ (qs : List (ℕ × ℕ)). c.loop-pair.pair-index < length qs) same c.loop-pair-test.true in
     let before = before_low c.args.self.now c.requires.puzzle c.loop-pair.pair-index (omega (arith, lt)) in
     let few = leaves_few c.args.self.now in
-    let leaves = c.self.invariant.leaves_same ∙ ap (λ (p : PuzzleValue). 2 ^ levels p) c.self.view_is in
+    let leaves = c.self.invariant.leaves_same ∙ ap (λ (p : PuzzleValue). 2 ^ tree_levels p) c.self.view_is in
     let count = c.loop-pair.invariant.count in
     omega (arith, before, few, leaves, count)
 
@@ -32,14 +32,14 @@ loop-pair-preserved c =
     let is = subst (λ (qs : List (ℕ × ℕ)). c.pair-item.result ≡ get_or qs c.loop-pair.pair-index c.pair-item.result) same c.pair-item.is in
     let made =
     ap (λ (n : ℕ). pair_items n c.pair-item.result c.loop-pair.before c.self.inside.levels c.leaf_of-leaf.result) c.name.ensures
-    ∙ ap₂ (λ (l f : ℕ). pair_items c.args.choice.now.name c.pair-item.result c.loop-pair.before l f) (c.self.invariant.levels_same ∙ ap levels c.self.view_is) c.leaf_of-leaf.ensures
+    ∙ ap₂ (λ (l f : ℕ). pair_items c.args.choice.now.name c.pair-item.result c.loop-pair.before l f) (c.self.invariant.levels_same ∙ ap tree_levels c.self.view_is) c.leaf_of-leaf.ensures
     ∙ pair_same c.args.self.now c.requires.puzzle c.loop-pair.pair-index c.args.choice.now (choice_leaf c.args.self.now c.requires.puzzle c.args.choice.now c.requires.member) lt c.pair-item.result is c.loop-pair.before
     c.loop-pair.invariant.count in
     record {
       so_far =
-          flat_more (item_of c.args.self.now) (nodes_by c.args.self.now c.args.choice.now) (pairs c.args.self.now) c.loop-pair.pair-index c.pair-item.result c.args.option.now.items c.loop-pair.option.items
+          flat_more (thing_item c.args.self.now) (nodes_by c.args.self.now c.args.choice.now) (pairs c.args.self.now) c.loop-pair.pair-index c.pair-item.result c.args.option.now.items c.loop-pair.option.items
           c.push_pair.new.items.items _ lt is c.in_ok-push_pair.ensures made c.loop-pair.invariant.so_far;
       count =
-          ap₂ (λ (x y : ℕ). x + (y - 1)) c.loop-pair.invariant.count (c.self.invariant.leaves_same ∙ ap (λ (p : PuzzleValue). 2 ^ levels p) c.self.view_is)
-          ∙ one_tree_more (before_nodes c.args.self.now) c.loop-pair.pair-index (2 ^ levels c.args.self.now - 1);
+          ap₂ (λ (x y : ℕ). x + (y - 1)) c.loop-pair.invariant.count (c.self.invariant.leaves_same ∙ ap (λ (p : PuzzleValue). 2 ^ tree_levels p) c.self.view_is)
+          ∙ one_tree_more (before_nodes c.args.self.now) c.loop-pair.pair-index (2 ^ tree_levels c.args.self.now - 1);
     }

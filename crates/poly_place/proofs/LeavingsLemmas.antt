@@ -8,9 +8,10 @@ use Rattle.poly_cells.proofs.SetLemmas.{in_append_right, in_map, in_from_map, in
 use Rattle.poly_cells.proofs.MemberLemmas.{in_flat_map, in_from_flat_map, in_from_filter, in_filter, all_pass, passes, some_passes, passes_some}
 use Rattle.poly_texts.specs.Puzzle.{PuzzleValue, IsPuzzle, names_of, is_spare}
 use Rattle.cover_problem.specs.Problem.{option_at}
-use Rattle.poly_place.specs.Packings.{ChoiceValue, choice, neighbours, IsUsed, choices, partings, leavings_of, leavings, Thing, a_piece, things, things_of, option_of, leaving_option, packing_problem, laying_count, option_count, choice_at, leaving_at, LeavesOut}
+use Rattle.poly_place.specs.Packings.{ChoiceValue, choice_with, neighbours, IsUsed, every_choice, partings, leavings_of, leavings, Thing, a_piece, things, things_of, option_of, leaving_option, packing_problem, laying_count, option_count, choice_at, leaving_at, LeavesOut}
 use Rattle.poly_place.proofs.DistinctLemmas.{IsDistinct, distinct_append, distinct_filter, distinct_map, distinct_names}
 use Rattle.poly_place.proofs.PairLemmas.{all_of, distinct_right, distinct_apart, in_group, equal_single, equal_named}
+use Rattle.poly_place.proofs.PlacedLemmas.{layable}
 use Rattle.poly_place.proofs.ThingLemmas.{piece_in}
 
 -- ---- partings
@@ -136,19 +137,19 @@ split_by test (n ∷ ns) h =
 -- ---- a piece that is used, tested
 
 pub uses : PuzzleValue → (ChoiceValue → Bool) → ℕ → Bool
-uses p chosen n = list_any (λ c. chosen c && (c.name == n)) (choices p)
+uses p chosen n = list_any (λ c. chosen c && (c.name == n)) (layable p)
 
 pub used_from : (p : PuzzleValue) (chosen : ChoiceValue → Bool) (n : ℕ) → uses p chosen n ≡ true → IsUsed chosen n
 unfolding uses
 used_from p chosen n h =
-    let c = some_passes (λ (d : ChoiceValue). chosen d && (d.name == n)) (choices p) h in
+    let c = some_passes (λ (d : ChoiceValue). chosen d && (d.name == n)) (layable p) h in
     let parts = and_parts (chosen c.0) (c.0.name == n) c.2 in
     (c.0, parts.0, eqb-true c.0.name n parts.1)
 
-pub from_used : (p : PuzzleValue) (chosen : ChoiceValue → Bool) → ((c : ChoiceValue) → chosen c ≡ true → IsIn c (choices p)) → (n : ℕ) → IsUsed chosen n → uses p chosen n ≡ true
+pub from_used : (p : PuzzleValue) (chosen : ChoiceValue → Bool) → ((c : ChoiceValue) → chosen c ≡ true → IsIn c (layable p)) → (n : ℕ) → IsUsed chosen n → uses p chosen n ≡ true
 unfolding uses
 from_used p chosen among n u =
-    passes_some (λ (d : ChoiceValue). chosen d && (d.name == n)) u.0 (choices p) (among u.0 u.1) (and_from (chosen u.0) (u.0.name == n) u.1 (eq-eqb u.0.name n u.2))
+    passes_some (λ (d : ChoiceValue). chosen d && (d.name == n)) u.0 (layable p) (among u.0 u.1) (and_from (chosen u.0) (u.0.name == n) u.1 (eq-eqb u.0.name n u.2))
 
 -- ---- what is left out
 
@@ -215,14 +216,14 @@ left_copy p z parts l n i = equal_copy p z l.group n l.there (in_whole l.group p
 -- ---- the options
 
 abbrev leaving_place : PuzzleValue → ℕ → ℕ
-leaving_place p o = o - length (choices p) - 1
+leaving_place p o = o - length (every_choice p) - 1
 
 pub laying_is : (p : PuzzleValue) (o : ℕ) → 0 < o → o ≤ laying_count p → option_at (packing_problem p) o ≡ option_of p (choice_at p o)
 unfolding packing_problem
 laying_is p o some within =
-    let long = length-map (choices p) (option_of p) in
-    get_or_append_left (map (option_of p) (choices p)) (map (leaving_option p) (leavings p)) [] (o - 1) (omega (arith, long, some, within))
-    ∙ get_or-map (option_of p) (choices p) (o - 1) (choice 0 []) [] (omega (arith, some, within))
+    let long = length-map (every_choice p) (option_of p) in
+    get_or_append_left (map (option_of p) (every_choice p)) (map (leaving_option p) (leavings p)) [] (o - 1) (omega (arith, long, some, within))
+    ∙ get_or-map (option_of p) (every_choice p) (o - 1) (choice_with 0 []) [] (omega (arith, some, within))
 
 pub leaving_within : (p : PuzzleValue) (o : ℕ) → laying_count p < o → o ≤ option_count p → leaving_place p o < length (leavings p)
 leaving_within p o past within = omega (arith, past, within)
@@ -230,9 +231,9 @@ leaving_within p o past within = omega (arith, past, within)
 pub leaving_option_is : (p : PuzzleValue) (o : ℕ) → laying_count p < o → o ≤ option_count p → option_at (packing_problem p) o ≡ leaving_option p (leaving_at p o)
 unfolding packing_problem
 leaving_option_is p o past within =
-    let long = length-map (choices p) (option_of p) in
-    let at : o - 1 - length (choices p) ≡ leaving_place p o = omega (arith, past) in
-    get_or-append_right (map (option_of p) (choices p)) (map (leaving_option p) (leavings p)) (length (choices p)) (o - 1) [] long (omega (arith, past))
+    let long = length-map (every_choice p) (option_of p) in
+    let at : o - 1 - length (every_choice p) ≡ leaving_place p o = omega (arith, past) in
+    get_or-append_right (map (option_of p) (every_choice p)) (map (leaving_option p) (leavings p)) (length (every_choice p)) (o - 1) [] long (omega (arith, past))
     ∙ ap (λ (k : ℕ). get_or (map (leaving_option p) (leavings p)) k []) at
     ∙ get_or-map (leaving_option p) (leavings p) (leaving_place p o) ([], []) [] (leaving_within p o past within)
 

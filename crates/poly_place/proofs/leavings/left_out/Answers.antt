@@ -3,7 +3,7 @@ use Rattle.std.specs.Global.{Vec}
 use Rattle.poly_texts.specs.Puzzle.{has_name}
 use Rattle.poly_place.specs.Compiled.{left_from}
 use Rattle.poly_place.proofs.LeftLemmas.{group_left}
-use Rattle.poly_place.proofs.leaving.left_out.Goals as goal
+use Rattle.poly_place.proofs.leavings.left_out.Goals as goal
 
 pub loop-group-preserved : goal.loop-group-preserved
 loop-group-preserved c =

@@ -1,7 +1,7 @@
 use Rattle.std.proofs.Common.{◌≡◌, flat_map, map, take, vec_items}
 use Rattle.poly_texts.specs.Puzzle.{has_name}
 use Rattle.poly_place.specs.Compiled.{left_from}
-use Rattle.poly_place.proofs.leaving.left_out.Given as goal
+use Rattle.poly_place.proofs.leavings.left_out.Given as goal
 
 -- the ends of the groups so far
 abbrev pub invariant-loop-group : goal.invariant-loop-group

@@ -1,6 +1,6 @@
 use Rattle.poly_texts.specs.Puzzle.{has_name}
 use Rattle.poly_place.proofs.LeftLemmas.{left_more}
-use Rattle.poly_place.proofs.leaving.add_left.Goals as goal
+use Rattle.poly_place.proofs.leavings.add_left.Goals as goal
 
 pub loop-k-preserved : goal.loop-k-preserved
 loop-k-preserved c =

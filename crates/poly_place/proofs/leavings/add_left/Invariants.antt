@@ -1,7 +1,7 @@
 use Rattle.std.proofs.Common.{◌≡◌, ◌++◌, drop, map, vec_items}
 use Rattle.poly_texts.specs.Puzzle.{has_name}
 use Rattle.poly_place.specs.Compiled.{left_from}
-use Rattle.poly_place.proofs.leaving.add_left.Given as goal
+use Rattle.poly_place.proofs.leavings.add_left.Given as goal
 
 -- with the ends that are left it is what all ends make
 abbrev pub invariant-loop-k : goal.invariant-loop-k

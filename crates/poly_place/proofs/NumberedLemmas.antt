@@ -13,13 +13,13 @@ use Rattle.poly_texts.specs.Words.{is_name}
 use Rattle.poly_texts.specs.Puzzle.{PuzzleValue, IsPuzzle, names_of, has_name, is_needed, are_new}
 use Rattle.poly_texts.proofs.NameLemmas.{pieces_few}
 use Rattle.poly_place.specs.Turns.{from_right, from_left}
-use Rattle.poly_place.specs.Packings.{ChoiceValue, choices, IsPlaced, Thing, a_cell, a_node, neighbours, pairs, first_cell, place_of, things, item_of, levels_for, levels, nodes_by, leaf_of, given, thing_name, node_word}
+use Rattle.poly_place.specs.Packings.{ChoiceValue, every_choice, IsPlaced, Thing, a_cell, a_node, neighbours, pairs, first_cell, place_of, things, thing_item, levels_for, tree_levels, nodes_by, leaf_of, given, thing_name, node_word}
 use Rattle.poly_place.specs.Compiled.{AreNumbers, ArePlaces, item_number_at, before_nodes, numbers_if, pair_items}
 use Rattle.poly_place.specs.Tables.{bit_index}
 use Rattle.poly_place.proofs.DistinctLemmas.{in_from_name}
 use Rattle.poly_place.proofs.PairLemmas.{all_of}
 use Rattle.poly_place.proofs.TurnLemmas.{IsBelow}
-use Rattle.poly_place.proofs.PackingLemmas.{least_in, least_inside, leaf_placed}
+use Rattle.poly_place.proofs.StandLemmas.{least_in, least_inside, leaf_placed}
 use Rattle.poly_place.proofs.PlacedLemmas.{has_shapes, placed_in}
 use Rattle.poly_place.proofs.CountLemmas.{are_few, needed_count, things_count}
 use Rattle.poly_place.proofs.CompiledLemmas.{few_levels}
@@ -67,8 +67,8 @@ pairs_few p z =
     let less = groups_few p.equal in
     omega (arith, few, same, less)
 
-pub leaves_few : (p : PuzzleValue) → 2 ^ levels p ≤ 4096
-unfolding levels
+pub leaves_few : (p : PuzzleValue) → 2 ^ tree_levels p ≤ 4096
+unfolding tree_levels
 leaves_few p = few_levels (length p.region)
 
 pub before_few : (p : PuzzleValue) → IsPuzzle p → before_nodes p ≤ 8316
@@ -83,12 +83,12 @@ product_few k m a b =
     omega (arith, one)
 
 -- so many items come before the nodes of a pair's tree
-pub before_low : (p : PuzzleValue) → IsPuzzle p → (k : ℕ) → k ≤ length (pairs p) → before_nodes p + k * (2 ^ levels p - 1) ≤ 262206
+pub before_low : (p : PuzzleValue) → IsPuzzle p → (k : ℕ) → k ≤ length (pairs p) → before_nodes p + k * (2 ^ tree_levels p - 1) ≤ 262206
 before_low p z k le =
     let few = pairs_few p z in
     let leaves = leaves_few p in
     let before = before_few p z in
-    let product = product_few k (2 ^ levels p - 1) (omega (arith, few, le)) (omega (arith, leaves)) in
+    let product = product_few k (2 ^ tree_levels p - 1) (omega (arith, few, le)) (omega (arith, leaves)) in
     omega (arith, before, product)
 
 pub one_tree_more : (before k m : ℕ) → before + k * m + m ≡ before + (k + 1) * m
@@ -100,26 +100,26 @@ pub record AreCounted (p : PuzzleValue) (n leaves before : ℕ) : Type 0 where
   pub before_low : before ≤ 8316
   pub all : before + n * (leaves - 1) ≡ length (things p)
 
-pub are_counted : (p : PuzzleValue) → IsPuzzle p → (n leaves before : ℕ) → n ≡ length (pairs p) → leaves ≡ 2 ^ levels p → before ≡ before_nodes p → AreCounted p n leaves before
+pub are_counted : (p : PuzzleValue) → IsPuzzle p → (n leaves before : ℕ) → n ≡ length (pairs p) → leaves ≡ 2 ^ tree_levels p → before ≡ before_nodes p → AreCounted p n leaves before
 are_counted p z n leaves before a b e =
     let few = pairs_few p z in
     let low = leaves_few p in
     record {
       product = product_few n (leaves - 1) (omega (arith, a, few)) (omega (arith, b, low));
       before_low = omega (arith, e, before_few p z);
-      all = ap₂ (λ (x y : ℕ). before + x * (y - 1)) a b ∙ ap (λ (x : ℕ). x + length (pairs p) * (2 ^ levels p - 1)) e ∙ sym (things_count p);
+      all = ap₂ (λ (x y : ℕ). before + x * (y - 1)) a b ∙ ap (λ (x : ℕ). x + length (pairs p) * (2 ^ tree_levels p - 1)) e ∙ sym (things_count p);
     }
 
 -- the leaf of a choice is low
-pub leaf_low : (p : PuzzleValue) → IsPuzzle p → (c : ChoiceValue) → IsIn c (choices p) → leaf_of p c < 8192
+pub leaf_low : (p : PuzzleValue) → IsPuzzle p → (c : ChoiceValue) → IsIn c (every_choice p) → leaf_of p c < 8192
 leaf_low p z c i =
     let b = leaf_placed p (has_shapes p z) c (placed_in p (has_shapes p z) c i) in
     let high = b.high in
     let few = leaves_few p in
     omega (arith, high, few)
 
-pub levels_are : (p : PuzzleValue) → levels_for (length p.region) ≡ levels p
-unfolding levels
+pub levels_are : (p : PuzzleValue) → levels_for (length p.region) ≡ tree_levels p
+unfolding tree_levels
 levels_are p = refl
 
 -- ---- the cells, one by one
@@ -133,15 +133,15 @@ table_at table v x y z k n d long a b c e f g is at =
     at ∙ ap (λ (i : ℕ). get_or table i d) same ∙ get_or_default table (bit_index v) d 0 lt
 
 pub cell_more : (p : PuzzleValue) (numbers : List ℕ) → AreNumbers p numbers → (vs : List Coordinates) → ((v : Coordinates) → IsIn v vs → IsIn v p.region) → (i : ℕ) (v : Coordinates) (x : ℕ) (start before after : List ℕ)
-    → i < length vs → v ≡ get_or vs i v → x ≡ item_number_at numbers v → after ≡ before ++ x ∷ [] → before ≡ start ++ map (item_of p) (map a_cell (take i vs))
-    → after ≡ start ++ map (item_of p) (map a_cell (take (i + 1) vs))
+    → i < length vs → v ≡ get_or vs i v → x ≡ item_number_at numbers v → after ≡ before ++ x ∷ [] → before ≡ start ++ map (thing_item p) (map a_cell (take i vs))
+    → after ≡ start ++ map (thing_item p) (map a_cell (take (i + 1) vs))
 cell_more p numbers are vs inside i v x start before after lt is at push so =
     let here : IsIn v vs = subst (λ (w : Coordinates). IsIn w vs) (sym is) (in_at vs i v lt) in
     push ∙ ap₂ (λ (ys : List ℕ) (k : ℕ). ys ++ k ∷ []) so (at ∙ are.same v (inside v here))
-    ∙ append_assoc start (map (item_of p) (map a_cell (take i vs))) (item_of p (a_cell v) ∷ [])
+    ∙ append_assoc start (map (thing_item p) (map a_cell (take i vs))) (thing_item p (a_cell v) ∷ [])
     ∙ ap (λ (ys : List ℕ). start ++ ys)
-    (sym (map-append (item_of p) (map a_cell (take i vs)) (a_cell v ∷ []))
-    ∙ ap (map (item_of p)) (sym (ap (map a_cell) (take_next vs i v lt is) ∙ map-append a_cell (take i vs) (v ∷ []))))
+    (sym (map-append (thing_item p) (map a_cell (take i vs)) (a_cell v ∷ []))
+    ∙ ap (map (thing_item p)) (sym (ap (map a_cell) (take_next vs i v lt is) ∙ map-append a_cell (take i vs) (v ∷ []))))
 
 -- ---- the nodes of one pair
 
@@ -149,21 +149,21 @@ mapped_given : (f : Thing → ℕ) (b : Bool) (ts : List Thing) → map f (given
 mapped_given f true ts = refl
 mapped_given f false ts = refl
 
-pub pair_same : (p : PuzzleValue) (z : IsPuzzle p) (k : ℕ) (c : ChoiceValue) → IsBelow (levels p) (leaf_of p c) → k < length (pairs p) → (q : ℕ × ℕ) → q ≡ get_or (pairs p) k q → (before : ℕ)
-    → before ≡ before_nodes p + k * (2 ^ levels p - 1) → pair_items c.name q before (levels p) (leaf_of p c) ≡ map (item_of p) (nodes_by p c q)
+pub pair_same : (p : PuzzleValue) (z : IsPuzzle p) (k : ℕ) (c : ChoiceValue) → IsBelow (tree_levels p) (leaf_of p c) → k < length (pairs p) → (q : ℕ × ℕ) → q ≡ get_or (pairs p) k q → (before : ℕ)
+    → before ≡ before_nodes p + k * (2 ^ tree_levels p - 1) → pair_items c.name q before (tree_levels p) (leaf_of p c) ≡ map (thing_item p) (nodes_by p c q)
 pair_same p z k c b lt q is before so =
-    let rights = from_right (levels p) (leaf_of p c) in
-    let lefts = from_left (levels p) (leaf_of p c) in
-    let right : map (item_of p) (map (a_node (q.0)) rights) ≡ map (λ h. before + h) rights =
-    subst (λ (x : ℕ × ℕ). map (item_of p) (map (a_node (x.0)) rights) ≡ map (λ h. (before_nodes p + k * (2 ^ levels p - 1)) + h) rights) (sym is) (right_items p z q k (leaf_of p c) lt b)
+    let rights = from_right (tree_levels p) (leaf_of p c) in
+    let lefts = from_left (tree_levels p) (leaf_of p c) in
+    let right : map (thing_item p) (map (a_node (q.0)) rights) ≡ map (λ h. before + h) rights =
+    subst (λ (x : ℕ × ℕ). map (thing_item p) (map (a_node (x.0)) rights) ≡ map (λ h. (before_nodes p + k * (2 ^ tree_levels p - 1)) + h) rights) (sym is) (right_items p z q k (leaf_of p c) lt b)
     ∙ ap (λ (s : ℕ). map (λ h. s + h) rights) (sym so) in
-    let left : map (item_of p) (map (a_node (q.0)) lefts) ≡ map (λ h. before + h) lefts =
-    subst (λ (x : ℕ × ℕ). map (item_of p) (map (a_node (x.0)) lefts) ≡ map (λ h. (before_nodes p + k * (2 ^ levels p - 1)) + h) lefts) (sym is) (left_items p z q k (leaf_of p c) lt b)
+    let left : map (thing_item p) (map (a_node (q.0)) lefts) ≡ map (λ h. before + h) lefts =
+    subst (λ (x : ℕ × ℕ). map (thing_item p) (map (a_node (x.0)) lefts) ≡ map (λ h. (before_nodes p + k * (2 ^ tree_levels p - 1)) + h) lefts) (sym is) (left_items p z q k (leaf_of p c) lt b)
     ∙ ap (λ (s : ℕ). map (λ h. s + h) lefts) (sym so) in
-    sym (map-append (item_of p) (given (c.name == q.0) (map (a_node (q.0)) rights)) (given (c.name == q.1) (map (a_node (q.0)) lefts))
+    sym (map-append (thing_item p) (given (c.name == q.0) (map (a_node (q.0)) rights)) (given (c.name == q.1) (map (a_node (q.0)) lefts))
     ∙ ap₂ (λ (xs ys : List ℕ). xs ++ ys)
-    (mapped_given (item_of p) (c.name == q.0) (map (a_node (q.0)) rights) ∙ ap (numbers_if (c.name == q.0)) right)
-    (mapped_given (item_of p) (c.name == q.1) (map (a_node (q.0)) lefts) ∙ ap (numbers_if (c.name == q.1)) left))
+    (mapped_given (thing_item p) (c.name == q.0) (map (a_node (q.0)) rights) ∙ ap (numbers_if (c.name == q.0)) right)
+    (mapped_given (thing_item p) (c.name == q.1) (map (a_node (q.0)) lefts) ∙ ap (numbers_if (c.name == q.1)) left))
 
 -- ---- the nodes of all pairs, one by one
 
@@ -183,20 +183,20 @@ flat_more {X} {A} {B} g f xs i x start before after more lt is push made so =
 
 -- ---- the choice at hand
 
-pub choice_placed : (p : PuzzleValue) → IsPuzzle p → (c : ChoiceValue) → IsIn c (choices p) → IsPlaced p c
+pub choice_placed : (p : PuzzleValue) → IsPuzzle p → (c : ChoiceValue) → IsIn c (every_choice p) → IsPlaced p c
 choice_placed p z c i = placed_in p (has_shapes p z) c i
 
-pub choice_leaf : (p : PuzzleValue) → IsPuzzle p → (c : ChoiceValue) → IsIn c (choices p) → IsBelow (levels p) (leaf_of p c)
+pub choice_leaf : (p : PuzzleValue) → IsPuzzle p → (c : ChoiceValue) → IsIn c (every_choice p) → IsBelow (tree_levels p) (leaf_of p c)
 choice_leaf p z c i = leaf_placed p (has_shapes p z) c (placed_in p (has_shapes p z) c i)
 
-pub choice_member : (p : PuzzleValue) → IsPuzzle p → (c : ChoiceValue) → IsIn c (choices p) → IsIn c.name (names_of p.pieces)
+pub choice_member : (p : PuzzleValue) → IsPuzzle p → (c : ChoiceValue) → IsIn c (every_choice p) → IsIn c.name (names_of p.pieces)
 choice_member p z c i = let q = choice_placed p z c i in in_map (λ (n : ℕ × List Coordinates). n.0) (c.name, q.piece) p.pieces q.named
 
 some_from_in : {X : Type 0} (x : X) (xs : List X) → IsIn x xs → 0 < length xs
 some_from_in x [] i = absurd i
 some_from_in x (y ∷ ys) i = omega arith
 
-pub choice_some : (p : PuzzleValue) → IsPuzzle p → (c : ChoiceValue) → IsIn c (choices p) → 0 < length c.cells
+pub choice_some : (p : PuzzleValue) → IsPuzzle p → (c : ChoiceValue) → IsIn c (every_choice p) → 0 < length c.cells
 choice_some p z c i = some_from_in (first_cell c.cells) c.cells (least_in p (has_shapes p z) c (choice_placed p z c i))
 
 -- the first of some cells is the least
@@ -204,7 +204,7 @@ pub first_is : (vs : List Coordinates) (v d : Coordinates) → 0 < length vs →
 first_is [] v d some is = absurd (omega arith)
 first_is (w ∷ ws) v d some is = is
 
-pub leaf_is : (p : PuzzleValue) → IsPuzzle p → (c : ChoiceValue) → IsIn c (choices p) → (places : List ℕ) → ArePlaces p places → (v : Coordinates) (leaves : ℕ) → v ≡ first_cell c.cells → leaves ≡ 2 ^ levels p
+pub leaf_is : (p : PuzzleValue) → IsPuzzle p → (c : ChoiceValue) → IsIn c (every_choice p) → (places : List ℕ) → ArePlaces p places → (v : Coordinates) (leaves : ℕ) → v ≡ first_cell c.cells → leaves ≡ 2 ^ tree_levels p
     → leaves + item_number_at places v ≡ leaf_of p c + 1
 leaf_is p z c i places are v leaves is so =
     let q = choice_placed p z c i in

@@ -1,4 +1,4 @@
--- The examples of specs/Record.antt and specs/Seats.antt, computed.
+-- The examples of specs/Record.antt, specs/Ending.antt and specs/Seats.antt, computed.
 use Rattle.std.proofs.Common.{◌≡◌, ℕ, zero, suc, true, false, Some, None, Ok, Err, List, [], ◌∷◌, length, get_or, refl, ap, subst, inl, inr, arith}
 use Rattle.std.proofs.lemmas.Option.{same_Some}
 use Rattle.cover_problem.specs.Problem.{ProblemValue}
@@ -9,33 +9,37 @@ use Rattle.x_branches.specs.declared.branch.Branch.{Branch}
 use Rattle.x_branches.specs.Branch.{whole_run}
 use Rattle.x_branches.specs.Cut.{CutPath}
 use Rattle.x_branches.specs.Stretch.{StretchValue}
-use Rattle.lab_book.specs.declared.fault.BookFault.{BookFault}
-use Rattle.lab_book.specs.declared.fault.BookFault.TheVariants.{NotWaiting}
+use Rattle.lab_history.specs.declared.fault.BookFault.{BookFault}
+use Rattle.lab_history.specs.declared.fault.BookFault.TheVariants.{NotWaiting}
 use Rattle.lab_book.specs.declared.lease.Leased.{Leased}
 use Rattle.lab_book.specs.declared.lease.Posted.{Posted}
-use Rattle.lab_book.specs.declared.lease.Grant.{Grant}
-use Rattle.lab_book.specs.declared.entry.Call.TheVariants as call
-use Rattle.lab_book.specs.declared.entry.Reply.TheVariants as reply
-use Rattle.lab_book.specs.declared.entry.Entry.{Entry}
-use Rattle.lab_book.specs.EntryCode.{entry_of, call_of, call_rest, reply_of}
+use Rattle.lab_history.specs.declared.grant.Grant.{Grant}
+use Rattle.lab_history.specs.declared.entry.Call.TheVariants as call
+use Rattle.lab_history.specs.declared.entry.Reply.TheVariants as reply
+use Rattle.lab_history.specs.declared.entry.Entry.{Entry}
+use Rattle.lab_book.specs.Book.{BookValue}
+use Rattle.lab_book.specs.Calls.{is_current}
+use Rattle.lab_history.specs.EntryCode.{entry_of, call_of, call_rest, reply_of}
 use Rattle.lab_desk.specs.declared.seat.Noted.{Noted}
-use Rattle.lab_desk.specs.Record.{SeatValue, noted, note_of, entry, notes_of, TellsEntry, KeepsRoomFor, AtSomeIndex, Notes, NotesRefusal}
+use Rattle.lab_desk.specs.Record.{SeatValue, noted, note_of, call_entry, notes_of, TellsEntry, KeepsRoomFor, Notes, NotesRefusal}
 use Rattle.lab_desk.specs.Record.{NotesLease, NotesAnyLease, NotesDone, NotesFault, NotesRefused, NotesPost, NotesPostFault, NotesSplit}
 use Rattle.lab_desk.specs.Record.{NotesSplitFault, NotesRetract}
-use Rattle.lab_desk.specs.Seats.{HaveAllNumbers, are_of_workers, AreRecordsFrom, AreRecordsAfter, IsFinishedBy, IsDeskBook}
+use Rattle.lab_desk.specs.Seats.{HaveAllNumbers, are_of_workers, AreRecordsFrom, AreRecordsAfter, IsFinishedBy, IsDeskBook, LacksRoom, IsFinishFault}
+use Rattle.lab_desk.specs.Ending.{call_of_end, is_at_mark}
+use Rattle.lab_desk.specs.declared.desk.ends.Ending.TheVariants as ending
 
 -- worker 0's lease of the whole run
 abbrev lease : Grant
 lease = record { id = 0; worker = 0; index = 0 }
 
 abbrev zero_leases : Entry
-zero_leases = entry 0 call.LeaseAny (reply.Leased lease None None start 0)
+zero_leases = call_entry 0 call.LeaseAny (reply.Leased lease None None start 0)
 
 abbrev one_gets_none : Entry
-one_gets_none = entry 1 call.LeaseAny reply.NoneWaits
+one_gets_none = call_entry 1 call.LeaseAny reply.NoneWaits
 
 abbrev zero_parks : Entry
-zero_parks = entry 0 (call.Park lease) reply.Done
+zero_parks = call_entry 0 (call.Park lease) reply.Done
 
 abbrev entries : List Entry
 entries = zero_leases ∷ one_gets_none ∷ zero_parks ∷ []
@@ -103,9 +107,28 @@ not_by_half f = let h = f.count in omega (arith, h)
 not_without_one : ¬ IsFinishedBy 1 0 entries (all_noted ∷ [])
 not_without_one f = let h = f.workers in absurd (cc)
 
+-- memory may be refused to the end of a lease only where no room for it is left
+has_room : (b : BookValue) → is_current b.tiles lease ≡ true → ¬ LacksRoom (record (seat 0) { kept = 1 }) lease b
+has_room b is h = let e : 1 ≡ 0 = h is in omega (arith, e)
+
+another_fault : ¬ IsFinishFault NotWaiting
+another_fault (inl e) = absurd (cc)
+another_fault (inr e) = absurd (cc)
+
 -- what is true of no book is true of none under a lock
 not_of_a_book : (p : ProblemValue) (b : Branch) (s : StateValue) → ¬ IsDeskBook p b s [] (λ book. ⊥)
 not_of_a_book p b s d = d.5
+
+-- ---- specs/Ending.antt
+
+by_its_park : call_of_end ending.Park lease ≡ call.Park lease
+by_its_park = refl
+
+parks_at_its_mark : is_at_mark ending.Park ≡ true
+parks_at_its_mark = refl
+
+closes_at_its_end : is_at_mark ending.Close ≡ false
+closes_at_its_end = refl
 
 -- ---- what a call notes
 
@@ -130,42 +153,39 @@ none_is_noted e = let h = ap length e.1 in omega (arith, h)
 any_lease_is_noted : (s : State) → ¬ NotesAnyLease {E = ℕ} idle idle (Ok (Some (leased s)))
 any_lease_is_noted s e = let h = ap length e in omega (arith, h)
 
-end_is_noted : ¬ NotesDone {X = ℕ} {E = ℕ} 2 idle idle (call.Park lease) (Ok 0)
-end_is_noted e = let h = ap length e in omega (arith, h)
-
-at_no_index : ¬ AtSomeIndex (λ i. NotesDone {X = ℕ} {E = ℕ} i idle idle (call.Park lease) (Ok 0))
-at_no_index e = let h = ap length e.1 in omega (arith, h)
+end_is_noted : ¬ NotesDone {X = ℕ} {E = ℕ} idle idle (call.Park lease) (Ok 0)
+end_is_noted e = let h = ap length e.1 in omega (arith, h)
 
 -- a refusal is noted, but that memory ran out
-refusal_is_noted : ¬ NotesRefusal 2 [] [] 0 (call.Lease 0) NotWaiting
-refusal_is_noted (inl p) = let e = p.0 in absurd (cc)
-refusal_is_noted (inr p) = let h = ap length p.1 in omega (arith, h)
+refusal_is_noted : (i : ℕ) → ¬ NotesRefusal i [] [] 0 (call.Lease 0) NotWaiting
+refusal_is_noted i (inl p) = let e = p.0 in absurd (cc)
+refusal_is_noted i (inr p) = let h = ap length p.1 in omega (arith, h)
 
-fault_is_noted : ¬ NotesFault {X = ℕ} 2 idle idle (call.Lease 0) (Err NotWaiting)
-fault_is_noted e = refusal_is_noted e
+fault_is_noted : ¬ NotesFault {X = ℕ} idle idle (call.Lease 0) (Err NotWaiting)
+fault_is_noted e = refusal_is_noted e.0 e.1
 
 abbrev given_back : Refused BookFault ℕ
 given_back = record { fault = NotWaiting; given = 0 }
 
-refused_is_noted : ¬ NotesRefused {X = ℕ} 2 idle idle (call.Lease 0) (Err given_back)
-refused_is_noted e = refusal_is_noted e
+refused_is_noted : ¬ NotesRefused {X = ℕ} idle idle (call.Lease 0) (Err given_back)
+refused_is_noted e = refusal_is_noted e.0 e.1
 
-post_is_noted : (p : ProblemValue) (x : StretchValue) (r : Posted) → ¬ NotesPost {E = ℕ} 1 p idle idle lease x (Ok r)
-post_is_noted p x r e = let h = ap length e in omega (arith, h)
+post_is_noted : (p : ProblemValue) (x : StretchValue) (r : Posted) → ¬ NotesPost {E = ℕ} p idle idle lease x (Ok r)
+post_is_noted p x r e = let h = ap length e.1 in omega (arith, h)
 
-post_fault_is_noted : (p : ProblemValue) (x : StretchValue) → ¬ NotesPostFault {X = ℕ} 1 p idle idle lease x (Err given_back)
-post_fault_is_noted p x (inl q) = let e = q.0 in absurd (cc)
-post_fault_is_noted p x (inr q) = let h = ap length q.1 in omega (arith, h)
+post_fault_is_noted : (p : ProblemValue) (x : StretchValue) → ¬ NotesPostFault {X = ℕ} p idle idle lease x (Err given_back)
+post_fault_is_noted p x (i, inl q) = let e = q.0 in absurd (cc)
+post_fault_is_noted p x (i, inr q) = let h = ap length q.1 in omega (arith, h)
 
-split_is_noted : (p : ProblemValue) (c : CutPath) → ¬ NotesSplit {E = ℕ} 1 p idle idle lease c (Ok 1)
-split_is_noted p c e = let h = ap length e in omega (arith, h)
+split_is_noted : (p : ProblemValue) (c : CutPath) → ¬ NotesSplit {E = ℕ} p idle idle lease c (Ok 1)
+split_is_noted p c e = let h = ap length e.1 in omega (arith, h)
 
-split_fault_is_noted : (p : ProblemValue) (c : CutPath) → ¬ NotesSplitFault {X = ℕ} 1 p idle idle lease c (Err given_back)
-split_fault_is_noted p c (inl q) = let e = q.0 in absurd (cc)
-split_fault_is_noted p c (inr q) = let h = ap length q.1 in omega (arith, h)
+split_fault_is_noted : (p : ProblemValue) (c : CutPath) → ¬ NotesSplitFault {X = ℕ} p idle idle lease c (Err given_back)
+split_fault_is_noted p c (i, inl q) = let e = q.0 in absurd (cc)
+split_fault_is_noted p c (i, inr q) = let h = ap length q.1 in omega (arith, h)
 
-retract_is_noted : (x : StretchValue) → ¬ NotesRetract {E = ℕ} 1 idle idle lease (Ok x)
-retract_is_noted x e = let h = ap length e in omega (arith, h)
+retract_is_noted : (x : StretchValue) → ¬ NotesRetract {E = ℕ} idle idle lease (Ok x)
+retract_is_noted x e = let h = ap length e.1 in omega (arith, h)
 
 -- room for one note more is kept with a lease, and none where none waits
 room_is_kept : ¬ KeepsRoomFor {A = ℕ} (Some 5) idle idle

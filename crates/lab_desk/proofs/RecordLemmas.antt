@@ -4,7 +4,7 @@ use Rattle.std.specs.Prelude.{◌↔◌, Bool, Result, Ok, Err, IfOk, IsTrue, So
 use Rattle.std.proofs.lemmas.Bool.Decides.{nat_tests}
 use Rattle.std.proofs.lemmas.Option.{slice_get-get_or}
 use Rattle.std.proofs.lemmas.List.{drop_more, drop_all, length-drop}
-use Rattle.lab_book.specs.declared.entry.Entry.{Entry}
+use Rattle.lab_history.specs.declared.entry.Entry.{Entry}
 use Rattle.lab_book.proofs.PlaceLemmas.{element_at, from_here, at_place}
 use Rattle.lab_desk.specs.declared.seat.Noted.{Noted}
 use Rattle.lab_desk.specs.Record.{SeatValue, noted, notes_of}

@@ -1,18 +1,19 @@
 -- What a call leaves counted and noted.
-use Rattle.std.proofs.Common.{◌≡◌, ℕ, ◌+◌, List, [], ◌∷◌, ◌++◌, length, take, refl, sym, ap, ◌∙◌, inl, inr, arith, length-append}
+use Rattle.std.proofs.Common.{◌≡◌, ℕ, ◌<◌, ◌≤◌, ◌⊎◌, ◌+◌, ◌-◌, Bool, true, cond, List, [], ◌∷◌, ◌++◌, length, take, refl, sym, ap, subst, ◌∙◌, inl, inr, arith, length-append}
 use Rattle.std.specs.Prelude.{Option, Some, Result, Ok, Err, MatchOption, None}
+use Rattle.std.proofs.lemmas.Bool.{cases_order}
 use Rattle.std.proofs.lemmas.List.{take-append-le}
-use Rattle.lab_book.specs.declared.fault.BookFault.{BookFault}
-use Rattle.lab_book.specs.declared.fault.BookFault.TheVariants.{OutOfMemory}
-use Rattle.lab_book.specs.declared.entry.Call.{Call}
-use Rattle.lab_book.specs.declared.entry.Call.TheVariants as call
-use Rattle.lab_book.specs.declared.entry.Entry.{Entry}
+use Rattle.lab_history.specs.declared.fault.BookFault.{BookFault}
+use Rattle.lab_history.specs.declared.fault.BookFault.TheVariants.{OutOfMemory}
+use Rattle.lab_history.specs.declared.entry.Call.{Call}
+use Rattle.lab_history.specs.declared.entry.Call.TheVariants as call
+use Rattle.lab_history.specs.declared.entry.Entry.{Entry}
 use Rattle.lab_book.specs.Book.{BookValue, outcome, made_at, lent, lent_any, first_waiting}
-use Rattle.lab_book.specs.declared.entry.Reply.{Reply}
-use Rattle.lab_book.specs.declared.entry.Reply.TheVariants as reply
-use Rattle.lab_book.specs.Calls.{Made, Refuses, next_entry, leased_reply, any_reply, ScribeNotes, ScribeNotesFault}
+use Rattle.lab_history.specs.declared.entry.Reply.{Reply}
+use Rattle.lab_history.specs.declared.entry.Reply.TheVariants as reply
+use Rattle.lab_book.specs.Calls.{Made, Refuses, next_entry, done_entry, leased_reply, any_reply, ScribeNotes, ScribeNotesFault}
 use Rattle.lab_book.specs.declared.lease.Leased.{Leased}
-use Rattle.lab_desk.specs.Record.{SheetValue, SheetNotes, noted, entry, Notes, NotesRefusal, AtSomeIndex}
+use Rattle.lab_desk.specs.Record.{SheetValue, SheetReady, SheetNotes, noted, call_entry, ends_lease, kept_by, kept_after, Notes, NotesRefusal, AtSomeIndex}
 use Rattle.lab_desk.specs.declared.seat.Noted.{Noted}
 
 pub counts : (old new : BookValue) (w : ℕ) (c : Call) (f : BookFault) (m total now : ℕ) → Refuses old new w c f
@@ -66,11 +67,18 @@ module _ (old new : BookValue) (was s t now : SheetValue) (lent : s ≡ was) (ba
       → Notes i was.list now.list w c r
   answered_at i r e made notes = ap (λ (n : SheetValue). n.list) (back ∙ notes)
       ∙ ap (λ (n : SheetValue). n.list ++ noted (length old.history) (next_entry old w c) ∷ []) lent
-      ∙ ap (λ (a : Reply). was.list ++ noted (length old.history) (entry w c a) ∷ []) (sym made.reply)
-      ∙ ap (λ (n : ℕ). was.list ++ noted n (entry w c r) ∷ []) (sym e)
+      ∙ ap (λ (a : Reply). was.list ++ noted (length old.history) (call_entry w c a) ∷ []) (sym made.reply)
+      ∙ ap (λ (n : ℕ). was.list ++ noted n (call_entry w c r) ∷ []) (sym e)
 
   pub answered : (r : Reply) → Made old new w c r → ScribeNotes SheetNotes s t old w c → Notes (length old.history) was.list now.list w c r
   answered r made notes = answered_at (length old.history) r refl made notes
+
+  -- where the call ended a lease, the room for that note is used
+  pub room_used : ends_lease c ≡ true → Made old new w c reply.Done → ScribeNotes SheetNotes s t old w c → now.kept ≡ was.kept - 1
+  room_used ends made notes = ap (λ (n : SheetValue). n.kept) (back ∙ notes)
+      ∙ ap (λ (n : SheetValue). kept_after n.kept (next_entry old w c)) lent
+      ∙ ap (λ (r : Reply). kept_by was.kept c r) (sym made.reply)
+      ∙ ap (λ (b : Bool). cond b (was.kept - 1) was.kept) ends
 
   -- a refusal is noted, unless memory ran out
   pub refusal : (f : BookFault) → Refuses old new w c f → ScribeNotesFault SheetNotes s t old w c f
@@ -92,7 +100,7 @@ module _ (old new : BookValue) (was s t now : SheetValue) (lent : s ≡ was) (ba
       let k = kept p.0 in omega arith
   refusal_counts f amount after (inr p) notes h made kept =
       let l = ap (λ (xs : List Noted). length xs) (answered (reply.Refused f) p.1 (notes.1 p.0)) in
-      let a = length-append was.list (noted (length old.history) (entry w c (reply.Refused f)) ∷ []) in
+      let a = length-append was.list (noted (length old.history) (call_entry w c (reply.Refused f)) ∷ []) in
       let k = made p.0 in omega arith
 
 module _ (old new : BookValue) (was s t now : SheetValue) (lent : s ≡ was) (back : now ≡ t) (w : ℕ) where
@@ -103,3 +111,16 @@ module _ (old new : BookValue) (was s t now : SheetValue) (lent : s ≡ was) (ba
   any_answered None made notes = (length old.history, answered old new was s t now lent back w call.LeaseAny reply.NoneWaits made notes)
   any_answered (Some l) made notes =
       answered_at old new was s t now lent back w call.LeaseAny l.lease.index (leased_reply l) (any_index old new w l made) made notes
+
+-- a sheet with nothing in hand that isn't ready for the end of a lease has kept no room for it
+pub no_room : (s was : SheetValue) (w : ℕ) (c : Call) → s ≡ was → was.next ≡ None → ends_lease c ≡ true → (SheetReady s (done_entry w c) → ⊥) → was.kept ≡ 0
+no_room s was w c lent free ends not = step (cases_order 0 was.kept)
+  where
+    step : (0 ≡ was.kept) ⊎ (0 < was.kept) ⊎ (was.kept < 0) → was.kept ≡ 0
+    step (inl none) = sym none
+    step (inr (inl some)) = absurd (not (record {
+      end = record { ends = ends; done = refl };
+      some = subst (λ (n : SheetValue). 0 < n.kept) (sym lent) some;
+      free = ap (λ (n : SheetValue). n.next) lent ∙ free;
+    }))
+    step (inr (inr less)) = absurd (omega arith)

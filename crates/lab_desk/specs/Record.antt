@@ -5,24 +5,24 @@
 -- Example: worker 0 leases, then worker 1, for whom none waits, and then worker 0 parks: the notes of worker 0 are the entries 0 and 2. The
 -- numbers 1 1 1 1 tell the note of entry 1. proofs/DeskExamples.antt computes it.
 use Rattle.std.specs.Prelude.{◌≡◌, ◌<◌, ℕ, ◌+◌, ◌-◌, ◌==◌, ◌⊎◌, Bool, true, false, List, [], ◌∷◌, ◌++◌, cond, drop, map, slice_index, slice_get, option_map}
-use Rattle.std.specs.Prelude.{Option, Some, None, MatchOption, Result, IfOk, IfErr, OnOk}
+use Rattle.std.specs.Prelude.{Option, Some, None, MatchOption, Result, IfOk, IfErr, OnOk, IsTrue, ◌↔◌}
 use Rattle.std.specs.List.{All}
 use Rattle.cover_problem.specs.Problem.{ProblemValue}
 use Rattle.cover_problem.specs.declared.fault.Refused.{Refused}
 use Rattle.x_branches.specs.Cut.{CutPath}
 use Rattle.x_branches.specs.Stretch.{StretchValue}
-use Rattle.lab_book.specs.EntryCode.{entry_of, entry_code}
+use Rattle.lab_history.specs.EntryCode.{entry_of, entry_code}
 use Rattle.lab_book.specs.Calls.{post_of, split_of, posted_reply, leased_reply}
-use Rattle.lab_book.specs.declared.lease.Grant.{Grant}
+use Rattle.lab_history.specs.declared.grant.Grant.{Grant}
 use Rattle.lab_book.specs.declared.lease.Posted.{Posted}
 use Rattle.lab_book.specs.declared.lease.Leased.{Leased}
-use Rattle.lab_book.specs.declared.entry.Call.{Call}
-use Rattle.lab_book.specs.declared.entry.Call.TheVariants as call
-use Rattle.lab_book.specs.declared.entry.Reply.{Reply}
-use Rattle.lab_book.specs.declared.entry.Reply.TheVariants as reply
-use Rattle.lab_book.specs.declared.entry.Entry.{Entry}
-use Rattle.lab_book.specs.declared.fault.BookFault.{BookFault}
-use Rattle.lab_book.specs.declared.fault.BookFault.TheVariants.{OutOfMemory}
+use Rattle.lab_history.specs.declared.entry.Call.{Call}
+use Rattle.lab_history.specs.declared.entry.Call.TheVariants as call
+use Rattle.lab_history.specs.declared.entry.Reply.{Reply}
+use Rattle.lab_history.specs.declared.entry.Reply.TheVariants as reply
+use Rattle.lab_history.specs.declared.entry.Entry.{Entry}
+use Rattle.lab_history.specs.declared.fault.BookFault.{BookFault}
+use Rattle.lab_history.specs.declared.fault.BookFault.TheVariants.{OutOfMemory}
 use Rattle.lab_desk.specs.declared.seat.Noted.{Noted}
 
 -- a note of the entry with an index
@@ -109,8 +109,8 @@ abbrev pub TellsEntry : List Noted → ℕ → List Entry → ℕ → Type 0
 TellsEntry notes place history i = slice_get notes place ≡ option_map (noted i) (slice_get history i)
 
 -- the entry of a call
-abbrev pub entry : ℕ → Call → Reply → Entry
-entry w c r = record { worker = w; call = c; reply = r }
+abbrev pub call_entry : ℕ → Call → Reply → Entry
+call_entry w c r = record { worker = w; call = c; reply = r }
 
 -- the entries of a worker, with their indexes, from an index on
 abbrev pub notes_of : ℕ → ℕ → List Entry → List Noted
@@ -123,7 +123,7 @@ notes_from k from history = notes_of k from (drop from history)
 
 -- one call more of a worker is noted, at the index that its entry has, with what it was answered
 abbrev pub Notes : ℕ → List Noted → List Noted → ℕ → Call → Reply → Type 0
-Notes i old new w c r = new ≡ old ++ noted i (entry w c r) ∷ []
+Notes i old new w c r = new ≡ old ++ noted i (call_entry w c r) ∷ []
 
 -- the same where it was refused; when out of memory, nothing is noted
 abbrev pub NotesRefusal : ℕ → List Noted → List Noted → ℕ → Call → BookFault → Type 0
@@ -139,9 +139,9 @@ HasEntry f = f ≡ OutOfMemory → ⊥
 
 -- ---- what is noted at a seat, by what a call returned
 
--- a call that was answered is noted at an index, with the reply that shows the answer
-abbrev pub NotesAnswer : {X E : Type 0} → ℕ → SeatValue → SeatValue → Call → (X → Reply) → Result X E → Type 0
-NotesAnswer i old new c view result = IfOk result (λ x. Notes i old.notes new.notes old.number c (view x))
+-- a call that was answered is noted, at some index, with the reply that shows the answer
+abbrev pub NotesAnswer : {X E : Type 0} → SeatValue → SeatValue → Call → (X → Reply) → Result X E → Type 0
+NotesAnswer old new c view result = AtSomeIndex (λ i. IfOk result (λ x. Notes i old.notes new.notes old.number c (view x)))
 
 -- a call that leased a tile is noted at the index of the entry that gave the lease
 abbrev pub NotesLease : {E : Type 0} → SeatValue → SeatValue → Call → Result Leased E → Type 0
@@ -153,41 +153,44 @@ NotesAnyLease old new result = IfOk result (λ r. MatchOption r
     (AtSomeIndex (λ i. Notes i old.notes new.notes old.number call.LeaseAny reply.NoneWaits))
     (λ l. Notes l.lease.index old.notes new.notes old.number call.LeaseAny (leased_reply l)))
 
--- a call that had nothing to answer is noted as done
-abbrev pub NotesDone : {X E : Type 0} → ℕ → SeatValue → SeatValue → Call → Result X E → Type 0
-NotesDone i old new c result = OnOk result (Notes i old.notes new.notes old.number c reply.Done)
+-- a call that had nothing to answer is noted, at some index, as done
+abbrev pub NotesDone : {X E : Type 0} → SeatValue → SeatValue → Call → Result X E → Type 0
+NotesDone old new c result = AtSomeIndex (λ i. OnOk result (Notes i old.notes new.notes old.number c reply.Done))
 
--- a call that was refused is noted with its fault, unless memory ran out
-abbrev pub NotesFault : {X : Type 0} → ℕ → SeatValue → SeatValue → Call → Result X BookFault → Type 0
-NotesFault i old new c result = IfErr result (λ f. NotesRefusal i old.notes new.notes old.number c f)
+-- a call that was refused is noted, at some index, with its fault, unless memory ran out
+abbrev pub NotesFault : {X : Type 0} → SeatValue → SeatValue → Call → Result X BookFault → Type 0
+NotesFault old new c result = AtSomeIndex (λ i. IfErr result (λ f. NotesRefusal i old.notes new.notes old.number c f))
 
 -- the same, where what the call was given comes back with the fault
-abbrev pub NotesRefused : {X G : Type 0} → ℕ → SeatValue → SeatValue → Call → Result X (Refused BookFault G) → Type 0
-NotesRefused i old new c result = IfErr result (λ r. NotesRefusal i old.notes new.notes old.number c r.fault)
+abbrev pub NotesRefused : {X G : Type 0} → SeatValue → SeatValue → Call → Result X (Refused BookFault G) → Type 0
+NotesRefused old new c result = AtSomeIndex (λ i. IfErr result (λ r. NotesRefusal i old.notes new.notes old.number c r.fault))
 
 -- a post of this stretch, by this lease, to a book of this problem is noted with its answer
-abbrev pub NotesPost : {E : Type 0} → ℕ → ProblemValue → SeatValue → SeatValue → Grant → StretchValue → Result Posted E → Type 0
-NotesPost i p old new g x result = NotesAnswer i old new (post_of p g x) posted_reply result
+abbrev pub NotesPost : {E : Type 0} → ProblemValue → SeatValue → SeatValue → Grant → StretchValue → Result Posted E → Type 0
+NotesPost p old new g x result = NotesAnswer old new (post_of p g x) posted_reply result
 
 -- where it was refused, it is noted with its fault
 abbrev pub NotesPostFault : {X G : Type 0}
-    → ℕ → ProblemValue → SeatValue → SeatValue → Grant → StretchValue → Result X (Refused BookFault G) → Type 0
-NotesPostFault i p old new g x result = NotesRefused i old new (post_of p g x) result
+    → ProblemValue → SeatValue → SeatValue → Grant → StretchValue → Result X (Refused BookFault G) → Type 0
+NotesPostFault p old new g x result = NotesRefused old new (post_of p g x) result
 
 -- a split at this cut is noted with the new tile's id
-abbrev pub NotesSplit : {E : Type 0} → ℕ → ProblemValue → SeatValue → SeatValue → Grant → CutPath → Result ℕ E → Type 0
-NotesSplit i p old new g cut result = NotesAnswer i old new (split_of p g cut) reply.Split result
+abbrev pub NotesSplit : {E : Type 0} → ProblemValue → SeatValue → SeatValue → Grant → CutPath → Result ℕ E → Type 0
+NotesSplit p old new g cut result = NotesAnswer old new (split_of p g cut) reply.Split result
 
 -- where it was refused, it is noted with its fault
 abbrev pub NotesSplitFault : {X G : Type 0}
-    → ℕ → ProblemValue → SeatValue → SeatValue → Grant → CutPath → Result X (Refused BookFault G) → Type 0
-NotesSplitFault i p old new g cut result = NotesRefused i old new (split_of p g cut) result
+    → ProblemValue → SeatValue → SeatValue → Grant → CutPath → Result X (Refused BookFault G) → Type 0
+NotesSplitFault p old new g cut result = NotesRefused old new (split_of p g cut) result
 
 -- a stretch that was taken out again, by this lease, is noted by its ends
-abbrev pub NotesRetract : {E : Type 0} → ℕ → SeatValue → SeatValue → Grant → Result StretchValue E → Type 0
-NotesRetract i old new g result =
-    NotesAnswer i old new (call.Retract g) (λ (x : StretchValue). reply.Retracted x.from x.to) result
+abbrev pub NotesRetract : {E : Type 0} → SeatValue → SeatValue → Grant → Result StretchValue E → Type 0
+NotesRetract old new g result = NotesAnswer old new (call.Retract g) (λ (x : StretchValue). reply.Retracted x.from x.to) result
 
 -- room is kept for one note more where there is such a thing, and else for as many as before
 abbrev pub KeepsRoomFor : {A : Type 0} → Option A → SeatValue → SeatValue → Type 0
 KeepsRoomFor o old new = MatchOption o (new.kept ≡ old.kept) (λ _. new.kept ≡ old.kept + 1)
+
+-- an answer tells whether this is so, unless it is an error
+abbrev pub TellsWhether : {E : Type 0} → Result Bool E → Type 0 → Type 0
+TellsWhether result P = IfOk result (λ told. IsTrue told ↔ P)

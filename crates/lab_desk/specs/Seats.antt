@@ -1,16 +1,20 @@
 -- Desks (`DeskValue`), and what the notes of their seats say of a history: seats as they are made (`AreNewSeats`), that each number is one
 -- seat's (`HaveAllNumbers`), that their notes are a history's entries (`AreRecords`), and whether these are of so many workers
--- (`are_of_workers`).
+-- (`are_of_workers`). When a call may be refused for want of memory (`LacksRoom`), and a desk not be finished (`IsFinishFault`).
 --
 -- Example: the seats 1 and 0 have all numbers below 2. Entries of the workers 0 and 1 are of workers below 2, and not below 1.
 -- proofs/DeskExamples.antt computes it.
-use Rattle.std.specs.Prelude.{◌≡◌, ◌<◌, ◌==◌, ℕ, nat_lt, Bool, List, [], slice_get, count_by, take, drop, length, true, Some}
+use Rattle.std.specs.Prelude.{◌≡◌, ◌⊎◌, ◌<◌, ◌==◌, ℕ, nat_lt, Bool, List, [], slice_get, count_by, take, drop, length, true, Some}
 use Rattle.std.specs.List.{list_all}
 use Rattle.cover_problem.specs.Problem.{ProblemValue}
 use Rattle.x_steps.specs.StateValue.{StateValue}
 use Rattle.x_branches.specs.declared.branch.Branch.{Branch}
 use Rattle.lab_book.specs.Book.{BookValue}
-use Rattle.lab_book.specs.declared.entry.Entry.{Entry}
+use Rattle.lab_book.specs.Calls.{is_current}
+use Rattle.lab_history.specs.declared.grant.Grant.{Grant}
+use Rattle.lab_history.specs.declared.fault.BookFault.{BookFault}
+use Rattle.lab_history.specs.declared.fault.BookFault.TheVariants.{OutOfMemory, SeatMismatch}
+use Rattle.lab_history.specs.declared.entry.Entry.{Entry}
 use Rattle.lab_desk.specs.Record.{SeatValue, notes_of}
 
 -- a desk, as its callers know it: how many seats it has
@@ -65,3 +69,11 @@ AreOfSeatsAfter opening n history = AreOfWorkers (length opening) n history
 abbrev pub IsDeskBook : ProblemValue → Branch → StateValue → List Entry → (BookValue → Type 0) → Type 0
 IsDeskBook p branch first opening P =
     (b : BookValue) × (b.problem ≡ p) × (b.branch ≡ branch) × (b.first ≡ first) × (take (length opening) b.history ≡ opening) × P b
+
+-- at a book the lease isn't the tile's current one, or the seat has kept no room for the note of its end
+abbrev pub LacksRoom : SeatValue → Grant → BookValue → Type 0
+LacksRoom s g b = is_current b.tiles g ≡ true → s.kept ≡ 0
+
+-- why a desk isn't finished: its seats don't fit its book, or memory ran out
+abbrev pub IsFinishFault : BookFault → Type 0
+IsFinishFault f = (f ≡ SeatMismatch) ⊎ (f ≡ OutOfMemory)

@@ -20,11 +20,13 @@ macro_rules! called {
             notes: $notes,
             share,
         } = $seat;
+        // The row under the lock grew with earlier notes: packing by it seldom takes memory.
         $notes.swap_row(row);
         let answer = $call;
         $notes.swap_row(row);
         match answer {
             Ok(answer) => {
+                // As many calls are counted as entries were added: this keeps the lock's promise.
                 count.add(share, 1);
                 Ok(answer)
             }
@@ -36,8 +38,8 @@ macro_rules! called {
     }};
 }
 
+mod audit;
 mod desk;
-mod finishing;
 mod locked;
 mod seat;
 mod sheet;

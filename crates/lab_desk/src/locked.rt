@@ -45,6 +45,7 @@ pub(crate) fn count_refusal<L: Ledger>(
     ensures share_kept { fault.now ≡ BookFault.OutOfMemory → share.new.amount ≡ share.old.amount }
     ensures parts { share.new.parts ≡ share.old.parts }
 {
+    // Such a refusal has no entry, and so it has no note to be counted.
     if !is_memory(fault) {
         count.add(share, 1);
     }

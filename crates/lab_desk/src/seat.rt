@@ -1,6 +1,6 @@
 //! A worker's seat at a desk, with notes of its calls.
-ghost use Rattle.std.specs.Prelude.{◌≡◌, ◌↔◌, ◌≤◌, [], length, IfOk, IsTrue, None};
-ghost use Rattle.lab_desk.specs.Record.{notes_from};
+ghost use Rattle.std.specs.Prelude.{◌≡◌, ◌≤◌, [], length, None};
+ghost use Rattle.lab_desk.specs.Record.{notes_from, TellsWhether};
 
 use crate::sheet::Sheet;
 use lab_book::{Entries, Entry};
@@ -47,11 +47,12 @@ fn is_record(
     history: &Entries<'_>,
 ) -> Result<bool, AllocError>
     requires { from ≤ length history.now }
-    ensures { IfOk result (λ told. IsTrue told ↔ (notes.now.list ≡ notes_from number from history.now)) }
+    ensures { TellsWhether result (notes.now.list ≡ notes_from number from history.now) }
 {
     let mut next = 0;
     'comparing: for i in from..history.len() {
         if history.worker(i) == number {
+            // An entry of this worker without a note: somebody else called in its name.
             if next >= notes.len() {
                 return Ok(false);
             }
@@ -61,6 +62,7 @@ fn is_record(
             next += 1;
         }
     }
+    // Notes that are left over would be of entries that the history lacks.
     Ok(next == notes.len())
 }
 
@@ -95,8 +97,7 @@ impl<L: Ledger> Seat<L> {
         history: &Entries<'_>,
     ) -> Result<bool, AllocError>
         requires { from ≤ length history.now }
-        ensures { IfOk result (λ told.
-            IsTrue told ↔ (self.now.notes ≡ notes_from self.now.number from history.now)) }
+        ensures { TellsWhether result (self.now.notes ≡ notes_from self.now.number from history.now) }
     {
         is_record(&self.notes, row, self.number, from, history)
     }

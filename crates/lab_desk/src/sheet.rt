@@ -1,8 +1,9 @@
 //! Notes, with room kept for notes to come.
-ghost use Rattle.std.specs.Prelude.{◌≡◌, ◌↔◌, ◌≤◌, ◌<◌, ◌+◌, ◌-◌, ◌++◌, [], length, slice_get, option_map};
-ghost use Rattle.std.specs.Prelude.{vec_len, vec_capacity, IfOk, OnOk, OnErr, IsOk, IsTrue, IsSome, IfSome, ◌^◌, None};
+ghost use Rattle.std.specs.Prelude.{◌≡◌, ◌≤◌, ◌<◌, ◌+◌, ◌-◌, ◌++◌, [], length, slice_get, option_map};
+ghost use Rattle.std.specs.Prelude.{vec_len, vec_capacity, IfOk, OnOk, OnErr, IsOk, IsSome, IfSome, ◌^◌, None};
 ghost use Rattle.lab_book.specs.Calls.{done_entry};
-ghost use Rattle.lab_desk.specs.Record.{noted, note_of, note_code, all_notes, kept_after, EndsLease, TellsEntry, IsNoteOf, IsNoteCode, AreNoteCodes};
+ghost use Rattle.lab_desk.specs.Record.{noted, note_of, note_code, all_notes, kept_after, EndsLease};
+ghost use Rattle.lab_desk.specs.Record.{TellsEntry, IsNoteOf, IsNoteCode, AreNoteCodes, TellsWhether};
 
 use crate::seat::Noted;
 use lab_book::{Call, Entries, Entry, Reply, Scribe};
@@ -41,6 +42,7 @@ fn write(row: &mut Row, index: u64, entry: &Entry) -> Result<(), AllocError>
     ensures told { OnOk result (note_of row.new ≡ noted index entry.now) }
     ensures code { OnOk result (row.new ≡ note_code (noted index entry.now)) }
 {
+    // A row from before may be left there by another seat.
     row.clear();
     row.put(index)?;
     entry.put(row)?;
@@ -59,6 +61,7 @@ fn pack_first(rows: &mut Rows, row: &mut Row, last: &mut Vec<Noted>) -> Result<(
 {
     let first = &last[0];
     write(row, first.index, &first.entry)?;
+    // Packed first and dropped then: where memory runs out, the note stands unpacked.
     rows.push(row)?;
     let _note = last.remove(0);
     Ok(())
@@ -72,6 +75,7 @@ fn pack(rows: &mut Rows, row: &mut Row, last: &mut Vec<Noted>)
     ensures codes { AreNoteCodes rows.old.rows → AreNoteCodes rows.new.rows }
 {
     'packing: while !last.is_empty() {
+        // Not an error: what isn't packed now is packed with a later note.
         if pack_first(rows, row, last).is_err() {
             return;
         }
@@ -86,7 +90,7 @@ fn tells_last(
     index: usize,
 ) -> Result<bool, AllocError>
     requires { index < length history.now }
-    ensures { IfOk result (λ told. IsTrue told ↔ IsNoteOf note.now history.now index) }
+    ensures { TellsWhether result (IsNoteOf note.now history.now index) }
 {
     if note.index != index as u64 {
         return Ok(false);
@@ -103,7 +107,7 @@ fn tells_packed(
 ) -> Result<bool, AllocError>
     requires index { index < length history.now }
     requires code { IsNoteCode numbers.old }
-    ensures { IfOk result (λ told. IsTrue told ↔ IsNoteOf (note_of numbers.old) history.now index) }
+    ensures { TellsWhether result (IsNoteOf (note_of numbers.old) history.now index) }
 {
     if numbers.number() != index as u64 {
         return Ok(false);
@@ -127,6 +131,7 @@ fn end_of(entry: &Entry) -> Option<Entry>
     ensures same { IfSome result (λ e. e ≡ entry.now) }
     ensures some { EndsLease entry.now → IsSome result }
 {
+    // Only the three that follow must not need memory: by them a worker gets rid of a tile.
     let Reply::Done = entry.reply() else {
         return None;
     };
@@ -148,6 +153,7 @@ fn copied(alloc: Global, row: &mut Row, index: u64, entry: &Entry) -> Result<Ent
     if let Some(end) = end_of(entry) {
         return Ok(end);
     }
+    // Written though it isn't kept there: the row has grown to its length then.
     write(row, index, entry)?;
     entry.copy_by(alloc, row)
 }
@@ -177,12 +183,14 @@ impl Scribe for Sheet {
     ghost ready = { SheetReady };
 
     fn keep(&mut self, index: u64, entry: &Entry) -> Result<(), AllocError> {
+        // A book has at most one call under way, so this is refused and never met.
         if self.next.is_some() {
             return Err(AllocError);
         }
         let alloc = *self.last.allocator();
         let entry = copied(alloc, &mut self.row, index, entry)?;
         let after = room_after(self.kept, &entry);
+        // With this note in hand, each lease that it leaves open can be noted as ended.
         self.last.reserve(after + 1)?;
         self.next = Some(Noted { index, entry });
         Ok(())
@@ -235,10 +243,11 @@ impl Sheet {
     ) -> Result<bool, AllocError>
         requires place { place < length self.now.list }
         requires index { index < length history.now }
-        ensures { IfOk result (λ told. IsTrue told ↔ TellsEntry self.now.list place history.now index) }
+        ensures { TellsWhether result (TellsEntry self.now.list place history.now index) }
     {
         let count = self.rows.len();
         if place >= count {
+            // The unpacked notes are the latest ones, so they stand behind all rows.
             return tells_last(&self.last[place - count], row, history, index);
         }
         tells_packed(&mut self.rows.row(place), row, history, index)

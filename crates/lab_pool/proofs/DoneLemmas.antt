@@ -6,7 +6,7 @@ use Rattle.std.proofs.lemmas.List.{take-append-drop, take_all}
 use Rattle.x_steps.specs.StateValue.{StateValue}
 use Rattle.x_branches.specs.declared.branch.Branch.{Branch}
 use Rattle.cover_problem.specs.Problem.{ProblemValue}
-use Rattle.lab_book.specs.declared.entry.Entry.{Entry}
+use Rattle.lab_history.specs.declared.entry.Entry.{Entry}
 use Rattle.lab_book.specs.Book.{BookValue, book_step, new_book, replayed, waiting_in, leased_in}
 use Rattle.lab_book.specs.Posted.{AllClosed}
 use Rattle.lab_book_laws.specs.AlikeBooks.{held_tiles}

@@ -3,12 +3,12 @@ use Rattle.std.proofs.Common.{◌≡◌, ℕ, suc, true, false, Some, None, List
 use Rattle.x_steps.specs.StateValue.{done}
 use Rattle.x_branches.specs.Branch.{first_of}
 use Rattle.lab_book.specs.declared.status.Status.TheVariants.{Waiting, Held, Leased}
-use Rattle.lab_book.specs.declared.lease.Grant.{Grant}
-use Rattle.lab_book.specs.declared.entry.Call.{Call}
-use Rattle.lab_book.specs.declared.entry.Call.TheVariants as call
-use Rattle.lab_book.specs.declared.entry.Reply.{Reply}
-use Rattle.lab_book.specs.declared.entry.Reply.TheVariants as reply
-use Rattle.lab_book.specs.declared.entry.Entry.{Entry}
+use Rattle.lab_history.specs.declared.grant.Grant.{Grant}
+use Rattle.lab_history.specs.declared.entry.Call.{Call}
+use Rattle.lab_history.specs.declared.entry.Call.TheVariants as call
+use Rattle.lab_history.specs.declared.entry.Reply.{Reply}
+use Rattle.lab_history.specs.declared.entry.Reply.TheVariants as reply
+use Rattle.lab_history.specs.declared.entry.Entry.{Entry}
 use Rattle.lab_book.specs.Book.{BookValue, leased_in}
 use Rattle.lab_book_laws.specs.Searched.{searched, ArePoolCalls}
 use Rattle.lab_book_laws.proofs.AlikeExamples.{cut, in_two}

@@ -1,18 +1,19 @@
 -- The examples of specs/Worker.antt.
 use Rattle.std.proofs.Common.{◌≡◌, List, [], ◌∷◌, map, ap, refl, arith}
 use Rattle.lab_book.specs.declared.status.Status.TheVariants.{Leased}
-use Rattle.lab_book.specs.declared.lease.Grant.{Grant}
-use Rattle.lab_book.specs.declared.entry.Call.TheVariants as call
-use Rattle.lab_book.specs.declared.entry.Reply.TheVariants as reply
-use Rattle.lab_book.specs.declared.fault.BookFault.TheVariants as fault
-use Rattle.lab_book.specs.declared.kind.CallKind.{CallKind}
-use Rattle.lab_book.specs.declared.kind.CallKind.TheVariants as kind
-use Rattle.lab_book.specs.Kinds.{kind_of}
+use Rattle.lab_history.specs.declared.grant.Grant.{Grant}
+use Rattle.lab_history.specs.declared.entry.Call.TheVariants as call
+use Rattle.lab_history.specs.declared.entry.Reply.TheVariants as reply
+use Rattle.lab_history.specs.declared.fault.BookFault.TheVariants as fault
+use Rattle.lab_history.specs.declared.kind.CallKind.{CallKind}
+use Rattle.lab_history.specs.declared.kind.CallKind.TheVariants as kind
+use Rattle.lab_history.specs.Kinds.{kind_of}
 use Rattle.lab_desk.specs.declared.seat.Noted.{Noted}
-use Rattle.lab_desk.specs.Record.{SeatValue, noted, entry}
+use Rattle.lab_desk.specs.Record.{SeatValue, noted, call_entry}
 use Rattle.lab_book_laws.proofs.AlikeExamples.{in_two}
 use Rattle.lab_pool.specs.declared.search.Next.TheVariants as next
-use Rattle.lab_pool.specs.Worker.{ending_call, next_after, EndsTile, LacksRoom}
+use Rattle.lab_desk.specs.Seats.{LacksRoom}
+use Rattle.lab_pool.specs.Worker.{ending_call, next_after, EndsTile}
 
 -- worker 0's lease of a tile, by the entry 3
 abbrev lease : Grant
@@ -20,7 +21,7 @@ lease = record { id = 1; worker = 0; index = 3 }
 
 -- a seat of which one lease is noted to be closed, and that has room for the end of another
 abbrev closed : SeatValue
-closed = record { number = 0; notes = noted 4 (entry 0 (call.Close lease) reply.Done) ∷ []; kept = 1 }
+closed = record { number = 0; notes = noted 4 (call_entry 0 (call.Close lease) reply.Done) ∷ []; kept = 1 }
 
 by_its_close : ending_call next.Done lease ≡ call.Close lease
 by_its_close = refl

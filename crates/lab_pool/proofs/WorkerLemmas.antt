@@ -4,19 +4,19 @@ use Rattle.cover_problem.specs.Problem.{ProblemValue}
 use Rattle.x_steps.specs.StateValue.{StateValue}
 use Rattle.x_branches.specs.declared.branch.Branch.{Branch}
 use Rattle.lab_book.specs.Calls.{is_current}
-use Rattle.lab_book.specs.declared.lease.Grant.{Grant}
-use Rattle.lab_book.specs.declared.entry.Entry.{Entry}
-use Rattle.lab_book.specs.declared.entry.Call.{Call}
-use Rattle.lab_book.specs.declared.entry.Call.TheVariants as call
-use Rattle.lab_book.specs.declared.entry.Reply.{Reply}
-use Rattle.lab_book.specs.declared.entry.Reply.TheVariants as reply
-use Rattle.lab_book.specs.declared.fault.BookFault.{BookFault}
-use Rattle.lab_book.specs.declared.fault.BookFault.TheVariants as fault
+use Rattle.lab_history.specs.declared.grant.Grant.{Grant}
+use Rattle.lab_history.specs.declared.entry.Entry.{Entry}
+use Rattle.lab_history.specs.declared.entry.Call.{Call}
+use Rattle.lab_history.specs.declared.entry.Call.TheVariants as call
+use Rattle.lab_history.specs.declared.entry.Reply.{Reply}
+use Rattle.lab_history.specs.declared.entry.Reply.TheVariants as reply
+use Rattle.lab_history.specs.declared.fault.BookFault.{BookFault}
+use Rattle.lab_history.specs.declared.fault.BookFault.TheVariants as fault
 use Rattle.lab_desk.specs.Record.{SeatValue, Notes, AtSomeIndex}
-use Rattle.lab_desk.specs.Seats.{IsDeskBook}
+use Rattle.lab_desk.specs.Seats.{IsDeskBook, LacksRoom}
 use Rattle.lab_pool.specs.declared.search.Next.{Next}
 use Rattle.lab_pool.specs.declared.search.Next.TheVariants as next
-use Rattle.lab_pool.specs.Worker.{ending_call, next_after, EndsIn, Abandons, LacksRoom, EndsTile}
+use Rattle.lab_pool.specs.Worker.{ending_call, next_after, EndsIn, Abandons, EndsTile}
 
 module _ (old new : SeatValue) (number : new.number ≡ old.number) where
   -- a call that is noted is the last note

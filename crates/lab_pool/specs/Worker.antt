@@ -1,21 +1,23 @@
 -- How a worker ends its tile: by which call (`ending_call`), what it does next where the book refuses one (`next_after`), and what the last
--- note of its seat then is (`EndsIn`, `EndsInCall`, `Abandons`, `EndsTile`). No note of the end is missing but where the seat lacks room for
--- it (`LacksRoom`).
+-- note of its seat then is (`EndsIn`, `EndsInCall`, `Abandons`, `EndsTile`). What a call leased to it is `IfLeased` and `IsLeasedTo`; what its
+-- seat keeps at other calls, `KeepsSeat`; and where its runner begins, `runner_for`.
 --
 -- Example: worker 0 closes the tile that it is done with, and its seat's last note is that close. It doesn't park it, and where a call was
 -- refused its search ends. proofs/WorkerExamples.antt computes it.
-use Rattle.std.specs.Prelude.{◌≡◌, ◌⊎◌, List, true}
-use Rattle.lab_book.specs.Book.{BookValue}
-use Rattle.lab_book.specs.Calls.{is_current}
-use Rattle.lab_book.specs.declared.lease.Grant.{Grant}
-use Rattle.lab_book.specs.declared.entry.Call.{Call}
-use Rattle.lab_book.specs.declared.entry.Call.TheVariants as call
-use Rattle.lab_book.specs.declared.entry.Reply.{Reply}
-use Rattle.lab_book.specs.declared.entry.Reply.TheVariants as reply
-use Rattle.lab_book.specs.declared.fault.BookFault.{BookFault}
-use Rattle.lab_book.specs.declared.fault.BookFault.TheVariants as fault
+use Rattle.std.specs.Prelude.{◌≡◌, ◌⊎◌, List, Option, Result, IfOk, IfSome}
+use Rattle.cover_problem.specs.Problem.{ProblemValue}
+use Rattle.x_steps.specs.StateView.{state_value}
+use Rattle.x_branches.specs.Runner.{RunnerValue, runner_at}
+use Rattle.lab_history.specs.declared.grant.Grant.{Grant}
+use Rattle.lab_book.specs.declared.lease.Leased.{Leased}
+use Rattle.lab_history.specs.declared.entry.Call.{Call}
+use Rattle.lab_history.specs.declared.entry.Call.TheVariants as call
+use Rattle.lab_history.specs.declared.entry.Reply.{Reply}
+use Rattle.lab_history.specs.declared.entry.Reply.TheVariants as reply
+use Rattle.lab_history.specs.declared.fault.BookFault.{BookFault}
+use Rattle.lab_history.specs.declared.fault.BookFault.TheVariants as fault
 use Rattle.lab_desk.specs.declared.seat.Noted.{Noted}
-use Rattle.lab_desk.specs.Record.{SeatValue, Notes, AtSomeIndex}
+use Rattle.lab_desk.specs.Record.{SeatValue, Notes, NotesDone, AtSomeIndex}
 use Rattle.lab_pool.specs.declared.search.Next.{Next}
 use Rattle.lab_pool.specs.declared.search.Next.TheVariants as next
 
@@ -43,9 +45,13 @@ EndsInCall s c = (r : Reply) × EndsIn s c r
 abbrev pub Abandons : SeatValue → Grant → Type 0 → Type 0
 Abandons s g P = EndsInCall s (call.Abandon g) ⊎ P
 
--- at a book the lease isn't the tile's current one, or the seat has kept no room for the note of its end
-abbrev pub LacksRoom : SeatValue → Grant → BookValue → Type 0
-LacksRoom s g b = is_current b.tiles g ≡ true → s.kept ≡ 0
+-- a call that ended a lease, by what the worker does next, is noted as done
+abbrev pub NotesEnding : {X E : Type 0} → SeatValue → SeatValue → Next → Grant → Result X E → Type 0
+NotesEnding old new n g result = NotesDone old new (ending_call n g) result
+
+-- the last note of a seat is that this lease's tile was closed, or parked
+abbrev pub HasLeft : SeatValue → Grant → Type 0
+HasLeft s g = EndsIn s (call.Close g) reply.Done ⊎ EndsIn s (call.Park g) reply.Done
 
 -- how a lease was ended, by what the worker does next: its tile was closed where it is done, parked where the worker was asked to stop, and
 -- else abandoned
@@ -53,3 +59,19 @@ abbrev pub EndsTile : Next → SeatValue → Grant → Type 0 → Type 0
 EndsTile next.Done s g P = EndsIn s (call.Close g) reply.Done
 EndsTile next.Stop s g P = EndsIn s (call.Park g) reply.Done
 EndsTile _ s g P = Abandons s g P
+
+-- this is true of what a call leased, if it leased anything
+abbrev pub IfLeased : {X E : Type 0} → Result (Option X) E → (X → Type 0) → Type 0
+IfLeased result P = IfOk result (λ o. IfSome o P)
+
+-- a tile is leased to the worker of a seat
+abbrev pub IsLeasedTo : SeatValue → Leased → Type 0
+IsLeasedTo s l = l.lease.worker ≡ s.number
+
+-- a seat has its number, and as much room as before
+abbrev pub KeepsSeat : SeatValue → SeatValue → Type 0
+KeepsSeat old new = (new.number ≡ old.number) × (new.kept ≡ old.kept)
+
+-- the runner that a lease asks for: in its tile's branch, at its mark
+abbrev pub runner_for : ProblemValue → Leased → RunnerValue
+runner_for p l = runner_at p l.branch (state_value l.mark)

@@ -28,6 +28,7 @@ pub trait Gate: Sync {
 pub struct NoGate;
 
 impl Gate for NoGate {
+    // A gate that only tests need costs nothing elsewhere.
     fn before(&self, _worker: u8, _call: GateCall) {}
 
     fn after(&self, _worker: u8, _call: GateCall) {}

@@ -3,10 +3,10 @@
 
 mod fault;
 mod gate;
-mod judging;
 mod pool;
 mod search;
 mod station;
+mod verdict;
 mod worker;
 
 pub use fault::PoolFault;

@@ -1,5 +1,5 @@
 //! Workers over a desk.
-ghost use Rattle.std.specs.Prelude.{◌≡◌, ◌<◌, ◌≤◌, ◌↔◌, ◌+◌, [], None, IfOk, IfErr, OnOk, IfSome, IsTrue};
+ghost use Rattle.std.specs.Prelude.{◌≡◌, ◌<◌, ◌≤◌, ◌↔◌, ◌+◌, [], None, IfOk, IfErr, OnOk, IsTrue};
 ghost use Rattle.std.specs.Prelude.{length, vec_len, vec_capacity};
 ghost use Rattle.x_steps.specs.Answers.{IfRefused};
 ghost use Rattle.x_steps.specs.StateValue.{start};
@@ -8,12 +8,12 @@ ghost use Rattle.lab_book.specs.Book.{waiting_in, leased_in, new_book};
 ghost use Rattle.lab_book.specs.Posted.{AllClosed};
 ghost use Rattle.lab_book_laws.specs.AlikeBooks.{held_tiles};
 ghost use Rattle.lab_book_laws.specs.Searched.{IsSearched};
-ghost use Rattle.lab_pool.specs.Pool.{GoesOn, GivenBack, OnlyHeld, IfFault, FaultWhere, IsBadCount};
+ghost use Rattle.lab_pool.specs.Pool.{GoesOn, GivenBack, OnlyHeld, IfFault, IfGiven, NoneAt, FaultWhere, IsBadCount};
 
 use crate::fault::PoolFault;
 use crate::gate::Gate;
-use crate::judging::{answer, mismatch, refuse, settle};
 use crate::station::Crew;
+use crate::verdict::{answer, mismatch, refuse, settle};
 use crate::worker::work;
 use cover_problem::{Problem, Table};
 use lab_book::Book;
@@ -62,11 +62,13 @@ fn start_all<
     };
     let mut refused = false;
     'starting: for (seat, lane) in others.iter_mut().zip(other_lanes.iter_mut()) {
+        // A refused thread is no failure yet: the other workers do its part.
         match scope.spawn(move || work::<T, L, R, G>(crew, seat, lane)) {
             Ok(thread) => threads.push_reserved(thread),
             Err(_) => refused = true,
         }
     }
+    // The calling thread works too, so that one worker needs no thread at all.
     work::<T, L, R, G>(crew, first, lane);
     (threads, refused)
 }
@@ -83,6 +85,7 @@ fn run_seats<T: Table + Send + Sync, L: Desking + Send + Sync, R: Threads + Wait
     requires room { length seats.old ≤ vec_capacity threads + 1 }
     ensures { IsTrue result → 1 < length seats.old }
 {
+    // Threads lent by a scope have ended when it returns: desk and seats are free again.
     let (_, refused) = thread::scope(
         thread::scope_env(),
         crew.rt,
@@ -117,7 +120,7 @@ fn run_at<'p, T: Table + Send + Sync, L: Desking + Send + Sync, R: Threads + Wai
     ensures on { IfOk result (λ b. GoesOn book.entry b) }
     ensures finished { IfOk result (λ b. AllClosed b.tiles) }
     ensures searched { IfOk result (λ b. IsSearched book.entry b) }
-    ensures given_back { IfErr result (λ r. IfSome r.given (λ b. GivenBack book.entry b)) }
+    ensures given_back { IfGiven result (λ b. GivenBack book.entry b) }
     ensures none_back { IfErr result (λ r. r.given ≡ None ↔ (r.fault ≡ PoolFault.Mismatch)) }
     ensures workers { IfErr result (λ r. r.fault ≡ PoolFault.BadWorkerCount → ⊥) }
     ensures held { IfFault result PoolFault.Held (λ b. IsSearched book.entry b) }
@@ -126,13 +129,16 @@ fn run_at<'p, T: Table + Send + Sync, L: Desking + Send + Sync, R: Threads + Wai
     ensures threads { IfFault result PoolFault.NoThread (λ b. 0 < waiting_in b.tiles) }
     ensures several { IfRefused result PoolFault.NoThread (1 < workers) }
 {
+    // The pool answers for the entries from here on.
     let from = book.history().len();
     let Ok(mut lanes) = tickets(alloc, workers) else {
         return Err(refuse(PoolFault::OutOfMemory, book));
     };
+    // Room for all handles now: no thread may start whose handle can't be kept.
     let Ok(threads) = Vec::with_capacity(alloc, workers as usize - 1) else {
         return Err(refuse(PoolFault::OutOfMemory, book));
     };
+    // Last, since the blank is spent here: what was refused before gives the book back.
     let (desk, mut seats) = match Desk::<L>::new(alloc, blank, book, workers) {
         Ok(made) => made,
         Err((_, book)) => return Err(refuse(PoolFault::OutOfMemory, book)),
@@ -151,6 +157,7 @@ fn run_at<'p, T: Table + Send + Sync, L: Desking + Send + Sync, R: Threads + Wai
         lanes.as_mut_slice(),
         threads,
     );
+    // A lock tells nothing of what threads did under it: the seats' notes tell it.
     let Ok(book) = desk.finish(seats) else {
         return Err(mismatch());
     };
@@ -174,7 +181,7 @@ pub fn run_pool_on<'p, T: Table + Send + Sync, R: Threads + Wait + Sync, G: Gate
     ensures none_held { OnOk result (held_tiles book.entry.tiles ≡ []) }
     ensures searched { IfOk result (λ b. IsSearched book.entry b) }
     ensures bad_workers { FaultWhere result PoolFault.BadWorkerCount (IsBadCount workers) }
-    ensures given_back { IfErr result (λ r. IfSome r.given (λ b. GivenBack book.entry b)) }
+    ensures given_back { IfGiven result (λ b. GivenBack book.entry b) }
     ensures none_back { IfErr result (λ r. r.given ≡ None ↔ (r.fault ≡ PoolFault.Mismatch)) }
     ensures held { IfFault result PoolFault.Held (λ b. OnlyHeld book.entry b) }
     ensures held_searched { IfFault result PoolFault.Held (λ b. IsSearched book.entry b) }
@@ -186,9 +193,11 @@ pub fn run_pool_on<'p, T: Table + Send + Sync, R: Threads + Wait + Sync, G: Gate
     if workers == 0 || workers > 32 {
         return Err(refuse(PoolFault::BadWorkerCount, book));
     }
+    // Before anything grows or starts: there is nothing to search.
     if book.waiting() == 0 {
         return settle(book);
     }
+    // A ledger's name is made here, and no caller has to choose one.
     run_at::<T, Brand, R, G>(
         rt,
         alloc,
@@ -214,9 +223,9 @@ pub fn run_pool<'p, T: Table + Send + Sync, R: Threads + Wait + Sync, G: Gate>(
     ensures finished { IfOk result (λ b. AllClosed b.tiles) }
     ensures bad_workers { FaultWhere result PoolFault.BadWorkerCount (IsBadCount workers) }
     ensures never_held { IfErr result (λ r. r.fault ≡ PoolFault.Held → ⊥) }
-    ensures given_back { IfErr result (λ r. IfSome r.given (λ b. GivenBack (new_book problem.now whole_run start) b)) }
-    ensures none_at_bad_workers { IfErr result (λ r. r.fault ≡ PoolFault.BadWorkerCount → r.given ≡ None) }
-    ensures none_at_mismatch { IfErr result (λ r. r.fault ≡ PoolFault.Mismatch → r.given ≡ None) }
+    ensures given_back { IfGiven result (λ b. GivenBack (new_book problem.now whole_run start) b) }
+    ensures none_at_bad_workers { NoneAt result PoolFault.BadWorkerCount }
+    ensures none_at_mismatch { NoneAt result PoolFault.Mismatch }
     ensures memory { IfFault result PoolFault.OutOfMemory (λ b. 0 < waiting_in b.tiles) }
     ensures threads { IfFault result PoolFault.NoThread (λ b. 0 < waiting_in b.tiles) }
     ensures several { IfRefused result PoolFault.NoThread (1 < workers) }

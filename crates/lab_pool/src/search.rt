@@ -1,13 +1,12 @@
 //! A worker's search of the tile that it leased.
 ghost use Rattle.std.specs.Prelude.{◌≡◌, ◌<◌, IfOk, IfSome};
-ghost use Rattle.x_steps.specs.StateView.{state_value};
 ghost use Rattle.x_steps.specs.StateValue.{start};
 ghost use Rattle.x_branches.specs.Branch.{whole_run};
 ghost use Rattle.x_branches.specs.Runner.{runner_at};
 ghost use Rattle.x_branches.specs.Refusals.{CanShorten};
 ghost use Rattle.lab_book.specs.Calls.{CanBeSearched};
-ghost use Rattle.lab_desk.specs.Seats.{IsDeskBook};
-ghost use Rattle.lab_pool.specs.Worker.{next_after, EndsTile, LacksRoom};
+ghost use Rattle.lab_desk.specs.Seats.{IsDeskBook, LacksRoom};
+ghost use Rattle.lab_pool.specs.Worker.{next_after, runner_for, EndsTile, KeepsSeat};
 
 use crate::gate::Gate;
 use crate::station::Station;
@@ -53,9 +52,11 @@ fn walk_on<T: Table>(runner: &mut Runner<'_, T>) -> Result<(), AllocError>
         if left == 0 {
             break;
         }
+        // A walk stops at each visit, so that it can be kept.
         match runner.walk(left) {
             Ok(walk) => left -= walk.steps,
             Err(RunnerFault::OutOfMemory) => return Err(AllocError),
+            // At the branch's end, or where a stretch is full: what was walked is posted then.
             Err(_) => break,
         }
     }
@@ -73,6 +74,7 @@ pub(crate) fn first_runner<'p, T: Table>(
         return None;
     };
     let whole = Branch { lo: None, hi: None };
+    // From here a runner goes on to any mark without memory.
     let first = State {
         label: Label::X1,
         path: Vec::new(alloc),
@@ -95,6 +97,7 @@ fn cut_twice<'p, T: Table>(runner: &Runner<'p, T>) -> Result<Option<(Cut<'p>, Cu
         Err(RunnerFault::OutOfMemory) => return Err(Next::OutOfMemory),
         Err(_) => return Err(Next::Refused),
     };
+    // The book keeps one, and the runner ends at the other.
     match cut.copy() {
         Ok(copy) => Ok(Some((cut, copy))),
         Err(_) => Err(Next::OutOfMemory),
@@ -117,7 +120,7 @@ impl<'p, T: Table> Search<'p, T> {
     pub fn begin(runner: Runner<'p, T>, leased: Leased<'p>) -> Search<'p, T>
         requires { CanBeSearched runner.problem leased }
         ensures lease { result.lease ≡ leased.entry.lease }
-        ensures runner { result.runner ≡ runner_at runner.entry.problem leased.entry.branch (state_value leased.entry.mark) }
+        ensures runner { result.runner ≡ runner_for runner.entry.problem leased.entry }
     {
         let Leased {
             lease,
@@ -126,6 +129,7 @@ impl<'p, T: Table> Search<'p, T> {
             waiting,
         } = leased;
         let mut runner = runner;
+        // Cheaper than a new runner: what is covered at both places stays covered.
         runner.move_to(branch, mark);
         Search {
             lease,
@@ -143,8 +147,7 @@ impl<'p, T: Table> Search<'p, T> {
         requires own { self.old.runner.problem ≡ L.whole }
         ensures lease { self.new.lease ≡ self.old.lease }
         ensures problem { self.new.runner.problem ≡ self.old.runner.problem }
-        ensures room { station.new.seat.now.kept ≡ station.old.seat.now.kept }
-        ensures number { station.new.seat.now.number ≡ station.old.seat.now.number }
+        ensures seat { KeepsSeat station.old.seat.now station.new.seat.now }
     {
         let (cut, copy) = match cut_twice(&self.runner) {
             Ok(Some(cuts)) => cuts,
@@ -155,6 +158,7 @@ impl<'p, T: Table> Search<'p, T> {
             Ok(id) => id,
             Err(refused) => return Err(next_of(&refused.fault)),
         };
+        // Without its ticket the tile still waits, and is leased by the search for any.
         let _ = station.lane.push(id);
         self.runner.end_at(copy);
         Ok(())
@@ -169,9 +173,9 @@ impl<'p, T: Table> Search<'p, T> {
         requires own { self.old.runner.problem ≡ L.whole }
         ensures lease { self.new.lease ≡ self.old.lease }
         ensures problem { self.new.runner.problem ≡ self.old.runner.problem }
-        ensures room { station.new.seat.now.kept ≡ station.old.seat.now.kept }
-        ensures number { station.new.seat.now.number ≡ station.old.seat.now.number }
+        ensures seat { KeepsSeat station.old.seat.now station.new.seat.now }
     {
+        // Each turn posts, or the worker would not hear that it is to stop.
         let Ok(stretch) = self.runner.take_stretch() else {
             return Err(Next::OutOfMemory);
         };
@@ -190,12 +194,12 @@ impl<'p, T: Table> Search<'p, T> {
         requires own { self.old.runner.problem ≡ L.whole }
         ensures lease { self.new.lease ≡ self.old.lease }
         ensures problem { self.new.runner.problem ≡ self.old.runner.problem }
-        ensures room { station.new.seat.now.kept ≡ station.old.seat.now.kept }
-        ensures number { station.new.seat.now.number ≡ station.old.seat.now.number }
+        ensures seat { KeepsSeat station.old.seat.now station.new.seat.now }
     {
         if walk_on(&mut self.runner).is_err() {
             return Next::OutOfMemory;
         }
+        // With a waiting tile for each worker, one more would only be work for the book.
         if self.waiting < station.crew.desk.seats() as u64 {
             if let Err(next) = self.split(station) {
                 return next;
@@ -205,6 +209,7 @@ impl<'p, T: Table> Search<'p, T> {
             Ok(stop) => stop,
             Err(next) => return next,
         };
+        // Asked first: who is done closes its tile, even where it is to stop.
         if self.runner.is_at_end() {
             return Next::Done;
         }
@@ -223,8 +228,7 @@ impl<'p, T: Table> Search<'p, T> {
         requires own { self.old.runner.problem ≡ L.whole }
         ensures lease { self.new.lease ≡ self.old.lease }
         ensures problem { self.new.runner.problem ≡ self.old.runner.problem }
-        ensures room { station.new.seat.now.kept ≡ station.old.seat.now.kept }
-        ensures number { station.new.seat.now.number ≡ station.old.seat.now.number }
+        ensures seat { KeepsSeat station.old.seat.now station.new.seat.now }
     {
         let rt = station.crew.rt;
         'searching: for _ in rt.forever() {
@@ -258,6 +262,7 @@ impl<'p, T: Table> Search<'p, T> {
         let Err(refused) = station.end(lease, next) else {
             return (runner, next);
         };
+        // Refused, it has no tile that it could go on in.
         let after = next_of(&refused.fault);
         station.give_up(refused.given);
         (runner, after)

@@ -1,9 +1,8 @@
 //! Where a worker calls: the desk and the gate that all share, and its own seat and deque.
-ghost use Rattle.std.specs.Prelude.{◌≡◌, ◌<◌, ◌+◌, ◌⊎◌, IfOk, IfErr, OnErr, IfSome};
+ghost use Rattle.std.specs.Prelude.{◌≡◌, IfErr, OnErr};
 ghost use Rattle.lab_book.specs.Calls.{CanBeSearched};
-ghost use Rattle.lab_desk.specs.Record.{NotesDone, AtSomeIndex};
-ghost use Rattle.lab_desk.specs.Seats.{IsDeskBook};
-ghost use Rattle.lab_pool.specs.Worker.{ending_call, Abandons, LacksRoom};
+ghost use Rattle.lab_desk.specs.Seats.{IsDeskBook, LacksRoom};
+ghost use Rattle.lab_pool.specs.Worker.{Abandons, IfLeased, IsLeasedTo, KeepsSeat, NotesEnding};
 
 use crate::gate::{Gate, GateCall};
 use crate::search::Next;
@@ -15,6 +14,17 @@ use std::sync::Wait;
 use std::sync::atomic::{AtomicBool, Ordering};
 use x_branches::{Cut, Stretch};
 use x_steps::Refused;
+
+/// An act at a station, before and after which the gate is told.
+macro_rules! gated {
+    ($station:expr, $call:expr, $act:expr) => {{
+        let number = $station.seat.number();
+        $station.crew.gate.before(number, $call);
+        let answer = $act;
+        $station.crew.gate.after(number, $call);
+        answer
+    }};
+}
 
 /// What the workers of a pool share.
 #[derive(Drop)]
@@ -45,28 +55,31 @@ impl<'p, L: Desking, R: Wait, G: Gate> Station<'_, 'p, L, R, G> {
 
     /// Leases the tile of a ticket; None where it doesn't wait any more.
     fn lease(&mut self, id: u64) -> Result<Option<Leased<'p>>, AllocError>
-        ensures worker { IfOk result (λ r. IfSome r (λ l. l.lease.worker ≡ self.old.seat.now.number)) }
-        ensures can_start { IfOk result (λ r. IfSome r (CanBeSearched L.whole)) }
+        ensures worker { IfLeased result (IsLeasedTo self.old.seat.now) }
+        ensures can_start { IfLeased result (CanBeSearched L.whole) }
         ensures number { self.new.seat.now.number ≡ self.old.seat.now.number }
     {
-        let number = self.seat.number();
-        self.crew.gate.before(number, GateCall::Lease);
-        let leased = self.crew.desk.lease(self.crew.rt, self.seat, id);
-        self.crew.gate.after(number, GateCall::Lease);
+        let leased = gated!(
+            self,
+            GateCall::Lease,
+            self.crew.desk.lease(self.crew.rt, self.seat, id)
+        );
         match leased {
             Ok(leased) => Ok(Some(leased)),
             Err(BookFault::OutOfMemory) => Err(AllocError),
+            // Tickets aren't taken back: by now another worker may have leased the tile.
             Err(_) => Ok(None),
         }
     }
 
     /// Leases by a ticket of its own deque.
     fn lease_own(&mut self) -> Result<Option<Leased<'p>>, AllocError>
-        ensures worker { IfOk result (λ r. IfSome r (λ l. l.lease.worker ≡ self.old.seat.now.number)) }
-        ensures can_start { IfOk result (λ r. IfSome r (CanBeSearched L.whole)) }
+        ensures worker { IfLeased result (IsLeasedTo self.old.seat.now) }
+        ensures can_start { IfLeased result (CanBeSearched L.whole) }
         ensures number { self.new.seat.now.number ≡ self.old.seat.now.number }
     {
         let rt = self.crew.rt;
+        // Its own tickets first: nobody else is in the way there, but for a thief.
         'popping: for _ in rt.forever() {
             let Some(id) = self.lane.pop() else {
                 return Ok(None);
@@ -82,6 +95,7 @@ impl<'p, L: Desking, R: Wait, G: Gate> Station<'_, 'p, L, R, G> {
     fn steal(&mut self, from: u8) -> Option<u64>
         ensures { self.new.seat.now ≡ self.old.seat.now }
     {
+        // Desk and deques are made with equal numbers, which no contract here tells.
         if from == self.lane.number() || from >= self.lane.seats() {
             return None;
         }
@@ -90,12 +104,13 @@ impl<'p, L: Desking, R: Wait, G: Gate> Station<'_, 'p, L, R, G> {
 
     /// Leases by a ticket of another worker's deque: each is tried once, from the next number round.
     fn lease_stolen(&mut self) -> Result<Option<Leased<'p>>, AllocError>
-        ensures worker { IfOk result (λ r. IfSome r (λ l. l.lease.worker ≡ self.old.seat.now.number)) }
-        ensures can_start { IfOk result (λ r. IfSome r (CanBeSearched L.whole)) }
+        ensures worker { IfLeased result (IsLeasedTo self.old.seat.now) }
+        ensures can_start { IfLeased result (CanBeSearched L.whole) }
         ensures number { self.new.seat.now.number ≡ self.old.seat.now.number }
     {
         let number = self.seat.number();
         let seats = self.crew.desk.seats();
+        // Each worker begins at another deque, so that they don't all steal from one.
         'stealing: for from in (number + 1..seats).chain(0..number) {
             let Some(id) = self.steal(from) else {
                 continue;
@@ -110,22 +125,22 @@ impl<'p, L: Desking, R: Wait, G: Gate> Station<'_, 'p, L, R, G> {
 
     /// Leases the first tile that waits, and waits for one while some is leased.
     fn lease_waiting(&mut self) -> Result<Option<Leased<'p>>, AllocError>
-        ensures worker { IfOk result (λ r. IfSome r (λ l. l.lease.worker ≡ self.old.seat.now.number)) }
-        ensures can_start { IfOk result (λ r. IfSome r (CanBeSearched L.whole)) }
+        ensures worker { IfLeased result (IsLeasedTo self.old.seat.now) }
+        ensures can_start { IfLeased result (CanBeSearched L.whole) }
         ensures number { self.new.seat.now.number ≡ self.old.seat.now.number }
     {
-        let number = self.seat.number();
-        self.crew.gate.before(number, GateCall::Lease);
-        let leased = self.crew.desk.lease_next(self.crew.rt, self.seat);
-        self.crew.gate.after(number, GateCall::Lease);
-        leased
+        gated!(
+            self,
+            GateCall::Lease,
+            self.crew.desk.lease_next(self.crew.rt, self.seat)
+        )
     }
 
     /// Leases a tile: by a ticket of its own, by one that is stolen, or the next that waits; None where
     /// none waits and none is leased.
     pub fn next_tile(&mut self) -> Result<Option<Leased<'p>>, AllocError>
-        ensures worker { IfOk result (λ r. IfSome r (λ l. l.lease.worker ≡ self.old.seat.now.number)) }
-        ensures can_start { IfOk result (λ r. IfSome r (CanBeSearched L.whole)) }
+        ensures worker { IfLeased result (IsLeasedTo self.old.seat.now) }
+        ensures can_start { IfLeased result (CanBeSearched L.whole) }
         ensures number { self.new.seat.now.number ≡ self.old.seat.now.number }
     {
         if let Some(leased) = self.lease_own()? {
@@ -141,17 +156,14 @@ impl<'p, L: Desking, R: Wait, G: Gate> Station<'_, 'p, L, R, G> {
     pub fn split(&mut self, lease: &Lease, cut: Cut<'p>) -> Result<u64, Refused<BookFault, Cut<'p>>>
         requires worker { lease.now.worker ≡ self.old.seat.now.number }
         requires own { cut.problem ≡ L.whole }
-        ensures room { self.new.seat.now.kept ≡ self.old.seat.now.kept }
-        ensures number { self.new.seat.now.number ≡ self.old.seat.now.number }
+        ensures seat { KeepsSeat self.old.seat.now self.new.seat.now }
     {
-        let number = self.seat.number();
-        self.crew.gate.before(number, GateCall::Split);
-        let split = self
-            .crew
-            .desk
-            .split_own(self.crew.rt, self.seat, lease, cut);
-        self.crew.gate.after(number, GateCall::Split);
-        split
+        let desk = self.crew.desk;
+        gated!(
+            self,
+            GateCall::Split,
+            desk.split_compared(self.crew.rt, self.seat, lease, cut, true)
+        )
     }
 
     /// Posts a stretch.
@@ -162,23 +174,20 @@ impl<'p, L: Desking, R: Wait, G: Gate> Station<'_, 'p, L, R, G> {
     ) -> Result<Posted, Refused<BookFault, Stretch<'p>>>
         requires worker { lease.now.worker ≡ self.old.seat.now.number }
         requires own { stretch.problem ≡ L.whole }
-        ensures room { self.new.seat.now.kept ≡ self.old.seat.now.kept }
-        ensures number { self.new.seat.now.number ≡ self.old.seat.now.number }
+        ensures seat { KeepsSeat self.old.seat.now self.new.seat.now }
     {
-        let number = self.seat.number();
-        self.crew.gate.before(number, GateCall::Post);
-        let posted = self
-            .crew
-            .desk
-            .post_own(self.crew.rt, self.seat, lease, stretch);
-        self.crew.gate.after(number, GateCall::Post);
-        posted
+        let desk = self.crew.desk;
+        gated!(
+            self,
+            GateCall::Post,
+            desk.post_compared(self.crew.rt, self.seat, lease, stretch, true)
+        )
     }
 
     /// Closes a tile that is done, parks one at which the worker was asked to stop, and abandons any other.
     fn close_or_leave(&mut self, lease: Lease, next: Next) -> Result<(), Refused<BookFault, Lease>>
         requires { lease.worker ≡ self.old.seat.now.number }
-        ensures noted { AtSomeIndex (λ i. NotesDone i self.old.seat.now self.new.seat.now (ending_call next lease) result) }
+        ensures noted { NotesEnding self.old.seat.now self.new.seat.now next lease result }
         ensures given_back { IfErr result (λ r. r.given ≡ lease) }
         ensures room_stays { OnErr result (self.new.seat.now.kept ≡ self.old.seat.now.kept) }
         ensures number { self.new.seat.now.number ≡ self.old.seat.now.number }
@@ -186,6 +195,7 @@ impl<'p, L: Desking, R: Wait, G: Gate> Station<'_, 'p, L, R, G> {
         match next {
             Next::Done => self.crew.desk.close(self.crew.rt, self.seat, lease),
             Next::Stop => self.crew.desk.park(self.crew.rt, self.seat, lease),
+            // What isn't posted is lost, and found again by who leases the tile next.
             _ => self.crew.desk.abandon(self.crew.rt, self.seat, lease),
         }
     }
@@ -193,16 +203,12 @@ impl<'p, L: Desking, R: Wait, G: Gate> Station<'_, 'p, L, R, G> {
     /// Ends a lease by what the worker does next.
     pub fn end(&mut self, lease: Lease, next: Next) -> Result<(), Refused<BookFault, Lease>>
         requires { lease.worker ≡ self.old.seat.now.number }
-        ensures noted { AtSomeIndex (λ i. NotesDone i self.old.seat.now self.new.seat.now (ending_call next lease) result) }
+        ensures noted { NotesEnding self.old.seat.now self.new.seat.now next lease result }
         ensures given_back { IfErr result (λ r. r.given ≡ lease) }
         ensures room_stays { OnErr result (self.new.seat.now.kept ≡ self.old.seat.now.kept) }
         ensures number { self.new.seat.now.number ≡ self.old.seat.now.number }
     {
-        let number = self.seat.number();
-        self.crew.gate.before(number, GateCall::End);
-        let ended = self.close_or_leave(lease, next);
-        self.crew.gate.after(number, GateCall::End);
-        ended
+        gated!(self, GateCall::End, self.close_or_leave(lease, next))
     }
 
     /// Gives a tile up; where that is refused, the lease is let go.
@@ -215,6 +221,7 @@ impl<'p, L: Desking, R: Wait, G: Gate> Station<'_, 'p, L, R, G> {
         let Err(refused) = self.crew.desk.abandon(self.crew.rt, self.seat, lease) else {
             return;
         };
+        // Refused even so, its tile stays leased, and the pool answers a mismatch.
         refused.given.discard();
     }
 }

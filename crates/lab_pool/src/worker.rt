@@ -1,10 +1,8 @@
 //! A worker: it leases tiles and searches them until there is none.
-ghost use Rattle.std.specs.Prelude.{◌≡◌, ◌⊎◌, None, IfSome};
-ghost use Rattle.lab_book.specs.declared.entry.Call.TheVariants as calls;
-ghost use Rattle.lab_book.specs.declared.entry.Reply.TheVariants as replies;
+ghost use Rattle.std.specs.Prelude.{◌≡◌, None, IfSome};
 ghost use Rattle.lab_book.specs.Calls.{CanBeSearched};
-ghost use Rattle.lab_desk.specs.Seats.{IsDeskBook};
-ghost use Rattle.lab_pool.specs.Worker.{EndsIn, Abandons, LacksRoom};
+ghost use Rattle.lab_desk.specs.Seats.{IsDeskBook, LacksRoom};
+ghost use Rattle.lab_pool.specs.Worker.{HasLeft, Abandons};
 
 use crate::gate::Gate;
 use crate::search::{Next, Search, first_runner};
@@ -25,8 +23,7 @@ fn search_tile<'p, T: Table, L: Desking, R: Wait, G: Gate>(
     requires worker { leased.lease.worker ≡ station.old.seat.now.number }
     requires own { runner.problem ≡ L.whole }
     requires can { CanBeSearched L.whole leased }
-    ensures ended { IfSome result (λ _. EndsIn station.new.seat.now (calls.Close leased.entry.lease) replies.Done
-        ⊎ EndsIn station.new.seat.now (calls.Park leased.entry.lease) replies.Done) }
+    ensures ended { IfSome result (λ _. HasLeft station.new.seat.now leased.entry.lease) }
     ensures given_up { result ≡ None → Abandons station.new.seat.now leased.entry.lease
         (IsDeskBook L.whole L.part L.begin L.opening (LacksRoom station.old.seat.now leased.entry.lease)) }
     ensures number { station.new.seat.now.number ≡ station.old.seat.now.number }
@@ -36,6 +33,7 @@ fn search_tile<'p, T: Table, L: Desking, R: Wait, G: Gate>(
     let (runner, next) = search.run(station);
     match next {
         Next::Done => Some(runner),
+        // Only its tile was to stop: the worker itself goes on with others.
         Next::Stop => Some(runner),
         Next::OutOfMemory => {
             station.lacks_memory();
@@ -55,6 +53,7 @@ pub(crate) fn work<T: Table, L: Desking, R: Wait, G: Gate>(
 ) {
     let rt = crew.rt;
     let mut station = Station { crew, seat, lane };
+    // One table for all of its tiles: the runner is moved from one to the next.
     let Some(first) = first_runner::<T>(crew.alloc, crew.desk.problem()) else {
         station.lacks_memory();
         return;

@@ -1,5 +1,5 @@
 use Rattle.std.proofs.Common.{◌∙◌, ap, length, sym}
-use Rattle.lab_book.specs.declared.entry.Entry.{Entry}
+use Rattle.lab_history.specs.declared.entry.Entry.{Entry}
 use Rattle.lab_pool.proofs.DoneLemmas.{ok_searched, held_searched, some_was_held}
 use Rattle.lab_pool.proofs.pool.run_at.Goals as goal
 

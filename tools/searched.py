@@ -7,11 +7,14 @@ from cells import DIGITS
 from colours import DISTANCES, PALETTE
 from frame import stop
 
-# After these commands the search may stand elsewhere, and tools/session shows where.
-MOVES = ("step", "run", "back", "open", "split", "retract", "load")
-
 # So many steps of a search are walked here to draw its tree, with so many looks at an item and an option; what lies beyond is told as replied.
 WALKED, LOOKS = 5000, 50000000
+
+
+def moves(command, replies):
+    """Whether the search may stand elsewhere after a command, or in another branch: its replies tell where, or that a branch was parted."""
+    word = command.partition(" ")[0]
+    return word == "split" or (word != "show" and any(reply.startswith("at ") for reply in replies))
 
 
 def named(option, options):
@@ -185,7 +188,7 @@ def rows_of(lines):
         words = line.split()
         if line.startswith("> "):
             last = rows[-1] if rows else None
-            if words[1:] == ["show"] and last and last.command.partition(" ")[0] in MOVES and not last.joins:
+            if words[1:] == ["show"] and last and not last.joins and moves(last.command, last.replies):
                 last.joins = True
             else:
                 rows.append(Row(line[2:]))

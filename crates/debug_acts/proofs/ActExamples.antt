@@ -1,4 +1,4 @@
--- The examples of specs/Desk.antt, Work.antt, Acts.antt, Asking.antt, Giving.antt and Walking.antt, computed on the small problem: worker 0 has
+-- The examples of specs/Workplace.antt, Work.antt, Acts.antt, Answer.antt, Ends.antt and Walk.antt, computed on the small problem: worker 0 has
 -- the tile of the whole run, at its start.
 use Rattle.std.proofs.Common.{◌≡◌, Some, None, [], ◌∷◌, ◌++◌, codes, refl}
 use Rattle.std.specs.Fmt.{digits}
@@ -9,18 +9,18 @@ use Rattle.x_steps.specs.Run.{steps_between}
 use Rattle.x_steps.proofs.RunLemmas.{start_fits}
 use Rattle.x_steps.proofs.BetweenLemmas.{steps_between_self}
 use Rattle.x_branches.specs.Runner.{runner_at}
-use Rattle.lab_book.specs.declared.entry.Call.TheVariants as call
+use Rattle.lab_history.specs.declared.entry.Call.TheVariants as call
 use Rattle.lab_book.specs.Book.{BookValue, new_book, outcome, book_step}
 use Rattle.lab_world.specs.declared.event.Act.TheVariants.{Retract, Park, RequestStop}
 use Rattle.lab_world.specs.Worker.{lent_worker}
-use Rattle.lab_world.specs.World.{turn}
-use Rattle.debug_acts.specs.declared.asking.Told.TheVariants as told
-use Rattle.debug_acts.specs.Desk.{desk}
+use Rattle.lab_world.specs.World.{turn_of}
+use Rattle.debug_acts.specs.declared.answer.Told.TheVariants as told
+use Rattle.debug_acts.specs.Workplace.{workplace}
 use Rattle.debug_acts.specs.Work.{AtWork, work}
-use Rattle.debug_acts.specs.Walking.{back_lines}
+use Rattle.debug_acts.specs.Walk.{back_lines}
 use Rattle.debug_acts.specs.Acts.{end_acts}
-use Rattle.debug_acts.specs.Asking.{told_lines}
-use Rattle.debug_acts.specs.Giving.{close_line}
+use Rattle.debug_acts.specs.Answer.{told_lines}
+use Rattle.debug_acts.specs.Ends.{close_line}
 
 -- the book of the whole run
 abbrev whole : BookValue
@@ -40,9 +40,9 @@ at_start = work leased (record {
 nothing_unposted : steps_between small start start ≡ 0
 nothing_unposted = steps_between_self small start (start_fits small)
 
--- ---- specs/Desk.antt and specs/Work.antt
+-- ---- specs/Workplace.antt and specs/Work.antt
 
-its_worker : desk leased (lent_worker small (outcome whole 0 call.LeaseAny).reply) ≡ desk leased (Some at_start.worker)
+its_worker : workplace leased (lent_worker small (outcome whole 0 call.LeaseAny).reply) ≡ workplace leased (Some at_start.worker)
 unfolding outcome
 its_worker = refl
 
@@ -52,23 +52,23 @@ parks : end_acts (Some at_start.worker) Park ≡ Park ∷ []
 unfolding outcome
 parks = rw nothing_unposted refl
 
--- ---- specs/Asking.antt
+-- ---- specs/Answer.antt
 
 none_posted : text_of (told_lines leased (Some at_start.worker) Retract told.Retracted) ≡ codes "refused book 9 NothingToRetract" ++ 10 ∷ []
-unfolding turn outcome digits
+unfolding turn_of outcome digits
 none_posted = rw nothing_unposted refl
 
 is_held : text_of (told_lines whole None (RequestStop 0) (told.Tile 0)) ≡ codes "branch start to end held" ++ 10 ∷ []
-unfolding turn outcome
+unfolding turn_of outcome
 is_held = refl
 
--- ---- specs/Giving.antt
+-- ---- specs/Ends.antt
 
 not_closed : line_text (close_line None) ≡ codes "refused book 8 NotAtEnd" ++ 10 ∷ []
 unfolding digits
 not_closed = refl
 
--- ---- specs/Walking.antt
+-- ---- specs/Walk.antt
 
 at_mark : text_of (back_lines at_start.worker.runner 1) ≡ codes "refused debug 3 AtStart" ++ 10 ∷ []
 unfolding outcome digits

@@ -17,7 +17,7 @@ use Rattle.x_texts.specs.declared.breakpoint.Break.{Break}
 use Rattle.x_texts.specs.Breaks.{is_break}
 use Rattle.debug_views.specs.Breakpoints.{meets, first_met}
 use Rattle.debug_views.specs.Lines.{plain, debug_refusal}
-use Rattle.debug_acts.specs.Walking.{forward, IsPartWay, steps_ahead, state_on, visit_lines, moved_lines, walk_lines, step_count, end_lines, step_lines, run_count, run_lines, stop_line}
+use Rattle.debug_acts.specs.Walk.{forward, IsPartWay, steps_ahead, state_on, visit_lines, moved_lines, walk_lines, step_count, end_lines, step_lines, run_count, run_lines, stop_line}
 use Rattle.debug_acts.specs.Work.{AtWork, work}
 use Rattle.debug_views.proofs.LineLemmas.{one_line, more_lines}
 use Rattle.debug_acts.proofs.WalkLemmas.{on_problem, on_branch, on_position}

@@ -9,7 +9,7 @@ use Rattle.x_steps.proofs.BetweenLemmas.{steps_between_self}
 use Rattle.x_branches.specs.Runner.{RunnerValue, IsRunner, unposted_steps}
 use Rattle.lab_book.specs.Book.{BookValue}
 use Rattle.lab_world.specs.Worker.{WorkerValue, HoldsTile, moved_to}
-use Rattle.debug_acts.specs.Walking.{state_back, back_count, IsPartBack}
+use Rattle.debug_acts.specs.Walk.{state_back, back_count, IsPartBack}
 use Rattle.debug_acts.proofs.WalkedLemmas.{least_second}
 
 module _ (r : RunnerValue) (k : IsRunner r) where

@@ -11,11 +11,11 @@ use Rattle.x_branches.specs.Cut.{IsCut}
 use Rattle.x_branches.specs.Stretch.{StretchValue, IsStretch}
 use Rattle.lab_book.specs.declared.status.Status.{Status}
 use Rattle.lab_book.specs.declared.status.Status.TheVariants as status
-use Rattle.lab_book.specs.declared.lease.Grant.{Grant}
-use Rattle.lab_book.specs.declared.fault.BookFault.{BookFault}
-use Rattle.lab_book.specs.declared.fault.BookFault.TheVariants.{NotAtEnd, NotWaiting, NotAMark, StaleLease, ForeignProblem, BeyondEnd}
-use Rattle.lab_book.specs.declared.entry.Call.{Call}
-use Rattle.lab_book.specs.declared.entry.Call.TheVariants as call
+use Rattle.lab_history.specs.declared.grant.Grant.{Grant}
+use Rattle.lab_history.specs.declared.fault.BookFault.{BookFault}
+use Rattle.lab_history.specs.declared.fault.BookFault.TheVariants.{NotAtEnd, NotWaiting, NotAMark, StaleLease, ForeignProblem, BeyondEnd}
+use Rattle.lab_history.specs.declared.entry.Call.{Call}
+use Rattle.lab_history.specs.declared.entry.Call.TheVariants as call
 use Rattle.lab_book.specs.States.{same_state}
 use Rattle.lab_book.specs.Tile.{TileValue, IsTile, Stands, is_waiting, is_held, is_leased, is_closed, is_free, is_lease, freed_status}
 use Rattle.lab_book.specs.Tile.{asked_status, mark_of, tile_end}

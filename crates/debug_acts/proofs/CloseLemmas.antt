@@ -18,7 +18,7 @@ use Rattle.lab_book.specs.Tiling.{IsTiling}
 use Rattle.lab_book.specs.Book.{BookValue}
 use Rattle.lab_world.specs.Worker.{WorkerValue, HoldsTile}
 use Rattle.lab_world.proofs.OwnLemmas.{own, own_is_tile}
-use Rattle.debug_acts.specs.Walking.{steps_ahead}
+use Rattle.debug_acts.specs.Walk.{steps_ahead}
 
 -- ---- where a worker stands in its tile
 

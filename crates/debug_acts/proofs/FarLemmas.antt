@@ -12,7 +12,7 @@ use Rattle.x_branches.specs.Walk.{CanAdvanceBy}
 use Rattle.lab_book.specs.Book.{BookValue}
 use Rattle.lab_world.specs.Worker.{WorkerValue, moved_to, marked_at}
 use Rattle.x_texts.specs.Words.{visit_words}
-use Rattle.debug_acts.specs.Walking.{with_room, stepped, forward, IsPartWay, steps_ahead, step_count, state_on, visit_lines}
+use Rattle.debug_acts.specs.Walk.{with_room, step_forward, forward, IsPartWay, steps_ahead, step_count, state_on, visit_lines}
 use Rattle.debug_acts.specs.Work.{AtWork, work}
 use Rattle.debug_acts.proofs.WalkLemmas.{room_worker, step_made, step_within}
 use Rattle.debug_acts.proofs.ForwardLemmas.{CanWalk, to_end, on_goes_on}
@@ -62,7 +62,7 @@ module _ (a : AtWork) (b : BookValue) (w v : WorkerValue) (n most : ℕ) (event 
   each_made zero l = step_made a b w (moved_to w (next w.runner.problem w.runner.position)) f.room refl
   each_made (suc m) l =
       sym (step_within (work b (moved_to w (after w.runner.problem (suc m) w.runner.position))) (f.each_step (suc m) (omega arith)).has_room)
-      ∙ ap stepped (each_made m (omega arith))
+      ∙ ap step_forward (each_made m (omega arith))
 
   pub far_made : work b v ≡ forward n a
   far_made = ap (work b) f.made ∙ by n f.some (λ m l. each_made m l)

@@ -21,7 +21,7 @@ use Rattle.lab_book.specs.Book.{BookValue}
 use Rattle.lab_book.proofs.TilingLemmas.{tile_in}
 use Rattle.lab_world.specs.Worker.{WorkerValue, HoldsTile}
 use Rattle.x_texts.specs.Words.{visit_words}
-use Rattle.debug_acts.specs.Walking.{steps_ahead, state_on, visit_lines}
+use Rattle.debug_acts.specs.Walk.{steps_ahead, state_on, visit_lines}
 use Rattle.debug_views.proofs.LineLemmas.{more_lines}
 
 -- a runner that can go on: its position and its branch's end are states of the run, and it doesn't stand after its end

@@ -9,8 +9,8 @@ use Rattle.x_steps.proofs.BetweenLemmas.{steps_between_self}
 use Rattle.x_branches.specs.Branch.{end_of}
 use Rattle.x_branches.specs.Refusals.{most_steps}
 use Rattle.x_branches.specs.Runner.{IsRunner, unposted_steps}
-use Rattle.lab_book.specs.declared.entry.Call.{Call}
-use Rattle.lab_book.specs.declared.entry.Call.TheVariants as call
+use Rattle.lab_history.specs.declared.entry.Call.{Call}
+use Rattle.lab_history.specs.declared.entry.Call.TheVariants as call
 use Rattle.lab_book.specs.States.{same_state}
 use Rattle.lab_book.specs.Book.{BookValue, Outcome, outcome, book_step}
 use Rattle.lab_book.specs.Calls.{post_of}
@@ -18,10 +18,10 @@ use Rattle.lab_book.proofs.TileLemmas.{same_state_is}
 use Rattle.lab_world.specs.declared.event.Act.{Act}
 use Rattle.lab_world.specs.declared.event.Act.TheVariants.{Step, Back, Post}
 use Rattle.lab_world.specs.Worker.{WorkerValue, unposted, moved_to, after_post}
-use Rattle.lab_world.specs.World.{WorldValue, turn, worker_at, played}
+use Rattle.lab_world.specs.World.{WorldValue, turn_of, worker_at, played}
 use Rattle.lab_world.specs.Alone.{alone, own_events, Leads}
 use Rattle.lab_world.proofs.AloneLemmas.{one_act, then_acts}
-use Rattle.debug_acts.specs.Walking.{steps_ahead, state_on, post_call, posted, with_room, stepped, forward, IsPartWay, state_back, IsPartBack, IsKept}
+use Rattle.debug_acts.specs.Walk.{steps_ahead, state_on, post_call, work_posted, with_room, step_forward, forward, IsPartWay, state_back, IsPartBack, KeepsLease}
 use Rattle.debug_acts.specs.Acts.{step_acts, walk_acts, LeadsPart}
 use Rattle.debug_acts.specs.Work.{AtWork, work}
 use Rattle.debug_acts.proofs.PostLemmas.{granted}
@@ -47,10 +47,10 @@ module _ (u : AtWork) (s : IsWork u) where
   same_call : post_of u.book.problem x.grant (unposted x) ≡ post_call x
   same_call = ap (call.Post x.grant x.runner.mark x.runner.position) ((is_same_decides x.runner.problem u.book.problem).1 s.holds.problem)
 
-  pub post_leads : LeadsTo u (Post ∷ []) (posted u)
-  unfolding posted turn
+  pub post_leads : LeadsTo u (Post ∷ []) (work_posted u)
+  unfolding work_posted turn_of
   post_leads =
-      one_act u.book (posted u).book (Some x) (Some (posted u).worker) Post (ap (book_step u.book x.grant.worker) same_call)
+      one_act u.book (work_posted u).book (Some x) (Some (work_posted u).worker) Post (ap (book_step u.book x.grant.worker) same_call)
       (ap (λ (c : Call). after_post x (outcome u.book x.grant.worker c).reply) same_call
       ∙ ap (λ (o : Outcome). after_post x o.reply) (granted u.book x s.tiling s.holds s.runner))
 
@@ -71,7 +71,7 @@ module _ (u : AtWork) (s : IsWork u) where
   -- where there is room for it
   pub step_leads : 0 < steps_ahead x.runner → (unposted_steps x.runner == most_steps) ≡ false
       → LeadsTo u (Step ∷ []) (work u.book (moved_to x (next x.runner.problem x.runner.position)))
-  unfolding turn
+  unfolding turn_of
   step_leads some room =
       let ahead = not_ended some in
       let moved = moved_to x (next x.runner.problem x.runner.position) in
@@ -87,23 +87,23 @@ step_way u s = by (unposted_steps u.worker.runner == most_steps) refl
   where
     by : (b : Bool) → (unposted_steps u.worker.runner == most_steps) ≡ b → StepWay u
     by false e = Alone (rw e refl) (rw e refl)
-    by true e = After (rw e refl) (subst (λ (b : Bool). LeadsTo u (Post ∷ []) (cond b (posted u) u)) (sym e) (post_leads u s))
+    by true e = After (rw e refl) (subst (λ (b : Bool). LeadsTo u (Post ∷ []) (cond b (work_posted u) u)) (sym e) (post_leads u s))
 
-pub stepped_leads : (u : AtWork) → IsWork u → 0 < steps_ahead u.worker.runner → LeadsTo u (step_acts (Some u.worker)) (stepped u)
-unfolding stepped posted
+pub stepped_leads : (u : AtWork) → IsWork u → 0 < steps_ahead u.worker.runner → LeadsTo u (step_acts (Some u.worker)) (step_forward u)
+unfolding step_forward work_posted
 stepped_leads u s some = by (unposted_steps u.worker.runner == most_steps) refl
   where
     by : (b : Bool) → (unposted_steps u.worker.runner == most_steps) ≡ b
         → LeadsTo u (cond b (Post ∷ Step ∷ []) (Step ∷ []))
-        (work (cond b (posted u) u).book
-        (moved_to (cond b (posted u) u).worker (next u.worker.runner.problem u.worker.runner.position)))
+        (work (cond b (work_posted u) u).book
+        (moved_to (cond b (work_posted u) u).worker (next u.worker.runner.problem u.worker.runner.position)))
     by false e = step_leads u s some e
     by true e =
-        let sound = subst (λ (b : Bool). IsWork (cond b (posted u) u)) e (room_work u s) in
+        let sound = subst (λ (b : Bool). IsWork (cond b (work_posted u) u)) e (room_work u s) in
         let none = steps_between_self u.worker.runner.problem u.worker.runner.position (here_fits u s) in
-        then_acts u.book (posted u).book (posted u).book (Some u.worker) (Some (posted u).worker)
-        (Some (moved_to (posted u).worker (next u.worker.runner.problem u.worker.runner.position))) (Post ∷ []) (Step ∷ [])
-        (post_leads u s) (step_leads (posted u) sound some (ap (λ (n : ℕ). n == most_steps) none))
+        then_acts u.book (work_posted u).book (work_posted u).book (Some u.worker) (Some (work_posted u).worker)
+        (Some (moved_to (work_posted u).worker (next u.worker.runner.problem u.worker.runner.position))) (Post ∷ []) (Step ∷ [])
+        (post_leads u s) (step_leads (work_posted u) sound some (ap (λ (n : ℕ). n == most_steps) none))
 
 -- ---- many steps
 
@@ -218,7 +218,7 @@ module _ (b : BookValue) (x : WorkerValue) (k : IsRunner x.runner) where
           absurd (omega arith)
 
   one_back : (n : ℕ) → n < unposted_steps x.runner → Leads b (Some (stood n)) (Back ∷ []) b (Some (stood (suc n)))
-  unfolding turn
+  unfolding turn_of
   one_back n l =
       let past = not_mark n l in
       let next = back_next x.runner k n l in
@@ -251,36 +251,36 @@ module _ (b : BookValue) (x : WorkerValue) (k : IsRunner x.runner) where
 -- ---- what stays
 
 -- where room is made the lease and the problem stay
-room_kept : (u : AtWork) → IsKept u.book u.worker (with_room u).book (with_room u).worker
-unfolding posted
+room_kept : (u : AtWork) → KeepsLease u.book u.worker (with_room u).book (with_room u).worker
+unfolding work_posted
 room_kept u = by (unposted_steps u.worker.runner == most_steps)
   where
-    by : (v : Bool) → IsKept u.book u.worker (cond v (posted u) u).book (cond v (posted u) u).worker
+    by : (v : Bool) → KeepsLease u.book u.worker (cond v (work_posted u) u).book (cond v (work_posted u) u).worker
     by true = (refl, refl)
     by false = (refl, refl)
 
-kept_on : (u v w : AtWork) → IsKept u.book u.worker v.book v.worker → IsKept v.book v.worker w.book w.worker
-    → IsKept u.book u.worker w.book w.worker
+kept_on : (u v w : AtWork) → KeepsLease u.book u.worker v.book v.worker → KeepsLease v.book v.worker w.book w.worker
+    → KeepsLease u.book u.worker w.book w.worker
 kept_on u v w p q = (q.0 ∙ p.0, q.1 ∙ p.1)
 
 -- and over many steps
-forward_kept : (n : ℕ) (u : AtWork) → IsKept u.book u.worker (forward n u).book (forward n u).worker
-unfolding stepped
+forward_kept : (n : ℕ) (u : AtWork) → KeepsLease u.book u.worker (forward n u).book (forward n u).worker
+unfolding step_forward
 forward_kept zero u = (refl, refl)
 forward_kept (suc n) u =
     let room = room_kept (forward n u) in
     let h = forward_kept n u in
     (room.0 ∙ h.0, room.1 ∙ h.1)
 
-same_kept : (u v w : AtWork) → w ≡ v → IsKept u.book u.worker v.book v.worker → IsKept u.book u.worker w.book w.worker
-same_kept u v w e k = subst (λ (x : AtWork). IsKept u.book u.worker x.book x.worker) (sym e) k
+same_kept : (u v w : AtWork) → w ≡ v → KeepsLease u.book u.worker v.book v.worker → KeepsLease u.book u.worker w.book w.worker
+same_kept u v w e k = subst (λ (x : AtWork). KeepsLease u.book u.worker x.book x.worker) (sym e) k
 
 pub walk_kept : {X E : Type 0} (r : Result X E) (u v : AtWork) (n : ℕ) → OnOk r (v ≡ forward n u) → OnErr r (IsPartWay u v n)
-    → IsKept u.book u.worker v.book v.worker
+    → KeepsLease u.book u.worker v.book v.worker
 walk_kept (Ok z) u v n e p = same_kept u (forward n u) v e (forward_kept n u)
 walk_kept (Err z) u v n e p = by p.left
   where
-    by : (v ≡ forward p.steps u) ⊎ ((p.steps < n) × (v ≡ with_room (forward p.steps u))) → IsKept u.book u.worker v.book v.worker
+    by : (v ≡ forward p.steps u) ⊎ ((p.steps < n) × (v ≡ with_room (forward p.steps u))) → KeepsLease u.book u.worker v.book v.worker
     by (inl h) = same_kept u (forward p.steps u) v h (forward_kept p.steps u)
     by (inr h) =
         same_kept u (with_room (forward p.steps u)) v h.1

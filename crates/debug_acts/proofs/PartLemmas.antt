@@ -9,17 +9,17 @@ use Rattle.lab_book.specs.Book.{BookValue}
 use Rattle.lab_world.specs.declared.event.Act.{Act}
 use Rattle.lab_world.specs.declared.event.WorldReply.{WorldReply}
 use Rattle.lab_world.specs.Worker.{WorkerValue}
-use Rattle.lab_world.specs.World.{Turned, turn}
+use Rattle.lab_world.specs.World.{Turned, turn_of}
 use Rattle.debug_views.specs.Tiles.{tile_line}
-use Rattle.debug_acts.specs.Asking.{refusals, is_done, lines_or, tile_lines, done_lines, told_lines}
-use Rattle.debug_acts.specs.declared.asking.Told.{Told}
+use Rattle.debug_acts.specs.Answer.{refusals, is_done, lines_or, tile_lines, done_lines, told_lines}
+use Rattle.debug_acts.specs.declared.answer.Told.{Told}
 
 -- what an act that took its turn is answered
-module _ (b c : BookValue) (x y : Option WorkerValue) (a : Act) (v : WorldReply) (t : Turned (turn b x 0 a) v c y) (what : Told) where
-  same_refusals : refusals c v ≡ refusals (turn b x 0 a).book (turn b x 0 a).reply
+module _ (b c : BookValue) (x y : Option WorkerValue) (a : Act) (v : WorldReply) (t : Turned (turn_of b x 0 a) v c y) (what : Told) where
+  same_refusals : refusals c v ≡ refusals (turn_of b x 0 a).book (turn_of b x 0 a).reply
   same_refusals = λ j. refusals (t.book j) (t.reply j)
 
-  same_done : done_lines what c y ≡ done_lines what (turn b x 0 a).book (turn b x 0 a).worker
+  same_done : done_lines what c y ≡ done_lines what (turn_of b x 0 a).book (turn_of b x 0 a).worker
   same_done = λ j. done_lines what (t.book j) (t.worker j)
 
   told_is : told_lines b x a what ≡ lines_or (refusals c v) (done_lines what c y)

@@ -8,9 +8,9 @@ use Rattle.x_branches.specs.Branch.{end_of}
 use Rattle.x_branches.specs.RunOrder.{ComesBefore, comes_before}
 use Rattle.x_branches.specs.Runner.{IsRunner}
 use Rattle.x_branches.proofs.CutLemmas.{test_is_order}
-use Rattle.lab_book.specs.declared.fault.BookFault.{BookFault}
-use Rattle.lab_book.specs.declared.entry.Call.TheVariants as call
-use Rattle.lab_book.specs.declared.entry.Reply.TheVariants as reply
+use Rattle.lab_history.specs.declared.fault.BookFault.{BookFault}
+use Rattle.lab_history.specs.declared.entry.Call.TheVariants as call
+use Rattle.lab_history.specs.declared.entry.Reply.TheVariants as reply
 use Rattle.lab_book.specs.declared.lease.Posted.{Posted}
 use Rattle.lab_book.specs.Tile.{TileValue, mark_of, tile_end, IsTile}
 use Rattle.lab_book.specs.Tiling.{IsTiling, tile_at}
@@ -20,8 +20,8 @@ use Rattle.lab_book.proofs.TileLemmas.{is_same_state}
 use Rattle.lab_book.proofs.TilingLemmas.{tile_in}
 use Rattle.lab_world.specs.Worker.{WorkerValue, HoldsTile, unposted, marked_at}
 use Rattle.lab_world.proofs.OwnLemmas.{found_own}
-use Rattle.debug_acts.specs.Walking as walking
-use Rattle.debug_acts.specs.Walking.{post_call}
+use Rattle.debug_acts.specs.Walk as walking
+use Rattle.debug_acts.specs.Walk.{post_call}
 use Rattle.debug_acts.specs.Work.{work}
 
 module _ (b : BookValue) (x : WorkerValue) (tiling : IsTiling b.problem b.branch b.first b.tiles) (h : HoldsTile b x) (k : IsRunner x.runner) where
@@ -66,8 +66,8 @@ module _ (b : BookValue) (x : WorkerValue) (tiling : IsTiling b.problem b.branch
   call_is = ap (λ v. call.Post x.grant x.runner.mark x.runner.position v) same
 
   pub post_made : (new : BookValue) (y : WorkerValue) (r : Posted) → Posts b new x.grant (unposted x) r → y ≡ marked_at x x.runner.position
-      → work new y ≡ walking.posted (work b x)
-  unfolding walking.posted
+      → work new y ≡ walking.work_posted (work b x)
+  unfolding walking.work_posted
   post_made new y r m e = rw (m.book, call_is, e) refl
 
   pub post_kept : (new : BookValue) (f : BookFault) → PostRefused b new x.grant (unposted x) f → new ≡ b

@@ -26,7 +26,7 @@ use Rattle.lab_world.specs.Worker.{HoldsTile, moved_to}
 use Rattle.debug_views.specs.Breakpoints.{first_met, meets_one, steps_to_break}
 use Rattle.debug_acts.proofs.WalkedLemmas.{Walked, none_walked, walked_on, part_way, part_there, ended, not_ended, left, position, same_problem}
 use Rattle.debug_acts.proofs.ForwardLemmas.{CanWalk, on_goes_on}
-use Rattle.debug_acts.specs.Walking.{IsPartWay, posted, with_room, stepped, forward, steps_ahead, state_on, visit_lines, run_count}
+use Rattle.debug_acts.specs.Walk.{IsPartWay, work_posted, with_room, step_forward, forward, steps_ahead, state_on, visit_lines, run_count}
 use Rattle.debug_acts.specs.Work.{AtWork, work}
 use Rattle.debug_acts.proofs.WalkLemmas.{on_position}
 
@@ -146,16 +146,16 @@ module _ (a : AtWork) (k : IsStretch a.worker.runner.problem a.worker.runner.mar
       steps_between_next a.worker.runner.problem a.worker.runner.mark a.worker.runner.position k.fits here_fits
       (reached_rank a.worker.runner.problem a.worker.runner.mark a.worker.runner.position _ k.fits k.reaches) goes_on
 
-  posted_entries : length (posted a).book.history ≡ length a.book.history + 1
-  unfolding posted
+  posted_entries : length (work_posted a).book.history ≡ length a.book.history + 1
+  unfolding work_posted
   posted_entries = length-append a.book.history _
 
   -- one step more is spent
   abbrev OneMore : AtWork → Type 0
   OneMore v = (spent v ≡ suc (spent a)) × (unposted_steps v.worker.runner ≤ most_steps)
 
-  full : unposted_steps a.worker.runner ≡ most_steps → OneMore (forth (posted a))
-  unfolding posted
+  full : unposted_steps a.worker.runner ≡ most_steps → OneMore (forth (work_posted a))
+  unfolding work_posted
   full e =
       let h = posted_entries in
       let f = first_step in
@@ -170,21 +170,21 @@ module _ (a : AtWork) (k : IsStretch a.worker.runner.problem a.worker.runner.mar
       less (inl l) = let f = next_step in omega arith
       less (inr l) = absurd (e (omega arith))
 
-  pub one_spent : OneMore (stepped a)
-  unfolding stepped
+  pub one_spent : OneMore (step_forward a)
+  unfolding step_forward
   one_spent = by (eqb_tells (unposted_steps a.worker.runner) most_steps)
     where
       by : (((unposted_steps a.worker.runner == most_steps) ≡ true) × (unposted_steps a.worker.runner ≡ most_steps)) ⊎ (((unposted_steps a.worker.runner == most_steps) ≡ false) × (unposted_steps a.worker.runner ≡ most_steps → ⊥))
           → OneMore (forth (with_room a))
-      by (inl t) = let e : with_room a ≡ posted a = rw t.0 refl in subst (λ v. OneMore (forth v)) (sym e) (full t.1)
+      by (inl t) = let e : with_room a ≡ work_posted a = rw t.0 refl in subst (λ v. OneMore (forth v)) (sym e) (full t.1)
       by (inr t) = let e : with_room a ≡ a = rw t.0 refl in subst (λ v. OneMore (forth v)) (sym e) (not_full t.1)
 
   -- the part from the mark to the position is a stretch again
   abbrev IsOn : AtWork → Type 0
   IsOn v = IsStretch v.worker.runner.problem v.worker.runner.mark v.worker.runner.position
 
-  full_on : IsOn (forth (posted a))
-  unfolding posted
+  full_on : IsOn (forth (work_posted a))
+  unfolding work_posted
   full_on = record {
     fits = here_fits;
     reaches = subst (ReachesIn a.worker.runner.problem a.worker.runner.position (next a.worker.runner.problem a.worker.runner.position)) (sym first_step)
@@ -198,11 +198,11 @@ module _ (a : AtWork) (k : IsStretch a.worker.runner.problem a.worker.runner.mar
         (leads_push a.worker.runner.problem a.worker.runner.mark a.worker.runner.position (unposted_steps a.worker.runner) k.reaches goes_on);
   }
 
-  pub stretch_on : IsOn (stepped a)
-  unfolding stepped
+  pub stretch_on : IsOn (step_forward a)
+  unfolding step_forward
   stretch_on = by (unposted_steps a.worker.runner == most_steps)
     where
-      by : (v : Bool) → IsOn (forth (cond v (posted a) a))
+      by : (v : Bool) → IsOn (forth (cond v (work_posted a) a))
       by true = full_on
       by false = not_full_on
 
@@ -288,7 +288,7 @@ none_is (Some b) e = cc
 pub record Steps (b c : AtWork) (new more : List ℕ) : Type 0 where
   pub goes : b.worker.runner.position ≡ end_of b.worker.runner.branch.hi → ⊥
   pub runner : IsRunner b.worker.runner
-  pub made : c ≡ stepped b
+  pub made : c ≡ step_forward b
   pub text : more ≡ new ++ text_of (map visit_words (visit_of b.worker.runner.problem b.worker.runner.position))
   pub holds : HoldsTile c.book c.worker
 

@@ -10,18 +10,18 @@ use Rattle.x_texts.specs.declared.breakpoint.Break.{Break}
 use Rattle.x_snapshot.specs.declared.fault.SnapshotFault.{SnapshotFault}
 use Rattle.x_snapshot.specs.declared.fault.SnapshotFault.TheVariants.{NotOnRun, OutsideBranch, BadBreak, OutOfMemory}
 use Rattle.x_texts.specs.Breaks.{are_breaks}
-use Rattle.x_snapshot.specs.Snapshot.{snapshot_with, branch_between, IsCutIfAny, IsOnRun, IsInside}
+use Rattle.x_snapshot.specs.Snapshot.{snapshot_with, branch_between, IsCutIfAny, IsOnRun, IsOnBranch}
 use Rattle.x_snapshot.specs.Refusals.{IsRefused}
-use Rattle.lab_book.specs.Book.{path_of}
+use Rattle.lab_book.specs.Book.{cut_path}
 use Rattle.lab_world.proofs.OwnLemmas.{cut_back}
 
-module _ (r : RunnerValue) (k : IsRunner r) (lo hi : Option (List ℕ)) (low : lo ≡ path_of r.branch.lo) (high : hi ≡ path_of r.branch.hi) where
+module _ (r : RunnerValue) (k : IsRunner r) (lo hi : Option (List ℕ)) (low : lo ≡ cut_path r.branch.lo) (high : hi ≡ cut_path r.branch.hi) where
   branch_is : branch_between r.problem lo hi ≡ r.branch
   branch_is =
       ap₂ (branch_between r.problem) low high
       ∙ ap₂ (λ (a b : Option CutPath). record { lo = a; hi = b }) (cut_back r.problem r.branch.lo k.branch.low) (cut_back r.problem r.branch.hi k.branch.high)
 
-  inside : IsInside r.problem lo hi r.position
+  inside : IsOnBranch r.problem lo hi r.position
   inside = record {
     branch = subst (IsBranch r.problem) (sym branch_is) k.branch;
     within = subst (λ (b : Branch). IsWithin r.problem b r.position) (sym branch_is) k.position_in;
@@ -45,10 +45,10 @@ module _ (r : RunnerValue) (k : IsRunner r) (lo hi : Option (List ℕ)) (low : l
 
 -- the same, of parts that are equal to a runner's
 pub is_snapshot : (r q : RunnerValue) (b : Branch) (p : ProblemValue) (lo hi : Option (List ℕ)) (s : StateValue) (breaks : List Break) (f : SnapshotFault) → IsRunner q → q ≡ r → b ≡ q.branch → p ≡ r.problem → s ≡ q.position
-    → lo ≡ path_of b.lo → hi ≡ path_of b.hi → ((o : ProblemValue) → IsOf o b.lo → IsCutIfAny o lo) → ((o : ProblemValue) → IsOf o b.hi → IsCutIfAny o hi) → are_breaks r.problem breaks ≡ true
+    → lo ≡ cut_path b.lo → hi ≡ cut_path b.hi → ((o : ProblemValue) → IsOf o b.lo → IsCutIfAny o lo) → ((o : ProblemValue) → IsOf o b.hi → IsCutIfAny o hi) → are_breaks r.problem breaks ≡ true
     → IsRefused (snapshot_with p lo hi s breaks) f → (f ≡ OutOfMemory → ⊥) → ⊥
 is_snapshot r q b p lo hi s breaks f k e d g h low high low_cut high_cut a refused m =
     let g2 : p ≡ q.problem = g ∙ ap (λ (x : RunnerValue). x.problem) (sym e) in
-    not_refused q k lo hi (low ∙ ap (λ (x : Branch). path_of x.lo) d) (high ∙ ap (λ (x : Branch). path_of x.hi) d)
+    not_refused q k lo hi (low ∙ ap (λ (x : Branch). cut_path x.lo) d) (high ∙ ap (λ (x : Branch). cut_path x.hi) d)
     (subst (λ (x : Branch). (o : ProblemValue) → IsOf o x.lo → IsCutIfAny o lo) d low_cut) (subst (λ (x : Branch). (o : ProblemValue) → IsOf o x.hi → IsCutIfAny o hi) d high_cut)
     breaks (subst (λ (x : RunnerValue). are_breaks x.problem breaks ≡ true) (sym e) a) f (subst (λ (x : StateValue). IsRefused (snapshot_with q.problem lo hi x breaks) f) h (subst (λ (x : ProblemValue). IsRefused (snapshot_with x lo hi s breaks) f) g2 refused)) m

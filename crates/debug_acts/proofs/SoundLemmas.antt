@@ -23,7 +23,7 @@ use Rattle.lab_book.specs.Book.{Outcome, outcome}
 use Rattle.lab_book.proofs.TileLemmas.{end_fits, stretch_by}
 use Rattle.lab_world.specs.Worker.{WorkerValue, HoldsTile, after_post, marked_at, moved_to}
 use Rattle.lab_world.proofs.OwnLemmas.{Has, own, own_is_tile, post_has}
-use Rattle.debug_acts.specs.Walking.{steps_ahead, post_call, posted, with_room, stepped, forward, state_on}
+use Rattle.debug_acts.specs.Walk.{steps_ahead, post_call, work_posted, with_room, step_forward, forward, state_on}
 use Rattle.debug_acts.specs.Work.{AtWork, work}
 use Rattle.debug_acts.proofs.CallLemmas.{call_keeps}
 use Rattle.debug_acts.proofs.PostLemmas.{granted}
@@ -62,8 +62,8 @@ module _ (u : AtWork) (s : IsWork u) where
 
   -- ---- what isn't posted is posted
 
-  pub posted_work : IsWork (posted u)
-  unfolding posted
+  pub posted_work : IsWork (work_posted u)
+  unfolding work_posted
   posted_work =
       let w = u.worker.grant.worker in
       let has : Has u.book.problem u.worker.grant (outcome u.book w (post_call u.worker)).tiles
@@ -85,7 +85,7 @@ module _ (u : AtWork) (s : IsWork u) where
   pub room_work : IsWork (with_room u)
   room_work = by (unposted_steps run == most_steps)
     where
-      by : (b : Bool) → IsWork (cond b (posted u) u)
+      by : (b : Bool) → IsWork (cond b (work_posted u) u)
       by true = posted_work
       by false = s
 
@@ -156,8 +156,8 @@ module _ (u : AtWork) (s : IsWork u) where
 
 -- ---- steps on
 
-pub stepped_work : (u : AtWork) → IsWork u → 0 < steps_ahead u.worker.runner → IsWork (stepped u)
-unfolding stepped
+pub stepped_work : (u : AtWork) → IsWork u → 0 < steps_ahead u.worker.runner → IsWork (step_forward u)
+unfolding step_forward
 stepped_work u s some =
     let q = room_work u s in
     let ahead : steps_ahead (with_room u).worker.runner ≡ steps_ahead u.worker.runner =

@@ -6,14 +6,14 @@ use Rattle.x_branches.specs.Runner.{visit_of, unposted_steps}
 use Rattle.x_branches.specs.Refusals.{most_steps}
 use Rattle.lab_book.specs.Book.{BookValue}
 use Rattle.lab_world.specs.Worker.{WorkerValue, moved_to, marked_at}
-use Rattle.debug_acts.specs.Walking.{posted, with_room, stepped, forward, state_on}
+use Rattle.debug_acts.specs.Walk.{work_posted, with_room, step_forward, forward, state_on}
 use Rattle.debug_acts.specs.Work.{AtWork, work}
 
 module _ (a : AtWork) where
   pub room_worker : (with_room a).worker ≡ marked_at a.worker (with_room a).worker.runner.mark
-  unfolding posted
+  unfolding work_posted
   room_worker = by (unposted_steps a.worker.runner == most_steps) where
-    by : (v : Bool) → (cond v (posted a) a).worker ≡ marked_at a.worker (cond v (posted a) a).worker.runner.mark
+    by : (v : Bool) → (cond v (work_posted a) a).worker ≡ marked_at a.worker (cond v (work_posted a) a).worker.runner.mark
     by true = refl
     by false = refl
 
@@ -21,8 +21,8 @@ module _ (a : AtWork) where
   forth : AtWork → AtWork
   forth v = work v.book (moved_to v.worker (next v.worker.runner.problem v.worker.runner.position))
 
-  pub step_made : (b : BookValue) (w v : WorkerValue) → work b w ≡ with_room a → v ≡ moved_to w (next w.runner.problem w.runner.position) → work b v ≡ stepped a
-  unfolding stepped forth
+  pub step_made : (b : BookValue) (w v : WorkerValue) → work b w ≡ with_room a → v ≡ moved_to w (next w.runner.problem w.runner.position) → work b v ≡ step_forward a
+  unfolding step_forward forth
   step_made b w v e h =
       ap (work b) h ∙ ap forth e
       ∙ ap (λ s. work (with_room a).book (moved_to (with_room a).worker s)) (ap (λ (u : WorkerValue). next u.runner.problem u.runner.position) room_worker)
@@ -33,22 +33,22 @@ module _ (a : AtWork) where
   same_visit b w e = ap (λ (u : WorkerValue). visit_of u.runner.problem u.runner.position) (ap (λ v. v.worker) e ∙ room_worker)
 
   -- the problem and the branch stay, and the position is the next
-  pub step_problem : (stepped a).worker.runner.problem ≡ a.worker.runner.problem
-  unfolding stepped
+  pub step_problem : (step_forward a).worker.runner.problem ≡ a.worker.runner.problem
+  unfolding step_forward
   step_problem = ap (λ (w : WorkerValue). w.runner.problem) room_worker
 
-  pub step_branch : (stepped a).worker.runner.branch ≡ a.worker.runner.branch
-  unfolding stepped
+  pub step_branch : (step_forward a).worker.runner.branch ≡ a.worker.runner.branch
+  unfolding step_forward
   step_branch = ap (λ (w : WorkerValue). w.runner.branch) room_worker
 
-  pub step_position : (stepped a).worker.runner.position ≡ next a.worker.runner.problem a.worker.runner.position
-  unfolding stepped
+  pub step_position : (step_forward a).worker.runner.position ≡ next a.worker.runner.problem a.worker.runner.position
+  unfolding step_forward
   step_position = refl
 
   -- where there is room, nothing is posted
   pub step_within : (unposted_steps a.worker.runner ≡ most_steps → ⊥)
-      → stepped a ≡ work a.book (moved_to a.worker (next a.worker.runner.problem a.worker.runner.position))
-  unfolding stepped
+      → step_forward a ≡ work a.book (moved_to a.worker (next a.worker.runner.problem a.worker.runner.position))
+  unfolding step_forward
   step_within h =
       let e : with_room a ≡ a = rw (ne_eqb (unposted_steps a.worker.runner) most_steps h) refl in
       ap (λ (v : AtWork). work v.book (moved_to v.worker (next a.worker.runner.problem a.worker.runner.position))) e
@@ -57,7 +57,7 @@ module _ (a : AtWork) where
 
 forward_sum : (m n : ℕ) (a : AtWork) → forward m (forward n a) ≡ forward (m + n) a
 forward_sum zero n a = rw zero-add refl
-forward_sum (suc m) n a = rw suc-add (ap stepped (forward_sum m n a))
+forward_sum (suc m) n a = rw suc-add (ap step_forward (forward_sum m n a))
 
 -- n steps, and then m
 pub forward_more : (m n : ℕ) (a : AtWork) → forward m (forward n a) ≡ forward (n + m) a

@@ -8,7 +8,7 @@ use Rattle.x_branches.specs.Branch.{end_of}
 use Rattle.x_branches.specs.Runner.{RunnerValue, visit_of}
 use Rattle.lab_world.specs.Worker.{HoldsTile}
 use Rattle.x_texts.specs.Words.{visit_words}
-use Rattle.debug_acts.specs.Walking.{with_room, stepped, forward, IsPartWay, steps_ahead, state_on, visit_lines, smaller_of, step_count}
+use Rattle.debug_acts.specs.Walk.{with_room, step_forward, forward, IsPartWay, steps_ahead, state_on, visit_lines, smaller_of, step_count}
 use Rattle.debug_acts.specs.Work.{AtWork}
 use Rattle.debug_acts.proofs.WalkLemmas.{on_problem, on_branch, on_position, forward_more}
 use Rattle.debug_acts.proofs.ForwardLemmas.{CanWalk, all_gone, not_all, ahead_is, no_lines, lines_next, lines_join}
@@ -87,12 +87,12 @@ module _ (a : AtWork) (n : ℕ) (b : AtWork) (old new : List ℕ) (w : Walked a 
   ahead_of h = let l = not_ended h in let e = left in omega arith
 
   -- one step more
-  pub walked_on : (c : AtWork) (more : List ℕ) → (b.worker.runner.position ≡ end_of b.worker.runner.branch.hi → ⊥) → c ≡ stepped b
+  pub walked_on : (c : AtWork) (more : List ℕ) → (b.worker.runner.position ≡ end_of b.worker.runner.branch.hi → ⊥) → c ≡ step_forward b
       → more ≡ new ++ text_of (map visit_words (visit_of b.worker.runner.problem b.worker.runner.position)) → HoldsTile c.book c.worker → Walked a (suc n) c old more
   walked_on c more go e t h = record {
     can = w.can;
     within = let l = not_ended go in omega arith;
-    made = e ∙ ap stepped w.made;
+    made = e ∙ ap step_forward w.made;
     text =
         t ∙ ap₂ (λ p s. new ++ text_of (map visit_words (visit_of p s))) same_problem position
         ∙ ap (λ x. x ++ text_of (map visit_words (visit_of a.worker.runner.problem (state_on a.worker.runner n)))) w.text

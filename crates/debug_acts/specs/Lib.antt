@@ -1,6 +1,6 @@
 pub mod Work
-pub mod Walking
-pub mod Desk
+pub mod Walk
+pub mod Workplace
 pub mod Acts
-pub mod Asking
-pub mod Giving
+pub mod Answer
+pub mod Ends

@@ -6,7 +6,7 @@ use Rattle.text_lines.specs.Lines.{is_empty}
 use Rattle.cover_problem.specs.Problem.{ProblemValue}
 use Rattle.debug_language.specs.declared.engine.EngineCommand.{EngineCommand}
 use Rattle.debug_language.specs.Command.{CommandValue}
-use Rattle.debug_language.specs.Reading.{long_command, plain_command, command_from, load_from, pool_from, quit_from, engine_from}
+use Rattle.debug_language.specs.Reader.{long_command, plain_command, command_from, load_from, pool_from, quit_from, engine_from}
 
 abbrev nothing : Option CommandValue
 nothing = None

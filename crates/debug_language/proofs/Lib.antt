@@ -1,5 +1,5 @@
 pub mod ReadLemmas
 pub mod WriterLemmas
 pub mod EngineLemmas
-mod ReadingExamples
+mod ReaderExamples
 mod ReplyExamples

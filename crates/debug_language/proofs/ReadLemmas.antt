@@ -3,7 +3,7 @@ use Rattle.std.proofs.Common.{◌≡◌, ℕ, ◌+◌, ◌-◌, ◌<◌, Bool, t
 use Rattle.std.proofs.Math.Seq.{take-length}
 use Rattle.std.specs.Prelude.{is_some, option_map}
 use Rattle.std.specs.List.{onto_first, slice_split, position_or_len}
-use Rattle.debug_language.specs.Reading.{number_in, numbers_from, is_comma}
+use Rattle.debug_language.specs.Reader.{number_in, numbers_from, is_comma}
 
 -- *a loop that has read the numbers `old` with words to go, where all words give `all`*
 

@@ -1,5 +1,5 @@
 pub mod Faults
 pub mod Question
 pub mod Command
-pub mod Reading
+pub mod Reader
 pub mod Replies

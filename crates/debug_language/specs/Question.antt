@@ -1,6 +1,6 @@
 -- The questions of the debugger, each by its word.
 --
--- Example: `levels` is a question, and `level` is none. proofs/ReadingExamples.antt computes it.
+-- Example: `levels` is a question, and `level` is none. proofs/ReaderExamples.antt computes it.
 use Rattle.std.specs.Prelude.{ℕ, if◌then◌else◌, List, codes, Option, Some, None}
 use Rattle.std.specs.Str.{bytes_eq}
 use Rattle.debug_language.specs.declared.question.Question.{Question}

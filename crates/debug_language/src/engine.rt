@@ -1,10 +1,10 @@
 //! The commands that are done by the engine, and not by a search.
 ghost use Rattle.std.specs.Prelude.{◌≡◌};
 ghost use Rattle.text_lines.specs.Lines.{words_of};
-ghost use Rattle.debug_language.specs.Reading as spec;
-ghost use Rattle.debug_language.specs.Reading.{engine_command_of};
+ghost use Rattle.debug_language.specs.Reader as spec;
+ghost use Rattle.debug_language.specs.Reader.{engine_command_of};
 
-use crate::reading::{count_from, number_from};
+use crate::reader::{count_from, number_from};
 use text_lines::{has_words, split_word, without_return};
 
 /// The most workers that a search can have.
@@ -55,7 +55,7 @@ fn quit_from(words: &[u8]) -> Option<EngineCommand>
 }
 
 /// The engine's command of these words.
-#[tactic(auto, unfolding(crate::specs::Reading::engine_from))]
+#[tactic(auto, unfolding(crate::specs::Reader::engine_from))]
 fn engine_from(words: &[u8]) -> Option<EngineCommand>
     ensures { result ≡ spec.engine_from (words_of words.now) }
 {

@@ -5,22 +5,22 @@ mod command;
 mod engine;
 mod fault;
 pub mod laws;
+mod lines;
 mod question;
-mod reading;
-mod refusing;
+mod reader;
+mod refusals;
 mod replies;
-mod showing;
 mod words;
 
 pub use command::Command;
 pub use engine::{EngineCommand, read_engine_command};
 pub use fault::DebugFault;
-pub use question::Question;
-pub use reading::read_command;
-pub use refusing::{write_debug_fault, write_refused, write_runner_fault, write_snapshot_fault};
-pub use replies::{write_at, write_counted, write_met, write_plain, write_set};
-pub use showing::{
+pub use lines::{
     write_branch, write_covered, write_list, write_lists, write_saved, write_standing,
     write_untried,
 };
+pub use question::Question;
+pub use reader::read_command;
+pub use refusals::{write_debug_fault, write_refused, write_runner_fault, write_snapshot_fault};
+pub use replies::{write_at, write_counted, write_met, write_plain, write_set};
 pub use words::{Counted, Layer, Listed, Plain, Standing};

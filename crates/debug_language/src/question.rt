@@ -2,7 +2,7 @@
 ghost use Rattle.std.specs.Prelude.{◌≡◌};
 ghost use Rattle.debug_language.specs.Question.{question_of};
 
-use crate::reading::is_word;
+use crate::reader::is_word;
 
 /// A question: the answer shows something, and nothing changes.
 #[derive(Clone, Copy, Debug, PartialEq, Eq)]
@@ -26,6 +26,7 @@ impl Question {
     pub(crate) fn of_word(word: &[u8]) -> Option<Question>
         ensures { result ≡ question_of word.now }
     {
+        // Tests in a chain, as for commands of one word.
         if is_word(word, b"show") {
             Some(Question::Show)
         } else if is_word(word, b"untried") {

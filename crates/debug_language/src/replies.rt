@@ -26,6 +26,7 @@ pub fn write_plain(text: &mut Vec<u8>, plain: Plain) -> Result<(), AllocError>
 pub fn write_counted(text: &mut Vec<u8>, counted: Counted, count: u128) -> Result<(), AllocError>
     ensures { AddsLine result text.old text.new (counted_word counted ∷ decimal count ∷ []) }
 {
+    // The counts of all posted stretches are added up, and have 128 bits for it.
     write_number_line(text, counted.word(), count)
 }
 

@@ -78,7 +78,9 @@ impl Plain {
             Plain::End => "end",
             Plain::Parked => "parked",
             Plain::Closed => "closed",
+            // It begins with the key of the lines that list such options.
             Plain::NothingUntried => "untried none",
+            // By the word of the question, as there is no branch to tell of.
             Plain::NoBranches => "branches none",
         }
     }

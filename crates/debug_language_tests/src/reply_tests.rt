@@ -32,118 +32,122 @@ enum Reply {
     Snapshot(SnapshotFault),
 }
 
-/// Replies, each with its text.
-static REPLIES: [(Reply, &[u8]); 36] = [
-    (Reply::Plain(Plain::End), b"end\n"),
-    (Reply::Plain(Plain::Parked), b"parked\n"),
-    (Reply::Plain(Plain::Closed), b"closed\n"),
-    (Reply::Plain(Plain::NothingUntried), b"untried none\n"),
-    (Reply::Plain(Plain::NoBranches), b"branches none\n"),
-    (Reply::Counted(Counted::Moved, 12), b"moved 12\n"),
-    (
+/// A reply, and its text.
+struct Written(Reply, &'static [u8]);
+
+static REPLIES: [Written; 36] = [
+    Written(Reply::Plain(Plain::End), b"end\n"),
+    Written(Reply::Plain(Plain::Parked), b"parked\n"),
+    Written(Reply::Plain(Plain::Closed), b"closed\n"),
+    Written(Reply::Plain(Plain::NothingUntried), b"untried none\n"),
+    Written(Reply::Plain(Plain::NoBranches), b"branches none\n"),
+    Written(Reply::Counted(Counted::Moved, 12), b"moved 12\n"),
+    Written(
         Reply::Counted(Counted::Moved, u128::MAX),
         b"moved 340282366920938463463374607431768211455\n",
     ),
-    (Reply::Counted(Counted::Cleared, 1), b"cleared 1\n"),
-    (Reply::Counted(Counted::Visits, 0), b"visits 0\n"),
-    (Reply::Counted(Counted::Retracted, 30), b"retracted 30\n"),
-    (Reply::Counted(Counted::Steps, 43), b"steps 43\n"),
-    (
+    Written(Reply::Counted(Counted::Cleared, 1), b"cleared 1\n"),
+    Written(Reply::Counted(Counted::Visits, 0), b"visits 0\n"),
+    Written(Reply::Counted(Counted::Retracted, 30), b"retracted 30\n"),
+    Written(Reply::Counted(Counted::Steps, 43), b"steps 43\n"),
+    Written(
         Reply::At(Label::X5, Cursor::Past, &[2, 3]),
         b"at X5 past 2 3\n",
     ),
-    (Reply::At(Label::X1, Cursor::None, &[]), b"at X1 -\n"),
-    (Reply::At(Label::X5, Cursor::At(4), &[]), b"at X5 4\n"),
-    (
+    Written(Reply::At(Label::X1, Cursor::None, &[]), b"at X1 -\n"),
+    Written(Reply::At(Label::X5, Cursor::At(4), &[]), b"at X5 4\n"),
+    Written(
         Reply::At(Label::X8, Cursor::None, &[4, 5, 1]),
         b"at X8 - 4 5 1\n",
     ),
-    (Reply::At(Label::Done, Cursor::None, &[]), b"at Done -\n"),
-    (Reply::Visit(&[4, 5, 1]), b"visit 4 5 1\n"),
-    (Reply::Branch(None, None), b"branch start to end\n"),
-    (
+    Written(Reply::At(Label::Done, Cursor::None, &[]), b"at Done -\n"),
+    Written(Reply::Visit(&[4, 5, 1]), b"visit 4 5 1\n"),
+    Written(Reply::Branch(None, None), b"branch start to end\n"),
+    Written(
         Reply::Branch(Some(&[4, 5]), Some(&[6])),
         b"branch 4 5 to 6\n",
     ),
-    (
+    Written(
         Reply::Standing(Some(&[4]), None, Standing::Waiting),
         b"branch 4 to end waiting\n",
     ),
-    (
+    Written(
         Reply::Standing(None, Some(&[4]), Standing::Leased),
         b"branch start to 4 leased\n",
     ),
-    (
+    Written(
         Reply::Standing(Some(&[4]), None, Standing::Held),
         b"branch 4 to end held\n",
     ),
-    (Reply::Untried(0, &[4]), b"untried 0 4\n"),
-    (Reply::Untried(2, &[3, 5]), b"untried 2 3 5\n"),
-    (Reply::Levels(&[]), b"levels 0\n"),
-    (Reply::Levels(&[1, 1, 1]), b"levels 1 1 1\n"),
-    (Reply::Levels(&[0, 0, 0, 1]), b"levels 0 0 0 1\n"),
-    (
+    Written(Reply::Untried(0, &[4]), b"untried 0 4\n"),
+    Written(Reply::Untried(2, &[3, 5]), b"untried 2 3 5\n"),
+    Written(Reply::Levels(&[]), b"levels 0\n"),
+    Written(Reply::Levels(&[1, 1, 1]), b"levels 1 1 1\n"),
+    Written(Reply::Levels(&[0, 0, 0, 1]), b"levels 0 0 0 1\n"),
+    Written(
         Reply::Saved(b"polysnap 1\nend\n"),
         b"snapshot 2\npolysnap 1\nend\n",
     ),
-    (
+    Written(
         Reply::Debug(DebugFault::BadCommand),
         b"refused debug 1 BadCommand\n",
     ),
-    (
+    Written(
         Reply::Debug(DebugFault::AtStart),
         b"refused debug 3 AtStart\n",
     ),
-    (
+    Written(
         Reply::Debug(DebugFault::NoBranch),
         b"refused debug 5 NoBranch\n",
     ),
-    (
+    Written(
         Reply::Runner(RunnerFault::NothingUntried),
         b"refused runner 3 NothingUntried\n",
     ),
-    (
+    Written(
         Reply::Runner(RunnerFault::NotAtMark),
         b"refused runner 6 NotAtMark\n",
     ),
-    (Reply::Book(7, "NotAMark"), b"refused book 7 NotAMark\n"),
-    (
+    Written(Reply::Book(7, "NotAMark"), b"refused book 7 NotAMark\n"),
+    Written(
         Reply::Snapshot(SnapshotFault::Truncated),
         b"refused snapshot 7 Truncated\n",
     ),
-    (
+    Written(
         Reply::Snapshot(SnapshotFault::BadBreak),
         b"refused snapshot 10 BadBreak\n",
     ),
 ];
 
-/// Lists of visits, each with its lines: a line goes on from what its visit shares with the one before.
-static VISITS: [(&[&[u32]], &[u8]); 13] = [
-    (&[], b""),
-    (&[&[]], b"visit\n"),
-    (&[&[], &[]], b"visit\nvisit\n"),
-    (&[&[4, 5, 1], &[2]], b"visit 4 5 1\nvisit 2\n"),
-    (&[&[7, 8, 9], &[7, 8, 9]], b"visit 7 8 9\nvisit 7 8 9\n"),
-    (&[&[7, 8], &[7, 8, 9]], b"visit 7 8\nvisit 7 8 9\n"),
-    (&[&[7, 8, 9], &[7, 8]], b"visit 7 8 9\nvisit 7 8\n"),
-    (&[&[3, 6], &[], &[3, 6]], b"visit 3 6\nvisit\nvisit 3 6\n"),
-    (
+/// A list of visits, and its lines: a line goes on from what its visit shares with the one before.
+struct Visits(&'static [&'static [u32]], &'static [u8]);
+
+static VISITS: [Visits; 13] = [
+    Visits(&[], b""),
+    Visits(&[&[]], b"visit\n"),
+    Visits(&[&[], &[]], b"visit\nvisit\n"),
+    Visits(&[&[4, 5, 1], &[2]], b"visit 4 5 1\nvisit 2\n"),
+    Visits(&[&[7, 8, 9], &[7, 8, 9]], b"visit 7 8 9\nvisit 7 8 9\n"),
+    Visits(&[&[7, 8], &[7, 8, 9]], b"visit 7 8\nvisit 7 8 9\n"),
+    Visits(&[&[7, 8, 9], &[7, 8]], b"visit 7 8 9\nvisit 7 8\n"),
+    Visits(&[&[3, 6], &[], &[3, 6]], b"visit 3 6\nvisit\nvisit 3 6\n"),
+    Visits(
         &[&[10, 20, 30], &[10, 25, 30], &[10, 25, 31]],
         b"visit 10 20 30\nvisit 10 25 30\nvisit 10 25 31\n",
     ),
-    (
+    Visits(
         &[&[1, 2], &[1, 23], &[12, 3], &[1, 2, 3]],
         b"visit 1 2\nvisit 1 23\nvisit 12 3\nvisit 1 2 3\n",
     ),
-    (
+    Visits(
         &[&[9, 8], &[5, 8], &[9, 8]],
         b"visit 9 8\nvisit 5 8\nvisit 9 8\n",
     ),
-    (
+    Visits(
         &[&[99999, 1, 2, 3], &[99999, 100000], &[99999, 1]],
         b"visit 99999 1 2 3\nvisit 99999 100000\nvisit 99999 1\n",
     ),
-    (
+    Visits(
         &[&[0, 4294967295], &[0, 4294967295, 1], &[0]],
         b"visit 0 4294967295\nvisit 0 4294967295 1\nvisit 0\n",
     ),
@@ -215,13 +219,6 @@ fn is_written(alloc: Global, reply: &Reply, wanted: &[u8]) -> bool {
     }
 }
 
-/// The place of the first of these replies that is written otherwise.
-fn wrong_reply(alloc: Global, replies: &[(Reply, &[u8])]) -> Option<usize> {
-    replies
-        .iter()
-        .position(|(reply, text)| !is_written(alloc, reply, text))
-}
-
 /// Writes the lines of two items with their options.
 fn write_rows(text: &mut Vec<u8>, problem: &Problem) -> Result<(), AllocError>
     requires { 7 ≤ length problem.now.names }
@@ -271,15 +268,11 @@ fn are_visits(alloc: Global, paths: &[&[u32]], wanted: &[u8]) -> bool {
     }
 }
 
-/// The place of the first of these lists of visits that is written otherwise.
-fn wrong_visits(alloc: Global, rows: &[(&[&[u32]], &[u8])]) -> Option<usize> {
-    rows.iter()
-        .position(|(paths, text)| !are_visits(alloc, paths, text))
-}
-
 #[test]
 fn replies_are_written(rt: HostRuntime) {
-    assert!(rt; wrong_reply(rt.alloc(), &REPLIES).is_none());
+    for row in &REPLIES {
+        assert!(rt; is_written(rt.alloc(), &row.0, row.1));
+    }
 }
 
 #[test]
@@ -289,5 +282,7 @@ fn items_are_named(rt: HostRuntime) {
 
 #[test]
 fn visits_are_written(rt: HostRuntime) {
-    assert!(rt; wrong_visits(rt.alloc(), &VISITS).is_none());
+    for row in &VISITS {
+        assert!(rt; are_visits(rt.alloc(), row.0, row.1));
+    }
 }

@@ -3,8 +3,6 @@
 use cover_problem::{Problem, read_cover};
 use drawn_problems::{SMALL, state_of};
 use std::alloc::{AllocError, Global};
-use std::process::Abort;
-use std::test::Fail;
 use x_snapshot::{Snapshot, SnapshotFault, write_snapshot};
 use x_steps::{Cursor, Label, State};
 use x_texts::Break;
@@ -109,10 +107,12 @@ const AT_START: Row = Row {
     breaks: &[],
 };
 
-/// Problems and parts, each with the text that is written of the snapshot.
-static WRITTEN: [(&str, Row, &[u8]); 4] = [
-    (SMALL, AT_VISIT, FROM_FOUR),
-    (
+/// A problem and parts, and the text that is written of the snapshot.
+struct Written(&'static str, Row, &'static [u8]);
+
+static WRITTEN: [Written; 4] = [
+    Written(SMALL, AT_VISIT, FROM_FOUR),
+    Written(
         SMALL,
         Row {
             breaks: &[Break::Level(3)],
@@ -120,8 +120,8 @@ static WRITTEN: [(&str, Row, &[u8]); 4] = [
         },
         WITH_LEVEL,
     ),
-    (SECONDARY, AT_START, WITH_SECONDARY),
-    (
+    Written(SECONDARY, AT_START, WITH_SECONDARY),
+    Written(
         SECONDARY,
         Row {
             lo: Some(&[1]),
@@ -341,50 +341,44 @@ fn is_refused(alloc: Global, row: &Row, fault: SnapshotFault) -> bool {
     }
 }
 
-/// The place of the first of these parts that are written otherwise.
-fn wrong_text(alloc: Global, rows: &[(&str, Row, &[u8])]) -> Option<usize> {
-    rows.iter()
-        .position(|(cover, row, text)| !is_written(alloc, cover, row, text))
-}
-
-/// The place of the first of these parts with another fault.
-fn wrong_fault(alloc: Global, rows: &[(Row, SnapshotFault)]) -> Option<usize> {
-    rows.iter()
-        .position(|(row, fault)| !is_refused(alloc, row, *fault))
-}
-
 #[test]
 fn snapshots_are_written(rt: HostRuntime) {
     assert!(rt; FROM_FOUR.len() == 150);
     assert!(rt; WITH_LEVEL.len() == 173);
     assert!(rt; WITH_SECONDARY.len() == 99);
-    assert!(rt; wrong_text(rt.alloc(), &WRITTEN).is_none());
+    for row in &WRITTEN {
+        assert!(rt; is_written(rt.alloc(), row.0, &row.1, row.2));
+    }
 }
 
 #[test]
 fn the_first_fault_is_told(rt: HostRuntime) {
-    assert!(rt; wrong_fault(rt.alloc(), &REFUSED).is_none());
+    for row in &REFUSED {
+        assert!(rt; is_refused(rt.alloc(), &row.0, row.1));
+    }
 }
 
-/// Tells the first part of the snapshot `AT_VISIT` that is another.
-fn assert_parts(rt: &impl Abort, snapshot: &Snapshot) {
-    assert!(rt; snapshot.problem().options() == 6);
-    assert!(rt; snapshot.lo() == Some([4u32].as_slice()));
-    assert!(rt; snapshot.hi().is_none());
-    assert!(rt; snapshot.state().path.as_slice() == [4u32, 5, 1].as_slice());
-    assert!(rt; snapshot.breaks().is_empty());
+/// Whether a snapshot has the parts of `AT_VISIT`.
+fn has_parts(snapshot: &Snapshot) -> bool {
+    snapshot.problem().options() == 6
+        && snapshot.lo() == Some([4u32].as_slice())
+        && snapshot.hi().is_none()
+        && snapshot.state().path.as_slice() == [4u32, 5, 1].as_slice()
+        && snapshot.breaks().is_empty()
+}
+
+/// Whether the snapshot that is made of them does.
+fn are_told(alloc: Global) -> bool {
+    match snapshot_of(alloc, SMALL, &AT_VISIT) {
+        Ok(snapshot) => has_parts(&snapshot),
+        Err(_) => false,
+    }
 }
 
 /// The parts that a snapshot tells are those that it was made of.
 #[test]
-fn parts_are_told(rt: HostRuntime) -> Result<(), Fail> {
-    match snapshot_of(rt.alloc(), SMALL, &AT_VISIT) {
-        Ok(snapshot) => {
-            assert_parts(&rt, &snapshot);
-            Ok(())
-        }
-        Err(_) => Err("no snapshot".into()),
-    }
+fn parts_are_told(rt: HostRuntime) {
+    assert!(rt; are_told(rt.alloc()));
 }
 
 #[test]

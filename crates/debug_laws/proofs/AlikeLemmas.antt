@@ -7,17 +7,17 @@ use Rattle.x_branches.specs.declared.fault.RunnerFault.TheVariants.{NotAtMark}
 use Rattle.x_branches.specs.Runner.{RunnerValue, unposted_steps}
 use Rattle.x_branches.specs.Refusals.{untried_in, cut_at}
 use Rattle.x_branches.specs.Untried.{with_choice}
-use Rattle.lab_book.specs.declared.entry.Call.{Call}
-use Rattle.lab_book.specs.declared.entry.Call.TheVariants as call
-use Rattle.lab_book.specs.declared.entry.Reply.{Reply}
-use Rattle.lab_book.specs.declared.entry.Reply.TheVariants as reply
+use Rattle.lab_history.specs.declared.entry.Call.{Call}
+use Rattle.lab_history.specs.declared.entry.Call.TheVariants as call
+use Rattle.lab_history.specs.declared.entry.Reply.{Reply}
+use Rattle.lab_history.specs.declared.entry.Reply.TheVariants as reply
 use Rattle.lab_book.specs.Tile.{is_closed}
 use Rattle.lab_book.specs.Tiling.{tile_at}
 use Rattle.lab_book.specs.Book.{BookValue, outcome, book_step}
 use Rattle.lab_world.proofs.HoldLemmas.{own_lease}
 use Rattle.debug_language.specs.declared.words.Counted.TheVariants as counts
 use Rattle.debug_views.specs.Lines.{counted, state_line, runner_refusal}
-use Rattle.debug_acts.specs.Walking.{post_call, posted}
+use Rattle.debug_acts.specs.Walk.{post_call, work_posted}
 use Rattle.debug_acts.specs.Work.{AtWork}
 use Rattle.debug_laws.proofs.WorkWords.{WorkAnswer, answered, parted, parted_line, split, book_asked, retracted_by, retract}
 use Rattle.lab_world.specs.World.{cut_refusal}
@@ -70,10 +70,10 @@ module _ (u v : AtWork) (s : IsSoundWork u) (t : IsSoundWork v) (k : AreAlikeWor
 
   -- ---- what isn't posted is posted
 
-  pub posted_alike : AreAlikeWorks (posted u) (posted v)
-  unfolding posted
+  pub posted_alike : AreAlikeWorks (work_posted u) (work_posted v)
+  unfolding work_posted
   posted_alike = record {
-    book = subst (λ (r : RunnerValue). AreAlikeBooks (posted u).book
+    book = subst (λ (r : RunnerValue). AreAlikeBooks (work_posted u).book
         (book_step v.book v.worker.grant.worker (call.Post v.worker.grant r.mark r.position true))) k.runner
         (own_step (post_call u.worker));
     runner = ap (λ (r : RunnerValue). record r { mark = r.position }) k.runner;

@@ -7,22 +7,22 @@ use Rattle.x_branches.specs.Runner.{RunnerValue}
 use Rattle.x_texts.specs.declared.breakpoint.Break.{Break}
 use Rattle.x_snapshot.specs.declared.fault.SnapshotFault.{SnapshotFault}
 use Rattle.x_snapshot.specs.Snapshot.{SnapshotValue, snapshot_with}
-use Rattle.x_snapshot.specs.Writing.{snapshot_text}
+use Rattle.x_snapshot.specs.Writer.{snapshot_text}
 use Rattle.x_snapshot.specs.Judged.{snapshot_of}
-use Rattle.lab_book.specs.declared.lease.Grant.{Grant}
-use Rattle.lab_book.specs.declared.fault.BookFault.TheVariants.{ForeignProblem, NotAtEnd}
-use Rattle.lab_book.specs.declared.entry.Call.{Call}
-use Rattle.lab_book.specs.declared.entry.Call.TheVariants as call
+use Rattle.lab_history.specs.declared.grant.Grant.{Grant}
+use Rattle.lab_history.specs.declared.fault.BookFault.TheVariants.{ForeignProblem, NotAtEnd}
+use Rattle.lab_history.specs.declared.entry.Call.{Call}
+use Rattle.lab_history.specs.declared.entry.Call.TheVariants as call
 use Rattle.lab_book.specs.Tile.{TileValue, is_held}
 use Rattle.lab_book.specs.Tiling.{tile_at}
-use Rattle.lab_book.specs.Book.{BookValue, outcome, book_step, path_of}
+use Rattle.lab_book.specs.Book.{BookValue, outcome, book_step, cut_path}
 use Rattle.lab_world.specs.declared.event.Act.{Act}
 use Rattle.lab_world.specs.declared.event.Act.TheVariants.{Back, Post, Split, Retract, Park, Close}
 use Rattle.lab_world.specs.Worker.{WorkerValue, lent_worker}
-use Rattle.lab_world.specs.World.{turn}
+use Rattle.lab_world.specs.World.{turn_of}
 use Rattle.debug_language.specs.Command.{CommandValue}
 use Rattle.debug_language.specs.Command as command
-use Rattle.debug_language.specs.Reading.{command_of}
+use Rattle.debug_language.specs.Reader.{command_of}
 use Rattle.debug_language.specs.declared.words.Counted.TheVariants as counts
 use Rattle.debug_language.specs.declared.words.Plain.TheVariants.{Closed}
 use Rattle.debug_language.specs.Replies.{saved_text}
@@ -30,20 +30,20 @@ use Rattle.debug_language.specs.declared.fault.DebugFault.TheVariants.{BadComman
 use Rattle.debug_views.specs.Breakpoints.{with_break}
 use Rattle.debug_views.specs.Lines.{plain, counted, set, state_line, debug_refusal, book_refusal, snapshot_refusal}
 use Rattle.debug_views.specs.Tiles.{tile_line, place_at}
-use Rattle.debug_acts.specs.Walking.{step_count, run_count, run_lines, back_count, back_lines}
-use Rattle.debug_acts.specs.declared.asking.Told.{Told}
-use Rattle.debug_acts.specs.declared.asking.Told.TheVariants as told
+use Rattle.debug_acts.specs.Walk.{step_count, run_count, run_lines, back_count, back_lines}
+use Rattle.debug_acts.specs.declared.answer.Told.{Told}
+use Rattle.debug_acts.specs.declared.answer.Told.TheVariants as told
 use Rattle.debug_acts.specs.Acts.{has_rest, rest_acts, end_acts, is_ended, close_acts, walk_acts}
-use Rattle.debug_acts.specs.Asking.{told_lines}
-use Rattle.debug_acts.specs.Giving.{save_text, close_line}
+use Rattle.debug_acts.specs.Answer.{told_lines}
+use Rattle.debug_acts.specs.Ends.{save_text, close_line}
 use Rattle.debug_acts.specs.Work.{work}
 use Rattle.debug_laws.proofs.WorkWords.{enter_call, stand_lines, entered_at, refusal_or, answer_of_tile, hold, put_back}
 use Rattle.x_debug.specs.Session.{SessionValue}
 use Rattle.x_debug.specs.Questions.{View, runner_of, view_of, question_lines}
 use Rattle.x_debug.specs.Commands.{Answer, Deed, world_of, left_by, says, with_breaks, does, ends, asks, if_open, walks, back_deed, split_deed, close_deed, enter_deed, retract_deed, hold_deed, put_back_deed, deed_of, done_by, deed_if, answer, answer_line}
-use Rattle.debug_laws.proofs.PlayedLemmas.{seen, on_desk, on_book, split_lines, retract_lines, hold_same, put_back_same, entered_same}
+use Rattle.debug_laws.proofs.PlayedLemmas.{seen, on_workplace, on_book, split_lines, retract_lines, hold_same, put_back_same, entered_same}
 use Rattle.debug_laws.proofs.SeatLemmas.{AreAlikeSeats, AreOwn, is_own, acts_alike, own_both, own_times, walk_own, walk_alike, rest_seen, end_is_seen}
-use Rattle.x_debug.specs.Loading.{answers, load_by, load_answer, loaded, breaks_of}
+use Rattle.x_debug.specs.LoadedTexts.{answers, load_by, load_answer, loaded, breaks_of}
 use Rattle.lab_book_laws.specs.AlikeBooks.{open_tiles}
 use Rattle.lab_book_laws.specs.AlikeCalls.{Correspond, addressed, AreAlikeOutcomes}
 use Rattle.lab_book_laws.proofs.StatusLemmas.{held_seen}
@@ -62,7 +62,7 @@ record Agree (x y : Answer) : Type 0 where
 
 -- nothing is taken out where no branch is open
 idle_lines : (b c : BookValue) → told_lines b None Retract told.Retracted ≡ told_lines c None Retract told.Retracted
-unfolding turn
+unfolding turn_of
 idle_lines b c = refl
 
 module _ (a b : SessionValue) (p : AreSoundAlike a b) where
@@ -160,7 +160,7 @@ module _ (a b : SessionValue) (p : AreSoundAlike a b) where
   saved_same bs cs e v w q = λ j. saved_text (snapshot_text (saved (q j) (e j)))
     where
       saved : RunnerValue → List Break → SnapshotValue
-      saved r breaks = snapshot_with r.problem (path_of r.branch.lo) (path_of r.branch.hi) r.position breaks
+      saved r breaks = snapshot_with r.problem (cut_path r.branch.lo) (cut_path r.branch.hi) r.position breaks
 
   close_agrees : Agree (done_by a (close_deed a)) (done_by b (close_deed b))
   close_agrees = open_agree _ _ (λ v w d e q.
@@ -290,7 +290,7 @@ module _ (a b : SessionValue) (p : AreSoundAlike a b) where
       by false = named_alike i j q (call.Lease 0)
 
   entered_agrees : (i j : ℕ) → Correspond a.book.tiles i b.book.tiles j
-      → Agree (on_desk a (entered_at a.book (Some i))) (on_desk b (entered_at b.book (Some j)))
+      → Agree (on_workplace a (entered_at a.book (Some i))) (on_workplace b (entered_at b.book (Some j)))
   entered_agrees i j q =
       let o = enter_alike i j q in
       let x = (outcome a.book 0 (enter_call (tile_at a.book.tiles i))).reply in
@@ -308,7 +308,7 @@ module _ (a b : SessionValue) (p : AreSoundAlike a b) where
       }
 
   found_agrees : (m n : Option ℕ) → Meet a.book.tiles b.book.tiles m n
-      → Agree (on_desk a (entered_at a.book m)) (on_desk b (entered_at b.book n))
+      → Agree (on_workplace a (entered_at a.book m)) (on_workplace b (entered_at b.book n))
   found_agrees None None q = record { text = refl; session = record { book = k.book; runner = refl; breaks = k.breaks } }
   found_agrees (Some i) (Some j) q = entered_agrees i j q
   found_agrees None (Some j) q = absurd q

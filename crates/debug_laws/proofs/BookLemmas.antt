@@ -3,9 +3,9 @@ use Rattle.std.proofs.Common.{◌≡◌, ℕ, Option, Some, None, Result, refl, 
 use Rattle.x_steps.specs.StateValue.{StateValue}
 use Rattle.x_steps.specs.Run.{after}
 use Rattle.x_branches.specs.Runner.{RunnerValue, IsRunner, unposted_steps}
-use Rattle.lab_book.specs.declared.fault.BookFault.{BookFault}
-use Rattle.lab_book.specs.declared.entry.Call.TheVariants as call
-use Rattle.lab_book.specs.declared.entry.Reply.TheVariants as reply
+use Rattle.lab_history.specs.declared.fault.BookFault.{BookFault}
+use Rattle.lab_history.specs.declared.entry.Call.TheVariants as call
+use Rattle.lab_history.specs.declared.entry.Reply.TheVariants as reply
 use Rattle.lab_book.specs.Tiling.{IsTiling}
 use Rattle.lab_book.specs.Book.{BookValue, outcome, made_at, unless, retracted, retract_fault}
 use Rattle.lab_book.specs.Book as book

@@ -5,13 +5,13 @@ use Rattle.std.proofs.lemmas.Bool.{false≢true}
 use Rattle.x_steps.specs.Run.{after}
 use Rattle.x_steps.proofs.RunLemmas.{leads_to}
 use Rattle.x_branches.specs.Branch.{end_of}
-use Rattle.lab_book.specs.declared.entry.Call.TheVariants as call
+use Rattle.lab_history.specs.declared.entry.Call.TheVariants as call
 use Rattle.lab_book.specs.Tile.{TileValue, is_leased, freed_status}
 use Rattle.lab_book.specs.Book.{Outcome, outcome, leased_in, made_at, settled, freed}
 use Rattle.lab_book.specs.Book as book
 use Rattle.lab_world.specs.Worker.{WorkerValue}
 use Rattle.lab_world.proofs.OwnLemmas.{own, found_own}
-use Rattle.debug_acts.specs.Walking.{steps_ahead}
+use Rattle.debug_acts.specs.Walk.{steps_ahead}
 use Rattle.debug_acts.specs.Work.{AtWork}
 use Rattle.debug_acts.proofs.ForwardLemmas.{can_walk}
 use Rattle.debug_laws.proofs.LeasedLemmas.{one_less}

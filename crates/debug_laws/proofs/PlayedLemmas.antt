@@ -13,13 +13,13 @@ use Rattle.x_branches.specs.Refusals.{untried_in, cut_at}
 use Rattle.x_branches.specs.Untried.{with_choice}
 use Rattle.x_branches.specs.Runner.{unposted_steps}
 use Rattle.x_texts.specs.declared.breakpoint.Break.{Break}
-use Rattle.lab_book.specs.declared.fault.BookFault.{BookFault}
-use Rattle.lab_book.specs.declared.fault.BookFault.TheVariants.{UnknownBranch}
-use Rattle.lab_book.specs.declared.entry.Entry.{Entry}
-use Rattle.lab_book.specs.declared.entry.Call.{Call}
-use Rattle.lab_book.specs.declared.entry.Call.TheVariants as call
-use Rattle.lab_book.specs.declared.entry.Reply.{Reply}
-use Rattle.lab_book.specs.declared.entry.Reply.TheVariants as reply
+use Rattle.lab_history.specs.declared.fault.BookFault.{BookFault}
+use Rattle.lab_history.specs.declared.fault.BookFault.TheVariants.{UnknownBranch}
+use Rattle.lab_history.specs.declared.entry.Entry.{Entry}
+use Rattle.lab_history.specs.declared.entry.Call.{Call}
+use Rattle.lab_history.specs.declared.entry.Call.TheVariants as call
+use Rattle.lab_history.specs.declared.entry.Reply.{Reply}
+use Rattle.lab_history.specs.declared.entry.Reply.TheVariants as reply
 use Rattle.lab_book.specs.Tile.{TileValue, is_held}
 use Rattle.lab_book.specs.Tiling.{tile_at, no_tile}
 use Rattle.lab_book.specs.Book.{BookValue, Outcome, outcome, book_step, found, made_at, settled, asked_to_stop, open_fault, mark_fault, retracted, lease_fault, retract_fault}
@@ -28,7 +28,7 @@ use Rattle.lab_world.specs.declared.event.Act.{Act}
 use Rattle.lab_world.specs.declared.event.Act.TheVariants.{Lease, TakeHeld, Split, Retract, Park, PutBack, RequestStop}
 use Rattle.lab_world.specs.declared.event.WorldReply.TheVariants as world
 use Rattle.lab_world.specs.Worker.{WorkerValue, split_call, lent_worker, after_split, after_retract, after_end}
-use Rattle.lab_world.specs.World.{Turn, turn, stays, called, cut_refusal}
+use Rattle.lab_world.specs.World.{Turn, turn_of, stays, called, cut_refusal}
 use Rattle.lab_world.specs.Alone.{alone, Leads}
 use Rattle.lab_world.proofs.AloneLemmas.{one_act}
 use Rattle.lab_world.proofs.SplitLemmas.{split_is}
@@ -38,17 +38,17 @@ use Rattle.debug_language.specs.declared.words.Counted.TheVariants as counts
 use Rattle.debug_views.specs.Lines.{state_line, counted, runner_refusal, book_refusal}
 use Rattle.debug_views.specs.Tiles.{tile_line, is_begun_at, place_at}
 use Rattle.debug_views.proofs.LineLemmas.{one_line}
-use Rattle.debug_acts.specs.Desk.{desk}
+use Rattle.debug_acts.specs.Workplace.{workplace}
 use Rattle.debug_acts.specs.Work.{AtWork, work}
-use Rattle.debug_acts.specs.declared.asking.Told.{Told}
-use Rattle.debug_acts.specs.declared.asking.Told.TheVariants as told
+use Rattle.debug_acts.specs.declared.answer.Told.{Told}
+use Rattle.debug_acts.specs.declared.answer.Told.TheVariants as told
 use Rattle.debug_acts.specs.Acts.{enter_act}
-use Rattle.debug_acts.specs.Asking.{reply_refusals, entry_refusals, lines_or, tile_lines, done_lines, turn_lines, told_lines}
+use Rattle.debug_acts.specs.Answer.{reply_refusals, entry_refusals, lines_or, tile_lines, done_lines, turn_lines, told_lines}
 use Rattle.debug_acts.proofs.LeadLemmas.{LeadsTo}
 use Rattle.x_debug.specs.Session.{SessionValue}
 use Rattle.x_debug.specs.Commands.{Answer, Deed, done_by, asks, at_place, hold_deed, put_back_deed}
 use Rattle.x_debug.proofs.SessionLemmas.{left_is}
-use Rattle.debug_laws.proofs.WorkWords.{WorkAnswer, answered, DeskAnswer, parted, parted_line, split, retracted_by, retract, entered_at, stand_lines, BookAnswer, refusal_or, answer_of_tile, hold, put_back}
+use Rattle.debug_laws.proofs.WorkWords.{WorkAnswer, answered, WorkplaceAnswer, parted, parted_line, split, retracted_by, retract, entered_at, stand_lines, BookAnswer, refusal_or, answer_of_tile, hold, put_back}
 use Rattle.debug_laws.proofs.BookLemmas.{to_here}
 use Rattle.debug_laws.proofs.WorkLemmas.{IsSoundWork, asked_reply}
 use Rattle.debug_laws.proofs.EndLemmas.{park_done}
@@ -82,7 +82,7 @@ module _ (u : AtWork) (s : IsSoundWork u) where
 
   -- a tile is given up
   pub park_leads : Leads u.book (Some x) (Park ∷ []) (book_step u.book x.grant.worker (call.Park x.grant)) None
-  unfolding turn
+  unfolding turn_of
   park_leads = one_act u.book _ (Some x) None Park refl (ap (λ (o : Outcome). after_end x o.reply) (park_done u s))
 
 -- ---- what is left
@@ -112,7 +112,7 @@ module _ (u : AtWork) (s : IsSoundWork u) where
     is_split e = ap (λ (r : Outcome). r.reply) (split_is u.book u.worker s.tiling s.holds s.runner level o e u.worker.grant.worker)
 
     pub split_leads : LeadsTo u (Split level o ∷ []) (split u level o).work
-    unfolding turn parted
+    unfolding turn_of parted
     split_leads = by (has (untried_in u.worker.runner level) o) refl
       where
         by : (b : Bool) → has (untried_in u.worker.runner level) o ≡ b
@@ -122,7 +122,7 @@ module _ (u : AtWork) (s : IsSoundWork u) where
         by false e = refl
 
     pub split_lines : told_lines u.book (Some u.worker) (Split level o) what ≡ (split u level o).lines
-    unfolding turn
+    unfolding turn_of
     split_lines = by (has (untried_in u.worker.runner level) o) refl
       where
         by : (b : Bool) → has (untried_in u.worker.runner level) o ≡ b → turn_lines what (cond b parting not_parting) ≡ (split_way b).lines
@@ -180,7 +180,7 @@ module _ (u : AtWork) (s : IsSoundWork u) where
   retract_turn b = cond b taking (stays u.book (Some u.worker) (world.Runner NotAtMark))
 
   pub retract_leads : LeadsTo u (Retract ∷ []) (retract u).work
-  unfolding turn retract
+  unfolding turn_of retract
   retract_leads = by (unposted_steps u.worker.runner == 0)
     where
       by : (b : Bool) → alone (retract_turn b).book (retract_turn b).worker
@@ -189,7 +189,7 @@ module _ (u : AtWork) (s : IsSoundWork u) where
       by false = refl
 
   pub retract_lines : told_lines u.book (Some u.worker) Retract told.Retracted ≡ (retract u).lines
-  unfolding turn retract
+  unfolding turn_of retract
   retract_lines = by (unposted_steps u.worker.runner == 0) refl
     where
       by : (b : Bool) → (unposted_steps u.worker.runner == 0) ≡ b → turn_lines told.Retracted (retract_turn b) ≡ (retract_way b).lines
@@ -232,8 +232,8 @@ module _ (b : BookValue) (y : Option WorkerValue) where
 -- ---- each command
 
 -- a session's book and worker are others, or its book is
-abbrev pub on_desk : SessionValue → DeskAnswer → Answer
-on_desk s a = record { text = a.text; session = record { book = a.desk.book; worker = a.desk.worker; breaks = s.breaks } }
+abbrev pub on_workplace : SessionValue → WorkplaceAnswer → Answer
+on_workplace s a = record { text = a.text; session = record { book = a.workplace.book; worker = a.workplace.worker; breaks = s.breaks } }
 
 abbrev pub on_book : SessionValue → BookAnswer → Answer
 on_book s a = record { text = text_of a.lines; session = record { book = a.book; worker = s.worker; breaks = s.breaks } }
@@ -252,7 +252,7 @@ module _ (b : BookValue) (breaks : List Break) where
 
   -- a call for the tile at a place
   asked_same : (x : Option WorkerValue) (make : ℕ → Call) (act : TileValue → Act)
-      → ((t : TileValue) → turn b x 0 (act t) ≡ called b 0 (make t.id) (λ r. x))
+      → ((t : TileValue) → turn_of b x 0 (act t) ≡ called b 0 (make t.id) (λ r. x))
       → ((id : ℕ) → length (outcome b 0 (make id)).tiles ≡ length b.tiles)
       → (place : Option ℕ) → ((i : ℕ) → place ≡ Some i → i < length b.tiles)
       → done_by (seen x) (at_place (seen x) (λ i t. asks (seen x) (act t) (told.Tile i)) place) ≡ on_book (seen x) (answer_of_tile b make place)
@@ -265,14 +265,14 @@ module _ (b : BookValue) (breaks : List Break) where
 
   -- the tile at a place is entered
   entering_is : (id : ℕ) (held : Bool)
-      → turn b None 0 (cond held (TakeHeld id) (Lease id)) ≡ called b 0 (cond held (call.TakeHeld id) (call.Lease id)) (lent_worker b.problem)
-  unfolding turn
+      → turn_of b None 0 (cond held (TakeHeld id) (Lease id)) ≡ called b 0 (cond held (call.TakeHeld id) (call.Lease id)) (lent_worker b.problem)
+  unfolding turn_of
   entering_is id true = refl
   entering_is id false = refl
 
   pub entered_same : (place : Option ℕ)
       → done_by (seen None) (at_place (seen None) (λ i t. asks (seen None) (enter_act t) told.Place) place)
-      ≡ on_desk (seen None) (entered_at b place)
+      ≡ on_workplace (seen None) (entered_at b place)
   entered_same None = ap (λ (t : List ℕ). record { text = t; session = seen None }) (sym (one_line (book_refusal UnknownBranch)))
   entered_same (Some i) =
       let t = tile_at b.tiles i in
@@ -283,12 +283,12 @@ module _ (b : BookValue) (breaks : List Break) where
       ∙ stands b None (outcome b 0 c).reply)) refl
       (one_act b _ None _ (enter_act t) (ap (λ (u : Turn). u.book) is) (ap (λ (u : Turn). u.worker) is))
 
-  stop_turn : (x : Option WorkerValue) (id : ℕ) → turn b x 0 (RequestStop id) ≡ called b 0 (call.RequestStop id) (λ r. x)
-  unfolding turn
+  stop_turn : (x : Option WorkerValue) (id : ℕ) → turn_of b x 0 (RequestStop id) ≡ called b 0 (call.RequestStop id) (λ r. x)
+  unfolding turn_of
   stop_turn x id = refl
 
-  back_turn : (x : Option WorkerValue) (id : ℕ) (mark : StateValue) → turn b x 0 (PutBack id mark) ≡ called b 0 (call.PutBack id mark) (λ r. x)
-  unfolding turn
+  back_turn : (x : Option WorkerValue) (id : ℕ) (mark : StateValue) → turn_of b x 0 (PutBack id mark) ≡ called b 0 (call.PutBack id mark) (λ r. x)
+  unfolding turn_of
   back_turn x id mark = refl
 
   pub hold_same : (x : Option WorkerValue) (lo : Option (List ℕ))

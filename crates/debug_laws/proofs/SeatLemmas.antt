@@ -7,11 +7,11 @@ use Rattle.x_branches.specs.Branch.{end_of}
 use Rattle.x_branches.specs.Refusals.{most_steps}
 use Rattle.x_branches.specs.Runner.{RunnerValue, unposted_steps}
 use Rattle.x_branches.specs.declared.fault.RunnerFault.TheVariants.{AtBranchEnd, AtMark, StretchFull}
-use Rattle.lab_book.specs.declared.lease.Grant.{Grant}
-use Rattle.lab_book.specs.declared.entry.Call.{Call}
-use Rattle.lab_book.specs.declared.entry.Call.TheVariants as call
-use Rattle.lab_book.specs.declared.entry.Reply.{Reply}
-use Rattle.lab_book.specs.declared.entry.Reply.TheVariants as reply
+use Rattle.lab_history.specs.declared.grant.Grant.{Grant}
+use Rattle.lab_history.specs.declared.entry.Call.{Call}
+use Rattle.lab_history.specs.declared.entry.Call.TheVariants as call
+use Rattle.lab_history.specs.declared.entry.Reply.{Reply}
+use Rattle.lab_history.specs.declared.entry.Reply.TheVariants as reply
 use Rattle.lab_book.specs.States.{same_state}
 use Rattle.lab_book.specs.Book.{BookValue, outcome}
 use Rattle.lab_world.specs.declared.event.Act.{Act}
@@ -20,10 +20,10 @@ use Rattle.lab_world.specs.declared.event.Act.TheVariants.{Close, PutBack, Reque
 use Rattle.x_steps.specs.declared.event.Event.TheVariants as event
 use Rattle.lab_world.specs.declared.event.WorldReply.TheVariants as world
 use Rattle.lab_world.specs.Worker.{WorkerValue, moved_to, after_end}
-use Rattle.lab_world.specs.World.{WorldValue, Turn, turn, stays, called, stepped, stepped_back, worker_at, played}
+use Rattle.lab_world.specs.World.{WorldValue, Turn, turn_of, stays, called, stepped, stepped_back, worker_at, played}
 use Rattle.lab_world.specs.Alone.{alone, own_events}
 use Rattle.debug_acts.specs.Acts.{has_rest, is_ended, step_acts, walk_acts}
-use Rattle.debug_acts.specs.Walking.{posted, steps_ahead}
+use Rattle.debug_acts.specs.Walk.{work_posted, steps_ahead}
 use Rattle.debug_acts.specs.Work.{AtWork, work}
 use Rattle.debug_acts.proofs.LeadLemmas.{post_leads}
 use Rattle.lab_book_laws.specs.AlikeBooks.{AreAlikeBooks}
@@ -132,19 +132,19 @@ module _ (b c : BookValue) (k : AreAlikeBooks b c) where
     back_alike_at = subst (λ (r : RunnerValue). Alike (stepped_back b v) (stepped_back c (record { grant = w.grant; runner = r }))) e
         (back_alike_by v.grant w.grant v.runner)
 
-    post_alike_at : Alike (turn b (Some v) 0 Post) (turn c (Some w) 0 Post)
+    post_alike_at : Alike (turn_of b (Some v) 0 Post) (turn_of c (Some w) 0 Post)
     post_alike_at =
-        via_alike (turn b (Some v) 0 Post) (turn c (Some w) 0 Post) _ _ _ _ (post_leads (work b v) (as_work (work b v) s)) (post_leads (work c w) (as_work (work c w) t))
-        (from_works (posted (work b v)) (posted (work c w)) (posted_alike (work b v) (work c w) s t both))
+        via_alike (turn_of b (Some v) 0 Post) (turn_of c (Some w) 0 Post) _ _ _ _ (post_leads (work b v) (as_work (work b v) s)) (post_leads (work c w) (as_work (work c w) t))
+        (from_works (work_posted (work b v)) (work_posted (work c w)) (posted_alike (work b v) (work c w) s t both))
 
-    split_alike_at : (level o : ℕ) → Alike (turn b (Some v) 0 (Split level o)) (turn c (Some w) 0 (Split level o))
+    split_alike_at : (level o : ℕ) → Alike (turn_of b (Some v) 0 (Split level o)) (turn_of c (Some w) 0 (Split level o))
     split_alike_at level o =
-        via_alike (turn b (Some v) 0 (Split level o)) (turn c (Some w) 0 (Split level o)) _ _ _ _ (split_leads (work b v) s level o) (split_leads (work c w) t level o)
+        via_alike (turn_of b (Some v) 0 (Split level o)) (turn_of c (Some w) 0 (Split level o)) _ _ _ _ (split_leads (work b v) s level o) (split_leads (work c w) t level o)
         (from_works (split (work b v) level o).work (split (work c w) level o).work (split_alike (work b v) (work c w) s t both level o).work)
 
-    retract_alike_at : Alike (turn b (Some v) 0 Retract) (turn c (Some w) 0 Retract)
+    retract_alike_at : Alike (turn_of b (Some v) 0 Retract) (turn_of c (Some w) 0 Retract)
     retract_alike_at =
-        via_alike (turn b (Some v) 0 Retract) (turn c (Some w) 0 Retract) _ _ _ _ (retract_leads (work b v) s) (retract_leads (work c w) t)
+        via_alike (turn_of b (Some v) 0 Retract) (turn_of c (Some w) 0 Retract) _ _ _ _ (retract_leads (work b v) s) (retract_leads (work c w) t)
         (from_works (retract (work b v)).work (retract (work c w)).work (retract_alike (work b v) (work c w) s t both).work)
 
     -- the lease is ended, or the book refuses it
@@ -163,8 +163,8 @@ module _ (b c : BookValue) (k : AreAlikeBooks b c) where
         })
 
 pub turn_alike : (b c : BookValue) (x y : Option WorkerValue) (a : Act) → is_own a ≡ true → IsSoundSeat b x → IsSoundSeat c y
-    → AreAlikeSeats b x c y → Alike (turn b x 0 a) (turn c y 0 a)
-unfolding turn
+    → AreAlikeSeats b x c y → Alike (turn_of b x 0 a) (turn_of c y 0 a)
+unfolding turn_of
 turn_alike b c None (Some w) a own h i k = let e = k.runner in absurd (cc)
 turn_alike b c (Some v) None a own h i k = let e = k.runner in absurd (cc)
 turn_alike b c None None (Lease id) own h i k = absurd (false≢true own)
@@ -206,7 +206,7 @@ pub acts_alike : (acts : List Act) (b c : BookValue) (x y : Option WorkerValue) 
     AreAlikeSeats v.book (worker_at v.workers 0) w.book (worker_at w.workers 0)
 acts_alike [] b c x y own h i k = k
 acts_alike (a ∷ acts) b c x y own h i k =
-    acts_alike acts (turn b x 0 a).book (turn c y 0 a).book (turn b x 0 a).worker (turn c y 0 a).worker own.1 (turn_sound b x a h)
+    acts_alike acts (turn_of b x 0 a).book (turn_of c y 0 a).book (turn_of b x 0 a).worker (turn_of c y 0 a).worker own.1 (turn_sound b x a h)
     (turn_sound c y a i) (turn_alike b c x y a own.0 h i k)
 
 pub own_both : (xs ys : List Act) → AreOwn xs → AreOwn ys → AreOwn (xs ++ ys)

@@ -6,10 +6,10 @@ use Rattle.x_branches.specs.Runner.{runner_at}
 use Rattle.x_branches.specs.Branch.{first_of}
 use Rattle.x_texts.specs.declared.breakpoint.Break.TheVariants.{Visit}
 use Rattle.lab_book.specs.declared.status.Status.TheVariants.{Leased}
-use Rattle.lab_book.specs.declared.lease.Grant.{Grant}
+use Rattle.lab_history.specs.declared.grant.Grant.{Grant}
 use Rattle.lab_book.specs.Book.{BookValue}
 use Rattle.debug_language.specs.declared.question.Question.TheVariants.{Show, Branches}
-use Rattle.debug_language.specs.Reading.{command_from}
+use Rattle.debug_language.specs.Reader.{command_from}
 use Rattle.x_debug.specs.Session.{SessionValue, session_on}
 use Rattle.x_debug.specs.Commands.{deed_of}
 use Rattle.x_debug.specs.Questions.{lines_asked, question_lines}

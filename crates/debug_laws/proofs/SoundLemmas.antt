@@ -8,22 +8,22 @@ use Rattle.x_texts.specs.declared.breakpoint.Break.{Break}
 use Rattle.x_snapshot.specs.declared.fault.SnapshotFault.{SnapshotFault}
 use Rattle.x_snapshot.specs.declared.fault.SnapshotFault.TheVariants.{NotOnRun, OutsideBranch}
 use Rattle.x_snapshot.specs.Snapshot.{SnapshotValue, branch_between, path_in, IsCutIfAny}
-use Rattle.x_snapshot.specs.Reading.{parts_of}
+use Rattle.x_snapshot.specs.Reader.{parts_of}
 use Rattle.x_snapshot.specs.Judged.{is_on_run, is_inside, judged}
 use Rattle.x_snapshot.proofs.JudgedLemmas.{on_run_decides, inside_decides}
-use Rattle.lab_book.specs.declared.fault.BookFault.TheVariants.{ForeignProblem}
+use Rattle.lab_history.specs.declared.fault.BookFault.TheVariants.{ForeignProblem}
 use Rattle.lab_book.specs.Tiling.{IsTiling}
 use Rattle.lab_book.specs.Book.{BookValue, leased_in, new_book, whole_tile}
 use Rattle.lab_book.proofs.StepLemmas.{whole_run, opened_keeps}
 use Rattle.lab_world.specs.declared.event.Act.TheVariants.{LeaseAny}
 use Rattle.lab_world.specs.Worker.{WorkerValue}
-use Rattle.lab_world.specs.World.{turn}
+use Rattle.lab_world.specs.World.{turn_of}
 use Rattle.debug_language.specs.Command.{CommandValue}
 use Rattle.debug_views.specs.Lines.{state_line, book_refusal}
 use Rattle.debug_acts.specs.Work.{work}
 use Rattle.x_debug.specs.Session.{SessionValue, fresh_session, session_on, entered}
 use Rattle.x_debug.specs.Commands.{Deed, done_by, deed_of, deed_of_line, answer, answer_line, IsLeft, left_by}
-use Rattle.x_debug.specs.Loading.{answers, load_by, load_answer, loaded, breaks_of}
+use Rattle.x_debug.specs.LoadedTexts.{answers, load_by, load_answer, loaded, breaks_of}
 use Rattle.debug_laws.specs.AlikeSessions.{IsSoundSession}
 use Rattle.debug_laws.proofs.WorkLemmas.{IsSoundWork}
 use Rattle.debug_laws.proofs.TurnLemmas.{IsSoundSeat, at_work, turn_sound, acts_sound}
@@ -39,7 +39,7 @@ session_of s h = record { tiling = h.tiling; seat = h.seat; runner = h.runner; l
 -- once the first tile that waits is leased
 entered_sound : (b : BookValue) → IsTiling b.problem b.branch b.first b.tiles → leased_in b.tiles ≡ 0 → (breaks : List Break)
     → IsSoundSession (record { book = (entered b).book; worker = (entered b).worker; breaks = breaks })
-unfolding turn
+unfolding turn_of
 entered_sound b t n breaks = session_of _ (turn_sound b None LeaseAny (record { tiling = t; seat = tt; runner = tt; leased = n }))
 
 -- ---- new sessions

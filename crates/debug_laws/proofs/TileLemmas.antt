@@ -6,12 +6,12 @@ use Rattle.cover_problem.specs.Problem.{ProblemValue}
 use Rattle.x_branches.specs.Runner.{RunnerValue}
 use Rattle.lab_book.specs.declared.status.Status.{Status}
 use Rattle.lab_book.specs.declared.status.Status.TheVariants as status
-use Rattle.lab_book.specs.declared.lease.Grant.{Grant}
-use Rattle.lab_book.specs.declared.entry.Reply.{Reply}
-use Rattle.lab_book.specs.declared.entry.Reply.TheVariants as reply
+use Rattle.lab_history.specs.declared.grant.Grant.{Grant}
+use Rattle.lab_history.specs.declared.entry.Reply.{Reply}
+use Rattle.lab_history.specs.declared.entry.Reply.TheVariants as reply
 use Rattle.lab_book.specs.Tile.{TileValue, is_closed, is_leased, is_lease}
 use Rattle.lab_book.specs.Tiling.{tile_at}
-use Rattle.lab_book.specs.Book.{BookValue, path_of}
+use Rattle.lab_book.specs.Book.{BookValue, cut_path}
 use Rattle.lab_world.specs.Worker.{WorkerValue, lent_worker}
 use Rattle.lab_world.proofs.HoldLemmas.{own_lease}
 use Rattle.debug_language.specs.Replies.{standing_words}
@@ -31,7 +31,7 @@ standing_seen status.Waiting = refl
 standing_seen _ = refl
 
 line_seen : (t : TileValue) → tile_line (anonymous_tile t) ≡ tile_line t
-line_seen t = ap (standing_words (path_of t.branch.lo) (path_of t.branch.hi)) (standing_seen t.status)
+line_seen t = ap (standing_words (cut_path t.branch.lo) (cut_path t.branch.hi)) (standing_seen t.status)
 
 pub lines_seen : (ts : List TileValue) → map tile_line (map anonymous_tile ts) ≡ map tile_line ts
 lines_seen [] = refl
@@ -43,10 +43,10 @@ same_line t u e = sym (line_seen t) ∙ ap tile_line e ∙ line_seen u
 -- ---- the tile that a cut names
 
 begun_seen : (lo : Option (List ℕ)) (t : TileValue) → is_begun_at lo (anonymous_tile t) ≡ is_begun_at lo t
-begun_seen lo t = ap (λ (b : Bool). not b && same_cut (path_of t.branch.lo) lo) (closed_seen t.status)
+begun_seen lo t = ap (λ (b : Bool). not b && same_cut (cut_path t.branch.lo) lo) (closed_seen t.status)
 
 begun_open : (lo : Option (List ℕ)) (t : TileValue) → is_begun_at lo t ≡ true → is_closed t.status ≡ false
-begun_open lo t e = not-true _ (and_parts (not (is_closed t.status)) (same_cut (path_of t.branch.lo) lo) e).0
+begun_open lo t e = not-true _ (and_parts (not (is_closed t.status)) (same_cut (cut_path t.branch.lo) lo) e).0
 
 pub place_meet : (lo : Option (List ℕ)) (a b : BookValue) → AreAlikeBooks a b → Meet a.tiles b.tiles (place_at lo a.tiles) (place_at lo b.tiles)
 place_meet lo a b k = first_meet (is_begun_at lo) (begun_seen lo) (begun_open lo) a.tiles b.tiles k.tiles

@@ -11,11 +11,11 @@ use Rattle.x_branches.specs.Branch.{end_of}
 use Rattle.x_branches.specs.Refusals.{most_steps}
 use Rattle.x_branches.specs.Runner.{RunnerValue, IsRunner, IsBranch, unposted_steps}
 use Rattle.x_branches.specs.declared.fault.RunnerFault.TheVariants.{AtBranchEnd, AtMark, StretchFull}
-use Rattle.lab_book.specs.declared.fault.BookFault.TheVariants.{NotAtEnd}
-use Rattle.lab_book.specs.declared.entry.Call.{Call}
-use Rattle.lab_book.specs.declared.entry.Call.TheVariants as call
-use Rattle.lab_book.specs.declared.entry.Reply.{Reply}
-use Rattle.lab_book.specs.declared.entry.Reply.TheVariants as reply
+use Rattle.lab_history.specs.declared.fault.BookFault.TheVariants.{NotAtEnd}
+use Rattle.lab_history.specs.declared.entry.Call.{Call}
+use Rattle.lab_history.specs.declared.entry.Call.TheVariants as call
+use Rattle.lab_history.specs.declared.entry.Reply.{Reply}
+use Rattle.lab_history.specs.declared.entry.Reply.TheVariants as reply
 use Rattle.lab_book.specs.States.{same_state}
 use Rattle.lab_book.specs.Tile.{TileValue, mark_of, tile_end}
 use Rattle.lab_book.specs.Tiling.{IsTiling}
@@ -28,11 +28,11 @@ use Rattle.lab_world.specs.declared.event.Act.TheVariants.{Close, PutBack, Reque
 use Rattle.x_steps.specs.declared.event.Event.TheVariants as event
 use Rattle.lab_world.specs.declared.event.WorldReply.TheVariants as world
 use Rattle.lab_world.specs.Worker.{WorkerValue, HoldsTile, moved_to, lent_worker, after_end}
-use Rattle.lab_world.specs.World.{WorldValue, Turn, IsSeat, turn, stays, worker_at, played}
+use Rattle.lab_world.specs.World.{WorldValue, Turn, IsSeat, turn_of, stays, worker_at, played}
 use Rattle.lab_world.specs.Alone.{alone, own_events}
 use Rattle.lab_world.proofs.OwnLemmas.{own, own_is_tile, found_own}
 use Rattle.lab_world.proofs.TurnLemmas.{turn_keeps}
-use Rattle.debug_acts.specs.Walking.{steps_ahead, posted}
+use Rattle.debug_acts.specs.Walk.{steps_ahead, work_posted}
 use Rattle.debug_acts.specs.Work.{AtWork, work}
 use Rattle.debug_acts.proofs.CallLemmas.{IsOfRun, call_keeps}
 use Rattle.debug_acts.proofs.WalkLemmas.{step_within}
@@ -107,8 +107,8 @@ module _ (b : BookValue) (w : WorkerValue) (p : IsSoundWork (work b w)) where
   abbrev same : IsSoundSeat b (Some w)
   same = from_work u p
 
-  step_sound : Sound (turn b (Some w) 0 Step)
-  unfolding turn
+  step_sound : Sound (turn_of b (Some w) 0 Step)
+  unfolding turn_of
   step_sound = by (same_state r.position (end_of r.branch.hi)) refl (unposted_steps r == most_steps) refl
     where
       moved : same_state r.position (end_of r.branch.hi) ≡ false → (unposted_steps r == most_steps) ≡ false
@@ -129,8 +129,8 @@ module _ (b : BookValue) (w : WorkerValue) (p : IsSoundWork (work b w)) where
       by false e true f = same
       by false e false f = moved e f
 
-  step_back_sound : Sound (turn b (Some w) 0 Back)
-  unfolding turn
+  step_back_sound : Sound (turn_of b (Some w) 0 Back)
+  unfolding turn_of
   step_back_sound = by (same_state r.position r.mark) refl
     where
       moved : same_state r.position r.mark ≡ false → IsSoundSeat b (Some (moved_to w (prev r.problem r.position)))
@@ -149,8 +149,8 @@ module _ (b : BookValue) (w : WorkerValue) (p : IsSoundWork (work b w)) where
       by false e = moved e
 
   -- a tile that is given up
-  abandon_sound : Sound (turn b (Some w) 0 Abandon)
-  unfolding turn outcome
+  abandon_sound : Sound (turn_of b (Some w) 0 Abandon)
+  unfolding turn_of outcome
   abandon_sound =
       let done : outcome b w.grant.worker (call.Abandon w.grant) ≡ settled b freed p.holds.tile.place =
       ap (made_at b.tiles (settled b freed)) (found_own b w p.tiling p.holds (λ (t : TileValue). None)) in
@@ -159,8 +159,8 @@ module _ (b : BookValue) (w : WorkerValue) (p : IsSoundWork (work b w)) where
       (free _ (call_keeps b p.tiling w.grant.worker (call.Abandon w.grant) tt)
       (ap (λ (o : Outcome). leased_in o.tiles) done ∙ ended u p (freed tile) (freed_free u p tile.stop)))
 
-  close_sound : Sound (turn b (Some w) 0 Close)
-  unfolding turn outcome
+  close_sound : Sound (turn_of b (Some w) 0 Close)
+  unfolding turn_of outcome
   close_sound = by (same_state (mark_of tile) (tile_end tile)) refl
     where
       tile : TileValue
@@ -212,8 +212,8 @@ module _ (b : BookValue) where
         leased = omega arith;
       }
 
-  pub turn_sound : (x : Option WorkerValue) (a : Act) → IsSoundSeat b x → Sound (turn b x 0 a)
-  unfolding turn
+  pub turn_sound : (x : Option WorkerValue) (a : Act) → IsSoundSeat b x → Sound (turn_of b x 0 a)
+  unfolding turn_of
   turn_sound None (Lease id) h =
       lent_sound (call.Lease id) h tt (turn_keeps b 0 h.tiling None (Lease id) tt) (lease_counts b 0 b.problem id)
   turn_sound None LeaseAny h = lent_sound call.LeaseAny h tt (turn_keeps b 0 h.tiling None LeaseAny tt) (lease_any_counts b 0 b.problem)
@@ -229,16 +229,16 @@ module _ (b : BookValue) where
   turn_sound (Some w) (TakeHeld id) h = h
   turn_sound (Some w) Post h =
       let p = at_work b w h in
-      via (turn b (Some w) 0 Post) _ _ (post_leads (work b w) (as_work (work b w) p)) (from_work (posted (work b w)) (posted_sound (work b w) p))
+      via (turn_of b (Some w) 0 Post) _ _ (post_leads (work b w) (as_work (work b w) p)) (from_work (work_posted (work b w)) (posted_sound (work b w) p))
   turn_sound (Some w) (Split level o) h =
       let p = at_work b w h in
-      via (turn b (Some w) 0 (Split level o)) _ _ (split_leads (work b w) p level o) (from_work (split (work b w) level o).work (split_sound (work b w) p level o))
+      via (turn_of b (Some w) 0 (Split level o)) _ _ (split_leads (work b w) p level o) (from_work (split (work b w) level o).work (split_sound (work b w) p level o))
   turn_sound (Some w) Retract h =
       let p = at_work b w h in
-      via (turn b (Some w) 0 Retract) _ _ (retract_leads (work b w) p) (from_work (retract (work b w)).work (retract_sound (work b w) p))
+      via (turn_of b (Some w) 0 Retract) _ _ (retract_leads (work b w) p) (from_work (retract (work b w)).work (retract_sound (work b w) p))
   turn_sound (Some w) Park h =
       let p = at_work b w h in
-      via (turn b (Some w) 0 Park) _ _ (park_leads (work b w) p)
+      via (turn_of b (Some w) 0 Park) _ _ (park_leads (work b w) p)
       (free _ (call_keeps b h.tiling w.grant.worker (call.Park w.grant) tt) (park_leaves (work b w) p))
   turn_sound (Some w) Abandon h = abandon_sound b w (at_work b w h)
   turn_sound (Some w) Close h = close_sound b w (at_work b w h)
@@ -253,4 +253,4 @@ module _ (b : BookValue) where
 pub acts_sound : (acts : List Act) (b : BookValue) (x : Option WorkerValue) → IsSoundSeat b x
     → let v = played (alone b x) (own_events acts) in IsSoundSeat v.book (worker_at v.workers 0)
 acts_sound [] b x h = h
-acts_sound (a ∷ acts) b x h = acts_sound acts (turn b x 0 a).book (turn b x 0 a).worker (turn_sound b x a h)
+acts_sound (a ∷ acts) b x h = acts_sound acts (turn_of b x 0 a).book (turn_of b x 0 a).worker (turn_sound b x a h)

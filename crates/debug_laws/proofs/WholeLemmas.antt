@@ -4,18 +4,18 @@ use Rattle.cover_problem.specs.Problem.{ProblemValue, is_same}
 use Rattle.x_snapshot.specs.declared.fault.SnapshotFault.{SnapshotFault}
 use Rattle.x_snapshot.specs.Snapshot.{SnapshotValue}
 use Rattle.x_snapshot.specs.Judged.{snapshot_of}
-use Rattle.lab_book.specs.declared.fault.BookFault.TheVariants.{ForeignProblem}
+use Rattle.lab_history.specs.declared.fault.BookFault.TheVariants.{ForeignProblem}
 use Rattle.lab_book.specs.Book.{BookValue}
 use Rattle.lab_world.specs.declared.event.Act.{Act}
 use Rattle.lab_world.specs.declared.event.Act.TheVariants.{LeaseAny}
 use Rattle.lab_world.specs.Worker.{WorkerValue}
-use Rattle.lab_world.specs.World.{WorldValue, IsWorld, IsSeat, turn, worker_at, played, fresh}
+use Rattle.lab_world.specs.World.{WorldValue, IsWorld, IsSeat, turn_of, worker_at, played, new_world}
 use Rattle.lab_world.specs.Alone.{alone, own_events, Leads}
 use Rattle.lab_world.proofs.AloneLemmas.{then_acts}
 use Rattle.debug_views.specs.Lines.{state_line, book_refusal}
 use Rattle.x_debug.specs.Session.{SessionValue, fresh_session, entered}
 use Rattle.x_debug.specs.Commands.{world_of, deed_of_line, answer_line}
-use Rattle.x_debug.specs.Loading.{answers, load_by, load_answer, loaded}
+use Rattle.x_debug.specs.LoadedTexts.{answers, load_by, load_answer, loaded}
 use Rattle.debug_laws.specs.AlikeSessions.{IsSoundSession}
 use Rattle.debug_laws.specs.PlayedSessions.{left_by_lines, all_acts, SessionPlays, WholePlays, entered_world, whole_book, snapshot_book, loaded_world}
 
@@ -23,7 +23,7 @@ use Rattle.debug_laws.specs.PlayedSessions.{left_by_lines, all_acts, SessionPlay
 still_alone : (acts : List Act) (b : BookValue) (x : Option WorkerValue)
     → let v = played (alone b x) (own_events acts) in v ≡ alone v.book (worker_at v.workers 0)
 still_alone [] b x = refl
-still_alone (a ∷ acts) b x = still_alone acts (turn b x 0 a).book (turn b x 0 a).worker
+still_alone (a ∷ acts) b x = still_alone acts (turn_of b x 0 a).book (turn_of b x 0 a).worker
 
 -- what lines leave
 lines_lead : (s : SessionValue) (lines : List (List ℕ))
@@ -41,7 +41,7 @@ session_plays s lines = sym (lines_lead s lines)
 -- ---- new sessions
 
 entered_plays : (b : BookValue) → alone (entered b).book (entered b).worker ≡ entered_world b
-unfolding turn
+unfolding turn_of
 entered_plays b = refl
 
 pub fresh_plays : (p : ProblemValue) → world_of (fresh_session p) ≡ entered_world (whole_book p)

@@ -14,19 +14,19 @@ use Rattle.x_branches.specs.Refusals.{most_steps, untried_in, cut_at}
 use Rattle.x_branches.specs.Untried.{with_choice}
 use Rattle.x_branches.proofs.CutLemmas.{cut_fits}
 use Rattle.x_branches.proofs.StageLemmas.{comes_rank}
-use Rattle.lab_book.specs.declared.fault.BookFault.{BookFault}
-use Rattle.lab_book.specs.declared.entry.Call.TheVariants as call
-use Rattle.lab_book.specs.declared.entry.Reply.{Reply}
-use Rattle.lab_book.specs.declared.entry.Reply.TheVariants as reply
+use Rattle.lab_history.specs.declared.fault.BookFault.{BookFault}
+use Rattle.lab_history.specs.declared.entry.Call.TheVariants as call
+use Rattle.lab_history.specs.declared.entry.Reply.{Reply}
+use Rattle.lab_history.specs.declared.entry.Reply.TheVariants as reply
 use Rattle.lab_book.specs.Tile.{TileValue, Join}
 use Rattle.lab_book.specs.Tiling.{IsTiling}
-use Rattle.lab_book.specs.Book.{BookValue, Outcome, outcome, leased_in, made_at, unless, last_of, retracted, retract_fault}
+use Rattle.lab_book.specs.Book.{BookValue, Outcome, outcome, leased_in, made_at, unless, last_stretch, retracted, retract_fault}
 use Rattle.debug_views.specs.Lines.{runner_refusal}
 use Rattle.lab_world.specs.Worker.{WorkerValue, HoldsTile, after_retract, after_split, marked_at, moved_to, shortened}
 use Rattle.lab_world.proofs.HoldLemmas.{passed}
 use Rattle.lab_world.proofs.OwnLemmas.{Has, own, own_is_tile, found_own, last_own, some_is, retract_has, split_has}
 use Rattle.lab_world.proofs.SplitLemmas.{cut_is, split_is}
-use Rattle.debug_acts.specs.Walking.{steps_ahead, post_call, posted, with_room, stepped}
+use Rattle.debug_acts.specs.Walk.{steps_ahead, post_call, work_posted, with_room, step_forward}
 use Rattle.lab_world.specs.World.{cut_refusal}
 use Rattle.debug_acts.proofs.CallLemmas.{call_keeps}
 use Rattle.x_branches.proofs.RunnerLemmas.{may_end}
@@ -55,8 +55,8 @@ module _ (u : AtWork) (s : IsSoundWork u) where
 
   -- ---- what isn't posted is posted
 
-  pub posted_sound : IsSoundWork (posted u)
-  unfolding posted
+  pub posted_sound : IsSoundWork (work_posted u)
+  unfolding work_posted
   posted_sound =
       let q = posted_work u (as_work u s) in
       record {
@@ -73,7 +73,7 @@ module _ (u : AtWork) (s : IsSoundWork u) where
   either false v k = s
 
   pub room_sound : IsSoundWork (with_room u)
-  room_sound = either (unposted_steps run == most_steps) (posted u) posted_sound
+  room_sound = either (unposted_steps run == most_steps) (work_posted u) posted_sound
 
   -- ---- the search stands elsewhere
 
@@ -113,8 +113,8 @@ module _ (u : AtWork) (s : IsSoundWork u) where
 
 -- ---- steps on
 
-pub stepped_sound : (u : AtWork) → IsSoundWork u → 0 < steps_ahead u.worker.runner → IsSoundWork (stepped u)
-unfolding stepped
+pub stepped_sound : (u : AtWork) → IsSoundWork u → 0 < steps_ahead u.worker.runner → IsSoundWork (step_forward u)
+unfolding step_forward
 stepped_sound u s some =
     let q = stepped_work u (as_work u s) some in
     let r = room_sound u s in
@@ -122,7 +122,7 @@ stepped_sound u s some =
 
 -- ---- the last stretch is taken out
 
-last_part : (p : ProblemValue) (s : StateValue) (xs : List StretchValue) (x : StretchValue) → Join p s xs → last_of xs ≡ Some x
+last_part : (p : ProblemValue) (s : StateValue) (xs : List StretchValue) (x : StretchValue) → Join p s xs → last_stretch xs ≡ Some x
     → IsStretch p x.from x.to
 last_part p s [] x j e = absurd (cc)
 last_part p s (y ∷ []) x j e =

@@ -9,14 +9,14 @@ use Rattle.x_branches.specs.declared.fault.RunnerFault.TheVariants.{NotAtMark}
 use Rattle.x_branches.specs.Cut.{CutPath}
 use Rattle.x_branches.specs.Runner.{RunnerValue, unposted_steps}
 use Rattle.x_branches.specs.Refusals.{untried_in, cut_at}
-use Rattle.lab_book.specs.declared.fault.BookFault.TheVariants.{UnknownBranch}
-use Rattle.lab_book.specs.declared.entry.Call.{Call}
-use Rattle.lab_book.specs.declared.entry.Call.TheVariants as call
-use Rattle.lab_book.specs.declared.entry.Reply.{Reply}
-use Rattle.lab_book.specs.declared.entry.Reply.TheVariants as reply
+use Rattle.lab_history.specs.declared.fault.BookFault.TheVariants.{UnknownBranch}
+use Rattle.lab_history.specs.declared.entry.Call.{Call}
+use Rattle.lab_history.specs.declared.entry.Call.TheVariants as call
+use Rattle.lab_history.specs.declared.entry.Reply.{Reply}
+use Rattle.lab_history.specs.declared.entry.Reply.TheVariants as reply
 use Rattle.lab_book.specs.Tile.{TileValue, is_held}
 use Rattle.lab_book.specs.Tiling.{tile_at}
-use Rattle.lab_book.specs.Book.{BookValue, outcome, book_step, path_of}
+use Rattle.lab_book.specs.Book.{BookValue, outcome, book_step, cut_path}
 use Rattle.lab_world.specs.Worker.{WorkerValue, lent_worker, marked_at, shortened}
 use Rattle.lab_world.specs.World.{cut_refusal}
 use Rattle.debug_language.specs.declared.words.Counted.TheVariants as counts
@@ -24,7 +24,7 @@ use Rattle.debug_language.specs.declared.words.Standing.TheVariants as standing
 use Rattle.debug_language.specs.Replies.{standing_words}
 use Rattle.debug_views.specs.Lines.{state_line, counted, runner_refusal, book_refusal}
 use Rattle.debug_views.specs.Tiles.{tile_line, place_at}
-use Rattle.debug_acts.specs.Desk.{Desk, desk}
+use Rattle.debug_acts.specs.Workplace.{Workplace, workplace}
 use Rattle.debug_acts.specs.Work.{AtWork, work}
 
 -- lines that are answered, and what is left of a book and its worker
@@ -37,9 +37,9 @@ abbrev pub answered : List (List (List ℕ)) → AtWork → WorkAnswer
 answered lines a = record { lines = lines; work = a }
 
 -- a text that is answered, with the book and the worker that are left
-pub record DeskAnswer : Type 0 where
+pub record WorkplaceAnswer : Type 0 where
   pub text : List ℕ
-  pub desk : Desk
+  pub workplace : Workplace
 
 -- ---- what is asked of a tile
 
@@ -88,21 +88,21 @@ abbrev pub entering : BookValue → ℕ → Call
 entering b i = enter_call (tile_at b.tiles i)
 
 -- worker 0 makes a call that leases, and stands where its tile's mark is; or the book's refusal
-abbrev pub lent_by : BookValue → Call → DeskAnswer
+abbrev pub lent_by : BookValue → Call → WorkplaceAnswer
 lent_by b c =
     let r = (outcome b 0 c).reply in
     record {
       text = text_of (refusal_or (stand_lines (lent_worker b.problem r)) r);
-      desk = desk (book_step b 0 c) (lent_worker b.problem r);
+      workplace = workplace (book_step b 0 c) (lent_worker b.problem r);
     }
 
 -- the tile at a place is entered
-abbrev pub lent_at : BookValue → ℕ → DeskAnswer
+abbrev pub lent_at : BookValue → ℕ → WorkplaceAnswer
 lent_at b i = lent_by b (entering b i)
 
 -- the tile at a place is entered; where there is none it is refused, and the book isn't called
-abbrev pub entered_at : BookValue → Option ℕ → DeskAnswer
-entered_at b None = record { text = line_text (book_refusal UnknownBranch); desk = desk b None }
+abbrev pub entered_at : BookValue → Option ℕ → WorkplaceAnswer
+entered_at b None = record { text = line_text (book_refusal UnknownBranch); workplace = workplace b None }
 entered_at b (Some i) = lent_at b i
 
 -- ---- a branch is given up
@@ -115,7 +115,7 @@ parted a cut = work (book_step a.book a.worker.grant.worker (call.Split a.worker
 
 -- the line of the new branch: from the cut to where the branch ended
 abbrev pub parted_line : RunnerValue → CutPath → List (List ℕ)
-parted_line r cut = standing_words (Some cut.path) (path_of r.branch.hi) standing.Waiting
+parted_line r cut = standing_words (Some cut.path) (cut_path r.branch.hi) standing.Waiting
 
 -- `split` at option o of a level: the tile is parted there where the option is untried; else the lines say why it isn't, and nothing
 -- changes

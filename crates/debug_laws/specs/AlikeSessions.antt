@@ -9,9 +9,11 @@ use Rattle.lab_book.specs.Tiling.{IsTiling}
 use Rattle.lab_book.specs.Book.{BookValue, leased_in, IsTiled}
 use Rattle.lab_world.specs.Worker.{WorkerValue}
 use Rattle.lab_world.specs.World.{IsSeat}
+use Rattle.debug_language.specs.Command.{CommandValue}
 use Rattle.x_debug.specs.Session.{SessionValue, session_on}
 use Rattle.x_debug.specs.Questions.{runner_of}
-use Rattle.x_debug.specs.Commands.{Answer, IsLeft}
+use Rattle.x_debug.specs.Commands.{Answer, IsLeft, answer, answer_line}
+use Rattle.x_debug.specs.LoadedTexts.{load_answer}
 use Rattle.lab_book_laws.specs.AlikeBooks.{AreAlikeBooks}
 use Rattle.lab_book_laws.specs.Searched.{searched, IsSearched}
 
@@ -68,3 +70,15 @@ PooledAlike a b new =
 -- where two sessions are sound and alike, they answer alike
 abbrev pub AgreeOn : SessionValue → SessionValue → (SessionValue → Answer) → Type 0
 AgreeOn a b f = AreSoundAlike a b → AreAlikeAnswers (f a) (f b)
+
+-- the same of a command
+abbrev pub AgreeOnCommand : SessionValue → SessionValue → CommandValue → Type 0
+AgreeOnCommand a b c = AgreeOn a b (λ s. answer s c)
+
+-- of a line
+abbrev pub AgreeOnLine : SessionValue → SessionValue → List ℕ → Type 0
+AgreeOnLine a b line = AgreeOn a b (λ s. answer_line s line)
+
+-- and of a text that is loaded
+abbrev pub AgreeOnLoad : SessionValue → SessionValue → List ℕ → Type 0
+AgreeOnLoad a b bytes = AgreeOn a b (λ s. load_answer s bytes)

@@ -12,7 +12,7 @@ use Rattle.x_snapshot.specs.Judged.{snapshot_of}
 use Rattle.lab_book.specs.Book.{BookValue, new_book}
 use Rattle.lab_world.specs.declared.event.Act.{Act}
 use Rattle.lab_world.specs.declared.event.Act.TheVariants.{LeaseAny}
-use Rattle.lab_world.specs.World.{WorldValue, played, fresh}
+use Rattle.lab_world.specs.World.{WorldValue, played, new_world}
 use Rattle.lab_world.specs.Alone.{own_events}
 use Rattle.x_debug.specs.Session.{SessionValue, fresh_session}
 use Rattle.x_debug.specs.Commands.{Answer, world_of, deed_of_line, answer_line}
@@ -33,17 +33,21 @@ SessionPlays s lines = world_of (left_by_lines s lines) ≡ played (world_of s) 
 
 -- the world of a new book whose one worker was leased the first tile that waits
 abbrev pub entered_world : BookValue → WorldValue
-entered_world b = played (fresh b 1) (own_events (LeaseAny ∷ []))
+entered_world b = played (new_world b 1) (own_events (LeaseAny ∷ []))
 
 -- the book of a problem's whole run
 abbrev pub whole_book : ProblemValue → BookValue
 whole_book p = new_book p (record { lo = None; hi = None }) start
 
+-- a new session of a problem is the world of that book, whose worker was leased the first tile that waits
+abbrev pub BeginsEntered : ProblemValue → Type 0
+BeginsEntered p = world_of (fresh_session p) ≡ entered_world (whole_book p)
+
 -- lines leave a new session of a problem as the world whose worker leases the first tile that waits, and then does their acts
 abbrev pub WholePlays : ProblemValue → List (List ℕ) → Type 0
 WholePlays p lines =
     world_of (left_by_lines (fresh_session p) lines)
-    ≡ played (fresh (whole_book p) 1) (own_events (LeaseAny ∷ all_acts (fresh_session p) lines))
+    ≡ played (new_world (whole_book p) 1) (own_events (LeaseAny ∷ all_acts (fresh_session p) lines))
 
 -- the book of a snapshot's branch, with its state as the first mark
 abbrev pub snapshot_book : SnapshotValue → BookValue

@@ -1,14 +1,14 @@
 //! Laws of alike sessions, over the definitions alone: each is a function that does nothing, whose contract is the law.
-ghost use Rattle.std.specs.Prelude.{ℕ, ◌≡◌, List};
+ghost use Rattle.std.specs.Prelude.{ℕ, List};
 ghost use Rattle.lab_world.specs.World.{IsWorld};
 ghost use Rattle.cover_problem.specs.Problem.{ProblemValue};
 ghost use Rattle.lab_book.specs.Book.{BookValue};
 ghost use Rattle.debug_language.specs.Command.{CommandValue};
 ghost use Rattle.x_debug.specs.Session.{SessionValue, fresh_session};
 ghost use Rattle.x_debug.specs.Commands.{answer, answer_line, world_of};
-ghost use Rattle.x_debug.specs.Loading.{load_answer};
-ghost use Rattle.debug_laws.specs.AlikeSessions.{IsSoundSession, AreSoundAlike, LeavesSound, StopsSound, AgreeOn, PooledAlike};
-ghost use Rattle.debug_laws.specs.PlayedSessions.{SessionPlays, WholePlays, entered_world, whole_book, Loads};
+ghost use Rattle.x_debug.specs.LoadedTexts.{load_answer};
+ghost use Rattle.debug_laws.specs.AlikeSessions.{IsSoundSession, AreSoundAlike, LeavesSound, StopsSound, AgreeOnCommand, AgreeOnLine, AgreeOnLoad, PooledAlike};
+ghost use Rattle.debug_laws.specs.PlayedSessions.{BeginsEntered, SessionPlays, WholePlays, Loads};
 
 /// A new session of any problem is sound, and so is each session that a command, a line or a text that is loaded leaves of a sound
 /// one, also where memory runs out at a line. A sound session is alike to itself.
@@ -23,10 +23,11 @@ pub fn sessions_are_sound()
 
 /// Sound sessions that are alike answer each command, each line and each text that is loaded with the same text, and stay alike and
 /// sound.
+// A pool goes on with a session that is only alike to the one of the definition. These keep its answers the same.
 pub fn alike_sessions_answer_the_same()
-    ensures command { (a b : SessionValue) (c : CommandValue) → AgreeOn a b (λ s. answer s c) }
-    ensures line { (a b : SessionValue) (line : List ℕ) → AgreeOn a b (λ s. answer_line s line) }
-    ensures load { (a b : SessionValue) (bytes : List ℕ) → AgreeOn a b (λ s. load_answer s bytes) }
+    ensures command { (a b : SessionValue) (c : CommandValue) → AgreeOnCommand a b c }
+    ensures line { (a b : SessionValue) (line : List ℕ) → AgreeOnLine a b line }
+    ensures load { (a b : SessionValue) (bytes : List ℕ) → AgreeOnLoad a b bytes }
 {}
 
 /// Whatever tiling a pool makes of the book of a session with no branch open, the session on it is alike to the session on the searched
@@ -40,7 +41,7 @@ pub fn pooled_sessions_are_alike()
 /// one: its worker, if it has a tile, holds it.
 pub fn sessions_are_played()
     ensures session { (s : SessionValue) (lines : List (List ℕ)) → SessionPlays s lines }
-    ensures fresh { (p : ProblemValue) → world_of (fresh_session p) ≡ entered_world (whole_book p) }
+    ensures fresh { (p : ProblemValue) → BeginsEntered p }
     ensures whole { (p : ProblemValue) (lines : List (List ℕ)) → WholePlays p lines }
     ensures load { (s : SessionValue) (bytes : List ℕ) → Loads s bytes (load_answer s bytes) }
     ensures world { (s : SessionValue) → IsSoundSession s → IsWorld (world_of s) }

@@ -4,13 +4,13 @@ use Rattle.std.proofs.Common.{refl, sym, ap, ap₂, ◌∙◌, subst}
 use Rattle.std.specs.List.{concat}
 use Rattle.debug_language.specs.declared.engine.EngineCommand.{EngineCommand}
 use Rattle.debug_language.specs.declared.engine.EngineCommand.TheVariants as engine
-use Rattle.debug_language.specs.Reading.{engine_command_of}
+use Rattle.debug_language.specs.Reader.{engine_command_of}
 use Rattle.x_debug.specs.Session.{SessionValue}
 use Rattle.x_debug.specs.Commands.{Answer}
 use Rattle.debug_laws.specs.AlikeSessions.{AreSoundAlike, AreAlikeAnswers}
 use Rattle.debug_laws.proofs.AnswerLemmas.{line_alike, load_alike}
 use Rattle.debug_script.specs.Input.{without_newline}
-use Rattle.debug_script.specs.Pooling.{answer_pool}
+use Rattle.debug_script.specs.PoolAnswer.{answer_pool}
 use Rattle.debug_script.specs.Replies.{Exchange, exchange_with, exchange_by, exchange, debug_replies}
 use Rattle.debug_script.proofs.PoolLemmas.{pools_alike}
 

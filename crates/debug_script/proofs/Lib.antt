@@ -1,11 +1,11 @@
 mod RawLemmas
 mod FirstLemmas
-mod TakingLemmas
-mod SearchingLemmas
+mod TakenLemmas
+mod SearchLemmas
 mod InputExamples
 mod PoolLemmas
 mod AlikeLemmas
 mod ReplyLemmas
-mod RefusingExamples
-pub mod RefusingLemmas
+mod RefusalExamples
+pub mod RefusalLemmas
 mod ReplyExamples

@@ -13,7 +13,7 @@ use Rattle.debug_views.specs.Lines.{debug_refusal}
 use Rattle.debug_views.proofs.LineLemmas.{one_line}
 use Rattle.x_debug.specs.Session.{SessionValue}
 use Rattle.x_debug.specs.Commands.{says, done_by}
-use Rattle.x_debug.specs.Loading.{answers}
+use Rattle.x_debug.specs.LoadedTexts.{answers}
 use Rattle.lab_book_laws.specs.Searched.{searched, IsSearched}
 use Rattle.lab_book_laws.proofs.FilterLemmas.{count_none}
 use Rattle.lab_book_laws.proofs.CountLemmas.{held_alike, leased_alike}
@@ -21,7 +21,7 @@ use Rattle.lab_book_laws.proofs.SearchedLemmas.{searched_tiling, searched_open}
 use Rattle.debug_laws.specs.AlikeSessions.{open_branches, IsSoundSession, AreSoundAlike, AreAlikeAnswers}
 use Rattle.debug_laws.proofs.TileLemmas.{both_open}
 use Rattle.debug_laws.proofs.PooledLemmas.{none_leased, pooled_alike}
-use Rattle.debug_script.specs.Pooling.{none_held, pool_words, pool_answer, answer_pool, unless_open}
+use Rattle.debug_script.specs.PoolAnswer.{none_held, pool_words, pool_answer, answer_pool, unless_open}
 
 -- ---- whether a tile of a session's book is leased, by a test of the book
 

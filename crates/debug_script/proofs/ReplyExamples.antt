@@ -3,10 +3,10 @@ use Rattle.std.proofs.Common.{◌≡◌, List, ℕ, [], ◌∷◌, ◌++◌, cod
 use Rattle.std.specs.List.{concat}
 use Rattle.debug_language.specs.declared.question.Question.TheVariants.{Show}
 use Rattle.debug_language.specs.Command as command
-use Rattle.debug_language.specs.Reading.{command_from, engine_from}
+use Rattle.debug_language.specs.Reader.{command_from, engine_from}
 use Rattle.x_debug.specs.Session.{SessionValue}
 use Rattle.x_debug.specs.Commands.{answer, deed_of}
-use Rattle.x_debug.specs.Loading.{load_answer}
+use Rattle.x_debug.specs.LoadedTexts.{load_answer}
 use Rattle.debug_script.specs.Replies.{exchange, debug_replies}
 
 -- `load 1`, a line, `show`, `quit`, `show`

@@ -1,5 +1,5 @@
 pub mod Alike
 pub mod Input
-pub mod Pooling
-pub mod Refusing
+pub mod PoolAnswer
+pub mod Refusals
 pub mod Replies

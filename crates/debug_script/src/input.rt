@@ -18,6 +18,7 @@ pub fn raw_line(text: &[u8]) -> (&[u8], &[u8])
 {
     match split_ended_line(text) {
         Some((line, _)) => text.split_at(line.len() + 1),
+        // The last line of a text may have no newline.
         None => text.split_at(text.len()),
     }
 }
@@ -37,6 +38,7 @@ pub fn without_newline(line: &[u8]) -> &[u8]
 fn is_mark(line: &[u8]) -> bool
     ensures { result ≡ spec.is_mark line.now }
 {
+    // A line of a DOS text has a return before its newline.
     without_return(without_newline(line)) == MARK
 }
 
@@ -53,6 +55,7 @@ pub fn take_lines(text: &[u8], most: u32) -> (&[u8], &[u8])
         rest = after;
         left -= 1;
     }
+    // Lines that follow one another are one piece of the text: nothing is copied.
     text.split_at(text.len() - rest.len())
 }
 
@@ -66,6 +69,7 @@ pub fn split_input(input: &[u8]) -> (&[u8], &[u8])
     while !rest.is_empty() {
         let (line, after) = raw_line(rest);
         if is_mark(line) {
+            // The mark is of neither part.
             let (problem, _) = input.split_at(input.len() - rest.len());
             return (problem, after);
         }

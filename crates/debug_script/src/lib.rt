@@ -1,12 +1,12 @@
 //! What the debugger does with a text: a problem, and commands that a session of its search answers.
 #![tactic(auto)]
 
-mod answering;
+mod answers;
 mod fault;
 mod input;
 pub mod laws;
-mod pooling;
+mod workers;
 
-pub use answering::replies;
+pub use answers::replies;
 pub use fault::RepliesFault;
 pub use input::{raw_line, split_input, take_lines, without_newline};

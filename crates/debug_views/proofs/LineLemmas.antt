@@ -11,7 +11,7 @@ use Rattle.x_branches.specs.Runner.{RunnerValue}
 use Rattle.x_branches.specs.Refusals.{untried_in}
 use Rattle.debug_language.specs.Replies.{untried_words}
 use Rattle.debug_views.specs.Lines.{state_line}
-use Rattle.debug_views.specs.Showing.{runner_branch, runner_covered, runner_chosen, runner_active, runner_second, show_lines, level_lines, untried_at}
+use Rattle.debug_views.specs.Overview.{runner_branch, runner_covered, runner_chosen, runner_active, runner_second, show_lines, level_lines, untried_at}
 
 pub one_line : (line : List (List ℕ)) → line_text line ≡ text_of (line ∷ [])
 one_line line = sym (append-nil (line_text line))

@@ -1,4 +1,4 @@
--- The examples of specs/Lines.antt, specs/Breakpoints.antt, specs/Tiles.antt and specs/Showing.antt, computed on the small problem.
+-- The examples of specs/Lines.antt, specs/Breakpoints.antt, specs/Tiles.antt and specs/Overview.antt, computed on the small problem.
 use Rattle.std.proofs.Common.{◌≡◌, Some, None, [], ◌∷◌, ◌++◌, codes, refl}
 use Rattle.std.specs.Fmt.{digits}
 use Rattle.text_lines.specs.Writing.{line_text, text_of}
@@ -11,11 +11,11 @@ use Rattle.x_steps.specs.StateValue.{StateValue, at, start}
 use Rattle.x_steps.specs.Steps.{covered_in}
 use Rattle.x_branches.specs.Runner.{RunnerValue}
 use Rattle.x_texts.specs.declared.breakpoint.Break.TheVariants as breaks
-use Rattle.lab_book.specs.declared.fault.BookFault.TheVariants.{UnknownBranch}
+use Rattle.lab_history.specs.declared.fault.BookFault.TheVariants.{UnknownBranch}
 use Rattle.lab_book.specs.Book.{BookValue, new_book}
 use Rattle.debug_views.specs.Lines.{state_line, book_refusal}
 use Rattle.debug_views.specs.Breakpoints.{meets, first_met, with_break}
-use Rattle.debug_views.specs.Showing.{runner_branch, runner_covered}
+use Rattle.debug_views.specs.Overview.{runner_branch, runner_covered}
 use Rattle.debug_views.specs.Tiles.{open_lines, place_at}
 
 -- option 4 is chosen, and option 5 is about to be tried
@@ -60,7 +60,7 @@ begins_there = refl
 none_begins : place_at (Some (4 ∷ [])) whole.tiles ≡ None
 none_begins = refl
 
--- ---- specs/Showing.antt
+-- ---- specs/Overview.antt
 
 -- a worker behind the cut 4, right after its choice
 abbrev behind_four : RunnerValue

@@ -1,5 +1,5 @@
 pub mod Lines
 pub mod Breakpoints
-pub mod Showing
+pub mod Overview
 pub mod Tiles
 pub mod Left

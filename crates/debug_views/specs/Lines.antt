@@ -11,8 +11,8 @@ use Rattle.x_texts.specs.declared.breakpoint.Break.{Break}
 use Rattle.x_snapshot.specs.declared.fault.SnapshotFault.{SnapshotFault}
 use Rattle.x_snapshot.specs.Faults as snapshot
 use Rattle.x_texts.specs.Words.{state_words, point_words}
-use Rattle.lab_book.specs.declared.fault.BookFault.{BookFault}
-use Rattle.lab_book.specs.Faults as book
+use Rattle.lab_history.specs.declared.fault.BookFault.{BookFault}
+use Rattle.lab_history.specs.Faults as book
 use Rattle.debug_language.specs.declared.fault.DebugFault.{DebugFault}
 use Rattle.debug_language.specs.Faults as debug
 use Rattle.debug_language.specs.declared.words.Plain.{Plain}

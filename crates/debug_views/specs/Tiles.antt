@@ -8,12 +8,12 @@ use Rattle.std.specs.List.{position}
 use Rattle.std.specs.Str.{bytes_eq}
 use Rattle.lab_book.specs.declared.status.Status.{Status}
 use Rattle.lab_book.specs.declared.status.Status.TheVariants.{Waiting, Held, Leased, Closed}
-use Rattle.lab_book.specs.declared.entry.Call.{Call}
-use Rattle.lab_book.specs.declared.entry.Call.TheVariants as call
-use Rattle.lab_book.specs.declared.entry.Reply.TheVariants as replies
+use Rattle.lab_history.specs.declared.entry.Call.{Call}
+use Rattle.lab_history.specs.declared.entry.Call.TheVariants as call
+use Rattle.lab_history.specs.declared.entry.Reply.TheVariants as replies
 use Rattle.lab_book.specs.Tile.{TileValue, is_closed}
 use Rattle.lab_book.specs.Tiling.{tile_at}
-use Rattle.lab_book.specs.Book.{BookValue, book_step, path_of}
+use Rattle.lab_book.specs.Book.{BookValue, book_step, cut_path}
 use Rattle.lab_book.specs.Posted.{posted_visits}
 use Rattle.debug_language.specs.declared.words.Plain.TheVariants.{NoBranches}
 use Rattle.debug_language.specs.declared.words.Counted.TheVariants as counts
@@ -22,7 +22,7 @@ use Rattle.debug_language.specs.declared.words.Standing.TheVariants as standing
 use Rattle.debug_language.specs.Replies.{standing_words}
 use Rattle.x_texts.specs.Words.{visit_words}
 use Rattle.debug_views.specs.Lines.{plain, counted}
-use Rattle.debug_views.specs.Showing.{or_none}
+use Rattle.debug_views.specs.Overview.{or_none}
 
 -- ---- how they are shown
 
@@ -35,7 +35,7 @@ standing_of Closed = standing.Waiting
 
 -- the line of a tile: its cuts, and how it stands
 abbrev pub tile_line : TileValue → List (List ℕ)
-tile_line t = standing_words (path_of t.branch.lo) (path_of t.branch.hi) (standing_of t.status)
+tile_line t = standing_words (cut_path t.branch.lo) (cut_path t.branch.hi) (standing_of t.status)
 
 -- the tiles that are not closed
 abbrev pub open_lines : List TileValue → List (List (List ℕ))
@@ -67,7 +67,7 @@ same_cut _ _ = false
 
 -- whether a tile begins at a cut, and isn't closed
 abbrev pub is_begun_at : Option (List ℕ) → TileValue → Bool
-is_begun_at lo t = not (is_closed t.status) && same_cut (path_of t.branch.lo) lo
+is_begun_at lo t = not (is_closed t.status) && same_cut (cut_path t.branch.lo) lo
 
 -- the place of the tile that does
 abbrev pub place_at : Option (List ℕ) → List TileValue → Option ℕ

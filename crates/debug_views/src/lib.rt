@@ -2,9 +2,9 @@
 #![tactic(auto)]
 
 mod met;
-mod showing;
+mod overview;
 mod tiles;
 
 pub use met::first_met;
-pub use showing::{choices, show, untried};
+pub use overview::{choices, show, untried};
 pub use tiles::{branches, place_at, write_book_fault, write_posted, write_tile};

@@ -28,6 +28,7 @@ fn first_set(breaks: &IndexSet<Break>, one: Break, other: Break) -> Option<Break
     ensures { result ≡ find (λ b. is_same one b || is_same other b) breaks.now.keys }
 {
     match (breaks.get_index_of(&one), breaks.get_index_of(&other)) {
+        // A visit at a level may meet two: the one that was set first is told.
         (Some(i), Some(j)) => Some(if j < i { other } else { one }),
         (Some(_), None) => Some(one),
         (None, Some(_)) => Some(other),
@@ -60,10 +61,12 @@ fn met_at_choice<T: Table>(
     requires { runner.now.position.label ≡ Label.X4 }
     ensures { Returns result (first_met runner.now.problem breaks.now.keys runner.now.position) }
 {
+    // Finding the chosen item takes memory and a look at each active one.
     if !has_item(breaks.as_slice()) {
         return Ok(None);
     }
     let Some((item, _)) = runner.chosen()? else {
+        // At X4 an item is chosen.
         unreachable!()
     };
     Ok(if_set(breaks, Break::Item(item)))
@@ -92,6 +95,7 @@ pub fn first_met<T: Table>(
         }
         (Label::X4, _) => met_at_choice(breaks, runner),
         (Label::X5, Cursor::At(option)) => Ok(if_set(breaks, Break::Option(option))),
+        // No kind of breakpoint is of another state.
         _ => Ok(None),
     }
 }

@@ -5,7 +5,7 @@ ghost use Rattle.debug_views.specs.Tiles.{given_cut, is_begun_at, place_at, stan
 ghost use Rattle.cover_problem.specs.Answers.{AddsLine};
 ghost use Rattle.x_texts.specs.Writes.{AddsLines};
 
-use crate::showing::choices;
+use crate::overview::choices;
 use debug_language::{
     Counted, Layer, Plain, Standing, write_counted, write_plain, write_refused, write_standing,
 };
@@ -17,6 +17,7 @@ use x_texts::write_visits;
 fn is_begun_at(tile: &Tile<'_>, lo: Option<&[u32]>) -> bool
     ensures { result ≡ is_begun_at (given_cut lo.entry) tile.now }
 {
+    // Closed tiles aren't shown, so nobody can ask for one.
     !tile.status().is_closed() && choices(tile.lo()) == lo
 }
 
@@ -35,6 +36,7 @@ fn standing_of(status: Status) -> Standing
     match status {
         Status::Held => Standing::Held,
         Status::Leased { .. } => Standing::Leased,
+        // A closed one is never written: any word would do.
         Status::Waiting | Status::Closed => Standing::Waiting,
     }
 }

@@ -1,4 +1,4 @@
--- The examples of specs/Session.antt, specs/Questions.antt, specs/Commands.antt and specs/Loading.antt, computed on the small problem's new session.
+-- The examples of specs/Session.antt, specs/Questions.antt, specs/Commands.antt and specs/LoadedTexts.antt, computed on the small problem's new session.
 use Rattle.std.proofs.Common.{◌≡◌, ℕ, ap, ◌∙◌, None, [], ◌∷◌, ◌++◌, take, codes, refl, arith}
 use Rattle.std.specs.Fmt.{digits}
 use Rattle.cover_problem.proofs.CoverExamples.{small}
@@ -6,16 +6,16 @@ use Rattle.x_steps.specs.StateValue.{start}
 use Rattle.x_steps.proofs.RunLemmas.{start_fits}
 use Rattle.x_steps.proofs.BetweenLemmas.{steps_between_self}
 use Rattle.x_texts.specs.declared.breakpoint.Break.TheVariants.{Visit}
-use Rattle.x_snapshot.specs.Reading.{first_line, keyed, keyed_line, parts_of}
+use Rattle.x_snapshot.specs.Reader.{first_line, keyed, keyed_line, parts_of}
 use Rattle.lab_book.specs.Book.{new_book, outcome}
 use Rattle.text_lines.specs.Writing.{text_of}
-use Rattle.lab_world.specs.World.{turn}
+use Rattle.lab_world.specs.World.{turn_of}
 use Rattle.debug_language.specs.declared.question.Question.TheVariants as questions
 use Rattle.debug_language.specs.Command as command
 use Rattle.x_debug.specs.Session.{SessionValue, fresh_session, session_on}
 use Rattle.x_debug.specs.Questions.{lines_asked, question_lines}
 use Rattle.x_debug.specs.Commands.{answer, deed_of, left_by, MayLeave}
-use Rattle.x_debug.specs.Loading.{load_answer}
+use Rattle.x_debug.specs.LoadedTexts.{load_answer}
 
 -- the session of the small problem's whole run, with no branch open
 abbrev resting : SessionValue
@@ -40,7 +40,7 @@ no_steps = refl
 -- ---- specs/Commands.antt
 
 opens : (answer resting (command.Enter None)).text ≡ codes "at X1 -" ++ 10 ∷ []
-unfolding deed_of turn outcome
+unfolding deed_of turn_of outcome
 opens = refl
 
 not_twice : (answer (fresh_session small) (command.Enter None)).text ≡ codes "refused debug 4 AlreadyOpen" ++ 10 ∷ []
@@ -66,7 +66,7 @@ none_parks : (deed_of (fresh_session small) command.Park).most ≡ 0
 unfolding deed_of outcome
 none_parks = rw (steps_between_self small start (start_fits small)) refl
 
--- ---- specs/Loading.antt
+-- ---- specs/LoadedTexts.antt
 
 no_snapshot : (load_answer resting (codes "hello")).text ≡ codes "refused snapshot 7 Truncated" ++ 10 ∷ []
 unfolding load_answer parts_of keyed_line keyed first_line digits

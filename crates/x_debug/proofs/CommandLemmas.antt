@@ -1,5 +1,5 @@
 -- A command that is read of a line counts from 1, and its breakpoint can be met.
-use Rattle.std.proofs.Common.{◌≡◌, ◌⊎◌, inl, inr, ℕ, ◌+◌, ◌<◌, ◌≤◌, nat_lt, nat_le, Bool, true, false, cond, ◌&&◌, List, [], ◌∷◌, length, get_or, codes, position, Option, Some, None, option_map, refl, subst, arith, lt-ltb, le-leb}
+use Rattle.std.proofs.Common.{◌≡◌, ◌⊎◌, inl, inr, ℕ, ◌+◌, ◌<◌, ◌≤◌, nat_lt, nat_le, Bool, true, false, cond, ◌&&◌, List, [], ◌∷◌, length, get_or, codes, position, Option, Some, None, option_map, option_and_then, refl, subst, arith, lt-ltb, le-leb}
 use Rattle.std.specs.Prelude.{bytes_eq}
 use Rattle.std.specs.Result.{result_ok}
 use Rattle.std.proofs.lemmas.Bool.{and_parts, and_from}
@@ -10,15 +10,15 @@ use Rattle.text_lines.proofs.ResultLemmas.{chosen}
 use Rattle.cover_problem.specs.Problem.{ProblemValue, is_item, item_named}
 use Rattle.x_texts.specs.declared.breakpoint.Break.{Break}
 use Rattle.x_texts.specs.declared.breakpoint.Break.TheVariants as breakpoints
-use Rattle.x_snapshot.specs.declared.reading.breaks.Kind.{Kind}
-use Rattle.x_snapshot.specs.declared.reading.breaks.Kind.TheVariants as kinds
+use Rattle.x_snapshot.specs.declared.reader.breaks.Kind.{Kind}
+use Rattle.x_snapshot.specs.declared.reader.breaks.Kind.TheVariants as kinds
 use Rattle.x_texts.specs.Breaks.{is_break}
-use Rattle.x_snapshot.specs.Reading.{only, positive, option_number, kind_from, break_of, lone_break, break_from, state_from}
+use Rattle.x_snapshot.specs.Reader.{only, positive, option_number, kind_from, break_of, lone_break, break_from, state_from}
 use Rattle.x_snapshot.proofs.BackLemmas.{some_is, none_some, and_then_is, map_is}
 use Rattle.debug_language.specs.Command.{CommandValue}
 use Rattle.debug_language.specs.Command as command
 use Rattle.debug_language.specs.Question.{question_of}
-use Rattle.debug_language.specs.Reading.{count_from, cut_from, save_word, save_from, put_back_from, joined_cut, plain_command, long_command, lone_command, command_from, command_of, pair_from}
+use Rattle.debug_language.specs.Reader.{count_from, cut_from, save_word, save_from, put_back_from, joined_cut, plain_command, long_command, lone_command, command_from, command_of, pair_from}
 use Rattle.x_debug.specs.Commands.{is_command}
 
 -- ---- a breakpoint that was read
@@ -104,38 +104,33 @@ module _ (p : ProblemValue) where
       let b = and_then_is positive (number_of 4294967295 a.0) n a.2 in
       (from_one b.0 n b.2).1
 
+  -- what was found is asked for more
+  found : {X : Type 0} (f : X → Option CommandValue) (o : Option X) → ((x : X) → o ≡ Some x → Fine (f x)) → Fine (option_and_then f o)
+  found f None h = no_command
+  found f (Some x) h = h x refl
+
+  -- ---- the chains of words: each end of one is found by the lemmas above, so a word more needs no line here
+
   lone_fine : (key : List ℕ) → Fine (lone_command key)
-  lone_fine key =
-      either _ (sure (command.Step 1) refl) (either _ (sure command.Run refl) (either _ (sure (command.Back 1) refl) (either _ (sure command.Clear refl)
-      (either _ (sure command.Park refl) (either _ (sure command.Save refl) (either _ (sure command.Close refl) (either _ (sure command.Retract refl)
-      (mapped command.Ask (question_of key) (λ question h. refl)))))))))
+  lone_fine key = search (either, sure, mapped) depth 60 fits 4000
 
   save_fine : (words : List (List ℕ)) → Fine (save_from words)
-  save_fine words = record { fine = λ c e. let a = and_then_is save_word (only words) c e in (word a.0).fine c a.2 }
-    where
-      word : (w : List ℕ) → Fine (save_word w)
-      word w = either _ (sure command.SaveBreaks refl) no_command
+  save_fine words = found save_word (only words) (λ word h. either _ (sure command.SaveBreaks refl) no_command)
 
   put_back_fine : (words : List (List ℕ)) → Fine (put_back_from words)
   unfolding put_back_from
   put_back_fine [] = no_command
-  put_back_fine (word ∷ words) = record {
-    fine = λ c e.
-        let a = and_then_is (λ lo. option_map (command.PutBack lo) (result_ok (state_from words))) (joined_cut word) c e in
-        (mapped (command.PutBack a.0) (result_ok (state_from words)) (λ s h. refl)).fine c a.2;
-  }
+  put_back_fine (word ∷ words) =
+      found (λ lo. option_map (command.PutBack lo) (result_ok (state_from words))) (joined_cut word)
+      (λ lo e. mapped (command.PutBack lo) (result_ok (state_from words)) (λ s h. refl))
 
   plain_fine : (key : List ℕ) (words : List (List ℕ)) → Fine (plain_command p key words)
   unfolding plain_command
-  plain_fine key words =
-      either _ (mapped command.Step (count_from words) (counted words)) (either _ (mapped command.Back (count_from words) (counted words))
-      (either _ (mapped command.SetBreak (break_from p words) (break_is words)) (either _ (mapped (λ pair. command.Split pair.0 pair.1) (pair_from words) (λ pair h. refl))
-      (either _ (save_fine words) no_command))))
+  plain_fine key words = search (either, mapped, counted, break_is, save_fine, no_command) depth 60 fits 4000
 
   long_fine : (key : List ℕ) (words : List (List ℕ)) → Fine (long_command p key words)
   unfolding long_command
-  long_fine key words =
-      either _ (mapped command.Enter (cut_from words) (λ lo h. refl)) (either _ (mapped command.Hold (cut_from words) (λ lo h. refl)) (either _ (put_back_fine words) (plain_fine key words)))
+  long_fine key words = search (either, mapped, put_back_fine, plain_fine) depth 60 fits 4000
 
   words_fine : (words : List (List ℕ)) → Fine (command_from p words)
   unfolding command_from

@@ -5,8 +5,8 @@ use Rattle.std.proofs.lemmas.Bool.{false≢true}
 use Rattle.cover_problem.specs.Problem.{ProblemValue}
 use Rattle.x_texts.specs.declared.breakpoint.Break.{Break}
 use Rattle.x_texts.specs.Breaks.{is_break}
-use Rattle.lab_book.specs.declared.lease.Grant.{Grant}
-use Rattle.lab_book.specs.declared.entry.Call.TheVariants as call
+use Rattle.lab_history.specs.declared.grant.Grant.{Grant}
+use Rattle.lab_history.specs.declared.entry.Call.TheVariants as call
 use Rattle.lab_book.specs.Tiling.{IsTiling}
 use Rattle.lab_book.specs.Book.{BookValue, outcome, book_step}
 use Rattle.lab_world.specs.declared.event.Act.{Act}
@@ -15,21 +15,21 @@ use Rattle.lab_world.specs.World.{WorldValue, IsSeat, worker_at}
 use Rattle.lab_world.specs.Alone.{alone, Leads}
 use Rattle.lab_world.proofs.TurnLemmas.{lease_any_seat}
 use Rattle.debug_acts.specs.Acts.{walk_acts, LeadsSome}
-use Rattle.debug_acts.specs.declared.asking.Told.TheVariants as told
+use Rattle.debug_acts.specs.declared.answer.Told.TheVariants as told
 use Rattle.x_debug.specs.Session.{SessionValue, IsSession, fresh_session}
 use Rattle.x_debug.specs.Commands.{Deed, world_of, if_open, left_by, done_by, IsLeftBy, MayLeave, DoesDeed, FailsDeed}
 
 -- a session whose book and worker are others
-abbrev pub with_desk : SessionValue → BookValue → Option WorkerValue → SessionValue
-with_desk v b x = record { book = b; worker = x; breaks = v.breaks }
+abbrev pub with_workplace : SessionValue → BookValue → Option WorkerValue → SessionValue
+with_workplace v b x = record { book = b; worker = x; breaks = v.breaks }
 
 pub changed_session : (v : SessionValue) (b : BookValue) (x : Option WorkerValue) → IsSession v → b.problem ≡ v.book.problem → IsSeat b 0 x
-    → IsSession (with_desk v b x)
+    → IsSession (with_workplace v b x)
 changed_session v b x s p h = record { seat = h; breaks = subst (λ (q : ProblemValue). list_all (is_break q) v.breaks ≡ true) (sym p) s.breaks }
 
 -- its worker goes on with the same lease
 pub working_session : (v : SessionValue) (w y : WorkerValue) (b : BookValue) → IsSession v → v.worker ≡ Some w → b.problem ≡ v.book.problem
-    → y.grant ≡ w.grant → HoldsTile b y → IsSession (with_desk v b (Some y))
+    → y.grant ≡ w.grant → HoldsTile b y → IsSession (with_workplace v b (Some y))
 working_session v w y b s at p g h =
     changed_session v b (Some y) s p (ap (λ (x : Grant). x.worker) g ∙ (subst (IsSeat v.book 0) at s.seat).0, h)
 
@@ -51,15 +51,15 @@ fresh_leased p = refl
 -- ---- what acts leave
 
 module _ (v : SessionValue) (acts : List Act) (b : BookValue) (x : Option WorkerValue) where
-  pub left_is : Leads v.book v.worker acts b x → with_desk v b x ≡ left_by v acts
+  pub left_is : Leads v.book v.worker acts b x → with_workplace v b x ≡ left_by v acts
   left_is l = ap (λ (w : WorldValue). record { book = w.book; worker = worker_at w.workers 0; breaks = v.breaks }) (sym l)
 
-  pub done_left : {X E : Type 0} (r : Result X E) → OnOk r (Leads v.book v.worker acts b x) → OnOk r (with_desk v b x ≡ left_by v acts)
+  pub done_left : {X E : Type 0} (r : Result X E) → OnOk r (Leads v.book v.worker acts b x) → OnOk r (with_workplace v b x ≡ left_by v acts)
   done_left (Ok y) l = left_is l
   done_left (Err e) l = tt
 
 pub some_left : {X E : Type 0} (r : Result X E) (v : SessionValue) (acts : List Act) (most : ℕ) (b : BookValue) (x : Option WorkerValue)
-    → OnErr r (LeadsSome v.book v.worker acts most b x) → OnErr r (IsLeftBy v acts most (with_desk v b x))
+    → OnErr r (LeadsSome v.book v.worker acts most b x) → OnErr r (IsLeftBy v acts most (with_workplace v b x))
 some_left (Ok y) v acts most b x l = tt
 some_left (Err e) v acts most b x l = record { count = l.count; within = l.within; left = left_is v (take l.count acts) b x l.leads }
 
@@ -91,30 +91,30 @@ module _ {X E : Type 0} (r : Result X E) (v : SessionValue) (w : WorkerValue) (a
   here : f w ≡ if_open v v.worker f
   here = ap (λ (x : Option WorkerValue). if_open v x f) (sym at)
 
-  pub opened_does : (f w).breaks ≡ v.breaks → OnOk r (Leads v.book (Some w) acts b y) → DoesDeed r v (with_desk v b y) (if_open v v.worker f)
+  pub opened_does : (f w).breaks ≡ v.breaks → OnOk r (Leads v.book (Some w) acts b y) → DoesDeed r v (with_workplace v b y) (if_open v v.worker f)
   opened_does k l = by r l
     where
-      by : (r : Result X E) → OnOk r (Leads v.book (Some w) acts b y) → DoesDeed r v (with_desk v b y) (if_open v v.worker f)
+      by : (r : Result X E) → OnOk r (Leads v.book (Some w) acts b y) → DoesDeed r v (with_workplace v b y) (if_open v v.worker f)
       by (Ok z) l =
           left_is v acts b y (subst (λ (x : Option WorkerValue). Leads v.book x acts b y) (sym at) l)
           ∙ (λ j. record (left_by v (same j)) { breaks = sym k j }) ∙ ap (λ (d : Deed). (done_by v d).session) here
       by (Err z) l = tt
 
   pub opened_fails : (f w).most ≡ length acts → OnErr r (LeadsSome v.book (Some w) acts (length acts) b y)
-      → FailsDeed r v (with_desk v b y) (if_open v v.worker f)
+      → FailsDeed r v (with_workplace v b y) (if_open v v.worker f)
   opened_fails k l = by r l
     where
-      by : (r : Result X E) → OnErr r (LeadsSome v.book (Some w) acts (length acts) b y) → FailsDeed r v (with_desk v b y) (if_open v v.worker f)
+      by : (r : Result X E) → OnErr r (LeadsSome v.book (Some w) acts (length acts) b y) → FailsDeed r v (with_workplace v b y) (if_open v v.worker f)
       by (Ok z) l = tt
       by (Err z) l =
           let some = subst (λ (x : Option WorkerValue). LeadsSome v.book x acts (length acts) b y) (sym at) l in
-          let left : IsLeftBy v acts (length acts) (with_desk v b y) = record {
+          let left : IsLeftBy v acts (length acts) (with_workplace v b y) = record {
             count = some.count;
             within = some.within;
             left = left_is v (take some.count acts) b y some.leads;
           } in
-          subst (λ (d : Deed). MayLeave v d (with_desk v b y)) here
-          (subst (λ (p : List Act × ℕ). IsLeftBy v p.0 p.1 (with_desk v b y)) (λ j. (same j, sym k j)) left)
+          subst (λ (d : Deed). MayLeave v d (with_workplace v b y)) here
+          (subst (λ (p : List Act × ℕ). IsLeftBy v p.0 p.1 (with_workplace v b y)) (λ j. (same j, sym k j)) left)
 
 -- so many steps from where it stands
 pub same_walk : (v : SessionValue) (w : WorkerValue) (n : ℕ) → v.worker ≡ Some w → walk_acts n (alone v.book (Some w)) ≡ walk_acts n (world_of v)

@@ -8,13 +8,16 @@
 -- is kept once. proofs/CommandExamples.antt computes these.
 use Rattle.std.specs.Prelude.{ℕ, ◌≡◌, ◌≤◌, ◌-◌, nat_lt, Bool, true, List, [], ◌∷◌, length, take, replicate, Option, Some, None, Result, OnOk, OnErr}
 use Rattle.std.specs.Global.{Vec}
+use Rattle.std.specs.Borrow.{Bor}
 use Rattle.text_lines.specs.Writing.{line_text, text_of}
 use Rattle.cover_problem.specs.Answers.{Adds}
 use Rattle.cover_problem.specs.Problem.{ProblemValue}
+use Rattle.x_steps.specs.declared.state.State.{State}
 use Rattle.x_steps.specs.StateValue.{StateValue}
+use Rattle.x_steps.specs.StateView.{state_value}
 use Rattle.x_texts.specs.declared.breakpoint.Break.{Break}
 use Rattle.x_texts.specs.Breaks.{is_break}
-use Rattle.lab_book.specs.declared.fault.BookFault.TheVariants.{UnknownBranch}
+use Rattle.lab_history.specs.declared.fault.BookFault.TheVariants.{UnknownBranch}
 use Rattle.lab_book.specs.Tile.{TileValue}
 use Rattle.lab_book.specs.Tiling.{tile_at}
 use Rattle.lab_world.specs.declared.event.Act.{Act}
@@ -28,16 +31,16 @@ use Rattle.debug_language.specs.declared.words.Plain.TheVariants.{Parked}
 use Rattle.debug_language.specs.declared.command.Command.{Command}
 use Rattle.debug_language.specs.Command.{CommandValue, command_value}
 use Rattle.debug_language.specs.Command as command
-use Rattle.debug_language.specs.Reading.{command_of}
+use Rattle.debug_language.specs.Reader.{command_of}
 use Rattle.debug_views.specs.Breakpoints.{with_break}
 use Rattle.debug_views.specs.Lines.{plain, counted, set, debug_refusal, book_refusal}
-use Rattle.debug_views.specs.Tiles.{place_at}
-use Rattle.debug_acts.specs.declared.asking.Told.{Told}
-use Rattle.debug_acts.specs.declared.asking.Told.TheVariants as told
-use Rattle.debug_acts.specs.Walking.{step_count, step_lines, run_count, run_lines, back_count, back_lines}
+use Rattle.debug_views.specs.Tiles.{given_cut, place_at}
+use Rattle.debug_acts.specs.declared.answer.Told.{Told}
+use Rattle.debug_acts.specs.declared.answer.Told.TheVariants as told
+use Rattle.debug_acts.specs.Walk.{step_count, step_lines, run_count, run_lines, back_count, back_lines}
 use Rattle.debug_acts.specs.Acts.{walk_acts, end_acts, close_acts, enter_act}
-use Rattle.debug_acts.specs.Asking.{told_lines}
-use Rattle.debug_acts.specs.Giving.{save_text, close_line}
+use Rattle.debug_acts.specs.Answer.{told_lines}
+use Rattle.debug_acts.specs.Ends.{save_text, close_line}
 use Rattle.x_debug.specs.Session.{SessionValue}
 use Rattle.x_debug.specs.Questions.{lines_asked}
 
@@ -168,6 +171,22 @@ hold_deed s lo = on_tile s lo (λ i t. asks s (RequestStop t.id) (told.Tile i))
 abbrev pub put_back_deed : SessionValue → Option (List ℕ) → StateValue → Deed
 put_back_deed s lo state = on_tile s lo (λ i t. asks s (PutBack t.id state) (told.Tile i))
 
+-- ---- the same of a cut and a state that a call is handed
+
+-- `open`
+abbrev pub enter_by : SessionValue → Option (Bor (List ℕ)) → Deed
+enter_by s lo = enter_deed s (given_cut lo)
+
+-- `hold`
+abbrev pub hold_by : SessionValue → Option (Bor (List ℕ)) → Deed
+hold_by s lo = hold_deed s (given_cut lo)
+
+-- `putback`
+abbrev pub put_back_by : SessionValue → Option (Bor (List ℕ)) → State → Deed
+put_back_by s lo state = put_back_deed s (given_cut lo) (state_value state)
+
+-- ---- each command
+
 -- what session s does by a command
 unfoldable pub deed_of : SessionValue → CommandValue → Deed
 deed_of s command.Nothing = says s []
@@ -238,6 +257,10 @@ abbrev pub IsLeft : SessionValue → List ℕ → SessionValue → Type 0
 IsLeft s line new = MayLeave s (deed_of_line s line) new
 
 -- ---- what calls do
+
+-- unless a call has an error, what isn't posted is posted, and then this act is done
+abbrev pub EndsBy : {X E : Type 0} → Result X E → SessionValue → Act → SessionValue → Type 0
+EndsBy result s a new = OnOk result (new ≡ left_by s (end_acts s.worker a))
 
 -- where a call has an error, what isn't posted may be posted, and the act after it isn't done
 abbrev pub EndsShort : {X E : Type 0} → Result X E → SessionValue → Act → SessionValue → Type 0

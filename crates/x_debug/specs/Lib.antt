@@ -1,4 +1,4 @@
 pub mod Session
 pub mod Questions
 pub mod Commands
-pub mod Loading
+pub mod LoadedTexts

@@ -1,7 +1,7 @@
 //! Laws of sessions.
 ghost use Rattle.std.specs.Prelude.{ℕ, List, Option};
 ghost use Rattle.x_steps.specs.StateValue.{StateValue};
-ghost use Rattle.lab_book.specs.declared.entry.Call.TheVariants as calls;
+ghost use Rattle.lab_history.specs.declared.entry.Call.TheVariants as calls;
 ghost use Rattle.lab_book.specs.Book.{BookValue};
 ghost use Rattle.debug_views.specs.Tiles.{NamesOpen, KeepsOpen};
 

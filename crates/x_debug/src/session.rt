@@ -5,13 +5,13 @@ ghost use Rattle.x_branches.specs.Runner.{IsRunner};
 ghost use Rattle.lab_world.specs.World.{IsSeat};
 ghost use Rattle.x_debug.specs.Session.{position_of, session_on, fresh_session};
 
-mod asking;
 mod breakpoints;
 mod command;
-mod giving;
-mod loading;
-mod looking;
-mod walking;
+mod ends;
+mod requests;
+mod snapshot;
+mod views;
+mod walk;
 
 pub use command::Reply;
 use cover_problem::{Problem, Table};
@@ -48,6 +48,7 @@ impl<'p, T: Table> Session<'p, T> {
         ensures leased { IfOk result (λ s. is_some s.worker ≡ true) }
     {
         let mut book = Book::new(alloc, problem)?;
+        // Tells that its one tile waits, so the lease isn't refused.
         book.is_sound();
         let worker = Worker::lease_any(alloc, &mut book, 0)?;
         Ok(Session {
@@ -75,6 +76,7 @@ impl<'p, T: Table> Session<'p, T> {
         ensures given_back { IfErr result (λ session. session ≡ self.entry) }
         ensures one_open { OnErr result (is_some self.entry.worker ≡ true) }
     {
+        // The lease would be lost with the session, and the tile leased for ever.
         if self.worker.is_some() {
             return Err(self);
         }

@@ -21,6 +21,7 @@ impl<'p, T: Table> Session<'p, T> {
         ensures session { DoesDeed result self.old self.new (set_deed self.old breakpoint) }
         ensures left { OnErr result (self.new ≡ self.old) }
     {
+        // The line first: what isn't told isn't set.
         write_set(text, self.book.problem(), breakpoint)?;
         self.breaks.insert(breakpoint)?;
         Ok(())
@@ -32,6 +33,7 @@ impl<'p, T: Table> Session<'p, T> {
         ensures session { DoesDeed result self.old self.new (clear_deed self.old) }
         ensures left { OnErr result (self.new ≡ self.old) }
     {
+        // Told before they go, which needs no memory.
         write_counted(text, Counted::Cleared, self.breaks.len() as u128)?;
         self.breaks.clear();
         Ok(())

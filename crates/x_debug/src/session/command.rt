@@ -6,7 +6,9 @@ ghost use Rattle.x_debug.specs.Commands.{deed, answer_line, is_command, IsLeft, 
 
 use crate::session::Session;
 use cover_problem::Table;
+use debug_acts::Told;
 use debug_language::{Command, read_command, write_debug_fault};
+use lab_world::Act;
 use std::alloc::{AllocError, Global};
 use text_lines::Refusal;
 
@@ -41,6 +43,7 @@ impl<'p, T: Table> Session<'p, T> {
         ensures left { FailsDeed result self.old self.new (deed self.old command.now) }
     {
         match command {
+            // Scripts may have empty lines.
             Command::Nothing => Ok(()),
             Command::Step(most) => self.obey_step(*most, text),
             Command::Run => self.obey_run(text),
@@ -54,7 +57,7 @@ impl<'p, T: Table> Session<'p, T> {
             Command::SaveBreaks => self.obey_save_breaks(alloc, text),
             Command::Close => self.obey_close(alloc, text),
             Command::Enter(lo) => self.obey_enter(alloc, path_of(lo), text),
-            Command::Retract => self.obey_retract(alloc, text),
+            Command::Retract => self.ask(alloc, &Act::Retract, &Told::Retracted, text),
             Command::Hold(lo) => self.obey_hold(alloc, path_of(lo), text),
             Command::PutBack { lo, state } => self.obey_put_back(alloc, path_of(lo), state, text),
         }
@@ -67,11 +70,13 @@ impl<'p, T: Table> Session<'p, T> {
         ensures session { OnOk result (self.new ≡ (answer_line self.old line.now).session) }
         ensures left { OnErr result (IsLeft self.old line.now self.new) }
     {
+        // A line brings no allocator along: what was made with the session serves.
         let alloc = *self.breaks.allocator();
         let mut text = Vec::new(alloc);
         match read_command(alloc, self.book.problem(), line) {
             Ok(command) => self.obey(alloc, &command, &mut text)?,
             Err(Refusal::Fault(fault)) => write_debug_fault(&mut text, fault)?,
+            // No refusal: the line is a command.
             Err(Refusal::OutOfMemory) => return Err(AllocError),
         }
         Ok(Reply { text })

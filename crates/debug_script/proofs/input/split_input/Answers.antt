@@ -1,6 +1,6 @@
 use Rattle.std.proofs.Common.{sym, arith}
 use Rattle.std.proofs.lemmas.Bool.Decides.{nat_tests}
-use Rattle.debug_script.proofs.SearchingLemmas.{searching_goes, found_problem, found_commands, all_problem, no_commands}
+use Rattle.debug_script.proofs.SearchLemmas.{searching_goes, found_problem, found_commands, all_problem, no_commands}
 use Rattle.debug_script.proofs.input.split_input.Goals as goal
 
 pub returns-then-is_mark-clause-problem : goal.returns-then-is_mark-clause-problem

@@ -1,5 +1,5 @@
 use Rattle.std.proofs.Common.{length}
-use Rattle.debug_script.proofs.SearchingLemmas.{IsSearching}
+use Rattle.debug_script.proofs.SearchLemmas.{IsSearching}
 use Rattle.debug_script.proofs.input.split_input.Given as goal
 
 abbrev pub invariant-loop-line : goal.invariant-loop-line

@@ -1,4 +1,4 @@
-use Rattle.debug_script.proofs.TakingLemmas.{taking_goes}
+use Rattle.debug_script.proofs.TakenLemmas.{taking_goes}
 use Rattle.debug_script.proofs.input.take_lines.Goals as goal
 
 pub loop-left-preserved : goal.loop-left-preserved

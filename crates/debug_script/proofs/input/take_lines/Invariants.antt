@@ -1,4 +1,4 @@
-use Rattle.debug_script.proofs.TakingLemmas.{IsTaking}
+use Rattle.debug_script.proofs.TakenLemmas.{IsTaking}
 use Rattle.debug_script.proofs.input.take_lines.Given as goal
 
 abbrev pub invariant-loop-left : goal.invariant-loop-left

@@ -4,7 +4,7 @@ use Rattle.cover_problem.specs.Problem.{ProblemValue}
 use Rattle.x_snapshot.specs.Judged.{judged_parts}
 use Rattle.debug_views.specs.Lines.{state_line}
 use Rattle.x_debug.specs.Session.{SessionValue}
-use Rattle.x_debug.specs.Loading.{loaded, answers, load_by}
+use Rattle.x_debug.specs.LoadedTexts.{loaded, answers, load_by}
 use Rattle.debug_views.proofs.CallLemmas.{on_ok}
 use Rattle.x_debug.proofs.LoadLemmas.{resumed_answer, said, left, none_said, none_left}
 use Rattle.x_debug.proofs.session.Session.go_on.Goals as goal

@@ -1,5 +1,5 @@
 use Rattle.std.proofs.Common.{ap, ◌∙◌, is_some}
-use Rattle.lab_book.specs.declared.entry.Call.TheVariants as call
+use Rattle.lab_history.specs.declared.entry.Call.TheVariants as call
 use Rattle.lab_book.specs.Book.{BookValue, outcome}
 use Rattle.lab_world.specs.Worker.{lent_worker}
 use Rattle.x_debug.proofs.SessionLemmas.{leased_session, fresh_leased}

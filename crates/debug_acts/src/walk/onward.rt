@@ -1,0 +1,91 @@
+//! So many steps onward.
+ghost use Rattle.std.specs.Prelude.{◌<◌, OnOk, OnErr};
+ghost use Rattle.cover_problem.specs.Answers.{Returns};
+ghost use Rattle.lab_world.specs.Worker.{HoldsTile};
+ghost use Rattle.debug_acts.specs.Walk.{StepsOn, StepsSome, step_count, step_visits, step_lines, KeepsLease};
+ghost use Rattle.debug_acts.specs.Acts.{DoesStep, DoesPartOfStep};
+ghost use Rattle.x_texts.specs.Writes.{AddsLines};
+
+use crate::walk::{walk_on, write_moved};
+use cover_problem::Table;
+use debug_language::{DebugFault, Plain, write_debug_fault, write_plain};
+use lab_book::Book;
+use lab_world::Worker;
+use std::alloc::AllocError;
+
+/// Goes up to so many steps on, to its branch's end at most, and writes the visits. How many steps these were.
+fn walk<'p, T: Table>(
+    book: &mut Book<'p>,
+    worker: &mut Worker<'p, T>,
+    most: u32,
+    text: &mut Vec<u8>,
+) -> Result<u32, AllocError>
+    requires holds { HoldsTile book.old worker.old }
+    ensures count { Returns result (step_count worker.old.runner most) }
+    ensures made { OnOk result (StepsOn book.old worker.old book.new worker.new most) }
+    ensures text { AddsLines result text.old text.new (step_visits worker.old.runner most) }
+    ensures left { OnErr result (StepsSome book.old worker.old book.new worker.new most) }
+    ensures holds_on { HoldsTile book.new worker.new }
+{
+    // What is true of a book and of a runner is told by these.
+    book.is_sound();
+    worker.runner().is_sound();
+    let mut taken = 0;
+    while taken < most {
+        if worker.runner().is_at_end() {
+            return Ok(taken);
+        }
+        let steps = walk_on(book, worker, most - taken, text)?;
+        taken += steps;
+    }
+    Ok(most)
+}
+
+/// Goes up to so many steps on, or refuses to at its branch's end, and writes the answer.
+fn step_told<'p, T: Table>(
+    book: &mut Book<'p>,
+    worker: &mut Worker<'p, T>,
+    most: u32,
+    text: &mut Vec<u8>,
+) -> Result<(), AllocError>
+    requires holds { HoldsTile book.old worker.old }
+    requires some { 0 < most }
+    ensures made { OnOk result (StepsOn book.old worker.old book.new worker.new most) }
+    ensures text { AddsLines result text.old text.new (step_lines worker.old.runner most) }
+    ensures left { OnErr result (StepsSome book.old worker.old book.new worker.new most) }
+    ensures holds_on { HoldsTile book.new worker.new }
+{
+    book.is_sound();
+    worker.runner().is_sound();
+    if worker.runner().is_at_end() {
+        return write_debug_fault(text, DebugFault::AtEnd);
+    }
+    let moved = walk(book, worker, most, text)?;
+    write_moved(text, moved as u128, worker)?;
+    // Told at once, so that no step has to be refused before it is known.
+    if worker.runner().is_at_end() {
+        return write_plain(text, Plain::End);
+    }
+    Ok(())
+}
+
+/// `step`: up to so many steps of a worker, to its branch's end at most; refused there. Out of memory it has gone some of them.
+pub fn step<'p, T: Table>(
+    book: &mut Book<'p>,
+    worker: &mut Worker<'p, T>,
+    most: u32,
+    text: &mut Vec<u8>,
+) -> Result<(), AllocError>
+    requires holds { HoldsTile book.old worker.old }
+    requires some { 0 < most }
+    ensures made { DoesStep result book.old worker.old book.new worker.new most }
+    ensures text { AddsLines result text.old text.new (step_lines worker.old.runner most) }
+    ensures left { DoesPartOfStep result book.old worker.old book.new worker.new most }
+    ensures holds_on { HoldsTile book.new worker.new }
+    ensures kept { KeepsLease book.old worker.old book.new worker.new }
+{
+    // What is true of a book and of a runner is told by these.
+    book.is_sound();
+    worker.runner().is_sound();
+    step_told(book, worker, most, text)
+}

@@ -1,0 +1,138 @@
+//! The reader of command lines.
+ghost use Rattle.std.specs.Prelude.{◌≡◌, true, is_ok, IfOk, IfErr, OnErr};
+ghost use Rattle.std.specs.Result.{result_ok};
+ghost use Rattle.text_lines.specs.Lines.{words_of};
+ghost use Rattle.x_steps.specs.StateView.{state_value};
+ghost use Rattle.x_snapshot.specs.Reader.{state_from};
+ghost use Rattle.debug_language.specs.Reader as spec;
+ghost use Rattle.debug_language.specs.Reader.{command_from, IsNoCommand, Asks, FindsAs, FailsOnly, IsCommand};
+
+mod numbers;
+mod plain;
+
+use crate::command::Command;
+use crate::fault::DebugFault;
+use cover_problem::Problem;
+pub use numbers::{count_from, is_word, number_from};
+use numbers::{cut_from, joined_cut};
+use plain::{lone_command, plain_command};
+use std::alloc::{AllocError, Global};
+use text_lines::{Refusal, has_words, split_word, without_return};
+use x_snapshot::{is_state, state_from};
+use x_steps::State;
+
+/// What words say, or None; and no memory for it.
+pub type Found<T> = Result<Option<T>, AllocError>;
+
+/// The branch to take, as the words say.
+fn enter_from(alloc: Global, words: &[u8]) -> Found<Command>
+    ensures said { Asks result (spec.enter_from (words_of words.now)) }
+    ensures memory { FailsOnly result (spec.cut_from (words_of words.now)) }
+{
+    match cut_from(alloc, words)? {
+        Some(lo) => Ok(Some(Command::Enter(lo))),
+        None => Ok(None),
+    }
+}
+
+/// The branch to hold, as the words say.
+fn hold_from(alloc: Global, words: &[u8]) -> Found<Command>
+    ensures said { Asks result (spec.hold_from (words_of words.now)) }
+    ensures memory { FailsOnly result (spec.cut_from (words_of words.now)) }
+{
+    match cut_from(alloc, words)? {
+        Some(lo) => Ok(Some(Command::Hold(lo))),
+        None => Ok(None),
+    }
+}
+
+/// The state that the words say.
+fn state_in(alloc: Global, words: &[u8]) -> Found<State>
+    ensures said { FindsAs state_value result (result_ok (state_from (words_of words.now))) }
+    ensures memory { OnErr result (is_ok (state_from (words_of words.now)) ≡ true) }
+{
+    // Tested first, without memory: a line that is no state is refused even where there is none.
+    if !is_state(words) {
+        return Ok(None);
+    }
+    match state_from(alloc, words) {
+        Ok(state) => Ok(Some(state)),
+        // The words passed the test, so no fault comes.
+        Err(Refusal::Fault(_)) => Ok(None),
+        Err(Refusal::OutOfMemory) => Err(AllocError),
+    }
+}
+
+/// The branch to put back, and the state up to which, as the words say.
+#[tactic(auto, unfolding(crate::specs::Reader::put_back_from))]
+fn put_back_from(alloc: Global, words: &[u8]) -> Found<Command>
+    ensures said { Asks result (spec.put_back_from (words_of words.now)) }
+    ensures memory { FailsOnly result (spec.put_back_from (words_of words.now)) }
+{
+    let Some((word, rest)) = split_word(words) else {
+        return Ok(None);
+    };
+    // Before the cut is kept: a bad state is refused even where there is no memory for the cut.
+    if !is_state(rest) {
+        return Ok(None);
+    }
+    let Some(lo) = joined_cut(alloc, word)? else {
+        return Ok(None);
+    };
+    let Some(state) = state_in(alloc, rest)? else {
+        return Ok(None);
+    };
+    Ok(Some(Command::PutBack { lo, state }))
+}
+
+/// The command by its first word and the others.
+#[tactic(auto, unfolding(crate::specs::Reader::long_command))]
+fn long_command(alloc: Global, problem: &Problem, key: &[u8], words: &[u8]) -> Found<Command>
+    ensures said { Asks result (spec.long_command problem.now key.now (words_of words.now)) }
+    ensures memory { FailsOnly result (spec.long_command problem.now key.now (words_of words.now)) }
+{
+    // What keeps choices comes first, since it takes memory: all other commands are read without.
+    if is_word(key, b"open") {
+        enter_from(alloc, words)
+    } else if is_word(key, b"hold") {
+        hold_from(alloc, words)
+    } else if is_word(key, b"putback") {
+        put_back_from(alloc, words)
+    } else {
+        Ok(plain_command(problem, key, words))
+    }
+}
+
+/// The command of these words.
+#[tactic(auto, unfolding(crate::specs::Reader::command_from))]
+fn command_from(alloc: Global, problem: &Problem, words: &[u8]) -> Found<Command>
+    ensures said { Asks result (command_from problem.now (words_of words.now)) }
+    ensures memory { FailsOnly result (command_from problem.now (words_of words.now)) }
+{
+    let Some((key, rest)) = split_word(words) else {
+        return Ok(Some(Command::Nothing));
+    };
+    // A word that stands alone may be another command than with words: `step` is one step.
+    if !has_words(rest) {
+        return Ok(lone_command(key));
+    }
+    long_command(alloc, problem, key, rest)
+}
+
+/// Reads a command line: the command that it is, over the problem whose levels, options and items it may name. Refused as a
+/// BadCommand exactly where it is none, whatever its bytes are; where it is one, when out of memory.
+pub fn read_command(
+    alloc: Global,
+    problem: &Problem,
+    line: &[u8],
+) -> Result<Command, Refusal<DebugFault>>
+    ensures read { IfOk result (λ command. IsCommand problem.now line.now command) }
+    ensures refused { IfErr result (λ refusal. IsNoCommand problem.now line.now refusal) }
+{
+    // A line of a DOS text ends in a return, which is no part of its last word.
+    match command_from(alloc, problem, without_return(line))? {
+        Some(command) => Ok(command),
+        // The line as a whole is refused: which of its words is wrong isn't told.
+        None => Err(Refusal::Fault(DebugFault::BadCommand)),
+    }
+}

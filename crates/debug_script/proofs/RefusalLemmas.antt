@@ -1,0 +1,82 @@
+-- How many workers a command asks for, and with which faults their search may end all.
+use Rattle.std.proofs.Common.{inl, inr, ◌≡◌, ℕ, nat_lt, ◌<◌, ◌≤◌, Bool, true, false, cond, nat_le, List, [], ◌∷◌, Option, Some, None, option_and_then, codes, refl, sym, subst, arith}
+use Rattle.std.specs.Prelude.{Result, Ok, Err, IfErr, IsErrAnd}
+use Rattle.std.specs.Str.{bytes_eq}
+use Rattle.std.proofs.lemmas.Bool.{leb-true, ltb-true}
+use Rattle.text_lines.specs.Lines.{is_empty}
+use Rattle.text_lines.specs.Numbers.{number_of}
+use Rattle.x_snapshot.specs.Reader.{only, option_number, positive}
+use Rattle.lab_pool.specs.Pool.{IsBadCount}
+use Rattle.debug_language.specs.declared.engine.EngineCommand.TheVariants as engine
+use Rattle.debug_script.specs.declared.fault.RepliesFault.{RepliesFault}
+use Rattle.debug_script.specs.declared.fault.RepliesFault.TheVariants as faults
+use Rattle.debug_script.specs.Refusals.{MayRefuse, MayEnd, IsWantOr}
+use Rattle.debug_language.specs.Reader.{most_number, number_from, count_from, workers, load_from, pool_from, quit_from, engine_from, engine_command_of}
+
+positive_is : (m n : ℕ) → positive m ≡ Some n → 0 < n
+positive_is m n = by (nat_lt 0 m) refl
+  where
+    by : (b : Bool) → nat_lt 0 m ≡ b → cond b (Some m) None ≡ Some n → 0 < n
+    by true e h = let f : m ≡ n = cc in let l = ltb-true 0 m e in omega arith
+    by false e h = absurd (cc)
+
+some_positive : (o : Option ℕ) (n : ℕ) → option_and_then positive o ≡ Some n → 0 < n
+some_positive None n h = absurd (cc)
+some_positive (Some m) n h = positive_is m n h
+
+only_positive : (o : Option (List ℕ)) (n : ℕ) → option_and_then (option_number most_number) o ≡ Some n → 0 < n
+only_positive None n h = absurd (cc)
+only_positive (Some word) n h = some_positive (number_of most_number word) n h
+
+workers_are : (m n : ℕ) → 0 < m → workers m ≡ Some (engine.Pool n) → (0 < n) × (n ≤ 32)
+workers_are m n some = by (nat_le m 32) refl
+  where
+    by : (b : Bool) → nat_le m 32 ≡ b → cond b (Some (engine.Pool m)) None ≡ Some (engine.Pool n) → (0 < n) × (n ≤ 32)
+    by true e h = let f : m ≡ n = cc in let l = leb-true m 32 e in (omega arith, omega arith)
+    by false e h = absurd (cc)
+
+pool_counts : (words : List (List ℕ)) (n : ℕ) → pool_from words ≡ Some (engine.Pool n) → (0 < n) × (n ≤ 32)
+pool_counts words n = by (count_from words) refl
+  where
+    by : (o : Option ℕ) → count_from words ≡ o → option_and_then workers o ≡ Some (engine.Pool n) → (0 < n) × (n ≤ 32)
+    by None e h = absurd (cc)
+    by (Some m) e h = workers_are m n (only_positive (only words) m e) h
+
+load_counts : (words : List (List ℕ)) (n : ℕ) → load_from words ≡ Some (engine.Pool n) → ⊥
+load_counts words n = by (number_from words)
+  where
+    by : (o : Option ℕ) → option_and_then (λ m. Some (engine.Load m)) o ≡ Some (engine.Pool n) → ⊥
+    by None h = absurd (cc)
+    by (Some m) h = absurd (cc)
+
+words_count : (words : List (List ℕ)) (n : ℕ) → engine_from words ≡ Some (engine.Pool n) → (0 < n) × (n ≤ 32)
+unfolding engine_from
+words_count [] n h = absurd (cc)
+words_count (key ∷ words) n h = by (bytes_eq key (codes "load")) (bytes_eq key (codes "pool")) (bytes_eq key (codes "quit")) (is_empty words) h
+  where
+    by : (load pool quit empty : Bool)
+        → cond load (load_from words) (cond pool (pool_from words) (cond quit (cond empty (Some engine.Quit) None) None)) ≡ Some (engine.Pool n)
+        → (0 < n) × (n ≤ 32)
+    by true pool quit empty h = absurd (load_counts words n h)
+    by false true quit empty h = pool_counts words n h
+    by false false true true h = absurd (cc)
+    by false false true false h = absurd (cc)
+    by false false false empty h = absurd (cc)
+
+may_end : (n : ℕ) → (0 < n) × (n ≤ 32) → (f : RepliesFault) → IsWantOr (MayRefuse n) f → IsWantOr MayEnd f
+may_end n count faults.OutOfMemory h = h
+may_end n count (faults.Pool fault) h = record { not_number = λ e. no (h.number.0 e); not_held = h.not_held }
+  where
+    no : IsBadCount n → ⊥
+    no (inl e) = let a = count.0 in omega arith
+    no (inr l) = let a = count.1 in omega arith
+
+-- a search that a command asks for, by 1 to 32 workers, ends commands with a fault that may be
+pub command_may_end : (line : List ℕ) (n : ℕ) → engine_command_of line ≡ Some (engine.Pool n) → (f : RepliesFault) → IsWantOr (MayRefuse n) f
+    → IsWantOr MayEnd f
+command_may_end line n h = may_end n (words_count _ n h)
+
+-- an error that is passed on is what the call that was refused answered
+pub passed_on : {X E : Type 0} (P : E → Type 0) (f : E) (r : Result X E) → IsErrAnd r (λ e. e ≡ f) → P f → IfErr r P
+passed_on P f (Ok x) h p = tt
+passed_on P f (Err e) h p = subst P (sym h) p

@@ -1,0 +1,116 @@
+//! What a session of a problem answers to command lines.
+ghost use Rattle.std.specs.Prelude.{IfOk, IfErr, OnOk};
+ghost use Rattle.cover_problem.specs.Answers.{ReturnsItems};
+ghost use Rattle.x_debug.specs.Session.{fresh_session};
+ghost use Rattle.debug_script.specs.Alike.{SaysAlike, StaysAlike};
+ghost use Rattle.debug_script.specs.Refusals.{IsWantOr, MayEnd};
+ghost use Rattle.debug_script.specs.Replies.{said_to, session_left, Leaves, IsNoLonger, AnswersAlike, replies_to};
+ghost use Rattle.x_texts.specs.Writes.{Writes};
+
+use crate::fault::RepliesFault;
+use crate::input::{raw_line, take_lines, without_newline};
+use crate::workers::pool;
+use cover_problem::{Problem, Table};
+use debug_language::{EngineCommand, read_engine_command};
+use lab_pool::Gate;
+use std::alloc::{AllocError, Global};
+use std::sync::Wait;
+use std::thread::Threads;
+use x_debug::Session;
+
+/// Where the workers of a `pool` work: on these threads, and behind this gate.
+#[derive(Drop)]
+struct Site<'a, R, G> {
+    rt: &'a R,
+    gate: &'a G,
+}
+
+/// Writes an answer after those before it.
+pub(crate) fn append(text: &mut Vec<u8>, answer: &[u8]) -> Result<(), AllocError>
+    ensures { OnOk result (Writes text.old text.new answer.now) }
+{
+    text.extend_from_slice(answer)
+}
+
+/// Answers a line, and tells what is left of what stands after it; None where the commands end. What is answered is the same for
+/// each sound session that is alike.
+fn exchange<'p, 'a, T: Table + Send + Sync, R: Threads + Wait + Sync, G: Gate>(
+    site: &Site<'_, R, G>,
+    alloc: Global,
+    session: Session<'p, T>,
+    raw: &[u8],
+    after: &'a [u8],
+    text: &mut Vec<u8>,
+) -> Result<(Session<'p, T>, Option<&'a [u8]>), RepliesFault>
+    ensures text { SaysAlike result text.old text.new session.entry (said_to raw.now after.now) }
+    ensures session { IfOk result (λ r. StaysAlike session.entry r.0 (session_left raw.now after.now)) }
+    ensures left { IfOk result (λ r. Leaves raw.now after.now r.1) }
+    ensures no_longer { IfOk result (λ r. IsNoLonger r.1 after.now) }
+    ensures why { IfErr result (IsWantOr MayEnd) }
+{
+    // By value: `pool` takes the book out of it, and another session goes on.
+    let mut session = session;
+    let line = without_newline(raw);
+    match read_engine_command(line) {
+        None => {
+            let reply = session.command(line)?;
+            append(text, reply.text.as_slice())?;
+            Ok((session, Some(after)))
+        }
+        Some(EngineCommand::Load(lines)) => {
+            // Taken before they are read: where they are no snapshot, they are no commands either.
+            let (snapshot, rest) = take_lines(after, lines);
+            let loaded = session.load(snapshot)?;
+            append(text, loaded.text.as_slice())?;
+            Ok((session, Some(rest)))
+        }
+        Some(EngineCommand::Pool(workers)) => {
+            let session = pool(site.rt, alloc, session, workers, site.gate, text)?;
+            Ok((session, Some(after)))
+        }
+        Some(EngineCommand::Quit) => Ok((session, None)),
+    }
+}
+
+/// Answers command lines, up to `quit` or the last, as each sound session does that is alike.
+fn answer_lines<T: Table + Send + Sync, R: Threads + Wait + Sync, G: Gate>(
+    site: &Site<'_, R, G>,
+    alloc: Global,
+    session: Session<'_, T>,
+    commands: &[u8],
+    text: &mut Vec<u8>,
+) -> Result<(), RepliesFault>
+    ensures text { AnswersAlike result text.old text.new session.entry commands.now }
+    ensures why { IfErr result (IsWantOr MayEnd) }
+{
+    let mut session = session;
+    let mut rest = commands;
+    while !rest.is_empty() {
+        let (raw, after) = raw_line(rest);
+        let (left, further) = exchange(site, alloc, session, raw, after, text)?;
+        let Some(further) = further else {
+            return Ok(());
+        };
+        session = left;
+        rest = further;
+    }
+    Ok(())
+}
+
+/// What a new session of the problem answers to command lines, up to `quit` or the last. A command that is refused is told in the
+/// text; a `pool` whose workers don't finish ends all, and neither their number nor a held tile is why.
+pub fn replies<T: Table + Send + Sync, R: Threads + Wait + Sync, G: Gate>(
+    rt: &R,
+    alloc: Global,
+    problem: &Problem,
+    commands: &[u8],
+    gate: &G,
+) -> Result<Vec<u8>, RepliesFault>
+    ensures text { ReturnsItems result (replies_to (fresh_session problem.now) commands.now) }
+    ensures why { IfErr result (IsWantOr MayEnd) }
+{
+    let session = Session::<T>::new(alloc, problem)?;
+    let mut text = Vec::new(alloc);
+    answer_lines(&Site { rt, gate }, alloc, session, commands, &mut text)?;
+    Ok(text)
+}

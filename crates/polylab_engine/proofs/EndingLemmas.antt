@@ -11,11 +11,11 @@ use Rattle.lab_pool.specs.declared.fault.PoolFault.{PoolFault}
 use Rattle.polylab_engine.specs.declared.job.Job.{Job}
 use Rattle.polylab_engine.specs.declared.engine.Ending.{Ending}
 use Rattle.polylab_engine.specs.declared.engine.Ending.TheVariants.{Written, Refused, OutOfMemory, Pool, Unread, Unwritten}
-use Rattle.polylab_engine.specs.Outcome.{outcome, to_write, no_memory, pool_refusal, bad_reader, bad_writer}
-use Rattle.polylab_engine.specs.Listing.{IsListed}
-use Rattle.polylab_engine.specs.Refusing.{IsEndingOf, TellsWant}
+use Rattle.polylab_engine.specs.Outcome.{job_outcome, to_write, no_memory, pool_refusal, bad_reader, bad_writer}
+use Rattle.polylab_engine.specs.Listed.{IsListed}
+use Rattle.polylab_engine.specs.Refusals.{IsEndingOf, TellsWant}
 use Rattle.polylab_engine.specs.Ending.{IsOutcomeOf, IsUnread, IsEnd, IsTold, status_of}
-use Rattle.polylab_engine.proofs.ListingLemmas.{outcome_lists}
+use Rattle.polylab_engine.proofs.ListedLemmas.{outcome_lists}
 
 -- what holds of all bytes holds of those that are known
 always : {P : List ℕ → Type 0} (known : Option (List ℕ)) → ((bytes : List ℕ) → P bytes) → IfSome known P
@@ -29,11 +29,11 @@ abbrev Beginning : Stream → Stream → Result (List ℕ) (List ℕ) → Type 0
 Beginning old new given = (n : ℕ) × Appends old.bytes new.bytes (take n (to_write given))
 
 -- what was written is a beginning of what is to be written, where that is a beginning for what was given
-begins : (job : Job) (input old new : Stream) (given : Result (List ℕ) (List ℕ)) → IsOutcomeOf job input given → Beginning old new given → IfSome input.bytes (λ bytes. Beginning old new (outcome job bytes))
+begins : (job : Job) (input old new : Stream) (given : Result (List ℕ) (List ℕ)) → IsOutcomeOf job input given → Beginning old new given → IfSome input.bytes (λ bytes. Beginning old new (job_outcome job bytes))
 begins job input old new given h b = IfSome_then input.bytes h (λ bytes g. subst (Beginning old new) (sym g.1) b)
 
 -- nothing written is a beginning of any text
-kept : (job : Job) (input old new : Stream) → Stays old new → IfSome input.bytes (λ bytes. Beginning old new (outcome job bytes))
+kept : (job : Job) (input old new : Stream) → Stays old new → IfSome input.bytes (λ bytes. Beginning old new (job_outcome job bytes))
 kept job input old new h = always input.bytes (λ bytes. (0, Appends-kept old.bytes old.bytes new.bytes [] (Appends-nil old.bytes) h.0))
 
 -- input past the limit gives nothing
@@ -104,7 +104,7 @@ module _ (job : Job) (r r' w w' f f' : Stream) where
   limit_is (Pool fault) h = always r.bytes (λ bytes past. (0, omega arith, refl))
   limit_is _ h = always r.bytes (λ bytes past. (1, omega arith, refl))
 
-  pub beginning_is : (e : Ending) → IsEnd job r r' w w' e → IfSome r.bytes (λ bytes. Beginning w w' (outcome job bytes))
+  pub beginning_is : (e : Ending) → IsEnd job r r' w w' e → IfSome r.bytes (λ bytes. Beginning w w' (job_outcome job bytes))
   beginning_is Written h = begins job r w w' (Ok h.1.0) h.1.1 (whole w w' h.1.0 h.1.2)
   beginning_is (Refused line) h = kept job r w w' h.2
   beginning_is Unwritten h = begins job r w w' (Ok h.1.0) h.1.1 h.1.2.0

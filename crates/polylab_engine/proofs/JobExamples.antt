@@ -1,4 +1,4 @@
--- The examples of specs/Account.antt, Stretch.antt, Debugged.antt, Ending.antt, Listing.antt, Jobs.antt and Refusing.antt, on the small problem.
+-- The examples of specs/Account.antt, Stretch.antt, Debugged.antt, Ending.antt, Listed.antt, Jobs.antt and Refusals.antt, on the small problem.
 use Rattle.std.proofs.Common.{◌≡◌, ℕ, zero, suc, ◌+◌, ◌<◌, true, false, Some, None, List, [], ◌∷◌, ◌++◌, codes, refl, lit<, lit≤, arith}
 use Rattle.std.specs.Prelude.{slice_index}
 use Rattle.cover_problem.specs.Problem.{IsProblem}
@@ -15,7 +15,7 @@ use Rattle.byte_streams.specs.Stream.{Stream, Takes}
 use Rattle.lab_book.specs.Book.{outcome}
 use Rattle.lab_pool.specs.declared.fault.PoolFault.{PoolFault}
 use Rattle.lab_pool.specs.declared.fault.PoolFault.TheVariants.{BadWorkerCount, Held}
-use Rattle.debug_language.specs.Reading.{command_from, engine_from}
+use Rattle.debug_language.specs.Reader.{command_from, engine_from}
 use Rattle.x_debug.specs.Questions.{question_lines}
 use Rattle.x_debug.specs.Commands.{deed_of}
 use Rattle.debug_script.specs.declared.fault.RepliesFault.TheVariants as replies
@@ -24,14 +24,14 @@ use Rattle.polylab_engine.specs.declared.job.Job.TheVariants as jobs
 use Rattle.polylab_engine.specs.declared.job.CoverJob.TheVariants as cover_jobs
 use Rattle.polylab_engine.specs.declared.job.PuzzleJob.TheVariants as puzzle_jobs
 use Rattle.polylab_engine.specs.Jobs.{is_first, takes_commands}
-use Rattle.polylab_engine.specs.Refusing.{pool_faults}
+use Rattle.polylab_engine.specs.Refusals.{pool_faults}
 use Rattle.polylab_engine.specs.declared.fault.JobFault.TheVariants as faults
 use Rattle.polylab_engine.specs.declared.engine.Ending.TheVariants as endings
 use Rattle.polylab_engine.specs.Account.{account_of, report_of, AreSums, PassesBlock}
 use Rattle.polylab_engine.specs.Stretch.{end_at, steps_taken}
 use Rattle.polylab_engine.specs.Debugged.{debug_output, job_fault}
 use Rattle.polylab_engine.specs.Ending.{IsTold, status_of}
-use Rattle.polylab_engine.specs.Listing.{AreExactCovers}
+use Rattle.polylab_engine.specs.Listed.{AreExactCovers}
 
 -- ---- specs/Account.antt
 
@@ -106,7 +106,7 @@ memory_status = refl
 unread_status : status_of endings.Unread ≡ 5
 unread_status = refl
 
--- ---- specs/Listing.antt
+-- ---- specs/Listed.antt
 
 its_problem : IsProblem small
 its_problem = record { some = lit< tt; within = lit≤ tt; named = refl; new = refl; options_are = refl; small = refl }
@@ -126,7 +126,7 @@ commands_follow = refl
 neither : (is_first (jobs.Puzzle puzzle_jobs.Options) ≡ false) × (takes_commands (jobs.Puzzle puzzle_jobs.Options) ≡ false)
 neither = (refl, refl)
 
--- ---- specs/Refusing.antt
+-- ---- specs/Refusals.antt
 
 -- `options` ends with no fault of workers, whatever a search may end with
 no_search : (May : PoolFault → Type 0) (fault : PoolFault) → pool_faults (jobs.Puzzle puzzle_jobs.Options) May fault → ⊥

@@ -11,7 +11,7 @@ use Rattle.x_steps.specs.Levels.{before_counts, without_last_zeros}
 use Rattle.x_steps.specs.Rank.{rank}
 use Rattle.x_steps.proofs.BetweenLemmas.{states_between_self, states_between_join, visits_join, level_count_join}
 use Rattle.x_snapshot.specs.Snapshot.{SnapshotValue, IsSnapshot}
-use Rattle.x_snapshot.specs.Writing.{snapshot_text}
+use Rattle.x_snapshot.specs.Writer.{snapshot_text}
 use Rattle.x_snapshot.specs.Judged.{snapshot_of}
 use Rattle.x_snapshot.proofs.WholeAgain.{parts_again}
 use Rattle.x_snapshot.proofs.JudgedLemmas.{read_judged}

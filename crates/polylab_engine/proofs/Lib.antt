@@ -6,7 +6,7 @@ pub mod ResumeLemmas
 pub mod ToldLemmas
 pub mod JoinedLemmas
 pub mod ClassifiedLemmas
-mod ListingLemmas
+mod ListedLemmas
 mod EndingLemmas
 pub mod PackedLemmas
 mod OutputExamples

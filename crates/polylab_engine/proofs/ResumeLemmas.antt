@@ -19,14 +19,10 @@ use Rattle.x_branches.specs.RunOrder.{ComesBefore, comes_before}
 use Rattle.x_branches.proofs.CutLemmas.{cut_is, cut_fits, rank_test}
 use Rattle.x_branches.proofs.StageLemmas.{comes_rank}
 use Rattle.x_branches.proofs.RunnerLemmas.{not_before, before_not, other_before}
-use Rattle.x_texts.specs.declared.breakpoint.Break.{Break}
-use Rattle.x_snapshot.specs.declared.fault.SnapshotFault.{SnapshotFault}
-use Rattle.x_snapshot.specs.declared.fault.SnapshotFault.TheVariants.{NotOnRun, OutsideBranch, BadBreak, OutOfMemory}
-use Rattle.x_snapshot.specs.Snapshot.{SnapshotValue, snapshot_with, path_in, IsCutIfAny, IsSnapshot}
-use Rattle.x_snapshot.specs.Refusals.{IsRefused}
-use Rattle.x_snapshot.specs.Writing.{snapshot_text}
+use Rattle.x_snapshot.specs.Snapshot.{SnapshotValue, at_state, path_in, IsCutIfAny, IsSnapshot}
+use Rattle.x_snapshot.specs.Writer.{snapshot_text}
 use Rattle.polylab_engine.specs.Stretch.{end_at, steps_taken, stop_from}
-use Rattle.polylab_engine.specs.Resumed.{branch_end, stop_of, snapshot_position, at_state, end_text, rest_text}
+use Rattle.polylab_engine.specs.Resumed.{branch_end, stop_of, snapshot_position, end_text, rest_text}
 use Rattle.polylab_engine.proofs.StopLemmas.{taken_within, taken_or}
 
 -- ---- the end of a branch
@@ -50,19 +46,6 @@ last_fits p (Some path) c = cut_fits p path c
 
 pub end_fits : (v : SnapshotValue) → IsSnapshot v → Fits v.problem (branch_end v)
 end_fits v s = last_fits v.problem v.hi s.on_run.high
-
--- nothing stands against a snapshot
-pub not_refused : (v : SnapshotValue) → IsSnapshot v → (f : SnapshotFault) → IsRefused v f → (f ≡ OutOfMemory → ⊥) → ⊥
-not_refused v s NotOnRun h m = h.1 s.on_run
-not_refused v s OutsideBranch h m = h.1.1 s.inside
-not_refused v s BadBreak h m = let b = s.breaks in cc
-not_refused v s OutOfMemory h m = m refl
-not_refused v s _ h m = h
-
--- a snapshot's parts at another state
-pub moved_is : (v : SnapshotValue) (t : StateValue) (p : ProblemValue) (lo hi : Option (List ℕ)) (breaks : List Break) → p ≡ v.problem → lo ≡ v.lo → hi ≡ v.hi → breaks ≡ v.breaks
-    → snapshot_with p lo hi t breaks ≡ at_state v t
-moved_is v t p lo hi breaks a b c d = λ j. snapshot_with (a j) (b j) (c j) t (d j)
 
 -- ---- where the stretch stops
 

@@ -8,7 +8,7 @@ use Rattle.x_snapshot.specs.declared.fault.SnapshotFault.{SnapshotFault}
 use Rattle.x_snapshot.specs.declared.fault.SnapshotFault.TheVariants.{NotOnRun, OutsideBranch}
 use Rattle.x_texts.specs.Breaks.{are_breaks}
 use Rattle.x_snapshot.specs.Snapshot.{SnapshotValue, IsOnRun, IsSnapshot}
-use Rattle.x_snapshot.specs.Reading.{parts_of}
+use Rattle.x_snapshot.specs.Reader.{parts_of}
 use Rattle.x_snapshot.specs.Judged.{is_on_run, is_inside, judged_parts, judged, snapshot_of}
 use Rattle.x_snapshot.proofs.WholeBack.{parts_back}
 use Rattle.x_snapshot.proofs.JudgedLemmas.{on_run_decides, inside_decides}
@@ -17,7 +17,7 @@ use Rattle.polylab_engine.specs.Output.{report_text}
 use Rattle.polylab_engine.specs.Stretch.{steps_taken}
 use Rattle.polylab_engine.specs.Resumed.{branch_end, stop_of, rest_text, resume_output}
 use Rattle.polylab_engine.specs.Outcome.{resumed_of}
-use Rattle.polylab_engine.specs.Listing.{TellsStretch}
+use Rattle.polylab_engine.specs.Listed.{TellsStretch}
 use Rattle.polylab_engine.proofs.AccountLemmas.{report_of_stretch}
 use Rattle.polylab_engine.proofs.ResumeLemmas.{reached, steps_are, not_past, stops, stop_is_snapshot, rest_ended, rest_goes_on}
 

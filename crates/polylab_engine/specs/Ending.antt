@@ -13,8 +13,8 @@ use Rattle.polylab_engine.specs.declared.fault.JobFault.TheVariants as faults
 use Rattle.polylab_engine.specs.declared.job.Job.{Job}
 use Rattle.polylab_engine.specs.declared.engine.Ending.{Ending}
 use Rattle.polylab_engine.specs.declared.engine.Ending.TheVariants.{Written, Refused, OutOfMemory, Pool, Unread, Unwritten}
-use Rattle.polylab_engine.specs.Outcome.{outcome, to_write, no_memory, pool_refusal, bad_reader, bad_writer}
-use Rattle.polylab_engine.specs.Listing.{IsListed}
+use Rattle.polylab_engine.specs.Outcome.{job_outcome, to_write, no_memory, pool_refusal, bad_reader, bad_writer}
+use Rattle.polylab_engine.specs.Listed.{IsListed}
 
 -- how a run ends whose job could not be done
 abbrev pub ending_of : JobFault → Ending
@@ -23,7 +23,7 @@ ending_of (faults.Pool fault) = Pool fault
 
 -- the input, where it is known, is within the limit, and this is what the job does with it
 abbrev pub IsOutcomeOf : Job → Stream → Result (List ℕ) (List ℕ) → Type 0
-IsOutcomeOf job input given = IfSome input.bytes (λ bytes. (length bytes ≤ most_input) × (outcome job bytes ≡ given))
+IsOutcomeOf job input given = IfSome input.bytes (λ bytes. (length bytes ≤ most_input) × (job_outcome job bytes ≡ given))
 
 -- the input was not read: the reader failed, or its bytes go on past the limit
 abbrev pub IsUnread : Stream → Stream → Type 0
@@ -75,4 +75,4 @@ pub record IsProgramRun (job : Job) (r r' w w' f f' : Stream) (status : ℕ) : T
   pub reader_told : (status ≡ 5 → ⊥) → IsSound r r'
   pub writer_told : (status ≡ 5 → ⊥) → IsSound w w'
   pub limit : IfSome r.bytes (λ bytes. 134217728 < length bytes → Contains (4 ∷ 5 ∷ []) status)
-  pub beginning : IfSome r.bytes (λ bytes. (n : ℕ) × Appends w.bytes w'.bytes (take n (to_write (outcome job bytes))))
+  pub beginning : IfSome r.bytes (λ bytes. (n : ℕ) × Appends w.bytes w'.bytes (take n (to_write (job_outcome job bytes))))

@@ -6,9 +6,9 @@ use Rattle.std.specs.Prelude.{ℕ, ◌+◌, ◌≡◌, Bool, Option, List, [], �
 use Rattle.cover_problem.specs.Problem.{ProblemValue}
 use Rattle.x_steps.specs.StateValue.{StateValue, start, done}
 use Rattle.x_steps.specs.Steps.{Fits}
-use Rattle.x_snapshot.specs.Snapshot.{SnapshotValue, IsSnapshot}
+use Rattle.x_snapshot.specs.Snapshot.{SnapshotValue, IsSnapshot, at_state}
 use Rattle.polylab_engine.specs.Account.{ReportValue}
-use Rattle.polylab_engine.specs.Resumed.{branch_end, stop_of, at_state, report_up_to}
+use Rattle.polylab_engine.specs.Resumed.{branch_end, stop_of, report_up_to}
 
 -- the counts of levels, added level by level
 abbrev pub levels_added : List ℕ → List ℕ → List ℕ

@@ -9,7 +9,7 @@ pub mod Resumed
 pub mod Joined
 pub mod Jobs
 pub mod Outcome
-pub mod Listing
+pub mod Listed
 pub mod Ending
-pub mod Refusing
+pub mod Refusals
 pub mod Tables

@@ -13,8 +13,8 @@ use Rattle.polylab_engine.specs.declared.job.CoverJob.{CoverJob}
 use Rattle.polylab_engine.specs.declared.job.CoverJob.TheVariants as cover_jobs
 use Rattle.polylab_engine.specs.declared.job.PuzzleJob.{PuzzleJob}
 use Rattle.polylab_engine.specs.declared.job.PuzzleJob.TheVariants as puzzle_jobs
-use Rattle.polylab_engine.specs.declared.answer.Answer.{Answer}
-use Rattle.polylab_engine.specs.declared.answer.Answer.TheVariants.{Text, Refused}
+use Rattle.polylab_engine.specs.declared.answer.JobAnswer.{JobAnswer}
+use Rattle.polylab_engine.specs.declared.answer.JobAnswer.TheVariants.{Text, Refused}
 use Rattle.poly_texts.specs.declared.fault.Fault as puzzle
 use Rattle.poly_texts.specs.Faults as puzzle_faults
 use Rattle.poly_texts.specs.Puzzle.{PuzzleValue}
@@ -112,10 +112,10 @@ puzzle_outcome puzzle_jobs.Debug input = packed_of (puzzle_replies (command_line
 puzzle_outcome job input = packed_of (output_of job []) (puzzle_of input)
 
 -- what a job writes for an input, or the line that refuses it
-unfoldable pub outcome : Job → List ℕ → Result (List ℕ) (List ℕ)
-outcome (jobs.Cover job) input = cover_outcome job input
-outcome (jobs.Puzzle job) input = puzzle_outcome job input
-outcome (jobs.Resume steps list) input = resumed_of (resume_output steps list) (snapshot_of input)
+unfoldable pub job_outcome : Job → List ℕ → Result (List ℕ) (List ℕ)
+job_outcome (jobs.Cover job) input = cover_outcome job input
+job_outcome (jobs.Puzzle job) input = puzzle_outcome job input
+job_outcome (jobs.Resume steps list) input = resumed_of (resume_output steps list) (snapshot_of input)
 
 -- what is to be written: the text, or nothing where the input is refused
 abbrev pub to_write : Result (List ℕ) (List ℕ) → List ℕ
@@ -139,16 +139,16 @@ abbrev pub bad_writer : List ℕ
 bad_writer = line_text (codes "refused" ∷ codes "output" ∷ [])
 
 -- an answer's bytes
-abbrev pub outcome_of : Answer → Result (List ℕ) (List ℕ)
+abbrev pub outcome_of : JobAnswer → Result (List ℕ) (List ℕ)
 outcome_of (Text text) = Ok text.items
 outcome_of (Refused line) = Err line.items
 
 -- a call answers with this outcome, unless it has an error
-abbrev pub HasOutcome : {E : Type 0} → Result Answer E → Result (List ℕ) (List ℕ) → Type 0
+abbrev pub HasOutcome : {E : Type 0} → Result JobAnswer E → Result (List ℕ) (List ℕ) → Type 0
 HasOutcome result given = IfOk result (λ answer. outcome_of answer ≡ given)
 
 -- a call answers what a job makes of a puzzle, over the bytes of these commands, unless it has an error
-abbrev pub AnswersPuzzle : {E : Type 0} → Result Answer E → PuzzleJob → List ℕ → PuzzleValue → Type 0
+abbrev pub AnswersPuzzle : {E : Type 0} → Result JobAnswer E → PuzzleJob → List ℕ → PuzzleValue → Type 0
 AnswersPuzzle result job commands puzzle =
     (given : PuzzleValue) → given ≡ puzzle → HasOutcome result (puzzle_answer job commands (Ok given))
 

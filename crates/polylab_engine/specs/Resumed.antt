@@ -9,8 +9,8 @@ use Rattle.x_steps.specs.StateValue.{StateValue}
 use Rattle.x_steps.specs.Run.{after, steps_between}
 use Rattle.x_branches.specs.Branch.{end_of}
 use Rattle.x_branches.specs.RunOrder.{comes_before}
-use Rattle.x_snapshot.specs.Snapshot.{SnapshotValue, branch_between}
-use Rattle.x_snapshot.specs.Writing.{snapshot_text}
+use Rattle.x_snapshot.specs.Snapshot.{SnapshotValue, branch_between, at_state}
+use Rattle.x_snapshot.specs.Writer.{snapshot_text}
 use Rattle.polylab_engine.specs.Output.{report_text}
 use Rattle.polylab_engine.specs.Stretch.{steps_taken, stretch_report}
 use Rattle.polylab_engine.specs.Account.{ReportValue}
@@ -33,10 +33,6 @@ snapshot_position v = record { problem = v.problem; state = v.state }
 -- the report of the stretch from a snapshot's state up to t
 abbrev pub report_up_to : Bool → SnapshotValue → StateValue → ReportValue
 report_up_to keeps v t = stretch_report keeps v.problem v.state t
-
--- the same snapshot at another state
-abbrev pub at_state : SnapshotValue → StateValue → SnapshotValue
-at_state v t = record v { state = t }
 
 -- the line that tells that the branch ended
 abbrev pub end_text : List ℕ

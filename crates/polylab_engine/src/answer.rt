@@ -1,6 +1,6 @@
 //! What a job writes for an input.
 ghost use Rattle.std.specs.Prelude.{◌≡◌, IfOk, IfErr, Ok};
-ghost use Rattle.polylab_engine.specs.Refusing.{IsWantOrPool, NoPool, cover_faults, puzzle_faults, pool_faults};
+ghost use Rattle.polylab_engine.specs.Refusals.{IsWantOrPool, NoPool, cover_faults, puzzle_faults, pool_faults};
 ghost use Rattle.text_lines.specs.Answers.{GivesAt};
 ghost use Rattle.text_lines.specs.Writing.{line_text};
 ghost use Rattle.poly_texts.specs.declared.fault.Fault as puzzle;
@@ -9,7 +9,7 @@ ghost use Rattle.poly_texts.specs.Reading.{puzzle_of};
 ghost use Rattle.debug_script.specs.Input.{raw_lines};
 ghost use Rattle.x_snapshot.specs.Judged.{snapshot_of};
 ghost use Rattle.polylab_engine.specs.Resumed.{resume_output};
-ghost use Rattle.polylab_engine.specs.Outcome.{refusal_words, resumed_of, outcome, cover_outcome, puzzle_outcome, listing_of, output_of, HasOutcome, ForReading, cover_answer, puzzle_answer, AnswersPuzzle};
+ghost use Rattle.polylab_engine.specs.Outcome.{refusal_words, resumed_of, job_outcome, cover_outcome, puzzle_outcome, listing_of, output_of, HasOutcome, ForReading, cover_answer, puzzle_answer, AnswersPuzzle};
 ghost use Rattle.cover_problem.specs.Answers.{ReturnsItems};
 ghost use Rattle.x_snapshot.specs.Refusals.{TellsFault};
 
@@ -18,7 +18,7 @@ use crate::cover::{covers, first_covers};
 use crate::fault::JobFault;
 use crate::job::{CoverJob, Job, PuzzleJob};
 use crate::packed::{count, first_packings, options, solve};
-use crate::resuming::resume;
+use crate::resumption::resume;
 use crate::tables::TableKind;
 use crate::workers::Workers;
 use cover_problem::{CoverFault, Problem, read_cover};
@@ -32,21 +32,21 @@ use x_snapshot::{Snapshot, SnapshotFault, read_snapshot};
 
 /// The text to write, or the line that refuses the input.
 #[derive(Drop)]
-pub enum Answer {
+pub enum JobAnswer {
     Text(Vec<u8>),
     Refused(Vec<u8>),
 }
 
 /// What the job writes for an input.
-#[tactic(auto, unfolding(crate::specs::Outcome::outcome))]
+#[tactic(auto, unfolding(crate::specs::Outcome::job_outcome))]
 pub fn answer_to<W: Workers>(
     alloc: Global,
     job: Job,
     workers: &W,
     input: Vec<u8>,
-) -> Result<Answer, JobFault>
+) -> Result<JobAnswer, JobFault>
     requires { W.ready workers.now }
-    ensures outcome { HasOutcome result (outcome job input.items) }
+    ensures outcome { HasOutcome result (job_outcome job input.items) }
     ensures why { IfErr result (IsWantOrPool (pool_faults job (W.refuses workers.now))) }
 {
     match job {
@@ -63,7 +63,7 @@ fn cover_job<W: Workers>(
     workers: &W,
     job: CoverJob,
     input: Vec<u8>,
-) -> Result<Answer, JobFault>
+) -> Result<JobAnswer, JobFault>
     requires { W.ready workers.now }
     ensures outcome { HasOutcome result (cover_outcome job input.items) }
     ensures why { IfErr result (IsWantOrPool (cover_faults job (W.refuses workers.now))) }
@@ -73,6 +73,7 @@ fn cover_job<W: Workers>(
             cover_answer::<W>(alloc, workers, job, problem_in(alloc, input), &[])
         }
         CoverJob::Debug => {
+            // The commands are lent by the input, which lives until the last is answered.
             let (text, commands) = split_input(&input);
             cover_answer::<W>(
                 alloc,
@@ -91,7 +92,7 @@ fn puzzle_job<W: Workers>(
     workers: &W,
     job: PuzzleJob,
     input: Vec<u8>,
-) -> Result<Answer, JobFault>
+) -> Result<JobAnswer, JobFault>
     requires { W.ready workers.now }
     ensures outcome { HasOutcome result (puzzle_outcome job input.items) }
     ensures why { IfErr result (IsWantOrPool (puzzle_faults job (W.refuses workers.now))) }
@@ -140,16 +141,16 @@ fn resume_answer(
     steps: Option<u64>,
     list: bool,
     text: Vec<u8>,
-) -> Result<Answer, JobFault>
+) -> Result<JobAnswer, JobFault>
     ensures outcome { HasOutcome result (resumed_of (resume_output steps list) (snapshot_of text.items)) }
     ensures why { IfErr result (IsWantOrPool NoPool) }
 {
     match snapshot_in(alloc, text) {
-        Ok(snapshot) => Ok(Answer::Text(resume(alloc, table, steps, list, &snapshot)?)),
+        Ok(snapshot) => Ok(JobAnswer::Text(resume(alloc, table, steps, list, snapshot)?)),
         Err(fault) => {
             let mut line = Vec::new(alloc);
             write_snapshot_fault(&mut line, fault)?;
-            Ok(Answer::Refused(line))
+            Ok(JobAnswer::Refused(line))
         }
     }
 }
@@ -161,16 +162,18 @@ fn cover_answer<W: Workers>(
     job: CoverJob,
     found: Result<Problem, CoverFault>,
     commands: &[u8],
-) -> Result<Answer, JobFault>
+) -> Result<JobAnswer, JobFault>
     requires { W.ready workers.now }
     ensures outcome { ForReading found (λ read. HasOutcome result (cover_answer job commands.now read)) }
     ensures why { IfErr result (IsWantOrPool (cover_faults job (W.refuses workers.now))) }
 {
     match found {
-        Ok(problem) => Ok(Answer::Text(cover_text::<W>(alloc, workers, job, &problem, commands)?)),
+        Ok(problem) => Ok(JobAnswer::Text(cover_text::<W>(
+            alloc, workers, job, &problem, commands,
+        )?)),
         Err(CoverFault::Fault { fault, line }) => {
             let (number, name) = (fault.number(), fault.name());
-            Ok(Answer::Refused(refusal(alloc, "cover", number, name, line)?))
+            Ok(JobAnswer::Refused(refusal(alloc, "cover", number, name, line)?))
         }
         Err(CoverFault::OutOfMemory) => Err(JobFault::OutOfMemory),
     }
@@ -202,7 +205,7 @@ fn puzzle_answer<W: Workers>(
     job: PuzzleJob,
     found: Result<Puzzle, PuzzleFault>,
     commands: &[u8],
-) -> Result<Answer, JobFault>
+) -> Result<JobAnswer, JobFault>
     requires { W.ready workers.now }
     ensures outcome { ForReading found (λ read. HasOutcome result (puzzle_answer job commands.now read)) }
     ensures why { IfErr result (IsWantOrPool (puzzle_faults job (W.refuses workers.now))) }
@@ -211,7 +214,7 @@ fn puzzle_answer<W: Workers>(
         Ok(puzzle) => packed_answer::<W>(alloc, workers, job, &puzzle, commands),
         Err(PuzzleFault::Fault { fault, line }) => {
             let (number, name) = (fault.number(), fault.name());
-            Ok(Answer::Refused(refusal(alloc, "puzzle", number, name, line)?))
+            Ok(JobAnswer::Refused(refusal(alloc, "puzzle", number, name, line)?))
         }
         Err(PuzzleFault::OutOfMemory) => Err(JobFault::OutOfMemory),
     }
@@ -224,18 +227,19 @@ fn packed_answer<W: Workers>(
     job: PuzzleJob,
     puzzle: &Puzzle,
     commands: &[u8],
-) -> Result<Answer, JobFault>
+) -> Result<JobAnswer, JobFault>
     requires { W.ready workers.now }
     ensures answer { AnswersPuzzle result job commands.now puzzle.now }
     ensures why { IfErr result (IsWantOrPool (puzzle_faults job (W.refuses workers.now))) }
 {
     match compile(alloc, puzzle) {
-        Ok(compiled) => Ok(Answer::Text(packed_text::<W>(
+        Ok(compiled) => Ok(JobAnswer::Text(packed_text::<W>(
             alloc, workers, job, &compiled, commands,
         )?)),
+        // A puzzle is within its own limits; what it compiles to has others, and no line of the text is to blame.
         Err(PlaceFault::TooManyOptions) => {
             let line = Vec::from_slice(alloc, b"refused place 1 TooManyOptions\n")?;
-            Ok(Answer::Refused(line))
+            Ok(JobAnswer::Refused(line))
         }
         Err(PlaceFault::OutOfMemory) => Err(JobFault::OutOfMemory),
     }

@@ -1,9 +1,9 @@
 //! What `count --classes` writes.
 ghost use Rattle.std.specs.Prelude.{IfErr};
-ghost use Rattle.polylab_engine.specs.Refusing.{IsWantOrPool};
+ghost use Rattle.polylab_engine.specs.Refusals.{IsWantOrPool};
 ghost use Rattle.poly_place.specs.Packings.{packing_problem};
 ghost use Rattle.polylab_engine.specs.Classified.{packings_of, classes_output, lines_of_classes};
-ghost use Rattle.polylab_engine.specs.Listing.{AreExactCovers};
+ghost use Rattle.polylab_engine.specs.Listed.{AreExactCovers};
 ghost use Rattle.x_texts.specs.Writes.{AddsLines};
 ghost use Rattle.cover_problem.specs.Answers.{ReturnsItems};
 
@@ -44,6 +44,7 @@ fn push_classes(
     requires { AreExactCovers (packing_problem compiled.now) visits.now }
     ensures { AddsLines result text.old text.new (lines_of_classes compiled.now visits.now) }
 {
+    // Two packings may be of one class however far apart they were found, so they all stand in memory.
     let packings = packings_of(alloc, compiled, visits)?;
     let rotations = classes(alloc, packings.as_slice(), Group::Rotations)?;
     let symmetries = classes(alloc, packings.as_slice(), Group::Symmetries)?;

@@ -1,6 +1,6 @@
 //! What `cover` writes, with `--first` and without it.
 ghost use Rattle.std.specs.Prelude.{IfErr};
-ghost use Rattle.polylab_engine.specs.Refusing.{IsWantOrPool};
+ghost use Rattle.polylab_engine.specs.Refusals.{IsWantOrPool};
 ghost use Rattle.polylab_engine.specs.First.{cover_end, first_cover_output};
 ghost use Rattle.polylab_engine.specs.Output.{cover_output, report_text};
 ghost use Rattle.x_texts.specs.Writes.{AddsLines};

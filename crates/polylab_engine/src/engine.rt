@@ -6,12 +6,12 @@ ghost use Rattle.cover_problem.specs.Answers.{Returns, ReturnsItems};
 ghost use Rattle.debug_script.specs.Input.{raw_lines};
 ghost use Rattle.polylab_engine.specs.Debugged.{debug_output};
 ghost use Rattle.polylab_engine.specs.Output.{whole_report};
-ghost use Rattle.polylab_engine.specs.Refusing.{IsWantOrPool, IsEndingOf, NoPool, TellsAtFour, pool_faults};
-ghost use Rattle.debug_script.specs.Refusing.{MayRefuse, MayEnd};
+ghost use Rattle.polylab_engine.specs.Refusals.{IsWantOrPool, IsEndingOf, NoPool, TellsAtFour, pool_faults};
+ghost use Rattle.debug_script.specs.Refusals.{MayRefuse, MayEnd};
 ghost use Rattle.polylab_engine.specs.Ending.{EndsRun, IsTold, IsProgramRun, status_of};
 
-use crate::answer::{Answer, answer_to};
-use crate::debugging::debug;
+use crate::answer::{JobAnswer, answer_to};
+use crate::debugger::debug;
 use crate::fault::{JobFault, pool_line};
 use crate::job::Job;
 use crate::report::Report;
@@ -72,6 +72,7 @@ fn status(ending: &Ending) -> u8
 fn tell<F: Sink>(faults: &mut F, line: &[u8])
     ensures { Takes (F.stream faults.old) (F.stream faults.new) line.now }
 {
+    // There is nobody else to tell, and the exit status says it too.
     let _ = write_whole(faults, line);
 }
 
@@ -107,11 +108,12 @@ fn work<W: Workers, I: Source, O: Sink>(
         Err(_) => return Ending::Unread,
     };
     match answer_to(alloc, job, workers, bytes) {
-        Ok(Answer::Text(text)) => match write_whole(writer, &text) {
+        // Nothing is written before the whole answer is there, so that no fault leaves half of it.
+        Ok(JobAnswer::Text(text)) => match write_whole(writer, &text) {
             Ok(()) => Ending::Written,
             Err(_) => Ending::Unwritten,
         },
-        Ok(Answer::Refused(line)) => Ending::Refused(line),
+        Ok(JobAnswer::Refused(line)) => Ending::Refused(line),
         Err(fault) => Ending::from(fault),
     }
 }
@@ -119,7 +121,7 @@ fn work<W: Workers, I: Source, O: Sink>(
 /// Reads the whole input, does the job, writes the whole output, and answers the exit status: 0, 3, 4 or 5. One line
 /// goes to `faults` where it isn't 0; the line is whole unless `faults` failed.
 ///
-/// What is written at status 0 is a function of the job and of the bytes read (`outcome`), and it lists exactly the
+/// What is written at status 0 is a function of the job and of the bytes read (`job_outcome`), and it lists exactly the
 /// exact covers of the input's problem, or the packings of its puzzle, each once, in path order, or tells how many
 /// these are, or what the search of its snapshot comes to from there on. It is the same for every number of workers
 /// and every gate; a gate sees the acts of workers who share a search. At 3 and 4 nothing is written. `IsProgramRun` of
@@ -171,6 +173,7 @@ pub fn run_together<R: Threads + Wait + Sync, G: Gate, I: Source, O: Sink, F: Si
         (F.stream faults.old) (F.stream faults.new) result }
     ensures why { TellsAtFour result F.stream (pool_faults job (MayRefuse crew.now.count)) faults.old faults.new }
 {
+    // Only here is it known that the threads may wait: `run` calls the closures by their contracts, and stays a call that returns.
     let search = |alloc: Global, problem: &Problem, keeps: bool| -> Result<Report, JobFault>
         requires threads { IsSync R.row }
         requires gate { IsSync G.row }

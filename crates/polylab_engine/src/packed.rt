@@ -1,12 +1,12 @@
 //! What `solve`, `count` and `options` write.
-ghost use Rattle.polylab_engine.specs.Refusing.{IsWantOrPool};
+ghost use Rattle.polylab_engine.specs.Refusals.{IsWantOrPool};
 ghost use Rattle.std.specs.Prelude.{◌<◌, IfErr};
 ghost use Rattle.cover_problem.specs.Lists.{has};
 ghost use Rattle.cover_problem.specs.ExactCover.{IsExactCover};
 ghost use Rattle.poly_place.specs.Packings.{packing_problem};
 ghost use Rattle.polylab_engine.specs.Packed.{solve_output, count_output, count_text, options_output, packing_text, packings_from};
 ghost use Rattle.polylab_engine.specs.First.{packings_end, first_packings_output};
-ghost use Rattle.polylab_engine.specs.Listing.{AreExactCovers};
+ghost use Rattle.polylab_engine.specs.Listed.{AreExactCovers};
 ghost use Rattle.text_lines.specs.Writing.{line_text};
 ghost use Rattle.cover_problem.specs.Answers.{ReturnsItems, Adds};
 
@@ -34,6 +34,7 @@ pub fn solve<W: Workers>(
     let problem = compiled.problem();
     problem.is_sound();
     let report = workers.search(alloc, problem, true)?;
+    // The number comes last, as in each text here: a reader of the packings needs no second pass.
     let mut text = Vec::new(alloc);
     push_packings(alloc, &mut text, compiled, report.visits())?;
     write_number_line(&mut text, "packings", report.visited())?;
@@ -63,6 +64,7 @@ pub fn first_packings(
 fn push_end(text: &mut Vec<u8>, packings: u128, first: u64) -> Result<(), AllocError>
     ensures { Adds result text.old text.new (line_text (packings_end first packings)) }
 {
+    // With as many as were asked for the search didn't go on to see whether there are more, so it can't tell their number.
     if packings < u128::from(first) {
         write_number_line(text, "packings", packings)
     } else {
@@ -119,6 +121,7 @@ fn push_packings(
     requires { AreExactCovers (packing_problem compiled.now) visits.now }
     ensures { Adds result text.old text.new (packings_from compiled.now 1 visits.now) }
 {
+    // Each packing is let go when it is written: in memory stand the visits alone, and the text.
     for k in 0..visits.len() {
         push_packing(alloc, text, compiled, k as u128 + 1, visits.list(k))?;
     }

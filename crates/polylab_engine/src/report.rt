@@ -19,6 +19,7 @@ use x_texts::write_levels;
 /// on, up to the last that has one.
 #[derive(Drop)]
 pub struct Report {
+    // The tally moves its own in, and would copy them through a constructor.
     pub(crate) visits: Lists,
     pub(crate) visited: u128,
     pub(crate) steps: u128,
@@ -42,6 +43,7 @@ impl Model for Report {
 fn visits_of(alloc: Global, book: &Book<'_>, keeps: bool) -> Result<Lists, AllocError>
     ensures { IfOk result (λ paths. IsFinished book.now → paths ≡ book_visits keeps book.now) }
 {
+    // A book makes the list of its visits anew from its stretches: none where nobody reads it.
     if keeps {
         book.visits()
     } else {

@@ -2,8 +2,8 @@
 ghost use Rattle.std.specs.Prelude.{IfOk, IfErr};
 ghost use Rattle.polylab_engine.specs.First.{IsFirstReport};
 ghost use Rattle.polylab_engine.specs.Output.{whole_report};
-ghost use Rattle.polylab_engine.specs.Refusing.{IsWantOrPool};
-ghost use Rattle.debug_script.specs.Refusing.{MayRefuse};
+ghost use Rattle.polylab_engine.specs.Refusals.{IsWantOrPool};
+ghost use Rattle.debug_script.specs.Refusals.{MayRefuse};
 ghost use Rattle.cover_problem.specs.Answers.{Returns};
 
 use crate::fault::JobFault;
@@ -32,6 +32,7 @@ pub fn search_alone(
     match table_for(problem, 1, table) {
         Some(TableKind::Links) => search_by::<LinkTable>(alloc, problem, keeps),
         Some(TableKind::Bits) => search_by::<BitTable>(alloc, problem, keeps),
+        // Bit sets that would take more than they may end as want of memory does, and are not begun.
         None => Err(AllocError),
     }
 }
@@ -86,6 +87,7 @@ pub fn search_together<R: Threads + Wait + Sync, G: Gate>(
     ensures report { Returns result (whole_report keeps problem.now) }
     ensures why { IfErr result (IsWantOrPool (MayRefuse crew.now.count)) }
 {
+    // Each worker has a table of its own, so that the room for bit sets is asked for all of them.
     match table_for(problem, crew.count, crew.table) {
         Some(TableKind::Links) => share_by::<LinkTable, R, G>(alloc, crew, problem, keeps),
         Some(TableKind::Bits) => share_by::<BitTable, R, G>(alloc, crew, problem, keeps),
@@ -105,6 +107,7 @@ fn share_by<T: Table + Send + Sync, R: Threads + Wait + Sync, G: Gate>(
 {
     match run_pool::<T, R, G>(crew.rt, alloc, problem, crew.count, crew.gate) {
         Ok(book) => Ok(Report::of_book(alloc, &book, keeps)?),
+        // The book comes back with the fault. A job writes all or nothing, so what was searched is let go.
         Err(refused) => Err(JobFault::from(refused.fault)),
     }
 }

@@ -8,7 +8,7 @@ ghost use Rattle.x_branches.specs.RunOrder.{ComesBefore};
 ghost use Rattle.polylab_engine.specs.Stretch.{end_at, stop_from, report_from, IsAtEnd, state_at};
 
 use crate::report::Report;
-use crate::tally::Tally;
+use crate::tally::RunTally;
 use cover_problem::Table;
 use std::alloc::{AllocError, Global};
 use x_steps::{Event, Label, Machine, State, Walk, no_counts};
@@ -20,6 +20,7 @@ fn pace_of(room: u32, left: Option<u64>, is_full: bool) -> u32
     ensures full { IsTrue is_full → result ≡ 0 }
     ensures none { result ≡ 0 → IsTrue is_full ⊎ ((room ≡ 0) ⊎ (left ≡ Some 0)) }
 {
+    // A walk of no step ends the stretch, whichever bound it has met: one way out serves them all.
     if is_full {
         return 0;
     }
@@ -58,6 +59,7 @@ fn walk_on<T: Table>(
 {
     match machine.walk(most, end, counts) {
         Ok(walk) => walk,
+        // At Done there is nothing to walk, and that is where a stretch without a cut ends.
         Err(_) => Walk {
             steps: 0,
             event: Event::Moved,
@@ -85,8 +87,9 @@ pub fn search_on<T: Table>(
 {
     let items = machine.problem().items();
     let mut machine = machine;
-    let mut tally = Tally::new(alloc, items)?;
+    let mut tally = RunTally::new(alloc, items)?;
     let mut counts = no_counts(alloc, items)?;
+    // The machine counts in 32 bits, which so many steps can't pass; then the counts go to totals without a bound.
     let mut room = u32::MAX;
     let mut left = most;
     loop {

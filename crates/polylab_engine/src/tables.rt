@@ -44,6 +44,7 @@ pub fn table_for(problem: &Problem, workers: u32, asked: Option<TableKind>) -> O
     match asked {
         None => Some(suited(problem, workers)),
         Some(TableKind::Bits) => bits_in_room(problem, workers),
+        // Links are linear in the problem, which the reader has bounded.
         Some(TableKind::Links) => Some(TableKind::Links),
     }
 }

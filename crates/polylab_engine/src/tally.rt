@@ -12,14 +12,14 @@ use x_steps::{Event, Walk, drop_last_zeros};
 
 /// The visits that are kept, and the numbers of visits, of steps, and of X2 states at each level.
 #[derive(Drop)]
-pub struct Tally {
+pub struct RunTally {
     visits: Lists,
     visited: Count,
     steps: Count,
     entered: Vec<Count>,
 }
 
-impl Model for Tally {
+impl Model for RunTally {
     ghost use Rattle.polylab_engine.specs.Account.{Account};
 
     ghost Value = { Account };
@@ -65,13 +65,14 @@ fn totals_of(alloc: Global, counts: &[Count]) -> Result<Vec<u128>, AllocError>
     Ok(totals)
 }
 
-impl Tally {
+impl RunTally {
     /// The tally of no step, for a problem of so many items.
-    pub fn new(alloc: Global, items: u32) -> Result<Tally, AllocError>
+    pub fn new(alloc: Global, items: u32) -> Result<RunTally, AllocError>
         ensures { Returns result (empty_account items) }
     {
+        // A path has an option for each item at most, so there is a level more than items.
         let entered = no_counts(alloc, items as usize + 1)?;
-        Ok(Tally {
+        Ok(RunTally {
             visits: Lists::new(alloc),
             visited: Count::new(alloc),
             steps: Count::new(alloc),
@@ -111,6 +112,7 @@ impl Tally {
     pub fn report(self, alloc: Global) -> Result<Report, AllocError>
         ensures { Returns result (report_of self) }
     {
+        // A run's levels end at the last that was entered; a tally has them all from its beginning.
         let mut levels = totals_of(alloc, &self.entered)?;
         drop_last_zeros(&mut levels);
         Ok(Report {
@@ -137,6 +139,7 @@ fn keep_visit(visits: &mut Lists, keeps: bool, event: Event, path: &[u32]) -> Re
     ensures { OnOk result (visits.new ≡ kept_with keeps visits.old event path.now) }
 {
     match event {
+        // The path is copied here and nowhere else: a count of years keeps one number.
         Event::Visited if keeps => visits.push(path),
         _ => Ok(()),
     }

@@ -3,8 +3,8 @@ ghost use Rattle.cover_problem.specs.Answers.{Returns, ReturnsItems};
 ghost use Rattle.debug_script.specs.Input.{raw_lines};
 ghost use Rattle.polylab_engine.specs.Debugged.{debug_output};
 ghost use Rattle.polylab_engine.specs.Output.{whole_report};
-ghost use Rattle.polylab_engine.specs.Refusing.{IsWantOrPool, NoPool};
-ghost use Rattle.debug_script.specs.Refusing.{MayRefuse, MayEnd};
+ghost use Rattle.polylab_engine.specs.Refusals.{IsWantOrPool, NoPool};
+ghost use Rattle.debug_script.specs.Refusals.{MayRefuse, MayEnd};
 ghost use Rattle.std.specs.Prelude.{IfErr};
 ghost use Rattle.lab_pool.specs.declared.fault.PoolFault.{PoolFault};
 
@@ -84,6 +84,7 @@ impl Workers for Alone {
         _problem: &Problem,
         _commands: &[u8],
     ) -> Result<Vec<u8>, JobFault> {
+        // No words ask for this: `polylab_line` hands `debug` to workers on threads.
         Err(JobFault::Pool(PoolFault::NoThread))
     }
 }

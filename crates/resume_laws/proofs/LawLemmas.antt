@@ -24,7 +24,7 @@ use Rattle.polylab_engine.specs.Output.{report_text, whole_report, cover_output}
 use Rattle.polylab_engine.specs.Stretch.{stretch_report}
 use Rattle.polylab_engine.specs.Resumed.{branch_end, stop_of, end_text, rest_text, resume_output}
 use Rattle.polylab_engine.specs.Joined.{after_slice, slice_report}
-use Rattle.polylab_engine.specs.Outcome.{outcome, covers_of}
+use Rattle.polylab_engine.specs.Outcome.{job_outcome, covers_of}
 use Rattle.polylab_engine.proofs.ToldLemmas.{snapshot_read}
 use Rattle.polylab_engine.proofs.ResumeLemmas.{stops, stop_is_snapshot, rest_ended}
 use Rattle.resume_laws.specs.ResumedTexts.{report_part, rest_part, IsReportPart, TellsReport, TellsNumbers, RunRequest, to_the_end, IsResumed, IsInput, IsRest, ReachEnd, AllList, TellTogether, whole_text, IsWholeText}
@@ -140,13 +140,13 @@ pub whole : (p : ProblemValue) → IsProblem p → IsWholeText p (whole_text p)
 whole p g = ([], snapshot_again (at_start p []) (start_is_snapshot p g))
 
 -- what `cover` writes tells the whole run
-cover_told : (p : ProblemValue) (input covers : List ℕ) → problem_of input ≡ Ok p → outcome (jobs.Cover cover_jobs.List) input ≡ Ok covers → TellsReport covers (stretch_report true p start done)
-unfolding outcome cover_output
+cover_told : (p : ProblemValue) (input covers : List ℕ) → problem_of input ≡ Ok p → job_outcome (jobs.Cover cover_jobs.List) input ≡ Ok covers → TellsReport covers (stretch_report true p start done)
+unfolding job_outcome cover_output
 cover_told p input covers read e =
     let same : report_text (whole_report true p) ≡ covers = ok_is (report_text (whole_report true p)) covers (ap (covers_of cover_output) (sym read) ∙ e) in
     ap report_part (sym same ∙ sym (append-nil (report_text (whole_report true p)))) ∙ report_told (whole_report true p) [] (record { starts = refl; ended = refl })
 
-module _ (asked : List RunRequest) (p : ProblemValue) (text : List ℕ) (outputs : List (List ℕ)) (input covers : List ℕ) (runs : ReachEnd asked text outputs) (is : IsWholeText p text) (read : problem_of input ≡ Ok p) (e : outcome (jobs.Cover cover_jobs.List) input ≡ Ok covers) where
+module _ (asked : List RunRequest) (p : ProblemValue) (text : List ℕ) (outputs : List (List ℕ)) (input covers : List ℕ) (runs : ReachEnd asked text outputs) (is : IsWholeText p text) (read : problem_of input ≡ Ok p) (e : job_outcome (jobs.Cover cover_jobs.List) input ≡ Ok covers) where
   begun : IsSnapshot (at_start p is.0)
   begun = snapshot_read text (at_start p is.0) is.1
 

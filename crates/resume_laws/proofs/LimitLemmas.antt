@@ -12,7 +12,7 @@ use Rattle.x_texts.specs.declared.breakpoint.Break.{Break}
 use Rattle.x_texts.specs.Breaks.{is_break, are_new, are_breaks}
 use Rattle.x_texts.specs.Words.{cut_words, state_words, break_words}
 use Rattle.x_snapshot.specs.Snapshot.{SnapshotValue, IsCutIfAny, IsSnapshot}
-use Rattle.x_snapshot.specs.Writing.{needs_second, version_of, head_lines, break_lines, lines_of_breaks, low_words, high_words, position_lines, end_line, snapshot_text}
+use Rattle.x_snapshot.specs.Writer.{needs_second, version_of, head_lines, break_lines, lines_of_breaks, low_words, high_words, position_lines, end_line, snapshot_text}
 use Rattle.resume_laws.proofs.LengthLemmas.{within_parts, room, length_line, length_lines, written_length, path_length, state_length}
 use Rattle.resume_laws.proofs.BreakLemmas.{breaks_count, breaks_length}
 

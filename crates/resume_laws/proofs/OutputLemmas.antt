@@ -16,8 +16,8 @@ use Rattle.x_branches.specs.RunOrder.{comes_before}
 use Rattle.x_branches.proofs.CutLemmas.{rank_test}
 use Rattle.x_snapshot.specs.declared.fault.SnapshotFault.{SnapshotFault}
 use Rattle.x_snapshot.specs.Snapshot.{SnapshotValue, IsSnapshot}
-use Rattle.x_snapshot.specs.Writing.{version_of, head_lines, position_lines, lines_of_breaks, end_line, snapshot_text}
-use Rattle.x_snapshot.specs.Reading.{parts_of, keyed_line, keyed, first_line, line_words, after_key}
+use Rattle.x_snapshot.specs.Writer.{version_of, head_lines, position_lines, lines_of_breaks, end_line, snapshot_text}
+use Rattle.x_snapshot.specs.Reader.{parts_of, keyed_line, keyed, first_line, line_words, after_key}
 use Rattle.x_snapshot.specs.Judged.{snapshot_of}
 use Rattle.x_snapshot.proofs.WholeAgain.{parts_again}
 use Rattle.x_snapshot.proofs.JudgedLemmas.{read_judged}
@@ -25,7 +25,7 @@ use Rattle.polylab_engine.specs.Account.{ReportValue}
 use Rattle.polylab_engine.specs.Output.{report_text}
 use Rattle.polylab_engine.specs.Resumed.{branch_end, stop_of, end_text, rest_text, resume_output}
 use Rattle.polylab_engine.specs.Joined.{after_slice, slice_report}
-use Rattle.polylab_engine.specs.Outcome.{outcome, resumed_of}
+use Rattle.polylab_engine.specs.Outcome.{job_outcome, resumed_of}
 use Rattle.polylab_engine.proofs.ResumeLemmas.{end_fits, stop_fits, stop_not_past}
 use Rattle.polylab_engine.proofs.ToldLemmas.{snapshot_read}
 use Rattle.resume_laws.specs.ResumedTexts.{ended_lines, report_part, rest_part, RunRequest, IsResumed, IsInput}
@@ -146,7 +146,7 @@ pub record IsRunOf (a : RunRequest) (text output : List ℕ) : Type 0 where
   pub written : output ≡ resume_output a.steps a.lists snapshot
 
 pub run_of : (a : RunRequest) (text output : List ℕ) → IsResumed a text output → IsRunOf a text output
-unfolding outcome
+unfolding job_outcome
 run_of a text output e = by (snapshot_of text) refl e
   where
     by : (read : Result SnapshotValue SnapshotFault) → snapshot_of text ≡ read → resumed_of (resume_output a.steps a.lists) read ≡ Ok output → IsRunOf a text output
@@ -155,7 +155,7 @@ run_of a text output e = by (snapshot_of text) refl e
 
 -- the text of a snapshot is an input
 pub is_input : (v : SnapshotValue) → IsSnapshot v → IsInput (snapshot_text v)
-unfolding outcome
+unfolding job_outcome
 is_input v s = record {
   within = snapshot_length v s;
   taken = λ a. (resume_output a.steps a.lists v, ap (resumed_of (resume_output a.steps a.lists)) (snapshot_again v s));

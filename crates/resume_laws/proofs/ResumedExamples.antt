@@ -11,10 +11,10 @@ use Rattle.x_steps.specs.StateValue.{at, start}
 use Rattle.x_steps.specs.Steps.{next}
 use Rattle.x_steps.specs.Run.{after, states}
 use Rattle.x_steps.specs.Levels.{without_last_zeros}
-use Rattle.x_snapshot.specs.Reading.{parts_of, keyed_line, keyed, first_line, line_words, after_key}
+use Rattle.x_snapshot.specs.Reader.{parts_of, keyed_line, keyed, first_line, line_words, after_key}
 use Rattle.x_snapshot.specs.Judged.{snapshot_of}
 use Rattle.x_snapshot.specs.Snapshot.{SnapshotValue, snapshot_with}
-use Rattle.x_snapshot.specs.Writing.{snapshot_text}
+use Rattle.x_snapshot.specs.Writer.{snapshot_text}
 use Rattle.polylab_engine.specs.Account.{ReportValue, account_of, report_of}
 use Rattle.polylab_engine.specs.Output.{report_text}
 use Rattle.polylab_engine.specs.Resumed.{end_text}

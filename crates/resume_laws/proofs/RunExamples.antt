@@ -1,4 +1,4 @@
--- The example of specs/ResumedTexts.antt as runs: what `outcome` writes of the small problem's start, and of what that run leaves. So the
+-- The example of specs/ResumedTexts.antt as runs: what `job_outcome` writes of the small problem's start, and of what that run leaves. So the
 -- premises of the laws can be met.
 use Rattle.std.proofs.Common.{◌≡◌, ◌∙◌, ◌⊎◌, inl, inr, ℕ, zero, suc, ◌<◌, length, true, false, Some, [], ◌∷◌, ◌++◌, List, Ok, refl, sym, ap, ap₂, subst, arith, lit<, lit≤}
 use Rattle.std.proofs.Common as common
@@ -15,14 +15,14 @@ use Rattle.x_steps.specs.Steps.{Fits, next}
 use Rattle.x_steps.specs.Run.{after, states, steps_between}
 use Rattle.x_steps.proofs.RunLemmas.{start_fits, after_fits, steps_between_is}
 use Rattle.x_steps.proofs.StepExamples.{forty_three_steps}
-use Rattle.x_snapshot.specs.Snapshot.{SnapshotValue, IsSnapshot}
-use Rattle.x_snapshot.specs.Writing.{snapshot_text}
+use Rattle.x_snapshot.specs.Snapshot.{SnapshotValue, IsSnapshot, at_state}
+use Rattle.x_snapshot.specs.Writer.{snapshot_text}
 use Rattle.polylab_engine.specs.declared.job.Job.TheVariants as jobs
 use Rattle.polylab_engine.specs.Account.{account_of, report_of}
 use Rattle.polylab_engine.specs.Output.{report_text, cover_output}
 use Rattle.polylab_engine.specs.Stretch.{steps_taken, stretch_report}
-use Rattle.polylab_engine.specs.Resumed.{stop_of, at_state, end_text, rest_text, resume_output}
-use Rattle.polylab_engine.specs.Outcome.{outcome, covers_of, resumed_of}
+use Rattle.polylab_engine.specs.Resumed.{stop_of, end_text, rest_text, resume_output}
+use Rattle.polylab_engine.specs.Outcome.{job_outcome, covers_of, resumed_of}
 use Rattle.polylab_engine.proofs.ResumeLemmas.{stop_is_snapshot, steps_are, rest_ended, rest_goes_on}
 use Rattle.resume_laws.specs.ResumedTexts.{RunRequest, to_the_end, IsResumed, IsInput, IsRest, ReachEnd, AllMove, TellTogether, whole_text, IsWholeText, EachOutput, EachAhead, EachWhole, EachCover}
 use Rattle.resume_laws.proofs.OutputLemmas.{snapshot_again, run_of}
@@ -67,7 +67,7 @@ first_written =
     not_done e = let label : X5 ≡ Done = ap (λ t. t.label) e in cc
 
 first_run : IsResumed forty (whole_text small) (first_report ++ stop_text)
-unfolding outcome forty begun
+unfolding job_outcome forty begun
 first_run = ap (resumed_of (resume_output (Some 40) false)) (snapshot_again begun begun_is) ∙ ap (λ text. Ok text) first_written
 
 -- ---- the other three
@@ -114,9 +114,9 @@ last_written =
     (rest_ended later (stop_of common.None later) (stop_is_snapshot common.None later later_is) stop)
 
 last_run : IsResumed (to_the_end false) stop_text (last_report ++ end_text)
-unfolding outcome later begun stopped
+unfolding job_outcome later begun stopped
 last_run =
-    ap (λ text. outcome (jobs.Resume common.None false) text) (sym stop_is_written)
+    ap (λ text. job_outcome (jobs.Resume common.None false) text) (sym stop_is_written)
     ∙ ap (resumed_of (resume_output common.None false)) (snapshot_again later later_is) ∙ ap (λ text. Ok text) last_written
 
 -- ---- both
@@ -139,7 +139,7 @@ some_whole none =
     none (forty ∷ to_the_end false ∷ []) (whole_text small) ((first_report ++ stop_text) ∷ (last_report ++ end_text) ∷ []) true one.0 both_runs one.1
 
 some_cover : EachCover (λ asked outputs covers. ⊥) → ⊥
-unfolding outcome
+unfolding job_outcome
 some_cover none =
     none (forty ∷ to_the_end false ∷ []) small (whole_text small) ((first_report ++ stop_text) ∷ (last_report ++ end_text) ∷ []) (written small) (cover_output small)
     both_runs (whole small small_is_problem) (written_again small small_is_problem) (ap (covers_of cover_output) (written_again small small_is_problem))

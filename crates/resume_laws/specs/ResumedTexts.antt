@@ -15,7 +15,7 @@ use Rattle.x_steps.specs.StateValue.{start}
 use Rattle.x_steps.specs.Levels.{without_last_zeros}
 use Rattle.x_texts.specs.declared.breakpoint.Break.{Break}
 use Rattle.x_snapshot.specs.Snapshot.{snapshot_with}
-use Rattle.x_snapshot.specs.Writing.{snapshot_text}
+use Rattle.x_snapshot.specs.Writer.{snapshot_text}
 use Rattle.x_snapshot.specs.Judged.{snapshot_of}
 use Rattle.polylab_engine.specs.declared.job.Job.TheVariants as jobs
 use Rattle.polylab_engine.specs.declared.job.CoverJob.TheVariants as cover_jobs
@@ -23,7 +23,7 @@ use Rattle.polylab_engine.specs.Account.{ReportValue}
 use Rattle.polylab_engine.specs.Output.{report_text}
 use Rattle.polylab_engine.specs.Resumed.{end_text}
 use Rattle.polylab_engine.specs.Joined.{sum_of}
-use Rattle.polylab_engine.specs.Outcome.{outcome}
+use Rattle.polylab_engine.specs.Outcome.{job_outcome}
 
 -- ---- an output in two parts
 
@@ -80,7 +80,7 @@ to_the_end lists = record { steps = None; lists = lists }
 
 -- `resume`, of which this is asked, takes the text and writes this output
 abbrev pub IsResumed : RunRequest → List ℕ → List ℕ → Type 0
-IsResumed a text output = outcome (jobs.Resume a.steps a.lists) text ≡ Ok output
+IsResumed a text output = job_outcome (jobs.Resume a.steps a.lists) text ≡ Ok output
 
 -- a text that is no longer than what is read, and that `resume` takes, whatever is asked of it
 pub record IsInput (text : List ℕ) : Type 0 where
@@ -158,5 +158,5 @@ EachWhole P = (asked : List RunRequest) (text : List ℕ) (outputs : List (List 
 -- asked of these runs
 abbrev pub EachCover : (List RunRequest → List (List ℕ) → List ℕ → Type 0) → Type 0
 EachCover P = (asked : List RunRequest) (p : ProblemValue) (text : List ℕ) (outputs : List (List ℕ)) (input covers : List ℕ)
-    → ReachEnd asked text outputs → IsWholeText p text → problem_of input ≡ Ok p → outcome (jobs.Cover cover_jobs.List) input ≡ Ok covers
+    → ReachEnd asked text outputs → IsWholeText p text → problem_of input ≡ Ok p → job_outcome (jobs.Cover cover_jobs.List) input ≡ Ok covers
     → P asked outputs covers

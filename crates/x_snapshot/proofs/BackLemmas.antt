@@ -19,7 +19,7 @@ use Rattle.x_steps.specs.StateValue.{StateValue, at}
 use Rattle.x_snapshot.specs.declared.fault.SnapshotFault.{SnapshotFault}
 use Rattle.x_snapshot.specs.declared.fault.SnapshotFault.TheVariants.{BadHeader, BadVersion, BadState}
 use Rattle.x_texts.specs.Words.{cut_words, label_word, cursor_word, state_words}
-use Rattle.x_snapshot.specs.Reading.{first_line, line_words, after_key, keyed, keyed_line, found_or, only, count_from, positive, option_number, are_digits, version_from, header, add_choice, some_path, cut_from, label_from, cursor_from, step_from, state_from, end_from}
+use Rattle.x_snapshot.specs.Reader.{first_line, line_words, after_key, keyed, keyed_line, found_or, only, count_from, positive, option_number, are_digits, version_from, header, add_choice, some_path, cut_from, label_from, cursor_from, step_from, state_from, end_from}
 use Rattle.x_snapshot.proofs.ReadLemmas.{line_back}
 
 -- *what was found*

@@ -21,8 +21,8 @@ use Rattle.x_snapshot.specs.declared.fault.SnapshotFault.{SnapshotFault}
 use Rattle.x_snapshot.specs.declared.fault.SnapshotFault.TheVariants.{BadBreak}
 use Rattle.x_texts.specs.Breaks.{is_break, is_same, are_new}
 use Rattle.x_texts.specs.Words.{break_words}
-use Rattle.x_snapshot.specs.Writing.{break_lines}
-use Rattle.x_snapshot.specs.Reading.{keyed_line, count_from, break_from, break_of_words, add_break, next_break, repeated, breaks_from, most_breaks, breaks_in}
+use Rattle.x_snapshot.specs.Writer.{break_lines}
+use Rattle.x_snapshot.specs.Reader.{keyed_line, count_from, break_from, break_of_words, add_break, next_break, repeated, breaks_from, most_breaks, breaks_in}
 use Rattle.x_snapshot.proofs.BreakLemmas.{not_new}
 use Rattle.x_snapshot.proofs.LineAgain.{keyed_line_again, number_word, count_again, option_again}
 

@@ -14,13 +14,13 @@ use Rattle.cover_problem.proofs.ItemLemmas.{named_is}
 use Rattle.cover_problem.proofs.MemberLemmas.{all_push}
 use Rattle.x_texts.specs.declared.breakpoint.Break.{Break}
 use Rattle.x_texts.specs.declared.breakpoint.Break.TheVariants as breakpoints
-use Rattle.x_snapshot.specs.declared.reading.breaks.Kind.{Kind}
-use Rattle.x_snapshot.specs.declared.reading.breaks.Kind.TheVariants as kinds
+use Rattle.x_snapshot.specs.declared.reader.breaks.Kind.{Kind}
+use Rattle.x_snapshot.specs.declared.reader.breaks.Kind.TheVariants as kinds
 use Rattle.x_snapshot.specs.declared.fault.SnapshotFault.TheVariants.{BadBreak}
 use Rattle.x_texts.specs.Breaks.{is_break, is_same, are_new}
 use Rattle.x_texts.specs.Words.{break_words}
-use Rattle.x_snapshot.specs.Writing.{break_lines}
-use Rattle.x_snapshot.specs.Reading.{keyed_line, count_from, option_number, level_from, option_break_from, item_from, kind_from, break_of, lone_break, break_from, break_of_words, new_break, add_break, next_break, repeated, breaks_from, most_breaks, breaks_in}
+use Rattle.x_snapshot.specs.Writer.{break_lines}
+use Rattle.x_snapshot.specs.Reader.{keyed_line, count_from, option_number, level_from, option_break_from, item_from, kind_from, break_of, lone_break, break_from, break_of_words, new_break, add_break, next_break, repeated, breaks_from, most_breaks, breaks_in}
 use Rattle.x_snapshot.proofs.BreakLemmas.{are_new_push}
 use Rattle.x_snapshot.proofs.BackLemmas.{some_is, none_some, found_is, map_is, option_back, count_back, keyed_line_back}
 

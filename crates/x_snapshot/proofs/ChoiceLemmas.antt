@@ -4,7 +4,7 @@ use Rattle.std.specs.Prelude.{is_ok, Ok}
 use Rattle.text_lines.specs.Each.{each, ◌>>=◌}
 use Rattle.cover_problem.specs.Limits.{most_options}
 use Rattle.x_snapshot.specs.declared.fault.SnapshotFault.TheVariants.{BadState}
-use Rattle.x_snapshot.specs.Reading.{add_choice, found_or, option_number}
+use Rattle.x_snapshot.specs.Reader.{add_choice, found_or, option_number}
 
 any_path_step : (o : Option ℕ) (words : List (List ℕ)) → ((p q : List ℕ) → is_ok (each add_choice p words) ≡ is_ok (each add_choice q words))
     → (p q : List ℕ) → is_ok ((found_or BadState o >>= λ n. Ok (p ++ n ∷ [])) >>= λ t. each add_choice t words)

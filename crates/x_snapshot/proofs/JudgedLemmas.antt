@@ -17,9 +17,9 @@ use Rattle.x_branches.specs.Runner.{IsOf}
 use Rattle.x_branches.proofs.CutLemmas.{cut_fits, test_is_order}
 use Rattle.x_snapshot.specs.declared.fault.SnapshotFault.{SnapshotFault}
 use Rattle.x_snapshot.specs.declared.fault.SnapshotFault.TheVariants.{BadHeader, BadVersion, BadProblem, BadState, NotOnRun, OutsideBranch, Truncated, TrailingBytes, Spelling, BadBreak, OutOfMemory}
-use Rattle.x_snapshot.specs.Snapshot.{SnapshotValue, IsSnapshot, IsCutIfAny, IsOnRun, IsInside, path_in}
+use Rattle.x_snapshot.specs.Snapshot.{SnapshotValue, IsSnapshot, IsCutIfAny, IsOnRun, IsOnBranch, path_in}
 use Rattle.x_snapshot.specs.Refusals.{IsPositionRefused}
-use Rattle.x_snapshot.specs.Reading.{parts_of}
+use Rattle.x_snapshot.specs.Reader.{parts_of}
 use Rattle.x_snapshot.specs.ReadRefusals.{IsReadRefused, IsFaultOfText}
 use Rattle.x_snapshot.specs.Judged.{is_choice, is_valid_from, is_valid, is_none, is_fit, is_fit_at, is_cut_if_any, is_on_run, is_inside, judged_parts, judged, snapshot_of}
 
@@ -134,7 +134,7 @@ is_own p common.None = tt
 is_own p (Some path) = refl
 
 -- and these are within the branch
-pub inside_decides : (v : SnapshotValue) → IsOnRun v.problem v.lo v.hi v.state → (is_inside v ≡ true) ↔ IsInside v.problem v.lo v.hi v.state
+pub inside_decides : (v : SnapshotValue) → IsOnRun v.problem v.lo v.hi v.state → (is_inside v ≡ true) ↔ IsOnBranch v.problem v.lo v.hi v.state
 unfolding is_inside
 inside_decides v on =
     let p = v.problem in
@@ -163,13 +163,13 @@ position_refused v _ r n = absurd r
 
 -- the same of a call that judges on a problem which is the same
 module _ {X : Type 0} (r : Result X SnapshotFault) (p : ProblemValue) (v : SnapshotValue) (same : p ≡ v.problem) where
-  pub judged_sound : OnOk r (IsOnRun p v.lo v.hi v.state) → OnOk r (IsInside p v.lo v.hi v.state) → OnOk r (judged_parts v ≡ Ok v)
+  pub judged_sound : OnOk r (IsOnRun p v.lo v.hi v.state) → OnOk r (IsOnBranch p v.lo v.hi v.state) → OnOk r (judged_parts v ≡ Ok v)
   judged_sound = by r
     where
-      by : (r : Result X SnapshotFault) → OnOk r (IsOnRun p v.lo v.hi v.state) → OnOk r (IsInside p v.lo v.hi v.state) → OnOk r (judged_parts v ≡ Ok v)
+      by : (r : Result X SnapshotFault) → OnOk r (IsOnRun p v.lo v.hi v.state) → OnOk r (IsOnBranch p v.lo v.hi v.state) → OnOk r (judged_parts v ≡ Ok v)
       by (Ok x) on within =
           let there : IsOnRun v.problem v.lo v.hi v.state = subst (λ (q : ProblemValue). IsOnRun q v.lo v.hi v.state) same on in
-          let inside : IsInside v.problem v.lo v.hi v.state = subst (λ (q : ProblemValue). IsInside q v.lo v.hi v.state) same within in
+          let inside : IsOnBranch v.problem v.lo v.hi v.state = subst (λ (q : ProblemValue). IsOnBranch q v.lo v.hi v.state) same within in
           rw ((on_run_decides v).1 there, (inside_decides v there).1 inside) refl
       by (Err e) on within = tt
 

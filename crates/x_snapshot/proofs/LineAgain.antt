@@ -21,7 +21,7 @@ use Rattle.x_steps.specs.declared.state.Cursor.TheVariants as cursors
 use Rattle.x_steps.specs.StateValue.{StateValue}
 use Rattle.x_snapshot.specs.declared.fault.SnapshotFault.{SnapshotFault}
 use Rattle.x_texts.specs.Words.{cut_words, label_word, cursor_word, state_words}
-use Rattle.x_snapshot.specs.Reading.{first_line, line_words, after_key, keyed, keyed_line, count_from, positive, option_number, lines_from, add_choice, cut_from, label_from, cursor_from, state_from, repeated, after_lines}
+use Rattle.x_snapshot.specs.Reader.{first_line, line_words, after_key, keyed, keyed_line, count_from, positive, option_number, lines_from, add_choice, cut_from, label_from, cursor_from, state_from, repeated, after_lines}
 use Rattle.x_snapshot.proofs.ReadLemmas.{line_found}
 
 -- *lines*

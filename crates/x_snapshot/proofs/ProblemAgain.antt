@@ -13,7 +13,7 @@ use Rattle.cover_problem.specs.Grammar.{maybe_words, word_lines, written}
 use Rattle.cover_problem.proofs.WrittenLemmas.{written_again}
 use Rattle.cover_problem.proofs.BoundLemmas.{few}
 use Rattle.x_snapshot.specs.declared.fault.SnapshotFault.TheVariants.{BadProblem}
-use Rattle.x_snapshot.specs.Reading.{after_lines, spelled, in_version, problem_before, lines_from, problem_in}
+use Rattle.x_snapshot.specs.Reader.{after_lines, spelled, in_version, problem_before, lines_from, problem_in}
 use Rattle.x_snapshot.proofs.WriterLemmas.{zero_maybe, lines_counted}
 use Rattle.x_snapshot.proofs.ProblemBack.{problem_words}
 use Rattle.x_snapshot.proofs.LineAgain.{keyed_line_again, lines_again, lines_from_again, number_word}

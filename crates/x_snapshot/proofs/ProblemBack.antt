@@ -21,7 +21,7 @@ use Rattle.cover_problem.specs.Grammar.{IsCoverText, word_lines, written}
 use Rattle.cover_problem.proofs.TextLemmas.{read_is_text}
 use Rattle.cover_problem.proofs.WrittenLemmas.{written_is_text}
 use Rattle.x_snapshot.specs.declared.fault.SnapshotFault.TheVariants.{BadProblem}
-use Rattle.x_snapshot.specs.Reading.{first_line, keyed_line, found_or, count_from, positive, repeated, after_line, after_lines, spelled, in_version, problem_before, lines_from, problem_in}
+use Rattle.x_snapshot.specs.Reader.{first_line, keyed_line, found_or, count_from, positive, repeated, after_line, after_lines, spelled, in_version, problem_before, lines_from, problem_in}
 use Rattle.x_snapshot.proofs.ReadLemmas.{line_back, line_is_one}
 use Rattle.x_snapshot.proofs.BackLemmas.{found_is, count_back, positive_is, keyed_line_back}
 

@@ -4,7 +4,7 @@ use Rattle.x_snapshot.specs.declared.fault.SnapshotFault.{SnapshotFault}
 use Rattle.x_snapshot.specs.declared.fault.SnapshotFault.TheVariants.{NotOnRun, OutsideBranch, BadBreak, OutOfMemory}
 use Rattle.x_snapshot.specs.Snapshot.{SnapshotValue}
 use Rattle.x_snapshot.specs.Refusals.{IsRefused}
-use Rattle.x_snapshot.specs.Reading.{parts_of}
+use Rattle.x_snapshot.specs.Reader.{parts_of}
 use Rattle.x_snapshot.specs.ReadRefusals.{IsReadRefused}
 use Rattle.x_snapshot.proofs.WholeBack.{parts_back}
 

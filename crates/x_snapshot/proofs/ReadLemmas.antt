@@ -8,7 +8,7 @@ use Rattle.cover_problem.specs.Problem.{is_name, item_named}
 use Rattle.cover_problem.proofs.NameLemmas.{name_is_text, no_name}
 use Rattle.x_snapshot.specs.declared.fault.SnapshotFault.TheVariants.{Truncated}
 use Rattle.text_lines.proofs.ResultLemmas.{ok_is, bind_ok}
-use Rattle.x_snapshot.specs.Reading.{first_line, onto_line, repeated}
+use Rattle.x_snapshot.specs.Reader.{first_line, onto_line, repeated}
 
 -- *lines*
 

@@ -1,4 +1,4 @@
--- The examples of specs/Snapshot.antt, Reading.antt, Faults.antt, Refusals.antt, ReadRefusals.antt and Writing.antt.
+-- The examples of specs/Snapshot.antt, Reader.antt, Faults.antt, Refusals.antt, ReadRefusals.antt and Writer.antt.
 use Rattle.std.proofs.Common.{◌≡◌, true, false, [], ◌∷◌, ◌++◌, codes, Some, Err, inl, refl, lit<, lit≤, arith}
 use Rattle.std.proofs.Common as common
 use Rattle.std.specs.Fmt.{digits}
@@ -22,11 +22,11 @@ use Rattle.x_texts.specs.declared.breakpoint.Break.TheVariants as breakpoints
 use Rattle.x_snapshot.specs.Faults.{number_of, name_of}
 use Rattle.x_snapshot.specs.Refusals.{IsCutRefused, IsBreakRefused, IsRefused}
 use Rattle.x_snapshot.specs.ReadRefusals.{fault_from, IsReadRefused}
-use Rattle.x_snapshot.specs.Writing.{version_of, snapshot_text}
-use Rattle.x_snapshot.specs.Snapshot.{SnapshotValue, snapshot_with, IsOnRun, IsInside, IsSnapshot}
+use Rattle.x_snapshot.specs.Writer.{version_of, snapshot_text}
+use Rattle.x_snapshot.specs.Snapshot.{SnapshotValue, snapshot_with, IsOnRun, IsOnBranch, IsSnapshot}
 use Rattle.x_snapshot.specs.Judged.{is_on_run}
 use Rattle.x_snapshot.proofs.JudgedLemmas.{on_run_decides}
-use Rattle.x_snapshot.specs.Reading.{first_line, line_words, after_key, keyed, keyed_line, header, parts_of}
+use Rattle.x_snapshot.specs.Reader.{first_line, line_words, after_key, keyed, keyed_line, header, parts_of}
 
 -- from the cut 4 to the end, X2 after the choices 4 5 1
 abbrev from_four : SnapshotValue
@@ -36,7 +36,7 @@ four_on_run : IsOnRun small (Some (4 ∷ [])) common.None (at X2 (4 ∷ 5 ∷ 1 
 unfolding is_on_run active remaining choice taken covered_by
 four_on_run = (on_run_decides from_four).0 refl
 
-four_inside : IsInside small (Some (4 ∷ [])) common.None (at X2 (4 ∷ 5 ∷ 1 ∷ []) cursor.None)
+four_inside : IsOnBranch small (Some (4 ∷ [])) common.None (at X2 (4 ∷ 5 ∷ 1 ∷ []) cursor.None)
 unfolding cut_state rank
 four_inside =
     let low = cut_fits small (4 ∷ []) four_on_run.low in
@@ -102,7 +102,7 @@ text_refused = inl cut_off
 memory_refused : fault_from refusals.OutOfMemory ≡ OutOfMemory
 memory_refused = refl
 
--- ---- specs/Writing.antt
+-- ---- specs/Writer.antt
 
 -- one item, and two options of it
 abbrev two : ProblemValue

@@ -26,9 +26,9 @@ use Rattle.x_snapshot.specs.declared.fault.SnapshotFault.TheVariants.{BadHeader,
 use Rattle.x_texts.specs.Breaks.{is_break, are_new}
 use Rattle.x_snapshot.specs.Snapshot.{SnapshotValue, snapshot_with, IsCutIfAny, IsSnapshot}
 use Rattle.x_snapshot.specs.Refusals.{IsRefused}
-use Rattle.x_snapshot.specs.Writing.{needs_second, version_of, break_lines, lines_of_breaks, snapshot_text}
+use Rattle.x_snapshot.specs.Writer.{needs_second, version_of, break_lines, lines_of_breaks, snapshot_text}
 use Rattle.x_texts.specs.Words.{cut_words, state_words}
-use Rattle.x_snapshot.specs.Reading.{keyed_line, header, cut_from, state_from, end_from, problem_in, position_in, breaks_in, breaks_of_version, whole, ended, parts_after, parts_of}
+use Rattle.x_snapshot.specs.Reader.{keyed_line, header, cut_from, state_from, end_from, problem_in, position_in, breaks_in, breaks_of_version, whole, ended, parts_after, parts_of}
 use Rattle.x_snapshot.specs.ReadRefusals.{fault_from}
 use Rattle.x_snapshot.proofs.BackLemmas.{some_is, none_some}
 use Rattle.x_snapshot.proofs.WholeBack.{Position, position_text, one_printed, two_printed, joined}

@@ -13,9 +13,9 @@ use Rattle.x_texts.specs.declared.breakpoint.Break.{Break}
 use Rattle.x_snapshot.specs.declared.fault.SnapshotFault.TheVariants.{BadHeader, BadState, TrailingBytes, Spelling}
 use Rattle.x_texts.specs.Breaks.{is_break, are_new, are_breaks}
 use Rattle.x_snapshot.specs.Snapshot.{SnapshotValue, snapshot_with}
-use Rattle.x_snapshot.specs.Writing.{needs_second, version_of, break_lines, lines_of_breaks, snapshot_text}
+use Rattle.x_snapshot.specs.Writer.{needs_second, version_of, break_lines, lines_of_breaks, snapshot_text}
 use Rattle.x_texts.specs.Words.{cut_words, state_words}
-use Rattle.x_snapshot.specs.Reading.{keyed_line, header, cut_from, state_from, end_from, problem_in, position_in, breaks_of_version, whole, ended, parts_after, parts_of}
+use Rattle.x_snapshot.specs.Reader.{keyed_line, header, cut_from, state_from, end_from, problem_in, position_in, breaks_of_version, whole, ended, parts_after, parts_of}
 use Rattle.x_snapshot.proofs.BackLemmas.{keyed_line_back, header_back, cut_back, state_back, end_back}
 use Rattle.x_snapshot.proofs.ProblemBack.{IsProblemText, problem_back}
 use Rattle.x_snapshot.proofs.BreakBack.{AreFine, breaks_back}

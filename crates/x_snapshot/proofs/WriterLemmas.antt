@@ -7,7 +7,7 @@ use Rattle.cover_problem.specs.Grammar.{maybe_words, option_words, word_lines, w
 use Rattle.x_steps.specs.StateValue.{StateValue}
 use Rattle.x_texts.specs.declared.breakpoint.Break.{Break}
 use Rattle.x_snapshot.specs.Snapshot.{SnapshotValue}
-use Rattle.x_snapshot.specs.Writing.{version_of, lines_of_breaks, snapshot_text}
+use Rattle.x_snapshot.specs.Writer.{version_of, lines_of_breaks, snapshot_text}
 use Rattle.x_texts.specs.Words.{cut_words, state_words}
 
 -- *how many lines a problem has*

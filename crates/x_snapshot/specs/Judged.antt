@@ -22,7 +22,7 @@ use Rattle.x_branches.specs.Branch.{first_of, end_of}
 use Rattle.x_snapshot.specs.declared.fault.SnapshotFault.{SnapshotFault}
 use Rattle.x_snapshot.specs.declared.fault.SnapshotFault.TheVariants.{NotOnRun, OutsideBranch}
 use Rattle.x_snapshot.specs.Snapshot.{SnapshotValue, branch_between}
-use Rattle.x_snapshot.specs.Reading.{parts_of}
+use Rattle.x_snapshot.specs.Reader.{parts_of}
 
 -- whether an item is active, and the option left for the one that is chosen
 abbrev pub is_choice : ProblemValue → List ℕ → ℕ → Bool

@@ -1,7 +1,7 @@
 pub mod Snapshot
 pub mod Faults
 pub mod Refusals
-pub mod Writing
-pub mod Reading
+pub mod Writer
+pub mod Reader
 pub mod ReadRefusals
 pub mod Judged

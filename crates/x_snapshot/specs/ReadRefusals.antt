@@ -9,7 +9,7 @@ use Rattle.x_snapshot.specs.declared.fault.SnapshotFault.{SnapshotFault}
 use Rattle.x_snapshot.specs.declared.fault.SnapshotFault.TheVariants.{OutOfMemory}
 use Rattle.x_snapshot.specs.Snapshot.{SnapshotValue}
 use Rattle.x_snapshot.specs.Refusals.{IsPositionRefused}
-use Rattle.x_snapshot.specs.Reading.{parts_of}
+use Rattle.x_snapshot.specs.Reader.{parts_of}
 
 -- a refusal as a fault
 abbrev pub fault_from : Refusal SnapshotFault → SnapshotFault

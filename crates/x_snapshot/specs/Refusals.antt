@@ -1,6 +1,6 @@
--- Why parts make no snapshot: the faults of a cut and of a runner's start as those of a snapshot (`cut_fault_of`, `start_fault_of`), what is
--- so where breakpoints, a cut, a start or a position are refused (`IsBreakRefused` up to `IsPositionRefused`), and the first of all these
--- faults (`IsRefused`).
+-- Why parts make no snapshot: the faults of a cut and of a runner's start as those of a snapshot (`cut_fault_of`, `start_fault_of`), what
+-- is so where breakpoints, a cut, a start or a position are refused (`IsBreakRefused` up to `IsPositionRefused`), and the first of all
+-- these faults (`IsRefused`).
 --
 -- Example: at the start of the small problem, `level 8` is refused as a BadBreak, as there are 7 items; so is `visit` twice. The path 3
 -- is refused as a cut: it is NotOnRun. proofs/SnapshotExamples.antt shows it.
@@ -20,7 +20,7 @@ use Rattle.x_texts.specs.declared.breakpoint.Break.{Break}
 use Rattle.x_snapshot.specs.declared.fault.SnapshotFault.{SnapshotFault}
 use Rattle.x_snapshot.specs.declared.fault.SnapshotFault.TheVariants.{NotOnRun, OutsideBranch, BadBreak, OutOfMemory}
 use Rattle.x_texts.specs.Breaks.{are_breaks}
-use Rattle.x_snapshot.specs.Snapshot.{SnapshotValue, IsCutIfAny, IsOnRun, IsInside, choices_of, parts_value}
+use Rattle.x_snapshot.specs.Snapshot.{SnapshotValue, IsCutIfAny, IsOnRun, IsOnBranch, choices_of, parts_value}
 use Rattle.x_steps.specs.declared.state.State.{State}
 use Rattle.x_steps.specs.StateView.{state_value}
 use Rattle.std.specs.Prelude.{Result, Err, IfErr}
@@ -60,7 +60,7 @@ IsStartRefused p b s _ = ⊥
 -- a cut or the state isn't on the run; or all of them are, and the branch or the state's position in it isn't right
 abbrev pub IsPositionRefused : ProblemValue → Option (List ℕ) → Option (List ℕ) → StateValue → SnapshotFault → Type 0
 IsPositionRefused p lo hi s NotOnRun = IsOnRun p lo hi s → ⊥
-IsPositionRefused p lo hi s OutsideBranch = IsOnRun p lo hi s × (IsInside p lo hi s → ⊥)
+IsPositionRefused p lo hi s OutsideBranch = IsOnRun p lo hi s × (IsOnBranch p lo hi s → ⊥)
 IsPositionRefused p lo hi s OutOfMemory = Unit {0}
 IsPositionRefused p lo hi s _ = ⊥
 

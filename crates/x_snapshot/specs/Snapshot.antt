@@ -30,6 +30,10 @@ pub record SnapshotValue : Type 0 where
 abbrev pub snapshot_with : ProblemValue → Option (List ℕ) → Option (List ℕ) → StateValue → List Break → SnapshotValue
 snapshot_with problem lo hi state breaks = record { problem = problem; lo = lo; hi = hi; state = state; breaks = breaks }
 
+-- the same snapshot at another state
+abbrev pub at_state : SnapshotValue → StateValue → SnapshotValue
+at_state v t = record v { state = t }
+
 -- the choices of a path, if there is one, without where they lie in memory
 abbrev pub choices_of : Option (Vec ℕ) → Option (List ℕ)
 choices_of path = option_map (λ choices. choices.items) path
@@ -74,7 +78,7 @@ pub record IsOnRun (p : ProblemValue) (lo hi : Option (List ℕ)) (s : StateValu
   pub fits : Fits p s
 
 -- the low cut comes before the high one, and the state is neither before the first state of the branch nor after its end
-pub record IsInside (p : ProblemValue) (lo hi : Option (List ℕ)) (s : StateValue) : Type 0 where
+pub record IsOnBranch (p : ProblemValue) (lo hi : Option (List ℕ)) (s : StateValue) : Type 0 where
   pub branch : IsBranch p (branch_between p lo hi)
   pub within : IsWithin p (branch_between p lo hi) s
 
@@ -84,7 +88,7 @@ StandsOnRun v = IsOnRun v.problem v.lo v.hi v.state
 
 -- its cuts are in their order, and its state is between them
 abbrev pub StandsInside : SnapshotValue → Type 0
-StandsInside v = IsInside v.problem v.lo v.hi v.state
+StandsInside v = IsOnBranch v.problem v.lo v.hi v.state
 
 -- what is true of every snapshot
 pub record IsSnapshot (v : SnapshotValue) : Type 0 where
@@ -103,7 +107,7 @@ AreOnRun p lo hi state = IsOnRun p (choices_of lo) (choices_of hi) (state_value 
 
 -- the low cut comes before the high one, and the state is in the branch between them
 abbrev pub AreInside : ProblemValue → Option (Vec ℕ) → Option (Vec ℕ) → State → Type 0
-AreInside p lo hi state = IsInside p (choices_of lo) (choices_of hi) (state_value state)
+AreInside p lo hi state = IsOnBranch p (choices_of lo) (choices_of hi) (state_value state)
 
 -- the parts, wherever they lie in memory, make a snapshot
 abbrev pub MakeSnapshot : ProblemValue → Option (Vec ℕ) → Option (Vec ℕ) → State → List Break → Type 0

@@ -4,13 +4,13 @@ ghost use Rattle.x_steps.specs.StateView.{state_value};
 ghost use Rattle.x_texts.specs.Breaks.{are_breaks};
 ghost use Rattle.x_snapshot.specs.Snapshot.{snapshot_runner};
 ghost use Rattle.x_snapshot.specs.Judged.{judged_parts};
-ghost use Rattle.x_snapshot.specs.Reading.{parts_of, Says};
+ghost use Rattle.x_snapshot.specs.Reader.{parts_of, Says};
 ghost use Rattle.cover_problem.specs.Answers.{Returns};
 ghost use Rattle.x_snapshot.specs.Refusals.{TellsFault};
 
 use crate::fault::SnapshotFault;
-use crate::judging::{check_position, runner_at};
-use crate::reading::{fault_from, read_parts};
+use crate::reader::{fault_from, read_parts};
+use crate::verdict::{check_position, runner_at};
 use cover_problem::{Problem, Table};
 use std::alloc::Global;
 use std::marker::Model;
@@ -110,6 +110,7 @@ impl Draft {
         ensures sound { OnOk result (judged_parts self.now ≡ Ok self.now) }
         ensures fault { TellsFault result (judged_parts self.now) }
     {
+        // A runner needs its problem for as long as it lives, and the draft may go before: so the problem is the caller's.
         runner_at(alloc, problem, &self.lo, &self.hi, &self.state)
     }
 }

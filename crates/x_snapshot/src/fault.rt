@@ -74,6 +74,7 @@ impl SnapshotFault {
 }
 
 impl From<AllocError> for SnapshotFault {
+    // So `?` passes a refusal by memory on as this fault.
     ghost from_gives = { λ _ e. e ≡ faults.OutOfMemory };
 
     fn from(_e: AllocError) -> SnapshotFault {

@@ -7,8 +7,8 @@ ghost use Rattle.x_steps.specs.Steps.{Fits};
 ghost use Rattle.x_texts.specs.Breaks.{are_breaks};
 ghost use Rattle.x_snapshot.specs.Snapshot.{SnapshotValue, EachSnapshot, StandsOnRun, StandsInside};
 ghost use Rattle.x_snapshot.specs.Judged.{is_valid, is_fit, is_on_run, is_inside};
-ghost use Rattle.x_snapshot.specs.Writing.{snapshot_text};
-ghost use Rattle.x_snapshot.specs.Reading.{Says};
+ghost use Rattle.x_snapshot.specs.Writer.{snapshot_text};
+ghost use Rattle.x_snapshot.specs.Reader.{Says};
 
 /// Each snapshot has one spelling: a text whose lines say parts is the text that is written of them, so two texts that say the
 /// same are the same. What they say is a problem, with breakpoints that can be met, each once.

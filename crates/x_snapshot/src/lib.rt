@@ -4,14 +4,14 @@
 mod breakpoint;
 mod draft;
 mod fault;
-mod judging;
 pub mod laws;
-mod reading;
+mod reader;
 mod snapshot;
-mod writing;
+mod verdict;
+mod writer;
 
 pub use draft::{Draft, read_draft};
 pub use fault::SnapshotFault;
-pub use reading::{break_from, is_state, only_word, option_number, read_snapshot, state_from};
+pub use reader::{break_from, is_state, only_word, option_number, read_snapshot, state_from};
 pub use snapshot::{Snapshot, SnapshotParts};
-pub use writing::write_snapshot;
+pub use writer::write_snapshot;

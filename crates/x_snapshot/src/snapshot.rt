@@ -1,12 +1,12 @@
 //! A snapshot: a problem, a branch of its run, a state within it, and breakpoints.
 ghost use Rattle.std.specs.Prelude.{◌≡◌, IfErr, OnOk};
 ghost use Rattle.x_steps.specs.StateView.{state_value};
-ghost use Rattle.x_snapshot.specs.Snapshot.{IsSnapshot, parts_value, MakeSnapshot, Lends};
+ghost use Rattle.x_snapshot.specs.Snapshot.{IsSnapshot, at_state, parts_value, MakeSnapshot, Lends};
 ghost use Rattle.x_snapshot.specs.Refusals.{MakeNone};
 ghost use Rattle.cover_problem.specs.Answers.{Returns};
 
 use crate::fault::SnapshotFault;
-use crate::judging::check_parts;
+use crate::verdict::check_parts;
 use cover_problem::Problem;
 use std::alloc::Global;
 use std::marker::Model;
@@ -30,6 +30,7 @@ pub type PartsAfter = (Option<Vec<u32>>, Option<Vec<u32>>, State, Vec<Break>);
 #[derive(Drop)]
 pub struct Snapshot {
     problem: Problem,
+    /// The cuts by their paths: a `Cut` lives no longer than its problem, which moves with the snapshot.
     lo: Option<Vec<u32>>,
     hi: Option<Vec<u32>>,
     state: State,
@@ -85,6 +86,14 @@ impl Snapshot {
     {
         // Where a field is read, what the whole keeps true is known.
         let _state = &self.state;
+    }
+
+    /// Goes to another state of its branch. No path is walked: the caller knows that the branch has the state.
+    pub fn move_to(&mut self, state: State)
+        requires { IsSnapshot (at_state self.now (state_value state)) }
+        ensures { self.new ≡ at_state self.old (state_value state) }
+    {
+        self.state = state;
     }
 
     /// Its problem.

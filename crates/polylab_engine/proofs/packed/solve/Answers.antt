@@ -1,4 +1,4 @@
-use Rattle.polylab_engine.proofs.ListingLemmas.{report_covers}
+use Rattle.polylab_engine.proofs.ListedLemmas.{report_covers}
 use Rattle.polylab_engine.proofs.packed.solve.Goals as goal
 
 pub push_packings-requires : goal.push_packings-requires

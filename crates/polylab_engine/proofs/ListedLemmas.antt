@@ -1,0 +1,237 @@
+-- What is written lists the exact covers, or the packings.
+use Rattle.std.proofs.Common.{◌≡◌, ℕ, zero, suc, ◌<◌, arith, Bool, true, false, List, [], ◌∷◌, length, take, get_or, cond, Result, Ok, Err, refl, sym, ap, ◌∙◌, subst, inl, inr}
+use Rattle.std.proofs.lemmas.Bool.{lt-ltb, le-ltb}
+use Rattle.std.proofs.lemmas.List.{take_all, length-take, get_or-take}
+use Rattle.cover_problem.specs.Lists.{has}
+use Rattle.cover_problem.specs.ExactCover.{IsExactCover}
+use Rattle.cover_problem.specs.Problem.{ProblemValue, IsProblem, is_small}
+use Rattle.cover_problem.specs.declared.fault.Fault.{Fault}
+use Rattle.cover_problem.specs.Reading.{problem_of}
+use Rattle.cover_problem.proofs.TextLemmas.{read_is_text}
+use Rattle.poly_texts.specs.declared.fault.Fault as puzzle
+use Rattle.poly_texts.specs.Puzzle.{PuzzleValue, IsPuzzle}
+use Rattle.poly_texts.specs.Reading.{puzzle_of}
+use Rattle.poly_texts.proofs.TextLemmas as texts
+use Rattle.poly_texts.proofs.PuzzleLemmas.{puzzle_is}
+use Rattle.cover_problem.specs.Grammar.{written}
+use Rattle.poly_place.specs.Packings.{ChoiceValue, ArePackings, SetStandsFor, choice_at, packing_problem}
+use Rattle.poly_place.specs.Chosen.{chosen_by, is_among}
+use Rattle.poly_place.specs.declared.alike.Group.TheVariants.{Rotations, Symmetries}
+use Rattle.poly_place.proofs.PackingLemmas.{are_packings}
+use Rattle.poly_place.proofs.ClassCountLemmas.{puzzle_classes}
+use Rattle.poly_place.proofs.CompiledLemmas.{is_problem}
+use Rattle.poly_place.proofs.ChosenLemmas.{cover_stands, cover_packs}
+use Rattle.x_steps.specs.Order.{IsIn}
+use Rattle.x_steps.specs.Covers.{AreCovers}
+use Rattle.x_steps.specs.StateValue.{start, done}
+use Rattle.x_steps.specs.Run.{visits_between}
+use Rattle.x_steps.proofs.VisitLemmas.{visits_rise, visits_are_covers}
+use Rattle.x_snapshot.specs.Judged.{snapshot_of}
+use Rattle.polylab_engine.specs.declared.job.Job.{Job}
+use Rattle.polylab_engine.specs.declared.job.Job.TheVariants as jobs
+use Rattle.polylab_engine.specs.declared.job.CoverJob.TheVariants as cover_jobs
+use Rattle.polylab_engine.specs.declared.job.PuzzleJob.TheVariants as puzzle_jobs
+use Rattle.polylab_engine.specs.Account.{ReportValue, account_of}
+use Rattle.polylab_engine.specs.Output.{cover_output, whole_report}
+use Rattle.polylab_engine.proofs.ToldLemmas.{resumed, snapshot_read}
+use Rattle.polylab_engine.specs.First.{IsFirstReport, first_cover_output, first_packings_output}
+use Rattle.polylab_engine.specs.Packed.{solve_output, count_output, options_output}
+use Rattle.polylab_engine.specs.Classified.{packings_of, classes_of, classes_output}
+use Rattle.debug_script.specs.Input.{problem_text, command_lines}
+use Rattle.polylab_engine.specs.Debugged.{debug_output}
+use Rattle.polylab_engine.specs.Outcome.{job_outcome, covers_of, packed_of, place_refusal, puzzle_replies}
+use Rattle.polylab_engine.specs.Listed.{ListsCovers, ListsPackings, ListsFirstCovers, ListsFirstPackings, CountsPackings, CountsClasses, ArePackingPaths, AreExactCovers, IsListed}
+
+-- ---- covers
+
+-- a problem's output lists its exact covers
+lists : (p : ProblemValue) → IsProblem p → ListsCovers p (cover_output p)
+unfolding cover_output account_of visits_between
+lists p sound = record {
+  paths = visits_between p start done;
+  steps = (whole_report true p).steps;
+  levels = (whole_report true p).levels;
+  lines = refl;
+  rise = visits_rise p;
+  covers = visits_are_covers p sound;
+}
+
+-- with --first it lists the first of them
+lists_first : (n : ℕ) (p : ProblemValue) → IsProblem p → ListsFirstCovers n p (first_cover_output n p)
+unfolding first_cover_output account_of visits_between
+lists_first n p sound = record {
+  paths = visits_between p start done;
+  steps = (whole_report true p).steps;
+  levels = (whole_report true p).levels;
+  rise = visits_rise p;
+  covers = visits_are_covers p sound;
+  few = λ l. let b = lt-ltb (length (visits_between p start done)) n l in rw (b, take_all n (visits_between p start done) (omega (arith, l))) refl;
+  first = λ l. let b = le-ltb (length (visits_between p start done)) n l in rw b refl;
+}
+
+-- what is written of a problem that was read
+listed : (Listed : ProblemValue → List ℕ → Type 0) (output : ProblemValue → List ℕ) → ((p : ProblemValue) → IsProblem p → Listed p (output p)) → (read : Result ProblemValue (Fault × ℕ)) (text : List ℕ)
+    → ((p : ProblemValue) → read ≡ Ok p → IsProblem p) → covers_of output read ≡ Ok text → (p : ProblemValue) × (read ≡ Ok p) × Listed p text
+listed Listed output tells (Ok p) text sound e = let same : output p ≡ text = cc in (p, refl, subst (Listed p) same (tells p (sound p refl)))
+listed Listed output tells (Err f) text sound e = absurd (cc)
+
+-- the visits of a problem are exact covers
+visits_covers : (p : ProblemValue) → IsProblem p → AreExactCovers p (whole_report true p).visits
+unfolding account_of visits_between
+visits_covers p sound k lt = (visits_are_covers p sound).sound (get_or (visits_between p start done) k []) (path_in (visits_between p start done) k lt)
+  where
+    path_in : (paths : List (List ℕ)) (i : ℕ) → i < length paths → IsIn (get_or paths i []) paths
+    path_in [] i h = absurd (omega (arith, h))
+    path_in (x ∷ xs) zero h = inl refl
+    path_in (x ∷ xs) (suc i) h = inr (path_in xs i (omega (arith, h)))
+
+-- the same, of the visits that a report of a puzzle's problem keeps
+pub report_covers : (p : PuzzleValue) (q : ProblemValue) (r : ReportValue) (visits : List (List ℕ)) → q ≡ packing_problem p → IsProblem q → r ≡ whole_report true q → visits ≡ r.visits → AreExactCovers (packing_problem p) visits
+report_covers p q r visits e sound report kept = subst (λ vs. AreExactCovers (packing_problem p) vs) (sym (kept ∙ ap (λ b. b.visits) (report ∙ ap (whole_report true) e))) (visits_covers (packing_problem p) (subst IsProblem e sound))
+
+-- the first ones of exact covers are exact covers
+covers_taken : (p : ProblemValue) (n : ℕ) (paths : List (List ℕ)) → AreExactCovers p paths → AreExactCovers p (take n paths)
+covers_taken p n paths all k lt =
+    let within : k < n = (let l = length-take n paths in omega arith) in
+    let there : k < length paths = (let l = length-take n paths in omega arith) in
+    subst (λ path. IsExactCover p (has path)) (sym (get_or-take n paths k [] within)) (all k there)
+
+-- the same, of the first visits of a puzzle's problem
+pub first_report_covers : (n : ℕ) (p : PuzzleValue) (q : ProblemValue) (r : ReportValue) (visits : List (List ℕ)) → q ≡ packing_problem p → IsProblem q → IsFirstReport n q r → visits ≡ r.visits → AreExactCovers (packing_problem p) visits
+first_report_covers n p q r visits e sound first kept =
+    subst (λ vs. AreExactCovers (packing_problem p) vs) (sym (kept ∙ first.visits ∙ ap (λ t. take n (whole_report true t).visits) e))
+    (covers_taken (packing_problem p) n (whole_report true (packing_problem p)).visits (visits_covers (packing_problem p) (subst IsProblem e sound)))
+
+-- ---- packings
+
+-- the exact covers of a puzzle's problem stand for its packings
+packing_paths : (p : PuzzleValue) → IsPuzzle p → is_small (packing_problem p) ≡ true → ArePackingPaths p (visits_between (packing_problem p) start done)
+packing_paths p z small = record {
+  sound = λ q i. cover_packs p z q (a.sound q i);
+  complete = λ chosen packing.
+      let set = all.some_cover chosen packing in
+      let q = a.complete set.0 (all.covers set.0 chosen set.1 packing) in
+      let cover = a.sound q.0 q.1 in
+      (q.0, q.1, all.one_packing (has q.0) (is_among (chosen_by p q.0)) chosen (cover_stands p z q.0 cover) (along set.0 (has q.0) chosen (λ o. sym (q.2 o)) set.1));
+  once = λ q r i j same.
+      a.once q r i j
+      (all.one_cover (has q) (has r) (is_among (chosen_by p r)) (alike (has q) (is_among (chosen_by p q)) (is_among (chosen_by p r)) same (cover_stands p z q (a.sound q i)))
+      (cover_stands p z r (a.sound r j)));
+}
+  where
+    all : ArePackings p
+    all = are_packings p z
+
+    a : AreCovers (packing_problem p) (visits_between (packing_problem p) start done)
+    a = visits_are_covers (packing_problem p) (is_problem p z small)
+
+    along : (set other : ℕ → Bool) (chosen : ChoiceValue → Bool) → ((o : ℕ) → set o ≡ other o) → SetStandsFor p set chosen → SetStandsFor p other chosen
+    along set other chosen e s = record {
+      within = λ o h. s.within o (e o ∙ h);
+      forth = λ o h le. s.forth o (e o ∙ h) le;
+      back = λ c h. let o = s.back c h in (o.0, sym (e o.0) ∙ o.1, o.2, o.3);
+      left = λ o past within. ((λ h. (s.left o past within).0 (e o ∙ h)), (λ a. sym (e o) ∙ (s.left o past within).1 a));
+    }
+
+    alike : (set : ℕ → Bool) (chosen other : ChoiceValue → Bool) → ((c : ChoiceValue) → chosen c ≡ other c) → SetStandsFor p set chosen → SetStandsFor p set other
+    alike set chosen other e s = record {
+      within = s.within;
+      forth = λ o h le. sym (e (choice_at p o)) ∙ s.forth o h le;
+      back = λ c h. s.back c (e c ∙ h);
+      left = λ o past within. (
+        (λ h.
+            let a = (s.left o past within).0 h in record {
+              used = λ n i. let c = a.used n i in (c.0, sym (e c.0) ∙ c.1, c.2);
+              left = λ n i u. a.left n i (u.0, e u.0 ∙ u.1, u.2);
+            }),
+        (λ a. (s.left o past within).1 (record {
+          used = λ n i. let c = a.used n i in (c.0, e c.0 ∙ c.1, c.2);
+          left = λ n i u. a.left n i (u.0, sym (e u.0) ∙ u.1, u.2);
+        })),
+      );
+    }
+
+shows : (p : PuzzleValue) → IsPuzzle p → is_small (packing_problem p) ≡ true → ListsPackings p (solve_output p)
+unfolding solve_output account_of visits_between
+shows p z small = record {
+  paths = visits_between (packing_problem p) start done;
+  lines = refl;
+  rise = visits_rise (packing_problem p);
+  packings = packing_paths p z small;
+}
+
+shows_first : (n : ℕ) (p : PuzzleValue) → IsPuzzle p → is_small (packing_problem p) ≡ true → ListsFirstPackings n p (first_packings_output n p)
+unfolding first_packings_output account_of visits_between
+shows_first n p z small = record {
+  paths = visits_between (packing_problem p) start done;
+  rise = visits_rise (packing_problem p);
+  packings = packing_paths p z small;
+  few = λ l. let b = lt-ltb (length (visits_between (packing_problem p) start done)) n l in rw (b, take_all n (visits_between (packing_problem p) start done) (omega (arith, l))) refl;
+  first = λ l. let b = le-ltb (length (visits_between (packing_problem p) start done)) n l in rw b refl;
+}
+
+counts : (p : PuzzleValue) → IsPuzzle p → is_small (packing_problem p) ≡ true → CountsPackings p (count_output p)
+unfolding count_output account_of visits_between
+counts p z small = record {
+  paths = visits_between (packing_problem p) start done;
+  steps = (whole_report false (packing_problem p)).steps;
+  levels = (whole_report false (packing_problem p)).levels;
+  lines = refl;
+  packings = packing_paths p z small;
+}
+
+classified : (p : PuzzleValue) → IsPuzzle p → is_small (packing_problem p) ≡ true → CountsClasses p (classes_output p)
+unfolding classes_output count_output account_of visits_between
+classified p z small =
+    let paths = visits_between (packing_problem p) start done in
+    record {
+      paths = paths;
+      steps = (whole_report false (packing_problem p)).steps;
+      levels = (whole_report false (packing_problem p)).levels;
+      rotations = classes_of Rotations (packings_of p paths);
+      symmetries = classes_of Symmetries (packings_of p paths);
+      lines = refl;
+      packings = packing_paths p z small;
+      by_rotations = puzzle_classes p z Rotations paths;
+      by_symmetries = puzzle_classes p z Symmetries paths;
+    }
+
+-- what is written of a puzzle that was read
+packed : (Listed : PuzzleValue → List ℕ → Type 0) (output : PuzzleValue → List ℕ) → ((p : PuzzleValue) → IsPuzzle p → is_small (packing_problem p) ≡ true → Listed p (output p))
+    → (read : Result PuzzleValue (puzzle.Fault × ℕ)) (text : List ℕ) → ((p : PuzzleValue) → read ≡ Ok p → IsPuzzle p) → packed_of output read ≡ Ok text
+    → (p : PuzzleValue) × (read ≡ Ok p) × Listed p text
+packed Listed output tells (Ok p) text sound e = (p, refl, by_test (is_small (packing_problem p)) refl e)
+  where
+    by_test : (b : Bool) → is_small (packing_problem p) ≡ b → cond b (Ok (output p)) (Err place_refusal) ≡ Ok text → Listed p text
+    by_test true t h = let same : output p ≡ text = cc in subst (Listed p) same (tells p (sound p refl) t)
+    by_test false t h = absurd (cc)
+packed Listed output tells (Err f) text sound e = absurd (cc)
+
+options_are : (p : PuzzleValue) → options_output p ≡ written (packing_problem p)
+unfolding options_output
+options_are p = refl
+
+-- ---- jobs
+
+problem_read : (input : List ℕ) (p : ProblemValue) → problem_of input ≡ Ok p → IsProblem p
+problem_read input p h = (read_is_text input p h).problem
+
+puzzle_read : (input : List ℕ) (p : PuzzleValue) → puzzle_of input ≡ Ok p → IsPuzzle p
+puzzle_read input p h = puzzle_is input p (texts.read_is_text input p h)
+
+pub outcome_lists : (job : Job) (input text : List ℕ) → job_outcome job input ≡ Ok text → IsListed job input text
+unfolding job_outcome
+outcome_lists (jobs.Cover cover_jobs.List) input text e = listed ListsCovers cover_output lists (problem_of input) text (problem_read input) e
+outcome_lists (jobs.Puzzle puzzle_jobs.Solve) input text e = packed ListsPackings solve_output shows (puzzle_of input) text (puzzle_read input) e
+outcome_lists (jobs.Cover (cover_jobs.First n)) input text e = listed (ListsFirstCovers n) (first_cover_output n) (lists_first n) (problem_of input) text (problem_read input) e
+outcome_lists (jobs.Puzzle (puzzle_jobs.First n)) input text e = packed (ListsFirstPackings n) (first_packings_output n) (shows_first n) (puzzle_of input) text (puzzle_read input) e
+outcome_lists (jobs.Puzzle puzzle_jobs.Count) input text e = packed CountsPackings count_output counts (puzzle_of input) text (puzzle_read input) e
+outcome_lists (jobs.Puzzle puzzle_jobs.Classes) input text e = packed CountsClasses classes_output classified (puzzle_of input) text (puzzle_read input) e
+outcome_lists (jobs.Puzzle puzzle_jobs.Options) input text e = packed (λ p t. t ≡ written (packing_problem p)) options_output (λ p z s. options_are p) (puzzle_of input) text (puzzle_read input) e
+outcome_lists (jobs.Puzzle puzzle_jobs.Debug) input text e =
+    let lines = command_lines input in
+    packed (λ p t. t ≡ debug_output lines (packing_problem p)) (puzzle_replies lines) (λ p z s. refl) (puzzle_of (problem_text input)) text (puzzle_read (problem_text input)) e
+outcome_lists (jobs.Cover cover_jobs.Debug) input text e =
+    let lines = command_lines input in
+    listed (λ p t. t ≡ debug_output lines p) (debug_output lines) (λ p s. refl) (problem_of (problem_text input)) text (problem_read (problem_text input)) e
+outcome_lists (jobs.Resume steps list) input text e = resumed steps list (snapshot_of input) text (snapshot_read input) e

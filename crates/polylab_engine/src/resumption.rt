@@ -1,0 +1,140 @@
+//! A search goes on from a snapshot.
+ghost use Rattle.std.specs.Prelude.{◌≡◌, ◌↔◌, IfOk, IsTrue};
+ghost use Rattle.x_steps.specs.StateValue.{at, done};
+ghost use Rattle.x_steps.specs.StateView.{state_value};
+ghost use Rattle.x_snapshot.specs.Snapshot.{IsSnapshot, at_state};
+ghost use Rattle.polylab_engine.specs.Stretch.{end_at};
+ghost use Rattle.polylab_engine.specs.Resumed.{branch_end, resume_output, stop_of, rest_text, snapshot_position, report_up_to};
+ghost use Rattle.cover_problem.specs.Answers.{Returns, ReturnsItems};
+
+use crate::cover::report_text;
+use crate::report::Report;
+use crate::stretch::search_on;
+use crate::tables::{TableKind, table_for};
+use cover_bits::BitTable;
+use cover_links::LinkTable;
+use cover_problem::Table;
+use std::alloc::{AllocError, Global};
+use x_snapshot::{Snapshot, write_snapshot};
+use x_steps::{AtFault, Cursor, Label, Machine, State};
+
+/// What `resume` writes of a snapshot: the report of the stretch from its state on, with the visits or without them, up to the end of
+/// its branch, or as many steps on as are asked for, where that comes first; and then that it ended, or the snapshot there.
+#[tactic(auto, unfolding(crate::specs::Resumed::resume_output))]
+pub fn resume(
+    alloc: Global,
+    table: Option<TableKind>,
+    most: Option<u64>,
+    lists: bool,
+    snapshot: Snapshot,
+) -> Result<Vec<u8>, AllocError>
+    ensures { ReturnsItems result (resume_output most lists snapshot) }
+{
+    snapshot.is_sound();
+    let (report, stop) = stretch_of(alloc, table, most, lists, &snapshot)?;
+    let mut text = report_text(alloc, &report)?;
+    // The rest takes the snapshot with it, so the report is written first.
+    let rest = rest_of(alloc, snapshot, stop)?;
+    text.extend_from_slice(&rest)?;
+    Ok(text)
+}
+
+/// The choices of the cut where a snapshot's branch ends; none where it ends with the run.
+fn end_choices(snapshot: &Snapshot) -> &[u32]
+    ensures { end_at result.now ≡ branch_end snapshot.now }
+{
+    snapshot.is_sound();
+    match snapshot.hi() {
+        Some(path) => path,
+        None => &[],
+    }
+}
+
+/// A machine of a snapshot's problem, at its state.
+fn machine_at<'p, T: Table>(
+    alloc: Global,
+    snapshot: &'p Snapshot,
+) -> Result<Machine<'p, T>, AllocError>
+    ensures { Returns result (snapshot_position snapshot.now) }
+{
+    let problem = snapshot.problem();
+    let table = T::new(alloc, problem)?;
+    match Machine::at(alloc, problem, table, snapshot.state()) {
+        Ok(machine) => Ok(machine),
+        Err(refused) => match refused.fault {
+            AtFault::OutOfMemory => Err(AllocError),
+            // A snapshot's state is one of its problem's run.
+            AtFault::NotAState => unreachable!(),
+        },
+    }
+}
+
+/// The report of the stretch from a snapshot's state on, and the state where it stops.
+fn stretch_of(
+    alloc: Global,
+    table: Option<TableKind>,
+    most: Option<u64>,
+    lists: bool,
+    snapshot: &Snapshot,
+) -> Result<(Report, State), AllocError>
+    ensures stop { IfOk result (λ r. state_value r.1 ≡ stop_of most snapshot.now) }
+    ensures report { IfOk result (λ r. r.0 ≡ report_up_to lists snapshot.now (state_value r.1)) }
+{
+    match table_for(snapshot.problem(), 1, table) {
+        Some(TableKind::Links) => stretch_by::<LinkTable>(alloc, most, lists, snapshot),
+        Some(TableKind::Bits) => stretch_by::<BitTable>(alloc, most, lists, snapshot),
+        None => Err(AllocError),
+    }
+}
+
+/// The same by this table.
+fn stretch_by<T: Table>(
+    alloc: Global,
+    most: Option<u64>,
+    lists: bool,
+    snapshot: &Snapshot,
+) -> Result<(Report, State), AllocError>
+    ensures stop { IfOk result (λ r. state_value r.1 ≡ stop_of most snapshot.now) }
+    ensures report { IfOk result (λ r. r.0 ≡ report_up_to lists snapshot.now (state_value r.1)) }
+{
+    snapshot.is_sound();
+    let machine = machine_at::<T>(alloc, snapshot)?;
+    let (report, stop) = search_on(alloc, machine, end_choices(snapshot), most, None, lists)?;
+    Ok((report, stop))
+}
+
+/// Whether a state is X5 at an option, after these choices.
+fn is_cut(state: &State, front: &[u32], option: u32) -> bool
+    ensures { IsTrue result ↔ (state_value state.now ≡ at Label.X5 front.now (Cursor.At option)) }
+{
+    state.label == Label::X5 && state.cursor == Cursor::At(option) && state.path.as_slice() == front
+}
+
+/// Whether a state is Done.
+fn is_done(state: &State) -> bool
+    ensures { IsTrue result ↔ (state_value state.now ≡ done) }
+{
+    state.label == Label::Done && state.cursor == Cursor::None && state.path.is_empty()
+}
+
+/// Whether a state is that of the cut of these choices, or Done where there are none.
+fn is_end(state: &State, end: &[u32]) -> bool
+    ensures { IsTrue result ↔ (state_value state.now ≡ end_at end.now) }
+{
+    match end.split_last() {
+        Some((last, front)) => is_cut(state, front, *last),
+        None => is_done(state),
+    }
+}
+
+/// What stands last where a stretch stops at a state: the line `end` where the branch ends there, or the snapshot at that state.
+fn rest_of(alloc: Global, mut snapshot: Snapshot, state: State) -> Result<Vec<u8>, AllocError>
+    requires { IsSnapshot (at_state snapshot (state_value state)) }
+    ensures { ReturnsItems result (rest_text snapshot (state_value state)) }
+{
+    if is_end(&state, end_choices(&snapshot)) {
+        return Vec::from_slice(alloc, b"end\n");
+    }
+    snapshot.move_to(state);
+    write_snapshot(alloc, &snapshot)
+}

@@ -1,38 +1,40 @@
 //! Which numbers of options are an exact cover, with answers that were worked out by hand.
 
-use crate::setting::SMALL;
+use crate::fixtures::SMALL;
 use cover_problem::read_cover;
 use std::alloc::Global;
-use std::test::Fail;
 
 const SECONDARY: &[u8] =
     b"items a b\nmaybe c\noption a c\noption b c\noption a\noption b\noption c\n";
 
-/// Texts of problems, each with numbers of options, and whether they are an exact cover.
-static ROWS: [(&[u8], &[u32], bool); 11] = [
-    (SMALL, &[1, 4, 5], true),
-    (SMALL, &[4, 5, 1], true),
-    (SMALL, &[1, 1, 4, 5], false),
-    (SMALL, &[1, 4], false),
-    (SMALL, &[1, 4, 7], false),
-    (SMALL, &[0, 1, 4, 5], false),
-    (SMALL, &[], false),
-    (SECONDARY, &[1, 2], false),
-    (SECONDARY, &[1, 4], true),
-    (SECONDARY, &[3, 4], true),
-    (SECONDARY, &[3, 4, 5], false),
+/// The text of a problem, numbers of options, and whether they are an exact cover.
+struct Row(&'static [u8], &'static [u32], bool);
+
+static ROWS: [Row; 11] = [
+    Row(SMALL, &[1, 4, 5], true),
+    Row(SMALL, &[4, 5, 1], true),
+    Row(SMALL, &[1, 1, 4, 5], false),
+    Row(SMALL, &[1, 4], false),
+    Row(SMALL, &[1, 4, 7], false),
+    Row(SMALL, &[0, 1, 4, 5], false),
+    Row(SMALL, &[], false),
+    Row(SECONDARY, &[1, 2], false),
+    Row(SECONDARY, &[1, 4], true),
+    Row(SECONDARY, &[3, 4], true),
+    Row(SECONDARY, &[3, 4, 5], false),
 ];
 
-/// Whether options are an exact cover of a text's problem.
-fn is_cover(alloc: Global, text: &[u8], chosen: &[u32]) -> Result<bool, Fail> {
-    let problem = read_cover(alloc, text)?;
-    Ok(problem.is_exact_cover(chosen))
+/// Whether the options of a row are an exact cover, or are none, as it tells.
+fn is_told(alloc: Global, row: &Row) -> bool {
+    let Ok(problem) = read_cover(alloc, row.0) else {
+        return false;
+    };
+    problem.is_exact_cover(row.1) == row.2
 }
 
 #[test]
-fn exact_covers_are_told_from_others(rt: HostRuntime) -> Result<(), Fail> {
-    for (text, chosen, is) in ROWS {
-        assert!(rt; is_cover(rt.alloc(), text, chosen)? == is);
+fn exact_covers_are_told_from_others(rt: HostRuntime) {
+    for row in &ROWS {
+        assert!(rt; is_told(rt.alloc(), row));
     }
-    Ok(())
 }

@@ -4,11 +4,11 @@
 #[cfg(test)]
 mod exact_cover_tests;
 #[cfg(test)]
+mod fixtures;
+#[cfg(test)]
 mod line_tests;
 #[cfg(test)]
 mod problem_tests;
-#[cfg(test)]
-mod setting;
 #[cfg(test)]
 mod stream_tests;
 #[cfg(test)]

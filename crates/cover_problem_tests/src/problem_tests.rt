@@ -1,74 +1,70 @@
 //! Problems that are made of names and options, with answers that were worked out by hand.
-use crate::setting::{SMALL, many_options};
+use crate::fixtures::{SMALL, is_read, many_options};
 use cover_problem::{Fault, Problem, ProblemFault, Refused, read_cover};
 use std::alloc::{AllocError, Global};
-use std::process::Abort;
-use std::test::Fail;
 
 /// What a problem is made of: names and options.
 type Parts = (Vec<String>, Vec<Vec<u32>>);
 
 type Made = Result<Problem, Refused<ProblemFault, Parts>>;
 
-/// The small problem.
-const NAMES: &[&str] = &["a", "b", "c", "d", "e", "f", "g"];
+/// Names of items, how many of them are primary, and options.
+struct Of(&'static [&'static str], u32, &'static [&'static [u32]]);
 
-const OPTIONS: &[&[u32]] = &[
-    &[3, 5],
-    &[1, 4, 7],
-    &[2, 3, 6],
-    &[1, 4, 6],
-    &[2, 7],
-    &[4, 5, 7],
-];
+static SMALL_PARTS: Of = Of(
+    &["a", "b", "c", "d", "e", "f", "g"],
+    7,
+    &[
+        &[3, 5],
+        &[1, 4, 7],
+        &[2, 3, 6],
+        &[1, 4, 6],
+        &[2, 7],
+        &[4, 5, 7],
+    ],
+);
 
-/// Names, numbers of primary items and options, each with the first fault.
-static REFUSED: [(&[&str], u32, &[&[u32]], Fault); 10] = [
-    (&[], 0, &[], Fault::NoItemLine),
-    (&["a", "a"], 0, &[&[]], Fault::NoItemLine),
-    (&["a", "b"], 3, &[], Fault::NoItemLine),
-    (&["a", "a b", "a"], 2, &[&[]], Fault::BadName),
-    (&["123456789"], 1, &[], Fault::BadName),
-    (&["a", "b", "a"], 2, &[&[]], Fault::RepeatedItem),
-    (&["a", "b"], 2, &[&[1], &[], &[3]], Fault::BadLine),
-    (&["a", "b"], 2, &[&[1, 3, 1], &[]], Fault::UnknownItem),
-    (&["a", "b"], 2, &[&[0]], Fault::UnknownItem),
+/// Parts, each with the first fault.
+static REFUSED: [(Of, Fault); 10] = [
+    (Of(&[], 0, &[]), Fault::NoItemLine),
+    (Of(&["a", "a"], 0, &[&[]]), Fault::NoItemLine),
+    (Of(&["a", "b"], 3, &[]), Fault::NoItemLine),
+    (Of(&["a", "a b", "a"], 2, &[&[]]), Fault::BadName),
+    (Of(&["123456789"], 1, &[]), Fault::BadName),
+    (Of(&["a", "b", "a"], 2, &[&[]]), Fault::RepeatedItem),
+    (Of(&["a", "b"], 2, &[&[1], &[], &[3]]), Fault::BadLine),
+    (Of(&["a", "b"], 2, &[&[1, 3, 1], &[]]), Fault::UnknownItem),
+    (Of(&["a", "b"], 2, &[&[0]]), Fault::UnknownItem),
     (
-        &["a", "b"],
-        2,
-        &[&[1], &[1, 2, 1, 3]],
+        Of(&["a", "b"], 2, &[&[1], &[1, 2, 1, 3]]),
         Fault::ItemTwiceInOption,
     ),
 ];
 
-/// Problems, each with whether it is the one of a and b, both primary, with the option a b.
-static SAME: [(&[&str], u32, &[&[u32]], bool); 4] = [
-    (&["a", "b"], 2, &[&[1, 2]], true),
-    (&["a", "b"], 1, &[&[1, 2]], false),
-    (&["a", "c"], 2, &[&[1, 2]], false),
-    (&["a", "b"], 2, &[&[2, 1]], false),
+/// Parts, each with whether their problem is the one of a and b, both primary, with the option a b.
+static SAME: [(Of, bool); 4] = [
+    (Of(&["a", "b"], 2, &[&[1, 2]]), true),
+    (Of(&["a", "b"], 1, &[&[1, 2]]), false),
+    (Of(&["a", "c"], 2, &[&[1, 2]]), false),
+    (Of(&["a", "b"], 2, &[&[2, 1]]), false),
 ];
 
-/// Names, numbers of primary items and options, each with a text of the same problem.
-static TEXTS: [(&[&str], u32, &[&[u32]], &[u8]); 2] = [
-    (NAMES, 7, OPTIONS, SMALL),
-    (
-        &["a", "b", "c"],
-        2,
-        &[&[1, 3], &[2, 3], &[1], &[2]],
-        b"items a b\nmaybe c\noption a c\noption b c\noption a\noption b\n",
-    ),
-];
+/// The parts of a problem with a secondary item, and its text.
+static SECONDARY_PARTS: Of = Of(&["a", "b", "c"], 2, &[&[1, 3], &[2, 3], &[1], &[2]]);
 
-/// The faults with their numbers and names.
-static FAULTS: [(Fault, u8, &str); 7] = [
-    (Fault::BadName, 1, "BadName"),
-    (Fault::RepeatedItem, 2, "RepeatedItem"),
-    (Fault::UnknownItem, 3, "UnknownItem"),
-    (Fault::ItemTwiceInOption, 4, "ItemTwiceInOption"),
-    (Fault::TooLarge, 5, "TooLarge"),
-    (Fault::NoItemLine, 6, "NoItemLine"),
-    (Fault::BadLine, 7, "BadLine"),
+const SECONDARY: &[u8] = b"items a b\nmaybe c\noption a c\noption b c\noption a\noption b\n";
+
+/// A fault with its number and its name.
+struct Named(Fault, u8, &'static str);
+
+static FAULTS: [Named; 7] = [
+    Named(Fault::BadName, 1, "BadName"),
+    Named(Fault::RepeatedItem, 2, "RepeatedItem"),
+    Named(Fault::UnknownItem, 3, "UnknownItem"),
+    Named(Fault::ItemTwiceInOption, 4, "ItemTwiceInOption"),
+    Named(Fault::TooLarge, 5, "TooLarge"),
+    Named(Fault::NoItemLine, 6, "NoItemLine"),
+    Named(Fault::BadLine, 7, "BadLine"),
 ];
 
 fn words(alloc: Global, names: &[&str]) -> Result<Vec<String>, AllocError> {
@@ -87,23 +83,42 @@ fn lists(alloc: Global, options: &[&[u32]]) -> Result<Vec<Vec<u32>>, AllocError>
     Ok(lists)
 }
 
-fn parts_of(alloc: Global, names: &[&str], options: &[&[u32]]) -> Result<Parts, AllocError> {
-    let names = words(alloc, names)?;
-    Ok((names, lists(alloc, options)?))
+/// Names and options, where there is memory for both.
+fn both(
+    names: Result<Vec<String>, AllocError>,
+    options: Result<Vec<Vec<u32>>, AllocError>,
+) -> Option<Parts> {
+    let Ok(names) = names else {
+        return None;
+    };
+    let Ok(options) = options else {
+        return None;
+    };
+    Some((names, options))
 }
 
-fn problem_of(
-    alloc: Global,
-    names: &[&str],
-    primary: u32,
-    options: &[&[u32]],
-) -> Result<Made, AllocError> {
-    let (names, options) = parts_of(alloc, names, options)?;
-    Ok(Problem::new(alloc, names, primary, options))
+fn parts_of(alloc: Global, of: &Of) -> Option<Parts> {
+    both(words(alloc, of.0), lists(alloc, of.2))
 }
 
-fn small(alloc: Global) -> Result<Problem, Fail> {
-    Ok(problem_of(alloc, NAMES, 7, OPTIONS)??)
+/// What comes of parts, where there are any.
+fn made_of(alloc: Global, primary: u32, parts: Option<Parts>) -> Option<Made> {
+    let Some((names, options)) = parts else {
+        return None;
+    };
+    Some(Problem::new(alloc, names, primary, options))
+}
+
+/// The problem that was made, if one was.
+fn problem_in(made: Option<Made>) -> Option<Problem> {
+    match made {
+        Some(Ok(problem)) => Some(problem),
+        _ => None,
+    }
+}
+
+fn problem_of(alloc: Global, of: &Of) -> Option<Problem> {
+    problem_in(made_of(alloc, of.1, parts_of(alloc, of)))
 }
 
 /// Whether it has seven items, all of them primary, and six options.
@@ -119,14 +134,6 @@ fn has_parts(problem: &Problem) -> bool {
     problem.name(1) == "a" && problem.name(7) == "g" && problem.option(2) == [1, 4, 7].as_slice()
 }
 
-#[test]
-fn the_small_problem_is_made(rt: HostRuntime) -> Result<(), Fail> {
-    let problem = small(rt.alloc())?;
-    assert!(rt; is_counted(&problem));
-    assert!(rt; has_parts(&problem));
-    Ok(())
-}
-
 /// Whether items are found by their names, and no other names are found.
 fn finds(problem: &Problem) -> bool {
     problem.item("d") == Some(4)
@@ -134,69 +141,100 @@ fn finds(problem: &Problem) -> bool {
         && problem.item("a_long_name").is_none()
 }
 
-#[test]
-fn items_are_found_by_name(rt: HostRuntime) -> Result<(), Fail> {
-    let problem = small(rt.alloc())?;
-    assert!(rt; finds(&problem));
-    Ok(())
+/// Whether the copy of a problem is the same.
+fn is_copied(problem: &Problem) -> bool {
+    let Ok(copy) = problem.copy() else {
+        return false;
+    };
+    problem.same(&copy)
 }
 
-/// Tells a problem whose copy is another.
-fn assert_copied(rt: &impl Abort, problem: &Problem) -> Result<(), Fail> {
-    let copy = problem.copy()?;
-    assert!(rt; problem.same(&copy));
-    Ok(())
+/// What is asked of the small problem.
+#[derive(Clone, Copy)]
+enum Asked {
+    Parts,
+    Names,
+    Copy,
 }
 
-#[test]
-fn a_copy_is_the_same(rt: HostRuntime) -> Result<(), Fail> {
-    let problem = small(rt.alloc())?;
-    assert_copied(&rt, &problem)
-}
-
-/// Whether this is the problem of a and b, both primary, with the option a b.
-fn is_a_b(alloc: Global, names: &[&str], primary: u32, options: &[&[u32]]) -> Result<bool, Fail> {
-    let problem = problem_of(alloc, names, primary, options)??;
-    is_read(alloc, &problem, b"items a b\noption a b")
-}
-
-#[test]
-fn problems_differ_in_each_part(rt: HostRuntime) -> Result<(), Fail> {
-    for (names, primary, options, same) in SAME {
-        assert!(rt; is_a_b(rt.alloc(), names, primary, options)? == same);
+/// Whether a problem is in this as the small one is.
+fn is_in(problem: &Problem, asked: Asked) -> bool {
+    match asked {
+        Asked::Parts => is_counted(problem) && has_parts(problem),
+        Asked::Names => finds(problem),
+        Asked::Copy => is_copied(problem),
     }
-    Ok(())
+}
+
+/// The same of the small problem, made of its parts.
+fn is_small_in(alloc: Global, asked: Asked) -> bool {
+    let Some(problem) = problem_of(alloc, &SMALL_PARTS) else {
+        return false;
+    };
+    is_in(&problem, asked)
+}
+
+#[test]
+fn the_small_problem_is_made(rt: HostRuntime) {
+    assert!(rt; is_small_in(rt.alloc(), Asked::Parts));
+}
+
+#[test]
+fn items_are_found_by_name(rt: HostRuntime) {
+    assert!(rt; is_small_in(rt.alloc(), Asked::Names));
+}
+
+#[test]
+fn a_copy_is_the_same(rt: HostRuntime) {
+    assert!(rt; is_small_in(rt.alloc(), Asked::Copy));
+}
+
+/// Whether parts make the problem of this text, or another one; false where they or the text make none.
+fn is_of_text(alloc: Global, of: &Of, text: &[u8], same: bool) -> bool {
+    let Some(problem) = problem_of(alloc, of) else {
+        return false;
+    };
+    let Ok(read) = read_cover(alloc, text) else {
+        return false;
+    };
+    problem.same(&read) == same
+}
+
+#[test]
+fn problems_differ_in_each_part(rt: HostRuntime) {
+    for row in &SAME {
+        assert!(rt; is_of_text(rt.alloc(), &row.0, b"items a b\noption a b", row.1));
+    }
 }
 
 /// Whether it is a refusal with this fault, which hands these parts back.
-fn is_refused(made: Made, fault: Fault, parts: &Parts) -> bool {
+fn is_refused(made: &Made, fault: Fault, parts: &Parts) -> bool {
     match made {
         Ok(_) => false,
-        Err(refused) => refused.fault == ProblemFault::Fault(fault) && &refused.given == parts,
+        Err(refused) => {
+            refused.fault == ProblemFault::Fault(fault)
+                && refused.given.0 == parts.0
+                && refused.given.1 == parts.1
+        }
     }
 }
 
-/// Whether names and options are refused with this fault, and come back.
-fn are_refused(
-    alloc: Global,
-    names: &[&str],
-    primary: u32,
-    options: &[&[u32]],
-    fault: Fault,
-) -> Result<bool, Fail> {
-    let parts = parts_of(alloc, names, options)?;
-    match problem_of(alloc, names, primary, options) {
-        Ok(made) => Ok(is_refused(made, fault, &parts)),
-        Err(_) => Ok(false),
-    }
+/// Whether parts are refused with this fault, and come back.
+fn are_refused(alloc: Global, of: &Of, fault: Fault) -> bool {
+    let Some(parts) = parts_of(alloc, of) else {
+        return false;
+    };
+    let Some(made) = made_of(alloc, of.1, parts_of(alloc, of)) else {
+        return false;
+    };
+    is_refused(&made, fault, &parts)
 }
 
 #[test]
-fn each_fault_is_the_first_one(rt: HostRuntime) -> Result<(), Fail> {
-    for (names, primary, options, fault) in REFUSED {
-        assert!(rt; are_refused(rt.alloc(), names, primary, options, fault)?);
+fn each_fault_is_the_first_one(rt: HostRuntime) {
+    for row in &REFUSED {
+        assert!(rt; are_refused(rt.alloc(), &row.0, row.1));
     }
-    Ok(())
 }
 
 /// So many names, which are the numbers from 0.
@@ -217,117 +255,104 @@ fn first_items(alloc: Global, last: u32) -> Result<Vec<u32>, AllocError> {
     Ok(option)
 }
 
-/// So many items with these options, each of the first so many items.
-fn large(alloc: Global, items: u32, sizes: &[u32]) -> Result<Made, AllocError> {
+/// Options, each of the first so many items.
+fn options_of(alloc: Global, sizes: &[u32]) -> Result<Vec<Vec<u32>>, AllocError> {
     let mut options = Vec::new(alloc);
     for size in sizes {
         options.push(first_items(alloc, *size)?)?;
     }
-    Ok(Problem::new(alloc, numbers(alloc, items)?, 1, options))
+    Ok(options)
+}
+
+/// What comes of so many items with these options, each of the first so many items.
+fn large(alloc: Global, items: u32, sizes: &[u32]) -> Option<Made> {
+    made_of(
+        alloc,
+        1,
+        both(numbers(alloc, items), options_of(alloc, sizes)),
+    )
 }
 
 /// So many options with the first item.
-fn many(alloc: Global, count: u32) -> Result<Made, AllocError> {
+fn ones(alloc: Global, count: u32) -> Result<Vec<Vec<u32>>, AllocError> {
     let mut options = Vec::new(alloc);
     for _ in 0..count {
         options.push(Vec::from_slice(alloc, &[1])?)?;
     }
-    Ok(Problem::new(alloc, words(alloc, &["a"])?, 1, options))
+    Ok(options)
+}
+
+/// What comes of an item with so many options.
+fn many(alloc: Global, count: u32) -> Option<Made> {
+    made_of(alloc, 1, both(words(alloc, &["a"]), ones(alloc, count)))
+}
+
+/// Whether a problem of so many names and options was made.
+fn is_made(made: Option<Made>, names: u32, options: u32) -> bool {
+    match problem_in(made) {
+        Some(problem) => problem.items() == names && problem.options() == options,
+        None => false,
+    }
 }
 
 /// Whether it is too large, and as many names and options are handed back.
-fn is_too_large(made: Made, names: usize, options: usize) -> bool {
+fn is_too_large(made: Option<Made>, names: usize, options: usize) -> bool {
     match made {
-        Ok(_) => false,
-        Err(refused) => {
+        Some(Err(refused)) => {
             refused.fault == ProblemFault::Fault(Fault::TooLarge)
                 && refused.given.0.len() == names
                 && refused.given.1.len() == options
         }
+        _ => false,
     }
-}
-
-/// How many items were made, if a problem was.
-fn items_of(made: Made) -> Option<u32> {
-    made.ok().map(|problem| problem.items())
-}
-
-/// How many options were made, if a problem was.
-fn options_of(made: Made) -> Option<u32> {
-    made.ok().map(|problem| problem.options())
-}
-
-/// Whether a problem is the one that is read of this text.
-fn is_read(alloc: Global, problem: &Problem, text: &[u8]) -> Result<bool, Fail> {
-    let read = read_cover(alloc, text)?;
-    Ok(problem.same(&read))
-}
-
-/// Whether names and options make the problem of this text.
-fn is_of_text(
-    alloc: Global,
-    names: &[&str],
-    primary: u32,
-    options: &[&[u32]],
-    text: &[u8],
-) -> Result<bool, Fail> {
-    let problem = problem_of(alloc, names, primary, options)??;
-    is_read(alloc, &problem, text)
 }
 
 #[test]
-fn a_made_problem_is_the_one_of_its_text(rt: HostRuntime) -> Result<(), Fail> {
-    for (names, primary, options, text) in TEXTS {
-        assert!(rt; is_of_text(rt.alloc(), names, primary, options, text)?);
-    }
-    Ok(())
+fn a_made_problem_is_the_one_of_its_text(rt: HostRuntime) {
+    assert!(rt; is_of_text(rt.alloc(), &SMALL_PARTS, SMALL, true));
+    assert!(rt; is_of_text(rt.alloc(), &SECONDARY_PARTS, SECONDARY, true));
 }
 
 /// Whether so many equal options make the problem of their text.
-fn is_of_equal_options(alloc: Global, count: u32) -> Result<bool, Fail> {
-    let problem = many(alloc, count)??;
-    has_equal_options(alloc, &problem, count)
-}
-
-/// Whether a problem is the one of so many equal options.
-fn has_equal_options(alloc: Global, problem: &Problem, count: u32) -> Result<bool, Fail> {
-    let text = many_options(alloc, count)?;
-    is_read(alloc, problem, &text)
-}
-
-#[test]
-fn a_problem_of_many_options_is_the_one_of_its_text(rt: HostRuntime) -> Result<(), Fail> {
-    assert!(rt; is_of_equal_options(rt.alloc(), 70_000)?);
-    Ok(())
+fn is_of_equal_options(alloc: Global, count: u32) -> bool {
+    let Some(problem) = problem_in(many(alloc, count)) else {
+        return false;
+    };
+    let Ok(text) = many_options(alloc, count) else {
+        return false;
+    };
+    is_read(alloc, &problem, &text)
 }
 
 #[test]
-fn the_limit_on_options_is_exact(rt: HostRuntime) -> Result<(), Fail> {
-    assert!(rt; options_of(many(rt.alloc(), 262_143)?) == Some(262_143));
-    assert!(rt; is_too_large(many(rt.alloc(), 262_144)?, 1, 262_144));
-    Ok(())
+fn a_problem_of_many_options_is_the_one_of_its_text(rt: HostRuntime) {
+    assert!(rt; is_of_equal_options(rt.alloc(), 70_000));
 }
 
 #[test]
-fn the_limit_on_items_is_exact(rt: HostRuntime) -> Result<(), Fail> {
-    assert!(rt; items_of(large(rt.alloc(), 65_535, &[])?) == Some(65_535));
-    assert!(rt; is_too_large(large(rt.alloc(), 65_536, &[])?, 65_536, 0));
-    Ok(())
+fn the_limit_on_options_is_exact(rt: HostRuntime) {
+    assert!(rt; is_made(many(rt.alloc(), 262_143), 1, 262_143));
+    assert!(rt; is_too_large(many(rt.alloc(), 262_144), 1, 262_144));
+}
+
+#[test]
+fn the_limit_on_items_is_exact(rt: HostRuntime) {
+    assert!(rt; is_made(large(rt.alloc(), 65_535, &[]), 65_535, 0));
+    assert!(rt; is_too_large(large(rt.alloc(), 65_536, &[]), 65_536, 0));
 }
 
 /// 127 options of all 65,535 items are one entry too many: 2 and 65,535 and 127 times 65,536 are 8,388,609.
 #[test]
-fn the_limit_on_entries_is_exact(rt: HostRuntime) -> Result<(), Fail> {
+fn the_limit_on_entries_is_exact(rt: HostRuntime) {
     let mut sizes = [65_535; 127];
-    assert!(rt; is_too_large(large(rt.alloc(), 65_535, &sizes)?, 65_535, 127));
+    assert!(rt; is_too_large(large(rt.alloc(), 65_535, &sizes), 65_535, 127));
     sizes[126] = 65_534;
-    assert!(rt; options_of(large(rt.alloc(), 65_535, &sizes)?) == Some(127));
-    Ok(())
+    assert!(rt; is_made(large(rt.alloc(), 65_535, &sizes), 65_535, 127));
 }
 
 #[test]
 fn faults_have_numbers_and_names(rt: HostRuntime) {
-    for (fault, number, name) in FAULTS {
-        assert!(rt; fault.number() == number && fault.name() == name);
+    for row in &FAULTS {
+        assert!(rt; row.0.number() == row.1 && row.0.name() == row.2);
     }
 }

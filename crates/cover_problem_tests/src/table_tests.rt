@@ -1,11 +1,9 @@
 //! Plain tables of the small problem, and of one with an item that may be covered.
 ghost use Rattle.std.specs.Prelude.{◌≡◌, ◌<◌, ◌≤◌, [], ◌∷◌, length, IfOk};
 
-use crate::setting::{SMALL, many_options};
+use crate::fixtures::{SMALL, many_options};
 use cover_problem::{PlainTable, Problem, Table, read_cover};
 use std::alloc::{AllocError, Global};
-use std::process::Abort;
-use std::test::Fail;
 
 const SECONDARY: &[u8] = b"items a b\nmaybe c\noption a c\noption b c\noption a\noption b\n";
 
@@ -74,61 +72,58 @@ fn add_list_back<T: Table>(told: &mut Vec<u32>, table: &T, item: u32) -> Result<
     Ok(())
 }
 
-/// The active items and the lists of so many items, a 0 after each of these.
-fn told<T: Table>(alloc: Global, table: &T, items: u32) -> Result<Vec<u32>, AllocError>
+/// Adds the active items and the lists of so many items, a 0 after each of these.
+fn add_told<T: Table>(told: &mut Vec<u32>, table: &T, items: u32) -> Result<(), AllocError>
     requires { items ≤ length (T.problem_value table.now).names }
 {
-    let mut told = Vec::new(alloc);
-    add_active(&mut told, table)?;
+    add_active(told, table)?;
     told.push(0)?;
     for item in 1..=items {
-        add_list(&mut told, table, item)?;
+        add_list(told, table, item)?;
         told.push(0)?;
     }
-    Ok(told)
+    Ok(())
 }
 
 /// Whether an item's list is the same from its last, and as long as is counted.
-fn is_same_back<T: Table>(alloc: Global, table: &T, item: u32) -> Result<bool, AllocError>
+fn is_same_back<T: Table>(alloc: Global, table: &T, item: u32) -> bool
     requires some { 0 < item }
     requires within { item ≤ length (T.problem_value table.now).names }
 {
     let mut there = Vec::new(alloc);
-    add_list(&mut there, table, item)?;
     let mut back = Vec::new(alloc);
-    add_list_back(&mut back, table, item)?;
+    let is_there = add_list(&mut there, table, item).is_ok();
+    let is_back = add_list_back(&mut back, table, item).is_ok();
     back.reverse();
-    Ok(back == there && table.len(item) as usize == there.len())
+    is_there && is_back && back == there && table.len(item) as usize == there.len()
 }
 
 /// Whether the lists of so many items are the same from their last.
-fn are_same_back<T: Table>(alloc: Global, table: &T, items: u32) -> Result<bool, AllocError>
+fn are_same_back<T: Table>(alloc: Global, table: &T, items: u32) -> bool
     requires { items ≤ length (T.problem_value table.now).names }
 {
     for item in 1..=items {
-        if !is_same_back(alloc, table, item)? {
-            return Ok(false);
+        if !is_same_back(alloc, table, item) {
+            return false;
         }
     }
-    Ok(true)
+    true
 }
 
 /// Whether a table tells this, from the first and from the last.
-fn tells<T: Table>(
-    alloc: Global,
-    table: &T,
-    items: u32,
-    expected: &[u32],
-) -> Result<bool, AllocError>
+fn tells<T: Table>(alloc: Global, table: &T, items: u32, expected: &[u32]) -> bool
     requires { items ≤ length (T.problem_value table.now).names }
 {
-    let told = told(alloc, table, items)?;
-    Ok(told.as_slice() == expected && are_same_back(alloc, table, items)?)
+    let mut told = Vec::new(alloc);
+    let is_told = add_told(&mut told, table, items).is_ok();
+    is_told && told.as_slice() == expected && are_same_back(alloc, table, items)
 }
 
 /// A table of the small problem with nothing covered.
-fn is_begun(alloc: Global, problem: &Problem, expected: &[u32]) -> Result<bool, AllocError> {
-    let table = PlainTable::new(alloc, problem)?;
+fn is_begun(alloc: Global, problem: &Problem, expected: &[u32]) -> bool {
+    let Ok(table) = PlainTable::new(alloc, problem) else {
+        return false;
+    };
     tells(alloc, &table, problem.items(), expected)
 }
 
@@ -156,108 +151,122 @@ fn back_to_a(table: &mut PlainTable)
 }
 
 /// Whether a, d and g are the covered items, and the others are told as they should be.
-fn is_filtered(alloc: Global, problem: &Problem) -> Result<bool, AllocError>
+fn is_filtered(alloc: Global, problem: &Problem) -> bool
     requires { length problem.now.names ≡ 7 }
 {
-    let table = after_a_d_g(alloc, problem)?;
-    let are_covered = table.covered() == [1, 4, 7].as_slice();
-    Ok(are_covered && tells(alloc, &table, 7, AFTER_A_D_G)?)
+    let Ok(table) = after_a_d_g(alloc, problem) else {
+        return false;
+    };
+    table.covered() == [1, 4, 7].as_slice() && tells(alloc, &table, 7, AFTER_A_D_G)
 }
 
 /// Whether uncovering g and d goes back to where a alone was covered, and uncovering a to the beginning.
-fn goes_back(alloc: Global, problem: &Problem) -> Result<bool, AllocError>
+fn goes_back(alloc: Global, problem: &Problem) -> bool
     requires { length problem.now.names ≡ 7 }
 {
-    let mut table = after_a_d_g(alloc, problem)?;
+    let Ok(mut table) = after_a_d_g(alloc, problem) else {
+        return false;
+    };
     back_to_a(&mut table);
-    if !tells(alloc, &table, 7, AFTER_A)? {
-        return Ok(false);
-    }
+    let is_back = tells(alloc, &table, 7, AFTER_A);
     table.uncover(1);
-    tells(alloc, &table, 7, BEGUN)
-}
-
-fn assert_filters(rt: &impl Abort, alloc: Global, problem: &Problem) -> Result<(), Fail> {
-    assert!(rt; problem.items() == 7);
-    assert!(rt; is_begun(alloc, problem, BEGUN)?);
-    assert!(rt; is_filtered(alloc, problem)?);
-    Ok(())
-}
-
-#[test]
-fn a_plain_table_filters(rt: HostRuntime) -> Result<(), Fail> {
-    let problem = read_cover(rt.alloc(), SMALL)?;
-    assert_filters(&rt, rt.alloc(), &problem)
-}
-
-fn assert_goes_back(rt: &impl Abort, alloc: Global, problem: &Problem) -> Result<(), Fail> {
-    assert!(rt; problem.items() == 7);
-    assert!(rt; goes_back(alloc, problem)?);
-    Ok(())
-}
-
-#[test]
-fn uncovering_goes_back(rt: HostRuntime) -> Result<(), Fail> {
-    let problem = read_cover(rt.alloc(), SMALL)?;
-    assert_goes_back(&rt, rt.alloc(), &problem)
+    is_back && tells(alloc, &table, 7, BEGUN)
 }
 
 /// Whether the item c is told as it should be once it is covered.
-fn is_secondary(alloc: Global, problem: &Problem) -> Result<bool, AllocError>
+fn is_secondary(alloc: Global, problem: &Problem) -> bool
     requires { length problem.now.names ≡ 3 }
 {
-    let mut table = PlainTable::new(alloc, problem)?;
+    let Ok(mut table) = PlainTable::new(alloc, problem) else {
+        return false;
+    };
     table.cover(3);
     tells(alloc, &table, 3, SECONDARY_AFTER_C)
 }
 
-fn assert_secondary(rt: &impl Abort, alloc: Global, problem: &Problem) -> Result<(), Fail> {
-    assert!(rt; problem.items() == 3);
-    assert!(rt; is_begun(alloc, problem, SECONDARY_BEGUN)?);
-    assert!(rt; is_secondary(alloc, problem)?);
-    Ok(())
-}
-
-#[test]
-fn a_secondary_item_is_never_active(rt: HostRuntime) -> Result<(), Fail> {
-    let problem = read_cover(rt.alloc(), SECONDARY)?;
-    assert_secondary(&rt, rt.alloc(), &problem)
-}
-
 /// How many options the list of a table's first item has, from its first and from its last.
-fn lengths_in<T: Table>(alloc: Global, table: &T) -> Result<(usize, usize), AllocError>
+fn lengths_in<T: Table>(alloc: Global, table: &T) -> (usize, usize)
     requires { 1 ≤ length (T.problem_value table.now).names }
 {
-    let mut list = Vec::new(alloc);
-    add_list(&mut list, table, 1)?;
-    let there = list.len();
-    list.clear();
-    add_list_back(&mut list, table, 1)?;
-    Ok((there, list.len()))
+    let mut there = Vec::new(alloc);
+    let mut back = Vec::new(alloc);
+    let are_told = add_list(&mut there, table, 1).is_ok()
+        && add_list_back(&mut back, table, 1).is_ok();
+    if are_told {
+        (there.len(), back.len())
+    } else {
+        (0, 0)
+    }
 }
 
-/// The same of a table of a problem.
-fn lengths(alloc: Global, problem: &Problem) -> Result<(usize, usize), AllocError>
+/// Whether these are both so many in a table of a problem.
+fn has_lengths(alloc: Global, problem: &Problem, count: usize) -> bool
     requires { 1 ≤ length problem.now.names }
 {
-    let table = PlainTable::new(alloc, problem)?;
-    lengths_in(alloc, &table)
+    let Ok(table) = PlainTable::new(alloc, problem) else {
+        return false;
+    };
+    lengths_in(alloc, &table) == (count, count)
 }
 
-fn assert_lengths(rt: &impl Abort, alloc: Global, problem: &Problem) -> Result<(), Fail> {
-    assert!(rt; problem.items() == 1);
-    assert!(rt; lengths(alloc, problem)? == (70_000, 70_000));
-    Ok(())
+/// What is asked of a problem's tables.
+#[derive(Clone, Copy)]
+enum Asked {
+    /// Of the small problem: what they tell with nothing covered, and with a, d and g covered.
+    Filters,
+    /// Of the small problem: that uncovering goes back.
+    GoesBack,
+    /// Of the problem with a secondary item: what they tell with nothing covered, and with c covered.
+    Secondary,
+    /// Of the problem with so many equal options: how long its list is.
+    Lengths(usize),
 }
 
-/// The problem of so many equal options.
-fn many(alloc: Global, count: u32) -> Result<Problem, Fail> {
-    let text = many_options(alloc, count)?;
-    Ok(read_cover(alloc, &text)?)
+/// Whether the tables of a problem are as they should be.
+fn are_right(alloc: Global, problem: &Problem, asked: Asked) -> bool {
+    match (asked, problem.items()) {
+        (Asked::Filters, 7) => is_begun(alloc, problem, BEGUN) && is_filtered(alloc, problem),
+        (Asked::GoesBack, 7) => goes_back(alloc, problem),
+        (Asked::Secondary, 3) => {
+            is_begun(alloc, problem, SECONDARY_BEGUN) && is_secondary(alloc, problem)
+        }
+        (Asked::Lengths(count), 1) => has_lengths(alloc, problem, count),
+        _ => false,
+    }
+}
+
+/// The same of the problem of a text.
+fn are_right_of(alloc: Global, text: &[u8], asked: Asked) -> bool {
+    let Ok(problem) = read_cover(alloc, text) else {
+        return false;
+    };
+    are_right(alloc, &problem, asked)
 }
 
 #[test]
-fn a_long_list_is_walked_in_linear_time(rt: HostRuntime) -> Result<(), Fail> {
-    let problem = many(rt.alloc(), 70_000)?;
-    assert_lengths(&rt, rt.alloc(), &problem)
+fn a_plain_table_filters(rt: HostRuntime) {
+    assert!(rt; are_right_of(rt.alloc(), SMALL, Asked::Filters));
+}
+
+#[test]
+fn uncovering_goes_back(rt: HostRuntime) {
+    assert!(rt; are_right_of(rt.alloc(), SMALL, Asked::GoesBack));
+}
+
+#[test]
+fn a_secondary_item_is_never_active(rt: HostRuntime) {
+    assert!(rt; are_right_of(rt.alloc(), SECONDARY, Asked::Secondary));
+}
+
+/// Whether the list of so many equal options is that long.
+fn is_walked(alloc: Global, count: u32) -> bool {
+    let Ok(text) = many_options(alloc, count) else {
+        return false;
+    };
+    are_right_of(alloc, &text, Asked::Lengths(count as usize))
+}
+
+#[test]
+fn a_long_list_is_walked_in_linear_time(rt: HostRuntime) {
+    assert!(rt; is_walked(rt.alloc(), 70_000));
 }

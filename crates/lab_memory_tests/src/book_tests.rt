@@ -1,7 +1,7 @@
 //! Calls of a book to which memory is refused: the book is then as it was, what was handed in comes back, and the same call, made again,
 //! leaves the book as one to which nothing is refused.
 
-use crate::setting::are_alike;
+use crate::fixtures::are_alike;
 use cover_problem::{Problem, read_cover};
 use drawn_books::{cut_of, given_lease, grows, is_ended, lease_of, stretch_of};
 use drawn_problems::{SMALL, state_of};
@@ -233,13 +233,13 @@ fn is_asked_last<'p>(
 /// Whether the same call leaves two books alike that are as a third one before it, memory being refused to the second one alone.
 fn are_made_alike<'p>(
     alloc: Global,
-    problem: &'p Problem,
     lease: &Lease,
     ask: Ask,
     before: &Book<'p>,
     twin: &mut Book<'p>,
     book: &mut Book<'p>,
 ) -> Result<bool, Fail> {
+    let problem = before.problem();
     let is_first = is_asked_of(alloc, problem, lease, ask, before, twin)?;
     let is_second = is_asked_last(alloc, problem, lease, ask, before, book)?;
     Ok(is_first && is_second && are_alike(book, twin))
@@ -255,7 +255,7 @@ fn is_made_beside<'p>(
     twin: &mut Book<'p>,
 ) -> Result<bool, Fail> {
     let mut book = begun(alloc, problem, ask)?;
-    are_made_alike(alloc, problem, lease, ask, before, twin, &mut book)
+    are_made_alike(alloc, lease, ask, before, twin, &mut book)
 }
 
 /// The same where its twin, to which nothing is refused, is made here, too.

@@ -5,6 +5,6 @@
 #[cfg(test)]
 mod book_tests;
 #[cfg(test)]
-mod setting;
+mod fixtures;
 #[cfg(test)]
 mod world_tests;

@@ -2,7 +2,7 @@
 //! events, played then, end it as where nothing is refused.
 ghost use Rattle.std.specs.Prelude.{◌<◌, ◌≤◌, ◌↔◌, length, All, IsTrue};
 
-use crate::setting::are_alike;
+use crate::fixtures::are_alike;
 use cover_problem::{PlainTable, Problem, read_cover};
 use drawn_books::{grows, value_of};
 use drawn_problems::SMALL;

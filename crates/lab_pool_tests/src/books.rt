@@ -3,16 +3,23 @@ ghost use Rattle.std.specs.Prelude.{◌≤◌, ◌<◌, length};
 
 use crate::searches::{Search, begin};
 use cover_problem::Problem;
-use drawn_books::{value_of, visits_the_cover};
+use drawn_books::visits_the_cover;
 use lab_book::{Book, Entries, Entry};
 use std::alloc::Global;
-use std::test::Fail;
 use x_branches::Branch;
 use x_steps::{Cursor, Label, State};
 
-/// Whether a book is finished with so many steps and the one cover of the small problem.
-pub fn is_done(book: &Book<'_>, steps: u128) -> Result<bool, Fail> {
-    Ok(book.finished() && book.steps() == steps && visits_the_cover(book)?)
+/// Whether a book visits the one cover of the small problem.
+fn is_covered(book: &Book<'_>) -> bool {
+    match visits_the_cover(book) {
+        Ok(is_covered) => is_covered,
+        Err(_) => false,
+    }
+}
+
+/// Whether a book is finished with so many steps and that cover.
+pub fn is_done(book: &Book<'_>, steps: u128) -> bool {
+    book.finished() && book.steps() == steps && is_covered(book)
 }
 
 /// Whether an entry is the one of a history at a place.
@@ -74,16 +81,15 @@ fn posts_and_parks(alloc: Global, book: &mut Book<'_>, worker: u8, id: u64, step
 }
 
 /// A book, once its calls were answered.
-fn called(book: Book<'_>, are_answered: bool) -> Result<Book<'_>, Fail> {
-    if are_answered {
-        return Ok(book);
-    }
-    Err(Fail::from("a call is refused"))
+fn called(book: Book<'_>, are_answered: bool) -> Option<Book<'_>> {
+    if are_answered { Some(book) } else { None }
 }
 
 /// The book of the whole run in which worker 5 posted 30 steps: three entries.
-pub fn begun<'p>(alloc: Global, problem: &'p Problem) -> Result<Book<'p>, Fail> {
-    let mut book = Book::new(alloc, problem)?;
+pub fn begun<'p>(alloc: Global, problem: &'p Problem) -> Option<Book<'p>> {
+    let Ok(mut book) = Book::new(alloc, problem) else {
+        return None;
+    };
     let is_parked = posts_and_parks(alloc, &mut book, 5, 0, 30);
     called(book, is_parked)
 }
@@ -94,14 +100,16 @@ fn begins_with_three(book: &Book<'_>, old: &Book<'_>) -> bool {
 }
 
 /// The same of the book in which 30 steps are posted.
-fn begins_so(alloc: Global, problem: &Problem, book: &Book<'_>) -> Result<bool, Fail> {
-    let old = begun(alloc, problem)?;
-    Ok(begins_with_three(book, &old))
+fn begins_so(alloc: Global, problem: &Problem, book: &Book<'_>) -> bool {
+    let Some(old) = begun(alloc, problem) else {
+        return false;
+    };
+    begins_with_three(book, &old)
 }
 
 /// Whether a book is the small problem's, finished, and goes on from that one.
-pub fn is_gone_on(alloc: Global, problem: &Problem, book: &Book<'_>) -> Result<bool, Fail> {
-    Ok(is_done(book, 43)? && begins_so(alloc, problem, book)?)
+pub fn is_gone_on(alloc: Global, problem: &Problem, book: &Book<'_>) -> bool {
+    is_done(book, 43) && begins_so(alloc, problem, book)
 }
 
 /// Whether a worker posts so many steps of a tile, and closes it.
@@ -128,32 +136,41 @@ fn holds_first(alloc: Global, book: &mut Book<'_>) -> bool {
 }
 
 /// The book whose tile before the cut 4 is held after five steps, and whose other tile waits.
-pub fn held_before<'p>(alloc: Global, problem: &'p Problem) -> Result<Book<'p>, Fail> {
-    let mut book = Book::new(alloc, problem)?;
+pub fn held_before<'p>(alloc: Global, problem: &'p Problem) -> Option<Book<'p>> {
+    let Ok(mut book) = Book::new(alloc, problem) else {
+        return None;
+    };
     let is_held = holds_first(alloc, &mut book);
     called(book, is_held)
 }
 
 /// The same book, whose other tile is closed after its 23 steps.
-pub fn held_alone<'p>(alloc: Global, problem: &'p Problem) -> Result<Book<'p>, Fail> {
-    let mut book = held_before(alloc, problem)?;
+pub fn held_alone<'p>(alloc: Global, problem: &'p Problem) -> Option<Book<'p>> {
+    let Some(mut book) = held_before(alloc, problem) else {
+        return None;
+    };
     let is_closed = posts_and_closes(alloc, &mut book, 6, 1, 23);
     called(book, is_closed)
 }
 
 /// The book of the run from the cut 4 on: 23 steps.
-pub fn from_the_cut<'p>(alloc: Global, problem: &'p Problem) -> Result<Book<'p>, Fail> {
+pub fn from_the_cut<'p>(alloc: Global, problem: &'p Problem) -> Option<Book<'p>> {
     let state = State {
         label: Label::X5,
         path: Vec::new(alloc),
         cursor: Cursor::At(4),
     };
-    value_of(Book::resumed(alloc, problem, Branch { lo: None, hi: None }, state))
+    match Book::resumed(alloc, problem, Branch { lo: None, hi: None }, state) {
+        Ok(book) => Some(book),
+        Err(_) => None,
+    }
 }
 
 /// The book whose only tile is held at its first mark.
-pub fn all_held<'p>(alloc: Global, problem: &'p Problem) -> Result<Book<'p>, Fail> {
-    let mut book = Book::new(alloc, problem)?;
+pub fn all_held<'p>(alloc: Global, problem: &'p Problem) -> Option<Book<'p>> {
+    let Ok(mut book) = Book::new(alloc, problem) else {
+        return None;
+    };
     let is_asked = book.request_stop(5, 0).is_ok();
     called(book, is_asked)
 }

@@ -2,7 +2,7 @@
 ghost use Rattle.std.specs.Prelude.{◌≡◌, IfSome};
 
 use crate::searches::{Search, begin};
-use crate::waiting::{End, given_while_ended};
+use crate::waiter::{End, given_while_ended};
 use drawn_books::lease_in;
 use lab_book::{Book, BookFault, Posted};
 use lab_desk::{Desk, Desking, Seat};

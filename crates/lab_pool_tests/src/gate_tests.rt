@@ -8,7 +8,6 @@ use lab_pool::{Gate, GateCall};
 use std::alloc::{AllocError, Global};
 use std::sync::Wait;
 use std::sync::atomic::{AtomicBool, AtomicU64, Ordering};
-use std::test::Fail;
 use std::thread;
 use std::thread::Threads;
 
@@ -116,12 +115,6 @@ fn dominoes_text(alloc: Global) -> Result<String, AllocError> {
     Ok(text)
 }
 
-/// The problem of these dominoes.
-fn dominoes(alloc: Global) -> Result<Problem, Fail> {
-    let text = dominoes_text(alloc)?;
-    Ok(read_cover(alloc, text.as_bytes())?)
-}
-
 /// How many visits and steps a book has; none where there is no book.
 fn visits_and_steps(book: &Option<Book<'_>>) -> (u128, u128) {
     match book {
@@ -138,13 +131,17 @@ fn is_stolen<R: Threads + Wait + Sync>(rt: &R, alloc: Global, problem: &Problem)
 }
 
 /// The same of the dominoes' problem, which is made here.
-fn is_stolen_there<R: Threads + Wait + Sync>(rt: &R, alloc: Global) -> Result<bool, Fail> {
-    let problem = dominoes(alloc)?;
-    Ok(is_stolen(rt, alloc, &problem))
+fn is_stolen_there<R: Threads + Wait + Sync>(rt: &R, alloc: Global) -> bool {
+    let Ok(text) = dominoes_text(alloc) else {
+        return false;
+    };
+    let Ok(problem) = read_cover(alloc, text.as_bytes()) else {
+        return false;
+    };
+    is_stolen(rt, alloc, &problem)
 }
 
 #[test]
-fn a_ticket_is_stolen(rt: HostRuntime) -> Result<(), Fail> {
-    assert!(rt; is_stolen_there(&rt, rt.alloc())?);
-    Ok(())
+fn a_ticket_is_stolen(rt: HostRuntime) {
+    assert!(rt; is_stolen_there(&rt, rt.alloc()));
 }

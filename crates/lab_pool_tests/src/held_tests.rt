@@ -8,7 +8,6 @@ use lab_book::{Book, Status, Tile};
 use lab_pool::{NoGate, run_pool_on};
 use std::alloc::Global;
 use std::sync::Wait;
-use std::test::Fail;
 use std::thread::Threads;
 
 /// The number of the refusal of two workers, and the book that comes back with it.
@@ -57,7 +56,7 @@ enum Held {
 }
 
 /// Makes such a book.
-fn book_of<'p>(alloc: Global, problem: &'p Problem, held: Held) -> Result<Book<'p>, Fail> {
+fn book_of<'p>(alloc: Global, problem: &'p Problem, held: Held) -> Option<Book<'p>> {
     match held {
         Held::Alone => held_alone(alloc, problem),
         Held::Before => held_before(alloc, problem),
@@ -72,9 +71,11 @@ fn leave_tile<R: Threads + Wait + Sync>(
     book: Book<'_>,
     was: &Tile<'_>,
     steps: u128,
-) -> Option<bool> {
-    let (number, book) = refused_on(rt, alloc, book)?;
-    Some(number == 3 && book.leased() == 0 && is_left(&book, was, steps))
+) -> bool {
+    match refused_on(rt, alloc, book) {
+        Some((number, book)) => { number == 3 && book.leased() == 0 && is_left(&book, was, steps) }
+        None => false,
+    }
 }
 
 /// The same of a book whose first tile is as it is now.
@@ -83,36 +84,51 @@ fn leave_held<R: Threads + Wait + Sync>(
     alloc: Global,
     book: Book<'_>,
     steps: u128,
-) -> Option<bool> {
-    let was = first_tile(&book)?;
-    leave_tile(rt, alloc, book, &was, steps)
+) -> bool {
+    match first_tile(&book) {
+        Some(was) => leave_tile(rt, alloc, book, &was, steps),
+        None => false,
+    }
 }
 
-/// The same of such a book of the small problem.
+/// The same of such a book of a problem.
+fn leave_held_of<R: Threads + Wait + Sync>(
+    rt: &R,
+    alloc: Global,
+    problem: &Problem,
+    held: Held,
+    steps: u128,
+) -> bool {
+    match book_of(alloc, problem, held) {
+        Some(book) => leave_held(rt, alloc, book, steps),
+        None => false,
+    }
+}
+
+/// The same of the small problem.
 fn leave_small_held<R: Threads + Wait + Sync>(
     rt: &R,
     alloc: Global,
     held: Held,
     steps: u128,
-) -> Result<bool, Fail> {
-    let problem = read_cover(alloc, SMALL.as_bytes())?;
-    Ok(leave_held(rt, alloc, book_of(alloc, &problem, held)?, steps) == Some(true))
+) -> bool {
+    let Ok(problem) = read_cover(alloc, SMALL.as_bytes()) else {
+        return false;
+    };
+    leave_held_of(rt, alloc, &problem, held, steps)
 }
 
 #[test]
-fn a_held_tile_is_left(rt: HostRuntime) -> Result<(), Fail> {
-    assert!(rt; leave_small_held(&rt, rt.alloc(), Held::Alone, 28)?);
-    Ok(())
+fn a_held_tile_is_left(rt: HostRuntime) {
+    assert!(rt; leave_small_held(&rt, rt.alloc(), Held::Alone, 28));
 }
 
 #[test]
-fn a_tile_beside_a_held_one_is_closed(rt: HostRuntime) -> Result<(), Fail> {
-    assert!(rt; leave_small_held(&rt, rt.alloc(), Held::Before, 28)?);
-    Ok(())
+fn a_tile_beside_a_held_one_is_closed(rt: HostRuntime) {
+    assert!(rt; leave_small_held(&rt, rt.alloc(), Held::Before, 28));
 }
 
 #[test]
-fn the_only_tile_is_held(rt: HostRuntime) -> Result<(), Fail> {
-    assert!(rt; leave_small_held(&rt, rt.alloc(), Held::All, 0)?);
-    Ok(())
+fn the_only_tile_is_held(rt: HostRuntime) {
+    assert!(rt; leave_small_held(&rt, rt.alloc(), Held::All, 0));
 }

@@ -2,11 +2,11 @@
 #![tactic(auto)]
 
 #[cfg(test)]
+mod arrival_tests;
+#[cfg(test)]
 mod begun_tests;
 #[cfg(test)]
 mod books;
-#[cfg(test)]
-mod coming_tests;
 #[cfg(test)]
 mod desk_tests;
 #[cfg(test)]
@@ -24,6 +24,6 @@ mod pools;
 #[cfg(test)]
 mod searches;
 #[cfg(test)]
-mod waiting;
+mod waiter;
 #[cfg(test)]
-mod waiting_tests;
+mod waiter_tests;

@@ -72,6 +72,14 @@ fn is_desk_made<'p>(alloc: Global, book: Book<'p>, copy: &Book<'p>, tiles: &[Til
     is_made_again::<Brand>(alloc, Blank::new(2), book, copy, tiles)
 }
 
+/// The book of a problem in which 30 steps are posted, which has to be there.
+fn begun_there<'p>(alloc: Global, problem: &'p Problem) -> Result<Book<'p>, Fail> {
+    match begun(alloc, problem) {
+        Some(book) => Ok(book),
+        None => Err(Fail::from("not begun")),
+    }
+}
+
 /// The same of a problem's book in which 30 steps are posted, as in this one.
 fn is_begun_made<'p>(
     alloc: Global,
@@ -79,7 +87,7 @@ fn is_begun_made<'p>(
     copy: &Book<'p>,
     tiles: &[Tile<'p>],
 ) -> Result<bool, Fail> {
-    let book = begun(alloc, problem)?;
+    let book = begun_there(alloc, problem)?;
     grows(alloc)?;
     Ok(is_desk_made(alloc, book, copy, tiles))
 }
@@ -92,7 +100,7 @@ fn is_made_like<'p>(alloc: Global, problem: &'p Problem, copy: &Book<'p>) -> Res
 
 /// The same where the other book is made here.
 fn is_begun_desk_made(alloc: Global, problem: &Problem) -> Result<bool, Fail> {
-    let copy = begun(alloc, problem)?;
+    let copy = begun_there(alloc, problem)?;
     is_made_like(alloc, problem, &copy)
 }
 

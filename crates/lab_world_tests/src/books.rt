@@ -2,7 +2,7 @@
 
 mod acts;
 mod entry_tests;
-mod finishing;
+mod finish;
 mod new_tests;
 mod resumed_tests;
 mod search_tests;

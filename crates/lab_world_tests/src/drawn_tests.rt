@@ -1,7 +1,7 @@
 //! Lists of events drawn by a seed, on drawn problems: the tiles part the run after each list, and once all
 //! are closed what was posted is the run of one machine.
 
-use crate::setting::{Do, add, play, visits_of};
+use crate::fixtures::{Do, add, play, visits_of};
 use cover_problem::{PlainTable, Problem, Table, read_cover};
 use drawn_problems::{draw, drawn_narrow_options, text_of};
 use lab_book::{Book, Status, Tile};

@@ -6,8 +6,8 @@ mod books;
 #[cfg(test)]
 mod drawn_tests;
 #[cfg(test)]
-mod row_tests;
+mod fixtures;
 #[cfg(test)]
-mod setting;
+mod row_tests;
 #[cfg(test)]
 mod turn_tests;

@@ -1,7 +1,7 @@
 //! Worlds of the small problem, row by row.
 ghost use Rattle.std.specs.Prelude.{◌<◌, length};
 
-use crate::setting::{Do, add, play, visits_of};
+use crate::fixtures::{Do, add, play, visits_of};
 use cover_links::LinkTable;
 use cover_problem::{PlainTable, Problem, Table, read_cover};
 use drawn_books::{cut_of, value_of};

@@ -12,7 +12,7 @@ mod debug_tests;
 #[cfg(test)]
 mod equal_tests;
 #[cfg(test)]
-mod joining_tests;
+mod join_tests;
 #[cfg(test)]
 mod line_tests;
 #[cfg(test)]

@@ -1,9 +1,8 @@
 //! A runner that begins another branch where it stands, and branches that it can't begin there.
 
-use crate::setting::{branch_of, refusal, runner_of, small};
+use crate::fixtures::{branch_of, refusal, runner_of, small};
 use cover_problem::{PlainTable, Problem};
 use std::alloc::Global;
-use std::test::Fail;
 use x_branches::{Branch, Runner, RunnerFault};
 
 /// A branch between two cuts, an empty path standing for the run's first state or its end, and whether a runner at X5 with option 4, after
@@ -66,38 +65,48 @@ fn begins_so<'p>(runner: &mut Runner<'p, PlainTable>, branch: Branch<'p>, can: b
     }
 }
 
-/// Whether a runner at its branch's end begins this one, or is refused, as it should.
+/// Takes so many steps; false where one is refused.
+fn advances(runner: &mut Runner<'_, PlainTable>, steps: u32) -> bool {
+    for _ in 0..steps {
+        if runner.advance().is_err() {
+            return false;
+        }
+    }
+    true
+}
+
+/// Whether a runner, after 20 steps at its branch's end, begins this one, or is refused, as it should.
 fn holds<'p>(
     alloc: Global,
     problem: &'p Problem,
     runner: &mut Runner<'p, PlainTable>,
     row: &Row,
-) -> Result<bool, Fail> {
-    for _ in 0..20 {
-        if runner.advance().is_err() {
-            return Ok(false);
-        }
-    }
-    let branch = branch_of(alloc, problem, row.lo, row.hi)?;
-    Ok(begins_so(runner, branch, row.can))
+) -> bool {
+    let Some(branch) = branch_of(alloc, problem, row.lo, row.hi) else {
+        return false;
+    };
+    advances(runner, 20) && begins_so(runner, branch, row.can)
 }
 
 /// The same of a runner that is made here: its branch ends at option 4 of the first item.
-fn holds_at_four(alloc: Global, problem: &Problem, row: &Row) -> Result<bool, Fail> {
-    let mut runner = runner_of(alloc, problem, &[], &[4])?;
+fn holds_at_four(alloc: Global, problem: &Problem, row: &Row) -> bool {
+    let Some(mut runner) = runner_of(alloc, problem, &[], &[4]) else {
+        return false;
+    };
     holds(alloc, problem, &mut runner, row)
 }
 
 /// The same of the small problem.
-fn holds_in_small(alloc: Global, row: &Row) -> Result<bool, Fail> {
-    let problem = small(alloc)?;
+fn holds_in_small(alloc: Global, row: &Row) -> bool {
+    let Some(problem) = small(alloc) else {
+        return false;
+    };
     holds_at_four(alloc, &problem, row)
 }
 
 #[test]
-fn a_branch_is_begun_where_it_has_the_state(rt: HostRuntime) -> Result<(), Fail> {
+fn a_branch_is_begun_where_it_has_the_state(rt: HostRuntime) {
     for row in &ROWS {
-        assert!(rt; holds_in_small(rt.alloc(), row)?);
+        assert!(rt; holds_in_small(rt.alloc(), row));
     }
-    Ok(())
 }

@@ -1,13 +1,11 @@
 //! Problems drawn by a seed: the states of each run come in the order of their positions, and a run that is cut at drawn positions,
 //! and walked by drawn steps on and back, is the run, stretch by stretch, over both tables.
-use crate::order_tests::{are_in_order, states_of};
-use crate::setting::{runner_of, value_of};
+use crate::fixtures::runner_of;
+use crate::order_tests::ordered_states;
 use cover_links::LinkTable;
 use cover_problem::{PlainTable, Problem, Table, read_cover};
 use drawn_problems::{draw, drawn_options, state_of, text_of};
 use std::alloc::{AllocError, Global};
-use std::process::Abort;
-use std::test::Fail;
 use x_branches::{Runner, Stretch};
 use x_steps::{Cursor, Label, Machine, State, no_counts};
 
@@ -17,28 +15,23 @@ fn drawn_text(alloc: Global, primary: u32, seed: &mut u64) -> Result<String, All
     text_of(alloc, 5, primary, &options)
 }
 
-/// The states of the run of the next problem that is drawn.
-fn drawn_states(alloc: Global, primary: u32, seed: &mut u64) -> Result<Vec<State>, Fail> {
-    let text = drawn_text(alloc, primary, seed)?;
-    states_of(alloc, &text)
-}
-
-/// Whether they come in order.
-fn are_drawn_in_order(alloc: Global, primary: u32, seed: &mut u64) -> Result<bool, Fail> {
-    let states = drawn_states(alloc, primary, seed)?;
-    Ok(are_in_order(&states))
+/// Whether the states of the run of the next problem that is drawn come in order.
+fn are_drawn_in_order(alloc: Global, primary: u32, seed: &mut u64) -> bool {
+    let Ok(text) = drawn_text(alloc, primary, seed) else {
+        return false;
+    };
+    ordered_states(alloc, &text).is_some()
 }
 
 #[test]
-fn states_of_drawn_problems_come_in_order(rt: HostRuntime) -> Result<(), Fail> {
+fn states_of_drawn_problems_come_in_order(rt: HostRuntime) {
     let mut seed = 7;
     for round in 0..30 {
         assert!(rt;
-            are_drawn_in_order(rt.alloc(), round % 5 + 1, &mut seed)?,
+            are_drawn_in_order(rt.alloc(), round % 5 + 1, &mut seed),
             "at the problem drawn as {round}"
         );
     }
-    Ok(())
 }
 
 /// Counts so many more at a level.
@@ -49,7 +42,7 @@ fn count(levels: &mut [u32], level: usize, more: u32) {
 }
 
 /// What a run has from X1 on: how many steps, its visits with a 0 after each, and how many X2 states at each level.
-#[derive(Debug, Drop, PartialEq, Eq)]
+#[derive(Drop, PartialEq, Eq)]
 struct Tally {
     steps: u32,
     visits: Vec<u32>,
@@ -98,7 +91,7 @@ impl Tally {
 }
 
 /// The run by single steps.
-fn note_run<T: Table>(machine: &mut Machine<'_, T>, tally: &mut Tally) -> Result<(), Fail> {
+fn note_run<T: Table>(machine: &mut Machine<'_, T>, tally: &mut Tally) -> Result<(), AllocError> {
     for _ in 0..100_000 {
         if machine.state().label == Label::Done {
             return Ok(());
@@ -109,20 +102,27 @@ fn note_run<T: Table>(machine: &mut Machine<'_, T>, tally: &mut Tally) -> Result
     Ok(())
 }
 
-/// The run of a problem from X1 on, by single steps.
-fn note_whole(alloc: Global, problem: &Problem, tally: &mut Tally) -> Result<(), Fail> {
-    let table = PlainTable::new(alloc, problem)?;
+/// The run of a problem from X1 on, by single steps; false where it can't be made.
+fn note_whole(alloc: Global, problem: &Problem, tally: &mut Tally) -> bool {
+    let Ok(table) = PlainTable::new(alloc, problem) else {
+        return false;
+    };
     match Machine::new(alloc, problem, table) {
-        Ok(mut machine) => note_run(&mut machine, tally),
-        Err(_) => Err(Fail::from("no machine")),
+        Ok(mut machine) => note_run(&mut machine, tally).is_ok(),
+        Err(_) => false,
     }
 }
 
 /// What the run of a problem has, by single steps.
-fn one_run(alloc: Global, problem: &Problem) -> Result<Tally, Fail> {
-    let mut tally = Tally::new(alloc, problem.items())?;
-    note_whole(alloc, problem, &mut tally)?;
-    Ok(tally)
+fn one_run(alloc: Global, problem: &Problem) -> Option<Tally> {
+    let Ok(mut tally) = Tally::new(alloc, problem.items()) else {
+        return None;
+    };
+    if note_whole(alloc, problem, &mut tally) {
+        Some(tally)
+    } else {
+        None
+    }
 }
 
 /// A run that is walked in parts: what its stretches have, where the last of them ended, and where it was cut, nearest last.
@@ -133,56 +133,93 @@ struct Parts {
     cuts: Vec<Vec<u32>>,
 }
 
+/// Whether a walk goes on, if all was right so far.
+fn on(is_right: bool) -> Option<bool> {
+    if is_right { Some(true) } else { None }
+}
+
 impl Parts {
+    /// Nothing yet, at X1, for a problem of so many items.
+    fn new(alloc: Global, items: u32) -> Option<Parts> {
+        let Ok(tally) = Tally::new(alloc, items) else {
+            return None;
+        };
+        let Ok(end) = state_of(alloc, Label::X1, &[], Cursor::None) else {
+            return None;
+        };
+        let cuts = Vec::new(alloc);
+        Some(Parts { tally, end, cuts })
+    }
+
     /// Adds a stretch, which has to begin where the last one ended.
-    fn add(&mut self, stretch: &Stretch<'_>) -> Result<(), Fail> {
+    fn add(&mut self, stretch: &Stretch<'_>) -> bool {
         if !stretch.from().same(&self.end) {
-            return Err(Fail::from("a stretch begins elsewhere"));
+            return false;
         }
-        self.end = stretch.to().copy()?;
-        Ok(self.tally.add(stretch)?)
+        let Ok(end) = stretch.to().copy() else {
+            return false;
+        };
+        self.end = end;
+        self.tally.add(stretch).is_ok()
     }
 
     /// Takes the stretch out, and adds it.
-    fn post<T: Table>(&mut self, runner: &mut Runner<'_, T>) -> Result<(), Fail> {
-        let stretch = runner.take_stretch()?;
-        self.add(&stretch)
+    fn post<T: Table>(&mut self, runner: &mut Runner<'_, T>) -> bool {
+        match runner.take_stretch() {
+            Ok(stretch) => self.add(&stretch),
+            Err(_) => false,
+        }
     }
 
-    fn push_cut(&mut self, alloc: Global, path: &[u32]) -> Result<(), AllocError> {
-        let path = Vec::from_slice(alloc, path)?;
-        Ok(self.cuts.push(path)?)
+    fn push_cut(&mut self, alloc: Global, path: &[u32]) -> bool {
+        match Vec::from_slice(alloc, path) {
+            Ok(path) => self.cuts.push(path).is_ok(),
+            Err(_) => false,
+        }
+    }
+
+    /// Ends the branch at an option that is untried.
+    fn cut_at<T: Table>(
+        &mut self,
+        alloc: Global,
+        runner: &mut Runner<'_, T>,
+        level: usize,
+        option: u32,
+    ) -> bool {
+        let Ok(cut) = runner.cut(level, option) else {
+            return false;
+        };
+        let is_pushed = self.push_cut(alloc, cut.path());
+        is_pushed && runner.shorten(cut).is_ok()
     }
 
     /// Ends the branch at the first option that is untried, if there is one.
-    fn cut<T: Table>(&mut self, alloc: Global, runner: &mut Runner<'_, T>) -> Result<(), Fail> {
-        let Some((level, option)) = first_untried(runner)? else {
-            return Ok(());
-        };
-        let Ok(cut) = runner.cut(level, option) else {
-            return Err(Fail::from("no cut"));
-        };
-        let pushed = self.push_cut(alloc, cut.path());
-        value_of(runner.shorten(cut))?;
-        Ok(pushed?)
+    fn cut<T: Table>(&mut self, alloc: Global, runner: &mut Runner<'_, T>) -> bool {
+        match first_untried(runner) {
+            Ok(Some((level, option))) => self.cut_at(alloc, runner, level, option),
+            Ok(None) => true,
+            Err(_) => false,
+        }
     }
 
-    /// Does what is drawn; false where there is no step any more.
+    /// Does what is drawn; false where there is no step any more, and None where something is wrong.
     fn go<T: Table>(
         &mut self,
         alloc: Global,
         runner: &mut Runner<'_, T>,
         seed: &mut u64,
-    ) -> Result<bool, Fail> {
+    ) -> Option<bool> {
         match draw(seed) % 8 {
-            0 => self.cut(alloc, runner)?,
-            1 => self.post(runner)?,
-            2 => reopen(runner)?,
-            3 => retreat(runner, draw(seed) % 6),
-            4 => return Ok(runner.walk(draw(seed) % 9).is_ok()),
-            _ => return Ok(runner.advance().is_ok()),
+            0 => on(self.cut(alloc, runner)),
+            1 => on(self.post(runner)),
+            2 => on(reopen(runner)),
+            3 => {
+                retreat(runner, draw(seed) % 6);
+                Some(true)
+            }
+            4 => Some(runner.walk(draw(seed) % 9).is_ok()),
+            _ => Some(runner.advance().is_ok()),
         }
-        Ok(true)
     }
 
     /// Walks a branch to its end.
@@ -191,13 +228,15 @@ impl Parts {
         alloc: Global,
         runner: &mut Runner<'_, T>,
         seed: &mut u64,
-    ) -> Result<(), Fail> {
+    ) -> bool {
         for _ in 0..100_000 {
-            if !self.go(alloc, runner, seed)? {
-                return self.post(runner);
+            match self.go(alloc, runner, seed) {
+                Some(true) => (),
+                Some(false) => return self.post(runner),
+                None => return false,
             }
         }
-        Err(Fail::from("too many steps"))
+        false
     }
 
     /// Walks the branch from a cut to the nearest one after it.
@@ -207,9 +246,26 @@ impl Parts {
         problem: &Problem,
         first: &[u32],
         seed: &mut u64,
-    ) -> Result<(), Fail> {
-        let mut runner = runner_of::<T>(alloc, problem, first, last_of(&self.cuts))?;
+    ) -> bool {
+        let Some(mut runner) = runner_of::<T>(alloc, problem, first, last_of(&self.cuts)) else {
+            return false;
+        };
         self.walk(alloc, &mut runner, seed)
+    }
+
+    /// Walks the run of a problem, branch by branch.
+    fn walk_all<T: Table>(&mut self, alloc: Global, problem: &Problem, seed: &mut u64) -> bool {
+        let mut first = Vec::new(alloc);
+        for _ in 0..10_000 {
+            if !self.walk_from::<T>(alloc, problem, &first, seed) {
+                return false;
+            }
+            match self.cuts.pop() {
+                Some(cut) => first = cut,
+                None => return true,
+            }
+        }
+        false
     }
 }
 
@@ -225,9 +281,11 @@ fn first_untried<T: Table>(runner: &Runner<'_, T>) -> Result<Option<(usize, u32)
 }
 
 /// Takes the stretch out, and joins it again.
-fn reopen<T: Table>(runner: &mut Runner<'_, T>) -> Result<(), Fail> {
-    let stretch = runner.take_stretch()?;
-    value_of(runner.reopen(stretch))
+fn reopen<T: Table>(runner: &mut Runner<'_, T>) -> bool {
+    match runner.take_stretch() {
+        Ok(stretch) => runner.reopen(stretch).is_ok(),
+        Err(_) => false,
+    }
 }
 
 /// Takes so many steps back, as far as there are any.
@@ -245,50 +303,41 @@ fn last_of(cuts: &[Vec<u32>]) -> &[u32] {
     }
 }
 
-/// What the run of a problem has, by branches between drawn cuts.
-fn run_in_parts<T: Table>(alloc: Global, problem: &Problem, seed: &mut u64) -> Result<Tally, Fail> {
-    let mut parts = Parts {
-        tally: Tally::new(alloc, problem.items())?,
-        end: state_of(alloc, Label::X1, &[], Cursor::None)?,
-        cuts: Vec::new(alloc),
+/// Whether the run of a problem, by branches between drawn cuts, is this one.
+fn is_in_parts<T: Table>(alloc: Global, problem: &Problem, run: &Tally, seed: &mut u64) -> bool {
+    let Some(mut parts) = Parts::new(alloc, problem.items()) else {
+        return false;
     };
-    let mut first = Vec::new(alloc);
-    for _ in 0..10_000 {
-        parts.walk_from::<T>(alloc, problem, &first, seed)?;
-        match parts.cuts.pop() {
-            Some(cut) => first = cut,
-            None => return Ok(parts.tally),
-        }
-    }
-    Err(Fail::from("too many branches"))
+    parts.walk_all::<T>(alloc, problem, seed) && parts.tally == *run
 }
 
 /// Whether a problem's run is its parts, with either table.
-fn is_its_parts(alloc: Global, problem: &Problem, seed: &mut u64) -> Result<bool, Fail> {
-    let run = one_run(alloc, problem)?;
-    let plain = run_in_parts::<PlainTable>(alloc, problem, seed)?;
-    let links = run_in_parts::<LinkTable>(alloc, problem, seed)?;
-    Ok(run == plain && run == links)
+fn is_its_parts(alloc: Global, problem: &Problem, seed: &mut u64) -> bool {
+    let Some(run) = one_run(alloc, problem) else {
+        return false;
+    };
+    is_in_parts::<PlainTable>(alloc, problem, &run, seed)
+        && is_in_parts::<LinkTable>(alloc, problem, &run, seed)
 }
 
-/// Whether the run of the text's problem is its parts.
-fn is_text_its_parts(alloc: Global, text: &str, seed: &mut u64) -> Result<bool, Fail> {
-    let problem = read_cover(alloc, text.as_bytes())?;
+/// Whether the run of the next problem that is drawn is its parts.
+fn is_drawn_its_parts(alloc: Global, primary: u32, seed: &mut u64) -> bool {
+    let Ok(text) = drawn_text(alloc, primary, seed) else {
+        return false;
+    };
+    let Ok(problem) = read_cover(alloc, text.as_bytes()) else {
+        return false;
+    };
     is_its_parts(alloc, &problem, seed)
 }
 
-/// Tells a text whose problem's run isn't its parts.
-fn assert_parts(rt: &impl Abort, alloc: Global, text: &str, seed: &mut u64) -> Result<(), Fail> {
-    assert!(rt; is_text_its_parts(alloc, text, seed)?, "for {text}");
-    Ok(())
-}
-
 #[test]
-fn drawn_runs_are_their_parts(rt: HostRuntime) -> Result<(), Fail> {
+fn drawn_runs_are_their_parts(rt: HostRuntime) {
     let mut seed = 5;
     for round in 0..60 {
-        let text = drawn_text(rt.alloc(), round % 5 + 1, &mut seed)?;
-        assert_parts(&rt, rt.alloc(), &text, &mut seed)?;
+        assert!(rt;
+            is_drawn_its_parts(rt.alloc(), round % 5 + 1, &mut seed),
+            "at the problem drawn as {round}"
+        );
     }
-    Ok(())
 }

@@ -9,6 +9,8 @@ mod cut_tests;
 #[cfg(test)]
 mod drawn_tests;
 #[cfg(test)]
+mod fixtures;
+#[cfg(test)]
 mod memory_tests;
 #[cfg(test)]
 mod order_tests;
@@ -16,5 +18,3 @@ mod order_tests;
 mod refusal_tests;
 #[cfg(test)]
 mod runner_tests;
-#[cfg(test)]
-mod setting;

@@ -2,7 +2,7 @@
 //! is answered as where nothing is refused. `dev/check_memory` runs these tests with one growth refused, each growth in turn.
 ghost use Rattle.std.specs.Prelude.{◌≡◌, []};
 
-use crate::setting::{branch_of, runner_of, small, whole};
+use crate::fixtures::{branch_of, runner_of, small, whole};
 use cover_problem::{PlainTable, Problem, Table};
 use drawn_problems::state_of;
 use std::alloc::Global;
@@ -107,9 +107,17 @@ fn advanced<'p>(
     problem: &'p Problem,
     steps: u32,
 ) -> Result<Runner<'p, PlainTable>, Fail> {
-    let mut runner = whole(alloc, problem)?;
+    let mut runner = there(whole(alloc, problem))?;
     advance(&mut runner, steps)?;
     Ok(runner)
+}
+
+/// What a test needs, which has to be there.
+fn there<V: Drop>(value: Option<V>) -> Result<V, Fail> {
+    match value {
+        Some(value) => Ok(value),
+        None => Err(Fail::from("not made")),
+    }
 }
 
 /// One growth, which is told where it is refused.
@@ -194,7 +202,7 @@ fn is_answered_after(
 
 /// The same of the small problem.
 fn is_answered_in_small(alloc: Global, steps: u32, call: Call) -> Result<bool, Fail> {
-    let problem = small(alloc)?;
+    let problem = there(small(alloc))?;
     is_answered_after(alloc, &problem, steps, call)
 }
 
@@ -281,7 +289,7 @@ fn starts_in<'p>(
 
 /// The same of the branch from the cut 4 on.
 fn starts_at(alloc: Global, problem: &Problem, state: &State) -> Result<bool, Fail> {
-    let copy = branch_of(alloc, problem, &[4], &[])?;
+    let copy = there(branch_of(alloc, problem, &[4], &[]))?;
     starts_in(alloc, problem, copy.copy()?, &copy, state)
 }
 
@@ -293,7 +301,7 @@ fn starts_again(alloc: Global, problem: &Problem) -> Result<bool, Fail> {
 
 /// The same of the small problem.
 fn starts_again_in_small(alloc: Global) -> Result<bool, Fail> {
-    let problem = small(alloc)?;
+    let problem = there(small(alloc))?;
     starts_again(alloc, &problem)
 }
 
@@ -337,20 +345,20 @@ fn begins_and_goes_on<'p>(
 /// The same of the branch from the cut 4 5 on, behind the branch that ends there, which has four steps. A state without choices takes no
 /// memory: this one has a choice.
 fn begins_behind<'p>(alloc: Global, problem: &'p Problem, copy: &Branch<'p>) -> Result<bool, Fail> {
-    let mut runner = runner_of(alloc, problem, &[4], &[4, 5])?;
+    let mut runner = there(runner_of(alloc, problem, &[4], &[4, 5]))?;
     advance(&mut runner, 4)?;
     begins_and_goes_on(alloc, &mut runner, copy.copy()?, copy)
 }
 
 /// The same where the branch is made here.
 fn begins_the_rest(alloc: Global, problem: &Problem) -> Result<bool, Fail> {
-    let copy = branch_of(alloc, problem, &[4, 5], &[])?;
+    let copy = there(branch_of(alloc, problem, &[4, 5], &[]))?;
     begins_behind(alloc, problem, &copy)
 }
 
 /// The same of the small problem.
 fn begins_the_rest_of_small(alloc: Global) -> Result<bool, Fail> {
-    let problem = small(alloc)?;
+    let problem = there(small(alloc))?;
     begins_the_rest(alloc, &problem)
 }
 

@@ -3,7 +3,6 @@ use cover_problem::{PlainTable, Problem, Table, read_cover};
 use drawn_problems::{SMALL, state_of};
 use std::alloc::{AllocError, Global};
 use std::cmp::Ordering;
-use std::test::Fail;
 use x_branches::run_order;
 use x_steps::{Cursor, Label, Machine, State};
 
@@ -21,21 +20,27 @@ fn note_states<T: Table>(
     Ok(())
 }
 
-/// The states of the run of a problem, in order.
-fn states_in(alloc: Global, problem: &Problem) -> Result<Vec<State>, Fail> {
-    let table = PlainTable::new(alloc, problem)?;
-    let mut states = Vec::new(alloc);
+/// Notes the states of the run of a problem, in order.
+fn note_run(alloc: Global, problem: &Problem, states: &mut Vec<State>) -> bool {
+    let Ok(table) = PlainTable::new(alloc, problem) else {
+        return false;
+    };
     match Machine::new(alloc, problem, table) {
-        Ok(mut machine) => note_states(&mut machine, &mut states)?,
-        Err(_) => return Err(Fail::from("no machine")),
+        Ok(mut machine) => note_states(&mut machine, states).is_ok(),
+        Err(_) => false,
     }
-    Ok(states)
 }
 
-/// The same of the text's problem.
-pub fn states_of(alloc: Global, text: &str) -> Result<Vec<State>, Fail> {
-    let problem = read_cover(alloc, text.as_bytes())?;
-    states_in(alloc, &problem)
+/// How many states the run of the text's problem has, if they come in order.
+pub fn ordered_states(alloc: Global, text: &str) -> Option<usize> {
+    let Ok(problem) = read_cover(alloc, text.as_bytes()) else {
+        return None;
+    };
+    let mut states = Vec::new(alloc);
+    if !note_run(alloc, &problem, &mut states) || !are_in_order(&states) {
+        return None;
+    }
+    Some(states.len())
 }
 
 /// Whether a state that stands there among the states comes before those after it, and after those before it.
@@ -49,7 +54,7 @@ fn stands_at(states: &[State], place: usize, state: &State) -> bool {
 }
 
 /// Whether each two states come in the order in which they stand.
-pub fn are_in_order(states: &[State]) -> bool {
+fn are_in_order(states: &[State]) -> bool {
     for (place, state) in states.iter().enumerate() {
         if !stands_at(states, place, state) {
             return false;
@@ -58,16 +63,9 @@ pub fn are_in_order(states: &[State]) -> bool {
     true
 }
 
-/// Whether the 44 states of the small problem's run are.
-fn are_small_in_order(alloc: Global) -> Result<bool, Fail> {
-    let states = states_of(alloc, SMALL)?;
-    Ok(states.len() == 44 && are_in_order(&states))
-}
-
 #[test]
-fn states_come_in_the_order_of_the_run(rt: HostRuntime) -> Result<(), Fail> {
-    assert!(rt; are_small_in_order(rt.alloc())?);
-    Ok(())
+fn states_come_in_the_order_of_the_run(rt: HostRuntime) {
+    assert!(rt; ordered_states(rt.alloc(), SMALL) == Some(44));
 }
 
 /// A step after the option 4, at the option 5, and how it stands to what lies below that option.
@@ -76,22 +74,20 @@ static STEPS: [(Label, Ordering); 2] = [
     (Label::X6, Ordering::Greater),
 ];
 
-/// How the step at a label there stands to a state.
-fn order_at(alloc: Global, label: Label, other: &State) -> Result<Ordering, Fail> {
-    let state = state_of(alloc, label, &[4], Cursor::At(5))?;
-    Ok(run_order(&state, other))
-}
-
-/// How it stands to a state below that option.
-fn order_to_below(alloc: Global, label: Label) -> Result<Ordering, Fail> {
-    let below = state_of(alloc, Label::X8, &[4, 5, 1], Cursor::None)?;
-    order_at(alloc, label, &below)
+/// Whether the step at a label there stands so to a state below that option.
+fn stands_so(alloc: Global, row: &(Label, Ordering)) -> bool {
+    let Ok(state) = state_of(alloc, row.0, &[4], Cursor::At(5)) else {
+        return false;
+    };
+    let Ok(below) = state_of(alloc, Label::X8, &[4, 5, 1], Cursor::None) else {
+        return false;
+    };
+    run_order(&state, &below) == row.1
 }
 
 #[test]
-fn a_step_comes_before_or_after_what_lies_below(rt: HostRuntime) -> Result<(), Fail> {
-    for (label, order) in STEPS {
-        assert!(rt; order_to_below(rt.alloc(), label)? == order);
+fn a_step_comes_before_or_after_what_lies_below(rt: HostRuntime) {
+    for row in &STEPS {
+        assert!(rt; stands_so(rt.alloc(), row));
     }
-    Ok(())
 }

@@ -1,41 +1,58 @@
 //! Where a runner can't start, what is of another problem, and the numbers and names of refusals.
-use crate::setting::{branch_of, cut_of, refusal, small, whole};
+use crate::fixtures::{branch_of, cut_of, refusal, small, whole};
 use cover_problem::{PlainTable, Problem, Table, read_cover};
 use drawn_problems::state_of;
 use std::alloc::Global;
-use std::process::Abort;
-use std::test::Fail;
-use x_branches::{Branch, Runner, RunnerFault, StartFault};
-use x_steps::{AtFault, Cursor, Label};
+use x_branches::{Branch, Cut, Runner, RunnerFault, StartFault};
+use x_steps::{AtFault, Cursor, Label, Refused, State};
 
-static REFUSALS: [(RunnerFault, Option<u8>, &str); 8] = [
-    (RunnerFault::AtBranchEnd, Some(1), "AtBranchEnd"),
-    (RunnerFault::AtMark, Some(2), "AtMark"),
-    (RunnerFault::NothingUntried, Some(3), "NothingUntried"),
-    (RunnerFault::NotUntried, Some(4), "NotUntried"),
-    (RunnerFault::OutsideBranch, Some(5), "OutsideBranch"),
-    (RunnerFault::NotAtMark, Some(6), "NotAtMark"),
-    (RunnerFault::StretchFull, Some(7), "StretchFull"),
-    (RunnerFault::OutOfMemory, None, "OutOfMemory"),
+/// A refusal with its number and its name.
+struct Named(RunnerFault, Option<u8>, &'static str);
+
+static REFUSALS: [Named; 8] = [
+    Named(RunnerFault::AtBranchEnd, Some(1), "AtBranchEnd"),
+    Named(RunnerFault::AtMark, Some(2), "AtMark"),
+    Named(RunnerFault::NothingUntried, Some(3), "NothingUntried"),
+    Named(RunnerFault::NotUntried, Some(4), "NotUntried"),
+    Named(RunnerFault::OutsideBranch, Some(5), "OutsideBranch"),
+    Named(RunnerFault::NotAtMark, Some(6), "NotAtMark"),
+    Named(RunnerFault::StretchFull, Some(7), "StretchFull"),
+    Named(RunnerFault::OutOfMemory, None, "OutOfMemory"),
 ];
 
 #[test]
 fn refusals_have_numbers_and_names(rt: HostRuntime) {
-    for (fault, number, name) in REFUSALS {
-        assert!(rt; fault.number() == number && fault.name() == name);
+    for row in &REFUSALS {
+        assert!(rt; row.0.number() == row.1 && row.0.name() == row.2);
     }
 }
 
-/// Why a runner can't stand in a branch at X2 with these choices, if it can't.
-fn start_refused<'p>(
+/// Whether a runner can't start in a branch at a state for this reason, or can where there is none.
+fn starts_at<'p>(
+    alloc: Global,
+    problem: &'p Problem,
+    branch: Branch<'p>,
+    state: &State,
+    fault: Option<StartFault>,
+) -> bool {
+    let Ok(table) = PlainTable::new(alloc, problem) else {
+        return false;
+    };
+    refusal(Runner::new(alloc, problem, table, branch, state)) == fault
+}
+
+/// The same at X2 with these choices.
+fn starts_so<'p>(
     alloc: Global,
     problem: &'p Problem,
     branch: Branch<'p>,
     path: &[u32],
-) -> Result<Option<StartFault>, Fail> {
-    let table = PlainTable::new(alloc, problem)?;
-    let state = state_of(alloc, Label::X2, path, Cursor::None)?;
-    Ok(refusal(Runner::new(alloc, problem, table, branch, &state)))
+    fault: Option<StartFault>,
+) -> bool {
+    let Ok(state) = state_of(alloc, Label::X2, path, Cursor::None) else {
+        return false;
+    };
+    starts_at(alloc, problem, branch, &state, fault)
 }
 
 const OUTSIDE: Option<StartFault> = Some(StartFault::Runner(RunnerFault::OutsideBranch));
@@ -43,94 +60,94 @@ const OUTSIDE: Option<StartFault> = Some(StartFault::Runner(RunnerFault::Outside
 const NOT_A_STATE: Option<StartFault> = Some(StartFault::Steps(AtFault::NotAState));
 
 /// From which cut to which, at X2 below which choices, a runner can't start, and why.
-static STARTS: [(&[u32], &[u32], &[u32], Option<StartFault>); 6] = [
-    (&[2], &[4], &[2], None),
-    (&[2], &[4], &[2, 3], None),
-    (&[4], &[4], &[2], OUTSIDE),
-    (&[2], &[4], &[], OUTSIDE),
-    (&[2], &[4], &[4], OUTSIDE),
-    (&[4], &[2], &[3], NOT_A_STATE),
+struct Start(
+    &'static [u32],
+    &'static [u32],
+    &'static [u32],
+    Option<StartFault>,
+);
+
+static STARTS: [Start; 6] = [
+    Start(&[2], &[4], &[2], None),
+    Start(&[2], &[4], &[2, 3], None),
+    Start(&[4], &[4], &[2], OUTSIDE),
+    Start(&[2], &[4], &[], OUTSIDE),
+    Start(&[2], &[4], &[4], OUTSIDE),
+    Start(&[4], &[2], &[3], NOT_A_STATE),
 ];
 
-/// Why a runner can't start between two cuts, if it can't.
-fn start_between(
-    alloc: Global,
-    problem: &Problem,
-    lo: &[u32],
-    hi: &[u32],
-    path: &[u32],
-) -> Result<Option<StartFault>, Fail> {
-    start_refused(alloc, problem, branch_of(alloc, problem, lo, hi)?, path)
+/// Whether a runner starts as a row tells.
+fn starts(alloc: Global, problem: &Problem, row: &Start) -> bool {
+    let Some(branch) = branch_of(alloc, problem, row.0, row.1) else {
+        return false;
+    };
+    starts_so(alloc, problem, branch, row.2, row.3)
 }
 
-/// Tells a start that is refused otherwise.
-fn assert_starts(rt: &impl Abort, alloc: Global, problem: &Problem) -> Result<(), Fail> {
-    for (lo, hi, path, fault) in STARTS {
-        assert!(rt; start_between(alloc, problem, lo, hi, path)? == fault);
-    }
-    Ok(())
+/// The same of the small problem.
+fn starts_in_small(alloc: Global, row: &Start) -> bool {
+    let Some(problem) = small(alloc) else {
+        return false;
+    };
+    starts(alloc, &problem, row)
 }
 
 #[test]
-fn a_runner_starts_within_its_branch(rt: HostRuntime) -> Result<(), Fail> {
-    let problem = small(rt.alloc())?;
-    assert_starts(&rt, rt.alloc(), &problem)
+fn a_runner_starts_within_its_branch(rt: HostRuntime) {
+    for row in &STARTS {
+        assert!(rt; starts_in_small(rt.alloc(), row));
+    }
 }
 
 /// Another problem, of which 4 is a cut.
 const OTHER: &str = "items a\noption a\noption a\noption a\noption a";
 
-/// Whether a runner's branch isn't ended at the cut 4 of another problem, which comes back.
-fn comes_back<'p, T: Table>(
-    alloc: Global,
-    runner: &mut Runner<'p, T>,
-    other: &'p Problem,
-) -> Result<bool, Fail> {
-    let cut = cut_of(alloc, other, &[4])?;
-    Ok(match runner.shorten(cut) {
+/// Whether a cut is refused as outside the branch, and is the cut 4 that comes back.
+fn is_outside(shortened: &Result<(), Refused<RunnerFault, Cut<'_>>>) -> bool {
+    match shortened {
         Ok(()) => false,
         Err(refused) => {
             refused.fault == RunnerFault::OutsideBranch && refused.given.path() == [4].as_slice()
         }
-    })
+    }
+}
+
+/// Whether a runner's branch isn't ended at the cut 4 of another problem, which comes back.
+fn comes_back<'p, T: Table>(alloc: Global, runner: &mut Runner<'p, T>, other: &'p Problem) -> bool {
+    let Some(cut) = cut_of(alloc, other, &[4]) else {
+        return false;
+    };
+    is_outside(&runner.shorten(cut))
 }
 
 /// Whether a cut of another problem ends no branch of this one's run, and comes back.
-fn is_foreign<'p>(alloc: Global, problem: &'p Problem, other: &'p Problem) -> Result<bool, Fail> {
-    let mut runner = whole(alloc, problem)?;
+fn is_foreign<'p>(alloc: Global, problem: &'p Problem, other: &'p Problem) -> bool {
+    let Some(mut runner) = whole(alloc, problem) else {
+        return false;
+    };
     comes_back(alloc, &mut runner, other)
 }
 
-/// Why a runner can't start in a branch that ends at a cut of another problem.
-fn foreign_start<'p>(
-    alloc: Global,
-    problem: &'p Problem,
-    other: &'p Problem,
-) -> Result<Option<StartFault>, Fail> {
-    let branch = branch_of(alloc, other, &[], &[4])?;
-    start_refused(alloc, problem, branch, &[2])
+/// Whether a runner can't start in a branch that ends at a cut of another problem.
+fn starts_nowhere<'p>(alloc: Global, problem: &'p Problem, other: &'p Problem) -> bool {
+    let Some(branch) = branch_of(alloc, other, &[], &[4]) else {
+        return false;
+    };
+    starts_so(alloc, problem, branch, &[2], OUTSIDE)
 }
 
-/// Tells a cut of another problem that isn't outside all branches of this one.
-fn assert_outside<'p>(
-    rt: &impl Abort,
-    alloc: Global,
-    problem: &'p Problem,
-    other: &'p Problem,
-) -> Result<(), Fail> {
-    assert!(rt; is_foreign(alloc, problem, other)?);
-    assert!(rt; foreign_start(alloc, problem, other)? == OUTSIDE);
-    Ok(())
-}
-
-/// The same of the small problem.
-fn assert_outside_small(rt: &impl Abort, alloc: Global, other: &Problem) -> Result<(), Fail> {
-    let problem = small(alloc)?;
-    assert_outside(rt, alloc, &problem, other)
+/// Whether cuts of the other problem are outside the small one's branches.
+fn are_outside(alloc: Global) -> bool {
+    let Some(problem) = small(alloc) else {
+        return false;
+    };
+    let Ok(other) = read_cover(alloc, OTHER.as_bytes()) else {
+        return false;
+    };
+    is_foreign(alloc, &problem, &other) && starts_nowhere(alloc, &problem, &other)
 }
 
 #[test]
-fn cuts_of_another_problem_are_outside(rt: HostRuntime) -> Result<(), Fail> {
-    let other = read_cover(rt.alloc(), OTHER.as_bytes())?;
-    assert_outside_small(&rt, rt.alloc(), &other)
+fn cuts_of_another_problem_are_outside(rt: HostRuntime) {
+    assert!(rt; are_outside(rt.alloc()));
 }

@@ -1,9 +1,7 @@
 //! The worked example: a runner on the small problem. What is asked of it stands in rows, each with what it has to tell.
-use crate::setting::{refusal, runner_of, small, whole};
+use crate::fixtures::{refusal, runner_of, small, whole};
 use cover_problem::{PlainTable, Problem, Table};
-use std::alloc::{AllocError, Global};
-use std::process::Abort;
-use std::test::Fail;
+use std::alloc::Global;
 use x_branches::{KeptStretch, Runner, RunnerFault, Stretch};
 use x_steps::{Cursor, Event, Label, State, Walk};
 
@@ -33,16 +31,16 @@ enum Row {
 
 impl Row {
     /// Whether a runner tells what it has to.
-    fn holds<T: Table>(&self, runner: &mut Runner<'_, T>) -> Result<bool, Fail> {
+    fn holds<T: Table>(&self, runner: &mut Runner<'_, T>) -> bool {
         match self {
-            Row::Advances(steps) => Ok(advances(runner, *steps)),
-            Row::Walks(most, steps, event) => Ok(walks(runner, *most, *steps, *event)),
-            Row::StandsAt(option, steps) => Ok(stands_at(runner, *option, *steps)),
-            Row::IsAtEnd => Ok(is_at_end(runner)),
-            Row::IsAtMark => Ok(runner.retreat() == Err(RunnerFault::AtMark)),
+            Row::Advances(steps) => advances(runner, *steps),
+            Row::Walks(most, steps, event) => walks(runner, *most, *steps, *event),
+            Row::StandsAt(option, steps) => stands_at(runner, *option, *steps),
+            Row::IsAtEnd => is_at_end(runner),
+            Row::IsAtMark => runner.retreat() == Err(RunnerFault::AtMark),
             Row::Untried(level, options) => is_untried(runner, *level, options),
-            Row::Cut(level, option, fault) => Ok(runner.cut(*level, *option).err() == *fault),
-            Row::Shortens(level, option) => Ok(shortens(runner, *level, *option)),
+            Row::Cut(level, option, fault) => is_cut(runner, *level, *option, *fault),
+            Row::Shortens(level, option) => shortens(runner, *level, *option),
             Row::Rejoins => rejoins(runner),
             Row::HandsOut(parts) => hands_out(runner, *parts),
         }
@@ -79,12 +77,23 @@ fn is_at_end<T: Table>(runner: &mut Runner<'_, T>) -> bool {
     }
 }
 
-fn is_untried<T: Table>(
+fn is_untried<T: Table>(runner: &Runner<'_, T>, level: usize, options: &[u32]) -> bool {
+    match runner.untried(level) {
+        Ok(untried) => untried.as_slice() == options,
+        Err(_) => false,
+    }
+}
+
+fn is_cut<T: Table>(
     runner: &Runner<'_, T>,
     level: usize,
-    options: &[u32],
-) -> Result<bool, Fail> {
-    Ok(runner.untried(level)?.as_slice() == options)
+    option: u32,
+    refused: Option<RunnerFault>,
+) -> bool {
+    match runner.cut(level, option) {
+        Ok(_) => refused.is_none(),
+        Err(fault) => refused == Some(fault),
+    }
 }
 
 fn shortens<T: Table>(runner: &mut Runner<'_, T>, level: usize, option: u32) -> bool {
@@ -94,10 +103,12 @@ fn shortens<T: Table>(runner: &mut Runner<'_, T>, level: usize, option: u32) -> 
     }
 }
 
-fn rejoins<T: Table>(runner: &mut Runner<'_, T>) -> Result<bool, Fail> {
+fn rejoins<T: Table>(runner: &mut Runner<'_, T>) -> bool {
     let steps = runner.unposted();
-    let stretch = runner.take_stretch()?;
-    Ok(refusal(runner.reopen(stretch)).is_none() && runner.unposted() == steps)
+    match runner.take_stretch() {
+        Ok(stretch) => runner.reopen(stretch).is_ok() && runner.unposted() == steps,
+        Err(_) => false,
+    }
 }
 
 /// What a stretch has: so many steps, these visits, and so many X2 states at each level.
@@ -128,76 +139,92 @@ fn has_ends_of(stretch: &Stretch<'_>, other: &Stretch<'_>) -> bool {
 }
 
 /// The same of a stretch and its copy, which has its ends.
-fn is_copied(stretch: &Stretch<'_>, parts: Parts) -> Result<bool, Fail> {
-    let copy = stretch.copy()?;
-    Ok(has_ends_of(&copy, stretch) && is_stretch(stretch, parts) && is_stretch(&copy, parts))
+fn is_copied(stretch: &Stretch<'_>, parts: Parts) -> bool {
+    let Ok(copy) = stretch.copy() else {
+        return false;
+    };
+    has_ends_of(&copy, stretch) && is_stretch(stretch, parts) && is_stretch(&copy, parts)
 }
 
 /// Whether what is kept of a stretch begins and ends where it does.
-fn has_kept_ends(kept: &KeptStretch<'_>, stretch: &Stretch<'_>) -> Result<bool, AllocError> {
+fn has_kept_ends(kept: &KeptStretch<'_>, stretch: &Stretch<'_>) -> bool {
     let alloc = *stretch.from().path.allocator();
-    Ok(kept.from(alloc)?.same(stretch.from()) && kept.to(alloc)?.same(stretch.to()))
+    let Ok(from) = kept.from(alloc) else {
+        return false;
+    };
+    let Ok(to) = kept.to(alloc) else {
+        return false;
+    };
+    from.same(stretch.from()) && to.same(stretch.to())
 }
 
 /// Whether it is the stretch again when it is opened.
-fn opens_as(
-    kept: &KeptStretch<'_>,
-    stretch: &Stretch<'_>,
-    parts: Parts,
-) -> Result<bool, AllocError> {
-    let opened = kept.open(*stretch.from().path.allocator())?;
-    Ok(has_ends_of(&opened, stretch) && is_stretch(&opened, parts))
+fn opens_as(kept: &KeptStretch<'_>, stretch: &Stretch<'_>, parts: Parts) -> bool {
+    let Ok(opened) = kept.open(*stretch.from().path.allocator()) else {
+        return false;
+    };
+    has_ends_of(&opened, stretch) && is_stretch(&opened, parts)
 }
 
 /// The same of a copy of what is kept.
-fn opens_copied(
-    kept: &KeptStretch<'_>,
-    stretch: &Stretch<'_>,
-    parts: Parts,
-) -> Result<bool, AllocError> {
-    let copy = kept.copy()?;
-    Ok(kept.same(&copy) && opens_as(&copy, stretch, parts)?)
+fn opens_copied(kept: &KeptStretch<'_>, stretch: &Stretch<'_>, parts: Parts) -> bool {
+    let Ok(copy) = kept.copy() else {
+        return false;
+    };
+    kept.same(&copy) && opens_as(&copy, stretch, parts)
 }
 
 /// Whether what is kept of a stretch tells its ends, steps and visits, and its copy is the stretch again when it is opened.
-fn tells_kept(
-    kept: &KeptStretch<'_>,
-    stretch: &Stretch<'_>,
-    parts: Parts,
-) -> Result<bool, AllocError> {
+fn tells_kept(kept: &KeptStretch<'_>, stretch: &Stretch<'_>, parts: Parts) -> bool {
     let is_counted = kept.steps() == parts.steps && kept.visited() == parts.visits.len() as u64;
-    let is_there = has_kept_ends(kept, stretch)?;
-    Ok(is_counted && is_there && opens_copied(kept, stretch, parts)?)
+    is_counted && has_kept_ends(kept, stretch) && opens_copied(kept, stretch, parts)
 }
 
 /// The same of a stretch that is kept here.
-fn is_kept(stretch: &Stretch<'_>, parts: Parts) -> Result<bool, AllocError> {
-    match KeptStretch::of(stretch.copy()?) {
+fn is_kept(stretch: &Stretch<'_>, parts: Parts) -> bool {
+    let Ok(copy) = stretch.copy() else {
+        return false;
+    };
+    match KeptStretch::of(copy) {
         Ok(kept) => tells_kept(&kept, stretch, parts),
-        Err(_) => Err(AllocError),
+        Err(_) => false,
     }
 }
 
-fn hands_out<T: Table>(runner: &mut Runner<'_, T>, parts: Parts) -> Result<bool, Fail> {
-    let stretch = runner.take_stretch()?;
-    let kept = is_kept(&stretch, parts)?;
-    Ok(is_copied(&stretch, parts)? && kept)
+fn hands_out<T: Table>(runner: &mut Runner<'_, T>, parts: Parts) -> bool {
+    match runner.take_stretch() {
+        Ok(stretch) => is_kept(&stretch, parts) && is_copied(&stretch, parts),
+        Err(_) => false,
+    }
 }
+
+/// After which choices a runner of the small problem begins, what is asked of it, and what it has to tell.
+struct Play(&'static [u32], &'static [Row]);
 
 /// Whether a runner tells what it has to, row by row.
-fn all_hold<T: Table>(runner: &mut Runner<'_, T>, rows: &[Row]) -> Result<bool, Fail> {
+fn all_hold<T: Table>(runner: &mut Runner<'_, T>, rows: &[Row]) -> bool {
     for row in rows {
-        if !row.holds(runner)? {
-            return Ok(false);
+        if !row.holds(runner) {
+            return false;
         }
     }
-    Ok(true)
+    true
 }
 
 /// Whether a runner of the branch from a cut to the end, or of the whole run, tells what it has to.
-fn plays(alloc: Global, problem: &Problem, first: &[u32], rows: &[Row]) -> Result<bool, Fail> {
-    let mut runner = runner_of::<PlainTable>(alloc, problem, first, &[])?;
-    all_hold(&mut runner, rows)
+fn plays(alloc: Global, problem: &Problem, play: &Play) -> bool {
+    let Some(mut runner) = runner_of::<PlainTable>(alloc, problem, play.0, &[]) else {
+        return false;
+    };
+    all_hold(&mut runner, play.1)
+}
+
+/// The same of the small problem.
+fn plays_in_small(alloc: Global, play: &Play) -> bool {
+    let Some(problem) = small(alloc) else {
+        return false;
+    };
+    plays(alloc, &problem, play)
 }
 
 const CUT_AND_WALKED: [Row; 16] = [
@@ -276,96 +303,87 @@ const WALKED_TO_A_CUT: [Row; 6] = [
     }),
 ];
 
-/// After which choices a runner begins, what is asked of it, and what it has to tell.
-static PLAYS: [(&[u32], &[Row]); 5] = [
-    (&[], &CUT_AND_WALKED),
-    (&[4], &REST),
-    (&[], &JOINED_AGAIN),
-    (&[], &WALKED),
-    (&[], &WALKED_TO_A_CUT),
+static PLAYS: [Play; 5] = [
+    Play(&[], &CUT_AND_WALKED),
+    Play(&[4], &REST),
+    Play(&[], &JOINED_AGAIN),
+    Play(&[], &WALKED),
+    Play(&[], &WALKED_TO_A_CUT),
 ];
 
-/// Tells a runner that tells something else.
-fn assert_plays(rt: &impl Abort, alloc: Global, problem: &Problem) -> Result<(), Fail> {
-    for (first, rows) in PLAYS {
-        assert!(rt; plays(alloc, problem, first, rows)?);
-    }
-    Ok(())
-}
-
 #[test]
-fn a_runner_tells_what_it_has_to(rt: HostRuntime) -> Result<(), Fail> {
-    let problem = small(rt.alloc())?;
-    assert_plays(&rt, rt.alloc(), &problem)
+fn a_runner_tells_what_it_has_to(rt: HostRuntime) {
+    for play in &PLAYS {
+        assert!(rt; plays_in_small(rt.alloc(), play));
+    }
 }
 
 /// The stretch of a runner's next so many steps.
-fn stretch_of<'p, T: Table>(runner: &mut Runner<'p, T>, steps: u32) -> Result<Stretch<'p>, Fail> {
+fn stretch_of<'p, T: Table>(runner: &mut Runner<'p, T>, steps: u32) -> Option<Stretch<'p>> {
     advances(runner, steps);
-    Ok(runner.take_stretch()?)
+    match runner.take_stretch() {
+        Ok(stretch) => Some(stretch),
+        Err(_) => None,
+    }
 }
 
 /// The stretch from X1 up to the cut 4.
-fn first_stretch<'p>(alloc: Global, problem: &'p Problem) -> Result<Stretch<'p>, Fail> {
-    let mut runner = whole(alloc, problem)?;
-    stretch_of(&mut runner, 20)
-}
-
-/// Why the first stretch isn't joined to a runner's, if it isn't.
-fn join_refused<'p, T: Table>(
-    alloc: Global,
-    problem: &'p Problem,
-    runner: &mut Runner<'p, T>,
-) -> Result<Option<RunnerFault>, Fail> {
-    let stretch = first_stretch(alloc, problem)?;
-    Ok(refusal(runner.reopen(stretch)))
-}
-
-/// The same after so many steps of the runner, of which the stretch is taken out or is left.
-fn join_refused_after<'p, T: Table>(
-    alloc: Global,
-    problem: &'p Problem,
-    runner: &mut Runner<'p, T>,
-    steps: u32,
-    takes: bool,
-) -> Result<Option<RunnerFault>, Fail> {
-    if takes {
-        let _taken = stretch_of(runner, steps)?;
-    } else {
-        advances(runner, steps);
+fn first_stretch<'p>(alloc: Global, problem: &'p Problem) -> Option<Stretch<'p>> {
+    match whole(alloc, problem) {
+        Some(mut runner) => stretch_of(&mut runner, 20),
+        None => None,
     }
-    join_refused(alloc, problem, runner)
 }
 
-/// The same of a runner from the cut 4 on.
-fn first_refused(
+/// Whether the first stretch isn't joined to a runner's, for this reason.
+fn is_join_refused<'p, T: Table>(
     alloc: Global,
-    problem: &Problem,
-    steps: u32,
-    takes: bool,
-) -> Result<Option<RunnerFault>, Fail> {
-    let mut runner = runner_of::<PlainTable>(alloc, problem, &[4], &[])?;
-    join_refused_after(alloc, problem, &mut runner, steps, takes)
+    problem: &'p Problem,
+    runner: &mut Runner<'p, T>,
+    fault: RunnerFault,
+) -> bool {
+    let Some(stretch) = first_stretch(alloc, problem) else {
+        return false;
+    };
+    refusal(runner.reopen(stretch)) == Some(fault)
 }
 
+/// Takes so many steps, and takes the stretch out or leaves it; false where it can't.
+fn goes<T: Table>(runner: &mut Runner<'_, T>, steps: u32, takes: bool) -> bool {
+    if takes {
+        return stretch_of(runner, steps).is_some();
+    }
+    advances(runner, steps)
+}
+
+/// How many steps a runner takes, whether the stretch is taken out, and why the first stretch isn't joined to it then.
 static FIRST_REFUSED: [(u32, bool, RunnerFault); 3] = [
     (0, true, RunnerFault::OutsideBranch),
     (23, true, RunnerFault::NotAtMark),
     (5, false, RunnerFault::NotAtMark),
 ];
 
-/// Tells a join that isn't refused so.
-fn assert_refused(rt: &impl Abort, alloc: Global, problem: &Problem) -> Result<(), Fail> {
-    for (steps, takes, fault) in FIRST_REFUSED {
-        assert!(rt; first_refused(alloc, problem, steps, takes)? == Some(fault));
-    }
-    Ok(())
+/// Whether this is so of a runner from the cut 4 on.
+fn is_first_refused(alloc: Global, problem: &Problem, row: &(u32, bool, RunnerFault)) -> bool {
+    let Some(mut runner) = runner_of::<PlainTable>(alloc, problem, &[4], &[]) else {
+        return false;
+    };
+    goes(&mut runner, row.0, row.1) && is_join_refused(alloc, problem, &mut runner, row.2)
+}
+
+/// The same of the small problem.
+fn is_refused_in_small(alloc: Global, row: &(u32, bool, RunnerFault)) -> bool {
+    let Some(problem) = small(alloc) else {
+        return false;
+    };
+    is_first_refused(alloc, &problem, row)
 }
 
 #[test]
-fn a_stretch_from_before_the_branch_is_refused(rt: HostRuntime) -> Result<(), Fail> {
-    let problem = small(rt.alloc())?;
-    assert_refused(&rt, rt.alloc(), &problem)
+fn a_stretch_from_before_the_branch_is_refused(rt: HostRuntime) {
+    for row in &FIRST_REFUSED {
+        assert!(rt; is_refused_in_small(rt.alloc(), row));
+    }
 }
 
 /// Whether a stretch of a problem begins and ends at a state and has nothing in it.
@@ -379,34 +397,38 @@ fn is_no_step(stretch: &Stretch<'_>, problem: &Problem, state: &State) -> bool {
 }
 
 /// The same of its copy.
-fn is_copied_no_step(
-    stretch: &Stretch<'_>,
-    problem: &Problem,
-    state: &State,
-) -> Result<bool, Fail> {
-    let copy = stretch.copy()?;
-    Ok(is_no_step(&copy, problem, state))
+fn is_copied_no_step(stretch: &Stretch<'_>, problem: &Problem, state: &State) -> bool {
+    let Ok(copy) = stretch.copy() else {
+        return false;
+    };
+    is_no_step(&copy, problem, state)
 }
 
 /// Whether the stretch that a runner of a problem at its mark hands out, copied, begins and ends there and has nothing in it.
-fn hands_out_none<T: Table>(runner: &mut Runner<'_, T>, problem: &Problem) -> Result<bool, Fail> {
-    let stretch = runner.take_stretch()?;
-    is_copied_no_step(&stretch, problem, runner.state())
+fn hands_out_none<T: Table>(runner: &mut Runner<'_, T>, problem: &Problem) -> bool {
+    match runner.take_stretch() {
+        Ok(stretch) => is_copied_no_step(&stretch, problem, runner.state()),
+        Err(_) => false,
+    }
 }
 
 /// The same of a new runner.
-fn hands_out_no_step(alloc: Global, problem: &Problem) -> Result<bool, Fail> {
-    let mut runner = whole(alloc, problem)?;
-    hands_out_none(&mut runner, problem)
+fn hands_out_no_step(alloc: Global, problem: &Problem) -> bool {
+    match whole(alloc, problem) {
+        Some(mut runner) => hands_out_none(&mut runner, problem),
+        None => false,
+    }
 }
 
-fn assert_no_step(rt: &impl Abort, alloc: Global, problem: &Problem) -> Result<(), Fail> {
-    assert!(rt; hands_out_no_step(alloc, problem)?);
-    Ok(())
+/// The same of the small problem.
+fn hands_out_no_small_step(alloc: Global) -> bool {
+    let Some(problem) = small(alloc) else {
+        return false;
+    };
+    hands_out_no_step(alloc, &problem)
 }
 
 #[test]
-fn a_runner_at_its_mark_hands_out_no_step(rt: HostRuntime) -> Result<(), Fail> {
-    let problem = small(rt.alloc())?;
-    assert_no_step(&rt, rt.alloc(), &problem)
+fn a_runner_at_its_mark_hands_out_no_step(rt: HostRuntime) {
+    assert!(rt; hands_out_no_small_step(rt.alloc()));
 }

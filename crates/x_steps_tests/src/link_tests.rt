@@ -6,9 +6,7 @@ use cover_links::{Block, Entry, LinkTable, Offset};
 use cover_problem::{Problem, Table, read_cover};
 use drawn_problems::SMALL;
 use linked_list_allocator::LocalHeap;
-use std::alloc::{AllocError, Allocator, Global};
-use std::process::Abort;
-use std::test::Fail;
+use std::alloc::{Allocator, Global};
 use x_steps::{Label, Machine};
 
 /// The entries 1 to 30: an item's length, a node's item, or a spacer's option negated, and the links up and down.
@@ -106,52 +104,39 @@ fn last_but_one(table: &LinkTable, item: u32) -> Option<u32>
     table.prev_option(item, table.last_option(item)?)
 }
 
-/// Tells a table of nodes that isn't the small problem's.
-pub fn assert_small_block(rt: &impl Abort, table: &LinkTable) {
-    assert!(rt; table.entries() == 31);
-    assert!(rt; is_small_block(table));
+/// Whether a table of nodes is the small problem's.
+pub fn is_small_table(table: &LinkTable) -> bool {
+    table.entries() == 31 && is_small_block(table)
 }
 
-/// The same of a new table.
-fn assert_new_block(rt: &impl Abort, alloc: Global, problem: &Problem) -> Result<(), Fail> {
-    let table = LinkTable::new(alloc, problem)?;
-    assert_small_block(rt, &table);
-    Ok(())
+/// Whether a new table is.
+fn is_new_table(alloc: Global, problem: &Problem) -> bool {
+    let Ok(table) = LinkTable::new(alloc, problem) else {
+        return false;
+    };
+    is_small_table(&table)
 }
 
-#[test]
-fn the_small_problem_has_its_table_of_nodes(rt: HostRuntime) -> Result<(), Fail> {
-    let problem = read_cover(rt.alloc(), SMALL.as_bytes())?;
-    assert_new_block(&rt, rt.alloc(), &problem)
-}
-
-/// Tells a table of nodes that isn't the small problem's again once three items were covered and uncovered, or is so in between.
-fn assert_goes_back(rt: &impl Abort, table: &mut LinkTable)
+/// Whether a table of nodes is the small problem's again once three items were covered and uncovered, and another one in between.
+fn goes_back(table: &mut LinkTable) -> bool
     requires size { size_of table.old.problem ≡ 31 }
     requires items { length table.old.problem.names ≡ 7 }
     requires none { table.old.covered ≡ [] }
 {
     cover_three(table, 1, 4, 7);
-    assert!(rt; !is_small_block(table));
+    let is_other = !is_small_block(table);
     uncover_three(table, 1, 4, 7);
-    assert!(rt; is_small_block(table));
+    is_other && is_small_block(table)
 }
 
 /// The same of a new table of a problem with seven items.
-fn assert_new_goes_back(rt: &impl Abort, alloc: Global, problem: &Problem) -> Result<(), Fail>
+fn goes_back_anew(alloc: Global, problem: &Problem) -> bool
     requires { length problem.now.names ≡ 7 }
 {
-    let mut table = LinkTable::new(alloc, problem)?;
-    assert!(rt; table.entries() == 31);
-    assert_goes_back(rt, &mut table);
-    Ok(())
-}
-
-#[test]
-fn uncovering_gives_the_table_of_nodes_back(rt: HostRuntime) -> Result<(), Fail> {
-    let problem = read_cover(rt.alloc(), SMALL.as_bytes())?;
-    assert!(rt; problem.items() == 7);
-    assert_new_goes_back(&rt, rt.alloc(), &problem)
+    let Ok(mut table) = LinkTable::new(alloc, problem) else {
+        return false;
+    };
+    table.entries() == 31 && goes_back(&mut table)
 }
 
 /// How many steps a machine takes to its end.
@@ -166,67 +151,105 @@ fn count_steps<T: Table>(machine: &mut Machine<'_, T>) -> u32 {
     steps
 }
 
-/// Tells a walk to the end that doesn't begin and end with the small problem's table of nodes.
-fn assert_walked(rt: &impl Abort, machine: &mut Machine<'_, LinkTable>) {
-    assert_small_block(rt, machine.table());
-    assert!(rt; count_steps(machine) == 43);
-    assert!(rt; machine.state().label == Label::Done);
-    assert_small_block(rt, machine.table());
+/// Whether a walk to the end begins and ends with the small problem's table of nodes.
+fn walks(machine: &mut Machine<'_, LinkTable>) -> bool {
+    let is_begun = is_small_table(machine.table());
+    let steps = count_steps(machine);
+    let is_over = machine.state().label == Label::Done;
+    is_begun && steps == 43 && is_over && is_small_table(machine.table())
 }
 
 /// The same of a new machine.
-fn assert_walks(rt: &impl Abort, alloc: Global, problem: &Problem) -> Result<(), Fail> {
-    let table = LinkTable::new(alloc, problem)?;
+fn walks_anew(alloc: Global, problem: &Problem) -> bool {
+    let Ok(table) = LinkTable::new(alloc, problem) else {
+        return false;
+    };
     match Machine::new(alloc, problem, table) {
-        Ok(mut machine) => {
-            assert_walked(rt, &mut machine);
-            Ok(())
-        }
-        Err(_) => Err(Fail::from("no machine")),
+        Ok(mut machine) => walks(&mut machine),
+        Err(_) => false,
     }
 }
 
-#[test]
-fn the_end_of_a_run_has_the_table_of_nodes_again(rt: HostRuntime) -> Result<(), Fail> {
-    let problem = read_cover(rt.alloc(), SMALL.as_bytes())?;
-    assert_walks(&rt, rt.alloc(), &problem)
-}
-
-/// Tells what isn't left once the items 1, 4 and 7 are covered.
-fn assert_left(rt: &impl Abort, table: &LinkTable)
+/// Whether what is left once the items 1, 4 and 7 are covered is right. The lists of covered items stay as they were.
+fn is_left(table: &LinkTable) -> bool
     requires { length table.now.problem.names ≡ 7 }
 {
-    assert!(rt; table.covered() == [1, 4, 7].as_slice());
-    assert!(rt; table.first_item() == Some(2));
-    assert!(rt; second_item(table) == Some(3));
-    assert!(rt; table.len(2) == 1);
-    assert!(rt; table.first_option(3) == Some(1));
-    assert!(rt; second_option(table, 3) == Some(3));
-    assert!(rt; second_option(table, 2) == None);
-    assert!(rt; table.last_option(3) == Some(3));
-    assert!(rt; last_but_one(table, 3) == Some(1));
-    assert!(rt; last_but_one(table, 2) == None);
-    // The lists of covered items stay as they were.
-    assert!(rt; table.len(1) == 2);
-    assert!(rt; table.first_option(4) == Some(6));
-    assert!(rt; table.len(4) == 1);
+    let items = [table.first_item(), second_item(table)];
+    let first = [table.first_option(3), table.first_option(4)];
+    let second = [second_option(table, 3), second_option(table, 2)];
+    let last = [
+        table.last_option(3),
+        last_but_one(table, 3),
+        last_but_one(table, 2),
+    ];
+    let lengths = [table.len(2), table.len(1), table.len(4)];
+    items == [Some(2), Some(3)]
+        && first == [Some(1), Some(6)]
+        && second == [Some(3), None]
+        && last == [Some(3), Some(1), None]
+        && lengths == [1, 2, 1]
+        && table.covered() == [1, 4, 7].as_slice()
 }
 
 /// The same of a new table of a problem with seven items.
-fn assert_left_of(rt: &impl Abort, alloc: Global, problem: &Problem) -> Result<(), Fail>
+fn is_left_anew(alloc: Global, problem: &Problem) -> bool
     requires { length problem.now.names ≡ 7 }
 {
-    let mut table = LinkTable::new(alloc, problem)?;
+    let Ok(mut table) = LinkTable::new(alloc, problem) else {
+        return false;
+    };
     cover_three(&mut table, 1, 4, 7);
-    assert_left(rt, &table);
-    Ok(())
+    is_left(&table)
+}
+
+/// What is asked of the small problem's table of nodes.
+#[derive(Clone, Copy)]
+enum Asked {
+    Nodes,
+    GoesBack,
+    Walks,
+    Left,
+}
+
+/// Whether a problem has seven items, and its table of nodes is in this as the small one's.
+fn is_in(alloc: Global, problem: &Problem, asked: Asked) -> bool {
+    if problem.items() != 7 {
+        return false;
+    }
+    match asked {
+        Asked::Nodes => is_new_table(alloc, problem),
+        Asked::GoesBack => goes_back_anew(alloc, problem),
+        Asked::Walks => walks_anew(alloc, problem),
+        Asked::Left => is_left_anew(alloc, problem),
+    }
+}
+
+/// The same of the small problem.
+fn is_small_in(alloc: Global, asked: Asked) -> bool {
+    let Ok(problem) = read_cover(alloc, SMALL.as_bytes()) else {
+        return false;
+    };
+    is_in(alloc, &problem, asked)
 }
 
 #[test]
-fn what_is_left_once_a_d_and_g_are_covered(rt: HostRuntime) -> Result<(), Fail> {
-    let problem = read_cover(rt.alloc(), SMALL.as_bytes())?;
-    assert!(rt; problem.items() == 7);
-    assert_left_of(&rt, rt.alloc(), &problem)
+fn the_small_problem_has_its_table_of_nodes(rt: HostRuntime) {
+    assert!(rt; is_small_in(rt.alloc(), Asked::Nodes));
+}
+
+#[test]
+fn uncovering_gives_the_table_of_nodes_back(rt: HostRuntime) {
+    assert!(rt; is_small_in(rt.alloc(), Asked::GoesBack));
+}
+
+#[test]
+fn the_end_of_a_run_has_the_table_of_nodes_again(rt: HostRuntime) {
+    assert!(rt; is_small_in(rt.alloc(), Asked::Walks));
+}
+
+#[test]
+fn what_is_left_once_a_d_and_g_are_covered(rt: HostRuntime) {
+    assert!(rt; is_small_in(rt.alloc(), Asked::Left));
 }
 
 /// More than any of these blocks has entries, and no more than an offset counts.
@@ -260,28 +283,36 @@ fn write_each<A: Allocator>(block: &mut Block<A>, len: u32)
 }
 
 /// Whether a block takes its memory of the heap, holds what is written, and gives all back when it is dropped.
-fn is_given_back(heap: &LocalHeap, len: u32) -> Result<bool, AllocError> {
-    let mut block = Block::make(heap, len as usize, Entry::blank())?;
+fn is_given_back(heap: &LocalHeap, len: u32) -> bool {
+    let Ok(mut block) = Block::make(heap, len as usize, Entry::blank()) else {
+        return false;
+    };
     let taken = heap.used();
     let is_used = is_used(&mut block, len);
     let held = heap.used();
     drop(block);
-    Ok(is_used && taken / 16 >= len as usize && held == taken && heap.used() == 0)
+    is_used && taken / 16 >= len as usize && held == taken && heap.used() == 0
+}
+
+/// Whether blocks of these lengths do, one after the other, in a heap of so many bytes.
+fn are_given_back(alloc: Global, bytes: usize, lens: &[u32]) -> bool {
+    let Ok(heap) = LocalHeap::new(alloc, bytes) else {
+        return false;
+    };
+    for len in lens {
+        if !is_given_back(&heap, *len) {
+            return false;
+        }
+    }
+    true
 }
 
 #[test]
-fn a_block_goes_back_to_its_heap(rt: HostRuntime) -> Result<(), Fail> {
-    let heap = LocalHeap::new(rt.alloc(), 2_000_000)?;
-    assert!(rt; is_given_back(&heap, 1)?);
-    assert!(rt; is_given_back(&heap, 31)?);
-    assert!(rt; is_given_back(&heap, 60_000)?);
-    Ok(())
+fn a_block_goes_back_to_its_heap(rt: HostRuntime) {
+    assert!(rt; are_given_back(rt.alloc(), 2_000_000, &[1, 31, 60_000]));
 }
 
 #[test]
-fn a_block_of_a_million_entries_goes_back_to_its_heap(rt: HostRuntime) -> Result<(), Fail> {
-    let heap = LocalHeap::new(rt.alloc(), 20_000_000)?;
-    assert!(rt; is_given_back(&heap, 1_100_000)?);
-    assert!(rt; is_given_back(&heap, 1_100_000)?);
-    Ok(())
+fn a_block_of_a_million_entries_goes_back_to_its_heap(rt: HostRuntime) {
+    assert!(rt; are_given_back(rt.alloc(), 20_000_000, &[1_100_000, 1_100_000]));
 }

@@ -5,13 +5,12 @@
 ghost use Rattle.std.specs.Prelude.{◌≡◌, ◌≤◌, ◌+◌, [], length, replicate, IfSome};
 ghost use Rattle.cover_problem.specs.Problem.{size_of};
 
-use crate::link_tests::{assert_small_block, cover_three, is_small_block, uncover_three};
+use crate::link_tests::{cover_three, is_small_table, uncover_three};
 use cover_bits::BitTable;
 use cover_links::LinkTable;
 use cover_problem::{PlainTable, Problem, Table, read_cover};
 use drawn_problems::SMALL;
 use std::alloc::Global;
-use std::process::Abort;
 use std::test::Fail;
 use x_steps::{Event, Machine, Walk, no_counts};
 
@@ -136,26 +135,26 @@ fn table_again<T: Table>(alloc: Global, problem: &Problem, copy: &Problem) -> Op
     T::new(alloc, problem).ok()
 }
 
-/// Tells a table that isn't the small problem's, and one that isn't made.
-fn assert_made(rt: &impl Abort, table: Option<LinkTable>) {
-    assert!(rt; table.is_some());
-    if let Some(table) = table {
-        assert_small_block(rt, &table);
+/// Whether the table of the small problem is made, on a second try where the first is refused.
+fn are_links_made(alloc: Global, problem: &Problem, copy: &Problem) -> bool {
+    match table_again(alloc, problem, copy) {
+        Some(table) => is_small_table(&table),
+        None => false,
     }
 }
 
-/// Tells what is wrong with the small problem's table, on a second try where the first is refused.
-fn assert_made_again(rt: &impl Abort, alloc: Global, problem: &Problem) -> Result<(), Fail> {
+/// The same, with one growth before it is made.
+fn are_links_made_again(alloc: Global, problem: &Problem) -> Result<bool, Fail> {
     let copy = problem.copy()?;
     grows(alloc, "refused before the call")?;
-    assert_made(rt, table_again(alloc, problem, &copy));
-    Ok(())
+    Ok(are_links_made(alloc, problem, &copy))
 }
 
 #[test]
 fn a_refused_table_is_made_again(rt: HostRuntime) -> Result<(), Fail> {
     let problem = read_cover(rt.alloc(), SMALL.as_bytes())?;
-    assert_made_again(&rt, rt.alloc(), &problem)
+    assert!(rt; are_links_made_again(rt.alloc(), &problem)?);
+    Ok(())
 }
 
 /// How many options the items a to g of the small problem have. (TAOCP volume 4B, section 7.2.2.1, table 1.)
@@ -202,7 +201,7 @@ fn a_refused_table_of_bits_is_made_again(rt: HostRuntime) -> Result<(), Fail> {
 
 /// Whether a table is that of the small problem, with nothing covered.
 fn is_unused(table: &LinkTable) -> bool {
-    table.entries() == 31 && is_small_block(table) && table.covered().is_empty()
+    is_small_table(table) && table.covered().is_empty()
 }
 
 /// The machine over a table, from the table that comes back where the first try is refused. None where the second is, too, and where

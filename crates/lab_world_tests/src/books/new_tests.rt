@@ -1,7 +1,7 @@
 //! Books of the whole run: what each call answers.
 
 use crate::books::acts::{Act, OTHER};
-use crate::books::finishing::{Done, finishes};
+use crate::books::finish::{Done, finishes};
 use cover_problem::{Problem, read_cover};
 use drawn_problems::SMALL;
 use lab_book::Book;

@@ -1,7 +1,7 @@
 //! Books that go on from a state in a branch, and where none does.
 
 use crate::books::acts::Act;
-use crate::books::finishing::{Done, finishes};
+use crate::books::finish::{Done, finishes};
 use cover_problem::{Problem, read_cover};
 use drawn_books::cut_of;
 use drawn_problems::{SMALL, state_of};

@@ -10,7 +10,6 @@ use lab_pool::{Gate, GateCall};
 use std::alloc::Global;
 use std::sync::Wait;
 use std::sync::atomic::{AtomicBool, AtomicU64, Ordering};
-use std::test::Fail;
 use std::thread;
 use std::thread::Threads;
 
@@ -68,10 +67,10 @@ impl Gate for UntilAllCame {
 }
 
 /// Whether a book is the small problem's, finished.
-fn is_small_done(book: &Option<Book<'_>>) -> Result<bool, Fail> {
+fn is_small_done(book: &Option<Book<'_>>) -> bool {
     match book {
         Some(book) => is_done(book, 43),
-        None => Ok(false),
+        None => false,
     }
 }
 
@@ -81,30 +80,26 @@ fn come_to_lease<R: Threads + Wait + Sync>(
     alloc: Global,
     problem: &Problem,
     workers: u32,
-) -> Result<bool, Fail> {
+) -> bool {
     let gate = UntilAllCame::new(workers);
     let book = finished_under::<BitTable, R, _>(rt, alloc, problem, workers, &gate);
-    Ok(gate.is_right() && is_small_done(&book)?)
+    gate.is_right() && is_small_done(&book)
 }
 
 /// The same of the small problem, which is read here.
-fn come_to_lease_there<R: Threads + Wait + Sync>(
-    rt: &R,
-    alloc: Global,
-    workers: u32,
-) -> Result<bool, Fail> {
-    let problem = read_cover(alloc, SMALL.as_bytes())?;
+fn come_to_lease_there<R: Threads + Wait + Sync>(rt: &R, alloc: Global, workers: u32) -> bool {
+    let Ok(problem) = read_cover(alloc, SMALL.as_bytes()) else {
+        return false;
+    };
     come_to_lease(rt, alloc, &problem, workers)
 }
 
 #[test]
-fn four_workers_lease(rt: HostRuntime) -> Result<(), Fail> {
-    assert!(rt; come_to_lease_there(&rt, rt.alloc(), 4)?);
-    Ok(())
+fn four_workers_lease(rt: HostRuntime) {
+    assert!(rt; come_to_lease_there(&rt, rt.alloc(), 4));
 }
 
 #[test]
-fn thirty_two_workers_lease(rt: HostRuntime) -> Result<(), Fail> {
-    assert!(rt; come_to_lease_there(&rt, rt.alloc(), 32)?);
-    Ok(())
+fn thirty_two_workers_lease(rt: HostRuntime) {
+    assert!(rt; come_to_lease_there(&rt, rt.alloc(), 32));
 }

@@ -1,4 +1,5 @@
 //! Texts that several tests read.
+use cover_problem::{Problem, read_cover};
 use std::alloc::{AllocError, Global};
 
 /// The small problem.
@@ -13,4 +14,12 @@ pub fn many_options(alloc: Global, count: u32) -> Result<Vec<u8>, AllocError> {
         text.extend_from_slice(b"option a\n")?;
     }
     Ok(text)
+}
+
+/// Whether a text is read as this problem.
+pub fn is_read(alloc: Global, problem: &Problem, text: &[u8]) -> bool {
+    let Ok(read) = read_cover(alloc, text) else {
+        return false;
+    };
+    problem.same(&read)
 }

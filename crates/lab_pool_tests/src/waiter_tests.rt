@@ -1,13 +1,12 @@
 //! A seat that waits for a tile while the other one parks or abandons the only one.
 
 use crate::desks::{Way, Work, at_desk};
-use crate::waiting::End;
+use crate::waiter::End;
 use cover_problem::{Problem, read_cover};
 use drawn_problems::SMALL;
 use lab_book::{Book, Status};
 use std::alloc::Global;
 use std::sync::Wait;
-use std::test::Fail;
 use std::thread::Threads;
 
 /// Whether a book has one tile, which stands so, and so many entries.
@@ -26,12 +25,14 @@ fn is_woken<R: Threads + Wait + Sync>(
     problem: &Problem,
     end: End,
     status: Status,
-) -> Result<bool, Fail> {
-    let book = Book::new(alloc, problem)?;
+) -> bool {
+    let Ok(book) = Book::new(alloc, problem) else {
+        return false;
+    };
     let given = status == Status::Waiting;
     match at_desk(rt, alloc, book, Work::Wait { end, given }, Way::All) {
-        Some(book) => Ok(is_left(&book, status, 4)),
-        None => Ok(false),
+        Some(book) => is_left(&book, status, 4),
+        None => false,
     }
 }
 
@@ -41,25 +42,24 @@ fn is_woken_there<R: Threads + Wait + Sync>(
     alloc: Global,
     end: End,
     status: Status,
-) -> Result<bool, Fail> {
-    let problem = read_cover(alloc, SMALL.as_bytes())?;
+) -> bool {
+    let Ok(problem) = read_cover(alloc, SMALL.as_bytes()) else {
+        return false;
+    };
     is_woken(rt, alloc, &problem, end, status)
 }
 
 #[test]
-fn a_parked_tile_is_leased_by_who_waits(rt: HostRuntime) -> Result<(), Fail> {
-    assert!(rt; is_woken_there(&rt, rt.alloc(), End::Park, Status::Waiting)?);
-    Ok(())
+fn a_parked_tile_is_leased_by_who_waits(rt: HostRuntime) {
+    assert!(rt; is_woken_there(&rt, rt.alloc(), End::Park, Status::Waiting));
 }
 
 #[test]
-fn who_waits_is_told_that_the_only_tile_is_held(rt: HostRuntime) -> Result<(), Fail> {
-    assert!(rt; is_woken_there(&rt, rt.alloc(), End::Stop, Status::Held)?);
-    Ok(())
+fn who_waits_is_told_that_the_only_tile_is_held(rt: HostRuntime) {
+    assert!(rt; is_woken_there(&rt, rt.alloc(), End::Stop, Status::Held));
 }
 
 #[test]
-fn an_abandoned_tile_is_leased_by_who_waits(rt: HostRuntime) -> Result<(), Fail> {
-    assert!(rt; is_woken_there(&rt, rt.alloc(), End::Abandon, Status::Waiting)?);
-    Ok(())
+fn an_abandoned_tile_is_leased_by_who_waits(rt: HostRuntime) {
+    assert!(rt; is_woken_there(&rt, rt.alloc(), End::Abandon, Status::Waiting));
 }

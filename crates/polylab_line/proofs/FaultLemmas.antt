@@ -7,7 +7,7 @@ use Rattle.polylab_engine.specs.declared.job.Job.TheVariants as jobs
 use Rattle.polylab_engine.specs.declared.job.CoverJob.TheVariants as cover_jobs
 use Rattle.polylab_engine.specs.declared.job.PuzzleJob.TheVariants as puzzle_jobs
 use Rattle.polylab_engine.specs.Jobs.{takes_commands}
-use Rattle.polylab_engine.specs.Refusing.{TellsWant, pool_faults}
+use Rattle.polylab_engine.specs.Refusals.{TellsWant, pool_faults}
 
 module _ (May Allowed : PoolFault → Type 0) where
   some_faults : (job : Job) → (takes_commands job ≡ false → (f : PoolFault) → May f → Allowed f) → (f : PoolFault)

@@ -3,7 +3,7 @@ use Rattle.std.specs.Prelude.{ℕ, ◌≡◌, string_bytes, Result, IfErr}
 use Rattle.byte_streams.specs.Stream.{Stream, Stays, Takes}
 use Rattle.lab_pool.specs.declared.fault.PoolFault.{PoolFault}
 use Rattle.polylab_engine.specs.Outcome.{no_memory}
-use Rattle.debug_script.specs.Refusing.{MayRefuse}
+use Rattle.debug_script.specs.Refusals.{MayRefuse}
 use Rattle.polylab_line.specs.declared.line.LineFault.{LineFault}
 use Rattle.polylab_line.specs.declared.line.LineFault.TheVariants.{Help, Usage, OutOfMemory}
 

@@ -2,7 +2,7 @@
 ghost use Rattle.std.specs.Prelude.{[], ◌∷◌, IfOk, IfErr, Contains, ◌≡◌};
 ghost use Rattle.byte_streams.specs.Stream.{Takes};
 ghost use Rattle.polylab_engine.specs.Ending.{IsProgramRun};
-ghost use Rattle.polylab_engine.specs.Refusing.{TellsAtFour, pool_faults};
+ghost use Rattle.polylab_engine.specs.Refusals.{TellsAtFour, pool_faults};
 ghost use Rattle.polylab_line.specs.Line.{TellsNoJob, TellsWhy, search_faults, status_of};
 
 use crate::line::{LineFault, Request};
@@ -43,8 +43,9 @@ pub fn status<R: Threads + Wait + Sync, G: Gate, I: Source, O: Sink, F: Sink>(
     faults: &mut F,
 ) -> u8
     ensures known { Contains (0 ∷ 2 ∷ 3 ∷ 4 ∷ 5 ∷ []) result }
-    ensures ran { IfOk request (λ asked. IsProgramRun asked.job (I.stream reader.old) (I.stream reader.new)
-        (O.stream writer.old) (O.stream writer.new) (F.stream faults.old) (F.stream faults.new) result) }
+    ensures ran { IfOk request (λ asked. IsProgramRun asked.job
+        (I.stream reader.old) (I.stream reader.new) (O.stream writer.old) (O.stream writer.new)
+        (F.stream faults.old) (F.stream faults.new) result) }
     ensures why { IfOk request (λ asked. TellsAtFour result F.stream
         (pool_faults asked.job (search_faults asked.workers)) faults.old faults.new) }
     ensures refused { IfErr request (λ fault. result ≡ status_of fault) }

@@ -53,11 +53,22 @@ fn job<'a>(alloc: Global, told: &JobHelp) -> Command<'a> {
         .after_help(told.text)
 }
 
+/// An option of this name, with a value that help calls so.
+fn option<'a>(alloc: Global, name: &'static str, value: &'static str) -> Arg<'a> {
+    Arg::new(alloc, name).long(name).value_name(value)
+}
+
+/// A word that is there or not.
+fn flag<'a>(alloc: Global, name: &'static str, help: &'static str) -> Arg<'a> {
+    Arg::new(alloc, name)
+        .long(name)
+        .action(ArgAction::SetTrue)
+        .help(help)
+}
+
 /// The option that says how many workers search.
 fn workers<'a>(alloc: Global) -> Arg<'a> {
-    Arg::new(alloc, "workers")
-        .long("workers")
-        .value_name("N")
+    option(alloc, "workers", "N")
         .value_parser(value_parser!(u32).range(1..=32))
         // So the search always gets a number, said or not.
         .default_value("1")
@@ -66,68 +77,30 @@ fn workers<'a>(alloc: Global) -> Arg<'a> {
 
 /// The option that says which table the search has.
 fn table<'a>(alloc: Global) -> Arg<'a> {
-    Arg::new(alloc, "table")
-        .long("table")
-        .value_name("TABLE")
+    option(alloc, "table", "TABLE")
         .value_parser(help::TABLES)
         .help(help::TABLE)
 }
 
 /// The option that says how many are asked for.
 fn first<'a>(alloc: Global) -> Arg<'a> {
-    Arg::new(alloc, "first")
-        .long("first")
-        .value_name("N")
+    option(alloc, "first", "N")
         // The first none would be found without a search.
         .value_parser(value_parser!(u64).range(1..))
         .help(help::FIRST)
 }
 
-/// The word that asks for classes.
-fn classes<'a>(alloc: Global) -> Arg<'a> {
-    Arg::new(alloc, "classes")
-        .long("classes")
-        .action(ArgAction::SetTrue)
-        .help(help::CLASSES)
-}
-
-/// The word that asks for a cover text's problem.
-fn of_cover<'a>(alloc: Global) -> Arg<'a> {
-    Arg::new(alloc, "cover")
-        .long("cover")
-        .action(ArgAction::SetTrue)
-        .help(help::OF_COVER)
-}
-
 /// The option that says how many steps are taken at most.
 fn steps<'a>(alloc: Global) -> Arg<'a> {
-    Arg::new(alloc, "steps")
-        .long("steps")
-        .value_name("N")
+    option(alloc, "steps", "N")
         // No steps would be the same snapshot again.
         .value_parser(value_parser!(u64).range(1..))
         .help(help::STEPS)
 }
 
-/// The word that asks for the visits.
-fn list<'a>(alloc: Global) -> Arg<'a> {
-    Arg::new(alloc, "list")
-        .long("list")
-        .action(ArgAction::SetTrue)
-        .help(help::LIST)
-}
-
-/// The job `cover`.
-fn cover<'a>(alloc: Global) -> Result<Command<'a>, AllocError> {
-    job(alloc, &help::COVER)
-        .arg(workers(alloc))?
-        .arg(first(alloc))?
-        .arg(table(alloc))
-}
-
-/// The job `solve`.
-fn solve<'a>(alloc: Global) -> Result<Command<'a>, AllocError> {
-    job(alloc, &help::SOLVE)
+/// A job that lists all, or the first ones: `cover` or `solve`.
+fn listed<'a>(alloc: Global, told: &JobHelp) -> Result<Command<'a>, AllocError> {
+    job(alloc, told)
         .arg(workers(alloc))?
         .arg(first(alloc))?
         .arg(table(alloc))
@@ -138,7 +111,7 @@ fn count<'a>(alloc: Global) -> Result<Command<'a>, AllocError> {
     job(alloc, &help::COUNT)
         .arg(workers(alloc))?
         .arg(table(alloc))?
-        .arg(classes(alloc))
+        .arg(flag(alloc, "classes", help::CLASSES))
 }
 
 /// The job `resume`.
@@ -146,7 +119,7 @@ fn resume<'a>(alloc: Global) -> Result<Command<'a>, AllocError> {
     job(alloc, &help::RESUME)
         .arg(table(alloc))?
         .arg(steps(alloc))?
-        .arg(list(alloc))
+        .arg(flag(alloc, "list", help::LIST))
 }
 
 /// The command line that the program takes.
@@ -160,11 +133,11 @@ fn command<'a>(alloc: Global) -> Result<Command<'a>, AllocError> {
         .subcommand_required(true)
         // Without any word the answer is the help.
         .arg_required_else_help(true)
-        .subcommand(cover(alloc)?)?
-        .subcommand(solve(alloc)?)?
+        .subcommand(listed(alloc, &help::COVER)?)?
+        .subcommand(listed(alloc, &help::SOLVE)?)?
         .subcommand(count(alloc)?)?
         .subcommand(job(alloc, &help::OPTIONS))?
-        .subcommand(job(alloc, &help::DEBUG).arg(of_cover(alloc))?)?
+        .subcommand(job(alloc, &help::DEBUG).arg(flag(alloc, "cover", help::OF_COVER))?)?
         .subcommand(resume(alloc)?)
 }
 

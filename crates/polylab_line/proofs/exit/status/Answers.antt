@@ -1,7 +1,7 @@
 use Rattle.std.proofs.Common.{◌∙◌, sym}
 use Rattle.std.proofs.lemmas.Bool.{false≢true}
-use Rattle.debug_script.specs.Refusing.{MayRefuse}
-use Rattle.polylab_engine.specs.Refusing.{NoPool}
+use Rattle.debug_script.specs.Refusals.{MayRefuse}
+use Rattle.polylab_engine.specs.Refusals.{NoPool}
 use Rattle.polylab_line.specs.Line.{search_faults}
 use Rattle.polylab_line.proofs.ExitLemmas.{run_known, fault_known}
 use Rattle.polylab_line.proofs.FaultLemmas.{told_so}

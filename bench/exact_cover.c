@@ -16,7 +16,7 @@
    - With -DOFFSETS the links of that ring are counted in bytes, so that no number is multiplied by the size of a node.
    - With -DBITS there are no links. The options that are left at a level are a set, kept as those words of it that are
      not 0; to take an option, all options that have one of its items are taken out of the set. The lengths of lists are
-     counted anew each time, so the processor should count bits: -march=x86-64-v2 where it is one of those. */
+     counted each time, so the processor should count bits: -march=x86-64-v2 where it is one of those. */
 
 #include <stdint.h>
 #include <stdio.h>

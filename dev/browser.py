@@ -75,7 +75,7 @@ class Browser:
 
     def open(self, address):
         """Loads a page, and waits until it is drawn."""
-        # (by way of another page, for one that differs in what comes after # alone isn't loaded anew)
+        # (by way of another page, for one that differs in what comes after # alone isn't loaded again)
         for it in ("about:blank", address):
             self.ask("Page.navigate", url=it)
             while self.told().get("method") != "Page.loadEventFired":

@@ -43,7 +43,7 @@ impl Model for Report {
 fn visits_of(alloc: Global, book: &Book<'_>, keeps: bool) -> Result<Lists, AllocError>
     ensures { IfOk result (λ paths. IsFinished book.now → paths ≡ book_visits keeps book.now) }
 {
-    // A book makes the list of its visits anew from its stretches: none where nobody reads it.
+    // A book makes the list of its visits from its stretches each time: none where nobody reads it.
     if keeps {
         book.visits()
     } else {

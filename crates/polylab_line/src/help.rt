@@ -73,7 +73,8 @@ pub(crate) const SOLVE: JobHelp = JobHelp {
 The text has a line for each piece, with its name (a letter or digit) and its
 cells, and lines that say the region: `box a b c`, `cells ..`, `cut ..`. A cell
 is three of 0-9 and a-v: its x, y and z. After `maybe` a piece may be left out,
-and cells may stay empty. A `#` begins a comment.
+and cells may stay empty. `copies` has equal pieces; after `any` a piece may be
+used any number of times, after `mirror` reflected. A `#` begins a comment.
 
 Example, saved as dominoes.puzzle:
   piece A 000 100
@@ -106,8 +107,8 @@ pub(crate) const COUNT: JobHelp = JobHelp {
     about: "Counts the packings of a puzzle.",
     text: "\
 It reads the text that `solve` reads, and prints the number of packings and of
-options (the placements of all pieces), the number of steps of Algorithm X, and
-how many paths of 0, 1, 2, .. choices the search met.
+options (the ways to lay a piece, and to leave out spare copies), the number of
+steps of Algorithm X, and how many paths of 0, 1, 2, .. choices the search met.
 
 Example: for two dominoes in the box 2 2 1
   packings 4
@@ -122,7 +123,7 @@ the pieces. All packings are then kept in memory until the end.
 
 With --workers N, N threads share the search; what is printed is the same. They
 keep what they posted until the end, about 1 GB for 10^10 steps; one worker
-keeps nothing. --table TABLE is as with `cover` (see `cover --help`).
+keeps nothing but that. --table TABLE is as with `cover` (see `cover --help`).
 
 Exit statuses: 0 done, 2 command line refused, 3 text refused, 4 no memory or
 workers not done, 5 reading or writing failed.",
@@ -143,7 +144,8 @@ pub(crate) const OPTIONS: JobHelp = JobHelp {
     about: "Writes the cover text whose exact covers are the packings of a puzzle.",
     text: "\
 It reads the text that `solve` reads, and writes a text that `cover` reads: the
-items are the pieces and the cells, the options are the placements.
+items are the pieces, the cells, and what keeps equal pieces in order; the
+options are the ways to lay a piece, and to leave out spare copies.
 
 Exit statuses: 0 done, 2 command line refused, 3 text refused, 4 no memory,
 5 reading or writing failed.",
@@ -158,7 +160,7 @@ It reads the text that `solve` reads (with --cover, the text that `cover` reads)
 up to a line `%%`, and then a command from each line:
   step [N]         N steps, 1 where N isn't given, to the branch's end at most
   run              steps up to the first breakpoint, or to the branch's end
-  back [N]         N steps back, to where the branch isn't posted at most
+  back [N]         N steps back, down to where it was posted last
   break level N    a breakpoint: a path of N choices
   break option N   ... an option that is about to be tried
   break item NAME  ... an item that was chosen

@@ -20,7 +20,7 @@ use Rattle.debug_acts.specs.Work.{AtWork, work}
 use Rattle.debug_acts.specs.Walk.{back_lines}
 use Rattle.debug_acts.specs.Acts.{end_acts}
 use Rattle.debug_acts.specs.Answer.{told_lines}
-use Rattle.debug_acts.specs.Ends.{close_line}
+use Rattle.debug_acts.specs.Ends.{close_line, after_park}
 
 -- the book of the whole run
 abbrev whole : BookValue
@@ -67,6 +67,9 @@ is_held = refl
 not_closed : line_text (close_line None) ≡ codes "refused book 8 NotAtEnd" ++ 10 ∷ []
 unfolding digits
 not_closed = refl
+
+parked : after_park leased (Some at_start.worker) ≡ book_step leased 0 (call.Park (record { id = 0; worker = 0; index = 0 }))
+parked = rw nothing_unposted refl
 
 -- ---- specs/Walk.antt
 

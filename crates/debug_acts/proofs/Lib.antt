@@ -12,4 +12,5 @@ pub mod CloseLemmas
 pub mod SoundLemmas
 pub mod LeadLemmas
 pub mod PartLemmas
+pub mod EndLemmas
 mod ActExamples

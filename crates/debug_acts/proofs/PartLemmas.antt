@@ -1,5 +1,5 @@
 -- What an act is answered that took its turn, and the line of the tile at a place.
-use Rattle.std.proofs.Common.{◌≡◌, ℕ, ◌≤◌, true, false, Option, Result, Ok, Err, List, [], ◌∷◌, ◌++◌, length, OnOk, refl, sym, ap, ◌∙◌, arith, nat_lt, ◌<◌, append-nil, ltb-true, ltb-false}
+use Rattle.std.proofs.Common.{◌≡◌, ℕ, true, false, Option, Result, Ok, Err, List, [], ◌∷◌, ◌++◌, length, OnOk, refl, sym, ap, ◌∙◌, arith, nat_lt, ◌<◌, append-nil, ltb-true, ltb-false}
 use Rattle.std.specs.List.{slice_get}
 use Rattle.std.proofs.lemmas.Option.{slice_get-get_or, slice_get_past}
 use Rattle.text_lines.specs.Writing.{text_of}

@@ -1,8 +1,10 @@
 //! A branch is given up: parked, saved, or closed.
-ghost use Rattle.std.specs.Prelude.{◌≡◌, OnOk, OnErr};
+ghost use Rattle.std.specs.Prelude.{◌≡◌, None, IfSome, OnOk, OnErr};
+ghost use Rattle.x_branches.specs.Runner.{IsRunner};
 ghost use Rattle.lab_world.specs.World.{IsSeat};
 ghost use Rattle.lab_world.specs.Alone.{Leads};
 ghost use Rattle.debug_acts.specs.Acts.{has_rest, rest_acts, DoesEnd, DoesPartOfEnd};
+ghost use Rattle.debug_acts.specs.Ends.{after_park, IsNotGiven};
 
 mod branch_end;
 mod snapshot;
@@ -13,6 +15,16 @@ use lab_book::Book;
 use lab_world::{Act, Worker, take_turn};
 pub use snapshot::write_position;
 use std::alloc::{AllocError, Global};
+
+/// Tells what is true of the runner of a seat's worker.
+fn seat_is_sound<T: Table>(seat: &Option<Worker<'_, T>>)
+    ensures { IfSome seat.now (λ w. IsRunner w.runner) }
+{
+    // Runs nothing that matters.
+    if let Some(worker) = seat {
+        worker.runner().is_sound();
+    }
+}
 
 /// Whether a worker has steps that aren't posted.
 fn has_rest<T: Table>(seat: &Option<Worker<'_, T>>) -> bool
@@ -46,8 +58,8 @@ fn post_rest<'p, T: Table>(
     Ok(())
 }
 
-/// Posts what isn't posted, and then does an act, by which the tile is given up or closed. Out of memory that act isn't done.
-pub fn end_branch<'p, T: Table>(
+/// Posts what isn't posted, and then does an act.
+fn post_and_end<'p, T: Table>(
     alloc: Global,
     book: &mut Book<'p>,
     seat: &mut Option<Worker<'p, T>>,
@@ -63,4 +75,26 @@ pub fn end_branch<'p, T: Table>(
     post_rest(alloc, book, seat)?;
     take_turn(alloc, book, seat, 0, act)?;
     Ok(())
+}
+
+/// Posts what isn't posted, and then does an act, by which the tile is given up or closed. Out of memory that act isn't done.
+pub fn end_branch<'p, T: Table>(
+    alloc: Global,
+    book: &mut Book<'p>,
+    seat: &mut Option<Worker<'p, T>>,
+    act: &Act,
+) -> Result<(), AllocError>
+    requires seat { IsSeat book.old 0 seat.old }
+    ensures made { DoesEnd result book.old seat.old act.now book.new seat.new }
+    ensures given_up { act.now ≡ Act.Park → OnOk result (seat.new ≡ None) }
+    ensures parked { act.now ≡ Act.Park → OnOk result (book.new ≡ after_park book.old seat.old) }
+    ensures left { DoesPartOfEnd result book.old seat.old act.now book.new seat.new }
+    ensures not_given { OnErr result (IsNotGiven book.old seat.old book.new seat.new) }
+    ensures seat { IsSeat book.new 0 seat.new }
+    ensures same_problem { book.new.problem ≡ book.old.problem }
+{
+    // What is true of a book and of a runner is told by these.
+    book.is_sound();
+    seat_is_sound(seat);
+    post_and_end(alloc, book, seat, act)
 }

@@ -57,8 +57,10 @@ pub fn back<T: Table>(
 ) -> Result<(), AllocError>
     requires some { 0 < most }
     ensures made { (b : BookValue) → DoesBack result b worker.old worker.new most }
+    ensures walked { OnOk result (worker.new ≡ gone_back worker.old most) }
     ensures text { AddsLines result text.old text.new (back_lines worker.old.runner most) }
     ensures left { (b : BookValue) → DoesPartOfBack result b worker.old worker.new most }
+    ensures walked_some { OnErr result (BacksSome worker.old worker.new most) }
     ensures holds { (b : BookValue) → HoldsTile b worker.old → HoldsTile b worker.new }
     ensures kept { worker.new.grant ≡ worker.old.grant }
 {

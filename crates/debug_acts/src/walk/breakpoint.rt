@@ -151,8 +151,10 @@ pub fn run<'p, T: Table>(
     requires holds { HoldsTile book.old worker.old }
     requires breaks { list_all (is_break book.old.problem) breaks.now.keys ≡ true }
     ensures made { DoesRun result book.old worker.old book.new worker.new breaks.now.keys }
+    ensures walked { OnOk result (RunsOn book.old worker.old book.new worker.new breaks.now.keys) }
     ensures text { AddsRun result text.old text.new breaks.now.keys worker.old.runner }
     ensures left { DoesPartOfRun result book.old worker.old book.new worker.new breaks.now.keys }
+    ensures walked_some { MayRun result book.old worker.old book.new worker.new breaks.now.keys }
     ensures holds_on { HoldsTile book.new worker.new }
     ensures kept { KeepsLease book.old worker.old book.new worker.new }
 {

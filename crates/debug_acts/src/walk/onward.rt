@@ -79,8 +79,10 @@ pub fn step<'p, T: Table>(
     requires holds { HoldsTile book.old worker.old }
     requires some { 0 < most }
     ensures made { DoesStep result book.old worker.old book.new worker.new most }
+    ensures walked { OnOk result (StepsOn book.old worker.old book.new worker.new most) }
     ensures text { AddsLines result text.old text.new (step_lines worker.old.runner most) }
     ensures left { DoesPartOfStep result book.old worker.old book.new worker.new most }
+    ensures walked_some { OnErr result (StepsSome book.old worker.old book.new worker.new most) }
     ensures holds_on { HoldsTile book.new worker.new }
     ensures kept { KeepsLease book.old worker.old book.new worker.new }
 {

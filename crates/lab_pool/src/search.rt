@@ -115,8 +115,8 @@ fn next_of(fault: &BookFault) -> Next
 }
 
 impl<'p, T: Table> Search<'p, T> {
-    /// Begins where a lease says. The runner goes there from where it stands: a worker's newest ticket is for the rest that it has
-    /// just split off, and that rest begins where its search stands when its tile is done.
+    /// Begins where a lease says. The runner goes there from where it stands: a worker's next ticket is mostly for the rest that it
+    /// has just split off, and that rest begins where its search stands when its tile is done.
     pub fn begin(runner: Runner<'p, T>, leased: Leased<'p>) -> Search<'p, T>
         requires { CanBeSearched runner.problem leased }
         ensures lease { result.lease ≡ leased.entry.lease }

@@ -77,7 +77,7 @@ impl<'p, L: Desking> Desk<'p, L> {
         done
     }
 
-    /// Parks the tile that is leased, as the book does. Takes no memory for the tile's current lease,
+    /// Parks the tile that is leased, as the book does. Needs no memory for the tile's current lease,
     /// where its seat has room for its end.
     pub fn park<R: Wait>(
         &self,
@@ -98,7 +98,7 @@ impl<'p, L: Desking> Desk<'p, L> {
         self.end(rt, seat, lease, Ending::Park)
     }
 
-    /// Gives the tile up that is leased, as the book does. Takes no memory for the tile's current lease,
+    /// Gives the tile up that is leased, as the book does. Needs no memory for the tile's current lease,
     /// where its seat has room for its end.
     pub fn abandon<R: Wait>(
         &self,

@@ -1,4 +1,5 @@
--- Sound sessions that are alike answer each command, each line and each text that is loaded with the same text, and stay alike.
+-- Seated sessions that are alike answer each command, each line and each text that is loaded with the same text, and stay alike; and so do
+-- sound ones, and stay sound.
 use Rattle.std.proofs.Common.{◌≡◌, ℕ, Bool, true, false, cond, Option, Some, None, Result, Ok, Err, List, [], ◌∷◌, ◌++◌, replicate, map, length, refl, sym, ap, ◌∙◌, subst}
 use Rattle.text_lines.specs.Writing.{line_text, text_of}
 use Rattle.cover_problem.specs.Problem.{ProblemValue, is_same}
@@ -50,8 +51,8 @@ use Rattle.lab_book_laws.proofs.StatusLemmas.{held_seen}
 use Rattle.lab_book_laws.proofs.ToldLemmas.{visits_alike, steps_alike, levels_alike}
 use Rattle.lab_book_laws.proofs.PlaceLemmas.{Meet}
 use Rattle.lab_book_laws.proofs.CallLemmas.{call_alike}
-use Rattle.debug_laws.specs.AlikeSessions.{AreAlikeSessions, AreSoundAlike, AreAlikeAnswers}
-use Rattle.debug_laws.proofs.SoundLemmas.{seat_of, work_of, answer_sound, line_sound, load_sound}
+use Rattle.debug_laws.specs.AlikeSessions.{AreAlikeSessions, IsSoundSession, AreSeatedAlike, AreSoundAlike, AreSeatedAnswers, AreAlikeAnswers}
+use Rattle.debug_laws.proofs.SoundLemmas.{seat_of, work_of, answer_seated, line_seated, load_seated, answer_sound, line_sound, load_sound}
 use Rattle.debug_laws.proofs.AlikeLemmas.{AreAlikeWorks, step_alike, retract_alike, split_alike}
 use Rattle.debug_laws.proofs.TileLemmas.{lines_seen, same_line, place_meet, naming, names_same, same_refusal, runner_seen, both_open, stand_alike}
 
@@ -65,7 +66,7 @@ idle_lines : (b c : BookValue) → told_lines b None Retract told.Retracted ≡ 
 unfolding turn_of
 idle_lines b c = refl
 
-module _ (a b : SessionValue) (p : AreSoundAlike a b) where
+module _ (a b : SessionValue) (p : AreSeatedAlike a b) where
   abbrev k : AreAlikeSessions a b
   k = p.alike
 
@@ -85,7 +86,7 @@ module _ (a b : SessionValue) (p : AreSoundAlike a b) where
   -- the worker's own acts are done
   acts_agree : (d e : Deed) → d.text ≡ e.text → d.acts ≡ e.acts → AreOwn d.acts → d.breaks ≡ e.breaks → Agree (done_by a d) (done_by b e)
   acts_agree d e text same own breaks =
-      let there = acts_alike d.acts a.book b.book a.worker b.worker own (seat_of a p.sound) (seat_of b p.also_sound) seats in
+      let there = acts_alike d.acts a.book b.book a.worker b.worker own (seat_of a p.seated) (seat_of b p.also_seated) seats in
       record {
         text = text;
         session = subst (λ (acts : List Act). AreAlikeSessions (record (left_by a d.acts) { breaks = d.breaks })
@@ -108,9 +109,9 @@ module _ (a b : SessionValue) (p : AreSoundAlike a b) where
   same_view =
       let runner = k.runner in
       let branches = sym (lines_seen (open_tiles a.book.tiles)) ∙ ap (map tile_line) k.book.tiles ∙ lines_seen (open_tiles b.book.tiles) in
-      let visits = visits_alike a.book b.book p.sound.tiling p.also_sound.tiling k.book in
-      let steps = steps_alike a.book b.book p.sound.tiling p.also_sound.tiling k.book in
-      let levels = levels_alike a.book b.book p.sound.tiling p.also_sound.tiling k.book in
+      let visits = visits_alike a.book b.book p.seated.tiling p.also_seated.tiling k.book in
+      let steps = steps_alike a.book b.book p.seated.tiling p.also_seated.tiling k.book in
+      let levels = levels_alike a.book b.book p.seated.tiling p.also_seated.tiling k.book in
       cc
 
   -- ---- steps
@@ -123,7 +124,7 @@ module _ (a b : SessionValue) (p : AreSoundAlike a b) where
       open_agree _ _ (λ v w d e q.
       acts_agree (walks a (lines v.runner) (count v.runner)) (walks b (more w.runner) (also w.runner))
       (ap text_of (ap lines q ∙ l w.runner))
-      (walk_alike (count v.runner) a.book b.book a.worker b.worker (seat_of a p.sound) (seat_of b p.also_sound) seats
+      (walk_alike (count v.runner) a.book b.book a.worker b.worker (seat_of a p.seated) (seat_of b p.also_seated) seats
       ∙ ap (λ (n : ℕ). walk_acts n (world_of b)) (ap count q ∙ c w.runner))
       (walk_own (count v.runner) (world_of a)) k.breaks)
 
@@ -185,8 +186,8 @@ module _ (a b : SessionValue) (p : AreSoundAlike a b) where
 
   split_agrees : (level o : ℕ) → Agree (done_by a (split_deed a level o)) (done_by b (split_deed b level o))
   split_agrees level o = open_agree _ _ (λ v w d e q.
-      let s = work_of a p.sound v d in
-      let t = work_of b p.also_sound w e in
+      let s = work_of a p.seated v d in
+      let t = work_of b p.also_seated w e in
       asks_agree (Split level o) (told.Parted v.runner.branch) (told.Parted w.runner.branch) refl
       (ap (λ (x : Option WorkerValue). told_lines a.book x (Split level o) (told.Parted v.runner.branch)) d
       ∙ split_lines (work a.book v) s level o ∙ (split_alike (work a.book v) (work b.book w) s t (works v w q) level o).lines
@@ -199,8 +200,8 @@ module _ (a b : SessionValue) (p : AreSoundAlike a b) where
       working : (v w : WorkerValue) → a.worker ≡ Some v → b.worker ≡ Some w → v.runner ≡ w.runner
           → told_lines a.book (Some v) Retract told.Retracted ≡ told_lines b.book (Some w) Retract told.Retracted
       working v w d e q =
-          let s = work_of a p.sound v d in
-          let t = work_of b p.also_sound w e in
+          let s = work_of a p.seated v d in
+          let t = work_of b p.also_seated w e in
           retract_lines (work a.book v) s ∙ (retract_alike (work a.book v) (work b.book w) s t (works v w q)).lines
           ∙ sym (retract_lines (work b.book w) t)
 
@@ -214,7 +215,7 @@ module _ (a b : SessionValue) (p : AreSoundAlike a b) where
   module _ (i j : ℕ) (q : Correspond a.book.tiles i b.book.tiles j) where
     named_alike : (c : Call) → AreAlikeOutcomes a.book b.book (outcome a.book 0 (addressed (naming (tile_at a.book.tiles i)) c))
         (outcome b.book 0 (addressed (naming (tile_at b.book.tiles j)) c))
-    named_alike c = (call_alike a.book b.book k.book p.sound.tiling p.also_sound.tiling 0 0 i j (naming (tile_at a.book.tiles i))
+    named_alike c = (call_alike a.book b.book k.book p.seated.tiling p.also_seated.tiling 0 0 i j (naming (tile_at a.book.tiles i))
         (naming (tile_at b.book.tiles j)) (names_same a.book b.book i j q) c).0
 
     named_line : (c : Call)
@@ -222,7 +223,7 @@ module _ (a b : SessionValue) (p : AreSoundAlike a b) where
         ≡ tile_line (tile_at (outcome b.book 0 (addressed (naming (tile_at b.book.tiles j)) c)).tiles j)
     named_line c = same_line (tile_at (outcome a.book 0 (addressed (naming (tile_at a.book.tiles i)) c)).tiles i)
         (tile_at (outcome b.book 0 (addressed (naming (tile_at b.book.tiles j)) c)).tiles j)
-        (call_alike a.book b.book k.book p.sound.tiling p.also_sound.tiling 0 0 i j (naming (tile_at a.book.tiles i))
+        (call_alike a.book b.book k.book p.seated.tiling p.also_seated.tiling 0 0 i j (naming (tile_at a.book.tiles i))
         (naming (tile_at b.book.tiles j)) (names_same a.book b.book i j q) c).1
 
   -- of the tile that a cut names; the call is made of the id alone
@@ -354,23 +355,23 @@ module _ (a b : SessionValue) (p : AreSoundAlike a b) where
   deeds_agree (command.Hold lo) = hold_agrees lo
   deeds_agree (command.PutBack lo state) = put_back_agrees lo state
 
-  pub answer_alike : (c : CommandValue) → AreAlikeAnswers (answer a c) (answer b c)
-  answer_alike c =
+  pub answer_seated_alike : (c : CommandValue) → AreSeatedAnswers (answer a c) (answer b c)
+  answer_seated_alike c =
       let q = deeds_agree c in
       record {
         text = q.text;
-        sessions = record { sound = answer_sound a p.sound c; also_sound = answer_sound b p.also_sound c; alike = q.session };
+        sessions = record { seated = answer_seated a p.seated c; also_seated = answer_seated b p.also_seated c; alike = q.session };
       }
 
   -- ---- a line
 
-  pub line_alike : (line : List ℕ) → AreAlikeAnswers (answer_line a line) (answer_line b line)
-  line_alike line =
+  pub line_seated_alike : (line : List ℕ) → AreSeatedAnswers (answer_line a line) (answer_line b line)
+  line_seated_alike line =
       let q = subst (λ (x : ProblemValue). Agree (answer_line a line) (done_by b (deed_if b (command_of x line)))) k.book.problem
       (by (command_of a.book.problem line)) in
       record {
         text = q.text;
-        sessions = record { sound = line_sound a p.sound line; also_sound = line_sound b p.also_sound line; alike = q.session };
+        sessions = record { seated = line_seated a p.seated line; also_seated = line_seated b p.also_seated line; alike = q.session };
       }
     where
       by : (c : Option CommandValue) → Agree (done_by a (deed_if a c)) (done_by b (deed_if b c))
@@ -409,10 +410,33 @@ module _ (a b : SessionValue) (p : AreSoundAlike a b) where
   unfolding load_answer
   text_agrees bytes = load_agrees (snapshot_of bytes)
 
-  pub load_alike : (bytes : List ℕ) → AreAlikeAnswers (load_answer a bytes) (load_answer b bytes)
-  load_alike bytes =
+  pub load_seated_alike : (bytes : List ℕ) → AreSeatedAnswers (load_answer a bytes) (load_answer b bytes)
+  load_seated_alike bytes =
       let q = text_agrees bytes in
       record {
         text = q.text;
-        sessions = record { sound = load_sound a p.sound bytes; also_sound = load_sound b p.also_sound bytes; alike = q.session };
+        sessions = record { seated = load_seated a p.seated bytes; also_seated = load_seated b p.also_seated bytes; alike = q.session };
       }
+
+-- ---- sound sessions are seated, and what is left of them is sound
+
+module _ (a b : SessionValue) (p : AreSoundAlike a b) where
+  both_seated : AreSeatedAlike a b
+  both_seated = record { seated = p.sound.seated; also_seated = p.also_sound.seated; alike = p.alike }
+
+  still_sound : (x y : Answer) → AreSeatedAnswers x y → IsSoundSession x.session → IsSoundSession y.session → AreAlikeAnswers x y
+  still_sound x y q h i = record { text = q.text; sessions = record { sound = h; also_sound = i; alike = q.sessions.alike } }
+
+  pub answer_alike : (c : CommandValue) → AreAlikeAnswers (answer a c) (answer b c)
+  answer_alike c =
+      still_sound (answer a c) (answer b c) (answer_seated_alike a b both_seated c) (answer_sound a p.sound c) (answer_sound b p.also_sound c)
+
+  pub line_alike : (line : List ℕ) → AreAlikeAnswers (answer_line a line) (answer_line b line)
+  line_alike line =
+      still_sound (answer_line a line) (answer_line b line) (line_seated_alike a b both_seated line) (line_sound a p.sound line)
+      (line_sound b p.also_sound line)
+
+  pub load_alike : (bytes : List ℕ) → AreAlikeAnswers (load_answer a bytes) (load_answer b bytes)
+  load_alike bytes =
+      still_sound (load_answer a bytes) (load_answer b bytes) (load_seated_alike a b both_seated bytes) (load_sound a p.sound bytes)
+      (load_sound b p.also_sound bytes)

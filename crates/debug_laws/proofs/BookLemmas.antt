@@ -8,7 +8,6 @@ use Rattle.lab_history.specs.declared.entry.Call.TheVariants as call
 use Rattle.lab_history.specs.declared.entry.Reply.TheVariants as reply
 use Rattle.lab_book.specs.Tiling.{IsTiling}
 use Rattle.lab_book.specs.Book.{BookValue, outcome, made_at, unless, retracted, retract_fault}
-use Rattle.lab_book.specs.Book as book
 use Rattle.lab_world.specs.Worker.{WorkerValue, HoldsTile}
 use Rattle.lab_world.proofs.HoldLemmas.{passed}
 use Rattle.lab_world.proofs.OwnLemmas.{found_own, own, last_own, some_is}

@@ -5,6 +5,7 @@ pub mod WorkLemmas
 pub mod EndLemmas
 pub mod PlayedLemmas
 pub mod TurnLemmas
+pub mod BalanceLemmas
 pub mod SoundLemmas
 pub mod AlikeLemmas
 pub mod SeatLemmas

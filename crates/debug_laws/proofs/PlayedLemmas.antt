@@ -1,5 +1,5 @@
 -- What acts answer and leave of a branch at work, and of a tile that a cut names, is what the words of these proofs say.
-use Rattle.std.proofs.Common.{◌≡◌, ℕ, ◌≤◌, ◌<◌, ◌==◌, Bool, true, false, cond, Option, Some, None, Result, Ok, Err, List, [], ◌∷◌, ◌++◌, length, refl, sym, ap, ◌∙◌, arith, eqb-true}
+use Rattle.std.proofs.Common.{◌≡◌, ℕ, ◌<◌, ◌==◌, Bool, true, false, cond, Option, Some, None, Result, Ok, Err, List, [], ◌∷◌, ◌++◌, length, refl, sym, ap, ◌∙◌, arith, eqb-true}
 use Rattle.std.specs.List.{slice_get}
 use Rattle.std.proofs.lemmas.List.{length-set}
 use Rattle.std.proofs.lemmas.Option.{slice_get-get_or}
@@ -33,13 +33,11 @@ use Rattle.lab_world.specs.Alone.{alone, Leads}
 use Rattle.lab_world.proofs.AloneLemmas.{one_act}
 use Rattle.lab_world.proofs.SplitLemmas.{split_is}
 use Rattle.lab_book_laws.proofs.PoolCallLemmas.{made_leaves}
-use Rattle.debug_language.specs.Command as command
 use Rattle.debug_language.specs.declared.words.Counted.TheVariants as counts
 use Rattle.debug_views.specs.Lines.{state_line, counted, runner_refusal, book_refusal}
 use Rattle.debug_views.specs.Tiles.{tile_line, is_begun_at, place_at}
 use Rattle.debug_views.proofs.LineLemmas.{one_line}
-use Rattle.debug_acts.specs.Workplace.{workplace}
-use Rattle.debug_acts.specs.Work.{AtWork, work}
+use Rattle.debug_acts.specs.Work.{AtWork}
 use Rattle.debug_acts.specs.declared.answer.Told.{Told}
 use Rattle.debug_acts.specs.declared.answer.Told.TheVariants as told
 use Rattle.debug_acts.specs.Acts.{enter_act}

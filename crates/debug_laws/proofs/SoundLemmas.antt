@@ -1,5 +1,5 @@
--- A new session is sound, and so is what each command, line and text leaves of a sound one.
-use Rattle.std.proofs.Common.{sym, ◌≡◌, ℕ, Bool, true, false, cond, Option, Some, None, Result, Ok, Err, List, [], ◌∷◌, refl, subst, option_map, IfSome, take}
+-- A new session is sound, and so is what each command, line and text leaves of a sound one; and of a seated one it leaves a seated one.
+use Rattle.std.proofs.Common.{sym, ◌≡◌, ℕ, arith, Bool, true, false, cond, Option, Some, None, Result, Ok, Err, List, [], ◌∷◌, refl, subst, option_map, IfSome, take}
 use Rattle.cover_problem.specs.Problem.{ProblemValue, is_same}
 use Rattle.x_steps.specs.StateValue.{start}
 use Rattle.x_branches.specs.declared.branch.Branch.{Branch}
@@ -17,35 +17,44 @@ use Rattle.lab_book.specs.Book.{BookValue, leased_in, new_book, whole_tile}
 use Rattle.lab_book.proofs.StepLemmas.{whole_run, opened_keeps}
 use Rattle.lab_world.specs.declared.event.Act.TheVariants.{LeaseAny}
 use Rattle.lab_world.specs.Worker.{WorkerValue}
-use Rattle.lab_world.specs.World.{turn_of}
+use Rattle.lab_world.specs.declared.event.Act.{Act}
+use Rattle.lab_world.specs.World.{turn_of, worker_at, played}
+use Rattle.lab_world.specs.Alone.{alone, own_events}
 use Rattle.debug_language.specs.Command.{CommandValue}
 use Rattle.debug_views.specs.Lines.{state_line, book_refusal}
 use Rattle.debug_acts.specs.Work.{work}
 use Rattle.x_debug.specs.Session.{SessionValue, fresh_session, session_on, entered}
 use Rattle.x_debug.specs.Commands.{Deed, done_by, deed_of, deed_of_line, answer, answer_line, IsLeft, left_by}
 use Rattle.x_debug.specs.LoadedTexts.{answers, load_by, load_answer, loaded, breaks_of}
-use Rattle.debug_laws.specs.AlikeSessions.{IsSoundSession}
+use Rattle.debug_laws.specs.AlikeSessions.{open_branches, IsSeatedSession, IsSoundSession}
 use Rattle.debug_laws.proofs.WorkLemmas.{IsSoundWork}
 use Rattle.debug_laws.proofs.TurnLemmas.{IsSoundSeat, at_work, turn_sound, acts_sound}
+use Rattle.debug_laws.proofs.BalanceLemmas.{turn_balance, acts_balance}
 
 -- ---- a session is a book with worker 0's seat
 
-pub seat_of : (s : SessionValue) → IsSoundSession s → IsSoundSeat s.book s.worker
-seat_of s h = record { tiling = h.tiling; seat = h.seat; runner = h.runner; leased = h.leased }
+pub seat_of : (s : SessionValue) → IsSeatedSession s → IsSoundSeat s.book s.worker
+seat_of s h = record { tiling = h.tiling; seat = h.seat; runner = h.runner }
 
-pub session_of : (s : SessionValue) → IsSoundSeat s.book s.worker → IsSoundSession s
-session_of s h = record { tiling = h.tiling; seat = h.seat; runner = h.runner; leased = h.leased }
+session_of : (s : SessionValue) → IsSoundSeat s.book s.worker → IsSeatedSession s
+session_of s h = record { tiling = h.tiling; seat = h.seat; runner = h.runner }
 
 -- once the first tile that waits is leased
 entered_sound : (b : BookValue) → IsTiling b.problem b.branch b.first b.tiles → leased_in b.tiles ≡ 0 → (breaks : List Break)
     → IsSoundSession (record { book = (entered b).book; worker = (entered b).worker; breaks = breaks })
 unfolding turn_of
-entered_sound b t n breaks = session_of _ (turn_sound b None LeaseAny (record { tiling = t; seat = tt; runner = tt; leased = n }))
+entered_sound b t n breaks =
+    let h : IsSoundSeat b None = record { tiling = t; seat = tt; runner = tt } in
+    let m = turn_balance b None LeaseAny h in
+    record {
+      seated = session_of (record { book = (entered b).book; worker = (entered b).worker; breaks = breaks }) (turn_sound b None LeaseAny h);
+      leased = omega arith;
+    }
 
 -- ---- new sessions
 
 pub on_sound : (b : BookValue) → IsTiling b.problem b.branch b.first b.tiles → leased_in b.tiles ≡ 0 → IsSoundSession (session_on b)
-on_sound b t n = record { tiling = t; seat = tt; runner = tt; leased = n }
+on_sound b t n = record { seated = record { tiling = t; seat = tt; runner = tt }; leased = n }
 
 pub fresh_sound : (p : ProblemValue) → IsSoundSession (fresh_session p)
 fresh_sound p =
@@ -72,21 +81,70 @@ resumed_sound v breaks d e =
     own_cut p None c = tt
     own_cut p (Some q) c = c
 
--- ---- what acts leave
+-- ---- a text that is loaded
 
-module _ (s : SessionValue) (h : IsSoundSession s) where
+-- what is true of a session, and of each sound one, is true of the one that is left
+load_keeps : (P : SessionValue → Type 0) → ((n : SessionValue) → IsSoundSession n → P n) → (s : SessionValue) → P s → (bytes : List ℕ)
+    → P (load_answer s bytes).session
+unfolding load_answer
+load_keeps P of s h bytes = by (parts_of bytes)
+  where
+    loaded_by : (v : SnapshotValue) (b c : Bool) → is_on_run v ≡ b → is_inside v ≡ c
+        → P (load_by s (cond b (cond c (Ok v) (Err OutsideBranch)) (Err NotOnRun))).session
+    loaded_by v true true d e = same (is_same v.problem s.book.problem)
+      where
+        same : (t : Bool) → P (cond t (answers (state_line v.state) (loaded s v)) (answers (book_refusal ForeignProblem) s)).session
+        same true = of _ (resumed_sound v (breaks_of s.breaks v.breaks) d e)
+        same false = h
+    loaded_by v true false d e = h
+    loaded_by v false c d e = h
+
+    by : (o : Result SnapshotValue SnapshotFault) → P (load_by s (judged o)).session
+    by (Ok v) = loaded_by v (is_on_run v) (is_inside v) refl refl
+    by (Err f) = h
+
+-- ---- what acts leave of a seated session
+
+module _ (s : SessionValue) (h : IsSeatedSession s) where
   pub work_of : (w : WorkerValue) → s.worker ≡ Some w → IsSoundWork (work s.book w)
   work_of w e = at_work s.book w (subst (IsSoundSeat s.book) e (seat_of s h))
 
   -- a deed of any kind
-  pub done_sound : (d : Deed) → IsSoundSession (done_by s d).session
-  done_sound d = session_of (done_by s d).session (acts_sound d.acts s.book s.worker (seat_of s h))
+  done_seated : (d : Deed) → IsSeatedSession (done_by s d).session
+  done_seated d = session_of (done_by s d).session (acts_sound d.acts s.book s.worker (seat_of s h))
 
-  -- some first acts of one
+  -- so many acts
+  acts_seated : (acts : List Act) → IsSeatedSession (left_by s acts)
+  acts_seated acts = session_of (left_by s acts) (acts_sound acts s.book s.worker (seat_of s h))
+
+  -- some first acts of a line
+  pub stopped_seated : (line : List ℕ) (new : SessionValue) → IsLeft s line new → IsSeatedSession new
+  stopped_seated line new l = subst IsSeatedSession (sym l.left) (acts_seated (take l.count (deed_of_line s line).acts))
+
+  pub answer_seated : (c : CommandValue) → IsSeatedSession (answer s c).session
+  answer_seated c = done_seated (deed_of s c)
+
+  pub line_seated : (line : List ℕ) → IsSeatedSession (answer_line s line).session
+  line_seated line = done_seated (deed_of_line s line)
+
+  pub load_seated : (bytes : List ℕ) → IsSeatedSession (load_answer s bytes).session
+  load_seated bytes = load_keeps IsSeatedSession (λ n k. k.seated) s h bytes
+
+-- ---- and of a sound one
+
+module _ (s : SessionValue) (h : IsSoundSession s) where
+  -- as many tiles are leased as branches are open
+  left_leased : (acts : List Act) → let v = played (alone s.book s.worker) (own_events acts) in
+      leased_in v.book.tiles ≡ open_branches (worker_at v.workers 0)
+  left_leased acts = let m = acts_balance acts s.book s.worker (seat_of s h.seated) in let n = h.leased in omega arith
+
+  done_sound : (d : Deed) → IsSoundSession (done_by s d).session
+  done_sound d = record { seated = done_seated s h.seated d; leased = left_leased d.acts }
+
   pub stopped_sound : (line : List ℕ) (new : SessionValue) → IsLeft s line new → IsSoundSession new
   stopped_sound line new l =
       let acts = take l.count (deed_of_line s line).acts in
-      subst IsSoundSession (sym l.left) (session_of (left_by s acts) (acts_sound acts s.book s.worker (seat_of s h)))
+      subst IsSoundSession (sym l.left) (record { seated = acts_seated s h.seated acts; leased = left_leased acts })
 
   pub answer_sound : (c : CommandValue) → IsSoundSession (answer s c).session
   answer_sound c = done_sound (deed_of s c)
@@ -94,23 +152,5 @@ module _ (s : SessionValue) (h : IsSoundSession s) where
   pub line_sound : (line : List ℕ) → IsSoundSession (answer_line s line).session
   line_sound line = done_sound (deed_of_line s line)
 
-  -- ---- a text that is loaded
-
   pub load_sound : (bytes : List ℕ) → IsSoundSession (load_answer s bytes).session
-  unfolding load_answer
-  load_sound bytes = by (parts_of bytes)
-    where
-      loaded_by : (v : SnapshotValue) (b c : Bool) → is_on_run v ≡ b → is_inside v ≡ c
-          → IsSoundSession (load_by s (cond b (cond c (Ok v) (Err OutsideBranch)) (Err NotOnRun))).session
-      loaded_by v true true d e = same (is_same v.problem s.book.problem)
-        where
-          same : (t : Bool)
-              → IsSoundSession (cond t (answers (state_line v.state) (loaded s v)) (answers (book_refusal ForeignProblem) s)).session
-          same true = resumed_sound v (breaks_of s.breaks v.breaks) d e
-          same false = h
-      loaded_by v true false d e = h
-      loaded_by v false c d e = h
-
-      by : (o : Result SnapshotValue SnapshotFault) → IsSoundSession (load_by s (judged o)).session
-      by (Ok v) = loaded_by v (is_on_run v) (is_inside v) refl refl
-      by (Err f) = h
+  load_sound bytes = load_keeps IsSoundSession (λ n k. k) s h bytes

@@ -1,5 +1,5 @@
 -- A book and worker 0's seat stay sound by each act of that worker.
-use Rattle.std.proofs.Common.{◌≡◌, ℕ, zero, suc, ◌+◌, ◌-◌, ◌<◌, ◌==◌, Bool, true, false, cond, Option, Some, None, List, [], ◌∷◌, refl, sym, ap, ◌∙◌, subst, arith, eq-eqb}
+use Rattle.std.proofs.Common.{◌≡◌, ℕ, zero, suc, ◌<◌, ◌==◌, Bool, true, false, cond, Option, Some, None, List, [], ◌∷◌, refl, sym, ap, ◌∙◌, subst, arith, eq-eqb}
 use Rattle.std.proofs.lemmas.Bool.{false≢true}
 use Rattle.cover_problem.specs.Problem.{ProblemValue}
 use Rattle.x_steps.specs.StateValue.{StateValue}
@@ -19,7 +19,7 @@ use Rattle.lab_history.specs.declared.entry.Reply.TheVariants as reply
 use Rattle.lab_book.specs.States.{same_state}
 use Rattle.lab_book.specs.Tile.{TileValue, mark_of, tile_end}
 use Rattle.lab_book.specs.Tiling.{IsTiling}
-use Rattle.lab_book.specs.Book.{BookValue, Outcome, outcome, book_step, leased_in, made_at, settled, freed, unless, end_fault, else_fault}
+use Rattle.lab_book.specs.Book.{BookValue, Outcome, outcome, book_step, made_at, settled, freed, unless, end_fault, else_fault}
 use Rattle.lab_book.specs.Book as book
 use Rattle.lab_book.proofs.TileLemmas.{is_same_state, stretch_by, tile_can_start}
 use Rattle.lab_world.specs.declared.event.Act.{Act}
@@ -38,12 +38,11 @@ use Rattle.debug_acts.proofs.CallLemmas.{IsOfRun, call_keeps}
 use Rattle.debug_acts.proofs.WalkLemmas.{step_within}
 use Rattle.debug_acts.proofs.BackLemmas.{none_back, back_next}
 use Rattle.debug_acts.proofs.LeadLemmas.{post_leads}
-use Rattle.debug_laws.specs.AlikeSessions.{HasRunner, open_branches}
+use Rattle.debug_laws.specs.AlikeSessions.{HasRunner}
 use Rattle.debug_laws.proofs.WorkWords.{split, retract}
 use Rattle.debug_laws.proofs.BookLemmas.{at_mark}
-use Rattle.debug_laws.proofs.LeasedLemmas.{call_counts, lease_counts, take_counts, lease_any_counts}
 use Rattle.debug_laws.proofs.WorkLemmas.{IsSoundWork, as_work, mark_within, posted_sound, back_sound, stepped_sound, split_sound, retract_sound}
-use Rattle.debug_laws.proofs.EndLemmas.{park_leaves, ended, freed_free, at_end}
+use Rattle.debug_laws.proofs.EndLemmas.{at_end}
 use Rattle.debug_laws.proofs.PlayedLemmas.{park_leads, split_leads, retract_leads}
 
 -- ---- who leases a tile has a runner at its mark
@@ -67,21 +66,20 @@ lent_runner : (b : BookValue) → IsTiling b.problem b.branch b.first b.tiles �
 lent_runner b t p (reply.Leased g lo hi mark n) s = mark_runner b _ t s.1 refl
 lent_runner b t p _ s = tt
 
--- a book and worker 0's seat are sound: the seat is empty or its worker holds its tile and has a runner, and no other tile is leased
+-- a book and worker 0's seat are sound: the seat is empty, or its worker holds its tile and has a runner
 pub record IsSoundSeat (b : BookValue) (x : Option WorkerValue) : Type 0 where
   pub tiling : IsTiling b.problem b.branch b.first b.tiles
   pub seat : IsSeat b 0 x
   pub runner : HasRunner x
-  pub leased : leased_in b.tiles ≡ open_branches x
 
 pub at_work : (b : BookValue) (w : WorkerValue) → IsSoundSeat b (Some w) → IsSoundWork (work b w)
-at_work b w h = record { tiling = h.tiling; seat = h.seat.0; holds = h.seat.1; runner = h.runner; leased = h.leased }
+at_work b w h = record { tiling = h.tiling; seat = h.seat.0; holds = h.seat.1; runner = h.runner }
 
 pub from_work : (u : AtWork) → IsSoundWork u → IsSoundSeat u.book (Some u.worker)
-from_work u p = record { tiling = p.tiling; seat = (p.seat, p.holds); runner = p.runner; leased = p.leased }
+from_work u p = record { tiling = p.tiling; seat = (p.seat, p.holds); runner = p.runner }
 
-free : (b : BookValue) → IsTiling b.problem b.branch b.first b.tiles → leased_in b.tiles ≡ 0 → IsSoundSeat b None
-free b t n = record { tiling = t; seat = tt; runner = tt; leased = n }
+free : (b : BookValue) → IsTiling b.problem b.branch b.first b.tiles → IsSoundSeat b None
+free b t = record { tiling = t; seat = tt; runner = tt }
 
 -- a turn's book and seat are
 abbrev Sound : Turn → Type 0
@@ -154,10 +152,8 @@ module _ (b : BookValue) (w : WorkerValue) (p : IsSoundWork (work b w)) where
   abandon_sound =
       let done : outcome b w.grant.worker (call.Abandon w.grant) ≡ settled b freed p.holds.tile.place =
       ap (made_at b.tiles (settled b freed)) (found_own b w p.tiling p.holds (λ (t : TileValue). None)) in
-      let tile = own b w p.tiling p.holds in
       subst (IsSoundSeat (book_step b w.grant.worker (call.Abandon w.grant))) (sym (ap (λ (o : Outcome). after_end w o.reply) done))
-      (free _ (call_keeps b p.tiling w.grant.worker (call.Abandon w.grant) tt)
-      (ap (λ (o : Outcome). leased_in o.tiles) done ∙ ended u p (freed tile) (freed_free u p tile.stop)))
+      (free _ (call_keeps b p.tiling w.grant.worker (call.Abandon w.grant) tt))
 
   close_sound : Sound (turn_of b (Some w) 0 Close)
   unfolding turn_of outcome
@@ -179,7 +175,7 @@ module _ (b : BookValue) (w : WorkerValue) (p : IsSoundWork (work b w)) where
           → IsSoundSeat (book_step b w.grant.worker (call.Close w.grant)) (after_end w (outcome b w.grant.worker (call.Close w.grant)).reply)
       by true e =
           subst (IsSoundSeat (book_step b w.grant.worker (call.Close w.grant))) (sym (ap (λ (o : Outcome). after_end w o.reply) (done true e)))
-          (free _ left (ap (λ (o : Outcome). leased_in o.tiles) (done true e) ∙ ended u p (book.closed tile) refl))
+          (free _ left)
       by false e =
           subst (IsSoundSeat (book_step b w.grant.worker (call.Close w.grant))) (sym (ap (λ (o : Outcome). after_end w o.reply) (done false e)))
           (record {
@@ -187,40 +183,30 @@ module _ (b : BookValue) (w : WorkerValue) (p : IsSoundWork (work b w)) where
             seat = subst (IsSeat (book_step b w.grant.worker (call.Close w.grant)) 0)
                 (ap (λ (o : Outcome). after_end w o.reply) (done false e)) (turn_keeps b 0 p.tiling (Some w) Close (p.seat, p.holds));
             runner = p.runner;
-            leased = ap (λ (o : Outcome). leased_in o.tiles) (done false e) ∙ p.leased;
           })
 
 -- ---- any
 
 module _ (b : BookValue) where
   -- a call of the book that leases no tile and ends no lease
-  asked_sound : (x : Option WorkerValue) → IsSoundSeat b x → (c : Call) → IsOfRun b.problem c → leased_in (outcome b 0 c).tiles ≡ leased_in b.tiles
-      → IsSeat (book_step b 0 c) 0 x → IsSoundSeat (book_step b 0 c) x
-  asked_sound x h c r e s = record { tiling = call_keeps b h.tiling 0 c r; seat = s; runner = h.runner; leased = e ∙ h.leased }
+  asked_sound : (x : Option WorkerValue) → IsSoundSeat b x → (c : Call) → IsOfRun b.problem c → IsSeat (book_step b 0 c) 0 x
+      → IsSoundSeat (book_step b 0 c) x
+  asked_sound x h c r s = record { tiling = call_keeps b h.tiling 0 c r; seat = s; runner = h.runner }
 
   -- one that leases, where none is open
   lent_sound : (c : Call) → IsSoundSeat b None → IsOfRun b.problem c → IsSeat (book_step b 0 c) 0 (lent_worker b.problem (outcome b 0 c).reply)
-      → leased_in (outcome b 0 c).tiles ≡ leased_in b.tiles + open_branches (lent_worker b.problem (outcome b 0 c).reply)
       → IsSoundSeat (book_step b 0 c) (lent_worker b.problem (outcome b 0 c).reply)
-  lent_sound c h r s counts =
+  lent_sound c h r s =
       let tiling = call_keeps b h.tiling 0 c r in
-      let none = h.leased in
-      record {
-        tiling = tiling;
-        seat = s;
-        runner = lent_runner (book_step b 0 c) tiling b.problem (outcome b 0 c).reply s;
-        leased = omega arith;
-      }
+      record { tiling = tiling; seat = s; runner = lent_runner (book_step b 0 c) tiling b.problem (outcome b 0 c).reply s }
 
   pub turn_sound : (x : Option WorkerValue) (a : Act) → IsSoundSeat b x → Sound (turn_of b x 0 a)
   unfolding turn_of
-  turn_sound None (Lease id) h =
-      lent_sound (call.Lease id) h tt (turn_keeps b 0 h.tiling None (Lease id) tt) (lease_counts b 0 b.problem id)
-  turn_sound None LeaseAny h = lent_sound call.LeaseAny h tt (turn_keeps b 0 h.tiling None LeaseAny tt) (lease_any_counts b 0 b.problem)
-  turn_sound None (TakeHeld id) h =
-      lent_sound (call.TakeHeld id) h tt (turn_keeps b 0 h.tiling None (TakeHeld id) tt) (take_counts b 0 b.problem id)
-  turn_sound None (PutBack id s) h = asked_sound None h (call.PutBack id s) tt (call_counts b 0 (call.PutBack id s) refl) tt
-  turn_sound None (RequestStop id) h = asked_sound None h (call.RequestStop id) tt (call_counts b 0 (call.RequestStop id) refl) tt
+  turn_sound None (Lease id) h = lent_sound (call.Lease id) h tt (turn_keeps b 0 h.tiling None (Lease id) tt)
+  turn_sound None LeaseAny h = lent_sound call.LeaseAny h tt (turn_keeps b 0 h.tiling None LeaseAny tt)
+  turn_sound None (TakeHeld id) h = lent_sound (call.TakeHeld id) h tt (turn_keeps b 0 h.tiling None (TakeHeld id) tt)
+  turn_sound None (PutBack id s) h = asked_sound None h (call.PutBack id s) tt tt
+  turn_sound None (RequestStop id) h = asked_sound None h (call.RequestStop id) tt tt
   turn_sound None _ h = h
   turn_sound (Some w) Step h = step_sound b w (at_work b w h)
   turn_sound (Some w) Back h = step_back_sound b w (at_work b w h)
@@ -239,15 +225,13 @@ module _ (b : BookValue) where
   turn_sound (Some w) Park h =
       let p = at_work b w h in
       via (turn_of b (Some w) 0 Park) _ _ (park_leads (work b w) p)
-      (free _ (call_keeps b h.tiling w.grant.worker (call.Park w.grant) tt) (park_leaves (work b w) p))
+      (free _ (call_keeps b h.tiling w.grant.worker (call.Park w.grant) tt))
   turn_sound (Some w) Abandon h = abandon_sound b w (at_work b w h)
   turn_sound (Some w) Close h = close_sound b w (at_work b w h)
   turn_sound (Some w) (PutBack id s) h =
-      asked_sound (Some w) h (call.PutBack id s) tt (call_counts b 0 (call.PutBack id s) refl)
-      (turn_keeps b 0 h.tiling (Some w) (PutBack id s) h.seat)
+      asked_sound (Some w) h (call.PutBack id s) tt (turn_keeps b 0 h.tiling (Some w) (PutBack id s) h.seat)
   turn_sound (Some w) (RequestStop id) h =
-      asked_sound (Some w) h (call.RequestStop id) tt (call_counts b 0 (call.RequestStop id) refl)
-      (turn_keeps b 0 h.tiling (Some w) (RequestStop id) h.seat)
+      asked_sound (Some w) h (call.RequestStop id) tt (turn_keeps b 0 h.tiling (Some w) (RequestStop id) h.seat)
 
 -- many acts, one after another
 pub acts_sound : (acts : List Act) (b : BookValue) (x : Option WorkerValue) → IsSoundSeat b x

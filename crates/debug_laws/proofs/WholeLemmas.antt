@@ -7,16 +7,14 @@ use Rattle.x_snapshot.specs.Judged.{snapshot_of}
 use Rattle.lab_history.specs.declared.fault.BookFault.TheVariants.{ForeignProblem}
 use Rattle.lab_book.specs.Book.{BookValue}
 use Rattle.lab_world.specs.declared.event.Act.{Act}
-use Rattle.lab_world.specs.declared.event.Act.TheVariants.{LeaseAny}
 use Rattle.lab_world.specs.Worker.{WorkerValue}
-use Rattle.lab_world.specs.World.{WorldValue, IsWorld, IsSeat, turn_of, worker_at, played, new_world}
+use Rattle.lab_world.specs.World.{WorldValue, IsWorld, IsSeat, turn_of, worker_at, played}
 use Rattle.lab_world.specs.Alone.{alone, own_events, Leads}
 use Rattle.lab_world.proofs.AloneLemmas.{then_acts}
 use Rattle.debug_views.specs.Lines.{state_line, book_refusal}
 use Rattle.x_debug.specs.Session.{SessionValue, fresh_session, entered}
 use Rattle.x_debug.specs.Commands.{world_of, deed_of_line, answer_line}
 use Rattle.x_debug.specs.LoadedTexts.{answers, load_by, load_answer, loaded}
-use Rattle.debug_laws.specs.AlikeSessions.{IsSoundSession}
 use Rattle.debug_laws.specs.PlayedSessions.{left_by_lines, all_acts, SessionPlays, WholePlays, entered_world, whole_book, snapshot_book, loaded_world}
 
 -- a world of one worker stays one
@@ -66,11 +64,11 @@ load_plays s bytes = by (snapshot_of bytes)
     by (Ok v) = same v (is_same v.problem s.book.problem)
     by (Err f) = refl
 
--- ---- the world of a sound session is one
+-- ---- the world of a session is one, where its worker holds its tile
 
-pub sound_world : (s : SessionValue) → IsSoundSession s → IsWorld (world_of s)
-sound_world s h = record { some = omega arith; few = omega arith; holds = holds }
+pub seat_world : (s : SessionValue) → IsSeat s.book 0 s.worker → IsWorld (world_of s)
+seat_world s h = record { some = omega arith; few = omega arith; holds = holds }
   where
     holds : (w : ℕ) → w < 1 → IsSeat s.book w (worker_at (s.worker ∷ []) w)
-    holds zero l = h.seat
+    holds zero l = h
     holds (suc w) l = absurd (omega arith)

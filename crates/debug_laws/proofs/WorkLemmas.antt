@@ -1,6 +1,6 @@
 -- A branch at work stays sound: where what isn't posted is posted, where its search steps on or back, where it is parted, and where its
 -- last stretch is taken out.
-use Rattle.std.proofs.Common.{◌≡◌, ℕ, ◌+◌, ◌-◌, ◌<◌, ◌≤◌, ◌==◌, ◌⊎◌, Bool, true, false, cond, Option, Some, None, Result, List, [], ◌∷◌, refl, sym, ap, ◌∙◌, subst, arith, eqb-true}
+use Rattle.std.proofs.Common.{◌≡◌, ℕ, ◌-◌, ◌<◌, ◌==◌, Bool, true, false, cond, Option, Some, None, Result, List, [], ◌∷◌, refl, sym, ap, ◌∙◌, subst, arith, eqb-true}
 use Rattle.cover_problem.specs.Lists.{has}
 use Rattle.cover_problem.specs.Problem.{ProblemValue}
 use Rattle.x_steps.specs.StateValue.{StateValue}
@@ -20,13 +20,13 @@ use Rattle.lab_history.specs.declared.entry.Reply.{Reply}
 use Rattle.lab_history.specs.declared.entry.Reply.TheVariants as reply
 use Rattle.lab_book.specs.Tile.{TileValue, Join}
 use Rattle.lab_book.specs.Tiling.{IsTiling}
-use Rattle.lab_book.specs.Book.{BookValue, Outcome, outcome, leased_in, made_at, unless, last_stretch, retracted, retract_fault}
+use Rattle.lab_book.specs.Book.{BookValue, Outcome, outcome, made_at, unless, last_stretch, retracted, retract_fault}
 use Rattle.debug_views.specs.Lines.{runner_refusal}
 use Rattle.lab_world.specs.Worker.{WorkerValue, HoldsTile, after_retract, after_split, marked_at, moved_to, shortened}
 use Rattle.lab_world.proofs.HoldLemmas.{passed}
 use Rattle.lab_world.proofs.OwnLemmas.{Has, own, own_is_tile, found_own, last_own, some_is, retract_has, split_has}
 use Rattle.lab_world.proofs.SplitLemmas.{cut_is, split_is}
-use Rattle.debug_acts.specs.Walk.{steps_ahead, post_call, work_posted, with_room, step_forward}
+use Rattle.debug_acts.specs.Walk.{steps_ahead, work_posted, with_room, step_forward}
 use Rattle.lab_world.specs.World.{cut_refusal}
 use Rattle.debug_acts.proofs.CallLemmas.{call_keeps}
 use Rattle.x_branches.proofs.RunnerLemmas.{may_end}
@@ -35,17 +35,15 @@ use Rattle.debug_acts.specs.Work.{AtWork, work}
 use Rattle.debug_acts.proofs.SoundLemmas.{IsWork, here_fits, start_fits, posted_work, moved_work, back_runner, stepped_work}
 use Rattle.debug_laws.proofs.WorkWords.{answered, parted, parted_line, split, book_asked, retracted_by, retract}
 use Rattle.debug_laws.proofs.BookLemmas.{to_here}
-use Rattle.debug_laws.proofs.LeasedLemmas.{call_counts}
 
--- a book and worker 0, which holds one of its tiles and has a runner; no other tile is leased
+-- a book and worker 0, which holds one of its tiles and has a runner
 pub record IsSoundWork (u : AtWork) : Type 0 where
   pub tiling : IsTiling u.book.problem u.book.branch u.book.first u.book.tiles
   pub seat : u.worker.grant.worker ≡ 0
   pub holds : HoldsTile u.book u.worker
   pub runner : IsRunner u.worker.runner
-  pub leased : leased_in u.book.tiles ≡ 1
 
--- without what is said of leases
+-- whichever the worker's number is
 pub as_work : (u : AtWork) → IsSoundWork u → IsWork u
 as_work u s = record { tiling = s.tiling; holds = s.holds; runner = s.runner }
 
@@ -64,7 +62,6 @@ module _ (u : AtWork) (s : IsSoundWork u) where
         seat = s.seat;
         holds = q.holds;
         runner = q.runner;
-        leased = call_counts u.book u.worker.grant.worker (post_call u.worker) refl ∙ s.leased;
       }
 
   -- both of two
@@ -80,7 +77,7 @@ module _ (u : AtWork) (s : IsSoundWork u) where
   pub moved_sound : (t : StateValue) → IsRunner (record run { position = t }) → IsSoundWork (work u.book (moved_to u.worker t))
   moved_sound t k =
       let q = moved_work u (as_work u s) t k in
-      record { tiling = q.tiling; seat = s.seat; holds = q.holds; runner = q.runner; leased = s.leased }
+      record { tiling = q.tiling; seat = s.seat; holds = q.holds; runner = q.runner }
 
   pub back_sound : (n : ℕ) → IsSoundWork (work u.book (moved_to u.worker (after run.problem (unposted_steps run - n) run.mark)))
   back_sound n = moved_sound _ (back_runner u (as_work u s) (unposted_steps run - n) (omega arith))
@@ -108,7 +105,6 @@ module _ (u : AtWork) (s : IsSoundWork u) where
         holds = record { problem = mine.0; tile = mine.2 };
         runner = may_end run (cut_at run level o) s.runner (start_fits u (as_work u s)) refl (cut_fits run.problem path cut.cut)
             (comes_rank run.problem run.position (cut_state path) (here_fits u (as_work u s)) cut.later);
-        leased = call_counts u.book w (call.Split u.worker.grant path true) refl ∙ s.leased;
       }
 
 -- ---- steps on
@@ -118,7 +114,7 @@ unfolding step_forward
 stepped_sound u s some =
     let q = stepped_work u (as_work u s) some in
     let r = room_sound u s in
-    record { tiling = q.tiling; seat = r.seat; holds = q.holds; runner = q.runner; leased = r.leased }
+    record { tiling = q.tiling; seat = r.seat; holds = q.holds; runner = q.runner }
 
 -- ---- the last stretch is taken out
 
@@ -179,9 +175,6 @@ module _ (u : AtWork) (s : IsSoundWork u) where
   asked_tiling : IsTiling (book_asked u).problem (book_asked u).branch (book_asked u).first (book_asked u).tiles
   asked_tiling = call_keeps u.book s.tiling u.worker.grant.worker (call.Retract u.worker.grant) tt
 
-  asked_leased : leased_in (book_asked u).tiles ≡ 1
-  asked_leased = call_counts u.book u.worker.grant.worker (call.Retract u.worker.grant) refl ∙ s.leased
-
   -- as the book's answer leaves it
   pub retracted_sound : unposted_steps u.worker.runner ≡ 0 → (x : Reply) → asked_reply u ≡ x → IsSoundWork (retracted_by u x).work
   retracted_sound none (reply.Retracted from to) e =
@@ -200,7 +193,6 @@ module _ (u : AtWork) (s : IsSoundWork u) where
           mark_in = mark_within (book_asked u) (marked_at u.worker from) asked_tiling holds;
           position_in = s.runner.position_in;
         };
-        leased = asked_leased;
       }
   retracted_sound none (reply.Refused f) e =
       let mine = asked_has (reply.Refused f) e in
@@ -209,7 +201,6 @@ module _ (u : AtWork) (s : IsSoundWork u) where
         seat = s.seat;
         holds = record { problem = mine.0; tile = mine.2 };
         runner = s.runner;
-        leased = asked_leased;
       }
   retracted_sound none (reply.Leased g lo hi mark n) e = s
   retracted_sound none _ e = s

@@ -1,6 +1,6 @@
 -- Words of these proofs: what is answered, and what is left of a branch at work or of a book, where a tile is held or put back (`hold`, `put_back`)
 -- or opened (`lent_by`), and where the branch is parted (`parted`) or asked for its last stretch (`retracted_by`).
-use Rattle.std.specs.Prelude.{ℕ, ◌≡◌, ◌==◌, true, List, [], ◌∷◌, Option, Some, None, if◌then◌else◌}
+use Rattle.std.specs.Prelude.{ℕ, ◌==◌, true, List, [], ◌∷◌, Option, Some, None, if◌then◌else◌}
 use Rattle.text_lines.specs.Writing.{line_text, text_of}
 use Rattle.cover_problem.specs.Lists.{has}
 use Rattle.x_steps.specs.StateValue.{StateValue}

@@ -33,13 +33,22 @@ abbrev pub open_branches : Option WorkerValue → ℕ
 open_branches None = 0
 open_branches (Some w) = 1
 
--- a sound session: its book's tiles are a tiling, an open branch is leased to worker 0, which holds the tile, and has a runner; no other
--- tile is leased
-pub record IsSoundSession (s : SessionValue) : Type 0 where
+-- a seated session: its book's tiles are a tiling, and an open branch is leased to worker 0, which holds the tile, and has a runner
+pub record IsSeatedSession (s : SessionValue) : Type 0 where
   pub tiling : IsTiling s.book.problem s.book.branch s.book.first s.book.tiles
   pub seat : IsSeat s.book 0 s.worker
   pub runner : HasRunner s.worker
+
+-- a sound session: a seated one, and no other tile is leased
+pub record IsSoundSession (s : SessionValue) : Type 0 where
+  pub seated : IsSeatedSession s
   pub leased : leased_in s.book.tiles ≡ open_branches s.worker
+
+-- two seated sessions that are alike
+pub record AreSeatedAlike (a b : SessionValue) : Type 0 where
+  pub seated : IsSeatedSession a
+  pub also_seated : IsSeatedSession b
+  pub alike : AreAlikeSessions a b
 
 -- two sound sessions that are alike
 pub record AreSoundAlike (a b : SessionValue) : Type 0 where
@@ -47,10 +56,23 @@ pub record AreSoundAlike (a b : SessionValue) : Type 0 where
   pub also_sound : IsSoundSession b
   pub alike : AreAlikeSessions a b
 
+-- the same text is answered, and the sessions that are left are seated and alike
+pub record AreSeatedAnswers (a b : Answer) : Type 0 where
+  pub text : a.text ≡ b.text
+  pub sessions : AreSeatedAlike a.session b.session
+
 -- the same text is answered, and the sessions that are left are sound and alike
 pub record AreAlikeAnswers (a b : Answer) : Type 0 where
   pub text : a.text ≡ b.text
   pub sessions : AreSoundAlike a.session b.session
+
+-- an answer to a seated session leaves a seated one
+abbrev pub LeavesSeated : SessionValue → Answer → Type 0
+LeavesSeated s a = IsSeatedSession s → IsSeatedSession a.session
+
+-- so does a line where memory runs out
+abbrev pub StopsSeated : SessionValue → List ℕ → SessionValue → Type 0
+StopsSeated s line new = IsSeatedSession s → IsLeft s line new → IsSeatedSession new
 
 -- an answer to a sound session leaves a sound one
 abbrev pub LeavesSound : SessionValue → Answer → Type 0
@@ -66,6 +88,28 @@ abbrev pub PooledAlike : SessionValue → SessionValue → BookValue → Type 0
 PooledAlike a b new =
     AreSoundAlike a b → b.worker ≡ None → IsSearched a.book new → IsTiled new
     → AreSoundAlike (session_on new) (session_on (searched b.book))
+
+-- the same of two seated sessions, where no tile of the second one's book is leased
+abbrev pub PooledSeated : SessionValue → SessionValue → BookValue → Type 0
+PooledSeated a b new =
+    AreSeatedAlike a b → leased_in b.book.tiles ≡ 0 → IsSearched a.book new → IsTiled new
+    → AreSoundAlike (session_on new) (session_on (searched b.book))
+
+-- where two sessions are seated and alike, they answer alike
+abbrev pub SeatedAgreeOn : SessionValue → SessionValue → (SessionValue → Answer) → Type 0
+SeatedAgreeOn a b f = AreSeatedAlike a b → AreSeatedAnswers (f a) (f b)
+
+-- the same of a command
+abbrev pub SeatedAgreeOnCommand : SessionValue → SessionValue → CommandValue → Type 0
+SeatedAgreeOnCommand a b c = SeatedAgreeOn a b (λ s. answer s c)
+
+-- of a line
+abbrev pub SeatedAgreeOnLine : SessionValue → SessionValue → List ℕ → Type 0
+SeatedAgreeOnLine a b line = SeatedAgreeOn a b (λ s. answer_line s line)
+
+-- and of a text that is loaded
+abbrev pub SeatedAgreeOnLoad : SessionValue → SessionValue → List ℕ → Type 0
+SeatedAgreeOnLoad a b bytes = SeatedAgreeOn a b (λ s. load_answer s bytes)
 
 -- where two sessions are sound and alike, they answer alike
 abbrev pub AgreeOn : SessionValue → SessionValue → (SessionValue → Answer) → Type 0

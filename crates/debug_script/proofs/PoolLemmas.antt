@@ -104,5 +104,5 @@ module _ (a f : SessionValue) (k : AreSoundAlike a f) where
           let n = none_leased a k.sound e in
           searched_alike (searched a.book) n
           (record { problem = refl; branch = refl; first = refl; tiles = searched_open a.book.problem a.book.tiles n })
-          (searched_tiling a.book k.sound.tiling)
+          (searched_tiling a.book k.sound.seated.tiling)
       by (Some w) e = let o : open_branches a.worker ≡ 1 = ap open_branches e in refused_with (omega arith)

@@ -1,4 +1,4 @@
-use Rattle.debug_laws.proofs.WholeLemmas.{session_plays, fresh_plays, whole_plays, load_plays, sound_world}
+use Rattle.debug_laws.proofs.WholeLemmas.{session_plays, fresh_plays, whole_plays, load_plays, seat_world}
 use Rattle.debug_laws.proofs.laws.sessions_are_played.Goals as goal
 
 pub returns-clause-session : goal.returns-clause-session
@@ -14,4 +14,4 @@ pub returns-clause-load : goal.returns-clause-load
 returns-clause-load c = load_plays
 
 pub returns-clause-world : goal.returns-clause-world
-returns-clause-world c = sound_world
+returns-clause-world c = seat_world

@@ -1,5 +1,5 @@
-use Rattle.debug_laws.proofs.PooledLemmas.{itself}
-use Rattle.debug_laws.proofs.SoundLemmas.{fresh_sound, answer_sound, line_sound, load_sound, stopped_sound}
+use Rattle.debug_laws.proofs.PooledLemmas.{itself, seated_itself}
+use Rattle.debug_laws.proofs.SoundLemmas.{fresh_sound, answer_sound, line_sound, load_sound, stopped_sound, answer_seated, line_seated, load_seated, stopped_seated}
 use Rattle.debug_laws.proofs.laws.sessions_are_sound.Goals as goal
 
 pub returns-clause-fresh : goal.returns-clause-fresh
@@ -19,3 +19,18 @@ returns-clause-stopped c = λ s new line h l. stopped_sound s h line new l
 
 pub returns-clause-itself : goal.returns-clause-itself
 returns-clause-itself c = λ s h. itself s h
+
+pub returns-clause-seated_command : goal.returns-clause-seated_command
+returns-clause-seated_command c = λ s d h. answer_seated s h d
+
+pub returns-clause-seated_line : goal.returns-clause-seated_line
+returns-clause-seated_line c = λ s line h. line_seated s h line
+
+pub returns-clause-seated_load : goal.returns-clause-seated_load
+returns-clause-seated_load c = λ s bytes h. load_seated s h bytes
+
+pub returns-clause-seated_stopped : goal.returns-clause-seated_stopped
+returns-clause-seated_stopped c = λ s new line h l. stopped_seated s h line new l
+
+pub returns-clause-seated_itself : goal.returns-clause-seated_itself
+returns-clause-seated_itself c = λ s h. seated_itself s h

@@ -13,6 +13,7 @@ pub mod PlacedLemmas
 pub mod SizeLemmas
 pub mod FollowLemmas
 pub mod LeavingsLemmas
+pub mod ListingLemmas
 pub mod StandLemmas
 pub mod CoverLemmas
 pub mod PackingLemmas

@@ -10,6 +10,7 @@ pub mod Plain
 pub mod Chosen
 pub mod Compiled
 pub mod Layers
+pub mod Listing
 pub mod Faults
 pub mod Classes
 pub mod ClassCount

@@ -18,7 +18,7 @@ use Rattle.x_steps.proofs.RunLemmas.{start_fits, done_fits, start_first, done_la
 use Rattle.x_texts.specs.Words.{visit_words}
 use Rattle.polylab_engine.specs.Account.{ReportValue, account_of}
 use Rattle.polylab_engine.specs.Output.{whole_report}
-use Rattle.polylab_engine.specs.Packed.{packings_from}
+use Rattle.poly_place.specs.Listing.{packings_from}
 use Rattle.polylab_engine.specs.Stretch.{stop_from, report_from, stretch_report}
 use Rattle.polylab_engine.specs.First.{IsFirstReport, cover_end, packings_end, first_cover_output, first_packings_output}
 use Rattle.polylab_engine.proofs.StopLemmas.{whole_stretch}

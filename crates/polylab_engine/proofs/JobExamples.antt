@@ -31,7 +31,7 @@ use Rattle.polylab_engine.specs.Account.{account_of, report_of, AreSums, PassesB
 use Rattle.polylab_engine.specs.Stretch.{end_at, steps_taken}
 use Rattle.polylab_engine.specs.Debugged.{debug_output, job_fault}
 use Rattle.polylab_engine.specs.Ending.{IsTold, status_of}
-use Rattle.polylab_engine.specs.Listed.{AreExactCovers}
+use Rattle.poly_place.specs.Listing.{AreExactCovers}
 
 -- ---- specs/Account.antt
 

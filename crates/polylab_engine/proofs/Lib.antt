@@ -8,7 +8,6 @@ pub mod JoinedLemmas
 pub mod ClassifiedLemmas
 mod ListedLemmas
 mod EndingLemmas
-pub mod PackedLemmas
 mod OutputExamples
 mod PackedExamples
 mod JobExamples

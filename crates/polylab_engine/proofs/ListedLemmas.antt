@@ -40,7 +40,8 @@ use Rattle.polylab_engine.specs.Classified.{packings_of, classes_of, classes_out
 use Rattle.debug_script.specs.Input.{problem_text, command_lines}
 use Rattle.polylab_engine.specs.Debugged.{debug_output}
 use Rattle.polylab_engine.specs.Outcome.{job_outcome, covers_of, packed_of, place_refusal, puzzle_replies}
-use Rattle.polylab_engine.specs.Listed.{ListsCovers, ListsPackings, ListsFirstCovers, ListsFirstPackings, CountsPackings, CountsClasses, ArePackingPaths, AreExactCovers, IsListed}
+use Rattle.polylab_engine.specs.Listed.{ListsCovers, ListsPackings, ListsFirstCovers, ListsFirstPackings, CountsPackings, CountsClasses, ArePackingPaths, IsListed}
+use Rattle.poly_place.specs.Listing.{AreExactCovers}
 
 -- ---- covers
 

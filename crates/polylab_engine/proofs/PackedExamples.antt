@@ -21,7 +21,8 @@ use Rattle.poly_place.proofs.DominoExamples.{dominoes, boxed, boxed_dominoes, pa
 use Rattle.poly_place.proofs.DominoExamples.{one_by_rotations, one_by_symmetries}
 use Rattle.polylab_engine.specs.Account.{Account, kept, account_of, report_of}
 use Rattle.polylab_engine.specs.Output.{whole_account, tally_lines}
-use Rattle.polylab_engine.specs.Packed.{packing_text, packings_from, number_line, count_text, count_output, solve_output}
+use Rattle.poly_place.specs.Listing.{packing_text, packings_from}
+use Rattle.polylab_engine.specs.Packed.{number_line, count_text, count_output, solve_output}
 use Rattle.polylab_engine.specs.Classified.{packings_of, classes_of, class_lines, classes_output}
 
 -- the search takes 55 steps: the one before the end is X8 with no choice to take back

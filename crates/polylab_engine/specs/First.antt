@@ -11,7 +11,8 @@ use Rattle.poly_place.specs.Packings.{packing_problem}
 use Rattle.x_texts.specs.Words.{visit_words}
 use Rattle.polylab_engine.specs.Account.{ReportValue}
 use Rattle.polylab_engine.specs.Output.{whole_report, total_lines}
-use Rattle.polylab_engine.specs.Packed.{packings_from, number_line}
+use Rattle.poly_place.specs.Listing.{packings_from}
+use Rattle.polylab_engine.specs.Packed.{number_line}
 
 -- the line that tells that the search stopped at the visit of this number
 abbrev pub stopped_line : ℕ → List (List ℕ)

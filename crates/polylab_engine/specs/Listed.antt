@@ -4,7 +4,7 @@
 --
 -- Example: the path 4 5 1 is an exact cover of the small problem: its options a d f, b g and c e have each item once.
 -- proofs/JobExamples.antt shows it.
-use Rattle.std.specs.Prelude.{ℕ, ◌≡◌, ◌<◌, ◌≤◌, ◌⊎◌, Bool, Option, Some, List, [], ◌∷◌, ◌++◌, length, map, take, slice_index_or, EachIndex, Ok}
+use Rattle.std.specs.Prelude.{ℕ, ◌≡◌, ◌<◌, ◌≤◌, ◌⊎◌, Bool, Option, Some, List, [], ◌∷◌, ◌++◌, length, map, take, Ok}
 use Rattle.text_lines.specs.Writing.{line_text, text_of}
 use Rattle.cover_problem.specs.Lists.{has}
 use Rattle.cover_problem.specs.Problem.{ProblemValue}
@@ -34,7 +34,8 @@ use Rattle.polylab_engine.specs.declared.job.CoverJob.TheVariants as cover_jobs
 use Rattle.polylab_engine.specs.declared.job.PuzzleJob.TheVariants as puzzle_jobs
 use Rattle.x_texts.specs.Words.{visit_words}
 use Rattle.polylab_engine.specs.Output.{total_lines}
-use Rattle.polylab_engine.specs.Packed.{packings_from, number_line, count_lines}
+use Rattle.poly_place.specs.Listing.{packings_from}
+use Rattle.polylab_engine.specs.Packed.{number_line, count_lines}
 use Rattle.polylab_engine.specs.First.{stopped_line}
 use Rattle.polylab_engine.specs.Classified.{packings_of, class_lines}
 use Rattle.debug_script.specs.Input.{problem_text, command_lines}
@@ -49,10 +50,6 @@ pub record ListsCovers (p : ProblemValue) (text : List ℕ) : Type 0 where
   pub lines : text ≡ text_of (map visit_words paths) ++ text_of (total_lines (length paths) steps levels)
   pub rise : PathsRise paths
   pub covers : AreCovers p paths
-
--- the paths are exact covers
-abbrev pub AreExactCovers : ProblemValue → List (List ℕ) → Type 0
-AreExactCovers p paths = EachIndex paths (λ k. IsExactCover p (has (slice_index_or paths k [])))
 
 -- the paths stand for the packings, each once: as tests on choices
 pub record ArePackingPaths (p : PuzzleValue) (paths : List (List ℕ)) : Type 0 where

@@ -2,26 +2,16 @@
 --
 -- Example: of two dominoes A and B in the box 2 2 1 `solve` writes first `packing 1`, `AB`, `AB`; `count` writes `packings 4`,
 -- `options 8`, `steps 55`, `levels 1 4 4` (proofs/PackedExamples.antt computes both).
-use Rattle.std.specs.Prelude.{ℕ, ◌+◌, List, [], ◌∷◌, ◌++◌, true, false, length, decimal, codes}
+use Rattle.std.specs.Prelude.{ℕ, List, [], ◌∷◌, ◌++◌, true, false, length, decimal, codes}
 use Rattle.text_lines.specs.Writing.{line_text, text_of}
 use Rattle.poly_texts.specs.Puzzle.{PuzzleValue}
 use Rattle.cover_problem.specs.Grammar.{written}
 use Rattle.poly_place.specs.Packings.{packing_problem}
-use Rattle.poly_place.specs.Chosen.{packing_value}
-use Rattle.poly_place.specs.Layers.{layers}
+use Rattle.poly_place.specs.Listing.{packings_from}
 use Rattle.polylab_engine.specs.Account.{ReportValue}
 use Rattle.polylab_engine.specs.Output.{whole_report, tally_lines}
 
--- the packing of a path, with its number and its layers
-abbrev pub packing_text : PuzzleValue → ℕ → List ℕ → List ℕ
-packing_text p k path = line_text (codes "packing" ∷ decimal k ∷ []) ++ layers (packing_value p path)
-
--- the packings of these paths, numbered from k on
-abbrev pub packings_from : PuzzleValue → ℕ → List (List ℕ) → List ℕ
-packings_from p k [] = []
-packings_from p k (path ∷ paths) = packing_text p k path ++ packings_from p (k + 1) paths
-
--- the line of their number
+-- the line of the number of packings
 abbrev pub number_line : ℕ → List (List ℕ)
 number_line n = codes "packings" ∷ decimal n ∷ []
 

@@ -3,7 +3,7 @@ ghost use Rattle.std.specs.Prelude.{IfErr};
 ghost use Rattle.polylab_engine.specs.Refusals.{IsWantOrPool};
 ghost use Rattle.poly_place.specs.Packings.{packing_problem};
 ghost use Rattle.polylab_engine.specs.Classified.{packings_of, classes_output, lines_of_classes};
-ghost use Rattle.polylab_engine.specs.Listed.{AreExactCovers};
+ghost use Rattle.poly_place.specs.Listing.{AreExactCovers};
 ghost use Rattle.x_texts.specs.Writes.{AddsLines};
 ghost use Rattle.cover_problem.specs.Answers.{ReturnsItems};
 

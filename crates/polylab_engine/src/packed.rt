@@ -1,12 +1,8 @@
 //! What `solve`, `count` and `options` write.
 ghost use Rattle.polylab_engine.specs.Refusals.{IsWantOrPool};
 ghost use Rattle.std.specs.Prelude.{◌<◌, IfErr};
-ghost use Rattle.cover_problem.specs.Lists.{has};
-ghost use Rattle.cover_problem.specs.ExactCover.{IsExactCover};
-ghost use Rattle.poly_place.specs.Packings.{packing_problem};
-ghost use Rattle.polylab_engine.specs.Packed.{solve_output, count_output, count_text, options_output, packing_text, packings_from};
+ghost use Rattle.polylab_engine.specs.Packed.{solve_output, count_output, count_text, options_output};
 ghost use Rattle.polylab_engine.specs.First.{packings_end, first_packings_output};
-ghost use Rattle.polylab_engine.specs.Listed.{AreExactCovers};
 ghost use Rattle.text_lines.specs.Writing.{line_text};
 ghost use Rattle.cover_problem.specs.Answers.{ReturnsItems, Adds};
 
@@ -15,8 +11,8 @@ use crate::report::Report;
 use crate::search::search_first;
 use crate::tables::TableKind;
 use crate::workers::Workers;
-use cover_problem::{Lists, write_cover};
-use poly_place::{Compiled, layers, packing_of};
+use cover_problem::write_cover;
+use poly_place::{Compiled, write_packings};
 use std::alloc::{AllocError, Global};
 use text_lines::write_number_line;
 
@@ -36,7 +32,7 @@ pub fn solve<W: Workers>(
     let report = workers.search(alloc, problem, true)?;
     // The number comes last, as in each text here: a reader of the packings needs no second pass.
     let mut text = Vec::new(alloc);
-    push_packings(alloc, &mut text, compiled, report.visits())?;
+    write_packings(alloc, &mut text, compiled, report.visits())?;
     write_number_line(&mut text, "packings", report.visited())?;
     Ok(text)
 }
@@ -55,7 +51,7 @@ pub fn first_packings(
     problem.is_sound();
     let report = search_first(alloc, problem, table, first)?;
     let mut text = Vec::new(alloc);
-    push_packings(alloc, &mut text, compiled, report.visits())?;
+    write_packings(alloc, &mut text, compiled, report.visits())?;
     push_end(&mut text, report.visited(), first)?;
     Ok(text)
 }
@@ -109,38 +105,4 @@ pub fn options(alloc: Global, compiled: &Compiled<'_>) -> Result<Vec<u8>, AllocE
     ensures { ReturnsItems result (options_output compiled.now) }
 {
     write_cover(alloc, compiled.problem())
-}
-
-/// Adds the packings for which these exact covers stand, numbered from 1.
-fn push_packings(
-    alloc: Global,
-    text: &mut Vec<u8>,
-    compiled: &Compiled<'_>,
-    visits: &Lists,
-) -> Result<(), AllocError>
-    requires { AreExactCovers (packing_problem compiled.now) visits.now }
-    ensures { Adds result text.old text.new (packings_from compiled.now 1 visits.now) }
-{
-    // Each packing is let go when it is written: in memory stand the visits alone, and the text.
-    for k in 0..visits.len() {
-        push_packing(alloc, text, compiled, k as u128 + 1, visits.list(k))?;
-    }
-    Ok(())
-}
-
-/// Adds a packing: a line with its number, and its layers.
-fn push_packing(
-    alloc: Global,
-    text: &mut Vec<u8>,
-    compiled: &Compiled<'_>,
-    number: u128,
-    path: &[u32],
-) -> Result<(), AllocError>
-    requires { IsExactCover (packing_problem compiled.now) (has path.now) }
-    ensures { Adds result text.old text.new (packing_text compiled.now number path.now) }
-{
-    write_number_line(text, "packing", number)?;
-    let packing = packing_of(alloc, compiled, path)?;
-    let shown = layers(alloc, &packing)?;
-    text.extend_from_slice(shown.as_bytes())
 }

@@ -1,6 +1,6 @@
 use Rattle.polylab_engine.proofs.ListedLemmas.{report_covers}
 use Rattle.polylab_engine.proofs.packed.solve.Goals as goal
 
-pub push_packings-requires : goal.push_packings-requires
-push_packings-requires g c =
+pub write_packings-requires : goal.write_packings-requires
+write_packings-requires g c =
     report_covers c.args.compiled.now _ _ _ c.problem-problem.ensures c.is_sound.ensures.problem c.in_ok-report.ensures.report c.visits.ensures

@@ -1,8 +1,8 @@
--- Packings that are added one by one.
+-- Packings that are listed one by one.
 use Rattle.std.proofs.Common.{◌≡◌, ℕ, ◌+◌, ◌<◌, List, [], ◌∷◌, ◌++◌, length, get_or, take, sym, ap, ◌∙◌, arith, append_assoc, append-nil}
 use Rattle.std.proofs.lemmas.List.{take_more, length-take-le}
 use Rattle.poly_texts.specs.Puzzle.{PuzzleValue}
-use Rattle.polylab_engine.specs.Packed.{packing_text, packings_from}
+use Rattle.poly_place.specs.Listing.{packing_text, packings_from}
 
 packings_push : (p : PuzzleValue) (n : ℕ) (paths : List (List ℕ)) (path : List ℕ) → packings_from p n (paths ++ path ∷ []) ≡ packings_from p n paths ++ packing_text p (n + length paths) path
 packings_push p n [] path = append-nil (packing_text p n path) ∙ ap (λ (k : ℕ). packing_text p k path) (omega arith)

@@ -6,3 +6,6 @@ mod finish;
 mod new_tests;
 mod resumed_tests;
 mod search_tests;
+
+pub use entry_tests::are_read_back;
+pub use search_tests::{Play, holds_other_leases_stale, is_searched};

@@ -1,21 +1,28 @@
 //! Lists of events drawn by a seed, on drawn problems: the tiles part the run after each list, and once all
 //! are closed what was posted is the run of one machine.
 
-use crate::fixtures::{Do, add, play, visits_of};
+use crate::fixtures::{Do, add, add_path, has_visits, play};
 use cover_problem::{PlainTable, Problem, Table, read_cover};
 use drawn_problems::{draw, drawn_narrow_options, text_of};
 use lab_book::{Book, Status, Tile};
 use lab_world::{World, WorldEvent};
-use std::alloc::{AllocError, Global};
-use std::test::Fail;
-use x_branches::Cut;
+use std::alloc::Global;
+use x_branches::{Cut, KeptStretch};
 use x_steps::{Cursor, Label, Machine, State};
+
+/// A world over a plain table.
+type Plain<'p> = World<'p, PlainTable>;
 
 /// The text of a problem of five items, of which so many are primary, with four to fifteen options of few of
 /// them.
-fn drawn_text(alloc: Global, primary: u32, seed: &mut u64) -> Result<String, AllocError> {
-    let options = drawn_narrow_options(alloc, 4, 12, seed)?;
-    text_of(alloc, 5, primary, &options)
+fn drawn_text(alloc: Global, primary: u32, seed: &mut u64) -> Option<String> {
+    let Ok(options) = drawn_narrow_options(alloc, 4, 12, seed) else {
+        return None;
+    };
+    match text_of(alloc, 5, primary, &options) {
+        Ok(text) => Some(text),
+        Err(_) => None,
+    }
 }
 
 /// What a worker does next; the most of it is steps.
@@ -38,50 +45,60 @@ fn drawn_act(seed: &mut u64) -> Do {
 }
 
 /// Splits at each option of a level, the last one first.
-fn add_splits(
-    alloc: Global,
-    events: &mut Vec<WorldEvent>,
-    worker: u8,
-    level: usize,
-) -> Result<(), AllocError> {
+fn add_splits(alloc: Global, events: &mut Vec<WorldEvent>, worker: u8, level: usize) -> bool {
     for before in 0..15 {
-        add(alloc, events, worker, Do::Split(level, 15 - before), 1)?;
-    }
-    Ok(())
-}
-
-/// Events of three workers.
-fn drawn_events(alloc: Global, seed: &mut u64) -> Result<Vec<WorldEvent>, AllocError> {
-    let mut events = Vec::new(alloc);
-    for _ in 0..60 {
-        let worker = draw(seed) % 3;
-        add(alloc, &mut events, worker as u8, drawn_act(seed), 1)?;
-        if draw(seed) % 16 == 0 {
-            add_splits(alloc, &mut events, worker as u8, draw(seed) as usize % 3)?;
+        if !add(alloc, events, worker, Do::Split(level, 15 - before), 1) {
+            return false;
         }
     }
-    Ok(events)
+    true
+}
+
+/// Adds what one of three workers does next, and some times splits.
+fn add_drawn(alloc: Global, events: &mut Vec<WorldEvent>, seed: &mut u64) -> bool {
+    let worker = (draw(seed) % 3) as u8;
+    let is_added = add(alloc, events, worker, drawn_act(seed), 1);
+    if draw(seed) % 16 != 0 {
+        return is_added;
+    }
+    add_splits(alloc, events, worker, draw(seed) as usize % 3) && is_added
+}
+
+/// Adds events of three workers.
+fn add_all_drawn(alloc: Global, events: &mut Vec<WorldEvent>, seed: &mut u64) -> bool {
+    for _ in 0..60 {
+        if !add_drawn(alloc, events, seed) {
+            return false;
+        }
+    }
+    true
 }
 
 /// Steps of a worker to its branch's end, its post, and the end of its lease.
-fn add_end(alloc: Global, events: &mut Vec<WorldEvent>, worker: u8) -> Result<(), AllocError> {
-    add(alloc, events, worker, Do::Step, 2000)?;
-    add(alloc, events, worker, Do::Post, 1)?;
-    add(alloc, events, worker, Do::Close, 1)
+fn add_end(alloc: Global, events: &mut Vec<WorldEvent>, worker: u8) -> bool {
+    add(alloc, events, worker, Do::Step, 2000)
+        && add(alloc, events, worker, Do::Post, 1)
+        && add(alloc, events, worker, Do::Close, 1)
 }
 
-/// Three workers end what they have, and then one leases each tile, that waits or is held, and ends it.
-fn ending(alloc: Global, tiles: u64) -> Result<Vec<WorldEvent>, AllocError> {
-    let mut events = Vec::new(alloc);
-    for worker in 0..3 {
-        add_end(alloc, &mut events, worker)?;
+/// One worker leases a tile, that waits or is held, and ends it.
+fn add_tile(alloc: Global, events: &mut Vec<WorldEvent>, id: u64) -> bool {
+    add(alloc, events, 0, Do::Lease(id), 1)
+        && add(alloc, events, 0, Do::TakeHeld(id), 1)
+        && add_end(alloc, events, 0)
+}
+
+/// Adds that three workers end what they have, and that then one ends each tile.
+fn add_ending(alloc: Global, events: &mut Vec<WorldEvent>, tiles: u64) -> bool {
+    if !add_end(alloc, events, 0) || !add_end(alloc, events, 1) || !add_end(alloc, events, 2) {
+        return false;
     }
     for id in 0..tiles {
-        add(alloc, &mut events, 0, Do::Lease(id), 1)?;
-        add(alloc, &mut events, 0, Do::TakeHeld(id), 1)?;
-        add_end(alloc, &mut events, 0)?;
+        if !add_tile(alloc, events, id) {
+            return false;
+        }
     }
-    Ok(events)
+    true
 }
 
 /// The choices of a cut; none where there is no cut.
@@ -104,126 +121,163 @@ fn is_at(state: &State, path: &[u32], label: Label) -> bool {
     }
 }
 
-/// Whether a tile's stretches join, from its first mark to its mark.
-fn are_joined(alloc: Global, tile: &Tile<'_>) -> Result<bool, AllocError> {
-    let mut end = tile.first_mark().copy()?;
-    for stretch in tile.stretches() {
-        let from = stretch.from(alloc)?;
-        if !from.same(&end) {
-            return Ok(false);
-        }
-        end = stretch.to(alloc)?;
+/// Whether a stretch begins at a state.
+fn is_from(alloc: Global, stretch: &KeptStretch<'_>, state: &State) -> bool {
+    match stretch.from(alloc) {
+        Ok(from) => from.same(state),
+        Err(_) => false,
     }
-    Ok(tile.mark().same(&end))
 }
 
-/// Whether a tile begins at its low cut, and is posted up to its high one if it is closed.
-fn is_tile(alloc: Global, tile: &Tile<'_>) -> Result<bool, AllocError> {
-    if tile.status() == Status::Closed && !is_at(tile.mark(), path_of(tile.hi()), Label::Done) {
-        return Ok(false);
+/// Where a stretch ends, if it begins at a state.
+fn end_from(alloc: Global, stretch: &KeptStretch<'_>, state: &State) -> Option<State> {
+    if !is_from(alloc, stretch, state) {
+        return None;
     }
-    Ok(is_at(tile.first_mark(), path_of(tile.lo()), Label::X1) && are_joined(alloc, tile)?)
+    match stretch.to(alloc) {
+        Ok(to) => Some(to),
+        Err(_) => None,
+    }
+}
+
+/// Whether a tile's stretches join, from its first mark to its mark.
+fn are_joined(alloc: Global, tile: &Tile<'_>) -> bool {
+    let Ok(mut end) = tile.first_mark().copy() else {
+        return false;
+    };
+    for stretch in tile.stretches() {
+        match end_from(alloc, stretch, &end) {
+            Some(to) => end = to,
+            None => return false,
+        }
+    }
+    tile.mark().same(&end)
+}
+
+/// Whether a tile, the first one or another, begins at these choices, and is posted up to its end if it is closed.
+fn is_tile(alloc: Global, tile: &Tile<'_>, cut: &[u32], is_first: bool) -> bool {
+    let begins = path_of(tile.lo()) == cut && cut.is_empty() == is_first;
+    if tile.status() == Status::Closed && !is_at(tile.mark(), path_of(tile.hi()), Label::Done) {
+        return false;
+    }
+    begins && is_at(tile.first_mark(), cut, Label::X1) && are_joined(alloc, tile)
 }
 
 /// Whether tiles part the whole run: each begins at the cut where the one before it ends.
-fn are_tiles(alloc: Global, tiles: &[Tile<'_>]) -> Result<bool, AllocError> {
+fn are_tiles(alloc: Global, tiles: &[Tile<'_>]) -> bool {
     let mut cut: &[u32] = &[];
     for (place, tile) in tiles.iter().enumerate() {
-        let begins = path_of(tile.lo()) == cut && (place == 0 || !cut.is_empty());
-        if !begins || !is_tile(alloc, tile)? {
-            return Ok(false);
+        if !is_tile(alloc, tile, cut, place == 0) {
+            return false;
         }
         cut = path_of(tile.hi());
     }
-    Ok(cut.is_empty())
+    cut.is_empty()
 }
 
-/// The run by single steps: how many, and its visits with a 0 after each.
-fn run_of(machine: &mut Machine<'_, PlainTable>, visits: &mut Vec<u32>) -> Result<u32, AllocError> {
+/// The run by single steps: how many; its visits are added, with a 0 after each.
+fn run_of(machine: &mut Machine<'_, PlainTable>, visits: &mut Vec<u32>) -> Option<u32> {
     for count in 0..100_000 {
-        if machine.is_visit() {
-            visits.extend_from_slice(&machine.state().path)?;
-            visits.push(0)?;
+        if machine.is_visit() && !add_path(visits, &machine.state().path) {
+            return None;
         }
         if machine.step().is_err() {
-            return Ok(count);
+            return Some(count);
         }
     }
-    Ok(0)
+    None
 }
 
-/// The run of a problem: how many steps, and its visits.
-fn machine_run(alloc: Global, problem: &Problem) -> Result<(u32, Vec<u32>), Fail> {
-    let table = PlainTable::new(alloc, problem)?;
-    let Ok(mut machine) = Machine::new(alloc, problem, table) else {
-        return Err(Fail::from("no machine"));
+/// The same of a new machine.
+fn machine_run(alloc: Global, problem: &Problem, visits: &mut Vec<u32>) -> Option<u32> {
+    let Ok(table) = PlainTable::new(alloc, problem) else {
+        return None;
     };
-    let mut visits = Vec::new(alloc);
-    let steps = run_of(&mut machine, &mut visits)?;
-    Ok((steps, visits))
+    match Machine::new(alloc, problem, table) {
+        Ok(mut machine) => run_of(&mut machine, visits),
+        Err(_) => None,
+    }
 }
 
 /// Whether what was posted is the run of one machine.
-fn is_run(alloc: Global, book: &Book<'_>) -> Result<bool, Fail> {
-    let (steps, visits) = machine_run(alloc, book.problem())?;
-    Ok(book.finished() && book.steps() == steps as u128 && visits_of(alloc, book)? == visits)
+fn is_run(alloc: Global, book: &Book<'_>) -> bool {
+    let mut visits = Vec::new(alloc);
+    let Some(steps) = machine_run(alloc, book.problem(), &mut visits) else {
+        return false;
+    };
+    book.finished() && book.steps() == steps as u128 && has_visits(alloc, book, &visits)
 }
 
-/// Whether the tiles part the run after a drawn list of events.
-fn goes_on(alloc: Global, world: &mut World<'_, PlainTable>, seed: &mut u64) -> Result<bool, Fail> {
-    let events = drawn_events(alloc, seed)?;
-    let _replies = play(world, &events)?;
-    Ok(are_tiles(alloc, world.book().tiles())?)
+/// Whether a world plays these events.
+fn plays(world: &mut Plain<'_>, events: &[WorldEvent]) -> bool {
+    play(world, events).is_some()
 }
 
-/// Whether what is posted in the end is the run; and how many tiles there are.
-fn ends(alloc: Global, world: &mut World<'_, PlainTable>) -> Result<(bool, usize), Fail> {
+/// Whether it plays a drawn list of events.
+fn plays_drawn(alloc: Global, world: &mut Plain<'_>, seed: &mut u64) -> bool {
+    let mut events = Vec::new(alloc);
+    add_all_drawn(alloc, &mut events, seed) && plays(world, &events)
+}
+
+/// Whether it plays the end of each of so many tiles.
+fn plays_ending(alloc: Global, world: &mut Plain<'_>, tiles: usize) -> bool {
+    let mut events = Vec::new(alloc);
+    add_ending(alloc, &mut events, tiles as u64) && plays(world, &events)
+}
+
+/// How many tiles there are in the end, if what is posted then is the run.
+fn tiles_at_end(alloc: Global, world: &mut Plain<'_>) -> Option<usize> {
     let tiles = world.book().tiles().len();
-    let events = ending(alloc, tiles as u64)?;
-    let _replies = play(world, &events)?;
-    Ok((is_run(alloc, world.book())?, tiles))
+    if plays_ending(alloc, world, tiles) && is_run(alloc, world.book()) {
+        Some(tiles)
+    } else {
+        None
+    }
 }
 
-/// The same, and whether the tiles part the run after each of some drawn lists before.
-fn goes_to_its_end(
-    alloc: Global,
-    world: &mut World<'_, PlainTable>,
-    seed: &mut u64,
-) -> Result<(bool, usize), Fail> {
+/// The same, if the tiles part the run after each of some drawn lists before.
+fn tiles_of(alloc: Global, world: &mut Plain<'_>, seed: &mut u64) -> Option<usize> {
     for _ in 0..10 {
-        if !goes_on(alloc, world, seed)? {
-            return Ok((false, 0));
+        if !plays_drawn(alloc, world, seed) || !are_tiles(alloc, world.book().tiles()) {
+            return None;
         }
     }
-    ends(alloc, world)
+    tiles_at_end(alloc, world)
 }
 
 /// The same of a new world.
-fn holds(alloc: Global, problem: &Problem, seed: &mut u64) -> Result<(bool, usize), Fail> {
-    let mut world = World::new(alloc, problem, 3)?;
-    goes_to_its_end(alloc, &mut world, seed)
+fn tiles_of_new(alloc: Global, problem: &Problem, seed: &mut u64) -> Option<usize> {
+    match Plain::new(alloc, problem, 3) {
+        Ok(mut world) => tiles_of(alloc, &mut world, seed),
+        Err(_) => None,
+    }
 }
 
-/// How many of so many drawn problems hold, up to the first that doesn't, and how many tiles there are in
-/// all.
-fn held(alloc: Global, rounds: u32) -> Result<(u32, usize), Fail> {
+/// The same of the next problem that is drawn.
+fn tiles_of_drawn(alloc: Global, primary: u32, seed: &mut u64) -> Option<usize> {
+    let Some(text) = drawn_text(alloc, primary, seed) else {
+        return None;
+    };
+    let Ok(problem) = read_cover(alloc, text.as_bytes()) else {
+        return None;
+    };
+    tiles_of_new(alloc, &problem, seed)
+}
+
+/// How many tiles there are in all of so many drawn problems; none where something is wrong in one.
+fn tiles_of_all(alloc: Global, rounds: u32) -> usize {
     let mut seed = 11;
     let mut all: usize = 0;
     for round in 0..rounds {
-        let text = drawn_text(alloc, round % 5 + 1, &mut seed)?;
-        let problem = read_cover(alloc, text.as_bytes())?;
-        let (right, tiles) = holds(alloc, &problem, &mut seed)?;
-        if !right {
-            return Ok((round, all));
+        match tiles_of_drawn(alloc, round % 5 + 1, &mut seed) {
+            Some(tiles) => all = all.wrapping_add(tiles),
+            None => return 0,
         }
-        all = all.wrapping_add(tiles);
     }
-    Ok((rounds, all))
+    all
 }
 
 #[test]
-fn drawn_events_leave_a_tiling(rt: HostRuntime) -> Result<(), Fail> {
-    let (rounds, tiles) = held(rt.alloc(), 40)?;
-    assert!(rt; rounds == 40 && tiles > 100);
-    Ok(())
+fn drawn_events_leave_a_tiling(rt: HostRuntime) {
+    assert!(rt; tiles_of_all(rt.alloc(), 40) > 100);
 }

@@ -2,11 +2,15 @@
 #![tactic(auto)]
 
 #[cfg(test)]
+mod asked;
+#[cfg(test)]
 mod books;
 #[cfg(test)]
 mod drawn_tests;
 #[cfg(test)]
 mod fixtures;
+#[cfg(test)]
+mod opening;
 #[cfg(test)]
 mod row_tests;
 #[cfg(test)]

@@ -1,11 +1,11 @@
 //! Calls of a book as rows of a table, each answered by the number of its refusal.
 
+use crate::fixtures::{cut_at, whole};
 use cover_problem::{PlainTable, Problem};
-use drawn_books::{advance, cut_of, ended, given_lease, lease_of, stretch_of, whole};
+use drawn_books::{advance, ended, lease_of};
 use lab_book::{Book, BookFault, Lease, Leased};
 use std::alloc::Global;
-use std::test::Fail;
-use x_branches::{Cut, Runner, RunnerFault, Stretch};
+use x_branches::{Cut, Runner, Stretch};
 use x_steps::Refused;
 
 /// Another problem than the small one: an item and two options.
@@ -33,62 +33,19 @@ pub enum Act {
     PutBack(u8, u64, u32),
 }
 
-/// Splits the first tile so often that there is a tile of this id, 1 or 2 at the most; the problem has an item and two options.
-fn make_tiles<'p>(
-    alloc: Global,
-    problem: &'p Problem,
-    book: &mut Book<'p>,
-    id: u64,
-) -> Result<(), Fail> {
-    if id == 0 {
-        return Ok(());
-    }
-    let high = cut_of(alloc, problem, &[2])?;
-    let low = cut_of(alloc, problem, &[1])?;
-    let lease = given_lease(book.lease(0, 0))?;
-    let _parted = fault_of(book.split(&lease, high));
-    if id > 1 {
-        let _parted = fault_of(book.split(&lease, low));
-    }
-    lease.discard();
-    Ok(())
-}
-
-/// The lease of these parts that a new book of a problem with an item and two options gives: refused calls add entries until the next
-/// one is that which the lease names.
-fn lease_of_new<'p>(
-    alloc: Global,
-    problem: &'p Problem,
-    book: &mut Book<'p>,
-    given: Given,
-) -> Result<Lease, Fail> {
-    let (id, worker, index) = given;
-    make_tiles(alloc, problem, book, id)?;
-    for _ in book.history().len() as u64..index {
-        let _refused = book.request_stop(0, 99);
-    }
-    given_lease(book.lease(worker % 32, id))
-}
-
-/// The lease of these parts, whether or not the tested book gave it: a second book, of a problem with an item and two options, gives it.
-fn lease(alloc: Global, problem: &Problem, given: Given) -> Result<Lease, Fail> {
-    let mut book = Book::new(alloc, problem)?;
-    lease_of_new(alloc, problem, &mut book, given)
-}
-
-/// The fault of a refusal.
-fn fault_of<V: Drop, G: Drop>(made: Result<V, Refused<BookFault, G>>) -> Result<V, BookFault> {
-    match made {
-        Ok(value) => Ok(value),
-        Err(Refused { fault, given: _ }) => Err(fault),
-    }
-}
-
 /// The number of a refusal, or 0.
 fn number<V: Drop>(answer: Result<V, BookFault>) -> Option<u8> {
     match answer {
         Ok(_) => Some(0),
         Err(fault) => fault.number(),
+    }
+}
+
+/// The same of a refusal that gives back what was handed in.
+fn number_of<V: Drop, G: Drop>(answer: Result<V, Refused<BookFault, G>>) -> Option<u8> {
+    match answer {
+        Ok(_) => Some(0),
+        Err(Refused { fault, given: _ }) => fault.number(),
     }
 }
 
@@ -104,55 +61,123 @@ fn leased(answer: Result<Leased<'_>, BookFault>) -> Option<u8> {
 }
 
 /// Leases any tile.
-fn lease_any(book: &mut Book<'_>, worker: u8) -> Result<Option<u8>, Fail> {
-    match book.lease_any(worker % 32)? {
-        Some(given) => Ok(leased(Ok(given))),
-        None => Ok(Some(0)),
+fn lease_any(book: &mut Book<'_>, worker: u8) -> Option<u8> {
+    match book.lease_any(worker % 32) {
+        Ok(Some(given)) => leased(Ok(given)),
+        Ok(None) => Some(0),
+        Err(_) => None,
     }
 }
 
-/// Takes so many steps, and hands out so many others behind them, as far as there are any.
-fn walked_up_to<'p>(
+/// A worker's lease of a tile, which has to be given.
+fn given_lease(book: &mut Book<'_>, worker: u8, id: u64) -> Option<Lease> {
+    match lease_of(book.lease(worker % 32, id)) {
+        Ok(lease) => Some(lease),
+        Err(_) => None,
+    }
+}
+
+/// Posts a stretch, if there is one.
+fn post<'p>(book: &mut Book<'p>, lease: &Lease, stretch: Option<Stretch<'p>>) -> Option<u8> {
+    match stretch {
+        Some(stretch) => number_of(book.post(lease, stretch)),
+        None => None,
+    }
+}
+
+/// Splits a tile at a cut, if there is one.
+fn split<'p>(book: &mut Book<'p>, lease: &Lease, cut: Option<Cut<'p>>) -> Option<u8> {
+    match cut {
+        Some(cut) => number_of(book.split(lease, cut)),
+        None => None,
+    }
+}
+
+/// Splits a tile at the cut 2, and for an id above 1 at the cut 1; false where it can't.
+fn part<'p>(
+    alloc: Global,
+    problem: &'p Problem,
+    book: &mut Book<'p>,
+    lease: &Lease,
+    id: u64,
+) -> bool {
+    if split(book, lease, cut_at(alloc, problem, 2)) != Some(0) {
+        return false;
+    }
+    id == 1 || split(book, lease, cut_at(alloc, problem, 1)) == Some(0)
+}
+
+/// Splits the first tile so often that there is a tile of this id, 1 or 2 at the most; the run of the problem has these cuts.
+fn make_tiles<'p>(alloc: Global, problem: &'p Problem, book: &mut Book<'p>, id: u64) -> bool {
+    if id == 0 {
+        return true;
+    }
+    let Some(lease) = given_lease(book, 0, 0) else {
+        return false;
+    };
+    let are_made = part(alloc, problem, book, &lease, id);
+    lease.discard();
+    are_made
+}
+
+/// The lease of these parts that a new book gives: refused calls add entries until the next one is that which the lease names.
+fn lease_of_new<'p>(
+    alloc: Global,
+    problem: &'p Problem,
+    book: &mut Book<'p>,
+    given: Given,
+) -> Option<Lease> {
+    let (id, worker, index) = given;
+    if !make_tiles(alloc, problem, book, id) {
+        return None;
+    }
+    for _ in book.history().len() as u64..index {
+        let _refused = book.request_stop(0, 99);
+    }
+    given_lease(book, worker, id)
+}
+
+/// The lease of these parts, whether or not the tested book gave it: a second book, of this problem, gives it.
+fn lease(alloc: Global, problem: &Problem, given: Given) -> Option<Lease> {
+    let Ok(mut book) = Book::new(alloc, problem) else {
+        return None;
+    };
+    lease_of_new(alloc, problem, &mut book, given)
+}
+
+/// Takes so many steps, and hands out so many others behind them: all of them, or as far as there are any.
+fn walked_behind<'p>(
     runner: &mut Runner<'p, PlainTable>,
     from: u32,
     steps: u32,
-) -> Result<Stretch<'p>, Fail> {
-    let _is_short = advance(runner, from);
-    let _before = runner.take_stretch()?;
-    let _is_short = advance(runner, steps);
-    Ok(runner.take_stretch()?)
+    are_all: bool,
+) -> Option<Stretch<'p>> {
+    let is_there = advance(runner, from).is_ok();
+    if runner.take_stretch().is_err() {
+        return None;
+    }
+    let is_behind = advance(runner, steps).is_ok();
+    if are_all && !(is_there && is_behind) {
+        return None;
+    }
+    match runner.take_stretch() {
+        Ok(stretch) => Some(stretch),
+        Err(_) => None,
+    }
 }
 
-/// The stretch of so many steps that begins so many steps after X1, as far as there are any.
-fn stretch_up_to<'p>(
+/// The stretch of so many steps that begins so many steps after X1: of all of them, or as far as there are any.
+fn stretch_of<'p>(
     alloc: Global,
     problem: &'p Problem,
     from: u32,
     steps: u32,
-) -> Result<Stretch<'p>, Fail> {
-    let mut runner = whole(alloc, problem)?;
-    walked_up_to(&mut runner, from, steps)
-}
-
-/// Posts a stretch.
-fn post<'p>(book: &mut Book<'p>, stretch: Stretch<'p>, lease: Lease) -> Option<u8> {
-    let answer = number(fault_of(book.post(&lease, stretch)));
-    lease.discard();
-    answer
-}
-
-/// Splits a tile at a cut.
-fn split<'p>(book: &mut Book<'p>, cut: Cut<'p>, lease: Lease) -> Option<u8> {
-    let answer = number(fault_of(book.split(&lease, cut)));
-    lease.discard();
-    answer
-}
-
-/// Takes the last stretch out.
-fn retract(book: &mut Book<'_>, lease: Lease) -> Option<u8> {
-    let answer = number(book.retract(&lease));
-    lease.discard();
-    answer
+    are_all: bool,
+) -> Option<Stretch<'p>> {
+    match whole(alloc, problem) {
+        Some(mut runner) => walked_behind(&mut runner, from, steps, are_all),
+        None => None,
+    }
 }
 
 /// Puts a tile back to the state to which so many steps lead.
@@ -162,57 +187,90 @@ fn put_back_after(
     worker: u8,
     id: u64,
     steps: u32,
-) -> Result<Option<u8>, RunnerFault> {
-    advance(runner, steps)?;
-    Ok(number(book.put_back(worker % 32, id, runner.state())))
+) -> Option<u8> {
+    if advance(runner, steps).is_err() {
+        return None;
+    }
+    number(book.put_back(worker % 32, id, runner.state()))
 }
 
 /// Puts a tile back to the state after so many steps of the run.
-fn put_back(
-    alloc: Global,
-    problem: &Problem,
-    book: &mut Book<'_>,
-    worker: u8,
-    id: u64,
-    steps: u32,
-) -> Result<Option<u8>, Fail> {
-    let mut runner = whole(alloc, problem)?;
-    Ok(put_back_after(&mut runner, book, worker, id, steps)?)
+fn put_back(alloc: Global, book: &mut Book<'_>, worker: u8, id: u64, steps: u32) -> Option<u8> {
+    match whole(alloc, book.problem()) {
+        Some(mut runner) => put_back_after(&mut runner, book, worker, id, steps),
+        None => None,
+    }
 }
 
-/// Makes a call: the number of the refusal, or 0.
-pub fn make<'p>(
+/// Makes a call that takes no lease.
+fn make_free(alloc: Global, book: &mut Book<'_>, act: Act) -> Option<u8> {
+    match act {
+        Act::Lease(worker, id) => leased(book.lease(worker % 32, id)),
+        Act::LeaseAny(worker) => lease_any(book, worker),
+        Act::TakeHeld(worker, id) => leased(book.take_held(worker % 32, id)),
+        Act::RequestStop(worker, id) => number(book.request_stop(worker % 32, id)),
+        Act::PutBack(worker, id, steps) => put_back(alloc, book, worker, id, steps),
+        _ => None,
+    }
+}
+
+/// Makes a call that a lease outlasts.
+fn make_lent<'p>(
     alloc: Global,
-    problem: &'p Problem,
     other: &'p Problem,
     book: &mut Book<'p>,
+    lease: &Lease,
     act: Act,
-) -> Result<Option<u8>, Fail> {
+) -> Option<u8> {
+    let problem = book.problem();
     match act {
-        Act::Lease(worker, id) => Ok(leased(book.lease(worker % 32, id))),
-        Act::LeaseAny(worker) => lease_any(book, worker),
-        Act::TakeHeld(worker, id) => Ok(leased(book.take_held(worker % 32, id))),
-        Act::Post(given, from, steps) => {
-            let stretch = stretch_of(alloc, problem, from, steps)?;
-            Ok(post(book, stretch, lease(alloc, other, given)?))
+        Act::Post(_, from, steps) => {
+            post(book, lease, stretch_of(alloc, problem, from, steps, true))
         }
-        Act::PostForeign(given, from, steps) => {
-            let stretch = stretch_up_to(alloc, other, from, steps)?;
-            Ok(post(book, stretch, lease(alloc, other, given)?))
+        Act::PostForeign(_, from, steps) => {
+            post(book, lease, stretch_of(alloc, other, from, steps, false))
         }
-        Act::Split(given, choice) => {
-            let cut = cut_of(alloc, problem, &[choice])?;
-            Ok(split(book, cut, lease(alloc, other, given)?))
+        Act::Split(_, choice) => split(book, lease, cut_at(alloc, problem, choice)),
+        Act::SplitForeign(_, choice) => split(book, lease, cut_at(alloc, other, choice)),
+        Act::Retract(_) => number(book.retract(lease)),
+        _ => None,
+    }
+}
+
+/// Makes a call under a lease, if there is one.
+fn make_under<'p>(
+    alloc: Global,
+    other: &'p Problem,
+    book: &mut Book<'p>,
+    lease: Option<Lease>,
+    act: Act,
+) -> Option<u8> {
+    let Some(lease) = lease else {
+        return None;
+    };
+    match act {
+        Act::Close(_) => ended(book.close(lease)),
+        Act::Abandon(_) => ended(book.abandon(lease)),
+        Act::Park(_) => ended(book.park(lease)),
+        _ => {
+            let answer = make_lent(alloc, other, book, &lease, act);
+            lease.discard();
+            answer
         }
-        Act::SplitForeign(given, choice) => {
-            let cut = cut_of(alloc, other, &[choice])?;
-            Ok(split(book, cut, lease(alloc, other, given)?))
-        }
-        Act::Retract(given) => Ok(retract(book, lease(alloc, other, given)?)),
-        Act::Close(given) => Ok(ended(book.close(lease(alloc, other, given)?))),
-        Act::Abandon(given) => Ok(ended(book.abandon(lease(alloc, other, given)?))),
-        Act::Park(given) => Ok(ended(book.park(lease(alloc, other, given)?))),
-        Act::RequestStop(worker, id) => Ok(number(book.request_stop(worker % 32, id))),
-        Act::PutBack(worker, id, steps) => put_back(alloc, problem, book, worker, id, steps),
+    }
+}
+
+/// Makes a call: the number of the refusal, or 0; none where memory runs out. Leases are those of a new book of the other problem.
+pub fn make<'p>(alloc: Global, other: &'p Problem, book: &mut Book<'p>, act: Act) -> Option<u8> {
+    match act {
+        Act::Post(given, _, _)
+        | Act::PostForeign(given, _, _)
+        | Act::Split(given, _)
+        | Act::SplitForeign(given, _)
+        | Act::Retract(given)
+        | Act::Close(given)
+        | Act::Abandon(given)
+        | Act::Park(given) => make_under(alloc, other, book, lease(alloc, other, given), act),
+        _ => make_free(alloc, book, act),
     }
 }

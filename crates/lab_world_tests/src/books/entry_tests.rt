@@ -1,12 +1,10 @@
 //! The entries of a history, as they are read back.
 ghost use Rattle.std.specs.Prelude.{◌<◌, length};
 
-use crate::books::acts::{Act, OTHER, make};
-use cover_problem::{Problem, read_cover};
-use drawn_problems::SMALL;
+use crate::asked::{Asked, is_so_in_small};
+use crate::books::acts::{Act, make};
 use lab_book::{Book, BookFault, Call, CallKind, Entries, Entry, Grant, Mark, Path, Reply};
 use std::alloc::Global;
-use std::test::Fail;
 use x_steps::{Cursor, Label};
 
 /// The run is split at the cut 4, both parts are posted to, and a post comes twice.
@@ -20,13 +18,15 @@ static ACTS: [Act; 6] = [
 ];
 
 /// Who called, and the kind of the call.
-static CALLERS: [(u8, CallKind); 6] = [
-    (0, CallKind::LeaseAny),
-    (0, CallKind::Split),
-    (1, CallKind::Lease),
-    (0, CallKind::Post),
-    (0, CallKind::Post),
-    (1, CallKind::Post),
+struct Caller(u8, CallKind);
+
+static CALLERS: [Caller; 6] = [
+    Caller(0, CallKind::LeaseAny),
+    Caller(0, CallKind::Split),
+    Caller(1, CallKind::Lease),
+    Caller(0, CallKind::Post),
+    Caller(0, CallKind::Post),
+    Caller(1, CallKind::Post),
 ];
 
 const FIRST: Grant = Grant {
@@ -41,20 +41,22 @@ const SECOND: Grant = Grant {
     index: 2,
 };
 
-/// Whether a state has this label, these choices and this cursor.
-fn is_at(mark: &Mark, label: Label, path: &[u32], cursor: Cursor) -> bool {
+/// A state: its label, its choices and its cursor.
+struct At(Label, &'static [u32], Cursor);
+
+/// The beginning of the run.
+static BEGIN: At = At(Label::X1, &[], Cursor::None);
+
+/// Where option 4 is to be tried first.
+static CUT: At = At(Label::X5, &[], Cursor::At(4));
+
+/// The step after the visit.
+static BEHIND_THE_VISIT: At = At(Label::X8, &[4, 5, 1], Cursor::None);
+
+/// Whether a mark is this state.
+fn is_at(mark: &Mark, at: &At) -> bool {
     let state = mark.state();
-    state.label == label && state.path.as_slice() == path && state.cursor == cursor
-}
-
-/// Whether it is the beginning of the run.
-fn is_begin(mark: &Mark) -> bool {
-    is_at(mark, Label::X1, &[], Cursor::None)
-}
-
-/// Whether it is where option 4 is to be tried first.
-fn is_cut(mark: &Mark) -> bool {
-    is_at(mark, Label::X5, &[], Cursor::At(4))
+    state.label == at.0 && state.path.as_slice() == at.1 && state.cursor == at.2
 }
 
 /// Whether the choices of a cut are these, if there are any.
@@ -66,7 +68,7 @@ fn is_path(path: &Option<Path>, choices: &[u32]) -> bool {
 }
 
 /// Whether a tile was leased: whose lease, from which choices on, and where; no other waits.
-fn is_leased(reply: &Reply, right: Grant, choices: &[u32]) -> bool {
+fn is_leased(reply: &Reply, right: Grant, choices: &[u32], begin: &At) -> bool {
     match reply {
         Reply::Leased {
             lease,
@@ -75,54 +77,43 @@ fn is_leased(reply: &Reply, right: Grant, choices: &[u32]) -> bool {
             mark,
             waiting,
         } => {
-            let begins = if choices.is_empty() {
-                is_begin(mark)
-            } else {
-                is_cut(mark)
-            };
-            *lease == right && *waiting == 0 && is_path(lo, choices) && is_path(hi, &[]) && begins
+            *lease == right
+                && *waiting == 0
+                && is_path(lo, choices)
+                && is_path(hi, &[])
+                && is_at(mark, begin)
         }
         _ => false,
     }
 }
 
-/// Whether it was split at the cut 4, and the new tile has the id 1.
-fn is_split(entry: &Entry) -> bool {
-    match (&entry.call, &entry.reply) {
-        (Call::Split { lease, path, same }, Reply::Split(id)) => {
-            *lease == FIRST && path.choices() == [4].as_slice() && *same && *id == 1
+/// Whether it is the split at the cut 4 under the first lease.
+fn is_split_call(call: &Call) -> bool {
+    match call {
+        Call::Split { lease, path, same } => {
+            *lease == FIRST && path.choices() == [4].as_slice() && *same
         }
         _ => false,
     }
 }
 
-/// Whether it is the post of the run up to the cut 4.
-fn is_first_post(call: &Call) -> bool {
+/// Whether the new tile of a split has the id 1.
+fn is_split(reply: &Reply) -> bool {
+    match reply {
+        Reply::Split(id) => *id == 1,
+        _ => false,
+    }
+}
+
+/// Whether it is the post under a lease from one state to another.
+fn is_post(call: &Call, right: Grant, begin: &At, end: &At) -> bool {
     match call {
         Call::Post {
             lease,
             from,
             to,
             same,
-        } => *lease == FIRST && *same && is_begin(from) && is_cut(to),
-        _ => false,
-    }
-}
-
-/// Whether it is the post from the cut 4 to the step after the visit.
-fn is_second_post(call: &Call) -> bool {
-    match call {
-        Call::Post {
-            lease,
-            from,
-            to,
-            same,
-        } => {
-            *lease == SECOND
-                && *same
-                && is_cut(from)
-                && is_at(to, Label::X8, &[4, 5, 1], Cursor::None)
-        }
+        } => *lease == right && *same && is_at(from, begin) && is_at(to, end),
         _ => false,
     }
 }
@@ -138,62 +129,63 @@ fn is_posted(reply: &Reply) -> bool {
 /// Whether a lease was stale, with the mark at the cut 4.
 fn is_stale(reply: &Reply) -> bool {
     match reply {
-        Reply::Refused(BookFault::StaleLease(mark)) => is_cut(mark),
+        Reply::Refused(BookFault::StaleLease(mark)) => is_at(mark, &CUT),
         _ => false,
     }
 }
 
-/// Whether the entry at a place is the one that was typed by hand.
-fn is_right(entry: &Entry, place: usize) -> bool {
+/// Whether the call and the reply at a place are those that were typed by hand.
+fn is_right(call: &Call, reply: &Reply, place: usize) -> bool {
     match place {
-        0 => is_leased(&entry.reply, FIRST, &[]),
-        1 => is_split(entry),
-        2 => is_leased(&entry.reply, SECOND, &[4]),
-        3 => is_first_post(&entry.call) && is_posted(&entry.reply),
-        4 => is_first_post(&entry.call) && is_stale(&entry.reply),
-        _ => is_second_post(&entry.call) && is_posted(&entry.reply),
+        0 => is_leased(reply, FIRST, &[], &BEGIN),
+        1 => is_split_call(call) && is_split(reply),
+        2 => is_leased(reply, SECOND, &[4], &CUT),
+        3 => is_post(call, FIRST, &BEGIN, &CUT) && is_posted(reply),
+        4 => is_post(call, FIRST, &BEGIN, &CUT) && is_stale(reply),
+        _ => is_post(call, SECOND, &CUT, &BEHIND_THE_VISIT) && is_posted(reply),
     }
 }
 
-/// Whether an entry is right, with who called and the kind of the call, as they are told without it too.
-fn is_told(history: &Entries<'_>, place: usize, caller: (u8, CallKind)) -> Result<bool, Fail>
+/// Whether the entry at a place is right, with who called and the kind of the call, which the history tells without it too.
+fn is_told(history: &Entries<'_>, place: usize, caller: &Caller) -> bool
     requires { place < length history.now }
 {
-    let (worker, kind) = caller;
-    let is_caller = history.worker(place) == worker && history.kind(place) == kind;
-    let entry = history.entry(place)?;
-    Ok(is_caller && entry.worker == worker && entry.call.kind() == kind && is_right(&entry, place))
+    if history.worker(place) != caller.0 || history.kind(place) != caller.1 {
+        return false;
+    }
+    match history.entry(place) {
+        Ok(entry) => {
+            entry.worker == caller.0
+                && entry.call.kind() == caller.1
+                && is_right(&entry.call, &entry.reply, place)
+        }
+        Err(_) => false,
+    }
 }
 
-/// How many entries are right, up to the first that isn't.
-fn count_right(book: &Book<'_>) -> Result<usize, Fail> {
+/// Whether each entry is right, and there are no others.
+fn are_right(book: &Book<'_>) -> bool {
     let history = book.history();
     for (place, caller) in CALLERS.iter().enumerate() {
-        if place >= history.len() || !is_told(&history, place, *caller)? {
-            return Ok(place);
+        if place >= history.len() || !is_told(&history, place, caller) {
+            return false;
         }
     }
-    Ok(history.len())
+    history.len() == CALLERS.len()
 }
 
-/// How many entries of a new book are right after the calls.
-fn count_right_anew(alloc: Global, problem: &Problem, other: &Problem) -> Result<usize, Fail> {
-    let mut book = Book::new(alloc, problem)?;
+/// Whether the calls are made on a new book, and each entry is right then.
+pub fn are_read_back(alloc: Global, book: &mut Book<'_>) -> bool {
+    let problem = book.problem();
     for act in &ACTS {
-        let _number = make(alloc, problem, other, &mut book, *act)?;
+        if make(alloc, problem, book, *act).is_none() {
+            return false;
+        }
     }
-    count_right(&book)
-}
-
-/// The same of the small problem.
-fn count_right_of_small(alloc: Global) -> Result<usize, Fail> {
-    let problem = read_cover(alloc, SMALL.as_bytes())?;
-    let other = read_cover(alloc, OTHER)?;
-    count_right_anew(alloc, &problem, &other)
+    are_right(book)
 }
 
 #[test]
-fn entries_are_read_back(rt: HostRuntime) -> Result<(), Fail> {
-    assert!(rt; count_right_of_small(rt.alloc())? == 6);
-    Ok(())
+fn entries_are_read_back(rt: HostRuntime) {
+    assert!(rt; is_so_in_small(rt.alloc(), &Asked::Entries));
 }

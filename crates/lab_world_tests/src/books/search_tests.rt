@@ -1,15 +1,14 @@
 //! Searches of a book's tile by one runner, call by call: what is posted twice, taken out, beyond the tile's end, or by the lease of
 //! another book.
 
-use cover_problem::{PlainTable, Problem, read_cover};
-use drawn_books::{advance, cut_of, given_lease, has_tiles, is_ended, tiles_of, whole};
-use drawn_problems::SMALL;
-use lab_book::{Book, BookFault, Lease, Leased, Posted};
+use crate::asked::{Asked, is_so_in_small};
+use crate::fixtures::{cut_at, whole};
+use cover_problem::PlainTable;
+use drawn_books::{advance, has_tiles, is_ended, lease_in, tiles_of};
+use lab_book::{Book, BookFault, Lease};
 use std::alloc::Global;
-use std::process::Abort;
-use std::test::Fail;
 use x_branches::{Cut, Runner, Stretch};
-use x_steps::{Cursor, Label, Refused, State};
+use x_steps::{Cursor, Label, State};
 
 /// What a call of the book is answered.
 #[derive(Clone, Copy)]
@@ -49,61 +48,70 @@ fn is_at(state: &State, label: Label, path: &[u32]) -> bool {
     state.label == label && state.path.as_slice() == path && state.cursor == Cursor::None
 }
 
+/// Whether a lease or a stretch is stale, and the tile's mark is this step after these choices.
+fn is_stale(fault: &BookFault, label: Label, path: &[u32]) -> bool {
+    match fault {
+        BookFault::StaleLease(mark) => is_at(mark.state(), label, path),
+        _ => false,
+    }
+}
+
 impl Answer {
-    /// Whether it is the answer of a call that was refused so, or not refused.
-    fn is(self, refusal: &Option<BookFault>) -> bool {
-        match (self, refusal) {
-            (Answer::Done, None) => true,
-            (Answer::Refused(number), Some(fault)) => fault.number() == Some(number),
-            (Answer::Stale(label, path), Some(BookFault::StaleLease(mark))) => {
-                is_at(mark.state(), label, path)
-            }
-            _ => false,
+    /// Whether it is no refusal.
+    fn is_done(self) -> bool {
+        matches!(self, Answer::Done)
+    }
+
+    /// Whether it is this refusal.
+    fn is(self, fault: &BookFault) -> bool {
+        match self {
+            Answer::Done => false,
+            Answer::Refused(number) => fault.number() == Some(number),
+            Answer::Stale(label, path) => is_stale(fault, label, path),
         }
     }
 }
 
-/// Why a post was refused, if it was; the stretch has to come back.
-fn post_refusal(
-    answer: Result<Posted, Refused<BookFault, Stretch<'_>>>,
-    copy: &Stretch<'_>,
-) -> Result<Option<BookFault>, Fail> {
-    match answer {
-        Ok(_) => Ok(None),
-        Err(Refused { fault, given }) => {
-            if given.same(copy) {
-                return Ok(Some(fault));
-            }
-            Err(Fail::from("another stretch comes back"))
-        }
+/// Whether a post is answered so; where it is refused, its stretch has to come back.
+fn is_posted<'p>(
+    book: &mut Book<'p>,
+    lease: &Lease,
+    stretch: Stretch<'p>,
+    copy: &Stretch<'p>,
+    answer: Answer,
+) -> bool {
+    match book.post(lease, stretch) {
+        Ok(_) => answer.is_done(),
+        Err(refused) => refused.given.same(copy) && answer.is(&refused.fault),
     }
 }
 
-/// Why a split was refused, if it was; the cut has to come back.
-fn split_refusal(
-    answer: Result<u64, Refused<BookFault, Cut<'_>>>,
-    path: &[u32],
-) -> Result<Option<BookFault>, Fail> {
-    match answer {
-        Ok(_) => Ok(None),
-        Err(Refused { fault, given }) => {
-            if given.path() == path {
-                return Ok(Some(fault));
-            }
-            Err(Fail::from("another cut comes back"))
-        }
+/// Whether a split at the cut of one choice is answered so; where it is refused, the cut has to come back.
+fn is_split_at<'p>(
+    book: &mut Book<'p>,
+    lease: &Lease,
+    cut: Cut<'p>,
+    option: u32,
+    answer: Answer,
+) -> bool {
+    match book.split(lease, cut) {
+        Ok(_) => answer.is_done(),
+        Err(refused) => { refused.given.path() == [option].as_slice() && answer.is(&refused.fault) }
     }
 }
 
-/// Splits a tile at the cut of one choice.
-fn split(
+/// The same where the cut is made here.
+fn is_split(
     alloc: Global,
     book: &mut Book<'_>,
     lease: &Lease,
     option: u32,
-) -> Result<Option<BookFault>, Fail> {
-    let cut = cut_of(alloc, book.problem(), &[option])?;
-    split_refusal(book.split(lease, cut), &[option])
+    answer: Answer,
+) -> bool {
+    match cut_at(alloc, book.problem(), option) {
+        Some(cut) => is_split_at(book, lease, cut, option, answer),
+        None => false,
+    }
 }
 
 /// A runner of the whole run, and the stretch that was posted or taken out last.
@@ -114,56 +122,53 @@ struct Search<'p> {
 }
 
 impl<'p> Search<'p> {
-    /// Posts a stretch, and keeps a copy: why it was refused, if it was.
+    /// Posts a stretch, and keeps a copy: whether it is answered so.
     fn post_it(
         &mut self,
         book: &mut Book<'p>,
         lease: &Lease,
         stretch: Stretch<'p>,
-    ) -> Result<Option<BookFault>, Fail> {
-        let copy = stretch.copy()?;
-        let refusal = post_refusal(book.post(lease, stretch), &copy);
+        answer: Answer,
+    ) -> bool {
+        let Ok(copy) = stretch.copy() else {
+            return false;
+        };
+        let is_right = is_posted(book, lease, stretch, &copy, answer);
         self.kept = Some(copy);
-        refusal
+        is_right
     }
 
     /// Posts what was walked.
-    fn post(&mut self, book: &mut Book<'p>, lease: &Lease) -> Result<Option<BookFault>, Fail> {
-        let stretch = self.runner.take_stretch()?;
-        self.post_it(book, lease, stretch)
-    }
-
-    /// Posts what is kept.
-    fn post_again(
-        &mut self,
-        book: &mut Book<'p>,
-        lease: &Lease,
-    ) -> Result<Option<BookFault>, Fail> {
-        match self.kept.take() {
-            Some(stretch) => self.post_it(book, lease, stretch),
-            None => Err(Fail::from("no stretch is kept")),
+    fn post(&mut self, book: &mut Book<'p>, lease: &Lease, answer: Answer) -> bool {
+        match self.runner.take_stretch() {
+            Ok(stretch) => self.post_it(book, lease, stretch, answer),
+            Err(_) => false,
         }
     }
 
-    /// Whether a stretch is the one that is kept.
-    fn has_kept(&self, stretch: &Stretch<'_>) -> bool {
-        match &self.kept {
-            Some(kept) => kept.same(stretch),
+    /// Posts what is kept.
+    fn post_again(&mut self, book: &mut Book<'p>, lease: &Lease, answer: Answer) -> bool {
+        match self.kept.take() {
+            Some(stretch) => self.post_it(book, lease, stretch, answer),
             None => false,
         }
     }
 
-    /// Takes out what was posted last, which is what is kept: why that was refused, if it was.
-    fn retract(&mut self, book: &mut Book<'p>, lease: &Lease) -> Result<Option<BookFault>, Fail> {
+    /// Keeps a stretch, which has to be the one that is kept.
+    fn keep_again(&mut self, stretch: Stretch<'p>) -> bool {
+        let is_kept = match &self.kept {
+            Some(kept) => kept.same(&stretch),
+            None => false,
+        };
+        self.kept = Some(stretch);
+        is_kept
+    }
+
+    /// Takes out what was posted last, which is what is kept: whether it is answered so.
+    fn retract(&mut self, book: &mut Book<'p>, lease: &Lease, answer: Answer) -> bool {
         match book.retract(lease) {
-            Ok(stretch) => {
-                if !self.has_kept(&stretch) {
-                    return Err(Fail::from("another stretch is taken out"));
-                }
-                self.kept = Some(stretch);
-                Ok(None)
-            }
-            Err(fault) => Ok(Some(fault)),
+            Ok(stretch) => self.keep_again(stretch) && answer.is_done(),
+            Err(fault) => answer.is(&fault),
         }
     }
 
@@ -193,24 +198,42 @@ impl<'p> Search<'p> {
     }
 
     /// Whether a row holds.
-    fn holds(
+    fn holds(&mut self, alloc: Global, book: &mut Book<'p>, lease: &Lease, row: Row) -> bool {
+        match row {
+            Row::Advances(steps) => self.advance(steps),
+            Row::Retreats(steps) => self.retreat(steps),
+            Row::Enters(path) => is_at(self.runner.state(), Label::X2, path),
+            Row::Posts(answer) => self.post(book, lease, answer),
+            Row::PostsAgain(answer) => self.post_again(book, lease, answer),
+            Row::Retracts(answer) => self.retract(book, lease, answer),
+            Row::Reopens => self.reopen(),
+            Row::Splits(option, answer) => is_split(alloc, book, lease, option, answer),
+            Row::HasPosted(steps, visits) => book.steps() == steps && book.visited() == visits,
+        }
+    }
+
+    /// The same; what is refused leaves the tiles as they were.
+    fn goes_on(&mut self, alloc: Global, book: &mut Book<'p>, lease: &Lease, row: Row) -> bool {
+        let Ok(before) = tiles_of(alloc, book) else {
+            return false;
+        };
+        self.holds(alloc, book, lease, row) && (!row.is_refused() || has_tiles(book, &before))
+    }
+
+    /// Whether rows hold so, one after another.
+    fn all_hold(
         &mut self,
         alloc: Global,
         book: &mut Book<'p>,
         lease: &Lease,
-        row: Row,
-    ) -> Result<bool, Fail> {
-        match row {
-            Row::Advances(steps) => Ok(self.advance(steps)),
-            Row::Retreats(steps) => Ok(self.retreat(steps)),
-            Row::Enters(path) => Ok(is_at(self.runner.state(), Label::X2, path)),
-            Row::Posts(answer) => Ok(answer.is(&self.post(book, lease)?)),
-            Row::PostsAgain(answer) => Ok(answer.is(&self.post_again(book, lease)?)),
-            Row::Retracts(answer) => Ok(answer.is(&self.retract(book, lease)?)),
-            Row::Reopens => Ok(self.reopen()),
-            Row::Splits(option, answer) => Ok(answer.is(&split(alloc, book, lease, option)?)),
-            Row::HasPosted(steps, visits) => Ok(book.steps() == steps && book.visited() == visits),
+        rows: &[Row],
+    ) -> bool {
+        for row in rows {
+            if !self.goes_on(alloc, book, lease, *row) {
+                return false;
+            }
         }
+        true
     }
 }
 
@@ -221,59 +244,41 @@ impl Row {
             Row::Posts(answer)
             | Row::PostsAgain(answer)
             | Row::Retracts(answer)
-            | Row::Splits(_, answer) => !matches!(answer, Answer::Done),
+            | Row::Splits(_, answer) => !answer.is_done(),
             _ => false,
         }
     }
 }
 
-/// Whether rows hold of a search under a lease; what is refused leaves the tiles as they were.
-fn all_hold<'p>(
-    alloc: Global,
-    book: &mut Book<'p>,
-    lease: &Lease,
-    search: &mut Search<'p>,
-    rows: &[Row],
-) -> Result<bool, Fail> {
-    for row in rows {
-        let before = tiles_of(alloc, book)?;
-        if !search.holds(alloc, book, lease, *row)? {
-            return Ok(false);
-        }
-        if row.is_refused() && !has_tiles(book, &before) {
-            return Ok(false);
-        }
-    }
-    Ok(true)
-}
-
-/// The same of a new search.
-fn searches(alloc: Global, book: &mut Book<'_>, lease: &Lease, rows: &[Row]) -> Result<bool, Fail> {
-    let runner = whole(alloc, book.problem())?;
+/// Whether rows hold of a new search of a book's tile under a lease.
+fn searches(alloc: Global, book: &mut Book<'_>, lease: &Lease, rows: &[Row]) -> bool {
+    let Some(runner) = whole(alloc, book.problem()) else {
+        return false;
+    };
     let mut search = Search { runner, kept: None };
-    all_hold(alloc, book, lease, &mut search, rows)
+    search.all_hold(alloc, book, lease, rows)
 }
 
-/// The lease of any tile, which has to be given.
-fn any_lease(given: Option<Leased<'_>>) -> Result<Lease, Fail> {
-    match given {
-        Some(leased) => given_lease(Ok(leased)),
-        None => Err(Fail::from("no tile waits")),
+/// A worker's lease of any tile, which has to be given.
+fn any_lease(book: &mut Book<'_>, worker: u8) -> Option<Lease> {
+    match book.lease_any(worker % 32) {
+        Ok(Some(leased)) => Some(lease_in(leased)),
+        Ok(None) => None,
+        Err(_) => None,
     }
 }
+
+/// Rows of a search, and whether its tile is closed then.
+pub struct Play(&'static [Row], bool);
 
 /// Whether rows hold of a search of a book's tile, and it is closed then, or isn't.
-fn ends(alloc: Global, book: &mut Book<'_>, rows: &[Row], closes: bool) -> Result<bool, Fail> {
-    let lease = any_lease(book.lease_any(0)?)?;
-    let held = searches(alloc, book, &lease, rows);
+pub fn is_searched(alloc: Global, book: &mut Book<'_>, play: &Play) -> bool {
+    let Some(lease) = any_lease(book, 0) else {
+        return false;
+    };
+    let held = searches(alloc, book, &lease, play.0);
     let is_closed = is_ended(book.close(lease));
-    Ok(held? && is_closed == closes)
-}
-
-/// The same of a new book.
-fn ends_anew(alloc: Global, problem: &Problem, rows: &[Row], closes: bool) -> Result<bool, Fail> {
-    let mut book = Book::new(alloc, problem)?;
-    ends(alloc, &mut book, rows, closes)
+    held && is_closed == play.1
 }
 
 /// Five steps are posted, and again.
@@ -317,26 +322,18 @@ const BEFORE_THE_MARK: [Row; 3] = [
     Row::Splits(2, Answer::Refused(5)),
 ];
 
-/// What is done, and whether the tile is closed then.
-static SEARCHES: [(&[Row], bool); 4] = [
-    (&TWICE, false),
-    (&TAKEN_OUT, true),
-    (&BEYOND_THE_CUT, false),
-    (&BEFORE_THE_MARK, false),
+static SEARCHES: [Asked; 4] = [
+    Asked::Search(Play(&TWICE, false)),
+    Asked::Search(Play(&TAKEN_OUT, true)),
+    Asked::Search(Play(&BEYOND_THE_CUT, false)),
+    Asked::Search(Play(&BEFORE_THE_MARK, false)),
 ];
 
-/// Tells a search that is answered otherwise.
-fn assert_searches(rt: &impl Abort, alloc: Global, problem: &Problem) -> Result<(), Fail> {
-    for (rows, closes) in SEARCHES {
-        assert!(rt; ends_anew(alloc, problem, rows, closes)?);
-    }
-    Ok(())
-}
-
 #[test]
-fn a_search_is_answered_call_by_call(rt: HostRuntime) -> Result<(), Fail> {
-    let problem = read_cover(rt.alloc(), SMALL.as_bytes())?;
-    assert_searches(&rt, rt.alloc(), &problem)
+fn a_search_is_answered_call_by_call(rt: HostRuntime) {
+    for search in &SEARCHES {
+        assert!(rt; is_so_in_small(rt.alloc(), search));
+    }
 }
 
 /// Five steps are posted by the lease of another book.
@@ -346,51 +343,36 @@ static BY_ANOTHER_LEASE: [Row; 3] = [
     Row::HasPosted(0, 0),
 ];
 
-/// Leases a book's tile to worker 1, which never ends it.
-fn take_tile(book: &mut Book<'_>) -> Result<(), Fail> {
-    any_lease(book.lease_any(1)?)?.discard();
-    Ok(())
+/// Leases a book's tile to worker 1, which never ends it; false where none waits.
+fn take_tile(book: &mut Book<'_>) -> bool {
+    match any_lease(book, 1) {
+        Some(lease) => {
+            lease.discard();
+            true
+        }
+        None => false,
+    }
 }
 
 /// Whether rows hold of a search of a book by the lease of another one, which then parks the tile that it names there.
-fn parks(
-    alloc: Global,
-    own: &mut Book<'_>,
-    book: &mut Book<'_>,
-    rows: &[Row],
-) -> Result<bool, Fail> {
-    let lease = any_lease(own.lease_any(0)?)?;
+fn parks(alloc: Global, own: &mut Book<'_>, book: &mut Book<'_>, rows: &[Row]) -> bool {
+    let Some(lease) = any_lease(own, 0) else {
+        return false;
+    };
     let held = searches(alloc, book, &lease, rows);
     let is_parked = is_ended(own.park(lease));
-    Ok(held? && is_parked)
+    held && is_parked
 }
 
-/// The same of another one that is made here.
-fn parks_in_new(
-    alloc: Global,
-    problem: &Problem,
-    book: &mut Book<'_>,
-    rows: &[Row],
-) -> Result<bool, Fail> {
-    let mut own = Book::new(alloc, problem)?;
-    parks(alloc, &mut own, book, rows)
-}
-
-/// Whether the lease of one book is stale in another one, whose tile is leased.
-fn is_stale(alloc: Global, problem: &Problem) -> Result<bool, Fail> {
-    let mut book = Book::new(alloc, problem)?;
-    take_tile(&mut book)?;
-    parks_in_new(alloc, problem, &mut book, &BY_ANOTHER_LEASE)
-}
-
-/// The same of books of the small problem.
-fn is_small_stale(alloc: Global) -> Result<bool, Fail> {
-    let problem = read_cover(alloc, SMALL.as_bytes())?;
-    is_stale(alloc, &problem)
+/// Whether the lease of another book, which is made here, is stale in a book, once a worker took its tile.
+pub fn holds_other_leases_stale(alloc: Global, book: &mut Book<'_>) -> bool {
+    let Ok(mut own) = Book::new(alloc, book.problem()) else {
+        return false;
+    };
+    take_tile(book) && parks(alloc, &mut own, book, &BY_ANOTHER_LEASE)
 }
 
 #[test]
-fn a_lease_of_another_book_is_stale(rt: HostRuntime) -> Result<(), Fail> {
-    assert!(rt; is_small_stale(rt.alloc())?);
-    Ok(())
+fn a_lease_of_another_book_is_stale(rt: HostRuntime) {
+    assert!(rt; is_so_in_small(rt.alloc(), &Asked::OtherLease));
 }

@@ -2,57 +2,86 @@
 //! events, played then, end it as where nothing is refused.
 ghost use Rattle.std.specs.Prelude.{◌<◌, ◌≤◌, ◌↔◌, length, All, IsTrue};
 
-use crate::fixtures::are_alike;
-use cover_problem::{PlainTable, Problem, read_cover};
-use drawn_books::{grows, value_of};
-use drawn_problems::SMALL;
+use crate::fixtures::{End, are_alike, grows, small};
+use cover_problem::{PlainTable, Problem};
 use lab_world::{Act, World, WorldEvent, WorldReply};
-use std::alloc::{AllocError, Global};
+use std::alloc::Global;
 use std::test::Fail;
 
 /// A world over a plain table.
 type Plain<'p> = World<'p, PlainTable>;
 
-/// Adds so many steps of a worker.
-fn add_steps(events: &mut Vec<WorldEvent>, worker: u8, steps: u32) -> Result<(), AllocError> {
-    for _ in 0..steps {
-        events.push(WorldEvent {
-            worker,
-            act: Act::Step,
-        })?;
+/// What a worker does.
+#[derive(Clone, Copy)]
+enum Do {
+    Step,
+    Back,
+    Lease(u64),
+    LeaseAny,
+    Post,
+    Split(usize, u32),
+    Retract,
+    Park,
+    RequestStop(u64),
+}
+
+/// A worker, what it does, and how often.
+struct Row(u8, Do, u32);
+
+/// Two workers part the run at the cut 4; one posts, takes out, goes a step back and posts again, the other parks.
+static ROWS: [Row; 12] = [
+    Row(0, Do::LeaseAny, 1),
+    Row(0, Do::Step, 5),
+    Row(0, Do::Split(0, 4), 1),
+    Row(1, Do::Lease(1), 1),
+    Row(1, Do::Step, 10),
+    Row(1, Do::Post, 1),
+    Row(1, Do::Retract, 1),
+    Row(1, Do::Back, 1),
+    Row(1, Do::Post, 1),
+    Row(0, Do::RequestStop(1), 1),
+    Row(0, Do::Post, 1),
+    Row(0, Do::Park, 1),
+];
+
+/// The act.
+fn act_of(todo: Do) -> Act {
+    match todo {
+        Do::Step => Act::Step,
+        Do::Back => Act::Back,
+        Do::Lease(id) => Act::Lease(id),
+        Do::LeaseAny => Act::LeaseAny,
+        Do::Post => Act::Post,
+        Do::Split(level, option) => Act::Split { level, option },
+        Do::Retract => Act::Retract,
+        Do::Park => Act::Park,
+        Do::RequestStop(id) => Act::RequestStop(id),
     }
-    Ok(())
 }
 
-/// Adds what a worker does.
-fn add(events: &mut Vec<WorldEvent>, worker: u8, act: Act) -> Result<(), AllocError> {
-    events.push(WorldEvent { worker, act })?;
-    Ok(())
+/// Adds the events of a row; false where there is no memory for one.
+fn add(events: &mut Vec<WorldEvent>, row: &Row) -> bool {
+    for _ in 0..row.2 {
+        let event = WorldEvent {
+            worker: row.0,
+            act: act_of(row.1),
+        };
+        if events.push(event).is_err() {
+            return false;
+        }
+    }
+    true
 }
 
-/// What two workers do: they part the run at the cut 4; one posts, takes out, goes a step back and posts again, the other parks.
-fn events_of(alloc: Global) -> Result<Vec<WorldEvent>, AllocError> {
+/// What the two workers do.
+fn events_of(alloc: Global) -> Option<Vec<WorldEvent>> {
     let mut events = Vec::new(alloc);
-    add(&mut events, 0, Act::LeaseAny)?;
-    add_steps(&mut events, 0, 5)?;
-    add(
-        &mut events,
-        0,
-        Act::Split {
-            level: 0,
-            option: 4,
-        },
-    )?;
-    add(&mut events, 1, Act::Lease(1))?;
-    add_steps(&mut events, 1, 10)?;
-    add(&mut events, 1, Act::Post)?;
-    add(&mut events, 1, Act::Retract)?;
-    add(&mut events, 1, Act::Back)?;
-    add(&mut events, 1, Act::Post)?;
-    add(&mut events, 0, Act::RequestStop(1))?;
-    add(&mut events, 0, Act::Post)?;
-    add(&mut events, 0, Act::Park)?;
-    Ok(events)
+    for row in &ROWS {
+        if !add(&mut events, row) {
+            return None;
+        }
+    }
+    Some(events)
 }
 
 /// Whether the worker of each event is one of so many.
@@ -62,12 +91,15 @@ fn have_workers(events: &[WorldEvent], workers: u8) -> bool
     events.iter().all(|event| event.worker < workers)
 }
 
-/// The replies to events of workers that there are.
-fn play(world: &mut Plain<'_>, events: &[WorldEvent]) -> Result<Vec<WorldReply>, Fail> {
+/// The replies to events of workers that there are; none where memory runs out.
+fn play(world: &mut Plain<'_>, events: &[WorldEvent]) -> Option<Vec<WorldReply>> {
     if !have_workers(events, world.workers()) {
-        return Err(Fail::from("no such worker"));
+        return None;
     }
-    value_of(world.play(events))
+    match world.play(events) {
+        Ok(replies) => Some(replies),
+        Err(_) => None,
+    }
 }
 
 /// Whether a worker stands alike in two worlds, or has no tile in both.
@@ -96,13 +128,11 @@ fn are_worlds(world: &Plain<'_>, other: &Plain<'_>) -> bool {
 }
 
 /// Whether events are answered so.
-fn answers(
-    world: &mut Plain<'_>,
-    events: &[WorldEvent],
-    wanted: &[WorldReply],
-) -> Result<bool, Fail> {
-    let replies = play(world, events)?;
-    Ok(replies.as_slice() == wanted)
+fn answers(world: &mut Plain<'_>, events: &[WorldEvent], wanted: &[WorldReply]) -> bool {
+    match play(world, events) {
+        Some(replies) => replies.as_slice() == wanted,
+        None => false,
+    }
 }
 
 /// Whether a world is as the first events leave a new one, and the other events are answered so.
@@ -112,16 +142,15 @@ fn goes_on(
     events: &[WorldEvent],
     wanted: &[WorldReply],
     count: usize,
-) -> Result<bool, Fail>
+) -> bool
     requires events { count ≤ length events.now }
     requires wanted { count ≤ length wanted.now }
 {
     let (first, rest) = events.split_at(count);
     let (before, after) = wanted.split_at(count);
-    let is_before = answers(fresh, first, before)?;
+    let is_before = answers(fresh, first, before);
     let is_alike = are_worlds(world, fresh);
-    let is_after = answers(world, rest, after)?;
-    Ok(is_before && is_alike && is_after)
+    is_before && is_alike && answers(world, rest, after)
 }
 
 /// Whether replies are the first of those that are wanted.
@@ -129,106 +158,114 @@ fn are_first(replies: &[WorldReply], wanted: &[WorldReply]) -> bool {
     replies.len() <= wanted.len() && replies == wanted.split_at(replies.len()).0
 }
 
-/// Whether a world that stopped after these replies is as a new one after their events, and goes on.
+/// Whether a world that stopped after these replies is as a fresh one after their events, and goes on.
 fn goes_on_after(
     world: &mut Plain<'_>,
     fresh: &mut Plain<'_>,
     events: &[WorldEvent],
     wanted: &[WorldReply],
     replies: &[WorldReply],
-) -> Result<bool, Fail> {
+) -> bool {
     let count = replies.len();
     if count > events.len() || count > wanted.len() || !are_first(replies, wanted) {
-        return Ok(false);
+        return false;
     }
     goes_on(world, fresh, events, wanted, count)
 }
 
-/// Whether a world answers so, on a second try where the first is refused.
-fn answers_again(
+/// The same of a fresh one that is made here.
+fn goes_on_from(
+    alloc: Global,
     world: &mut Plain<'_>,
-    fresh: &mut Plain<'_>,
     events: &[WorldEvent],
     wanted: &[WorldReply],
-) -> Result<bool, Fail> {
-    if !have_workers(events, world.workers()) {
-        return Err(Fail::from("no such worker"));
-    }
-    match world.play(events) {
-        Ok(replies) => Ok(replies.as_slice() == wanted),
-        Err(stopped) => goes_on_after(world, fresh, events, wanted, &stopped.replies),
+    replies: &[WorldReply],
+) -> bool {
+    match Plain::new(alloc, world.book().problem(), 2) {
+        Ok(mut fresh) => goes_on_after(world, &mut fresh, events, wanted, replies),
+        Err(_) => false,
     }
 }
 
-/// Whether a world answers so, and ends like another one.
-fn answers_alike(
+/// Whether a world answers so, on a second try where the first is refused.
+fn answers_again(
     alloc: Global,
     world: &mut Plain<'_>,
-    fresh: &mut Plain<'_>,
+    events: &[WorldEvent],
+    wanted: &[WorldReply],
+) -> bool {
+    if !have_workers(events, world.workers()) {
+        return false;
+    }
+    match world.play(events) {
+        Ok(replies) => replies.as_slice() == wanted,
+        Err(stopped) => goes_on_from(alloc, world, events, wanted, &stopped.replies),
+    }
+}
+
+/// How it ends where a world, behind one growth, has to answer so, and to end like another one.
+fn end_behind(
+    alloc: Global,
+    world: &mut Plain<'_>,
     events: &[WorldEvent],
     wanted: &[WorldReply],
     other: &Plain<'_>,
-) -> Result<bool, Fail> {
-    grows(alloc)?;
-    Ok(answers_again(world, fresh, events, wanted)? && are_worlds(world, other))
+) -> End {
+    if !grows(alloc) {
+        return End::Unready;
+    }
+    End::of(answers_again(alloc, world, events, wanted) && are_worlds(world, other))
 }
 
 /// The same of a world that is made here.
-fn ends_alike(
-    alloc: Global,
-    problem: &Problem,
-    fresh: &mut Plain<'_>,
-    events: &[WorldEvent],
-    wanted: &[WorldReply],
-    other: &Plain<'_>,
-) -> Result<bool, Fail> {
-    let mut world = Plain::new(alloc, problem, 2)?;
-    answers_alike(alloc, &mut world, fresh, events, wanted, other)
-}
-
-/// The same beside a fresh world that is made here.
-fn ends_beside(
+fn end_alike(
     alloc: Global,
     problem: &Problem,
     events: &[WorldEvent],
     wanted: &[WorldReply],
     other: &Plain<'_>,
-) -> Result<bool, Fail> {
-    let mut fresh = Plain::new(alloc, problem, 2)?;
-    ends_alike(alloc, problem, &mut fresh, events, wanted, other)
+) -> End {
+    match Plain::new(alloc, problem, 2) {
+        Ok(mut world) => end_behind(alloc, &mut world, events, wanted, other),
+        Err(_) => End::Unset,
+    }
 }
 
-/// Whether a new world answers and ends like this one, to which nothing is refused.
-fn plays_like(
-    alloc: Global,
-    problem: &Problem,
-    events: &[WorldEvent],
-    other: &mut Plain<'_>,
-) -> Result<bool, Fail> {
-    let wanted = play(other, events)?;
-    ends_beside(alloc, problem, events, &wanted, other)
+/// The same where it has to answer and to end like this one, to which nothing is refused.
+fn end_like(alloc: Global, problem: &Problem, events: &[WorldEvent], other: &mut Plain<'_>) -> End {
+    match play(other, events) {
+        Some(wanted) => end_alike(alloc, problem, events, &wanted, other),
+        None => End::Unset,
+    }
 }
 
 /// The same of one that is made here.
-fn plays_alike(alloc: Global, problem: &Problem, events: &[WorldEvent]) -> Result<bool, Fail> {
-    let mut other = Plain::new(alloc, problem, 2)?;
-    plays_like(alloc, problem, events, &mut other)
+fn end_of(alloc: Global, problem: &Problem, events: &[WorldEvent]) -> End {
+    match Plain::new(alloc, problem, 2) {
+        Ok(mut other) => end_like(alloc, problem, events, &mut other),
+        Err(_) => End::Unset,
+    }
 }
 
 /// The same of what two workers do.
-fn play_alike(alloc: Global, problem: &Problem) -> Result<bool, Fail> {
-    let events = events_of(alloc)?;
-    plays_alike(alloc, problem, &events)
+fn end_in(alloc: Global, problem: &Problem) -> End {
+    match events_of(alloc) {
+        Some(events) => end_of(alloc, problem, &events),
+        None => End::Unset,
+    }
 }
 
-/// The same in the small problem.
-fn play_small_alike(alloc: Global) -> Result<bool, Fail> {
-    let problem = read_cover(alloc, SMALL.as_bytes())?;
-    play_alike(alloc, &problem)
+/// Whether that ends right in the small problem.
+fn is_played(alloc: Global) -> Result<bool, Fail> {
+    let end = match small(alloc) {
+        Some(problem) => end_in(alloc, &problem),
+        None => End::Unset,
+    };
+    end.is_right()
 }
 
 #[test]
 fn a_world_is_played_up_to_what_is_refused(rt: HostRuntime) -> Result<(), Fail> {
-    assert!(rt; play_small_alike(rt.alloc())?);
+    assert!(rt; is_played(rt.alloc())?);
     Ok(())
 }
